@@ -1,0 +1,3 @@
+pub mod Forward
+pub mod OneText
+pub mod Derive

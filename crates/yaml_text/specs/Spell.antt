@@ -1,0 +1,46 @@
+-- The canonical text of trees.
+use Rattle.std.specs.Prelude.{ℕ, Bool, true, false, nat_le, List, [], ◌∷◌, map, length, encode_utf8_all}
+use Rattle.std.specs.declared.option.Option.TheVariants.{None}
+use Rattle.yaml_text.specs.Limits.{short_limit}
+use Rattle.yaml_text.specs.Tree.{Tree, scalar, sequence, mapping, end, done}
+use Rattle.yaml_text.specs.Order.{arranged}
+use Rattle.yaml_text.specs.Walk.{walk, agains}
+use Rattle.yaml_text.specs.Event.{Event, double}
+use Rattle.yaml_text.specs.Marked.{Marked, scalar_at, sequence_at, mapping_at, end_marks, done_marks, Document, stream_events}
+use Rattle.yaml_text.specs.TagText.{written_tag}
+use Rattle.yaml_text.specs.Mark.{mark}
+use Rattle.yaml_text.specs.NodeText.{text}
+
+-- how many bytes a node takes by itself, its tag included
+unfoldable pub text_len : Marked → ℕ
+text_len m = length (encode_utf8_all (text m []))
+
+-- a scalar or an empty collection of at most `short_limit` bytes
+unfoldable pub short : Tree → Bool
+short (scalar g x) = nat_le (text_len (scalar_at None (written_tag 0 g) double x)) short_limit
+short (sequence g end) = nat_le (text_len (sequence_at None (written_tag 1 g) true end_marks)) short_limit
+short (mapping g done) = nat_le (text_len (mapping_at None (written_tag 2 g) true done_marks)) short_limit
+short _ = false
+
+-- the marks of a tree whose pairs stand in order
+abbrev pub marks_of_arranged : Tree → Marked
+marks_of_arranged t = mark short (agains (walk short t [])) t []
+
+unfoldable pub marks_of : Tree → Marked
+marks_of t = marks_of_arranged (arranged t)
+
+-- the text of a forest, as characters
+unfoldable pub spell : List Tree → List ℕ
+spell [] = []
+spell (t ∷ f) = 45 ∷ 45 ∷ 45 ∷ 32 ∷ text (marks_of t) (10 ∷ spell f)
+
+-- and as bytes
+unfoldable pub spell_bytes : List Tree → List ℕ
+spell_bytes f = encode_utf8_all (spell f)
+
+-- its documents, each with an explicit start alone, and its events
+abbrev pub document_of : Marked → Document
+document_of m = record { starts = true; root = m; ends = false }
+
+unfoldable pub spelled : List Tree → List Event
+spelled f = stream_events (map (λ t. document_of (marks_of t)) f)

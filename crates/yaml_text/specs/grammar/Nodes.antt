@@ -1,0 +1,178 @@
+-- Flow nodes (YAML 1.2.2, 7.4 and 7.5) and block nodes (8.2). `inside` reads what stands in a collection that is opened here.
+use Rattle.std.specs.Prelude.{ℕ, zero, suc, ◌+◌, ◌-◌, ◌≤◌, List, [], ◌∷◌, true, false}
+use Rattle.yaml_text.specs.grammar.Rules.{Rule, ◌◆◌, ◌▸◌, ◌◂◌, ◌⨾◌, ◌∪◌, gives, given, never, maybe, optional, some, any, any_one, chr, Stands, where_both, ahead, with_value, seen}
+use Rattle.yaml_text.specs.grammar.Characters.{is_ns}
+use Rattle.yaml_text.specs.grammar.Separation.{Ctx, block_out, block_in, flow_out, flow_in, block_key, flow_key, inner, indent, sep, separate, s_l_comments, OneLine}
+use Rattle.yaml_text.specs.grammar.Tags.{Handles, properties}
+use Rattle.yaml_text.specs.grammar.Tags as tags
+use Rattle.yaml_text.specs.grammar.FlowScalars.{plain, single, double, plain_safe}
+use Rattle.yaml_text.specs.grammar.BlockScalars.{literal, folded}
+use Rattle.yaml_text.specs.grammar.Events.{Props, no_props, seq_start, map_start, scalar, alias, empty, wrapped}
+use Rattle.yaml_text.specs.Event.{Event, Style, sequence_end, mapping_end}
+use Rattle.yaml_text.specs.Event as style
+use Rattle.yaml_text.specs.Limits.{key_limit}
+
+-- what may stand in a collection; col is the parent's indentation and one more
+pub data Part : Type 0 where
+  yaml_part json_part pair_part block_part : ℕ → Ctx → Part
+  compact_part : ℕ → Part
+
+-- Wide says whether `?` keys and empty keys are read in flow collections.
+module _ (cs : List ℕ) (Wide : Type 0) (handles : Handles) where
+  -- Open says whether one more collection may be opened.
+  module _ (Open : Type 0) (inside : Part → Rule (List Event)) where
+    abbrev pub inside_flow : ℕ → Ctx → Rule (List Event)
+    inside_flow n c = inside (yaml_part n c) ∪ inside (json_part n c)
+
+    -- ---- flow nodes
+
+    -- 7.2: `e`
+    abbrev pub e_node : Rule (List Event)
+    e_node = gives (empty no_props)
+
+    abbrev pub scalar_of : Props → Style → Rule (List ℕ) → Rule (List Event)
+    scalar_of p s R = seen (λ t. scalar p s t ∷ []) R
+
+    -- 7.5
+    unfoldable pub yaml_node : ℕ → Ctx → Rule (List Event)
+    yaml_node n c =
+        seen (λ x. alias x ∷ []) (tags.alias cs)
+        ∪ scalar_of no_props style.plain (plain cs n c)
+        ∪ with_value (properties cs handles n c) (λ p. (separate cs n c ▸ scalar_of p style.plain (plain cs n c)) ∪ gives (empty p))
+
+    -- 7.4: parts by commas, after the last of which one more may stand
+    abbrev pub parted : ℕ → Ctx → Rule (List Event) → Rule (List Event)
+    parted n c R = any (R ◂ (chr cs 44 ◆ maybe (separate cs n c))) ⨾ optional R
+
+    -- 7.4.2
+    unfoldable pub value : ℕ → Ctx → Rule (List Event)
+    value n c = (chr cs 58 ◆ ahead (λ i. Stands cs (plain_safe c) i → ⊥)) ▸ ((separate cs n c ▸ inside_flow n c) ∪ e_node)
+
+    unfoldable pub adjacent : ℕ → Ctx → Rule (List Event)
+    adjacent n c = chr cs 58 ▸ ((maybe (separate cs n c) ▸ inside_flow n c) ∪ e_node)
+
+    unfoldable pub yaml_key_entry : ℕ → Ctx → Rule (List Event)
+    yaml_key_entry n c = inside (yaml_part n c) ⨾ ((maybe (separate cs n c) ▸ value n c) ∪ e_node)
+
+    unfoldable pub json_key_entry : ℕ → Ctx → Rule (List Event)
+    json_key_entry n c = inside (json_part n c) ⨾ ((maybe (separate cs n c) ▸ adjacent n c) ∪ e_node)
+
+    -- an entry of profile 1
+    unfoldable pub implicit_entry : ℕ → Ctx → Rule (List Event)
+    implicit_entry n c = yaml_key_entry n c ∪ json_key_entry n c
+
+    -- profile 2
+    unfoldable pub empty_key : ℕ → Ctx → Rule (List Event)
+    empty_key n c = e_node ⨾ value n c
+
+    unfoldable pub explicit : ℕ → Ctx → Rule (List Event)
+    explicit n c = (chr cs 63 ◆ separate cs n c) ▸ (implicit_entry n c ∪ empty_key n c ∪ (e_node ⨾ e_node))
+
+    unfoldable pub entry : ℕ → Ctx → Rule (List Event)
+    entry n c = implicit_entry n c ∪ given Wide (empty_key n c ∪ explicit n c)
+
+    -- on one line, with at most 1,024 characters before its `:`
+    abbrev pub key_sized : Rule (List Event) → Rule (List Event)
+    key_sized R = where_both (λ i j. OneLine cs i j × (j ≤ i + key_limit)) (R ◂ maybe (sep cs))
+
+    unfoldable pub implicit_yaml_key : Ctx → Rule (List Event)
+    implicit_yaml_key c = key_sized (inside (yaml_part 0 c))
+
+    unfoldable pub implicit_json_key : Ctx → Rule (List Event)
+    implicit_json_key c = key_sized (inside (json_part 0 c))
+
+    -- 7.4.1
+    unfoldable pub pair : ℕ → Ctx → Rule (List Event)
+    pair n c = given Open (seen (wrapped (map_start true no_props) mapping_end) (
+        (implicit_yaml_key flow_key ⨾ value n c)
+        ∪ (implicit_json_key flow_key ⨾ adjacent n c)
+        ∪ given Wide (empty_key n c ∪ explicit n c)))
+
+    unfoldable pub flow_seq : Props → ℕ → Ctx → Rule (List Event)
+    flow_seq p n c = given Open (seen (wrapped (seq_start true p) sequence_end) (
+        (chr cs 91 ◆ maybe (separate cs n c))
+        ▸ parted n c ((inside (pair_part n (inner c)) ∪ inside_flow n (inner c)) ◂ maybe (separate cs n c))
+        ◂ chr cs 93))
+
+    -- 7.4.2
+    unfoldable pub flow_map : Props → ℕ → Ctx → Rule (List Event)
+    flow_map p n c = given Open (seen (wrapped (map_start true p) mapping_end) (
+        (chr cs 123 ◆ maybe (separate cs n c))
+        ▸ parted n c (entry n (inner c) ◂ maybe (separate cs n c))
+        ◂ chr cs 125))
+
+    -- 7.5
+    unfoldable pub json_node : ℕ → Ctx → Rule (List Event)
+    json_node n c = with_value (gives no_props ∪ (properties cs handles n c ◂ separate cs n c)) (λ p.
+        scalar_of p style.single (single cs n c)
+        ∪ scalar_of p style.double (double cs n c)
+        ∪ flow_seq p n c
+        ∪ flow_map p n c)
+
+    unfoldable pub flow_node : ℕ → Ctx → Rule (List Event)
+    flow_node n c = yaml_node n c ∪ json_node n c
+
+    -- ---- block nodes
+
+    abbrev pub empty_rest : Rule (List Event)
+    empty_rest = e_node ◂ s_l_comments cs
+
+    -- 8.2.1
+    unfoldable pub indented : ℕ → Rule (List Event)
+    indented k =
+        some (λ m. given (1 ≤ m) (indent cs m ▸ inside (compact_part (k + 1 + m))))
+        ∪ inside (block_part (k + 1) block_in)
+        ∪ empty_rest
+
+    unfoldable pub seq_entry : ℕ → Rule (List Event)
+    seq_entry k = (chr cs 45 ◆ ahead (λ i. Stands cs is_ns i → ⊥)) ▸ indented k
+
+    -- 8.2.2
+    unfoldable pub map_entry : ℕ → Rule (List Event)
+    map_entry k = ((implicit_yaml_key block_key ∪ implicit_json_key block_key) ◂ chr cs 58)
+        ⨾ (inside (block_part (k + 1) block_out) ∪ empty_rest)
+
+    -- 8.2.1; `for one m of at least 1, n + m` is `for some k with col ≤ k`
+    unfoldable pub block_seq : Props → ℕ → Rule (List Event)
+    block_seq p col = given Open (seen (wrapped (seq_start false p) sequence_end)
+        (some (λ k. given (col ≤ k) (any_one (indent cs k ▸ seq_entry k)))))
+
+    -- 8.2.2
+    unfoldable pub block_map : Props → ℕ → Rule (List Event)
+    block_map p col = given Open (seen (wrapped (map_start false p) mapping_end)
+        (some (λ k. given (col ≤ k) (any_one (indent cs k ▸ map_entry k)))))
+
+    unfoldable pub compact_seq : ℕ → Rule (List Event)
+    compact_seq k = given Open (seen (wrapped (seq_start false no_props) sequence_end) (seq_entry k ⨾ any (indent cs k ▸ seq_entry k)))
+
+    unfoldable pub compact_map : ℕ → Rule (List Event)
+    compact_map k = given Open (seen (wrapped (map_start false no_props) mapping_end) (map_entry k ⨾ any (indent cs k ▸ map_entry k)))
+
+    -- 8.2.3: in block-out a sequence may stand one column further left
+    abbrev pub seq_column : ℕ → Ctx → ℕ
+    seq_column col block_in = col
+    seq_column col block_out = col - 1
+    seq_column col flow_out = col
+    seq_column col flow_in = col
+    seq_column col block_key = col
+    seq_column col flow_key = col
+
+    unfoldable pub block_node : ℕ → Ctx → Rule (List Event)
+    block_node col c =
+        (separate cs col flow_out ▸ flow_node col flow_out ◂ s_l_comments cs)
+        ∪ (separate cs col c ▸ with_value (gives no_props ∪ (properties cs handles col c ◂ separate cs col c)) (λ p.
+        scalar_of p style.literal (literal cs col) ∪ scalar_of p style.folded (folded cs col)))
+        ∪ with_value ((gives no_props ∪ (separate cs col c ▸ properties cs handles col c)) ◂ s_l_comments cs) (λ p.
+        block_map p col ∪ block_seq p (seq_column col c))
+
+    abbrev pub part : Part → Rule (List Event)
+    part (yaml_part n c) = yaml_node n c
+    part (json_part n c) = json_node n c
+    part (pair_part n c) = pair n c
+    part (block_part col c) = block_node col c
+    part (compact_part k) = compact_seq k ∪ compact_map k
+
+  -- a part in which so many collections may be open, one inside another
+  unfoldable pub reads : ℕ → Part → Rule (List Event)
+  reads zero p = part ⊥ (λ q. never) p
+  reads (suc room) p = part (Unit {0}) (reads room) p

@@ -1,0 +1,14 @@
+-- What a stream's bytes are read as (YAML 1.2.2, chapter 9).
+use Rattle.std.specs.Prelude.{ℕ, List}
+use Rattle.yaml_text.specs.Limits.{open_limit}
+use Rattle.yaml_text.specs.Event.{Event}
+use Rattle.yaml_text.specs.Text.{Text}
+use Rattle.yaml_text.specs.grammar.Streams.{ReadsText}
+
+-- the bytes are a stream with these events, in which at no place more than `open_limit` collections are open
+unfoldable pub Reads : List ℕ → List Event → Type 0
+Reads bytes es = (cs : List ℕ) × Text bytes cs × ReadsText cs ⊥ open_limit es
+
+-- the same with `?` keys and empty keys in flow collections
+unfoldable pub ReadsWide : List ℕ → List Event → Type 0
+ReadsWide bytes es = (cs : List ℕ) × Text bytes cs × ReadsText cs (Unit {0}) open_limit es

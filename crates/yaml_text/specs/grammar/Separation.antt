@@ -1,0 +1,78 @@
+-- Indentation, separation and comments (YAML 1.2.2, chapter 6), document marks and contexts.
+use Rattle.std.specs.Prelude.{◌≡◌, ℕ, ◌+◌, ◌<◌, ◌⊎◌, List, [], ◌∷◌, length}
+use Rattle.yaml_text.specs.grammar.Rules.{Span, ◌◆◌, ◌⊔◌, maybe, any_span, chr, run, some_run, exactly, word, Stands, ahead, limited, Throughout, Begins, Ends}
+use Rattle.yaml_text.specs.grammar.Characters.{is_space, is_white, is_break, is_nb, brk}
+
+pub data Ctx : Type 0 where
+  block_out block_in flow_out flow_in block_key flow_key : Ctx
+
+-- `in(c)`
+unfoldable pub inner : Ctx → Ctx
+inner block_out = flow_in
+inner block_in = flow_in
+inner flow_out = flow_in
+inner flow_in = flow_in
+inner block_key = flow_key
+inner flow_key = flow_key
+
+module _ (cs : List ℕ) where
+  unfoldable pub StartsLine : ℕ → Type 0
+  StartsLine i = (i ≡ 0) ⊎ Ends (brk cs) i
+
+  abbrev pub AtEnd : ℕ → Type 0
+  AtEnd i = i ≡ length cs
+
+  -- no break stands between the places
+  abbrev pub OneLine : ℕ → ℕ → Type 0
+  OneLine = Throughout (λ k. Stands cs is_break k → ⊥)
+
+  -- 6.1
+  unfoldable pub indent : ℕ → Span
+  indent n = exactly cs n is_space
+
+  unfoldable pub less : ℕ → Span
+  less n = limited (λ i j. j < i + n) (run cs is_space)
+
+  -- 6.2
+  unfoldable pub sep : Span
+  sep = some_run cs is_space ⊔ ahead StartsLine
+
+  -- 6.6
+  unfoldable pub comment : Span
+  comment = chr cs 35 ◆ run cs is_nb
+
+  unfoldable pub line_end : Span
+  line_end = brk cs ⊔ ahead AtEnd
+
+  unfoldable pub s_b_comment : Span
+  s_b_comment = maybe (sep ◆ maybe comment) ◆ line_end
+
+  unfoldable pub l_comment : Span
+  l_comment = limited (λ i j. i < j) (sep ◆ maybe comment ◆ line_end)
+
+  unfoldable pub s_l_comments : Span
+  s_l_comments = (s_b_comment ⊔ ahead StartsLine) ◆ any_span l_comment
+
+  -- 6.7
+  unfoldable pub separate_lines : ℕ → Span
+  separate_lines n = (s_l_comments ◆ indent n ◆ run cs is_space) ⊔ sep
+
+  unfoldable pub separate : ℕ → Ctx → Span
+  separate n block_key = sep
+  separate n flow_key = sep
+  separate n block_out = separate_lines n
+  separate n block_in = separate_lines n
+  separate n flow_out = separate_lines n
+  separate n flow_in = separate_lines n
+
+  -- 9.1.2: three of these characters at column 0 before a white, a break or the end
+  unfoldable pub MarkOf : ℕ → ℕ → Type 0
+  MarkOf c i = StartsLine i × Begins (word cs (c ∷ c ∷ c ∷ [])) i
+      × (Stands cs is_white (i + 3) ⊎ Stands cs is_break (i + 3) ⊎ AtEnd (i + 3))
+
+  unfoldable pub Mark : ℕ → Type 0
+  Mark i = MarkOf 45 i ⊎ MarkOf 46 i
+
+  -- no line between the places begins with a document mark
+  abbrev pub Unmarked : ℕ → ℕ → Type 0
+  Unmarked = Throughout (λ k. Mark k → ⊥)

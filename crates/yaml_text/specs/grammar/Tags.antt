@@ -1,0 +1,99 @@
+-- Tags, anchors and node properties (YAML 1.2.2, 6.8.2 and 6.9).
+use Rattle.std.specs.Prelude.{ℕ, ◌+◌, ◌*◌, List, [], ◌∷◌, ◌++◌, Bool, not, ◌&&◌, ◌==◌, if◌then◌else◌, Some, None, Option, codes, encode_utf8_all, bytes_eq, option_and_then}
+use Rattle.std.specs.Char.{is_digit, digit_value, is_ascii_hexdigit}
+use Rattle.std.specs.Map.{lookup}
+use Rattle.yaml_text.specs.grammar.Rules.{Span, Rule, ◌◆◌, ◌⊔◌, ◌▸◌, ◌◂◌, ◌∪◌, gives, any_span, any_one_span, chr, word, one, some_run, whole_run, copied, Stands, ahead, with_value, seen, mapped}
+use Rattle.yaml_text.specs.grammar.Characters.{is_ns, is_flow_indicator, is_word, is_uri, is_tag}
+use Rattle.yaml_text.specs.grammar.Separation.{Ctx, separate}
+use Rattle.yaml_text.specs.Event.{WrittenTag, untagged, non_specific, full}
+use Rattle.yaml_text.specs.grammar.Events.{Props}
+use Rattle.yaml_text.specs.Tag.{is_full}
+
+-- ---- tags' texts
+
+-- `%` and two hexadecimal digits stand for a byte
+unfoldable pub percent_decode : List ℕ → List ℕ
+percent_decode [] = []
+percent_decode (b ∷ []) = b ∷ []
+percent_decode (b ∷ c ∷ []) = b ∷ c ∷ []
+percent_decode (b ∷ high ∷ low ∷ rest) =
+    if b == 37 && is_digit high 16 && is_digit low 16
+    then (16 * digit_value high + digit_value low) ∷ percent_decode rest
+    else b ∷ percent_decode (high ∷ low ∷ rest)
+
+-- the tag of a text, decoded once
+unfoldable pub decoded : List ℕ → Option WrittenTag
+decoded text = if is_full (percent_decode text) then Some (full (percent_decode text)) else None
+
+-- ---- handles: each with its prefix
+
+abbrev pub Handles : Type 0
+Handles = List (List ℕ × List ℕ)
+
+-- 6.8.2
+unfoldable pub default_handles : Handles
+default_handles = (codes "!", codes "!") ∷ (codes "!!", codes "tag:yaml.org,2002:") ∷ []
+
+unfoldable pub prefix_of : Handles → List ℕ → Option (List ℕ)
+prefix_of handles handle = lookup (bytes_eq handle) (handles ++ default_handles)
+
+-- the tag of a handle and a suffix, joined
+unfoldable pub joined : Handles → List ℕ → List ℕ → Option WrittenTag
+joined handles handle suffix = option_and_then (λ prefix. decoded (prefix ++ suffix)) (prefix_of handles handle)
+
+-- an ns-char other than a flow indicator
+unfoldable pub is_name : ℕ → Bool
+is_name c = is_ns c && not (is_flow_indicator c)
+
+module _ (cs : List ℕ) where
+  -- 5.6
+  unfoldable pub uri_char : Span
+  uri_char = one cs is_uri ⊔ (chr cs 37 ◆ one cs is_ascii_hexdigit ◆ one cs is_ascii_hexdigit)
+
+  unfoldable pub tag_char : Span
+  tag_char = one cs is_tag ⊔ (chr cs 37 ◆ one cs is_ascii_hexdigit ◆ one cs is_ascii_hexdigit)
+
+  -- 6.8.2.1
+  unfoldable pub tag_handle : Rule (List ℕ)
+  tag_handle = copied cs ((chr cs 33 ◆ some_run cs is_word ◆ chr cs 33) ⊔ (chr cs 33 ◆ chr cs 33) ⊔ chr cs 33)
+
+  -- 6.8.2.2
+  unfoldable pub tag_prefix : Rule (List ℕ)
+  tag_prefix = copied cs ((chr cs 33 ⊔ tag_char) ◆ any_span uri_char)
+
+  -- ---- properties
+
+  -- a white, a break, the end or a flow indicator stands here
+  abbrev pub NameEnds : ℕ → Type 0
+  NameEnds i = Stands cs is_name i → ⊥
+
+  -- 6.9.1
+  unfoldable pub verbatim_tag : Rule WrittenTag
+  verbatim_tag = word cs (codes "!<") ▸ mapped decoded (copied cs (any_one_span uri_char)) ◂ chr cs 62
+
+  unfoldable pub shorthand_tag : Handles → Rule WrittenTag
+  shorthand_tag handles = with_value tag_handle (λ handle. mapped (joined handles handle) (copied cs (any_one_span tag_char)))
+
+  unfoldable pub non_specific_tag : Rule WrittenTag
+  non_specific_tag = chr cs 33 ▸ gives non_specific
+
+  unfoldable pub tag : Handles → Rule WrittenTag
+  tag handles = (verbatim_tag ∪ shorthand_tag handles ∪ non_specific_tag) ◂ ahead NameEnds
+
+  -- 6.9.2, 7.1
+  unfoldable pub name : Rule (List ℕ)
+  name = copied cs (whole_run cs is_name)
+
+  unfoldable pub anchor : Rule (List ℕ)
+  anchor = chr cs 38 ▸ name
+
+  unfoldable pub alias : Rule (List ℕ)
+  alias = chr cs 42 ▸ name
+
+  -- 6.9
+  unfoldable pub properties : Handles → ℕ → Ctx → Rule Props
+  properties handles n c =
+      with_value (tag handles) (λ t.
+      gives (record { anchor = None; tag = t }) ∪ (separate cs n c ▸ seen (λ a. record { anchor = Some (encode_utf8_all a); tag = t }) anchor))
+      ∪ with_value anchor (λ a.
+      gives (record { anchor = Some (encode_utf8_all a); tag = untagged }) ∪ (separate cs n c ▸ seen (λ t. record { anchor = Some (encode_utf8_all a); tag = t }) (tag handles)))

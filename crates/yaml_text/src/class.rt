@@ -1,0 +1,85 @@
+//! The classes of characters (YAML 1.2.2, chapter 5).
+ghost use Rattle.std.specs.Prelude.{◌≡◌};
+ghost use Rattle.yaml_text.specs.Text.{is_text};
+ghost use Rattle.yaml_text.specs.grammar.Characters.{is_printable, is_white, is_break, is_word, is_uri, is_flow_indicator};
+
+/// Whether `c` is printable (5.1). U+FEFF is.
+#[tactic(auto, unfolding(crate::specs::grammar::Characters::is_printable))]
+pub fn is_printable(c: char) -> bool
+    ensures { result ≡ is_printable c }
+{
+    matches!(
+        c,
+        '\t' | '\n' | '\r' | ' '..='~' | '\u{85}' | '\u{A0}'..='\u{D7FF}' | '\u{E000}'..='\u{FFFD}' | '\u{10000}'..='\u{10FFFF}'
+    )
+}
+
+/// Whether `c` is a space or a tab (5.5).
+#[tactic(auto, unfolding(crate::specs::grammar::Characters::is_white))]
+pub fn is_white(c: char) -> bool
+    ensures { result ≡ is_white c }
+{
+    matches!(c, ' ' | '\t')
+}
+
+/// Whether `c` is a line feed or a carriage return (5.4).
+#[tactic(auto, unfolding(crate::specs::grammar::Characters::is_break))]
+pub fn is_break(c: char) -> bool
+    ensures { result ≡ is_break c }
+{
+    matches!(c, '\n' | '\r')
+}
+
+/// Whether `c` is an ASCII letter, a digit or `-` (5.6).
+#[tactic(auto, unfolding(crate::specs::grammar::Characters::is_word))]
+pub fn is_word(c: char) -> bool
+    ensures { result ≡ is_word c }
+{
+    c.is_ascii_alphanumeric() || c == '-'
+}
+
+/// Whether `c` stands for itself in a URI (5.6). `%` does not.
+#[tactic(auto, unfolding(crate::specs::grammar::Characters::is_uri))]
+pub fn is_uri(c: char) -> bool
+    ensures { result ≡ is_uri c }
+{
+    is_word(c)
+        || matches!(
+            c,
+            '#' | ';'
+                | '/'
+                | '?'
+                | ':'
+                | '@'
+                | '&'
+                | '='
+                | '+'
+                | '$'
+                | ','
+                | '_'
+                | '.'
+                | '!'
+                | '~'
+                | '*'
+                | '\''
+                | '('
+                | ')'
+                | '['
+                | ']'
+        )
+}
+
+/// Whether `c` is a bracket, a brace or a comma (5.3).
+#[tactic(auto, unfolding(crate::specs::grammar::Characters::is_flow_indicator))]
+pub fn is_flow_indicator(c: char) -> bool
+    ensures { result ≡ is_flow_indicator c }
+{
+    matches!(c, ',' | '[' | ']' | '{' | '}')
+}
+
+/// Whether `c` may stand in a checked text, after the mark that its input may begin with.
+pub(crate) fn is_text(c: char) -> bool
+    ensures { result ≡ is_text c }
+{
+    is_printable(c) && c != '\u{FEFF}'
+}

@@ -1,0 +1,10 @@
+//! Checked texts, characters, events and faults, and the definitions of what YAML means.
+#![tactic(auto)]
+
+pub mod chars;
+pub mod class;
+pub mod context;
+pub mod event;
+pub mod fault;
+pub mod laws;
+pub mod places;
