@@ -21,5 +21,7 @@ pub mod Means
 pub mod Laws
 pub mod Place
 pub mod Source
+pub mod EventModel
+pub mod Answer
 pub mod Fault
 pub mod grammar

@@ -44,3 +44,22 @@ pub fn is_end(source: &Chars<'_>, at: usize) -> bool
         Some(_) => false,
     }
 }
+
+/// The text between two borders.
+pub fn text_between<'a>(source: &Chars<'a>, from: usize, to: usize) -> &'a str
+    requires from { IsBorder source.now from }
+    requires to { IsBorder source.now to }
+    requires order { from ≤ to }
+    ensures { chars result.now ≡ slice_range (text_of source.now) (place_of source.now from) (place_of source.now to) }
+{
+    let text = source.rest(0);
+    &text[from..to]
+}
+
+/// Whether an offset is a border of characters.
+pub fn is_border(source: &Chars<'_>, at: usize) -> bool
+    ensures yes { OnTrue result (IsBorder source.now at) }
+    ensures no { OnFalse result (IsBorder source.now at → ⊥) }
+{
+    source.rest(0).is_char_boundary(at)
+}
