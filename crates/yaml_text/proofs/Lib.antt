@@ -22,3 +22,4 @@ pub mod CoreRows
 pub mod Scan
 pub mod PlaceLemmas
 pub mod grammar
+pub mod RefusedText

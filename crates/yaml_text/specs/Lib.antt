@@ -25,3 +25,4 @@ pub mod EventModel
 pub mod Answer
 pub mod Fault
 pub mod grammar
+pub mod TextLaws
