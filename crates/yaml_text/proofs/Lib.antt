@@ -17,6 +17,8 @@ pub mod SoundLaws
 pub mod ReadLaws
 pub mod PrintLaws
 pub mod Law
+pub mod TreeLaws
+pub mod ContentLaws
 pub mod Rows
 pub mod CoreRows
 pub mod Scan
