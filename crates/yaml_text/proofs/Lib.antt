@@ -21,6 +21,7 @@ pub mod TreeLaws
 pub mod ContentLaws
 pub mod Rows
 pub mod CoreRows
+pub mod examples
 pub mod Scan
 pub mod PlaceLemmas
 pub mod grammar

@@ -8,15 +8,15 @@ pub fn trees_are_ordered()
     ensures tells { OrderTells }
 {}
 
-/// Of two trees that have no mapping with equal keys, one is before the other, or they are the same, and only one
-/// of these holds.
+/// Of two trees without equal keys in a mapping one is before the other, or they are the same,
+/// and only one of these holds.
 pub fn before_or_same()
     ensures one { BeforeOrSame }
     ensures goes_on { BeforeGoesOn }
 {}
 
-/// On trees without equal keys, to be the same is an equivalence: it is to be one tree once
-/// pairs stand in order.
+/// On trees without equal keys in a mapping, to be the same is an equivalence: it is to be one
+/// tree once pairs stand in order.
 pub fn same_is_equivalence()
     ensures itself { SameToItself }
     ensures either_way { SameEitherWay }
