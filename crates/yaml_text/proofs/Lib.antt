@@ -19,6 +19,7 @@ pub mod PrintLaws
 pub mod Law
 pub mod TreeLaws
 pub mod ContentLaws
+pub mod EventTextLaws
 pub mod Rows
 pub mod CoreRows
 pub mod examples

@@ -6,6 +6,7 @@ use Rattle.yaml_text.specs.Tree.{Tree}
 use Rattle.yaml_text.specs.Order.{tree_cmp, arranged, Before}
 use Rattle.yaml_text.specs.Event.{Event, Style, double, WrittenTag, full}
 use Rattle.yaml_text.specs.Core.{Value, value_of, resolve}
+use Rattle.yaml_text.specs.EventText.{EventText}
 use Rattle.yaml_text.specs.Spell.{spell, spell_bytes, spelled}
 use Rattle.yaml_text.specs.Block.{blocked}
 use Rattle.yaml_text.specs.Text.{Text}
@@ -62,6 +63,14 @@ NodeEventsTell = (m n : Marked) (more others : List Event) → flat m more ≡ f
 -- The events of a stream are those of one list of documents.
 abbrev pub StreamEventsTell : Type 0
 StreamEventsTell = (ds es : List Document) → stream_events ds ≡ stream_events es → ds ≡ es
+
+-- A text is that of one list of events.
+abbrev pub EventTextTells : Type 0
+EventTextTells = (text : List ℕ) (es fs : List Event) → EventText text es → EventText text fs → es ≡ fs
+
+-- Events have one text.
+abbrev pub EventsHaveOneText : Type 0
+EventsHaveOneText = (text other : List ℕ) (es : List Event) → EventText text es → EventText other es → text ≡ other
 
 -- ---- texts
 

@@ -1,6 +1,6 @@
 //! Laws of trees, their canonical text and their meaning. Each function has an empty body, and
 //! its contract is a law.
-ghost use Rattle.yaml_text.specs.Laws.{OrderIsTotal, OrderTells, BeforeOrSame, BeforeGoesOn, SameToItself, SameEitherWay, SameGoesOn, SameIsArranged, NodeEventsTell, StreamEventsTell, TextsTell, SpellingsUnderstood, SpellingsAreText, EventsTell, ResolvedAgain, OneCanonicalText, ReadIsProper};
+ghost use Rattle.yaml_text.specs.Laws.{OrderIsTotal, OrderTells, BeforeOrSame, BeforeGoesOn, SameToItself, SameEitherWay, SameGoesOn, SameIsArranged, NodeEventsTell, StreamEventsTell, EventTextTells, EventsHaveOneText, TextsTell, SpellingsUnderstood, SpellingsAreText, EventsTell, ResolvedAgain, OneCanonicalText, ReadIsProper};
 
 /// The comparison of trees is a total order, which tells any two trees apart.
 pub fn trees_are_ordered()
@@ -29,6 +29,12 @@ pub fn same_is_equivalence()
 pub fn events_belong_to_one()
     ensures node { NodeEventsTell }
     ensures stream { StreamEventsTell }
+{}
+
+/// An event text belongs to one list of events, and events have one text.
+pub fn event_text_tells()
+    ensures events { EventTextTells }
+    ensures text { EventsHaveOneText }
 {}
 
 /// The texts of admitted forests are the same exactly if the forests are equally long and
