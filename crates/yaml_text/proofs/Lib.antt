@@ -26,3 +26,4 @@ pub mod examples
 pub mod Scan
 pub mod PlaceLemmas
 pub mod grammar
+pub mod RefusedText

@@ -26,3 +26,4 @@ pub mod EventModel
 pub mod Answer
 pub mod Fault
 pub mod grammar
+pub mod TextLaws

@@ -8,3 +8,4 @@ pub mod event;
 pub mod fault;
 pub mod laws;
 pub mod places;
+pub mod text_laws;
