@@ -1,3 +1,7 @@
 pub mod Forward
 pub mod OneText
 pub mod Derive
+pub mod ScalarReadings
+pub mod FlowReadings
+pub mod BlockReadings
+pub mod StreamReadings

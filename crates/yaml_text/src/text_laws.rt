@@ -4,5 +4,4 @@ ghost use Rattle.yaml_text.specs.TextLaws.{RefusedIsNoText};
 /// Bytes that one of the three passes refuses are no text.
 pub fn refused_is_no_text()
     ensures { RefusedIsNoText }
-{
-}
+{}
