@@ -29,7 +29,7 @@ mutual
   pub simple_unfolds : (m : Marked) (e : Table) (at : ℕ) → Simple m → unfold_node m e at ≡ Ok (simple_tree m, e)
   simple_unfolds (alias n) e at s = absurd s
   simple_unfolds (mapping_at a g b ps) e at s = absurd s
-  simple_unfolds (scalar_at a g y x) e at s = rw (s.0, s.1, s.2.0) refl
+  simple_unfolds (scalar_at a g y x) e at s = rw (s.0, s.1, s.2) refl
   simple_unfolds (sequence_at a g b ts) e at s = rw (s.0, s.1, simple_all ts e (suc at) s.3) refl
 
   simple_all : (ts : AllMarked) (e : Table) (at : ℕ) → AllSimple ts → unfold_all ts e at ≡ Ok (simple_trees ts, e)

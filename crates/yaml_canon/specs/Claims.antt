@@ -9,8 +9,8 @@ use Rattle.yaml_text.specs.Means.{Means}
 use Rattle.yaml_text.specs.Text.{RefusesText}
 use Rattle.yaml_text.specs.declared.fault.Fault.{Fault}
 use Rattle.yaml_text.specs.declared.fault.Fault.TheVariants.{TooLong, NotUtf8, NotPrintable, Syntax, Tab, TooDeep, BadEscape, TooHigh, TextTooLong, OutOfMemory, RepeatedNode}
-use Rattle.yaml_canon.specs.declared.Side.{Side}
-use Rattle.yaml_canon.specs.declared.Side.TheVariants.{Left, Right}
+use Rattle.yaml_canon.specs.declared.comparer.Side.{Side}
+use Rattle.yaml_canon.specs.declared.comparer.Side.TheVariants.{Left, Right}
 use Rattle.yaml_canon.specs.Among.{OnFirstPath, NoneAgain, Unrepeated}
 
 -- every tree is low enough

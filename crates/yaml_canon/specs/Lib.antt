@@ -1,0 +1,3 @@
+pub mod TreeModel
+pub mod Among
+pub mod Claims
