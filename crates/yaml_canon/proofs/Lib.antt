@@ -1,2 +1,1 @@
-pub mod Derivation
-pub mod SimpleTrees
+pub mod FirstInside

@@ -1,3 +1,4 @@
 pub mod TreeModel
 pub mod Among
 pub mod Claims
+pub mod FirstPath

@@ -1,0 +1,340 @@
+-- The streams of the first path are streams by the whole grammar, with the same events.
+use Rattle.std.proofs.Common.{◌≡◌, ◌≢◌, ℕ, zero, suc, ◌+◌, ◌-◌, ◌<◌, ◌≤◌, ◌⊎◌, nat_lt, inl, inr, Bool, true, false, not, ◌&&◌, ◌==◌, Option, Some, None, List, [], ◌∷◌, ◌++◌, length, slice_get, refl, sym, ◌∙◌, ap, subst, arith, append_assoc}
+use Rattle.std.proofs.lemmas.List.{append-nil}
+use Rattle.std.proofs.lemmas.Bool.{false≢true}
+use Rattle.std.proofs.lemmas.Bool.Decides.{nat_tests}
+use Rattle.std.proofs.Math.Nat.{eq-or-lt_of_le}
+use Rattle.std.specs.Char.{is_ascii_hexdigit}
+use Rattle.yaml_text.specs.Limits.{open_limit}
+use Rattle.yaml_text.specs.Event.{Event, double as double_quoted, document_end, stream_end, stream_start, document_start}
+use Rattle.yaml_text.specs.grammar.Rules.{Rule, Span, Any, done, then, Spans, chr, word, run, exactly, letter, Stands, Throughout, ◌◆◌, ◌▸◌, ◌◂◌, ◌⨾◌, ◌∪◌, any, optional, maybe, seen}
+use Rattle.yaml_text.specs.grammar.Characters.{short_escape, is_break, is_nb, is_ns, is_space, is_white, brk, numbered, escape}
+use Rattle.yaml_text.specs.grammar.Separation.{Ctx, comment, block_in, flow_out, flow_in, inner, AtEnd, OneLine, StartsLine, Mark, MarkOf, Unmarked, sep, line_end, s_b_comment, s_l_comments, separate, separate_lines}
+use Rattle.yaml_text.specs.grammar.FlowScalars.{double_char, white_text, double, several, fold, escaped_break}
+use Rattle.yaml_text.specs.grammar.Events.{no_props, scalar}
+use Rattle.yaml_text.specs.grammar.Nodes.{pair_part, yaml_part, json_node, flow_node, flow_seq, block_node, json_part, block_part, reads}
+use Rattle.yaml_text.specs.grammar.Streams.{Piece, document_piece, document_mark, bare_document, explicit_document, any_document, stream, stream_events, piece_events, ends_explicitly, ReadsText}
+use Rattle.yaml_canon.specs.FirstPath.{spaces, piece, double_line, scalar_node, comma, item, items_rest, sequence, node, tail, content, document, first_events, ReadsFirst}
+
+-- ---- stretches
+
+below_or_not : (a b : ℕ) → (a < b) ⊎ (b ≤ a)
+below_or_not a b = by (nat_lt a b) refl
+  where
+    by : (t : Bool) → nat_lt a b ≡ t → (a < b) ⊎ (b ≤ a)
+    by true e = inl (let h : a < b = grind (arith, nat_tests, e) in h)
+    by false e = inr (let h : b ≤ a = grind (arith, nat_tests, e) in h)
+
+not_both : (p : Bool) → p ≡ false → p ≡ true → ⊥
+not_both p e f = false≢true (sym e ∙ f)
+
+nb_no_break : (c : ℕ) → is_nb c ≡ true → is_break c ≡ false
+unfolding is_nb
+nb_no_break c h = grind (arith, nat_tests)
+
+white_no_break : (c : ℕ) → is_white c ≡ true → is_break c ≡ false
+unfolding is_white is_break
+white_no_break c h = grind (arith, nat_tests)
+
+space_no_break : (c : ℕ) → is_space c ≡ true → is_break c ≡ false
+unfolding is_space is_break
+space_no_break c h = grind (arith, nat_tests)
+
+hex_no_break : (c : ℕ) → is_ascii_hexdigit c ≡ true → is_break c ≡ false
+unfolding is_break
+hex_no_break c h = grind (arith, nat_tests)
+
+ns_no_break : (c : ℕ) → is_ns c ≡ true → is_break c ≡ false
+unfolding is_ns is_nb
+ns_no_break c h = grind (arith, nat_tests)
+
+solid_no_break : (c : ℕ) → (is_ns c && not (c == 34) && not (c == 92)) ≡ true → is_break c ≡ false
+unfolding is_ns is_nb
+solid_no_break c h = grind (arith, nat_tests)
+
+module _ (cs : List ℕ) where
+  same_char : (i c d : ℕ) → slice_get cs i ≡ Some c → slice_get cs i ≡ Some d → c ≡ d
+  same_char i c d e f = let k : ◌≡◌ {A = Option ℕ} (Some c) (Some d) = sym e ∙ f in cc
+
+  -- forward, and on one line
+  abbrev Along : Span
+  Along i j = (i ≤ j) × OneLine cs i j
+
+  stay : (i j : ℕ) → j ≡ i → Along i j
+  stay i j e = (omega (arith, e), λ k a b _. omega (arith, a, b, e))
+
+  go_on : (i k j : ℕ) → Along i k → Along k j → Along i j
+  go_on i k j f g = (omega (arith, f.0, g.0), λ m a b. pick m a b (below_or_not m k))
+    where
+      pick : (m : ℕ) → i ≤ m → m < j → (m < k) ⊎ (k ≤ m) → Stands cs is_break m → ⊥
+      pick m a b (inl h) = f.1 m a h
+      pick m a b (inr h) = g.1 m h b
+
+  one_on : (i j c : ℕ) → is_break c ≡ false → slice_get cs i ≡ Some c → j ≡ i + 1 → Along i j
+  one_on i j c n e f = (omega (arith, f), line)
+    where
+      line : OneLine cs i j
+      line k a b (d, g, h) =
+          let at : i ≡ k = omega (arith, a, b, f) in
+          let s : c ≡ d = same_char k c d (subst (λ z. slice_get cs z ≡ Some c) at e) g in
+          not_both (is_break c) n (subst (λ z. is_break z ≡ true) (sym s) h)
+
+  run_on : (p : ℕ → Bool) (i j : ℕ) → ((c : ℕ) → p c ≡ true → is_break c ≡ false) → run cs p i j → Along i j
+  run_on p i j n (o, r) = (o, line)
+    where
+      line : OneLine cs i j
+      line k a b (d, g, h) =
+          let s = r k a b in
+          let e : s.0 ≡ d = same_char k s.0 d s.1 g in
+          not_both (is_break s.0) (n s.0 s.2) (subst (λ z. is_break z ≡ true) (sym e) h)
+
+  -- ---- a node stands on one line
+
+  numbered_on : (n i j c : ℕ) → numbered cs n i j c → Along i j
+  unfolding numbered
+  numbered_on n i j c (s, (xs, ((r, e), f), g)) = run_on is_ascii_hexdigit i j hex_no_break r
+
+  numbered_after : (n b i j c : ℕ) → is_break b ≡ false → (chr cs b ▸ numbered cs n) i j c → Along i j
+  numbered_after n b i j c x (k, (e, f), r) = go_on i k j (one_on i k b x e f) (numbered_on n k j c r)
+
+  escape_on : (i j c : ℕ) → escape cs i j c → Along i j
+  unfolding escape is_break
+  escape_on i j c (k, (e, f), r) = go_on i k j (one_on i k 92 refl e f) (after r)
+    where
+      after : ((a : ℕ) × letter cs is_nb k j a × (short_escape a ≡ Some c)) ⊎ ((chr cs 120 ▸ numbered cs 2) k j c ⊎ ((chr cs 117 ▸ numbered cs 4) k j c ⊎ (chr cs 85 ▸ numbered cs 8) k j c)) → Along k j
+      after (inl (a, (g, n, h), m)) = one_on k j a (nb_no_break a n) g h
+      after (inr (inl r)) = numbered_after 2 120 k j c refl r
+      after (inr (inr (inl r))) = numbered_after 4 117 k j c refl r
+      after (inr (inr (inr r))) = numbered_after 8 85 k j c refl r
+
+  piece_on : (i j : ℕ) (xs : List ℕ) → piece cs i j xs → Along i j
+  unfolding double_char
+  piece_on i j xs (inl (c, inl (g, n, h), e)) = one_on i j c (solid_no_break c n) g h
+  piece_on i j xs (inl (c, inr r, e)) = escape_on i j c r
+  piece_on i j xs (inr (c, (g, n, h), e)) = one_on i j c (white_no_break c n) g h
+
+  pieces_on : (j i : ℕ) (xs : List ℕ) → Any (piece cs) j i xs → Along i j
+  pieces_on j i xs (done e f) = stay i j e
+  pieces_on j i xs (then k ys zs r s e) = go_on i k j (piece_on i k ys r) (pieces_on j k zs s)
+
+  double_on : (i j : ℕ) (xs : List ℕ) → double_line cs i j xs → Along i j
+  unfolding double_line is_break
+  double_on i j xs (k, (e, f), (m, r, (g, h))) = go_on i k j (one_on i k 34 refl e f) (go_on k m j (pieces_on m k xs r) (one_on m j 34 refl g h))
+
+  spaces_on : (i j : ℕ) → spaces cs i j → Along i j
+  spaces_on i j r = run_on is_space i j space_no_break r
+
+  comma_on : (i j : ℕ) → comma cs i j → Along i j
+  unfolding is_break
+  comma_on i j (k, (e, f), s) = go_on i k j (one_on i k 44 refl e f) (spaces_on k j s)
+
+  abbrev Lined : Rule (List Event) → Type 0
+  Lined R = (i j : ℕ) (es : List Event) → R i j es → Along i j
+
+  item_on : (R : Rule (List Event)) → Lined R → Lined (item cs R)
+  item_on R f i j es (k, r, s) = go_on i k j (f i k es r) (spaces_on k j s)
+
+  items_on : (R : Rule (List Event)) → Lined R → (j i : ℕ) (es : List Event) → Any (item cs R ◂ comma cs) j i es → Along i j
+  items_on R f j i es (done e g) = stay i j e
+  items_on R f j i es (then k ys zs (m, r, s) more h) = go_on i m j (item_on R f i m ys r) (go_on m k j (comma_on m k s) (items_on R f j k zs more))
+
+  last_on : (R : Rule (List Event)) → Lined R → Lined (optional (item cs R))
+  last_on R f i j es (inl (q, r)) = stay i j q
+  last_on R f i j es (inr r) = item_on R f i j es r
+
+  node_on : (room : ℕ) → Lined (node cs room)
+  unfolding node is_break
+  node_on zero i j es (xs, r, e) = double_on i j xs r
+  node_on (suc room) i j es (inl (xs, r, e)) = double_on i j xs r
+  node_on (suc room) i j es (inr (xs, (a, (e, f), (b, s, (c, ys, zs, more, (d, last, (g, h)), k))), l)) =
+      go_on i a j (one_on i a 91 refl e f)
+      (go_on a b j (spaces_on a b s)
+      (go_on b c j (items_on (node cs room) (node_on room) c b ys more)
+      (go_on c d j (last_on (node cs room) (node_on room) c d zs last) (one_on d j 93 refl g h))))
+
+  -- ---- no line begins inside
+
+  brk_ends : (i k : ℕ) → brk cs i k → (0 < k) × Stands cs is_break (k - 1)
+  unfolding brk is_break
+  brk_ends i k (inl (m, (e, f), (g, h))) = let q : m ≡ k - 1 = omega (arith, h) in (omega (arith, h), (10, subst (λ z. slice_get cs z ≡ Some 10) q g, refl))
+  brk_ends i k (inr (inl (m, (e, f), (g, h)))) = let q : i ≡ k - 1 = omega (arith, f, g) in (omega (arith, f, g), (13, subst (λ z. slice_get cs z ≡ Some 13) q e, refl))
+  brk_ends i k (inr (inr (m, (e, f), (g, h)))) = let q : m ≡ k - 1 = omega (arith, h) in (omega (arith, h), (10, subst (λ z. slice_get cs z ≡ Some 10) q g, refl))
+
+  -- no line begins here
+  abbrev Inline : ℕ → Type 0
+  Inline i = (0 < i) × (Stands cs is_break (i - 1) → ⊥)
+
+  inline_on : (i j : ℕ) → Inline i → Along i j → Inline j
+  inline_on i j n a = pick (eq-or-lt_of_le a.0)
+    where
+      pick : (i ≡ j) ⊎ (i < j) → Inline j
+      pick (inl e) = subst Inline e n
+      pick (inr l) = (omega (arith, l), a.1 (j - 1) (omega (arith, l)) (omega (arith, l)))
+
+  unstarted : (k : ℕ) → Inline k → StartsLine cs k → ⊥
+  unfolding StartsLine
+  unstarted k n (inl z) = omega (arith, n.0, z)
+  unstarted k n (inr (i, b)) = n.1 (brk_ends i k b).1
+
+  inline_before : (i j k : ℕ) → Inline i → Along i j → i ≤ k → k < j → Inline k
+  inline_before i j k n a l m = inline_on i k n (l, λ x b c. a.1 x b (omega (arith, c, m)))
+
+  unmarked : (i j : ℕ) → Inline i → Along i j → Unmarked cs i j
+  unfolding Mark MarkOf
+  unmarked i j n a k b c (inl m) = unstarted k (inline_before i j k n a b c) m.0
+  unmarked i j n a k b c (inr m) = unstarted k (inline_before i j k n a b c) m.0
+
+  -- ---- a node is a node of the whole grammar
+
+  maybe_apart : (c : Ctx) → ((i j : ℕ) → sep cs i j → separate cs 0 c i j) → (i j : ℕ) → spaces cs i j → maybe (separate cs 0 c) i j
+  unfolding sep
+  maybe_apart c f i j (o, r) = pick (eq-or-lt_of_le o)
+    where
+      pick : (i ≡ j) ⊎ (i < j) → maybe (separate cs 0 c) i j
+      pick (inl e) = inl (sym e)
+      pick (inr l) = inr (f i j (inl ((o, r), l)))
+
+  -- beside the root, and inside brackets
+  abbrev context : Bool → Ctx
+  context true = flow_in
+  context false = flow_out
+
+  apart : (b : Bool) (i j : ℕ) → sep cs i j → separate cs 0 (context b) i j
+  unfolding separate separate_lines
+  apart true i j s = inr s
+  apart false i j s = inr s
+
+  around : (b : Bool) (i j : ℕ) → spaces cs i j → maybe (separate cs 0 (context b)) i j
+  around b = maybe_apart (context b) (apart b)
+
+  scalar_in : (i j : ℕ) (es : List Event) (c : Ctx) → Inline i → scalar_node cs i j es → seen (λ t. scalar no_props double_quoted t ∷ []) (double cs 0 c) i j es
+  unfolding double double_line
+  scalar_in i j es c n (xs, (k, q, (m, r, s)), f) = (xs, (unmarked i j n (double_on i j xs (k, q, (m, r, s))), (k, q, (m, inl r, s))), f)
+
+  -- what stands at a place where no line begins
+  abbrev Inside : Rule (List Event) → Rule (List Event) → Type 0
+  Inside R S = (i j : ℕ) (es : List Event) → Inline i → R i j es → S i j es
+
+  abbrev nodes_in : ℕ → Rule (List Event)
+  nodes_in room = reads cs ⊥ [] room (pair_part 0 flow_in) ∪ (reads cs ⊥ [] room (yaml_part 0 flow_in) ∪ reads cs ⊥ [] room (json_part 0 flow_in))
+
+  item_in : (room : ℕ) (b : Bool) → Inside (node cs room) (reads cs ⊥ [] room (json_part 0 flow_in)) → Inside (item cs (node cs room)) (nodes_in room ◂ maybe (separate cs 0 (context b)))
+  item_in room b f i j es n (k, r, s) = (k, inr (inr (f i k es n r)), around b k j s)
+
+  items_in : (room : ℕ) (b : Bool) → Inside (node cs room) (reads cs ⊥ [] room (json_part 0 flow_in)) → (j i : ℕ) (es : List Event) → Inline i → Any (item cs (node cs room) ◂ comma cs) j i es
+      → Any ((nodes_in room ◂ maybe (separate cs 0 (context b))) ◂ (chr cs 44 ◆ maybe (separate cs 0 (context b)))) j i es
+  items_in room b f j i es n (done e g) = done e g
+  items_in room b f j i es n (then k ys zs (m, r, (l, c, s)) more h) =
+      let after : Inline m = inline_on i m n (item_on (node cs room) (node_on room) i m ys r) in
+      then k ys zs (m, item_in room b f i m ys n r, (l, c, around b l k s)) (items_in room b f j k zs (inline_on m k after (comma_on m k (l, c, s))) more) h
+
+  last_in : (room : ℕ) (b : Bool) → Inside (node cs room) (reads cs ⊥ [] room (json_part 0 flow_in)) → Inside (optional (item cs (node cs room))) (optional (nodes_in room ◂ maybe (separate cs 0 (context b))))
+  last_in room b f i j es n (inl r) = inl r
+  last_in room b f i j es n (inr r) = inr (item_in room b f i j es n r)
+
+  seq_in : (room : ℕ) (b : Bool) → Inside (node cs room) (reads cs ⊥ [] room (json_part 0 flow_in)) → Inside (sequence cs (node cs room)) (flow_seq cs ⊥ [] (Unit {0}) (reads cs ⊥ [] room) no_props 0 (context b))
+  unfolding flow_seq inner is_break
+  seq_in room true f i j es n (xs, (a, (e, g), (p, s, (c, ys, zs, more, (d, last, q), k))), l) =
+      let n1 : Inline p = inline_on a p (inline_on i a n (one_on i a 91 refl e g)) (spaces_on a p s) in
+      let n2 : Inline c = inline_on p c n1 (items_on (node cs room) (node_on room) c p ys more) in
+      (tt, (xs, (p, (a, (e, g), around true a p s), (d, (c, ys, zs, items_in room true f c p ys n1 more, last_in room true f c d zs n2 last, k), q)), l))
+  seq_in room false f i j es n (xs, (a, (e, g), (p, s, (c, ys, zs, more, (d, last, q), k))), l) =
+      let n1 : Inline p = inline_on a p (inline_on i a n (one_on i a 91 refl e g)) (spaces_on a p s) in
+      let n2 : Inline c = inline_on p c n1 (items_on (node cs room) (node_on room) c p ys more) in
+      (tt, (xs, (p, (a, (e, g), around false a p s), (d, (c, ys, zs, items_in room false f c p ys n1 more, last_in room false f c d zs n2 last, k), q)), l))
+
+  json_in : (room : ℕ) (b : Bool) → Inside (node cs room) (reads cs ⊥ [] room (json_part 0 (context b)))
+  unfolding node reads json_node
+  json_in zero b i j es n r = (i, no_props, inl (refl, refl), inr (inl (scalar_in i j es (context b) n r)))
+  json_in (suc room) b i j es n (inl r) = (i, no_props, inl (refl, refl), inr (inl (scalar_in i j es (context b) n r)))
+  json_in (suc room) b i j es n (inr r) = (i, no_props, inl (refl, refl), inr (inr (inl (seq_in room b (json_in room true) i j es n r))))
+
+  -- ---- the document
+
+  tail_in : (j : ℕ) → tail cs j (length cs) → s_l_comments cs j (length cs)
+  unfolding s_l_comments s_b_comment line_end sep
+  tail_in j (k, (o, r), t) = (length cs, inl (k, spaced (eq-or-lt_of_le o), ended t), Spans.done refl)
+    where
+      spaced : (j ≡ k) ⊎ (j < k) → maybe (sep cs ◆ maybe (comment cs)) j k
+      spaced (inl e) = inl (sym e)
+      spaced (inr l) = inr (k, inl ((o, r), l), inl refl)
+
+      ended : maybe (brk cs) k (length cs) → line_end cs k (length cs)
+      ended (inl e) = inr (e, sym e)
+      ended (inr b) = inl b
+
+  block_in_room : (room : ℕ) (i k : ℕ) (es : List Event) → separate cs 0 flow_out i k → Inline k → (node cs room ◂ tail cs) k (length cs) es → reads cs ⊥ [] room (block_part 0 block_in) i (length cs) es
+  unfolding reads block_node flow_node
+  block_in_room zero i k es s n (j, r, t) = inl (k, s, (j, inr (json_in zero false k j es n r), tail_in j t))
+  block_in_room (suc room) i k es s n (j, r, t) = inl (k, s, (j, inr (json_in (suc room) false k j es n r), tail_in j t))
+
+  -- ---- the stream
+
+  -- no line begins before the end of a last break
+  last_break : (m e : ℕ) → Inline m → brk cs m e → (k : ℕ) → m ≤ k → k < e → StartsLine cs k → ⊥
+  unfolding brk StartsLine
+  last_break m e n (inl (c, (g, h), (p, q))) k a b s = pick (eq-or-lt_of_le a)
+    where
+      between : (k ≡ m + 1) → StartsLine cs k → ⊥
+      between at (inl z) = omega (arith, at, z)
+      between at (inr (i, inl (d, (x, y), (u, v)))) =
+          let same : d ≡ m = omega (arith, at, v) in
+          let f : 13 ≡ 10 = same_char m 13 10 g (subst (λ z. slice_get cs z ≡ Some 10) same u) in
+          omega (arith, f)
+      between at (inr (i, inr (inl (d, (x, y), (u, v))))) =
+          let same : c ≡ d = omega (arith, at, u, h) in
+          v (10, subst (λ z. slice_get cs z ≡ Some 10) same p, refl)
+      between at (inr (i, inr (inr (d, (x, y), (u, v))))) =
+          let same : d ≡ m = omega (arith, at, v) in
+          let f : 13 ≡ 10 = same_char m 13 10 g (subst (λ z. slice_get cs z ≡ Some 10) same u) in
+          omega (arith, f)
+
+      pick : (m ≡ k) ⊎ (m < k) → ⊥
+      pick (inl f) = unstarted k (subst Inline f n) s
+      pick (inr l) = between (omega (arith, l, b, h, q)) s
+  last_break m e n (inr (inl (c, (g, h), (p, q)))) k a b s =
+      let f : m ≡ k = omega (arith, a, b, h, p) in
+      unstarted k (subst Inline f n) s
+  last_break m e n (inr (inr (c, (p, q), (g, h)))) k a b s =
+      let f : m ≡ k = omega (arith, a, b, p, h) in
+      unstarted k (subst Inline f n) s
+
+  tail_unmarked : (m : ℕ) → Inline m → maybe (brk cs) m (length cs) → Unmarked cs m (length cs)
+  unfolding Mark MarkOf
+  tail_unmarked m n (inl e) k a b h = omega (arith, a, b, e)
+  tail_unmarked m n (inr r) k a b (inl h) = last_break m (length cs) n r k a b h.0
+  tail_unmarked m n (inr r) k a b (inr h) = last_break m (length cs) n r k a b h.0
+
+  both_unmarked : (i m j : ℕ) → Unmarked cs i m → Unmarked cs m j → Unmarked cs i j
+  both_unmarked i m j f g k a b = pick (below_or_not k m)
+    where
+      pick : (k < m) ⊎ (m ≤ k) → Mark cs k → ⊥
+      pick (inl h) = f k a h
+      pick (inr h) = g k h b
+
+  space_run : (i k j : ℕ) → slice_get cs i ≡ Some 32 → k ≡ i + 1 → spaces cs k j → run cs is_space i j
+  unfolding is_space
+  space_run i k j e f (o, r) = (omega (arith, f, o), λ m a b. pick m b (eq-or-lt_of_le a))
+    where
+      pick : (m : ℕ) → m < j → (i ≡ m) ⊎ (i < m) → Stands cs is_space m
+      pick m b (inl g) = (32, subst (λ z. slice_get cs z ≡ Some 32) g e, refl)
+      pick m b (inr l) = r m (omega (arith, l, f)) b
+
+pub first_inside : (cs : List ℕ) (es : List Event) → ReadsFirst cs es → ReadsText cs ⊥ open_limit es
+unfolding ReadsFirst ReadsText stream any_document explicit_document bare_document document_mark stream_events piece_events ends_explicitly separate separate_lines sep MarkOf StartsLine is_white is_break
+first_inside cs es (xs, (p1, (e1, f1), (p2, (e2, f2), (p3, (e3, f3), (p4, (e4, f4), (p5, sp, (j, r, (m, sj, t))))))), e) =
+    let start : p3 ≡ 3 = omega (arith, f1, f2, f3) in
+    let white : slice_get cs 3 ≡ Some 32 = subst (λ z. slice_get cs z ≡ Some 32) start e4 in
+    let letters : word cs (45 ∷ 45 ∷ 45 ∷ []) 0 p3 = (p1, (e1, f1), (p2, (e2, f2), (p3, (e3, f3), refl))) in
+    let mark : MarkOf cs 45 0 = (inl refl, (p3, letters), inl (32, white, refl)) in
+    let n3 : Inline cs p3 = inline_on cs p2 p3 (inline_on cs p1 p2 (omega (arith, f1), (one_on cs 0 p1 45 refl e1 f1).1 (p1 - 1) (omega arith) (omega (arith, f1))) (one_on cs p1 p2 45 refl e2 f2)) (one_on cs p2 p3 45 refl e3 f3) in
+    let n5 : Inline cs p5 = inline_on cs p4 p5 (inline_on cs p3 p4 n3 (one_on cs p3 p4 32 refl e4 f4)) (spaces_on cs p4 p5 sp) in
+    let along : Along cs p3 m = go_on cs p3 p4 m (one_on cs p3 p4 32 refl e4 f4) (go_on cs p4 p5 m (spaces_on cs p4 p5 sp) (go_on cs p5 j m (node_on cs open_limit p5 j xs r) (spaces_on cs j m sj))) in
+    let free : Unmarked cs p3 (length cs) = both_unmarked cs p3 m (length cs) (unmarked cs p3 m n3 along) (tail_unmarked cs m (inline_on cs p3 m n3 along) t) in
+    let apart_at : separate cs 0 flow_out p3 p5 = inr (inl (space_run cs p3 p4 p5 e4 f4 sp, omega (arith, f4, sp.0))) in
+    let body : reads cs ⊥ [] open_limit (block_part 0 block_in) p3 (length cs) xs = block_in_room cs open_limit p3 p5 xs apart_at n5 (j, r, (m, sj, t)) in
+    let pieces : List Piece = document_piece true xs ∷ [] in (
+      pieces,
+      (length cs, pieces, [], (0, Spans.done refl, inr (inr (inl (xs, (p3, (0, (refl, mark), letters), inl (free, body)), refl)))), done refl refl, sym (append-nil pieces)),
+      e ∙ ap (λ z. stream_start ∷ document_start true ∷ z) (sym (append_assoc xs (document_end false ∷ []) (stream_end ∷ []))),
+    )
