@@ -57,7 +57,7 @@ module _ (cs : List ℕ) where
   same_char i c d e f = let k : ◌≡◌ {A = Option ℕ} (Some c) (Some d) = sym e ∙ f in cc
 
   -- forward, and on one line
-  abbrev Along : Span
+  abbrev pub Along : Span
   Along i j = (i ≤ j) × OneLine cs i j
 
   stay : (i j : ℕ) → j ≡ i → Along i j
@@ -70,7 +70,7 @@ module _ (cs : List ℕ) where
       pick m a b (inl h) = f.1 m a h
       pick m a b (inr h) = g.1 m h b
 
-  one_on : (i j c : ℕ) → is_break c ≡ false → slice_get cs i ≡ Some c → j ≡ i + 1 → Along i j
+  pub one_on : (i j c : ℕ) → is_break c ≡ false → slice_get cs i ≡ Some c → j ≡ i + 1 → Along i j
   one_on i j c n e f = (omega (arith, f), line)
     where
       line : OneLine cs i j
@@ -128,7 +128,7 @@ module _ (cs : List ℕ) where
   unfolding is_break
   comma_on i j (k, (e, f), s) = go_on i k j (one_on i k 44 refl e f) (spaces_on k j s)
 
-  abbrev Lined : Rule (List Event) → Type 0
+  abbrev pub Lined : Rule (List Event) → Type 0
   Lined R = (i j : ℕ) (es : List Event) → R i j es → Along i j
 
   item_on : (R : Rule (List Event)) → Lined R → Lined (item cs R)
@@ -142,7 +142,7 @@ module _ (cs : List ℕ) where
   last_on R f i j es (inl (q, r)) = stay i j q
   last_on R f i j es (inr r) = item_on R f i j es r
 
-  node_on : (room : ℕ) → Lined (node cs room)
+  pub node_on : (room : ℕ) → Lined (node cs room)
   unfolding node is_break
   node_on zero i j es (xs, r, e) = double_on i j xs r
   node_on (suc room) i j es (inl (xs, r, e)) = double_on i j xs r
@@ -161,10 +161,10 @@ module _ (cs : List ℕ) where
   brk_ends i k (inr (inr (m, (e, f), (g, h)))) = let q : m ≡ k - 1 = omega (arith, h) in (omega (arith, h), (10, subst (λ z. slice_get cs z ≡ Some 10) q g, refl))
 
   -- no line begins here
-  abbrev Inline : ℕ → Type 0
+  abbrev pub Inline : ℕ → Type 0
   Inline i = (0 < i) × (Stands cs is_break (i - 1) → ⊥)
 
-  inline_on : (i j : ℕ) → Inline i → Along i j → Inline j
+  pub inline_on : (i j : ℕ) → Inline i → Along i j → Inline j
   inline_on i j n a = pick (eq-or-lt_of_le a.0)
     where
       pick : (i ≡ j) ⊎ (i < j) → Inline j

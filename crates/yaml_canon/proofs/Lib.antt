@@ -1,1 +1,4 @@
 pub mod FirstInside
+pub mod Derivation
+pub mod Spelled
+pub mod SimpleTrees

@@ -2,3 +2,4 @@ pub mod TreeModel
 pub mod Among
 pub mod Claims
 pub mod FirstPath
+pub mod SimpleMarks

@@ -1,0 +1,272 @@
+-- The productions of the first path give the text of marks without anchors, aliases, tags and mappings.
+use Rattle.std.proofs.Common.{◌≡◌, ℕ, zero, suc, max, ◌+◌, ◌*◌, ◌/◌, ◌%◌, ◌<◌, ◌≤◌, ◌⊎◌, ◌==◌, not, ◌&&◌, nat_lt, Bool, true, false, inl, inr, Some, None, List, [], ◌∷◌, ◌++◌, length, slice_get, chars, refl, sym, ◌∙◌, ap, subst, arith, append_assoc}
+use Rattle.std.proofs.lemmas.Bool.{cond_both, eqb-true, ltb-true}
+use Rattle.std.proofs.lemmas.Bool.Decides.{nat_tests}
+use Rattle.std.proofs.lemmas.Str.{encodes-chars, scalars-chars, IsUtf8-from_is_utf8}
+use Rattle.std.proofs.Math.Nat.{eq-or-lt_of_le}
+use Rattle.std.specs.Prelude.{slice_range}
+use Rattle.std.specs.Str.{is_utf8}
+use Rattle.std.specs.Str.Parse.{digits_value}
+use Rattle.std.specs.Char.{digit_value, is_ascii_hexdigit}
+use lib.Utf8.{scalar, scalars}
+use Rattle.yaml_text.specs.Event.{Event, untagged, double as double_quoted, sequence_start, sequence_end, mapping_start, mapping_end, scalar_event}
+use Rattle.yaml_text.specs.Marked.{Marked, AllMarked, MarkedPairs, alias, scalar_at, sequence_at, mapping_at, end_marks, item_mark, done_marks, entry_marks, flat, flat_all, flat_pairs}
+use Rattle.yaml_text.specs.CharText.{is_plain, hex_digit, spell_char}
+use Rattle.yaml_text.specs.TagText.{tag_text}
+use Rattle.yaml_text.specs.NodeText.{quoted, text, items_text}
+use Rattle.yaml_text.specs.grammar.Rules.{done, then, ◌∪◌, run, Stands}
+use Rattle.yaml_text.specs.grammar.Characters.{is_break, is_nb, is_ns, is_white, is_space, short_escape, numbered, escape}
+use Rattle.yaml_text.specs.grammar.FlowScalars.{double_char, white_text}
+use Rattle.yaml_text.proofs.Members.{and_both}
+use Rattle.yaml_text.proofs.CharLaws.{tails, low}
+use Rattle.yaml_text.proofs.PlaceLemmas.{slice_one, slice_snoc}
+use Rattle.yaml_canon.specs.FirstPath.{piece, quoted_rest, double_line, scalar_node, spaces, items_rest, node}
+use Rattle.yaml_canon.specs.SimpleMarks.{Simple, AllSimple}
+
+-- ---- what stands from a place on
+
+abbrev pub At : List ℕ → ℕ → List ℕ → Type 0
+At cs zero xs = cs ≡ xs
+At [] (suc i) xs = ⊥
+At (c ∷ cs) (suc i) xs = At cs i xs
+
+pub at_get : (cs : List ℕ) (i c : ℕ) (xs : List ℕ) → At cs i (c ∷ xs) → slice_get cs i ≡ Some c
+at_get cs zero c xs e = ap (λ z. slice_get z 0) e
+at_get [] (suc i) c xs e = absurd e
+at_get (a ∷ cs) (suc i) c xs e = at_get cs i c xs e
+
+at_suc : (cs : List ℕ) (i c : ℕ) (xs : List ℕ) → At cs i (c ∷ xs) → At cs (suc i) xs
+at_suc [] zero c xs e = absurd (cc)
+at_suc (a ∷ cs) zero c xs e = tails e
+at_suc [] (suc i) c xs e = absurd e
+at_suc (a ∷ cs) (suc i) c xs e = at_suc cs i c xs e
+
+pub at_next : (cs : List ℕ) (i c : ℕ) (xs : List ℕ) → At cs i (c ∷ xs) → At cs (i + 1) xs
+at_next cs i c xs e = let q : suc i ≡ i + 1 = omega arith in subst (λ n. At cs n xs) q (at_suc cs i c xs e)
+
+pub at_end : (cs : List ℕ) (i : ℕ) → At cs i [] → i ≡ length cs
+at_end cs zero e = sym (ap length e)
+at_end [] (suc i) e = absurd e
+at_end (c ∷ cs) (suc i) e = ap suc (at_end cs i e)
+
+-- ---- a character
+
+hex_is : (d : ℕ) → d < 16 → is_ascii_hexdigit (hex_digit d) ≡ true
+hex_is d h = grind (arith, nat_tests)
+
+hex_worth : (d : ℕ) → d < 16 → digit_value (hex_digit d) ≡ d
+hex_worth d h = grind (arith, nat_tests)
+
+module _ (cs : List ℕ) where
+  abbrev Piece : ℕ → ℕ → List ℕ → Type 0
+  Piece c i r = (k : ℕ) × piece cs i k (c ∷ []) × At cs k r
+
+  -- a backslash and one character
+  by_short : (c b i : ℕ) (r : List ℕ) → is_nb b ≡ true → short_escape b ≡ Some c → At cs i (92 ∷ b ∷ r) → Piece c i r
+  unfolding double_char escape
+  by_short c b i r n s a =
+      let m = at_next cs i 92 (b ∷ r) a in
+      (i + 1 + 1, inl (c, inr (i + 1, (at_get cs i 92 (b ∷ r) a, refl), inl (b, (at_get cs (i + 1) b r m, n, refl), s)), refl), at_next cs (i + 1) b r m)
+
+  -- hexadecimal digits
+  grown : (i j : ℕ) (d : ℕ) → d < 16 → run cs is_ascii_hexdigit i j → slice_get cs j ≡ Some (hex_digit d) → run cs is_ascii_hexdigit i (j + 1)
+  grown i j d l (o, f) e = (omega (arith, o), λ m a b. pick m a (eq-or-lt_of_le (let h : m ≤ j = omega (arith, b) in h)))
+    where
+      pick : (m : ℕ) → i ≤ m → (m ≡ j) ⊎ (m < j) → Stands cs is_ascii_hexdigit m
+      pick m a (inl h) = (hex_digit d, subst (λ z. slice_get cs z ≡ Some (hex_digit d)) (sym h) e, hex_is d l)
+      pick m a (inr h) = f m a h
+
+  no_digits : (i : ℕ) → run cs is_ascii_hexdigit i i
+  no_digits i = (omega arith, λ m a b. absurd (let x : ⊥ = omega (arith, a, b) in x))
+
+  two : (c i : ℕ) (r : List ℕ) → scalar c ≡ true → c < 256 → At cs i (92 ∷ 120 ∷ hex_digit (c / 16) ∷ hex_digit (c % 16) ∷ r) → Piece c i r
+  unfolding double_char escape numbered
+  two c i r s l a =
+      let x : ℕ = hex_digit (c / 16) in
+      let y : ℕ = hex_digit (c % 16) in
+      let n1 = at_next cs i 92 (120 ∷ x ∷ y ∷ r) a in
+      let n2 = at_next cs (i + 1) 120 (x ∷ y ∷ r) n1 in
+      let n3 = at_next cs (i + 1 + 1) x (y ∷ r) n2 in
+      let n4 = at_next cs (i + 1 + 1 + 1) y r n3 in
+      let k : ℕ = i + 1 + 1 in
+      let g1 = at_get cs k x (y ∷ r) n2 in
+      let g2 = at_get cs (k + 1) y r n3 in
+      let r1 = grown k k (c / 16) (omega arith) (no_digits k) g1 in
+      let r2 = grown k (k + 1) (c % 16) (omega arith) r1 g2 in
+      let slice : slice_range cs k (k + 1 + 1) ≡ x ∷ y ∷ [] =
+      slice_snoc cs k (k + 1) (k + 1 + 1) y (omega arith) g2 refl ∙ ap (λ v. v ++ y ∷ []) (slice_one cs k (k + 1) x g1 refl) in
+      let worth : digits_value 16 (x ∷ y ∷ []) ≡ c = rw (hex_worth (c / 16) (omega arith), hex_worth (c % 16) (omega arith)) (omega arith) in
+      let e : k + 1 + 1 ≡ k + 2 = omega arith in
+      (k + 1 + 1, inl (c, inr (i + 1, (at_get cs i 92 _ a, refl), inr (inl (k, (at_get cs (i + 1) 120 _ n1, refl), (s, (x ∷ y ∷ [], ((r2, e), sym slice), sym worth))))), refl), n4)
+
+  four : (c i : ℕ) (r : List ℕ) → scalar c ≡ true → c < 65536
+      → At cs i (92 ∷ 117 ∷ hex_digit (c / 4096) ∷ hex_digit (c / 256 % 16) ∷ hex_digit (c / 16 % 16) ∷ hex_digit (c % 16) ∷ r) → Piece c i r
+  unfolding double_char escape numbered
+  four c i r s l a =
+      let x : ℕ = hex_digit (c / 4096) in
+      let y : ℕ = hex_digit (c / 256 % 16) in
+      let z : ℕ = hex_digit (c / 16 % 16) in
+      let w : ℕ = hex_digit (c % 16) in
+      let n1 = at_next cs i 92 (117 ∷ x ∷ y ∷ z ∷ w ∷ r) a in
+      let n2 = at_next cs (i + 1) 117 (x ∷ y ∷ z ∷ w ∷ r) n1 in
+      let k : ℕ = i + 1 + 1 in
+      let n3 = at_next cs k x (y ∷ z ∷ w ∷ r) n2 in
+      let n4 = at_next cs (k + 1) y (z ∷ w ∷ r) n3 in
+      let n5 = at_next cs (k + 1 + 1) z (w ∷ r) n4 in
+      let n6 = at_next cs (k + 1 + 1 + 1) w r n5 in
+      let g1 = at_get cs k x _ n2 in
+      let g2 = at_get cs (k + 1) y _ n3 in
+      let g3 = at_get cs (k + 1 + 1) z _ n4 in
+      let g4 = at_get cs (k + 1 + 1 + 1) w _ n5 in
+      let r1 = grown k k (c / 4096) (omega arith) (no_digits k) g1 in
+      let r2 = grown k (k + 1) (c / 256 % 16) (omega arith) r1 g2 in
+      let r3 = grown k (k + 1 + 1) (c / 16 % 16) (omega arith) r2 g3 in
+      let r4 = grown k (k + 1 + 1 + 1) (c % 16) (omega arith) r3 g4 in
+      let s1 : slice_range cs k (k + 1) ≡ x ∷ [] = slice_one cs k (k + 1) x g1 refl in
+      let s2 : slice_range cs k (k + 1 + 1) ≡ x ∷ y ∷ [] = slice_snoc cs k (k + 1) (k + 1 + 1) y (omega arith) g2 refl ∙ ap (λ v. v ++ y ∷ []) s1 in
+      let s3 : slice_range cs k (k + 1 + 1 + 1) ≡ x ∷ y ∷ z ∷ [] = slice_snoc cs k (k + 1 + 1) (k + 1 + 1 + 1) z (omega arith) g3 refl ∙ ap (λ v. v ++ z ∷ []) s2 in
+      let s4 : slice_range cs k (k + 1 + 1 + 1 + 1) ≡ x ∷ y ∷ z ∷ w ∷ [] = slice_snoc cs k (k + 1 + 1 + 1) (k + 1 + 1 + 1 + 1) w (omega arith) g4 refl ∙ ap (λ v. v ++ w ∷ []) s3 in
+      let worth : digits_value 16 (x ∷ y ∷ z ∷ w ∷ []) ≡ c =
+      rw (hex_worth (c / 4096) (omega arith), hex_worth (c / 256 % 16) (omega arith), hex_worth (c / 16 % 16) (omega arith), hex_worth (c % 16) (omega arith)) (omega arith) in
+      let e : k + 1 + 1 + 1 + 1 ≡ k + 4 = omega arith in
+      (k + 1 + 1 + 1 + 1, inl (c, inr (i + 1, (at_get cs i 92 _ a, refl), inr (inr (inl (k, (at_get cs (i + 1) 117 _ n1, refl), (s, (x ∷ y ∷ z ∷ w ∷ [], ((r4, e), sym s4), sym worth)))))), refl), n6)
+
+  solid : (c : ℕ) → is_plain c ≡ true → (c == 34) ≡ false → (c == 92) ≡ false → (c == 10) ≡ false → (c == 32) ≡ false → (is_ns c && not (c == 34) && not (c == 92)) ≡ true
+  unfolding is_ns is_nb is_break is_white
+  solid c p a b d e = grind (arith, nat_tests)
+
+  itself : (c i : ℕ) (r : List ℕ) → is_plain c ≡ true → (c == 34) ≡ false → (c == 92) ≡ false → (c == 10) ≡ false → At cs i (c ∷ r) → Piece c i r
+  unfolding double_char is_white
+  itself c i r p n1 n2 n3 a = by (c == 32) refl
+    where
+      by : (t : Bool) → (c == 32) ≡ t → Piece c i r
+      by true e = (i + 1, inr (c, (at_get cs i c r a, subst (λ z. is_white z ≡ true) (sym (eqb-true c 32 e)) refl, refl), refl), at_next cs i c r a)
+      by false e = (i + 1, inl (c, inl (at_get cs i c r a, solid c p n1 n2 n3 e, refl), refl), at_next cs i c r a)
+
+  abbrev Reads : ℕ → ℕ → List ℕ → List ℕ → Type 0
+  Reads c i r z = At cs i (z ++ r) → Piece c i r
+
+  one_piece : (c i : ℕ) (r : List ℕ) → scalar c ≡ true → At cs i (spell_char c ++ r) → Piece c i r
+  unfolding spell_char short_escape is_nb is_break
+  one_piece c i r s =
+      cond_both (c == 34) _ _ (Reads c i r) (λ e. by_short c 34 i r refl (ap Some (sym (eqb-true c 34 e)))) (λ n1.
+      cond_both (c == 92) _ _ (Reads c i r) (λ e. by_short c 92 i r refl (ap Some (sym (eqb-true c 92 e)))) (λ n2.
+      cond_both (c == 10) _ _ (Reads c i r) (λ e. by_short c 110 i r refl (ap Some (sym (eqb-true c 10 e)))) (λ n3.
+      cond_both (c == 9) _ _ (Reads c i r) (λ e. by_short c 116 i r refl (ap Some (sym (eqb-true c 9 e)))) (λ n4.
+      cond_both (is_plain c) _ _ (Reads c i r) (λ e. itself c i r e n1 n2 n3) (λ n5.
+      cond_both (nat_lt c 256) _ _ (Reads c i r) (λ e. two c i r s (ltb-true c 256 e)) (λ n6. four c i r s (low c s n5)))))))
+
+  -- the characters, the quote and what follows
+  pieces : (xs : List ℕ) (i : ℕ) (r : List ℕ) → scalars xs ≡ true → At cs i (quoted xs r) → (k : ℕ) × quoted_rest cs i k xs × At cs k r
+  pieces [] i r s a = (i + 1, (i, done refl refl, (at_get cs i 34 r a, refl)), at_next cs i 34 r a)
+  pieces (c ∷ xs) i r s a =
+      let h = and_both (scalar c) (scalars xs) s in
+      let p = one_piece c i (quoted xs r) h.0 a in
+      let q = pieces xs p.0 r h.1 p.2 in
+      (q.0, (q.1.0, then p.0 (c ∷ []) xs p.1 q.1.1 refl, q.1.2), q.2)
+
+  double_read : (x : List ℕ) (i : ℕ) (r : List ℕ) → is_utf8 x ≡ true → At cs i (34 ∷ quoted (chars x) r)
+      → (k : ℕ) × scalar_node cs i k (scalar_event None untagged double_quoted x ∷ []) × At cs k r
+  unfolding double_line
+  double_read x i r u a =
+      let v = IsUtf8-from_is_utf8 x u in
+      let p = pieces (chars x) (i + 1) r (scalars-chars x v) (at_next cs i 34 _ a) in
+      (p.0, (chars x, (i + 1, (at_get cs i 34 _ a, refl), p.1), ap (λ z. scalar_event None untagged double_quoted z ∷ []) (sym (encodes-chars x v))), p.2)
+
+-- ---- nodes
+
+-- how many collections are open at most
+abbrev mutual
+  pub depth : Marked → ℕ
+  depth (alias n) = 0
+  depth (scalar_at a g y x) = 0
+  depth (sequence_at a g b ts) = suc (depths ts)
+  depth (mapping_at a g b ps) = 0
+
+  pub depths : AllMarked → ℕ
+  depths end_marks = 0
+  depths (item_mark t ts) = max (depth t) (depths ts)
+
+mutual
+  unfolding flat
+
+  pub flat_more : (t : Marked) (r s : List Event) → flat t (r ++ s) ≡ flat t r ++ s
+  flat_more (alias n) r s = refl
+  flat_more (scalar_at a g y x) r s = refl
+  flat_more (sequence_at a g b ts) r s = ap (λ z. sequence_start b a g ∷ z) (all_more ts (sequence_end ∷ r) s)
+  flat_more (mapping_at a g b ps) r s = ap (λ z. mapping_start b a g ∷ z) (pairs_more ps (mapping_end ∷ r) s)
+
+  all_more : (ts : AllMarked) (r s : List Event) → flat_all ts (r ++ s) ≡ flat_all ts r ++ s
+  all_more end_marks r s = refl
+  all_more (item_mark t ts) r s = ap (flat t) (all_more ts r s) ∙ flat_more t (flat_all ts r) s
+
+  pairs_more : (ps : MarkedPairs) (r s : List Event) → flat_pairs ps (r ++ s) ≡ flat_pairs ps r ++ s
+  pairs_more done_marks r s = refl
+  pairs_more (entry_marks k v ps) r s = ap (λ z. flat k (flat v z)) (pairs_more ps r s) ∙ (ap (flat k) (flat_more v (flat_pairs ps r) s) ∙ flat_more k (flat v (flat_pairs ps r)) s)
+
+module _ (cs : List ℕ) where
+  pub none : (i : ℕ) → spaces cs i i
+  none i = (omega arith, λ k l m. absurd (let x : ⊥ = omega (arith, l, m) in x))
+
+  one : (i : ℕ) → slice_get cs i ≡ Some 32 → spaces cs i (i + 1)
+  unfolding is_space
+  one i e = (omega arith, λ k l m. let q : i ≡ k = omega (arith, l, m) in (32, subst (λ z. slice_get cs z ≡ Some 32) q e, refl))
+
+  -- a scalar, with whatever room
+  leaf : (room i j : ℕ) (es : List Event) → scalar_node cs i j es → node cs room i j es
+  unfolding node
+  leaf zero i j es d = d
+  leaf (suc room) i j es d = inl d
+
+  -- whatever follows
+  abbrev Derived : Marked → ℕ → ℕ → Type 0
+  Derived t room i = (r : List ℕ) → At cs i (text t r) → (j : ℕ) × node cs room i j (flat t []) × At cs j r
+
+  mutual
+    unfolding text flat node
+
+    pub derive : (t : Marked) (room i : ℕ) (r : List ℕ) → Simple t → depth t ≤ room → At cs i (text t r) → (j : ℕ) × node cs room i j (flat t []) × At cs j r
+    derive (alias n) room i r s l a = absurd s
+    derive (mapping_at o g b ps) room i r s l a = absurd s
+    derive (sequence_at o g b ts) zero i r s l a = absurd (omega arith)
+    derive (scalar_at (Some o) g y x) room i r s l a = absurd (cc s.0)
+    derive (sequence_at (Some o) g b ts) (suc room) i r s l a = absurd (cc s.0)
+    derive (scalar_at None g y x) room i r s l a =
+        let f : At cs i (34 ∷ quoted (chars x) r) = subst (λ z. At cs i (tag_text z ++ (34 ∷ quoted (chars x) r))) s.1 a in
+        let d = double_read cs x i r s.3 f in
+        let e : ◌≡◌ {A = List Event} (scalar_event None untagged double_quoted x ∷ []) (scalar_event None g y x ∷ []) = λ z. scalar_event None (sym s.1 z) (sym s.2 z) x ∷ [] in
+        (d.0, subst (node cs room i d.0) e (leaf room i d.0 _ d.1), d.2)
+    derive (sequence_at None g b ts) (suc room) i r s l a =
+        let f : At cs i (91 ∷ items_text [] ts r) = subst (λ z. At cs i (tag_text z ++ (91 ∷ items_text [] ts r))) s.1 a in
+        let n = at_next cs i 91 (items_text [] ts r) f in
+        let d = list ts room (i + 1) r s.3 (omega arith) n in
+        (d.0, inr (flat_all ts [], (i + 1, (at_get cs i 91 _ f, refl), (i + 1, none (i + 1), d.1)), λ z. sequence_start (s.2 z) None (s.1 z) ∷ all_more ts [] (sequence_end ∷ []) z), d.2)
+
+    list : (ts : AllMarked) (room i : ℕ) (r : List ℕ) → AllSimple ts → depths ts ≤ room → At cs i (items_text [] ts r) → (j : ℕ) × items_rest cs (node cs room) i j (flat_all ts []) × At cs j r
+    list end_marks room i r s l a = (i + 1, (i, [], [], done refl refl, (i, inl (refl, refl), (at_get cs i 93 r a, refl)), refl), at_next cs i 93 r a)
+    list (item_mark t ts) room i r s l a = some ts t room i r (λ q b. derive t room i q s.0 (omega arith) b) s.1 (omega arith) a
+
+    -- an item, and those after it
+    some : (ts : AllMarked) (t : Marked) (room i : ℕ) (r : List ℕ) → Derived t room i → AllSimple ts → depths ts ≤ room → At cs i (text t (items_text (44 ∷ 32 ∷ []) ts r))
+        → (j : ℕ) × items_rest cs (node cs room) i j (flat t (flat_all ts [])) × At cs j r
+    some end_marks t room i r derived q m a =
+        let d = derived (93 ∷ r) a in
+        (d.0 + 1, (i, [], flat t [], done refl refl, (d.0, inr (d.0, d.1, none d.0), (at_get cs d.0 93 r d.2, refl)), refl), at_next cs d.0 93 r d.2)
+    some (item_mark u us) t room i r derived q m a =
+        let rest : List ℕ = text u (items_text (44 ∷ 32 ∷ []) us r) in
+        let d = derived (44 ∷ 32 ∷ rest) a in
+        let n = at_next cs d.0 44 (32 ∷ rest) d.2 in
+        let k : ℕ = d.0 + 1 in
+        let p = some us u room (k + 1) r (λ x b. derive u room (k + 1) x q.0 (omega arith) b) q.1 (omega arith) (at_next cs k 32 rest n) in
+        let e : flat t (flat u (flat_all us [])) ≡ flat t [] ++ flat u (flat_all us []) = flat_more t [] (flat u (flat_all us [])) in (
+          p.0,
+          (
+            p.1.0,
+            flat t [] ++ p.1.1,
+            p.1.2,
+            then (k + 1) (flat t []) p.1.1 (d.0, (d.0, d.1, none d.0), (k, (at_get cs d.0 44 _ d.2, refl), one k (at_get cs k 32 _ n))) p.1.3 refl,
+            p.1.4,
+            e ∙ (ap (λ z. flat t [] ++ z) p.1.5 ∙ sym (append_assoc (flat t []) p.1.1 p.1.2)),
+          ),
+          p.2,
+        )
