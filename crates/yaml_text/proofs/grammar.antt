@@ -1,5 +1,6 @@
 pub mod Forward
 pub mod OneText
+pub mod Values
 pub mod Derive
 pub mod ScalarReadings
 pub mod FlowReadings
