@@ -1,6 +1,7 @@
 pub mod Forward
 pub mod OneText
 pub mod Values
+pub mod Documents
 pub mod Derive
 pub mod ScalarReadings
 pub mod FlowReadings

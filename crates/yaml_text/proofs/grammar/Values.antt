@@ -60,6 +60,9 @@ module _ {V : Type 0} (Q : V → Type 0) where
   pub each_holding : (R : Rule V) → Each Q (where_value Q R)
   each_holding R i j v (p, r) = p
 
+pub each_weaker : {V : Type 0} (P Q : V → Type 0) {R : Rule V} → ((v : V) → P v → Q v) → Each P R → Each Q R
+each_weaker P Q h f i j v r = h v (f i j v r)
+
 -- a property of lists that stays when they are joined
 abbrev pub Joins : {A : Type 0} → (List A → Type 0) → Type 0
 Joins {A} Q = Q [] × ((xs ys : List A) → Q xs → Q ys → Q (xs ++ ys))
@@ -168,6 +171,65 @@ joined_sound handles handle suffix t e = pick (tags.prefix_of handles handle) e
 abbrev pub SoundProps : Props → Type 0
 SoundProps p = SoundTag p.tag
 
+-- ---- the lines of a block scalar
+
+abbrev SoundLine : block.Line → Type 0
+SoundLine block.blank = Unit {0}
+SoundLine (block.text ended xs) = AreScalars xs
+
+abbrev SoundLines : List block.Line → Type 0
+SoundLines [] = Unit {0}
+SoundLines (l ∷ ls) = SoundLine l × SoundLines ls
+
+lines_join : (ls ms : List block.Line) → SoundLines ls → SoundLines ms → SoundLines (ls ++ ms)
+lines_join [] ms h k = k
+lines_join (l ∷ ls) ms h k = (h.0, lines_join ls ms h.1 k)
+
+abbrev line_lists : Joins SoundLines
+line_lists = (tt, lines_join)
+
+scalars_cond : (b : Bool) (xs ys : List ℕ) → AreScalars xs → AreScalars ys → AreScalars (cond b xs ys)
+scalars_cond true xs ys h k = h
+scalars_cond false xs ys h k = k
+
+joint_scalars : (folded : Bool) (a : List ℕ) (j : ℕ) (b : List ℕ) → AreScalars (block.joint folded a j b)
+unfolding block.joint
+joint_scalars false a j b = line_feeds_scalars (suc j)
+joint_scalars true a j b = scalars_cond (block.is_spaced a || block.is_spaced b) (flow.line_feeds (suc j)) (cond (j == 0) (32 ∷ []) (flow.line_feeds j))
+    (line_feeds_scalars (suc j)) (scalars_cond (j == 0) (32 ∷ []) (flow.line_feeds j) refl (line_feeds_scalars j))
+
+chomped_scalars : (s : block.Chomp) (ended : Bool) (j : ℕ) → AreScalars (block.chomped s ended j)
+unfolding block.chomped
+chomped_scalars block.strip ended j = refl
+chomped_scalars block.clip ended j = scalars_cond ended (flow.line_feeds 1) [] refl refl
+chomped_scalars block.keep ended j = scalars_cond ended (flow.line_feeds (suc j)) [] (line_feeds_scalars (suc j)) refl
+
+after_scalars : (folded : Bool) (s : block.Chomp) (ended : Bool) (a : List ℕ) (j : ℕ) (ls : List block.Line) → SoundLines ls → AreScalars (block.after_line folded s ended a j ls)
+unfolding block.after_line
+after_scalars folded s ended a j [] h = chomped_scalars s ended j
+after_scalars folded s ended a j (block.blank ∷ ls) h = after_scalars folded s ended a (suc j) ls h.1
+after_scalars folded s ended a j (block.text more b ∷ ls) h =
+    scalars_join (block.joint folded a j b) (b ++ block.after_line folded s more b 0 ls) (joint_scalars folded a j b)
+    (scalars_join b (block.after_line folded s more b 0 ls) h.0 (after_scalars folded s more b 0 ls h.1))
+
+kept_scalars : (s : block.Chomp) (j : ℕ) → AreScalars (block.kept s j)
+unfolding block.kept
+kept_scalars block.strip j = refl
+kept_scalars block.clip j = refl
+kept_scalars block.keep j = line_feeds_scalars j
+
+content_after_scalars : (folded : Bool) (s : block.Chomp) (j : ℕ) (ls : List block.Line) → SoundLines ls → AreScalars (block.content_after folded s j ls)
+unfolding block.content_after
+content_after_scalars folded s j [] h = kept_scalars s j
+content_after_scalars folded s j (block.blank ∷ ls) h = content_after_scalars folded s (suc j) ls h.1
+content_after_scalars folded s j (block.text ended b ∷ ls) h =
+    scalars_join (flow.line_feeds j) (b ++ block.after_line folded s ended b 0 ls) (line_feeds_scalars j)
+    (scalars_join b (block.after_line folded s ended b 0 ls) h.0 (after_scalars folded s ended b 0 ls h.1))
+
+content_scalars : (folded : Bool) (s : block.Chomp) (ls : List block.Line) → SoundLines ls → AreScalars (block.content folded s ls)
+unfolding block.content
+content_scalars folded s ls h = content_after_scalars folded s 0 ls h
+
 -- ---- the productions
 
 module _ (cs : List ℕ) (characters : AreScalars cs) where
@@ -272,3 +334,35 @@ module _ (cs : List ℕ) (characters : AreScalars cs) where
   unfolding flow.plain
   each_plain n c = each_bounded AreScalars _ (each_joined AreScalars scalar_lists (each_plain_line _ c)
       (each_any AreScalars scalar_lists (each_joined AreScalars scalar_lists (each_several c (each_fold n)) (each_plain_line _ c))))
+
+  -- ---- block scalars
+
+  each_blank_line : (k : ℕ) → Each SoundLines (block.blank_line cs k)
+  unfolding block.blank_line
+  each_blank_line k = each_before SoundLines _ (each_giving SoundLines _ (tt, tt))
+
+  each_text_line : (b : Bool) (k : ℕ) → Each SoundLines (block.text_line cs b k)
+  unfolding block.text_line
+  each_text_line b k = each_before SoundLines _ (each_taking SoundLines AreScalars (each_copied _)
+      (λ xs h. each_either SoundLines (each_before SoundLines _ (each_giving SoundLines _ (h, tt))) (each_before SoundLines _ (each_giving SoundLines _ (h, tt)))))
+
+  each_lines : (b : Bool) (k : ℕ) → Each SoundLines (block.lines cs b k)
+  unfolding block.lines
+  each_lines b k = each_joined SoundLines line_lists (each_any SoundLines line_lists (each_blank_line k))
+      (each_after SoundLines _ (each_optional SoundLines line_lists (each_joined SoundLines line_lists (each_text_line b k)
+      (each_any SoundLines line_lists (each_either SoundLines (each_blank_line k) (each_text_line true k))))))
+
+  each_block_content : (b : Bool) (h : block.Header) (k : ℕ) → Each AreScalars (block.block_content cs b h k)
+  unfolding block.block_content
+  each_block_content b h k = each_after AreScalars _ (each_seen AreScalars SoundLines (block.content b h.chomp) (content_scalars b h.chomp) (each_lines _ k))
+
+  each_block_scalar : (b : Bool) (col : ℕ) → Each AreScalars (block.block_scalar cs b col)
+  each_block_scalar b col = each_taking AreScalars Free (each_free _) (λ h u. each_taking AreScalars Free (each_free _) (λ k v. each_block_content b h k))
+
+  pub each_literal : (col : ℕ) → Each AreScalars (block.literal cs col)
+  unfolding block.literal
+  each_literal col = each_before AreScalars _ (each_block_scalar _ col)
+
+  pub each_folded : (col : ℕ) → Each AreScalars (block.folded cs col)
+  unfolding block.folded
+  each_folded col = each_before AreScalars _ (each_block_scalar _ col)
