@@ -6,5 +6,6 @@ pub mod class;
 pub mod context;
 pub mod event;
 pub mod fault;
+pub mod grammar_laws;
 pub mod laws;
 pub mod places;

@@ -6,6 +6,7 @@ use Rattle.std.proofs.lemmas.Str.{is_utf8-from_IsUtf8}
 use Rattle.std.proofs.lemmas.List.{append_assoc}
 use Rattle.yaml_text.specs.Event.{Event, Style, sequence_start, sequence_end, mapping_start, mapping_end, document_start, document_end, stream_start, stream_end}
 use Rattle.yaml_text.specs.Event as style
+use Rattle.yaml_text.specs.Limits.{open_limit}
 use Rattle.yaml_text.specs.Marked.{Marked, AllMarked, MarkedPairs, alias, scalar_at, sequence_at, mapping_at, end_marks, item_mark, done_marks, entry_marks, flat, flat_all, flat_pairs, Document, documents_events}
 use Rattle.yaml_text.specs.Marked as marked
 use Rattle.yaml_text.specs.Sound.{SoundTag, Sound, AllSound, PairsSound, DocumentsSound}
@@ -18,10 +19,9 @@ use Rattle.yaml_text.specs.grammar.Nodes as nodes
 use Rattle.yaml_text.specs.grammar.Nodes.{Part, yaml_part, json_part, pair_part, block_part, compact_part, part, reads}
 use Rattle.yaml_text.specs.grammar.Streams as streams
 use Rattle.yaml_text.specs.grammar.Streams.{Piece, document_piece, suffix_piece, ReadsText}
+use Rattle.yaml_text.specs.grammar.Laws.{FromDocuments, ReadingsAreDocuments}
+use Rattle.yaml_text.specs.grammar.Reading.{Reads, ReadsWide}
 use Rattle.yaml_text.proofs.grammar.Values.{Each, Free, Joins, AreScalars, SoundProps, each_before, each_after, each_either, each_taking, each_some, each_giving, each_never, each_seen, each_given, each_bounded, each_weaker, each_joined, each_any, each_optional, each_free, each_properties, each_plain, each_single, each_double, each_literal, each_folded}
-
-abbrev FromDocuments : List Event → Type 0
-FromDocuments es = (ds : List Document) × (es ≡ marked.stream_events ds) × DocumentsSound ds
 
 -- ---- the events of a node, of items and of entries; the last two before more of them
 
@@ -326,3 +326,8 @@ module _ (cs : List ℕ) (characters : AreScalars cs) where
     documents_of_reading es (pieces, r, e) =
         let q = piece_documents pieces (each_stream 0 (length cs) pieces r) in
         (q.0, e ∙ ap (λ x. stream_start ∷ x) (q.1 (stream_end ∷ [])), q.2)
+
+pub readings_are_documents : ReadingsAreDocuments
+unfolding Reads ReadsWide
+readings_are_documents bytes es (inl (cs, text, r)) = documents_of_reading cs text.scalars ⊥ open_limit es r
+readings_are_documents bytes es (inr (cs, text, r)) = documents_of_reading cs text.scalars (Unit {0}) open_limit es r
