@@ -11,7 +11,7 @@ use Rattle.yaml_text.specs.grammar.FlowScalars as flow
 use Rattle.yaml_text.specs.grammar.BlockScalars as block
 use Rattle.yaml_text.specs.grammar.Directives as directives
 use Rattle.yaml_text.specs.grammar.Nodes.{Part, reads}
-use Rattle.yaml_text.specs.grammar.Streams.{bare_document, stream}
+use Rattle.yaml_text.specs.grammar.Streams.{bare_document, stream, ReadsText}
 use Rattle.yaml_text.specs.grammar.Reading.{Reads, ReadsWide}
 
 -- whether `?` keys and empty keys are read in flow collections
@@ -62,3 +62,12 @@ FromDocuments es = (ds : List Document) × (es ≡ stream_events ds) × Document
 -- What bytes are read as is a list of documents.
 abbrev pub ReadingsAreDocuments : Type 0
 ReadingsAreDocuments = (bytes : List ℕ) (es : List Event) → Reads bytes es ⊎ ReadsWide bytes es → FromDocuments es
+
+-- A reading stays one where more collections may be open, and in a wider profile.
+abbrev pub ReadingsStay : Type 0
+ReadingsStay = (cs : List ℕ) (less more : Bool) → (Profile less → Profile more) → (room most : ℕ) → room ≤ most
+    → (es : List Event) → ReadsText cs (Profile less) room es → ReadsText cs (Profile more) most es
+
+-- What bytes are read as in the narrow profile, they are read as in the wide one.
+abbrev pub ReadingsStayWide : Type 0
+ReadingsStayWide = (bytes : List ℕ) (es : List Event) → Reads bytes es → ReadsWide bytes es
