@@ -95,7 +95,7 @@ ok_first {A} {B} a c b d e = let q : ◌≡◌ {A = A × B} (a, b) (c, d) = cc i
 abbrev pub Taken : List ℕ → Option Value → List ℕ → List ℕ → Type 0
 Taken g o h z = (v : Value) × (o ≡ Some v) × (h ≡ g) × (z ≡ content_of v) × (refused v ≡ None)
 
-taken_parts : (g : List ℕ) (v : Value) (h z : List ℕ) (o : Option Cause) → refused v ≡ o → accepted g v o ≡ Ok (h, z) → (h ≡ g) × (z ≡ content_of v) × (refused v ≡ None)
+pub taken_parts : (g : List ℕ) (v : Value) (h z : List ℕ) (o : Option Cause) → refused v ≡ o → accepted g v o ≡ Ok (h, z) → (h ≡ g) × (z ≡ content_of v) × (refused v ≡ None)
 taken_parts g v h z None q e = let p = ok_first g h (content_of v) z e in (sym p.0, sym p.1, q)
 taken_parts g v h z (Some c) q e = absurd (cc)
 

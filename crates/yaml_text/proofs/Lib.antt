@@ -17,8 +17,13 @@ pub mod SoundLaws
 pub mod ReadLaws
 pub mod PrintLaws
 pub mod Law
+pub mod TreeLaws
+pub mod ContentLaws
+pub mod EventTextLaws
 pub mod Rows
 pub mod CoreRows
+pub mod examples
 pub mod Scan
 pub mod PlaceLemmas
 pub mod grammar
+pub mod RefusedText

@@ -29,7 +29,7 @@ bytes_append : (xs ys : List ℕ) → AreBytes xs → AreBytes ys → AreBytes (
 bytes_append [] ys m n = n
 bytes_append (x ∷ xs) ys m n = (m.0, bytes_append xs ys m.1 n)
 
-low : (c : ℕ) → scalar c ≡ true → c < 1114112
+pub low : (c : ℕ) → scalar c ≡ true → c < 1114112
 low c h = elim (scalar_cases c h) [ inl a ↦ omega arith | inr a ↦ omega (arith, a.1) ]
 
 encode_bytes : (c : ℕ) → c < 1114112 → AreBytes (encode c)

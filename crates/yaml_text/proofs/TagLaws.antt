@@ -46,11 +46,11 @@ abbrev pub AreBytes : List ℕ → Type 0
 AreBytes [] = Unit {0}
 AreBytes (b ∷ bs) = (b < 256) × AreBytes bs
 
-encoded_more : (g more r : List ℕ) → encoded g more ++ r ≡ encoded g (more ++ r)
+pub encoded_more : (g more r : List ℕ) → encoded g more ++ r ≡ encoded g (more ++ r)
 encoded_more [] more r = refl
 encoded_more (b ∷ g) more r = append_assoc (spell_byte b) (encoded g more) r ∙ ap (λ z. spell_byte b ++ z) (encoded_more g more r)
 
-encoded_once : (g h r s : List ℕ) → AreBytes g → AreBytes h → encoded g (62 ∷ r) ≡ encoded h (62 ∷ s) → (g ≡ h) × (r ≡ s)
+pub encoded_once : (g h r s : List ℕ) → AreBytes g → AreBytes h → encoded g (62 ∷ r) ≡ encoded h (62 ∷ s) → (g ≡ h) × (r ≡ s)
 encoded_once [] [] r s m n e = (refl, tails e)
 encoded_once [] (c ∷ h) r s m n e = absurd (no_end c (encoded h (62 ∷ s)) r (sym e))
 encoded_once (b ∷ g) [] r s m n e = absurd (no_end b (encoded g (62 ∷ r)) s e)

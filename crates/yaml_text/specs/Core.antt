@@ -191,6 +191,15 @@ abbrev pub as_int : Option ℤ → Option Value
 as_int None = None
 as_int (Some n) = Some (int_value n)
 
+-- the value that the text denotes under null, bool, int or float; under another tag a text stands for itself
+unfoldable pub value_of : (tag text : List ℕ) → Option Value
+value_of g x =
+    if bytes_eq g null_tag then null_of x
+    else if bytes_eq g bool_tag then as_bool (bool_of x)
+    else if bytes_eq g int_tag then as_int (int_of x)
+    else if bytes_eq g float_tag then float_of x
+    else None
+
 -- by a pattern, or else
 abbrev pub by_pattern : List ℕ → Option Value → Resolved → Resolved
 by_pattern g (Some v) or = taken g v

@@ -1,17 +1,78 @@
 -- The laws of trees, their texts and their meaning.
-use Rattle.std.specs.Prelude.{◌≡◌, ◌↔◌, ℕ, List, Ok}
+use Rattle.std.specs.Prelude.{◌≡◌, ◌↔◌, ◌⊎◌, ℕ, List, Some, Ok}
+use Rattle.std.specs.declared.cmp.Ordering.TheVariants.{Equal}
+use Rattle.std.specs.Cmp.{IsTotalOrder}
 use Rattle.yaml_text.specs.Tree.{Tree}
+use Rattle.yaml_text.specs.Order.{tree_cmp, arranged, Before}
 use Rattle.yaml_text.specs.Event.{Event, Style, double, WrittenTag, full}
-use Rattle.yaml_text.specs.Core.{resolve}
+use Rattle.yaml_text.specs.Core.{Value, value_of, resolve}
+use Rattle.yaml_text.specs.EventText.{EventText}
 use Rattle.yaml_text.specs.Spell.{spell, spell_bytes, spelled}
 use Rattle.yaml_text.specs.Block.{blocked}
 use Rattle.yaml_text.specs.Text.{Text}
-use Rattle.yaml_text.specs.Marked.{Document}
+use Rattle.yaml_text.specs.Marked.{Marked, flat, Document, stream_events}
 use Rattle.yaml_text.specs.Unfold.{trees_of}
 use Rattle.yaml_text.specs.Sound.{DocumentsSound, AllProper}
 use Rattle.yaml_text.specs.Means.{StandsFor, Understood}
 use Rattle.yaml_text.specs.Proper.{Admitted}
-use Rattle.yaml_text.specs.Same.{Alike}
+use Rattle.yaml_text.specs.Same.{Same, Keyed, Alike}
+
+-- ---- the order
+
+-- The comparison of trees obeys the laws of a total order.
+abbrev pub OrderIsTotal : Type 0
+OrderIsTotal = IsTotalOrder tree_cmp
+
+-- The comparison tells any two trees apart.
+abbrev pub OrderTells : Type 0
+OrderTells = (t u : Tree) → (tree_cmp t u ≡ Equal) ↔ (t ≡ u)
+
+-- exactly one of the three holds
+abbrev pub ExactlyOne : Type 0 → Type 0 → Type 0 → Type 0
+ExactlyOne P Q R = (P × (¬ Q) × (¬ R)) ⊎ ((¬ P) × Q × (¬ R)) ⊎ ((¬ P) × (¬ Q) × R)
+
+-- Of two trees one is before the other, or they are the same, and only one of these holds.
+abbrev pub BeforeOrSame : Type 0
+BeforeOrSame = (t u : Tree) → Keyed t → Keyed u → ExactlyOne (Before t u) (Same t u) (Before u t)
+
+-- A tree before one that is before a third is before that.
+abbrev pub BeforeGoesOn : Type 0
+BeforeGoesOn = (t u v : Tree) → Before t u → Before u v → Before t v
+
+-- ---- trees that are the same
+
+abbrev pub SameToItself : Type 0
+SameToItself = (t : Tree) → Same t t
+
+abbrev pub SameEitherWay : Type 0
+SameEitherWay = (t u : Tree) → Keyed t → Keyed u → Same t u → Same u t
+
+abbrev pub SameGoesOn : Type 0
+SameGoesOn = (t u v : Tree) → Keyed t → Keyed u → Keyed v → Same t u → Same u v → Same t v
+
+-- Trees are the same exactly if they are one tree once their pairs stand in order.
+abbrev pub SameIsArranged : Type 0
+SameIsArranged = (t u : Tree) → Keyed t → Keyed u → Same t u ↔ (arranged t ≡ arranged u)
+
+-- ---- events
+
+-- The events of a node, whatever follows them, are those of one marked tree, and end at one place.
+abbrev pub NodeEventsTell : Type 0
+NodeEventsTell = (m n : Marked) (more others : List Event) → flat m more ≡ flat n others → (m ≡ n) × (more ≡ others)
+
+-- The events of a stream are those of one list of documents.
+abbrev pub StreamEventsTell : Type 0
+StreamEventsTell = (ds es : List Document) → stream_events ds ≡ stream_events es → ds ≡ es
+
+-- A text is that of one list of events.
+abbrev pub EventTextTells : Type 0
+EventTextTells = (text : List ℕ) (es fs : List Event) → EventText text es → EventText text fs → es ≡ fs
+
+-- Events have one text.
+abbrev pub EventsHaveOneText : Type 0
+EventsHaveOneText = (text other : List ℕ) (es : List Event) → EventText text es → EventText other es → text ≡ other
+
+-- ---- texts
 
 -- The texts of admitted forests tell whether they are the same, tree by tree.
 abbrev pub TextsTell : Type 0
@@ -32,6 +93,11 @@ EventsTell = (events : List Event) (f g : List Tree) → StandsFor events f → 
 -- The content that resolving gives is canonical: under the tag given it gives itself.
 abbrev pub ResolvedAgain : Type 0
 ResolvedAgain = (written : WrittenTag) (style : Style) (x g content : List ℕ) → resolve written style x ≡ Ok (g, content) → resolve (full g) double content ≡ Ok (g, content)
+
+-- Of the texts that denote a value by a tag's patterns, one at most is its own canonical content.
+abbrev pub OneCanonicalText : Type 0
+OneCanonicalText = (g x y : List ℕ) (v : Value) → value_of g x ≡ Some v → value_of g y ≡ Some v
+    → resolve (full g) double x ≡ Ok (g, x) → resolve (full g) double y ≡ Ok (g, y) → x ≡ y
 
 -- Trees that are read are proper.
 abbrev pub ReadIsProper : Type 0

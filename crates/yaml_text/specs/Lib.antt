@@ -18,6 +18,7 @@ pub mod Proper
 pub mod Sound
 pub mod Text
 pub mod Means
+pub mod EventText
 pub mod Laws
 pub mod Place
 pub mod Source
@@ -25,3 +26,4 @@ pub mod EventModel
 pub mod Answer
 pub mod Fault
 pub mod grammar
+pub mod TextLaws

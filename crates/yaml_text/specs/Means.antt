@@ -4,6 +4,7 @@ use Rattle.yaml_text.specs.Tree.{Tree}
 use Rattle.yaml_text.specs.Event.{Event}
 use Rattle.yaml_text.specs.Marked.{Document, stream_events}
 use Rattle.yaml_text.specs.Unfold.{trees_of}
+use Rattle.yaml_text.specs.grammar.Reading.{Reads}
 use Rattle.yaml_text.specs.Spell.{spell_bytes}
 use Rattle.yaml_text.specs.Proper.{Admitted}
 use Rattle.yaml_text.specs.Same.{Alike}
@@ -14,8 +15,8 @@ pub record StandsFor (events : List Event) (f : List Tree) : Type 0 where
   pub cut : events ≡ stream_events documents
   pub unfolded : trees_of documents ≡ Ok f
 
--- `Reads bytes events`: a reading of the bytes by the productions gives the events
-pub record Means (Reads : List ℕ → List Event → Type 0) (bytes : List ℕ) (f : List Tree) : Type 0 where
+-- a reading of the bytes by the productions gives events that stand for these trees
+pub record Means (bytes : List ℕ) (f : List Tree) : Type 0 where
   pub events : List Event
   pub reads : Reads bytes events
   pub stands : StandsFor events f

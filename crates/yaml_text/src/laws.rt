@@ -1,6 +1,41 @@
 //! Laws of trees, their canonical text and their meaning. Each function has an empty body, and
 //! its contract is a law.
-ghost use Rattle.yaml_text.specs.Laws.{TextsTell, SpellingsUnderstood, SpellingsAreText, EventsTell, ResolvedAgain, ReadIsProper};
+ghost use Rattle.yaml_text.specs.Laws.{OrderIsTotal, OrderTells, BeforeOrSame, BeforeGoesOn, SameToItself, SameEitherWay, SameGoesOn, SameIsArranged, NodeEventsTell, StreamEventsTell, EventTextTells, EventsHaveOneText, TextsTell, SpellingsUnderstood, SpellingsAreText, EventsTell, ResolvedAgain, OneCanonicalText, ReadIsProper};
+
+/// The comparison of trees is a total order, which tells any two trees apart.
+pub fn trees_are_ordered()
+    ensures total { OrderIsTotal }
+    ensures tells { OrderTells }
+{}
+
+/// Of two trees without equal keys in a mapping one is before the other, or they are the same,
+/// and only one of these holds.
+pub fn before_or_same()
+    ensures one { BeforeOrSame }
+    ensures goes_on { BeforeGoesOn }
+{}
+
+/// On trees without equal keys in a mapping, to be the same is an equivalence: it is to be one
+/// tree once pairs stand in order.
+pub fn same_is_equivalence()
+    ensures itself { SameToItself }
+    ensures either_way { SameEitherWay }
+    ensures goes_on { SameGoesOn }
+    ensures arranged { SameIsArranged }
+{}
+
+/// The events of a node belong to one marked tree, and those of a stream to one list of
+/// documents.
+pub fn events_belong_to_one()
+    ensures node { NodeEventsTell }
+    ensures stream { StreamEventsTell }
+{}
+
+/// An event text belongs to one list of events, and events have one text.
+pub fn event_text_tells()
+    ensures events { EventTextTells }
+    ensures text { EventsHaveOneText }
+{}
 
 /// The texts of admitted forests are the same exactly if the forests are equally long and
 /// pairwise the same.
@@ -26,6 +61,11 @@ pub fn events_tell()
 /// A content that resolving gives is canonical: under its tag it gives itself.
 pub fn resolved_again()
     ensures { ResolvedAgain }
+{}
+
+/// Of the texts that denote one value under one tag, one alone is canonical.
+pub fn one_canonical_text()
+    ensures { OneCanonicalText }
 {}
 
 /// Trees that are read are proper.

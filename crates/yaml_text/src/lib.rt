@@ -9,3 +9,4 @@ pub mod fault;
 pub mod grammar_laws;
 pub mod laws;
 pub mod places;
+pub mod text_laws;

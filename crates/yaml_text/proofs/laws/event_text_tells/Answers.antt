@@ -1,0 +1,8 @@
+use Rattle.yaml_text.proofs.EventTextLaws as laws
+use Rattle.yaml_text.proofs.laws.event_text_tells.Goals as goal
+
+pub returns-clause-events : goal.returns-clause-events
+returns-clause-events c = laws.event_text_tells
+
+pub returns-clause-text : goal.returns-clause-text
+returns-clause-text c = laws.events_have_one_text
