@@ -1,5 +1,6 @@
 pub mod Build
 pub mod Scalars
+pub mod Ranges
 pub mod Unfolding
 pub mod Orders
 pub mod Escapes
