@@ -1,14 +1,15 @@
 -- The laws of trees, their texts and their meaning.
-use Rattle.std.specs.Prelude.{◌≡◌, ◌↔◌, ◌⊎◌, ℕ, List, Some, Ok}
+use Rattle.std.specs.Prelude.{◌≡◌, ◌↔◌, ◌⊎◌, ◌≤◌, ℕ, length, List, Some, Ok}
 use Rattle.std.specs.declared.cmp.Ordering.TheVariants.{Equal}
 use Rattle.std.specs.Cmp.{IsTotalOrder}
+use Rattle.yaml_text.specs.Limits.{text_limit}
 use Rattle.yaml_text.specs.Tree.{Tree}
 use Rattle.yaml_text.specs.Order.{tree_cmp, arranged, Before}
 use Rattle.yaml_text.specs.Event.{Event, Style, double, WrittenTag, full}
 use Rattle.yaml_text.specs.Core.{Value, value_of, resolve}
 use Rattle.yaml_text.specs.EventText.{EventText}
 use Rattle.yaml_text.specs.Spell.{spell, spell_bytes, spelled}
-use Rattle.yaml_text.specs.Block.{blocked}
+use Rattle.yaml_text.specs.Block.{block, block_bytes, blocked}
 use Rattle.yaml_text.specs.Text.{Text}
 use Rattle.yaml_text.specs.Marked.{Marked, flat, Document, stream_events}
 use Rattle.yaml_text.specs.Unfold.{trees_of}
@@ -85,6 +86,10 @@ SpellingsUnderstood = (f : List Tree) → Admitted f → Understood (spelled f) 
 -- A canonical text is one that is read.
 abbrev pub SpellingsAreText : Type 0
 SpellingsAreText = (f : List Tree) → Admitted f → Text (spell_bytes f) (spell f)
+
+-- So is a block spelling that is not too long.
+abbrev pub BlocksAreText : Type 0
+BlocksAreText = (f : List Tree) → Admitted f → length (block_bytes f) ≤ text_limit → Text (block_bytes f) (block f)
 
 -- Events stand for one forest at most.
 abbrev pub EventsTell : Type 0
