@@ -6,7 +6,7 @@ use Rattle.std.proofs.lemmas.Nat.{pow-add}
 use Rattle.std.proofs.lemmas.Bool.{cond_both, eqb-true, eqb-false, ne_eqb, ltb-true, ltb-false}
 use Rattle.std.specs.Int.Digits.{digits_of, number_from_digits, number_from_digits_after, AllBelowBase}
 use Rattle.std.proofs.lemmas.Int.Digits.{digits_of_step, all_below_base_digits_of, number_digits_of, first_digits_of, number_after_append}
-use Rattle.yaml_text.specs.Core.{decimal_value, is_empty, signed, split_at, decimal_of, trimmed, exponent, digits_text, decimal_text, content_of}
+use Rattle.yaml_text.specs.Core.{Value, decimal_value, is_empty, signed, split_at, decimal_of, trimmed, exponent, digits_text, decimal_text, content_of}
 use Rattle.yaml_text.specs.Number.{or_zero, lowered}
 use Rattle.yaml_text.proofs.Members.{and_both}
 use Rattle.yaml_text.proofs.ResolveLaws.{number, content_is}
@@ -96,7 +96,7 @@ shift_one a (suc q) k =
     let n : (suc q * 10 == 0) ≡ (suc q == 0) = ne_eqb (suc q * 10) 0 (λ e. omega arith) ∙ sym (ne_eqb (suc q) 0 (λ e. omega arith)) in
     let t : trimmed (digits_of 10 (suc q * 10)) ≡ trimmed (digits_of 10 (suc q)) = ap trimmed d ∙ trimmed_zero (digits_of 10 (suc q)) in
     let x : (k +ℤ pos (length (digits_of 10 (suc q * 10)))) -ℤ pos 1 ≡ ((k +ℤ pos 1) +ℤ pos (length (digits_of 10 (suc q)))) -ℤ pos 1 =
-        ap (λ z. (k +ℤ pos z) -ℤ pos 1) (ap length d ∙ length_zero (digits_of 10 (suc q))) ∙ one_up k (length (digits_of 10 (suc q))) in
+    ap (λ z. (k +ℤ pos z) -ℤ pos 1) (ap length d ∙ length_zero (digits_of 10 (suc q))) ∙ one_up k (length (digits_of 10 (suc q))) in
     λ z. cond (n z) (48 ∷ []) (sign_text a ++ digits_text (t z) (x z))
 
 -- times a power of ten, with the exponent so much lower
@@ -183,7 +183,7 @@ normal m p = by (digits_of 10 m) refl
           below = subst (AllBelowBase 10) t (trimmed_below (d ∷ ds) b);
           done = ap trimmed (sym t) ∙ (trimmed_again (d ∷ ds) ∙ t);
           is = sym (number_digits_of 10 m (omega arith)) ∙ (ap (number_from_digits 10) q ∙ (ap (λ z. number_from_digits 10 (d ∷ z)) r.1
-          ∙ (number_after_append 10 (0 * 10 + d) (trimmed ds) (replicate r.0 0) ∙ zeros_worth (number_from_digits_after 10 (0 * 10 + d) (trimmed ds)) r.0)));
+              ∙ (number_after_append 10 (0 * 10 + d) (trimmed ds) (replicate r.0 0) ∙ zeros_worth (number_from_digits_after 10 (0 * 10 + d) (trimmed ds)) r.0)));
         }
 
 -- such a number's content denotes it
@@ -227,6 +227,11 @@ not_zero b n l e =
 raised : (c t u : ℕ) → c * 10 ^ t * 10 ^ u ≡ c * 10 ^ (t + u)
 raised c t u = mul_assoc c (10 ^ t) (10 ^ u) ∙ ap (λ z. c * z) (sym (pow-add 10 t u))
 
+-- a decimal's content denotes something
+pub is_decimal : (a : Bool) (m : ℕ) (k : ℤ) → (v : Value) × (decimal_of (decimal_text a m k) ≡ Some v)
+is_decimal a zero k = (decimal_value false 0 (pos 0), zero_content a k)
+is_decimal a (suc m) k = let s = normal (suc m) (omega arith) in (decimal_value a (number_from_digits 10 (s.first ∷ s.later)) (k +ℤ pos s.zeros), denoted a (suc m) k s)
+
 pub equal_from_content : (a b : Bool) (m n : ℕ) (k l : ℤ) → decimal_text a m k ≡ decimal_text b n l → lowered a m k l ≡ lowered b n l k
 equal_from_content a b zero zero k l e = lowered_zero a k l ∙ sym (lowered_zero b l k)
 equal_from_content a b zero (suc n) k l e = absurd (not_zero b n l (sym (zero_content a k) ∙ ap decimal_of e))
@@ -240,8 +245,8 @@ equal_from_content a b (suc m) (suc n) k l e =
     let least : ℤ = k -ℤ pos t.zeros in
     let left : k ≡ least +ℤ pos t.zeros = sym (-ℤ-+ℤ_cancel k (pos t.zeros)) in
     let right : l ≡ least +ℤ pos s.zeros =
-        sym (+ℤ-neg_ℤ_cancel l (pos t.zeros)) ∙ (ap (λ z. z -ℤ pos t.zeros) (sym p.2) ∙ (+ℤ_assoc k (pos s.zeros) (neg_ℤ (pos t.zeros))
-        ∙ (ap (λ z. k +ℤ z) (+ℤ_comm (pos s.zeros) (neg_ℤ (pos t.zeros))) ∙ sym (+ℤ_assoc k (neg_ℤ (pos t.zeros)) (pos s.zeros))))) in
+    sym (+ℤ-neg_ℤ_cancel l (pos t.zeros)) ∙ (ap (λ z. z -ℤ pos t.zeros) (sym p.2) ∙ (+ℤ_assoc k (pos s.zeros) (neg_ℤ (pos t.zeros))
+    ∙ (ap (λ z. k +ℤ z) (+ℤ_comm (pos s.zeros) (neg_ℤ (pos t.zeros))) ∙ sym (+ℤ_assoc k (neg_ℤ (pos t.zeros)) (pos s.zeros))))) in
     let x : or_zero (k -ℤ l) ≡ t.zeros - s.zeros = above k l least t.zeros s.zeros left right in
     let y : or_zero (l -ℤ k) ≡ s.zeros - t.zeros = above l k least s.zeros t.zeros right left in
     let w : s.zeros + (t.zeros - s.zeros) ≡ t.zeros + (s.zeros - t.zeros) = omega arith in

@@ -14,13 +14,13 @@ use Rattle.yaml_text.proofs.FloatLaws.{digit_no_dot, sign_text, unsigned_back, d
 
 -- ---- a float's values
 
-abbrev IsFloat : Value → Type 0
+abbrev pub IsFloat : Value → Type 0
 IsFloat (decimal_value negative m k) = Unit {0}
 IsFloat (infinity negative) = Unit {0}
 IsFloat not_a_number = Unit {0}
 IsFloat _ = ⊥
 
-abbrev OnFloat : Option Value → Type 0
+abbrev pub OnFloat : Option Value → Type 0
 OnFloat None = Unit {0}
 OnFloat (Some v) = IsFloat v
 
@@ -40,7 +40,7 @@ decimal_float x =
     let number = split_at (λ c. c == 46) cut.0 in
     mantissa_float (is_negative x) number.0 number.1 (exponent_of cut.1)
 
-float_kind : (x : List ℕ) → OnFloat (float_of x)
+pub float_kind : (x : List ℕ) → OnFloat (float_of x)
 unfolding float_of
 float_kind x =
     cond_both (one_of (codes ".nan" ∷ codes ".NaN" ∷ codes ".NAN" ∷ []) x) _ _ OnFloat (λ b. tt) (λ b.

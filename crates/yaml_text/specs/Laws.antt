@@ -6,7 +6,8 @@ use Rattle.yaml_text.specs.Limits.{text_limit}
 use Rattle.yaml_text.specs.Tree.{Tree}
 use Rattle.yaml_text.specs.Order.{tree_cmp, arranged, Before}
 use Rattle.yaml_text.specs.Event.{Event, Style, double, WrittenTag, full}
-use Rattle.yaml_text.specs.Core.{Value, value_of, resolve}
+use Rattle.yaml_text.specs.Core.{Value, value_of, content_of, resolve}
+use Rattle.yaml_text.specs.Number.{AreEqual}
 use Rattle.yaml_text.specs.EventText.{EventText}
 use Rattle.yaml_text.specs.Spell.{spell, spell_bytes, spelled}
 use Rattle.yaml_text.specs.Block.{block, block_bytes, blocked}
@@ -99,9 +100,13 @@ EventsTell = (events : List Event) (f g : List Tree) → StandsFor events f → 
 abbrev pub ResolvedAgain : Type 0
 ResolvedAgain = (written : WrittenTag) (style : Style) (x g content : List ℕ) → resolve written style x ≡ Ok (g, content) → resolve (full g) double content ≡ Ok (g, content)
 
--- Of the texts that denote a value by a tag's patterns, one at most is its own canonical content.
+-- Two texts have one canonical content under a tag exactly if they denote equal values: decimals are equal as numbers.
+abbrev pub ContentsTell : Type 0
+ContentsTell = (g x y : List ℕ) (v w : Value) → value_of g x ≡ Some v → value_of g y ≡ Some w → AreEqual v w ↔ (content_of v ≡ content_of w)
+
+-- Of the texts that denote equal values under a tag, one at most is its own canonical content.
 abbrev pub OneCanonicalText : Type 0
-OneCanonicalText = (g x y : List ℕ) (v : Value) → value_of g x ≡ Some v → value_of g y ≡ Some v
+OneCanonicalText = (g x y : List ℕ) (v w : Value) → value_of g x ≡ Some v → value_of g y ≡ Some w → AreEqual v w
     → resolve (full g) double x ≡ Ok (g, x) → resolve (full g) double y ≡ Ok (g, y) → x ≡ y
 
 -- Trees that are read are proper.
