@@ -23,7 +23,7 @@ SCALARS = [
 FLOW = [
     Reading('flow_sequence', '7.4.1: a last comma begins no entry', '[a, b,]'),
     Reading('flow_mapping', '7.4.2: a key without a value has an empty one', '{a: b, c}'),
-    Reading('single_pair', '7.4.1: a pair in a sequence is a mapping of one entry', '[a: b]'),
+    Reading('single_pair', '7.4.2: a pair in a sequence is a mapping of one entry', '[a: b]'),
     Reading('adjacent_value', '7.4.2: a value may stand right after the `:` of a JSON-like key', '{"a":b}'),
     Reading('nested_lines', '7.4: flow collections over lines, with a comment', '{k: [a, # c\n  b ]}'),
     Reading('empty_values', '7.2: nodes of properties alone, and a value that is empty', '[!!str , &a : ]'),

@@ -103,15 +103,15 @@ pub pattern_parts : (g : List ℕ) (o : Option Value) (or : Resolved) (h z : Lis
 pattern_parts g None or h z e = inr e
 pattern_parts g (Some v) or h z e = let p = taken_parts g v h z (refused v) refl e in inl (v, refl, p.0, p.1, p.2)
 
-null_is : (x : List ℕ) (v : Value) → null_of x ≡ Some v → v ≡ null_value
+pub null_is : (x : List ℕ) (v : Value) → null_of x ≡ Some v → v ≡ null_value
 unfolding null_of
 null_is x v = cond_both (is_null x) _ _ (λ o. o ≡ Some v → v ≡ null_value) (λ e q. cc) (λ e q. cc)
 
-bool_is : (o : Option Bool) (v : Value) → as_bool o ≡ Some v → (b : Bool) × (v ≡ bool_value b)
+pub bool_is : (o : Option Bool) (v : Value) → as_bool o ≡ Some v → (b : Bool) × (v ≡ bool_value b)
 bool_is None v e = absurd (cc)
 bool_is (Some b) v e = (b, cc)
 
-int_is : (o : Option ℤ) (v : Value) → as_int o ≡ Some v → (n : ℤ) × (v ≡ int_value n)
+pub int_is : (o : Option ℤ) (v : Value) → as_int o ≡ Some v → (n : ℤ) × (v ≡ int_value n)
 int_is None v e = absurd (cc)
 int_is (Some n) v e = (n, cc)
 

@@ -20,8 +20,8 @@ pub mod Law
 pub mod TreeLaws
 pub mod ContentLaws
 pub mod EventTextLaws
-pub mod Rows
-pub mod CoreRows
+pub mod NumberLaws
+pub mod BlockTextLaws
 pub mod examples
 pub mod Scan
 pub mod PlaceLemmas

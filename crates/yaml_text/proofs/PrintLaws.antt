@@ -30,14 +30,14 @@ use Rattle.yaml_text.proofs.TagLaws.{AreBytes, IsWritten}
 use Rattle.yaml_text.proofs.TextLaws.{IsName, IsAnchor, IsFine, AreFine, ArePairsFine, name_chars}
 use Rattle.yaml_text.proofs.ProperLaws.{proper_arranged, fine_mark}
 
-unfoldable good : ℕ → Bool
+unfoldable pub good : ℕ → Bool
 good c = is_printable c && not (c == 0xfeff)
 
-abbrev Good : List ℕ → Type 0
+abbrev pub Good : List ℕ → Type 0
 Good [] = Unit {0}
 Good (c ∷ cs) = (good c ≡ true) × Good cs
 
-join : (xs ys : List ℕ) → Good xs → Good ys → Good (xs ++ ys)
+pub join : (xs ys : List ℕ) → Good xs → Good ys → Good (xs ++ ys)
 join [] ys g h = h
 join (x ∷ xs) ys g h = (g.0, join xs ys g.1 h)
 
@@ -63,7 +63,7 @@ hex_range d h = (grind (arith, nat_tests), grind (arith, nat_tests))
 hex_good : (d : ℕ) → d < 16 → good (hex_digit d) ≡ true
 hex_good d h = let p = hex_range d h in ascii_good (hex_digit d) p.0 p.1
 
-a_good : (c : ℕ) → 32 ≤ c → c < 127 → good c ≡ true
+pub a_good : (c : ℕ) → 32 ≤ c → c < 127 → good c ≡ true
 a_good = ascii_good
 
 char_good : (c : ℕ) → scalar c ≡ true → Good (spell_char c)
@@ -110,7 +110,7 @@ full_good g m =
     cond_both (bytes_eq g float_tag) _ _ Good (λ e. (refl, (refl, (refl, (refl, (refl, (refl, (refl, (refl, tt))))))))) (λ n3.
     (refl, (refl, encoded_good g (62 ∷ 32 ∷ []) m (refl, (refl, tt))))))))
 
-tag_good : (g : WrittenTag) → IsWritten g → Good (tag_text g)
+pub tag_good : (g : WrittenTag) → IsWritten g → Good (tag_text g)
 tag_good untagged m = tt
 tag_good (full g) m = full_good g m
 tag_good _ m = absurd m
@@ -125,7 +125,7 @@ name_good name r p g =
     let n : Good (name_of p.0) = (a_good 97 (omega arith) (omega arith), digits_good (digits_of 10 p.0) (all_below_base_digits_of 10 p.0 (omega arith))) in
     subst (λ z. Good (z ++ r)) (sym (ap chars p.1 ∙ name_chars p.0)) (join (name_of p.0) r n g)
 
-anchor_good : (a : Anchor) (r : List ℕ) → IsAnchor a → Good r → Good (anchor_text a r)
+pub anchor_good : (a : Anchor) (r : List ℕ) → IsAnchor a → Good r → Good (anchor_text a r)
 anchor_good None r p g = g
 anchor_good (Some name) r p g = (a_good 38 (omega arith) (omega arith), name_good name (32 ∷ r) p (a_good 32 (omega arith) (omega arith), g))
 
@@ -135,7 +135,7 @@ node_good a g c r p m h l n = anchor_good a (tag_text g ++ (c ∷ r)) p (join (t
 mutual
   unfolding text
 
-  text_good : (m : Marked) (r : List ℕ) → IsFine m → Good r → Good (text m r)
+  pub text_good : (m : Marked) (r : List ℕ) → IsFine m → Good r → Good (text m r)
   text_good (alias name) r f h = (a_good 42 (omega arith) (omega arith), name_good name r f h)
   text_good (scalar_at a g y x) r f h =
       node_good a g 34 (quoted (chars x) r) f.0 f.1 (omega arith) (omega arith) (quoted_good (chars x) r (scalars-chars x (IsUtf8-from_is_utf8 x f.3)) h)
@@ -157,7 +157,7 @@ mutual
       join s (text x (32 ∷ 58 ∷ 32 ∷ text v e)) k
       (text_good x (32 ∷ 58 ∷ 32 ∷ text v e) f.0 (b, (a_good 58 (omega arith) (omega arith), (b, text_good v e f.1 (pairs_good (44 ∷ 32 ∷ []) c ps r f.2 h)))))
 
-break_good : good 10 ≡ true
+pub break_good : good 10 ≡ true
 unfolding good is_printable
 break_good = refl
 
@@ -169,11 +169,11 @@ forest_good (t ∷ f) a =
     let m = fine_mark short (agains (walk short (arranged t) [])) (arranged t) [] (proper_arranged t a.0.proper) in
     (d, (d, (d, (a_good 32 (omega arith) (omega arith), text_good (marks_of t) (10 ∷ spell f) m (break_good, forest_good f a.1)))))
 
-all_good : (cs : List ℕ) → Good cs → All (λ c. good c ≡ true) cs
+pub all_good : (cs : List ℕ) → Good cs → All (λ c. good c ≡ true) cs
 all_good [] g = search rules
 all_good (c ∷ cs) g = All-cons (λ c. good c ≡ true) c cs g.0 (all_good cs g.1)
 
-all_scalar : (cs : List ℕ) → Good cs → scalars cs ≡ true
+pub all_scalar : (cs : List ℕ) → Good cs → scalars cs ≡ true
 all_scalar [] g = refl
 all_scalar (c ∷ cs) g = both_and (scalar c) (scalars cs) (good_scalar c g.0) (all_scalar cs g.1)
 

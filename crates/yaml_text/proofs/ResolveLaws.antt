@@ -14,13 +14,13 @@ use Rattle.yaml_text.proofs.FloatLaws.{digit_no_dot, sign_text, unsigned_back, d
 
 -- ---- a float's values
 
-abbrev IsFloat : Value → Type 0
+abbrev pub IsFloat : Value → Type 0
 IsFloat (decimal_value negative m k) = Unit {0}
 IsFloat (infinity negative) = Unit {0}
 IsFloat not_a_number = Unit {0}
 IsFloat _ = ⊥
 
-abbrev OnFloat : Option Value → Type 0
+abbrev pub OnFloat : Option Value → Type 0
 OnFloat None = Unit {0}
 OnFloat (Some v) = IsFloat v
 
@@ -40,7 +40,7 @@ decimal_float x =
     let number = split_at (λ c. c == 46) cut.0 in
     mantissa_float (is_negative x) number.0 number.1 (exponent_of cut.1)
 
-float_kind : (x : List ℕ) → OnFloat (float_of x)
+pub float_kind : (x : List ℕ) → OnFloat (float_of x)
 unfolding float_of
 float_kind x =
     cond_both (one_of (codes ".nan" ∷ codes ".NaN" ∷ codes ".NAN" ∷ []) x) _ _ OnFloat (λ b. tt) (λ b.
@@ -72,7 +72,7 @@ unfolding by_tag core_tag
 again_by z v e c h = rw e (ap (accepted float_tag v) h ∙ ap (λ y. Ok (float_tag, y)) c)
 
 module _ (negative : Bool) (d : ℕ) (ds : List ℕ) (x : ℤ) (some : 0 < d) (below : AllBelowBase 10 (d ∷ ds)) (done : trimmed (d ∷ ds) ≡ d ∷ ds) where
-  number : ℕ
+  unfoldable pub number : ℕ
   number = number_from_digits 10 (d ∷ ds)
 
   digits_are : digits_of 10 number ≡ d ∷ ds
@@ -86,7 +86,7 @@ module _ (negative : Bool) (d : ℕ) (ds : List ℕ) (x : ℤ) (some : 0 < d) (b
   unfolding exponent
   exponent_is = ap (λ z. ((x -ℤ pos (length ds)) +ℤ pos (length z)) -ℤ pos 1) digits_are ∙ exponent_kept x (length ds)
 
-  content_is : content_of (decimal_value negative number (x -ℤ pos (length ds))) ≡ sign_text negative ++ digits_text (d ∷ ds) x
+  pub content_is : content_of (decimal_value negative number (x -ℤ pos (length ds))) ≡ sign_text negative ++ digits_text (d ∷ ds) x
   unfolding content_of decimal_text
   content_is = ap (λ b. cond b (48 ∷ []) (sign_text negative ++ digits_text (trimmed (digits_of 10 number)) (exponent number (x -ℤ pos (length ds))))) not_zero
       ∙ (λ i. sign_text negative ++ digits_text ((ap trimmed digits_are ∙ done) i) (exponent_is i))

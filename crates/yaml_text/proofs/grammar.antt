@@ -1,5 +1,8 @@
 pub mod Forward
 pub mod OneText
+pub mod Values
+pub mod Documents
+pub mod Widening
 pub mod Derive
 pub mod ScalarReadings
 pub mod FlowReadings

@@ -1,14 +1,16 @@
 -- The laws of trees, their texts and their meaning.
-use Rattle.std.specs.Prelude.{◌≡◌, ◌↔◌, ◌⊎◌, ℕ, List, Some, Ok}
+use Rattle.std.specs.Prelude.{◌≡◌, ◌↔◌, ◌⊎◌, ◌≤◌, ℕ, length, List, Some, Ok}
 use Rattle.std.specs.declared.cmp.Ordering.TheVariants.{Equal}
 use Rattle.std.specs.Cmp.{IsTotalOrder}
+use Rattle.yaml_text.specs.Limits.{text_limit}
 use Rattle.yaml_text.specs.Tree.{Tree}
 use Rattle.yaml_text.specs.Order.{tree_cmp, arranged, Before}
 use Rattle.yaml_text.specs.Event.{Event, Style, double, WrittenTag, full}
-use Rattle.yaml_text.specs.Core.{Value, value_of, resolve}
+use Rattle.yaml_text.specs.Core.{Value, value_of, content_of, resolve}
+use Rattle.yaml_text.specs.Number.{AreEqual}
 use Rattle.yaml_text.specs.EventText.{EventText}
 use Rattle.yaml_text.specs.Spell.{spell, spell_bytes, spelled}
-use Rattle.yaml_text.specs.Block.{blocked}
+use Rattle.yaml_text.specs.Block.{block, block_bytes, blocked}
 use Rattle.yaml_text.specs.Text.{Text}
 use Rattle.yaml_text.specs.Marked.{Marked, flat, Document, stream_events}
 use Rattle.yaml_text.specs.Unfold.{trees_of}
@@ -86,6 +88,10 @@ SpellingsUnderstood = (f : List Tree) → Admitted f → Understood (spelled f) 
 abbrev pub SpellingsAreText : Type 0
 SpellingsAreText = (f : List Tree) → Admitted f → Text (spell_bytes f) (spell f)
 
+-- So is a block spelling that is not too long.
+abbrev pub BlocksAreText : Type 0
+BlocksAreText = (f : List Tree) → Admitted f → length (block_bytes f) ≤ text_limit → Text (block_bytes f) (block f)
+
 -- Events stand for one forest at most.
 abbrev pub EventsTell : Type 0
 EventsTell = (events : List Event) (f g : List Tree) → StandsFor events f → StandsFor events g → f ≡ g
@@ -94,9 +100,13 @@ EventsTell = (events : List Event) (f g : List Tree) → StandsFor events f → 
 abbrev pub ResolvedAgain : Type 0
 ResolvedAgain = (written : WrittenTag) (style : Style) (x g content : List ℕ) → resolve written style x ≡ Ok (g, content) → resolve (full g) double content ≡ Ok (g, content)
 
--- Of the texts that denote a value by a tag's patterns, one at most is its own canonical content.
+-- Two texts have one canonical content under a tag exactly if they denote equal values: decimals are equal as numbers.
+abbrev pub ContentsTell : Type 0
+ContentsTell = (g x y : List ℕ) (v w : Value) → value_of g x ≡ Some v → value_of g y ≡ Some w → AreEqual v w ↔ (content_of v ≡ content_of w)
+
+-- Of the texts that denote equal values under a tag, one at most is its own canonical content.
 abbrev pub OneCanonicalText : Type 0
-OneCanonicalText = (g x y : List ℕ) (v : Value) → value_of g x ≡ Some v → value_of g y ≡ Some v
+OneCanonicalText = (g x y : List ℕ) (v w : Value) → value_of g x ≡ Some v → value_of g y ≡ Some w → AreEqual v w
     → resolve (full g) double x ≡ Ok (g, x) → resolve (full g) double y ≡ Ok (g, y) → x ≡ y
 
 -- Trees that are read are proper.

@@ -18,6 +18,7 @@ pub mod Proper
 pub mod Sound
 pub mod Text
 pub mod Means
+pub mod Number
 pub mod EventText
 pub mod Laws
 pub mod Place

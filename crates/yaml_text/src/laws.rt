@@ -1,6 +1,6 @@
 //! Laws of trees, their canonical text and their meaning. Each function has an empty body, and
 //! its contract is a law.
-ghost use Rattle.yaml_text.specs.Laws.{OrderIsTotal, OrderTells, BeforeOrSame, BeforeGoesOn, SameToItself, SameEitherWay, SameGoesOn, SameIsArranged, NodeEventsTell, StreamEventsTell, EventTextTells, EventsHaveOneText, TextsTell, SpellingsUnderstood, SpellingsAreText, EventsTell, ResolvedAgain, OneCanonicalText, ReadIsProper};
+ghost use Rattle.yaml_text.specs.Laws.{OrderIsTotal, OrderTells, BeforeOrSame, BeforeGoesOn, SameToItself, SameEitherWay, SameGoesOn, SameIsArranged, NodeEventsTell, StreamEventsTell, EventTextTells, EventsHaveOneText, TextsTell, SpellingsUnderstood, SpellingsAreText, BlocksAreText, EventsTell, ResolvedAgain, ContentsTell, OneCanonicalText, ReadIsProper};
 
 /// The comparison of trees is a total order, which tells any two trees apart.
 pub fn trees_are_ordered()
@@ -48,9 +48,11 @@ pub fn spellings_understood()
     ensures { SpellingsUnderstood }
 {}
 
-/// Each canonical text is a text of the profile.
+/// Each canonical text is a text of the profile, and so is each block spelling that is not too
+/// long.
 pub fn spellings_are_text()
-    ensures { SpellingsAreText }
+    ensures canonical { SpellingsAreText }
+    ensures block { BlocksAreText }
 {}
 
 /// Events stand for one forest at most.
@@ -63,9 +65,11 @@ pub fn resolved_again()
     ensures { ResolvedAgain }
 {}
 
-/// Of the texts that denote one value under one tag, one alone is canonical.
-pub fn one_canonical_text()
-    ensures { OneCanonicalText }
+/// Canonical content stands for one value: texts of one tag have the same content exactly if they
+/// denote equal values, and one of these texts at most is canonical itself.
+pub fn contents_tell()
+    ensures content { ContentsTell }
+    ensures one { OneCanonicalText }
 {}
 
 /// Trees that are read are proper.

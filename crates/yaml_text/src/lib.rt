@@ -6,6 +6,9 @@ pub mod class;
 pub mod context;
 pub mod event;
 pub mod fault;
+pub mod grammar_laws;
 pub mod laws;
 pub mod places;
+#[cfg(test)]
+mod tests;
 pub mod text_laws;

@@ -55,7 +55,7 @@ flow_mapping = (((streams.document_piece false ((mapping_start true None untagge
 abbrev single_pair_text : List ℕ
 single_pair_text = codes "[a: b]"
 
--- 7.4.1: a pair in a sequence is a mapping of one entry
+-- 7.4.2: a pair in a sequence is a mapping of one entry
 pub single_pair : ReadsText single_pair_text ⊥ open_limit (
     stream_start
     ∷ document_start false

@@ -13,12 +13,7 @@ use Rattle.yaml_text.specs.grammar.Streams as streams
 use Rattle.yaml_text.specs.grammar.Nodes.{Part, yaml_part, json_part, pair_part, block_part, compact_part, part, reads}
 use Rattle.yaml_text.specs.Event.{Event}
 use Rattle.yaml_text.specs.grammar.Events.{Props}
-
-abbrev pub Onward : Span → Type 0
-Onward R = (i j : ℕ) → R i j → i ≤ j
-
-abbrev pub Forward : {V : Type 0} → Rule V → Type 0
-Forward {V} R = (i j : ℕ) (v : V) → R i j v → i ≤ j
+pub use Rattle.yaml_text.specs.grammar.Laws.{Onward, Forward}
 
 -- ---- the combinators
 
@@ -180,7 +175,7 @@ module _ (cs : List ℕ) where
   unfolding l_comment
   on_l_comment = on_limited _ (on_then on_sep (on_then (on_maybe on_comment) on_line_end))
 
-  on_s_l_comments : Onward (s_l_comments cs)
+  pub on_s_l_comments : Onward (s_l_comments cs)
   unfolding s_l_comments
   on_s_l_comments = on_then (on_or on_s_b_comment (on_ahead _)) (on_spans on_l_comment)
 
@@ -188,7 +183,7 @@ module _ (cs : List ℕ) where
   unfolding separate_lines
   on_separate_lines n = on_or (on_then on_s_l_comments (on_then (on_indent n) (on_run is_space))) on_sep
 
-  on_separate : (n : ℕ) (c : Ctx) → Onward (separate cs n c)
+  pub on_separate : (n : ℕ) (c : Ctx) → Onward (separate cs n c)
   unfolding separate
   on_separate n block_key = on_sep
   on_separate n flow_key = on_sep
@@ -223,7 +218,7 @@ module _ (cs : List ℕ) where
   unfolding tags.non_specific_tag
   fwd_non_specific_tag = before (on_chr 33) (giving _)
 
-  fwd_tag : (h : tags.Handles) → Forward (tags.tag cs h)
+  pub fwd_tag : (h : tags.Handles) → Forward (tags.tag cs h)
   unfolding tags.tag
   fwd_tag h = after (either fwd_verbatim_tag (either (fwd_shorthand_tag h) fwd_non_specific_tag)) (on_ahead _)
 
@@ -231,15 +226,15 @@ module _ (cs : List ℕ) where
   unfolding tags.name
   fwd_name = copying (on_whole_run _)
 
-  fwd_anchor : Forward (tags.anchor cs)
+  pub fwd_anchor : Forward (tags.anchor cs)
   unfolding tags.anchor
   fwd_anchor = before (on_chr 38) fwd_name
 
-  fwd_alias : Forward (tags.alias cs)
+  pub fwd_alias : Forward (tags.alias cs)
   unfolding tags.alias
   fwd_alias = before (on_chr 42) fwd_name
 
-  fwd_properties : (h : tags.Handles) (n : ℕ) (c : Ctx) → Forward (tags.properties cs h n c)
+  pub fwd_properties : (h : tags.Handles) (n : ℕ) (c : Ctx) → Forward (tags.properties cs h n c)
   unfolding tags.properties
   fwd_properties h n c = either
       (taking (fwd_tag h) (λ t. either (giving _) (before (on_separate n c) (viewed _ fwd_anchor))))
@@ -293,7 +288,7 @@ module _ (cs : List ℕ) where
   unfolding flow.double_char
   fwd_double_char = viewed _ (either (on_letter _) fwd_escape)
 
-  fwd_double : (n : ℕ) (c : Ctx) → Forward (flow.double cs n c)
+  pub fwd_double : (n : ℕ) (c : Ctx) → Forward (flow.double cs n c)
   unfolding flow.double
   fwd_double n c = bounded _ (before (on_chr 34) (after
       (fwd_quoted_lines _ _ _ _ fwd_double_char fwd_white (fwd_several c (fwd_fold n)) (fwd_several c (fwd_escaped_break n))) (on_chr 34)))
@@ -302,7 +297,7 @@ module _ (cs : List ℕ) where
   unfolding flow.single_char
   fwd_single_char = viewed _ (either (on_letter _) (before (on_then (on_chr 39) (on_chr 39)) (giving _)))
 
-  fwd_single : (n : ℕ) (c : Ctx) → Forward (flow.single cs n c)
+  pub fwd_single : (n : ℕ) (c : Ctx) → Forward (flow.single cs n c)
   unfolding flow.single
   fwd_single n c = bounded _ (before (on_chr 39) (after
       (fwd_quoted_lines _ _ _ _ fwd_single_char fwd_white (fwd_several c (fwd_fold n)) none_at_all) (on_then (on_chr 39) (on_ahead _))))
@@ -311,7 +306,7 @@ module _ (cs : List ℕ) where
   unfolding flow.plain_line
   fwd_plain_line P c = copying (on_limited _ (on_then (on_at P) (on_stretch _)))
 
-  fwd_plain : (n : ℕ) (c : Ctx) → Forward (flow.plain cs n c)
+  pub fwd_plain : (n : ℕ) (c : Ctx) → Forward (flow.plain cs n c)
   unfolding flow.plain
   fwd_plain n c = bounded _ (both (fwd_plain_line _ c) (repeated (both (fwd_several c (fwd_fold n)) (fwd_plain_line _ c))))
 
@@ -363,11 +358,11 @@ module _ (cs : List ℕ) where
   fwd_block_scalar : (b : Bool) (col : ℕ) → Forward (block.block_scalar cs b col)
   fwd_block_scalar b col = taking fwd_header (λ h. taking (fwd_indentation col h.digit) (λ k. fwd_block_content b h k))
 
-  fwd_literal : (col : ℕ) → Forward (block.literal cs col)
+  pub fwd_literal : (col : ℕ) → Forward (block.literal cs col)
   unfolding block.literal
   fwd_literal col = before (on_chr 124) (fwd_block_scalar _ col)
 
-  fwd_folded : (col : ℕ) → Forward (block.folded cs col)
+  pub fwd_folded : (col : ℕ) → Forward (block.folded cs col)
   unfolding block.folded
   fwd_folded col = before (on_chr 62) (fwd_block_scalar _ col)
 
@@ -539,7 +534,7 @@ module _ (cs : List ℕ) where
   unfolding directives.directive
   fwd_directive = before (on_ahead _) (after (viewed _ (either fwd_yaml_directive (either fwd_tag_directive fwd_reserved_directive))) on_s_l_comments)
 
-  fwd_directives : Forward (directives.directives cs)
+  pub fwd_directives : Forward (directives.directives cs)
   unfolding directives.directives
   fwd_directives = viewed _ (holding _ (both fwd_directive (repeated fwd_directive)))
 

@@ -103,7 +103,7 @@ pub document_marks : ReadsText document_marks_text ⊥ open_limit (
     ∷ stream_end
     ∷ [])
 unfolding characters.is_indicator characters.is_flow_indicator characters.is_break characters.is_nb characters.is_space characters.is_white characters.is_ns characters.brk separation.StartsLine separation.indent separation.sep separation.comment separation.line_end separation.s_b_comment separation.l_comment separation.s_l_comments separation.separate_lines separation.separate separation.MarkOf separation.Mark flow.is_flow flow.plain_safe flow.PlainFirst flow.PlainChar flow.plain_line flow.plain block.is_spaced block.joint block.chomped block.after_line block.kept block.content_after block.content block.indentation_indicator block.chomping_indicator block.header block.found_indentation block.indentation block.text_line block.lines block.block_content block.literal nodes.yaml_node nodes.flow_node nodes.block_node nodes.reads streams.ends_explicitly streams.piece_events streams.stream_events streams.document_mark streams.bare_document streams.explicit_document streams.suffix streams.stream streams.ReadsText encode
-document_marks = (((streams.document_piece true ((scalar_event None untagged plain (codes "a")) ∷ [])) ∷ (streams.document_piece true ((scalar_event None untagged plain []) ∷ [])) ∷ (streams.document_piece true ((scalar_event None untagged literal (codes "b\n")) ∷ [])) ∷ streams.suffix_piece ∷ []), (0, [], ((streams.document_piece true ((scalar_event None untagged plain (codes "a")) ∷ [])) ∷ (streams.document_piece true ((scalar_event None untagged plain []) ∷ [])) ∷ (streams.document_piece true ((scalar_event None untagged literal (codes "b\n")) ∷ [])) ∷ streams.suffix_piece ∷ []), (0, (Spans.done refl), (inl (refl, refl))), (then 6 ((streams.document_piece true ((scalar_event None untagged plain (codes "a")) ∷ [])) ∷ []) ((streams.document_piece true ((scalar_event None untagged plain []) ∷ [])) ∷ (streams.document_piece true ((scalar_event None untagged literal (codes "b\n")) ∷ [])) ∷ streams.suffix_piece ∷ []) (inr (inl (((scalar_event None untagged plain (codes "a")) ∷ []), (3, (0, (refl, ((inl refl), (3, (1, (refl, refl), (2, (refl, refl), (3, (refl, refl), refl)))), (inl (32, refl, refl)))), (1, (refl, refl), (2, (refl, refl), (3, (refl, refl), refl)))), (inl ((unmarked document_marks_text 3 3 refl), (inl (4, (inr (inl ((stands_each document_marks_text _ 3 1 refl), (omega arith)))), (5, (inl (inr (inl ((codes "a"), ((unmarked document_marks_text 4 1 refl), (5, (codes "a"), [], (((λ h. (not_behind document_marks_text _ 4 refl h)), (5, ((inl (97, refl, refl)), refl), ((omega arith), (none_between _ 5)))), refl), (done refl refl), refl)), refl)))), (6, (inl (5, (inl refl), (inl (inr (inr (5, (refl, (λ h. (not_behind document_marks_text _ 4 refl h))), (refl, refl))))))), (Spans.done refl)))))))), refl))) (then 10 ((streams.document_piece true ((scalar_event None untagged plain []) ∷ [])) ∷ []) ((streams.document_piece true ((scalar_event None untagged literal (codes "b\n")) ∷ [])) ∷ streams.suffix_piece ∷ []) (inr (inl (((scalar_event None untagged plain []) ∷ []), (9, (6, (refl, ((inr (5, (inr (inr (5, (refl, (λ h. (not_behind document_marks_text _ 4 refl h))), (refl, refl)))))), (9, (7, (refl, refl), (8, (refl, refl), (9, (refl, refl), refl)))), (inr (inl (10, refl, refl))))), (7, (refl, refl), (8, (refl, refl), (9, (refl, refl), refl)))), (inr (9, (refl, refl), (10, (inl (9, (inl refl), (inl (inr (inr (9, (refl, (λ h. (not_behind document_marks_text _ 8 refl h))), (refl, refl))))))), (Spans.done refl))))), refl))) (then 14 [] ((streams.document_piece true ((scalar_event None untagged literal (codes "b\n")) ∷ [])) ∷ streams.suffix_piece ∷ []) (inr (inr (14, ((omega arith), (10, (inr (refl, (inr (9, (inr (inr (9, (refl, (λ h. (not_behind document_marks_text _ 8 refl h))), (refl, refl)))))))), (13, (inr (11, (refl, refl), (stands_each document_marks_text _ 11 2 refl))), (inl (inr (inr (13, (refl, (λ h. (not_behind document_marks_text _ 12 refl h))), (refl, refl)))))))), (refl, refl)))) (then 23 ((streams.document_piece true ((scalar_event None untagged literal (codes "b\n")) ∷ [])) ∷ []) (streams.suffix_piece ∷ []) (inr (inl (((scalar_event None untagged literal (codes "b\n")) ∷ []), (17, (14, (refl, ((inr (13, (inr (inr (13, (refl, (λ h. (not_behind document_marks_text _ 12 refl h))), (refl, refl)))))), (17, (15, (refl, refl), (16, (refl, refl), (17, (refl, refl), refl)))), (inl (32, refl, refl)))), (15, (refl, refl), (16, (refl, refl), (17, (refl, refl), refl)))), (inl ((unmarked document_marks_text 17 6 refl), (inr (inl (18, (inr (inl ((stands_each document_marks_text _ 17 1 refl), (omega arith)))), (18, (record { anchor = None; tag = untagged }), (inl (refl, refl)), (inl ((codes "b\n"), (19, (refl, refl), (20, (record { digit = None; chomp = block.clip }), (19, (inl (19, None, (inl (refl, refl)), (block.clip, (inl (refl, refl)), refl))), (19, (inl refl), (inl (inr (inr (19, (refl, (λ h. (not_behind document_marks_text _ 18 refl h))), (refl, refl))))))), (20, 1, (refl, 21, (inl (20, [], (done refl refl), (((omega arith), (omega arith)), (20, (refl, (λ h. (no_mark document_marks_text 20 refl h))), (21, ((stands_each document_marks_text _ 20 1 refl), refl), (refl, (98, refl, refl)))))))), (23, (((block.text true (codes "b")) ∷ []), (20, [], ((block.text true (codes "b")) ∷ []), (done refl refl), (23, (inr (23, ((block.text true (codes "b")) ∷ []), [], (21, (20, (refl, (λ h. (no_mark document_marks_text 20 refl h))), ((stands_each document_marks_text _ 20 1 refl), refl)), (22, (codes "b"), (((inr (λ h. (not_here document_marks_text _ 21 refl (h.1 21 (omega arith) (omega arith))))), ((stands_each document_marks_text _ 21 1 refl), (omega arith))), refl), (inl (23, (inr (inr (22, (refl, (λ h. (not_behind document_marks_text _ 21 refl h))), (refl, refl)))), (refl, refl))))), (done refl refl), refl)), (inl refl)), refl), refl), (23, (refl, (inr (inl (inr ((inr (22, (inr (inr (22, (refl, (λ h. (not_behind document_marks_text _ 21 refl h))), (refl, refl)))))), (26, (24, (refl, refl), (25, (refl, refl), (26, (refl, refl), refl)))), (inr (inl (10, refl, refl)))))))), (inl refl)))))), refl))))))))), refl))) (then 27 (streams.suffix_piece ∷ []) [] (inl (27, (streams.suffix_piece ∷ []), [], (27, (streams.suffix_piece ∷ []), [], (26, (23, (refl, ((inr (22, (inr (inr (22, (refl, (λ h. (not_behind document_marks_text _ 21 refl h))), (refl, refl)))))), (26, (24, (refl, refl), (25, (refl, refl), (26, (refl, refl), refl)))), (inr (inl (10, refl, refl))))), (24, (refl, refl), (25, (refl, refl), (26, (refl, refl), refl)))), (26, (refl, refl), (27, (inl (26, (inl refl), (inl (inr (inr (26, (refl, (λ h. (not_behind document_marks_text _ 25 refl h))), (refl, refl))))))), (Spans.done refl)))), (done refl refl), refl), (27, (Spans.done refl), (inl (refl, refl))), refl)) (done refl refl) refl) refl) refl) refl) refl), refl), refl)
+document_marks = (((streams.document_piece true ((scalar_event None untagged plain (codes "a")) ∷ [])) ∷ (streams.document_piece true ((scalar_event None untagged plain []) ∷ [])) ∷ (streams.document_piece true ((scalar_event None untagged literal (codes "b\n")) ∷ [])) ∷ streams.suffix_piece ∷ []), (0, [], ((streams.document_piece true ((scalar_event None untagged plain (codes "a")) ∷ [])) ∷ (streams.document_piece true ((scalar_event None untagged plain []) ∷ [])) ∷ (streams.document_piece true ((scalar_event None untagged literal (codes "b\n")) ∷ [])) ∷ streams.suffix_piece ∷ []), (0, (Spans.done refl), (inl (refl, refl))), (then 6 ((streams.document_piece true ((scalar_event None untagged plain (codes "a")) ∷ [])) ∷ []) ((streams.document_piece true ((scalar_event None untagged plain []) ∷ [])) ∷ (streams.document_piece true ((scalar_event None untagged literal (codes "b\n")) ∷ [])) ∷ streams.suffix_piece ∷ []) (inr (inl (((scalar_event None untagged plain (codes "a")) ∷ []), (3, (0, (refl, ((inl refl), (3, (1, (refl, refl), (2, (refl, refl), (3, (refl, refl), refl)))), (inl (32, refl, refl)))), (1, (refl, refl), (2, (refl, refl), (3, (refl, refl), refl)))), (inl ((unmarked document_marks_text 3 3 refl), (inl (4, (inr (inl ((stands_each document_marks_text _ 3 1 refl), (omega arith)))), (5, (inl (inr (inl ((codes "a"), ((unmarked document_marks_text 4 1 refl), (5, (codes "a"), [], (((λ h. (not_behind document_marks_text _ 4 refl h)), (5, ((inl (97, refl, refl)), refl), ((omega arith), (none_between _ 5)))), refl), (done refl refl), refl)), refl)))), (6, (inl (5, (inl refl), (inl (inr (inr (5, (refl, (λ h. (not_behind document_marks_text _ 4 refl h))), (refl, refl))))))), (Spans.done refl)))))))), refl))) (then 14 ((streams.document_piece true ((scalar_event None untagged plain []) ∷ [])) ∷ []) ((streams.document_piece true ((scalar_event None untagged literal (codes "b\n")) ∷ [])) ∷ streams.suffix_piece ∷ []) (inr (inl (((scalar_event None untagged plain []) ∷ []), (9, (6, (refl, ((inr (5, (inr (inr (5, (refl, (λ h. (not_behind document_marks_text _ 4 refl h))), (refl, refl)))))), (9, (7, (refl, refl), (8, (refl, refl), (9, (refl, refl), refl)))), (inr (inl (10, refl, refl))))), (7, (refl, refl), (8, (refl, refl), (9, (refl, refl), refl)))), (inr (9, (refl, refl), (10, (inl (9, (inl refl), (inl (inr (inr (9, (refl, (λ h. (not_behind document_marks_text _ 8 refl h))), (refl, refl))))))), (Spans.then 14 ((omega arith), (10, (inr (refl, (inr (9, (inr (inr (9, (refl, (λ h. (not_behind document_marks_text _ 8 refl h))), (refl, refl)))))))), (13, (inr (11, (refl, refl), (stands_each document_marks_text _ 11 2 refl))), (inl (inr (inr (13, (refl, (λ h. (not_behind document_marks_text _ 12 refl h))), (refl, refl)))))))) (Spans.done refl)))))), refl))) (then 23 ((streams.document_piece true ((scalar_event None untagged literal (codes "b\n")) ∷ [])) ∷ []) (streams.suffix_piece ∷ []) (inr (inl (((scalar_event None untagged literal (codes "b\n")) ∷ []), (17, (14, (refl, ((inr (13, (inr (inr (13, (refl, (λ h. (not_behind document_marks_text _ 12 refl h))), (refl, refl)))))), (17, (15, (refl, refl), (16, (refl, refl), (17, (refl, refl), refl)))), (inl (32, refl, refl)))), (15, (refl, refl), (16, (refl, refl), (17, (refl, refl), refl)))), (inl ((unmarked document_marks_text 17 6 refl), (inr (inl (18, (inr (inl ((stands_each document_marks_text _ 17 1 refl), (omega arith)))), (18, (record { anchor = None; tag = untagged }), (inl (refl, refl)), (inl ((codes "b\n"), (19, (refl, refl), (20, (record { digit = None; chomp = block.clip }), (19, (inl (19, None, (inl (refl, refl)), (block.clip, (inl (refl, refl)), refl))), (19, (inl refl), (inl (inr (inr (19, (refl, (λ h. (not_behind document_marks_text _ 18 refl h))), (refl, refl))))))), (20, 1, (refl, 21, (inl (20, [], (done refl refl), (((omega arith), (omega arith)), (20, (refl, (λ h. (no_mark document_marks_text 20 refl h))), (21, ((stands_each document_marks_text _ 20 1 refl), refl), (refl, (98, refl, refl)))))))), (23, (((block.text true (codes "b")) ∷ []), (20, [], ((block.text true (codes "b")) ∷ []), (done refl refl), (23, (inr (23, ((block.text true (codes "b")) ∷ []), [], (21, (20, (refl, (λ h. (no_mark document_marks_text 20 refl h))), ((stands_each document_marks_text _ 20 1 refl), refl)), (22, (codes "b"), (((inr (λ h. (not_here document_marks_text _ 21 refl (h.1 21 (omega arith) (omega arith))))), ((stands_each document_marks_text _ 21 1 refl), (omega arith))), refl), (inl (23, (inr (inr (22, (refl, (λ h. (not_behind document_marks_text _ 21 refl h))), (refl, refl)))), (refl, refl))))), (done refl refl), refl)), (inl refl)), refl), refl), (23, (refl, (inr (inl (inr ((inr (22, (inr (inr (22, (refl, (λ h. (not_behind document_marks_text _ 21 refl h))), (refl, refl)))))), (26, (24, (refl, refl), (25, (refl, refl), (26, (refl, refl), refl)))), (inr (inl (10, refl, refl)))))))), (inl refl)))))), refl))))))))), refl))) (then 27 (streams.suffix_piece ∷ []) [] (inl (27, (streams.suffix_piece ∷ []), [], (27, (streams.suffix_piece ∷ []), [], (26, (23, (refl, ((inr (22, (inr (inr (22, (refl, (λ h. (not_behind document_marks_text _ 21 refl h))), (refl, refl)))))), (26, (24, (refl, refl), (25, (refl, refl), (26, (refl, refl), refl)))), (inr (inl (10, refl, refl))))), (24, (refl, refl), (25, (refl, refl), (26, (refl, refl), refl)))), (26, (refl, refl), (27, (inl (26, (inl refl), (inl (inr (inr (26, (refl, (λ h. (not_behind document_marks_text _ 25 refl h))), (refl, refl))))))), (Spans.done refl)))), (done refl refl), refl), (27, (Spans.done refl), (inl (refl, refl))), refl)) (done refl refl) refl) refl) refl) refl), refl), refl)
 
 abbrev breaks_text : List ℕ
 breaks_text = codes "a:\r\n- b\r- c\n"

@@ -65,14 +65,17 @@ is_given None = false
 is_given (Some d) = true
 
 module _ (cs : List ℕ) where
-  -- ---- the header (8.1.1)
+  -- ---- the header
 
+  -- 8.1.1.1
   unfoldable pub indentation_indicator : Rule (Option ℕ)
   indentation_indicator = gives None ∪ seen (λ c. Some (c - 48)) (letter cs (is_in_range 49 57))
 
+  -- 8.1.1.2
   unfoldable pub chomping_indicator : Rule Chomp
   chomping_indicator = gives clip ∪ (chr cs 45 ▸ gives strip) ∪ (chr cs 43 ▸ gives keep)
 
+  -- 8.1.1
   unfoldable pub header : Rule Header
   header = (with_value indentation_indicator (λ d. seen (λ s. record { digit = d; chomp = s }) chomping_indicator)
       ∪ with_value chomping_indicator (λ s. seen (λ d. record { digit = d; chomp = s }) indentation_indicator)) ◂ s_b_comment cs
@@ -99,6 +102,10 @@ module _ (cs : List ℕ) where
   abbrev pub LessIndented : ℕ → ℕ → Type 0
   LessIndented k = Begins (ahead (λ i. Mark cs i → ⊥) ◆ less cs k ◆ ahead NoSpace)
 
+  -- no further line of a content with k spaces stands here
+  abbrev pub LinesEnd : ℕ → ℕ → Type 0
+  LinesEnd k i = LessIndented k i ⊎ Mark cs i ⊎ AtEnd cs i
+
   -- the first nonempty line has more than n spaces, and no line before it has more than that one
   unfoldable pub found_indentation : ℕ → Rule ℕ
   found_indentation col = with_value space_lines (λ ms. where_value (λ k. (col ≤ k) × (greatest ms ≤ k)) nonempty)
@@ -106,7 +113,7 @@ module _ (cs : List ℕ) where
   -- that line has fewer, or there is none
   unfoldable pub longest_indentation : ℕ → Rule ℕ
   longest_indentation col = with_value last_space_lines (λ ms.
-      ahead (λ i. LessIndented col i ⊎ Mark cs i ⊎ AtEnd cs i) ▸ gives (max col (greatest ms)))
+      ahead (LinesEnd col) ▸ gives (max col (greatest ms)))
 
   unfoldable pub indentation : ℕ → Option ℕ → Rule ℕ
   indentation col None = looking (found_indentation col ∪ longest_indentation col)
@@ -134,11 +141,7 @@ module _ (cs : List ℕ) where
   unfoldable pub lines : Bool → ℕ → Rule (List Line)
   lines spaces_too k = any (blank_line k) ⨾ optional (text_line spaces_too k ⨾ any (blank_line k ∪ text_line true k)) ◂ maybe (last_spaces k)
 
-  -- no further line of the scalar stands here
-  abbrev pub LinesEnd : ℕ → ℕ → Type 0
-  LinesEnd k i = LessIndented k i ⊎ Mark cs i ⊎ AtEnd cs i
-
-  -- comment lines, of which the first has fewer than k spaces
+  -- l-trail-comments (8.1.1.2): comment lines, of which the first has fewer than k spaces
   unfoldable pub comment_lines : ℕ → Span
   comment_lines k = less cs k ◆ comment cs ◆ line_end cs ◆ any_span (l_comment cs)
 

@@ -45,9 +45,10 @@ module _ (cs : List ℕ) where
   reserved_directive = chr cs 37 ▸ seen (λ name. reserved) (where_value (λ name. is_known name ≡ false) (copied cs (whole_run cs is_ns)))
       ◂ any_span (some_run cs is_space ◆ some_run cs is_ns)
 
+  -- 6.8: at column 0, with the comment lines after it
   unfoldable pub directive : Rule (List Directive)
   directive = ahead (StartsLine cs) ▸ seen (λ d. d ∷ []) (yaml_directive ∪ tag_directive ∪ reserved_directive) ◂ s_l_comments cs
 
-  -- 9.2; the `l-comment`s between them are in `directive`
+  -- 9.1.5; the comment lines between them are in `directive`
   unfoldable pub directives : Rule Handles
   directives = seen bindings (where_value (λ ds. is_consistent ds ≡ true) (any_one directive))

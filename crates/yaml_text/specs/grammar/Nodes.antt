@@ -57,11 +57,11 @@ module _ (cs : List ℕ) (Wide : Type 0) (handles : Handles) where
     unfoldable pub json_key_entry : ℕ → Ctx → Rule (List Event)
     json_key_entry n c = inside (json_part n c) ⨾ ((maybe (separate cs n c) ▸ adjacent n c) ∪ e_node)
 
-    -- an entry of profile 1
+    -- an entry without `?` whose key is not wholly empty
     unfoldable pub implicit_entry : ℕ → Ctx → Rule (List Event)
     implicit_entry n c = yaml_key_entry n c ∪ json_key_entry n c
 
-    -- profile 2
+    -- 7.4.2, in the wide profile
     unfoldable pub empty_key : ℕ → Ctx → Rule (List Event)
     empty_key n c = e_node ⨾ value n c
 
@@ -71,7 +71,7 @@ module _ (cs : List ℕ) (Wide : Type 0) (handles : Handles) where
     unfoldable pub entry : ℕ → Ctx → Rule (List Event)
     entry n c = implicit_entry n c ∪ given Wide (empty_key n c ∪ explicit n c)
 
-    -- on one line, with at most 1,024 characters before its `:`
+    -- 7.4.2: on one line, with at most `key_limit` characters before its `:`
     abbrev pub key_sized : Rule (List Event) → Rule (List Event)
     key_sized R = where_both (λ i j. OneLine cs i j × (j ≤ i + key_limit)) (R ◂ maybe (sep cs))
 
@@ -81,13 +81,14 @@ module _ (cs : List ℕ) (Wide : Type 0) (handles : Handles) where
     unfoldable pub implicit_json_key : Ctx → Rule (List Event)
     implicit_json_key c = key_sized (inside (json_part 0 c))
 
-    -- 7.4.1
+    -- 7.4.2
     unfoldable pub pair : ℕ → Ctx → Rule (List Event)
     pair n c = given Open (seen (wrapped (map_start true no_props) mapping_end) (
         (implicit_yaml_key flow_key ⨾ value n c)
         ∪ (implicit_json_key flow_key ⨾ adjacent n c)
         ∪ given Wide (empty_key n c ∪ explicit n c)))
 
+    -- 7.4.1
     unfoldable pub flow_seq : Props → ℕ → Ctx → Rule (List Event)
     flow_seq p n c = given Open (seen (wrapped (seq_start true p) sequence_end) (
         (chr cs 91 ◆ maybe (separate cs n c))
@@ -132,7 +133,7 @@ module _ (cs : List ℕ) (Wide : Type 0) (handles : Handles) where
     map_entry k = ((implicit_yaml_key block_key ∪ implicit_json_key block_key) ◂ chr cs 58)
         ⨾ (inside (block_part (k + 1) block_out) ∪ empty_rest)
 
-    -- 8.2.1; `for one m of at least 1, n + m` is `for some k with col ≤ k`
+    -- 8.2.1: n + m for some m of at least 1 is some k with col ≤ k
     unfoldable pub block_seq : Props → ℕ → Rule (List Event)
     block_seq p col = given Open (seen (wrapped (seq_start false p) sequence_end)
         (some (λ k. given (col ≤ k) (any_one (indent cs k ▸ seq_entry k)))))
@@ -142,9 +143,11 @@ module _ (cs : List ℕ) (Wide : Type 0) (handles : Handles) where
     block_map p col = given Open (seen (wrapped (map_start false p) mapping_end)
         (some (λ k. given (col ≤ k) (any_one (indent cs k ▸ map_entry k)))))
 
+    -- 8.2.1: as an entry's node, without properties
     unfoldable pub compact_seq : ℕ → Rule (List Event)
     compact_seq k = given Open (seen (wrapped (seq_start false no_props) sequence_end) (seq_entry k ⨾ any (indent cs k ▸ seq_entry k)))
 
+    -- 8.2.2: the same
     unfoldable pub compact_map : ℕ → Rule (List Event)
     compact_map k = given Open (seen (wrapped (map_start false no_props) mapping_end) (map_entry k ⨾ any (indent cs k ▸ map_entry k)))
 

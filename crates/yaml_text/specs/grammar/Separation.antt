@@ -6,7 +6,7 @@ use Rattle.yaml_text.specs.grammar.Characters.{is_space, is_white, is_break, is_
 pub data Ctx : Type 0 where
   block_out block_in flow_out flow_in block_key flow_key : Ctx
 
--- `in(c)`
+-- 7.4: `in-flow(c)`
 unfoldable pub inner : Ctx → Ctx
 inner block_out = flow_in
 inner block_in = flow_in

@@ -54,6 +54,7 @@ module _ (cs : List ℕ) (Wide : Type 0) (room : ℕ) where
   abbrev pub directive_piece : Rule (List Piece)
   directive_piece = seen (λ es. document_piece true es ∷ []) directive_document
 
+  -- 9.2
   unfoldable pub any_document : Rule (List Piece)
   any_document = bare_piece ∪ explicit_piece ∪ directive_piece
 
