@@ -196,7 +196,7 @@ mutual
   flat_more (sequence_at a g b ts) r s = ap (λ z. sequence_start b a g ∷ z) (all_more ts (sequence_end ∷ r) s)
   flat_more (mapping_at a g b ps) r s = ap (λ z. mapping_start b a g ∷ z) (pairs_more ps (mapping_end ∷ r) s)
 
-  all_more : (ts : AllMarked) (r s : List Event) → flat_all ts (r ++ s) ≡ flat_all ts r ++ s
+  pub all_more : (ts : AllMarked) (r s : List Event) → flat_all ts (r ++ s) ≡ flat_all ts r ++ s
   all_more end_marks r s = refl
   all_more (item_mark t ts) r s = ap (flat t) (all_more ts r s) ∙ flat_more t (flat_all ts r) s
 

@@ -2,3 +2,4 @@ pub mod FirstInside
 pub mod Derivation
 pub mod Spelled
 pub mod SimpleTrees
+pub mod FirstDocuments
