@@ -1,0 +1,2 @@
+pub mod FirstPath
+pub mod FirstAnswer

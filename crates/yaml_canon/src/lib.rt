@@ -1,0 +1,4 @@
+//! The canonical text of a stream.
+#![tactic(auto)]
+
+mod reader;
