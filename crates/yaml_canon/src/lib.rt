@@ -1,4 +1,5 @@
 //! The canonical text of a stream.
 #![tactic(auto)]
 
+mod lab;
 mod reader;

@@ -1,0 +1,4 @@
+pub mod Leads
+pub mod AnswerLemmas
+pub mod ScalarLemmas
+pub mod FlowLemmas

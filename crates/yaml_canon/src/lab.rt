@@ -1,0 +1,7 @@
+//! Scratch.
+ghost use Rattle.std.specs.Prelude.{◌≡◌};
+pub fn lab(x: usize) -> usize
+    ensures { result ≡ x }
+{
+    x
+}
