@@ -312,17 +312,17 @@ module _ (cs : List ℕ) where
   no_content i a es o n ys (m, r, u) = n (subst (λ x. tail cs x (length cs)) (o.only m ys r).0 u)
 
   -- ---- the text
-  pub text_read : (i a : ℕ) (front es : List Event) → Leads (document cs) 0 (content cs) i front → Only (node cs open_limit) i a es → tail cs a (length cs) →
-      ReadsFirst cs (first_events cs (front ++ es)) × ((fs : List Event) → ReadsFirst cs fs → fs ≡ first_events cs (front ++ es))
+  pub text_read : (i a : ℕ) (es : List Event) → Leads (document cs) 0 (content cs) i [] → Only (node cs open_limit) i a es → tail cs a (length cs) →
+      ReadsFirst cs (first_events cs es) × ((fs : List Event) → ReadsFirst cs fs → fs ≡ first_events cs es)
   unfolding ReadsFirst
-  text_read i a front es l o t = (
-    (front ++ es, l.forth (length cs) es (a, o.is, t), refl),
-    λ fs (gs, r, e). let s = l.back (length cs) gs r in e ∙ ap (first_events cs) (s.2 ∙ ap (λ v. front ++ v) (content_only i a es o (length cs) s.0 s.1)),
+  text_read i a es l o t = (
+    (es, l.forth (length cs) es (a, o.is, t), refl),
+    λ fs (gs, r, e). let s = l.back (length cs) gs r in e ∙ ap (first_events cs) (s.2 ∙ content_only i a es o (length cs) s.0 s.1),
   )
 
-  pub no_text : (i : ℕ) (front : List Event) → Leads (document cs) 0 (content cs) i front → ((ys : List Event) → content cs i (length cs) ys → ⊥) → (fs : List Event) → ReadsFirst cs fs → ⊥
+  pub no_text : (i : ℕ) → Leads (document cs) 0 (content cs) i [] → ((ys : List Event) → content cs i (length cs) ys → ⊥) → (fs : List Event) → ReadsFirst cs fs → ⊥
   unfolding ReadsFirst
-  no_text i front l u fs (gs, r, e) = let s = l.back (length cs) gs r in u s.0 s.1
+  no_text i l u fs (gs, r, e) = let s = l.back (length cs) gs r in u s.0 s.1
 
   pub no_node : (i j : ℕ) → Unread (node cs open_limit) i → (ys : List Event) → content cs i j ys → ⊥
   no_node i j u ys (m, r, t) = u m ys r

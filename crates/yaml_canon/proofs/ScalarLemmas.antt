@@ -1,7 +1,7 @@
 -- Double-quoted scalars, read from the front.
-use Rattle.std.proofs.Common.{◌≡◌, ◌≢◌, ℕ, zero, suc, ◌+◌, ◌*◌, ◌<◌, ◌≤◌, Bool, List, [], ◌∷◌, ◌++◌, length, Option, Some, None, refl, sym, ◌∙◌, ap, subst, arith, true, false, inl, inr, ◌⊎◌}
+use Rattle.std.proofs.Common.{◌≡◌, ◌≢◌, ℕ, zero, suc, ◌+◌, ◌*◌, ◌^◌, ◌<◌, ◌≤◌, Bool, List, [], ◌∷◌, ◌++◌, length, Option, Some, None, refl, sym, ◌∙◌, ap, subst, arith, add-one, true, false, inl, inr, ◌⊎◌}
 use Rattle.std.specs.Prelude.{slice_get, slice_range, not, ◌&&◌, ◌==◌, ◌-◌}
-use Rattle.std.proofs.Math.Nat.{eq-or-lt_of_le}
+use Rattle.std.proofs.Math.Nat.{eq-or-lt_of_le, pow-le-pow_right, pow-suc}
 use Rattle.std.specs.Char.{IsScalar, is_ascii_hexdigit, digit_value}
 use Rattle.std.specs.Str.Parse.{digits_value}
 use Rattle.std.proofs.lemmas.Bool.{cond_both, eqb-true, false≢true}
@@ -124,26 +124,48 @@ hex_worth c h = grind (arith, nat_tests)
 pub worth_hex : (c : ℕ) → digit_value c < 16 → is_ascii_hexdigit c ≡ true
 worth_hex c h = grind (arith, nat_tests)
 
+-- a number of few digits, and one more
+pub hex_small : (n d k : ℕ) → n < 16 ^ k → d < 16 → n * 16 + d < 16 ^ (k + 1)
+hex_small n d k h l =
+    let e : 16 ^ (k + 1) ≡ 16 ^ k * 16 = ap (λ m. 16 ^ m) (add-one k) ∙ pow-suc 16 k in
+    omega (arith, h, l, e)
+
+pub hex_fits : (n d k count : ℕ) → n < 16 ^ k → k < count → count ≤ 8 → d < 16 → n * 16 + d < 4294967296
+hex_fits n d k count h l f w =
+    let a : n * 16 + d < 16 ^ (k + 1) = hex_small n d k h w in
+    let b : 16 ^ (k + 1) ≤ 16 ^ 8 = pow-le-pow_right {n = 16} (omega arith) {i = k + 1} {j = 8} (omega (arith, l, f)) in
+    omega (arith, a, b)
+
 module _ (cs : List ℕ) where
   -- a character stands once
   pub same_char : (i c d : ℕ) → slice_get cs i ≡ Some c → slice_get cs i ≡ Some d → c ≡ d
   same_char i c d p q = let h : Some c ≡ Some d = sym p ∙ q in cc
+
+  -- one more character that passes the test
+  pub run_more : (p : ℕ → Bool) (i j k c : ℕ) → run cs p i j → slice_get cs j ≡ Some c → p c ≡ true → k ≡ j + 1 → run cs p i k
+  run_more p i j k c r h t e = (omega (arith, r.0, e), λ l from below. go l from (omega (arith, below, e)) (r.1 l from))
+    where
+      go : (l : ℕ) → i ≤ l → l ≤ j → (l < j → Stands cs p l) → Stands cs p l
+      go l from below was = pick (eq-or-lt_of_le below)
+        where
+          pick : (l ≡ j) ⊎ (l < j) → Stands cs p l
+          pick (inl q) = (c, ap (slice_get cs) q ∙ h, t)
+          pick (inr q) = was q
 
   -- ---- numbers
 
   pub hex_more : (i j k c n : ℕ) → run cs is_ascii_hexdigit i j → slice_get cs j ≡ Some c → k ≡ j + 1 → digit_value c < 16 → n ≡ digits_value 16 (slice_range cs i j) →
       run cs is_ascii_hexdigit i k × (n * 16 + digit_value c ≡ digits_value 16 (slice_range cs i k))
   hex_more i j k c n r h e d v = (
-    (omega (arith, r.0, e), λ l from below. go l from (omega (arith, below, e)) (r.1 l from)),
+    run_more is_ascii_hexdigit i j k c r h (worth_hex c d) e,
     ap (λ m. m * 16 + digit_value c) v ∙ sym (digits_value_push 16 (slice_range cs i j) c) ∙ ap (digits_value 16) (sym (slice_snoc cs i j k c r.0 h e)),
   )
-    where
-      go : (l : ℕ) → i ≤ l → l ≤ j → (l < j → Stands cs is_ascii_hexdigit l) → Stands cs is_ascii_hexdigit l
-      go l from below was = pick (eq-or-lt_of_le below)
-        where
-          pick : (l ≡ j) ⊎ (l < j) → Stands cs is_ascii_hexdigit l
-          pick (inl q) = (c, ap (slice_get cs) q ∙ h, worth_hex c d)
-          pick (inr q) = was q
+
+  -- a character that is no digit stands before the last one
+  pub hex_stop : (i j d n c : ℕ) → j ≡ i + d → d < n → slice_get cs j ≡ Some c → (digit_value c < 16 → ⊥) → (k : ℕ) → exactly cs n is_ascii_hexdigit i k → ⊥
+  hex_stop i j d n c e l h w k (r, f) =
+      let s = r.1 j (omega (arith, e)) (omega (arith, e, l, f)) in
+      w (hex_worth c (ap is_ascii_hexdigit (same_char j c s.0 h s.1) ∙ s.2))
 
   pub numbered_only : (n i j v : ℕ) → exactly cs n is_ascii_hexdigit i j → v ≡ digits_value 16 (slice_range cs i j) → IsScalar v → Only (numbered cs n) i j v
   unfolding numbered

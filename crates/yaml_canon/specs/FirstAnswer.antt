@@ -1,5 +1,5 @@
 -- What a call of the private reader says of its production. Temporary, as that reader is.
-use Rattle.std.specs.Prelude.{◌≡◌, ◌++◌, ℕ, List, Result, Ok, Err, Option, Some, None}
+use Rattle.std.specs.Prelude.{◌≡◌, ◌++◌, ℕ, List, [], Result, Ok, Err, Option, Some, None}
 use Rattle.yaml_text.specs.Event.{Event}
 use Rattle.yaml_text.specs.EventModel.{Adds}
 use Rattle.yaml_text.specs.Answer.{Only}
@@ -41,9 +41,9 @@ pub record Leads {A : Type 0} (R : Rule (List A)) (i : ℕ) (S : Rule (List A)) 
   pub forth : (j : ℕ) (ys : List A) → S k j ys → R i j (front ++ ys)
   pub back : (j : ℕ) (xs : List A) → R i j xs → (ys : List A) × S k j ys × (xs ≡ front ++ ys)
 
--- the border to which the readings lead, or there is none
+-- the readings lead to this border with nothing before them, or there is none
 abbrev pub LeadsOn : {A : Type 0} → Rule (List A) → ℕ → Rule (List A) → (ℕ → ℕ) → Result ℕ Fault → Type 0
-LeadsOn {A} R i S place (Ok to) = (front : List A) × Leads R i S (place to) front
+LeadsOn R i S place (Ok to) = Leads R i S (place to) []
 LeadsOn R i S place (Err e) = Refuses e (Unread R i)
 
 -- the events are those of the text's only reading, or it has none
