@@ -18,8 +18,11 @@ use Rattle.yaml_canon.proofs.Leads.{leads_start, leads_on, any_more, any_end, an
 
 -- ---- characters
 
-apart : (o : Option ℕ) (c : ℕ) → o ≡ None → o ≡ Some c → ⊥
+pub apart : (o : Option ℕ) (c : ℕ) → o ≡ None → o ≡ Some c → ⊥
 apart o c p q = let h : ◌≡◌ {A = Option ℕ} None (Some c) = sym p ∙ q in cc
+
+pub same_some : (a b : ℕ) → Some a ≡ Some b → a ≡ b
+same_some a b e = cc
 
 both : (b : Bool) → b ≡ true → b ≡ false → ⊥
 both b p q = let h : true ≡ false = sym p ∙ q in cc
@@ -185,6 +188,9 @@ module _ (cs : List ℕ) where
   numbered_no_scalar n i j v r e s k w (t, (xs, (q, f), g)) =
       let at : k ≡ j = q.1 ∙ sym r.1 in
       s (subst IsScalar (g ∙ ap (digits_value 16) (f ∙ ap (slice_range cs i) at) ∙ sym e) t)
+
+  pub other_number : (n m k l : ℕ) → n ≡ m → l ≡ k + 1 → Unread (numbered cs m) l → Unread (numbered cs n) (k + 1)
+  other_number n m k l e f u j x r = u j x (subst (λ z. numbered cs m z j x) (sym f) (subst (λ z. numbered cs z (k + 1) j x) e r))
 
   -- ---- escapes
 
