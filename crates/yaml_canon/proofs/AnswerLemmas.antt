@@ -1,5 +1,6 @@
 -- What a refusal says, passed on.
 use Rattle.std.proofs.Common.{◌≡◌, ℕ, List, Result, Err, sym, subst, ap, ◌∙◌, map, [], ◌∷◌, ◌++◌, append_assoc, Bool, true, false}
+use Rattle.std.specs.Bool.{OnFalse, OnTrue}
 use Rattle.std.specs.Result.{IsErrAnd, result_map_both}
 use Rattle.std.proofs.lemmas.Result.{err_from_is_err_and}
 use Rattle.std.proofs.lemmas.List.{map-append}
@@ -54,3 +55,11 @@ adds_on a b c xs ys p q = q ∙ ap (λ v. v ++ ys) p ∙ append_assoc (map event
 -- what is added to nothing
 pub read_from_nothing : (old new : List code.Event) (es : List Event) → old ≡ [] → Adds old es new → map event_of new ≡ es
 read_from_nothing old new es e a = a ∙ ap (λ xs. map event_of xs ++ es) e
+
+pub on_true_at : (b : Bool) {P : Type 0} → b ≡ true → OnTrue b P → P
+on_true_at true e p = p
+on_true_at false e p = let h : false ≡ true = e in cc
+
+pub on_false_at : (b : Bool) {P : Type 0} → b ≡ false → OnFalse b P → P
+on_false_at false e p = p
+on_false_at true e p = let h : true ≡ false = e in cc

@@ -305,6 +305,16 @@ module _ (cs : List ℕ) where
   no_tail a b s n e f (m, t, inr q) =
       let at : m ≡ b = spaces_same cs a m b t s (brk_no_space m (length cs) q) n in f (length cs) (subst (λ x. brk cs x (length cs)) at q) refl
 
+  -- spaces and a break, and then no end
+  pub no_tail_after : (a b k : ℕ) → spaces cs a b → slice_get cs b ≢ Some 32 → brk cs b k → k ≢ length cs → tail cs a (length cs) → ⊥
+  no_tail_after a b k s n p f t = no_tail a b s n e (λ j q h. f (brk_same b k j p q ∙ h)) t
+    where
+      e : b ≢ length cs
+      e h = elim (brk_first b k p) [
+        inl g ↦ (let w : b < length cs = slice_get_within cs b 13 g in omega (arith, w, h))
+        | inr g ↦ (let w : b < length cs = slice_get_within cs b 10 g in omega (arith, w, h))
+      ]
+
   content_only : (i a : ℕ) (es : List Event) → Only (node cs open_limit) i a es → (k : ℕ) (ys : List Event) → content cs i k ys → ys ≡ es
   content_only i a es o k ys (m, r, u) = (o.only m ys r).1
 

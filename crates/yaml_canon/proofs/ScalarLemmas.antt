@@ -1,6 +1,6 @@
 -- Double-quoted scalars, read from the front.
 use Rattle.std.proofs.Common.{◌≡◌, ◌≢◌, ℕ, zero, suc, ◌+◌, ◌*◌, ◌^◌, ◌<◌, ◌≤◌, Bool, List, [], ◌∷◌, ◌++◌, length, Option, Some, None, refl, sym, ◌∙◌, ap, subst, arith, add-one, true, false, inl, inr, ◌⊎◌}
-use Rattle.std.specs.Prelude.{slice_get, slice_range, not, ◌&&◌, ◌==◌, ◌-◌}
+use Rattle.std.specs.Prelude.{slice_get, slice_range, not, ◌&&◌, ◌==◌, ◌-◌, encode_utf8_all}
 use Rattle.std.proofs.Math.Nat.{eq-or-lt_of_le, pow-le-pow_right, pow-suc}
 use Rattle.std.specs.Char.{IsScalar, is_ascii_hexdigit, digit_value}
 use Rattle.std.specs.Str.Parse.{digits_value}
@@ -8,7 +8,7 @@ use Rattle.std.proofs.lemmas.Bool.{cond_both, eqb-true, false≢true}
 use Rattle.std.proofs.lemmas.Bool.Decides.{nat_tests}
 use Rattle.std.proofs.lemmas.Int.Digits.{digits_value_push}
 use Rattle.yaml_text.specs.Answer.{Only}
-use Rattle.yaml_text.specs.grammar.Rules.{Rule, ◌∪◌, ◌▸◌, mapped, Stands, chr, letter, run, exactly}
+use Rattle.yaml_text.specs.grammar.Rules.{Rule, ◌∪◌, ◌▸◌, mapped, seen, Stands, chr, letter, run, exactly}
 use Rattle.yaml_text.specs.grammar.Characters.{is_nb, is_ns, is_white, is_break, short_escape, numbered, escape}
 use Rattle.yaml_text.specs.grammar.FlowScalars.{double_char, white_text}
 use Rattle.yaml_text.proofs.PlaceLemmas.{slice_none, slice_join, slice_one, slice_snoc}
@@ -369,3 +369,14 @@ module _ (cs : List ℕ) where
 
   pub no_double : (i : ℕ) → slice_get cs i ≢ Some 34 → Unread (double_line cs) i
   no_double i n k ys r = n (double_first i k ys r)
+
+  -- ---- the scalar's bytes
+
+  pub bytes_only : (i j : ℕ) (text bytes : List ℕ) → Only (double_line cs) i j text → encode_utf8_all text ≡ bytes → Only (seen encode_utf8_all (double_line cs)) i j bytes
+  bytes_only i j text bytes o e = record {
+    is = (text, o.is, sym e);
+    only = λ k ys (t, r, f). let q = o.only k t r in (q.0, f ∙ ap encode_utf8_all q.1 ∙ e);
+  }
+
+  pub bytes_none : (i : ℕ) → Unread (double_line cs) i → Unread (seen encode_utf8_all (double_line cs)) i
+  bytes_none i u k ys (t, r, f) = u k t r
