@@ -4,12 +4,13 @@ use Rattle.std.specs.Bool.{OnFalse, OnTrue}
 use Rattle.std.specs.Result.{IsErrAnd, result_map_both}
 use Rattle.std.proofs.lemmas.Result.{err_from_is_err_and}
 use Rattle.std.proofs.lemmas.List.{map-append}
-use Rattle.yaml_text.specs.Event.{Event}
+use Rattle.yaml_text.specs.Event.{Event, stream_start, stream_end, document_start, document_end}
 use Rattle.yaml_text.specs.EventModel.{event_of, Adds}
 use Rattle.yaml_text.specs.grammar.Rules.{Rule}
 use Rattle.yaml_text.specs.declared.event.Event as code
 use Rattle.yaml_text.specs.declared.fault.Fault.{Fault}
 use Rattle.yaml_text.specs.declared.fault.Fault.TheVariants as fault
+use Rattle.yaml_canon.specs.FirstPath.{first_events}
 use Rattle.yaml_canon.specs.FirstAnswer.{Answers, Appends, LeadsOn, ReadsAll, Refuses, Unread}
 
 pub refuses_weaker : (e : Fault) {P Q : Type 0} → (P → Q) → Refuses e P → Refuses e Q
@@ -52,10 +53,6 @@ adds_one old new e h = ap (map event_of) h ∙ map-append event_of old (e ∷ []
 pub adds_on : (a b c : List code.Event) (xs ys : List Event) → Adds a xs b → Adds b ys c → Adds a (xs ++ ys) c
 adds_on a b c xs ys p q = q ∙ ap (λ v. v ++ ys) p ∙ append_assoc (map event_of a) xs ys
 
--- what is added to nothing
-pub read_from_nothing : (old new : List code.Event) (es : List Event) → old ≡ [] → Adds old es new → map event_of new ≡ es
-read_from_nothing old new es e a = a ∙ ap (λ xs. map event_of xs ++ es) e
-
 pub on_true_at : (b : Bool) {P : Type 0} → b ≡ true → OnTrue b P → P
 on_true_at true e p = p
 on_true_at false e p = let h : false ≡ true = e in cc
@@ -63,3 +60,11 @@ on_true_at false e p = let h : false ≡ true = e in cc
 pub on_false_at : (b : Bool) {P : Type 0} → b ≡ false → OnFalse b P → P
 on_false_at false e p = p
 on_false_at true e p = let h : true ≡ false = e in cc
+
+-- the events of a stream, put one after another into an empty list
+pub whole_stream : (a b c d e f : List code.Event) (es : List Event) → a ≡ [] → Adds a (stream_start ∷ []) b → Adds b (document_start true ∷ []) c → Adds c es d →
+    Adds d (document_end false ∷ []) e → Adds e (stream_end ∷ []) f → map event_of f ≡ first_events es
+whole_stream a b c d e f es z p q r s t =
+    let start : map event_of c ≡ stream_start ∷ document_start true ∷ [] = q ∙ ap (λ v. v ++ (document_start true ∷ [])) (p ∙ ap (λ v. map event_of v ++ (stream_start ∷ [])) z) in
+    t ∙ ap (λ v. v ++ (stream_end ∷ [])) (s ∙ ap (λ v. v ++ (document_end false ∷ [])) (r ∙ ap (λ v. v ++ es) start))
+    ∙ ap (λ v. stream_start ∷ document_start true ∷ v) (append_assoc es (document_end false ∷ []) (stream_end ∷ []))

@@ -54,9 +54,11 @@ module _ (cs : List ℕ) where
       where
         node_first : (l : ℕ) (xs : List Event) → inside i l xs → slice_get cs i ≢ Some 32
         node_first l xs r h = elim (first i l xs r) [ inl q ↦ (let x : 34 ≡ 32 = same_char cs i 34 32 q h in omega (arith, x)) | inr q ↦ (let x : 91 ≡ 32 = same_char cs i 91 32 q h in omega (arith, x)) ]
+
         last : (l : ℕ) (ys : List Event) → (optional (item cs inside)) i l ys → chr cs 93 l j → slice_get cs i ≢ Some 32
         last l ys (inl (a, b)) close h = let x : 93 ≡ 32 = same_char cs i 93 32 (subst (λ n. slice_get cs n ≡ Some 93) a close.0) h in omega (arith, x)
         last l ys (inr (n, r, s)) close h = node_first n ys r h
+
         go : (k : ℕ) (xs ys : List Event) (t : ℕ) → Any ((item cs inside) ◂ comma cs) k i xs → (optional (item cs inside)) k t ys → chr cs 93 t j → slice_get cs i ≢ Some 32
         go k xs ys t (done a b) q close = last t ys (subst (λ n. (optional (item cs inside)) n t ys) a q) close
         go k xs ys t (then m us vs (n, (o, r, s), c) rest f) q close = node_first o us r
@@ -66,34 +68,35 @@ module _ (cs : List ℕ) where
 
     pub bracketed_start : (i j k : ℕ) → slice_get cs i ≡ Some 91 → j ≡ i + 1 → spaces cs j k → slice_get cs k ≢ Some 32 → Leads (bracketed cs inside) i (items_rest cs inside) k []
     bracketed_start i j k h e s n = record {
-        forth = λ l ys r. (j, (h, e), (k, s, r));
-        back = λ l ys (m, (g, f), (o, t, r)).
-            let at : m ≡ j = f ∙ sym e in
-            let same : o ≡ k = spaces_same j o k (subst (λ x. spaces cs x o) at t) s (items_first o l ys r) n in
-            (ys, subst (λ x. items_rest cs inside x l ys) same r, refl);
-      }
+      forth = λ l ys r. (j, (h, e), (k, s, r));
+      back = λ l ys (m, (g, f), (o, t, r)).
+          let at : m ≡ j = f ∙ sym e in
+          let same : o ≡ k = spaces_same j o k (subst (λ x. spaces cs x o) at t) s (items_first o l ys r) n in
+          (ys, subst (λ x. items_rest cs inside x l ys) same r, refl);
+    }
 
     pub items_close : (i j : ℕ) → slice_get cs i ≡ Some 93 → j ≡ i + 1 → Only (items_rest cs inside) i j []
     items_close i j h e = no_more (λ k ys (a, (b, r, s), c). here b ys r) (record {
-        is = (i, inl (refl, refl), (h, e));
-        only = λ l ys (m, q, c). go l ys m q c;
-      })
+      is = (i, inl (refl, refl), (h, e));
+      only = λ l ys (m, q, c). go l ys m q c;
+    })
       where
         here : Unread inside i
         here = not_node i 93 h (λ x. omega (arith, x)) (λ x. omega (arith, x))
+
         go : (l : ℕ) (ys : List Event) (m : ℕ) → (optional (item cs inside)) i m ys → chr cs 93 m l → (l ≡ j) × (ys ≡ [])
         go l ys m (inl (a, b)) c = (c.1 ∙ ap (λ n. n + 1) a ∙ sym e, b)
         go l ys m (inr (n, r, s)) c = absurd (here n ys r)
 
     pub item_comma : (i a b c d : ℕ) (es : List Event) → Only inside i a es → spaces cs a b → slice_get cs b ≡ Some 44 → c ≡ b + 1 → spaces cs c d → slice_get cs d ≢ Some 32 → Leads (items_rest cs inside) i (items_rest cs inside) d es
     item_comma i a b c d es o s h e t n = one_more NoSpace (λ k l zs r. items_first k l zs r) (record {
-        is = (b, (a, o.is, s), (c, (h, e), t));
-        only = λ k ys (m, (x, r, u), (y, (g, f), v)) free.
-            let q = o.only x ys r in
-            let at : m ≡ b = spaced_same a b m 44 s (differ b 44 32 h (λ x. omega (arith, x))) (subst (λ z. spaces cs z m) q.0 u) g (λ x. omega (arith, x)) in
-            let after : y ≡ c = f ∙ ap (λ n. n + 1) at ∙ sym e in
-            (spaces_same c k d (subst (λ z. spaces cs z k) after v) t free n, q.1);
-      }) (λ l ys (m, q, g). go l ys m q g)
+      is = (b, (a, o.is, s), (c, (h, e), t));
+      only = λ k ys (m, (x, r, u), (y, (g, f), v)) free.
+          let q = o.only x ys r in
+          let at : m ≡ b = spaced_same a b m 44 s (differ b 44 32 h (λ x. omega (arith, x))) (subst (λ z. spaces cs z m) q.0 u) g (λ x. omega (arith, x)) in
+          let after : y ≡ c = f ∙ ap (λ n. n + 1) at ∙ sym e in
+          (spaces_same c k d (subst (λ z. spaces cs z k) after v) t free n, q.1);
+    }) (λ l ys (m, q, g). go l ys m q g)
       where
         go : (l : ℕ) (ys : List Event) (m : ℕ) → (optional (item cs inside)) i m ys → chr cs 93 m l → ⊥
         go l ys m (inl (x, y)) g = not_node i 93 (subst (λ n. slice_get cs n ≡ Some 93) x g.0) (λ x. omega (arith, x)) (λ x. omega (arith, x)) a es o.is
@@ -104,10 +107,10 @@ module _ (cs : List ℕ) where
 
     pub item_close : (i a b j : ℕ) (es : List Event) → Only inside i a es → spaces cs a b → slice_get cs b ≡ Some 93 → j ≡ b + 1 → Only (items_rest cs inside) i j es
     item_close i a b j es o s h e = no_more (λ k ys (m, (x, r, u), (y, (g, f), v)).
-            let q = o.only x ys r in
-            let at : m ≡ b = spaced_same a b m 44 s (differ b 93 32 h (λ x. omega (arith, x))) (subst (λ z. spaces cs z m) q.0 u) g (λ x. omega (arith, x)) in
-            let x : 44 ≡ 93 = same_char cs b 44 93 (subst (λ n. slice_get cs n ≡ Some 44) at g) h in omega (arith, x))
-      (record { is = (b, inr (a, o.is, s), (h, e)); only = λ l ys (m, q, g). go l ys m q g })
+        let q = o.only x ys r in
+        let at : m ≡ b = spaced_same a b m 44 s (differ b 93 32 h (λ x. omega (arith, x))) (subst (λ z. spaces cs z m) q.0 u) g (λ x. omega (arith, x)) in
+        let x : 44 ≡ 93 = same_char cs b 44 93 (subst (λ n. slice_get cs n ≡ Some 44) at g) h in omega (arith, x))
+        (record { is = (b, inr (a, o.is, s), (h, e)); only = λ l ys (m, q, g). go l ys m q g })
       where
         go : (l : ℕ) (ys : List Event) (m : ℕ) → (optional (item cs inside)) i m ys → chr cs 93 m l → (l ≡ j) × (ys ≡ es)
         go l ys m (inl (x, y)) g = absurd (not_node i 93 (subst (λ n. slice_get cs n ≡ Some 93) x g.0) (λ x. omega (arith, x)) (λ x. omega (arith, x)) a es o.is)
@@ -118,10 +121,10 @@ module _ (cs : List ℕ) where
 
     pub item_stop : (i a b : ℕ) (es : List Event) → Only inside i a es → spaces cs a b → slice_get cs b ≢ Some 32 → slice_get cs b ≢ Some 93 → slice_get cs b ≢ Some 44 → Unread (items_rest cs inside) i
     item_stop i a b es o s n m p = none_more (optional (item cs inside) ◂ chr cs 93) (λ k ys (t, (x, r, u), (y, (g, f), v)).
-            let q = o.only x ys r in
-            let at : t ≡ b = spaced_same a b t 44 s n (subst (λ z. spaces cs z t) q.0 u) g (λ x. omega (arith, x)) in
-            p (subst (λ n. slice_get cs n ≡ Some 44) at g))
-      (λ l ys (t, q, g). go l ys t q g)
+        let q = o.only x ys r in
+        let at : t ≡ b = spaced_same a b t 44 s n (subst (λ z. spaces cs z t) q.0 u) g (λ x. omega (arith, x)) in
+        p (subst (λ n. slice_get cs n ≡ Some 44) at g))
+        (λ l ys (t, q, g). go l ys t q g)
       where
         go : (l : ℕ) (ys : List Event) (t : ℕ) → (optional (item cs inside)) i t ys → chr cs 93 t l → ⊥
         go l ys t (inl (x, y)) g = not_node i 93 (subst (λ n. slice_get cs n ≡ Some 93) x g.0) (λ x. omega (arith, x)) (λ x. omega (arith, x)) a es o.is
@@ -311,7 +314,7 @@ module _ (cs : List ℕ) where
     where
       e : b ≢ length cs
       e h = elim (brk_first b k p) [
-        inl g ↦ (let w : b < length cs = slice_get_within cs b 13 g in omega (arith, w, h))
+        | inl g ↦ (let w : b < length cs = slice_get_within cs b 13 g in omega (arith, w, h))
         | inr g ↦ (let w : b < length cs = slice_get_within cs b 10 g in omega (arith, w, h))
       ]
 
@@ -323,11 +326,11 @@ module _ (cs : List ℕ) where
 
   -- ---- the text
   pub text_read : (i a : ℕ) (es : List Event) → Leads (document cs) 0 (content cs) i [] → Only (node cs open_limit) i a es → tail cs a (length cs) →
-      ReadsFirst cs (first_events cs es) × ((fs : List Event) → ReadsFirst cs fs → fs ≡ first_events cs es)
+      ReadsFirst cs (first_events es) × ((fs : List Event) → ReadsFirst cs fs → fs ≡ first_events es)
   unfolding ReadsFirst
   text_read i a es l o t = (
     (es, l.forth (length cs) es (a, o.is, t), refl),
-    λ fs (gs, r, e). let s = l.back (length cs) gs r in e ∙ ap (first_events cs) (s.2 ∙ content_only i a es o (length cs) s.0 s.1),
+    λ fs (gs, r, e). let s = l.back (length cs) gs r in e ∙ ap (first_events) (s.2 ∙ content_only i a es o (length cs) s.0 s.1),
   )
 
   pub no_text : (i : ℕ) → Leads (document cs) 0 (content cs) i [] → ((ys : List Event) → content cs i (length cs) ys → ⊥) → (fs : List Event) → ReadsFirst cs fs → ⊥

@@ -58,6 +58,7 @@ digit_cases c n =
   where
     Is : Option ℕ → Type 0
     Is o = o ≡ Some n → ((c ≡ 120) × (n ≡ 2)) ⊎ (((c ≡ 117) × (n ≡ 4)) ⊎ ((c ≡ 85) × (n ≡ 8)))
+
     some : (m : ℕ) → Some m ≡ Some n → n ≡ m
     some m e = cc
 
@@ -79,6 +80,7 @@ short_or_number c x n s d = go (digit_cases c n d)
   where
     at : (a : ℕ) → c ≡ a → short_escape a ≡ None → ⊥
     at a e h = apart (short_escape a) x h (ap short_escape (sym e) ∙ s)
+
     go : ((c ≡ 120) × (n ≡ 2)) ⊎ (((c ≡ 117) × (n ≡ 4)) ⊎ ((c ≡ 85) × (n ≡ 8))) → ⊥
     go (inl (e, f)) = at 120 e short_120
     go (inr (inl (e, f))) = at 117 e short_117
@@ -204,8 +206,10 @@ module _ (cs : List ℕ) where
     where
       here : slice_get cs k ≡ Some c
       here = ap (slice_get cs) e ∙ h
+
       number : (d n m : ℕ) → digit_count d ≡ Some n → slice_get cs k ≡ Some d → m ≡ k + 1 → numbered cs n m j x → Followed c (i + 1) j x
       number d n m q f a v = inr (n, ap digit_count (same_char k c d here f) ∙ q, subst (λ l. numbered cs n l j x) (a ∙ ap (λ l. l + 1) e) v)
+
       go : (mapped short_escape (letter cs is_nb) ∪ (chr cs 120 ▸ numbered cs 2) ∪ (chr cs 117 ▸ numbered cs 4) ∪ (chr cs 85 ▸ numbered cs 8)) k j x → Followed c (i + 1) j x
       go (inl (a, (f, b, l), s)) =
           let same : c ≡ a = same_char k c a here f in
@@ -263,11 +267,13 @@ module _ (cs : List ℕ) where
     where
       at : (b p : ℕ) → c ≡ b → n ≡ p → (chr cs b ▸ numbered cs p) k j x
       at b p q r = (m, (h ∙ ap Some q, a), subst (λ z. numbered cs z m j x) r o.is)
+
       number : ((c ≡ 120) × (n ≡ 2)) ⊎ (((c ≡ 117) × (n ≡ 4)) ⊎ ((c ≡ 85) × (n ≡ 8))) →
           (mapped short_escape (letter cs is_nb) ∪ (chr cs 120 ▸ numbered cs 2) ∪ (chr cs 117 ▸ numbered cs 4) ∪ (chr cs 85 ▸ numbered cs 8)) k j x
       number (inl (q, r)) = inr (inl (at 120 2 q r))
       number (inr (inl (q, r))) = inr (inr (inl (at 117 4 q r)))
       number (inr (inr (q, r))) = inr (inr (inr (at 85 8 q r)))
+
       go : (l y : ℕ) → Followed c (i + 1) l y → (l ≡ j) × (y ≡ x)
       go l y (inl (b, t, f)) = absurd (short_or_number c y n t d)
       go l y (inr (p, f, v)) =

@@ -20,7 +20,7 @@ invariant-read_sequence-items l =
       border : IsBorder l.source l.here;
       onward : l.at < l.here;
       leads : (es : List Event) × Adds l.fn.out.items (seq_start true no_props ∷ es) l.out.items
-        × Leads (bracketed cs (node cs l.room)) (place_of l.source l.at) (items_rest cs (node cs l.room)) (place_of l.source l.here) es;
+          × Leads (bracketed cs (node cs l.room)) (place_of l.source l.at) (items_rest cs (node cs l.room)) (place_of l.source l.here) es;
     }
 
 abbrev pub decreases-read_sequence-items : goal.decreases-read_sequence-items

@@ -21,8 +21,8 @@ text-init c =
       onward = c.requires.onward;
       furthest = c.requires.furthest;
       leads = subst (λ xs. Leads Q (place_of c.args.source.now c.args.start) Q (place_of c.args.source.now c.args.stop) xs)
-        (sym (ap chars (c.in_ok-push_str.ensures.bytes ∙ ap (λ v. v ++ c.text_between.result.now) c.new-text.ensures.bytes) ∙ c.text_between.ensures))
-        (quote_run _ _ _ c.requires.run);
+          (sym (ap chars (c.in_ok-push_str.ensures.bytes ∙ ap (λ v. v ++ c.text_between.result.now) c.new-text.ensures.bytes) ∙ c.text_between.ensures))
+          (quote_run _ _ _ c.requires.run);
     }
 
 pub returns-in-Some-clause-reads : goal.returns-in-Some-clause-reads
@@ -54,5 +54,5 @@ text-preserved c =
       onward = omega (arith, i.onward, e.onward, v.onward);
       furthest = v.furthest;
       leads = subst (λ xs. Leads Q (place_of c.args.source.now c.args.start) Q (place_of c.args.source.now c.skip_verbatim-to.result) xs) (sym now)
-        (leads_on (leads_on i.leads (quote_more _ _ _ _ (escape_only _ _ _ _ e.reads))) (quote_run _ _ _ v.run));
+          (leads_on (leads_on i.leads (quote_more _ _ _ _ (escape_only _ _ _ _ e.reads))) (quote_run _ _ _ v.run));
     }
