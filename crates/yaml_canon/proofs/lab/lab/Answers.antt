@@ -1,5 +1,5 @@
 use Rattle.yaml_canon.proofs.ScalarLemmas.{same_char}
-use Rattle.yaml_canon.proofs.FlowLemmas.{char_start}
+use Rattle.yaml_canon.proofs.FirstOnce.{first_once}
 use Rattle.std.proofs.Common.{refl}
 use Rattle.yaml_canon.proofs.lab.lab.Goals as goal
 
