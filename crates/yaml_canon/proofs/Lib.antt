@@ -1,5 +1,10 @@
+pub mod Leads
+pub mod AnswerLemmas
+pub mod ScalarLemmas
+pub mod FlowLemmas
+pub mod FirstOnce
 pub mod FirstInside
 pub mod Derivation
 pub mod Spelled
-pub mod SimpleTrees
 pub mod FirstDocuments
+pub mod SimpleTrees

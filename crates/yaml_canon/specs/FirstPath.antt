@@ -15,6 +15,10 @@ is_verbatim c = is_nb c && not (c == 34) && not (c == 92)
 unfoldable pub digit_count : ℕ → Option ℕ
 digit_count c = if c == 120 then Some 2 else if c == 117 then Some 4 else if c == 85 then Some 8 else None
 
+-- a stream of one document, whose node has these events
+abbrev pub first_events : List Event → List Event
+first_events es = stream_start ∷ document_start true ∷ (es ++ (document_end false ∷ stream_end ∷ []))
+
 module _ (cs : List ℕ) where
   -- any spaces
   abbrev pub spaces : Span
@@ -71,9 +75,6 @@ module _ (cs : List ℕ) where
 
   abbrev pub document : Rule (List Event)
   document = chr cs 45 ▸ chr cs 45 ▸ chr cs 45 ▸ chr cs 32 ▸ spaces ▸ content
-
-  abbrev pub first_events : List Event → List Event
-  first_events es = stream_start ∷ document_start true ∷ (es ++ (document_end false ∷ stream_end ∷ []))
 
   -- the whole text is such a stream, with these events
   unfoldable pub ReadsFirst : List Event → Type 0

@@ -2,4 +2,5 @@
 #![tactic(auto)]
 
 mod comparer;
+mod reader;
 mod tree;

@@ -1,0 +1,250 @@
+use crate::reader::read_events;
+use std::alloc::Global;
+use std::borrow::CowStr;
+use std::test::Fail;
+use yaml_text::chars::Chars;
+use yaml_text::event::{Event, EventTag, Style};
+use yaml_text::fault::Fault;
+
+/// Brackets for the sequences of an input and their ends, and its scalars between angles.
+fn shown(alloc: Global, input: &str) -> Result<String, Fault> {
+    let source = Chars::read(input.as_bytes())?;
+    let mut shown = String::new(alloc);
+    for event in read_events(alloc, &source)?.iter() {
+        match event {
+            Event::SequenceStart { .. } => shown.push_str("[")?,
+            Event::SequenceEnd => shown.push_str("]")?,
+            Event::Scalar { text, .. } => {
+                shown.push_str("<")?;
+                shown.push_str(text.as_str())?;
+                shown.push_str(">")?;
+            }
+            _ => {}
+        }
+    }
+    Ok(shown)
+}
+
+#[test]
+fn reads_sequences_and_scalars(rt: HostRuntime) -> Result<(), Fail> {
+    for (input, want) in [
+        ("--- [\"x\",[ \"y\" ],[]]\n", "[<x>[<y>][]]"),
+        ("--- \"\\x41\\/\"", "<A/>"),
+        ("--- [\"x\",]", "[<x>]"),
+        ("--- [\"x\", \"x\"]", "[<x><x>]"),
+        ("---  [ \"x\" , [  ] , ]  \r\n", "[<x>[]]"),
+        ("--- []\r", "[]"),
+        ("--- \"\"", "<>"),
+        ("--- \"a b\tc\u{e9}\u{1f600}\"  ", "<a b\tc\u{e9}\u{1f600}>"),
+        ("\u{feff}--- \"x\"", "<x>"),
+    ] {
+        assert_eq!(rt;
+            shown(rt.alloc(), input),
+            Ok(String::from_str(rt.alloc(), want)?),
+            "at {input}"
+        );
+    }
+    Ok(())
+}
+
+#[test]
+fn reads_each_escape(rt: HostRuntime) -> Result<(), Fail> {
+    for (input, want) in [
+        (
+            "--- \"\\0\\a\\b\\t\\\t\\n\\v\\f\\r\\e\"",
+            "<\0\x07\x08\t\t\n\x0b\x0c\r\x1b>",
+        ),
+        (
+            "--- \"\\ \\\"\\/\\\\\\N\\_\\L\\P\"",
+            "< \"/\\\u{85}\u{a0}\u{2028}\u{2029}>",
+        ),
+        (
+            "--- \"a\\x41b\\u00e9\\u00E9c\\U0001F600d\"",
+            "<aAb\u{e9}\u{e9}c\u{1f600}d>",
+        ),
+        (
+            "--- \"\\U0010FFFF\\uD7FF\\uE000\"",
+            "<\u{10ffff}\u{d7ff}\u{e000}>",
+        ),
+    ] {
+        assert_eq!(rt;
+            shown(rt.alloc(), input),
+            Ok(String::from_str(rt.alloc(), want)?),
+            "at {input}"
+        );
+    }
+    Ok(())
+}
+
+#[test]
+fn names_the_first_character_that_cannot_be_used(rt: HostRuntime) {
+    for (input, want) in [
+        ("", 0),
+        ("-", 1),
+        ("--", 2),
+        ("---", 3),
+        ("---\n", 3),
+        ("---x", 3),
+        ("\t--- \"x\"", 0),
+        ("--- ", 4),
+        ("--- x", 4),
+        ("--- 'x'", 4),
+        ("--- [,]", 5),
+        ("--- \"x", 6),
+        ("--- \"x\n\"", 6),
+        ("--- \"x\r\"", 6),
+        ("--- \"\\x41", 9),
+        ("--- \"\\\n\"", 6),
+        ("--- [\"x\",,]", 9),
+        ("--- [\"x\" \"y\"]", 9),
+        ("--- [\n]", 5),
+        ("--- [", 5),
+        ("--- [\"x\"", 8),
+        ("--- [\"x\",", 9),
+        ("--- [\"x\": \"y\"]", 8),
+        ("--- {}", 4),
+        ("--- \"x\"y", 7),
+        ("--- \"x\" # c", 8),
+        ("--- \"x\"\n\n", 8),
+        ("--- \"x\"\r\n\n", 9),
+        ("--- \"x\"\n--- \"y\"", 8),
+        ("--- \"x\"\n...", 8),
+        ("--- \"x\"\n\t", 8),
+        ("\u{feff}--- [,]", 8),
+    ] {
+        assert_eq!(rt;
+            shown(rt.alloc(), input),
+            Err(Fault::Syntax(want)),
+            "at {input}"
+        );
+    }
+}
+
+#[test]
+fn refuses_a_tab_where_separation_stands(rt: HostRuntime) {
+    for (input, want) in [
+        ("---\t\"x\"", 3),
+        ("--- \t\"x\"", 4),
+        ("--- [\t]", 5),
+        ("--- [\"x\"\t]", 8),
+        ("--- [\"x\",\t\"y\"]", 9),
+        ("--- [\"x\" \t]", 9),
+        ("--- \"x\"\t", 7),
+        ("--- \"x\" \t", 8),
+        ("\u{feff}---\t\"x\"", 6),
+    ] {
+        assert_eq!(rt;
+            shown(rt.alloc(), input),
+            Err(Fault::Tab(want)),
+            "at {input}"
+        );
+    }
+}
+
+#[test]
+fn refuses_what_is_no_escape(rt: HostRuntime) {
+    for (input, want) in [
+        ("--- \"\\q\"", 5),
+        ("--- \"ab\\'\"", 7),
+        ("--- \"\\", 5),
+        ("--- \"\\u12", 5),
+        ("--- \"\\x4\"", 5),
+        ("--- \"\\x4g\"", 5),
+        ("--- \"\\u+123\"", 5),
+        ("--- \"\\ud800\"", 5),
+        ("--- \"\\uDFFF\"", 5),
+        ("--- \"\\U00110000\"", 5),
+        ("--- \"\\UFFFFFFFF\"", 5),
+        ("--- [\"\u{e9}\\X41\"]", 8),
+    ] {
+        assert_eq!(rt;
+            shown(rt.alloc(), input),
+            Err(Fault::BadEscape(want)),
+            "at {input}"
+        );
+    }
+}
+
+/// `---`, a space, and so many opening and closing brackets.
+fn nested(alloc: Global, count: usize) -> Result<String, Fault> {
+    let mut text = String::new(alloc);
+    text.push_str("--- ")?;
+    for _ in 0..count {
+        text.push_str("[")?;
+    }
+    for _ in 0..count {
+        text.push_str("]")?;
+    }
+    Ok(text)
+}
+
+#[test]
+fn opens_128_collections_at_most(rt: HostRuntime) -> Result<(), Fail> {
+    let deep = nested(rt.alloc(), 128)?;
+    assert_eq!(rt; shown(rt.alloc(), deep.as_str()).is_ok(), true);
+    let deeper = nested(rt.alloc(), 129)?;
+    assert_eq!(rt;
+        shown(rt.alloc(), deeper.as_str()),
+        Err(Fault::TooDeep(132))
+    );
+    Ok(())
+}
+
+#[test]
+fn gives_the_whole_stream_and_borrows_what_has_no_escape(rt: HostRuntime) -> Result<(), Fail> {
+    let source = Chars::read("--- [\"x\",\"\\x79\"]".as_bytes())?;
+    let events = read_events(rt.alloc(), &source)?;
+    assert_eq!(rt; events.len(), 8);
+    assert_eq!(rt; events[0], Event::StreamStart);
+    assert_eq!(rt; events[1], Event::DocumentStart { explicit: true });
+    assert_eq!(rt;
+        events[2],
+        Event::SequenceStart {
+            flow: true,
+            anchor: None,
+            tag: EventTag::None
+        }
+    );
+    assert_eq!(rt;
+        events[3],
+        Event::Scalar {
+            anchor: None,
+            tag: EventTag::None,
+            style: Style::Double,
+            text: CowStr::Borrowed("x")
+        }
+    );
+    assert_eq!(rt;
+        matches!(
+            events[3],
+            Event::Scalar {
+                text: CowStr::Borrowed(_),
+                ..
+            }
+        ),
+        true
+    );
+    assert_eq!(rt;
+        events[4],
+        Event::Scalar {
+            anchor: None,
+            tag: EventTag::None,
+            style: Style::Double,
+            text: CowStr::Borrowed("y")
+        }
+    );
+    assert_eq!(rt;
+        matches!(
+            events[4],
+            Event::Scalar {
+                text: CowStr::Owned(_),
+                ..
+            }
+        ),
+        true
+    );
+    assert_eq!(rt; events[5], Event::SequenceEnd);
+    assert_eq!(rt; events[6], Event::DocumentEnd { explicit: false });
+    assert_eq!(rt; events[7], Event::StreamEnd);
+    Ok(())
+}
