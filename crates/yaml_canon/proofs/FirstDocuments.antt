@@ -14,6 +14,7 @@ use Rattle.yaml_text.specs.grammar.Laws.{FromDocuments}
 use Rattle.yaml_text.proofs.FlatLaws.{stream_once}
 use Rattle.yaml_text.proofs.grammar.Documents.{readings_are_documents}
 use Rattle.yaml_canon.specs.FirstPath.{comma, item, node, ReadsFirst}
+use Rattle.yaml_canon.specs.FirstDocument.{FirstDocument}
 use Rattle.yaml_canon.specs.SimpleMarks.{Simple, AllSimple}
 use Rattle.yaml_canon.proofs.Derivation.{flat_more, all_more}
 use Rattle.yaml_canon.proofs.FirstInside.{first_inside}
@@ -81,13 +82,6 @@ module _ (cs : List ℕ) where
       let t : SomeNodes zs = subst SomeNodes (append-nil zs) (more_nodes zs [] (node_told room c p zs last) (end_marks, refl, tt)) in
       let n : SomeNodes xs = subst SomeNodes (sym k) (joined_nodes ys zs (items_told room (node_told room) c b ys more) t) in
       (sequence_at None untagged true n.0, l ∙ ap (λ v. sequence_start true None untagged ∷ v) (ap (λ v. v ++ sequence_end ∷ []) n.1 ∙ sym (all_more n.0 [] (sequence_end ∷ []))), (refl, refl, refl, n.2))
-
--- what the bytes of such a stream are read as
-pub record FirstDocument (bytes : List ℕ) (es : List Event) : Type 0 where
-  pub root : Marked
-  pub events : es ≡ stream_events (document_of root ∷ [])
-  pub simple : Simple root
-  pub reads : Reads bytes es
 
 pub first_documents : (bytes cs : List ℕ) (es : List Event) → Text bytes cs → ReadsFirst cs es → FirstDocument bytes es
 unfolding ReadsFirst Reads stream_events

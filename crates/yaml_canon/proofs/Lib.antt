@@ -8,3 +8,5 @@ pub mod Derivation
 pub mod Spelled
 pub mod FirstDocuments
 pub mod SimpleTrees
+pub mod FirstClaims
+pub mod ReadingAnswers

@@ -4,3 +4,4 @@ pub mod Claims
 pub mod FirstPath
 pub mod FirstAnswer
 pub mod SimpleMarks
+pub mod FirstDocument

@@ -3,4 +3,5 @@
 
 mod comparer;
 mod reader;
+mod reading;
 mod tree;

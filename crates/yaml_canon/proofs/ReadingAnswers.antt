@@ -1,0 +1,45 @@
+-- What the reader's answer says of the bytes.
+use Rattle.std.proofs.Common.{◌≡◌, ℕ, List, [], ◌∷◌, map, IfOk, IfErr, MatchResult, Result, Ok, Err, refl, sym, ◌∙◌, subst}
+use Rattle.std.specs.Result.{result_map_both}
+use Rattle.yaml_text.specs.Tree.{Tree}
+use Rattle.yaml_text.specs.Text.{Text, RefusesText}
+use Rattle.yaml_text.specs.Proper.{Admitted}
+use Rattle.yaml_text.specs.Spell.{spell, spell_bytes, spelled}
+use Rattle.yaml_text.specs.Event.{Event}
+use Rattle.yaml_text.specs.declared.fault.Fault.{Fault}
+use Rattle.yaml_text.specs.declared.fault.Fault.TheVariants as fault
+use Rattle.yaml_text.proofs.PrintLaws.{spelled_text}
+use Rattle.yaml_text.proofs.RefusedText.{refused_is_no_text}
+use Rattle.yaml_canon.specs.Among.{OnFirstPath, Unrepeated}
+use Rattle.yaml_canon.specs.FirstAnswer.{ReadsAll}
+use Rattle.yaml_canon.specs.FirstPath.{ReadsFirst}
+use Rattle.yaml_canon.specs.FirstDocument.{FirstDocument}
+use Rattle.yaml_canon.proofs.FirstDocuments.{first_documents}
+use Rattle.yaml_canon.proofs.FirstClaims.{spelling_text, spelling_read}
+
+-- `events` are those of an answer
+module _ {X : Type 0} (events : X → List Event) (bytes cs : List ℕ) where
+  abbrev Answered : Result X Fault → Type 0
+  Answered r = ReadsAll (ReadsFirst cs) (result_map_both events (λ e. e) r)
+
+  pub answer_read : (r : Result X Fault) → Text bytes cs → Answered r → IfOk r (λ v. FirstDocument bytes (events v))
+  answer_read (Ok v) t a = first_documents bytes cs (events v) t a.0
+  answer_read (Err e) t a = tt
+
+  pub answer_spelled : (r : Result X Fault) → Text bytes cs → Answered r → (f : List Tree) → OnFirstPath f → Unrepeated f → Admitted f → bytes ≡ spell_bytes f
+      → MatchResult r (λ v. events v ≡ spelled f) (λ e. e ≡ fault.OutOfMemory)
+  answer_spelled r t a f o u d e = by r a
+    where
+      there : ReadsFirst cs (spelled f)
+      there = subst (λ z. ReadsFirst z (spelled f)) (sym (spelling_text bytes cs f d e t)) (spelling_read f o u d)
+      by : (r : Result X Fault) → Answered r → MatchResult r (λ v. events v ≡ spelled f) (λ e. e ≡ fault.OutOfMemory)
+      by (Ok v) a = sym (a.1 (spelled f) there)
+      by (Err fault.OutOfMemory) a = refl
+      by (Err (fault.Syntax at)) a = absurd (a (spelled f) there)
+      by (Err (fault.Tab at)) a = absurd (a (spelled f) there)
+      by (Err (fault.TooDeep at)) a = absurd (a (spelled f) there)
+      by (Err (fault.BadEscape at)) a = absurd (a (spelled f) there)
+      by (Err _) a = absurd a
+
+pub spelling_unrefused : (bytes : List ℕ) (e : Fault) (f : List Tree) → RefusesText bytes e → Admitted f → bytes ≡ spell_bytes f → ⊥
+spelling_unrefused bytes e f r a q = refused_is_no_text bytes (spell f) e r (subst (λ b. Text b (spell f)) (sym q) (spelled_text f a))
