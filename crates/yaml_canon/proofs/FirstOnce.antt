@@ -74,6 +74,6 @@ first_once cs es fs (gs, (a, (h, e), (b, (h', e'), (c, (h'', e''), (d, (g, f), (
     let free : slice_get cs m ≢ Some 32 = content_first cs m (length cs) gs (x, n, t) in
     let R = content cs in
     let start : Leads (document cs) 0 R m [] =
-        leads_on (leads_on (leads_on (leads_on (char_start cs (chr cs 45 ▸ chr cs 45 ▸ chr cs 32 ▸ spaces cs ▸ R) 0 a 45 h e) (char_start cs (chr cs 45 ▸ chr cs 32 ▸ spaces cs ▸ R) a b 45 h' e')) (char_start cs (chr cs 32 ▸ spaces cs ▸ R) b c 45 h'' e'')) (char_start cs (spaces cs ▸ R) c d 32 g f))
-        (spaces_start cs R d m s free (content_first cs)) in
+    leads_on (leads_on (leads_on (leads_on (char_start cs (chr cs 45 ▸ chr cs 45 ▸ chr cs 32 ▸ spaces cs ▸ R) 0 a 45 h e) (char_start cs (chr cs 45 ▸ chr cs 32 ▸ spaces cs ▸ R) a b 45 h' e')) (char_start cs (chr cs 32 ▸ spaces cs ▸ R) b c 45 h'' e'')) (char_start cs (spaces cs ▸ R) c d 32 g f))
+    (spaces_start cs R d m s free (content_first cs)) in
     w ∙ sym ((text_read cs m x gs start (node_each cs open_limit m x gs n) t).1 fs other)

@@ -32,6 +32,7 @@ module _ {X : Type 0} (events : X → List Event) (bytes cs : List ℕ) where
     where
       there : ReadsFirst cs (spelled f)
       there = subst (λ z. ReadsFirst z (spelled f)) (sym (spelling_text bytes cs f d e t)) (spelling_read f o u d)
+
       by : (r : Result X Fault) → Answered r → MatchResult r (λ v. events v ≡ spelled f) (λ e. e ≡ fault.OutOfMemory)
       by (Ok v) a = sym (a.1 (spelled f) there)
       by (Err fault.OutOfMemory) a = refl

@@ -116,10 +116,21 @@ spellings_read t a f h =
     let before : Inline cs i = (omega arith, (one_on cs (0 + 1 + 1 + 1) i 32 refl (at_get cs (0 + 1 + 1 + 1) 32 _ a3) refl).1 (i - 1) (omega arith) (omega arith)) in
     let inline : Inline cs n.0 = inline_on cs i n.0 before (node_on cs 128 i n.0 (flat m []) n.1) in
     let ends : brk cs n.0 (n.0 + 1) = inr (inr (n.0, (refl, λ r. inline.1 (return_breaks cs (n.0 - 1) r.1)), (at_get cs n.0 10 [] n.2, refl))) in
-    let read : document cs 0 (n.0 + 1) (flat m []) =
-    (0 + 1, (at_get cs 0 45 _ a0, refl),
-    (0 + 1 + 1, (at_get cs (0 + 1) 45 _ a1, refl),
-    (0 + 1 + 1 + 1, (at_get cs (0 + 1 + 1) 45 _ a2, refl),
-    (i, (at_get cs (0 + 1 + 1 + 1) 32 _ a3, refl),
-    (i, none cs i, (n.0, n.1, (n.0, none cs n.0, inr ends))))))) in
+    let read : document cs 0 (n.0 + 1) (flat m []) = (
+      0 + 1,
+      (at_get cs 0 45 _ a0, refl),
+      (
+        0 + 1 + 1,
+        (at_get cs (0 + 1) 45 _ a1, refl),
+        (
+          0 + 1 + 1 + 1,
+          (at_get cs (0 + 1 + 1) 45 _ a2, refl),
+          (
+            i,
+            (at_get cs (0 + 1 + 1 + 1) 32 _ a3, refl),
+            (i, none cs i, (n.0, n.1, (n.0, none cs n.0, inr ends))),
+          ),
+        ),
+      ),
+    ) in
     (flat m [], subst (λ j. document cs 0 j (flat m [])) e read, λ z. stream_start ∷ document_start true ∷ flat_more m [] (document_end false ∷ stream_end ∷ []) z)

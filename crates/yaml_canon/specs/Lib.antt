@@ -5,3 +5,6 @@ pub mod FirstPath
 pub mod FirstAnswer
 pub mod SimpleMarks
 pub mod FirstDocument
+pub mod SecondPath
+pub mod PlainMarks
+pub mod PlainTrees
