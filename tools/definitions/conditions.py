@@ -14,7 +14,7 @@ HERE = os.path.dirname(os.path.abspath(__file__))
 SPECS = os.path.join(HERE, '..', '..', 'crates', 'yaml_text', 'specs')
 
 # the sentence, the definition where it stands, the edits that drop it (file, old, new), texts that are then read twice
-Condition = collections.namedtuple('Condition', 'sentence place edits texts profile', defaults=(1,))
+Condition = collections.namedtuple('Condition', 'sentence place edits texts wide', defaults=(False,))
 
 CONDITIONS = [
     Condition(
@@ -76,9 +76,9 @@ CONDITIONS = [
           '(reads cs Wide handles room (block_part 0 block_in) ∪ gives (empty no_props))')],
         ['']),
     Condition(
-        'profile 2: ? is followed by separate', 'explicit',
+        'in the wide profile ? is followed by separate', 'explicit',
         [('Nodes', '(chr cs 63 ◆ separate cs n c)', '(chr cs 63 ◆ maybe (separate cs n c))')],
-        ['{?a}'], 2),
+        ['{?a}'], True),
     Condition(
         'the first alternative of a block node at n + 1', 'block_node',
         [('Nodes', '(separate cs col flow_out ▸ flow_node col flow_out ◂', '(separate cs (col - 1) flow_out ▸ flow_node (col - 1) flow_out ◂')],
@@ -109,7 +109,7 @@ CONDITIONS = [
 def numbers_of_readings(condition):
     """How many event lists each text has, by the definitions that SPECS names."""
     import shadow
-    return [len(shadow.event_lists(s, condition.profile)) for s in condition.texts]
+    return [len(shadow.event_lists(s, condition.wide)) for s in condition.texts]
 
 
 def without(condition, folder):

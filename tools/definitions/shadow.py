@@ -7,10 +7,12 @@ of its ends with their values. Written by hand are the combinators of Rules.antt
 variable SPECS names another folder of definitions.
 
     python3 shadow.py dump                              each clause beside the Python that it becomes
-    python3 shadow.py events FILE [PROFILE]             the events of every reading of a file, in profile 1 or 2
-    python3 shadow.py short ALPHABET LENGTH [PREFIX [PROFILE]]
+    python3 shadow.py events FILE [wide]                the events of every reading of a file
+    python3 shadow.py short ALPHABET LENGTH [PREFIX [wide]]
                                                         runs each text of at most LENGTH characters after the prefix, and
                                                         tells which have two event lists; escapes as in Python
+
+`wide` reads `?` keys and empty keys in flow collections too.
 """
 import itertools
 import os
@@ -894,8 +896,8 @@ def as_line(event):
     raise ValueError(event)
 
 
-def event_lists(s, profile=1, room=128):
-    return frozenset(tuple(map(as_line, events)) for events in readings(s, profile == 2, room))
+def event_lists(s, wide=False, room=128):
+    return frozenset(tuple(map(as_line, events)) for events in readings(s, wide, room))
 
 
 # ------------------------------------------------------------------ the command
@@ -906,9 +908,9 @@ def dump():
         print('# %s\n%s = %s\n' % (clause, name, code))
 
 
-def show_events(file, profile='1'):
+def show_events(file, wide=''):
     with open(file, newline='', encoding='utf-8') as f:
-        for events in event_lists(f.read(), int(profile)):
+        for events in event_lists(f.read(), wide == 'wide'):
             for e in events:
                 print(e)
             print('--')
@@ -924,11 +926,11 @@ def unescaped(s):
     return s.encode('latin-1', 'backslashreplace').decode('unicode_escape')
 
 
-def short(alphabet, longest, prefix='', profile='1'):
+def short(alphabet, longest, prefix='', wide=''):
     texts = read = 0
     twice = []
     for s in short_texts(unescaped(alphabet), int(longest), unescaped(prefix)):
-        lists = event_lists(s, int(profile))
+        lists = event_lists(s, wide == 'wide')
         texts, read = texts + 1, read + bool(lists)
         if len(lists) > 1:
             twice.append(s)

@@ -27,7 +27,7 @@ piece_events (document_piece explicit es ∷ ps) = document_start explicit ∷ (
 unfoldable pub stream_events : List Piece → List Event
 stream_events ps = stream_start ∷ (piece_events ps ++ (stream_end ∷ []))
 
--- Wide says whether profile 2 is read, room how many collections may be open.
+-- Wide says whether `?` keys and empty keys are read in flow collections, room how many collections may be open.
 module _ (cs : List ℕ) (Wide : Type 0) (room : ℕ) where
   -- 9.1.2: three of these characters, at column 0
   unfoldable pub document_mark : ℕ → Span
