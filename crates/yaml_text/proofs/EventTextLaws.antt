@@ -3,7 +3,7 @@ use Rattle.std.proofs.Common.{◌≡◌, ◌<◌, ℕ, ◌+◌, ◌*◌, ◌==�
 use Rattle.std.proofs.lemmas.Bool.{cond_both, eqb-true, ltb-true, ltb-false}
 use Rattle.std.proofs.lemmas.Bool.Decides.{nat_tests}
 use Rattle.std.proofs.lemmas.Str.{encodes-chars, scalars-chars, IsUtf8-from_is_utf8}
-use Rattle.std.proofs.lemmas.List.Elements.{All-head, All-tail}
+use Rattle.std.proofs.lemmas.List.Elements.{All-nil, All-cons, All-head, All-tail}
 use Rattle.std.specs.Prelude.{codes, bytes_eq}
 use Rattle.std.specs.List.{list_all, All}
 use Rattle.std.specs.Str.{chars, is_utf8}
@@ -15,11 +15,12 @@ use Rattle.yaml_text.specs.Tag.{is_full, IsTag}
 use Rattle.yaml_text.specs.grammar.Characters.{is_uri, is_word, is_nb, is_break, is_white, is_ns}
 use Rattle.yaml_text.specs.grammar.Tags.{is_name}
 use Rattle.yaml_text.specs.Event.{Style, plain, single, double, literal, folded, WrittenTag, untagged, non_specific, full, Anchor, Event, stream_start, stream_end, document_start, document_end, sequence_start, sequence_end, mapping_start, mapping_end, scalar_event, alias_event}
+use Rattle.yaml_text.specs.Marked.{Marked, AllMarked, MarkedPairs, alias, scalar_at, sequence_at, mapping_at, end_marks, item_mark, done_marks, entry_marks, flat, flat_all, flat_pairs, Document, documents_events, stream_events}
 use Rattle.yaml_text.specs.TagText.{spell_byte, encoded}
 use Rattle.yaml_text.specs.Text.{is_text}
-use Rattle.yaml_text.specs.Sound.{SoundTag}
-use Rattle.yaml_text.specs.EventText.{value_byte, value_text, style_text, anchor_part, tag_part, flag_text, event_line, events_text, is_anchor, IsAnchor, SoundAnchor, IsSound, EventText}
-use Rattle.yaml_text.specs.Laws.{EventTextTells, EventsHaveOneText}
+use Rattle.yaml_text.specs.Sound.{SoundTag, is_anchor_char, is_anchor, IsAnchor, SoundAnchor, Sound, AllSound, PairsSound, DocumentsSound}
+use Rattle.yaml_text.specs.EventText.{value_byte, value_text, style_text, anchor_part, tag_part, flag_text, event_line, events_text, IsSound, EventText}
+use Rattle.yaml_text.specs.Laws.{EventTextTells, EventsHaveOneText, SoundEventsHaveText}
 use Rattle.yaml_text.proofs.Members.{and_both}
 use Rattle.yaml_text.proofs.CharLaws.{heads, tails}
 use Rattle.yaml_text.proofs.TagLaws.{AreBytes, encoded_once, encoded_more}
@@ -51,11 +52,11 @@ name_no_feed : is_name 10 ≡ false
 unfolding is_name is_ns is_nb is_break is_white
 name_no_feed = refl
 
-inner_encodes : (cs : List ℕ) → scalars cs ≡ true → list_all (λ c. is_text c && is_name c) cs ≡ true → Inner (encodes cs)
+inner_encodes : (cs : List ℕ) → scalars cs ≡ true → list_all is_anchor_char cs ≡ true → Inner (encodes cs)
 inner_encodes [] h k = tt
 inner_encodes (c ∷ cs) h k =
     let p = and_both (scalar c) (scalars cs) h in
-    let q = and_both (is_text c && is_name c) (list_all (λ c. is_text c && is_name c) cs) k in
+    let q = and_both (is_text c && is_name c) (list_all is_anchor_char cs) k in
     let n = (and_both (is_text c) (is_name c) q.0).1 in
     inner_append (encode c) (encodes cs)
     (inner_encode c (low c p.0) (λ e. let f : is_name 32 ≡ true = subst (λ z. is_name z ≡ true) e n in let g = sym f ∙ name_no_space in absurd (cc))
@@ -65,8 +66,8 @@ inner_encodes (c ∷ cs) h k =
 inner_name : (name : List ℕ) → IsAnchor name → Inner name
 unfolding is_anchor
 inner_name name h =
-    let p = and_both (is_utf8 name) (nat_le 1 (length name) && list_all (λ c. is_text c && is_name c) (chars name)) h in
-    let q = and_both (nat_le 1 (length name)) (list_all (λ c. is_text c && is_name c) (chars name)) p.1 in
+    let p = and_both (is_utf8 name) (nat_le 1 (length name) && list_all is_anchor_char (chars name)) h in
+    let q = and_both (nat_le 1 (length name)) (list_all is_anchor_char (chars name)) p.1 in
     let u = IsUtf8-from_is_utf8 name p.0 in
     subst Inner (encodes-chars name u) (inner_encodes (chars name) (scalars-chars name u) q.1)
 
@@ -356,3 +357,37 @@ event_text_tells text es fs a b = text_once es fs a.sound b.sound (sym a.lines �
 
 pub events_have_one_text : EventsHaveOneText
 events_have_one_text x y es a b = a.lines ∙ sym b.lines
+
+-- ---- sound documents have a text
+
+first : (e : Event) (es : List Event) → IsSound e → All IsSound es → All IsSound (e ∷ es)
+first = All-cons IsSound
+
+mutual
+  unfolding flat
+
+  node_sound : (m : Marked) (more : List Event) → Sound m → All IsSound more → All IsSound (flat m more)
+  node_sound (alias name) more s h = first (alias_event name) more s h
+  node_sound (scalar_at a g y x) more s h = first (scalar_event a g y x) more s h
+  node_sound (sequence_at a g b ts) more s h = first (sequence_start b a g) _ (s.0, s.1) (items_sound ts (sequence_end ∷ more) s.2 (first sequence_end more tt h))
+  node_sound (mapping_at a g b ps) more s h = first (mapping_start b a g) _ (s.0, s.1) (pairs_sound ps (mapping_end ∷ more) s.2 (first mapping_end more tt h))
+
+  items_sound : (ts : AllMarked) (more : List Event) → AllSound ts → All IsSound more → All IsSound (flat_all ts more)
+  items_sound end_marks more s h = h
+  items_sound (item_mark t ts) more s h = node_sound t (flat_all ts more) s.0 (items_sound ts more s.1 h)
+
+  pairs_sound : (ps : MarkedPairs) (more : List Event) → PairsSound ps → All IsSound more → All IsSound (flat_pairs ps more)
+  pairs_sound done_marks more s h = h
+  pairs_sound (entry_marks k v ps) more s h = node_sound k (flat v (flat_pairs ps more)) s.0 (node_sound v (flat_pairs ps more) s.1 (pairs_sound ps more s.2 h))
+
+documents_sound : (ds : List Document) (more : List Event) → DocumentsSound ds → All IsSound more → All IsSound (documents_events ds more)
+documents_sound [] more s h = h
+documents_sound (d ∷ ds) more s h =
+    first (document_start d.starts) _ tt (node_sound d.root _ s.0 (first (document_end d.ends) (documents_events ds more) tt (documents_sound ds more s.1 h)))
+
+pub sound_events_have_text : SoundEventsHaveText
+unfolding stream_events
+sound_events_have_text ds s = record {
+  sound = first stream_start _ tt (documents_sound ds (stream_end ∷ []) s (first stream_end [] tt (All-nil IsSound)));
+  lines = refl;
+}

@@ -20,6 +20,7 @@ pub mod Law
 pub mod TreeLaws
 pub mod ContentLaws
 pub mod EventTextLaws
+pub mod MeaningLaws
 pub mod NumberLaws
 pub mod BlockTextLaws
 pub mod examples

@@ -103,21 +103,21 @@ module _ (seq_is : IsTag (default_tag 1)) (map_is : IsTag (default_tag 2))
     unfold_proper (scalar_at a g y x) e at z s h q =
         let b = bind (placed at (resolve g y x)) _ z q in
         let r = unplaced at (resolve g y x) b.0 b.1 in
-        let p = sound g y x b.0.0 b.0.1 s.0 s.1 r in
+        let p = sound g y x b.0.0 b.0.1 s.1 s.2 r in
         let t : IsProper (scalar b.0.0 b.0.1) = (p.0, p.1, resolved_again g y x b.0.0 b.0.1 r) in
         subst Good (ok_one _ z b.2) (t, close_proper a (length e) (scalar b.0.0 b.0.1) (opened a e) (open_proper a e h) t)
     unfold_proper (sequence_at a g f ts) e at z s h q =
         let b = bind (placed at (collection_tag 1 g)) _ z q in
-        let r = collection_again 1 g b.0 seq_is s.0 (unplaced at (collection_tag 1 g) b.0 b.1) in
+        let r = collection_again 1 g b.0 seq_is s.1 (unplaced at (collection_tag 1 g) b.0 b.1) in
         let c = bind (unfold_all ts (opened a e) (suc at)) _ z b.2 in
-        let i = items_proper ts (opened a e) (suc at) c.0 s.1 (open_proper a e h) c.1 in
+        let i = items_proper ts (opened a e) (suc at) c.0 s.2 (open_proper a e h) c.1 in
         let t : IsProper (sequence b.0 c.0.0) = (r.0, r.1, i.0) in
         subst Good (ok_one _ z c.2) (t, close_proper a (length e) (sequence b.0 c.0.0) c.0.1 i.1 t)
     unfold_proper (mapping_at a g f ps) e at z s h q =
         let b = bind (placed at (collection_tag 2 g)) _ z q in
-        let r = collection_again 2 g b.0 map_is s.0 (unplaced at (collection_tag 2 g) b.0 b.1) in
+        let r = collection_again 2 g b.0 map_is s.1 (unplaced at (collection_tag 2 g) b.0 b.1) in
         let c = bind (unfold_pairs ps (opened a e) (suc at)) _ z b.2 in
-        let i = pairs_proper ps (opened a e) (suc at) c.0 s.1 (open_proper a e h) c.1 in
+        let i = pairs_proper ps (opened a e) (suc at) c.0 s.2 (open_proper a e h) c.1 in
         let t : IsProper (mapping b.0 c.0.0) = (r.0, r.1, i.0) in
         subst Good (ok_one _ z c.2) (t, close_proper a (length e) (mapping b.0 c.0.0) c.0.1 i.1 t)
 

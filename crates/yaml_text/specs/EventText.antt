@@ -1,13 +1,11 @@
 -- The text of events, in yaml-test-suite's notation: a line of bytes for each event, ended by LF.
-use Rattle.std.specs.Prelude.{◌≡◌, ℕ, Bool, true, cond, ◌&&◌, ◌==◌, if◌then◌else◌, List, [], ◌∷◌, ◌++◌, codes, length, nat_le}
-use Rattle.std.specs.List.{list_all, All}
-use Rattle.std.specs.Str.{chars, is_utf8}
+use Rattle.std.specs.Prelude.{◌≡◌, ℕ, Bool, true, cond, ◌==◌, if◌then◌else◌, List, [], ◌∷◌, ◌++◌, codes}
+use Rattle.std.specs.List.{All}
+use Rattle.std.specs.Str.{is_utf8}
 use Rattle.std.specs.declared.option.Option.TheVariants.{None, Some}
-use Rattle.yaml_text.specs.grammar.Tags.{is_name}
 use Rattle.yaml_text.specs.Event.{Style, plain, single, double, literal, folded, WrittenTag, untagged, non_specific, full, Anchor, Event, stream_start, stream_end, document_start, document_end, sequence_start, sequence_end, mapping_start, mapping_end, scalar_event, alias_event}
-use Rattle.yaml_text.specs.Sound.{SoundTag}
+use Rattle.yaml_text.specs.Sound.{SoundTag, IsAnchor, SoundAnchor}
 use Rattle.yaml_text.specs.TagText.{encoded}
-use Rattle.yaml_text.specs.Text.{is_text}
 
 -- ---- the lines
 
@@ -63,17 +61,6 @@ events_text [] = []
 events_text (e ∷ es) = event_line e ++ (10 ∷ events_text es)
 
 -- ---- the events that have a text
-
--- UTF-8 of one or more anchor characters (6.9.2), each one that a text may hold
-unfoldable pub is_anchor : List ℕ → Bool
-is_anchor name = is_utf8 name && (nat_le 1 (length name) && list_all (λ c. is_text c && is_name c) (chars name))
-
-abbrev pub IsAnchor : List ℕ → Type 0
-IsAnchor name = is_anchor name ≡ true
-
-abbrev pub SoundAnchor : Anchor → Type 0
-SoundAnchor None = Unit {0}
-SoundAnchor (Some name) = IsAnchor name
 
 -- names are of anchor characters, full tags are tags, and texts are UTF-8
 abbrev pub IsSound : Event → Type 0

@@ -8,14 +8,15 @@ use Rattle.yaml_text.specs.Order.{tree_cmp, arranged, Before}
 use Rattle.yaml_text.specs.Event.{Event, Style, double, WrittenTag, full}
 use Rattle.yaml_text.specs.Core.{Value, value_of, content_of, resolve}
 use Rattle.yaml_text.specs.Number.{AreEqual}
-use Rattle.yaml_text.specs.EventText.{EventText}
+use Rattle.yaml_text.specs.EventText.{events_text, EventText}
 use Rattle.yaml_text.specs.Spell.{spell, spell_bytes, spelled}
 use Rattle.yaml_text.specs.Block.{block, block_bytes, blocked}
 use Rattle.yaml_text.specs.Text.{Text}
 use Rattle.yaml_text.specs.Marked.{Marked, flat, Document, stream_events}
 use Rattle.yaml_text.specs.Unfold.{trees_of}
 use Rattle.yaml_text.specs.Sound.{DocumentsSound, AllProper}
-use Rattle.yaml_text.specs.Means.{StandsFor, Understood}
+use Rattle.yaml_text.specs.Means.{StandsFor, Means, Understood}
+use Rattle.yaml_text.specs.grammar.Reading.{Reads, ReadsWide}
 use Rattle.yaml_text.specs.Proper.{Admitted}
 use Rattle.yaml_text.specs.Same.{Same, Keyed, Alike}
 
@@ -43,12 +44,15 @@ BeforeGoesOn = (t u v : Tree) → Before t u → Before u v → Before t v
 
 -- ---- trees that are the same
 
+-- Each tree is the same as itself.
 abbrev pub SameToItself : Type 0
 SameToItself = (t : Tree) → Same t t
 
+-- What is the same as a tree, that tree is the same as it.
 abbrev pub SameEitherWay : Type 0
 SameEitherWay = (t u : Tree) → Keyed t → Keyed u → Same t u → Same u t
 
+-- A tree that is the same as one that is the same as a third is the same as that.
 abbrev pub SameGoesOn : Type 0
 SameGoesOn = (t u v : Tree) → Keyed t → Keyed u → Keyed v → Same t u → Same u v → Same t v
 
@@ -73,6 +77,10 @@ EventTextTells = (text : List ℕ) (es fs : List Event) → EventText text es �
 -- Events have one text.
 abbrev pub EventsHaveOneText : Type 0
 EventsHaveOneText = (text other : List ℕ) (es : List Event) → EventText text es → EventText other es → text ≡ other
+
+-- The events of sound documents have a text.
+abbrev pub SoundEventsHaveText : Type 0
+SoundEventsHaveText = (ds : List Document) → DocumentsSound ds → EventText (events_text (stream_events ds)) (stream_events ds)
 
 -- ---- texts
 
@@ -112,3 +120,17 @@ OneCanonicalText = (g x y : List ℕ) (v w : Value) → value_of g x ≡ Some v 
 -- Trees that are read are proper.
 abbrev pub ReadIsProper : Type 0
 ReadIsProper = (ds : List Document) (f : List Tree) → DocumentsSound ds → trees_of ds ≡ Ok f → AllProper f
+
+-- ---- bytes
+
+-- What bytes are read as, in either profile, has an event text.
+abbrev pub ReadingsHaveText : Type 0
+ReadingsHaveText = (bytes : List ℕ) (es : List Event) → Reads bytes es ⊎ ReadsWide bytes es → EventText (events_text es) es
+
+-- The trees that it stands for are proper.
+abbrev pub ReadingsAreProper : Type 0
+ReadingsAreProper = (bytes : List ℕ) (es : List Event) (f : List Tree) → Reads bytes es ⊎ ReadsWide bytes es → StandsFor es f → AllProper f
+
+-- What bytes mean is proper.
+abbrev pub MeaningIsProper : Type 0
+MeaningIsProper = (bytes : List ℕ) (f : List Tree) → Means bytes f → AllProper f

@@ -1,8 +1,12 @@
--- Documents whose written tags are tags and whose texts are UTF-8, as those that the reader gives.
-use Rattle.std.specs.Prelude.{◌≡◌, true, List, [], ◌∷◌}
-use Rattle.std.specs.Str.{is_utf8}
+-- Documents as the reader gives them: written tags are tags, names are of anchor characters, and texts are UTF-8.
+use Rattle.std.specs.Prelude.{◌≡◌, ℕ, Bool, true, ◌&&◌, nat_le, List, [], ◌∷◌, length}
+use Rattle.std.specs.declared.option.Option.TheVariants.{None, Some}
+use Rattle.std.specs.List.{list_all}
+use Rattle.std.specs.Str.{chars, is_utf8}
+use Rattle.yaml_text.specs.grammar.Tags.{is_name}
+use Rattle.yaml_text.specs.Text.{is_text}
 use Rattle.yaml_text.specs.Tree.{Tree}
-use Rattle.yaml_text.specs.Event.{WrittenTag, full}
+use Rattle.yaml_text.specs.Event.{WrittenTag, full, Anchor}
 use Rattle.yaml_text.specs.Marked.{Marked, AllMarked, MarkedPairs, alias, scalar_at, sequence_at, mapping_at, end_marks, item_mark, done_marks, entry_marks, Document}
 use Rattle.yaml_text.specs.Proper.{IsProper}
 use Rattle.yaml_text.specs.Tag.{IsTag}
@@ -12,12 +16,27 @@ abbrev pub SoundTag : WrittenTag → Type 0
 SoundTag (full g) = IsTag g
 SoundTag _ = Unit {0}
 
+-- a character of names (6.9.2)
+abbrev pub is_anchor_char : ℕ → Bool
+is_anchor_char c = is_text c && is_name c
+
+-- UTF-8 of one or more of these
+unfoldable pub is_anchor : List ℕ → Bool
+is_anchor name = is_utf8 name && (nat_le 1 (length name) && list_all is_anchor_char (chars name))
+
+abbrev pub IsAnchor : List ℕ → Type 0
+IsAnchor name = is_anchor name ≡ true
+
+abbrev pub SoundAnchor : Anchor → Type 0
+SoundAnchor None = Unit {0}
+SoundAnchor (Some name) = IsAnchor name
+
 abbrev mutual
   pub Sound : Marked → Type 0
-  Sound (alias name) = Unit {0}
-  Sound (scalar_at a g y x) = SoundTag g × (is_utf8 x ≡ true)
-  Sound (sequence_at a g b ts) = SoundTag g × AllSound ts
-  Sound (mapping_at a g b ps) = SoundTag g × PairsSound ps
+  Sound (alias name) = IsAnchor name
+  Sound (scalar_at a g y x) = SoundAnchor a × SoundTag g × (is_utf8 x ≡ true)
+  Sound (sequence_at a g b ts) = SoundAnchor a × SoundTag g × AllSound ts
+  Sound (mapping_at a g b ps) = SoundAnchor a × SoundTag g × PairsSound ps
 
   pub AllSound : AllMarked → Type 0
   AllSound end_marks = Unit {0}

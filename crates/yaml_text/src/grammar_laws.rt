@@ -17,7 +17,7 @@ pub fn one_text()
 {}
 
 /// The events of every reading are those of documents, in either profile: they are well nested, a
-/// tag that is written out is a tag, and a text is UTF-8.
+/// tag that is written out is a tag, a name is of anchor characters, and a text is UTF-8.
 pub fn readings_are_documents()
     ensures { ReadingsAreDocuments }
 {}

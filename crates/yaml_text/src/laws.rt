@@ -1,6 +1,6 @@
 //! Laws of trees, their canonical text and their meaning. Each function has an empty body, and
 //! its contract is a law.
-ghost use Rattle.yaml_text.specs.Laws.{OrderIsTotal, OrderTells, BeforeOrSame, BeforeGoesOn, SameToItself, SameEitherWay, SameGoesOn, SameIsArranged, NodeEventsTell, StreamEventsTell, EventTextTells, EventsHaveOneText, TextsTell, SpellingsUnderstood, SpellingsAreText, BlocksAreText, EventsTell, ResolvedAgain, ContentsTell, OneCanonicalText, ReadIsProper};
+ghost use Rattle.yaml_text.specs.Laws.{OrderIsTotal, OrderTells, BeforeOrSame, BeforeGoesOn, SameToItself, SameEitherWay, SameGoesOn, SameIsArranged, NodeEventsTell, StreamEventsTell, EventTextTells, EventsHaveOneText, SoundEventsHaveText, TextsTell, SpellingsUnderstood, SpellingsAreText, BlocksAreText, EventsTell, ResolvedAgain, ContentsTell, OneCanonicalText, ReadIsProper, ReadingsHaveText, ReadingsAreProper, MeaningIsProper};
 
 /// The comparison of trees is a total order, which tells any two trees apart.
 pub fn trees_are_ordered()
@@ -31,10 +31,12 @@ pub fn events_belong_to_one()
     ensures stream { StreamEventsTell }
 {}
 
-/// An event text belongs to one list of events, and events have one text.
+/// An event text belongs to one list of events, and events have one text; those of sound
+/// documents have one.
 pub fn event_text_tells()
     ensures events { EventTextTells }
     ensures text { EventsHaveOneText }
+    ensures sound { SoundEventsHaveText }
 {}
 
 /// The texts of admitted forests are the same exactly if the forests are equally long and
@@ -72,7 +74,14 @@ pub fn contents_tell()
     ensures one { OneCanonicalText }
 {}
 
-/// Trees that are read are proper.
+/// The trees of sound documents are proper, and so is what bytes mean.
 pub fn read_is_proper()
-    ensures { ReadIsProper }
+    ensures documents { ReadIsProper }
+    ensures readings { ReadingsAreProper }
+    ensures bytes { MeaningIsProper }
+{}
+
+/// What bytes are read as has an event text.
+pub fn readings_have_text()
+    ensures { ReadingsHaveText }
 {}

@@ -9,6 +9,8 @@ use Rattle.yaml_text.specs.Event as style
 use Rattle.yaml_text.specs.Limits.{open_limit}
 use Rattle.yaml_text.specs.Marked.{Marked, AllMarked, MarkedPairs, alias, scalar_at, sequence_at, mapping_at, end_marks, item_mark, done_marks, entry_marks, flat, flat_all, flat_pairs, Document, documents_events}
 use Rattle.yaml_text.specs.Marked as marked
+use Rattle.std.proofs.lemmas.List.Sums.{list_all-from_AllPass}
+use Rattle.yaml_text.specs.Text.{is_text}
 use Rattle.yaml_text.specs.Sound.{SoundTag, Sound, AllSound, PairsSound, DocumentsSound}
 use Rattle.yaml_text.specs.grammar.Rules.{Span, Rule, ◌◆◌, ◌▸◌, ◌◂◌, ◌⨾◌, ◌∪◌, never, any_one, maybe, chr}
 use Rattle.yaml_text.specs.grammar.Separation.{Ctx, flow_key, flow_out, block_key, indent, separate}
@@ -21,7 +23,7 @@ use Rattle.yaml_text.specs.grammar.Streams as streams
 use Rattle.yaml_text.specs.grammar.Streams.{Piece, document_piece, suffix_piece, ReadsText}
 use Rattle.yaml_text.specs.grammar.Laws.{FromDocuments, ReadingsAreDocuments}
 use Rattle.yaml_text.specs.grammar.Reading.{Reads, ReadsWide}
-use Rattle.yaml_text.proofs.grammar.Values.{Each, Free, Joins, AreScalars, SoundProps, each_before, each_after, each_either, each_taking, each_some, each_giving, each_never, each_seen, each_given, each_bounded, each_weaker, each_joined, each_any, each_optional, each_free, each_properties, each_plain, each_single, each_double, each_literal, each_folded}
+use Rattle.yaml_text.proofs.grammar.Values.{Each, Free, Joins, AreScalars, AreCharacters, IsNameText, SoundProps, each_alias, each_before, each_after, each_either, each_taking, each_some, each_giving, each_never, each_seen, each_given, each_bounded, each_weaker, each_joined, each_any, each_optional, each_free, each_properties, each_plain, each_single, each_double, each_literal, each_folded}
 
 -- ---- the events of a node, of items and of entries; the last two before more of them
 
@@ -72,13 +74,13 @@ each_entry f g i j v (k, ys, zs, r, s, e) = subst AreEntries (sym e) (one_entry 
 
 -- ---- nodes
 
-alias_node : (name : List ℕ) → IsNode (events.alias name ∷ [])
+alias_node : (name : List ℕ) → IsNameText name → IsNode (events.alias name ∷ [])
 unfolding flat
-alias_node name = (alias (encode_utf8_all name), (λ more. refl), tt)
+alias_node name h = (alias (encode_utf8_all name), (λ more. refl), h)
 
 scalar_node : (p : Props) (s : Style) → SoundProps p → (text : List ℕ) → AreScalars text → IsNode (scalar p s text ∷ [])
 unfolding flat
-scalar_node p s h text k = (scalar_at p.anchor p.tag s (encode_utf8_all text), (λ more. refl), (h, is_utf8-from_IsUtf8 _ (text, (k, refl))))
+scalar_node p s h text k = (scalar_at p.anchor p.tag s (encode_utf8_all text), (λ more. refl), (h.0, h.1, is_utf8-from_IsUtf8 _ (text, (k, refl))))
 
 empty_node : (p : Props) → SoundProps p → IsNode (empty p)
 empty_node p h = scalar_node p style.plain h [] refl
@@ -87,13 +89,13 @@ sequence_node : (is_flow : Bool) (p : Props) → SoundProps p → (es : List Eve
 unfolding flat
 sequence_node is_flow p h es f =
     let q = f end_marks tt in
-    (sequence_at p.anchor p.tag is_flow q.0, (λ more. ap (λ x. seq_start is_flow p ∷ x) (append_assoc es (sequence_end ∷ []) more ∙ q.1 (sequence_end ∷ more))), (h, q.2))
+    (sequence_at p.anchor p.tag is_flow q.0, (λ more. ap (λ x. seq_start is_flow p ∷ x) (append_assoc es (sequence_end ∷ []) more ∙ q.1 (sequence_end ∷ more))), (h.0, h.1, q.2))
 
 mapping_node : (is_flow : Bool) (p : Props) → SoundProps p → (es : List Event) → AreEntries es → IsNode (wrapped (map_start is_flow p) mapping_end es)
 unfolding flat
 mapping_node is_flow p h es f =
     let q = f done_marks tt in
-    (mapping_at p.anchor p.tag is_flow q.0, (λ more. ap (λ x. map_start is_flow p ∷ x) (append_assoc es (mapping_end ∷ []) more ∙ q.1 (mapping_end ∷ more))), (h, q.2))
+    (mapping_at p.anchor p.tag is_flow q.0, (λ more. ap (λ x. map_start is_flow p ∷ x) (append_assoc es (mapping_end ∷ []) more ∙ q.1 (mapping_end ∷ more))), (h.0, h.1, q.2))
 
 -- ---- pieces of a stream
 
@@ -129,22 +131,22 @@ piece_documents (document_piece explicit es ∷ ps) h =
 
 -- ---- the productions
 
-module _ (cs : List ℕ) (characters : AreScalars cs) where
+module _ (cs : List ℕ) (characters : AreCharacters cs) where
   module _ (Wide : Type 0) (handles : tags.Handles) where
     module _ (Open : Type 0) (inside : Part → Rule (List Event)) (each : (p : Part) → Each IsNode (inside p)) where
       each_inside_flow : (n : ℕ) (c : Ctx) → Each IsNode (nodes.inside_flow cs Wide handles Open inside n c)
       each_inside_flow n c = each_either IsNode (each (yaml_part n c)) (each (json_part n c))
 
       each_e : Each IsNode (nodes.e_node cs Wide handles Open inside)
-      each_e = each_giving IsNode _ (empty_node no_props tt)
+      each_e = each_giving IsNode _ (empty_node no_props (tt, tt))
 
       each_scalar : (p : Props) (s : Style) {R : Rule (List ℕ)} → SoundProps p → Each AreScalars R → Each IsNode (nodes.scalar_of cs Wide handles Open inside p s R)
       each_scalar p s h f = each_seen IsNode AreScalars _ (scalar_node p s h) f
 
       each_yaml_node : (n : ℕ) (c : Ctx) → Each IsNode (nodes.yaml_node cs Wide handles Open inside n c)
       unfolding nodes.yaml_node
-      each_yaml_node n c = each_either IsNode (each_seen IsNode Free _ (λ x u. alias_node x) (each_free _))
-          (each_either IsNode (each_scalar no_props style.plain tt (each_plain cs characters n c))
+      each_yaml_node n c = each_either IsNode (each_seen IsNode IsNameText _ alias_node (each_alias cs characters))
+          (each_either IsNode (each_scalar no_props style.plain (tt, tt) (each_plain cs characters n c))
           (each_taking IsNode SoundProps (each_properties cs characters handles n c)
           (λ p h. each_either IsNode (each_before IsNode _ (each_scalar p style.plain h (each_plain cs characters n c))) (each_giving IsNode _ (empty_node p h)))))
 
@@ -198,7 +200,7 @@ module _ (cs : List ℕ) (characters : AreScalars cs) where
 
       each_pair : (n : ℕ) (c : Ctx) → Each IsNode (nodes.pair cs Wide handles Open inside n c)
       unfolding nodes.pair
-      each_pair n c = each_given IsNode _ (each_seen IsNode AreEntries _ (mapping_node true no_props tt)
+      each_pair n c = each_given IsNode _ (each_seen IsNode AreEntries _ (mapping_node true no_props (tt, tt))
           (each_either AreEntries (each_entry (each_implicit_yaml_key flow_key) (each_value n c))
           (each_either AreEntries (each_entry (each_implicit_json_key flow_key) (each_adjacent n c))
           (each_given AreEntries _ (each_either AreEntries (each_empty_key n c) (each_explicit n c))))))
@@ -216,7 +218,7 @@ module _ (cs : List ℕ) (characters : AreScalars cs) where
 
       each_json_node : (n : ℕ) (c : Ctx) → Each IsNode (nodes.json_node cs Wide handles Open inside n c)
       unfolding nodes.json_node
-      each_json_node n c = each_taking IsNode SoundProps (each_either SoundProps (each_giving SoundProps no_props tt) (each_after SoundProps _ (each_properties cs characters handles n c)))
+      each_json_node n c = each_taking IsNode SoundProps (each_either SoundProps (each_giving SoundProps no_props (tt, tt)) (each_after SoundProps _ (each_properties cs characters handles n c)))
           (λ p h. each_either IsNode (each_scalar p style.single h (each_single cs characters n c))
           (each_either IsNode (each_scalar p style.double h (each_double cs characters n c))
           (each_either IsNode (each_flow_seq p h n c) (each_flow_map p h n c))))
@@ -253,12 +255,12 @@ module _ (cs : List ℕ) (characters : AreScalars cs) where
 
       each_compact_seq : (k : ℕ) → Each IsNode (nodes.compact_seq cs Wide handles Open inside k)
       unfolding nodes.compact_seq
-      each_compact_seq k = each_given IsNode _ (each_seen IsNode AreItems _ (sequence_node false no_props tt)
+      each_compact_seq k = each_given IsNode _ (each_seen IsNode AreItems _ (sequence_node false no_props (tt, tt))
           (each_joined AreItems item_lists (each_seq_entry k) (each_any AreItems item_lists (each_before AreItems _ (each_seq_entry k)))))
 
       each_compact_map : (k : ℕ) → Each IsNode (nodes.compact_map cs Wide handles Open inside k)
       unfolding nodes.compact_map
-      each_compact_map k = each_given IsNode _ (each_seen IsNode AreEntries _ (mapping_node false no_props tt)
+      each_compact_map k = each_given IsNode _ (each_seen IsNode AreEntries _ (mapping_node false no_props (tt, tt))
           (each_joined AreEntries entry_lists (each_map_entry k) (each_any AreEntries entry_lists (each_before AreEntries _ (each_map_entry k)))))
 
       each_block_node : (col : ℕ) (c : Ctx) → Each IsNode (nodes.block_node cs Wide handles Open inside col c)
@@ -267,10 +269,10 @@ module _ (cs : List ℕ) (characters : AreScalars cs) where
           (each_before IsNode _ (each_after IsNode _ (each_flow_node col flow_out)))
           (each_either IsNode
           (each_before IsNode _ (each_taking IsNode SoundProps
-          (each_either SoundProps (each_giving SoundProps no_props tt) (each_after SoundProps _ (each_properties cs characters handles col c)))
+          (each_either SoundProps (each_giving SoundProps no_props (tt, tt)) (each_after SoundProps _ (each_properties cs characters handles col c)))
           (λ p h. each_either IsNode (each_scalar p style.literal h (each_literal cs characters col)) (each_scalar p style.folded h (each_folded cs characters col)))))
           (each_taking IsNode SoundProps
-          (each_after SoundProps _ (each_either SoundProps (each_giving SoundProps no_props tt) (each_before SoundProps _ (each_properties cs characters handles col c))))
+          (each_after SoundProps _ (each_either SoundProps (each_giving SoundProps no_props (tt, tt)) (each_before SoundProps _ (each_properties cs characters handles col c))))
           (λ p h. each_either IsNode (each_block_map p h col) (each_block_seq p h _))))
 
       each_part : (p : Part) → Each IsNode (part cs Wide handles Open inside p)
@@ -295,7 +297,7 @@ module _ (cs : List ℕ) (characters : AreScalars cs) where
 
     each_explicit_document : (handles : tags.Handles) → Each IsNode (streams.explicit_document cs Wide room handles)
     unfolding streams.explicit_document
-    each_explicit_document handles = each_before IsNode _ (each_either IsNode (each_bare_document handles) (each_after IsNode _ (each_giving IsNode _ (empty_node no_props tt))))
+    each_explicit_document handles = each_before IsNode _ (each_either IsNode (each_bare_document handles) (each_after IsNode _ (each_giving IsNode _ (empty_node no_props (tt, tt)))))
 
     each_directive_document : Each IsNode (streams.directive_document cs Wide room)
     unfolding streams.directive_document
@@ -329,5 +331,5 @@ module _ (cs : List ℕ) (characters : AreScalars cs) where
 
 pub readings_are_documents : ReadingsAreDocuments
 unfolding Reads ReadsWide
-readings_are_documents bytes es (inl (cs, text, r)) = documents_of_reading cs text.scalars ⊥ open_limit es r
-readings_are_documents bytes es (inr (cs, text, r)) = documents_of_reading cs text.scalars (Unit {0}) open_limit es r
+readings_are_documents bytes es (inl (cs, text, r)) = documents_of_reading cs (text.scalars, list_all-from_AllPass is_text cs text.permitted) ⊥ open_limit es r
+readings_are_documents bytes es (inr (cs, text, r)) = documents_of_reading cs (text.scalars, list_all-from_AllPass is_text cs text.permitted) (Unit {0}) open_limit es r

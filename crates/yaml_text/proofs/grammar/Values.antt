@@ -1,14 +1,19 @@
 -- What holds of every reading's value: texts are of characters, and tags that are written out are tags.
-use Rattle.std.proofs.Common.{◌≡◌, ℕ, zero, suc, ◌+◌, ◌==◌, Bool, true, false, cond, ◌&&◌, ◌||◌, Option, Some, None, List, [], ◌∷◌, ◌++◌, take, drop, refl, sym, ◌∙◌, ap, subst, inl, inr}
+use Rattle.std.proofs.Common.{◌≡◌, ◌<◌, ℕ, zero, suc, ◌+◌, ◌-◌, ◌==◌, nat_le, length, length-drop, arith, Bool, true, false, cond, ◌&&◌, ◌||◌, Option, Some, None, List, [], ◌∷◌, ◌++◌, take, drop, refl, sym, ◌∙◌, ap, subst, inl, inr}
 use Rattle.std.specs.Prelude.{slice_get, replicate, encode_utf8_all, option_and_then}
-use Rattle.std.specs.Str.{all_scalars, is_utf8}
+use Rattle.std.specs.List.{list_all}
+use Rattle.std.specs.Str.{all_scalars, chars, is_utf8}
 use Rattle.std.specs.Char.{IsScalar}
-use Rattle.std.proofs.lemmas.Str.{is_utf8-from_IsUtf8}
+use Rattle.std.proofs.lemmas.Str.{is_utf8-from_IsUtf8, chars-encodes, encodes_same}
+use Rattle.std.proofs.lemmas.Bool.Decides.{nat_tests}
+use Rattle.std.proofs.lemmas.Option.{slice_get_within}
+use Rattle.std.proofs.lemmas.List.{length-take}
 use lib.Utf8.{scalar, scalars}
 use Rattle.yaml_text.specs.Event.{WrittenTag, untagged, non_specific, full}
-use Rattle.yaml_text.specs.Sound.{SoundTag}
+use Rattle.yaml_text.specs.Text.{is_text}
+use Rattle.yaml_text.specs.Sound.{SoundTag, is_anchor_char, is_anchor, IsAnchor, SoundAnchor}
 use Rattle.yaml_text.specs.Tag.{is_full}
-use Rattle.yaml_text.specs.grammar.Rules.{Span, Rule, ◌▸◌, ◌◂◌, ◌⨾◌, ◌∪◌, gives, given, never, optional, some, any, Any, done, then, letter, copied, counted, looking, with_value, seen, mapped, where_both, where_value}
+use Rattle.yaml_text.specs.grammar.Rules.{Span, Rule, ◌▸◌, ◌◂◌, ◌⨾◌, ◌∪◌, gives, given, never, optional, some, any, Any, done, then, letter, copied, counted, looking, with_value, seen, mapped, where_both, where_value, Stands}
 use Rattle.yaml_text.specs.grammar.Characters.{is_white, short_escape, numbered, escape}
 use Rattle.yaml_text.specs.grammar.Separation.{Ctx, block_out, block_in, flow_out, flow_in, block_key, flow_key}
 use Rattle.yaml_text.specs.grammar.Events.{Props}
@@ -169,7 +174,60 @@ joined_sound handles handle suffix t e = pick (tags.prefix_of handles handle) e
     pick (Some prefix) e = decoded_sound (prefix ++ suffix) t e
 
 abbrev pub SoundProps : Props → Type 0
-SoundProps p = SoundTag p.tag
+SoundProps p = SoundAnchor p.anchor × SoundTag p.tag
+
+-- ---- names
+
+abbrev AllPass : (ℕ → Bool) → List ℕ → Type 0
+AllPass p xs = list_all p xs ≡ true
+
+all_take : (p : ℕ → Bool) (n : ℕ) (xs : List ℕ) → AllPass p xs → AllPass p (take n xs)
+all_take p zero xs h = refl
+all_take p (suc n) [] h = refl
+all_take p (suc n) (x ∷ xs) h = let q = and_both (p x) (list_all p xs) h in both_and (p x) (list_all p (take n xs)) q.0 (all_take p n xs q.1)
+
+all_drop : (p : ℕ → Bool) (n : ℕ) (xs : List ℕ) → AllPass p xs → AllPass p (drop n xs)
+all_drop p zero xs h = h
+all_drop p (suc n) [] h = refl
+all_drop p (suc n) (x ∷ xs) h = all_drop p n xs (and_both (p x) (list_all p xs) h).1
+
+both_pass : (p q : ℕ → Bool) (xs : List ℕ) → AllPass p xs → AllPass q xs → AllPass (λ c. p c && q c) xs
+both_pass p q [] h k = refl
+both_pass p q (x ∷ xs) h k =
+    let a = and_both (p x) (list_all p xs) h in
+    let b = and_both (q x) (list_all q xs) k in
+    both_and (p x && q x) (list_all (λ c. p c && q c) xs) (both_and (p x) (q x) a.0 b.0) (both_pass p q xs a.1 b.1)
+
+stands_pass : (p : ℕ → Bool) (cs : List ℕ) (n : ℕ) → ((k : ℕ) → k < n → Stands cs p k) → AllPass p (take n cs)
+stands_pass p cs zero f = refl
+stands_pass p [] (suc n) f = refl
+stands_pass p (x ∷ cs) (suc n) f =
+    let s = f 0 (omega arith) in
+    let e : x ≡ s.0 = let g : Some x ≡ Some s.0 = s.1 in cc in
+    both_and (p x) (list_all p (take n cs)) (subst (λ z. p z ≡ true) (sym e) s.2) (stands_pass p cs n (λ k l. f (suc k) (omega arith)))
+
+run_passes : (p : ℕ → Bool) (cs : List ℕ) (n i : ℕ) → ((k : ℕ) → k < n → Stands cs p (i + k)) → AllPass p (take n (drop i cs))
+run_passes p cs n zero f = stands_pass p cs n (λ k l. let e : 0 + k ≡ k = omega arith in subst (Stands cs p) e (f k l))
+run_passes p [] n (suc i) f = all_take p n [] refl
+run_passes p (x ∷ cs) n (suc i) f = run_passes p cs n i (λ k l. let e : suc i + k ≡ suc (i + k) = omega arith in subst (Stands (x ∷ cs) p) e (f k l))
+
+-- a name's text
+abbrev pub IsNameText : List ℕ → Type 0
+IsNameText xs = IsAnchor (encode_utf8_all xs)
+
+some_bytes : (xs : List ℕ) → (xs ≡ [] → ⊥) → nat_le 1 (length (encode_utf8_all xs)) ≡ true
+some_bytes xs n = by (encode_utf8_all xs) refl
+  where
+    by : (bs : List ℕ) → encode_utf8_all xs ≡ bs → nat_le 1 (length bs) ≡ true
+    by [] e = absurd (n (encodes_same xs [] e))
+    by (b ∷ bs) e = grind (arith, nat_tests)
+
+name_text : (xs : List ℕ) → AreScalars xs → (xs ≡ [] → ⊥) → AllPass is_anchor_char xs → IsNameText xs
+unfolding is_anchor
+name_text xs s n h =
+    let c : chars (encode_utf8_all xs) ≡ xs = chars-encodes xs s in
+    both_and (is_utf8 (encode_utf8_all xs)) _ (is_utf8-from_IsUtf8 _ (xs, (s, refl)))
+    (both_and (nat_le 1 (length (encode_utf8_all xs))) _ (some_bytes xs n) (subst (AllPass is_anchor_char) (sym c) h))
 
 -- ---- the lines of a block scalar
 
@@ -232,12 +290,16 @@ content_scalars folded s ls h = content_after_scalars folded s 0 ls h
 
 -- ---- the productions
 
-module _ (cs : List ℕ) (characters : AreScalars cs) where
+-- characters that a text may hold
+abbrev pub AreCharacters : List ℕ → Type 0
+AreCharacters cs = AreScalars cs × AllPass is_text cs
+
+module _ (cs : List ℕ) (characters : AreCharacters cs) where
   each_copied : (R : Span) → Each AreScalars (copied cs R)
-  each_copied R i j v (r, e) = subst AreScalars (sym e) (scalars_take _ (drop i cs) (scalars_drop i cs characters))
+  each_copied R i j v (r, e) = subst AreScalars (sym e) (scalars_take _ (drop i cs) (scalars_drop i cs characters.0))
 
   each_letter : (p : ℕ → Bool) → Each IsScalar (letter cs p)
-  each_letter p i j c (e, t, f) = scalar_at cs i c characters e
+  each_letter p i j c (e, t, f) = scalar_at cs i c characters.0 e
 
   each_verbatim_tag : Each SoundTag (tags.verbatim_tag cs)
   unfolding tags.verbatim_tag
@@ -255,13 +317,31 @@ module _ (cs : List ℕ) (characters : AreScalars cs) where
   unfolding tags.tag
   each_tag handles = each_after _ _ (each_either _ each_verbatim_tag (each_either _ (each_shorthand_tag handles) each_non_specific_tag))
 
+  each_name : Each IsNameText (tags.name cs)
+  unfolding tags.name
+  each_name i j v ((r, l, n), e) =
+      let xs : List ℕ = take (j - i) (drop i cs) in
+      let t : AllPass is_text xs = all_take is_text (j - i) (drop i cs) (all_drop is_text i cs characters.1) in
+      let a : AllPass tags.is_name xs = run_passes tags.is_name cs (j - i) i (λ k m. r.1 (i + k) (omega arith) (omega arith)) in
+      let w : i < length cs = let s = r.1 i (omega arith) l in slice_get_within cs i s.0 s.1 in
+      let x : (xs ≡ [] → ⊥) = λ q. let z : length xs ≡ 0 = ap length q in omega (arith, z, length-take (j - i) (drop i cs), length-drop i cs) in
+      subst IsNameText (sym e) (name_text xs (scalars_take (j - i) (drop i cs) (scalars_drop i cs characters.0)) x (both_pass is_text tags.is_name xs t a))
+
+  each_anchor : Each IsNameText (tags.anchor cs)
+  unfolding tags.anchor
+  each_anchor = each_before _ _ each_name
+
+  pub each_alias : Each IsNameText (tags.alias cs)
+  unfolding tags.alias
+  each_alias = each_before _ _ each_name
+
   pub each_properties : (handles : tags.Handles) (n : ℕ) (c : Ctx) → Each SoundProps (tags.properties cs handles n c)
   unfolding tags.properties
   each_properties handles n c = each_either SoundProps
-      (each_taking SoundProps SoundTag (each_tag handles) (λ t s. each_either SoundProps (each_giving SoundProps _ s)
-      (each_before SoundProps _ (each_seen SoundProps Free _ (λ a u. s) (each_free _)))))
-      (each_taking SoundProps Free (each_free _) (λ a u. each_either SoundProps (each_giving SoundProps _ tt)
-      (each_before SoundProps _ (each_seen SoundProps SoundTag _ (λ t s. s) (each_tag handles)))))
+      (each_taking SoundProps SoundTag (each_tag handles) (λ t s. each_either SoundProps (each_giving SoundProps _ (tt, s))
+      (each_before SoundProps _ (each_seen SoundProps IsNameText _ (λ a u. (u, s)) each_anchor))))
+      (each_taking SoundProps IsNameText each_anchor (λ a u. each_either SoundProps (each_giving SoundProps _ (u, tt))
+      (each_before SoundProps _ (each_seen SoundProps SoundTag _ (λ t s. (u, s)) (each_tag handles)))))
 
   -- ---- flow scalars
 

@@ -55,7 +55,7 @@ DocumentsUnmarked = (cs : List ℕ) (wide : Bool) (room : ℕ) (handles : tags.H
 abbrev pub OneText : Type 0
 OneText = (bytes cs ds : List ℕ) → Text bytes cs → Text bytes ds → cs ≡ ds
 
--- the events are those of documents whose tags are tags and whose texts are UTF-8
+-- the events are those of documents whose tags are tags, names are of anchor characters, and texts are UTF-8
 abbrev pub FromDocuments : List Event → Type 0
 FromDocuments es = (ds : List Document) × (es ≡ stream_events ds) × DocumentsSound ds
 
