@@ -1,0 +1,4 @@
+//! Canonical texts of YAML streams, and whether two streams are the same.
+#![tactic(auto)]
+
+mod tree;
