@@ -1,1 +1,2 @@
 pub mod TreeModel
+pub mod Writes
