@@ -1,2 +1,5 @@
 pub mod Escapes
 pub mod Runs
+pub mod Ends
+pub mod TreeViews
+pub mod Heads

@@ -1,2 +1,3 @@
 pub mod TreeModel
 pub mod Writes
+pub mod Identical

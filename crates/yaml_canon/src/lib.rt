@@ -1,5 +1,6 @@
 //! Canonical texts of YAML streams, and whether two streams are the same.
 #![tactic(auto)]
 
+mod order;
 mod scalar;
 mod tree;
