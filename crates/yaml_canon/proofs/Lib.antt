@@ -3,3 +3,7 @@ pub mod Runs
 pub mod Ends
 pub mod TreeViews
 pub mod Heads
+pub mod Writing
+pub mod Names
+pub mod Found
+pub mod Nodes

@@ -1,3 +1,4 @@
 pub mod TreeModel
 pub mod Writes
 pub mod Identical
+pub mod Anchored

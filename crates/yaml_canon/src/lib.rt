@@ -3,4 +3,5 @@
 
 mod order;
 mod scalar;
+mod spell;
 mod tree;
