@@ -10,3 +10,15 @@ pub mod FirstDocuments
 pub mod SimpleTrees
 pub mod FirstClaims
 pub mod ReadingAnswers
+pub mod Escapes
+pub mod Runs
+pub mod Ends
+pub mod TreeViews
+pub mod Heads
+pub mod Writing
+pub mod Names
+pub mod Found
+pub mod Nodes
+pub mod MachineLaws
+pub mod ComposerLaws
+pub mod GraphLaws

@@ -8,3 +8,10 @@ pub mod FirstDocument
 pub mod SecondPath
 pub mod PlainMarks
 pub mod PlainTrees
+pub mod Writes
+pub mod Identical
+pub mod Anchored
+pub mod Composable
+pub mod Machine
+pub mod GraphModel
+pub mod ComposerModel

@@ -1,5 +1,5 @@
 -- The tree that the code's tree stands for.
-use Rattle.std.specs.Prelude.{List, [], ◌∷◌}
+use Rattle.std.specs.Prelude.{List, [], ◌∷◌, map}
 use Rattle.yaml_text.specs.Tree.{Trees, Pairs, scalar, sequence, mapping, end, item, done, entry}
 use Rattle.yaml_text.specs.Tree as plain
 use Rattle.yaml_text.specs.Tag.{str_tag, seq_tag, map_tag}
@@ -22,3 +22,9 @@ tree_step (Mapping entries) = mapping map_tag (pairs entries.items)
 
 abbrev pub tree_of : Tree → plain.Tree
 tree_of = fold-Tree plain.Tree tree_step
+
+abbrev pub trees_of : List Tree → Trees
+trees_of ts = trees (map tree_of ts)
+
+abbrev pub pairs_of : List (Tree × Tree) → Pairs
+pairs_of ps = pairs (map (λ p. (tree_of p.0, tree_of p.1)) ps)

@@ -2,6 +2,10 @@
 #![tactic(auto)]
 
 mod comparer;
+mod compose;
+mod order;
 mod reader;
 mod reading;
+mod scalar;
+mod spell;
 mod tree;

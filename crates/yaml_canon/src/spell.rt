@@ -1,0 +1,146 @@
+//! The canonical text of trees.
+ghost use Rattle.std.specs.Prelude.{◌≡◌, [], ◌<◌, ◌^◌, suc, OnOk, IfErr, ◌∷◌, ◌++◌};
+ghost use Rattle.std.specs.List.{position};
+ghost use Rattle.std.specs.String.{string_bytes};
+ghost use Rattle.yaml_text.specs.Mark.{name_of};
+ghost use Rattle.yaml_text.specs.Marked.{alias};
+ghost use Rattle.yaml_text.specs.NodeText.{text, items_text, pairs_text, anchor_text};
+ghost use Rattle.yaml_canon.specs.TreeModel.{tree_of, trees_of, pairs_of};
+ghost use Rattle.yaml_canon.specs.Identical.{identical};
+ghost use Rattle.yaml_canon.specs.Anchored.{nodes_of, anchor_at, enrolled, separator, noted, noted_all, noted_pairs, marked, marked_all, marked_pairs};
+ghost use Rattle.yaml_canon.specs.Writes.{Writes};
+
+use crate::order::equals;
+use crate::scalar::spell_scalar;
+use crate::tree::Tree;
+use yaml_text::fault::Fault;
+
+/// A node of a tree.
+#[derive(Clone, Copy)]
+struct Node<'a> {
+    tree: &'a Tree<'a>,
+}
+
+/// The place in a list of the first tree that is this one.
+fn find<'a>(tree: &Tree<'a>, list: &[Node<'a>]) -> Option<usize>
+    ensures { result ≡ position (λ node. identical (tree_of tree.now) (tree_of node.tree.now)) list.now }
+{
+    list.iter().position(|other| equals(tree, other.tree))
+}
+
+/// `a` and a number from 1.
+fn push_name(number: usize, out: &mut String) -> Result<(), Fault>
+    requires { 0 < number }
+    ensures ok { OnOk result (Writes (string_bytes out.old) (string_bytes out.new) (λ more. name_of number ++ more)) }
+    ensures only { IfErr result (λ fault. fault ≡ Fault.OutOfMemory) }
+{
+    write!(out, "a{number}")?;
+    Ok(())
+}
+
+/// The alias of the anchored node at this place.
+fn push_alias(place: usize, out: &mut String) -> Result<(), Fault>
+    requires { suc place < 2 ^ 64 }
+    ensures ok { OnOk result (Writes (string_bytes out.old) (string_bytes out.new) (text (alias (name_of (suc place))))) }
+    ensures only { IfErr result (λ fault. fault ≡ Fault.OutOfMemory) }
+{
+    out.push('*')?;
+    push_name(place + 1, out)
+}
+
+/// What stands before the entry at this place.
+fn push_separator(place: usize, out: &mut String) -> Result<(), Fault>
+    ensures ok { OnOk result (Writes (string_bytes out.old) (string_bytes out.new) (λ more. separator place ++ more)) }
+    ensures only { IfErr result (λ fault. fault ≡ Fault.OutOfMemory) }
+{
+    if place > 0 {
+        out.push_str(", ")?;
+    }
+    Ok(())
+}
+
+/// The anchor of a node that is written out, if a later one repeats it.
+fn push_anchor<'a>(
+    tree: &'a Tree<'a>,
+    repeated: &[Node<'a>],
+    anchored: &mut Vec<Node<'a>>,
+    out: &mut String,
+) -> Result<(), Fault>
+    ensures ok { OnOk result (Writes (string_bytes out.old) (string_bytes out.new) (anchor_text (anchor_at (nodes_of repeated.now) (tree_of tree.now) (nodes_of anchored.old.items)))) }
+    ensures enrolled { OnOk result (nodes_of anchored.new.items ≡ enrolled (nodes_of repeated.now) (tree_of tree.now) (nodes_of anchored.old.items)) }
+    ensures only { IfErr result (λ fault. fault ≡ Fault.OutOfMemory) }
+{
+    if find(tree, repeated).is_some() {
+        anchored.push(Node { tree })?;
+        out.push('&')?;
+        push_name(anchored.len(), out)?;
+        out.push(' ')?;
+    }
+    Ok(())
+}
+
+/// Appends a tree's text. `repeated` has the nodes that a later one repeats, and `anchored` the
+/// anchored ones that stand before, in order.
+#[cycle(spell)]
+fn spell_node<'a>(
+    tree: &'a Tree<'a>,
+    repeated: &[Node<'a>],
+    anchored: &mut Vec<Node<'a>>,
+    out: &mut String,
+) -> Result<(), Fault>
+    ensures ok { OnOk result (Writes (string_bytes out.old) (string_bytes out.new) (text (marked (nodes_of repeated.now) (tree_of tree.now) (nodes_of anchored.old.items)))) }
+    ensures noted { OnOk result (nodes_of anchored.new.items ≡ noted (nodes_of repeated.now) (tree_of tree.now) (nodes_of anchored.old.items)) }
+    ensures only { IfErr result (λ fault. fault ≡ Fault.OutOfMemory) }
+{
+    if let Some(place) = find(tree, anchored) {
+        return push_alias(place, out);
+    }
+    push_anchor(tree, repeated, anchored, out)?;
+    match tree {
+        Tree::Scalar(text) => spell_scalar(text, out),
+        Tree::Sequence(items) => spell_items(items, repeated, anchored, out),
+        Tree::Mapping(entries) => spell_entries(entries, repeated, anchored, out),
+    }
+}
+
+#[cycle(spell)]
+fn spell_items<'a>(
+    items: &'a [Tree<'a>],
+    repeated: &[Node<'a>],
+    anchored: &mut Vec<Node<'a>>,
+    out: &mut String,
+) -> Result<(), Fault>
+    ensures ok { OnOk result (Writes (string_bytes out.old) (string_bytes out.new) (λ more. 91 ∷ items_text [] (marked_all (nodes_of repeated.now) (trees_of items.now) (nodes_of anchored.old.items)) more)) }
+    ensures noted { OnOk result (nodes_of anchored.new.items ≡ noted_all (nodes_of repeated.now) (trees_of items.now) (nodes_of anchored.old.items)) }
+    ensures only { IfErr result (λ fault. fault ≡ Fault.OutOfMemory) }
+{
+    out.push('[')?;
+    for (i, item) in items.iter().enumerate() {
+        push_separator(i, out)?;
+        spell_node(item, repeated, anchored, out)?;
+    }
+    out.push(']')?;
+    Ok(())
+}
+
+#[cycle(spell)]
+fn spell_entries<'a>(
+    entries: &'a [(Tree<'a>, Tree<'a>)],
+    repeated: &[Node<'a>],
+    anchored: &mut Vec<Node<'a>>,
+    out: &mut String,
+) -> Result<(), Fault>
+    ensures ok { OnOk result (Writes (string_bytes out.old) (string_bytes out.new) (λ more. 123 ∷ pairs_text [] (marked_pairs (nodes_of repeated.now) (pairs_of entries.now) (nodes_of anchored.old.items)) more)) }
+    ensures noted { OnOk result (nodes_of anchored.new.items ≡ noted_pairs (nodes_of repeated.now) (pairs_of entries.now) (nodes_of anchored.old.items)) }
+    ensures only { IfErr result (λ fault. fault ≡ Fault.OutOfMemory) }
+{
+    out.push('{')?;
+    for (i, entry) in entries.iter().enumerate() {
+        push_separator(i, out)?;
+        spell_node(&entry.0, repeated, anchored, out)?;
+        out.push_str(" : ")?;
+        spell_node(&entry.1, repeated, anchored, out)?;
+    }
+    out.push('}')?;
+    Ok(())
+}
