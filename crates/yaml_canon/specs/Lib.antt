@@ -1,0 +1,5 @@
+pub mod TreeModel
+pub mod Composable
+pub mod Machine
+pub mod GraphModel
+pub mod ComposerModel
