@@ -1,1 +1,2 @@
 pub mod MachineLaws
+pub mod ComposerLaws

@@ -1,9 +1,9 @@
 -- The events that the composer takes, and what it answers for them.
-use Rattle.std.specs.Prelude.{◌≡◌, ℕ, List, [], ◌∷◌, map, Err}
+use Rattle.std.specs.Prelude.{◌≡◌, List, [], ◌∷◌, map, Err}
 use Rattle.yaml_text.specs.Event.{untagged, double}
 use Rattle.yaml_text.specs.Marked.{Marked, AllMarked, MarkedPairs, alias, scalar_at, sequence_at, mapping_at, end_marks, item_mark, done_marks, entry_marks, Document, stream_events}
 use Rattle.yaml_text.specs.Core.{undefined_alias, cyclic_alias}
-use Rattle.yaml_text.specs.Unfold.{trees_of}
+use Rattle.yaml_text.specs.Unfold.{Outcome}
 use Rattle.yaml_text.specs.EventModel.{event_of}
 use Rattle.yaml_text.specs.declared.event.Event as code
 use Rattle.yaml_text.specs.declared.fault.Fault.{Fault}
@@ -35,9 +35,9 @@ pub record Composable (events : List code.Event) : Type 0 where
   pub cut : map event_of events ≡ stream_events documents
   pub plain : DocumentsUntagged documents
 
--- the documents' first alias that stands for no whole node gives this fault; memory may be refused at any time
-abbrev pub RefusesAlias : List Document → Fault → Type 0
-RefusesAlias ds (UndefinedAlias event) = trees_of ds ≡ Err (undefined_alias, event)
-RefusesAlias ds (CyclicAlias event) = trees_of ds ≡ Err (cyclic_alias, event)
-RefusesAlias ds OutOfMemory = Unit {0}
-RefusesAlias ds _ = ⊥
+-- An alias that stands for no whole node gives this fault, if it is what was refused first. Memory may be refused at any time.
+abbrev pub RefusesAlias : {X : Type 0} → Outcome X → Fault → Type 0
+RefusesAlias found (UndefinedAlias event) = found ≡ Err (undefined_alias, event)
+RefusesAlias found (CyclicAlias event) = found ≡ Err (cyclic_alias, event)
+RefusesAlias found OutOfMemory = Unit {0}
+RefusesAlias found _ = ⊥

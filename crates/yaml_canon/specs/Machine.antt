@@ -1,5 +1,5 @@
 -- What the composer does, event by event, on plain values.
-use Rattle.std.specs.Prelude.{ℕ, suc, List, [], ◌∷◌, ◌++◌, length, Result, Ok, Err, Option, None, Some}
+use Rattle.std.specs.Prelude.{ℕ, suc, Bool, true, false, cond, List, [], ◌∷◌, ◌++◌, length, Result, Ok, Err, Option, None, Some}
 use Rattle.yaml_text.specs.Tree.{Tree, scalar, sequence, mapping}
 use Rattle.yaml_text.specs.Tag.{str_tag, seq_tag, map_tag}
 use Rattle.yaml_text.specs.Event.{Anchor, Event, document_start, sequence_start, sequence_end, mapping_start, mapping_end, scalar_event, alias_event}
@@ -34,9 +34,16 @@ sequence_from ts = sequence seq_tag (trees ts)
 abbrev pub mapping_from : List Tree → Tree
 mapping_from ts = mapping map_tag (pairs (paired ts))
 
+-- the collection of these parts
+abbrev pub collection_from : Bool → List Tree → Tree
+collection_from is_mapping ts = cond is_mapping (mapping_from ts) (sequence_from ts)
+
 -- a node is whole, whose anchor stands at this place
 abbrev pub whole : Anchor → ℕ → Tree → State → State
 whole a slot t s = record { inner = s.inner ++ (t ∷ []); outer = s.outer; table = closed a slot t s.table }
+
+abbrev pub scalar_added : Anchor → List ℕ → State → State
+scalar_added a x s = whole a (length s.table) (scalar str_tag x) (record { inner = s.inner; outer = s.outer; table = opened a s.table })
 
 abbrev pub entered : Anchor → State → State
 entered a s = record { inner = []; outer = (record { anchor = a; slot = length s.table; before = s.inner }) ∷ s.outer; table = opened a s.table }
@@ -51,12 +58,12 @@ added s t = Ok (record { inner = s.inner ++ (t ∷ []); outer = s.outer; table =
 
 -- The event's number, and the event. None: no documents have this event here.
 unfoldable pub step : ℕ → Event → State → Option (Outcome State)
-step at (scalar_event a g y x) s = Some (Ok (whole a (length s.table) (scalar str_tag x) (record { inner = s.inner; outer = s.outer; table = opened a s.table })))
+step at (scalar_event a g y x) s = Some (Ok (scalar_added a x s))
 step at (alias_event name) s = Some (and_then (placed at (tree_named (last_named name s.table))) (added s))
 step at (sequence_start b a g) s = Some (Ok (entered a s))
 step at (mapping_start b a g) s = Some (Ok (entered a s))
-step at sequence_end s = left sequence_from s s.outer
-step at mapping_end s = left mapping_from s s.outer
+step at sequence_end s = left (collection_from false) s s.outer
+step at mapping_end s = left (collection_from true) s s.outer
 step at (document_start b) s = Some (Ok (record { inner = s.inner; outer = s.outer; table = [] }))
 step at _ s = Some (Ok s)
 

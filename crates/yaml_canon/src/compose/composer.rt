@@ -1,5 +1,16 @@
 //! Temporary: one pass over a stream's events, which numbers its nodes and puts aliases in place.
-ghost use Rattle.std.specs.Prelude.{◌≡◌};
+ghost use Rattle.std.specs.Prelude.{◌≡◌, List, [], ◌∷◌, ◌++◌, ◌<◌, length, map, reverse, Some, IfOk, IfErr, MatchResult, IfSome};
+ghost use Rattle.std.specs.List.{All};
+ghost use Rattle.std.specs.Cow.{cow_str_bytes};
+ghost use Rattle.std.specs.Option.{option_map};
+ghost use Rattle.yaml_text.specs.Marked.{Document, stream_events};
+ghost use Rattle.yaml_text.specs.Core.{Cause};
+ghost use Rattle.yaml_text.specs.Unfold.{Outcome, Table, opened, trees_of, and_then, placed, tree_named, last_named};
+ghost use Rattle.yaml_text.specs.EventModel.{event_of};
+ghost use Rattle.yaml_canon.specs.Composable.{Composable, RefusesAlias};
+ghost use Rattle.yaml_canon.specs.Machine.{State, start, whole, entered, left, added, step, scalar_added, collection_from};
+ghost use Rattle.yaml_canon.specs.GraphModel.{node_tree, trees_in, parts_of};
+ghost use Rattle.yaml_canon.specs.ComposerModel.{anchor_text, number_named, Holds, Reached, Composed};
 
 use super::graph::{Graph, Node};
 use std::alloc::Global;
@@ -30,7 +41,9 @@ struct Composer<'a> {
 }
 
 impl<'a> Composer<'a> {
-    fn new(alloc: Global) -> Composer<'a> {
+    fn new(alloc: Global) -> Composer<'a>
+        ensures { Holds result start }
+    {
         Composer {
             nodes: Vec::new(alloc),
             anchors: Vec::new(alloc),
@@ -40,7 +53,10 @@ impl<'a> Composer<'a> {
     }
 
     /// Notes that a node begins, and gives its place among the anchors.
-    fn begin(&mut self, anchor: Option<&'a str>) -> Result<usize, Fault> {
+    fn begin(&mut self, anchor: Option<&'a str>) -> Result<usize, Fault>
+        ensures ok { (s : State) → Holds self.old s → IfOk result (λ slot. (slot ≡ length s.table) × Holds self.new (record { inner = s.inner; outer = s.outer; table = opened (anchor_text anchor.entry) s.table })) }
+        ensures err { IfErr result (λ fault. fault ≡ Fault.OutOfMemory) }
+    {
         let slot = self.anchors.len();
         if let Some(name) = anchor {
             self.anchors.push((name, None))?;
@@ -49,20 +65,36 @@ impl<'a> Composer<'a> {
     }
 
     /// Adds a whole node, whose anchor stands at `slot`.
-    fn add(&mut self, anchor: Option<&'a str>, slot: usize, node: Node<'a>) -> Result<(), Fault> {
+    fn add(&mut self, anchor: Option<&'a str>, slot: usize, node: Node<'a>) -> Result<(), Fault>
+        requires { All (λ part. part < length self.old.nodes.items) (parts_of node) }
+        ensures ok { (s : State) → Holds self.old s → IfOk result (λ _. Holds self.new (whole (anchor_text anchor.entry) slot (node_tree (trees_in self.old.nodes.items) node.entry) s)) }
+        ensures err { IfErr result (λ fault. fault ≡ Fault.OutOfMemory) }
+    {
         let number = self.nodes.len();
         self.nodes.push(node)?;
         self.inner.push(number)?;
         if let Some(name) = anchor {
-            if let Some(place) = self.anchors.get_mut(slot) {
-                *place = (name, Some(number));
+            if slot < self.anchors.len() {
+                self.anchors[slot] = (name, Some(number));
             }
         }
         Ok(())
     }
 
+    /// A scalar is a node of its own.
+    fn scalar(&mut self, anchor: Option<&'a str>, text: &'a str) -> Result<(), Fault>
+        ensures ok { (s : State) → Holds self.old s → IfOk result (λ _. Holds self.new (scalar_added (anchor_text anchor.entry) text.now s)) }
+        ensures err { IfErr result (λ fault. fault ≡ Fault.OutOfMemory) }
+    {
+        let slot = self.begin(anchor)?;
+        self.add(anchor, slot, Node::Scalar(text))
+    }
+
     /// A collection begins.
-    fn enter(&mut self, alloc: Global, anchor: Option<&'a str>) -> Result<(), Fault> {
+    fn enter(&mut self, alloc: Global, anchor: Option<&'a str>) -> Result<(), Fault>
+        ensures ok { (s : State) → Holds self.old s → IfOk result (λ _. Holds self.new (entered (anchor_text anchor.entry) s)) }
+        ensures err { IfErr result (λ fault. fault ≡ Fault.OutOfMemory) }
+    {
         let slot = self.begin(anchor)?;
         let before = mem::replace(&mut self.inner, Vec::new(alloc));
         self.outer.push(Open {
@@ -73,8 +105,28 @@ impl<'a> Composer<'a> {
         Ok(())
     }
 
+    /// The innermost collection ends.
+    fn leave(&mut self, is_mapping: bool) -> Result<(), Fault>
+        requires { (s : State) × Holds self.old s }
+        ensures ok { (s : State) → Holds self.old s → (found : Outcome State) → left (collection_from is_mapping) s s.outer ≡ Some found → IfOk result (λ _. Reached found self.new) }
+        ensures err { IfErr result (λ fault. fault ≡ Fault.OutOfMemory) }
+    {
+        if let Some(open) = self.outer.pop() {
+            let parts = mem::replace(&mut self.inner, open.before);
+            let node = if is_mapping {
+                Node::Mapping(parts)
+            } else {
+                Node::Sequence(parts)
+            };
+            self.add(open.anchor, open.slot, node)?;
+        }
+        Ok(())
+    }
+
     /// What stands at the last anchor of this name: no anchor, an open node or a number.
-    fn last_named(&self, name: &str) -> Option<Option<usize>> {
+    fn last_named(&self, name: &str) -> Option<Option<usize>>
+        ensures { result ≡ number_named name.now self.now.anchors.items }
+    {
         let mut found = None;
         for anchor in &self.anchors {
             if anchor.0 == name {
@@ -85,7 +137,11 @@ impl<'a> Composer<'a> {
     }
 
     /// The event at `at` is an alias.
-    fn alias(&mut self, at: usize, name: &str) -> Result<(), Fault> {
+    fn alias(&mut self, at: usize, name: &str) -> Result<(), Fault>
+        ensures { (s : State) → Holds self.old s →
+            let found = and_then (placed at (tree_named (last_named name.now s.table))) (added s) in
+            MatchResult result (λ _. Reached found self.new) (RefusesAlias found) }
+    {
         match self.last_named(name) {
             None => Err(Fault::UndefinedAlias(at)),
             Some(None) => Err(Fault::CyclicAlias(at)),
@@ -95,4 +151,50 @@ impl<'a> Composer<'a> {
             }
         }
     }
+
+    /// Takes the event at `at`.
+    fn take(&mut self, alloc: Global, at: usize, event: &'a Event<'_>) -> Result<(), Fault>
+        requires { (s : State) × Holds self.old s }
+        ensures { (s : State) → Holds self.old s → (found : Outcome State) → step at (event_of event.now) s ≡ Some found →
+            MatchResult result (λ _. Reached found self.new) (RefusesAlias found) }
+    {
+        match event {
+            Event::Scalar { anchor, text, .. } => self.scalar(name_of(anchor), text.as_str()),
+            Event::Alias { name } => self.alias(at, name.as_str()),
+            Event::SequenceStart { anchor, .. } => self.enter(alloc, name_of(anchor)),
+            Event::MappingStart { anchor, .. } => self.enter(alloc, name_of(anchor)),
+            Event::SequenceEnd => self.leave(false),
+            Event::MappingEnd => self.leave(true),
+            Event::DocumentStart { .. } => {
+                self.anchors.clear();
+                Ok(())
+            }
+            Event::DocumentEnd { .. } | Event::StreamStart | Event::StreamEnd => Ok(()),
+        }
+    }
+}
+
+fn name_of<'a>(anchor: &'a Option<CowStr<'_>>) -> Option<&'a str>
+    ensures { anchor_text result ≡ option_map cow_str_bytes anchor.now }
+{
+    match anchor {
+        None => None,
+        Some(name) => Some(name.as_str()),
+    }
+}
+
+/// Numbers the nodes of a stream. An alias is told by its event's number, where its anchor is
+/// undefined (12) or stands on a collection that is still open (13).
+pub(super) fn compose<'a>(alloc: Global, events: &'a [Event<'_>]) -> Result<Graph<'a>, Fault>
+    requires { Composable events.now }
+    ensures { (ds : List Document) → map event_of events.now ≡ stream_events ds → MatchResult result (Composed ds) (RefusesAlias (trees_of ds)) }
+{
+    let mut composer = Composer::new(alloc);
+    for (at, event) in events.iter().enumerate() {
+        composer.take(alloc, at, event)?;
+    }
+    Ok(Graph {
+        nodes: composer.nodes,
+        roots: composer.inner,
+    })
 }
