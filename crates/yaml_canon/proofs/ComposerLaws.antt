@@ -1,6 +1,7 @@
 -- What the composer's lists stand for, as they grow.
-use Rattle.std.proofs.Common.{◌≡◌, ℕ, zero, suc, ◌+◌, ◌<◌, ◌≤◌, Bool, true, false, cond, bytes_eq, List, [], ◌∷◌, ◌++◌, length, set, map, reverse, refl, sym, ◌∙◌, ap, subst, arith, append_assoc, append-nil, length-append, get_or, Result, Ok, Err}
-use Rattle.std.specs.Prelude.{Option, None, Some}
+use Rattle.std.proofs.Common.{Global, ◌⊎◌, inl, inr, ◌≡◌, take, add-one, ℕ, zero, suc, ◌+◌, ◌<◌, ◌≤◌, Bool, true, false, cond, bytes_eq, List, [], ◌∷◌, ◌++◌, length, set, map, reverse, refl, sym, ◌∙◌, ap, subst, arith, append_assoc, append-nil, length-append, get_or, Result, Ok, Err}
+use Rattle.std.specs.Prelude.{Option, None, Some, Vec, IfOk, IfErr, MatchResult}
+use Rattle.std.proofs.Math.Seq.{take-suc}
 use Rattle.std.specs.List.{slice_get, slice_index_or, All}
 use Rattle.std.specs.Borrow.{Bor}
 use Rattle.std.proofs.lemmas.Option.{slice_get_within, get_or_from_slice_get}
@@ -10,10 +11,18 @@ use lib.Pointwise.{bytes_decides}
 use Rattle.yaml_text.specs.Tree.{Tree, scalar}
 use Rattle.yaml_text.specs.Event.{Event, Anchor}
 use Rattle.yaml_text.specs.Unfold.{Outcome, Table, or_else, opened, closed, last_named, tree_named, and_then, placed}
+use Rattle.yaml_text.specs.Core.{undefined_alias, cyclic_alias}
+use Rattle.yaml_text.specs.declared.fault.Fault.{Fault}
+use Rattle.yaml_text.specs.declared.fault.Fault.TheVariants as faults
+use Rattle.yaml_text.specs.EventModel.{event_of}
+use Rattle.yaml_text.specs.declared.event.Event as code
+use Rattle.yaml_text.specs.declared.event.Event.TheVariants as events
+use Rattle.yaml_canon.specs.Composable.{RefusesAlias}
+use Rattle.yaml_canon.specs.declared.compose.composer.Composer.{Composer}
 use Rattle.yaml_canon.specs.Machine.{State, start, whole, entered, left, added, step, told, next, run, collection_from}
 use Rattle.yaml_canon.specs.Machine as machine
 use Rattle.yaml_canon.specs.GraphModel.{trees_at, node_tree, more_trees, trees_in, parts_of, Grounded}
-use Rattle.yaml_canon.specs.ComposerModel.{anchor_text, Anchors, number_named, Stands, AllStand, SlotStands, TableStands, OpenStands, OpensStand, Held}
+use Rattle.yaml_canon.specs.ComposerModel.{anchor_text, Anchors, number_named, Stands, AllStand, SlotStands, TableStands, OpenStands, OpensStand, Held, Holds, Reached}
 use Rattle.yaml_canon.specs.declared.compose.composer.Open.{Open}
 use Rattle.yaml_canon.specs.declared.compose.graph.Node.{Node}
 use Rattle.yaml_canon.specs.declared.compose.graph.Node.TheVariants as nodes
@@ -271,3 +280,116 @@ begin-plain ns anchors os places s a h ea = rw ea h
 pub record Collects (ts : List Tree) (is_mapping : Bool) (places : List ℕ) (n : Node) : Type 0 where
   pub parts : parts_of n ≡ places
   pub tree : node_tree ts n ≡ collection_from is_mapping (trees_at ts places)
+
+pub leave-found : (ns : List Node) (anchors : Anchors) (os : List Open) (o : Open) (s : State) (l : Leaves ns anchors os o s) (is_mapping : Bool) (n : Node) (places : List ℕ) → Collects (trees_in ns) is_mapping places n
+    → AllStand (trees_in ns) places s.inner → (found : Outcome State) → left (collection_from is_mapping) s s.outer ≡ Some found → (c : Composer)
+    → Holds c (whole (anchor_text o.anchor) o.slot (node_tree (trees_in ns) n) (record { inner = l.frame.before; outer = l.frames; table = s.table })) → Reached found c
+leave-found ns anchors os o s l is_mapping n places k h found e c p =
+    let make = collection_from is_mapping in
+    let rest : State = record { inner = l.frame.before; outer = l.frames; table = s.table } in
+    let t : State = whole l.frame.anchor l.frame.slot (make s.inner) rest in
+    let q : Some found ≡ Some (Ok t) = sym e ∙ ap (left make s) l.outer in
+    let tree : node_tree (trees_in ns) n ≡ make s.inner = k.tree ∙ ap make (trees-at (trees_in ns) places s.inner h) in
+    let w : whole (anchor_text o.anchor) o.slot (node_tree (trees_in ns) n) rest ≡ t = λ z. whole (l.anchor z) (l.slot z) (tree z) rest in
+    record { state = t; is = cc; holds = subst (λ x. Holds c x) w p }
+
+collect : (ts : List Tree) (is_mapping : Bool) (parts inner : Vec ℕ Global) (n : Node) → parts ≡ inner → n ≡ (cond is_mapping (nodes.Mapping parts) (nodes.Sequence parts)) → Collects ts is_mapping inner.items n
+collect ts true parts inner n e h = rw (h, e) (record { parts = refl; tree = refl })
+collect ts false parts inner n e h = rw (h, e) (record { parts = refl; tree = refl })
+
+pub collect-mapping : (ts : List Tree) (is_mapping : Bool) (parts inner : Vec ℕ Global) (n : Node) → parts ≡ inner → is_mapping ≡ true → n ≡ nodes.Mapping parts → Collects ts is_mapping inner.items n
+collect-mapping ts is_mapping parts inner n e b h = collect ts is_mapping parts inner n e (rw b h)
+
+pub collect-sequence : (ts : List Tree) (is_mapping : Bool) (parts inner : Vec ℕ Global) (n : Node) → parts ≡ inner → is_mapping ≡ false → n ≡ nodes.Sequence parts → Collects ts is_mapping inner.items n
+collect-sequence ts is_mapping parts inner n e b h = collect ts is_mapping parts inner n e (rw b h)
+
+pub parts-below : (ns : List Node) (is_mapping : Bool) (places : List ℕ) (us : List Tree) (n : Node) → Collects (trees_in ns) is_mapping places n → AllStand (trees_in ns) places us → All (λ part. part < length ns) (parts_of n)
+parts-below ns is_mapping places us n k h = subst (λ z. All (λ part. part < length ns) z) (sym k.parts) (subst (λ m. All (λ part. part < m) places) (trees-length ns) (all-below (trees_in ns) places us h))
+
+-- ---- an alias
+
+named-none : (ts : List Tree) (a : Option (Option ℕ)) (o : Option (Option Tree)) → NamedStands ts a o → a ≡ None → o ≡ None
+named-none ts a None h e = refl
+named-none ts None (Some o) h e = absurd h
+named-none ts (Some a) (Some o) h e = absurd (cc)
+
+named-open : (ts : List Tree) (a : Option (Option ℕ)) (o : Option (Option Tree)) → NamedStands ts a o → a ≡ Some None → o ≡ Some None
+named-open ts (Some None) (Some None) h e = refl
+named-open ts (Some None) (Some (Some t)) h e = absurd h
+named-open ts (Some (Some i)) o h e = absurd (cc)
+named-open ts None o h e = absurd (cc)
+named-open ts (Some None) None h e = absurd h
+
+pub record IsNamed (ts : List Tree) (i : ℕ) (o : Option (Option Tree)) : Type 0 where
+  pub tree : Tree
+  pub is : o ≡ Some (Some tree)
+  pub stands : Stands ts i tree
+
+named-whole : (ts : List Tree) (a : Option (Option ℕ)) (o : Option (Option Tree)) (i : ℕ) → NamedStands ts a o → a ≡ Some (Some i) → IsNamed ts i o
+named-whole ts (Some (Some j)) (Some (Some t)) i h e = let q : j ≡ i = cc in record { tree = t; is = refl; stands = subst (λ z. Stands ts z t) q h }
+named-whole ts (Some (Some j)) (Some None) i h e = absurd h
+named-whole ts (Some (Some j)) None i h e = absurd h
+named-whole ts (Some None) o i h e = absurd (cc)
+named-whole ts None o i h e = absurd (cc)
+
+module _ (at : ℕ) (name : List ℕ) (c : Composer) (s : State) (h : Holds c s) (a : Option (Option ℕ)) (is : a ≡ number_named name c.anchors.items) where
+  stands : NamedStands (trees_in c.nodes.items) a (last_named name s.table)
+  stands = subst (λ z. NamedStands (trees_in c.nodes.items) z (last_named name s.table)) (sym is) (named (trees_in c.nodes.items) name c.anchors.items s.table h.names)
+
+  pub alias-undefined : a ≡ None → and_then (placed at (tree_named (last_named name s.table))) (added s) ≡ Err (undefined_alias, at)
+  alias-undefined e = rw (named-none (trees_in c.nodes.items) a (last_named name s.table) stands e) refl
+
+  pub alias-cyclic : a ≡ Some None → and_then (placed at (tree_named (last_named name s.table))) (added s) ≡ Err (cyclic_alias, at)
+  alias-cyclic e = rw (named-open (trees_in c.nodes.items) a (last_named name s.table) stands e) refl
+
+  pub alias-added : (i : ℕ) (more : List ℕ) (d : Composer) → a ≡ Some (Some i) → more ≡ c.inner.items ++ (i ∷ []) → d.nodes.items ≡ c.nodes.items → d.anchors.items ≡ c.anchors.items → d.outer.items ≡ c.outer.items → d.inner.items ≡ more
+      → Reached (and_then (placed at (tree_named (last_named name s.table))) (added s)) d
+  alias-added i more d e em qn qa qo qi =
+      let w = named-whole (trees_in c.nodes.items) a (last_named name s.table) i stands e in
+      let t : State = record { inner = s.inner ++ (w.tree ∷ []); outer = s.outer; table = s.table } in
+      let k : Held c.nodes.items c.anchors.items c.outer.items (c.inner.items ++ (i ∷ [])) t = held-alias c.nodes.items c.anchors.items c.outer.items c.inner.items i s w.tree h w.stands in
+      record { state = t; is = ap (λ o. and_then (placed at (tree_named o)) (added s)) w.is; holds = rw (qn, qa, qo, qi, em) k }
+
+-- ---- a call that can only want memory
+
+pub answered : (r : Result (Unit {0}) Fault) (c : Composer) (t u : State) (found : Outcome State) → found ≡ Ok t → u ≡ t → IfOk r (λ _. Holds c u) → IfErr r (λ fault. fault ≡ faults.OutOfMemory) → MatchResult r (λ _. Reached found c) (RefusesAlias found)
+answered (Ok v) c t u found e q h k = record { state = t; is = e; holds = subst (λ w. Holds c w) q h }
+answered (Err f) c t u found e q h k = subst (λ z. RefusesAlias found z) (sym k) tt
+
+pub answered-reached : (r : Result (Unit {0}) Fault) (c : Composer) (found : Outcome State) → IfOk r (λ _. Reached found c) → IfErr r (λ fault. fault ≡ faults.OutOfMemory) → MatchResult r (λ _. Reached found c) (RefusesAlias found)
+answered-reached (Ok u) c found h k = h
+answered-reached (Err f) c found h k = subst (λ z. RefusesAlias found z) (sym k) tt
+
+pub answered-same : (r : Result (Unit {0}) Fault) (c : Composer) (found o : Outcome State) → found ≡ o → MatchResult r (λ _. Reached o c) (RefusesAlias o) → MatchResult r (λ _. Reached found c) (RefusesAlias found)
+answered-same r c found o e h = subst (λ w. MatchResult r (λ _. Reached w c) (RefusesAlias w)) (sym e) h
+
+-- ---- the loop over the anchors
+
+module _ (name : List ℕ) (xs : Anchors) (i : ℕ) (found new : Option (Option ℕ)) (b : Bool) (d : Bor (List ℕ) × Option ℕ) (l : i < length xs) (is : b ≡ bytes_eq (get_or xs i d).0.now name) (so_far : found ≡ number_named name (take i xs)) where
+  more-named : number_named name (take (i + 1) xs) ≡ or_else (cond b (Some (get_or xs i d).1) None) found
+  more-named =
+      let x = get_or xs i d in
+      let t : take (i + 1) xs ≡ take i xs ++ (x ∷ []) = rw add-one (take-suc xs i d l) in
+      ap (number_named name) t ∙ (named-push name (take i xs) x ∙ (λ z. or_else (cond (sym is z) (Some x.1) None) (sym so_far z)))
+
+  pub found-here : b ≡ true → new ≡ Some (get_or xs i d).1 → new ≡ number_named name (take (i + 1) xs)
+  found-here h q = q ∙ sym (more-named ∙ ap (λ v. or_else (cond v (Some (get_or xs i d).1) None) found) h)
+
+  pub found-before : b ≡ false → new ≡ found → new ≡ number_named name (take (i + 1) xs)
+  found-before h q = q ∙ sym (more-named ∙ ap (λ v. or_else (cond v (Some (get_or xs i d).1) None) found) h)
+
+-- ---- one event
+
+pub took : (at : ℕ) (given is : code.Event) (s : State) (found o : Outcome State) → given ≡ is → step at (event_of given) s ≡ Some found → step at (event_of is) s ≡ Some o → found ≡ o
+took at given is s found o q e f = let g : Some found ≡ Some o = sym e ∙ (ap (λ v. step at (event_of v) s) q ∙ f) in cc
+
+pub taken : (at : ℕ) (given is : code.Event) (s : State) (found : Outcome State) → given ≡ is → step at (event_of given) s ≡ Some found → step at (event_of is) s ≡ Some found
+taken at given is s found q e = subst (λ v. step at (event_of v) s ≡ Some found) q e
+
+-- events that change nothing
+pub stays : (at : ℕ) (given : code.Event) (s : State) (found : Outcome State) (c : Composer) → ((x : Bool) × (given ≡ events.DocumentEnd x)) ⊎ ((given ≡ events.StreamStart) ⊎ (given ≡ events.StreamEnd))
+    → step at (event_of given) s ≡ Some found → Holds c s → Reached found c
+unfolding step
+stays at given s found c (inl w) e h = record { state = s; is = took at given (events.DocumentEnd w.0) s found (Ok s) w.1 e refl; holds = h }
+stays at given s found c (inr (inl q)) e h = record { state = s; is = took at given events.StreamStart s found (Ok s) q e refl; holds = h }
+stays at given s found c (inr (inr q)) e h = record { state = s; is = took at given events.StreamEnd s found (Ok s) q e refl; holds = h }
