@@ -1,28 +1,32 @@
 -- What the composer's lists stand for, as they grow.
-use Rattle.std.proofs.Common.{Global, ◌⊎◌, inl, inr, ◌≡◌, take, add-one, ℕ, zero, suc, ◌+◌, ◌<◌, ◌≤◌, Bool, true, false, cond, bytes_eq, List, [], ◌∷◌, ◌++◌, length, set, map, reverse, refl, sym, ◌∙◌, ap, subst, arith, append_assoc, append-nil, length-append, get_or, Result, Ok, Err}
+use Rattle.std.proofs.Common.{Global, drop, drop-cons, ◌⊎◌, inl, inr, ◌≡◌, take, add-one, ℕ, zero, suc, ◌+◌, ◌<◌, ◌≤◌, Bool, true, false, cond, bytes_eq, List, [], ◌∷◌, ◌++◌, length, set, map, reverse, refl, sym, ◌∙◌, ap, subst, arith, append_assoc, append-nil, length-append, get_or, Result, Ok, Err}
 use Rattle.std.specs.Prelude.{Option, None, Some, Vec, IfOk, IfErr, MatchResult}
 use Rattle.std.proofs.Math.Seq.{take-suc}
 use Rattle.std.specs.List.{slice_get, slice_index_or, All}
 use Rattle.std.specs.Borrow.{Bor}
 use Rattle.std.proofs.lemmas.Option.{slice_get_within, get_or_from_slice_get}
 use Rattle.std.proofs.lemmas.List.Elements.{All-nil, All-cons}
-use Rattle.std.proofs.lemmas.List.{reverse-append}
+use Rattle.std.proofs.lemmas.List.{reverse-append, drop_all}
 use lib.Pointwise.{bytes_decides}
 use Rattle.yaml_text.specs.Tree.{Tree, scalar}
 use Rattle.yaml_text.specs.Event.{Event, Anchor}
-use Rattle.yaml_text.specs.Unfold.{Outcome, Table, or_else, opened, closed, last_named, tree_named, and_then, placed}
-use Rattle.yaml_text.specs.Core.{undefined_alias, cyclic_alias}
+use Rattle.yaml_text.specs.Unfold.{Outcome, Table, or_else, opened, closed, last_named, tree_named, and_then, placed, trees_of}
+use Rattle.yaml_text.specs.Core.{Cause, undefined_alias, cyclic_alias}
 use Rattle.yaml_text.specs.declared.fault.Fault.{Fault}
 use Rattle.yaml_text.specs.declared.fault.Fault.TheVariants as faults
 use Rattle.yaml_text.specs.EventModel.{event_of}
 use Rattle.yaml_text.specs.declared.event.Event as code
 use Rattle.yaml_text.specs.declared.event.Event.TheVariants as events
-use Rattle.yaml_canon.specs.Composable.{RefusesAlias}
+use Rattle.yaml_text.specs.Marked.{Document, stream_events}
+use Rattle.yaml_text.proofs.FlatLaws.{stream_once}
+use Rattle.yaml_canon.specs.Composable.{Composable, RefusesAlias}
+use Rattle.yaml_canon.proofs.MachineLaws.{roots_of, run-stream}
+use Rattle.yaml_canon.specs.declared.compose.graph.Graph.{Graph}
 use Rattle.yaml_canon.specs.declared.compose.composer.Composer.{Composer}
 use Rattle.yaml_canon.specs.Machine.{State, start, whole, entered, left, added, step, told, next, run, collection_from}
 use Rattle.yaml_canon.specs.Machine as machine
 use Rattle.yaml_canon.specs.GraphModel.{trees_at, node_tree, more_trees, trees_in, parts_of, Grounded}
-use Rattle.yaml_canon.specs.ComposerModel.{anchor_text, Anchors, number_named, Stands, AllStand, SlotStands, TableStands, OpenStands, OpensStand, Held, Holds, Reached}
+use Rattle.yaml_canon.specs.ComposerModel.{anchor_text, Anchors, number_named, Stands, AllStand, SlotStands, TableStands, OpenStands, OpensStand, Held, Holds, Reached, Composed}
 use Rattle.yaml_canon.specs.declared.compose.composer.Open.{Open}
 use Rattle.yaml_canon.specs.declared.compose.graph.Node.{Node}
 use Rattle.yaml_canon.specs.declared.compose.graph.Node.TheVariants as nodes
@@ -393,3 +397,47 @@ unfolding step
 stays at given s found c (inl w) e h = record { state = s; is = took at given (events.DocumentEnd w.0) s found (Ok s) w.1 e refl; holds = h }
 stays at given s found c (inr (inl q)) e h = record { state = s; is = took at given events.StreamStart s found (Ok s) q e refl; holds = h }
 stays at given s found c (inr (inr q)) e h = record { state = s; is = took at given events.StreamEnd s found (Ok s) q e refl; holds = h }
+
+-- ---- a whole stream
+
+module _ (es : List code.Event) (composable : Composable es) (ds : List Document) (cut : map event_of es ≡ stream_events ds) where
+  total-is : roots_of (run 0 (map event_of es) start) ≡ Some (trees_of ds)
+  total-is = 
+      let q : composable.documents ≡ ds = stream_once composable.documents ds (sym composable.cut ∙ cut) in
+      ap (λ x. roots_of (run 0 x start)) composable.cut ∙ (run-stream composable.documents composable.plain ∙ ap (λ x. Some (trees_of x)) q)
+
+  -- what the step at this place comes to
+  pub record Stepped (at : ℕ) (e : code.Event) (s : State) : Type 0 where
+    pub found : Outcome State
+    pub is : step at (event_of e) s ≡ Some found
+    pub rest : told found (run (suc at) (map event_of (drop (suc at) es))) ≡ run 0 (map event_of es) start
+
+  stepped-by : (at : ℕ) (e : code.Event) (s : State) (o : Option (Outcome State)) → step at (event_of e) s ≡ o → next o (run (suc at) (map event_of (drop (suc at) es))) ≡ run 0 (map event_of es) start → Stepped at e s
+  stepped-by at e s None q h = let w : roots_of None ≡ Some (trees_of ds) = ap roots_of h ∙ total-is in absurd (cc)
+  stepped-by at e s (Some found) q h = record { found = found; is = q; rest = h }
+
+  pub stepped : (at : ℕ) (e : code.Event) (s : State) → e ≡ get_or es at e → at < length es → run at (map event_of (drop at es)) s ≡ run 0 (map event_of es) start → Stepped at e s
+  unfolding run
+  stepped at e s i l h =
+      let q : drop at es ≡ e ∷ drop (suc at) es = drop-cons es at e l ∙ ap (λ x. x ∷ drop (suc at) es) (sym i) in
+      stepped-by at e s (step at (event_of e) s) refl (ap (λ x. run at (map event_of x) s) (sym q) ∙ h)
+
+  pub goes-on : (at : ℕ) (e : code.Event) (s : State) (k : Stepped at e s) (c : Composer) (r : Reached k.found c) → run (at + 1) (map event_of (drop (at + 1) es)) r.state ≡ run 0 (map event_of es) start
+  goes-on at e s k c r = rw add-one (ap (λ o. told o (run (suc at) (map event_of (drop (suc at) es)))) (sym r.is) ∙ k.rest)
+
+  refused-by : (at : ℕ) (e : code.Event) (s : State) (k : Stepped at e s) (x : Cause × ℕ) → k.found ≡ Err x → trees_of ds ≡ Err x
+  refused-by at e s k x q =
+      let w : Some (Err x) ≡ Some (trees_of ds) = ap (λ o. roots_of (told o (run (suc at) (map event_of (drop (suc at) es))))) (sym q) ∙ (ap roots_of k.rest ∙ total-is) in
+      cc
+
+  pub refused : (at : ℕ) (e : code.Event) (s : State) (k : Stepped at e s) (f : Fault) → RefusesAlias k.found f → RefusesAlias (trees_of ds) f
+  refused at e s k (faults.UndefinedAlias n) h = refused-by at e s k (undefined_alias, n) h
+  refused at e s k (faults.CyclicAlias n) h = refused-by at e s k (cyclic_alias, n) h
+  refused at e s k faults.OutOfMemory h = tt
+  refused at e s k _ h = absurd h
+
+  pub composed : (at : ℕ) (s : State) (g : Graph) (anchors : Anchors) (os : List Open) → length es ≤ at → run at (map event_of (drop at es)) s ≡ run 0 (map event_of es) start → Held g.nodes.items anchors os g.roots.items s → Composed ds g
+  unfolding run
+  composed at s g anchors os l q h =
+      let e : Some (Ok s.inner) ≡ Some (trees_of ds) = ap (λ x. roots_of (run at (map event_of x) s)) (sym (drop_all at es l)) ∙ (ap roots_of q ∙ total-is) in
+      record { trees = s.inner; unfolded = cc; rooted = record { grounded = h.grounded; roots = h.inside } }
