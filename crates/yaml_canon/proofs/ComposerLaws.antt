@@ -1,16 +1,17 @@
 -- What the composer's lists stand for, as they grow.
-use Rattle.std.proofs.Common.{Global, drop, drop-cons, ◌⊎◌, inl, inr, ◌≡◌, take, add-one, ℕ, zero, suc, ◌+◌, ◌<◌, ◌≤◌, Bool, true, false, cond, bytes_eq, List, [], ◌∷◌, ◌++◌, length, set, map, reverse, refl, sym, ◌∙◌, ap, subst, arith, append_assoc, append-nil, length-append, get_or, Result, Ok, Err}
+use Rattle.std.proofs.Common.{Global, drop, drop-cons, ◌⊎◌, inl, inr, ◌≡◌, take, add-one, ℕ, zero, suc, ◌+◌, ◌<◌, ◌≤◌, Bool, true, false, cond, bytes_eq, List, [], ◌∷◌, ◌++◌, length, set, map, reverse, refl, sym, ◌∙◌, ap, subst, arith, length-append, get_or, Result, Ok, Err}
 use Rattle.std.specs.Prelude.{Option, None, Some, Vec, IfOk, IfErr, MatchResult}
 use Rattle.std.proofs.Math.Seq.{take-suc}
-use Rattle.std.specs.List.{slice_get, slice_index_or, All}
+use Rattle.std.specs.List.{slice_get, All}
 use Rattle.std.specs.Borrow.{Bor}
 use Rattle.std.proofs.lemmas.Option.{slice_get_within, get_or_from_slice_get}
 use Rattle.std.proofs.lemmas.List.Elements.{All-nil, All-cons}
 use Rattle.std.proofs.lemmas.List.{reverse-append, drop_all}
-use lib.Pointwise.{bytes_decides}
-use Rattle.yaml_text.specs.Tree.{Tree, scalar}
-use Rattle.yaml_text.specs.Event.{Event, Anchor}
-use Rattle.yaml_text.specs.Unfold.{Outcome, Table, or_else, opened, closed, last_named, tree_named, and_then, placed, trees_of}
+use Rattle.yaml_text.specs.Tree.{Tree, scalar, mapping}
+use Rattle.yaml_text.specs.Tag.{map_tag}
+use Rattle.yaml_canon.specs.TreeModel.{pairs}
+use Rattle.yaml_text.specs.Event.{Anchor}
+use Rattle.yaml_text.specs.Unfold.{Outcome, Table, or_else, opened, last_named, tree_named, and_then, placed, trees_of}
 use Rattle.yaml_text.specs.Core.{Cause, undefined_alias, cyclic_alias}
 use Rattle.yaml_text.specs.declared.fault.Fault.{Fault}
 use Rattle.yaml_text.specs.declared.fault.Fault.TheVariants as faults
@@ -23,10 +24,10 @@ use Rattle.yaml_canon.specs.Composable.{Composable, RefusesAlias}
 use Rattle.yaml_canon.proofs.MachineLaws.{roots_of, run-stream}
 use Rattle.yaml_canon.specs.declared.compose.graph.Graph.{Graph}
 use Rattle.yaml_canon.specs.declared.compose.composer.Composer.{Composer}
-use Rattle.yaml_canon.specs.Machine.{State, start, whole, entered, left, added, step, told, next, run, collection_from}
+use Rattle.yaml_canon.specs.Machine.{State, start, whole, entered, left, added, step, told, next, run, paired, collection_from}
 use Rattle.yaml_canon.specs.Machine as machine
-use Rattle.yaml_canon.specs.GraphModel.{trees_at, node_tree, more_trees, trees_in, parts_of, Grounded}
-use Rattle.yaml_canon.specs.ComposerModel.{anchor_text, Anchors, number_named, Stands, AllStand, SlotStands, TableStands, OpenStands, OpensStand, Held, Holds, Reached, Composed}
+use Rattle.yaml_canon.specs.GraphModel.{trees_at, node_tree, more_trees, trees_in, tree_at, entries_at, PartsBelow}
+use Rattle.yaml_canon.specs.ComposerModel.{anchor_text, Anchors, number_named, Stands, AllStand, SlotStands, TableStands, OpensStand, Collects, Held, Holds, Reached, Composed}
 use Rattle.yaml_canon.specs.declared.compose.composer.Open.{Open}
 use Rattle.yaml_canon.specs.declared.compose.graph.Node.{Node}
 use Rattle.yaml_canon.specs.declared.compose.graph.Node.TheVariants as nodes
@@ -49,12 +50,12 @@ trees-length ns = omega (arith, more-length [] ns)
 
 -- ---- a place in a list that grows at its end
 
-get-more : {X : Type 0} (xs ys : List X) (i : ℕ) (x : X) → slice_get xs i ≡ Some x → slice_get (xs ++ ys) i ≡ Some x
+pub get-more : {X : Type 0} (xs ys : List X) (i : ℕ) (x : X) → slice_get xs i ≡ Some x → slice_get (xs ++ ys) i ≡ Some x
 get-more [] ys i x h = absurd (cc)
 get-more (y ∷ xs) ys zero x h = h
 get-more (y ∷ xs) ys (suc i) x h = get-more xs ys i x h
 
-get-end : {X : Type 0} (xs : List X) (x : X) → slice_get (xs ++ (x ∷ [])) (length xs) ≡ Some x
+pub get-end : {X : Type 0} (xs : List X) (x : X) → slice_get (xs ++ (x ∷ [])) (length xs) ≡ Some x
 get-end [] x = refl
 get-end (y ∷ xs) x = get-end xs x
 
@@ -179,15 +180,15 @@ named-push name (o ∷ anchors) a =
 
 -- ---- the composer's lists after each of its calls
 
-more-held : (ns : List Node) (n : Node) (anchors : Anchors) (os : List Open) (places : List ℕ) (s : State) → Held ns anchors os places s → All (λ part. part < length ns) (parts_of n) → Held (ns ++ (n ∷ [])) anchors os places s
+more-held : (ns : List Node) (n : Node) (anchors : Anchors) (os : List Open) (places : List ℕ) (s : State) → Held ns anchors os places s → PartsBelow (length ns) n → Held (ns ++ (n ∷ [])) anchors os places s
 more-held ns n anchors os places s h b =
     let q = sym (trees-push ns n) in
     let us = node_tree (trees_in ns) n ∷ [] in
     record {
-      grounded = get-push (λ k m. All (λ part. part < k) (parts_of m)) ns n h.grounded b;
+      grounded = get-push PartsBelow ns n h.grounded b;
       inside = subst (λ ts. AllStand ts places s.inner) q (all-more (trees_in ns) us places s.inner h.inside);
       outside = subst (λ ts. OpensStand ts (reverse os) s.outer) q (opens-more (trees_in ns) us (reverse os) s.outer h.outside);
-      names = subst (λ ts. TableStands ts anchors s.table) q (table-more (trees_in ns) us anchors s.table h.names)
+      names = subst (λ ts. TableStands ts anchors s.table) q (table-more (trees_in ns) us anchors s.table h.names);
     }
 
 pub stands-new : (ns : List Node) (n : Node) → Stands (trees_in (ns ++ (n ∷ []))) (length ns) (node_tree (trees_in ns) n)
@@ -195,14 +196,14 @@ stands-new ns n = subst (λ ts. slice_get ts (length ns) ≡ Some (node_tree (tr
     (subst (λ k. slice_get (trees_in ns ++ (node_tree (trees_in ns) n ∷ [])) k ≡ Some (node_tree (trees_in ns) n)) (trees-length ns) (get-end (trees_in ns) (node_tree (trees_in ns) n)))
 
 -- a node that is whole, without its anchor
-pub held-node : (ns : List Node) (n : Node) (anchors : Anchors) (os : List Open) (places : List ℕ) (s : State) → Held ns anchors os places s → All (λ part. part < length ns) (parts_of n)
+pub held-node : (ns : List Node) (n : Node) (anchors : Anchors) (os : List Open) (places : List ℕ) (s : State) → Held ns anchors os places s → PartsBelow (length ns) n
     → Held (ns ++ (n ∷ [])) anchors os (places ++ (length ns ∷ [])) (record { inner = s.inner ++ (node_tree (trees_in ns) n ∷ []); outer = s.outer; table = s.table })
 held-node ns n anchors os places s h b =
     let m = more-held ns n anchors os places s h b in
     record { grounded = m.grounded; inside = all-push (trees_in (ns ++ (n ∷ []))) places s.inner (length ns) (node_tree (trees_in ns) n) m.inside (stands-new ns n); outside = m.outside; names = m.names }
 
 -- with its anchor
-pub held-anchored : (ns : List Node) (n : Node) (anchors : Anchors) (os : List Open) (places : List ℕ) (s : State) (slot : ℕ) (name : Bor (List ℕ)) → Held ns anchors os places s → All (λ part. part < length ns) (parts_of n)
+pub held-anchored : (ns : List Node) (n : Node) (anchors : Anchors) (os : List Open) (places : List ℕ) (s : State) (slot : ℕ) (name : Bor (List ℕ)) → Held ns anchors os places s → PartsBelow (length ns) n
     → Held (ns ++ (n ∷ [])) (set anchors slot (name, Some (length ns))) os (places ++ (length ns ∷ [])) (whole (Some name.now) slot (node_tree (trees_in ns) n) s)
 held-anchored ns n anchors os places s slot name h b =
     let m = held-node ns n anchors os places s h b in
@@ -232,8 +233,12 @@ pub record Leaves (ns : List Node) (anchors : Anchors) (os : List Open) (o : Ope
 leaves-by : (ns : List Node) (anchors : Anchors) (os : List Open) (o : Open) (places : List ℕ) (s : State) (ps : List machine.Open) → s.outer ≡ ps → Held ns anchors (os ++ (o ∷ [])) places s → OpensStand (trees_in ns) (o ∷ reverse os) ps → Leaves ns anchors os o s
 leaves-by ns anchors os o places s [] e h f = absurd f
 leaves-by ns anchors os o places s (p ∷ ps) e h f = record {
-  frame = p; frames = ps; outer = e; anchor = f.0.anchor; slot = f.0.slot;
-  held = record { grounded = h.grounded; inside = f.0.before; outside = f.1; names = h.names }
+  frame = p;
+  frames = ps;
+  outer = e;
+  anchor = f.0.anchor;
+  slot = f.0.slot;
+  held = record { grounded = h.grounded; inside = f.0.before; outside = f.1; names = h.names };
 }
 
 pub held-leave : (ns : List Node) (anchors : Anchors) (os : List Open) (o : Open) (places : List ℕ) (s : State) → Held ns anchors (os ++ (o ∷ [])) places s → Leaves ns anchors os o s
@@ -259,16 +264,16 @@ held-clear ns anchors os places s h = record { grounded = h.grounded; inside = h
 -- ---- the same, as the code's calls give it
 
 module _ (ns ms : List Node) (n : Node) (anchors : Anchors) (os : List Open) (places more : List ℕ) (s : State) (slot number : ℕ) (a : Option (Bor (List ℕ))) where
-  pub add-anchored : (name : Bor (List ℕ)) → Held ns anchors os places s → All (λ part. part < length ns) (parts_of n) → ms ≡ ns ++ (n ∷ []) → number ≡ length ns → more ≡ places ++ (number ∷ []) → a ≡ Some name
+  pub add-anchored : (name : Bor (List ℕ)) → Held ns anchors os places s → PartsBelow (length ns) n → ms ≡ ns ++ (n ∷ []) → number ≡ length ns → more ≡ places ++ (number ∷ []) → a ≡ Some name
       → Held ms (set anchors slot (name, Some number)) os more (whole (anchor_text a) slot (node_tree (trees_in ns) n) s)
   add-anchored name h b em en ep ea = rw (em, ep, en, ea) (held-anchored ns n anchors os places s slot name h b)
 
-  pub add-past : (name : Bor (List ℕ)) → Held ns anchors os places s → All (λ part. part < length ns) (parts_of n) → ms ≡ ns ++ (n ∷ []) → number ≡ length ns → more ≡ places ++ (number ∷ []) → a ≡ Some name → length anchors ≤ slot
+  pub add-past : (name : Bor (List ℕ)) → Held ns anchors os places s → PartsBelow (length ns) n → ms ≡ ns ++ (n ∷ []) → number ≡ length ns → more ≡ places ++ (number ∷ []) → a ≡ Some name → length anchors ≤ slot
       → Held ms anchors os more (whole (anchor_text a) slot (node_tree (trees_in ns) n) s)
   add-past name h b em en ep ea l =
       subst (λ z. Held ms z os more (whole (anchor_text a) slot (node_tree (trees_in ns) n) s)) (set-past anchors slot (name, Some number) l) (add-anchored name h b em en ep ea)
 
-  pub add-plain : Held ns anchors os places s → All (λ part. part < length ns) (parts_of n) → ms ≡ ns ++ (n ∷ []) → number ≡ length ns → more ≡ places ++ (number ∷ []) → a ≡ None
+  pub add-plain : Held ns anchors os places s → PartsBelow (length ns) n → ms ≡ ns ++ (n ∷ []) → number ≡ length ns → more ≡ places ++ (number ∷ []) → a ≡ None
       → Held ms anchors os more (whole (anchor_text a) slot (node_tree (trees_in ns) n) s)
   add-plain h b em en ep ea = rw (em, ep, en, ea) (held-node ns n anchors os places s h b)
 
@@ -280,12 +285,7 @@ pub begin-plain : (ns : List Node) (anchors : Anchors) (os : List Open) (places 
     → Held ns anchors os places (record { inner = s.inner; outer = s.outer; table = opened (anchor_text a) s.table })
 begin-plain ns anchors os places s a h ea = rw ea h
 
--- a collection of the nodes in the composer
-pub record Collects (ts : List Tree) (is_mapping : Bool) (places : List ℕ) (n : Node) : Type 0 where
-  pub parts : parts_of n ≡ places
-  pub tree : node_tree ts n ≡ collection_from is_mapping (trees_at ts places)
-
-pub leave-found : (ns : List Node) (anchors : Anchors) (os : List Open) (o : Open) (s : State) (l : Leaves ns anchors os o s) (is_mapping : Bool) (n : Node) (places : List ℕ) → Collects (trees_in ns) is_mapping places n
+pub leave-found : (ns : List Node) (anchors : Anchors) (os : List Open) (o : Open) (s : State) (l : Leaves ns anchors os o s) (is_mapping : Bool) (n : Node) (places : List ℕ) → Collects ns is_mapping places n
     → AllStand (trees_in ns) places s.inner → (found : Outcome State) → left (collection_from is_mapping) s s.outer ≡ Some found → (c : Composer)
     → Holds c (whole (anchor_text o.anchor) o.slot (node_tree (trees_in ns) n) (record { inner = l.frame.before; outer = l.frames; table = s.table })) → Reached found c
 leave-found ns anchors os o s l is_mapping n places k h found e c p =
@@ -297,18 +297,29 @@ leave-found ns anchors os o s l is_mapping n places k h found e c p =
     let w : whole (anchor_text o.anchor) o.slot (node_tree (trees_in ns) n) rest ≡ t = λ z. whole (l.anchor z) (l.slot z) (tree z) rest in
     record { state = t; is = cc; holds = subst (λ x. Holds c x) w p }
 
-collect : (ts : List Tree) (is_mapping : Bool) (parts inner : Vec ℕ Global) (n : Node) → parts ≡ inner → n ≡ (cond is_mapping (nodes.Mapping parts) (nodes.Sequence parts)) → Collects ts is_mapping inner.items n
-collect ts true parts inner n e h = rw (h, e) (record { parts = refl; tree = refl })
-collect ts false parts inner n e h = rw (h, e) (record { parts = refl; tree = refl })
+pub places-below : (ns : List Node) (places : List ℕ) (us : List Tree) → AllStand (trees_in ns) places us → All (λ i. i < length ns) places
+places-below ns places us h = subst (λ m. All (λ i. i < m) places) (trees-length ns) (all-below (trees_in ns) places us h)
 
-pub collect-mapping : (ts : List Tree) (is_mapping : Bool) (parts inner : Vec ℕ Global) (n : Node) → parts ≡ inner → is_mapping ≡ true → n ≡ nodes.Mapping parts → Collects ts is_mapping inner.items n
-collect-mapping ts is_mapping parts inner n e b h = collect ts is_mapping parts inner n e (rw b h)
+-- both numbers of each pair
+pairs-below : (k : ℕ) (places : List ℕ) → All (λ i. i < k) places → All (λ p. (p.0 < k) × (p.1 < k)) (paired places)
+pairs-below k [] h = All-nil (λ p. (p.0 < k) × (p.1 < k))
+pairs-below k (i ∷ []) h = All-nil (λ p. (p.0 < k) × (p.1 < k))
+pairs-below k (i ∷ (j ∷ places)) h =
+    All-cons (λ p. (p.0 < k) × (p.1 < k)) (i, j) (paired places) (h 0 0 (omega arith), h 1 0 (omega arith)) (pairs-below k places (λ m d l. h (suc (suc m)) d (omega arith)))
 
-pub collect-sequence : (ts : List Tree) (is_mapping : Bool) (parts inner : Vec ℕ Global) (n : Node) → parts ≡ inner → is_mapping ≡ false → n ≡ nodes.Sequence parts → Collects ts is_mapping inner.items n
-collect-sequence ts is_mapping parts inner n e b h = collect ts is_mapping parts inner n e (rw b h)
+paired-at : (ts : List Tree) (places : List ℕ) → entries_at ts (paired places) ≡ paired (trees_at ts places)
+paired-at ts [] = refl
+paired-at ts (i ∷ []) = refl
+paired-at ts (i ∷ (j ∷ places)) = ap (λ ps. (tree_at ts i, tree_at ts j) ∷ ps) (paired-at ts places)
 
-pub parts-below : (ns : List Node) (is_mapping : Bool) (places : List ℕ) (us : List Tree) (n : Node) → Collects (trees_in ns) is_mapping places n → AllStand (trees_in ns) places us → All (λ part. part < length ns) (parts_of n)
-parts-below ns is_mapping places us n k h = subst (λ z. All (λ part. part < length ns) z) (sym k.parts) (subst (λ m. All (λ part. part < m) places) (trees-length ns) (all-below (trees_in ns) places us h))
+pub collect-mapping : (ns : List Node) (is_mapping : Bool) (places : List ℕ) (entries : Vec (ℕ × ℕ) Global) → All (λ i. i < length ns) places → is_mapping ≡ true → entries.items ≡ paired places → Collects ns is_mapping places (nodes.Mapping entries)
+collect-mapping ns is_mapping places entries h b q =
+    let l : All (λ p. (p.0 < length ns) × (p.1 < length ns)) entries.items = subst (All (λ p. (p.0 < length ns) × (p.1 < length ns))) (sym q) (pairs-below (length ns) places h) in
+    let t : entries_at (trees_in ns) entries.items ≡ paired (trees_at (trees_in ns) places) = ap (entries_at (trees_in ns)) q ∙ paired-at (trees_in ns) places in
+    rw b (record { below = l; tree = ap (λ ps. mapping map_tag (pairs ps)) t })
+
+pub collect-sequence : (ns : List Node) (is_mapping : Bool) (items : Vec ℕ Global) → All (λ i. i < length ns) items.items → is_mapping ≡ false → Collects ns is_mapping items.items (nodes.Sequence items)
+collect-sequence ns is_mapping items h b = rw b (record { below = h; tree = refl })
 
 -- ---- an alias
 
@@ -402,7 +413,7 @@ stays at given s found c (inr (inr q)) e h = record { state = s; is = took at gi
 
 module _ (es : List code.Event) (composable : Composable es) (ds : List Document) (cut : map event_of es ≡ stream_events ds) where
   total-is : roots_of (run 0 (map event_of es) start) ≡ Some (trees_of ds)
-  total-is = 
+  total-is =
       let q : composable.documents ≡ ds = stream_once composable.documents ds (sym composable.cut ∙ cut) in
       ap (λ x. roots_of (run 0 x start)) composable.cut ∙ (run-stream composable.documents composable.plain ∙ ap (λ x. Some (trees_of x)) q)
 

@@ -1,2 +1,4 @@
 pub mod MachineLaws
 pub mod ComposerLaws
+pub mod GraphLaws
+pub mod TreeViews

@@ -1,15 +1,15 @@
 -- The composer's steps over a stream's events come to the trees of its documents.
 use Rattle.std.proofs.Common.{◌≡◌, ℕ, suc, ◌+◌, List, [], ◌∷◌, ◌++◌, length, refl, sym, ◌∙◌, ap, arith, append_assoc, append-nil, Result, Ok, Err, add-zero, add-one}
 use Rattle.std.specs.Prelude.{Option, None, Some}
-use Rattle.yaml_text.specs.Tree.{Tree, Trees, Pairs, scalar, sequence, mapping, end, item, done, entry}
+use Rattle.yaml_text.specs.Tree.{Tree, Trees, Pairs, sequence, mapping, end, item, done, entry}
 use Rattle.yaml_text.specs.Tag.{str_tag, seq_tag, map_tag}
-use Rattle.yaml_text.specs.Event.{Event, Anchor, WrittenTag, Style, untagged, double, document_start, document_end, stream_start, stream_end, sequence_start, sequence_end, mapping_start, mapping_end, scalar_event, alias_event}
+use Rattle.yaml_text.specs.Event.{Event, Anchor, WrittenTag, Style, untagged, double, document_end, stream_end, sequence_end, mapping_end}
 use Rattle.yaml_text.specs.Marked.{Marked, AllMarked, MarkedPairs, alias, scalar_at, sequence_at, mapping_at, end_marks, item_mark, done_marks, entry_marks, flat, flat_all, flat_pairs, Document, documents_events, stream_events}
 use Rattle.yaml_text.specs.Core.{Cause, resolve, collection_tag}
 use Rattle.yaml_text.specs.Unfold.{Outcome, Table, and_then, placed, opened, closed, last_named, tree_named, event_count, unfold_node, unfold_all, unfold_pairs, trees_from, trees_of}
 use Rattle.yaml_canon.specs.TreeModel.{trees, pairs}
 use Rattle.yaml_canon.specs.Composable.{Untagged, AllUntagged, PairsUntagged, DocumentsUntagged}
-use Rattle.yaml_canon.specs.Machine.{State, start, paired, whole, entered, left, added, step, told, next, run, sequence_from, mapping_from}
+use Rattle.yaml_canon.specs.Machine.{State, start, paired, entered, added, step, told, run}
 
 -- ---- counts
 

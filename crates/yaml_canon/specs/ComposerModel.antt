@@ -1,5 +1,5 @@
 -- What the composer holds, as plain values.
-use Rattle.std.specs.Prelude.{◌≡◌, ℕ, List, [], ◌∷◌, Option, Some, None, Result, Ok, cond, bytes_eq, reverse}
+use Rattle.std.specs.Prelude.{◌≡◌, ℕ, Bool, length, List, [], ◌∷◌, Option, Some, None, Ok, cond, bytes_eq, reverse}
 use Rattle.std.specs.List.{slice_get}
 use Rattle.std.specs.Borrow.{Bor}
 use Rattle.std.specs.Option.{option_map}
@@ -8,7 +8,7 @@ use Rattle.yaml_text.specs.Event.{Anchor}
 use Rattle.yaml_text.specs.Marked.{Document}
 use Rattle.yaml_text.specs.Unfold.{Outcome, Table, or_else, trees_of}
 use Rattle.yaml_canon.specs.Machine as machine
-use Rattle.yaml_canon.specs.GraphModel.{trees_in, Grounded}
+use Rattle.yaml_canon.specs.GraphModel.{node_tree, trees_in, trees_at, PartsBelow, Grounded}
 use Rattle.yaml_canon.specs.declared.compose.composer.Composer.{Composer}
 use Rattle.yaml_canon.specs.declared.compose.composer.Open.{Open}
 use Rattle.yaml_canon.specs.declared.compose.graph.Node.{Node}
@@ -54,6 +54,11 @@ abbrev pub OpensStand : List Tree → List Open → List machine.Open → Type 0
 OpensStand ts [] [] = Unit {0}
 OpensStand ts (o ∷ opens) (p ∷ ps) = OpenStands ts o p × OpensStand ts opens ps
 OpensStand ts _ _ = ⊥
+
+-- the node is the collection of these parts, all of them among these nodes
+pub record Collects (nodes : List Node) (is_mapping : Bool) (places : List ℕ) (n : Node) : Type 0 where
+  pub below : PartsBelow (length nodes) n
+  pub tree : node_tree (trees_in nodes) n ≡ machine.collection_from is_mapping (trees_at (trees_in nodes) places)
 
 -- these lists of a composer are the state
 pub record Held (nodes : List Node) (anchors : Anchors) (outer : List Open) (inner : List ℕ) (s : machine.State) : Type 0 where

@@ -1,9 +1,8 @@
 -- What the composer does, event by event, on plain values.
-use Rattle.std.specs.Prelude.{ℕ, suc, Bool, true, false, cond, List, [], ◌∷◌, ◌++◌, length, Result, Ok, Err, Option, None, Some}
+use Rattle.std.specs.Prelude.{ℕ, suc, Bool, true, false, cond, List, [], ◌∷◌, ◌++◌, length, Ok, Err, Option, None, Some}
 use Rattle.yaml_text.specs.Tree.{Tree, scalar, sequence, mapping}
 use Rattle.yaml_text.specs.Tag.{str_tag, seq_tag, map_tag}
 use Rattle.yaml_text.specs.Event.{Anchor, Event, document_start, sequence_start, sequence_end, mapping_start, mapping_end, scalar_event, alias_event}
-use Rattle.yaml_text.specs.Core.{Cause}
 use Rattle.yaml_text.specs.Unfold.{Outcome, Table, and_then, placed, opened, closed, last_named, tree_named}
 use Rattle.yaml_canon.specs.TreeModel.{trees, pairs}
 
@@ -23,7 +22,7 @@ abbrev pub start : State
 start = record { inner = []; outer = []; table = [] }
 
 -- keys and values in turn, as pairs
-abbrev pub paired : List Tree → List (Tree × Tree)
+abbrev pub paired : {X : Type 0} → List X → List (X × X)
 paired [] = []
 paired (k ∷ []) = []
 paired (k ∷ (v ∷ ts)) = (k, v) ∷ paired ts

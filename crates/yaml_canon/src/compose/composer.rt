@@ -9,8 +9,10 @@ ghost use Rattle.yaml_text.specs.Unfold.{Outcome, Table, opened, trees_of, and_t
 ghost use Rattle.yaml_text.specs.EventModel.{event_of};
 ghost use Rattle.yaml_canon.specs.Composable.{Composable, RefusesAlias};
 ghost use Rattle.yaml_canon.specs.Machine.{State, start, whole, entered, left, added, step, scalar_added, collection_from};
-ghost use Rattle.yaml_canon.specs.GraphModel.{node_tree, trees_in, parts_of};
-ghost use Rattle.yaml_canon.specs.ComposerModel.{anchor_text, number_named, Holds, Reached, Composed};
+ghost use Rattle.yaml_canon.specs.Machine.{paired as pairs_of};
+ghost use Rattle.yaml_canon.specs.GraphModel.{node_tree, trees_in, PartsBelow};
+ghost use Rattle.yaml_canon.specs.declared.compose.graph.Node.{Node};
+ghost use Rattle.yaml_canon.specs.ComposerModel.{anchor_text, number_named, Collects, Holds, Reached, Composed};
 
 use super::graph::{Graph, Node};
 use std::alloc::Global;
@@ -66,7 +68,7 @@ impl<'a> Composer<'a> {
 
     /// Adds a whole node, whose anchor stands at `slot`.
     fn add(&mut self, anchor: Option<&'a str>, slot: usize, node: Node<'a>) -> Result<(), Fault>
-        requires { All (λ part. part < length self.old.nodes.items) (parts_of node) }
+        requires { PartsBelow (length self.old.nodes.items) node }
         ensures ok { (s : State) → Holds self.old s → IfOk result (λ _. Holds self.new (whole (anchor_text anchor.entry) slot (node_tree (trees_in self.old.nodes.items) node.entry) s)) }
         ensures err { IfErr result (λ fault. fault ≡ Fault.OutOfMemory) }
     {
@@ -106,18 +108,14 @@ impl<'a> Composer<'a> {
     }
 
     /// The innermost collection ends.
-    fn leave(&mut self, is_mapping: bool) -> Result<(), Fault>
+    fn leave(&mut self, alloc: Global, is_mapping: bool) -> Result<(), Fault>
         requires { (s : State) × Holds self.old s }
         ensures ok { (s : State) → Holds self.old s → (found : Outcome State) → left (collection_from is_mapping) s s.outer ≡ Some found → IfOk result (λ _. Reached found self.new) }
         ensures err { IfErr result (λ fault. fault ≡ Fault.OutOfMemory) }
     {
         if let Some(open) = self.outer.pop() {
             let parts = mem::replace(&mut self.inner, open.before);
-            let node = if is_mapping {
-                Node::Mapping(parts)
-            } else {
-                Node::Sequence(parts)
-            };
+            let node = collection(alloc, is_mapping, parts)?;
             self.add(open.anchor, open.slot, node)?;
         }
         Ok(())
@@ -163,8 +161,8 @@ impl<'a> Composer<'a> {
             Event::Alias { name } => self.alias(at, name.as_str()),
             Event::SequenceStart { anchor, .. } => self.enter(alloc, name_of(anchor)),
             Event::MappingStart { anchor, .. } => self.enter(alloc, name_of(anchor)),
-            Event::SequenceEnd => self.leave(false),
-            Event::MappingEnd => self.leave(true),
+            Event::SequenceEnd => self.leave(alloc, false),
+            Event::MappingEnd => self.leave(alloc, true),
             Event::DocumentStart { .. } => {
                 self.anchors.clear();
                 Ok(())
@@ -172,6 +170,32 @@ impl<'a> Composer<'a> {
             Event::DocumentEnd { .. } | Event::StreamStart | Event::StreamEnd => Ok(()),
         }
     }
+}
+
+/// The node of these parts, which for a mapping are keys and values in turn.
+fn collection<'a>(alloc: Global, is_mapping: bool, parts: Vec<usize>) -> Result<Node<'a>, Fault>
+    ensures ok { (nodes : List Node) → All (λ i. i < length nodes) parts.items → IfOk result (Collects nodes is_mapping parts.items) }
+    ensures err { IfErr result (λ fault. fault ≡ Fault.OutOfMemory) }
+{
+    if is_mapping {
+        Ok(Node::Mapping(paired(alloc, &parts)?))
+    } else {
+        Ok(Node::Sequence(parts))
+    }
+}
+
+/// Keys and values in turn, as pairs.
+fn paired(alloc: Global, parts: &[usize]) -> Result<Vec<(usize, usize)>, Fault>
+    ensures ok { IfOk result (λ entries. entries.items ≡ pairs_of parts.now) }
+    ensures err { IfErr result (λ fault. fault ≡ Fault.OutOfMemory) }
+{
+    let mut entries = Vec::new(alloc);
+    let mut left = parts;
+    while let [key, value, rest @ ..] = left {
+        entries.push((*key, *value))?;
+        left = rest;
+    }
+    Ok(entries)
 }
 
 fn name_of<'a>(anchor: &'a Option<CowStr<'_>>) -> Option<&'a str>

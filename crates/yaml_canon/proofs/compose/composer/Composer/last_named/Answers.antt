@@ -18,5 +18,6 @@ loop-anchor-preserved c =
     let i = c.loop-anchor.anchor-index in
     let l : i < length xs = omega arith in
     elim c.if-eq.branch [
-      then-eq w ↦ found-here c.args.name.now xs i c.loop-anchor.found c.if-eq.found c.eq.result _ l c.eq.ensures c.loop-anchor.invariant w.if-eq.true w.found-is
-      | else-eq w ↦ found-before c.args.name.now xs i c.loop-anchor.found c.if-eq.found c.eq.result _ l c.eq.ensures c.loop-anchor.invariant w.if-eq.false w.found-is ]
+      | then-eq w ↦ found-here c.args.name.now xs i c.loop-anchor.found c.if-eq.found c.eq.result _ l c.eq.ensures c.loop-anchor.invariant w.if-eq.true w.found-is
+      | else-eq w ↦ found-before c.args.name.now xs i c.loop-anchor.found c.if-eq.found c.eq.result _ l c.eq.ensures c.loop-anchor.invariant w.if-eq.false w.found-is
+    ]

@@ -44,7 +44,7 @@ returns-in-DocumentStart c = λ s h found e.
     record {
       state = cleared;
       is = took c.args.at c.args.event.now _ s found _ c.in-DocumentStart.is e refl;
-      holds = subst (λ z. Held self.nodes.items z self.outer.items self.inner.items cleared) (sym c.clear.ensures.items) (held-clear self.nodes.items self.anchors.items self.outer.items self.inner.items s h)
+      holds = subst (λ z. Held self.nodes.items z self.outer.items self.inner.items cleared) (sym c.clear.ensures.items) (held-clear self.nodes.items self.anchors.items self.outer.items self.inner.items s h);
     }
 
 pub returns-in-DocumentEnd : goal.returns-in-DocumentEnd
