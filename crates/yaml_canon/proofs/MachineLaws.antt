@@ -1,0 +1,227 @@
+-- The composer's steps over a stream's events come to the trees of its documents.
+use Rattle.std.proofs.Common.{◌≡◌, ℕ, suc, ◌+◌, List, [], ◌∷◌, ◌++◌, length, refl, sym, ◌∙◌, ap, arith, append_assoc, append-nil, Result, Ok, Err, add-zero, add-one}
+use Rattle.std.specs.Prelude.{Option, None, Some}
+use Rattle.yaml_text.specs.Tree.{Tree, Trees, Pairs, sequence, mapping, end, item, done, entry}
+use Rattle.yaml_text.specs.Tag.{str_tag, seq_tag, map_tag}
+use Rattle.yaml_text.specs.Event.{Event, Anchor, WrittenTag, Style, untagged, double, document_end, stream_end, sequence_end, mapping_end}
+use Rattle.yaml_text.specs.Marked.{Marked, AllMarked, MarkedPairs, alias, scalar_at, sequence_at, mapping_at, end_marks, item_mark, done_marks, entry_marks, flat, flat_all, flat_pairs, Document, documents_events, stream_events}
+use Rattle.yaml_text.specs.Core.{Cause, resolve, collection_tag}
+use Rattle.yaml_text.specs.Unfold.{Outcome, Table, and_then, placed, opened, closed, last_named, tree_named, event_count, unfold_node, unfold_all, unfold_pairs, trees_from, trees_of}
+use Rattle.yaml_canon.specs.TreeModel.{trees, pairs}
+use Rattle.yaml_canon.specs.Composable.{Untagged, AllUntagged, PairsUntagged, DocumentsUntagged}
+use Rattle.yaml_canon.specs.Machine.{State, start, paired, entered, added, step, told, run}
+
+-- ---- counts
+
+abbrev count_all : AllMarked → ℕ
+count_all ts = length (flat_all ts [])
+
+abbrev count_pairs : MarkedPairs → ℕ
+count_pairs ps = length (flat_pairs ps [])
+
+mutual
+  unfolding flat
+
+  count_node : (t : Marked) (r : List Event) → length (flat t r) ≡ event_count t + length r
+  count_node (alias n) r = omega arith
+  count_node (scalar_at a g y x) r = omega arith
+  count_node (sequence_at a g b ts) r = omega (arith, count_items ts (sequence_end ∷ r), count_items ts (sequence_end ∷ []))
+  count_node (mapping_at a g b ps) r = omega (arith, count_entries ps (mapping_end ∷ r), count_entries ps (mapping_end ∷ []))
+
+  count_items : (ts : AllMarked) (r : List Event) → length (flat_all ts r) ≡ count_all ts + length r
+  count_items end_marks r = omega arith
+  count_items (item_mark t ts) r = omega (arith, count_node t (flat_all ts r), count_items ts r, count_node t (flat_all ts []))
+
+  count_entries : (ps : MarkedPairs) (r : List Event) → length (flat_pairs ps r) ≡ count_pairs ps + length r
+  count_entries done_marks r = omega arith
+  count_entries (entry_marks k v ps) r =
+      omega (arith, count_node k (flat v (flat_pairs ps r)), count_node v (flat_pairs ps r), count_entries ps r, count_node k (flat v (flat_pairs ps [])), count_node v (flat_pairs ps []))
+
+-- ---- outcomes
+
+told-then : {X Y Z : Type 0} (o : Outcome X) (f : X → Outcome Y) (g : Y → Option (Outcome Z)) → told (and_then o f) g ≡ told o (λ x. told (f x) g)
+told-then (Err e) f g = refl
+told-then (Ok x) f g = refl
+
+told-same : {X Y : Type 0} (o : Outcome X) (f g : X → Option (Outcome Y)) → ((x : X) → f x ≡ g x) → told o f ≡ told o g
+told-same (Err e) f g h = refl
+told-same (Ok x) f g h = h x
+
+-- ---- lists of trees
+
+abbrev listed : Trees → List Tree
+listed end = []
+listed (item t ts) = t ∷ listed ts
+
+abbrev in_turn : Pairs → List Tree
+in_turn done = []
+in_turn (entry k v ps) = k ∷ (v ∷ in_turn ps)
+
+trees-listed : (ts : Trees) → trees (listed ts) ≡ ts
+trees-listed end = refl
+trees-listed (item t ts) = ap (item t) (trees-listed ts)
+
+pairs-in_turn : (ps : Pairs) → pairs (paired (in_turn ps)) ≡ ps
+pairs-in_turn done = refl
+pairs-in_turn (entry k v ps) = ap (entry k v) (pairs-in_turn ps)
+
+-- ---- one node
+
+resolved : (g : WrittenTag) (y : Style) (x : List ℕ) → g ≡ untagged → y ≡ double → resolve g y x ≡ Ok (str_tag, x)
+unfolding resolve
+resolved g y x e h = rw (e, h) refl
+
+abbrev with_nodes : State → List Tree → Table → State
+with_nodes s ts e = record { inner = s.inner ++ ts; outer = s.outer; table = e }
+
+-- what stands after a node, some items, some entries
+abbrev after_node : ℕ → List Event → State → Tree × Table → Option (Outcome State)
+after_node at more s r = run at more (with_nodes s (r.0 ∷ []) r.1)
+
+abbrev after_all : ℕ → List Event → State → Trees × Table → Option (Outcome State)
+after_all at more s r = run at more (with_nodes s (listed r.0) r.1)
+
+abbrev after_pairs : ℕ → List Event → State → Pairs × Table → Option (Outcome State)
+after_pairs at more s r = run at more (with_nodes s (in_turn r.0) r.1)
+
+run_alias : (at : ℕ) (more : List Event) (s : State) (r : Result Tree Cause) →
+    told (and_then (placed at r) (added s)) (run (suc at) more) ≡ told (and_then (placed at r) (λ t. Ok (t, s.table))) (after_node (at + 1) more s)
+run_alias at more s (Err e) = refl
+run_alias at more s (Ok t) = ap (λ n. run n more (with_nodes s (t ∷ []) s.table)) (sym (add-one at))
+
+-- a sequence's end, a mapping's end
+ends_sequence : (n m : ℕ) (more : List Event) (a : Anchor) (s : State) (r : Trees × Table) → suc n ≡ m →
+    after_all n (sequence_end ∷ more) (entered a s) r ≡ after_node m more s (sequence seq_tag r.0, closed a (length s.table) (sequence seq_tag r.0) r.1)
+unfolding run step
+ends_sequence n m more a s r e =
+    λ z. run (e z) more (with_nodes s (sequence seq_tag (trees-listed r.0 z) ∷ []) (closed a (length s.table) (sequence seq_tag (trees-listed r.0 z)) r.1))
+
+ends_mapping : (n m : ℕ) (more : List Event) (a : Anchor) (s : State) (r : Pairs × Table) → suc n ≡ m →
+    after_pairs n (mapping_end ∷ more) (entered a s) r ≡ after_node m more s (mapping map_tag r.0, closed a (length s.table) (mapping map_tag r.0) r.1)
+unfolding run step
+ends_mapping n m more a s r e =
+    λ z. run (e z) more (with_nodes s (mapping map_tag (pairs-in_turn r.0 z) ∷ []) (closed a (length s.table) (mapping map_tag (pairs-in_turn r.0 z)) r.1))
+
+-- no more, and one more
+none_more : (at : ℕ) (more : List Event) (s : State) → run at more s ≡ run (at + 0) more (with_nodes s [] s.table)
+none_more at more s = λ z. run (sym (add-zero at) z) more (record { inner = sym (append-nil s.inner) z; outer = s.outer; table = s.table })
+
+item_more : (n m : ℕ) (more : List Event) (s : State) (t : Tree) (e : Table) (r : Trees × Table) → n ≡ m →
+    after_all n more (with_nodes s (t ∷ []) e) r ≡ after_all m more s (item t r.0, r.1)
+item_more n m more s t e r q = λ z. run (q z) more (record { inner = append_assoc s.inner (t ∷ []) (listed r.0) z; outer = s.outer; table = r.1 })
+
+entry_more : (n m : ℕ) (more : List Event) (s : State) (k v : Tree) (d e : Table) (r : Pairs × Table) → n ≡ m →
+    after_pairs n more (with_nodes (with_nodes s (k ∷ []) d) (v ∷ []) e) r ≡ after_pairs m more s (entry k v r.0, r.1)
+entry_more n m more s k v d e r q =
+    let j : (s.inner ++ (k ∷ [])) ++ (v ∷ []) ++ in_turn r.0 ≡ s.inner ++ (k ∷ (v ∷ in_turn r.0)) = simp append_assoc in
+    λ z. run (q z) more (record { inner = j z; outer = s.outer; table = r.1 })
+
+seq_is : (g : WrittenTag) → g ≡ untagged → collection_tag 1 g ≡ Ok seq_tag
+unfolding collection_tag
+seq_is g e = rw e refl
+
+map_is : (g : WrittenTag) → g ≡ untagged → collection_tag 2 g ≡ Ok map_tag
+unfolding collection_tag
+map_is g e = rw e refl
+
+mutual
+  unfolding flat step run unfold_node
+
+  run-node : (m : Marked) → Untagged m → (at : ℕ) (more : List Event) (s : State) → run at (flat m more) s ≡ told (unfold_node m s.table at) (after_node (at + event_count m) more s)
+  run-node (alias name) u at more s = run_alias at more s (tree_named (last_named name s.table))
+  run-node (scalar_at a g y x) u at more s = rw (resolved g y x u.0 u.1, add-one) refl
+  run-node (sequence_at a g b ts) u at more s =
+      let o = unfold_all ts (opened a s.table) (suc at) in
+      let n = at + event_count (sequence_at a g b ts) in
+      let last : Trees × Table → Outcome (Tree × Table) = λ r. Ok (sequence seq_tag r.0, closed a (length s.table) (sequence seq_tag r.0) r.1) in
+      let e : suc (suc at + count_all ts) ≡ n = omega (arith, count_items ts (sequence_end ∷ [])) in
+      rw (seq_is g u.0) (run-all ts u.1 (suc at) (sequence_end ∷ more) (entered a s)
+      ∙ (told-same o (after_all (suc at + count_all ts) (sequence_end ∷ more) (entered a s)) (λ r. told (last r) (after_node n more s)) (λ r. ends_sequence (suc at + count_all ts) n more a s r e)
+      ∙ sym (told-then o last (after_node n more s))))
+  run-node (mapping_at a g b ps) u at more s =
+      let o = unfold_pairs ps (opened a s.table) (suc at) in
+      let n = at + event_count (mapping_at a g b ps) in
+      let last : Pairs × Table → Outcome (Tree × Table) = λ r. Ok (mapping map_tag r.0, closed a (length s.table) (mapping map_tag r.0) r.1) in
+      let e : suc (suc at + count_pairs ps) ≡ n = omega (arith, count_entries ps (mapping_end ∷ [])) in
+      rw (map_is g u.0) (run-pairs ps u.1 (suc at) (mapping_end ∷ more) (entered a s)
+      ∙ (told-same o (after_pairs (suc at + count_pairs ps) (mapping_end ∷ more) (entered a s)) (λ r. told (last r) (after_node n more s)) (λ r. ends_mapping (suc at + count_pairs ps) n more a s r e)
+      ∙ sym (told-then o last (after_node n more s))))
+
+  run-all : (ts : AllMarked) → AllUntagged ts → (at : ℕ) (more : List Event) (s : State) → run at (flat_all ts more) s ≡ told (unfold_all ts s.table at) (after_all (at + count_all ts) more s)
+  run-all end_marks u at more s = none_more at more s
+  run-all (item_mark t ts) u at more s =
+      let b = at + event_count t in
+      let n = at + count_all (item_mark t ts) in
+      let rest : Tree × Table → Trees × Table → Outcome (Trees × Table) = λ r q. Ok (item r.0 q.0, q.1) in
+      let both : Tree × Table → Outcome (Trees × Table) = λ r. and_then (unfold_all ts r.1 b) (rest r) in
+      let e : b + count_all ts ≡ n = omega (arith, count_node t (flat_all ts [])) in
+      run-node t u.0 at (flat_all ts more) s
+      ∙ (told-same (unfold_node t s.table at) (after_node b (flat_all ts more) s) (λ r. told (both r) (after_all n more s))
+      (λ r. run-all ts u.1 b more (with_nodes s (r.0 ∷ []) r.1)
+      ∙ (told-same (unfold_all ts r.1 b) (after_all (b + count_all ts) more (with_nodes s (r.0 ∷ []) r.1)) (λ q. told (rest r q) (after_all n more s)) (λ q. item_more (b + count_all ts) n more s r.0 r.1 q e)
+      ∙ sym (told-then (unfold_all ts r.1 b) (rest r) (after_all n more s))))
+      ∙ sym (told-then (unfold_node t s.table at) both (after_all n more s)))
+
+  run-pairs : (ps : MarkedPairs) → PairsUntagged ps → (at : ℕ) (more : List Event) (s : State) → run at (flat_pairs ps more) s ≡ told (unfold_pairs ps s.table at) (after_pairs (at + count_pairs ps) more s)
+  run-pairs done_marks u at more s = none_more at more s
+  run-pairs (entry_marks k v ps) u at more s =
+      let b = at + event_count k in
+      let c = b + event_count v in
+      let n = at + count_pairs (entry_marks k v ps) in
+      let rest : Tree × Table → Tree × Table → Pairs × Table → Outcome (Pairs × Table) = λ r p q. Ok (entry r.0 p.0 q.0, q.1) in
+      let two : Tree × Table → Tree × Table → Outcome (Pairs × Table) = λ r p. and_then (unfold_pairs ps p.1 c) (rest r p) in
+      let three : Tree × Table → Outcome (Pairs × Table) = λ r. and_then (unfold_node v r.1 b) (two r) in
+      let e : c + count_pairs ps ≡ n = omega (arith, count_node k (flat v (flat_pairs ps [])), count_node v (flat_pairs ps [])) in
+      run-node k u.0 at (flat v (flat_pairs ps more)) s
+      ∙ (told-same (unfold_node k s.table at) (after_node b (flat v (flat_pairs ps more)) s) (λ r. told (three r) (after_pairs n more s))
+      (λ r. run-node v u.1 b (flat_pairs ps more) (with_nodes s (r.0 ∷ []) r.1)
+      ∙ (told-same (unfold_node v r.1 b) (after_node c (flat_pairs ps more) (with_nodes s (r.0 ∷ []) r.1)) (λ p. told (two r p) (after_pairs n more s))
+      (λ p. run-pairs ps u.2 c more (with_nodes (with_nodes s (r.0 ∷ []) r.1) (p.0 ∷ []) p.1)
+      ∙ (told-same (unfold_pairs ps p.1 c) (after_pairs (c + count_pairs ps) more (with_nodes (with_nodes s (r.0 ∷ []) r.1) (p.0 ∷ []) p.1)) (λ q. told (rest r p q) (after_pairs n more s)) (λ q. entry_more (c + count_pairs ps) n more s r.0 p.0 r.1 p.1 q e)
+      ∙ sym (told-then (unfold_pairs ps p.1 c) (rest r p) (after_pairs n more s))))
+      ∙ sym (told-then (unfold_node v r.1 b) (two r) (after_pairs n more s))))
+      ∙ sym (told-then (unfold_node k s.table at) three (after_pairs n more s)))
+
+-- ---- whole streams
+
+abbrev pub roots_of : Option (Outcome State) → Option (Outcome (List Tree))
+roots_of None = None
+roots_of (Some (Err e)) = Some (Err e)
+roots_of (Some (Ok s)) = Some (Ok s.inner)
+
+roots_told : {X : Type 0} (o : Outcome X) (f : X → Option (Outcome State)) (g : X → Outcome (List Tree)) → ((x : X) → roots_of (f x) ≡ Some (g x)) → roots_of (told o f) ≡ Some (and_then o g)
+roots_told (Err e) f g h = refl
+roots_told (Ok x) f g h = h x
+
+ok-back : {X : Type 0} (o : Outcome X) → and_then o (λ x. Ok x) ≡ o
+ok-back (Err e) = refl
+ok-back (Ok x) = refl
+
+added-later : (o : Outcome (List Tree)) (xs : List Tree) (t : Tree) → and_then o (λ f. Ok ((xs ++ (t ∷ [])) ++ f)) ≡ and_then (and_then o (λ f. Ok (t ∷ f))) (λ f. Ok (xs ++ f))
+added-later (Err e) xs t = refl
+added-later (Ok f) xs t = ap (λ ys. Ok ys) (append_assoc xs (t ∷ []) f)
+
+then-then : {X Y Z : Type 0} (o : Outcome X) (f : X → Outcome Y) (g : Y → Outcome Z) → and_then (and_then o f) g ≡ and_then o (λ x. and_then (f x) g)
+then-then (Err e) f g = refl
+then-then (Ok x) f g = refl
+
+run-documents : (ds : List Document) → DocumentsUntagged ds → (at : ℕ) (s : State) → roots_of (run at (documents_events ds (stream_end ∷ [])) s) ≡ Some (and_then (trees_from at ds) (λ f. Ok (s.inner ++ f)))
+unfolding run step trees_from
+run-documents [] u at s = ap (λ xs. Some (Ok xs)) (sym (append-nil s.inner))
+run-documents (d ∷ ds) u at s =
+    let b = suc at + event_count d.root in
+    let e : suc b ≡ suc (suc (at + event_count d.root)) = omega arith in
+    let cleared : State = record { inner = s.inner; outer = s.outer; table = [] } in
+    let more = document_end d.ends ∷ documents_events ds (stream_end ∷ []) in
+    let n = suc (suc (at + event_count d.root)) in
+    let rest : Tree × Table → Outcome (List Tree) = λ r. and_then (trees_from n ds) (λ f. Ok (r.0 ∷ f)) in
+    ap roots_of (run-node d.root u.0 (suc at) more cleared)
+    ∙ (roots_told (unfold_node d.root [] (suc at)) (after_node b more cleared) (λ r. and_then (rest r) (λ f. Ok (s.inner ++ f)))
+    (λ r. ap (λ m. roots_of (run m (documents_events ds (stream_end ∷ [])) (with_nodes cleared (r.0 ∷ []) r.1))) e
+    ∙ (run-documents ds u.1 n (with_nodes cleared (r.0 ∷ []) r.1) ∙ ap Some (added-later (trees_from n ds) s.inner r.0)))
+    ∙ ap Some (sym (then-then (unfold_node d.root [] (suc at)) rest (λ f. Ok (s.inner ++ f)))))
+
+-- the steps over a stream come to its documents' trees, or to the first alias that stands for none
+pub run-stream : (ds : List Document) → DocumentsUntagged ds → roots_of (run 0 (stream_events ds) start) ≡ Some (trees_of ds)
+unfolding run step stream_events
+run-stream ds u = run-documents ds u 1 start ∙ ap Some (ok-back (trees_of ds))

@@ -1,0 +1,79 @@
+-- What the composer does, event by event, on plain values.
+use Rattle.std.specs.Prelude.{ℕ, suc, Bool, true, false, cond, List, [], ◌∷◌, ◌++◌, length, Ok, Err, Option, None, Some}
+use Rattle.yaml_text.specs.Tree.{Tree, scalar, sequence, mapping}
+use Rattle.yaml_text.specs.Tag.{str_tag, seq_tag, map_tag}
+use Rattle.yaml_text.specs.Event.{Anchor, Event, document_start, sequence_start, sequence_end, mapping_start, mapping_end, scalar_event, alias_event}
+use Rattle.yaml_text.specs.Unfold.{Outcome, Table, and_then, placed, opened, closed, last_named, tree_named}
+use Rattle.yaml_canon.specs.TreeModel.{trees, pairs}
+
+-- A collection that is open: its anchor, the anchor's place in the table, and the whole nodes before it in its parent.
+pub record Open : Type 0 where
+  pub anchor : Anchor
+  pub slot : ℕ
+  pub before : List Tree
+
+-- The whole nodes of the innermost open collection, or the roots; the open collections, the innermost first; the anchors.
+pub record State : Type 0 where
+  pub inner : List Tree
+  pub outer : List Open
+  pub table : Table
+
+abbrev pub start : State
+start = record { inner = []; outer = []; table = [] }
+
+-- keys and values in turn, as pairs
+abbrev pub paired : {X : Type 0} → List X → List (X × X)
+paired [] = []
+paired (k ∷ []) = []
+paired (k ∷ (v ∷ ts)) = (k, v) ∷ paired ts
+
+abbrev pub sequence_from : List Tree → Tree
+sequence_from ts = sequence seq_tag (trees ts)
+
+abbrev pub mapping_from : List Tree → Tree
+mapping_from ts = mapping map_tag (pairs (paired ts))
+
+-- the collection of these parts
+abbrev pub collection_from : Bool → List Tree → Tree
+collection_from is_mapping ts = cond is_mapping (mapping_from ts) (sequence_from ts)
+
+-- a node is whole, whose anchor stands at this place
+abbrev pub whole : Anchor → ℕ → Tree → State → State
+whole a slot t s = record { inner = s.inner ++ (t ∷ []); outer = s.outer; table = closed a slot t s.table }
+
+abbrev pub scalar_added : Anchor → List ℕ → State → State
+scalar_added a x s = whole a (length s.table) (scalar str_tag x) (record { inner = s.inner; outer = s.outer; table = opened a s.table })
+
+abbrev pub entered : Anchor → State → State
+entered a s = record { inner = []; outer = (record { anchor = a; slot = length s.table; before = s.inner }) ∷ s.outer; table = opened a s.table }
+
+-- the innermost collection ends, if there is one
+abbrev pub left : (List Tree → Tree) → State → List Open → Option (Outcome State)
+left make s [] = None
+left make s (o ∷ os) = Some (Ok (whole o.anchor o.slot (make s.inner) (record { inner = o.before; outer = os; table = s.table })))
+
+abbrev pub added : State → Tree → Outcome State
+added s t = Ok (record { inner = s.inner ++ (t ∷ []); outer = s.outer; table = s.table })
+
+-- The event's number, and the event. None: no documents have this event here.
+unfoldable pub step : ℕ → Event → State → Option (Outcome State)
+step at (scalar_event a g y x) s = Some (Ok (scalar_added a x s))
+step at (alias_event name) s = Some (and_then (placed at (tree_named (last_named name s.table))) (added s))
+step at (sequence_start b a g) s = Some (Ok (entered a s))
+step at (mapping_start b a g) s = Some (Ok (entered a s))
+step at sequence_end s = left (collection_from false) s s.outer
+step at mapping_end s = left (collection_from true) s s.outer
+step at (document_start b) s = Some (Ok (record { inner = s.inner; outer = s.outer; table = [] }))
+step at _ s = Some (Ok s)
+
+abbrev pub told : {X Y : Type 0} → Outcome X → (X → Option (Outcome Y)) → Option (Outcome Y)
+told (Err e) f = Some (Err e)
+told (Ok x) f = f x
+
+abbrev pub next : {X Y : Type 0} → Option (Outcome X) → (X → Option (Outcome Y)) → Option (Outcome Y)
+next None f = None
+next (Some o) f = told o f
+
+unfoldable pub run : ℕ → List Event → State → Option (Outcome State)
+run at [] s = Some (Ok s)
+run at (e ∷ es) s = next (step at e s) (run (suc at) es)

@@ -1,0 +1,28 @@
+//! Temporary: from a stream's events to the unfolded trees of its documents; `yaml_graph` replaces it.
+ghost use Rattle.std.specs.Prelude.{◌≡◌, List, map, Ok, MatchResult};
+ghost use Rattle.yaml_text.specs.Marked.{Document, stream_events};
+ghost use Rattle.yaml_text.specs.Unfold.{trees_of};
+ghost use Rattle.yaml_text.specs.EventModel.{event_of};
+ghost use Rattle.yaml_canon.specs.TreeModel.{tree_of};
+ghost use Rattle.yaml_canon.specs.Composable.{Composable, RefusesAlias};
+
+mod composer;
+mod graph;
+
+use crate::tree::Tree;
+use composer::compose;
+use graph::forest;
+use std::alloc::Global;
+use yaml_text::event::Event;
+use yaml_text::fault::Fault;
+
+/// The unfolded trees of a stream's documents. An alias whose anchor is undefined (12) or stands
+/// on a collection that is still open (13) is told by its event's number.
+pub(crate) fn unfold<'a>(alloc: Global, events: &'a [Event<'_>]) -> Result<Vec<Tree<'a>>, Fault>
+    requires { Composable events.now }
+    ensures { (ds : List Document) → map event_of events.now ≡ stream_events ds →
+        MatchResult result (λ trees. trees_of ds ≡ Ok (map tree_of trees.items)) (RefusesAlias (trees_of ds)) }
+{
+    let graph = compose(alloc, events)?;
+    forest(alloc, &graph)
+}
