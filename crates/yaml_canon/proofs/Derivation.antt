@@ -21,7 +21,7 @@ use Rattle.yaml_text.proofs.Members.{and_both}
 use Rattle.yaml_text.proofs.CharLaws.{tails, low}
 use Rattle.yaml_text.proofs.PlaceLemmas.{slice_one, slice_snoc}
 use Rattle.yaml_canon.specs.FirstPath.{piece, quoted_rest, double_line, scalar_node, spaces, items_rest, node}
-use Rattle.yaml_canon.specs.SimpleMarks.{Simple, AllSimple}
+use Rattle.yaml_canon.specs.SimpleMarks.{Simple, AllSimple, depth, depths}
 
 -- ---- what stands from a place on
 
@@ -174,18 +174,6 @@ module _ (cs : List ℕ) where
       (p.0, (chars x, (i + 1, (at_get cs i 34 _ a, refl), p.1), ap (λ z. scalar_event None untagged double_quoted z ∷ []) (sym (encodes-chars x v))), p.2)
 
 -- ---- nodes
-
--- how many collections are open at most
-abbrev mutual
-  pub depth : Marked → ℕ
-  depth (alias n) = 0
-  depth (scalar_at a g y x) = 0
-  depth (sequence_at a g b ts) = suc (depths ts)
-  depth (mapping_at a g b ps) = 0
-
-  pub depths : AllMarked → ℕ
-  depths end_marks = 0
-  depths (item_mark t ts) = max (depth t) (depths ts)
 
 mutual
   unfolding flat

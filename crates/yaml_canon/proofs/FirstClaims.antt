@@ -17,7 +17,8 @@ use Rattle.yaml_canon.specs.Among.{OnFirstPath, NoneAgain, Unrepeated}
 use Rattle.yaml_canon.specs.Claims.{AllLow, AllKeyed, IsCanonicalText, Compares, IsFirstHigh, IsFirstRepeated, RefusedInReading, CanonicalRefuses}
 use Rattle.yaml_canon.specs.FirstPath.{ReadsFirst}
 use Rattle.yaml_canon.specs.FirstDocument.{FirstDocument}
-use Rattle.yaml_canon.proofs.SimpleTrees.{simple_tree, simple_stands, simple_first, first_is_keyed, simple_proper}
+use Rattle.yaml_canon.specs.SimpleMarks.{simple_tree}
+use Rattle.yaml_canon.proofs.SimpleTrees.{simple_height, simple_stands, simple_first, first_is_keyed, simple_proper}
 use Rattle.yaml_canon.proofs.Spelled.{spellings_read}
 
 module _ (bytes : List ℕ) (es : List Event) (d : FirstDocument bytes es) where

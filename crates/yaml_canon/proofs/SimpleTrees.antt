@@ -1,32 +1,20 @@
 -- What marks without anchors, aliases, tags and mappings stand for: trees of the first path.
-use Rattle.std.proofs.Common.{◌≡◌, ℕ, suc, ◌+◌, true, List, [], ◌∷◌, Ok, None, refl, sym, ◌∙◌, ap, subst}
+use Rattle.std.proofs.Common.{◌≡◌, ℕ, suc, ◌+◌, true, List, [], ◌∷◌, Ok, None, refl, sym, ◌∙◌, ap, subst, arith, ◌≤◌}
 use Rattle.std.specs.Str.{is_utf8}
 use Rattle.yaml_text.specs.Event.{untagged, double}
-use Rattle.yaml_text.specs.Tree.{Tree, Trees, scalar, sequence, mapping, end, item}
+use Rattle.yaml_text.specs.Tree.{height, heights, Tree, Trees, scalar, sequence, mapping, end, item}
 use Rattle.yaml_text.specs.Tag.{str_tag, seq_tag}
 use Rattle.yaml_text.specs.Same.{Keyed, keyed, keyed_trees}
 use Rattle.yaml_text.specs.Marked.{Marked, AllMarked, alias, scalar_at, sequence_at, mapping_at, end_marks, item_mark}
 use Rattle.yaml_text.specs.Spell.{document_of}
-use Rattle.yaml_text.specs.Sound.{SoundTag, Sound, AllSound}
+use Rattle.yaml_text.specs.Sound.{SoundAnchor, SoundTag, Sound, AllSound}
 use Rattle.yaml_text.specs.Proper.{IsProper}
 use Rattle.yaml_text.proofs.Members.{both_and}
 use Rattle.yaml_text.proofs.SoundLaws.{read_is_proper}
 use Rattle.yaml_text.specs.Core.{resolve, collection_tag}
 use Rattle.yaml_text.specs.Unfold.{Table, Outcome, unfold_node, unfold_all, event_count, trees_from, trees_of}
 use Rattle.yaml_canon.specs.Among.{IsFirst, AreFirst}
-use Rattle.yaml_canon.specs.SimpleMarks.{Simple, AllSimple}
-
--- the tree
-abbrev mutual
-  pub simple_tree : Marked → Tree
-  simple_tree (alias n) = scalar str_tag []
-  simple_tree (scalar_at a g y x) = scalar str_tag x
-  simple_tree (sequence_at a g b ts) = sequence seq_tag (simple_trees ts)
-  simple_tree (mapping_at a g b ps) = scalar str_tag []
-
-  pub simple_trees : AllMarked → Trees
-  simple_trees end_marks = end
-  simple_trees (item_mark t ts) = item (simple_tree t) (simple_trees ts)
+use Rattle.yaml_canon.specs.SimpleMarks.{Simple, AllSimple, simple_tree, simple_trees, depth, depths}
 
 mutual
   unfolding unfold_node resolve collection_tag
@@ -62,8 +50,8 @@ mutual
   pub simple_sound : (m : Marked) → Simple m → Sound m
   simple_sound (alias n) s = absurd s
   simple_sound (mapping_at a g b ps) s = absurd s
-  simple_sound (scalar_at a g y x) s = (subst SoundTag (sym s.1) tt, s.3)
-  simple_sound (sequence_at a g b ts) s = (subst SoundTag (sym s.1) tt, simple_all_sound ts s.3)
+  simple_sound (scalar_at a g y x) s = (subst SoundAnchor (sym s.0) tt, subst SoundTag (sym s.1) tt, s.3)
+  simple_sound (sequence_at a g b ts) s = (subst SoundAnchor (sym s.0) tt, subst SoundTag (sym s.1) tt, simple_all_sound ts s.3)
 
   simple_all_sound : (ts : AllMarked) → AllSimple ts → AllSound ts
   simple_all_sound end_marks s = tt
@@ -84,3 +72,17 @@ first_is_keyed t f = first_keyed t f
 
 pub simple_proper : (m : Marked) → Simple m → IsProper (simple_tree m)
 simple_proper m s = (read_is_proper (document_of m ∷ []) (simple_tree m ∷ []) (simple_sound m s, tt) (simple_stands m s)).0
+
+mutual
+  pub simple_height : (m : Marked) → Simple m → height (simple_tree m) ≤ depth m
+  simple_height (alias n) s = absurd s
+  simple_height (mapping_at a g b ps) s = absurd s
+  simple_height (scalar_at a g y x) s = omega arith
+  simple_height (sequence_at a g b ts) s = let i : heights (simple_trees ts) ≤ suc (depths ts) = simple_heights ts s.3 in omega (arith, i)
+
+  simple_heights : (ts : AllMarked) → AllSimple ts → heights (simple_trees ts) ≤ suc (depths ts)
+  simple_heights end_marks s = omega arith
+  simple_heights (item_mark t ts) s =
+      let i : height (simple_tree t) ≤ depth t = simple_height t s.0 in
+      let k : heights (simple_trees ts) ≤ suc (depths ts) = simple_heights ts s.1 in
+      omega (arith, i, k)

@@ -20,8 +20,8 @@ use Rattle.yaml_text.specs.grammar.Characters.{brk, is_break}
 use Rattle.yaml_canon.proofs.FirstInside.{Inline, inline_on, one_on, node_on}
 use Rattle.yaml_canon.specs.FirstPath.{document, ReadsFirst}
 use Rattle.yaml_canon.specs.Among.{IsFirst, AreFirst, NoneAgain}
-use Rattle.yaml_canon.specs.SimpleMarks.{Simple, AllSimple}
-use Rattle.yaml_canon.proofs.Derivation.{At, at_get, at_next, at_end, depth, depths, flat_more, none, derive}
+use Rattle.yaml_canon.specs.SimpleMarks.{Simple, AllSimple, depth, depths}
+use Rattle.yaml_canon.proofs.Derivation.{At, at_get, at_next, at_end, flat_more, none, derive}
 
 mutual
   unfolding arranged

@@ -1,6 +1,6 @@
 //! Temporary: the unfolded trees of documents; graphs with shared nodes (`yaml_graph`) replace them.
 ghost use Rattle.std.specs.Prelude.{◌≡◌, ◌≤◌};
-ghost use Rattle.yaml_text.specs.Limits.{height_limit};
+ghost use Rattle.yaml_text.specs.Limits.{open_limit};
 ghost use Rattle.yaml_text.specs.Tree.{kind_of, height, heights, heights_of_pairs};
 ghost use Rattle.yaml_canon.specs.TreeModel.{tree_of, trees_of, pairs_of};
 
@@ -28,7 +28,7 @@ impl<'a> Tree<'a> {
 /// 0 for a scalar and an empty collection, else one more than the greatest height inside.
 #[cycle(height)]
 pub(crate) fn height(tree: &Tree<'_>) -> usize
-    requires { height (tree_of tree.now) ≤ height_limit }
+    requires { height (tree_of tree.now) ≤ open_limit }
     ensures { result ≡ height (tree_of tree.now) }
 {
     match tree {
@@ -40,7 +40,7 @@ pub(crate) fn height(tree: &Tree<'_>) -> usize
 
 #[cycle(height)]
 fn height_of_items(items: &[Tree<'_>]) -> usize
-    requires { heights (trees_of items.now) ≤ height_limit }
+    requires { heights (trees_of items.now) ≤ open_limit }
     ensures { result ≡ heights (trees_of items.now) }
 {
     let mut highest = 0;
@@ -52,7 +52,7 @@ fn height_of_items(items: &[Tree<'_>]) -> usize
 
 #[cycle(height)]
 fn height_of_entries(entries: &[(Tree<'_>, Tree<'_>)]) -> usize
-    requires { heights_of_pairs (pairs_of entries.now) ≤ height_limit }
+    requires { heights_of_pairs (pairs_of entries.now) ≤ open_limit }
     ensures { result ≡ heights_of_pairs (pairs_of entries.now) }
 {
     let mut highest = 0;
