@@ -3,3 +3,4 @@ pub mod Composable
 pub mod Machine
 pub mod GraphModel
 pub mod ComposerModel
+pub mod Measure
