@@ -56,7 +56,7 @@ entries-at-front ts m (p ∷ entries) h =
     let b = h 0 p (omega arith) in
     λ z. (at-front ts m p.0 b.0 z, at-front ts m p.1 b.1 z) ∷ entries-at-front ts m entries (λ k d l. h (suc k) d (omega arith)) z
 
-node-front : (ts : List Tree) (m : ℕ) (n : Node) → PartsBelow m n → node_tree (take m ts) n ≡ node_tree ts n
+pub node-front : (ts : List Tree) (m : ℕ) (n : Node) → PartsBelow m n → node_tree (take m ts) n ≡ node_tree ts n
 node-front ts m (nodes.Scalar text) h = refl
 node-front ts m (nodes.Sequence items) h = ap sequence_from (all-at-front ts m items.items h)
 node-front ts m (nodes.Mapping entries) h = ap (λ ps. mapping map_tag (pairs ps)) (entries-at-front ts m entries.items h)
@@ -68,7 +68,7 @@ node-tree ns k n g h =
 
 -- ---- the code's trees of a node's parts
 
-at_node : (ns : List Node) (k : ℕ) (n : Node) → k < length ns → n ≡ get_or ns k n → slice_get ns k ≡ Some n
+pub at_node : (ns : List Node) (k : ℕ) (n : Node) → k < length ns → n ≡ get_or ns k n → slice_get ns k ≡ Some n
 at_node ns k n l e = slice_get_read ns (length ns) k n refl l e
 
 pub node-below : (ns : List Node) (k : ℕ) (n : Node) → Grounded ns → k < length ns → n ≡ get_or ns k n → PartsBelow k n

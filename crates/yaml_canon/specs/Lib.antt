@@ -15,3 +15,4 @@ pub mod Composable
 pub mod Machine
 pub mod GraphModel
 pub mod ComposerModel
+pub mod Measure

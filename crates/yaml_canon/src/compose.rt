@@ -4,14 +4,17 @@ ghost use Rattle.yaml_text.specs.Marked.{Document, stream_events};
 ghost use Rattle.yaml_text.specs.Unfold.{trees_of};
 ghost use Rattle.yaml_text.specs.EventModel.{event_of};
 ghost use Rattle.yaml_canon.specs.TreeModel.{tree_of};
+ghost use Rattle.yaml_canon.specs.Measure.{Surveyed};
 ghost use Rattle.yaml_canon.specs.Composable.{Composable, RefusesAlias};
 
 mod composer;
 mod graph;
+mod measure;
 
 use crate::tree::Tree;
 use composer::compose;
 use graph::forest;
+use measure::{Measure, of_roots};
 use std::alloc::Global;
 use yaml_text::event::Event;
 use yaml_text::fault::Fault;
@@ -25,4 +28,14 @@ pub(crate) fn unfold<'a>(alloc: Global, events: &'a [Event<'_>]) -> Result<Vec<T
 {
     let graph = compose(alloc, events)?;
     forest(alloc, &graph)
+}
+
+/// The measures of the documents' trees, without unfolding them. The same aliases are refused.
+pub(crate) fn survey(alloc: Global, events: &[Event<'_>]) -> Result<Vec<Measure>, Fault>
+    requires { Composable events.now }
+    ensures { (ds : List Document) → map event_of events.now ≡ stream_events ds →
+        MatchResult result (λ measures. Surveyed ds measures.items) (RefusesAlias (trees_of ds)) }
+{
+    let graph = compose(alloc, events)?;
+    of_roots(alloc, &graph)
 }

@@ -1,11 +1,10 @@
 //! Temporary: one pass over a stream's events, which numbers its nodes and puts aliases in place.
-ghost use Rattle.std.specs.Prelude.{◌≡◌, List, [], ◌∷◌, ◌++◌, ◌<◌, length, map, reverse, Some, IfOk, IfErr, MatchResult, IfSome};
+ghost use Rattle.std.specs.Prelude.{◌≡◌, List, ◌<◌, length, map, Some, IfOk, IfErr, MatchResult};
 ghost use Rattle.std.specs.List.{All};
 ghost use Rattle.std.specs.Cow.{cow_str_bytes};
 ghost use Rattle.std.specs.Option.{option_map};
 ghost use Rattle.yaml_text.specs.Marked.{Document, stream_events};
-ghost use Rattle.yaml_text.specs.Core.{Cause};
-ghost use Rattle.yaml_text.specs.Unfold.{Outcome, Table, opened, trees_of, and_then, placed, tree_named, last_named};
+ghost use Rattle.yaml_text.specs.Unfold.{Outcome, opened, trees_of, and_then, placed, tree_named, last_named};
 ghost use Rattle.yaml_text.specs.EventModel.{event_of};
 ghost use Rattle.yaml_canon.specs.Composable.{Composable, RefusesAlias};
 ghost use Rattle.yaml_canon.specs.Machine.{State, start, whole, entered, left, added, step, scalar_added, collection_from};
