@@ -22,5 +22,5 @@ pub mod Nodes
 pub mod MachineLaws
 pub mod ComposerLaws
 pub mod GraphLaws
-pub mod TreeViews
 pub mod MeasureLaws
+pub mod HighLemmas

@@ -16,3 +16,4 @@ pub mod Machine
 pub mod GraphModel
 pub mod ComposerModel
 pub mod Measure
+pub mod Forest

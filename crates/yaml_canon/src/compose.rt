@@ -11,10 +11,12 @@ mod composer;
 mod graph;
 mod measure;
 
+pub(crate) use measure::Measure;
+
 use crate::tree::Tree;
 use composer::compose;
 use graph::forest;
-use measure::{Measure, of_roots};
+use measure::of_roots;
 use std::alloc::Global;
 use yaml_text::event::Event;
 use yaml_text::fault::Fault;

@@ -3,6 +3,7 @@
 
 mod comparer;
 mod compose;
+mod forest;
 mod order;
 mod reader;
 mod reading;
