@@ -7,3 +7,5 @@ pub mod Writing
 pub mod Names
 pub mod Found
 pub mod Nodes
+pub mod Walking
+pub mod Counting

@@ -2,3 +2,4 @@ pub mod TreeModel
 pub mod Writes
 pub mod Identical
 pub mod Anchored
+pub mod Repeats

@@ -1,32 +1,17 @@
 //! The canonical text of trees.
 ghost use Rattle.std.specs.Prelude.{◌≡◌, [], ◌<◌, ◌^◌, suc, OnOk, IfErr, ◌∷◌, ◌++◌};
-ghost use Rattle.std.specs.List.{position};
 ghost use Rattle.std.specs.String.{string_bytes};
 ghost use Rattle.yaml_text.specs.Mark.{name_of};
 ghost use Rattle.yaml_text.specs.Marked.{alias};
 ghost use Rattle.yaml_text.specs.NodeText.{text, items_text, pairs_text, anchor_text};
 ghost use Rattle.yaml_canon.specs.TreeModel.{tree_of, trees_of, pairs_of};
-ghost use Rattle.yaml_canon.specs.Identical.{identical};
 ghost use Rattle.yaml_canon.specs.Anchored.{nodes_of, anchor_at, enrolled, separator, noted, noted_all, noted_pairs, marked, marked_all, marked_pairs};
 ghost use Rattle.yaml_canon.specs.Writes.{Writes};
 
-use crate::order::equals;
+use crate::node::{Node, find};
 use crate::scalar::spell_scalar;
 use crate::tree::Tree;
 use yaml_text::fault::Fault;
-
-/// A node of a tree.
-#[derive(Clone, Copy)]
-struct Node<'a> {
-    tree: &'a Tree<'a>,
-}
-
-/// The place in a list of the first tree that is this one.
-fn find<'a>(tree: &Tree<'a>, list: &[Node<'a>]) -> Option<usize>
-    ensures { result ≡ position (λ node. identical (tree_of tree.now) (tree_of node.tree.now)) list.now }
-{
-    list.iter().position(|other| equals(tree, other.tree))
-}
 
 /// `a` and a number from 1.
 fn push_name(number: usize, out: &mut String) -> Result<(), Fault>
