@@ -9,3 +9,4 @@ pub mod Found
 pub mod Nodes
 pub mod Walking
 pub mod Counting
+pub mod Shortness
