@@ -10,3 +10,5 @@ pub mod Nodes
 pub mod Walking
 pub mod Counting
 pub mod Shortness
+pub mod Anchors
+pub mod Agains

@@ -3,3 +3,4 @@ pub mod Writes
 pub mod Identical
 pub mod Anchored
 pub mod Repeats
+pub mod Arranged

@@ -9,12 +9,12 @@ use crate::tree::Tree;
 
 /// A node of a tree.
 #[derive(Clone, Copy)]
-pub(crate) struct Node<'a> {
-    pub(crate) tree: &'a Tree<'a>,
+pub(crate) struct Node<'t, 'a> {
+    pub(crate) tree: &'t Tree<'a>,
 }
 
 /// The place in a list of the first tree that is this one.
-pub(crate) fn find<'a>(tree: &Tree<'a>, list: &[Node<'a>]) -> Option<usize>
+pub(crate) fn find<'a>(tree: &Tree<'a>, list: &[Node<'_, 'a>]) -> Option<usize>
     ensures { result ≡ position (λ node. identical (tree_of tree.now) (tree_of node.tree.now)) list.now }
 {
     list.iter().position(|other| equals(tree, other.tree))

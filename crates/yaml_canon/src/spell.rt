@@ -45,10 +45,10 @@ fn push_separator(place: usize, out: &mut String) -> Result<(), Fault>
 }
 
 /// The anchor of a node that is written out, if a later one repeats it.
-fn push_anchor<'a>(
-    tree: &'a Tree<'a>,
-    repeated: &[Node<'a>],
-    anchored: &mut Vec<Node<'a>>,
+fn push_anchor<'t, 'a>(
+    tree: &'t Tree<'a>,
+    repeated: &[Node<'t, 'a>],
+    anchored: &mut Vec<Node<'t, 'a>>,
     out: &mut String,
 ) -> Result<(), Fault>
     ensures ok { OnOk result (Writes (string_bytes out.old) (string_bytes out.new) (anchor_text (anchor_at (nodes_of repeated.now) (tree_of tree.now) (nodes_of anchored.old.items)))) }
@@ -67,10 +67,10 @@ fn push_anchor<'a>(
 /// Appends a tree's text. `repeated` has the nodes that a later one repeats, and `anchored` the
 /// anchored ones that stand before, in order.
 #[cycle(spell)]
-fn spell_node<'a>(
-    tree: &'a Tree<'a>,
-    repeated: &[Node<'a>],
-    anchored: &mut Vec<Node<'a>>,
+fn spell_node<'t, 'a>(
+    tree: &'t Tree<'a>,
+    repeated: &[Node<'t, 'a>],
+    anchored: &mut Vec<Node<'t, 'a>>,
     out: &mut String,
 ) -> Result<(), Fault>
     ensures ok { OnOk result (Writes (string_bytes out.old) (string_bytes out.new) (text (marked (nodes_of repeated.now) (tree_of tree.now) (nodes_of anchored.old.items)))) }
@@ -89,10 +89,10 @@ fn spell_node<'a>(
 }
 
 #[cycle(spell)]
-fn spell_items<'a>(
-    items: &'a [Tree<'a>],
-    repeated: &[Node<'a>],
-    anchored: &mut Vec<Node<'a>>,
+fn spell_items<'t, 'a>(
+    items: &'t [Tree<'a>],
+    repeated: &[Node<'t, 'a>],
+    anchored: &mut Vec<Node<'t, 'a>>,
     out: &mut String,
 ) -> Result<(), Fault>
     ensures ok { OnOk result (Writes (string_bytes out.old) (string_bytes out.new) (λ more. 91 ∷ items_text [] (marked_all (nodes_of repeated.now) (trees_of items.now) (nodes_of anchored.old.items)) more)) }
@@ -109,10 +109,10 @@ fn spell_items<'a>(
 }
 
 #[cycle(spell)]
-fn spell_entries<'a>(
-    entries: &'a [(Tree<'a>, Tree<'a>)],
-    repeated: &[Node<'a>],
-    anchored: &mut Vec<Node<'a>>,
+fn spell_entries<'t, 'a>(
+    entries: &'t [(Tree<'a>, Tree<'a>)],
+    repeated: &[Node<'t, 'a>],
+    anchored: &mut Vec<Node<'t, 'a>>,
     out: &mut String,
 ) -> Result<(), Fault>
     ensures ok { OnOk result (Writes (string_bytes out.old) (string_bytes out.new) (λ more. 123 ∷ pairs_text [] (marked_pairs (nodes_of repeated.now) (pairs_of entries.now) (nodes_of anchored.old.items)) more)) }

@@ -1,11 +1,14 @@
 //! Which nodes of an arranged tree repeat an earlier one. Temporary, as the trees are: nodes are
 //! compared one with another.
-ghost use Rattle.std.specs.Prelude.{◌≡◌, ◌+◌, ◌<◌, ◌≤◌, ◌↔◌, IsTrue, [], ◌++◌, OnOk, IfOk, IfErr, length, nat_le};
+ghost use Rattle.std.specs.Prelude.{◌≡◌, ◌≢◌, ◌+◌, ◌<◌, ◌≤◌, ◌↔◌, IsTrue, [], ◌++◌, OnOk, IfOk, IfErr, length, nat_le};
 ghost use Rattle.std.specs.Str.{chars, encode_utf8_all};
 ghost use Rattle.yaml_text.specs.Limits.{short_limit};
 ghost use Rattle.yaml_text.specs.CharText.{spell_char};
 ghost use Rattle.yaml_text.specs.NodeText.{quoted};
 ghost use Rattle.yaml_text.specs.Spell.{short};
+ghost use Rattle.std.specs.Bool.{OnTrue, OnFalse};
+ghost use Rattle.yaml_text.specs.Walk.{walk, agains};
+ghost use Rattle.yaml_canon.specs.Arranged.{IsArranged};
 ghost use Rattle.yaml_canon.specs.TreeModel.{tree_of, trees_of, pairs_of};
 ghost use Rattle.yaml_canon.specs.Anchored.{nodes_of};
 ghost use Rattle.yaml_canon.specs.Repeats.{repeats_one, noticed, kept, kept_all, kept_pairs, repeats, repeats_all, repeats_pairs};
@@ -13,6 +16,7 @@ ghost use Rattle.yaml_canon.specs.Repeats.{repeats_one, noticed, kept, kept_all,
 use crate::node::{Node, find};
 use crate::scalar::spelled_len;
 use crate::tree::Tree;
+use std::alloc::Global;
 use yaml_text::fault::Fault;
 
 /// The bytes of a scalar or an empty collection that is always written out.
@@ -44,14 +48,14 @@ fn is_short(tree: &Tree<'_>) -> bool
 }
 
 /// Whether a node repeats one of `seen`, and is not short.
-fn is_again<'a>(tree: &Tree<'a>, seen: &[Node<'a>]) -> bool
+fn is_again<'a>(tree: &Tree<'a>, seen: &[Node<'_, 'a>]) -> bool
     ensures { result ≡ repeats_one (tree_of tree.now) (nodes_of seen.now) }
 {
     !is_short(tree) && find(tree, seen).is_some()
 }
 
 /// Puts a node that is not short at the end of `seen`.
-fn notice<'a>(tree: &'a Tree<'a>, seen: &mut Vec<Node<'a>>) -> Result<(), Fault>
+fn notice<'t, 'a>(tree: &'t Tree<'a>, seen: &mut Vec<Node<'t, 'a>>) -> Result<(), Fault>
     ensures seen { OnOk result (nodes_of seen.new.items ≡ noticed (tree_of tree.now) (nodes_of seen.old.items)) }
     ensures only { IfErr result (λ fault. fault ≡ Fault.OutOfMemory) }
 {
@@ -64,10 +68,10 @@ fn notice<'a>(tree: &'a Tree<'a>, seen: &mut Vec<Node<'a>>) -> Result<(), Fault>
 /// Walks a tree: puts the nodes that are written out and not short at the end of `seen`, and
 /// those that repeat one of `seen` at the end of `repeated`.
 #[cycle(visit)]
-pub(crate) fn visit<'a>(
-    tree: &'a Tree<'a>,
-    seen: &mut Vec<Node<'a>>,
-    repeated: &mut Vec<Node<'a>>,
+pub(crate) fn visit<'t, 'a>(
+    tree: &'t Tree<'a>,
+    seen: &mut Vec<Node<'t, 'a>>,
+    repeated: &mut Vec<Node<'t, 'a>>,
 ) -> Result<(), Fault>
     ensures seen { OnOk result (nodes_of seen.new.items ≡ kept (tree_of tree.now) (nodes_of seen.old.items)) }
     ensures repeated { OnOk result (nodes_of repeated.new.items ≡ nodes_of repeated.old.items ++ repeats (tree_of tree.now) (nodes_of seen.old.items)) }
@@ -86,10 +90,10 @@ pub(crate) fn visit<'a>(
 }
 
 #[cycle(visit)]
-fn visit_items<'a>(
-    items: &'a [Tree<'a>],
-    seen: &mut Vec<Node<'a>>,
-    repeated: &mut Vec<Node<'a>>,
+fn visit_items<'t, 'a>(
+    items: &'t [Tree<'a>],
+    seen: &mut Vec<Node<'t, 'a>>,
+    repeated: &mut Vec<Node<'t, 'a>>,
 ) -> Result<(), Fault>
     ensures seen { OnOk result (nodes_of seen.new.items ≡ kept_all (trees_of items.now) (nodes_of seen.old.items)) }
     ensures repeated { OnOk result (nodes_of repeated.new.items ≡ nodes_of repeated.old.items ++ repeats_all (trees_of items.now) (nodes_of seen.old.items)) }
@@ -102,10 +106,10 @@ fn visit_items<'a>(
 }
 
 #[cycle(visit)]
-fn visit_entries<'a>(
-    entries: &'a [(Tree<'a>, Tree<'a>)],
-    seen: &mut Vec<Node<'a>>,
-    repeated: &mut Vec<Node<'a>>,
+fn visit_entries<'t, 'a>(
+    entries: &'t [(Tree<'a>, Tree<'a>)],
+    seen: &mut Vec<Node<'t, 'a>>,
+    repeated: &mut Vec<Node<'t, 'a>>,
 ) -> Result<(), Fault>
     ensures seen { OnOk result (nodes_of seen.new.items ≡ kept_pairs (pairs_of entries.now) (nodes_of seen.old.items)) }
     ensures repeated { OnOk result (nodes_of repeated.new.items ≡ nodes_of repeated.old.items ++ repeats_pairs (pairs_of entries.now) (nodes_of seen.old.items)) }
@@ -116,4 +120,18 @@ fn visit_entries<'a>(
         visit(&entry.1, seen, repeated)?;
     }
     Ok(())
+}
+
+/// Whether a node of an arranged tree repeats an earlier one that is written out, and is not
+/// short.
+pub(crate) fn has_again(alloc: Global, tree: &Tree<'_>) -> Result<bool, Fault>
+    requires { IsArranged (tree_of tree.now) }
+    ensures none { IfOk result (λ again. OnFalse again (agains (walk short (tree_of tree.now) []) ≡ [])) }
+    ensures some { IfOk result (λ again. OnTrue again (agains (walk short (tree_of tree.now) []) ≢ [])) }
+    ensures only { IfErr result (λ fault. fault ≡ Fault.OutOfMemory) }
+{
+    let mut seen = Vec::new(alloc);
+    let mut repeated = Vec::new(alloc);
+    visit(tree, &mut seen, &mut repeated)?;
+    Ok(!repeated.is_empty())
 }
