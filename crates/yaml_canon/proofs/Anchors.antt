@@ -107,7 +107,7 @@ pub every_parts : (P : Tree → Type 0) (xs ys : List Tree) → Every P (xs ++ y
 every_parts P [] ys h = (tt, h)
 every_parts P (x ∷ xs) ys h = let r = every_parts P xs ys h.1 in ((h.0, r.0), r.1)
 
-every_filter : (P : Tree → Type 0) (q : Tree → Bool) (xs : List Tree) → Every P xs → Every P (filter q xs)
+pub every_filter : (P : Tree → Type 0) (q : Tree → Bool) (xs : List Tree) → Every P xs → Every P (filter q xs)
 every_filter P q [] h = tt
 every_filter P q (x ∷ xs) h = by (q x) (every_filter P q xs h.1)
   where
@@ -115,17 +115,17 @@ every_filter P q (x ∷ xs) h = by (q x) (every_filter P q xs h.1)
     by true r = (h.0, r)
     by false r = r
 
-any_same : (t : Tree) (b : List Tree) → Neat t → Every Neat b → list_any (same t) b ≡ has b t
+pub any_same : (t : Tree) (b : List Tree) → Neat t → Every Neat b → list_any (same t) b ≡ has b t
 any_same t [] n m = refl
 any_same t (x ∷ b) n m = ap (λ z. z || list_any (same t) b) (same_identical t x n m.0) ∙ ap (λ z. identical t x || z) (any_same t b n m.1)
 
-place_same : (t : Tree) (b : List Tree) → Neat t → Every Neat b → position_or_len (identical t) b ≡ position_or_len (same t) b
+pub place_same : (t : Tree) (b : List Tree) → Neat t → Every Neat b → position_or_len (identical t) b ≡ position_or_len (same t) b
 place_same t [] n m = refl
 place_same t (x ∷ b) n m =
     ap (λ z. cond (not z) (1 + position_or_len (identical t) b) 0) (sym (same_identical t x n m.0)) ∙ ap (λ k. cond (not (same t x)) (1 + k) 0) (place_same t b n m.1)
 
 -- a tree of the list has what each of the list has
-of_has : (P : Tree → Type 0) (t : Tree) (xs : List Tree) → Every P xs → has xs t ≡ true → P t
+pub of_has : (P : Tree → Type 0) (t : Tree) (xs : List Tree) → Every P xs → has xs t ≡ true → P t
 of_has P t [] h e = absurd (cc)
 of_has P t (x ∷ xs) h e = by (identical t x) refl (λ g. of_has P t xs h.1 g) e
   where
@@ -157,7 +157,7 @@ and_false : (q : Bool) → false ≡ (q && false)
 and_false true = refl
 and_false false = refl
 
-has_filter : (t : Tree) (q : Tree → Bool) (b : List Tree) → has (filter q b) t ≡ (q t && has b t)
+pub has_filter : (t : Tree) (q : Tree → Bool) (b : List Tree) → has (filter q b) t ≡ (q t && has b t)
 has_filter t q [] = and_false (q t)
 has_filter t q (x ∷ b) = by (q x) refl (has_filter t q b)
   where
@@ -202,7 +202,7 @@ repeats_case : (c : Bool) (t : Tree) (r : List Tree) (w : List Place) → r ≡ 
 repeats_case true t r w e = refl
 repeats_case false t r w e = e
 
-firsts-append : (p q : List Place) → firsts (p ++ q) ≡ firsts p ++ firsts q
+pub firsts-append : (p q : List Place) → firsts (p ++ q) ≡ firsts p ++ firsts q
 firsts-append [] q = refl
 firsts-append (first t ∷ p) q = ap (λ z. t ∷ z) (firsts-append p q)
 firsts-append (again t ∷ p) q = firsts-append p q
@@ -309,7 +309,7 @@ again_case P true t w p h = (p refl, tt)
 again_case P false t w p h = h
 
 -- a fact of each node that repeats, from one of each node of the tree
-abbrev IsLong : Tree → Type 0
+abbrev pub IsLong : Tree → Type 0
 IsLong t = short t ≡ false
 
 not_true : (b : Bool) → not b ≡ true → b ≡ false

@@ -12,3 +12,4 @@ pub mod Counting
 pub mod Shortness
 pub mod Anchors
 pub mod Agains
+pub mod Markings

@@ -4,3 +4,4 @@ pub mod Identical
 pub mod Anchored
 pub mod Repeats
 pub mod Arranged
+pub mod Refusal

@@ -1,7 +1,11 @@
 //! The canonical text of trees.
-ghost use Rattle.std.specs.Prelude.{◌≡◌, [], ◌<◌, ◌^◌, suc, OnOk, IfErr, ◌∷◌, ◌++◌};
+ghost use Rattle.std.specs.Prelude.{◌≡◌, ◌≤◌, [], length, map, IfOk, ◌<◌, ◌^◌, suc, OnOk, IfErr, ◌∷◌, ◌++◌};
 ghost use Rattle.std.specs.String.{string_bytes};
 ghost use Rattle.yaml_text.specs.Mark.{name_of};
+ghost use Rattle.yaml_text.specs.Limits.{text_limit};
+ghost use Rattle.yaml_text.specs.Spell.{marks_of, spell_bytes};
+ghost use Rattle.yaml_canon.specs.Arranged.{IsArranged, AllArranged};
+ghost use Rattle.yaml_canon.specs.Refusal.{RefusesSpelling};
 ghost use Rattle.yaml_text.specs.Marked.{alias};
 ghost use Rattle.yaml_text.specs.NodeText.{text, items_text, pairs_text, anchor_text};
 ghost use Rattle.yaml_canon.specs.TreeModel.{tree_of, trees_of, pairs_of};
@@ -11,7 +15,46 @@ ghost use Rattle.yaml_canon.specs.Writes.{Writes};
 use crate::node::{Node, find};
 use crate::scalar::spell_scalar;
 use crate::tree::Tree;
+use crate::walk::visit;
+use std::alloc::Global;
 use yaml_text::fault::Fault;
+
+/// The greatest length of a canonical text, in bytes.
+const TEXT_LIMIT: usize = 16_777_216;
+
+/// The canonical text of arranged trees, a document each. A text of more than 16,777,216 bytes is
+/// refused as `TextTooLong`.
+pub(crate) fn spell(alloc: Global, trees: &[Tree<'_>]) -> Result<String, Fault>
+    requires { AllArranged (map tree_of trees.now) }
+    ensures ok { IfOk result (λ text. string_bytes text ≡ spell_bytes (map tree_of trees.now)) }
+    ensures fits { IfOk result (λ text. length (string_bytes text) ≤ text_limit) }
+    ensures err { IfErr result (λ fault. RefusesSpelling (map tree_of trees.now) fault) }
+{
+    let mut out = String::new(alloc);
+    for tree in trees {
+        spell_document(alloc, tree, &mut out)?;
+    }
+    if out.as_str().len() > TEXT_LIMIT {
+        return Err(Fault::TextTooLong);
+    }
+    Ok(out)
+}
+
+/// A document's start, the text of its root, and the end of the line.
+fn spell_document(alloc: Global, tree: &Tree<'_>, out: &mut String) -> Result<(), Fault>
+    requires { IsArranged (tree_of tree.now) }
+    ensures ok { OnOk result (Writes (string_bytes out.old) (string_bytes out.new) (λ more. 45 ∷ 45 ∷ 45 ∷ 32 ∷ text (marks_of (tree_of tree.now)) (10 ∷ more))) }
+    ensures only { IfErr result (λ fault. fault ≡ Fault.OutOfMemory) }
+{
+    let mut seen = Vec::new(alloc);
+    let mut repeated = Vec::new(alloc);
+    visit(tree, &mut seen, &mut repeated)?;
+    let mut anchored = Vec::new(alloc);
+    out.push_str("--- ")?;
+    spell_node(tree, &repeated, &mut anchored, out)?;
+    out.push('\n')?;
+    Ok(())
+}
 
 /// `a` and a number from 1.
 fn push_name(number: usize, out: &mut String) -> Result<(), Fault>
