@@ -4,7 +4,7 @@ use Rattle.std.proofs.lemmas.Bool.Decides.{nat_tests}
 use Rattle.std.specs.Option.{is_some}
 use Rattle.std.specs.List.{list_any, position, position_or_len}
 use Rattle.yaml_text.specs.Tree as plain
-use Rattle.yaml_canon.specs.declared.spell.Node.{Node}
+use Rattle.yaml_canon.specs.declared.node.Node.{Node}
 use Rattle.yaml_canon.specs.TreeModel.{tree_of}
 use Rattle.yaml_canon.specs.Identical.{identical}
 use Rattle.yaml_canon.specs.Anchored.{nodes_of, has}

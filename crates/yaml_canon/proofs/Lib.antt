@@ -24,3 +24,9 @@ pub mod ComposerLaws
 pub mod GraphLaws
 pub mod MeasureLaws
 pub mod HighLemmas
+pub mod Walking
+pub mod Counting
+pub mod Shortness
+pub mod Anchors
+pub mod Agains
+pub mod Markings

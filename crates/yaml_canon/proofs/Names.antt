@@ -12,7 +12,7 @@ use Rattle.yaml_text.proofs.TextLaws.{name_chars}
 use Rattle.std.specs.declared.option.Option.TheVariants.{None, Some}
 use Rattle.std.proofs.lemmas.List.{length-append, length-map, map-append}
 use Rattle.yaml_text.specs.Tree as plain
-use Rattle.yaml_canon.specs.declared.spell.Node.{Node}
+use Rattle.yaml_canon.specs.declared.node.Node.{Node}
 use Rattle.yaml_canon.specs.TreeModel.{tree_of}
 use Rattle.yaml_canon.specs.Anchored.{nodes_of, has, anchor_at, enrolled}
 use Rattle.yaml_canon.specs.Writes.{Writes}

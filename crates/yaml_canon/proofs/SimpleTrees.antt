@@ -13,6 +13,8 @@ use Rattle.yaml_text.proofs.Members.{both_and}
 use Rattle.yaml_text.proofs.SoundLaws.{read_is_proper}
 use Rattle.yaml_text.specs.Core.{resolve, collection_tag}
 use Rattle.yaml_text.specs.Unfold.{Table, Outcome, unfold_node, unfold_all, event_count, trees_from, trees_of}
+use Rattle.yaml_text.specs.Order.{arranged, arranged_trees}
+use Rattle.yaml_canon.specs.Composable.{Untagged, AllUntagged}
 use Rattle.yaml_canon.specs.Among.{IsFirst, AreFirst}
 use Rattle.yaml_canon.specs.SimpleMarks.{Simple, AllSimple, simple_tree, simple_trees, depth, depths}
 
@@ -86,3 +88,27 @@ mutual
       let i : height (simple_tree t) ≤ depth t = simple_height t s.0 in
       let k : heights (simple_trees ts) ≤ suc (depths ts) = simple_heights ts s.1 in
       omega (arith, i, k)
+
+-- a tree of the first path stands in order as it is
+mutual
+  unfolding arranged
+
+  pub first_fixed : (t : Tree) → IsFirst t → arranged t ≡ t
+  first_fixed (scalar g x) f = refl
+  first_fixed (sequence g ts) f = ap (sequence g) (firsts_fixed ts f.1)
+  first_fixed (mapping g ps) f = absurd f
+
+  firsts_fixed : (ts : Trees) → AreFirst ts → arranged_trees ts ≡ ts
+  firsts_fixed end f = refl
+  firsts_fixed (item t ts) f = let p = first_fixed t f.0 in let q = firsts_fixed ts f.1 in λ z. item (p z) (q z)
+
+mutual
+  pub simple_untagged : (m : Marked) → Simple m → Untagged m
+  simple_untagged (alias n) s = absurd s
+  simple_untagged (mapping_at a g b ps) s = absurd s
+  simple_untagged (scalar_at a g y x) s = (s.1, s.2)
+  simple_untagged (sequence_at a g b ts) s = (s.1, simple_all_untagged ts s.3)
+
+  simple_all_untagged : (ts : AllMarked) → AllSimple ts → AllUntagged ts
+  simple_all_untagged end_marks s = tt
+  simple_all_untagged (item_mark t ts) s = (simple_untagged t s.0, simple_all_untagged ts s.1)

@@ -8,7 +8,7 @@ use Rattle.yaml_text.specs.Event.{Anchor, double}
 use Rattle.yaml_text.specs.Marked.{Marked, AllMarked, MarkedPairs, alias, scalar_at, sequence_at, mapping_at, end_marks, item_mark, done_marks, entry_marks}
 use Rattle.yaml_text.specs.TagText.{written_tag}
 use Rattle.yaml_text.specs.Mark.{name_of}
-use Rattle.yaml_canon.specs.declared.spell.Node.{Node}
+use Rattle.yaml_canon.specs.declared.node.Node.{Node}
 use Rattle.yaml_canon.specs.TreeModel.{tree_of}
 use Rattle.yaml_canon.specs.Identical.{identical}
 

@@ -17,3 +17,6 @@ pub mod GraphModel
 pub mod ComposerModel
 pub mod Measure
 pub mod Forest
+pub mod Repeats
+pub mod Arranged
+pub mod Refusal

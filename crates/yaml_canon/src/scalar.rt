@@ -1,5 +1,5 @@
 //! The spelling of a scalar's content between double quotes.
-ghost use Rattle.std.specs.Prelude.{◌≡◌, ◌<◌, ◌++◌, ◌∷◌, [], false, OnOk, IfErr};
+ghost use Rattle.std.specs.Prelude.{◌≡◌, ◌<◌, ◌≤◌, length, ◌++◌, ◌∷◌, [], false, OnOk, IfErr};
 ghost use Rattle.std.specs.Str.{chars, encode_utf8_all};
 ghost use Rattle.std.specs.String.{string_bytes};
 ghost use Rattle.yaml_text.specs.CharText.{hex_digit, spell_char};
@@ -92,4 +92,25 @@ fn hex_digit(digit: u32) -> char
         b'A' + (digit as u8 - 10)
     };
     char::from(byte)
+}
+
+/// How many bytes a character takes between double quotes.
+#[tactic(auto, unfolding(crate::specs::Writes::is_verbatim, yaml_text::specs::CharText::spell_char))]
+pub(crate) fn spelled_len(c: char) -> usize
+    ensures len { result ≡ length (encode_utf8_all (spell_char c)) }
+    ensures bound { result ≤ 6 }
+{
+    if is_verbatim(c) {
+        return c.len_utf8();
+    }
+    match c {
+        '"' | '\\' | '\n' | '\t' => 2,
+        _ => {
+            if u32::from(c) < 256 {
+                4
+            } else {
+                6
+            }
+        }
+    }
 }

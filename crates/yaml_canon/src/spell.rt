@@ -1,31 +1,59 @@
 //! The canonical text of trees.
-ghost use Rattle.std.specs.Prelude.{◌≡◌, [], ◌<◌, ◌^◌, suc, OnOk, IfErr, ◌∷◌, ◌++◌};
-ghost use Rattle.std.specs.List.{position};
+ghost use Rattle.std.specs.Prelude.{◌≡◌, ◌≤◌, [], length, map, IfOk, ◌<◌, ◌^◌, suc, OnOk, IfErr, ◌∷◌, ◌++◌};
 ghost use Rattle.std.specs.String.{string_bytes};
 ghost use Rattle.yaml_text.specs.Mark.{name_of};
+ghost use Rattle.yaml_text.specs.Limits.{text_limit};
+ghost use Rattle.yaml_text.specs.Spell.{marks_of, spell_bytes};
+ghost use Rattle.yaml_canon.specs.Arranged.{IsArranged, AllArranged};
+ghost use Rattle.yaml_canon.specs.Refusal.{RefusesSpelling};
 ghost use Rattle.yaml_text.specs.Marked.{alias};
 ghost use Rattle.yaml_text.specs.NodeText.{text, items_text, pairs_text, anchor_text};
 ghost use Rattle.yaml_canon.specs.TreeModel.{tree_of, trees_of, pairs_of};
-ghost use Rattle.yaml_canon.specs.Identical.{identical};
 ghost use Rattle.yaml_canon.specs.Anchored.{nodes_of, anchor_at, enrolled, separator, noted, noted_all, noted_pairs, marked, marked_all, marked_pairs};
 ghost use Rattle.yaml_canon.specs.Writes.{Writes};
 
-use crate::order::equals;
+use crate::node::{Node, find};
 use crate::scalar::spell_scalar;
 use crate::tree::Tree;
+use crate::walk::visit;
+use std::alloc::Global;
 use yaml_text::fault::Fault;
 
-/// A node of a tree.
-#[derive(Clone, Copy)]
-struct Node<'a> {
-    tree: &'a Tree<'a>,
+/// The greatest length of a canonical text, in bytes.
+const TEXT_LIMIT: usize = 16_777_216;
+
+/// The canonical text of arranged trees, a document each. A text of more than 16,777,216 bytes is
+/// refused as `TextTooLong`.
+pub(crate) fn spell(alloc: Global, trees: &[Tree<'_>]) -> Result<String, Fault>
+    requires { AllArranged (map tree_of trees.now) }
+    ensures ok { IfOk result (λ text. string_bytes text ≡ spell_bytes (map tree_of trees.now)) }
+    ensures fits { IfOk result (λ text. length (string_bytes text) ≤ text_limit) }
+    ensures err { IfErr result (λ fault. RefusesSpelling (map tree_of trees.now) fault) }
+{
+    let mut out = String::new(alloc);
+    for tree in trees {
+        spell_document(alloc, tree, &mut out)?;
+    }
+    if out.as_str().len() > TEXT_LIMIT {
+        return Err(Fault::TextTooLong);
+    }
+    Ok(out)
 }
 
-/// The place in a list of the first tree that is this one.
-fn find<'a>(tree: &Tree<'a>, list: &[Node<'a>]) -> Option<usize>
-    ensures { result ≡ position (λ node. identical (tree_of tree.now) (tree_of node.tree.now)) list.now }
+/// A document's start, the text of its root, and the end of the line.
+fn spell_document(alloc: Global, tree: &Tree<'_>, out: &mut String) -> Result<(), Fault>
+    requires { IsArranged (tree_of tree.now) }
+    ensures ok { OnOk result (Writes (string_bytes out.old) (string_bytes out.new) (λ more. 45 ∷ 45 ∷ 45 ∷ 32 ∷ text (marks_of (tree_of tree.now)) (10 ∷ more))) }
+    ensures only { IfErr result (λ fault. fault ≡ Fault.OutOfMemory) }
 {
-    list.iter().position(|other| equals(tree, other.tree))
+    let mut seen = Vec::new(alloc);
+    let mut repeated = Vec::new(alloc);
+    visit(tree, &mut seen, &mut repeated)?;
+    let mut anchored = Vec::new(alloc);
+    out.push_str("--- ")?;
+    spell_node(tree, &repeated, &mut anchored, out)?;
+    out.push('\n')?;
+    Ok(())
 }
 
 /// `a` and a number from 1.
@@ -60,10 +88,10 @@ fn push_separator(place: usize, out: &mut String) -> Result<(), Fault>
 }
 
 /// The anchor of a node that is written out, if a later one repeats it.
-fn push_anchor<'a>(
-    tree: &'a Tree<'a>,
-    repeated: &[Node<'a>],
-    anchored: &mut Vec<Node<'a>>,
+fn push_anchor<'t, 'a>(
+    tree: &'t Tree<'a>,
+    repeated: &[Node<'t, 'a>],
+    anchored: &mut Vec<Node<'t, 'a>>,
     out: &mut String,
 ) -> Result<(), Fault>
     ensures ok { OnOk result (Writes (string_bytes out.old) (string_bytes out.new) (anchor_text (anchor_at (nodes_of repeated.now) (tree_of tree.now) (nodes_of anchored.old.items)))) }
@@ -82,10 +110,10 @@ fn push_anchor<'a>(
 /// Appends a tree's text. `repeated` has the nodes that a later one repeats, and `anchored` the
 /// anchored ones that stand before, in order.
 #[cycle(spell)]
-fn spell_node<'a>(
-    tree: &'a Tree<'a>,
-    repeated: &[Node<'a>],
-    anchored: &mut Vec<Node<'a>>,
+fn spell_node<'t, 'a>(
+    tree: &'t Tree<'a>,
+    repeated: &[Node<'t, 'a>],
+    anchored: &mut Vec<Node<'t, 'a>>,
     out: &mut String,
 ) -> Result<(), Fault>
     ensures ok { OnOk result (Writes (string_bytes out.old) (string_bytes out.new) (text (marked (nodes_of repeated.now) (tree_of tree.now) (nodes_of anchored.old.items)))) }
@@ -104,10 +132,10 @@ fn spell_node<'a>(
 }
 
 #[cycle(spell)]
-fn spell_items<'a>(
-    items: &'a [Tree<'a>],
-    repeated: &[Node<'a>],
-    anchored: &mut Vec<Node<'a>>,
+fn spell_items<'t, 'a>(
+    items: &'t [Tree<'a>],
+    repeated: &[Node<'t, 'a>],
+    anchored: &mut Vec<Node<'t, 'a>>,
     out: &mut String,
 ) -> Result<(), Fault>
     ensures ok { OnOk result (Writes (string_bytes out.old) (string_bytes out.new) (λ more. 91 ∷ items_text [] (marked_all (nodes_of repeated.now) (trees_of items.now) (nodes_of anchored.old.items)) more)) }
@@ -124,10 +152,10 @@ fn spell_items<'a>(
 }
 
 #[cycle(spell)]
-fn spell_entries<'a>(
-    entries: &'a [(Tree<'a>, Tree<'a>)],
-    repeated: &[Node<'a>],
-    anchored: &mut Vec<Node<'a>>,
+fn spell_entries<'t, 'a>(
+    entries: &'t [(Tree<'a>, Tree<'a>)],
+    repeated: &[Node<'t, 'a>],
+    anchored: &mut Vec<Node<'t, 'a>>,
     out: &mut String,
 ) -> Result<(), Fault>
     ensures ok { OnOk result (Writes (string_bytes out.old) (string_bytes out.new) (λ more. 123 ∷ pairs_text [] (marked_pairs (nodes_of repeated.now) (pairs_of entries.now) (nodes_of anchored.old.items)) more)) }

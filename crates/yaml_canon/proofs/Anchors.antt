@@ -1,0 +1,367 @@
+-- What the code's walk and marks are in terms of the definitions.
+use Rattle.std.proofs.Common.{◌≡◌, ◌+◌, ℕ, suc, Bool, true, false, not, cond, ◌&&◌, ◌||◌, Some, None, List, [], ◌∷◌, ◌++◌, length, refl, sym, ◌∙◌, ap, subst}
+use Rattle.std.proofs.lemmas.List.{append_assoc, append-nil}
+use Rattle.std.proofs.lemmas.List.Elements.{filter-append}
+use Rattle.std.specs.List.{filter, list_any, position_or_len}
+use lib.Pointwise.{bytes_decides}
+use Rattle.std.specs.Prelude.{bytes_eq}
+use Rattle.yaml_text.specs.Tree.{Tree, Trees, Pairs, scalar, sequence, mapping, end, item, done, entry}
+use Rattle.yaml_text.specs.Order.{arranged}
+use Rattle.yaml_text.specs.Same.{same}
+use Rattle.yaml_text.specs.Walk.{Place, first, again, firsts, agains, is_again, walk, walk_trees, walk_pairs}
+use Rattle.yaml_text.specs.Event.{double}
+use Rattle.yaml_text.specs.Marked.{Marked, alias, scalar_at, sequence_at, mapping_at, item_mark, entry_marks}
+use Rattle.yaml_text.specs.TagText.{written_tag}
+use Rattle.yaml_text.specs.Mark.{name_of, is_anchored, anchored, anchor_of, alias_of, mark, mark_trees, mark_pairs}
+use Rattle.yaml_text.specs.Spell.{short}
+use Rattle.yaml_text.proofs.Members.{and_both, both_and}
+use Rattle.yaml_text.proofs.SameLaws.{same_from}
+use Rattle.yaml_text.proofs.Neat.{Neat, NeatTrees, NeatPairs, neat_same}
+use Rattle.yaml_text.proofs.UnfoldLaws.{agains-append}
+use Rattle.yaml_canon.specs.Identical.{identical, identical_trees, identical_pairs}
+use Rattle.yaml_canon.specs.Anchored.{has, alias_at, anchor_at, enrolled, noted, noted_all, noted_pairs, marked, marked_all, marked_pairs}
+use Rattle.yaml_canon.specs.Repeats.{repeats_one, noticed, kept, kept_all, kept_pairs, repeats, repeats_all, repeats_pairs}
+
+-- ---- trees that are one
+
+mutual
+  unfolding identical
+
+  pub identical_exact : (t u : Tree) → identical t u ≡ true → t ≡ u
+  identical_exact (scalar a x) (scalar b y) h =
+      let p = and_both (bytes_eq a b) (bytes_eq x y) h in
+      let e : a ≡ b = (bytes_decides a b).0 p.0 in
+      let f : x ≡ y = (bytes_decides x y).0 p.1 in
+      cc
+  identical_exact (sequence a ts) (sequence b us) h =
+      let p = and_both (bytes_eq a b) (identical_trees ts us) h in
+      let e : a ≡ b = (bytes_decides a b).0 p.0 in
+      let f : ts ≡ us = identical_trees_exact ts us p.1 in
+      cc
+  identical_exact (mapping a ps) (mapping b qs) h =
+      let p = and_both (bytes_eq a b) (identical_pairs ps qs) h in
+      let e : a ≡ b = (bytes_decides a b).0 p.0 in
+      let f : ps ≡ qs = identical_pairs_exact ps qs p.1 in
+      cc
+  identical_exact t u h = absurd (cc)
+
+  identical_trees_exact : (ts us : Trees) → identical_trees ts us ≡ true → ts ≡ us
+  identical_trees_exact end end h = refl
+  identical_trees_exact end (item u us) h = absurd (cc)
+  identical_trees_exact (item t ts) end h = absurd (cc)
+  identical_trees_exact (item t ts) (item u us) h =
+      let p = and_both (identical t u) (identical_trees ts us) h in
+      let e : t ≡ u = identical_exact t u p.0 in
+      let f : ts ≡ us = identical_trees_exact ts us p.1 in
+      cc
+
+  identical_pairs_exact : (ps qs : Pairs) → identical_pairs ps qs ≡ true → ps ≡ qs
+  identical_pairs_exact done done h = refl
+  identical_pairs_exact done (entry j w qs) h = absurd (cc)
+  identical_pairs_exact (entry k v ps) done h = absurd (cc)
+  identical_pairs_exact (entry k v ps) (entry j w qs) h =
+      let p = and_both (identical k j) (identical v w && identical_pairs ps qs) h in
+      let q = and_both (identical v w) (identical_pairs ps qs) p.1 in
+      let e : k ≡ j = identical_exact k j p.0 in
+      let f : v ≡ w = identical_exact v w q.0 in
+      let g : ps ≡ qs = identical_pairs_exact ps qs q.1 in
+      cc
+
+mutual
+  unfolding identical
+
+  pub identical_refl : (t : Tree) → identical t t ≡ true
+  identical_refl (scalar a x) = both_and (bytes_eq a a) (bytes_eq x x) ((bytes_decides a a).1 refl) ((bytes_decides x x).1 refl)
+  identical_refl (sequence a ts) = both_and (bytes_eq a a) (identical_trees ts ts) ((bytes_decides a a).1 refl) (identical_trees_refl ts)
+  identical_refl (mapping a ps) = both_and (bytes_eq a a) (identical_pairs ps ps) ((bytes_decides a a).1 refl) (identical_pairs_refl ps)
+
+  identical_trees_refl : (ts : Trees) → identical_trees ts ts ≡ true
+  identical_trees_refl end = refl
+  identical_trees_refl (item t ts) = both_and (identical t t) (identical_trees ts ts) (identical_refl t) (identical_trees_refl ts)
+
+  identical_pairs_refl : (ps : Pairs) → identical_pairs ps ps ≡ true
+  identical_pairs_refl done = refl
+  identical_pairs_refl (entry k v ps) =
+      both_and (identical k k) (identical v v && identical_pairs ps ps) (identical_refl k) (both_and (identical v v) (identical_pairs ps ps) (identical_refl v) (identical_pairs_refl ps))
+
+bool_eq : (a b : Bool) → (a ≡ true → b ≡ true) → (b ≡ true → a ≡ true) → a ≡ b
+bool_eq true b f g = sym (f refl)
+bool_eq false true f g = g refl
+bool_eq false false f g = refl
+
+pub same_identical : (t u : Tree) → Neat t → Neat u → same t u ≡ identical t u
+same_identical t u n m =
+    bool_eq (same t u) (identical t u) (λ s. subst (λ z. identical t z ≡ true) (neat_same t u n m s) (identical_refl t)) (λ i. same_from t u (ap arranged (identical_exact t u i)))
+
+-- ---- lists of trees
+
+abbrev pub Every : (Tree → Type 0) → List Tree → Type 0
+Every P [] = Unit {0}
+Every P (x ∷ xs) = P x × Every P xs
+
+pub every_append : (P : Tree → Type 0) (xs ys : List Tree) → Every P xs → Every P ys → Every P (xs ++ ys)
+every_append P [] ys h k = k
+every_append P (x ∷ xs) ys h k = (h.0, every_append P xs ys h.1 k)
+
+pub every_parts : (P : Tree → Type 0) (xs ys : List Tree) → Every P (xs ++ ys) → Every P xs × Every P ys
+every_parts P [] ys h = (tt, h)
+every_parts P (x ∷ xs) ys h = let r = every_parts P xs ys h.1 in ((h.0, r.0), r.1)
+
+pub every_filter : (P : Tree → Type 0) (q : Tree → Bool) (xs : List Tree) → Every P xs → Every P (filter q xs)
+every_filter P q [] h = tt
+every_filter P q (x ∷ xs) h = by (q x) (every_filter P q xs h.1)
+  where
+    by : (b : Bool) → Every P (filter q xs) → Every P (cond b (x ∷ filter q xs) (filter q xs))
+    by true r = (h.0, r)
+    by false r = r
+
+pub any_same : (t : Tree) (b : List Tree) → Neat t → Every Neat b → list_any (same t) b ≡ has b t
+any_same t [] n m = refl
+any_same t (x ∷ b) n m = ap (λ z. z || list_any (same t) b) (same_identical t x n m.0) ∙ ap (λ z. identical t x || z) (any_same t b n m.1)
+
+pub place_same : (t : Tree) (b : List Tree) → Neat t → Every Neat b → position_or_len (identical t) b ≡ position_or_len (same t) b
+place_same t [] n m = refl
+place_same t (x ∷ b) n m =
+    ap (λ z. cond (not z) (1 + position_or_len (identical t) b) 0) (sym (same_identical t x n m.0)) ∙ ap (λ k. cond (not (same t x)) (1 + k) 0) (place_same t b n m.1)
+
+-- a tree of the list has what each of the list has
+pub of_has : (P : Tree → Type 0) (t : Tree) (xs : List Tree) → Every P xs → has xs t ≡ true → P t
+of_has P t [] h e = absurd (cc)
+of_has P t (x ∷ xs) h e = by (identical t x) refl (λ g. of_has P t xs h.1 g) e
+  where
+    by : (b : Bool) → identical t x ≡ b → (has xs t ≡ true → P t) → (b || has xs t) ≡ true → P t
+    by true i f g = subst P (sym (identical_exact t x i)) h.0
+    by false i f g = f g
+
+has_more : (x : Tree) (xs : List Tree) (ys : List Tree) → Every (λ z. has xs z ≡ true) ys → Every (λ z. has (x ∷ xs) z ≡ true) ys
+has_more x xs [] h = tt
+has_more x xs (y ∷ ys) h = (by (identical y x) h.0, has_more x xs ys h.1)
+  where
+    by : (b : Bool) → has xs y ≡ true → (b || has xs y) ≡ true
+    by true e = refl
+    by false e = e
+
+pub has_itself : (xs : List Tree) → Every (λ z. has xs z ≡ true) xs
+has_itself [] = tt
+has_itself (x ∷ xs) = (ap (λ b. b || has xs x) (identical_refl x), has_more x xs xs (has_itself xs))
+
+taken : (i q l r : Bool) → (i ≡ true → q ≡ true) → l ≡ (q && r) → (i || l) ≡ (q && (i || r))
+taken true q l r h e = sym (ap (λ b. b && true) (h refl))
+taken false q l r h e = e
+
+left_out : (i q l r : Bool) → (i ≡ true → q ≡ false) → l ≡ (q && r) → l ≡ (q && (i || r))
+left_out true q l r h e = e ∙ ap (λ b. b && r) (h refl) ∙ sym (ap (λ b. b && true) (h refl))
+left_out false q l r h e = e
+
+and_false : (q : Bool) → false ≡ (q && false)
+and_false true = refl
+and_false false = refl
+
+pub has_filter : (t : Tree) (q : Tree → Bool) (b : List Tree) → has (filter q b) t ≡ (q t && has b t)
+has_filter t q [] = and_false (q t)
+has_filter t q (x ∷ b) = by (q x) refl (has_filter t q b)
+  where
+    by : (c : Bool) → q x ≡ c → has (filter q b) t ≡ (q t && has b t) → has (cond c (x ∷ filter q b) (filter q b)) t ≡ (q t && (identical t x || has b t))
+    by true e r = taken (identical t x) (q t) (has (filter q b) t) (has b t) (λ i. ap q (identical_exact t x i) ∙ e) r
+    by false e r = left_out (identical t x) (q t) (has (filter q b) t) (has b t) (λ i. ap q (identical_exact t x i) ∙ e) r
+
+-- ---- the nodes written out and those that repeat
+
+abbrev pub long : Tree → Bool
+long t = not (short t)
+
+one_kept : (t : Tree) → filter long (t ∷ []) ≡ cond (short t) [] (t ∷ [])
+one_kept t = by (short t)
+  where
+    by : (b : Bool) → cond (not b) (t ∷ []) [] ≡ cond b [] (t ∷ [])
+    by true = refl
+    by false = refl
+
+noticed_is : (t : Tree) (b : List Tree) → noticed t (filter long b) ≡ filter long (b ++ (t ∷ []))
+noticed_is t b = by (short t) ∙ ap (λ z. filter long b ++ z) (sym (one_kept t)) ∙ sym (filter-append long b (t ∷ []))
+  where
+    by : (c : Bool) → cond c (filter long b) (filter long b ++ (t ∷ [])) ≡ filter long b ++ cond c [] (t ∷ [])
+    by true = sym (append-nil (filter long b))
+    by false = refl
+
+absorb : (l h : Bool) → (l && (l && h)) ≡ (l && h)
+absorb true h = refl
+absorb false h = refl
+
+again_is : (t : Tree) (b : List Tree) → Neat t → Every Neat b → repeats_one t (filter long b) ≡ is_again short t b
+again_is t b n m = ap (λ z. long t && z) (has_filter t long b) ∙ absorb (long t) (has b t) ∙ ap (λ z. long t && z) (sym (any_same t b n m))
+
+put_last : (b w : List Tree) (t : Tree) → (b ++ (t ∷ [])) ++ w ≡ b ++ (t ∷ w)
+put_last b w t = append_assoc b (t ∷ []) w
+
+kept_case : (c : Bool) (t : Tree) (b n : List Tree) (w : List Place) → n ≡ filter long ((b ++ (t ∷ [])) ++ firsts w) → cond c (filter long b) n ≡ filter long (b ++ firsts (cond c (again t ∷ []) (first t ∷ w)))
+kept_case true t b n w e = ap (filter long) (sym (append-nil b))
+kept_case false t b n w e = e ∙ ap (filter long) (put_last b (firsts w) t)
+
+repeats_case : (c : Bool) (t : Tree) (r : List Tree) (w : List Place) → r ≡ agains w → cond c (t ∷ []) r ≡ agains (cond c (again t ∷ []) (first t ∷ w))
+repeats_case true t r w e = refl
+repeats_case false t r w e = e
+
+pub firsts-append : (p q : List Place) → firsts (p ++ q) ≡ firsts p ++ firsts q
+firsts-append [] q = refl
+firsts-append (first t ∷ p) q = ap (λ z. t ∷ z) (firsts-append p q)
+firsts-append (again t ∷ p) q = firsts-append p q
+
+-- what a walk writes out, and what repeats, has what each node of the tree has
+every_case : (P : Tree → Type 0) (c : Bool) (t : Tree) (w : List Place) → P t → Every P (firsts w) → Every P (firsts (cond c (again t ∷ []) (first t ∷ w)))
+every_case P true t w p h = tt
+every_case P false t w p h = (p, h)
+
+mutual
+  unfolding walk
+
+  pub firsts_neat : (t : Tree) (b : List Tree) → Neat t → Every Neat (firsts (walk short t b))
+  firsts_neat (scalar a x) b n = every_case Neat (is_again short (scalar a x) b) (scalar a x) [] n tt
+  firsts_neat (sequence a ts) b n = every_case Neat (is_again short (sequence a ts) b) (sequence a ts) (walk_trees short ts (b ++ (sequence a ts ∷ []))) n (firsts_trees_neat ts (b ++ (sequence a ts ∷ [])) n)
+  firsts_neat (mapping a ps) b n = every_case Neat (is_again short (mapping a ps) b) (mapping a ps) (walk_pairs short ps (b ++ (mapping a ps ∷ []))) n (firsts_pairs_neat ps (b ++ (mapping a ps ∷ [])) n)
+
+  firsts_trees_neat : (ts : Trees) (b : List Tree) → NeatTrees ts → Every Neat (firsts (walk_trees short ts b))
+  firsts_trees_neat end b n = tt
+  firsts_trees_neat (item t ts) b n =
+      let c = b ++ firsts (walk short t b) in
+      subst (Every Neat) (sym (firsts-append (walk short t b) (walk_trees short ts c))) (every_append Neat (firsts (walk short t b)) (firsts (walk_trees short ts c)) (firsts_neat t b n.0) (firsts_trees_neat ts c n.1))
+
+  firsts_pairs_neat : (ps : Pairs) (b : List Tree) → NeatPairs ps → Every Neat (firsts (walk_pairs short ps b))
+  firsts_pairs_neat done b n = tt
+  firsts_pairs_neat (entry k v ps) b n =
+      let c = b ++ firsts (walk short k b) in
+      let d = c ++ firsts (walk short v c) in
+      let rest = subst (Every Neat) (sym (firsts-append (walk short v c) (walk_pairs short ps d))) (every_append Neat (firsts (walk short v c)) (firsts (walk_pairs short ps d)) (firsts_neat v c n.1) (firsts_pairs_neat ps d n.3)) in
+      subst (Every Neat) (sym (firsts-append (walk short k b) (walk short v c ++ walk_pairs short ps d))) (every_append Neat (firsts (walk short k b)) (firsts (walk short v c ++ walk_pairs short ps d)) (firsts_neat k b n.0) rest)
+
+-- ---- the code's walk
+
+-- what a node and those inside it do to a list of nodes
+abbrev Tracks : Tree → List Tree → Type 0
+Tracks t b = (kept t (filter long b) ≡ filter long (b ++ firsts (walk short t b))) × (repeats t (filter long b) ≡ agains (walk short t b))
+
+joined : (b x y : List Tree) → (b ++ x) ++ y ≡ b ++ (x ++ y)
+joined b x y = append_assoc b x y
+
+mutual
+  unfolding kept repeats walk
+
+  pub tracked : (t : Tree) (b : List Tree) → Neat t → Every Neat b → Tracks t b
+  tracked (scalar a x) b n m =
+      let t : Tree = scalar a x in
+      let e = again_is t b n m in
+      (ap (λ c. cond c (filter long b) (noticed t (filter long b))) e ∙ kept_case (is_again short t b) t b (noticed t (filter long b)) [] (noticed_is t b ∙ ap (filter long) (sym (append-nil (b ++ (t ∷ []))))),
+      ap (λ c. cond c (t ∷ []) []) e ∙ repeats_case (is_again short t b) t [] [] refl)
+  tracked (sequence a ts) b n m =
+      let t : Tree = sequence a ts in
+      let e = again_is t b n m in
+      let c : List Tree = b ++ (t ∷ []) in
+      let r = tracked_trees ts c n (every_append Neat b (t ∷ []) m (n, tt)) in
+      let w : List Place = walk_trees short ts c in
+      (ap (λ z. cond z (filter long b) (kept_all ts (noticed t (filter long b)))) e ∙ kept_case (is_again short t b) t b (kept_all ts (noticed t (filter long b))) w (ap (kept_all ts) (noticed_is t b) ∙ r.0),
+      ap (λ z. cond z (t ∷ []) (repeats_all ts (noticed t (filter long b)))) e ∙ repeats_case (is_again short t b) t (repeats_all ts (noticed t (filter long b))) w (ap (repeats_all ts) (noticed_is t b) ∙ r.1))
+  tracked (mapping a ps) b n m =
+      let t : Tree = mapping a ps in
+      let e = again_is t b n m in
+      let c : List Tree = b ++ (t ∷ []) in
+      let r = tracked_pairs ps c n (every_append Neat b (t ∷ []) m (n, tt)) in
+      let w : List Place = walk_pairs short ps c in
+      (ap (λ z. cond z (filter long b) (kept_pairs ps (noticed t (filter long b)))) e ∙ kept_case (is_again short t b) t b (kept_pairs ps (noticed t (filter long b))) w (ap (kept_pairs ps) (noticed_is t b) ∙ r.0),
+      ap (λ z. cond z (t ∷ []) (repeats_pairs ps (noticed t (filter long b)))) e ∙ repeats_case (is_again short t b) t (repeats_pairs ps (noticed t (filter long b))) w (ap (repeats_pairs ps) (noticed_is t b) ∙ r.1))
+
+  tracked_trees : (ts : Trees) (b : List Tree) → NeatTrees ts → Every Neat b
+      → (kept_all ts (filter long b) ≡ filter long (b ++ firsts (walk_trees short ts b))) × (repeats_all ts (filter long b) ≡ agains (walk_trees short ts b))
+  tracked_trees end b n m = (ap (filter long) (sym (append-nil b)), refl)
+  tracked_trees (item t ts) b n m =
+      let r = tracked t b n.0 m in
+      let f : List Tree = firsts (walk short t b) in
+      let c : List Tree = b ++ f in
+      let s = tracked_trees ts c n.1 (every_append Neat b f m (firsts_neat t b n.0)) in
+      let w : List Place = walk_trees short ts c in
+      (ap (kept_all ts) r.0 ∙ s.0 ∙ ap (filter long) (joined b f (firsts w) ∙ ap (λ z. b ++ z) (sym (firsts-append (walk short t b) w))),
+      ap (λ z. z ++ repeats_all ts (kept t (filter long b))) r.1 ∙ ap (λ z. agains (walk short t b) ++ repeats_all ts z) r.0 ∙ ap (λ z. agains (walk short t b) ++ z) s.1 ∙ sym (agains-append (walk short t b) w))
+
+  tracked_pairs : (ps : Pairs) (b : List Tree) → NeatPairs ps → Every Neat b
+      → (kept_pairs ps (filter long b) ≡ filter long (b ++ firsts (walk_pairs short ps b))) × (repeats_pairs ps (filter long b) ≡ agains (walk_pairs short ps b))
+  tracked_pairs done b n m = (ap (filter long) (sym (append-nil b)), refl)
+  tracked_pairs (entry k v ps) b n m =
+      let q = tracked k b n.0 m in
+      let f : List Tree = firsts (walk short k b) in
+      let c : List Tree = b ++ f in
+      let nc = every_append Neat b f m (firsts_neat k b n.0) in
+      let r = tracked v c n.1 nc in
+      let g : List Tree = firsts (walk short v c) in
+      let d : List Tree = c ++ g in
+      let s = tracked_pairs ps d n.3 (every_append Neat c g nc (firsts_neat v c n.1)) in
+      let w : List Place = walk_pairs short ps d in
+      let rest : kept v (kept k (filter long b)) ≡ filter long d = ap (kept v) q.0 ∙ r.0 in
+      let two : firsts (walk short k b ++ (walk short v c ++ w)) ≡ f ++ (g ++ firsts w) = firsts-append (walk short k b) (walk short v c ++ w) ∙ ap (λ z. f ++ z) (firsts-append (walk short v c) w) in
+      let all : agains (walk short k b ++ (walk short v c ++ w)) ≡ agains (walk short k b) ++ (agains (walk short v c) ++ agains w) =
+          agains-append (walk short k b) (walk short v c ++ w) ∙ ap (λ z. agains (walk short k b) ++ z) (agains-append (walk short v c) w) in
+      (ap (kept_pairs ps) rest ∙ s.0 ∙ ap (filter long) (joined c g (firsts w) ∙ joined b f (g ++ firsts w) ∙ ap (λ z. b ++ z) (sym two)),
+      ap (λ z. z ++ (repeats v (kept k (filter long b)) ++ repeats_pairs ps (kept v (kept k (filter long b))))) q.1
+      ∙ ap (λ z. agains (walk short k b) ++ (z ++ repeats_pairs ps (kept v (kept k (filter long b))))) (ap (repeats v) q.0 ∙ r.1)
+      ∙ ap (λ z. agains (walk short k b) ++ (agains (walk short v c) ++ z)) (ap (repeats_pairs ps) rest ∙ s.1) ∙ sym all)
+
+-- what repeats is not short, and is neat
+again_case : (P : Tree → Type 0) (c : Bool) (t : Tree) (w : List Place) → (c ≡ true → P t) → Every P (agains w) → Every P (agains (cond c (again t ∷ []) (first t ∷ w)))
+again_case P true t w p h = (p refl, tt)
+again_case P false t w p h = h
+
+-- a fact of each node that repeats, from one of each node of the tree
+abbrev pub IsLong : Tree → Type 0
+IsLong t = short t ≡ false
+
+not_true : (b : Bool) → not b ≡ true → b ≡ false
+not_true true h = absurd (cc)
+not_true false h = refl
+
+again_long : (t : Tree) (b : List Tree) → is_again short t b ≡ true → IsLong t
+again_long t b h = not_true (short t) (and_both (not (short t)) (list_any (same t) b) h).0
+
+mutual
+  unfolding walk
+
+  pub agains_long : (t : Tree) (b : List Tree) → Every IsLong (agains (walk short t b))
+  agains_long (scalar a x) b = again_case IsLong (is_again short (scalar a x) b) (scalar a x) [] (again_long (scalar a x) b) tt
+  agains_long (sequence a ts) b = again_case IsLong (is_again short (sequence a ts) b) (sequence a ts) (walk_trees short ts (b ++ (sequence a ts ∷ []))) (again_long (sequence a ts) b) (agains_trees_long ts (b ++ (sequence a ts ∷ [])))
+  agains_long (mapping a ps) b = again_case IsLong (is_again short (mapping a ps) b) (mapping a ps) (walk_pairs short ps (b ++ (mapping a ps ∷ []))) (again_long (mapping a ps) b) (agains_pairs_long ps (b ++ (mapping a ps ∷ [])))
+
+  agains_trees_long : (ts : Trees) (b : List Tree) → Every IsLong (agains (walk_trees short ts b))
+  agains_trees_long end b = tt
+  agains_trees_long (item t ts) b =
+      let c = b ++ firsts (walk short t b) in
+      subst (Every IsLong) (sym (agains-append (walk short t b) (walk_trees short ts c))) (every_append IsLong (agains (walk short t b)) (agains (walk_trees short ts c)) (agains_long t b) (agains_trees_long ts c))
+
+  agains_pairs_long : (ps : Pairs) (b : List Tree) → Every IsLong (agains (walk_pairs short ps b))
+  agains_pairs_long done b = tt
+  agains_pairs_long (entry k v ps) b =
+      let c = b ++ firsts (walk short k b) in
+      let d = c ++ firsts (walk short v c) in
+      let rest = subst (Every IsLong) (sym (agains-append (walk short v c) (walk_pairs short ps d))) (every_append IsLong (agains (walk short v c)) (agains (walk_pairs short ps d)) (agains_long v c) (agains_pairs_long ps d)) in
+      subst (Every IsLong) (sym (agains-append (walk short k b) (walk short v c ++ walk_pairs short ps d))) (every_append IsLong (agains (walk short k b)) (agains (walk short v c ++ walk_pairs short ps d)) (agains_long k b) rest)
+
+mutual
+  unfolding walk
+
+  pub agains_neat : (t : Tree) (b : List Tree) → Neat t → Every Neat (agains (walk short t b))
+  agains_neat (scalar a x) b n = again_case Neat (is_again short (scalar a x) b) (scalar a x) [] (λ _. n) tt
+  agains_neat (sequence a ts) b n = again_case Neat (is_again short (sequence a ts) b) (sequence a ts) (walk_trees short ts (b ++ (sequence a ts ∷ []))) (λ _. n) (agains_trees_neat ts (b ++ (sequence a ts ∷ [])) n)
+  agains_neat (mapping a ps) b n = again_case Neat (is_again short (mapping a ps) b) (mapping a ps) (walk_pairs short ps (b ++ (mapping a ps ∷ []))) (λ _. n) (agains_pairs_neat ps (b ++ (mapping a ps ∷ [])) n)
+
+  agains_trees_neat : (ts : Trees) (b : List Tree) → NeatTrees ts → Every Neat (agains (walk_trees short ts b))
+  agains_trees_neat end b n = tt
+  agains_trees_neat (item t ts) b n =
+      let c = b ++ firsts (walk short t b) in
+      subst (Every Neat) (sym (agains-append (walk short t b) (walk_trees short ts c))) (every_append Neat (agains (walk short t b)) (agains (walk_trees short ts c)) (agains_neat t b n.0) (agains_trees_neat ts c n.1))
+
+  agains_pairs_neat : (ps : Pairs) (b : List Tree) → NeatPairs ps → Every Neat (agains (walk_pairs short ps b))
+  agains_pairs_neat done b n = tt
+  agains_pairs_neat (entry k v ps) b n =
+      let c = b ++ firsts (walk short k b) in
+      let d = c ++ firsts (walk short v c) in
+      let rest = subst (Every Neat) (sym (agains-append (walk short v c) (walk_pairs short ps d))) (every_append Neat (agains (walk short v c)) (agains (walk_pairs short ps d)) (agains_neat v c n.1) (agains_pairs_neat ps d n.3)) in
+      subst (Every Neat) (sym (agains-append (walk short k b) (walk short v c ++ walk_pairs short ps d))) (every_append Neat (agains (walk short k b)) (agains (walk short v c ++ walk_pairs short ps d)) (agains_neat k b n.0) rest)
+
+pub repeats_are : (t : Tree) → Neat t → repeats t [] ≡ agains (walk short t [])
+repeats_are t n = (tracked t [] n tt).1

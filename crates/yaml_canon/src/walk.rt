@@ -1,0 +1,137 @@
+//! Which nodes of an arranged tree repeat an earlier one. Temporary, as the trees are: nodes are
+//! compared one with another.
+ghost use Rattle.std.specs.Prelude.{◌≡◌, ◌≢◌, ◌+◌, ◌<◌, ◌≤◌, ◌↔◌, IsTrue, [], ◌++◌, OnOk, IfOk, IfErr, length, nat_le};
+ghost use Rattle.std.specs.Str.{chars, encode_utf8_all};
+ghost use Rattle.yaml_text.specs.Limits.{short_limit};
+ghost use Rattle.yaml_text.specs.CharText.{spell_char};
+ghost use Rattle.yaml_text.specs.NodeText.{quoted};
+ghost use Rattle.yaml_text.specs.Spell.{short};
+ghost use Rattle.std.specs.Bool.{OnTrue, OnFalse};
+ghost use Rattle.yaml_text.specs.Walk.{walk, agains};
+ghost use Rattle.yaml_canon.specs.Arranged.{IsArranged};
+ghost use Rattle.yaml_canon.specs.TreeModel.{tree_of, trees_of, pairs_of};
+ghost use Rattle.yaml_canon.specs.Anchored.{nodes_of};
+ghost use Rattle.yaml_canon.specs.Repeats.{repeats_one, noticed, kept, kept_all, kept_pairs, repeats, repeats_all, repeats_pairs};
+
+use crate::node::{Node, find};
+use crate::scalar::spelled_len;
+use crate::tree::Tree;
+use std::alloc::Global;
+use yaml_text::fault::Fault;
+
+/// The bytes of a scalar or an empty collection that is always written out.
+const SHORT_LIMIT: usize = 64;
+
+/// Whether a scalar's text has at most `SHORT_LIMIT` bytes, its quotes among them.
+fn is_short_text(text: &str) -> bool
+    ensures { result ≡ nat_le (1 + length (encode_utf8_all (quoted (chars text.now) []))) short_limit }
+{
+    let mut len = 2;
+    'count: for c in text.chars() {
+        len += spelled_len(c);
+        if len > SHORT_LIMIT {
+            return false;
+        }
+    }
+    true
+}
+
+/// Whether a node is always written out.
+fn is_short(tree: &Tree<'_>) -> bool
+    ensures { result ≡ short (tree_of tree.now) }
+{
+    match tree {
+        Tree::Scalar(text) => is_short_text(text),
+        Tree::Sequence(items) => items.is_empty(),
+        Tree::Mapping(entries) => entries.is_empty(),
+    }
+}
+
+/// Whether a node repeats one of `seen`, and is not short.
+fn is_again<'a>(tree: &Tree<'a>, seen: &[Node<'_, 'a>]) -> bool
+    ensures { result ≡ repeats_one (tree_of tree.now) (nodes_of seen.now) }
+{
+    !is_short(tree) && find(tree, seen).is_some()
+}
+
+/// Puts a node that is not short at the end of `seen`.
+fn notice<'t, 'a>(tree: &'t Tree<'a>, seen: &mut Vec<Node<'t, 'a>>) -> Result<(), Fault>
+    ensures seen { OnOk result (nodes_of seen.new.items ≡ noticed (tree_of tree.now) (nodes_of seen.old.items)) }
+    ensures only { IfErr result (λ fault. fault ≡ Fault.OutOfMemory) }
+{
+    if !is_short(tree) {
+        seen.push(Node { tree })?;
+    }
+    Ok(())
+}
+
+/// Walks a tree: puts the nodes that are written out and not short at the end of `seen`, and
+/// those that repeat one of `seen` at the end of `repeated`.
+#[cycle(visit)]
+pub(crate) fn visit<'t, 'a>(
+    tree: &'t Tree<'a>,
+    seen: &mut Vec<Node<'t, 'a>>,
+    repeated: &mut Vec<Node<'t, 'a>>,
+) -> Result<(), Fault>
+    ensures seen { OnOk result (nodes_of seen.new.items ≡ kept (tree_of tree.now) (nodes_of seen.old.items)) }
+    ensures repeated { OnOk result (nodes_of repeated.new.items ≡ nodes_of repeated.old.items ++ repeats (tree_of tree.now) (nodes_of seen.old.items)) }
+    ensures only { IfErr result (λ fault. fault ≡ Fault.OutOfMemory) }
+{
+    if is_again(tree, seen) {
+        repeated.push(Node { tree })?;
+        return Ok(());
+    }
+    notice(tree, seen)?;
+    match tree {
+        Tree::Scalar(_) => Ok(()),
+        Tree::Sequence(items) => visit_items(items, seen, repeated),
+        Tree::Mapping(entries) => visit_entries(entries, seen, repeated),
+    }
+}
+
+#[cycle(visit)]
+fn visit_items<'t, 'a>(
+    items: &'t [Tree<'a>],
+    seen: &mut Vec<Node<'t, 'a>>,
+    repeated: &mut Vec<Node<'t, 'a>>,
+) -> Result<(), Fault>
+    ensures seen { OnOk result (nodes_of seen.new.items ≡ kept_all (trees_of items.now) (nodes_of seen.old.items)) }
+    ensures repeated { OnOk result (nodes_of repeated.new.items ≡ nodes_of repeated.old.items ++ repeats_all (trees_of items.now) (nodes_of seen.old.items)) }
+    ensures only { IfErr result (λ fault. fault ≡ Fault.OutOfMemory) }
+{
+    for item in items {
+        visit(item, seen, repeated)?;
+    }
+    Ok(())
+}
+
+#[cycle(visit)]
+fn visit_entries<'t, 'a>(
+    entries: &'t [(Tree<'a>, Tree<'a>)],
+    seen: &mut Vec<Node<'t, 'a>>,
+    repeated: &mut Vec<Node<'t, 'a>>,
+) -> Result<(), Fault>
+    ensures seen { OnOk result (nodes_of seen.new.items ≡ kept_pairs (pairs_of entries.now) (nodes_of seen.old.items)) }
+    ensures repeated { OnOk result (nodes_of repeated.new.items ≡ nodes_of repeated.old.items ++ repeats_pairs (pairs_of entries.now) (nodes_of seen.old.items)) }
+    ensures only { IfErr result (λ fault. fault ≡ Fault.OutOfMemory) }
+{
+    for entry in entries {
+        visit(&entry.0, seen, repeated)?;
+        visit(&entry.1, seen, repeated)?;
+    }
+    Ok(())
+}
+
+/// Whether a node of an arranged tree repeats an earlier one that is written out, and is not
+/// short.
+pub(crate) fn has_again(alloc: Global, tree: &Tree<'_>) -> Result<bool, Fault>
+    requires { IsArranged (tree_of tree.now) }
+    ensures none { IfOk result (λ again. OnFalse again (agains (walk short (tree_of tree.now) []) ≡ [])) }
+    ensures some { IfOk result (λ again. OnTrue again (agains (walk short (tree_of tree.now) []) ≢ [])) }
+    ensures only { IfErr result (λ fault. fault ≡ Fault.OutOfMemory) }
+{
+    let mut seen = Vec::new(alloc);
+    let mut repeated = Vec::new(alloc);
+    visit(tree, &mut seen, &mut repeated)?;
+    Ok(!repeated.is_empty())
+}
