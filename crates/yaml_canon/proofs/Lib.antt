@@ -13,3 +13,4 @@ pub mod Shortness
 pub mod Anchors
 pub mod Agains
 pub mod Markings
+pub mod Forests
