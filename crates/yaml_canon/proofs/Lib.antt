@@ -14,3 +14,4 @@ pub mod Anchors
 pub mod Agains
 pub mod Markings
 pub mod Forests
+pub mod Forms
