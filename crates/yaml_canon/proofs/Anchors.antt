@@ -1,5 +1,5 @@
 -- What the code's walk and marks are in terms of the definitions.
-use Rattle.std.proofs.Common.{◌≡◌, ◌+◌, ℕ, suc, Bool, true, false, not, cond, ◌&&◌, ◌||◌, Some, None, List, [], ◌∷◌, ◌++◌, length, refl, sym, ◌∙◌, ap, subst}
+use Rattle.std.proofs.Common.{◌≡◌, ◌+◌, Bool, true, false, not, cond, ◌&&◌, ◌||◌, List, [], ◌∷◌, ◌++◌, refl, sym, ◌∙◌, ap, subst}
 use Rattle.std.proofs.lemmas.List.{append_assoc, append-nil}
 use Rattle.std.proofs.lemmas.List.Elements.{filter-append}
 use Rattle.std.specs.List.{filter, list_any, position_or_len}
@@ -9,17 +9,13 @@ use Rattle.yaml_text.specs.Tree.{Tree, Trees, Pairs, scalar, sequence, mapping, 
 use Rattle.yaml_text.specs.Order.{arranged}
 use Rattle.yaml_text.specs.Same.{same}
 use Rattle.yaml_text.specs.Walk.{Place, first, again, firsts, agains, is_again, walk, walk_trees, walk_pairs}
-use Rattle.yaml_text.specs.Event.{double}
-use Rattle.yaml_text.specs.Marked.{Marked, alias, scalar_at, sequence_at, mapping_at, item_mark, entry_marks}
-use Rattle.yaml_text.specs.TagText.{written_tag}
-use Rattle.yaml_text.specs.Mark.{name_of, is_anchored, anchored, anchor_of, alias_of, mark, mark_trees, mark_pairs}
 use Rattle.yaml_text.specs.Spell.{short}
 use Rattle.yaml_text.proofs.Members.{and_both, both_and}
 use Rattle.yaml_text.proofs.SameLaws.{same_from}
 use Rattle.yaml_text.proofs.Neat.{Neat, NeatTrees, NeatPairs, neat_same}
 use Rattle.yaml_text.proofs.UnfoldLaws.{agains-append}
 use Rattle.yaml_canon.specs.Identical.{identical, identical_trees, identical_pairs}
-use Rattle.yaml_canon.specs.Anchored.{has, alias_at, anchor_at, enrolled, noted, noted_all, noted_pairs, marked, marked_all, marked_pairs}
+use Rattle.yaml_canon.specs.Anchored.{has}
 use Rattle.yaml_canon.specs.Repeats.{repeats_one, noticed, kept, kept_all, kept_pairs, repeats, repeats_all, repeats_pairs}
 
 -- ---- trees that are one
@@ -249,25 +245,28 @@ mutual
   pub tracked : (t : Tree) (b : List Tree) → Neat t → Every Neat b → Tracks t b
   tracked (scalar a x) b n m =
       let t : Tree = scalar a x in
-      let e = again_is t b n m in
-      (ap (λ c. cond c (filter long b) (noticed t (filter long b))) e ∙ kept_case (is_again short t b) t b (noticed t (filter long b)) [] (noticed_is t b ∙ ap (filter long) (sym (append-nil (b ++ (t ∷ []))))),
-      ap (λ c. cond c (t ∷ []) []) e ∙ repeats_case (is_again short t b) t [] [] refl)
+      let e = again_is t b n m in (
+        ap (λ c. cond c (filter long b) (noticed t (filter long b))) e ∙ kept_case (is_again short t b) t b (noticed t (filter long b)) [] (noticed_is t b ∙ ap (filter long) (sym (append-nil (b ++ (t ∷ []))))),
+        ap (λ c. cond c (t ∷ []) []) e ∙ repeats_case (is_again short t b) t [] [] refl,
+      )
   tracked (sequence a ts) b n m =
       let t : Tree = sequence a ts in
       let e = again_is t b n m in
       let c : List Tree = b ++ (t ∷ []) in
       let r = tracked_trees ts c n (every_append Neat b (t ∷ []) m (n, tt)) in
-      let w : List Place = walk_trees short ts c in
-      (ap (λ z. cond z (filter long b) (kept_all ts (noticed t (filter long b)))) e ∙ kept_case (is_again short t b) t b (kept_all ts (noticed t (filter long b))) w (ap (kept_all ts) (noticed_is t b) ∙ r.0),
-      ap (λ z. cond z (t ∷ []) (repeats_all ts (noticed t (filter long b)))) e ∙ repeats_case (is_again short t b) t (repeats_all ts (noticed t (filter long b))) w (ap (repeats_all ts) (noticed_is t b) ∙ r.1))
+      let w : List Place = walk_trees short ts c in (
+        ap (λ z. cond z (filter long b) (kept_all ts (noticed t (filter long b)))) e ∙ kept_case (is_again short t b) t b (kept_all ts (noticed t (filter long b))) w (ap (kept_all ts) (noticed_is t b) ∙ r.0),
+        ap (λ z. cond z (t ∷ []) (repeats_all ts (noticed t (filter long b)))) e ∙ repeats_case (is_again short t b) t (repeats_all ts (noticed t (filter long b))) w (ap (repeats_all ts) (noticed_is t b) ∙ r.1),
+      )
   tracked (mapping a ps) b n m =
       let t : Tree = mapping a ps in
       let e = again_is t b n m in
       let c : List Tree = b ++ (t ∷ []) in
       let r = tracked_pairs ps c n (every_append Neat b (t ∷ []) m (n, tt)) in
-      let w : List Place = walk_pairs short ps c in
-      (ap (λ z. cond z (filter long b) (kept_pairs ps (noticed t (filter long b)))) e ∙ kept_case (is_again short t b) t b (kept_pairs ps (noticed t (filter long b))) w (ap (kept_pairs ps) (noticed_is t b) ∙ r.0),
-      ap (λ z. cond z (t ∷ []) (repeats_pairs ps (noticed t (filter long b)))) e ∙ repeats_case (is_again short t b) t (repeats_pairs ps (noticed t (filter long b))) w (ap (repeats_pairs ps) (noticed_is t b) ∙ r.1))
+      let w : List Place = walk_pairs short ps c in (
+        ap (λ z. cond z (filter long b) (kept_pairs ps (noticed t (filter long b)))) e ∙ kept_case (is_again short t b) t b (kept_pairs ps (noticed t (filter long b))) w (ap (kept_pairs ps) (noticed_is t b) ∙ r.0),
+        ap (λ z. cond z (t ∷ []) (repeats_pairs ps (noticed t (filter long b)))) e ∙ repeats_case (is_again short t b) t (repeats_pairs ps (noticed t (filter long b))) w (ap (repeats_pairs ps) (noticed_is t b) ∙ r.1),
+      )
 
   tracked_trees : (ts : Trees) (b : List Tree) → NeatTrees ts → Every Neat b
       → (kept_all ts (filter long b) ≡ filter long (b ++ firsts (walk_trees short ts b))) × (repeats_all ts (filter long b) ≡ agains (walk_trees short ts b))
@@ -277,9 +276,10 @@ mutual
       let f : List Tree = firsts (walk short t b) in
       let c : List Tree = b ++ f in
       let s = tracked_trees ts c n.1 (every_append Neat b f m (firsts_neat t b n.0)) in
-      let w : List Place = walk_trees short ts c in
-      (ap (kept_all ts) r.0 ∙ s.0 ∙ ap (filter long) (joined b f (firsts w) ∙ ap (λ z. b ++ z) (sym (firsts-append (walk short t b) w))),
-      ap (λ z. z ++ repeats_all ts (kept t (filter long b))) r.1 ∙ ap (λ z. agains (walk short t b) ++ repeats_all ts z) r.0 ∙ ap (λ z. agains (walk short t b) ++ z) s.1 ∙ sym (agains-append (walk short t b) w))
+      let w : List Place = walk_trees short ts c in (
+        ap (kept_all ts) r.0 ∙ s.0 ∙ ap (filter long) (joined b f (firsts w) ∙ ap (λ z. b ++ z) (sym (firsts-append (walk short t b) w))),
+        ap (λ z. z ++ repeats_all ts (kept t (filter long b))) r.1 ∙ ap (λ z. agains (walk short t b) ++ repeats_all ts z) r.0 ∙ ap (λ z. agains (walk short t b) ++ z) s.1 ∙ sym (agains-append (walk short t b) w),
+      )
 
   tracked_pairs : (ps : Pairs) (b : List Tree) → NeatPairs ps → Every Neat b
       → (kept_pairs ps (filter long b) ≡ filter long (b ++ firsts (walk_pairs short ps b))) × (repeats_pairs ps (filter long b) ≡ agains (walk_pairs short ps b))
@@ -297,11 +297,12 @@ mutual
       let rest : kept v (kept k (filter long b)) ≡ filter long d = ap (kept v) q.0 ∙ r.0 in
       let two : firsts (walk short k b ++ (walk short v c ++ w)) ≡ f ++ (g ++ firsts w) = firsts-append (walk short k b) (walk short v c ++ w) ∙ ap (λ z. f ++ z) (firsts-append (walk short v c) w) in
       let all : agains (walk short k b ++ (walk short v c ++ w)) ≡ agains (walk short k b) ++ (agains (walk short v c) ++ agains w) =
-          agains-append (walk short k b) (walk short v c ++ w) ∙ ap (λ z. agains (walk short k b) ++ z) (agains-append (walk short v c) w) in
-      (ap (kept_pairs ps) rest ∙ s.0 ∙ ap (filter long) (joined c g (firsts w) ∙ joined b f (g ++ firsts w) ∙ ap (λ z. b ++ z) (sym two)),
-      ap (λ z. z ++ (repeats v (kept k (filter long b)) ++ repeats_pairs ps (kept v (kept k (filter long b))))) q.1
-      ∙ ap (λ z. agains (walk short k b) ++ (z ++ repeats_pairs ps (kept v (kept k (filter long b))))) (ap (repeats v) q.0 ∙ r.1)
-      ∙ ap (λ z. agains (walk short k b) ++ (agains (walk short v c) ++ z)) (ap (repeats_pairs ps) rest ∙ s.1) ∙ sym all)
+      agains-append (walk short k b) (walk short v c ++ w) ∙ ap (λ z. agains (walk short k b) ++ z) (agains-append (walk short v c) w) in (
+        ap (kept_pairs ps) rest ∙ s.0 ∙ ap (filter long) (joined c g (firsts w) ∙ joined b f (g ++ firsts w) ∙ ap (λ z. b ++ z) (sym two)),
+        ap (λ z. z ++ (repeats v (kept k (filter long b)) ++ repeats_pairs ps (kept v (kept k (filter long b))))) q.1
+            ∙ ap (λ z. agains (walk short k b) ++ (z ++ repeats_pairs ps (kept v (kept k (filter long b))))) (ap (repeats v) q.0 ∙ r.1)
+            ∙ ap (λ z. agains (walk short k b) ++ (agains (walk short v c) ++ z)) (ap (repeats_pairs ps) rest ∙ s.1) ∙ sym all,
+      )
 
 -- what repeats is not short, and is neat
 again_case : (P : Tree → Type 0) (c : Bool) (t : Tree) (w : List Place) → (c ≡ true → P t) → Every P (agains w) → Every P (agains (cond c (again t ∷ []) (first t ∷ w)))

@@ -1,5 +1,5 @@
 -- Two trees whose heights, kinds and tags are the same.
-use Rattle.std.proofs.Common.{◌≡◌, ◌==◌, ℕ, not, false, List, refl, sym, ◌∙◌, ap, subst}
+use Rattle.std.proofs.Common.{◌≡◌, ◌==◌, ℕ, not, false, List, refl, sym, ◌∙◌, subst}
 use Rattle.std.specs.declared.cmp.Ordering.{Ordering}
 use Rattle.std.specs.declared.cmp.Ordering.TheVariants.{Less, Equal, Greater}
 use Rattle.std.specs.Ordering.{ordering_then, ordering_index, nat_cmp}

@@ -30,3 +30,5 @@ pub mod Shortness
 pub mod Anchors
 pub mod Agains
 pub mod Markings
+pub mod Forests
+pub mod Forms

@@ -1,20 +1,17 @@
 -- The code's marks are those of the definition.
-use Rattle.std.proofs.Common.{◌≡◌, ℕ, suc, Bool, true, false, not, cond, ◌&&◌, Some, None, List, [], ◌∷◌, ◌++◌, length, refl, sym, ◌∙◌, ap, subst}
+use Rattle.std.proofs.Common.{◌≡◌, suc, Bool, true, false, not, cond, ◌&&◌, Some, None, List, [], ◌∷◌, ◌++◌, length, refl, sym, ◌∙◌, ap, subst}
 use Rattle.std.proofs.lemmas.List.{append_assoc, append-nil}
 use Rattle.std.proofs.lemmas.List.Elements.{filter-append}
-use Rattle.std.specs.List.{filter, list_any, position_or_len}
+use Rattle.std.specs.List.{filter}
 use Rattle.yaml_text.specs.Tree.{Tree, Trees, Pairs, scalar, sequence, mapping, end, item, done, entry}
-use Rattle.yaml_text.specs.Same.{same}
 use Rattle.yaml_text.specs.Walk.{Place, first, again, firsts, agains, is_again, walk, walk_trees, walk_pairs}
 use Rattle.yaml_text.specs.Event.{double}
-use Rattle.yaml_text.specs.Marked.{Marked, alias, scalar_at, sequence_at, mapping_at, item_mark, entry_marks}
+use Rattle.yaml_text.specs.Marked.{alias, scalar_at, sequence_at, mapping_at, item_mark, entry_marks}
 use Rattle.yaml_text.specs.TagText.{written_tag}
 use Rattle.yaml_text.specs.Mark.{name_of, is_anchored, anchored, anchor_of, alias_of, mark, mark_trees, mark_pairs}
 use Rattle.yaml_text.specs.Spell.{short, marks_of_arranged}
-use Rattle.yaml_text.proofs.Members.{and_both}
 use Rattle.yaml_text.proofs.Neat.{Neat, NeatTrees, NeatPairs}
 use Rattle.yaml_text.proofs.UnfoldLaws.{agains-append}
-use Rattle.yaml_canon.specs.Identical.{identical}
 use Rattle.yaml_canon.specs.Anchored.{has, alias_at, anchor_at, enrolled, noted, noted_all, noted_pairs, marked, marked_all, marked_pairs}
 use Rattle.yaml_canon.specs.Repeats.{repeats}
 use Rattle.yaml_canon.proofs.Anchors.{Every, every_append, every_parts, every_filter, any_same, place_same, of_has, has_itself, has_filter, firsts-append, firsts_neat, IsLong, agains_long, agains_neat, repeats_are}
@@ -83,11 +80,12 @@ module _ (r : List Tree) (neat : Every Neat r) (all_long : Every IsLong r) where
         let t : Tree = scalar a x in
         let w : List Tree = anchored r b in
         let c : Bool = is_again short t b in
-        let s = seen_is t b n m (again_in InR c t [] i) in
-        (ap (λ z. cond z (alias_at t w) (scalar_at (anchor_at r t w) (written_tag 0 a) double x)) s
-        ∙ cond_both c (alias_at t w) (alias (alias_of r t b)) (scalar_at (anchor_at r t w) (written_tag 0 a) double x) (scalar_at (anchor_of r t b) (written_tag 0 a) double x)
-          (λ _. alias_is t b n m) (λ _. ap (λ z. scalar_at z (written_tag 0 a) double x) (anchor_is t b n)),
-        ap (λ z. cond z w (enrolled r t w)) s ∙ noted_case (is_anchored r) c t b (enrolled r t w) [] (λ _. enrolled_is t b n ∙ ap (anchored r) (sym (append-nil (b ++ (t ∷ []))))))
+        let s = seen_is t b n m (again_in InR c t [] i) in (
+          ap (λ z. cond z (alias_at t w) (scalar_at (anchor_at r t w) (written_tag 0 a) double x)) s
+              ∙ cond_both c (alias_at t w) (alias (alias_of r t b)) (scalar_at (anchor_at r t w) (written_tag 0 a) double x) (scalar_at (anchor_of r t b) (written_tag 0 a) double x)
+              (λ _. alias_is t b n m) (λ _. ap (λ z. scalar_at z (written_tag 0 a) double x) (anchor_is t b n)),
+          ap (λ z. cond z w (enrolled r t w)) s ∙ noted_case (is_anchored r) c t b (enrolled r t w) [] (λ _. enrolled_is t b n ∙ ap (anchored r) (sym (append-nil (b ++ (t ∷ []))))),
+        )
     marks (sequence a ts) b n m i =
         let t : Tree = sequence a ts in
         let w : List Tree = anchored r b in
@@ -96,12 +94,13 @@ module _ (r : List Tree) (neat : Every Neat r) (all_long : Every IsLong r) where
         let v : List Place = walk_trees short ts d in
         let s = seen_is t b n m (again_in InR c t v i) in
         let e = enrolled_is t b n in
-        let inside = λ (f : c ≡ false). marks_trees ts d n (every_append Neat b (t ∷ []) m (n, tt)) (inside_in InR c t v i f) in
-        (ap (λ z. cond z (alias_at t w) (sequence_at (anchor_at r t w) (written_tag 1 a) true (marked_all r ts (enrolled r t w)))) s
-        ∙ cond_both c (alias_at t w) (alias (alias_of r t b)) (sequence_at (anchor_at r t w) (written_tag 1 a) true (marked_all r ts (enrolled r t w))) (sequence_at (anchor_of r t b) (written_tag 1 a) true (mark_trees short r ts d))
-          (λ _. alias_is t b n m)
-          (λ f. ap (λ z. sequence_at z (written_tag 1 a) true (marked_all r ts (enrolled r t w))) (anchor_is t b n) ∙ ap (λ z. sequence_at (anchor_of r t b) (written_tag 1 a) true z) (ap (marked_all r ts) e ∙ (inside f).0)),
-        ap (λ z. cond z w (noted_all r ts (enrolled r t w))) s ∙ noted_case (is_anchored r) c t b (noted_all r ts (enrolled r t w)) v (λ f. ap (noted_all r ts) e ∙ (inside f).1))
+        let inside = λ (f : c ≡ false). marks_trees ts d n (every_append Neat b (t ∷ []) m (n, tt)) (inside_in InR c t v i f) in (
+          ap (λ z. cond z (alias_at t w) (sequence_at (anchor_at r t w) (written_tag 1 a) true (marked_all r ts (enrolled r t w)))) s
+              ∙ cond_both c (alias_at t w) (alias (alias_of r t b)) (sequence_at (anchor_at r t w) (written_tag 1 a) true (marked_all r ts (enrolled r t w))) (sequence_at (anchor_of r t b) (written_tag 1 a) true (mark_trees short r ts d))
+              (λ _. alias_is t b n m)
+              (λ f. ap (λ z. sequence_at z (written_tag 1 a) true (marked_all r ts (enrolled r t w))) (anchor_is t b n) ∙ ap (λ z. sequence_at (anchor_of r t b) (written_tag 1 a) true z) (ap (marked_all r ts) e ∙ (inside f).0)),
+          ap (λ z. cond z w (noted_all r ts (enrolled r t w))) s ∙ noted_case (is_anchored r) c t b (noted_all r ts (enrolled r t w)) v (λ f. ap (noted_all r ts) e ∙ (inside f).1),
+        )
     marks (mapping a ps) b n m i =
         let t : Tree = mapping a ps in
         let w : List Tree = anchored r b in
@@ -110,12 +109,13 @@ module _ (r : List Tree) (neat : Every Neat r) (all_long : Every IsLong r) where
         let v : List Place = walk_pairs short ps d in
         let s = seen_is t b n m (again_in InR c t v i) in
         let e = enrolled_is t b n in
-        let inside = λ (f : c ≡ false). marks_pairs ps d n (every_append Neat b (t ∷ []) m (n, tt)) (inside_in InR c t v i f) in
-        (ap (λ z. cond z (alias_at t w) (mapping_at (anchor_at r t w) (written_tag 2 a) true (marked_pairs r ps (enrolled r t w)))) s
-        ∙ cond_both c (alias_at t w) (alias (alias_of r t b)) (mapping_at (anchor_at r t w) (written_tag 2 a) true (marked_pairs r ps (enrolled r t w))) (mapping_at (anchor_of r t b) (written_tag 2 a) true (mark_pairs short r ps d))
-          (λ _. alias_is t b n m)
-          (λ f. ap (λ z. mapping_at z (written_tag 2 a) true (marked_pairs r ps (enrolled r t w))) (anchor_is t b n) ∙ ap (λ z. mapping_at (anchor_of r t b) (written_tag 2 a) true z) (ap (marked_pairs r ps) e ∙ (inside f).0)),
-        ap (λ z. cond z w (noted_pairs r ps (enrolled r t w))) s ∙ noted_case (is_anchored r) c t b (noted_pairs r ps (enrolled r t w)) v (λ f. ap (noted_pairs r ps) e ∙ (inside f).1))
+        let inside = λ (f : c ≡ false). marks_pairs ps d n (every_append Neat b (t ∷ []) m (n, tt)) (inside_in InR c t v i f) in (
+          ap (λ z. cond z (alias_at t w) (mapping_at (anchor_at r t w) (written_tag 2 a) true (marked_pairs r ps (enrolled r t w)))) s
+              ∙ cond_both c (alias_at t w) (alias (alias_of r t b)) (mapping_at (anchor_at r t w) (written_tag 2 a) true (marked_pairs r ps (enrolled r t w))) (mapping_at (anchor_of r t b) (written_tag 2 a) true (mark_pairs short r ps d))
+              (λ _. alias_is t b n m)
+              (λ f. ap (λ z. mapping_at z (written_tag 2 a) true (marked_pairs r ps (enrolled r t w))) (anchor_is t b n) ∙ ap (λ z. mapping_at (anchor_of r t b) (written_tag 2 a) true z) (ap (marked_pairs r ps) e ∙ (inside f).0)),
+          ap (λ z. cond z w (noted_pairs r ps (enrolled r t w))) s ∙ noted_case (is_anchored r) c t b (noted_pairs r ps (enrolled r t w)) v (λ f. ap (noted_pairs r ps) e ∙ (inside f).1),
+        )
 
     marks_trees : (ts : Trees) (b : List Tree) → NeatTrees ts → Every Neat b → Every InR (agains (walk_trees short ts b))
         → (marked_all r ts (anchored r b) ≡ mark_trees short r ts b) × (noted_all r ts (anchored r b) ≡ anchored r (b ++ firsts (walk_trees short ts b)))
@@ -126,9 +126,10 @@ module _ (r : List Tree) (neat : Every Neat r) (all_long : Every IsLong r) where
         let v : List Place = walk_trees short ts c in
         let p = every_parts InR (agains (walk short t b)) (agains v) (subst (Every InR) (agains-append (walk short t b) v) i) in
         let h = marks t b n.0 m p.0 in
-        let k = marks_trees ts c n.1 (every_append Neat b f m (firsts_neat t b n.0)) p.1 in
-        (ap (λ z. item_mark z (marked_all r ts (noted r t (anchored r b)))) h.0 ∙ ap (λ z. item_mark (mark short r t b) z) (ap (marked_all r ts) h.1 ∙ k.0),
-        ap (noted_all r ts) h.1 ∙ k.1 ∙ ap (anchored r) (append_assoc b f (firsts v) ∙ ap (λ z. b ++ z) (sym (firsts-append (walk short t b) v))))
+        let k = marks_trees ts c n.1 (every_append Neat b f m (firsts_neat t b n.0)) p.1 in (
+          ap (λ z. item_mark z (marked_all r ts (noted r t (anchored r b)))) h.0 ∙ ap (λ z. item_mark (mark short r t b) z) (ap (marked_all r ts) h.1 ∙ k.0),
+          ap (noted_all r ts) h.1 ∙ k.1 ∙ ap (anchored r) (append_assoc b f (firsts v) ∙ ap (λ z. b ++ z) (sym (firsts-append (walk short t b) v))),
+        )
 
     marks_pairs : (ps : Pairs) (b : List Tree) → NeatPairs ps → Every Neat b → Every InR (agains (walk_pairs short ps b))
         → (marked_pairs r ps (anchored r b) ≡ mark_pairs short r ps b) × (noted_pairs r ps (anchored r b) ≡ anchored r (b ++ firsts (walk_pairs short ps b)))
@@ -146,11 +147,12 @@ module _ (r : List Tree) (neat : Every Neat r) (all_long : Every IsLong r) where
         let j = marks v c n.1 nc q.0 in
         let l = marks_pairs ps d n.3 (every_append Neat c g nc (firsts_neat v c n.1)) q.1 in
         let after : noted r v (noted r k (anchored r b)) ≡ anchored r d = ap (noted r v) h.1 ∙ j.1 in
-        let two : firsts (walk short k b ++ (walk short v c ++ w)) ≡ f ++ (g ++ firsts w) = firsts-append (walk short k b) (walk short v c ++ w) ∙ ap (λ z. f ++ z) (firsts-append (walk short v c) w) in
-        (ap (λ z. entry_marks z (marked r v (noted r k (anchored r b))) (marked_pairs r ps (noted r v (noted r k (anchored r b))))) h.0
-        ∙ ap (λ z. entry_marks (mark short r k b) z (marked_pairs r ps (noted r v (noted r k (anchored r b))))) (ap (marked r v) h.1 ∙ j.0)
-        ∙ ap (λ z. entry_marks (mark short r k b) (mark short r v c) z) (ap (marked_pairs r ps) after ∙ l.0),
-        ap (noted_pairs r ps) after ∙ l.1 ∙ ap (anchored r) (append_assoc c g (firsts w) ∙ append_assoc b f (g ++ firsts w) ∙ ap (λ z. b ++ z) (sym two)))
+        let two : firsts (walk short k b ++ (walk short v c ++ w)) ≡ f ++ (g ++ firsts w) = firsts-append (walk short k b) (walk short v c ++ w) ∙ ap (λ z. f ++ z) (firsts-append (walk short v c) w) in (
+          ap (λ z. entry_marks z (marked r v (noted r k (anchored r b))) (marked_pairs r ps (noted r v (noted r k (anchored r b))))) h.0
+              ∙ ap (λ z. entry_marks (mark short r k b) z (marked_pairs r ps (noted r v (noted r k (anchored r b))))) (ap (marked r v) h.1 ∙ j.0)
+              ∙ ap (λ z. entry_marks (mark short r k b) (mark short r v c) z) (ap (marked_pairs r ps) after ∙ l.0),
+          ap (noted_pairs r ps) after ∙ l.1 ∙ ap (anchored r) (append_assoc c g (firsts w) ∙ append_assoc b f (g ++ firsts w) ∙ ap (λ z. b ++ z) (sym two)),
+        )
 
 pub marked_is : (t : Tree) → Neat t → marked (repeats t []) t [] ≡ marks_of_arranged t
 marked_is t n =

@@ -1,7 +1,7 @@
 -- The names of anchors, as bytes.
-use Rattle.std.proofs.Common.{◌≡◌, ◌<◌, ◌^◌, ◌+◌, ℕ, zero, suc, true, false, cond, List, [], ◌∷◌, ◌++◌, length, map, refl, sym, ◌∙◌, ap, subst, arith}
+use Rattle.std.proofs.Common.{◌≡◌, ◌<◌, ◌^◌, ℕ, zero, suc, true, false, cond, List, [], ◌∷◌, ◌++◌, length, refl, sym, ◌∙◌, ap, subst, arith}
 use Rattle.std.specs.Char.{encode_utf8}
-use Rattle.std.specs.Str.{encode_utf8_all, IsAscii, chars}
+use Rattle.std.specs.Str.{encode_utf8_all, IsAscii}
 use Rattle.std.specs.Fmt.{decimal}
 use Rattle.std.proofs.lemmas.Str.{encodes-IsAscii, IsAscii-append}
 use Rattle.std.proofs.lemmas.Fmt.{decimal-digits_of, IsAscii-decimal}

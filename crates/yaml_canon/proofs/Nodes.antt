@@ -1,11 +1,11 @@
 -- The text of a node, from its parts.
-use Rattle.std.proofs.Common.{◌≡◌, ◌+◌, ◌≤◌, ℕ, suc, Bool, true, false, cond, List, [], ◌∷◌, ◌++◌, length, drop, refl, sym, ◌∙◌, ap, subst, arith}
+use Rattle.std.proofs.Common.{◌≡◌, ◌≤◌, ℕ, suc, true, false, cond, List, [], ◌∷◌, ◌++◌, length, drop, refl, sym, ◌∙◌, ap, subst}
 use Rattle.std.proofs.Math.ListN.{drop_of_length-le}
 use Rattle.std.specs.Char.{encode_utf8}
 use Rattle.std.specs.List.{position_or_len}
-use Rattle.std.specs.Str.{encode_utf8_all, chars}
+use Rattle.std.specs.Str.{chars}
 use Rattle.yaml_text.specs.Tag.{core_tag, str_tag, seq_tag, map_tag}
-use Rattle.yaml_text.specs.TagText.{written_tag, tag_text}
+use Rattle.yaml_text.specs.TagText.{written_tag}
 use Rattle.yaml_text.specs.Tree.{Trees, Pairs, scalar, sequence, mapping}
 use Rattle.yaml_text.specs.Tree as plain
 use Rattle.yaml_text.specs.Marked.{alias, scalar_at, sequence_at, mapping_at}
@@ -106,7 +106,7 @@ unfolding text marked encode_utf8
 items_end r w old out new xs i g h l e =
     let w93 : Writes out new (λ more. (93 ∷ []) ++ more) = writes_text out new (93 ∷ []) (93 ∷ []) e refl in
     let end : (λ (more : List ℕ). items_text (separator i) (marked_all r (trees_of (drop i xs)) w) more) ≡ (λ (more : List ℕ). 93 ∷ more) =
-        ap (λ z. λ (more : List ℕ). items_text (separator i) (marked_all r (trees_of z) w) more) (drop_of_length-le xs l) in
+    ap (λ z. λ (more : List ℕ). items_text (separator i) (marked_all r (trees_of z) w) more) (drop_of_length-le xs l) in
     leaves_last old out new (λ more. 93 ∷ more) g (subst (λ f. Leaves old out f g) end h) w93
 
 pub pairs_end : (r w : List plain.Tree) (old out new : List ℕ) (xs : List (Tree × Tree)) (i : ℕ) (g : List ℕ → List ℕ)
@@ -115,7 +115,7 @@ unfolding text marked encode_utf8
 pairs_end r w old out new xs i g h l e =
     let w125 : Writes out new (λ more. (125 ∷ []) ++ more) = writes_text out new (125 ∷ []) (125 ∷ []) e refl in
     let end : (λ (more : List ℕ). pairs_text (separator i) (marked_pairs r (pairs_of (drop i xs)) w) more) ≡ (λ (more : List ℕ). 125 ∷ more) =
-        ap (λ z. λ (more : List ℕ). pairs_text (separator i) (marked_pairs r (pairs_of z) w) more) (drop_of_length-le xs l) in
+    ap (λ z. λ (more : List ℕ). pairs_text (separator i) (marked_pairs r (pairs_of z) w) more) (drop_of_length-le xs l) in
     leaves_last old out new (λ more. 125 ∷ more) g (subst (λ f. Leaves old out f g) end h) w125
 
 pub items_done : (r w g : List plain.Tree) (xs : List Tree) (i : ℕ) → noted_all r (trees_of (drop i xs)) w ≡ g → length xs ≤ i → w ≡ g

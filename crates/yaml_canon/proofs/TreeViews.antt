@@ -1,9 +1,8 @@
 -- The tree that each form of the code's tree stands for.
-use Rattle.std.proofs.Common.{◌≡◌, refl, sym, ◌∙◌, ap}
+use Rattle.std.proofs.Common.{◌≡◌, sym, ◌∙◌, ap}
 use Rattle.yaml_text.specs.Tree.{scalar, sequence, mapping}
 use Rattle.yaml_text.specs.Tree as plain
 use Rattle.yaml_text.specs.Tag.{str_tag, seq_tag, map_tag}
-use Rattle.yaml_canon.specs.declared.tree.Tree.{Tree}
 use Rattle.yaml_canon.specs.declared.tree.Tree.TheViews as views
 use Rattle.yaml_canon.specs.declared.tree.Tree.TheBlock as block
 use Rattle.yaml_canon.specs.declared.tree.Tree.TheOpen as layers

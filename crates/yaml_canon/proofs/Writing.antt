@@ -1,6 +1,6 @@
 -- Texts that are written piece by piece.
-use Rattle.std.proofs.Common.{◌≡◌, Result, Ok, Err, OnOk, ◌+◌, ◌<◌, ◌^◌, ℕ, zero, suc, List, [], ◌∷◌, ◌++◌, length, drop, get_or, map, refl, sym, ◌∙◌, ap, subst, arith, add-one}
-use Rattle.std.proofs.lemmas.List.{append_assoc, append-nil}
+use Rattle.std.proofs.Common.{◌≡◌, Result, Ok, Err, OnOk, ◌+◌, ◌<◌, ℕ, suc, List, [], ◌∷◌, ◌++◌, length, drop, get_or, refl, sym, ◌∙◌, ap, add-one}
+use Rattle.std.proofs.lemmas.List.{append_assoc}
 use Rattle.std.proofs.lemmas.Str.{encodes-append}
 use Rattle.std.proofs.Math.Seq.{drop-cons}
 use Rattle.std.specs.Char.{encode_utf8}
@@ -11,7 +11,7 @@ use Rattle.yaml_text.specs.Event.{Anchor}
 use Rattle.yaml_text.specs.NodeText.{anchor_text, text, items_text, pairs_text}
 use Rattle.yaml_canon.specs.declared.tree.Tree.{Tree}
 use Rattle.yaml_canon.specs.TreeModel.{tree_of, trees_of, pairs_of}
-use Rattle.yaml_canon.specs.Anchored.{separator, noted, noted_all, noted_pairs, marked, marked_all, marked_pairs}
+use Rattle.yaml_canon.specs.Anchored.{separator, noted, marked, marked_all, marked_pairs}
 use Rattle.yaml_canon.specs.Writes.{Writes}
 
 pub on_ok : {T E P Q : Type 0} (r : Result T E) → (P → Q) → OnOk r P → OnOk r Q
@@ -56,7 +56,7 @@ items_more r w v old out mid new xs rest x i g h e s t n = record {
   is = λ more.
       let tail : List ℕ = items_text (44 ∷ 32 ∷ []) (marked_all r (trees_of rest) v) more in
       let all : items_text (separator i) (marked_all r (trees_of xs) w) more ≡ separator i ++ text (marked r (tree_of x) w) tail =
-          ap (λ l. items_text (separator i) (marked_all r (trees_of l) w) more) e ∙ ap (λ z. separator i ++ text (marked r (tree_of x) w) (items_text (44 ∷ 32 ∷ []) (marked_all r (trees_of rest) z) more)) (sym n) in
+      ap (λ l. items_text (separator i) (marked_all r (trees_of l) w) more) e ∙ ap (λ z. separator i ++ text (marked r (tree_of x) w) (items_text (44 ∷ 32 ∷ []) (marked_all r (trees_of rest) z) more)) (sym n) in
       ap (λ z. new ++ encode_utf8_all (items_text (separator z) (marked_all r (trees_of rest) v) more)) (add-one i) ∙ t.is tail ∙ s.is (text (marked r (tree_of x) w) tail) ∙ ap (λ z. out ++ encode_utf8_all z) (sym all) ∙ h.is more;
 }
 
@@ -72,9 +72,9 @@ pairs_more r w u v old out a b c new xs rest x i g h e s k m t l n = record {
       let value : List ℕ = 32 ∷ 58 ∷ 32 ∷ text (marked r (tree_of x.1) u) tail in
       let first : u ≡ noted r (tree_of x.0) w = m in
       let all : pairs_text (separator i) (marked_pairs r (pairs_of xs) w) more ≡ separator i ++ text (marked r (tree_of x.0) w) value =
-          ap (λ l. pairs_text (separator i) (marked_pairs r (pairs_of l) w) more) e
-          ∙ ap (λ z. separator i ++ text (marked r (tree_of x.0) w) (32 ∷ 58 ∷ 32 ∷ text (marked r (tree_of x.1) z) (pairs_text (44 ∷ 32 ∷ []) (marked_pairs r (pairs_of rest) (noted r (tree_of x.1) z)) more))) (sym first)
-          ∙ ap (λ z. separator i ++ text (marked r (tree_of x.0) w) (32 ∷ 58 ∷ 32 ∷ text (marked r (tree_of x.1) u) (pairs_text (44 ∷ 32 ∷ []) (marked_pairs r (pairs_of rest) z) more))) (sym n) in
+      ap (λ l. pairs_text (separator i) (marked_pairs r (pairs_of l) w) more) e
+      ∙ ap (λ z. separator i ++ text (marked r (tree_of x.0) w) (32 ∷ 58 ∷ 32 ∷ text (marked r (tree_of x.1) z) (pairs_text (44 ∷ 32 ∷ []) (marked_pairs r (pairs_of rest) (noted r (tree_of x.1) z)) more))) (sym first)
+      ∙ ap (λ z. separator i ++ text (marked r (tree_of x.0) w) (32 ∷ 58 ∷ 32 ∷ text (marked r (tree_of x.1) u) (pairs_text (44 ∷ 32 ∷ []) (marked_pairs r (pairs_of rest) z) more))) (sym n) in
       ap (λ z. new ++ encode_utf8_all (pairs_text (separator z) (marked_pairs r (pairs_of rest) v) more)) (add-one i) ∙ l.is tail ∙ t.is (text (marked r (tree_of x.1) u) tail) ∙ k.is value
       ∙ s.is (text (marked r (tree_of x.0) w) value) ∙ ap (λ z. out ++ encode_utf8_all z) (sym all) ∙ h.is more;
 }

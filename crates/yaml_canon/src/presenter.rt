@@ -12,7 +12,7 @@ ghost use Rattle.yaml_canon.specs.Claims.{IsCanonicalText, CanonicalRefuses};
 
 use crate::forest::forest;
 use crate::reading::read;
-use crate::repeats::first_repeated;
+use crate::repeats::has_repeats;
 use crate::spell::spell;
 use std::alloc::Global;
 use yaml_text::fault::Fault;
@@ -32,8 +32,8 @@ pub fn canonical(alloc: Global, bytes: &[u8]) -> Result<String, Fault>
 {
     let events = read(alloc, bytes)?;
     let trees = forest(alloc, &events)?;
-    match first_repeated(alloc, &trees)? {
-        Some(number) => Err(Fault::RepeatedNode(number)),
-        None => spell(alloc, &trees),
+    if has_repeats(alloc, &trees)? {
+        return Err(Fault::RepeatedNode(0));
     }
+    spell(alloc, &trees)
 }

@@ -1,8 +1,9 @@
-//! Temporary: documents in which a node is repeated are refused until anchors are read.
-ghost use Rattle.std.specs.Prelude.{◌≡◌, map, IfOk, IfErr, MatchOption};
-ghost use Rattle.yaml_canon.specs.Among.{Unrepeated};
+//! Temporary: a document in which a node is repeated is refused until anchors are read.
+ghost use Rattle.std.specs.Prelude.{◌≡◌, [], ◌∷◌, map, IfOk, IfErr};
+ghost use Rattle.std.specs.Bool.{OnTrue, OnFalse};
+ghost use Rattle.yaml_text.specs.Tree as plain;
+ghost use Rattle.yaml_canon.specs.Among.{NoneAgain};
 ghost use Rattle.yaml_canon.specs.Arranged.{AllArranged};
-ghost use Rattle.yaml_canon.specs.Claims.{IsFirstRepeated};
 ghost use Rattle.yaml_canon.specs.TreeModel.{tree_of};
 ghost use Rattle.yaml_text.specs.declared.fault.Fault.TheVariants.{OutOfMemory};
 
@@ -11,18 +12,15 @@ use crate::walk::has_again;
 use std::alloc::Global;
 use yaml_text::fault::Fault;
 
-/// The first document, counted from 0, that has a repeated node.
-pub(crate) fn first_repeated(alloc: Global, trees: &[Tree<'_>]) -> Result<Option<usize>, Fault>
+/// Whether a node of a stream's one document is repeated.
+pub(crate) fn has_repeats(alloc: Global, trees: &[Tree<'_>]) -> Result<bool, Fault>
     requires { AllArranged (map tree_of trees.now) }
-    ensures found { IfOk result (λ found. MatchOption found (Unrepeated (map tree_of trees.now)) (λ number. IsFirstRepeated number (map tree_of trees.now))) }
+    ensures none { (t : plain.Tree) → map tree_of trees.now ≡ t ∷ [] → IfOk result (λ again. OnFalse again (NoneAgain t)) }
+    ensures some { (t : plain.Tree) → map tree_of trees.now ≡ t ∷ [] → IfOk result (λ again. OnTrue again (NoneAgain t → ⊥)) }
     ensures only { IfErr result (λ fault. fault ≡ OutOfMemory) }
 {
-    let mut number = 0;
-    'documents: for tree in trees {
-        if has_again(alloc, tree)? {
-            return Ok(Some(number));
-        }
-        number += 1;
+    match trees {
+        [tree] => has_again(alloc, tree),
+        _ => Ok(false),
     }
-    Ok(None)
 }

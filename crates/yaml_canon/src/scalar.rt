@@ -105,12 +105,6 @@ pub(crate) fn spelled_len(c: char) -> usize
     }
     match c {
         '"' | '\\' | '\n' | '\t' => 2,
-        _ => {
-            if u32::from(c) < 256 {
-                4
-            } else {
-                6
-            }
-        }
+        _ => { if u32::from(c) < 256 { 4 } else { 6 } }
     }
 }

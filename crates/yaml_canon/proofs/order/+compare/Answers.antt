@@ -1,9 +1,7 @@
 use Rattle.std.proofs.Common.{◌≡◌, ◌∙◌, sym, ap, refl, arith}
 use Rattle.yaml_canon.proofs.TreeViews.{tree_of-mapping}
 use Rattle.yaml_canon.specs.declared.tree.Tree.TheViews as views
-use Rattle.std.specs.declared.cmp.Ordering.TheVariants.{Equal}
-use Rattle.std.specs.Ordering.{ordering_then, nat_cmp}
-use Rattle.yaml_text.specs.Tree.{height, kind_of, tag_of}
+use Rattle.yaml_text.specs.Tree.{tag_of}
 use Rattle.yaml_canon.specs.TreeModel.{tree_of}
 use Rattle.yaml_canon.proofs.Heads.{inside_decides, heads_tied}
 use Rattle.yaml_canon.proofs.Ends.{trees_cmp_end, pairs_cmp_end}

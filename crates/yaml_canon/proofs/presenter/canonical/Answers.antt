@@ -22,15 +22,19 @@ returns-in_err-trees-clause-refused c = ?
 pub returns-in_err-trees-clause-spelled : goal.returns-in_err-trees-clause-spelled
 returns-in_err-trees-clause-spelled c = ?
 
--- src/presenter.rt:35:11
-pub first_repeated-requires : goal.first_repeated-requires
-first_repeated-requires c = ?
+-- src/presenter.rt:35:8
+pub has_repeats-requires : goal.has_repeats-requires
+has_repeats-requires c = ?
 
--- src/presenter.rt:32:1
-pub returns-in-Some-clause-spelled : goal.returns-in-Some-clause-spelled
-returns-in-Some-clause-spelled c = ?
+-- src/presenter.rt:36:9
+pub returns-then-branch-clause-refused : goal.returns-then-branch-clause-refused
+returns-then-branch-clause-refused c = ?
 
--- src/presenter.rt:37:17
+-- src/presenter.rt:36:9
+pub returns-then-branch-clause-spelled : goal.returns-then-branch-clause-spelled
+returns-then-branch-clause-spelled c = ?
+
+-- src/presenter.rt:38:5
 pub spell-requires : goal.spell-requires
 spell-requires c = ?
 

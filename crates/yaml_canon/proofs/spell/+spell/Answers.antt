@@ -1,4 +1,4 @@
-use Rattle.std.proofs.Common.{◌≡◌, ◌∙◌, ap, sym, arith}
+use Rattle.std.proofs.Common.{◌∙◌, ap, sym, arith}
 use Rattle.yaml_canon.specs.TreeModel.{tree_of, trees_of, pairs_of}
 use Rattle.std.specs.List.{position}
 use Rattle.yaml_text.specs.Tree.{sequence, mapping}

@@ -1,4 +1,4 @@
-use Rattle.std.proofs.Common.{◌++◌, add-one, ap, subst}
+use Rattle.std.proofs.Common.{◌++◌, add-one, subst}
 use Rattle.std.specs.String.{string_bytes}
 use Rattle.yaml_text.specs.Mark.{name_of}
 use Rattle.yaml_canon.specs.Writes.{Writes}

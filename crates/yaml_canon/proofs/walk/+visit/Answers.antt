@@ -1,4 +1,4 @@
-use Rattle.std.proofs.Common.{◌≡◌, ◌∙◌, ◌++◌, ap, sym, refl, arith}
+use Rattle.std.proofs.Common.{◌∙◌, ◌++◌, ap, sym, arith}
 use Rattle.yaml_text.specs.Tree.{sequence, mapping}
 use Rattle.yaml_text.specs.Tag.{seq_tag, map_tag}
 use Rattle.yaml_canon.specs.TreeModel.{tree_of, trees_of, pairs_of}
@@ -6,7 +6,7 @@ use Rattle.yaml_canon.specs.Anchored.{nodes_of}
 use Rattle.yaml_canon.specs.Repeats.{repeats_one}
 use Rattle.yaml_canon.proofs.TreeViews.{tree_of-scalar, tree_of-sequence, tree_of-mapping}
 use Rattle.yaml_canon.proofs.Names.{nodes_push}
-use Rattle.yaml_canon.proofs.Writing.{on_ok, all_ok, drop_next}
+use Rattle.yaml_canon.proofs.Writing.{on_ok, drop_next}
 use Rattle.yaml_canon.proofs.Walking.{again_kept, again_repeats, scalar_kept, scalar_repeats, sequence_kept, sequence_repeats, mapping_kept, mapping_repeats, items_kept, items_repeat, pairs_kept, pairs_repeat, items_all_kept, items_all_repeat, pairs_all_kept, pairs_all_repeat}
 use Rattle.yaml_canon.proofs.walk.+visit.Goals as goal
 

@@ -1,4 +1,4 @@
-use Rattle.std.proofs.Common.{◌≡◌, ◌∙◌, ap, sym}
+use Rattle.std.proofs.Common.{◌∙◌, ap, sym}
 use Rattle.yaml_text.specs.Spell.{short}
 use Rattle.yaml_canon.specs.TreeModel.{tree_of}
 use Rattle.yaml_canon.proofs.TreeViews.{tree_of-scalar, tree_of-sequence, tree_of-mapping}
