@@ -32,3 +32,4 @@ pub mod Agains
 pub mod Markings
 pub mod Forests
 pub mod Forms
+pub mod CanonicalAnswers

@@ -11,11 +11,10 @@ mod composer;
 mod graph;
 mod measure;
 
-pub(crate) use measure::Measure;
-
 use crate::tree::Tree;
 use composer::compose;
 use graph::forest;
+pub(crate) use measure::Measure;
 use measure::of_roots;
 use std::alloc::Global;
 use yaml_text::event::Event;
