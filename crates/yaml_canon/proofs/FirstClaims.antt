@@ -167,3 +167,24 @@ admitted_spelled _ f g q a r = absurd r
 
 pub composable : (bytes : List ℕ) (events : List code.Event) → FirstDocument bytes (map event_of events) → Composable events
 composable bytes events d = record { documents = document_of d.root ∷ []; cut = d.events; plain = (simple_untagged d.root d.simple, tt) }
+
+-- ---- two streams
+
+pub left_read : (bytes : List ℕ) (es : List Event) (d : FirstDocument bytes es) (f : List Tree) → IsForest (trees_of (document_of d.root ∷ [])) f → (g : List Tree) × Means bytes g × AllLow g
+left_read bytes es d f h = (tree_read bytes es d ∷ [], read_means bytes es d, (forest_low bytes es d f h, tt))
+
+pub compared : (left : List ℕ) (es : List Event) (d : FirstDocument left es) (right : List ℕ) (fs : List Event) (k : FirstDocument right fs) (answer : Bool) (f g : List Tree)
+    → IsForest (trees_of (document_of d.root ∷ [])) f → IsForest (trees_of (document_of k.root ∷ [])) g → answer ≡ pointwise same f g → Compares left right answer
+compared left es d right fs k answer f g h i e =
+    let p : f ≡ tree_read left es d ∷ [] = forest_is left es d f h in
+    let q : g ≡ tree_read right fs k ∷ [] = forest_is right fs k g i in
+    let r : answer ≡ pointwise same (tree_read left es d ∷ []) (tree_read right fs k ∷ []) = e ∙ (λ z. pointwise same (p z) (q z)) in
+    record {
+      first = tree_read left es d ∷ [];
+      second = tree_read right fs k ∷ [];
+      first_means = read_means left es d;
+      second_means = read_means right fs k;
+      first_keyed = read_keyed left es d (forest_low left es d f h);
+      second_keyed = read_keyed right fs k (forest_low right fs k g i);
+      tells = (λ a. sym r ∙ a, λ a. r ∙ a);
+    }

@@ -9,8 +9,6 @@ use Rattle.yaml_text.specs.Means.{Means}
 use Rattle.yaml_text.specs.Text.{RefusesText}
 use Rattle.yaml_text.specs.declared.fault.Fault.{Fault}
 use Rattle.yaml_text.specs.declared.fault.Fault.TheVariants.{TooLong, NotUtf8, NotPrintable, Syntax, Tab, TooDeep, BadEscape, TooHigh, TextTooLong, OutOfMemory, RepeatedNode}
-use Rattle.yaml_canon.specs.declared.comparer.Side.{Side}
-use Rattle.yaml_canon.specs.declared.comparer.Side.TheVariants.{Left, Right}
 use Rattle.yaml_canon.specs.Among.{OnFirstPath, NoneAgain, Unrepeated}
 
 -- every tree is low enough
@@ -82,9 +80,3 @@ abbrev pub CanonicalRefuses : List ℕ → Fault → Type 0
 CanonicalRefuses bytes TextTooLong = (f : List Tree) × Means bytes f × AllKeyed f × (text_limit < length (spell_bytes f))
 CanonicalRefuses bytes (RepeatedNode number) = (f : List Tree) × Means bytes f × AllLow f × IsFirstRepeated number f
 CanonicalRefuses bytes fault = RefusedInReading bytes fault
-
--- What a refusal by `same` says. The left side is judged first, and where the right one is refused the left one was read
--- and is low enough.
-abbrev pub ComparerRefuses : List ℕ → List ℕ → Side → Fault → Type 0
-ComparerRefuses left right Left fault = RefusedInReading left fault
-ComparerRefuses left right Right fault = RefusedInReading right fault × ((f : List Tree) × Means left f × AllLow f)

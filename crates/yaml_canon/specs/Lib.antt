@@ -20,3 +20,4 @@ pub mod Forest
 pub mod Repeats
 pub mod Arranged
 pub mod Refusal
+pub mod Comparing

@@ -11,9 +11,11 @@ mod reader;
 mod reading;
 mod repeats;
 mod scalar;
+pub mod side;
 mod spell;
 mod tree;
 mod walk;
 
-pub use comparer::Side;
+pub use comparer::same;
 pub use presenter::canonical;
+pub use side::Side;
