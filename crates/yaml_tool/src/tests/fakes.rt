@@ -1,4 +1,6 @@
 //! Streams and files that fail where a test asks.
+ghost use Rattle.std.specs.Prelude.{◌≤◌, length};
+
 use std::alloc::Allocator;
 use std::fs::{Metadata, OpenFile, OpenOptions};
 use std::io;
@@ -50,7 +52,9 @@ impl<'a> Source<'a> {
         Source { bad, ..self }
     }
 
-    fn give_zeros(&mut self, buf: &mut [u8]) -> usize {
+    fn give_zeros(&mut self, buf: &mut [u8]) -> usize
+        ensures { result ≤ length buf.new }
+    {
         let room = u64::try_from(buf.len()).unwrap_or(0);
         let count = self.zeros.min(room);
         self.zeros -= count;
