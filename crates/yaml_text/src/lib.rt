@@ -8,3 +8,5 @@ pub mod event;
 pub mod fault;
 pub mod laws;
 pub mod places;
+#[cfg(test)]
+mod tests;
