@@ -67,7 +67,7 @@ fn check<T: Abort + AllocGlobal>(rt: &T, shelf: &Shelf<'_>, rows: &[Row]) -> Res
     Ok(())
 }
 
-const CANON: [Row; 8] = [
+const CANON: [Row; 9] = [
     Row {
         words: &["canon"],
         input: "--- [\"x\",[ \"y\" ],[]]\n",
@@ -102,6 +102,13 @@ const CANON: [Row; 8] = [
         status: 2,
         out: "",
         err: "yaml: 4 Syntax at byte 5\n",
+    },
+    Row {
+        words: &["canon"],
+        input: "--- [[\"x\"], [\"x\"]]",
+        status: 2,
+        out: "",
+        err: "yaml: 25 RepeatedNode in document 0\n",
     },
     Row {
         words: &["canon"],

@@ -3,6 +3,7 @@ use std::alloc::Global;
 use std::process::Abort;
 use std::test::Fail;
 use yaml_canon::{Side, canonical, same};
+use yaml_text::fault::Fault;
 
 /// An input, and its canonical text or the message of its fault.
 pub struct Row {
@@ -70,21 +71,32 @@ pub fn check<T: Abort + AllocGlobal>(rt: &T, rows: &[Row]) -> Result<(), Fail> {
     Ok(())
 }
 
+/// Asserts that comparing ended with this fault of this side.
+fn is_refused_on<T: Abort + AllocGlobal>(
+    rt: &T,
+    shows: &str,
+    got: Result<bool, (Side, Fault)>,
+    side: Side,
+    message: &str,
+) -> Result<(), Fail> {
+    match got {
+        Ok(_) => assert_eq!(rt; "no fault", message, "{shows}"),
+        Err((got_side, fault)) => {
+            let got_message = format!(in rt.alloc(); "{fault}")?;
+            assert_eq!(rt; got_message.as_str(), message, "{shows}");
+            assert_eq!(rt; got_side, side, "{shows}");
+        }
+    }
+    Ok(())
+}
+
 /// Asserts each pair's answer.
 pub fn compare<T: Abort + AllocGlobal>(rt: &T, pairs: &[Pair]) -> Result<(), Fail> {
     for pair in pairs {
-        match (same(rt.alloc(), pair.left, pair.right), pair.answer) {
-            (Err((side, fault)), Err((want_side, want))) => {
-                let message = format!(in rt.alloc(); "{fault}")?;
-                assert_eq!(rt; message.as_str(), want, "{}", pair.shows);
-                assert_eq!(rt; side, want_side, "{}", pair.shows);
-            }
-            (Ok(alike), Ok(want)) => assert_eq!(rt; alike, want, "{}", pair.shows),
-            (Ok(_), Err((_, want))) => assert_eq!(rt; "no fault", want, "{}", pair.shows),
-            (Err((_, fault)), Ok(_)) => {
-                let message = format!(in rt.alloc(); "{fault}")?;
-                assert_eq!(rt; message.as_str(), "no fault", "{}", pair.shows);
-            }
+        let got = same(rt.alloc(), pair.left, pair.right);
+        match pair.answer {
+            Ok(alike) => assert_eq!(rt; got, Ok(alike), "{}", pair.shows),
+            Err((side, message)) => is_refused_on(rt, pair.shows, got, side, message)?,
         }
     }
     Ok(())
