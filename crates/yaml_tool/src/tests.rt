@@ -67,7 +67,7 @@ fn check<T: Abort + AllocGlobal>(rt: &T, shelf: &Shelf<'_>, rows: &[Row]) -> Res
     Ok(())
 }
 
-const CANON: [Row; 9] = [
+const CANON: [Row; 11] = [
     Row {
         words: &["canon"],
         input: "--- [\"x\",[ \"y\" ],[]]\n",
@@ -88,6 +88,20 @@ const CANON: [Row; 9] = [
         status: 0,
         out: "--- \"named V\"\n",
         err: "",
+    },
+    Row {
+        words: &["canon", "--"],
+        input: "--- \"x\"",
+        status: 0,
+        out: "--- \"x\"\n",
+        err: "",
+    },
+    Row {
+        words: &["canon", "--", "--"],
+        input: "",
+        status: 3,
+        out: "",
+        err: "yaml: cannot open --\n",
     },
     Row {
         words: &["canon", "-"],
@@ -140,7 +154,7 @@ fn canon_writes_the_text_or_one_line(rt: HostRuntime) -> Result<(), Fail> {
 
 #[test]
 fn other_words_are_a_fault_of_usage(rt: HostRuntime) -> Result<(), Fail> {
-    let lists: [&[&str]; 13] = [
+    let lists: [&[&str]; 15] = [
         &[],
         &[""],
         &["help"],
@@ -149,6 +163,8 @@ fn other_words_are_a_fault_of_usage(rt: HostRuntime) -> Result<(), Fail> {
         &["canon", "a.yaml", "b.yaml"],
         &["canon", "--help"],
         &["canon", "-V"],
+        &["canon", "-5"],
+        &["canon", "---"],
         &["same"],
         &["same", "a.yaml"],
         &["same", "a.yaml", "b.yaml", "b.yaml"],
