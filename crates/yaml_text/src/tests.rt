@@ -122,30 +122,38 @@ fn read(bytes: &[u8]) -> Result<(usize, usize), Fault> {
     Ok((source.pos(0), source.pos(source.end())))
 }
 
+/// An input, and what `read` answers.
+type Row = (&'static [u8], Result<(usize, usize), Fault>);
+
+const INPUTS: [Row; 17] = [
+    (b"", Ok((0, 0))),
+    (b"a", Ok((0, 1))),
+    (b"\t\n\r ~", Ok((0, 5))),
+    (b"\xc2\x85\xc2\xa0", Ok((0, 4))),
+    (b"\xef\xbf\xbd\xf4\x8f\xbf\xbf", Ok((0, 7))),
+    (b"\xef\xbb\xbf", Ok((3, 3))),
+    (b"\xef\xbb\xbfa", Ok((3, 4))),
+    (b"\xff", Err(Fault::NotUtf8(0))),
+    (b"\xef\xbb\xbfa\xff", Err(Fault::NotUtf8(4))),
+    (b"ab\xe2\x82", Err(Fault::NotUtf8(2))),
+    (b"\xed\xa0\x80", Err(Fault::NotUtf8(0))),
+    (b"a\x00", Err(Fault::NotPrintable(1))),
+    (b"\x7f", Err(Fault::NotPrintable(0))),
+    (b"\xc2\x84", Err(Fault::NotPrintable(0))),
+    (b"\xef\xbf\xbe", Err(Fault::NotPrintable(0))),
+    (b"\xef\xbb\xbf\xef\xbb\xbf", Err(Fault::NotPrintable(3))),
+    (b"\x00\xff", Err(Fault::NotUtf8(1))),
+];
+
+fn check_inputs<T: Abort>(rt: &T, rows: &[Row]) {
+    for (bytes, want) in rows {
+        assert_eq!(rt; read(bytes), *want, "{bytes:?}");
+    }
+}
+
 #[test]
 fn texts_are_read_or_refused_at_their_place(rt: HostRuntime) {
-    let rows: [(&[u8], Result<(usize, usize), Fault>); 17] = [
-        (b"", Ok((0, 0))),
-        (b"a", Ok((0, 1))),
-        (b"\t\n\r ~", Ok((0, 5))),
-        (b"\xc2\x85\xc2\xa0", Ok((0, 4))),
-        (b"\xef\xbf\xbd\xf4\x8f\xbf\xbf", Ok((0, 7))),
-        (b"\xef\xbb\xbf", Ok((3, 3))),
-        (b"\xef\xbb\xbfa", Ok((3, 4))),
-        (b"\xff", Err(Fault::NotUtf8(0))),
-        (b"\xef\xbb\xbfa\xff", Err(Fault::NotUtf8(4))),
-        (b"ab\xe2\x82", Err(Fault::NotUtf8(2))),
-        (b"\xed\xa0\x80", Err(Fault::NotUtf8(0))),
-        (b"a\x00", Err(Fault::NotPrintable(1))),
-        (b"\x7f", Err(Fault::NotPrintable(0))),
-        (b"\xc2\x84", Err(Fault::NotPrintable(0))),
-        (b"\xef\xbf\xbe", Err(Fault::NotPrintable(0))),
-        (b"\xef\xbb\xbf\xef\xbb\xbf", Err(Fault::NotPrintable(3))),
-        (b"\x00\xff", Err(Fault::NotUtf8(1))),
-    ];
-    for (bytes, want) in rows {
-        assert_eq!(rt; read(bytes), want, "{bytes:?}");
-    }
+    check_inputs(&rt, &INPUTS);
 }
 
 #[test]
