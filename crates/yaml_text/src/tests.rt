@@ -1,6 +1,7 @@
 //! What no clause says: the messages of the faults, and reading on inputs whose answers are known.
 use crate::chars::Chars;
 use crate::fault::Fault;
+use std::process::Abort;
 use std::test::Fail;
 
 const FAULTS: [(Fault, u8, &str, &str); 25] = [
@@ -96,50 +97,63 @@ const FAULTS: [(Fault, u8, &str, &str); 25] = [
     ),
 ];
 
-#[test]
-fn each_fault_has_its_number_name_and_message(rt: HostRuntime) -> Result<(), Fail> {
-    for (fault, number, name, message) in FAULTS {
+/// Asserts each fault's number, name and message.
+fn check_faults<T: Abort + AllocGlobal>(
+    rt: &T,
+    rows: &[(Fault, u8, &str, &str)],
+) -> Result<(), Fail> {
+    for (fault, number, name, message) in rows {
         let got = format!(in rt.alloc(); "{fault}")?;
-        assert_eq!(rt; got.as_str(), message);
-        assert_eq!(rt; fault.name(), name, "{message}");
-        assert_eq!(rt; fault.number(), number, "{message}");
+        assert_eq!(rt; got.as_str(), *message);
+        assert_eq!(rt; fault.name(), *name, "{message}");
+        assert_eq!(rt; fault.number(), *number, "{message}");
     }
     Ok(())
 }
 
-/// The text that is read, and the place in the input of its end.
-fn read(bytes: &[u8]) -> Result<(&str, usize), Fault> {
+#[test]
+fn each_fault_has_its_number_name_and_message(rt: HostRuntime) -> Result<(), Fail> {
+    check_faults(&rt, &FAULTS)
+}
+
+/// The places in the input of the text's first character and of its end.
+fn read(bytes: &[u8]) -> Result<(usize, usize), Fault> {
     let source = Chars::read(bytes)?;
-    Ok((source.rest(0), source.pos(source.end())))
+    Ok((source.pos(0), source.pos(source.end())))
+}
+
+/// An input, and what `read` answers.
+type Row = (&'static [u8], Result<(usize, usize), Fault>);
+
+const INPUTS: [Row; 17] = [
+    (b"", Ok((0, 0))),
+    (b"a", Ok((0, 1))),
+    (b"\t\n\r ~", Ok((0, 5))),
+    (b"\xc2\x85\xc2\xa0", Ok((0, 4))),
+    (b"\xef\xbf\xbd\xf4\x8f\xbf\xbf", Ok((0, 7))),
+    (b"\xef\xbb\xbf", Ok((3, 3))),
+    (b"\xef\xbb\xbfa", Ok((3, 4))),
+    (b"\xff", Err(Fault::NotUtf8(0))),
+    (b"\xef\xbb\xbfa\xff", Err(Fault::NotUtf8(4))),
+    (b"ab\xe2\x82", Err(Fault::NotUtf8(2))),
+    (b"\xed\xa0\x80", Err(Fault::NotUtf8(0))),
+    (b"a\x00", Err(Fault::NotPrintable(1))),
+    (b"\x7f", Err(Fault::NotPrintable(0))),
+    (b"\xc2\x84", Err(Fault::NotPrintable(0))),
+    (b"\xef\xbf\xbe", Err(Fault::NotPrintable(0))),
+    (b"\xef\xbb\xbf\xef\xbb\xbf", Err(Fault::NotPrintable(3))),
+    (b"\x00\xff", Err(Fault::NotUtf8(1))),
+];
+
+fn check_inputs<T: Abort>(rt: &T, rows: &[Row]) {
+    for (bytes, want) in rows {
+        assert_eq!(rt; read(bytes), *want, "{bytes:?}");
+    }
 }
 
 #[test]
 fn texts_are_read_or_refused_at_their_place(rt: HostRuntime) {
-    let rows: [(&[u8], Result<(&str, usize), Fault>); 17] = [
-        (b"", Ok(("", 0))),
-        (b"a", Ok(("a", 1))),
-        (b"\t\n\r ~", Ok(("\t\n\r ~", 5))),
-        (b"\xc2\x85\xc2\xa0", Ok(("\u{85}\u{A0}", 4))),
-        (
-            b"\xef\xbf\xbd\xf4\x8f\xbf\xbf",
-            Ok(("\u{FFFD}\u{10FFFF}", 7)),
-        ),
-        (b"\xef\xbb\xbf", Ok(("", 3))),
-        (b"\xef\xbb\xbfa", Ok(("a", 4))),
-        (b"\xff", Err(Fault::NotUtf8(0))),
-        (b"\xef\xbb\xbfa\xff", Err(Fault::NotUtf8(4))),
-        (b"ab\xe2\x82", Err(Fault::NotUtf8(2))),
-        (b"\xed\xa0\x80", Err(Fault::NotUtf8(0))),
-        (b"a\x00", Err(Fault::NotPrintable(1))),
-        (b"\x7f", Err(Fault::NotPrintable(0))),
-        (b"\xc2\x84", Err(Fault::NotPrintable(0))),
-        (b"\xef\xbf\xbe", Err(Fault::NotPrintable(0))),
-        (b"\xef\xbb\xbf\xef\xbb\xbf", Err(Fault::NotPrintable(3))),
-        (b"\x00\xff", Err(Fault::NotUtf8(1))),
-    ];
-    for (bytes, want) in rows {
-        assert_eq!(rt; read(bytes), want, "{bytes:?}");
-    }
+    check_inputs(&rt, &INPUTS);
 }
 
 #[test]

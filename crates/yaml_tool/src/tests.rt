@@ -1,0 +1,388 @@
+//! Each line that the program prints, and each status, over streams and files of the tests' own.
+mod fakes;
+
+use self::fakes::{Broken, Narrow, Shelf, Source};
+use crate::command::command;
+use std::alloc::Global;
+use std::process::Abort;
+use std::test::Fail;
+
+/// What a run answered and wrote.
+#[derive(Drop)]
+struct Ran {
+    status: u8,
+    out: String,
+    err: String,
+}
+
+fn owned(alloc: Global, words: &[&str]) -> Result<Vec<String>, Fail> {
+    let mut list = Vec::new(alloc);
+    for word in words {
+        list.push(word.to_string(alloc)?)?;
+    }
+    Ok(list)
+}
+
+/// Runs the words over a shelf of files and a standard input.
+fn run(alloc: Global, shelf: &Shelf<'_>, words: &[&str], input: Source<'_>) -> Result<Ran, Fail> {
+    let words = owned(alloc, words)?;
+    let mut out = Vec::new(alloc);
+    let mut err = Vec::new(alloc);
+    let status = command(shelf, alloc, words.as_slice(), input, &mut out, &mut err);
+    Ok(Ran {
+        status,
+        out: String::from_utf8(out)?,
+        err: String::from_utf8(err)?,
+    })
+}
+
+/// Words, a standard input, and what the run answers and writes.
+struct Row {
+    words: &'static [&'static str],
+    input: &'static str,
+    status: u8,
+    out: &'static str,
+    err: &'static str,
+}
+
+fn check<T: Abort + AllocGlobal>(rt: &T, shelf: &Shelf<'_>, rows: &[Row]) -> Result<(), Fail> {
+    for row in rows {
+        let ran = run(rt.alloc(), shelf, row.words, Source::of(row.input))?;
+        assert_eq!(rt;
+            ran.err.as_str(),
+            row.err,
+            "{:?} {:?}",
+            row.words,
+            row.input
+        );
+        assert_eq!(rt;
+            ran.out.as_str(),
+            row.out,
+            "{:?} {:?}",
+            row.words,
+            row.input
+        );
+        assert_eq!(rt; ran.status, row.status, "{:?} {:?}", row.words, row.input);
+    }
+    Ok(())
+}
+
+const CANON: [Row; 11] = [
+    Row {
+        words: &["canon"],
+        input: "--- [\"x\",[ \"y\" ],[]]\n",
+        status: 0,
+        out: "--- [\"x\", [\"y\"], []]\n",
+        err: "",
+    },
+    Row {
+        words: &["canon", "a.yaml"],
+        input: "",
+        status: 0,
+        out: "--- [\"a\", \"b\"]\n",
+        err: "",
+    },
+    Row {
+        words: &["canon", "--", "-V"],
+        input: "",
+        status: 0,
+        out: "--- \"named V\"\n",
+        err: "",
+    },
+    Row {
+        words: &["canon", "--"],
+        input: "--- \"x\"",
+        status: 0,
+        out: "--- \"x\"\n",
+        err: "",
+    },
+    Row {
+        words: &["canon", "--", "--"],
+        input: "",
+        status: 3,
+        out: "",
+        err: "yaml: cannot open --\n",
+    },
+    Row {
+        words: &["canon", "-"],
+        input: "",
+        status: 0,
+        out: "--- \"named -\"\n",
+        err: "",
+    },
+    Row {
+        words: &["canon"],
+        input: "--- [,]",
+        status: 2,
+        out: "",
+        err: "yaml: 4 Syntax at byte 5\n",
+    },
+    Row {
+        words: &["canon"],
+        input: "--- [[\"x\"], [\"x\"]]",
+        status: 2,
+        out: "",
+        err: "yaml: 25 RepeatedNode in document 0\n",
+    },
+    Row {
+        words: &["canon"],
+        input: "a\u{0}",
+        status: 2,
+        out: "",
+        err: "yaml: 3 NotPrintable at byte 1\n",
+    },
+    Row {
+        words: &["canon", "bad.yaml"],
+        input: "",
+        status: 2,
+        out: "",
+        err: "yaml: 2 NotUtf8 at byte 1\n",
+    },
+    Row {
+        words: &["canon", "missing.yaml"],
+        input: "",
+        status: 3,
+        out: "",
+        err: "yaml: cannot open missing.yaml\n",
+    },
+];
+
+#[test]
+fn canon_writes_the_text_or_one_line(rt: HostRuntime) -> Result<(), Fail> {
+    check(&rt, &Shelf::new(), &CANON)
+}
+
+#[test]
+fn other_words_are_a_fault_of_usage(rt: HostRuntime) -> Result<(), Fail> {
+    let lists: [&[&str]; 15] = [
+        &[],
+        &[""],
+        &["help"],
+        &["--help"],
+        &["--", "canon"],
+        &["canon", "a.yaml", "b.yaml"],
+        &["canon", "--help"],
+        &["canon", "-V"],
+        &["canon", "-5"],
+        &["canon", "---"],
+        &["same"],
+        &["same", "a.yaml"],
+        &["same", "a.yaml", "b.yaml", "b.yaml"],
+        &["same", "a.yaml", "-V"],
+        &["Canon"],
+    ];
+    for words in lists {
+        let ran = run(rt.alloc(), &Shelf::new(), words, Source::of(""))?;
+        assert_eq!(rt; ran.err.as_str(), "yaml: usage\n", "{words:?}");
+        assert_eq!(rt; ran.out.as_str(), "", "{words:?}");
+        assert_eq!(rt; ran.status, 3, "{words:?}");
+    }
+    Ok(())
+}
+
+const SAME: [Row; 9] = [
+    Row {
+        words: &["same", "a.yaml", "b.yaml"],
+        input: "",
+        status: 0,
+        out: "same\n",
+        err: "",
+    },
+    Row {
+        words: &["same", "a.yaml", "--", "-V"],
+        input: "",
+        status: 1,
+        out: "different\n",
+        err: "",
+    },
+    Row {
+        words: &["same", "bad.yaml", "open.yaml"],
+        input: "",
+        status: 2,
+        out: "",
+        err: "yaml: left: 2 NotUtf8 at byte 1\n",
+    },
+    Row {
+        words: &["same", "a.yaml", "open.yaml"],
+        input: "",
+        status: 2,
+        out: "",
+        err: "yaml: right: 4 Syntax at byte 6\n",
+    },
+    Row {
+        words: &["same", "long.yaml", "missing.yaml"],
+        input: "",
+        status: 2,
+        out: "",
+        err: "yaml: left: 1 TooLong\n",
+    },
+    Row {
+        words: &["same", "failing.yaml", "missing.yaml"],
+        input: "",
+        status: 3,
+        out: "",
+        err: "yaml: left: 22 ReadFault\n",
+    },
+    Row {
+        words: &["same", "bad.yaml", "failing.yaml"],
+        input: "",
+        status: 3,
+        out: "",
+        err: "yaml: right: 22 ReadFault\n",
+    },
+    Row {
+        words: &["same", "missing.yaml", "failing.yaml"],
+        input: "",
+        status: 3,
+        out: "",
+        err: "yaml: cannot open missing.yaml\n",
+    },
+    Row {
+        words: &["same", "bad.yaml", "missing.yaml"],
+        input: "",
+        status: 3,
+        out: "",
+        err: "yaml: cannot open missing.yaml\n",
+    },
+];
+
+#[test]
+fn same_reads_both_files_before_it_judges_either(rt: HostRuntime) -> Result<(), Fail> {
+    check(&rt, &Shelf::new(), &SAME)
+}
+
+#[test]
+fn an_input_past_the_limit_is_too_long(rt: HostRuntime) -> Result<(), Fail> {
+    for (zeros, err) in [
+        (16_777_216, "yaml: 3 NotPrintable at byte 0\n"),
+        (16_777_217, "yaml: 1 TooLong\n"),
+        (u64::MAX, "yaml: 1 TooLong\n"),
+    ] {
+        let ran = run(rt.alloc(), &Shelf::new(), &["canon"], Source::zeros(zeros))?;
+        assert_eq!(rt; ran.err.as_str(), err, "{zeros}");
+        assert_eq!(rt; ran.out.as_str(), "", "{zeros}");
+        assert_eq!(rt; ran.status, 2, "{zeros}");
+    }
+    Ok(())
+}
+
+/// Ten bytes at two a call, and the end: six reads.
+#[test]
+fn each_read_that_fails_is_told(rt: HostRuntime) -> Result<(), Fail> {
+    for bad in 1..7u32 {
+        let input = Source::of("--- [\"x\"]\n").by(2).failing_at(bad);
+        let ran = run(rt.alloc(), &Shelf::new(), &["canon"], input)?;
+        assert_eq!(rt; ran.err.as_str(), "yaml: 22 ReadFault\n", "read {bad}");
+        assert_eq!(rt; ran.out.as_str(), "", "read {bad}");
+        assert_eq!(rt; ran.status, 3, "read {bad}");
+    }
+    let input = Source::of("--- [\"x\"]\n").by(2).failing_at(7);
+    let ran = run(rt.alloc(), &Shelf::new(), &["canon"], input)?;
+    assert_eq!(rt; ran.out.as_str(), "--- [\"x\"]\n");
+    assert_eq!(rt; ran.status, 0);
+    Ok(())
+}
+
+/// What a run over a writer that fails leaves.
+fn run_narrow(
+    rt: &HostRuntime,
+    words: &[&str],
+    narrow: (u32, Broken),
+) -> Result<(u8, Vec<u8>, String), Fail> {
+    let alloc = rt.alloc();
+    let words = owned(alloc, words)?;
+    let mut held = Vec::new(alloc);
+    let mut err = Vec::new(alloc);
+    let (bad, how) = narrow;
+    let status = command(
+        &Shelf::new(),
+        alloc,
+        words.as_slice(),
+        Source::of("--- [\"x\"]\n"),
+        Narrow::new(&mut held, bad, how),
+        &mut err,
+    );
+    Ok((status, held, String::from_utf8(err)?))
+}
+
+/// Ten bytes at three a call, and the flush: five calls.
+#[test]
+fn each_write_that_fails_is_told_and_leaves_a_beginning(rt: HostRuntime) -> Result<(), Fail> {
+    for (bad, front) in [
+        (1, ""),
+        (2, "---"),
+        (3, "--- [\""),
+        (4, "--- [\"x\"]"),
+        (5, "--- [\"x\"]\n"),
+    ] {
+        let (status, held, err) = run_narrow(&rt, &["canon"], (bad, Broken::Fails))?;
+        assert_eq!(rt; held.as_slice(), front.as_bytes(), "call {bad}");
+        assert_eq!(rt; err.as_str(), "yaml: 23 WriteFault\n", "call {bad}");
+        assert_eq!(rt; status, 3, "call {bad}");
+    }
+    let (status, held, _) = run_narrow(&rt, &["canon"], (6, Broken::Fails))?;
+    assert_eq!(rt; held.as_slice(), b"--- [\"x\"]\n".as_slice());
+    assert_eq!(rt; status, 0);
+    Ok(())
+}
+
+#[test]
+fn a_write_that_takes_no_byte_is_told(rt: HostRuntime) -> Result<(), Fail> {
+    for (bad, front) in [(1, ""), (3, "--- [\"")] {
+        let (status, held, err) = run_narrow(&rt, &["canon"], (bad, Broken::TakesNothing))?;
+        assert_eq!(rt; held.as_slice(), front.as_bytes(), "call {bad}");
+        assert_eq!(rt; err.as_str(), "yaml: 23 WriteFault\n", "call {bad}");
+        assert_eq!(rt; status, 3, "call {bad}");
+    }
+    Ok(())
+}
+
+#[test]
+fn a_failing_write_of_same_names_no_side(rt: HostRuntime) -> Result<(), Fail> {
+    for bad in 1..4u32 {
+        let words = ["same", "a.yaml", "b.yaml"];
+        let (status, _, err) = run_narrow(&rt, &words, (bad, Broken::Fails))?;
+        assert_eq!(rt; err.as_str(), "yaml: 23 WriteFault\n", "call {bad}");
+        assert_eq!(rt; status, 3, "call {bad}");
+    }
+    Ok(())
+}
+
+#[test]
+fn a_status_stands_where_standard_error_fails(rt: HostRuntime) -> Result<(), Fail> {
+    let alloc = rt.alloc();
+    let mut held = Vec::new(alloc);
+    let mut out = Vec::new(alloc);
+    let status = command(
+        &Shelf::new(),
+        alloc,
+        &[],
+        Source::of(""),
+        &mut out,
+        Narrow::new(&mut held, 1, Broken::Fails),
+    );
+    assert_eq!(rt; status, 3);
+    Ok(())
+}
+
+#[test]
+fn files_are_opened_through_the_runtime(rt: HostRuntime) -> Result<(), Fail> {
+    let alloc = rt.alloc();
+    let words = owned(alloc, &["canon", "no/such/file"])?;
+    let mut out = Vec::new(alloc);
+    let mut err = Vec::new(alloc);
+    let status = command(
+        &rt,
+        alloc,
+        words.as_slice(),
+        Source::of(""),
+        &mut out,
+        &mut err,
+    );
+    assert_eq!(rt;
+        String::from_utf8(err)?.as_str(),
+        "yaml: cannot open no/such/file\n"
+    );
+    assert_eq!(rt; status, 3);
+    Ok(())
+}
