@@ -1,0 +1,246 @@
+-- The rest of a line without content, and a block scalar's header: from a place one at most.
+use Rattle.std.proofs.Common.{◌≡◌, ◌≢◌, ℕ, ◌+◌, ◌-◌, ◌<◌, ◌≤◌, ◌⊎◌, inl, inr, List, Option, Some, None, Bool, true, false, ◌||◌, refl, sym, ◌∙◌, ap, subst, arith}
+use Rattle.std.specs.Prelude.{slice_get, ◌==◌}
+use Rattle.std.specs.Int.{is_in_range}
+use Rattle.std.proofs.Math.Nat.{eq-or-lt_of_le}
+use Rattle.yaml_text.specs.grammar.Rules.{Span, run, Stands, maybe}
+use Rattle.yaml_text.specs.grammar.Characters.{is_space, is_nb, is_break}
+use Rattle.yaml_text.specs.grammar.Separation.{AtEnd, StartsLine, line_end, comment, sep, s_b_comment, l_comment}
+use Rattle.yaml_text.specs.grammar.BlockScalars.{Chomp, strip, clip, keep, Header, indentation_indicator, chomping_indicator, header}
+use Rattle.yaml_scalar.specs.BlockRules.{blank_rest}
+use Rattle.yaml_scalar.proofs.LineRuns.{SameEnd, same_char, no_stand, end_stops, run_none, run_same, run_first, line_end_same, line_end_stops, line_end_onward}
+
+pub nb_feed : is_nb 10 ≡ false
+unfolding is_nb is_break
+nb_feed = refl
+
+pub nb_return : is_nb 13 ≡ false
+unfolding is_nb is_break
+nb_return = refl
+
+pub space_feed : is_space 10 ≡ false
+unfolding is_space
+space_feed = refl
+
+pub space_return : is_space 13 ≡ false
+unfolding is_space
+space_return = refl
+
+pub space_hash : is_space 35 ≡ false
+unfolding is_space
+space_hash = refl
+
+pub is_the_space : (c : ℕ) → is_space c ≡ true → c ≡ 32
+unfolding is_space
+is_the_space c t = grind (arith, t)
+
+module _ (cs : List ℕ) where
+  -- ---- the rest of a line
+
+  comment_same : (m j k e f : ℕ) → maybe (comment cs) m j → line_end cs j e → maybe (comment cs) m k → line_end cs k f → j ≡ k
+  unfolding comment
+  comment_same m j k e f (inl a) r (inl b) s = a ∙ sym b
+  comment_same m j k e f (inl a) r (inr (q, (h, g), t)) s =
+      absurd (line_end_stops cs (λ c. c == 35) refl refl j e r (subst (Stands cs (λ c. c == 35)) (sym a) (35, h, refl)))
+  comment_same m j k e f (inr (q, (h, g), t)) r (inl b) s =
+      absurd (line_end_stops cs (λ c. c == 35) refl refl k f s (subst (Stands cs (λ c. c == 35)) (sym b) (35, h, refl)))
+  comment_same m j k e f (inr (q, (h, g), t)) r (inr (p, (u, v), w)) s =
+      run_same cs is_nb q j k t (subst (λ x. run cs is_nb x k) (v ∙ sym g) w)
+      (line_end_stops cs is_nb nb_feed nb_return j e r) (line_end_stops cs is_nb nb_feed nb_return k f s)
+
+  -- what no space is and no `#` stands not where the rest of a line goes on
+  pub comment_stops : (p : ℕ → Bool) → p 35 ≡ false → p 10 ≡ false → p 13 ≡ false → (m k e : ℕ) → maybe (comment cs) m k → line_end cs k e → Stands cs p m → ⊥
+  unfolding comment
+  comment_stops p x y z m k e (inl a) r s = line_end_stops cs p y z k e r (subst (Stands cs p) (sym a) s)
+  comment_stops p x y z m k e (inr (q, (h, g), t)) r s = no_stand cs p m 35 h x s
+
+  pub blank_rest_same : SameEnd (blank_rest cs)
+  unfolding blank_rest
+  blank_rest_same i j k (m, r, (a, c, e)) (n, s, (b, d, f)) =
+      let at : m ≡ n = run_same cs is_space i m n r s
+          (comment_stops is_space space_hash space_feed space_return m a j c e) (comment_stops is_space space_hash space_feed space_return n b k d f) in
+      let to : a ≡ b = comment_same n a b j k (subst (λ x. maybe (comment cs) x a) at c) e d f in
+      line_end_same cs b j k (subst (λ x. line_end cs x j) to e) f
+
+  pub blank_rest_stops : (p : ℕ → Bool) → p 32 ≡ false → p 35 ≡ false → p 10 ≡ false → p 13 ≡ false → (i j : ℕ) → blank_rest cs i j → Stands cs p i → ⊥
+  unfolding blank_rest
+  blank_rest_stops p w x y z i j (m, r, (a, c, e)) s = go (run_first cs is_space i m r)
+    where
+      go : (i ≡ m) ⊎ Stands cs is_space i → ⊥
+      go (inl h) = comment_stops p x y z m a j c e (subst (Stands cs p) h s)
+      go (inr (d, g, t)) = no_stand cs p i d g (ap p (is_the_space d t) ∙ w) s
+
+  comment_onward : (m k : ℕ) → maybe (comment cs) m k → m ≤ k
+  unfolding comment
+  comment_onward m k (inl e) = omega (arith, e)
+  comment_onward m k (inr (q, (h, g), t)) = let a : q ≤ k = t.0 in omega (arith, a, g)
+
+  pub blank_rest_onward : (i j : ℕ) → blank_rest cs i j → i ≤ j
+  unfolding blank_rest
+  blank_rest_onward i j (m, r, (a, c, e)) =
+      let x : i ≤ m = r.0 in
+      let y : m ≤ a = comment_onward m a c in
+      let z : a ≤ j = line_end_onward cs a j e in
+      omega (arith, x, y, z)
+
+  -- after `sep`
+  from_sep : (i k m j : ℕ) → sep cs i k → maybe (comment cs) k m → line_end cs m j → blank_rest cs i j
+  unfolding sep blank_rest
+  from_sep i k m j (inl (r, l)) c e = (k, r, (m, c, e))
+  from_sep i k m j (inr (a, s)) c e = (k, subst (run cs is_space i) (sym a) (run_none cs is_space i), (m, c, e))
+
+  pub from_s_b : (i j : ℕ) → s_b_comment cs i j → blank_rest cs i j
+  unfolding s_b_comment blank_rest
+  from_s_b i j (k, inl a, e) = (i, run_none cs is_space i, (k, inl a, e))
+  from_s_b i j (k, inr (m, s, c), e) = from_sep i m k j s c e
+
+  pub from_l : (i j : ℕ) → l_comment cs i j → blank_rest cs i j
+  unfolding l_comment
+  from_l i j (l, (k, s, (m, c, e))) = from_sep i k m j s c e
+
+  -- back, where no comment stands right here
+  pub to_s_b : (i j : ℕ) → blank_rest cs i j → slice_get cs i ≢ Some 35 → s_b_comment cs i j
+  unfolding s_b_comment blank_rest sep comment
+  to_s_b i j (m, r, (a, c, e)) none = go (eq-or-lt_of_le r.0) c
+    where
+      go : (i ≡ m) ⊎ (i < m) → maybe (comment cs) m a → s_b_comment cs i j
+      go (inl h) (inl f) = (a, inl (f ∙ sym h), e)
+      go (inl h) (inr (q, (g, u), t)) = absurd (none (ap (slice_get cs) h ∙ g))
+      go (inr l) d = (a, inr (m, inl (r, l), d), e)
+
+  -- and at the start of a line
+  pub to_l : (i j : ℕ) → blank_rest cs i j → StartsLine cs i → i < j → l_comment cs i j
+  unfolding l_comment blank_rest sep
+  to_l i j (m, r, (a, c, e)) s l = (l, go (eq-or-lt_of_le r.0))
+    where
+      go : (i ≡ m) ⊎ (i < m) → (k : ℕ) × sep cs i k × ((n : ℕ) × maybe (comment cs) k n × line_end cs n j)
+      go (inl h) = (m, inr (sym h, s), (a, c, e))
+      go (inr n) = (m, inl (r, n), (a, c, e))
+
+  pub l_comment_same : SameEnd (l_comment cs)
+  l_comment_same i j k r s = blank_rest_same i j k (from_l i j r) (from_l i k s)
+
+  -- ---- the indicators
+
+  abbrev pub Digit : ℕ → Type 0
+  Digit = Stands cs (is_in_range 49 57)
+
+  abbrev pub Sign : ℕ → Type 0
+  Sign = Stands cs (λ c. c == 45 || c == 43)
+
+  data Digits (i j : ℕ) (d : Option ℕ) : Type 0 where
+    bare : j ≡ i → d ≡ None → Digits i j d
+    digit : (c : ℕ) → slice_get cs i ≡ Some c → is_in_range 49 57 c ≡ true → j ≡ i + 1 → d ≡ Some (c - 48) → Digits i j d
+
+  digits_of : (i j : ℕ) (d : Option ℕ) → indentation_indicator cs i j d → Digits i j d
+  unfolding indentation_indicator
+  digits_of i j d (inl (e, f)) = bare e f
+  digits_of i j d (inr (c, (h, t, e), f)) = digit c h t e f
+
+  data Signs (i j : ℕ) (s : Chomp) : Type 0 where
+    bare : j ≡ i → s ≡ clip → Signs i j s
+    minus : slice_get cs i ≡ Some 45 → j ≡ i + 1 → s ≡ strip → Signs i j s
+    plus : slice_get cs i ≡ Some 43 → j ≡ i + 1 → s ≡ keep → Signs i j s
+
+  signs_of : (i j : ℕ) (s : Chomp) → chomping_indicator cs i j s → Signs i j s
+  unfolding chomping_indicator
+  signs_of i j s (inl (e, f)) = Signs.bare e f
+  signs_of i j s (inr (inl (k, (h, e), (f, g)))) = minus h (f ∙ e) g
+  signs_of i j s (inr (inr (k, (h, e), (f, g)))) = plus h (f ∙ e) g
+
+  digits_same : (i j k : ℕ) (d e : Option ℕ) → Digits i j d → (Digit j → ⊥) → Digits i k e → (Digit k → ⊥) → (j ≡ k) × (d ≡ e)
+  digits_same i j k d e (bare a b) n (bare x y) m = (a ∙ sym x, b ∙ sym y)
+  digits_same i j k d e (bare a b) n (digit c h t x y) m = absurd (n (subst Digit (sym a) (c, h, t)))
+  digits_same i j k d e (digit c h t a b) n (bare x y) m = absurd (m (subst Digit (sym x) (c, h, t)))
+  digits_same i j k d e (digit c h t a b) n (digit f g u x y) m = (a ∙ sym x, b ∙ ap (λ v. Some (v - 48)) (same_char cs i c f h g) ∙ sym y)
+
+  sign_45 : (i : ℕ) → slice_get cs i ≡ Some 45 → Sign i
+  sign_45 i h = (45, h, refl)
+
+  sign_43 : (i : ℕ) → slice_get cs i ≡ Some 43 → Sign i
+  sign_43 i h = (43, h, refl)
+
+  minus_or_plus : (i : ℕ) → slice_get cs i ≡ Some 45 → slice_get cs i ≡ Some 43 → ⊥
+  minus_or_plus i h g = let e : 45 ≡ 43 = same_char cs i 45 43 h g in omega (arith, e)
+
+  signs_same : (i j k : ℕ) (s t : Chomp) → Signs i j s → (Sign j → ⊥) → Signs i k t → (Sign k → ⊥) → (j ≡ k) × (s ≡ t)
+  signs_same i j k s t (Signs.bare a b) n (Signs.bare x y) m = (a ∙ sym x, b ∙ sym y)
+  signs_same i j k s t (Signs.bare a b) n (minus h x y) m = absurd (n (subst Sign (sym a) (sign_45 i h)))
+  signs_same i j k s t (Signs.bare a b) n (plus h x y) m = absurd (n (subst Sign (sym a) (sign_43 i h)))
+  signs_same i j k s t (minus h a b) n (Signs.bare x y) m = absurd (m (subst Sign (sym x) (sign_45 i h)))
+  signs_same i j k s t (minus h a b) n (minus g x y) m = (a ∙ sym x, b ∙ sym y)
+  signs_same i j k s t (minus h a b) n (plus g x y) m = absurd (minus_or_plus i h g)
+  signs_same i j k s t (plus h a b) n (Signs.bare x y) m = absurd (m (subst Sign (sym x) (sign_43 i h)))
+  signs_same i j k s t (plus h a b) n (minus g x y) m = absurd (minus_or_plus i g h)
+  signs_same i j k s t (plus h a b) n (plus g x y) m = (a ∙ sym x, b ∙ sym y)
+
+  no_both : (i : ℕ) → Digit i → Sign i → ⊥
+  no_both i (c, h, t) (d, g, u) = let e : c ≡ d = same_char cs i c d h g in grind (arith, t, u, e)
+
+  -- what stands at the second indicator's place
+  digits_no_sign : (i j : ℕ) (d : Option ℕ) → Digits i j d → (Sign j → ⊥) → Sign i → ⊥
+  digits_no_sign i j d (bare a b) n s = n (subst Sign (sym a) s)
+  digits_no_sign i j d (digit c h t a b) n s = no_both i (c, h, t) s
+
+  signs_no_digit : (i j : ℕ) (s : Chomp) → Signs i j s → (Digit j → ⊥) → Digit i → ⊥
+  signs_no_digit i j s (Signs.bare a b) n d = n (subst Digit (sym a) d)
+  signs_no_digit i j s (minus h a b) n d = no_both i d (sign_45 i h)
+  signs_no_digit i j s (plus h a b) n d = no_both i d (sign_43 i h)
+
+  -- the two in either order
+  data Both (i j : ℕ) (h : Header) : Type 0 where
+    digit_first : (k : ℕ) (d : Option ℕ) (s : Chomp) → Digits i k d → Signs k j s → h ≡ record { digit = d; chomp = s } → Both i j h
+    sign_first : (k : ℕ) (d : Option ℕ) (s : Chomp) → Signs i k s → Digits k j d → h ≡ record { digit = d; chomp = s } → Both i j h
+
+  both_of : (i j : ℕ) (h : Header) → header cs i j h → (k : ℕ) × Both i k h × s_b_comment cs k j
+  unfolding header
+  both_of i j h (k, inl (m, d, a, (s, b, e)), t) = (k, digit_first m d s (digits_of i m d a) (signs_of m k s b) e, t)
+  both_of i j h (k, inr (m, s, b, (d, a, e)), t) = (k, sign_first m d s (signs_of i m s b) (digits_of m k d a) e, t)
+
+  abbrev Plain : ℕ → Type 0
+  Plain i = (Digit i → ⊥) × (Sign i → ⊥)
+
+  same_header : (d e : Option ℕ) (s t : Chomp) → d ≡ e → s ≡ t → {h g : Header} → h ≡ record { digit = d; chomp = s } → g ≡ record { digit = e; chomp = t } → h ≡ g
+  same_header d e s t p q {h} {g} a b =
+      a ∙ ap (λ x. let r : Header = record { digit = x; chomp = s } in r) p ∙ ap (λ x. let r : Header = record { digit = e; chomp = x } in r) q ∙ sym b
+
+  crossed : (i j k m n : ℕ) (d e : Option ℕ) (s t : Chomp) → Digits i m d → Signs m j s → Plain j → Signs i n t → Digits n k e → Plain k → (j ≡ k) × (d ≡ e) × (s ≡ t)
+  crossed i j k m n d e s t (bare a b) q x r u y =
+      let one = signs_same i j n s t (subst (λ v. Signs v j s) a q) x.1 r (digits_no_sign n k e u y.1) in
+      let two = digits_same j j k None e (bare refl refl) x.0 (subst (λ v. Digits v k e) (sym one.0) u) y.0 in
+      (two.0, b ∙ two.1, one.1)
+  crossed i j k m n d e s t (digit c h o a b) q x (Signs.bare f g) u y =
+      let one = digits_same i m k d e (digit c h o a b) (signs_no_digit m j s q x.0) (subst (λ v. Digits v k e) f u) y.0 in
+      let two = signs_same k j k s clip (subst (λ v. Signs v j s) one.0 q) x.1 (Signs.bare refl refl) y.1 in
+      (two.0, one.1, two.1 ∙ sym g)
+  crossed i j k m n d e s t (digit c h o a b) q x (minus f g p) u y = absurd (no_both i (c, h, o) (sign_45 i f))
+  crossed i j k m n d e s t (digit c h o a b) q x (plus f g p) u y = absurd (no_both i (c, h, o) (sign_43 i f))
+
+  both_same : (i j k : ℕ) (h g : Header) → Both i j h → Plain j → Both i k g → Plain k → (j ≡ k) × (h ≡ g)
+  both_same i j k h g (digit_first m d s p q a) x (digit_first n e t r u b) y =
+      let one = digits_same i m n d e p (signs_no_digit m j s q x.0) r (signs_no_digit n k t u y.0) in
+      let two = signs_same n j k s t (subst (λ v. Signs v j s) one.0 q) x.1 u y.1 in
+      (two.0, same_header d e s t one.1 two.1 a b)
+  both_same i j k h g (sign_first m d s p q a) x (sign_first n e t r u b) y =
+      let one = signs_same i m n s t p (digits_no_sign m j d q x.1) r (digits_no_sign n k e u y.1) in
+      let two = digits_same n j k d e (subst (λ v. Digits v j d) one.0 q) x.0 u y.0 in
+      (two.0, same_header d e s t two.1 one.1 a b)
+  both_same i j k h g (digit_first m d s p q a) x (sign_first n e t r u b) y =
+      let all = crossed i j k m n d e s t p q x r u y in
+      (all.0, same_header d e s t all.1 all.2 a b)
+  both_same i j k h g (sign_first m d s p q a) x (digit_first n e t r u b) y =
+      let all = crossed i k j n m e d t s r u y p q x in
+      (sym all.0, same_header d e s t (sym all.1) (sym all.2) a b)
+
+  tail_plain : (i j : ℕ) → s_b_comment cs i j → Plain i
+  tail_plain i j t =
+      (blank_rest_stops (is_in_range 49 57) refl refl refl refl i j (from_s_b i j t), blank_rest_stops (λ c. c == 45 || c == 43) refl refl refl refl i j (from_s_b i j t))
+
+  -- one header at most
+  pub header_same : (i j k : ℕ) (h g : Header) → header cs i j h → header cs i k g → (j ≡ k) × (h ≡ g)
+  header_same i j k h g p q = go (both_of i j h p) (both_of i k g q)
+    where
+      go : (m : ℕ) × Both i m h × s_b_comment cs m j → (n : ℕ) × Both i n g × s_b_comment cs n k → (j ≡ k) × (h ≡ g)
+      go (m, a, t) (n, b, u) =
+          let one = both_same i m n h g a (tail_plain m j t) b (tail_plain n k u) in
+          (blank_rest_same n j k (subst (λ x. blank_rest cs x j) one.0 (from_s_b m j t)) (from_s_b n k u), one.1)

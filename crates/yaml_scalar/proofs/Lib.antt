@@ -1,0 +1,4 @@
+pub mod LineRuns
+pub mod HeaderLemmas
+pub mod BlockChains
+pub mod IndentationLemmas

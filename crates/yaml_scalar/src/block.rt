@@ -1,0 +1,4 @@
+//! Block scalars.
+ghost use Rattle.std.specs.Prelude.{◌≡◌};
+
+pub fn nothing() {}
