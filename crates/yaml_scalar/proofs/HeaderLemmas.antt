@@ -7,7 +7,7 @@ use Rattle.yaml_text.specs.grammar.Rules.{Span, run, Stands, maybe}
 use Rattle.yaml_text.specs.grammar.Characters.{is_space, is_nb, is_break}
 use Rattle.yaml_text.specs.grammar.Separation.{AtEnd, StartsLine, line_end, comment, sep, s_b_comment, l_comment}
 use Rattle.yaml_text.specs.grammar.BlockScalars.{Chomp, strip, clip, keep, Header, indentation_indicator, chomping_indicator, header}
-use Rattle.yaml_scalar.specs.BlockRules.{blank_rest}
+use Rattle.yaml_scalar.specs.BlockRules.{blank_rest, is_sign}
 use Rattle.yaml_scalar.proofs.LineRuns.{SameEnd, same_char, no_stand, end_stops, run_none, run_same, run_first, line_end_same, line_end_stops, line_end_onward}
 
 pub nb_feed : is_nb 10 ≡ false
@@ -126,7 +126,7 @@ module _ (cs : List ℕ) where
   Digit = Stands cs (is_in_range 49 57)
 
   abbrev pub Sign : ℕ → Type 0
-  Sign = Stands cs (λ c. c == 45 || c == 43)
+  Sign = Stands cs is_sign
 
   data Digits (i j : ℕ) (d : Option ℕ) : Type 0 where
     bare : j ≡ i → d ≡ None → Digits i j d
@@ -234,7 +234,7 @@ module _ (cs : List ℕ) where
 
   tail_plain : (i j : ℕ) → s_b_comment cs i j → Plain i
   tail_plain i j t =
-      (blank_rest_stops (is_in_range 49 57) refl refl refl refl i j (from_s_b i j t), blank_rest_stops (λ c. c == 45 || c == 43) refl refl refl refl i j (from_s_b i j t))
+      (blank_rest_stops (is_in_range 49 57) refl refl refl refl i j (from_s_b i j t), blank_rest_stops is_sign refl refl refl refl i j (from_s_b i j t))
 
   -- one header at most
   pub header_same : (i j k : ℕ) (h g : Header) → header cs i j h → header cs i k g → (j ≡ k) × (h ≡ g)

@@ -1,3 +1,7 @@
+pub mod AnyLemmas
+pub mod Runs
+pub mod OutcomeLemmas
+pub mod GapLemmas
 pub mod LineRuns
 pub mod HeaderLemmas
 pub mod BlockChains

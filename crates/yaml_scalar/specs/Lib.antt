@@ -1,1 +1,4 @@
+pub mod Chains
+pub mod Outcome
 pub mod BlockRules
+pub mod BlockModel

@@ -1,4 +1,7 @@
-//! The five styles of scalars, read by places.
+//! Scalars, read from a text and spelled.
 #![tactic(auto)]
 
 pub mod block;
+pub mod class;
+pub mod line;
+pub mod text;

@@ -1,0 +1,83 @@
+-- What the values of a block scalar's reader stand for.
+use Rattle.std.specs.Prelude.{◌≡◌, ℕ, zero, suc, ◌+◌, ◌≤◌, ◌<◌, min, ℤ, pos, negsuc, List, [], ◌∷◌, Bool, true, false, Option, replicate, slice_range}
+use Rattle.yaml_text.specs.Source.{text_of, place_of, IsBorder}
+use Rattle.yaml_text.specs.declared.chars.Chars.{Chars}
+use Rattle.yaml_text.specs.grammar.Rules.{Rule}
+use Rattle.yaml_text.specs.grammar.Separation.{AtEnd}
+use Rattle.yaml_text.specs.grammar.FlowScalars.{line_feeds}
+use Rattle.yaml_text.specs.grammar.BlockScalars as grammar
+use Rattle.yaml_scalar.specs.Chains.{fold_text}
+use Rattle.yaml_scalar.specs.BlockRules.{AfterLine, lines_over}
+use Rattle.yaml_scalar.specs.declared.block.header.Chomp.{Chomp}
+use Rattle.yaml_scalar.specs.declared.block.header.Chomp.TheVariants.{Strip, Clip, Keep}
+use Rattle.yaml_scalar.specs.declared.block.header.Header.{Header}
+use Rattle.yaml_scalar.specs.declared.block.lines.Line.{Line}
+use Rattle.yaml_scalar.specs.declared.block.lines.Line.TheVariants.{Empty, Text, Over}
+use Rattle.yaml_scalar.specs.declared.block.content.Before.{Before}
+use Rattle.yaml_scalar.specs.declared.block.content.Before.TheVariants.{Nothing, Spaced, Plain}
+
+-- the column after a parent's indentation; below a root it is 0
+abbrev pub column : ℤ → ℕ
+column (pos n) = n + 1
+column (negsuc n) = 0
+
+-- a block scalar of either style
+abbrev pub styled : List ℕ → Bool → ℕ → Rule (List ℕ)
+styled cs false = grammar.literal cs
+styled cs true = grammar.folded cs
+
+abbrev pub chomp_of : Chomp → grammar.Chomp
+chomp_of Strip = grammar.strip
+chomp_of Clip = grammar.clip
+chomp_of Keep = grammar.keep
+
+abbrev pub header_of : Header → grammar.Header
+header_of h = record { digit = h.digit; chomp = chomp_of h.chomp }
+
+-- ---- lines
+
+pub record EmptyLine (source : Chars) (k at next : ℕ) : Type 0 where
+  pub border : IsBorder source next
+  pub forward : at < next
+  pub after : AfterLine (text_of source) (place_of source next)
+  pub line : grammar.blank_line (text_of source) k (place_of source at) (place_of source next) (grammar.blank ∷ [])
+
+pub record TextLine (source : Chars) (k at from to next : ℕ) : Type 0 where
+  pub begin : IsBorder source from
+  pub stop : IsBorder source to
+  pub border : IsBorder source next
+  pub forward : at < next
+  pub onward : from ≤ to
+  pub after : AfterLine (text_of source) (place_of source next)
+  pub some : place_of source from < place_of source to
+  pub ended : Bool
+  pub line : grammar.text_line (text_of source) true k (place_of source at) (place_of source next)
+      (grammar.text ended (slice_range (text_of source) (place_of source from) (place_of source to)) ∷ [])
+  pub broken : ended ≡ true → to < next
+  pub last : ended ≡ false → (next ≤ to) × AtEnd (text_of source) (place_of source next)
+
+pub record NoLine (source : Chars) (k at end : ℕ) : Type 0 where
+  pub border : IsBorder source end
+  pub onward : at ≤ end
+  pub over : lines_over (text_of source) k (place_of source at) (place_of source end)
+
+abbrev pub LineIs : Chars → ℕ → ℕ → Line → Type 0
+LineIs source k at (Empty next) = EmptyLine source k at next
+LineIs source k at (Text from to next) = TextLine source k at from to next
+LineIs source k at (Over end) = NoLine source k at end
+
+-- ---- breaks
+
+-- so many breaks before a line; between folded lines the first is a space or nothing
+abbrev pub glue : Bool → ℕ → List ℕ
+glue false breaks = line_feeds breaks
+glue true zero = []
+glue true (suc breaks) = fold_text (line_feeds breaks)
+
+-- how many of the last breaks stay
+abbrev pub last_breaks : Chomp → Before → ℕ → ℕ
+last_breaks Strip before breaks = 0
+last_breaks Clip Nothing breaks = 0
+last_breaks Clip Spaced breaks = min breaks 1
+last_breaks Clip Plain breaks = min breaks 1
+last_breaks Keep before breaks = breaks
