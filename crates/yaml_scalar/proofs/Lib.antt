@@ -1,0 +1,4 @@
+pub mod AnyLemmas
+pub mod Runs
+pub mod OutcomeLemmas
+pub mod GapLemmas

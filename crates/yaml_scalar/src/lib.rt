@@ -1,0 +1,6 @@
+//! Scalars, read from a text and spelled.
+#![tactic(auto)]
+
+pub mod class;
+pub mod line;
+pub mod text;
