@@ -2,7 +2,7 @@
 use Rattle.std.proofs.Common.{◌≡◌, ℕ, ◌≤◌, ◌<◌, ◌⊎◌, inl, inr, List, [], ◌++◌, refl, sym, ◌∙◌, ap, subst, arith, append_assoc}
 use Rattle.std.proofs.lemmas.List.{append-nil}
 use Rattle.yaml_text.specs.grammar.Rules.{Span, Rule, Any, done, then, any, Spans, any_span}
-use Rattle.yaml_scalar.proofs.LineRuns.{SameEnd}
+use Rattle.yaml_scalar.proofs.AnyLemmas.{SameEnd}
 
 -- from a place the rule has one reading at most
 abbrev pub SameRule : {V : Type 0} → Rule V → Type 0

@@ -3,12 +3,14 @@ use Rattle.std.proofs.Common.{◌≡◌, ◌≢◌, ℕ, ◌+◌, ◌-◌, ◌<�
 use Rattle.std.specs.Prelude.{slice_get, ◌==◌}
 use Rattle.std.specs.Int.{is_in_range}
 use Rattle.std.proofs.Math.Nat.{eq-or-lt_of_le}
-use Rattle.yaml_text.specs.grammar.Rules.{Span, run, Stands, maybe}
+use Rattle.yaml_text.specs.grammar.Rules.{Span, ◌◆◌, run, Stands, maybe}
 use Rattle.yaml_text.specs.grammar.Characters.{is_space, is_nb, is_break}
 use Rattle.yaml_text.specs.grammar.Separation.{AtEnd, StartsLine, line_end, comment, sep, s_b_comment, l_comment}
 use Rattle.yaml_text.specs.grammar.BlockScalars.{Chomp, strip, clip, keep, Header, indentation_indicator, chomping_indicator, header}
-use Rattle.yaml_scalar.specs.BlockRules.{blank_rest, is_sign}
-use Rattle.yaml_scalar.proofs.LineRuns.{SameEnd, same_char, no_stand, end_stops, run_none, run_same, run_first, line_end_same, line_end_stops, line_end_onward}
+use Rattle.yaml_scalar.specs.BlockRules.{AfterLine, blank_rest, is_sign}
+use Rattle.yaml_scalar.proofs.AnyLemmas.{SameEnd}
+use Rattle.yaml_scalar.proofs.Runs.{same_char, no_stand, run_none, run_same}
+use Rattle.yaml_scalar.proofs.LineRuns.{line_end_after, end_line_end, end_stops, run_first, line_end_same, line_end_stops, line_end_onward}
 
 pub nb_feed : is_nb 10 ≡ false
 unfolding is_nb is_break
@@ -37,7 +39,7 @@ is_the_space c t = grind (arith, t)
 module _ (cs : List ℕ) where
   -- ---- the rest of a line
 
-  comment_same : (m j k e f : ℕ) → maybe (comment cs) m j → line_end cs j e → maybe (comment cs) m k → line_end cs k f → j ≡ k
+  pub comment_same : (m j k e f : ℕ) → maybe (comment cs) m j → line_end cs j e → maybe (comment cs) m k → line_end cs k f → j ≡ k
   unfolding comment
   comment_same m j k e f (inl a) r (inl b) s = a ∙ sym b
   comment_same m j k e f (inl a) r (inr (q, (h, g), t)) s =
@@ -117,8 +119,58 @@ module _ (cs : List ℕ) where
       go (inl h) = (m, inr (sym h, s), (a, c, e))
       go (inr n) = (m, inl (r, n), (a, c, e))
 
+  pub l_comment_onward : (i j : ℕ) → l_comment cs i j → i < j
+  unfolding l_comment
+  l_comment_onward i j (l, r) = l
+
   pub l_comment_same : SameEnd (l_comment cs)
   l_comment_same i j k r s = blank_rest_same i j k (from_l i j r) (from_l i k s)
+
+  -- what the code reads
+  pub comment_is : (i k m j : ℕ) → slice_get cs i ≡ Some 35 → k ≡ i + 1 → run cs is_nb k m → line_end cs m j → (comment cs ◆ line_end cs) i j
+  unfolding comment
+  comment_is i k m j h e r l = (m, (k, (h, e), r), l)
+
+  pub blank_comment : (i m j : ℕ) → run cs is_space i m → (comment cs ◆ line_end cs) m j → blank_rest cs i j
+  unfolding blank_rest
+  blank_comment i m j r (k, c, e) = (m, r, (k, inr c, e))
+
+  pub blank_end : (i m j : ℕ) → run cs is_space i m → line_end cs m j → blank_rest cs i j
+  unfolding blank_rest
+  blank_end i m j r e = (m, r, (m, inl refl, e))
+
+  pub no_blank : (i m : ℕ) → run cs is_space i m → (Stands cs is_space m → ⊥) → slice_get cs m ≢ Some 35 → Stands cs is_nb m → (j : ℕ) → blank_rest cs i j → ⊥
+  unfolding blank_rest comment
+  no_blank i m r stop hash nb j (n, s, (a, c, e)) = go a c e
+    where
+      go : (a : ℕ) → maybe (comment cs) n a → line_end cs a j → ⊥
+      go a c e =
+          let at : n ≡ m = run_same cs is_space i n m s r (comment_stops is_space space_hash space_feed space_return n a j c e) stop in
+          pick at c e
+        where
+          pick : n ≡ m → maybe (comment cs) n a → line_end cs a j → ⊥
+          pick at (inl f) e = line_end_stops cs is_nb nb_feed nb_return a j e (subst (Stands cs is_nb) (sym at ∙ sym f) nb)
+          pick at (inr (q, (h, g), t)) e = hash (ap (slice_get cs) (sym at) ∙ h)
+
+  pub blank_after : (i j : ℕ) → blank_rest cs i j → AfterLine cs j
+  unfolding blank_rest
+  blank_after i j (m, r, (k, c, e)) = line_end_after cs k j e
+
+  -- a comment line, where the line is one without content
+  pub comment_line_is : (i j : ℕ) → AfterLine cs i → blank_rest cs i j → i < j → l_comment cs i j
+  comment_line_is i j (inl s) r l = to_l i j r s l
+  comment_line_is i j (inr e) r l =
+      let at : j ≡ i = blank_rest_same i j i r (blank_end i i i (run_none cs is_space i) (end_line_end cs i e)) in
+      absurd (omega (arith, at, l))
+
+  pub no_comment_line : (i : ℕ) → ((j : ℕ) → blank_rest cs i j → ⊥) → (j : ℕ) → l_comment cs i j → ⊥
+  no_comment_line i none j r = none j (from_l i j r)
+
+  pub no_comment_here : (i k : ℕ) → blank_rest cs i k → k ≡ i → (j : ℕ) → l_comment cs i j → ⊥
+  no_comment_here i k r e j c =
+      let at : j ≡ k = blank_rest_same i j k (from_l i j c) r in
+      let on : i < j = l_comment_onward i j c in
+      omega (arith, at, e, on)
 
   -- ---- the indicators
 

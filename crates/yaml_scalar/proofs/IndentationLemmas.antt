@@ -6,7 +6,9 @@ use Rattle.yaml_text.specs.grammar.Rules.{Span, Rule, ◌◆◌, ◌▸◌, ◌�
 use Rattle.yaml_text.specs.grammar.Characters.{is_space, is_nb, is_break, brk}
 use Rattle.yaml_text.specs.grammar.Separation.{AtEnd, StartsLine, Mark, MarkOf, less}
 use Rattle.yaml_text.specs.grammar.BlockScalars.{space_lines, last_space_lines, NoSpace, nonempty, LessIndented, greatest, found_indentation, longest_indentation, indentation}
-use Rattle.yaml_scalar.proofs.LineRuns.{SameEnd, same_char, no_stand, end_stops, run_none, run_same, run_first, brk_same, brk_stops, brk_no_end}
+use Rattle.yaml_scalar.proofs.AnyLemmas.{SameEnd}
+use Rattle.yaml_scalar.proofs.Runs.{same_char, no_stand, run_none, run_same}
+use Rattle.yaml_scalar.proofs.LineRuns.{end_stops, run_first, brk_same, brk_stops, brk_no_end}
 use Rattle.yaml_scalar.proofs.HeaderLemmas.{nb_feed, nb_return, space_feed, space_return, is_the_space}
 use Rattle.yaml_scalar.proofs.BlockChains.{SameRule, any_to_stop, any_push}
 

@@ -7,3 +7,4 @@ pub mod HeaderLemmas
 pub mod BlockChains
 pub mod IndentationLemmas
 pub mod LineLemmas
+pub mod TrailingLemmas

@@ -1,42 +1,43 @@
 -- Runs of characters on a line, breaks and the ends of lines: from a place one at most.
-use Rattle.std.proofs.Common.{◌≡◌, ◌≢◌, ℕ, ◌+◌, ◌-◌, ◌<◌, ◌≤◌, ◌⊎◌, inl, inr, List, length, Option, Some, None, Bool, true, false, not, refl, sym, ◌∙◌, ap, subst, arith}
+use Rattle.std.proofs.Common.{◌≡◌, ◌≢◌, ℕ, ◌+◌, ◌-◌, ◌<◌, ◌≤◌, ◌⊎◌, inl, inr, List, Some, Bool, true, false, refl, sym, ◌∙◌, ap, subst, arith}
 use Rattle.std.specs.Prelude.{slice_get, ◌==◌}
 use Rattle.std.proofs.lemmas.Option.{slice_get_past}
 use Rattle.std.proofs.Math.Nat.{eq-or-lt_of_le}
-use Rattle.yaml_text.specs.grammar.Rules.{Span, ◌◆◌, ◌⊔◌, chr, run, some_run, Stands, Behind, ahead, maybe}
+use Rattle.yaml_text.specs.grammar.Rules.{run, some_run, Stands, Behind}
 use Rattle.yaml_text.specs.grammar.Characters.{is_space, is_nb, is_break, brk}
-use Rattle.yaml_text.specs.grammar.Separation.{AtEnd, StartsLine, line_end, comment}
+use Rattle.yaml_text.specs.grammar.Separation.{AtEnd, StartsLine, line_end, indent}
+use Rattle.yaml_scalar.specs.Chains.{line_brk}
+use Rattle.yaml_scalar.specs.BlockRules.{AfterLine, Inside, Uncut}
+use Rattle.yaml_scalar.proofs.AnyLemmas.{SameEnd}
+use Rattle.yaml_scalar.proofs.Runs.{same_char, no_stand, no_stand_end, run_more}
+use Rattle.yaml_scalar.proofs.GapLemmas as gap
 
-abbrev pub SameEnd : Span → Type 0
-SameEnd S = (i j k : ℕ) → S i j → S i k → j ≡ k
+same_code : (c : ℕ) → (c == c) ≡ true
+same_code c = grind arith
+
+code_of : (c d : ℕ) → (c == d) ≡ true → c ≡ d
+code_of c d t = grind (arith, t)
+
+break_is_feed : is_break 10 ≡ true
+unfolding is_break
+break_is_feed = refl
+
+the_space : (c : ℕ) → is_space c ≡ true → c ≡ 32
+unfolding is_space
+the_space c t = grind (arith, t)
+
+no_break_nb : (c : ℕ) → c ≢ 10 → c ≢ 13 → is_nb c ≡ true
+unfolding is_nb is_break
+no_break_nb c a b = grind (arith, a, b)
+
+nb_no_code : (c d : ℕ) → is_nb c ≡ true → (d ≡ 10) ⊎ (d ≡ 13) → c ≡ d → ⊥
+unfolding is_nb is_break
+nb_no_code c d t (inl e) f = grind (arith, t, e, f)
+nb_no_code c d t (inr e) f = grind (arith, t, e, f)
 
 module _ (cs : List ℕ) where
-  -- a character stands once
-  pub same_char : (i c d : ℕ) → slice_get cs i ≡ Some c → slice_get cs i ≡ Some d → c ≡ d
-  same_char i c d p q = let h : Some c ≡ Some d = sym p ∙ q in cc
-
-  pub no_stand : (p : ℕ → Bool) (i c : ℕ) → slice_get cs i ≡ Some c → p c ≡ false → Stands cs p i → ⊥
-  no_stand p i c h f (d, g, t) = let e : false ≡ true = sym f ∙ ap p (same_char i c d h g) ∙ t in cc
-
-  pub no_stand_none : (p : ℕ → Bool) (i : ℕ) → slice_get cs i ≡ None → Stands cs p i → ⊥
-  no_stand_none p i h (d, g, t) = let e : ◌≡◌ {A = Option ℕ} None (Some d) = sym h ∙ g in cc
-
   pub end_stops : (p : ℕ → Bool) (i : ℕ) → AtEnd cs i → Stands cs p i → ⊥
-  end_stops p i e = no_stand_none p i (slice_get_past cs i (omega (arith, e)))
-
-  -- ---- runs
-
-  pub run_none : (p : ℕ → Bool) (i : ℕ) → run cs p i i
-  run_none p i = (omega arith, λ k a b. absurd (omega (arith, a, b)))
-
-  all_more : (P : ℕ → Type 0) (i j k : ℕ) → ((m : ℕ) → i ≤ m → m < j → P m) → P j → k ≡ j + 1 → (m : ℕ) → i ≤ m → m < k → P m
-  all_more P i j k s h e m from below = go (s m from)
-    where
-      go : (m < j → P m) → P m
-      go was = grind (arith, was, h, e, below)
-
-  pub run_more : (p : ℕ → Bool) (i j k c : ℕ) → run cs p i j → slice_get cs j ≡ Some c → p c ≡ true → k ≡ j + 1 → run cs p i k
-  run_more p i j k c r h t e = (let a : i ≤ j = r.0 in omega (arith, a, e), all_more (Stands cs p) i j k r.1 (c, h, t) e)
+  end_stops p i e = no_stand_end cs p i (slice_get_past cs i (omega (arith, e)))
 
   -- what stands first in a run, if it is not empty
   pub run_first : (p : ℕ → Bool) (i j : ℕ) → run cs p i j → (i ≡ j) ⊎ Stands cs p i
@@ -46,79 +47,82 @@ module _ (cs : List ℕ) where
       go (inl e) = inl e
       go (inr l) = inr (f i (omega arith) l)
 
-  -- two runs to where the next is none of them
-  pub run_same : (p : ℕ → Bool) (i j k : ℕ) → run cs p i j → run cs p i k → (Stands cs p j → ⊥) → (Stands cs p k → ⊥) → j ≡ k
-  run_same p i j k (a, f) (b, g) n m =
-      let x : ¬ (j < k) = λ h. n (g j a h) in
-      let y : ¬ (k < j) = λ h. m (f k b h) in
-      omega (arith, x, y)
-
-  -- a run goes at most as far as one that stops
-  pub run_within : (p : ℕ → Bool) (i j k : ℕ) → run cs p i j → run cs p i k → (Stands cs p k → ⊥) → j ≤ k
-  run_within p i j k (a, f) (b, g) m =
-      let y : ¬ (k < j) = λ h. m (f k b h) in
-      omega (arith, y)
-
   -- ---- breaks
 
-  -- the break, by what stands at its start
-  pub data Break (i j : ℕ) : Type 0 where
-    feed : slice_get cs i ≡ Some 10 → j ≡ i + 1 → Break i j
-    pair : slice_get cs i ≡ Some 13 → slice_get cs (i + 1) ≡ Some 10 → j ≡ i + 2 → Break i j
-    return : slice_get cs i ≡ Some 13 → slice_get cs (i + 1) ≢ Some 10 → j ≡ i + 1 → Break i j
-
-  pub break_of : (i j : ℕ) → brk cs i j → Break i j
-  unfolding brk
-  break_of i j (inl (k, (h, e), (g, f))) = pair h (ap (slice_get cs) (sym e) ∙ g) (omega (arith, e, f))
-  break_of i j (inr (inl (k, (h, e), (f, n)))) =
-      return h (λ g. n (10, ap (slice_get cs) e ∙ g, refl)) (omega (arith, e, f))
-  break_of i j (inr (inr (k, (e, n), (h, f)))) = feed (ap (slice_get cs) (sym e) ∙ h) (omega (arith, e, f))
-
-  apart_10_13 : (i : ℕ) → slice_get cs i ≡ Some 10 → slice_get cs i ≡ Some 13 → ⊥
-  apart_10_13 i h g = let e : 10 ≡ 13 = same_char i 10 13 h g in omega (arith, e)
-
   pub brk_same : SameEnd (brk cs)
-  brk_same i j k r s = go (break_of i j r) (break_of i k s)
-    where
-      go : Break i j → Break i k → j ≡ k
-      go (feed h e) (feed g f) = e ∙ sym f
-      go (feed h e) (pair g a f) = absurd (apart_10_13 i h g)
-      go (feed h e) (return g a f) = absurd (apart_10_13 i h g)
-      go (pair h b e) (feed g f) = absurd (apart_10_13 i g h)
-      go (pair h b e) (pair g a f) = e ∙ sym f
-      go (pair h b e) (return g a f) = absurd (a b)
-      go (return h b e) (feed g f) = absurd (apart_10_13 i g h)
-      go (return h b e) (pair g a f) = absurd (b a)
-      go (return h b e) (return g a f) = e ∙ sym f
+  brk_same i j k r s = gap.brk_same cs i j k (gap.brk_line cs i j r) (gap.brk_line cs i k s)
 
   pub brk_onward : (i j : ℕ) → brk cs i j → i < j
-  brk_onward i j r = go (break_of i j r)
-    where
-      go : Break i j → i < j
-      go (feed h e) = omega (arith, e)
-      go (pair h g e) = omega (arith, e)
-      go (return h g e) = omega (arith, e)
+  brk_onward i j r = gap.brk_onward cs i j (gap.brk_line cs i j r)
 
   pub brk_stops : (p : ℕ → Bool) → p 10 ≡ false → p 13 ≡ false → (i j : ℕ) → brk cs i j → Stands cs p i → ⊥
-  brk_stops p a b i j r = go (break_of i j r)
+  brk_stops p a b i j r = go (gap.brk_line cs i j r)
     where
-      go : Break i j → Stands cs p i → ⊥
-      go (feed h e) = no_stand p i 10 h a
-      go (pair h g e) = no_stand p i 13 h b
-      go (return h g e) = no_stand p i 13 h b
+      go : line_brk cs i j → Stands cs p i → ⊥
+      go (inl (h, e)) = no_stand cs p i 10 h a
+      go (inr (inl (h, g, e))) = no_stand cs p i 13 h b
+      go (inr (inr (h, g, e))) = no_stand cs p i 13 h b
 
   pub brk_no_end : (i j : ℕ) → brk cs i j → AtEnd cs i → ⊥
-  brk_no_end i j r e = go (break_of i j r)
+  brk_no_end i j r e = go (gap.brk_line cs i j r)
     where
-      no : (c : ℕ) → slice_get cs i ≡ Some c → ⊥
-      no c h = end_stops (λ d. d == c) i e (c, h, same c)
-        where
-          same : (c : ℕ) → (c == c) ≡ true
-          same c = grind arith
-      go : Break i j → ⊥
-      go (feed h f) = no 10 h
-      go (pair h g f) = no 13 h
-      go (return h g f) = no 13 h
+      stands : (c : ℕ) → slice_get cs i ≡ Some c → ⊥
+      stands c h = end_stops (λ d. d == c) i e (c, h, same_code c)
+      go : line_brk cs i j → ⊥
+      go (inl (h, f)) = stands 10 h
+      go (inr (inl (h, g, f))) = stands 13 h
+      go (inr (inr (h, g, f))) = stands 13 h
+
+  -- where no CR LF is cut
+  pub to_brk : (i j : ℕ) → Uncut cs i → line_brk cs i j → brk cs i j
+  unfolding brk Uncut
+  to_brk i j u (inl (h, e)) = inr (inr (i, (refl, λ b. u b (10, h, refl)), (h, e)))
+  to_brk i j u (inr (inl (h, g, e))) = inl (i + 1, (h, refl), (g, omega (arith, e)))
+  to_brk i j u (inr (inr (h, g, e))) = inr (inl (i + 1, (h, refl), (e, λ (c, q, t). g (q ∙ ap Some (code_of c 10 t)))))
+
+  pub no_brk : (i : ℕ) → ((j : ℕ) → line_brk cs i j → ⊥) → (j : ℕ) → brk cs i j → ⊥
+  no_brk i none j r = none j (gap.brk_line cs i j r)
+
+  return_breaks : (i : ℕ) → slice_get cs i ≡ Some 13 → ((j : ℕ) → line_brk cs i j → ⊥) → ⊥
+  return_breaks i h none = none (i + 1) (inr (inr (h, (λ g. none (i + 2) (inr (inl (h, g, refl)))), refl)))
+
+  -- a character where no break stands
+  pub nb_here : (i c : ℕ) → slice_get cs i ≡ Some c → ((j : ℕ) → line_brk cs i j → ⊥) → Stands cs is_nb i
+  nb_here i c h none = (c, h, no_break_nb c (λ e. none (i + 1) (inl (h ∙ ap Some e, refl))) (λ e. return_breaks i (h ∙ ap Some e) none))
+
+  -- ---- no CR LF is cut
+
+  pub line_uncut : (i : ℕ) → StartsLine cs i → Uncut cs i
+  unfolding StartsLine Uncut
+  line_uncut i (inl e) (l, s) t = omega (arith, e, l)
+  line_uncut i (inr (k, r)) (l, (c, h, s)) (d, g, t) = go (gap.brk_line cs k i r)
+    where
+      here : slice_get cs i ≡ Some 10
+      here = g ∙ ap Some (code_of d 10 t)
+      back : slice_get cs (i - 1) ≡ Some 13
+      back = h ∙ ap Some (code_of c 13 s)
+      two : (m : ℕ) → i - 1 ≡ m → slice_get cs m ≡ Some 10 → ⊥
+      two m e f = let x : 10 ≡ 13 = same_char cs m 10 13 f (ap (slice_get cs) (sym e) ∙ back) in omega (arith, x)
+      go : line_brk cs k i → ⊥
+      go (inl (f, e)) = two k (omega (arith, e)) f
+      go (inr (inl (f, n, e))) = two (k + 1) (omega (arith, e)) n
+      go (inr (inr (f, n, e))) = n (ap (slice_get cs) (sym e) ∙ here)
+
+  pub after_uncut : (i : ℕ) → AfterLine cs i → Uncut cs i
+  unfolding Uncut
+  after_uncut i (inl s) b t = line_uncut i s b t
+  after_uncut i (inr e) b t = end_stops (λ c. c == 10) i e t
+
+  pub inside_uncut : (i : ℕ) → Inside cs i → Uncut cs i
+  unfolding Uncut
+  inside_uncut i (k, e, (c, h, n)) (l, (d, g, s)) t =
+      let at : i - 1 ≡ k = omega (arith, e) in
+      nb_no_code c 13 n (inr refl) (same_char cs k c 13 h (ap (slice_get cs) (sym at) ∙ g ∙ ap Some (code_of d 13 s)))
+
+  -- no line starts inside one
+  pub inside_no_line : (i : ℕ) → Inside cs i → StartsLine cs i → ⊥
+  inside_no_line i (k, e, (c, h, n)) s =
+      gap.inside_line cs k i e (λ g. nb_no_code c 10 n (inl refl) (same_char cs k c 10 h g)) (λ g. nb_no_code c 13 n (inr refl) (same_char cs k c 13 h g)) s
 
   -- ---- the ends of lines
 
@@ -138,3 +142,61 @@ module _ (cs : List ℕ) where
   unfolding line_end
   line_end_stops p a b i j (inl r) = brk_stops p a b i j r
   line_end_stops p a b i j (inr (e, h)) = end_stops p i h
+
+  pub brk_after : (i j : ℕ) → brk cs i j → AfterLine cs j
+  unfolding StartsLine
+  brk_after i j r = inl (inr (i, r))
+
+  pub line_end_after : (i j : ℕ) → line_end cs i j → AfterLine cs j
+  unfolding line_end
+  line_end_after i j (inl r) = brk_after i j r
+  line_end_after i j (inr (e, h)) = inr (e ∙ h)
+
+  pub brk_line_end : (i j : ℕ) → brk cs i j → line_end cs i j
+  unfolding line_end
+  brk_line_end i j r = inl r
+
+  pub end_line_end : (i : ℕ) → AtEnd cs i → line_end cs i i
+  unfolding line_end
+  end_line_end i e = inr (refl, e)
+
+  -- no space where this character does not stand
+  pub no_char_space : (i : ℕ) → slice_get cs i ≢ Some 32 → Stands cs is_space i → ⊥
+  no_char_space i n (c, h, t) = n (h ∙ ap Some (the_space c t))
+
+  -- ---- runs of places
+
+  pub run_nb : (i j k c : ℕ) → run cs is_nb i j → Stands cs is_nb j → slice_get cs j ≡ Some c → k ≡ j + 1 → run cs is_nb i k
+  run_nb i j k c r (d, h, t) g e = run_more cs is_nb i j k d r h t e
+
+  -- a place after a character of a line
+  pub inside_next : (j k : ℕ) → Stands cs is_nb j → k ≡ j + 1 → Inside cs k
+  inside_next j k s e = (j, e, s)
+
+  hash_inside : (i j : ℕ) → slice_get cs i ≡ Some 35 → j ≡ i + 1 → Inside cs j
+  unfolding is_nb is_break
+  hash_inside i j h e = (i, e, (35, h, refl))
+
+  pub hash_uncut : (i j : ℕ) → slice_get cs i ≡ Some 35 → j ≡ i + 1 → Uncut cs j
+  hash_uncut i j h e = inside_uncut j (hash_inside i j h e)
+
+  -- an indent is a run
+  pub indent_run : (n i j : ℕ) → indent cs n i j → run cs is_space i j
+  unfolding indent
+  indent_run n i j (r, e) = r
+
+  pub indent_place : (n i j : ℕ) → indent cs n i j → j ≡ i + n
+  unfolding indent
+  indent_place n i j (r, e) = e
+
+  space_is_nb : (c : ℕ) → is_space c ≡ true → is_nb c ≡ true
+  unfolding is_space is_nb is_break
+  space_is_nb c t = grind (arith, t)
+
+  -- after spaces no CR LF is cut, as none is before them
+  pub spaces_uncut : (i j : ℕ) → run cs is_space i j → Uncut cs i → Uncut cs j
+  spaces_uncut i j (a, f) u = go (eq-or-lt_of_le a)
+    where
+      go : (i ≡ j) ⊎ (i < j) → Uncut cs j
+      go (inl e) = subst (Uncut cs) e u
+      go (inr l) = let h = f (j - 1) (omega (arith, l)) (omega (arith, l)) in inside_uncut j (j - 1, omega (arith, l), (h.0, h.1, space_is_nb h.0 h.2))

@@ -1,57 +1,61 @@
 //! Spaces, the ends of lines, and lines without content.
-ghost use Rattle.std.specs.Prelude.{◌≡◌, ◌≢◌, ◌≤◌, ◌<◌, ◌+◌, ◌-◌, ◌⊎◌, IfSome, IfNone, Some, slice_get, ℕ};
+ghost use Rattle.std.specs.Prelude.{◌≢◌, ◌≤◌, ◌<◌, ◌+◌, IfSome, IfNone, Some, slice_get, ℕ};
 ghost use Rattle.yaml_text.specs.Source.{text_of, place_of, IsBorder};
 ghost use Rattle.yaml_text.specs.grammar.Rules.{run, Stands, maybe, any_span, furthest_span, ◌◆◌};
 ghost use Rattle.yaml_text.specs.grammar.Characters.{is_space, is_nb};
-ghost use Rattle.yaml_text.specs.grammar.Separation.{line_end, comment, l_comment};
+ghost use Rattle.yaml_text.specs.grammar.Separation.{indent, line_end, comment, l_comment};
 ghost use Rattle.yaml_text.specs.grammar.BlockScalars.{comment_lines};
 ghost use Rattle.yaml_scalar.specs.BlockRules.{AfterLine, Uncut, blank_rest};
 
 use crate::line::line_break;
 use yaml_text::chars::Chars;
-use yaml_text::class::is_break;
-use yaml_text::places::{accept, is_end, next};
+use yaml_text::places::{accept, next};
 
-/// The border after the spaces that stand at a border.
-pub fn skip_spaces(source: &Chars<'_>, at: usize) -> usize
+/// How many spaces stand at a border, and the border after them.
+pub fn skip_spaces(source: &Chars<'_>, at: usize) -> (usize, usize)
     requires { IsBorder source.now at }
-    ensures border { IsBorder source.now result }
-    ensures onward { at ≤ result }
-    ensures spaces { run (text_of source.now) is_space (place_of source.now at) (place_of source.now result) }
-    ensures width { place_of source.now result ≡ place_of source.now at + (result - at) }
-    ensures furthest { Stands (text_of source.now) is_space (place_of source.now result) → ⊥ }
+    ensures border { IsBorder source.now result.1 }
+    ensures onward { at ≤ result.1 }
+    ensures counted { at + result.0 ≤ result.1 }
+    ensures spaces { indent (text_of source.now) result.0 (place_of source.now at) (place_of source.now result.1) }
+    ensures furthest { Stands (text_of source.now) is_space (place_of source.now result.1) → ⊥ }
 {
+    let mut count = 0;
     let mut here = at;
     'spaces: loop {
         match accept(source, here, ' ') {
-            None => return here,
-            Some(to) => here = to,
+            None => return (count, here),
+            Some(to) => {
+                count += 1;
+                here = to;
+            }
         }
     }
 }
 
-/// The border after up to `most` spaces that stand at a border.
-pub fn read_spaces(source: &Chars<'_>, at: usize, most: usize) -> usize
+/// How many spaces stand at a border, but at most `most`, and the border after them.
+pub fn read_spaces(source: &Chars<'_>, at: usize, most: usize) -> (usize, usize)
     requires { IsBorder source.now at }
-    ensures border { IsBorder source.now result }
-    ensures onward { at ≤ result }
-    ensures spaces { run (text_of source.now) is_space (place_of source.now at) (place_of source.now result) }
-    ensures width { place_of source.now result ≡ place_of source.now at + (result - at) }
-    ensures within { result - at ≤ most }
-    ensures furthest { result - at < most → Stands (text_of source.now) is_space (place_of source.now result) → ⊥ }
+    ensures border { IsBorder source.now result.1 }
+    ensures onward { at ≤ result.1 }
+    ensures spaces { indent (text_of source.now) result.0 (place_of source.now at) (place_of source.now result.1) }
+    ensures within { result.0 ≤ most }
+    ensures furthest { result.0 < most → Stands (text_of source.now) is_space (place_of source.now result.1) → ⊥ }
 {
+    let mut count = 0;
     let mut here = at;
-    let mut left = most;
-    'spaces: while left > 0 {
+    'spaces: loop {
+        if count == most {
+            return (count, here);
+        }
         match accept(source, here, ' ') {
-            None => return here,
+            None => return (count, here),
             Some(to) => {
+                count += 1;
                 here = to;
-                left -= 1;
             }
         }
     }
-    here
 }
 
 /// The border after the end of a line that stands at a border: after a break, or at the end of the text.
@@ -65,13 +69,10 @@ pub fn end_line(source: &Chars<'_>, at: usize) -> Option<usize>
 {
     match line_break(source, at) {
         Some(to) => Some(to),
-        None => {
-            if is_end(source, at) {
-                Some(at)
-            } else {
-                None
-            }
-        }
+        None => match next(source, at) {
+            None => Some(at),
+            Some(_) => None,
+        },
     }
 }
 
@@ -124,10 +125,13 @@ pub fn skip_blank(source: &Chars<'_>, at: usize) -> Option<usize>
     ensures some { IfSome result (λ to. blank_rest (text_of source.now) (place_of source.now at) (place_of source.now to)) }
     ensures none { IfNone result ((j : ℕ) → blank_rest (text_of source.now) (place_of source.now at) j → ⊥) }
 {
-    let from = skip_spaces(source, at);
+    let (_, from) = skip_spaces(source, at);
     match read_comment(source, from) {
         Some(after) => Some(after),
-        None => end_line(source, from),
+        None => match end_line(source, from) {
+            Some(after) => Some(after),
+            None => None,
+        },
     }
 }
 
@@ -161,8 +165,8 @@ pub fn trailing_comments(source: &Chars<'_>, at: usize, indent: usize) -> usize
     ensures onward { at ≤ result }
     ensures lines { furthest_span (maybe (comment_lines (text_of source.now) indent)) (place_of source.now at) (place_of source.now result) }
 {
-    let from = read_spaces(source, at, indent);
-    if from - at == indent {
+    let (count, from) = read_spaces(source, at, indent);
+    if count == indent {
         return at;
     }
     match read_comment(source, from) {

@@ -108,6 +108,9 @@ pub fn read_header(source: &Chars<'_>, at: usize) -> Result<(Header, usize), Fau
     }
     match skip_blank(source, end) {
         Some(after) => Ok((header, after)),
-        None => Err(refusal(source, skip_spaces(source, end))),
+        None => {
+            let (_, stop) = skip_spaces(source, end);
+            Err(refusal(source, stop))
+        }
     }
 }

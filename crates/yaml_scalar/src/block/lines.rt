@@ -53,8 +53,7 @@ fn find_start(source: &Chars<'_>, at: usize, col: usize) -> Result<Start, usize>
     let mut longest = col;
     let mut empty = 0;
     'lines: loop {
-        let stop = skip_spaces(source, line);
-        let width = stop - line;
+        let (width, stop) = skip_spaces(source, line);
         match line_break(source, stop) {
             Some(next) => {
                 line = next;
@@ -114,13 +113,13 @@ pub fn read_line(source: &Chars<'_>, at: usize, indent: usize) -> Line
     if stands_mark(source, at) {
         return Line::Over(at);
     }
-    let from = read_spaces(source, at, indent);
+    let (count, from) = read_spaces(source, at, indent);
     match line_break(source, from) {
         Some(next) => Line::Empty(next),
         None => {
             if is_end(source, from) {
                 Line::Over(from)
-            } else if from - at < indent {
+            } else if count < indent {
                 Line::Over(at)
             } else {
                 let (to, next) = rest_of_line(source, from);
