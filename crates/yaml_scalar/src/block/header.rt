@@ -103,14 +103,14 @@ pub fn read_header(source: &Chars<'_>, at: usize) -> Result<(Header, usize), Fau
     ensures none { IfErr result (λ e. Refuses e (Unread (header (text_of source.now)) (place_of source.now at))) }
 {
     let (header, end) = read_indicators(source, at);
-    if accept(source, end, '#').is_some() {
-        return Err(refusal(source, end));
-    }
-    match skip_blank(source, end) {
-        Some(after) => Ok((header, after)),
-        None => {
-            let (_, stop) = skip_spaces(source, end);
-            Err(refusal(source, stop))
-        }
+    match accept(source, end, '#') {
+        Some(_) => Err(refusal(source, end)),
+        None => match skip_blank(source, end) {
+            Some(after) => Ok((header, after)),
+            None => {
+                let (_, stop) = skip_spaces(source, end);
+                Err(refusal(source, stop))
+            }
+        },
     }
 }
