@@ -19,7 +19,7 @@ space_char : is_space 32 ≡ true
 unfolding is_space
 space_char = refl
 
-nb_no_space : (c : ℕ) → is_nb c ≡ true → is_space c ≡ false → (is_nb c && not (is_space c)) ≡ true
+pub nb_no_space : (c : ℕ) → is_nb c ≡ true → is_space c ≡ false → (is_nb c && not (is_space c)) ≡ true
 nb_no_space c s t = grind (arith, s, t)
 
 dash_class : (is_nb 45 && not (is_space 45)) ≡ true
@@ -48,7 +48,7 @@ module _ (cs : List ℕ) where
   space_line = seen (λ m. m ∷ []) (how_many cs is_space) ◂ brk cs
 
   -- a line is a line of spaces
-  space_line_same : SameRule space_line
+  pub space_line_same : SameRule space_line
   space_line_same i j k v w (l, (m, (r, e), f), b) (n, (p, (s, g), h), c) =
       let at : l ≡ n = run_same cs is_space i l n r s (brk_stops cs is_space space_feed space_return l j b) (brk_stops cs is_space space_feed space_return n k c) in
       let num : m ≡ p = omega (arith, e, g, at) in
@@ -107,14 +107,14 @@ module _ (cs : List ℕ) where
   -- ---- the two ways to find it
 
   -- where the search ends, with what it gives
-  data Found (col i k : ℕ) : Type 0 where
+  pub data Found (col i k : ℕ) : Type 0 where
     at_line : (p q : ℕ) (ms : List ℕ) → space_lines cs i p ms → col ≤ k → greatest ms ≤ k → (Mark cs p → ⊥) →
         run cs is_space p q → q ≡ p + k → NoSpace cs q → Found col i k
     at_less : (p : ℕ) (ms : List ℕ) → space_lines cs i p ms → LessIndented cs col p → k ≡ max col (greatest ms) → Found col i k
     at_mark : (p : ℕ) (ms : List ℕ) → space_lines cs i p ms → Mark cs p → k ≡ max col (greatest ms) → Found col i k
     at_end : (p q : ℕ) (ms : List ℕ) → space_lines cs i p ms → run cs is_space p q → AtEnd cs q → k ≡ max (max col (greatest ms)) (q - p) → Found col i k
 
-  found_of : (col i j k : ℕ) → indentation cs col None i j k → Found col i k
+  pub found_of : (col i j k : ℕ) → indentation cs col None i j k → Found col i k
   unfolding indentation found_indentation longest_indentation
   found_of col i j k (e, f, inl (p, ms, a, ((b, c), (o, (x, m), (q, (r, y), (z, n)))))) =
       at_line p q ms a b c m (subst (λ v. run cs is_space v q) x r) (omega (arith, x, y)) n
@@ -140,8 +140,8 @@ module _ (cs : List ℕ) where
   stuck_at col i k (at_mark p ms a m e) = (p, ms, a, mark_stuck p m)
   stuck_at col i k (at_end p q ms a r n e) = (p, ms, a, (q, r, inr n))
 
-  lines_same : (i p o : ℕ) (ms ns : List ℕ) → space_lines cs i p ms → Stuck p → space_lines cs i o ns → Stuck o → (p ≡ o) × (ms ≡ ns)
-  lines_same i p o ms ns a s b t = any_to_stop space_line_same Stuck stuck_no_line a s b t
+  pub found_lines : (i p o : ℕ) (ms ns : List ℕ) → space_lines cs i p ms → Stuck p → space_lines cs i o ns → Stuck o → (p ≡ o) × (ms ≡ ns)
+  found_lines i p o ms ns a s b t = any_to_stop space_line_same Stuck stuck_no_line a s b t
 
   -- whatever stands there is one of the four
   same_place : (col k l p q r : ℕ) → run cs is_space p q → NoSpace cs q ⊎ AtEnd cs q → run cs is_space p r → NoSpace cs r ⊎ AtEnd cs r → q ≡ r
@@ -158,21 +158,21 @@ module _ (cs : List ℕ) where
   end_width col p q o ms e = omega (arith, e)
 
   -- no line that ends the search is another
-  line_less : (col k p q : ℕ) → col ≤ k → run cs is_space p q → q ≡ p + k → NoSpace cs q → LessIndented cs col p → ⊥
+  pub line_less : (col k p q : ℕ) → col ≤ k → run cs is_space p q → q ≡ p + k → NoSpace cs q → LessIndented cs col p → ⊥
   line_less col k p q c r e n l =
       let d = less_is col p l in
       let at : q ≡ d.0 = same_place 0 0 0 p q d.0 r (inl n) d.1 (inl d.3) in
       let less : d.0 < p + col = d.2 in
       omega (arith, at, less, e, c)
 
-  line_end_apart : (p q r : ℕ) → run cs is_space p q → NoSpace cs q → run cs is_space p r → AtEnd cs r → ⊥
+  pub line_end_apart : (p q r : ℕ) → run cs is_space p q → NoSpace cs q → run cs is_space p r → AtEnd cs r → ⊥
   line_end_apart p q r s n t e = let at : q ≡ r = same_place 0 0 0 p q r s (inl n) t (inr e) in not_both r (subst (NoSpace cs) at n) e
 
   found_same : (col i k l : ℕ) → Found col i k → Found col i l → k ≡ l
   found_same col i k l a b =
       let s = stuck_at col i k a in
       let t = stuck_at col i l b in
-      go a b (λ p o ms ns x y z w. lines_same i p o ms ns x y z w)
+      go a b (λ p o ms ns x y z w. found_lines i p o ms ns x y z w)
     where
       go : Found col i k → Found col i l →
           ((p o : ℕ) (ms ns : List ℕ) → space_lines cs i p ms → Stuck p → space_lines cs i o ns → Stuck o → (p ≡ o) × (ms ≡ ns)) → k ≡ l

@@ -8,3 +8,4 @@ pub mod BlockChains
 pub mod IndentationLemmas
 pub mod LineLemmas
 pub mod TrailingLemmas
+pub mod StartLemmas

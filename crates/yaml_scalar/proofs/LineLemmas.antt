@@ -82,7 +82,7 @@ module _ (cs : List ℕ) where
 
   -- ---- a line is one
 
-  tail_stops : (p : ℕ → Bool) → p 10 ≡ false → p 13 ≡ false → (q j : ℕ) (xs : List ℕ) (v : List Line) → Tail q j xs v → Stands cs p q → ⊥
+  pub tail_stops : (p : ℕ → Bool) → p 10 ≡ false → p 13 ≡ false → (q j : ℕ) (xs : List ℕ) (v : List Line) → Tail q j xs v → Stands cs p q → ⊥
   tail_stops p a b q j xs v (broken r e) = brk_stops cs p a b q j r
   tail_stops p a b q j xs v (last z f e) = end_stops cs p q z
 
@@ -146,12 +146,12 @@ module _ (cs : List ℕ) where
     here : LinesEnd cs k i → j ≡ i → Over k i j
     spaces : run cs is_space i j → j ≤ i + k → AtEnd cs j → Over k i j
 
-  no_blank_at : (k i j q : ℕ) (v : List Line) → Blank k i j v → run cs is_space i q → NoSpace cs q → ⊥
+  pub no_blank_at : (k i j q : ℕ) (v : List Line) → Blank k i j v → run cs is_space i q → NoSpace cs q → ⊥
   no_blank_at k i j q v b r n =
       let at : b.stop ≡ q = run_same cs is_space i b.stop q b.spaces r (blank_stops k i j v b) (no_space_stops cs q n) in
       no_space_no_brk cs q j n (subst (λ x. brk cs x j) at b.ends)
 
-  no_blank_end : (k i j q : ℕ) (v : List Line) → Blank k i j v → run cs is_space i q → AtEnd cs q → ⊥
+  pub no_blank_end : (k i j q : ℕ) (v : List Line) → Blank k i j v → run cs is_space i q → AtEnd cs q → ⊥
   no_blank_end k i j q v b r e =
       let at : b.stop ≡ q = run_same cs is_space i b.stop q b.spaces r (blank_stops k i j v b) (end_stops cs is_space q e) in
       brk_no_end cs q j (subst (λ x. brk cs x j) at b.ends) e

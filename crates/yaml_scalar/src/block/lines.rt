@@ -11,7 +11,7 @@ use crate::block::blanks::{read_spaces, rest_of_line, skip_spaces};
 use crate::block::header::Header;
 use crate::line::{line_break, stands_mark};
 use yaml_text::chars::Chars;
-use yaml_text::places::is_end;
+use yaml_text::places::next;
 
 /// Where the lines begin: the content's indentation, the start of the first line that is not known to be empty, and how many
 /// empty ones stand before it.
@@ -55,23 +55,25 @@ fn find_start(source: &Chars<'_>, at: usize, col: usize) -> Result<Start, usize>
     'lines: loop {
         let (width, stop) = skip_spaces(source, line);
         match line_break(source, stop) {
-            Some(next) => {
-                line = next;
+            Some(to) => {
+                line = to;
                 longest = longest.max(width);
                 empty += 1;
             }
-            None => {
-                if is_end(source, stop) {
+            None => match next(source, stop) {
+                None => {
                     return Ok(Start { indent: longest.max(width), line, empty });
                 }
-                if width < col || stands_mark(source, line) {
-                    return Ok(Start { indent: longest, line, empty });
+                Some(_) => {
+                    if stands_mark(source, line) || width < col {
+                        return Ok(Start { indent: longest, line, empty });
+                    }
+                    if width < longest {
+                        return Err(stop);
+                    }
+                    return Ok(Start { indent: width, line, empty });
                 }
-                if width < longest {
-                    return Err(stop);
-                }
-                return Ok(Start { indent: width, line, empty });
-            }
+            },
         }
     }
 }
@@ -115,16 +117,17 @@ pub fn read_line(source: &Chars<'_>, at: usize, indent: usize) -> Line
     }
     let (count, from) = read_spaces(source, at, indent);
     match line_break(source, from) {
-        Some(next) => Line::Empty(next),
-        None => {
-            if is_end(source, from) {
-                Line::Over(from)
-            } else if count < indent {
-                Line::Over(at)
-            } else {
-                let (to, next) = rest_of_line(source, from);
-                Line::Text { from, to, next }
+        Some(to) => Line::Empty(to),
+        None => match next(source, from) {
+            None => Line::Over(from),
+            Some(_) => {
+                if count < indent {
+                    Line::Over(at)
+                } else {
+                    let (to, after) = rest_of_line(source, from);
+                    Line::Text { from, to, next: after }
+                }
             }
-        }
+        },
     }
 }

@@ -1,0 +1,78 @@
+use Rattle.std.proofs.Common.{◌≡◌, ◌<◌, ◌≤◌, ap, arith, inl, sym}
+use Rattle.std.proofs.lemmas.Str.{IsUtf8-had}
+use Rattle.yaml_text.specs.Source.{text_of, place_of}
+use Rattle.yaml_text.proofs.PlaceLemmas.{place_same}
+use Rattle.yaml_scalar.proofs.LineRuns.{after_uncut, spaces_uncut, indent_run, line_end_after, nb_here}
+use Rattle.yaml_scalar.proofs.GapLemmas.{starts_line}
+use Rattle.yaml_scalar.proofs.OutcomeLemmas.{on_true_at, on_false_at}
+use Rattle.yaml_scalar.proofs.StartLemmas.{Reads, no_space_at, empty_is, over_mark, over_less, over_end, text_is}
+use Rattle.yaml_scalar.proofs.block.lines.read_line.Goals as goal
+
+pub rest_of_line-to-requires : goal.rest_of_line-to-requires
+rest_of_line-to-requires c =
+    let cs = text_of c.args.source.now in
+    let s = c.read_spaces-count.ensures in
+    record { border = s.border; uncut = spaces_uncut cs _ _ (indent_run cs _ _ _ s.spaces) (after_uncut cs _ c.requires.after) }
+
+pub returns-then-stands_mark : goal.returns-then-stands_mark
+returns-then-stands_mark c = record {
+  border = c.requires.border;
+  onward = omega arith;
+  over = over_mark (text_of c.args.source.now) _ _ (on_true_at c.stands_mark.result c.if-stands_mark.true c.stands_mark.ensures.yes);
+}
+
+pub returns-in-Some : goal.returns-in-Some
+returns-in-Some c =
+    let cs = text_of c.args.source.now in
+    let s = c.read_spaces-count.ensures in
+    let b = c.in-Some.ensures in
+    record {
+      border = b.border;
+      forward = omega (arith, s.onward, b.onward);
+      after = inl (starts_line cs _ _ b.some);
+      line = empty_is cs _ _ _ _ _ s.spaces s.within (after_uncut cs _ c.requires.after) b.some;
+    }
+
+pub returns-in-None-next : goal.returns-in-None-next
+returns-in-None-next c =
+    let s = c.read_spaces-count.ensures in
+    record {
+      border = s.border;
+      onward = s.onward;
+      over = over_end (text_of c.args.source.now) _ _ _ _ s.spaces s.within c.in-None-next.ensures.end;
+    }
+
+pub returns-then-count-indent : goal.returns-then-count-indent
+returns-then-count-indent c =
+    let cs = text_of c.args.source.now in
+    let s = c.read_spaces-count.ensures in
+    record {
+      border = c.requires.border;
+      onward = omega arith;
+      over = over_less cs _ _ _ _ s.spaces c.if-count-indent.true (no_space_at cs _ _ c.in-Some-next.ensures.some.is (s.furthest c.if-count-indent.true) c.in-None.ensures.none)
+          (on_false_at c.stands_mark.result c.if-stands_mark.false c.stands_mark.ensures.no);
+    }
+
+pub returns-else-count-indent : goal.returns-else-count-indent
+returns-else-count-indent c =
+    let cs = text_of c.args.source.now in
+    let text = c.args.source.now.text.now in
+    let s = c.read_spaces-count.ensures in
+    let r = c.rest_of_line-to.ensures in
+    let t : Reads cs c.args.indent (place_of c.args.source.now c.args.at) (place_of c.args.source.now c.read_spaces-count.result.1) (place_of c.args.source.now c.rest_of_line-to.result.0) (place_of c.args.source.now c.rest_of_line-to.result.1) =
+    text_is cs _ _ _ _ _ _ s.spaces (omega (arith, s.within, c.if-count-indent.false)) (on_false_at c.stands_mark.result c.if-stands_mark.false c.stands_mark.ensures.no)
+    (nb_here cs _ _ c.in-Some-next.ensures.some.is c.in-None.ensures.none) r.chars r.end in
+    let apart : c.read_spaces-count.result.1 ≡ c.rest_of_line-to.result.0 → ⊥ = λ e. (let p = ap (place_of c.args.source.now) e in let q = t.some in omega (arith, p, q)) in
+    record {
+      begin = s.border;
+      stop = r.border;
+      border = r.after;
+      forward = omega (arith, s.onward, r.onward, r.further, apart);
+      onward = r.onward;
+      after = line_end_after cs _ _ r.end;
+      some = t.some;
+      ended = t.ended;
+      line = t.line;
+      broken = λ e. (let q = t.broken e in let none : c.rest_of_line-to.result.0 ≡ c.rest_of_line-to.result.1 → ⊥ = λ f. (let p = ap (place_of c.args.source.now) f in omega (arith, p, q)) in omega (arith, r.further, none));
+      last = λ e. (let p = t.last e in let f : c.rest_of_line-to.result.1 ≡ c.rest_of_line-to.result.0 = place_same text _ _ (IsUtf8-had text c.args.source.now.utf8) r.after r.border p.0 in omega (arith, f), p.1);
+    }
