@@ -7,6 +7,7 @@ use Rattle.yaml_text.specs.grammar.Characters.{is_space, is_nb, is_break, brk}
 use Rattle.yaml_text.specs.grammar.Separation.{AtEnd, StartsLine, Mark, MarkOf, less}
 use Rattle.yaml_text.specs.grammar.BlockScalars.{space_lines, last_space_lines, NoSpace, nonempty, LessIndented, greatest, found_indentation, longest_indentation, indentation}
 use Rattle.yaml_scalar.proofs.AnyLemmas.{SameEnd}
+use Rattle.yaml_text.specs.grammar.Calls.{Unread}
 use Rattle.yaml_scalar.proofs.Runs.{same_char, no_stand, run_none, run_same}
 use Rattle.yaml_scalar.proofs.LineRuns.{end_stops, run_first, brk_same, brk_stops, brk_no_end}
 use Rattle.yaml_scalar.proofs.HeaderLemmas.{nb_feed, nb_return, space_feed, space_return, is_the_space}
@@ -246,6 +247,11 @@ module _ (cs : List ℕ) where
   indentation_here col None i j k a = found_here col i j k a
   indentation_here col (Some d) i j k a = (given_here col d i j k a).0
 
+  -- by a digit
+  pub given_is : (col d i : ℕ) (o : Option ℕ) → o ≡ Some d → col ≢ 0 → indentation cs col o i i (col - 1 + d)
+  unfolding indentation
+  given_is col d i o e n = subst (λ v. indentation cs col v i i (col - 1 + d)) (sym e) (i, (refl, omega (arith, n)), (refl, refl))
+
   -- a digit on a root
-  pub no_digit : (d i j k : ℕ) → indentation cs 0 (Some d) i j k → ⊥
-  no_digit d i j k a = let x = (given_here 0 d i j k a).1 in omega (arith, x)
+  pub given_none : (col d i : ℕ) (o : Option ℕ) → o ≡ Some d → col ≡ 0 → Unread (indentation cs col o) i
+  given_none col d i o e z j k r = let x = (given_here col d i j k (subst (λ v. indentation cs col v i j k) e r)).1 in omega (arith, x, z)

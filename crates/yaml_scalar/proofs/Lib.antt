@@ -9,3 +9,4 @@ pub mod IndentationLemmas
 pub mod LineLemmas
 pub mod TrailingLemmas
 pub mod StartLemmas
+pub mod ContentLemmas

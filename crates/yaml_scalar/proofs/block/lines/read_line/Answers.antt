@@ -74,5 +74,5 @@ returns-else-count-indent c =
       ended = t.ended;
       line = t.line;
       broken = λ e. (let q = t.broken e in let none : c.rest_of_line-to.result.0 ≡ c.rest_of_line-to.result.1 → ⊥ = λ f. (let p = ap (place_of c.args.source.now) f in omega (arith, p, q)) in omega (arith, r.further, none));
-      last = λ e. (let p = t.last e in let f : c.rest_of_line-to.result.1 ≡ c.rest_of_line-to.result.0 = place_same text _ _ (IsUtf8-had text c.args.source.now.utf8) r.after r.border p.0 in omega (arith, f), p.1);
+      last = λ e. (let f : c.rest_of_line-to.result.1 ≡ c.rest_of_line-to.result.0 = place_same text _ _ (IsUtf8-had text c.args.source.now.utf8) r.after r.border (t.last e).0 in omega (arith, f), (t.last e).1);
     }
