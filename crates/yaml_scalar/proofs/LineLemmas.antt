@@ -171,7 +171,7 @@ module _ (cs : List ℕ) where
   abbrev pub OverAt : ℕ → ℕ → Type 0
   OverAt k i = (j : ℕ) × Over k i j
 
-  over_no_line : (k i j : ℕ) (v : List Line) → any_line cs k i j v → OverAt k i → ⊥
+  pub over_no_line : (k i j : ℕ) (v : List Line) → any_line cs k i j v → OverAt k i → ⊥
   over_no_line k i j v (inl a) (l, o) = over_no_blank k i j l v (blank_of k i j v a) o
   over_no_line k i j v (inr a) (l, o) = over_no_text k i j l v (text_of true k i j v a) o
 
@@ -186,7 +186,7 @@ module _ (cs : List ℕ) where
       let at : i ≡ q = run_same cs is_space i i q (run_none cs is_space i) r (no_space_stops cs i (mark_no_space cs i m)) (end_stops cs is_space q z) in
       no_space_no_end cs q (subst (NoSpace cs) at (mark_no_space cs i m)) z
 
-  over_same : (k i j l : ℕ) → Over k i j → Over k i l → j ≡ l
+  pub over_same : (k i j l : ℕ) → Over k i j → Over k i l → j ≡ l
   over_same k i j l (here a e) (here b f) = e ∙ sym f
   over_same k i j l (here (inl d) e) (spaces r f z) = absurd (less_no_end k i l d r z)
   over_same k i j l (here (inr (inl m)) e) (spaces r f z) = absurd (mark_no_end i l m r z)
@@ -206,7 +206,7 @@ module _ (cs : List ℕ) where
 
   -- ---- all of them
 
-  over_of : (k q j : ℕ) → maybe (last_spaces cs k) q j → LinesEnd cs k j → Over k q j
+  pub over_of : (k q j : ℕ) → maybe (last_spaces cs k) q j → LinesEnd cs k j → Over k q j
   over_of k q j (inl e) l = here (subst (LinesEnd cs k) e l) e
   over_of k q j (inr (p, (f, r), (e, z))) l = spaces (subst (run cs is_space q) (sym e) r) (omega (arith, e, f)) (e ∙ z)
 

@@ -1,5 +1,5 @@
 -- What the values of a block scalar's reader stand for.
-use Rattle.std.specs.Prelude.{◌≡◌, ℕ, zero, suc, ◌+◌, ◌≤◌, ◌<◌, min, ℤ, pos, negsuc, List, [], ◌∷◌, Bool, true, false, Option, replicate, slice_range}
+use Rattle.std.specs.Prelude.{◌≡◌, ℕ, zero, suc, ◌+◌, ◌≤◌, ◌<◌, min, ℤ, pos, negsuc, List, [], ◌∷◌, Bool, true, false, not, ◌&&◌, slice_range}
 use Rattle.yaml_text.specs.Source.{text_of, place_of, IsBorder}
 use Rattle.yaml_text.specs.declared.chars.Chars.{Chars}
 use Rattle.yaml_text.specs.grammar.Rules.{Rule}
@@ -42,7 +42,7 @@ pub record EmptyLine (source : Chars) (k at next : ℕ) : Type 0 where
   pub after : AfterLine (text_of source) (place_of source next)
   pub line : grammar.blank_line (text_of source) k (place_of source at) (place_of source next) (grammar.blank ∷ [])
 
-pub record TextLine (source : Chars) (k at from to next : ℕ) : Type 0 where
+pub record TextLine (source : Chars) (k at from to next : ℕ) (is_ended : Bool) : Type 0 where
   pub begin : IsBorder source from
   pub stop : IsBorder source to
   pub border : IsBorder source next
@@ -50,11 +50,9 @@ pub record TextLine (source : Chars) (k at from to next : ℕ) : Type 0 where
   pub onward : from ≤ to
   pub after : AfterLine (text_of source) (place_of source next)
   pub some : place_of source from < place_of source to
-  pub ended : Bool
   pub line : grammar.text_line (text_of source) true k (place_of source at) (place_of source next)
-      (grammar.text ended (slice_range (text_of source) (place_of source from) (place_of source to)) ∷ [])
-  pub broken : ended ≡ true → to < next
-  pub last : ended ≡ false → (next ≤ to) × AtEnd (text_of source) (place_of source next)
+      (grammar.text is_ended (slice_range (text_of source) (place_of source from) (place_of source to)) ∷ [])
+  pub last : is_ended ≡ false → AtEnd (text_of source) (place_of source next)
 
 pub record NoLine (source : Chars) (k at end : ℕ) : Type 0 where
   pub border : IsBorder source end
@@ -63,7 +61,7 @@ pub record NoLine (source : Chars) (k at end : ℕ) : Type 0 where
 
 abbrev pub LineIs : Chars → ℕ → ℕ → Line → Type 0
 LineIs source k at (Empty next) = EmptyLine source k at next
-LineIs source k at (Text from to next) = TextLine source k at from to next
+LineIs source k at (Text from to next is_ended) = TextLine source k at from to next is_ended
 LineIs source k at (Over end) = NoLine source k at end
 
 -- ---- breaks
@@ -73,6 +71,22 @@ abbrev pub glue : Bool → ℕ → List ℕ
 glue false breaks = line_feeds breaks
 glue true zero = []
 glue true (suc breaks) = fold_text (line_feeds breaks)
+
+-- a line's kind, by whether it begins with a white
+abbrev pub shape : Bool → Before
+shape true = Spaced
+shape false = Plain
+
+-- two lines of which neither is spaced, in a folded scalar
+abbrev pub are_folded : Bool → Before → Bool → Bool
+are_folded is_folded Nothing is_spaced = false
+are_folded is_folded Spaced is_spaced = false
+are_folded is_folded Plain is_spaced = is_folded && not is_spaced
+
+-- the break of a line that has one
+abbrev pub breaks_of : Bool → ℕ
+breaks_of true = 1
+breaks_of false = 0
 
 -- how many of the last breaks stay
 abbrev pub last_breaks : Chomp → Before → ℕ → ℕ

@@ -10,7 +10,7 @@ ghost use Rattle.yaml_text.specs.grammar.Calls.{Unread};
 ghost use Rattle.yaml_text.specs.grammar.BlockScalars.{indentation};
 ghost use Rattle.yaml_scalar.specs.Outcome.{Refuses};
 ghost use Rattle.yaml_scalar.specs.BlockRules.{AfterLine, block_lines};
-ghost use Rattle.yaml_scalar.specs.BlockModel.{header_of, glue, last_breaks};
+ghost use Rattle.yaml_scalar.specs.BlockModel.{header_of, glue, last_breaks, shape, are_folded, breaks_of};
 
 use crate::block::header::{Chomp, Header};
 use crate::block::lines::{Line, read_line, read_start};
@@ -39,6 +39,30 @@ fn is_spaced(source: &Chars<'_>, at: usize) -> bool
         None => false,
         Some((c, _)) => is_white(c),
     }
+}
+
+/// The kind of a line, by whether it begins with a white.
+fn shape(is_spaced: bool) -> Before
+    ensures { result ≡ shape is_spaced }
+{
+    if is_spaced { Before::Spaced } else { Before::Plain }
+}
+
+/// Whether a line is folded with the one before it.
+fn are_folded(is_folded: bool, before: Before, is_spaced: bool) -> bool
+    ensures { result ≡ are_folded is_folded before is_spaced }
+{
+    match before {
+        Before::Plain => is_folded && !is_spaced,
+        _ => false,
+    }
+}
+
+/// The number of breaks that end a line.
+fn breaks_of(is_ended: bool) -> usize
+    ensures { result ≡ breaks_of is_ended }
+{
+    if is_ended { 1 } else { 0 }
 }
 
 /// Puts the breaks before a line of content at the end of a text. Between two lines that are folded one break is a space,
@@ -102,12 +126,12 @@ pub fn read_content(
                 breaks += 1;
                 here = next;
             }
-            Line::Text { from, to, next } => {
+            Line::Text { from, to, next, is_ended } => {
                 let spaced = is_spaced(source, from);
-                push_breaks(&mut text, is_folded && !spaced && before == Before::Plain, breaks)?;
+                push_breaks(&mut text, are_folded(is_folded, before, spaced), breaks)?;
                 push_between(&mut text, source, from, to)?;
-                before = if spaced { Before::Spaced } else { Before::Plain };
-                breaks = if to < next { 1 } else { 0 };
+                before = shape(spaced);
+                breaks = breaks_of(is_ended);
                 here = next;
             }
             Line::Over(end) => {

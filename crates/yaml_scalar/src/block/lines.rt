@@ -22,8 +22,8 @@ pub struct Start {
     pub empty: usize,
 }
 
-/// A line of a block scalar by its borders: an empty one, up to the next line; the text of one of content, and the next line;
-/// or no further one, and the end of the scalar.
+/// A line of a block scalar by its borders: an empty one, up to the next line; the text of one of content, the next line and
+/// whether a break stands before that; or no further one, and the end of the scalar.
 #[derive(Clone, Copy, Debug, PartialEq, Eq)]
 pub enum Line {
     Empty(usize),
@@ -31,6 +31,7 @@ pub enum Line {
         from: usize,
         to: usize,
         next: usize,
+        is_ended: bool,
     },
     Over(usize),
 }
@@ -125,7 +126,7 @@ pub fn read_line(source: &Chars<'_>, at: usize, indent: usize) -> Line
                     Line::Over(at)
                 } else {
                     let (to, after) = rest_of_line(source, from);
-                    Line::Text { from, to, next: after }
+                    Line::Text { from, to, next: after, is_ended: to < after }
                 }
             }
         },
