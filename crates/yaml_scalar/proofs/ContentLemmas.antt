@@ -1,9 +1,10 @@
 -- The content of a block scalar, put together from its front.
 use Rattle.std.proofs.Common.{◌≡◌, ◌≢◌, ℕ, zero, suc, ◌+◌, ◌-◌, ◌<◌, ◌≤◌, ◌⊎◌, inl, inr, min, List, [], ◌∷◌, ◌++◌, Bool, true, false, ◌||◌, if◌then◌else◌, replicate, refl, sym, ◌∙◌, ap, subst, arith, append_assoc, add-one}
-use Rattle.std.specs.Prelude.{◌==◌}
+use Rattle.std.specs.Prelude.{◌==◌, slice_range}
+use Rattle.std.specs.Bool.{OnTrue, OnFalse}
 use Rattle.std.proofs.lemmas.List.{append-nil}
-use Rattle.yaml_text.specs.grammar.Rules.{any, maybe}
-use Rattle.yaml_text.specs.grammar.Characters.{is_white}
+use Rattle.yaml_text.specs.grammar.Rules.{any, maybe, Stands}
+use Rattle.yaml_text.specs.grammar.Characters.{is_white, is_nb}
 use Rattle.yaml_text.specs.grammar.Separation.{AtEnd}
 use Rattle.yaml_text.specs.grammar.FlowScalars.{line_feeds}
 use Rattle.yaml_text.specs.grammar.BlockScalars as grammar
@@ -15,8 +16,14 @@ use Rattle.yaml_scalar.specs.declared.block.header.Chomp.{Chomp}
 use Rattle.yaml_scalar.specs.declared.block.header.Chomp.TheVariants.{Strip, Clip, Keep}
 use Rattle.yaml_scalar.specs.declared.block.content.Before.{Before}
 use Rattle.yaml_scalar.specs.declared.block.content.Before.TheVariants.{Nothing, Spaced, Plain}
+use Rattle.yaml_text.proofs.PlaceLemmas.{slice_join, slice_one}
+use Rattle.yaml_scalar.proofs.Runs.{same_char}
 use Rattle.yaml_scalar.proofs.LineLemmas.{Over, over_of, over_end, over_no_line, Content, content_start, content_more, lines_blank, lines_content, text_any}
 use Rattle.yaml_scalar.proofs.BlockChains.{any_push}
+
+pub few_breaks : (d : Bool) → breaks_of d ≤ 1
+few_breaks true = omega arith
+few_breaks false = omega arith
 
 -- ---- from the front
 
@@ -114,6 +121,11 @@ module _ (cs : List ℕ) where
     ended : (ls : List Line) (a : List ℕ) (j : ℕ) → Content cs s k i here ls → Gives f c ls xs (after_line f c true a j) → b ≡ shape (is_spaced a) → n ≡ suc j → Sofar f c s k i here xs b n
     unended : (ls : List Line) (a : List ℕ) → Content cs s k i here ls → Gives f c ls xs (after_line f c false a 0) → b ≡ shape (is_spaced a) → n ≡ 0 → AtEnd cs here → Sofar f c s k i here xs b n
 
+  pub sofar_at : {f : Bool} {c : grammar.Chomp} {s : Bool} {k i here : ℕ} (xs ys : List ℕ) (b d : Before) (n m : ℕ) →
+      Sofar f c s k i here xs b n → ys ≡ xs → d ≡ b → m ≡ n → Sofar f c s k i here ys d m
+  sofar_at {f} {c} {s} {k} {i} {here} xs ys b d n m p e g h =
+      subst (λ v. Sofar f c s k i here v d m) (sym e) (subst (λ v. Sofar f c s k i here xs v m) (sym g) (subst (λ v. Sofar f c s k i here xs b v) (sym h) p))
+
   pub sofar_start : (f : Bool) (c : grammar.Chomp) (s : Bool) (k i here n : ℕ) → any (blank_line cs k) i here (replicate n blank) → Ready cs s k here → Sofar f c s k i here [] Nothing n
   sofar_start f c s k i here n a r = empties (replicate n blank) a r (gives_empties f c n) refl
 
@@ -195,3 +207,19 @@ module _ (cs : List ℕ) where
           give ls (xs ++ line_feeds (last_breaks h b n)) (lines_content cs (is_given o.digit) k i here end ls p over)
           (total ls (after_line f (chomp_of h) false a 0) g ∙ ap (λ v. xs ++ v) (after_none f (chomp_of h) false a 0 ∙ unended_is h (is_spaced a)
           ∙ ap (λ v. line_feeds (last_breaks h v 0)) (sym w) ∙ ap (λ v. line_feeds (last_breaks h b v)) (sym q)))
+
+  -- whether a line begins with a white
+  pub spaced_is : (p q : ℕ) (b : Bool) → p < q → Stands cs is_nb p → OnTrue b (Stands cs is_white p) → OnFalse b (Stands cs is_white p → ⊥) → b ≡ is_spaced (slice_range cs p q)
+  unfolding is_spaced
+  spaced_is p q b l (c, h, t) there none = go b there none ∙ sym (ap is_spaced whole)
+    where
+      rest : List ℕ
+      rest = slice_range cs (p + 1) q
+      whole : slice_range cs p q ≡ c ∷ rest
+      whole = slice_join cs p (p + 1) q (omega arith) (omega (arith, l)) ∙ ap (λ v. v ++ rest) (slice_one cs p (p + 1) c h refl)
+      class : (w : Bool) → is_white c ≡ w → (Stands cs is_white p → ⊥) → false ≡ w
+      class true e n = absurd (n (c, h, e))
+      class false e n = refl
+      go : (b : Bool) → OnTrue b (Stands cs is_white p) → OnFalse b (Stands cs is_white p → ⊥) → b ≡ is_white c
+      go true (d, g, u) none = sym (ap is_white (same_char cs p c d h g) ∙ u)
+      go false there n = class (is_white c) refl n

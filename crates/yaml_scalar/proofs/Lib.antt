@@ -10,3 +10,4 @@ pub mod LineLemmas
 pub mod TrailingLemmas
 pub mod StartLemmas
 pub mod ContentLemmas
+pub mod BlockLemmas

@@ -2,7 +2,8 @@
 use Rattle.std.specs.Prelude.{◌≡◌, ℕ, zero, suc, ◌+◌, ◌≤◌, ◌<◌, min, ℤ, pos, negsuc, List, [], ◌∷◌, Bool, true, false, not, ◌&&◌, slice_range}
 use Rattle.yaml_text.specs.Source.{text_of, place_of, IsBorder}
 use Rattle.yaml_text.specs.declared.chars.Chars.{Chars}
-use Rattle.yaml_text.specs.grammar.Rules.{Rule}
+use Rattle.yaml_text.specs.grammar.Rules.{Rule, Stands}
+use Rattle.yaml_text.specs.grammar.Characters.{is_nb}
 use Rattle.yaml_text.specs.grammar.Separation.{AtEnd}
 use Rattle.yaml_text.specs.grammar.FlowScalars.{line_feeds}
 use Rattle.yaml_text.specs.grammar.BlockScalars as grammar
@@ -20,6 +21,11 @@ use Rattle.yaml_scalar.specs.declared.block.content.Before.TheVariants.{Nothing,
 abbrev pub column : ℤ → ℕ
 column (pos n) = n + 1
 column (negsuc n) = 0
+
+-- what a block scalar of either style begins with
+abbrev pub sign_of : Bool → ℕ
+sign_of false = 124
+sign_of true = 62
 
 -- a block scalar of either style
 abbrev pub styled : List ℕ → Bool → ℕ → Rule (List ℕ)
@@ -50,6 +56,7 @@ pub record TextLine (source : Chars) (k at from to next : ℕ) (is_ended : Bool)
   pub onward : from ≤ to
   pub after : AfterLine (text_of source) (place_of source next)
   pub some : place_of source from < place_of source to
+  pub begins : Stands (text_of source) is_nb (place_of source from)
   pub line : grammar.text_line (text_of source) true k (place_of source at) (place_of source next)
       (grammar.text is_ended (slice_range (text_of source) (place_of source from) (place_of source to)) ∷ [])
   pub last : is_ended ≡ false → AtEnd (text_of source) (place_of source next)

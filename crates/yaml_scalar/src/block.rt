@@ -6,7 +6,7 @@ ghost use Rattle.yaml_text.specs.Source.{text_of, place_of, IsBorder};
 ghost use Rattle.yaml_text.specs.grammar.BlockScalars.{literal, folded};
 ghost use Rattle.yaml_scalar.specs.Outcome.{Answers};
 ghost use Rattle.yaml_scalar.specs.BlockRules.{FurthestAlone};
-ghost use Rattle.yaml_scalar.specs.BlockModel.{column, styled};
+ghost use Rattle.yaml_scalar.specs.BlockModel.{column, sign_of, styled};
 
 use std::alloc::Global;
 use std::borrow::CowStr;
@@ -32,6 +32,13 @@ fn column(n: i32) -> usize
     if n < 0 { 0 } else { n as usize + 1 }
 }
 
+/// What a scalar of either style begins with.
+fn sign_of(is_folded: bool) -> char
+    ensures { result ≡ sign_of is_folded }
+{
+    if is_folded { '>' } else { '|' }
+}
+
 /// A block scalar of either style.
 fn read_block<'a>(
     alloc: Global,
@@ -46,7 +53,7 @@ fn read_block<'a>(
     ensures reads { Answers FurthestAlone (styled (text_of source.now) is_folded (column n)) (place_of source.now at)
         (λ r. place_of source.now r.1) (λ r. chars (cow_str_bytes r.0)) result }
 {
-    let Some(start) = accept(source, at, if is_folded { '>' } else { '|' }) else {
+    let Some(start) = accept(source, at, sign_of(is_folded)) else {
         return Err(refusal(source, at));
     };
     let (header, first) = read_header(source, start)?;

@@ -80,6 +80,7 @@ returns-else-count-indent c =
       onward = r.onward;
       after = line_end_after cs _ _ r.end;
       some = t.some;
+      begins = nb_here cs _ _ c.in-Some-next.ensures.some.is c.in-None.ensures.none;
       line = subst (λ b. text_line cs true c.args.indent (place_of c.args.source.now c.args.at) (place_of c.args.source.now c.rest_of_line-to.result.1)
           (text b (slice_range cs (place_of c.args.source.now c.read_spaces-count.result.1) (place_of c.args.source.now c.rest_of_line-to.result.0)) ∷ [])) is t.line;
       last = λ e. (t.last (is ∙ e)).1;
