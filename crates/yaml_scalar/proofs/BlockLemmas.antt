@@ -66,13 +66,14 @@ module _ (cs : List ℕ) where
   meet f col i j l v w p q =
       let heads = header_same cs (i + 1) p.first q.first p.head q.head p.header q.header in
       let indents = indentation_same cs col p.head.digit p.first p.first p.first p.k q.k p.indent
-          (subst (λ h. indentation cs col h.digit p.first p.first q.k) (sym heads.1) (subst (λ x. indentation cs col q.head.digit x x q.k) (sym heads.0) q.indent)) in
+      (subst (λ h. indentation cs col h.digit p.first p.first q.k) (sym heads.1) (subst (λ x. indentation cs col q.head.digit x x q.k) (sym heads.0) q.indent)) in
       let there : lines cs (is_given p.head.digit) p.k p.first q.end q.list =
-          subst (λ h. lines cs (is_given h.digit) p.k p.first q.end q.list) (sym heads.1)
-          (subst (λ x. lines cs (is_given q.head.digit) x p.first q.end q.list) (sym indents.1) (subst (λ x. lines cs (is_given q.head.digit) q.k x q.end q.list) (sym heads.0) q.lines)) in
-      let all = lines_same cs (is_given p.head.digit) p.k p.first p.end q.end p.list q.list p.lines p.over there (subst (λ x. LinesEnd cs x q.end) (sym indents.1) q.over) in
-      (subst (λ x. maybe (comment_lines cs p.k) x l) (sym all.0) (subst (λ x. maybe (comment_lines cs x) q.end l) (sym indents.1) q.comments),
-      q.is ∙ ap (content f q.head.chomp) (sym all.1) ∙ ap (λ h. content f h.chomp p.list) (sym heads.1) ∙ sym p.is)
+      subst (λ h. lines cs (is_given h.digit) p.k p.first q.end q.list) (sym heads.1)
+      (subst (λ x. lines cs (is_given q.head.digit) x p.first q.end q.list) (sym indents.1) (subst (λ x. lines cs (is_given q.head.digit) q.k x q.end q.list) (sym heads.0) q.lines)) in
+      let all = lines_same cs (is_given p.head.digit) p.k p.first p.end q.end p.list q.list p.lines p.over there (subst (λ x. LinesEnd cs x q.end) (sym indents.1) q.over) in (
+        subst (λ x. maybe (comment_lines cs p.k) x l) (sym all.0) (subst (λ x. maybe (comment_lines cs x) q.end l) (sym indents.1) q.comments),
+        q.is ∙ ap (content f q.head.chomp) (sym all.1) ∙ ap (λ h. content f h.chomp p.list) (sym heads.1) ∙ sym p.is,
+      )
 
   pub block_is : (f : Bool) (col i s a e j k : ℕ) (h : Header) (v : List ℕ) → slice_get cs i ≡ Some (sign_of f) → s ≡ i + 1 → header cs s a h → indentation cs col h.digit a a k →
       block_lines cs f h k a e v → furthest_span (maybe (comment_lines cs k)) e j → FurthestAlone (styled cs f col) i j v

@@ -180,6 +180,7 @@ module _ (cs : List ℕ) where
     where
       same : joint f a m t ≡ glue (are_folded f b (is_spaced t)) n
       same = joint_glue f a m t ∙ ap (λ v. glue (are_folded f v (is_spaced t)) (suc m)) (sym e) ∙ ap (glue (are_folded f b (is_spaced t))) (sym q)
+
       whole : xs ++ (joint f a m t ++ t) ≡ (xs ++ glue (are_folded f b (is_spaced t)) n) ++ t
       whole = sym (append_assoc xs (joint f a m t) t) ∙ ap (λ v. (xs ++ v) ++ t) same
   sofar_text f c s k i here j xs b n d t (unended ls a p g e q y) l z = absurd (over_at_end k here j (text d t ∷ []) (inr l) y)
@@ -191,10 +192,13 @@ module _ (cs : List ℕ) where
     where
       over : Over cs k here end
       over = over_of cs k here end (subst (maybe (last_spaces cs k) here) (sym e) last) (subst (LinesEnd cs k) (sym e) z)
+
       give : (ls : List Line) (ys : List ℕ) → lines cs (is_given o.digit) k i end ls → content f (chomp_of h) ls ≡ ys → block_lines cs f o k i end ys
       give ls ys l w = (end, (ls, l, sym w ∙ ap (λ v. content f v ls) (sym same)), (refl, over_end cs k here end over))
+
       total : (ls : List Line) (rest : List Line → List ℕ) → Gives f (chomp_of h) ls xs rest → content f (chomp_of h) ls ≡ xs ++ rest []
       total ls rest g = ap (content f (chomp_of h)) (sym (append-nil ls)) ∙ g []
+
       go : Sofar f (chomp_of h) (is_given o.digit) k i here xs b n → block_lines cs f o k i end (xs ++ line_feeds (last_breaks h b n))
       go (empties ls a r g w) =
           give ls (xs ++ line_feeds (last_breaks h b n)) (lines_blank cs (is_given o.digit) k i here end ls a over)
@@ -215,11 +219,14 @@ module _ (cs : List ℕ) where
     where
       rest : List ℕ
       rest = slice_range cs (p + 1) q
+
       whole : slice_range cs p q ≡ c ∷ rest
       whole = slice_join cs p (p + 1) q (omega arith) (omega (arith, l)) ∙ ap (λ v. v ++ rest) (slice_one cs p (p + 1) c h refl)
+
       class : (w : Bool) → is_white c ≡ w → (Stands cs is_white p → ⊥) → false ≡ w
       class true e n = absurd (n (c, h, e))
       class false e n = refl
+
       go : (b : Bool) → OnTrue b (Stands cs is_white p) → OnFalse b (Stands cs is_white p → ⊥) → b ≡ is_white c
       go true (d, g, u) none = sym (ap is_white (same_char cs p c d h g) ∙ u)
       go false there n = class (is_white c) refl n

@@ -72,7 +72,7 @@ module _ (cs : List ℕ) where
   unfolding blank_rest
   blank_rest_same i j k (m, r, (a, c, e)) (n, s, (b, d, f)) =
       let at : m ≡ n = run_same cs is_space i m n r s
-          (comment_stops is_space space_hash space_feed space_return m a j c e) (comment_stops is_space space_hash space_feed space_return n b k d f) in
+      (comment_stops is_space space_hash space_feed space_return m a j c e) (comment_stops is_space space_hash space_feed space_return n b k d f) in
       let to : a ≡ b = comment_same n a b j k (subst (λ x. maybe (comment cs) x a) at c) e d f in
       line_end_same cs b j k (subst (λ x. line_end cs x j) to e) f
 
@@ -368,6 +368,7 @@ module _ (cs : List ℕ) where
     where
       meet : Signs i n t → Digit n → n ≡ m
       meet o q = signs_meet i m n s t a none o (no_both n q)
+
       go : Signs i n t → Digits n k e → k ≡ j
       go o (bare v w) = digits_meet m j k d None b last (bare (signs_meet i m k s t a none (subst (λ l. Signs i l t) (sym v) o) y) refl) x
       go (Signs.bare f l) (digit c g u v w) = absurd (free (subst Digit f (c, g, u)))

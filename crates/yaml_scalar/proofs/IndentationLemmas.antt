@@ -123,10 +123,12 @@ module _ (cs : List ℕ) where
     where
       whole : os ≡ [] → ns ≡ ms
       whole h = g ∙ ap (λ v. ms ++ v) h ∙ append-nil ms
+
       pick : l ≡ p → greatest ns ≡ greatest ms → LessIndented cs col p ⊎ Mark cs p ⊎ AtEnd cs p → Found col i k
       pick h u (inl d) = at_less l ms a (subst (LessIndented cs col) (sym h) d) (z ∙ ap (max col) u)
       pick h u (inr (inl d)) = at_mark l ms a (subst (Mark cs) (sym h) d) (z ∙ ap (max col) u)
       pick h u (inr (inr d)) = at_end l l ms a (run_none cs is_space l) (h ∙ d) (omega (arith, z, u))
+
       last : ((p ≡ l) × (os ≡ [])) ⊎ ((t : ℕ) × ((m : ℕ) × (run cs is_space l t × (t ≡ l + m)) × (os ≡ m ∷ [])) × ((p ≡ t) × AtEnd cs t)) →
           LessIndented cs col p ⊎ Mark cs p ⊎ AtEnd cs p → Found col i k
       last (inl (h, u)) c = pick (sym h) (ap greatest (whole u)) c

@@ -103,7 +103,7 @@ module _ (cs : List ℕ) where
   text_same : (k i j l : ℕ) (v w : List Line) → Text k i j v → Text k i l w → (j ≡ l) × (v ≡ w)
   text_same k i j l v w a b =
       let at : a.stop ≡ b.stop = run_same cs is_nb (i + k) a.stop b.stop a.chars b.chars
-          (tail_stops is_nb nb_feed nb_return a.stop j _ v a.ends) (tail_stops is_nb nb_feed nb_return b.stop l _ w b.ends) in
+      (tail_stops is_nb nb_feed nb_return a.stop j _ v a.ends) (tail_stops is_nb nb_feed nb_return b.stop l _ w b.ends) in
       tail_same b.stop j l (slice_range cs (i + k) b.stop) v w (subst (λ x. Tail x j (slice_range cs (i + k) x) v) at a.ends) b.ends
 
   -- k spaces and then a character of the line
@@ -216,6 +216,7 @@ module _ (cs : List ℕ) where
     where
       blanks : Any (any_line cs k) p i ys
       blanks = any_by (λ x y v b. inl b) a
+
       go : ((q ≡ p) × (zs ≡ [])) ⊎ ((r : ℕ) × (us vs : List Line) × text_line cs s k p r us × Any (any_line cs k) q r vs × (zs ≡ us ++ vs)) → Any (any_line cs k) q i (ys ++ zs)
       go (inl (f, g)) = subst (λ x. Any (any_line cs k) x i (ys ++ zs)) (sym f) (subst (Any (any_line cs k) p i) (sym (ap (λ v. ys ++ v) g ∙ append-nil ys)) blanks)
       go (inr (r, us, vs, t, rest, g)) =

@@ -68,6 +68,7 @@ module _ (cs : List ℕ) where
     where
       stands : (c : ℕ) → slice_get cs i ≡ Some c → ⊥
       stands c h = end_stops (λ d. d == c) i e (c, h, same_code c)
+
       go : line_brk cs i j → ⊥
       go (inl (h, f)) = stands 10 h
       go (inr (inl (h, g, f))) = stands 13 h
@@ -99,10 +100,13 @@ module _ (cs : List ℕ) where
     where
       here : slice_get cs i ≡ Some 10
       here = g ∙ ap Some (code_of d 10 t)
+
       back : slice_get cs (i - 1) ≡ Some 13
       back = h ∙ ap Some (code_of c 13 s)
+
       two : (m : ℕ) → i - 1 ≡ m → slice_get cs m ≡ Some 10 → ⊥
       two m e f = let x : 10 ≡ 13 = same_char cs m 10 13 f (ap (slice_get cs) (sym e) ∙ back) in omega (arith, x)
+
       go : line_brk cs k i → ⊥
       go (inl (f, e)) = two k (omega (arith, e)) f
       go (inr (inl (f, n, e))) = two (k + 1) (omega (arith, e)) n

@@ -52,9 +52,16 @@ module _ (cs : List ℕ) where
 
   pub found_end : (col i p q n longest count k : ℕ) → Searched col i p longest count → indent cs n p q → AtEnd cs q → k ≡ max longest n → indentation cs col None i i k
   unfolding indentation longest_indentation
-  found_end col i p q n longest count k s d e f =
-      (refl, q, inr (q, s.widths ++ n ∷ [], (p, s.widths, n ∷ [], s.lines, inr (q, (n, (indent_run cs n p q d, indent_place cs n p q d), refl), (refl, e)), refl),
-      (q, (refl, inr (inr e)), (refl, omega (arith, f, h, greatest_push s.widths n)))))
+  found_end col i p q n longest count k s d e f = (
+    refl,
+    q,
+    inr (
+      q,
+      s.widths ++ n ∷ [],
+      (p, s.widths, n ∷ [], s.lines, inr (q, (n, (indent_run cs n p q d, indent_place cs n p q d), refl), (refl, e)), refl),
+      (q, (refl, inr (inr e)), (refl, omega (arith, f, h, greatest_push s.widths n))),
+    ),
+  )
     where
       h : longest ≡ max col (greatest s.widths)
       h = s.longest_is
@@ -85,10 +92,13 @@ module _ (cs : List ℕ) where
     where
       h : longest ≡ max col (greatest s.widths)
       h = s.longest_is
+
       r0 : run cs is_space p q
       r0 = indent_run cs n p q d
+
       at : q ≡ p + n
       at = indent_place cs n p q d
+
       go : Found cs col i k → ⊥
       go (at_line o u ns f g x y t z v) =
           let one = found_lines cs i p o s.widths ns s.lines (q, r0, inl e) f (u, t, inl v) in
@@ -113,17 +123,21 @@ module _ (cs : List ℕ) where
       stops : NoSpace cs q ⊎ (AtEnd cs q × (q ≤ i + k)) → Stands cs is_space q → ⊥
       stops (inl n) = no_space_stops cs q n
       stops (inr (z, l)) = end_stops cs is_space q z
+
       no_empty : (j : ℕ) (v : List Line) → Blank cs k i j v → NoSpace cs q ⊎ (AtEnd cs q × (q ≤ i + k)) → ⊥
       no_empty j v b (inl n) = no_blank_at cs k i j q v b r n
       no_empty j v b (inr (z, l)) = no_blank_end cs k i j q v b r z
+
       all_spaces : (j : ℕ) (v : List Line) (t : Text cs k i j v) → run cs is_space (i + k) t.stop → NoSpace cs q ⊎ (AtEnd cs q × (q ≤ i + k)) → ⊥
       all_spaces j v t s e = go e
         where
           at : t.stop ≡ q
           at = run_same cs is_space i t.stop q (run_join cs is_space i (i + k) t.stop t.spaces s) r (tail_stops cs is_space space_feed space_return t.stop j _ v t.ends) (stops e)
+
           ends : NoSpace cs q → Tail cs t.stop j (slice_range cs (i + k) t.stop) v → ⊥
           ends n (broken b f) = no_space_no_brk cs q j n (subst (λ x. brk cs x j) at b)
           ends n (last z f g) = no_space_no_end cs q n (sym at ∙ z)
+
           go : NoSpace cs q ⊎ (AtEnd cs q × (q ≤ i + k)) → ⊥
           go (inl n) = ends n t.ends
           go (inr (z, l)) = let m = t.some in omega (arith, at, m, l)
@@ -144,8 +158,10 @@ module _ (cs : List ℕ) where
     where
       whole : ms ≡ n ∷ vs
       whole = g ∙ ap (λ v. v ++ vs) f
+
       big : greatest ms ≡ max n (greatest vs)
       big = ap greatest whole
+
       line : Blank cs k i m (blank ∷ [])
       line = record { stop = q; spaces = r; few = omega (arith, e, l, big); ends = b; is = refl }
 
@@ -190,8 +206,10 @@ module _ (cs : List ℕ) where
     where
       at : m ≡ i + k
       at = let h = indent_place cs n i m d in omega (arith, h, e)
+
       more : m < q
       more = let none : ¬ (m ≡ q) = λ h. line_end_stops cs is_nb nb_feed nb_return q j l (subst (Stands cs is_nb) h s) in let le : m ≤ q = r.0 in omega (arith, none, le)
+
       line : (v : List Line) → Tail cs q j (slice_range cs (i + k) q) v → text_line cs true k i j v
       line v t = to_text cs true k i j v (record {
         unmarked = f;
@@ -201,16 +219,22 @@ module _ (cs : List ℕ) where
         some = omega (arith, more, at);
         ends = t;
       }) (inl refl)
+
       here : (b : Bool) → text b (slice_range cs m q) ∷ [] ≡ text b (slice_range cs (i + k) q) ∷ []
       here b = ap (λ x. text b (slice_range cs x q) ∷ []) at
+
       go : brk cs q j ⊎ ((j ≡ q) × AtEnd cs q) → Reads k i m q j
       go (inl b) = record {
-        some = more; ended = true; line = line _ (broken b (here true));
+        some = more;
+        ended = true;
+        line = line _ (broken b (here true));
         broken = λ x. brk_onward cs q j b;
         last = λ x. let y : true ≡ false = x in cc;
       }
       go (inr (x, z)) = record {
-        some = more; ended = false; line = line _ (last z x (here false));
+        some = more;
+        ended = false;
+        line = line _ (last z x (here false));
         broken = λ y. let w : false ≡ true = y in cc;
         last = λ y. (x, x ∙ z);
       }

@@ -77,10 +77,13 @@ module _ (cs : List ℕ) where
     where
       p : m ≡ i + n
       p = indent_place cs n i m s
+
       r : run cs is_space i m
       r = indent_run cs n i m s
+
       hash : slice_get cs m ≡ Some 35
       hash = comment_hash m c.0 c.1
+
       go : (f : ℕ) → maybe (comment_lines cs k) i f → f ≤ e
       go f (inl h) = let x : i ≤ m = r.0 in let y : m ≤ d = line_on m d c in let z : d ≤ e = spans_onward l_on more in omega (arith, h, x, y, z)
       go f (inr u) =

@@ -8,6 +8,10 @@ ghost use Rattle.yaml_scalar.specs.Outcome.{Answers};
 ghost use Rattle.yaml_scalar.specs.BlockRules.{FurthestAlone};
 ghost use Rattle.yaml_scalar.specs.BlockModel.{column, sign_of, styled};
 
+use crate::block::blanks::trailing_comments;
+use crate::block::content::read_content;
+use crate::block::header::read_header;
+use crate::text::refusal;
 use std::alloc::Global;
 use std::borrow::CowStr;
 use yaml_text::chars::Chars;
@@ -15,15 +19,12 @@ use yaml_text::context::Ctx;
 use yaml_text::fault::Fault;
 use yaml_text::places::accept;
 
-use crate::block::blanks::trailing_comments;
-use crate::block::content::read_content;
-use crate::block::header::read_header;
-use crate::text::refusal;
-
 mod blanks;
 mod content;
 mod header;
 mod lines;
+#[cfg(test)]
+mod tests;
 
 /// The column after a parent's indentation.
 fn column(n: i32) -> usize

@@ -45,7 +45,11 @@ fn is_spaced(source: &Chars<'_>, at: usize) -> bool
 fn shape(is_spaced: bool) -> Before
     ensures { result ≡ shape is_spaced }
 {
-    if is_spaced { Before::Spaced } else { Before::Plain }
+    if is_spaced {
+        Before::Spaced
+    } else {
+        Before::Plain
+    }
 }
 
 /// Whether a line is folded with the one before it.
@@ -126,7 +130,12 @@ pub fn read_content(
                 breaks += 1;
                 here = next;
             }
-            Line::Text { from, to, next, is_ended } => {
+            Line::Text {
+                from,
+                to,
+                next,
+                is_ended,
+            } => {
                 let spaced = is_spaced(source, from);
                 push_breaks(&mut text, are_folded(is_folded, before, spaced), breaks)?;
                 push_between(&mut text, source, from, to)?;

@@ -82,10 +82,24 @@ fn read_indicators(source: &Chars<'_>, at: usize) -> (Header, usize)
     let (digit, first) = read_digit(source, at);
     let (chomp, second) = read_sign(source, first);
     match digit {
-        Some(_) => (Header { digit, digit_at: at, chomp }, second),
+        Some(_) => (
+            Header {
+                digit,
+                digit_at: at,
+                chomp,
+            },
+            second,
+        ),
         None => {
             let (later, third) = read_digit(source, second);
-            (Header { digit: later, digit_at: second, chomp }, third)
+            (
+                Header {
+                    digit: later,
+                    digit_at: second,
+                    chomp,
+                },
+                third,
+            )
         }
     }
 }

@@ -63,16 +63,28 @@ fn find_start(source: &Chars<'_>, at: usize, col: usize) -> Result<Start, usize>
             }
             None => match next(source, stop) {
                 None => {
-                    return Ok(Start { indent: longest.max(width), line, empty });
+                    return Ok(Start {
+                        indent: longest.max(width),
+                        line,
+                        empty,
+                    });
                 }
                 Some(_) => {
                     if stands_mark(source, line) || width < col {
-                        return Ok(Start { indent: longest, line, empty });
+                        return Ok(Start {
+                            indent: longest,
+                            line,
+                            empty,
+                        });
                     }
                     if width < longest {
                         return Err(stop);
                     }
-                    return Ok(Start { indent: width, line, empty });
+                    return Ok(Start {
+                        indent: width,
+                        line,
+                        empty,
+                    });
                 }
             },
         }
@@ -101,7 +113,11 @@ pub fn read_start(source: &Chars<'_>, at: usize, col: usize, header: Header) -> 
             if col == 0 {
                 Err(header.digit_at)
             } else {
-                Ok(Start { indent: col - 1 + digit, line: at, empty: 0 })
+                Ok(Start {
+                    indent: col - 1 + digit,
+                    line: at,
+                    empty: 0,
+                })
             }
         }
     }
@@ -126,7 +142,12 @@ pub fn read_line(source: &Chars<'_>, at: usize, indent: usize) -> Line
                     Line::Over(at)
                 } else {
                     let (to, after) = rest_of_line(source, from);
-                    Line::Text { from, to, next: after, is_ended: to < after }
+                    Line::Text {
+                        from,
+                        to,
+                        next: after,
+                        is_ended: to < after,
+                    }
                 }
             }
         },
