@@ -2,3 +2,4 @@ pub mod AnyLemmas
 pub mod Runs
 pub mod OutcomeLemmas
 pub mod GapLemmas
+pub mod PlainLemmas

@@ -105,6 +105,10 @@ module _ (cs : List ℕ) where
   unfoldable pub fold_more : ℕ → Ctx → TextRule
   fold_more n c = where_both (Unmarked cs) (folds n c ⨾ taken (Later c))
 
+  -- no break stands here whose lead ends before such a character, on a line that is no mark
+  abbrev pub NoLine : ℕ → Ctx → ℕ → Type 0
+  NoLine n c i = (j : ℕ) (xs : List ℕ) → breaks n c i j xs → Later c j → (Mark cs j → ⊥) → ⊥
+
   unfoldable pub plain_chain : ℕ → Ctx → TextRule
   plain_chain n c = where_both (Unmarked cs) (taken (PlainFirst cs c) ⨾ any (plain_more n c))
 

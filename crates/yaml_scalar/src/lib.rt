@@ -3,4 +3,5 @@
 
 pub mod class;
 pub mod line;
+pub mod plain;
 pub mod text;
