@@ -3,3 +3,4 @@ pub mod Runs
 pub mod OutcomeLemmas
 pub mod GapLemmas
 pub mod PlainLemmas
+pub mod QuotedLemmas

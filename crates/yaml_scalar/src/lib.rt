@@ -4,4 +4,6 @@
 pub mod class;
 pub mod line;
 pub mod plain;
+pub mod quoted;
+pub mod single;
 pub mod text;
