@@ -2,5 +2,8 @@ pub mod AnyLemmas
 pub mod Runs
 pub mod OutcomeLemmas
 pub mod GapLemmas
+pub mod Readings
 pub mod PlainLemmas
+pub mod PlainReadings
 pub mod QuotedLemmas
+pub mod QuotedReadings

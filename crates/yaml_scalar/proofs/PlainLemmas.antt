@@ -37,7 +37,7 @@ colon_ns : is_ns 58 ≡ true
 unfolding is_ns is_nb is_break is_white
 colon_ns = refl
 
-hash_ns : is_ns 35 ≡ true
+pub hash_ns : is_ns 35 ≡ true
 unfolding is_ns is_nb is_break is_white
 hash_ns = refl
 
@@ -196,7 +196,7 @@ module _ (cs : List ℕ) where
   more_onward n c i j xs (inl (h, x, g, e, f)) = omega (arith, e)
   more_onward n c i j xs (inr (m, us, vs, p, (l, x, g, e, f), d)) = let a : i ≤ m = gap_onward cs n c i m us p in omega (arith, a, e)
 
-  line_is_more : (n : ℕ) (c : Ctx) (i j : ℕ) (xs : List ℕ) → line_more cs c i j xs → plain_more cs n c i j xs
+  pub line_is_more : (n : ℕ) (c : Ctx) (i j : ℕ) (xs : List ℕ) → line_more cs c i j xs → plain_more cs n c i j xs
   unfolding line_more plain_more gap
   line_is_more n c i j xs (inl p) = inl p
   line_is_more n c i j xs (inr (m, us, vs, p, q, d)) = inr (m, us, vs, inl p, q, d)

@@ -29,7 +29,7 @@ single_verbatim : (x : ℕ) → (is_ns x && not (x == 39)) ≡ true → verbatim
 unfolding verbatim
 single_verbatim x p = grind (arith, p)
 
-single_ns : (x : ℕ) → (is_ns x && not (x == 39)) ≡ true → is_ns x ≡ true
+pub single_ns : (x : ℕ) → (is_ns x && not (x == 39)) ≡ true → is_ns x ≡ true
 single_ns x p = grind (arith, p)
 
 single_quote : (x : ℕ) → (is_ns x && not (x == 39)) ≡ true → x ≡ 39 → ⊥

@@ -9,10 +9,10 @@ ghost use Rattle.yaml_text.specs.Place.{Steps};
 ghost use Rattle.yaml_text.specs.Source.{bytes_of, text_of, place_of, IsBorder};
 ghost use Rattle.yaml_text.specs.grammar.Calls.{Unread};
 ghost use Rattle.yaml_text.specs.grammar.Characters.{is_white};
-ghost use Rattle.yaml_text.specs.grammar.FlowScalars.{plain_safe, PlainFirst};
+ghost use Rattle.yaml_text.specs.grammar.FlowScalars.{plain_safe, PlainFirst, plain};
 ghost use Rattle.yaml_text.specs.grammar.Rules.{run, Stands, any};
 ghost use Rattle.yaml_text.specs.grammar.Separation.{Mark};
-ghost use Rattle.yaml_scalar.specs.Chains.{breaks, Later, NoLine, line_more, plain_chain};
+ghost use Rattle.yaml_scalar.specs.Chains.{breaks, Later, NoLine, line_more};
 ghost use Rattle.yaml_scalar.specs.Outcome.{Answers};
 
 use crate::class::{is_plain_head, is_plain_inner, is_plain_safe, is_plain_sign};
@@ -158,7 +158,7 @@ fn plain_from<'a>(
     requires { IsBorder source.now at }
     ensures border { IfOk result (λ r. IsBorder source.now r.1) }
     ensures onward { IfOk result (λ r. at < r.1) }
-    ensures reads { Answers Furthest (plain_chain (text_of source.now) least (context_of context)) (place_of source.now at)
+    ensures reads { Answers Furthest (plain (text_of source.now) least (context_of context)) (place_of source.now at)
         (λ r. place_of source.now r.1) (λ r. chars (cow_str_bytes r.0)) result }
 {
     let Some((c, first)) = next(source, at) else {
@@ -210,7 +210,7 @@ pub fn read_plain<'a>(
     requires indentation { pos 0 ≤ℤ n }
     ensures border { IfOk result (λ r. IsBorder source.now r.1) }
     ensures onward { IfOk result (λ r. at < r.1) }
-    ensures reads { Answers Furthest (plain_chain (text_of source.now) (nat_abs n) (context_of context)) (place_of source.now at)
+    ensures reads { Answers Furthest (plain (text_of source.now) (nat_abs n) (context_of context)) (place_of source.now at)
         (λ r. place_of source.now r.1) (λ r. chars (cow_str_bytes r.0)) result }
 {
     plain_from(alloc, source, at, columns(n), context)

@@ -5,7 +5,7 @@ ghost use Rattle.std.specs.Cow.{cow_str_bytes};
 ghost use Rattle.yaml_text.specs.Answer.{Only};
 ghost use Rattle.yaml_text.specs.EventModel.{context_of};
 ghost use Rattle.yaml_text.specs.Source.{text_of, place_of, IsBorder};
-ghost use Rattle.yaml_scalar.specs.Chains.{single_chain};
+ghost use Rattle.yaml_text.specs.grammar.FlowScalars.{single};
 ghost use Rattle.yaml_scalar.specs.Outcome.{Answers};
 
 use crate::line::{columns, read_break};
@@ -29,7 +29,7 @@ fn single_from<'a>(
     requires { IsBorder source.now at }
     ensures border { IfOk result (λ r. IsBorder source.now r.1) }
     ensures onward { IfOk result (λ r. at < r.1) }
-    ensures reads { Answers Only (single_chain (text_of source.now) least (context_of context)) (place_of source.now at)
+    ensures reads { Answers Only (single (text_of source.now) least (context_of context)) (place_of source.now at)
         (λ r. place_of source.now r.1) (λ r. chars (cow_str_bytes r.0)) result }
 {
     let Some(start) = accept(source, at, '\'') else {
@@ -81,7 +81,7 @@ pub fn read_single<'a>(
     requires indentation { pos 0 ≤ℤ n }
     ensures border { IfOk result (λ r. IsBorder source.now r.1) }
     ensures onward { IfOk result (λ r. at < r.1) }
-    ensures reads { Answers Only (single_chain (text_of source.now) (nat_abs n) (context_of context)) (place_of source.now at)
+    ensures reads { Answers Only (single (text_of source.now) (nat_abs n) (context_of context)) (place_of source.now at)
         (λ r. place_of source.now r.1) (λ r. chars (cow_str_bytes r.0)) result }
 {
     single_from(alloc, source, at, columns(n), context)

@@ -8,11 +8,13 @@ use Rattle.yaml_text.specs.Answer.{Only}
 use Rattle.yaml_text.specs.EventModel.{context_of}
 use Rattle.yaml_text.specs.Source.{text_of, place_of}
 use Rattle.yaml_text.specs.grammar.Rules.{any}
-use Rattle.yaml_scalar.specs.Chains.{single_chain, quoted_more, fold_text}
+use Rattle.yaml_text.specs.grammar.FlowScalars.{single}
+use Rattle.yaml_scalar.specs.Chains.{quoted_more, fold_text}
 use Rattle.yaml_scalar.proofs.AnyLemmas.{any_onward}
 use Rattle.yaml_scalar.proofs.GapLemmas.{folds_is, no_fold}
 use Rattle.yaml_scalar.proofs.OutcomeLemmas.{refuses_unread}
 use Rattle.yaml_scalar.proofs.QuotedLemmas.{SingleState, single_start, single_line, single_pair, single_fold, single_end, single_none, no_single, quoted_onward, close_here}
+use Rattle.yaml_scalar.proofs.QuotedReadings.{single_only, single_unread}
 use Rattle.yaml_scalar.proofs.single.single_from.Goals as goal
 
 -- a text and then two stretches side by side
@@ -21,7 +23,8 @@ two_slices cs xs q i k j p h =
     append_assoc xs (slice_range cs i k) (slice_range cs k j) ∙ ap (λ v. xs ++ v) (sym (slice_join cs i k j (any_onward (quoted_onward cs q) p) h))
 
 pub returns-in_default-clause-reads : goal.returns-in_default-clause-reads
-returns-in_default-clause-reads c = no_single (text_of c.args.source.now) c.args.least (context_of c.args.context) _ c.in_default.ensures.none
+returns-in_default-clause-reads c =
+    single_unread (text_of c.args.source.now) _ _ _ (no_single (text_of c.args.source.now) c.args.least (context_of c.args.context) _ c.in_default.ensures.none)
 
 pub pieces-init : goal.pieces-init
 pieces-init c =
@@ -49,11 +52,11 @@ returns-then-from-start-clause-reads c =
     let k = place_of c.args.source.now c.quoted_run-end.result.0 in
     let j = place_of c.args.source.now c.quoted_run-end.result.1 in
     let same : slice_range cs i j ≡ chars c.text_between.result.now = ap (λ x. slice_range cs (place_of c.args.source.now x) j) c.if-from-start.true ∙ sym c.text_between.ensures in
-    subst (Only (single_chain cs c.args.least (context_of c.args.context)) (place_of c.args.source.now c.args.at) (place_of c.args.source.now c.in-Some-accept.quote))
+    subst (Only (single cs c.args.least (context_of c.args.context)) (place_of c.args.source.now c.args.at) (place_of c.args.source.now c.in-Some-accept.quote))
     (two_slices cs old 39 i k j q.line q.whites.0 ∙ ap (λ v. v ++ slice_range cs i j) (c.pieces.invariant.nothing c.if-from-start.true) ∙ same)
-    (single_end cs c.args.least (context_of c.args.context) _ _ k j _ (old ++ slice_range cs i k) s.is s.next
+    (single_only cs _ _ _ _ _ (single_end cs c.args.least (context_of c.args.context) _ _ k j _ (old ++ slice_range cs i k) s.is s.next
     (single_line cs c.args.least (context_of c.args.context) _ _ i k old (slice_range cs i k) c.pieces.invariant.state q.line) q.whites
-    (close_here cs _ _ t.is t.next c.in-None-accept.ensures.none))
+    (close_here cs _ _ t.is t.next c.in-None-accept.ensures.none)))
 
 pub returns-in-None-accept-clause-reads : goal.returns-in-None-accept-clause-reads
 returns-in-None-accept-clause-reads c =
@@ -65,11 +68,11 @@ returns-in-None-accept-clause-reads c =
     let i = place_of c.args.source.now c.pieces.from in
     let k = place_of c.args.source.now c.quoted_run-end.result.0 in
     let j = place_of c.args.source.now c.quoted_run-end.result.1 in
-    subst (Only (single_chain cs c.args.least (context_of c.args.context)) (place_of c.args.source.now c.args.at) (place_of c.args.source.now c.in-Some-accept.quote))
+    subst (Only (single cs c.args.least (context_of c.args.context)) (place_of c.args.source.now c.args.at) (place_of c.args.source.now c.in-Some-accept.quote))
     (two_slices cs old 39 i k j q.line q.whites.0 ∙ sym c.in_ok-push_between-in-None-accept.ensures)
-    (single_end cs c.args.least (context_of c.args.context) _ _ k j _ (old ++ slice_range cs i k) s.is s.next
+    (single_only cs _ _ _ _ _ (single_end cs c.args.least (context_of c.args.context) _ _ k j _ (old ++ slice_range cs i k) s.is s.next
     (single_line cs c.args.least (context_of c.args.context) _ _ i k old (slice_range cs i k) c.pieces.invariant.state q.line) q.whites
-    (close_here cs _ _ t.is t.next c.in-None-accept.ensures.none))
+    (close_here cs _ _ t.is t.next c.in-None-accept.ensures.none)))
 
 pub pieces-preserved-in-Some-accept-2 : goal.pieces-preserved-in-Some-accept-2
 pieces-preserved-in-Some-accept-2 c =
@@ -106,9 +109,9 @@ returns-in-Err-clause-reads c =
     let i = place_of c.args.source.now c.pieces.from in
     let k = place_of c.args.source.now c.quoted_run-end.result.0 in
     refuses_unread c.refusal.result c.refusal.ensures
-    (single_none cs c.args.least (context_of c.args.context) _ _ k _ _ s.next
+    (single_unread cs _ _ _ (single_none cs c.args.least (context_of c.args.context) _ _ k _ _ s.next
     (single_line cs c.args.least (context_of c.args.context) _ _ i k _ (slice_range cs i k) c.pieces.invariant.state q.line) q.whites q.no_white c.in-None.ensures.none q.no_text
-    (no_fold cs c.args.least (context_of c.args.context) _ _ q.whites q.no_white c.in-Err.ensures.none))
+    (no_fold cs c.args.least (context_of c.args.context) _ _ q.whites q.no_white c.in-Err.ensures.none)))
 
 pub pieces-preserved : goal.pieces-preserved
 pieces-preserved c =
