@@ -5,5 +5,8 @@ pub mod GapLemmas
 pub mod Readings
 pub mod PlainLemmas
 pub mod PlainReadings
+pub mod EscapeLemmas
 pub mod QuotedLemmas
 pub mod QuotedReadings
+pub mod DoubleLemmas
+pub mod DoubleReadings

@@ -165,9 +165,14 @@ module _ (cs : List ℕ) where
   lines_grammar n c {j} {k} {xs} (then o ys zs (inr (q, us, vs, inr fd, (l, x, g, e, f), b)) rest t) P s m p d le all after =
       let next : AfterNs cs o = (q, e, later_ns cs c q l) in
       let (y, as1, bs, line, more, h) = lines_grammar n c rest (PlainChar cs c) q o (later_char c q l) e (omega arith) (λ w u v. absurd (omega (arith, u, v))) next in
-      let one : slice_range cs q o ≡ vs = slice_one cs q o x g e ∙ sym f in
-      (k, slice_range cs s k, (us ++ as1) ++ bs, line_is P c s k m p d le all after, then y (us ++ as1) bs (q, us, as1, fold_grammar cs n c k q us (clear_ns cs k after) fd, line, refl) more refl,
-        ap (λ v. slice_range cs s k ++ v) (t ∙ ap (λ v. v ++ zs) (b ∙ ap (λ v. us ++ v) (sym one)) ∙ append_assoc us (slice_range cs q o) zs ∙ ap (λ v. us ++ v) h ∙ sym (append_assoc us as1 bs)))
+      let one : slice_range cs q o ≡ vs = slice_one cs q o x g e ∙ sym f in (
+        k,
+        slice_range cs s k,
+        (us ++ as1) ++ bs,
+        line_is P c s k m p d le all after,
+        then y (us ++ as1) bs (q, us, as1, fold_grammar cs n c k q us (clear_ns cs k after) fd, line, refl) more refl,
+        ap (λ v. slice_range cs s k ++ v) (t ∙ ap (λ v. v ++ zs) (b ∙ ap (λ v. us ++ v) (sym one)) ∙ append_assoc us (slice_range cs q o) zs ∙ ap (λ v. us ++ v) h ∙ sym (append_assoc us as1 bs)),
+      )
 
   pub plain_from_chain : (n : ℕ) (c : Ctx) (i j : ℕ) (xs : List ℕ) → plain_chain cs n c i j xs → plain cs n c i j xs
   unfolding plain plain_chain

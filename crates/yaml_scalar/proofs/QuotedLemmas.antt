@@ -138,7 +138,7 @@ module _ (cs : List ℕ) where
     }
 
     -- no white follows a gap that is read
-    still : (j k : ℕ) → Ns cs j → run cs is_white j k → j ≡ k
+    pub still : (j k : ℕ) → Ns cs j → run cs is_white j k → j ≡ k
     still j k s r = run_same cs is_white j j k (run_none cs is_white j) r (ns_stops cs j s) (here (cases_eq j k))
       where
         here : (j ≡ k) ⊎ (j ≡ k → ⊥) → NoWhite cs k

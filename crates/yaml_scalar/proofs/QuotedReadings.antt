@@ -68,9 +68,14 @@ module _ (cs : List ℕ) where
       line_pieces {j} h {i} r (done e f) =
           (h, [], slice_range cs h j, any_none, (subst (run cs is_white h) (sym e) r, refl), ap (λ v. slice_range cs h i ++ v) f ∙ append-nil (slice_range cs h i) ∙ ap (slice_range cs h) (sym e))
       line_pieces {j} h {i} r (then k ys zs (inl s) rest g) =
-          let (m, us, vs, chain, w, e) = line_pieces k (run_none cs is_white k) rest in
-          (m, (slice_range cs h i ++ ys) ++ us, vs, then k (slice_range cs h i ++ ys) us (i, slice_range cs h i, ys, gaps.whites h i r, s, refl) chain refl, w,
-            ap (λ v. slice_range cs h i ++ v) (g ∙ ap (λ v. ys ++ v) (sym (ap (λ v. v ++ zs) (slice_none cs k)) ∙ e)) ∙ regroup (slice_range cs h i) ys us vs)
+          let (m, us, vs, chain, w, e) = line_pieces k (run_none cs is_white k) rest in (
+            m,
+            (slice_range cs h i ++ ys) ++ us,
+            vs,
+            then k (slice_range cs h i ++ ys) us (i, slice_range cs h i, ys, gaps.whites h i r, s, refl) chain refl,
+            w,
+            ap (λ v. slice_range cs h i ++ v) (g ∙ ap (λ v. ys ++ v) (sym (ap (λ v. v ++ zs) (slice_none cs k)) ∙ e)) ∙ regroup (slice_range cs h i) ys us vs,
+          )
         where
           regroup : (a b c d : List ℕ) → a ++ (b ++ (c ++ d)) ≡ ((a ++ b) ++ c) ++ d
           regroup a b c d = simp append_assoc
@@ -151,11 +156,23 @@ module _ (cs : List ℕ) where
       whites_first : (i m k j : ℕ) (us vs zs : List ℕ) → copied cs (run cs is_white) i m us → S m k vs → Lines k j zs → Lines i j ((us ++ vs) ++ zs)
       whites_first i m k j us vs zs w s (inl line) = inl (any_append (any_snoc (whites_line i m us w) (inl s)) line)
       whites_first i m k j us vs zs (r, f) s (inr (l, ps, qs, inl (n, as1, bs, p, x, e), rest, d)) =
-          inr (l, (us ++ vs) ++ ps, qs, inl (n, (us ++ vs) ++ as1, bs, then k (us ++ vs) as1 (m, us, vs, subst (any (white_text cs) i m) (sym f) (run_loose i m r), s, refl) p refl, x, ap (λ v. (us ++ vs) ++ v) e ∙ sym (append_assoc (us ++ vs) as1 bs)), rest,
-            ap (λ v. (us ++ vs) ++ v) d ∙ sym (append_assoc (us ++ vs) ps qs))
+          inr (
+            l,
+            (us ++ vs) ++ ps,
+            qs,
+            inl (n, (us ++ vs) ++ as1, bs, then k (us ++ vs) as1 (m, us, vs, subst (any (white_text cs) i m) (sym f) (run_loose i m r), s, refl) p refl, x, ap (λ v. (us ++ vs) ++ v) e ∙ sym (append_assoc (us ++ vs) as1 bs)),
+            rest,
+            ap (λ v. (us ++ vs) ++ v) d ∙ sym (append_assoc (us ++ vs) ps qs),
+          )
       whites_first i m k j us vs zs w s (inr (l, ps, qs, inr (n, as1, bs, p, x, e), rest, d)) =
-          inr (l, (us ++ vs) ++ ps, qs, inr (n, (us ++ vs) ++ as1, bs, any_append (any_snoc (whites_line i m us w) (inl s)) p, x, ap (λ v. (us ++ vs) ++ v) e ∙ sym (append_assoc (us ++ vs) as1 bs)), rest,
-            ap (λ v. (us ++ vs) ++ v) d ∙ sym (append_assoc (us ++ vs) ps qs))
+          inr (
+            l,
+            (us ++ vs) ++ ps,
+            qs,
+            inr (n, (us ++ vs) ++ as1, bs, any_append (any_snoc (whites_line i m us w) (inl s)) p, x, ap (λ v. (us ++ vs) ++ v) e ∙ sym (append_assoc (us ++ vs) as1 bs)),
+            rest,
+            ap (λ v. (us ++ vs) ++ v) d ∙ sym (append_assoc (us ++ vs) ps qs),
+          )
 
       last_gap : (i j : ℕ) (xs : List ℕ) → Kinds i j xs → Lines i j xs
       last_gap i j xs (inl w) = inl (whites_line i j xs w)
@@ -207,9 +224,18 @@ module _ (cs : List ℕ) where
 
   single_from_chain : (n : ℕ) (c : Ctx) (i j : ℕ) (xs : List ℕ) → single_chain cs n c i j xs → single cs n c i j xs
   unfolding single single_chain single_rest closing
-  single_from_chain n c i j xs (u, (k, (q, a), (o, us, vs, chain, (l, g, (h, none, e)), t))) =
-      (u, (k, (q, a), (l, lines_of (single_char cs) (several cs c (fold cs n)) never (gap cs n c) (single_kinds n c) single_clear k l xs (clear_after cs i k 39 q a (omega arith)) (o, us, vs, chain, g, t),
-        (l + 1, (h, refl), (e, λ (d, s, v). none (s ∙ ap Some (quote_is d v)))))))
+  single_from_chain n c i j xs (u, (k, (q, a), (o, us, vs, chain, (l, g, (h, none, e)), t))) = (
+    u,
+    (
+      k,
+      (q, a),
+      (
+        l,
+        lines_of (single_char cs) (several cs c (fold cs n)) never (gap cs n c) (single_kinds n c) single_clear k l xs (clear_after cs i k 39 q a (omega arith)) (o, us, vs, chain, g, t),
+        (l + 1, (h, refl), (e, λ (d, s, v). none (s ∙ ap Some (quote_is d v)))),
+      ),
+    ),
+  )
 
   pub single_only : (n : ℕ) (c : Ctx) (i j : ℕ) (xs : List ℕ) → Only (single_chain cs n c) i j xs → Only (single cs n c) i j xs
   single_only n c i j xs best = record {

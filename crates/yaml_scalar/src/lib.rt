@@ -2,6 +2,8 @@
 #![tactic(auto)]
 
 pub mod class;
+pub mod double;
+mod escape;
 pub mod line;
 pub mod plain;
 pub mod quoted;
