@@ -62,10 +62,18 @@ char_class c = go (is_white c) (is_break c) refl refl
     go false true p q = inr (inl q)
     go false false p q = inr (inr (ap (λ x. not x && not (is_white c)) q ∙ ap not p))
 
+pub ns_no_return : (c : ℕ) → is_ns c ≡ true → c ≢ 13
+unfolding is_ns is_nb is_break
+ns_no_return c p e = grind (arith, p, e)
+
+pub white_no_return : (c : ℕ) → is_white c ≡ true → c ≢ 13
+unfolding is_white
+white_no_return c p e = grind (arith, p, e)
+
 ten : (c : ℕ) → (c == 10) ≡ true → c ≡ 10
 ten c p = grind (arith, p)
 
-thirteen : (c : ℕ) → (c == 13) ≡ true → c ≡ 13
+pub thirteen : (c : ℕ) → (c == 13) ≡ true → c ≡ 13
 thirteen c p = grind (arith, p)
 
 slice_get_within : (cs : List ℕ) (i c : ℕ) → slice_get cs i ≡ Some c → i < length cs
@@ -188,7 +196,7 @@ module _ (cs : List ℕ) where
   unfolding margin
   margin_is n m i j k e s r = subst (λ x. margin cs x i k) e (j, s, r)
 
-  blank_white : (n i j : ℕ) → (margin cs n ⊔ less cs n) i j → run cs is_white i j
+  pub blank_white : (n i j : ℕ) → (margin cs n ⊔ less cs n) i j → run cs is_white i j
   unfolding less
   blank_white n i j (inl m) = margin_white n i j m
   blank_white n i j (inr (b, s)) = spaces_white i j s

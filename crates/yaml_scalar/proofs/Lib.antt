@@ -11,3 +11,11 @@ pub mod TrailingLemmas
 pub mod StartLemmas
 pub mod ContentLemmas
 pub mod BlockLemmas
+pub mod Readings
+pub mod PlainLemmas
+pub mod PlainReadings
+pub mod EscapeLemmas
+pub mod QuotedLemmas
+pub mod QuotedReadings
+pub mod DoubleLemmas
+pub mod DoubleReadings

@@ -1,6 +1,6 @@
 -- The flow scalars again, in the form that the proofs go through: gaps and characters in turn, where a gap is a perhaps
 -- empty run of whites or a fold. That these are the readings of the grammar is proved, and contracts cite the grammar.
-use Rattle.std.specs.Prelude.{◌≡◌, ◌≢◌, ℕ, ◌+◌, ◌⊎◌, List, [], ◌∷◌, Bool, true, false, not, ◌&&◌, ◌==◌, Some, slice_get}
+use Rattle.std.specs.Prelude.{◌≡◌, ◌≢◌, ℕ, ◌+◌, ◌⊎◌, List, [], ◌∷◌, Bool, true, false, not, ◌&&◌, ◌==◌, if◌then◌else◌, Option, Some, None, slice_get}
 use Rattle.yaml_text.specs.grammar.Rules.{Span, ◌◆◌, ◌⊔◌, ◌▸◌, ◌◂◌, ◌⨾◌, ◌∪◌, gives, seen, any, chr, run, copied, Stands, where_both}
 use Rattle.yaml_text.specs.grammar.Characters.{is_in, is_white, is_ns, is_indicator}
 use Rattle.yaml_text.specs.grammar.Separation.{Ctx, block_out, block_in, flow_out, flow_in, block_key, flow_key, indent, less, Mark, Unmarked}
@@ -29,6 +29,10 @@ plain_sign x = is_in x "?:-"
 -- what stands for itself between quotes, but for whites: in double quotes no backslash
 unfoldable pub verbatim : ℕ → ℕ → Bool
 verbatim q x = is_ns x && not (x == q) && not (q == 34 && x == 92)
+
+-- how many hexadecimal digits follow a backslash and this character
+unfoldable pub digit_count : ℕ → Option ℕ
+digit_count c = if c == 120 then Some 2 else if c == 117 then Some 4 else if c == 85 then Some 8 else None
 
 -- one space, or the LFs of the empty lines
 abbrev pub fold_text : List ℕ → List ℕ
@@ -104,6 +108,10 @@ module _ (cs : List ℕ) where
 
   unfoldable pub fold_more : ℕ → Ctx → TextRule
   fold_more n c = where_both (Unmarked cs) (folds n c ⨾ taken (Later c))
+
+  -- no break stands here whose lead ends before such a character, on a line that is no mark
+  abbrev pub NoLine : ℕ → Ctx → ℕ → Type 0
+  NoLine n c i = (j : ℕ) (xs : List ℕ) → breaks n c i j xs → Later c j → (Mark cs j → ⊥) → ⊥
 
   unfoldable pub plain_chain : ℕ → Ctx → TextRule
   plain_chain n c = where_both (Unmarked cs) (taken (PlainFirst cs c) ⨾ any (plain_more n c))

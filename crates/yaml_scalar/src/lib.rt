@@ -3,5 +3,10 @@
 
 pub mod block;
 pub mod class;
+pub mod double;
+mod escape;
 pub mod line;
+pub mod plain;
+pub mod quoted;
+pub mod single;
 pub mod text;

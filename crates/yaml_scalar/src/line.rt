@@ -1,5 +1,5 @@
 //! What stands on a line: whites, breaks, margins and document marks.
-ghost use Rattle.std.specs.Prelude.{◌≡◌, ◌≢◌, ◌≤◌, ◌<◌, IfSome, IfNone, IfOk, IfErr, Some, slice_get, replicate, ℕ, List};
+ghost use Rattle.std.specs.Prelude.{◌≡◌, ◌≢◌, ◌≤◌, ◌<◌, IfSome, IfNone, IfOk, IfErr, Some, slice_get, replicate, ℕ, List, ℤ, pos, ◌≤ℤ◌, nat_abs};
 ghost use Rattle.std.specs.Bool.{OnTrue, OnFalse};
 ghost use Rattle.yaml_text.specs.Source.{text_of, place_of, IsBorder};
 ghost use Rattle.yaml_text.specs.EventModel.{context_of};
@@ -13,6 +13,14 @@ use yaml_text::chars::Chars;
 use yaml_text::class::is_white;
 use yaml_text::context::Ctx;
 use yaml_text::places::{accept, is_border, next};
+
+/// An indentation that is not negative, as a count of spaces.
+pub fn columns(n: i32) -> usize
+    requires { pos 0 ≤ℤ n }
+    ensures { result ≡ nat_abs n }
+{
+    n as usize
+}
 
 /// The border after the whites that stand at a border.
 pub fn skip_whites(source: &Chars<'_>, at: usize) -> usize
