@@ -10,7 +10,7 @@ use Rattle.yaml_scalar.proofs.AnyLemmas.{SameEnd}
 use Rattle.yaml_text.specs.grammar.Calls.{Unread}
 use Rattle.yaml_scalar.proofs.Runs.{same_char, no_stand, run_none, run_same}
 use Rattle.yaml_scalar.proofs.LineRuns.{end_stops, run_first, brk_same, brk_stops, brk_no_end}
-use Rattle.yaml_scalar.proofs.HeaderLemmas.{nb_feed, nb_return, space_feed, space_return, is_the_space}
+use Rattle.yaml_scalar.proofs.RestLemmas.{nb_feed, nb_return, space_feed, space_return, is_the_space}
 use Rattle.yaml_scalar.proofs.BlockChains.{SameRule, any_to_stop, any_push}
 
 no_space_class : (c : ℕ) → is_space c ≡ true → (is_nb c && not (is_space c)) ≡ true → ⊥

@@ -3,6 +3,7 @@ pub mod Runs
 pub mod OutcomeLemmas
 pub mod GapLemmas
 pub mod LineRuns
+pub mod RestLemmas
 pub mod HeaderLemmas
 pub mod BlockChains
 pub mod IndentationLemmas

@@ -11,7 +11,7 @@ use Rattle.yaml_scalar.specs.BlockRules.{any_line}
 use Rattle.yaml_scalar.proofs.AnyLemmas.{SameEnd}
 use Rattle.yaml_scalar.proofs.Runs.{same_char, no_stand, run_none, run_same}
 use Rattle.yaml_scalar.proofs.LineRuns.{end_stops, run_first, brk_same, brk_stops, brk_no_end, brk_onward}
-use Rattle.yaml_scalar.proofs.HeaderLemmas.{nb_feed, nb_return, space_feed, space_return}
+use Rattle.yaml_scalar.proofs.RestLemmas.{nb_feed, nb_return, space_feed, space_return}
 use Rattle.yaml_scalar.proofs.BlockChains.{SameRule, any_to_stop, any_push, any_join, any_by, any_start}
 use Rattle.yaml_scalar.proofs.IndentationLemmas.{no_space_stops, no_space_no_brk, no_space_no_end, less_is, mark_no_space}
 

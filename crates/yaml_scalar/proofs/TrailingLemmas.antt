@@ -8,7 +8,7 @@ use Rattle.yaml_text.specs.grammar.BlockScalars.{comment_lines}
 use Rattle.yaml_scalar.specs.BlockRules.{AfterLine}
 use Rattle.yaml_scalar.proofs.Runs.{no_stand, run_same}
 use Rattle.yaml_scalar.proofs.LineRuns.{line_end_same, line_end_onward, line_end_after, indent_run, indent_place}
-use Rattle.yaml_scalar.proofs.HeaderLemmas.{space_hash, comment_same, l_comment_same, l_comment_onward}
+use Rattle.yaml_scalar.proofs.RestLemmas.{space_hash, comment_same, l_comment_same, l_comment_onward}
 use Rattle.yaml_scalar.proofs.BlockChains.{spans_onward, spans_furthest}
 
 module _ (cs : List ℕ) where

@@ -9,6 +9,7 @@ ghost use Rattle.yaml_scalar.specs.BlockRules.{AfterLine, Uncut, blank_rest};
 
 use crate::line::line_break;
 use yaml_text::chars::Chars;
+use yaml_text::class::is_break;
 use yaml_text::places::{accept, next};
 
 /// How many spaces stand at a border, and the border after them.
@@ -89,12 +90,17 @@ pub fn rest_of_line(source: &Chars<'_>, at: usize) -> (usize, usize)
 {
     let mut here = at;
     'line: loop {
-        match end_line(source, here) {
-            Some(after) => return (here, after),
-            None => match next(source, here) {
-                None => return (here, here),
-                Some((_, to)) => here = to,
-            },
+        match next(source, here) {
+            None => return (here, here),
+            Some((c, to)) => {
+                if is_break(c) {
+                    return match line_break(source, here) {
+                        Some(after) => (here, after),
+                        None => (here, here),
+                    };
+                }
+                here = to;
+            }
         }
     }
 }

@@ -1,4 +1,4 @@
-use Rattle.yaml_text.specs.Source.{text_of, place_of}
+use Rattle.yaml_text.specs.Source.{text_of}
 use Rattle.yaml_scalar.proofs.LineRuns.{to_brk, brk_line_end, end_line_end, nb_here}
 use Rattle.yaml_scalar.proofs.block.blanks.end_line.Goals as goal
 

@@ -1,6 +1,6 @@
-use Rattle.yaml_text.specs.Source.{text_of, place_of}
+use Rattle.yaml_text.specs.Source.{text_of}
 use Rattle.yaml_scalar.proofs.LineRuns.{hash_uncut}
-use Rattle.yaml_scalar.proofs.HeaderLemmas.{comment_is}
+use Rattle.yaml_scalar.proofs.RestLemmas.{comment_is}
 use Rattle.yaml_scalar.proofs.block.blanks.read_comment.Goals as goal
 
 pub rest_of_line-after-requires : goal.rest_of_line-after-requires

@@ -1,6 +1,6 @@
-use Rattle.yaml_text.specs.Source.{text_of, place_of}
+use Rattle.yaml_text.specs.Source.{text_of}
 use Rattle.yaml_scalar.proofs.LineRuns.{indent_run, spaces_uncut}
-use Rattle.yaml_scalar.proofs.HeaderLemmas.{blank_comment, blank_end, no_blank}
+use Rattle.yaml_scalar.proofs.RestLemmas.{blank_comment, blank_end, no_blank}
 use Rattle.yaml_scalar.proofs.block.blanks.skip_blank.Goals as goal
 
 pub end_line-requires : goal.end_line-requires

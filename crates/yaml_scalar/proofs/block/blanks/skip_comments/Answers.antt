@@ -5,7 +5,7 @@ use Rattle.yaml_text.specs.grammar.Rules.{Spans}
 use Rattle.yaml_text.proofs.PlaceLemmas.{place_less}
 use Rattle.yaml_scalar.proofs.LineRuns.{after_uncut}
 use Rattle.yaml_scalar.proofs.BlockChains.{spans_push}
-use Rattle.yaml_scalar.proofs.HeaderLemmas.{blank_after, comment_line_is, no_comment_line, no_comment_here}
+use Rattle.yaml_scalar.proofs.RestLemmas.{blank_after, comment_line_is, no_comment_line, no_comment_here}
 use Rattle.yaml_scalar.proofs.block.blanks.skip_comments.Goals as goal
 
 pub lines-init : goal.lines-init

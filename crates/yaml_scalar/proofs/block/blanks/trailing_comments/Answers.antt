@@ -1,5 +1,5 @@
 use Rattle.std.proofs.Common.{◌<◌, arith}
-use Rattle.yaml_text.specs.Source.{text_of, place_of}
+use Rattle.yaml_text.specs.Source.{text_of}
 use Rattle.yaml_scalar.proofs.TrailingLemmas.{comment_after, full_indent, no_hash, comments_end}
 use Rattle.yaml_scalar.proofs.block.blanks.trailing_comments.Goals as goal
 

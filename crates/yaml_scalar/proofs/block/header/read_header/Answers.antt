@@ -1,7 +1,8 @@
 use Rattle.yaml_text.specs.Source.{text_of, place_of}
 use Rattle.yaml_scalar.proofs.LineRuns.{inside_uncut}
 use Rattle.yaml_scalar.proofs.OutcomeLemmas.{refuses_unread}
-use Rattle.yaml_scalar.proofs.HeaderLemmas.{indicators_inside, blank_after, header_is, to_s_b, from_s_b, no_header, hash_no_rest}
+use Rattle.yaml_scalar.proofs.RestLemmas.{blank_after, to_s_b, from_s_b}
+use Rattle.yaml_scalar.proofs.HeaderLemmas.{indicators_inside, header_is, no_header, hash_no_rest}
 use Rattle.yaml_scalar.proofs.block.header.read_header.Goals as goal
 
 pub skip_blank-requires-clause-uncut : goal.skip_blank-requires-clause-uncut

@@ -1,4 +1,4 @@
-use Rattle.std.proofs.Common.{◌+◌, ◌≤◌, inl, arith, ap, subst, sym, ◌∙◌}
+use Rattle.std.proofs.Common.{◌+◌, inl, arith, subst, sym}
 use Rattle.yaml_text.specs.Source.{text_of, place_of}
 use Rattle.yaml_scalar.proofs.LineRuns.{after_uncut}
 use Rattle.yaml_scalar.proofs.GapLemmas.{starts_line}
