@@ -26,7 +26,7 @@ mod lines;
 #[cfg(test)]
 mod tests;
 
-/// The column after a parent's indentation.
+/// The column after a parent's indentation, 0 below a root.
 fn column(n: i32) -> usize
     ensures { result ≡ column n }
 {
@@ -40,7 +40,7 @@ fn sign_of(is_folded: bool) -> char
     if is_folded { '>' } else { '|' }
 }
 
-/// A block scalar of either style.
+/// A block scalar of either style: its content, and the border after it and its comment lines.
 fn read_block<'a>(
     alloc: Global,
     source: &Chars<'a>,
@@ -62,10 +62,11 @@ fn read_block<'a>(
     Ok((CowStr::Owned(text), trailing_comments(source, end, indent)))
 }
 
-/// A literal scalar (8.1.2) at a border, whose parent's indentation is `n`: its content, and the border after it and its
-/// comment lines. The context is ignored.
+/// A literal scalar (8.1.2): its content, and the border after it and its comment lines, the furthest that there is.
 ///
-/// Refused are a place where none begins, and want of memory.
+/// Offsets count bytes of the text. `n` is the indentation of the scalar's parent, and below 0 for a root. The context is
+/// ignored. Where no literal scalar begins at `at` the answer is `Tab` if a tab bars it, else `Syntax`, and `OutOfMemory`
+/// where the content finds no room.
 pub fn read_literal<'a>(
     alloc: Global,
     source: &Chars<'a>,
@@ -82,10 +83,11 @@ pub fn read_literal<'a>(
     read_block(alloc, source, at, n, false)
 }
 
-/// A folded scalar (8.1.3) at a border, whose parent's indentation is `n`: its content, and the border after it and its
-/// comment lines. The context is ignored.
+/// A folded scalar (8.1.3): its content, and the border after it and its comment lines, the furthest that there is.
 ///
-/// Refused are a place where none begins, and want of memory.
+/// Offsets count bytes of the text. `n` is the indentation of the scalar's parent, and below 0 for a root. The context is
+/// ignored. Where no folded scalar begins at `at` the answer is `Tab` if a tab bars it, else `Syntax`, and `OutOfMemory`
+/// where the content finds no room.
 pub fn read_folded<'a>(
     alloc: Global,
     source: &Chars<'a>,

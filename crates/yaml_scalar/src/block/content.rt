@@ -22,7 +22,7 @@ use yaml_text::fault::Fault;
 use yaml_text::places::next;
 
 /// The last line of content so far: none, one that begins with a white, or another.
-#[derive(Clone, Copy, Debug, PartialEq, Eq)]
+#[derive(Clone, Copy)]
 enum Before {
     Nothing,
     Spaced,

@@ -16,7 +16,7 @@ use yaml_text::fault::Fault;
 use yaml_text::places::{accept, next};
 
 /// Which breaks stay at the end of a content.
-#[derive(Clone, Copy, Debug, PartialEq, Eq)]
+#[derive(Clone, Copy)]
 pub enum Chomp {
     Strip,
     Clip,
@@ -24,7 +24,7 @@ pub enum Chomp {
 }
 
 /// What stands in a header, and the border before its digit.
-#[derive(Clone, Copy, Debug, PartialEq, Eq)]
+#[derive(Clone, Copy)]
 pub struct Header {
     pub digit: Option<usize>,
     pub digit_at: usize,

@@ -15,7 +15,7 @@ use yaml_text::places::next;
 
 /// Where the lines begin: the content's indentation, the start of the first line that is not known to be empty, and how many
 /// empty ones stand before it.
-#[derive(Clone, Copy, Debug, PartialEq, Eq)]
+#[derive(Clone, Copy)]
 pub struct Start {
     pub indent: usize,
     pub line: usize,
@@ -24,7 +24,7 @@ pub struct Start {
 
 /// A line of a block scalar by its borders: an empty one, up to the next line; the text of one of content, the next line and
 /// whether a break stands before that; or no further one, and the end of the scalar.
-#[derive(Clone, Copy, Debug, PartialEq, Eq)]
+#[derive(Clone, Copy)]
 pub enum Line {
     Empty(usize),
     Text {
