@@ -3,6 +3,7 @@ pub mod Runs
 pub mod OutcomeLemmas
 pub mod GapLemmas
 pub mod Readings
+pub mod SpellingLemmas
 pub mod PlainLemmas
 pub mod PlainReadings
 pub mod EscapeLemmas

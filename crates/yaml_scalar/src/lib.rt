@@ -8,4 +8,5 @@ pub mod line;
 pub mod plain;
 pub mod quoted;
 pub mod single;
+pub mod spell;
 pub mod text;
