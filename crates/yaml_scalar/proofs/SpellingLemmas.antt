@@ -1,12 +1,12 @@
 -- A content's characters, spelled by runs of those that stand for themselves.
-use Rattle.std.proofs.Common.{◌≡◌, ◌≢◌, ◌==◌, ◌+◌, ◌-◌, ◌<◌, ◌≤◌, ℕ, true, false, List, [], ◌∷◌, ◌++◌, length, take, drop, refl, sym, ◌∙◌, ap, subst, arith}
+use Rattle.std.proofs.Common.{◌≡◌, ◌≢◌, ◌==◌, ◌+◌, ◌-◌, ◌*◌, ◌<◌, ◌≤◌, ℕ, true, false, List, [], ◌∷◌, ◌++◌, length, take, drop, refl, sym, ◌∙◌, ap, subst, arith}
 use Rattle.std.proofs.lemmas.Bool.Decides.{nat_tests}
 use Rattle.std.proofs.lemmas.List.{append_assoc, append-nil, length-append}
 use Rattle.std.proofs.Math.Seq.{drop-append_seam, take-append_seam}
 use Rattle.std.specs.Char.{encode_utf8}
 use Rattle.std.specs.Str.{encode_utf8_all, IsUtf8, IsCharBoundary, chars}
 use Rattle.std.specs.Prelude.{flat_map, Result, Ok, Err, is_ok, if◌then◌else◌}
-use Rattle.std.proofs.lemmas.Str.{encodes-append, chars_past_char, IsUtf8-past_char, IsCharBoundary-at_seam, IsCharBoundary-from_take, chars-nil}
+use Rattle.std.proofs.lemmas.Str.{encodes-append, chars_past_char, IsUtf8-past_char, IsCharBoundary-at_seam, IsCharBoundary-from_take, len_utf8_bounds, length-encode, chars-nil}
 use lib.Utf8.{scalar}
 use Rattle.yaml_text.specs.CharText.{is_plain, spell_char}
 use Rattle.yaml_text.specs.NodeText.{quoted}
@@ -171,3 +171,20 @@ pub grown_border : (old new : List ℕ) (n : ℕ) → IsUtf8 old → IsUtf8 new 
 grown_border old new n u v g e =
     let front : take n new ≡ old = ap (λ k. take k new) e ∙ ap (take (length old)) g.is ∙ take-append_seam old g.added in
     IsCharBoundary-from_take new n v (omega (arith, e, ap length g.is, length-append old g.added)) (subst IsUtf8 (sym front) u)
+
+-- ---- lengths
+
+pub measured_more : (rest after text : List ℕ) (c n len : ℕ) → IsUtf8 rest → rest ≡ encode_utf8 c ++ after → n ≡ length (encode_utf8_all (spell_char c)) → n ≤ 6 →
+    len + length (spelled_chars rest) ≡ 2 + length (spelled_chars text) → len + 6 * length rest ≤ 2 + 6 * length text →
+    (len + n + length (spelled_chars after) ≡ 2 + length (spelled_chars text)) × (len + n + 6 * length after ≤ 2 + 6 * length text)
+measured_more rest after text c n len u e f b s m =
+    let k = ap length (next_spelled rest after c u e) ∙ length-append (encode_utf8_all (spell_char c)) (spelled_chars after) in
+    let l = ap length e ∙ length-append (encode_utf8 c) after in
+    let one : 1 ≤ length (encode_utf8 c) = omega (arith, length-encode c, (len_utf8_bounds c).0) in
+    (omega (arith, k, f, s), omega (arith, l, one, b, m))
+
+pub measured_all : (rest text : List ℕ) (len : ℕ) → rest ≡ [] → len + length (spelled_chars rest) ≡ 2 + length (spelled_chars text) → len ≡ length (spelled text)
+measured_all rest text len e s =
+    let none : length (spelled_chars rest) ≡ 0 = ap (λ x. length (spelled_chars x)) e ∙ ap (λ x. length (encode_utf8_all (flat_map spell_char x))) chars-nil in
+    let all : length (spelled text) ≡ 1 + length (spelled_chars text ++ (34 ∷ [])) = ap length (spelled_is text) ∙ omega arith in
+    omega (arith, none, all, s, length-append (spelled_chars text) (34 ∷ []))

@@ -1,5 +1,5 @@
 -- A content's spelling between double quotes, by runs of characters that stand for themselves.
-use Rattle.std.specs.Prelude.{◌≡◌, ℕ, Bool, not, cond, ◌+◌, ◌/◌, ◌%◌, ◌&&◌, ◌==◌, nat_lt, List, [], ◌∷◌, ◌++◌, length, flat_map}
+use Rattle.std.specs.Prelude.{◌≡◌, ℕ, Bool, not, cond, ◌/◌, ◌%◌, ◌&&◌, ◌==◌, nat_lt, List, [], ◌∷◌, ◌++◌, flat_map}
 use Rattle.std.specs.Str.{encode_utf8_all, chars}
 use Rattle.yaml_text.specs.CharText.{is_plain, hex_digit, spell_char}
 use Rattle.yaml_text.specs.NodeText.{quoted}

@@ -25,6 +25,32 @@ pub fn spell_into(text: &str, out: &mut String) -> Result<(), Fault>
     }
 }
 
+/// How many bytes a content's spelling has, quotes included.
+pub fn spelled_len(text: &str) -> u128
+    ensures { result ≡ length (spelled text.now) }
+{
+    let mut len: u128 = 2;
+    'measure: for c in text.chars() {
+        len += char_len(c) as u128;
+    }
+    len
+}
+
+/// How many bytes a character takes between double quotes.
+#[tactic(auto, unfolding(crate::specs::Spelling::is_verbatim, yaml_text::specs::CharText::spell_char))]
+fn char_len(c: char) -> usize
+    ensures len { result ≡ length (encode_utf8_all (spell_char c)) }
+    ensures bound { result ≤ 6 }
+{
+    if is_verbatim(c) {
+        return c.len_utf8();
+    }
+    match c {
+        '"' | '\\' | '\n' | '\t' => 2,
+        _ => { if u32::from(c) < 256 { 4 } else { 6 } }
+    }
+}
+
 /// Appends the quotes and what stands between them; where memory is wanted, perhaps a beginning.
 fn push_quoted(text: &str, out: &mut String) -> Result<(), AllocError>
     ensures ok { OnOk result (string_bytes out.new ≡ string_bytes out.old ++ spelled text.now) }
