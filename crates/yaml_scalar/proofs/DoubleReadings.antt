@@ -1,15 +1,11 @@
 -- Double-quoted scalars: the chain form has the readings of the grammar.
-use Rattle.std.proofs.Common.{◌≡◌, ◌≢◌, ℕ, ◌+◌, ◌-◌, ◌<◌, ◌≤◌, inl, inr, List, [], ◌++◌, Some, refl, sym, ◌∙◌, ap, subst, arith}
-use Rattle.std.specs.Prelude.{slice_get, slice_range, ◌==◌}
+use Rattle.std.proofs.Common.{ℕ, ◌+◌, ◌-◌, ◌≤◌, inl, inr, List, refl, arith}
+use Rattle.std.specs.Prelude.{slice_range}
 use Rattle.yaml_text.specs.Answer.{Only}
 use Rattle.yaml_text.specs.grammar.Calls.{Unread}
-use Rattle.yaml_text.specs.grammar.Rules.{◌⨾◌, run, copied}
-use Rattle.yaml_text.specs.grammar.Characters.{is_white, escape}
 use Rattle.yaml_text.specs.grammar.Separation.{Ctx}
 use Rattle.yaml_text.specs.grammar.FlowScalars.{several, fold, escaped_break, double_char, double}
-use Rattle.yaml_scalar.specs.Outcome.{TextRule}
 use Rattle.yaml_scalar.specs.Chains.{gap, escaped, double_gap, double_rest, double_chain}
-use Rattle.yaml_scalar.proofs.Runs.{same_char}
 use Rattle.yaml_scalar.proofs.GapLemmas.{ns_no_return, thirteen}
 use Rattle.yaml_scalar.proofs.Readings.{Clear, clear_after, fold_chain, fold_grammar, escaped_chain, escaped_grammar}
 use Rattle.yaml_scalar.proofs.QuotedReadings.{Gaps, Kinds, lines_pieces, lines_of}

@@ -1,14 +1,14 @@
 -- Escapes: what one is made of, and that a place has one at most.
-use Rattle.std.proofs.Common.{◌≡◌, ◌≢◌, ℕ, zero, suc, ◌+◌, ◌*◌, ◌^◌, ◌<◌, ◌≤◌, ◌⊎◌, inl, inr, List, [], ◌∷◌, Option, Some, None, Bool, true, false, refl, sym, ◌∙◌, ap, subst, arith, add-one}
+use Rattle.std.proofs.Common.{◌≡◌, ◌≢◌, ℕ, zero, suc, ◌+◌, ◌*◌, ◌^◌, ◌<◌, ◌≤◌, ◌⊎◌, inl, inr, List, Option, Some, None, Bool, true, false, refl, sym, ◌∙◌, ap, subst, arith, add-one}
 use Rattle.std.specs.Prelude.{slice_get, slice_range, ◌||◌}
 use Rattle.std.specs.Int.{is_in_range}
 use Rattle.std.specs.Char.{IsScalar, is_ascii_hexdigit, digit_value}
 use Rattle.std.specs.Str.Parse.{digits_value}
 use Rattle.std.proofs.lemmas.Int.Digits.{digits_value_push}
 use Rattle.std.proofs.Math.Nat.{pow-suc}
-use Rattle.std.proofs.lemmas.Bool.{cases_eq, cases_lt}
+use Rattle.std.proofs.lemmas.Bool.{cases_eq}
 use Rattle.yaml_text.specs.grammar.Calls.{Unread}
-use Rattle.yaml_text.specs.grammar.Rules.{exactly, run, Stands, Throughout}
+use Rattle.yaml_text.specs.grammar.Rules.{exactly, Stands}
 use Rattle.yaml_text.specs.grammar.Characters.{is_nb, is_break, short_escape, numbered, escape}
 use Rattle.yaml_text.proofs.PlaceLemmas.{slice_none, slice_snoc}
 use Rattle.yaml_scalar.specs.Chains.{digit_count}

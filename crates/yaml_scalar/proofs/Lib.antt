@@ -13,6 +13,7 @@ pub mod StartLemmas
 pub mod ContentLemmas
 pub mod BlockLemmas
 pub mod Readings
+pub mod SpellingLemmas
 pub mod PlainLemmas
 pub mod PlainReadings
 pub mod EscapeLemmas

@@ -1,6 +1,5 @@
 -- Plain scalars: the chain form has the readings of the grammar.
-use Rattle.std.proofs.Common.{◌≡◌, ◌≢◌, ℕ, zero, suc, ◌+◌, ◌-◌, ◌<◌, ◌≤◌, ◌⊎◌, inl, inr, List, [], ◌∷◌, ◌++◌, Some, true, refl, sym, ◌∙◌, ap, subst, arith, append_assoc}
-use Rattle.std.proofs.lemmas.List.{append-nil}
+use Rattle.std.proofs.Common.{◌≡◌, ℕ, zero, suc, ◌+◌, ◌-◌, ◌<◌, ◌≤◌, ◌⊎◌, inl, inr, List, [], ◌∷◌, ◌++◌, Some, true, refl, sym, ◌∙◌, ap, subst, arith, append_assoc}
 use Rattle.std.specs.Prelude.{slice_get, slice_range, ◌==◌}
 use Rattle.std.proofs.lemmas.Bool.{cases_eq, cases_lt}
 use Rattle.yaml_text.specs.Answer.{Furthest}
@@ -12,8 +11,8 @@ use Rattle.yaml_text.specs.grammar.FlowScalars.{several, fold, PlainFirst, Plain
 use Rattle.yaml_text.proofs.PlaceLemmas.{slice_none, slice_one, slice_join, slice_snoc}
 use Rattle.yaml_scalar.specs.Chains.{folds, gap, plain_inner, Later, taken, plain_more, line_more, plain_chain}
 use Rattle.yaml_scalar.proofs.AnyLemmas.{any_none, any_snoc, any_append, any_weaker, any_onward}
-use Rattle.yaml_scalar.proofs.Runs.{same_char, all_more, run_none, run_more}
-use Rattle.yaml_scalar.proofs.GapLemmas.{Ns, NoWhite, AfterNs, ns_stops, run_join, folds_onward, blank_folds}
+use Rattle.yaml_scalar.proofs.Runs.{all_more, run_none, run_more}
+use Rattle.yaml_scalar.proofs.GapLemmas.{Ns, AfterNs, ns_stops, folds_onward, blank_folds}
 use Rattle.yaml_scalar.proofs.PlainLemmas.{later_colon, later_inner, later_ns, first_ns, line_hash, line_later, line_onward, line_is_more, hash_ns}
 use Rattle.yaml_scalar.proofs.Readings.{clear_ns, fold_chain, fold_grammar}
 

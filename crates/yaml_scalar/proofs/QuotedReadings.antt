@@ -1,12 +1,12 @@
 -- Quoted scalars: the chain form has the readings of the grammar.
-use Rattle.std.proofs.Common.{◌≡◌, ◌≢◌, ℕ, zero, suc, ◌+◌, ◌-◌, ◌<◌, ◌≤◌, ◌⊎◌, inl, inr, List, [], ◌∷◌, ◌++◌, Some, true, refl, sym, ◌∙◌, ap, subst, arith, append_assoc}
+use Rattle.std.proofs.Common.{◌≡◌, ℕ, zero, suc, ◌+◌, ◌-◌, ◌<◌, ◌≤◌, ◌⊎◌, inl, inr, List, [], ◌∷◌, ◌++◌, Some, true, refl, sym, ◌∙◌, ap, subst, arith, append_assoc}
 use Rattle.std.proofs.lemmas.List.{append-nil}
 use Rattle.std.specs.Prelude.{slice_get, slice_range, ◌==◌}
 use Rattle.std.proofs.lemmas.Bool.{cases_eq}
 use Rattle.yaml_text.specs.Answer.{Only}
 use Rattle.yaml_text.specs.grammar.Calls.{Unread}
-use Rattle.yaml_text.specs.grammar.Rules.{Span, ◌⨾◌, never, ◌◂◌, ◌∪◌, any, Any, done, then, Stands, run, copied, chr, ahead, ◌◆◌}
-use Rattle.yaml_text.specs.grammar.Characters.{is_white, is_ns}
+use Rattle.yaml_text.specs.grammar.Rules.{◌⨾◌, never, ◌∪◌, any, Any, done, then, Stands, run, copied}
+use Rattle.yaml_text.specs.grammar.Characters.{is_white}
 use Rattle.yaml_text.specs.grammar.Separation.{Ctx}
 use Rattle.yaml_text.specs.grammar.FlowScalars.{several, fold, white_text, quoted_line, broken_line, quoted_lines, single_char, single}
 use Rattle.yaml_text.proofs.PlaceLemmas.{slice_none, slice_one, slice_join, slice_snoc}

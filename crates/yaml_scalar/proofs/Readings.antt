@@ -1,16 +1,16 @@
 -- Breaks and folds: the chain form has the readings of the grammar.
-use Rattle.std.proofs.Common.{◌≡◌, ◌≢◌, ℕ, zero, suc, ◌+◌, ◌-◌, ◌<◌, ◌≤◌, inl, inr, List, [], ◌∷◌, ◌++◌, Some, true, false, replicate, refl, sym, ◌∙◌, ap, subst, arith}
+use Rattle.std.proofs.Common.{◌≡◌, ◌≢◌, ℕ, zero, suc, ◌+◌, ◌-◌, inl, inr, List, [], ◌∷◌, ◌++◌, Some, true, false, replicate, refl, sym, ◌∙◌, ap, subst, arith}
 use Rattle.std.specs.Prelude.{slice_get, ◌==◌}
 use Rattle.std.proofs.lemmas.Bool.{cases_eq}
-use Rattle.yaml_text.specs.grammar.Rules.{Span, Rule, ◌◆◌, ◌⊔◌, ◌▸◌, gives, Any, done, then, times, Stands, Behind, run}
-use Rattle.yaml_text.specs.grammar.Characters.{is_white, is_ns, brk}
-use Rattle.yaml_text.specs.grammar.Separation.{Ctx, block_out, block_in, flow_out, flow_in, block_key, flow_key, indent, less}
-use Rattle.yaml_text.specs.grammar.FlowScalars.{line_feeds, fold_text, empty_line, fold, escaped_break, several}
+use Rattle.yaml_text.specs.grammar.Rules.{Span, ◌◆◌, ◌▸◌, gives, Any, done, then, times, Stands, Behind, run}
+use Rattle.yaml_text.specs.grammar.Characters.{is_white, brk}
+use Rattle.yaml_text.specs.grammar.Separation.{Ctx, block_out, block_in, flow_out, flow_in, block_key, flow_key, indent}
+use Rattle.yaml_text.specs.grammar.FlowScalars.{fold_text, empty_line, fold, escaped_break, several}
 use Rattle.yaml_scalar.specs.Outcome.{TextRule}
 use Rattle.yaml_scalar.specs.Chains.{is_key, line_brk, margin, lead, breaks, folds, escaped}
 use Rattle.yaml_scalar.specs.Chains as chain
 use Rattle.yaml_scalar.proofs.Runs.{same_char}
-use Rattle.yaml_scalar.proofs.GapLemmas.{Ns, AfterNs, brk_line, thirteen, ns_no_return, white_no_return, blank_white}
+use Rattle.yaml_scalar.proofs.GapLemmas.{AfterNs, brk_line, thirteen, ns_no_return, white_no_return, blank_white}
 
 -- ---- a number of lines
 

@@ -9,4 +9,7 @@ pub mod line;
 pub mod plain;
 pub mod quoted;
 pub mod single;
+pub mod spell;
+#[cfg(test)]
+mod tests;
 pub mod text;

@@ -1,8 +1,8 @@
 //! The header of a block scalar (8.1.1).
-ghost use Rattle.std.specs.Prelude.{◌≡◌, ◌≤◌, IfOk, IfErr, IfSome, ℕ};
+ghost use Rattle.std.specs.Prelude.{◌≡◌, ◌≤◌, IfOk, IfErr, IfSome};
 ghost use Rattle.std.specs.Int.{is_in_range};
 ghost use Rattle.yaml_text.specs.Source.{text_of, place_of, IsBorder};
-ghost use Rattle.yaml_text.specs.grammar.Rules.{Stands, Rule};
+ghost use Rattle.yaml_text.specs.grammar.Rules.{Stands};
 ghost use Rattle.yaml_text.specs.grammar.Calls.{Unread};
 ghost use Rattle.yaml_text.specs.grammar.BlockScalars.{indentation_indicator, chomping_indicator, header};
 ghost use Rattle.yaml_scalar.specs.Outcome.{Refuses};

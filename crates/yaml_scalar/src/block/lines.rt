@@ -1,5 +1,5 @@
 //! The lines of a block scalar.
-ghost use Rattle.std.specs.Prelude.{◌≡◌, ◌≤◌, ◌+◌, ◌-◌, ◌<◌, IfOk, IfErr, IfSome, None, ℕ, replicate};
+ghost use Rattle.std.specs.Prelude.{◌≤◌, ◌+◌, ◌-◌, ◌<◌, IfOk, IfErr, IfSome, None, replicate};
 ghost use Rattle.yaml_text.specs.Source.{text_of, place_of, IsBorder};
 ghost use Rattle.yaml_text.specs.grammar.Rules.{any};
 ghost use Rattle.yaml_text.specs.grammar.Calls.{Unread};

@@ -1,5 +1,5 @@
-use Rattle.std.proofs.Common.{◌≡◌, ◌≤◌, replicate, ℕ, List, [], ◌∷◌, ◌++◌, Some, sym, ◌∙◌, ap, subst, arith, append_assoc, rules}
-use Rattle.std.specs.Prelude.{slice_get, slice_range}
+use Rattle.std.proofs.Common.{◌≡◌, ◌≤◌, replicate, ℕ, List, [], ◌∷◌, ◌++◌, sym, ◌∙◌, ap, subst, arith, append_assoc, rules}
+use Rattle.std.specs.Prelude.{slice_range}
 use Rattle.std.specs.Str.{chars}
 use Rattle.std.specs.String.{string_bytes}
 use Rattle.std.proofs.lemmas.Str.{chars-nil, IsUtf8-string_bytes}
@@ -14,7 +14,6 @@ use Rattle.yaml_scalar.proofs.AnyLemmas.{any_onward}
 use Rattle.yaml_scalar.proofs.GapLemmas.{folds_is}
 use Rattle.yaml_scalar.proofs.OutcomeLemmas.{answers_err, refuses_unread}
 use Rattle.yaml_scalar.proofs.QuotedLemmas.{quoted_onward}
-use Rattle.yaml_scalar.proofs.EscapeLemmas.{no_escape_mark}
 use Rattle.yaml_scalar.proofs.DoubleLemmas.{DoubleState, double_start, double_line, double_escape, double_fold, double_break, double_end, double_none, no_double, no_break_mark, no_break_here}
 use Rattle.yaml_scalar.proofs.DoubleReadings.{double_only, double_unread}
 use Rattle.yaml_scalar.proofs.double.double_from.Goals as goal

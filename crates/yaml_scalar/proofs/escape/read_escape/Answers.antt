@@ -1,7 +1,5 @@
-use Rattle.std.proofs.Common.{◌≡◌, ◌+◌, ◌∙◌, sym, subst, arith}
-use Rattle.yaml_text.specs.grammar.Calls.{Unread}
-use Rattle.yaml_text.specs.grammar.Characters.{numbered}
-use Rattle.yaml_text.specs.Source.{text_of, place_of}
+use Rattle.std.proofs.Common.{sym}
+use Rattle.yaml_text.specs.Source.{text_of}
 use Rattle.yaml_scalar.proofs.EscapeLemmas.{count_few, escape_short, escape_long, no_escape_mark, no_escape_end, no_escape_here, no_escape_count}
 use Rattle.yaml_scalar.proofs.escape.read_escape.Goals as goal
 
