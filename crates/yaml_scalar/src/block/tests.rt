@@ -4,6 +4,7 @@ use std::borrow::CowStr;
 use yaml_text::chars::Chars;
 use yaml_text::context::Ctx;
 use yaml_text::fault::Fault;
+use yaml_text::places::is_border;
 
 /// What the call for the style that stands at `at` answers.
 fn read_at<'a>(
@@ -13,7 +14,9 @@ fn read_at<'a>(
     n: i32,
 ) -> Result<(CowStr<'a>, usize), Fault> {
     let source = Chars::read(text.as_bytes())?;
-    if text.as_bytes().get(at) == Some(&b'>') {
+    if !is_border(&source, at) {
+        Err(Fault::Syntax(at))
+    } else if text.as_bytes().get(at) == Some(&b'>') {
         read_folded(alloc, &source, at, n, Ctx::BlockIn)
     } else {
         read_literal(alloc, &source, at, n, Ctx::FlowKey)
