@@ -4,6 +4,7 @@
 pub mod class;
 pub mod double;
 mod escape;
+pub mod laws;
 pub mod line;
 pub mod plain;
 pub mod quoted;
