@@ -147,14 +147,14 @@ module _ (cs : List ℕ) where
 
   -- ---- marks
 
-  no_dashes : (x i : ℕ) → slice_get cs i ≡ Some x → x ≢ 45 → x ≢ 46 → Mark cs i → ⊥
+  pub no_dashes : (x i : ℕ) → slice_get cs i ≡ Some x → x ≢ 45 → x ≢ 46 → Mark cs i → ⊥
   no_dashes x i h a b m = elim (mark_dashes cs i m) [
     | inl d ↦ a (same_char cs i x 45 h d.0)
     | inr d ↦ b (same_char cs i x 46 h d.0)
   ]
 
   -- no line starts after a character that is no break
-  no_mark_after : (i k : ℕ) → k ≡ i + 1 → (c : ℕ) × (slice_get cs i ≡ Some c) × (c ≢ 10) × (c ≢ 13) → Mark cs k → ⊥
+  pub no_mark_after : (i k : ℕ) → k ≡ i + 1 → (c : ℕ) × (slice_get cs i ≡ Some c) × (c ≢ 10) × (c ≢ 13) → Mark cs k → ⊥
   no_mark_after i k e (c, h, a, b) m = inside_line cs i k e (λ g. a (same_char cs i c 10 h g)) (λ g. b (same_char cs i c 13 h g)) (mark_starts cs k m)
 
   escape_unmarked : (i j v : ℕ) → escape cs i j v → Unmarked cs i j × (Mark cs j → ⊥)
@@ -250,6 +250,12 @@ module _ (cs : List ℕ) where
           let (m, us, w, h, z, x) = escaped_at n c j o ys q in
           let at : m ≡ k = run_same cs is_white j m k w r (ns_stops cs m (mark_ns m h)) stop in
           absurd (no_break (subst (λ x. slice_get cs x ≡ Some 92) at h) o us (subst (λ x. breaks cs n c (x + 1) o us) at z) t v)
+
+  -- a double-quoted scalar has one reading at most
+  pub double_chain_same : (n : ℕ) (c : Ctx) → Same (double_chain cs n c)
+  unfolding double_chain double_rest
+  double_chain_same n c i j k xs ys (u, (m, (h, e), p)) (v, (o, (g, f), q)) =
+      rest_same cs _ _ _ _ (double_parts n c) m j k xs ys p (subst (λ x. rest_of cs (double_gap cs n c) (double_char cs) (chr cs 34) x k ys) (f ∙ sym e) q)
 
   pub no_double : (n : ℕ) (c : Ctx) (a : ℕ) → slice_get cs a ≢ Some 34 → Unread (double_chain cs n c) a
   unfolding double_chain

@@ -10,7 +10,8 @@ use Rattle.yaml_scalar.proofs.GapLemmas.{ns_no_return, thirteen}
 use Rattle.yaml_scalar.proofs.Readings.{Clear, clear_after, fold_chain, fold_grammar, escaped_chain, escaped_grammar}
 use Rattle.yaml_scalar.proofs.QuotedReadings.{Gaps, Kinds, lines_pieces, lines_of}
 use Rattle.yaml_scalar.proofs.EscapeLemmas.{escape_characters}
-use Rattle.yaml_scalar.proofs.DoubleLemmas.{letter_ns}
+use Rattle.yaml_scalar.proofs.DoubleLemmas.{letter_ns, double_chain_same}
+use Rattle.yaml_scalar.proofs.AnyLemmas.{Same}
 
 module _ (cs : List ℕ) where
   double_gaps : (n : ℕ) (c : Ctx) → Gaps cs (double_char cs) (several cs c (fold cs n)) (several cs c (escaped_break cs n)) (double_gap cs n c)
@@ -55,3 +56,6 @@ module _ (cs : List ℕ) where
 
   pub double_unread : (n : ℕ) (c : Ctx) (i : ℕ) → Unread (double_chain cs n c) i → Unread (double cs n c) i
   double_unread n c i none j xs r = none j xs (double_to_chain n c i j xs r)
+
+  pub double_same : (n : ℕ) (c : Ctx) → Same (double cs n c)
+  double_same n c i j k xs ys r q = double_chain_same cs n c i j k xs ys (double_to_chain n c i j xs r) (double_to_chain n c i k ys q)

@@ -21,3 +21,4 @@ pub mod QuotedLemmas
 pub mod QuotedReadings
 pub mod DoubleLemmas
 pub mod DoubleReadings
+pub mod SpelledReadings

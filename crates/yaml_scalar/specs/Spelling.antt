@@ -1,8 +1,11 @@
 -- A content's spelling between double quotes, by runs of characters that stand for themselves.
-use Rattle.std.specs.Prelude.{◌≡◌, ℕ, Bool, not, cond, ◌/◌, ◌%◌, ◌&&◌, ◌==◌, nat_lt, List, [], ◌∷◌, ◌++◌, flat_map}
-use Rattle.std.specs.Str.{encode_utf8_all, chars}
+use Rattle.std.specs.Prelude.{◌≡◌, ℕ, Bool, true, drop, not, cond, ◌/◌, ◌%◌, ◌&&◌, ◌==◌, nat_lt, List, [], ◌∷◌, ◌++◌, flat_map}
+use Rattle.std.specs.Str.{encode_utf8_all, all_scalars, chars}
+use Rattle.yaml_text.specs.Answer.{Only}
 use Rattle.yaml_text.specs.CharText.{is_plain, hex_digit, spell_char}
 use Rattle.yaml_text.specs.NodeText.{quoted}
+use Rattle.yaml_text.specs.grammar.FlowScalars.{double}
+use Rattle.yaml_text.specs.grammar.Separation.{Ctx}
 
 -- the bytes of a content's spelling, quotes included
 abbrev pub spelled : List ℕ → List ℕ
@@ -30,3 +33,9 @@ code_text c =
 -- two digits of base 16, of a number below 256
 abbrev pub byte_text : ℕ → List ℕ
 byte_text b = hex_digit (b / 16) ∷ hex_digit (b % 16) ∷ []
+
+-- A spelling is read back: wherever it stands it is a double-quoted scalar of the content that it spells, and no other
+-- reading begins there.
+abbrev pub ReadsBack : Type 0
+ReadsBack = (n : ℕ) (c : Ctx) (cs xs more : List ℕ) (i : ℕ) → all_scalars xs ≡ true → drop i cs ≡ 34 ∷ quoted xs more →
+    (j : ℕ) × Only (double cs n c) i j xs × (drop j cs ≡ more)

@@ -5,6 +5,7 @@ pub mod block;
 pub mod class;
 pub mod double;
 mod escape;
+pub mod laws;
 pub mod line;
 pub mod plain;
 pub mod quoted;
