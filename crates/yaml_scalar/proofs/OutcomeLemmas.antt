@@ -1,0 +1,116 @@
+-- What tests, refusals and counts say, passed on.
+use Rattle.std.proofs.Common.{◌≡◌, ℕ, zero, suc, ◌+◌, List, [], ◌∷◌, ◌++◌, Result, Err, replicate, sym, refl, subst, ap, ◌∙◌, Bool, true, false, add-one}
+use Rattle.std.specs.Prelude.{Ok, IfOk, is_ok, if◌then◌else◌}
+use Rattle.std.specs.Result.{IsErrAnd}
+use Rattle.std.specs.Bool.{OnFalse, OnTrue}
+use Rattle.std.proofs.lemmas.Result.{err_from_is_err_and}
+use Rattle.yaml_scalar.specs.Outcome.{TextRule, Answers, Refuses, IsUnread}
+use Rattle.yaml_text.specs.grammar.Calls.{Unread}
+use Rattle.yaml_text.specs.declared.fault.Fault.{Fault}
+use Rattle.yaml_text.specs.declared.fault.Fault.TheVariants as fault
+
+pub refuses_weaker : (e : Fault) {P Q : Type 0} → (P → Q) → Refuses e P → Refuses e Q
+refuses_weaker (fault.Syntax at) f p = f p
+refuses_weaker (fault.Tab at) f p = f p
+refuses_weaker (fault.BadEscape at) f p = f p
+refuses_weaker fault.OutOfMemory f p = tt
+refuses_weaker (fault.NotUtf8 at) f p = p
+refuses_weaker (fault.NotPrintable at) f p = p
+refuses_weaker (fault.KeyTooLong at) f p = p
+refuses_weaker (fault.TooDeep at) f p = p
+refuses_weaker (fault.BadDirective at) f p = p
+refuses_weaker (fault.UnknownHandle at) f p = p
+refuses_weaker (fault.BadTag at) f p = p
+refuses_weaker (fault.UndefinedAlias at) f p = p
+refuses_weaker (fault.CyclicAlias at) f p = p
+refuses_weaker (fault.WrongKind at) f p = p
+refuses_weaker (fault.BadContent at) f p = p
+refuses_weaker (fault.IntRange at) f p = p
+refuses_weaker (fault.FloatRange at) f p = p
+refuses_weaker (fault.TooHigh at) f p = p
+refuses_weaker (fault.EqualKeys a b d) f p = p
+refuses_weaker fault.TooLong f p = p
+refuses_weaker fault.TextTooLong f p = p
+refuses_weaker fault.ReadFault f p = p
+refuses_weaker fault.WriteFault f p = p
+refuses_weaker (fault.UnfoldsTooFar at) f p = p
+refuses_weaker (fault.RepeatedNode at) f p = p
+
+-- at a place where the text can't be read on
+pub refuses_unread : (e : Fault) {P : Type 0} → IsUnread e → P → Refuses e P
+refuses_unread (fault.Syntax at) u p = p
+refuses_unread (fault.Tab at) u p = p
+refuses_unread (fault.BadEscape at) u p = p
+refuses_unread fault.OutOfMemory u p = tt
+refuses_unread (fault.NotUtf8 at) u p = u
+refuses_unread (fault.NotPrintable at) u p = u
+refuses_unread (fault.KeyTooLong at) u p = u
+refuses_unread (fault.TooDeep at) u p = u
+refuses_unread (fault.BadDirective at) u p = u
+refuses_unread (fault.UnknownHandle at) u p = u
+refuses_unread (fault.BadTag at) u p = u
+refuses_unread (fault.UndefinedAlias at) u p = u
+refuses_unread (fault.CyclicAlias at) u p = u
+refuses_unread (fault.WrongKind at) u p = u
+refuses_unread (fault.BadContent at) u p = u
+refuses_unread (fault.IntRange at) u p = u
+refuses_unread (fault.FloatRange at) u p = u
+refuses_unread (fault.TooHigh at) u p = u
+refuses_unread (fault.EqualKeys a b d) u p = u
+refuses_unread fault.TooLong u p = u
+refuses_unread fault.TextTooLong u p = u
+refuses_unread fault.ReadFault u p = u
+refuses_unread fault.WriteFault u p = u
+refuses_unread (fault.UnfoldsTooFar at) u p = u
+refuses_unread (fault.RepeatedNode at) u p = u
+
+-- at the exit of a `?`
+pub answers_err : {X : Type 0} (Best : TextRule → TextRule) (R : TextRule) (i : ℕ) (end : X → ℕ) (value : X → List ℕ) (r : Result X Fault) (e : Fault) →
+    IsErrAnd r (λ y. y ≡ e) → Refuses e (Unread R i) → Answers Best R i end value r
+answers_err Best R i end value r e was refused =
+    let p = err_from_is_err_and r was in
+    subst (Answers Best R i end value) (sym (p.1 ∙ ap Err p.2)) refused
+
+pub answers_memory : {X : Type 0} (Best : TextRule → TextRule) (R : TextRule) (i : ℕ) (end : X → ℕ) (value : X → List ℕ) (r : Result X Fault) →
+    IsErrAnd r (λ y. y ≡ fault.OutOfMemory) → Answers Best R i end value r
+answers_memory Best R i end value r was = answers_err Best R i end value r fault.OutOfMemory was tt
+
+pub on_true_at : (b : Bool) {P : Type 0} → b ≡ true → OnTrue b P → P
+on_true_at true e p = p
+on_true_at false e p = let h : false ≡ true = e in cc
+
+pub on_false_at : (b : Bool) {P : Type 0} → b ≡ false → OnFalse b P → P
+on_false_at false e p = p
+on_false_at true e p = let h : true ≡ false = e in cc
+
+pub on_either : (b : Bool) {P Q A : Type 0} → OnTrue b P → OnFalse b Q → (P → A) → (Q → A) → A
+on_either true p q f g = f p
+on_either false p q f g = g q
+
+pub replicate_snoc : (n x : ℕ) → replicate (n + 1) x ≡ replicate n x ++ x ∷ []
+replicate_snoc n x = ap (λ m. replicate m x) (add-one n) ∙ go n
+  where
+    go : (n : ℕ) → replicate (suc n) x ≡ replicate n x ++ x ∷ []
+    go zero = refl
+    go (suc n) = ap (λ v. x ∷ v) (go n)
+
+pub on_true : (b : Bool) {P : Type 0} → (b ≡ true → P) → OnTrue b P
+on_true true f = f refl
+on_true false f = tt
+
+pub on_false : (b : Bool) {P : Type 0} → (b ≡ false → P) → OnFalse b P
+on_false false f = f refl
+on_false true f = tt
+
+pub on_true_weaker : (b : Bool) {P Q : Type 0} → (P → Q) → OnTrue b P → OnTrue b Q
+on_true_weaker true f p = f p
+on_true_weaker false f p = tt
+
+pub on_false_weaker : (b : Bool) {P Q : Type 0} → (P → Q) → OnFalse b P → OnFalse b Q
+on_false_weaker true f p = tt
+on_false_weaker false f p = f p
+
+-- what a growth made of a text, where its result is handed on
+pub if_ok : {T E : Type 0} (r : Result T E) (new grown same : List ℕ) → new ≡ (if is_ok r then grown else same) → IfOk r (λ _. new ≡ grown)
+if_ok (Ok x) new grown same e = e
+if_ok (Err x) new grown same e = tt

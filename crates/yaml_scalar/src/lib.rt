@@ -1,0 +1,16 @@
+//! Scalars, read from a text and spelled.
+#![tactic(auto)]
+
+pub mod block;
+pub mod class;
+pub mod double;
+mod escape;
+pub mod laws;
+pub mod line;
+pub mod plain;
+pub mod quoted;
+pub mod single;
+pub mod spell;
+#[cfg(test)]
+mod tests;
+pub mod text;
