@@ -454,9 +454,6 @@ module _ (cs : List ℕ) where
   pub blank_white_run : (i j : ℕ) → run cs is_white i j → Blank i j
   blank_white_run i j r k a b s = ns_stops k s (r.1 k a b)
 
-  blank_run : (i j : ℕ) → run cs is_white i j → Blank i j
-  blank_run i j r k a b s = ns_stops k s (r.1 k a b)
-
   blank_brk : (i j : ℕ) → line_brk cs i j → Blank i j
   blank_brk i j (inl (h, e)) k a b = subst (λ x. Ns x → ⊥) (let f : i ≡ k = omega (arith, a, b, e) in f) (no_stand cs is_ns i 10 h break_no_ns)
   blank_brk i j (inr (inr (h, g, e))) k a b = subst (λ x. Ns x → ⊥) (let f : i ≡ k = omega (arith, a, b, e) in f) (no_stand cs is_ns i 13 h return_no_ns)
@@ -470,22 +467,22 @@ module _ (cs : List ℕ) where
   unfolding empty_line
   blank_empties n {j} {i} (done e f) = λ k a b s. absurd (omega (arith, a, b, e))
   blank_empties n {j} {i} (then m ys zs (l, (q, r, c), (e, f)) rest g) =
-      blank_join i m j (subst (Blank i) (sym e) (blank_join i q l (blank_run i q (blank_white n i q r)) (blank_brk q l c))) (blank_empties n rest)
+      blank_join i m j (subst (Blank i) (sym e) (blank_join i q l (blank_white_run i q (blank_white n i q r)) (blank_brk q l c))) (blank_empties n rest)
 
   pub blank_lead : (n i j : ℕ) (xs : List ℕ) → lead cs n i j xs → Blank i j
   unfolding lead
-  blank_lead n i j xs (m, p, q) = blank_join i m j (blank_empties n p) (blank_run m j (margin_white n m j q))
+  blank_lead n i j xs (m, p, q) = blank_join i m j (blank_empties n p) (blank_white_run m j (margin_white n m j q))
 
   pub blank_breaks : (n : ℕ) (c : Ctx) (i j : ℕ) (xs : List ℕ) → breaks cs n c i j xs → Blank i j
   blank_breaks n c i j xs p = let q = breaks_brk n c i j xs p in blank_join i q.0 j (blank_brk i q.0 q.1) (blank_lead n q.0 j xs q.2)
 
   pub blank_folds : (n : ℕ) (c : Ctx) (i j : ℕ) (xs : List ℕ) → folds cs n c i j xs → Blank i j
   unfolding folds
-  blank_folds n c i j xs (k, r, (us, p, e)) = blank_join i k j (blank_run i k r) (blank_breaks n c k j us p)
+  blank_folds n c i j xs (k, r, (us, p, e)) = blank_join i k j (blank_white_run i k r) (blank_breaks n c k j us p)
 
   pub blank_gap : (n : ℕ) (c : Ctx) (i j : ℕ) (xs : List ℕ) → gap cs n c i j xs → Blank i j
   unfolding gap
-  blank_gap n c i j xs (inl (r, e)) = blank_run i j r
+  blank_gap n c i j xs (inl (r, e)) = blank_white_run i j r
   blank_gap n c i j xs (inr p) = blank_folds n c i j xs p
 
   dash_ns : is_ns 45 ≡ true

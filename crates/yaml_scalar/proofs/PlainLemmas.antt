@@ -1,7 +1,6 @@
 -- Plain scalars.
 use Rattle.std.proofs.Common.{◌≡◌, ◌≢◌, ℕ, ◌+◌, ◌<◌, ◌≤◌, ◌⊎◌, inl, inr, List, [], ◌∷◌, ◌++◌, Some, None, true, false, refl, sym, ◌∙◌, ap, subst, arith, append_assoc}
 use Rattle.std.specs.Prelude.{slice_get, slice_range}
-use Rattle.yaml_scalar.specs.Outcome.{TextRule}
 use Rattle.yaml_text.specs.grammar.Rules.{◌⨾◌, any, Any, done, then, Stands, run, where_both}
 use Rattle.yaml_scalar.specs.Chains.{taken, folds, NoBreaks, NoLine, breaks, gap, plain_inner, plain_head, plain_sign, Later, line_more, fold_more, plain_more, plain_chain}
 use Rattle.yaml_text.specs.grammar.Characters.{is_white, is_ns, is_nb, is_break, is_indicator}
@@ -17,10 +16,6 @@ use Rattle.yaml_scalar.proofs.Runs.{same_char, run_same, no_stand, no_stand_end,
 use Rattle.yaml_scalar.proofs.GapLemmas.{Ns, NoWhite, ns_stops, gap_then_same, folds_onward, folds_through, breaks_same, gap_onward, blank_gap, blank_white_run, unmarked_one, unmarked_join, unmarked_blank, unmarked_cuts, AfterNs, after_ns, after_white, mark_starts, BeginsNs}
 
 -- what the classes of characters say of taken another
-safe_ns : (c : Ctx) (x : ℕ) → plain_safe c x ≡ true → is_ns x ≡ true
-unfolding plain_safe
-safe_ns c x p = grind (arith, p)
-
 inner_ns : (c : Ctx) (x : ℕ) → plain_inner c x ≡ true → is_ns x ≡ true
 unfolding plain_inner plain_safe
 inner_ns c x p = grind (arith, p)
@@ -158,12 +153,6 @@ module _ (cs : List ℕ) where
       none (subst (Later cs c) (breaks_same cs n c i j o xs ws p (later_ns c j l) q s).0 l)
 
   -- ---- the whole scalar
-
-  hash : TextRule
-  hash = taken cs (λ i. slice_get cs i ≡ Some 35)
-
-  later : Ctx → TextRule
-  later c = taken cs (Later cs c)
 
   one_same : (P : ℕ → Type 0) → Same (taken cs P)
   one_same P i j k xs ys (p, x, h, e, f) (q, y, g, a, b) = (e ∙ sym a, f ∙ ap (λ v. v ∷ []) (same_char cs i x y h g) ∙ sym b)

@@ -89,9 +89,6 @@ module _ (cs : List ℕ) where
   char_later c i none (inr (inl (s, b))) = absurd (none b)
   char_later c i none (inr (inr ((x, g, s), t))) = later_colon cs c i (i + 1) (g ∙ ap Some (colon_is x s)) refl t
 
-  char_ns : (c : Ctx) (i : ℕ) → (Behind cs is_ns i → ⊥) → PlainChar cs c i → Ns cs i
-  char_ns c i none p = later_ns cs c i (char_later c i none p)
-
   fold_behind : (n : ℕ) (c : Ctx) (i j : ℕ) (xs : List ℕ) → folds cs n c i j xs → Behind cs is_ns j → ⊥
   fold_behind n c i j xs p (l, s) =
       let a : i < j = folds_onward cs n c i j xs p in

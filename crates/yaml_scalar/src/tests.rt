@@ -1,8 +1,11 @@
 //! Scalars that are read and spelled: the worked rows, and a row for each sentence of the productions.
+ghost use Rattle.yaml_text.specs.Source.{IsBorder};
+
 use crate::double::read_double;
 use crate::plain::read_plain;
 use crate::single::read_single;
 use crate::spell::{spell_into, spelled_len};
+use std::alloc::Global;
 use std::borrow::CowStr;
 use std::process::Abort;
 use yaml_text::chars::Chars;
@@ -12,7 +15,7 @@ use yaml_text::fault::Fault;
 /// A text, the least indentation and the context, with the content and the end that are read at its start.
 struct Row {
     text: &'static str,
-    n: i32,
+    n: u8,
     context: Ctx,
     content: &'static str,
     end: usize,
@@ -326,15 +329,65 @@ fn reads(rt: &impl Abort, row: &Row, answer: Result<(CowStr<'_>, usize), Fault>)
     }
 }
 
+/// Where a text begins.
+fn start(source: &Chars<'_>) -> usize
+    ensures { IsBorder source.now result }
+{
+    0
+}
+
+fn plain_row(rt: &impl Abort, alloc: Global, row: &Row) -> Result<(), Fault> {
+    let source = Chars::read(row.text.as_bytes())?;
+    reads(
+        rt,
+        row,
+        read_plain(
+            alloc,
+            &source,
+            start(&source),
+            i32::from(row.n),
+            row.context,
+        ),
+    );
+    Ok(())
+}
+
+fn single_row(rt: &impl Abort, alloc: Global, row: &Row) -> Result<(), Fault> {
+    let source = Chars::read(row.text.as_bytes())?;
+    reads(
+        rt,
+        row,
+        read_single(
+            alloc,
+            &source,
+            start(&source),
+            i32::from(row.n),
+            row.context,
+        ),
+    );
+    Ok(())
+}
+
+fn double_row(rt: &impl Abort, alloc: Global, row: &Row) -> Result<(), Fault> {
+    let source = Chars::read(row.text.as_bytes())?;
+    reads(
+        rt,
+        row,
+        read_double(
+            alloc,
+            &source,
+            start(&source),
+            i32::from(row.n),
+            row.context,
+        ),
+    );
+    Ok(())
+}
+
 #[test]
 fn plain_scalars_end_as_far_as_they_can(rt: HostRuntime) -> Result<(), Fault> {
     for row in &PLAIN {
-        let source = Chars::read(row.text.as_bytes())?;
-        reads(
-            &rt,
-            row,
-            read_plain(rt.alloc(), &source, 0, row.n, row.context),
-        );
+        plain_row(&rt, rt.alloc(), row)?;
     }
     Ok(())
 }
@@ -342,12 +395,7 @@ fn plain_scalars_end_as_far_as_they_can(rt: HostRuntime) -> Result<(), Fault> {
 #[test]
 fn single_quoted_scalars_end_at_a_lone_quote(rt: HostRuntime) -> Result<(), Fault> {
     for row in &SINGLE {
-        let source = Chars::read(row.text.as_bytes())?;
-        reads(
-            &rt,
-            row,
-            read_single(rt.alloc(), &source, 0, row.n, row.context),
-        );
+        single_row(&rt, rt.alloc(), row)?;
     }
     Ok(())
 }
@@ -355,12 +403,7 @@ fn single_quoted_scalars_end_at_a_lone_quote(rt: HostRuntime) -> Result<(), Faul
 #[test]
 fn double_quoted_scalars_have_escapes_and_escaped_breaks(rt: HostRuntime) -> Result<(), Fault> {
     for row in &DOUBLE {
-        let source = Chars::read(row.text.as_bytes())?;
-        reads(
-            &rt,
-            row,
-            read_double(rt.alloc(), &source, 0, row.n, row.context),
-        );
+        double_row(&rt, rt.alloc(), row)?;
     }
     Ok(())
 }
