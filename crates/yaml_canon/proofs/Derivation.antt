@@ -1,5 +1,5 @@
 -- The productions of the first path give the text of marks without anchors, aliases, tags and mappings.
-use Rattle.std.proofs.Common.{◌≡◌, ℕ, zero, suc, max, ◌+◌, ◌*◌, ◌/◌, ◌%◌, ◌<◌, ◌≤◌, ◌⊎◌, ◌==◌, not, ◌&&◌, nat_lt, Bool, true, false, inl, inr, Some, None, List, [], ◌∷◌, ◌++◌, length, slice_get, chars, refl, sym, ◌∙◌, ap, subst, arith, append_assoc}
+use Rattle.std.proofs.Common.{◌≡◌, ℕ, zero, suc, ◌+◌, ◌/◌, ◌%◌, ◌<◌, ◌≤◌, ◌⊎◌, ◌==◌, not, ◌&&◌, nat_lt, Bool, true, false, inl, inr, Some, None, List, [], ◌∷◌, ◌++◌, length, slice_get, chars, refl, sym, ◌∙◌, ap, subst, arith, append_assoc}
 use Rattle.std.proofs.lemmas.Bool.{cond_both, eqb-true, ltb-true}
 use Rattle.std.proofs.lemmas.Bool.Decides.{nat_tests}
 use Rattle.std.proofs.lemmas.Str.{encodes-chars, scalars-chars, IsUtf8-from_is_utf8}
@@ -14,9 +14,9 @@ use Rattle.yaml_text.specs.Marked.{Marked, AllMarked, MarkedPairs, alias, scalar
 use Rattle.yaml_text.specs.CharText.{is_plain, hex_digit, spell_char}
 use Rattle.yaml_text.specs.TagText.{tag_text}
 use Rattle.yaml_text.specs.NodeText.{quoted, text, items_text}
-use Rattle.yaml_text.specs.grammar.Rules.{done, then, ◌∪◌, run, Stands}
+use Rattle.yaml_text.specs.grammar.Rules.{done, then, run, Stands}
 use Rattle.yaml_text.specs.grammar.Characters.{is_break, is_nb, is_ns, is_white, is_space, short_escape, numbered, escape}
-use Rattle.yaml_text.specs.grammar.FlowScalars.{double_char, white_text}
+use Rattle.yaml_text.specs.grammar.FlowScalars.{double_char}
 use Rattle.yaml_text.proofs.Members.{and_both}
 use Rattle.yaml_text.proofs.CharLaws.{tails, low}
 use Rattle.yaml_text.proofs.PlaceLemmas.{slice_one, slice_snoc}
@@ -157,7 +157,7 @@ module _ (cs : List ℕ) where
       cond_both (nat_lt c 256) _ _ (Reads c i r) (λ e. two c i r s (ltb-true c 256 e)) (λ n6. four c i r s (low c s n5)))))))
 
   -- the characters, the quote and what follows
-  pieces : (xs : List ℕ) (i : ℕ) (r : List ℕ) → scalars xs ≡ true → At cs i (quoted xs r) → (k : ℕ) × quoted_rest cs i k xs × At cs k r
+  pub pieces : (xs : List ℕ) (i : ℕ) (r : List ℕ) → scalars xs ≡ true → At cs i (quoted xs r) → (k : ℕ) × quoted_rest cs i k xs × At cs k r
   pieces [] i r s a = (i + 1, (i, done refl refl, (at_get cs i 34 r a, refl)), at_next cs i 34 r a)
   pieces (c ∷ xs) i r s a =
       let h = and_both (scalar c) (scalars xs) s in
@@ -188,7 +188,7 @@ mutual
   all_more end_marks r s = refl
   all_more (item_mark t ts) r s = ap (flat t) (all_more ts r s) ∙ flat_more t (flat_all ts r) s
 
-  pairs_more : (ps : MarkedPairs) (r s : List Event) → flat_pairs ps (r ++ s) ≡ flat_pairs ps r ++ s
+  pub pairs_more : (ps : MarkedPairs) (r s : List Event) → flat_pairs ps (r ++ s) ≡ flat_pairs ps r ++ s
   pairs_more done_marks r s = refl
   pairs_more (entry_marks k v ps) r s = ap (λ z. flat k (flat v z)) (pairs_more ps r s) ∙ (ap (flat k) (flat_more v (flat_pairs ps r) s) ∙ flat_more k (flat v (flat_pairs ps r)) s)
 
@@ -196,7 +196,7 @@ module _ (cs : List ℕ) where
   pub none : (i : ℕ) → spaces cs i i
   none i = (omega arith, λ k l m. absurd (let x : ⊥ = omega (arith, l, m) in x))
 
-  one : (i : ℕ) → slice_get cs i ≡ Some 32 → spaces cs i (i + 1)
+  pub one : (i : ℕ) → slice_get cs i ≡ Some 32 → spaces cs i (i + 1)
   unfolding is_space
   one i e = (omega arith, λ k l m. let q : i ≡ k = omega (arith, l, m) in (32, subst (λ z. slice_get cs z ≡ Some 32) q e, refl))
 

@@ -1,9 +1,9 @@
 -- A stream of the first path is one document of marks without anchors, aliases, tags and mappings.
-use Rattle.std.proofs.Common.{◌≡◌, ℕ, zero, suc, Bool, true, false, List, [], ◌∷◌, ◌++◌, inl, inr, refl, sym, ◌∙◌, ap, subst, arith, ◌≤◌, append_assoc, encode_utf8_all}
+use Rattle.std.proofs.Common.{◌≡◌, ℕ, zero, suc, true, false, List, [], ◌∷◌, ◌++◌, inl, inr, refl, sym, ◌∙◌, ap, subst, arith, ◌≤◌, append_assoc, encode_utf8_all}
 use Rattle.std.proofs.lemmas.List.{append-nil}
 use Rattle.std.specs.declared.option.Option.TheVariants.{None}
 use Rattle.yaml_text.specs.Event.{Event, untagged, double, sequence_start, sequence_end, stream_start, stream_end, document_start, document_end}
-use Rattle.yaml_text.specs.Marked.{Marked, AllMarked, alias, scalar_at, sequence_at, mapping_at, end_marks, item_mark, flat, flat_all, Document, stream_events}
+use Rattle.yaml_text.specs.Marked.{Marked, AllMarked, alias, scalar_at, sequence_at, mapping_at, end_marks, item_mark, flat, flat_all, stream_events}
 use Rattle.yaml_text.specs.Spell.{document_of}
 use Rattle.yaml_text.specs.Sound.{Sound, AllSound, DocumentsSound}
 use Rattle.yaml_text.specs.Limits.{open_limit}

@@ -1,5 +1,5 @@
 -- The streams of the first path are streams by the whole grammar, with the same events.
-use Rattle.std.proofs.Common.{◌≡◌, ◌≢◌, ℕ, zero, suc, ◌+◌, ◌-◌, ◌<◌, ◌≤◌, ◌⊎◌, nat_lt, inl, inr, Bool, true, false, not, ◌&&◌, ◌==◌, Option, Some, None, List, [], ◌∷◌, ◌++◌, length, slice_get, refl, sym, ◌∙◌, ap, subst, arith, append_assoc}
+use Rattle.std.proofs.Common.{◌≡◌, ℕ, zero, suc, ◌+◌, ◌-◌, ◌<◌, ◌≤◌, ◌⊎◌, nat_lt, inl, inr, Bool, true, false, not, ◌&&◌, ◌==◌, Option, Some, List, [], ◌∷◌, length, slice_get, refl, sym, ◌∙◌, ap, subst, arith, append_assoc}
 use Rattle.std.proofs.lemmas.List.{append-nil}
 use Rattle.std.proofs.lemmas.Bool.{false≢true}
 use Rattle.std.proofs.lemmas.Bool.Decides.{nat_tests}
@@ -7,14 +7,14 @@ use Rattle.std.proofs.Math.Nat.{eq-or-lt_of_le}
 use Rattle.std.specs.Char.{is_ascii_hexdigit}
 use Rattle.yaml_text.specs.Limits.{open_limit}
 use Rattle.yaml_text.specs.Event.{Event, double as double_quoted, document_end, stream_end, stream_start, document_start}
-use Rattle.yaml_text.specs.grammar.Rules.{Rule, Span, Any, done, then, Spans, chr, word, run, exactly, letter, Stands, Throughout, ◌◆◌, ◌▸◌, ◌◂◌, ◌⨾◌, ◌∪◌, any, optional, maybe, seen}
+use Rattle.yaml_text.specs.grammar.Rules.{Rule, Span, Any, done, then, Spans, chr, word, run, letter, Stands, ◌◆◌, ◌▸◌, ◌◂◌, ◌∪◌, optional, maybe, seen}
 use Rattle.yaml_text.specs.grammar.Characters.{short_escape, is_break, is_nb, is_ns, is_space, is_white, brk, numbered, escape}
-use Rattle.yaml_text.specs.grammar.Separation.{Ctx, comment, block_in, flow_out, flow_in, inner, AtEnd, OneLine, StartsLine, Mark, MarkOf, Unmarked, sep, line_end, s_b_comment, s_l_comments, separate, separate_lines}
-use Rattle.yaml_text.specs.grammar.FlowScalars.{double_char, white_text, double, several, fold, escaped_break}
+use Rattle.yaml_text.specs.grammar.Separation.{Ctx, comment, block_in, flow_out, flow_in, inner, OneLine, StartsLine, Mark, MarkOf, Unmarked, sep, line_end, s_b_comment, s_l_comments, separate, separate_lines}
+use Rattle.yaml_text.specs.grammar.FlowScalars.{double_char, double}
 use Rattle.yaml_text.specs.grammar.Events.{no_props, scalar}
 use Rattle.yaml_text.specs.grammar.Nodes.{pair_part, yaml_part, json_node, flow_node, flow_seq, block_node, json_part, block_part, reads}
 use Rattle.yaml_text.specs.grammar.Streams.{Piece, document_piece, document_mark, bare_document, explicit_document, any_document, stream, stream_events, piece_events, ends_explicitly, ReadsText}
-use Rattle.yaml_canon.specs.FirstPath.{spaces, piece, double_line, scalar_node, comma, item, items_rest, sequence, node, tail, content, document, first_events, ReadsFirst}
+use Rattle.yaml_canon.specs.FirstPath.{spaces, piece, double_line, scalar_node, comma, item, sequence, node, tail, ReadsFirst}
 
 -- ---- stretches
 
@@ -44,7 +44,7 @@ hex_no_break : (c : ℕ) → is_ascii_hexdigit c ≡ true → is_break c ≡ fal
 unfolding is_break
 hex_no_break c h = grind (arith, nat_tests)
 
-ns_no_break : (c : ℕ) → is_ns c ≡ true → is_break c ≡ false
+pub ns_no_break : (c : ℕ) → is_ns c ≡ true → is_break c ≡ false
 unfolding is_ns is_nb
 ns_no_break c h = grind (arith, nat_tests)
 
@@ -60,10 +60,10 @@ module _ (cs : List ℕ) where
   abbrev pub Along : Span
   Along i j = (i ≤ j) × OneLine cs i j
 
-  stay : (i j : ℕ) → j ≡ i → Along i j
+  pub stay : (i j : ℕ) → j ≡ i → Along i j
   stay i j e = (omega (arith, e), λ k a b _. omega (arith, a, b, e))
 
-  go_on : (i k j : ℕ) → Along i k → Along k j → Along i j
+  pub go_on : (i k j : ℕ) → Along i k → Along k j → Along i j
   go_on i k j f g = (omega (arith, f.0, g.0), λ m a b. pick m a b (below_or_not m k))
     where
       pick : (m : ℕ) → i ≤ m → m < j → (m < k) ⊎ (k ≤ m) → Stands cs is_break m → ⊥
@@ -79,7 +79,7 @@ module _ (cs : List ℕ) where
           let s : c ≡ d = same_char k c d (subst (λ z. slice_get cs z ≡ Some c) at e) g in
           not_both (is_break c) n (subst (λ z. is_break z ≡ true) (sym s) h)
 
-  run_on : (p : ℕ → Bool) (i j : ℕ) → ((c : ℕ) → p c ≡ true → is_break c ≡ false) → run cs p i j → Along i j
+  pub run_on : (p : ℕ → Bool) (i j : ℕ) → ((c : ℕ) → p c ≡ true → is_break c ≡ false) → run cs p i j → Along i j
   run_on p i j n (o, r) = (o, line)
     where
       line : OneLine cs i j
@@ -117,14 +117,14 @@ module _ (cs : List ℕ) where
   pieces_on j i xs (done e f) = stay i j e
   pieces_on j i xs (then k ys zs r s e) = go_on i k j (piece_on i k ys r) (pieces_on j k zs s)
 
-  double_on : (i j : ℕ) (xs : List ℕ) → double_line cs i j xs → Along i j
+  pub double_on : (i j : ℕ) (xs : List ℕ) → double_line cs i j xs → Along i j
   unfolding double_line is_break
   double_on i j xs (k, (e, f), (m, r, (g, h))) = go_on i k j (one_on i k 34 refl e f) (go_on k m j (pieces_on m k xs r) (one_on m j 34 refl g h))
 
-  spaces_on : (i j : ℕ) → spaces cs i j → Along i j
+  pub spaces_on : (i j : ℕ) → spaces cs i j → Along i j
   spaces_on i j r = run_on is_space i j space_no_break r
 
-  comma_on : (i j : ℕ) → comma cs i j → Along i j
+  pub comma_on : (i j : ℕ) → comma cs i j → Along i j
   unfolding is_break
   comma_on i j (k, (e, f), s) = go_on i k j (one_on i k 44 refl e f) (spaces_on k j s)
 
@@ -154,7 +154,7 @@ module _ (cs : List ℕ) where
 
   -- ---- no line begins inside
 
-  brk_ends : (i k : ℕ) → brk cs i k → (0 < k) × Stands cs is_break (k - 1)
+  pub brk_ends : (i k : ℕ) → brk cs i k → (0 < k) × Stands cs is_break (k - 1)
   unfolding brk is_break
   brk_ends i k (inl (m, (e, f), (g, h))) = let q : m ≡ k - 1 = omega (arith, h) in (omega (arith, h), (10, subst (λ z. slice_get cs z ≡ Some 10) q g, refl))
   brk_ends i k (inr (inl (m, (e, f), (g, h)))) = let q : i ≡ k - 1 = omega (arith, f, g) in (omega (arith, f, g), (13, subst (λ z. slice_get cs z ≡ Some 13) q e, refl))
@@ -171,7 +171,7 @@ module _ (cs : List ℕ) where
       pick (inl e) = subst Inline e n
       pick (inr l) = (omega (arith, l), a.1 (j - 1) (omega (arith, l)) (omega (arith, l)))
 
-  unstarted : (k : ℕ) → Inline k → StartsLine cs k → ⊥
+  pub unstarted : (k : ℕ) → Inline k → StartsLine cs k → ⊥
   unfolding StartsLine
   unstarted k n (inl z) = omega (arith, n.0, z)
   unstarted k n (inr (i, b)) = n.1 (brk_ends i k b).1
@@ -179,7 +179,7 @@ module _ (cs : List ℕ) where
   inline_before : (i j k : ℕ) → Inline i → Along i j → i ≤ k → k < j → Inline k
   inline_before i j k n a l m = inline_on i k n (l, λ x b c. a.1 x b (omega (arith, c, m)))
 
-  unmarked : (i j : ℕ) → Inline i → Along i j → Unmarked cs i j
+  pub unmarked : (i j : ℕ) → Inline i → Along i j → Unmarked cs i j
   unfolding Mark MarkOf
   unmarked i j n a k b c (inl m) = unstarted k (inline_before i j k n a b c) m.0
   unmarked i j n a k b c (inr m) = unstarted k (inline_before i j k n a b c) m.0
@@ -195,16 +195,16 @@ module _ (cs : List ℕ) where
       pick (inr l) = inr (f i j (inl ((o, r), l)))
 
   -- beside the root, and inside brackets
-  abbrev context : Bool → Ctx
+  abbrev pub context : Bool → Ctx
   context true = flow_in
   context false = flow_out
 
-  apart : (b : Bool) (i j : ℕ) → sep cs i j → separate cs 0 (context b) i j
+  pub apart : (b : Bool) (i j : ℕ) → sep cs i j → separate cs 0 (context b) i j
   unfolding separate separate_lines
   apart true i j s = inr s
   apart false i j s = inr s
 
-  around : (b : Bool) (i j : ℕ) → spaces cs i j → maybe (separate cs 0 (context b)) i j
+  pub around : (b : Bool) (i j : ℕ) → spaces cs i j → maybe (separate cs 0 (context b)) i j
   around b = maybe_apart (context b) (apart b)
 
   scalar_in : (i j : ℕ) (es : List Event) (c : Ctx) → Inline i → scalar_node cs i j es → seen (λ t. scalar no_props double_quoted t ∷ []) (double cs 0 c) i j es
@@ -212,7 +212,7 @@ module _ (cs : List ℕ) where
   scalar_in i j es c n (xs, (k, q, (m, r, s)), f) = (xs, (unmarked i j n (double_on i j xs (k, q, (m, r, s))), (k, q, (m, inl r, s))), f)
 
   -- what stands at a place where no line begins
-  abbrev Inside : Rule (List Event) → Rule (List Event) → Type 0
+  abbrev pub Inside : Rule (List Event) → Rule (List Event) → Type 0
   Inside R S = (i j : ℕ) (es : List Event) → Inline i → R i j es → S i j es
 
   abbrev nodes_in : ℕ → Rule (List Event)
@@ -251,7 +251,7 @@ module _ (cs : List ℕ) where
 
   -- ---- the document
 
-  tail_in : (j : ℕ) → tail cs j (length cs) → s_l_comments cs j (length cs)
+  pub tail_in : (j : ℕ) → tail cs j (length cs) → s_l_comments cs j (length cs)
   unfolding s_l_comments s_b_comment line_end sep
   tail_in j (k, (o, r), t) = (length cs, inl (k, spaced (eq-or-lt_of_le o), ended t), Spans.done refl)
     where
@@ -299,20 +299,20 @@ module _ (cs : List ℕ) where
       let f : m ≡ k = omega (arith, a, b, p, h) in
       unstarted k (subst Inline f n) s
 
-  tail_unmarked : (m : ℕ) → Inline m → maybe (brk cs) m (length cs) → Unmarked cs m (length cs)
+  pub tail_unmarked : (m : ℕ) → Inline m → maybe (brk cs) m (length cs) → Unmarked cs m (length cs)
   unfolding Mark MarkOf
   tail_unmarked m n (inl e) k a b h = omega (arith, a, b, e)
   tail_unmarked m n (inr r) k a b (inl h) = last_break m (length cs) n r k a b h.0
   tail_unmarked m n (inr r) k a b (inr h) = last_break m (length cs) n r k a b h.0
 
-  both_unmarked : (i m j : ℕ) → Unmarked cs i m → Unmarked cs m j → Unmarked cs i j
+  pub both_unmarked : (i m j : ℕ) → Unmarked cs i m → Unmarked cs m j → Unmarked cs i j
   both_unmarked i m j f g k a b = pick (below_or_not k m)
     where
       pick : (k < m) ⊎ (m ≤ k) → Mark cs k → ⊥
       pick (inl h) = f k a h
       pick (inr h) = g k h b
 
-  space_run : (i k j : ℕ) → slice_get cs i ≡ Some 32 → k ≡ i + 1 → spaces cs k j → run cs is_space i j
+  pub space_run : (i k j : ℕ) → slice_get cs i ≡ Some 32 → k ≡ i + 1 → spaces cs k j → run cs is_space i j
   unfolding is_space
   space_run i k j e f (o, r) = (omega (arith, f, o), λ m a b. pick m b (eq-or-lt_of_le a))
     where

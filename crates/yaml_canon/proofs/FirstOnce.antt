@@ -5,9 +5,8 @@ use Rattle.yaml_text.specs.Limits.{open_limit}
 use Rattle.yaml_text.specs.Event.{Event, double, sequence_end}
 use Rattle.yaml_text.specs.Answer.{Only}
 use Rattle.yaml_text.specs.grammar.Rules.{Rule, ◌▸◌, ◌◂◌, Any, done, then, chr, optional}
-use Rattle.yaml_text.specs.grammar.Characters.{escape}
 use Rattle.yaml_text.specs.grammar.Events.{no_props, seq_start, scalar, wrapped}
-use Rattle.yaml_canon.specs.FirstPath.{spaces, piece, quoted_rest, double_line, comma, item, items_rest, sequence, node, tail, content, document, first_events, ReadsFirst}
+use Rattle.yaml_canon.specs.FirstPath.{spaces, piece, quoted_rest, double_line, comma, item, items_rest, sequence, node, content, document, ReadsFirst}
 use Rattle.yaml_canon.specs.FirstAnswer.{Leads}
 use Rattle.yaml_canon.proofs.Leads.{leads_on, leads_end, any_more}
 use Rattle.yaml_canon.proofs.ScalarLemmas.{Piece, piece_cases, verbatim_only, escape_only, escape_each, piece_no_quote, quote_end, double_start, double_first, bytes_only, same_char}
@@ -15,7 +14,7 @@ use Rattle.yaml_canon.proofs.FlowLemmas.{IsNodeRule, bracketed_start, items_firs
 
 module _ (cs : List ℕ) where
   -- a reading with its list seen as another
-  seen_as : {A : Type 0} {R : Rule (List A)} {i j : ℕ} (xs ys : List A) → ys ≡ xs → Only R i j xs → Only R i j ys
+  pub seen_as : {A : Type 0} {R : Rule (List A)} {i j : ℕ} (xs ys : List A) → ys ≡ xs → Only R i j xs → Only R i j ys
   seen_as {R = R} {i = i} {j = j} xs ys e o = subst (Only R i j) (sym e) o
 
   piece_each : (i j : ℕ) (xs : List ℕ) → piece cs i j xs → Only (piece cs) i j xs
@@ -30,7 +29,7 @@ module _ (cs : List ℕ) where
   rest_each j m i xs (then k ys zs p more e) c =
       seen_as (ys ++ zs) xs e (leads_end (any_more (piece_each i k ys p) (λ l s. piece_no_quote cs i k ys p s.0)) (rest_each j m k zs more c))
 
-  double_each : (i j : ℕ) (xs : List ℕ) → double_line cs i j xs → Only (double_line cs) i j xs
+  pub double_each : (i j : ℕ) (xs : List ℕ) → double_line cs i j xs → Only (double_line cs) i j xs
   unfolding double_line
   double_each i j xs (k, (h, e), (m, p, c)) = leads_end (double_start cs i k h e) (rest_each j m k xs p c)
 

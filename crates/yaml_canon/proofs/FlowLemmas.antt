@@ -1,5 +1,5 @@
 -- Flow sequences and the document, read from the front.
-use Rattle.std.proofs.Common.{◌≡◌, ◌≢◌, ℕ, suc, ◌+◌, ◌-◌, ◌<◌, ◌≤◌, Bool, List, [], ◌∷◌, ◌++◌, length, Some, refl, sym, ◌∙◌, ap, subst, arith, inl, inr, ◌⊎◌, zero, Result, Ok, Err, true, false}
+use Rattle.std.proofs.Common.{◌≡◌, ◌≢◌, ℕ, suc, ◌+◌, ◌-◌, ◌<◌, List, [], ◌∷◌, ◌++◌, length, Some, refl, sym, ◌∙◌, ap, subst, arith, inl, inr, ◌⊎◌, zero, Result, Ok, Err, true}
 use Rattle.std.specs.Prelude.{slice_get, encode_utf8_all, ◌==◌}
 use Rattle.std.proofs.lemmas.Bool.{eqb-true}
 use Rattle.std.proofs.lemmas.Option.{slice_get_within}
@@ -10,14 +10,14 @@ use Rattle.yaml_text.specs.Event.{Event, untagged, double, scalar_event, sequenc
 use Rattle.yaml_text.specs.EventModel.{Adds}
 use Rattle.yaml_text.specs.declared.event.Event as code
 use Rattle.yaml_text.specs.declared.fault.Fault.{Fault}
-use Rattle.yaml_text.specs.grammar.Rules.{Rule, ◌▸◌, ◌◂◌, Any, done, then, any, chr, optional, seen, Stands, Behind}
+use Rattle.yaml_text.specs.grammar.Rules.{Rule, ◌▸◌, ◌◂◌, Any, done, then, chr, optional, seen, Stands}
 use Rattle.yaml_text.specs.grammar.Characters.{is_space, brk}
-use Rattle.yaml_text.specs.grammar.Events.{no_props, seq_start, scalar, wrapped}
+use Rattle.yaml_text.specs.grammar.Events.{no_props, seq_start, wrapped}
 use Rattle.yaml_canon.specs.FirstPath.{spaces, double_line, scalar_node, comma, item, items_rest, bracketed, sequence, node, AfterReturn, tail, content, document, first_events, ReadsFirst}
 use Rattle.yaml_canon.specs.FirstAnswer.{Leads, Unread, Appends}
-use Rattle.yaml_canon.proofs.Leads.{leads_end, leads_none, one_more, no_more, none_more}
+use Rattle.yaml_canon.proofs.Leads.{leads_end, one_more, no_more, none_more}
 use Rattle.yaml_canon.proofs.AnswerLemmas.{refuses_weaker, adds_on}
-use Rattle.yaml_canon.proofs.ScalarLemmas.{same_char, double_first, no_double}
+use Rattle.yaml_canon.proofs.ScalarLemmas.{same_char, double_first}
 
 module _ (cs : List ℕ) where
   abbrev NoSpace : ℕ → Type 0

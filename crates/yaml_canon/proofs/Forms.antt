@@ -1,5 +1,5 @@
 -- Trees without mappings are arranged; arranged forests are the same where they are one.
-use Rattle.std.proofs.Common.{◌≡◌, Bool, true, false, ◌&&◌, List, [], ◌∷◌, refl, sym, ◌∙◌, ap}
+use Rattle.std.proofs.Common.{◌≡◌, true, ◌&&◌, List, [], ◌∷◌, refl, sym, ◌∙◌, ap}
 use Rattle.std.specs.Cmp.Lexicographic.{pointwise}
 use Rattle.yaml_text.specs.Tree.{Tree, Trees, scalar, sequence, mapping, end, item}
 use Rattle.yaml_text.specs.Order.{arranged, arranged_trees}

@@ -13,26 +13,26 @@ use Rattle.yaml_canon.specs.Machine.{State, start, paired, entered, added, step,
 
 -- ---- counts
 
-abbrev count_all : AllMarked → ℕ
+abbrev pub count_all : AllMarked → ℕ
 count_all ts = length (flat_all ts [])
 
-abbrev count_pairs : MarkedPairs → ℕ
+abbrev pub count_pairs : MarkedPairs → ℕ
 count_pairs ps = length (flat_pairs ps [])
 
 mutual
   unfolding flat
 
-  count_node : (t : Marked) (r : List Event) → length (flat t r) ≡ event_count t + length r
+  pub count_node : (t : Marked) (r : List Event) → length (flat t r) ≡ event_count t + length r
   count_node (alias n) r = omega arith
   count_node (scalar_at a g y x) r = omega arith
   count_node (sequence_at a g b ts) r = omega (arith, count_items ts (sequence_end ∷ r), count_items ts (sequence_end ∷ []))
   count_node (mapping_at a g b ps) r = omega (arith, count_entries ps (mapping_end ∷ r), count_entries ps (mapping_end ∷ []))
 
-  count_items : (ts : AllMarked) (r : List Event) → length (flat_all ts r) ≡ count_all ts + length r
+  pub count_items : (ts : AllMarked) (r : List Event) → length (flat_all ts r) ≡ count_all ts + length r
   count_items end_marks r = omega arith
   count_items (item_mark t ts) r = omega (arith, count_node t (flat_all ts r), count_items ts r, count_node t (flat_all ts []))
 
-  count_entries : (ps : MarkedPairs) (r : List Event) → length (flat_pairs ps r) ≡ count_pairs ps + length r
+  pub count_entries : (ps : MarkedPairs) (r : List Event) → length (flat_pairs ps r) ≡ count_pairs ps + length r
   count_entries done_marks r = omega arith
   count_entries (entry_marks k v ps) r =
       omega (arith, count_node k (flat v (flat_pairs ps r)), count_node v (flat_pairs ps r), count_entries ps r, count_node k (flat v (flat_pairs ps [])), count_node v (flat_pairs ps []))

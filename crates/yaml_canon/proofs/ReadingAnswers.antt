@@ -1,5 +1,5 @@
 -- What the reader's answer says of the bytes.
-use Rattle.std.proofs.Common.{◌≡◌, ℕ, List, [], ◌∷◌, map, IfOk, IfErr, MatchResult, Result, Ok, Err, refl, sym, ◌∙◌, subst}
+use Rattle.std.proofs.Common.{◌≡◌, ℕ, List, IfOk, MatchResult, Result, Ok, Err, refl, sym, subst}
 use Rattle.std.specs.Result.{result_map_both}
 use Rattle.yaml_text.specs.Tree.{Tree}
 use Rattle.yaml_text.specs.Text.{Text, RefusesText}
@@ -10,28 +10,28 @@ use Rattle.yaml_text.specs.declared.fault.Fault.{Fault}
 use Rattle.yaml_text.specs.declared.fault.Fault.TheVariants as fault
 use Rattle.yaml_text.proofs.PrintLaws.{spelled_text}
 use Rattle.yaml_text.proofs.RefusedText.{refused_is_no_text}
-use Rattle.yaml_canon.specs.Among.{OnFirstPath, Unrepeated}
+use Rattle.yaml_canon.specs.PlainTrees.{Spoken}
 use Rattle.yaml_canon.specs.FirstAnswer.{ReadsAll}
-use Rattle.yaml_canon.specs.FirstPath.{ReadsFirst}
-use Rattle.yaml_canon.specs.FirstDocument.{FirstDocument}
-use Rattle.yaml_canon.proofs.FirstDocuments.{first_documents}
-use Rattle.yaml_canon.proofs.FirstClaims.{spelling_text, spelling_read}
+use Rattle.yaml_canon.specs.SecondPath.{ReadsSecond}
+use Rattle.yaml_canon.specs.SecondDocument.{SecondDocument}
+use Rattle.yaml_canon.proofs.SecondDocuments.{second_documents}
+use Rattle.yaml_canon.proofs.SecondClaims.{spelling_text, spelling_read}
 
 -- `events` are those of an answer
 module _ {X : Type 0} (events : X → List Event) (bytes cs : List ℕ) where
   abbrev Answered : Result X Fault → Type 0
-  Answered r = ReadsAll (ReadsFirst cs) (result_map_both events (λ e. e) r)
+  Answered r = ReadsAll (ReadsSecond cs) (result_map_both events (λ e. e) r)
 
-  pub answer_read : (r : Result X Fault) → Text bytes cs → Answered r → IfOk r (λ v. FirstDocument bytes (events v))
-  answer_read (Ok v) t a = first_documents bytes cs (events v) t a.0
+  pub answer_read : (r : Result X Fault) → Text bytes cs → Answered r → IfOk r (λ v. SecondDocument bytes (events v))
+  answer_read (Ok v) t a = second_documents bytes cs (events v) t a.0
   answer_read (Err e) t a = tt
 
-  pub answer_spelled : (r : Result X Fault) → Text bytes cs → Answered r → (f : List Tree) → OnFirstPath f → Unrepeated f → Admitted f → bytes ≡ spell_bytes f
+  pub answer_spelled : (r : Result X Fault) → Text bytes cs → Answered r → (f : List Tree) → Spoken f → Admitted f → bytes ≡ spell_bytes f
       → MatchResult r (λ v. events v ≡ spelled f) (λ e. e ≡ fault.OutOfMemory)
-  answer_spelled r t a f o u d e = by r a
+  answer_spelled r t a f o d e = by r a
     where
-      there : ReadsFirst cs (spelled f)
-      there = subst (λ z. ReadsFirst z (spelled f)) (sym (spelling_text bytes cs f d e t)) (spelling_read f o u d)
+      there : ReadsSecond cs (spelled f)
+      there = subst (λ z. ReadsSecond z (spelled f)) (sym (spelling_text bytes cs f d e t)) (spelling_read f o d)
 
       by : (r : Result X Fault) → Answered r → MatchResult r (λ v. events v ≡ spelled f) (λ e. e ≡ fault.OutOfMemory)
       by (Ok v) a = sym (a.1 (spelled f) there)

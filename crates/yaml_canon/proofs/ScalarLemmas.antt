@@ -1,16 +1,16 @@
 -- Double-quoted scalars, read from the front.
-use Rattle.std.proofs.Common.{◌≡◌, ◌≢◌, ℕ, zero, suc, ◌+◌, ◌*◌, ◌^◌, ◌<◌, ◌≤◌, Bool, List, [], ◌∷◌, ◌++◌, length, Option, Some, None, refl, sym, ◌∙◌, ap, subst, arith, add-one, true, false, inl, inr, ◌⊎◌}
+use Rattle.std.proofs.Common.{◌≡◌, ◌≢◌, ℕ, zero, suc, ◌+◌, ◌*◌, ◌^◌, ◌<◌, ◌≤◌, Bool, List, [], ◌∷◌, ◌++◌, Option, Some, None, refl, sym, ◌∙◌, ap, subst, arith, add-one, true, false, inl, inr, ◌⊎◌}
 use Rattle.std.specs.Prelude.{slice_get, slice_range, not, ◌&&◌, ◌==◌, ◌-◌, encode_utf8_all}
 use Rattle.std.proofs.Math.Nat.{eq-or-lt_of_le, pow-le-pow_right, pow-suc}
 use Rattle.std.specs.Char.{IsScalar, is_ascii_hexdigit, digit_value}
 use Rattle.std.specs.Str.Parse.{digits_value}
-use Rattle.std.proofs.lemmas.Bool.{cond_both, eqb-true, false≢true}
+use Rattle.std.proofs.lemmas.Bool.{cond_both, eqb-true}
 use Rattle.std.proofs.lemmas.Bool.Decides.{nat_tests}
 use Rattle.std.proofs.lemmas.Int.Digits.{digits_value_push}
 use Rattle.yaml_text.specs.Answer.{Only}
-use Rattle.yaml_text.specs.grammar.Rules.{Rule, ◌∪◌, ◌▸◌, mapped, seen, Stands, chr, letter, run, exactly}
+use Rattle.yaml_text.specs.grammar.Rules.{◌∪◌, ◌▸◌, mapped, seen, Stands, chr, letter, run, exactly}
 use Rattle.yaml_text.specs.grammar.Characters.{is_nb, is_ns, is_white, is_break, short_escape, numbered, escape}
-use Rattle.yaml_text.specs.grammar.FlowScalars.{double_char, white_text}
+use Rattle.yaml_text.specs.grammar.FlowScalars.{double_char}
 use Rattle.yaml_text.proofs.PlaceLemmas.{slice_none, slice_join, slice_one, slice_snoc}
 use Rattle.yaml_canon.specs.FirstPath.{is_verbatim, digit_count, piece, quoted_rest, double_line}
 use Rattle.yaml_canon.specs.FirstAnswer.{Leads, Unread}

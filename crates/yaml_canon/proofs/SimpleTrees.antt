@@ -1,9 +1,6 @@
 -- What marks without anchors, aliases, tags and mappings stand for: trees of the first path.
-use Rattle.std.proofs.Common.{◌≡◌, ℕ, suc, ◌+◌, true, List, [], ◌∷◌, Ok, None, refl, sym, ◌∙◌, ap, subst, arith, ◌≤◌}
-use Rattle.std.specs.Str.{is_utf8}
-use Rattle.yaml_text.specs.Event.{untagged, double}
+use Rattle.std.proofs.Common.{◌≡◌, ℕ, suc, ◌+◌, true, [], ◌∷◌, Ok, refl, sym, ap, subst, arith, ◌≤◌}
 use Rattle.yaml_text.specs.Tree.{height, heights, Tree, Trees, scalar, sequence, mapping, end, item}
-use Rattle.yaml_text.specs.Tag.{str_tag, seq_tag}
 use Rattle.yaml_text.specs.Same.{Keyed, keyed, keyed_trees}
 use Rattle.yaml_text.specs.Marked.{Marked, AllMarked, alias, scalar_at, sequence_at, mapping_at, end_marks, item_mark}
 use Rattle.yaml_text.specs.Spell.{document_of}
@@ -12,7 +9,7 @@ use Rattle.yaml_text.specs.Proper.{IsProper}
 use Rattle.yaml_text.proofs.Members.{both_and}
 use Rattle.yaml_text.proofs.SoundLaws.{read_is_proper}
 use Rattle.yaml_text.specs.Core.{resolve, collection_tag}
-use Rattle.yaml_text.specs.Unfold.{Table, Outcome, unfold_node, unfold_all, event_count, trees_from, trees_of}
+use Rattle.yaml_text.specs.Unfold.{Table, unfold_node, unfold_all, event_count, trees_from, trees_of}
 use Rattle.yaml_text.specs.Order.{arranged, arranged_trees}
 use Rattle.yaml_canon.specs.Composable.{Untagged, AllUntagged}
 use Rattle.yaml_canon.specs.Among.{IsFirst, AreFirst}

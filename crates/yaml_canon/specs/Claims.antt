@@ -1,68 +1,87 @@
 -- What `canonical` and `same` promise.
-use Rattle.std.specs.Prelude.{◌≡◌, ◌↔◌, ℕ, ◌<◌, ◌≤◌, ◌++◌, Bool, true, List, [], ◌∷◌, length}
-use Rattle.yaml_text.specs.Limits.{text_limit, height_limit}
-use Rattle.yaml_text.specs.Tree.{Tree, height}
+use Rattle.std.specs.Prelude.{◌≡◌, ◌↔◌, ℕ, ◌<◌, ◌≤◌, ◌++◌, Bool, true, List, [], ◌∷◌, length, Err}
+use Rattle.yaml_text.specs.Limits.{text_limit, height_limit, nodes_limit}
+use Rattle.yaml_text.specs.Tree.{Tree, height, nodes}
 use Rattle.yaml_text.specs.Same.{Keyed, Alike}
 use Rattle.yaml_text.specs.Spell.{spell_bytes}
 use Rattle.yaml_text.specs.Proper.{Admitted}
 use Rattle.yaml_text.specs.Means.{Means}
+use Rattle.yaml_text.specs.Marked.{Document, stream_events}
+use Rattle.yaml_text.specs.Core.{undefined_alias, cyclic_alias}
+use Rattle.yaml_text.specs.Unfold.{trees_of}
+use Rattle.yaml_text.specs.grammar.Reading.{Reads}
 use Rattle.yaml_text.specs.Text.{RefusesText}
 use Rattle.yaml_text.specs.declared.fault.Fault.{Fault}
-use Rattle.yaml_text.specs.declared.fault.Fault.TheVariants.{TooLong, NotUtf8, NotPrintable, Syntax, Tab, TooDeep, BadEscape, TooHigh, TextTooLong, OutOfMemory, RepeatedNode}
-use Rattle.yaml_canon.specs.Among.{OnFirstPath, NoneAgain, Unrepeated}
+use Rattle.yaml_text.specs.declared.fault.Fault.TheVariants.{TooLong, NotUtf8, NotPrintable, Syntax, Tab, TooDeep, BadEscape, UndefinedAlias, CyclicAlias, TooHigh, TextTooLong, OutOfMemory, UnfoldsTooFar}
+use Rattle.yaml_canon.specs.PlainTrees.{Spoken}
+
+-- each of these trees
+abbrev pub AllOf : (Tree → Type 0) → List Tree → Type 0
+AllOf P [] = Unit {0}
+AllOf P (t ∷ f) = P t × AllOf P f
 
 -- every tree is low enough
 abbrev pub AllLow : List Tree → Type 0
-AllLow [] = Unit {0}
-AllLow (t ∷ f) = (height t ≤ height_limit) × AllLow f
+AllLow f = AllOf (λ t. height t ≤ height_limit) f
 
--- and has no mapping with two keys that are the same
+-- every tree has few enough nodes
+abbrev pub AllFew : List Tree → Type 0
+AllFew f = AllOf (λ t. nodes t ≤ nodes_limit) f
+
+-- no mapping has two keys that are the same
 abbrev pub AllKeyed : List Tree → Type 0
-AllKeyed [] = Unit {0}
-AllKeyed (t ∷ f) = Keyed t × (height t ≤ height_limit) × AllKeyed f
+AllKeyed f = AllOf Keyed f
 
--- the text is the canonical one of what the bytes mean, and tells it from every other forest
+-- the text is the canonical one of the forest, and tells it from every other
+pub record IsTextOf (f : List Tree) (text : List ℕ) : Type 0 where
+  pub admitted : Admitted f
+  pub spelled : text ≡ spell_bytes f
+  pub tells : (g : List Tree) → Admitted g → (spell_bytes g ≡ text) ↔ Alike f g
+
+-- the text is the canonical one of what the bytes mean, where no mapping there has two keys that are the same
 pub record IsCanonicalText (bytes text : List ℕ) : Type 0 where
   pub forest : List Tree
-  pub on_path : OnFirstPath forest
-  pub unrepeated : Unrepeated forest
   pub means : Means bytes forest
-  pub admitted : Admitted forest
-  pub spelled : text ≡ spell_bytes forest
-  pub tells : (g : List Tree) → Admitted g → (spell_bytes g ≡ text) ↔ Alike forest g
+  pub spoken : Spoken forest
+  pub low : AllLow forest
+  pub fits : length text ≤ text_limit
+  pub is : AllKeyed forest → IsTextOf forest text
 
--- the answer is whether the two streams have equally many documents, pairwise the same
+-- The two streams are not refused. Where no mapping has two keys that are the same, the answer is whether they have
+-- equally many documents, pairwise the same.
 pub record Compares (left right : List ℕ) (answer : Bool) : Type 0 where
   pub first : List Tree
   pub second : List Tree
   pub first_means : Means left first
   pub second_means : Means right second
-  pub first_keyed : AllKeyed first
-  pub second_keyed : AllKeyed second
-  pub tells : (answer ≡ true) ↔ Alike first second
+  pub first_low : AllLow first
+  pub second_low : AllLow second
+  pub tells : AllKeyed first → AllKeyed second → (answer ≡ true) ↔ Alike first second
 
--- the tree after these is the first one that is too high
-pub record IsFirstHigh (number : ℕ) (f : List Tree) : Type 0 where
-  pub before : List Tree
-  pub high : Tree
-  pub after : List Tree
-  pub split : f ≡ before ++ (high ∷ after)
-  pub low : AllLow before
-  pub too_high : height_limit < height high
-  pub place : number ≡ length before
-
--- the tree after these is the first one that has a repeated node
-pub record IsFirstRepeated (number : ℕ) (f : List Tree) : Type 0 where
+-- the tree after these is the first one of which this is wrong, and that is fine for those before it
+pub record IsFirstOf (Fine Wrong : Tree → Type 0) (number : ℕ) (f : List Tree) : Type 0 where
   pub before : List Tree
   pub tree : Tree
   pub after : List Tree
   pub split : f ≡ before ++ (tree ∷ after)
-  pub unrepeated : Unrepeated before
-  pub repeats : NoneAgain tree → ⊥
+  pub fine : AllOf Fine before
+  pub wrong : Wrong tree
   pub place : number ≡ length before
 
--- What a refusal by reading and by height says of the bytes. Of the four faults of syntax nothing is claimed here but that
--- no canonical text meets them.
+-- the first tree that is too high
+abbrev pub IsFirstHigh : ℕ → List Tree → Type 0
+IsFirstHigh number f = IsFirstOf (λ t. height t ≤ height_limit) (λ t. height_limit < height t) number f
+
+-- the first tree that has too many nodes
+abbrev pub IsFirstFar : ℕ → List Tree → Type 0
+IsFirstFar number f = IsFirstOf (λ t. nodes t ≤ nodes_limit) (λ t. nodes_limit < nodes t) number f
+
+-- the bytes are read as these documents
+pub record IsRead (bytes : List ℕ) (ds : List Document) : Type 0 where
+  pub reads : Reads bytes (stream_events ds)
+
+-- What a refusal by reading and of the trees says of the bytes. Of the four faults of syntax nothing is claimed here but
+-- that no canonical text meets them.
 abbrev pub RefusedInReading : List ℕ → Fault → Type 0
 RefusedInReading bytes TooLong = RefusesText bytes TooLong
 RefusedInReading bytes (NotUtf8 at) = RefusesText bytes (NotUtf8 at)
@@ -71,12 +90,14 @@ RefusedInReading bytes (Syntax at) = Unit {0}
 RefusedInReading bytes (Tab at) = Unit {0}
 RefusedInReading bytes (TooDeep at) = Unit {0}
 RefusedInReading bytes (BadEscape at) = Unit {0}
+RefusedInReading bytes (UndefinedAlias event) = (ds : List Document) × IsRead bytes ds × (trees_of ds ≡ Err (undefined_alias, event))
+RefusedInReading bytes (CyclicAlias event) = (ds : List Document) × IsRead bytes ds × (trees_of ds ≡ Err (cyclic_alias, event))
 RefusedInReading bytes (TooHigh number) = (f : List Tree) × Means bytes f × IsFirstHigh number f
+RefusedInReading bytes (UnfoldsTooFar number) = (f : List Tree) × Means bytes f × AllLow f × IsFirstFar number f
 RefusedInReading bytes OutOfMemory = Unit {0}
 RefusedInReading bytes _ = ⊥
 
--- What a refusal by `canonical` says of the bytes: it may also be that the text would be too long, or that a node is repeated.
+-- What a refusal by `canonical` says of the bytes: it may also be that the text would be too long.
 abbrev pub CanonicalRefuses : List ℕ → Fault → Type 0
-CanonicalRefuses bytes TextTooLong = (f : List Tree) × Means bytes f × AllKeyed f × (text_limit < length (spell_bytes f))
-CanonicalRefuses bytes (RepeatedNode number) = (f : List Tree) × Means bytes f × AllLow f × IsFirstRepeated number f
+CanonicalRefuses bytes TextTooLong = (f : List Tree) × Means bytes f × AllLow f × (AllKeyed f → text_limit < length (spell_bytes f))
 CanonicalRefuses bytes fault = RefusedInReading bytes fault

@@ -8,6 +8,7 @@ pub mod FirstDocument
 pub mod SecondPath
 pub mod PlainMarks
 pub mod PlainTrees
+pub mod SecondDocument
 pub mod Writes
 pub mod Identical
 pub mod Anchored
@@ -19,5 +20,9 @@ pub mod Measure
 pub mod Forest
 pub mod Repeats
 pub mod Arranged
+pub mod Arranging
 pub mod Refusal
+pub mod SecondAnswer
 pub mod Comparing
+pub mod SourceKeys
+pub mod KeyModel

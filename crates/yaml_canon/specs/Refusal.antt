@@ -11,3 +11,9 @@ abbrev pub RefusesSpelling : List Tree → Fault → Type 0
 RefusesSpelling f TextTooLong = text_limit < length (spell_bytes f)
 RefusesSpelling f OutOfMemory = Unit {0}
 RefusesSpelling f _ = ⊥
+
+-- why nothing is written at all, whatever the trees
+abbrev pub IsUnspelled : Fault → Type 0
+IsUnspelled TextTooLong = Unit {0}
+IsUnspelled OutOfMemory = Unit {0}
+IsUnspelled _ = ⊥

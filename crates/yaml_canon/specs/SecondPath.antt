@@ -1,11 +1,11 @@
 -- The streams that the private reader reads once mappings, anchors and aliases are among them: `---`, one or more spaces, a
 -- node, any spaces and perhaps a break, all on one line. A node is an alias; or a double-quoted scalar, a flow sequence or a
 -- flow mapping of nodes, with an anchor before it or none. Temporary: the productions of `grammar.Streams` replace it.
-use Rattle.std.specs.Prelude.{ℕ, zero, suc, List, [], ◌∷◌, ◌++◌, true, false, Some, length, encode_utf8_all}
+use Rattle.std.specs.Prelude.{ℕ, zero, suc, List, [], ◌∷◌, true, Some, length, encode_utf8_all}
 use Rattle.yaml_text.specs.Limits.{open_limit}
-use Rattle.yaml_text.specs.Event.{Event, untagged, double, sequence_end, mapping_end, stream_start, stream_end, document_start, document_end}
-use Rattle.yaml_text.specs.grammar.Rules.{Span, Rule, ◌◆◌, ◌▸◌, ◌◂◌, ◌⨾◌, ◌∪◌, gives, maybe, optional, any, with_value, seen, chr, some_run}
-use Rattle.yaml_text.specs.grammar.Characters.{is_space, brk}
+use Rattle.yaml_text.specs.Event.{Event, untagged, double, sequence_end, mapping_end}
+use Rattle.yaml_text.specs.grammar.Rules.{Span, Rule, ◌◆◌, ◌▸◌, ◌◂◌, ◌⨾◌, ◌∪◌, gives, optional, any, with_value, seen, chr, some_run}
+use Rattle.yaml_text.specs.grammar.Characters.{is_space}
 use Rattle.yaml_text.specs.grammar.Tags as tags
 use Rattle.yaml_text.specs.grammar.Events.{Props, no_props, seq_start, map_start, scalar, alias, wrapped}
 use Rattle.yaml_canon.specs.FirstPath.{spaces, double_line, comma, tail, first_events}

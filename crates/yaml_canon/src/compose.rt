@@ -9,11 +9,13 @@ ghost use Rattle.yaml_canon.specs.Composable.{Composable, RefusesAlias};
 
 mod composer;
 mod graph;
+mod keys;
 mod measure;
 
 use crate::tree::Tree;
 use composer::compose;
 use graph::forest;
+pub(crate) use keys::{EqualKeys, equal_keys};
 pub(crate) use measure::Measure;
 use measure::of_roots;
 use std::alloc::Global;

@@ -1,15 +1,16 @@
 //! The canonical text of a YAML stream, and whether two streams are the same.
 #![tactic(auto)]
 
+mod arrange;
 pub mod comparer;
 mod compose;
+mod flow_reader;
 mod forest;
 mod node;
 mod order;
 pub mod presenter;
 mod reader;
 mod reading;
-mod repeats;
 mod scalar;
 pub mod side;
 mod spell;

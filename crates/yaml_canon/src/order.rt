@@ -56,9 +56,7 @@ fn equal_entries(left: &[(Tree<'_>, Tree<'_>)], right: &[(Tree<'_>, Tree<'_>)]) 
 
 /// Whether two arranged forests are the same, tree by tree.
 pub(crate) fn same_forests(left: &[Tree<'_>], right: &[Tree<'_>]) -> bool
-    requires left { AllArranged (map tree_of left.now) }
-    requires right { AllArranged (map tree_of right.now) }
-    ensures { result ≡ pointwise same (map tree_of left.now) (map tree_of right.now) }
+    ensures { AllArranged (map tree_of left.now) → AllArranged (map tree_of right.now) → result ≡ pointwise same (map tree_of left.now) (map tree_of right.now) }
 {
     equal_items(left, right)
 }

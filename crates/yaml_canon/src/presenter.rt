@@ -7,33 +7,33 @@ ghost use Rattle.yaml_text.specs.Text.{Text, RefusesText};
 ghost use Rattle.yaml_text.specs.Proper.{Admitted};
 ghost use Rattle.yaml_text.specs.Spell.{spell_bytes};
 ghost use Rattle.yaml_text.specs.declared.fault.Fault.TheVariants.{OutOfMemory};
-ghost use Rattle.yaml_canon.specs.Among.{OnFirstPath, Unrepeated};
+ghost use Rattle.yaml_canon.specs.PlainTrees.{Spoken};
 ghost use Rattle.yaml_canon.specs.Claims.{IsCanonicalText, CanonicalRefuses};
 
 use crate::forest::forest;
 use crate::reading::read;
-use crate::repeats::has_repeats;
 use crate::spell::spell;
 use std::alloc::Global;
 use yaml_text::fault::Fault;
 
 /// The canonical text of the stream that these bytes are.
 ///
-/// Today the stream is one document of double-quoted scalars and flow sequences on one line,
-/// after `---`. Refused are bytes that are no text (1 to 3), other streams (4, 5, 7, 8), a
-/// document that is too high (18) or has a repeated node (25), a text that would be too long
-/// (20), and want of memory (21).
+/// Today the stream is one document of double-quoted scalars, flow sequences, flow mappings,
+/// anchors and aliases on one line, after `---`. Refused are bytes that are no text (1 to 3),
+/// other streams (4, 5, 7, 8), an alias whose anchor is undefined (12) or stands on a collection
+/// that is still open (13), a document that is too high (18) or has too many nodes (24), a text
+/// that would be too long (20), and want of memory (21).
+///
+/// Keys are not compared yet: where two keys of a mapping are the same, some text is given, and
+/// nothing is promised of it.
 pub fn canonical(alloc: Global, bytes: &[u8]) -> Result<String, Fault>
     ensures text { IfOk result (λ text. IsCanonicalText bytes.now (string_bytes text)) }
     ensures refused { IfErr result (CanonicalRefuses bytes.now) }
     ensures no_text { ((cs : List ℕ) → Text bytes.now cs → ⊥) → IsErrAnd result (RefusesText bytes.now) }
-    ensures spelled { (f : List Tree) → OnFirstPath f → Unrepeated f → Admitted f → bytes.now ≡ spell_bytes f →
+    ensures spelled { (f : List Tree) → Spoken f → Admitted f → bytes.now ≡ spell_bytes f →
         MatchResult result (λ text. string_bytes text ≡ bytes.now) (λ fault. fault ≡ OutOfMemory) }
 {
     let events = read(alloc, bytes)?;
     let trees = forest(alloc, &events)?;
-    if has_repeats(alloc, &trees)? {
-        return Err(Fault::RepeatedNode(0));
-    }
     spell(alloc, &trees)
 }

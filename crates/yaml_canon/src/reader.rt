@@ -27,10 +27,10 @@ use yaml_text::places::{accept, is_end, next, text_between};
 mod tests;
 
 /// How many collections may be open at one place.
-const OPEN_LIMIT: u32 = 128;
+pub(crate) const OPEN_LIMIT: u32 = 128;
 
 /// The fault of a character that cannot be used where separation may stand.
-fn unusable(source: &Chars<'_>, at: usize) -> Fault
+pub(crate) fn unusable(source: &Chars<'_>, at: usize) -> Fault
     requires { IsBorder source.now at }
     ensures { Refuses result (Unit {0}) }
 {
@@ -41,7 +41,7 @@ fn unusable(source: &Chars<'_>, at: usize) -> Fault
 }
 
 /// The border after this character, which has to stand at a border.
-fn expect(source: &Chars<'_>, at: usize, c: char) -> Result<usize, Fault>
+pub(crate) fn expect(source: &Chars<'_>, at: usize, c: char) -> Result<usize, Fault>
     requires { IsBorder source.now at }
     ensures ok { IfOk result (Steps (bytes_of source.now) at c) }
     ensures err { IfErr result (λ e. Refuses e (slice_get (text_of source.now) (place_of source.now at) ≢ Some c)) }
@@ -54,7 +54,7 @@ fn expect(source: &Chars<'_>, at: usize, c: char) -> Result<usize, Fault>
 
 /// The border after the spaces that stand at a border.
 #[tactic(auto, unfolding(yaml_text::specs::grammar::Characters::is_space))]
-fn skip_spaces(source: &Chars<'_>, at: usize) -> usize
+pub(crate) fn skip_spaces(source: &Chars<'_>, at: usize) -> usize
     requires { IsBorder source.now at }
     ensures border { IsBorder source.now result }
     ensures onward { at ≤ result }
@@ -248,7 +248,7 @@ fn read_escaped(
 }
 
 /// A double-quoted scalar on one line, and the border after it.
-fn read_double<'a>(
+pub(crate) fn read_double<'a>(
     alloc: Global,
     source: &Chars<'a>,
     at: usize,
@@ -379,7 +379,7 @@ fn line_break(source: &Chars<'_>, at: usize) -> Option<usize>
 }
 
 /// Reads spaces and perhaps a break, after which the text has to end.
-fn read_tail(source: &Chars<'_>, at: usize) -> Result<(), Fault>
+pub(crate) fn read_tail(source: &Chars<'_>, at: usize) -> Result<(), Fault>
     requires border { IsBorder source.now at }
     requires start { AfterReturn (text_of source.now) (place_of source.now at) → ⊥ }
     ensures ok { IfOk result (λ _. tail (text_of source.now) (place_of source.now at) (length (text_of source.now))) }

@@ -7,11 +7,11 @@ ghost use Rattle.yaml_text.specs.Text.{Text, RefusesText};
 ghost use Rattle.yaml_text.specs.Proper.{Admitted};
 ghost use Rattle.yaml_text.specs.Spell.{spell_bytes, spelled};
 ghost use Rattle.yaml_text.specs.declared.fault.Fault.TheVariants.{OutOfMemory};
-ghost use Rattle.yaml_canon.specs.Among.{OnFirstPath, Unrepeated};
+ghost use Rattle.yaml_canon.specs.PlainTrees.{Spoken};
 ghost use Rattle.yaml_canon.specs.Claims.{RefusedInReading};
-ghost use Rattle.yaml_canon.specs.FirstDocument.{FirstDocument};
+ghost use Rattle.yaml_canon.specs.SecondDocument.{SecondDocument};
 
-use crate::reader::read_events;
+use crate::flow_reader::read_events;
 use std::alloc::Global;
 use yaml_text::chars::Chars;
 use yaml_text::event::Event;
@@ -19,10 +19,10 @@ use yaml_text::fault::Fault;
 
 /// The events of a stream, from its start to its end.
 pub(crate) fn read<'a>(alloc: Global, bytes: &'a [u8]) -> Result<Vec<Event<'a>>, Fault>
-    ensures read { IfOk result (λ v. FirstDocument bytes.now (map event_of v.items)) }
+    ensures read { IfOk result (λ v. SecondDocument bytes.now (map event_of v.items)) }
     ensures refused { IfErr result (RefusedInReading bytes.now) }
     ensures text { ((cs : List ℕ) → Text bytes.now cs → ⊥) → IsErrAnd result (RefusesText bytes.now) }
-    ensures spelled { (f : List Tree) → OnFirstPath f → Unrepeated f → Admitted f → bytes.now ≡ spell_bytes f →
+    ensures spelled { (f : List Tree) → Spoken f → Admitted f → bytes.now ≡ spell_bytes f →
         MatchResult result (λ v. map event_of v.items ≡ spelled f) (λ fault. fault ≡ OutOfMemory) }
 {
     match Chars::read(bytes) {

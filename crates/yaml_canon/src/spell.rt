@@ -5,7 +5,7 @@ ghost use Rattle.yaml_text.specs.Mark.{name_of};
 ghost use Rattle.yaml_text.specs.Limits.{text_limit};
 ghost use Rattle.yaml_text.specs.Spell.{marks_of, spell_bytes};
 ghost use Rattle.yaml_canon.specs.Arranged.{IsArranged, AllArranged};
-ghost use Rattle.yaml_canon.specs.Refusal.{RefusesSpelling};
+ghost use Rattle.yaml_canon.specs.Refusal.{RefusesSpelling, IsUnspelled};
 ghost use Rattle.yaml_text.specs.Marked.{alias};
 ghost use Rattle.yaml_text.specs.NodeText.{text, items_text, pairs_text, anchor_text};
 ghost use Rattle.yaml_canon.specs.TreeModel.{tree_of, trees_of, pairs_of};
@@ -23,12 +23,12 @@ use yaml_text::fault::Fault;
 const TEXT_LIMIT: usize = 16_777_216;
 
 /// The canonical text of arranged trees, a document each. A text of more than 16,777,216 bytes is
-/// refused as `TextTooLong`.
+/// refused as `TextTooLong`. Of trees that are not arranged some text is written.
 pub(crate) fn spell(alloc: Global, trees: &[Tree<'_>]) -> Result<String, Fault>
-    requires { AllArranged (map tree_of trees.now) }
-    ensures ok { IfOk result (λ text. string_bytes text ≡ spell_bytes (map tree_of trees.now)) }
+    ensures ok { AllArranged (map tree_of trees.now) → IfOk result (λ text. string_bytes text ≡ spell_bytes (map tree_of trees.now)) }
     ensures fits { IfOk result (λ text. length (string_bytes text) ≤ text_limit) }
-    ensures err { IfErr result (λ fault. RefusesSpelling (map tree_of trees.now) fault) }
+    ensures err { AllArranged (map tree_of trees.now) → IfErr result (λ fault. RefusesSpelling (map tree_of trees.now) fault) }
+    ensures only { IfErr result IsUnspelled }
 {
     let mut out = String::new(alloc);
     for tree in trees {
@@ -42,8 +42,7 @@ pub(crate) fn spell(alloc: Global, trees: &[Tree<'_>]) -> Result<String, Fault>
 
 /// A document's start, the text of its root, and the end of the line.
 fn spell_document(alloc: Global, tree: &Tree<'_>, out: &mut String) -> Result<(), Fault>
-    requires { IsArranged (tree_of tree.now) }
-    ensures ok { OnOk result (Writes (string_bytes out.old) (string_bytes out.new) (λ more. 45 ∷ 45 ∷ 45 ∷ 32 ∷ text (marks_of (tree_of tree.now)) (10 ∷ more))) }
+    ensures ok { IsArranged (tree_of tree.now) → OnOk result (Writes (string_bytes out.old) (string_bytes out.new) (λ more. 45 ∷ 45 ∷ 45 ∷ 32 ∷ text (marks_of (tree_of tree.now)) (10 ∷ more))) }
     ensures only { IfErr result (λ fault. fault ≡ Fault.OutOfMemory) }
 {
     let mut seen = Vec::new(alloc);

@@ -119,10 +119,10 @@ const CANON: [Row; 11] = [
     },
     Row {
         words: &["canon"],
-        input: "--- [[\"x\"], [\"x\"]]",
+        input: "--- {\"a\" : \"1\", \"\\x61\" : \"2\"}",
         status: 2,
         out: "",
-        err: "yaml: 25 RepeatedNode in document 0\n",
+        err: "yaml: 19 EqualKeys in node 4, entries 0 and 1\n",
     },
     Row {
         words: &["canon"],
@@ -180,7 +180,14 @@ fn other_words_are_a_fault_of_usage(rt: HostRuntime) -> Result<(), Fail> {
     Ok(())
 }
 
-const SAME: [Row; 9] = [
+const SAME: [Row; 10] = [
+    Row {
+        words: &["same", "a.yaml", "keys.yaml"],
+        input: "",
+        status: 2,
+        out: "",
+        err: "yaml: right: 19 EqualKeys in node 4, entries 0 and 1\n",
+    },
     Row {
         words: &["same", "a.yaml", "b.yaml"],
         input: "",

@@ -3,7 +3,7 @@ use crate::rows::{Pair, Row, answer, check, compare, is_refused, letters, nested
 use std::test::Fail;
 use yaml_canon::Side;
 
-const READ: [Row; 24] = [
+const READ: [Row; 27] = [
     Row {
         shows: "spaces round brackets and commas are free",
         input: b"--- [\"x\",[ \"y\" ],[]]\n",
@@ -125,6 +125,23 @@ const READ: [Row; 24] = [
         shows: "nodes that differ in an item are no repetition",
         input: b"--- [[\"x\"],[\"x\",\"y\"],[[\"x\",\"y\",\"z\"]]]",
         answer: Ok("--- [[\"x\"], [\"x\", \"y\"], [[\"x\", \"y\", \"z\"]]]\n"),
+    },
+    Row {
+        shows: "a collection that stands twice has an anchor",
+        input: b"--- [[\"x\"], [\"x\"]]",
+        answer: Ok("--- [&a1 [\"x\"], *a1]\n"),
+    },
+    Row {
+        shows: "a collection that stands twice at different depths",
+        input: b"--- [[\"x\"], [[\"x\"]]]",
+        answer: Ok("--- [&a1 [\"x\"], [*a1]]\n"),
+    },
+    Row {
+        shows: "a scalar of 65 bytes of text that stands twice has an anchor",
+        input: b"--- [\"aaaaaaaaaaaaaaaaaaaaaaaaaaaaaaaaaaaaaaaaaaaaaaaaaaaaaaaaaaaaaaa\",\"aaaaaaaaaaaaaaaaaaaaaaaaaaaaaaaaaaaaaaaaaaaaaaaaaaaaaaaaaaaaaaa\"]",
+        answer: Ok(
+            "--- [&a1 \"aaaaaaaaaaaaaaaaaaaaaaaaaaaaaaaaaaaaaaaaaaaaaaaaaaaaaaaaaaaaaaa\", *a1]\n",
+        ),
     },
 ];
 
@@ -384,29 +401,6 @@ const REFUSED: [Row; 49] = [
 #[test]
 fn other_inputs_are_refused_at_their_place(rt: HostRuntime) -> Result<(), Fail> {
     check(&rt, &REFUSED)
-}
-
-const REPEATED: [Row; 3] = [
-    Row {
-        shows: "a collection that stands twice",
-        input: b"--- [[\"x\"], [\"x\"]]",
-        answer: Err("25 RepeatedNode in document 0"),
-    },
-    Row {
-        shows: "a collection that stands twice at different depths",
-        input: b"--- [[\"x\"], [[\"x\"]]]",
-        answer: Err("25 RepeatedNode in document 0"),
-    },
-    Row {
-        shows: "a scalar of 65 bytes of text that stands twice",
-        input: b"--- [\"aaaaaaaaaaaaaaaaaaaaaaaaaaaaaaaaaaaaaaaaaaaaaaaaaaaaaaaaaaaaaaa\",\"aaaaaaaaaaaaaaaaaaaaaaaaaaaaaaaaaaaaaaaaaaaaaaaaaaaaaaaaaaaaaaa\"]",
-        answer: Err("25 RepeatedNode in document 0"),
-    },
-];
-
-#[test]
-fn a_repeated_node_is_refused(rt: HostRuntime) -> Result<(), Fail> {
-    check(&rt, &REPEATED)
 }
 
 const PAIRS: [Pair; 8] = [

@@ -5,3 +5,5 @@
 mod first;
 #[cfg(test)]
 mod rows;
+#[cfg(test)]
+mod second;

@@ -85,7 +85,7 @@ fn of_node(measures: &[Measure], node: &Node<'_>) -> Measure
 }
 
 /// The measures of all nodes, in order.
-fn of_nodes(alloc: Global, nodes: &[Node<'_>]) -> Result<Vec<Measure>, Fault>
+pub(super) fn of_nodes(alloc: Global, nodes: &[Node<'_>]) -> Result<Vec<Measure>, Fault>
     requires { Grounded nodes.now }
     ensures ok { IfOk result (λ measures. measures.items ≡ map measure_of (trees_in nodes.now)) }
     ensures err { IfErr result (λ fault. fault ≡ Fault.OutOfMemory) }

@@ -136,7 +136,7 @@ impl Write for Narrow<'_> {
 /// A few files, by name.
 #[derive(Clone, Copy)]
 pub struct Shelf<'a> {
-    files: [(&'a str, Source<'a>); 8],
+    files: [(&'a str, Source<'a>); 9],
 }
 
 impl Shelf<'static> {
@@ -148,6 +148,10 @@ impl Shelf<'static> {
                 ("-V", Source::of("--- \"named V\"")),
                 ("-", Source::of("--- \"named -\"")),
                 ("bad.yaml", Source::over(b"a\xff")),
+                (
+                    "keys.yaml",
+                    Source::of("--- {\"a\" : \"1\", \"a\" : \"2\"}"),
+                ),
                 ("open.yaml", Source::of("--- [\"")),
                 ("long.yaml", Source::zeros(16_777_217)),
                 ("failing.yaml", Source::of("--- \"x\"").by(2).failing_at(3)),

@@ -1,4 +1,4 @@
-use Rattle.std.proofs.Common.{◌≡◌, ◌+◌, ◌*◌, ◌<◌, arith, sym, ◌∙◌, ap, subst}
+use Rattle.std.proofs.Common.{◌+◌, ◌*◌, ◌<◌, arith, ◌∙◌, ap}
 use Rattle.std.specs.Char.{digit_value}
 use Rattle.yaml_canon.proofs.ScalarLemmas.{hex_more, hex_stop, hex_small, hex_fits}
 use Rattle.yaml_canon.proofs.reader.hex_number.Goals as goal

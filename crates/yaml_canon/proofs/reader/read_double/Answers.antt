@@ -1,11 +1,9 @@
-use Rattle.std.proofs.Common.{sym, ◌∙◌, ap, subst, [], ◌++◌}
+use Rattle.std.proofs.Common.{sym, ◌∙◌, ap}
 use Rattle.std.specs.Prelude.{encode_utf8_all}
-use Rattle.std.specs.Str.{chars}
 use Rattle.std.specs.String.{string_bytes}
-use Rattle.std.proofs.lemmas.Str.{IsUtf8-string_bytes, IsUtf8-had, encodes-chars}
+use Rattle.std.proofs.lemmas.Str.{IsUtf8-string_bytes, encodes-chars}
 use Rattle.std.proofs.lemmas.List.{append-nil}
-use Rattle.yaml_text.specs.Source.{text_of, place_of}
-use Rattle.yaml_canon.proofs.Leads.{leads_on, leads_end, leads_none}
+use Rattle.yaml_canon.proofs.Leads.{leads_end, leads_none}
 use Rattle.yaml_canon.proofs.AnswerLemmas.{answers_err, refuses_weaker}
 use Rattle.yaml_canon.proofs.ScalarLemmas.{double_start, no_double, quote_end, quote_run, bytes_only, bytes_none}
 use Rattle.yaml_canon.proofs.reader.read_double.Goals as goal

@@ -1,7 +1,5 @@
-use Rattle.std.proofs.Common.{◌≡◌, ◌≢◌, ℕ, true, false, sym, ◌∙◌, subst}
-use Rattle.std.specs.Prelude.{Some, None}
-use Rattle.yaml_text.specs.Source.{text_of, place_of}
-use Rattle.yaml_text.specs.grammar.Characters.{short_escape, is_nb}
+use Rattle.std.proofs.Common.{sym, ◌∙◌}
+use Rattle.yaml_text.specs.grammar.Characters.{short_escape}
 use Rattle.yaml_canon.specs.FirstPath.{digit_count}
 use Rattle.yaml_canon.proofs.AnswerLemmas.{answers_err, refuses_weaker}
 use Rattle.yaml_canon.proofs.ScalarLemmas.{no_escape_start, no_escape_end, no_escape_break, no_escape, escape_short, escape_number, few_digits, break_no_nb, nb_of_no_break, apart, same_some, other_number}

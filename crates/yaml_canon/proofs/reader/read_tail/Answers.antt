@@ -1,7 +1,4 @@
-use Rattle.std.proofs.Common.{◌≡◌, length, inl, sym, subst}
-use Rattle.yaml_text.specs.Source.{text_of, place_of}
-use Rattle.yaml_text.specs.grammar.Characters.{brk}
-use Rattle.yaml_canon.specs.FirstPath.{spaces}
+use Rattle.std.proofs.Common.{inl, sym}
 use Rattle.yaml_canon.proofs.AnswerLemmas.{refuses_weaker, on_true_at, on_false_at}
 use Rattle.yaml_canon.proofs.FlowLemmas.{spaces_no_return, no_tail, no_tail_after}
 use Rattle.yaml_canon.proofs.reader.read_tail.Goals as goal

@@ -1,5 +1,4 @@
-use Rattle.std.proofs.Common.{Some, slice_get, refl, sym, ◌∙◌, ap, arith}
-use Rattle.yaml_text.specs.Source.{text_of, place_of}
+use Rattle.std.proofs.Common.{Some, refl, ◌∙◌, ap, arith}
 use Rattle.yaml_text.specs.grammar.Characters.{is_space}
 use Rattle.yaml_canon.proofs.ScalarLemmas.{run_more}
 use Rattle.yaml_canon.proofs.reader.skip_spaces.Goals as goal

@@ -11,4 +11,4 @@ pub returns-in-Ok-clause-spelled : goal.returns-in-Ok-clause-spelled
 returns-in-Ok-clause-spelled c = answer_spelled (λ v. map event_of v.items) c.args.bytes.now (text_of c.in-Ok.source) c.read_events.result c.in-Ok.ensures.read c.read_events.ensures
 
 pub returns-in-Err-clause-spelled : goal.returns-in-Err-clause-spelled
-returns-in-Err-clause-spelled c f o u a e = absurd (spelling_unrefused c.args.bytes.now c.in-Err.fault f c.in-Err.ensures.refused a e)
+returns-in-Err-clause-spelled c f o a e = absurd (spelling_unrefused c.args.bytes.now c.in-Err.fault f c.in-Err.ensures.refused a e)

@@ -1,8 +1,9 @@
 use Rattle.std.proofs.Common.{drop, map}
 use Rattle.std.specs.String.{string_bytes}
+use Rattle.yaml_canon.specs.Arranged.{AllArranged}
 use Rattle.yaml_canon.specs.TreeModel.{tree_of}
 use Rattle.yaml_canon.proofs.Forests.{IsSpelled}
 use Rattle.yaml_canon.proofs.spell.spell.Given as goal
 
 abbrev pub invariant-loop-tree : goal.invariant-loop-tree
-invariant-loop-tree l = IsSpelled (map tree_of l.trees) (map tree_of (drop l.tree-index l.trees)) (string_bytes l.out)
+invariant-loop-tree l = AllArranged (map tree_of l.trees) → IsSpelled (map tree_of l.trees) (map tree_of (drop l.tree-index l.trees)) (string_bytes l.out)

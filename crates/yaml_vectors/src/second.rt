@@ -1,0 +1,422 @@
+//! One document of double-quoted scalars, flow sequences, flow mappings, anchors and aliases, on
+//! one line. Keys are compared by their source text.
+use crate::rows::{Pair, Row, answer, check, compare, is_refused};
+use std::alloc::Global;
+use std::test::Fail;
+use yaml_canon::Side;
+
+const READ: [Row; 28] = [
+    Row {
+        shows: "entries stand in the order of their keys",
+        input: b"--- {\"b\" : \"1\", \"a\" : [\"x\"], \"c\":[\"x\"]}",
+        answer: Ok("--- {\"a\" : &a1 [\"x\"], \"b\" : \"1\", \"c\" : *a1}\n"),
+    },
+    Row {
+        shows: "an alias stands for its node, and equal nodes have one anchor",
+        input: b"--- [&q [\"p\"], [\"p\"], *q]",
+        answer: Ok("--- [&a1 [\"p\"], *a1, *a1]\n"),
+    },
+    Row {
+        shows: "a node and its alias have one anchor",
+        input: b"--- [&x [\"p\", \"q\"], [\"p\", \"q\"], *x]",
+        answer: Ok("--- [&a1 [\"p\", \"q\"], *a1, *a1]\n"),
+    },
+    Row {
+        shows: "the order of entries does not count",
+        input: b"--- {\"b\": \"1\", \"a\": \"2\"}",
+        answer: Ok("--- {\"a\" : \"2\", \"b\" : \"1\"}\n"),
+    },
+    Row {
+        shows: "a lower key stands first",
+        input: b"--- {[\"a\"]: \"1\", \"b\": \"2\"}",
+        answer: Ok("--- {\"b\" : \"2\", [\"a\"] : \"1\"}\n"),
+    },
+    Row {
+        shows: "keys are ordered by their bytes",
+        input: b"--- {\"2\": \"a\", \"10\": \"b\"}",
+        answer: Ok("--- {\"10\" : \"b\", \"2\" : \"a\"}\n"),
+    },
+    Row {
+        shows: "a text that begins another stands first",
+        input: b"--- {\"ab\":\"1\",\"a\":\"2\",\"\":\"3\",\"b\":\"4\"}",
+        answer: Ok("--- {\"\" : \"3\", \"a\" : \"2\", \"ab\" : \"1\", \"b\" : \"4\"}\n"),
+    },
+    Row {
+        shows: "scalars stand before sequences, and sequences before mappings",
+        input: b"--- {{}:\"1\",[]:\"2\",\"z\":\"3\"}",
+        answer: Ok("--- {\"z\" : \"3\", [] : \"2\", {} : \"1\"}\n"),
+    },
+    Row {
+        shows: "height counts before kind",
+        input: b"--- {[\"a\"]:\"1\",{}:\"2\"}",
+        answer: Ok("--- {{} : \"2\", [\"a\"] : \"1\"}\n"),
+    },
+    Row {
+        shows: "lists are compared item by item",
+        input: b"--- {[\"b\"]:\"1\",[\"a\",\"b\"]:\"2\",[\"a\"]:\"3\"}",
+        answer: Ok("--- {[\"a\"] : \"3\", [\"a\", \"b\"] : \"2\", [\"b\"] : \"1\"}\n"),
+    },
+    Row {
+        shows: "mappings are compared by key and then by value",
+        input: b"--- {{\"a\":\"2\"}:\"x\",{\"b\":\"1\"}:\"y\",{\"a\":\"1\"}:\"z\"}",
+        answer: Ok(
+            "--- {{\"a\" : \"1\"} : \"z\", {\"a\" : \"2\"} : \"x\", {\"b\" : \"1\"} : \"y\"}\n",
+        ),
+    },
+    Row {
+        shows: "a longer mapping may stand first",
+        input: b"--- {{\"b\":\"1\"}:\"x\",{\"a\":\"1\",\"c\":\"1\"}:\"y\"}",
+        answer: Ok("--- {{\"a\" : \"1\", \"c\" : \"1\"} : \"y\", {\"b\" : \"1\"} : \"x\"}\n"),
+    },
+    Row {
+        shows: "aliases of aliases",
+        input: b"--- [&a [\"x\", \"x\"], &b [*a, *a], [*b, *b]]",
+        answer: Ok("--- [&a1 [\"x\", \"x\"], &a2 [*a1, *a1], [*a2, *a2]]\n"),
+    },
+    Row {
+        shows: "an alias stands for the last node that began before it with its name",
+        input: b"--- &a [&a \"x\", *a]",
+        answer: Ok("--- [\"x\", \"x\"]\n"),
+    },
+    Row {
+        shows: "an anchor may be defined again",
+        input: b"--- [&a \"x\", &a \"y\", *a]",
+        answer: Ok("--- [\"x\", \"y\", \"y\"]\n"),
+    },
+    Row {
+        shows: "an anchor that nothing names is dropped",
+        input: b"--- &a [&b \"x\", &c {}]",
+        answer: Ok("--- [\"x\", {}]\n"),
+    },
+    Row {
+        shows: "a name holds what is no white, break or flow indicator",
+        input: b"--- [&a:b*\"' \"x\", *a:b*\"' , *a:b*\"']",
+        answer: Ok("--- [\"x\", \"x\", \"x\"]\n"),
+    },
+    Row {
+        shows: "a key and its value",
+        input: b"--- {[\"a\"]: [\"a\"]}",
+        answer: Ok("--- {&a1 [\"a\"] : *a1}\n"),
+    },
+    Row {
+        shows: "a value and a later key",
+        input: b"--- {\"k\": [\"a\"], [\"a\"]: \"k\"}",
+        answer: Ok("--- {\"k\" : &a1 [\"a\"], *a1 : \"k\"}\n"),
+    },
+    Row {
+        shows: "values in the order of their keys",
+        input: b"--- {\"x\": [\"1\"], \"a\": [\"1\"]}",
+        answer: Ok("--- {\"a\" : &a1 [\"1\"], \"x\" : *a1}\n"),
+    },
+    Row {
+        shows: "mappings are equal as sets",
+        input: b"--- [{\"a\":\"1\",\"b\":\"2\"},{\"b\":\"2\",\"a\":\"1\"}]",
+        answer: Ok("--- [&a1 {\"a\" : \"1\", \"b\" : \"2\"}, *a1]\n"),
+    },
+    Row {
+        shows: "anchors count in the order of first places",
+        input: b"--- [[\"p\"],[\"q\"],[\"q\"],[\"p\"]]",
+        answer: Ok("--- [&a1 [\"p\"], &a2 [\"q\"], *a2, *a1]\n"),
+    },
+    Row {
+        shows: "a repeated node is not entered",
+        input: b"--- [[[\"p\"]],[[\"p\"]],[\"p\"]]",
+        answer: Ok("--- [&a1 [&a2 [\"p\"]], *a1, *a2]\n"),
+    },
+    Row {
+        shows: "an empty mapping is short",
+        input: b"--- [{},{ },[],[]]",
+        answer: Ok("--- [{}, {}, [], []]\n"),
+    },
+    Row {
+        shows: "a comma may follow the last entry",
+        input: b"--- {\"a\" : \"b\" , }",
+        answer: Ok("--- {\"a\" : \"b\"}\n"),
+    },
+    Row {
+        shows: "a value may follow its colon at once",
+        input: b"--- {\"a\":\"b\",[\"c\"]:[\"d\"]}",
+        answer: Ok("--- {\"a\" : \"b\", [\"c\"] : [\"d\"]}\n"),
+    },
+    Row {
+        shows: "mappings nest",
+        input: b"--- [{\"a\":{\"b\":{\"c\":[]}}}]",
+        answer: Ok("--- [{\"a\" : {\"b\" : {\"c\" : []}}}]\n"),
+    },
+    Row {
+        shows: "a byte order mark and anchors",
+        input: b"\xef\xbb\xbf--- [&\xc3\xa9 [\"a\"], *\xc3\xa9]",
+        answer: Ok("--- [&a1 [\"a\"], *a1]\n"),
+    },
+];
+
+#[test]
+fn documents_have_their_canonical_text(rt: HostRuntime) -> Result<(), Fail> {
+    check(&rt, &READ)
+}
+
+const REFUSED: [Row; 27] = [
+    Row {
+        shows: "keys are equal by their source text, escapes read",
+        input: b"--- {\"a\" : \"1\", \"\\x61\" : \"2\"}",
+        answer: Err("19 EqualKeys in node 4, entries 0 and 1"),
+    },
+    Row {
+        shows: "equal collections as keys",
+        input: b"--- {[\"a\"]:\"1\",[\"a\"]:\"2\"}",
+        answer: Err("19 EqualKeys in node 6, entries 0 and 1"),
+    },
+    Row {
+        shows: "the pair with the least second entry is named",
+        input: b"--- {\"a\":\"1\",\"b\":\"2\",\"b\":\"3\",\"a\":\"4\"}",
+        answer: Err("19 EqualKeys in node 8, entries 1 and 2"),
+    },
+    Row {
+        shows: "of these the least first entry is named",
+        input: b"--- {\"a\":\"1\",\"b\":\"2\",\"a\":\"3\",\"a\":\"4\"}",
+        answer: Err("19 EqualKeys in node 8, entries 0 and 2"),
+    },
+    Row {
+        shows: "the lowest mapping is named",
+        input: b"--- [{[\"x\"]:\"1\",[\"x\"]:\"2\"},{\"a\":\"1\",\"a\":\"2\"}]",
+        answer: Err("19 EqualKeys in node 11, entries 0 and 1"),
+    },
+    Row {
+        shows: "of equally low mappings the first to close is named",
+        input: b"--- [{\"b\":\"1\",\"b\":\"2\"},{\"a\":\"1\",\"a\":\"2\"}]",
+        answer: Err("19 EqualKeys in node 4, entries 0 and 1"),
+    },
+    Row {
+        shows: "an alias without a node",
+        input: b"--- [*x]",
+        answer: Err("12 UndefinedAlias at event 3"),
+    },
+    Row {
+        shows: "an alias before its node",
+        input: b"--- [*x, &x \"a\"]",
+        answer: Err("12 UndefinedAlias at event 3"),
+    },
+    Row {
+        shows: "an alias to a sequence that is open",
+        input: b"--- &a [*a]",
+        answer: Err("13 CyclicAlias at event 3"),
+    },
+    Row {
+        shows: "an alias to a mapping that is open",
+        input: b"--- [&m {\"k\" : *m}]",
+        answer: Err("13 CyclicAlias at event 5"),
+    },
+    Row {
+        shows: "aliases are judged in the order of events",
+        input: b"--- &a [*a, *b]",
+        answer: Err("13 CyclicAlias at event 3"),
+    },
+    Row {
+        shows: "aliases are judged before keys",
+        input: b"--- [{\"a\":\"1\",\"a\":\"2\"}, *x]",
+        answer: Err("12 UndefinedAlias at event 9"),
+    },
+    Row {
+        shows: "a key needs a value",
+        input: b"--- {\"a\"}",
+        answer: Err("4 Syntax at byte 8"),
+    },
+    Row {
+        shows: "a colon needs a value",
+        input: b"--- {\"a\":}",
+        answer: Err("4 Syntax at byte 9"),
+    },
+    Row {
+        shows: "a comma needs an entry before it",
+        input: b"--- {,}",
+        answer: Err("4 Syntax at byte 5"),
+    },
+    Row {
+        shows: "two entries need a comma between them",
+        input: b"--- {\"a\":\"1\" \"b\":\"2\"}",
+        answer: Err("4 Syntax at byte 13"),
+    },
+    Row {
+        shows: "a brace that is not closed",
+        input: b"--- {\"a\":\"1\"",
+        answer: Err("4 Syntax at byte 12"),
+    },
+    Row {
+        shows: "a brace that a bracket closes",
+        input: b"--- {\"a\":\"1\"]",
+        answer: Err("4 Syntax at byte 12"),
+    },
+    Row {
+        shows: "a tab before a value",
+        input: b"--- {\"a\":\t\"1\"}",
+        answer: Err("5 Tab at byte 9"),
+    },
+    Row {
+        shows: "an anchor without a name",
+        input: b"--- & \"a\"",
+        answer: Err("4 Syntax at byte 5"),
+    },
+    Row {
+        shows: "an anchor without a node",
+        input: b"--- &a",
+        answer: Err("4 Syntax at byte 6"),
+    },
+    Row {
+        shows: "an anchor and its node need a space",
+        input: b"--- &a[]",
+        answer: Err("4 Syntax at byte 6"),
+    },
+    Row {
+        shows: "an anchor on an alias",
+        input: b"--- [&a \"x\", &b *a]",
+        answer: Err("4 Syntax at byte 16"),
+    },
+    Row {
+        shows: "a colon after an alias needs a space before it",
+        input: b"--- {&k \"a\" : \"1\", *k: \"2\"}",
+        answer: Err("4 Syntax at byte 23"),
+    },
+    Row {
+        shows: "a colon after an alias needs a space after it",
+        input: b"--- {&k \"a\" : \"1\", *k :\"2\"}",
+        answer: Err("4 Syntax at byte 22"),
+    },
+    Row {
+        shows: "a single pair is not read yet",
+        input: b"--- [\"a\" : \"b\"]",
+        answer: Err("4 Syntax at byte 9"),
+    },
+    Row {
+        shows: "a tag is not read yet",
+        input: b"--- !!str \"a\"",
+        answer: Err("4 Syntax at byte 4"),
+    },
+];
+
+#[test]
+fn other_inputs_are_refused_at_their_place(rt: HostRuntime) -> Result<(), Fail> {
+    check(&rt, &REFUSED)
+}
+
+const PAIRS: [Pair; 8] = [
+    Pair {
+        shows: "mappings are sets",
+        left: b"--- {\"a\":\"1\",\"b\":\"2\"}",
+        right: b"--- {\"b\":\"2\",\"a\":\"1\"}",
+        answer: Ok(true),
+    },
+    Pair {
+        shows: "aliases are unfolded",
+        left: b"--- [&a [\"x\"], *a]",
+        right: b"--- [[\"x\"],[\"x\"]]",
+        answer: Ok(true),
+    },
+    Pair {
+        shows: "values count",
+        left: b"--- {\"a\":\"1\"}",
+        right: b"--- {\"a\":\"2\"}",
+        answer: Ok(false),
+    },
+    Pair {
+        shows: "the number of entries counts",
+        left: b"--- {\"a\":\"1\"}",
+        right: b"--- {\"a\":\"1\",\"b\":\"1\"}",
+        answer: Ok(false),
+    },
+    Pair {
+        shows: "an empty mapping is no empty sequence",
+        left: b"--- {}",
+        right: b"--- []",
+        answer: Ok(false),
+    },
+    Pair {
+        shows: "equal keys on the right",
+        left: b"--- {\"a\":\"1\"}",
+        right: b"--- {\"a\":\"1\",\"a\":\"2\"}",
+        answer: Err((Side::Right, "19 EqualKeys in node 4, entries 0 and 1")),
+    },
+    Pair {
+        shows: "equal keys on the left",
+        left: b"--- {\"a\":\"1\",\"a\":\"2\"}",
+        right: b"--- {\"a\":\"1\"}",
+        answer: Err((Side::Left, "19 EqualKeys in node 4, entries 0 and 1")),
+    },
+    Pair {
+        shows: "the right is read before keys are compared",
+        left: b"--- {\"a\":\"1\",\"a\":\"2\"}",
+        right: b"--- [",
+        answer: Err((Side::Right, "4 Syntax at byte 5")),
+    },
+];
+
+#[test]
+fn documents_are_the_same_or_not(rt: HostRuntime) -> Result<(), Fail> {
+    compare(&rt, &PAIRS)
+}
+
+/// A key that is an alias has another source text than its node. Its canonical text is refused.
+#[test]
+fn keys_are_not_compared_by_meaning_yet(rt: HostRuntime) -> Result<(), Fail> {
+    let text = "--- {\"a\" : \"1\", \"a\" : \"2\"}\n";
+    match answer(rt.alloc(), b"--- {&k \"a\" : \"1\", *k : \"2\"}")? {
+        Ok(got) => assert_eq!(rt; got.as_str(), text),
+        Err(message) => assert_eq!(rt; message.as_str(), ""),
+    }
+    let message = "19 EqualKeys in node 4, entries 0 and 1";
+    is_refused(&rt, "given again", text.as_bytes(), message)
+}
+
+/// A sequence of `count` items: the first is a pair of scalars, each other a pair of aliases of
+/// the one before it.
+fn doubled(alloc: Global, count: usize) -> Result<String, Fail> {
+    let mut text = "--- [&n0 [\"x\", \"x\"]".to_string(alloc)?;
+    for n in 1..count {
+        let before = n - 1;
+        let item = format!(in alloc; ", &n{n} [*n{before}, *n{before}]")?;
+        text.push_str(item.as_str())?;
+    }
+    text.push(']')?;
+    Ok(text)
+}
+
+/// The canonical text of such a sequence: its last item has no later equal.
+fn doubled_text(alloc: Global, count: usize) -> Result<String, Fail> {
+    let mut text = "--- [&a1 [\"x\", \"x\"]".to_string(alloc)?;
+    for n in 1..count {
+        let item = if n + 1 < count {
+            let number = n + 1;
+            format!(in alloc; ", &a{number} [*a{n}, *a{n}]")?
+        } else {
+            format!(in alloc; ", [*a{n}, *a{n}]")?
+        };
+        text.push_str(item.as_str())?;
+    }
+    text.push_str("]\n")?;
+    Ok(text)
+}
+
+#[test]
+fn a_tree_of_65_519_nodes_is_accepted(rt: HostRuntime) -> Result<(), Fail> {
+    let alloc = rt.alloc();
+    let input = doubled(alloc, 14)?;
+    let want = doubled_text(alloc, 14)?;
+    match answer(alloc, input.as_bytes())? {
+        Ok(text) => assert_eq!(rt; text.as_str(), want.as_str()),
+        Err(message) => assert_eq!(rt; message.as_str(), ""),
+    }
+    Ok(())
+}
+
+#[test]
+fn doubling_aliases_unfold_too_far(rt: HostRuntime) -> Result<(), Fail> {
+    let alloc = rt.alloc();
+    for (count, message) in [
+        (15, "24 UnfoldsTooFar in document 0"),
+        (126, "24 UnfoldsTooFar in document 0"),
+        (127, "18 TooHigh in document 0"),
+    ] {
+        let input = doubled(alloc, count)?;
+        is_refused(&rt, "doubled", input.as_bytes(), message)?;
+    }
+    Ok(())
+}
