@@ -1,17 +1,18 @@
 -- Which tree is the first that is too high or has too many nodes.
-use Rattle.std.proofs.Common.{◌≡◌, ℕ, suc, ◌+◌, ◌<◌, ◌≤◌, nat_lt, min, Bool, true, false, not, cond, Option, Some, None, List, [], ◌∷◌, length, map, Ok, refl, sym, ◌∙◌, ap, subst, arith}
+use Rattle.std.proofs.Common.{◌≡◌, ℕ, suc, ◌+◌, ◌<◌, ◌≤◌, nat_lt, min, Bool, true, false, not, cond, Option, Some, None, List, [], ◌∷◌, length, map, refl, sym, ◌∙◌, ap, subst, arith}
 use Rattle.std.proofs.lemmas.Bool.{ltb-true}
 use Rattle.std.proofs.lemmas.Bool.Decides.{nat_tests}
 use Rattle.std.proofs.lemmas.List.{length-map}
 use Rattle.std.specs.List.{position, position_or_len}
 use Rattle.yaml_text.specs.Limits.{height_limit, nodes_limit}
 use Rattle.yaml_text.specs.Tree.{Tree, height, nodes}
-use Rattle.yaml_text.specs.Unfold.{Outcome}
+use Rattle.yaml_text.specs.Marked.{Document}
+use Rattle.yaml_text.specs.Unfold.{trees_of}
 use Rattle.yaml_text.specs.declared.fault.Fault.{Fault}
 use Rattle.yaml_text.specs.declared.fault.Fault.TheVariants as fault
 use Rattle.yaml_canon.specs.Claims.{AllOf, IsFirstOf}
 use Rattle.yaml_canon.specs.Composable.{RefusesAlias}
-use Rattle.yaml_canon.specs.Forest.{Bounded, Unbounded, RefusesForest}
+use Rattle.yaml_canon.specs.Forest.{RefusesNodes}
 use Rattle.yaml_canon.specs.Measure.{measure_of}
 use Rattle.yaml_canon.specs.declared.compose.measure.Measure.{Measure}
 
@@ -85,23 +86,11 @@ high_tells f ms e = tells is_high _ _ high_here low_here f ms e
 pub far_tells : (f : List Tree) (ms : List Measure) → ms ≡ map measure_of f → Far f (position is_far ms)
 far_tells f ms e = tells is_far _ _ (λ t. over_limit (nodes t) nodes_limit) (λ t. under_limit (nodes t) nodes_limit) f ms e
 
-pub alias_refused : (found : Outcome (List Tree)) (e : Fault) → RefusesAlias found e → RefusesForest found e
-alias_refused found (fault.UndefinedAlias n) r = r
-alias_refused found (fault.CyclicAlias n) r = r
-alias_refused found fault.OutOfMemory r = tt
-alias_refused found _ r = absurd r
-
-pub bounds_refused : (found : Outcome (List Tree)) (f : List Tree) (e : Fault) → found ≡ Ok f → Unbounded f e → RefusesForest found e
-bounds_refused found f (fault.TooHigh n) q u = (f, q, u)
-bounds_refused found f (fault.UnfoldsTooFar n) q u = (f, q, u)
-bounds_refused found f _ q u = absurd u
-
--- trees that were measured, and then unfolded
-pub unfolded_bounded : (found : Outcome (List Tree)) (f g : List Tree) → found ≡ Ok f → found ≡ Ok g → Bounded f → Bounded g
-unfolded_bounded found f g e h b =
-    let same : ◌≡◌ {A = Outcome (List Tree)} (Ok f) (Ok g) = sym e ∙ h in
-    let q : f ≡ g = cc in
-    subst Bounded q b
+pub alias_refused : (ds : List Document) (e : Fault) → RefusesAlias (trees_of ds) e → RefusesNodes ds e
+alias_refused ds (fault.UndefinedAlias n) r = r
+alias_refused ds (fault.CyclicAlias n) r = r
+alias_refused ds fault.OutOfMemory r = tt
+alias_refused ds _ r = absurd r
 
 pub not_some : (o : Option ℕ) → ((n : ℕ) → o ≡ Some n → ⊥) → o ≡ None
 not_some None h = refl

@@ -12,8 +12,9 @@ use Rattle.yaml_text.specs.Unfold.{trees_of}
 use Rattle.yaml_text.specs.grammar.Reading.{Reads}
 use Rattle.yaml_text.specs.Text.{RefusesText}
 use Rattle.yaml_text.specs.declared.fault.Fault.{Fault}
-use Rattle.yaml_text.specs.declared.fault.Fault.TheVariants.{TooLong, NotUtf8, NotPrintable, Syntax, Tab, TooDeep, BadEscape, UndefinedAlias, CyclicAlias, TooHigh, TextTooLong, OutOfMemory, UnfoldsTooFar}
+use Rattle.yaml_text.specs.declared.fault.Fault.TheVariants.{TooLong, NotUtf8, NotPrintable, Syntax, Tab, TooDeep, BadEscape, UndefinedAlias, CyclicAlias, TooHigh, EqualKeys, TextTooLong, OutOfMemory, UnfoldsTooFar}
 use Rattle.yaml_canon.specs.PlainTrees.{Spoken}
+use Rattle.yaml_canon.specs.SourceKeys.{NoEqualKeys, IsFirstEqual}
 
 -- each of these trees
 abbrev pub AllOf : (Tree → Type 0) → List Tree → Type 0
@@ -32,6 +33,20 @@ AllFew f = AllOf (λ t. nodes t ≤ nodes_limit) f
 abbrev pub AllKeyed : List Tree → Type 0
 AllKeyed f = AllOf Keyed f
 
+-- the bytes are read as these documents
+pub record IsRead (bytes : List ℕ) (ds : List Document) : Type 0 where
+  pub reads : Reads bytes (stream_events ds)
+
+-- The bytes are read as documents of these trees: none is too high, none has too many nodes, and no mapping has two keys of
+-- one source text.
+pub record Accepted (bytes : List ℕ) (f : List Tree) : Type 0 where
+  pub documents : List Document
+  pub read : IsRead bytes documents
+  pub unfolded : trees_of documents ≡ Ok f
+  pub low : AllLow f
+  pub few : AllFew f
+  pub keys : NoEqualKeys documents
+
 -- the text is the canonical one of the forest, and tells it from every other
 pub record IsTextOf (f : List Tree) (text : List ℕ) : Type 0 where
   pub admitted : Admitted f
@@ -43,7 +58,7 @@ pub record IsCanonicalText (bytes text : List ℕ) : Type 0 where
   pub forest : List Tree
   pub means : Means bytes forest
   pub spoken : Spoken forest
-  pub low : AllLow forest
+  pub accepted : Accepted bytes forest
   pub fits : length text ≤ text_limit
   pub is : AllKeyed forest → IsTextOf forest text
 
@@ -54,8 +69,8 @@ pub record Compares (left right : List ℕ) (answer : Bool) : Type 0 where
   pub second : List Tree
   pub first_means : Means left first
   pub second_means : Means right second
-  pub first_low : AllLow first
-  pub second_low : AllLow second
+  pub first_accepted : Accepted left first
+  pub second_accepted : Accepted right second
   pub tells : AllKeyed first → AllKeyed second → (answer ≡ true) ↔ Alike first second
 
 -- the tree after these is the first one of which this is wrong, and that is fine for those before it
@@ -76,9 +91,15 @@ IsFirstHigh number f = IsFirstOf (λ t. height t ≤ height_limit) (λ t. height
 abbrev pub IsFirstFar : ℕ → List Tree → Type 0
 IsFirstFar number f = IsFirstOf (λ t. nodes t ≤ nodes_limit) (λ t. nodes_limit < nodes t) number f
 
--- the bytes are read as these documents
-pub record IsRead (bytes : List ℕ) (ds : List Document) : Type 0 where
-  pub reads : Reads bytes (stream_events ds)
+-- the first mapping with two keys of one source text, where no tree is too high or has too many nodes
+pub record HasEqualKeys (bytes : List ℕ) (node first second : ℕ) : Type 0 where
+  pub documents : List Document
+  pub read : IsRead bytes documents
+  pub trees : List Tree
+  pub unfolded : trees_of documents ≡ Ok trees
+  pub low : AllLow trees
+  pub few : AllFew trees
+  pub is : IsFirstEqual documents node first second
 
 -- What a refusal by reading and of the trees says of the bytes. Of the four faults of syntax nothing is claimed here but
 -- that no canonical text meets them.
@@ -94,10 +115,11 @@ RefusedInReading bytes (UndefinedAlias event) = (ds : List Document) × IsRead b
 RefusedInReading bytes (CyclicAlias event) = (ds : List Document) × IsRead bytes ds × (trees_of ds ≡ Err (cyclic_alias, event))
 RefusedInReading bytes (TooHigh number) = (f : List Tree) × Means bytes f × IsFirstHigh number f
 RefusedInReading bytes (UnfoldsTooFar number) = (f : List Tree) × Means bytes f × AllLow f × IsFirstFar number f
+RefusedInReading bytes (EqualKeys node first second) = HasEqualKeys bytes node first second
 RefusedInReading bytes OutOfMemory = Unit {0}
 RefusedInReading bytes _ = ⊥
 
 -- What a refusal by `canonical` says of the bytes: it may also be that the text would be too long.
 abbrev pub CanonicalRefuses : List ℕ → Fault → Type 0
-CanonicalRefuses bytes TextTooLong = (f : List Tree) × Means bytes f × AllLow f × (AllKeyed f → text_limit < length (spell_bytes f))
+CanonicalRefuses bytes TextTooLong = (f : List Tree) × Means bytes f × Accepted bytes f × (AllKeyed f → text_limit < length (spell_bytes f))
 CanonicalRefuses bytes fault = RefusedInReading bytes fault

@@ -1,35 +1,54 @@
--- What is answered for the trees of a stream's documents.
+-- What is answered for the nodes of a stream's documents and for their trees.
 use Rattle.std.specs.Prelude.{◌≡◌, List, map, Ok, Err}
 use Rattle.yaml_text.specs.Tree.{Tree}
 use Rattle.yaml_text.specs.Order.{arranged}
 use Rattle.yaml_text.specs.Core.{undefined_alias, cyclic_alias}
-use Rattle.yaml_text.specs.Unfold.{Outcome}
+use Rattle.yaml_text.specs.Marked.{Document}
+use Rattle.yaml_text.specs.Unfold.{Outcome, trees_of}
 use Rattle.yaml_text.specs.declared.fault.Fault.{Fault}
-use Rattle.yaml_text.specs.declared.fault.Fault.TheVariants.{UndefinedAlias, CyclicAlias, TooHigh, OutOfMemory, UnfoldsTooFar}
+use Rattle.yaml_text.specs.declared.fault.Fault.TheVariants.{UndefinedAlias, CyclicAlias, TooHigh, EqualKeys, OutOfMemory, UnfoldsTooFar}
 use Rattle.yaml_canon.specs.Claims.{AllLow, AllFew, IsFirstHigh, IsFirstFar}
+use Rattle.yaml_canon.specs.ComposerModel.{Rooted}
+use Rattle.yaml_canon.specs.Measure.{measure_of}
+use Rattle.yaml_canon.specs.SourceKeys.{NoEqualKeys, IsFirstEqual, stream_trees}
+use Rattle.yaml_canon.specs.declared.forest.Nodes.{Nodes}
 
--- none is too high, and none has too many nodes
-abbrev pub Bounded : List Tree → Type 0
-Bounded f = AllLow f × AllFew f
-
--- the first tree that is too high, or else the first one that has too many nodes
-abbrev pub Unbounded : List Tree → Fault → Type 0
-Unbounded f (TooHigh number) = IsFirstHigh number f
-Unbounded f (UnfoldsTooFar number) = AllLow f × IsFirstFar number f
-Unbounded f _ = ⊥
-
--- the trees are those that were found with their entries in order, and none was too high or had too many nodes
-pub record IsForest (found : Outcome (List Tree)) (f : List Tree) : Type 0 where
+-- these are the nodes of the documents, and none of their trees is too high
+pub record Stands (ds : List Document) (n : Nodes) : Type 0 where
   pub trees : List Tree
-  pub are : found ≡ Ok trees
-  pub bounded : Bounded trees
+  pub unfolded : trees_of ds ≡ Ok trees
+  pub rooted : Rooted n.graph trees
+  pub measured : n.measures.items ≡ map measure_of (stream_trees ds trees)
+  pub roots : n.roots.items ≡ map measure_of trees
+  pub low : AllLow trees
+
+-- the documents' trees have few enough nodes
+pub record AreFew (ds : List Document) : Type 0 where
+  pub trees : List Tree
+  pub unfolded : trees_of ds ≡ Ok trees
+  pub few : AllFew trees
+
+-- the trees are those of the documents with their entries in order
+pub record IsForest (ds : List Document) (f : List Tree) : Type 0 where
+  pub trees : List Tree
+  pub unfolded : trees_of ds ≡ Ok trees
   pub is : f ≡ map arranged trees
 
--- an alias that stands for no whole node, or a tree that is too high or has too many nodes
-abbrev pub RefusesForest : Outcome (List Tree) → Fault → Type 0
-RefusesForest found (UndefinedAlias event) = found ≡ Err (undefined_alias, event)
-RefusesForest found (CyclicAlias event) = found ≡ Err (cyclic_alias, event)
-RefusesForest found (TooHigh number) = (f : List Tree) × (found ≡ Ok f) × Unbounded f (TooHigh number)
-RefusesForest found (UnfoldsTooFar number) = (f : List Tree) × (found ≡ Ok f) × Unbounded f (UnfoldsTooFar number)
-RefusesForest found OutOfMemory = Unit {0}
-RefusesForest found _ = ⊥
+-- an alias that stands for no whole node, or a tree that is too high
+abbrev pub RefusesNodes : List Document → Fault → Type 0
+RefusesNodes ds (UndefinedAlias event) = trees_of ds ≡ Err (undefined_alias, event)
+RefusesNodes ds (CyclicAlias event) = trees_of ds ≡ Err (cyclic_alias, event)
+RefusesNodes ds (TooHigh number) = (f : List Tree) × (trees_of ds ≡ Ok f) × IsFirstHigh number f
+RefusesNodes ds OutOfMemory = Unit {0}
+RefusesNodes ds _ = ⊥
+
+-- a tree that has too many nodes
+abbrev pub RefusesSize : List Document → Fault → Type 0
+RefusesSize ds (UnfoldsTooFar number) = (f : List Tree) × (trees_of ds ≡ Ok f) × AllLow f × IsFirstFar number f
+RefusesSize ds _ = ⊥
+
+-- a mapping with equal keys
+abbrev pub RefusesKeys : List Document → Fault → Type 0
+RefusesKeys ds (EqualKeys node first second) = IsFirstEqual ds node first second
+RefusesKeys ds OutOfMemory = Unit {0}
+RefusesKeys ds _ = ⊥

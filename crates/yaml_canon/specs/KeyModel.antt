@@ -1,11 +1,16 @@
 -- The events of keys as lists, and the events at which nodes close.
-use Rattle.std.specs.Prelude.{◌≡◌, ◌<◌, ◌≤◌, ◌⊎◌, length, take, drop, Option, Some, None, ℕ, zero, suc, ◌-◌, Bool, true, false, cond, List, [], ◌∷◌, map}
+use Rattle.std.specs.Prelude.{◌≡◌, ◌<◌, ◌≤◌, ◌⊎◌, length, take, drop, Option, Some, None, ℕ, zero, suc, ◌-◌, Bool, true, false, cond, List, [], ◌∷◌, map, Ok}
 use Rattle.yaml_text.specs.Event.{Event, scalar_event, sequence_start, mapping_start, sequence_end, mapping_end}
-use Rattle.yaml_text.specs.Marked.{Marked, mapping_at, flat}
+use Rattle.yaml_text.specs.Marked.{Marked, mapping_at, flat, Document}
 use Rattle.yaml_text.specs.EventModel.{event_of}
 use Rattle.std.specs.List.{slice_get}
 use Rattle.yaml_text.specs.declared.event.Event as code
-use Rattle.yaml_canon.specs.SourceKeys.{HasEqual, nodes_in}
+use Rattle.yaml_canon.specs.SourceKeys.{HasEqual, nodes_in, stream_trees}
+use Rattle.yaml_text.specs.Tree.{Tree}
+use Rattle.yaml_text.specs.Unfold.{trees_of}
+use Rattle.yaml_canon.specs.Claims.{AllLow}
+use Rattle.yaml_canon.specs.Measure.{measure_of}
+use Rattle.yaml_canon.specs.declared.compose.measure.Measure.{Measure}
 use Rattle.yaml_canon.specs.declared.compose.keys.EqualKeys.{EqualKeys}
 
 -- the events from one number up to another
@@ -70,3 +75,10 @@ IsMapping _ = ⊥
 abbrev pub FoundIn : Marked → Option EqualKeys → Type 0
 FoundIn m (Some keys) = HasEqual m keys.second keys.first × LeastPlaces (HasEqual m) keys.second keys.first × (suc keys.node ≡ length (nodes_in m))
 FoundIn m None = (s f : ℕ) → HasEqual m s f → ⊥
+
+-- The measures of all nodes of these documents, none of whose trees is too high.
+pub record Measured (ds : List Document) (measures : List Measure) : Type 0 where
+  pub trees : List Tree
+  pub unfolded : trees_of ds ≡ Ok trees
+  pub are : measures ≡ map measure_of (stream_trees ds trees)
+  pub low : AllLow trees

@@ -10,7 +10,7 @@ ghost use Rattle.yaml_text.specs.declared.fault.Fault.TheVariants.{OutOfMemory};
 ghost use Rattle.yaml_canon.specs.PlainTrees.{Spoken};
 ghost use Rattle.yaml_canon.specs.Claims.{IsCanonicalText, CanonicalRefuses};
 
-use crate::forest::forest;
+use crate::forest::{check_keys, check_sizes, low_nodes, trees};
 use crate::reading::read;
 use crate::spell::spell;
 use std::alloc::Global;
@@ -21,11 +21,12 @@ use yaml_text::fault::Fault;
 /// Today the stream is one document of double-quoted scalars, flow sequences, flow mappings,
 /// anchors and aliases on one line, after `---`. Refused are bytes that are no text (1 to 3),
 /// other streams (4, 5, 7, 8), an alias whose anchor is undefined (12) or stands on a collection
-/// that is still open (13), a document that is too high (18) or has too many nodes (24), a text
-/// that would be too long (20), and want of memory (21).
+/// that is still open (13), a document that is too high (18) or has too many nodes (24), two keys
+/// of a mapping that are written alike (19), a text that would be too long (20), and want of
+/// memory (21).
 ///
-/// Keys are not compared yet: where two keys of a mapping are the same, some text is given, and
-/// nothing is promised of it.
+/// Keys are compared by their source text, not by meaning: of a mapping in which two keys are the
+/// same, but written differently, some text is given, and nothing is promised of it.
 pub fn canonical(alloc: Global, bytes: &[u8]) -> Result<String, Fault>
     ensures text { IfOk result (λ text. IsCanonicalText bytes.now (string_bytes text)) }
     ensures refused { IfErr result (CanonicalRefuses bytes.now) }
@@ -34,6 +35,9 @@ pub fn canonical(alloc: Global, bytes: &[u8]) -> Result<String, Fault>
         MatchResult result (λ text. string_bytes text ≡ bytes.now) (λ fault. fault ≡ OutOfMemory) }
 {
     let events = read(alloc, bytes)?;
-    let trees = forest(alloc, &events)?;
+    let nodes = low_nodes(alloc, &events)?;
+    check_sizes(&nodes)?;
+    check_keys(alloc, &events, &nodes)?;
+    let trees = trees(alloc, &nodes)?;
     spell(alloc, &trees)
 }

@@ -208,7 +208,7 @@ fn name_of<'a>(anchor: &'a Option<CowStr<'_>>) -> Option<&'a str>
 
 /// Numbers the nodes of a stream. An alias is told by its event's number, where its anchor is
 /// undefined (12) or stands on a collection that is still open (13).
-pub(super) fn compose<'a>(alloc: Global, events: &'a [Event<'_>]) -> Result<Graph<'a>, Fault>
+pub(crate) fn compose<'a>(alloc: Global, events: &'a [Event<'_>]) -> Result<Graph<'a>, Fault>
     requires { Composable events.now }
     ensures { (ds : List Document) → map event_of events.now ≡ stream_events ds → MatchResult result (Composed ds) (RefusesAlias (trees_of ds)) }
 {

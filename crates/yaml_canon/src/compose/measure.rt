@@ -85,7 +85,7 @@ fn of_node(measures: &[Measure], node: &Node<'_>) -> Measure
 }
 
 /// The measures of all nodes, in order.
-pub(super) fn of_nodes(alloc: Global, nodes: &[Node<'_>]) -> Result<Vec<Measure>, Fault>
+pub(crate) fn of_nodes(alloc: Global, nodes: &[Node<'_>]) -> Result<Vec<Measure>, Fault>
     requires { Grounded nodes.now }
     ensures ok { IfOk result (λ measures. measures.items ≡ map measure_of (trees_in nodes.now)) }
     ensures err { IfErr result (λ fault. fault ≡ Fault.OutOfMemory) }
@@ -98,16 +98,21 @@ pub(super) fn of_nodes(alloc: Global, nodes: &[Node<'_>]) -> Result<Vec<Measure>
     Ok(measures)
 }
 
-/// The measures of the roots.
-pub(super) fn of_roots(alloc: Global, graph: &Graph<'_>) -> Result<Vec<Measure>, Fault>
-    requires { (f : List Tree) × Rooted graph.now f }
+/// The measures of the roots, from those of all nodes.
+pub(crate) fn of_roots(
+    alloc: Global,
+    graph: &Graph<'_>,
+    all: &[Measure],
+) -> Result<Vec<Measure>, Fault>
+    requires rooted { (f : List Tree) × Rooted graph.now f }
+    requires all { all.now ≡ map measure_of (trees_in graph.now.nodes.items) }
     ensures ok { (f : List Tree) → Rooted graph.now f → IfOk result (λ measures. measures.items ≡ map measure_of f) }
     ensures err { IfErr result (λ fault. fault ≡ Fault.OutOfMemory) }
 {
-    let all = of_nodes(alloc, &graph.nodes)?;
     let mut measures = Vec::new(alloc);
     for root in &graph.roots {
-        measures.push(all[*root])?;
+        let measure = all[*root];
+        measures.push(measure)?;
     }
     Ok(measures)
 }
