@@ -21,7 +21,8 @@ use Rattle.yaml_text.specs.declared.event.Event.TheVariants as events
 use Rattle.yaml_text.specs.Marked.{Document, stream_events}
 use Rattle.yaml_text.proofs.FlatLaws.{stream_once}
 use Rattle.yaml_canon.specs.Composable.{Composable, RefusesAlias}
-use Rattle.yaml_canon.proofs.MachineLaws.{roots_of, run-stream}
+use Rattle.yaml_canon.specs.SourceKeys.{stream_trees}
+use Rattle.yaml_canon.proofs.MachineLaws.{comes_to, with_all, run-stream}
 use Rattle.yaml_canon.specs.declared.compose.graph.Graph.{Graph}
 use Rattle.yaml_canon.specs.declared.compose.composer.Composer.{Composer}
 use Rattle.yaml_canon.specs.Machine.{State, start, whole, entered, left, added, step, told, next, run, paired, collection_from}
@@ -180,7 +181,8 @@ named-push name (o ∷ anchors) a =
 
 -- ---- the composer's lists after each of its calls
 
-more-held : (ns : List Node) (n : Node) (anchors : Anchors) (os : List Open) (places : List ℕ) (s : State) → Held ns anchors os places s → PartsBelow (length ns) n → Held (ns ++ (n ∷ [])) anchors os places s
+more-held : (ns : List Node) (n : Node) (anchors : Anchors) (os : List Open) (places : List ℕ) (s : State) → Held ns anchors os places s → PartsBelow (length ns) n
+    → Held (ns ++ (n ∷ [])) anchors os places (record { inner = s.inner; outer = s.outer; table = s.table; done = s.done ++ (node_tree (trees_in ns) n ∷ []) })
 more-held ns n anchors os places s h b =
     let q = sym (trees-push ns n) in
     let us = node_tree (trees_in ns) n ∷ [] in
@@ -189,6 +191,7 @@ more-held ns n anchors os places s h b =
       inside = subst (λ ts. AllStand ts places s.inner) q (all-more (trees_in ns) us places s.inner h.inside);
       outside = subst (λ ts. OpensStand ts (reverse os) s.outer) q (opens-more (trees_in ns) us (reverse os) s.outer h.outside);
       names = subst (λ ts. TableStands ts anchors s.table) q (table-more (trees_in ns) us anchors s.table h.names);
+      done = trees-push ns n ∙ ap (λ ts. ts ++ us) h.done;
     }
 
 pub stands-new : (ns : List Node) (n : Node) → Stands (trees_in (ns ++ (n ∷ []))) (length ns) (node_tree (trees_in ns) n)
@@ -197,29 +200,29 @@ stands-new ns n = subst (λ ts. slice_get ts (length ns) ≡ Some (node_tree (tr
 
 -- a node that is whole, without its anchor
 pub held-node : (ns : List Node) (n : Node) (anchors : Anchors) (os : List Open) (places : List ℕ) (s : State) → Held ns anchors os places s → PartsBelow (length ns) n
-    → Held (ns ++ (n ∷ [])) anchors os (places ++ (length ns ∷ [])) (record { inner = s.inner ++ (node_tree (trees_in ns) n ∷ []); outer = s.outer; table = s.table })
+    → Held (ns ++ (n ∷ [])) anchors os (places ++ (length ns ∷ [])) (record { inner = s.inner ++ (node_tree (trees_in ns) n ∷ []); outer = s.outer; table = s.table; done = s.done ++ (node_tree (trees_in ns) n ∷ []) })
 held-node ns n anchors os places s h b =
     let m = more-held ns n anchors os places s h b in
-    record { grounded = m.grounded; inside = all-push (trees_in (ns ++ (n ∷ []))) places s.inner (length ns) (node_tree (trees_in ns) n) m.inside (stands-new ns n); outside = m.outside; names = m.names }
+    record { grounded = m.grounded; inside = all-push (trees_in (ns ++ (n ∷ []))) places s.inner (length ns) (node_tree (trees_in ns) n) m.inside (stands-new ns n); outside = m.outside; names = m.names; done = m.done }
 
 -- with its anchor
 pub held-anchored : (ns : List Node) (n : Node) (anchors : Anchors) (os : List Open) (places : List ℕ) (s : State) (slot : ℕ) (name : Bor (List ℕ)) → Held ns anchors os places s → PartsBelow (length ns) n
     → Held (ns ++ (n ∷ [])) (set anchors slot (name, Some (length ns))) os (places ++ (length ns ∷ [])) (whole (Some name.now) slot (node_tree (trees_in ns) n) s)
 held-anchored ns n anchors os places s slot name h b =
     let m = held-node ns n anchors os places s h b in
-    record { grounded = m.grounded; inside = m.inside; outside = m.outside; names = table-set (trees_in (ns ++ (n ∷ []))) anchors s.table slot (length ns) (node_tree (trees_in ns) n) name m.names (stands-new ns n) }
+    record { grounded = m.grounded; inside = m.inside; outside = m.outside; names = table-set (trees_in (ns ++ (n ∷ []))) anchors s.table slot (length ns) (node_tree (trees_in ns) n) name m.names (stands-new ns n); done = m.done }
 
 pub held-begin : (ns : List Node) (anchors : Anchors) (os : List Open) (places : List ℕ) (s : State) (name : Bor (List ℕ)) → Held ns anchors os places s
-    → Held ns (anchors ++ ((name, None) ∷ [])) os places (record { inner = s.inner; outer = s.outer; table = opened (Some name.now) s.table })
+    → Held ns (anchors ++ ((name, None) ∷ [])) os places (record { inner = s.inner; outer = s.outer; table = opened (Some name.now) s.table; done = s.done })
 held-begin ns anchors os places s name h =
-    record { grounded = h.grounded; inside = h.inside; outside = h.outside; names = table-push (trees_in ns) anchors s.table name h.names }
+    record { grounded = h.grounded; inside = h.inside; outside = h.outside; names = table-push (trees_in ns) anchors s.table name h.names; done = h.done }
 
 pub held-enter : (ns : List Node) (anchors : Anchors) (os : List Open) (o : Open) (a : Anchor) (slot : ℕ) (places : List ℕ) (s : State) → Held ns anchors os places s → anchor_text o.anchor ≡ a → o.slot ≡ slot → o.before.items ≡ places
-    → Held ns anchors (os ++ (o ∷ [])) [] (record { inner = []; outer = (record { anchor = a; slot = slot; before = s.inner }) ∷ s.outer; table = s.table })
+    → Held ns anchors (os ++ (o ∷ [])) [] (record { inner = []; outer = (record { anchor = a; slot = slot; before = s.inner }) ∷ s.outer; table = s.table; done = s.done })
 held-enter ns anchors os o a slot places s h ea es eb =
     let b : AllStand (trees_in ns) o.before.items s.inner = subst (λ z. AllStand (trees_in ns) z s.inner) (sym eb) h.inside in
     let f : OpensStand (trees_in ns) (o ∷ reverse os) ((record { anchor = a; slot = slot; before = s.inner }) ∷ s.outer) = (record { anchor = ea; slot = es; before = b }, h.outside) in
-    record { grounded = h.grounded; inside = tt; outside = subst (λ z. OpensStand (trees_in ns) z ((record { anchor = a; slot = slot; before = s.inner }) ∷ s.outer)) (sym (reverse-append os (o ∷ []))) f; names = h.names }
+    record { grounded = h.grounded; inside = tt; outside = subst (λ z. OpensStand (trees_in ns) z ((record { anchor = a; slot = slot; before = s.inner }) ∷ s.outer)) (sym (reverse-append os (o ∷ []))) f; names = h.names; done = h.done }
 
 -- what the innermost collection leaves
 pub record Leaves (ns : List Node) (anchors : Anchors) (os : List Open) (o : Open) (s : State) : Type 0 where
@@ -228,7 +231,7 @@ pub record Leaves (ns : List Node) (anchors : Anchors) (os : List Open) (o : Ope
   pub outer : s.outer ≡ frame ∷ frames
   pub anchor : anchor_text o.anchor ≡ frame.anchor
   pub slot : o.slot ≡ frame.slot
-  pub held : Held ns anchors os o.before.items (record { inner = frame.before; outer = frames; table = s.table })
+  pub held : Held ns anchors os o.before.items (record { inner = frame.before; outer = frames; table = s.table; done = s.done })
 
 leaves-by : (ns : List Node) (anchors : Anchors) (os : List Open) (o : Open) (places : List ℕ) (s : State) (ps : List machine.Open) → s.outer ≡ ps → Held ns anchors (os ++ (o ∷ [])) places s → OpensStand (trees_in ns) (o ∷ reverse os) ps → Leaves ns anchors os o s
 leaves-by ns anchors os o places s [] e h f = absurd f
@@ -238,7 +241,7 @@ leaves-by ns anchors os o places s (p ∷ ps) e h f = record {
   outer = e;
   anchor = f.0.anchor;
   slot = f.0.slot;
-  held = record { grounded = h.grounded; inside = f.0.before; outside = f.1; names = h.names };
+  held = record { grounded = h.grounded; inside = f.0.before; outside = f.1; names = h.names; done = h.done };
 }
 
 pub held-leave : (ns : List Node) (anchors : Anchors) (os : List Open) (o : Open) (places : List ℕ) (s : State) → Held ns anchors (os ++ (o ∷ [])) places s → Leaves ns anchors os o s
@@ -254,12 +257,12 @@ held-none ns anchors places s h = by s.outer refl h.outside
     by (p ∷ ps) e f = absurd f
 
 pub held-alias : (ns : List Node) (anchors : Anchors) (os : List Open) (places : List ℕ) (i : ℕ) (s : State) (t : Tree) → Held ns anchors os places s → Stands (trees_in ns) i t
-    → Held ns anchors os (places ++ (i ∷ [])) (record { inner = s.inner ++ (t ∷ []); outer = s.outer; table = s.table })
+    → Held ns anchors os (places ++ (i ∷ [])) (record { inner = s.inner ++ (t ∷ []); outer = s.outer; table = s.table; done = s.done })
 held-alias ns anchors os places i s t h e =
-    record { grounded = h.grounded; inside = all-push (trees_in ns) places s.inner i t h.inside e; outside = h.outside; names = h.names }
+    record { grounded = h.grounded; inside = all-push (trees_in ns) places s.inner i t h.inside e; outside = h.outside; names = h.names; done = h.done }
 
-pub held-clear : (ns : List Node) (anchors : Anchors) (os : List Open) (places : List ℕ) (s : State) → Held ns anchors os places s → Held ns [] os places (record { inner = s.inner; outer = s.outer; table = [] })
-held-clear ns anchors os places s h = record { grounded = h.grounded; inside = h.inside; outside = h.outside; names = tt }
+pub held-clear : (ns : List Node) (anchors : Anchors) (os : List Open) (places : List ℕ) (s : State) → Held ns anchors os places s → Held ns [] os places (record { inner = s.inner; outer = s.outer; table = []; done = s.done })
+held-clear ns anchors os places s h = record { grounded = h.grounded; inside = h.inside; outside = h.outside; names = tt; done = h.done }
 
 -- ---- the same, as the code's calls give it
 
@@ -278,19 +281,19 @@ module _ (ns ms : List Node) (n : Node) (anchors : Anchors) (os : List Open) (pl
   add-plain h b em en ep ea = rw (em, ep, en, ea) (held-node ns n anchors os places s h b)
 
 pub begin-anchored : (ns : List Node) (anchors more : Anchors) (os : List Open) (places : List ℕ) (s : State) (a : Option (Bor (List ℕ))) (name : Bor (List ℕ)) → Held ns anchors os places s → a ≡ Some name → more ≡ anchors ++ ((name, None) ∷ [])
-    → Held ns more os places (record { inner = s.inner; outer = s.outer; table = opened (anchor_text a) s.table })
+    → Held ns more os places (record { inner = s.inner; outer = s.outer; table = opened (anchor_text a) s.table; done = s.done })
 begin-anchored ns anchors more os places s a name h ea em = rw (ea, em) (held-begin ns anchors os places s name h)
 
 pub begin-plain : (ns : List Node) (anchors : Anchors) (os : List Open) (places : List ℕ) (s : State) (a : Option (Bor (List ℕ))) → Held ns anchors os places s → a ≡ None
-    → Held ns anchors os places (record { inner = s.inner; outer = s.outer; table = opened (anchor_text a) s.table })
+    → Held ns anchors os places (record { inner = s.inner; outer = s.outer; table = opened (anchor_text a) s.table; done = s.done })
 begin-plain ns anchors os places s a h ea = rw ea h
 
 pub leave-found : (ns : List Node) (anchors : Anchors) (os : List Open) (o : Open) (s : State) (l : Leaves ns anchors os o s) (is_mapping : Bool) (n : Node) (places : List ℕ) → Collects ns is_mapping places n
     → AllStand (trees_in ns) places s.inner → (found : Outcome State) → left (collection_from is_mapping) s s.outer ≡ Some found → (c : Composer)
-    → Holds c (whole (anchor_text o.anchor) o.slot (node_tree (trees_in ns) n) (record { inner = l.frame.before; outer = l.frames; table = s.table })) → Reached found c
+    → Holds c (whole (anchor_text o.anchor) o.slot (node_tree (trees_in ns) n) (record { inner = l.frame.before; outer = l.frames; table = s.table; done = s.done })) → Reached found c
 leave-found ns anchors os o s l is_mapping n places k h found e c p =
     let make = collection_from is_mapping in
-    let rest : State = record { inner = l.frame.before; outer = l.frames; table = s.table } in
+    let rest : State = record { inner = l.frame.before; outer = l.frames; table = s.table; done = s.done } in
     let t : State = whole l.frame.anchor l.frame.slot (make s.inner) rest in
     let q : Some found ≡ Some (Ok t) = sym e ∙ ap (left make s) l.outer in
     let tree : node_tree (trees_in ns) n ≡ make s.inner = k.tree ∙ ap make (trees-at (trees_in ns) places s.inner h) in
@@ -361,7 +364,7 @@ module _ (at : ℕ) (name : List ℕ) (c : Composer) (s : State) (h : Holds c s)
       → Reached (and_then (placed at (tree_named (last_named name s.table))) (added s)) d
   alias-added i more d e em qn qa qo qi =
       let w = named-whole (trees_in c.nodes.items) a (last_named name s.table) i stands e in
-      let t : State = record { inner = s.inner ++ (w.tree ∷ []); outer = s.outer; table = s.table } in
+      let t : State = record { inner = s.inner ++ (w.tree ∷ []); outer = s.outer; table = s.table; done = s.done } in
       let k : Held c.nodes.items c.anchors.items c.outer.items (c.inner.items ++ (i ∷ [])) t = held-alias c.nodes.items c.anchors.items c.outer.items c.inner.items i s w.tree h w.stands in
       record { state = t; is = ap (λ o. and_then (placed at (tree_named o)) (added s)) w.is; holds = rw (qn, qa, qo, qi, em) k }
 
@@ -411,11 +414,25 @@ stays at given s found c (inr (inr q)) e h = record { state = s; is = took at gi
 
 -- ---- a whole stream
 
+-- what the steps come to tells the documents' trees: refused, or found with those of all nodes
+stream-refused : (ds : List Document) (o : Outcome (List Tree)) (x : Cause × ℕ) → Some (Err x) ≡ Some (and_then o (with_all [] [] ds)) → o ≡ Err x
+stream-refused ds (Err e) x h = cc
+stream-refused ds (Ok f) x h = absurd (cc)
+
+stream-found : (ds : List Document) (o : Outcome (List Tree)) (ts us : List Tree) → Some (Ok (ts, us)) ≡ Some (and_then o (with_all [] [] ds)) → (o ≡ Ok ts) × (us ≡ stream_trees ds ts)
+stream-found ds (Ok f) ts us h =
+    let given : List Tree × List Tree = (ts, us) in
+    let made : List Tree × List Tree = (f, stream_trees ds f) in
+    let q : given ≡ made = cc in
+    let roots : ts ≡ f = ap (λ p. p.0) q in
+    (ap Ok (sym roots), ap (λ p. p.1) q ∙ ap (stream_trees ds) (sym roots))
+stream-found ds (Err e) ts us h = absurd (cc)
+
 module _ (es : List code.Event) (composable : Composable es) (ds : List Document) (cut : map event_of es ≡ stream_events ds) where
-  total-is : roots_of (run 0 (map event_of es) start) ≡ Some (trees_of ds)
+  total-is : comes_to (run 0 (map event_of es) start) ≡ Some (and_then (trees_of ds) (with_all [] [] ds))
   total-is =
       let q : composable.documents ≡ ds = stream_once composable.documents ds (sym composable.cut ∙ cut) in
-      ap (λ x. roots_of (run 0 x start)) composable.cut ∙ (run-stream composable.documents composable.plain ∙ ap (λ x. Some (trees_of x)) q)
+      ap (λ x. comes_to (run 0 x start)) composable.cut ∙ (run-stream composable.documents composable.plain ∙ ap (λ x. Some (and_then (trees_of x) (with_all [] [] x))) q)
 
   -- what the step at this place comes to
   pub record Stepped (at : ℕ) (e : code.Event) (s : State) : Type 0 where
@@ -424,7 +441,7 @@ module _ (es : List code.Event) (composable : Composable es) (ds : List Document
     pub rest : told found (run (suc at) (map event_of (drop (suc at) es))) ≡ run 0 (map event_of es) start
 
   stepped-by : (at : ℕ) (e : code.Event) (s : State) (o : Option (Outcome State)) → step at (event_of e) s ≡ o → next o (run (suc at) (map event_of (drop (suc at) es))) ≡ run 0 (map event_of es) start → Stepped at e s
-  stepped-by at e s None q h = let w : roots_of None ≡ Some (trees_of ds) = ap roots_of h ∙ total-is in absurd (cc)
+  stepped-by at e s None q h = let w : comes_to None ≡ Some (and_then (trees_of ds) (with_all [] [] ds)) = ap comes_to h ∙ total-is in absurd (cc)
   stepped-by at e s (Some found) q h = record { found = found; is = q; rest = h }
 
   pub stepped : (at : ℕ) (e : code.Event) (s : State) → e ≡ get_or es at e → at < length es → run at (map event_of (drop at es)) s ≡ run 0 (map event_of es) start → Stepped at e s
@@ -438,8 +455,7 @@ module _ (es : List code.Event) (composable : Composable es) (ds : List Document
 
   refused-by : (at : ℕ) (e : code.Event) (s : State) (k : Stepped at e s) (x : Cause × ℕ) → k.found ≡ Err x → trees_of ds ≡ Err x
   refused-by at e s k x q =
-      let w : Some (Err x) ≡ Some (trees_of ds) = ap (λ o. roots_of (told o (run (suc at) (map event_of (drop (suc at) es))))) (sym q) ∙ (ap roots_of k.rest ∙ total-is) in
-      cc
+      stream-refused ds (trees_of ds) x (ap (λ o. comes_to (told o (run (suc at) (map event_of (drop (suc at) es))))) (sym q) ∙ (ap comes_to k.rest ∙ total-is))
 
   pub refused : (at : ℕ) (e : code.Event) (s : State) (k : Stepped at e s) (f : Fault) → RefusesAlias k.found f → RefusesAlias (trees_of ds) f
   refused at e s k (faults.UndefinedAlias n) h = refused-by at e s k (undefined_alias, n) h
@@ -450,5 +466,6 @@ module _ (es : List code.Event) (composable : Composable es) (ds : List Document
   pub composed : (at : ℕ) (s : State) (g : Graph) (anchors : Anchors) (os : List Open) → length es ≤ at → run at (map event_of (drop at es)) s ≡ run 0 (map event_of es) start → Held g.nodes.items anchors os g.roots.items s → Composed ds g
   unfolding run
   composed at s g anchors os l q h =
-      let e : Some (Ok s.inner) ≡ Some (trees_of ds) = ap (λ x. roots_of (run at (map event_of x) s)) (sym (drop_all at es l)) ∙ (ap roots_of q ∙ total-is) in
-      record { trees = s.inner; unfolded = cc; rooted = record { grounded = h.grounded; roots = h.inside } }
+      let e : Some (Ok (s.inner, s.done)) ≡ Some (and_then (trees_of ds) (with_all [] [] ds)) = ap (λ x. comes_to (run at (map event_of x) s)) (sym (drop_all at es l)) ∙ (ap comes_to q ∙ total-is) in
+      let found = stream-found ds (trees_of ds) s.inner s.done e in
+      record { trees = s.inner; unfolded = found.0; rooted = record { grounded = h.grounded; roots = h.inside }; nodes = h.done ∙ found.1 }

@@ -1,6 +1,6 @@
--- The composer's steps over a stream's events come to the trees of its documents.
+-- The composer's steps over a stream's events come to the trees of its documents and of all their nodes.
 use Rattle.std.proofs.Common.{◌≡◌, ℕ, suc, ◌+◌, List, [], ◌∷◌, ◌++◌, length, refl, sym, ◌∙◌, ap, arith, append_assoc, append-nil, Result, Ok, Err, add-zero, add-one}
-use Rattle.std.specs.Prelude.{Option, None, Some}
+use Rattle.std.specs.Prelude.{Bool, Option, None, Some}
 use Rattle.yaml_text.specs.Tree.{Tree, Trees, Pairs, sequence, mapping, end, item, done, entry}
 use Rattle.yaml_text.specs.Tag.{str_tag, seq_tag, map_tag}
 use Rattle.yaml_text.specs.Event.{Event, Anchor, WrittenTag, Style, untagged, double, document_end, stream_end, sequence_end, mapping_end}
@@ -9,6 +9,7 @@ use Rattle.yaml_text.specs.Core.{Cause, resolve, collection_tag}
 use Rattle.yaml_text.specs.Unfold.{Outcome, Table, and_then, placed, opened, closed, last_named, tree_named, event_count, unfold_node, unfold_all, unfold_pairs, trees_from, trees_of}
 use Rattle.yaml_canon.specs.TreeModel.{trees, pairs}
 use Rattle.yaml_canon.specs.Composable.{Untagged, AllUntagged, PairsUntagged, DocumentsUntagged}
+use Rattle.yaml_canon.specs.SourceKeys.{trees_inside, trees_inside_all, trees_inside_pairs, stream_trees}
 use Rattle.yaml_canon.specs.Machine.{State, start, paired, entered, added, step, told, run}
 
 -- ---- counts
@@ -71,50 +72,62 @@ resolved : (g : WrittenTag) (y : Style) (x : List ℕ) → g ≡ untagged → y 
 unfolding resolve
 resolved g y x e h = rw (e, h) refl
 
-abbrev with_nodes : State → List Tree → Table → State
-with_nodes s ts e = record { inner = s.inner ++ ts; outer = s.outer; table = e }
+-- more whole nodes, and the trees of those that closed
+abbrev with_nodes : State → List Tree → List Tree → Table → State
+with_nodes s ts us e = record { inner = s.inner ++ ts; outer = s.outer; table = e; done = s.done ++ us }
 
 -- what stands after a node, some items, some entries
-abbrev after_node : ℕ → List Event → State → Tree × Table → Option (Outcome State)
-after_node at more s r = run at more (with_nodes s (r.0 ∷ []) r.1)
+abbrev after_node : Marked → ℕ → List Event → State → Tree × Table → Option (Outcome State)
+after_node m at more s r = run at more (with_nodes s (r.0 ∷ []) (trees_inside m r.0) r.1)
 
-abbrev after_all : ℕ → List Event → State → Trees × Table → Option (Outcome State)
-after_all at more s r = run at more (with_nodes s (listed r.0) r.1)
+abbrev after_all : AllMarked → ℕ → List Event → State → Trees × Table → Option (Outcome State)
+after_all ts at more s r = run at more (with_nodes s (listed r.0) (trees_inside_all ts r.0) r.1)
 
-abbrev after_pairs : ℕ → List Event → State → Pairs × Table → Option (Outcome State)
-after_pairs at more s r = run at more (with_nodes s (in_turn r.0) r.1)
+abbrev after_pairs : MarkedPairs → ℕ → List Event → State → Pairs × Table → Option (Outcome State)
+after_pairs ps at more s r = run at more (with_nodes s (in_turn r.0) (trees_inside_pairs ps r.0) r.1)
 
-run_alias : (at : ℕ) (more : List Event) (s : State) (r : Result Tree Cause) →
-    told (and_then (placed at r) (added s)) (run (suc at) more) ≡ told (and_then (placed at r) (λ t. Ok (t, s.table))) (after_node (at + 1) more s)
-run_alias at more s (Err e) = refl
-run_alias at more s (Ok t) = ap (λ n. run n more (with_nodes s (t ∷ []) s.table)) (sym (add-one at))
+run_alias : (name : List ℕ) (at : ℕ) (more : List Event) (s : State) (r : Result Tree Cause) →
+    told (and_then (placed at r) (added s)) (run (suc at) more) ≡ told (and_then (placed at r) (λ t. Ok (t, s.table))) (after_node (alias name) (at + 1) more s)
+unfolding trees_inside
+run_alias name at more s (Err e) = refl
+run_alias name at more s (Ok t) = λ z. run (sym (add-one at) z) more (record { inner = s.inner ++ (t ∷ []); outer = s.outer; table = s.table; done = sym (append-nil s.done) z })
+
+-- a collection is whole after these nodes
+closes : (n m : ℕ) (more : List Event) (s : State) (a : Anchor) (slot : ℕ) (e : Table) (us : List Tree) (t u : Tree) → n ≡ m → t ≡ u →
+    run n more (record { inner = s.inner ++ (t ∷ []); outer = s.outer; table = closed a slot t e; done = (s.done ++ us) ++ (t ∷ []) }) ≡ run m more (with_nodes s (u ∷ []) (us ++ (u ∷ [])) (closed a slot u e))
+closes n m more s a slot e us t u q h = λ z. run (q z) more (record { inner = s.inner ++ (h z ∷ []); outer = s.outer; table = closed a slot (h z) e; done = append_assoc s.done us (h z ∷ []) z })
 
 -- a sequence's end, a mapping's end
-ends_sequence : (n m : ℕ) (more : List Event) (a : Anchor) (s : State) (r : Trees × Table) → suc n ≡ m →
-    after_all n (sequence_end ∷ more) (entered a s) r ≡ after_node m more s (sequence seq_tag r.0, closed a (length s.table) (sequence seq_tag r.0) r.1)
-unfolding run step
-ends_sequence n m more a s r e =
-    λ z. run (e z) more (with_nodes s (sequence seq_tag (trees-listed r.0 z) ∷ []) (closed a (length s.table) (sequence seq_tag (trees-listed r.0 z)) r.1))
+ends_sequence : (n m : ℕ) (more : List Event) (a : Anchor) (g : WrittenTag) (b : Bool) (ts : AllMarked) (s : State) (r : Trees × Table) → suc n ≡ m →
+    after_all ts n (sequence_end ∷ more) (entered a s) r ≡ after_node (sequence_at a g b ts) m more s (sequence seq_tag r.0, closed a (length s.table) (sequence seq_tag r.0) r.1)
+unfolding run step trees_inside
+ends_sequence n m more a g b ts s r e = closes (suc n) m more s a (length s.table) r.1 (trees_inside_all ts r.0) _ _ e (ap (sequence seq_tag) (trees-listed r.0))
 
-ends_mapping : (n m : ℕ) (more : List Event) (a : Anchor) (s : State) (r : Pairs × Table) → suc n ≡ m →
-    after_pairs n (mapping_end ∷ more) (entered a s) r ≡ after_node m more s (mapping map_tag r.0, closed a (length s.table) (mapping map_tag r.0) r.1)
-unfolding run step
-ends_mapping n m more a s r e =
-    λ z. run (e z) more (with_nodes s (mapping map_tag (pairs-in_turn r.0 z) ∷ []) (closed a (length s.table) (mapping map_tag (pairs-in_turn r.0 z)) r.1))
+ends_mapping : (n m : ℕ) (more : List Event) (a : Anchor) (g : WrittenTag) (b : Bool) (ps : MarkedPairs) (s : State) (r : Pairs × Table) → suc n ≡ m →
+    after_pairs ps n (mapping_end ∷ more) (entered a s) r ≡ after_node (mapping_at a g b ps) m more s (mapping map_tag r.0, closed a (length s.table) (mapping map_tag r.0) r.1)
+unfolding run step trees_inside
+ends_mapping n m more a g b ps s r e = closes (suc n) m more s a (length s.table) r.1 (trees_inside_pairs ps r.0) _ _ e (ap (mapping map_tag) (pairs-in_turn r.0))
 
 -- no more, and one more
-none_more : (at : ℕ) (more : List Event) (s : State) → run at more s ≡ run (at + 0) more (with_nodes s [] s.table)
-none_more at more s = λ z. run (sym (add-zero at) z) more (record { inner = sym (append-nil s.inner) z; outer = s.outer; table = s.table })
+none_more : (at : ℕ) (more : List Event) (s : State) → run at more s ≡ run (at + 0) more (with_nodes s [] [] s.table)
+none_more at more s = λ z. run (sym (add-zero at) z) more (record { inner = sym (append-nil s.inner) z; outer = s.outer; table = s.table; done = sym (append-nil s.done) z })
 
-item_more : (n m : ℕ) (more : List Event) (s : State) (t : Tree) (e : Table) (r : Trees × Table) → n ≡ m →
-    after_all n more (with_nodes s (t ∷ []) e) r ≡ after_all m more s (item t r.0, r.1)
-item_more n m more s t e r q = λ z. run (q z) more (record { inner = append_assoc s.inner (t ∷ []) (listed r.0) z; outer = s.outer; table = r.1 })
+item_more : (n m : ℕ) (more : List Event) (s : State) (k : Marked) (ts : AllMarked) (t : Tree) (e : Table) (r : Trees × Table) → n ≡ m →
+    after_all ts n more (with_nodes s (t ∷ []) (trees_inside k t) e) r ≡ after_all (item_mark k ts) m more s (item t r.0, r.1)
+unfolding trees_inside
+item_more n m more s k ts t e r q =
+    λ z. run (q z) more (record { inner = append_assoc s.inner (t ∷ []) (listed r.0) z; outer = s.outer; table = r.1; done = append_assoc s.done (trees_inside k t) (trees_inside_all ts r.0) z })
 
-entry_more : (n m : ℕ) (more : List Event) (s : State) (k v : Tree) (d e : Table) (r : Pairs × Table) → n ≡ m →
-    after_pairs n more (with_nodes (with_nodes s (k ∷ []) d) (v ∷ []) e) r ≡ after_pairs m more s (entry k v r.0, r.1)
-entry_more n m more s k v d e r q =
-    let j : (s.inner ++ (k ∷ [])) ++ (v ∷ []) ++ in_turn r.0 ≡ s.inner ++ (k ∷ (v ∷ in_turn r.0)) = simp append_assoc in
-    λ z. run (q z) more (record { inner = j z; outer = s.outer; table = r.1 })
+entry_more : (n m : ℕ) (more : List Event) (s : State) (i j : Marked) (ps : MarkedPairs) (k v : Tree) (d e : Table) (r : Pairs × Table) → n ≡ m →
+    after_pairs ps n more (with_nodes (with_nodes s (k ∷ []) (trees_inside i k) d) (v ∷ []) (trees_inside j v) e) r ≡ after_pairs (entry_marks i j ps) m more s (entry k v r.0, r.1)
+unfolding trees_inside
+entry_more n m more s i j ps k v d e r q =
+    let xs = trees_inside i k in
+    let ys = trees_inside j v in
+    let zs = trees_inside_pairs ps r.0 in
+    let nodes : (s.inner ++ (k ∷ [])) ++ (v ∷ []) ++ in_turn r.0 ≡ s.inner ++ (k ∷ (v ∷ in_turn r.0)) = simp append_assoc in
+    let closing : ((s.done ++ xs) ++ ys) ++ zs ≡ s.done ++ (xs ++ (ys ++ zs)) = append_assoc (s.done ++ xs) ys zs ∙ append_assoc s.done xs (ys ++ zs) in
+    λ z. run (q z) more (record { inner = nodes z; outer = s.outer; table = r.1; done = closing z })
 
 seq_is : (g : WrittenTag) → g ≡ untagged → collection_tag 1 g ≡ Ok seq_tag
 unfolding collection_tag
@@ -125,29 +138,31 @@ unfolding collection_tag
 map_is g e = rw e refl
 
 mutual
-  unfolding flat step run unfold_node
+  unfolding flat step run unfold_node trees_inside
 
-  run-node : (m : Marked) → Untagged m → (at : ℕ) (more : List Event) (s : State) → run at (flat m more) s ≡ told (unfold_node m s.table at) (after_node (at + event_count m) more s)
-  run-node (alias name) u at more s = run_alias at more s (tree_named (last_named name s.table))
+  run-node : (m : Marked) → Untagged m → (at : ℕ) (more : List Event) (s : State) → run at (flat m more) s ≡ told (unfold_node m s.table at) (after_node m (at + event_count m) more s)
+  run-node (alias name) u at more s = run_alias name at more s (tree_named (last_named name s.table))
   run-node (scalar_at a g y x) u at more s = rw (resolved g y x u.0 u.1, add-one) refl
   run-node (sequence_at a g b ts) u at more s =
       let o = unfold_all ts (opened a s.table) (suc at) in
-      let n = at + event_count (sequence_at a g b ts) in
+      let m = sequence_at a g b ts in
+      let n = at + event_count m in
       let last : Trees × Table → Outcome (Tree × Table) = λ r. Ok (sequence seq_tag r.0, closed a (length s.table) (sequence seq_tag r.0) r.1) in
       let e : suc (suc at + count_all ts) ≡ n = omega (arith, count_items ts (sequence_end ∷ [])) in
       rw (seq_is g u.0) (run-all ts u.1 (suc at) (sequence_end ∷ more) (entered a s)
-      ∙ (told-same o (after_all (suc at + count_all ts) (sequence_end ∷ more) (entered a s)) (λ r. told (last r) (after_node n more s)) (λ r. ends_sequence (suc at + count_all ts) n more a s r e)
-      ∙ sym (told-then o last (after_node n more s))))
+      ∙ (told-same o (after_all ts (suc at + count_all ts) (sequence_end ∷ more) (entered a s)) (λ r. told (last r) (after_node m n more s)) (λ r. ends_sequence (suc at + count_all ts) n more a g b ts s r e)
+      ∙ sym (told-then o last (after_node m n more s))))
   run-node (mapping_at a g b ps) u at more s =
       let o = unfold_pairs ps (opened a s.table) (suc at) in
-      let n = at + event_count (mapping_at a g b ps) in
+      let m = mapping_at a g b ps in
+      let n = at + event_count m in
       let last : Pairs × Table → Outcome (Tree × Table) = λ r. Ok (mapping map_tag r.0, closed a (length s.table) (mapping map_tag r.0) r.1) in
       let e : suc (suc at + count_pairs ps) ≡ n = omega (arith, count_entries ps (mapping_end ∷ [])) in
       rw (map_is g u.0) (run-pairs ps u.1 (suc at) (mapping_end ∷ more) (entered a s)
-      ∙ (told-same o (after_pairs (suc at + count_pairs ps) (mapping_end ∷ more) (entered a s)) (λ r. told (last r) (after_node n more s)) (λ r. ends_mapping (suc at + count_pairs ps) n more a s r e)
-      ∙ sym (told-then o last (after_node n more s))))
+      ∙ (told-same o (after_pairs ps (suc at + count_pairs ps) (mapping_end ∷ more) (entered a s)) (λ r. told (last r) (after_node m n more s)) (λ r. ends_mapping (suc at + count_pairs ps) n more a g b ps s r e)
+      ∙ sym (told-then o last (after_node m n more s))))
 
-  run-all : (ts : AllMarked) → AllUntagged ts → (at : ℕ) (more : List Event) (s : State) → run at (flat_all ts more) s ≡ told (unfold_all ts s.table at) (after_all (at + count_all ts) more s)
+  run-all : (ts : AllMarked) → AllUntagged ts → (at : ℕ) (more : List Event) (s : State) → run at (flat_all ts more) s ≡ told (unfold_all ts s.table at) (after_all ts (at + count_all ts) more s)
   run-all end_marks u at more s = none_more at more s
   run-all (item_mark t ts) u at more s =
       let b = at + event_count t in
@@ -155,14 +170,16 @@ mutual
       let rest : Tree × Table → Trees × Table → Outcome (Trees × Table) = λ r q. Ok (item r.0 q.0, q.1) in
       let both : Tree × Table → Outcome (Trees × Table) = λ r. and_then (unfold_all ts r.1 b) (rest r) in
       let e : b + count_all ts ≡ n = omega (arith, count_node t (flat_all ts [])) in
+      let first : Tree × Table → State = λ r. with_nodes s (r.0 ∷ []) (trees_inside t r.0) r.1 in
+      let after = after_all (item_mark t ts) n more s in
       run-node t u.0 at (flat_all ts more) s
-      ∙ (told-same (unfold_node t s.table at) (after_node b (flat_all ts more) s) (λ r. told (both r) (after_all n more s))
-      (λ r. run-all ts u.1 b more (with_nodes s (r.0 ∷ []) r.1)
-      ∙ (told-same (unfold_all ts r.1 b) (after_all (b + count_all ts) more (with_nodes s (r.0 ∷ []) r.1)) (λ q. told (rest r q) (after_all n more s)) (λ q. item_more (b + count_all ts) n more s r.0 r.1 q e)
-      ∙ sym (told-then (unfold_all ts r.1 b) (rest r) (after_all n more s))))
-      ∙ sym (told-then (unfold_node t s.table at) both (after_all n more s)))
+      ∙ (told-same (unfold_node t s.table at) (after_node t b (flat_all ts more) s) (λ r. told (both r) after)
+      (λ r. run-all ts u.1 b more (first r)
+      ∙ (told-same (unfold_all ts r.1 b) (after_all ts (b + count_all ts) more (first r)) (λ q. told (rest r q) after) (λ q. item_more (b + count_all ts) n more s t ts r.0 r.1 q e)
+      ∙ sym (told-then (unfold_all ts r.1 b) (rest r) after)))
+      ∙ sym (told-then (unfold_node t s.table at) both after))
 
-  run-pairs : (ps : MarkedPairs) → PairsUntagged ps → (at : ℕ) (more : List Event) (s : State) → run at (flat_pairs ps more) s ≡ told (unfold_pairs ps s.table at) (after_pairs (at + count_pairs ps) more s)
+  run-pairs : (ps : MarkedPairs) → PairsUntagged ps → (at : ℕ) (more : List Event) (s : State) → run at (flat_pairs ps more) s ≡ told (unfold_pairs ps s.table at) (after_pairs ps (at + count_pairs ps) more s)
   run-pairs done_marks u at more s = none_more at more s
   run-pairs (entry_marks k v ps) u at more s =
       let b = at + event_count k in
@@ -172,56 +189,65 @@ mutual
       let two : Tree × Table → Tree × Table → Outcome (Pairs × Table) = λ r p. and_then (unfold_pairs ps p.1 c) (rest r p) in
       let three : Tree × Table → Outcome (Pairs × Table) = λ r. and_then (unfold_node v r.1 b) (two r) in
       let e : c + count_pairs ps ≡ n = omega (arith, count_node k (flat v (flat_pairs ps [])), count_node v (flat_pairs ps [])) in
+      let first : Tree × Table → State = λ r. with_nodes s (r.0 ∷ []) (trees_inside k r.0) r.1 in
+      let second : Tree × Table → Tree × Table → State = λ r p. with_nodes (first r) (p.0 ∷ []) (trees_inside v p.0) p.1 in
+      let after = after_pairs (entry_marks k v ps) n more s in
       run-node k u.0 at (flat v (flat_pairs ps more)) s
-      ∙ (told-same (unfold_node k s.table at) (after_node b (flat v (flat_pairs ps more)) s) (λ r. told (three r) (after_pairs n more s))
-      (λ r. run-node v u.1 b (flat_pairs ps more) (with_nodes s (r.0 ∷ []) r.1)
-      ∙ (told-same (unfold_node v r.1 b) (after_node c (flat_pairs ps more) (with_nodes s (r.0 ∷ []) r.1)) (λ p. told (two r p) (after_pairs n more s))
-      (λ p. run-pairs ps u.2 c more (with_nodes (with_nodes s (r.0 ∷ []) r.1) (p.0 ∷ []) p.1)
-      ∙ (told-same (unfold_pairs ps p.1 c) (after_pairs (c + count_pairs ps) more (with_nodes (with_nodes s (r.0 ∷ []) r.1) (p.0 ∷ []) p.1)) (λ q. told (rest r p q) (after_pairs n more s)) (λ q. entry_more (c + count_pairs ps) n more s r.0 p.0 r.1 p.1 q e)
-      ∙ sym (told-then (unfold_pairs ps p.1 c) (rest r p) (after_pairs n more s))))
-      ∙ sym (told-then (unfold_node v r.1 b) (two r) (after_pairs n more s))))
-      ∙ sym (told-then (unfold_node k s.table at) three (after_pairs n more s)))
+      ∙ (told-same (unfold_node k s.table at) (after_node k b (flat v (flat_pairs ps more)) s) (λ r. told (three r) after)
+      (λ r. run-node v u.1 b (flat_pairs ps more) (first r)
+      ∙ (told-same (unfold_node v r.1 b) (after_node v c (flat_pairs ps more) (first r)) (λ p. told (two r p) after)
+      (λ p. run-pairs ps u.2 c more (second r p)
+      ∙ (told-same (unfold_pairs ps p.1 c) (after_pairs ps (c + count_pairs ps) more (second r p)) (λ q. told (rest r p q) after) (λ q. entry_more (c + count_pairs ps) n more s k v ps r.0 p.0 r.1 p.1 q e)
+      ∙ sym (told-then (unfold_pairs ps p.1 c) (rest r p) after)))
+      ∙ sym (told-then (unfold_node v r.1 b) (two r) after)))
+      ∙ sym (told-then (unfold_node k s.table at) three after))
 
 -- ---- whole streams
 
-abbrev pub roots_of : Option (Outcome State) → Option (Outcome (List Tree))
-roots_of None = None
-roots_of (Some (Err e)) = Some (Err e)
-roots_of (Some (Ok s)) = Some (Ok s.inner)
+-- the roots that stand at last, and the trees of all nodes
+abbrev pub comes_to : Option (Outcome State) → Option (Outcome (List Tree × List Tree))
+comes_to None = None
+comes_to (Some (Err e)) = Some (Err e)
+comes_to (Some (Ok s)) = Some (Ok (s.inner, s.done))
 
-roots_told : {X : Type 0} (o : Outcome X) (f : X → Option (Outcome State)) (g : X → Outcome (List Tree)) → ((x : X) → roots_of (f x) ≡ Some (g x)) → roots_of (told o f) ≡ Some (and_then o g)
-roots_told (Err e) f g h = refl
-roots_told (Ok x) f g h = h x
+-- after these, the documents' trees, and those of all their own nodes
+abbrev pub with_all : (roots all : List Tree) → List Document → List Tree → Outcome (List Tree × List Tree)
+with_all roots all ds f = Ok (roots ++ f, all ++ stream_trees ds f)
 
-ok-back : {X : Type 0} (o : Outcome X) → and_then o (λ x. Ok x) ≡ o
-ok-back (Err e) = refl
-ok-back (Ok x) = refl
+comes_told : {X : Type 0} (o : Outcome X) (f : X → Option (Outcome State)) (g : X → Outcome (List Tree × List Tree)) → ((x : X) → comes_to (f x) ≡ Some (g x)) → comes_to (told o f) ≡ Some (and_then o g)
+comes_told (Err e) f g h = refl
+comes_told (Ok x) f g h = h x
 
-added-later : (o : Outcome (List Tree)) (xs : List Tree) (t : Tree) → and_then o (λ f. Ok ((xs ++ (t ∷ [])) ++ f)) ≡ and_then (and_then o (λ f. Ok (t ∷ f))) (λ f. Ok (xs ++ f))
-added-later (Err e) xs t = refl
-added-later (Ok f) xs t = ap (λ ys. Ok ys) (append_assoc xs (t ∷ []) f)
+-- the first document's trees stand before those of the rest
+added-later : (d : Document) (ds : List Document) (o : Outcome (List Tree)) (xs us : List Tree) (t : Tree) →
+    and_then o (with_all (xs ++ (t ∷ [])) (us ++ trees_inside d.root t) ds) ≡ and_then (and_then o (λ f. Ok (t ∷ f))) (with_all xs us (d ∷ ds))
+unfolding stream_trees
+added-later d ds (Err e) xs us t = refl
+added-later d ds (Ok f) xs us t = λ z. Ok (append_assoc xs (t ∷ []) f z, append_assoc us (trees_inside d.root t) (stream_trees ds f) z)
 
 then-then : {X Y Z : Type 0} (o : Outcome X) (f : X → Outcome Y) (g : Y → Outcome Z) → and_then (and_then o f) g ≡ and_then o (λ x. and_then (f x) g)
 then-then (Err e) f g = refl
 then-then (Ok x) f g = refl
 
-run-documents : (ds : List Document) → DocumentsUntagged ds → (at : ℕ) (s : State) → roots_of (run at (documents_events ds (stream_end ∷ [])) s) ≡ Some (and_then (trees_from at ds) (λ f. Ok (s.inner ++ f)))
-unfolding run step trees_from
-run-documents [] u at s = ap (λ xs. Some (Ok xs)) (sym (append-nil s.inner))
+run-documents : (ds : List Document) → DocumentsUntagged ds → (at : ℕ) (s : State) → comes_to (run at (documents_events ds (stream_end ∷ [])) s) ≡ Some (and_then (trees_from at ds) (with_all s.inner s.done ds))
+unfolding run step trees_from stream_trees
+run-documents [] u at s = λ z. Some (Ok (sym (append-nil s.inner) z, sym (append-nil s.done) z))
 run-documents (d ∷ ds) u at s =
     let b = suc at + event_count d.root in
     let e : suc b ≡ suc (suc (at + event_count d.root)) = omega arith in
-    let cleared : State = record { inner = s.inner; outer = s.outer; table = [] } in
+    let cleared : State = record { inner = s.inner; outer = s.outer; table = []; done = s.done } in
     let more = document_end d.ends ∷ documents_events ds (stream_end ∷ []) in
     let n = suc (suc (at + event_count d.root)) in
     let rest : Tree × Table → Outcome (List Tree) = λ r. and_then (trees_from n ds) (λ f. Ok (r.0 ∷ f)) in
-    ap roots_of (run-node d.root u.0 (suc at) more cleared)
-    ∙ (roots_told (unfold_node d.root [] (suc at)) (after_node b more cleared) (λ r. and_then (rest r) (λ f. Ok (s.inner ++ f)))
-    (λ r. ap (λ m. roots_of (run m (documents_events ds (stream_end ∷ [])) (with_nodes cleared (r.0 ∷ []) r.1))) e
-    ∙ (run-documents ds u.1 n (with_nodes cleared (r.0 ∷ []) r.1) ∙ ap Some (added-later (trees_from n ds) s.inner r.0)))
-    ∙ ap Some (sym (then-then (unfold_node d.root [] (suc at)) rest (λ f. Ok (s.inner ++ f)))))
+    let last = with_all s.inner s.done (d ∷ ds) in
+    let first : Tree × Table → State = λ r. with_nodes cleared (r.0 ∷ []) (trees_inside d.root r.0) r.1 in
+    ap comes_to (run-node d.root u.0 (suc at) more cleared)
+    ∙ (comes_told (unfold_node d.root [] (suc at)) (after_node d.root b more cleared) (λ r. and_then (rest r) last)
+    (λ r. ap (λ m. comes_to (run m (documents_events ds (stream_end ∷ [])) (first r))) e
+    ∙ (run-documents ds u.1 n (first r) ∙ ap Some (added-later d ds (trees_from n ds) s.inner s.done r.0)))
+    ∙ ap Some (sym (then-then (unfold_node d.root [] (suc at)) rest last)))
 
--- the steps over a stream come to its documents' trees, or to the first alias that stands for none
-pub run-stream : (ds : List Document) → DocumentsUntagged ds → roots_of (run 0 (stream_events ds) start) ≡ Some (trees_of ds)
+-- the steps over a stream come to its documents' trees and those of all nodes, or to the first alias that stands for none
+pub run-stream : (ds : List Document) → DocumentsUntagged ds → comes_to (run 0 (stream_events ds) start) ≡ Some (and_then (trees_of ds) (with_all [] [] ds))
 unfolding run step stream_events
-run-stream ds u = run-documents ds u 1 start ∙ ap Some (ok-back (trees_of ds))
+run-stream ds u = run-documents ds u 1 start

@@ -8,6 +8,7 @@ use Rattle.yaml_text.specs.Event.{Anchor}
 use Rattle.yaml_text.specs.Marked.{Document}
 use Rattle.yaml_text.specs.Unfold.{Outcome, Table, or_else, trees_of}
 use Rattle.yaml_canon.specs.Machine as machine
+use Rattle.yaml_canon.specs.SourceKeys.{stream_trees}
 use Rattle.yaml_canon.specs.GraphModel.{node_tree, trees_in, trees_at, PartsBelow, Grounded}
 use Rattle.yaml_canon.specs.declared.compose.composer.Composer.{Composer}
 use Rattle.yaml_canon.specs.declared.compose.composer.Open.{Open}
@@ -66,6 +67,7 @@ pub record Held (nodes : List Node) (anchors : Anchors) (outer : List Open) (inn
   pub inside : AllStand (trees_in nodes) inner s.inner
   pub outside : OpensStand (trees_in nodes) (reverse outer) s.outer
   pub names : TableStands (trees_in nodes) anchors s.table
+  pub done : trees_in nodes ≡ s.done
 
 abbrev pub Holds : Composer → machine.State → Type 0
 Holds c s = Held c.nodes.items c.anchors.items c.outer.items c.inner.items s
@@ -81,8 +83,9 @@ pub record Rooted (g : Graph) (f : List Tree) : Type 0 where
   pub grounded : Grounded g.nodes.items
   pub roots : AllStand (trees_in g.nodes.items) g.roots.items f
 
--- the graph's roots stand for the documents' trees
+-- The graph's roots stand for the documents' trees, and its nodes, in order, for the trees of the documents' own nodes.
 pub record Composed (ds : List Document) (g : Graph) : Type 0 where
   pub trees : List Tree
   pub unfolded : trees_of ds ≡ Ok trees
   pub rooted : Rooted g trees
+  pub nodes : trees_in g.nodes.items ≡ stream_trees ds trees

@@ -12,14 +12,15 @@ pub record Open : Type 0 where
   pub slot : ℕ
   pub before : List Tree
 
--- The whole nodes of the innermost open collection, or the roots; the open collections, the innermost first; the anchors.
+-- The whole nodes of the innermost open collection, or the roots; the open collections, the innermost first; the anchors; the trees of all whole nodes, in the order in which they closed.
 pub record State : Type 0 where
   pub inner : List Tree
   pub outer : List Open
   pub table : Table
+  pub done : List Tree
 
 abbrev pub start : State
-start = record { inner = []; outer = []; table = [] }
+start = record { inner = []; outer = []; table = []; done = [] }
 
 -- keys and values in turn, as pairs
 abbrev pub paired : {X : Type 0} → List X → List (X × X)
@@ -39,21 +40,21 @@ collection_from is_mapping ts = cond is_mapping (mapping_from ts) (sequence_from
 
 -- a node is whole, whose anchor stands at this place
 abbrev pub whole : Anchor → ℕ → Tree → State → State
-whole a slot t s = record { inner = s.inner ++ (t ∷ []); outer = s.outer; table = closed a slot t s.table }
+whole a slot t s = record { inner = s.inner ++ (t ∷ []); outer = s.outer; table = closed a slot t s.table; done = s.done ++ (t ∷ []) }
 
 abbrev pub scalar_added : Anchor → List ℕ → State → State
-scalar_added a x s = whole a (length s.table) (scalar str_tag x) (record { inner = s.inner; outer = s.outer; table = opened a s.table })
+scalar_added a x s = whole a (length s.table) (scalar str_tag x) (record { inner = s.inner; outer = s.outer; table = opened a s.table; done = s.done })
 
 abbrev pub entered : Anchor → State → State
-entered a s = record { inner = []; outer = (record { anchor = a; slot = length s.table; before = s.inner }) ∷ s.outer; table = opened a s.table }
+entered a s = record { inner = []; outer = (record { anchor = a; slot = length s.table; before = s.inner }) ∷ s.outer; table = opened a s.table; done = s.done }
 
 -- the innermost collection ends, if there is one
 abbrev pub left : (List Tree → Tree) → State → List Open → Option (Outcome State)
 left make s [] = None
-left make s (o ∷ os) = Some (Ok (whole o.anchor o.slot (make s.inner) (record { inner = o.before; outer = os; table = s.table })))
+left make s (o ∷ os) = Some (Ok (whole o.anchor o.slot (make s.inner) (record { inner = o.before; outer = os; table = s.table; done = s.done })))
 
 abbrev pub added : State → Tree → Outcome State
-added s t = Ok (record { inner = s.inner ++ (t ∷ []); outer = s.outer; table = s.table })
+added s t = Ok (record { inner = s.inner ++ (t ∷ []); outer = s.outer; table = s.table; done = s.done })
 
 -- The event's number, and the event. None: no documents have this event here.
 unfoldable pub step : ℕ → Event → State → Option (Outcome State)
@@ -63,7 +64,7 @@ step at (sequence_start b a g) s = Some (Ok (entered a s))
 step at (mapping_start b a g) s = Some (Ok (entered a s))
 step at sequence_end s = left (collection_from false) s s.outer
 step at mapping_end s = left (collection_from true) s s.outer
-step at (document_start b) s = Some (Ok (record { inner = s.inner; outer = s.outer; table = [] }))
+step at (document_start b) s = Some (Ok (record { inner = s.inner; outer = s.outer; table = []; done = s.done }))
 step at _ s = Some (Ok s)
 
 abbrev pub told : {X Y : Type 0} → Outcome X → (X → Option (Outcome Y)) → Option (Outcome Y)

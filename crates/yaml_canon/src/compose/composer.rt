@@ -55,7 +55,7 @@ impl<'a> Composer<'a> {
 
     /// Notes that a node begins, and gives its place among the anchors.
     fn begin(&mut self, anchor: Option<&'a str>) -> Result<usize, Fault>
-        ensures ok { (s : State) → Holds self.old s → IfOk result (λ slot. (slot ≡ length s.table) × Holds self.new (record { inner = s.inner; outer = s.outer; table = opened (anchor_text anchor.entry) s.table })) }
+        ensures ok { (s : State) → Holds self.old s → IfOk result (λ slot. (slot ≡ length s.table) × Holds self.new (record { inner = s.inner; outer = s.outer; table = opened (anchor_text anchor.entry) s.table; done = s.done })) }
         ensures err { IfErr result (λ fault. fault ≡ Fault.OutOfMemory) }
     {
         let slot = self.anchors.len();

@@ -40,7 +40,7 @@ pub returns-in-DocumentStart : goal.returns-in-DocumentStart
 unfolding step
 returns-in-DocumentStart c = λ s h found e.
     let self = c.args.self.now in
-    let cleared : State = record { inner = s.inner; outer = s.outer; table = [] } in
+    let cleared : State = record { inner = s.inner; outer = s.outer; table = []; done = s.done } in
     record {
       state = cleared;
       is = took c.args.at c.args.event.now _ s found _ c.in-DocumentStart.is e refl;
