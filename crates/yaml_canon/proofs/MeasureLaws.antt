@@ -2,16 +2,18 @@
 use Rattle.std.proofs.Common.{◌≡◌, ℕ, zero, suc, ◌+◌, ◌<◌, ◌≤◌, min, max, List, [], ◌∷◌, ◌++◌, length, map, take, get_or, refl, sym, ◌∙◌, ap, subst, arith, add-one, length-take}
 use Rattle.std.proofs.Math.Seq.{take-suc}
 use Rattle.std.proofs.lemmas.List.{take_all, map-append, length-map}
+use Rattle.std.specs.List.{All}
 use Rattle.yaml_text.specs.Limits.{height_limit, nodes_limit}
 use Rattle.yaml_text.specs.Tree.{Tree, scalar, mapping, height, heights, heights_of_pairs, nodes, nodes_of, nodes_of_pairs}
 use Rattle.yaml_text.specs.Tag.{map_tag}
 use Rattle.yaml_canon.specs.TreeModel.{trees, pairs}
 use Rattle.yaml_canon.specs.Machine.{sequence_from}
 use Rattle.yaml_canon.specs.GraphModel.{tree_at, trees_at, entries_at, node_tree, trees_in, PartsBelow, Grounded}
-use Rattle.yaml_canon.specs.ComposerModel.{AllStand}
+use Rattle.yaml_canon.specs.ComposerModel.{Rooted}
 use Rattle.yaml_canon.proofs.ComposerLaws.{trees-at, trees-length, places-below}
 use Rattle.yaml_canon.proofs.GraphLaws.{node-front, at_node, node-below, node-tree}
 use Rattle.yaml_canon.specs.declared.compose.graph.Node.{Node}
+use Rattle.yaml_canon.specs.declared.compose.graph.Graph.{Graph}
 use Rattle.yaml_canon.specs.Measure.{measure_of}
 use Rattle.yaml_canon.specs.declared.compose.measure.Measure.{Measure}
 
@@ -95,6 +97,12 @@ module _ (ts : List Tree) (ms : List Measure) (e : ms ≡ map measure_of ts) whe
       with-entry (entries_at ts (take i entries)) (tree_at ts p.0, tree_at ts p.1) m (get_or ms p.0 c) (get_or ms p.1 d) mid new q (measured p.0 c l) (measured p.1 d k) v w
       ∙ ap (λ ps. measure_of (mapping map_tag (pairs ps))) (sym (entries-more entries i h))
 
+  pub places-step : (places : List ℕ) (i : ℕ) (some more : List Measure) (d m : Measure) → i < length places → get_or places i 0 < length ms → some ≡ map measure_of (trees_at ts (take i places)) → m ≡ get_or ms (get_or places i 0) d → more ≡ some ++ (m ∷ [])
+      → more ≡ map measure_of (trees_at ts (take (i + 1) places))
+  places-step places i some more d m h l q r w =
+      let v : m ≡ measure_of (tree_at ts (get_or places i 0)) = r ∙ measured (get_or places i 0) d l in
+      w ∙ ((λ z. q z ++ (v z ∷ [])) ∙ (sym (map-append measure_of (trees_at ts (take i places)) (tree_at ts (get_or places i 0) ∷ [])) ∙ ap (map measure_of) (sym (trees-more places i h))))
+
 module _ (ns : List Node) (g : Grounded ns) (ms : List Measure) (i : ℕ) (e : ms ≡ map measure_of (take i (trees_in ns))) where
   measured-length : i ≤ length ns → length ms ≡ i
   measured-length l = omega (arith, ap length e, length-map (take i (trees_in ns)) measure_of, length-take i (trees_in ns), trees-length ns)
@@ -113,16 +121,16 @@ module _ (ns : List Node) (g : Grounded ns) (ms : List Measure) (i : ℕ) (e : m
   pub nodes-done : length ns ≤ i → ms ≡ map measure_of (trees_in ns)
   nodes-done l = let k : length (trees_in ns) ≤ i = omega (arith, trees-length ns) in e ∙ ap (map measure_of) (take_all i (trees_in ns) k)
 
-module _ (ns : List Node) (roots : List ℕ) (f : List Tree) (h : AllStand (trees_in ns) roots f) (all : List Measure) (e : all ≡ map measure_of (trees_in ns)) where
-  pub root-within : (i : ℕ) → i < length roots → get_or roots i 0 < length all
-  root-within i l = omega (arith, places-below ns roots f h i 0 l, ap length e, length-map (trees_in ns) measure_of, trees-length ns)
+-- `ns`, `all` and `places` are what is borrowed of the graph's nodes, of their measures and of the graph's roots
+module _ (g : Graph) (ns : List Node) (ms all : List Measure) (places : List ℕ) (n : ns ≡ g.nodes.items) (m : ms ≡ map measure_of (trees_in ns)) (a : all ≡ ms) (p : places ≡ g.roots.items) where
+  pub all-measured : ms ≡ map measure_of (trees_in g.nodes.items)
+  all-measured = m ∙ ap (λ z. map measure_of (trees_in z)) n
 
-  pub roots-step : (ms more : List Measure) (i : ℕ) (d m : Measure) → i < length roots → ms ≡ map measure_of (trees_at (trees_in ns) (take i roots)) → m ≡ get_or all (get_or roots i 0) d → more ≡ ms ++ (m ∷ [])
-      → more ≡ map measure_of (trees_at (trees_in ns) (take (i + 1) roots))
-  roots-step ms more i d m l q r w =
-      let ts = trees_in ns in
-      let v : m ≡ measure_of (tree_at ts (get_or roots i 0)) = r ∙ measured ts all e (get_or roots i 0) d (root-within i l) in
-      w ∙ ((λ z. q z ++ (v z ∷ [])) ∙ (sym (map-append measure_of (trees_at ts (take i roots)) (tree_at ts (get_or roots i 0) ∷ [])) ∙ ap (map measure_of) (sym (trees-more ts all e roots i l))))
+  roots-below : (f : List Tree) → Rooted g f → All (λ i. i < length all) g.roots.items
+  roots-below f h i d l = omega (arith, places-below g.nodes.items g.roots.items f h.roots i d l, ap length (a ∙ all-measured), length-map (trees_in g.nodes.items) measure_of, trees-length g.nodes.items)
 
-  pub roots-done : (ms : List Measure) (i : ℕ) → length roots ≤ i → ms ≡ map measure_of (trees_at (trees_in ns) (take i roots)) → ms ≡ map measure_of f
-  roots-done ms i l q = q ∙ ap (map measure_of) (ap (trees_at (trees_in ns)) (take_all i roots l) ∙ trees-at (trees_in ns) roots f h)
+  pub roots-within : (f : List Tree) → Rooted g f → All (λ i. i < length all) places
+  roots-within f h = subst (All (λ i. i < length all)) (sym p) (roots-below f h)
+
+  pub roots-measured : (f : List Tree) → Rooted g f → (roots : List Measure) → ((ts : List Tree) → all ≡ map measure_of ts → roots ≡ map measure_of (trees_at ts places)) → roots ≡ map measure_of f
+  roots-measured f h roots w = w (trees_in g.nodes.items) (a ∙ all-measured) ∙ (ap (λ z. map measure_of (trees_at (trees_in g.nodes.items) z)) p ∙ ap (map measure_of) (trees-at (trees_in g.nodes.items) g.roots.items f h.roots))

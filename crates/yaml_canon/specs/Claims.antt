@@ -1,5 +1,5 @@
 -- What `canonical` and `same` promise.
-use Rattle.std.specs.Prelude.{◌≡◌, ◌↔◌, ℕ, ◌<◌, ◌≤◌, ◌++◌, Bool, true, List, [], ◌∷◌, length, Err}
+use Rattle.std.specs.Prelude.{◌≡◌, ◌↔◌, ℕ, ◌<◌, ◌≤◌, ◌++◌, Bool, true, List, [], ◌∷◌, length, Ok, Err}
 use Rattle.yaml_text.specs.Limits.{text_limit, height_limit, nodes_limit}
 use Rattle.yaml_text.specs.Tree.{Tree, height, nodes}
 use Rattle.yaml_text.specs.Same.{Keyed, Alike}

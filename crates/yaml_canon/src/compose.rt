@@ -7,4 +7,4 @@ mod measure;
 pub(crate) use composer::compose;
 pub(crate) use graph::{Graph, forest};
 pub(crate) use keys::{Found, equal_keys};
-pub(crate) use measure::{Measure, of_nodes, of_roots};
+pub(crate) use measure::{Measure, of_nodes, of_places};

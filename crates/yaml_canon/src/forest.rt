@@ -10,7 +10,7 @@ ghost use Rattle.yaml_canon.specs.Forest.{Stands, AreFew, IsForest, RefusesNodes
 ghost use Rattle.yaml_canon.specs.SourceKeys.{NoEqualKeys, IsFirstEqual};
 
 use crate::arrange::arrange_all;
-use crate::compose::{Found, Graph, Measure, compose, equal_keys, forest, of_nodes, of_roots};
+use crate::compose::{Found, Graph, Measure, compose, equal_keys, forest, of_nodes, of_places};
 use crate::tree::Tree;
 use std::alloc::Global;
 use yaml_text::event::Event;
@@ -58,7 +58,7 @@ pub(crate) fn low_nodes<'a>(alloc: Global, events: &'a [Event<'_>]) -> Result<No
 {
     let graph = compose(alloc, events)?;
     let measures = of_nodes(alloc, &graph.nodes)?;
-    let roots = of_roots(alloc, &graph, &measures)?;
+    let roots = of_places(alloc, &measures, &graph.roots)?;
     match first_high(&roots) {
         Some(number) => Err(Fault::TooHigh(number)),
         None => Ok(Nodes {

@@ -8,11 +8,10 @@ ghost use Rattle.yaml_text.specs.Tree as plain;
 ghost use Rattle.yaml_canon.specs.TreeModel.{pairs};
 ghost use Rattle.yaml_canon.specs.Machine.{sequence_from};
 ghost use Rattle.yaml_canon.specs.GraphModel.{trees_at, entries_at, node_tree, trees_in, PartsBelow, Grounded};
-ghost use Rattle.yaml_canon.specs.ComposerModel.{Rooted};
 ghost use Rattle.yaml_canon.specs.Measure.{measure_of};
 ghost use Rattle.yaml_text.specs.Tag.{map_tag};
 
-use super::graph::{Graph, Node};
+use super::graph::Node;
 use std::alloc::Global;
 use yaml_text::fault::Fault;
 
@@ -98,21 +97,19 @@ pub(crate) fn of_nodes(alloc: Global, nodes: &[Node<'_>]) -> Result<Vec<Measure>
     Ok(measures)
 }
 
-/// The measures of the roots, from those of all nodes.
-pub(crate) fn of_roots(
+/// The measures of the nodes of these numbers, from those of all nodes.
+pub(crate) fn of_places(
     alloc: Global,
-    graph: &Graph<'_>,
     all: &[Measure],
+    places: &[usize],
 ) -> Result<Vec<Measure>, Fault>
-    requires rooted { (f : List Tree) × Rooted graph.now f }
-    requires all { all.now ≡ map measure_of (trees_in graph.now.nodes.items) }
-    ensures ok { (f : List Tree) → Rooted graph.now f → IfOk result (λ measures. measures.items ≡ map measure_of f) }
+    requires { All (λ i. i < length all.now) places.now }
+    ensures ok { (ts : List Tree) → all.now ≡ map measure_of ts → IfOk result (λ measures. measures.items ≡ map measure_of (trees_at ts places.now)) }
     ensures err { IfErr result (λ fault. fault ≡ Fault.OutOfMemory) }
 {
     let mut measures = Vec::new(alloc);
-    for root in &graph.roots {
-        let measure = all[*root];
-        measures.push(measure)?;
+    for place in places {
+        measures.push(all[*place])?;
     }
     Ok(measures)
 }
