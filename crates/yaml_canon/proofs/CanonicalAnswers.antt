@@ -6,16 +6,16 @@ use Rattle.yaml_text.specs.Limits.{text_limit}
 use Rattle.yaml_text.specs.Event.{Event}
 use Rattle.yaml_text.specs.Tree.{Tree}
 use Rattle.yaml_text.specs.Proper.{Admitted}
-use Rattle.yaml_text.specs.Spell.{document_of, spell_bytes}
-use Rattle.yaml_text.specs.Unfold.{trees_of}
+use Rattle.yaml_text.specs.Spell.{spell_bytes}
 use Rattle.yaml_text.specs.declared.fault.Fault.{Fault}
 use Rattle.yaml_text.specs.declared.fault.Fault.TheVariants as fault
 use Rattle.yaml_canon.specs.Arranged.{AllArranged}
 use Rattle.yaml_canon.specs.Claims.{IsCanonicalText, RefusedInReading, CanonicalRefuses}
-use Rattle.yaml_canon.specs.Forest.{IsForest, RefusesForest}
+use Rattle.yaml_canon.specs.Forest.{Stands, AreFew, RefusesNodes, RefusesSize, RefusesKeys}
+use Rattle.yaml_canon.specs.declared.forest.Nodes.{Nodes}
 use Rattle.yaml_canon.specs.Refusal.{RefusesSpelling, IsUnspelled}
 use Rattle.yaml_canon.specs.SecondDocument.{SecondDocument}
-use Rattle.yaml_canon.proofs.SecondClaims.{found_text, forest_refused, spelling_refused, admitted_spelled}
+use Rattle.yaml_canon.proofs.SecondClaims.{Judged, documents, found_text, nodes_refused, sizes_refused, keys_refused, spelling_refused, admitted_spelled}
 
 -- at the exit of a `?`
 pub err_refused : {X : Type 0} (P : Fault → Type 0) (r : Result X Fault) (e : Fault) → IsErrAnd r (λ y. y ≡ e) → P e → IfErr r P
@@ -25,17 +25,13 @@ pub err_spelled : {X : Type 0} (P : X → Type 0) (r : Result X Fault) (e : Faul
 err_spelled P r e was p = let q = err_from_is_err_and r was in subst (λ z. MatchResult z P (λ y. y ≡ fault.OutOfMemory)) (sym (q.1 ∙ ap Err q.2)) p
 
 -- what is refused for both calls is refused for `canonical`
-lifted : (bytes : List ℕ) (e : Fault) → RefusedInReading bytes e → CanonicalRefuses bytes e
+pub lifted : (bytes : List ℕ) (e : Fault) → RefusedInReading bytes e → CanonicalRefuses bytes e
 lifted bytes fault.TextTooLong r = absurd r
 lifted bytes _ r = r
 
-module _ (bytes : List ℕ) (es : List Event) (d : SecondDocument bytes es) where
-  pub read_forest_refused : (e : Fault) → RefusesForest (trees_of (document_of d.root ∷ [])) e → CanonicalRefuses bytes e
-  read_forest_refused e r = lifted bytes e (forest_refused bytes es d e r)
-
 -- `text` is that of an answer
 module _ {X : Type 0} (text : X → List ℕ) (bytes : List ℕ) (es : List Event) (d : SecondDocument bytes es) where
-  pub ok_text : (r : Result X Fault) (f g : List Tree) → f ≡ g → IsForest (trees_of (document_of d.root ∷ [])) g
+  pub ok_text : (r : Result X Fault) (f g : List Tree) → f ≡ g → Judged (documents bytes es d) g
       → (AllArranged f → IfOk r (λ x. text x ≡ spell_bytes f)) → IfOk r (λ x. length (text x) ≤ text_limit) → IfOk r (λ x. IsCanonicalText bytes (text x))
   ok_text (Ok x) f g q h w fits = found_text bytes es d g (text x) h (λ a. w (subst AllArranged (sym q) a) ∙ ap spell_bytes q) fits
   ok_text (Err e) f g q h w fits = tt
@@ -46,7 +42,7 @@ module _ {X : Type 0} (text : X → List ℕ) (bytes : List ℕ) (es : List Even
   ok_spelled f (Ok x) u g q a b s w h = w (subst AllArranged (sym q) s.0) ∙ ap spell_bytes q ∙ s.1 ∙ sym b
   ok_spelled f (Err e) u g q a b s w h = admitted_spelled e f u (ap spell_bytes q ∙ s.1) a (h (subst AllArranged (sym q) s.0))
 
-pub ok_refused : {X : Type 0} (bytes : List ℕ) (es : List Event) (d : SecondDocument bytes es) (r : Result X Fault) (f g : List Tree) → f ≡ g → IsForest (trees_of (document_of d.root ∷ [])) g
+pub ok_refused : {X : Type 0} (bytes : List ℕ) (es : List Event) (d : SecondDocument bytes es) (r : Result X Fault) (f g : List Tree) → f ≡ g → Judged (documents bytes es d) g
     → (AllArranged f → IfErr r (RefusesSpelling f)) → IfErr r IsUnspelled → IfErr r (CanonicalRefuses bytes)
 ok_refused bytes es d (Ok x) f g q h w o = tt
 ok_refused bytes es d (Err e) f g q h w o = spelling_refused bytes es d g e h (λ a. subst (λ z. RefusesSpelling z e) q (w (subst AllArranged (sym q) a))) o

@@ -13,6 +13,7 @@ use Rattle.yaml_text.specs.Proper.{AreAdmitted, Admitted}
 use Rattle.yaml_text.specs.Sound.{Sound, DocumentsSound, AllProper}
 use Rattle.yaml_text.specs.Means.{Means}
 use Rattle.yaml_text.specs.Core.{undefined_alias, cyclic_alias}
+use Rattle.yaml_text.specs.Marked.{Document}
 use Rattle.yaml_text.specs.Unfold.{Outcome, trees_of}
 use Rattle.yaml_text.specs.EventModel.{event_of}
 use Rattle.yaml_text.specs.declared.event.Event as code
@@ -29,15 +30,18 @@ use Rattle.yaml_text.proofs.PrintLaws.{spelled_text}
 use Rattle.yaml_text.proofs.grammar.Documents.{readings_are_documents}
 use Rattle.yaml_text.proofs.grammar.OneText.{one-text}
 use Rattle.yaml_canon.specs.Arranged.{AllArranged}
-use Rattle.yaml_canon.specs.Claims.{AllOf, AllLow, AllFew, AllKeyed, IsCanonicalText, Compares, IsFirstOf, IsRead, RefusedInReading, CanonicalRefuses}
+use Rattle.yaml_canon.specs.Claims.{AllOf, AllLow, AllFew, AllKeyed, IsCanonicalText, Compares, IsFirstOf, IsRead, Accepted, RefusedInReading, CanonicalRefuses}
 use Rattle.yaml_canon.specs.Composable.{Composable}
-use Rattle.yaml_canon.specs.Forest.{IsForest, RefusesForest}
+use Rattle.yaml_canon.specs.Forest.{Stands, AreFew, IsForest, RefusesNodes, RefusesSize, RefusesKeys}
+use Rattle.yaml_canon.specs.SourceKeys.{NoEqualKeys, IsFirstEqual}
+use Rattle.yaml_canon.specs.declared.forest.Nodes.{Nodes}
 use Rattle.yaml_canon.specs.PlainTrees.{Spoken}
 use Rattle.yaml_canon.specs.Refusal.{RefusesSpelling, IsUnspelled}
 use Rattle.yaml_canon.specs.SecondPath.{ReadsSecond}
 use Rattle.yaml_canon.specs.SecondDocument.{SecondDocument}
 use Rattle.yaml_canon.proofs.PlainLaws.{plain_untagged, found_plain}
 use Rattle.yaml_canon.proofs.SecondSpelled.{second_spelled}
+use Rattle.yaml_canon.proofs.SpelledKeys.{spelled_no_equal}
 use Rattle.yaml_canon.proofs.Sizes.{nodes_arranged}
 
 -- ---- forests
@@ -98,11 +102,39 @@ spelling_read [] o a = absurd o
 spelling_read (t ∷ []) o a = second_spelled t a.trees.0 o.0
 spelling_read (t ∷ s ∷ f) o a = absurd o
 
+-- where no keys are equal, none are the first equal ones
+unequal : (ds : List Document) (n i j : ℕ) → NoEqualKeys ds → IsFirstEqual ds n i j → ⊥
+unequal ds n i j k r = k n r.is.marked r.is.numbered j i r.is.has
+
+-- ---- what was judged
+
+-- The trees are those of the documents with their entries in order, and nothing is wrong with them.
+pub record Judged (ds : List Document) (f : List Tree) : Type 0 where
+  pub trees : List Tree
+  pub unfolded : trees_of ds ≡ Ok trees
+  pub low : AllLow trees
+  pub few : AllFew trees
+  pub keys : NoEqualKeys ds
+  pub is : f ≡ map arranged trees
+
+same_trees : (o : Outcome (List Tree)) (f g : List Tree) → o ≡ Ok f → o ≡ Ok g → f ≡ g
+same_trees o f g e q = let k : ◌≡◌ {A = Outcome (List Tree)} (Ok f) (Ok g) = sym e ∙ q in cc
+
+pub judged : (ds : List Document) (n : Nodes) (f : List Tree) → Stands ds n → AreFew ds → NoEqualKeys ds → IsForest ds f → Judged ds f
+judged ds n f s w k h = record {
+  trees = h.trees;
+  unfolded = h.unfolded;
+  low = subst AllLow (same_trees (trees_of ds) s.trees h.trees s.unfolded h.unfolded) s.low;
+  few = subst AllFew (same_trees (trees_of ds) w.trees h.trees w.unfolded h.unfolded) w.few;
+  keys = k;
+  is = h.is;
+}
+
 -- ---- what was read
 
 module _ (bytes : List ℕ) (es : List Event) (d : SecondDocument bytes es) where
-  abbrev pub found : Outcome (List Tree)
-  found = trees_of (document_of d.root ∷ [])
+  abbrev pub documents : List Document
+  documents = document_of d.root ∷ []
 
   root_sound : Sound d.root
   root_sound =
@@ -110,46 +142,65 @@ module _ (bytes : List ℕ) (es : List Event) (d : SecondDocument bytes es) wher
       let p : q.0 ≡ document_of d.root ∷ [] = stream_once q.0 (document_of d.root ∷ []) (sym q.1 ∙ d.events) in
       (subst DocumentsSound p q.2).0
 
-  found_proper : (f : List Tree) → found ≡ Ok f → AllProper f
-  found_proper f e = read_is_proper (document_of d.root ∷ []) f (root_sound, tt) e
+  found_proper : (f : List Tree) → trees_of documents ≡ Ok f → AllProper f
+  found_proper f e = read_is_proper documents f (root_sound, tt) e
 
-  found_means : (f : List Tree) → found ≡ Ok f → Means bytes f
-  found_means f e = record { events = es; reads = d.reads; stands = record { documents = document_of d.root ∷ []; cut = d.events; unfolded = e } }
+  found_means : (f : List Tree) → trees_of documents ≡ Ok f → Means bytes f
+  found_means f e = record { events = es; reads = d.reads; stands = record { documents = documents; cut = d.events; unfolded = e } }
 
-  found_spoken : (f : List Tree) → found ≡ Ok f → AllFew f → Spoken f
+  found_spoken : (f : List Tree) → trees_of documents ≡ Ok f → AllFew f → Spoken f
   found_spoken f e few = let o = found_plain d.root f d.plain e in subst Spoken (sym o.is) (o.plain, (subst AllFew o.is few).0)
 
-  found_read : IsRead bytes (document_of d.root ∷ [])
+  found_read : IsRead bytes documents
   found_read = record { reads = subst (Reads bytes) d.events d.reads }
 
+  found_accepted : (g : List Tree) (h : Judged documents g) → Accepted bytes h.trees
+  found_accepted g h = record { documents = documents; read = found_read; unfolded = h.unfolded; low = h.low; few = h.few; keys = h.keys }
+
   -- the text of the forest found
-  pub found_text : (g : List Tree) (text : List ℕ) → IsForest found g → (AllArranged g → text ≡ spell_bytes g) → length text ≤ text_limit → IsCanonicalText bytes text
+  pub found_text : (g : List Tree) (text : List ℕ) → Judged documents g → (AllArranged g → text ≡ spell_bytes g) → length text ≤ text_limit → IsCanonicalText bytes text
   found_text g text h w fits = record {
     forest = h.trees;
-    means = found_means h.trees h.are;
-    spoken = found_spoken h.trees h.are h.bounded.1;
-    low = h.bounded.0;
+    means = found_means h.trees h.unfolded;
+    spoken = found_spoken h.trees h.unfolded h.few;
+    accepted = found_accepted g h;
     fits = fits;
     is = λ k. (
         let e : text ≡ spell_bytes h.trees = w (subst AllArranged (sym h.is) (arranged_all h.trees k)) ∙ ap spell_bytes h.is ∙ arranged_bytes h.trees k in
-        let a : Admitted h.trees = record { trees = admitted_all h.trees (found_proper h.trees h.are) k h.bounded.0; fits = subst (λ x. length x ≤ text_limit) e fits } in
+        let a : Admitted h.trees = record { trees = admitted_all h.trees (found_proper h.trees h.unfolded) k h.low; fits = subst (λ x. length x ≤ text_limit) e fits } in
         record { admitted = a; spelled = e; tells = λ g b. (let t = texts_tell h.trees g a b in (λ i. t.0 (sym (i ∙ e)), λ i. sym (t.1 i) ∙ sym e)) });
   }
 
-  -- a refusal of the forest is one of `canonical` and of `same`
-  pub forest_refused : (e : Fault) → RefusesForest found e → RefusedInReading bytes e
-  forest_refused (fault.UndefinedAlias n) r = (document_of d.root ∷ [], found_read, r)
-  forest_refused (fault.CyclicAlias n) r = (document_of d.root ∷ [], found_read, r)
-  forest_refused (fault.TooHigh n) (f, e, h) = (f, found_means f e, h)
-  forest_refused (fault.UnfoldsTooFar n) (f, e, h) = (f, found_means f e, h.0, h.1)
-  forest_refused fault.OutOfMemory r = tt
-  forest_refused _ r = absurd r
+  -- refusals of nodes, sizes and keys are those of `canonical` and of `same`
+  pub nodes_refused : (e : Fault) → RefusesNodes documents e → RefusedInReading bytes e
+  nodes_refused (fault.UndefinedAlias n) r = (documents, found_read, r)
+  nodes_refused (fault.CyclicAlias n) r = (documents, found_read, r)
+  nodes_refused (fault.TooHigh n) (f, e, h) = (f, found_means f e, h)
+  nodes_refused fault.OutOfMemory r = tt
+  nodes_refused _ r = absurd r
 
-  pub spelling_refused : (g : List Tree) (e : Fault) → IsForest found g → (AllArranged g → RefusesSpelling g e) → IsUnspelled e → CanonicalRefuses bytes e
+  pub sizes_refused : (e : Fault) → RefusesSize documents e → RefusedInReading bytes e
+  sizes_refused (fault.UnfoldsTooFar n) (f, e, l, h) = (f, found_means f e, l, h)
+  sizes_refused _ r = absurd r
+
+  pub keys_refused : (n : Nodes) (e : Fault) → Stands documents n → AreFew documents → RefusesKeys documents e → RefusedInReading bytes e
+  keys_refused n (fault.EqualKeys m i j) s w r = record {
+    documents = documents;
+    read = found_read;
+    trees = s.trees;
+    unfolded = s.unfolded;
+    low = s.low;
+    few = subst AllFew (same_trees (trees_of documents) w.trees s.trees w.unfolded s.unfolded) w.few;
+    is = r;
+  }
+  keys_refused n fault.OutOfMemory s w r = tt
+  keys_refused n _ s w r = absurd r
+
+  pub spelling_refused : (g : List Tree) (e : Fault) → Judged documents g → (AllArranged g → RefusesSpelling g e) → IsUnspelled e → CanonicalRefuses bytes e
   spelling_refused g fault.TextTooLong h r o = (
     h.trees,
-    found_means h.trees h.are,
-    h.bounded.0,
+    found_means h.trees h.unfolded,
+    found_accepted g h,
     λ k. subst (λ z. text_limit < length z) (ap spell_bytes h.is ∙ arranged_bytes h.trees k) (r (subst AllArranged (sym h.is) (arranged_all h.trees k))),
   )
   spelling_refused g fault.OutOfMemory h r o = tt
@@ -157,34 +208,39 @@ module _ (bytes : List ℕ) (es : List Event) (d : SecondDocument bytes es) wher
 
   -- ---- where the events are those spelled
 
-  pub spelled_found : (f : List Tree) → Admitted f → es ≡ spelled f → found ≡ Ok (map arranged f)
+  pub spelled_found : (f : List Tree) → Admitted f → es ≡ spelled f → trees_of documents ≡ Ok (map arranged f)
   spelled_found f a e =
       let s = spelled_stands f a.trees in
-      let p : document_of d.root ∷ [] ≡ s.documents = stream_once (document_of d.root ∷ []) s.documents (sym d.events ∙ e ∙ s.cut) in
+      let p : documents ≡ s.documents = stream_once documents s.documents (sym d.events ∙ e ∙ s.cut) in
       ap trees_of p ∙ s.unfolded
 
-  pub spelled_unrefused : (f : List Tree) (e : Fault) → Spoken f → Admitted f → found ≡ Ok (map arranged f) → RefusesForest found e → e ≡ fault.OutOfMemory
-  spelled_unrefused f (fault.UndefinedAlias n) s a q r = absurd (let k : ◌≡◌ {A = Outcome (List Tree)} (Ok (map arranged f)) (Err (undefined_alias, n)) = sym q ∙ r in cc)
-  spelled_unrefused f (fault.CyclicAlias n) s a q r = absurd (let k : ◌≡◌ {A = Outcome (List Tree)} (Ok (map arranged f)) (Err (cyclic_alias, n)) = sym q ∙ r in cc)
-  spelled_unrefused f (fault.TooHigh n) s a q (g, e, h) =
-      let k : ◌≡◌ {A = Outcome (List Tree)} (Ok g) (Ok (map arranged f)) = sym e ∙ q in
-      let p : g ≡ map arranged f = cc in
+  pub nodes_unrefused : (f : List Tree) (e : Fault) → Admitted f → es ≡ spelled f → RefusesNodes documents e → e ≡ fault.OutOfMemory
+  nodes_unrefused f (fault.UndefinedAlias n) a q r = absurd (let k : ◌≡◌ {A = Outcome (List Tree)} (Ok (map arranged f)) (Err (undefined_alias, n)) = sym (spelled_found f a q) ∙ r in cc)
+  nodes_unrefused f (fault.CyclicAlias n) a q r = absurd (let k : ◌≡◌ {A = Outcome (List Tree)} (Ok (map arranged f)) (Err (cyclic_alias, n)) = sym (spelled_found f a q) ∙ r in cc)
+  nodes_unrefused f (fault.TooHigh n) a q (g, e, h) =
+      let p : g ≡ map arranged f = same_trees (trees_of documents) g (map arranged f) e (spelled_found f a q) in
       absurd (none_wrong _ _ (λ t i j. (let x : ⊥ = omega (arith, i, j) in x)) n g (subst AllLow (sym p) (arranged_low f a.trees)) h)
-  spelled_unrefused f (fault.UnfoldsTooFar n) s a q (g, e, h) =
-      let k : ◌≡◌ {A = Outcome (List Tree)} (Ok g) (Ok (map arranged f)) = sym e ∙ q in
-      let p : g ≡ map arranged f = cc in
-      absurd (none_wrong _ _ (λ t. not_both (nodes t) nodes_limit) n g (subst AllFew (sym p) (arranged_few f s)) h.1)
+  nodes_unrefused f fault.OutOfMemory a q r = refl
+  nodes_unrefused f _ a q r = absurd r
+
+  pub sizes_unrefused : (f : List Tree) (e : Fault) → Spoken f → Admitted f → es ≡ spelled f → RefusesSize documents e → e ≡ fault.OutOfMemory
+  sizes_unrefused f (fault.UnfoldsTooFar n) s a q (g, e, l, h) =
+      let p : g ≡ map arranged f = same_trees (trees_of documents) g (map arranged f) e (spelled_found f a q) in
+      absurd (none_wrong _ _ (λ t. not_both (nodes t) nodes_limit) n g (subst AllFew (sym p) (arranged_few f s)) h)
     where
       not_both : (n m : ℕ) → n ≤ m → m < n → ⊥
       not_both n m i j = omega (arith, i, j)
-  spelled_unrefused f fault.OutOfMemory s a q r = refl
-  spelled_unrefused f _ s a q r = absurd r
+  sizes_unrefused f _ s a q r = absurd r
+
+  pub keys_unrefused : (f : List Tree) (e : Fault) → Admitted f → es ≡ spelled f → RefusesKeys documents e → e ≡ fault.OutOfMemory
+  keys_unrefused f (fault.EqualKeys m i j) a q r = absurd (unequal documents m i j (spelled_no_equal f a documents (sym q ∙ d.events)) r)
+  keys_unrefused f fault.OutOfMemory a q r = refl
+  keys_unrefused f _ a q r = absurd r
 
   -- the forest found is arranged, and its text is the one that was spelled
-  pub spelled_again : (f g : List Tree) → Admitted f → found ≡ Ok (map arranged f) → IsForest found g → AllArranged g × (spell_bytes g ≡ spell_bytes f)
+  pub spelled_again : (f g : List Tree) → Admitted f → es ≡ spelled f → Judged documents g → AllArranged g × (spell_bytes g ≡ spell_bytes f)
   spelled_again f g a q h =
-      let k : ◌≡◌ {A = Outcome (List Tree)} (Ok h.trees) (Ok (map arranged f)) = sym h.are ∙ q in
-      let p : h.trees ≡ map arranged f = cc in
+      let p : h.trees ≡ map arranged f = same_trees (trees_of documents) h.trees (map arranged f) h.unfolded (spelled_found f a q) in
       let e : g ≡ map arranged (map arranged f) = h.is ∙ ap (map arranged) p in
       let keys : AllKeyed (map arranged f) = arranged_keyed f a.trees in
       (subst AllArranged (sym e) (arranged_all (map arranged f) keys), ap spell_bytes e ∙ arranged_bytes (map arranged f) keys ∙ arranged_bytes f (keyed_all f a.trees))
@@ -220,18 +276,18 @@ arranged_alike [] (u ∷ g) k l = refl
 arranged_alike (t ∷ f) [] k l = refl
 arranged_alike (t ∷ f) (u ∷ g) k l = let p = arranged_same t u k.0 l.0 in let q = arranged_alike f g k.1 l.1 in λ z. p z && q z
 
-pub left_read : (bytes : List ℕ) (es : List Event) (d : SecondDocument bytes es) (f : List Tree) → IsForest (trees_of (document_of d.root ∷ [])) f → (g : List Tree) × Means bytes g × AllLow g
-left_read bytes es d f h = (h.trees, found_means bytes es d h.trees h.are, h.bounded.0)
+pub left_read : (bytes : List ℕ) (es : List Event) (d : SecondDocument bytes es) (n : Nodes) → Stands (documents bytes es d) n → (g : List Tree) × Means bytes g × AllLow g
+left_read bytes es d n h = (h.trees, found_means bytes es d h.trees h.unfolded, h.low)
 
 pub compared : (left : List ℕ) (es : List Event) (d : SecondDocument left es) (right : List ℕ) (fs : List Event) (k : SecondDocument right fs) (answer : Bool) (f g : List Tree)
-    → IsForest (trees_of (document_of d.root ∷ [])) f → IsForest (trees_of (document_of k.root ∷ [])) g → (AllArranged f → AllArranged g → answer ≡ pointwise same f g) → Compares left right answer
+    → Judged (documents left es d) f → Judged (documents right fs k) g → (AllArranged f → AllArranged g → answer ≡ pointwise same f g) → Compares left right answer
 compared left es d right fs k answer f g h i e = record {
   first = h.trees;
   second = i.trees;
-  first_means = found_means left es d h.trees h.are;
-  second_means = found_means right fs k i.trees i.are;
-  first_low = h.bounded.0;
-  second_low = i.bounded.0;
+  first_means = found_means left es d h.trees h.unfolded;
+  second_means = found_means right fs k i.trees i.unfolded;
+  first_accepted = found_accepted left es d f h;
+  second_accepted = found_accepted right fs k g i;
   tells = λ m n. (
       let p : f ≡ map arranged h.trees = h.is in
       let q : g ≡ map arranged i.trees = i.is in
