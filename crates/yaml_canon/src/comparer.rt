@@ -1,5 +1,5 @@
 //! Whether two streams are the same.
-ghost use Rattle.std.specs.Prelude.{◌≡◌, ℕ, List, map, IfOk, IfErr};
+ghost use Rattle.std.specs.Prelude.{◌≡◌, ℕ, List, true, None, map, IfOk, IfErr};
 ghost use Rattle.std.specs.Result.{result_map_both};
 ghost use Rattle.yaml_text.specs.EventModel.{event_of};
 ghost use Rattle.yaml_text.specs.Marked.{Document, stream_events};
@@ -34,7 +34,9 @@ fn on<T>(side: Side, answer: Result<T, Fault>) -> Result<T, (Side, Fault)>
 
 /// Whether the right side's equal keys are to be told: where there are none on the left, or where
 /// the mapping on the left is higher.
-fn tells_right(left: Option<Found>, right: Found) -> bool {
+fn tells_right(left: Option<Found>, right: Found) -> bool
+    ensures { left ≡ None → result ≡ true }
+{
     match left {
         None => true,
         Some(left) => right.height < left.height,
@@ -58,10 +60,14 @@ fn check_both(
 {
     let first = on(Side::Left, find_equal(alloc, left, left_nodes))?;
     let second = on(Side::Left, find_equal(alloc, right, right_nodes))?;
-    match (first, second) {
-        (_, Some(found)) if tells_right(first, found) => Err((Side::Right, refusal(found))),
-        (Some(found), _) => Err((Side::Left, refusal(found))),
-        _ => Ok(()),
+    if let Some(found) = second {
+        if tells_right(first, found) {
+            return Err((Side::Right, refusal(found)));
+        }
+    }
+    match first {
+        Some(found) => Err((Side::Left, refusal(found))),
+        None => Ok(()),
     }
 }
 
