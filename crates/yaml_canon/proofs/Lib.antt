@@ -47,4 +47,6 @@ pub mod SecondClaims
 pub mod Arranging
 pub mod KeyLaws
 pub mod EventLaws
+pub mod NodeTrees
+pub mod EventsLeft
 pub mod NodePlaces

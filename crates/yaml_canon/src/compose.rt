@@ -15,7 +15,7 @@ mod measure;
 use crate::tree::Tree;
 use composer::compose;
 use graph::forest;
-pub(crate) use keys::{EqualKeys, equal_keys};
+pub(crate) use keys::{EqualKeys, Found, equal_keys};
 pub(crate) use measure::Measure;
 use measure::of_roots;
 use std::alloc::Global;
