@@ -136,7 +136,8 @@ module _ (ls rs : List code.Event) (at : ℕ) (l r : code.Event) (h : at < lengt
 
 -- ---- equal places
 
-data Order (a b : ℕ) : Type 0 where
+-- which of two numbers is less
+pub data Order (a b : ℕ) : Type 0 where
   below : a < b → Order a b
   level : a ≡ b → Order a b
   above : b < a → Order a b
@@ -146,7 +147,7 @@ order_more a b (below h) = below (omega arith)
 order_more a b (level h) = level (omega arith)
 order_more a b (above h) = above (omega arith)
 
-order : (a b : ℕ) → Order a b
+pub order : (a b : ℕ) → Order a b
 order zero zero = level refl
 order zero (suc b) = below (omega arith)
 order (suc a) zero = above (omega arith)

@@ -47,5 +47,7 @@ pub mod SecondClaims
 pub mod Arranging
 pub mod KeyLaws
 pub mod EventLaws
+pub mod NodeTrees
+pub mod EventsLeft
 pub mod NodePlaces
 pub mod SpelledKeys

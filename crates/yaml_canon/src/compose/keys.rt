@@ -1,15 +1,12 @@
 //! Temporary: mappings of which two keys have one source text; equality of meaning replaces it.
-ghost use Rattle.std.specs.Prelude.{◌≡◌, ◌<◌, ◌≤◌, ◌+◌, ◌^◌, List, [], drop, length, map, IfOk, IfErr, IfSome, IfNone, Decides};
-ghost use Rattle.std.specs.Prelude.{Some, Ok};
-ghost use Rattle.std.specs.List.{slice_get, All};
+ghost use Rattle.std.specs.Prelude.{◌≡◌, ◌<◌, ◌≤◌, ◌+◌, ◌^◌, Bool, true, List, [], ◌∷◌, drop, length, map, IfOk, IfErr, IfSome, IfNone, Decides};
+ghost use Rattle.std.specs.List.{All};
 ghost use Rattle.yaml_text.specs.Event as plain;
-ghost use Rattle.yaml_text.specs.Tree.{Tree};
 ghost use Rattle.yaml_text.specs.Marked.{Marked, MarkedPairs, Document, flat, flat_pairs, stream_events};
-ghost use Rattle.yaml_text.specs.Unfold.{event_count, trees_of};
+ghost use Rattle.yaml_text.specs.Unfold.{event_count};
 ghost use Rattle.yaml_text.specs.EventModel.{event_of};
-ghost use Rattle.yaml_canon.specs.Composable.{Composable};
 ghost use Rattle.yaml_canon.specs.SourceKeys.{keys_in, NoEqualKeys, IsFirstEqual};
-ghost use Rattle.yaml_canon.specs.KeyModel.{sources, texts_of, closes_at, closings, open_after, PlaceFound, PlacesFound, FoundIn, IsMapping, Measured};
+ghost use Rattle.yaml_canon.specs.KeyModel.{sources, texts_of, closes_at, closings, begins_mapping, open_after, PlaceFound, PlacesFound, FoundIn, IsMapping, Measured, height_at, Earlier};
 
 use super::measure::Measure;
 use std::alloc::Global;
@@ -185,6 +182,7 @@ fn in_mapping(alloc: Global, events: &[Event<'_>], at: usize) -> Result<Option<E
 fn in_node(alloc: Global, events: &[Event<'_>], at: usize) -> Result<Option<EqualKeys>, Fault>
     requires { at < length events.now }
     ensures ok { (m : Marked) (more : List plain.Event) → map event_of (drop at events.now) ≡ flat m more → IfOk result (FoundIn m) }
+    ensures starts { IfOk result (λ found. IfSome found (λ keys. (e : plain.Event) (more : List plain.Event) → map event_of (drop at events.now) ≡ e ∷ more → begins_mapping e ≡ true)) }
     ensures within { IfOk result (λ found. IfSome found (λ keys. keys.node + at ≤ length events.now)) }
     ensures err { IfErr result (λ fault. fault ≡ Fault.OutOfMemory) }
 {
@@ -202,7 +200,9 @@ pub(crate) struct Found {
 }
 
 /// The one to be told: that of the lower mapping, or of the one with the lesser number.
-fn earlier(best: Option<Found>, other: Found) -> Found {
+fn earlier(best: Option<Found>, other: Found) -> Found
+    ensures { Earlier best other result }
+{
     match best {
         Some(best)
             if best.height < other.height
@@ -213,7 +213,7 @@ fn earlier(best: Option<Found>, other: Found) -> Found {
 
 /// The height of this node's unfolded tree.
 fn height_of(measures: &[Measure], node: usize) -> usize
-    ensures { (m : Measure) → slice_get measures.now node ≡ Some m → result ≡ m.height }
+    ensures { result ≡ height_at measures.now node }
 {
     match measures.get(node) {
         None => 0,
@@ -223,12 +223,32 @@ fn height_of(measures: &[Measure], node: usize) -> usize
 
 /// The mapping of which two keys have one source text: the one whose unfolded tree is lowest, of
 /// those the one of the least node number. Nodes are numbered over the whole stream in the order
-/// in which they close; an alias is none. Fails where memory does (21).
-pub(crate) fn equal_keys(alloc: Global, events: &[Event<'_>], measures: &[Measure]) -> Result<Option<Found>, Fault>
+/// in which they close; an alias is none. Of its entries the least second one is told, then the
+/// least first one. The measures are those of all nodes. Fails where memory does (21).
+pub(crate) fn equal_keys(
+    alloc: Global,
+    events: &[Event<'_>],
+    measures: &[Measure],
+) -> Result<Option<Found>, Fault>
     requires { (ds : List Document) → map event_of events.now ≡ stream_events ds → Measured ds measures.now }
     ensures none { (ds : List Document) → map event_of events.now ≡ stream_events ds → IfOk result (λ found. IfNone found (NoEqualKeys ds)) }
     ensures first { (ds : List Document) → map event_of events.now ≡ stream_events ds → IfOk result (λ found. IfSome found (λ best. IsFirstEqual ds best.keys.node best.keys.first best.keys.second)) }
     ensures err { IfErr result (λ fault. fault ≡ Fault.OutOfMemory) }
 {
-    Err(Fault::OutOfMemory)
+    let mut best = None;
+    let mut closed: usize = 0;
+    for (at, event) in events.iter().enumerate() {
+        if let Some(inside) = in_node(alloc, events, at)? {
+            let keys = EqualKeys {
+                node: closed + inside.node,
+                ..inside
+            };
+            let height = height_of(measures, keys.node);
+            best = Some(earlier(best, Found { height, keys }));
+        }
+        if is_close(event) {
+            closed += 1;
+        }
+    }
+    Ok(best)
 }

@@ -11,6 +11,7 @@ pub returns-in_default : goal.returns-in_default
 returns-in_default c =
     record {
       ok = λ m more e. other-node c.index-events-at.result c.in_default.not-MappingStart m more _ (first-event c.args.events.now c.args.at c.index-events-at.result m more c.requires c.index-events-at.is e);
+      starts = tt;
       within = tt;
       err = tt;
     }
