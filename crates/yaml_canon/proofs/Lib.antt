@@ -51,3 +51,4 @@ pub mod NodeTrees
 pub mod EventsLeft
 pub mod NodePlaces
 pub mod SpelledKeys
+pub mod CompareAnswers

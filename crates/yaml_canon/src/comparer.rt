@@ -1,6 +1,5 @@
 //! Whether two streams are the same.
-ghost use Rattle.std.specs.Prelude.{◌≡◌, ℕ, List, true, None, map, IfOk, IfErr};
-ghost use Rattle.std.specs.Result.{result_map_both};
+ghost use Rattle.std.specs.Prelude.{◌≡◌, ℕ, List, true, None, Ok, Err, map, IfOk, IfErr};
 ghost use Rattle.yaml_text.specs.EventModel.{event_of};
 ghost use Rattle.yaml_text.specs.Marked.{Document, stream_events};
 ghost use Rattle.yaml_text.specs.Tree.{Tree};
@@ -24,7 +23,8 @@ use yaml_text::fault::Fault;
 
 /// The answer for one side.
 fn on<T>(side: Side, answer: Result<T, Fault>) -> Result<T, (Side, Fault)>
-    ensures { result ≡ result_map_both (λ value. value) (λ fault. (side, fault)) answer }
+    ensures ok { IfOk result (λ value. answer ≡ Ok value) }
+    ensures err { IfErr result (λ refusal. (answer ≡ Err refusal.1) × (refusal.0 ≡ side)) }
 {
     match answer {
         Ok(value) => Ok(value),
