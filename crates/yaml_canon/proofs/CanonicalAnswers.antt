@@ -1,5 +1,5 @@
 -- What the last step of `canonical` says of the whole.
-use Rattle.std.proofs.Common.{◌≡◌, ℕ, ◌≤◌, List, [], ◌∷◌, length, IfOk, IfErr, MatchResult, Result, Ok, Err, sym, ◌∙◌, ap, subst}
+use Rattle.std.proofs.Common.{◌≡◌, ℕ, ◌≤◌, List, length, IfOk, IfErr, MatchResult, Result, Ok, Err, sym, ◌∙◌, ap, subst}
 use Rattle.std.specs.Result.{IsErrAnd}
 use Rattle.std.proofs.lemmas.Result.{err_from_is_err_and}
 use Rattle.yaml_text.specs.Limits.{text_limit}
@@ -11,11 +11,9 @@ use Rattle.yaml_text.specs.declared.fault.Fault.{Fault}
 use Rattle.yaml_text.specs.declared.fault.Fault.TheVariants as fault
 use Rattle.yaml_canon.specs.Arranged.{AllArranged}
 use Rattle.yaml_canon.specs.Claims.{IsCanonicalText, RefusedInReading, CanonicalRefuses}
-use Rattle.yaml_canon.specs.Forest.{Stands, AreFew, RefusesNodes, RefusesSize, RefusesKeys}
-use Rattle.yaml_canon.specs.declared.forest.Nodes.{Nodes}
 use Rattle.yaml_canon.specs.Refusal.{RefusesSpelling, IsUnspelled}
 use Rattle.yaml_canon.specs.SecondDocument.{SecondDocument}
-use Rattle.yaml_canon.proofs.SecondClaims.{Judged, documents, found_text, nodes_refused, sizes_refused, keys_refused, spelling_refused, admitted_spelled}
+use Rattle.yaml_canon.proofs.SecondClaims.{Judged, documents, found_text, spelling_refused, admitted_spelled}
 
 -- at the exit of a `?`
 pub err_refused : {X : Type 0} (P : Fault → Type 0) (r : Result X Fault) (e : Fault) → IsErrAnd r (λ y. y ≡ e) → P e → IfErr r P

@@ -4,13 +4,13 @@ use Rattle.yaml_text.specs.Tree.{Tree}
 use Rattle.yaml_text.specs.Order.{arranged}
 use Rattle.yaml_text.specs.Core.{undefined_alias, cyclic_alias}
 use Rattle.yaml_text.specs.Marked.{Document}
-use Rattle.yaml_text.specs.Unfold.{Outcome, trees_of}
+use Rattle.yaml_text.specs.Unfold.{trees_of}
 use Rattle.yaml_text.specs.declared.fault.Fault.{Fault}
 use Rattle.yaml_text.specs.declared.fault.Fault.TheVariants.{UndefinedAlias, CyclicAlias, TooHigh, EqualKeys, OutOfMemory, UnfoldsTooFar}
 use Rattle.yaml_canon.specs.Claims.{AllLow, AllFew, IsFirstHigh, IsFirstFar}
 use Rattle.yaml_canon.specs.ComposerModel.{Rooted}
 use Rattle.yaml_canon.specs.Measure.{measure_of}
-use Rattle.yaml_canon.specs.SourceKeys.{NoEqualKeys, IsFirstEqual, stream_trees}
+use Rattle.yaml_canon.specs.SourceKeys.{IsFirstEqual, stream_trees}
 use Rattle.yaml_canon.specs.declared.forest.Nodes.{Nodes}
 
 -- these are the nodes of the documents, and none of their trees is too high

@@ -101,7 +101,11 @@ pub(crate) fn refusal(found: Found) -> Fault
 }
 
 /// Refuses equal keys (19).
-pub(crate) fn check_keys(alloc: Global, events: &[Event<'_>], nodes: &Nodes<'_>) -> Result<(), Fault>
+pub(crate) fn check_keys(
+    alloc: Global,
+    events: &[Event<'_>],
+    nodes: &Nodes<'_>,
+) -> Result<(), Fault>
     requires { (ds : List Document) → map event_of events.now ≡ stream_events ds → Stands ds nodes.now }
     ensures { (ds : List Document) → map event_of events.now ≡ stream_events ds → MatchResult result (λ _. NoEqualKeys ds) (RefusesKeys ds) }
 {

@@ -1,4 +1,4 @@
-use Rattle.std.proofs.Common.{◌≡◌, sym, ◌∙◌, subst, IfOk, IfNone}
+use Rattle.std.proofs.Common.{subst, IfOk, IfNone}
 use Rattle.yaml_canon.specs.SourceKeys.{NoEqualKeys}
 use Rattle.yaml_canon.proofs.CompareAnswers.{no_some, untold}
 use Rattle.yaml_canon.proofs.comparer.check_both.Goals as goal

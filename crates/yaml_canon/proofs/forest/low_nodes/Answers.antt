@@ -1,5 +1,4 @@
 use Rattle.std.proofs.Common.{sym, ◌∙◌, subst, ap, map}
-use Rattle.yaml_canon.specs.SourceKeys.{stream_trees}
 use Rattle.yaml_canon.specs.Measure.{measure_of}
 use Rattle.yaml_canon.proofs.BoundLemmas.{High, high_tells}
 use Rattle.yaml_canon.proofs.MeasureLaws.{all-measured, roots-within, roots-measured}
