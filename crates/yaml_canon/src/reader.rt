@@ -1,7 +1,5 @@
-//! Temporary: reads the streams of the first path; the crate `yaml_read` replaces it.
-ghost use Rattle.std.specs.Prelude.{◌≡◌, ◌≢◌, ◌≤◌, ◌<◌, ◌+◌, ◌∷◌, [], IfOk, IfErr, IfSome, IfNone, Some, None, slice_get, slice_range, ℕ, List, map, length, encode_utf8_all};
-ghost use Rattle.std.specs.Bool.{OnTrue, OnFalse};
-ghost use Rattle.std.specs.Result.{result_map_both};
+//! Temporary: reads what stands on one line between nodes, and double-quoted scalars; the crate `yaml_read` replaces it.
+ghost use Rattle.std.specs.Prelude.{◌≡◌, ◌≢◌, ◌≤◌, ◌<◌, IfOk, IfErr, IfSome, IfNone, Some, slice_get, slice_range, ℕ, length, encode_utf8_all};
 ghost use Rattle.std.specs.Char.{IsScalar, is_ascii_hexdigit};
 ghost use Rattle.std.specs.Str.{chars};
 ghost use Rattle.std.specs.Str.Parse.{digits_value};
@@ -9,22 +7,17 @@ ghost use Rattle.std.specs.String.{string_bytes};
 ghost use Rattle.std.specs.Cow.{cow_str_bytes};
 ghost use Rattle.yaml_text.specs.Place.{Steps};
 ghost use Rattle.yaml_text.specs.Source.{bytes_of, text_of, place_of, IsBorder};
-ghost use Rattle.yaml_text.specs.EventModel.{event_of};
 ghost use Rattle.yaml_text.specs.grammar.Rules.{Stands, seen, run, exactly};
 ghost use Rattle.yaml_text.specs.grammar.Characters.{is_space, short_escape, brk, numbered, escape};
-ghost use Rattle.yaml_canon.specs.FirstPath.{is_verbatim, digit_count, spaces, double_line, quoted_rest, sequence, node, AfterReturn, tail, document, content, ReadsFirst};
-ghost use Rattle.yaml_canon.specs.FirstAnswer.{Refuses, Answers, Finds, Appends, Unread, LeadsOn, ReadsAll};
+ghost use Rattle.yaml_canon.specs.FirstPath.{is_verbatim, digit_count, spaces, double_line, quoted_rest, AfterReturn, tail};
+ghost use Rattle.yaml_canon.specs.FirstAnswer.{Refuses, Answers, Finds, Unread};
 
 use std::alloc::Global;
 use std::borrow::CowStr;
 use yaml_text::chars::Chars;
 use yaml_text::class::is_break;
-use yaml_text::event::{Event, EventTag, Style};
 use yaml_text::fault::Fault;
 use yaml_text::places::{accept, is_end, next, text_between};
-
-#[cfg(test)]
-mod tests;
 
 /// How many collections may be open at one place.
 pub(crate) const OPEN_LIMIT: u32 = 128;
@@ -272,90 +265,6 @@ pub(crate) fn read_double<'a>(
     }
 }
 
-// ---- nodes
-
-/// A node in which `room` collections may be open, one inside another, and the border after it.
-#[cycle(nodes)]
-fn read_node<'a>(
-    alloc: Global,
-    source: &Chars<'a>,
-    at: usize,
-    room: u32,
-    out: &mut Vec<Event<'a>>,
-) -> Result<usize, Fault>
-    requires { IsBorder source.now at }
-    ensures border { IfOk result (λ to. IsBorder source.now to) }
-    ensures onward { IfOk result (λ to. at < to) }
-    ensures reads { Appends (node (text_of source.now) room) (place_of source.now at)
-        (place_of source.now) out.old.items out.new.items result }
-{
-    match accept(source, at, '[') {
-        Some(inside) => {
-            if room == 0 {
-                Err(Fault::TooDeep(source.pos(at)))
-            } else {
-                read_sequence(alloc, source, at, inside, room - 1, out)
-            }
-        }
-        None => {
-            let (text, to) = read_double(alloc, source, at)?;
-            out.push(Event::Scalar {
-                anchor: None,
-                tag: EventTag::None,
-                style: Style::Double,
-                text,
-            })?;
-            Ok(to)
-        }
-    }
-}
-
-/// A flow sequence, from its bracket at `at` on, in whose nodes `room` collections may be open.
-#[cycle(nodes)]
-fn read_sequence<'a>(
-    alloc: Global,
-    source: &Chars<'a>,
-    at: usize,
-    inside: usize,
-    room: u32,
-    out: &mut Vec<Event<'a>>,
-) -> Result<usize, Fault>
-    requires opened { Steps (bytes_of source.now) at 91 inside }
-    ensures border { IfOk result (λ to. IsBorder source.now to) }
-    ensures onward { IfOk result (λ to. at < to) }
-    ensures reads { Appends (sequence (text_of source.now) (node (text_of source.now) room)) (place_of source.now at)
-        (place_of source.now) out.old.items out.new.items result }
-{
-    out.push(Event::SequenceStart {
-        flow: true,
-        anchor: None,
-        tag: EventTag::None,
-    })?;
-    let mut here = skip_spaces(source, inside);
-    'items: loop {
-        match accept(source, here, ']') {
-            Some(end) => {
-                out.push(Event::SequenceEnd)?;
-                return Ok(end);
-            }
-            None => {
-                let item = read_node(alloc, source, here, room, out)?;
-                let after = skip_spaces(source, item);
-                match accept(source, after, ']') {
-                    Some(end) => {
-                        out.push(Event::SequenceEnd)?;
-                        return Ok(end);
-                    }
-                    None => match accept(source, after, ',') {
-                        Some(to) => here = skip_spaces(source, to),
-                        None => return Err(unusable(source, after)),
-                    },
-                }
-            }
-        }
-    }
-}
-
 // ---- the document
 
 /// The border after the break that stands at a border, which no CR stands before.
@@ -402,37 +311,4 @@ pub(crate) fn read_tail(source: &Chars<'_>, at: usize) -> Result<(), Fault>
             }
         }
     }
-}
-
-/// The border after the mark of the document and the spaces that follow it.
-fn read_mark(source: &Chars<'_>) -> Result<usize, Fault>
-    ensures border { IfOk result (IsBorder source.now) }
-    ensures reads { LeadsOn (document (text_of source.now)) 0 (content (text_of source.now)) (place_of source.now) result }
-{
-    let first = expect(source, 0, '-')?;
-    let second = expect(source, first, '-')?;
-    let third = expect(source, second, '-')?;
-    match accept(source, third, ' ') {
-        Some(space) => Ok(skip_spaces(source, space)),
-        None => Err(unusable(source, third)),
-    }
-}
-
-/// The events of a stream of the first path, from its start to its end.
-///
-/// Refused are, with the input offset of the first character that cannot be used: a tab where
-/// separation may stand, the bracket of a 129th open collection, the backslash of an escape that
-/// there is not, and anything else that the productions do not go on with.
-pub(crate) fn read_events<'a>(alloc: Global, source: &Chars<'a>) -> Result<Vec<Event<'a>>, Fault>
-    ensures { ReadsAll (ReadsFirst (text_of source.now)) (result_map_both (λ v. map event_of v.items) (λ e. e) result) }
-{
-    let start = read_mark(source)?;
-    let mut out = Vec::new(alloc);
-    out.push(Event::StreamStart)?;
-    out.push(Event::DocumentStart { explicit: true })?;
-    let end = read_node(alloc, source, start, OPEN_LIMIT, &mut out)?;
-    read_tail(source, end)?;
-    out.push(Event::DocumentEnd { explicit: false })?;
-    out.push(Event::StreamEnd)?;
-    Ok(out)
 }

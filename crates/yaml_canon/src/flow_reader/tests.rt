@@ -84,6 +84,57 @@ fn reads_nodes_of_each_kind(rt: HostRuntime) -> Result<(), Fail> {
 }
 
 #[test]
+fn reads_sequences_and_scalars(rt: HostRuntime) -> Result<(), Fail> {
+    for (input, want) in [
+        ("--- [\"x\",[ \"y\" ],[]]\n", "[<x>[<y>][]]"),
+        ("--- \"\\x41\\/\"", "<A/>"),
+        ("--- [\"x\",]", "[<x>]"),
+        ("--- [\"x\", \"x\"]", "[<x><x>]"),
+        ("---  [ \"x\" , [  ] , ]  \r\n", "[<x>[]]"),
+        ("--- []\r", "[]"),
+        ("--- \"\"", "<>"),
+        ("--- \"a b\tc\u{e9}\u{1f600}\"  ", "<a b\tc\u{e9}\u{1f600}>"),
+        ("\u{feff}--- \"x\"", "<x>"),
+    ] {
+        assert_eq!(rt;
+            shown(rt.alloc(), input),
+            Ok(String::from_str(rt.alloc(), want)?),
+            "at {input}"
+        );
+    }
+    Ok(())
+}
+
+#[test]
+fn reads_each_escape(rt: HostRuntime) -> Result<(), Fail> {
+    for (input, want) in [
+        (
+            "--- \"\\0\\a\\b\\t\\\t\\n\\v\\f\\r\\e\"",
+            "<\0\x07\x08\t\t\n\x0b\x0c\r\x1b>",
+        ),
+        (
+            "--- \"\\ \\\"\\/\\\\\\N\\_\\L\\P\"",
+            "< \"/\\\u{85}\u{a0}\u{2028}\u{2029}>",
+        ),
+        (
+            "--- \"a\\x41b\\u00e9\\u00E9c\\U0001F600d\"",
+            "<aAb\u{e9}\u{e9}c\u{1f600}d>",
+        ),
+        (
+            "--- \"\\U0010FFFF\\uD7FF\\uE000\"",
+            "<\u{10ffff}\u{d7ff}\u{e000}>",
+        ),
+    ] {
+        assert_eq!(rt;
+            shown(rt.alloc(), input),
+            Ok(String::from_str(rt.alloc(), want)?),
+            "at {input}"
+        );
+    }
+    Ok(())
+}
+
+#[test]
 fn names_the_first_character_that_cannot_be_used(rt: HostRuntime) {
     for (input, want) in [
         ("", 0),
@@ -125,6 +176,33 @@ fn names_the_first_character_that_cannot_be_used(rt: HostRuntime) {
         ("--- \"x\" : \"y\"", 8),
         ("--- \"x\"\n--- \"y\"", 8),
         ("\u{feff}--- {,}", 8),
+        ("-", 1),
+        ("--", 2),
+        ("---", 3),
+        ("---\n", 3),
+        ("---x", 3),
+        ("\t--- \"x\"", 0),
+        ("--- ", 4),
+        ("--- 'x'", 4),
+        ("--- \"x", 6),
+        ("--- \"x\n\"", 6),
+        ("--- \"x\r\"", 6),
+        ("--- \"\\x41", 9),
+        ("--- \"\\\n\"", 6),
+        ("--- [\"x\",,]", 9),
+        ("--- [\"x\" \"y\"]", 9),
+        ("--- [\n]", 5),
+        ("--- [", 5),
+        ("--- [\"x\"", 8),
+        ("--- [\"x\",", 9),
+        ("--- [\"x\": \"y\"]", 8),
+        ("--- \"x\"y", 7),
+        ("--- \"x\" # c", 8),
+        ("--- \"x\"\n\n", 8),
+        ("--- \"x\"\r\n\n", 9),
+        ("--- \"x\"\n...", 8),
+        ("--- \"x\"\n\t", 8),
+        ("\u{feff}--- [,]", 8),
     ] {
         assert_eq!(rt;
             shown(rt.alloc(), input),
@@ -149,6 +227,15 @@ fn refuses_a_tab_where_separation_stands(rt: HostRuntime) {
         ("--- &a\t\"x\"", 6),
         ("--- &a \t\"x\"", 7),
         ("--- *a\t", 6),
+        ("---\t\"x\"", 3),
+        ("--- \t\"x\"", 4),
+        ("--- [\t]", 5),
+        ("--- [\"x\"\t]", 8),
+        ("--- [\"x\",\t\"y\"]", 9),
+        ("--- [\"x\" \t]", 9),
+        ("--- \"x\"\t", 7),
+        ("--- \"x\" \t", 8),
+        ("\u{feff}---\t\"x\"", 6),
     ] {
         assert_eq!(rt;
             shown(rt.alloc(), input),
@@ -160,14 +247,28 @@ fn refuses_a_tab_where_separation_stands(rt: HostRuntime) {
 
 #[test]
 fn refuses_what_is_no_escape(rt: HostRuntime) {
-    assert_eq!(rt;
-        shown(rt.alloc(), "--- {\"\\q\":\"\"}"),
-        Err(Fault::BadEscape(6))
-    );
-    assert_eq!(rt;
-        shown(rt.alloc(), "--- &\u{e9} \"\\ud800\""),
-        Err(Fault::BadEscape(9))
-    );
+    for (input, want) in [
+        ("--- \"\\q\"", 5),
+        ("--- \"ab\\'\"", 7),
+        ("--- \"\\", 5),
+        ("--- \"\\u12", 5),
+        ("--- \"\\x4\"", 5),
+        ("--- \"\\x4g\"", 5),
+        ("--- \"\\u+123\"", 5),
+        ("--- \"\\ud800\"", 5),
+        ("--- \"\\uDFFF\"", 5),
+        ("--- \"\\U00110000\"", 5),
+        ("--- \"\\UFFFFFFFF\"", 5),
+        ("--- [\"\u{e9}\\X41\"]", 8),
+        ("--- {\"\\q\":\"\"}", 6),
+        ("--- &\u{e9} \"\\ud800\"", 9),
+    ] {
+        assert_eq!(rt;
+            shown(rt.alloc(), input),
+            Err(Fault::BadEscape(want)),
+            "at {input}"
+        );
+    }
 }
 
 /// So many sequences inside one another, with mappings between them.
@@ -244,5 +345,33 @@ fn gives_the_whole_stream_and_borrows_names(rt: HostRuntime) -> Result<(), Fail>
     assert_eq!(rt; events[5], Event::MappingEnd);
     assert_eq!(rt; events[6], Event::DocumentEnd { explicit: false });
     assert_eq!(rt; events[7], Event::StreamEnd);
+    Ok(())
+}
+
+#[test]
+fn borrows_a_scalar_that_has_no_escape(rt: HostRuntime) -> Result<(), Fail> {
+    let source = Chars::read("--- [\"x\",\"\\x79\"]".as_bytes())?;
+    let events = read_events(rt.alloc(), &source)?;
+    assert_eq!(rt; events.len(), 8);
+    assert_eq!(rt;
+        matches!(
+            events[3],
+            Event::Scalar {
+                text: CowStr::Borrowed(_),
+                ..
+            }
+        ),
+        true
+    );
+    assert_eq!(rt;
+        matches!(
+            events[4],
+            Event::Scalar {
+                text: CowStr::Owned(_),
+                ..
+            }
+        ),
+        true
+    );
     Ok(())
 }
