@@ -1,27 +1,23 @@
 -- The productions of the first path give the text of marks without anchors, aliases, tags and mappings.
-use Rattle.std.proofs.Common.{◌≡◌, ℕ, zero, suc, ◌+◌, ◌/◌, ◌%◌, ◌<◌, ◌≤◌, ◌⊎◌, ◌==◌, not, ◌&&◌, nat_lt, Bool, true, false, inl, inr, Some, None, List, [], ◌∷◌, ◌++◌, length, slice_get, chars, refl, sym, ◌∙◌, ap, subst, arith, append_assoc}
+use Rattle.std.proofs.Common.{◌≡◌, ℕ, zero, suc, ◌+◌, ◌/◌, ◌%◌, ◌<◌, ◌≤◌, ◌⊎◌, ◌==◌, not, ◌&&◌, nat_lt, Bool, true, false, inl, inr, Some, List, [], ◌∷◌, ◌++◌, length, slice_get, refl, sym, ◌∙◌, ap, subst, arith}
 use Rattle.std.proofs.lemmas.Bool.{cond_both, eqb-true, ltb-true}
 use Rattle.std.proofs.lemmas.Bool.Decides.{nat_tests}
-use Rattle.std.proofs.lemmas.Str.{encodes-chars, scalars-chars, IsUtf8-from_is_utf8}
 use Rattle.std.proofs.Math.Nat.{eq-or-lt_of_le}
 use Rattle.std.specs.Prelude.{slice_range}
-use Rattle.std.specs.Str.{is_utf8}
 use Rattle.std.specs.Str.Parse.{digits_value}
 use Rattle.std.specs.Char.{digit_value, is_ascii_hexdigit}
 use lib.Utf8.{scalar, scalars}
-use Rattle.yaml_text.specs.Event.{Event, untagged, double as double_quoted, sequence_start, sequence_end, mapping_start, mapping_end, scalar_event}
+use Rattle.yaml_text.specs.Event.{Event, sequence_start, sequence_end, mapping_start, mapping_end}
 use Rattle.yaml_text.specs.Marked.{Marked, AllMarked, MarkedPairs, alias, scalar_at, sequence_at, mapping_at, end_marks, item_mark, done_marks, entry_marks, flat, flat_all, flat_pairs}
 use Rattle.yaml_text.specs.CharText.{is_plain, hex_digit, spell_char}
-use Rattle.yaml_text.specs.TagText.{tag_text}
-use Rattle.yaml_text.specs.NodeText.{quoted, text, items_text}
+use Rattle.yaml_text.specs.NodeText.{quoted}
 use Rattle.yaml_text.specs.grammar.Rules.{done, then, run, Stands}
 use Rattle.yaml_text.specs.grammar.Characters.{is_break, is_nb, is_ns, is_white, is_space, short_escape, numbered, escape}
 use Rattle.yaml_text.specs.grammar.FlowScalars.{double_char}
 use Rattle.yaml_text.proofs.Members.{and_both}
 use Rattle.yaml_text.proofs.CharLaws.{tails, low}
 use Rattle.yaml_text.proofs.PlaceLemmas.{slice_one, slice_snoc}
-use Rattle.yaml_canon.specs.FirstPath.{piece, quoted_rest, double_line, scalar_node, spaces, items_rest, node}
-use Rattle.yaml_canon.specs.SimpleMarks.{Simple, AllSimple, depth, depths}
+use Rattle.yaml_canon.specs.FirstPath.{piece, quoted_rest, spaces}
 
 -- ---- what stands from a place on
 
@@ -165,14 +161,6 @@ module _ (cs : List ℕ) where
       let q = pieces xs p.0 r h.1 p.2 in
       (q.0, (q.1.0, then p.0 (c ∷ []) xs p.1 q.1.1 refl, q.1.2), q.2)
 
-  double_read : (x : List ℕ) (i : ℕ) (r : List ℕ) → is_utf8 x ≡ true → At cs i (34 ∷ quoted (chars x) r)
-      → (k : ℕ) × scalar_node cs i k (scalar_event None untagged double_quoted x ∷ []) × At cs k r
-  unfolding double_line
-  double_read x i r u a =
-      let v = IsUtf8-from_is_utf8 x u in
-      let p = pieces (chars x) (i + 1) r (scalars-chars x v) (at_next cs i 34 _ a) in
-      (p.0, (chars x, (i + 1, (at_get cs i 34 _ a, refl), p.1), ap (λ z. scalar_event None untagged double_quoted z ∷ []) (sym (encodes-chars x v))), p.2)
-
 -- ---- nodes
 
 mutual
@@ -199,62 +187,3 @@ module _ (cs : List ℕ) where
   pub one : (i : ℕ) → slice_get cs i ≡ Some 32 → spaces cs i (i + 1)
   unfolding is_space
   one i e = (omega arith, λ k l m. let q : i ≡ k = omega (arith, l, m) in (32, subst (λ z. slice_get cs z ≡ Some 32) q e, refl))
-
-  -- a scalar, with whatever room
-  leaf : (room i j : ℕ) (es : List Event) → scalar_node cs i j es → node cs room i j es
-  unfolding node
-  leaf zero i j es d = d
-  leaf (suc room) i j es d = inl d
-
-  -- whatever follows
-  abbrev Derived : Marked → ℕ → ℕ → Type 0
-  Derived t room i = (r : List ℕ) → At cs i (text t r) → (j : ℕ) × node cs room i j (flat t []) × At cs j r
-
-  mutual
-    unfolding text flat node
-
-    pub derive : (t : Marked) (room i : ℕ) (r : List ℕ) → Simple t → depth t ≤ room → At cs i (text t r) → (j : ℕ) × node cs room i j (flat t []) × At cs j r
-    derive (alias n) room i r s l a = absurd s
-    derive (mapping_at o g b ps) room i r s l a = absurd s
-    derive (sequence_at o g b ts) zero i r s l a = absurd (omega arith)
-    derive (scalar_at (Some o) g y x) room i r s l a = absurd (cc s.0)
-    derive (sequence_at (Some o) g b ts) (suc room) i r s l a = absurd (cc s.0)
-    derive (scalar_at None g y x) room i r s l a =
-        let f : At cs i (34 ∷ quoted (chars x) r) = subst (λ z. At cs i (tag_text z ++ (34 ∷ quoted (chars x) r))) s.1 a in
-        let d = double_read cs x i r s.3 f in
-        let e : ◌≡◌ {A = List Event} (scalar_event None untagged double_quoted x ∷ []) (scalar_event None g y x ∷ []) = λ z. scalar_event None (sym s.1 z) (sym s.2 z) x ∷ [] in
-        (d.0, subst (node cs room i d.0) e (leaf room i d.0 _ d.1), d.2)
-    derive (sequence_at None g b ts) (suc room) i r s l a =
-        let f : At cs i (91 ∷ items_text [] ts r) = subst (λ z. At cs i (tag_text z ++ (91 ∷ items_text [] ts r))) s.1 a in
-        let n = at_next cs i 91 (items_text [] ts r) f in
-        let d = list ts room (i + 1) r s.3 (omega arith) n in
-        (d.0, inr (flat_all ts [], (i + 1, (at_get cs i 91 _ f, refl), (i + 1, none (i + 1), d.1)), λ z. sequence_start (s.2 z) None (s.1 z) ∷ all_more ts [] (sequence_end ∷ []) z), d.2)
-
-    list : (ts : AllMarked) (room i : ℕ) (r : List ℕ) → AllSimple ts → depths ts ≤ room → At cs i (items_text [] ts r) → (j : ℕ) × items_rest cs (node cs room) i j (flat_all ts []) × At cs j r
-    list end_marks room i r s l a = (i + 1, (i, [], [], done refl refl, (i, inl (refl, refl), (at_get cs i 93 r a, refl)), refl), at_next cs i 93 r a)
-    list (item_mark t ts) room i r s l a = some ts t room i r (λ q b. derive t room i q s.0 (omega arith) b) s.1 (omega arith) a
-
-    -- an item, and those after it
-    some : (ts : AllMarked) (t : Marked) (room i : ℕ) (r : List ℕ) → Derived t room i → AllSimple ts → depths ts ≤ room → At cs i (text t (items_text (44 ∷ 32 ∷ []) ts r))
-        → (j : ℕ) × items_rest cs (node cs room) i j (flat t (flat_all ts [])) × At cs j r
-    some end_marks t room i r derived q m a =
-        let d = derived (93 ∷ r) a in
-        (d.0 + 1, (i, [], flat t [], done refl refl, (d.0, inr (d.0, d.1, none d.0), (at_get cs d.0 93 r d.2, refl)), refl), at_next cs d.0 93 r d.2)
-    some (item_mark u us) t room i r derived q m a =
-        let rest : List ℕ = text u (items_text (44 ∷ 32 ∷ []) us r) in
-        let d = derived (44 ∷ 32 ∷ rest) a in
-        let n = at_next cs d.0 44 (32 ∷ rest) d.2 in
-        let k : ℕ = d.0 + 1 in
-        let p = some us u room (k + 1) r (λ x b. derive u room (k + 1) x q.0 (omega arith) b) q.1 (omega arith) (at_next cs k 32 rest n) in
-        let e : flat t (flat u (flat_all us [])) ≡ flat t [] ++ flat u (flat_all us []) = flat_more t [] (flat u (flat_all us [])) in (
-          p.0,
-          (
-            p.1.0,
-            flat t [] ++ p.1.1,
-            p.1.2,
-            then (k + 1) (flat t []) p.1.1 (d.0, (d.0, d.1, none d.0), (k, (at_get cs d.0 44 _ d.2, refl), one k (at_get cs k 32 _ n))) p.1.3 refl,
-            p.1.4,
-            e ∙ (ap (λ z. flat t [] ++ z) p.1.5 ∙ sym (append_assoc (flat t []) p.1.1 p.1.2)),
-          ),
-          p.2,
-        )

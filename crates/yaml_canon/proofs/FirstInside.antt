@@ -1,20 +1,15 @@
 -- The streams of the first path are streams by the whole grammar, with the same events.
-use Rattle.std.proofs.Common.{◌≡◌, ℕ, zero, suc, ◌+◌, ◌-◌, ◌<◌, ◌≤◌, ◌⊎◌, nat_lt, inl, inr, Bool, true, false, not, ◌&&◌, ◌==◌, Option, Some, List, [], ◌∷◌, length, slice_get, refl, sym, ◌∙◌, ap, subst, arith, append_assoc}
-use Rattle.std.proofs.lemmas.List.{append-nil}
+use Rattle.std.proofs.Common.{◌≡◌, ℕ, ◌+◌, ◌-◌, ◌<◌, ◌≤◌, ◌⊎◌, nat_lt, inl, inr, Bool, true, false, not, ◌&&◌, ◌==◌, Option, Some, List, length, slice_get, refl, sym, ◌∙◌, subst, arith}
 use Rattle.std.proofs.lemmas.Bool.{false≢true}
 use Rattle.std.proofs.lemmas.Bool.Decides.{nat_tests}
 use Rattle.std.proofs.Math.Nat.{eq-or-lt_of_le}
 use Rattle.std.specs.Char.{is_ascii_hexdigit}
-use Rattle.yaml_text.specs.Limits.{open_limit}
-use Rattle.yaml_text.specs.Event.{Event, double as double_quoted, document_end, stream_end, stream_start, document_start}
-use Rattle.yaml_text.specs.grammar.Rules.{Rule, Span, Any, done, then, Spans, chr, word, run, letter, Stands, ◌◆◌, ◌▸◌, ◌◂◌, ◌∪◌, optional, maybe, seen}
+use Rattle.yaml_text.specs.Event.{Event}
+use Rattle.yaml_text.specs.grammar.Rules.{Rule, Span, Any, done, then, Spans, chr, run, letter, Stands, ◌◆◌, ◌▸◌, maybe}
 use Rattle.yaml_text.specs.grammar.Characters.{short_escape, is_break, is_nb, is_ns, is_space, is_white, brk, numbered, escape}
-use Rattle.yaml_text.specs.grammar.Separation.{Ctx, comment, block_in, flow_out, flow_in, inner, OneLine, StartsLine, Mark, MarkOf, Unmarked, sep, line_end, s_b_comment, s_l_comments, separate, separate_lines}
-use Rattle.yaml_text.specs.grammar.FlowScalars.{double_char, double}
-use Rattle.yaml_text.specs.grammar.Events.{no_props, scalar}
-use Rattle.yaml_text.specs.grammar.Nodes.{pair_part, yaml_part, json_node, flow_node, flow_seq, block_node, json_part, block_part, reads}
-use Rattle.yaml_text.specs.grammar.Streams.{Piece, document_piece, document_mark, bare_document, explicit_document, any_document, stream, stream_events, piece_events, ends_explicitly, ReadsText}
-use Rattle.yaml_canon.specs.FirstPath.{spaces, piece, double_line, scalar_node, comma, item, sequence, node, tail, ReadsFirst}
+use Rattle.yaml_text.specs.grammar.Separation.{Ctx, comment, flow_out, flow_in, OneLine, StartsLine, Mark, MarkOf, Unmarked, sep, line_end, s_b_comment, s_l_comments, separate, separate_lines}
+use Rattle.yaml_text.specs.grammar.FlowScalars.{double_char}
+use Rattle.yaml_canon.specs.FirstPath.{spaces, piece, double_line, comma, tail}
 
 -- ---- stretches
 
@@ -43,10 +38,6 @@ space_no_break c h = grind (arith, nat_tests)
 hex_no_break : (c : ℕ) → is_ascii_hexdigit c ≡ true → is_break c ≡ false
 unfolding is_break
 hex_no_break c h = grind (arith, nat_tests)
-
-pub ns_no_break : (c : ℕ) → is_ns c ≡ true → is_break c ≡ false
-unfolding is_ns is_nb
-ns_no_break c h = grind (arith, nat_tests)
 
 solid_no_break : (c : ℕ) → (is_ns c && not (c == 34) && not (c == 92)) ≡ true → is_break c ≡ false
 unfolding is_ns is_nb
@@ -131,27 +122,6 @@ module _ (cs : List ℕ) where
   abbrev pub Lined : Rule (List Event) → Type 0
   Lined R = (i j : ℕ) (es : List Event) → R i j es → Along i j
 
-  item_on : (R : Rule (List Event)) → Lined R → Lined (item cs R)
-  item_on R f i j es (k, r, s) = go_on i k j (f i k es r) (spaces_on k j s)
-
-  items_on : (R : Rule (List Event)) → Lined R → (j i : ℕ) (es : List Event) → Any (item cs R ◂ comma cs) j i es → Along i j
-  items_on R f j i es (done e g) = stay i j e
-  items_on R f j i es (then k ys zs (m, r, s) more h) = go_on i m j (item_on R f i m ys r) (go_on m k j (comma_on m k s) (items_on R f j k zs more))
-
-  last_on : (R : Rule (List Event)) → Lined R → Lined (optional (item cs R))
-  last_on R f i j es (inl (q, r)) = stay i j q
-  last_on R f i j es (inr r) = item_on R f i j es r
-
-  pub node_on : (room : ℕ) → Lined (node cs room)
-  unfolding node is_break
-  node_on zero i j es (xs, r, e) = double_on i j xs r
-  node_on (suc room) i j es (inl (xs, r, e)) = double_on i j xs r
-  node_on (suc room) i j es (inr (xs, (a, (e, f), (b, s, (c, ys, zs, more, (d, last, (g, h)), k))), l)) =
-      go_on i a j (one_on i a 91 refl e f)
-      (go_on a b j (spaces_on a b s)
-      (go_on b c j (items_on (node cs room) (node_on room) c b ys more)
-      (go_on c d j (last_on (node cs room) (node_on room) c d zs last) (one_on d j 93 refl g h))))
-
   -- ---- no line begins inside
 
   pub brk_ends : (i k : ℕ) → brk cs i k → (0 < k) × Stands cs is_break (k - 1)
@@ -207,47 +177,9 @@ module _ (cs : List ℕ) where
   pub around : (b : Bool) (i j : ℕ) → spaces cs i j → maybe (separate cs 0 (context b)) i j
   around b = maybe_apart (context b) (apart b)
 
-  scalar_in : (i j : ℕ) (es : List Event) (c : Ctx) → Inline i → scalar_node cs i j es → seen (λ t. scalar no_props double_quoted t ∷ []) (double cs 0 c) i j es
-  unfolding double double_line
-  scalar_in i j es c n (xs, (k, q, (m, r, s)), f) = (xs, (unmarked i j n (double_on i j xs (k, q, (m, r, s))), (k, q, (m, inl r, s))), f)
-
   -- what stands at a place where no line begins
   abbrev pub Inside : Rule (List Event) → Rule (List Event) → Type 0
   Inside R S = (i j : ℕ) (es : List Event) → Inline i → R i j es → S i j es
-
-  abbrev nodes_in : ℕ → Rule (List Event)
-  nodes_in room = reads cs ⊥ [] room (pair_part 0 flow_in) ∪ (reads cs ⊥ [] room (yaml_part 0 flow_in) ∪ reads cs ⊥ [] room (json_part 0 flow_in))
-
-  item_in : (room : ℕ) (b : Bool) → Inside (node cs room) (reads cs ⊥ [] room (json_part 0 flow_in)) → Inside (item cs (node cs room)) (nodes_in room ◂ maybe (separate cs 0 (context b)))
-  item_in room b f i j es n (k, r, s) = (k, inr (inr (f i k es n r)), around b k j s)
-
-  items_in : (room : ℕ) (b : Bool) → Inside (node cs room) (reads cs ⊥ [] room (json_part 0 flow_in)) → (j i : ℕ) (es : List Event) → Inline i → Any (item cs (node cs room) ◂ comma cs) j i es
-      → Any ((nodes_in room ◂ maybe (separate cs 0 (context b))) ◂ (chr cs 44 ◆ maybe (separate cs 0 (context b)))) j i es
-  items_in room b f j i es n (done e g) = done e g
-  items_in room b f j i es n (then k ys zs (m, r, (l, c, s)) more h) =
-      let after : Inline m = inline_on i m n (item_on (node cs room) (node_on room) i m ys r) in
-      then k ys zs (m, item_in room b f i m ys n r, (l, c, around b l k s)) (items_in room b f j k zs (inline_on m k after (comma_on m k (l, c, s))) more) h
-
-  last_in : (room : ℕ) (b : Bool) → Inside (node cs room) (reads cs ⊥ [] room (json_part 0 flow_in)) → Inside (optional (item cs (node cs room))) (optional (nodes_in room ◂ maybe (separate cs 0 (context b))))
-  last_in room b f i j es n (inl r) = inl r
-  last_in room b f i j es n (inr r) = inr (item_in room b f i j es n r)
-
-  seq_in : (room : ℕ) (b : Bool) → Inside (node cs room) (reads cs ⊥ [] room (json_part 0 flow_in)) → Inside (sequence cs (node cs room)) (flow_seq cs ⊥ [] (Unit {0}) (reads cs ⊥ [] room) no_props 0 (context b))
-  unfolding flow_seq inner is_break
-  seq_in room true f i j es n (xs, (a, (e, g), (p, s, (c, ys, zs, more, (d, last, q), k))), l) =
-      let n1 : Inline p = inline_on a p (inline_on i a n (one_on i a 91 refl e g)) (spaces_on a p s) in
-      let n2 : Inline c = inline_on p c n1 (items_on (node cs room) (node_on room) c p ys more) in
-      (tt, (xs, (p, (a, (e, g), around true a p s), (d, (c, ys, zs, items_in room true f c p ys n1 more, last_in room true f c d zs n2 last, k), q)), l))
-  seq_in room false f i j es n (xs, (a, (e, g), (p, s, (c, ys, zs, more, (d, last, q), k))), l) =
-      let n1 : Inline p = inline_on a p (inline_on i a n (one_on i a 91 refl e g)) (spaces_on a p s) in
-      let n2 : Inline c = inline_on p c n1 (items_on (node cs room) (node_on room) c p ys more) in
-      (tt, (xs, (p, (a, (e, g), around false a p s), (d, (c, ys, zs, items_in room false f c p ys n1 more, last_in room false f c d zs n2 last, k), q)), l))
-
-  json_in : (room : ℕ) (b : Bool) → Inside (node cs room) (reads cs ⊥ [] room (json_part 0 (context b)))
-  unfolding node reads json_node
-  json_in zero b i j es n r = (i, no_props, inl (refl, refl), inr (inl (scalar_in i j es (context b) n r)))
-  json_in (suc room) b i j es n (inl r) = (i, no_props, inl (refl, refl), inr (inl (scalar_in i j es (context b) n r)))
-  json_in (suc room) b i j es n (inr r) = (i, no_props, inl (refl, refl), inr (inr (inl (seq_in room b (json_in room true) i j es n r))))
 
   -- ---- the document
 
@@ -262,11 +194,6 @@ module _ (cs : List ℕ) where
       ended : maybe (brk cs) k (length cs) → line_end cs k (length cs)
       ended (inl e) = inr (e, sym e)
       ended (inr b) = inl b
-
-  block_in_room : (room : ℕ) (i k : ℕ) (es : List Event) → separate cs 0 flow_out i k → Inline k → (node cs room ◂ tail cs) k (length cs) es → reads cs ⊥ [] room (block_part 0 block_in) i (length cs) es
-  unfolding reads block_node flow_node
-  block_in_room zero i k es s n (j, r, t) = inl (k, s, (j, inr (json_in zero false k j es n r), tail_in j t))
-  block_in_room (suc room) i k es s n (j, r, t) = inl (k, s, (j, inr (json_in (suc room) false k j es n r), tail_in j t))
 
   -- ---- the stream
 
@@ -319,22 +246,3 @@ module _ (cs : List ℕ) where
       pick : (m : ℕ) → m < j → (i ≡ m) ⊎ (i < m) → Stands cs is_space m
       pick m b (inl g) = (32, subst (λ z. slice_get cs z ≡ Some 32) g e, refl)
       pick m b (inr l) = r m (omega (arith, l, f)) b
-
-pub first_inside : (cs : List ℕ) (es : List Event) → ReadsFirst cs es → ReadsText cs ⊥ open_limit es
-unfolding ReadsFirst ReadsText stream any_document explicit_document bare_document document_mark stream_events piece_events ends_explicitly separate separate_lines sep MarkOf StartsLine is_white is_break
-first_inside cs es (xs, (p1, (e1, f1), (p2, (e2, f2), (p3, (e3, f3), (p4, (e4, f4), (p5, sp, (j, r, (m, sj, t))))))), e) =
-    let start : p3 ≡ 3 = omega (arith, f1, f2, f3) in
-    let white : slice_get cs 3 ≡ Some 32 = subst (λ z. slice_get cs z ≡ Some 32) start e4 in
-    let letters : word cs (45 ∷ 45 ∷ 45 ∷ []) 0 p3 = (p1, (e1, f1), (p2, (e2, f2), (p3, (e3, f3), refl))) in
-    let mark : MarkOf cs 45 0 = (inl refl, (p3, letters), inl (32, white, refl)) in
-    let n3 : Inline cs p3 = inline_on cs p2 p3 (inline_on cs p1 p2 (omega (arith, f1), (one_on cs 0 p1 45 refl e1 f1).1 (p1 - 1) (omega arith) (omega (arith, f1))) (one_on cs p1 p2 45 refl e2 f2)) (one_on cs p2 p3 45 refl e3 f3) in
-    let n5 : Inline cs p5 = inline_on cs p4 p5 (inline_on cs p3 p4 n3 (one_on cs p3 p4 32 refl e4 f4)) (spaces_on cs p4 p5 sp) in
-    let along : Along cs p3 m = go_on cs p3 p4 m (one_on cs p3 p4 32 refl e4 f4) (go_on cs p4 p5 m (spaces_on cs p4 p5 sp) (go_on cs p5 j m (node_on cs open_limit p5 j xs r) (spaces_on cs j m sj))) in
-    let free : Unmarked cs p3 (length cs) = both_unmarked cs p3 m (length cs) (unmarked cs p3 m n3 along) (tail_unmarked cs m (inline_on cs p3 m n3 along) t) in
-    let apart_at : separate cs 0 flow_out p3 p5 = inr (inl (space_run cs p3 p4 p5 e4 f4 sp, omega (arith, f4, sp.0))) in
-    let body : reads cs ⊥ [] open_limit (block_part 0 block_in) p3 (length cs) xs = block_in_room cs open_limit p3 p5 xs apart_at n5 (j, r, (m, sj, t)) in
-    let pieces : List Piece = document_piece true xs ∷ [] in (
-      pieces,
-      (length cs, pieces, [], (0, Spans.done refl, inr (inr (inl (xs, (p3, (0, (refl, mark), letters), inl (free, body)), refl)))), done refl refl, sym (append-nil pieces)),
-      e ∙ ap (λ z. stream_start ∷ document_start true ∷ z) (sym (append_assoc xs (document_end false ∷ []) (stream_end ∷ []))),
-    )

@@ -5,11 +5,8 @@ pub mod FlowLemmas
 pub mod FirstOnce
 pub mod FirstInside
 pub mod Derivation
-pub mod Spelled
 pub mod SecondDerivation
 pub mod SecondSpelled
-pub mod FirstDocuments
-pub mod SimpleTrees
 pub mod ReadingAnswers
 pub mod SecondInside
 pub mod SecondDocuments
@@ -40,7 +37,6 @@ pub mod PartLemmas
 pub mod NodeLemmas
 pub mod SecondText
 pub mod SecondOnce
-pub mod FirstInSecond
 pub mod Sizes
 pub mod PlainLaws
 pub mod SecondClaims

@@ -1,11 +1,9 @@
 -- The streams that the private reader reads: `---`, one or more spaces, a node, any spaces and perhaps a break. A node is a double-quoted scalar on one line, or a flow sequence of nodes. Temporary: the productions of `grammar.Streams` replace it.
-use Rattle.std.specs.Prelude.{ℕ, zero, suc, List, [], ◌∷◌, ◌++◌, Bool, true, false, not, ◌&&◌, ◌==◌, if◌then◌else◌, Option, Some, None, length}
-use Rattle.yaml_text.specs.Limits.{open_limit}
-use Rattle.yaml_text.specs.Event.{Event, double, sequence_end, stream_start, stream_end, document_start, document_end}
-use Rattle.yaml_text.specs.grammar.Rules.{Span, Rule, ◌◆◌, ◌▸◌, ◌◂◌, ◌⨾◌, ◌∪◌, Behind, maybe, optional, any, seen, chr, run}
+use Rattle.std.specs.Prelude.{ℕ, List, [], ◌∷◌, ◌++◌, Bool, true, false, not, ◌&&◌, ◌==◌, if◌then◌else◌, Option, Some, None}
+use Rattle.yaml_text.specs.Event.{Event, stream_start, stream_end, document_start, document_end}
+use Rattle.yaml_text.specs.grammar.Rules.{Span, Rule, ◌◆◌, ◌▸◌, ◌◂◌, ◌∪◌, Behind, maybe, any, chr, run}
 use Rattle.yaml_text.specs.grammar.Characters.{is_space, is_nb, brk}
 use Rattle.yaml_text.specs.grammar.FlowScalars.{double_char, white_text}
-use Rattle.yaml_text.specs.grammar.Events.{no_props, seq_start, scalar, wrapped}
 
 -- a character of a quoted line that stands for itself
 unfoldable pub is_verbatim : ℕ → Bool
@@ -36,32 +34,9 @@ module _ (cs : List ℕ) where
   unfoldable pub double_line : Rule (List ℕ)
   double_line = chr cs 34 ▸ quoted_rest
 
-  abbrev pub scalar_node : Rule (List Event)
-  scalar_node = seen (λ t. scalar no_props double t ∷ []) double_line
-
   -- a comma and any spaces
   abbrev pub comma : Span
   comma = chr cs 44 ◆ spaces
-
-  -- 7.4.1, whose nodes are read by `inside`
-  module _ (inside : Rule (List Event)) where
-    abbrev pub item : Rule (List Event)
-    item = inside ◂ spaces
-
-    -- Each item but perhaps the last is followed by a comma.
-    abbrev pub items_rest : Rule (List Event)
-    items_rest = any (item ◂ comma) ⨾ (optional item ◂ chr cs 93)
-
-    abbrev pub bracketed : Rule (List Event)
-    bracketed = chr cs 91 ▸ spaces ▸ items_rest
-
-    abbrev pub sequence : Rule (List Event)
-    sequence = seen (wrapped (seq_start true no_props) sequence_end) bracketed
-
-  -- a node that may open so many collections, one inside another
-  unfoldable pub node : ℕ → Rule (List Event)
-  node zero = scalar_node
-  node (suc room) = scalar_node ∪ sequence (node room)
 
   -- a CR stands just before the place
   abbrev pub AfterReturn : ℕ → Type 0
@@ -69,13 +44,3 @@ module _ (cs : List ℕ) where
 
   abbrev pub tail : Span
   tail = spaces ◆ maybe (brk cs)
-
-  abbrev pub content : Rule (List Event)
-  content = node open_limit ◂ tail
-
-  abbrev pub document : Rule (List Event)
-  document = chr cs 45 ▸ chr cs 45 ▸ chr cs 45 ▸ chr cs 32 ▸ spaces ▸ content
-
-  -- the whole text is such a stream, with these events
-  unfoldable pub ReadsFirst : List Event → Type 0
-  ReadsFirst es = seen first_events document 0 (length cs) es
