@@ -1,4 +1,4 @@
--- The productions of the first path give the text of marks without anchors, aliases, tags and mappings.
+-- What is spelled of a quoted scalar is read as one; and the events of marks, one after another.
 use Rattle.std.proofs.Common.{◌≡◌, ℕ, zero, suc, ◌+◌, ◌/◌, ◌%◌, ◌<◌, ◌≤◌, ◌⊎◌, ◌==◌, not, ◌&&◌, nat_lt, Bool, true, false, inl, inr, Some, List, [], ◌∷◌, ◌++◌, length, slice_get, refl, sym, ◌∙◌, ap, subst, arith}
 use Rattle.std.proofs.lemmas.Bool.{cond_both, eqb-true, ltb-true}
 use Rattle.std.proofs.lemmas.Bool.Decides.{nat_tests}

@@ -1,4 +1,4 @@
--- The streams of the first path are streams by the whole grammar, with the same events.
+-- Spaces, quoted scalars and the tail stand on one line, and are what the whole grammar has there.
 use Rattle.std.proofs.Common.{◌≡◌, ℕ, ◌+◌, ◌-◌, ◌<◌, ◌≤◌, ◌⊎◌, nat_lt, inl, inr, Bool, true, false, not, ◌&&◌, ◌==◌, Option, Some, List, length, slice_get, refl, sym, ◌∙◌, subst, arith}
 use Rattle.std.proofs.lemmas.Bool.{false≢true}
 use Rattle.std.proofs.lemmas.Bool.Decides.{nat_tests}
@@ -79,7 +79,7 @@ module _ (cs : List ℕ) where
           let e : s.0 ≡ d = same_char k s.0 d s.1 g in
           not_both (is_break s.0) (n s.0 s.2) (subst (λ z. is_break z ≡ true) (sym e) h)
 
-  -- ---- a node stands on one line
+  -- ---- a scalar and spaces stand on one line
 
   numbered_on : (n i j c : ℕ) → numbered cs n i j c → Along i j
   unfolding numbered
@@ -154,7 +154,7 @@ module _ (cs : List ℕ) where
   unmarked i j n a k b c (inl m) = unstarted k (inline_before i j k n a b c) m.0
   unmarked i j n a k b c (inr m) = unstarted k (inline_before i j k n a b c) m.0
 
-  -- ---- a node is a node of the whole grammar
+  -- ---- spaces are what parts nodes in the whole grammar
 
   maybe_apart : (c : Ctx) → ((i j : ℕ) → sep cs i j → separate cs 0 c i j) → (i j : ℕ) → spaces cs i j → maybe (separate cs 0 c) i j
   unfolding sep
@@ -181,7 +181,7 @@ module _ (cs : List ℕ) where
   abbrev pub Inside : Rule (List Event) → Rule (List Event) → Type 0
   Inside R S = (i j : ℕ) (es : List Event) → Inline i → R i j es → S i j es
 
-  -- ---- the document
+  -- ---- the tail
 
   pub tail_in : (j : ℕ) → tail cs j (length cs) → s_l_comments cs j (length cs)
   unfolding s_l_comments s_b_comment line_end sep
@@ -194,8 +194,6 @@ module _ (cs : List ℕ) where
       ended : maybe (brk cs) k (length cs) → line_end cs k (length cs)
       ended (inl e) = inr (e, sym e)
       ended (inr b) = inl b
-
-  -- ---- the stream
 
   -- no line begins before the end of a last break
   last_break : (m e : ℕ) → Inline m → brk cs m e → (k : ℕ) → m ≤ k → k < e → StartsLine cs k → ⊥

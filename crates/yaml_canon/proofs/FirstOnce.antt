@@ -1,4 +1,4 @@
--- Each reading is the only one, by induction on it.
+-- Each reading of a quoted scalar is the only one, by induction on it.
 use Rattle.std.proofs.Common.{◌≡◌, ℕ, ◌+◌, List, [], ◌∷◌, ◌++◌, Some, sym, subst, inl, inr}
 use Rattle.std.specs.Prelude.{slice_get}
 use Rattle.yaml_text.specs.Answer.{Only}

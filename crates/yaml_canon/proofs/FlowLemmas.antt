@@ -1,4 +1,4 @@
--- Flow sequences and the document, read from the front.
+-- Spaces, breaks and the end of a stream, read from the front.
 use Rattle.std.proofs.Common.{◌≡◌, ◌≢◌, ℕ, ◌+◌, ◌-◌, ◌<◌, List, [], length, Some, refl, sym, ◌∙◌, ap, subst, arith, inl, inr, ◌⊎◌}
 use Rattle.std.specs.Prelude.{slice_get, ◌==◌}
 use Rattle.std.proofs.lemmas.Bool.{eqb-true}
@@ -25,8 +25,6 @@ module _ (cs : List ℕ) where
       let g : ¬ (k < j) = λ h. m (a_space k (a.1 k b.0 h)) in
       omega (arith, f, g)
 
-  -- ---- nodes
-
   pub not_after_return : (j k c : ℕ) → slice_get cs k ≡ Some c → j ≡ k + 1 → c ≢ 13 → AfterReturn cs j → ⊥
   not_after_return j k c h e n (l, (d, g, t)) =
       let at : j - 1 ≡ k = omega (arith, e) in
@@ -40,7 +38,7 @@ module _ (cs : List ℕ) where
       go (inl e) = n (subst (AfterReturn cs) (sym e) a)
       go (inr l) = not_after_return j (j - 1) 32 (a_space (j - 1) (s.1 (j - 1) (omega (arith, l)) (omega (arith, l)))) (omega (arith, l)) (λ x. omega (arith, x)) a
 
--- ---- a document
+-- ---- what a production begins with
 
 module _ (cs : List ℕ) where
   pub char_start : {A : Type 0} (R : Rule (List A)) (i k c : ℕ) → slice_get cs i ≡ Some c → k ≡ i + 1 → Leads (chr cs c ▸ R) i R k []
@@ -115,4 +113,3 @@ module _ (cs : List ℕ) where
         | inl g ↦ (let w : b < length cs = slice_get_within cs b 13 g in omega (arith, w, h))
         | inr g ↦ (let w : b < length cs = slice_get_within cs b 10 g in omega (arith, w, h))
       ]
-      -- ---- the text

@@ -14,7 +14,7 @@ use Rattle.yaml_canon.specs.Arranged.{IsArranged, AllArranged}
 use Rattle.yaml_canon.specs.Repeats.{repeats}
 use Rattle.yaml_canon.specs.Writes.{Writes}
 use Rattle.yaml_canon.proofs.Writing.{writes_then, writes_text}
-use Rattle.yaml_canon.proofs.Agains.{neat_from}
+use Rattle.yaml_canon.proofs.Forms.{neat_from}
 use Rattle.yaml_canon.proofs.Markings.{marked_is}
 
 marks_are : (t : plain.Tree) → IsArranged t → marked (repeats t []) t [] ≡ marks_of t

@@ -1,13 +1,16 @@
--- Trees without mappings are arranged; arranged forests are the same where they are one.
-use Rattle.std.proofs.Common.{◌≡◌, ◌&&◌, List, [], ◌∷◌, refl, sym, ◌∙◌, ap}
+-- Arranged trees are neat; arranged forests are the same where they are one.
+use Rattle.std.proofs.Common.{◌≡◌, ◌&&◌, List, [], ◌∷◌, refl, sym, ◌∙◌, ap, subst}
 use Rattle.std.specs.Cmp.Lexicographic.{pointwise}
 use Rattle.yaml_text.specs.Tree.{Tree}
 use Rattle.yaml_text.specs.Same.{same}
+use Rattle.yaml_text.proofs.Neat.{Neat, arranged_neat}
 use Rattle.yaml_canon.specs.TreeModel.{trees}
 use Rattle.yaml_canon.specs.Identical.{identical, identical_trees}
-use Rattle.yaml_canon.specs.Arranged.{AllArranged}
-use Rattle.yaml_canon.proofs.Agains.{neat_from}
+use Rattle.yaml_canon.specs.Arranged.{IsArranged, AllArranged}
 use Rattle.yaml_canon.proofs.Anchors.{same_identical}
+
+pub neat_from : (t : Tree) → IsArranged t → Neat t
+neat_from t h = subst Neat h.fixed (arranged_neat t h.keyed)
 
 pub forests_same : (f g : List Tree) → AllArranged f → AllArranged g → identical_trees (trees f) (trees g) ≡ pointwise same f g
 unfolding identical

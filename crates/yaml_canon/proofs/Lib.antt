@@ -28,7 +28,6 @@ pub mod Walking
 pub mod Counting
 pub mod Shortness
 pub mod Anchors
-pub mod Agains
 pub mod Markings
 pub mod Forests
 pub mod Forms
@@ -37,7 +36,6 @@ pub mod PartLemmas
 pub mod NodeLemmas
 pub mod SecondText
 pub mod SecondOnce
-pub mod Sizes
 pub mod PlainLaws
 pub mod SecondClaims
 pub mod Arranging

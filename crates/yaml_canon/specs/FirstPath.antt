@@ -1,4 +1,4 @@
--- The streams that the private reader reads: `---`, one or more spaces, a node, any spaces and perhaps a break. A node is a double-quoted scalar on one line, or a flow sequence of nodes. Temporary: the productions of `grammar.Streams` replace it.
+-- What the private reader reads on one line: spaces, commas, double-quoted scalars, and the end of a stream. Temporary: the productions of `grammar.Streams` replace it.
 use Rattle.std.specs.Prelude.{ℕ, List, [], ◌∷◌, ◌++◌, Bool, true, false, not, ◌&&◌, ◌==◌, if◌then◌else◌, Option, Some, None}
 use Rattle.yaml_text.specs.Event.{Event, stream_start, stream_end, document_start, document_end}
 use Rattle.yaml_text.specs.grammar.Rules.{Span, Rule, ◌◆◌, ◌▸◌, ◌◂◌, ◌∪◌, Behind, maybe, any, chr, run}
@@ -42,5 +42,6 @@ module _ (cs : List ℕ) where
   abbrev pub AfterReturn : ℕ → Type 0
   AfterReturn = Behind cs (λ c. c == 13)
 
+  -- spaces and perhaps a break
   abbrev pub tail : Span
   tail = spaces ◆ maybe (brk cs)
