@@ -1,5 +1,5 @@
 -- Spaces, quoted scalars and the tail stand on one line, and are what the whole grammar has there.
-use Rattle.std.proofs.Common.{◌≡◌, ℕ, ◌+◌, ◌-◌, ◌<◌, ◌≤◌, ◌⊎◌, nat_lt, inl, inr, Bool, true, false, not, ◌&&◌, ◌==◌, Option, Some, List, length, slice_get, refl, sym, ◌∙◌, subst, arith}
+use Rattle.std.proofs.Common.{◌≡◌, ℕ, ◌+◌, ◌-◌, ◌<◌, ◌≤◌, ◌⊎◌, nat_lt, inl, inr, Bool, true, false, not, ◌&&◌, ◌==◌, Some, List, length, slice_get, refl, sym, ◌∙◌, subst, arith}
 use Rattle.std.proofs.lemmas.Bool.{false≢true}
 use Rattle.std.proofs.lemmas.Bool.Decides.{nat_tests}
 use Rattle.std.proofs.Math.Nat.{eq-or-lt_of_le}
@@ -10,6 +10,7 @@ use Rattle.yaml_text.specs.grammar.Characters.{short_escape, is_break, is_nb, is
 use Rattle.yaml_text.specs.grammar.Separation.{Ctx, comment, flow_out, flow_in, OneLine, StartsLine, Mark, MarkOf, Unmarked, sep, line_end, s_b_comment, s_l_comments, separate, separate_lines}
 use Rattle.yaml_text.specs.grammar.FlowScalars.{double_char}
 use Rattle.yaml_canon.specs.FirstPath.{spaces, piece, double_line, comma, tail}
+use Rattle.yaml_canon.proofs.ScalarLemmas.{same_char}
 
 -- ---- stretches
 
@@ -44,9 +45,6 @@ unfolding is_ns is_nb
 solid_no_break c h = grind (arith, nat_tests)
 
 module _ (cs : List ℕ) where
-  same_char : (i c d : ℕ) → slice_get cs i ≡ Some c → slice_get cs i ≡ Some d → c ≡ d
-  same_char i c d e f = let k : ◌≡◌ {A = Option ℕ} (Some c) (Some d) = sym e ∙ f in cc
-
   -- forward, and on one line
   abbrev pub Along : Span
   Along i j = (i ≤ j) × OneLine cs i j
@@ -67,7 +65,7 @@ module _ (cs : List ℕ) where
       line : OneLine cs i j
       line k a b (d, g, h) =
           let at : i ≡ k = omega (arith, a, b, f) in
-          let s : c ≡ d = same_char k c d (subst (λ z. slice_get cs z ≡ Some c) at e) g in
+          let s : c ≡ d = same_char cs k c d (subst (λ z. slice_get cs z ≡ Some c) at e) g in
           not_both (is_break c) n (subst (λ z. is_break z ≡ true) (sym s) h)
 
   pub run_on : (p : ℕ → Bool) (i j : ℕ) → ((c : ℕ) → p c ≡ true → is_break c ≡ false) → run cs p i j → Along i j
@@ -76,7 +74,7 @@ module _ (cs : List ℕ) where
       line : OneLine cs i j
       line k a b (d, g, h) =
           let s = r k a b in
-          let e : s.0 ≡ d = same_char k s.0 d s.1 g in
+          let e : s.0 ≡ d = same_char cs k s.0 d s.1 g in
           not_both (is_break s.0) (n s.0 s.2) (subst (λ z. is_break z ≡ true) (sym e) h)
 
   -- ---- a scalar and spaces stand on one line
@@ -204,14 +202,14 @@ module _ (cs : List ℕ) where
       between at (inl z) = omega (arith, at, z)
       between at (inr (i, inl (d, (x, y), (u, v)))) =
           let same : d ≡ m = omega (arith, at, v) in
-          let f : 13 ≡ 10 = same_char m 13 10 g (subst (λ z. slice_get cs z ≡ Some 10) same u) in
+          let f : 13 ≡ 10 = same_char cs m 13 10 g (subst (λ z. slice_get cs z ≡ Some 10) same u) in
           omega (arith, f)
       between at (inr (i, inr (inl (d, (x, y), (u, v))))) =
           let same : c ≡ d = omega (arith, at, u, h) in
           v (10, subst (λ z. slice_get cs z ≡ Some 10) same p, refl)
       between at (inr (i, inr (inr (d, (x, y), (u, v))))) =
           let same : d ≡ m = omega (arith, at, v) in
-          let f : 13 ≡ 10 = same_char m 13 10 g (subst (λ z. slice_get cs z ≡ Some 10) same u) in
+          let f : 13 ≡ 10 = same_char cs m 13 10 g (subst (λ z. slice_get cs z ≡ Some 10) same u) in
           omega (arith, f)
 
       pick : (m ≡ k) ⊎ (m < k) → ⊥

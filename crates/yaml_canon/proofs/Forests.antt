@@ -37,9 +37,6 @@ pub record IsSpelled (all rest : List plain.Tree) (out : List ℕ) : Type 0 wher
   pub left : AllArranged rest
   pub whole : out ++ spell_bytes rest ≡ spell_bytes all
 
-pub spelled_none : (f : List plain.Tree) (out : List ℕ) → AllArranged f → out ≡ [] → IsSpelled f f out
-spelled_none f out h e = record { left = h; whole = ap (λ z. z ++ spell_bytes f) e }
-
 pub spelled_next : (all : List plain.Tree) (xs rest : List Tree) (x : Tree) (out : List ℕ) → IsSpelled all (map tree_of xs) out → xs ≡ x ∷ rest → IsArranged (tree_of x)
 spelled_next all xs rest x out h e = (subst (λ l. AllArranged (map tree_of l)) e h.left).0
 

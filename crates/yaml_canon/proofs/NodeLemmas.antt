@@ -13,7 +13,8 @@ use Rattle.yaml_text.specs.grammar.Characters.{is_space, is_ns, is_nb, is_break}
 use Rattle.yaml_text.specs.grammar.Events.{Props, no_props, seq_start, map_start, wrapped}
 use Rattle.yaml_text.specs.grammar.Tags.{is_name, name, anchor, alias}
 use Rattle.yaml_canon.specs.FirstPath.{spaces, double_line, AfterReturn}
-use Rattle.yaml_canon.specs.FirstAnswer.{Leads, Unread, Appends}
+use Rattle.yaml_text.specs.grammar.Calls.{Unread}
+use Rattle.yaml_canon.specs.FirstAnswer.{Leads, Appends}
 use Rattle.yaml_canon.specs.SecondPath.{apart, anchored, alias_node, scalar_node, any_node, sequence, entry, mapping, node}
 use Rattle.yaml_canon.specs.SecondAnswer.{props_of, opened, bare, gap}
 use Rattle.yaml_canon.proofs.Leads.{leads_end, leads_none}

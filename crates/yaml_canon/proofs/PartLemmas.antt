@@ -7,7 +7,8 @@ use Rattle.yaml_text.specs.Answer.{Only}
 use Rattle.yaml_text.specs.Event.{Event}
 use Rattle.yaml_text.specs.grammar.Rules.{Rule, ◌◂◌, Any, done, then, chr, optional, Stands}
 use Rattle.yaml_canon.specs.FirstPath.{spaces, comma}
-use Rattle.yaml_canon.specs.FirstAnswer.{Leads, Unread}
+use Rattle.yaml_text.specs.grammar.Calls.{Unread}
+use Rattle.yaml_canon.specs.FirstAnswer.{Leads}
 use Rattle.yaml_canon.specs.SecondAnswer.{parts_of, opened}
 use Rattle.yaml_canon.proofs.Leads.{one_more, no_more, none_more}
 use Rattle.yaml_canon.proofs.ScalarLemmas.{same_char}

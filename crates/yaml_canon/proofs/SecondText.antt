@@ -5,7 +5,8 @@ use Rattle.yaml_text.specs.Limits.{open_limit}
 use Rattle.yaml_text.specs.Answer.{Only}
 use Rattle.yaml_text.specs.Event.{Event}
 use Rattle.yaml_canon.specs.FirstPath.{tail, first_events}
-use Rattle.yaml_canon.specs.FirstAnswer.{Leads, Unread}
+use Rattle.yaml_text.specs.grammar.Calls.{Unread}
+use Rattle.yaml_canon.specs.FirstAnswer.{Leads}
 use Rattle.yaml_canon.specs.SecondPath.{any_node, node, content, document, ReadsSecond}
 use Rattle.yaml_canon.specs.SecondAnswer.{marked}
 use Rattle.yaml_canon.proofs.PartLemmas.{no_space}

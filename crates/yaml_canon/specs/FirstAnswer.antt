@@ -4,13 +4,10 @@ use Rattle.yaml_text.specs.Event.{Event}
 use Rattle.yaml_text.specs.EventModel.{Adds}
 use Rattle.yaml_text.specs.Answer.{Only}
 use Rattle.yaml_text.specs.grammar.Rules.{Rule}
+use Rattle.yaml_text.specs.grammar.Calls.{Unread}
 use Rattle.yaml_text.specs.declared.event.Event as code
 use Rattle.yaml_text.specs.declared.fault.Fault.{Fault}
 use Rattle.yaml_text.specs.declared.fault.Fault.TheVariants.{Syntax, Tab, TooDeep, BadEscape, OutOfMemory}
-
--- no reading by the rule begins at i
-abbrev pub Unread : {V : Type 0} → Rule V → ℕ → Type 0
-Unread {V} R i = (k : ℕ) (v : V) → R i k v → ⊥
 
 -- a fault of the reader; it means this, but for want of memory
 abbrev pub Refuses : Fault → Type 0 → Type 0

@@ -8,7 +8,8 @@ ghost use Rattle.yaml_text.specs.Source.{bytes_of, text_of, place_of, IsBorder};
 ghost use Rattle.yaml_text.specs.EventModel.{event_of};
 ghost use Rattle.yaml_text.specs.grammar.Rules.{Stands, seen, run};
 ghost use Rattle.yaml_text.specs.grammar.Tags.{is_name, name};
-ghost use Rattle.yaml_canon.specs.FirstAnswer.{Refuses, Answers, Appends, Unread, LeadsOn, ReadsAll};
+ghost use Rattle.yaml_text.specs.grammar.Calls.{Unread};
+ghost use Rattle.yaml_canon.specs.FirstAnswer.{Refuses, Answers, Appends, LeadsOn, ReadsAll};
 ghost use Rattle.yaml_canon.specs.SecondPath.{apart, alias_node, any_node, sequence, entry, mapping, node, content, ReadsSecond};
 ghost use Rattle.yaml_canon.specs.SecondAnswer.{props_of, opened, bare, gap, marked};
 
