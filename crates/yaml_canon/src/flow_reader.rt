@@ -1,5 +1,5 @@
 //! Temporary: reads streams of one line with mappings, anchors and aliases; the crate `yaml_read` replaces it.
-ghost use Rattle.std.specs.Prelude.{◌≡◌, ◌≢◌, ◌≤◌, ◌<◌, IfOk, IfErr, Some, slice_get, encode_utf8_all, ℕ, List, map};
+ghost use Rattle.std.specs.Prelude.{◌≡◌, ◌≢◌, ◌≤◌, ◌<◌, IfOk, IfErr, Some, slice_get, encode_utf8_all, ℕ, map};
 ghost use Rattle.std.specs.Result.{result_map_both};
 ghost use Rattle.std.specs.Option.{option_map};
 ghost use Rattle.std.specs.Cow.{cow_str_bytes};
@@ -8,7 +8,6 @@ ghost use Rattle.yaml_text.specs.Source.{bytes_of, text_of, place_of, IsBorder};
 ghost use Rattle.yaml_text.specs.EventModel.{event_of};
 ghost use Rattle.yaml_text.specs.grammar.Rules.{Stands, seen, run};
 ghost use Rattle.yaml_text.specs.grammar.Tags.{is_name, name};
-ghost use Rattle.yaml_text.specs.grammar.Calls.{Unread};
 ghost use Rattle.yaml_canon.specs.FirstAnswer.{Refuses, Answers, Appends, LeadsOn, ReadsAll};
 ghost use Rattle.yaml_canon.specs.SecondPath.{apart, alias_node, any_node, sequence, entry, mapping, node, content, ReadsSecond};
 ghost use Rattle.yaml_canon.specs.SecondAnswer.{props_of, opened, bare, gap, marked};

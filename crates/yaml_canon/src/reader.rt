@@ -8,9 +8,8 @@ ghost use Rattle.std.specs.Cow.{cow_str_bytes};
 ghost use Rattle.yaml_text.specs.Place.{Steps};
 ghost use Rattle.yaml_text.specs.Source.{bytes_of, text_of, place_of, IsBorder};
 ghost use Rattle.yaml_text.specs.grammar.Rules.{Stands, seen, run, exactly};
-ghost use Rattle.yaml_text.specs.grammar.Characters.{is_space, short_escape, brk, numbered, escape};
+ghost use Rattle.yaml_text.specs.grammar.Characters.{short_escape, brk, numbered, escape};
 ghost use Rattle.yaml_canon.specs.FirstPath.{is_verbatim, digit_count, spaces, double_line, quoted_rest, AfterReturn, tail};
-ghost use Rattle.yaml_text.specs.grammar.Calls.{Unread};
 ghost use Rattle.yaml_canon.specs.FirstAnswer.{Refuses, Answers, Finds};
 
 use std::alloc::Global;
