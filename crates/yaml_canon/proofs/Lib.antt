@@ -1,10 +1,10 @@
 pub mod Leads
 pub mod AnswerLemmas
 pub mod ScalarLemmas
-pub mod FlowLemmas
-pub mod FirstOnce
-pub mod FirstInside
-pub mod Derivation
+pub mod LineLemmas
+pub mod QuotedOnce
+pub mod LineInside
+pub mod QuotedDerivation
 pub mod SecondDerivation
 pub mod SecondSpelled
 pub mod ReadingAnswers

@@ -6,13 +6,13 @@ use Rattle.std.proofs.lemmas.Bool.Decides.{nat_tests}
 use Rattle.yaml_text.specs.Answer.{Only}
 use Rattle.yaml_text.specs.Event.{Event}
 use Rattle.yaml_text.specs.grammar.Rules.{Rule, ◌◂◌, Any, done, then, chr, optional, Stands}
-use Rattle.yaml_canon.specs.FirstPath.{spaces, comma}
+use Rattle.yaml_canon.specs.Line.{spaces, comma}
 use Rattle.yaml_text.specs.grammar.Calls.{Unread}
-use Rattle.yaml_canon.specs.FirstAnswer.{Leads}
+use Rattle.yaml_canon.specs.ReaderAnswer.{Leads}
 use Rattle.yaml_canon.specs.SecondAnswer.{parts_of, opened}
 use Rattle.yaml_canon.proofs.Leads.{one_more, no_more, none_more}
 use Rattle.yaml_canon.proofs.ScalarLemmas.{same_char}
-use Rattle.yaml_canon.proofs.FlowLemmas.{spaces_same}
+use Rattle.yaml_canon.proofs.LineLemmas.{spaces_same}
 
 -- what a node after its anchor begins with; what a node, or a key, begins with
 unfoldable pub is_bare_start : ℕ → Bool

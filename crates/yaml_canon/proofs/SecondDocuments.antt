@@ -13,7 +13,7 @@ use Rattle.yaml_text.specs.grammar.Reading.{Reads}
 use Rattle.yaml_text.specs.grammar.Laws.{FromDocuments}
 use Rattle.yaml_text.proofs.FlatLaws.{stream_once}
 use Rattle.yaml_text.proofs.grammar.Documents.{readings_are_documents}
-use Rattle.yaml_canon.specs.FirstPath.{spaces, comma}
+use Rattle.yaml_canon.specs.Line.{spaces, comma}
 use Rattle.yaml_canon.specs.SecondPath.{anchored, alias_node, scalar_node, any_node, parts, sequence, entry, mapping, node, content, document, ReadsSecond}
 use Rattle.yaml_canon.specs.SecondDocument.{SecondDocument}
 use Rattle.yaml_canon.specs.PlainMarks.{Plain, AllPlain, PairsPlain}

@@ -7,14 +7,14 @@ use Rattle.yaml_text.specs.Answer.{Only}
 use Rattle.yaml_text.specs.grammar.Rules.{Rule, ◌▸◌, ◌◂◌, Any, done, then, chr, optional, with_value, seen}
 use Rattle.yaml_text.specs.grammar.Events.{Props, no_props, seq_start, map_start, scalar, wrapped}
 use Rattle.yaml_text.specs.grammar.Tags.{name, anchor, alias}
-use Rattle.yaml_canon.specs.FirstPath.{spaces, double_line, comma}
-use Rattle.yaml_canon.specs.FirstAnswer.{Leads}
+use Rattle.yaml_canon.specs.Line.{spaces, double_line, comma}
+use Rattle.yaml_canon.specs.ReaderAnswer.{Leads}
 use Rattle.yaml_canon.specs.SecondPath.{anchored, alias_node, any_node, sequence, entry, mapping, node, content, document, ReadsSecond}
 use Rattle.yaml_canon.specs.SecondAnswer.{props_of, parts_of, opened, bare, marked}
 use Rattle.yaml_canon.proofs.Leads.{leads_on, leads_end}
 use Rattle.yaml_canon.proofs.ScalarLemmas.{bytes_only, double_first}
-use Rattle.yaml_canon.proofs.FirstOnce.{seen_as, double_each}
-use Rattle.yaml_canon.proofs.FlowLemmas.{char_start, spaces_start}
+use Rattle.yaml_canon.proofs.QuotedOnce.{seen_as, double_each}
+use Rattle.yaml_canon.proofs.LineLemmas.{char_start, spaces_start}
 use Rattle.yaml_canon.proofs.PartLemmas.{Closes, closes_93, closes_125, IsPartRule, differ, no_space, parts_first, opened_start, parts_close, part_comma, part_close}
 use Rattle.yaml_canon.proofs.NodeLemmas.{seen_only, name_only, alias_first, alias_only, seq_first, map_first, bare_no_anchor, bare_no_space, bare_seq_here, bare_map_here, bare_scalar, seq_only, map_only, to_bare, node_plain, node_after, any_first, any_alias, any_other, node_no_star, entry_first, entry_leads, entry_cases, Parted}
 use Rattle.yaml_canon.proofs.SecondText.{content_first, text_read}

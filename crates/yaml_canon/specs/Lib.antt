@@ -1,7 +1,7 @@
 pub mod TreeModel
 pub mod Claims
-pub mod FirstPath
-pub mod FirstAnswer
+pub mod Line
+pub mod ReaderAnswer
 pub mod SecondPath
 pub mod PlainMarks
 pub mod PlainTrees

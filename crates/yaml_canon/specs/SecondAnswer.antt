@@ -3,7 +3,7 @@ use Rattle.std.specs.Prelude.{◌≡◌, ℕ, zero, suc, ◌<◌, List, Some, sl
 use Rattle.yaml_text.specs.Event.{Event, Anchor, untagged}
 use Rattle.yaml_text.specs.grammar.Rules.{Span, Rule, ◌▸◌, ◌◂◌, ◌⨾◌, ◌∪◌, any, optional, chr}
 use Rattle.yaml_text.specs.grammar.Events.{Props}
-use Rattle.yaml_canon.specs.FirstPath.{spaces, comma}
+use Rattle.yaml_canon.specs.Line.{spaces, comma}
 use Rattle.yaml_canon.specs.SecondPath.{scalar_node, sequence, mapping, node}
 
 -- the properties of a node with this anchor and no tag

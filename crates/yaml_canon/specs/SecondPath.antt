@@ -8,7 +8,7 @@ use Rattle.yaml_text.specs.grammar.Rules.{Span, Rule, ◌◆◌, ◌▸◌, ◌�
 use Rattle.yaml_text.specs.grammar.Characters.{is_space}
 use Rattle.yaml_text.specs.grammar.Tags as tags
 use Rattle.yaml_text.specs.grammar.Events.{Props, no_props, seq_start, map_start, scalar, alias, wrapped}
-use Rattle.yaml_canon.specs.FirstPath.{spaces, double_line, comma, tail, first_events}
+use Rattle.yaml_canon.specs.Line.{spaces, double_line, comma, tail, one_document}
 
 module _ (cs : List ℕ) where
   -- one or more spaces
@@ -60,4 +60,4 @@ module _ (cs : List ℕ) where
 
   -- the whole text is such a stream, with these events
   unfoldable pub ReadsSecond : List Event → Type 0
-  ReadsSecond es = seen first_events document 0 (length cs) es
+  ReadsSecond es = seen one_document document 0 (length cs) es
