@@ -97,7 +97,7 @@ module _ (cs : List ℕ) where
     many_told j i ys zs (then k vs ws (m, (n, r, s), c) more h) p =
         subst P (sym (append_assoc vs ws zs) ∙ ap (λ v. v ++ zs) (sym h)) (step i n vs (ws ++ zs) r (many_told j k ws zs more p))
 
-    parts_told : (close i j : ℕ) (es : List Event) → parts cs (alias_node cs) close R i j es → P es
+    parts_told : (close i j : ℕ) (es : List Event) → parts cs close R i j es → P es
     parts_told close i j es (k, ys, zs, more, (m, inl (p, nothing), q), e) = subst P (sym e) (many_told k i ys zs more (subst P (sym nothing) base))
     parts_told close i j es (k, ys, zs, more, (m, inr (p, r, s), q), e) =
         subst P (sym e) (many_told k i ys zs more (subst P (append-nil zs) (step k p zs [] r base)))

@@ -64,7 +64,7 @@ module _ (cs : List ℕ) where
   last_on R f i j es (inl (q, r)) = stay cs i j q
   last_on R f i j es (inr r) = spaced_on R f i j es r
 
-  parts_on : (close : ℕ) → is_break close ≡ false → (R : Rule (List Event)) → Lined cs R → Lined cs (parts cs (alias_node cs) close R)
+  parts_on : (close : ℕ) → is_break close ≡ false → (R : Rule (List Event)) → Lined cs R → Lined cs (parts cs close R)
   parts_on close b R f i j es (k, ys, zs, more, (m, last, (g, h)), e) = go_on cs i k j (many_on R f k i ys more) (go_on cs k m j (last_on R f k m zs last) (one_on cs m j close b g h))
 
   any_on : (R : Rule (List Event)) → Lined cs R → Lined cs (any_node cs R)
@@ -113,7 +113,7 @@ module _ (cs : List ℕ) where
   last_in b R S f i j es n (inl r) = inl r
   last_in b R S f i j es n (inr r) = inr (spaced_in b R S f i j es n r)
 
-  parts_in : (b : Bool) (close : ℕ) (R S : Rule (List Event)) → Lined cs R → Inside cs R S → Inside cs (parts cs (alias_node cs) close R)
+  parts_in : (b : Bool) (close : ℕ) (R S : Rule (List Event)) → Lined cs R → Inside cs R S → Inside cs (parts cs close R)
       ((any ((S ◂ maybe (separate cs 0 (context cs b))) ◂ (chr cs 44 ◆ maybe (separate cs 0 (context cs b)))) ⨾ optional (S ◂ maybe (separate cs 0 (context cs b)))) ◂ chr cs close)
   parts_in b close R S l f i j es n (k, ys, zs, more, (m, last, q), e) =
       let after : Inline cs k = inline_on cs i k n (many_on R l k i ys more) in

@@ -27,14 +27,14 @@ module _ (cs : List ℕ) where
   abbrev pub scalar_node : Props → Rule (List Event)
   scalar_node p = seen (λ t. scalar p double t ∷ []) (double_line cs)
 
+  -- each part but perhaps the last is followed by a comma, and the last by this character
+  abbrev pub parts : ℕ → Rule (List Event) → Rule (List Event)
+  parts close R = any ((R ◂ spaces cs) ◂ comma cs) ⨾ (optional (R ◂ spaces cs) ◂ chr cs close)
+
   -- The nodes inside that are no aliases are read by `inside`.
   module _ (inside : Rule (List Event)) where
     abbrev pub any_node : Rule (List Event)
     any_node = alias_node ∪ inside
-
-    -- each part but perhaps the last is followed by a comma, and the last by this character
-    abbrev pub parts : ℕ → Rule (List Event) → Rule (List Event)
-    parts close R = any ((R ◂ spaces cs) ◂ comma cs) ⨾ (optional (R ◂ spaces cs) ◂ chr cs close)
 
     -- 7.4.1
     unfoldable pub sequence : Props → Rule (List Event)

@@ -1,5 +1,5 @@
 //! Temporary: what stands between nodes on one line, and how a stream ends; the crate `yaml_read` replaces it.
-ghost use Rattle.std.specs.Prelude.{◌≡◌, ◌≢◌, ◌≤◌, IfOk, IfErr, IfSome, IfNone, Some, slice_get, ℕ, length};
+ghost use Rattle.std.specs.Prelude.{◌≢◌, ◌≤◌, IfOk, IfErr, IfSome, IfNone, Some, slice_get, ℕ, length};
 ghost use Rattle.yaml_text.specs.Place.{Steps};
 ghost use Rattle.yaml_text.specs.Source.{bytes_of, text_of, place_of, IsBorder};
 ghost use Rattle.yaml_text.specs.grammar.Characters.{brk};

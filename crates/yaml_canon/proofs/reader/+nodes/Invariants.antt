@@ -3,8 +3,8 @@ use Rattle.yaml_text.specs.Event.{Event}
 use Rattle.yaml_text.specs.EventModel.{Adds}
 use Rattle.yaml_text.specs.Source.{bytes_of, text_of, place_of, IsBorder}
 use Rattle.yaml_canon.specs.ReaderAnswer.{Leads}
-use Rattle.yaml_canon.specs.SecondPath.{any_node, entry, node}
-use Rattle.yaml_canon.specs.SecondAnswer.{parts_of, opened}
+use Rattle.yaml_canon.specs.SecondPath.{parts, any_node, entry, node}
+use Rattle.yaml_canon.specs.SecondAnswer.{opened}
 use Rattle.yaml_canon.proofs.reader.+nodes.Given as goal
 
 abbrev pub decreases-read_bare : goal.decreases-read_bare
@@ -35,7 +35,7 @@ invariant-read_items-items l =
     record {
       border : IsBorder l.source l.here;
       onward : l.at < l.here;
-      leads : (es : List Event) × Adds l.fn.out.items es l.out.items × Leads (opened cs 91 93 R) (place_of l.source l.at) (parts_of cs 93 R) (place_of l.source l.here) es;
+      leads : (es : List Event) × Adds l.fn.out.items es l.out.items × Leads (opened cs 91 93 R) (place_of l.source l.at) (parts cs 93 R) (place_of l.source l.here) es;
     }
 
 abbrev pub decreases-read_items-items : goal.decreases-read_items-items
@@ -48,7 +48,7 @@ invariant-read_entries-entries l =
     record {
       border : IsBorder l.source l.here;
       onward : l.at < l.here;
-      leads : (es : List Event) × Adds l.fn.out.items es l.out.items × Leads (opened cs 123 125 R) (place_of l.source l.at) (parts_of cs 125 R) (place_of l.source l.here) es;
+      leads : (es : List Event) × Adds l.fn.out.items es l.out.items × Leads (opened cs 123 125 R) (place_of l.source l.at) (parts cs 125 R) (place_of l.source l.here) es;
     }
 
 abbrev pub decreases-read_entries-entries : goal.decreases-read_entries-entries
