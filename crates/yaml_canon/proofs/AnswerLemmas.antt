@@ -10,8 +10,9 @@ use Rattle.yaml_text.specs.grammar.Rules.{Rule}
 use Rattle.yaml_text.specs.declared.event.Event as code
 use Rattle.yaml_text.specs.declared.fault.Fault.{Fault}
 use Rattle.yaml_text.specs.declared.fault.Fault.TheVariants as fault
-use Rattle.yaml_canon.specs.FirstPath.{first_events}
-use Rattle.yaml_canon.specs.FirstAnswer.{Answers, Appends, LeadsOn, ReadsAll, Refuses, Unread}
+use Rattle.yaml_canon.specs.Line.{one_document}
+use Rattle.yaml_text.specs.grammar.Calls.{Unread}
+use Rattle.yaml_canon.specs.ReaderAnswer.{Answers, Appends, LeadsOn, ReadsAll, Refuses}
 
 pub refuses_weaker : (e : Fault) {P Q : Type 0} → (P → Q) → Refuses e P → Refuses e Q
 refuses_weaker fault.OutOfMemory f p = tt
@@ -68,7 +69,7 @@ on_false_at true e p = let h : true ≡ false = e in cc
 
 -- the events of a stream, put one after another into an empty list
 pub whole_stream : (a b c d e f : List code.Event) (es : List Event) → a ≡ [] → Adds a (stream_start ∷ []) b → Adds b (document_start true ∷ []) c → Adds c es d →
-    Adds d (document_end false ∷ []) e → Adds e (stream_end ∷ []) f → map event_of f ≡ first_events es
+    Adds d (document_end false ∷ []) e → Adds e (stream_end ∷ []) f → map event_of f ≡ one_document es
 whole_stream a b c d e f es z p q r s t =
     let start : map event_of c ≡ stream_start ∷ document_start true ∷ [] = q ∙ ap (λ v. v ++ (document_start true ∷ [])) (p ∙ ap (λ v. map event_of v ++ (stream_start ∷ [])) z) in
     t ∙ ap (λ v. v ++ (stream_end ∷ [])) (s ∙ ap (λ v. v ++ (document_end false ∷ [])) (r ∙ ap (λ v. v ++ es) start))

@@ -1,5 +1,5 @@
 -- Entries put in order one by one.
-use Rattle.std.proofs.Common.{◌≡◌, ◌≤◌, ◌<◌, ◌+◌, ℕ, suc, Bool, true, false, List, [], ◌∷◌, ◌++◌, length, take, drop, get_or, reverse, map, refl, sym, ◌∙◌, ap, subst, arith, take_all, Result, Ok, Err, IfOk, IfErr, ◌==◌}
+use Rattle.std.proofs.Common.{◌≡◌, ◌≤◌, ◌<◌, ◌+◌, ℕ, suc, Bool, true, false, List, [], ◌∷◌, ◌++◌, length, take, drop, get_or, reverse, map, refl, sym, ◌∙◌, ap, subst, arith, Result, Ok, Err, IfOk, ◌==◌}
 use Rattle.std.proofs.lemmas.List.{append_assoc, append-nil, take-append-drop, reverse-append, map-append}
 use Rattle.std.proofs.Math.Seq.{drop-cons, take-suc}
 use Rattle.std.proofs.Math.ListN.{drop_of_length-le}
@@ -83,12 +83,6 @@ pub record IsPlace (k : plain.Tree) (f : List Entry) (place : ℕ) : Type 0 wher
   pub within : place ≤ length f
   pub moved : (v : plain.Tree) → enter k v (turned f done) ≡ turned (drop place f) (enter k v (turned (take place f) done))
 
-pub place_first : (k : plain.Tree) (f : List Entry) (n : ℕ) → n ≡ length f → IsPlace k f n
-place_first k f n e = record {
-  within = omega arith;
-  moved = λ v. rw (take_all n f (omega arith), drop_of_length-le f {i = n} (omega arith)) refl;
-}
-
 -- the pair before the place
 last_before : (f : List Entry) (i : ℕ) (d : Entry) → i < length f → turned (take (suc i) f) done ≡ entry (tree_of (get_or f i d).0) (tree_of (get_or f i d).1) (turned (take i f) done)
 last_before f i d l = ap (λ z. turned z done) (take-suc f i d l) ∙ turned_append (take i f) (get_or f i d ∷ []) done
@@ -117,9 +111,6 @@ place_next k f n m d l e g h = let s : n ≡ suc m = omega arith in place_below 
 abbrev pub IsFound : plain.Tree → List Entry → ℕ → Type 0
 IsFound k f n = (v : plain.Tree) → enter k v (turned f done) ≡ turned (drop n f) (entry k v (turned (take n f) done))
 
-pub place_front : (k : plain.Tree) (f : List Entry) (n : ℕ) → n ≡ 0 → IsPlace k f n → IsFound k f n
-place_front k f n e h = subst (IsFound k f) (sym e) (λ v. (subst (IsPlace k f) e h).moved v)
-
 place_under : (k : plain.Tree) (f : List Entry) (i : ℕ) (d : Entry) → is_gt (tree_cmp k (tree_of (get_or f i d).0)) ≡ false → IsPlace k f (suc i) → IsFound k f (suc i)
 place_under k f i d g h = λ v.
     let x = get_or f i d in
@@ -138,9 +129,6 @@ pub record IsOrdering (all left falling : List Entry) : Type 0 where
   pub low : heights_of_pairs (pairs_of left) ≤ height_limit
   pub falling_low : heights_of_pairs (pairs_of falling) ≤ height_limit
   pub whole : entered left (turned falling done) ≡ entered all done
-
-pub ordering_first : (all falling : List Entry) → heights_of_pairs (pairs_of all) ≤ height_limit → falling ≡ [] → IsOrdering all all falling
-ordering_first all falling h e = subst (IsOrdering all all) (sym e) (record { low = h; falling_low = omega arith; whole = refl })
 
 -- the last entry is low
 pub ordering_low : (all left rest falling : List Entry) (e : Entry) → IsOrdering all left falling → left ≡ rest ++ (e ∷ []) → height (tree_of e.0) ≤ height_limit
@@ -241,10 +229,6 @@ forest_end all xs i whole h l = sym (append-nil (map tree_of all)) ∙ (ap (λ z
 pub if_ok : {T E : Type 0} {P Q : T → Type 0} (r : Result T E) → ((x : T) → P x → Q x) → IfOk r P → IfOk r Q
 if_ok (Ok x) f h = f x h
 if_ok (Err e) f h = h
-
-pub if_err : {T E : Type 0} {P Q : E → Type 0} (r : Result T E) → ((e : E) → P e → Q e) → IfErr r P → IfErr r Q
-if_err (Ok x) f h = h
-if_err (Err e) f h = f e h
 
 gt_is : (o : Ordering) → is_gt o ≡ (ordering_index o == 2)
 gt_is Less = refl

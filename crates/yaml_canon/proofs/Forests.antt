@@ -14,7 +14,7 @@ use Rattle.yaml_canon.specs.Arranged.{IsArranged, AllArranged}
 use Rattle.yaml_canon.specs.Repeats.{repeats}
 use Rattle.yaml_canon.specs.Writes.{Writes}
 use Rattle.yaml_canon.proofs.Writing.{writes_then, writes_text}
-use Rattle.yaml_canon.proofs.Agains.{neat_from}
+use Rattle.yaml_canon.proofs.Forms.{neat_from}
 use Rattle.yaml_canon.proofs.Markings.{marked_is}
 
 marks_are : (t : plain.Tree) → IsArranged t → marked (repeats t []) t [] ≡ marks_of t
@@ -36,9 +36,6 @@ document_written t old a b new seen none anchored found list h s n c f l e w k =
 pub record IsSpelled (all rest : List plain.Tree) (out : List ℕ) : Type 0 where
   pub left : AllArranged rest
   pub whole : out ++ spell_bytes rest ≡ spell_bytes all
-
-pub spelled_none : (f : List plain.Tree) (out : List ℕ) → AllArranged f → out ≡ [] → IsSpelled f f out
-spelled_none f out h e = record { left = h; whole = ap (λ z. z ++ spell_bytes f) e }
 
 pub spelled_next : (all : List plain.Tree) (xs rest : List Tree) (x : Tree) (out : List ℕ) → IsSpelled all (map tree_of xs) out → xs ≡ x ∷ rest → IsArranged (tree_of x)
 spelled_next all xs rest x out h e = (subst (λ l. AllArranged (map tree_of l)) e h.left).0

@@ -1,15 +1,12 @@
 pub mod Leads
 pub mod AnswerLemmas
 pub mod ScalarLemmas
-pub mod FlowLemmas
-pub mod FirstOnce
-pub mod FirstInside
-pub mod Derivation
-pub mod Spelled
+pub mod LineLemmas
+pub mod QuotedOnce
+pub mod LineInside
+pub mod QuotedDerivation
 pub mod SecondDerivation
 pub mod SecondSpelled
-pub mod FirstDocuments
-pub mod SimpleTrees
 pub mod ReadingAnswers
 pub mod SecondInside
 pub mod SecondDocuments
@@ -31,7 +28,6 @@ pub mod Walking
 pub mod Counting
 pub mod Shortness
 pub mod Anchors
-pub mod Agains
 pub mod Markings
 pub mod Forests
 pub mod Forms
@@ -40,8 +36,6 @@ pub mod PartLemmas
 pub mod NodeLemmas
 pub mod SecondText
 pub mod SecondOnce
-pub mod FirstInSecond
-pub mod Sizes
 pub mod PlainLaws
 pub mod SecondClaims
 pub mod Arranging

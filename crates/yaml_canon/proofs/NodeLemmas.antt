@@ -12,14 +12,15 @@ use Rattle.yaml_text.specs.grammar.Rules.{Rule, with_value, seen, Stands, run}
 use Rattle.yaml_text.specs.grammar.Characters.{is_space, is_ns, is_nb, is_break}
 use Rattle.yaml_text.specs.grammar.Events.{Props, no_props, seq_start, map_start, wrapped}
 use Rattle.yaml_text.specs.grammar.Tags.{is_name, name, anchor, alias}
-use Rattle.yaml_canon.specs.FirstPath.{spaces, double_line, AfterReturn}
-use Rattle.yaml_canon.specs.FirstAnswer.{Leads, Unread, Appends}
+use Rattle.yaml_canon.specs.Line.{spaces, double_line, AfterReturn}
+use Rattle.yaml_text.specs.grammar.Calls.{Unread}
+use Rattle.yaml_canon.specs.ReaderAnswer.{Leads, Appends}
 use Rattle.yaml_canon.specs.SecondPath.{apart, anchored, alias_node, scalar_node, any_node, sequence, entry, mapping, node}
 use Rattle.yaml_canon.specs.SecondAnswer.{props_of, opened, bare, gap}
 use Rattle.yaml_canon.proofs.Leads.{leads_end, leads_none}
 use Rattle.yaml_canon.proofs.AnswerLemmas.{refuses_weaker, adds_on}
 use Rattle.yaml_canon.proofs.ScalarLemmas.{double_first}
-use Rattle.yaml_canon.proofs.FlowLemmas.{a_space, space_at, spaces_same, not_after_return}
+use Rattle.yaml_canon.proofs.LineLemmas.{a_space, space_at, spaces_same, not_after_return}
 use Rattle.yaml_canon.proofs.PartLemmas.{is_bare_start, is_start, bare_is_start, IsPartRule, other_start, differ, spaced_same, no_space}
 
 -- ---- values

@@ -6,12 +6,14 @@ use Rattle.std.proofs.lemmas.Bool.Decides.{nat_tests}
 use Rattle.yaml_text.specs.Answer.{Only}
 use Rattle.yaml_text.specs.Event.{Event}
 use Rattle.yaml_text.specs.grammar.Rules.{Rule, ◌◂◌, Any, done, then, chr, optional, Stands}
-use Rattle.yaml_canon.specs.FirstPath.{spaces, comma}
-use Rattle.yaml_canon.specs.FirstAnswer.{Leads, Unread}
-use Rattle.yaml_canon.specs.SecondAnswer.{parts_of, opened}
+use Rattle.yaml_canon.specs.Line.{spaces, comma}
+use Rattle.yaml_text.specs.grammar.Calls.{Unread}
+use Rattle.yaml_canon.specs.ReaderAnswer.{Leads}
+use Rattle.yaml_canon.specs.SecondPath.{parts}
+use Rattle.yaml_canon.specs.SecondAnswer.{opened}
 use Rattle.yaml_canon.proofs.Leads.{one_more, no_more, none_more}
 use Rattle.yaml_canon.proofs.ScalarLemmas.{same_char}
-use Rattle.yaml_canon.proofs.FlowLemmas.{spaces_same}
+use Rattle.yaml_canon.proofs.LineLemmas.{spaces_same}
 
 -- what a node after its anchor begins with; what a node, or a key, begins with
 unfoldable pub is_bare_start : ℕ → Bool
@@ -71,7 +73,7 @@ module _ (cs : List ℕ) where
     not_part i h j es r = other_start is_start i close closes.start h (first i j es r)
 
     -- what the parts and the closing character begin with
-    pub parts_first : (i j : ℕ) (es : List Event) → parts_of cs close R i j es → slice_get cs i ≢ Some 32
+    pub parts_first : (i j : ℕ) (es : List Event) → parts cs close R i j es → slice_get cs i ≢ Some 32
     parts_first i j es (k, xs, ys, p, (t, q, e), f) = go k xs ys t p q e
       where
         last : (l : ℕ) (ys : List Event) → (optional Part) i l ys → chr cs close l j → slice_get cs i ≢ Some 32
@@ -82,16 +84,16 @@ module _ (cs : List ℕ) where
         go k xs ys t (done a b) q e = last t ys (subst (λ n. (optional Part) n t ys) a q) e
         go k xs ys t (then m us vs (n, (o, r, s), c) rest f) q e = no_space i (first i o us r)
 
-    pub opened_start : (i j k from : ℕ) → slice_get cs i ≡ Some from → j ≡ i + 1 → spaces cs j k → slice_get cs k ≢ Some 32 → Leads (opened cs from close R) i (parts_of cs close R) k []
+    pub opened_start : (i j k from : ℕ) → slice_get cs i ≡ Some from → j ≡ i + 1 → spaces cs j k → slice_get cs k ≢ Some 32 → Leads (opened cs from close R) i (parts cs close R) k []
     opened_start i j k from h e s n = record {
       forth = λ l ys r. (j, (h, e), (k, s, r));
       back = λ l ys (m, (g, f), (o, t, r)).
           let at : m ≡ j = f ∙ sym e in
           let same : o ≡ k = spaces_same cs j o k (subst (λ x. spaces cs x o) at t) s (parts_first o l ys r) n in
-          (ys, subst (λ x. parts_of cs close R x l ys) same r, refl);
+          (ys, subst (λ x. parts cs close R x l ys) same r, refl);
     }
 
-    pub parts_close : (i j : ℕ) → slice_get cs i ≡ Some close → j ≡ i + 1 → Only (parts_of cs close R) i j []
+    pub parts_close : (i j : ℕ) → slice_get cs i ≡ Some close → j ≡ i + 1 → Only (parts cs close R) i j []
     parts_close i j h e = no_more (λ k ys (a, (b, r, s), c). not_part i h b ys r) (record {
       is = (i, inl (refl, refl), (h, e));
       only = λ l ys (m, q, c). go l ys m q c;
@@ -101,7 +103,7 @@ module _ (cs : List ℕ) where
         go l ys m (inl (a, b)) c = (c.1 ∙ ap (λ n. n + 1) a ∙ sym e, b)
         go l ys m (inr (n, r, s)) c = absurd (not_part i h n ys r)
 
-    pub part_comma : (i a b c d : ℕ) (es : List Event) → Only R i a es → spaces cs a b → slice_get cs b ≡ Some 44 → c ≡ b + 1 → spaces cs c d → slice_get cs d ≢ Some 32 → Leads (parts_of cs close R) i (parts_of cs close R) d es
+    pub part_comma : (i a b c d : ℕ) (es : List Event) → Only R i a es → spaces cs a b → slice_get cs b ≡ Some 44 → c ≡ b + 1 → spaces cs c d → slice_get cs d ≢ Some 32 → Leads (parts cs close R) i (parts cs close R) d es
     part_comma i a b c d es o s h e t n = one_more (λ k. slice_get cs k ≢ Some 32) (λ k l zs r. parts_first k l zs r) (record {
       is = (b, (a, o.is, s), (c, (h, e), t));
       only = λ k ys (m, (x, r, u), (y, (g, f), v)) free.
@@ -121,7 +123,7 @@ module _ (cs : List ℕ) where
             let at : m ≡ b = spaced_same a b m close s stop (subst (λ z. spaces cs z m) q.0 u) g.0 closes.blank in
             comma_no_close b h (subst (λ n. slice_get cs n ≡ Some close) at g.0)
 
-    pub part_close : (i a b j : ℕ) (es : List Event) → Only R i a es → spaces cs a b → slice_get cs b ≡ Some close → j ≡ b + 1 → Only (parts_of cs close R) i j es
+    pub part_close : (i a b j : ℕ) (es : List Event) → Only R i a es → spaces cs a b → slice_get cs b ≡ Some close → j ≡ b + 1 → Only (parts cs close R) i j es
     part_close i a b j es o s h e = no_more (λ k ys (m, (x, r, u), (y, (g, f), v)).
         let q = o.only x ys r in
         let at : m ≡ b = spaced_same a b m 44 s stop (subst (λ z. spaces cs z m) q.0 u) g (λ x. omega (arith, x)) in
@@ -138,7 +140,7 @@ module _ (cs : List ℕ) where
             let at : m ≡ b = spaced_same a b m close s stop (subst (λ z. spaces cs z m) q.0 u) g.0 closes.blank in
             (g.1 ∙ ap (λ n. n + 1) at ∙ sym e, q.1)
 
-    pub part_stop : (i a b : ℕ) (es : List Event) → Only R i a es → spaces cs a b → slice_get cs b ≢ Some 32 → slice_get cs b ≢ Some close → slice_get cs b ≢ Some 44 → Unread (parts_of cs close R) i
+    pub part_stop : (i a b : ℕ) (es : List Event) → Only R i a es → spaces cs a b → slice_get cs b ≢ Some 32 → slice_get cs b ≢ Some close → slice_get cs b ≢ Some 44 → Unread (parts cs close R) i
     part_stop i a b es o s n m p = none_more (optional Part ◂ chr cs close) (λ k ys (t, (x, r, u), (y, (g, f), v)).
         let q = o.only x ys r in
         let at : t ≡ b = spaced_same a b t 44 s n (subst (λ z. spaces cs z t) q.0 u) g (λ x. omega (arith, x)) in
@@ -152,7 +154,7 @@ module _ (cs : List ℕ) where
             let at : t ≡ b = spaced_same a b t close s n (subst (λ z. spaces cs z t) q.0 u) g.0 closes.blank in
             m (subst (λ n. slice_get cs n ≡ Some close) at g.0)
 
-    pub part_none : (i : ℕ) → Unread R i → slice_get cs i ≢ Some close → Unread (parts_of cs close R) i
+    pub part_none : (i : ℕ) → Unread R i → slice_get cs i ≢ Some close → Unread (parts cs close R) i
     part_none i u n = none_more (optional Part ◂ chr cs close) (λ k ys (t, (x, r, v), c). u x ys r) (λ l ys (t, q, g). go l ys t q g)
       where
         go : (l : ℕ) (ys : List Event) (t : ℕ) → (optional Part) i t ys → chr cs close t l → ⊥

@@ -11,7 +11,7 @@ use Rattle.yaml_text.specs.declared.fault.Fault.TheVariants as fault
 use Rattle.yaml_text.proofs.PrintLaws.{spelled_text}
 use Rattle.yaml_text.proofs.RefusedText.{refused_is_no_text}
 use Rattle.yaml_canon.specs.PlainTrees.{Spoken}
-use Rattle.yaml_canon.specs.FirstAnswer.{ReadsAll}
+use Rattle.yaml_canon.specs.ReaderAnswer.{ReadsAll}
 use Rattle.yaml_canon.specs.SecondPath.{ReadsSecond}
 use Rattle.yaml_canon.specs.SecondDocument.{SecondDocument}
 use Rattle.yaml_canon.proofs.SecondDocuments.{second_documents}

@@ -21,7 +21,7 @@ use Rattle.yaml_text.specs.declared.fault.Fault.{Fault}
 use Rattle.yaml_text.specs.declared.fault.Fault.TheVariants as fault
 use Rattle.yaml_text.specs.grammar.Reading.{Reads}
 use Rattle.yaml_text.proofs.Law.{texts_tell, spelled_stands}
-use Rattle.yaml_text.proofs.MeansLaws.{height_arranged}
+use Rattle.yaml_text.proofs.MeansLaws.{height_arranged, nodes_arranged}
 use Rattle.yaml_text.proofs.Neat.{neat_fixed, neat_keyed, arranged_neat}
 use Rattle.yaml_text.proofs.FlatLaws.{stream_once}
 use Rattle.yaml_text.proofs.SameLaws.{same_from, same_to}
@@ -42,7 +42,6 @@ use Rattle.yaml_canon.specs.SecondDocument.{SecondDocument}
 use Rattle.yaml_canon.proofs.PlainLaws.{plain_untagged, found_plain}
 use Rattle.yaml_canon.proofs.SecondSpelled.{second_spelled}
 use Rattle.yaml_canon.proofs.SpelledKeys.{spelled_no_equal}
-use Rattle.yaml_canon.proofs.Sizes.{nodes_arranged}
 
 -- ---- forests
 

@@ -18,10 +18,10 @@ use Rattle.yaml_text.specs.grammar.Tags as tags
 use Rattle.yaml_text.specs.grammar.Tags.{is_name, name}
 use Rattle.yaml_text.specs.grammar.Events.{Props}
 use Rattle.yaml_text.proofs.TextLaws.{IsName, IsAnchor, IsFine, AreFine, ArePairsFine, name_chars}
-use Rattle.yaml_canon.specs.FirstPath.{double_line}
+use Rattle.yaml_canon.specs.Line.{double_line}
 use Rattle.yaml_canon.specs.SecondPath.{anchored, alias_node, scalar_node, any_node, parts, sequence, entry, mapping, node}
 use Rattle.yaml_canon.specs.PlainMarks.{Plain, AllPlain, PairsPlain}
-use Rattle.yaml_canon.proofs.Derivation.{At, at_get, at_next, flat_more, all_more, pairs_more, none, one, pieces}
+use Rattle.yaml_canon.proofs.QuotedDerivation.{At, at_get, at_next, flat_more, all_more, pairs_more, none, one, pieces}
 
 -- ---- names
 
@@ -150,15 +150,15 @@ module _ (cs : List ℕ) where
 
   -- ---- the parts of a collection
 
-  module _ (close : ℕ) (inside R : Rule (List Event)) where
-    no_part : (i : ℕ) → slice_get cs i ≡ Some close → parts cs inside close R i (i + 1) []
+  module _ (close : ℕ) (R : Rule (List Event)) where
+    no_part : (i : ℕ) → slice_get cs i ≡ Some close → parts cs close R i (i + 1) []
     no_part i g = (i, [], [], done refl refl, (i, inl (refl, refl), (g, refl)), refl)
 
-    last_part : (i k : ℕ) (es : List Event) → R i k es → slice_get cs k ≡ Some close → parts cs inside close R i (k + 1) es
+    last_part : (i k : ℕ) (es : List Event) → R i k es → slice_get cs k ≡ Some close → parts cs close R i (k + 1) es
     last_part i k es d g = (i, [], es, done refl refl, (k, inr (k, d, none cs k), (g, refl)), refl)
 
-    one_more : (i k j : ℕ) (es fs : List Event) → R i k es → slice_get cs k ≡ Some 44 → slice_get cs (k + 1) ≡ Some 32 → parts cs inside close R (k + 1 + 1) j fs
-        → parts cs inside close R i j (es ++ fs)
+    one_more : (i k j : ℕ) (es fs : List Event) → R i k es → slice_get cs k ≡ Some 44 → slice_get cs (k + 1) ≡ Some 32 → parts cs close R (k + 1 + 1) j fs
+        → parts cs close R i j (es ++ fs)
     one_more i k j es fs d g h p = (
       p.0,
       es ++ p.1,
@@ -255,16 +255,16 @@ module _ (cs : List ℕ) where
         )
 
     items : (ts : AllMarked) (room i : ℕ) (r : List ℕ) → AllPlain ts → AreFine ts → depths ts ≤ room → At cs i (items_text [] ts r)
-        → (j : ℕ) × parts cs (node cs room) 93 (any_node cs (node cs room)) i j (flat_all ts []) × At cs j r
-    items end_marks room i r p f l a = (i + 1, no_part cs 93 (node cs room) (any_node cs (node cs room)) i (at_get cs i 93 r a), at_next cs i 93 r a)
+        → (j : ℕ) × parts cs 93 (any_node cs (node cs room)) i j (flat_all ts []) × At cs j r
+    items end_marks room i r p f l a = (i + 1, no_part cs 93 (any_node cs (node cs room)) i (at_get cs i 93 r a), at_next cs i 93 r a)
     items (item_mark t ts) room i r p f l a = more_items ts t room i r (λ k q s b. plain_read t room k q p.0 f.0 (omega arith) s b) p.1 f.1 (omega arith) a
 
     -- an item, and those after it
     more_items : (ts : AllMarked) (t : Marked) (room i : ℕ) (r : List ℕ) → Reads t room → AllPlain ts → AreFine ts → depths ts ≤ room → At cs i (text t (items_text (44 ∷ 32 ∷ []) ts r))
-        → (j : ℕ) × parts cs (node cs room) 93 (any_node cs (node cs room)) i j (flat t (flat_all ts [])) × At cs j r
+        → (j : ℕ) × parts cs 93 (any_node cs (node cs room)) i j (flat t (flat_all ts [])) × At cs j r
     more_items end_marks t room i r read p f l a =
         let d = read i (93 ∷ r) bracket_stops a in
-        (d.0 + 1, last_part cs 93 (node cs room) (any_node cs (node cs room)) i d.0 (flat t []) d.1 (at_get cs d.0 93 r d.2), at_next cs d.0 93 r d.2)
+        (d.0 + 1, last_part cs 93 (any_node cs (node cs room)) i d.0 (flat t []) d.1 (at_get cs d.0 93 r d.2), at_next cs d.0 93 r d.2)
     more_items (item_mark u us) t room i r read p f l a =
         let rest : List ℕ = text u (items_text (44 ∷ 32 ∷ []) us r) in
         let d = read i (44 ∷ 32 ∷ rest) comma_stops a in
@@ -272,22 +272,22 @@ module _ (cs : List ℕ) where
         let k : ℕ = d.0 + 1 in
         let es : List Event = flat u (flat_all us []) in
         let m = more_items us u room (k + 1) r (λ x q s b. plain_read u room x q p.0 f.0 (omega arith) s b) p.1 f.1 (omega arith) (at_next cs k 32 rest n) in
-        let c = one_more cs 93 (node cs room) (any_node cs (node cs room)) i d.0 m.0 (flat t []) es d.1 (at_get cs d.0 44 (32 ∷ rest) d.2) (at_get cs k 32 rest n) m.1 in
-        (m.0, subst (parts cs (node cs room) 93 (any_node cs (node cs room)) i m.0) (sym (flat_more t [] es)) c, m.2)
+        let c = one_more cs 93 (any_node cs (node cs room)) i d.0 m.0 (flat t []) es d.1 (at_get cs d.0 44 (32 ∷ rest) d.2) (at_get cs k 32 rest n) m.1 in
+        (m.0, subst (parts cs 93 (any_node cs (node cs room)) i m.0) (sym (flat_more t [] es)) c, m.2)
 
     pairs : (ps : MarkedPairs) (room i : ℕ) (r : List ℕ) → PairsPlain ps → ArePairsFine ps → pairs_depth ps ≤ room → At cs i (pairs_text [] ps r)
-        → (j : ℕ) × parts cs (node cs room) 125 (entry cs (node cs room)) i j (flat_pairs ps []) × At cs j r
-    pairs done_marks room i r p f l a = (i + 1, no_part cs 125 (node cs room) (entry cs (node cs room)) i (at_get cs i 125 r a), at_next cs i 125 r a)
+        → (j : ℕ) × parts cs 125 (entry cs (node cs room)) i j (flat_pairs ps []) × At cs j r
+    pairs done_marks room i r p f l a = (i + 1, no_part cs 125 (entry cs (node cs room)) i (at_get cs i 125 r a), at_next cs i 125 r a)
     pairs (entry_marks k v ps) room i r p f l a =
         more_pairs ps k v room i r (λ x q s b. plain_read k room x q p.0 f.0 (omega arith) s b) (λ x q s b. plain_read v room x q p.1 f.1 (omega arith) s b) p.2 f.2 (omega arith) a
 
     -- an entry, and those after it
     more_pairs : (ps : MarkedPairs) (k v : Marked) (room i : ℕ) (r : List ℕ) → Reads k room → Reads v room → PairsPlain ps → ArePairsFine ps → pairs_depth ps ≤ room
         → At cs i (text k (32 ∷ 58 ∷ 32 ∷ text v (pairs_text (44 ∷ 32 ∷ []) ps r)))
-        → (j : ℕ) × parts cs (node cs room) 125 (entry cs (node cs room)) i j (flat k (flat v (flat_pairs ps []))) × At cs j r
+        → (j : ℕ) × parts cs 125 (entry cs (node cs room)) i j (flat k (flat v (flat_pairs ps []))) × At cs j r
     more_pairs done_marks k v room i r key value p f l a =
         let d = entry_read k v room i (125 ∷ r) key value brace_stops a in
-        (d.0 + 1, last_part cs 125 (node cs room) (entry cs (node cs room)) i d.0 (flat k (flat v [])) d.1 (at_get cs d.0 125 r d.2), at_next cs d.0 125 r d.2)
+        (d.0 + 1, last_part cs 125 (entry cs (node cs room)) i d.0 (flat k (flat v [])) d.1 (at_get cs d.0 125 r d.2), at_next cs d.0 125 r d.2)
     more_pairs (entry_marks x w qs) k v room i r key value p f l a =
         let rest : List ℕ = text x (32 ∷ 58 ∷ 32 ∷ text w (pairs_text (44 ∷ 32 ∷ []) qs r)) in
         let d = entry_read k v room i (44 ∷ 32 ∷ rest) key value comma_stops a in
@@ -295,6 +295,6 @@ module _ (cs : List ℕ) where
         let q : ℕ = d.0 + 1 in
         let es : List Event = flat x (flat w (flat_pairs qs [])) in
         let m = more_pairs qs x w room (q + 1) r (λ y z s b. plain_read x room y z p.0 f.0 (omega arith) s b) (λ y z s b. plain_read w room y z p.1 f.1 (omega arith) s b) p.2 f.2 (omega arith) (at_next cs q 32 rest n) in
-        let c = one_more cs 125 (node cs room) (entry cs (node cs room)) i d.0 m.0 (flat k (flat v [])) es d.1 (at_get cs d.0 44 (32 ∷ rest) d.2) (at_get cs q 32 rest n) m.1 in
+        let c = one_more cs 125 (entry cs (node cs room)) i d.0 m.0 (flat k (flat v [])) es d.1 (at_get cs d.0 44 (32 ∷ rest) d.2) (at_get cs q 32 rest n) m.1 in
         let e : flat k (flat v es) ≡ flat k (flat v []) ++ es = ap (flat k) (flat_more v [] es) ∙ flat_more k (flat v []) es in
-        (m.0, subst (parts cs (node cs room) 125 (entry cs (node cs room)) i m.0) (sym e) c, m.2)
+        (m.0, subst (parts cs 125 (entry cs (node cs room)) i m.0) (sym e) c, m.2)

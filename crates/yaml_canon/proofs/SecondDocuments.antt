@@ -13,7 +13,7 @@ use Rattle.yaml_text.specs.grammar.Reading.{Reads}
 use Rattle.yaml_text.specs.grammar.Laws.{FromDocuments}
 use Rattle.yaml_text.proofs.FlatLaws.{stream_once}
 use Rattle.yaml_text.proofs.grammar.Documents.{readings_are_documents}
-use Rattle.yaml_canon.specs.FirstPath.{spaces, comma}
+use Rattle.yaml_canon.specs.Line.{spaces, comma}
 use Rattle.yaml_canon.specs.SecondPath.{anchored, alias_node, scalar_node, any_node, parts, sequence, entry, mapping, node, content, document, ReadsSecond}
 use Rattle.yaml_canon.specs.SecondDocument.{SecondDocument}
 use Rattle.yaml_canon.specs.PlainMarks.{Plain, AllPlain, PairsPlain}
@@ -97,7 +97,7 @@ module _ (cs : List ℕ) where
     many_told j i ys zs (then k vs ws (m, (n, r, s), c) more h) p =
         subst P (sym (append_assoc vs ws zs) ∙ ap (λ v. v ++ zs) (sym h)) (step i n vs (ws ++ zs) r (many_told j k ws zs more p))
 
-    parts_told : (close i j : ℕ) (es : List Event) → parts cs (alias_node cs) close R i j es → P es
+    parts_told : (close i j : ℕ) (es : List Event) → parts cs close R i j es → P es
     parts_told close i j es (k, ys, zs, more, (m, inl (p, nothing), q), e) = subst P (sym e) (many_told k i ys zs more (subst P (sym nothing) base))
     parts_told close i j es (k, ys, zs, more, (m, inr (p, r, s), q), e) =
         subst P (sym e) (many_told k i ys zs more (subst P (append-nil zs) (step k p zs [] r base)))

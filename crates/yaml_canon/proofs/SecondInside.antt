@@ -14,10 +14,10 @@ use Rattle.yaml_text.specs.grammar.FlowScalars.{plain_safe, double}
 use Rattle.yaml_text.specs.grammar.Events.{Props, no_props, scalar}
 use Rattle.yaml_text.specs.grammar.Nodes.{pair_part, yaml_part, json_part, block_part, yaml_node, json_node, flow_node, flow_seq, flow_map, entry as map_entry_of, implicit_entry, yaml_key_entry, json_key_entry, value, adjacent, block_node, reads}
 use Rattle.yaml_text.specs.grammar.Streams.{Piece, document_piece, document_mark, bare_document, explicit_document, any_document, stream, stream_events, piece_events, ends_explicitly, ReadsText}
-use Rattle.yaml_canon.specs.FirstPath.{spaces, double_line, comma, tail}
+use Rattle.yaml_canon.specs.Line.{spaces, double_line, comma, tail}
 use Rattle.yaml_canon.specs.SecondPath.{apart, anchored, alias_node, scalar_node, any_node, parts, sequence, entry, mapping, node, content, document, ReadsSecond}
-use Rattle.yaml_canon.proofs.FirstInside as first
-use Rattle.yaml_canon.proofs.FirstInside.{Along, Inline, Lined, Inside, context, go_on, stay, one_on, run_on, double_on, spaces_on, comma_on, inline_on, unmarked, around, tail_in, tail_unmarked, both_unmarked, space_run}
+use Rattle.yaml_canon.proofs.LineInside as line
+use Rattle.yaml_canon.proofs.LineInside.{Along, Inline, Lined, Inside, context, go_on, stay, one_on, run_on, double_on, spaces_on, comma_on, inline_on, unmarked, around, tail_in, tail_unmarked, both_unmarked, space_run}
 
 name_no_break : (c : ℕ) → is_name c ≡ true → is_break c ≡ false
 unfolding is_name is_ns is_nb
@@ -64,7 +64,7 @@ module _ (cs : List ℕ) where
   last_on R f i j es (inl (q, r)) = stay cs i j q
   last_on R f i j es (inr r) = spaced_on R f i j es r
 
-  parts_on : (close : ℕ) → is_break close ≡ false → (R : Rule (List Event)) → Lined cs R → Lined cs (parts cs (alias_node cs) close R)
+  parts_on : (close : ℕ) → is_break close ≡ false → (R : Rule (List Event)) → Lined cs R → Lined cs (parts cs close R)
   parts_on close b R f i j es (k, ys, zs, more, (m, last, (g, h)), e) = go_on cs i k j (many_on R f k i ys more) (go_on cs k m j (last_on R f k m zs last) (one_on cs m j close b g h))
 
   any_on : (R : Rule (List Event)) → Lined cs R → Lined cs (any_node cs R)
@@ -113,7 +113,7 @@ module _ (cs : List ℕ) where
   last_in b R S f i j es n (inl r) = inl r
   last_in b R S f i j es n (inr r) = inr (spaced_in b R S f i j es n r)
 
-  parts_in : (b : Bool) (close : ℕ) (R S : Rule (List Event)) → Lined cs R → Inside cs R S → Inside cs (parts cs (alias_node cs) close R)
+  parts_in : (b : Bool) (close : ℕ) (R S : Rule (List Event)) → Lined cs R → Inside cs R S → Inside cs (parts cs close R)
       ((any ((S ◂ maybe (separate cs 0 (context cs b))) ◂ (chr cs 44 ◆ maybe (separate cs 0 (context cs b)))) ⨾ optional (S ◂ maybe (separate cs 0 (context cs b)))) ◂ chr cs close)
   parts_in b close R S l f i j es n (k, ys, zs, more, (m, last, q), e) =
       let after : Inline cs k = inline_on cs i k n (many_on R l k i ys more) in
@@ -126,7 +126,7 @@ module _ (cs : List ℕ) where
   anchored_in : (b : Bool) (i j : ℕ) (p : Props) → anchored cs i j p → (gives no_props ∪ (properties cs [] 0 (context cs b) ◂ separate cs 0 (context cs b))) i j p
   unfolding anchored properties
   anchored_in b i j p (inl q) = inl q
-  anchored_in b i j p (inr (m, (xs, r, e), s)) = inr (m, inr (m, xs, r, inl (refl, e)), first.apart cs b m j (spaces_apart m j s))
+  anchored_in b i j p (inr (m, (xs, r, e), s)) = inr (m, inr (m, xs, r, inl (refl, e)), line.apart cs b m j (spaces_apart m j s))
 
   alias_in : (room : ℕ) (c : Ctx) (i j : ℕ) (es : List Event) → alias_node cs i j es → reads cs ⊥ [] room (yaml_part 0 c) i j es
   unfolding alias_node reads yaml_node
@@ -176,7 +176,7 @@ module _ (cs : List ℕ) where
         ys,
         zs,
         alias_in room flow_in i m ys a,
-        inl (o, around cs true m o s, (q, (q, (c, d), (refl, parted_value q k t)), inl (k, first.apart cs true q k (spaces_apart q k t), any_in room f k j zs (inline_on cs i k n along) v))),
+        inl (o, around cs true m o s, (q, (q, (c, d), (refl, parted_value q k t)), inl (k, line.apart cs true q k (spaces_apart q k t), any_in room f k j zs (inline_on cs i k n along) v))),
         e,
       ))
   flow_entry_in room f i j es n (inr (k, ys, zs, (m, a, (o, s, (q, (c, d), t))), v, e)) =

@@ -7,14 +7,14 @@ use Rattle.yaml_text.specs.Answer.{Only}
 use Rattle.yaml_text.specs.grammar.Rules.{Rule, ◌▸◌, ◌◂◌, Any, done, then, chr, optional, with_value, seen}
 use Rattle.yaml_text.specs.grammar.Events.{Props, no_props, seq_start, map_start, scalar, wrapped}
 use Rattle.yaml_text.specs.grammar.Tags.{name, anchor, alias}
-use Rattle.yaml_canon.specs.FirstPath.{spaces, double_line, comma}
-use Rattle.yaml_canon.specs.FirstAnswer.{Leads}
-use Rattle.yaml_canon.specs.SecondPath.{anchored, alias_node, any_node, sequence, entry, mapping, node, content, document, ReadsSecond}
-use Rattle.yaml_canon.specs.SecondAnswer.{props_of, parts_of, opened, bare, marked}
+use Rattle.yaml_canon.specs.Line.{spaces, double_line, comma}
+use Rattle.yaml_canon.specs.ReaderAnswer.{Leads}
+use Rattle.yaml_canon.specs.SecondPath.{parts, anchored, alias_node, any_node, sequence, entry, mapping, node, content, document, ReadsSecond}
+use Rattle.yaml_canon.specs.SecondAnswer.{props_of, opened, bare, marked}
 use Rattle.yaml_canon.proofs.Leads.{leads_on, leads_end}
 use Rattle.yaml_canon.proofs.ScalarLemmas.{bytes_only, double_first}
-use Rattle.yaml_canon.proofs.FirstOnce.{seen_as, double_each}
-use Rattle.yaml_canon.proofs.FlowLemmas.{char_start, spaces_start}
+use Rattle.yaml_canon.proofs.QuotedOnce.{seen_as, double_each}
+use Rattle.yaml_canon.proofs.LineLemmas.{char_start, spaces_start}
 use Rattle.yaml_canon.proofs.PartLemmas.{Closes, closes_93, closes_125, IsPartRule, differ, no_space, parts_first, opened_start, parts_close, part_comma, part_close}
 use Rattle.yaml_canon.proofs.NodeLemmas.{seen_only, name_only, alias_first, alias_only, seq_first, map_first, bare_no_anchor, bare_no_space, bare_seq_here, bare_map_here, bare_scalar, seq_only, map_only, to_bare, node_plain, node_after, any_first, any_alias, any_other, node_no_star, entry_first, entry_leads, entry_cases, Parted}
 use Rattle.yaml_canon.proofs.SecondText.{content_first, text_read}
@@ -24,21 +24,21 @@ module _ (cs : List ℕ) where
   Each R = (i j : ℕ) (es : List Event) → R i j es → Only R i j es
 
   module _ (close : ℕ) (closes : Closes close) (R : Rule (List Event)) (first : IsPartRule cs R) (each : Each R) where
-    last_each : (i t j : ℕ) (es : List Event) → (optional (R ◂ spaces cs)) i t es → chr cs close t j → Only (parts_of cs close R) i j es
+    last_each : (i t j : ℕ) (es : List Event) → (optional (R ◂ spaces cs)) i t es → chr cs close t j → Only (parts cs close R) i j es
     last_each i t j es (inl (a, b)) (h, e) = seen_as cs [] es b (parts_close cs close closes R first i j (subst (λ n. slice_get cs n ≡ Some close) a h) (subst (λ n. j ≡ n + 1) a e))
     last_each i t j es (inr (k, r, s)) (h, e) = part_close cs close closes R first i k t j es (each i k es r) s h e
 
-    parts_each : (j k t i : ℕ) (xs ys : List Event) → Any ((R ◂ spaces cs) ◂ comma cs) k i xs → (optional (R ◂ spaces cs)) k t ys → chr cs close t j → Only (parts_of cs close R) i j (xs ++ ys)
+    parts_each : (j k t i : ℕ) (xs ys : List Event) → Any ((R ◂ spaces cs) ◂ comma cs) k i xs → (optional (R ◂ spaces cs)) k t ys → chr cs close t j → Only (parts cs close R) i j (xs ++ ys)
     parts_each j k t i xs ys (done a b) q c = seen_as cs ys (xs ++ ys) (ap (λ v. v ++ ys) b) (last_each i t j ys (subst (λ n. (optional (R ◂ spaces cs)) n t ys) a q) c)
     parts_each j k t i xs ys (then d us vs (b, (a, r, s), (x, (h, e), u)) more f) q c =
-        let rest : Only (parts_of cs close R) d j (vs ++ ys) = parts_each j k t d vs ys more q c in
+        let rest : Only (parts cs close R) d j (vs ++ ys) = parts_each j k t d vs ys more q c in
         let n : slice_get cs d ≢ Some 32 = parts_first cs close closes R first d j (vs ++ ys) rest.is in
         seen_as cs (us ++ (vs ++ ys)) (xs ++ ys) (ap (λ v. v ++ ys) f ∙ append_assoc us vs ys)
         (leads_end (part_comma cs close closes R first i a b x d us (each i a us r) s h e u n) rest)
 
     opened_each : (from : ℕ) → Each (opened cs from close R)
     opened_each from i j es (k, (h, e), (d, s, (m, us, vs, p, (t, q, c), f))) =
-        let rest : Only (parts_of cs close R) d j (us ++ vs) = parts_each j m t d us vs p q c in
+        let rest : Only (parts cs close R) d j (us ++ vs) = parts_each j m t d us vs p q c in
         let n : slice_get cs d ≢ Some 32 = parts_first cs close closes R first d j (us ++ vs) rest.is in
         seen_as cs (us ++ vs) es f (leads_end (opened_start cs close closes R first i k d from h e s n) rest)
 

@@ -22,12 +22,12 @@ use Rattle.yaml_text.specs.grammar.Characters.{brk, is_nb, is_ns, is_break}
 use Rattle.yaml_text.specs.grammar.Tags as tags
 use Rattle.yaml_text.specs.grammar.Tags.{is_name, name}
 use Rattle.yaml_text.specs.grammar.Events.{Props}
-use Rattle.yaml_canon.specs.FirstPath.{double_line}
+use Rattle.yaml_canon.specs.Line.{double_line}
 use Rattle.yaml_canon.specs.SecondPath as second
 use Rattle.yaml_canon.specs.SecondPath.{alias_node, any_node, node, content, document, ReadsSecond}
 use Rattle.yaml_canon.specs.PlainTrees.{IsPlain, ArePlain, ArePairsPlain}
 use Rattle.yaml_canon.specs.PlainMarks.{Plain, AllPlain, PairsPlain}
-use Rattle.yaml_canon.proofs.Derivation.{At, at_get, at_next, at_end, flat_more, none}
+use Rattle.yaml_canon.proofs.QuotedDerivation.{At, at_get, at_next, at_end, flat_more, none}
 use Rattle.yaml_canon.proofs.SecondDerivation.{depth, depths, pairs_depth, same_at, feed_stops, plain_read}
 
 -- ---- arranged

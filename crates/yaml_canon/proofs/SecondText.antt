@@ -4,8 +4,9 @@ use Rattle.std.specs.Prelude.{slice_get}
 use Rattle.yaml_text.specs.Limits.{open_limit}
 use Rattle.yaml_text.specs.Answer.{Only}
 use Rattle.yaml_text.specs.Event.{Event}
-use Rattle.yaml_canon.specs.FirstPath.{tail, first_events}
-use Rattle.yaml_canon.specs.FirstAnswer.{Leads, Unread}
+use Rattle.yaml_canon.specs.Line.{tail, one_document}
+use Rattle.yaml_text.specs.grammar.Calls.{Unread}
+use Rattle.yaml_canon.specs.ReaderAnswer.{Leads}
 use Rattle.yaml_canon.specs.SecondPath.{any_node, node, content, document, ReadsSecond}
 use Rattle.yaml_canon.specs.SecondAnswer.{marked}
 use Rattle.yaml_canon.proofs.PartLemmas.{no_space}
@@ -31,11 +32,11 @@ module _ (cs : List ℕ) where
   -- ---- the text
 
   pub text_read : (i a : ℕ) (es : List Event) → Leads (marked cs (content cs)) 0 (content cs) i [] → Only (any_node cs (node cs open_limit)) i a es → tail cs a (length cs) →
-      ReadsSecond cs (first_events es) × ((fs : List Event) → ReadsSecond cs fs → fs ≡ first_events es)
+      ReadsSecond cs (one_document es) × ((fs : List Event) → ReadsSecond cs fs → fs ≡ one_document es)
   unfolding ReadsSecond document content
   text_read i a es l o t = (
     (es, l.forth (length cs) es (a, o.is, t), refl),
-    λ fs (gs, r, e). let s = l.back (length cs) gs r in e ∙ ap (first_events) (s.2 ∙ content_only i a es o (length cs) s.0 s.1),
+    λ fs (gs, r, e). let s = l.back (length cs) gs r in e ∙ ap (one_document) (s.2 ∙ content_only i a es o (length cs) s.0 s.1),
   )
 
   pub no_text : (i : ℕ) → Leads (marked cs (content cs)) 0 (content cs) i [] → ((ys : List Event) → content cs i (length cs) ys → ⊥) → (fs : List Event) → ReadsSecond cs fs → ⊥

@@ -1,6 +1,6 @@
 -- Trees whose entries stand in strict order of their keys.
 use Rattle.std.specs.Prelude.{◌≡◌, List, [], ◌∷◌}
-use Rattle.yaml_text.specs.Tree.{Tree, Trees, scalar, sequence, mapping, end, item}
+use Rattle.yaml_text.specs.Tree.{Tree}
 use Rattle.yaml_text.specs.Same.{Keyed}
 use Rattle.yaml_text.specs.Order.{arranged}
 
@@ -12,14 +12,3 @@ pub record IsArranged (t : Tree) : Type 0 where
 abbrev pub AllArranged : List Tree → Type 0
 AllArranged [] = Unit {0}
 AllArranged (t ∷ f) = IsArranged t × AllArranged f
-
--- no mapping stands in the tree
-abbrev mutual
-  pub HasNoMapping : Tree → Type 0
-  HasNoMapping (scalar a x) = Unit {0}
-  HasNoMapping (sequence a ts) = HaveNoMapping ts
-  HasNoMapping (mapping a ps) = ⊥
-
-  pub HaveNoMapping : Trees → Type 0
-  HaveNoMapping end = Unit {0}
-  HaveNoMapping (item t ts) = HasNoMapping t × HaveNoMapping ts

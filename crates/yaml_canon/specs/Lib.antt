@@ -1,10 +1,7 @@
 pub mod TreeModel
-pub mod Among
 pub mod Claims
-pub mod FirstPath
-pub mod FirstAnswer
-pub mod SimpleMarks
-pub mod FirstDocument
+pub mod Line
+pub mod ReaderAnswer
 pub mod SecondPath
 pub mod PlainMarks
 pub mod PlainTrees

@@ -1,23 +1,19 @@
 -- What the calls of the reader of `SecondPath` say, and parts of its productions. Temporary, as that reader is.
 use Rattle.std.specs.Prelude.{◌≡◌, ℕ, zero, suc, ◌<◌, List, Some, slice_get}
 use Rattle.yaml_text.specs.Event.{Event, Anchor, untagged}
-use Rattle.yaml_text.specs.grammar.Rules.{Span, Rule, ◌▸◌, ◌◂◌, ◌⨾◌, ◌∪◌, any, optional, chr}
+use Rattle.yaml_text.specs.grammar.Rules.{Span, Rule, ◌▸◌, ◌∪◌, chr}
 use Rattle.yaml_text.specs.grammar.Events.{Props}
-use Rattle.yaml_canon.specs.FirstPath.{spaces, comma}
-use Rattle.yaml_canon.specs.SecondPath.{scalar_node, sequence, mapping, node}
+use Rattle.yaml_canon.specs.Line.{spaces}
+use Rattle.yaml_canon.specs.SecondPath.{parts, scalar_node, sequence, mapping, node}
 
 -- the properties of a node with this anchor and no tag
 abbrev pub props_of : Anchor → Props
 props_of a = record { anchor = a; tag = untagged }
 
 module _ (cs : List ℕ) where
-  -- parts, each but perhaps the last with a comma after it, and the character that closes them
-  abbrev pub parts_of : ℕ → Rule (List Event) → Rule (List Event)
-  parts_of close R = any ((R ◂ spaces cs) ◂ comma cs) ⨾ (optional (R ◂ spaces cs) ◂ chr cs close)
-
-  -- the same from the character that opens them
+  -- the parts of a collection, from the character that opens them
   abbrev pub opened : ℕ → ℕ → Rule (List Event) → Rule (List Event)
-  opened from close R = chr cs from ▸ spaces cs ▸ parts_of close R
+  opened from close R = chr cs from ▸ spaces cs ▸ parts cs close R
 
   -- a node after its anchor, which may open so many collections, one inside another
   unfoldable pub bare : ℕ → Props → Rule (List Event)

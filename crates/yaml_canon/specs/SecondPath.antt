@@ -8,7 +8,7 @@ use Rattle.yaml_text.specs.grammar.Rules.{Span, Rule, ◌◆◌, ◌▸◌, ◌�
 use Rattle.yaml_text.specs.grammar.Characters.{is_space}
 use Rattle.yaml_text.specs.grammar.Tags as tags
 use Rattle.yaml_text.specs.grammar.Events.{Props, no_props, seq_start, map_start, scalar, alias, wrapped}
-use Rattle.yaml_canon.specs.FirstPath.{spaces, double_line, comma, tail, first_events}
+use Rattle.yaml_canon.specs.Line.{spaces, double_line, comma, tail, one_document}
 
 module _ (cs : List ℕ) where
   -- one or more spaces
@@ -27,14 +27,14 @@ module _ (cs : List ℕ) where
   abbrev pub scalar_node : Props → Rule (List Event)
   scalar_node p = seen (λ t. scalar p double t ∷ []) (double_line cs)
 
+  -- each part but perhaps the last is followed by a comma, and the last by this character
+  abbrev pub parts : ℕ → Rule (List Event) → Rule (List Event)
+  parts close R = any ((R ◂ spaces cs) ◂ comma cs) ⨾ (optional (R ◂ spaces cs) ◂ chr cs close)
+
   -- The nodes inside that are no aliases are read by `inside`.
   module _ (inside : Rule (List Event)) where
     abbrev pub any_node : Rule (List Event)
     any_node = alias_node ∪ inside
-
-    -- each part but perhaps the last is followed by a comma, and the last by this character
-    abbrev pub parts : ℕ → Rule (List Event) → Rule (List Event)
-    parts close R = any ((R ◂ spaces cs) ◂ comma cs) ⨾ (optional (R ◂ spaces cs) ◂ chr cs close)
 
     -- 7.4.1
     unfoldable pub sequence : Props → Rule (List Event)
@@ -60,4 +60,4 @@ module _ (cs : List ℕ) where
 
   -- the whole text is such a stream, with these events
   unfoldable pub ReadsSecond : List Event → Type 0
-  ReadsSecond es = seen first_events document 0 (length cs) es
+  ReadsSecond es = seen one_document document 0 (length cs) es

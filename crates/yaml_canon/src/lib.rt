@@ -4,11 +4,12 @@
 mod arrange;
 pub mod comparer;
 mod compose;
-mod flow_reader;
 mod forest;
+mod line;
 mod node;
 mod order;
 pub mod presenter;
+mod quoted;
 mod reader;
 mod reading;
 mod scalar;

@@ -1,209 +1,72 @@
-//! Temporary: reads the streams of the first path; the crate `yaml_read` replaces it.
-ghost use Rattle.std.specs.Prelude.{◌≡◌, ◌≢◌, ◌≤◌, ◌<◌, ◌+◌, ◌∷◌, [], IfOk, IfErr, IfSome, IfNone, Some, None, slice_get, slice_range, ℕ, List, map, length, encode_utf8_all};
-ghost use Rattle.std.specs.Bool.{OnTrue, OnFalse};
+//! Temporary: reads streams of one line with mappings, anchors and aliases; the crate `yaml_read` replaces it.
+ghost use Rattle.std.specs.Prelude.{◌≡◌, ◌≢◌, ◌≤◌, ◌<◌, IfOk, IfErr, Some, slice_get, encode_utf8_all, ℕ, map};
 ghost use Rattle.std.specs.Result.{result_map_both};
-ghost use Rattle.std.specs.Char.{IsScalar, is_ascii_hexdigit};
-ghost use Rattle.std.specs.Str.{chars};
-ghost use Rattle.std.specs.Str.Parse.{digits_value};
-ghost use Rattle.std.specs.String.{string_bytes};
+ghost use Rattle.std.specs.Option.{option_map};
 ghost use Rattle.std.specs.Cow.{cow_str_bytes};
 ghost use Rattle.yaml_text.specs.Place.{Steps};
 ghost use Rattle.yaml_text.specs.Source.{bytes_of, text_of, place_of, IsBorder};
 ghost use Rattle.yaml_text.specs.EventModel.{event_of};
-ghost use Rattle.yaml_text.specs.grammar.Rules.{Stands, seen, run, exactly};
-ghost use Rattle.yaml_text.specs.grammar.Characters.{is_space, short_escape, brk, numbered, escape};
-ghost use Rattle.yaml_canon.specs.FirstPath.{is_verbatim, digit_count, spaces, double_line, quoted_rest, sequence, node, AfterReturn, tail, document, content, ReadsFirst};
-ghost use Rattle.yaml_canon.specs.FirstAnswer.{Refuses, Answers, Finds, Appends, Unread, LeadsOn, ReadsAll};
+ghost use Rattle.yaml_text.specs.grammar.Rules.{Stands, seen, run};
+ghost use Rattle.yaml_text.specs.grammar.Tags.{is_name, name};
+ghost use Rattle.yaml_canon.specs.ReaderAnswer.{Refuses, Answers, Appends, LeadsOn, ReadsAll};
+ghost use Rattle.yaml_canon.specs.SecondPath.{apart, alias_node, any_node, sequence, entry, mapping, node, content, ReadsSecond};
+ghost use Rattle.yaml_canon.specs.SecondAnswer.{props_of, opened, bare, gap, marked};
 
+use crate::line::{expect, read_tail, skip_spaces, unusable};
+use crate::quoted::read_double;
 use std::alloc::Global;
 use std::borrow::CowStr;
 use yaml_text::chars::Chars;
-use yaml_text::class::is_break;
+use yaml_text::class::{is_break, is_flow_indicator, is_white};
 use yaml_text::event::{Event, EventTag, Style};
 use yaml_text::fault::Fault;
-use yaml_text::places::{accept, is_end, next, text_between};
+use yaml_text::places::{accept, next, text_between};
 
 #[cfg(test)]
 mod tests;
 
 /// How many collections may be open at one place.
-pub(crate) const OPEN_LIMIT: u32 = 128;
+const OPEN_LIMIT: u32 = 128;
 
-/// The fault of a character that cannot be used where separation may stand.
-pub(crate) fn unusable(source: &Chars<'_>, at: usize) -> Fault
+/// The border after the spaces at a border, where one has to stand.
+fn read_apart(source: &Chars<'_>, at: usize) -> Result<usize, Fault>
     requires { IsBorder source.now at }
-    ensures { Refuses result (Unit {0}) }
+    ensures border { IfOk result (λ to. IsBorder source.now to) }
+    ensures onward { IfOk result (λ to. at < to) }
+    ensures apart { IfOk result (λ to. apart (text_of source.now) (place_of source.now at) (place_of source.now to)) }
+    ensures furthest { IfOk result (λ to. slice_get (text_of source.now) (place_of source.now to) ≢ Some 32) }
+    ensures err { IfErr result (λ e. Refuses e (slice_get (text_of source.now) (place_of source.now at) ≢ Some 32)) }
 {
-    match accept(source, at, '\t') {
-        Some(_) => Fault::Tab(source.pos(at)),
-        None => Fault::Syntax(source.pos(at)),
+    match accept(source, at, ' ') {
+        Some(to) => Ok(skip_spaces(source, to)),
+        None => Err(unusable(source, at)),
     }
 }
 
-/// The border after this character, which has to stand at a border.
-pub(crate) fn expect(source: &Chars<'_>, at: usize, c: char) -> Result<usize, Fault>
-    requires { IsBorder source.now at }
-    ensures ok { IfOk result (Steps (bytes_of source.now) at c) }
-    ensures err { IfErr result (λ e. Refuses e (slice_get (text_of source.now) (place_of source.now at) ≢ Some c)) }
+// ---- names
+
+/// Whether a character may stand in the name of an anchor (YAML 1.2.2, 6.9.2).
+#[tactic(auto, unfolding(yaml_text::specs::grammar::Tags::is_name, yaml_text::specs::grammar::Characters::is_ns, yaml_text::specs::grammar::Characters::is_nb))]
+fn is_name(c: char) -> bool
+    ensures { result ≡ is_name c }
 {
-    match accept(source, at, c) {
-        Some(to) => Ok(to),
-        None => Err(Fault::Syntax(source.pos(at))),
-    }
+    !is_break(c) && !is_white(c) && !is_flow_indicator(c)
 }
 
-/// The border after the spaces that stand at a border.
-#[tactic(auto, unfolding(yaml_text::specs::grammar::Characters::is_space))]
-pub(crate) fn skip_spaces(source: &Chars<'_>, at: usize) -> usize
-    requires { IsBorder source.now at }
-    ensures border { IsBorder source.now result }
-    ensures onward { at ≤ result }
-    ensures spaces { spaces (text_of source.now) (place_of source.now at) (place_of source.now result) }
-    ensures furthest { slice_get (text_of source.now) (place_of source.now result) ≢ Some 32 }
-{
-    let mut here = at;
-    while let Some((' ', to)) = next(source, here) {
-        here = to;
-    }
-    here
-}
-
-// ---- scalars
-
-/// What a backslash and a character give, where they are a whole escape (YAML 1.2.2, 5.7).
-#[tactic(auto, unfolding(yaml_text::specs::grammar::Characters::short_escape))]
-fn short_escape(c: char) -> Option<char>
-    ensures { result ≡ short_escape c }
-{
-    match c {
-        '0' => Some('\0'),
-        'a' => Some('\x07'),
-        'b' => Some('\x08'),
-        't' => Some('\t'),
-        '\t' => Some('\t'),
-        'n' => Some('\n'),
-        'v' => Some('\x0b'),
-        'f' => Some('\x0c'),
-        'r' => Some('\r'),
-        'e' => Some('\x1b'),
-        ' ' => Some(' '),
-        '"' => Some('"'),
-        '/' => Some('/'),
-        '\\' => Some('\\'),
-        'N' => Some('\u{85}'),
-        '_' => Some('\u{a0}'),
-        'L' => Some('\u{2028}'),
-        'P' => Some('\u{2029}'),
-        _ => None,
-    }
-}
-
-/// How many hexadecimal digits follow a character after a backslash (5.7).
-#[tactic(auto, unfolding(crate::specs::FirstPath::digit_count))]
-fn digit_count(c: char) -> Option<usize>
-    ensures { result ≡ digit_count c }
-{
-    match c {
-        'x' => Some(2),
-        'u' => Some(4),
-        'U' => Some(8),
-        _ => None,
-    }
-}
-
-/// The number that `count` hexadecimal digits write, and the border after them.
-fn hex_number(source: &Chars<'_>, at: usize, count: usize) -> Option<(u32, usize)>
-    requires border { IsBorder source.now at }
-    requires few { count ≤ 8 }
-    ensures border { IfSome result (λ r. IsBorder source.now r.1) }
-    ensures onward { IfSome result (λ r. at ≤ r.1) }
-    ensures digits { IfSome result (λ r. exactly (text_of source.now) count is_ascii_hexdigit (place_of source.now at) (place_of source.now r.1)) }
-    ensures value { IfSome result (λ r. r.0 ≡ digits_value 16 (slice_range (text_of source.now) (place_of source.now at) (place_of source.now r.1))) }
-    ensures none { IfNone result ((j : ℕ) → exactly (text_of source.now) count is_ascii_hexdigit (place_of source.now at) j → ⊥) }
-{
-    let mut number: u32 = 0;
-    let mut here = at;
-    'digits: for _ in 0..count {
-        let Some((c, to)) = next(source, here) else {
-            return None;
-        };
-        let Some(digit) = c.to_digit(16) else {
-            return None;
-        };
-        number = number * 16 + digit;
-        here = to;
-    }
-    Some((number, here))
-}
-
-/// The character that `count` hexadecimal digits number, and the border after them.
-fn numbered(source: &Chars<'_>, at: usize, count: usize) -> Option<(char, usize)>
-    requires border { IsBorder source.now at }
-    requires few { count ≤ 8 }
-    ensures border { IfSome result (λ r. IsBorder source.now r.1) }
-    ensures onward { IfSome result (λ r. at ≤ r.1) }
-    ensures reads { Finds (numbered (text_of source.now) count) (place_of source.now at)
-        (λ r. place_of source.now r.1) (λ r. r.0) result }
-{
-    match hex_number(source, at, count) {
-        None => None,
-        Some((number, to)) => match char::from_u32(number) {
-            None => None,
-            Some(c) => Some((c, to)),
-        },
-    }
-}
-
-/// The character that an escape stands for, and the border after it.
-fn read_escape(source: &Chars<'_>, at: usize) -> Result<(char, usize), Fault>
-    requires border { IsBorder source.now at }
-    ensures border { IfOk result (λ r. IsBorder source.now r.1) }
-    ensures onward { IfOk result (λ r. at < r.1) }
-    ensures scalar { IfOk result (λ r. IsScalar r.0) }
-    ensures reads { Answers (escape (text_of source.now)) (place_of source.now at)
-        (λ r. place_of source.now r.1) (λ r. r.0) result }
-{
-    let letter = expect(source, at, '\\')?;
-    let Some((c, to)) = next(source, letter) else {
-        return Err(Fault::BadEscape(source.pos(at)));
-    };
-    if is_break(c) {
-        return Err(Fault::Syntax(source.pos(letter)));
-    }
-    match short_escape(c) {
-        Some(given) => Ok((given, to)),
-        None => match digit_count(c) {
-            None => Err(Fault::BadEscape(source.pos(at))),
-            Some(count) => match numbered(source, to, count) {
-                None => Err(Fault::BadEscape(source.pos(at))),
-                Some(found) => Ok(found),
-            },
-        },
-    }
-}
-
-/// Whether a character of a quoted line stands for itself.
-#[tactic(auto, unfolding(crate::specs::FirstPath::is_verbatim, yaml_text::specs::grammar::Characters::is_nb, yaml_text::specs::grammar::Characters::is_break))]
-fn is_verbatim(c: char) -> bool
-    ensures { result ≡ is_verbatim c }
-{
-    c != '"' && c != '\\' && c != '\n' && c != '\r'
-}
-
-/// The border after the characters that stand for themselves in a quoted line.
-fn skip_verbatim(source: &Chars<'_>, at: usize) -> usize
+/// The border after the characters of a name that stand at a border.
+fn skip_name(source: &Chars<'_>, at: usize) -> usize
     requires { IsBorder source.now at }
     ensures border { IsBorder source.now result }
     ensures onward { at ≤ result }
-    ensures run { run (text_of source.now) is_verbatim (place_of source.now at) (place_of source.now result) }
-    ensures furthest { Stands (text_of source.now) is_verbatim (place_of source.now result) → ⊥ }
+    ensures run { run (text_of source.now) is_name (place_of source.now at) (place_of source.now result) }
+    ensures furthest { Stands (text_of source.now) is_name (place_of source.now result) → ⊥ }
 {
     let mut here = at;
     'run: loop {
         match next(source, here) {
             None => return here,
             Some((c, to)) => {
-                if is_verbatim(c) {
+                if is_name(c) {
                     here = to;
                 } else {
                     return here;
@@ -213,63 +76,38 @@ fn skip_verbatim(source: &Chars<'_>, at: usize) -> usize
     }
 }
 
-/// The rest of a double-quoted scalar after its first `stop`, up to which each character stands for itself.
-fn read_escaped(
-    alloc: Global,
-    source: &Chars<'_>,
-    start: usize,
-    stop: usize,
-) -> Result<(String, usize), Fault>
-    requires start { IsBorder source.now start }
-    requires stop { IsBorder source.now stop }
-    requires onward { start ≤ stop }
-    requires run { run (text_of source.now) is_verbatim (place_of source.now start) (place_of source.now stop) }
-    requires furthest { Stands (text_of source.now) is_verbatim (place_of source.now stop) → ⊥ }
+/// The name at a border, as long as it goes, and the border after it.
+fn read_name<'a>(source: &Chars<'a>, at: usize) -> Result<(CowStr<'a>, usize), Fault>
+    requires { IsBorder source.now at }
     ensures border { IfOk result (λ r. IsBorder source.now r.1) }
-    ensures onward { IfOk result (λ r. start < r.1) }
-    ensures reads { Answers (quoted_rest (text_of source.now)) (place_of source.now start)
-        (λ r. place_of source.now r.1) (λ r. chars (string_bytes r.0)) result }
+    ensures onward { IfOk result (λ r. at < r.1) }
+    ensures reads { Answers (seen encode_utf8_all (name (text_of source.now))) (place_of source.now at)
+        (λ r. place_of source.now r.1) (λ r. cow_str_bytes r.0) result }
 {
-    let mut text = String::new(alloc);
-    text.push_str(text_between(source, start, stop))?;
-    let mut here = stop;
-    'text: loop {
-        match accept(source, here, '"') {
-            Some(end) => return Ok((text, end)),
-            None => {
-                let (c, after) = read_escape(source, here)?;
-                text.push(c)?;
-                let to = skip_verbatim(source, after);
-                text.push_str(text_between(source, after, to))?;
-                here = to;
-            }
-        }
+    let end = skip_name(source, at);
+    if end == at {
+        Err(Fault::Syntax(source.pos(at)))
+    } else {
+        Ok((CowStr::Borrowed(text_between(source, at, end)), end))
     }
 }
 
-/// A double-quoted scalar on one line, and the border after it.
-pub(crate) fn read_double<'a>(
-    alloc: Global,
+/// An alias, from its star at `at` on, and the border after it.
+fn read_alias<'a>(
     source: &Chars<'a>,
     at: usize,
-) -> Result<(CowStr<'a>, usize), Fault>
-    requires border { IsBorder source.now at }
-    ensures border { IfOk result (λ r. IsBorder source.now r.1) }
-    ensures onward { IfOk result (λ r. at < r.1) }
-    ensures reads { Answers (seen encode_utf8_all (double_line (text_of source.now))) (place_of source.now at)
-        (λ r. place_of source.now r.1) (λ r. cow_str_bytes r.0) result }
+    from: usize,
+    out: &mut Vec<Event<'a>>,
+) -> Result<usize, Fault>
+    requires star { Steps (bytes_of source.now) at 42 from }
+    ensures border { IfOk result (λ to. IsBorder source.now to) }
+    ensures onward { IfOk result (λ to. at < to) }
+    ensures reads { Appends (alias_node (text_of source.now)) (place_of source.now at)
+        (place_of source.now) out.old.items out.new.items result }
 {
-    let Some(start) = accept(source, at, '"') else {
-        return Err(unusable(source, at));
-    };
-    let stop = skip_verbatim(source, start);
-    match accept(source, stop, '"') {
-        Some(end) => Ok((CowStr::Borrowed(text_between(source, start, stop)), end)),
-        None => {
-            let (text, end) = read_escaped(alloc, source, start, stop)?;
-            Ok((CowStr::Owned(text), end))
-        }
-    }
+    let (name, end) = read_name(source, from)?;
+    out.push(Event::Alias { name })?;
+    Ok(end)
 }
 
 // ---- nodes
@@ -286,7 +124,36 @@ fn read_node<'a>(
     requires { IsBorder source.now at }
     ensures border { IfOk result (λ to. IsBorder source.now to) }
     ensures onward { IfOk result (λ to. at < to) }
-    ensures reads { Appends (node (text_of source.now) room) (place_of source.now at)
+    ensures reads { Appends (any_node (text_of source.now) (node (text_of source.now) room)) (place_of source.now at)
+        (place_of source.now) out.old.items out.new.items result }
+{
+    match accept(source, at, '*') {
+        Some(from) => read_alias(source, at, from, out),
+        None => match accept(source, at, '&') {
+            None => read_bare(alloc, source, at, None, room, out),
+            Some(from) => {
+                let (name, end) = read_name(source, from)?;
+                let start = read_apart(source, end)?;
+                read_bare(alloc, source, start, Some(name), room, out)
+            }
+        },
+    }
+}
+
+/// A node after its anchor, and the border after it.
+#[cycle(nodes)]
+fn read_bare<'a>(
+    alloc: Global,
+    source: &Chars<'a>,
+    at: usize,
+    anchor: Option<CowStr<'a>>,
+    room: u32,
+    out: &mut Vec<Event<'a>>,
+) -> Result<usize, Fault>
+    requires { IsBorder source.now at }
+    ensures border { IfOk result (λ to. IsBorder source.now to) }
+    ensures onward { IfOk result (λ to. at < to) }
+    ensures reads { Appends (bare (text_of source.now) room (props_of (option_map cow_str_bytes anchor.entry))) (place_of source.now at)
         (place_of source.now) out.old.items out.new.items result }
 {
     match accept(source, at, '[') {
@@ -294,19 +161,28 @@ fn read_node<'a>(
             if room == 0 {
                 Err(Fault::TooDeep(source.pos(at)))
             } else {
-                read_sequence(alloc, source, at, inside, room - 1, out)
+                read_sequence(alloc, source, at, inside, anchor, room - 1, out)
             }
         }
-        None => {
-            let (text, to) = read_double(alloc, source, at)?;
-            out.push(Event::Scalar {
-                anchor: None,
-                tag: EventTag::None,
-                style: Style::Double,
-                text,
-            })?;
-            Ok(to)
-        }
+        None => match accept(source, at, '{') {
+            Some(inside) => {
+                if room == 0 {
+                    Err(Fault::TooDeep(source.pos(at)))
+                } else {
+                    read_mapping(alloc, source, at, inside, anchor, room - 1, out)
+                }
+            }
+            None => {
+                let (text, to) = read_double(alloc, source, at)?;
+                out.push(Event::Scalar {
+                    anchor,
+                    tag: EventTag::None,
+                    style: Style::Double,
+                    text,
+                })?;
+                Ok(to)
+            }
+        },
     }
 }
 
@@ -317,35 +193,51 @@ fn read_sequence<'a>(
     source: &Chars<'a>,
     at: usize,
     inside: usize,
+    anchor: Option<CowStr<'a>>,
     room: u32,
     out: &mut Vec<Event<'a>>,
 ) -> Result<usize, Fault>
-    requires opened { Steps (bytes_of source.now) at 91 inside }
+    requires bracket { Steps (bytes_of source.now) at 91 inside }
     ensures border { IfOk result (λ to. IsBorder source.now to) }
     ensures onward { IfOk result (λ to. at < to) }
-    ensures reads { Appends (sequence (text_of source.now) (node (text_of source.now) room)) (place_of source.now at)
-        (place_of source.now) out.old.items out.new.items result }
+    ensures reads { Appends (sequence (text_of source.now) (node (text_of source.now) room) (props_of (option_map cow_str_bytes anchor.entry)))
+        (place_of source.now at) (place_of source.now) out.old.items out.new.items result }
 {
     out.push(Event::SequenceStart {
         flow: true,
-        anchor: None,
+        anchor,
         tag: EventTag::None,
     })?;
+    let end = read_items(alloc, source, at, inside, room, out)?;
+    out.push(Event::SequenceEnd)?;
+    Ok(end)
+}
+
+/// The nodes of a flow sequence, from its bracket at `at` to the closing one.
+#[cycle(nodes)]
+fn read_items<'a>(
+    alloc: Global,
+    source: &Chars<'a>,
+    at: usize,
+    inside: usize,
+    room: u32,
+    out: &mut Vec<Event<'a>>,
+) -> Result<usize, Fault>
+    requires bracket { Steps (bytes_of source.now) at 91 inside }
+    ensures border { IfOk result (λ to. IsBorder source.now to) }
+    ensures onward { IfOk result (λ to. at < to) }
+    ensures reads { Appends (opened (text_of source.now) 91 93 (any_node (text_of source.now) (node (text_of source.now) room)))
+        (place_of source.now at) (place_of source.now) out.old.items out.new.items result }
+{
     let mut here = skip_spaces(source, inside);
     'items: loop {
         match accept(source, here, ']') {
-            Some(end) => {
-                out.push(Event::SequenceEnd)?;
-                return Ok(end);
-            }
+            Some(end) => return Ok(end),
             None => {
                 let item = read_node(alloc, source, here, room, out)?;
                 let after = skip_spaces(source, item);
                 match accept(source, after, ']') {
-                    Some(end) => {
-                        out.push(Event::SequenceEnd)?;
-                        return Ok(end);
-                    }
+                    Some(end) => return Ok(end),
                     None => match accept(source, after, ',') {
                         Some(to) => here = skip_spaces(source, to),
                         None => return Err(unusable(source, after)),
@@ -356,58 +248,118 @@ fn read_sequence<'a>(
     }
 }
 
-// ---- the document
-
-/// The border after the break that stands at a border, which no CR stands before.
-fn line_break(source: &Chars<'_>, at: usize) -> Option<usize>
-    requires border { IsBorder source.now at }
-    requires start { AfterReturn (text_of source.now) (place_of source.now at) → ⊥ }
-    ensures border { IfSome result (λ to. IsBorder source.now to) }
-    ensures some { IfSome result (λ to. brk (text_of source.now) (place_of source.now at) (place_of source.now to)) }
-    ensures none { IfNone result ((j : ℕ) → brk (text_of source.now) (place_of source.now at) j → ⊥) }
+/// A flow mapping, from its brace at `at` on, in whose nodes `room` collections may be open.
+#[cycle(nodes)]
+fn read_mapping<'a>(
+    alloc: Global,
+    source: &Chars<'a>,
+    at: usize,
+    inside: usize,
+    anchor: Option<CowStr<'a>>,
+    room: u32,
+    out: &mut Vec<Event<'a>>,
+) -> Result<usize, Fault>
+    requires brace { Steps (bytes_of source.now) at 123 inside }
+    ensures border { IfOk result (λ to. IsBorder source.now to) }
+    ensures onward { IfOk result (λ to. at < to) }
+    ensures reads { Appends (mapping (text_of source.now) (node (text_of source.now) room) (props_of (option_map cow_str_bytes anchor.entry)))
+        (place_of source.now at) (place_of source.now) out.old.items out.new.items result }
 {
-    match accept(source, at, '\n') {
-        Some(to) => Some(to),
-        None => match accept(source, at, '\r') {
-            None => None,
-            Some(to) => match accept(source, to, '\n') {
-                Some(end) => Some(end),
-                None => Some(to),
-            },
+    out.push(Event::MappingStart {
+        flow: true,
+        anchor,
+        tag: EventTag::None,
+    })?;
+    let end = read_entries(alloc, source, at, inside, room, out)?;
+    out.push(Event::MappingEnd)?;
+    Ok(end)
+}
+
+/// The entries of a flow mapping, from its brace at `at` to the closing one.
+#[cycle(nodes)]
+fn read_entries<'a>(
+    alloc: Global,
+    source: &Chars<'a>,
+    at: usize,
+    inside: usize,
+    room: u32,
+    out: &mut Vec<Event<'a>>,
+) -> Result<usize, Fault>
+    requires brace { Steps (bytes_of source.now) at 123 inside }
+    ensures border { IfOk result (λ to. IsBorder source.now to) }
+    ensures onward { IfOk result (λ to. at < to) }
+    ensures reads { Appends (opened (text_of source.now) 123 125 (entry (text_of source.now) (node (text_of source.now) room)))
+        (place_of source.now at) (place_of source.now) out.old.items out.new.items result }
+{
+    let mut here = skip_spaces(source, inside);
+    'entries: loop {
+        match accept(source, here, '}') {
+            Some(end) => return Ok(end),
+            None => {
+                let item = read_entry(alloc, source, here, room, out)?;
+                let after = skip_spaces(source, item);
+                match accept(source, after, '}') {
+                    Some(end) => return Ok(end),
+                    None => match accept(source, after, ',') {
+                        Some(to) => here = skip_spaces(source, to),
+                        None => return Err(unusable(source, after)),
+                    },
+                }
+            }
+        }
+    }
+}
+
+/// The border of a value, from the end of its key on. After an alias a space has to follow the colon.
+fn read_colon(source: &Chars<'_>, key: usize, end: usize) -> Result<usize, Fault>
+    requires key { IsBorder source.now key }
+    requires end { IsBorder source.now end }
+    ensures border { IfOk result (λ to. IsBorder source.now to) }
+    ensures onward { IfOk result (λ to. end < to) }
+    ensures gap { IfOk result (λ to. gap (text_of source.now) (place_of source.now key) (place_of source.now end) (place_of source.now to)) }
+    ensures furthest { IfOk result (λ to. slice_get (text_of source.now) (place_of source.now to) ≢ Some 32) }
+    ensures err { IfErr result (λ e. Refuses e ((j : ℕ) → gap (text_of source.now) (place_of source.now key) (place_of source.now end) j → ⊥)) }
+{
+    let colon = skip_spaces(source, end);
+    match accept(source, colon, ':') {
+        None => Err(unusable(source, colon)),
+        Some(after) => match accept(source, key, '*') {
+            None => Ok(skip_spaces(source, after)),
+            Some(_) => {
+                let value = read_apart(source, after)?;
+                Ok(value)
+            }
         },
     }
 }
 
-/// Reads spaces and perhaps a break, after which the text has to end.
-pub(crate) fn read_tail(source: &Chars<'_>, at: usize) -> Result<(), Fault>
-    requires border { IsBorder source.now at }
-    requires start { AfterReturn (text_of source.now) (place_of source.now at) → ⊥ }
-    ensures ok { IfOk result (λ _. tail (text_of source.now) (place_of source.now at) (length (text_of source.now))) }
-    ensures err { IfErr result (λ e. Refuses e (tail (text_of source.now) (place_of source.now at) (length (text_of source.now)) → ⊥)) }
+/// A key and its value, and the border after them.
+#[cycle(nodes)]
+fn read_entry<'a>(
+    alloc: Global,
+    source: &Chars<'a>,
+    at: usize,
+    room: u32,
+    out: &mut Vec<Event<'a>>,
+) -> Result<usize, Fault>
+    requires { IsBorder source.now at }
+    ensures border { IfOk result (λ to. IsBorder source.now to) }
+    ensures onward { IfOk result (λ to. at < to) }
+    ensures reads { Appends (entry (text_of source.now) (node (text_of source.now) room)) (place_of source.now at)
+        (place_of source.now) out.old.items out.new.items result }
 {
-    let here = skip_spaces(source, at);
-    match line_break(source, here) {
-        Some(to) => {
-            if is_end(source, to) {
-                Ok(())
-            } else {
-                Err(Fault::Syntax(source.pos(to)))
-            }
-        }
-        None => {
-            if is_end(source, here) {
-                Ok(())
-            } else {
-                Err(unusable(source, here))
-            }
-        }
-    }
+    let key = read_node(alloc, source, at, room, out)?;
+    let start = read_colon(source, at, key)?;
+    let end = read_node(alloc, source, start, room, out)?;
+    Ok(end)
 }
+
+// ---- the document
 
 /// The border after the mark of the document and the spaces that follow it.
 fn read_mark(source: &Chars<'_>) -> Result<usize, Fault>
     ensures border { IfOk result (IsBorder source.now) }
-    ensures reads { LeadsOn (document (text_of source.now)) 0 (content (text_of source.now)) (place_of source.now) result }
+    ensures reads { LeadsOn (marked (text_of source.now) (content (text_of source.now))) 0 (content (text_of source.now)) (place_of source.now) result }
 {
     let first = expect(source, 0, '-')?;
     let second = expect(source, first, '-')?;
@@ -418,13 +370,13 @@ fn read_mark(source: &Chars<'_>) -> Result<usize, Fault>
     }
 }
 
-/// The events of a stream of the first path, from its start to its end.
+/// The events of a stream on one line of quoted scalars, flow collections, anchors and aliases.
 ///
 /// Refused are, with the input offset of the first character that cannot be used: a tab where
-/// separation may stand, the bracket of a 129th open collection, the backslash of an escape that
-/// there is not, and anything else that the productions do not go on with.
+/// separation may stand, the bracket or brace of a 129th open collection, the backslash of an
+/// escape that there is not, and anything else that the productions do not go on with.
 pub(crate) fn read_events<'a>(alloc: Global, source: &Chars<'a>) -> Result<Vec<Event<'a>>, Fault>
-    ensures { ReadsAll (ReadsFirst (text_of source.now)) (result_map_both (λ v. map event_of v.items) (λ e. e) result) }
+    ensures { ReadsAll (ReadsSecond (text_of source.now)) (result_map_both (λ v. map event_of v.items) (λ e. e) result) }
 {
     let start = read_mark(source)?;
     let mut out = Vec::new(alloc);

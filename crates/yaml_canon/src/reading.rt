@@ -11,7 +11,7 @@ ghost use Rattle.yaml_canon.specs.PlainTrees.{Spoken};
 ghost use Rattle.yaml_canon.specs.Claims.{RefusedInReading};
 ghost use Rattle.yaml_canon.specs.SecondDocument.{SecondDocument};
 
-use crate::flow_reader::read_events;
+use crate::reader::read_events;
 use std::alloc::Global;
 use yaml_text::chars::Chars;
 use yaml_text::event::Event;

@@ -1,7 +1,5 @@
 //! Temporary: the unfolded trees of documents; graphs with shared nodes (`yaml_graph`) replace them.
 ghost use Rattle.std.specs.Prelude.{◌≡◌, ◌≤◌};
-ghost use Rattle.std.specs.Bool.{OnTrue, OnFalse};
-ghost use Rattle.yaml_canon.specs.Arranged.{HasNoMapping, HaveNoMapping};
 ghost use Rattle.yaml_text.specs.Limits.{height_limit};
 ghost use Rattle.yaml_text.specs.Tree.{kind_of, height, heights, heights_of_pairs};
 ghost use Rattle.yaml_canon.specs.TreeModel.{tree_of, trees_of, pairs_of};
@@ -62,30 +60,4 @@ fn height_of_entries(entries: &[(Tree<'_>, Tree<'_>)]) -> usize
         highest = highest.max(height(key).max(height(value)) + 1);
     }
     highest
-}
-
-/// Whether a mapping stands in a tree.
-#[cycle(has_mapping)]
-pub(crate) fn has_mapping(tree: &Tree<'_>) -> bool
-    ensures none { OnFalse result (HasNoMapping (tree_of tree.now)) }
-    ensures some { OnTrue result (HasNoMapping (tree_of tree.now) → ⊥) }
-{
-    match tree {
-        Tree::Scalar(_) => false,
-        Tree::Sequence(items) => have_mapping(items),
-        Tree::Mapping(_) => true,
-    }
-}
-
-#[cycle(has_mapping)]
-fn have_mapping(items: &[Tree<'_>]) -> bool
-    ensures none { OnFalse result (HaveNoMapping (trees_of items.now)) }
-    ensures some { OnTrue result (HaveNoMapping (trees_of items.now) → ⊥) }
-{
-    for item in items {
-        if has_mapping(item) {
-            return true;
-        }
-    }
-    false
 }

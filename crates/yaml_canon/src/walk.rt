@@ -1,14 +1,11 @@
 //! Which nodes of an arranged tree repeat an earlier one. Temporary, as the trees are: nodes are
 //! compared one with another.
-ghost use Rattle.std.specs.Prelude.{◌≡◌, ◌≢◌, ◌+◌, ◌<◌, ◌≤◌, ◌↔◌, IsTrue, [], ◌++◌, OnOk, IfOk, IfErr, length, nat_le};
+ghost use Rattle.std.specs.Prelude.{◌≡◌, ◌+◌, [], ◌++◌, OnOk, IfErr, length, nat_le};
 ghost use Rattle.std.specs.Str.{chars, encode_utf8_all};
 ghost use Rattle.yaml_text.specs.Limits.{short_limit};
 ghost use Rattle.yaml_text.specs.CharText.{spell_char};
 ghost use Rattle.yaml_text.specs.NodeText.{quoted};
 ghost use Rattle.yaml_text.specs.Spell.{short};
-ghost use Rattle.std.specs.Bool.{OnTrue, OnFalse};
-ghost use Rattle.yaml_text.specs.Walk.{walk, agains};
-ghost use Rattle.yaml_canon.specs.Arranged.{IsArranged};
 ghost use Rattle.yaml_canon.specs.TreeModel.{tree_of, trees_of, pairs_of};
 ghost use Rattle.yaml_canon.specs.Anchored.{nodes_of};
 ghost use Rattle.yaml_canon.specs.Repeats.{repeats_one, noticed, kept, kept_all, kept_pairs, repeats, repeats_all, repeats_pairs};
@@ -16,7 +13,6 @@ ghost use Rattle.yaml_canon.specs.Repeats.{repeats_one, noticed, kept, kept_all,
 use crate::node::{Node, find};
 use crate::scalar::spelled_len;
 use crate::tree::Tree;
-use std::alloc::Global;
 use yaml_text::fault::Fault;
 
 /// The bytes of a scalar or an empty collection that is always written out.
@@ -120,18 +116,4 @@ fn visit_entries<'t, 'a>(
         visit(&entry.1, seen, repeated)?;
     }
     Ok(())
-}
-
-/// Whether a node of an arranged tree repeats an earlier one that is written out, and is not
-/// short.
-pub(crate) fn has_again(alloc: Global, tree: &Tree<'_>) -> Result<bool, Fault>
-    requires { IsArranged (tree_of tree.now) }
-    ensures none { IfOk result (λ again. OnFalse again (agains (walk short (tree_of tree.now) []) ≡ [])) }
-    ensures some { IfOk result (λ again. OnTrue again (agains (walk short (tree_of tree.now) []) ≢ [])) }
-    ensures only { IfErr result (λ fault. fault ≡ Fault.OutOfMemory) }
-{
-    let mut seen = Vec::new(alloc);
-    let mut repeated = Vec::new(alloc);
-    visit(tree, &mut seen, &mut repeated)?;
-    Ok(!repeated.is_empty())
 }

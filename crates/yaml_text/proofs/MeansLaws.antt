@@ -62,7 +62,7 @@ mutual
 mutual
   unfolding arranged
 
-  nodes_arranged : (t : Tree) → nodes (arranged t) ≡ nodes t
+  pub nodes_arranged : (t : Tree) → nodes (arranged t) ≡ nodes t
   nodes_arranged (scalar g x) = refl
   nodes_arranged (sequence g ts) = ap suc (trees_nodes ts)
   nodes_arranged (mapping g ps) = ap suc (pairs_nodes ps)

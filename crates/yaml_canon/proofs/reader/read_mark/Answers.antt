@@ -3,18 +3,21 @@ use Rattle.std.proofs.lemmas.Str.{IsUtf8-had, IsCharBoundary-start}
 use Rattle.yaml_text.specs.Source.{text_of, place_of}
 use Rattle.yaml_text.specs.grammar.Rules.{◌▸◌, chr}
 use Rattle.yaml_text.proofs.PlaceLemmas.{starts_at}
-use Rattle.yaml_canon.specs.FirstPath.{document, content, spaces}
-use Rattle.yaml_canon.specs.FirstAnswer.{Leads}
+use Rattle.yaml_canon.specs.Line.{spaces}
+use Rattle.yaml_canon.specs.SecondPath.{content}
+use Rattle.yaml_canon.specs.SecondAnswer.{marked}
+use Rattle.yaml_canon.specs.ReaderAnswer.{Leads}
 use Rattle.yaml_canon.proofs.Leads.{leads_on, leads_none}
 use Rattle.yaml_canon.proofs.AnswerLemmas.{leads_err, refuses_weaker}
-use Rattle.yaml_canon.proofs.FlowLemmas.{char_start, no_char, spaces_start, content_first}
+use Rattle.yaml_canon.proofs.LineLemmas.{char_start, no_char, spaces_start}
+use Rattle.yaml_canon.proofs.SecondText.{content_first}
 use Rattle.yaml_canon.proofs.reader.read_mark.Goals as goal
 use Rattle.yaml_canon.proofs.reader.read_mark.Goals.{In_ok-first}
 
 pub expect-requires : goal.expect-requires
 expect-requires c = IsCharBoundary-start _ (IsUtf8-had _ c.args.source.now.utf8)
 
-one : (c : In_ok-first) → let cs = text_of c.args.source.now in Leads (document cs) 0 (chr cs 45 ▸ chr cs 45 ▸ chr cs 32 ▸ spaces cs ▸ content cs) (place_of c.args.source.now c.in_ok-first.first) []
+one : (c : In_ok-first) → let cs = text_of c.args.source.now in Leads (marked cs (content cs)) 0 (chr cs 45 ▸ chr cs 45 ▸ chr cs 32 ▸ spaces cs ▸ content cs) (place_of c.args.source.now c.in_ok-first.first) []
 one c =
     let s = c.in_ok-first.ensures.ok in
     let z = starts_at c.args.source.now.text.now in
