@@ -13,8 +13,6 @@ pub mod SimpleTrees
 pub mod ReadingAnswers
 pub mod SecondInside
 pub mod SecondDocuments
-pub mod Escapes
-pub mod Runs
 pub mod Ends
 pub mod TreeViews
 pub mod Heads
@@ -28,7 +26,6 @@ pub mod GraphLaws
 pub mod MeasureLaws
 pub mod BoundLemmas
 pub mod Walking
-pub mod Counting
 pub mod Shortness
 pub mod Anchors
 pub mod Agains

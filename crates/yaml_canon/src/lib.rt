@@ -11,7 +11,6 @@ mod order;
 pub mod presenter;
 mod reader;
 mod reading;
-mod scalar;
 pub mod side;
 mod spell;
 mod tree;
