@@ -10,8 +10,6 @@ pub mod SecondSpelled
 pub mod ReadingAnswers
 pub mod SecondInside
 pub mod SecondDocuments
-pub mod Escapes
-pub mod Runs
 pub mod Ends
 pub mod TreeViews
 pub mod Heads
@@ -25,7 +23,6 @@ pub mod GraphLaws
 pub mod MeasureLaws
 pub mod BoundLemmas
 pub mod Walking
-pub mod Counting
 pub mod Shortness
 pub mod Anchors
 pub mod Markings

@@ -4,11 +4,13 @@ use Rattle.std.proofs.lemmas.List.{append_assoc}
 use Rattle.std.proofs.lemmas.Str.{encodes-append}
 use Rattle.std.proofs.Math.Seq.{drop-cons}
 use Rattle.std.specs.Char.{encode_utf8}
-use Rattle.std.specs.Str.{encode_utf8_all}
+use Rattle.std.specs.Str.{encode_utf8_all, chars}
 use Rattle.yaml_text.specs.Tree.{Trees, Pairs, item, entry}
 use Rattle.yaml_text.specs.Tree as plain
 use Rattle.yaml_text.specs.Event.{Anchor}
-use Rattle.yaml_text.specs.NodeText.{anchor_text, text, items_text, pairs_text}
+use Rattle.yaml_text.specs.NodeText.{anchor_text, quoted, text, items_text, pairs_text}
+use Rattle.yaml_scalar.specs.Spelling.{spelled}
+use Rattle.yaml_scalar.proofs.SpellingLemmas.{quoted_more}
 use Rattle.yaml_canon.specs.declared.tree.Tree.{Tree}
 use Rattle.yaml_canon.specs.TreeModel.{tree_of, trees_of, pairs_of}
 use Rattle.yaml_canon.specs.Anchored.{separator, noted, marked, marked_all, marked_pairs}
@@ -32,6 +34,12 @@ writes_then a b c f g h k = record { is = λ more. k.is more ∙ h.is (g more) }
 pub writes_text : (old new bytes cs : List ℕ) → new ≡ old ++ bytes → encode_utf8_all cs ≡ bytes → Writes old new (λ more. cs ++ more)
 writes_text old new bytes cs e u = record {
   is = λ more. ap (λ x. x ++ encode_utf8_all more) e ∙ append_assoc old bytes (encode_utf8_all more) ∙ ap (λ x. old ++ (x ++ encode_utf8_all more)) (sym u) ∙ ap (λ x. old ++ x) (sym (encodes-append cs more));
+}
+
+-- a content's spelling
+pub writes_spelled : (text old new : List ℕ) → new ≡ old ++ spelled text → Writes old new (λ more. 34 ∷ quoted (chars text) more)
+writes_spelled text old new e = record {
+  is = λ more. (writes_text old new (spelled text) (34 ∷ quoted (chars text) []) e refl).is more ∙ ap (λ x. old ++ encode_utf8_all (34 ∷ x)) (sym (quoted_more (chars text) more));
 }
 
 -- What is left to write as `f` stands for what `g` writes behind `old`.

@@ -12,7 +12,6 @@ pub mod presenter;
 mod quoted;
 mod reader;
 mod reading;
-mod scalar;
 pub mod side;
 mod spell;
 mod tree;

@@ -13,10 +13,10 @@ ghost use Rattle.yaml_canon.specs.Anchored.{nodes_of, anchor_at, enrolled, separ
 ghost use Rattle.yaml_canon.specs.Writes.{Writes};
 
 use crate::node::{Node, find};
-use crate::scalar::spell_scalar;
 use crate::tree::Tree;
 use crate::walk::visit;
 use std::alloc::Global;
+use yaml_scalar::spell::spell_into;
 use yaml_text::fault::Fault;
 
 /// The greatest length of a canonical text, in bytes.
@@ -124,7 +124,7 @@ fn spell_node<'t, 'a>(
     }
     push_anchor(tree, repeated, anchored, out)?;
     match tree {
-        Tree::Scalar(text) => spell_scalar(text, out),
+        Tree::Scalar(text) => spell_into(text, out),
         Tree::Sequence(items) => spell_items(items, repeated, anchored, out),
         Tree::Mapping(entries) => spell_entries(entries, repeated, anchored, out),
     }

@@ -11,8 +11,8 @@ ghost use Rattle.yaml_canon.specs.Anchored.{nodes_of};
 ghost use Rattle.yaml_canon.specs.Repeats.{repeats_one, noticed, kept, kept_all, kept_pairs, repeats, repeats_all, repeats_pairs};
 
 use crate::node::{Node, find};
-use crate::scalar::spelled_len;
 use crate::tree::Tree;
+use yaml_scalar::spell::spelled_len;
 use yaml_text::fault::Fault;
 
 /// The bytes of a scalar or an empty collection that is always written out.
@@ -22,14 +22,7 @@ const SHORT_LIMIT: usize = 64;
 fn is_short_text(text: &str) -> bool
     ensures { result ≡ nat_le (1 + length (encode_utf8_all (quoted (chars text.now) []))) short_limit }
 {
-    let mut len = 2;
-    'count: for c in text.chars() {
-        len += spelled_len(c);
-        if len > SHORT_LIMIT {
-            return false;
-        }
-    }
-    true
+    text.len() <= SHORT_LIMIT && spelled_len(text) <= SHORT_LIMIT as u128
 }
 
 /// Whether a node is always written out.

@@ -6,7 +6,7 @@ use Rattle.yaml_text.specs.Tag.{seq_tag, map_tag}
 use Rattle.yaml_canon.specs.Anchored.{nodes_of}
 use Rattle.yaml_canon.proofs.TreeViews.{tree_of-scalar, tree_of-sequence, tree_of-mapping}
 use Rattle.yaml_canon.proofs.Found.{test, found_some, found_none}
-use Rattle.yaml_canon.proofs.Writing.{on_ok, all_ok, drop_next, items_more, pairs_more, space_colon}
+use Rattle.yaml_canon.proofs.Writing.{on_ok, all_ok, writes_spelled, drop_next, items_more, pairs_more, space_colon}
 use Rattle.yaml_canon.proofs.Nodes.{alias_marked, alias_noted, scalar_node, scalar_noted, sequence_node, sequence_noted, mapping_node, mapping_noted, items_noted, pairs_noted, items_end, pairs_end, items_done, pairs_done}
 use Rattle.yaml_canon.proofs.spell.+spell.Goals as goal
 
@@ -54,13 +54,13 @@ pub spell_node-returns-in-Scalar-clause-ok : goal.spell_node-returns-in-Scalar-c
 spell_node-returns-in-Scalar-clause-ok t c =
     let f = found_none (tree_of c.args.tree.now) c.args.anchored.now.items (c.in_default.ensures ∙ ap (position (test (tree_of c.args.tree.now))) c.deref.ensures.value) in
     let e = ap tree_of c.in-Scalar.is ∙ tree_of-scalar c.in-Scalar.text in
-    on_ok c.spell_scalar.result (λ h. scalar_node _ _ _ _ _ _ _ e f c.in_ok-push_anchor.ensures.ok h) c.spell_scalar.ensures.ok
+    on_ok c.spell_into.result (λ h. scalar_node _ _ _ _ _ _ _ e f c.in_ok-push_anchor.ensures.ok (writes_spelled _ _ _ h)) c.spell_into.ensures.ok
 
 pub spell_node-returns-in-Scalar-clause-noted : goal.spell_node-returns-in-Scalar-clause-noted
 spell_node-returns-in-Scalar-clause-noted t c =
     let f = found_none (tree_of c.args.tree.now) c.args.anchored.now.items (c.in_default.ensures ∙ ap (position (test (tree_of c.args.tree.now))) c.deref.ensures.value) in
     let e = ap tree_of c.in-Scalar.is ∙ tree_of-scalar c.in-Scalar.text in
-    all_ok c.spell_scalar.result (scalar_noted _ _ _ _ _ e f c.in_ok-push_anchor.ensures.enrolled)
+    all_ok c.spell_into.result (scalar_noted _ _ _ _ _ e f c.in_ok-push_anchor.ensures.enrolled)
 
 pub spell_node-returns-in-Sequence-clause-ok : goal.spell_node-returns-in-Sequence-clause-ok
 spell_node-returns-in-Sequence-clause-ok t c =
