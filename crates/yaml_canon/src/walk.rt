@@ -1,9 +1,8 @@
 //! Which nodes of an arranged tree repeat an earlier one. Temporary, as the trees are: nodes are
 //! compared one with another.
-ghost use Rattle.std.specs.Prelude.{◌≡◌, ◌≢◌, ◌+◌, ◌<◌, ◌≤◌, ◌↔◌, IsTrue, [], ◌++◌, OnOk, IfOk, IfErr, length, nat_le};
+ghost use Rattle.std.specs.Prelude.{◌≡◌, ◌≢◌, ◌+◌, ◌↔◌, IsTrue, [], ◌++◌, OnOk, IfOk, IfErr, length, nat_le};
 ghost use Rattle.std.specs.Str.{chars, encode_utf8_all};
 ghost use Rattle.yaml_text.specs.Limits.{short_limit};
-ghost use Rattle.yaml_text.specs.CharText.{spell_char};
 ghost use Rattle.yaml_text.specs.NodeText.{quoted};
 ghost use Rattle.yaml_text.specs.Spell.{short};
 ghost use Rattle.std.specs.Bool.{OnTrue, OnFalse};
