@@ -3,7 +3,6 @@
 ghost use Rattle.std.specs.Prelude.{◌≡◌, ◌+◌, [], ◌++◌, OnOk, IfErr, length, nat_le};
 ghost use Rattle.std.specs.Str.{chars, encode_utf8_all};
 ghost use Rattle.yaml_text.specs.Limits.{short_limit};
-ghost use Rattle.yaml_text.specs.CharText.{spell_char};
 ghost use Rattle.yaml_text.specs.NodeText.{quoted};
 ghost use Rattle.yaml_text.specs.Spell.{short};
 ghost use Rattle.yaml_canon.specs.TreeModel.{tree_of, trees_of, pairs_of};
