@@ -36,6 +36,7 @@ fn read_apart(source: &Chars<'_>, at: usize) -> Result<usize, Fault>
     ensures apart { IfOk result (λ to. apart (text_of source.now) (place_of source.now at) (place_of source.now to)) }
     ensures furthest { IfOk result (λ to. slice_get (text_of source.now) (place_of source.now to) ≢ Some 32) }
     ensures err { IfErr result (λ e. Refuses e (slice_get (text_of source.now) (place_of source.now at) ≢ Some 32)) }
+    ensures none { IfErr result (λ _. slice_get (text_of source.now) (place_of source.now at) ≢ Some 32) }
 {
     match accept(source, at, ' ') {
         Some(to) => Ok(skip_spaces(source, to)),
@@ -310,6 +311,19 @@ fn read_entries<'a>(
     }
 }
 
+/// Why a colon after an alias, which no space follows, parts no value: where a plain scalar may go
+/// on after it, it is no sign at all (YAML 1.2.2, 7.3.3).
+fn unparted(source: &Chars<'_>, colon: usize, after: usize) -> Fault
+    requires colon { IsBorder source.now colon }
+    requires after { IsBorder source.now after }
+    ensures { Refuses result (Unit {0}) }
+{
+    match next(source, after) {
+        Some((c, _)) if is_name(c) => unusable(source, colon),
+        _ => unusable(source, after),
+    }
+}
+
 /// The border of a value, from the end of its key on. After an alias a space has to follow the colon.
 fn read_colon(source: &Chars<'_>, key: usize, end: usize) -> Result<usize, Fault>
     requires key { IsBorder source.now key }
@@ -325,10 +339,10 @@ fn read_colon(source: &Chars<'_>, key: usize, end: usize) -> Result<usize, Fault
         None => Err(unusable(source, colon)),
         Some(after) => match accept(source, key, '*') {
             None => Ok(skip_spaces(source, after)),
-            Some(_) => {
-                let value = read_apart(source, after)?;
-                Ok(value)
-            }
+            Some(_) => match read_apart(source, after) {
+                Ok(value) => Ok(value),
+                Err(_) => Err(unparted(source, colon, after)),
+            },
         },
     }
 }
