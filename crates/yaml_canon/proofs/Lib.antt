@@ -48,3 +48,4 @@ pub mod Arranging
 pub mod KeyLaws
 pub mod EventLaws
 pub mod NodePlaces
+pub mod Sameness
