@@ -48,4 +48,5 @@ pub mod Arranging
 pub mod KeyLaws
 pub mod EventLaws
 pub mod NodePlaces
-pub mod Sameness
+pub mod Equivalence
+pub mod Meetings

@@ -11,6 +11,7 @@ mod order;
 pub mod presenter;
 mod reader;
 mod reading;
+mod sameness;
 mod scalar;
 pub mod side;
 mod spell;

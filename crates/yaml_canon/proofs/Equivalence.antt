@@ -1,5 +1,5 @@
 -- To be the same is an equivalence, whatever keys the mappings have; and trees that are the same are short together.
-use Rattle.std.proofs.Common.{◌≡◌, Bool, true, false, ◌&&◌, ◌||◌, inl, inr, refl, sym, ◌∙◌, ap}
+use Rattle.std.proofs.Common.{◌≡◌, Bool, true, false, ◌&&◌, inl, inr, refl, sym, ◌∙◌, ap}
 use lib.Pointwise.{bytes_decides}
 use Rattle.std.specs.Prelude.{bytes_eq}
 use Rattle.yaml_text.specs.Tree.{Tree, Trees, Pairs, scalar, sequence, mapping, end, item, done, entry}
