@@ -123,15 +123,14 @@ module _ (bytes : List ℕ) (es : List Event) (d : SecondDocument bytes es) wher
   found_read = record { reads = subst (Reads bytes) d.events d.reads }
 
   -- the text of the forest found
-  pub found_text : (g : List Tree) (text : List ℕ) → IsForest found g → (AllArranged g → text ≡ spell_bytes g) → length text ≤ text_limit → IsCanonicalText bytes text
-  found_text g text h w fits = record {
+  pub found_text : (g : List Tree) (text : List ℕ) (h : IsForest found g) → text ≡ spell_bytes h.trees → length text ≤ text_limit → IsCanonicalText bytes text
+  found_text g text h e fits = record {
     forest = h.trees;
     means = found_means h.trees h.are;
     spoken = found_spoken h.trees h.are h.bounded.1;
     low = h.bounded.0;
     fits = fits;
     is = λ k. (
-        let e : text ≡ spell_bytes h.trees = w (subst AllArranged (sym h.is) (arranged_all h.trees k)) ∙ ap spell_bytes h.is ∙ arranged_bytes h.trees k in
         let a : Admitted h.trees = record { trees = admitted_all h.trees (found_proper h.trees h.are) k h.bounded.0; fits = subst (λ x. length x ≤ text_limit) e fits } in
         record { admitted = a; spelled = e; tells = λ g b. (let t = texts_tell h.trees g a b in (λ i. t.0 (sym (i ∙ e)), λ i. sym (t.1 i) ∙ sym e)) });
   }
@@ -145,12 +144,12 @@ module _ (bytes : List ℕ) (es : List Event) (d : SecondDocument bytes es) wher
   forest_refused fault.OutOfMemory r = tt
   forest_refused _ r = absurd r
 
-  pub spelling_refused : (g : List Tree) (e : Fault) → IsForest found g → (AllArranged g → RefusesSpelling g e) → IsUnspelled e → CanonicalRefuses bytes e
+  pub spelling_refused : (g : List Tree) (e : Fault) (h : IsForest found g) → RefusesSpelling h.trees e → IsUnspelled e → CanonicalRefuses bytes e
   spelling_refused g fault.TextTooLong h r o = (
     h.trees,
     found_means h.trees h.are,
     h.bounded.0,
-    λ k. subst (λ z. text_limit < length z) (ap spell_bytes h.is ∙ arranged_bytes h.trees k) (r (subst AllArranged (sym h.is) (arranged_all h.trees k))),
+    λ k. r,
   )
   spelling_refused g fault.OutOfMemory h r o = tt
   spelling_refused g _ h r o = absurd o
@@ -180,14 +179,12 @@ module _ (bytes : List ℕ) (es : List Event) (d : SecondDocument bytes es) wher
   spelled_unrefused f fault.OutOfMemory s a q r = refl
   spelled_unrefused f _ s a q r = absurd r
 
-  -- the forest found is arranged, and its text is the one that was spelled
-  pub spelled_again : (f g : List Tree) → Admitted f → found ≡ Ok (map arranged f) → IsForest found g → AllArranged g × (spell_bytes g ≡ spell_bytes f)
+  -- the forest found is an arranged one, whose text is the one that was spelled
+  pub spelled_again : (f g : List Tree) → Admitted f → found ≡ Ok (map arranged f) → IsForest found g → (k : List Tree) × (g ≡ map arranged k) × (spell_bytes k ≡ spell_bytes f)
   spelled_again f g a q h =
       let k : ◌≡◌ {A = Outcome (List Tree)} (Ok h.trees) (Ok (map arranged f)) = sym h.are ∙ q in
       let p : h.trees ≡ map arranged f = cc in
-      let e : g ≡ map arranged (map arranged f) = h.is ∙ ap (map arranged) p in
-      let keys : AllKeyed (map arranged f) = arranged_keyed f a.trees in
-      (subst AllArranged (sym e) (arranged_all (map arranged f) keys), ap spell_bytes e ∙ arranged_bytes (map arranged f) keys ∙ arranged_bytes f (keyed_all f a.trees))
+      (h.trees, h.is, ap spell_bytes p ∙ arranged_bytes f (keyed_all f a.trees))
 
 -- a forest whose text is that of an admitted one is not refused but for memory
 pub admitted_spelled : (e : Fault) (f g : List Tree) → spell_bytes g ≡ spell_bytes f → Admitted f → RefusesSpelling g e → e ≡ fault.OutOfMemory

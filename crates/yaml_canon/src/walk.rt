@@ -1,14 +1,10 @@
 //! Which nodes of an arranged tree repeat an earlier one. Temporary, as the trees are: nodes are
 //! compared one with another.
-ghost use Rattle.std.specs.Prelude.{◌≡◌, ◌≢◌, ◌+◌, ◌<◌, ◌≤◌, ◌↔◌, IsTrue, [], ◌++◌, OnOk, IfOk, IfErr, length, nat_le};
+ghost use Rattle.std.specs.Prelude.{◌≡◌, ◌+◌, [], ◌++◌, OnOk, IfOk, IfErr, length, nat_le};
 ghost use Rattle.std.specs.Str.{chars, encode_utf8_all};
 ghost use Rattle.yaml_text.specs.Limits.{short_limit};
-ghost use Rattle.yaml_text.specs.CharText.{spell_char};
 ghost use Rattle.yaml_text.specs.NodeText.{quoted};
 ghost use Rattle.yaml_text.specs.Spell.{short};
-ghost use Rattle.std.specs.Bool.{OnTrue, OnFalse};
-ghost use Rattle.yaml_text.specs.Walk.{walk, agains};
-ghost use Rattle.yaml_canon.specs.Arranged.{IsArranged};
 ghost use Rattle.yaml_canon.specs.TreeModel.{tree_of, trees_of, pairs_of};
 ghost use Rattle.yaml_canon.specs.Anchored.{nodes_of};
 ghost use Rattle.yaml_canon.specs.Repeats.{repeats_one, noticed, kept, kept_all, kept_pairs, repeats, repeats_all, repeats_pairs};
@@ -48,10 +44,14 @@ fn is_short(tree: &Tree<'_>) -> bool
 }
 
 /// Whether a node repeats one of `seen`, and is not short.
-fn is_again<'a>(tree: &Tree<'a>, seen: &[Node<'_, 'a>]) -> bool
-    ensures { result ≡ repeats_one (tree_of tree.now) (nodes_of seen.now) }
+fn is_again<'a>(alloc: Global, tree: &Tree<'a>, seen: &[Node<'_, 'a>]) -> Result<bool, Fault>
+    ensures again { IfOk result (λ again. again ≡ repeats_one (tree_of tree.now) (nodes_of seen.now)) }
+    ensures only { IfErr result (λ fault. fault ≡ Fault.OutOfMemory) }
 {
-    !is_short(tree) && find(tree, seen).is_some()
+    if is_short(tree) {
+        return Ok(false);
+    }
+    Ok(find(alloc, tree, seen)?.is_some())
 }
 
 /// Puts a node that is not short at the end of `seen`.
@@ -69,6 +69,7 @@ fn notice<'t, 'a>(tree: &'t Tree<'a>, seen: &mut Vec<Node<'t, 'a>>) -> Result<()
 /// those that repeat one of `seen` at the end of `repeated`.
 #[cycle(visit)]
 pub(crate) fn visit<'t, 'a>(
+    alloc: Global,
     tree: &'t Tree<'a>,
     seen: &mut Vec<Node<'t, 'a>>,
     repeated: &mut Vec<Node<'t, 'a>>,
@@ -77,20 +78,22 @@ pub(crate) fn visit<'t, 'a>(
     ensures repeated { OnOk result (nodes_of repeated.new.items ≡ nodes_of repeated.old.items ++ repeats (tree_of tree.now) (nodes_of seen.old.items)) }
     ensures only { IfErr result (λ fault. fault ≡ Fault.OutOfMemory) }
 {
-    if is_again(tree, seen) {
+    let again = is_again(alloc, tree, seen)?;
+    if again {
         repeated.push(Node { tree })?;
         return Ok(());
     }
     notice(tree, seen)?;
     match tree {
         Tree::Scalar(_) => Ok(()),
-        Tree::Sequence(items) => visit_items(items, seen, repeated),
-        Tree::Mapping(entries) => visit_entries(entries, seen, repeated),
+        Tree::Sequence(items) => visit_items(alloc, items, seen, repeated),
+        Tree::Mapping(entries) => visit_entries(alloc, entries, seen, repeated),
     }
 }
 
 #[cycle(visit)]
 fn visit_items<'t, 'a>(
+    alloc: Global,
     items: &'t [Tree<'a>],
     seen: &mut Vec<Node<'t, 'a>>,
     repeated: &mut Vec<Node<'t, 'a>>,
@@ -100,13 +103,14 @@ fn visit_items<'t, 'a>(
     ensures only { IfErr result (λ fault. fault ≡ Fault.OutOfMemory) }
 {
     for item in items {
-        visit(item, seen, repeated)?;
+        visit(alloc, item, seen, repeated)?;
     }
     Ok(())
 }
 
 #[cycle(visit)]
 fn visit_entries<'t, 'a>(
+    alloc: Global,
     entries: &'t [(Tree<'a>, Tree<'a>)],
     seen: &mut Vec<Node<'t, 'a>>,
     repeated: &mut Vec<Node<'t, 'a>>,
@@ -116,22 +120,8 @@ fn visit_entries<'t, 'a>(
     ensures only { IfErr result (λ fault. fault ≡ Fault.OutOfMemory) }
 {
     for entry in entries {
-        visit(&entry.0, seen, repeated)?;
-        visit(&entry.1, seen, repeated)?;
+        visit(alloc, &entry.0, seen, repeated)?;
+        visit(alloc, &entry.1, seen, repeated)?;
     }
     Ok(())
-}
-
-/// Whether a node of an arranged tree repeats an earlier one that is written out, and is not
-/// short.
-pub(crate) fn has_again(alloc: Global, tree: &Tree<'_>) -> Result<bool, Fault>
-    requires { IsArranged (tree_of tree.now) }
-    ensures none { IfOk result (λ again. OnFalse again (agains (walk short (tree_of tree.now) []) ≡ [])) }
-    ensures some { IfOk result (λ again. OnTrue again (agains (walk short (tree_of tree.now) []) ≢ [])) }
-    ensures only { IfErr result (λ fault. fault ≡ Fault.OutOfMemory) }
-{
-    let mut seen = Vec::new(alloc);
-    let mut repeated = Vec::new(alloc);
-    visit(tree, &mut seen, &mut repeated)?;
-    Ok(!repeated.is_empty())
 }
