@@ -1,8 +1,8 @@
 -- What the code's walk and marks are in terms of the definitions.
-use Rattle.std.proofs.Common.{◌≡◌, ◌+◌, Bool, true, false, not, cond, ◌&&◌, ◌||◌, List, [], ◌∷◌, ◌++◌, refl, sym, ◌∙◌, ap, subst}
+use Rattle.std.proofs.Common.{◌≡◌, Bool, true, false, not, cond, ◌&&◌, ◌||◌, List, [], ◌∷◌, ◌++◌, refl, sym, ◌∙◌, ap, subst}
 use Rattle.std.proofs.lemmas.List.{append_assoc, append-nil}
 use Rattle.std.proofs.lemmas.List.Elements.{filter-append}
-use Rattle.std.specs.List.{filter, list_any, position_or_len}
+use Rattle.std.specs.List.{filter, list_any}
 use lib.Pointwise.{bytes_decides}
 use Rattle.std.specs.Prelude.{bytes_eq}
 use Rattle.yaml_text.specs.Tree.{Tree, Trees, Pairs, scalar, sequence, mapping, end, item, done, entry}
@@ -12,10 +12,11 @@ use Rattle.yaml_text.specs.Walk.{Place, first, again, firsts, agains, is_again, 
 use Rattle.yaml_text.specs.Spell.{short}
 use Rattle.yaml_text.proofs.Members.{and_both, both_and}
 use Rattle.yaml_text.proofs.SameLaws.{same_from}
-use Rattle.yaml_text.proofs.Neat.{Neat, NeatTrees, NeatPairs, neat_same}
+use Rattle.yaml_text.proofs.Neat.{Neat, neat_same}
 use Rattle.yaml_text.proofs.UnfoldLaws.{agains-append}
 use Rattle.yaml_canon.specs.Identical.{identical, identical_trees, identical_pairs}
 use Rattle.yaml_canon.specs.Anchored.{has}
+use Rattle.yaml_canon.proofs.Equivalence.{same_refl, same_like, short_like}
 use Rattle.yaml_canon.specs.Repeats.{repeats_one, noticed, kept, kept_all, kept_pairs, repeats, repeats_all, repeats_pairs}
 
 -- ---- trees that are one
@@ -111,27 +112,18 @@ every_filter P q (x ∷ xs) h = by (q x) (every_filter P q xs h.1)
     by true r = (h.0, r)
     by false r = r
 
-pub any_same : (t : Tree) (b : List Tree) → Neat t → Every Neat b → list_any (same t) b ≡ has b t
-any_same t [] n m = refl
-any_same t (x ∷ b) n m = ap (λ z. z || list_any (same t) b) (same_identical t x n m.0) ∙ ap (λ z. identical t x || z) (any_same t b n m.1)
-
-pub place_same : (t : Tree) (b : List Tree) → Neat t → Every Neat b → position_or_len (identical t) b ≡ position_or_len (same t) b
-place_same t [] n m = refl
-place_same t (x ∷ b) n m =
-    ap (λ z. cond (not z) (1 + position_or_len (identical t) b) 0) (sym (same_identical t x n m.0)) ∙ ap (λ k. cond (not (same t x)) (1 + k) 0) (place_same t b n m.1)
-
--- a tree of the list has what each of the list has
-pub of_has : (P : Tree → Type 0) (t : Tree) (xs : List Tree) → Every P xs → has xs t ≡ true → P t
-of_has P t [] h e = absurd (cc)
-of_has P t (x ∷ xs) h e = by (identical t x) refl (λ g. of_has P t xs h.1 g) e
+-- a tree that is the same as one of the list has what each of the list has
+pub of_has : (P : Tree → Type 0) (t : Tree) (xs : List Tree) → ((x : Tree) → same t x ≡ true → P x → P t) → Every P xs → has xs t ≡ true → P t
+of_has P t [] l h e = absurd (cc)
+of_has P t (x ∷ xs) l h e = by (same t x) refl (λ g. of_has P t xs l h.1 g) e
   where
-    by : (b : Bool) → identical t x ≡ b → (has xs t ≡ true → P t) → (b || has xs t) ≡ true → P t
-    by true i f g = subst P (sym (identical_exact t x i)) h.0
+    by : (b : Bool) → same t x ≡ b → (has xs t ≡ true → P t) → (b || has xs t) ≡ true → P t
+    by true i f g = l x i h.0
     by false i f g = f g
 
 has_more : (x : Tree) (xs : List Tree) (ys : List Tree) → Every (λ z. has xs z ≡ true) ys → Every (λ z. has (x ∷ xs) z ≡ true) ys
 has_more x xs [] h = tt
-has_more x xs (y ∷ ys) h = (by (identical y x) h.0, has_more x xs ys h.1)
+has_more x xs (y ∷ ys) h = (by (same y x) h.0, has_more x xs ys h.1)
   where
     by : (b : Bool) → has xs y ≡ true → (b || has xs y) ≡ true
     by true e = refl
@@ -139,7 +131,7 @@ has_more x xs (y ∷ ys) h = (by (identical y x) h.0, has_more x xs ys h.1)
 
 pub has_itself : (xs : List Tree) → Every (λ z. has xs z ≡ true) xs
 has_itself [] = tt
-has_itself (x ∷ xs) = (ap (λ b. b || has xs x) (identical_refl x), has_more x xs xs (has_itself xs))
+has_itself (x ∷ xs) = (ap (λ b. b || has xs x) (same_refl x), has_more x xs xs (has_itself xs))
 
 taken : (i q l r : Bool) → (i ≡ true → q ≡ true) → l ≡ (q && r) → (i || l) ≡ (q && (i || r))
 taken true q l r h e = sym (ap (λ b. b && true) (h refl))
@@ -153,13 +145,19 @@ and_false : (q : Bool) → false ≡ (q && false)
 and_false true = refl
 and_false false = refl
 
-pub has_filter : (t : Tree) (q : Tree → Bool) (b : List Tree) → has (filter q b) t ≡ (q t && has b t)
-has_filter t q [] = and_false (q t)
-has_filter t q (x ∷ b) = by (q x) refl (has_filter t q b)
+-- a part of a list that is chosen by what trees that are the same have in common
+pub has_filter : (t : Tree) (q : Tree → Bool) (b : List Tree) → ((x : Tree) → same t x ≡ true → q t ≡ q x) → has (filter q b) t ≡ (q t && has b t)
+has_filter t q [] l = and_false (q t)
+has_filter t q (x ∷ b) l = by (q x) refl (has_filter t q b l)
   where
-    by : (c : Bool) → q x ≡ c → has (filter q b) t ≡ (q t && has b t) → has (cond c (x ∷ filter q b) (filter q b)) t ≡ (q t && (identical t x || has b t))
-    by true e r = taken (identical t x) (q t) (has (filter q b) t) (has b t) (λ i. ap q (identical_exact t x i) ∙ e) r
-    by false e r = left_out (identical t x) (q t) (has (filter q b) t) (has b t) (λ i. ap q (identical_exact t x i) ∙ e) r
+    by : (c : Bool) → q x ≡ c → has (filter q b) t ≡ (q t && has b t) → has (cond c (x ∷ filter q b) (filter q b)) t ≡ (q t && (same t x || has b t))
+    by true e r = taken (same t x) (q t) (has (filter q b) t) (has b t) (λ i. l x i ∙ e) r
+    by false e r = left_out (same t x) (q t) (has (filter q b) t) (has b t) (λ i. l x i ∙ e) r
+
+-- and a list has trees that are the same or none of them
+pub has_like : (r : List Tree) (t u : Tree) → same t u ≡ true → has r t ≡ has r u
+has_like [] t u h = refl
+has_like (x ∷ r) t u h = ap (λ z. z || has r t) (same_like t u x h) ∙ ap (λ z. same u x || z) (has_like r t u h)
 
 -- ---- the nodes written out and those that repeat
 
@@ -184,8 +182,8 @@ absorb : (l h : Bool) → (l && (l && h)) ≡ (l && h)
 absorb true h = refl
 absorb false h = refl
 
-again_is : (t : Tree) (b : List Tree) → Neat t → Every Neat b → repeats_one t (filter long b) ≡ is_again short t b
-again_is t b n m = ap (λ z. long t && z) (has_filter t long b) ∙ absorb (long t) (has b t) ∙ ap (λ z. long t && z) (sym (any_same t b n m))
+again_is : (t : Tree) (b : List Tree) → repeats_one t (filter long b) ≡ is_again short t b
+again_is t b = ap (λ z. long t && z) (has_filter t long b (λ x i. ap not (short_like t x i))) ∙ absorb (long t) (has b t)
 
 put_last : (b w : List Tree) (t : Tree) → (b ++ (t ∷ [])) ++ w ≡ b ++ (t ∷ w)
 put_last b w t = append_assoc b (t ∷ []) w
@@ -203,33 +201,6 @@ firsts-append [] q = refl
 firsts-append (first t ∷ p) q = ap (λ z. t ∷ z) (firsts-append p q)
 firsts-append (again t ∷ p) q = firsts-append p q
 
--- what a walk writes out, and what repeats, has what each node of the tree has
-every_case : (P : Tree → Type 0) (c : Bool) (t : Tree) (w : List Place) → P t → Every P (firsts w) → Every P (firsts (cond c (again t ∷ []) (first t ∷ w)))
-every_case P true t w p h = tt
-every_case P false t w p h = (p, h)
-
-mutual
-  unfolding walk
-
-  pub firsts_neat : (t : Tree) (b : List Tree) → Neat t → Every Neat (firsts (walk short t b))
-  firsts_neat (scalar a x) b n = every_case Neat (is_again short (scalar a x) b) (scalar a x) [] n tt
-  firsts_neat (sequence a ts) b n = every_case Neat (is_again short (sequence a ts) b) (sequence a ts) (walk_trees short ts (b ++ (sequence a ts ∷ []))) n (firsts_trees_neat ts (b ++ (sequence a ts ∷ [])) n)
-  firsts_neat (mapping a ps) b n = every_case Neat (is_again short (mapping a ps) b) (mapping a ps) (walk_pairs short ps (b ++ (mapping a ps ∷ []))) n (firsts_pairs_neat ps (b ++ (mapping a ps ∷ [])) n)
-
-  firsts_trees_neat : (ts : Trees) (b : List Tree) → NeatTrees ts → Every Neat (firsts (walk_trees short ts b))
-  firsts_trees_neat end b n = tt
-  firsts_trees_neat (item t ts) b n =
-      let c = b ++ firsts (walk short t b) in
-      subst (Every Neat) (sym (firsts-append (walk short t b) (walk_trees short ts c))) (every_append Neat (firsts (walk short t b)) (firsts (walk_trees short ts c)) (firsts_neat t b n.0) (firsts_trees_neat ts c n.1))
-
-  firsts_pairs_neat : (ps : Pairs) (b : List Tree) → NeatPairs ps → Every Neat (firsts (walk_pairs short ps b))
-  firsts_pairs_neat done b n = tt
-  firsts_pairs_neat (entry k v ps) b n =
-      let c = b ++ firsts (walk short k b) in
-      let d = c ++ firsts (walk short v c) in
-      let rest = subst (Every Neat) (sym (firsts-append (walk short v c) (walk_pairs short ps d))) (every_append Neat (firsts (walk short v c)) (firsts (walk_pairs short ps d)) (firsts_neat v c n.1) (firsts_pairs_neat ps d n.3)) in
-      subst (Every Neat) (sym (firsts-append (walk short k b) (walk short v c ++ walk_pairs short ps d))) (every_append Neat (firsts (walk short k b)) (firsts (walk short v c ++ walk_pairs short ps d)) (firsts_neat k b n.0) rest)
-
 -- ---- the code's walk
 
 -- what a node and those inside it do to a list of nodes
@@ -242,57 +213,56 @@ joined b x y = append_assoc b x y
 mutual
   unfolding kept repeats walk
 
-  pub tracked : (t : Tree) (b : List Tree) → Neat t → Every Neat b → Tracks t b
-  tracked (scalar a x) b n m =
+  pub tracked : (t : Tree) (b : List Tree) → Tracks t b
+  tracked (scalar a x) b =
       let t : Tree = scalar a x in
-      let e = again_is t b n m in (
+      let e = again_is t b in (
         ap (λ c. cond c (filter long b) (noticed t (filter long b))) e ∙ kept_case (is_again short t b) t b (noticed t (filter long b)) [] (noticed_is t b ∙ ap (filter long) (sym (append-nil (b ++ (t ∷ []))))),
         ap (λ c. cond c (t ∷ []) []) e ∙ repeats_case (is_again short t b) t [] [] refl,
       )
-  tracked (sequence a ts) b n m =
+  tracked (sequence a ts) b =
       let t : Tree = sequence a ts in
-      let e = again_is t b n m in
+      let e = again_is t b in
       let c : List Tree = b ++ (t ∷ []) in
-      let r = tracked_trees ts c n (every_append Neat b (t ∷ []) m (n, tt)) in
+      let r = tracked_trees ts c in
       let w : List Place = walk_trees short ts c in (
         ap (λ z. cond z (filter long b) (kept_all ts (noticed t (filter long b)))) e ∙ kept_case (is_again short t b) t b (kept_all ts (noticed t (filter long b))) w (ap (kept_all ts) (noticed_is t b) ∙ r.0),
         ap (λ z. cond z (t ∷ []) (repeats_all ts (noticed t (filter long b)))) e ∙ repeats_case (is_again short t b) t (repeats_all ts (noticed t (filter long b))) w (ap (repeats_all ts) (noticed_is t b) ∙ r.1),
       )
-  tracked (mapping a ps) b n m =
+  tracked (mapping a ps) b =
       let t : Tree = mapping a ps in
-      let e = again_is t b n m in
+      let e = again_is t b in
       let c : List Tree = b ++ (t ∷ []) in
-      let r = tracked_pairs ps c n (every_append Neat b (t ∷ []) m (n, tt)) in
+      let r = tracked_pairs ps c in
       let w : List Place = walk_pairs short ps c in (
         ap (λ z. cond z (filter long b) (kept_pairs ps (noticed t (filter long b)))) e ∙ kept_case (is_again short t b) t b (kept_pairs ps (noticed t (filter long b))) w (ap (kept_pairs ps) (noticed_is t b) ∙ r.0),
         ap (λ z. cond z (t ∷ []) (repeats_pairs ps (noticed t (filter long b)))) e ∙ repeats_case (is_again short t b) t (repeats_pairs ps (noticed t (filter long b))) w (ap (repeats_pairs ps) (noticed_is t b) ∙ r.1),
       )
 
-  tracked_trees : (ts : Trees) (b : List Tree) → NeatTrees ts → Every Neat b
+  tracked_trees : (ts : Trees) (b : List Tree)
       → (kept_all ts (filter long b) ≡ filter long (b ++ firsts (walk_trees short ts b))) × (repeats_all ts (filter long b) ≡ agains (walk_trees short ts b))
-  tracked_trees end b n m = (ap (filter long) (sym (append-nil b)), refl)
-  tracked_trees (item t ts) b n m =
-      let r = tracked t b n.0 m in
+  tracked_trees end b = (ap (filter long) (sym (append-nil b)), refl)
+  tracked_trees (item t ts) b =
+      let r = tracked t b in
       let f : List Tree = firsts (walk short t b) in
       let c : List Tree = b ++ f in
-      let s = tracked_trees ts c n.1 (every_append Neat b f m (firsts_neat t b n.0)) in
+      let s = tracked_trees ts c in
       let w : List Place = walk_trees short ts c in (
         ap (kept_all ts) r.0 ∙ s.0 ∙ ap (filter long) (joined b f (firsts w) ∙ ap (λ z. b ++ z) (sym (firsts-append (walk short t b) w))),
         ap (λ z. z ++ repeats_all ts (kept t (filter long b))) r.1 ∙ ap (λ z. agains (walk short t b) ++ repeats_all ts z) r.0 ∙ ap (λ z. agains (walk short t b) ++ z) s.1 ∙ sym (agains-append (walk short t b) w),
       )
 
-  tracked_pairs : (ps : Pairs) (b : List Tree) → NeatPairs ps → Every Neat b
+  tracked_pairs : (ps : Pairs) (b : List Tree)
       → (kept_pairs ps (filter long b) ≡ filter long (b ++ firsts (walk_pairs short ps b))) × (repeats_pairs ps (filter long b) ≡ agains (walk_pairs short ps b))
-  tracked_pairs done b n m = (ap (filter long) (sym (append-nil b)), refl)
-  tracked_pairs (entry k v ps) b n m =
-      let q = tracked k b n.0 m in
+  tracked_pairs done b = (ap (filter long) (sym (append-nil b)), refl)
+  tracked_pairs (entry k v ps) b =
+      let q = tracked k b in
       let f : List Tree = firsts (walk short k b) in
       let c : List Tree = b ++ f in
-      let nc = every_append Neat b f m (firsts_neat k b n.0) in
-      let r = tracked v c n.1 nc in
+      let r = tracked v c in
       let g : List Tree = firsts (walk short v c) in
       let d : List Tree = c ++ g in
-      let s = tracked_pairs ps d n.3 (every_append Neat c g nc (firsts_neat v c n.1)) in
+      let s = tracked_pairs ps d in
       let w : List Place = walk_pairs short ps d in
       let rest : kept v (kept k (filter long b)) ≡ filter long d = ap (kept v) q.0 ∙ r.0 in
       let two : firsts (walk short k b ++ (walk short v c ++ w)) ≡ f ++ (g ++ firsts w) = firsts-append (walk short k b) (walk short v c ++ w) ∙ ap (λ z. f ++ z) (firsts-append (walk short v c) w) in
@@ -304,7 +274,7 @@ mutual
             ∙ ap (λ z. agains (walk short k b) ++ (agains (walk short v c) ++ z)) (ap (repeats_pairs ps) rest ∙ s.1) ∙ sym all,
       )
 
--- what repeats is not short, and is neat
+-- what repeats is not short
 again_case : (P : Tree → Type 0) (c : Bool) (t : Tree) (w : List Place) → (c ≡ true → P t) → Every P (agains w) → Every P (agains (cond c (again t ∷ []) (first t ∷ w)))
 again_case P true t w p h = (p refl, tt)
 again_case P false t w p h = h
@@ -342,27 +312,5 @@ mutual
       let rest = subst (Every IsLong) (sym (agains-append (walk short v c) (walk_pairs short ps d))) (every_append IsLong (agains (walk short v c)) (agains (walk_pairs short ps d)) (agains_long v c) (agains_pairs_long ps d)) in
       subst (Every IsLong) (sym (agains-append (walk short k b) (walk short v c ++ walk_pairs short ps d))) (every_append IsLong (agains (walk short k b)) (agains (walk short v c ++ walk_pairs short ps d)) (agains_long k b) rest)
 
-mutual
-  unfolding walk
-
-  pub agains_neat : (t : Tree) (b : List Tree) → Neat t → Every Neat (agains (walk short t b))
-  agains_neat (scalar a x) b n = again_case Neat (is_again short (scalar a x) b) (scalar a x) [] (λ _. n) tt
-  agains_neat (sequence a ts) b n = again_case Neat (is_again short (sequence a ts) b) (sequence a ts) (walk_trees short ts (b ++ (sequence a ts ∷ []))) (λ _. n) (agains_trees_neat ts (b ++ (sequence a ts ∷ [])) n)
-  agains_neat (mapping a ps) b n = again_case Neat (is_again short (mapping a ps) b) (mapping a ps) (walk_pairs short ps (b ++ (mapping a ps ∷ []))) (λ _. n) (agains_pairs_neat ps (b ++ (mapping a ps ∷ [])) n)
-
-  agains_trees_neat : (ts : Trees) (b : List Tree) → NeatTrees ts → Every Neat (agains (walk_trees short ts b))
-  agains_trees_neat end b n = tt
-  agains_trees_neat (item t ts) b n =
-      let c = b ++ firsts (walk short t b) in
-      subst (Every Neat) (sym (agains-append (walk short t b) (walk_trees short ts c))) (every_append Neat (agains (walk short t b)) (agains (walk_trees short ts c)) (agains_neat t b n.0) (agains_trees_neat ts c n.1))
-
-  agains_pairs_neat : (ps : Pairs) (b : List Tree) → NeatPairs ps → Every Neat (agains (walk_pairs short ps b))
-  agains_pairs_neat done b n = tt
-  agains_pairs_neat (entry k v ps) b n =
-      let c = b ++ firsts (walk short k b) in
-      let d = c ++ firsts (walk short v c) in
-      let rest = subst (Every Neat) (sym (agains-append (walk short v c) (walk_pairs short ps d))) (every_append Neat (agains (walk short v c)) (agains (walk_pairs short ps d)) (agains_neat v c n.1) (agains_pairs_neat ps d n.3)) in
-      subst (Every Neat) (sym (agains-append (walk short k b) (walk short v c ++ walk_pairs short ps d))) (every_append Neat (agains (walk short k b)) (agains (walk short v c ++ walk_pairs short ps d)) (agains_neat k b n.0) rest)
-
-pub repeats_are : (t : Tree) → Neat t → repeats t [] ≡ agains (walk short t [])
-repeats_are t n = (tracked t [] n tt).1
+pub repeats_are : (t : Tree) → repeats t [] ≡ agains (walk short t [])
+repeats_are t = (tracked t []).1

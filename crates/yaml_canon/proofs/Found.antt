@@ -6,7 +6,7 @@ use Rattle.std.specs.List.{list_any, position, position_or_len}
 use Rattle.yaml_text.specs.Tree as plain
 use Rattle.yaml_canon.specs.declared.node.Node.{Node}
 use Rattle.yaml_canon.specs.TreeModel.{tree_of}
-use Rattle.yaml_canon.specs.Identical.{identical}
+use Rattle.yaml_text.specs.Same.{same}
 use Rattle.yaml_canon.specs.Anchored.{nodes_of, has}
 
 any_map : {X Y : Type 0} (f : X → Y) (p : Y → Bool) (xs : List X) → list_any p (map f xs) ≡ list_any (λ x. p (f x)) xs
@@ -29,10 +29,10 @@ any_below p [] = refl
 any_below p (x ∷ xs) = next_below (p x) (list_any p xs) (position_or_len p xs) (length xs) (any_below p xs)
 
 abbrev pub test : plain.Tree → Node → Bool
-test t n = identical t (tree_of n.tree.now)
+test t n = same t (tree_of n.tree.now)
 
 has_is : (t : plain.Tree) (ns : List Node) → has (nodes_of ns) t ≡ nat_lt (position_or_len (test t) ns) (length ns)
-has_is t ns = any_map (λ n. tree_of n.tree.now) (identical t) ns ∙ any_below (test t) ns
+has_is t ns = any_map (λ n. tree_of n.tree.now) (same t) ns ∙ any_below (test t) ns
 
 some_when : (b : Bool) (k i : ℕ) → Some i ≡ cond b (Some k) None → (b ≡ true) × (i ≡ k)
 some_when true k i e = (refl, cc)
@@ -46,10 +46,10 @@ is_some_when : (b : Bool) (k : ℕ) → is_some (cond b (Some k) None) ≡ b
 is_some_when true k = refl
 is_some_when false k = refl
 
-pub found_some : (t : plain.Tree) (ns : List Node) (i : ℕ) → Some i ≡ position (test t) ns → (has (nodes_of ns) t ≡ true) × (i ≡ position_or_len (identical t) (nodes_of ns))
+pub found_some : (t : plain.Tree) (ns : List Node) (i : ℕ) → Some i ≡ position (test t) ns → (has (nodes_of ns) t ≡ true) × (i ≡ position_or_len (same t) (nodes_of ns))
 found_some t ns i e =
     let w = some_when (nat_lt (position_or_len (test t) ns) (length ns)) (position_or_len (test t) ns) i e in
-    (has_is t ns ∙ w.0, w.1 ∙ sym (place_map (λ n. tree_of n.tree.now) (identical t) ns))
+    (has_is t ns ∙ w.0, w.1 ∙ sym (place_map (λ n. tree_of n.tree.now) (same t) ns))
 
 pub found_none : (t : plain.Tree) (ns : List Node) → None ≡ position (test t) ns → has (nodes_of ns) t ≡ false
 found_none t ns e = has_is t ns ∙ none_when (nat_lt (position_or_len (test t) ns) (length ns)) (position_or_len (test t) ns) e

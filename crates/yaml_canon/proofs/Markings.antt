@@ -1,5 +1,5 @@
 -- The code's marks are those of the definition.
-use Rattle.std.proofs.Common.{◌≡◌, suc, Bool, true, false, not, cond, ◌&&◌, Some, None, List, [], ◌∷◌, ◌++◌, length, refl, sym, ◌∙◌, ap, subst}
+use Rattle.std.proofs.Common.{◌≡◌, Bool, true, false, not, cond, ◌&&◌, List, [], ◌∷◌, ◌++◌, refl, sym, ◌∙◌, ap, subst}
 use Rattle.std.proofs.lemmas.List.{append_assoc, append-nil}
 use Rattle.std.proofs.lemmas.List.Elements.{filter-append}
 use Rattle.std.specs.List.{filter}
@@ -8,13 +8,13 @@ use Rattle.yaml_text.specs.Walk.{Place, first, again, firsts, agains, is_again, 
 use Rattle.yaml_text.specs.Event.{double}
 use Rattle.yaml_text.specs.Marked.{alias, scalar_at, sequence_at, mapping_at, item_mark, entry_marks}
 use Rattle.yaml_text.specs.TagText.{written_tag}
-use Rattle.yaml_text.specs.Mark.{name_of, is_anchored, anchored, anchor_of, alias_of, mark, mark_trees, mark_pairs}
+use Rattle.yaml_text.specs.Mark.{is_anchored, anchored, anchor_of, alias_of, mark, mark_trees, mark_pairs}
 use Rattle.yaml_text.specs.Spell.{short, marks_of_arranged}
-use Rattle.yaml_text.proofs.Neat.{Neat, NeatTrees, NeatPairs}
 use Rattle.yaml_text.proofs.UnfoldLaws.{agains-append}
 use Rattle.yaml_canon.specs.Anchored.{has, alias_at, anchor_at, enrolled, noted, noted_all, noted_pairs, marked, marked_all, marked_pairs}
 use Rattle.yaml_canon.specs.Repeats.{repeats}
-use Rattle.yaml_canon.proofs.Anchors.{Every, every_append, every_parts, every_filter, any_same, place_same, of_has, has_itself, has_filter, firsts-append, firsts_neat, IsLong, agains_long, agains_neat, repeats_are}
+use Rattle.yaml_canon.proofs.Equivalence.{short_like}
+use Rattle.yaml_canon.proofs.Anchors.{Every, every_parts, of_has, has_itself, has_filter, has_like, firsts-append, IsLong, agains_long, repeats_are}
 
 cond_both : {X : Type 0} (c : Bool) (x z y w : X) → (c ≡ true → x ≡ z) → (c ≡ false → y ≡ w) → cond c x y ≡ cond c z w
 cond_both true x z y w f g = f refl
@@ -41,33 +41,22 @@ noted_case : (q : Tree → Bool) (c : Bool) (t : Tree) (b n : List Tree) (w : Li
 noted_case q true t b n w e = ap (filter q) (sym (append-nil b))
 noted_case q false t b n w e = e refl ∙ ap (filter q) (append_assoc b (t ∷ []) (firsts w))
 
-module _ (r : List Tree) (neat : Every Neat r) (all_long : Every IsLong r) where
+module _ (r : List Tree) (all_long : Every IsLong r) where
   abbrev InR : Tree → Type 0
   InR t = has r t ≡ true
 
-  anchored_is : (t : Tree) → Neat t → is_anchored r t ≡ has r t
-  anchored_is t n = any_same t r n neat
-
   -- the nodes up to this one have been seen exactly if it is in the list of the anchored ones
-  seen_is : (t : Tree) (b : List Tree) → Neat t → Every Neat b → (is_again short t b ≡ true → InR t) → has (anchored r b) t ≡ is_again short t b
-  seen_is t b n m f =
-      has_filter t (is_anchored r) b ∙ and_same (is_anchored r t) (not (short t)) (has b t)
-      (λ a. ap not (of_has IsLong t r all_long (sym (anchored_is t n) ∙ a)))
-      (λ e. anchored_is t n ∙ f (ap (λ z. not (short t) && z) (any_same t b n m) ∙ e))
-      ∙ ap (λ z. not (short t) && z) (sym (any_same t b n m))
+  seen_is : (t : Tree) (b : List Tree) → (is_again short t b ≡ true → InR t) → has (anchored r b) t ≡ is_again short t b
+  seen_is t b f =
+      has_filter t (is_anchored r) b (λ x i. has_like r t x i)
+      ∙ and_same (is_anchored r t) (not (short t)) (has b t) (λ a. ap not (of_has IsLong t r (λ x i l. short_like t x i ∙ l) all_long a)) f
 
-  enrolled_is : (t : Tree) (b : List Tree) → Neat t → enrolled r t (anchored r b) ≡ anchored r (b ++ (t ∷ []))
-  enrolled_is t b n = ap (λ z. cond z (anchored r b ++ (t ∷ [])) (anchored r b)) (sym (anchored_is t n)) ∙ by (is_anchored r t) ∙ sym (filter-append (is_anchored r) b (t ∷ []))
+  enrolled_is : (t : Tree) (b : List Tree) → enrolled r t (anchored r b) ≡ anchored r (b ++ (t ∷ []))
+  enrolled_is t b = by (is_anchored r t) ∙ sym (filter-append (is_anchored r) b (t ∷ []))
     where
       by : (c : Bool) → cond c (anchored r b ++ (t ∷ [])) (anchored r b) ≡ anchored r b ++ cond c (t ∷ []) []
       by true = refl
       by false = sym (append-nil (anchored r b))
-
-  anchor_is : (t : Tree) (b : List Tree) → Neat t → anchor_at r t (anchored r b) ≡ anchor_of r t b
-  anchor_is t b n = ap (λ z. cond z (Some (name_of (suc (length (anchored r b))))) None) (sym (anchored_is t n))
-
-  alias_is : (t : Tree) (b : List Tree) → Neat t → Every Neat b → alias_at t (anchored r b) ≡ alias (alias_of r t b)
-  alias_is t b n m = ap (λ k. alias (name_of (suc k))) (place_same t (anchored r b) n (every_filter Neat (is_anchored r) b m))
 
   abbrev Marks : Tree → List Tree → Type 0
   Marks t b = (marked r t (anchored r b) ≡ mark short r t b) × (noted r t (anchored r b) ≡ anchored r (b ++ firsts (walk short t b)))
@@ -75,66 +64,66 @@ module _ (r : List Tree) (neat : Every Neat r) (all_long : Every IsLong r) where
   mutual
     unfolding marked noted mark walk
 
-    pub marks : (t : Tree) (b : List Tree) → Neat t → Every Neat b → Every InR (agains (walk short t b)) → Marks t b
-    marks (scalar a x) b n m i =
+    pub marks : (t : Tree) (b : List Tree) → Every InR (agains (walk short t b)) → Marks t b
+    marks (scalar a x) b i =
         let t : Tree = scalar a x in
         let w : List Tree = anchored r b in
         let c : Bool = is_again short t b in
-        let s = seen_is t b n m (again_in InR c t [] i) in (
+        let s = seen_is t b (again_in InR c t [] i) in (
           ap (λ z. cond z (alias_at t w) (scalar_at (anchor_at r t w) (written_tag 0 a) double x)) s
               ∙ cond_both c (alias_at t w) (alias (alias_of r t b)) (scalar_at (anchor_at r t w) (written_tag 0 a) double x) (scalar_at (anchor_of r t b) (written_tag 0 a) double x)
-              (λ _. alias_is t b n m) (λ _. ap (λ z. scalar_at z (written_tag 0 a) double x) (anchor_is t b n)),
-          ap (λ z. cond z w (enrolled r t w)) s ∙ noted_case (is_anchored r) c t b (enrolled r t w) [] (λ _. enrolled_is t b n ∙ ap (anchored r) (sym (append-nil (b ++ (t ∷ []))))),
+              (λ _. refl) (λ _. refl),
+          ap (λ z. cond z w (enrolled r t w)) s ∙ noted_case (is_anchored r) c t b (enrolled r t w) [] (λ _. enrolled_is t b ∙ ap (anchored r) (sym (append-nil (b ++ (t ∷ []))))),
         )
-    marks (sequence a ts) b n m i =
+    marks (sequence a ts) b i =
         let t : Tree = sequence a ts in
         let w : List Tree = anchored r b in
         let c : Bool = is_again short t b in
         let d : List Tree = b ++ (t ∷ []) in
         let v : List Place = walk_trees short ts d in
-        let s = seen_is t b n m (again_in InR c t v i) in
-        let e = enrolled_is t b n in
-        let inside = λ (f : c ≡ false). marks_trees ts d n (every_append Neat b (t ∷ []) m (n, tt)) (inside_in InR c t v i f) in (
+        let s = seen_is t b (again_in InR c t v i) in
+        let e = enrolled_is t b in
+        let inside = λ (f : c ≡ false). marks_trees ts d (inside_in InR c t v i f) in (
           ap (λ z. cond z (alias_at t w) (sequence_at (anchor_at r t w) (written_tag 1 a) true (marked_all r ts (enrolled r t w)))) s
               ∙ cond_both c (alias_at t w) (alias (alias_of r t b)) (sequence_at (anchor_at r t w) (written_tag 1 a) true (marked_all r ts (enrolled r t w))) (sequence_at (anchor_of r t b) (written_tag 1 a) true (mark_trees short r ts d))
-              (λ _. alias_is t b n m)
-              (λ f. ap (λ z. sequence_at z (written_tag 1 a) true (marked_all r ts (enrolled r t w))) (anchor_is t b n) ∙ ap (λ z. sequence_at (anchor_of r t b) (written_tag 1 a) true z) (ap (marked_all r ts) e ∙ (inside f).0)),
+              (λ _. refl)
+              (λ f. ap (λ z. sequence_at (anchor_of r t b) (written_tag 1 a) true z) (ap (marked_all r ts) e ∙ (inside f).0)),
           ap (λ z. cond z w (noted_all r ts (enrolled r t w))) s ∙ noted_case (is_anchored r) c t b (noted_all r ts (enrolled r t w)) v (λ f. ap (noted_all r ts) e ∙ (inside f).1),
         )
-    marks (mapping a ps) b n m i =
+    marks (mapping a ps) b i =
         let t : Tree = mapping a ps in
         let w : List Tree = anchored r b in
         let c : Bool = is_again short t b in
         let d : List Tree = b ++ (t ∷ []) in
         let v : List Place = walk_pairs short ps d in
-        let s = seen_is t b n m (again_in InR c t v i) in
-        let e = enrolled_is t b n in
-        let inside = λ (f : c ≡ false). marks_pairs ps d n (every_append Neat b (t ∷ []) m (n, tt)) (inside_in InR c t v i f) in (
+        let s = seen_is t b (again_in InR c t v i) in
+        let e = enrolled_is t b in
+        let inside = λ (f : c ≡ false). marks_pairs ps d (inside_in InR c t v i f) in (
           ap (λ z. cond z (alias_at t w) (mapping_at (anchor_at r t w) (written_tag 2 a) true (marked_pairs r ps (enrolled r t w)))) s
               ∙ cond_both c (alias_at t w) (alias (alias_of r t b)) (mapping_at (anchor_at r t w) (written_tag 2 a) true (marked_pairs r ps (enrolled r t w))) (mapping_at (anchor_of r t b) (written_tag 2 a) true (mark_pairs short r ps d))
-              (λ _. alias_is t b n m)
-              (λ f. ap (λ z. mapping_at z (written_tag 2 a) true (marked_pairs r ps (enrolled r t w))) (anchor_is t b n) ∙ ap (λ z. mapping_at (anchor_of r t b) (written_tag 2 a) true z) (ap (marked_pairs r ps) e ∙ (inside f).0)),
+              (λ _. refl)
+              (λ f. ap (λ z. mapping_at (anchor_of r t b) (written_tag 2 a) true z) (ap (marked_pairs r ps) e ∙ (inside f).0)),
           ap (λ z. cond z w (noted_pairs r ps (enrolled r t w))) s ∙ noted_case (is_anchored r) c t b (noted_pairs r ps (enrolled r t w)) v (λ f. ap (noted_pairs r ps) e ∙ (inside f).1),
         )
 
-    marks_trees : (ts : Trees) (b : List Tree) → NeatTrees ts → Every Neat b → Every InR (agains (walk_trees short ts b))
+    marks_trees : (ts : Trees) (b : List Tree) → Every InR (agains (walk_trees short ts b))
         → (marked_all r ts (anchored r b) ≡ mark_trees short r ts b) × (noted_all r ts (anchored r b) ≡ anchored r (b ++ firsts (walk_trees short ts b)))
-    marks_trees end b n m i = (refl, ap (anchored r) (sym (append-nil b)))
-    marks_trees (item t ts) b n m i =
+    marks_trees end b i = (refl, ap (anchored r) (sym (append-nil b)))
+    marks_trees (item t ts) b i =
         let f : List Tree = firsts (walk short t b) in
         let c : List Tree = b ++ f in
         let v : List Place = walk_trees short ts c in
         let p = every_parts InR (agains (walk short t b)) (agains v) (subst (Every InR) (agains-append (walk short t b) v) i) in
-        let h = marks t b n.0 m p.0 in
-        let k = marks_trees ts c n.1 (every_append Neat b f m (firsts_neat t b n.0)) p.1 in (
+        let h = marks t b p.0 in
+        let k = marks_trees ts c p.1 in (
           ap (λ z. item_mark z (marked_all r ts (noted r t (anchored r b)))) h.0 ∙ ap (λ z. item_mark (mark short r t b) z) (ap (marked_all r ts) h.1 ∙ k.0),
           ap (noted_all r ts) h.1 ∙ k.1 ∙ ap (anchored r) (append_assoc b f (firsts v) ∙ ap (λ z. b ++ z) (sym (firsts-append (walk short t b) v))),
         )
 
-    marks_pairs : (ps : Pairs) (b : List Tree) → NeatPairs ps → Every Neat b → Every InR (agains (walk_pairs short ps b))
+    marks_pairs : (ps : Pairs) (b : List Tree) → Every InR (agains (walk_pairs short ps b))
         → (marked_pairs r ps (anchored r b) ≡ mark_pairs short r ps b) × (noted_pairs r ps (anchored r b) ≡ anchored r (b ++ firsts (walk_pairs short ps b)))
-    marks_pairs done b n m i = (refl, ap (anchored r) (sym (append-nil b)))
-    marks_pairs (entry k v ps) b n m i =
+    marks_pairs done b i = (refl, ap (anchored r) (sym (append-nil b)))
+    marks_pairs (entry k v ps) b i =
         let f : List Tree = firsts (walk short k b) in
         let c : List Tree = b ++ f in
         let g : List Tree = firsts (walk short v c) in
@@ -142,10 +131,9 @@ module _ (r : List Tree) (neat : Every Neat r) (all_long : Every IsLong r) where
         let w : List Place = walk_pairs short ps d in
         let p = every_parts InR (agains (walk short k b)) (agains (walk short v c ++ w)) (subst (Every InR) (agains-append (walk short k b) (walk short v c ++ w)) i) in
         let q = every_parts InR (agains (walk short v c)) (agains w) (subst (Every InR) (agains-append (walk short v c) w) p.1) in
-        let nc = every_append Neat b f m (firsts_neat k b n.0) in
-        let h = marks k b n.0 m p.0 in
-        let j = marks v c n.1 nc q.0 in
-        let l = marks_pairs ps d n.3 (every_append Neat c g nc (firsts_neat v c n.1)) q.1 in
+        let h = marks k b p.0 in
+        let j = marks v c q.0 in
+        let l = marks_pairs ps d q.1 in
         let after : noted r v (noted r k (anchored r b)) ≡ anchored r d = ap (noted r v) h.1 ∙ j.1 in
         let two : firsts (walk short k b ++ (walk short v c ++ w)) ≡ f ++ (g ++ firsts w) = firsts-append (walk short k b) (walk short v c ++ w) ∙ ap (λ z. f ++ z) (firsts-append (walk short v c) w) in (
           ap (λ z. entry_marks z (marked r v (noted r k (anchored r b))) (marked_pairs r ps (noted r v (noted r k (anchored r b))))) h.0
@@ -154,7 +142,7 @@ module _ (r : List Tree) (neat : Every Neat r) (all_long : Every IsLong r) where
           ap (noted_pairs r ps) after ∙ l.1 ∙ ap (anchored r) (append_assoc c g (firsts w) ∙ append_assoc b f (g ++ firsts w) ∙ ap (λ z. b ++ z) (sym two)),
         )
 
-pub marked_is : (t : Tree) → Neat t → marked (repeats t []) t [] ≡ marks_of_arranged t
-marked_is t n =
+pub marked_is : (t : Tree) → marked (repeats t []) t [] ≡ marks_of_arranged t
+marked_is t =
     let r : List Tree = agains (walk short t []) in
-    ap (λ z. marked z t []) (repeats_are t n) ∙ (marks r (agains_neat t [] n) (agains_long t []) t [] n tt (has_itself r)).0
+    ap (λ z. marked z t []) (repeats_are t) ∙ (marks r (agains_long t []) t [] (has_itself r)).0

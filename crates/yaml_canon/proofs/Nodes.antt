@@ -14,12 +14,12 @@ use Rattle.yaml_text.specs.Mark.{name_of}
 use Rattle.yaml_text.specs.NodeText.{anchor_text, quoted, text, items_text, pairs_text}
 use Rattle.yaml_canon.specs.declared.tree.Tree.{Tree}
 use Rattle.yaml_canon.specs.TreeModel.{tree_of, trees_of, pairs_of}
-use Rattle.yaml_canon.specs.Identical.{identical}
+use Rattle.yaml_text.specs.Same.{same}
 use Rattle.yaml_canon.specs.Anchored.{has, alias_at, anchor_at, enrolled, separator, noted, noted_all, noted_pairs, marked, marked_all, marked_pairs}
 use Rattle.yaml_canon.specs.Writes.{Writes}
 use Rattle.yaml_canon.proofs.Writing.{Leaves, leaves_last, writes_then, writes_text}
 
-pub alias_marked : (r : List plain.Tree) (t : plain.Tree) (w : List plain.Tree) (i : ℕ) → has w t ≡ true → i ≡ position_or_len (identical t) w → marked r t w ≡ alias (name_of (suc i))
+pub alias_marked : (r : List plain.Tree) (t : plain.Tree) (w : List plain.Tree) (i : ℕ) → has w t ≡ true → i ≡ position_or_len (same t) w → marked r t w ≡ alias (name_of (suc i))
 unfolding marked
 alias_marked r (scalar a x) w i h e = rw (h, e) refl
 alias_marked r (sequence a ts) w i h e = rw (h, e) refl

@@ -157,17 +157,17 @@ module _ (bytes : List ℕ) (es : List Event) (d : SecondDocument bytes es) wher
   found_accepted g h = record { documents = documents; read = found_read; unfolded = h.unfolded; low = h.low; few = h.few; keys = h.keys }
 
   -- the text of the forest found
-  pub found_text : (g : List Tree) (text : List ℕ) → Judged documents g → (AllArranged g → text ≡ spell_bytes g) → length text ≤ text_limit → IsCanonicalText bytes text
-  found_text g text h w fits = record {
+  pub found_text : (g : List Tree) (text : List ℕ) (h : Judged documents g) → text ≡ spell_bytes h.trees → length text ≤ text_limit → IsCanonicalText bytes text
+  found_text g text h e fits = record {
     forest = h.trees;
     means = found_means h.trees h.unfolded;
     spoken = found_spoken h.trees h.unfolded h.few;
     accepted = found_accepted g h;
+    spelled = e;
     fits = fits;
     is = λ k. (
-        let e : text ≡ spell_bytes h.trees = w (subst AllArranged (sym h.is) (arranged_all h.trees k)) ∙ ap spell_bytes h.is ∙ arranged_bytes h.trees k in
         let a : Admitted h.trees = record { trees = admitted_all h.trees (found_proper h.trees h.unfolded) k h.low; fits = subst (λ x. length x ≤ text_limit) e fits } in
-        record { admitted = a; spelled = e; tells = λ g b. (let t = texts_tell h.trees g a b in (λ i. t.0 (sym (i ∙ e)), λ i. sym (t.1 i) ∙ sym e)) });
+        record { admitted = a; tells = λ g b. (let t = texts_tell h.trees g a b in (λ i. t.0 (sym (i ∙ e)), λ i. sym (t.1 i) ∙ sym e)) });
   }
 
   -- refusals of nodes, sizes and keys are those of `canonical` and of `same`
@@ -195,12 +195,12 @@ module _ (bytes : List ℕ) (es : List Event) (d : SecondDocument bytes es) wher
   keys_refused n fault.OutOfMemory s w r = tt
   keys_refused n _ s w r = absurd r
 
-  pub spelling_refused : (g : List Tree) (e : Fault) → Judged documents g → (AllArranged g → RefusesSpelling g e) → IsUnspelled e → CanonicalRefuses bytes e
+  pub spelling_refused : (g : List Tree) (e : Fault) (h : Judged documents g) → RefusesSpelling h.trees e → IsUnspelled e → CanonicalRefuses bytes e
   spelling_refused g fault.TextTooLong h r o = (
     h.trees,
     found_means h.trees h.unfolded,
     found_accepted g h,
-    λ k. subst (λ z. text_limit < length z) (ap spell_bytes h.is ∙ arranged_bytes h.trees k) (r (subst AllArranged (sym h.is) (arranged_all h.trees k))),
+    r,
   )
   spelling_refused g fault.OutOfMemory h r o = tt
   spelling_refused g _ h r o = absurd o
@@ -236,13 +236,11 @@ module _ (bytes : List ℕ) (es : List Event) (d : SecondDocument bytes es) wher
   keys_unrefused f fault.OutOfMemory a q r = refl
   keys_unrefused f _ a q r = absurd r
 
-  -- the forest found is arranged, and its text is the one that was spelled
-  pub spelled_again : (f g : List Tree) → Admitted f → es ≡ spelled f → Judged documents g → AllArranged g × (spell_bytes g ≡ spell_bytes f)
+  -- the forest found is an arranged one, whose text is the one that was spelled
+  pub spelled_again : (f g : List Tree) → Admitted f → es ≡ spelled f → Judged documents g → (k : List Tree) × (g ≡ map arranged k) × (spell_bytes k ≡ spell_bytes f)
   spelled_again f g a q h =
       let p : h.trees ≡ map arranged f = same_trees (trees_of documents) h.trees (map arranged f) h.unfolded (spelled_found f a q) in
-      let e : g ≡ map arranged (map arranged f) = h.is ∙ ap (map arranged) p in
-      let keys : AllKeyed (map arranged f) = arranged_keyed f a.trees in
-      (subst AllArranged (sym e) (arranged_all (map arranged f) keys), ap spell_bytes e ∙ arranged_bytes (map arranged f) keys ∙ arranged_bytes f (keyed_all f a.trees))
+      (h.trees, h.is, ap spell_bytes p ∙ arranged_bytes f (keyed_all f a.trees))
 
 -- a forest whose text is that of an admitted one is not refused but for memory
 pub admitted_spelled : (e : Fault) (f g : List Tree) → spell_bytes g ≡ spell_bytes f → Admitted f → RefusesSpelling g e → e ≡ fault.OutOfMemory

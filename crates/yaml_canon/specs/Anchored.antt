@@ -4,13 +4,13 @@ use Rattle.std.specs.declared.option.Option.TheVariants.{None, Some}
 use Rattle.std.specs.List.{list_any, position_or_len}
 use Rattle.yaml_text.specs.Tree.{Trees, Pairs, scalar, sequence, mapping, end, item, done, entry}
 use Rattle.yaml_text.specs.Tree as plain
+use Rattle.yaml_text.specs.Same.{same}
 use Rattle.yaml_text.specs.Event.{Anchor, double}
 use Rattle.yaml_text.specs.Marked.{Marked, AllMarked, MarkedPairs, alias, scalar_at, sequence_at, mapping_at, end_marks, item_mark, done_marks, entry_marks}
 use Rattle.yaml_text.specs.TagText.{written_tag}
 use Rattle.yaml_text.specs.Mark.{name_of}
 use Rattle.yaml_canon.specs.declared.node.Node.{Node}
 use Rattle.yaml_canon.specs.TreeModel.{tree_of}
-use Rattle.yaml_canon.specs.Identical.{identical}
 
 -- the trees that a list's references name
 abbrev pub nodes_of : List Node → List plain.Tree
@@ -21,12 +21,12 @@ abbrev pub separator : ℕ → List ℕ
 separator zero = []
 separator (suc i) = 44 ∷ 32 ∷ []
 
--- one of the list is this tree
+-- one of the list is the same as this tree
 abbrev pub has : List plain.Tree → plain.Tree → Bool
-has ts t = list_any (identical t) ts
+has ts t = list_any (same t) ts
 
 abbrev pub alias_at : plain.Tree → List plain.Tree → Marked
-alias_at t written = alias (name_of (suc (position_or_len (identical t) written)))
+alias_at t written = alias (name_of (suc (position_or_len (same t) written)))
 
 -- `repeated` are the nodes that a later one repeats
 module _ (repeated : List plain.Tree) where

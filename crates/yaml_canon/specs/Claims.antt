@@ -47,18 +47,19 @@ pub record Accepted (bytes : List ℕ) (f : List Tree) : Type 0 where
   pub few : AllFew f
   pub keys : NoEqualKeys documents
 
--- the text is the canonical one of the forest, and tells it from every other
+-- the forest is admitted, and the text tells it from every other
 pub record IsTextOf (f : List Tree) (text : List ℕ) : Type 0 where
   pub admitted : Admitted f
-  pub spelled : text ≡ spell_bytes f
   pub tells : (g : List Tree) → Admitted g → (spell_bytes g ≡ text) ↔ Alike f g
 
--- the text is the canonical one of what the bytes mean, where no mapping there has two keys that are the same
+-- The text is the spelling of what the bytes mean. Where no mapping there has two keys that are the same, it is the canonical
+-- one, and tells that forest from every other.
 pub record IsCanonicalText (bytes text : List ℕ) : Type 0 where
   pub forest : List Tree
   pub means : Means bytes forest
   pub spoken : Spoken forest
   pub accepted : Accepted bytes forest
+  pub spelled : text ≡ spell_bytes forest
   pub fits : length text ≤ text_limit
   pub is : AllKeyed forest → IsTextOf forest text
 
@@ -121,5 +122,5 @@ RefusedInReading bytes _ = ⊥
 
 -- What a refusal by `canonical` says of the bytes: it may also be that the text would be too long.
 abbrev pub CanonicalRefuses : List ℕ → Fault → Type 0
-CanonicalRefuses bytes TextTooLong = (f : List Tree) × Means bytes f × Accepted bytes f × (AllKeyed f → text_limit < length (spell_bytes f))
+CanonicalRefuses bytes TextTooLong = (f : List Tree) × Means bytes f × Accepted bytes f × (text_limit < length (spell_bytes f))
 CanonicalRefuses bytes fault = RefusedInReading bytes fault

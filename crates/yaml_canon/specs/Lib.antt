@@ -23,3 +23,4 @@ pub mod SecondAnswer
 pub mod Comparing
 pub mod SourceKeys
 pub mod KeyModel
+pub mod Meeting

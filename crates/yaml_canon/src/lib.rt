@@ -12,6 +12,7 @@ pub mod presenter;
 mod quoted;
 mod reader;
 mod reading;
+mod sameness;
 pub mod side;
 mod spell;
 mod tree;

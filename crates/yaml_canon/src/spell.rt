@@ -1,10 +1,11 @@
 //! The canonical text of trees.
-ghost use Rattle.std.specs.Prelude.{◌≡◌, ◌≤◌, [], length, map, IfOk, ◌<◌, ◌^◌, suc, OnOk, IfErr, ◌∷◌, ◌++◌};
+ghost use Rattle.std.specs.Prelude.{List, ◌≡◌, ◌≤◌, [], length, map, IfOk, ◌<◌, ◌^◌, suc, OnOk, IfErr, ◌∷◌, ◌++◌};
 ghost use Rattle.std.specs.String.{string_bytes};
 ghost use Rattle.yaml_text.specs.Mark.{name_of};
 ghost use Rattle.yaml_text.specs.Limits.{text_limit};
-ghost use Rattle.yaml_text.specs.Spell.{marks_of, spell_bytes};
-ghost use Rattle.yaml_canon.specs.Arranged.{IsArranged, AllArranged};
+ghost use Rattle.yaml_text.specs.Spell.{marks_of_arranged, spell_bytes};
+ghost use Rattle.yaml_text.specs.Order.{arranged};
+ghost use Rattle.yaml_text.specs.Tree as plain;
 ghost use Rattle.yaml_canon.specs.Refusal.{RefusesSpelling, IsUnspelled};
 ghost use Rattle.yaml_text.specs.Marked.{alias};
 ghost use Rattle.yaml_text.specs.NodeText.{text, items_text, pairs_text, anchor_text};
@@ -22,12 +23,13 @@ use yaml_text::fault::Fault;
 /// The greatest length of a canonical text, in bytes.
 const TEXT_LIMIT: usize = 16_777_216;
 
-/// The canonical text of arranged trees, a document each. A text of more than 16,777,216 bytes is
-/// refused as `TextTooLong`. Of trees that are not arranged some text is written.
+/// The canonical text of a forest, a document each, from its trees with the entries of each
+/// mapping in order of their keys. A text of more than 16,777,216 bytes is refused as
+/// `TextTooLong`.
 pub(crate) fn spell(alloc: Global, trees: &[Tree<'_>]) -> Result<String, Fault>
-    ensures ok { AllArranged (map tree_of trees.now) → IfOk result (λ text. string_bytes text ≡ spell_bytes (map tree_of trees.now)) }
+    ensures ok { (f : List plain.Tree) → map tree_of trees.now ≡ map arranged f → IfOk result (λ text. string_bytes text ≡ spell_bytes f) }
     ensures fits { IfOk result (λ text. length (string_bytes text) ≤ text_limit) }
-    ensures err { AllArranged (map tree_of trees.now) → IfErr result (λ fault. RefusesSpelling (map tree_of trees.now) fault) }
+    ensures err { (f : List plain.Tree) → map tree_of trees.now ≡ map arranged f → IfErr result (RefusesSpelling f) }
     ensures only { IfErr result IsUnspelled }
 {
     let mut out = String::new(alloc);
@@ -42,15 +44,15 @@ pub(crate) fn spell(alloc: Global, trees: &[Tree<'_>]) -> Result<String, Fault>
 
 /// A document's start, the text of its root, and the end of the line.
 fn spell_document(alloc: Global, tree: &Tree<'_>, out: &mut String) -> Result<(), Fault>
-    ensures ok { IsArranged (tree_of tree.now) → OnOk result (Writes (string_bytes out.old) (string_bytes out.new) (λ more. 45 ∷ 45 ∷ 45 ∷ 32 ∷ text (marks_of (tree_of tree.now)) (10 ∷ more))) }
+    ensures ok { OnOk result (Writes (string_bytes out.old) (string_bytes out.new) (λ more. 45 ∷ 45 ∷ 45 ∷ 32 ∷ text (marks_of_arranged (tree_of tree.now)) (10 ∷ more))) }
     ensures only { IfErr result (λ fault. fault ≡ Fault.OutOfMemory) }
 {
     let mut seen = Vec::new(alloc);
     let mut repeated = Vec::new(alloc);
-    visit(tree, &mut seen, &mut repeated)?;
+    visit(alloc, tree, &mut seen, &mut repeated)?;
     let mut anchored = Vec::new(alloc);
     out.push_str("--- ")?;
-    spell_node(tree, &repeated, &mut anchored, out)?;
+    spell_node(alloc, tree, &repeated, &mut anchored, out)?;
     out.push('\n')?;
     Ok(())
 }
@@ -88,6 +90,7 @@ fn push_separator(place: usize, out: &mut String) -> Result<(), Fault>
 
 /// The anchor of a node that is written out, if a later one repeats it.
 fn push_anchor<'t, 'a>(
+    alloc: Global,
     tree: &'t Tree<'a>,
     repeated: &[Node<'t, 'a>],
     anchored: &mut Vec<Node<'t, 'a>>,
@@ -97,7 +100,7 @@ fn push_anchor<'t, 'a>(
     ensures enrolled { OnOk result (nodes_of anchored.new.items ≡ enrolled (nodes_of repeated.now) (tree_of tree.now) (nodes_of anchored.old.items)) }
     ensures only { IfErr result (λ fault. fault ≡ Fault.OutOfMemory) }
 {
-    if find(tree, repeated).is_some() {
+    if find(alloc, tree, repeated)?.is_some() {
         anchored.push(Node { tree })?;
         out.push('&')?;
         push_name(anchored.len(), out)?;
@@ -110,6 +113,7 @@ fn push_anchor<'t, 'a>(
 /// anchored ones that stand before, in order.
 #[cycle(spell)]
 fn spell_node<'t, 'a>(
+    alloc: Global,
     tree: &'t Tree<'a>,
     repeated: &[Node<'t, 'a>],
     anchored: &mut Vec<Node<'t, 'a>>,
@@ -119,19 +123,21 @@ fn spell_node<'t, 'a>(
     ensures noted { OnOk result (nodes_of anchored.new.items ≡ noted (nodes_of repeated.now) (tree_of tree.now) (nodes_of anchored.old.items)) }
     ensures only { IfErr result (λ fault. fault ≡ Fault.OutOfMemory) }
 {
-    if let Some(place) = find(tree, anchored) {
+    let written = find(alloc, tree, anchored)?;
+    if let Some(place) = written {
         return push_alias(place, out);
     }
-    push_anchor(tree, repeated, anchored, out)?;
+    push_anchor(alloc, tree, repeated, anchored, out)?;
     match tree {
         Tree::Scalar(text) => spell_into(text, out),
-        Tree::Sequence(items) => spell_items(items, repeated, anchored, out),
-        Tree::Mapping(entries) => spell_entries(entries, repeated, anchored, out),
+        Tree::Sequence(items) => spell_items(alloc, items, repeated, anchored, out),
+        Tree::Mapping(entries) => spell_entries(alloc, entries, repeated, anchored, out),
     }
 }
 
 #[cycle(spell)]
 fn spell_items<'t, 'a>(
+    alloc: Global,
     items: &'t [Tree<'a>],
     repeated: &[Node<'t, 'a>],
     anchored: &mut Vec<Node<'t, 'a>>,
@@ -144,7 +150,7 @@ fn spell_items<'t, 'a>(
     out.push('[')?;
     for (i, item) in items.iter().enumerate() {
         push_separator(i, out)?;
-        spell_node(item, repeated, anchored, out)?;
+        spell_node(alloc, item, repeated, anchored, out)?;
     }
     out.push(']')?;
     Ok(())
@@ -152,6 +158,7 @@ fn spell_items<'t, 'a>(
 
 #[cycle(spell)]
 fn spell_entries<'t, 'a>(
+    alloc: Global,
     entries: &'t [(Tree<'a>, Tree<'a>)],
     repeated: &[Node<'t, 'a>],
     anchored: &mut Vec<Node<'t, 'a>>,
@@ -164,9 +171,9 @@ fn spell_entries<'t, 'a>(
     out.push('{')?;
     for (i, entry) in entries.iter().enumerate() {
         push_separator(i, out)?;
-        spell_node(&entry.0, repeated, anchored, out)?;
+        spell_node(alloc, &entry.0, repeated, anchored, out)?;
         out.push_str(" : ")?;
-        spell_node(&entry.1, repeated, anchored, out)?;
+        spell_node(alloc, &entry.1, repeated, anchored, out)?;
     }
     out.push('}')?;
     Ok(())

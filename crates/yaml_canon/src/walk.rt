@@ -1,6 +1,6 @@
 //! Which nodes of an arranged tree repeat an earlier one. Temporary, as the trees are: nodes are
 //! compared one with another.
-ghost use Rattle.std.specs.Prelude.{◌≡◌, ◌+◌, [], ◌++◌, OnOk, IfErr, length, nat_le};
+ghost use Rattle.std.specs.Prelude.{◌≡◌, ◌+◌, [], ◌++◌, OnOk, IfOk, IfErr, length, nat_le};
 ghost use Rattle.std.specs.Str.{chars, encode_utf8_all};
 ghost use Rattle.yaml_text.specs.Limits.{short_limit};
 ghost use Rattle.yaml_text.specs.NodeText.{quoted};
@@ -11,6 +11,7 @@ ghost use Rattle.yaml_canon.specs.Repeats.{repeats_one, noticed, kept, kept_all,
 
 use crate::node::{Node, find};
 use crate::tree::Tree;
+use std::alloc::Global;
 use yaml_scalar::spell::spelled_len;
 use yaml_text::fault::Fault;
 
@@ -36,10 +37,14 @@ fn is_short(tree: &Tree<'_>) -> bool
 }
 
 /// Whether a node repeats one of `seen`, and is not short.
-fn is_again<'a>(tree: &Tree<'a>, seen: &[Node<'_, 'a>]) -> bool
-    ensures { result ≡ repeats_one (tree_of tree.now) (nodes_of seen.now) }
+fn is_again<'a>(alloc: Global, tree: &Tree<'a>, seen: &[Node<'_, 'a>]) -> Result<bool, Fault>
+    ensures again { IfOk result (λ again. again ≡ repeats_one (tree_of tree.now) (nodes_of seen.now)) }
+    ensures only { IfErr result (λ fault. fault ≡ Fault.OutOfMemory) }
 {
-    !is_short(tree) && find(tree, seen).is_some()
+    if is_short(tree) {
+        return Ok(false);
+    }
+    Ok(find(alloc, tree, seen)?.is_some())
 }
 
 /// Puts a node that is not short at the end of `seen`.
@@ -57,6 +62,7 @@ fn notice<'t, 'a>(tree: &'t Tree<'a>, seen: &mut Vec<Node<'t, 'a>>) -> Result<()
 /// those that repeat one of `seen` at the end of `repeated`.
 #[cycle(visit)]
 pub(crate) fn visit<'t, 'a>(
+    alloc: Global,
     tree: &'t Tree<'a>,
     seen: &mut Vec<Node<'t, 'a>>,
     repeated: &mut Vec<Node<'t, 'a>>,
@@ -65,20 +71,22 @@ pub(crate) fn visit<'t, 'a>(
     ensures repeated { OnOk result (nodes_of repeated.new.items ≡ nodes_of repeated.old.items ++ repeats (tree_of tree.now) (nodes_of seen.old.items)) }
     ensures only { IfErr result (λ fault. fault ≡ Fault.OutOfMemory) }
 {
-    if is_again(tree, seen) {
+    let again = is_again(alloc, tree, seen)?;
+    if again {
         repeated.push(Node { tree })?;
         return Ok(());
     }
     notice(tree, seen)?;
     match tree {
         Tree::Scalar(_) => Ok(()),
-        Tree::Sequence(items) => visit_items(items, seen, repeated),
-        Tree::Mapping(entries) => visit_entries(entries, seen, repeated),
+        Tree::Sequence(items) => visit_items(alloc, items, seen, repeated),
+        Tree::Mapping(entries) => visit_entries(alloc, entries, seen, repeated),
     }
 }
 
 #[cycle(visit)]
 fn visit_items<'t, 'a>(
+    alloc: Global,
     items: &'t [Tree<'a>],
     seen: &mut Vec<Node<'t, 'a>>,
     repeated: &mut Vec<Node<'t, 'a>>,
@@ -88,13 +96,14 @@ fn visit_items<'t, 'a>(
     ensures only { IfErr result (λ fault. fault ≡ Fault.OutOfMemory) }
 {
     for item in items {
-        visit(item, seen, repeated)?;
+        visit(alloc, item, seen, repeated)?;
     }
     Ok(())
 }
 
 #[cycle(visit)]
 fn visit_entries<'t, 'a>(
+    alloc: Global,
     entries: &'t [(Tree<'a>, Tree<'a>)],
     seen: &mut Vec<Node<'t, 'a>>,
     repeated: &mut Vec<Node<'t, 'a>>,
@@ -104,8 +113,8 @@ fn visit_entries<'t, 'a>(
     ensures only { IfErr result (λ fault. fault ≡ Fault.OutOfMemory) }
 {
     for entry in entries {
-        visit(&entry.0, seen, repeated)?;
-        visit(&entry.1, seen, repeated)?;
+        visit(alloc, &entry.0, seen, repeated)?;
+        visit(alloc, &entry.1, seen, repeated)?;
     }
     Ok(())
 }
