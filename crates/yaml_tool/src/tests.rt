@@ -67,7 +67,7 @@ fn check<T: Abort + AllocGlobal>(rt: &T, shelf: &Shelf<'_>, rows: &[Row]) -> Res
     Ok(())
 }
 
-const CANON: [Row; 11] = [
+const CANON: [Row; 13] = [
     Row {
         words: &["canon"],
         input: "--- [\"x\",[ \"y\" ],[]]\n",
@@ -119,10 +119,24 @@ const CANON: [Row; 11] = [
     },
     Row {
         words: &["canon"],
-        input: "--- {\"a\" : \"1\", \"\\x61\" : \"2\"}",
+        input: "--- {\"b\" : \"1\", \"a\" : [\"x\"], \"c\":[\"x\"]}",
+        status: 0,
+        out: "--- {\"a\" : &a1 [\"x\"], \"b\" : \"1\", \"c\" : *a1}\n",
+        err: "",
+    },
+    Row {
+        words: &["canon"],
+        input: "--- [*x]",
         status: 2,
         out: "",
-        err: "yaml: 19 EqualKeys in node 4, entries 0 and 1\n",
+        err: "yaml: 12 UndefinedAlias at event 3\n",
+    },
+    Row {
+        words: &["canon"],
+        input: "--- &a [*a]",
+        status: 2,
+        out: "",
+        err: "yaml: 13 CyclicAlias at event 3\n",
     },
     Row {
         words: &["canon"],
@@ -180,14 +194,7 @@ fn other_words_are_a_fault_of_usage(rt: HostRuntime) -> Result<(), Fail> {
     Ok(())
 }
 
-const SAME: [Row; 10] = [
-    Row {
-        words: &["same", "a.yaml", "keys.yaml"],
-        input: "",
-        status: 2,
-        out: "",
-        err: "yaml: right: 19 EqualKeys in node 4, entries 0 and 1\n",
-    },
+const SAME: [Row; 12] = [
     Row {
         words: &["same", "a.yaml", "b.yaml"],
         input: "",
@@ -201,6 +208,27 @@ const SAME: [Row; 10] = [
         status: 1,
         out: "different\n",
         err: "",
+    },
+    Row {
+        words: &["same", "map.yaml", "alias.yaml"],
+        input: "",
+        status: 0,
+        out: "same\n",
+        err: "",
+    },
+    Row {
+        words: &["same", "map.yaml", "a.yaml"],
+        input: "",
+        status: 1,
+        out: "different\n",
+        err: "",
+    },
+    Row {
+        words: &["same", "cycle.yaml", "open.yaml"],
+        input: "",
+        status: 2,
+        out: "",
+        err: "yaml: left: 13 CyclicAlias at event 3\n",
     },
     Row {
         words: &["same", "bad.yaml", "open.yaml"],
@@ -256,6 +284,28 @@ const SAME: [Row; 10] = [
 #[test]
 fn same_reads_both_files_before_it_judges_either(rt: HostRuntime) -> Result<(), Fail> {
     check(&rt, &Shelf::new(), &SAME)
+}
+
+const KEYS: [Row; 2] = [
+    Row {
+        words: &["canon"],
+        input: "--- {\"a\" : \"1\", \"\\x61\" : \"2\"}",
+        status: 2,
+        out: "",
+        err: "yaml: 19 EqualKeys in node 4, entries 0 and 1\n",
+    },
+    Row {
+        words: &["same", "a.yaml", "keys.yaml"],
+        input: "",
+        status: 2,
+        out: "",
+        err: "yaml: right: 19 EqualKeys in node 4, entries 0 and 1\n",
+    },
+];
+
+#[test]
+fn equal_keys_are_told(rt: HostRuntime) -> Result<(), Fail> {
+    check(&rt, &Shelf::new(), &KEYS)
 }
 
 #[test]

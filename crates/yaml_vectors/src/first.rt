@@ -6,7 +6,7 @@ use yaml_canon::Side;
 const READ: [Row; 27] = [
     Row {
         shows: "spaces round brackets and commas are free",
-        input: b"--- [\"x\",[ \"y\" ],[]]\n",
+        input: b"--- [\"x\",[ \"y\" ],[]]",
         answer: Ok("--- [\"x\", [\"y\"], []]\n"),
     },
     Row {

@@ -1,7 +1,8 @@
 //! One document of double-quoted scalars, flow sequences, flow mappings, anchors and aliases, on
 //! one line. Keys are compared by their source text.
-use crate::rows::{Pair, Row, answer, check, compare, is_refused};
+use crate::rows::{Pair, Row, answer, check, compare, gives, is_refused};
 use std::alloc::Global;
+use std::process::Abort;
 use std::test::Fail;
 use yaml_canon::Side;
 
@@ -28,7 +29,7 @@ const READ: [Row; 28] = [
     },
     Row {
         shows: "a lower key stands first",
-        input: b"--- {[\"a\"]: \"1\", \"b\": \"2\"}",
+        input: b"--- {[\"a\"] : \"1\", \"b\" : \"2\"}",
         answer: Ok("--- {\"b\" : \"2\", [\"a\"] : \"1\"}\n"),
     },
     Row {
@@ -95,17 +96,17 @@ const READ: [Row; 28] = [
     },
     Row {
         shows: "a key and its value",
-        input: b"--- {[\"a\"]: [\"a\"]}",
+        input: b"--- {[\"a\"] : [\"a\"]}",
         answer: Ok("--- {&a1 [\"a\"] : *a1}\n"),
     },
     Row {
         shows: "a value and a later key",
-        input: b"--- {\"k\": [\"a\"], [\"a\"]: \"k\"}",
+        input: b"--- {\"k\" : [\"a\"], [\"a\"] : \"k\"}",
         answer: Ok("--- {\"k\" : &a1 [\"a\"], *a1 : \"k\"}\n"),
     },
     Row {
         shows: "values in the order of their keys",
-        input: b"--- {\"x\": [\"1\"], \"a\": [\"1\"]}",
+        input: b"--- {\"x\" : [\"1\"], \"a\" : [\"1\"]}",
         answer: Ok("--- {\"a\" : &a1 [\"1\"], \"x\" : *a1}\n"),
     },
     Row {
@@ -155,37 +156,7 @@ fn documents_have_their_canonical_text(rt: HostRuntime) -> Result<(), Fail> {
     check(&rt, &READ)
 }
 
-const REFUSED: [Row; 27] = [
-    Row {
-        shows: "keys are equal by their source text, escapes read",
-        input: b"--- {\"a\" : \"1\", \"\\x61\" : \"2\"}",
-        answer: Err("19 EqualKeys in node 4, entries 0 and 1"),
-    },
-    Row {
-        shows: "equal collections as keys",
-        input: b"--- {[\"a\"]:\"1\",[\"a\"]:\"2\"}",
-        answer: Err("19 EqualKeys in node 6, entries 0 and 1"),
-    },
-    Row {
-        shows: "the pair with the least second entry is named",
-        input: b"--- {\"a\":\"1\",\"b\":\"2\",\"b\":\"3\",\"a\":\"4\"}",
-        answer: Err("19 EqualKeys in node 8, entries 1 and 2"),
-    },
-    Row {
-        shows: "of these the least first entry is named",
-        input: b"--- {\"a\":\"1\",\"b\":\"2\",\"a\":\"3\",\"a\":\"4\"}",
-        answer: Err("19 EqualKeys in node 8, entries 0 and 2"),
-    },
-    Row {
-        shows: "the lowest mapping is named",
-        input: b"--- [{[\"x\"]:\"1\",[\"x\"]:\"2\"},{\"a\":\"1\",\"a\":\"2\"}]",
-        answer: Err("19 EqualKeys in node 11, entries 0 and 1"),
-    },
-    Row {
-        shows: "of equally low mappings the first to close is named",
-        input: b"--- [{\"b\":\"1\",\"b\":\"2\"},{\"a\":\"1\",\"a\":\"2\"}]",
-        answer: Err("19 EqualKeys in node 4, entries 0 and 1"),
-    },
+const REFUSED: [Row; 21] = [
     Row {
         shows: "an alias without a node",
         input: b"--- [*x]",
@@ -298,7 +269,7 @@ fn other_inputs_are_refused_at_their_place(rt: HostRuntime) -> Result<(), Fail> 
     check(&rt, &REFUSED)
 }
 
-const PAIRS: [Pair; 8] = [
+const PAIRS: [Pair; 6] = [
     Pair {
         shows: "mappings are sets",
         left: b"--- {\"a\":\"1\",\"b\":\"2\"}",
@@ -330,6 +301,58 @@ const PAIRS: [Pair; 8] = [
         answer: Ok(false),
     },
     Pair {
+        shows: "the right is read before keys are compared",
+        left: b"--- {\"a\":\"1\",\"a\":\"2\"}",
+        right: b"--- [",
+        answer: Err((Side::Right, "4 Syntax at byte 5")),
+    },
+];
+
+#[test]
+fn documents_are_the_same_or_not(rt: HostRuntime) -> Result<(), Fail> {
+    compare(&rt, &PAIRS)
+}
+
+const KEYS: [Row; 6] = [
+    Row {
+        shows: "keys are equal by their source text, escapes read",
+        input: b"--- {\"a\" : \"1\", \"\\x61\" : \"2\"}",
+        answer: Err("19 EqualKeys in node 4, entries 0 and 1"),
+    },
+    Row {
+        shows: "equal collections as keys",
+        input: b"--- {[\"a\"]:\"1\",[\"a\"]:\"2\"}",
+        answer: Err("19 EqualKeys in node 6, entries 0 and 1"),
+    },
+    Row {
+        shows: "the pair with the least second entry is named",
+        input: b"--- {\"a\":\"1\",\"b\":\"2\",\"b\":\"3\",\"a\":\"4\"}",
+        answer: Err("19 EqualKeys in node 8, entries 1 and 2"),
+    },
+    Row {
+        shows: "of these the least first entry is named",
+        input: b"--- {\"a\":\"1\",\"b\":\"2\",\"a\":\"3\",\"a\":\"4\"}",
+        answer: Err("19 EqualKeys in node 8, entries 0 and 2"),
+    },
+    Row {
+        shows: "the lowest mapping is named",
+        input: b"--- [{[\"x\"]:\"1\",[\"x\"]:\"2\"},{\"a\":\"1\",\"a\":\"2\"}]",
+        answer: Err("19 EqualKeys in node 11, entries 0 and 1"),
+    },
+    Row {
+        shows: "of equally low mappings the first to close is named",
+        input: b"--- [{\"b\":\"1\",\"b\":\"2\"},{\"a\":\"1\",\"a\":\"2\"}]",
+        answer: Err("19 EqualKeys in node 4, entries 0 and 1"),
+    },
+];
+
+#[test]
+fn equal_keys_are_refused(rt: HostRuntime) -> Result<(), Fail> {
+    check(&rt, &KEYS)
+}
+
+const KEY_PAIRS: [Pair; 2] = [
+    Pair {
         shows: "equal keys on the right",
         left: b"--- {\"a\":\"1\"}",
         right: b"--- {\"a\":\"1\",\"a\":\"2\"}",
@@ -341,17 +364,11 @@ const PAIRS: [Pair; 8] = [
         right: b"--- {\"a\":\"1\"}",
         answer: Err((Side::Left, "19 EqualKeys in node 4, entries 0 and 1")),
     },
-    Pair {
-        shows: "the right is read before keys are compared",
-        left: b"--- {\"a\":\"1\",\"a\":\"2\"}",
-        right: b"--- [",
-        answer: Err((Side::Right, "4 Syntax at byte 5")),
-    },
 ];
 
 #[test]
-fn documents_are_the_same_or_not(rt: HostRuntime) -> Result<(), Fail> {
-    compare(&rt, &PAIRS)
+fn equal_keys_are_refused_on_their_side(rt: HostRuntime) -> Result<(), Fail> {
+    compare(&rt, &KEY_PAIRS)
 }
 
 /// A key that is an alias has another source text than its node. Its canonical text is refused.
@@ -366,57 +383,81 @@ fn keys_are_not_compared_by_meaning_yet(rt: HostRuntime) -> Result<(), Fail> {
     is_refused(&rt, "given again", text.as_bytes(), message)
 }
 
-/// A sequence of `count` items: the first is a pair of scalars, each other a pair of aliases of
-/// the one before it.
-fn doubled(alloc: Global, count: usize) -> Result<String, Fail> {
-    let mut text = "--- [&n0 [\"x\", \"x\"]".to_string(alloc)?;
+/// `[`, as many copies of an item, and `]`.
+fn copies(alloc: Global, item: &str, width: usize) -> Result<String, Fail> {
+    let mut text = "[".to_string(alloc)?;
+    for place in 0..width {
+        if place > 0 {
+            text.push_str(", ")?;
+        }
+        text.push_str(item)?;
+    }
+    text.push(']')?;
+    Ok(text)
+}
+
+/// A sequence of `count` items: the first has `width` scalars, each other as many aliases of the
+/// one before it.
+fn linked(alloc: Global, count: usize, width: usize) -> Result<String, Fail> {
+    let mut item = copies(alloc, "\"x\"", width)?;
+    let mut text = format!(in alloc; "--- [&n0 {item}")?;
     for n in 1..count {
         let before = n - 1;
-        let item = format!(in alloc; ", &n{n} [*n{before}, *n{before}]")?;
-        text.push_str(item.as_str())?;
+        let alias = format!(in alloc; "*n{before}")?;
+        item = copies(alloc, alias.as_str(), width)?;
+        let part = format!(in alloc; ", &n{n} {item}")?;
+        text.push_str(part.as_str())?;
     }
     text.push(']')?;
     Ok(text)
 }
 
 /// The canonical text of such a sequence: its last item has no later equal.
-fn doubled_text(alloc: Global, count: usize) -> Result<String, Fail> {
-    let mut text = "--- [&a1 [\"x\", \"x\"]".to_string(alloc)?;
+fn linked_text(alloc: Global, count: usize, width: usize) -> Result<String, Fail> {
+    let mut item = copies(alloc, "\"x\"", width)?;
+    let mut text = "--- [".to_string(alloc)?;
     for n in 1..count {
-        let item = if n + 1 < count {
-            let number = n + 1;
-            format!(in alloc; ", &a{number} [*a{n}, *a{n}]")?
-        } else {
-            format!(in alloc; ", [*a{n}, *a{n}]")?
-        };
-        text.push_str(item.as_str())?;
+        let part = format!(in alloc; "&a{n} {item}, ")?;
+        text.push_str(part.as_str())?;
+        let alias = format!(in alloc; "*a{n}")?;
+        item = copies(alloc, alias.as_str(), width)?;
     }
+    text.push_str(item.as_str())?;
     text.push_str("]\n")?;
     Ok(text)
 }
 
-#[test]
-fn a_tree_of_65_519_nodes_is_accepted(rt: HostRuntime) -> Result<(), Fail> {
-    let alloc = rt.alloc();
-    let input = doubled(alloc, 14)?;
-    let want = doubled_text(alloc, 14)?;
-    match answer(alloc, input.as_bytes())? {
-        Ok(text) => assert_eq!(rt; text.as_str(), want.as_str()),
-        Err(message) => assert_eq!(rt; message.as_str(), ""),
-    }
-    Ok(())
+/// Asserts that such a sequence has its canonical text.
+fn is_accepted<T: Abort + AllocGlobal>(rt: &T, count: usize, width: usize) -> Result<(), Fail> {
+    let input = linked(rt.alloc(), count, width)?;
+    let want = linked_text(rt.alloc(), count, width)?;
+    gives(rt, "linked", input.as_bytes(), want.as_str())
 }
 
 #[test]
-fn doubling_aliases_unfold_too_far(rt: HostRuntime) -> Result<(), Fail> {
+fn a_tree_of_65_519_nodes_is_accepted(rt: HostRuntime) -> Result<(), Fail> {
+    is_accepted(&rt, 14, 2)
+}
+
+#[test]
+fn aliases_that_double_unfold_too_far(rt: HostRuntime) -> Result<(), Fail> {
     let alloc = rt.alloc();
     for (count, message) in [
         (15, "24 UnfoldsTooFar in document 0"),
         (126, "24 UnfoldsTooFar in document 0"),
         (127, "18 TooHigh in document 0"),
     ] {
-        let input = doubled(alloc, count)?;
+        let input = linked(alloc, count, 2)?;
         is_refused(&rt, "doubled", input.as_bytes(), message)?;
     }
     Ok(())
+}
+
+/// No item stands twice in another, so that the trees stay small.
+#[test]
+fn aliases_count_in_the_height(rt: HostRuntime) -> Result<(), Fail> {
+    is_accepted(&rt, 126, 1)?;
+    let input = linked(rt.alloc(), 127, 1)?;
+    let message = "18 TooHigh in document 0";
+    is_refused(&rt, "a chain", input.as_bytes(), message)
 }

@@ -136,7 +136,7 @@ impl Write for Narrow<'_> {
 /// A few files, by name.
 #[derive(Clone, Copy)]
 pub struct Shelf<'a> {
-    files: [(&'a str, Source<'a>); 9],
+    files: [(&'a str, Source<'a>); 12],
 }
 
 impl Shelf<'static> {
@@ -152,6 +152,15 @@ impl Shelf<'static> {
                     "keys.yaml",
                     Source::of("--- {\"a\" : \"1\", \"a\" : \"2\"}"),
                 ),
+                (
+                    "map.yaml",
+                    Source::of("--- {\"b\" : [\"x\"], \"a\" : [\"x\"]}"),
+                ),
+                (
+                    "alias.yaml",
+                    Source::of("--- {\"a\" : &q [\"x\"], \"b\" : *q}"),
+                ),
+                ("cycle.yaml", Source::of("--- &a [*a]")),
                 ("open.yaml", Source::of("--- [\"")),
                 ("long.yaml", Source::zeros(16_777_217)),
                 ("failing.yaml", Source::of("--- \"x\"").by(2).failing_at(3)),
