@@ -4,7 +4,7 @@ use crate::fault::Fault;
 use std::process::Abort;
 use std::test::Fail;
 
-const FAULTS: [(Fault, u8, &str, &str); 25] = [
+const FAULTS: [(Fault, u8, &str, &str); 24] = [
     (Fault::TooLong, 1, "TooLong", "1 TooLong"),
     (Fault::NotUtf8(0), 2, "NotUtf8", "2 NotUtf8 at byte 0"),
     (
@@ -88,12 +88,6 @@ const FAULTS: [(Fault, u8, &str, &str); 25] = [
         24,
         "UnfoldsTooFar",
         "24 UnfoldsTooFar in document 0",
-    ),
-    (
-        Fault::RepeatedNode(0),
-        25,
-        "RepeatedNode",
-        "25 RepeatedNode in document 0",
     ),
 ];
 
