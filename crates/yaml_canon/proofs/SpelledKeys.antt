@@ -1,5 +1,6 @@
 -- In a canonical text no mapping has two keys of one source text.
 -- Marks tell their tree, given what was anchored before: so keys with the same marks are one tree, and an arranged mapping's keys ascend.
+-- An alias tells its tree because arranged trees that are the same are one.
 use Rattle.std.proofs.Common.{◌≡◌, ℕ, zero, suc, ◌+◌, ◌<◌, ◌≤◌, Bool, true, false, not, cond, ◌||◌, inl, inr, Some, None, List, [], ◌∷◌, ◌++◌, length, map, arith, refl, sym, ◌∙◌, ap, subst, append_assoc, append-nil}
 use Rattle.std.specs.declared.cmp.Ordering.TheVariants.{Less}
 use Rattle.std.specs.List.{slice_get, position_or_len, All}
@@ -9,6 +10,7 @@ use Rattle.std.proofs.lemmas.Option.{slice_get_within, get_or_from_slice_get}
 use lib.Pointwise.{bytes_decides}
 use Rattle.yaml_text.specs.Tree.{Tree, Trees, Pairs, scalar, sequence, mapping, end, item, done, entry, height, heights, heights_of_pairs}
 use Rattle.yaml_text.specs.Order.{tree_cmp, arranged}
+use Rattle.yaml_text.specs.Same.{same}
 use Rattle.yaml_text.specs.Event.{WrittenTag, untagged, non_specific, full, Anchor, double}
 use Rattle.yaml_text.specs.Tag.{default_tag}
 use Rattle.yaml_text.specs.TagText.{written_tag}
@@ -18,13 +20,12 @@ use Rattle.yaml_text.specs.Spell.{marks_of, spelled, document_of}
 use Rattle.yaml_text.specs.Proper.{IsAdmittedTree, AreAdmitted, Admitted}
 use Rattle.yaml_text.proofs.FlatLaws.{flat_once, stream_once}
 use Rattle.yaml_text.proofs.Members.{Above, not_below_itself}
-use Rattle.yaml_text.proofs.Neat.{Neat, NeatTrees, NeatPairs, arranged_neat}
+use Rattle.yaml_text.proofs.Neat.{Neat, NeatTrees, NeatPairs, arranged_neat, neat_same}
 use Rattle.yaml_text.proofs.TextLaws.{same_name}
-use Rattle.yaml_canon.specs.Identical.{identical}
 use Rattle.yaml_canon.specs.Anchored.{has, alias_at, anchor_at, enrolled, noted, noted_all, noted_pairs, marked, marked_all, marked_pairs}
 use Rattle.yaml_canon.specs.Repeats.{repeats}
 use Rattle.yaml_canon.specs.SourceKeys.{nodes_in, nodes_in_all, nodes_in_pairs, stream_nodes, keys_in, keys_of, HasEqual, NoEqualKeys}
-use Rattle.yaml_canon.proofs.Anchors.{identical_exact}
+use Rattle.yaml_canon.proofs.Anchors.{Every, every_append}
 use Rattle.yaml_canon.proofs.Markings.{marked_is}
 use Rattle.yaml_canon.proofs.ComposerLaws.{get-more}
 
@@ -108,15 +109,19 @@ grown_then xs ys vs ws cs ds (longer n l e f) (kept p q) = longer n l (p ∙ e) 
 grown_then xs ys vs ws cs ds (longer n l e f) (longer k m p q) =
     longer (n ++ k) l (p ∙ (ap (λ z. z ++ k) e ∙ append_assoc xs n k)) (q ∙ (ap (λ z. z ++ k) f ∙ append_assoc ys n k))
 
-has_place : (t : Tree) (xs : List Tree) → has xs t ≡ true → slice_get xs (position_or_len (identical t) xs) ≡ Some t
-has_place t [] h = absurd (cc)
-has_place t (x ∷ xs) h = by (identical t x) refl (has_place t xs) h
+-- the anchored nodes are arranged
+abbrev AllNeat : List Tree → Type 0
+AllNeat = Every Neat
+
+has_place : (t : Tree) (xs : List Tree) → Neat t → AllNeat xs → has xs t ≡ true → slice_get xs (position_or_len (same t) xs) ≡ Some t
+has_place t [] n o h = absurd (cc)
+has_place t (x ∷ xs) n o h = by (same t x) refl (has_place t xs n o.1) h
   where
-    by : (b : Bool) → identical t x ≡ b → (has xs t ≡ true → slice_get xs (position_or_len (identical t) xs) ≡ Some t) → (b || has xs t) ≡ true
-        → slice_get (x ∷ xs) (cond (not b) (1 + position_or_len (identical t) xs) 0) ≡ Some t
-    by true e f g = ap Some (sym (identical_exact t x e))
+    by : (b : Bool) → same t x ≡ b → (has xs t ≡ true → slice_get xs (position_or_len (same t) xs) ≡ Some t) → (b || has xs t) ≡ true
+        → slice_get (x ∷ xs) (cond (not b) (1 + position_or_len (same t) xs) 0) ≡ Some t
+    by true e f g = ap Some (sym (neat_same t x n o.0 e))
     by false e f g =
-        let q : 1 + position_or_len (identical t) xs ≡ suc (position_or_len (identical t) xs) = omega arith in
+        let q : 1 + position_or_len (same t) xs ≡ suc (position_or_len (same t) xs) = omega arith in
         subst (λ n. slice_get (x ∷ xs) n ≡ Some t) (sym q) (f g)
 
 some_tree : (t u : Tree) → Some t ≡ Some u → t ≡ u
@@ -129,19 +134,21 @@ some_name : (a b : List ℕ) → ◌≡◌ {A = Anchor} (Some a) (Some b) → a 
 some_name a b e = cc
 
 -- a repetition tells what it repeats
-alias_once : (t u : Tree) (xs ys : List Tree) → Agree (suc (height t)) xs ys → has xs t ≡ true → has ys u ≡ true → alias_at t xs ≡ alias_at u ys → t ≡ u
-alias_once t u xs ys a h k e =
-    let p = same_name (suc (position_or_len (identical t) xs)) (suc (position_or_len (identical u) ys)) (alias_name _ _ e) in
-    let q : position_or_len (identical t) xs ≡ position_or_len (identical u) ys = omega (arith, p) in
-    some_tree t u (sym (a (position_or_len (identical t) xs) t (omega arith) (has_place t xs h)) ∙ (ap (slice_get ys) q ∙ has_place u ys k))
+alias_once : (t u : Tree) (xs ys : List Tree) → Neat t → Neat u → AllNeat xs → AllNeat ys → Agree (suc (height t)) xs ys
+    → has xs t ≡ true → has ys u ≡ true → alias_at t xs ≡ alias_at u ys → t ≡ u
+alias_once t u xs ys nt nu nx ny a h k e =
+    let p = same_name (suc (position_or_len (same t) xs)) (suc (position_or_len (same u) ys)) (alias_name _ _ e) in
+    let q : position_or_len (same t) xs ≡ position_or_len (same u) ys = omega (arith, p) in
+    some_tree t u (sym (a (position_or_len (same t) xs) t (omega arith) (has_place t xs nt nx h)) ∙ (ap (slice_get ys) q ∙ has_place u ys nu ny k))
 
 -- nodes with the same marks, again or first
-visit : (t u : Tree) (xs ys vs ws : List Tree) (m n : Marked) → Agree (suc (height t)) xs ys → NoAlias m → NoAlias n → (m ≡ n → (t ≡ u) × Grown xs ys vs ws)
+visit : (t u : Tree) (xs ys vs ws : List Tree) (m n : Marked) → Neat t → Neat u → AllNeat xs → AllNeat ys → Agree (suc (height t)) xs ys
+    → NoAlias m → NoAlias n → (m ≡ n → (t ≡ u) × Grown xs ys vs ws)
     → (b c : Bool) → has xs t ≡ b → has ys u ≡ c → cond b (alias_at t xs) m ≡ cond c (alias_at u ys) n → (t ≡ u) × Grown xs ys (cond b xs vs) (cond c ys ws)
-visit t u xs ys vs ws m n a x y f true true h k e = (alias_once t u xs ys a h k e, kept refl refl)
-visit t u xs ys vs ws m n a x y f true false h k e = absurd (y _ e)
-visit t u xs ys vs ws m n a x y f false true h k e = absurd (x _ (sym e))
-visit t u xs ys vs ws m n a x y f false false h k e = f e
+visit t u xs ys vs ws m n nt nu nx ny a x y f true true h k e = (alias_once t u xs ys nt nu nx ny a h k e, kept refl refl)
+visit t u xs ys vs ws m n nt nu nx ny a x y f true false h k e = absurd (y _ e)
+visit t u xs ys vs ws m n nt nu nx ny a x y f false true h k e = absurd (x _ (sym e))
+visit t u xs ys vs ws m n nt nu nx ny a x y f false false h k e = f e
 
 -- no two of the node's keys are equal
 abbrev Fine : Marked → Type 0
@@ -179,63 +186,99 @@ module _ (r : List Tree) where
       by false true e f = absurd (cc)
       by false false e f = f low
 
+  enrolled_neat : (t : Tree) (xs : List Tree) → Neat t → AllNeat xs → AllNeat (enrolled r t xs)
+  enrolled_neat t xs n o = by (has r t)
+    where
+      by : (b : Bool) → AllNeat (cond b (xs ++ (t ∷ [])) xs)
+      by true = every_append Neat xs (t ∷ []) o (n, tt)
+      by false = o
+
+  neat_either : (b : Bool) (xs ys : List Tree) → AllNeat xs → AllNeat ys → AllNeat (cond b xs ys)
+  neat_either true xs ys o p = o
+  neat_either false xs ys o p = p
+
+  mutual
+    unfolding noted
+
+    noted_neat : (t : Tree) (xs : List Tree) → Neat t → AllNeat xs → AllNeat (noted r t xs)
+    noted_neat (scalar g x) xs n o = neat_either (has xs (scalar g x)) xs (enrolled r (scalar g x) xs) o (enrolled_neat (scalar g x) xs n o)
+    noted_neat (sequence g ts) xs n o =
+        let ys : List Tree = enrolled r (sequence g ts) xs in
+        neat_either (has xs (sequence g ts)) xs (noted_all r ts ys) o (noted_all_neat ts ys n (enrolled_neat (sequence g ts) xs n o))
+    noted_neat (mapping g ps) xs n o =
+        let ys : List Tree = enrolled r (mapping g ps) xs in
+        neat_either (has xs (mapping g ps)) xs (noted_pairs r ps ys) o (noted_pairs_neat ps ys n (enrolled_neat (mapping g ps) xs n o))
+
+    noted_all_neat : (ts : Trees) (xs : List Tree) → NeatTrees ts → AllNeat xs → AllNeat (noted_all r ts xs)
+    noted_all_neat end xs n o = o
+    noted_all_neat (item t ts) xs n o = noted_all_neat ts (noted r t xs) n.1 (noted_neat t xs n.0 o)
+
+    noted_pairs_neat : (ps : Pairs) (xs : List Tree) → NeatPairs ps → AllNeat xs → AllNeat (noted_pairs r ps xs)
+    noted_pairs_neat done xs n o = o
+    noted_pairs_neat (entry k v ps) xs n o = noted_pairs_neat ps (noted r v (noted r k xs)) n.3 (noted_neat v (noted r k xs) n.1 (noted_neat k xs n.0 o))
+
   mutual
     unfolding marked noted
 
     -- equal marks are of one tree
-    once : (t u : Tree) (xs ys : List Tree) → Agree (suc (height t)) xs ys → marked r t xs ≡ marked r u ys → (t ≡ u) × Grown xs ys (noted r t xs) (noted r u ys)
-    once (scalar g x) (scalar h y) xs ys a e =
+    once : (t u : Tree) (xs ys : List Tree) → Neat t → Neat u → AllNeat xs → AllNeat ys → Agree (suc (height t)) xs ys
+        → marked r t xs ≡ marked r u ys → (t ≡ u) × Grown xs ys (noted r t xs) (noted r u ys)
+    once (scalar g x) (scalar h y) xs ys nt nu nx ny a e =
         let t : Tree = scalar g x in
         let u : Tree = scalar h y in
-        visit t u xs ys (enrolled r t xs) (enrolled r u ys) _ _ a (λ n q. cc) (λ n q. cc)
+        visit t u xs ys (enrolled r t xs) (enrolled r u ys) _ _ nt nu nx ny a (λ n q. cc) (λ n q. cc)
         (λ q. let p = scalar_parts _ _ _ _ _ _ q in opened t u xs ys (enrolled r t xs) (enrolled r u ys) a p.0
         (λ k. (λ z. scalar (tag_once 0 g h p.1 z) (p.2 z), kept refl refl)))
         (has xs t) (has ys u) refl refl e
-    once (sequence g ts) (sequence h us) xs ys a e =
+    once (sequence g ts) (sequence h us) xs ys nt nu nx ny a e =
         let t : Tree = sequence g ts in
         let u : Tree = sequence h us in
-        visit t u xs ys (noted_all r ts (enrolled r t xs)) (noted_all r us (enrolled r u ys)) _ _ a (λ n q. cc) (λ n q. cc)
+        visit t u xs ys (noted_all r ts (enrolled r t xs)) (noted_all r us (enrolled r u ys)) _ _ nt nu nx ny a (λ n q. cc) (λ n q. cc)
         (λ q. let p = sequence_parts _ _ _ _ _ _ q in opened t u xs ys (noted_all r ts (enrolled r t xs)) (noted_all r us (enrolled r u ys)) a p.0
-        (λ k. let i = once_all ts us (enrolled r t xs) (enrolled r u ys) k p.2 in (λ z. sequence (tag_once 1 g h p.1 z) (i.0 z), i.1)))
+        (λ k. let i = once_all ts us (enrolled r t xs) (enrolled r u ys) nt nu (enrolled_neat t xs nt nx) (enrolled_neat u ys nu ny) k p.2 in (λ z. sequence (tag_once 1 g h p.1 z) (i.0 z), i.1)))
         (has xs t) (has ys u) refl refl e
-    once (mapping g ps) (mapping h qs) xs ys a e =
+    once (mapping g ps) (mapping h qs) xs ys nt nu nx ny a e =
         let t : Tree = mapping g ps in
         let u : Tree = mapping h qs in
-        visit t u xs ys (noted_pairs r ps (enrolled r t xs)) (noted_pairs r qs (enrolled r u ys)) _ _ a (λ n q. cc) (λ n q. cc)
+        visit t u xs ys (noted_pairs r ps (enrolled r t xs)) (noted_pairs r qs (enrolled r u ys)) _ _ nt nu nx ny a (λ n q. cc) (λ n q. cc)
         (λ q. let p = mapping_parts _ _ _ _ _ _ q in opened t u xs ys (noted_pairs r ps (enrolled r t xs)) (noted_pairs r qs (enrolled r u ys)) a p.0
-        (λ k. let i = once_pairs ps qs (enrolled r t xs) (enrolled r u ys) k p.2 in (λ z. mapping (tag_once 2 g h p.1 z) (i.0 z), i.1)))
+        (λ k. let i = once_pairs ps qs (enrolled r t xs) (enrolled r u ys) nt nu (enrolled_neat t xs nt nx) (enrolled_neat u ys nu ny) k p.2 in (λ z. mapping (tag_once 2 g h p.1 z) (i.0 z), i.1)))
         (has xs t) (has ys u) refl refl e
-    once t u xs ys a e = visit t u xs ys _ _ _ _ a (λ n q. cc) (λ n q. cc) (λ q. absurd (cc)) (has xs t) (has ys u) refl refl e
+    once t u xs ys nt nu nx ny a e = visit t u xs ys _ _ _ _ nt nu nx ny a (λ n q. cc) (λ n q. cc) (λ q. absurd (cc)) (has xs t) (has ys u) refl refl e
 
-    once_all : (ts us : Trees) (xs ys : List Tree) → Agree (heights ts) xs ys → marked_all r ts xs ≡ marked_all r us ys → (ts ≡ us) × Grown xs ys (noted_all r ts xs) (noted_all r us ys)
-    once_all end end xs ys a e = (refl, kept refl refl)
-    once_all end (item u us) xs ys a e = absurd (cc)
-    once_all (item t ts) end xs ys a e = absurd (cc)
-    once_all (item t ts) (item u us) xs ys a e =
+    once_all : (ts us : Trees) (xs ys : List Tree) → NeatTrees ts → NeatTrees us → AllNeat xs → AllNeat ys → Agree (heights ts) xs ys
+        → marked_all r ts xs ≡ marked_all r us ys → (ts ≡ us) × Grown xs ys (noted_all r ts xs) (noted_all r us ys)
+    once_all end end xs ys nt nu nx ny a e = (refl, kept refl refl)
+    once_all end (item u us) xs ys nt nu nx ny a e = absurd (cc)
+    once_all (item t ts) end xs ys nt nu nx ny a e = absurd (cc)
+    once_all (item t ts) (item u us) xs ys nt nu nx ny a e =
         let p = item_parts _ _ _ _ e in
         let vs : List Tree = noted r t xs in
         let ws : List Tree = noted r u ys in
-        let i = once t u xs ys (agree_less (heights (item t ts)) (suc (height t)) xs ys (omega arith) a) p.0 in
+        let i = once t u xs ys nt.0 nu.0 nx ny (agree_less (heights (item t ts)) (suc (height t)) xs ys (omega arith) a) p.0 in
         let b = grown_agree (heights (item t ts)) xs ys vs ws i.1 a in
-        let j = once_all ts us vs ws (agree_less (heights (item t ts)) (heights ts) vs ws (omega arith) b) p.1 in
+        let j = once_all ts us vs ws nt.1 nu.1 (noted_neat t xs nt.0 nx) (noted_neat u ys nu.0 ny) (agree_less (heights (item t ts)) (heights ts) vs ws (omega arith) b) p.1 in
         (λ z. item (i.0 z) (j.0 z), grown_then xs ys vs ws (noted_all r ts vs) (noted_all r us ws) i.1 j.1)
 
-    once_pairs : (ps qs : Pairs) (xs ys : List Tree) → Agree (heights_of_pairs ps) xs ys → marked_pairs r ps xs ≡ marked_pairs r qs ys → (ps ≡ qs) × Grown xs ys (noted_pairs r ps xs) (noted_pairs r qs ys)
-    once_pairs done done xs ys a e = (refl, kept refl refl)
-    once_pairs done (entry j w qs) xs ys a e = absurd (cc)
-    once_pairs (entry k v ps) done xs ys a e = absurd (cc)
-    once_pairs (entry k v ps) (entry j w qs) xs ys a e =
+    once_pairs : (ps qs : Pairs) (xs ys : List Tree) → NeatPairs ps → NeatPairs qs → AllNeat xs → AllNeat ys → Agree (heights_of_pairs ps) xs ys
+        → marked_pairs r ps xs ≡ marked_pairs r qs ys → (ps ≡ qs) × Grown xs ys (noted_pairs r ps xs) (noted_pairs r qs ys)
+    once_pairs done done xs ys nt nu nx ny a e = (refl, kept refl refl)
+    once_pairs done (entry j w qs) xs ys nt nu nx ny a e = absurd (cc)
+    once_pairs (entry k v ps) done xs ys nt nu nx ny a e = absurd (cc)
+    once_pairs (entry k v ps) (entry j w qs) xs ys nt nu nx ny a e =
         let top : ℕ = heights_of_pairs (entry k v ps) in
         let p = entry_parts _ _ _ _ _ _ e in
         let vs : List Tree = noted r k xs in
         let ws : List Tree = noted r j ys in
         let cs : List Tree = noted r v vs in
         let ds : List Tree = noted r w ws in
-        let i = once k j xs ys (agree_less top (suc (height k)) xs ys (omega arith) a) p.0 in
+        let nv : AllNeat vs = noted_neat k xs nt.0 nx in
+        let nw : AllNeat ws = noted_neat j ys nu.0 ny in
+        let i = once k j xs ys nt.0 nu.0 nx ny (agree_less top (suc (height k)) xs ys (omega arith) a) p.0 in
         let b = grown_agree top xs ys vs ws i.1 a in
-        let l = once v w vs ws (agree_less top (suc (height v)) vs ws (omega arith) b) p.1 in
+        let l = once v w vs ws nt.1 nu.1 nv nw (agree_less top (suc (height v)) vs ws (omega arith) b) p.1 in
         let c = grown_agree top vs ws cs ds l.1 b in
-        let o = once_pairs ps qs cs ds (agree_less top (heights_of_pairs ps) cs ds (omega arith) c) p.2 in
+        let o = once_pairs ps qs cs ds nt.3 nu.3 (noted_neat v vs nt.1 nv) (noted_neat w ws nu.1 nw) (agree_less top (heights_of_pairs ps) cs ds (omega arith) c) p.2 in
         (λ z. entry (i.0 z) (l.0 z) (o.0 z), grown_then xs ys vs ws _ _ i.1 (grown_then vs ws cs ds _ _ l.1 o.1))
 
   -- ---- what is written before stays
@@ -287,60 +330,63 @@ module _ (r : List Tree) where
   -- ---- keys differ
 
   -- two keys with the same marks, of which one stands somewhere after the other
-  key_once : (k j : Tree) (xs ys : List Tree) → Extends xs ys → marked r k xs ≡ marked r j ys → k ≡ j
-  key_once k j xs ys h e = (once k j xs ys (λ i t l q. subst (λ zs. slice_get zs i ≡ Some t) (sym h.1) (get-more xs h.0 i t q)) e).0
+  key_once : (k j : Tree) (xs ys : List Tree) → Neat k → Neat j → AllNeat xs → AllNeat ys → Extends xs ys → marked r k xs ≡ marked r j ys → k ≡ j
+  key_once k j xs ys nk nj nx ny h e = (once k j xs ys nk nj nx ny (λ i t l q. subst (λ zs. slice_get zs i ≡ Some t) (sym h.1) (get-more xs h.0 i t q)) e).0
 
-  key_differs : (k : Tree) (xs : List Tree) (ps : Pairs) (ys : List Tree) → Extends xs ys → Above k ps → (i : ℕ) (m : Marked) → slice_get (keys_in (marked_pairs r ps ys)) i ≡ Some m → marked r k xs ≡ m → ⊥
+  key_differs : (k : Tree) (xs : List Tree) (ps : Pairs) (ys : List Tree) → Neat k → NeatPairs ps → AllNeat xs → AllNeat ys → Extends xs ys → Above k ps
+      → (i : ℕ) (m : Marked) → slice_get (keys_in (marked_pairs r ps ys)) i ≡ Some m → marked r k xs ≡ m → ⊥
   unfolding marked
-  key_differs k xs done ys h a i m q e = absurd (cc)
-  key_differs k xs (entry j w ps) ys h a zero m q e =
-      let f : k ≡ j = key_once k j xs ys h (e ∙ sym (some_mark (marked r j ys) m q)) in
+  key_differs k xs done ys nk n nx ny h a i m q e = absurd (cc)
+  key_differs k xs (entry j w ps) ys nk n nx ny h a zero m q e =
+      let f : k ≡ j = key_once k j xs ys nk n.0 nx ny h (e ∙ sym (some_mark (marked r j ys) m q)) in
       not_below_itself k (subst (λ z. tree_cmp k z ≡ Less) (sym f) (a j w (inl (refl, refl))))
-  key_differs k xs (entry j w ps) ys h a (suc i) m q e =
+  key_differs k xs (entry j w ps) ys nk n nx ny h a (suc i) m q e =
       let vs : List Tree = noted r j ys in
       let ws : List Tree = noted r w vs in
-      key_differs k xs ps ws (later xs ys ws h (later ys vs ws (extends j ys) (extends w vs))) (λ x y d. a x y (inr d)) i m q e
+      key_differs k xs ps ws nk n.3 nx (noted_neat w vs n.1 (noted_neat j ys n.0 ny)) (later xs ys ws h (later ys vs ws (extends j ys) (extends w vs))) (λ x y d. a x y (inr d)) i m q e
 
-  keys_differ : (ps : Pairs) (xs : List Tree) → NeatPairs ps → (i j : ℕ) (m n : Marked) → i < j
+  keys_differ : (ps : Pairs) (xs : List Tree) → NeatPairs ps → AllNeat xs → (i j : ℕ) (m n : Marked) → i < j
       → slice_get (keys_in (marked_pairs r ps xs)) i ≡ Some m → slice_get (keys_in (marked_pairs r ps xs)) j ≡ Some n → m ≡ n → ⊥
   unfolding marked
-  keys_differ done xs h i j m n l p q e = absurd (cc)
-  keys_differ (entry k v ps) xs h i zero m n l p q e = omega (arith, l)
-  keys_differ (entry k v ps) xs h zero (suc j) m n l p q e =
+  keys_differ done xs h o i j m n l p q e = absurd (cc)
+  keys_differ (entry k v ps) xs h o i zero m n l p q e = omega (arith, l)
+  keys_differ (entry k v ps) xs h o zero (suc j) m n l p q e =
       let vs : List Tree = noted r k xs in
       let ws : List Tree = noted r v vs in
-      key_differs k xs ps ws (later xs vs ws (extends k xs) (extends v vs)) h.2 j n q (some_mark (marked r k xs) m p ∙ e)
-  keys_differ (entry k v ps) xs h (suc i) (suc j) m n l p q e = keys_differ ps (noted r v (noted r k xs)) h.3 i j m n (omega arith) p q e
+      key_differs k xs ps ws h.0 h.3 o (noted_neat v vs h.1 (noted_neat k xs h.0 o)) (later xs vs ws (extends k xs) (extends v vs)) h.2 j n q (some_mark (marked r k xs) m p ∙ e)
+  keys_differ (entry k v ps) xs h o (suc i) (suc j) m n l p q e = keys_differ ps (noted r v (noted r k xs)) h.3 (noted_neat v (noted r k xs) h.1 (noted_neat k xs h.0 o)) i j m n (omega arith) p q e
 
   mutual
     unfolding marked nodes_in
 
-    fine : (t : Tree) (xs : List Tree) → Neat t → All Fine (nodes_in (marked r t xs))
-    fine (scalar g x) xs n =
+    fine : (t : Tree) (xs : List Tree) → Neat t → AllNeat xs → All Fine (nodes_in (marked r t xs))
+    fine (scalar g x) xs n o =
         fine_again (has xs (scalar g x)) _ _ (All-cons Fine _ [] (no_keys _ refl) (All-nil Fine))
-    fine (sequence g ts) xs n =
+    fine (sequence g ts) xs n o =
         let ys : List Tree = enrolled r (sequence g ts) xs in
         fine_again (has xs (sequence g ts)) _ _
-        (All-append Fine (nodes_in_all (marked_all r ts ys)) _ (fine_all ts ys n) (All-cons Fine _ [] (no_keys _ refl) (All-nil Fine)))
-    fine (mapping g ps) xs n =
+        (All-append Fine (nodes_in_all (marked_all r ts ys)) _ (fine_all ts ys n (enrolled_neat (sequence g ts) xs n o)) (All-cons Fine _ [] (no_keys _ refl) (All-nil Fine)))
+    fine (mapping g ps) xs n o =
         let ys : List Tree = enrolled r (mapping g ps) xs in
+        let p : AllNeat ys = enrolled_neat (mapping g ps) xs n o in
         fine_again (has xs (mapping g ps)) _ _
-        (All-append Fine (nodes_in_pairs (marked_pairs r ps ys)) _ (fine_pairs ps ys n)
-        (All-cons Fine _ [] (λ second first h. keys_differ ps ys n first second h.earlier h.later h.in_order h.earlier_is h.later_is (flat_once h.earlier h.later [] [] h.equal).0) (All-nil Fine)))
+        (All-append Fine (nodes_in_pairs (marked_pairs r ps ys)) _ (fine_pairs ps ys n p)
+        (All-cons Fine _ [] (λ second first h. keys_differ ps ys n p first second h.earlier h.later h.in_order h.earlier_is h.later_is (flat_once h.earlier h.later [] [] h.equal).0) (All-nil Fine)))
 
-    fine_all : (ts : Trees) (xs : List Tree) → NeatTrees ts → All Fine (nodes_in_all (marked_all r ts xs))
-    fine_all end xs n = All-nil Fine
-    fine_all (item t ts) xs n =
+    fine_all : (ts : Trees) (xs : List Tree) → NeatTrees ts → AllNeat xs → All Fine (nodes_in_all (marked_all r ts xs))
+    fine_all end xs n o = All-nil Fine
+    fine_all (item t ts) xs n o =
         let ys : List Tree = noted r t xs in
-        All-append Fine (nodes_in (marked r t xs)) (nodes_in_all (marked_all r ts ys)) (fine t xs n.0) (fine_all ts ys n.1)
+        All-append Fine (nodes_in (marked r t xs)) (nodes_in_all (marked_all r ts ys)) (fine t xs n.0 o) (fine_all ts ys n.1 (noted_neat t xs n.0 o))
 
-    fine_pairs : (ps : Pairs) (xs : List Tree) → NeatPairs ps → All Fine (nodes_in_pairs (marked_pairs r ps xs))
-    fine_pairs done xs n = All-nil Fine
-    fine_pairs (entry k v ps) xs n =
+    fine_pairs : (ps : Pairs) (xs : List Tree) → NeatPairs ps → AllNeat xs → All Fine (nodes_in_pairs (marked_pairs r ps xs))
+    fine_pairs done xs n o = All-nil Fine
+    fine_pairs (entry k v ps) xs n o =
         let ys : List Tree = noted r k xs in
         let zs : List Tree = noted r v ys in
-        All-append Fine (nodes_in (marked r k xs)) _ (fine k xs n.0)
-        (All-append Fine (nodes_in (marked r v ys)) (nodes_in_pairs (marked_pairs r ps zs)) (fine v ys n.1) (fine_pairs ps zs n.3))
+        let p : AllNeat ys = noted_neat k xs n.0 o in
+        All-append Fine (nodes_in (marked r k xs)) _ (fine k xs n.0 o)
+        (All-append Fine (nodes_in (marked r v ys)) (nodes_in_pairs (marked_pairs r ps zs)) (fine v ys n.1 p) (fine_pairs ps zs n.3 (noted_neat v ys n.1 p)))
 
 -- ---- whole streams
 
@@ -348,7 +394,7 @@ fine_marks : (t : Tree) → IsAdmittedTree t → All Fine (nodes_in (marks_of t)
 unfolding marks_of
 fine_marks t a =
     let n = arranged_neat t a.keyed in
-    subst (λ m. All Fine (nodes_in m)) (marked_is (arranged t) n) (fine (repeats (arranged t) []) (arranged t) [] n)
+    subst (λ m. All Fine (nodes_in m)) (marked_is (arranged t)) (fine (repeats (arranged t) []) (arranged t) [] n tt)
 
 fine_stream : (f : List Tree) → AreAdmitted f → All Fine (stream_nodes (map (λ t. document_of (marks_of t)) f))
 unfolding stream_nodes
