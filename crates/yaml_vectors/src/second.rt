@@ -248,11 +248,6 @@ const REFUSED: [Row; 21] = [
         answer: Err("4 Syntax at byte 23"),
     },
     Row {
-        shows: "a colon after an alias needs a space after it",
-        input: b"--- {&k \"a\" : \"1\", *k :\"2\"}",
-        answer: Err("4 Syntax at byte 22"),
-    },
-    Row {
         shows: "a single pair is not read yet",
         input: b"--- [\"a\" : \"b\"]",
         answer: Err("4 Syntax at byte 9"),
@@ -261,6 +256,11 @@ const REFUSED: [Row; 21] = [
         shows: "a tag is not read yet",
         input: b"--- !!str \"a\"",
         answer: Err("4 Syntax at byte 4"),
+    },
+    Row {
+        shows: "a colon after an alias needs a space after it",
+        input: b"--- {&k \"a\" : \"1\", *k :\"2\"}",
+        answer: Err("4 Syntax at byte 22"),
     },
 ];
 
