@@ -12,8 +12,8 @@ use Rattle.yaml_text.specs.declared.fault.Fault.{Fault}
 use Rattle.yaml_text.specs.declared.fault.Fault.TheVariants as fault
 use Rattle.yaml_canon.specs.Claims.{IsCanonicalText, RefusedInReading, CanonicalRefuses}
 use Rattle.yaml_canon.specs.Refusal.{RefusesSpelling, IsUnspelled}
-use Rattle.yaml_canon.specs.SecondDocument.{SecondDocument}
-use Rattle.yaml_canon.proofs.SecondClaims.{Judged, documents, found_text, spelling_refused, admitted_spelled}
+use Rattle.yaml_canon.specs.FlowDocument.{FlowDocument}
+use Rattle.yaml_canon.proofs.FlowClaims.{Judged, documents, found_text, spelling_refused, admitted_spelled}
 
 -- at the exit of a `?`
 pub err_refused : {X : Type 0} (P : Fault → Type 0) (r : Result X Fault) (e : Fault) → IsErrAnd r (λ y. y ≡ e) → P e → IfErr r P
@@ -28,7 +28,7 @@ lifted bytes fault.TextTooLong r = absurd r
 lifted bytes _ r = r
 
 -- `text` is that of an answer
-module _ {X : Type 0} (text : X → List ℕ) (bytes : List ℕ) (es : List Event) (d : SecondDocument bytes es) where
+module _ {X : Type 0} (text : X → List ℕ) (bytes : List ℕ) (es : List Event) (d : FlowDocument bytes es) where
   pub ok_text : (r : Result X Fault) (f g : List Tree) → f ≡ g → Judged (documents bytes es d) g
       → ((k : List Tree) → f ≡ map arranged k → IfOk r (λ x. text x ≡ spell_bytes k)) → IfOk r (λ x. length (text x) ≤ text_limit) → IfOk r (λ x. IsCanonicalText bytes (text x))
   ok_text (Ok x) f g q h w fits = found_text bytes es d g (text x) h (w h.trees (q ∙ h.is)) fits
@@ -40,7 +40,7 @@ module _ {X : Type 0} (text : X → List ℕ) (bytes : List ℕ) (es : List Even
   ok_spelled f (Ok x) u g q a b s w h = w s.0 (q ∙ s.1) ∙ s.2 ∙ sym b
   ok_spelled f (Err e) u g q a b s w h = admitted_spelled e f s.0 s.2 a (h s.0 (q ∙ s.1))
 
-pub ok_refused : {X : Type 0} (bytes : List ℕ) (es : List Event) (d : SecondDocument bytes es) (r : Result X Fault) (f g : List Tree) → f ≡ g → Judged (documents bytes es d) g
+pub ok_refused : {X : Type 0} (bytes : List ℕ) (es : List Event) (d : FlowDocument bytes es) (r : Result X Fault) (f g : List Tree) → f ≡ g → Judged (documents bytes es d) g
     → ((k : List Tree) → f ≡ map arranged k → IfErr r (RefusesSpelling k)) → IfErr r IsUnspelled → IfErr r (CanonicalRefuses bytes)
 ok_refused bytes es d (Ok x) f g q h w o = tt
 ok_refused bytes es d (Err e) f g q h w o = spelling_refused bytes es d g e h (w h.trees (q ∙ h.is)) o

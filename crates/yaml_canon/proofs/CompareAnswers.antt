@@ -14,8 +14,8 @@ use Rattle.yaml_canon.specs.declared.forest.Nodes.{Nodes}
 use Rattle.yaml_canon.specs.Comparing.{ComparerRefuses, RefusesEither}
 use Rattle.yaml_canon.specs.Forest.{Stands, AreFew}
 use Rattle.yaml_canon.specs.PlainTrees.{Spoken}
-use Rattle.yaml_canon.specs.SecondDocument.{SecondDocument}
-use Rattle.yaml_canon.proofs.SecondClaims.{documents, keys_refused, keys_unrefused, left_read}
+use Rattle.yaml_canon.specs.FlowDocument.{FlowDocument}
+use Rattle.yaml_canon.proofs.FlowClaims.{documents, keys_refused, keys_unrefused, left_read}
 
 pub no_some : {X : Type 0} (o : Option X) → ((x : X) → o ≡ Some x → ⊥) → o ≡ None
 no_some None h = refl
@@ -39,16 +39,16 @@ raised P r e side was s p =
 
 -- `events` are those of an answer of the reader
 module _ {X : Type 0} (events : X → List Event) (bytes : List ℕ) (r : Result X Fault) (x : X) (k : r ≡ Ok x) where
-  pub document_read : IfOk r (λ v. SecondDocument bytes (events v)) → SecondDocument bytes (events x)
-  document_read h = subst (λ z. IfOk z (λ v. SecondDocument bytes (events v))) k h
+  pub document_read : IfOk r (λ v. FlowDocument bytes (events v)) → FlowDocument bytes (events x)
+  document_read h = subst (λ z. IfOk z (λ v. FlowDocument bytes (events v))) k h
 
   pub spelling_found : ((f : List Tree) → Spoken f → Admitted f → bytes ≡ spell_bytes f → MatchResult r (λ v. events v ≡ spelled f) (λ fault. fault ≡ OutOfMemory))
       → (f : List Tree) → Spoken f → Admitted f → bytes ≡ spell_bytes f → events x ≡ spelled f
   spelling_found h f o a e = ok_of (λ v. events v ≡ spelled f) (λ fault. fault ≡ OutOfMemory) r x k (h f o a e)
 
 -- equal keys on either side
-module _ (left : List ℕ) (es : List Event) (d : SecondDocument left es) (n : Nodes) (s : Stands (documents left es d) n) (w : AreFew (documents left es d))
-    (right : List ℕ) (fs : List Event) (k : SecondDocument right fs) (m : Nodes) (t : Stands (documents right fs k) m) (v : AreFew (documents right fs k)) where
+module _ (left : List ℕ) (es : List Event) (d : FlowDocument left es) (n : Nodes) (s : Stands (documents left es d) n) (w : AreFew (documents left es d))
+    (right : List ℕ) (fs : List Event) (k : FlowDocument right fs) (m : Nodes) (t : Stands (documents right fs k) m) (v : AreFew (documents right fs k)) where
   pub either_refused : (side : Side) (e : Fault) → RefusesEither (documents left es d) (documents right fs k) side e → ComparerRefuses left right side e
   either_refused Left e r = keys_refused left es d n e s w r
   either_refused Right e r = (keys_refused right fs k m e t v r, left_read left es d n s)

@@ -15,8 +15,8 @@ use Rattle.yaml_text.specs.grammar.Tags.{is_name, name, anchor, alias}
 use Rattle.yaml_canon.specs.Line.{spaces, double_line, AfterReturn}
 use Rattle.yaml_text.specs.grammar.Calls.{Unread}
 use Rattle.yaml_canon.specs.ReaderAnswer.{Leads, Appends}
-use Rattle.yaml_canon.specs.SecondPath.{apart, anchored, alias_node, scalar_node, any_node, sequence, entry, mapping, node}
-use Rattle.yaml_canon.specs.SecondAnswer.{props_of, opened, bare, gap}
+use Rattle.yaml_canon.specs.FlowPath.{apart, anchored, alias_node, scalar_node, any_node, sequence, entry, mapping, node}
+use Rattle.yaml_canon.specs.FlowAnswer.{props_of, opened, bare, gap}
 use Rattle.yaml_canon.proofs.Leads.{leads_end, leads_none}
 use Rattle.yaml_canon.proofs.AnswerLemmas.{refuses_weaker, adds_on}
 use Rattle.yaml_canon.proofs.ScalarLemmas.{double_first}

@@ -9,8 +9,8 @@ use Rattle.yaml_text.specs.grammar.Rules.{Rule, ◌◂◌, Any, done, then, chr,
 use Rattle.yaml_canon.specs.Line.{spaces, comma}
 use Rattle.yaml_text.specs.grammar.Calls.{Unread}
 use Rattle.yaml_canon.specs.ReaderAnswer.{Leads}
-use Rattle.yaml_canon.specs.SecondPath.{parts}
-use Rattle.yaml_canon.specs.SecondAnswer.{opened}
+use Rattle.yaml_canon.specs.FlowPath.{parts}
+use Rattle.yaml_canon.specs.FlowAnswer.{opened}
 use Rattle.yaml_canon.proofs.Leads.{one_more, no_more, none_more}
 use Rattle.yaml_canon.proofs.ScalarLemmas.{same_char}
 use Rattle.yaml_canon.proofs.LineLemmas.{spaces_same}

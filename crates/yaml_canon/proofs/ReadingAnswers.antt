@@ -12,26 +12,26 @@ use Rattle.yaml_text.proofs.PrintLaws.{spelled_text}
 use Rattle.yaml_text.proofs.RefusedText.{refused_is_no_text}
 use Rattle.yaml_canon.specs.PlainTrees.{Spoken}
 use Rattle.yaml_canon.specs.ReaderAnswer.{ReadsAll}
-use Rattle.yaml_canon.specs.SecondPath.{ReadsSecond}
-use Rattle.yaml_canon.specs.SecondDocument.{SecondDocument}
-use Rattle.yaml_canon.proofs.SecondDocuments.{second_documents}
-use Rattle.yaml_canon.proofs.SecondClaims.{spelling_text, spelling_read}
+use Rattle.yaml_canon.specs.FlowPath.{ReadsFlow}
+use Rattle.yaml_canon.specs.FlowDocument.{FlowDocument}
+use Rattle.yaml_canon.proofs.FlowDocuments.{flow_documents}
+use Rattle.yaml_canon.proofs.FlowClaims.{spelling_text, spelling_read}
 
 -- `events` are those of an answer
 module _ {X : Type 0} (events : X → List Event) (bytes cs : List ℕ) where
   abbrev Answered : Result X Fault → Type 0
-  Answered r = ReadsAll (ReadsSecond cs) (result_map_both events (λ e. e) r)
+  Answered r = ReadsAll (ReadsFlow cs) (result_map_both events (λ e. e) r)
 
-  pub answer_read : (r : Result X Fault) → Text bytes cs → Answered r → IfOk r (λ v. SecondDocument bytes (events v))
-  answer_read (Ok v) t a = second_documents bytes cs (events v) t a.0
+  pub answer_read : (r : Result X Fault) → Text bytes cs → Answered r → IfOk r (λ v. FlowDocument bytes (events v))
+  answer_read (Ok v) t a = flow_documents bytes cs (events v) t a.0
   answer_read (Err e) t a = tt
 
   pub answer_spelled : (r : Result X Fault) → Text bytes cs → Answered r → (f : List Tree) → Spoken f → Admitted f → bytes ≡ spell_bytes f
       → MatchResult r (λ v. events v ≡ spelled f) (λ e. e ≡ fault.OutOfMemory)
   answer_spelled r t a f o d e = by r a
     where
-      there : ReadsSecond cs (spelled f)
-      there = subst (λ z. ReadsSecond z (spelled f)) (sym (spelling_text bytes cs f d e t)) (spelling_read f o d)
+      there : ReadsFlow cs (spelled f)
+      there = subst (λ z. ReadsFlow z (spelled f)) (sym (spelling_text bytes cs f d e t)) (spelling_read f o d)
 
       by : (r : Result X Fault) → Answered r → MatchResult r (λ v. events v ≡ spelled f) (λ e. e ≡ fault.OutOfMemory)
       by (Ok v) a = sym (a.1 (spelled f) there)

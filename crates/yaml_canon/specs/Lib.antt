@@ -2,10 +2,10 @@ pub mod TreeModel
 pub mod Claims
 pub mod Line
 pub mod ReaderAnswer
-pub mod SecondPath
+pub mod FlowPath
 pub mod PlainMarks
 pub mod PlainTrees
-pub mod SecondDocument
+pub mod FlowDocument
 pub mod Writes
 pub mod Identical
 pub mod Anchored
@@ -19,7 +19,7 @@ pub mod Repeats
 pub mod Arranged
 pub mod Arranging
 pub mod Refusal
-pub mod SecondAnswer
+pub mod FlowAnswer
 pub mod Comparing
 pub mod SourceKeys
 pub mod KeyModel

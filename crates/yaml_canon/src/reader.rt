@@ -9,8 +9,8 @@ ghost use Rattle.yaml_text.specs.EventModel.{event_of};
 ghost use Rattle.yaml_text.specs.grammar.Rules.{Stands, seen, run};
 ghost use Rattle.yaml_text.specs.grammar.Tags.{is_name, name};
 ghost use Rattle.yaml_canon.specs.ReaderAnswer.{Refuses, Answers, Appends, LeadsOn, ReadsAll};
-ghost use Rattle.yaml_canon.specs.SecondPath.{apart, alias_node, any_node, sequence, entry, mapping, node, content, ReadsSecond};
-ghost use Rattle.yaml_canon.specs.SecondAnswer.{props_of, opened, bare, gap, marked};
+ghost use Rattle.yaml_canon.specs.FlowPath.{apart, alias_node, any_node, sequence, entry, mapping, node, content, ReadsFlow};
+ghost use Rattle.yaml_canon.specs.FlowAnswer.{props_of, opened, bare, gap, marked};
 
 use crate::line::{expect, read_tail, skip_spaces, unusable};
 use crate::quoted::read_double;
@@ -390,7 +390,7 @@ fn read_mark(source: &Chars<'_>) -> Result<usize, Fault>
 /// separation may stand, the bracket or brace of a 129th open collection, the backslash of an
 /// escape that there is not, and anything else that the productions do not go on with.
 pub(crate) fn read_events<'a>(alloc: Global, source: &Chars<'a>) -> Result<Vec<Event<'a>>, Fault>
-    ensures { ReadsAll (ReadsSecond (text_of source.now)) (result_map_both (λ v. map event_of v.items) (λ e. e) result) }
+    ensures { ReadsAll (ReadsFlow (text_of source.now)) (result_map_both (λ v. map event_of v.items) (λ e. e) result) }
 {
     let start = read_mark(source)?;
     let mut out = Vec::new(alloc);

@@ -9,7 +9,7 @@ ghost use Rattle.yaml_text.specs.Spell.{spell_bytes, spelled};
 ghost use Rattle.yaml_text.specs.declared.fault.Fault.TheVariants.{OutOfMemory};
 ghost use Rattle.yaml_canon.specs.PlainTrees.{Spoken};
 ghost use Rattle.yaml_canon.specs.Claims.{RefusedInReading};
-ghost use Rattle.yaml_canon.specs.SecondDocument.{SecondDocument};
+ghost use Rattle.yaml_canon.specs.FlowDocument.{FlowDocument};
 
 use crate::reader::read_events;
 use std::alloc::Global;
@@ -19,7 +19,7 @@ use yaml_text::fault::Fault;
 
 /// The events of a stream, from its start to its end.
 pub(crate) fn read<'a>(alloc: Global, bytes: &'a [u8]) -> Result<Vec<Event<'a>>, Fault>
-    ensures read { IfOk result (λ v. SecondDocument bytes.now (map event_of v.items)) }
+    ensures read { IfOk result (λ v. FlowDocument bytes.now (map event_of v.items)) }
     ensures refused { IfErr result (RefusedInReading bytes.now) }
     ensures text { ((cs : List ℕ) → Text bytes.now cs → ⊥) → IsErrAnd result (RefusesText bytes.now) }
     ensures spelled { (f : List Tree) → Spoken f → Admitted f → bytes.now ≡ spell_bytes f →

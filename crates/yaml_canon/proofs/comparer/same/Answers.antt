@@ -6,10 +6,10 @@ use Rattle.yaml_text.specs.declared.fault.Fault.TheVariants.{OutOfMemory}
 use Rattle.yaml_canon.specs.declared.side.Side.TheVariants.{Left, Right}
 use Rattle.yaml_canon.specs.Comparing.{ComparerRefuses}
 use Rattle.yaml_canon.specs.Forest.{Stands, AreFew, IsForest, RefusesNodes, RefusesSize}
-use Rattle.yaml_canon.specs.SecondDocument.{SecondDocument}
+use Rattle.yaml_canon.specs.FlowDocument.{FlowDocument}
 use Rattle.yaml_canon.specs.TreeModel.{tree_of}
 use Rattle.yaml_canon.proofs.CompareAnswers.{ok_of, err_of, raised, document_read, spelling_found, either_refused, either_unrefused}
-use Rattle.yaml_canon.proofs.SecondClaims.{Judged, judged, documents, composable, compared, left_read, nodes_refused, nodes_unrefused, sizes_refused, sizes_unrefused}
+use Rattle.yaml_canon.proofs.FlowClaims.{Judged, judged, documents, composable, compared, left_read, nodes_refused, nodes_unrefused, sizes_refused, sizes_unrefused}
 use Rattle.yaml_canon.proofs.comparer.same.Goals as goal
 
 -- the events of a list of events as code
@@ -18,12 +18,12 @@ events v = map event_of v.items
 
 pub low_nodes-requires : goal.low_nodes-requires
 low_nodes-requires c =
-    let d : SecondDocument c.args.left.now (events c.in_ok-first.first) = document_read events c.args.left.now c.read.result c.in_ok-first.first c.in_ok-first.ensures.ok c.read.ensures.read in
-    composable c.args.left.now c.deref.result.now (subst (λ es. SecondDocument c.args.left.now (map event_of es)) (sym c.deref.ensures.value) d)
+    let d : FlowDocument c.args.left.now (events c.in_ok-first.first) = document_read events c.args.left.now c.read.result c.in_ok-first.first c.in_ok-first.ensures.ok c.read.ensures.read in
+    composable c.args.left.now c.deref.result.now (subst (λ es. FlowDocument c.args.left.now (map event_of es)) (sym c.deref.ensures.value) d)
 
 pub returns-in_err-first_nodes-clause-spelled : goal.returns-in_err-first_nodes-clause-spelled
 returns-in_err-first_nodes-clause-spelled c f g o a e p b q =
-    let d : SecondDocument c.args.left.now (events c.in_ok-first.first) = document_read events c.args.left.now c.read.result c.in_ok-first.first c.in_ok-first.ensures.ok c.read.ensures.read in
+    let d : FlowDocument c.args.left.now (events c.in_ok-first.first) = document_read events c.args.left.now c.read.result c.in_ok-first.first c.in_ok-first.ensures.ok c.read.ensures.read in
     let ds = documents c.args.left.now (events c.in_ok-first.first) d in
     let x = c.in_err-first_nodes.field-0.0.1 in
     raised (λ side fault. fault ≡ OutOfMemory) c.from_residual-in_err-first_nodes.result c.in_err-first_nodes.field-0.0 Left c.from_residual-in_err-first_nodes.ensures.1 c.in_err-first_nodes.ensures.err.1
@@ -32,13 +32,13 @@ returns-in_err-first_nodes-clause-spelled c f g o a e p b q =
 
 pub low_nodes-requires-2 : goal.low_nodes-requires-2
 low_nodes-requires-2 c =
-    let k : SecondDocument c.args.right.now (events c.in_ok-second.second) = document_read events c.args.right.now c.read-2.result c.in_ok-second.second c.in_ok-second.ensures.ok c.read-2.ensures.read in
-    composable c.args.right.now c.deref-2.result.now (subst (λ es. SecondDocument c.args.right.now (map event_of es)) (sym c.deref-2.ensures.value) k)
+    let k : FlowDocument c.args.right.now (events c.in_ok-second.second) = document_read events c.args.right.now c.read-2.result c.in_ok-second.second c.in_ok-second.ensures.ok c.read-2.ensures.read in
+    composable c.args.right.now c.deref-2.result.now (subst (λ es. FlowDocument c.args.right.now (map event_of es)) (sym c.deref-2.ensures.value) k)
 
 pub returns-in_err-second_nodes-clause-refused : goal.returns-in_err-second_nodes-clause-refused
 returns-in_err-second_nodes-clause-refused c =
-    let d : SecondDocument c.args.left.now (events c.in_ok-first.first) = document_read events c.args.left.now c.read.result c.in_ok-first.first c.in_ok-first.ensures.ok c.read.ensures.read in
-    let k : SecondDocument c.args.right.now (events c.in_ok-second.second) = document_read events c.args.right.now c.read-2.result c.in_ok-second.second c.in_ok-second.ensures.ok c.read-2.ensures.read in
+    let d : FlowDocument c.args.left.now (events c.in_ok-first.first) = document_read events c.args.left.now c.read.result c.in_ok-first.first c.in_ok-first.ensures.ok c.read.ensures.read in
+    let k : FlowDocument c.args.right.now (events c.in_ok-second.second) = document_read events c.args.right.now c.read-2.result c.in_ok-second.second c.in_ok-second.ensures.ok c.read-2.ensures.read in
     let ds = documents c.args.left.now (events c.in_ok-first.first) d in
     let s : Stands ds c.in_ok-first_nodes.first_nodes = ok_of (Stands ds) (RefusesNodes ds) c.low_nodes.result c.in_ok-first_nodes.first_nodes c.in_ok-first_nodes.ensures.ok (c.low_nodes.ensures ds (ap (map event_of) c.deref.ensures.value ∙ d.events)) in
     let es = documents c.args.right.now (events c.in_ok-second.second) k in
@@ -50,7 +50,7 @@ returns-in_err-second_nodes-clause-refused c =
 
 pub returns-in_err-second_nodes-clause-spelled : goal.returns-in_err-second_nodes-clause-spelled
 returns-in_err-second_nodes-clause-spelled c f g o a e p b q =
-    let k : SecondDocument c.args.right.now (events c.in_ok-second.second) = document_read events c.args.right.now c.read-2.result c.in_ok-second.second c.in_ok-second.ensures.ok c.read-2.ensures.read in
+    let k : FlowDocument c.args.right.now (events c.in_ok-second.second) = document_read events c.args.right.now c.read-2.result c.in_ok-second.second c.in_ok-second.ensures.ok c.read-2.ensures.read in
     let es = documents c.args.right.now (events c.in_ok-second.second) k in
     let x = c.in_err-second_nodes.field-0.0.1 in
     raised (λ side fault. fault ≡ OutOfMemory) c.from_residual-in_err-second_nodes.result c.in_err-second_nodes.field-0.0 Right c.from_residual-in_err-second_nodes.ensures.1 c.in_err-second_nodes.ensures.err.1
@@ -59,7 +59,7 @@ returns-in_err-second_nodes-clause-spelled c f g o a e p b q =
 
 pub returns-in_err-on-clause-refused : goal.returns-in_err-on-clause-refused
 returns-in_err-on-clause-refused c =
-    let d : SecondDocument c.args.left.now (events c.in_ok-first.first) = document_read events c.args.left.now c.read.result c.in_ok-first.first c.in_ok-first.ensures.ok c.read.ensures.read in
+    let d : FlowDocument c.args.left.now (events c.in_ok-first.first) = document_read events c.args.left.now c.read.result c.in_ok-first.first c.in_ok-first.ensures.ok c.read.ensures.read in
     let ds = documents c.args.left.now (events c.in_ok-first.first) d in
     let s : Stands ds c.in_ok-first_nodes.first_nodes = ok_of (Stands ds) (RefusesNodes ds) c.low_nodes.result c.in_ok-first_nodes.first_nodes c.in_ok-first_nodes.ensures.ok (c.low_nodes.ensures ds (ap (map event_of) c.deref.ensures.value ∙ d.events)) in
     let x = c.in_err-on.field-0.0.1 in
@@ -68,7 +68,7 @@ returns-in_err-on-clause-refused c =
 
 pub returns-in_err-on-clause-spelled : goal.returns-in_err-on-clause-spelled
 returns-in_err-on-clause-spelled c f g o a e p b q =
-    let d : SecondDocument c.args.left.now (events c.in_ok-first.first) = document_read events c.args.left.now c.read.result c.in_ok-first.first c.in_ok-first.ensures.ok c.read.ensures.read in
+    let d : FlowDocument c.args.left.now (events c.in_ok-first.first) = document_read events c.args.left.now c.read.result c.in_ok-first.first c.in_ok-first.ensures.ok c.read.ensures.read in
     let ds = documents c.args.left.now (events c.in_ok-first.first) d in
     let s : Stands ds c.in_ok-first_nodes.first_nodes = ok_of (Stands ds) (RefusesNodes ds) c.low_nodes.result c.in_ok-first_nodes.first_nodes c.in_ok-first_nodes.ensures.ok (c.low_nodes.ensures ds (ap (map event_of) c.deref.ensures.value ∙ d.events)) in
     let x = c.in_err-on.field-0.0.1 in
@@ -78,8 +78,8 @@ returns-in_err-on-clause-spelled c f g o a e p b q =
 
 pub returns-in_err-on-2-clause-refused : goal.returns-in_err-on-2-clause-refused
 returns-in_err-on-2-clause-refused c =
-    let d : SecondDocument c.args.left.now (events c.in_ok-first.first) = document_read events c.args.left.now c.read.result c.in_ok-first.first c.in_ok-first.ensures.ok c.read.ensures.read in
-    let k : SecondDocument c.args.right.now (events c.in_ok-second.second) = document_read events c.args.right.now c.read-2.result c.in_ok-second.second c.in_ok-second.ensures.ok c.read-2.ensures.read in
+    let d : FlowDocument c.args.left.now (events c.in_ok-first.first) = document_read events c.args.left.now c.read.result c.in_ok-first.first c.in_ok-first.ensures.ok c.read.ensures.read in
+    let k : FlowDocument c.args.right.now (events c.in_ok-second.second) = document_read events c.args.right.now c.read-2.result c.in_ok-second.second c.in_ok-second.ensures.ok c.read-2.ensures.read in
     let ds = documents c.args.left.now (events c.in_ok-first.first) d in
     let s : Stands ds c.in_ok-first_nodes.first_nodes = ok_of (Stands ds) (RefusesNodes ds) c.low_nodes.result c.in_ok-first_nodes.first_nodes c.in_ok-first_nodes.ensures.ok (c.low_nodes.ensures ds (ap (map event_of) c.deref.ensures.value ∙ d.events)) in
     let es = documents c.args.right.now (events c.in_ok-second.second) k in
@@ -90,7 +90,7 @@ returns-in_err-on-2-clause-refused c =
 
 pub returns-in_err-on-2-clause-spelled : goal.returns-in_err-on-2-clause-spelled
 returns-in_err-on-2-clause-spelled c f g o a e p b q =
-    let k : SecondDocument c.args.right.now (events c.in_ok-second.second) = document_read events c.args.right.now c.read-2.result c.in_ok-second.second c.in_ok-second.ensures.ok c.read-2.ensures.read in
+    let k : FlowDocument c.args.right.now (events c.in_ok-second.second) = document_read events c.args.right.now c.read-2.result c.in_ok-second.second c.in_ok-second.ensures.ok c.read-2.ensures.read in
     let es = documents c.args.right.now (events c.in_ok-second.second) k in
     let t : Stands es c.in_ok-second_nodes.second_nodes = ok_of (Stands es) (RefusesNodes es) c.low_nodes-2.result c.in_ok-second_nodes.second_nodes c.in_ok-second_nodes.ensures.ok (c.low_nodes-2.ensures es (ap (map event_of) c.deref-2.ensures.value ∙ k.events)) in
     let x = c.in_err-on-2.field-0.0.1 in
@@ -100,8 +100,8 @@ returns-in_err-on-2-clause-spelled c f g o a e p b q =
 
 pub returns-in_err-check_both-clause-refused : goal.returns-in_err-check_both-clause-refused
 returns-in_err-check_both-clause-refused c =
-    let d : SecondDocument c.args.left.now (events c.in_ok-first.first) = document_read events c.args.left.now c.read.result c.in_ok-first.first c.in_ok-first.ensures.ok c.read.ensures.read in
-    let k : SecondDocument c.args.right.now (events c.in_ok-second.second) = document_read events c.args.right.now c.read-2.result c.in_ok-second.second c.in_ok-second.ensures.ok c.read-2.ensures.read in
+    let d : FlowDocument c.args.left.now (events c.in_ok-first.first) = document_read events c.args.left.now c.read.result c.in_ok-first.first c.in_ok-first.ensures.ok c.read.ensures.read in
+    let k : FlowDocument c.args.right.now (events c.in_ok-second.second) = document_read events c.args.right.now c.read-2.result c.in_ok-second.second c.in_ok-second.ensures.ok c.read-2.ensures.read in
     let ds = documents c.args.left.now (events c.in_ok-first.first) d in
     let s : Stands ds c.in_ok-first_nodes.first_nodes = ok_of (Stands ds) (RefusesNodes ds) c.low_nodes.result c.in_ok-first_nodes.first_nodes c.in_ok-first_nodes.ensures.ok (c.low_nodes.ensures ds (ap (map event_of) c.deref.ensures.value ∙ d.events)) in
     let es = documents c.args.right.now (events c.in_ok-second.second) k in
@@ -113,8 +113,8 @@ returns-in_err-check_both-clause-refused c =
 
 pub returns-in_err-check_both-clause-spelled : goal.returns-in_err-check_both-clause-spelled
 returns-in_err-check_both-clause-spelled c f g o a e p b q =
-    let d : SecondDocument c.args.left.now (events c.in_ok-first.first) = document_read events c.args.left.now c.read.result c.in_ok-first.first c.in_ok-first.ensures.ok c.read.ensures.read in
-    let k : SecondDocument c.args.right.now (events c.in_ok-second.second) = document_read events c.args.right.now c.read-2.result c.in_ok-second.second c.in_ok-second.ensures.ok c.read-2.ensures.read in
+    let d : FlowDocument c.args.left.now (events c.in_ok-first.first) = document_read events c.args.left.now c.read.result c.in_ok-first.first c.in_ok-first.ensures.ok c.read.ensures.read in
+    let k : FlowDocument c.args.right.now (events c.in_ok-second.second) = document_read events c.args.right.now c.read-2.result c.in_ok-second.second c.in_ok-second.ensures.ok c.read-2.ensures.read in
     let ds = documents c.args.left.now (events c.in_ok-first.first) d in
     let s : Stands ds c.in_ok-first_nodes.first_nodes = ok_of (Stands ds) (RefusesNodes ds) c.low_nodes.result c.in_ok-first_nodes.first_nodes c.in_ok-first_nodes.ensures.ok (c.low_nodes.ensures ds (ap (map event_of) c.deref.ensures.value ∙ d.events)) in
     let es = documents c.args.right.now (events c.in_ok-second.second) k in
@@ -127,8 +127,8 @@ returns-in_err-check_both-clause-spelled c f g o a e p b q =
 
 pub returns-clause-answer : goal.returns-clause-answer
 returns-clause-answer c =
-    let d : SecondDocument c.args.left.now (events c.in_ok-first.first) = document_read events c.args.left.now c.read.result c.in_ok-first.first c.in_ok-first.ensures.ok c.read.ensures.read in
-    let k : SecondDocument c.args.right.now (events c.in_ok-second.second) = document_read events c.args.right.now c.read-2.result c.in_ok-second.second c.in_ok-second.ensures.ok c.read-2.ensures.read in
+    let d : FlowDocument c.args.left.now (events c.in_ok-first.first) = document_read events c.args.left.now c.read.result c.in_ok-first.first c.in_ok-first.ensures.ok c.read.ensures.read in
+    let k : FlowDocument c.args.right.now (events c.in_ok-second.second) = document_read events c.args.right.now c.read-2.result c.in_ok-second.second c.in_ok-second.ensures.ok c.read-2.ensures.read in
     let ds = documents c.args.left.now (events c.in_ok-first.first) d in
     let s : Stands ds c.in_ok-first_nodes.first_nodes = ok_of (Stands ds) (RefusesNodes ds) c.low_nodes.result c.in_ok-first_nodes.first_nodes c.in_ok-first_nodes.ensures.ok (c.low_nodes.ensures ds (ap (map event_of) c.deref.ensures.value ∙ d.events)) in
     let es = documents c.args.right.now (events c.in_ok-second.second) k in

@@ -3,8 +3,8 @@ use Rattle.yaml_text.specs.Event.{Event}
 use Rattle.yaml_text.specs.EventModel.{Adds}
 use Rattle.yaml_text.specs.Source.{bytes_of, text_of, place_of, IsBorder}
 use Rattle.yaml_canon.specs.ReaderAnswer.{Leads}
-use Rattle.yaml_canon.specs.SecondPath.{parts, any_node, entry, node}
-use Rattle.yaml_canon.specs.SecondAnswer.{opened}
+use Rattle.yaml_canon.specs.FlowPath.{parts, any_node, entry, node}
+use Rattle.yaml_canon.specs.FlowAnswer.{opened}
 use Rattle.yaml_canon.proofs.reader.+nodes.Given as goal
 
 abbrev pub decreases-read_bare : goal.decreases-read_bare

@@ -4,13 +4,13 @@ use Rattle.yaml_text.specs.Source.{text_of, place_of}
 use Rattle.yaml_text.specs.grammar.Rules.{◌▸◌, chr}
 use Rattle.yaml_text.proofs.PlaceLemmas.{starts_at}
 use Rattle.yaml_canon.specs.Line.{spaces}
-use Rattle.yaml_canon.specs.SecondPath.{content}
-use Rattle.yaml_canon.specs.SecondAnswer.{marked}
+use Rattle.yaml_canon.specs.FlowPath.{content}
+use Rattle.yaml_canon.specs.FlowAnswer.{marked}
 use Rattle.yaml_canon.specs.ReaderAnswer.{Leads}
 use Rattle.yaml_canon.proofs.Leads.{leads_on, leads_none}
 use Rattle.yaml_canon.proofs.AnswerLemmas.{leads_err, refuses_weaker}
 use Rattle.yaml_canon.proofs.LineLemmas.{char_start, no_char, spaces_start}
-use Rattle.yaml_canon.proofs.SecondText.{content_first}
+use Rattle.yaml_canon.proofs.FlowText.{content_first}
 use Rattle.yaml_canon.proofs.reader.read_mark.Goals as goal
 use Rattle.yaml_canon.proofs.reader.read_mark.Goals.{In_ok-first}
 

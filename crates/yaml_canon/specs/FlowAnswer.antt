@@ -1,10 +1,10 @@
--- What the calls of the reader of `SecondPath` say, and parts of its productions. Temporary, as that reader is.
+-- What the calls of the reader of `FlowPath` say, and parts of its productions. Temporary, as that reader is.
 use Rattle.std.specs.Prelude.{◌≡◌, ℕ, zero, suc, ◌<◌, List, Some, slice_get}
 use Rattle.yaml_text.specs.Event.{Event, Anchor, untagged}
 use Rattle.yaml_text.specs.grammar.Rules.{Span, Rule, ◌▸◌, ◌∪◌, chr}
 use Rattle.yaml_text.specs.grammar.Events.{Props}
 use Rattle.yaml_canon.specs.Line.{spaces}
-use Rattle.yaml_canon.specs.SecondPath.{parts, scalar_node, sequence, mapping, node}
+use Rattle.yaml_canon.specs.FlowPath.{parts, scalar_node, sequence, mapping, node}
 
 -- the properties of a node with this anchor and no tag
 abbrev pub props_of : Anchor → Props

@@ -59,5 +59,5 @@ module _ (cs : List ℕ) where
   document = chr cs 45 ▸ chr cs 45 ▸ chr cs 45 ▸ chr cs 32 ▸ spaces cs ▸ content
 
   -- the whole text is such a stream, with these events
-  unfoldable pub ReadsSecond : List Event → Type 0
-  ReadsSecond es = seen one_document document 0 (length cs) es
+  unfoldable pub ReadsFlow : List Event → Type 0
+  ReadsFlow es = seen one_document document 0 (length cs) es

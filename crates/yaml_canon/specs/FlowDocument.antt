@@ -6,7 +6,7 @@ use Rattle.yaml_text.specs.Spell.{document_of}
 use Rattle.yaml_text.specs.grammar.Reading.{Reads}
 use Rattle.yaml_canon.specs.PlainMarks.{Plain}
 
-pub record SecondDocument (bytes : List ℕ) (es : List Event) : Type 0 where
+pub record FlowDocument (bytes : List ℕ) (es : List Event) : Type 0 where
   pub root : Marked
   pub events : es ≡ stream_events (document_of root ∷ [])
   pub plain : Plain root

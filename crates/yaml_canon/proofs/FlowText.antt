@@ -7,8 +7,8 @@ use Rattle.yaml_text.specs.Event.{Event}
 use Rattle.yaml_canon.specs.Line.{tail, one_document}
 use Rattle.yaml_text.specs.grammar.Calls.{Unread}
 use Rattle.yaml_canon.specs.ReaderAnswer.{Leads}
-use Rattle.yaml_canon.specs.SecondPath.{any_node, node, content, document, ReadsSecond}
-use Rattle.yaml_canon.specs.SecondAnswer.{marked}
+use Rattle.yaml_canon.specs.FlowPath.{any_node, node, content, document, ReadsFlow}
+use Rattle.yaml_canon.specs.FlowAnswer.{marked}
 use Rattle.yaml_canon.proofs.PartLemmas.{no_space}
 use Rattle.yaml_canon.proofs.NodeLemmas.{any_first}
 
@@ -32,17 +32,17 @@ module _ (cs : List ℕ) where
   -- ---- the text
 
   pub text_read : (i a : ℕ) (es : List Event) → Leads (marked cs (content cs)) 0 (content cs) i [] → Only (any_node cs (node cs open_limit)) i a es → tail cs a (length cs) →
-      ReadsSecond cs (one_document es) × ((fs : List Event) → ReadsSecond cs fs → fs ≡ one_document es)
-  unfolding ReadsSecond document content
+      ReadsFlow cs (one_document es) × ((fs : List Event) → ReadsFlow cs fs → fs ≡ one_document es)
+  unfolding ReadsFlow document content
   text_read i a es l o t = (
     (es, l.forth (length cs) es (a, o.is, t), refl),
     λ fs (gs, r, e). let s = l.back (length cs) gs r in e ∙ ap (one_document) (s.2 ∙ content_only i a es o (length cs) s.0 s.1),
   )
 
-  pub no_text : (i : ℕ) → Leads (marked cs (content cs)) 0 (content cs) i [] → ((ys : List Event) → content cs i (length cs) ys → ⊥) → (fs : List Event) → ReadsSecond cs fs → ⊥
-  unfolding ReadsSecond document
+  pub no_text : (i : ℕ) → Leads (marked cs (content cs)) 0 (content cs) i [] → ((ys : List Event) → content cs i (length cs) ys → ⊥) → (fs : List Event) → ReadsFlow cs fs → ⊥
+  unfolding ReadsFlow document
   no_text i l u fs (gs, r, e) = let s = l.back (length cs) gs r in u s.0 s.1
 
-  pub no_mark : Unread (marked cs (content cs)) 0 → (fs : List Event) → ReadsSecond cs fs → ⊥
-  unfolding ReadsSecond document
+  pub no_mark : Unread (marked cs (content cs)) 0 → (fs : List Event) → ReadsFlow cs fs → ⊥
+  unfolding ReadsFlow document
   no_mark u fs (gs, r, e) = u (length cs) gs r

@@ -37,10 +37,10 @@ use Rattle.yaml_canon.specs.SourceKeys.{NoEqualKeys, IsFirstEqual}
 use Rattle.yaml_canon.specs.declared.forest.Nodes.{Nodes}
 use Rattle.yaml_canon.specs.PlainTrees.{Spoken}
 use Rattle.yaml_canon.specs.Refusal.{RefusesSpelling, IsUnspelled}
-use Rattle.yaml_canon.specs.SecondPath.{ReadsSecond}
-use Rattle.yaml_canon.specs.SecondDocument.{SecondDocument}
+use Rattle.yaml_canon.specs.FlowPath.{ReadsFlow}
+use Rattle.yaml_canon.specs.FlowDocument.{FlowDocument}
 use Rattle.yaml_canon.proofs.PlainLaws.{plain_untagged, found_plain}
-use Rattle.yaml_canon.proofs.SecondSpelled.{second_spelled}
+use Rattle.yaml_canon.proofs.FlowSpelled.{flow_spelled}
 use Rattle.yaml_canon.proofs.SpelledKeys.{spelled_no_equal}
 
 -- ---- forests
@@ -96,9 +96,9 @@ none_wrong Fine Wrong never n f a h = by h.before f a h.split
 pub spelling_text : (bytes cs : List ℕ) (f : List Tree) → Admitted f → bytes ≡ spell_bytes f → Text bytes cs → cs ≡ spell f
 spelling_text bytes cs f a e t = one-text bytes cs (spell f) t (subst (λ b. Text b (spell f)) (sym e) (spelled_text f a))
 
-pub spelling_read : (f : List Tree) → Spoken f → Admitted f → ReadsSecond (spell f) (spelled f)
+pub spelling_read : (f : List Tree) → Spoken f → Admitted f → ReadsFlow (spell f) (spelled f)
 spelling_read [] o a = absurd o
-spelling_read (t ∷ []) o a = second_spelled t a.trees.0 o.0
+spelling_read (t ∷ []) o a = flow_spelled t a.trees.0 o.0
 spelling_read (t ∷ s ∷ f) o a = absurd o
 
 -- where no keys are equal, none are the first equal ones
@@ -131,7 +131,7 @@ judged ds n f s w k h = record {
 
 -- ---- what was read
 
-module _ (bytes : List ℕ) (es : List Event) (d : SecondDocument bytes es) where
+module _ (bytes : List ℕ) (es : List Event) (d : FlowDocument bytes es) where
   abbrev pub documents : List Document
   documents = document_of d.root ∷ []
 
@@ -248,7 +248,7 @@ admitted_spelled fault.TextTooLong f g q a r = absurd (let k : text_limit < leng
 admitted_spelled fault.OutOfMemory f g q a r = refl
 admitted_spelled _ f g q a r = absurd r
 
-pub composable : (bytes : List ℕ) (events : List code.Event) → SecondDocument bytes (map event_of events) → Composable events
+pub composable : (bytes : List ℕ) (events : List code.Event) → FlowDocument bytes (map event_of events) → Composable events
 composable bytes events d = record { documents = document_of d.root ∷ []; cut = d.events; plain = (plain_untagged d.root d.plain, tt) }
 
 -- ---- two streams
@@ -273,10 +273,10 @@ arranged_alike [] (u ∷ g) k l = refl
 arranged_alike (t ∷ f) [] k l = refl
 arranged_alike (t ∷ f) (u ∷ g) k l = let p = arranged_same t u k.0 l.0 in let q = arranged_alike f g k.1 l.1 in λ z. p z && q z
 
-pub left_read : (bytes : List ℕ) (es : List Event) (d : SecondDocument bytes es) (n : Nodes) → Stands (documents bytes es d) n → (g : List Tree) × Means bytes g × AllLow g
+pub left_read : (bytes : List ℕ) (es : List Event) (d : FlowDocument bytes es) (n : Nodes) → Stands (documents bytes es d) n → (g : List Tree) × Means bytes g × AllLow g
 left_read bytes es d n h = (h.trees, found_means bytes es d h.trees h.unfolded, h.low)
 
-pub compared : (left : List ℕ) (es : List Event) (d : SecondDocument left es) (right : List ℕ) (fs : List Event) (k : SecondDocument right fs) (answer : Bool) (f g : List Tree)
+pub compared : (left : List ℕ) (es : List Event) (d : FlowDocument left es) (right : List ℕ) (fs : List Event) (k : FlowDocument right fs) (answer : Bool) (f g : List Tree)
     → Judged (documents left es d) f → Judged (documents right fs k) g → (AllArranged f → AllArranged g → answer ≡ pointwise same f g) → Compares left right answer
 compared left es d right fs k answer f g h i e = record {
   first = h.trees;

@@ -9,15 +9,15 @@ use Rattle.yaml_text.specs.grammar.Events.{Props, no_props, seq_start, map_start
 use Rattle.yaml_text.specs.grammar.Tags.{name, anchor, alias}
 use Rattle.yaml_canon.specs.Line.{spaces, double_line, comma}
 use Rattle.yaml_canon.specs.ReaderAnswer.{Leads}
-use Rattle.yaml_canon.specs.SecondPath.{parts, anchored, alias_node, any_node, sequence, entry, mapping, node, content, document, ReadsSecond}
-use Rattle.yaml_canon.specs.SecondAnswer.{props_of, opened, bare, marked}
+use Rattle.yaml_canon.specs.FlowPath.{parts, anchored, alias_node, any_node, sequence, entry, mapping, node, content, document, ReadsFlow}
+use Rattle.yaml_canon.specs.FlowAnswer.{props_of, opened, bare, marked}
 use Rattle.yaml_canon.proofs.Leads.{leads_on, leads_end}
 use Rattle.yaml_canon.proofs.ScalarLemmas.{bytes_only, double_first}
 use Rattle.yaml_canon.proofs.QuotedOnce.{seen_as, double_each}
 use Rattle.yaml_canon.proofs.LineLemmas.{char_start, spaces_start}
 use Rattle.yaml_canon.proofs.PartLemmas.{Closes, closes_93, closes_125, IsPartRule, differ, no_space, parts_first, opened_start, parts_close, part_comma, part_close}
 use Rattle.yaml_canon.proofs.NodeLemmas.{seen_only, name_only, alias_first, alias_only, seq_first, map_first, bare_no_anchor, bare_no_space, bare_seq_here, bare_map_here, bare_scalar, seq_only, map_only, to_bare, node_plain, node_after, any_first, any_alias, any_other, node_no_star, entry_first, entry_leads, entry_cases, Parted}
-use Rattle.yaml_canon.proofs.SecondText.{content_first, text_read}
+use Rattle.yaml_canon.proofs.FlowText.{content_first, text_read}
 
 module _ (cs : List ℕ) where
   abbrev Each : Rule (List Event) → Type 0
@@ -113,9 +113,9 @@ module _ (cs : List ℕ) where
   node_each (suc room) = after_each (suc room) (λ p. bare_suc room p (node_each room))
 
 -- a text has one reading at most
-pub second_once : (cs : List ℕ) (es fs : List Event) → ReadsSecond cs es → ReadsSecond cs fs → es ≡ fs
-unfolding ReadsSecond document content
-second_once cs es fs (gs, (a, (h, e), (b, (h', e'), (c, (h'', e''), (d, (g, f), (m, s, (x, n, t)))))), w) other =
+pub flow_once : (cs : List ℕ) (es fs : List Event) → ReadsFlow cs es → ReadsFlow cs fs → es ≡ fs
+unfolding ReadsFlow document content
+flow_once cs es fs (gs, (a, (h, e), (b, (h', e'), (c, (h'', e''), (d, (g, f), (m, s, (x, n, t)))))), w) other =
     let free : slice_get cs m ≢ Some 32 = content_first cs m (length cs) gs (x, n, t) in
     let R = content cs in
     let start : Leads (marked cs R) 0 R m [] =

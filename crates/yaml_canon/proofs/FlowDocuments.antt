@@ -14,10 +14,10 @@ use Rattle.yaml_text.specs.grammar.Laws.{FromDocuments}
 use Rattle.yaml_text.proofs.FlatLaws.{stream_once}
 use Rattle.yaml_text.proofs.grammar.Documents.{readings_are_documents}
 use Rattle.yaml_canon.specs.Line.{spaces, comma}
-use Rattle.yaml_canon.specs.SecondPath.{anchored, alias_node, scalar_node, any_node, parts, sequence, entry, mapping, node, content, document, ReadsSecond}
-use Rattle.yaml_canon.specs.SecondDocument.{SecondDocument}
+use Rattle.yaml_canon.specs.FlowPath.{anchored, alias_node, scalar_node, any_node, parts, sequence, entry, mapping, node, content, document, ReadsFlow}
+use Rattle.yaml_canon.specs.FlowDocument.{FlowDocument}
 use Rattle.yaml_canon.specs.PlainMarks.{Plain, AllPlain, PairsPlain}
-use Rattle.yaml_canon.proofs.SecondInside.{second_inside}
+use Rattle.yaml_canon.proofs.FlowInside.{flow_inside}
 
 -- the same but for what stands in a scalar
 abbrev mutual
@@ -154,10 +154,10 @@ module _ (cs : List ℕ) where
   node_told (suc room) i j es (k, p, a, inr (inl r)) = sequence_told (node cs room) (node_told room) p (anchored_told i k p a) k j es r
   node_told (suc room) i j es (k, p, a, inr (inr r)) = mapping_told (node cs room) (node_told room) p (anchored_told i k p a) k j es r
 
-pub second_documents : (bytes cs : List ℕ) (es : List Event) → Text bytes cs → ReadsSecond cs es → SecondDocument bytes es
-unfolding ReadsSecond document content Reads stream_events
-second_documents bytes cs es text (xs, (p1, q1, (p2, q2, (p3, q3, (p4, q4, (p5, sp, (j, r, t)))))), e) =
-    let reads : Reads bytes es = (cs, text, second_inside cs es (xs, (p1, q1, (p2, q2, (p3, q3, (p4, q4, (p5, sp, (j, r, t)))))), e)) in
+pub flow_documents : (bytes cs : List ℕ) (es : List Event) → Text bytes cs → ReadsFlow cs es → FlowDocument bytes es
+unfolding ReadsFlow document content Reads stream_events
+flow_documents bytes cs es text (xs, (p1, q1, (p2, q2, (p3, q3, (p4, q4, (p5, sp, (j, r, t)))))), e) =
+    let reads : Reads bytes es = (cs, text, flow_inside cs es (xs, (p1, q1, (p2, q2, (p3, q3, (p4, q4, (p5, sp, (j, r, t)))))), e)) in
     let told : OneNode xs = any_told cs (node cs open_limit) (node_told cs open_limit) p5 j xs r in
     let m : Marked = told.0 in
     let events : es ≡ stream_events (document_of m ∷ []) = e ∙ ap (λ v. stream_start ∷ document_start true ∷ v) (sym (told.1 (document_end false ∷ stream_end ∷ []))) in

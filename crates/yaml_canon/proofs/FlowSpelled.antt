@@ -23,12 +23,12 @@ use Rattle.yaml_text.specs.grammar.Tags as tags
 use Rattle.yaml_text.specs.grammar.Tags.{is_name, name}
 use Rattle.yaml_text.specs.grammar.Events.{Props}
 use Rattle.yaml_canon.specs.Line.{double_line}
-use Rattle.yaml_canon.specs.SecondPath as second
-use Rattle.yaml_canon.specs.SecondPath.{alias_node, any_node, node, content, document, ReadsSecond}
+use Rattle.yaml_canon.specs.FlowPath as second
+use Rattle.yaml_canon.specs.FlowPath.{alias_node, any_node, node, content, document, ReadsFlow}
 use Rattle.yaml_canon.specs.PlainTrees.{IsPlain, ArePlain, ArePairsPlain}
 use Rattle.yaml_canon.specs.PlainMarks.{Plain, AllPlain, PairsPlain}
 use Rattle.yaml_canon.proofs.QuotedDerivation.{At, at_get, at_next, at_end, flat_more, none}
-use Rattle.yaml_canon.proofs.SecondDerivation.{depth, depths, pairs_depth, same_at, feed_stops, plain_read}
+use Rattle.yaml_canon.proofs.FlowDerivation.{depth, depths, pairs_depth, same_at, feed_stops, plain_read}
 
 -- ---- arranged
 
@@ -183,9 +183,9 @@ module _ (cs : List ℕ) where
 
 -- ---- the stream
 
-pub second_spelled : (t : Tree) → IsAdmittedTree t → IsPlain t → ReadsSecond (spell (t ∷ [])) (spelled (t ∷ []))
-unfolding spell marks_of spelled stream_events ReadsSecond document content
-second_spelled t a f =
+pub flow_spelled : (t : Tree) → IsAdmittedTree t → IsPlain t → ReadsFlow (spell (t ∷ [])) (spelled (t ∷ []))
+unfolding spell marks_of spelled stream_events ReadsFlow document content
+flow_spelled t a f =
     let u : Tree = arranged t in
     let m : Marked = marks_of t in
     let repeated : List Tree = agains (walk short u []) in

@@ -19,7 +19,7 @@ use Rattle.yaml_text.specs.grammar.Tags.{is_name, name}
 use Rattle.yaml_text.specs.grammar.Events.{Props}
 use Rattle.yaml_text.proofs.TextLaws.{IsName, IsAnchor, IsFine, AreFine, ArePairsFine, name_chars}
 use Rattle.yaml_canon.specs.Line.{double_line}
-use Rattle.yaml_canon.specs.SecondPath.{anchored, alias_node, scalar_node, any_node, parts, sequence, entry, mapping, node}
+use Rattle.yaml_canon.specs.FlowPath.{anchored, alias_node, scalar_node, any_node, parts, sequence, entry, mapping, node}
 use Rattle.yaml_canon.specs.PlainMarks.{Plain, AllPlain, PairsPlain}
 use Rattle.yaml_canon.proofs.QuotedDerivation.{At, at_get, at_next, flat_more, all_more, pairs_more, none, one, pieces}
 

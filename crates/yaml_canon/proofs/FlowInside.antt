@@ -15,7 +15,7 @@ use Rattle.yaml_text.specs.grammar.Events.{Props, no_props, scalar}
 use Rattle.yaml_text.specs.grammar.Nodes.{pair_part, yaml_part, json_part, block_part, yaml_node, json_node, flow_node, flow_seq, flow_map, entry as map_entry_of, implicit_entry, yaml_key_entry, json_key_entry, value, adjacent, block_node, reads}
 use Rattle.yaml_text.specs.grammar.Streams.{Piece, document_piece, document_mark, bare_document, explicit_document, any_document, stream, stream_events, piece_events, ends_explicitly, ReadsText}
 use Rattle.yaml_canon.specs.Line.{spaces, double_line, comma, tail}
-use Rattle.yaml_canon.specs.SecondPath.{apart, anchored, alias_node, scalar_node, any_node, parts, sequence, entry, mapping, node, content, document, ReadsSecond}
+use Rattle.yaml_canon.specs.FlowPath.{apart, anchored, alias_node, scalar_node, any_node, parts, sequence, entry, mapping, node, content, document, ReadsFlow}
 use Rattle.yaml_canon.proofs.LineInside as line
 use Rattle.yaml_canon.proofs.LineInside.{Along, Inline, Lined, Inside, context, go_on, stay, one_on, run_on, double_on, spaces_on, comma_on, inline_on, unmarked, around, tail_in, tail_unmarked, both_unmarked, space_run}
 
@@ -234,9 +234,9 @@ module _ (cs : List ℕ) where
 
 -- ---- the stream
 
-pub second_inside : (cs : List ℕ) (es : List Event) → ReadsSecond cs es → ReadsText cs ⊥ open_limit es
-unfolding ReadsSecond document content ReadsText stream any_document explicit_document bare_document document_mark stream_events piece_events ends_explicitly separate separate_lines sep MarkOf StartsLine is_white is_break
-second_inside cs es (xs, (p1, (e1, f1), (p2, (e2, f2), (p3, (e3, f3), (p4, (e4, f4), (p5, sp, (j, r, (m, sj, t))))))), e) =
+pub flow_inside : (cs : List ℕ) (es : List Event) → ReadsFlow cs es → ReadsText cs ⊥ open_limit es
+unfolding ReadsFlow document content ReadsText stream any_document explicit_document bare_document document_mark stream_events piece_events ends_explicitly separate separate_lines sep MarkOf StartsLine is_white is_break
+flow_inside cs es (xs, (p1, (e1, f1), (p2, (e2, f2), (p3, (e3, f3), (p4, (e4, f4), (p5, sp, (j, r, (m, sj, t))))))), e) =
     let start : p3 ≡ 3 = omega (arith, f1, f2, f3) in
     let white : slice_get cs 3 ≡ Some 32 = subst (λ z. slice_get cs z ≡ Some 32) start e4 in
     let letters : word cs (45 ∷ 45 ∷ 45 ∷ []) 0 p3 = (p1, (e1, f1), (p2, (e2, f2), (p3, (e3, f3), refl))) in
