@@ -2,7 +2,6 @@ pub mod Leads
 pub mod AnswerLemmas
 pub mod ScalarLemmas
 pub mod LineLemmas
-pub mod QuotedOnce
 pub mod LineInside
 pub mod QuotedDerivation
 pub mod FlowDerivation
@@ -32,7 +31,6 @@ pub mod CanonicalAnswers
 pub mod PartLemmas
 pub mod NodeLemmas
 pub mod FlowText
-pub mod FlowOnce
 pub mod PlainLaws
 pub mod FlowClaims
 pub mod Arranging

@@ -282,18 +282,6 @@ module _ (cs : List ℕ) where
           let same : p ≡ n = cc in
           o.only l y (subst (λ z. numbered cs z m l y) same (subst (λ z. numbered cs p z l y) (ap (λ z. z + 1) (sym e) ∙ sym a) v))
 
-  numbered_each : (n i j x : ℕ) → numbered cs n i j x → Only (numbered cs n) i j x
-  unfolding numbered
-  numbered_each n i j x (s, (xs, (q, f), g)) = numbered_only n i j x q (g ∙ ap (digits_value 16) f) s
-
-  -- an escape is the only one
-  pub escape_each : (i j x : ℕ) → escape cs i j x → Only (escape cs) i j x
-  escape_each i j x r = let s = escape_second i j x r in go s.0 s.1 (escape_cases i s.0 j x s.1 r)
-    where
-      go : (c : ℕ) → slice_get cs (i + 1) ≡ Some c → Followed c (i + 1) j x → Only (escape cs) i j x
-      go c h (inl (b, s, l)) = escape_short i (i + 1) c x j (escape_first i j x r) refl h b s l
-      go c h (inr (n, d, v)) = escape_number i (i + 1) c n (i + 1 + 1) x j (escape_first i j x r) refl h d refl (numbered_each n (i + 1 + 1) j x v)
-
   -- ---- the characters of a line
 
   -- a character that stands for itself, or an escape
