@@ -50,3 +50,4 @@ pub mod EventLaws
 pub mod NodePlaces
 pub mod Equivalence
 pub mod Meetings
+pub mod Ascending
