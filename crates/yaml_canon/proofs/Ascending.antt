@@ -12,17 +12,19 @@ use Rattle.yaml_text.specs.Order.{tree_cmp, arranged}
 use Rattle.yaml_text.specs.Same.{same, Keyed}
 use Rattle.yaml_text.proofs.OrderLaws.{tree_cmp-total}
 use Rattle.yaml_text.proofs.Members.{Above}
-use Rattle.yaml_text.proofs.Neat.{Neat, NeatTrees, NeatPairs, neat_fixed, neat_keyed}
+use Rattle.yaml_text.proofs.Neat.{Neat, NeatTrees, NeatPairs, neat_fixed, neat_keyed, arranged_neat}
 use Rattle.yaml_canon.specs.declared.tree.Tree.{Tree}
 use Rattle.yaml_canon.specs.Arranged.{IsArranged}
 use Rattle.yaml_canon.specs.Identical.{identical}
 use Rattle.yaml_canon.specs.TreeModel.{tree_of, trees_of, pairs_of}
-use Rattle.yaml_canon.proofs.Agains.{neat_from}
 use Rattle.yaml_canon.proofs.Anchors.{identical_exact, identical_refl, same_identical}
 use Rattle.yaml_canon.proofs.Writing.{drop_next}
 
 abbrev Entry : Type 0
 Entry = Tree × Tree
+
+pub neat_from : (t : plain.Tree) → IsArranged t → Neat t
+neat_from t h = subst Neat h.fixed (arranged_neat t h.keyed)
 
 from_neat : (t : plain.Tree) → Neat t → IsArranged t
 from_neat t n = record { keyed = neat_keyed t n; fixed = neat_fixed t n }

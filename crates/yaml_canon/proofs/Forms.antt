@@ -8,7 +8,7 @@ use Rattle.yaml_text.proofs.Members.{both_and}
 use Rattle.yaml_canon.specs.TreeModel.{trees}
 use Rattle.yaml_canon.specs.Identical.{identical, identical_trees}
 use Rattle.yaml_canon.specs.Arranged.{IsArranged, AllArranged, HasNoMapping, HaveNoMapping}
-use Rattle.yaml_canon.proofs.Agains.{neat_from}
+use Rattle.yaml_canon.proofs.Ascending.{neat_from}
 use Rattle.yaml_canon.proofs.Anchors.{same_identical}
 
 mutual

@@ -31,7 +31,6 @@ pub mod Walking
 pub mod Counting
 pub mod Shortness
 pub mod Anchors
-pub mod Agains
 pub mod Markings
 pub mod Forests
 pub mod Forms

@@ -18,7 +18,7 @@ use std::alloc::Global;
 use std::cmp::Ordering;
 use yaml_text::fault::Fault;
 
-/// A node of a tree. A sorted one is the same as another sorted one only where they are equal.
+/// A node of a tree. Two sorted ones are the same only where they are equal entry by entry.
 #[derive(Clone, Copy)]
 pub(crate) struct Node<'t, 'a> {
     pub(crate) tree: &'t Tree<'a>,
@@ -27,7 +27,8 @@ pub(crate) struct Node<'t, 'a> {
     ghost in_order: { IsTrue sorted → IsTrue (identical (arranged (tree_of tree.now)) (tree_of tree.now)) },
 }
 
-/// Whether the keys of each mapping are scalars, in strict order.
+/// Whether the keys of each mapping are scalars, in strict order. They nearly always are, and then
+/// no two keys are the same.
 #[cycle(sorted)]
 fn is_sorted(tree: &Tree<'_>) -> bool
     ensures { OnTrue result (IsArranged (tree_of tree.now)) }
@@ -39,6 +40,7 @@ fn is_sorted(tree: &Tree<'_>) -> bool
     }
 }
 
+/// Whether each item is sorted.
 #[cycle(sorted)]
 fn are_sorted(items: &[Tree<'_>]) -> bool
     ensures { OnTrue result (IsArranged (sequence seq_tag (trees_of items.now))) }
@@ -51,6 +53,7 @@ fn are_sorted(items: &[Tree<'_>]) -> bool
     true
 }
 
+/// Whether the keys are scalars, in strict order, and each value is sorted.
 #[cycle(sorted)]
 fn has_sorted_keys(entries: &[(Tree<'_>, Tree<'_>)]) -> bool
     ensures { OnTrue result (IsArranged (mapping map_tag (pairs_of entries.now))) }
@@ -63,6 +66,7 @@ fn has_sorted_keys(entries: &[(Tree<'_>, Tree<'_>)]) -> bool
     true
 }
 
+/// Whether a tree is a scalar.
 fn is_scalar(tree: &Tree<'_>) -> bool
     ensures { OnTrue result (IsArranged (tree_of tree.now)) }
 {
