@@ -3,9 +3,10 @@ use Rattle.std.proofs.Common.{◌≡◌, Bool, true, false, ◌&&◌, inl, inr, 
 use lib.Pointwise.{bytes_decides}
 use Rattle.std.specs.Prelude.{bytes_eq}
 use Rattle.yaml_text.specs.Tree.{Tree, Trees, Pairs, scalar, sequence, mapping, end, item, done, entry}
+use Rattle.yaml_text.specs.Order.{arranged, arranged_trees, arranged_pairs}
 use Rattle.yaml_text.specs.Same.{same, same_trees, each_in, one_is, all_pairs, any_pair}
 use Rattle.yaml_text.specs.Spell.{short}
-use Rattle.yaml_text.proofs.Members.{In, Some_In, and_both, both_and, or_either, or_left, or_right, any_in, in_any, all_in, in_all}
+use Rattle.yaml_text.proofs.Members.{In, Some_In, and_both, both_and, or_either, or_left, or_right, any_in, in_any, all_in, in_all, in_enter, enter_in}
 use Rattle.yaml_text.proofs.SameLaws.{same_from}
 
 pub same_refl : (t : Tree) → same t t ≡ true
@@ -185,3 +186,46 @@ short_like (sequence a (item t ts)) (sequence b end) h = let f : false ≡ true 
 short_like (mapping a done) (mapping b (entry j w qs)) h = let f : false ≡ true = (and_both (bytes_eq a b) false h).1 in absurd (cc)
 short_like (mapping a (entry k v ps)) (mapping b done) h = let f : false ≡ true = (and_both (bytes_eq a b) false h).1 in absurd (cc)
 short_like t u h = absurd (cc)
+
+-- ---- a tree is the same as itself with the pairs of each mapping in order
+
+mutual
+  unfolding same arranged
+
+  pub same_arranged : (t : Tree) → same t (arranged t) ≡ true
+  same_arranged (scalar a x) = same_refl (scalar a x)
+  same_arranged (sequence a ts) = both_and (bytes_eq a a) (same_trees ts (arranged_trees ts)) ((bytes_decides a a).1 refl) (same_trees_arranged ts)
+  same_arranged (mapping a ps) =
+      both_and (bytes_eq a a) (each_in ps (arranged_pairs ps) && all_pairs (λ j w. one_is ps j w) (arranged_pairs ps)) ((bytes_decides a a).1 refl)
+      (both_and (each_in ps (arranged_pairs ps)) (all_pairs (λ j w. one_is ps j w) (arranged_pairs ps)) (each_arranged ps (arranged_pairs ps) (λ x y i. i))
+      (in_all (λ j w. one_is ps j w) (arranged_pairs ps) (λ x y i. one_arranged ps x y i)))
+
+  same_trees_arranged : (ts : Trees) → same_trees ts (arranged_trees ts) ≡ true
+  same_trees_arranged end = refl
+  same_trees_arranged (item t ts) = both_and (same t (arranged t)) (same_trees ts (arranged_trees ts)) (same_arranged t) (same_trees_arranged ts)
+
+  each_arranged : (ps qs : Pairs) → ((x y : Tree) → In x y (arranged_pairs ps) → In x y qs) → each_in ps qs ≡ true
+  each_arranged done qs h = refl
+  each_arranged (entry k v ps) qs h =
+      let i = h (arranged k) (arranged v) (enter_in (arranged k) (arranged v) (arranged k) (arranged v) (arranged_pairs ps) (inl (refl, refl))) in
+      both_and (any_pair (λ j w. same k j && same v w) qs) (each_in ps qs)
+      (in_any (λ j w. same k j && same v w) (arranged k) (arranged v) qs i (both_and (same k (arranged k)) (same v (arranged v)) (same_arranged k) (same_arranged v)))
+      (each_arranged ps qs (λ x y m. h x y (enter_in (arranged k) (arranged v) x y (arranged_pairs ps) (inr m))))
+
+  one_arranged : (ps : Pairs) (x y : Tree) → In x y (arranged_pairs ps) → one_is ps x y ≡ true
+  one_arranged done x y i = absurd i
+  one_arranged (entry k v ps) x y i =
+      let first : same k (arranged k) ≡ true = same_arranged k in
+      let second : same v (arranged v) ≡ true = same_arranged v in
+      let rest : In x y (arranged_pairs ps) → one_is ps x y ≡ true = λ m. one_arranged ps x y m in
+      elim (in_enter (arranged k) (arranged v) x y (arranged_pairs ps) i) [
+        | inl e ↦ or_left (same k x && same v y) (one_is ps x y) (both_and (same k x) (same v y) (ap (same k) e.0 ∙ first) (ap (same v) e.1 ∙ second))
+        | inr m ↦ or_right (same k x && same v y) (one_is ps x y) (rest m)
+      ]
+
+-- so whether two trees are the same is seen in either form
+pub same_when_arranged : (t u : Tree) → same (arranged t) (arranged u) ≡ same t u
+same_when_arranged t u = sym (same_like t (arranged t) (arranged u) (same_arranged t)) ∙ turned
+  where
+    turned : same t (arranged u) ≡ same t u
+    turned = bool_same (same t (arranged u)) (same t u) (λ h. same_trans t (arranged u) u h (same_sym u (arranged u) (same_arranged u))) (λ h. same_trans t u (arranged u) h (same_arranged u))

@@ -7,10 +7,8 @@ use Rattle.yaml_text.proofs.Neat.{Neat, arranged_neat}
 use Rattle.yaml_canon.specs.TreeModel.{trees}
 use Rattle.yaml_canon.specs.Identical.{identical, identical_trees}
 use Rattle.yaml_canon.specs.Arranged.{IsArranged, AllArranged}
+use Rattle.yaml_canon.proofs.Ascending.{neat_from}
 use Rattle.yaml_canon.proofs.Anchors.{same_identical}
-
-pub neat_from : (t : Tree) → IsArranged t → Neat t
-neat_from t h = subst Neat h.fixed (arranged_neat t h.keyed)
 
 pub forests_same : (f g : List Tree) → AllArranged f → AllArranged g → identical_trees (trees f) (trees g) ≡ pointwise same f g
 unfolding identical

@@ -43,3 +43,4 @@ pub mod SpelledKeys
 pub mod CompareAnswers
 pub mod Equivalence
 pub mod Meetings
+pub mod Ascending

@@ -19,6 +19,10 @@ use Rattle.yaml_canon.specs.Anchored.{has, alias_at, anchor_at, enrolled, separa
 use Rattle.yaml_canon.specs.Writes.{Writes}
 use Rattle.yaml_canon.proofs.Writing.{Leaves, leaves_last, writes_then, writes_text}
 
+-- an anchor that was written for one of two references to a tree
+pub anchored_as : (r w : List plain.Tree) (x y : Tree) (old new : List ℕ) → x ≡ y → Writes old new (anchor_text (anchor_at r (tree_of x) w)) → Writes old new (anchor_text (anchor_at r (tree_of y) w))
+anchored_as r w x y old new e h = subst (λ z. Writes old new (anchor_text (anchor_at r (tree_of z) w))) e h
+
 pub alias_marked : (r : List plain.Tree) (t : plain.Tree) (w : List plain.Tree) (i : ℕ) → has w t ≡ true → i ≡ position_or_len (same t) w → marked r t w ≡ alias (name_of (suc i))
 unfolding marked
 alias_marked r (scalar a x) w i h e = rw (h, e) refl

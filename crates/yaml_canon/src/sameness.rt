@@ -10,8 +10,8 @@ use crate::tree::Tree;
 use std::alloc::Global;
 use yaml_text::fault::Fault;
 
-/// Whether two trees are the same: their mappings are sets of pairs, whatever keys they have.
-/// Two nodes are compared once at most for each way to stand inside two others.
+/// Whether two trees are the same: their mappings are sets of pairs, whatever keys they have. Of
+/// the nodes inside, any two at one depth are compared once at most.
 #[cycle(same)]
 #[tactic(auto, unfolding(yaml_text::specs::Same::same, yaml_text::specs::Tag::core_tag))]
 pub(crate) fn same_tree(alloc: Global, left: &Tree<'_>, right: &Tree<'_>) -> Result<bool, Fault>
@@ -26,6 +26,7 @@ pub(crate) fn same_tree(alloc: Global, left: &Tree<'_>, right: &Tree<'_>) -> Res
     }
 }
 
+/// Whether there are equally many items, pairwise the same.
 #[cycle(same)]
 #[tactic(auto, unfolding(yaml_text::specs::Same::same))]
 fn same_items(alloc: Global, left: &[Tree<'_>], right: &[Tree<'_>]) -> Result<bool, Fault>

@@ -91,17 +91,17 @@ fn push_separator(place: usize, out: &mut String) -> Result<(), Fault>
 /// The anchor of a node that is written out, if a later one repeats it.
 fn push_anchor<'t, 'a>(
     alloc: Global,
-    tree: &'t Tree<'a>,
+    node: Node<'t, 'a>,
     repeated: &[Node<'t, 'a>],
     anchored: &mut Vec<Node<'t, 'a>>,
     out: &mut String,
 ) -> Result<(), Fault>
-    ensures ok { OnOk result (Writes (string_bytes out.old) (string_bytes out.new) (anchor_text (anchor_at (nodes_of repeated.now) (tree_of tree.now) (nodes_of anchored.old.items)))) }
-    ensures enrolled { OnOk result (nodes_of anchored.new.items ≡ enrolled (nodes_of repeated.now) (tree_of tree.now) (nodes_of anchored.old.items)) }
+    ensures ok { OnOk result (Writes (string_bytes out.old) (string_bytes out.new) (anchor_text (anchor_at (nodes_of repeated.now) (tree_of node.entry.tree.now) (nodes_of anchored.old.items)))) }
+    ensures enrolled { OnOk result (nodes_of anchored.new.items ≡ enrolled (nodes_of repeated.now) (tree_of node.entry.tree.now) (nodes_of anchored.old.items)) }
     ensures only { IfErr result (λ fault. fault ≡ Fault.OutOfMemory) }
 {
-    if find(alloc, tree, repeated)?.is_some() {
-        anchored.push(Node { tree })?;
+    if find(alloc, node, repeated)?.is_some() {
+        anchored.push(node)?;
         out.push('&')?;
         push_name(anchored.len(), out)?;
         out.push(' ')?;
@@ -123,11 +123,12 @@ fn spell_node<'t, 'a>(
     ensures noted { OnOk result (nodes_of anchored.new.items ≡ noted (nodes_of repeated.now) (tree_of tree.now) (nodes_of anchored.old.items)) }
     ensures only { IfErr result (λ fault. fault ≡ Fault.OutOfMemory) }
 {
-    let written = find(alloc, tree, anchored)?;
+    let node = Node::new(tree);
+    let written = find(alloc, node, anchored)?;
     if let Some(place) = written {
         return push_alias(place, out);
     }
-    push_anchor(alloc, tree, repeated, anchored, out)?;
+    push_anchor(alloc, node, repeated, anchored, out)?;
     match tree {
         Tree::Scalar(text) => spell_into(text, out),
         Tree::Sequence(items) => spell_items(alloc, items, repeated, anchored, out),

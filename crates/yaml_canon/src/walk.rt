@@ -37,23 +37,23 @@ fn is_short(tree: &Tree<'_>) -> bool
 }
 
 /// Whether a node repeats one of `seen`, and is not short.
-fn is_again<'a>(alloc: Global, tree: &Tree<'a>, seen: &[Node<'_, 'a>]) -> Result<bool, Fault>
-    ensures again { IfOk result (λ again. again ≡ repeats_one (tree_of tree.now) (nodes_of seen.now)) }
+fn is_again<'a>(alloc: Global, node: Node<'_, 'a>, seen: &[Node<'_, 'a>]) -> Result<bool, Fault>
+    ensures again { IfOk result (λ again. again ≡ repeats_one (tree_of node.entry.tree.now) (nodes_of seen.now)) }
     ensures only { IfErr result (λ fault. fault ≡ Fault.OutOfMemory) }
 {
-    if is_short(tree) {
+    if is_short(node.tree) {
         return Ok(false);
     }
-    Ok(find(alloc, tree, seen)?.is_some())
+    Ok(find(alloc, node, seen)?.is_some())
 }
 
 /// Puts a node that is not short at the end of `seen`.
-fn notice<'t, 'a>(tree: &'t Tree<'a>, seen: &mut Vec<Node<'t, 'a>>) -> Result<(), Fault>
-    ensures seen { OnOk result (nodes_of seen.new.items ≡ noticed (tree_of tree.now) (nodes_of seen.old.items)) }
+fn notice<'t, 'a>(node: Node<'t, 'a>, seen: &mut Vec<Node<'t, 'a>>) -> Result<(), Fault>
+    ensures seen { OnOk result (nodes_of seen.new.items ≡ noticed (tree_of node.entry.tree.now) (nodes_of seen.old.items)) }
     ensures only { IfErr result (λ fault. fault ≡ Fault.OutOfMemory) }
 {
-    if !is_short(tree) {
-        seen.push(Node { tree })?;
+    if !is_short(node.tree) {
+        seen.push(node)?;
     }
     Ok(())
 }
@@ -71,12 +71,13 @@ pub(crate) fn visit<'t, 'a>(
     ensures repeated { OnOk result (nodes_of repeated.new.items ≡ nodes_of repeated.old.items ++ repeats (tree_of tree.now) (nodes_of seen.old.items)) }
     ensures only { IfErr result (λ fault. fault ≡ Fault.OutOfMemory) }
 {
-    let again = is_again(alloc, tree, seen)?;
+    let node = Node::new(tree);
+    let again = is_again(alloc, node, seen)?;
     if again {
-        repeated.push(Node { tree })?;
+        repeated.push(node)?;
         return Ok(());
     }
-    notice(tree, seen)?;
+    notice(node, seen)?;
     match tree {
         Tree::Scalar(_) => Ok(()),
         Tree::Sequence(items) => visit_items(alloc, items, seen, repeated),

@@ -383,6 +383,63 @@ fn keys_are_not_compared_by_meaning_yet(rt: HostRuntime) -> Result<(), Fail> {
     is_refused(&rt, "given again", text.as_bytes(), message)
 }
 
+/// Mappings are sets of pairs, also where two of their keys are the same.
+#[test]
+fn mappings_with_the_same_keys_are_sets(rt: HostRuntime) -> Result<(), Fail> {
+    for (input, text) in [
+        (
+            "--- [{&k \"a\" : \"1\", *k : \"2\"}, {\"a\" : \"2\", *k : \"1\"}]",
+            "--- [&a1 {\"a\" : \"1\", \"a\" : \"2\"}, *a1]\n",
+        ),
+        (
+            "--- [{&k \"a\" : \"1\", *k : \"1\"}, {\"a\" : \"1\"}]",
+            "--- [&a1 {\"a\" : \"1\", \"a\" : \"1\"}, *a1]\n",
+        ),
+        (
+            "--- [{&k \"a\" : \"1\", *k : \"2\"}, {\"a\" : \"2\", *k : \"2\"}]",
+            "--- [{\"a\" : \"1\", \"a\" : \"2\"}, {\"a\" : \"2\", \"a\" : \"2\"}]\n",
+        ),
+    ] {
+        match answer(rt.alloc(), input.as_bytes())? {
+            Ok(got) => assert_eq!(rt; got.as_str(), text),
+            Err(message) => assert_eq!(rt; message.as_str(), ""),
+        }
+    }
+    Ok(())
+}
+
+/// Mappings inside mappings, each of two pairs with the same key, the deeper one first or last.
+fn set_of_pairs(alloc: Global, depth: usize, first: bool) -> Result<String, Fail> {
+    let (open, close) = if first {
+        ("{\"a\" : ", ", *k : \"x\"}")
+    } else {
+        ("{\"a\" : \"x\", *k : ", "}")
+    };
+    let mut text = String::new(alloc);
+    for _ in 0..depth {
+        text.push_str(open)?;
+    }
+    text.push_str("[]")?;
+    for _ in 0..depth {
+        text.push_str(close)?;
+    }
+    Ok(text)
+}
+
+/// No two nodes are compared twice, so that the work does not double at each level.
+#[test]
+fn sets_in_sets_are_compared_once(rt: HostRuntime) -> Result<(), Fail> {
+    let alloc = rt.alloc();
+    let deep = set_of_pairs(alloc, 100, true)?;
+    let turned = set_of_pairs(alloc, 100, false)?;
+    let input = format!(in alloc; "--- [&k \"a\", {deep}, {turned}]")?;
+    match answer(alloc, input.as_bytes())? {
+        Ok(text) => assert!(rt; text.as_str().ends_with(", *a1]\n")),
+        Err(message) => assert_eq!(rt; message.as_str(), ""),
+    }
+    Ok(())
+}
+
 /// `[`, as many copies of an item, and `]`.
 fn copies(alloc: Global, item: &str, width: usize) -> Result<String, Fail> {
     let mut text = "[".to_string(alloc)?;

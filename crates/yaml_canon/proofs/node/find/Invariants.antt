@@ -5,4 +5,4 @@ use Rattle.yaml_canon.proofs.Found.{test}
 use Rattle.yaml_canon.proofs.node.find.Given as goal
 
 abbrev pub invariant-loop-i : goal.invariant-loop-i
-invariant-loop-i l = position_or_len (test (tree_of l.tree)) l.list ≡ l.i + position_or_len (test (tree_of l.tree)) (drop l.i l.list)
+invariant-loop-i l = position_or_len (test (tree_of l.node.tree.now)) l.list ≡ l.i + position_or_len (test (tree_of l.node.tree.now)) (drop l.i l.list)
