@@ -10,9 +10,11 @@ use Rattle.yaml_text.specs.Marked.{Document, stream_events}
 use Rattle.yaml_text.specs.Core.{undefined_alias, cyclic_alias}
 use Rattle.yaml_text.specs.Unfold.{trees_of}
 use Rattle.yaml_text.specs.grammar.Reading.{Reads}
-use Rattle.yaml_text.specs.Text.{RefusesText}
+use Rattle.yaml_text.specs.Event.{Event}
+use Rattle.yaml_text.specs.Text.{Text, RefusesText}
 use Rattle.yaml_text.specs.declared.fault.Fault.{Fault}
 use Rattle.yaml_text.specs.declared.fault.Fault.TheVariants.{TooLong, NotUtf8, NotPrintable, Syntax, Tab, TooDeep, BadEscape, UndefinedAlias, CyclicAlias, TooHigh, EqualKeys, TextTooLong, OutOfMemory, UnfoldsTooFar}
+use Rattle.yaml_canon.specs.FlowPath.{ReadsFlow}
 use Rattle.yaml_canon.specs.PlainTrees.{Spoken}
 use Rattle.yaml_canon.specs.SourceKeys.{NoEqualKeys, IsFirstEqual}
 
@@ -102,16 +104,22 @@ pub record HasEqualKeys (bytes : List ℕ) (node first second : ℕ) : Type 0 wh
   pub few : AllFew trees
   pub is : IsFirstEqual documents node first second
 
--- What a refusal by reading and of the trees says of the bytes. Of the four faults of syntax nothing is claimed here but
--- that no canonical text meets them.
+-- the bytes are a text, but none of the streams that are read today
+pub record IsUnread (bytes : List ℕ) : Type 0 where
+  pub chars : List ℕ
+  pub text : Text bytes chars
+  pub unread : (es : List Event) → ReadsFlow chars es → ⊥
+
+-- What a refusal by reading and of the trees says of the bytes. Which of the four faults of syntax is told, and where, is not
+-- claimed.
 abbrev pub RefusedInReading : List ℕ → Fault → Type 0
 RefusedInReading bytes TooLong = RefusesText bytes TooLong
 RefusedInReading bytes (NotUtf8 at) = RefusesText bytes (NotUtf8 at)
 RefusedInReading bytes (NotPrintable at) = RefusesText bytes (NotPrintable at)
-RefusedInReading bytes (Syntax at) = Unit {0}
-RefusedInReading bytes (Tab at) = Unit {0}
-RefusedInReading bytes (TooDeep at) = Unit {0}
-RefusedInReading bytes (BadEscape at) = Unit {0}
+RefusedInReading bytes (Syntax at) = IsUnread bytes
+RefusedInReading bytes (Tab at) = IsUnread bytes
+RefusedInReading bytes (TooDeep at) = IsUnread bytes
+RefusedInReading bytes (BadEscape at) = IsUnread bytes
 RefusedInReading bytes (UndefinedAlias event) = (ds : List Document) × IsRead bytes ds × (trees_of ds ≡ Err (undefined_alias, event))
 RefusedInReading bytes (CyclicAlias event) = (ds : List Document) × IsRead bytes ds × (trees_of ds ≡ Err (cyclic_alias, event))
 RefusedInReading bytes (TooHigh number) = (f : List Tree) × Means bytes f × IsFirstHigh number f
