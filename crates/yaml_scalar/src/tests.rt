@@ -21,7 +21,7 @@ struct Row {
     end: usize,
 }
 
-const PLAIN: [Row; 19] = [
+const PLAIN: [Row; 21] = [
     Row {
         text: "a b #c",
         n: 0,
@@ -155,9 +155,23 @@ const PLAIN: [Row; 19] = [
         content: "?é:\u{2028}x",
         end: 8,
     },
+    Row {
+        text: "a\rb",
+        n: 0,
+        context: Ctx::FlowOut,
+        content: "a b",
+        end: 3,
+    },
+    Row {
+        text: "a\u{85}b",
+        n: 0,
+        context: Ctx::FlowOut,
+        content: "a\u{85}b",
+        end: 4,
+    },
 ];
 
-const SINGLE: [Row; 8] = [
+const SINGLE: [Row; 10] = [
     Row {
         text: "'a b' c",
         n: 1,
@@ -213,6 +227,20 @@ const SINGLE: [Row; 8] = [
         context: Ctx::BlockOut,
         content: "a b",
         end: 7,
+    },
+    Row {
+        text: "'a\r\r\nb'",
+        n: 0,
+        context: Ctx::FlowOut,
+        content: "a\nb",
+        end: 7,
+    },
+    Row {
+        text: "'''a\u{85}'''",
+        n: 0,
+        context: Ctx::FlowOut,
+        content: "'a\u{85}'",
+        end: 9,
     },
 ];
 
@@ -431,12 +459,15 @@ const NO_SINGLE: [(&str, Fault); 7] = [
     ("'a\n\n \n", Fault::Syntax(6)),
 ];
 
-const NO_DOUBLE: [(&str, Fault); 13] = [
+const NO_DOUBLE: [(&str, Fault); 16] = [
     ("\"abc", Fault::Syntax(4)),
     ("\"\\ud800\"", Fault::BadEscape(1)),
     ("\"\\q\"", Fault::BadEscape(1)),
     ("\"\\x4g\"", Fault::BadEscape(1)),
     ("\"\\U00110000\"", Fault::BadEscape(1)),
+    ("\"\\UFFFFFFFF\"", Fault::BadEscape(1)),
+    ("\"\\uDFFF\"", Fault::BadEscape(1)),
+    ("\"\\U0000d800\"", Fault::BadEscape(1)),
     ("\"a\\", Fault::BadEscape(2)),
     ("\"\\u12", Fault::BadEscape(1)),
     ("\"\\\n \\\n b\"", Fault::Syntax(5)),
