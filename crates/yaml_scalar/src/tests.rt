@@ -459,15 +459,11 @@ const NO_SINGLE: [(&str, Fault); 7] = [
     ("'a\n\n \n", Fault::Syntax(6)),
 ];
 
-const NO_DOUBLE: [(&str, Fault); 16] = [
+const NO_DOUBLE: [(&str, Fault); 12] = [
     ("\"abc", Fault::Syntax(4)),
     ("\"\\ud800\"", Fault::BadEscape(1)),
     ("\"\\q\"", Fault::BadEscape(1)),
     ("\"\\x4g\"", Fault::BadEscape(1)),
-    ("\"\\U00110000\"", Fault::BadEscape(1)),
-    ("\"\\UFFFFFFFF\"", Fault::BadEscape(1)),
-    ("\"\\uDFFF\"", Fault::BadEscape(1)),
-    ("\"\\U0000d800\"", Fault::BadEscape(1)),
     ("\"a\\", Fault::BadEscape(2)),
     ("\"\\u12", Fault::BadEscape(1)),
     ("\"\\\n \\\n b\"", Fault::Syntax(5)),
@@ -476,6 +472,14 @@ const NO_DOUBLE: [(&str, Fault); 16] = [
     ("\"a\\\n\tb\"", Fault::Tab(4)),
     ("\"a\n--- b\"", Fault::Syntax(3)),
     ("\u{FEFF}\"\\q\"", Fault::BadEscape(4)),
+];
+
+/// Escapes of surrogates and of numbers past the last character.
+const NO_CHARACTER: [(&str, Fault); 4] = [
+    ("\"\\U00110000\"", Fault::BadEscape(1)),
+    ("\"\\UFFFFFFFF\"", Fault::BadEscape(1)),
+    ("\"\\uDFFF\"", Fault::BadEscape(1)),
+    ("\"\\U0000d800\"", Fault::BadEscape(1)),
 ];
 
 /// An answer is this fault.
@@ -517,6 +521,20 @@ fn single_quoted_scalars_are_refused_where_they_break_off(rt: HostRuntime) -> Re
 #[test]
 fn double_quoted_scalars_are_refused_where_they_break_off(rt: HostRuntime) -> Result<(), Fault> {
     for (text, fault) in NO_DOUBLE {
+        let source = Chars::read(text.as_bytes())?;
+        refuses(
+            &rt,
+            text,
+            fault,
+            read_double(rt.alloc(), &source, 0, 1, Ctx::FlowOut),
+        );
+    }
+    Ok(())
+}
+
+#[test]
+fn escapes_of_no_character_are_refused(rt: HostRuntime) -> Result<(), Fault> {
+    for (text, fault) in NO_CHARACTER {
         let source = Chars::read(text.as_bytes())?;
         refuses(
             &rt,
