@@ -25,8 +25,9 @@ use yaml_text::fault::Fault;
 /// of a mapping that are written alike (19), a text that would be too long (20), and want of
 /// memory (21).
 ///
-/// Keys are compared by their source text, not by meaning: of a mapping in which two keys are the
-/// same, but written differently, some text is given, and nothing is promised of it.
+/// Keys are compared by their source text, not by meaning: where two keys of a mapping are the
+/// same, but written differently, the text is the spelling of what the bytes mean, and it may be
+/// refused when it is given in turn.
 pub fn canonical(alloc: Global, bytes: &[u8]) -> Result<String, Fault>
     ensures text { IfOk result (λ text. IsCanonicalText bytes.now (string_bytes text)) }
     ensures refused { IfErr result (CanonicalRefuses bytes.now) }
