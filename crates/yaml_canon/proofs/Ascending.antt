@@ -23,7 +23,7 @@ use Rattle.yaml_canon.proofs.Writing.{drop_next}
 abbrev Entry : Type 0
 Entry = Tree × Tree
 
-pub neat_from : (t : plain.Tree) → IsArranged t → Neat t
+neat_from : (t : plain.Tree) → IsArranged t → Neat t
 neat_from t h = subst Neat h.fixed (arranged_neat t h.keyed)
 
 from_neat : (t : plain.Tree) → Neat t → IsArranged t

@@ -1,13 +1,15 @@
 -- Two lists of trees, the first of which is at its end.
-use Rattle.std.proofs.Common.{◌≡◌, ◌-◌, ◌≤◌, ℕ, nat_eq, List, [], ◌∷◌, length, drop, sym, ◌∙◌, ap, arith}
+use Rattle.std.proofs.Common.{◌≡◌, ◌-◌, ◌≤◌, ℕ, nat_eq, List, [], ◌∷◌, length, drop, map, sym, ◌∙◌, ap, arith}
 use Rattle.std.proofs.Math.ListN.{drop_of_length-le}
 use Rattle.std.proofs.lemmas.List.{length-drop}
 use Rattle.std.proofs.lemmas.Bool.Decides.{nat_tests}
 use Rattle.std.specs.Ordering.{nat_cmp}
+use Rattle.std.specs.Cmp.Lexicographic.{pointwise}
 use Rattle.yaml_text.specs.Order.{trees_cmp, pairs_cmp}
+use Rattle.yaml_text.specs.Same.{same}
 use Rattle.yaml_text.specs.Tree.{end, done}
 use Rattle.yaml_canon.specs.declared.tree.Tree.{Tree}
-use Rattle.yaml_canon.specs.TreeModel.{trees_of, pairs_of}
+use Rattle.yaml_canon.specs.TreeModel.{tree_of, trees_of, pairs_of}
 use Rattle.yaml_canon.specs.Identical.{identical_trees, identical_pairs}
 
 trees_left : (zs : List Tree) (a b : ℕ) → a ≤ b → length zs ≡ b - a → nat_eq a b ≡ identical_trees end (trees_of zs)
@@ -47,3 +49,12 @@ pub pairs_cmp_end : (xs ys : List (Tree × Tree)) (i : ℕ) → length xs ≤ i 
     → pairs_cmp (pairs_of (drop i xs)) (pairs_of (drop i ys)) ≡ pairs_cmp (pairs_of xs) (pairs_of ys) → nat_cmp (length xs) (length ys) ≡ pairs_cmp (pairs_of xs) (pairs_of ys)
 pairs_cmp_end xs ys i h k m e =
     pairs_shorter (drop i ys) (length xs) (length ys) (omega arith) (omega (arith, length-drop i ys)) ∙ ap (λ l. pairs_cmp (pairs_of l) (pairs_of (drop i ys))) (sym (drop_of_length-le xs h)) ∙ e
+
+forests_left : (zs : List Tree) (a b : ℕ) → a ≤ b → length zs ≡ b - a → nat_eq a b ≡ pointwise same [] (map tree_of zs)
+forests_left [] a b h e = grind (arith, nat_tests)
+forests_left (z ∷ zs) a b h e = grind (arith, nat_tests)
+
+pub forests_end : (xs ys : List Tree) (i : ℕ) → length xs ≤ i → i ≤ length xs → i ≤ length ys
+    → pointwise same (map tree_of (drop i xs)) (map tree_of (drop i ys)) ≡ pointwise same (map tree_of xs) (map tree_of ys) → nat_eq (length xs) (length ys) ≡ pointwise same (map tree_of xs) (map tree_of ys)
+forests_end xs ys i h k m e =
+    forests_left (drop i ys) (length xs) (length ys) (omega arith) (omega (arith, length-drop i ys)) ∙ ap (λ l. pointwise same (map tree_of l) (map tree_of (drop i ys))) (sym (drop_of_length-le xs h)) ∙ e

@@ -1,10 +1,10 @@
 -- From what was read to what is promised.
-use Rattle.std.proofs.Common.{◌≡◌, ℕ, ◌<◌, ◌≤◌, Bool, true, false, ◌&&◌, inl, List, [], ◌∷◌, ◌++◌, length, map, Ok, Err, arith, refl, sym, ◌∙◌, ap, subst, encode_utf8_all}
+use Rattle.std.proofs.Common.{◌≡◌, ℕ, ◌<◌, ◌≤◌, Bool, ◌&&◌, inl, List, [], ◌∷◌, ◌++◌, length, map, Ok, Err, arith, refl, sym, ◌∙◌, ap, subst, encode_utf8_all}
 use Rattle.std.specs.Cmp.Lexicographic.{pointwise}
 use Rattle.yaml_text.specs.Limits.{text_limit, height_limit, nodes_limit}
 use Rattle.yaml_text.specs.Event.{Event}
 use Rattle.yaml_text.specs.Tree.{Tree, nodes}
-use Rattle.yaml_text.specs.Same.{same, Keyed}
+use Rattle.yaml_text.specs.Same.{same}
 use Rattle.yaml_text.specs.Order.{arranged}
 use Rattle.yaml_text.specs.NodeText.{text}
 use Rattle.yaml_text.specs.Spell.{marks_of_arranged, marks_of, spell, spell_bytes, spelled, document_of}
@@ -24,12 +24,10 @@ use Rattle.yaml_text.proofs.Law.{texts_tell, spelled_stands}
 use Rattle.yaml_text.proofs.MeansLaws.{height_arranged, nodes_arranged}
 use Rattle.yaml_text.proofs.Neat.{neat_fixed, neat_keyed, arranged_neat}
 use Rattle.yaml_text.proofs.FlatLaws.{stream_once}
-use Rattle.yaml_text.proofs.SameLaws.{same_from, same_to}
 use Rattle.yaml_text.proofs.SoundLaws.{read_is_proper}
 use Rattle.yaml_text.proofs.PrintLaws.{spelled_text}
 use Rattle.yaml_text.proofs.grammar.Documents.{readings_are_documents}
 use Rattle.yaml_text.proofs.grammar.OneText.{one-text}
-use Rattle.yaml_canon.specs.Arranged.{AllArranged}
 use Rattle.yaml_canon.specs.Claims.{AllOf, AllLow, AllFew, AllKeyed, IsCanonicalText, Compares, IsFirstOf, IsRead, Accepted, RefusedInReading, CanonicalRefuses}
 use Rattle.yaml_canon.specs.Composable.{Composable}
 use Rattle.yaml_canon.specs.Forest.{Stands, AreFew, IsForest, RefusesNodes, RefusesSize, RefusesKeys}
@@ -40,6 +38,7 @@ use Rattle.yaml_canon.specs.Refusal.{RefusesSpelling, IsUnspelled}
 use Rattle.yaml_canon.specs.FlowPath.{ReadsFlow}
 use Rattle.yaml_canon.specs.FlowDocument.{FlowDocument}
 use Rattle.yaml_canon.proofs.PlainLaws.{plain_untagged, found_plain}
+use Rattle.yaml_canon.proofs.Equivalence.{same_when_arranged}
 use Rattle.yaml_canon.proofs.FlowSpelled.{flow_spelled}
 use Rattle.yaml_canon.proofs.SpelledKeys.{spelled_no_equal}
 
@@ -48,12 +47,6 @@ use Rattle.yaml_canon.proofs.SpelledKeys.{spelled_no_equal}
 pub admitted_all : (f : List Tree) → AllProper f → AllKeyed f → AllLow f → AreAdmitted f
 admitted_all [] p k l = tt
 admitted_all (t ∷ f) p k l = (record { proper = p.0; keyed = k.0; low = l.0 }, admitted_all f p.1 k.1 l.1)
-
-pub arranged_all : (f : List Tree) → AllKeyed f → AllArranged (map arranged f)
-arranged_all [] k = tt
-arranged_all (t ∷ f) k =
-    let n = arranged_neat t k.0 in
-    (record { keyed = neat_keyed (arranged t) n; fixed = neat_fixed (arranged t) n }, arranged_all f k.1)
 
 arranged_keyed : (f : List Tree) → AreAdmitted f → AllKeyed (map arranged f)
 arranged_keyed [] a = tt
@@ -253,31 +246,18 @@ composable bytes events d = record { documents = document_of d.root ∷ []; cut 
 
 -- ---- two streams
 
-both_ways : (a b : Bool) → (a ≡ true → b ≡ true) → (b ≡ true → a ≡ true) → a ≡ b
-both_ways true true f g = refl
-both_ways true false f g = sym (f refl)
-both_ways false true f g = g refl
-both_ways false false f g = refl
-
-arranged_same : (t u : Tree) → Keyed t → Keyed u → same (arranged t) (arranged u) ≡ same t u
-arranged_same t u k l =
-    let n = arranged_neat t k in
-    let m = arranged_neat u l in
-    both_ways (same (arranged t) (arranged u)) (same t u)
-    (λ e. same_from t u (sym (neat_fixed (arranged t) n) ∙ same_to (arranged t) (arranged u) (neat_keyed (arranged t) n) (neat_keyed (arranged u) m) e ∙ neat_fixed (arranged u) m))
-    (λ e. same_from (arranged t) (arranged u) (ap arranged (same_to t u k l e)))
-
-arranged_alike : (f g : List Tree) → AllKeyed f → AllKeyed g → pointwise same (map arranged f) (map arranged g) ≡ pointwise same f g
-arranged_alike [] [] k l = refl
-arranged_alike [] (u ∷ g) k l = refl
-arranged_alike (t ∷ f) [] k l = refl
-arranged_alike (t ∷ f) (u ∷ g) k l = let p = arranged_same t u k.0 l.0 in let q = arranged_alike f g k.1 l.1 in λ z. p z && q z
+-- forests are the same where they are the same arranged
+arranged_alike : (f g : List Tree) → pointwise same (map arranged f) (map arranged g) ≡ pointwise same f g
+arranged_alike [] [] = refl
+arranged_alike [] (u ∷ g) = refl
+arranged_alike (t ∷ f) [] = refl
+arranged_alike (t ∷ f) (u ∷ g) = let p = same_when_arranged t u in let q = arranged_alike f g in λ z. p z && q z
 
 pub left_read : (bytes : List ℕ) (es : List Event) (d : FlowDocument bytes es) (n : Nodes) → Stands (documents bytes es d) n → (g : List Tree) × Means bytes g × AllLow g
 left_read bytes es d n h = (h.trees, found_means bytes es d h.trees h.unfolded, h.low)
 
 pub compared : (left : List ℕ) (es : List Event) (d : FlowDocument left es) (right : List ℕ) (fs : List Event) (k : FlowDocument right fs) (answer : Bool) (f g : List Tree)
-    → Judged (documents left es d) f → Judged (documents right fs k) g → (AllArranged f → AllArranged g → answer ≡ pointwise same f g) → Compares left right answer
+    → Judged (documents left es d) f → Judged (documents right fs k) g → answer ≡ pointwise same f g → Compares left right answer
 compared left es d right fs k answer f g h i e = record {
   first = h.trees;
   second = i.trees;
@@ -285,9 +265,9 @@ compared left es d right fs k answer f g h i e = record {
   second_means = found_means right fs k i.trees i.unfolded;
   first_accepted = found_accepted left es d f h;
   second_accepted = found_accepted right fs k g i;
-  tells = λ m n. (
+  tells = (
       let p : f ≡ map arranged h.trees = h.is in
       let q : g ≡ map arranged i.trees = i.is in
-      let r : answer ≡ pointwise same h.trees i.trees = e (subst AllArranged (sym p) (arranged_all h.trees m)) (subst AllArranged (sym q) (arranged_all i.trees n)) ∙ (λ z. pointwise same (p z) (q z)) ∙ arranged_alike h.trees i.trees m n in
+      let r : answer ≡ pointwise same h.trees i.trees = e ∙ (λ z. pointwise same (p z) (q z)) ∙ arranged_alike h.trees i.trees in
       (λ a. sym r ∙ a, λ a. r ∙ a));
 }

@@ -26,7 +26,6 @@ pub mod Shortness
 pub mod Anchors
 pub mod Markings
 pub mod Forests
-pub mod Forms
 pub mod CanonicalAnswers
 pub mod PartLemmas
 pub mod NodeLemmas

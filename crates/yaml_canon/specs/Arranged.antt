@@ -1,5 +1,5 @@
 -- Trees whose entries stand in strict order of their keys.
-use Rattle.std.specs.Prelude.{◌≡◌, List, [], ◌∷◌}
+use Rattle.std.specs.Prelude.{◌≡◌}
 use Rattle.yaml_text.specs.Tree.{Tree}
 use Rattle.yaml_text.specs.Same.{Keyed}
 use Rattle.yaml_text.specs.Order.{arranged}
@@ -8,7 +8,3 @@ use Rattle.yaml_text.specs.Order.{arranged}
 pub record IsArranged (t : Tree) : Type 0 where
   pub keyed : Keyed t
   pub fixed : arranged t ≡ t
-
-abbrev pub AllArranged : List Tree → Type 0
-AllArranged [] = Unit {0}
-AllArranged (t ∷ f) = IsArranged t × AllArranged f

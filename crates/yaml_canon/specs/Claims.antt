@@ -65,8 +65,7 @@ pub record IsCanonicalText (bytes text : List ℕ) : Type 0 where
   pub fits : length text ≤ text_limit
   pub is : AllKeyed forest → IsTextOf forest text
 
--- The two streams are not refused. Where no mapping has two keys that are the same, the answer is whether they have
--- equally many documents, pairwise the same.
+-- the two streams are not refused, and the answer is whether they have equally many documents, pairwise the same
 pub record Compares (left right : List ℕ) (answer : Bool) : Type 0 where
   pub first : List Tree
   pub second : List Tree
@@ -74,7 +73,7 @@ pub record Compares (left right : List ℕ) (answer : Bool) : Type 0 where
   pub second_means : Means right second
   pub first_accepted : Accepted left first
   pub second_accepted : Accepted right second
-  pub tells : AllKeyed first → AllKeyed second → (answer ≡ true) ↔ Alike first second
+  pub tells : (answer ≡ true) ↔ Alike first second
 
 -- the tree after these is the first one of which this is wrong, and that is fine for those before it
 pub record IsFirstOf (Fine Wrong : Tree → Type 0) (number : ℕ) (f : List Tree) : Type 0 where

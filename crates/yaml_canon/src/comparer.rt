@@ -14,7 +14,7 @@ ghost use Rattle.yaml_canon.specs.SourceKeys.{NoEqualKeys};
 
 use crate::compose::Found;
 use crate::forest::{Nodes, check_sizes, find_equal, low_nodes, refusal, trees};
-use crate::order::same_forests;
+use crate::node::same_forests;
 use crate::reading::read;
 use crate::side::Side;
 use std::alloc::Global;
@@ -80,9 +80,8 @@ fn check_both(
 /// left one. Want of memory after both sides were read is told as the left side's.
 ///
 /// Today a stream is one document of double-quoted scalars, flow sequences, flow mappings, anchors
-/// and aliases on one line, after `---`. Keys are compared by their source text, not by meaning:
-/// where two keys of a mapping are the same, but written differently, nothing is promised of the
-/// answer.
+/// and aliases on one line, after `---`. Two keys of a mapping are refused (19) where they have the
+/// same source text; keys that are the same but written differently pass.
 pub fn same<'a>(alloc: Global, left: &'a [u8], right: &'a [u8]) -> Result<bool, (Side, Fault)>
     ensures answer { IfOk result (λ answer. Compares left.now right.now answer) }
     ensures refused { IfErr result (λ refusal. ComparerRefuses left.now right.now refusal.0 refusal.1) }
@@ -98,5 +97,5 @@ pub fn same<'a>(alloc: Global, left: &'a [u8], right: &'a [u8]) -> Result<bool, 
     check_both(alloc, &first, &first_nodes, &second, &second_nodes)?;
     let first_trees = on(Side::Left, trees(alloc, &first_nodes))?;
     let second_trees = on(Side::Left, trees(alloc, &second_nodes))?;
-    Ok(same_forests(&first_trees, &second_trees))
+    on(Side::Left, same_forests(alloc, &first_trees, &second_trees))
 }

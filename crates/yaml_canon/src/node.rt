@@ -1,7 +1,8 @@
 //! Nodes of a tree, by reference.
-ghost use Rattle.std.specs.Prelude.{◌≡◌, IsTrue, IfOk, IfErr, MatchOption};
+ghost use Rattle.std.specs.Prelude.{◌≡◌, map, IsTrue, IfOk, IfErr, MatchOption};
 ghost use Rattle.std.specs.Bool.{OnTrue};
 ghost use Rattle.std.specs.List.{position};
+ghost use Rattle.std.specs.Cmp.Lexicographic.{pointwise};
 ghost use Rattle.std.specs.declared.cmp.Ordering.TheVariants.{Less};
 ghost use Rattle.yaml_text.specs.Order.{tree_cmp, arranged};
 ghost use Rattle.yaml_text.specs.Same.{same, Keyed};
@@ -107,7 +108,7 @@ impl<'t, 'a> Node<'t, 'a> {
     }
 
     /// Whether two nodes are the same.
-    fn is_same(self, alloc: Global, other: Self) -> Result<bool, Fault>
+    fn is_same(self, alloc: Global, other: Node<'_, '_>) -> Result<bool, Fault>
         ensures ok { IfOk result (λ answer. answer ≡ same (tree_of self.entry.tree.now) (tree_of other.entry.tree.now)) }
         ensures err { IfErr result (λ fault. fault ≡ Fault.OutOfMemory) }
     {
@@ -133,4 +134,24 @@ pub(crate) fn find<'a>(
         }
     }
     Ok(None)
+}
+
+/// Whether two forests have equally many trees, pairwise the same.
+pub(crate) fn same_forests(
+    alloc: Global,
+    left: &[Tree<'_>],
+    right: &[Tree<'_>],
+) -> Result<bool, Fault>
+    ensures ok { IfOk result (λ answer. answer ≡ pointwise same (map tree_of left.now) (map tree_of right.now)) }
+    ensures err { IfErr result (λ fault. fault ≡ Fault.OutOfMemory) }
+{
+    for (i, tree) in left.iter().enumerate() {
+        let Some(other) = right.get(i) else {
+            return Ok(false);
+        };
+        if !Node::new(tree).is_same(alloc, Node::new(other))? {
+            return Ok(false);
+        }
+    }
+    Ok(left.len() == right.len())
 }

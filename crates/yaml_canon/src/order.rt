@@ -1,11 +1,8 @@
 //! Temporary: the order of unfolded trees; ranks (`yaml_rank`) replace it.
-ghost use Rattle.std.specs.Prelude.{map, ◌≡◌, ◌≤◌};
+ghost use Rattle.std.specs.Prelude.{◌≡◌, ◌≤◌};
 ghost use Rattle.yaml_text.specs.Limits.{height_limit};
 ghost use Rattle.yaml_text.specs.Tree.{height, heights, heights_of_pairs};
 ghost use Rattle.yaml_text.specs.Order.{tree_cmp, inside_cmp, trees_cmp, pairs_cmp};
-ghost use Rattle.std.specs.Cmp.Lexicographic.{pointwise};
-ghost use Rattle.yaml_text.specs.Same.{same};
-ghost use Rattle.yaml_canon.specs.Arranged.{AllArranged};
 ghost use Rattle.yaml_canon.specs.TreeModel.{tree_of, trees_of, pairs_of};
 ghost use Rattle.yaml_canon.specs.Identical.{identical, identical_trees, identical_pairs};
 
@@ -52,13 +49,6 @@ fn equal_entries(left: &[(Tree<'_>, Tree<'_>)], right: &[(Tree<'_>, Tree<'_>)]) 
         }
     }
     left.len() == right.len()
-}
-
-/// Whether two arranged forests are the same, tree by tree.
-pub(crate) fn same_forests(left: &[Tree<'_>], right: &[Tree<'_>]) -> bool
-    ensures { AllArranged (map tree_of left.now) → AllArranged (map tree_of right.now) → result ≡ pointwise same (map tree_of left.now) (map tree_of right.now) }
-{
-    equal_items(left, right)
 }
 
 /// Compares two trees: by height, then kind, then what is inside, a shorter one first.

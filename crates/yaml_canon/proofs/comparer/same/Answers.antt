@@ -1,6 +1,8 @@
 use Rattle.std.proofs.Common.{◌≡◌, List, map, refl, sym, ◌∙◌, ap, subst, Vec, Global, IfOk}
+use Rattle.std.specs.Cmp.Lexicographic.{pointwise}
 use Rattle.yaml_text.specs.Event.{Event}
 use Rattle.yaml_text.specs.EventModel.{event_of}
+use Rattle.yaml_text.specs.Same.{same}
 use Rattle.yaml_text.specs.declared.event.Event as code
 use Rattle.yaml_text.specs.declared.fault.Fault.TheVariants.{OutOfMemory}
 use Rattle.yaml_canon.specs.declared.side.Side.TheVariants.{Left, Right}
@@ -8,6 +10,7 @@ use Rattle.yaml_canon.specs.Comparing.{ComparerRefuses}
 use Rattle.yaml_canon.specs.Forest.{Stands, AreFew, IsForest, RefusesNodes, RefusesSize}
 use Rattle.yaml_canon.specs.FlowDocument.{FlowDocument}
 use Rattle.yaml_canon.specs.TreeModel.{tree_of}
+use Rattle.yaml_canon.proofs.Arranging.{if_ok}
 use Rattle.yaml_canon.proofs.CompareAnswers.{ok_of, err_of, raised, document_read, spelling_found, either_refused, either_unrefused}
 use Rattle.yaml_canon.proofs.FlowClaims.{Judged, judged, documents, composable, compared, left_read, nodes_refused, nodes_unrefused, sizes_refused, sizes_unrefused}
 use Rattle.yaml_canon.proofs.comparer.same.Goals as goal
@@ -141,5 +144,8 @@ returns-clause-answer c =
     (subst (λ r. IfOk r (λ trees. IsForest ds (map tree_of trees.items))) c.in_ok-first_trees.ensures.ok (c.trees.ensures.ok ds s)) in
     let i : Judged es g = judged es c.in_ok-second_nodes.second_nodes g t v (c.in_ok-check_both.ensures.right es (ap (map event_of) c.deref-4.ensures.value ∙ k.events))
     (subst (λ r. IfOk r (λ trees. IsForest es (map tree_of trees.items))) c.in_ok-second_trees.ensures.ok (c.trees-2.ensures.ok es t)) in
-    compared c.args.left.now (events c.in_ok-first.first) d c.args.right.now (events c.in_ok-second.second) k c.same_forests.result (map tree_of c.deref-5.result.now) (map tree_of c.deref-6.result.now)
-    (subst (λ ts. Judged ds (map tree_of ts)) (sym c.deref-5.ensures.value) h) (subst (λ ts. Judged es (map tree_of ts)) (sym c.deref-6.ensures.value) i) c.same_forests.ensures
+    if_ok c.on-9.result
+    (λ answer e. compared c.args.left.now (events c.in_ok-first.first) d c.args.right.now (events c.in_ok-second.second) k answer (map tree_of c.deref-5.result.now) (map tree_of c.deref-6.result.now)
+    (subst (λ ts. Judged ds (map tree_of ts)) (sym c.deref-5.ensures.value) h) (subst (λ ts. Judged es (map tree_of ts)) (sym c.deref-6.ensures.value) i)
+    (subst (λ r. IfOk r (λ told. told ≡ pointwise same (map tree_of c.deref-5.result.now) (map tree_of c.deref-6.result.now))) e c.same_forests.ensures.ok))
+    c.on-9.ensures.ok
