@@ -351,6 +351,39 @@ fn equal_keys_are_refused(rt: HostRuntime) -> Result<(), Fail> {
     check(&rt, &KEYS)
 }
 
+const SET_PAIRS: [Pair; 4] = [
+    Pair {
+        shows: "the same pairs, the same keys in another order",
+        left: b"--- {&k \"a\" : \"1\", *k : \"2\"}",
+        right: b"--- {&k \"a\" : \"2\", *k : \"1\"}",
+        answer: Ok(true),
+    },
+    Pair {
+        shows: "one pair twice",
+        left: b"--- {&k \"a\" : \"1\", *k : \"1\"}",
+        right: b"--- {\"a\" : \"1\"}",
+        answer: Ok(true),
+    },
+    Pair {
+        shows: "one pair more",
+        left: b"--- {\"a\" : \"1\"}",
+        right: b"--- {&k \"a\" : \"1\", *k : \"2\"}",
+        answer: Ok(false),
+    },
+    Pair {
+        shows: "one pair less",
+        left: b"--- {&k \"a\" : \"1\", *k : \"2\"}",
+        right: b"--- {\"a\" : \"1\"}",
+        answer: Ok(false),
+    },
+];
+
+/// Mappings are compared as sets of pairs, also where two of their keys are the same.
+#[test]
+fn set_pairs_are_compared(rt: HostRuntime) -> Result<(), Fail> {
+    compare(&rt, &SET_PAIRS)
+}
+
 const KEY_PAIRS: [Pair; 2] = [
     Pair {
         shows: "equal keys on the right",
