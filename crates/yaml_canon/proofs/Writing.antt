@@ -7,9 +7,9 @@ use Rattle.std.specs.Char.{encode_utf8}
 use Rattle.std.specs.Str.{encode_utf8_all, chars}
 use Rattle.yaml_text.specs.Tree.{Trees, Pairs, item, entry}
 use Rattle.yaml_text.specs.Tree as plain
+use Rattle.yaml_text.specs.CharText.{spell_char}
 use Rattle.yaml_text.specs.NodeText.{quoted, text, items_text, pairs_text}
 use Rattle.yaml_scalar.specs.Spelling.{spelled}
-use Rattle.yaml_scalar.proofs.SpellingLemmas.{quoted_more}
 use Rattle.yaml_canon.specs.declared.tree.Tree.{Tree}
 use Rattle.yaml_canon.specs.TreeModel.{tree_of, trees_of, pairs_of}
 use Rattle.yaml_canon.specs.Anchored.{separator, noted, marked, marked_all, marked_pairs}
@@ -34,6 +34,11 @@ pub writes_text : (old new bytes cs : List ℕ) → new ≡ old ++ bytes → enc
 writes_text old new bytes cs e u = record {
   is = λ more. ap (λ x. x ++ encode_utf8_all more) e ∙ append_assoc old bytes (encode_utf8_all more) ∙ ap (λ x. old ++ (x ++ encode_utf8_all more)) (sym u) ∙ ap (λ x. old ++ x) (sym (encodes-append cs more));
 }
+
+-- what stands after a spelling
+quoted_more : (cs more : List ℕ) → quoted cs more ≡ quoted cs [] ++ more
+quoted_more [] more = refl
+quoted_more (c ∷ cs) more = ap (λ x. spell_char c ++ x) (quoted_more cs more) ∙ sym (append_assoc (spell_char c) (quoted cs []) more)
 
 -- a content's spelling
 pub writes_spelled : (text old new : List ℕ) → new ≡ old ++ spelled text → Writes old new (λ more. 34 ∷ quoted (chars text) more)

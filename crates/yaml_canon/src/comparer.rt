@@ -1,5 +1,5 @@
 //! Whether two streams are the same.
-ghost use Rattle.std.specs.Prelude.{◌≡◌, ◌⊎◌, ℕ, List, true, None, Ok, Err, map, IfOk, IfErr};
+ghost use Rattle.std.specs.Prelude.{◌≡◌, ◌⊎◌, ℕ, List, true, None, Some, nat_lt, Ok, Err, map, IfOk, IfErr};
 ghost use Rattle.std.specs.Result.{IsErrAnd};
 ghost use Rattle.yaml_text.specs.EventModel.{event_of};
 ghost use Rattle.yaml_text.specs.Marked.{Document, stream_events};
@@ -14,6 +14,7 @@ ghost use Rattle.yaml_canon.specs.Claims.{Compares};
 ghost use Rattle.yaml_canon.specs.Comparing.{ComparerRefuses, RefusesEither};
 ghost use Rattle.yaml_canon.specs.Forest.{Stands};
 ghost use Rattle.yaml_canon.specs.SourceKeys.{NoEqualKeys};
+ghost use Rattle.yaml_canon.specs.declared.compose.keys.Found.{Found};
 
 use crate::compose::Found;
 use crate::forest::{Nodes, check_sizes, find_equal, low_nodes, refusal, trees};
@@ -38,7 +39,8 @@ fn on<T>(side: Side, answer: Result<T, Fault>) -> Result<T, (Side, Fault)>
 /// Whether the right side's equal keys are to be told: where there are none on the left, or where
 /// the mapping on the left is higher.
 fn tells_right(left: Option<Found>, right: Found) -> bool
-    ensures { left ≡ None → result ≡ true }
+    ensures none { left ≡ None → result ≡ true }
+    ensures some { (found : Found) → left ≡ Some found → result ≡ nat_lt right.height found.height }
 {
     match left {
         None => true,
