@@ -581,5 +581,11 @@ fn sizes_are_judged_between_reading_and_keys(rt: HostRuntime) -> Result<(), Fail
     is_refused_on(&rt, "both", same(alloc, far, far), Side::Left, message)?;
     is_refused_on(&rt, "right", same(alloc, equal, far), Side::Right, message)?;
     let message = "4 Syntax at byte 5";
-    is_refused_on(&rt, "unread", same(alloc, far, b"--- ["), Side::Right, message)
+    is_refused_on(
+        &rt,
+        "unread",
+        same(alloc, far, b"--- ["),
+        Side::Right,
+        message,
+    )
 }
