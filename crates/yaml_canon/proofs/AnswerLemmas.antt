@@ -1,7 +1,7 @@
 -- What a refusal says, passed on.
 use Rattle.std.proofs.Common.{◌≡◌, ℕ, List, Result, Err, sym, subst, ap, ◌∙◌, map, [], ◌∷◌, ◌++◌, append_assoc, Bool, true, false}
 use Rattle.std.specs.Bool.{OnFalse, OnTrue}
-use Rattle.std.specs.Result.{IsErrAnd, IfErr, result_map_both}
+use Rattle.std.specs.Result.{IsErrAnd, result_map_both}
 use Rattle.std.proofs.lemmas.Result.{err_from_is_err_and}
 use Rattle.std.proofs.lemmas.List.{map-append}
 use Rattle.yaml_text.specs.Event.{Event, stream_start, stream_end, document_start, document_end}
@@ -46,11 +46,6 @@ pub reads_all_err : {V : Type 0} (R : List Event → Type 0) (f : V → List Eve
 reads_all_err R f r e was refused =
     let p = err_from_is_err_and r was in
     subst (λ x. ReadsAll R (result_map_both f (λ y. y) x)) (sym (p.1 ∙ ap Err p.2)) refused
-
-pub if_err_from : (P : Type 0) (r : Result ℕ Fault) (e : Fault) → IsErrAnd r (λ y. y ≡ e) → Refuses e P → IfErr r (λ f. Refuses f P)
-if_err_from P r e was refused =
-    let p = err_from_is_err_and r was in
-    subst (λ x. IfErr x (λ f. Refuses f P)) (sym (p.1 ∙ ap Err p.2)) refused
 
 -- events at the end of a list
 pub adds_one : (old new : List code.Event) (e : code.Event) → new ≡ old ++ e ∷ [] → Adds old (event_of e ∷ []) new

@@ -6,13 +6,7 @@ use Rattle.std.proofs.lemmas.List.{length-map}
 use Rattle.std.specs.List.{position, position_or_len}
 use Rattle.yaml_text.specs.Limits.{height_limit, nodes_limit}
 use Rattle.yaml_text.specs.Tree.{Tree, height, nodes}
-use Rattle.yaml_text.specs.Marked.{Document}
-use Rattle.yaml_text.specs.Unfold.{trees_of}
-use Rattle.yaml_text.specs.declared.fault.Fault.{Fault}
-use Rattle.yaml_text.specs.declared.fault.Fault.TheVariants as fault
 use Rattle.yaml_canon.specs.Claims.{AllOf, IsFirstOf}
-use Rattle.yaml_canon.specs.Composable.{RefusesAlias}
-use Rattle.yaml_canon.specs.Forest.{RefusesNodes}
 use Rattle.yaml_canon.specs.Measure.{measure_of}
 use Rattle.yaml_canon.specs.declared.compose.measure.Measure.{Measure}
 
@@ -85,13 +79,3 @@ high_tells f ms e = tells is_high _ _ high_here low_here f ms e
 
 pub far_tells : (f : List Tree) (ms : List Measure) → ms ≡ map measure_of f → Far f (position is_far ms)
 far_tells f ms e = tells is_far _ _ (λ t. over_limit (nodes t) nodes_limit) (λ t. under_limit (nodes t) nodes_limit) f ms e
-
-pub alias_refused : (ds : List Document) (e : Fault) → RefusesAlias (trees_of ds) e → RefusesNodes ds e
-alias_refused ds (fault.UndefinedAlias n) r = r
-alias_refused ds (fault.CyclicAlias n) r = r
-alias_refused ds fault.OutOfMemory r = tt
-alias_refused ds _ r = absurd r
-
-pub not_some : (o : Option ℕ) → ((n : ℕ) → o ≡ Some n → ⊥) → o ≡ None
-not_some None h = refl
-not_some (Some n) h = absurd (h n refl)

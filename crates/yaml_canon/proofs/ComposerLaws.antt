@@ -10,7 +10,6 @@ use Rattle.std.proofs.lemmas.List.{reverse-append, drop_all}
 use Rattle.yaml_text.specs.Tree.{Tree, scalar, mapping}
 use Rattle.yaml_text.specs.Tag.{map_tag}
 use Rattle.yaml_canon.specs.TreeModel.{pairs}
-use Rattle.yaml_text.specs.Event.{Anchor}
 use Rattle.yaml_text.specs.Unfold.{Outcome, Table, or_else, opened, last_named, tree_named, and_then, placed, trees_of}
 use Rattle.yaml_text.specs.Core.{Cause, undefined_alias, cyclic_alias}
 use Rattle.yaml_text.specs.declared.fault.Fault.{Fault}
@@ -217,13 +216,6 @@ pub held-begin : (ns : List Node) (anchors : Anchors) (os : List Open) (places :
 held-begin ns anchors os places s name h =
     record { grounded = h.grounded; inside = h.inside; outside = h.outside; names = table-push (trees_in ns) anchors s.table name h.names; done = h.done }
 
-pub held-enter : (ns : List Node) (anchors : Anchors) (os : List Open) (o : Open) (a : Anchor) (slot : ℕ) (places : List ℕ) (s : State) → Held ns anchors os places s → anchor_text o.anchor ≡ a → o.slot ≡ slot → o.before.items ≡ places
-    → Held ns anchors (os ++ (o ∷ [])) [] (record { inner = []; outer = (record { anchor = a; slot = slot; before = s.inner }) ∷ s.outer; table = s.table; done = s.done })
-held-enter ns anchors os o a slot places s h ea es eb =
-    let b : AllStand (trees_in ns) o.before.items s.inner = subst (λ z. AllStand (trees_in ns) z s.inner) (sym eb) h.inside in
-    let f : OpensStand (trees_in ns) (o ∷ reverse os) ((record { anchor = a; slot = slot; before = s.inner }) ∷ s.outer) = (record { anchor = ea; slot = es; before = b }, h.outside) in
-    record { grounded = h.grounded; inside = tt; outside = subst (λ z. OpensStand (trees_in ns) z ((record { anchor = a; slot = slot; before = s.inner }) ∷ s.outer)) (sym (reverse-append os (o ∷ []))) f; names = h.names; done = h.done }
-
 -- what the innermost collection leaves
 pub record Leaves (ns : List Node) (anchors : Anchors) (os : List Open) (o : Open) (s : State) : Type 0 where
   pub frame : machine.Open
@@ -247,14 +239,6 @@ leaves-by ns anchors os o places s (p ∷ ps) e h f = record {
 pub held-leave : (ns : List Node) (anchors : Anchors) (os : List Open) (o : Open) (places : List ℕ) (s : State) → Held ns anchors (os ++ (o ∷ [])) places s → Leaves ns anchors os o s
 held-leave ns anchors os o places s h =
     leaves-by ns anchors os o places s s.outer refl h (subst (λ z. OpensStand (trees_in ns) z s.outer) (reverse-append os (o ∷ [])) h.outside)
-
--- no collection is open
-pub held-none : (ns : List Node) (anchors : Anchors) (places : List ℕ) (s : State) → Held ns anchors [] places s → s.outer ≡ []
-held-none ns anchors places s h = by s.outer refl h.outside
-  where
-    by : (ps : List machine.Open) → s.outer ≡ ps → OpensStand (trees_in ns) [] ps → s.outer ≡ []
-    by [] e f = e
-    by (p ∷ ps) e f = absurd f
 
 pub held-alias : (ns : List Node) (anchors : Anchors) (os : List Open) (places : List ℕ) (i : ℕ) (s : State) (t : Tree) → Held ns anchors os places s → Stands (trees_in ns) i t
     → Held ns anchors os (places ++ (i ∷ [])) (record { inner = s.inner ++ (t ∷ []); outer = s.outer; table = s.table; done = s.done })
@@ -320,9 +304,6 @@ collect-mapping ns is_mapping places entries h b q =
     let l : All (λ p. (p.0 < length ns) × (p.1 < length ns)) entries.items = subst (All (λ p. (p.0 < length ns) × (p.1 < length ns))) (sym q) (pairs-below (length ns) places h) in
     let t : entries_at (trees_in ns) entries.items ≡ paired (trees_at (trees_in ns) places) = ap (entries_at (trees_in ns)) q ∙ paired-at (trees_in ns) places in
     rw b (record { below = l; tree = ap (λ ps. mapping map_tag (pairs ps)) t })
-
-pub collect-sequence : (ns : List Node) (is_mapping : Bool) (items : Vec ℕ Global) → All (λ i. i < length ns) items.items → is_mapping ≡ false → Collects ns is_mapping items.items (nodes.Sequence items)
-collect-sequence ns is_mapping items h b = rw b (record { below = h; tree = refl })
 
 -- ---- an alias
 

@@ -34,9 +34,6 @@ pub record IsSpelled (all rest : List plain.Tree) (out : List ℕ) : Type 0 wher
   pub are : rest ≡ map arranged left
   pub whole : out ++ spell_bytes left ≡ spell_bytes all
 
-pub spelled_none : (f g : List plain.Tree) (out : List ℕ) → g ≡ map arranged f → out ≡ [] → IsSpelled f g out
-spelled_none f g out h e = record { left = f; are = h; whole = ap (λ z. z ++ spell_bytes f) e }
-
 pub spelled_more : (all : List plain.Tree) (xs rest : List Tree) (x : Tree) (out new : List ℕ) → IsSpelled all (map tree_of xs) out → xs ≡ x ∷ rest → Writes out new (λ more. 45 ∷ 45 ∷ 45 ∷ 32 ∷ text (marks_of_arranged (tree_of x)) (10 ∷ more)) → IsSpelled all (map tree_of rest) new
 unfolding spell spell_bytes marks_of
 spelled_more all xs rest x out new h e w = by h.left (ap (map tree_of) (sym e) ∙ h.are) h.whole

@@ -7,10 +7,9 @@ use Rattle.std.specs.Char.{encode_utf8}
 use Rattle.std.specs.Str.{encode_utf8_all, chars}
 use Rattle.yaml_text.specs.Tree.{Trees, Pairs, item, entry}
 use Rattle.yaml_text.specs.Tree as plain
-use Rattle.yaml_text.specs.Event.{Anchor}
-use Rattle.yaml_text.specs.NodeText.{anchor_text, quoted, text, items_text, pairs_text}
+use Rattle.yaml_text.specs.CharText.{spell_char}
+use Rattle.yaml_text.specs.NodeText.{quoted, text, items_text, pairs_text}
 use Rattle.yaml_scalar.specs.Spelling.{spelled}
-use Rattle.yaml_scalar.proofs.SpellingLemmas.{quoted_more}
 use Rattle.yaml_canon.specs.declared.tree.Tree.{Tree}
 use Rattle.yaml_canon.specs.TreeModel.{tree_of, trees_of, pairs_of}
 use Rattle.yaml_canon.specs.Anchored.{separator, noted, marked, marked_all, marked_pairs}
@@ -36,6 +35,11 @@ writes_text old new bytes cs e u = record {
   is = λ more. ap (λ x. x ++ encode_utf8_all more) e ∙ append_assoc old bytes (encode_utf8_all more) ∙ ap (λ x. old ++ (x ++ encode_utf8_all more)) (sym u) ∙ ap (λ x. old ++ x) (sym (encodes-append cs more));
 }
 
+-- what stands after a spelling
+quoted_more : (cs more : List ℕ) → quoted cs more ≡ quoted cs [] ++ more
+quoted_more [] more = refl
+quoted_more (c ∷ cs) more = ap (λ x. spell_char c ++ x) (quoted_more cs more) ∙ sym (append_assoc (spell_char c) (quoted cs []) more)
+
 -- a content's spelling
 pub writes_spelled : (text old new : List ℕ) → new ≡ old ++ spelled text → Writes old new (λ more. 34 ∷ quoted (chars text) more)
 writes_spelled text old new e = record {
@@ -45,9 +49,6 @@ writes_spelled text old new e = record {
 -- What is left to write as `f` stands for what `g` writes behind `old`.
 pub record Leaves (old out : List ℕ) (f g : List ℕ → List ℕ) : Type 0 where
   pub is : (more : List ℕ) → out ++ encode_utf8_all (f more) ≡ old ++ encode_utf8_all (g more)
-
-pub leaves_first : (old out : List ℕ) (f g : List ℕ → List ℕ) → Writes old out f → Leaves old out g (λ more. f (g more))
-leaves_first old out f g h = record { is = λ more. h.is (g more) }
 
 pub leaves_last : (old out new : List ℕ) (f g : List ℕ → List ℕ) → Leaves old out f g → Writes out new f → Writes old new g
 leaves_last old out new f g h k = record { is = λ more. k.is more ∙ h.is more }
@@ -86,10 +87,6 @@ pairs_more r w u v old out a b c new xs rest x i g h e s k m t l n = record {
       ap (λ z. new ++ encode_utf8_all (pairs_text (separator z) (marked_pairs r (pairs_of rest) v) more)) (add-one i) ∙ l.is tail ∙ t.is (text (marked r (tree_of x.1) u) tail) ∙ k.is value
       ∙ s.is (text (marked r (tree_of x.0) w) value) ∙ ap (λ z. out ++ encode_utf8_all z) (sym all) ∙ h.is more;
 }
-
--- the pieces of a node
-pub anchored_then : (a b c : List ℕ) (n : Anchor) (f : List ℕ → List ℕ) → Writes a b (anchor_text n) → Writes b c f → Writes a c (λ more. anchor_text n (f more))
-anchored_then a b c n f h k = writes_then a b c (anchor_text n) f h k
 
 pub space_colon : (old new : List ℕ) → new ≡ old ++ (32 ∷ 58 ∷ 32 ∷ []) → Writes old new (λ more. 32 ∷ 58 ∷ 32 ∷ more)
 unfolding encode_utf8

@@ -1,16 +1,20 @@
 //! Whether two streams are the same.
-ghost use Rattle.std.specs.Prelude.{◌≡◌, ℕ, List, true, None, Ok, Err, map, IfOk, IfErr};
+ghost use Rattle.std.specs.Prelude.{◌≡◌, ◌⊎◌, ℕ, List, true, None, Some, nat_lt, Ok, Err, map, IfOk, IfErr};
+ghost use Rattle.std.specs.Result.{IsErrAnd};
 ghost use Rattle.yaml_text.specs.EventModel.{event_of};
 ghost use Rattle.yaml_text.specs.Marked.{Document, stream_events};
+ghost use Rattle.yaml_text.specs.Text.{Text, RefusesText};
 ghost use Rattle.yaml_text.specs.Tree.{Tree};
 ghost use Rattle.yaml_text.specs.Proper.{Admitted};
 ghost use Rattle.yaml_text.specs.Spell.{spell_bytes};
 ghost use Rattle.yaml_text.specs.declared.fault.Fault.TheVariants.{OutOfMemory};
+ghost use Rattle.yaml_canon.specs.declared.side.Side.TheVariants.{Left, Right};
 ghost use Rattle.yaml_canon.specs.PlainTrees.{Spoken};
 ghost use Rattle.yaml_canon.specs.Claims.{Compares};
 ghost use Rattle.yaml_canon.specs.Comparing.{ComparerRefuses, RefusesEither};
 ghost use Rattle.yaml_canon.specs.Forest.{Stands};
 ghost use Rattle.yaml_canon.specs.SourceKeys.{NoEqualKeys};
+ghost use Rattle.yaml_canon.specs.declared.compose.keys.Found.{Found};
 
 use crate::compose::Found;
 use crate::forest::{Nodes, check_sizes, find_equal, low_nodes, refusal, trees};
@@ -35,7 +39,8 @@ fn on<T>(side: Side, answer: Result<T, Fault>) -> Result<T, (Side, Fault)>
 /// Whether the right side's equal keys are to be told: where there are none on the left, or where
 /// the mapping on the left is higher.
 fn tells_right(left: Option<Found>, right: Found) -> bool
-    ensures { left ≡ None → result ≡ true }
+    ensures none { left ≡ None → result ≡ true }
+    ensures some { (found : Found) → left ≡ Some found → result ≡ nat_lt right.height found.height }
 {
     match left {
         None => true,
@@ -85,6 +90,8 @@ fn check_both(
 pub fn same<'a>(alloc: Global, left: &'a [u8], right: &'a [u8]) -> Result<bool, (Side, Fault)>
     ensures answer { IfOk result (λ answer. Compares left.now right.now answer) }
     ensures refused { IfErr result (λ refusal. ComparerRefuses left.now right.now refusal.0 refusal.1) }
+    ensures no_left_text { ((cs : List ℕ) → Text left.now cs → ⊥) → IsErrAnd result (λ refusal. (refusal.0 ≡ Left) × RefusesText left.now refusal.1) }
+    ensures no_right_text { ((cs : List ℕ) → Text right.now cs → ⊥) → IsErrAnd result (λ refusal. (refusal.0 ≡ Left) ⊎ ((refusal.0 ≡ Right) × RefusesText right.now refusal.1)) }
     ensures spelled { (f g : List Tree) → Spoken f → Admitted f → left.now ≡ spell_bytes f →
         Spoken g → Admitted g → right.now ≡ spell_bytes g → IfErr result (λ refusal. refusal.1 ≡ OutOfMemory) }
 {

@@ -1,4 +1,4 @@
-//! Nodes of a tree, by reference.
+//! Temporary: nodes of a tree, by reference; ranks (`yaml_rank`) replace them.
 ghost use Rattle.std.specs.Prelude.{◌≡◌, map, IsTrue, IfOk, IfErr, MatchOption};
 ghost use Rattle.std.specs.Bool.{OnTrue};
 ghost use Rattle.std.specs.List.{position};

@@ -57,10 +57,6 @@ content_none f c j = refl
 abbrev pub Gives : Bool → grammar.Chomp → List Line → List ℕ → (List Line → List ℕ) → Type 0
 Gives f c ls xs rest = (more : List Line) → content f c (ls ++ more) ≡ xs ++ rest more
 
-gives_start : (f : Bool) (c : grammar.Chomp) → Gives f c [] [] (content_after f c 0)
-unfolding content
-gives_start f c more = refl
-
 gives_empties : (f : Bool) (c : grammar.Chomp) (j : ℕ) → Gives f c (replicate j blank) [] (content_after f c j)
 unfolding content
 gives_empties f c j more = go j 0 ∙ ap (λ n. content_after f c n more) (let e : j + 0 ≡ j = omega arith in e)

@@ -16,10 +16,6 @@ use Rattle.yaml_scalar.proofs.BlockChains.{SameRule, any_to_stop, any_push}
 no_space_class : (c : ℕ) → is_space c ≡ true → (is_nb c && not (is_space c)) ≡ true → ⊥
 no_space_class c s t = grind (arith, s, t)
 
-space_char : is_space 32 ≡ true
-unfolding is_space
-space_char = refl
-
 pub nb_no_space : (c : ℕ) → is_nb c ≡ true → is_space c ≡ false → (is_nb c && not (is_space c)) ≡ true
 nb_no_space c s t = grind (arith, s, t)
 
@@ -89,9 +85,6 @@ module _ (cs : List ℕ) where
   pub mark_stuck : (i : ℕ) → Mark cs i → Stuck i
   mark_stuck i m = (i, run_none cs is_space i, inl (mark_no_space i m))
 
-  pub end_stuck : (i : ℕ) → AtEnd cs i → Stuck i
-  end_stuck i e = (i, run_none cs is_space i, inr e)
-
   -- fewer than k spaces and then another character
   pub less_is : (k i : ℕ) → LessIndented cs k i → (q : ℕ) × run cs is_space i q × (q < i + k) × NoSpace cs q
   unfolding less
@@ -156,9 +149,6 @@ module _ (cs : List ℕ) where
   -- the same lines before
   gather : (col i k l p o : ℕ) (ms ns : List ℕ) → p ≡ o → ms ≡ ns → k ≡ max col (greatest ms) → l ≡ max col (greatest ns) → k ≡ l
   gather col i k l p o ms ns e f a b = a ∙ ap (λ x. max col (greatest x)) f ∙ sym b
-
-  end_width : (col p q o : ℕ) (ms : List ℕ) → p ≡ q → max (max col (greatest ms)) (q - p) ≡ max col (greatest ms)
-  end_width col p q o ms e = omega (arith, e)
 
   -- no line that ends the search is another
   pub line_less : (col k p q : ℕ) → col ≤ k → run cs is_space p q → q ≡ p + k → NoSpace cs q → LessIndented cs col p → ⊥

@@ -18,10 +18,6 @@ same_code c = grind arith
 code_of : (c d : ℕ) → (c == d) ≡ true → c ≡ d
 code_of c d t = grind (arith, t)
 
-break_is_feed : is_break 10 ≡ true
-unfolding is_break
-break_is_feed = refl
-
 the_space : (c : ℕ) → is_space c ≡ true → c ≡ 32
 unfolding is_space
 the_space c t = grind (arith, t)
@@ -80,9 +76,6 @@ module _ (cs : List ℕ) where
   to_brk i j u (inl (h, e)) = inr (inr (i, (refl, λ b. u b (10, h, refl)), (h, e)))
   to_brk i j u (inr (inl (h, g, e))) = inl (i + 1, (h, refl), (g, omega (arith, e)))
   to_brk i j u (inr (inr (h, g, e))) = inr (inl (i + 1, (h, refl), (e, λ (c, q, t). g (q ∙ ap Some (code_of c 10 t)))))
-
-  pub no_brk : (i : ℕ) → ((j : ℕ) → line_brk cs i j → ⊥) → (j : ℕ) → brk cs i j → ⊥
-  no_brk i none j r = none j (gap.brk_line cs i j r)
 
   return_breaks : (i : ℕ) → slice_get cs i ≡ Some 13 → ((j : ℕ) → line_brk cs i j → ⊥) → ⊥
   return_breaks i h none = none (i + 1) (inr (inr (h, (λ g. none (i + 2) (inr (inl (h, g, refl)))), refl)))

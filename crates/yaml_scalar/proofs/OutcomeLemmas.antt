@@ -69,10 +69,6 @@ answers_err Best R i end value r e was refused =
     let p = err_from_is_err_and r was in
     subst (Answers Best R i end value) (sym (p.1 ∙ ap Err p.2)) refused
 
-pub answers_memory : {X : Type 0} (Best : TextRule → TextRule) (R : TextRule) (i : ℕ) (end : X → ℕ) (value : X → List ℕ) (r : Result X Fault) →
-    IsErrAnd r (λ y. y ≡ fault.OutOfMemory) → Answers Best R i end value r
-answers_memory Best R i end value r was = answers_err Best R i end value r fault.OutOfMemory was tt
-
 pub on_true_at : (b : Bool) {P : Type 0} → b ≡ true → OnTrue b P → P
 on_true_at true e p = p
 on_true_at false e p = let h : false ≡ true = e in cc

@@ -75,14 +75,6 @@ module _ (cs : List ℕ) where
   comment_onward m k (inl e) = omega (arith, e)
   comment_onward m k (inr (q, (h, g), t)) = let a : q ≤ k = t.0 in omega (arith, a, g)
 
-  pub blank_rest_onward : (i j : ℕ) → blank_rest cs i j → i ≤ j
-  unfolding blank_rest
-  blank_rest_onward i j (m, r, (a, c, e)) =
-      let x : i ≤ m = r.0 in
-      let y : m ≤ a = comment_onward m a c in
-      let z : a ≤ j = line_end_onward cs a j e in
-      omega (arith, x, y, z)
-
   -- after `sep`
   from_sep : (i k m j : ℕ) → sep cs i k → maybe (comment cs) k m → line_end cs m j → blank_rest cs i j
   unfolding sep blank_rest

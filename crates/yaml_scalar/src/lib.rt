@@ -2,15 +2,15 @@
 #![tactic(auto)]
 
 pub mod block;
-pub mod class;
+mod class;
 pub mod double;
 mod escape;
 pub mod laws;
-pub mod line;
+mod line;
 pub mod plain;
-pub mod quoted;
+mod quoted;
 pub mod single;
 pub mod spell;
 #[cfg(test)]
 mod tests;
-pub mod text;
+mod text;

@@ -72,7 +72,7 @@ pub fn check<T: Abort + AllocGlobal>(rt: &T, rows: &[Row]) -> Result<(), Fail> {
 }
 
 /// Asserts that comparing ended with this fault of this side.
-fn is_refused_on<T: Abort + AllocGlobal>(
+pub fn is_refused_on<T: Abort + AllocGlobal>(
     rt: &T,
     shows: &str,
     got: Result<bool, (Side, Fault)>,

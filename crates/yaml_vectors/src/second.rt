@@ -1,10 +1,10 @@
 //! One document of double-quoted scalars, flow sequences, flow mappings, anchors and aliases, on
 //! one line. Keys are compared by their source text.
-use crate::rows::{Pair, Row, answer, check, compare, gives, is_refused};
+use crate::rows::{Pair, Row, answer, check, compare, gives, is_refused, is_refused_on};
 use std::alloc::Global;
 use std::process::Abort;
 use std::test::Fail;
-use yaml_canon::Side;
+use yaml_canon::{Side, same};
 
 const READ: [Row; 28] = [
     Row {
@@ -384,7 +384,25 @@ fn set_pairs_are_compared(rt: HostRuntime) -> Result<(), Fail> {
     compare(&rt, &SET_PAIRS)
 }
 
-const KEY_PAIRS: [Pair; 2] = [
+const KEY_PAIRS: [Pair; 5] = [
+    Pair {
+        shows: "equal keys on both sides, the lower mapping on the right",
+        left: b"--- {[\"x\"]:\"1\",[\"x\"]:\"2\"}",
+        right: b"--- {\"a\":\"1\",\"a\":\"2\"}",
+        answer: Err((Side::Right, "19 EqualKeys in node 4, entries 0 and 1")),
+    },
+    Pair {
+        shows: "equal keys on both sides, the lower mapping on the left",
+        left: b"--- {\"a\":\"1\",\"a\":\"2\"}",
+        right: b"--- {[\"x\"]:\"1\",[\"x\"]:\"2\"}",
+        answer: Err((Side::Left, "19 EqualKeys in node 4, entries 0 and 1")),
+    },
+    Pair {
+        shows: "equal keys on both sides, as low on either",
+        left: b"--- {\"a\":\"1\",\"b\":\"2\",\"a\":\"3\"}",
+        right: b"--- {\"a\":\"1\",\"a\":\"2\"}",
+        answer: Err((Side::Left, "19 EqualKeys in node 6, entries 0 and 2")),
+    },
     Pair {
         shows: "equal keys on the right",
         left: b"--- {\"a\":\"1\"}",
@@ -550,4 +568,24 @@ fn aliases_count_in_the_height(rt: HostRuntime) -> Result<(), Fail> {
     let input = linked(rt.alloc(), 127, 1)?;
     let message = "18 TooHigh in document 0";
     is_refused(&rt, "a chain", input.as_bytes(), message)
+}
+
+/// The sizes of both sides are judged once both are read, and before the keys of either.
+#[test]
+fn sizes_are_judged_between_reading_and_keys(rt: HostRuntime) -> Result<(), Fail> {
+    let alloc = rt.alloc();
+    let far = linked(alloc, 15, 2)?;
+    let far = far.as_bytes();
+    let equal = b"--- {\"a\":\"1\",\"a\":\"2\"}";
+    let message = "24 UnfoldsTooFar in document 0";
+    is_refused_on(&rt, "both", same(alloc, far, far), Side::Left, message)?;
+    is_refused_on(&rt, "right", same(alloc, equal, far), Side::Right, message)?;
+    let message = "4 Syntax at byte 5";
+    is_refused_on(
+        &rt,
+        "unread",
+        same(alloc, far, b"--- ["),
+        Side::Right,
+        message,
+    )
 }

@@ -98,6 +98,7 @@ fn ends_before_a_mark(rt: HostRuntime) {
         ("|\n a\n---\n", "a\n", 5),
         ("|\na\n...", "a\n", 4),
         ("|\n ---\n", "---\n", 7),
+        ("|-\n a\n---\n", "a", 6),
     ] {
         assert!(rt; reads_to(rt.alloc(), text, 0, -1, content, end), "{text:?}");
     }
