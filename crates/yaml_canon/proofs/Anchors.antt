@@ -16,7 +16,7 @@ use Rattle.yaml_text.proofs.Neat.{Neat, neat_same}
 use Rattle.yaml_text.proofs.UnfoldLaws.{agains-append}
 use Rattle.yaml_canon.specs.Identical.{identical, identical_trees, identical_pairs}
 use Rattle.yaml_canon.specs.Anchored.{has}
-use Rattle.yaml_canon.proofs.Equivalence.{same_refl, same_like, short_like}
+use Rattle.yaml_text.proofs.Equivalence.{same_refl, same_like, short_like}
 use Rattle.yaml_canon.specs.Repeats.{repeats_one, noticed, kept, kept_all, kept_pairs, repeats, repeats_all, repeats_pairs}
 
 -- ---- trees that are one
