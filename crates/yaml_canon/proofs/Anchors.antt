@@ -13,10 +13,10 @@ use Rattle.yaml_text.specs.Spell.{short}
 use Rattle.yaml_text.proofs.Members.{and_both, both_and}
 use Rattle.yaml_text.proofs.SameLaws.{same_from}
 use Rattle.yaml_text.proofs.Neat.{Neat, neat_same}
-use Rattle.yaml_text.proofs.UnfoldLaws.{agains-append}
+use Rattle.yaml_text.proofs.UnfoldLaws.{firsts-append, agains-append}
 use Rattle.yaml_canon.specs.Identical.{identical, identical_trees, identical_pairs}
 use Rattle.yaml_canon.specs.Anchored.{has}
-use Rattle.yaml_canon.proofs.Equivalence.{same_refl, same_like, short_like}
+use Rattle.yaml_text.proofs.Equivalence.{same_refl, same_like, short_like}
 use Rattle.yaml_canon.specs.Repeats.{repeats_one, noticed, kept, kept_all, kept_pairs, repeats, repeats_all, repeats_pairs}
 
 -- ---- trees that are one
@@ -195,11 +195,6 @@ kept_case false t b n w e = e ∙ ap (filter long) (put_last b (firsts w) t)
 repeats_case : (c : Bool) (t : Tree) (r : List Tree) (w : List Place) → r ≡ agains w → cond c (t ∷ []) r ≡ agains (cond c (again t ∷ []) (first t ∷ w))
 repeats_case true t r w e = refl
 repeats_case false t r w e = e
-
-pub firsts-append : (p q : List Place) → firsts (p ++ q) ≡ firsts p ++ firsts q
-firsts-append [] q = refl
-firsts-append (first t ∷ p) q = ap (λ z. t ∷ z) (firsts-append p q)
-firsts-append (again t ∷ p) q = firsts-append p q
 
 -- ---- the code's walk
 

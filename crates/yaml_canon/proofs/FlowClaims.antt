@@ -38,7 +38,7 @@ use Rattle.yaml_canon.specs.Refusal.{RefusesSpelling, IsUnspelled}
 use Rattle.yaml_canon.specs.FlowPath.{ReadsFlow}
 use Rattle.yaml_canon.specs.FlowDocument.{FlowDocument}
 use Rattle.yaml_canon.proofs.PlainLaws.{plain_untagged, found_plain}
-use Rattle.yaml_canon.proofs.Equivalence.{same_when_arranged}
+use Rattle.yaml_text.proofs.Equivalence.{same_when_arranged}
 use Rattle.yaml_canon.proofs.FlowSpelled.{flow_spelled}
 use Rattle.yaml_canon.proofs.SpelledKeys.{spelled_no_equal}
 

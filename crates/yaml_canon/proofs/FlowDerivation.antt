@@ -18,6 +18,7 @@ use Rattle.yaml_text.specs.grammar.Tags as tags
 use Rattle.yaml_text.specs.grammar.Tags.{is_name, name}
 use Rattle.yaml_text.specs.grammar.Events.{Props}
 use Rattle.yaml_text.proofs.TextLaws.{IsName, IsAnchor, IsFine, AreFine, ArePairsFine, name_chars}
+use Rattle.yaml_text.proofs.PlaceLemmas.{take_seam}
 use Rattle.yaml_canon.specs.Line.{double_line}
 use Rattle.yaml_canon.specs.FlowPath.{anchored, alias_node, scalar_node, any_node, parts, sequence, entry, mapping, node}
 use Rattle.yaml_canon.specs.PlainMarks.{Plain, AllPlain, PairsPlain}
@@ -85,14 +86,10 @@ at_drop cs zero xs e = e
 at_drop [] (suc i) xs e = absurd e
 at_drop (c ∷ cs) (suc i) xs e = at_drop cs i xs e
 
-take_front : (xs ys : List ℕ) → take (length xs) (xs ++ ys) ≡ xs
-take_front [] ys = refl
-take_front (x ∷ xs) ys = ap (λ z. x ∷ z) (take_front xs ys)
-
 at_slice : (cs : List ℕ) (i j : ℕ) (xs r : List ℕ) → At cs i (xs ++ r) → j ≡ i + length xs → slice_range cs i j ≡ xs
 at_slice cs i j xs r a e =
     let n : j - i ≡ length xs = omega (arith, e) in
-    ap (λ m. take m (drop i cs)) n ∙ (ap (take (length xs)) (at_drop cs i (xs ++ r) a) ∙ take_front xs r)
+    ap (λ m. take m (drop i cs)) n ∙ (ap (take (length xs)) (at_drop cs i (xs ++ r) a) ∙ take_seam xs r)
 
 at_none : (cs : List ℕ) (i c : ℕ) → At cs i [] → slice_get cs i ≡ Some c → ⊥
 at_none cs zero c e f = let k : ◌≡◌ {A = Option ℕ} None (Some c) = sym (ap (λ z. slice_get z 0) e) ∙ f in cc

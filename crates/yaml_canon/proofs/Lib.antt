@@ -40,6 +40,5 @@ pub mod EventsLeft
 pub mod NodePlaces
 pub mod SpelledKeys
 pub mod CompareAnswers
-pub mod Equivalence
 pub mod Meetings
 pub mod Ascending

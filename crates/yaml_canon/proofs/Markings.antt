@@ -10,11 +10,11 @@ use Rattle.yaml_text.specs.Marked.{alias, scalar_at, sequence_at, mapping_at, it
 use Rattle.yaml_text.specs.TagText.{written_tag}
 use Rattle.yaml_text.specs.Mark.{is_anchored, anchored, anchor_of, alias_of, mark, mark_trees, mark_pairs}
 use Rattle.yaml_text.specs.Spell.{short, marks_of_arranged}
-use Rattle.yaml_text.proofs.UnfoldLaws.{agains-append}
+use Rattle.yaml_text.proofs.UnfoldLaws.{firsts-append, agains-append}
 use Rattle.yaml_canon.specs.Anchored.{has, alias_at, anchor_at, enrolled, noted, noted_all, noted_pairs, marked, marked_all, marked_pairs}
 use Rattle.yaml_canon.specs.Repeats.{repeats}
-use Rattle.yaml_canon.proofs.Equivalence.{short_like}
-use Rattle.yaml_canon.proofs.Anchors.{Every, every_parts, of_has, has_itself, has_filter, has_like, firsts-append, IsLong, agains_long, repeats_are}
+use Rattle.yaml_text.proofs.Equivalence.{short_like}
+use Rattle.yaml_canon.proofs.Anchors.{Every, every_parts, of_has, has_itself, has_filter, has_like, IsLong, agains_long, repeats_are}
 
 cond_both : {X : Type 0} (c : Bool) (x z y w : X) → (c ≡ true → x ≡ z) → (c ≡ false → y ≡ w) → cond c x y ≡ cond c z w
 cond_both true x z y w f g = f refl

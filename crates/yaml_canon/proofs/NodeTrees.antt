@@ -1,5 +1,5 @@
 -- The trees of a stream's nodes stand where the nodes do, and none is higher than its document's.
-use Rattle.std.proofs.Common.{◌≡◌, ℕ, zero, suc, ◌+◌, ◌≤◌, min, List, [], ◌∷◌, ◌++◌, length, Some, Ok, Err, Result, refl, sym, ◌∙◌, ap, subst, arith, length-append}
+use Rattle.std.proofs.Common.{◌≡◌, ℕ, zero, suc, ◌+◌, ◌≤◌, min, List, [], ◌∷◌, ◌++◌, length, Some, Ok, refl, sym, ◌∙◌, ap, subst, arith, length-append}
 use Rattle.std.proofs.lemmas.Option.{slice_get-map}
 use Rattle.std.specs.List.{slice_get}
 use Rattle.std.specs.Option.{option_map}
@@ -7,19 +7,13 @@ use Rattle.yaml_text.specs.Limits.{height_limit}
 use Rattle.yaml_text.specs.Tree.{Tree, Trees, Pairs, scalar, sequence, mapping, end, item, done, entry, height, heights, heights_of_pairs}
 use Rattle.yaml_text.specs.Marked.{Marked, AllMarked, MarkedPairs, alias, scalar_at, sequence_at, mapping_at, end_marks, item_mark, done_marks, entry_marks, Document}
 use Rattle.yaml_text.specs.Core.{collection_tag}
-use Rattle.yaml_text.specs.Unfold.{Outcome, Table, and_then, placed, opened, event_count, unfold_node, unfold_all, unfold_pairs, trees_from, trees_of}
+use Rattle.yaml_text.specs.Unfold.{Table, placed, opened, event_count, unfold_node, unfold_all, unfold_pairs, trees_from, trees_of}
+use Rattle.yaml_text.proofs.ReadLaws.{ok_one, bind}
 use Rattle.yaml_canon.specs.Claims.{AllOf, AllLow}
 use Rattle.yaml_canon.specs.SourceKeys.{nodes_in, nodes_in_all, nodes_in_pairs, trees_inside, trees_inside_all, trees_inside_pairs, stream_nodes, stream_trees}
 use Rattle.yaml_canon.specs.Measure.{measure_of}
 use Rattle.yaml_canon.specs.KeyModel.{Measured, height_at, height_found}
 use Rattle.yaml_canon.specs.declared.compose.measure.Measure.{Measure}
-
-ok_one : {X E : Type 0} (x y : X) → ◌≡◌ {A = Result X E} (Ok x) (Ok y) → x ≡ y
-ok_one x y e = cc
-
-bind : {X Y : Type 0} (o : Outcome X) (k : X → Outcome Y) (z : Y) → and_then o k ≡ Ok z → (x : X) × (o ≡ Ok x) × (k x ≡ Ok z)
-bind (Ok x) k z e = (x, refl, e)
-bind (Err c) k z e = absurd (cc)
 
 -- ---- as many trees as nodes
 

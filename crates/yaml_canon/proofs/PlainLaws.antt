@@ -1,5 +1,5 @@
 -- What plain marks unfold to is plain.
-use Rattle.std.proofs.Common.{◌≡◌, ℕ, zero, suc, ◌+◌, true, false, cond, Option, Some, None, Result, Ok, Err, List, [], ◌∷◌, length, set, sym, ◌∙◌, ap, subst}
+use Rattle.std.proofs.Common.{◌≡◌, ℕ, zero, suc, ◌+◌, true, false, cond, Option, Some, None, Result, Ok, List, [], ◌∷◌, length, set, sym, ◌∙◌, ap, subst}
 use Rattle.std.specs.Prelude.{bytes_eq}
 use Rattle.yaml_text.specs.Tree.{Tree, Trees, Pairs, scalar, sequence, mapping, end, item, done, entry}
 use Rattle.yaml_text.specs.Event.{Anchor}
@@ -8,7 +8,7 @@ use Rattle.yaml_text.specs.Tag.{str_tag, seq_tag, map_tag}
 use Rattle.yaml_text.specs.Core.{Cause, resolve, collection_tag}
 use Rattle.yaml_text.specs.Spell.{document_of}
 use Rattle.yaml_text.specs.Unfold.{Table, opened, closed, last_named, tree_named, placed, or_else, event_count, unfold_node, unfold_all, unfold_pairs, trees_from, trees_of}
-use Rattle.yaml_text.proofs.ReadLaws.{ok_one, bind}
+use Rattle.yaml_text.proofs.ReadLaws.{ok_one, bind, unplaced}
 use Rattle.yaml_canon.specs.Composable.{Untagged, AllUntagged, PairsUntagged}
 use Rattle.yaml_canon.specs.PlainMarks.{Plain, AllPlain, PairsPlain}
 use Rattle.yaml_canon.specs.PlainTrees.{IsPlain, ArePlain, ArePairsPlain}
@@ -71,10 +71,6 @@ named_plain n (o ∷ e) h =
     (elim (bytes_eq o.0 n) as (λ b. OnNamed (cond b (Some o.1) None)) [ true ↦ one | false ↦ tt ])
 
 -- ---- outcomes
-
-unplaced : {X : Type 0} (at : ℕ) (r : Result X Cause) (x : X) → placed at r ≡ Ok x → r ≡ Ok x
-unplaced at (Ok y) x e = ap (λ t. Ok t) (ok_one y x e)
-unplaced at (Err c) x e = absurd (cc)
 
 tree_is : (o : Option (Option Tree)) (t : Tree) → OnNamed o → tree_named o ≡ Ok t → IsPlain t
 tree_is None t h e = absurd (cc)

@@ -26,8 +26,8 @@ use yaml_text::fault::Fault;
 /// memory (21).
 ///
 /// Keys are compared by their source text, not by meaning: where two keys of a mapping are the
-/// same, but written differently, the text is the spelling of what the bytes mean, and it may be
-/// refused when it is given in turn.
+/// same, but written differently, the text is the spelling of what the bytes mean, and when it is
+/// given in turn it may be refused or have another text.
 pub fn canonical(alloc: Global, bytes: &[u8]) -> Result<String, Fault>
     ensures text { IfOk result (λ text. IsCanonicalText bytes.now (string_bytes text)) }
     ensures refused { IfErr result (CanonicalRefuses bytes.now) }

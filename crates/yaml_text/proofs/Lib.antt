@@ -28,3 +28,4 @@ pub mod Scan
 pub mod PlaceLemmas
 pub mod grammar
 pub mod RefusedText
+pub mod Equivalence

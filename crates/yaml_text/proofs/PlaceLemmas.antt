@@ -82,7 +82,7 @@ drop_seam : (xs ys : List ℕ) → drop (length xs) (xs ++ ys) ≡ ys
 drop_seam [] ys = refl
 drop_seam (x ∷ xs) ys = drop_seam xs ys
 
-take_seam : (xs ys : List ℕ) → take (length xs) (xs ++ ys) ≡ xs
+pub take_seam : (xs ys : List ℕ) → take (length xs) (xs ++ ys) ≡ xs
 take_seam [] ys = refl
 take_seam (x ∷ xs) ys = ap (λ v. x ∷ v) (take_seam xs ys)
 

@@ -64,7 +64,7 @@ pub bind : {X Y : Type 0} (o : Outcome X) (k : X → Outcome Y) (z : Y) → and_
 bind (Ok x) k z e = (x, refl, e)
 bind (Err c) k z e = absurd (cc)
 
-unplaced : {X : Type 0} (at : ℕ) (r : Result X Cause) (x : X) → placed at r ≡ Ok x → r ≡ Ok x
+pub unplaced : {X : Type 0} (at : ℕ) (r : Result X Cause) (x : X) → placed at r ≡ Ok x → r ≡ Ok x
 unplaced at (Ok y) x e = ap (λ t. Ok t) (ok_one y x e)
 unplaced at (Err c) x e = absurd (cc)
 

@@ -7,6 +7,7 @@ use Rattle.std.proofs.lemmas.Cmp.{tied_itself}
 use Rattle.yaml_text.specs.Tree.{Tree}
 use Rattle.yaml_text.specs.Order.{tree_cmp, arranged, Before}
 use Rattle.yaml_text.specs.Same.{Same, Keyed}
+use Rattle.yaml_text.proofs.Equivalence.{same_refl, same_sym, same_trans}
 use Rattle.yaml_text.specs.Laws.{OrderIsTotal, OrderTells, ExactlyOne, BeforeOrSame, BeforeGoesOn, SameToItself, SameEitherWay, SameGoesOn, SameIsArranged}
 use Rattle.yaml_text.proofs.OrderLaws.{tree_cmp-total, tree_same}
 use Rattle.yaml_text.proofs.SameLaws as laws
@@ -30,13 +31,13 @@ pub before_goes_on : BeforeGoesOn
 before_goes_on t u v a b = tree_cmp-total.trans (arranged t) (arranged u) (arranged v) a b
 
 pub same_to_itself : SameToItself
-same_to_itself t = laws.same_from t t refl
+same_to_itself = same_refl
 
 pub same_either_way : SameEitherWay
-same_either_way t u m n h = laws.same_from u t (sym (laws.same_to t u m n h))
+same_either_way = same_sym
 
 pub same_goes_on : SameGoesOn
-same_goes_on t u v m n o h k = laws.same_from t v (laws.same_to t u m n h ∙ laws.same_to u v n o k)
+same_goes_on = same_trans
 
 pub same_is_arranged : SameIsArranged
 same_is_arranged = laws.same_exact

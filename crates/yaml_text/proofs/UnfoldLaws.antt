@@ -65,7 +65,7 @@ AllNeat-append : (xs ys : List Tree) → AllNeat xs → AllNeat ys → AllNeat (
 AllNeat-append [] ys n m = m
 AllNeat-append (x ∷ xs) ys n m = (n.0, AllNeat-append xs ys n.1 m)
 
-firsts-append : (p q : List Place) → firsts (p ++ q) ≡ firsts p ++ firsts q
+pub firsts-append : (p q : List Place) → firsts (p ++ q) ≡ firsts p ++ firsts q
 firsts-append [] q = refl
 firsts-append (first t ∷ p) q = ap (λ z. t ∷ z) (firsts-append p q)
 firsts-append (again t ∷ p) q = firsts-append p q

@@ -50,11 +50,11 @@ SameToItself = (t : Tree) → Same t t
 
 -- What is the same as a tree, that tree is the same as it.
 abbrev pub SameEitherWay : Type 0
-SameEitherWay = (t u : Tree) → Keyed t → Keyed u → Same t u → Same u t
+SameEitherWay = (t u : Tree) → Same t u → Same u t
 
 -- A tree that is the same as one that is the same as a third is the same as that.
 abbrev pub SameGoesOn : Type 0
-SameGoesOn = (t u v : Tree) → Keyed t → Keyed u → Keyed v → Same t u → Same u v → Same t v
+SameGoesOn = (t u v : Tree) → Same t u → Same u v → Same t v
 
 -- Trees are the same exactly if they are one tree once their pairs stand in order.
 abbrev pub SameIsArranged : Type 0

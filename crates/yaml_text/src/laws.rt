@@ -15,8 +15,8 @@ pub fn before_or_same()
     ensures goes_on { BeforeGoesOn }
 {}
 
-/// On trees without equal keys in a mapping, to be the same is an equivalence: it is to be one
-/// tree once pairs stand in order.
+/// To be the same is an equivalence; on trees without equal keys in a mapping it is to be one tree
+/// once pairs stand in order.
 pub fn same_is_equivalence()
     ensures itself { SameToItself }
     ensures either_way { SameEitherWay }

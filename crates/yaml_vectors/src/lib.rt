@@ -2,8 +2,8 @@
 #![tactic(auto)]
 
 #[cfg(test)]
-mod first;
+mod mappings;
 #[cfg(test)]
 mod rows;
 #[cfg(test)]
-mod second;
+mod sequences;
