@@ -1,7 +1,7 @@
 -- A whole block scalar: its content is one, and it ends furthest with all its comment lines.
-use Rattle.std.proofs.Common.{◌≡◌, ◌≢◌, ℕ, ◌+◌, ◌≤◌, List, Some, Bool, true, false, refl, sym, ◌∙◌, ap, subst, arith}
+use Rattle.std.proofs.Common.{◌≡◌, ◌≢◌, ℕ, ◌+◌, List, Some, Bool, true, false, refl, sym, ◌∙◌, ap, subst}
 use Rattle.std.specs.Prelude.{slice_get}
-use Rattle.yaml_text.specs.grammar.Rules.{Rule, ◌◆◌, ◌▸◌, ahead, chr, maybe, furthest_span}
+use Rattle.yaml_text.specs.grammar.Rules.{maybe, furthest_span}
 use Rattle.yaml_text.specs.grammar.BlockScalars.{Line, Header, is_given, content, header, indentation, lines, LinesEnd, comment_lines, block_content, block_scalar, literal, folded}
 use Rattle.yaml_text.specs.grammar.Calls.{Unread}
 use Rattle.yaml_scalar.specs.BlockRules.{Inside, FurthestAlone, block_lines}
@@ -13,19 +13,19 @@ use Rattle.yaml_scalar.proofs.LineLemmas.{lines_same}
 
 module _ (cs : List ℕ) where
   -- its parts
-  record Parts (f : Bool) (col i j : ℕ) (v : List ℕ) : Type 0 where
-    sign : slice_get cs i ≡ Some (sign_of f)
-    first : ℕ
-    head : Header
-    header : header cs (i + 1) first head
-    k : ℕ
-    indent : indentation cs col head.digit first first k
-    end : ℕ
-    list : List Line
-    lines : lines cs (is_given head.digit) k first end list
-    is : v ≡ content f head.chomp list
-    over : LinesEnd cs k end
-    comments : maybe (comment_lines cs k) end j
+  pub record Parts (f : Bool) (col i j : ℕ) (v : List ℕ) : Type 0 where
+    pub sign : slice_get cs i ≡ Some (sign_of f)
+    pub first : ℕ
+    pub head : Header
+    pub header : header cs (i + 1) first head
+    pub k : ℕ
+    pub indent : indentation cs col head.digit first first k
+    pub end : ℕ
+    pub list : List Line
+    pub lines : lines cs (is_given head.digit) k first end list
+    pub is : v ≡ content f head.chomp list
+    pub over : LinesEnd cs k end
+    pub comments : maybe (comment_lines cs k) end j
 
   scalar_parts : (f : Bool) (col i s j : ℕ) (v : List ℕ) → slice_get cs i ≡ Some (sign_of f) → s ≡ i + 1 → block_scalar cs f col s j v → Parts f col i j v
   unfolding block_content
@@ -46,7 +46,7 @@ module _ (cs : List ℕ) where
         comments = subst (λ x. maybe (comment_lines cs k) x j) o c;
       }
 
-  parts_of : (f : Bool) (col i j : ℕ) (v : List ℕ) → styled cs f col i j v → Parts f col i j v
+  pub parts_of : (f : Bool) (col i j : ℕ) (v : List ℕ) → styled cs f col i j v → Parts f col i j v
   unfolding literal folded
   parts_of false col i j v (s, (g, e), r) = scalar_parts false col i s j v g e r
   parts_of true col i j v (s, (g, e), r) = scalar_parts true col i s j v g e r
@@ -62,7 +62,7 @@ module _ (cs : List ℕ) where
       to_styled f col i j v p.sign (p.first, p.head, p.header, (p.first, p.k, p.indent, (p.end, (p.list, p.lines, p.is), (p.end, (refl, p.over), p.comments))))
 
   -- two readings from one place
-  meet : (f : Bool) (col i j l : ℕ) (v w : List ℕ) (p : Parts f col i j v) → Parts f col i l w → maybe (comment_lines cs p.k) p.end l × (w ≡ v)
+  pub meet : (f : Bool) (col i j l : ℕ) (v w : List ℕ) (p : Parts f col i j v) → Parts f col i l w → maybe (comment_lines cs p.k) p.end l × (w ≡ v)
   meet f col i j l v w p q =
       let heads = header_same cs (i + 1) p.first q.first p.head q.head p.header q.header in
       let indents = indentation_same cs col p.head.digit p.first p.first p.first p.k q.k p.indent

@@ -1,5 +1,5 @@
 -- The content of a block scalar, put together from its front.
-use Rattle.std.proofs.Common.{◌≡◌, ◌≢◌, ℕ, zero, suc, ◌+◌, ◌-◌, ◌<◌, ◌≤◌, ◌⊎◌, inl, inr, min, List, [], ◌∷◌, ◌++◌, Bool, true, false, ◌||◌, if◌then◌else◌, replicate, refl, sym, ◌∙◌, ap, subst, arith, append_assoc, add-one}
+use Rattle.std.proofs.Common.{◌≡◌, ℕ, zero, suc, ◌+◌, ◌<◌, ◌≤◌, inl, inr, min, List, [], ◌∷◌, ◌++◌, Bool, true, false, ◌||◌, if◌then◌else◌, replicate, refl, sym, ◌∙◌, ap, subst, arith, append_assoc, add-one}
 use Rattle.std.specs.Prelude.{◌==◌, slice_range}
 use Rattle.std.specs.Bool.{OnTrue, OnFalse}
 use Rattle.std.proofs.lemmas.List.{append-nil}
@@ -9,16 +9,15 @@ use Rattle.yaml_text.specs.grammar.Separation.{AtEnd}
 use Rattle.yaml_text.specs.grammar.FlowScalars.{line_feeds}
 use Rattle.yaml_text.specs.grammar.BlockScalars as grammar
 use Rattle.yaml_text.specs.grammar.BlockScalars.{Line, blank, text, is_spaced, joint, chomped, after_line, kept, content_after, content, blank_line, text_line, is_given, lines, last_spaces, LinesEnd}
-use Rattle.yaml_scalar.specs.Chains.{fold_text}
 use Rattle.yaml_scalar.specs.BlockRules.{any_line, Ready, block_lines, lines_over}
 use Rattle.yaml_scalar.specs.BlockModel.{chomp_of, glue, last_breaks, shape, are_folded, breaks_of}
 use Rattle.yaml_scalar.specs.declared.block.header.Chomp.{Chomp}
 use Rattle.yaml_scalar.specs.declared.block.header.Chomp.TheVariants.{Strip, Clip, Keep}
 use Rattle.yaml_scalar.specs.declared.block.content.Before.{Before}
-use Rattle.yaml_scalar.specs.declared.block.content.Before.TheVariants.{Nothing, Spaced, Plain}
+use Rattle.yaml_scalar.specs.declared.block.content.Before.TheVariants.{Nothing}
 use Rattle.yaml_text.proofs.PlaceLemmas.{slice_join, slice_one}
 use Rattle.yaml_scalar.proofs.Runs.{same_char}
-use Rattle.yaml_scalar.proofs.LineLemmas.{Over, over_of, over_end, over_no_line, Content, content_start, content_more, lines_blank, lines_content, text_any}
+use Rattle.yaml_scalar.proofs.LineLemmas.{Over, over_of, over_end, over_no_line, Content, content_start, content_more, lines_blank, lines_content}
 use Rattle.yaml_scalar.proofs.BlockChains.{any_push}
 
 pub few_breaks : (d : Bool) → breaks_of d ≤ 1

@@ -1,17 +1,15 @@
 -- The indentation of a block scalar's content: one at most.
-use Rattle.std.proofs.Common.{◌≡◌, ◌≢◌, ℕ, ◌+◌, ◌-◌, ◌<◌, ◌≤◌, ◌⊎◌, inl, inr, List, [], ◌∷◌, ◌++◌, max, Option, Some, None, Bool, true, false, not, ◌&&◌, ◌||◌, refl, sym, ◌∙◌, ap, subst, arith, length}
-use Rattle.std.specs.Prelude.{slice_get, ◌==◌}
+use Rattle.std.proofs.Common.{◌≡◌, ◌≢◌, ℕ, ◌+◌, ◌-◌, ◌<◌, ◌≤◌, ◌⊎◌, inl, inr, List, [], ◌∷◌, ◌++◌, max, Option, Some, None, true, false, not, ◌&&◌, refl, sym, ◌∙◌, ap, subst, arith}
 use Rattle.std.proofs.lemmas.List.{append-nil}
-use Rattle.yaml_text.specs.grammar.Rules.{Span, Rule, ◌◆◌, ◌▸◌, ◌◂◌, run, Stands, ahead, chr, word, how_many, seen, any, Any, done, then, Begins}
+use Rattle.yaml_text.specs.grammar.Rules.{Rule, ◌◂◌, run, Stands, how_many, seen}
 use Rattle.yaml_text.specs.grammar.Characters.{is_space, is_nb, is_break, brk}
-use Rattle.yaml_text.specs.grammar.Separation.{AtEnd, StartsLine, Mark, MarkOf, less}
-use Rattle.yaml_text.specs.grammar.BlockScalars.{space_lines, last_space_lines, NoSpace, nonempty, LessIndented, greatest, found_indentation, longest_indentation, indentation}
-use Rattle.yaml_scalar.proofs.AnyLemmas.{SameEnd}
+use Rattle.yaml_text.specs.grammar.Separation.{AtEnd, Mark, MarkOf, less}
+use Rattle.yaml_text.specs.grammar.BlockScalars.{space_lines, NoSpace, LessIndented, greatest, found_indentation, longest_indentation, indentation}
 use Rattle.yaml_text.specs.grammar.Calls.{Unread}
-use Rattle.yaml_scalar.proofs.Runs.{same_char, no_stand, run_none, run_same}
-use Rattle.yaml_scalar.proofs.LineRuns.{end_stops, run_first, brk_same, brk_stops, brk_no_end}
-use Rattle.yaml_scalar.proofs.RestLemmas.{nb_feed, nb_return, space_feed, space_return, is_the_space}
-use Rattle.yaml_scalar.proofs.BlockChains.{SameRule, any_to_stop, any_push}
+use Rattle.yaml_scalar.proofs.Runs.{same_char, run_none, run_same}
+use Rattle.yaml_scalar.proofs.LineRuns.{end_stops, brk_same, brk_stops, brk_no_end}
+use Rattle.yaml_scalar.proofs.RestLemmas.{space_feed, space_return}
+use Rattle.yaml_scalar.proofs.BlockChains.{SameRule, any_to_stop}
 
 no_space_class : (c : ℕ) → is_space c ≡ true → (is_nb c && not (is_space c)) ≡ true → ⊥
 no_space_class c s t = grind (arith, s, t)

@@ -1,16 +1,15 @@
 -- The lines of a block scalar: one reading at most of each, and of all of them.
-use Rattle.std.proofs.Common.{◌≡◌, ◌≢◌, ℕ, ◌+◌, ◌-◌, ◌<◌, ◌≤◌, ◌⊎◌, inl, inr, List, [], ◌∷◌, ◌++◌, Bool, true, false, not, ◌&&◌, ◌||◌, refl, sym, ◌∙◌, ap, subst, arith, append_assoc}
-use Rattle.std.specs.Prelude.{slice_get, slice_range}
+use Rattle.std.proofs.Common.{◌≡◌, ℕ, ◌+◌, ◌<◌, ◌≤◌, ◌⊎◌, inl, inr, List, [], ◌∷◌, ◌++◌, Bool, true, false, refl, sym, ◌∙◌, ap, subst, arith, append_assoc}
+use Rattle.std.specs.Prelude.{slice_range}
 use Rattle.std.proofs.Math.Nat.{eq-or-lt_of_le}
 use Rattle.std.proofs.lemmas.List.{append-nil}
-use Rattle.yaml_text.specs.grammar.Rules.{Span, Rule, ◌◆◌, ◌▸◌, ◌◂◌, ◌∪◌, run, some_run, limited, Stands, ahead, maybe, any, Any, done, then, gives, copied, with_value}
+use Rattle.yaml_text.specs.grammar.Rules.{run, Stands, maybe, Any, then}
 use Rattle.yaml_text.specs.grammar.Characters.{is_space, is_nb, is_break, brk}
 use Rattle.yaml_text.specs.grammar.Separation.{AtEnd, Mark, indent}
 use Rattle.yaml_text.specs.grammar.BlockScalars.{Line, blank, text, NoSpace, LessIndented, LinesEnd, blank_line, text_line, last_spaces, lines}
 use Rattle.yaml_scalar.specs.BlockRules.{any_line}
-use Rattle.yaml_scalar.proofs.AnyLemmas.{SameEnd}
-use Rattle.yaml_scalar.proofs.Runs.{same_char, no_stand, run_none, run_same}
-use Rattle.yaml_scalar.proofs.LineRuns.{end_stops, run_first, brk_same, brk_stops, brk_no_end, brk_onward}
+use Rattle.yaml_scalar.proofs.Runs.{run_none, run_same}
+use Rattle.yaml_scalar.proofs.LineRuns.{end_stops, brk_same, brk_stops, brk_no_end, brk_onward}
 use Rattle.yaml_scalar.proofs.RestLemmas.{nb_feed, nb_return, space_feed, space_return}
 use Rattle.yaml_scalar.proofs.BlockChains.{SameRule, any_to_stop, any_push, any_join, any_by, any_start}
 use Rattle.yaml_scalar.proofs.IndentationLemmas.{no_space_stops, no_space_no_brk, no_space_no_end, less_is, mark_no_space}
@@ -210,7 +209,7 @@ module _ (cs : List ℕ) where
   over_of k q j (inl e) l = here (subst (LinesEnd cs k) e l) e
   over_of k q j (inr (p, (f, r), (e, z))) l = spaces (subst (run cs is_space q) (sym e) r) (omega (arith, e, f)) (e ∙ z)
 
-  chain_of : (s : Bool) (k i j : ℕ) (ls : List Line) → lines cs s k i j ls → LinesEnd cs k j → (q : ℕ) × Any (any_line cs k) q i ls × Over k q j
+  pub chain_of : (s : Bool) (k i j : ℕ) (ls : List Line) → lines cs s k i j ls → LinesEnd cs k j → (q : ℕ) × Any (any_line cs k) q i ls × Over k q j
   unfolding lines
   chain_of s k i j ls (p, ys, zs, a, (q, o, m), e) l = (q, subst (Any (any_line cs k) q i) (sym e) (go o), over_of k q j m l)
     where

@@ -99,7 +99,7 @@ module _ (cs : List ℕ) where
   first_ns c i (inl (x, h, p)) = (x, h, head_ns x p)
   first_ns c i (inr ((x, h, p), s)) = (x, h, sign_ns x p)
 
-  later_no_hash : (c : Ctx) (i : ℕ) → Later cs c i → slice_get cs i ≡ Some 35 → ⊥
+  pub later_no_hash : (c : Ctx) (i : ℕ) → Later cs c i → slice_get cs i ≡ Some 35 → ⊥
   unfolding Later
   later_no_hash c i (inl (x, h, p)) g = inner_hash c (ap (plain_inner c) (same_char cs i 35 x g h) ∙ p)
   later_no_hash c i (inr (h, s)) g = let e : 58 ≡ 35 = same_char cs i 58 35 h g in omega (arith, e)
@@ -154,10 +154,10 @@ module _ (cs : List ℕ) where
 
   -- ---- the whole scalar
 
-  one_same : (P : ℕ → Type 0) → Same (taken cs P)
+  pub one_same : (P : ℕ → Type 0) → Same (taken cs P)
   one_same P i j k xs ys (p, x, h, e, f) (q, y, g, a, b) = (e ∙ sym a, f ∙ ap (λ v. v ∷ []) (same_char cs i x y h g) ∙ sym b)
 
-  one_onward : (P : ℕ → Type 0) → Onward (taken cs P)
+  pub one_onward : (P : ℕ → Type 0) → Onward (taken cs P)
   one_onward P i j xs (p, x, h, e, f) = omega (arith, e)
 
   later_begins : (c : Ctx) → BeginsNs cs (taken cs (Later cs c))

@@ -216,7 +216,7 @@ module _ (cs : List ℕ) where
   single_clear i j xs (x, inl (h, v, e), f) = clear_after cs i j x h e (ns_no_return x (single_ns x v))
   single_clear i j xs (x, inr (k, (m, (h, e), (g, d)), (f, t)), q) = clear_after cs m j 39 g (f ∙ d) (omega arith)
 
-  single_to_chain : (n : ℕ) (c : Ctx) (i j : ℕ) (xs : List ℕ) → single cs n c i j xs → single_chain cs n c i j xs
+  pub single_to_chain : (n : ℕ) (c : Ctx) (i j : ℕ) (xs : List ℕ) → single cs n c i j xs → single_chain cs n c i j xs
   unfolding single single_chain single_rest closing
   single_to_chain n c i j xs (u, (k, q, (l, p, (m, (h, e), (f, none))))) =
       let (o, us, vs, chain, g, t) = lines_pieces (single_char cs) (several cs c (fold cs n)) never (gap cs n c) (single_gaps n c) k l xs p in

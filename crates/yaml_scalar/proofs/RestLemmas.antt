@@ -1,14 +1,14 @@
 -- The rest of a line without content, and comment lines: from a place one at most.
-use Rattle.std.proofs.Common.{◌≡◌, ◌≢◌, ℕ, ◌+◌, ◌-◌, ◌<◌, ◌≤◌, ◌⊎◌, inl, inr, List, Option, Some, None, Bool, true, false, ◌||◌, refl, sym, ◌∙◌, ap, subst, arith}
+use Rattle.std.proofs.Common.{◌≡◌, ◌≢◌, ℕ, ◌+◌, ◌<◌, ◌≤◌, ◌⊎◌, inl, inr, List, Some, Bool, true, false, refl, sym, ◌∙◌, ap, subst, arith}
 use Rattle.std.specs.Prelude.{slice_get, ◌==◌}
 use Rattle.std.proofs.Math.Nat.{eq-or-lt_of_le}
-use Rattle.yaml_text.specs.grammar.Rules.{Span, ◌◆◌, run, Stands, maybe}
+use Rattle.yaml_text.specs.grammar.Rules.{◌◆◌, run, Stands, maybe}
 use Rattle.yaml_text.specs.grammar.Characters.{is_space, is_nb, is_break}
-use Rattle.yaml_text.specs.grammar.Separation.{AtEnd, StartsLine, line_end, comment, sep, s_b_comment, l_comment}
+use Rattle.yaml_text.specs.grammar.Separation.{StartsLine, line_end, comment, sep, s_b_comment, l_comment}
 use Rattle.yaml_scalar.specs.BlockRules.{AfterLine, blank_rest}
 use Rattle.yaml_scalar.proofs.AnyLemmas.{SameEnd}
-use Rattle.yaml_scalar.proofs.Runs.{same_char, no_stand, run_none, run_same}
-use Rattle.yaml_scalar.proofs.LineRuns.{line_end_after, end_line_end, end_stops, run_first, line_end_same, line_end_stops, line_end_onward}
+use Rattle.yaml_scalar.proofs.Runs.{no_stand, run_none, run_same}
+use Rattle.yaml_scalar.proofs.LineRuns.{line_end_after, end_line_end, run_first, line_end_same, line_end_stops}
 
 pub nb_feed : is_nb 10 ≡ false
 unfolding is_nb is_break

@@ -1,15 +1,15 @@
 -- Where the lines of a block scalar begin, and what each line is, from what the code reads.
-use Rattle.std.proofs.Common.{◌≡◌, ◌≢◌, ℕ, ◌+◌, ◌-◌, ◌<◌, ◌≤◌, ◌⊎◌, inl, inr, List, [], ◌∷◌, ◌++◌, max, length, replicate, Some, None, Bool, true, false, not, ◌&&◌, refl, sym, ◌∙◌, ap, subst, arith, length-append}
+use Rattle.std.proofs.Common.{◌≡◌, ℕ, ◌+◌, ◌<◌, ◌≤◌, ◌⊎◌, inl, inr, List, [], ◌∷◌, ◌++◌, max, length, replicate, Some, None, Bool, true, false, refl, sym, ◌∙◌, ap, subst, arith, length-append}
 use Rattle.std.specs.Prelude.{slice_get, slice_range}
 use Rattle.std.proofs.lemmas.List.{append-nil}
-use Rattle.yaml_text.specs.grammar.Rules.{◌◆◌, run, Stands, maybe, Any, done, then}
+use Rattle.yaml_text.specs.grammar.Rules.{run, Stands, Any, done, then}
 use Rattle.yaml_text.specs.grammar.Characters.{is_space, is_nb, brk}
 use Rattle.yaml_text.specs.grammar.Separation.{AtEnd, Mark, indent, line_end}
 use Rattle.yaml_text.specs.grammar.BlockScalars.{Line, blank, text, NoSpace, LessIndented, space_lines, greatest, found_indentation, longest_indentation, indentation, blank_line, text_line}
 use Rattle.yaml_text.specs.grammar.Calls.{Unread}
 use Rattle.yaml_scalar.specs.Chains.{line_brk}
 use Rattle.yaml_scalar.specs.BlockRules.{Uncut, Solid, lines_over}
-use Rattle.yaml_scalar.proofs.Runs.{run_none, run_same}
+use Rattle.yaml_scalar.proofs.Runs.{run_same}
 use Rattle.yaml_scalar.proofs.LineRuns.{indent_run, indent_place, spaces_uncut, to_brk, nb_here, line_end_stops, brk_onward, end_stops}
 use Rattle.yaml_scalar.proofs.GapLemmas.{run_join}
 use Rattle.yaml_scalar.proofs.RestLemmas.{nb_feed, nb_return, space_feed, space_return}

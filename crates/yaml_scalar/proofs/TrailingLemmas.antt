@@ -2,7 +2,7 @@
 use Rattle.std.proofs.Common.{◌≡◌, ◌≢◌, ℕ, ◌+◌, ◌<◌, ◌≤◌, inl, inr, List, Some, refl, sym, ◌∙◌, ap, subst, arith}
 use Rattle.std.specs.Prelude.{slice_get}
 use Rattle.yaml_text.specs.grammar.Rules.{◌◆◌, run, Stands, maybe, any_span, furthest_span, Spans}
-use Rattle.yaml_text.specs.grammar.Characters.{is_space, is_nb}
+use Rattle.yaml_text.specs.grammar.Characters.{is_space}
 use Rattle.yaml_text.specs.grammar.Separation.{indent, less, line_end, comment, l_comment}
 use Rattle.yaml_text.specs.grammar.BlockScalars.{comment_lines}
 use Rattle.yaml_scalar.specs.BlockRules.{AfterLine}

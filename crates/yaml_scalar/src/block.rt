@@ -19,7 +19,7 @@ use yaml_text::context::Ctx;
 use yaml_text::fault::Fault;
 use yaml_text::places::accept;
 
-mod blanks;
+pub mod blanks;
 mod content;
 mod header;
 mod lines;

@@ -2,11 +2,11 @@
 #![tactic(auto)]
 
 pub mod block;
-mod class;
+pub mod class;
 pub mod double;
 mod escape;
 pub mod laws;
-mod line;
+pub mod line;
 pub mod plain;
 mod quoted;
 pub mod single;

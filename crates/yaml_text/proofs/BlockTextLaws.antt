@@ -1,7 +1,6 @@
 -- The block spelling of an admitted forest, where it is not too long, is a text that is read.
-use Rattle.std.proofs.Common.{◌≡◌, ◌≤◌, ℕ, zero, suc, true, false, List, [], ◌∷◌, ◌++◌, replicate, length, drop, refl, ap, arith}
+use Rattle.std.proofs.Common.{◌≡◌, ℕ, zero, suc, true, false, List, [], ◌∷◌, ◌++◌, replicate, drop, refl, ap, arith}
 use Rattle.std.specs.Char.{encode_utf8}
-use Rattle.yaml_text.specs.Limits.{text_limit}
 use Rattle.yaml_text.specs.Tree.{Tree}
 use Rattle.yaml_text.specs.Order.{arranged}
 use Rattle.yaml_text.specs.Walk.{walk, agains}
@@ -11,8 +10,8 @@ use Rattle.yaml_text.specs.TagText.{tag_text}
 use Rattle.yaml_text.specs.NodeText.{anchor_text, text}
 use Rattle.yaml_text.specs.Spell.{short, marks_of}
 use Rattle.yaml_text.specs.Block.{in_block, items_in_block, pairs_in_block, spaces, line, item_lines, pair_lines, block, block_bytes}
-use Rattle.yaml_text.specs.Text.{mark_len, Text}
-use Rattle.yaml_text.specs.Proper.{AreAdmitted, Admitted}
+use Rattle.yaml_text.specs.Text.{mark_len}
+use Rattle.yaml_text.specs.Proper.{AreAdmitted}
 use Rattle.yaml_text.specs.Laws.{BlocksAreText}
 use Rattle.yaml_text.proofs.TagLaws.{IsWritten}
 use Rattle.yaml_text.proofs.TextLaws.{IsAnchor, IsFine, AreFine, ArePairsFine}

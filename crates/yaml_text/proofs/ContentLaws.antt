@@ -1,9 +1,9 @@
 -- Canonical content is the only text of its form that denotes its value.
-use Rattle.std.proofs.Common.{◌≡◌, ℕ, Bool, true, false, ◌||◌, if◌then◌else◌, Option, Some, None, List, Ok, Err, ℤ, refl, sym, ◌∙◌, ap, subst, arith}
+use Rattle.std.proofs.Common.{◌≡◌, ℕ, Bool, true, false, if◌then◌else◌, Option, Some, None, List, Ok, Err, ℤ, refl, sym, ◌∙◌, ap, subst, arith}
 use Rattle.std.specs.Prelude.{◌↔◌, bytes_eq}
-use Rattle.yaml_text.specs.Tag.{null_tag, bool_tag, int_tag, float_tag, seq_tag, map_tag}
+use Rattle.yaml_text.specs.Tag.{null_tag, bool_tag, int_tag, float_tag}
 use Rattle.yaml_text.specs.Event.{double, full}
-use Rattle.yaml_text.specs.Core.{wrong_kind, bad_content, Value, null_value, bool_value, int_value, decimal_value, infinity, not_a_number, null_of, bool_of, int_of, float_of, as_bool, as_int, split_at, decimal_of, int_text, decimal_text, content_of, refused, Resolved, taken, by_pattern, by_tag, resolve, value_of}
+use Rattle.yaml_text.specs.Core.{bad_content, Value, null_value, bool_value, int_value, decimal_value, infinity, not_a_number, null_of, bool_of, int_of, float_of, as_bool, as_int, split_at, decimal_of, int_text, decimal_text, content_of, refused, Resolved, taken, by_pattern, by_tag, resolve, value_of}
 use Rattle.yaml_text.specs.Number.{AreEqual}
 use Rattle.yaml_text.specs.Laws.{ContentsTell, OneCanonicalText}
 use Rattle.yaml_text.proofs.CharLaws.{heads, tails}

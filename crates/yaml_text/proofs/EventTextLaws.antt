@@ -1,7 +1,6 @@
 -- A text is that of one list of events alone.
 use Rattle.std.proofs.Common.{◌≡◌, ◌<◌, ℕ, ◌+◌, ◌*◌, ◌==◌, nat_lt, nat_le, not, Bool, true, false, cond, ◌&&◌, ◌||◌, ◌⊎◌, inl, inr, List, [], ◌∷◌, ◌++◌, length, refl, sym, ◌∙◌, ap, subst, arith, append_assoc}
-use Rattle.std.proofs.lemmas.Bool.{cond_both, eqb-true, ltb-true, ltb-false}
-use Rattle.std.proofs.lemmas.Bool.Decides.{nat_tests}
+use Rattle.std.proofs.lemmas.Bool.{cond_both, eqb-true, ltb-false}
 use Rattle.std.proofs.lemmas.Str.{encodes-chars, scalars-chars, IsUtf8-from_is_utf8}
 use Rattle.std.proofs.lemmas.List.Elements.{All-nil, All-cons, All-head, All-tail}
 use Rattle.std.specs.Prelude.{codes, bytes_eq}
@@ -19,7 +18,7 @@ use Rattle.yaml_text.specs.Marked.{Marked, AllMarked, MarkedPairs, alias, scalar
 use Rattle.yaml_text.specs.TagText.{spell_byte, encoded}
 use Rattle.yaml_text.specs.Text.{is_text}
 use Rattle.yaml_text.specs.Sound.{SoundTag, is_anchor_char, is_anchor, IsAnchor, SoundAnchor, Sound, AllSound, PairsSound, DocumentsSound}
-use Rattle.yaml_text.specs.EventText.{value_byte, value_text, style_text, anchor_part, tag_part, flag_text, event_line, events_text, IsSound, EventText}
+use Rattle.yaml_text.specs.EventText.{value_byte, value_text, style_text, anchor_part, tag_part, flag_text, event_line, events_text, IsSound}
 use Rattle.yaml_text.specs.Laws.{EventTextTells, EventsHaveOneText, SoundEventsHaveText}
 use Rattle.yaml_text.proofs.Members.{and_both}
 use Rattle.yaml_text.proofs.CharLaws.{heads, tails}

@@ -1,5 +1,5 @@
 -- What bytes mean, and the text of what they are read as.
-use Rattle.std.proofs.Common.{inl, sym, ◌∙◌, subst}
+use Rattle.std.proofs.Common.{sym, ◌∙◌, subst}
 use Rattle.yaml_text.specs.EventText.{events_text, EventText}
 use Rattle.yaml_text.specs.Sound.{DocumentsSound}
 use Rattle.yaml_text.specs.Laws.{ReadingsHaveText, ReadingsAreProper, MeaningIsProper}
@@ -20,4 +20,4 @@ readings_are_proper bytes es f r s =
     read_is_proper s.documents f (subst DocumentsSound (sym q) d.2) s.unfolded
 
 pub meaning_is_proper : MeaningIsProper
-meaning_is_proper bytes f m = readings_are_proper bytes m.events f (inl m.reads) m.stands
+meaning_is_proper bytes f m = readings_are_proper bytes m.events f m.reads m.stands

@@ -1,16 +1,16 @@
 -- Decimals have one canonical content exactly if they are equal as numbers.
-use Rattle.std.proofs.Common.{◌≡◌, ◌<◌, ◌≤◌, ℕ, zero, suc, ◌+◌, ◌-◌, ◌*◌, ◌/◌, ◌%◌, ◌^◌, ◌==◌, nat_lt, Bool, true, false, cond, ◌&&◌, ◌||◌, ◌⊎◌, inl, inr, Some, List, [], ◌∷◌, ◌++◌, length, replicate, get_or, ℤ, pos, negsuc, neg_ℤ, ◌+ℤ◌, ◌-ℤ◌, refl, sym, ◌∙◌, ap, subst, arith, append_assoc, append-nil}
+use Rattle.std.proofs.Common.{◌≡◌, ◌<◌, ℕ, zero, suc, ◌+◌, ◌-◌, ◌*◌, ◌/◌, ◌%◌, ◌^◌, ◌==◌, nat_lt, Bool, true, false, cond, ◌&&◌, ◌⊎◌, inl, inr, Some, List, [], ◌∷◌, ◌++◌, length, replicate, get_or, ℤ, pos, negsuc, neg_ℤ, ◌+ℤ◌, ◌-ℤ◌, refl, sym, ◌∙◌, ap, subst, arith}
 use Rattle.std.proofs.Math.IntN.{pos-+ℤ-pos, +ℤ-neg_ℤ_cancel, -ℤ-+ℤ_cancel, +ℤ_assoc, +ℤ_comm, +ℤ_idr, +ℤ_invl, +ℤ_invr, neg_ℤ-+ℤ}
 use Rattle.std.proofs.Math.Nat.{pow-suc, pow-succ', mul_assoc, zero-mul}
 use Rattle.std.proofs.lemmas.Nat.{pow-add}
-use Rattle.std.proofs.lemmas.Bool.{cond_both, eqb-true, eqb-false, ne_eqb, ltb-true, ltb-false}
+use Rattle.std.proofs.lemmas.Bool.{cond_both, eqb-true, ne_eqb, ltb-true}
 use Rattle.std.specs.Int.Digits.{digits_of, number_from_digits, number_from_digits_after, AllBelowBase}
 use Rattle.std.proofs.lemmas.Int.Digits.{digits_of_step, all_below_base_digits_of, number_digits_of, first_digits_of, number_after_append}
 use Rattle.yaml_text.specs.Core.{Value, decimal_value, is_empty, signed, split_at, decimal_of, trimmed, exponent, digits_text, decimal_text, content_of}
 use Rattle.yaml_text.specs.Number.{or_zero, lowered}
 use Rattle.yaml_text.proofs.Members.{and_both}
 use Rattle.yaml_text.proofs.ResolveLaws.{number, content_is}
-use Rattle.yaml_text.proofs.FloatLaws.{sign_text, back, decimal_back, digits_number, trimmed_again, trimmed_below, trimmed_first}
+use Rattle.yaml_text.proofs.FloatLaws.{sign_text, decimal_back, trimmed_again, trimmed_below, trimmed_first}
 
 -- ---- integers
 

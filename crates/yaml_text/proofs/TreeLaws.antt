@@ -1,12 +1,11 @@
 -- The order of trees, and trees that are the same, in the words of the laws.
-use Rattle.std.proofs.Common.{◌≡◌, inl, inr, refl, sym, ◌∙◌, subst}
+use Rattle.std.proofs.Common.{◌≡◌, inl, inr, subst}
 use Rattle.std.specs.declared.cmp.Ordering.{Ordering}
 use Rattle.std.specs.declared.cmp.Ordering.TheVariants.{Less, Equal, Greater}
 use Rattle.std.specs.Ordering.{MatchOrdering}
 use Rattle.std.proofs.lemmas.Cmp.{tied_itself}
-use Rattle.yaml_text.specs.Tree.{Tree}
 use Rattle.yaml_text.specs.Order.{tree_cmp, arranged, Before}
-use Rattle.yaml_text.specs.Same.{Same, Keyed}
+use Rattle.yaml_text.specs.Same.{Same}
 use Rattle.yaml_text.proofs.Equivalence.{same_refl, same_sym, same_trans}
 use Rattle.yaml_text.specs.Laws.{OrderIsTotal, OrderTells, ExactlyOne, BeforeOrSame, BeforeGoesOn, SameToItself, SameEitherWay, SameGoesOn, SameIsArranged}
 use Rattle.yaml_text.proofs.OrderLaws.{tree_cmp-total, tree_same}

@@ -1,5 +1,5 @@
 -- What the code's events, styles and contexts are as plain values.
-use Rattle.std.specs.Prelude.{◌≡◌, ◌++◌, ℕ, List, Option, map}
+use Rattle.std.specs.Prelude.{◌≡◌, ◌++◌, List, map}
 use Rattle.std.specs.Option.{option_map}
 use Rattle.std.specs.Cow.{cow_str_bytes}
 use Rattle.yaml_text.specs.Event.{Event, Style, WrittenTag, untagged, non_specific, full, stream_start, stream_end, document_start, document_end, sequence_start, sequence_end, mapping_start, mapping_end, scalar_event, alias_event}

@@ -16,7 +16,7 @@ use Rattle.yaml_text.specs.Marked.{Marked, flat, Document, stream_events}
 use Rattle.yaml_text.specs.Unfold.{trees_of}
 use Rattle.yaml_text.specs.Sound.{DocumentsSound, AllProper}
 use Rattle.yaml_text.specs.Means.{StandsFor, Means, Understood}
-use Rattle.yaml_text.specs.grammar.Reading.{Reads, ReadsWide}
+use Rattle.yaml_text.specs.grammar.Reading.{Reads}
 use Rattle.yaml_text.specs.Proper.{Admitted}
 use Rattle.yaml_text.specs.Same.{Same, Keyed, Alike}
 
@@ -123,13 +123,13 @@ ReadIsProper = (ds : List Document) (f : List Tree) → DocumentsSound ds → tr
 
 -- ---- bytes
 
--- What bytes are read as, in either profile, has an event text.
+-- What bytes are read as has an event text.
 abbrev pub ReadingsHaveText : Type 0
-ReadingsHaveText = (bytes : List ℕ) (es : List Event) → Reads bytes es ⊎ ReadsWide bytes es → EventText (events_text es) es
+ReadingsHaveText = (bytes : List ℕ) (es : List Event) → Reads bytes es → EventText (events_text es) es
 
 -- The trees that it stands for are proper.
 abbrev pub ReadingsAreProper : Type 0
-ReadingsAreProper = (bytes : List ℕ) (es : List Event) (f : List Tree) → Reads bytes es ⊎ ReadsWide bytes es → StandsFor es f → AllProper f
+ReadingsAreProper = (bytes : List ℕ) (es : List Event) (f : List Tree) → Reads bytes es → StandsFor es f → AllProper f
 
 -- What bytes mean is proper.
 abbrev pub MeaningIsProper : Type 0

@@ -3,15 +3,15 @@ use Rattle.std.specs.Prelude.{ℕ}
 
 -- bytes of an input, and of a canonical text
 abbrev pub text_limit : ℕ
-text_limit = 16777216
+text_limit = 67108864
 
 -- collections that are open at one place
 abbrev pub open_limit : ℕ
-open_limit = 128
+open_limit = 1024
 
 -- the height of a document's tree, one below `open_limit`, so that each canonical text reads back
 abbrev pub height_limit : ℕ
-height_limit = 127
+height_limit = 1023
 
 -- characters before the `:` of an implicit key
 abbrev pub key_limit : ℕ
@@ -19,7 +19,7 @@ key_limit = 1024
 
 -- the greatest indentation that a scalar may be read at
 abbrev pub indentation_limit : ℕ
-indentation_limit = 16777215
+indentation_limit = 67108863
 
 -- bytes of a decoded tag
 abbrev pub tag_limit : ℕ

@@ -1,5 +1,5 @@
 -- Trees that the canonical text is promised for.
-use Rattle.std.specs.Prelude.{◌≡◌, ◌≤◌, ℕ, true, List, [], ◌∷◌, length, Ok}
+use Rattle.std.specs.Prelude.{◌≡◌, ◌≤◌, true, List, [], ◌∷◌, length, Ok}
 use Rattle.std.specs.Str.{is_utf8}
 use Rattle.yaml_text.specs.Limits.{text_limit, height_limit}
 use Rattle.yaml_text.specs.Tag.{IsTag}

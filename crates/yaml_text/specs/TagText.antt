@@ -1,5 +1,5 @@
 -- How a node's tag is written in canonical text.
-use Rattle.std.specs.Prelude.{ℕ, Bool, cond, ◌/◌, ◌%◌, ◌++◌, ◌&&◌, ◌||◌, ◌==◌, nat_le, List, [], ◌∷◌, codes}
+use Rattle.std.specs.Prelude.{ℕ, cond, ◌/◌, ◌%◌, ◌++◌, List, [], ◌∷◌, codes}
 use Rattle.std.specs.Prelude.{bytes_eq}
 use Rattle.yaml_text.specs.grammar.Characters.{is_uri}
 use Rattle.yaml_text.specs.CharText.{hex_digit}

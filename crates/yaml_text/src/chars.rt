@@ -6,9 +6,7 @@ ghost use Rattle.yaml_text.specs.Limits.{text_limit};
 
 use crate::class::is_text;
 use crate::fault::Fault;
-
-/// The greatest length of an input, in bytes.
-const TEXT_LIMIT: usize = 16_777_216;
+use crate::limits::text_limit;
 
 const MARK: &str = "\u{FEFF}";
 
@@ -53,7 +51,7 @@ impl<'a> Chars<'a> {
 
     /// Checks an input, and skips the byte order mark that it may begin with.
     ///
-    /// Refused are, in this order, more than 16,777,216 bytes, bytes that are not UTF-8, and the
+    /// Refused are, in this order, more bytes than the limit, bytes that are not UTF-8, and the
     /// first character that is not printable (YAML 1.2.2, 5.1) or is a further U+FEFF.
     pub fn read(bytes: &'a [u8]) -> Result<Chars<'a>, Fault>
         ensures read { IfOk result (λ c. Text bytes.now (chars (bytes_of c))) }
@@ -61,7 +59,7 @@ impl<'a> Chars<'a> {
         ensures mark { IfOk result (λ c. mark_of c ≡ mark_len bytes.now) }
         ensures refused { IfErr result (RefusesText bytes.now) }
     {
-        if bytes.len() > TEXT_LIMIT {
+        if bytes.len() > text_limit() {
             return Err(Fault::TooLong);
         }
         let whole = match simdutf8::compat::from_utf8(bytes) {

@@ -1,5 +1,5 @@
 //! Laws of the grammar. Each function has an empty body, and its contract is a law.
-ghost use Rattle.yaml_text.specs.grammar.Laws.{ReadingsGoOn, DocumentsUnmarked, OneText, ReadingsAreDocuments, ReadingsStay, ReadingsStayWide};
+ghost use Rattle.yaml_text.specs.grammar.Laws.{ReadingsGoOn, DocumentsUnmarked, OneText, ReadingsAreDocuments, ReadingsStay};
 
 /// No reading of a production ends before its start.
 pub fn readings_go_on()
@@ -16,8 +16,7 @@ pub fn one_text()
     ensures { OneText }
 {}
 
-/// The events of every reading are those of documents, in either profile: they are well nested, a
-/// tag that is written out is a tag, a name is of anchor characters, and a text is UTF-8.
+/// The events of every reading are those of documents: they are well nested, a tag that is written out is a tag, a name is of anchor characters, and a text is UTF-8.
 pub fn readings_are_documents()
     ensures { ReadingsAreDocuments }
 {}
@@ -25,9 +24,4 @@ pub fn readings_are_documents()
 /// A reading stays one where more collections may be open, and in a wider profile.
 pub fn readings_stay()
     ensures { ReadingsStay }
-{}
-
-/// What bytes are read as in the narrow profile, they are read as in the wide one.
-pub fn readings_stay_wide()
-    ensures { ReadingsStayWide }
 {}

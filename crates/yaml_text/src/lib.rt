@@ -8,6 +8,7 @@ pub mod event;
 pub mod fault;
 pub mod grammar_laws;
 pub mod laws;
+pub mod limits;
 pub mod places;
 #[cfg(test)]
 mod tests;

@@ -1,9 +1,9 @@
 -- The block spelling: worked examples, computed (YAML 1.2.2, 8.2).
-use Rattle.std.proofs.Common.{◌≡◌, ℕ, true, false, List, [], ◌∷◌, refl}
+use Rattle.std.proofs.Common.{◌≡◌, ℕ, List, [], ◌∷◌, refl}
 use Rattle.std.specs.Prelude.{codes}
 use Rattle.std.specs.Str.{chars}
 use Rattle.std.specs.Char.{encode_utf8}
-use Rattle.yaml_text.specs.Tag.{core_tag, seq_tag}
+use Rattle.yaml_text.specs.Tag.{core_tag}
 use Rattle.yaml_text.specs.Tree.{Tree, sequence}
 use Rattle.yaml_text.specs.Order.{tree_cmp, arranged}
 use Rattle.yaml_text.specs.Same.{same}

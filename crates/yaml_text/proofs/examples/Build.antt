@@ -1,7 +1,7 @@
 -- Trees and marks of the worked examples, written short.
-use Rattle.std.specs.Prelude.{ℕ, true, false, codes, List, [], ◌∷◌}
-use Rattle.std.specs.declared.option.Option.TheVariants.{None, Some}
-use Rattle.yaml_text.specs.Tag.{core_tag, null_tag, bool_tag, int_tag, float_tag, str_tag, seq_tag, map_tag}
+use Rattle.std.specs.Prelude.{true, false, codes, List, [], ◌∷◌}
+use Rattle.std.specs.declared.option.Option.TheVariants.{Some}
+use Rattle.yaml_text.specs.Tag.{null_tag, bool_tag, int_tag, float_tag, str_tag, seq_tag, map_tag}
 use Rattle.yaml_text.specs.Tree.{Tree, Trees, Pairs, scalar, sequence, mapping, end, item, done, entry}
 use Rattle.yaml_text.specs.Event.{Anchor, plain, untagged}
 use Rattle.yaml_text.specs.Marked.{Marked, AllMarked, MarkedPairs, alias, scalar_at, sequence_at, mapping_at, end_marks, item_mark, done_marks, entry_marks, Document}

@@ -1,8 +1,7 @@
 -- The spelling of characters between double quotes: worked examples, computed (YAML 1.2.2, 5.1, 5.7 and 7.3.1).
-use Rattle.std.proofs.Common.{◌≡◌, ℕ, List, [], ◌∷◌, ◌++◌, refl}
+use Rattle.std.proofs.Common.{◌≡◌, [], ◌∷◌, ◌++◌, refl}
 use Rattle.std.specs.Prelude.{codes}
 use Rattle.yaml_text.specs.Tag.{core_tag, null_tag, bool_tag, int_tag, float_tag, str_tag, seq_tag, map_tag}
-use Rattle.yaml_text.specs.Event.{untagged, full}
 use Rattle.yaml_text.specs.CharText.{spell_char}
 use Rattle.yaml_text.specs.grammar.Characters.{is_uri, is_word}
 use Rattle.yaml_text.specs.TagText.{spell_byte, full_text, tag_text, written_tag}

@@ -1,8 +1,8 @@
 -- Event text: worked examples, computed.
-use Rattle.std.proofs.Common.{◌≡◌, ℕ, true, false, List, [], ◌∷◌, ◌++◌, refl}
+use Rattle.std.proofs.Common.{◌≡◌, true, false, List, [], ◌∷◌, ◌++◌, refl}
 use Rattle.std.specs.Prelude.{codes}
 use Rattle.std.specs.declared.option.Option.TheVariants.{None, Some}
-use Rattle.yaml_text.specs.Event.{plain, single, double, literal, folded, untagged, non_specific, full, Event, stream_start, stream_end, document_start, document_end, sequence_start, sequence_end, mapping_start, mapping_end, scalar_event, alias_event}
+use Rattle.yaml_text.specs.Event.{plain, single, double, literal, folded, untagged, non_specific, full, Event, stream_start, stream_end, document_start, document_end, sequence_start, sequence_end, mapping_start, scalar_event, alias_event}
 use Rattle.yaml_text.specs.Tag.{core_tag, int_tag}
 use Rattle.yaml_text.specs.TagText.{spell_byte}
 use Rattle.yaml_text.specs.grammar.Characters.{is_uri, is_word}

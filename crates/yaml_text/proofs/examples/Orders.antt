@@ -1,13 +1,13 @@
 -- The order of trees, and trees that are the same: worked examples, computed.
-use Rattle.std.proofs.Common.{◌≡◌, ℕ, true, false, List, [], ◌∷◌, refl}
+use Rattle.std.proofs.Common.{◌≡◌, true, false, [], ◌∷◌, refl}
 use Rattle.std.specs.Prelude.{codes}
 use Rattle.std.specs.declared.cmp.Ordering.{Ordering}
-use Rattle.std.specs.declared.cmp.Ordering.TheVariants.{Less, Equal, Greater}
-use Rattle.yaml_text.specs.Tag.{core_tag, int_tag, seq_tag}
-use Rattle.yaml_text.specs.Tree.{Tree, scalar, sequence, mapping, end, height}
+use Rattle.std.specs.declared.cmp.Ordering.TheVariants.{Less, Greater}
+use Rattle.yaml_text.specs.Tag.{core_tag}
+use Rattle.yaml_text.specs.Tree.{Tree, scalar, sequence, end, height}
 use Rattle.yaml_text.specs.Order.{tree_cmp, arranged}
 use Rattle.yaml_text.specs.Same.{same, keyed}
-use Rattle.yaml_text.proofs.examples.Build.{Text, str, int, float, bool, null, trees, pairs, seq, map_of}
+use Rattle.yaml_text.proofs.examples.Build.{str, int, float, bool, null, seq, map_of}
 
 -- how two trees compare, once their pairs stand in order
 compared : Tree → Tree → Ordering

@@ -1,11 +1,10 @@
 -- The ends of the ranges of ints and floats (YAML 1.2.2, 10.2.1.3 and 10.2.1.4, the ranges the profile's own).
-use Rattle.std.proofs.Common.{◌≡◌, ◌<◌, ℕ, ◌+◌, ◌==◌, ◌&&◌, not, nat_lt, Bool, true, false, Ok, Some, List, [], ◌∷◌, map, pos, negsuc, refl, sym, ◌∙◌, ap, arith}
+use Rattle.std.proofs.Common.{◌≡◌, ℕ, ◌+◌, ◌==◌, nat_lt, true, false, Ok, Some, List, [], ◌∷◌, map, pos, negsuc, refl, sym, ◌∙◌, ap, arith}
 use Rattle.std.specs.Prelude.{codes}
 use Rattle.std.specs.List.{list_all}
-use Rattle.std.specs.Char.{is_digit, digit_value}
+use Rattle.std.specs.Char.{digit_value}
 use Rattle.std.specs.Int.Digits.{digits_of, number_from_digits, AllBelowBase}
 use Rattle.std.proofs.lemmas.Bool.{ne_eqb, ltb-true}
-use Rattle.std.proofs.lemmas.Bool.Decides.{nat_tests}
 use Rattle.yaml_text.specs.Event.{plain, untagged}
 use Rattle.yaml_text.specs.Tag.{core_tag, int_tag, float_tag}
 use Rattle.yaml_text.specs.Core.{Resolved, decimal_value, resolve, by_table, null_of, bool_of, int_of, float_of, decimal_of, split_at, is_null, content_of, natural_text, int_text, decimal_text, trimmed, exponent}

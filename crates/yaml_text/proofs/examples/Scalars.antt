@@ -1,6 +1,6 @@
 -- What scalars denote (YAML 1.2.2, 10.3.2): worked examples, computed.
-use Rattle.std.proofs.Common.{◌≡◌, ℕ, List, [], ◌∷◌, ◌++◌, refl, Ok, Err}
-use Rattle.std.specs.Prelude.{codes, replicate}
+use Rattle.std.proofs.Common.{◌≡◌, [], refl, Ok, Err}
+use Rattle.std.specs.Prelude.{codes}
 use Rattle.yaml_text.specs.Event.{Style, plain, single, double, literal, folded, WrittenTag, untagged, non_specific, full}
 use Rattle.yaml_text.specs.Tag.{core_tag, null_tag, bool_tag, int_tag, float_tag, str_tag, seq_tag, map_tag}
 use Rattle.yaml_text.specs.Core.{Resolved, resolve, collection_tag, wrong_kind, bad_content, int_range, float_range, by_table, by_tag, null_of, bool_of, int_of, float_of, decimal_of, split_at, is_null, content_of, natural_text, int_text, decimal_text, trimmed, exponent}

@@ -1,9 +1,9 @@
 -- Canonical text: worked examples, computed.
-use Rattle.std.proofs.Common.{◌≡◌, ℕ, ◌+◌, true, false, List, [], ◌∷◌, ◌++◌, refl}
+use Rattle.std.proofs.Common.{◌≡◌, ℕ, true, false, List, [], ◌∷◌, ◌++◌, refl}
 use Rattle.std.specs.Prelude.{codes, replicate}
 use Rattle.std.specs.Str.{chars}
 use Rattle.std.specs.Char.{encode_utf8}
-use Rattle.yaml_text.specs.Tag.{core_tag, int_tag, str_tag, seq_tag}
+use Rattle.yaml_text.specs.Tag.{core_tag, str_tag}
 use Rattle.yaml_text.specs.Tree.{Tree, scalar, sequence, end}
 use Rattle.yaml_text.specs.Order.{tree_cmp, arranged}
 use Rattle.yaml_text.specs.Same.{same}

@@ -1,14 +1,14 @@
 -- Aliases put in place (YAML 1.2.2, 3.2.2.2 and 7.1): worked examples, computed.
-use Rattle.std.proofs.Common.{◌≡◌, ℕ, true, false, List, [], ◌∷◌, refl, Ok, Err}
+use Rattle.std.proofs.Common.{◌≡◌, true, List, [], ◌∷◌, refl, Ok, Err}
 use Rattle.std.specs.Prelude.{codes}
 use Rattle.std.specs.declared.option.Option.TheVariants.{None}
-use Rattle.yaml_text.specs.Tag.{core_tag, int_tag, seq_tag}
+use Rattle.yaml_text.specs.Tag.{core_tag, int_tag}
 use Rattle.yaml_text.specs.Tree.{Tree}
-use Rattle.yaml_text.specs.Event.{plain, double, untagged, full}
+use Rattle.yaml_text.specs.Event.{plain, double, full}
 use Rattle.yaml_text.specs.Marked.{Marked, scalar_at, sequence_at, flat}
-use Rattle.yaml_text.specs.Core.{undefined_alias, cyclic_alias, wrong_kind, bad_content, int_range, resolve, collection_tag, by_table, by_tag, null_of, is_null, bool_of, int_of, float_of, decimal_of, split_at, content_of, natural_text, int_text}
+use Rattle.yaml_text.specs.Core.{undefined_alias, cyclic_alias, wrong_kind, resolve, collection_tag, by_table, by_tag, null_of, is_null, bool_of, int_of, float_of, decimal_of, split_at, content_of, natural_text, int_text}
 use Rattle.yaml_text.specs.Unfold.{Outcome, last_named, unfold_node, trees_from, trees_of}
-use Rattle.yaml_text.proofs.examples.Build.{Text, str, int, seq, map_of, named, leaf, again, marks, flow_seq, flow_map, bare}
+use Rattle.yaml_text.proofs.examples.Build.{str, int, seq, map_of, named, leaf, again, marks, flow_seq, flow_map, bare}
 
 -- the trees of a stream of one document, or the first refusal with its event's number; the node's first event is number 2
 unfolded : Marked → Outcome (List Tree)

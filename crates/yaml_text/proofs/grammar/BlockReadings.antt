@@ -20,7 +20,7 @@ abbrev sequence_in_mapping_text : List ℕ
 sequence_in_mapping_text = codes "k:\n- x\nl: y\n"
 
 -- 8.2.1: a block sequence at its mapping's own column
-pub sequence_in_mapping : ReadsText sequence_in_mapping_text ⊥ open_limit (
+pub sequence_in_mapping : ReadsText sequence_in_mapping_text (Unit {0}) open_limit (
     stream_start
     ∷ document_start false
     ∷ mapping_start false None untagged
@@ -41,7 +41,7 @@ abbrev compact_sequence_text : List ℕ
 compact_sequence_text = codes "- - a\n  - b\n"
 
 -- 8.2.1: a compact sequence in a sequence
-pub compact_sequence : ReadsText compact_sequence_text ⊥ open_limit (
+pub compact_sequence : ReadsText compact_sequence_text (Unit {0}) open_limit (
     stream_start
     ∷ document_start false
     ∷ sequence_start false None untagged
@@ -60,7 +60,7 @@ abbrev compact_mapping_text : List ℕ
 compact_mapping_text = codes "- a: b\n  c: d\n"
 
 -- 8.2.2: a compact mapping in a sequence
-pub compact_mapping : ReadsText compact_mapping_text ⊥ open_limit (
+pub compact_mapping : ReadsText compact_mapping_text (Unit {0}) open_limit (
     stream_start
     ∷ document_start false
     ∷ sequence_start false None untagged
@@ -81,7 +81,7 @@ abbrev block_mapping_text : List ℕ
 block_mapping_text = codes "a:\n b: c\nd: e"
 
 -- 8.2.2: a block mapping in another
-pub block_mapping : ReadsText block_mapping_text ⊥ open_limit (
+pub block_mapping : ReadsText block_mapping_text (Unit {0}) open_limit (
     stream_start
     ∷ document_start false
     ∷ mapping_start false None untagged
@@ -103,7 +103,7 @@ abbrev properties_over_lines_text : List ℕ
 properties_over_lines_text = codes "!!map\n&a\nb: c\n"
 
 -- 6.9, 8.2.3: the properties of a block collection, over lines
-pub properties_over_lines : ReadsText properties_over_lines_text ⊥ open_limit (
+pub properties_over_lines : ReadsText properties_over_lines_text (Unit {0}) open_limit (
     stream_start
     ∷ document_start false
     ∷ mapping_start false (Some (codes "a")) (full (codes "tag:yaml.org,2002:map"))
@@ -120,7 +120,7 @@ abbrev aliases_text : List ℕ
 aliases_text = codes "- &a b\n- *a\n"
 
 -- 6.9.2, 7.1: an anchor and its alias
-pub aliases : ReadsText aliases_text ⊥ open_limit (
+pub aliases : ReadsText aliases_text (Unit {0}) open_limit (
     stream_start
     ∷ document_start false
     ∷ sequence_start false None untagged
@@ -137,7 +137,7 @@ abbrev empty_nodes_text : List ℕ
 empty_nodes_text = codes "a:\nb:\n -\n - &c\n"
 
 -- 7.2: empty nodes in block collections
-pub empty_nodes : ReadsText empty_nodes_text ⊥ open_limit (
+pub empty_nodes : ReadsText empty_nodes_text (Unit {0}) open_limit (
     stream_start
     ∷ document_start false
     ∷ mapping_start false None untagged
@@ -159,7 +159,7 @@ abbrev comments_text : List ℕ
 comments_text = codes "# c\na#b # d\n # e\n"
 
 -- 6.6: comments on lines of their own, after a node, and none without a space before its `#`
-pub comments : ReadsText comments_text ⊥ open_limit (
+pub comments : ReadsText comments_text (Unit {0}) open_limit (
     stream_start
     ∷ document_start false
     ∷ scalar_event None untagged plain (codes "a#b")

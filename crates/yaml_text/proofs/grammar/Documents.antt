@@ -1,7 +1,6 @@
 -- The events of every reading are those of documents: a law over all productions, one line for each, by induction on the room.
-use Rattle.std.proofs.Common.{◌≡◌, ℕ, zero, suc, ◌+◌, Bool, true, false, List, [], ◌∷◌, ◌++◌, length, refl, sym, ◌∙◌, ap, subst, inl, inr}
+use Rattle.std.proofs.Common.{◌≡◌, ℕ, zero, suc, Bool, true, false, List, [], ◌∷◌, ◌++◌, length, refl, sym, ◌∙◌, ap, subst}
 use Rattle.std.specs.Prelude.{encode_utf8_all}
-use Rattle.std.specs.Str.{is_utf8}
 use Rattle.std.proofs.lemmas.Str.{is_utf8-from_IsUtf8}
 use Rattle.std.proofs.lemmas.List.{append_assoc}
 use Rattle.yaml_text.specs.Event.{Event, Style, sequence_start, sequence_end, mapping_start, mapping_end, document_start, document_end, stream_start, stream_end}
@@ -11,9 +10,9 @@ use Rattle.yaml_text.specs.Marked.{Marked, AllMarked, MarkedPairs, alias, scalar
 use Rattle.yaml_text.specs.Marked as marked
 use Rattle.std.proofs.lemmas.List.Sums.{list_all-from_AllPass}
 use Rattle.yaml_text.specs.Text.{is_text}
-use Rattle.yaml_text.specs.Sound.{SoundTag, Sound, AllSound, PairsSound, DocumentsSound}
-use Rattle.yaml_text.specs.grammar.Rules.{Span, Rule, ◌◆◌, ◌▸◌, ◌◂◌, ◌⨾◌, ◌∪◌, never, any_one, maybe, chr}
-use Rattle.yaml_text.specs.grammar.Separation.{Ctx, flow_key, flow_out, block_key, indent, separate}
+use Rattle.yaml_text.specs.Sound.{Sound, AllSound, PairsSound, DocumentsSound}
+use Rattle.yaml_text.specs.grammar.Rules.{Rule, ◌⨾◌, never, any_one}
+use Rattle.yaml_text.specs.grammar.Separation.{Ctx, flow_key, flow_out, block_key}
 use Rattle.yaml_text.specs.grammar.Events.{Props, no_props, seq_start, map_start, scalar, empty, wrapped}
 use Rattle.yaml_text.specs.grammar.Events as events
 use Rattle.yaml_text.specs.grammar.Tags as tags
@@ -22,7 +21,7 @@ use Rattle.yaml_text.specs.grammar.Nodes.{Part, yaml_part, json_part, pair_part,
 use Rattle.yaml_text.specs.grammar.Streams as streams
 use Rattle.yaml_text.specs.grammar.Streams.{Piece, document_piece, suffix_piece, ReadsText}
 use Rattle.yaml_text.specs.grammar.Laws.{FromDocuments, ReadingsAreDocuments}
-use Rattle.yaml_text.specs.grammar.Reading.{Reads, ReadsWide}
+use Rattle.yaml_text.specs.grammar.Reading.{Reads}
 use Rattle.yaml_text.proofs.grammar.Values.{Each, Free, Joins, AreScalars, AreCharacters, IsNameText, SoundProps, each_alias, each_before, each_after, each_either, each_taking, each_some, each_giving, each_never, each_seen, each_given, each_bounded, each_weaker, each_joined, each_any, each_optional, each_free, each_properties, each_plain, each_single, each_double, each_literal, each_folded}
 
 -- ---- the events of a node, of items and of entries; the last two before more of them
@@ -330,6 +329,5 @@ module _ (cs : List ℕ) (characters : AreCharacters cs) where
         (q.0, e ∙ ap (λ x. stream_start ∷ x) (q.1 (stream_end ∷ [])), q.2)
 
 pub readings_are_documents : ReadingsAreDocuments
-unfolding Reads ReadsWide
-readings_are_documents bytes es (inl (cs, text, r)) = documents_of_reading cs (text.scalars, list_all-from_AllPass is_text cs text.permitted) ⊥ open_limit es r
-readings_are_documents bytes es (inr (cs, text, r)) = documents_of_reading cs (text.scalars, list_all-from_AllPass is_text cs text.permitted) (Unit {0}) open_limit es r
+unfolding Reads
+readings_are_documents bytes es (cs, text, r) = documents_of_reading cs (text.scalars, list_all-from_AllPass is_text cs text.permitted) (Unit {0}) open_limit es r

@@ -20,7 +20,7 @@ abbrev flow_sequence_text : List ℕ
 flow_sequence_text = codes "[a, b,]"
 
 -- 7.4.1: a last comma begins no entry
-pub flow_sequence : ReadsText flow_sequence_text ⊥ open_limit (
+pub flow_sequence : ReadsText flow_sequence_text (Unit {0}) open_limit (
     stream_start
     ∷ document_start false
     ∷ sequence_start true None untagged
@@ -37,7 +37,7 @@ abbrev flow_mapping_text : List ℕ
 flow_mapping_text = codes "{a: b, c}"
 
 -- 7.4.2: a key without a value has an empty one
-pub flow_mapping : ReadsText flow_mapping_text ⊥ open_limit (
+pub flow_mapping : ReadsText flow_mapping_text (Unit {0}) open_limit (
     stream_start
     ∷ document_start false
     ∷ mapping_start true None untagged
@@ -56,7 +56,7 @@ abbrev single_pair_text : List ℕ
 single_pair_text = codes "[a: b]"
 
 -- 7.4.2: a pair in a sequence is a mapping of one entry
-pub single_pair : ReadsText single_pair_text ⊥ open_limit (
+pub single_pair : ReadsText single_pair_text (Unit {0}) open_limit (
     stream_start
     ∷ document_start false
     ∷ sequence_start true None untagged
@@ -75,7 +75,7 @@ abbrev adjacent_value_text : List ℕ
 adjacent_value_text = codes "{\"a\":b}"
 
 -- 7.4.2: a value may stand right after the `:` of a JSON-like key
-pub adjacent_value : ReadsText adjacent_value_text ⊥ open_limit (
+pub adjacent_value : ReadsText adjacent_value_text (Unit {0}) open_limit (
     stream_start
     ∷ document_start false
     ∷ mapping_start true None untagged
@@ -92,7 +92,7 @@ abbrev nested_lines_text : List ℕ
 nested_lines_text = codes "{k: [a, # c\n  b ]}"
 
 -- 7.4: flow collections over lines, with a comment
-pub nested_lines : ReadsText nested_lines_text ⊥ open_limit (
+pub nested_lines : ReadsText nested_lines_text (Unit {0}) open_limit (
     stream_start
     ∷ document_start false
     ∷ mapping_start true None untagged
@@ -112,7 +112,7 @@ abbrev empty_values_text : List ℕ
 empty_values_text = codes "[!!str , &a : ]"
 
 -- 7.2: nodes of properties alone, and a value that is empty
-pub empty_values : ReadsText empty_values_text ⊥ open_limit (
+pub empty_values : ReadsText empty_values_text (Unit {0}) open_limit (
     stream_start
     ∷ document_start false
     ∷ sequence_start true None untagged

@@ -17,161 +17,161 @@ pub use Rattle.yaml_text.specs.grammar.Laws.{Onward, Forward}
 
 -- ---- the combinators
 
-on_then : {R S : Span} → Onward R → Onward S → Onward (R ◆ S)
+pub on_then : {R S : Span} → Onward R → Onward S → Onward (R ◆ S)
 on_then f g i j (k, r, s) = let a : i ≤ k = f i k r in let b : k ≤ j = g k j s in omega (arith, a, b)
 
-on_or : {R S : Span} → Onward R → Onward S → Onward (R ⊔ S)
+pub on_or : {R S : Span} → Onward R → Onward S → Onward (R ⊔ S)
 on_or f g i j (inl r) = f i j r
 on_or f g i j (inr s) = g i j s
 
-on_nowhere : Onward nowhere
+pub on_nowhere : Onward nowhere
 on_nowhere i j e = omega (arith, e)
 
-on_ahead : (P : ℕ → Type 0) → Onward (ahead P)
+pub on_ahead : (P : ℕ → Type 0) → Onward (ahead P)
 on_ahead P i j (e, h) = omega (arith, e)
 
-on_limited : (P : ℕ → ℕ → Type 0) {R : Span} → Onward R → Onward (limited P R)
+pub on_limited : (P : ℕ → ℕ → Type 0) {R : Span} → Onward R → Onward (limited P R)
 on_limited P f i j (p, r) = f i j r
 
-on_spans : {R : Span} → Onward R → Onward (any_span R)
+pub on_spans : {R : Span} → Onward R → Onward (any_span R)
 on_spans {R} f i j r = go i r
   where
     go : (i : ℕ) → Spans R j i → i ≤ j
     go i (Spans.done e) = omega (arith, e)
     go i (Spans.then k r more) = let a : i ≤ k = f i k r in let b : k ≤ j = go k more in omega (arith, a, b)
 
-on_times : {R : Span} → Onward R → (n : ℕ) → Onward (times n R)
+pub on_times : {R : Span} → Onward R → (n : ℕ) → Onward (times n R)
 on_times f zero i j e = omega (arith, e)
 on_times {R} f (suc n) i j (k, r, s) = let a : i ≤ k = f i k r in let b : k ≤ j = on_times {R = R} f n k j s in omega (arith, a, b)
 
-before : {V : Type 0} {R : Span} {S : Rule V} → Onward R → Forward S → Forward (R ▸ S)
+pub before : {V : Type 0} {R : Span} {S : Rule V} → Onward R → Forward S → Forward (R ▸ S)
 before f g i j v (k, r, s) = let a : i ≤ k = f i k r in let b : k ≤ j = g k j v s in omega (arith, a, b)
 
-after : {V : Type 0} {R : Rule V} {S : Span} → Forward R → Onward S → Forward (R ◂ S)
+pub after : {V : Type 0} {R : Rule V} {S : Span} → Forward R → Onward S → Forward (R ◂ S)
 after f g i j v (k, r, s) = let a : i ≤ k = f i k v r in let b : k ≤ j = g k j s in omega (arith, a, b)
 
-both : {A : Type 0} {R S : Rule (List A)} → Forward R → Forward S → Forward (R ⨾ S)
+pub both : {A : Type 0} {R S : Rule (List A)} → Forward R → Forward S → Forward (R ⨾ S)
 both f g i j v (k, ys, zs, r, s, e) = let a : i ≤ k = f i k ys r in let b : k ≤ j = g k j zs s in omega (arith, a, b)
 
-either : {V : Type 0} {R S : Rule V} → Forward R → Forward S → Forward (R ∪ S)
+pub either : {V : Type 0} {R S : Rule V} → Forward R → Forward S → Forward (R ∪ S)
 either f g i j v (inl r) = f i j v r
 either f g i j v (inr s) = g i j v s
 
-taking : {A V : Type 0} {R : Rule A} {S : A → Rule V} → Forward R → ((a : A) → Forward (S a)) → Forward (with_value R S)
+pub taking : {A V : Type 0} {R : Rule A} {S : A → Rule V} → Forward R → ((a : A) → Forward (S a)) → Forward (with_value R S)
 taking f g i j v (k, a, r, s) = let x : i ≤ k = f i k a r in let y : k ≤ j = g a k j v s in omega (arith, x, y)
 
-for_some : {V : Type 0} {R : ℕ → Rule V} → ((a : ℕ) → Forward (R a)) → Forward (some R)
+pub for_some : {V : Type 0} {R : ℕ → Rule V} → ((a : ℕ) → Forward (R a)) → Forward (some R)
 for_some f i j v (a, r) = f a i j v r
 
-giving : {V : Type 0} (w : V) → Forward (gives w)
+pub giving : {V : Type 0} (w : V) → Forward (gives w)
 giving w i j v (e, h) = omega (arith, e)
 
-none_at_all : {V : Type 0} → Forward {V = V} never
+pub none_at_all : {V : Type 0} → Forward {V = V} never
 none_at_all i j v h = absurd h
 
-viewed : {A V : Type 0} (g : A → V) {R : Rule A} → Forward R → Forward (seen g R)
+pub viewed : {A V : Type 0} (g : A → V) {R : Rule A} → Forward R → Forward (seen g R)
 viewed g f i j v (a, r, e) = f i j a r
 
-through : {A V : Type 0} (g : A → Option V) {R : Rule A} → Forward R → Forward (mapped g R)
+pub through : {A V : Type 0} (g : A → Option V) {R : Rule A} → Forward R → Forward (mapped g R)
 through g f i j v (a, r, e) = f i j a r
 
-under : {V : Type 0} (P : Type 0) {R : Rule V} → Forward R → Forward (given P R)
+pub under : {V : Type 0} (P : Type 0) {R : Rule V} → Forward R → Forward (given P R)
 under P f i j v (p, r) = f i j v r
 
-bounded : {V : Type 0} (P : ℕ → ℕ → Type 0) {R : Rule V} → Forward R → Forward (where_both P R)
+pub bounded : {V : Type 0} (P : ℕ → ℕ → Type 0) {R : Rule V} → Forward R → Forward (where_both P R)
 bounded P f i j v (p, r) = f i j v r
 
-holding : {V : Type 0} (P : V → Type 0) {R : Rule V} → Forward R → Forward (where_value P R)
+pub holding : {V : Type 0} (P : V → Type 0) {R : Rule V} → Forward R → Forward (where_value P R)
 holding P f i j v (p, r) = f i j v r
 
-looked : {V : Type 0} (R : Rule V) → Forward (looking R)
+pub looked : {V : Type 0} (R : Rule V) → Forward (looking R)
 looked R i j v (e, k, r) = omega (arith, e)
 
-repeated : {A : Type 0} {R : Rule (List A)} → Forward R → Forward (any R)
+pub repeated : {A : Type 0} {R : Rule (List A)} → Forward R → Forward (any R)
 repeated {A} {R} f i j v r = go i v r
   where
     go : (i : ℕ) (v : List A) → Any R j i v → i ≤ j
     go i v (done e g) = omega (arith, e)
     go i v (then k ys zs r more e) = let a : i ≤ k = f i k ys r in let b : k ≤ j = go k zs more in omega (arith, a, b)
 
-perhaps : {A : Type 0} {R : Rule (List A)} → Forward R → Forward (optional R)
+pub perhaps : {A : Type 0} {R : Rule (List A)} → Forward R → Forward (optional R)
 perhaps {A} f = either (giving []) f
 
-counting : {R : Span} → Onward R → Forward (counted R)
+pub counting : {R : Span} → Onward R → Forward (counted R)
 counting {R} f i j n r = on_times {R = R} f n i j r
 
-on_maybe : {R : Span} → Onward R → Onward (maybe R)
+pub on_maybe : {R : Span} → Onward R → Onward (maybe R)
 on_maybe f = on_or on_nowhere f
 
 module _ (cs : List ℕ) where
-  copying : {R : Span} → Onward R → Forward (copied cs R)
+  pub copying : {R : Span} → Onward R → Forward (copied cs R)
   copying f i j v (r, e) = f i j r
 
-  on_chr : (c : ℕ) → Onward (chr cs c)
+  pub on_chr : (c : ℕ) → Onward (chr cs c)
   on_chr c i j (h, e) = omega (arith, e)
 
-  on_word : (s : List ℕ) → Onward (word cs s)
+  pub on_word : (s : List ℕ) → Onward (word cs s)
   on_word [] i j e = omega (arith, e)
   on_word (c ∷ s) i j (k, (h, e), r) = let a : k ≤ j = on_word s k j r in omega (arith, e, a)
 
-  on_one : (p : ℕ → Bool) → Onward (one cs p)
+  pub on_one : (p : ℕ → Bool) → Onward (one cs p)
   on_one p i j (h, e) = omega (arith, e)
 
-  on_at : (P : ℕ → Type 0) → Onward (at cs P)
+  pub on_at : (P : ℕ → Type 0) → Onward (at cs P)
   on_at P i j (h, e) = omega (arith, e)
 
-  on_letter : (p : ℕ → Bool) → Forward (letter cs p)
+  pub on_letter : (p : ℕ → Bool) → Forward (letter cs p)
   on_letter p i j v (h, t, e) = omega (arith, e)
 
-  on_run : (p : ℕ → Bool) → Onward (run cs p)
+  pub on_run : (p : ℕ → Bool) → Onward (run cs p)
   on_run p i j (le, h) = le
 
-  on_stretch : (P : ℕ → Type 0) → Onward (stretch cs P)
+  pub on_stretch : (P : ℕ → Type 0) → Onward (stretch cs P)
   on_stretch P i j (le, h) = le
 
-  on_some_run : (p : ℕ → Bool) → Onward (some_run cs p)
+  pub on_some_run : (p : ℕ → Bool) → Onward (some_run cs p)
   on_some_run p i j ((le, h), lt) = le
 
-  on_whole_run : (p : ℕ → Bool) → Onward (whole_run cs p)
+  pub on_whole_run : (p : ℕ → Bool) → Onward (whole_run cs p)
   on_whole_run p i j ((le, h), lt, stop) = le
 
-  on_exactly : (n : ℕ) (p : ℕ → Bool) → Onward (exactly cs n p)
+  pub on_exactly : (n : ℕ) (p : ℕ → Bool) → Onward (exactly cs n p)
   on_exactly n p i j ((le, h), e) = le
 
-  on_how_many : (p : ℕ → Bool) → Forward (how_many cs p)
+  pub on_how_many : (p : ℕ → Bool) → Forward (how_many cs p)
   on_how_many p i j n ((le, h), e) = le
 
   -- ---- characters and separation
 
-  on_brk : Onward (brk cs)
+  pub on_brk : Onward (brk cs)
   unfolding brk
   on_brk = on_or (on_then (on_chr 13) (on_chr 10)) (on_or (on_then (on_chr 13) (on_ahead _)) (on_then (on_ahead _) (on_chr 10)))
 
-  on_indent : (n : ℕ) → Onward (indent cs n)
+  pub on_indent : (n : ℕ) → Onward (indent cs n)
   unfolding indent
   on_indent n = on_exactly n is_space
 
-  on_less : (n : ℕ) → Onward (less cs n)
+  pub on_less : (n : ℕ) → Onward (less cs n)
   unfolding less
   on_less n = on_limited _ (on_run is_space)
 
-  on_sep : Onward (sep cs)
+  pub on_sep : Onward (sep cs)
   unfolding sep
   on_sep = on_or (on_some_run is_space) (on_ahead _)
 
-  on_comment : Onward (comment cs)
+  pub on_comment : Onward (comment cs)
   unfolding comment
   on_comment = on_then (on_chr 35) (on_run is_nb)
 
-  on_line_end : Onward (line_end cs)
+  pub on_line_end : Onward (line_end cs)
   unfolding line_end
   on_line_end = on_or on_brk (on_ahead _)
 
-  on_s_b_comment : Onward (s_b_comment cs)
+  pub on_s_b_comment : Onward (s_b_comment cs)
   unfolding s_b_comment
   on_s_b_comment = on_then (on_maybe (on_then on_sep (on_maybe on_comment))) on_line_end
 
-  on_l_comment : Onward (l_comment cs)
+  pub on_l_comment : Onward (l_comment cs)
   unfolding l_comment
   on_l_comment = on_limited _ (on_then on_sep (on_then (on_maybe on_comment) on_line_end))
 
@@ -179,7 +179,7 @@ module _ (cs : List ℕ) where
   unfolding s_l_comments
   on_s_l_comments = on_then (on_or on_s_b_comment (on_ahead _)) (on_spans on_l_comment)
 
-  on_separate_lines : (n : ℕ) → Onward (separate_lines cs n)
+  pub on_separate_lines : (n : ℕ) → Onward (separate_lines cs n)
   unfolding separate_lines
   on_separate_lines n = on_or (on_then on_s_l_comments (on_then (on_indent n) (on_run is_space))) on_sep
 
@@ -194,27 +194,27 @@ module _ (cs : List ℕ) where
 
   -- ---- tags and names
 
-  on_tag_char : Onward (tags.tag_char cs)
+  pub on_tag_char : Onward (tags.tag_char cs)
   unfolding tags.tag_char
   on_tag_char = on_or (on_one _) (on_then (on_chr 37) (on_then (on_one _) (on_one _)))
 
-  on_uri_char : Onward (tags.uri_char cs)
+  pub on_uri_char : Onward (tags.uri_char cs)
   unfolding tags.uri_char
   on_uri_char = on_or (on_one _) (on_then (on_chr 37) (on_then (on_one _) (on_one _)))
 
-  fwd_tag_handle : Forward (tags.tag_handle cs)
+  pub fwd_tag_handle : Forward (tags.tag_handle cs)
   unfolding tags.tag_handle
   fwd_tag_handle = copying (on_or (on_then (on_chr 33) (on_then (on_some_run _) (on_chr 33))) (on_or (on_then (on_chr 33) (on_chr 33)) (on_chr 33)))
 
-  fwd_verbatim_tag : Forward (tags.verbatim_tag cs)
+  pub fwd_verbatim_tag : Forward (tags.verbatim_tag cs)
   unfolding tags.verbatim_tag
   fwd_verbatim_tag = before (on_word (codes "!<")) (after (through _ (copying (on_then on_uri_char (on_spans on_uri_char)))) (on_chr 62))
 
-  fwd_shorthand_tag : (h : tags.Handles) → Forward (tags.shorthand_tag cs h)
+  pub fwd_shorthand_tag : (h : tags.Handles) → Forward (tags.shorthand_tag cs h)
   unfolding tags.shorthand_tag
   fwd_shorthand_tag h = taking fwd_tag_handle (λ handle. through _ (copying (on_then on_tag_char (on_spans on_tag_char))))
 
-  fwd_non_specific_tag : Forward (tags.non_specific_tag cs)
+  pub fwd_non_specific_tag : Forward (tags.non_specific_tag cs)
   unfolding tags.non_specific_tag
   fwd_non_specific_tag = before (on_chr 33) (giving _)
 
@@ -222,7 +222,7 @@ module _ (cs : List ℕ) where
   unfolding tags.tag
   fwd_tag h = after (either fwd_verbatim_tag (either (fwd_shorthand_tag h) fwd_non_specific_tag)) (on_ahead _)
 
-  fwd_name : Forward (tags.name cs)
+  pub fwd_name : Forward (tags.name cs)
   unfolding tags.name
   fwd_name = copying (on_whole_run _)
 
@@ -242,28 +242,28 @@ module _ (cs : List ℕ) where
 
   -- ---- flow scalars
 
-  fwd_numbered : (count : ℕ) → Forward (numbered cs count)
+  pub fwd_numbered : (count : ℕ) → Forward (numbered cs count)
   unfolding numbered
   fwd_numbered count = holding _ (viewed _ (copying (on_exactly count _)))
 
-  fwd_escape : Forward (escape cs)
+  pub fwd_escape : Forward (escape cs)
   unfolding escape
   fwd_escape = before (on_chr 92) (either (through _ (on_letter _))
       (either (before (on_chr 120) (fwd_numbered 2)) (either (before (on_chr 117) (fwd_numbered 4)) (before (on_chr 85) (fwd_numbered 8)))))
 
-  on_empty_line : (n : ℕ) → Onward (flow.empty_line cs n)
+  pub on_empty_line : (n : ℕ) → Onward (flow.empty_line cs n)
   unfolding flow.empty_line
   on_empty_line n = on_then (on_or (on_then (on_indent n) (on_run is_white)) (on_less n)) on_brk
 
-  fwd_fold : (n : ℕ) → Forward (flow.fold cs n)
+  pub fwd_fold : (n : ℕ) → Forward (flow.fold cs n)
   unfolding flow.fold
   fwd_fold n = before (on_then (on_run is_white) on_brk) (after (viewed _ (counting (on_empty_line n))) (on_then (on_indent n) (on_run is_white)))
 
-  fwd_escaped_break : (n : ℕ) → Forward (flow.escaped_break cs n)
+  pub fwd_escaped_break : (n : ℕ) → Forward (flow.escaped_break cs n)
   unfolding flow.escaped_break
   fwd_escaped_break n = before (on_then (on_chr 92) on_brk) (after (viewed _ (counting (on_empty_line n))) (on_then (on_indent n) (on_run is_white)))
 
-  fwd_several : (c : Ctx) {R : Rule (List ℕ)} → Forward R → Forward (flow.several cs c R)
+  pub fwd_several : (c : Ctx) {R : Rule (List ℕ)} → Forward R → Forward (flow.several cs c R)
   fwd_several block_key f = none_at_all
   fwd_several flow_key f = none_at_all
   fwd_several block_out f = f
@@ -272,19 +272,19 @@ module _ (cs : List ℕ) where
   fwd_several flow_in f = f
 
   module _ (solid loose folded escaped : Rule (List ℕ)) (f : Forward solid) (g : Forward loose) (h : Forward folded) (k : Forward escaped) where
-    fwd_quoted_line : Forward (flow.quoted_line cs solid loose folded escaped)
+    pub fwd_quoted_line : Forward (flow.quoted_line cs solid loose folded escaped)
     fwd_quoted_line = repeated (either f g)
 
-    fwd_broken_line : Forward (flow.broken_line cs solid loose folded escaped)
+    pub fwd_broken_line : Forward (flow.broken_line cs solid loose folded escaped)
     fwd_broken_line = either (both (repeated (both (repeated g) f)) h) (both fwd_quoted_line k)
 
-    fwd_quoted_lines : Forward (flow.quoted_lines cs solid loose folded escaped)
+    pub fwd_quoted_lines : Forward (flow.quoted_lines cs solid loose folded escaped)
     fwd_quoted_lines = either fwd_quoted_line (both fwd_broken_line (both (repeated (both f fwd_broken_line)) (perhaps (both f fwd_quoted_line))))
 
-  fwd_white : Forward (flow.white_text cs)
+  pub fwd_white : Forward (flow.white_text cs)
   fwd_white = viewed _ (on_letter _)
 
-  fwd_double_char : Forward (flow.double_char cs)
+  pub fwd_double_char : Forward (flow.double_char cs)
   unfolding flow.double_char
   fwd_double_char = viewed _ (either (on_letter _) fwd_escape)
 
@@ -293,7 +293,7 @@ module _ (cs : List ℕ) where
   fwd_double n c = bounded _ (before (on_chr 34) (after
       (fwd_quoted_lines _ _ _ _ fwd_double_char fwd_white (fwd_several c (fwd_fold n)) (fwd_several c (fwd_escaped_break n))) (on_chr 34)))
 
-  fwd_single_char : Forward (flow.single_char cs)
+  pub fwd_single_char : Forward (flow.single_char cs)
   unfolding flow.single_char
   fwd_single_char = viewed _ (either (on_letter _) (before (on_then (on_chr 39) (on_chr 39)) (giving _)))
 
@@ -302,7 +302,7 @@ module _ (cs : List ℕ) where
   fwd_single n c = bounded _ (before (on_chr 39) (after
       (fwd_quoted_lines _ _ _ _ fwd_single_char fwd_white (fwd_several c (fwd_fold n)) none_at_all) (on_then (on_chr 39) (on_ahead _))))
 
-  fwd_plain_line : (P : ℕ → Type 0) (c : Ctx) → Forward (flow.plain_line cs P c)
+  pub fwd_plain_line : (P : ℕ → Type 0) (c : Ctx) → Forward (flow.plain_line cs P c)
   unfolding flow.plain_line
   fwd_plain_line P c = copying (on_limited _ (on_then (on_at P) (on_stretch _)))
 
@@ -312,50 +312,50 @@ module _ (cs : List ℕ) where
 
   -- ---- block scalars
 
-  fwd_digit : Forward (block.indentation_indicator cs)
+  pub fwd_digit : Forward (block.indentation_indicator cs)
   unfolding block.indentation_indicator
   fwd_digit = either (giving _) (viewed _ (on_letter _))
 
-  fwd_sign : Forward (block.chomping_indicator cs)
+  pub fwd_sign : Forward (block.chomping_indicator cs)
   unfolding block.chomping_indicator
   fwd_sign = either (giving _) (either (before (on_chr 45) (giving _)) (before (on_chr 43) (giving _)))
 
-  fwd_header : Forward (block.header cs)
+  pub fwd_header : Forward (block.header cs)
   unfolding block.header
   fwd_header = after (either (taking fwd_digit (λ d. viewed _ fwd_sign)) (taking fwd_sign (λ s. viewed _ fwd_digit))) on_s_b_comment
 
-  fwd_indentation : (col : ℕ) (d : Option ℕ) → Forward (block.indentation cs col d)
+  pub fwd_indentation : (col : ℕ) (d : Option ℕ) → Forward (block.indentation cs col d)
   unfolding block.indentation
   fwd_indentation col None = looked _
   fwd_indentation col (Some d) = before (on_ahead _) (giving _)
 
-  on_few_spaces : (k : ℕ) → Onward (block.few_spaces cs k)
+  pub on_few_spaces : (k : ℕ) → Onward (block.few_spaces cs k)
   on_few_spaces k = on_limited _ (on_run is_space)
 
-  fwd_blank_line : (k : ℕ) → Forward (block.blank_line cs k)
+  pub fwd_blank_line : (k : ℕ) → Forward (block.blank_line cs k)
   unfolding block.blank_line
   fwd_blank_line k = before (on_then (on_few_spaces k) on_brk) (giving _)
 
-  fwd_text_line : (b : Bool) (k : ℕ) → Forward (block.text_line cs b k)
+  pub fwd_text_line : (b : Bool) (k : ℕ) → Forward (block.text_line cs b k)
   unfolding block.text_line
   fwd_text_line b k = before (on_then (on_ahead _) (on_indent k)) (taking (copying (on_limited _ (on_some_run is_nb)))
       (λ xs. either (before on_brk (giving _)) (before (on_ahead _) (giving _))))
 
-  fwd_lines : (b : Bool) (k : ℕ) → Forward (block.lines cs b k)
+  pub fwd_lines : (b : Bool) (k : ℕ) → Forward (block.lines cs b k)
   unfolding block.lines
   fwd_lines b k = both (repeated (fwd_blank_line k)) (after
       (perhaps (both (fwd_text_line b k) (repeated (either (fwd_blank_line k) (fwd_text_line _ k)))))
       (on_maybe (on_then (on_few_spaces k) (on_ahead _))))
 
-  on_comment_lines : (k : ℕ) → Onward (block.comment_lines cs k)
+  pub on_comment_lines : (k : ℕ) → Onward (block.comment_lines cs k)
   unfolding block.comment_lines
   on_comment_lines k = on_then (on_less k) (on_then on_comment (on_then on_line_end (on_spans on_l_comment)))
 
-  fwd_block_content : (b : Bool) (h : block.Header) (k : ℕ) → Forward (block.block_content cs b h k)
+  pub fwd_block_content : (b : Bool) (h : block.Header) (k : ℕ) → Forward (block.block_content cs b h k)
   unfolding block.block_content
   fwd_block_content b h k = after (viewed _ (fwd_lines _ k)) (on_then (on_ahead _) (on_maybe (on_comment_lines k)))
 
-  fwd_block_scalar : (b : Bool) (col : ℕ) → Forward (block.block_scalar cs b col)
+  pub fwd_block_scalar : (b : Bool) (col : ℕ) → Forward (block.block_scalar cs b col)
   fwd_block_scalar b col = taking fwd_header (λ h. taking (fwd_indentation col h.digit) (λ k. fwd_block_content b h k))
 
   pub fwd_literal : (col : ℕ) → Forward (block.literal cs col)
@@ -370,125 +370,125 @@ module _ (cs : List ℕ) where
 
   module _ (Wide : Type 0) (handles : tags.Handles) where
     module _ (Open : Type 0) (inside : Part → Rule (List Event)) (fwd : (p : Part) → Forward (inside p)) where
-      fwd_inside_flow : (n : ℕ) (c : Ctx) → Forward (nodes.inside_flow cs Wide handles Open inside n c)
+      pub fwd_inside_flow : (n : ℕ) (c : Ctx) → Forward (nodes.inside_flow cs Wide handles Open inside n c)
       fwd_inside_flow n c = either (fwd (yaml_part n c)) (fwd (json_part n c))
 
-      fwd_e : Forward (nodes.e_node cs Wide handles Open inside)
+      pub fwd_e : Forward (nodes.e_node cs Wide handles Open inside)
       fwd_e = giving _
 
-      fwd_yaml_node : (n : ℕ) (c : Ctx) → Forward (nodes.yaml_node cs Wide handles Open inside n c)
+      pub fwd_yaml_node : (n : ℕ) (c : Ctx) → Forward (nodes.yaml_node cs Wide handles Open inside n c)
       unfolding nodes.yaml_node
       fwd_yaml_node n c = either (viewed _ fwd_alias) (either (viewed _ (fwd_plain n c))
           (taking (fwd_properties handles n c) (λ p. either (before (on_separate n c) (viewed _ (fwd_plain n c))) (giving _))))
 
-      on_gap : (n : ℕ) (c : Ctx) → Onward (maybe (separate cs n c))
+      pub on_gap : (n : ℕ) (c : Ctx) → Onward (maybe (separate cs n c))
       on_gap n c = on_maybe (on_separate n c)
 
-      fwd_parted : (n : ℕ) (c : Ctx) {R : Rule (List Event)} → Forward R → Forward (nodes.parted cs Wide handles Open inside n c R)
+      pub fwd_parted : (n : ℕ) (c : Ctx) {R : Rule (List Event)} → Forward R → Forward (nodes.parted cs Wide handles Open inside n c R)
       fwd_parted n c f = both (repeated (after f (on_then (on_chr 44) (on_gap n c)))) (perhaps f)
 
-      fwd_value : (n : ℕ) (c : Ctx) → Forward (nodes.value cs Wide handles Open inside n c)
+      pub fwd_value : (n : ℕ) (c : Ctx) → Forward (nodes.value cs Wide handles Open inside n c)
       unfolding nodes.value
       fwd_value n c = before (on_then (on_chr 58) (on_ahead _)) (either (before (on_separate n c) (fwd_inside_flow n c)) fwd_e)
 
-      fwd_adjacent : (n : ℕ) (c : Ctx) → Forward (nodes.adjacent cs Wide handles Open inside n c)
+      pub fwd_adjacent : (n : ℕ) (c : Ctx) → Forward (nodes.adjacent cs Wide handles Open inside n c)
       unfolding nodes.adjacent
       fwd_adjacent n c = before (on_chr 58) (either (before (on_gap n c) (fwd_inside_flow n c)) fwd_e)
 
-      fwd_yaml_key_entry : (n : ℕ) (c : Ctx) → Forward (nodes.yaml_key_entry cs Wide handles Open inside n c)
+      pub fwd_yaml_key_entry : (n : ℕ) (c : Ctx) → Forward (nodes.yaml_key_entry cs Wide handles Open inside n c)
       unfolding nodes.yaml_key_entry
       fwd_yaml_key_entry n c = both (fwd (yaml_part n c)) (either (before (on_gap n c) (fwd_value n c)) fwd_e)
 
-      fwd_json_key_entry : (n : ℕ) (c : Ctx) → Forward (nodes.json_key_entry cs Wide handles Open inside n c)
+      pub fwd_json_key_entry : (n : ℕ) (c : Ctx) → Forward (nodes.json_key_entry cs Wide handles Open inside n c)
       unfolding nodes.json_key_entry
       fwd_json_key_entry n c = both (fwd (json_part n c)) (either (before (on_gap n c) (fwd_adjacent n c)) fwd_e)
 
-      fwd_implicit_entry : (n : ℕ) (c : Ctx) → Forward (nodes.implicit_entry cs Wide handles Open inside n c)
+      pub fwd_implicit_entry : (n : ℕ) (c : Ctx) → Forward (nodes.implicit_entry cs Wide handles Open inside n c)
       unfolding nodes.implicit_entry
       fwd_implicit_entry n c = either (fwd_yaml_key_entry n c) (fwd_json_key_entry n c)
 
-      fwd_empty_key : (n : ℕ) (c : Ctx) → Forward (nodes.empty_key cs Wide handles Open inside n c)
+      pub fwd_empty_key : (n : ℕ) (c : Ctx) → Forward (nodes.empty_key cs Wide handles Open inside n c)
       unfolding nodes.empty_key
       fwd_empty_key n c = both fwd_e (fwd_value n c)
 
-      fwd_explicit : (n : ℕ) (c : Ctx) → Forward (nodes.explicit cs Wide handles Open inside n c)
+      pub fwd_explicit : (n : ℕ) (c : Ctx) → Forward (nodes.explicit cs Wide handles Open inside n c)
       unfolding nodes.explicit
       fwd_explicit n c = before (on_then (on_chr 63) (on_separate n c)) (either (fwd_implicit_entry n c) (either (fwd_empty_key n c) (both fwd_e fwd_e)))
 
-      fwd_entry : (n : ℕ) (c : Ctx) → Forward (nodes.entry cs Wide handles Open inside n c)
+      pub fwd_entry : (n : ℕ) (c : Ctx) → Forward (nodes.entry cs Wide handles Open inside n c)
       unfolding nodes.entry
       fwd_entry n c = either (fwd_implicit_entry n c) (under _ (either (fwd_empty_key n c) (fwd_explicit n c)))
 
-      fwd_implicit_yaml_key : (c : Ctx) → Forward (nodes.implicit_yaml_key cs Wide handles Open inside c)
+      pub fwd_implicit_yaml_key : (c : Ctx) → Forward (nodes.implicit_yaml_key cs Wide handles Open inside c)
       unfolding nodes.implicit_yaml_key
       fwd_implicit_yaml_key c = bounded _ (after (fwd (yaml_part 0 c)) (on_maybe on_sep))
 
-      fwd_implicit_json_key : (c : Ctx) → Forward (nodes.implicit_json_key cs Wide handles Open inside c)
+      pub fwd_implicit_json_key : (c : Ctx) → Forward (nodes.implicit_json_key cs Wide handles Open inside c)
       unfolding nodes.implicit_json_key
       fwd_implicit_json_key c = bounded _ (after (fwd (json_part 0 c)) (on_maybe on_sep))
 
-      fwd_pair : (n : ℕ) (c : Ctx) → Forward (nodes.pair cs Wide handles Open inside n c)
+      pub fwd_pair : (n : ℕ) (c : Ctx) → Forward (nodes.pair cs Wide handles Open inside n c)
       unfolding nodes.pair
       fwd_pair n c = under _ (viewed _ (either (both (fwd_implicit_yaml_key _) (fwd_value n c))
           (either (both (fwd_implicit_json_key _) (fwd_adjacent n c)) (under _ (either (fwd_empty_key n c) (fwd_explicit n c))))))
 
-      fwd_flow_seq : (p : Props) (n : ℕ) (c : Ctx) → Forward (nodes.flow_seq cs Wide handles Open inside p n c)
+      pub fwd_flow_seq : (p : Props) (n : ℕ) (c : Ctx) → Forward (nodes.flow_seq cs Wide handles Open inside p n c)
       unfolding nodes.flow_seq
       fwd_flow_seq p n c = under _ (viewed _ (before (on_then (on_chr 91) (on_gap n c)) (after
           (fwd_parted n c (after (either (fwd _) (fwd_inside_flow n _)) (on_gap n c))) (on_chr 93))))
 
-      fwd_flow_map : (p : Props) (n : ℕ) (c : Ctx) → Forward (nodes.flow_map cs Wide handles Open inside p n c)
+      pub fwd_flow_map : (p : Props) (n : ℕ) (c : Ctx) → Forward (nodes.flow_map cs Wide handles Open inside p n c)
       unfolding nodes.flow_map
       fwd_flow_map p n c = under _ (viewed _ (before (on_then (on_chr 123) (on_gap n c)) (after
           (fwd_parted n c (after (fwd_entry n _) (on_gap n c))) (on_chr 125))))
 
-      fwd_json_node : (n : ℕ) (c : Ctx) → Forward (nodes.json_node cs Wide handles Open inside n c)
+      pub fwd_json_node : (n : ℕ) (c : Ctx) → Forward (nodes.json_node cs Wide handles Open inside n c)
       unfolding nodes.json_node
       fwd_json_node n c = taking (either (giving _) (after (fwd_properties handles n c) (on_separate n c)))
           (λ p. either (viewed _ (fwd_single n c)) (either (viewed _ (fwd_double n c)) (either (fwd_flow_seq p n c) (fwd_flow_map p n c))))
 
-      fwd_flow_node : (n : ℕ) (c : Ctx) → Forward (nodes.flow_node cs Wide handles Open inside n c)
+      pub fwd_flow_node : (n : ℕ) (c : Ctx) → Forward (nodes.flow_node cs Wide handles Open inside n c)
       unfolding nodes.flow_node
       fwd_flow_node n c = either (fwd_yaml_node n c) (fwd_json_node n c)
 
-      fwd_empty_rest : Forward (nodes.empty_rest cs Wide handles Open inside)
+      pub fwd_empty_rest : Forward (nodes.empty_rest cs Wide handles Open inside)
       fwd_empty_rest = after fwd_e on_s_l_comments
 
-      fwd_indented : (n : ℕ) → Forward (nodes.indented cs Wide handles Open inside n)
+      pub fwd_indented : (n : ℕ) → Forward (nodes.indented cs Wide handles Open inside n)
       unfolding nodes.indented
       fwd_indented n = either (for_some (λ m. under _ (before (on_indent m) (fwd _)))) (either (fwd _) fwd_empty_rest)
 
-      fwd_seq_entry : (n : ℕ) → Forward (nodes.seq_entry cs Wide handles Open inside n)
+      pub fwd_seq_entry : (n : ℕ) → Forward (nodes.seq_entry cs Wide handles Open inside n)
       unfolding nodes.seq_entry
       fwd_seq_entry n = before (on_then (on_chr 45) (on_ahead _)) (fwd_indented n)
 
-      fwd_map_entry : (n : ℕ) → Forward (nodes.map_entry cs Wide handles Open inside n)
+      pub fwd_map_entry : (n : ℕ) → Forward (nodes.map_entry cs Wide handles Open inside n)
       unfolding nodes.map_entry
       fwd_map_entry n = both (after (either (fwd_implicit_yaml_key _) (fwd_implicit_json_key _)) (on_chr 58)) (either (fwd _) fwd_empty_rest)
 
-      fwd_block_seq : (p : Props) (col : ℕ) → Forward (nodes.block_seq cs Wide handles Open inside p col)
+      pub fwd_block_seq : (p : Props) (col : ℕ) → Forward (nodes.block_seq cs Wide handles Open inside p col)
       unfolding nodes.block_seq
       fwd_block_seq p col = under _ (viewed _ (for_some (λ k. under _ (both (line k) (repeated (line k))))))
         where
           line : (k : ℕ) → Forward (indent cs k ▸ nodes.seq_entry cs Wide handles Open inside k)
           line k = before (on_indent k) (fwd_seq_entry k)
 
-      fwd_block_map : (p : Props) (col : ℕ) → Forward (nodes.block_map cs Wide handles Open inside p col)
+      pub fwd_block_map : (p : Props) (col : ℕ) → Forward (nodes.block_map cs Wide handles Open inside p col)
       unfolding nodes.block_map
       fwd_block_map p col = under _ (viewed _ (for_some (λ k. under _ (both (line k) (repeated (line k))))))
         where
           line : (k : ℕ) → Forward (indent cs k ▸ nodes.map_entry cs Wide handles Open inside k)
           line k = before (on_indent k) (fwd_map_entry k)
 
-      fwd_compact_seq : (k : ℕ) → Forward (nodes.compact_seq cs Wide handles Open inside k)
+      pub fwd_compact_seq : (k : ℕ) → Forward (nodes.compact_seq cs Wide handles Open inside k)
       unfolding nodes.compact_seq
       fwd_compact_seq k = under _ (viewed _ (both (fwd_seq_entry k) (repeated (before (on_indent k) (fwd_seq_entry k)))))
 
-      fwd_compact_map : (k : ℕ) → Forward (nodes.compact_map cs Wide handles Open inside k)
+      pub fwd_compact_map : (k : ℕ) → Forward (nodes.compact_map cs Wide handles Open inside k)
       unfolding nodes.compact_map
       fwd_compact_map k = under _ (viewed _ (both (fwd_map_entry k) (repeated (before (on_indent k) (fwd_map_entry k)))))
 
-      fwd_block_node : (col : ℕ) (c : Ctx) → Forward (nodes.block_node cs Wide handles Open inside col c)
+      pub fwd_block_node : (col : ℕ) (c : Ctx) → Forward (nodes.block_node cs Wide handles Open inside col c)
       unfolding nodes.block_node
       fwd_block_node col c = either
           (before (on_separate col flow_out) (after (fwd_flow_node col flow_out) on_s_l_comments))
@@ -498,7 +498,7 @@ module _ (cs : List ℕ) where
           (taking (after (either (giving _) (before (on_separate col c) (fwd_properties handles col c))) on_s_l_comments)
           (λ p. either (fwd_block_map p col) (fwd_block_seq p _))))
 
-      fwd_part : (p : Part) → Forward (part cs Wide handles Open inside p)
+      pub fwd_part : (p : Part) → Forward (part cs Wide handles Open inside p)
       fwd_part (yaml_part n c) = fwd_yaml_node n c
       fwd_part (json_part n c) = fwd_json_node n c
       fwd_part (pair_part n c) = fwd_pair n c
@@ -513,24 +513,24 @@ module _ (cs : List ℕ) where
 
   -- ---- directives
 
-  fwd_tag_prefix : Forward (tags.tag_prefix cs)
+  pub fwd_tag_prefix : Forward (tags.tag_prefix cs)
   unfolding tags.tag_prefix
   fwd_tag_prefix = copying (on_then (on_or (on_chr 33) on_tag_char) (on_spans on_uri_char))
 
-  fwd_yaml_directive : Forward (directives.yaml_directive cs)
+  pub fwd_yaml_directive : Forward (directives.yaml_directive cs)
   unfolding directives.yaml_directive
   fwd_yaml_directive = before (on_then (on_word (codes "%YAML")) (on_then (on_some_run is_space) (on_word (codes "1.2")))) (giving _)
 
-  fwd_tag_directive : Forward (directives.tag_directive cs)
+  pub fwd_tag_directive : Forward (directives.tag_directive cs)
   unfolding directives.tag_directive
   fwd_tag_directive = before (on_then (on_word (codes "%TAG")) (on_some_run is_space)) (taking fwd_tag_handle
       (λ handle. before (on_some_run is_space) (viewed _ fwd_tag_prefix)))
 
-  fwd_reserved_directive : Forward (directives.reserved_directive cs)
+  pub fwd_reserved_directive : Forward (directives.reserved_directive cs)
   unfolding directives.reserved_directive
   fwd_reserved_directive = before (on_chr 37) (after (viewed _ (holding _ (copying (on_whole_run _)))) (on_spans (on_then (on_some_run is_space) (on_some_run _))))
 
-  fwd_directive : Forward (directives.directive cs)
+  pub fwd_directive : Forward (directives.directive cs)
   unfolding directives.directive
   fwd_directive = before (on_ahead _) (after (viewed _ (either fwd_yaml_directive (either fwd_tag_directive fwd_reserved_directive))) on_s_l_comments)
 
@@ -541,34 +541,34 @@ module _ (cs : List ℕ) where
   -- ---- documents and streams
 
   module _ (Wide : Type 0) (room : ℕ) where
-    on_document_mark : (c : ℕ) → Onward (streams.document_mark cs Wide room c)
+    pub on_document_mark : (c : ℕ) → Onward (streams.document_mark cs Wide room c)
     unfolding streams.document_mark
     on_document_mark c = on_then (on_ahead _) (on_word (c ∷ c ∷ c ∷ []))
 
-    fwd_bare_document : (handles : tags.Handles) → Forward (streams.bare_document cs Wide room handles)
+    pub fwd_bare_document : (handles : tags.Handles) → Forward (streams.bare_document cs Wide room handles)
     unfolding streams.bare_document
     fwd_bare_document handles = bounded _ (fwd_reads Wide handles room _)
 
-    fwd_explicit_document : (handles : tags.Handles) → Forward (streams.explicit_document cs Wide room handles)
+    pub fwd_explicit_document : (handles : tags.Handles) → Forward (streams.explicit_document cs Wide room handles)
     unfolding streams.explicit_document
     fwd_explicit_document handles = before (on_document_mark 45) (either (fwd_bare_document handles) (after (giving _) on_s_l_comments))
 
-    fwd_directive_document : Forward (streams.directive_document cs Wide room)
+    pub fwd_directive_document : Forward (streams.directive_document cs Wide room)
     unfolding streams.directive_document
     fwd_directive_document = taking fwd_directives fwd_explicit_document
 
-    fwd_explicit_piece : Forward (streams.explicit_piece cs Wide room)
+    pub fwd_explicit_piece : Forward (streams.explicit_piece cs Wide room)
     fwd_explicit_piece = viewed _ (fwd_explicit_document [])
 
-    fwd_any_document : Forward (streams.any_document cs Wide room)
+    pub fwd_any_document : Forward (streams.any_document cs Wide room)
     unfolding streams.any_document
     fwd_any_document = either (viewed _ (fwd_bare_document [])) (either fwd_explicit_piece (viewed _ fwd_directive_document))
 
-    fwd_suffix : Forward (streams.suffix cs Wide room)
+    pub fwd_suffix : Forward (streams.suffix cs Wide room)
     unfolding streams.suffix
     fwd_suffix = before (on_document_mark 46) (after (giving _) on_s_l_comments)
 
-    on_comments : Onward (any_span (l_comment cs))
+    pub on_comments : Onward (any_span (l_comment cs))
     on_comments = on_spans on_l_comment
 
     pub fwd_stream : Forward (streams.stream cs Wide room)

@@ -18,7 +18,7 @@ abbrev plain_lines_text : List ℕ
 plain_lines_text = codes "a b\n  c"
 
 -- 7.3.3, 6.5: a plain scalar over two lines; the break between them is folded into a space
-pub plain_lines : ReadsText plain_lines_text ⊥ open_limit (
+pub plain_lines : ReadsText plain_lines_text (Unit {0}) open_limit (
     stream_start
     ∷ document_start false
     ∷ scalar_event None untagged plain (codes "a b c")
@@ -32,7 +32,7 @@ abbrev plain_empty_lines_text : List ℕ
 plain_empty_lines_text = codes "a\n\n\nb"
 
 -- 6.5: the first break of a fold is dropped, and each empty line is a line feed
-pub plain_empty_lines : ReadsText plain_empty_lines_text ⊥ open_limit (
+pub plain_empty_lines : ReadsText plain_empty_lines_text (Unit {0}) open_limit (
     stream_start
     ∷ document_start false
     ∷ scalar_event None untagged plain (codes "a\n\nb")
@@ -46,7 +46,7 @@ abbrev plain_signs_text : List ℕ
 plain_signs_text = codes "-a#b:c"
 
 -- 7.3.3: `#` after an ns-char, and `:` and `-` before a plain-safe character, are text
-pub plain_signs : ReadsText plain_signs_text ⊥ open_limit (
+pub plain_signs : ReadsText plain_signs_text (Unit {0}) open_limit (
     stream_start
     ∷ document_start false
     ∷ scalar_event None untagged plain (codes "-a#b:c")
@@ -60,7 +60,7 @@ abbrev single_quotes_text : List ℕ
 single_quotes_text = codes "'it''s'"
 
 -- 7.3.2: two quotes stand for one
-pub single_quotes : ReadsText single_quotes_text ⊥ open_limit (
+pub single_quotes : ReadsText single_quotes_text (Unit {0}) open_limit (
     stream_start
     ∷ document_start false
     ∷ scalar_event None untagged single (codes "it's")
@@ -74,7 +74,7 @@ abbrev escaped_break_text : List ℕ
 escaped_break_text = codes "\"a \\\n  b\""
 
 -- 7.3.1: an escaped break is dropped, and the white before it stays
-pub escaped_break : ReadsText escaped_break_text ⊥ open_limit (
+pub escaped_break : ReadsText escaped_break_text (Unit {0}) open_limit (
     stream_start
     ∷ document_start false
     ∷ scalar_event None untagged double (codes "a b")
@@ -88,7 +88,7 @@ abbrev numbered_escapes_text : List ℕ
 numbered_escapes_text = codes "\"\\x41\\u00e9\\U0001F600\\/\""
 
 -- 5.7: two, four and eight hexadecimal digits
-pub numbered_escapes : ReadsText numbered_escapes_text ⊥ open_limit (
+pub numbered_escapes : ReadsText numbered_escapes_text (Unit {0}) open_limit (
     stream_start
     ∷ document_start false
     ∷ scalar_event None untagged double (65 ∷ 195 ∷ 169 ∷ 240 ∷ 159 ∷ 152 ∷ 128 ∷ 47 ∷ [])
@@ -102,7 +102,7 @@ abbrev double_fold_text : List ℕ
 double_fold_text = codes "\"a \n\t\n b\""
 
 -- 7.3.1, 6.5: a fold drops the whites around it
-pub double_fold : ReadsText double_fold_text ⊥ open_limit (
+pub double_fold : ReadsText double_fold_text (Unit {0}) open_limit (
     stream_start
     ∷ document_start false
     ∷ scalar_event None untagged double (codes "a\nb")
@@ -116,7 +116,7 @@ abbrev literal_spaced_text : List ℕ
 literal_spaced_text = codes "|\n a\n  b\n"
 
 -- 8.1.2: a literal scalar keeps a line that begins with a space
-pub literal_spaced : ReadsText literal_spaced_text ⊥ open_limit (
+pub literal_spaced : ReadsText literal_spaced_text (Unit {0}) open_limit (
     stream_start
     ∷ document_start false
     ∷ scalar_event None untagged literal (codes "a\n b\n")
@@ -130,7 +130,7 @@ abbrev folded_spaced_text : List ℕ
 folded_spaced_text = codes ">\n a\n b\n  c\n d\n"
 
 -- 8.1.3: no break is folded beside a line that begins with a space
-pub folded_spaced : ReadsText folded_spaced_text ⊥ open_limit (
+pub folded_spaced : ReadsText folded_spaced_text (Unit {0}) open_limit (
     stream_start
     ∷ document_start false
     ∷ scalar_event None untagged folded (codes "a b\n c\nd\n")
@@ -144,7 +144,7 @@ abbrev kept_breaks_text : List ℕ
 kept_breaks_text = codes "|+\n a\n\n"
 
 -- 8.1.1.2: `+` keeps the final break and the empty lines after it
-pub kept_breaks : ReadsText kept_breaks_text ⊥ open_limit (
+pub kept_breaks : ReadsText kept_breaks_text (Unit {0}) open_limit (
     stream_start
     ∷ document_start false
     ∷ scalar_event None untagged literal (codes "a\n\n")
@@ -158,7 +158,7 @@ abbrev stripped_break_text : List ℕ
 stripped_break_text = codes "k: >-\n  a\n"
 
 -- 8.1.1.2: `-` drops the final break
-pub stripped_break : ReadsText stripped_break_text ⊥ open_limit (
+pub stripped_break : ReadsText stripped_break_text (Unit {0}) open_limit (
     stream_start
     ∷ document_start false
     ∷ mapping_start false None untagged
@@ -175,7 +175,7 @@ abbrev given_indentation_text : List ℕ
 given_indentation_text = codes "- |1\n  a\n"
 
 -- 8.1.1.1: a digit says how far the content is indented
-pub given_indentation : ReadsText given_indentation_text ⊥ open_limit (
+pub given_indentation : ReadsText given_indentation_text (Unit {0}) open_limit (
     stream_start
     ∷ document_start false
     ∷ sequence_start false None untagged

@@ -25,7 +25,7 @@ abbrev tag_of_directive_text : List ℕ
 tag_of_directive_text = codes "%TAG !e! a%c3\n---\n!e!%a9 v\n"
 
 -- 6.8.2, 6.9.1: a prefix and a suffix, joined before they are decoded
-pub tag_of_directive : ReadsText tag_of_directive_text ⊥ open_limit (
+pub tag_of_directive : ReadsText tag_of_directive_text (Unit {0}) open_limit (
     stream_start
     ∷ document_start true
     ∷ scalar_event None (full (97 ∷ 195 ∷ 169 ∷ [])) plain (codes "v")
@@ -39,7 +39,7 @@ abbrev tag_forms_text : List ℕ
 tag_forms_text = codes "[!<b> a, !!int 1, !c d, ! e]"
 
 -- 6.9.1: a verbatim tag, the secondary handle, the primary one, and the non-specific tag
-pub tag_forms : ReadsText tag_forms_text ⊥ open_limit (
+pub tag_forms : ReadsText tag_forms_text (Unit {0}) open_limit (
     stream_start
     ∷ document_start false
     ∷ sequence_start true None untagged
@@ -58,7 +58,7 @@ abbrev other_directives_text : List ℕ
 other_directives_text = codes "%YAML 1.2\n%x y # c\n--- a"
 
 -- 6.8: a version, and a reserved directive, which is ignored
-pub other_directives : ReadsText other_directives_text ⊥ open_limit (
+pub other_directives : ReadsText other_directives_text (Unit {0}) open_limit (
     stream_start
     ∷ document_start true
     ∷ scalar_event None untagged plain (codes "a")
@@ -72,7 +72,7 @@ abbrev two_documents_text : List ℕ
 two_documents_text = codes "a\n...\nb\n"
 
 -- 9.2: a suffix between two bare documents
-pub two_documents : ReadsText two_documents_text ⊥ open_limit (
+pub two_documents : ReadsText two_documents_text (Unit {0}) open_limit (
     stream_start
     ∷ document_start false
     ∷ scalar_event None untagged plain (codes "a")
@@ -89,7 +89,7 @@ abbrev document_marks_text : List ℕ
 document_marks_text = codes "--- a\n---\n# c\n--- |\n b\n...\n"
 
 -- 9.1.4, 9.2: explicit documents need no suffix
-pub document_marks : ReadsText document_marks_text ⊥ open_limit (
+pub document_marks : ReadsText document_marks_text (Unit {0}) open_limit (
     stream_start
     ∷ document_start true
     ∷ scalar_event None untagged plain (codes "a")
@@ -109,7 +109,7 @@ abbrev breaks_text : List ℕ
 breaks_text = codes "a:\r\n- b\r- c\n"
 
 -- 5.4: CR LF, CR and LF are each one break
-pub breaks : ReadsText breaks_text ⊥ open_limit (
+pub breaks : ReadsText breaks_text (Unit {0}) open_limit (
     stream_start
     ∷ document_start false
     ∷ mapping_start false None untagged
@@ -129,7 +129,7 @@ abbrev no_document_text : List ℕ
 no_document_text = codes "# c\n"
 
 -- 9.2: a stream of comments has no document
-pub no_document : ReadsText no_document_text ⊥ open_limit (
+pub no_document : ReadsText no_document_text (Unit {0}) open_limit (
     stream_start
     ∷ stream_end
     ∷ [])
@@ -140,7 +140,7 @@ abbrev letter_text : List ℕ
 letter_text = codes "a"
 
 -- 9.1.3: a bare document
-pub letter : ReadsText letter_text ⊥ open_limit (
+pub letter : ReadsText letter_text (Unit {0}) open_limit (
     stream_start
     ∷ document_start false
     ∷ scalar_event None untagged plain (codes "a")

@@ -1,6 +1,6 @@
 -- What holds of every reading's value: texts are of characters, and tags that are written out are tags.
-use Rattle.std.proofs.Common.{◌≡◌, ◌<◌, ℕ, zero, suc, ◌+◌, ◌-◌, ◌==◌, nat_le, length, length-drop, arith, Bool, true, false, cond, ◌&&◌, ◌||◌, Option, Some, None, List, [], ◌∷◌, ◌++◌, take, drop, refl, sym, ◌∙◌, ap, subst, inl, inr}
-use Rattle.std.specs.Prelude.{slice_get, replicate, encode_utf8_all, option_and_then}
+use Rattle.std.proofs.Common.{◌≡◌, ◌<◌, ℕ, zero, suc, ◌+◌, ◌-◌, ◌==◌, nat_le, length, length-drop, arith, Bool, true, false, cond, ◌&&◌, ◌||◌, Option, Some, None, List, [], ◌∷◌, ◌++◌, take, drop, refl, sym, ap, subst, inl, inr}
+use Rattle.std.specs.Prelude.{slice_get, encode_utf8_all, option_and_then}
 use Rattle.std.specs.List.{list_all}
 use Rattle.std.specs.Str.{all_scalars, chars, is_utf8}
 use Rattle.std.specs.Char.{IsScalar}
@@ -9,12 +9,12 @@ use Rattle.std.proofs.lemmas.Bool.Decides.{nat_tests}
 use Rattle.std.proofs.lemmas.Option.{slice_get_within}
 use Rattle.std.proofs.lemmas.List.{length-take}
 use lib.Utf8.{scalar, scalars}
-use Rattle.yaml_text.specs.Event.{WrittenTag, untagged, non_specific, full}
+use Rattle.yaml_text.specs.Event.{WrittenTag, non_specific, full}
 use Rattle.yaml_text.specs.Text.{is_text}
 use Rattle.yaml_text.specs.Sound.{SoundTag, is_anchor_char, is_anchor, IsAnchor, SoundAnchor}
 use Rattle.yaml_text.specs.Tag.{is_full}
-use Rattle.yaml_text.specs.grammar.Rules.{Span, Rule, ◌▸◌, ◌◂◌, ◌⨾◌, ◌∪◌, gives, given, never, optional, some, any, Any, done, then, letter, copied, counted, looking, with_value, seen, mapped, where_both, where_value, Stands}
-use Rattle.yaml_text.specs.grammar.Characters.{is_white, short_escape, numbered, escape}
+use Rattle.yaml_text.specs.grammar.Rules.{Span, Rule, ◌▸◌, ◌◂◌, ◌⨾◌, ◌∪◌, gives, given, never, optional, some, any, Any, done, then, letter, copied, with_value, seen, mapped, where_both, where_value, Stands}
+use Rattle.yaml_text.specs.grammar.Characters.{short_escape, numbered, escape}
 use Rattle.yaml_text.specs.grammar.Separation.{Ctx, block_out, block_in, flow_out, flow_in, block_key, flow_key}
 use Rattle.yaml_text.specs.grammar.Events.{Props}
 use Rattle.yaml_text.specs.grammar.Tags as tags

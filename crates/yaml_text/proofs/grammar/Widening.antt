@@ -9,58 +9,56 @@ use Rattle.yaml_text.specs.grammar.Nodes as nodes
 use Rattle.yaml_text.specs.grammar.Nodes.{Part, yaml_part, json_part, pair_part, block_part, compact_part, part, reads}
 use Rattle.yaml_text.specs.grammar.Streams as streams
 use Rattle.yaml_text.specs.grammar.Streams.{ReadsText}
-use Rattle.yaml_text.specs.grammar.Reading.{Reads, ReadsWide}
-use Rattle.yaml_text.specs.grammar.Laws.{ReadingsStay, ReadingsStayWide, Profile}
-use Rattle.yaml_text.specs.Limits.{open_limit}
+use Rattle.yaml_text.specs.grammar.Laws.{ReadingsStay, Profile}
 
 -- each reading by the first is one by the second
-abbrev Within : {V : Type 0} → Rule V → Rule V → Type 0
+abbrev pub Within : {V : Type 0} → Rule V → Rule V → Type 0
 Within {V} R S = (i j : ℕ) (v : V) → R i j v → S i j v
 
 -- ---- the combinators
 
-same : {V : Type 0} (R : Rule V) → Within R R
+pub same : {V : Type 0} (R : Rule V) → Within R R
 same R i j v r = r
 
-in_before : {V : Type 0} (R : Span) {S T : Rule V} → Within S T → Within (R ▸ S) (R ▸ T)
+pub in_before : {V : Type 0} (R : Span) {S T : Rule V} → Within S T → Within (R ▸ S) (R ▸ T)
 in_before R f i j v (k, r, s) = (k, r, f k j v s)
 
-in_after : {V : Type 0} {R T : Rule V} (S : Span) → Within R T → Within (R ◂ S) (T ◂ S)
+pub in_after : {V : Type 0} {R T : Rule V} (S : Span) → Within R T → Within (R ◂ S) (T ◂ S)
 in_after S f i j v (k, r, s) = (k, f i k v r, s)
 
-in_joined : {A : Type 0} {R S T U : Rule (List A)} → Within R T → Within S U → Within (R ⨾ S) (T ⨾ U)
+pub in_joined : {A : Type 0} {R S T U : Rule (List A)} → Within R T → Within S U → Within (R ⨾ S) (T ⨾ U)
 in_joined f g i j v (k, ys, zs, r, s, e) = (k, ys, zs, f i k ys r, g k j zs s, e)
 
-in_either : {V : Type 0} {R S T U : Rule V} → Within R T → Within S U → Within (R ∪ S) (T ∪ U)
+pub in_either : {V : Type 0} {R S T U : Rule V} → Within R T → Within S U → Within (R ∪ S) (T ∪ U)
 in_either f g i j v (inl r) = inl (f i j v r)
 in_either f g i j v (inr s) = inr (g i j v s)
 
-in_taking : {A V : Type 0} {R S : Rule A} {T U : A → Rule V} → Within R S → ((a : A) → Within (T a) (U a)) → Within (with_value R T) (with_value S U)
+pub in_taking : {A V : Type 0} {R S : Rule A} {T U : A → Rule V} → Within R S → ((a : A) → Within (T a) (U a)) → Within (with_value R T) (with_value S U)
 in_taking f g i j v (k, a, r, s) = (k, a, f i k a r, g a k j v s)
 
-in_some : {V : Type 0} {R S : ℕ → Rule V} → ((a : ℕ) → Within (R a) (S a)) → Within (some R) (some S)
+pub in_some : {V : Type 0} {R S : ℕ → Rule V} → ((a : ℕ) → Within (R a) (S a)) → Within (some R) (some S)
 in_some f i j v (a, r) = (a, f a i j v r)
 
-in_seen : {A V : Type 0} (g : A → V) {R S : Rule A} → Within R S → Within (seen g R) (seen g S)
+pub in_seen : {A V : Type 0} (g : A → V) {R S : Rule A} → Within R S → Within (seen g R) (seen g S)
 in_seen g f i j v (a, r, e) = (a, f i j a r, e)
 
-in_given : {V : Type 0} {P Q : Type 0} {R S : Rule V} → (P → Q) → Within R S → Within (given P R) (given Q S)
+pub in_given : {V : Type 0} {P Q : Type 0} {R S : Rule V} → (P → Q) → Within R S → Within (given P R) (given Q S)
 in_given g f i j v (p, r) = (g p, f i j v r)
 
-in_bounded : {V : Type 0} (P : ℕ → ℕ → Type 0) {R S : Rule V} → Within R S → Within (where_both P R) (where_both P S)
+pub in_bounded : {V : Type 0} (P : ℕ → ℕ → Type 0) {R S : Rule V} → Within R S → Within (where_both P R) (where_both P S)
 in_bounded P f i j v (p, r) = (p, f i j v r)
 
-in_any : {A : Type 0} {R S : Rule (List A)} → Within R S → Within (any R) (any S)
+pub in_any : {A : Type 0} {R S : Rule (List A)} → Within R S → Within (any R) (any S)
 in_any {A} {R} {S} f i j v r = go i v r
   where
     go : (i : ℕ) (v : List A) → Any R j i v → Any S j i v
     go i v (done e h) = done e h
     go i v (then k ys zs r more e) = then k ys zs (f i k ys r) (go k zs more) e
 
-in_any_one : {A : Type 0} {R S : Rule (List A)} → Within R S → Within (any_one R) (any_one S)
+pub in_any_one : {A : Type 0} {R S : Rule (List A)} → Within R S → Within (any_one R) (any_one S)
 in_any_one f = in_joined f (in_any f)
 
-in_optional : {A : Type 0} {R S : Rule (List A)} → Within R S → Within (optional R) (optional S)
+pub in_optional : {A : Type 0} {R S : Rule (List A)} → Within R S → Within (optional R) (optional S)
 in_optional f = in_either (same _) f
 
 -- ---- the productions
@@ -68,111 +66,111 @@ in_optional f = in_either (same _) f
 module _ (cs : List ℕ) (Less More : Type 0) (wider : Less → More) where
   module _ (handles : tags.Handles) where
     module _ (Open Opens : Type 0) (opens : Open → Opens) (inside insides : Part → Rule (List Event)) (f : (p : Part) → Within (inside p) (insides p)) where
-      in_inside_flow : (n : ℕ) (c : Ctx) → Within (nodes.inside_flow cs Less handles Open inside n c) (nodes.inside_flow cs More handles Opens insides n c)
+      pub in_inside_flow : (n : ℕ) (c : Ctx) → Within (nodes.inside_flow cs Less handles Open inside n c) (nodes.inside_flow cs More handles Opens insides n c)
       in_inside_flow n c = in_either (f (yaml_part n c)) (f (json_part n c))
 
-      in_yaml_node : (n : ℕ) (c : Ctx) → Within (nodes.yaml_node cs Less handles Open inside n c) (nodes.yaml_node cs More handles Opens insides n c)
+      pub in_yaml_node : (n : ℕ) (c : Ctx) → Within (nodes.yaml_node cs Less handles Open inside n c) (nodes.yaml_node cs More handles Opens insides n c)
       unfolding nodes.yaml_node
       in_yaml_node n c = same _
 
-      in_parted : (n : ℕ) (c : Ctx) {R S : Rule (List Event)} → Within R S → Within (nodes.parted cs Less handles Open inside n c R) (nodes.parted cs More handles Opens insides n c S)
+      pub in_parted : (n : ℕ) (c : Ctx) {R S : Rule (List Event)} → Within R S → Within (nodes.parted cs Less handles Open inside n c R) (nodes.parted cs More handles Opens insides n c S)
       in_parted n c g = in_joined (in_any (in_after _ g)) (in_optional g)
 
-      in_value : (n : ℕ) (c : Ctx) → Within (nodes.value cs Less handles Open inside n c) (nodes.value cs More handles Opens insides n c)
+      pub in_value : (n : ℕ) (c : Ctx) → Within (nodes.value cs Less handles Open inside n c) (nodes.value cs More handles Opens insides n c)
       unfolding nodes.value
       in_value n c = in_before _ (in_either (in_before _ (in_inside_flow n c)) (same _))
 
-      in_adjacent : (n : ℕ) (c : Ctx) → Within (nodes.adjacent cs Less handles Open inside n c) (nodes.adjacent cs More handles Opens insides n c)
+      pub in_adjacent : (n : ℕ) (c : Ctx) → Within (nodes.adjacent cs Less handles Open inside n c) (nodes.adjacent cs More handles Opens insides n c)
       unfolding nodes.adjacent
       in_adjacent n c = in_before _ (in_either (in_before _ (in_inside_flow n c)) (same _))
 
-      in_yaml_key_entry : (n : ℕ) (c : Ctx) → Within (nodes.yaml_key_entry cs Less handles Open inside n c) (nodes.yaml_key_entry cs More handles Opens insides n c)
+      pub in_yaml_key_entry : (n : ℕ) (c : Ctx) → Within (nodes.yaml_key_entry cs Less handles Open inside n c) (nodes.yaml_key_entry cs More handles Opens insides n c)
       unfolding nodes.yaml_key_entry
       in_yaml_key_entry n c = in_joined (f (yaml_part n c)) (in_either (in_before _ (in_value n c)) (same _))
 
-      in_json_key_entry : (n : ℕ) (c : Ctx) → Within (nodes.json_key_entry cs Less handles Open inside n c) (nodes.json_key_entry cs More handles Opens insides n c)
+      pub in_json_key_entry : (n : ℕ) (c : Ctx) → Within (nodes.json_key_entry cs Less handles Open inside n c) (nodes.json_key_entry cs More handles Opens insides n c)
       unfolding nodes.json_key_entry
       in_json_key_entry n c = in_joined (f (json_part n c)) (in_either (in_before _ (in_adjacent n c)) (same _))
 
-      in_implicit_entry : (n : ℕ) (c : Ctx) → Within (nodes.implicit_entry cs Less handles Open inside n c) (nodes.implicit_entry cs More handles Opens insides n c)
+      pub in_implicit_entry : (n : ℕ) (c : Ctx) → Within (nodes.implicit_entry cs Less handles Open inside n c) (nodes.implicit_entry cs More handles Opens insides n c)
       unfolding nodes.implicit_entry
       in_implicit_entry n c = in_either (in_yaml_key_entry n c) (in_json_key_entry n c)
 
-      in_empty_key : (n : ℕ) (c : Ctx) → Within (nodes.empty_key cs Less handles Open inside n c) (nodes.empty_key cs More handles Opens insides n c)
+      pub in_empty_key : (n : ℕ) (c : Ctx) → Within (nodes.empty_key cs Less handles Open inside n c) (nodes.empty_key cs More handles Opens insides n c)
       unfolding nodes.empty_key
       in_empty_key n c = in_joined (same _) (in_value n c)
 
-      in_explicit : (n : ℕ) (c : Ctx) → Within (nodes.explicit cs Less handles Open inside n c) (nodes.explicit cs More handles Opens insides n c)
+      pub in_explicit : (n : ℕ) (c : Ctx) → Within (nodes.explicit cs Less handles Open inside n c) (nodes.explicit cs More handles Opens insides n c)
       unfolding nodes.explicit
       in_explicit n c = in_before _ (in_either (in_implicit_entry n c) (in_either (in_empty_key n c) (same _)))
 
-      in_entry : (n : ℕ) (c : Ctx) → Within (nodes.entry cs Less handles Open inside n c) (nodes.entry cs More handles Opens insides n c)
+      pub in_entry : (n : ℕ) (c : Ctx) → Within (nodes.entry cs Less handles Open inside n c) (nodes.entry cs More handles Opens insides n c)
       unfolding nodes.entry
       in_entry n c = in_either (in_implicit_entry n c) (in_given wider (in_either (in_empty_key n c) (in_explicit n c)))
 
-      in_implicit_yaml_key : (c : Ctx) → Within (nodes.implicit_yaml_key cs Less handles Open inside c) (nodes.implicit_yaml_key cs More handles Opens insides c)
+      pub in_implicit_yaml_key : (c : Ctx) → Within (nodes.implicit_yaml_key cs Less handles Open inside c) (nodes.implicit_yaml_key cs More handles Opens insides c)
       unfolding nodes.implicit_yaml_key
       in_implicit_yaml_key c = in_bounded _ (in_after _ (f (yaml_part 0 c)))
 
-      in_implicit_json_key : (c : Ctx) → Within (nodes.implicit_json_key cs Less handles Open inside c) (nodes.implicit_json_key cs More handles Opens insides c)
+      pub in_implicit_json_key : (c : Ctx) → Within (nodes.implicit_json_key cs Less handles Open inside c) (nodes.implicit_json_key cs More handles Opens insides c)
       unfolding nodes.implicit_json_key
       in_implicit_json_key c = in_bounded _ (in_after _ (f (json_part 0 c)))
 
-      in_pair : (n : ℕ) (c : Ctx) → Within (nodes.pair cs Less handles Open inside n c) (nodes.pair cs More handles Opens insides n c)
+      pub in_pair : (n : ℕ) (c : Ctx) → Within (nodes.pair cs Less handles Open inside n c) (nodes.pair cs More handles Opens insides n c)
       unfolding nodes.pair
       in_pair n c = in_given opens (in_seen _ (in_either (in_joined (in_implicit_yaml_key flow_key) (in_value n c))
           (in_either (in_joined (in_implicit_json_key flow_key) (in_adjacent n c)) (in_given wider (in_either (in_empty_key n c) (in_explicit n c))))))
 
-      in_flow_seq : (p : Props) (n : ℕ) (c : Ctx) → Within (nodes.flow_seq cs Less handles Open inside p n c) (nodes.flow_seq cs More handles Opens insides p n c)
+      pub in_flow_seq : (p : Props) (n : ℕ) (c : Ctx) → Within (nodes.flow_seq cs Less handles Open inside p n c) (nodes.flow_seq cs More handles Opens insides p n c)
       unfolding nodes.flow_seq
       in_flow_seq p n c = in_given opens (in_seen _ (in_before _ (in_after _ (in_parted n c (in_after _ (in_either (f (pair_part n _)) (in_inside_flow n _)))))))
 
-      in_flow_map : (p : Props) (n : ℕ) (c : Ctx) → Within (nodes.flow_map cs Less handles Open inside p n c) (nodes.flow_map cs More handles Opens insides p n c)
+      pub in_flow_map : (p : Props) (n : ℕ) (c : Ctx) → Within (nodes.flow_map cs Less handles Open inside p n c) (nodes.flow_map cs More handles Opens insides p n c)
       unfolding nodes.flow_map
       in_flow_map p n c = in_given opens (in_seen _ (in_before _ (in_after _ (in_parted n c (in_after _ (in_entry n _))))))
 
-      in_json_node : (n : ℕ) (c : Ctx) → Within (nodes.json_node cs Less handles Open inside n c) (nodes.json_node cs More handles Opens insides n c)
+      pub in_json_node : (n : ℕ) (c : Ctx) → Within (nodes.json_node cs Less handles Open inside n c) (nodes.json_node cs More handles Opens insides n c)
       unfolding nodes.json_node
       in_json_node n c = in_taking (same _) (λ p. in_either (same _) (in_either (same _) (in_either (in_flow_seq p n c) (in_flow_map p n c))))
 
-      in_flow_node : (n : ℕ) (c : Ctx) → Within (nodes.flow_node cs Less handles Open inside n c) (nodes.flow_node cs More handles Opens insides n c)
+      pub in_flow_node : (n : ℕ) (c : Ctx) → Within (nodes.flow_node cs Less handles Open inside n c) (nodes.flow_node cs More handles Opens insides n c)
       unfolding nodes.flow_node
       in_flow_node n c = in_either (in_yaml_node n c) (in_json_node n c)
 
-      in_indented : (k : ℕ) → Within (nodes.indented cs Less handles Open inside k) (nodes.indented cs More handles Opens insides k)
+      pub in_indented : (k : ℕ) → Within (nodes.indented cs Less handles Open inside k) (nodes.indented cs More handles Opens insides k)
       unfolding nodes.indented
       in_indented k = in_either (in_some (λ m. in_given (λ h. h) (in_before _ (f _)))) (in_either (f _) (same _))
 
-      in_seq_entry : (k : ℕ) → Within (nodes.seq_entry cs Less handles Open inside k) (nodes.seq_entry cs More handles Opens insides k)
+      pub in_seq_entry : (k : ℕ) → Within (nodes.seq_entry cs Less handles Open inside k) (nodes.seq_entry cs More handles Opens insides k)
       unfolding nodes.seq_entry
       in_seq_entry k = in_before _ (in_indented k)
 
-      in_map_entry : (k : ℕ) → Within (nodes.map_entry cs Less handles Open inside k) (nodes.map_entry cs More handles Opens insides k)
+      pub in_map_entry : (k : ℕ) → Within (nodes.map_entry cs Less handles Open inside k) (nodes.map_entry cs More handles Opens insides k)
       unfolding nodes.map_entry
       in_map_entry k = in_joined (in_after _ (in_either (in_implicit_yaml_key block_key) (in_implicit_json_key block_key))) (in_either (f _) (same _))
 
-      in_block_seq : (p : Props) (col : ℕ) → Within (nodes.block_seq cs Less handles Open inside p col) (nodes.block_seq cs More handles Opens insides p col)
+      pub in_block_seq : (p : Props) (col : ℕ) → Within (nodes.block_seq cs Less handles Open inside p col) (nodes.block_seq cs More handles Opens insides p col)
       unfolding nodes.block_seq
       in_block_seq p col = in_given opens (in_seen _ (in_some (λ k. in_given (λ h. h) (in_any_one (in_before _ (in_seq_entry k))))))
 
-      in_block_map : (p : Props) (col : ℕ) → Within (nodes.block_map cs Less handles Open inside p col) (nodes.block_map cs More handles Opens insides p col)
+      pub in_block_map : (p : Props) (col : ℕ) → Within (nodes.block_map cs Less handles Open inside p col) (nodes.block_map cs More handles Opens insides p col)
       unfolding nodes.block_map
       in_block_map p col = in_given opens (in_seen _ (in_some (λ k. in_given (λ h. h) (in_any_one (in_before _ (in_map_entry k))))))
 
-      in_compact_seq : (k : ℕ) → Within (nodes.compact_seq cs Less handles Open inside k) (nodes.compact_seq cs More handles Opens insides k)
+      pub in_compact_seq : (k : ℕ) → Within (nodes.compact_seq cs Less handles Open inside k) (nodes.compact_seq cs More handles Opens insides k)
       unfolding nodes.compact_seq
       in_compact_seq k = in_given opens (in_seen _ (in_joined (in_seq_entry k) (in_any (in_before _ (in_seq_entry k)))))
 
-      in_compact_map : (k : ℕ) → Within (nodes.compact_map cs Less handles Open inside k) (nodes.compact_map cs More handles Opens insides k)
+      pub in_compact_map : (k : ℕ) → Within (nodes.compact_map cs Less handles Open inside k) (nodes.compact_map cs More handles Opens insides k)
       unfolding nodes.compact_map
       in_compact_map k = in_given opens (in_seen _ (in_joined (in_map_entry k) (in_any (in_before _ (in_map_entry k)))))
 
-      in_block_node : (col : ℕ) (c : Ctx) → Within (nodes.block_node cs Less handles Open inside col c) (nodes.block_node cs More handles Opens insides col c)
+      pub in_block_node : (col : ℕ) (c : Ctx) → Within (nodes.block_node cs Less handles Open inside col c) (nodes.block_node cs More handles Opens insides col c)
       unfolding nodes.block_node
       in_block_node col c = in_either (in_before _ (in_after _ (in_flow_node col _)))
           (in_either (same _) (in_taking (same _) (λ p. in_either (in_block_map p col) (in_block_seq p _))))
 
-      in_part : (p : Part) → Within (part cs Less handles Open inside p) (part cs More handles Opens insides p)
+      pub in_part : (p : Part) → Within (part cs Less handles Open inside p) (part cs More handles Opens insides p)
       in_part (yaml_part n c) = in_yaml_node n c
       in_part (json_part n c) = in_json_node n c
       in_part (pair_part n c) = in_pair n c
@@ -180,7 +178,7 @@ module _ (cs : List ℕ) (Less More : Type 0) (wider : Less → More) where
       in_part (compact_part k) = in_either (in_compact_seq k) (in_compact_map k)
 
     -- by induction on the room
-    in_reads : (room most : ℕ) → room ≤ most → (p : Part) → Within (reads cs Less handles room p) (reads cs More handles most p)
+    pub in_reads : (room most : ℕ) → room ≤ most → (p : Part) → Within (reads cs Less handles room p) (reads cs More handles most p)
     unfolding reads
     in_reads zero zero le p = in_part ⊥ ⊥ (λ h. h) (λ q. never) (λ q. never) (λ q. same _) p
     in_reads zero (suc most) le p = in_part ⊥ (Unit {0}) (λ h. tt) (λ q. never) (reads cs More handles most) (λ q i j v h. absurd h) p
@@ -191,39 +189,35 @@ module _ (cs : List ℕ) (Less More : Type 0) (wider : Less → More) where
   -- ---- documents and streams
 
   module _ (room most : ℕ) (le : room ≤ most) where
-    in_bare_document : (handles : tags.Handles) → Within (streams.bare_document cs Less room handles) (streams.bare_document cs More most handles)
+    pub in_bare_document : (handles : tags.Handles) → Within (streams.bare_document cs Less room handles) (streams.bare_document cs More most handles)
     unfolding streams.bare_document
     in_bare_document handles = in_bounded _ (in_reads handles room most le _)
 
-    in_explicit_document : (handles : tags.Handles) → Within (streams.explicit_document cs Less room handles) (streams.explicit_document cs More most handles)
+    pub in_explicit_document : (handles : tags.Handles) → Within (streams.explicit_document cs Less room handles) (streams.explicit_document cs More most handles)
     unfolding streams.explicit_document streams.document_mark
     in_explicit_document handles = in_before _ (in_either (in_bare_document handles) (same _))
 
-    in_directive_document : Within (streams.directive_document cs Less room) (streams.directive_document cs More most)
+    pub in_directive_document : Within (streams.directive_document cs Less room) (streams.directive_document cs More most)
     unfolding streams.directive_document
     in_directive_document = in_taking (same _) in_explicit_document
 
-    in_any_document : Within (streams.any_document cs Less room) (streams.any_document cs More most)
+    pub in_any_document : Within (streams.any_document cs Less room) (streams.any_document cs More most)
     unfolding streams.any_document
     in_any_document = in_either (in_seen _ (in_bare_document [])) (in_either (in_seen _ (in_explicit_document [])) (in_seen _ in_directive_document))
 
-    in_suffix : Within (streams.suffix cs Less room) (streams.suffix cs More most)
+    pub in_suffix : Within (streams.suffix cs Less room) (streams.suffix cs More most)
     unfolding streams.suffix streams.document_mark
     in_suffix = same _
 
-    in_stream : Within (streams.stream cs Less room) (streams.stream cs More most)
+    pub in_stream : Within (streams.stream cs Less room) (streams.stream cs More most)
     unfolding streams.stream
     in_stream = in_joined (in_before _ (in_optional in_any_document)) (in_any (in_either
         (in_joined (in_any_one in_suffix) (in_before _ (in_optional in_any_document)))
         (in_either (in_seen _ (in_explicit_document [])) (same _))))
 
-    in_text : (es : List Event) → ReadsText cs Less room es → ReadsText cs More most es
+    pub in_text : (es : List Event) → ReadsText cs Less room es → ReadsText cs More most es
     unfolding ReadsText
     in_text es (ps, r, e) = (ps, in_stream 0 _ ps r, e)
 
 pub readings_stay : ReadingsStay
 readings_stay cs less more wider room most le es r = in_text cs (Profile less) (Profile more) wider room most le es r
-
-pub readings_stay_wide : ReadingsStayWide
-unfolding Reads ReadsWide
-readings_stay_wide bytes es (cs, text, r) = (cs, text, in_text cs ⊥ (Unit {0}) (λ h. tt) open_limit open_limit (omega arith) es r)

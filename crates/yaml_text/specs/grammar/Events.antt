@@ -1,6 +1,6 @@
 -- The events that productions give. A production's texts are characters, and an event's are their UTF-8 bytes.
 use Rattle.std.specs.Prelude.{ℕ, List, [], ◌∷◌, ◌++◌, Bool, None, encode_utf8_all}
-use Rattle.yaml_text.specs.Event.{Style, plain, WrittenTag, untagged, Anchor, Event, sequence_start, sequence_end, mapping_start, mapping_end, scalar_event, alias_event}
+use Rattle.yaml_text.specs.Event.{Style, plain, WrittenTag, untagged, Anchor, Event, sequence_start, mapping_start, scalar_event, alias_event}
 
 -- 6.9: a node's properties
 pub record Props : Type 0 where

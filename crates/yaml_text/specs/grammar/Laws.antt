@@ -1,5 +1,5 @@
 -- Laws of readings, in both profiles.
-use Rattle.std.specs.Prelude.{◌≡◌, ℕ, ◌≤◌, ◌⊎◌, Bool, true, false, List}
+use Rattle.std.specs.Prelude.{◌≡◌, ℕ, ◌≤◌, Bool, true, false, List}
 use Rattle.yaml_text.specs.Event.{Event}
 use Rattle.yaml_text.specs.Marked.{Document, stream_events}
 use Rattle.yaml_text.specs.Sound.{DocumentsSound}
@@ -12,7 +12,7 @@ use Rattle.yaml_text.specs.grammar.BlockScalars as block
 use Rattle.yaml_text.specs.grammar.Directives as directives
 use Rattle.yaml_text.specs.grammar.Nodes.{Part, reads}
 use Rattle.yaml_text.specs.grammar.Streams.{bare_document, stream, ReadsText}
-use Rattle.yaml_text.specs.grammar.Reading.{Reads, ReadsWide}
+use Rattle.yaml_text.specs.grammar.Reading.{Reads}
 
 -- whether `?` keys and empty keys are read in flow collections
 abbrev pub Profile : Bool → Type 0
@@ -61,13 +61,9 @@ FromDocuments es = (ds : List Document) × (es ≡ stream_events ds) × Document
 
 -- What bytes are read as is a list of documents.
 abbrev pub ReadingsAreDocuments : Type 0
-ReadingsAreDocuments = (bytes : List ℕ) (es : List Event) → Reads bytes es ⊎ ReadsWide bytes es → FromDocuments es
+ReadingsAreDocuments = (bytes : List ℕ) (es : List Event) → Reads bytes es → FromDocuments es
 
 -- A reading stays one where more collections may be open, and in a wider profile.
 abbrev pub ReadingsStay : Type 0
 ReadingsStay = (cs : List ℕ) (less more : Bool) → (Profile less → Profile more) → (room most : ℕ) → room ≤ most
     → (es : List Event) → ReadsText cs (Profile less) room es → ReadsText cs (Profile more) most es
-
--- What bytes are read as in the narrow profile, they are read as in the wide one.
-abbrev pub ReadingsStayWide : Type 0
-ReadingsStayWide = (bytes : List ℕ) (es : List Event) → Reads bytes es → ReadsWide bytes es

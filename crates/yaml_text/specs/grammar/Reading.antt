@@ -5,10 +5,7 @@ use Rattle.yaml_text.specs.Event.{Event}
 use Rattle.yaml_text.specs.Text.{Text}
 use Rattle.yaml_text.specs.grammar.Streams.{ReadsText}
 
--- the bytes are a stream with these events, in which at no place more than `open_limit` collections are open
+-- the bytes are a stream with these events, in which at no place more than `open_limit` collections are open; `?` keys and
+-- empty keys are read in flow collections
 unfoldable pub Reads : List ℕ → List Event → Type 0
-Reads bytes es = (cs : List ℕ) × Text bytes cs × ReadsText cs ⊥ open_limit es
-
--- the same with `?` keys and empty keys in flow collections
-unfoldable pub ReadsWide : List ℕ → List Event → Type 0
-ReadsWide bytes es = (cs : List ℕ) × Text bytes cs × ReadsText cs (Unit {0}) open_limit es
+Reads bytes es = (cs : List ℕ) × Text bytes cs × ReadsText cs (Unit {0}) open_limit es

@@ -1,4 +1,4 @@
-use Rattle.yaml_text.specs.grammar.Laws.{GoesOn, Profile}
+use Rattle.yaml_text.specs.grammar.Laws.{Profile}
 use Rattle.yaml_text.proofs.grammar.Forward.{on_s_l_comments, on_separate, fwd_tag, fwd_anchor, fwd_alias, fwd_properties, fwd_plain, fwd_single, fwd_double, fwd_literal, fwd_folded, fwd_directives, fwd_reads, fwd_stream}
 use Rattle.yaml_text.proofs.grammar_laws.readings_go_on.Goals as goal
 

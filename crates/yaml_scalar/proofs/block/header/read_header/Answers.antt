@@ -1,4 +1,4 @@
-use Rattle.yaml_text.specs.Source.{text_of, place_of}
+use Rattle.yaml_text.specs.Source.{text_of}
 use Rattle.yaml_scalar.proofs.LineRuns.{inside_uncut}
 use Rattle.yaml_scalar.proofs.OutcomeLemmas.{refuses_unread}
 use Rattle.yaml_scalar.proofs.RestLemmas.{blank_after, to_s_b, from_s_b}
