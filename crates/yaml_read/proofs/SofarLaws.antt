@@ -8,7 +8,7 @@ use Rattle.yaml_text.specs.grammar.Rules.{Rule, ◌▸◌, ◌◂◌, ◌∪◌,
 use Rattle.yaml_text.specs.grammar.Separation.{l_comment}
 use Rattle.yaml_text.specs.grammar.Streams as streams
 use Rattle.yaml_text.specs.grammar.Streams.{Piece, document_piece, suffix_piece, stream, suffix, any_document, explicit_document, bare_document, directive_document, explicit_piece, piece_events, ends_explicitly, ReadsText}
-use Rattle.yaml_stream.specs.Sofar.{ends_so, events_so, closing, Pieces, Fresh, IsSofar}
+use Rattle.yaml_read.specs.Sofar.{ends_so, events_so, closing, Pieces, Fresh, IsSofar}
 
 -- ---- events
 
