@@ -1,0 +1,9 @@
+//! What stands between and before the nodes of a stream: comments, directives, tags and names.
+#![tactic(auto)]
+
+pub mod comments;
+pub mod directives;
+pub mod handles;
+pub mod name;
+mod runs;
+pub mod tag;
