@@ -1,1 +1,2 @@
 mod SofarLaws
+mod StreamLemmas

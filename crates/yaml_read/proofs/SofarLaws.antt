@@ -1,10 +1,10 @@
 -- How a stream that was read so far goes on, and ends.
-use Rattle.std.proofs.Common.{◌≡◌, ℕ, ◌⊎◌, inl, inr, true, false, Bool, List, [], ◌∷◌, ◌++◌, length, refl, sym, ◌∙◌, ap, subst, append_assoc}
+use Rattle.std.proofs.Common.{◌≡◌, ℕ, inl, inr, true, false, Bool, List, [], ◌∷◌, ◌++◌, length, refl, sym, ◌∙◌, ap, subst, append_assoc}
 use Rattle.std.proofs.lemmas.Bool.{false≢true}
 use Rattle.std.proofs.lemmas.List.{append-nil}
 use Rattle.yaml_text.specs.Limits.{open_limit}
 use Rattle.yaml_text.specs.Event.{Event, stream_start, stream_end, document_start, document_end}
-use Rattle.yaml_text.specs.grammar.Rules.{Rule, ◌▸◌, ◌◂◌, ◌∪◌, ◌⨾◌, optional, gives, any, any_one, any_span, Any, Spans, done, then}
+use Rattle.yaml_text.specs.grammar.Rules.{Rule, ◌▸◌, ◌∪◌, ◌⨾◌, optional, gives, any_one, any_span, Any, Spans, done, then}
 use Rattle.yaml_text.specs.grammar.Separation.{l_comment}
 use Rattle.yaml_text.specs.grammar.Streams as streams
 use Rattle.yaml_text.specs.grammar.Streams.{Piece, document_piece, suffix_piece, stream, suffix, any_document, explicit_document, bare_document, directive_document, explicit_piece, piece_events, ends_explicitly, ReadsText}
@@ -115,7 +115,7 @@ module _ (cs : List ℕ) where
         pieces = s.pieces ++ (suffix_piece ∷ []);
         read = fresh_read j _ fresh;
         fresh = λ q. fresh;
-        events = λ next. append-nil new ∙ e ∙ s.events true ∙ ap (λ x. stream_start ∷ x) (sym (events_suffix s.pieces next))
+        events = λ next. append-nil new ∙ e ∙ s.events true ∙ ap (λ x. stream_start ∷ x) (sym (events_suffix s.pieces next));
       }
 
   document_events : (is_open : Bool) (ps : List Piece) (explicit : Bool) (es written new : List Event) →
@@ -129,21 +129,21 @@ module _ (cs : List ℕ) where
   pub sofar_explicit : (is_open : Bool) (i j : ℕ) (es written new : List Event) → IsSofar cs is_open i written →
       explicit_document cs (Unit {0}) open_limit [] i j es → new ≡ (written ++ closing is_open false) ++ (document_start true ∷ es) → IsSofar cs true j new
   sofar_explicit is_open i j es written new s d e = record {
-      pieces = s.pieces ++ (document_piece true es ∷ []);
-      read = goes_on i j s.pieces (document_piece true es ∷ []) s.read (inr (inl (es, d, refl)));
-      fresh = λ q. absurd (true_no_false q);
-      events = document_events is_open s.pieces true es written new s.events e
-    }
+    pieces = s.pieces ++ (document_piece true es ∷ []);
+    read = goes_on i j s.pieces (document_piece true es ∷ []) s.read (inr (inl (es, d, refl)));
+    fresh = λ q. absurd (true_no_false q);
+    events = document_events is_open s.pieces true es written new s.events e;
+  }
 
   -- a document where none is open
   pub sofar_document : (explicit : Bool) (i j : ℕ) (es written new : List Event) → IsSofar cs false i written →
       any_document cs (Unit {0}) open_limit i j (document_piece explicit es ∷ []) → new ≡ written ++ (document_start explicit ∷ es) → IsSofar cs true j new
   sofar_document explicit i j es written new s d e = record {
-      pieces = s.pieces ++ (document_piece explicit es ∷ []);
-      read = fresh_document i j s.pieces (document_piece explicit es ∷ []) (s.fresh refl) d;
-      fresh = λ q. absurd (true_no_false q);
-      events = document_events false s.pieces explicit es written new s.events (e ∙ ap (λ x. x ++ (document_start explicit ∷ es)) (sym (append-nil written)))
-    }
+    pieces = s.pieces ++ (document_piece explicit es ∷ []);
+    read = fresh_document i j s.pieces (document_piece explicit es ∷ []) (s.fresh refl) d;
+    fresh = λ q. absurd (true_no_false q);
+    events = document_events false s.pieces explicit es written new s.events (e ∙ ap (λ x. x ++ (document_start explicit ∷ es)) (sym (append-nil written)));
+  }
 
   pub sofar_bare : (i j : ℕ) (es written new : List Event) → IsSofar cs false i written →
       bare_document cs (Unit {0}) open_limit [] i j es → new ≡ written ++ (document_start false ∷ es) → IsSofar cs true j new
@@ -158,6 +158,8 @@ module _ (cs : List ℕ) where
   pub sofar_end : (is_open : Bool) (i : ℕ) (written new : List Event) → IsSofar cs is_open i written → i ≡ length cs →
       new ≡ (written ++ closing is_open false) ++ (stream_end ∷ []) → ReadsText cs (Unit {0}) open_limit new
   unfolding ReadsText streams.stream_events
-  sofar_end is_open i written new s at_end e =
-      (s.pieces, subst (λ n. Pieces cs n s.pieces) at_end s.read,
-      e ∙ ap (λ x. x ++ (stream_end ∷ [])) (s.events false) ∙ ap (λ x. stream_start ∷ (x ++ (stream_end ∷ []))) (events_last s.pieces))
+  sofar_end is_open i written new s at_end e = (
+    s.pieces,
+    subst (λ n. Pieces cs n s.pieces) at_end s.read,
+    e ∙ ap (λ x. x ++ (stream_end ∷ [])) (s.events false) ∙ ap (λ x. stream_start ∷ (x ++ (stream_end ∷ []))) (events_last s.pieces),
+  )

@@ -2,7 +2,7 @@
 use Rattle.std.specs.Prelude.{◌≡◌, ◌⊎◌, ℕ, List, [], ◌∷◌, ◌++◌, Bool, true, false}
 use Rattle.yaml_text.specs.Limits.{open_limit}
 use Rattle.yaml_text.specs.Event.{Event, stream_start, document_start, document_end}
-use Rattle.yaml_text.specs.grammar.Rules.{Rule, ◌◂◌, any_one, any_span}
+use Rattle.yaml_text.specs.grammar.Rules.{◌◂◌, any_one, any_span}
 use Rattle.yaml_text.specs.grammar.Separation.{l_comment}
 use Rattle.yaml_text.specs.grammar.Streams.{Piece, document_piece, suffix_piece, stream, suffix}
 
@@ -38,6 +38,3 @@ module _ (cs : List ℕ) where
     pub read : Pieces i pieces
     pub fresh : is_open ≡ false → Fresh i pieces
     pub events : (next : Bool) → written ++ closing is_open next ≡ stream_start ∷ events_so pieces next
-
-abbrev pub Law : Type 0
-Law = (cs : List ℕ) → Unit {0}

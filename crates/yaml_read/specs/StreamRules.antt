@@ -4,11 +4,11 @@ use Rattle.yaml_text.specs.Limits.{open_limit}
 use Rattle.yaml_text.specs.Source.{text_of, place_of, IsBorder}
 use Rattle.yaml_text.specs.Event.{Event, document_start}
 use Rattle.yaml_text.specs.declared.chars.Chars.{Chars}
-use Rattle.yaml_text.specs.grammar.Rules.{Rule, ◌▸◌, ◌◂◌, ◌∪◌, gives, seen}
-use Rattle.yaml_text.specs.grammar.Separation.{AtEnd, Mark, s_l_comments}
+use Rattle.yaml_text.specs.grammar.Rules.{Rule, ◌◂◌, ◌∪◌, gives, seen}
+use Rattle.yaml_text.specs.grammar.Separation.{AtEnd, s_l_comments}
 use Rattle.yaml_text.specs.grammar.Tags.{Handles}
 use Rattle.yaml_text.specs.grammar.Events.{no_props, empty}
-use Rattle.yaml_text.specs.grammar.Streams.{document_mark, bare_document, explicit_document, directive_document}
+use Rattle.yaml_text.specs.grammar.Streams.{document_mark, bare_document, directive_document}
 use Rattle.yaml_flow.specs.declared.line.Line.{Line}
 use Rattle.yaml_read.specs.declared.stream.Next.{Next}
 use Rattle.yaml_read.specs.declared.stream.Next.TheVariants.{End, Suffix, Explicit, Content}
