@@ -11,7 +11,7 @@ use std::collections::HashMap;
 pub struct Handles<'a> {
     bindings: Vec<(&'a str, &'a str)>,
     prefixes: HashMap<&'a str, &'a str>,
-    ghost found: { ∥ (q : List ℕ) → get_by (λ k. bytes_eq q k.now) prefixes ≡ lookup (λ k. bytes_eq q k.now) bindings.items ∥₁ },
+    ghost found: { ∥ ((q : List ℕ) → get_by (λ k. bytes_eq q k.now) prefixes ≡ lookup (λ k. bytes_eq q k.now) bindings.items) ∥₁ },
 }
 
 impl<'a> Handles<'a> {

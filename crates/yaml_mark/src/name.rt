@@ -1,5 +1,5 @@
 //! Anchors' and aliases' names (YAML 1.2.2, 6.9.2 and 7.1).
-ghost use Rattle.std.specs.Prelude.{◌<◌, IfOk, IfErr};
+ghost use Rattle.std.specs.Prelude.{◌<◌, IfOk, IfErr, IfSome, IfNone, ℕ};
 ghost use Rattle.std.specs.Str.{chars, IsUtf8};
 ghost use Rattle.std.specs.Cow.{cow_str_bytes};
 ghost use Rattle.yaml_text.specs.Answer.{Only};
@@ -7,6 +7,7 @@ ghost use Rattle.yaml_text.specs.Source.{text_of, place_of, IsBorder};
 ghost use Rattle.yaml_text.specs.grammar.Calls as calls;
 ghost use Rattle.yaml_text.specs.grammar.Calls.{Unread};
 ghost use Rattle.yaml_mark.specs.Answer.{NameRefuses};
+ghost use Rattle.yaml_mark.specs.Parts.{sign};
 
 use crate::runs::{Class, skip_run};
 use std::alloc::Global;
@@ -14,6 +15,23 @@ use std::borrow::CowStr;
 use yaml_text::chars::Chars;
 use yaml_text::fault::Fault;
 use yaml_text::places::{accept, text_between};
+
+/// The border after the sign of an anchor or alias.
+fn read_sign(source: &Chars<'_>, at: usize) -> Option<usize>
+    requires { IsBorder source.now at }
+    ensures border { IfSome result (λ to. IsBorder source.now to) }
+    ensures onward { IfSome result (λ to. at < to) }
+    ensures some { IfSome result (λ to. sign (text_of source.now) (place_of source.now at) (place_of source.now to)) }
+    ensures none { IfNone result ((j : ℕ) → sign (text_of source.now) (place_of source.now at) j → ⊥) }
+{
+    match accept(source, at, '&') {
+        Some(to) => Some(to),
+        None => match accept(source, at, '*') {
+            Some(to) => Some(to),
+            None => None,
+        },
+    }
+}
 
 /// The name of the anchor or alias at `at`, and the border after it.
 ///
@@ -31,12 +49,9 @@ pub fn read_name<'a>(
     ensures only { IfOk result (λ r. Only (calls.read_name (text_of source.now)) (place_of source.now at) (place_of source.now r.1) (chars (cow_str_bytes r.0))) }
     ensures refused { IfErr result (λ e. NameRefuses e (Unread (calls.read_name (text_of source.now)) (place_of source.now at))) }
 {
-    let start = match accept(source, at, '&') {
+    let start = match read_sign(source, at) {
         Some(to) => to,
-        None => match accept(source, at, '*') {
-            Some(to) => to,
-            None => return Err(Fault::Syntax(source.pos(at))),
-        },
+        None => return Err(Fault::Syntax(source.pos(at))),
     };
     let end = skip_run(source, start, Class::Name);
     if end == start {
