@@ -11,15 +11,15 @@ ghost use Rattle.yaml_scalar.specs.BlockModel.{column, sign_of, styled};
 use crate::block::blanks::trailing_comments;
 use crate::block::content::read_content;
 use crate::block::header::read_header;
-use crate::text::refusal;
 use std::alloc::Global;
 use std::borrow::CowStr;
 use yaml_text::chars::Chars;
 use yaml_text::context::Ctx;
 use yaml_text::fault::Fault;
+use yaml_text::lines::unusable;
 use yaml_text::places::accept;
 
-pub mod blanks;
+mod blanks;
 mod content;
 mod header;
 mod lines;
@@ -55,7 +55,7 @@ fn read_block<'a>(
         (λ r. place_of source.now r.1) (λ r. chars (cow_str_bytes r.0)) result }
 {
     let Some(start) = accept(source, at, sign_of(is_folded)) else {
-        return Err(refusal(source, at));
+        return Err(unusable(source, at));
     };
     let (header, first) = read_header(source, start)?;
     let (text, end, indent) = read_content(alloc, source, first, column(n), header, is_folded)?;

@@ -7,18 +7,21 @@ ghost use Rattle.yaml_text.specs.EventModel.{context_of};
 ghost use Rattle.yaml_text.specs.Source.{text_of, place_of, IsBorder};
 ghost use Rattle.yaml_text.specs.grammar.FlowScalars.{double};
 ghost use Rattle.yaml_text.specs.grammar.Separation.{Mark};
-ghost use Rattle.yaml_scalar.specs.Chains.{line_brk, breaks, Solid, NoSolidBreaks};
-ghost use Rattle.yaml_scalar.specs.Outcome.{Answers, IsUnread};
+ghost use Rattle.yaml_scalar.specs.Chains.{breaks, Solid, NoSolidBreaks};
+ghost use Rattle.yaml_text.specs.Lines.{line_brk};
+ghost use Rattle.yaml_scalar.specs.Outcome.{Answers};
+ghost use Rattle.yaml_text.specs.Answer.{IsUnread};
 
 use crate::escape::read_escape;
-use crate::line::{columns, line_break, read_break};
+use crate::line::{columns, read_break};
 use crate::quoted::quoted_run;
-use crate::text::{push_between, push_fold, push_lines, refusal};
+use crate::text::{push_between, push_fold, push_lines};
 use std::alloc::Global;
 use std::borrow::CowStr;
 use yaml_text::chars::Chars;
 use yaml_text::context::Ctx;
 use yaml_text::fault::Fault;
+use yaml_text::lines::{line_break, unusable};
 use yaml_text::places::{accept, text_between};
 
 /// The border between a backslash and a break, where they stand at a border.
@@ -58,7 +61,7 @@ fn read_solid_break(
     ensures fault { IfErr result IsUnread }
 {
     match read_break(source, at, least, context) {
-        Err(barred) => Err(refusal(source, barred)),
+        Err(barred) => Err(unusable(source, barred)),
         Ok((count, to)) => match escaped_break(source, to) {
             None => Ok((count, to)),
             Some(second) => Err(Fault::Syntax(source.pos(second))),

@@ -15,15 +15,16 @@ ghost use Rattle.yaml_text.specs.grammar.Separation.{Mark};
 ghost use Rattle.yaml_scalar.specs.Chains.{breaks, Later, NoLine, line_more};
 ghost use Rattle.yaml_scalar.specs.Outcome.{Answers};
 
-use crate::class::{is_plain_head, is_plain_inner, is_plain_safe, is_plain_sign};
-use crate::line::{columns, read_break, stands_mark};
+use crate::class::{is_plain_head, is_plain_inner, is_plain_sign};
+use crate::line::{columns, read_break};
 use crate::text::{push_between, push_fold};
 use std::alloc::Global;
 use std::borrow::CowStr;
 use yaml_text::chars::Chars;
-use yaml_text::class::is_white;
+use yaml_text::class::{is_plain_safe, is_white};
 use yaml_text::context::Ctx;
 use yaml_text::fault::Fault;
+use yaml_text::lines::stands_mark;
 use yaml_text::places::{next, text_between};
 
 /// Whether a plain-safe character stands at a border.

@@ -10,12 +10,13 @@ ghost use Rattle.yaml_scalar.specs.Outcome.{Answers};
 
 use crate::line::{columns, read_break};
 use crate::quoted::quoted_run;
-use crate::text::{push_between, push_fold, refusal};
+use crate::text::{push_between, push_fold};
 use std::alloc::Global;
 use std::borrow::CowStr;
 use yaml_text::chars::Chars;
 use yaml_text::context::Ctx;
 use yaml_text::fault::Fault;
+use yaml_text::lines::unusable;
 use yaml_text::places::{accept, text_between};
 
 /// The same as `read_single`, with the indentation as a count.
@@ -54,7 +55,7 @@ fn single_from<'a>(
                 }
             },
             None => match read_break(source, stop, least, context) {
-                Err(barred) => return Err(refusal(source, barred)),
+                Err(barred) => return Err(unusable(source, barred)),
                 Ok((count, to)) => {
                     push_between(&mut text, source, from, end)?;
                     push_fold(&mut text, count)?;

@@ -1,7 +1,7 @@
 use Rattle.std.proofs.Common.{◌+◌, ◌-◌, ◌≤◌, length}
 use Rattle.yaml_text.specs.Source.{text_of, place_of, IsBorder}
 use Rattle.yaml_text.specs.grammar.Separation.{indent}
-use Rattle.yaml_scalar.proofs.block.blanks.skip_spaces.Given as goal
+use Rattle.yaml_text.proofs.lines.skip_spaces.Given as goal
 
 abbrev pub invariant-spaces : goal.invariant-spaces
 invariant-spaces l = record {

@@ -1,6 +1,6 @@
 use Rattle.std.proofs.Common.{arith, sym, ◌∙◌}
-use Rattle.yaml_scalar.proofs.Runs.{run_more}
-use Rattle.yaml_scalar.proofs.line.skip_whites.Goals as goal
+use Rattle.yaml_text.proofs.Runs.{run_more}
+use Rattle.yaml_text.proofs.lines.skip_whites.Goals as goal
 
 pub whites-preserved : goal.whites-preserved
 whites-preserved c =

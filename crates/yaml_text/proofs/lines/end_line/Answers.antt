@@ -1,6 +1,6 @@
 use Rattle.yaml_text.specs.Source.{text_of}
-use Rattle.yaml_scalar.proofs.LineRuns.{to_brk, brk_line_end, end_line_end, nb_here}
-use Rattle.yaml_scalar.proofs.block.blanks.end_line.Goals as goal
+use Rattle.yaml_text.proofs.LineRuns.{to_brk, brk_line_end, end_line_end, nb_here}
+use Rattle.yaml_text.proofs.lines.end_line.Goals as goal
 
 pub returns-in-Some-clause-some : goal.returns-in-Some-clause-some
 returns-in-Some-clause-some c =

@@ -1,7 +1,7 @@
 use Rattle.yaml_text.specs.Source.{text_of}
-use Rattle.yaml_scalar.proofs.OutcomeLemmas.{on_true_at, on_false_at, on_true_weaker, on_false_weaker}
-use Rattle.yaml_scalar.proofs.GapLemmas.{mark_is, mark_starts, mark_dashes}
-use Rattle.yaml_scalar.proofs.line.stands_mark.Goals as goal
+use Rattle.yaml_text.proofs.Tests.{on_true_at, on_false_at, on_true_weaker, on_false_weaker}
+use Rattle.yaml_text.proofs.Breaks.{mark_is, mark_starts, mark_dashes}
+use Rattle.yaml_text.proofs.lines.stands_mark.Goals as goal
 
 pub returns-then-is_mark-clause-yes : goal.returns-then-is_mark-clause-yes
 returns-then-is_mark-clause-yes c =

@@ -2,7 +2,7 @@ use Rattle.std.proofs.Common.{◌-◌, ◌≤◌, length}
 use Rattle.yaml_text.specs.Source.{text_of, place_of, IsBorder}
 use Rattle.yaml_text.specs.grammar.Rules.{run}
 use Rattle.yaml_text.specs.grammar.Characters.{is_white}
-use Rattle.yaml_scalar.proofs.line.skip_whites.Given as goal
+use Rattle.yaml_text.proofs.lines.skip_whites.Given as goal
 
 abbrev pub invariant-whites : goal.invariant-whites
 invariant-whites l = record {

@@ -2,12 +2,12 @@ use Rattle.std.proofs.Common.{◌≡◌, ℕ, ◌-◌, sym, ◌∙◌, ap, subst
 use Rattle.std.proofs.lemmas.Str.{IsUtf8-had}
 use Rattle.yaml_text.specs.Source.{text_of, place_of, IsBorder}
 use Rattle.yaml_text.specs.grammar.Separation.{StartsLine}
-use Rattle.yaml_scalar.specs.Chains.{line_brk}
+use Rattle.yaml_text.specs.Lines.{line_brk}
 use Rattle.yaml_text.specs.declared.chars.Chars.{Chars}
-use Rattle.yaml_scalar.proofs.OutcomeLemmas.{on_false_at, on_false, on_true}
+use Rattle.yaml_text.proofs.Tests.{on_false_at, on_false, on_true}
 use Rattle.yaml_text.proofs.PlaceLemmas.{before_ascii, place_same, place_positive, starts_at}
-use Rattle.yaml_scalar.proofs.GapLemmas.{before_line, brk_same, line_zero, starts_line}
-use Rattle.yaml_scalar.proofs.line.starts_line.Goals as goal
+use Rattle.yaml_text.proofs.Breaks.{before_line, brk_same, line_zero, starts_line}
+use Rattle.yaml_text.proofs.lines.starts_line.Goals as goal
 
 before : (s : Chars) (at : ℕ) → IsBorder s at → (at ≡ 0 → ⊥) → StartsLine (text_of s) (place_of s at) → IsBorder s (at - 1) × line_brk (text_of s) (place_of s (at - 1)) (place_of s at)
 before s at p n l =

@@ -1,7 +1,7 @@
 use Rattle.yaml_text.specs.Source.{text_of}
-use Rattle.yaml_scalar.proofs.LineRuns.{hash_uncut}
-use Rattle.yaml_scalar.proofs.RestLemmas.{comment_is}
-use Rattle.yaml_scalar.proofs.block.blanks.read_comment.Goals as goal
+use Rattle.yaml_text.proofs.LineRuns.{hash_uncut}
+use Rattle.yaml_text.proofs.RestLemmas.{comment_is}
+use Rattle.yaml_text.proofs.lines.read_comment.Goals as goal
 
 pub rest_of_line-after-requires : goal.rest_of_line-after-requires
 rest_of_line-after-requires c = let s = c.in-Some.ensures.some in

@@ -2,8 +2,8 @@ use Rattle.std.proofs.Common.{◌-◌, ◌≤◌, length}
 use Rattle.yaml_text.specs.Source.{text_of, place_of, IsBorder}
 use Rattle.yaml_text.specs.grammar.Rules.{any_span}
 use Rattle.yaml_text.specs.grammar.Separation.{l_comment}
-use Rattle.yaml_scalar.specs.BlockRules.{AfterLine}
-use Rattle.yaml_scalar.proofs.block.blanks.skip_comments.Given as goal
+use Rattle.yaml_text.specs.Lines.{AfterLine}
+use Rattle.yaml_text.proofs.lines.skip_comments.Given as goal
 
 abbrev pub invariant-lines : goal.invariant-lines
 invariant-lines l = record {

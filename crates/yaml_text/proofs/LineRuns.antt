@@ -6,11 +6,11 @@ use Rattle.std.proofs.Math.Nat.{eq-or-lt_of_le}
 use Rattle.yaml_text.specs.grammar.Rules.{run, Stands}
 use Rattle.yaml_text.specs.grammar.Characters.{is_space, is_nb, is_break, brk}
 use Rattle.yaml_text.specs.grammar.Separation.{AtEnd, StartsLine, line_end, indent}
-use Rattle.yaml_scalar.specs.Chains.{line_brk}
-use Rattle.yaml_scalar.specs.BlockRules.{AfterLine, Inside, Uncut}
-use Rattle.yaml_scalar.proofs.AnyLemmas.{SameEnd}
-use Rattle.yaml_scalar.proofs.Runs.{same_char, no_stand, no_stand_end, run_more}
-use Rattle.yaml_scalar.proofs.GapLemmas as gap
+use Rattle.yaml_text.specs.Lines.{line_brk}
+use Rattle.yaml_text.specs.Lines.{AfterLine, Inside, Uncut}
+use Rattle.yaml_text.proofs.Repeats.{SameEnd}
+use Rattle.yaml_text.proofs.Runs.{same_char, no_stand, no_stand_end, run_more}
+use Rattle.yaml_text.proofs.Breaks as gap
 
 same_code : (c : ℕ) → (c == c) ≡ true
 same_code c = grind arith

@@ -5,10 +5,10 @@ use Rattle.std.proofs.Math.Nat.{eq-or-lt_of_le}
 use Rattle.yaml_text.specs.grammar.Rules.{◌◆◌, run, Stands, maybe}
 use Rattle.yaml_text.specs.grammar.Characters.{is_space, is_nb, is_break}
 use Rattle.yaml_text.specs.grammar.Separation.{StartsLine, line_end, comment, sep, s_b_comment, l_comment}
-use Rattle.yaml_scalar.specs.BlockRules.{AfterLine, blank_rest}
-use Rattle.yaml_scalar.proofs.AnyLemmas.{SameEnd}
-use Rattle.yaml_scalar.proofs.Runs.{no_stand, run_none, run_same}
-use Rattle.yaml_scalar.proofs.LineRuns.{line_end_after, end_line_end, run_first, line_end_same, line_end_stops}
+use Rattle.yaml_text.specs.Lines.{AfterLine, blank_rest}
+use Rattle.yaml_text.proofs.Repeats.{SameEnd}
+use Rattle.yaml_text.proofs.Runs.{no_stand, run_none, run_same}
+use Rattle.yaml_text.proofs.LineRuns.{line_end_after, end_line_end, run_first, line_end_same, line_end_stops}
 
 pub nb_feed : is_nb 10 ≡ false
 unfolding is_nb is_break

@@ -3,10 +3,10 @@ use Rattle.std.proofs.lemmas.Str.{IsUtf8-had}
 use Rattle.yaml_text.specs.Source.{text_of, place_of}
 use Rattle.yaml_text.specs.grammar.Rules.{Spans}
 use Rattle.yaml_text.proofs.PlaceLemmas.{place_less}
-use Rattle.yaml_scalar.proofs.LineRuns.{after_uncut}
-use Rattle.yaml_scalar.proofs.BlockChains.{spans_push}
-use Rattle.yaml_scalar.proofs.RestLemmas.{blank_after, comment_line_is, no_comment_line, no_comment_here}
-use Rattle.yaml_scalar.proofs.block.blanks.skip_comments.Goals as goal
+use Rattle.yaml_text.proofs.LineRuns.{after_uncut}
+use Rattle.yaml_text.proofs.Repeats.{spans_push}
+use Rattle.yaml_text.proofs.RestLemmas.{blank_after, comment_line_is, no_comment_line, no_comment_here}
+use Rattle.yaml_text.proofs.lines.skip_comments.Goals as goal
 
 pub lines-init : goal.lines-init
 lines-init c = record {

@@ -2,8 +2,8 @@ use Rattle.std.proofs.Common.{◌-◌, ◌≤◌, length}
 use Rattle.yaml_text.specs.Source.{text_of, place_of, IsBorder}
 use Rattle.yaml_text.specs.grammar.Rules.{run}
 use Rattle.yaml_text.specs.grammar.Characters.{is_nb}
-use Rattle.yaml_scalar.specs.BlockRules.{Uncut}
-use Rattle.yaml_scalar.proofs.block.blanks.rest_of_line.Given as goal
+use Rattle.yaml_text.specs.Lines.{Uncut}
+use Rattle.yaml_text.proofs.lines.rest_of_line.Given as goal
 
 abbrev pub invariant-line : goal.invariant-line
 invariant-line l = record {

@@ -1,9 +1,9 @@
 use Rattle.std.proofs.Common.{arith, sym, ◌∙◌}
 use Rattle.yaml_text.specs.Source.{text_of, place_of}
 use Rattle.yaml_text.specs.grammar.Characters.{is_nb}
-use Rattle.yaml_scalar.proofs.Runs.{run_none}
-use Rattle.yaml_scalar.proofs.LineRuns.{run_nb, inside_next, inside_uncut, end_line_end, brk_line_end, to_brk, nb_char, break_breaks}
-use Rattle.yaml_scalar.proofs.block.blanks.rest_of_line.Goals as goal
+use Rattle.yaml_text.proofs.Runs.{run_none}
+use Rattle.yaml_text.proofs.LineRuns.{run_nb, inside_next, inside_uncut, end_line_end, brk_line_end, to_brk, nb_char, break_breaks}
+use Rattle.yaml_text.proofs.lines.rest_of_line.Goals as goal
 
 pub line-init : goal.line-init
 line-init c = record {

@@ -2,7 +2,10 @@
 use Rattle.std.proofs.Common.{◌≡◌, ℕ, ◌≤◌, List, [], ◌++◌, refl, sym, ◌∙◌, ap, subst, arith, append_assoc}
 use Rattle.std.proofs.lemmas.List.{append-nil}
 use Rattle.yaml_text.specs.grammar.Rules.{Span, Rule, Any, done, then, Spans}
-use Rattle.yaml_scalar.proofs.AnyLemmas.{SameEnd}
+
+-- from a place the span has one end at most
+abbrev pub SameEnd : Span → Type 0
+SameEnd S = (i j k : ℕ) → S i j → S i k → j ≡ k
 
 -- from a place the rule has one reading at most
 abbrev pub SameRule : {V : Type 0} → Rule V → Type 0

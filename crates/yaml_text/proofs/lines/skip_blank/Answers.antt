@@ -1,7 +1,7 @@
 use Rattle.yaml_text.specs.Source.{text_of}
-use Rattle.yaml_scalar.proofs.LineRuns.{indent_run, spaces_uncut}
-use Rattle.yaml_scalar.proofs.RestLemmas.{blank_comment, blank_end, no_blank}
-use Rattle.yaml_scalar.proofs.block.blanks.skip_blank.Goals as goal
+use Rattle.yaml_text.proofs.LineRuns.{indent_run, spaces_uncut}
+use Rattle.yaml_text.proofs.RestLemmas.{blank_comment, blank_end, no_blank}
+use Rattle.yaml_text.proofs.lines.skip_blank.Goals as goal
 
 pub end_line-requires : goal.end_line-requires
 end_line-requires c =
