@@ -1,5 +1,5 @@
 //! Plain scalars (YAML 1.2.2, 7.3.3).
-ghost use Rattle.std.specs.Prelude.{◌≡◌, ◌≤◌, ◌<◌, IfSome, IfNone, IfOk, slice_get, slice_range, replicate, ℕ, List, false, ℤ, pos, ◌≤ℤ◌, nat_abs};
+ghost use Rattle.std.specs.Prelude.{◌≡◌, ◌≤◌, ◌<◌, IfSome, IfNone, IfOk, IsUtf8, slice_get, slice_range, replicate, ℕ, List, false, ℤ, pos, ◌≤ℤ◌, nat_abs};
 ghost use Rattle.std.specs.Bool.{OnTrue, OnFalse};
 ghost use Rattle.std.specs.Str.{chars};
 ghost use Rattle.std.specs.Cow.{cow_str_bytes};
@@ -159,6 +159,7 @@ fn plain_from<'a>(
     requires { IsBorder source.now at }
     ensures border { IfOk result (λ r. IsBorder source.now r.1) }
     ensures onward { IfOk result (λ r. at < r.1) }
+    ensures utf8 { IfOk result (λ r. IsUtf8 (cow_str_bytes r.0)) }
     ensures reads { Answers Furthest (plain (text_of source.now) least (context_of context)) (place_of source.now at)
         (λ r. place_of source.now r.1) (λ r. chars (cow_str_bytes r.0)) result }
 {
@@ -211,6 +212,7 @@ pub fn read_plain<'a>(
     requires indentation { pos 0 ≤ℤ n }
     ensures border { IfOk result (λ r. IsBorder source.now r.1) }
     ensures onward { IfOk result (λ r. at < r.1) }
+    ensures utf8 { IfOk result (λ r. IsUtf8 (cow_str_bytes r.0)) }
     ensures reads { Answers Furthest (plain (text_of source.now) (nat_abs n) (context_of context)) (place_of source.now at)
         (λ r. place_of source.now r.1) (λ r. chars (cow_str_bytes r.0)) result }
 {

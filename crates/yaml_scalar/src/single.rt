@@ -1,5 +1,5 @@
 //! Single-quoted scalars (YAML 1.2.2, 7.3.2).
-ghost use Rattle.std.specs.Prelude.{◌≡◌, ◌<◌, IfOk, ℤ, pos, ◌≤ℤ◌, nat_abs};
+ghost use Rattle.std.specs.Prelude.{◌≡◌, ◌<◌, IfOk, IsUtf8, ℤ, pos, ◌≤ℤ◌, nat_abs};
 ghost use Rattle.std.specs.Str.{chars};
 ghost use Rattle.std.specs.Cow.{cow_str_bytes};
 ghost use Rattle.yaml_text.specs.Answer.{Only};
@@ -30,6 +30,7 @@ fn single_from<'a>(
     requires { IsBorder source.now at }
     ensures border { IfOk result (λ r. IsBorder source.now r.1) }
     ensures onward { IfOk result (λ r. at < r.1) }
+    ensures utf8 { IfOk result (λ r. IsUtf8 (cow_str_bytes r.0)) }
     ensures reads { Answers Only (single (text_of source.now) least (context_of context)) (place_of source.now at)
         (λ r. place_of source.now r.1) (λ r. chars (cow_str_bytes r.0)) result }
 {
@@ -82,6 +83,7 @@ pub fn read_single<'a>(
     requires indentation { pos 0 ≤ℤ n }
     ensures border { IfOk result (λ r. IsBorder source.now r.1) }
     ensures onward { IfOk result (λ r. at < r.1) }
+    ensures utf8 { IfOk result (λ r. IsUtf8 (cow_str_bytes r.0)) }
     ensures reads { Answers Only (single (text_of source.now) (nat_abs n) (context_of context)) (place_of source.now at)
         (λ r. place_of source.now r.1) (λ r. chars (cow_str_bytes r.0)) result }
 {

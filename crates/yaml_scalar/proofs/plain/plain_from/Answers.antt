@@ -2,6 +2,7 @@ use Rattle.std.proofs.Common.{◌++◌, sym, ◌∙◌, ap, subst, arith}
 use Rattle.std.specs.Prelude.{slice_range}
 use Rattle.std.specs.Str.{chars}
 use Rattle.std.proofs.lemmas.Str.{chars-nil}
+use Rattle.std.proofs.lemmas.Str.{IsUtf8-string_bytes}
 use Rattle.yaml_text.specs.Answer.{Furthest}
 use Rattle.yaml_text.specs.EventModel.{context_of}
 use Rattle.yaml_text.specs.Source.{text_of, place_of}
@@ -87,3 +88,6 @@ returns-clause-reads c =
     (sofar_start cs c.args.least (context_of c.args.context) _ _ _ _ (on_true_at c.is_first.result c.if-not-is_first.false c.is_first.ensures.yes) s.is
     (on_false_at c.stands_mark.result c.if-stands_mark.false c.stands_mark.ensures.no) s.next l.line)
     l.furthest (no_more_line cs _ _ _ _ l.whites l.no_white c.in-None.ensures.none)))
+
+pub returns-in-None-next_line-clause-utf8 : goal.returns-in-None-next_line-clause-utf8
+returns-in-None-next_line-clause-utf8 c = IsUtf8-string_bytes c.push_between-in-lines.new.text
