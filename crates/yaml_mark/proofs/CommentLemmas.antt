@@ -6,7 +6,7 @@ use Rattle.std.proofs.lemmas.Str.{IsUtf8-had}
 use Rattle.yaml_text.specs.declared.chars.Chars.{Chars}
 use Rattle.yaml_text.specs.Place.{Steps}
 use Rattle.yaml_text.specs.Source.{bytes_of, text_of, place_of, IsBorder}
-use Rattle.yaml_text.proofs.PlaceLemmas.{before_ascii, place_less, place_same}
+use Rattle.yaml_text.proofs.PlaceLemmas.{before_ascii, place_less}
 use Rattle.yaml_text.specs.grammar.Rules.{Spans, Behind, Stands}
 use Rattle.yaml_text.specs.grammar.Characters.{is_space, brk}
 use Rattle.yaml_text.specs.grammar.Separation.{StartsLine, s_b_comment, s_l_comments, l_comment, sep, comment, line_end}

@@ -2,8 +2,10 @@
 #![tactic(auto)]
 
 pub mod comments;
+mod decode;
 pub mod directives;
 pub mod handles;
 pub mod name;
+mod prefix;
 mod runs;
 pub mod tag;
