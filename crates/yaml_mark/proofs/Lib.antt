@@ -5,3 +5,4 @@ pub mod UriLemmas
 pub mod DecodeLemmas
 pub mod TagLemmas
 pub mod AsciiLemmas
+pub mod DirectiveLemmas
