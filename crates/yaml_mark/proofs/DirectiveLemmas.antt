@@ -59,7 +59,7 @@ ns_nb c h = grind (arith, h)
 not_both : (c : ℕ) → (c == 35) ≡ true → c ≡ 35
 not_both c h = grind (arith, h)
 
-hash_or : (c : ℕ) → (c ≡ 35) ⊎ (c ≢ 35)
+pub hash_or : (c : ℕ) → (c ≡ 35) ⊎ (c ≢ 35)
 hash_or c = pick (c == 35) refl
   where
     pick : (t : Bool) → (c == 35) ≡ t → (c ≡ 35) ⊎ (c ≢ 35)
@@ -169,7 +169,7 @@ module _ (cs : List ℕ) where
 
   -- ---- handles and prefixes
 
-  handle_first : (i a : ℕ) → Handle cs i a → slice_get cs i ≡ Some 33
+  pub handle_first : (i a : ℕ) → Handle cs i a → slice_get cs i ≡ Some 33
   handle_first i a (named x g r l k f) = g
   handle_first i a (double g k f) = g
   handle_first i a (single g e) = g
@@ -248,6 +248,10 @@ module _ (cs : List ℕ) where
         );
   }
 
+  -- the same with the texts that the code has
+  pub settles_texts : (i e : ℕ) (h x m y : List ℕ) → h ≡ x → m ≡ y → Settles cs (binding_rest cs) i e (grammar.binding x y) → Settles cs (binding_rest cs) i e (grammar.binding h m)
+  settles_texts i e h x m y f g s = subst (Settles cs (binding_rest cs) i e) (sym (ap (λ o. grammar.binding o m) f ∙ ap (grammar.binding x) g)) s
+
   -- ---- parameters
 
   pub no_gap_parameter : (i : ℕ) → (Stands cs is_space i → ⊥) → (j : ℕ) → parameter cs i j → ⊥
@@ -272,13 +276,13 @@ module _ (cs : List ℕ) where
 
   -- ---- characters of a line
 
-  char_inside : (i j c : ℕ) → slice_get cs i ≡ Some c → is_ns c ≡ true → j ≡ i + 1 → Inside cs j
+  pub char_inside : (i j c : ℕ) → slice_get cs i ≡ Some c → is_ns c ≡ true → j ≡ i + 1 → Inside cs j
   char_inside i j c h t e = (i, e, solid_nb i (c, h, t))
 
   pub run_inside : (i j : ℕ) → run cs is_ns i j → i < j → Inside cs j
   run_inside i j (le, r) l = (j - 1, omega (arith, l), solid_nb (j - 1) (r (j - 1) (omega (arith, l)) (omega (arith, l))))
 
-  one_nb : (i j c : ℕ) → slice_get cs i ≡ Some c → is_ns c ≡ true → j ≡ i + 1 → run cs is_nb i j
+  pub one_nb : (i j c : ℕ) → slice_get cs i ≡ Some c → is_ns c ≡ true → j ≡ i + 1 → run cs is_nb i j
   one_nb i j c h t e = let (d, g, u) = solid_nb i (c, h, t) in run_more cs is_nb i i j d (run_none cs is_nb i) g u e
 
   hex_ns : (c : ℕ) → is_ascii_hexdigit c ≡ true → is_ns c ≡ true

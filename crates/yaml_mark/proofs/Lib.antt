@@ -6,3 +6,5 @@ pub mod DecodeLemmas
 pub mod TagLemmas
 pub mod AsciiLemmas
 pub mod DirectiveLemmas
+pub mod LineEndLemmas
+pub mod BodyLemmas

@@ -1,9 +1,10 @@
 use Rattle.yaml_text.specs.Source.{text_of}
+use Rattle.yaml_mark.proofs.BodyLemmas.{any_err}
 use Rattle.yaml_mark.proofs.DirectiveLemmas.{version_is, no_version_gap, no_one, no_dot, no_two}
 use Rattle.yaml_mark.proofs.directive.read_version.Goals as goal
 
 pub returns-in_err-digit-clause-none : goal.returns-in_err-digit-clause-none
-returns-in_err-digit-clause-none c = rw c.from_residual.ensures (no_version_gap (text_of c.args.source.now) _ c.in_err-digit.ensures.none)
+returns-in_err-digit-clause-none c = any_err _ (no_version_gap (text_of c.args.source.now) _ c.in_err-digit.ensures.none)
 
 pub returns-in-None-clause-none : goal.returns-in-None-clause-none
 returns-in-None-clause-none c =
