@@ -379,7 +379,7 @@ module _ (cs : List ℕ) where
 
   -- ---- the whole line
 
-  directive_parts : (i j : ℕ) (v : List Directive) → directive cs i j v → (f : ℕ) × (d : Directive) × body cs i f d × (v ≡ d ∷ []) × s_l_comments cs f j
+  pub directive_parts : (i j : ℕ) (v : List Directive) → directive cs i j v → (f : ℕ) × (d : Directive) × body cs i f d × (v ≡ d ∷ []) × s_l_comments cs f j
   unfolding directive body
   directive_parts i j v (a, (e, s), (b, (d, r, f), t)) = (b, d, subst (λ z. body cs z b d) e r, f, t)
 

@@ -1,6 +1,6 @@
 -- Looking handles up.
 use Rattle.std.proofs.Common.{◌≡◌, ℕ, List, [], ◌∷◌, ◌++◌, Bool, true, false, Option, Some, None, Bor, cond, map, refl, sym, ◌∙◌, ap, subst}
-use Rattle.std.specs.Prelude.{bytes_eq}
+use Rattle.std.specs.Prelude.{bytes_eq, is_some}
 use Rattle.std.specs.Option.{option_map, option_or}
 use Rattle.std.specs.Map.{lookup, update}
 use Rattle.std.specs.Cmp.Lexicographic.{bytes_decides, nat_list_eq_equiv}
@@ -76,3 +76,14 @@ found_more bs h x g k found free put q = put q ∙ pick (bytes_eq h.now q) refl 
     pick false e =
         let other : bytes_eq q h.now ≡ false = nat_list_eq_equiv.symm q h.now ∙ e in
         found q ∙ sym (or_none _) ∙ sym (ap (option_or (lookup (λ z. bytes_eq q z.now) bs)) (ap (λ t. cond t (Some x) None) other))
+
+pub seen_some : (o : Option (Bor (List ℕ))) (x : Option (List ℕ)) → option_map (λ p. p.now) o ≡ x → is_some o ≡ true → is_some x ≡ true
+seen_some o x e t = ap is_some (sym e) ∙ kept o ∙ t
+  where
+    kept : (o : Option (Bor (List ℕ))) → is_some (option_map (λ p. p.now) o) ≡ is_some o
+    kept None = refl
+    kept (Some b) = refl
+
+pub seen_none : (o : Option (Bor (List ℕ))) (x : Option (List ℕ)) → option_map (λ p. p.now) o ≡ x → is_some o ≡ false → x ≡ None
+seen_none None x e t = sym e
+seen_none (Some b) x e t = let z : true ≡ false = t in absurd (cc)

@@ -8,3 +8,5 @@ pub mod AsciiLemmas
 pub mod DirectiveLemmas
 pub mod LineEndLemmas
 pub mod BodyLemmas
+pub mod DirectivesLemmas
+pub mod RefusalLemmas
