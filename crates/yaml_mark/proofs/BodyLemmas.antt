@@ -1,7 +1,7 @@
 -- A directive, by its name.
-use Rattle.std.proofs.Common.{◌≡◌, ◌≢◌, ℕ, ◌+◌, ◌-◌, ◌<◌, ◌≤◌, ◌⊎◌, inl, inr, List, [], ◌∷◌, ◌++◌, length, Bool, true, false, Option, Some, refl, sym, ◌∙◌, ap, subst, arith}
+use Rattle.std.proofs.Common.{◌≡◌, ◌≢◌, ℕ, ◌+◌, ◌<◌, ◌≤◌, ◌⊎◌, inl, inr, List, [], ◌∷◌, ◌++◌, length, Bool, true, false, Some, refl, sym, ◌∙◌, ap, subst, arith}
 use Rattle.std.specs.Prelude.{slice_get, slice_range, codes, bytes_eq, Result, Ok, Err, IfErr}
-use Rattle.std.specs.Str.{chars, IsUtf8, IsAscii}
+use Rattle.std.specs.Str.{chars, IsUtf8}
 use Rattle.std.specs.Cmp.Lexicographic.{bytes_decides}
 use Rattle.std.proofs.Math.Nat.{eq-or-lt_of_le}
 use Rattle.std.proofs.lemmas.Bool.{cases_lt}
@@ -9,13 +9,13 @@ use Rattle.std.proofs.lemmas.Str.{encodes-chars, encodes-IsAscii, chars-IsAscii}
 use lib.Utf8.{encodes}
 use Rattle.yaml_text.specs.Answer.{Only}
 use Rattle.yaml_text.specs.grammar.Calls.{Unread}
-use Rattle.yaml_text.specs.grammar.Rules.{Rule, ◌◆◌, ◌∪◌, Spans, any_span, run, some_run, whole_run, Stands, word, chr}
+use Rattle.yaml_text.specs.grammar.Rules.{◌◆◌, Spans, run, some_run, Stands, word, chr}
 use Rattle.yaml_text.specs.grammar.Characters.{is_ns, is_nb, is_break, is_white, is_space}
-use Rattle.yaml_text.specs.grammar.Separation.{StartsLine, s_l_comments, s_b_comment, sep, line_end, comment}
-use Rattle.yaml_text.specs.grammar.Directives.{Directive, version, binding, reserved, is_known, yaml_directive, tag_directive, reserved_directive, directive}
+use Rattle.yaml_text.specs.grammar.Separation.{StartsLine, s_l_comments, line_end, comment}
+use Rattle.yaml_text.specs.grammar.Directives.{Directive, version, reserved, is_known, yaml_directive, tag_directive, reserved_directive, directive}
 use Rattle.yaml_text.proofs.PlaceLemmas.{slice_none, slice_one, slice_join}
 use Rattle.yaml_scalar.specs.BlockRules.{Inside, blank_rest}
-use Rattle.yaml_scalar.proofs.Runs.{same_char, no_stand, run_same, run_none, run_more}
+use Rattle.yaml_scalar.proofs.Runs.{same_char, run_same, run_none, run_more}
 use Rattle.yaml_scalar.proofs.GapLemmas.{run_join}
 use Rattle.yaml_scalar.proofs.LineRuns.{inside_no_line, line_end_same, line_end_stops}
 use Rattle.yaml_scalar.proofs.RestLemmas.{from_s_b, no_blank, is_the_space, nb_feed, nb_return}
@@ -26,7 +26,7 @@ use Rattle.yaml_text.specs.grammar.Tags.{tag_prefix}
 use Rattle.yaml_mark.proofs.TagLemmas.{Handle, named as named_handle, double, single, handle_of, word_name, name_is_ns}
 use Rattle.yaml_mark.proofs.CommentLemmas.{Stuck, Lines, lines_same}
 use Rattle.yaml_mark.proofs.LineEndLemmas.{comment_begins, whole_run_is}
-use Rattle.yaml_mark.proofs.DirectiveLemmas.{ns_space, ns_bang, ns_percent, nb_space, solid_nb, solid_no_space, past_no_ns, run_inside, prefix_nb, version_same, hash_or, handle_first, char_inside, one_nb, prefix_inside}
+use Rattle.yaml_mark.proofs.DirectiveLemmas.{ns_bang, ns_percent, nb_space, solid_nb, solid_no_space, past_no_ns, run_inside, prefix_nb, version_same, hash_or, char_inside, one_nb}
 
 AllOf : (ℕ → Bool) → List ℕ → Type 0
 AllOf p [] = Unit {0}

@@ -1,24 +1,22 @@
 -- The parts of directives.
-use Rattle.std.proofs.Common.{◌≡◌, ◌≢◌, ℕ, zero, suc, ◌+◌, ◌-◌, ◌<◌, ◌≤◌, ◌⊎◌, inl, inr, List, [], ◌∷◌, ◌++◌, length, Bool, true, false, Option, Some, None, refl, sym, ◌∙◌, ap, subst, arith}
-use Rattle.std.specs.Prelude.{slice_get, slice_range, codes, ◌==◌}
+use Rattle.std.proofs.Common.{◌≡◌, ◌≢◌, ℕ, ◌+◌, ◌-◌, ◌<◌, ◌⊎◌, inl, inr, List, Bool, true, false, Some, refl, sym, ◌∙◌, ap, subst, arith}
+use Rattle.std.specs.Prelude.{slice_get, slice_range, ◌==◌}
 use Rattle.std.specs.Char.{is_ascii_hexdigit}
 use Rattle.std.proofs.Math.Nat.{eq-or-lt_of_le}
-use Rattle.std.proofs.lemmas.Option.{slice_get_past}
-use Rattle.yaml_text.specs.grammar.Rules.{Rule, ◌◆◌, ◌⊔◌, ◌∪◌, Spans, any_span, run, some_run, whole_run, Stands, word, one, chr}
+use Rattle.yaml_text.specs.grammar.Rules.{◌◆◌, Spans, run, some_run, Stands, one, chr}
 use Rattle.yaml_text.specs.grammar.Characters.{is_ns, is_nb, is_break, is_white, is_space, is_word, is_uri, is_tag}
-use Rattle.yaml_text.specs.grammar.Separation.{StartsLine, s_b_comment, s_l_comments, sep, line_end, comment}
+use Rattle.yaml_text.specs.grammar.Separation.{s_l_comments}
 use Rattle.yaml_text.specs.grammar.Tags.{tag_prefix, tag_char, uri_char, tag_handle}
 use Rattle.yaml_text.specs.grammar.Directives as grammar
 use Rattle.yaml_scalar.specs.BlockRules.{Inside}
-use Rattle.yaml_scalar.proofs.Runs.{same_char, no_stand, no_stand_end, run_same, run_none, run_more}
+use Rattle.yaml_scalar.proofs.Runs.{same_char, no_stand, run_same, run_none, run_more}
 use Rattle.yaml_scalar.proofs.GapLemmas.{run_join}
-use Rattle.yaml_scalar.proofs.LineRuns.{inside_no_line, line_end_stops}
-use Rattle.yaml_scalar.proofs.RestLemmas.{from_s_b, no_blank, is_the_space, nb_feed, nb_return}
+use Rattle.yaml_scalar.proofs.LineRuns.{inside_no_line}
+use Rattle.yaml_scalar.proofs.RestLemmas.{from_s_b, no_blank, is_the_space}
 use Rattle.yaml_mark.specs.Parts.{escaped, handle_rest}
 use Rattle.yaml_mark.specs.DirectiveParts.{version_rest, binding_rest, parameter, prefix_start, prefix_run, Settles, Unsettled}
 use Rattle.yaml_mark.proofs.CommentLemmas.{hash_rest}
-use Rattle.yaml_mark.proofs.TagLemmas.{spans_same, spans_map, uri_is, is_uri_char, tag_is, is_tag_char, uri_same, tag_char_same, tag_char_name, no_tag_char, Handle, named, double, single, handle_of, handle_is, word_name, name_is_ns, ns_by, tag_is_name, tag_bang, word_bang}
-use Rattle.yaml_mark.proofs.AsciiLemmas.{ascii_text, low_handle, low_prefix}
+use Rattle.yaml_mark.proofs.TagLemmas.{spans_same, spans_map, uri_is, tag_is, is_tag_char, uri_same, tag_char_same, tag_char_name, no_tag_char, Handle, named, double, single, handle_of, handle_is, name_is_ns, ns_by, tag_is_name, tag_bang, word_bang}
 
 pub ns_space : is_ns 32 ≡ false
 unfolding is_ns is_nb is_break is_white
@@ -240,10 +238,9 @@ module _ (cs : List ℕ) where
         let (run_is, eq) = prefix_parts y k pre q in
         let y_is = run_same cs is_space a y p (subst (λ z. run cs is_space z y) b_is v.0) g.0 (λ o. solid_no_space y (prefix_ns y k run_is) o) halt in
         let run_at = subst (λ z. prefix_run cs z k) y_is run_is in
-        let k_is = prefix_to p e k m pr furthest run_at (inside k run_at) c in
-        (
+        let k_is = prefix_to p e k m pr furthest run_at (inside k run_at) c in (
           z ∙ ap (λ o. grammar.binding o pre) (h_is ∙ ap (λ o. slice_range cs o b) at ∙ ap (slice_range cs d) b_is)
-            ∙ ap (grammar.binding (slice_range cs d a)) (eq ∙ ap (λ o. slice_range cs o k) y_is ∙ ap (slice_range cs p) k_is),
+              ∙ ap (grammar.binding (slice_range cs d a)) (eq ∙ ap (λ o. slice_range cs o k) y_is ∙ ap (slice_range cs p) k_is),
           (m, subst (λ o. s_l_comments cs o m) k_is c),
         );
   }

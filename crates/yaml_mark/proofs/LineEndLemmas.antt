@@ -1,11 +1,11 @@
 -- Each line has an end, so a comment after spaces is one whatever it holds.
-use Rattle.std.proofs.Common.{◌≡◌, ◌≢◌, ℕ, zero, suc, ◌+◌, ◌-◌, ◌<◌, ◌≤◌, ◌⊎◌, inl, inr, List, length, get_or, Bool, true, false, Option, Some, None, refl, sym, ◌∙◌, ap, subst, arith}
+use Rattle.std.proofs.Common.{◌≡◌, ℕ, zero, suc, ◌+◌, ◌-◌, ◌<◌, ◌≤◌, ◌⊎◌, inl, inr, List, length, get_or, Bool, true, false, Option, Some, None, refl, sym, ◌∙◌, ap, subst, arith}
 use Rattle.std.specs.Prelude.{slice_get, ◌==◌}
 use Rattle.std.proofs.Math.Nat.{eq-or-lt_of_le}
 use Rattle.std.proofs.lemmas.Option.{slice_get_cases, slice_get_past, slice_get_within}
-use Rattle.yaml_text.specs.grammar.Rules.{Spans, run, some_run, Stands}
+use Rattle.yaml_text.specs.grammar.Rules.{Spans, run, Stands}
 use Rattle.yaml_text.specs.grammar.Characters.{is_nb, is_break, is_space}
-use Rattle.yaml_text.specs.grammar.Separation.{AtEnd, line_end, comment, sep, s_b_comment, s_l_comments}
+use Rattle.yaml_text.specs.grammar.Separation.{line_end, comment, sep, s_b_comment, s_l_comments}
 use Rattle.yaml_scalar.specs.Chains.{line_brk}
 use Rattle.yaml_scalar.specs.BlockRules.{Inside}
 use Rattle.yaml_scalar.proofs.Runs.{run_none, run_more, no_stand, no_stand_end}

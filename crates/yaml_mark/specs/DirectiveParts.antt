@@ -1,6 +1,6 @@
 -- The parts of directives that functions of the code read, and what these answer.
-use Rattle.std.specs.Prelude.{◌≡◌, ◌≢◌, ℕ, ◌⊎◌, List, [], ◌∷◌, Some, codes, slice_get}
-use Rattle.yaml_text.specs.grammar.Rules.{Span, Rule, ◌◆◌, ◌⊔◌, ◌▸◌, ◌◂◌, ◌∪◌, gives, limited, chr, word, some_run, whole_run, any_span, ahead, with_value, seen}
+use Rattle.std.specs.Prelude.{◌≡◌, ◌≢◌, ℕ, List, Some, codes, slice_get}
+use Rattle.yaml_text.specs.grammar.Rules.{Span, Rule, ◌◆◌, ◌⊔◌, ◌▸◌, ◌◂◌, ◌∪◌, limited, chr, word, some_run, whole_run, any_span, ahead, with_value, seen}
 use Rattle.yaml_text.specs.grammar.Characters.{is_ns, is_space}
 use Rattle.yaml_text.specs.grammar.Separation.{s_l_comments, l_comment}
 use Rattle.yaml_text.specs.grammar.Tags.{tag_handle, tag_prefix, tag_char, uri_char}

@@ -1,4 +1,4 @@
-use Rattle.std.proofs.Common.{◌<◌, ◌≤◌, ℕ, subst, ap, sym, arith}
+use Rattle.std.proofs.Common.{◌<◌, ℕ, subst, arith}
 use Rattle.std.proofs.lemmas.Str.{IsUtf8-had}
 use Rattle.yaml_text.specs.declared.chars.Chars.{Chars}
 use Rattle.yaml_text.specs.Source.{text_of, place_of, IsBorder}

@@ -1,8 +1,4 @@
-use Rattle.std.proofs.Common.{◌≡◌, ap, sym, ◌∙◌, subst, List, ℕ}
-use Rattle.std.specs.Prelude.{slice_range}
-use Rattle.yaml_text.specs.Source.{text_of, place_of}
-use Rattle.yaml_text.specs.grammar.Directives as grammar
-use Rattle.yaml_mark.specs.DirectiveParts.{Settles, binding_rest}
+use Rattle.yaml_text.specs.Source.{text_of}
 use Rattle.yaml_mark.proofs.AsciiLemmas.{ascii_text, low_handle, low_prefix}
 use Rattle.yaml_mark.proofs.BodyLemmas.{any_err}
 use Rattle.yaml_mark.proofs.DirectiveLemmas.{no_binding_gap, no_binding_bang, no_handle_gap, no_prefix_start, binding_settles, settles_texts, prefix_inside}

@@ -7,8 +7,7 @@ use Rattle.yaml_mark.proofs.directive.skip_gap.Goals as goal
 
 pub returns-clause-spaces : goal.returns-clause-spaces
 returns-clause-spaces c =
-    let e = c.skip_spaces-to.ensures in
-    (
+    let e = c.skip_spaces-to.ensures in (
       indent_run (text_of c.args.source.now) _ _ _ e.spaces,
       place_less _ _ _ (IsUtf8-had c.args.source.now.text.now c.args.source.now.utf8) c.requires.from e.border (omega (arith, e.onward, c.if-to-from.false)),
     )

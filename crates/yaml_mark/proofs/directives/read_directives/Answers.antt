@@ -1,8 +1,7 @@
-use Rattle.std.proofs.Common.{◌≡◌, ◌<◌, ℕ, List, [], ◌∷◌, Bool, false, inl, ap, sym, subst, ◌∙◌, arith}
+use Rattle.std.proofs.Common.{false, inl, ap, sym, subst, ◌∙◌, arith}
 use Rattle.std.proofs.lemmas.Result.{err_from_is_err_and}
 use Rattle.yaml_text.specs.Source.{text_of, place_of}
 use Rattle.yaml_mark.specs.DirectiveParts.{directive_of}
-use Rattle.yaml_mark.specs.HandlesModel.{bindings_of}
 use Rattle.yaml_mark.proofs.HandleLemmas.{seen_some, seen_none}
 use Rattle.yaml_mark.proofs.RefusalLemmas.{malformed_refuses}
 use Rattle.yaml_mark.proofs.DirectivesLemmas.{Read, percent_stuck, only_stuck, only_of, starts, more_version, more_reserved, more_binding, ends_read, refused_read, version_again, handle_again, line_here}

@@ -1,7 +1,5 @@
-use Rattle.std.proofs.Common.{◌≡◌, List, ℕ, Bor, ap, subst, sym}
 use Rattle.std.specs.Prelude.{bytes_eq}
 use Rattle.std.specs.HashMap as hash
-use Rattle.std.specs.Map.{lookup}
 use Rattle.std.proofs.lemmas.Map.Text.{hash_map_updates_str}
 use Rattle.yaml_mark.proofs.HandleLemmas.{found_more}
 use Rattle.yaml_mark.proofs.handles.Handles.bind.Goals as goal
