@@ -2,8 +2,11 @@
 #![tactic(auto)]
 
 pub mod comments;
+mod decode;
+mod directive;
 pub mod directives;
 pub mod handles;
 pub mod name;
+mod prefix;
 mod runs;
 pub mod tag;

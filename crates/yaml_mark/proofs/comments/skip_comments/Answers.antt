@@ -1,4 +1,4 @@
-use Rattle.std.proofs.Common.{◌⊎◌, inl}
+use Rattle.std.proofs.Common.{inl}
 use Rattle.yaml_text.specs.Source.{text_of}
 use Rattle.yaml_scalar.proofs.OutcomeLemmas.{on_true_at, on_false_at}
 use Rattle.yaml_scalar.proofs.RestLemmas.{blank_after}

@@ -1,4 +1,4 @@
-use Rattle.std.proofs.Common.{◌<◌, ap, sym, subst, refl, arith}
+use Rattle.std.proofs.Common.{◌<◌, subst, arith}
 use Rattle.std.proofs.lemmas.Str.{IsUtf8-had}
 use Rattle.yaml_text.specs.Source.{text_of, place_of}
 use Rattle.yaml_text.specs.grammar.Rules.{Stands}
