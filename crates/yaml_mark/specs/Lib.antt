@@ -1,0 +1,4 @@
+pub mod Answer
+pub mod HandlesModel
+pub mod Classes
+pub mod Parts

@@ -1,0 +1,11 @@
+//! What stands between and before the nodes of a stream: comments, directives, tags and names.
+#![tactic(auto)]
+
+pub mod comments;
+mod decode;
+pub mod directives;
+pub mod handles;
+pub mod name;
+mod prefix;
+mod runs;
+pub mod tag;
