@@ -1,24 +1,24 @@
 //! Comments, separation and the starts of lines (YAML 1.2.2, chapter 6).
-ghost use Rattle.std.specs.Prelude.{◌≡◌, ◌≤◌, ◌<◌, IfSome, IfOk, IfErr};
-ghost use Rattle.std.specs.Bool.{OnFalse};
+ghost use Rattle.std.specs.Prelude.{◌≡◌, ◌≢◌, ◌≤◌, ◌<◌, ◌⊎◌, IfSome, IfNone, IfOk, IfErr, ℕ, length};
+ghost use Rattle.std.specs.Bool.{OnTrue, OnFalse};
 ghost use Rattle.yaml_text.specs.Source.{text_of, place_of, IsBorder};
 ghost use Rattle.yaml_text.specs.EventModel.{context_of};
 ghost use Rattle.yaml_text.specs.grammar.Rules.{any_span, maybe};
-ghost use Rattle.yaml_text.specs.grammar.Separation.{s_b_comment, s_l_comments, l_comment, separate};
-ghost use Rattle.yaml_scalar.specs.BlockRules.{Uncut, AfterLine};
+ghost use Rattle.yaml_text.specs.grammar.Separation.{s_l_comments, l_comment, separate};
+ghost use Rattle.yaml_scalar.specs.BlockRules.{AfterLine};
+ghost use Rattle.yaml_scalar.specs.Chains.{Dashes};
 ghost use Rattle.yaml_flow.specs.Answer.{IsRefusal};
 ghost use Rattle.yaml_flow.specs.Lines.{IsLine};
 
 use crate::fault::unusable;
-use yaml_scalar::block::blanks::{
-    read_comment, skip_blank, skip_comments as skip_lines, skip_spaces,
-};
+use yaml_mark::comments;
+use yaml_scalar::block::blanks::{skip_comments as skip_lines, skip_spaces};
 use yaml_scalar::class::is_key;
-use yaml_scalar::line::{is_mark, starts_line};
+use yaml_scalar::line::is_mark;
 use yaml_text::chars::Chars;
 use yaml_text::context::Ctx;
 use yaml_text::fault::Fault;
-use yaml_text::places::{accept, is_border, is_end};
+use yaml_text::places::is_end;
 
 /// A line that is no comment, or the end of the text: its start, how many spaces it begins with, and the border after them.
 #[derive(Clone, Copy)]
@@ -55,79 +55,26 @@ pub fn first_line(source: &Chars<'_>) -> Line
 /// Whether a line has content: it is no document mark and not the end.
 pub fn has_content(source: &Chars<'_>, line: Line) -> bool
     requires { IsLine source.now line }
+    ensures yes { OnTrue result ((place_of source.now line.first ≢ length (text_of source.now)) × (Dashes (text_of source.now) (place_of source.now line.start) → ⊥)) }
+    ensures no { OnFalse result ((place_of source.now line.first ≡ length (text_of source.now)) ⊎ Dashes (text_of source.now) (place_of source.now line.start)) }
 {
-    !is_end(source, line.first) && !is_mark(source, line.start)
-}
-
-/// Whether a border cuts a CR LF in two.
-fn is_cut(source: &Chars<'_>, at: usize) -> bool
-    requires { IsBorder source.now at }
-    ensures { OnFalse result (Uncut (text_of source.now) (place_of source.now at)) }
-{
-    match accept(source, at, '\n') {
-        None => false,
-        Some(_) => {
-            if at == 0 {
-                return false;
-            }
-            if !is_border(source, at - 1) {
-                return false;
-            }
-            match accept(source, at - 1, '\r') {
-                None => false,
-                Some(_) => true,
-            }
-        }
+    if is_end(source, line.first) {
+        return false;
     }
-}
-
-/// The start of the next line, where nothing but a comment stands before it (`s-b-comment`, 6.6).
-fn skip_rest(source: &Chars<'_>, at: usize) -> Option<usize>
-    requires { IsBorder source.now at }
-    ensures border { IfSome result (λ to. IsBorder source.now to) }
-    ensures onward { IfSome result (λ to. at ≤ to) }
-    ensures after { IfSome result (λ to. AfterLine (text_of source.now) (place_of source.now to)) }
-    ensures some { IfSome result (λ to. s_b_comment (text_of source.now) (place_of source.now at) (place_of source.now to)) }
-{
-    if is_cut(source, at) {
-        return None;
-    }
-    match accept(source, at, '#') {
-        None => match skip_blank(source, at) {
-            None => None,
-            Some(after) => Some(after),
-        },
-        Some(_) => {
-            if !starts_line(source, at) {
-                return None;
-            }
-            match read_comment(source, at) {
-                None => None,
-                Some(after) => Some(after),
-            }
-        }
-    }
+    !is_mark(source, line.start)
 }
 
 /// The start of the line after the rest of a line and any comment lines (`s-l-comments`, 6.6), the furthest that there is.
+#[tactic(auto, unfolding(yaml_text::specs::grammar::Calls::skip_comments))]
 pub fn skip_comments(source: &Chars<'_>, at: usize) -> Option<usize>
     requires { IsBorder source.now at }
     ensures border { IfSome result (λ to. IsBorder source.now to) }
     ensures onward { IfSome result (λ to. at ≤ to) }
     ensures some { IfSome result (λ to. s_l_comments (text_of source.now) (place_of source.now at) (place_of source.now to)) }
+    ensures stuck { IfSome result (λ to. (j : ℕ) → l_comment (text_of source.now) (place_of source.now to) j → ⊥) }
+    ensures none { IfNone result ((j : ℕ) → s_l_comments (text_of source.now) (place_of source.now at) j → ⊥) }
 {
-    match skip_rest(source, at) {
-        Some(line) => {
-            let start = skip_lines(source, line);
-            Some(start)
-        }
-        None => {
-            if !starts_line(source, at) {
-                return None;
-            }
-            Some(at)
-        }
-    }
+    comments::skip_comments(source, at)
 }
 
 /// The line after a block node's last character.
