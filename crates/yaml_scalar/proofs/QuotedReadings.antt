@@ -13,8 +13,8 @@ use Rattle.yaml_text.proofs.PlaceLemmas.{slice_none, slice_one, slice_join, slic
 use Rattle.yaml_scalar.specs.Outcome.{TextRule}
 use Rattle.yaml_scalar.specs.Chains.{gap, closing, single_rest, single_chain}
 use Rattle.yaml_scalar.proofs.AnyLemmas.{any_none, any_snoc, any_append, any_weaker}
-use Rattle.yaml_scalar.proofs.Runs.{run_none, run_more}
-use Rattle.yaml_scalar.proofs.GapLemmas.{ns_no_return}
+use Rattle.yaml_text.proofs.Runs.{run_none, run_more}
+use Rattle.yaml_text.proofs.Breaks.{ns_no_return}
 use Rattle.yaml_scalar.proofs.QuotedLemmas.{single_ns}
 use Rattle.yaml_scalar.proofs.Readings.{Clear, clear_after, fold_chain, fold_grammar}
 

@@ -20,9 +20,3 @@ Refuses _ P = ⊥
 abbrev pub Answers : {X : Type 0} (Best : TextRule → TextRule) (R : TextRule) → ℕ → (X → ℕ) → (X → List ℕ) → Result X Fault → Type 0
 Answers Best R i end value (Ok x) = Best R i (end x) (value x)
 Answers Best R i end value (Err e) = Refuses e (Unread R i)
-
--- the text can't be read on
-abbrev pub IsUnread : Fault → Type 0
-IsUnread (fault.Syntax at) = Unit {0}
-IsUnread (fault.Tab at) = Unit {0}
-IsUnread _ = ⊥

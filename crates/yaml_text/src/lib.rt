@@ -9,6 +9,7 @@ pub mod fault;
 pub mod grammar_laws;
 pub mod laws;
 pub mod limits;
+pub mod lines;
 pub mod places;
 #[cfg(test)]
 mod tests;

@@ -1,4 +1,4 @@
-use Rattle.yaml_scalar.proofs.OutcomeLemmas.{on_true_at}
+use Rattle.yaml_text.proofs.Tests.{on_true_at}
 use Rattle.yaml_scalar.proofs.block.tests.read_at.Goals as goal
 
 pub read_folded-requires : goal.read_folded-requires
