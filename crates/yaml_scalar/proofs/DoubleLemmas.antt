@@ -3,7 +3,7 @@ use Rattle.std.proofs.Common.{◌≡◌, ◌≢◌, ℕ, ◌+◌, ◌-◌, ◌<�
 use Rattle.std.specs.Prelude.{slice_get, slice_range, not, ◌&&◌, ◌==◌}
 use Rattle.std.proofs.lemmas.Bool.{cases_eq}
 use Rattle.yaml_text.specs.Answer.{Only}
-use Rattle.yaml_text.specs.grammar.Calls.{Unread}
+use Rattle.yaml_text.specs.Answer.{Unread}
 use Rattle.yaml_text.specs.grammar.Rules.{chr, any, Stands, run}
 use Rattle.yaml_text.specs.grammar.Characters.{is_white, is_ns, is_nb, is_break, escape}
 use Rattle.yaml_text.specs.grammar.Separation.{Ctx, Mark, Unmarked}

@@ -2,12 +2,12 @@
 use Rattle.std.proofs.Common.{◌≡◌, ◌≢◌, ℕ, ◌<◌, ◌≤◌, inl, inr, List, [], ◌∷◌, ◌++◌, Some, true, false, refl, sym, ◌∙◌, ap, subst, arith}
 use Rattle.std.specs.Prelude.{slice_get, slice_range}
 use Rattle.yaml_text.specs.grammar.Rules.{Span, ◌⊔◌, ◌▸◌, ◌◂◌, ◌⨾◌, gives, any, Any, done, then, Stands, run}
-use Rattle.yaml_scalar.specs.Outcome.{TextRule}
+use Rattle.yaml_scalar.specs.Chains.{TextRule}
 use Rattle.yaml_text.specs.grammar.Characters.{is_white, is_space}
 use Rattle.yaml_scalar.specs.Chains.{margin, empty_line, lead, breaks, fold_text, folds, NoLead, NoBreaks, NoFold, gap}
 use Rattle.yaml_text.specs.Lines.{line_brk, is_key}
 use Rattle.yaml_text.specs.grammar.Separation.{Mark, Unmarked, indent, less}
-use Rattle.yaml_text.specs.grammar.Calls.{Unread}
+use Rattle.yaml_text.specs.Answer.{Unread}
 use Rattle.yaml_text.specs.grammar.Separation.{Ctx}
 use Rattle.yaml_scalar.proofs.AnyLemmas.{Same, Onward, Cuts, any_span_same, any_span_none, any_onward}
 use Rattle.yaml_text.proofs.Repeats.{SameEnd}

@@ -5,7 +5,7 @@ use Rattle.yaml_text.specs.grammar.Rules.{Rule, ◌◂◌, run, Stands, how_many
 use Rattle.yaml_text.specs.grammar.Characters.{is_space, is_nb, is_break, brk}
 use Rattle.yaml_text.specs.grammar.Separation.{AtEnd, Mark, MarkOf, less}
 use Rattle.yaml_text.specs.grammar.BlockScalars.{space_lines, NoSpace, LessIndented, greatest, found_indentation, longest_indentation, indentation}
-use Rattle.yaml_text.specs.grammar.Calls.{Unread}
+use Rattle.yaml_text.specs.Answer.{Unread}
 use Rattle.yaml_text.proofs.Runs.{same_char, run_none, run_same}
 use Rattle.yaml_text.proofs.LineRuns.{end_stops, brk_same, brk_stops, brk_no_end}
 use Rattle.yaml_text.proofs.RestLemmas.{space_feed, space_return}

@@ -6,7 +6,7 @@ use Rattle.yaml_scalar.specs.Chains.{taken, folds, NoBreaks, NoLine, breaks, gap
 use Rattle.yaml_text.specs.grammar.Characters.{is_white, is_ns, is_nb, is_break, is_indicator}
 use Rattle.yaml_text.specs.grammar.Separation.{Mark, Unmarked}
 use Rattle.yaml_text.specs.grammar.FlowScalars.{plain_safe, PlainFirst}
-use Rattle.yaml_text.specs.grammar.Calls.{Unread}
+use Rattle.yaml_text.specs.Answer.{Unread}
 use Rattle.yaml_text.specs.Answer.{Furthest}
 use Rattle.yaml_text.specs.grammar.Separation.{Ctx}
 use Rattle.yaml_text.proofs.PlaceLemmas.{slice_one, slice_snoc, slice_join}

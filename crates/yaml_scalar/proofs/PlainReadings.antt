@@ -3,7 +3,7 @@ use Rattle.std.proofs.Common.{◌≡◌, ℕ, zero, suc, ◌+◌, ◌-◌, ◌<�
 use Rattle.std.specs.Prelude.{slice_get, slice_range, ◌==◌}
 use Rattle.std.proofs.lemmas.Bool.{cases_eq, cases_lt}
 use Rattle.yaml_text.specs.Answer.{Furthest}
-use Rattle.yaml_text.specs.grammar.Calls.{Unread}
+use Rattle.yaml_text.specs.Answer.{Unread}
 use Rattle.yaml_text.specs.grammar.Rules.{◌⨾◌, any, Any, done, then, Throughout, Stands, Behind, run}
 use Rattle.yaml_text.specs.grammar.Characters.{is_white, is_ns}
 use Rattle.yaml_text.specs.grammar.Separation.{Ctx}

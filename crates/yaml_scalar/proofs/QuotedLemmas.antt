@@ -4,13 +4,13 @@ use Rattle.std.proofs.lemmas.List.{append-nil}
 use Rattle.std.specs.Prelude.{slice_get, slice_range, not, ◌&&◌, ◌==◌}
 use Rattle.std.proofs.lemmas.Bool.{cases_eq}
 use Rattle.yaml_text.specs.grammar.Rules.{Span, ◌◂◌, ◌⨾◌, any, Any, done, then, Stands, run, where_both}
-use Rattle.yaml_scalar.specs.Outcome.{TextRule}
+use Rattle.yaml_scalar.specs.Chains.{TextRule}
 use Rattle.yaml_text.specs.grammar.Characters.{is_white, is_ns, is_nb, is_break}
 use Rattle.yaml_text.specs.grammar.Separation.{Mark, Unmarked}
 use Rattle.yaml_scalar.specs.Chains.{folds, NoFold, gap, verbatim, quoted_more, closing, single_rest, single_chain}
 use Rattle.yaml_text.specs.Lines.{Dashes}
 use Rattle.yaml_text.specs.grammar.FlowScalars.{single_char}
-use Rattle.yaml_text.specs.grammar.Calls.{Unread}
+use Rattle.yaml_text.specs.Answer.{Unread}
 use Rattle.yaml_text.specs.Answer.{Only}
 use Rattle.yaml_text.specs.grammar.Separation.{Ctx}
 use Rattle.yaml_text.proofs.PlaceLemmas.{slice_snoc, slice_none}

@@ -6,7 +6,7 @@ use Rattle.yaml_text.specs.grammar.Rules.{Span, ◌◆◌, ◌▸◌, gives, Any
 use Rattle.yaml_text.specs.grammar.Characters.{is_white, brk}
 use Rattle.yaml_text.specs.grammar.Separation.{Ctx, block_out, block_in, flow_out, flow_in, block_key, flow_key, indent}
 use Rattle.yaml_text.specs.grammar.FlowScalars.{fold_text, empty_line, fold, escaped_break, several}
-use Rattle.yaml_scalar.specs.Outcome.{TextRule}
+use Rattle.yaml_scalar.specs.Chains.{TextRule}
 use Rattle.yaml_scalar.specs.Chains.{margin, lead, breaks, folds, escaped}
 use Rattle.yaml_text.specs.Lines.{is_key, line_brk}
 use Rattle.yaml_scalar.specs.Chains as chain

@@ -6,7 +6,7 @@ use Rattle.yaml_text.specs.grammar.Rules.{run, Stands, Any, done, then}
 use Rattle.yaml_text.specs.grammar.Characters.{is_space, is_nb, brk}
 use Rattle.yaml_text.specs.grammar.Separation.{AtEnd, Mark, indent, line_end}
 use Rattle.yaml_text.specs.grammar.BlockScalars.{Line, blank, text, NoSpace, LessIndented, space_lines, greatest, found_indentation, longest_indentation, indentation, blank_line, text_line}
-use Rattle.yaml_text.specs.grammar.Calls.{Unread}
+use Rattle.yaml_text.specs.Answer.{Unread}
 use Rattle.yaml_text.specs.Lines.{line_brk}
 use Rattle.yaml_scalar.specs.BlockRules.{Solid, lines_over}
 use Rattle.yaml_text.specs.Lines.{Uncut}

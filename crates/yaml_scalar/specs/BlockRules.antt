@@ -1,14 +1,8 @@
 -- What the parts of a block scalar's reader say of a place.
-use Rattle.std.specs.Prelude.{◌≡◌, ℕ, ◌≤◌, ◌⊎◌, List, Bool, true, false, ◌==◌, ◌||◌}
+use Rattle.std.specs.Prelude.{◌≡◌, ℕ, ◌⊎◌, List, Bool, true, false, ◌==◌, ◌||◌}
 use Rattle.std.specs.Int.{is_in_range}
 use Rattle.yaml_text.specs.grammar.Rules.{Span, Rule, ◌◆◌, ◌◂◌, ◌∪◌, maybe, ahead, seen, with_value, Stands}
 use Rattle.yaml_text.specs.grammar.BlockScalars.{Line, Header, is_given, content, indentation_indicator, chomping_indicator, blank_line, text_line, lines, last_spaces, LinesEnd}
-
--- the reading that ends furthest, and no other has another value
-pub record FurthestAlone {V : Type 0} (R : Rule V) (i j : ℕ) (v : V) : Type 0 where
-  pub is : R i j v
-  pub furthest : (k : ℕ) (w : V) → R i k w → k ≤ j
-  pub only : (k : ℕ) (w : V) → R i k w → w ≡ v
 
 abbrev pub is_sign : ℕ → Bool
 is_sign c = c == 45 || c == 43

@@ -1,12 +1,15 @@
 -- The flow scalars again, in the form that the proofs go through: gaps and characters in turn, where a gap is a perhaps
 -- empty run of whites or a fold. That these are the readings of the grammar is proved, and contracts cite the grammar.
 use Rattle.std.specs.Prelude.{◌≡◌, ◌≢◌, ℕ, ◌+◌, ◌⊎◌, List, [], ◌∷◌, Bool, false, not, ◌&&◌, ◌==◌, if◌then◌else◌, Option, Some, None, slice_get}
-use Rattle.yaml_text.specs.grammar.Rules.{Span, ◌◆◌, ◌⊔◌, ◌▸◌, ◌◂◌, ◌⨾◌, ◌∪◌, gives, seen, any, chr, run, copied, Stands, where_both}
+use Rattle.yaml_text.specs.grammar.Rules.{Span, Rule, ◌◆◌, ◌⊔◌, ◌▸◌, ◌◂◌, ◌⨾◌, ◌∪◌, gives, seen, any, chr, run, copied, Stands, where_both}
 use Rattle.yaml_text.specs.grammar.Characters.{is_in, is_white, is_ns, is_indicator}
 use Rattle.yaml_text.specs.grammar.Separation.{Ctx, indent, less, Mark, Unmarked}
 use Rattle.yaml_text.specs.grammar.FlowScalars.{plain_safe, PlainFirst, single_char, double_char}
 use Rattle.yaml_text.specs.Lines.{is_key, line_brk}
-use Rattle.yaml_scalar.specs.Outcome.{TextRule}
+
+-- a rule that reads a text
+abbrev pub TextRule : Type 1
+TextRule = Rule (List ℕ)
 
 -- a plain-safe character other than : and #
 unfoldable pub plain_inner : Ctx → ℕ → Bool

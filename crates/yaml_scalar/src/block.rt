@@ -4,8 +4,8 @@ ghost use Rattle.std.specs.Str.{chars};
 ghost use Rattle.std.specs.Cow.{cow_str_bytes};
 ghost use Rattle.yaml_text.specs.Source.{text_of, place_of, IsBorder};
 ghost use Rattle.yaml_text.specs.grammar.BlockScalars.{literal, folded};
-ghost use Rattle.yaml_scalar.specs.Outcome.{Answers};
-ghost use Rattle.yaml_scalar.specs.BlockRules.{FurthestAlone};
+ghost use Rattle.yaml_text.specs.Answer.{Answers};
+ghost use Rattle.yaml_text.specs.Answer.{FurthestAlone};
 ghost use Rattle.yaml_scalar.specs.BlockModel.{column, sign_of, styled};
 
 use crate::block::blanks::trailing_comments;
@@ -23,8 +23,6 @@ mod blanks;
 mod content;
 mod header;
 mod lines;
-#[cfg(test)]
-mod tests;
 
 /// The column after a parent's indentation, 0 below a root.
 fn column(n: i32) -> usize

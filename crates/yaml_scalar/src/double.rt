@@ -9,7 +9,7 @@ ghost use Rattle.yaml_text.specs.grammar.FlowScalars.{double};
 ghost use Rattle.yaml_text.specs.grammar.Separation.{Mark};
 ghost use Rattle.yaml_scalar.specs.Chains.{breaks, Solid, NoSolidBreaks};
 ghost use Rattle.yaml_text.specs.Lines.{line_brk};
-ghost use Rattle.yaml_scalar.specs.Outcome.{Answers};
+ghost use Rattle.yaml_text.specs.Answer.{Answers};
 ghost use Rattle.yaml_text.specs.Answer.{IsUnread};
 
 use crate::escape::read_escape;

@@ -11,6 +11,4 @@ pub mod plain;
 mod quoted;
 pub mod single;
 pub mod spell;
-#[cfg(test)]
-mod tests;
 mod text;

@@ -7,13 +7,13 @@ ghost use Rattle.yaml_text.specs.Answer.{Furthest};
 ghost use Rattle.yaml_text.specs.EventModel.{context_of};
 ghost use Rattle.yaml_text.specs.Place.{Steps};
 ghost use Rattle.yaml_text.specs.Source.{bytes_of, text_of, place_of, IsBorder};
-ghost use Rattle.yaml_text.specs.grammar.Calls.{Unread};
+ghost use Rattle.yaml_text.specs.Answer.{Unread};
 ghost use Rattle.yaml_text.specs.grammar.Characters.{is_white};
 ghost use Rattle.yaml_text.specs.grammar.FlowScalars.{plain_safe, PlainFirst, plain};
 ghost use Rattle.yaml_text.specs.grammar.Rules.{run, Stands, any};
 ghost use Rattle.yaml_text.specs.grammar.Separation.{Mark};
 ghost use Rattle.yaml_scalar.specs.Chains.{breaks, Later, NoLine, line_more};
-ghost use Rattle.yaml_scalar.specs.Outcome.{Answers};
+ghost use Rattle.yaml_text.specs.Answer.{Answers};
 
 use crate::class::{is_plain_head, is_plain_inner, is_plain_sign};
 use crate::line::{columns, read_break};

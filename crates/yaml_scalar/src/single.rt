@@ -6,7 +6,7 @@ ghost use Rattle.yaml_text.specs.Answer.{Only};
 ghost use Rattle.yaml_text.specs.EventModel.{context_of};
 ghost use Rattle.yaml_text.specs.Source.{text_of, place_of, IsBorder};
 ghost use Rattle.yaml_text.specs.grammar.FlowScalars.{single};
-ghost use Rattle.yaml_scalar.specs.Outcome.{Answers};
+ghost use Rattle.yaml_text.specs.Answer.{Answers};
 
 use crate::line::{columns, read_break};
 use crate::quoted::quoted_run;

@@ -11,6 +11,4 @@ pub mod laws;
 pub mod limits;
 pub mod lines;
 pub mod places;
-#[cfg(test)]
-mod tests;
 pub mod text_laws;

@@ -1,5 +1,5 @@
 use Rattle.yaml_text.proofs.Tests.{on_true_at}
-use Rattle.yaml_scalar.proofs.block.tests.read_at.Goals as goal
+use Rattle.rows_scalar.proofs.rows.read_block.Goals as goal
 
 pub read_folded-requires : goal.read_folded-requires
 read_folded-requires c = on_true_at c.is_border.result c.if-not-is_border.false c.is_border.ensures.yes
