@@ -28,3 +28,4 @@ pub mod Answer
 pub mod Fault
 pub mod grammar
 pub mod TextLaws
+pub mod Lines

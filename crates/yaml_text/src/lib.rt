@@ -9,7 +9,6 @@ pub mod fault;
 pub mod grammar_laws;
 pub mod laws;
 pub mod limits;
+pub mod lines;
 pub mod places;
-#[cfg(test)]
-mod tests;
 pub mod text_laws;
