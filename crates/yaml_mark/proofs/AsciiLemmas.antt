@@ -13,6 +13,8 @@ use Rattle.yaml_text.specs.grammar.Characters.{is_word, is_uri, is_tag}
 use Rattle.yaml_text.proofs.PlaceLemmas.{slice_none, slice_snoc}
 use Rattle.yaml_scalar.proofs.Runs.{run_none, run_more}
 use Rattle.yaml_scalar.proofs.GapLemmas.{run_join}
+use Rattle.yaml_mark.specs.DirectiveParts.{prefix_start, prefix_run}
+use Rattle.yaml_mark.proofs.TagLemmas.{spans_map, is_uri_char, is_tag_char}
 use Rattle.yaml_mark.specs.Parts.{escape, escaped, handle_rest}
 
 abbrev pub is_low : ℕ → Bool
@@ -28,7 +30,7 @@ pub word_low : (c : ℕ) → is_word c ≡ true → is_low c ≡ true
 unfolding is_word
 word_low c h = grind (arith, nat_tests, h)
 
-AllLow : List ℕ → Type 0
+unfoldable pub AllLow : List ℕ → Type 0
 AllLow [] = Unit {0}
 AllLow (d ∷ ds) = (is_low d ≡ true) × AllLow ds
 
@@ -60,6 +62,14 @@ pub tag_low : (c : ℕ) → is_tag c ≡ true → is_low c ≡ true
 unfolding is_tag
 tag_low c h = uri_low c (grind (arith, h))
 
+ascii_one : (c : ℕ) → is_low c ≡ true → IsAscii (c ∷ [])
+ascii_one c h = λ k. let l = low_less c h in grind (arith, l)
+
+pub all_ascii : (xs : List ℕ) → AllLow xs → IsAscii xs
+unfolding AllLow
+all_ascii [] l = IsAscii-nil
+all_ascii (c ∷ xs) l = IsAscii-append (c ∷ []) xs (ascii_one c l.0) (all_ascii xs l.1)
+
 module _ (cs : List ℕ) where
   low_one : (i j c : ℕ) → slice_get cs i ≡ Some c → is_low c ≡ true → j ≡ i + 1 → run cs is_low i j
   low_one i j c h t e = run_more cs is_low i i j c (run_none cs is_low i) h t e
@@ -82,8 +92,10 @@ module _ (cs : List ℕ) where
   low_handle i f a h e (inr (g, none)) = low_one i a 33 h refl (g ∙ e)
   low_handle i f a h e (inl (x, r, (k, g))) = run_join cs is_low i f a (low_one i f 33 h refl e) (run_join cs is_low f x a (low_run is_word word_low f x r) (low_one x a 33 k refl g))
 
-  ascii_one : (c : ℕ) → is_low c ≡ true → IsAscii (c ∷ [])
-  ascii_one c h = λ k. let l = low_less c h in grind (arith, l)
+  pub low_prefix : (i j : ℕ) → prefix_run cs i j → run cs is_low i j
+  unfolding prefix_run prefix_start
+  low_prefix i j (k, inl (h, e), s) = run_join cs is_low i k j (low_one i k 33 h refl e) (low_spans is_uri uri_low (spans_map (is_uri_char cs) s))
+  low_prefix i j (k, inr r, s) = run_join cs is_low i k j (low_escaped is_tag tag_low i k (is_tag_char cs i k r)) (low_spans is_uri uri_low (spans_map (is_uri_char cs) s))
 
   ascii_slice : (i n : ℕ) → ((k : ℕ) → i ≤ k → k < i + n → Stands cs is_low k) → IsAscii (slice_range cs i (i + n))
   ascii_slice i zero r = subst IsAscii (sym (ap (slice_range cs i) (let e : i + 0 ≡ i = omega arith in e) ∙ slice_none cs i)) IsAscii-nil

@@ -67,6 +67,9 @@ module _ (cs : List ℕ) where
   furthest : (i j k : ℕ) → Lines i j → Stuck j → Lines i k → k ≤ j
   furthest i j k l stop m = spans_furthest (l_comment_same cs) l_on l stop m
 
+  pub lines_same : (i j k : ℕ) → Lines i j → Stuck j → Lines i k → Stuck k → j ≡ k
+  lines_same i j k l stop m halt = let a = furthest i j k l stop m in let b = furthest i k j m halt l in omega (arith, a, b)
+
   -- ---- where a line starts
 
   blank_onward : (i j : ℕ) → blank_rest cs i j → i ≤ j
@@ -104,7 +107,7 @@ module _ (cs : List ℕ) where
   no_rest i out none k (n, inr (e, t), more) = out t
   no_rest i out none k (n, inl c, more) = none n (from_s_b cs i n c)
 
-  hash_rest : (i : ℕ) → (StartsLine cs i → ⊥) → slice_get cs i ≡ Some 35 → (j : ℕ) → s_b_comment cs i j → ⊥
+  pub hash_rest : (i : ℕ) → (StartsLine cs i → ⊥) → slice_get cs i ≡ Some 35 → (j : ℕ) → s_b_comment cs i j → ⊥
   unfolding s_b_comment sep
   hash_rest i out h j (k, inl e, l) = line_end_stops cs (λ c. c == 35) refl refl k j l (subst (Stands cs (λ c. c == 35)) (sym e) (35, h, refl))
   hash_rest i out h j (k, inr (m, inl (r, lt), c), l) = no_stand cs is_space i 35 h space_hash (r.1 i (omega arith) lt)

@@ -5,3 +5,8 @@ pub mod UriLemmas
 pub mod DecodeLemmas
 pub mod TagLemmas
 pub mod AsciiLemmas
+pub mod DirectiveLemmas
+pub mod LineEndLemmas
+pub mod BodyLemmas
+pub mod DirectivesLemmas
+pub mod RefusalLemmas

@@ -19,7 +19,7 @@ use Rattle.yaml_mark.specs.Parts.{escape, escaped, handle_rest}
 
 -- ---- classes of characters
 
-ns_by : (p : ℕ → Bool) → p 10 ≡ false → p 13 ≡ false → p 32 ≡ false → p 9 ≡ false → (c : ℕ) → p c ≡ true → is_ns c ≡ true
+pub ns_by : (p : ℕ → Bool) → p 10 ≡ false → p 13 ≡ false → p 32 ≡ false → p 9 ≡ false → (c : ℕ) → p c ≡ true → is_ns c ≡ true
 unfolding is_ns is_nb is_break is_white
 ns_by p a b d e c h = go (other 10 a) (other 13 b) (other 32 d) (other 9 e)
   where
@@ -40,13 +40,17 @@ name_by p a b d e f1 f2 f3 f4 f5 c h = go (ns_by p a b d e c h) (other 44 f1) (o
     go n v w x y z = grind (arith, n, v, w, x, y, z)
 
 -- a tag's characters are a name's
-tag_is_name : (c : ℕ) → is_tag c ≡ true → is_name c ≡ true
+pub tag_is_name : (c : ℕ) → is_tag c ≡ true → is_name c ≡ true
 unfolding is_tag is_uri is_word is_flow_indicator
 tag_is_name c h = name_by is_tag refl refl refl refl refl refl refl refl refl c h
 
-word_name : (c : ℕ) → is_word c ≡ true → is_name c ≡ true
+pub word_name : (c : ℕ) → is_word c ≡ true → is_name c ≡ true
 unfolding is_word
 word_name c h = name_by is_word refl refl refl refl refl refl refl refl refl c h
+
+pub name_is_ns : (c : ℕ) → is_name c ≡ true → is_ns c ≡ true
+unfolding is_name
+name_is_ns c h = grind (arith, h)
 
 uri_percent : is_uri 37 ≡ false
 unfolding is_uri is_word
@@ -68,7 +72,7 @@ name_angle : is_name 60 ≡ true
 unfolding is_name is_ns is_nb is_break is_white is_flow_indicator
 name_angle = refl
 
-tag_bang : is_tag 33 ≡ false
+pub tag_bang : is_tag 33 ≡ false
 unfolding is_tag is_uri is_word
 tag_bang = refl
 
@@ -76,7 +80,7 @@ tag_angle : is_tag 60 ≡ false
 unfolding is_tag is_uri is_word
 tag_angle = refl
 
-word_bang : is_word 33 ≡ false
+pub word_bang : is_word 33 ≡ false
 unfolding is_word
 word_bang = refl
 
@@ -142,13 +146,13 @@ module _ (cs : List ℕ) where
   escaped_same p none i j k (inl (s, e)) (inr (c, (l, m), r)) = absurd (no_stand cs p i 37 l none s)
   escaped_same p none i j k (inr (c, (l, m), r)) (inl (s, e)) = absurd (no_stand cs p i 37 l none s)
 
-  uri_same : (i j k : ℕ) → uri_char cs i j → uri_char cs i k → j ≡ k
+  pub uri_same : (i j k : ℕ) → uri_char cs i j → uri_char cs i k → j ≡ k
   uri_same i j k r s = escaped_same is_uri uri_percent i j k (is_uri_char i j r) (is_uri_char i k s)
 
-  tag_char_same : (i j k : ℕ) → tag_char cs i j → tag_char cs i k → j ≡ k
+  pub tag_char_same : (i j k : ℕ) → tag_char cs i j → tag_char cs i k → j ≡ k
   tag_char_same i j k r s = escaped_same is_tag tag_percent i j k (is_tag_char i j r) (is_tag_char i k s)
 
-  tag_char_name : (i j : ℕ) → tag_char cs i j → Stands cs is_name i
+  pub tag_char_name : (i j : ℕ) → tag_char cs i j → Stands cs is_name i
   unfolding tag_char
   tag_char_name i j (inl ((c, h, t), e)) = (c, h, tag_is_name c t)
   tag_char_name i j (inr (a, (h, e), r)) = (37, h, name_percent)
@@ -162,7 +166,7 @@ module _ (cs : List ℕ) where
   no_uri j h m (inl (s, e)) = no_stand cs is_uri j 62 h uri_greater s
   no_uri j h m (inr (a, (g, e), q)) = let z : 62 ≡ 37 = same_char cs j 62 37 h g in omega (arith, z)
 
-  no_tag_char : (i j c : ℕ) → slice_get cs i ≡ Some c → is_tag c ≡ false → (c ≡ 37 → ⊥) → tag_char cs i j → ⊥
+  pub no_tag_char : (i j c : ℕ) → slice_get cs i ≡ Some c → is_tag c ≡ false → (c ≡ 37 → ⊥) → tag_char cs i j → ⊥
   unfolding tag_char
   no_tag_char i j c h f n (inl (s, e)) = no_stand cs is_tag i c h f s
   no_tag_char i j c h f n (inr (a, (g, e), q)) = n (same_char cs i c 37 h g)
@@ -170,12 +174,12 @@ module _ (cs : List ℕ) where
   -- ---- handles
 
   -- how a handle goes
-  data Handle (i a : ℕ) : Type 0 where
+  pub data Handle (i a : ℕ) : Type 0 where
     named : (x : ℕ) → slice_get cs i ≡ Some 33 → run cs is_word (i + 1) x → i + 1 < x → slice_get cs x ≡ Some 33 → a ≡ x + 1 → Handle i a
     double : slice_get cs i ≡ Some 33 → slice_get cs (i + 1) ≡ Some 33 → a ≡ i + 2 → Handle i a
     single : slice_get cs i ≡ Some 33 → a ≡ i + 1 → Handle i a
 
-  handle_of : (i a : ℕ) (h : List ℕ) → tag_handle cs i a h → Handle i a × (h ≡ slice_range cs i a)
+  pub handle_of : (i a : ℕ) (h : List ℕ) → tag_handle cs i a h → Handle i a × (h ≡ slice_range cs i a)
   unfolding tag_handle
   handle_of i a h (inl (b, (g, e), (x, (r, l), (k, f))), t) = (named x g (subst (λ z. run cs is_word z x) e r) (omega (arith, e, l)) k f, t)
   handle_of i a h (inr (inl (b, (g, e), (k, f))), t) = (double g (subst (λ z. slice_get cs z ≡ Some 33) e k) (omega (arith, e, f)), t)

@@ -2,3 +2,4 @@ pub mod Answer
 pub mod HandlesModel
 pub mod Classes
 pub mod Parts
+pub mod DirectiveParts

@@ -8,10 +8,12 @@ ghost use Rattle.yaml_text.specs.grammar.Separation.{StartsLine, AtEnd};
 ghost use Rattle.yaml_mark.specs.Answer.{DirectivesRefuse};
 ghost use Rattle.yaml_mark.specs.HandlesModel.{bindings_of};
 
+use crate::directive::{Directive, read_directive};
 use crate::handles::Handles;
 use std::alloc::Global;
 use yaml_text::chars::Chars;
 use yaml_text::fault::Fault;
+use yaml_text::places::accept;
 
 /// The handles that the directives from `at` on bind, and the border of the first line that neither begins with `%` nor is a
 /// comment line.
@@ -32,5 +34,30 @@ pub fn read_directives<'a>(
     ensures only { IfOk result (λ r. Only (calls.read_directives (text_of source.now)) (place_of source.now at) (place_of source.now r.1) (bindings_of r.0)) }
     ensures refused { IfErr result (λ e. DirectivesRefuse e (Unread (calls.read_directives (text_of source.now)) (place_of source.now at))) }
 {
-    Err(Fault::OutOfMemory)
+    let mut handles = Handles::new(alloc);
+    let mut has_version = false;
+    let mut line = at;
+    'lines: loop {
+        let start = match accept(source, line, '%') {
+            None => return Ok((handles, line)),
+            Some(start) => start,
+        };
+        let (directive, next) = read_directive(source, line, start)?;
+        match directive {
+            Directive::Version => {
+                if has_version {
+                    return Err(Fault::BadDirective(source.pos(line)));
+                }
+                has_version = true;
+            }
+            Directive::Binding(handle, prefix) => {
+                if handles.get(handle).is_some() {
+                    return Err(Fault::BadDirective(source.pos(line)));
+                }
+                handles = handles.bind(handle, prefix)?;
+            }
+            Directive::Reserved => {}
+        }
+        line = next;
+    }
 }

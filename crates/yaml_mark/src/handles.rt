@@ -1,11 +1,11 @@
 //! The handles of a document's tags.
-ghost use Rattle.std.specs.Prelude.{◌≡◌, ℕ, List, bytes_eq};
+ghost use Rattle.std.specs.Prelude.{◌≡◌, ℕ, List, bytes_eq, IfOk, None};
 ghost use Rattle.std.specs.Option.{option_map};
 ghost use Rattle.std.specs.HashMap.{get_by};
 ghost use Rattle.std.specs.Map.{lookup};
 ghost use Rattle.std.proofs.Props.{props};
 
-use std::alloc::Global;
+use std::alloc::{AllocFailed, Global};
 use std::collections::HashMap;
 
 /// The handles that a document's directives bind, each with its prefix (YAML 1.2.2, 6.8.2).
@@ -17,7 +17,7 @@ pub struct Handles<'a> {
 }
 
 impl<'a> Handles<'a> {
-    ghost use Rattle.std.specs.Prelude.{[]};
+    ghost use Rattle.std.specs.Prelude.{[], ◌∷◌, ◌++◌};
     ghost use Rattle.yaml_mark.specs.HandlesModel.{bindings_of};
 
     /// No handles.
@@ -35,5 +35,23 @@ impl<'a> Handles<'a> {
         ensures { option_map (λ p. p.now) result ≡ lookup (bytes_eq handle.now) (bindings_of self.now) }
     {
         self.prefixes.get(handle).copied()
+    }
+
+    /// The same with one more handle, which is not bound yet.
+    pub(crate) fn bind(
+        self,
+        handle: &'a str,
+        prefix: &'a str,
+    ) -> Result<Handles<'a>, AllocFailed<(&'a str, &'a str)>>
+        requires { lookup (bytes_eq handle.now) (bindings_of self) ≡ None }
+        ensures { IfOk result (λ more. bindings_of more ≡ bindings_of self.entry ++ (handle.now, prefix.now) ∷ []) }
+    {
+        let Handles {
+            mut bindings,
+            mut prefixes,
+        } = self;
+        prefixes.insert(handle, prefix)?;
+        bindings.push((handle, prefix))?;
+        Ok(Handles { bindings, prefixes })
     }
 }

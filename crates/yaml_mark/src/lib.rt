@@ -3,6 +3,7 @@
 
 pub mod comments;
 mod decode;
+mod directive;
 pub mod directives;
 pub mod handles;
 pub mod name;

@@ -125,7 +125,7 @@ fn next_escape(source: &Chars<'_>, at: usize) -> Option<usize>
 }
 
 /// The border after the character of a class, or the escape, that stands at a border.
-fn next_escaped(source: &Chars<'_>, at: usize, class: Class) -> Option<usize>
+pub(crate) fn next_escaped(source: &Chars<'_>, at: usize, class: Class) -> Option<usize>
     requires { IsBorder source.now at }
     ensures border { IfSome result (λ to. IsBorder source.now to) }
     ensures onward { IfSome result (λ to. at < to) }
