@@ -11,8 +11,8 @@ use lib.Utf8.{encodes}
 use Rattle.yaml_text.specs.grammar.Rules.{Spans, run, Stands}
 use Rattle.yaml_text.specs.grammar.Characters.{is_word, is_uri, is_tag}
 use Rattle.yaml_text.proofs.PlaceLemmas.{slice_none, slice_snoc}
-use Rattle.yaml_scalar.proofs.Runs.{run_none, run_more}
-use Rattle.yaml_scalar.proofs.GapLemmas.{run_join}
+use Rattle.yaml_text.proofs.Runs.{run_none, run_more}
+use Rattle.yaml_text.proofs.Breaks.{run_join}
 use Rattle.yaml_mark.specs.DirectiveParts.{prefix_start, prefix_run}
 use Rattle.yaml_mark.proofs.TagLemmas.{spans_map, is_uri_char, is_tag_char}
 use Rattle.yaml_mark.specs.Parts.{escape, escaped, handle_rest}

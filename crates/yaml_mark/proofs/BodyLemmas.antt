@@ -8,17 +8,17 @@ use Rattle.std.proofs.lemmas.Bool.{cases_lt}
 use Rattle.std.proofs.lemmas.Str.{encodes-chars, encodes-IsAscii, chars-IsAscii}
 use lib.Utf8.{encodes}
 use Rattle.yaml_text.specs.Answer.{Only}
-use Rattle.yaml_text.specs.grammar.Calls.{Unread}
+use Rattle.yaml_text.specs.Answer.{Unread}
 use Rattle.yaml_text.specs.grammar.Rules.{◌◆◌, Spans, run, some_run, Stands, word, chr}
 use Rattle.yaml_text.specs.grammar.Characters.{is_ns, is_nb, is_break, is_white, is_space}
 use Rattle.yaml_text.specs.grammar.Separation.{StartsLine, s_l_comments, line_end, comment}
 use Rattle.yaml_text.specs.grammar.Directives.{Directive, version, reserved, is_known, yaml_directive, tag_directive, reserved_directive, directive}
 use Rattle.yaml_text.proofs.PlaceLemmas.{slice_none, slice_one, slice_join}
-use Rattle.yaml_scalar.specs.BlockRules.{Inside, blank_rest}
-use Rattle.yaml_scalar.proofs.Runs.{same_char, run_same, run_none, run_more}
-use Rattle.yaml_scalar.proofs.GapLemmas.{run_join}
-use Rattle.yaml_scalar.proofs.LineRuns.{inside_no_line, line_end_same, line_end_stops}
-use Rattle.yaml_scalar.proofs.RestLemmas.{from_s_b, no_blank, is_the_space, nb_feed, nb_return}
+use Rattle.yaml_text.specs.Lines.{Inside, blank_rest}
+use Rattle.yaml_text.proofs.Runs.{same_char, run_same, run_none, run_more}
+use Rattle.yaml_text.proofs.Breaks.{run_join}
+use Rattle.yaml_text.proofs.LineRuns.{inside_no_line, line_end_same, line_end_stops}
+use Rattle.yaml_text.proofs.RestLemmas.{from_s_b, no_blank, is_the_space, nb_feed, nb_return}
 use Rattle.yaml_mark.specs.DirectiveParts.{version_rest, binding_rest, parameter, prefix_run, prefix_start, body, whole_directive, Settles, Unsettled}
 use Rattle.yaml_mark.proofs.AsciiLemmas.{AllLow, all_ascii}
 use Rattle.yaml_text.specs.grammar.Characters.{is_word}

@@ -10,11 +10,11 @@ use Rattle.yaml_text.proofs.PlaceLemmas.{before_ascii, place_less}
 use Rattle.yaml_text.specs.grammar.Rules.{Spans, Behind, Stands}
 use Rattle.yaml_text.specs.grammar.Characters.{is_space, brk}
 use Rattle.yaml_text.specs.grammar.Separation.{StartsLine, s_b_comment, s_l_comments, l_comment, sep, comment, line_end}
-use Rattle.yaml_scalar.specs.BlockRules.{Uncut, AfterLine, blank_rest}
-use Rattle.yaml_scalar.proofs.Runs.{same_char, no_stand}
-use Rattle.yaml_scalar.proofs.LineRuns.{line_end_stops, line_uncut, line_end_onward, end_stops}
-use Rattle.yaml_scalar.proofs.RestLemmas.{space_hash, space_feed, from_s_b, from_l, to_s_b, to_l, blank_after, blank_rest_same, l_comment_same, l_comment_onward}
-use Rattle.yaml_scalar.proofs.BlockChains.{spans_furthest}
+use Rattle.yaml_text.specs.Lines.{Uncut, AfterLine, blank_rest}
+use Rattle.yaml_text.proofs.Runs.{same_char, no_stand}
+use Rattle.yaml_text.proofs.LineRuns.{line_end_stops, line_uncut, line_end_onward, end_stops}
+use Rattle.yaml_text.proofs.RestLemmas.{space_hash, space_feed, from_s_b, from_l, to_s_b, to_l, blank_after, blank_rest_same, l_comment_same, l_comment_onward}
+use Rattle.yaml_text.proofs.Repeats.{spans_furthest}
 
 equal : (a b : ℕ) → nat_eq a b ≡ true → a ≡ b
 equal a b t = grind (arith, t)

@@ -8,11 +8,11 @@ use Rattle.yaml_text.specs.grammar.Characters.{is_ns, is_nb, is_break, is_white,
 use Rattle.yaml_text.specs.grammar.Separation.{s_l_comments}
 use Rattle.yaml_text.specs.grammar.Tags.{tag_prefix, tag_char, uri_char, tag_handle}
 use Rattle.yaml_text.specs.grammar.Directives as grammar
-use Rattle.yaml_scalar.specs.BlockRules.{Inside}
-use Rattle.yaml_scalar.proofs.Runs.{same_char, no_stand, run_same, run_none, run_more}
-use Rattle.yaml_scalar.proofs.GapLemmas.{run_join}
-use Rattle.yaml_scalar.proofs.LineRuns.{inside_no_line}
-use Rattle.yaml_scalar.proofs.RestLemmas.{from_s_b, no_blank, is_the_space}
+use Rattle.yaml_text.specs.Lines.{Inside}
+use Rattle.yaml_text.proofs.Runs.{same_char, no_stand, run_same, run_none, run_more}
+use Rattle.yaml_text.proofs.Breaks.{run_join}
+use Rattle.yaml_text.proofs.LineRuns.{inside_no_line}
+use Rattle.yaml_text.proofs.RestLemmas.{from_s_b, no_blank, is_the_space}
 use Rattle.yaml_mark.specs.Parts.{escaped, handle_rest}
 use Rattle.yaml_mark.specs.DirectiveParts.{version_rest, binding_rest, parameter, prefix_start, prefix_run, Settles, Unsettled}
 use Rattle.yaml_mark.proofs.CommentLemmas.{hash_rest}

@@ -6,15 +6,16 @@ use Rattle.std.specs.Map.{lookup}
 use Rattle.std.specs.Cmp.Lexicographic.{nat_list_eq_equiv}
 use Rattle.std.proofs.lemmas.List.{append-nil}
 use Rattle.yaml_text.specs.Answer.{Only}
-use Rattle.yaml_text.specs.grammar.Calls.{Unread, read_directives}
+use Rattle.yaml_text.specs.grammar.Calls.{read_directives}
+use Rattle.yaml_text.specs.Answer.{Unread}
 use Rattle.yaml_text.specs.grammar.Rules.{Rule, Any, ◌⊔◌, Begins, chr}
 use Rattle.yaml_text.specs.grammar.Characters.{is_space}
 use Rattle.yaml_text.specs.grammar.Separation.{StartsLine, AtEnd, l_comment}
 use Rattle.yaml_text.specs.grammar.Tags.{Handles}
 use Rattle.yaml_text.specs.grammar.Directives.{Directive, version, reserved, binding, bindings, clashes, is_consistent, directive, directives, yaml_directive, tag_directive, reserved_directive}
-use Rattle.yaml_scalar.proofs.Runs.{same_char, run_none}
-use Rattle.yaml_scalar.proofs.LineRuns.{end_stops}
-use Rattle.yaml_scalar.proofs.RestLemmas.{from_l, no_blank}
+use Rattle.yaml_text.proofs.Runs.{same_char, run_none}
+use Rattle.yaml_text.proofs.LineRuns.{end_stops}
+use Rattle.yaml_text.proofs.RestLemmas.{from_l, no_blank}
 use Rattle.yaml_mark.specs.DirectiveParts.{body, whole_directive}
 use Rattle.yaml_mark.proofs.CommentLemmas.{Stuck}
 use Rattle.yaml_mark.proofs.DirectiveLemmas.{ns_percent, solid_nb, solid_no_space}

@@ -6,11 +6,11 @@ use Rattle.std.proofs.lemmas.Option.{slice_get_cases, slice_get_past, slice_get_
 use Rattle.yaml_text.specs.grammar.Rules.{Spans, run, Stands}
 use Rattle.yaml_text.specs.grammar.Characters.{is_nb, is_break, is_space}
 use Rattle.yaml_text.specs.grammar.Separation.{line_end, comment, sep, s_b_comment, s_l_comments}
-use Rattle.yaml_scalar.specs.Chains.{line_brk}
-use Rattle.yaml_scalar.specs.BlockRules.{Inside}
-use Rattle.yaml_scalar.proofs.Runs.{run_none, run_more, no_stand, no_stand_end}
-use Rattle.yaml_scalar.proofs.GapLemmas.{run_join}
-use Rattle.yaml_scalar.proofs.LineRuns.{inside_uncut, to_brk, brk_line_end, end_line_end}
+use Rattle.yaml_text.specs.Lines.{line_brk}
+use Rattle.yaml_text.specs.Lines.{Inside}
+use Rattle.yaml_text.proofs.Runs.{run_none, run_more, no_stand, no_stand_end}
+use Rattle.yaml_text.proofs.Breaks.{run_join}
+use Rattle.yaml_text.proofs.LineRuns.{inside_uncut, to_brk, brk_line_end, end_line_end}
 
 break_is : (c : ℕ) → is_nb c ≡ false → (c ≡ 10) ⊎ (c ≡ 13)
 unfolding is_nb is_break

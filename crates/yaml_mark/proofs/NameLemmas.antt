@@ -4,9 +4,10 @@ use Rattle.std.specs.Prelude.{slice_get, slice_range}
 use Rattle.yaml_text.specs.Answer.{Only}
 use Rattle.yaml_text.specs.grammar.Rules.{run, Stands}
 use Rattle.yaml_text.specs.grammar.Tags.{name, anchor, alias, is_name}
-use Rattle.yaml_text.specs.grammar.Calls.{Unread, read_name}
+use Rattle.yaml_text.specs.grammar.Calls.{read_name}
+use Rattle.yaml_text.specs.Answer.{Unread}
 use Rattle.yaml_mark.specs.Parts.{sign}
-use Rattle.yaml_scalar.proofs.Runs.{run_same}
+use Rattle.yaml_text.proofs.Runs.{run_same}
 
 module _ (cs : List ℕ) where
   pub sign_char : (i j c : ℕ) → (c ≡ 38) ⊎ (c ≡ 42) → slice_get cs i ≡ Some c → j ≡ i + 1 → sign cs i j

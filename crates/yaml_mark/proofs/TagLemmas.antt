@@ -10,9 +10,10 @@ use Rattle.yaml_text.specs.Event.{WrittenTag, non_specific}
 use Rattle.yaml_text.specs.grammar.Rules.{any_one_span, Span, Spans, run, Stands}
 use Rattle.yaml_text.specs.grammar.Characters.{is_ns, is_nb, is_break, is_white, is_word, is_uri, is_tag, is_flow_indicator}
 use Rattle.yaml_text.specs.grammar.Tags.{Handles, tag, is_name, uri_char, tag_char, tag_handle, verbatim_tag, shorthand_tag, non_specific_tag, joined, decoded, prefix_of, default_handles, percent_decode, NameEnds}
-use Rattle.yaml_text.specs.grammar.Calls.{Unread, read_tag}
+use Rattle.yaml_text.specs.grammar.Calls.{read_tag}
+use Rattle.yaml_text.specs.Answer.{Unread}
 use Rattle.yaml_text.proofs.PlaceLemmas.{slice_none, slice_one}
-use Rattle.yaml_scalar.proofs.Runs.{same_char, no_stand, run_none, run_same}
+use Rattle.yaml_text.proofs.Runs.{same_char, no_stand, run_none, run_same}
 use Rattle.yaml_mark.proofs.DecodeLemmas.{decoded_no, empty_is_none}
 use Rattle.yaml_mark.proofs.HandleLemmas.{prefix_or}
 use Rattle.yaml_mark.specs.Parts.{escape, escaped, handle_rest}

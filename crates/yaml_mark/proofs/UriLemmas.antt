@@ -4,7 +4,7 @@ use Rattle.std.specs.Prelude.{slice_get}
 use Rattle.std.specs.Char.{is_ascii_hexdigit}
 use Rattle.yaml_text.specs.grammar.Rules.{Stands, one}
 use Rattle.yaml_mark.specs.Parts.{escape, escaped}
-use Rattle.yaml_scalar.proofs.Runs.{no_stand, no_stand_end, nothing_there}
+use Rattle.yaml_text.proofs.Runs.{no_stand, no_stand_end, nothing_there}
 
 module _ (cs : List ℕ) where
   one_end : (p : ℕ → Bool) (i j : ℕ) → one cs p i j → j ≡ i + 1

@@ -4,10 +4,10 @@ ghost use Rattle.std.specs.Bool.{OnTrue, OnFalse};
 ghost use Rattle.yaml_text.specs.Source.{text_of, place_of, IsBorder};
 ghost use Rattle.yaml_text.specs.grammar.Calls as calls;
 ghost use Rattle.yaml_text.specs.grammar.Separation.{s_l_comments, l_comment, StartsLine, AtEnd};
-ghost use Rattle.yaml_scalar.specs.BlockRules.{Uncut};
+ghost use Rattle.yaml_text.specs.Lines.{Uncut};
 
-use yaml_scalar::block::blanks::{skip_blank, skip_comments as skip_lines};
-use yaml_scalar::line::starts_line;
+use yaml_text::lines::{skip_blank, skip_comments as skip_lines};
+use yaml_text::lines::starts_line;
 use yaml_text::chars::Chars;
 use yaml_text::places::{accept, is_border};
 

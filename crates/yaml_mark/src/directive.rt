@@ -2,7 +2,7 @@
 ghost use Rattle.std.specs.Prelude.{◌≡◌, ◌≤◌, ◌<◌, ◌⊎◌, IfOk, IfErr, IfSome, IfNone, [], ◌∷◌, ℕ};
 ghost use Rattle.yaml_text.specs.Answer.{Only};
 ghost use Rattle.yaml_text.specs.Source.{text_of, place_of, IsBorder};
-ghost use Rattle.yaml_text.specs.grammar.Calls.{Unread};
+ghost use Rattle.yaml_text.specs.Answer.{Unread};
 ghost use Rattle.yaml_text.specs.grammar.Directives as grammar;
 ghost use Rattle.yaml_text.specs.grammar.Rules.{any_span, some_run, Stands, chr};
 ghost use Rattle.yaml_text.specs.grammar.Characters.{is_space};
@@ -13,7 +13,7 @@ ghost use Rattle.yaml_mark.specs.DirectiveParts.{IsMalformed, Settles, Unsettled
 use crate::comments::skip_comments;
 use crate::runs::{Class, next_escaped, skip_escaped, skip_run};
 use crate::tag::skip_handle;
-use yaml_scalar::block::blanks::skip_spaces;
+use yaml_text::lines::skip_spaces;
 use yaml_text::chars::Chars;
 use yaml_text::fault::Fault;
 use yaml_text::places::{accept, text_between};

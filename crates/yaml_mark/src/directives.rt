@@ -3,7 +3,7 @@ ghost use Rattle.std.specs.Prelude.{◌≡◌, ◌<◌, ◌⊎◌, IfOk, IfErr, 
 ghost use Rattle.yaml_text.specs.Answer.{Only};
 ghost use Rattle.yaml_text.specs.Source.{text_of, place_of, IsBorder};
 ghost use Rattle.yaml_text.specs.grammar.Calls as calls;
-ghost use Rattle.yaml_text.specs.grammar.Calls.{Unread};
+ghost use Rattle.yaml_text.specs.Answer.{Unread};
 ghost use Rattle.yaml_text.specs.grammar.Separation.{StartsLine, AtEnd};
 ghost use Rattle.yaml_mark.specs.Answer.{DirectivesRefuse};
 ghost use Rattle.yaml_mark.specs.HandlesModel.{bindings_of};

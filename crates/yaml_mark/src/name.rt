@@ -5,7 +5,7 @@ ghost use Rattle.std.specs.Cow.{cow_str_bytes};
 ghost use Rattle.yaml_text.specs.Answer.{Only};
 ghost use Rattle.yaml_text.specs.Source.{text_of, place_of, IsBorder};
 ghost use Rattle.yaml_text.specs.grammar.Calls as calls;
-ghost use Rattle.yaml_text.specs.grammar.Calls.{Unread};
+ghost use Rattle.yaml_text.specs.Answer.{Unread};
 ghost use Rattle.yaml_mark.specs.Answer.{NameRefuses};
 ghost use Rattle.yaml_mark.specs.Parts.{sign};
 

@@ -5,7 +5,7 @@ ghost use Rattle.yaml_text.specs.Answer.{Only};
 ghost use Rattle.yaml_text.specs.EventModel.{written_of};
 ghost use Rattle.yaml_text.specs.Source.{text_of, place_of, IsBorder};
 ghost use Rattle.yaml_text.specs.grammar.Calls as calls;
-ghost use Rattle.yaml_text.specs.grammar.Calls.{Unread};
+ghost use Rattle.yaml_text.specs.Answer.{Unread};
 ghost use Rattle.yaml_text.specs.grammar.Rules.{chr};
 ghost use Rattle.yaml_text.specs.grammar.Tags as grammar;
 ghost use Rattle.yaml_mark.specs.Answer.{TagRefuses};

@@ -1,7 +1,7 @@
 use Rattle.std.proofs.Common.{ap, ◌∙◌, arith}
 use Rattle.yaml_text.specs.Source.{text_of, place_of}
 use Rattle.yaml_text.proofs.PlaceLemmas.{starts_at}
-use Rattle.yaml_scalar.proofs.OutcomeLemmas.{on_false_at, on_true_at}
+use Rattle.yaml_text.proofs.Tests.{on_false_at, on_true_at}
 use Rattle.yaml_mark.proofs.CommentLemmas.{uncut, return_before, is_cut_here}
 use Rattle.yaml_mark.proofs.comments.is_cut.Goals as goal
 

@@ -5,7 +5,7 @@ use Rattle.yaml_text.specs.Source.{text_of, place_of, IsBorder}
 use Rattle.yaml_text.specs.grammar.Rules.{Stands}
 use Rattle.yaml_text.specs.grammar.Characters.{is_space, is_ns}
 use Rattle.yaml_text.proofs.PlaceLemmas.{place_less}
-use Rattle.yaml_scalar.proofs.LineRuns.{indent_run}
+use Rattle.yaml_text.proofs.LineRuns.{indent_run}
 use Rattle.yaml_mark.proofs.DirectiveLemmas.{no_gap_parameter, no_solid_parameter, no_hash_parameter, parameter_is}
 use Rattle.yaml_mark.proofs.directive.next_parameter.Goals as goal
 

@@ -2,7 +2,7 @@ use Rattle.std.proofs.Common.{arith}
 use Rattle.std.proofs.lemmas.Str.{IsUtf8-had}
 use Rattle.yaml_text.specs.Source.{text_of}
 use Rattle.yaml_text.proofs.PlaceLemmas.{place_less}
-use Rattle.yaml_scalar.proofs.LineRuns.{indent_run}
+use Rattle.yaml_text.proofs.LineRuns.{indent_run}
 use Rattle.yaml_mark.proofs.directive.skip_gap.Goals as goal
 
 pub returns-clause-spaces : goal.returns-clause-spaces

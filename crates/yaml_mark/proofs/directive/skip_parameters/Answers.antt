@@ -1,6 +1,6 @@
 use Rattle.std.proofs.Common.{refl, arith}
 use Rattle.yaml_text.specs.grammar.Rules.{Spans}
-use Rattle.yaml_scalar.proofs.BlockChains.{spans_push}
+use Rattle.yaml_text.proofs.Repeats.{spans_push}
 use Rattle.yaml_mark.proofs.directive.skip_parameters.Goals as goal
 
 pub parameters-init : goal.parameters-init

@@ -1,6 +1,6 @@
 use Rattle.std.proofs.Common.{refl, arith}
 use Rattle.yaml_text.specs.grammar.Rules.{Spans}
-use Rattle.yaml_scalar.proofs.BlockChains.{spans_push}
+use Rattle.yaml_text.proofs.Repeats.{spans_push}
 use Rattle.yaml_mark.proofs.runs.skip_escaped.Goals as goal
 
 pub run-init : goal.run-init

@@ -1,5 +1,5 @@
 use Rattle.std.proofs.Common.{arith, sym, ◌∙◌}
-use Rattle.yaml_scalar.proofs.Runs.{run_more}
+use Rattle.yaml_text.proofs.Runs.{run_more}
 use Rattle.yaml_mark.proofs.runs.skip_run.Goals as goal
 
 pub run-preserved : goal.run-preserved

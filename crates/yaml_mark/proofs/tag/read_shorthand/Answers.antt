@@ -9,7 +9,7 @@ use Rattle.yaml_text.specs.Source.{text_of, place_of, IsBorder}
 use Rattle.yaml_text.specs.grammar.Characters.{is_tag}
 use Rattle.yaml_text.specs.grammar.Tags.{decoded, prefix_of}
 use Rattle.yaml_text.proofs.PlaceLemmas.{place_less, place_same}
-use Rattle.yaml_scalar.proofs.OutcomeLemmas.{on_true_at, on_false_at}
+use Rattle.yaml_text.proofs.Tests.{on_true_at, on_false_at}
 use Rattle.yaml_mark.specs.HandlesModel.{handles_of}
 use Rattle.yaml_mark.specs.Parts.{handle_rest}
 use Rattle.yaml_mark.proofs.AsciiLemmas.{low_spans, low_handle, ascii_text, tag_low}
