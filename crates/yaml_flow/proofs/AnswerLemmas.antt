@@ -11,7 +11,7 @@ use Rattle.yaml_text.specs.grammar.Rules.{Rule}
 use Rattle.yaml_text.specs.declared.event.Event as code
 use Rattle.yaml_text.specs.declared.fault.Fault.{Fault}
 use Rattle.yaml_text.specs.declared.fault.Fault.TheVariants as fault
-use Rattle.yaml_scalar.specs.Outcome as scalar
+use Rattle.yaml_text.specs.Answer as scalar
 use Rattle.yaml_flow.specs.Answer.{IsRefusal, Appends, Perhaps}
 
 -- at the exit of a `?`

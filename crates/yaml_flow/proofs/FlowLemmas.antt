@@ -10,7 +10,7 @@ use Rattle.yaml_text.specs.grammar.Events.{Props, no_props, seq_start, map_start
 use Rattle.yaml_text.specs.grammar.FlowScalars as flow
 use Rattle.yaml_text.specs.grammar.Nodes as nodes
 use Rattle.yaml_text.specs.grammar.Nodes.{Part, yaml_part, json_part, pair_part, part, reads}
-use Rattle.yaml_scalar.proofs.BlockChains.{any_push, any_by}
+use Rattle.yaml_text.proofs.Repeats.{any_push, any_by}
 use Rattle.yaml_flow.specs.Keys.{ColonAfter}
 use Rattle.yaml_flow.specs.FlowRules.{part_of, opens, below, flow_from, content_at, content_from, Bare, aliased, plainly, marked, lone, from_room, item_at, entry_at, keyed_at, asked_at, value_at, spaced, comma, parts, IsSign, IsInner, IsParted}
 use Rattle.yaml_flow.specs.PropertyRules.{dressed}

@@ -16,11 +16,11 @@ use Rattle.yaml_text.specs.grammar.Events.{Props, no_props}
 use Rattle.yaml_text.specs.grammar.Nodes.{Part, yaml_part, json_part, pair_part, part, reads}
 use Rattle.yaml_text.specs.grammar.Laws.{Onward, Forward}
 use Rattle.yaml_text.proofs.grammar.Forward.{on_separate, fwd_tag, fwd_anchor, fwd_alias}
-use Rattle.yaml_scalar.proofs.LineRuns.{brk_onward, indent_run}
-use Rattle.yaml_scalar.specs.Chains.{line_brk}
-use Rattle.yaml_scalar.proofs.BlockChains.{spans_onward}
-use Rattle.yaml_scalar.proofs.RestLemmas.{l_comment_onward}
-use Rattle.yaml_scalar.proofs.GapLemmas as gap
+use Rattle.yaml_text.proofs.LineRuns.{brk_onward, indent_run}
+use Rattle.yaml_text.specs.Lines.{line_brk}
+use Rattle.yaml_text.proofs.Repeats.{spans_onward}
+use Rattle.yaml_text.proofs.RestLemmas.{l_comment_onward}
+use Rattle.yaml_text.proofs.Breaks as gap
 use Rattle.yaml_flow.specs.FlowRules.{part_of, IsInner}
 use Rattle.yaml_flow.specs.declared.flow.Kind.{Kind}
 use Rattle.yaml_flow.specs.declared.flow.Kind.TheVariants.{Yaml, Json}

@@ -10,9 +10,9 @@ use Rattle.yaml_text.proofs.PlaceLemmas.{before_ascii}
 use Rattle.yaml_text.specs.grammar.Rules.{◌◆◌, Spans, any_span, Behind, run, maybe}
 use Rattle.yaml_text.specs.grammar.Characters.{is_space}
 use Rattle.yaml_text.specs.grammar.Separation.{Ctx, block_out, block_in, flow_out, flow_in, block_key, flow_key, separate, separate_lines, StartsLine, comment, line_end, s_b_comment, s_l_comments, l_comment, sep}
-use Rattle.yaml_scalar.specs.BlockRules.{Uncut, AfterLine}
-use Rattle.yaml_scalar.proofs.LineRuns.{line_end_after}
-use Rattle.yaml_scalar.specs.Chains.{is_key}
+use Rattle.yaml_text.specs.Lines.{Uncut, AfterLine}
+use Rattle.yaml_text.proofs.LineRuns.{line_end_after}
+use Rattle.yaml_text.specs.Lines.{is_key}
 
 equal : (a b : ℕ) → nat_eq a b ≡ true → a ≡ b
 equal a b t = grind (arith, t)

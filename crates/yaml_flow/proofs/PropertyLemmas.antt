@@ -13,7 +13,7 @@ use Rattle.yaml_text.specs.grammar.Tags as tags
 use Rattle.yaml_text.specs.grammar.Calls as calls
 use Rattle.yaml_text.specs.grammar.Tags.{Handles, tag, anchor, properties, decoded, percent_decode, prefix_of}
 use Rattle.yaml_text.specs.grammar.Events.{Props, no_props}
-use Rattle.yaml_scalar.proofs.Runs.{same_char}
+use Rattle.yaml_text.proofs.Runs.{same_char}
 use Rattle.yaml_flow.specs.PropertyRules.{IsTag, IsAnchor, with_props, dressed, Marks, tag_alone, anchor_alone, both, Own}
 
 -- ---- tags

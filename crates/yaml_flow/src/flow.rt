@@ -1,6 +1,6 @@
 //! Flow nodes (YAML 1.2.2, 7.4 and 7.5).
 ghost use Rattle.std.specs.Prelude.{◌≡◌, ◌≤◌, ◌<◌, IfSome, IfOk, Some, pos, slice_get, [], ◌∷◌};
-ghost use Rattle.std.specs.Bool.{OnTrue};
+ghost use Rattle.std.specs.Bool.{OnTrue, OnFalse};
 ghost use Rattle.yaml_text.specs.Limits.{text_limit};
 ghost use Rattle.yaml_text.specs.Place.{Steps};
 ghost use Rattle.yaml_text.specs.Source.{bytes_of, text_of, place_of, IsBorder};
@@ -23,15 +23,15 @@ use crate::push::{flow_mapping, flow_sequence, push_empty, push_scalar};
 use std::alloc::Global;
 use yaml_mark::handles::Handles;
 use yaml_mark::name::read_name;
-use yaml_scalar::block::blanks::skip_spaces;
-use yaml_scalar::class::is_plain_safe;
 use yaml_scalar::double::read_double;
 use yaml_scalar::plain::read_plain;
 use yaml_scalar::single::read_single;
 use yaml_text::chars::Chars;
+use yaml_text::class::is_plain_safe;
 use yaml_text::context::Ctx;
 use yaml_text::event::{Event, Style};
 use yaml_text::fault::Fault;
+use yaml_text::lines::skip_spaces;
 use yaml_text::places::{accept, next};
 
 /// Which of the two kinds of flow nodes (7.5): after a key that is like JSON no separation needs to follow the colon.
@@ -649,7 +649,8 @@ fn read_node_item<'a>(
 /// Whether what begins at `start` may be the value after a colon that ends at `after`: after a YAML key something has to part them.
 fn is_parted(kind: Kind, after: usize, start: usize) -> bool
     requires { after ≤ start }
-    ensures { OnTrue result (IsParted kind after start) }
+    ensures yes { OnTrue result (IsParted kind after start) }
+    ensures no { OnFalse result (IsParted kind after start → ⊥) }
 {
     match kind {
         Kind::Yaml => after < start,

@@ -54,6 +54,7 @@ impl<'a> Properties<'a> {
 
     /// Whether both have an anchor or both have a tag.
     pub fn clash(&self, other: &Properties<'a>) -> bool
+        ensures yes { OnTrue result (Apart (props_of self.now) (props_of other.now) → ⊥) }
         ensures no { OnFalse result (Apart (props_of self.now) (props_of other.now)) }
     {
         match (&self.anchor, &other.anchor) {

@@ -7,8 +7,8 @@ use Rattle.yaml_text.specs.Source.{text_of, place_of}
 use Rattle.yaml_text.specs.grammar.Events.{no_props, empty, alias}
 use Rattle.yaml_text.specs.grammar.Tags as tags
 use Rattle.yaml_text.specs.grammar.Rules.{any, ◌◂◌, given, gives, seen}
-use Rattle.yaml_scalar.proofs.OutcomeLemmas.{on_true_at, on_false_at}
-use Rattle.yaml_scalar.proofs.LineRuns.{indent_run}
+use Rattle.yaml_text.proofs.Tests.{on_true_at, on_false_at}
+use Rattle.yaml_text.proofs.LineRuns.{indent_run}
 use Rattle.yaml_flow.specs.FlowRules.{spaced, comma, from_room, item_at, entry_at, keyed_at, asked_at, value_at, parts, content_from, Bare, aliased, plainly, marked, lone}
 use Rattle.yaml_mark.specs.HandlesModel.{handles_of}
 use Rattle.yaml_flow.specs.PropertyRules.{props_of, dressed}
@@ -206,7 +206,7 @@ read_value-returns-clause-reads t c =
       n.0,
       n.1,
       value_is (text_of c.args.source.now) (Unit {0}) (handles_of c.args.handles) c.in_ok-value.value.deep c.args.kind c.in_ok-value.value.kind c.args.least (context_of c.args.context) c.args.after c.in_ok-start.start _ _ _ _ n.0 (s.is, s.next) c.requires.sign
-          (on_true_at c.is_parted.result c.if-not-is_parted.false c.is_parted.ensures) c.in_ok-start.ensures.separate c.in_ok-start.ensures.apart n.2,
+          (on_true_at c.is_parted.result c.if-not-is_parted.false c.is_parted.ensures.yes) c.in_ok-start.ensures.separate c.in_ok-start.ensures.apart n.2,
     )
 
 pub read_value-returns-then-ends_value-clause-reads : goal.read_value-returns-then-ends_value-clause-reads

@@ -6,6 +6,7 @@ use Rattle.yaml_flow.proofs.key.key_fit.Given as goal
 abbrev pub invariant-chars : goal.invariant-chars
 invariant-chars l = record {
   border : IsBorder l.source l.here;
+  within : l.here ≤ l.to;
   few : l.from + l.count ≤ l.here;
   counted : place_of l.source l.here ≡ place_of l.source l.from + l.count;
   line : OneLine (text_of l.source) (place_of l.source l.from) (place_of l.source l.here);

@@ -4,8 +4,8 @@ use Rattle.yaml_text.specs.Source.{text_of, place_of}
 use Rattle.yaml_text.specs.grammar.Rules.{any_span}
 use Rattle.yaml_text.specs.grammar.Separation.{l_comment}
 use Rattle.yaml_text.proofs.PlaceLemmas.{starts_at}
-use Rattle.yaml_scalar.specs.BlockRules.{AfterLine}
-use Rattle.yaml_scalar.proofs.GapLemmas.{line_zero}
+use Rattle.yaml_text.specs.Lines.{AfterLine}
+use Rattle.yaml_text.proofs.Breaks.{line_zero}
 use Rattle.yaml_flow.proofs.LineLemmas.{after_lines}
 use Rattle.yaml_flow.proofs.line.first_line.Goals as goal
 

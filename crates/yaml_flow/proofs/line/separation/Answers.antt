@@ -4,9 +4,9 @@ use Rattle.yaml_text.specs.declared.chars.Chars.{Chars}
 use Rattle.yaml_text.specs.Source.{text_of, place_of, IsBorder}
 use Rattle.yaml_text.specs.EventModel.{context_of}
 use Rattle.yaml_text.proofs.PlaceLemmas.{place_less}
-use Rattle.yaml_scalar.proofs.LineRuns.{indent_run}
+use Rattle.yaml_text.proofs.LineRuns.{indent_run}
 use Rattle.yaml_text.specs.grammar.Separation.{Ctx, separate, s_l_comments}
-use Rattle.yaml_scalar.specs.Chains.{is_key}
+use Rattle.yaml_text.specs.Lines.{is_key}
 use Rattle.yaml_flow.specs.Lines.{IsLine}
 use Rattle.yaml_flow.specs.declared.line.Line.{Line}
 use Rattle.yaml_flow.proofs.LineLemmas.{lines_apart, spaces_apart, spaces_maybe}
