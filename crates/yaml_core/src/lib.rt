@@ -1,0 +1,9 @@
+//! The core schema (YAML 1.2.2, 10.3): what kind of value a plain text is, and the tag and the one
+//! content that stand for a scalar.
+#![tactic(auto)]
+
+pub mod kind;
+pub mod scalar;
+
+pub use kind::PlainKind;
+pub use scalar::{CoreFault, Scalar, resolve};
