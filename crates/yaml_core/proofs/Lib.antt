@@ -1,0 +1,2 @@
+mod StateLemmas
+mod StartLemmas

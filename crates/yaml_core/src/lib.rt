@@ -2,8 +2,9 @@
 //! content that stand for a scalar.
 #![tactic(auto)]
 
+mod form;
 pub mod kind;
 pub mod scalar;
 
-pub use kind::PlainKind;
+pub use kind::{PlainKind, plain_kind};
 pub use scalar::{CoreFault, Scalar, resolve};
