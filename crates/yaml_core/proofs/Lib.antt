@@ -1,2 +1,3 @@
 mod StateLemmas
 mod StartLemmas
+mod FormLemmas

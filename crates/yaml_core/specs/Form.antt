@@ -38,3 +38,16 @@ form_of x =
     else if one_of infinity_words (unsigned x) then forms.Infinity
     else if is_some (decimal_of x) then forms.Float
     else forms.Other)
+
+-- the kind that a form belongs to
+abbrev pub kind_of : Form → PlainKind
+kind_of forms.Null = kinds.Null
+kind_of forms.True = kinds.Bool
+kind_of forms.False = kinds.Bool
+kind_of forms.Decimal = kinds.Int
+kind_of forms.Octal = kinds.Int
+kind_of forms.Hexadecimal = kinds.Int
+kind_of forms.Float = kinds.Float
+kind_of forms.Infinity = kinds.Float
+kind_of forms.NotANumber = kinds.Float
+kind_of forms.Other = kinds.Str

@@ -1,7 +1,9 @@
 //! The one pass over a text that tells by which patterns of the core schema it matches.
 ghost use Rattle.std.specs.Prelude.{◌≡◌, ℕ, false, List, [], ◌∷◌, MatchOption, bytes_eq};
-ghost use Rattle.yaml_core.specs.Form.{form_of};
+ghost use Rattle.yaml_core.specs.Form.{form_of, kind_of};
 ghost use Rattle.yaml_core.specs.State.{meaning, by_test};
+
+use crate::kind::PlainKind;
 
 /// What a text is by the patterns of the core schema. A decimal int is a float too.
 #[derive(Clone, Copy)]
@@ -16,6 +18,21 @@ pub(crate) enum Form {
     Infinity,
     NotANumber,
     Other,
+}
+
+impl Form {
+    /// The kind of scalar that a plain text of this form is.
+    pub(crate) fn kind(self) -> PlainKind
+        ensures { result ≡ kind_of self }
+    {
+        match self {
+            Form::Null => PlainKind::Null,
+            Form::True | Form::False => PlainKind::Bool,
+            Form::Decimal | Form::Octal | Form::Hexadecimal => PlainKind::Int,
+            Form::Float | Form::Infinity | Form::NotANumber => PlainKind::Float,
+            Form::Other => PlainKind::Str,
+        }
+    }
 }
 
 /// What has been read of a text.

@@ -2,7 +2,7 @@
 ghost use Rattle.std.specs.Prelude.{◌≡◌};
 ghost use Rattle.yaml_core.specs.Form.{table_kind};
 
-use crate::form::{Form, judge};
+use crate::form::judge;
 
 /// The kinds of scalars of the core schema (YAML 1.2.2, 10.3.2).
 #[derive(Clone, Copy, Debug, PartialEq, Eq)]
@@ -16,15 +16,8 @@ pub enum PlainKind {
 
 /// The kind of an untagged plain scalar with this text: the first of the table's patterns that
 /// matches it whole, else str. Takes no memory.
-#[tactic(auto, unfolding(crate::specs::Form::table_kind))]
 pub fn plain_kind(text: &str) -> PlainKind
     ensures { result ≡ table_kind text.now }
 {
-    match judge(text) {
-        Form::Null => PlainKind::Null,
-        Form::True | Form::False => PlainKind::Bool,
-        Form::Decimal | Form::Octal | Form::Hexadecimal => PlainKind::Int,
-        Form::Float | Form::Infinity | Form::NotANumber => PlainKind::Float,
-        Form::Other => PlainKind::Str,
-    }
+    judge(text).kind()
 }
