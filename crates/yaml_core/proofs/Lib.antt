@@ -1,3 +1,6 @@
 mod StateLemmas
 mod StartLemmas
 mod FormLemmas
+mod KindLemmas
+mod NumberLemmas
+mod TextLemmas

@@ -2,9 +2,14 @@
 //! content that stand for a scalar.
 #![tactic(auto)]
 
+mod content;
+mod float;
 mod form;
+mod int;
 pub mod kind;
 pub mod scalar;
+mod tag;
+mod text;
 
 pub use kind::{PlainKind, plain_kind};
 pub use scalar::{CoreFault, Scalar, resolve};
