@@ -4,3 +4,5 @@ mod FormLemmas
 mod KindLemmas
 mod NumberLemmas
 mod TextLemmas
+mod IntLemmas
+mod ResolveLemmas

@@ -1,5 +1,5 @@
 //! The canonical content of a text under the tag of each kind.
-ghost use Rattle.std.specs.Prelude.{◌≡◌, Ok, MatchResult};
+ghost use Rattle.std.specs.Prelude.{◌≡◌, Ok, MatchResult, IsOk};
 ghost use Rattle.std.specs.Cow.{cow_str_bytes};
 ghost use Rattle.yaml_core.specs.Answer.{RefusesScalar};
 ghost use Rattle.yaml_core.specs.Form.{form_of};
@@ -21,7 +21,8 @@ pub(crate) fn content<'a>(
     text: &'a str,
 ) -> Result<CowStr<'a>, CoreFault>
     requires { form ≡ form_of text.now }
-    ensures { MatchResult result (λ c. of_kind kind text.now ≡ Ok (kind_tag kind, cow_str_bytes c)) (RefusesScalar (of_kind kind text.now)) }
+    ensures means { MatchResult result (λ c. of_kind kind text.now ≡ Ok (kind_tag kind, cow_str_bytes c)) (RefusesScalar (of_kind kind text.now)) }
+    ensures kept { kind ≡ PlainKind.Str → IsOk result }
 {
     match kind {
         PlainKind::Null => null_content(form),

@@ -5,6 +5,7 @@ ghost use Rattle.std.specs.Cow.{cow_str_bytes};
 ghost use Rattle.yaml_text.specs.Core.{are_digits, number_in, unsigned, int_value, natural_text, refused};
 ghost use Rattle.yaml_core.specs.Answer.{IsContent, RefusesValue};
 ghost use Rattle.yaml_core.specs.State.{all_digits};
+ghost use Rattle.yaml_core.specs.Digits.{most_of};
 ghost use Rattle.yaml_core.specs.Values.{decimal_int};
 
 use crate::scalar::CoreFault;
@@ -22,8 +23,7 @@ pub(crate) fn decimal<'a>(alloc: Global, text: &'a str) -> Result<CowStr<'a>, Co
 {
     let negative = is_negative(text);
     let digits = without_zeros(unsigned(text));
-    let most = if negative { BOUND } else { BOUND - 1 };
-    if number(digits.as_bytes(), 10, most).is_none() {
+    if number(digits.as_bytes(), 10, most(negative)).is_none() {
         return Err(CoreFault::IntRange);
     }
     if digits.is_empty() {
@@ -35,6 +35,13 @@ pub(crate) fn decimal<'a>(alloc: Global, text: &'a str) -> Result<CowStr<'a>, Co
     } else {
         minus(alloc, digits)
     }
+}
+
+/// How far the number of an int with or without a minus sign goes.
+fn most(negative: bool) -> u128
+    ensures { result ≡ most_of negative }
+{
+    if negative { BOUND } else { BOUND - 1 }
 }
 
 /// These digits after a minus sign.

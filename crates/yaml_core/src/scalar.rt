@@ -74,11 +74,13 @@ fn by_table<'a>(alloc: Global, text: &'a str) -> Result<Scalar<'a>, CoreFault>
 {
     let form = judge(text);
     let kind = form.kind();
-    let content = content(alloc, kind, form, text)?;
-    Ok(Scalar {
-        tag: CowStr::Borrowed(kind.tag()),
-        content,
-    })
+    match content(alloc, kind, form, text) {
+        Ok(content) => Ok(Scalar {
+            tag: CowStr::Borrowed(kind.tag()),
+            content,
+        }),
+        Err(fault) => Err(fault),
+    }
 }
 
 /// A scalar with a tag that is written out.
@@ -87,13 +89,13 @@ fn by_tag<'a>(alloc: Global, tag: &'a str, text: &'a str) -> Result<Scalar<'a>, 
     ensures kept { by_tag tag.now text.now ≡ Ok (str_tag, text.now) → IsOk result }
 {
     match tag_use(tag) {
-        TagUse::Judged(kind) => {
-            let content = content(alloc, kind, judge(text), text)?;
-            Ok(Scalar {
+        TagUse::Judged(kind) => match content(alloc, kind, judge(text), text) {
+            Ok(content) => Ok(Scalar {
                 tag: CowStr::Borrowed(tag),
                 content,
-            })
-        }
+            }),
+            Err(fault) => Err(fault),
+        },
         TagUse::Collection => Err(CoreFault::WrongKind),
         TagUse::Kept => Ok(kept(tag, text)),
     }
