@@ -1,14 +1,13 @@
 -- A finite float's value and content, by the parts of its text.
-use Rattle.std.proofs.Common.{◌≡◌, ◌<◌, ◌≤◌, ℕ, zero, suc, ◌+◌, ◌-◌, ◌^◌, ◌==◌, ◌&&◌, ◌||◌, not, nat_lt, nat_le, Bool, true, false, cond, Option, Some, None, Result, Ok, Err, List, [], ◌∷◌, ◌++◌, map, length, ℤ, pos, ◌+ℤ◌, ◌-ℤ◌, refl, sym, ◌∙◌, ap, subst, arith, append_assoc, append-nil}
-use Rattle.std.specs.Prelude.{MatchOption, MatchResult, is_some, nat_abs}
-use Rattle.std.specs.List.{list_all}
+use Rattle.std.proofs.Common.{◌≡◌, ◌<◌, ◌≤◌, ℕ, zero, suc, ◌+◌, ◌^◌, ◌==◌, ◌&&◌, ◌||◌, not, nat_le, Bool, true, false, cond, Option, Some, None, Result, Ok, Err, List, [], ◌∷◌, ◌++◌, map, length, ℤ, pos, ◌+ℤ◌, ◌-ℤ◌, refl, sym, ◌∙◌, ap, subst, arith}
+use Rattle.std.specs.Prelude.{MatchResult, is_some, nat_abs}
 use Rattle.std.specs.Str.{IsAscii}
-use Rattle.std.proofs.lemmas.Bool.{cond_both, eqb-true, eqb-false, ne_eqb}
+use Rattle.std.proofs.lemmas.Bool.{cond_both, eqb-false, ne_eqb}
 use Rattle.std.proofs.lemmas.Bool.Decides.{nat_tests}
 use Rattle.std.proofs.lemmas.Int.{ints}
 use Rattle.std.specs.Char.{is_digit, digit_value}
-use Rattle.std.specs.Int.Digits.{digits_of, number_from_digits, AllBelowBase}
-use Rattle.yaml_text.specs.Core.{Value, decimal_value, float_range, are_digits, is_empty, number_in, unsigned, is_negative, signed, split_at, exponent_of, scaled, mantissa, decimal_of, trimmed, point_text, exponent_text, exponent, digits_text, decimal_text, content_of, refused}
+use Rattle.std.specs.Int.Digits.{digits_of}
+use Rattle.yaml_text.specs.Core.{Value, decimal_value, float_range, are_digits, is_empty, number_in, unsigned, is_negative, signed, split_at, exponent_of, scaled, mantissa, decimal_of, trimmed, exponent_text, exponent, digits_text, decimal_text, content_of, refused}
 use Rattle.yaml_text.specs.Limits.{exponent_limit}
 use Rattle.yaml_text.proofs.FloatLaws.{digits_number}
 use Rattle.yaml_core.specs.Answer.{IsContent, RefusesValue, IsDecimalContent, RefusesDecimal}
@@ -44,6 +43,7 @@ mantissa_reads n w None e h = by (are_digits 10 w) refl
     some : (e : Option ℤ) → is_some (scaled n w [] e) ≡ true → (is_some e ≡ true) × ((k : ℤ) → e ≡ Some k → scaled n w [] e ≡ Some (decimal_value n (number_in 10 (w ++ [])) (k -ℤ pos 0)))
     some None g = absurd (cc)
     some (Some k) g = (refl, λ m q. let r : k ≡ m = cc in ap (λ z. Some (decimal_value n (number_in 10 (w ++ [])) (z -ℤ pos 0))) r)
+
     by : (b : Bool) → are_digits 10 w ≡ b → Reads n w [] e (mantissa n w None e)
     by true d =
         let q : mantissa n w None e ≡ scaled n w [] e = ap (λ b. cond b (scaled n w [] e) None) d in
@@ -55,6 +55,7 @@ mantissa_reads n w (Some p) e h = by (all_digits 10 w && (all_digits 10 p && not
     some : (e : Option ℤ) → is_some (scaled n w p e) ≡ true → (is_some e ≡ true) × ((k : ℤ) → e ≡ Some k → scaled n w p e ≡ Some (decimal_value n (number_in 10 (w ++ p)) (k -ℤ pos (length p))))
     some None g = absurd (cc)
     some (Some k) g = (refl, λ m q. let r : k ≡ m = cc in ap (λ z. Some (decimal_value n (number_in 10 (w ++ p)) (z -ℤ pos (length p)))) r)
+
     by : (b : Bool) → (all_digits 10 w && (all_digits 10 p && not (is_empty w && is_empty p))) ≡ b → Reads n w p e (mantissa n w (Some p) e)
     by true d =
         let q : mantissa n w (Some p) e ≡ scaled n w p e = ap (λ b. cond b (scaled n w p e) None) d in
@@ -281,9 +282,10 @@ decimal_some n w p d o v len part b size r l k z g h =
     let s : scale_of q.0 (length p) (length (without_zeros (w ++ p))) ≡ signed b size = sym (λ m. scale_of q.0 (k m) (l m)) ∙ t.0 in
     let a : nat_abs (scale_of q.0 (length p) (length (without_zeros (w ++ p)))) ≡ size = ap nat_abs s ∙ abs_signed b size in
     let f : nat_le size exponent_limit ≡ true = le_true size exponent_limit t.1 in
-    subst (λ u. IsDecimalContent u (float_text n d (signed b size))) (sym (r.value q.0 q.1))
-    (some_refused n (w ++ p) q.0 (length p) j i ∙ ap (λ m. cond (nat_le m exponent_limit) None (Some float_range)) a ∙ ap (λ t. cond t None (Some float_range)) f,
-      (λ m. float_text n (g m) (signed b size)) ∙ (sym (ap (float_text n (significant (w ++ p))) s) ∙ sym (some_content n (w ++ p) q.0 (length p) j i)))
+    subst (λ u. IsDecimalContent u (float_text n d (signed b size))) (sym (r.value q.0 q.1)) (
+      some_refused n (w ++ p) q.0 (length p) j i ∙ ap (λ m. cond (nat_le m exponent_limit) None (Some float_range)) a ∙ ap (λ t. cond t None (Some float_range)) f,
+      (λ m. float_text n (g m) (signed b size)) ∙ (sym (ap (float_text n (significant (w ++ p))) s) ∙ sym (some_content n (w ++ p) q.0 (length p) j i)),
+    )
   where
     le_true : (m n : ℕ) → m ≤ n → nat_le m n ≡ true
     le_true m n h = grind (arith, nat_tests)

@@ -12,7 +12,9 @@ ghost use Rattle.yaml_core.specs.Digits.{without_zeros, without_last_zeros};
 
 use crate::int::number;
 use crate::scalar::CoreFault;
-use crate::text::{Mark, cut, is_negative, push_natural, unsigned, without_last_zeros, without_zeros};
+use crate::text::{
+    Mark, cut, is_negative, push_natural, unsigned, without_last_zeros, without_zeros,
+};
 use std::alloc::{AllocError, Global};
 use std::borrow::CowStr;
 
@@ -133,7 +135,11 @@ fn scale(exponent: Option<&str>, len: u128, part_len: usize) -> Option<Exponent>
         None => None,
         Some(written) => {
             let exponent = shifted(written, len, part_len as u128 + 1);
-            if exponent.size <= EXPONENT_LIMIT { Some(exponent) } else { None }
+            if exponent.size <= EXPONENT_LIMIT {
+                Some(exponent)
+            } else {
+                None
+            }
         }
     }
 }

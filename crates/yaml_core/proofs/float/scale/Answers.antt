@@ -1,4 +1,4 @@
-use Rattle.std.proofs.Common.{◌≡◌, List, ℕ, Bor, refl, sym, ◌∙◌, ap, arith}
+use Rattle.std.proofs.Common.{List, ℕ, Bor}
 use Rattle.std.specs.Option.{option_map}
 use Rattle.yaml_text.specs.Core.{exponent_of}
 use Rattle.yaml_core.proofs.DecimalLemmas.{scale_fits, scale_past, scale_far}

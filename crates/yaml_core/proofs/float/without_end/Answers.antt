@@ -1,6 +1,5 @@
-use Rattle.std.proofs.Common.{◌≡◌, ◌++◌, List, [], refl, sym, ◌∙◌, ap, subst, length, append-nil}
+use Rattle.std.proofs.Common.{◌++◌, sym, ◌∙◌, ap, subst, append-nil}
 use Rattle.std.specs.Str.{IsAscii}
-use Rattle.yaml_core.specs.Digits.{without_last_zeros}
 use Rattle.yaml_core.proofs.IntLemmas.{no_digits, some_digits}
 use Rattle.yaml_core.proofs.DecimalLemmas.{last_none_front, last_some_front, ascii_last}
 use Rattle.yaml_core.proofs.float.without_end.Goals as goal

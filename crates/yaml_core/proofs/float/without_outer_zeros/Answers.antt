@@ -1,6 +1,6 @@
-use Rattle.std.proofs.Common.{◌≡◌, ◌++◌, refl, sym, ◌∙◌, ap, subst, length}
+use Rattle.std.proofs.Common.{◌++◌, sym, ◌∙◌, ap, subst, length}
 use Rattle.std.specs.Str.{IsAscii}
-use Rattle.yaml_core.specs.Digits.{without_zeros, without_last_zeros}
+use Rattle.yaml_core.specs.Digits.{without_last_zeros}
 use Rattle.yaml_core.proofs.IntLemmas.{no_digits, some_digits}
 use Rattle.yaml_core.proofs.DecimalLemmas.{lead_none, lead_some_front, ascii_stripped}
 use Rattle.yaml_core.proofs.float.without_outer_zeros.Goals as goal

@@ -1,11 +1,11 @@
-use Rattle.std.proofs.Common.{◌≡◌, ◌<◌, ◌≤◌, ◌+◌, ℕ, List, Option, Some, None, true, length, take, drop, refl, sym, ◌∙◌, ap, subst, arith, get_or}
+use Rattle.std.proofs.Common.{◌≡◌, ◌<◌, ◌+◌, ℕ, List, Option, Some, None, true, length, take, drop, sym, ◌∙◌, ap, subst, arith, get_or}
 use Rattle.std.proofs.lemmas.Str.{IsCharBoundary-after_ascii}
 use Rattle.std.proofs.lemmas.Bool.Decides.{nat_tests}
 use Rattle.yaml_text.specs.Core.{split_at}
 use Rattle.yaml_core.specs.Mark.{is_mark}
 use Rattle.yaml_core.specs.declared.text.Mark.{Mark}
 use Rattle.yaml_core.specs.declared.text.Mark.TheVariants as marks
-use Rattle.yaml_core.proofs.CutLemmas.{after_front, cut_more, cut_here, cut_nowhere, range_front}
+use Rattle.yaml_core.proofs.CutLemmas.{cut_more, cut_here, cut_nowhere, range_front}
 use Rattle.yaml_core.proofs.text.cut.Goals as goal
 
 mark_ascii : (m : Mark) (c : ℕ) → is_mark m c ≡ true → c < 128

@@ -1,4 +1,4 @@
-use Rattle.std.proofs.Common.{◌≡◌, ◌<◌, ◌≤◌, ◌+◌, length, take, refl, sym, ◌∙◌, ap, subst, arith, get_or}
+use Rattle.std.proofs.Common.{◌≡◌, take, sym, ◌∙◌, ap, arith}
 use Rattle.yaml_core.specs.Digits.{without_last_zeros}
 use Rattle.yaml_core.proofs.CutLemmas.{last_zero, last_other, last_none, range_front}
 use Rattle.yaml_core.proofs.text.without_last_zeros.Goals as goal
