@@ -2,7 +2,7 @@
 use std::borrow::CowStr;
 use std::process::Abort;
 use std::test::Fail;
-use yaml_core::{CoreFault, PlainKind, Scalar, plain_kind, resolve};
+use yaml_core::{CoreFault, PlainKind, plain_kind, resolve};
 use yaml_text::event::{EventTag, Style};
 
 /// How a scalar is given: plain or in quotes without a tag, else in quotes with this tag.
@@ -99,14 +99,6 @@ fn message(fault: CoreFault) -> &'static str {
     }
 }
 
-/// The tag or the fault, and the content.
-fn shown<'a>(answer: &'a Result<Scalar<'a>, CoreFault>) -> (&'a str, &'a str) {
-    match answer {
-        Ok(scalar) => (scalar.tag.as_str(), scalar.content.as_str()),
-        Err(fault) => (message(*fault), ""),
-    }
-}
-
 /// Asserts what the scalar of the row resolves to.
 pub fn check<T: Abort + AllocGlobal>(rt: &T, row: &Row) -> Result<(), Fail> {
     gives(rt, row.given, row.text, row.is, row.content)
@@ -121,9 +113,20 @@ pub fn gives<T: Abort + AllocGlobal>(
     content: &str,
 ) -> Result<(), Fail> {
     let tag = given.tag();
-    let answer = resolve(rt.alloc(), &tag, given.style(), text);
-    let (found, got) = shown(&answer);
-    assert!(rt; found == is.name() && got == content, "{found} {got}");
+    match resolve(rt.alloc(), &tag, given.style(), text) {
+        Ok(scalar) => {
+            let found = scalar.tag.as_str();
+            let got = scalar.content.as_str();
+            assert!(rt;
+                found == is.name() && got == content,
+                "{text}: {found} {got}"
+            );
+        }
+        Err(fault) => {
+            let found = message(fault);
+            assert!(rt; found == is.name(), "{text}: {found}");
+        }
+    }
     Ok(())
 }
 
