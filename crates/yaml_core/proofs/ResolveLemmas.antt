@@ -3,11 +3,11 @@ use Rattle.std.proofs.Common.{◌≡◌, ℕ, true, false, ◌||◌, inl, inr, O
 use Rattle.std.specs.Prelude.{bytes_eq, is_some}
 use Rattle.std.proofs.lemmas.Bool.{cond_both}
 use lib.Pointwise.{bytes_decides}
-use Rattle.yaml_text.specs.Tag.{core_tag, null_tag, bool_tag, int_tag, float_tag, str_tag, seq_tag, map_tag}
+use Rattle.yaml_text.specs.Tag.{core_tag, null_tag, bool_tag, int_tag, float_tag, seq_tag, map_tag}
 use Rattle.yaml_text.specs.Core.{wrong_kind, bad_content, Value, null_of, bool_of, int_of, float_of, as_bool, as_int, Resolved, by_pattern, by_table, by_tag}
 use Rattle.yaml_text.proofs.CoreLaws.{pattern_parts, wrong}
 use Rattle.yaml_core.specs.Form.{kind_of, form_of}
-use Rattle.yaml_core.specs.Kind.{kind_tag, of_kind, use_of}
+use Rattle.yaml_core.specs.Kind.{kind_tag, of_kind, use_of, has_value}
 use Rattle.yaml_core.specs.Values.{HasValues}
 use Rattle.yaml_core.specs.declared.kind.PlainKind.{PlainKind}
 use Rattle.yaml_core.specs.declared.kind.PlainKind.TheVariants as kinds
@@ -57,19 +57,16 @@ tag_is g x =
     cond_both (bytes_eq g float_tag) _ _ P (λ b. (rw (n0, n1, n2, b) (ap (λ t. by_pattern t (float_of x) (Err bad_content)) (at float_tag b)), at float_tag b)) (λ n3.
     cond_both (bytes_eq g seq_tag || bytes_eq g map_tag) _ _ P (λ b. rw (n0, n1, n2, n3, b) refl) (λ n4. rw (n0, n1, n2, n3, n4) refl)))))
 
--- ---- a str is not refused
+-- ---- a text that stands for itself is not refused
 
-other_tag : (g : List ℕ) (o : Option Value) (x y : List ℕ) → bytes_eq str_tag g ≡ false → by_pattern g o (Err bad_content) ≡ Ok (str_tag, y) → ⊥
-other_tag g o x y n e =
-    elim (pattern_parts g o (Err bad_content) str_tag y e) [
-      | inl t ↦ (let f : true ≡ false = sym ((bytes_decides str_tag g).1 t.2) ∙ n in cc)
-      | inr f ↦ wrong str_tag y bad_content f
-    ]
+value_tag : (t : List ℕ) (o : Option Value) (g y : List ℕ) → has_value t ≡ true → has_value g ≡ false → by_pattern t o (Err bad_content) ≡ Ok (g, y) → ⊥
+value_tag t o g y h n e =
+    elim (pattern_parts t o (Err bad_content) g y e) [ inl p ↦ (let f : true ≡ false = sym h ∙ (ap has_value (sym p.2) ∙ n) in cc) | inr f ↦ wrong g y bad_content f ]
 
-pub str_kind : (k : PlainKind) (x y : List ℕ) → of_kind k x ≡ Ok (str_tag, y) → k ≡ kinds.Str
+pub kept_kind : (k : PlainKind) (g x y : List ℕ) → has_value g ≡ false → of_kind k x ≡ Ok (g, y) → k ≡ kinds.Str
 unfolding of_kind core_tag
-str_kind kinds.Null x y e = absurd (other_tag null_tag (null_of x) x y refl e)
-str_kind kinds.Bool x y e = absurd (other_tag bool_tag (as_bool (bool_of x)) x y refl e)
-str_kind kinds.Int x y e = absurd (other_tag int_tag (as_int (int_of x)) x y refl e)
-str_kind kinds.Float x y e = absurd (other_tag float_tag (float_of x) x y refl e)
-str_kind kinds.Str x y e = refl
+kept_kind kinds.Null g x y n e = absurd (value_tag null_tag (null_of x) g y refl n e)
+kept_kind kinds.Bool g x y n e = absurd (value_tag bool_tag (as_bool (bool_of x)) g y refl n e)
+kept_kind kinds.Int g x y n e = absurd (value_tag int_tag (as_int (int_of x)) g y refl n e)
+kept_kind kinds.Float g x y n e = absurd (value_tag float_tag (float_of x) g y refl n e)
+kept_kind kinds.Str g x y n e = refl

@@ -1,5 +1,5 @@
 -- What a scalar of a kind resolves to.
-use Rattle.std.specs.Prelude.{◌≡◌, List, ℕ, ◌||◌, if◌then◌else◌, Option, Some, None, Ok, Err, bytes_eq, codes}
+use Rattle.std.specs.Prelude.{◌≡◌, Bool, List, ℕ, ◌||◌, if◌then◌else◌, Option, Some, None, Ok, Err, bytes_eq, codes}
 use Rattle.yaml_text.specs.Tag.{null_tag, bool_tag, int_tag, float_tag, str_tag, seq_tag, map_tag}
 use Rattle.yaml_text.specs.Core.{bad_content, null_of, bool_of, int_of, float_of, as_bool, as_int, Resolved, by_pattern}
 use Rattle.yaml_core.specs.declared.kind.PlainKind.{PlainKind}
@@ -45,3 +45,7 @@ IsWord k f x = word_of k f ≡ Some x
 
 abbrev pub HasNoWord : PlainKind → Form → Type 0
 HasNoWord k f = word_of k f ≡ None
+
+-- whether this is the tag of null, bool, int or float; under all others a scalar's text stands for itself
+abbrev pub has_value : List ℕ → Bool
+has_value g = bytes_eq g null_tag || (bytes_eq g bool_tag || (bytes_eq g int_tag || bytes_eq g float_tag))

@@ -1,10 +1,10 @@
 //! Scalars by the core schema.
-ghost use Rattle.std.specs.Prelude.{◌≡◌, Ok, MatchResult, IsOk};
+ghost use Rattle.std.specs.Prelude.{◌≡◌, ℕ, false, List, Ok, MatchResult, IsOk};
 ghost use Rattle.std.specs.Cow.{cow_str_bytes};
 ghost use Rattle.yaml_text.specs.Core.{resolve, by_table, by_tag};
-ghost use Rattle.yaml_text.specs.Tag.{str_tag};
 ghost use Rattle.yaml_text.specs.EventModel.{written_of, style_of};
 ghost use Rattle.yaml_core.specs.Answer.{RefusesScalar};
+ghost use Rattle.yaml_core.specs.Kind.{has_value};
 
 use crate::content::content;
 use crate::form::judge;
@@ -53,7 +53,7 @@ pub fn resolve<'a>(
     text: &'a str,
 ) -> Result<Scalar<'a>, CoreFault>
     ensures means { MatchResult result (λ s. resolve (written_of tag.now) (style_of style) text.now ≡ Ok (cow_str_bytes s.tag, cow_str_bytes s.content)) (RefusesScalar (resolve (written_of tag.now) (style_of style) text.now)) }
-    ensures kept { resolve (written_of tag.now) (style_of style) text.now ≡ Ok (str_tag, text.now) → IsOk result }
+    ensures kept { (g : List ℕ) → has_value g ≡ false → resolve (written_of tag.now) (style_of style) text.now ≡ Ok (g, text.now) → IsOk result }
 {
     match tag {
         EventTag::None => match style {
@@ -70,7 +70,7 @@ pub fn resolve<'a>(
 /// An untagged plain scalar.
 fn by_table<'a>(alloc: Global, text: &'a str) -> Result<Scalar<'a>, CoreFault>
     ensures means { MatchResult result (λ s. by_table text.now ≡ Ok (cow_str_bytes s.tag, cow_str_bytes s.content)) (RefusesScalar (by_table text.now)) }
-    ensures kept { by_table text.now ≡ Ok (str_tag, text.now) → IsOk result }
+    ensures kept { (g : List ℕ) → has_value g ≡ false → by_table text.now ≡ Ok (g, text.now) → IsOk result }
 {
     let form = judge(text);
     let kind = form.kind();
@@ -86,7 +86,7 @@ fn by_table<'a>(alloc: Global, text: &'a str) -> Result<Scalar<'a>, CoreFault>
 /// A scalar with a tag that is written out.
 fn by_tag<'a>(alloc: Global, tag: &'a str, text: &'a str) -> Result<Scalar<'a>, CoreFault>
     ensures means { MatchResult result (λ s. by_tag tag.now text.now ≡ Ok (cow_str_bytes s.tag, cow_str_bytes s.content)) (RefusesScalar (by_tag tag.now text.now)) }
-    ensures kept { by_tag tag.now text.now ≡ Ok (str_tag, text.now) → IsOk result }
+    ensures kept { (g : List ℕ) → has_value g ≡ false → by_tag tag.now text.now ≡ Ok (g, text.now) → IsOk result }
 {
     match tag_use(tag) {
         TagUse::Judged(kind) => match content(alloc, kind, judge(text), text) {

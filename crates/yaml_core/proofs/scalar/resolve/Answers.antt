@@ -21,7 +21,7 @@ unfolding resolve
 returns-in-Plain-clause-kept c =
     let x = c.args.text.now in
     let e : resolve (written_of c.args.tag.now) (style_of c.args.style) x ≡ by_table x = λ i. resolve (written_of (c.in-None.is i)) (style_of (c.in-Plain.is i)) x in
-    λ h. c.by_table.ensures.kept (sym e ∙ h)
+    λ g n h. c.by_table.ensures.kept g n (sym e ∙ h)
 
 pub returns-in-Single : goal.returns-in-Single
 unfolding resolve
@@ -33,7 +33,7 @@ returns-in-Single c =
       | inl p ↦ ap (λ y. resolve untagged (style_of y) x) p
       | inr q ↦ elim q [ inl p ↦ ap (λ y. resolve untagged (style_of y) x) p | inr r ↦ elim r [ inl p ↦ ap (λ y. resolve untagged (style_of y) x) p | inr p ↦ ap (λ y. resolve untagged (style_of y) x) p ] ]
     ] in
-    record { means = e ∙ sym (λ i. Ok ((c.kept.ensures.tag ∙ c.tag.ensures) i, c.kept.ensures.content i)); kept = λ h. refl }
+    record { means = e ∙ sym (λ i. Ok ((c.kept.ensures.tag ∙ c.tag.ensures) i, c.kept.ensures.content i)); kept = λ g n h. refl }
 
 pub returns-in-NonSpecific-clause-means : goal.returns-in-NonSpecific-clause-means
 unfolding resolve
@@ -57,4 +57,4 @@ returns-in-Full-clause-kept c =
     let x = c.args.text.now in
     let e : resolve (written_of c.args.tag.now) (style_of c.args.style) x ≡ by_tag c.as_str.result.now x =
     ap (λ t. resolve (written_of t) (style_of c.args.style) x) c.in-Full.is ∙ ap (λ g. by_tag g x) (sym c.as_str.ensures.value) in
-    λ h. c.by_tag.ensures.kept (sym e ∙ h)
+    λ g n h. c.by_tag.ensures.kept g n (sym e ∙ h)
