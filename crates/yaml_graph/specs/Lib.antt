@@ -1,0 +1,6 @@
+pub mod TreeLists
+pub mod GraphModel
+pub mod GraphView
+pub mod JoinModel
+pub mod Closing
+pub mod Composed
