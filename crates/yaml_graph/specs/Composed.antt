@@ -5,7 +5,7 @@ use Rattle.yaml_text.specs.Limits.{height_limit}
 use Rattle.yaml_text.specs.Tree.{Tree, height}
 use Rattle.yaml_text.specs.Marked.{Document, stream_events}
 use Rattle.yaml_text.specs.Core.{undefined_alias, cyclic_alias, wrong_kind, bad_content, int_range, float_range}
-use Rattle.yaml_text.specs.Unfold.{trees_of}
+use Rattle.yaml_text.specs.Unfold.{Outcome, trees_of}
 use Rattle.yaml_text.specs.EventModel.{event_of}
 use Rattle.yaml_text.specs.declared.event.Event as code
 use Rattle.yaml_text.specs.declared.fault.Fault.{Fault}
@@ -40,14 +40,18 @@ pub record IsFirstHigh (ds : List Document) (number : ℕ) : Type 0 where
   pub high : height_limit < height tree
   pub before : (k : ℕ) (t : Tree) → k < number → slice_get trees k ≡ Some t → height t ≤ height_limit
 
--- The fault is the first one. Memory may be refused at any time.
+-- What was found is this fault, at the same event. Memory may be refused at any time.
+abbrev pub Refuses : {X : Type 0} → Outcome X → Fault → Type 0
+Refuses found (UndefinedAlias event) = found ≡ Err (undefined_alias, event)
+Refuses found (CyclicAlias event) = found ≡ Err (cyclic_alias, event)
+Refuses found (WrongKind event) = found ≡ Err (wrong_kind, event)
+Refuses found (BadContent event) = found ≡ Err (bad_content, event)
+Refuses found (IntRange event) = found ≡ Err (int_range, event)
+Refuses found (FloatRange event) = found ≡ Err (float_range, event)
+Refuses found OutOfMemory = Unit {0}
+Refuses found _ = ⊥
+
+-- the documents do not unfold, or one of their trees is too high
 abbrev pub RefusesStream : List Document → Fault → Type 0
-RefusesStream ds (UndefinedAlias event) = trees_of ds ≡ Err (undefined_alias, event)
-RefusesStream ds (CyclicAlias event) = trees_of ds ≡ Err (cyclic_alias, event)
-RefusesStream ds (WrongKind event) = trees_of ds ≡ Err (wrong_kind, event)
-RefusesStream ds (BadContent event) = trees_of ds ≡ Err (bad_content, event)
-RefusesStream ds (IntRange event) = trees_of ds ≡ Err (int_range, event)
-RefusesStream ds (FloatRange event) = trees_of ds ≡ Err (float_range, event)
 RefusesStream ds (TooHigh document) = IsFirstHigh ds document
-RefusesStream ds OutOfMemory = Unit {0}
-RefusesStream ds _ = ⊥
+RefusesStream ds fault = Refuses (trees_of ds) fault
