@@ -7,22 +7,25 @@ use Rattle.std.specs.BTreeMap.{BTreeMap, UpdatesBy}
 use Rattle.std.specs.Map.{lookup}
 use Rattle.std.specs.Cmp.Lexicographic.{slice_cmp}
 use Rattle.std.specs.Ordering.{nat_cmp, is_eq}
-use Rattle.std.proofs.lemmas.Option.{slice_get_within, get_or_from_slice_get}
+use Rattle.std.proofs.lemmas.Option.{slice_get_within, get_or_from_slice_get, slice_get_read}
 use Rattle.std.proofs.lemmas.List.Elements.{All-nil, All-cons}
-use Rattle.std.proofs.lemmas.List.{reverse-append, map-append}
+use Rattle.std.proofs.lemmas.List.{reverse-append, map-append, length-map}
 use Rattle.yaml_text.specs.Limits.{height_limit}
 use Rattle.yaml_text.specs.Tree.{Tree, scalar}
 use Rattle.yaml_text.specs.Event.{Anchor}
-use Rattle.yaml_text.specs.Unfold.{Table, opened, closed, last_named}
-use Rattle.yaml_graph.specs.Machine.{State, begun, whole, entered}
+use Rattle.yaml_text.specs.Unfold.{Outcome, Table, opened, closed, last_named, tree_named, and_then, placed}
+use Rattle.yaml_text.specs.Core.{undefined_alias, cyclic_alias}
+use Rattle.yaml_graph.specs.Machine.{State, start, begun, whole, added}
 use Rattle.yaml_graph.specs.Machine as machine
 use Rattle.yaml_graph.specs.GraphModel.{trees_at, node_tree, trees_in, tree_at, PartsBelow, Grounded}
-use Rattle.yaml_graph.specs.ComposerModel.{cut, place_of, last_place, names_of, Stands, AllStand, SlotStands, TableStands, Placed, OpenStands, OpensStand, Held}
+use Rattle.yaml_graph.specs.ComposerModel.{cut, place_of, last_place, names_of, Stands, AllStand, SlotStands, TableStands, Placed, OpenStands, OpensStand, Held, Holds, Reached}
+use Rattle.std.specs.Option.{IfSome}
+use Rattle.yaml_graph.specs.declared.composer.Composer.{Composer}
 use Rattle.yaml_graph.specs.declared.composer.Open.{Open}
 use Rattle.yaml_graph.specs.declared.node.Node.{Node}
 use Rattle.yaml_graph.specs.declared.node.NodeId.{NodeId}
 use Rattle.yaml_graph.proofs.GraphLaws.{get-more, get-end, get-push, trees-push, trees-length}
-use Rattle.yaml_graph.proofs.AnchorLaws.{named-push, placed-push, placed-opened, names-closed, Found, found}
+use Rattle.yaml_graph.proofs.AnchorLaws.{named-push, placed-push, placed-opened, names-closed, names-length, Found, found}
 
 -- ---- what stands goes on standing
 
@@ -236,3 +239,95 @@ leaves-by ns hs m anchored os o places s (p ∷ ps) e h f = record {
 pub held-leave : (ns : List Node) (hs : List ℕ) (m : BTreeMap (Bor (List ℕ)) ℕ) (anchored : List (Option NodeId)) (os : List Open) (o : Open) (places : List NodeId) (s : State) → Held ns hs m anchored (os ++ (o ∷ [])) places s → Leaves ns hs m anchored os o s
 held-leave ns hs m anchored os o places s h =
     leaves-by ns hs m anchored os o places s s.outer refl h (subst (λ z. OpensStand (trees_in ns) (names_of s.table) z s.outer) (reverse-append os (o ∷ [])) h.outside)
+
+pub held-start : (ns : List Node) (hs : List ℕ) (m : BTreeMap (Bor (List ℕ)) ℕ) (anchored : List (Option NodeId)) (os : List Open) (places : List NodeId) → ns ≡ [] → hs ≡ [] → m.entries ≡ [] → anchored ≡ [] → os ≡ [] → places ≡ []
+    → Held ns hs m anchored os places start
+unfolding last_place
+held-start ns hs m anchored os places en eh em ea eo ep = rw (en, eh, ea, eo, ep) (record {
+  grounded = λ k n e. absurd (cc);
+  measured = refl;
+  inside = tt;
+  outside = tt;
+  anchors = tt;
+  named = λ name. ap (λ es. lookup (λ k. is_eq (slice_cmp nat_cmp name k.now)) es) em;
+  done = refl;
+})
+
+-- ---- the same, as the code's calls give it
+
+module _ (ns : List Node) (hs : List ℕ) (m : BTreeMap (Bor (List ℕ)) ℕ) (anchored : List (Option NodeId)) (os : List Open) (places : List NodeId) (s : State) (h : Held ns hs m anchored os places s) where
+  pub heights-length : length hs ≡ length ns
+  heights-length = omega (arith, ap length h.measured, length-map (trees_in ns) cut, trees-length ns)
+
+  pub held-added : (n : Node) (high : ℕ) (i : NodeId) → PartsBelow (length ns) n.kind → high ≡ cut (node_tree (trees_in ns) n) → i.0 ≡ length ns → (place : Option ℕ) (a : Anchor) (slot : ℕ) → Placed (names_of s.table) place a slot
+      → (ms : List Node) (gs : List ℕ) (filling : List (Option NodeId)) (more : List NodeId) → ms ≡ ns ++ (n ∷ []) → gs ≡ hs ++ (high ∷ []) → filling ≡ filled place i anchored → more ≡ places ++ (i ∷ [])
+      → Held ms gs m filling os more (whole a slot (node_tree (trees_in ns) n) s)
+  held-added n high i below is number place a slot w ms gs filling more en eh ea ep = rw (en, eh, ea, ep) (held-whole ns hs m anchored os places s h n high i below is number place a slot w)
+
+  -- a node's place is one of those that there are
+  pub placed-within : (place : Option ℕ) (a : Anchor) (slot : ℕ) → Placed (names_of s.table) place a slot → IfSome place (λ i. i < length anchored)
+  placed-within None a slot w = tt
+  placed-within (Some i) (Some name) slot w =
+      omega (arith, w.0, slice_get_within (names_of s.table) slot name w.1, names-length s.table, table-length (trees_in ns) anchored s.table h.anchors)
+  placed-within (Some i) None slot w = absurd w
+
+-- ---- an alias
+
+-- what stands at a place that was found
+record FoundAt (i : ℕ) (o : Option (Option Tree)) (e : Table) : Type 0 where
+  entry : Option Tree
+  is : o ≡ Some entry
+  name : List ℕ
+  there : slice_get e i ≡ Some (name, entry)
+
+found-at : (i : ℕ) (o : Option (Option Tree)) (e : Table) → Found (Some i) o e → FoundAt i o e
+found-at i (Some p) e h = record { entry = p; is = refl; name = h.0; there = h.1 }
+found-at i None e h = absurd h
+
+found-none : (o : Option (Option Tree)) (e : Table) → Found None o e → o ≡ None
+found-none None e h = refl
+found-none (Some p) e h = absurd h
+
+open-slot : (ts : List Tree) (o : Option Tree) → SlotStands ts None o → o ≡ None
+open-slot ts None h = refl
+open-slot ts (Some t) h = absurd h
+
+record WholeSlot (ts : List Tree) (i : NodeId) (o : Option Tree) : Type 0 where
+  tree : Tree
+  is : o ≡ Some tree
+  stands : Stands ts i tree
+
+whole-slot : (ts : List Tree) (i : NodeId) (o : Option Tree) → SlotStands ts (Some i) o → WholeSlot ts i o
+whole-slot ts i (Some t) h = record { tree = t; is = refl; stands = h }
+whole-slot ts i None h = absurd h
+
+module _ (at : ℕ) (name : List ℕ) (c : Composer) (s : State) (h : Holds c s) where
+  pub alias-undefined : place_of c.names name ≡ None → and_then (placed at (tree_named (last_named name s.table))) (added s) ≡ Err (undefined_alias, at)
+  alias-undefined e =
+      let q : last_named name s.table ≡ None = found-none (last_named name s.table) s.table (no-place c.nodes.items c.heights.items c.names c.anchored.items c.outer.items c.inner.items s h name e) in
+      ap (λ o. and_then (placed at (tree_named o)) (added s)) q
+
+  module _ (i : ℕ) (e : place_of c.names name ≡ Some i) where
+    at-place : FoundAt i (last_named name s.table) s.table
+    at-place = found-at i (last_named name s.table) s.table (place-within c.nodes.items c.heights.items c.names c.anchored.items c.outer.items c.inner.items s h name i e)
+
+    pub alias-within : i < length c.anchored.items
+    alias-within = let f = at-place in omega (arith, slice_get_within s.table i (f.name, f.entry) f.there, table-length (trees_in c.nodes.items) c.anchored.items s.table h.anchors)
+
+    slot : (a : Option NodeId) → a ≡ get_or c.anchored.items i a → SlotStands (trees_in c.nodes.items) a at-place.entry
+    slot a q = let f = at-place in slot-at (trees_in c.nodes.items) c.anchored.items s.table i a f.name f.entry h.anchors (slice_get_read c.anchored.items (length c.anchored.items) i a refl alias-within q) f.there
+
+    pub alias-cyclic : (a : Option NodeId) → a ≡ get_or c.anchored.items i a → a ≡ None → and_then (placed at (tree_named (last_named name s.table))) (added s) ≡ Err (cyclic_alias, at)
+    alias-cyclic a q r =
+        let f = at-place in
+        let o : f.entry ≡ None = open-slot (trees_in c.nodes.items) f.entry (subst (λ z. SlotStands (trees_in c.nodes.items) z f.entry) r (slot a q)) in
+        ap (λ z. and_then (placed at (tree_named z)) (added s)) (f.is ∙ ap Some o)
+
+    pub alias-added : (a : Option NodeId) → a ≡ get_or c.anchored.items i a → (n : NodeId) → a ≡ Some n → (d : Composer) → d.nodes.items ≡ c.nodes.items → d.heights.items ≡ c.heights.items → d.names ≡ c.names → d.anchored.items ≡ c.anchored.items → d.outer.items ≡ c.outer.items → d.inner.items ≡ c.inner.items ++ (n ∷ [])
+        → Reached (and_then (placed at (tree_named (last_named name s.table))) (added s)) d
+    alias-added a q n r d en eh em ea eo ep =
+        let f = at-place in
+        let w : WholeSlot (trees_in c.nodes.items) n f.entry = whole-slot (trees_in c.nodes.items) n f.entry (subst (λ z. SlotStands (trees_in c.nodes.items) z f.entry) r (slot a q)) in
+        let t : State = record { inner = s.inner ++ (w.tree ∷ []); outer = s.outer; table = s.table; done = s.done } in
+        let k : Held c.nodes.items c.heights.items c.names c.anchored.items c.outer.items (c.inner.items ++ (n ∷ [])) t = held-alias c.nodes.items c.heights.items c.names c.anchored.items c.outer.items c.inner.items s h n w.tree w.stands in
+        record { state = t; is = ap (λ z. and_then (placed at (tree_named z)) (added s)) (f.is ∙ ap Some w.is); holds = rw (en, eh, em, ea, eo, ep) k }
