@@ -1,5 +1,5 @@
 -- Names of anchors and the places where they stand.
-use Rattle.std.proofs.Common.{◌≡◌, ℕ, zero, suc, ◌<◌, Bool, true, false, cond, bytes_eq, List, [], ◌∷◌, ◌++◌, length, set, map, refl, sym, ◌∙◌, ap, subst, arith}
+use Rattle.std.proofs.Common.{◌≡◌, ℕ, zero, suc, Bool, true, false, cond, bytes_eq, List, [], ◌∷◌, ◌++◌, length, set, refl, sym, ◌∙◌, ap, subst}
 use Rattle.std.specs.Prelude.{Option, None, Some}
 use Rattle.std.specs.List.{slice_get}
 use Rattle.std.specs.Option.{option_map}
@@ -11,7 +11,7 @@ use Rattle.std.proofs.lemmas.List.{map-append, length-map}
 use Rattle.std.proofs.lemmas.Map.Text.{btree_map_updates_str}
 use Rattle.yaml_text.specs.Tree.{Tree}
 use Rattle.yaml_text.specs.Event.{Anchor}
-use Rattle.yaml_text.specs.Unfold.{Table, or_else, opened, closed, last_named}
+use Rattle.yaml_text.specs.Unfold.{Table, or_else, closed, last_named}
 use Rattle.yaml_graph.proofs.GraphLaws.{get-more, get-end}
 use Rattle.yaml_graph.specs.ComposerModel.{place_of, last_place, names_of, Placed}
 

@@ -1,6 +1,6 @@
 -- What a call of the composer answers.
-use Rattle.std.proofs.Common.{Result, Ok, Err, ◌≡◌, ◌<◌, ℕ, suc, Bool, true, false, List, [], ◌∷◌, length, refl, sym, ◌∙◌, ap, subst, arith}
-use Rattle.std.specs.Prelude.{Option, None, Some, IfOk, IfErr, MatchResult}
+use Rattle.std.proofs.Common.{Result, Ok, Err, ◌≡◌, ◌<◌, ℕ, suc, Bool, true, List, [], ◌∷◌, refl, sym, ◌∙◌, ap, subst, arith}
+use Rattle.std.specs.Prelude.{Option, Some, IfOk, IfErr, MatchResult}
 use Rattle.std.specs.List.{All}
 use Rattle.std.specs.Borrow.{Bor}
 use Rattle.std.specs.BTreeMap.{BTreeMap}
@@ -14,7 +14,7 @@ use Rattle.yaml_graph.specs.GraphModel.{Entries, tree_at, trees_at, entries_at, 
 use Rattle.yaml_graph.specs.Machine.{State, paired, whole, left, collection_from}
 use Rattle.yaml_graph.specs.Machine as machine
 use Rattle.yaml_graph.specs.Composed.{Refuses}
-use Rattle.yaml_graph.specs.ComposerModel.{names_of, Placed, OpenStands, AllStand, Collects, Holds, Reached}
+use Rattle.yaml_graph.specs.ComposerModel.{AllStand, Collects, Holds, Reached}
 use Rattle.yaml_graph.specs.declared.composer.Composer.{Composer}
 use Rattle.yaml_graph.specs.declared.composer.Open.{Open}
 use Rattle.yaml_graph.specs.declared.node.Node.{Node}

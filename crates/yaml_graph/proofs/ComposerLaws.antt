@@ -1,6 +1,6 @@
 -- What the composer's lists stand for, as they grow.
-use Rattle.std.proofs.Common.{◌≡◌, ℕ, zero, suc, ◌+◌, ◌<◌, ◌≤◌, Bool, true, false, min, List, [], ◌∷◌, ◌++◌, length, set, map, reverse, refl, sym, ◌∙◌, ap, subst, arith, get_or, Ok, Err, Global}
-use Rattle.std.specs.Prelude.{Option, None, Some, Vec}
+use Rattle.std.proofs.Common.{◌≡◌, ℕ, zero, suc, ◌<◌, List, [], ◌∷◌, ◌++◌, length, set, map, reverse, refl, sym, ◌∙◌, ap, subst, arith, get_or, Err}
+use Rattle.std.specs.Prelude.{Option, None, Some}
 use Rattle.std.specs.List.{slice_get, All}
 use Rattle.std.specs.Borrow.{Bor}
 use Rattle.std.specs.BTreeMap.{BTreeMap, UpdatesBy}
@@ -10,14 +10,13 @@ use Rattle.std.specs.Ordering.{nat_cmp, is_eq}
 use Rattle.std.proofs.lemmas.Option.{slice_get_within, get_or_from_slice_get, slice_get_read}
 use Rattle.std.proofs.lemmas.List.Elements.{All-nil, All-cons}
 use Rattle.std.proofs.lemmas.List.{reverse-append, map-append, length-map}
-use Rattle.yaml_text.specs.Limits.{height_limit}
 use Rattle.yaml_text.specs.Tree.{Tree, scalar}
 use Rattle.yaml_text.specs.Event.{Anchor}
-use Rattle.yaml_text.specs.Unfold.{Outcome, Table, opened, closed, last_named, tree_named, and_then, placed}
+use Rattle.yaml_text.specs.Unfold.{Table, closed, last_named, tree_named, and_then, placed}
 use Rattle.yaml_text.specs.Core.{undefined_alias, cyclic_alias}
 use Rattle.yaml_graph.specs.Machine.{State, start, begun, whole, added}
 use Rattle.yaml_graph.specs.Machine as machine
-use Rattle.yaml_graph.specs.GraphModel.{trees_at, node_tree, trees_in, tree_at, PartsBelow, Grounded}
+use Rattle.yaml_graph.specs.GraphModel.{trees_at, node_tree, trees_in, PartsBelow}
 use Rattle.yaml_graph.specs.ComposerModel.{cut, place_of, last_place, names_of, Stands, AllStand, SlotStands, TableStands, Placed, OpenStands, OpensStand, Held, Holds, Reached}
 use Rattle.std.specs.Option.{IfSome}
 use Rattle.yaml_graph.specs.declared.composer.Composer.{Composer}

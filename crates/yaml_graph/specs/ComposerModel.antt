@@ -1,5 +1,5 @@
 -- What the composer holds, as plain values.
-use Rattle.std.specs.Prelude.{◌≡◌, ℕ, suc, min, Bool, true, false, List, [], ◌∷◌, Option, Some, None, Ok, cond, bytes_eq, reverse, map, length}
+use Rattle.std.specs.Prelude.{◌≡◌, ◌<◌, ◌≤◌, ℕ, suc, min, slice_index, Bool, true, false, List, [], ◌∷◌, Option, Some, None, Ok, cond, bytes_eq, reverse, map, length}
 use Rattle.std.specs.List.{slice_get}
 use Rattle.std.specs.Borrow.{Bor}
 use Rattle.std.specs.Option.{option_map}
@@ -107,3 +107,17 @@ pub record Reached (found : Outcome machine.State) (c : Composer) : Type 0 where
   pub state : machine.State
   pub is : found ≡ Ok state
   pub holds : Holds c state
+
+-- the height at this place is none that is cut
+abbrev pub IsBelow : List ℕ → NodeId → Type 0
+IsBelow heights i = slice_index heights i.0 ≤ height_limit
+
+abbrev pub AllBelow : List ℕ → List NodeId → Type 0
+AllBelow heights roots = (k : ℕ) (i : NodeId) → slice_get roots k ≡ Some i → IsBelow heights i
+
+-- the first place whose height is cut
+pub record IsFirstAbove (heights : List ℕ) (roots : List NodeId) (number : ℕ) : Type 0 where
+  pub root : NodeId
+  pub is : slice_get roots number ≡ Some root
+  pub above : height_limit < slice_index heights root.0
+  pub before : (k : ℕ) (i : NodeId) → k < number → slice_get roots k ≡ Some i → IsBelow heights i

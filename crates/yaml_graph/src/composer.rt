@@ -118,7 +118,13 @@ impl<'a> Composer<'a> {
             Ok(scalar) => {
                 let place = self.begin(anchor)?;
                 let kind = NodeKind::Scalar(scalar.content);
-                self.add(place, Node { tag: scalar.tag, kind })
+                self.add(
+                    place,
+                    Node {
+                        tag: scalar.tag,
+                        kind,
+                    },
+                )
             }
             Err(fault) => Err(fault_at(at, fault)),
         }
@@ -177,7 +183,12 @@ impl<'a> Composer<'a> {
     }
 
     /// Takes the event at `at`.
-    pub(crate) fn take(&mut self, alloc: Global, at: usize, event: &'a Event<'_>) -> Result<(), Fault>
+    pub(crate) fn take(
+        &mut self,
+        alloc: Global,
+        at: usize,
+        event: &'a Event<'_>,
+    ) -> Result<(), Fault>
         requires { (s : State) × Holds self.old s }
         ensures { (s : State) → Holds self.old s → (found : Outcome State) → step at (event_of event.now) s ≡ Some found →
             MatchResult result (λ _. Reached found self.new) (Refuses found) }

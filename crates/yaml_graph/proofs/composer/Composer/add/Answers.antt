@@ -1,4 +1,4 @@
-use Rattle.std.proofs.Common.{◌≡◌, length, ap, sym, ◌∙◌, refl, subst, arith}
+use Rattle.std.proofs.Common.{◌≡◌, length, ap, sym, ◌∙◌, subst, arith}
 use Rattle.std.specs.Cow.{cow_str_bytes}
 use Rattle.yaml_graph.specs.GraphModel.{trees_in, PartsBelow}
 use Rattle.yaml_graph.proofs.ComposerLaws.{filled, heights-length, held-added}

@@ -1,4 +1,4 @@
-use Rattle.std.proofs.Common.{◌≡◌, ◌<◌, sym, ◌∙◌, refl, length, arith, Some, None}
+use Rattle.std.proofs.Common.{◌≡◌, sym, ◌∙◌, refl, arith, Some, None}
 use Rattle.yaml_graph.specs.ComposerModel.{place_of}
 use Rattle.yaml_graph.proofs.ComposerLaws.{alias-undefined, alias-within, alias-cyclic, alias-added}
 use Rattle.yaml_graph.proofs.composer.Composer.alias.Goals as goal

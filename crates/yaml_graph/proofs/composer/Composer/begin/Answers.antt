@@ -11,5 +11,5 @@ returns-clause-ok c = λ s h.
     let l : c.len-place.result ≡ length self.anchored.items = omega (arith, self.anchored.ok.0) in (
       placed-begun self.nodes.items self.heights.items self.names self.anchored.items self.outer.items self.inner.items s h (anchor_text c.args.anchor) c.in-Some.name.now c.len-place.result e l,
       subst (λ z. Held self.nodes.items self.heights.items c.insert.new.self z self.outer.items self.inner.items (begun (anchor_text c.args.anchor) s)) (sym c.in_ok-push.ensures.items)
-      (held-begun self.nodes.items self.heights.items self.names self.anchored.items self.outer.items self.inner.items s h (anchor_text c.args.anchor) c.in-Some.name.now c.insert.new.self c.len-place.result e l c.in_ok-insert.ensures.updates),
+          (held-begun self.nodes.items self.heights.items self.names self.anchored.items self.outer.items self.inner.items s h (anchor_text c.args.anchor) c.in-Some.name.now c.insert.new.self c.len-place.result e l c.in_ok-insert.ensures.updates),
     )

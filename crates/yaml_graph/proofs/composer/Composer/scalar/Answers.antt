@@ -1,5 +1,4 @@
-use Rattle.std.proofs.Common.{◌≡◌, ap, Ok}
-use Rattle.std.specs.Cow.{cow_str_bytes}
+use Rattle.std.proofs.Common.{ap}
 use Rattle.yaml_text.specs.Core.{resolve}
 use Rattle.yaml_text.specs.EventModel.{written_of, style_of}
 use Rattle.yaml_text.specs.Unfold.{and_then, placed}

@@ -52,7 +52,7 @@ returns-in-DocumentStart c = λ s h found e.
       state = fresh s;
       is = w.1;
       holds = subst (λ z. Held self.nodes.items self.heights.items c.clear.new.self z self.outer.items self.inner.items (fresh s)) (sym c.clear-in-DocumentStart.ensures.items)
-      (held-clear self.nodes.items self.heights.items self.names self.anchored.items self.outer.items self.inner.items s h c.clear.new.self c.clear.ensures.empty w.0);
+          (held-clear self.nodes.items self.heights.items self.names self.anchored.items self.outer.items self.inner.items s h c.clear.new.self c.clear.ensures.empty w.0);
     }
 
 pub returns-in-DocumentEnd : goal.returns-in-DocumentEnd
