@@ -1,0 +1,12 @@
+-- Digits of a number's text.
+use Rattle.std.specs.Prelude.{ℕ, Bool, ◌==◌, ◌-◌, ◌^◌, cond, if◌then◌else◌, List, [], ◌∷◌}
+use Rattle.yaml_text.specs.Limits.{int_bits}
+
+-- without the zeros at the beginning
+unfoldable pub without_zeros : List ℕ → List ℕ
+without_zeros [] = []
+without_zeros (c ∷ x) = cond (c == 48) (without_zeros x) (c ∷ x)
+
+-- the greatest number of an int with or without a minus sign
+abbrev pub most_of : Bool → ℕ
+most_of negative = if negative then 2 ^ int_bits else 2 ^ int_bits - 1
