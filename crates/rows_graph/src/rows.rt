@@ -5,7 +5,9 @@ use crate::words::events;
 use std::alloc::Global;
 use std::process::Abort;
 use std::test::Fail;
-use yaml_graph::join;
+use yaml_graph::{Graph, join};
+use yaml_text::event::Event;
+use yaml_text::fault::Fault;
 
 /// The words of events, and what is shown of their graph, or the message of the fault.
 struct Row {
@@ -293,16 +295,33 @@ struct Pair {
     gives: &'static str,
 }
 
-/// What is shown of both graphs as one, or `none`.
-fn joined(alloc: Global, left: &str, right: &str) -> Result<String, Fail> {
-    let left_events = events(alloc, left)?;
-    let right_events = events(alloc, right)?;
-    match (composed(alloc, &left_events), composed(alloc, &right_events)) {
-        (Ok(Some(left)), Ok(Some(right))) => match join(left, right) {
-            Ok(graph) => Ok(shown(alloc, &graph)?),
-            Err(fault) => Ok(format!(in alloc; "{fault}")?),
-        },
-        _ => Ok(format!(in alloc; "none")?),
+/// Both graphs as one, where both are streams.
+fn both<'a>(
+    alloc: Global,
+    left: &'a [Event<'_>],
+    right: &'a [Event<'_>],
+) -> Result<Option<Graph<'a>>, Fault> {
+    let Some(left) = composed(alloc, left)? else {
+        return Ok(None);
+    };
+    let Some(right) = composed(alloc, right)? else {
+        return Ok(None);
+    };
+    Ok(Some(join(left, right)?))
+}
+
+/// What is shown of both graphs as one, the message of a fault, or `no stream`.
+fn joined<'a>(alloc: Global, left: &'a str, right: &'a str) -> Result<String, Fail> {
+    let mut streams = Vec::new(alloc);
+    streams.push(events(alloc, left)?)?;
+    streams.push(events(alloc, right)?)?;
+    let [left, right] = streams.as_slice() else {
+        return Ok(String::new(alloc));
+    };
+    match both(alloc, left, right) {
+        Ok(Some(graph)) => Ok(shown(alloc, &graph)?),
+        Ok(None) => Ok(format!(in alloc; "no stream")?),
+        Err(fault) => Ok(format!(in alloc; "{fault}")?),
     }
 }
 

@@ -1,11 +1,10 @@
 //! Graphs as text.
+use crate::nested::is_stream;
 use std::alloc::{AllocError, Global};
 use std::fmt::Write;
 use yaml_graph::{Graph, Node, NodeId, NodeKind, compose};
 use yaml_text::event::Event;
 use yaml_text::fault::Fault;
-
-use crate::nested::is_stream;
 
 /// The graph of events, or what was refused. Events that are those of no stream give no graph.
 pub fn composed<'a>(alloc: Global, events: &'a [Event<'_>]) -> Result<Option<Graph<'a>>, Fault> {
