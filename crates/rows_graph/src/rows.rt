@@ -126,8 +126,8 @@ const SCALARS: [Row; 6] = [
     },
     Row {
         shows: "plain scalars are read by the core schema",
-        words: "--- [ =1 =0x1 =~ =true =012 =a ] ...",
-        gives: "int=1^0 int=1^0 null=null^0 bool=true^0 int=12^0 str=a^0 seq,0,1,2,3,4,5^1 / 6",
+        words: "--- [ =1 =0x1 =1.0 =~ =true =012 =a ] ...",
+        gives: "int=1^0 int=1^0 float=1^0 null=null^0 bool=true^0 int=12^0 str=a^0 seq,0,1,2,3,4,5,6^1 / 7",
     },
     Row {
         shows: "the lone tag makes a text",
@@ -136,8 +136,8 @@ const SCALARS: [Row; 6] = [
     },
     Row {
         shows: "a tag that is written out is taken",
-        words: "--- { !tag:yaml.org,2002:int 0o14 !tag:yaml.org,2002:str =1 } ...",
-        gives: "int=12^0 str=1^0 map,0:1^1 / 2",
+        words: "--- { !tag:yaml.org,2002:int 0o14 !tag:yaml.org,2002:float =1e3 } ...",
+        gives: "int=12^0 float=1e+3^0 map,0:1^1 / 2",
     },
     Row {
         shows: "quoted numbers are texts",
@@ -230,7 +230,7 @@ fn the_first_fault_is_told(rt: HostRuntime) -> Result<(), Fail> {
     Ok(())
 }
 
-const REFUSED_SCALARS: [Row; 3] = [
+const REFUSED_SCALARS: [Row; 5] = [
     Row {
         shows: "a collection's tag is none of a scalar",
         words: "--- !tag:yaml.org,2002:seq x ...",
@@ -245,6 +245,16 @@ const REFUSED_SCALARS: [Row; 3] = [
         shows: "an int is below 2 to the power of 127",
         words: "--- =170141183460469231731687303715884105728 ...",
         gives: "16 IntRange at event 2",
+    },
+    Row {
+        shows: "a float's exponent is at most a million",
+        words: "--- { k =1e1000001 } ...",
+        gives: "17 FloatRange at event 4",
+    },
+    Row {
+        shows: "a fault of a scalar comes in the order of events too",
+        words: "--- [ =1e1000001 *x ] ...",
+        gives: "17 FloatRange at event 3",
     },
 ];
 

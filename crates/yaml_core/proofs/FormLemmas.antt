@@ -1,12 +1,12 @@
 -- What a text denotes under each tag, by its form.
-use Rattle.std.proofs.Common.{◌≡◌, ℕ, Bool, true, false, cond, not, ◌&&◌, ◌||◌, ◌==◌, if◌then◌else◌, Option, Some, None, List, [], ◌∷◌, drop, codes, ℤ, pos, refl, sym, ◌∙◌, ap, subst, arith}
+use Rattle.std.proofs.Common.{◌≡◌, ℕ, Bool, true, false, cond, ◌&&◌, ◌||◌, ◌==◌, if◌then◌else◌, Option, Some, None, List, [], ◌∷◌, codes, pos, refl, sym, ◌∙◌, ap, subst, arith}
 use Rattle.std.specs.Prelude.{bytes_eq, is_some}
 use Rattle.std.specs.List.{AllByRecursion}
 use Rattle.std.specs.Char.{is_digit}
 use Rattle.std.proofs.lemmas.Bool.{cond_both, eqb-true}
 use Rattle.std.proofs.lemmas.Bool.Decides.{nat_tests}
 use lib.Pointwise.{bytes_decides}
-use Rattle.yaml_text.specs.Core.{Value, infinity, not_a_number, one_of, are_digits, number_in, unsigned, is_negative, after, digits_after, first_some, split_at, decimal_of, bool_of, int_of, float_of, is_null}
+use Rattle.yaml_text.specs.Core.{not_a_number, one_of, are_digits, number_in, unsigned, after, digits_after, split_at, decimal_of, bool_of, int_of, float_of, is_null}
 use Rattle.yaml_core.specs.Form.{table_kind, kind_of, form_of, bool_form, infinity_words, nan_words}
 use Rattle.yaml_core.specs.State.{is_e, is_point, all_digits, float_rest}
 use Rattle.yaml_core.specs.Values.{Values, HasValues}
@@ -111,6 +111,7 @@ marked_parts mark base (c ∷ d ∷ y) h = by (c == 48 && d == mark) refl
     last : (b : Bool) → is_some (cond b (Some (pos (number_in base y))) None) ≡ b
     last true = refl
     last false = refl
+
     by : (b : Bool) → (c == 48 && d == mark) ≡ b → Marked mark base (c ∷ d ∷ y)
     by true e =
         let p = both (c == 48) (d == mark) e in

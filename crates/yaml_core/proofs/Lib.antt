@@ -6,3 +6,5 @@ mod NumberLemmas
 mod TextLemmas
 mod IntLemmas
 mod ResolveLemmas
+mod CutLemmas
+mod DecimalLemmas

@@ -1,15 +1,13 @@
 -- Numbers by their digits, one digit after the other.
-use Rattle.std.proofs.Common.{◌≡◌, ◌<◌, ◌≤◌, ℕ, zero, suc, ◌+◌, ◌*◌, ◌/◌, ◌%◌, ◌==◌, ◌&&◌, nat_lt, nat_le, Bool, true, false, cond, List, [], ◌∷◌, ◌++◌, map, length, take, drop, get_or, refl, sym, ◌∙◌, ap, subst, arith}
+use Rattle.std.proofs.Common.{◌≡◌, ◌<◌, ◌≤◌, ℕ, zero, suc, ◌+◌, ◌*◌, ◌/◌, ◌%◌, ◌==◌, ◌&&◌, nat_lt, nat_le, Bool, true, false, cond, List, [], ◌∷◌, ◌++◌, map, length, take, drop, get_or, refl, sym, ◌∙◌, ap, arith}
 use Rattle.std.proofs.Math.Nat.{div-lt_iff_lt-mul}
 use Rattle.std.proofs.lemmas.Bool.{cond_both, ltb-true, eqb-true, eqb-false, ne_eqb}
 use Rattle.std.proofs.lemmas.Bool.Decides.{nat_tests}
 use Rattle.std.proofs.lemmas.List.{take_more, take-append-drop, map-append}
-use Rattle.std.proofs.lemmas.Int.Digits.{number_push, number_after_append, number_after_ge, number_digits_of, digits_of_step, all_below_base_digits_of}
-use Rattle.std.specs.List.{list_all}
+use Rattle.std.proofs.lemmas.Int.Digits.{number_push, number_after_append, number_after_ge, digits_of_step}
 use Rattle.std.specs.Char.{is_digit, digit_value}
-use Rattle.std.specs.Int.Digits.{digits_of, number_from_digits, number_from_digits_after, AllBelowBase}
+use Rattle.std.specs.Int.Digits.{digits_of, number_from_digits, number_from_digits_after}
 use Rattle.yaml_text.specs.Core.{number_in, natural_text}
-use Rattle.yaml_text.proofs.FloatLaws.{digits_number}
 use Rattle.yaml_core.specs.State.{all_digits}
 use Rattle.yaml_core.specs.Digits.{without_zeros}
 

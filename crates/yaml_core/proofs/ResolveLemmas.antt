@@ -1,15 +1,14 @@
 -- A scalar resolves as one of the kind that its tag or its text tells.
-use Rattle.std.proofs.Common.{◌≡◌, ℕ, Bool, true, false, cond, ◌||◌, if◌then◌else◌, ◌⊎◌, inl, inr, Option, Some, None, Result, Ok, Err, List, refl, sym, ◌∙◌, ap, subst}
-use Rattle.std.specs.Prelude.{bytes_eq, MatchResult, IsOk, is_some}
+use Rattle.std.proofs.Common.{◌≡◌, ℕ, true, false, ◌||◌, inl, inr, Option, Some, None, Ok, Err, List, refl, sym, ◌∙◌, ap}
+use Rattle.std.specs.Prelude.{bytes_eq, is_some}
 use Rattle.std.proofs.lemmas.Bool.{cond_both}
 use lib.Pointwise.{bytes_decides}
 use Rattle.yaml_text.specs.Tag.{core_tag, null_tag, bool_tag, int_tag, float_tag, str_tag, seq_tag, map_tag}
-use Rattle.yaml_text.specs.Core.{Cause, wrong_kind, bad_content, Value, null_of, bool_of, int_of, float_of, as_bool, as_int, Resolved, by_pattern, by_table, by_tag}
-use Rattle.yaml_text.proofs.CoreLaws.{pattern_parts, wrong, ok_first}
-use Rattle.yaml_core.specs.Answer.{RefusesScalar}
+use Rattle.yaml_text.specs.Core.{wrong_kind, bad_content, Value, null_of, bool_of, int_of, float_of, as_bool, as_int, Resolved, by_pattern, by_table, by_tag}
+use Rattle.yaml_text.proofs.CoreLaws.{pattern_parts, wrong}
 use Rattle.yaml_core.specs.Form.{kind_of, form_of}
 use Rattle.yaml_core.specs.Kind.{kind_tag, of_kind, use_of}
-use Rattle.yaml_core.specs.Values.{Values, HasValues}
+use Rattle.yaml_core.specs.Values.{HasValues}
 use Rattle.yaml_core.specs.declared.kind.PlainKind.{PlainKind}
 use Rattle.yaml_core.specs.declared.kind.PlainKind.TheVariants as kinds
 use Rattle.yaml_core.specs.declared.form.Form.{Form}

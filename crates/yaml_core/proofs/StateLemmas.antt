@@ -1,10 +1,9 @@
 -- How what is left of a text goes on by one character.
-use Rattle.std.proofs.Common.{◌≡◌, ℕ, Bool, true, false, cond, not, ◌&&◌, ◌||◌, ◌==◌, if◌then◌else◌, Option, Some, None, List, [], ◌∷◌, codes, refl, sym, ◌∙◌, ap}
-use Rattle.std.specs.Prelude.{bytes_eq, is_some}
-use Rattle.std.specs.List.{list_all}
-use Rattle.std.specs.Char.{is_digit, digit_value}
-use Rattle.yaml_text.specs.Core.{Value, one_of, are_digits, is_empty, unsigned, is_negative, after, digits_after, split_at, exponent_of, scaled, mantissa, decimal_of, bool_of, is_null}
-use Rattle.yaml_core.specs.Form.{form_of, bool_form, infinity_words, nan_words}
+use Rattle.std.proofs.Common.{◌≡◌, ℕ, Bool, true, false, ◌&&◌, ◌||◌, ◌==◌, if◌then◌else◌, Option, Some, None, List, ◌∷◌, codes, refl, ◌∙◌, ap}
+use Rattle.std.specs.Prelude.{bytes_eq}
+use Rattle.std.specs.Char.{is_digit}
+use Rattle.yaml_text.specs.Core.{one_of, are_digits, unsigned, split_at}
+use Rattle.yaml_core.specs.Form.{infinity_words, nan_words}
 use Rattle.yaml_core.specs.State.{is_e, is_point, all_digits, exponent_fits, number_fits, float_rest, fraction_rest, marked, by_test}
 use Rattle.yaml_core.specs.declared.form.Form.{Form}
 use Rattle.yaml_core.specs.declared.form.Form.TheVariants as forms

@@ -1,8 +1,8 @@
 -- What a text is once a part of it has been read, by what is left of it.
-use Rattle.std.specs.Prelude.{ℕ, Bool, true, false, not, ◌&&◌, ◌||◌, ◌==◌, if◌then◌else◌, List, [], ◌∷◌, codes, Option, Some, None, bytes_eq}
+use Rattle.std.specs.Prelude.{ℕ, Bool, true, false, not, ◌&&◌, ◌||◌, ◌==◌, if◌then◌else◌, List, [], ◌∷◌, Option, Some, None, bytes_eq}
 use Rattle.std.specs.List.{list_all}
 use Rattle.std.specs.Char.{is_digit}
-use Rattle.yaml_text.specs.Core.{one_of, are_digits, is_empty, unsigned, after, split_at}
+use Rattle.yaml_text.specs.Core.{one_of, are_digits, is_empty, unsigned, split_at}
 use Rattle.yaml_core.specs.Form.{form_of, infinity_words, nan_words}
 use Rattle.yaml_core.specs.declared.form.Form.{Form}
 use Rattle.yaml_core.specs.declared.form.Form.TheVariants as forms

@@ -5,11 +5,10 @@ ghost use Rattle.yaml_core.specs.Answer.{RefusesScalar};
 ghost use Rattle.yaml_core.specs.Form.{form_of};
 ghost use Rattle.yaml_core.specs.Kind.{kind_tag, of_kind, IsWord, HasNoWord};
 
-use crate::float;
 use crate::form::Form;
-use crate::int;
 use crate::kind::PlainKind;
 use crate::scalar::CoreFault;
+use crate::{float, int};
 use std::alloc::Global;
 use std::borrow::CowStr;
 

@@ -267,12 +267,7 @@ fn after_letter(form: Form, left: &'static [u8], byte: u8) -> State
     }
 }
 
-fn after_capital(
-    form: Form,
-    lower: &'static [u8],
-    upper: &'static [u8],
-    byte: u8,
-) -> State
+fn after_capital(form: Form, lower: &'static [u8], upper: &'static [u8], byte: u8) -> State
     ensures { (rest : List ℕ) → meaning (State.Capital form lower.entry upper.entry) (byte ∷ rest) ≡ meaning result rest }
 {
     match (left_after(lower, byte), left_after(upper, byte)) {

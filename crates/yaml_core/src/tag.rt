@@ -5,11 +5,17 @@ ghost use Rattle.yaml_core.specs.Kind.{kind_tag, use_of};
 use crate::kind::PlainKind;
 
 const NULL: &str = "tag:yaml.org,2002:null";
+
 const BOOL: &str = "tag:yaml.org,2002:bool";
+
 const INT: &str = "tag:yaml.org,2002:int";
+
 const FLOAT: &str = "tag:yaml.org,2002:float";
+
 const STR: &str = "tag:yaml.org,2002:str";
+
 const SEQ: &str = "tag:yaml.org,2002:seq";
+
 const MAP: &str = "tag:yaml.org,2002:map";
 
 /// What a tag makes of a scalar.

@@ -1,9 +1,11 @@
 //! Signs and digits at the beginning of a number's text.
 ghost use Rattle.std.specs.Prelude.{◌≡◌, ◌+◌, ◌<◌, [], ◌∷◌, ◌++◌, IfOk};
+ghost use Rattle.std.specs.Option.{option_map};
 ghost use Rattle.std.specs.Str.{IsAscii};
 ghost use Rattle.std.specs.String.{string_bytes};
-ghost use Rattle.yaml_text.specs.Core.{is_negative, unsigned, natural_text};
-ghost use Rattle.yaml_core.specs.Digits.{without_zeros};
+ghost use Rattle.yaml_text.specs.Core.{is_negative, unsigned, split_at, natural_text};
+ghost use Rattle.yaml_core.specs.Digits.{without_zeros, without_last_zeros};
+ghost use Rattle.yaml_core.specs.Mark.{is_mark};
 
 use std::alloc::AllocError;
 
@@ -36,6 +38,50 @@ pub(crate) fn without_zeros(text: &str) -> &str
         }
     }
     ""
+}
+
+/// A text without the zeros that it ends with.
+pub(crate) fn without_last_zeros(text: &str) -> &str
+    requires { IsAscii text.now }
+    ensures { result.now ≡ without_last_zeros text.now }
+{
+    let bytes = text.as_bytes();
+    let mut end = bytes.len();
+    while end > 0 && bytes[end - 1] == b'0' {
+        end -= 1;
+    }
+    &text[..end]
+}
+
+/// What parts the text of a float.
+#[derive(Clone, Copy)]
+pub(crate) enum Mark {
+    Point,
+    Exponent,
+}
+
+impl Mark {
+    fn is_at(self, byte: u8) -> bool
+        ensures { result ≡ is_mark self byte }
+    {
+        match self {
+            Mark::Point => byte == b'.',
+            Mark::Exponent => byte == b'e' || byte == b'E',
+        }
+    }
+}
+
+/// The text before the first mark of this kind, and the text after it where there is one.
+pub(crate) fn cut(text: &str, mark: Mark) -> (&str, Option<&str>)
+    ensures { (result.0.now, option_map (λ s. s.now) result.1) ≡ split_at (is_mark mark) text.now }
+{
+    let bytes = text.as_bytes();
+    for (at, byte) in bytes.iter().enumerate() {
+        if mark.is_at(*byte) {
+            return (&text[..at], Some(&text[at + 1..]));
+        }
+    }
+    (text, None)
 }
 
 /// Appends a number in decimal.

@@ -1,4 +1,4 @@
-use Rattle.std.proofs.Common.{Ok, refl, sym, ◌∙◌, ap, subst}
+use Rattle.std.proofs.Common.{Ok, sym, ◌∙◌, ap, subst}
 use Rattle.std.specs.Cow.{cow_str_bytes}
 use Rattle.yaml_core.specs.Kind.{kind_tag, of_kind}
 use Rattle.yaml_core.specs.declared.kind.PlainKind.{PlainKind}

@@ -1,4 +1,4 @@
-use Rattle.std.proofs.Common.{refl, sym, ◌∙◌, ap, pos, drop}
+use Rattle.std.proofs.Common.{sym, ◌∙◌, pos, drop}
 use Rattle.std.specs.Cow.{cow_str_bytes}
 use Rattle.yaml_text.specs.Tag.{int_tag}
 use Rattle.yaml_text.specs.Core.{int_value, number_in}

@@ -1,4 +1,4 @@
-use Rattle.std.proofs.Common.{arith, refl, not, sym, ◌∙◌, ap, subst}
+use Rattle.std.proofs.Common.{refl, not, sym, ◌∙◌, ap, subst}
 use Rattle.std.specs.Cow.{cow_str_bytes}
 use Rattle.std.specs.Str.{IsAscii}
 use Rattle.yaml_text.specs.Core.{unsigned, int_value}

@@ -1,4 +1,4 @@
-use Rattle.std.proofs.Common.{◌-◌, List, ℕ, length, pos, drop, take, arith, sym, ◌∙◌, ap, ◌≡◌}
+use Rattle.std.proofs.Common.{◌-◌, List, ℕ, length, pos, drop, take, arith, ◌∙◌, ap, ◌≡◌}
 use Rattle.std.proofs.lemmas.List.{take_all, length-drop}
 use Rattle.std.specs.Cow.{cow_str_bytes}
 use Rattle.yaml_text.specs.Core.{int_value, number_in, natural_text}

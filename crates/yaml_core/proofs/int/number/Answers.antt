@@ -1,5 +1,5 @@
-use Rattle.std.proofs.Common.{◌+◌, ◌*◌, sym, ◌∙◌, ap, arith, get_or}
-use Rattle.yaml_core.proofs.NumberLemmas.{number_next, digit_at, digit_below, digit_wider, past_before, past_after, may_grow}
+use Rattle.std.proofs.Common.{◌+◌, ◌*◌, sym, ◌∙◌, arith}
+use Rattle.yaml_core.proofs.NumberLemmas.{number_next, past_before, past_after}
 use Rattle.yaml_core.proofs.int.number.Goals as goal
 
 pub returns-then-number-last : goal.returns-then-number-last

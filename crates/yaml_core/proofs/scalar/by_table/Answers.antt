@@ -1,6 +1,5 @@
-use Rattle.std.proofs.Common.{◌≡◌, Ok, refl, sym, ◌∙◌, ap, subst}
+use Rattle.std.proofs.Common.{Ok, sym, ◌∙◌, ap, subst}
 use Rattle.std.specs.Cow.{cow_str_bytes}
-use Rattle.yaml_text.specs.Core.{Resolved, by_table}
 use Rattle.yaml_core.specs.Answer.{RefusesScalar}
 use Rattle.yaml_core.specs.Form.{kind_of}
 use Rattle.yaml_core.specs.Kind.{of_kind}

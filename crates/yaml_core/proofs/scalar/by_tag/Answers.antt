@@ -1,12 +1,10 @@
-use Rattle.std.proofs.Common.{◌≡◌, Ok, Err, refl, sym, ◌∙◌, ap, subst}
+use Rattle.std.proofs.Common.{Ok, sym, ◌∙◌, ap, subst}
 use Rattle.std.specs.Cow.{cow_str_bytes}
-use Rattle.yaml_text.specs.Core.{wrong_kind, by_tag}
+use Rattle.yaml_text.specs.Core.{wrong_kind}
 use Rattle.yaml_text.specs.Tag.{str_tag}
 use Rattle.yaml_text.proofs.CoreLaws.{wrong}
 use Rattle.yaml_core.specs.Answer.{RefusesScalar}
-use Rattle.yaml_core.specs.Kind.{use_of}
 use Rattle.yaml_core.specs.declared.tag.TagUse.{TagUse}
-use Rattle.yaml_core.specs.declared.tag.TagUse.TheVariants as uses
 use Rattle.yaml_core.proofs.ResolveLemmas.{UsedBy, tag_is, str_kind}
 use Rattle.yaml_core.proofs.scalar.by_tag.Goals as goal
 

@@ -1,4 +1,4 @@
-use Rattle.std.proofs.Common.{◌+◌, ◌/◌, ◌%◌, [], ◌∷◌, ◌++◌, sym, ◌∙◌, ap, arith, append_assoc}
+use Rattle.std.proofs.Common.{◌+◌, ◌/◌, ◌%◌, [], ◌∷◌, ◌++◌, sym, ◌∙◌, ap, append_assoc}
 use Rattle.std.specs.String.{string_bytes}
 use Rattle.yaml_text.specs.Core.{natural_text}
 use Rattle.yaml_core.proofs.NumberLemmas.{natural_digit, natural_more}

@@ -1,4 +1,4 @@
-use Rattle.std.proofs.Common.{◌+◌, List, ℕ, length, drop, refl, sym, ◌∙◌, ap, arith, get_or}
+use Rattle.std.proofs.Common.{length, drop, sym, ◌∙◌, ap, arith}
 use Rattle.std.proofs.lemmas.Str.{IsCharBoundary-from_ascii}
 use Rattle.std.proofs.lemmas.List.{drop_all}
 use Rattle.yaml_core.specs.Digits.{without_zeros}

@@ -1,4 +1,4 @@
-use Rattle.std.proofs.Common.{◌∷◌, refl, ap}
+use Rattle.std.proofs.Common.{◌∷◌, ap}
 use Rattle.yaml_core.specs.State.{meaning}
 use Rattle.yaml_core.proofs.form.State.step.Goals as goal
 
