@@ -1,0 +1,3 @@
+pub mod Pushes
+pub mod TagText
+pub mod ValueText

@@ -1,0 +1,40 @@
+//! The values of event lines: a scalar's text, in which five characters are escaped.
+ghost use Rattle.std.specs.Prelude.{◌≡◌, ◌<◌, ◌++◌, [], ◌∷◌, MatchOption, OnOk};
+ghost use Rattle.std.specs.String.{string_bytes};
+ghost use Rattle.std.specs.Cow.{cow_str_bytes};
+ghost use Rattle.yaml_text.specs.EventText.{value_byte, value_text};
+ghost use Rattle.yaml_events.specs.Answer.{Reads};
+
+use crate::fault::LineFault;
+use std::alloc::{AllocError, Global};
+use std::borrow::CowStr;
+
+/// The escape of a byte that no value has as itself.
+#[tactic(auto, unfolding(yaml_text::specs::EventText::value_byte))]
+fn escape_of(byte: u8) -> Option<&'static str>
+    ensures { MatchOption result (value_byte byte ≡ byte ∷ []) (λ text. (text.now ≡ value_byte byte) × (byte < 128)) }
+{
+    match byte {
+        b'\\' => Some("\\\\"),
+        b'\n' => Some("\\n"),
+        b'\t' => Some("\\t"),
+        b'\r' => Some("\\r"),
+        0x08 => Some("\\b"),
+        _ => None,
+    }
+}
+
+/// Appends a text as a value, by runs of what stands for itself.
+pub fn push_value(text: &str, out: &mut String) -> Result<(), AllocError>
+    ensures { OnOk result (string_bytes out.new ≡ string_bytes out.old ++ value_text text.now) }
+{
+    let mut run = 0;
+    'spell: for (at, byte) in text.as_bytes().iter().enumerate() {
+        if let Some(escape) = escape_of(*byte) {
+            out.push_str(&text[run..at])?;
+            out.push_str(escape)?;
+            run = at + 1;
+        }
+    }
+    out.push_str(&text[run..])
+}
