@@ -1,3 +1,4 @@
 pub mod Pushes
 pub mod TagText
 pub mod ValueText
+pub mod LineText
