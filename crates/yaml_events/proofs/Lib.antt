@@ -1,4 +1,5 @@
 pub mod Pushes
 pub mod TagText
 pub mod ValueText
+pub mod ValueReading
 pub mod LineText

@@ -27,7 +27,7 @@ use Rattle.yaml_text.proofs.ProperLaws.{utf8_bytes, low}
 
 -- ---- names: no space and no LF stands in them
 
-abbrev Inner : List ℕ → Type 0
+abbrev pub Inner : List ℕ → Type 0
 Inner [] = Unit {0}
 Inner (b ∷ bs) = (b ≡ 32 → ⊥) × (b ≡ 10 → ⊥) × Inner bs
 
@@ -62,7 +62,7 @@ inner_encodes (c ∷ cs) h k =
     (λ e. let f : is_name 10 ≡ true = subst (λ z. is_name z ≡ true) e n in let g = sym f ∙ name_no_feed in absurd (cc)))
     (inner_encodes cs p.1 q.1)
 
-inner_name : (name : List ℕ) → IsAnchor name → Inner name
+pub inner_name : (name : List ℕ) → IsAnchor name → Inner name
 unfolding is_anchor
 inner_name name h =
     let p = and_both (is_utf8 name) (nat_le 1 (length name) && list_all is_anchor_char (chars name)) h in
@@ -71,7 +71,7 @@ inner_name name h =
     subst Inner (encodes-chars name u) (inner_encodes (chars name) (scalars-chars name u) q.1)
 
 -- where a name ends
-abbrev Ends : List ℕ → Type 0
+abbrev pub Ends : List ℕ → Type 0
 Ends [] = ⊥
 Ends (c ∷ cs) = (c ≡ 32) ⊎ (c ≡ 10)
 
@@ -79,7 +79,7 @@ no_end : (x : ℕ) (xs r : List ℕ) → Inner (x ∷ xs) → Ends (x ∷ r) →
 no_end x xs r m (inl e) = m.0 e
 no_end x xs r m (inr e) = m.1 e
 
-name_once : (xs ys r s : List ℕ) → Inner xs → Inner ys → Ends r → Ends s → xs ++ r ≡ ys ++ s → (xs ≡ ys) × (r ≡ s)
+pub name_once : (xs ys r s : List ℕ) → Inner xs → Inner ys → Ends r → Ends s → xs ++ r ≡ ys ++ s → (xs ≡ ys) × (r ≡ s)
 name_once [] [] r s m n a b e = (refl, e)
 name_once [] (y ∷ ys) r s m n a b e = absurd (no_end y ys (ys ++ s) n (subst Ends e a))
 name_once (x ∷ xs) [] r s m n a b e = absurd (no_end x xs (xs ++ r) m (subst Ends (sym e) b))
@@ -202,18 +202,18 @@ end_flag true true r s e = (refl, tails (tails (tails (tails (tails e)))))
 
 -- ---- values
 
-abbrev read_escape : List ℕ → ℕ × List ℕ
+abbrev pub read_escape : List ℕ → ℕ × List ℕ
 read_escape [] = (0, [])
 read_escape (c ∷ r) = (cond (c == 110) 10 (cond (c == 116) 9 (cond (c == 114) 13 (cond (c == 98) 8 92))), r)
 
-abbrev read_value : List ℕ → ℕ × List ℕ
+abbrev pub read_value : List ℕ → ℕ × List ℕ
 read_value [] = (0, [])
 read_value (c ∷ r) = cond (c == 92) (read_escape r) (c, r)
 
-abbrev Back : ℕ → List ℕ → List ℕ → Type 0
+abbrev pub Back : ℕ → List ℕ → List ℕ → Type 0
 Back b r z = read_value (z ++ r) ≡ (b, r)
 
-read_spelled : (b : ℕ) (r : List ℕ) → Back b r (value_byte b)
+pub read_spelled : (b : ℕ) (r : List ℕ) → Back b r (value_byte b)
 unfolding value_byte
 read_spelled b r =
     cond_both (b == 92) _ _ (Back b r) (λ e. ap (λ z. (z, r)) (sym (eqb-true b 92 e))) (λ n.
