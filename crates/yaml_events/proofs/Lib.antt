@@ -3,3 +3,6 @@ pub mod TagText
 pub mod ValueText
 pub mod ValueReading
 pub mod LineText
+pub mod Names
+pub mod Tags
+pub mod Reading

@@ -1,5 +1,7 @@
 -- What the reading of an event text, and of its parts, answers.
 use Rattle.std.specs.Prelude.{◌≡◌, ℕ, List, Result, Ok, Err}
+use Rattle.percent_encoding.specs.declared.DecodeError.{DecodeError}
+use Rattle.percent_encoding.specs.declared.DecodeError.TheVariants as decoding
 use Rattle.yaml_events.specs.declared.fault.EventFault.{EventFault}
 use Rattle.yaml_events.specs.declared.fault.EventFault.TheVariants as text_faults
 use Rattle.yaml_events.specs.declared.fault.LineFault.{LineFault}
@@ -10,6 +12,11 @@ use Rattle.yaml_events.specs.Lines.{IsFirstBadLine}
 abbrev pub fault_of : LineFault → ℕ → EventFault
 fault_of NoEvent number = text_faults.BadLine number
 fault_of OutOfMemory number = text_faults.OutOfMemory
+
+-- bytes that are not UTF-8 make no tag
+abbrev pub decoding_fault : DecodeError → LineFault
+decoding_fault (decoding.Utf8 place) = NoEvent
+decoding_fault decoding.OutOfMemory = OutOfMemory
 
 -- A bad line is the first one; of want of memory nothing is said.
 abbrev pub IsRefused : List ℕ → EventFault → Type 0

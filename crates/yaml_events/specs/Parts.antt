@@ -1,12 +1,56 @@
--- The parts of an event line.
-use Rattle.std.specs.Prelude.{◌≡◌, ◌<◌, ℕ, List, [], ◌∷◌, ◌++◌, codes}
-use Rattle.yaml_text.specs.Event.{Event, Style, WrittenTag, untagged, non_specific, full, Anchor}
+-- The parts of an event line: what each is, and what may be expected after it.
+use Rattle.std.specs.Prelude.{◌≡◌, ◌≢◌, ℕ, Bool, All, List, [], ◌∷◌, ◌++◌}
+use Rattle.yaml_text.specs.Event.{Event, Style, WrittenTag, Anchor, scalar_event, sequence_start, mapping_start}
 use Rattle.yaml_text.specs.Sound.{SoundTag, SoundAnchor}
+use Rattle.yaml_text.specs.Tag.{IsTag}
 use Rattle.yaml_text.specs.TagText.{encoded}
-use Rattle.yaml_text.specs.EventText.{anchor_part, tag_part, style_text, value_text, event_line, IsSound}
+use Rattle.yaml_text.specs.EventText.{anchor_part, tag_part, style_text, value_text, flag_text, event_line, IsSound}
 
--- what stands between the angle brackets
-abbrev pub IsBracketed : List ℕ → WrittenTag → Type 0
-IsBracketed text untagged = ⊥
-IsBracketed text non_specific = text ≡ codes "!"
-IsBracketed text (full g) = SoundTag (full g) × (text ≡ encoded g [])
+-- it is empty, or begins with a space
+abbrev pub StartsApart : List ℕ → Type 0
+StartsApart [] = Unit {0}
+StartsApart (c ∷ r) = c ≡ 32
+
+-- the same, and this sign does not stand after the space
+abbrev pub StartsWithout : ℕ → List ℕ → Type 0
+StartsWithout sign [] = Unit {0}
+StartsWithout sign (c ∷ []) = c ≡ 32
+StartsWithout sign (c ∷ d ∷ r) = (c ≡ 32) × (d ≡ sign → ⊥)
+
+-- the text is cut before its first space, or at its end
+abbrev pub IsCutAtSpace : List ℕ → List ℕ → List ℕ → Type 0
+IsCutAtSpace text front back = (text ≡ front ++ back) × All (λ b. b ≢ 32) front × StartsApart back
+
+-- an anchor, if there is one, and what follows it
+abbrev pub IsAnchored : List ℕ → (Anchor × List ℕ) → Type 0
+IsAnchored text p = SoundAnchor p.0 × (text ≡ anchor_part p.0 ++ p.1)
+
+abbrev pub EndsAnchor : (Anchor × List ℕ) → Type 0
+EndsAnchor p = StartsWithout 38 p.1
+
+-- a tag, if there is one, and what follows it
+abbrev pub IsTagged : List ℕ → (WrittenTag × List ℕ) → Type 0
+IsTagged text p = SoundTag p.0 × (text ≡ tag_part p.0 ++ p.1)
+
+abbrev pub EndsTag : (WrittenTag × List ℕ) → Type 0
+EndsTag p = StartsWithout 60 p.1
+
+-- a full tag, percent-encoded
+abbrev pub IsEncoded : List ℕ → List ℕ → Type 0
+IsEncoded text g = IsTag g × (text ≡ encoded g [])
+
+-- a style and a text, as a value has them
+abbrev pub IsStyled : List ℕ → (Style × List ℕ) → Type 0
+IsStyled text p = text ≡ style_text p.0 ++ value_text p.1
+
+-- whether a flow mark stands there, and the properties after it, up to the end
+abbrev pub IsCollection : List ℕ → List ℕ → (Bool × Anchor × WrittenTag) → Type 0
+IsCollection mark text p = SoundAnchor p.1 × SoundTag p.2 × (text ≡ flag_text p.0 mark ++ (anchor_part p.1 ++ tag_part p.2))
+
+-- a scalar from its properties on
+abbrev pub IsScalarLine : List ℕ → (Anchor × WrittenTag × Style × List ℕ) → Type 0
+IsScalarLine text p = SoundAnchor p.0 × SoundTag p.1 × (text ≡ anchor_part p.0 ++ (tag_part p.1 ++ (style_text p.2 ++ value_text p.3)))
+
+-- a line and its event
+abbrev pub IsLineOf : List ℕ → Event → Type 0
+IsLineOf line e = IsSound e × (line ≡ event_line e)

@@ -2,6 +2,7 @@
 ghost use Rattle.std.specs.Prelude.{◌≡◌};
 ghost use Rattle.yaml_events.specs.Answer.{fault_of};
 
+use percent_encoding::DecodeError;
 use std::alloc::{AllocError, AllocFailed};
 use thiserror::Error;
 
@@ -41,6 +42,19 @@ impl From<AllocError> for LineFault {
 
     fn from(_error: AllocError) -> LineFault {
         LineFault::OutOfMemory
+    }
+}
+
+impl From<DecodeError> for LineFault {
+    ghost use Rattle.yaml_events.specs.Answer.{decoding_fault};
+
+    ghost from_gives = { λ d e. e ≡ decoding_fault d };
+
+    fn from(fault: DecodeError) -> LineFault {
+        match fault {
+            DecodeError::OutOfMemory => LineFault::OutOfMemory,
+            DecodeError::Utf8(_place) => LineFault::NoEvent,
+        }
     }
 }
 

@@ -111,7 +111,7 @@ mark_is : (s : List ℕ) → encoded (33 ∷ []) (62 ∷ s) ≡ 33 ∷ 62 ∷ s
 unfolding spell_byte is_uri is_word
 mark_is s = refl
 
-bytes_of_tag : (g : List ℕ) → IsTag g → AreBytes g
+pub bytes_of_tag : (g : List ℕ) → IsTag g → AreBytes g
 unfolding is_full
 bytes_of_tag g h = utf8_bytes g (and_both (is_utf8 g) _ h).0
 
@@ -127,7 +127,7 @@ not_mark g h e =
 full_once : (g h r s : List ℕ) → IsTag g → IsTag h → encoded g (62 ∷ []) ++ r ≡ encoded h (62 ∷ []) ++ s → (g ≡ h) × (r ≡ s)
 full_once g h r s m n e = encoded_once g h r s (bytes_of_tag g m) (bytes_of_tag h n) (sym (encoded_more g (62 ∷ []) r) ∙ (e ∙ encoded_more h (62 ∷ []) s))
 
-full_mark : (g r s : List ℕ) → IsTag g → encoded g (62 ∷ []) ++ r ≡ 33 ∷ 62 ∷ s → ⊥
+pub full_mark : (g r s : List ℕ) → IsTag g → encoded g (62 ∷ []) ++ r ≡ 33 ∷ 62 ∷ s → ⊥
 full_mark g r s m e =
     not_mark g m (encoded_once g (33 ∷ []) r s (bytes_of_tag g m) (omega arith, tt) (sym (encoded_more g (62 ∷ []) r) ∙ (e ∙ sym (mark_is s)))).0
 
