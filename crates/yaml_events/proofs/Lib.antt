@@ -6,3 +6,5 @@ pub mod LineText
 pub mod Names
 pub mod Tags
 pub mod Reading
+pub mod Lines
+pub mod FirstBad

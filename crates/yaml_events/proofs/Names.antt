@@ -1,12 +1,12 @@
 -- Names, and texts that are cut at a space.
-use Rattle.std.proofs.Common.{◌≡◌, ◌≢◌, ◌==◌, ℕ, zero, suc, Bool, true, false, not, ◌&&◌, nat_le, ◌<◌, ◌≤◌, ◌+◌, ◌⊎◌, inl, inr, List, [], ◌∷◌, ◌++◌, length, take, drop, get_or, refl, sym, ap, ◌∙◌, subst, arith}
+use Rattle.std.proofs.Common.{◌≡◌, ◌≢◌, ◌==◌, ℕ, Bool, true, false, not, ◌&&◌, nat_le, ◌<◌, List, [], ◌∷◌, ◌++◌, length, take, drop, get_or, refl, sym, ap, ◌∙◌, subst, arith}
 use Rattle.std.specs.List.{list_all, All}
 use Rattle.std.specs.Str.{IsUtf8, chars, is_utf8}
 use Rattle.std.specs.Char.{encode_utf8}
 use Rattle.std.proofs.lemmas.Bool.Decides.{nat_tests}
-use Rattle.std.proofs.lemmas.List.{append-nil, take-append-drop, drop_more, length-take-le, get_or-take}
+use Rattle.std.proofs.lemmas.List.{take-append-drop, drop_more, length-take-le, get_or-take}
 use Rattle.std.proofs.lemmas.List.Elements.{All-from_get_or, All-head, All-tail}
-use Rattle.std.proofs.lemmas.Str.{is_utf8-from_IsUtf8, chars_past_char, chars-nil}
+use Rattle.std.proofs.lemmas.Str.{is_utf8-from_IsUtf8, chars_past_char}
 use Rattle.yaml_text.specs.Sound.{is_anchor, is_anchor_char, IsAnchor, SoundAnchor}
 use Rattle.yaml_text.proofs.CharLaws.{heads, tails}
 use Rattle.yaml_text.proofs.EventTextLaws.{Inner, inner_name}
@@ -42,10 +42,11 @@ is_a_name text empty u e f =
 -- ---- a cut at a space
 
 pub cut_some : (text front back : List ℕ) (at : ℕ) → at < length text → get_or text at 0 ≡ 32 → ((i : ℕ) → i < at → get_or text i 0 ≢ 32) → front ≡ take at text → back ≡ drop at text → IsCutAtSpace text front back
-cut_some text front back at h e m f b =
-    ( sym (take-append-drop at text) ∙ ap (λ x. x ++ drop at text) (sym f) ∙ ap (λ x. front ++ x) (sym b)
-    , All-from_get_or (λ b. b ≢ 32) front 0 (subst (λ x. (i : ℕ) → i < length x → get_or x i 0 ≢ 32) (sym f) (λ i k. let n : i < at = omega (arith, length-take-le at text (omega arith)) in λ q. m i n (sym (get_or-take at text i 0 n) ∙ q)))
-    , subst StartsApart (sym (b ∙ drop_more text at 0 h)) e )
+cut_some text front back at h e m f b = (
+  sym (take-append-drop at text) ∙ ap (λ x. x ++ drop at text) (sym f) ∙ ap (λ x. front ++ x) (sym b),
+  All-from_get_or (λ b. b ≢ 32) front 0 (subst (λ x. (i : ℕ) → i < length x → get_or x i 0 ≢ 32) (sym f) (λ i k. let n : i < at = omega (arith, length-take-le at text (omega arith)) in λ q. m i n (sym (get_or-take at text i 0 n) ∙ q))),
+  subst StartsApart (sym (b ∙ drop_more text at 0 h)) e,
+)
 
 apart : (sign : ℕ) (s : List ℕ) → StartsWithout sign s → StartsApart s
 apart sign [] h = tt

@@ -1,7 +1,7 @@
 -- What is refused in a part is refused in the whole.
-use Rattle.std.proofs.Common.{◌≡◌, Result, Err, sym, subst}
-use Rattle.std.specs.Prelude.{Ok}
+use Rattle.std.proofs.Common.{◌≡◌, Result, Err, sym, ap, ◌∙◌, subst}
 use Rattle.std.specs.Result.{IsErrAnd}
+use Rattle.std.proofs.lemmas.Result.{err_from_is_err_and}
 use Rattle.yaml_events.specs.Answer.{Reads}
 use Rattle.yaml_events.specs.declared.fault.LineFault.{LineFault}
 use Rattle.yaml_events.specs.declared.fault.LineFault.TheVariants.{NoEvent, OutOfMemory}
@@ -19,13 +19,13 @@ refused : {T A : Type 0} (Is Expected : A → Type 0) (view : T → A) (e : Line
 refused Is Expected view NoEvent h = h
 refused Is Expected view OutOfMemory h = tt
 
-refusal : {T A : Type 0} (Is Expected : A → Type 0) (view : T → A) (e : LineFault) → Reads Is Expected view (Err e) → Refuses e Expected
+pub refusal : {T A : Type 0} (Is Expected : A → Type 0) (view : T → A) (e : LineFault) → Reads Is Expected view (Err e) → Refuses e Expected
 refusal Is Expected view NoEvent h = h
 refusal Is Expected view OutOfMemory h = tt
 
 -- A part's refusal is passed on: wherever the whole may be expected, so may the part.
 pub passed_on : {T U A B : Type 0} (Is Expected : A → Type 0) (view : T → A) (Part Wanted : B → Type 0) (of_part : U → B) (r : Result T LineFault) (e : LineFault)
     → IsErrAnd r (λ x. x ≡ e) → Reads Part Wanted of_part (Err e) → ((a : A) → Expected a → (b : B) × Wanted b) → Reads Is Expected view r
-passed_on Is Expected view Part Wanted of_part (Ok x) e h p f = absurd h
-passed_on Is Expected view Part Wanted of_part (Err x) e h p f =
-    subst (λ z. Reads Is Expected view (Err z)) (sym h) (refused Is Expected view e (refuses_for e Wanted Expected (refusal Part Wanted of_part e p) f))
+passed_on Is Expected view Part Wanted of_part r e was p f =
+    let q = err_from_is_err_and r was in
+    subst (Reads Is Expected view) (sym (q.1 ∙ ap Err q.2)) (refused Is Expected view e (refuses_for e Wanted Expected (refusal Part Wanted of_part e p) f))

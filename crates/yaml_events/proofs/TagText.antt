@@ -1,15 +1,14 @@
 -- Percent-encoding by the set of this crate is the spelling of tags.
-use Rattle.std.proofs.Common.{◌≡◌, ◌<◌, ℕ, zero, suc, ◌+◌, ◌==◌, Bool, true, false, ◌&&◌, List, [], ◌∷◌, ◌++◌, refl, sym, ap, ◌∙◌, subst, arith, append_assoc}
+use Rattle.std.proofs.Common.{◌≡◌, ◌<◌, ℕ, zero, suc, ◌==◌, Bool, true, false, ◌&&◌, List, [], ◌∷◌, ◌++◌, refl, ap, ◌∙◌, subst, arith, append_assoc}
 use Rattle.std.specs.Prelude.{bytes_eq}
 use Rattle.std.proofs.lemmas.Bool.Decides.{nat_tests}
-use Rattle.std.proofs.lemmas.List.{append-nil}
 use lib.Pointwise.{bytes_decides}
 use Rattle.percent_encoding.specs.Percent.{percent_encode, percent_encode_byte, encode_byte}
 use Rattle.percent_encoding.specs.AsciiSet.{should_percent_encode}
 use Rattle.yaml_text.specs.grammar.Characters.{is_uri, is_word}
 use Rattle.yaml_text.specs.TagText.{spell_byte, encoded}
 use Rattle.yaml_text.proofs.Members.{and_both}
-use Rattle.yaml_text.proofs.TagLaws.{AreBytes, encoded_more}
+use Rattle.yaml_text.proofs.TagLaws.{AreBytes}
 use Rattle.yaml_events.specs.declared.tag.TheConstants.{ESCAPED}
 
 -- a test of all numbers below one
@@ -23,8 +22,8 @@ below p zero i h l = absurd (omega arith)
 below p (suc n) i h l =
     let q = and_both (p n) (all_below p n) h in
     elim (i == n) as (λ v. (i == n) ≡ v → p i ≡ true) [
-      true ↦ λ e. let f : n ≡ i = grind (arith, nat_tests) in subst (λ z. p z ≡ true) f q.0
-    | false ↦ λ e. let k : i < n = grind (arith, nat_tests) in below p n i q.1 k
+      | true ↦ λ e. let f : n ≡ i = grind (arith, nat_tests) in subst (λ z. p z ≡ true) f q.0
+      | false ↦ λ e. let k : i < n = grind (arith, nat_tests) in below p n i q.1 k
     ] refl
 
 abbrev is_alike : ℕ → Bool

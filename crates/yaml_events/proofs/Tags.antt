@@ -1,10 +1,19 @@
 -- Full tags and their percent-encodings.
-use Rattle.std.proofs.Common.{◌≡◌, ◌≢◌, ◌/◌, ◌%◌, nat_lt, cond, append_assoc, ◌<◌, ◌≤◌, ℕ, Bool, true, false, not, ◌&&◌, ◌==◌, nat_le, List, [], ◌∷◌, ◌++◌, length, refl, sym, ap, ◌∙◌, subst, arith}
-use Rattle.std.specs.Prelude.{bytes_eq}
+use Rattle.std.proofs.Common.{◌≡◌, ◌≢◌, ◌/◌, ◌%◌, nat_lt, ℕ, Bool, true, false, not, ◌&&◌, ◌==◌, nat_le, List, [], ◌∷◌, ◌++◌, length, refl, sym, ap, ◌∙◌, subst, arith}
+use Rattle.std.specs.Prelude.{bytes_eq, IsTrue, ◌↔◌, Result, Err}
+use Rattle.std.specs.declared.borrow.CowStr.{CowStr}
+use Rattle.std.proofs.Common.{Global}
+use Rattle.std.specs.Result.{IsErrAnd}
+use Rattle.std.specs.Cow.{cow_str_bytes}
+use Rattle.std.proofs.lemmas.Result.{err_from_is_err_and}
+use Rattle.percent_encoding.specs.declared.DecodeError.{DecodeError}
+use Rattle.percent_encoding.specs.declared.DecodeError.TheVariants as decoding
+use Rattle.yaml_events.specs.declared.fault.LineFault.{LineFault}
+use Rattle.yaml_events.specs.Answer.{Reads, decoding_fault}
 use Rattle.std.specs.Str.{IsUtf8, is_utf8}
 use Rattle.std.specs.List.{All}
 use Rattle.std.proofs.lemmas.List.{append-nil}
-use Rattle.std.proofs.lemmas.List.Elements.{All-nil, All-cons, All-head, All-tail, All-from_get_or}
+use Rattle.std.proofs.lemmas.List.Elements.{All-nil, All-cons, All-head, All-tail}
 use Rattle.std.proofs.lemmas.Bool.{cond_both}
 use lib.Pointwise.{bytes_decides}
 use Rattle.percent_encoding.specs.Percent.{percent_encode, percent_decode}
@@ -18,7 +27,7 @@ use Rattle.yaml_text.specs.Sound.{SoundTag}
 use Rattle.yaml_text.specs.TagText.{spell_byte, encoded}
 use Rattle.yaml_text.proofs.CharLaws.{heads, tails}
 use Rattle.yaml_text.proofs.Members.{and_both}
-use Rattle.yaml_text.proofs.TagLaws.{AreBytes, encoded_more, encoded_once}
+use Rattle.yaml_text.proofs.TagLaws.{AreBytes, encoded_more}
 use Rattle.yaml_text.proofs.EventTextLaws.{bytes_of_tag, full_mark}
 use Rattle.yaml_events.specs.Parts.{IsEncoded, IsTagged, EndsTag, StartsWithout}
 use Rattle.yaml_events.specs.declared.tag.TheConstants.{ESCAPED}
@@ -60,6 +69,23 @@ pub tag_utf8 : (g : List ℕ) → IsTag g → IsUtf8 g
 unfolding is_full
 tag_utf8 g h = IsUtf8-from_is_utf8 g (and_both (is_utf8 g) (nat_le 1 (length g) && (nat_le (length g) tag_limit && not (bytes_eq g (33 ∷ [])))) h).0
 
+pub encoding_tells : (b : Bool) (given text tag : List ℕ) → b ≡ bytes_eq given text → given ≡ encoded tag [] → IsTrue b ↔ (text ≡ encoded tag [])
+encoding_tells b given text tag e f = (
+  λ h. sym ((bytes_decides given text).0 (sym e ∙ h)) ∙ f,
+  λ h. e ∙ (bytes_decides given text).1 (f ∙ sym h),
+)
+
+-- bytes that are no UTF-8 are no encoding of a tag
+pub undecoded : (text given : List ℕ) (r : Result (CowStr Global) LineFault) (e : DecodeError) → percent_decode given ≡ percent_decode text → IsErrAnd r (λ x. x ≡ decoding_fault e) → (IsUtf8 (percent_decode given) → e ≡ decoding.OutOfMemory)
+    → Reads (IsEncoded text) (IsEncoded text) cow_str_bytes r
+undecoded text given r e s was h =
+    let q = err_from_is_err_and r was in
+    subst (Reads (IsEncoded text) (IsEncoded text) cow_str_bytes) (sym (q.1 ∙ ap Err q.2)) (by e h)
+  where
+    by : (e : DecodeError) → (IsUtf8 (percent_decode given) → e ≡ decoding.OutOfMemory) → Reads {T = CowStr Global} (IsEncoded text) (IsEncoded text) cow_str_bytes (Err (decoding_fault e))
+    by (decoding.Utf8 place) f = λ a p. let q = f (subst IsUtf8 (sym (decoded_is text a p) ∙ sym s) (tag_utf8 a p.0)) in absurd (cc)
+    by decoding.OutOfMemory f = tt
+
 -- ---- what stands before the closing bracket
 
 abbrev NoClose : List ℕ → Type 0
@@ -86,7 +112,7 @@ unfolding spell_byte is_uri is_word
 spelled_no_close b more h =
     let P : ℕ → Type 0 = λ b. b ≢ 62 in
     cond_both (is_uri b) _ _ (λ z. NoClose (z ++ more)) (λ e. All-cons P b more (λ q. let f : is_uri 62 ≡ true = subst (λ z. is_uri z ≡ true) q e in absurd (cc)) h)
-    (λ e. All-cons P 37 _ (λ q. omega arith) (All-cons P _ _ (digit_no_close (b / 16)) (All-cons P _ _ (digit_no_close (b % 16)) h)))
+    (λ e. All-cons P 37 (hex_digit (b / 16) ∷ hex_digit (b % 16) ∷ more) (λ q. omega arith) (All-cons P (hex_digit (b / 16)) (hex_digit (b % 16) ∷ more) (digit_no_close (b / 16)) (All-cons P (hex_digit (b % 16)) more (digit_no_close (b % 16)) h)))
 
 encoded_no_close : (g : List ℕ) → NoClose (encoded g [])
 encoded_no_close [] = All-nil (λ b. b ≢ 62)

@@ -1,7 +1,6 @@
 -- What a value stands for.
-use Rattle.std.proofs.Common.{◌≡◌, ◌≢◌, Bool, true, false, ◌==◌, ◌⊎◌, inl, inr, ◌<◌, ◌≤◌, ◌-◌, ◌+◌, ℕ, List, [], ◌∷◌, ◌++◌, length, take, drop, get_or, refl, sym, ap, ◌∙◌, subst, arith, append_assoc}
-use Rattle.std.proofs.lemmas.Bool.{cond_both, eqb-true}
-use Rattle.std.proofs.lemmas.Bool.Decides.{nat_tests}
+use Rattle.std.proofs.Common.{◌≡◌, Bool, true, false, ◌==◌, ◌⊎◌, inl, inr, ◌<◌, ◌≤◌, ◌-◌, ◌+◌, ℕ, List, [], ◌∷◌, ◌++◌, length, take, drop, get_or, refl, sym, ap, ◌∙◌, subst, arith, append_assoc}
+use Rattle.std.proofs.lemmas.Bool.{cond_both}
 use Rattle.std.proofs.lemmas.List.{append-nil, take_all, take_more, drop_more, take-append-drop, length-drop}
 use Rattle.std.specs.Prelude.{MatchOption, Option, Some, None, is_some, String}
 use Rattle.std.proofs.Common.{Global}
@@ -9,7 +8,7 @@ use Rattle.std.specs.String.{string_bytes}
 use Rattle.yaml_text.specs.EventText.{value_byte, value_text}
 use Rattle.yaml_text.proofs.CharLaws.{heads, tails}
 use Rattle.yaml_text.proofs.EventTextLaws.{read_value, read_spelled}
-use Rattle.yaml_events.proofs.ValueText.{value_append, value_more, run_more}
+use Rattle.yaml_events.proofs.ValueText.{value_append, run_more}
 
 -- a value begins with one byte's text alone
 byte_once : (b c : ℕ) (r s : List ℕ) → value_byte b ++ r ≡ value_byte c ++ s → (b ≡ c) × (r ≡ s)
@@ -130,11 +129,12 @@ refused_end text out a at start h r f =
 pub reading_escape : (text out new pushed : List ℕ) (at start b c : ℕ) → at < length text → b ≡ get_or text at 0 → value_byte c ≡ 92 ∷ b ∷ [] → pushed ≡ c ∷ [] → new ≡ out ++ pushed
     → IsReading true text at start out → IsReading false text (at + 1) (at + 1) new
 reading_escape text out new pushed at start b c h e v p n r =
-    let z : at + 1 - (at + 1) ≡ 0 = omega arith in
-    ( ap (λ k. value_text (new ++ take k (drop (at + 1) text))) z ∙ ap value_text (append-nil new ∙ n ∙ ap (λ x. out ++ x) p) ∙ value_append out (c ∷ [])
-      ∙ ap (λ x. value_text out ++ x) (append-nil (value_byte c) ∙ v) ∙ sym (append_assoc (value_text out) (92 ∷ []) (b ∷ [])) ∙ ap (λ x. x ++ (b ∷ [])) r
-      ∙ ap (λ x. take at text ++ (x ∷ [])) e ∙ sym (take_more text at 0 h)
-    , λ q. absurd (omega arith) )
+    let z : at + 1 - (at + 1) ≡ 0 = omega arith in (
+      ap (λ k. value_text (new ++ take k (drop (at + 1) text))) z ∙ ap value_text (append-nil new ∙ n ∙ ap (λ x. out ++ x) p) ∙ value_append out (c ∷ [])
+          ∙ ap (λ x. value_text out ++ x) (append-nil (value_byte c) ∙ v) ∙ sym (append_assoc (value_text out) (92 ∷ []) (b ∷ [])) ∙ ap (λ x. x ++ (b ∷ [])) r
+          ∙ ap (λ x. take at text ++ (x ∷ [])) e ∙ sym (take_more text at 0 h),
+      λ q. absurd (omega arith),
+    )
 
 pub reading_mark : (text out new run : List ℕ) (at start after b : ℕ) → at < length text → b ≡ get_or text at 0 → b ≡ 92 → run ≡ take (at - start) (drop start text) → new ≡ out ++ run
     → IsReading false text at start out → IsReading true text (at + 1) after new
@@ -142,11 +142,12 @@ reading_mark text out new run at start after b h e m p n r =
     ap (λ x. value_text x ++ (92 ∷ [])) (n ∙ ap (λ x. out ++ x) p) ∙ ap (λ x. x ++ (92 ∷ [])) r.0 ∙ ap (λ x. take at text ++ (x ∷ [])) (sym m ∙ e) ∙ sym (take_more text at 0 h)
 
 pub reading_on : (text out : List ℕ) (at start b : ℕ) → start ≤ at → at < length text → b ≡ get_or text at 0 → value_byte b ≡ b ∷ [] → IsReading false text at start out → IsReading false text (at + 1) start out
-reading_on text out at start b l h e v r =
-    ( ap value_text (ap (λ x. out ++ x) (run_more text start at l h) ∙ sym (append_assoc out (take (at - start) (drop start text)) (get_or text at 0 ∷ [])))
+reading_on text out at start b l h e v r = (
+  ap value_text (ap (λ x. out ++ x) (run_more text start at l h) ∙ sym (append_assoc out (take (at - start) (drop start text)) (get_or text at 0 ∷ [])))
       ∙ value_append (out ++ take (at - start) (drop start text)) (get_or text at 0 ∷ []) ∙ ap (λ x. value_text (out ++ take (at - start) (drop start text)) ++ x) (append-nil (value_byte (get_or text at 0)))
-      ∙ ap (λ x. x ++ value_byte (get_or text at 0)) r.0 ∙ ap (λ x. take at text ++ x) (ap value_byte (sym e) ∙ v ∙ ap (λ x. x ∷ []) e) ∙ sym (take_more text at 0 h)
-    , r.1 )
+      ∙ ap (λ x. x ++ value_byte (get_or text at 0)) r.0 ∙ ap (λ x. take at text ++ x) (ap value_byte (sym e) ∙ v ∙ ap (λ x. x ∷ []) e) ∙ sym (take_more text at 0 h),
+  r.1,
+)
 
 -- at the end
 abbrev pub IsOnly : List ℕ → List ℕ → Type 0

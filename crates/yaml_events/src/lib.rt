@@ -2,10 +2,13 @@
 #![tactic(auto)]
 
 mod fault;
+mod line;
 mod name;
+mod reader;
 mod tag;
 mod value;
 mod writer;
 
 pub use fault::EventFault;
+pub use reader::read_event_text;
 pub use writer::write_events;

@@ -31,11 +31,7 @@ pub fn push_anchor(anchor: &Option<CowStr<'_>>, out: &mut String) -> Result<(), 
 fn is_name_char(c: char) -> bool
     ensures { result ≡ is_anchor_char c }
 {
-    is_printable(c)
-        && c != '\u{FEFF}'
-        && !is_break(c)
-        && !is_white(c)
-        && !is_flow_indicator(c)
+    is_printable(c) && c != '\u{FEFF}' && !is_break(c) && !is_white(c) && !is_flow_indicator(c)
 }
 
 /// Whether a text is a name: one or more characters of names.

@@ -17,10 +17,31 @@ use yaml_text::event::EventTag;
 use yaml_text::limits::tag_limit;
 
 /// The ASCII bytes that stand in no URI as themselves (YAML 1.2.2, 5.6); `%` is one.
-const ESCAPED: AsciiSet = ascii_set!(NON_ALPHANUMERIC
-    .remove(b'-').remove(b'#').remove(b';').remove(b'/').remove(b'?').remove(b':').remove(b'@').remove(b'&')
-    .remove(b'=').remove(b'+').remove(b'$').remove(b',').remove(b'_').remove(b'.').remove(b'!').remove(b'~')
-    .remove(b'*').remove(b'\'').remove(b'(').remove(b')').remove(b'[').remove(b']'));
+const ESCAPED: AsciiSet = ascii_set!(
+    NON_ALPHANUMERIC
+        .remove(b'-')
+        .remove(b'#')
+        .remove(b';')
+        .remove(b'/')
+        .remove(b'?')
+        .remove(b':')
+        .remove(b'@')
+        .remove(b'&')
+        .remove(b'=')
+        .remove(b'+')
+        .remove(b'$')
+        .remove(b',')
+        .remove(b'_')
+        .remove(b'.')
+        .remove(b'!')
+        .remove(b'~')
+        .remove(b'*')
+        .remove(b'\'')
+        .remove(b'(')
+        .remove(b')')
+        .remove(b'[')
+        .remove(b']')
+);
 
 /// Appends a tag, where there is one, after a space.
 pub fn push_tag(tag: &EventTag<'_>, out: &mut String) -> Result<(), AllocError>
@@ -59,11 +80,13 @@ fn decode<'a>(alloc: Global, text: &'a str) -> Result<CowStr<'a>, LineFault>
     ensures { Reads (IsEncoded text.now) (IsEncoded text.now) cow_str_bytes result }
 {
     let tag = percent_decode(text.as_bytes()).decode_utf8(alloc)?;
-    if is_full(tag.as_str()) && is_encoding(alloc, text, tag.as_str())? {
-        Ok(tag)
-    } else {
-        Err(LineFault::NoEvent)
+    if !is_full(tag.as_str()) {
+        return Err(LineFault::NoEvent);
     }
+    if !is_encoding(alloc, text, tag.as_str())? {
+        return Err(LineFault::NoEvent);
+    }
+    Ok(tag)
 }
 
 /// The tag that a text begins with, if it does, after a space, and what is left.

@@ -262,7 +262,7 @@ style_rest double r s e = tails (tails e)
 style_rest literal r s e = tails (tails e)
 style_rest folded r s e = tails (tails e)
 
-style_once : (y w : Style) (r s : List ℕ) → style_text y ++ r ≡ style_text w ++ s → (y ≡ w) × (r ≡ s)
+pub style_once : (y w : Style) (r s : List ℕ) → style_text y ++ r ≡ style_text w ++ s → (y ≡ w) × (r ≡ s)
 style_once y w r s e =
     let p : y ≡ w = sym (style_back y r) ∙ (ap style_of e ∙ style_back w s) in
     (p, style_rest w r s (subst (λ z. style_text z ++ r ≡ style_text w ++ s) p e))
@@ -277,11 +277,11 @@ style_follows folded r = (λ q. omega arith, λ q. omega arith, λ q. omega arit
 -- ---- lines
 
 -- the first three bytes tell the kind of event
-abbrev seen : List ℕ → ℕ
+abbrev pub seen : List ℕ → ℕ
 seen (a ∷ b ∷ c ∷ r) = a * 65536 + b * 256 + c
 seen _ = 0
 
-seen_more : (e : Event) (r : List ℕ) → seen (event_line e ++ r) ≡ seen (event_line e)
+pub seen_more : (e : Event) (r : List ℕ) → seen (event_line e ++ r) ≡ seen (event_line e)
 unfolding event_line
 seen_more stream_start r = refl
 seen_more stream_end r = refl
@@ -305,7 +305,7 @@ scalar_line : (a : Anchor) (g : WrittenTag) (y x r : List ℕ) → (anchor_part 
 scalar_line a g y x r =
     append_assoc (anchor_part a) (tag_part g ++ (y ++ x)) r ∙ ap (λ z. anchor_part a ++ z) (append_assoc (tag_part g) (y ++ x) r ∙ ap (λ z. tag_part g ++ z) (append_assoc y x r))
 
-line_once : (e f : Event) (r s : List ℕ) → IsSound e → IsSound f → event_line e ++ (10 ∷ r) ≡ event_line f ++ (10 ∷ s) → (e ≡ f) × (r ≡ s)
+pub line_once : (e f : Event) (r s : List ℕ) → IsSound e → IsSound f → event_line e ++ (10 ∷ r) ≡ event_line f ++ (10 ∷ s) → (e ≡ f) × (r ≡ s)
 unfolding event_line
 line_once stream_start stream_start r s m n e = (refl, tails (four e))
 line_once stream_end stream_end r s m n e = (refl, tails (four e))

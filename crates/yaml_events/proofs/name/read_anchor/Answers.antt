@@ -1,5 +1,4 @@
-use Rattle.std.proofs.Common.{◌≡◌, true, false, List, ℕ, ◌∷◌, sym, ap, ◌∙◌, refl}
-use Rattle.yaml_text.specs.Sound.{is_anchor}
+use Rattle.std.proofs.Common.{◌≡◌, true, false, ◌∷◌, sym, ap, ◌∙◌}
 use Rattle.yaml_events.proofs.Names.{anchor_is}
 use Rattle.yaml_events.proofs.name.read_anchor.Goals as goal
 
