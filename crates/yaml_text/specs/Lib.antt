@@ -28,3 +28,5 @@ pub mod Answer
 pub mod Fault
 pub mod grammar
 pub mod TextLaws
+pub mod Count
+pub mod CountedModel
