@@ -30,7 +30,10 @@ fn handles_of<'a>(
     alloc: Global,
     source: &Chars<'a>,
 ) -> Result<Option<(Handles<'a>, usize)>, Fault> {
-    if !is_border(source, 0) || !starts_line(source, 0) {
+    if !is_border(source, 0) {
+        return Ok(None);
+    }
+    if !starts_line(source, 0) {
         return Ok(None);
     }
     match accept(source, 0, '%') {
@@ -57,8 +60,10 @@ pub fn tag_at<'a>(
 /// What the call for tags answers, in words.
 fn tag_told(alloc: Global, source: &Chars<'_>, at: usize) -> Result<String, Fail> {
     match tag_at(alloc, source, at) {
-        Ok((EventTag::Full(tag), end)) => Ok(format!(in alloc; "{tag} ends at {end}")?),
-        Ok((_, end)) => Ok(format!(in alloc; "! ends at {end}")?),
+        Ok((tag, end)) => match tag {
+            EventTag::Full(text) => Ok(format!(in alloc; "{text} ends at {end}")?),
+            _ => Ok(format!(in alloc; "! ends at {end}")?),
+        },
         Err(fault) => Ok(format!(in alloc; "{fault}")?),
     }
 }
