@@ -104,7 +104,7 @@ module _ (cs : List ℕ) where
   closes_no_plain c q (inr (inl h)) f = no_first_head cs c q 93 h sign_bracket head_bracket f
   closes_no_plain c q (inr (inr h)) f = no_first_head cs c q 125 h sign_brace head_brace f
 
-  closes_no_later : (q : ℕ) → Closes cs q → Later cs flow_in q → ⊥
+  pub closes_no_later : (q : ℕ) → Closes cs q → Later cs flow_in q → ⊥
   closes_no_later q (inl h) l = no_later_inner cs flow_in q 44 h (λ e. omega (arith, e)) inner_comma l
   closes_no_later q (inr (inl h)) l = no_later_inner cs flow_in q 93 h (λ e. omega (arith, e)) inner_bracket l
   closes_no_later q (inr (inr h)) l = no_later_inner cs flow_in q 125 h (λ e. omega (arith, e)) inner_brace l

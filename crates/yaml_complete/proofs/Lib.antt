@@ -1,0 +1,5 @@
+pub mod Decisions
+pub mod BlockLoops
+pub mod FlowLoops
+pub mod KeyOrScalar
+pub mod PlainScalars
