@@ -3,3 +3,5 @@ pub mod BlockLoops
 pub mod FlowLoops
 pub mod KeyOrScalar
 pub mod PlainScalars
+pub mod Separations
+pub mod FlowStarts
