@@ -1,10 +1,11 @@
 -- The loops of a reader of block sequences and block mappings: what is left after each call, and when there is nothing left.
-use Rattle.std.proofs.Common.{◌≡◌, ℕ, ◌+◌, ◌≤◌, ◌<◌, ◌⊎◌, inl, inr, List, Some, refl, sym, ◌∙◌, ap, subst, arith}
-use Rattle.yaml_text.specs.grammar.Rules.{Rule, ◌◆◌, ◌▸◌, ◌◂◌, ◌∪◌, ◌⨾◌, chr, any, Spans, Stands, ahead}
+use Rattle.std.proofs.Common.{◌≡◌, ℕ, ◌+◌, ◌≤◌, ◌<◌, ◌⊎◌, inl, inr, List, false, Some, refl, sym, ◌∙◌, ap, subst, arith}
+use Rattle.yaml_text.specs.grammar.Rules.{Rule, ◌◆◌, ◌▸◌, ◌◂◌, ◌∪◌, ◌⨾◌, chr, any, given, seen, Spans, Stands, ahead}
 use Rattle.yaml_text.specs.grammar.Characters.{is_ns, is_space}
 use Rattle.yaml_text.specs.grammar.Separation.{block_out, block_key, indent, AtEnd, Mark}
 use Rattle.yaml_text.specs.grammar.Tags.{Handles}
-use Rattle.yaml_text.specs.Event.{Event}
+use Rattle.yaml_text.specs.Event.{Event, sequence_end, mapping_end}
+use Rattle.yaml_text.specs.grammar.Events.{Props, no_props, seq_start, map_start, wrapped}
 use Rattle.yaml_text.specs.grammar.Nodes.{Part, block_part, empty_rest, indented, seq_entry, map_entry, implicit_yaml_key, implicit_json_key, compact_seq, compact_map}
 use Rattle.yaml_scalar.proofs.LineRuns.{indent_place, indent_run}
 use Rattle.yaml_scalar.proofs.Runs.{run_same}
@@ -66,6 +67,21 @@ module _ (cs : List ℕ) where
 
   module _ (Wide : Type 0) (handles : Handles) (Open : Type 0) (inside : Part → Rule (List Event)) (k : ℕ) where
 
+    -- a collection from its first entry on, in column k, with these properties; without any it is a compact one
+    abbrev pub SequenceFrom : Props → Rule (List Event)
+    SequenceFrom o = given Open (seen (wrapped (seq_start false o) sequence_end) (seq_entry cs Wide handles Open inside k ⨾ any (indent cs k ▸ seq_entry cs Wide handles Open inside k)))
+
+    abbrev pub MappingFrom : Props → Rule (List Event)
+    MappingFrom o = given Open (seen (wrapped (map_start false o) mapping_end) (map_entry cs Wide handles Open inside k ⨾ any (indent cs k ▸ map_entry cs Wide handles Open inside k)))
+
+    pub compact_sequence : (i j : ℕ) (v : List Event) → compact_seq cs Wide handles Open inside k i j v → SequenceFrom no_props i j v
+    unfolding compact_seq
+    compact_sequence i j v r = r
+
+    pub compact_mapping : (i j : ℕ) (v : List Event) → compact_map cs Wide handles Open inside k i j v → MappingFrom no_props i j v
+    unfolding compact_map
+    compact_mapping i j v r = r
+
     -- ---- sequences: `read_sequence`, with `read_indented` and `next_dash`
 
     abbrev pub Indented : Rule (List Event)
@@ -110,18 +126,15 @@ module _ (cs : List ℕ) where
         (λ l s d. let a : l ≡ x + k = indent_place cs k x l s in let b : p ≡ x + k = indent_place cs k x p r in omega (arith, a, b))
 
     -- the first dash; what follows is as wide as both compact sequences and those of block nodes need it (`follow_less`, `follow_seq`)
-    pub sequence_first : (p x : ℕ) → Goes Indented InEntry (p + 1) Here x → Rest (compact_seq cs Wide handles Open inside k) InDashes p (any Dashes) InDashes x
-    unfolding compact_seq
-    sequence_first p x g = rest_rest (rest_given _ _ _ p) (rest_rest (rest_seen _ _ _ p) (rest_first (Dash cs k) dash_starts dash_there (entry_goes p x g)))
+    pub sequence_first : (o : Props) (p x : ℕ) → Goes Indented InEntry (p + 1) Here x → Rest (SequenceFrom o) InDashes p (any Dashes) InDashes x
+    sequence_first o p x g = rest_rest (rest_given _ _ _ p) (rest_rest (rest_seen _ _ _ p) (rest_first (Dash cs k) dash_starts dash_there (entry_goes p x g)))
 
-    pub sequence_no_first : (p : ℕ) → Refused Indented InEntry (p + 1) → Refused (compact_seq cs Wide handles Open inside k) InDashes p
-    unfolding compact_seq
-    sequence_no_first p n = rest_refused (rest_given _ _ _ p) (rest_refused (rest_seen _ _ _ p) (refused_first (Dash cs k) dash_starts dash_there (entry_refused p n)))
+    pub sequence_no_first : (o : Props) (p : ℕ) → Refused Indented InEntry (p + 1) → Refused (SequenceFrom o) InDashes p
+    sequence_no_first o p n = rest_refused (rest_given _ _ _ p) (rest_refused (rest_seen _ _ _ p) (refused_first (Dash cs k) dash_starts dash_there (entry_refused p n)))
 
     -- no more room
-    pub sequence_no_room : (p : ℕ) (E : End) → (Open → ⊥) → Refused (compact_seq cs Wide handles Open inside k) E p
-    unfolding compact_seq
-    sequence_no_room p E n = refused_given _ _ _ p n
+    pub sequence_no_room : (o : Props) (p : ℕ) (E : End) → (Open → ⊥) → Refused (SequenceFrom o) E p
+    sequence_no_room o p E n = refused_given _ _ _ p n
 
     -- a further dash
     pub sequence_more : (x p y : ℕ) → indent cs k x p → DashHere cs p → Goes Indented InEntry (p + 1) Here y → Rest (any Dashes) InDashes x (any Dashes) InDashes y
@@ -183,13 +196,11 @@ module _ (cs : List ℕ) where
       pair_line E x p r = rest_before (indent cs k) _ E (λ i. Unit {0}) x p (λ i j m v r e. tt)
           (λ l s d. let a : l ≡ x + k = indent_place cs k x l s in let b : p ≡ x + k = indent_place cs k x p r in omega (arith, a, b))
 
-      pub mapping_first : (p x y : ℕ) → Goes Keys (At Colon) p (At Colon) x → Goes Values InDashes x Here y → Rest (compact_map cs Wide handles Open inside k) InPairs p (any Pairs) InPairs y
-      unfolding compact_map
-      mapping_first p x y f g = rest_rest (rest_given _ _ _ p) (rest_rest (rest_seen _ _ _ p) (rest_first (KeyAt cs k) pair_starts key_there (pair_goes p x y f g)))
+      pub mapping_first : (o : Props) (p x y : ℕ) → Goes Keys (At Colon) p (At Colon) x → Goes Values InDashes x Here y → Rest (MappingFrom o) InPairs p (any Pairs) InPairs y
+      mapping_first o p x y f g = rest_rest (rest_given _ _ _ p) (rest_rest (rest_seen _ _ _ p) (rest_first (KeyAt cs k) pair_starts key_there (pair_goes p x y f g)))
 
-      pub mapping_no_key : (p : ℕ) → Refused Keys (At Colon) p → Refused (compact_map cs Wide handles Open inside k) InPairs p
-      unfolding compact_map
-      mapping_no_key p n = rest_refused (rest_given _ _ _ p) (rest_refused (rest_seen _ _ _ p) (refused_first (KeyAt cs k) pair_starts key_there (pair_no_key p n)))
+      pub mapping_no_key : (o : Props) (p : ℕ) → Refused Keys (At Colon) p → Refused (MappingFrom o) InPairs p
+      mapping_no_key o p n = rest_refused (rest_given _ _ _ p) (rest_refused (rest_seen _ _ _ p) (refused_first (KeyAt cs k) pair_starts key_there (pair_no_key p n)))
 
       pub mapping_more : (x p y z : ℕ) → indent cs k x p → KeyHere cs p → Goes Keys (At Colon) p (At Colon) y → Goes Values InDashes y Here z → Rest (any Pairs) InPairs x (any Pairs) InPairs z
       mapping_more x p y z r h f g = rest_more (KeyAt cs k) pair_starts key_there (p, r, h) (key_here x) (rest_goes (pair_line _ x p r) (pair_goes p y z f g))

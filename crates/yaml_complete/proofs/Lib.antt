@@ -5,3 +5,5 @@ pub mod KeyOrScalar
 pub mod PlainScalars
 pub mod Separations
 pub mod FlowStarts
+pub mod PropertyChoices
+pub mod BlockStarts

@@ -1,0 +1,87 @@
+-- Node properties: what is left after all that a reader found, and whether content follows them.
+use Rattle.std.proofs.Common.{◌≡◌, ℕ, ◌⊎◌, inl, inr, List, [], ◌∷◌, Some, refl, sym, ◌∙◌, subst, arith}
+use Rattle.yaml_text.specs.grammar.Rules.{Rule, ◌▸◌, ◌∪◌, gives, maybe, with_value}
+use Rattle.yaml_text.specs.grammar.Separation.{Ctx, separate}
+use Rattle.yaml_text.specs.grammar.Tags.{Handles, properties}
+use Rattle.yaml_text.specs.grammar.FlowScalars.{PlainFirst}
+use Rattle.yaml_text.specs.Event.{Event}
+use Rattle.yaml_text.specs.grammar.Events.{Props, empty}
+use Rattle.yaml_text.specs.grammar.Nodes.{Part}
+use Rattle.yaml_scalar.specs.BlockRules.{Inside}
+use Rattle.yaml_unique.proofs.Unique.{End, At, Starts}
+use Rattle.yaml_unique.proofs.Lines.{Solid, Fresh, Way, way_of, way_same}
+use Rattle.yaml_unique.proofs.Properties.{NoMore, PropHere, prop, prop_solid, Two, alone, pair, both, props_two, props_inside}
+use Rattle.yaml_unique.proofs.TagEnds.{prop_same, prop_here, prop_inside}
+use Rattle.yaml_unique.proofs.FlowNodes.{ContentHere, Kind, kind_three, plain_start, jsons_start, Plains, Jsons, YamlRest, JsonRest}
+use Rattle.yaml_complete.proofs.Decisions.{Refused, Goes, Rest, rest_left, rest_right, rest_goes}
+use Rattle.yaml_complete.proofs.Separations.{rest_separate, refused_separate}
+
+-- a value and nothing more goes on as it stands
+pub goes_gives : {V : Type 0} (x : V) (E : End) (i : ℕ) → Goes (gives x) E i E i
+goes_gives x E i = record { goes = λ j m v (a, b) e. subst (λ y. E y m) a e }
+
+pub refused_gives : {V : Type 0} (x : V) (E : End) (i : ℕ) → ((m : ℕ) → E i m → ⊥) → Refused (gives x) E i
+refused_gives x E i n = record { none = λ j m v (a, b) e. n m (subst (λ y. E y m) a e) }
+
+module _ (cs : List ℕ) (handles : Handles) (n : ℕ) (c : Ctx) where
+  -- a second property may follow the one that was read, if it was one
+  abbrev pub Second : ℕ → ℕ → Props → Type 0
+  Second i k p = prop cs handles i k p × ((l : ℕ) × (o : ℕ) × (b : Props) × separate cs n c k o × prop cs handles o l b)
+
+  -- the properties that were read, where no second one follows a first, are those of every reading that goes on
+  pub rest_propped : {V : Type 0} (S : Props → Rule V) (E : End) (i k : ℕ) (p : Props) → properties cs handles n c i k p → (Second i k p → ⊥)
+      → ((q : Props) (l j m : ℕ) (v : V) → Inside cs l → S q l j v → E j m → NoMore cs handles n l)
+      → Rest (with_value (properties cs handles n c) S) E i (S p) E k
+  rest_propped {V} S E i k p r none next = record { rest = λ j m v (l, q, s, t) e. go j m v l q t e (props_two cs handles n c i k p r) (props_two cs handles n c i l q s) }
+    where
+      go : (j m : ℕ) (v : V) (l : ℕ) (q : Props) → S q l j v → E j m → Two cs handles n c i k p → Two cs handles n c i l q → (o : ℕ) × (w : V) × S p k o w × E o m
+      go j m v l q t e (alone a) (alone b) =
+          let h = prop_same cs handles i k l p q a b in
+          (j, v, subst (λ z. S z k j v) (sym h.1) (subst (λ z. S q z j v) (sym h.0) t), e)
+      go j m v l q t e (alone a) (pair x y b d f g u w) =
+          let h = prop_same cs handles i k x p b a f in
+          absurd (none (a, (l, y, d, subst (λ z. separate cs n c z y) (sym h.0) g, u)))
+      go j m v l q t e (pair x y a b f g u w) (alone d) =
+          let h = prop_same cs handles i x l a q f d in
+          absurd (next q l j m v (prop_inside cs handles i l q d) t e c y (subst (λ z. separate cs n c z y) h.0 g) (prop_here cs handles y k b u))
+      go j m v l q t e (pair x y a b f g u w) (pair x2 y2 a2 b2 f2 g2 u2 w2) =
+          let h = prop_same cs handles i x x2 a a2 f f2 in
+          let s : y ≡ y2 = way_same cs x2 y y2 (subst (λ z. Way cs z y) h.0 (way_of cs n c x y g (prop_solid cs handles y (prop_here cs handles y k b u)).0)) (way_of cs n c x2 y2 g2 (prop_solid cs handles y2 (prop_here cs handles y2 l b2 u2)).0) in
+          let o = prop_same cs handles y2 k l b b2 (subst (λ z. prop cs handles z k b) s u) u2 in
+          let d : p ≡ q = w ∙ subst (λ z. both a b ≡ both z b) h.1 refl ∙ subst (λ z. both a2 b ≡ both a2 z) o.1 refl ∙ sym w2 in
+          (j, v, subst (λ z. S z k j v) (sym d) (subst (λ z. S q z j v) (sym o.0) t), e)
+
+  -- no property could be read: no reading begins with one
+  pub refused_propped : {V : Type 0} (S : Props → Rule V) (E : End) (i : ℕ) → ((k : ℕ) (p : Props) → properties cs handles n c i k p → ⊥) → Refused (with_value (properties cs handles n c) S) E i
+  refused_propped S E i f = record { none = λ j m v (l, q, s, t) e. f l q s }
+
+  module _ (Wide : Type 0) (Open : Type 0) (inside : Part → Rule (List Event)) (p : Props) where
+    plains_fresh : (E : End) → Starts (Plains cs Wide handles Open inside n c p) E (Fresh cs)
+    plains_fresh E i j m v (t, r, f) e = (plain_start cs n c i j t r).0
+
+    jsons_fresh : (E : End) → Starts (Jsons cs Wide handles Open inside n c p) E (Fresh cs)
+    jsons_fresh E i j m v r e = kind_three cs i (jsons_start cs Wide handles Open inside n c p i j v r)
+
+    -- content after properties, at the only place where it may begin
+    pub plain_after : (E : End) (k x : ℕ) → ((q : ℕ) → maybe (separate cs n c) k q → Solid cs q → q ≡ x) → ((m : ℕ) → E k m → ⊥)
+        → Rest (YamlRest cs Wide handles Open inside n c p) E k (Plains cs Wide handles Open inside n c p) E x
+    plain_after E k x to stop = record { rest = go }
+      where
+        go : (j m : ℕ) (v : List Event) → YamlRest cs Wide handles Open inside n c p k j v → E j m → (o : ℕ) × (w : List Event) × Plains cs Wide handles Open inside n c p x o w × E o m
+        go j m v (inl r) e = (rest_separate cs n c (Plains cs Wide handles Open inside n c p) E k x (plains_fresh E) to).rest j m v r e
+        go j m v (inr (a, b)) e = absurd (stop m (subst (λ y. E y m) a e))
+
+    -- properties alone, where no plain scalar follows
+    pub nothing_after : (E : End) (k : ℕ) → ((q : ℕ) → separate cs n c k q → Fresh cs q → PlainFirst cs c q → ⊥)
+        → Goes (YamlRest cs Wide handles Open inside n c p) E k E k
+    nothing_after E k none = record { goes = go }
+      where
+        go : (j m : ℕ) (v : List Event) → YamlRest cs Wide handles Open inside n c p k j v → E j m → E k m
+        go j m v (inl (q, s, (t, r, f))) e = let h = plain_start cs n c q j t r in absurd (none q s h.0 h.1)
+        go j m v (inr (a, b)) e = subst (λ y. E y m) a e
+
+    pub json_after : (E : End) (k x : ℕ) → ((q : ℕ) → maybe (separate cs n c) k q → Solid cs q → q ≡ x) → Rest (JsonRest cs Wide handles Open inside n c p) E k (Jsons cs Wide handles Open inside n c p) E x
+    json_after E k x to = rest_separate cs n c (Jsons cs Wide handles Open inside n c p) E k x (jsons_fresh E) to
+
+    pub no_json_after : (E : End) (k : ℕ) → ((q : ℕ) → separate cs n c k q → Kind cs 3 q → ⊥) → Refused (JsonRest cs Wide handles Open inside n c p) E k
+    no_json_after E k none = record { none = λ j m v (q, s, r) e. none q s (jsons_start cs Wide handles Open inside n c p q j v r) }
