@@ -58,14 +58,14 @@ module _ (cs : List ℕ) (Wide : Type 0) (handles : Handles) (Open : Type 0) (in
 
   -- ---- the forms of a node
 
-  data Form (i j : ℕ) (v : List Event) : Type 0 where
+  pub data Form (i j : ℕ) (v : List Event) : Type 0 where
     flow : (q : ℕ) → separate cs col flow_out i q → FlowLine q j v → Form i j v
     scalar : (q : ℕ) → separate cs col c i q → ScalarOf no_props q j v → Form i j v
     propped : (q : ℕ) → separate cs col c i q → ProppedScalar q j v → Form i j v
     collection : (x : ℕ) → s_l_comments cs i x → CollectionsOf no_props x j v → Form i j v
     named : (q : ℕ) → separate cs col c i q → ProppedCollection q j v → Form i j v
 
-  form : (i j : ℕ) (v : List Event) → block_node cs Wide handles Open inside col c i j v → Form i j v
+  pub form : (i j : ℕ) (v : List Event) → block_node cs Wide handles Open inside col c i j v → Form i j v
   unfolding block_node
   form i j v (inl (q, s, (a, r, t))) = flow q s (a, r, t)
   form i j v (inr (inl (q, s, (k, p, inl (e, f), r)))) = scalar q s (subst (λ x. ScalarOf x q j v) f (subst (λ x. ScalarOf p x j v) e r))
@@ -75,26 +75,26 @@ module _ (cs : List ℕ) (Wide : Type 0) (handles : Handles) (Open : Type 0) (in
 
   -- ---- where they begin
 
-  flow_key : (i j : ℕ) (v : List Event) → FlowLine i j v → KeyHere cs i
+  pub flow_key : (i j : ℕ) (v : List Event) → FlowLine i j v → KeyHere cs i
   flow_key i j v (k, r, s) = flow_start cs Wide handles Open inside facts ease wider fwd blocks col i k v r
 
-  scalar_kind : (p : Props) (i j : ℕ) (v : List Event) → ScalarOf p i j v → Kind cs 4 i
+  pub scalar_kind : (p : Props) (i j : ℕ) (v : List Event) → ScalarOf p i j v → Kind cs 4 i
   unfolding literal folded
   scalar_kind p i j v (inl (t, (k, (h, e), r), f)) = (124, h, Sign.bar 124 refl)
   scalar_kind p i j v (inr (t, (k, (h, e), r), f)) = (62, h, Sign.greater 62 refl)
 
-  propped_kind : {V : Type 0} (S : Props → Rule V) (i j : ℕ) (v : V) → with_value (properties cs handles col c) S i j v → Kind cs 1 i
+  pub propped_kind : {V : Type 0} (S : Props → Rule V) (i j : ℕ) (v : V) → with_value (properties cs handles col c) S i j v → Kind cs 1 i
   propped_kind S i j v (k, p, r, s) = prop_kind cs handles i (props_here cs handles (prop_same cs handles) (prop_here cs handles) (prop_inside cs handles) col c i k p (props_two cs handles col c i k p r))
 
   -- an entry of a collection stands in its column
   abbrev EntryAt : ℕ → ℕ → Type 0
   EntryAt k x = (q : ℕ) × indent cs k x q × Fresh cs q
 
-  map_key : (k q a : ℕ) (v : List Event) → map_entry cs Wide handles Open inside k q a v → KeyHere cs q
+  pub map_key : (k q a : ℕ) (v : List Event) → map_entry cs Wide handles Open inside k q a v → KeyHere cs q
   unfolding map_entry
   map_key k q a v (b, ks, ws, (m, key, h), val, x) = key_start cs Wide handles Open inside facts ease wider fwd blocks q m ks key
 
-  seq_dash : (k q a : ℕ) (v : List Event) → seq_entry cs Wide handles Open inside k q a v → DashHere cs q
+  pub seq_dash : (k q a : ℕ) (v : List Event) → seq_entry cs Wide handles Open inside k q a v → DashHere cs q
   unfolding seq_entry
   seq_dash k q a v (b, (x, (h, e), (f, n)), r) = (h, subst (λ z. Stands cs is_ns z → ⊥) e n)
 
@@ -107,13 +107,13 @@ module _ (cs : List ℕ) (Wide : Type 0) (handles : Handles) (Open : Type 0) (in
       (omega (arith, e, a, b), e)
 
   -- a mapping's line, from its first key on
-  mapping_from : (p : Props) (k x q j : ℕ) (v : List Event) → indent cs k x q → (Stands cs is_space q → ⊥) → block_map cs Wide handles Open inside p col x j v → (col ≤ k) × MappingFrom cs Wide handles Open inside k p q j v
+  pub mapping_from : (p : Props) (k x q j : ℕ) (v : List Event) → indent cs k x q → (Stands cs is_space q → ⊥) → block_map cs Wide handles Open inside p col x j v → (col ≤ k) × MappingFrom cs Wide handles Open inside k p q j v
   unfolding block_map
   mapping_from p k x q j v r n (o, (t, (l, (le, (a, us, vs, (b, s, u), rest, y))), e)) =
       let h = column_of k l x q b r n s (map_key l b a us u).0 in
       (subst (λ z. col ≤ z) (sym h.0) le, subst (λ z. MappingFrom cs Wide handles Open inside z p q j v) (sym h.0) (subst (λ z. MappingFrom cs Wide handles Open inside l p z j v) (sym h.1) (o, (t, (a, us, vs, u, rest, y), e))))
 
-  sequence_from : (p : Props) (d k x q j : ℕ) (v : List Event) → indent cs k x q → (Stands cs is_space q → ⊥) → block_seq cs Wide handles Open inside p d x j v → (d ≤ k) × SequenceFrom cs Wide handles Open inside k p q j v
+  pub sequence_from : (p : Props) (d k x q j : ℕ) (v : List Event) → indent cs k x q → (Stands cs is_space q → ⊥) → block_seq cs Wide handles Open inside p d x j v → (d ≤ k) × SequenceFrom cs Wide handles Open inside k p q j v
   unfolding block_seq
   sequence_from p d k x q j v r n (o, (t, (l, (le, (a, us, vs, (b, s, u), rest, y))), e)) =
       let h = column_of k l x q b r n s (dash_fresh cs b (seq_dash l b a us u)) in
@@ -136,10 +136,10 @@ module _ (cs : List ℕ) (Wide : Type 0) (handles : Handles) (Open : Type 0) (in
 
   -- ---- content on a line of its own
 
-  lines_to : (i s y : ℕ) → s_l_comments cs i s → Stuck cs s → s_l_comments cs i y → Stuck cs y → y ≡ s
+  pub lines_to : (i s y : ℕ) → s_l_comments cs i s → Stuck cs s → s_l_comments cs i y → Stuck cs y → y ≡ s
   lines_to i s y l t n u = past_same cs i y s (past_of cs i y y n (Spans.done refl)) u (past_of cs i s s l (Spans.done refl)) t
 
-  collection_stuck : (x j : ℕ) (v : List Event) → CollectionsOf no_props x j v → Stuck cs x
+  pub collection_stuck : (x j : ℕ) (v : List Event) → CollectionsOf no_props x j v → Stuck cs x
   unfolding block_map block_seq
   collection_stuck x j v (inl (o, (t, (l, (le, (a, us, vs, (b, s, u), rest, y))), e))) = stuck_line cs l x b s (map_key l b a us u).0.0
   collection_stuck x j v (inr (o, (t, (l, (le, (a, us, vs, (b, s, u), rest, y))), e))) = stuck_line cs l x b s (dash_fresh cs b (seq_dash l b a us u)).0

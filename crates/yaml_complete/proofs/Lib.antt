@@ -7,3 +7,4 @@ pub mod Separations
 pub mod FlowStarts
 pub mod PropertyChoices
 pub mod BlockStarts
+pub mod BlockChoices
