@@ -8,3 +8,4 @@ pub mod FlowStarts
 pub mod PropertyChoices
 pub mod BlockStarts
 pub mod BlockChoices
+pub mod BlockScalars
