@@ -151,13 +151,13 @@ fn texts_are_read_or_refused_at_their_place(rt: HostRuntime) {
 }
 
 #[test]
-fn texts_have_16_777_216_bytes_at_most(rt: HostRuntime) -> Result<(), Fail> {
+fn texts_have_67_108_864_bytes_at_most(rt: HostRuntime) -> Result<(), Fail> {
     let mut bytes = Vec::new(rt.alloc());
-    for _ in 0..16_777_216u32 {
+    for _ in 0..67_108_864u32 {
         bytes.push(b'a')?;
     }
     let got = read(bytes.as_slice()).map(|(_, end)| end);
-    assert_eq!(rt; got, Ok(16_777_216));
+    assert_eq!(rt; got, Ok(67_108_864));
     bytes.push(0xFF)?;
     let got = read(bytes.as_slice()).map(|(_, end)| end);
     assert_eq!(rt; got, Err(Fault::TooLong));
