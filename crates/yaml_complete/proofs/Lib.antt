@@ -9,3 +9,4 @@ pub mod PropertyChoices
 pub mod BlockStarts
 pub mod BlockChoices
 pub mod BlockScalars
+pub mod NodesAgain

@@ -261,7 +261,7 @@ module _ (cs : List ℕ) (Wide : Type 0) (handles : Handles) where
           (nodes_again cs Wide handles Open inside 0 0 block_in (omega arith) (prop_same cs handles) (prop_here cs handles) (prop_inside cs handles) (alias_same cs) (plain_block_unique cs 0 0) (jsons_unique cs Wide handles Open inside facts 0 flow_out inner_out (F cs 0 0)) (flow_inside 0) (fwd_flow_node cs Wide handles Open inside fwd 0 flow_out) (block_scalar_unique cs false 0 (Follow cs 0 0) (follow_stuck 0 0)) (block_scalar_unique cs true 0 (Follow cs 0 0) (follow_stuck 0 0)) (λ p. maps p 0) (λ p. seqs p 0 0 (omega arith)) (map_key 0 0 block_in) (seq_dash 0) (in_lines 0) (lines_in 0) h m sh sm ch stuck k w (forms 0 0 block_in (omega arith) refl h k w s)) f;
     }
 
-  no_blocks : Blocks (λ q. never)
+  pub no_blocks : Blocks (λ q. never)
   no_blocks = record {
     node = λ col i j k m n v w r. absurd r;
     value = λ col i j k m n v w r. absurd r;
@@ -272,7 +272,7 @@ module _ (cs : List ℕ) (Wide : Type 0) (handles : Handles) where
     compact_apart = λ l i j k m n v w (a, (x, (b, (q, r, s)))). absurd s;
   }
 
-  one_more : (room : ℕ) (p : Part) → Within (reads cs Wide handles room p) (part cs Wide handles (Unit {0}) (reads cs Wide handles room) p)
+  pub one_more : (room : ℕ) (p : Part) → Within (reads cs Wide handles room p) (part cs Wide handles (Unit {0}) (reads cs Wide handles room) p)
   unfolding reads
   one_more room p i j v r = in_reads cs Wide Wide (λ h. h) handles room (suc room) (omega arith) p i j v r
 
