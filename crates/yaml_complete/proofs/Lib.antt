@@ -10,3 +10,4 @@ pub mod BlockStarts
 pub mod BlockChoices
 pub mod BlockScalars
 pub mod NodesAgain
+pub mod StreamRests

@@ -29,7 +29,7 @@ use Rattle.yaml_unique.proofs.BlockNodes.{Begin}
 use Rattle.yaml_unique.proofs.BlockLevels.{reads_whole, reads_blocks}
 use Rattle.yaml_unique.proofs.Directives.{Percent, directives_unique, directives_start, percent_stuck}
 
-ns_dot : is_ns 46 ≡ true
+pub ns_dot : is_ns 46 ≡ true
 unfolding is_ns is_nb is_break is_white
 ns_dot = refl
 
@@ -177,7 +177,7 @@ module _ (cs : List ℕ) (Wide : Type 0) (room : ℕ) where
   suffix_past i k m us (a, r, (b, (e, f), s)) c =
       (past_of cs (i + 3) k m (subst (λ z. s_l_comments cs z k) (e ∙ (mark_inside 46 i a ns_dot r).0) s) c, f)
 
-  explicit_mark : (handles : Handles) (i k : ℕ) (us : List Event) → explicit_document cs Wide room handles i k us → MarkOf cs 45 i
+  pub explicit_mark : (handles : Handles) (i k : ℕ) (us : List Event) → explicit_document cs Wide room handles i k us → MarkOf cs 45 i
   unfolding explicit_document
   explicit_mark handles i k us (a, r, s) = (mark_inside 45 i a ns_dash r).2
 
@@ -274,7 +274,7 @@ module _ (cs : List ℕ) (Wide : Type 0) (room : ℕ) where
   unfolding MarkOf
   mark_percent c i n (s, (j, (k, (h, e), r)), t) (g, u) = n (same_char cs i c 37 h g)
 
-  percent_end : (i : ℕ) → Percent cs i → AtEnd cs i → ⊥
+  pub percent_end : (i : ℕ) → Percent cs i → AtEnd cs i → ⊥
   percent_end i (h, s) e = end_stops cs (λ u. true) i e (37, h, refl)
 
   end_past : (h p q : ℕ) → AtEnd cs h → Past cs h p → run cs is_space p q → Solid cs q → ⊥
