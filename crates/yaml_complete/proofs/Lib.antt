@@ -11,3 +11,4 @@ pub mod BlockChoices
 pub mod BlockScalars
 pub mod NodesAgain
 pub mod StreamRests
+pub mod Depths
