@@ -8,7 +8,7 @@ use Rattle.yaml_scalar.proofs.Runs.{same_char}
 use Rattle.yaml_unique.proofs.Unique.{End, At}
 use Rattle.yaml_complete.proofs.Decisions.{Refused, Goes, Rest, Here, goes_refused}
 use Rattle.yaml_unique.proofs.Lines.{Solid, Way, way_same, way_maybe}
-use Rattle.yaml_unique.proofs.FlowEntries.{Closes, PartHere, Es, closes_solid}
+use Rattle.yaml_unique.proofs.FlowEntries.{Closes, PartHere, closes_solid}
 
 module _ (cs : List ℕ) (n : ℕ) (c : Ctx) (I : Rule (List Event)) (start : (i j : ℕ) (v : List Event) → I i j v → PartHere cs i)
     (close : ℕ) (shut : (q : ℕ) → slice_get cs q ≡ Some close → Closes cs q) (no_comma : close ≢ 44) where
@@ -21,12 +21,19 @@ module _ (cs : List ℕ) (n : ℕ) (c : Ctx) (I : Rule (List Event)) (start : (i
   abbrev pub Parted : Rule (List Event)
   Parted = any Part1 ⨾ optional (I ◂ Gap)
 
+  -- after separation a comma or a closing bracket
+  abbrev pub InParts : End
+  InParts j m = Gap j m × Closes cs m
+
   abbrev pub Close : ℕ → Type 0
   Close q = slice_get cs q ≡ Some close
 
   -- an item, and then a comma or the bracket
-  item_end : (a b : ℕ) → Gap a b → Closes cs b → Es cs a b
-  item_end a b s h = (way_maybe cs n c a b s (closes_solid cs b h), h)
+  item_end : (a b : ℕ) → Gap a b → Closes cs b → InParts a b
+  item_end a b s h = (s, h)
+
+  item_way : (a b : ℕ) → InParts a b → Way cs a b
+  item_way a b (s, h) = way_maybe cs n c a b s (closes_solid cs b h)
 
   solid : (k j i : ℕ) (us vs : List Event) → Any Part1 k i us → optional (I ◂ Gap) k j vs → Close j → Solid cs i
   solid k j i us vs (done e f) (inl (g, h)) x = subst (Solid cs) (g ∙ e) (closes_solid cs j (shut j x))
@@ -35,8 +42,8 @@ module _ (cs : List ℕ) (n : ℕ) (c : Ctx) (I : Rule (List Event)) (start : (i
 
   -- what every reading that goes on is: the bracket here, or an item and the bracket, or an item and a comma
   abbrev Seen : ℕ → ℕ → Type 0
-  Seen x j = (j ≡ x) ⊎ ((a : ℕ) × (v : List Event) × I x a v × Es cs a j)
-      ⊎ ((a : ℕ) × (b : ℕ) × (v : List Event) × I x a v × Es cs a b × (slice_get cs b ≡ Some 44) × (p : ℕ) × Way cs (b + 1) p × (w : List Event) × Parted p j w)
+  Seen x j = (j ≡ x) ⊎ ((a : ℕ) × (v : List Event) × I x a v × InParts a j)
+      ⊎ ((a : ℕ) × (b : ℕ) × (v : List Event) × I x a v × InParts a b × (slice_get cs b ≡ Some 44) × (p : ℕ) × Way cs (b + 1) p × (w : List Event) × Parted p j w)
 
   last : (k j x : ℕ) (vs : List Event) → k ≡ x → optional (I ◂ Gap) k j vs → Close j → Seen x j
   last k j x vs a (inl (e, f)) d = inl (e ∙ a)
@@ -57,32 +64,32 @@ module _ (cs : List ℕ) (n : ℕ) (c : Ctx) (I : Rule (List Event)) (start : (i
       go j (inr (inr (a, b, v, r, s, f, p, t, v2, rest))) = absurd ((start x a v r).1 (shut x d))
 
   -- an item that ends at y, and after separation the bracket
-  pub parts_last : (x y q : ℕ) → (Close x → ⊥) → Goes I (Es cs) x (Es cs) y → Way cs y q → Close q → Goes Parted (At Close) x Here q
+  pub parts_last : (x y q : ℕ) → (Close x → ⊥) → Goes I InParts x InParts y → Way cs y q → Close q → Goes Parted (At Close) x Here q
   parts_last x y q o g w d = record { goes = λ j m v r (e, h). sym e ∙ go j h (seen x j v r h) }
     where
       go : (j : ℕ) → Close j → Seen x j → j ≡ q
       go j h (inl e) = absurd (o (subst Close e h))
-      go j h (inr (inl (a, v, r, s))) = way_same cs y j q (g.goes a j v r s).0 w
+      go j h (inr (inl (a, v, r, s))) = way_same cs y j q (item_way y j (g.goes a j v r s)) w
       go j h (inr (inr (a, b, v, r, s, f, p, t, v2, rest))) =
-          let u : b ≡ q = way_same cs y b q (g.goes a b v r s).0 w in
+          let u : b ≡ q = way_same cs y b q (item_way y b (g.goes a b v r s)) w in
           absurd (no_comma (same_char cs q close 44 d (subst (λ z. slice_get cs z ≡ Some 44) u f)))
 
   -- an item that ends at y, after separation a comma, and after separation more at z
-  pub parts_more : (x y q z : ℕ) → (Close x → ⊥) → Goes I (Es cs) x (Es cs) y → Way cs y q → slice_get cs q ≡ Some 44 → Way cs (q + 1) z → Rest Parted (At Close) x Parted (At Close) z
+  pub parts_more : (x y q z : ℕ) → (Close x → ⊥) → Goes I InParts x InParts y → Way cs y q → slice_get cs q ≡ Some 44 → Way cs (q + 1) z → Rest Parted (At Close) x Parted (At Close) z
   parts_more x y q z o g w d l = record { rest = λ j m v r e. go j m e (seen x j v r e.1) }
     where
       go : (j m : ℕ) → At Close j m → Seen x j → (k : ℕ) × (v : List Event) × Parted z k v × At Close k m
       go j m h (inl e) = absurd (o (subst Close e h.1))
       go j m h (inr (inl (a, v, r, s))) =
-          let u : j ≡ q = way_same cs y j q (g.goes a j v r s).0 w in
+          let u : j ≡ q = way_same cs y j q (item_way y j (g.goes a j v r s)) w in
           absurd (no_comma (same_char cs q close 44 (subst Close u h.1) d))
       go j m h (inr (inr (a, b, v, r, s, f, p, t, v2, rest))) =
-          let u : b ≡ q = way_same cs y b q (g.goes a b v r s).0 w in
+          let u : b ≡ q = way_same cs y b q (item_way y b (g.goes a b v r s)) w in
           let on : p ≡ z = way_same cs (q + 1) p z (subst (λ i. Way cs (i + 1) p) u t) l in
           (j, v2, subst (λ i. Parted i j v2) on rest, h)
 
   -- no item here
-  pub parts_refused : (x : ℕ) → (Close x → ⊥) → Refused I (Es cs) x → Refused Parted (At Close) x
+  pub parts_refused : (x : ℕ) → (Close x → ⊥) → Refused I InParts x → Refused Parted (At Close) x
   parts_refused x o n = record { none = λ j m v r (e, h). go j h (seen x j v r h) }
     where
       go : (j : ℕ) → Close j → Seen x j → ⊥
@@ -91,9 +98,9 @@ module _ (cs : List ℕ) (n : ℕ) (c : Ctx) (I : Rule (List Event)) (start : (i
       go j h (inr (inr (a, b, v, r, s, f, p, t, v2, rest))) = n.none a b v r s
 
   -- neither a comma nor the bracket after it
-  pub parts_unclosed : (x y q : ℕ) → (Close x → ⊥) → Goes I (Es cs) x (Es cs) y → Way cs y q → (Closes cs q → ⊥) → Refused Parted (At Close) x
-  parts_unclosed x y q o g w d = parts_refused x o (goes_refused g (λ m (t, h). d (subst (Closes cs) (way_same cs y m q t w) h)))
+  pub parts_unclosed : (x y q : ℕ) → (Close x → ⊥) → Goes I InParts x InParts y → Way cs y q → (Closes cs q → ⊥) → Refused Parted (At Close) x
+  parts_unclosed x y q o g w d = parts_refused x o (goes_refused g (λ m (t, h). d (subst (Closes cs) (way_same cs y m q (item_way y m (t, h)) w) h)))
 
   -- no way on after it
-  pub parts_no_way : (x y : ℕ) → (Close x → ⊥) → Goes I (Es cs) x (Es cs) y → ((q : ℕ) → Way cs y q → ⊥) → Refused Parted (At Close) x
-  parts_no_way x y o g w = parts_refused x o (goes_refused g (λ m (t, h). w m t))
+  pub parts_no_way : (x y : ℕ) → (Close x → ⊥) → Goes I InParts x InParts y → ((q : ℕ) → Way cs y q → ⊥) → Refused Parted (At Close) x
+  parts_no_way x y o g w = parts_refused x o (goes_refused g (λ m (t, h). w m (item_way y m (t, h))))

@@ -10,5 +10,6 @@ pub mod BlockStarts
 pub mod BlockChoices
 pub mod BlockScalars
 pub mod NodesAgain
+pub mod FlowChoices
 pub mod StreamRests
 pub mod Depths

@@ -26,7 +26,7 @@ module _ (cs : List ℕ) where
   abbrev pub Spaces : ℕ → ℕ → Type 0
   Spaces i x = run cs is_space i x × (Stands cs is_space x → ⊥)
 
-  spaces_to : (i x q : ℕ) → Spaces i x → run cs is_space i q → Solid cs q → q ≡ x
+  pub spaces_to : (i x q : ℕ) → Spaces i x → run cs is_space i q → Solid cs q → q ≡ x
   spaces_to i x q (r, n) s h = run_same cs is_space i q x s r (solid_no_space cs q h.0) n
 
   -- comment lines and what they come to are s_l_comments
