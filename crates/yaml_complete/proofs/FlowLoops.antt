@@ -54,6 +54,15 @@ module _ (cs : List ℕ) (n : ℕ) (c : Ctx) (I : Rule (List Event)) (start : (i
   seen x j v (k, us, vs, then p ws ts (b, (a, r, s), (o, (g, f), t)) more y, l, h) d =
       inr (inr (a, b, ws, r, item_end a b s (inl g), g, p, way_maybe cs n c (b + 1) p (subst (λ z. Gap z p) f t) (solid k j p ts vs more l d), (ts ++ vs), (k, ts, vs, more, l, refl)))
 
+  -- the parts begin with content, or with the bracket
+  pub parts_start : (i j : ℕ) (v : List Event) → Parted i j v → Close j → PartHere cs i ⊎ Close i
+  parts_start i j v r h = go (seen i j v r h)
+    where
+      go : Seen i j → PartHere cs i ⊎ Close i
+      go (inl e) = inr (subst Close e h)
+      go (inr (inl (a, w, s, t))) = inl (start i a w s)
+      go (inr (inr (a, b, w, s, e, f, p, t, u, rest))) = inl (start i a w s)
+
   -- the bracket here
   pub parts_closed : (x : ℕ) → Close x → Goes Parted (At Close) x Here x
   parts_closed x d = record { goes = λ j m v r (e, h). sym e ∙ go j (seen x j v r h) }

@@ -11,5 +11,6 @@ pub mod BlockChoices
 pub mod BlockScalars
 pub mod NodesAgain
 pub mod FlowChoices
+pub mod FlowCollections
 pub mod StreamRests
 pub mod Depths
