@@ -3,7 +3,7 @@ use Rattle.std.proofs.Common.{◌≡◌, ℕ, ◌+◌, ◌≤◌, ◌<◌, ◌�
 use Rattle.std.specs.Prelude.{slice_get}
 use Rattle.yaml_text.specs.grammar.Rules.{Span, Rule, Spans, ◌◆◌, ◌▸◌, ◌◂◌, ◌⨾◌, ◌∪◌, chr, gives, given, seen, maybe, run, Stands, ahead}
 use Rattle.yaml_text.specs.grammar.Characters.{is_space, is_ns, is_nb, is_break, is_white}
-use Rattle.yaml_text.specs.grammar.Separation.{Ctx, flow_in, flow_key, separate, separate_lines, sep, OneLine}
+use Rattle.yaml_text.specs.grammar.Separation.{Ctx, flow_in, flow_out, flow_key, separate, separate_lines, sep, OneLine}
 use Rattle.yaml_text.specs.grammar.Tags.{Handles}
 use Rattle.yaml_text.specs.grammar.FlowScalars.{plain, plain_safe}
 use Rattle.yaml_text.specs.Limits.{key_limit}
@@ -23,19 +23,8 @@ use Rattle.yaml_unique.proofs.FlowEntries.{Closes, Colon, ColonY, MarkHere, Item
 use Rattle.yaml_complete.proofs.Decisions.{Refused, Goes, Rest, rest_goes, rest_refused, rest_rest, rest_left, rest_right, rest_seen, rest_given, rest_before, rest_joined, refused_joined, refused_before, refused_either, goes_either, refused_until, goes_until}
 use Rattle.yaml_complete.proofs.Separations.{Spaces, spaces_to}
 use Rattle.yaml_complete.proofs.PropertyChoices.{goes_gives, refused_gives}
+use Rattle.yaml_complete.proofs.FlowLoops.{closes_fresh}
 use Rattle.yaml_complete.proofs.PlainScalars.{plain_goes}
-
-ns_comma : is_ns 44 ≡ true
-unfolding is_ns is_nb is_break is_white
-ns_comma = refl
-
-ns_bracket : is_ns 93 ≡ true
-unfolding is_ns is_nb is_break is_white
-ns_bracket = refl
-
-ns_brace : is_ns 125 ≡ true
-unfolding is_ns is_nb is_break is_white
-ns_brace = refl
 
 module _ (cs : List ℕ) where
   -- ---- how the text goes on after a part, and after a node of either kind
@@ -68,10 +57,14 @@ module _ (cs : List ℕ) where
     abbrev pub NoGap : ℕ → Type 0
     NoGap k = (q : ℕ) → Gap k q → Fresh cs q → ⊥
 
-  pub closes_fresh : (q : ℕ) → Closes cs q → Fresh cs q
-  closes_fresh q (inl h) = char_fresh cs q 44 h ns_comma (λ e. omega (arith, e)) (λ e. omega (arith, e)) (λ e. omega (arith, e))
-  closes_fresh q (inr (inl h)) = char_fresh cs q 93 h ns_bracket (λ e. omega (arith, e)) (λ e. omega (arith, e)) (λ e. omega (arith, e))
-  closes_fresh q (inr (inr h)) = char_fresh cs q 125 h ns_brace (λ e. omega (arith, e)) (λ e. omega (arith, e)) (λ e. omega (arith, e))
+  -- separation is the same in a collection and outside all of them
+  pub gap_in : (n i j : ℕ) → maybe (separate cs n flow_out) i j → Gap n i j
+  unfolding separate
+  gap_in n i j s = s
+
+  pub gap_out : (n i j : ℕ) → Gap n i j → maybe (separate cs n flow_out) i j
+  unfolding separate
+  gap_out n i j s = s
 
   -- a plain scalar
   pub plain_in_flow : (n i x : ℕ) (w : List ℕ) → plain cs n flow_in i x w → ((j : ℕ) (v : List ℕ) → plain cs n flow_in i j v → j ≤ x) → Goes (plain cs n flow_in) (At (EndsYaml n)) i (At (EndsYaml n)) x
@@ -183,11 +176,11 @@ module _ (cs : List ℕ) where
     -- nothing to go on with
     pub value_no_gap : (k : ℕ) → NoGap n k → Refused AfterY (InFlow n) k
     value_no_gap k none = refused_either (refused_before (separate cs n flow_in) (NodeY ∪ NodeJ) (InFlow n) (Fresh cs) k (λ i j m v r e. (node_item i j v r).0) (λ l s f. none l (inr s) f))
-        (refused_gives _ (InFlow n) k (λ m (s, h). none m s (closes_fresh m h)))
+        (refused_gives _ (InFlow n) k (λ m (s, h). none m s (closes_fresh cs m h)))
 
     pub adjacent_no_gap : (k : ℕ) → NoGap n k → Refused AfterJ (InFlow n) k
     adjacent_no_gap k none = refused_either (refused_before (Gap n) (NodeY ∪ NodeJ) (InFlow n) (Fresh cs) k (λ i j m v r e. (node_item i j v r).0) (λ l s f. none l s f))
-        (refused_gives _ (InFlow n) k (λ m (s, h). none m s (closes_fresh m h)))
+        (refused_gives _ (InFlow n) k (λ m (s, h). none m s (closes_fresh cs m h)))
 
     -- ---- entries of a flow mapping
 
@@ -241,11 +234,11 @@ module _ (cs : List ℕ) where
     -- nothing to go on with after the key
     pub valued_no_gap_yaml : (y : ℕ) → NoGap n y → Refused ValuedY (InFlow n) y
     valued_no_gap_yaml y none = refused_either (refused_before (Gap n) Value (InFlow n) (Fresh cs) y (λ i j m v r e. (colon_part cs i (value_colon cs Wide handles Open inside facts n i j v r).0).0) (λ l s f. none l s f))
-        (refused_gives _ (InFlow n) y (λ m (s, h). none m s (closes_fresh m h)))
+        (refused_gives _ (InFlow n) y (λ m (s, h). none m s (closes_fresh cs m h)))
 
     pub valued_no_gap_json : (y : ℕ) → NoGap n y → Refused ValuedJ (InFlow n) y
     valued_no_gap_json y none = refused_either (refused_before (Gap n) Adjacent (InFlow n) (Fresh cs) y (λ i j m v r e. (colon_part cs i (adjacent_colon cs Wide handles Open inside facts n i j v r)).0) (λ l s f. none l s f))
-        (refused_gives _ (InFlow n) y (λ m (s, h). none m s (closes_fresh m h)))
+        (refused_gives _ (InFlow n) y (λ m (s, h). none m s (closes_fresh cs m h)))
 
     -- ---- keys that are empty, or begin with `?`
 

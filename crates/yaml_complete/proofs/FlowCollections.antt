@@ -11,8 +11,7 @@ use Rattle.yaml_unique.proofs.Unique.{End, At}
 use Rattle.yaml_unique.proofs.Lines.{Solid, Fresh}
 use Rattle.yaml_unique.proofs.FlowEntries.{Closes, PartHere, Facts, closes_solid, item_part, entry_start}
 use Rattle.yaml_complete.proofs.Decisions.{Refused, Goes, Rest, Here, rest_goes, rest_refused}
-use Rattle.yaml_complete.proofs.FlowLoops.{parts_start}
-use Rattle.yaml_complete.proofs.FlowChoices.{closes_fresh}
+use Rattle.yaml_complete.proofs.FlowLoops.{parts_start, closes_fresh}
 
 module _ (cs : List ℕ) (Wide : Type 0) (handles : Handles) (Open : Type 0) (inside : Part → Rule (List Event)) (facts : Facts cs inside) (n : ℕ) (c : Ctx) (within : inner c ≡ flow_in) where
   abbrev Gap : Span
