@@ -13,9 +13,10 @@ use Rattle.yaml_text.proofs.grammar.Widening.{Within}
 use Rattle.yaml_scalar.specs.BlockRules.{Inside}
 use Rattle.yaml_scalar.proofs.Runs.{run_same}
 use Rattle.yaml_scalar.proofs.LineRuns.{indent_run, indent_place, inside_no_line}
-use Rattle.yaml_unique.proofs.Unique.{End, Starts}
-use Rattle.yaml_unique.proofs.Lines.{Solid, Fresh, Stuck, Less, Dash, DashHere, Past, Comments, dash_fresh, solid_no_space, past_of, past_same, past_no_run, less_column, comments_none}
-use Rattle.yaml_unique.proofs.BlockEntries.{Over, Follow, KeyHere, NodeStart, start_no_empty}
+use Rattle.yaml_unique.specs.Readings.{End, Starts}
+use Rattle.yaml_unique.proofs.Lines.{dash_fresh, solid_no_space, past_of, past_same, past_no_run, less_column, comments_none}
+use Rattle.yaml_unique.specs.Follows.{Solid, Fresh, Stuck, Less, Dash, DashHere, Past, Comments, Over, Follow, KeyHere}
+use Rattle.yaml_unique.proofs.BlockEntries.{NodeStart, start_no_empty}
 use Rattle.yaml_unique.proofs.FlowNodes.{kind_fresh}
 use Rattle.yaml_unique.proofs.FlowEntries.{Facts}
 use Rattle.yaml_unique.proofs.KeyContexts.{Eased}

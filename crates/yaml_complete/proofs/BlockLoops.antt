@@ -9,10 +9,11 @@ use Rattle.yaml_text.specs.grammar.Events.{Props, no_props, seq_start, map_start
 use Rattle.yaml_text.specs.grammar.Nodes.{Part, block_part, empty_rest, indented, seq_entry, map_entry, implicit_yaml_key, implicit_json_key, compact_seq, compact_map}
 use Rattle.yaml_scalar.proofs.LineRuns.{indent_place, indent_run}
 use Rattle.yaml_scalar.proofs.Runs.{run_same}
-use Rattle.yaml_unique.proofs.Unique.{End, At, More, Starts}
+use Rattle.yaml_unique.specs.Readings.{End, At, More, Starts}
 use Rattle.yaml_complete.proofs.Decisions.{Refused, Goes, Rest, Here, rest_refused, rest_goes, rest_rest, rest_until, goes_refused, refused_within, refused_until, rest_seen, rest_given, refused_given, rest_before, rest_joined, refused_joined, refused_after, rest_first, refused_first, rest_more, refused_more, goes_done}
-use Rattle.yaml_unique.proofs.Lines.{Solid, solid_no_space, Fresh, Comments, Stuck, Less, DashHere, Dash, dash_fresh, comments_none, column_same, less_column, less_stuck}
-use Rattle.yaml_unique.proofs.BlockEntries.{Over, Follow, KeyHere, KeyAt, dash_less, less_dash, key_dash, follow_less, less_key}
+use Rattle.yaml_unique.proofs.Lines.{solid_no_space, dash_fresh, comments_none, column_same, less_column, less_stuck}
+use Rattle.yaml_unique.specs.Follows.{Solid, Fresh, Comments, Stuck, Less, DashHere, Dash, Over, Follow, KeyHere, KeyAt}
+use Rattle.yaml_unique.proofs.BlockEntries.{dash_less, less_dash, key_dash, follow_less, less_key}
 
 module _ (cs : List ℕ) where
   -- one more begins at x, or the text goes on there

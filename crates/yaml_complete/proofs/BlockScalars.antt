@@ -10,8 +10,8 @@ use Rattle.yaml_scalar.specs.BlockModel.{styled}
 use Rattle.yaml_scalar.proofs.Runs.{run_same, same_char}
 use Rattle.yaml_scalar.proofs.LineRuns.{line_end_stops}
 use Rattle.yaml_scalar.proofs.RestLemmas.{from_l, comment_stops, l_comment_onward, nb_feed, nb_return, space_feed, space_return, space_hash}
-use Rattle.yaml_unique.proofs.Lines.{Comments, Stuck, comments_join, stuck_end, stuck_mark}
-use Rattle.yaml_unique.proofs.BlockEntries.{Over}
+use Rattle.yaml_unique.proofs.Lines.{comments_join, stuck_end, stuck_mark}
+use Rattle.yaml_unique.specs.Follows.{Comments, Stuck, Over}
 use Rattle.yaml_unique.proofs.BlockScalarEnds.{block_scalar_unique}
 use Rattle.yaml_complete.proofs.Decisions.{Goes, Here, goes_seen, goes_until}
 

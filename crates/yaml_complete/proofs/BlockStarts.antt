@@ -16,9 +16,10 @@ use Rattle.yaml_text.proofs.grammar.Widening.{Within}
 use Rattle.yaml_scalar.specs.BlockRules.{Inside}
 use Rattle.yaml_scalar.proofs.Runs.{same_char, run_same}
 use Rattle.yaml_scalar.proofs.LineRuns.{indent_run, indent_place}
-use Rattle.yaml_unique.proofs.Unique.{End, Starts}
-use Rattle.yaml_unique.proofs.Lines.{Solid, Fresh, Stuck, Less, DashHere, Past, Comments, dash_fresh, solid_no_space, past_of, past_same, less_stuck, stuck_line, comments_same}
-use Rattle.yaml_unique.proofs.BlockEntries.{Over, Follow, KeyHere, start_no_empty}
+use Rattle.yaml_unique.specs.Readings.{End, Starts}
+use Rattle.yaml_unique.proofs.Lines.{dash_fresh, solid_no_space, past_of, past_same, less_stuck, stuck_line, comments_same}
+use Rattle.yaml_unique.specs.Follows.{Solid, Fresh, Stuck, Less, DashHere, Past, Comments, Over, Follow, KeyHere}
+use Rattle.yaml_unique.proofs.BlockEntries.{start_no_empty}
 use Rattle.yaml_unique.proofs.Properties.{props_here, props_two}
 use Rattle.yaml_unique.proofs.TagEnds.{prop_same, prop_here, prop_inside}
 use Rattle.yaml_unique.proofs.FlowNodes.{Kind, Sign, kind_same, kind_fresh, prop_kind}

@@ -10,7 +10,7 @@ use Rattle.yaml_text.specs.grammar.Tags.{Handles}
 use Rattle.yaml_text.specs.grammar.Nodes as nodes
 use Rattle.yaml_text.specs.grammar.Nodes.{Part, yaml_part, json_part, pair_part, block_part, compact_part, part, reads}
 use Rattle.yaml_text.proofs.grammar.Widening.{in_reads}
-use Rattle.yaml_unique.proofs.Unique.{End, Unique}
+use Rattle.yaml_unique.specs.Readings.{End, Unique}
 use Rattle.yaml_complete.proofs.Decisions.{Refused}
 
 -- the most collections that are open at one place of these events, n of them before

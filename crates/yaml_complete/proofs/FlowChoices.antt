@@ -14,12 +14,13 @@ use Rattle.yaml_scalar.specs.BlockRules.{Inside}
 use Rattle.yaml_scalar.specs.Chains.{Later}
 use Rattle.yaml_scalar.proofs.Runs.{same_char, run_none}
 use Rattle.yaml_scalar.proofs.PlainLemmas.{no_later_colon}
-use Rattle.yaml_unique.proofs.Unique.{End, At, Starts}
-use Rattle.yaml_unique.proofs.Lines.{Solid, Fresh, Past, Way, solid_no_space, char_fresh, way_same, way_then, sep_run, sep_parts, past_of, way_maybe}
+use Rattle.yaml_unique.specs.Readings.{End, At, Starts}
+use Rattle.yaml_unique.proofs.Lines.{solid_no_space, char_fresh, way_same, way_then, sep_run, sep_parts, past_of, way_maybe}
+use Rattle.yaml_unique.specs.Follows.{Solid, Fresh, Past, Way, Closes, Colon, ColonY, MarkHere}
 use Rattle.yaml_unique.proofs.BlockEntries.{past_no_ns}
 use Rattle.yaml_unique.proofs.PlainEnds.{stop_way}
 use Rattle.yaml_unique.proofs.FlowLevels.{closes_no_later}
-use Rattle.yaml_unique.proofs.FlowEntries.{Closes, Colon, ColonY, MarkHere, ItemHere, PartHere, Facts, closes_solid, colon_solid, closes_colon, colon_part, value_colon, adjacent_colon, empty_key_colon, explicit_mark, item_no_loose, loose_here, implicit_start}
+use Rattle.yaml_unique.proofs.FlowEntries.{ItemHere, PartHere, Facts, closes_solid, colon_solid, closes_colon, colon_part, value_colon, adjacent_colon, empty_key_colon, explicit_mark, item_no_loose, loose_here, implicit_start}
 use Rattle.yaml_complete.proofs.Decisions.{Refused, Goes, Rest, rest_goes, rest_refused, rest_rest, rest_left, rest_right, rest_seen, rest_given, rest_before, rest_joined, refused_joined, refused_before, refused_either, goes_either, refused_until, goes_until}
 use Rattle.yaml_complete.proofs.Separations.{Spaces, spaces_to}
 use Rattle.yaml_complete.proofs.PropertyChoices.{goes_gives, refused_gives}

@@ -7,9 +7,9 @@ use Rattle.yaml_text.specs.grammar.Tags.{Handles}
 use Rattle.yaml_text.specs.Event.{Event}
 use Rattle.yaml_text.specs.grammar.Events.{Props}
 use Rattle.yaml_text.specs.grammar.Nodes.{Part, yaml_part, json_part, pair_part, flow_seq, flow_map, inside_flow, entry}
-use Rattle.yaml_unique.proofs.Unique.{End, At}
-use Rattle.yaml_unique.proofs.Lines.{Solid, Fresh}
-use Rattle.yaml_unique.proofs.FlowEntries.{Closes, PartHere, Facts, closes_solid, item_part, entry_start}
+use Rattle.yaml_unique.specs.Readings.{End, At}
+use Rattle.yaml_unique.specs.Follows.{Solid, Fresh, Closes}
+use Rattle.yaml_unique.proofs.FlowEntries.{PartHere, Facts, closes_solid, item_part, entry_start}
 use Rattle.yaml_complete.proofs.Decisions.{Refused, Goes, Rest, Here, rest_goes, rest_refused}
 use Rattle.yaml_complete.proofs.FlowLoops.{parts_start, closes_fresh}
 

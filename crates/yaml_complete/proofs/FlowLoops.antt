@@ -6,10 +6,11 @@ use Rattle.yaml_text.specs.grammar.Characters.{is_ns, is_nb, is_break, is_white}
 use Rattle.yaml_text.specs.grammar.Separation.{Ctx, separate}
 use Rattle.yaml_text.specs.Event.{Event}
 use Rattle.yaml_scalar.proofs.Runs.{same_char}
-use Rattle.yaml_unique.proofs.Unique.{End, At}
+use Rattle.yaml_unique.specs.Readings.{End, At}
 use Rattle.yaml_complete.proofs.Decisions.{Refused, Goes, Rest, Here, goes_refused}
-use Rattle.yaml_unique.proofs.Lines.{Solid, Fresh, char_fresh}
-use Rattle.yaml_unique.proofs.FlowEntries.{Closes, PartHere, closes_solid}
+use Rattle.yaml_unique.proofs.Lines.{char_fresh}
+use Rattle.yaml_unique.specs.Follows.{Solid, Fresh, Closes}
+use Rattle.yaml_unique.proofs.FlowEntries.{PartHere, closes_solid}
 
 ns_comma : is_ns 44 ≡ true
 unfolding is_ns is_nb is_break is_white

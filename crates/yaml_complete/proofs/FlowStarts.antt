@@ -12,7 +12,7 @@ use Rattle.yaml_text.specs.grammar.Events.{Props, no_props}
 use Rattle.yaml_text.specs.grammar.Nodes.{Part, yaml_node, json_node, scalar_of, flow_seq, flow_map}
 use Rattle.yaml_scalar.proofs.Runs.{same_char}
 use Rattle.yaml_scalar.proofs.DoubleReadings.{double_same}
-use Rattle.yaml_unique.proofs.Unique.{End}
+use Rattle.yaml_unique.specs.Readings.{End}
 use Rattle.yaml_unique.proofs.TagEnds.{prop_same, prop_here, prop_inside}
 use Rattle.yaml_unique.proofs.Properties.{props_here, props_two}
 use Rattle.yaml_unique.proofs.FlowNodes.{Kind, Sign, kind_same, plain_no_kind, prop_kind, plain_start, Jsons, Plains, Aliases, YamlRest, JsonRest, jsons_start, json_parts}

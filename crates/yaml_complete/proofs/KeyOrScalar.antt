@@ -11,11 +11,11 @@ use Rattle.yaml_text.specs.grammar.Nodes.{Part, yaml_part, json_part, implicit_y
 use Rattle.yaml_scalar.specs.BlockRules.{Inside}
 use Rattle.yaml_scalar.proofs.Runs.{run_none, run_same}
 use Rattle.yaml_scalar.proofs.LineRuns.{inside_no_line}
-use Rattle.yaml_unique.proofs.Unique.{End, At, Then}
+use Rattle.yaml_unique.specs.Readings.{End, At, Then}
 use Rattle.yaml_complete.proofs.Decisions.{Refused, Goes, Rest, Here}
-use Rattle.yaml_unique.proofs.Lines.{Solid, solid_no_space, Stuck, Less, Past, past_of, past_same, past_no_run, less_stuck, sep_run, run_solid}
-use Rattle.yaml_unique.proofs.BlockEntries.{Over, Follow}
-use Rattle.yaml_unique.proofs.BlockNodes.{F, FollowRest, FollowKey, rest_key, colon_solid}
+use Rattle.yaml_unique.proofs.Lines.{solid_no_space, past_of, past_same, past_no_run, less_stuck, sep_run, run_solid}
+use Rattle.yaml_unique.specs.Follows.{Solid, Stuck, Less, Past, Over, Follow, F, FollowRest, FollowKey}
+use Rattle.yaml_unique.proofs.BlockNodes.{rest_key, colon_solid}
 
 module _ (cs : List ℕ) where
   -- ---- comments: `skip_comments`

@@ -9,7 +9,8 @@ use Rattle.yaml_text.specs.grammar.Events.{no_props}
 use Rattle.yaml_text.specs.grammar.Nodes.{Part, block_part, part, reads, block_node}
 use Rattle.yaml_text.proofs.grammar.Forward.{Forward, fwd_reads}
 use Rattle.yaml_text.proofs.grammar.Widening.{Within}
-use Rattle.yaml_unique.proofs.Lines.{Solid, Fresh, Stuck, Past, past_of, past_same, past_no_run, stuck_run, way_any}
+use Rattle.yaml_unique.proofs.Lines.{past_of, past_same, past_no_run, stuck_run, way_any}
+use Rattle.yaml_unique.specs.Follows.{Solid, Fresh, Stuck, Past}
 use Rattle.yaml_unique.proofs.FlowNodes.{kind_fresh}
 use Rattle.yaml_unique.proofs.FlowEntries.{Facts}
 use Rattle.yaml_unique.proofs.FlowLevels.{no_facts, reads_facts}

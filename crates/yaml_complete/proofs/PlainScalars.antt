@@ -10,10 +10,10 @@ use Rattle.yaml_scalar.proofs.AnyLemmas.{any_onward, any_chain}
 use Rattle.yaml_scalar.proofs.GapLemmas.{unmarked_cuts}
 use Rattle.yaml_scalar.proofs.PlainLemmas.{one_same, first_ns, more_same, more_onward, no_later_colon}
 use Rattle.yaml_scalar.proofs.PlainReadings.{plain_to_chain}
-use Rattle.yaml_unique.proofs.Unique.{At}
-use Rattle.yaml_unique.proofs.BlockNodes.{F, colon_solid}
+use Rattle.yaml_unique.specs.Readings.{At}
+use Rattle.yaml_unique.proofs.BlockNodes.{colon_solid}
+use Rattle.yaml_unique.specs.Follows.{F, Closes, ColonY, Fy}
 use Rattle.yaml_unique.proofs.PlainEnds.{stop_way, stop_rest, any_unmarked, any_after, after_inside, colon_no_later}
-use Rattle.yaml_unique.proofs.FlowEntries.{Closes, ColonY, Fy}
 use Rattle.yaml_unique.proofs.FlowLevels.{closes_no_later}
 use Rattle.yaml_complete.proofs.Decisions.{Goes}
 

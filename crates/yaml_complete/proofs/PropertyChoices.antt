@@ -8,8 +8,9 @@ use Rattle.yaml_text.specs.Event.{Event}
 use Rattle.yaml_text.specs.grammar.Events.{Props, empty}
 use Rattle.yaml_text.specs.grammar.Nodes.{Part}
 use Rattle.yaml_scalar.specs.BlockRules.{Inside}
-use Rattle.yaml_unique.proofs.Unique.{End, At, Starts}
-use Rattle.yaml_unique.proofs.Lines.{Solid, Fresh, Way, way_of, way_same}
+use Rattle.yaml_unique.specs.Readings.{End, At, Starts}
+use Rattle.yaml_unique.proofs.Lines.{way_of, way_same}
+use Rattle.yaml_unique.specs.Follows.{Solid, Fresh, Way}
 use Rattle.yaml_unique.proofs.Properties.{NoMore, PropHere, prop, prop_solid, Two, alone, pair, both, props_two, props_inside}
 use Rattle.yaml_unique.proofs.TagEnds.{prop_same, prop_here, prop_inside}
 use Rattle.yaml_unique.proofs.FlowNodes.{ContentHere, Kind, kind_three, plain_start, jsons_start, Plains, Jsons, YamlRest, JsonRest}

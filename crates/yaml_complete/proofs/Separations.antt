@@ -8,8 +8,9 @@ use Rattle.yaml_scalar.specs.BlockRules.{Inside}
 use Rattle.yaml_scalar.proofs.Runs.{run_none, run_same}
 use Rattle.yaml_scalar.proofs.GapLemmas.{mark_ns}
 use Rattle.yaml_scalar.proofs.LineRuns.{inside_no_line, end_stops}
-use Rattle.yaml_unique.proofs.Unique.{End, Starts}
-use Rattle.yaml_unique.proofs.Lines.{Solid, Fresh, Stuck, Past, Way, solid_no_space, past_of, past_same, past_no_run, stuck_run, stuck_mark, sep_run, way_any, way_maybe}
+use Rattle.yaml_unique.specs.Readings.{End, Starts}
+use Rattle.yaml_unique.proofs.Lines.{solid_no_space, past_of, past_same, past_no_run, stuck_run, stuck_mark, sep_run, way_any, way_maybe}
+use Rattle.yaml_unique.specs.Follows.{Solid, Fresh, Stuck, Past, Way}
 use Rattle.yaml_complete.proofs.Decisions.{Refused, Rest, rest_before, refused_before}
 
 -- the contexts in which separation is spaces alone (7.4)

@@ -11,9 +11,9 @@ use Rattle.yaml_text.specs.grammar.Streams.{Piece, bare_document, explicit_docum
 use Rattle.yaml_scalar.specs.BlockRules.{AfterLine}
 use Rattle.yaml_scalar.proofs.RestLemmas.{l_comment_onward}
 use Rattle.yaml_scalar.proofs.BlockChains.{spans_onward}
-use Rattle.yaml_unique.proofs.Unique.{End, At}
-use Rattle.yaml_unique.proofs.Lines.{ns_dash, Comments, Stuck, Less, Past, past_of, past_same, less_stuck, comments_same, comments_none, stuck_end}
-use Rattle.yaml_unique.proofs.BlockEntries.{Follow}
+use Rattle.yaml_unique.specs.Readings.{End, At}
+use Rattle.yaml_unique.proofs.Lines.{ns_dash, past_of, past_same, less_stuck, comments_same, comments_none, stuck_end}
+use Rattle.yaml_unique.specs.Follows.{Comments, Stuck, Less, Past, Follow}
 use Rattle.yaml_unique.proofs.Directives.{Percent, percent_stuck, directives_unique}
 use Rattle.yaml_unique.proofs.Documents.{Tail, View, v_over, v_dots, v_shown, v_bare, v_directed, E0, stream_tail, view, lands, lands_false, line_of, mark_inside, suffix_mark, suffix_past, shown_mark, directive_percent, after_comments, marks_apart, mark_end, mark_percent, bare_no_mark, bare_no_end, bare_no_percent, dots_mark_is, dashes_mark_is, percent_end}
 use Rattle.yaml_unique.proofs.Documents as documents

@@ -15,9 +15,11 @@ use Rattle.yaml_text.proofs.grammar.Widening.{Within, in_reads}
 use Rattle.yaml_scalar.specs.BlockRules.{Inside}
 use Rattle.yaml_scalar.proofs.LineRuns.{indent_run}
 use Rattle.yaml_scalar.proofs.Runs.{run_none}
-use Rattle.yaml_unique.proofs.Unique.{At, Then, Unique, Apart, from, unique_either}
-use Rattle.yaml_unique.proofs.Lines.{Comments, Way, Stuck, past_of, Solid, Fresh, Less, DashHere, less_stuck, run_solid}
-use Rattle.yaml_unique.proofs.BlockEntries.{Over, Follow, NodeStart, KeyHere, block_seq_unique, block_map_unique, compact_part_unique, compact_part_start, start_no_ns, past_no_ns}
+use Rattle.yaml_unique.proofs.Unique.{from, unique_either}
+use Rattle.yaml_unique.specs.Readings.{At, Then, Unique, Apart}
+use Rattle.yaml_unique.proofs.Lines.{past_of, less_stuck, run_solid}
+use Rattle.yaml_unique.specs.Follows.{Comments, Way, Stuck, Solid, Fresh, Less, DashHere, Over, Follow, KeyHere, F}
+use Rattle.yaml_unique.proofs.BlockEntries.{NodeStart, block_seq_unique, block_map_unique, compact_part_unique, compact_part_start, start_no_ns, past_no_ns}
 use Rattle.yaml_unique.proofs.KeyContexts.{at_block, Eased, no_eased, reads_eased, eased}
 use Rattle.yaml_unique.proofs.TagEnds.{prop_same, prop_here, prop_inside, alias_same, alias_inside}
 use Rattle.yaml_unique.proofs.PlainEnds.{plain_block_unique, plain_inside}
@@ -26,7 +28,7 @@ use Rattle.yaml_unique.proofs.FlowEntries.{Facts}
 use Rattle.yaml_unique.proofs.FlowLevels.{jsons_unique, inner_out, reads_facts, no_facts}
 use Rattle.yaml_unique.proofs.FlowNodes.{Kind, Sign, kind_fresh, prop_kind, plain_start, jsons_start, yaml_unique, json_node_unique, nodes_apart, Jsons, YamlRest, JsonRest, json_parts}
 use Rattle.yaml_unique.proofs.Properties.{props_here, props_two, props_inside}
-use Rattle.yaml_unique.proofs.BlockNodes.{F, KeyRead, Nodes, block_node_unique, block_parts, compact_node, nodes_start, Begin, nodes_begin, nodes_again, nodes_unique, colon_solid, next_here, content_here, dash_no_kind, dash_no_plain}
+use Rattle.yaml_unique.proofs.BlockNodes.{KeyRead, Nodes, block_node_unique, block_parts, compact_node, nodes_start, Begin, nodes_begin, nodes_again, nodes_unique, colon_solid, next_here, content_here, dash_no_kind, dash_no_plain}
 
 nb_quote : is_nb 39 ≡ true
 unfolding is_nb is_break

@@ -13,10 +13,10 @@ use Rattle.yaml_scalar.proofs.HeaderLemmas.{header_parts}
 use Rattle.yaml_scalar.proofs.LineLemmas.{Tail, blank_of, text_of, Over, chain_of}
 use Rattle.yaml_scalar.proofs.LineRuns.{brk_after, line_end_onward, end_stops}
 use Rattle.yaml_scalar.proofs.RestLemmas.{from_s_b, blank_after}
-use Rattle.yaml_unique.proofs.Unique.{Unique}
-use Rattle.yaml_unique.proofs.Lines.{Comments, Stuck, comments_same, comments_join}
-use Rattle.yaml_unique.proofs.BlockEntries as blocks
-use Rattle.yaml_unique.proofs.BlockEntries.{Follow}
+use Rattle.yaml_unique.specs.Readings.{Unique}
+use Rattle.yaml_unique.proofs.Lines.{comments_same, comments_join}
+use Rattle.yaml_unique.specs.Follows.{Comments, Stuck, Follow}
+use Rattle.yaml_unique.specs.Follows as blocks
 
 module _ (cs : List ℕ) where
   -- a comment of fewer spaces is a comment line

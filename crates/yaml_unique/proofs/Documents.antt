@@ -12,9 +12,11 @@ use Rattle.yaml_scalar.specs.BlockRules.{Inside, AfterLine}
 use Rattle.yaml_scalar.proofs.Runs.{same_char, run_none}
 use Rattle.yaml_scalar.proofs.LineRuns.{end_stops, indent_place, indent_run}
 use Rattle.yaml_scalar.proofs.RestLemmas.{from_s_b, from_l, blank_after, l_comment_same}
-use Rattle.yaml_unique.proofs.Unique.{End, Unique, unique_seen, unique_bounded, unique_gives, unique_after, unique_before, unique_taking, unique_within, unique_from, unique_from_either, from_before}
-use Rattle.yaml_unique.proofs.Lines.{blank_at_end, run_solid, Solid, Fresh, Comments, Stuck, Less, Dash, Past, Way, past_of, past_same, comments_none, stuck_run, stuck_end, stuck_mark, less_stuck, end_no_run, dash_fresh, solid_nb, lines_on, ns_dash}
-use Rattle.yaml_unique.proofs.BlockEntries.{NodeStart, Over, Follow, start_no_empty}
+use Rattle.yaml_unique.proofs.Unique.{unique_seen, unique_bounded, unique_gives, unique_after, unique_before, unique_taking, unique_within, unique_from, unique_from_either, from_before}
+use Rattle.yaml_unique.specs.Readings.{End, Unique}
+use Rattle.yaml_unique.proofs.Lines.{blank_at_end, run_solid, past_of, past_same, comments_none, stuck_run, stuck_end, stuck_mark, less_stuck, end_no_run, dash_fresh, solid_nb, lines_on, ns_dash}
+use Rattle.yaml_unique.specs.Follows.{Solid, Fresh, Comments, Stuck, Less, Dash, Past, Way, Over, Follow}
+use Rattle.yaml_unique.proofs.BlockEntries.{NodeStart, start_no_empty}
 use Rattle.yaml_scalar.specs.Chains.{plain_head, plain_sign}
 use Rattle.yaml_scalar.proofs.PlainLemmas.{no_first_head}
 use Rattle.yaml_scalar.proofs.GapLemmas.{mark_ns}

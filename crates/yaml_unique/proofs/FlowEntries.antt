@@ -1,6 +1,7 @@
 -- Flow collections: items by commas, entries and single pairs, one reading each where the nodes in them have one.
 use Rattle.std.proofs.Common.{◌≡◌, ◌≢◌, ℕ, ◌+◌, ◌<◌, ◌⊎◌, inl, inr, List, ◌++◌, true, Some, refl, sym, ◌∙◌, ap, subst, arith, append_assoc}
 use Rattle.std.specs.Prelude.{slice_get}
+use Rattle.yaml_unique.specs.Follows as ends
 use Rattle.yaml_text.specs.grammar.Rules.{Rule, Span, ◌◆◌, ◌▸◌, ◌◂◌, ◌⨾◌, ◌∪◌, any, Any, done, then, optional, maybe, given, chr, run, Stands}
 use Rattle.yaml_text.specs.grammar.Characters.{is_space, is_ns, is_nb, is_break, is_white}
 use Rattle.yaml_text.specs.grammar.Separation.{Ctx, flow_in, flow_key, inner, separate, sep}
@@ -14,8 +15,10 @@ use Rattle.yaml_scalar.specs.BlockRules.{Inside}
 use Rattle.yaml_scalar.proofs.LineRuns.{inside_next}
 use Rattle.yaml_unique.proofs.BlockEntries.{past_no_ns}
 use Rattle.yaml_scalar.proofs.BlockChains.{SameRule}
-use Rattle.yaml_unique.proofs.Unique.{End, At, Unique, Apart, Ends, To, unique_until, unique_gives, unique_seen, unique_given, unique_before, unique_joined, unique_either}
-use Rattle.yaml_unique.proofs.Lines.{char_fresh, Past, solid_no_space, sep_parts, way_then, Solid, Fresh, Way, way_of, way_sep, way_here, way_maybe, way_same}
+use Rattle.yaml_unique.proofs.Unique.{unique_until, unique_gives, unique_seen, unique_given, unique_before, unique_joined, unique_either}
+use Rattle.yaml_unique.specs.Readings.{End, At, Unique, Apart, Ends, To}
+use Rattle.yaml_unique.proofs.Lines.{char_fresh, solid_no_space, sep_parts, way_then, way_of, way_sep, way_here, way_maybe, way_same}
+use Rattle.yaml_unique.specs.Follows.{Past, Solid, Fresh, Way}
 
 ns_colon : is_ns 58 ≡ true
 unfolding is_ns is_nb is_break is_white
@@ -34,29 +37,26 @@ unfolding is_ns is_nb is_break is_white
 ns_of c w x y z = grind (arith, w, x, y, z)
 
 module _ (cs : List ℕ) where
-  -- a comma or a closing bracket
-  abbrev pub Closes : ℕ → Type 0
-  Closes q = (slice_get cs q ≡ Some 44) ⊎ (slice_get cs q ≡ Some 93) ⊎ (slice_get cs q ≡ Some 125)
+  abbrev Closes : ℕ → Type 0
+  Closes = ends.Closes cs
 
-  abbrev pub Colon : ℕ → Type 0
-  Colon q = slice_get cs q ≡ Some 58
+  abbrev Colon : ℕ → Type 0
+  Colon = ends.Colon cs
 
-  abbrev pub ColonY : ℕ → Type 0
-  ColonY q = Colon q × (Stands cs (plain_safe flow_in) (q + 1) → ⊥)
+  abbrev ColonY : ℕ → Type 0
+  ColonY = ends.ColonY cs
 
-  -- after separation a comma or a bracket stands; or a colon that ends a yaml node; or any colon
-  abbrev pub Fs : ℕ → Type 0
-  Fs j = (q : ℕ) × Way cs j q × Closes q
+  abbrev Fs : ℕ → Type 0
+  Fs = ends.Fs cs
 
-  abbrev pub Fy : ℕ → Type 0
-  Fy j = (q : ℕ) × Way cs j q × (Closes q ⊎ ColonY q)
+  abbrev Fy : ℕ → Type 0
+  Fy = ends.Fy cs
 
-  abbrev pub Fj : ℕ → Type 0
-  Fj j = (q : ℕ) × Way cs j q × (Closes q ⊎ Colon q)
+  abbrev Fj : ℕ → Type 0
+  Fj = ends.Fj cs
 
-  -- a `?` that stands alone
-  abbrev pub MarkHere : ℕ → Type 0
-  MarkHere i = (slice_get cs i ≡ Some 63) × (Stands cs is_ns (i + 1) → ⊥)
+  abbrev MarkHere : ℕ → Type 0
+  MarkHere = ends.MarkHere cs
 
   -- what may begin an entry or an item; what may begin a node in one
   abbrev pub PartHere : ℕ → Type 0
@@ -68,9 +68,8 @@ module _ (cs : List ℕ) where
   pub item_part : (i : ℕ) → ItemHere i → PartHere i
   item_part i (f, a, b, c) = (f, a)
 
-  -- after separation a comma or a bracket stands at m
-  abbrev pub Es : End
-  Es j m = Way cs j m × Closes m
+  abbrev Es : End
+  Es = ends.Es cs
 
   pub ends_es : {V : Type 0} {R : Rule V} → Unique R (At Fs) → Unique R Es
   ends_es f i j k m n v w r (a, b) s (c, d) =

@@ -17,11 +17,12 @@ use Rattle.yaml_scalar.proofs.PlainLemmas.{hash_ns, later_no_hash, one_same, lat
 use Rattle.yaml_scalar.proofs.PlainReadings.{plain_to_chain}
 use Rattle.yaml_scalar.proofs.LineRuns.{inside_no_line, end_stops, line_end_stops, indent_run, indent_place}
 use Rattle.yaml_scalar.proofs.RestLemmas.{is_the_space, comment_stops, from_s_b, from_l}
-use Rattle.yaml_unique.proofs.Unique.{At, Unique}
-use Rattle.yaml_unique.proofs.Lines.{Solid, Past, Comments, Less, Way, solid_nb, solid_no_space}
+use Rattle.yaml_unique.specs.Readings.{At, Unique}
+use Rattle.yaml_unique.proofs.Lines.{solid_nb, solid_no_space}
+use Rattle.yaml_unique.specs.Follows.{Solid, Past, Comments, Less, Way, F}
 use Rattle.yaml_unique.proofs.BlockEntries.{past_no_ns}
 use Rattle.yaml_unique.proofs.FlowNodes.{safe_ns}
-use Rattle.yaml_unique.proofs.BlockNodes.{colon_solid, F}
+use Rattle.yaml_unique.proofs.BlockNodes.{colon_solid}
 
 white_space : is_white 32 ≡ true
 unfolding is_white
