@@ -1,30 +1,29 @@
 -- A value, an entry's node, or nothing: which of them is left, by the line that comes next.
-use Rattle.std.proofs.Common.{◌≡◌, ℕ, ◌+◌, ◌-◌, ◌≤◌, ◌<◌, ◌⊎◌, inl, inr, List, [], ◌∷◌, Some, refl, sym, ◌∙◌, ap, subst, arith}
-use Rattle.std.specs.Prelude.{slice_get}
-use Rattle.yaml_text.specs.grammar.Rules.{Span, Rule, Spans, ◌▸◌, ◌◂◌, ◌∪◌, gives, given, some, maybe, run, Stands}
-use Rattle.yaml_text.specs.grammar.Characters.{is_ns, is_space}
-use Rattle.yaml_text.specs.grammar.Separation.{Ctx, block_in, block_out, flow_out, separate, s_l_comments, indent, StartsLine}
+use Rattle.std.proofs.Common.{◌≡◌, ℕ, ◌+◌, ◌≤◌, ◌<◌, inl, inr, List, refl, sym, subst, arith}
+use Rattle.yaml_text.specs.grammar.Rules.{Rule, Spans, ◌▸◌, ◌∪◌, given, Stands}
+use Rattle.yaml_text.specs.grammar.Characters.{is_space}
+use Rattle.yaml_text.specs.grammar.Separation.{Ctx, block_in, flow_out, separate, s_l_comments, indent}
 use Rattle.yaml_text.specs.grammar.Tags.{Handles}
 use Rattle.yaml_text.specs.Event.{Event}
 use Rattle.yaml_text.specs.grammar.Events.{no_props}
-use Rattle.yaml_text.specs.grammar.Nodes.{Part, block_part, compact_part, part, block_node, compact_seq, compact_map, seq_column, empty_rest, indented}
+use Rattle.yaml_text.specs.grammar.Nodes.{Part, block_part, compact_part, part, block_node, seq_column, empty_rest, indented}
 use Rattle.yaml_text.proofs.grammar.Forward.{Forward}
 use Rattle.yaml_text.proofs.grammar.Widening.{Within}
 use Rattle.yaml_scalar.specs.BlockRules.{Inside}
 use Rattle.yaml_scalar.proofs.Runs.{run_same}
 use Rattle.yaml_scalar.proofs.LineRuns.{indent_run, indent_place, inside_no_line}
-use Rattle.yaml_unique.specs.Readings.{End, Starts}
-use Rattle.yaml_unique.proofs.Lines.{dash_fresh, solid_no_space, past_of, past_same, past_no_run, less_column, comments_none}
-use Rattle.yaml_unique.specs.Follows.{Solid, Fresh, Stuck, Less, Dash, DashHere, Past, Comments, Over, Follow, KeyHere}
+use Rattle.yaml_unique.specs.Readings.{End}
+use Rattle.yaml_unique.proofs.Lines.{dash_fresh, solid_no_space, past_of, past_same, past_no_run}
+use Rattle.yaml_unique.specs.Follows.{Fresh, Stuck, Past, Over, Follow}
 use Rattle.yaml_unique.proofs.BlockEntries.{NodeStart, start_no_empty}
 use Rattle.yaml_unique.proofs.FlowNodes.{kind_fresh}
 use Rattle.yaml_unique.proofs.FlowEntries.{Facts}
 use Rattle.yaml_unique.proofs.KeyContexts.{Eased}
 use Rattle.yaml_unique.proofs.BlockLevels.{Blocks}
-use Rattle.yaml_complete.proofs.Decisions.{Refused, Goes, Rest, Here, rest_left, rest_right, rest_rest, refused_within}
-use Rattle.yaml_complete.proofs.Separations.{Spaces, separate_short}
-use Rattle.yaml_complete.proofs.BlockLoops.{SequenceFrom, MappingFrom, compact_sequence, compact_mapping}
-use Rattle.yaml_complete.proofs.BlockStarts.{OnLine, OnOwnLine, Form, flow, scalar, propped, collection, named, form, flow_key, scalar_kind, propped_kind, ProppedScalar, ScalarOf, CollectionsOf, collection_stuck, lines_to, mapping_from, sequence_from, map_key, seq_dash, no_line_at_dash, node_on_line}
+use Rattle.yaml_complete.specs.Decisions.{Refused, Goes, Rest, Here}
+use Rattle.yaml_complete.proofs.Separations.{separate_short}
+use Rattle.yaml_complete.proofs.BlockLoops.{SequenceFrom, MappingFrom}
+use Rattle.yaml_complete.proofs.BlockStarts.{OnLine, OnOwnLine, Form, flow, scalar, propped, collection, named, form, flow_key, scalar_kind, propped_kind, ScalarOf, CollectionsOf, collection_stuck, lines_to, mapping_from, sequence_from, map_key, seq_dash}
 
 module _ (cs : List ℕ) where
   -- ---- nothing

@@ -1,6 +1,6 @@
 -- The loops of a reader of block sequences and block mappings: what is left after each call, and when there is nothing left.
-use Rattle.std.proofs.Common.{◌≡◌, ℕ, ◌+◌, ◌≤◌, ◌<◌, ◌⊎◌, inl, inr, List, false, Some, refl, sym, ◌∙◌, ap, subst, arith}
-use Rattle.yaml_text.specs.grammar.Rules.{Rule, ◌◆◌, ◌▸◌, ◌◂◌, ◌∪◌, ◌⨾◌, chr, any, given, seen, Spans, Stands, ahead}
+use Rattle.std.proofs.Common.{◌≡◌, ℕ, ◌+◌, ◌≤◌, ◌<◌, inl, inr, List, false, sym, ◌∙◌, subst, arith}
+use Rattle.yaml_text.specs.grammar.Rules.{Rule, ◌▸◌, ◌◂◌, ◌∪◌, ◌⨾◌, chr, any, given, seen, Spans, Stands}
 use Rattle.yaml_text.specs.grammar.Characters.{is_ns, is_space}
 use Rattle.yaml_text.specs.grammar.Separation.{block_out, block_key, indent, AtEnd, Mark}
 use Rattle.yaml_text.specs.grammar.Tags.{Handles}
@@ -10,10 +10,11 @@ use Rattle.yaml_text.specs.grammar.Nodes.{Part, block_part, empty_rest, indented
 use Rattle.yaml_scalar.proofs.LineRuns.{indent_place, indent_run}
 use Rattle.yaml_scalar.proofs.Runs.{run_same}
 use Rattle.yaml_unique.specs.Readings.{End, At, More, Starts}
-use Rattle.yaml_complete.proofs.Decisions.{Refused, Goes, Rest, Here, rest_refused, rest_goes, rest_rest, rest_until, goes_refused, refused_within, refused_until, rest_seen, rest_given, refused_given, rest_before, rest_joined, refused_joined, refused_after, rest_first, refused_first, rest_more, refused_more, goes_done}
-use Rattle.yaml_unique.proofs.Lines.{solid_no_space, dash_fresh, comments_none, column_same, less_column, less_stuck}
-use Rattle.yaml_unique.specs.Follows.{Solid, Fresh, Comments, Stuck, Less, DashHere, Dash, Over, Follow, KeyHere, KeyAt}
-use Rattle.yaml_unique.proofs.BlockEntries.{dash_less, less_dash, key_dash, follow_less, less_key}
+use Rattle.yaml_complete.specs.Decisions.{Refused, Goes, Rest, Here}
+use Rattle.yaml_complete.proofs.Decisions.{rest_refused, rest_goes, rest_rest, goes_refused, refused_until, rest_seen, rest_given, refused_given, rest_before, rest_joined, refused_joined, rest_first, refused_first, rest_more, refused_more, goes_done}
+use Rattle.yaml_unique.proofs.Lines.{solid_no_space, dash_fresh, comments_none, less_stuck}
+use Rattle.yaml_unique.specs.Follows.{Solid, Stuck, Less, DashHere, Dash, Over, Follow, KeyHere, KeyAt}
+use Rattle.yaml_unique.proofs.BlockEntries.{dash_less, key_dash, follow_less, less_key}
 
 module _ (cs : List ℕ) where
   -- one more begins at x, or the text goes on there
@@ -67,7 +68,6 @@ module _ (cs : List ℕ) where
   right_key k s x p o (q, t, (f, n)) = let lt : k < k = right_at k s k x p q o t f.0 in omega (arith, lt)
 
   module _ (Wide : Type 0) (handles : Handles) (Open : Type 0) (inside : Part → Rule (List Event)) (k : ℕ) where
-
     -- a collection from its first entry on, in column k, with these properties; without any it is a compact one
     abbrev pub SequenceFrom : Props → Rule (List Event)
     SequenceFrom o = given Open (seen (wrapped (seq_start false o) sequence_end) (seq_entry cs Wide handles Open inside k ⨾ any (indent cs k ▸ seq_entry cs Wide handles Open inside k)))

@@ -1,9 +1,8 @@
 -- A block scalar that ends as far on as any from its place ends where the text goes on.
-use Rattle.std.proofs.Common.{◌≡◌, ℕ, ◌+◌, ◌≤◌, ◌<◌, ◌⊎◌, inl, inr, List, Bool, true, false, not, Some, refl, sym, ◌∙◌, ap, subst, arith}
-use Rattle.std.specs.Prelude.{slice_get, ◌&&◌}
+use Rattle.std.proofs.Common.{◌≡◌, ℕ, ◌≤◌, ◌<◌, inl, inr, List, Bool, true, false, refl, sym, ◌∙◌, ap, subst, arith}
 use Rattle.yaml_text.specs.grammar.Rules.{Spans, run, maybe, Stands}
-use Rattle.yaml_text.specs.grammar.Characters.{is_space, is_nb, is_break}
-use Rattle.yaml_text.specs.grammar.Separation.{AtEnd, Mark, line_end, comment, l_comment, less}
+use Rattle.yaml_text.specs.grammar.Characters.{is_space, is_nb}
+use Rattle.yaml_text.specs.grammar.Separation.{comment, l_comment, less}
 use Rattle.yaml_text.specs.grammar.BlockScalars.{literal, folded, block_content, comment_lines, LessIndented, LinesEnd}
 use Rattle.yaml_scalar.specs.BlockRules.{blank_rest}
 use Rattle.yaml_scalar.specs.BlockModel.{styled}
@@ -11,9 +10,10 @@ use Rattle.yaml_scalar.proofs.Runs.{run_same, same_char}
 use Rattle.yaml_scalar.proofs.LineRuns.{line_end_stops}
 use Rattle.yaml_scalar.proofs.RestLemmas.{from_l, comment_stops, l_comment_onward, nb_feed, nb_return, space_feed, space_return, space_hash}
 use Rattle.yaml_unique.proofs.Lines.{comments_join, stuck_end, stuck_mark}
-use Rattle.yaml_unique.specs.Follows.{Comments, Stuck, Over}
+use Rattle.yaml_unique.specs.Follows.{Stuck, Over}
 use Rattle.yaml_unique.proofs.BlockScalarEnds.{block_scalar_unique}
-use Rattle.yaml_complete.proofs.Decisions.{Goes, Here, goes_seen, goes_until}
+use Rattle.yaml_complete.specs.Decisions.{Goes, Here}
+use Rattle.yaml_complete.proofs.Decisions.{goes_seen, goes_until}
 
 false_true : (b : Bool) → b ≡ false → b ≡ true → ⊥
 false_true b e f = grind (arith, e, f)

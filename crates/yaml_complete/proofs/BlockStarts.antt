@@ -1,25 +1,21 @@
 -- A node of block level by what a reader sees where it may begin: which of its forms are left, and from which place.
-use Rattle.std.proofs.Common.{◌≡◌, ℕ, ◌+◌, ◌-◌, ◌≤◌, ◌<◌, ◌⊎◌, inl, inr, List, [], ◌∷◌, false, Some, refl, sym, ◌∙◌, ap, subst, arith}
-use Rattle.std.specs.Prelude.{slice_get}
-use Rattle.yaml_text.specs.grammar.Rules.{Span, Rule, Spans, ◌▸◌, ◌◂◌, ◌∪◌, ◌⨾◌, any, gives, given, seen, with_value, maybe, run, Stands}
+use Rattle.std.proofs.Common.{◌≡◌, ℕ, ◌+◌, ◌≤◌, inl, inr, List, refl, sym, subst, arith}
+use Rattle.yaml_text.specs.grammar.Rules.{Rule, Spans, ◌▸◌, ◌◂◌, ◌∪◌, with_value, Stands}
 use Rattle.yaml_text.specs.grammar.Characters.{is_ns, is_space}
-use Rattle.yaml_text.specs.grammar.Separation.{Ctx, block_in, block_out, flow_out, separate, s_l_comments, indent, StartsLine}
+use Rattle.yaml_text.specs.grammar.Separation.{Ctx, flow_out, separate, s_l_comments, indent}
 use Rattle.yaml_text.specs.grammar.Tags.{Handles, properties}
-use Rattle.yaml_text.specs.grammar.FlowScalars.{PlainFirst}
 use Rattle.yaml_text.specs.grammar.BlockScalars.{literal, folded}
 use Rattle.yaml_text.specs.Event.{Event, sequence_end, mapping_end}
 use Rattle.yaml_text.specs.Event as style
-use Rattle.yaml_text.specs.grammar.Events.{Props, no_props, seq_start, map_start, wrapped, empty}
-use Rattle.yaml_text.specs.grammar.Nodes.{Part, yaml_part, json_part, block_part, part, flow_node, scalar_of, block_seq, block_map, block_node, seq_column, seq_entry, map_entry, empty_rest}
+use Rattle.yaml_text.specs.grammar.Events.{Props, no_props}
+use Rattle.yaml_text.specs.grammar.Nodes.{Part, part, flow_node, scalar_of, block_seq, block_map, block_node, seq_column, seq_entry, map_entry}
 use Rattle.yaml_text.proofs.grammar.Forward.{Forward}
 use Rattle.yaml_text.proofs.grammar.Widening.{Within}
-use Rattle.yaml_scalar.specs.BlockRules.{Inside}
-use Rattle.yaml_scalar.proofs.Runs.{same_char, run_same}
+use Rattle.yaml_scalar.proofs.Runs.{run_same}
 use Rattle.yaml_scalar.proofs.LineRuns.{indent_run, indent_place}
-use Rattle.yaml_unique.specs.Readings.{End, Starts}
-use Rattle.yaml_unique.proofs.Lines.{dash_fresh, solid_no_space, past_of, past_same, less_stuck, stuck_line, comments_same}
-use Rattle.yaml_unique.specs.Follows.{Solid, Fresh, Stuck, Less, DashHere, Past, Comments, Over, Follow, KeyHere}
-use Rattle.yaml_unique.proofs.BlockEntries.{start_no_empty}
+use Rattle.yaml_unique.specs.Readings.{End}
+use Rattle.yaml_unique.proofs.Lines.{dash_fresh, solid_no_space, past_of, past_same, stuck_line}
+use Rattle.yaml_unique.specs.Follows.{Fresh, Stuck, DashHere, KeyHere}
 use Rattle.yaml_unique.proofs.Properties.{props_here, props_two}
 use Rattle.yaml_unique.proofs.TagEnds.{prop_same, prop_here, prop_inside}
 use Rattle.yaml_unique.proofs.FlowNodes.{Kind, Sign, kind_same, kind_fresh, prop_kind}
@@ -27,8 +23,8 @@ use Rattle.yaml_unique.proofs.FlowEntries.{Facts}
 use Rattle.yaml_unique.proofs.BlockNodes.{dash_no_kind}
 use Rattle.yaml_unique.proofs.KeyContexts.{Eased}
 use Rattle.yaml_unique.proofs.BlockLevels.{Blocks, flow_start, key_start}
-use Rattle.yaml_complete.proofs.Decisions.{Refused, Goes, Rest, Here}
-use Rattle.yaml_complete.proofs.Separations.{IsKey, Spaces, separate_on_line, separate_on_next}
+use Rattle.yaml_complete.specs.Decisions.{Refused, Rest}
+use Rattle.yaml_complete.proofs.Separations.{Spaces, separate_on_line, separate_on_next}
 use Rattle.yaml_complete.proofs.BlockLoops.{SequenceFrom, MappingFrom}
 
 module _ (cs : List ℕ) (Wide : Type 0) (handles : Handles) (Open : Type 0) (inside : Part → Rule (List Event)) (facts : Facts cs inside) (ease : Eased cs Wide handles inside)

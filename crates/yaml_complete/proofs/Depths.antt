@@ -1,31 +1,18 @@
 -- How many collections the events of a reading have open at once: never more than the reading had room for.
-use Rattle.std.proofs.Common.{◌≡◌, ℕ, zero, suc, ◌+◌, ◌-◌, ◌≤◌, ◌<◌, ◌⊎◌, inl, inr, Bool, true, false, List, [], ◌∷◌, ◌++◌, refl, sym, ◌∙◌, ap, subst, arith, append_assoc}
+use Rattle.std.proofs.Common.{◌≡◌, ℕ, zero, suc, ◌+◌, ◌-◌, ◌≤◌, ◌<◌, inl, inr, Bool, true, false, List, [], ◌∷◌, ◌++◌, refl, sym, ◌∙◌, ap, subst, arith, append_assoc}
 use Rattle.std.specs.Prelude.{max}
 use Rattle.yaml_text.specs.Event.{Event, Style, stream_start, stream_end, document_start, document_end, sequence_start, sequence_end, mapping_start, mapping_end, scalar_event, alias_event}
 use Rattle.yaml_text.specs.Event as style
 use Rattle.yaml_text.specs.grammar.Rules.{Span, Rule, ◌▸◌, ◌◂◌, ◌⨾◌, ◌∪◌, gives, given, never, optional, some, any, Any, done, then, any_one, with_value, seen, where_both}
 use Rattle.yaml_text.specs.grammar.Separation.{Ctx, flow_key, flow_out, block_key}
-use Rattle.yaml_text.specs.grammar.Events.{Props, no_props, seq_start, map_start, scalar, empty, wrapped}
+use Rattle.yaml_text.specs.grammar.Events.{Props, no_props, seq_start, map_start, scalar, wrapped}
 use Rattle.yaml_text.specs.grammar.Tags.{Handles}
 use Rattle.yaml_text.specs.grammar.Nodes as nodes
 use Rattle.yaml_text.specs.grammar.Nodes.{Part, yaml_part, json_part, pair_part, block_part, compact_part, part, reads}
 use Rattle.yaml_text.proofs.grammar.Widening.{in_reads}
 use Rattle.yaml_unique.specs.Readings.{End, Unique}
-use Rattle.yaml_complete.proofs.Decisions.{Refused}
-
--- the most collections that are open at one place of these events, n of them before
-unfoldable pub peak : ℕ → List Event → ℕ
-peak n [] = n
-peak n (sequence_start f a g ∷ es) = max n (peak (suc n) es)
-peak n (mapping_start f a g ∷ es) = max n (peak (suc n) es)
-peak n (sequence_end ∷ es) = max n (peak (n - 1) es)
-peak n (mapping_end ∷ es) = max n (peak (n - 1) es)
-peak n (scalar_event a g y x ∷ es) = peak n es
-peak n (alias_event a ∷ es) = peak n es
-peak n (stream_start ∷ es) = peak n es
-peak n (stream_end ∷ es) = peak n es
-peak n (document_start b ∷ es) = peak n es
-peak n (document_end b ∷ es) = peak n es
+use Rattle.yaml_complete.specs.Depth.{peak}
+use Rattle.yaml_complete.specs.Decisions.{Refused}
 
 -- at most r of them are opened by these events, and all are closed
 abbrev pub Level : ℕ → List Event → Type 0
@@ -77,13 +64,16 @@ around start end = (n : ℕ) (fs : List Event) → (peak n (start ∷ fs) ≡ ma
 
 level_around : (start end : Event) → around start end → (r s : ℕ) → suc s ≤ r → (es : List Event) → Level s es → Level r (wrapped start end es)
 unfolding around
-level_around start end h r s le es (d, l, f) =
-    (suc d, omega (arith, l, le), λ n fs.
-        let a : peak n (start ∷ ((es ++ (end ∷ [])) ++ fs)) ≡ max n (peak (suc n) ((es ++ (end ∷ [])) ++ fs)) = (h n ((es ++ (end ∷ [])) ++ fs)).0 in
-        let b : peak (suc n) ((es ++ (end ∷ [])) ++ fs) ≡ peak (suc n) (es ++ (end ∷ fs)) = ap (peak (suc n)) (append_assoc es (end ∷ []) fs) in
-        let c : peak (suc n) (es ++ (end ∷ fs)) ≡ max (suc n + d) (peak (suc n) (end ∷ fs)) = f (suc n) (end ∷ fs) in
-        let e : peak (suc n) (end ∷ fs) ≡ max (suc n) (peak n fs) = (h n fs).1 in
-        omega (arith, a, b, c, e))
+level_around start end h r s le es (d, l, f) = (
+  suc d,
+  omega (arith, l, le),
+  λ n fs.
+      let a : peak n (start ∷ ((es ++ (end ∷ [])) ++ fs)) ≡ max n (peak (suc n) ((es ++ (end ∷ [])) ++ fs)) = (h n ((es ++ (end ∷ [])) ++ fs)).0 in
+      let b : peak (suc n) ((es ++ (end ∷ [])) ++ fs) ≡ peak (suc n) (es ++ (end ∷ fs)) = ap (peak (suc n)) (append_assoc es (end ∷ []) fs) in
+      let c : peak (suc n) (es ++ (end ∷ fs)) ≡ max (suc n + d) (peak (suc n) (end ∷ fs)) = f (suc n) (end ∷ fs) in
+      let e : peak (suc n) (end ∷ fs) ≡ max (suc n) (peak n fs) = (h n fs).1 in
+      omega (arith, a, b, c, e),
+)
 
 around_sequence : (b : Bool) (p : Props) → around (seq_start b p) sequence_end
 unfolding around peak
@@ -283,8 +273,10 @@ module _ (cs : List ℕ) (Wide : Type 0) (handles : Handles) where
   -- where the reading with more room opens more than there is, there is none
   pub no_room : (less most : ℕ) → less ≤ most → (p : Part) (E : End) → Unique (reads cs Wide handles most p) E → (i x n : ℕ) (es : List Event) → reads cs Wide handles most p i x es → E x n → less < peak 0 es
       → Refused (reads cs Wide handles less p) E i
-  no_room less most le p E one i x n es r e lt = record { none = λ j m v s d.
-      let h = one i x j n m es v r e (in_reads cs Wide Wide (λ w. w) handles less most le p i j v s) d in
-      let a : peak 0 v ≤ less = reads_peak less p i j v s in
-      let b : peak 0 es ≤ less = subst (λ z. peak 0 z ≤ less) (sym h.1) a in
-      omega (arith, b, lt) }
+  no_room less most le p E one i x n es r e lt = record {
+    none = λ j m v s d.
+        let h = one i x j n m es v r e (in_reads cs Wide Wide (λ w. w) handles less most le p i j v s) d in
+        let a : peak 0 v ≤ less = reads_peak less p i j v s in
+        let b : peak 0 es ≤ less = subst (λ z. peak 0 z ≤ less) (sym h.1) a in
+        omega (arith, b, lt);
+  }

@@ -1,27 +1,28 @@
 -- Items, entries and values between brackets: what is left after a node, by what stands after it.
-use Rattle.std.proofs.Common.{◌≡◌, ℕ, ◌+◌, ◌≤◌, ◌<◌, ◌⊎◌, inl, inr, List, ◌++◌, true, Some, refl, sym, ◌∙◌, ap, subst, arith}
-use Rattle.std.specs.Prelude.{slice_get}
-use Rattle.yaml_text.specs.grammar.Rules.{Span, Rule, Spans, ◌◆◌, ◌▸◌, ◌◂◌, ◌⨾◌, ◌∪◌, chr, gives, given, seen, maybe, run, Stands, ahead}
-use Rattle.yaml_text.specs.grammar.Characters.{is_space, is_ns, is_nb, is_break, is_white}
-use Rattle.yaml_text.specs.grammar.Separation.{Ctx, flow_in, flow_out, flow_key, separate, separate_lines, sep, OneLine}
+use Rattle.std.proofs.Common.{◌≡◌, ℕ, ◌+◌, ◌≤◌, ◌<◌, ◌⊎◌, inl, inr, List, refl, sym, ◌∙◌, subst, arith}
+use Rattle.yaml_text.specs.grammar.Rules.{Span, Rule, ◌▸◌, ◌⨾◌, ◌∪◌, gives, given, maybe, run}
+use Rattle.yaml_text.specs.grammar.Characters.{is_space}
+use Rattle.yaml_text.specs.grammar.Separation.{flow_in, flow_out, flow_key, separate, separate_lines, sep, OneLine}
 use Rattle.yaml_text.specs.grammar.Tags.{Handles}
-use Rattle.yaml_text.specs.grammar.FlowScalars.{plain, plain_safe}
+use Rattle.yaml_text.specs.grammar.FlowScalars.{plain}
 use Rattle.yaml_text.specs.Limits.{key_limit}
 use Rattle.yaml_text.specs.Event.{Event}
 use Rattle.yaml_text.specs.grammar.Events.{no_props, empty}
-use Rattle.yaml_text.specs.grammar.Nodes.{Part, yaml_part, json_part, yaml_node, json_node, value, adjacent, yaml_key_entry, json_key_entry, implicit_entry, entry, pair, implicit_yaml_key, implicit_json_key, empty_key, explicit}
+use Rattle.yaml_text.specs.grammar.Nodes.{Part, yaml_part, json_part, value, adjacent, yaml_key_entry, json_key_entry, implicit_entry, entry, pair, implicit_yaml_key, implicit_json_key, empty_key, explicit}
 use Rattle.yaml_scalar.specs.BlockRules.{Inside}
 use Rattle.yaml_scalar.specs.Chains.{Later}
 use Rattle.yaml_scalar.proofs.Runs.{same_char, run_none}
 use Rattle.yaml_scalar.proofs.PlainLemmas.{no_later_colon}
 use Rattle.yaml_unique.specs.Readings.{End, At, Starts}
-use Rattle.yaml_unique.proofs.Lines.{solid_no_space, char_fresh, way_same, way_then, sep_run, sep_parts, past_of, way_maybe}
+use Rattle.yaml_unique.proofs.Lines.{solid_no_space, way_same, way_then, sep_run, sep_parts, way_maybe}
 use Rattle.yaml_unique.specs.Follows.{Solid, Fresh, Past, Way, Closes, Colon, ColonY, MarkHere}
 use Rattle.yaml_unique.proofs.BlockEntries.{past_no_ns}
 use Rattle.yaml_unique.proofs.PlainEnds.{stop_way}
 use Rattle.yaml_unique.proofs.FlowLevels.{closes_no_later}
-use Rattle.yaml_unique.proofs.FlowEntries.{ItemHere, PartHere, Facts, closes_solid, colon_solid, closes_colon, colon_part, value_colon, adjacent_colon, empty_key_colon, explicit_mark, item_no_loose, loose_here, implicit_start}
-use Rattle.yaml_complete.proofs.Decisions.{Refused, Goes, Rest, rest_goes, rest_refused, rest_rest, rest_left, rest_right, rest_seen, rest_given, rest_before, rest_joined, refused_joined, refused_before, refused_either, goes_either, refused_until, goes_until}
+use Rattle.yaml_unique.proofs.FlowEntries.{ItemHere, PartHere, Facts, closes_solid, colon_solid, closes_colon, colon_part, value_colon, adjacent_colon, empty_key_colon, explicit_mark, implicit_start}
+use Rattle.yaml_complete.specs.FlowEnds as ends
+use Rattle.yaml_complete.specs.Decisions.{Refused, Goes, Rest}
+use Rattle.yaml_complete.proofs.Decisions.{rest_goes, rest_refused, rest_rest, rest_left, rest_right, rest_before, rest_joined, refused_joined, refused_before, refused_either}
 use Rattle.yaml_complete.proofs.Separations.{Spaces, spaces_to}
 use Rattle.yaml_complete.proofs.PropertyChoices.{goes_gives, refused_gives}
 use Rattle.yaml_complete.proofs.FlowLoops.{closes_fresh}
@@ -31,19 +32,17 @@ module _ (cs : List ℕ) where
   -- ---- how the text goes on after a part, and after a node of either kind
 
   module _ (n : ℕ) where
-    abbrev pub Gap : Span
-    Gap = maybe (separate cs n flow_in)
+    abbrev Gap : Span
+    Gap = ends.Gap cs n
 
-    -- after separation a comma or a closing bracket
-    abbrev pub InFlow : End
-    InFlow j m = Gap j m × Closes cs m
+    abbrev InFlow : End
+    InFlow = ends.InFlow cs n
 
-    -- or the colon that makes it a key
-    abbrev pub EndsYaml : ℕ → Type 0
-    EndsYaml j = (q : ℕ) × Gap j q × (Closes cs q ⊎ ColonY cs q)
+    abbrev EndsYaml : ℕ → Type 0
+    EndsYaml = ends.EndsYaml cs n
 
-    abbrev pub EndsJson : ℕ → Type 0
-    EndsJson j = (q : ℕ) × Gap j q × (Closes cs q ⊎ Colon cs q)
+    abbrev EndsJson : ℕ → Type 0
+    EndsJson = ends.EndsJson cs n
 
     pub in_yaml : (j m : ℕ) → InFlow j m → At EndsYaml j j
     in_yaml j m (s, h) = (refl, (m, s, inl h))

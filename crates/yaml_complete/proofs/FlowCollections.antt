@@ -1,7 +1,7 @@
 -- A flow sequence and a flow mapping from their brackets on: what is left is their parts, and the bracket that closes them.
-use Rattle.std.proofs.Common.{◌≡◌, ◌≢◌, ℕ, ◌+◌, ◌⊎◌, inl, inr, List, Some, refl, sym, ◌∙◌, ap, subst, arith}
+use Rattle.std.proofs.Common.{◌≡◌, ◌≢◌, ℕ, ◌+◌, ◌⊎◌, inl, inr, List, Some, refl, ◌∙◌, ap, subst, arith}
 use Rattle.std.specs.Prelude.{slice_get}
-use Rattle.yaml_text.specs.grammar.Rules.{Span, Rule, ◌◆◌, ◌▸◌, ◌◂◌, ◌⨾◌, ◌∪◌, chr, maybe, any, optional}
+use Rattle.yaml_text.specs.grammar.Rules.{Span, Rule, ◌◆◌, ◌◂◌, ◌⨾◌, ◌∪◌, chr, maybe, any, optional}
 use Rattle.yaml_text.specs.grammar.Separation.{Ctx, flow_in, inner, separate}
 use Rattle.yaml_text.specs.grammar.Tags.{Handles}
 use Rattle.yaml_text.specs.Event.{Event}
@@ -9,8 +9,8 @@ use Rattle.yaml_text.specs.grammar.Events.{Props}
 use Rattle.yaml_text.specs.grammar.Nodes.{Part, yaml_part, json_part, pair_part, flow_seq, flow_map, inside_flow, entry}
 use Rattle.yaml_unique.specs.Readings.{End, At}
 use Rattle.yaml_unique.specs.Follows.{Solid, Fresh, Closes}
-use Rattle.yaml_unique.proofs.FlowEntries.{PartHere, Facts, closes_solid, item_part, entry_start}
-use Rattle.yaml_complete.proofs.Decisions.{Refused, Goes, Rest, Here, rest_goes, rest_refused}
+use Rattle.yaml_unique.proofs.FlowEntries.{PartHere, Facts, item_part, entry_start}
+use Rattle.yaml_complete.specs.Decisions.{Refused, Goes, Rest, Here}
 use Rattle.yaml_complete.proofs.FlowLoops.{parts_start, closes_fresh}
 
 module _ (cs : List ℕ) (Wide : Type 0) (handles : Handles) (Open : Type 0) (inside : Part → Rule (List Event)) (facts : Facts cs inside) (n : ℕ) (c : Ctx) (within : inner c ≡ flow_in) where
@@ -72,8 +72,10 @@ module _ (cs : List ℕ) (Wide : Type 0) (handles : Handles) (Open : Type 0) (in
   -- or nowhere
   pub sequence_no_gap : (p : Props) (E : End) (i : ℕ) → ((q : ℕ) → Gap (i + 1) q → Fresh cs q → ⊥) → Refused (Sequence p) E i
   unfolding flow_seq
-  sequence_no_gap p E i none = record { none = λ j m v (o, (t, (k, (a, (h, e), s), r), f)) d.
-      none k (subst (λ z. Gap z k) e s) (bracketed_start Items item_start 93 bracket_shut (λ z. omega (arith, z)) k j t r) }
+  sequence_no_gap p E i none = record {
+    none = λ j m v (o, (t, (k, (a, (h, e), s), r), f)) d.
+        none k (subst (λ z. Gap z k) e s) (bracketed_start Items item_start 93 bracket_shut (λ z. omega (arith, z)) k j t r);
+  }
 
   pub sequence_no_room : (p : Props) (E : End) (i : ℕ) → (Open → ⊥) → Refused (Sequence p) E i
   unfolding flow_seq
@@ -109,8 +111,10 @@ module _ (cs : List ℕ) (Wide : Type 0) (handles : Handles) (Open : Type 0) (in
 
   pub mapping_no_gap : (p : Props) (E : End) (i : ℕ) → ((q : ℕ) → Gap (i + 1) q → Fresh cs q → ⊥) → Refused (Mapping p) E i
   unfolding flow_map
-  mapping_no_gap p E i none = record { none = λ j m v (o, (t, (k, (a, (h, e), s), r), f)) d.
-      none k (subst (λ z. Gap z k) e s) (bracketed_start Entries entries_start 125 brace_shut (λ z. omega (arith, z)) k j t r) }
+  mapping_no_gap p E i none = record {
+    none = λ j m v (o, (t, (k, (a, (h, e), s), r), f)) d.
+        none k (subst (λ z. Gap z k) e s) (bracketed_start Entries entries_start 125 brace_shut (λ z. omega (arith, z)) k j t r);
+  }
 
   pub mapping_no_room : (p : Props) (E : End) (i : ℕ) → (Open → ⊥) → Refused (Mapping p) E i
   unfolding flow_map

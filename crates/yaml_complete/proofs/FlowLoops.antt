@@ -1,5 +1,5 @@
 -- The loop of a reader of items or entries by commas: what is left after each, and when the bracket closes.
-use Rattle.std.proofs.Common.{◌≡◌, ◌≢◌, ℕ, ◌+◌, ◌⊎◌, inl, inr, List, true, Some, ◌++◌, refl, sym, ◌∙◌, ap, subst, arith}
+use Rattle.std.proofs.Common.{◌≡◌, ◌≢◌, ℕ, ◌+◌, ◌⊎◌, inl, inr, List, true, Some, ◌++◌, refl, sym, ◌∙◌, subst, arith}
 use Rattle.std.specs.Prelude.{slice_get}
 use Rattle.yaml_text.specs.grammar.Rules.{Span, Rule, ◌◆◌, ◌◂◌, ◌⨾◌, any, Any, done, then, chr, maybe, optional}
 use Rattle.yaml_text.specs.grammar.Characters.{is_ns, is_nb, is_break, is_white}
@@ -7,7 +7,8 @@ use Rattle.yaml_text.specs.grammar.Separation.{Ctx, separate}
 use Rattle.yaml_text.specs.Event.{Event}
 use Rattle.yaml_scalar.proofs.Runs.{same_char}
 use Rattle.yaml_unique.specs.Readings.{End, At}
-use Rattle.yaml_complete.proofs.Decisions.{Refused, Goes, Rest, Here, goes_refused}
+use Rattle.yaml_complete.specs.Decisions.{Refused, Goes, Rest, Here}
+use Rattle.yaml_complete.proofs.Decisions.{goes_refused}
 use Rattle.yaml_unique.proofs.Lines.{char_fresh}
 use Rattle.yaml_unique.specs.Follows.{Solid, Fresh, Closes}
 use Rattle.yaml_unique.proofs.FlowEntries.{PartHere, closes_solid}

@@ -1,8 +1,8 @@
 -- A flow node by its first character: which of its forms are left.
-use Rattle.std.proofs.Common.{◌≡◌, ℕ, ◌⊎◌, inl, inr, List, [], ◌∷◌, Some, refl, sym, ◌∙◌, subst, arith}
+use Rattle.std.proofs.Common.{◌≡◌, ℕ, ◌⊎◌, inl, inr, List, Some, refl, arith}
 use Rattle.std.specs.Prelude.{slice_get}
-use Rattle.yaml_text.specs.grammar.Rules.{Rule, ◌∪◌, gives, with_value}
-use Rattle.yaml_text.specs.grammar.Separation.{Ctx, inner, flow_in}
+use Rattle.yaml_text.specs.grammar.Rules.{Rule, with_value}
+use Rattle.yaml_text.specs.grammar.Separation.{Ctx}
 use Rattle.yaml_text.specs.grammar.Tags.{Handles, properties}
 use Rattle.yaml_text.specs.grammar.Tags as tags
 use Rattle.yaml_text.specs.grammar.FlowScalars.{PlainFirst, single, double}
@@ -17,7 +17,8 @@ use Rattle.yaml_unique.proofs.TagEnds.{prop_same, prop_here, prop_inside}
 use Rattle.yaml_unique.proofs.Properties.{props_here, props_two}
 use Rattle.yaml_unique.proofs.FlowNodes.{Kind, Sign, kind_same, plain_no_kind, prop_kind, plain_start, Jsons, Plains, Aliases, YamlRest, JsonRest, jsons_start, json_parts}
 use Rattle.yaml_unique.proofs.FlowLevels.{single_same}
-use Rattle.yaml_complete.proofs.Decisions.{Refused, Goes, Rest, goes_one}
+use Rattle.yaml_complete.specs.Decisions.{Refused, Goes, Rest}
+use Rattle.yaml_complete.proofs.Decisions.{goes_one}
 
 module _ (cs : List ℕ) (Wide : Type 0) (handles : Handles) (Open : Type 0) (inside : Part → Rule (List Event)) (n : ℕ) (c : Ctx) where
   abbrev Yaml : Rule (List Event)

@@ -1,9 +1,9 @@
 -- A flow node at block level is a scalar or a key by what stands after it; one call that reads it serves both.
-use Rattle.std.proofs.Common.{◌≡◌, ◌≢◌, ℕ, ◌+◌, ◌≤◌, ◌<◌, ◌⊎◌, inl, inr, List, Some, refl, sym, ◌∙◌, ap, subst, arith}
+use Rattle.std.proofs.Common.{◌≡◌, ◌≢◌, ℕ, ◌+◌, ◌≤◌, inl, inr, List, Some, refl, sym, ◌∙◌, ap, subst}
 use Rattle.std.specs.Prelude.{slice_get}
-use Rattle.yaml_text.specs.grammar.Rules.{Rule, Spans, ◌◆◌, ◌▸◌, ◌◂◌, ◌∪◌, ◌⨾◌, chr, run, maybe, Stands, where_both}
+use Rattle.yaml_text.specs.grammar.Rules.{Rule, Spans, ◌◂◌, ◌∪◌, chr, run, maybe, Stands}
 use Rattle.yaml_text.specs.grammar.Characters.{is_ns, is_space}
-use Rattle.yaml_text.specs.grammar.Separation.{block_key, flow_out, sep, s_l_comments, OneLine}
+use Rattle.yaml_text.specs.grammar.Separation.{block_key, sep, s_l_comments, OneLine}
 use Rattle.yaml_text.specs.grammar.Tags.{Handles}
 use Rattle.yaml_text.specs.Event.{Event}
 use Rattle.yaml_text.specs.Limits.{key_limit}
@@ -11,11 +11,11 @@ use Rattle.yaml_text.specs.grammar.Nodes.{Part, yaml_part, json_part, implicit_y
 use Rattle.yaml_scalar.specs.BlockRules.{Inside}
 use Rattle.yaml_scalar.proofs.Runs.{run_none, run_same}
 use Rattle.yaml_scalar.proofs.LineRuns.{inside_no_line}
-use Rattle.yaml_unique.specs.Readings.{End, At, Then}
-use Rattle.yaml_complete.proofs.Decisions.{Refused, Goes, Rest, Here}
+use Rattle.yaml_unique.specs.Readings.{At, Then}
+use Rattle.yaml_complete.specs.Decisions.{Refused, Goes, Here}
 use Rattle.yaml_unique.proofs.Lines.{solid_no_space, past_of, past_same, past_no_run, less_stuck, sep_run, run_solid}
-use Rattle.yaml_unique.specs.Follows.{Solid, Stuck, Less, Past, Over, Follow, F, FollowRest, FollowKey}
-use Rattle.yaml_unique.proofs.BlockNodes.{rest_key, colon_solid}
+use Rattle.yaml_unique.specs.Follows.{Stuck, Over, Follow, F, FollowRest}
+use Rattle.yaml_unique.proofs.BlockNodes.{colon_solid}
 
 module _ (cs : List ℕ) where
   -- ---- comments: `skip_comments`
@@ -32,22 +32,28 @@ module _ (cs : List ℕ) where
 
     -- `read_keyed`, no colon
     pub node_line : (i y x : ℕ) → Goes R (At (F cs col d)) i (At (F cs col d)) y → s_l_comments cs y x → Stuck cs x → Goes (R ◂ s_l_comments cs) (Over cs (Follow cs col d)) i Here x
-    node_line i y x g r s = record { goes = λ j m v (k, t, u) e.
-        let h = (g.goes k k v t (refl, inl (rest_of k m (j, u, e)))).0 in
-        comments_here y x j m (Follow cs col d) r s (subst (λ z. s_l_comments cs z j) (sym h) u) e (less_stuck cs col m e.1.0) }
+    node_line i y x g r s = record {
+      goes = λ j m v (k, t, u) e.
+          let h = (g.goes k k v t (refl, inl (rest_of k m (j, u, e)))).0 in
+          comments_here y x j m (Follow cs col d) r s (subst (λ z. s_l_comments cs z j) (sym h) u) e (less_stuck cs col m e.1.0);
+    }
 
     -- no comments, which is a fault
     pub node_no_line : (i y : ℕ) → Goes R (At (F cs col d)) i (At (F cs col d)) y → ((j : ℕ) → s_l_comments cs y j → ⊥) → Refused (R ◂ s_l_comments cs) (Over cs (Follow cs col d)) i
-    node_no_line i y g n = record { none = λ j m v (k, t, u) e.
-        let h = (g.goes k k v t (refl, inl (rest_of k m (j, u, e)))).0 in
-        n j (subst (λ z. s_l_comments cs z j) (sym h) u) }
+    node_no_line i y g n = record {
+      none = λ j m v (k, t, u) e.
+          let h = (g.goes k k v t (refl, inl (rest_of k m (j, u, e)))).0 in
+          n j (subst (λ z. s_l_comments cs z j) (sym h) u);
+    }
 
     -- a colon: no scalar
     pub node_no_rest : (i y q : ℕ) → Goes R (At (F cs col d)) i (At (F cs col d)) y → Inside cs y → run cs is_space y q → slice_get cs q ≡ Some 58 → Refused (R ◂ s_l_comments cs) (Over cs (Follow cs col d)) i
-    node_no_rest i y q g o r h = record { none = λ j m v (k, t, u) e.
-        let f = rest_of k m (j, u, e) in
-        let a = (g.goes k k v t (refl, inl f)).0 in
-        inside_no_rest y q o r h (subst (FollowRest cs col d) (sym a) f) }
+    node_no_rest i y q g o r h = record {
+      none = λ j m v (k, t, u) e.
+          let f = rest_of k m (j, u, e) in
+          let a = (g.goes k k v t (refl, inl f)).0 in
+          inside_no_rest y q o r h (subst (FollowRest cs col d) (sym a) f);
+    }
       where
         inside_no_rest : (y q : ℕ) → Inside cs y → run cs is_space y q → slice_get cs q ≡ Some 58 → FollowRest cs col d y → ⊥
         inside_no_rest y q o r h (m, p, f) = inside_no_line cs y o (past_no_run cs y m q p r (colon_solid cs q h)).0
@@ -83,24 +89,30 @@ module _ (cs : List ℕ) where
 
       -- `first_colon`, `read_key`: the key ends after this colon
       pub key_goes : (i y q : ℕ) → Goes R (At (F cs col d)) i (At (F cs col d)) y → run cs is_space y q → slice_get cs q ≡ Some 58 → Goes Keys (At Colon) i Here (q + 1)
-      key_goes i y q g r h = record { goes = λ j m v k (e, n).
-          let (p, s, f, o, l, t) = key_colon i y j g (key_is i j v k) n in
-          let u : p ≡ q = run_solid cs y p q s (colon_solid cs p f).0 r (colon_solid cs q h).0 in
-          sym e ∙ t ∙ ap (λ z. z + 1) u }
+      key_goes i y q g r h = record {
+        goes = λ j m v k (e, n).
+            let (p, s, f, o, l, t) = key_colon i y j g (key_is i j v k) n in
+            let u : p ≡ q = run_solid cs y p q s (colon_solid cs p f).0 r (colon_solid cs q h).0 in
+            sym e ∙ t ∙ ap (λ z. z + 1) u;
+      }
 
       -- no colon after the node
       pub no_key : (i y q : ℕ) → Goes R (At (F cs col d)) i (At (F cs col d)) y → run cs is_space y q → (Stands cs is_space q → ⊥) → (slice_get cs q ≢ Some 58) → Refused Keys (At Colon) i
-      no_key i y q g r w h = record { none = λ j m v k (e, n).
-          let (p, s, f, o, l, t) = key_colon i y j g (key_is i j v k) n in
-          let u : p ≡ q = run_same cs is_space y p q s r (solid_no_space cs p (colon_solid cs p f).0) w in
-          h (subst (λ z. slice_get cs z ≡ Some 58) u f) }
+      no_key i y q g r w h = record {
+        none = λ j m v k (e, n).
+            let (p, s, f, o, l, t) = key_colon i y j g (key_is i j v k) n in
+            let u : p ≡ q = run_same cs is_space y p q s r (solid_no_space cs p (colon_solid cs p f).0) w in
+            h (subst (λ z. slice_get cs z ≡ Some 58) u f);
+      }
 
       -- a colon, but on another line or too far off
       pub no_fit : (i y q : ℕ) → Goes R (At (F cs col d)) i (At (F cs col d)) y → run cs is_space y q → slice_get cs q ≡ Some 58 → (OneLine cs i q × (q ≤ i + key_limit) → ⊥) → Refused Keys (At Colon) i
-      no_fit i y q g r h x = record { none = λ j m v k (e, n).
-          let (p, s, f, o, l, t) = key_colon i y j g (key_is i j v k) n in
-          let u : p ≡ q = run_solid cs y p q s (colon_solid cs p f).0 r (colon_solid cs q h).0 in
-          x (subst (OneLine cs i) u o, subst (λ z. z ≤ i + key_limit) u l) }
+      no_fit i y q g r h x = record {
+        none = λ j m v k (e, n).
+            let (p, s, f, o, l, t) = key_colon i y j g (key_is i j v k) n in
+            let u : p ≡ q = run_solid cs y p q s (colon_solid cs p f).0 r (colon_solid cs q h).0 in
+            x (subst (OneLine cs i) u o, subst (λ z. z ≤ i + key_limit) u l);
+      }
 
       key_none : (i j : ℕ) → Refused R (At (F cs col d)) i → Key i j → Colon j → ⊥
       unfolding Key

@@ -1,8 +1,8 @@
 -- A node of block level that comment lines stand before is one from the line after them too.
-use Rattle.std.proofs.Common.{◌≡◌, ℕ, zero, suc, ◌+◌, ◌≤◌, ◌<◌, ◌⊎◌, inl, inr, List, refl, sym, ◌∙◌, subst, arith}
-use Rattle.yaml_text.specs.grammar.Rules.{Rule, Spans, ◌▸◌, ◌◂◌, with_value, run, never}
+use Rattle.std.proofs.Common.{◌≡◌, ℕ, zero, suc, ◌+◌, ◌≤◌, ◌⊎◌, inl, inr, List, refl, sym, subst, arith}
+use Rattle.yaml_text.specs.grammar.Rules.{Rule, Spans, ◌▸◌, run, never}
 use Rattle.yaml_text.specs.grammar.Characters.{is_space}
-use Rattle.yaml_text.specs.grammar.Separation.{Ctx, block_in, flow_out, StartsLine, separate, separate_lines, s_l_comments, indent}
+use Rattle.yaml_text.specs.grammar.Separation.{block_in, flow_out, StartsLine, separate, separate_lines, s_l_comments, indent}
 use Rattle.yaml_text.specs.grammar.Tags.{Handles}
 use Rattle.yaml_text.specs.Event.{Event}
 use Rattle.yaml_text.specs.grammar.Events.{no_props}

@@ -1,6 +1,5 @@
 -- A plain scalar that ends as far on as any from its place goes on wherever one of them does.
-use Rattle.std.proofs.Common.{◌≡◌, ℕ, ◌+◌, ◌≤◌, ◌<◌, ◌⊎◌, inl, inr, List, ◌++◌, Some, refl, sym, subst, arith}
-use Rattle.std.specs.Prelude.{slice_get}
+use Rattle.std.proofs.Common.{◌≡◌, ℕ, ◌+◌, ◌≤◌, ◌⊎◌, inl, inr, List, ◌++◌, refl, sym, subst, arith}
 use Rattle.yaml_text.specs.grammar.Rules.{Any, done, then, where_both}
 use Rattle.yaml_text.specs.grammar.Separation.{Ctx, flow_in, flow_out, Unmarked}
 use Rattle.yaml_text.specs.grammar.FlowScalars.{plain, PlainFirst}
@@ -15,7 +14,7 @@ use Rattle.yaml_unique.proofs.BlockNodes.{colon_solid}
 use Rattle.yaml_unique.specs.Follows.{F, Closes, ColonY, Fy}
 use Rattle.yaml_unique.proofs.PlainEnds.{stop_way, stop_rest, any_unmarked, any_after, after_inside, colon_no_later}
 use Rattle.yaml_unique.proofs.FlowLevels.{closes_no_later}
-use Rattle.yaml_complete.proofs.Decisions.{Goes}
+use Rattle.yaml_complete.specs.Decisions.{Goes}
 
 module _ (cs : List ℕ) where
   module _ (n : ℕ) (c : Ctx) (Stop : ℕ → Type 0) (none : (j o : ℕ) (xs : List ℕ) → Inside cs j → Stop j → plain_more cs n c j o xs → Unmarked cs j o → ⊥) where

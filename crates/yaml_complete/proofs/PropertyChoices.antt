@@ -1,21 +1,21 @@
 -- Node properties: what is left after all that a reader found, and whether content follows them.
-use Rattle.std.proofs.Common.{◌≡◌, ℕ, ◌⊎◌, inl, inr, List, [], ◌∷◌, Some, refl, sym, ◌∙◌, subst, arith}
-use Rattle.yaml_text.specs.grammar.Rules.{Rule, ◌▸◌, ◌∪◌, gives, maybe, with_value}
+use Rattle.std.proofs.Common.{◌≡◌, ℕ, inl, inr, List, refl, sym, ◌∙◌, subst}
+use Rattle.yaml_text.specs.grammar.Rules.{Rule, gives, maybe, with_value}
 use Rattle.yaml_text.specs.grammar.Separation.{Ctx, separate}
 use Rattle.yaml_text.specs.grammar.Tags.{Handles, properties}
 use Rattle.yaml_text.specs.grammar.FlowScalars.{PlainFirst}
 use Rattle.yaml_text.specs.Event.{Event}
-use Rattle.yaml_text.specs.grammar.Events.{Props, empty}
+use Rattle.yaml_text.specs.grammar.Events.{Props}
 use Rattle.yaml_text.specs.grammar.Nodes.{Part}
 use Rattle.yaml_scalar.specs.BlockRules.{Inside}
-use Rattle.yaml_unique.specs.Readings.{End, At, Starts}
+use Rattle.yaml_unique.specs.Readings.{End, Starts}
 use Rattle.yaml_unique.proofs.Lines.{way_of, way_same}
 use Rattle.yaml_unique.specs.Follows.{Solid, Fresh, Way}
-use Rattle.yaml_unique.proofs.Properties.{NoMore, PropHere, prop, prop_solid, Two, alone, pair, both, props_two, props_inside}
+use Rattle.yaml_unique.proofs.Properties.{NoMore, prop, prop_solid, Two, alone, pair, both, props_two}
 use Rattle.yaml_unique.proofs.TagEnds.{prop_same, prop_here, prop_inside}
-use Rattle.yaml_unique.proofs.FlowNodes.{ContentHere, Kind, kind_three, plain_start, jsons_start, Plains, Jsons, YamlRest, JsonRest}
-use Rattle.yaml_complete.proofs.Decisions.{Refused, Goes, Rest, rest_left, rest_right, rest_goes}
-use Rattle.yaml_complete.proofs.Separations.{rest_separate, refused_separate}
+use Rattle.yaml_unique.proofs.FlowNodes.{Kind, kind_three, plain_start, jsons_start, Plains, Jsons, YamlRest, JsonRest}
+use Rattle.yaml_complete.specs.Decisions.{Refused, Goes, Rest}
+use Rattle.yaml_complete.proofs.Separations.{rest_separate}
 
 -- a value and nothing more goes on as it stands
 pub goes_gives : {V : Type 0} (x : V) (E : End) (i : ℕ) → Goes (gives x) E i E i

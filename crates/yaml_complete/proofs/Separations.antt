@@ -1,9 +1,8 @@
 -- Separation up to content: which places it may end at, by what a reader sees.
-use Rattle.std.proofs.Common.{◌≡◌, ℕ, ◌+◌, ◌≤◌, ◌<◌, ◌⊎◌, inl, inr, List, refl, sym, ◌∙◌, ap, subst, arith}
-use Rattle.std.proofs.Math.Nat.{eq-or-lt_of_le}
-use Rattle.yaml_text.specs.grammar.Rules.{Span, Rule, maybe, Spans, Stands, run, ◌▸◌}
+use Rattle.std.proofs.Common.{◌≡◌, ℕ, ◌+◌, ◌≤◌, ◌<◌, ◌⊎◌, inl, inr, List, refl, sym, ◌∙◌, subst, arith}
+use Rattle.yaml_text.specs.grammar.Rules.{Rule, maybe, Spans, Stands, run, ◌▸◌}
 use Rattle.yaml_text.specs.grammar.Characters.{is_space, is_ns}
-use Rattle.yaml_text.specs.grammar.Separation.{Ctx, block_out, block_in, flow_out, flow_in, block_key, flow_key, StartsLine, AtEnd, Mark, sep, s_b_comment, s_l_comments, separate}
+use Rattle.yaml_text.specs.grammar.Separation.{Ctx, block_out, block_in, flow_out, flow_in, block_key, flow_key, AtEnd, Mark, s_l_comments, separate}
 use Rattle.yaml_scalar.specs.BlockRules.{Inside}
 use Rattle.yaml_scalar.proofs.Runs.{run_none, run_same}
 use Rattle.yaml_scalar.proofs.GapLemmas.{mark_ns}
@@ -11,7 +10,8 @@ use Rattle.yaml_scalar.proofs.LineRuns.{inside_no_line, end_stops}
 use Rattle.yaml_unique.specs.Readings.{End, Starts}
 use Rattle.yaml_unique.proofs.Lines.{solid_no_space, past_of, past_same, past_no_run, stuck_run, stuck_mark, sep_run, way_any, way_maybe}
 use Rattle.yaml_unique.specs.Follows.{Solid, Fresh, Stuck, Past, Way}
-use Rattle.yaml_complete.proofs.Decisions.{Refused, Rest, rest_before, refused_before}
+use Rattle.yaml_complete.specs.Decisions.{Refused, Rest}
+use Rattle.yaml_complete.proofs.Decisions.{rest_before, refused_before}
 
 -- the contexts in which separation is spaces alone (7.4)
 abbrev pub IsKey : Ctx → Type 0

@@ -1,23 +1,22 @@
 -- What is left of a stream, at each place where its reader stands between documents.
-use Rattle.std.proofs.Common.{◌≡◌, ◌≢◌, ℕ, ◌+◌, ◌≤◌, ◌<◌, ◌⊎◌, inl, inr, List, [], Bool, true, false, length, refl, sym, ◌∙◌, subst, arith}
+use Rattle.std.proofs.Common.{◌≡◌, ℕ, ◌+◌, ◌≤◌, ◌<◌, inl, inr, List, [], Bool, true, false, length, refl, sym, ◌∙◌, subst, arith}
 use Rattle.yaml_text.specs.grammar.Rules.{Rule, Spans, ◌◂◌, ◌∪◌, gives}
-use Rattle.yaml_text.specs.grammar.Separation.{block_in, StartsLine, AtEnd, MarkOf, Mark, s_l_comments, l_comment, Unmarked}
+use Rattle.yaml_text.specs.grammar.Separation.{block_in, StartsLine, AtEnd, MarkOf, Mark, s_l_comments}
 use Rattle.yaml_text.specs.grammar.Tags.{Handles}
 use Rattle.yaml_text.specs.grammar.Directives.{directives}
 use Rattle.yaml_text.specs.grammar.Nodes.{block_part, reads}
 use Rattle.yaml_text.specs.grammar.Events.{no_props, empty}
 use Rattle.yaml_text.specs.Event.{Event}
-use Rattle.yaml_text.specs.grammar.Streams.{Piece, bare_document, explicit_document, directive_document, bare_piece, explicit_piece, directive_piece, suffix, stream, ReadsText}
-use Rattle.yaml_scalar.specs.BlockRules.{AfterLine}
+use Rattle.yaml_text.specs.grammar.Streams.{Piece, bare_document, explicit_document, directive_document, suffix, ReadsText}
 use Rattle.yaml_scalar.proofs.RestLemmas.{l_comment_onward}
 use Rattle.yaml_scalar.proofs.BlockChains.{spans_onward}
 use Rattle.yaml_unique.specs.Readings.{End, At}
 use Rattle.yaml_unique.proofs.Lines.{ns_dash, past_of, past_same, less_stuck, comments_same, comments_none, stuck_end}
-use Rattle.yaml_unique.specs.Follows.{Comments, Stuck, Less, Past, Follow}
-use Rattle.yaml_unique.proofs.Directives.{Percent, percent_stuck, directives_unique}
+use Rattle.yaml_unique.specs.Follows.{Comments, Stuck, Less, Follow}
+use Rattle.yaml_unique.proofs.Directives.{Percent, directives_unique}
 use Rattle.yaml_unique.proofs.Documents.{Tail, View, v_over, v_dots, v_shown, v_bare, v_directed, E0, stream_tail, view, lands, lands_false, line_of, mark_inside, suffix_mark, suffix_past, shown_mark, directive_percent, after_comments, marks_apart, mark_end, mark_percent, bare_no_mark, bare_no_end, bare_no_percent, dots_mark_is, dashes_mark_is, percent_end}
 use Rattle.yaml_unique.proofs.Documents as documents
-use Rattle.yaml_complete.proofs.Decisions.{Refused, Goes, Here}
+use Rattle.yaml_complete.specs.Decisions.{Refused, Goes, Here}
 use Rattle.yaml_complete.proofs.NodesAgain.{root_again}
 
 module _ (cs : List ℕ) (Wide : Type 0) (room : ℕ) where
