@@ -12,5 +12,6 @@ pub mod BlockScalars
 pub mod NodesAgain
 pub mod FlowChoices
 pub mod FlowCollections
+pub mod BlockProperties
 pub mod StreamRests
 pub mod Depths

@@ -171,7 +171,7 @@ module _ (cs : List ℕ) (Wide : Type 0) (handles : Handles) where
     value_no_ns k b a v o (inl r) s = start_no_ns cs (k + 1) k b o (blocks.value_start k b a v r) s
     value_no_ns k b a v o (inr (y, (e, f), r)) s = past_no_ns cs b a o (past_of cs b a a (subst (λ z. s_l_comments cs z a) e r) (Spans.done refl)) s
 
-    entry_key : (col d : ℕ) (c : Ctx) (k q a : ℕ) (v : List Event) → map_entry cs Wide handles Open inside k q a v → KeyRead cs Wide handles Open inside col d c q
+    pub entry_key : (col d : ℕ) (c : Ctx) (k q a : ℕ) (v : List Event) → map_entry cs Wide handles Open inside k q a v → KeyRead cs Wide handles Open inside col d c q
     unfolding map_entry
     entry_key col d c k q a v (b, ks, ws, (m, key, (h, e)), val, x) =
         let (o, p, t, one) = key_parts col q m ks key in

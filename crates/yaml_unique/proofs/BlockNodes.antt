@@ -59,7 +59,7 @@ module _ (cs : List ℕ) where
   pub rest_key : (col d j : ℕ) → Inside cs j → FollowRest col d j → FollowKey j → ⊥
   rest_key col d j o (m, p, f) (q, r, h, n) = inside_no_line cs j o (past_no_run cs j m q p r (colon_solid q h)).0
 
-  rest_no : (col d : ℕ) (c : Ctx) (k q : ℕ) → Inside cs k → FollowRest col d k → separate cs col c k q → Fresh cs q → ⊥
+  pub rest_no : (col d : ℕ) (c : Ctx) (k q : ℕ) → Inside cs k → FollowRest col d k → separate cs col c k q → Fresh cs q → ⊥
   rest_no col d c k q o (m, p, (l, n)) s f = go (way_any cs col c k q s f.0)
     where
       go : (run cs is_space k q × Solid cs q) ⊎ ((x : ℕ) × Past cs k x × run cs is_space x q × (x + col ≤ q) × Solid cs q) → ⊥

@@ -1,0 +1,249 @@
+-- A node of block level after its properties: what is left on their line, on a line below, and where nothing follows them.
+use Rattle.std.proofs.Common.{◌≡◌, ℕ, ◌+◌, ◌≤◌, ◌<◌, ◌⊎◌, inl, inr, List, refl, sym, ◌∙◌, subst, arith}
+use Rattle.yaml_text.specs.grammar.Rules.{Rule, Spans, ◌▸◌, ◌◂◌, ◌∪◌, gives, with_value, maybe, run, Stands}
+use Rattle.yaml_text.specs.grammar.Characters.{is_ns, is_space}
+use Rattle.yaml_text.specs.grammar.Separation.{Ctx, flow_out, block_key, separate, s_l_comments, indent, OneLine}
+use Rattle.yaml_text.specs.grammar.Tags.{Handles, properties}
+use Rattle.yaml_text.specs.grammar.FlowScalars.{PlainFirst}
+use Rattle.yaml_text.specs.Event.{Event}
+use Rattle.yaml_text.specs.grammar.Events.{Props, no_props, empty}
+use Rattle.yaml_text.specs.grammar.Nodes.{Part, part, flow_node, yaml_node, json_node, seq_column, block_map, block_seq}
+use Rattle.yaml_text.proofs.grammar.Forward.{Forward}
+use Rattle.yaml_text.proofs.grammar.Widening.{Within}
+use Rattle.yaml_scalar.specs.BlockRules.{Inside}
+use Rattle.yaml_scalar.proofs.LineRuns.{inside_no_line, indent_run, indent_place}
+use Rattle.yaml_unique.specs.Readings.{End, At}
+use Rattle.yaml_unique.specs.Follows.{Solid, Fresh, Stuck, Less, DashHere, Dash, Past, Comments, Way, Over, Follow, FollowKey, FollowRest, F}
+use Rattle.yaml_unique.proofs.Lines.{past_of, past_same, past_no_run, less_stuck, less_column, dash_fresh, comments_none, way_of, way_same, way_any}
+use Rattle.yaml_unique.proofs.Properties.{PropHere, NoMore, prop, prop_solid, Two, alone, pair, both, props_two, props_inside}
+use Rattle.yaml_unique.proofs.TagEnds.{prop_same, prop_here, prop_inside, alias_same}
+use Rattle.yaml_unique.proofs.FlowNodes.{Kind, Sign, kind_fresh, kind_three, kind_same, plain_start, plain_no_kind, jsons_start, prop_kind, ContentHere, Plains, Jsons, YamlRest, JsonRest, yaml_next, json_next}
+use Rattle.yaml_unique.proofs.FlowEntries.{Facts}
+use Rattle.yaml_unique.proofs.FlowLevels.{jsons_unique, inner_out}
+use Rattle.yaml_unique.proofs.PlainEnds.{plain_block_unique}
+use Rattle.yaml_unique.proofs.BlockNodes.{next_here, content_here, rest_no, past_crosses, colon_solid, KeyRead}
+use Rattle.yaml_unique.proofs.KeyContexts.{Eased}
+use Rattle.yaml_unique.proofs.BlockLevels.{Blocks, entry_key}
+use Rattle.yaml_complete.specs.Decisions.{Refused, Goes, Rest, Here}
+use Rattle.yaml_complete.proofs.Decisions.{rest_rest, rest_both, rest_goes, rest_refused}
+use Rattle.yaml_complete.proofs.FlowStarts.{yaml_propped, json_propped}
+use Rattle.yaml_complete.proofs.PropertyChoices.{Second, rest_propped}
+use Rattle.yaml_complete.proofs.Separations.{Spaces, separate_on_line, separate_on_next, separate_short}
+use Rattle.yaml_complete.proofs.BlockLoops.{SequenceFrom, MappingFrom}
+use Rattle.yaml_complete.proofs.BlockStarts.{FlowLine, ScalarOf, ProppedScalar, CollectionsOf, ProppedCollection, scalar_kind, mapping_from, sequence_from, map_key, seq_dash}
+
+module _ (cs : List ℕ) (Wide : Type 0) (handles : Handles) (Open : Type 0) (inside : Part → Rule (List Event)) (facts : Facts cs inside) (ease : Eased cs Wide handles inside)
+    (wider : (p : Part) → Within (inside p) (part cs Wide handles Open inside p)) (fwd : (p : Part) → Forward (inside p)) (blocks : Blocks cs Wide handles inside) (col d : ℕ) (c : Ctx) where
+  abbrev Flow : Rule (List Event)
+  Flow = flow_node cs Wide handles Open inside col flow_out
+
+  abbrev FlowRest : Props → Rule (List Event)
+  FlowRest p = YamlRest cs Wide handles Open inside col flow_out p ∪ JsonRest cs Wide handles Open inside col flow_out p
+
+  abbrev pub Contents : Props → Rule (List Event)
+  Contents p = Plains cs Wide handles Open inside col flow_out p ∪ Jsons cs Wide handles Open inside col flow_out p
+
+  abbrev Line : Rule (List Event)
+  Line = FlowLine cs Wide handles Open inside facts ease wider fwd blocks col c
+
+  abbrev Scalar : Props → Rule (List Event)
+  Scalar = ScalarOf cs Wide handles Open inside facts ease wider fwd blocks col c
+
+  abbrev Collections : Props → Rule (List Event)
+  Collections = CollectionsOf cs Wide handles Open inside facts ease wider fwd blocks col c
+
+  abbrev Mapping : ℕ → Props → Rule (List Event)
+  Mapping k = MappingFrom cs Wide handles Open inside k
+
+  abbrev Sequence : ℕ → Props → Rule (List Event)
+  Sequence k = SequenceFrom cs Wide handles Open inside k
+
+  abbrev AfterNode : End
+  AfterNode = Over cs (Follow cs col d)
+
+  -- ---- flow nodes
+
+  -- a flow node's reading after some of its properties is followed by no further one
+  rest_next : (p : Props) (k j m : ℕ) (v : List Event) → Inside cs k → FlowRest p k j v → At (F cs col d) j m → NoMore cs handles col k
+  rest_next p k j m v o (inl r) e =
+      yaml_next cs Wide handles Open inside col flow_out (F cs col d) (F cs col d) (prop_same cs handles) (prop_here cs handles) (prop_inside cs handles) (alias_same cs) (plain_block_unique cs col d)
+          (jsons_unique cs Wide handles Open inside facts col flow_out inner_out (F cs col d)) (next_here cs handles col d) (content_here cs col d) p k j m v o r e
+  rest_next p k j m v o (inr r) e =
+      json_next cs Wide handles Open inside col flow_out (F cs col d) (F cs col d) (prop_same cs handles) (prop_here cs handles) (prop_inside cs handles) (alias_same cs) (plain_block_unique cs col d)
+          (jsons_unique cs Wide handles Open inside facts col flow_out inner_out (F cs col d)) (next_here cs handles col d) (content_here cs col d) p k j m v o r e
+
+  abbrev Propped : Rule (List Event)
+  Propped = with_value (properties cs handles col flow_out) FlowRest
+
+  propped_left : (E : End) (i : ℕ) → Kind cs 1 i → Rest Flow E i Propped E i
+  unfolding flow_node
+  propped_left E i h = record { rest = go }
+    where
+      go : (j m : ℕ) (v : List Event) → Flow i j v → E j m → (k : ℕ) × (w : List Event) × Propped i k w × E k m
+      go j m v (inl r) e = let (k, w, (l, p, s, t), f) = (yaml_propped cs Wide handles Open inside col flow_out E i h).rest j m v r e in (k, w, (l, p, s, inl t), f)
+      go j m v (inr r) e = let (k, w, (l, p, s, t), f) = (json_propped cs Wide handles Open inside col flow_out E i h).rest j m v r e in (k, w, (l, p, s, inr t), f)
+
+  -- after all properties that were read
+  pub flow_after : (i e : ℕ) (p : Props) → Kind cs 1 i → properties cs handles col flow_out i e p → (Second cs handles col flow_out i e p → ⊥) → Rest Flow (At (F cs col d)) i (FlowRest p) (At (F cs col d)) e
+  flow_after i e p h r none = rest_rest (propped_left (At (F cs col d)) i h) (rest_propped cs handles col flow_out FlowRest (At (F cs col d)) i e p r none rest_next)
+
+  pub line_after : (i e : ℕ) (p : Props) → Kind cs 1 i → properties cs handles col flow_out i e p → (Second cs handles col flow_out i e p → ⊥) → Rest Line AfterNode i (FlowRest p ◂ s_l_comments cs) AfterNode e
+  line_after i e p h r none = record { rest = go }
+    where
+      go : (j m : ℕ) (v : List Event) → Line i j v → AfterNode j m → (k : ℕ) × (w : List Event) × (FlowRest p ◂ s_l_comments cs) e k w × AfterNode k m
+      go j m v (k, t, s) (x, y) =
+          let (o, w, u, g) = (flow_after i e p h r none).rest k k v t (refl, inl (m, past_of cs k j m s x, y)) in
+          (j, w, (k, subst (λ z. FlowRest p e z w) g.0 u, s), (x, y))
+
+  -- ---- block scalars
+
+  scalar_next : (p : Props) (k j m : ℕ) (v : List Event) → Inside cs k → (separate cs col c ▸ Scalar p) k j v → AfterNode j m → NoMore cs handles col k
+  scalar_next p k j m v o (q, s, r) e x y t h =
+      let z = scalar_kind cs Wide handles Open inside facts ease wider fwd blocks col c p q j v r in
+      let f : q ≡ y = way_same cs k q y (way_of cs col c k q s (kind_fresh cs 4 q z).0) (way_of cs col x k y t (prop_solid cs handles y h).0) in
+      let g : 4 ≡ 1 = kind_same cs 4 1 q z (subst (Kind cs 1) (sym f) (prop_kind cs handles y h)) in
+      omega (arith, g)
+
+  pub scalar_after : (i e : ℕ) (p : Props) → properties cs handles col c i e p → (Second cs handles col c i e p → ⊥)
+      → Rest (ProppedScalar cs Wide handles Open inside facts ease wider fwd blocks col c) AfterNode i (separate cs col c ▸ Scalar p) AfterNode e
+  scalar_after i e p r none = rest_propped cs handles col c (λ q. separate cs col c ▸ Scalar q) AfterNode i e p r none scalar_next
+
+  -- ---- collections
+
+  abbrev CollectionsBelow : Props → Rule (List Event)
+  CollectionsBelow p = s_l_comments cs ▸ Collections p
+
+  -- properties of one line: where the line is over, the collection is theirs
+  pub collection_after : (i e : ℕ) (p : Props) → properties cs handles col c i e p → (Second cs handles col c i e p → ⊥)
+      → ((l o : ℕ) (a b : Props) → prop cs handles i l a → separate cs col c l o → prop cs handles o e b → run cs is_space l o)
+      → Rest (ProppedCollection cs Wide handles Open inside facts ease wider fwd blocks col c) AfterNode i (CollectionsBelow p) AfterNode e
+  collection_after i e p r none one = record { rest = λ j m v (l, q, s, (x, t, u)) f. go j m v l q x t u f (props_two cs handles col c i e p r) (props_two cs handles col c i l q s) }
+    where
+      go : (j m : ℕ) (v : List Event) (l : ℕ) (q : Props) (x : ℕ) → s_l_comments cs l x → Collections q x j v → AfterNode j m → Two cs handles col c i e p → Two cs handles col c i l q
+          → (k : ℕ) × (w : List Event) × CollectionsBelow p e k w × AfterNode k m
+      go j m v l q x t u f (alone a) (alone b) =
+          let h = prop_same cs handles i e l p q a b in
+          (j, v, (x, subst (λ z. s_l_comments cs z x) (sym h.0) t, subst (λ z. Collections z x j v) (sym h.1) u), f)
+      go j m v l q x t u f (alone a) (pair y z b g k n w eq) =
+          let h = prop_same cs handles i e y p b a k in
+          absurd (none (a, (l, z, g, subst (λ o. separate cs col c o z) (sym h.0) n, w)))
+      go j m v l q x t u f (pair y z a b k n w eq) (alone g) =
+          let h = prop_same cs handles i y l a q k g in
+          let sp = one y z a b k n w in
+          absurd (inside_no_line cs l (prop_inside cs handles i l q g)
+              (past_no_run cs l x z (past_of cs l x x t (Spans.done refl)) (subst (λ o. run cs is_space o z) h.0 sp) (prop_solid cs handles z (prop_here cs handles z e b w)).0).0)
+      go j m v l q x t u f (pair y z a b k n w eq) (pair y2 z2 a2 b2 k2 n2 w2 eq2) =
+          let h = prop_same cs handles i y y2 a a2 k k2 in
+          let g : z ≡ z2 = way_same cs y2 z z2 (subst (λ o. Way cs o z) h.0 (way_of cs col c y z n (prop_solid cs handles z (prop_here cs handles z e b w)).0)) (way_of cs col c y2 z2 n2 (prop_solid cs handles z2 (prop_here cs handles z2 l b2 w2)).0) in
+          let o = prop_same cs handles z2 e l b b2 (subst (λ s. prop cs handles s e b) g w) w2 in
+          let is : p ≡ q = eq ∙ subst (λ s. both a b ≡ both s b) h.1 refl ∙ subst (λ s. both a2 b ≡ both a2 s) o.1 refl ∙ sym eq2 in
+          (j, v, (x, subst (λ s. s_l_comments cs s x) (sym o.0) t, subst (λ s. Collections s x j v) (sym is) u), f)
+
+  -- ---- after properties, on their line
+
+  abbrev pub Under : Props → Rule (List Event)
+  Under p = (FlowRest p ◂ s_l_comments cs) ∪ (separate cs col c ▸ Scalar p) ∪ CollectionsBelow p
+
+  contents_fresh : (p : Props) (i j : ℕ) (v : List Event) → Contents p i j v → ContentHere cs flow_out i
+  contents_fresh p i j v (inl (t, r, e)) = let (f, h) = plain_start cs col flow_out i j t r in (f, inr h)
+  contents_fresh p i j v (inr r) = let z = jsons_start cs Wide handles Open inside col flow_out p i j v r in (kind_three cs i z, inl z)
+
+  -- the rest of a flow node after its properties: content after separation, or none
+  data Rested (p : Props) (k j : ℕ) (v : List Event) : Type 0 where
+    content : (q : ℕ) → separate cs col flow_out k q → Contents p q j v → Rested p k j v
+    lone : j ≡ k → Rested p k j v
+
+  rested : (p : Props) (k j : ℕ) (v : List Event) → FlowRest p k j v → Rested p k j v
+  rested p k j v (inl (inl (q, s, r))) = content q s (inl r)
+  rested p k j v (inl (inr (a, b))) = lone a
+  rested p k j v (inr (q, s, r)) = content q s (inr r)
+
+  abbrev OnTheirLine : Props → Rule (List Event)
+  OnTheirLine p = (Contents p ◂ s_l_comments cs) ∪ Scalar p
+
+  pub under_on_line : (p : Props) (E : End) (e y : ℕ) → ((j : ℕ) → s_l_comments cs e j → ⊥) → Spaces cs e y → Rest (Under p) E e (OnTheirLine p) E y
+  under_on_line p E e y none sp = record { rest = go }
+    where
+      flows : (k j m : ℕ) (v : List Event) → Rested p e k v → s_l_comments cs k j → E j m → (o : ℕ) × (w : List Event) × OnTheirLine p y o w × E o m
+      flows k j m v (content q s r) t f =
+          let h : q ≡ y = separate_on_line cs col flow_out e y none sp q (inr s) (contents_fresh p q k v r).0.0 in (j, v, inl (k, subst (λ z. Contents p z k v) h r, t), f)
+      flows k j m v (lone h) t f = absurd (none j (subst (λ z. s_l_comments cs z j) h t))
+
+      go : (j m : ℕ) (v : List Event) → Under p e j v → E j m → (o : ℕ) × (w : List Event) × OnTheirLine p y o w × E o m
+      go j m v (inl (k, r, t)) f = flows k j m v (rested p e k v r) t f
+      go j m v (inr (inl (q, s, r))) f =
+          let h : q ≡ y = separate_on_line cs col c e y none sp q (inr s) (kind_fresh cs 4 q (scalar_kind cs Wide handles Open inside facts ease wider fwd blocks col c p q j v r)).0 in (j, v, inr (subst (λ z. Scalar p z j v) h r), f)
+      go j m v (inr (inr (x, s, r))) f = absurd (none x s)
+
+  -- ---- after properties, on a line below
+
+  collections_stuck : (p : Props) (x j : ℕ) (v : List Event) → Collections p x j v → (l : ℕ) × (b : ℕ) × indent cs l x b × Fresh cs b
+  unfolding block_map block_seq
+  collections_stuck p x j v (inl (o, (t, (l, (le, (a, us, vs, (b, s, u), rest, y))), e))) = (l, b, s, (map_key cs Wide handles Open inside facts ease wider fwd blocks col c l b a us u).0)
+  collections_stuck p x j v (inr (o, (t, (l, (le, (a, us, vs, (b, s, u), rest, y))), e))) = (l, b, s, dash_fresh cs b (seq_dash cs Wide handles Open inside facts ease wider fwd blocks col c l b a us u))
+
+  line_of : (e s x : ℕ) → s_l_comments cs e s → Stuck cs s → s_l_comments cs e x → (l : ℕ) × (b : ℕ) × indent cs l x b × Fresh cs b → x ≡ s
+  line_of e s x l st t (n, b, ind, f) = past_same cs e x s (past_of cs e x x t (Spans.done refl)) (Rattle.yaml_unique.proofs.Lines.stuck_line cs n x b ind f.0) (past_of cs e s s l (Spans.done refl)) st
+
+  abbrev pub BelowThem : Props → ℕ → Rule (List Event)
+  BelowThem p k = OnTheirLine p ∪ Mapping k p ∪ Sequence k p
+
+  pub under_below : (p : Props) (e s x k : ℕ) → s_l_comments cs e s → Stuck cs s → indent cs k s x → (Stands cs is_space x → ⊥) → (Follow cs col d s → ⊥) → Rest (Under p) AfterNode e (BelowThem p k) AfterNode x
+  under_below p e s x k l st ind n other = record { rest = go }
+    where
+      at : (b : Ctx) (q : ℕ) → separate cs col b e q → Fresh cs q → q ≡ x
+      at b q r f = separate_on_next cs col b e s x l st (indent_run cs k s x ind, n) q (inr r) f.0
+
+      flows : (o j m : ℕ) (v : List Event) → Rested p e o v → s_l_comments cs o j → AfterNode j m → (a : ℕ) × (w : List Event) × BelowThem p k x a w × AfterNode a m
+      flows o j m v (content q t r) u f = (j, v, inl (inl (o, subst (λ z. Contents p z o v) (at flow_out q t (contents_fresh p q o v r).0) r, u)), f)
+      flows o j m v (lone h) u (a, b) =
+          let g : m ≡ s = past_same cs e m s (past_of cs e j m (subst (λ z. s_l_comments cs z j) h u) a) (less_stuck cs col m b.0) (past_of cs e s s l (Spans.done refl)) st in
+          absurd (other (subst (Follow cs col d) g b))
+
+      below : (j m y : ℕ) (v : List Event) → y ≡ s → Collections p y j v → AfterNode j m → (a : ℕ) × (w : List Event) × BelowThem p k x a w × AfterNode a m
+      below j m y v h (inl u) f =
+          (j, v, inr (inl (mapping_from cs Wide handles Open inside facts ease wider fwd blocks col c p k y x j v (subst (λ z. indent cs k z x) (sym h) ind) n u).1), f)
+      below j m y v h (inr u) f =
+          (j, v, inr (inr (sequence_from cs Wide handles Open inside facts ease wider fwd blocks col c p (seq_column cs Wide handles Open inside col c) k y x j v (subst (λ z. indent cs k z x) (sym h) ind) n u).1), f)
+
+      go : (j m : ℕ) (v : List Event) → Under p e j v → AfterNode j m → (a : ℕ) × (w : List Event) × BelowThem p k x a w × AfterNode a m
+      go j m v (inl (o, r, t)) f = flows o j m v (rested p e o v r) t f
+      go j m v (inr (inl (q, t, r))) f = (j, v, inl (inr (subst (λ z. Scalar p z j v) (at c q t (kind_fresh cs 4 q (scalar_kind cs Wide handles Open inside facts ease wider fwd blocks col c p q j v r))) r)), f)
+      go j m v (inr (inr (y, t, r))) f = below j m y v (line_of e s y l st t (collections_stuck p y j v r)) r f
+
+  -- a line that is not the node's: nothing but the properties
+  pub under_none : (p : Props) (e s : ℕ) → col ≤ d + 1 → seq_column cs Wide handles Open inside col c ≡ d → Inside cs e → s_l_comments cs e s → Stuck cs s → Follow cs col d s → Goes (Under p) AfterNode e Here s
+  unfolding block_map block_seq
+  under_none p e s narrow at o l st follow = record { goes = go }
+    where
+      fr : FollowRest cs col d e
+      fr = (s, past_of cs e s s l (Spans.done refl), follow)
+
+      flows : (k j m : ℕ) (v : List Event) → Rested p e k v → s_l_comments cs k j → AfterNode j m → m ≡ s
+      flows k j m v (content q t r) u f = absurd (rest_no cs col d flow_out e q o fr t (contents_fresh p q k v r).0)
+      flows k j m v (lone h) u (a, b) = past_same cs e m s (past_of cs e j m (subst (λ z. s_l_comments cs z j) h u) a) (less_stuck cs col m b.0) (past_of cs e s s l (Spans.done refl)) st
+
+      column : (n b : ℕ) → indent cs n s b → Fresh cs b → col ≤ n → ⊥
+      column n b ind f le = less_column cs col n s b follow.0 ind le f
+
+      held : (y j : ℕ) (v : List Event) → y ≡ s → Collections p y j v → ⊥
+      held y j v h (inl (a, (t, (n, (le, (x, us, vs, (b, ind, u), rest, z))), f))) =
+          column n b (subst (λ q. indent cs n q b) h ind) (map_key cs Wide handles Open inside facts ease wider fwd blocks col c n b x us u).0 le
+      held y j v h (inr (a, (t, (n, (le, (x, us, vs, (b, ind, u), rest, z))), f))) =
+          let dash = seq_dash cs Wide handles Open inside facts ease wider fwd blocks col c n b x us u in
+          let low : d ≤ n = subst (λ q. q ≤ n) at le in
+          further (Rattle.std.proofs.Math.Nat.eq-or-lt_of_le low) dash (subst (λ q. indent cs n q b) h ind)
+        where
+          further : (d ≡ n) ⊎ (d < n) → DashHere cs b → indent cs n s b → ⊥
+          further (inl q) g i = follow.1 (subst (λ w. Dash cs w s) (sym q) (b, i, g))
+          further (inr q) g i = column n b i (dash_fresh cs b g) (omega (arith, q, narrow))
+
+      go : (j m : ℕ) (v : List Event) → Under p e j v → AfterNode j m → m ≡ s
+      go j m v (inl (k, r, t)) f = flows k j m v (rested p e k v r) t f
+      go j m v (inr (inl (q, t, r))) f = absurd (rest_no cs col d c e q o fr t (kind_fresh cs 4 q (scalar_kind cs Wide handles Open inside facts ease wider fwd blocks col c p q j v r)))
+      go j m v (inr (inr (y, t, r))) f = absurd (held y j v (line_of e s y l st t (collections_stuck p y j v r)) r)
+
+  -- ---- a key that properties begin, and whose line is over after them: there is none
+
+  pub no_key_over : (x e s : ℕ) (p : Props) → Kind cs 1 x → x ≤ e → properties cs handles col block_key x e p → s_l_comments cs e s → KeyRead cs Wide handles Open inside col d c x → ⊥
+  no_key_over x e s p h le r l (o, v, f, fk, one) = ?
