@@ -8,7 +8,7 @@ use Rattle.yaml_text.specs.grammar.FlowScalars.{PlainFirst}
 use Rattle.yaml_text.specs.Event.{Event}
 use Rattle.yaml_text.specs.grammar.Events.{Props, no_props, empty}
 use Rattle.yaml_text.specs.grammar.Nodes.{Part, part, flow_node, yaml_node, json_node, seq_column, block_map, block_seq}
-use Rattle.yaml_text.proofs.grammar.Forward.{Forward}
+use Rattle.yaml_text.proofs.grammar.Forward.{Forward, on_separate, fwd_tag, fwd_anchor, fwd_plain, fwd_single, fwd_double, fwd_flow_seq, fwd_flow_map}
 use Rattle.yaml_text.proofs.grammar.Widening.{Within}
 use Rattle.yaml_scalar.specs.BlockRules.{Inside}
 use Rattle.yaml_scalar.proofs.LineRuns.{inside_no_line, indent_run, indent_place}
@@ -245,5 +245,61 @@ module _ (cs : List ℕ) (Wide : Type 0) (handles : Handles) (Open : Type 0) (in
 
   -- ---- a key that properties begin, and whose line is over after them: there is none
 
+  prop_on : (i j : ℕ) (p : Props) → prop cs handles i j p → i ≤ j
+  prop_on i j p (inl (t, r, e)) = fwd_tag cs handles i j t r
+  prop_on i j p (inr (t, r, e)) = fwd_anchor cs i j t r
+
+  contents_on : (p : Props) (i j : ℕ) (v : List Event) → Contents p i j v → i ≤ j
+  contents_on p i j v (inl (t, r, e)) = fwd_plain cs col flow_out i j t r
+  contents_on p i j v (inr (inl (t, r, e))) = fwd_single cs col flow_out i j t r
+  contents_on p i j v (inr (inr (inl (t, r, e)))) = fwd_double cs col flow_out i j t r
+  contents_on p i j v (inr (inr (inr (inl r)))) = fwd_flow_seq cs Wide handles Open inside fwd p col flow_out i j v r
+  contents_on p i j v (inr (inr (inr (inr r)))) = fwd_flow_map cs Wide handles Open inside fwd p col flow_out i j v r
+
+  rested_on : (p : Props) (k j : ℕ) (v : List Event) → Rested p k j v → k ≤ j
+  rested_on p k j v (content q s r) = let a : k ≤ q = on_separate cs col flow_out k q s in let b : q ≤ j = contents_on p q j v r in omega (arith, a, b)
+  rested_on p k j v (lone h) = omega (arith, h)
+
+  -- separation from a place where the line is over crosses to another line
+  crossed : (x o l s z : ℕ) → Inside cs l → s_l_comments cs l s → OneLine cs x o → x ≤ l → z ≤ o → separate cs col flow_out l z → Solid cs z → ⊥
+  crossed x o l s z ins over one a b t f = go (way_any cs col flow_out l z t f)
+    where
+      go : (run cs is_space l z × Solid cs z) ⊎ ((p : ℕ) × Past cs l p × run cs is_space p z × (p + col ≤ z) × Solid cs z) → ⊥
+      go (inl (r, g)) = inside_no_line cs l ins (past_no_run cs l s z (past_of cs l s s over (Spans.done refl)) r g).0
+      go (inr (p, w, r, le, g)) = past_crosses cs x o l p z ins w r g one a b
+
+  -- the node after all of the properties
+  over_rest : (x o l s : ℕ) (q : Props) (v : List Event) → Inside cs l → x ≤ l → s_l_comments cs l s → OneLine cs x o → FollowKey cs o → Rested q l o v → ⊥
+  over_rest x o l s q v ins a over one fk (content z t r) = crossed x o l s z ins over one a (contents_on q z o v r) t (contents_fresh q z o v r).0.0
+  over_rest x o l s q v ins a over one (y, r, g, n) (lone h) =
+      inside_no_line cs l ins (past_no_run cs l s y (past_of cs l s s over (Spans.done refl)) (subst (λ u. run cs is_space u y) h r) (colon_solid cs y g)).0
+
   pub no_key_over : (x e s : ℕ) (p : Props) → Kind cs 1 x → x ≤ e → properties cs handles col block_key x e p → s_l_comments cs e s → KeyRead cs Wide handles Open inside col d c x → ⊥
-  no_key_over x e s p h le r l (o, v, f, fk, one) = ?
+  no_key_over x e s p h le r over (o, v, f, fk, one) = go ((propped_left (At (F cs col d)) x h).rest o o v f (refl, inr fk))
+    where
+      compare : (k l : ℕ) (q : Props) (w : List Event) → k ≡ o → Inside cs l → FlowRest q l k w → At (F cs col d) k k → Two cs handles col block_key x e p → Two cs handles col flow_out x l q → ⊥
+      compare k l q w g ins t fin (alone a) (alone b) =
+          let u = prop_same cs handles x e l p q a b in
+          over_rest x o l s q w ins (subst (λ z. x ≤ z) u.0 le) (subst (λ z. s_l_comments cs z s) u.0 over) one fk (subst (λ z. Rested q l z w) g (rested q l k w t))
+      compare k l q w g ins t fin (pair y z a b m n w1 eq) (alone b2) =
+          let u = prop_same cs handles x y l a q m b2 in
+          rest_next q l k k w ins t fin block_key z (subst (λ i. separate cs col block_key i z) u.0 n) (prop_here cs handles z e b w1)
+      compare k l q w g ins t fin (alone a) (pair y z b b2 m n w1 eq) =
+          let u = prop_same cs handles x e y p b a m in
+          let i : z ≤ l = prop_on z l b2 w1 in
+          let j : l ≤ k = rested_on q l k w (rested q l k w t) in
+          crossed x o y s z (prop_inside cs handles x y b m) (subst (λ i. s_l_comments cs i s) u.0 over) one (subst (λ i. x ≤ i) u.0 le) (omega (arith, g, i, j)) n (prop_solid cs handles z (prop_here cs handles z l b2 w1)).0
+      compare k l q w g ins t fin (pair y z a b m n w1 eq) (pair y2 z2 a2 b2 m2 n2 w2 eq2) =
+          let u = prop_same cs handles x y y2 a a2 m m2 in
+          let z3 : z ≡ z2 = way_same cs y2 z z2 (subst (λ i. Way cs i z) u.0 (way_of cs col block_key y z n (prop_solid cs handles z (prop_here cs handles z e b w1)).0)) (way_of cs col flow_out y2 z2 n2 (prop_solid cs handles z2 (prop_here cs handles z2 l b2 w2)).0) in
+          let i = prop_same cs handles z2 e l b b2 (subst (λ j. prop cs handles j e b) z3 w1) w2 in
+          over_rest x o l s q w ins (subst (λ j. x ≤ j) i.0 le) (subst (λ j. s_l_comments cs j s) i.0 over) one fk (subst (λ j. Rested q l j w) g (rested q l k w t))
+
+      go : (k : ℕ) × (w : List Event) × Propped x k w × At (F cs col d) k o → ⊥
+      go (k, w, (l, q, t, u), (g, fin)) =
+          compare k l q w g (props_inside cs handles (prop_same cs handles) (prop_here cs handles) (prop_inside cs handles) col flow_out x l q (props_two cs handles col flow_out x l q t)) u (refl, fin) (props_two cs handles col block_key x e p r) (props_two cs handles col flow_out x l q t)
+
+  -- so no mapping begins with it
+  pub no_mapping_over : (o : Props) (E : End) (k x e s : ℕ) (p : Props) → Kind cs 1 x → x ≤ e → properties cs handles col block_key x e p → s_l_comments cs e s → Refused (Mapping k o) E x
+  no_mapping_over o E k x e s p h le r over = record { none = λ j m v (a, (t, (b, us, vs, u, rest, y), f)) w.
+      no_key_over x e s p h le r over (entry_key cs Wide handles Open inside facts ease wider fwd blocks col d c k x b us u) }
