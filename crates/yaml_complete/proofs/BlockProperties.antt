@@ -15,19 +15,19 @@ use Rattle.yaml_scalar.proofs.LineRuns.{inside_no_line, indent_run, indent_place
 use Rattle.yaml_unique.specs.Readings.{End, At}
 use Rattle.yaml_unique.specs.Follows.{Solid, Fresh, Stuck, Less, DashHere, Dash, Past, Comments, Way, Over, Follow, FollowKey, FollowRest, F}
 use Rattle.yaml_unique.proofs.Lines.{past_of, past_same, past_no_run, less_stuck, less_column, dash_fresh, comments_none, way_of, way_same, way_any}
-use Rattle.yaml_unique.proofs.Properties.{PropHere, NoMore, prop, prop_solid, Two, alone, pair, both, props_two, props_inside}
+use Rattle.yaml_unique.proofs.Properties.{PropHere, NoMore, prop, prop_solid, Two, alone, pair, both, props_two, props_inside, props_alone}
 use Rattle.yaml_unique.proofs.TagEnds.{prop_same, prop_here, prop_inside, alias_same}
 use Rattle.yaml_unique.proofs.FlowNodes.{Kind, Sign, kind_fresh, kind_three, kind_same, plain_start, plain_no_kind, jsons_start, prop_kind, ContentHere, Plains, Jsons, YamlRest, JsonRest, yaml_next, json_next}
 use Rattle.yaml_unique.proofs.FlowEntries.{Facts}
 use Rattle.yaml_unique.proofs.FlowLevels.{jsons_unique, inner_out}
 use Rattle.yaml_unique.proofs.PlainEnds.{plain_block_unique}
-use Rattle.yaml_unique.proofs.BlockNodes.{next_here, content_here, rest_no, past_crosses, colon_solid, KeyRead}
+use Rattle.yaml_unique.proofs.BlockNodes.{next_here, content_here, rest_no, past_crosses, colon_solid, KeyRead, dash_no_kind, dash_no_plain}
 use Rattle.yaml_unique.proofs.KeyContexts.{Eased}
 use Rattle.yaml_unique.proofs.BlockLevels.{Blocks, entry_key}
 use Rattle.yaml_complete.specs.Decisions.{Refused, Goes, Rest, Here}
 use Rattle.yaml_complete.proofs.Decisions.{rest_rest, rest_both, rest_goes, rest_refused}
 use Rattle.yaml_complete.proofs.FlowStarts.{yaml_propped, json_propped}
-use Rattle.yaml_complete.proofs.PropertyChoices.{Second, rest_propped}
+use Rattle.yaml_complete.proofs.PropertyChoices.{Second, Kinds, one_prop, two_props, kinds, Differ, rest_propped}
 use Rattle.yaml_complete.proofs.Separations.{Spaces, separate_on_line, separate_on_next, separate_short}
 use Rattle.yaml_complete.proofs.BlockLoops.{SequenceFrom, MappingFrom}
 use Rattle.yaml_complete.proofs.BlockStarts.{FlowLine, ScalarOf, ProppedScalar, CollectionsOf, ProppedCollection, scalar_kind, mapping_from, sequence_from, map_key, seq_dash}
@@ -117,22 +117,22 @@ module _ (cs : List ℕ) (Wide : Type 0) (handles : Handles) (Open : Type 0) (in
   pub collection_after : (i e : ℕ) (p : Props) → properties cs handles col c i e p → (Second cs handles col c i e p → ⊥)
       → ((l o : ℕ) (a b : Props) → prop cs handles i l a → separate cs col c l o → prop cs handles o e b → run cs is_space l o)
       → Rest (ProppedCollection cs Wide handles Open inside facts ease wider fwd blocks col c) AfterNode i (CollectionsBelow p) AfterNode e
-  collection_after i e p r none one = record { rest = λ j m v (l, q, s, (x, t, u)) f. go j m v l q x t u f (props_two cs handles col c i e p r) (props_two cs handles col c i l q s) }
+  collection_after i e p r none same = record { rest = λ j m v (l, q, s, (x, t, u)) f. go j m v l q x t u f (props_two cs handles col c i e p r) (kinds cs handles col c i l q s) }
     where
-      go : (j m : ℕ) (v : List Event) (l : ℕ) (q : Props) (x : ℕ) → s_l_comments cs l x → Collections q x j v → AfterNode j m → Two cs handles col c i e p → Two cs handles col c i l q
+      go : (j m : ℕ) (v : List Event) (l : ℕ) (q : Props) (x : ℕ) → s_l_comments cs l x → Collections q x j v → AfterNode j m → Two cs handles col c i e p → Kinds cs handles col c i l q
           → (k : ℕ) × (w : List Event) × CollectionsBelow p e k w × AfterNode k m
-      go j m v l q x t u f (alone a) (alone b) =
+      go j m v l q x t u f (alone a) (one_prop b) =
           let h = prop_same cs handles i e l p q a b in
           (j, v, (x, subst (λ z. s_l_comments cs z x) (sym h.0) t, subst (λ z. Collections z x j v) (sym h.1) u), f)
-      go j m v l q x t u f (alone a) (pair y z b g k n w eq) =
+      go j m v l q x t u f (alone a) (two_props y z b g k n w eq df) =
           let h = prop_same cs handles i e y p b a k in
-          absurd (none (a, (l, z, g, subst (λ o. separate cs col c o z) (sym h.0) n, w)))
-      go j m v l q x t u f (pair y z a b k n w eq) (alone g) =
+          absurd (none (a, (l, z, g, subst (λ o. separate cs col c o z) (sym h.0) n, w, df)))
+      go j m v l q x t u f (pair y z a b k n w eq) (one_prop g) =
           let h = prop_same cs handles i y l a q k g in
-          let sp = one y z a b k n w in
+          let sp = same y z a b k n w in
           absurd (inside_no_line cs l (prop_inside cs handles i l q g)
               (past_no_run cs l x z (past_of cs l x x t (Spans.done refl)) (subst (λ o. run cs is_space o z) h.0 sp) (prop_solid cs handles z (prop_here cs handles z e b w)).0).0)
-      go j m v l q x t u f (pair y z a b k n w eq) (pair y2 z2 a2 b2 k2 n2 w2 eq2) =
+      go j m v l q x t u f (pair y z a b k n w eq) (two_props y2 z2 a2 b2 k2 n2 w2 eq2 df) =
           let h = prop_same cs handles i y y2 a a2 k k2 in
           let g : z ≡ z2 = way_same cs y2 z z2 (subst (λ o. Way cs o z) h.0 (way_of cs col c y z n (prop_solid cs handles z (prop_here cs handles z e b w)).0)) (way_of cs col c y2 z2 n2 (prop_solid cs handles z2 (prop_here cs handles z2 l b2 w2)).0) in
           let o = prop_same cs handles z2 e l b b2 (subst (λ s. prop cs handles s e b) g w) w2 in
@@ -303,3 +303,112 @@ module _ (cs : List ℕ) (Wide : Type 0) (handles : Handles) (Open : Type 0) (in
   pub no_mapping_over : (o : Props) (E : End) (k x e s : ℕ) (p : Props) → Kind cs 1 x → x ≤ e → properties cs handles col block_key x e p → s_l_comments cs e s → Refused (Mapping k o) E x
   no_mapping_over o E k x e s p h le r over = record { none = λ j m v (a, (t, (b, us, vs, u, rest, y), f)) w.
       no_key_over x e s p h le r over (entry_key cs Wide handles Open inside facts ease wider fwd blocks col d c k x b us u) }
+
+  -- ---- properties on two lines: the first before the line on which the second stands, in column k
+
+  -- the first alone, and a collection of the second's line; or both, and a collection below
+  data Split (l e s z k j : ℕ) (a p : Props) (v : List Event) : Type 0 where
+    of_first : Mapping k a z j v → Split l e s z k j a p v
+    of_both : CollectionsBelow p e j v → Split l e s z k j a p v
+
+  split : (i l e s z k j : ℕ) (a b : Props) (v : List Event) → prop cs handles i l a → s_l_comments cs l s → Stuck cs s → indent cs k s z → (Stands cs is_space z → ⊥) → separate cs col c l z → prop cs handles z e b
+      → ProppedCollection cs Wide handles Open inside facts ease wider fwd blocks col c i j v → Split l e s z k j a (both a b) v
+  split i l e s z k j a b v ra over st ind n sp rb (l2, q, ps, (x, t, u)) = go (kinds cs handles col c i l2 q ps)
+    where
+      place : PropHere cs handles z
+      place = prop_here cs handles z e b rb
+
+      first : (y : ℕ) (g : Props) → y ≡ s → Collections g y j v → g ≡ a → Split l e s z k j a (both a b) v
+      first y g h (inl w) eq =
+          of_first (subst (λ o. Mapping k o z j v) eq (mapping_from cs Wide handles Open inside facts ease wider fwd blocks col c g k y z j v (subst (λ o. indent cs k o z) (sym h) ind) n w).1)
+      first y g h (inr w) eq = absurd (sequence_dash (sequence_from cs Wide handles Open inside facts ease wider fwd blocks col c g (seq_column cs Wide handles Open inside col c) k y z j v (subst (λ o. indent cs k o z) (sym h) ind) n w).1)
+        where
+          sequence_dash : Sequence k g z j v → ⊥
+          sequence_dash (o, (t, (m, us, vs, d1, rest, f), y2)) = dash_no_kind cs 1 z (seq_dash cs Wide handles Open inside facts ease wider fwd blocks col c k z m us d1) (prop_kind cs handles z place)
+
+      go : Kinds cs handles col c i l2 q → Split l e s z k j a (both a b) v
+      go (one_prop r) =
+          let h = prop_same cs handles i l2 l q a r ra in
+          let t2 = subst (λ o. s_l_comments cs o x) h.0 t in
+          first x q (line_of l s x over st t2 (collections_stuck q x j v u)) u h.1
+      go (two_props y z2 a2 b2 r n2 w2 eq df) =
+          let h = prop_same cs handles i y l a2 a r ra in
+          let g : z2 ≡ z = way_same cs l z2 z (subst (λ o. Way cs o z2) h.0 (way_of cs col c y z2 n2 (prop_solid cs handles z2 (prop_here cs handles z2 l2 b2 w2)).0)) (way_of cs col c l z sp (prop_solid cs handles z place).0) in
+          let o = prop_same cs handles z l2 e b2 b (subst (λ m. prop cs handles m l2 b2) g w2) rb in
+          let is : q ≡ both a b = eq ∙ subst (λ m. both a2 b2 ≡ both m b2) h.1 refl ∙ subst (λ m. both a b2 ≡ both a m) o.1 refl in
+          of_both (x, subst (λ m. s_l_comments cs m x) o.0 t, subst (λ m. Collections m x j v) is u)
+
+  -- text follows the second on its line: the first is a mapping's, whose key begins with the second
+  pub mapping_of_first : (i l e s z k : ℕ) (a b : Props) → prop cs handles i l a → s_l_comments cs l s → Stuck cs s → indent cs k s z → (Stands cs is_space z → ⊥) → separate cs col c l z → prop cs handles z e b
+      → ((j : ℕ) → s_l_comments cs e j → ⊥) → Rest (ProppedCollection cs Wide handles Open inside facts ease wider fwd blocks col c) AfterNode i (Mapping k a) AfterNode z
+  mapping_of_first i l e s z k a b ra over st ind n sp rb none = record { rest = λ j m v r f. go j m v f (split i l e s z k j a b v ra over st ind n sp rb r) }
+    where
+      go : (j m : ℕ) (v : List Event) → AfterNode j m → Split l e s z k j a (both a b) v → (o : ℕ) × (w : List Event) × Mapping k a z o w × AfterNode o m
+      go j m v f (of_first r) = (j, v, r, f)
+      go j m v f (of_both (x, t, u)) = absurd (none x t)
+
+  -- its line is over after the second: both are the collection's
+  pub collection_of_both : (i l e s z k h : ℕ) (a b : Props) → prop cs handles i l a → s_l_comments cs l s → Stuck cs s → indent cs k s z → (Stands cs is_space z → ⊥) → separate cs col c l z → prop cs handles z e b
+      → s_l_comments cs e h → Rest (ProppedCollection cs Wide handles Open inside facts ease wider fwd blocks col c) AfterNode i (CollectionsBelow (both a b)) AfterNode e
+  collection_of_both i l e s z k h a b ra over st ind n sp rb end = record { rest = λ j m v r f. go j m v f (split i l e s z k j a b v ra over st ind n sp rb r) }
+    where
+      go : (j m : ℕ) (v : List Event) → AfterNode j m → Split l e s z k j a (both a b) v → (o : ℕ) × (w : List Event) × CollectionsBelow (both a b) e o w × AfterNode o m
+      go j m v f (of_first r) = absurd ((no_mapping_over a AfterNode k z e h b (prop_kind cs handles z (prop_here cs handles z e b rb)) (prop_on z e b rb) (props_alone cs handles col block_key z e b rb) end).none j m v r f)
+      go j m v f (of_both r) = (j, v, r, f)
+
+  -- ---- what a line below begins with
+
+  -- a property: the mapping alone whose key it begins
+  pub key_below : (p : Props) (E : End) (k x : ℕ) → Kind cs 1 x → Rest (BelowThem p k) E x (Mapping k p) E x
+  key_below p E k x h = record { rest = go }
+    where
+      no_content : Kind cs 3 x ⊎ PlainFirst cs flow_out x → ⊥
+      no_content (inl q) = let z : 3 ≡ 1 = kind_same cs 3 1 x q h in omega (arith, z)
+      no_content (inr q) = plain_no_kind cs flow_out 1 x h q
+
+      go : (j m : ℕ) (v : List Event) → BelowThem p k x j v → E j m → (o : ℕ) × (w : List Event) × Mapping k p x o w × E o m
+      go j m v (inl (inl (o, r, t))) e = absurd (no_content (contents_fresh p x o v r).1)
+      go j m v (inl (inr r)) e = let z : 4 ≡ 1 = kind_same cs 4 1 x (scalar_kind cs Wide handles Open inside facts ease wider fwd blocks col c p x j v r) h in absurd (omega (arith, z))
+      go j m v (inr (inl r)) e = (j, v, r, e)
+      go j m v (inr (inr (o, (t, (a, us, vs, d1, rest, f), y)))) e = absurd (dash_no_kind cs 1 x (seq_dash cs Wide handles Open inside facts ease wider fwd blocks col c k x a us d1) h)
+
+  -- a dash: the sequence alone
+  pub dash_below : (p : Props) (E : End) (k x : ℕ) → DashHere cs x → Rest (BelowThem p k) E x (Sequence k p) E x
+  dash_below p E k x h = record { rest = go }
+    where
+      no_content : Kind cs 3 x ⊎ PlainFirst cs flow_out x → ⊥
+      no_content (inl q) = dash_no_kind cs 3 x h q
+      no_content (inr q) = dash_no_plain cs x h flow_out q
+
+      go : (j m : ℕ) (v : List Event) → BelowThem p k x j v → E j m → (o : ℕ) × (w : List Event) × Sequence k p x o w × E o m
+      go j m v (inl (inl (o, r, t))) e = absurd (no_content (contents_fresh p x o v r).1)
+      go j m v (inl (inr r)) e = absurd (dash_no_kind cs 4 x h (scalar_kind cs Wide handles Open inside facts ease wider fwd blocks col c p x j v r))
+      go j m v (inr (inl (o, (t, (a, us, vs, u, rest, f), y)))) e = absurd ((map_key cs Wide handles Open inside facts ease wider fwd blocks col c k x a us u).1 h)
+      go j m v (inr (inr r)) e = (j, v, r, e)
+
+  -- a bar or a greater sign: the block scalar alone
+  pub scalar_below : (p : Props) (E : End) (k x : ℕ) → Kind cs 4 x → ((j : ℕ) (v : List Event) → Mapping k p x j v → ⊥) → Rest (BelowThem p k) E x (Scalar p) E x
+  scalar_below p E k x h none = record { rest = go }
+    where
+      no_content : Kind cs 3 x ⊎ PlainFirst cs flow_out x → ⊥
+      no_content (inl q) = let z : 3 ≡ 4 = kind_same cs 3 4 x q h in omega (arith, z)
+      no_content (inr q) = plain_no_kind cs flow_out 4 x h q
+
+      go : (j m : ℕ) (v : List Event) → BelowThem p k x j v → E j m → (o : ℕ) × (w : List Event) × Scalar p x o w × E o m
+      go j m v (inl (inl (o, r, t))) e = absurd (no_content (contents_fresh p x o v r).1)
+      go j m v (inl (inr r)) e = (j, v, r, e)
+      go j m v (inr (inl r)) e = absurd (none j v r)
+      go j m v (inr (inr (o, (t, (a, us, vs, d1, rest, f), y)))) e = absurd (dash_no_kind cs 4 x (seq_dash cs Wide handles Open inside facts ease wider fwd blocks col c k x a us d1) h)
+
+  -- anything else: flow content and the rest of its line, or a mapping whose key it begins
+  abbrev pub ContentOrKey : Props → ℕ → Rule (List Event)
+  ContentOrKey p k = (Contents p ◂ s_l_comments cs) ∪ Mapping k p
+
+  pub content_below : (p : Props) (E : End) (k x : ℕ) → (Kind cs 4 x → ⊥) → (DashHere cs x → ⊥) → Rest (BelowThem p k) E x (ContentOrKey p k) E x
+  content_below p E k x f g = record { rest = go }
+    where
+      go : (j m : ℕ) (v : List Event) → BelowThem p k x j v → E j m → (o : ℕ) × (w : List Event) × ContentOrKey p k x o w × E o m
+      go j m v (inl (inl r)) e = (j, v, inl r, e)
+      go j m v (inl (inr r)) e = absurd (f (scalar_kind cs Wide handles Open inside facts ease wider fwd blocks col c p x j v r))
+      go j m v (inr (inl r)) e = (j, v, inr r, e)
+      go j m v (inr (inr (o, (t, (a, us, vs, d1, rest, h), y)))) e = absurd (g (seq_dash cs Wide handles Open inside facts ease wider fwd blocks col c k x a us d1))
