@@ -26,7 +26,7 @@ use Rattle.yaml_unique.proofs.KeyContexts.{Eased}
 use Rattle.yaml_unique.proofs.BlockLevels.{Blocks, entry_key}
 use Rattle.yaml_complete.specs.Decisions.{Refused, Goes, Rest, Here}
 use Rattle.yaml_complete.proofs.Decisions.{rest_rest, rest_both, rest_goes, rest_refused}
-use Rattle.yaml_complete.proofs.FlowStarts.{yaml_propped, json_propped}
+use Rattle.yaml_complete.proofs.FlowStarts.{yaml_propped, json_propped, no_node_at_bar}
 use Rattle.yaml_complete.proofs.PropertyChoices.{Second, Kinds, one_prop, two_props, kinds, Differ, rest_propped}
 use Rattle.yaml_complete.proofs.Separations.{Spaces, separate_on_line, separate_on_next, separate_short}
 use Rattle.yaml_complete.proofs.BlockLoops.{SequenceFrom, MappingFrom}
@@ -387,8 +387,14 @@ module _ (cs : List ℕ) (Wide : Type 0) (handles : Handles) (Open : Type 0) (in
       go j m v (inr (inr r)) e = (j, v, r, e)
 
   -- a bar or a greater sign: the block scalar alone
-  pub scalar_below : (p : Props) (E : End) (k x : ℕ) → Kind cs 4 x → ((j : ℕ) (v : List Event) → Mapping k p x j v → ⊥) → Rest (BelowThem p k) E x (Scalar p) E x
-  scalar_below p E k x h none = record { rest = go }
+  no_key_at_bar : (x : ℕ) → Kind cs 4 x → KeyRead cs Wide handles Open inside col d c x → ⊥
+  no_key_at_bar x h (o, v, f, fk, oneline) = (no_node_at_bar cs Wide handles Open inside col flow_out (At (F cs col d)) x h).none o o v f (refl, inr fk)
+
+  pub no_mapping_at_bar : (p : Props) (E : End) (k x : ℕ) → Kind cs 4 x → Refused (Mapping k p) E x
+  no_mapping_at_bar p E k x h = record { none = λ j m v (a, (t, (b, us, vs, u, rest, y), f)) w. no_key_at_bar x h (entry_key cs Wide handles Open inside facts ease wider fwd blocks col d c k x b us u) }
+
+  pub scalar_below : (p : Props) (E : End) (k x : ℕ) → Kind cs 4 x → Rest (BelowThem p k) E x (Scalar p) E x
+  scalar_below p E k x h = record { rest = go }
     where
       no_content : Kind cs 3 x ⊎ PlainFirst cs flow_out x → ⊥
       no_content (inl q) = let z : 3 ≡ 4 = kind_same cs 3 4 x q h in omega (arith, z)
@@ -397,7 +403,7 @@ module _ (cs : List ℕ) (Wide : Type 0) (handles : Handles) (Open : Type 0) (in
       go : (j m : ℕ) (v : List Event) → BelowThem p k x j v → E j m → (o : ℕ) × (w : List Event) × Scalar p x o w × E o m
       go j m v (inl (inl (o, r, t))) e = absurd (no_content (contents_fresh p x o v r).1)
       go j m v (inl (inr r)) e = (j, v, r, e)
-      go j m v (inr (inl r)) e = absurd (none j v r)
+      go j m v (inr (inl r)) e = absurd ((no_mapping_at_bar p E k x h).none j m v r e)
       go j m v (inr (inr (o, (t, (a, us, vs, d1, rest, f), y)))) e = absurd (dash_no_kind cs 4 x (seq_dash cs Wide handles Open inside facts ease wider fwd blocks col c k x a us d1) h)
 
   -- anything else: flow content and the rest of its line, or a mapping whose key it begins

@@ -9,7 +9,7 @@ use Rattle.yaml_text.specs.grammar.FlowScalars.{PlainFirst, single, double}
 use Rattle.yaml_text.specs.Event.{Event}
 use Rattle.yaml_text.specs.Event as style
 use Rattle.yaml_text.specs.grammar.Events.{Props, no_props}
-use Rattle.yaml_text.specs.grammar.Nodes.{Part, yaml_node, json_node, scalar_of, flow_seq, flow_map}
+use Rattle.yaml_text.specs.grammar.Nodes.{Part, yaml_node, json_node, scalar_of, flow_seq, flow_map, flow_node}
 use Rattle.yaml_scalar.proofs.Runs.{same_char}
 use Rattle.yaml_scalar.proofs.DoubleReadings.{double_same}
 use Rattle.yaml_unique.specs.Readings.{End}
@@ -18,7 +18,7 @@ use Rattle.yaml_unique.proofs.Properties.{props_here, props_two}
 use Rattle.yaml_unique.proofs.FlowNodes.{Kind, Sign, kind_same, plain_no_kind, prop_kind, plain_start, Jsons, Plains, Aliases, YamlRest, JsonRest, jsons_start, json_parts}
 use Rattle.yaml_unique.proofs.FlowLevels.{single_same}
 use Rattle.yaml_complete.specs.Decisions.{Refused, Goes, Rest}
-use Rattle.yaml_complete.proofs.Decisions.{goes_one}
+use Rattle.yaml_complete.proofs.Decisions.{goes_one, rest_left, rest_right, rest_goes, rest_refused, refused_either}
 
 module _ (cs : List ℕ) (Wide : Type 0) (handles : Handles) (Open : Type 0) (inside : Part → Rule (List Event)) (n : ℕ) (c : Ctx) where
   abbrev Yaml : Rule (List Event)
@@ -201,3 +201,28 @@ module _ (cs : List ℕ) (Wide : Type 0) (handles : Handles) (Open : Type 0) (in
       go : (j : ℕ) (v : List Event) → JsonContent no_props i j v ⊎ PropJson i j v → ⊥
       go j v (inl r) = g (json_kind no_props i j v r)
       go j v (inr r) = f (propped_begin (JsonRest cs Wide handles Open inside n c) i j v r)
+
+  -- ---- both kinds together
+
+  abbrev Node : Rule (List Event)
+  Node = flow_node cs Wide handles Open inside n c
+
+  pub node_goes_yaml : (E F : End) (i y : ℕ) → Goes Yaml E i F y → Refused Json E i → Goes Node E i F y
+  unfolding flow_node
+  node_goes_yaml E F i y g f = rest_goes (rest_left Yaml f) g
+
+  pub node_goes_json : (E F : End) (i y : ℕ) → Goes Json E i F y → Refused Yaml E i → Goes Node E i F y
+  unfolding flow_node
+  node_goes_json E F i y g f = rest_goes (rest_right Json f) g
+
+  pub node_refused : (E : End) (i : ℕ) → Refused Yaml E i → Refused Json E i → Refused Node E i
+  unfolding flow_node
+  node_refused E i f g = refused_either f g
+
+  -- a bar or a greater sign begins no flow node
+  pub no_node_at_bar : (E : End) (i : ℕ) → Kind cs 4 i → Refused Node E i
+  no_node_at_bar E i h =
+      node_refused E i
+          (rest_refused (plain_left E i (λ k. two_kinds 1 4 i (λ z. omega (arith, z)) k h) (λ k. two_kinds 2 4 i (λ z. omega (arith, z)) k h))
+          (record { none = λ j m v r e. plain_no_kind cs c 4 i h (plain_begin i j v r) }))
+          (no_json E i (λ k. two_kinds 1 4 i (λ z. omega (arith, z)) k h) (λ k. two_kinds 3 4 i (λ z. omega (arith, z)) k h))
