@@ -1,23 +1,23 @@
 -- A node of block level after its properties: what is left on their line, on a line below, and where nothing follows them.
 use Rattle.std.proofs.Common.{◌≡◌, ℕ, ◌+◌, ◌≤◌, ◌<◌, ◌⊎◌, inl, inr, List, refl, sym, ◌∙◌, subst, arith}
-use Rattle.yaml_text.specs.grammar.Rules.{Rule, Spans, ◌▸◌, ◌◂◌, ◌∪◌, gives, with_value, maybe, run, Stands}
-use Rattle.yaml_text.specs.grammar.Characters.{is_ns, is_space}
+use Rattle.yaml_text.specs.grammar.Rules.{Rule, Spans, ◌▸◌, ◌◂◌, ◌∪◌, with_value, run, Stands}
+use Rattle.yaml_text.specs.grammar.Characters.{is_space}
 use Rattle.yaml_text.specs.grammar.Separation.{Ctx, flow_out, block_key, separate, s_l_comments, indent, OneLine}
 use Rattle.yaml_text.specs.grammar.Tags.{Handles, properties}
 use Rattle.yaml_text.specs.grammar.FlowScalars.{PlainFirst}
 use Rattle.yaml_text.specs.Event.{Event}
-use Rattle.yaml_text.specs.grammar.Events.{Props, no_props, empty}
-use Rattle.yaml_text.specs.grammar.Nodes.{Part, part, flow_node, yaml_node, json_node, seq_column, block_map, block_seq}
+use Rattle.yaml_text.specs.grammar.Events.{Props}
+use Rattle.yaml_text.specs.grammar.Nodes.{Part, part, flow_node, seq_column, block_map, block_seq}
 use Rattle.yaml_text.proofs.grammar.Forward.{Forward, on_separate, fwd_tag, fwd_anchor, fwd_plain, fwd_single, fwd_double, fwd_flow_seq, fwd_flow_map}
 use Rattle.yaml_text.proofs.grammar.Widening.{Within}
 use Rattle.yaml_scalar.specs.BlockRules.{Inside}
-use Rattle.yaml_scalar.proofs.LineRuns.{inside_no_line, indent_run, indent_place}
+use Rattle.yaml_scalar.proofs.LineRuns.{inside_no_line, indent_run}
 use Rattle.yaml_unique.specs.Readings.{End, At}
-use Rattle.yaml_unique.specs.Follows.{Solid, Fresh, Stuck, Less, DashHere, Dash, Past, Comments, Way, Over, Follow, FollowKey, FollowRest, F}
+use Rattle.yaml_unique.specs.Follows.{Solid, Fresh, Stuck, DashHere, Dash, Past, Way, Over, Follow, FollowKey, FollowRest, F}
 use Rattle.yaml_unique.proofs.Lines.{past_of, past_same, past_no_run, less_stuck, less_column, dash_fresh, comments_none, way_of, way_same, way_any}
 use Rattle.yaml_unique.proofs.Properties.{PropHere, NoMore, prop, prop_solid, Two, alone, pair, both, props_two, props_inside, props_alone}
 use Rattle.yaml_unique.proofs.TagEnds.{prop_same, prop_here, prop_inside, alias_same}
-use Rattle.yaml_unique.proofs.FlowNodes.{Kind, Sign, kind_fresh, kind_three, kind_same, plain_start, plain_no_kind, jsons_start, prop_kind, ContentHere, Plains, Jsons, YamlRest, JsonRest, yaml_next, json_next}
+use Rattle.yaml_unique.proofs.FlowNodes.{Kind, kind_fresh, kind_three, kind_same, plain_start, plain_no_kind, jsons_start, prop_kind, ContentHere, Plains, Jsons, YamlRest, JsonRest, yaml_next, json_next}
 use Rattle.yaml_unique.proofs.FlowEntries.{Facts}
 use Rattle.yaml_unique.proofs.FlowLevels.{jsons_unique, inner_out}
 use Rattle.yaml_unique.proofs.PlainEnds.{plain_block_unique}
@@ -25,10 +25,10 @@ use Rattle.yaml_unique.proofs.BlockNodes.{next_here, content_here, rest_no, past
 use Rattle.yaml_unique.proofs.KeyContexts.{Eased}
 use Rattle.yaml_unique.proofs.BlockLevels.{Blocks, entry_key}
 use Rattle.yaml_complete.specs.Decisions.{Refused, Goes, Rest, Here}
-use Rattle.yaml_complete.proofs.Decisions.{rest_rest, rest_both, rest_goes, rest_refused}
+use Rattle.yaml_complete.proofs.Decisions.{rest_rest}
 use Rattle.yaml_complete.proofs.FlowStarts.{yaml_propped, json_propped, no_node_at_bar}
-use Rattle.yaml_complete.proofs.PropertyChoices.{Second, Kinds, one_prop, two_props, kinds, Differ, rest_propped}
-use Rattle.yaml_complete.proofs.Separations.{Spaces, separate_on_line, separate_on_next, separate_short}
+use Rattle.yaml_complete.proofs.PropertyChoices.{Second, Kinds, one_prop, two_props, kinds, rest_propped}
+use Rattle.yaml_complete.proofs.Separations.{Spaces, separate_on_line, separate_on_next}
 use Rattle.yaml_complete.proofs.BlockLoops.{SequenceFrom, MappingFrom}
 use Rattle.yaml_complete.proofs.BlockStarts.{FlowLine, ScalarOf, ProppedScalar, CollectionsOf, ProppedCollection, scalar_kind, mapping_from, sequence_from, map_key, seq_dash}
 
@@ -67,10 +67,10 @@ module _ (cs : List ℕ) (Wide : Type 0) (handles : Handles) (Open : Type 0) (in
   rest_next : (p : Props) (k j m : ℕ) (v : List Event) → Inside cs k → FlowRest p k j v → At (F cs col d) j m → NoMore cs handles col k
   rest_next p k j m v o (inl r) e =
       yaml_next cs Wide handles Open inside col flow_out (F cs col d) (F cs col d) (prop_same cs handles) (prop_here cs handles) (prop_inside cs handles) (alias_same cs) (plain_block_unique cs col d)
-          (jsons_unique cs Wide handles Open inside facts col flow_out inner_out (F cs col d)) (next_here cs handles col d) (content_here cs col d) p k j m v o r e
+      (jsons_unique cs Wide handles Open inside facts col flow_out inner_out (F cs col d)) (next_here cs handles col d) (content_here cs col d) p k j m v o r e
   rest_next p k j m v o (inr r) e =
       json_next cs Wide handles Open inside col flow_out (F cs col d) (F cs col d) (prop_same cs handles) (prop_here cs handles) (prop_inside cs handles) (alias_same cs) (plain_block_unique cs col d)
-          (jsons_unique cs Wide handles Open inside facts col flow_out inner_out (F cs col d)) (next_here cs handles col d) (content_here cs col d) p k j m v o r e
+      (jsons_unique cs Wide handles Open inside facts col flow_out inner_out (F cs col d)) (next_here cs handles col d) (content_here cs col d) p k j m v o r e
 
   abbrev Propped : Rule (List Event)
   Propped = with_value (properties cs handles col flow_out) FlowRest
@@ -131,7 +131,7 @@ module _ (cs : List ℕ) (Wide : Type 0) (handles : Handles) (Open : Type 0) (in
           let h = prop_same cs handles i y l a q k g in
           let sp = same y z a b k n w in
           absurd (inside_no_line cs l (prop_inside cs handles i l q g)
-              (past_no_run cs l x z (past_of cs l x x t (Spans.done refl)) (subst (λ o. run cs is_space o z) h.0 sp) (prop_solid cs handles z (prop_here cs handles z e b w)).0).0)
+          (past_no_run cs l x z (past_of cs l x x t (Spans.done refl)) (subst (λ o. run cs is_space o z) h.0 sp) (prop_solid cs handles z (prop_here cs handles z e b w)).0).0)
       go j m v l q x t u f (pair y z a b k n w eq) (two_props y2 z2 a2 b2 k2 n2 w2 eq2 df) =
           let h = prop_same cs handles i y y2 a a2 k k2 in
           let g : z ≡ z2 = way_same cs y2 z z2 (subst (λ o. Way cs o z) h.0 (way_of cs col c y z n (prop_solid cs handles z (prop_here cs handles z e b w)).0)) (way_of cs col c y2 z2 n2 (prop_solid cs handles z2 (prop_here cs handles z2 l b2 w2)).0) in
@@ -301,8 +301,10 @@ module _ (cs : List ℕ) (Wide : Type 0) (handles : Handles) (Open : Type 0) (in
 
   -- so no mapping begins with it
   pub no_mapping_over : (o : Props) (E : End) (k x e s : ℕ) (p : Props) → Kind cs 1 x → x ≤ e → properties cs handles col block_key x e p → s_l_comments cs e s → Refused (Mapping k o) E x
-  no_mapping_over o E k x e s p h le r over = record { none = λ j m v (a, (t, (b, us, vs, u, rest, y), f)) w.
-      no_key_over x e s p h le r over (entry_key cs Wide handles Open inside facts ease wider fwd blocks col d c k x b us u) }
+  no_mapping_over o E k x e s p h le r over = record {
+    none = λ j m v (a, (t, (b, us, vs, u, rest, y), f)) w.
+        no_key_over x e s p h le r over (entry_key cs Wide handles Open inside facts ease wider fwd blocks col d c k x b us u);
+  }
 
   -- ---- properties on two lines: the first before the line on which the second stands, in column k
 

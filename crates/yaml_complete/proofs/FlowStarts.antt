@@ -223,6 +223,6 @@ module _ (cs : List ℕ) (Wide : Type 0) (handles : Handles) (Open : Type 0) (in
   pub no_node_at_bar : (E : End) (i : ℕ) → Kind cs 4 i → Refused Node E i
   no_node_at_bar E i h =
       node_refused E i
-          (rest_refused (plain_left E i (λ k. two_kinds 1 4 i (λ z. omega (arith, z)) k h) (λ k. two_kinds 2 4 i (λ z. omega (arith, z)) k h))
-          (record { none = λ j m v r e. plain_no_kind cs c 4 i h (plain_begin i j v r) }))
-          (no_json E i (λ k. two_kinds 1 4 i (λ z. omega (arith, z)) k h) (λ k. two_kinds 3 4 i (λ z. omega (arith, z)) k h))
+      (rest_refused (plain_left E i (λ k. two_kinds 1 4 i (λ z. omega (arith, z)) k h) (λ k. two_kinds 2 4 i (λ z. omega (arith, z)) k h))
+      (record { none = λ j m v r e. plain_no_kind cs c 4 i h (plain_begin i j v r) }))
+      (no_json E i (λ k. two_kinds 1 4 i (λ z. omega (arith, z)) k h) (λ k. two_kinds 3 4 i (λ z. omega (arith, z)) k h))
