@@ -13,9 +13,9 @@ use Rattle.yaml_unique.proofs.Lines.{past_of, past_same, past_no_run, stuck_run,
 use Rattle.yaml_unique.specs.Follows.{Solid, Fresh, Stuck, Past}
 use Rattle.yaml_unique.proofs.FlowNodes.{kind_fresh}
 use Rattle.yaml_unique.proofs.FlowEntries.{Facts}
-use Rattle.yaml_unique.proofs.FlowLevels.{no_facts, reads_facts}
-use Rattle.yaml_unique.proofs.KeyContexts.{Eased, no_eased, reads_eased}
-use Rattle.yaml_unique.proofs.BlockLevels.{Blocks, no_blocks, one_more, reads_blocks}
+use Rattle.yaml_unique.proofs.KeyContexts.{Eased}
+use Rattle.yaml_unique.proofs.BlockLevels.{Blocks}
+use Rattle.yaml_complete.proofs.Rooms.{Opens, below, facts_below, eased_below, wider_below, forward_below, blocks_below, of_level, to_level}
 use Rattle.yaml_complete.proofs.BlockStarts.{Form, flow, scalar, propped, collection, named, form, flow_key, scalar_kind, propped_kind, ScalarOf, CollectionsOf, collection_stuck}
 
 module _ (cs : List ℕ) (i m : ℕ) (past : Past cs i m) (stuck : Stuck cs m) (start : StartsLine cs m) where
@@ -62,7 +62,7 @@ module _ (cs : List ℕ) (i m : ℕ) (past : Past cs i m) (stuck : Stuck cs m) (
     node_again j v r = of_form j v (form cs Wide handles Open inside facts ease wider fwd blocks col block_in i j v r)
 
   pub root_again : (Wide : Type 0) (handles : Handles) (room j : ℕ) (v : List Event) → reads cs Wide handles room (block_part 0 block_in) i j v → reads cs Wide handles room (block_part 0 block_in) m j v
-  unfolding reads
-  root_again Wide handles zero j v r = node_again Wide handles ⊥ (λ q. never) (no_facts cs Wide handles) (no_eased cs Wide handles) (λ p i j v r. absurd r) (λ p i j v r. absurd r) (no_blocks cs Wide handles) 0 j v r
-  root_again Wide handles (suc room) j v r =
-      node_again Wide handles (Unit {0}) (reads cs Wide handles room) (reads_facts cs Wide handles room) (reads_eased cs Wide handles room) (one_more cs Wide handles room) (fwd_reads cs Wide handles room) (reads_blocks cs Wide handles room) 0 j v r
+  root_again Wide handles room j v r =
+      of_level cs Wide handles room (block_part 0 block_in) m j v
+          (node_again Wide handles (Opens cs Wide handles room) (below cs Wide handles room) (facts_below cs Wide handles room) (eased_below cs Wide handles room) (wider_below cs Wide handles room) (forward_below cs Wide handles room)
+          (blocks_below cs Wide handles room) 0 j v (to_level cs Wide handles room (block_part 0 block_in) i j v r))
