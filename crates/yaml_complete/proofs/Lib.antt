@@ -9,6 +9,7 @@ pub mod PropertyChoices
 pub mod BlockStarts
 pub mod BlockChoices
 pub mod BlockScalars
+pub mod BlockCalls
 pub mod Rooms
 pub mod NodesAgain
 pub mod FlowChoices

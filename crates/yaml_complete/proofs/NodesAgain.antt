@@ -1,13 +1,13 @@
 -- A node of block level that comment lines stand before is one from the line after them too.
-use Rattle.std.proofs.Common.{◌≡◌, ℕ, zero, suc, ◌+◌, ◌≤◌, ◌⊎◌, inl, inr, List, refl, sym, subst, arith}
-use Rattle.yaml_text.specs.grammar.Rules.{Rule, Spans, ◌▸◌, run, never}
+use Rattle.std.proofs.Common.{◌≡◌, ℕ, ◌+◌, ◌≤◌, ◌⊎◌, inl, inr, List, refl, sym, subst, arith}
+use Rattle.yaml_text.specs.grammar.Rules.{Rule, Spans, ◌▸◌, run}
 use Rattle.yaml_text.specs.grammar.Characters.{is_space}
 use Rattle.yaml_text.specs.grammar.Separation.{block_in, flow_out, StartsLine, separate, separate_lines, s_l_comments, indent}
 use Rattle.yaml_text.specs.grammar.Tags.{Handles}
 use Rattle.yaml_text.specs.Event.{Event}
 use Rattle.yaml_text.specs.grammar.Events.{no_props}
 use Rattle.yaml_text.specs.grammar.Nodes.{Part, block_part, part, reads, block_node}
-use Rattle.yaml_text.proofs.grammar.Forward.{Forward, fwd_reads}
+use Rattle.yaml_text.proofs.grammar.Forward.{Forward}
 use Rattle.yaml_text.proofs.grammar.Widening.{Within}
 use Rattle.yaml_unique.proofs.Lines.{past_of, past_same, past_no_run, stuck_run, way_any}
 use Rattle.yaml_unique.specs.Follows.{Solid, Fresh, Stuck, Past}
@@ -64,5 +64,5 @@ module _ (cs : List ℕ) (i m : ℕ) (past : Past cs i m) (stuck : Stuck cs m) (
   pub root_again : (Wide : Type 0) (handles : Handles) (room j : ℕ) (v : List Event) → reads cs Wide handles room (block_part 0 block_in) i j v → reads cs Wide handles room (block_part 0 block_in) m j v
   root_again Wide handles room j v r =
       of_level cs Wide handles room (block_part 0 block_in) m j v
-          (node_again Wide handles (Opens cs Wide handles room) (below cs Wide handles room) (facts_below cs Wide handles room) (eased_below cs Wide handles room) (wider_below cs Wide handles room) (forward_below cs Wide handles room)
-          (blocks_below cs Wide handles room) 0 j v (to_level cs Wide handles room (block_part 0 block_in) i j v r))
+      (node_again Wide handles (Opens cs Wide handles room) (below cs Wide handles room) (facts_below cs Wide handles room) (eased_below cs Wide handles room) (wider_below cs Wide handles room) (forward_below cs Wide handles room)
+      (blocks_below cs Wide handles room) 0 j v (to_level cs Wide handles room (block_part 0 block_in) i j v r))
