@@ -9,7 +9,7 @@ use Rattle.yaml_text.specs.grammar.Events.{no_props}
 use Rattle.yaml_text.specs.grammar.Nodes.{Part, part, flow_node, block_node, empty_rest}
 use Rattle.yaml_text.proofs.grammar.Forward.{Forward}
 use Rattle.yaml_text.proofs.grammar.Widening.{Within}
-use Rattle.yaml_scalar.specs.BlockRules.{Inside}
+use Rattle.yaml_text.specs.Lines.{Inside}
 use Rattle.yaml_unique.specs.Readings.{End, At}
 use Rattle.yaml_unique.specs.Follows.{Stuck, DashHere, Over, Follow, F}
 use Rattle.yaml_unique.proofs.Lines.{less_stuck, past_of}

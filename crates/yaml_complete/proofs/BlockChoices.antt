@@ -9,9 +9,9 @@ use Rattle.yaml_text.specs.grammar.Events.{no_props}
 use Rattle.yaml_text.specs.grammar.Nodes.{Part, block_part, compact_part, part, block_node, seq_column, empty_rest, indented}
 use Rattle.yaml_text.proofs.grammar.Forward.{Forward}
 use Rattle.yaml_text.proofs.grammar.Widening.{Within}
-use Rattle.yaml_scalar.specs.BlockRules.{Inside}
-use Rattle.yaml_scalar.proofs.Runs.{run_same}
-use Rattle.yaml_scalar.proofs.LineRuns.{indent_run, indent_place, inside_no_line}
+use Rattle.yaml_text.specs.Lines.{Inside}
+use Rattle.yaml_text.proofs.Runs.{run_same}
+use Rattle.yaml_text.proofs.LineRuns.{indent_run, indent_place, inside_no_line}
 use Rattle.yaml_unique.specs.Readings.{End}
 use Rattle.yaml_unique.proofs.Lines.{dash_fresh, solid_no_space, past_of, past_same, past_no_run}
 use Rattle.yaml_unique.specs.Follows.{Fresh, Stuck, Past, Over, Follow}

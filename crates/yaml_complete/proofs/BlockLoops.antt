@@ -7,8 +7,8 @@ use Rattle.yaml_text.specs.grammar.Tags.{Handles}
 use Rattle.yaml_text.specs.Event.{Event, sequence_end, mapping_end}
 use Rattle.yaml_text.specs.grammar.Events.{Props, no_props, seq_start, map_start, wrapped}
 use Rattle.yaml_text.specs.grammar.Nodes.{Part, block_part, empty_rest, indented, seq_entry, map_entry, implicit_yaml_key, implicit_json_key, compact_seq, compact_map}
-use Rattle.yaml_scalar.proofs.LineRuns.{indent_place, indent_run}
-use Rattle.yaml_scalar.proofs.Runs.{run_same}
+use Rattle.yaml_text.proofs.LineRuns.{indent_place, indent_run}
+use Rattle.yaml_text.proofs.Runs.{run_same}
 use Rattle.yaml_unique.specs.Readings.{End, At, More, Starts}
 use Rattle.yaml_complete.specs.Decisions.{Refused, Goes, Rest, Here}
 use Rattle.yaml_complete.proofs.Decisions.{rest_refused, rest_goes, rest_rest, goes_refused, refused_until, rest_seen, rest_given, refused_given, rest_before, rest_joined, refused_joined, rest_first, refused_first, rest_more, refused_more, goes_done}

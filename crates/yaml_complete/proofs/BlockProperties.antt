@@ -10,8 +10,8 @@ use Rattle.yaml_text.specs.grammar.Events.{Props}
 use Rattle.yaml_text.specs.grammar.Nodes.{Part, part, flow_node, seq_column, block_map, block_seq}
 use Rattle.yaml_text.proofs.grammar.Forward.{Forward, on_separate, fwd_tag, fwd_anchor, fwd_plain, fwd_single, fwd_double, fwd_flow_seq, fwd_flow_map}
 use Rattle.yaml_text.proofs.grammar.Widening.{Within}
-use Rattle.yaml_scalar.specs.BlockRules.{Inside}
-use Rattle.yaml_scalar.proofs.LineRuns.{inside_no_line, indent_run}
+use Rattle.yaml_text.specs.Lines.{Inside}
+use Rattle.yaml_text.proofs.LineRuns.{inside_no_line, indent_run}
 use Rattle.yaml_unique.specs.Readings.{End, At}
 use Rattle.yaml_unique.specs.Follows.{Solid, Fresh, Stuck, DashHere, Dash, Past, Way, Over, Follow, FollowKey, FollowRest, F}
 use Rattle.yaml_unique.proofs.Lines.{past_of, past_same, past_no_run, less_stuck, less_column, dash_fresh, comments_none, way_of, way_same, way_any}

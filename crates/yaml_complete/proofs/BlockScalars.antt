@@ -4,11 +4,11 @@ use Rattle.yaml_text.specs.grammar.Rules.{Spans, run, maybe, Stands}
 use Rattle.yaml_text.specs.grammar.Characters.{is_space, is_nb}
 use Rattle.yaml_text.specs.grammar.Separation.{comment, l_comment, less}
 use Rattle.yaml_text.specs.grammar.BlockScalars.{literal, folded, block_content, comment_lines, LessIndented, LinesEnd}
-use Rattle.yaml_scalar.specs.BlockRules.{blank_rest}
+use Rattle.yaml_text.specs.Lines.{blank_rest}
 use Rattle.yaml_scalar.specs.BlockModel.{styled}
-use Rattle.yaml_scalar.proofs.Runs.{run_same, same_char}
-use Rattle.yaml_scalar.proofs.LineRuns.{line_end_stops}
-use Rattle.yaml_scalar.proofs.RestLemmas.{from_l, comment_stops, l_comment_onward, nb_feed, nb_return, space_feed, space_return, space_hash}
+use Rattle.yaml_text.proofs.Runs.{run_same, same_char}
+use Rattle.yaml_text.proofs.LineRuns.{line_end_stops}
+use Rattle.yaml_text.proofs.RestLemmas.{from_l, comment_stops, l_comment_onward, nb_feed, nb_return, space_feed, space_return, space_hash}
 use Rattle.yaml_unique.proofs.Lines.{comments_join, stuck_end, stuck_mark}
 use Rattle.yaml_unique.specs.Follows.{Stuck, Over}
 use Rattle.yaml_unique.proofs.BlockScalarEnds.{block_scalar_unique}

@@ -11,8 +11,8 @@ use Rattle.yaml_text.specs.grammar.Events.{Props, no_props}
 use Rattle.yaml_text.specs.grammar.Nodes.{Part, part, flow_node, scalar_of, block_seq, block_map, block_node, seq_column, seq_entry, map_entry}
 use Rattle.yaml_text.proofs.grammar.Forward.{Forward}
 use Rattle.yaml_text.proofs.grammar.Widening.{Within}
-use Rattle.yaml_scalar.proofs.Runs.{run_same}
-use Rattle.yaml_scalar.proofs.LineRuns.{indent_run, indent_place}
+use Rattle.yaml_text.proofs.Runs.{run_same}
+use Rattle.yaml_text.proofs.LineRuns.{indent_run, indent_place}
 use Rattle.yaml_unique.specs.Readings.{End}
 use Rattle.yaml_unique.proofs.Lines.{dash_fresh, solid_no_space, past_of, past_same, stuck_line}
 use Rattle.yaml_unique.specs.Follows.{Fresh, Stuck, DashHere, KeyHere}

@@ -9,9 +9,9 @@ use Rattle.yaml_text.specs.Limits.{key_limit}
 use Rattle.yaml_text.specs.Event.{Event}
 use Rattle.yaml_text.specs.grammar.Events.{no_props, empty}
 use Rattle.yaml_text.specs.grammar.Nodes.{Part, yaml_part, json_part, value, adjacent, yaml_key_entry, json_key_entry, implicit_entry, entry, pair, implicit_yaml_key, implicit_json_key, empty_key, explicit}
-use Rattle.yaml_scalar.specs.BlockRules.{Inside}
+use Rattle.yaml_text.specs.Lines.{Inside}
 use Rattle.yaml_scalar.specs.Chains.{Later}
-use Rattle.yaml_scalar.proofs.Runs.{same_char, run_none}
+use Rattle.yaml_text.proofs.Runs.{same_char, run_none}
 use Rattle.yaml_scalar.proofs.PlainLemmas.{no_later_colon}
 use Rattle.yaml_unique.specs.Readings.{End, At, Starts}
 use Rattle.yaml_unique.proofs.Lines.{solid_no_space, way_same, way_then, sep_run, sep_parts, way_maybe}

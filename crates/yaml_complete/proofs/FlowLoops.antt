@@ -5,7 +5,7 @@ use Rattle.yaml_text.specs.grammar.Rules.{Span, Rule, ◌◆◌, ◌◂◌, ◌�
 use Rattle.yaml_text.specs.grammar.Characters.{is_ns, is_nb, is_break, is_white}
 use Rattle.yaml_text.specs.grammar.Separation.{Ctx, separate}
 use Rattle.yaml_text.specs.Event.{Event}
-use Rattle.yaml_scalar.proofs.Runs.{same_char}
+use Rattle.yaml_text.proofs.Runs.{same_char}
 use Rattle.yaml_unique.specs.Readings.{End, At}
 use Rattle.yaml_complete.specs.Decisions.{Refused, Goes, Rest, Here}
 use Rattle.yaml_complete.proofs.Decisions.{goes_refused}

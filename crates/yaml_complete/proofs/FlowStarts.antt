@@ -10,7 +10,7 @@ use Rattle.yaml_text.specs.Event.{Event}
 use Rattle.yaml_text.specs.Event as style
 use Rattle.yaml_text.specs.grammar.Events.{Props, no_props}
 use Rattle.yaml_text.specs.grammar.Nodes.{Part, yaml_node, json_node, scalar_of, flow_seq, flow_map, flow_node}
-use Rattle.yaml_scalar.proofs.Runs.{same_char}
+use Rattle.yaml_text.proofs.Runs.{same_char}
 use Rattle.yaml_scalar.proofs.DoubleReadings.{double_same}
 use Rattle.yaml_unique.specs.Readings.{End}
 use Rattle.yaml_unique.proofs.TagEnds.{prop_same, prop_here, prop_inside}

@@ -8,9 +8,9 @@ use Rattle.yaml_text.specs.grammar.Tags.{Handles}
 use Rattle.yaml_text.specs.Event.{Event}
 use Rattle.yaml_text.specs.Limits.{key_limit}
 use Rattle.yaml_text.specs.grammar.Nodes.{Part, yaml_part, json_part, implicit_yaml_key, implicit_json_key}
-use Rattle.yaml_scalar.specs.BlockRules.{Inside}
-use Rattle.yaml_scalar.proofs.Runs.{run_none, run_same}
-use Rattle.yaml_scalar.proofs.LineRuns.{inside_no_line}
+use Rattle.yaml_text.specs.Lines.{Inside}
+use Rattle.yaml_text.proofs.Runs.{run_none, run_same}
+use Rattle.yaml_text.proofs.LineRuns.{inside_no_line}
 use Rattle.yaml_unique.specs.Readings.{At, Then}
 use Rattle.yaml_complete.specs.Decisions.{Refused, Goes, Here}
 use Rattle.yaml_unique.proofs.Lines.{solid_no_space, past_of, past_same, past_no_run, less_stuck, sep_run, run_solid}

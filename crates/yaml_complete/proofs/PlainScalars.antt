@@ -3,7 +3,7 @@ use Rattle.std.proofs.Common.{◌≡◌, ℕ, ◌+◌, ◌≤◌, ◌⊎◌, inl
 use Rattle.yaml_text.specs.grammar.Rules.{Any, done, then, where_both}
 use Rattle.yaml_text.specs.grammar.Separation.{Ctx, flow_in, flow_out, Unmarked}
 use Rattle.yaml_text.specs.grammar.FlowScalars.{plain, PlainFirst}
-use Rattle.yaml_scalar.specs.BlockRules.{Inside}
+use Rattle.yaml_text.specs.Lines.{Inside}
 use Rattle.yaml_scalar.specs.Chains.{Later, plain_more, plain_chain}
 use Rattle.yaml_scalar.proofs.AnyLemmas.{any_onward, any_chain}
 use Rattle.yaml_scalar.proofs.GapLemmas.{unmarked_cuts}

@@ -4,12 +4,11 @@ use Rattle.yaml_text.specs.grammar.Rules.{Rule, gives, maybe, with_value}
 use Rattle.yaml_text.specs.grammar.Separation.{Ctx, separate}
 use Rattle.std.specs.Prelude.{slice_get}
 use Rattle.yaml_text.specs.grammar.Tags.{Handles, tag, anchor, properties}
-use Rattle.yaml_text.specs.Event.{WrittenTag}
+use Rattle.yaml_text.specs.Event.{WrittenTag, Event}
 use Rattle.yaml_text.specs.grammar.FlowScalars.{PlainFirst}
-use Rattle.yaml_text.specs.Event.{Event}
 use Rattle.yaml_text.specs.grammar.Events.{Props}
 use Rattle.yaml_text.specs.grammar.Nodes.{Part}
-use Rattle.yaml_scalar.specs.BlockRules.{Inside}
+use Rattle.yaml_text.specs.Lines.{Inside}
 use Rattle.yaml_unique.specs.Readings.{End, Starts}
 use Rattle.yaml_unique.proofs.Lines.{way_of, way_same}
 use Rattle.yaml_unique.specs.Follows.{Solid, Fresh, Way}

@@ -3,10 +3,10 @@ use Rattle.std.proofs.Common.{◌≡◌, ℕ, ◌+◌, ◌≤◌, ◌<◌, ◌�
 use Rattle.yaml_text.specs.grammar.Rules.{Rule, maybe, Spans, Stands, run, ◌▸◌}
 use Rattle.yaml_text.specs.grammar.Characters.{is_space, is_ns}
 use Rattle.yaml_text.specs.grammar.Separation.{Ctx, block_out, block_in, flow_out, flow_in, block_key, flow_key, AtEnd, Mark, s_l_comments, separate}
-use Rattle.yaml_scalar.specs.BlockRules.{Inside}
-use Rattle.yaml_scalar.proofs.Runs.{run_none, run_same}
-use Rattle.yaml_scalar.proofs.GapLemmas.{mark_ns}
-use Rattle.yaml_scalar.proofs.LineRuns.{inside_no_line, end_stops}
+use Rattle.yaml_text.specs.Lines.{Inside}
+use Rattle.yaml_text.proofs.Runs.{run_none, run_same}
+use Rattle.yaml_text.proofs.Breaks.{mark_ns}
+use Rattle.yaml_text.proofs.LineRuns.{inside_no_line, end_stops}
 use Rattle.yaml_unique.specs.Readings.{End, Starts}
 use Rattle.yaml_unique.proofs.Lines.{solid_no_space, past_of, past_same, past_no_run, stuck_run, stuck_mark, sep_run, way_any, way_maybe}
 use Rattle.yaml_unique.specs.Follows.{Solid, Fresh, Stuck, Past, Way}

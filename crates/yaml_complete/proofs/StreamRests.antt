@@ -8,8 +8,8 @@ use Rattle.yaml_text.specs.grammar.Nodes.{block_part, reads}
 use Rattle.yaml_text.specs.grammar.Events.{no_props, empty}
 use Rattle.yaml_text.specs.Event.{Event}
 use Rattle.yaml_text.specs.grammar.Streams.{Piece, bare_document, explicit_document, directive_document, suffix, ReadsText}
-use Rattle.yaml_scalar.proofs.RestLemmas.{l_comment_onward}
-use Rattle.yaml_scalar.proofs.BlockChains.{spans_onward}
+use Rattle.yaml_text.proofs.RestLemmas.{l_comment_onward}
+use Rattle.yaml_text.proofs.Repeats.{spans_onward}
 use Rattle.yaml_unique.specs.Readings.{End, At}
 use Rattle.yaml_unique.proofs.Lines.{ns_dash, past_of, past_same, less_stuck, comments_same, comments_none, stuck_end}
 use Rattle.yaml_unique.specs.Follows.{Comments, Stuck, Less, Follow}

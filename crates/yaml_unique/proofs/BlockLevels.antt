@@ -12,9 +12,9 @@ use Rattle.yaml_text.specs.grammar.Events.{Props, no_props}
 use Rattle.yaml_text.specs.grammar.Nodes.{Part, yaml_part, json_part, block_part, compact_part, part, reads, yaml_node, flow_node, flow_seq, flow_map, block_node, block_seq, block_map, compact_seq, compact_map, map_entry, seq_entry, implicit_yaml_key, implicit_json_key, seq_column, empty_rest}
 use Rattle.yaml_text.proofs.grammar.Forward.{Forward, fwd_flow_node, fwd_reads}
 use Rattle.yaml_text.proofs.grammar.Widening.{Within, in_reads}
-use Rattle.yaml_scalar.specs.BlockRules.{Inside}
-use Rattle.yaml_scalar.proofs.LineRuns.{indent_run}
-use Rattle.yaml_scalar.proofs.Runs.{run_none}
+use Rattle.yaml_text.specs.Lines.{Inside}
+use Rattle.yaml_text.proofs.LineRuns.{indent_run}
+use Rattle.yaml_text.proofs.Runs.{run_none}
 use Rattle.yaml_unique.proofs.Unique.{from, unique_either}
 use Rattle.yaml_unique.specs.Readings.{At, Then, Unique, Apart}
 use Rattle.yaml_unique.proofs.Lines.{past_of, less_stuck, run_solid}

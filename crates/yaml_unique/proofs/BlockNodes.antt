@@ -14,15 +14,14 @@ use Rattle.yaml_text.specs.Event as style
 use Rattle.yaml_text.specs.grammar.Events.{Props, no_props}
 use Rattle.yaml_text.specs.grammar.Nodes.{Part, yaml_node, json_node, flow_node, scalar_of, block_seq, block_map, block_node, seq_column, flow_seq, flow_map}
 use Rattle.yaml_text.proofs.grammar.Forward.{fwd_properties}
-use Rattle.yaml_scalar.specs.BlockRules.{Inside, blank_rest}
-use Rattle.yaml_scalar.proofs.Runs.{same_char, run_none}
-use Rattle.yaml_scalar.proofs.GapLemmas.{run_join}
+use Rattle.yaml_text.specs.Lines.{Inside, blank_rest}
+use Rattle.yaml_text.proofs.Runs.{same_char, run_none}
+use Rattle.yaml_text.proofs.Breaks.{run_join}
 use Rattle.std.proofs.Math.Nat.{eq-or-lt_of_le}
 use Rattle.yaml_scalar.proofs.PlainLemmas.{no_first_sign}
-use Rattle.yaml_scalar.proofs.LineRuns.{inside_no_line, indent_run, indent_place, brk_onward}
-use Rattle.yaml_scalar.proofs.RestLemmas.{from_s_b}
-use Rattle.yaml_scalar.proofs.BlockChains.{spans_onward}
-use Rattle.yaml_scalar.proofs.RestLemmas.{l_comment_onward}
+use Rattle.yaml_text.proofs.LineRuns.{inside_no_line, indent_run, indent_place, brk_onward}
+use Rattle.yaml_text.proofs.RestLemmas.{from_s_b, l_comment_onward}
+use Rattle.yaml_text.proofs.Repeats.{spans_onward}
 use Rattle.yaml_unique.proofs.Unique.{unique_within, unique_until, unique_seen, unique_before, unique_either, unique_from, from}
 use Rattle.yaml_unique.specs.Readings.{End, At, Unique, Apart, To}
 use Rattle.yaml_unique.proofs.Lines.{way_any, way_of, way_same, past_of, past_same, past_no_run, stuck_run, stuck_line, stuck_end, less_stuck, less_run, less_column, column_same, comments_none, end_no_run, dash_fresh}

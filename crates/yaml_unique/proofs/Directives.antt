@@ -7,11 +7,11 @@ use Rattle.yaml_text.specs.grammar.Separation.{StartsLine, MarkOf, Mark, s_l_com
 use Rattle.yaml_text.specs.grammar.Tags.{Handles, tag_prefix, tag_char, uri_char}
 use Rattle.yaml_text.specs.grammar.Directives.{Directive, binding, is_known, yaml_directive, tag_directive, reserved_directive, directive, directives}
 use Rattle.yaml_text.proofs.PlaceLemmas.{slice_none, slice_one, slice_join}
-use Rattle.yaml_scalar.specs.BlockRules.{Inside, blank_rest}
-use Rattle.yaml_scalar.proofs.Runs.{same_char, no_stand, run_same, run_none, run_more}
-use Rattle.yaml_scalar.proofs.GapLemmas.{run_join}
-use Rattle.yaml_scalar.proofs.LineRuns.{inside_no_line, line_end_same, line_end_stops}
-use Rattle.yaml_scalar.proofs.RestLemmas.{from_s_b, nb_feed, nb_return, is_the_space}
+use Rattle.yaml_text.specs.Lines.{Inside, blank_rest}
+use Rattle.yaml_text.proofs.Runs.{same_char, no_stand, run_same, run_none, run_more}
+use Rattle.yaml_text.proofs.Breaks.{run_join}
+use Rattle.yaml_text.proofs.LineRuns.{inside_no_line, line_end_same, line_end_stops}
+use Rattle.yaml_text.proofs.RestLemmas.{from_s_b, nb_feed, nb_return, is_the_space}
 use Rattle.yaml_unique.proofs.Unique.{unique_seen, unique_holding, unique_after, unique_before, unique_first, unique_until}
 use Rattle.yaml_unique.specs.Readings.{At, Then, More, Unique}
 use Rattle.yaml_unique.proofs.Lines.{past_of, comments_same, solid_nb, stuck_run, stuck_mark}

@@ -8,10 +8,10 @@ use Rattle.yaml_text.specs.grammar.Tags.{Handles}
 use Rattle.yaml_text.specs.grammar.Events.{no_props, empty}
 use Rattle.yaml_text.specs.Event.{Event}
 use Rattle.yaml_text.specs.grammar.Streams.{Piece, document_piece, suffix_piece, stream_events, document_mark, bare_document, explicit_document, directive_document, bare_piece, explicit_piece, directive_piece, any_document, suffix, stream, ReadsText}
-use Rattle.yaml_scalar.specs.BlockRules.{Inside, AfterLine}
-use Rattle.yaml_scalar.proofs.Runs.{same_char, run_none}
-use Rattle.yaml_scalar.proofs.LineRuns.{end_stops, indent_place, indent_run}
-use Rattle.yaml_scalar.proofs.RestLemmas.{from_s_b, from_l, blank_after, l_comment_same}
+use Rattle.yaml_text.specs.Lines.{Inside, AfterLine}
+use Rattle.yaml_text.proofs.Runs.{same_char, run_none}
+use Rattle.yaml_text.proofs.LineRuns.{end_stops, indent_place, indent_run}
+use Rattle.yaml_text.proofs.RestLemmas.{from_s_b, from_l, blank_after, l_comment_same}
 use Rattle.yaml_unique.proofs.Unique.{unique_seen, unique_bounded, unique_gives, unique_after, unique_before, unique_taking, unique_within, unique_from, unique_from_either, from_before}
 use Rattle.yaml_unique.specs.Readings.{End, Unique}
 use Rattle.yaml_unique.proofs.Lines.{blank_at_end, run_solid, past_of, past_same, comments_none, stuck_run, stuck_end, stuck_mark, less_stuck, end_no_run, dash_fresh, solid_nb, lines_on, ns_dash}
@@ -19,7 +19,7 @@ use Rattle.yaml_unique.specs.Follows.{Solid, Fresh, Comments, Stuck, Less, Dash,
 use Rattle.yaml_unique.proofs.BlockEntries.{NodeStart, start_no_empty}
 use Rattle.yaml_scalar.specs.Chains.{plain_head, plain_sign}
 use Rattle.yaml_scalar.proofs.PlainLemmas.{no_first_head}
-use Rattle.yaml_scalar.proofs.GapLemmas.{mark_ns}
+use Rattle.yaml_text.proofs.Breaks.{mark_ns}
 use Rattle.yaml_text.specs.grammar.Reading.{Reads}
 use Rattle.yaml_text.specs.Means.{StandsFor}
 use Rattle.yaml_text.proofs.MeansLaws.{stands_one}

@@ -10,11 +10,11 @@ use Rattle.yaml_text.specs.grammar.FlowScalars.{plain_safe}
 use Rattle.yaml_text.specs.Event.{Event, sequence_end, mapping_end}
 use Rattle.yaml_text.specs.grammar.Events.{Props, no_props, empty, wrapped, seq_start, map_start}
 use Rattle.yaml_text.specs.grammar.Nodes.{Part, yaml_part, json_part, pair_part, e_node, inside_flow, parted, value, adjacent, yaml_key_entry, json_key_entry, implicit_entry, entry, pair, flow_seq, flow_map, implicit_yaml_key, implicit_json_key, empty_key, explicit}
-use Rattle.yaml_scalar.proofs.Runs.{same_char}
-use Rattle.yaml_scalar.specs.BlockRules.{Inside}
-use Rattle.yaml_scalar.proofs.LineRuns.{inside_next}
+use Rattle.yaml_text.proofs.Runs.{same_char}
+use Rattle.yaml_text.specs.Lines.{Inside}
+use Rattle.yaml_text.proofs.LineRuns.{inside_next}
 use Rattle.yaml_unique.proofs.BlockEntries.{past_no_ns}
-use Rattle.yaml_scalar.proofs.BlockChains.{SameRule}
+use Rattle.yaml_text.proofs.Repeats.{SameRule}
 use Rattle.yaml_unique.proofs.Unique.{unique_until, unique_gives, unique_seen, unique_given, unique_before, unique_joined, unique_either}
 use Rattle.yaml_unique.specs.Readings.{End, At, Unique, Apart, Ends, To}
 use Rattle.yaml_unique.proofs.Lines.{char_fresh, solid_no_space, sep_parts, way_then, way_of, way_sep, way_here, way_maybe, way_same}

@@ -11,10 +11,10 @@ use Rattle.yaml_text.specs.Event.{Event}
 use Rattle.yaml_text.specs.grammar.Events.{Props, no_props, scalar}
 use Rattle.yaml_text.specs.Event as style
 use Rattle.yaml_text.specs.grammar.Nodes.{Part, yaml_part, json_part, part, reads, yaml_node, json_node, flow_seq, flow_map, pair}
-use Rattle.yaml_scalar.specs.BlockRules.{Inside}
+use Rattle.yaml_text.specs.Lines.{Inside}
 use Rattle.yaml_scalar.specs.Chains.{Later, plain_inner, plain_head, plain_sign, single_chain, single_rest, gap, closing}
-use Rattle.yaml_scalar.proofs.Runs.{same_char}
-use Rattle.yaml_scalar.proofs.BlockChains.{SameRule}
+use Rattle.yaml_text.proofs.Runs.{same_char}
+use Rattle.yaml_text.proofs.Repeats.{SameRule}
 use Rattle.yaml_scalar.proofs.PlainLemmas.{no_first_head, no_first_sign, no_later_colon, no_later_inner}
 use Rattle.yaml_scalar.proofs.QuotedLemmas.{rest_same, rest_of, single_parts}
 use Rattle.yaml_scalar.proofs.QuotedReadings.{single_to_chain}

@@ -12,8 +12,8 @@ use Rattle.yaml_text.specs.Event as style
 use Rattle.yaml_text.specs.grammar.Events.{Props, no_props, alias, empty}
 use Rattle.yaml_text.specs.grammar.Nodes.{Part, yaml_node, json_node, scalar_of, flow_seq, flow_map}
 use Rattle.yaml_scalar.specs.Chains.{plain_head, plain_sign}
-use Rattle.yaml_scalar.specs.BlockRules.{Inside}
-use Rattle.yaml_scalar.proofs.Runs.{same_char}
+use Rattle.yaml_text.specs.Lines.{Inside}
+use Rattle.yaml_text.proofs.Runs.{same_char}
 use Rattle.yaml_scalar.proofs.PlainLemmas.{no_first_head, first_ns, no_plain_mark}
 use Rattle.yaml_scalar.proofs.PlainReadings.{plain_to_chain}
 use Rattle.yaml_unique.proofs.Unique.{unique_within, unique_gives, unique_seen, unique_before, unique_either, unique_from, unique_from_either, from}

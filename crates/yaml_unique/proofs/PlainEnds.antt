@@ -6,17 +6,18 @@ use Rattle.yaml_text.specs.grammar.Rules.{Any, done, then, Spans, run, Stands, w
 use Rattle.yaml_text.specs.grammar.Characters.{is_space, is_ns, is_nb, is_break, is_white}
 use Rattle.yaml_text.specs.grammar.Separation.{Ctx, flow_out, Mark, Unmarked, AtEnd, line_end, comment}
 use Rattle.yaml_text.specs.grammar.FlowScalars.{plain, PlainFirst}
-use Rattle.yaml_scalar.specs.BlockRules.{Inside, blank_rest}
-use Rattle.yaml_scalar.specs.Chains.{line_brk, margin, lead, breaks, folds, gap, taken, Later, plain_more, plain_chain}
+use Rattle.yaml_text.specs.Lines.{Inside, blank_rest, line_brk}
+use Rattle.yaml_scalar.specs.Chains.{margin, lead, breaks, folds, gap, taken, Later, plain_more, plain_chain}
 use Rattle.yaml_scalar.specs.Chains as chain
 use Rattle.yaml_scalar.proofs.AnyLemmas.{any_onward}
-use Rattle.yaml_scalar.proofs.BlockChains.{any_to_stop}
-use Rattle.yaml_scalar.proofs.Runs.{same_char, run_same}
-use Rattle.yaml_scalar.proofs.GapLemmas.{Ns, AfterNs, ns_stops, brk_stops, brk_no_ns, brk_same, brk_line, margin_white, blank_white, empty, gap_onward, run_join, mark_ns, unmarked_cuts}
+use Rattle.yaml_text.proofs.Repeats.{any_to_stop}
+use Rattle.yaml_text.proofs.Runs.{same_char, run_same}
+use Rattle.yaml_text.proofs.Breaks.{Ns, AfterNs, ns_stops, brk_no_ns, brk_line, run_join, mark_ns, brk_stops, brk_same}
+use Rattle.yaml_text.proofs.LineRuns.{inside_no_line, end_stops, line_end_stops, indent_run, indent_place}
+use Rattle.yaml_scalar.proofs.GapLemmas.{margin_white, blank_white, empty, gap_onward, unmarked_cuts}
 use Rattle.yaml_scalar.proofs.PlainLemmas.{hash_ns, later_no_hash, one_same, later_ns, first_ns, no_later_colon, more_same, more_onward}
 use Rattle.yaml_scalar.proofs.PlainReadings.{plain_to_chain}
-use Rattle.yaml_scalar.proofs.LineRuns.{inside_no_line, end_stops, line_end_stops, indent_run, indent_place}
-use Rattle.yaml_scalar.proofs.RestLemmas.{is_the_space, comment_stops, from_s_b, from_l}
+use Rattle.yaml_text.proofs.RestLemmas.{is_the_space, comment_stops, from_s_b, from_l}
 use Rattle.yaml_unique.specs.Readings.{At, Unique}
 use Rattle.yaml_unique.proofs.Lines.{solid_nb, solid_no_space}
 use Rattle.yaml_unique.specs.Follows.{Solid, Past, Comments, Less, Way, F}

@@ -8,8 +8,8 @@ use Rattle.yaml_text.specs.grammar.Characters.{is_ns, is_nb, is_break, is_white,
 use Rattle.yaml_text.specs.grammar.Tags.{Handles, tag, anchor, alias, name, is_name, uri_char, tag_char, tag_handle, verbatim_tag, shorthand_tag, non_specific_tag, joined, decoded, NameEnds}
 use Rattle.yaml_text.specs.Event.{WrittenTag, non_specific}
 use Rattle.yaml_text.specs.grammar.Events.{Props}
-use Rattle.yaml_scalar.specs.BlockRules.{Inside}
-use Rattle.yaml_scalar.proofs.Runs.{same_char, no_stand, run_same}
+use Rattle.yaml_text.specs.Lines.{Inside}
+use Rattle.yaml_text.proofs.Runs.{same_char, no_stand, run_same}
 use Rattle.yaml_unique.proofs.Lines.{solid_nb}
 use Rattle.yaml_unique.proofs.Properties.{prop, PropHere, tag_props, anchor_props}
 
