@@ -1,3 +1,4 @@
 mod Streams
 mod PieceLaws
 mod PageLaws
+mod PartLaws

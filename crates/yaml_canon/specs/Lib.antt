@@ -4,3 +4,7 @@ pub mod Writers
 pub mod Pages
 pub mod Known
 pub mod NamesView
+pub mod Kinds
+pub mod ShortNodes
+pub mod Walked
+pub mod RankView

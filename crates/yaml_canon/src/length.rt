@@ -6,6 +6,7 @@ use yaml_scalar::spell::spelled_len;
 use yaml_text::fault::Fault;
 
 /// How many bytes a text has, of which no more than a limit are taken.
+#[derive(Drop)]
 pub(crate) struct Length {
     len: usize,
     limit: usize,

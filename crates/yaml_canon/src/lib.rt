@@ -4,5 +4,8 @@
 mod length;
 mod names;
 mod page;
+mod node;
+mod parts;
 mod sink;
 mod text;
+mod walk;

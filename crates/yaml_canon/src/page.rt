@@ -13,6 +13,7 @@ const PAGE: usize = 4096;
 
 /// The last part of a text, which is still to be written: at most a page. It takes no memory but its
 /// own.
+#[derive(Drop)]
 pub(crate) struct Page {
     bytes: [u8; PAGE],
     len: usize,

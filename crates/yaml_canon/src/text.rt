@@ -4,6 +4,7 @@ use yaml_scalar::spell::spell_into;
 use yaml_text::fault::Fault;
 
 /// Puts a text at the end of a string.
+#[derive(Drop)]
 pub(crate) struct Whole;
 
 impl Sink<String> for Whole {

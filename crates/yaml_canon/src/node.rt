@@ -1,0 +1,49 @@
+//! Which nodes are always written out.
+ghost use Rattle.std.specs.Prelude.{◌≡◌, ◌+◌, ◌++◌, [], nat_le, length};
+ghost use Rattle.std.specs.Cow.{cow_str_bytes};
+ghost use Rattle.std.specs.Str.{encode_utf8_all};
+ghost use Rattle.std.specs.Option.{None};
+ghost use Rattle.yaml_text.specs.Event.{double};
+ghost use Rattle.yaml_text.specs.Limits.{short_limit};
+ghost use Rattle.yaml_text.specs.Marked.{scalar_at};
+ghost use Rattle.yaml_text.specs.Spell.{text_len};
+ghost use Rattle.yaml_text.specs.TagText.{tag_text, written_tag};
+ghost use Rattle.yaml_canon.specs.Kinds.{number_of_kind};
+ghost use Rattle.yaml_canon.specs.ShortNodes.{short_kind, short_scalar};
+
+use crate::length::Length;
+use crate::parts::{Kind, put_scalar, put_tag};
+use crate::sink::Sink;
+use yaml_graph::node::{Node, NodeKind};
+use yaml_text::limits::short_limit;
+
+/// Whether a scalar of this tag and content is short.
+fn is_short_scalar(tag: &str, content: &str) -> bool
+    ensures { result ≡ short_scalar tag.now content.now }
+{
+    let mut length = Length::new(short_limit());
+    put_scalar(&mut length, &mut (), tag, content).is_ok()
+}
+
+/// Whether a tag before two brackets is short.
+fn is_short_tag(tag: &str, kind: Kind) -> bool
+    ensures { result ≡ nat_le (length (encode_utf8_all (tag_text (written_tag (number_of_kind kind) tag.now))) + 2) short_limit }
+{
+    let mut length = Length::new(short_limit());
+    if put_tag(&mut length, &mut (), tag, kind).is_err() {
+        return false;
+    }
+    length.put(&mut (), "[]").is_ok()
+}
+
+/// Whether a node is a scalar or an empty collection of few bytes.
+pub(crate) fn is_short(node: &Node<'_>) -> bool
+    ensures { result ≡ short_kind (cow_str_bytes node.now.tag) node.now.kind }
+{
+    let tag = node.tag.as_str();
+    match &node.kind {
+        NodeKind::Scalar(content) => is_short_scalar(tag, content.as_str()),
+        NodeKind::Sequence(items) => items.is_empty() && is_short_tag(tag, Kind::Sequence),
+        NodeKind::Mapping(entries) => entries.is_empty() && is_short_tag(tag, Kind::Mapping),
+    }
+}
