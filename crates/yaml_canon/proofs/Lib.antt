@@ -2,3 +2,6 @@ mod Streams
 mod PieceLaws
 mod PageLaws
 mod PartLaws
+mod RankLaws
+mod WalkLaws
+mod ShortLaws

@@ -1,15 +1,8 @@
 //! Which nodes are always written out.
-ghost use Rattle.std.specs.Prelude.{◌≡◌, ◌+◌, ◌++◌, [], nat_le, length};
+ghost use Rattle.std.specs.Prelude.{◌≡◌};
 ghost use Rattle.std.specs.Cow.{cow_str_bytes};
-ghost use Rattle.std.specs.Str.{encode_utf8_all};
-ghost use Rattle.std.specs.Option.{None};
-ghost use Rattle.yaml_text.specs.Event.{double};
-ghost use Rattle.yaml_text.specs.Limits.{short_limit};
-ghost use Rattle.yaml_text.specs.Marked.{scalar_at};
-ghost use Rattle.yaml_text.specs.Spell.{text_len};
-ghost use Rattle.yaml_text.specs.TagText.{tag_text, written_tag};
 ghost use Rattle.yaml_canon.specs.Kinds.{number_of_kind};
-ghost use Rattle.yaml_canon.specs.ShortNodes.{short_kind, short_scalar};
+ghost use Rattle.yaml_canon.specs.ShortNodes.{short_kind, short_scalar, short_tag};
 
 use crate::length::Length;
 use crate::parts::{Kind, put_scalar, put_tag};
@@ -27,7 +20,7 @@ fn is_short_scalar(tag: &str, content: &str) -> bool
 
 /// Whether a tag before two brackets is short.
 fn is_short_tag(tag: &str, kind: Kind) -> bool
-    ensures { result ≡ nat_le (length (encode_utf8_all (tag_text (written_tag (number_of_kind kind) tag.now))) + 2) short_limit }
+    ensures { result ≡ short_tag (number_of_kind kind) tag.now }
 {
     let mut length = Length::new(short_limit());
     if put_tag(&mut length, &mut (), tag, kind).is_err() {

@@ -16,3 +16,23 @@ decreases-notice_items l = 2 * l.owner.0
 
 abbrev pub decreases-notice_entries : goal.decreases-notice_entries
 decreases-notice_entries l = 2 * l.owner.0
+
+abbrev pub invariant-notice_items-loop-item : goal.invariant-notice_items-loop-item
+invariant-notice_items-loop-item l =
+    record {
+      table : noticed_all (rank_in l.graph l.ranks) (trees (map (λ i. arranged (tree l.graph i.0)) (drop l.item-index l.items))) (table_of l.names)
+          ≡ noticed_all (rank_in l.graph l.ranks) (trees (map (λ i. arranged (tree l.graph i.0)) l.items)) (table_of l.initial.names);
+      long : ranks_in l.names ≡ ranks_in l.initial.names;
+      document : document_of l.names ≡ document_of l.initial.names;
+      count : count_of l.names ≡ count_of l.initial.names;
+    }
+
+abbrev pub invariant-notice_entries-loop-entry : goal.invariant-notice_entries-loop-entry
+invariant-notice_entries-loop-entry l =
+    record {
+      table : noticed_pairs (rank_in l.graph l.ranks) (pairs (map (key_pair l.graph) (drop l.entry-index l.entries))) (table_of l.names)
+          ≡ noticed_pairs (rank_in l.graph l.ranks) (pairs (map (key_pair l.graph) l.entries)) (table_of l.initial.names);
+      long : ranks_in l.names ≡ ranks_in l.initial.names;
+      document : document_of l.names ≡ document_of l.initial.names;
+      count : count_of l.names ≡ count_of l.initial.names;
+    }
