@@ -5,3 +5,4 @@ mod PartLaws
 mod RankLaws
 mod WalkLaws
 mod ShortLaws
+mod WriteLaws

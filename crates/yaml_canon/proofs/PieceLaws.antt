@@ -82,3 +82,24 @@ module _ {S O : Type 0} (holds : S → O → Began → List ℕ → Type 0) wher
 
     pub fails_as : (s : S) (o p : O) (fault : Fault) (f g : List ℕ → List ℕ) → Fails holds stops s o p fault f → ((more : List ℕ) → f more ≡ g more) → Fails holds stops s o p fault g
     fails_as s o p fault f g h e = record { is = λ b xs more i. subst (λ w. stops p b fault (xs ++ encode_utf8_all w)) (e more) (h.is b xs more i) }
+
+-- The pieces so far are a front of a whole text, of which `rest` is left.
+pub record Left {S O : Type 0} (holds : S → O → Began → List ℕ → Type 0) (s : S) (o : O) (t : S) (p : O) (rest whole : List ℕ → List ℕ) : Type 0 where
+  pub front : List ℕ → List ℕ
+  pub puts : Puts holds s o t p front
+  pub is : (more : List ℕ) → front (rest more) ≡ whole more
+
+module _ {S O : Type 0} (holds : S → O → Began → List ℕ → Type 0) where
+  pub left_first : (s : S) (o : O) (t : S) (p : O) (f rest whole : List ℕ → List ℕ) → Puts holds s o t p f → ((more : List ℕ) → f (rest more) ≡ whole more) → Left holds s o t p rest whole
+  left_first s o t p f rest whole h e = record { front = f; puts = h; is = e }
+
+  pub left_next : (s : S) (o : O) (t : S) (p : O) (u : S) (q : O) (rest whole f g : List ℕ → List ℕ) → Left holds s o t p rest whole → Puts holds t p u q f → ((more : List ℕ) → f (g more) ≡ rest more) → Left holds s o u q g whole
+  left_next s o t p u q rest whole f g l h e = record { front = λ more. l.front (f more); puts = puts_then holds s o t p u q l.front f l.puts h; is = λ more. ap l.front (e more) ∙ l.is more }
+
+  pub left_last : (s : S) (o : O) (t : S) (p : O) (u : S) (q : O) (rest whole f : List ℕ → List ℕ) → Left holds s o t p rest whole → Puts holds t p u q f → ((more : List ℕ) → f more ≡ rest more) → Puts holds s o u q whole
+  left_last s o t p u q rest whole f l h e = puts_as holds s o u q (λ more. l.front (f more)) whole (puts_then holds s o t p u q l.front f l.puts h) (λ more. ap l.front (e more) ∙ l.is more)
+
+  pub left_fails : (stops : O → Began → Fault → List ℕ → Type 0) (s : S) (o : O) (t : S) (p q : O) (fault : Fault) (rest whole f g : List ℕ → List ℕ) → Left holds s o t p rest whole → Fails holds stops t p q fault f → ((more : List ℕ) → f (g more) ≡ rest more)
+      → Fails holds stops s o q fault whole
+  left_fails stops s o t p q fault rest whole f g l h e =
+      fails_as holds stops s o q fault (λ more. l.front (f (g more))) whole (fails_later holds stops s o t p q fault l.front (λ more. f (g more)) l.puts (fails_more holds stops t p q fault f g h)) (λ more. ap l.front (e more) ∙ l.is more)

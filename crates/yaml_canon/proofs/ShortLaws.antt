@@ -1,6 +1,6 @@
 -- The length of a text that is given to a length with a limit.
 use Rattle.std.proofs.Common.{◌≡◌, ℕ, ◌+◌, ◌<◌, ◌≤◌, Bool, true, false, List, [], ◌∷◌, ◌++◌, length, refl, sym, ◌∙◌, ap, subst, arith}
-use Rattle.std.specs.Prelude.{Result, Ok, Err, OnOk, IfErr, None, nat_le, is_ok}
+use Rattle.std.specs.Prelude.{Result, Ok, Err, OnOk, IfErr, None, nat_le, is_ok, is_err}
 use Rattle.std.proofs.lemmas.List.{append-nil, length-append}
 use Rattle.std.proofs.lemmas.Bool.Decides.{nat_tests}
 use Rattle.std.specs.Str.{encode_utf8_all}
@@ -42,3 +42,12 @@ pub fits_text : (r : Result (Unit {0}) Fault) (b : Bool) (s t : Length) (o p : U
     → b ≡ nat_le (length (encode_utf8_all (f []))) limit
 fits_text (Ok u) b s t o p limit f e z l h k = let m = measured s t o p limit f z l h in let x = m.0 in let y = m.1 in e ∙ sym (within _ limit (subst (λ n. n ≤ limit) x (subst (λ n. len_of t ≤ n) y t.within)))
 fits_text (Err fault) b s t o p limit f e z l h k = e ∙ sym (beyond _ limit (too_long s o p limit fault f z l k []))
+
+-- a front that is not taken
+pub long_front : (r : Result (Unit {0}) Fault) (s : Length) (o p : Unit {0}) (limit : ℕ) (f : List ℕ → List ℕ) (more : List ℕ) → is_err r ≡ true → len_of s ≡ 0 → limit_of s ≡ limit → IfErr r (λ fault. Fails Holds Stops s o p fault f) → false ≡ nat_le (length (encode_utf8_all (f more))) limit
+long_front (Ok u) s o p limit f more e z l k = absurd (cc)
+long_front (Err fault) s o p limit f more e z l k = sym (beyond _ limit (too_long s o p limit fault f z l k more))
+
+pub was_ok : {T E P : Type 0} (r : Result T E) → is_err r ≡ false → OnOk r P → P
+was_ok (Ok x) e h = h
+was_ok (Err x) e h = absurd (cc)

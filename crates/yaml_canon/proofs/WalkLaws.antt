@@ -39,12 +39,16 @@ use Rattle.yaml_canon.specs.declared.names.State.TheVariants.{Unseen, Seen, Repe
 
 -- ---- short nodes
 
-brackets : (kind : ℕ) (tag more : List ℕ) → length (encode_utf8_all more) ≡ 2 → length (encode_utf8_all (tag_text (written_tag kind tag) ++ more)) ≡ length (encode_utf8_all (tag_text (written_tag kind tag))) + 2
+pub brackets : (kind : ℕ) (tag more : List ℕ) → length (encode_utf8_all more) ≡ 2 → length (encode_utf8_all (tag_text (written_tag kind tag) ++ more)) ≡ length (encode_utf8_all (tag_text (written_tag kind tag))) + 2
 brackets kind tag more e = ap length (encodes-append (tag_text (written_tag kind tag)) more) ∙ length-append (encode_utf8_all (tag_text (written_tag kind tag))) (encode_utf8_all more) ∙ ap (λ n. length (encode_utf8_all (tag_text (written_tag kind tag))) + n) e
 
-two_square : length (encode_utf8_all (91 ∷ 93 ∷ [])) ≡ 2
+pub two_square : length (encode_utf8_all (91 ∷ 93 ∷ [])) ≡ 2
 unfolding encode_utf8
 two_square = refl
+
+pub square_bytes : encode_utf8_all (91 ∷ 93 ∷ []) ≡ 91 ∷ 93 ∷ []
+unfolding encode_utf8
+square_bytes = refl
 
 two_curly : length (encode_utf8_all (123 ∷ 125 ∷ [])) ≡ 2
 unfolding encode_utf8

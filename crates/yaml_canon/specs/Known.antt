@@ -20,3 +20,8 @@ has_name _ = false
 -- it has a name in this document
 abbrev pub is_named : ℕ → ℕ × State → Bool
 is_named document s = (s.0 == document) && has_name s.1
+
+-- the number of its name, or 1
+abbrev pub state_number : State → ℕ
+state_number (Named number) = number
+state_number _ = 1

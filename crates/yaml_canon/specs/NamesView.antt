@@ -51,3 +51,12 @@ opened_by rank _ given = given
 -- after a node of this rank has begun
 abbrev pub opened : ℕ → Given → Given
 opened rank given = opened_by rank (given.0 rank) given
+
+abbrev pub given_of : Names → Given
+given_of n = (table_of n, count_of n)
+
+-- the number of its name, or 1
+abbrev pub opening_number : Opening → ℕ
+opening_number (Alias number) = number
+opening_number (Anchored number) = number
+opening_number Plain = 1

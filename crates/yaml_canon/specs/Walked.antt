@@ -1,12 +1,14 @@
 -- How a walk in writing order changes what is known of each rank, and the marks that it writes.
-use Rattle.std.specs.Prelude.{ℕ, Bool, true, false, cond, List}
+use Rattle.std.specs.Prelude.{ℕ, zero, suc, Bool, true, false, cond, ◌++◌, List, [], ◌∷◌}
+use Rattle.std.specs.Str.{chars}
+use Rattle.yaml_text.specs.NodeText.{quoted, items_text, pairs_text}
 use Rattle.std.specs.declared.option.Option.TheVariants.{None, Some}
 use Rattle.yaml_text.specs.Tree.{Tree, Trees, Pairs, scalar, sequence, mapping, end, item, done, entry}
 use Rattle.yaml_text.specs.Spell.{short}
 use Rattle.yaml_text.specs.Event.{Anchor, double}
 use Rattle.yaml_text.specs.Mark.{name_of}
 use Rattle.yaml_text.specs.Marked.{Marked, AllMarked, MarkedPairs, alias, scalar_at, sequence_at, mapping_at, end_marks, item_mark, done_marks, entry_marks}
-use Rattle.yaml_text.specs.TagText.{written_tag}
+use Rattle.yaml_text.specs.TagText.{tag_text, written_tag}
 use Rattle.yaml_canon.specs.declared.names.State.{State}
 use Rattle.yaml_canon.specs.declared.names.State.TheVariants.{Unseen}
 use Rattle.yaml_canon.specs.declared.names.Opening.{Opening}
@@ -39,6 +41,11 @@ anchor_in _ = None
 abbrev pub begun : Opening → Marked → Marked
 begun (Alias number) m = alias (name_of number)
 begun _ m = m
+
+-- what stands before the entry at this place
+abbrev pub separator : ℕ → List ℕ
+separator zero = []
+separator (suc i) = 44 ∷ 32 ∷ []
 
 -- `rank` gives the rank of each tree.
 module _ (rank : Tree → ℕ) where
@@ -94,3 +101,14 @@ module _ (rank : Tree → ℕ) where
     pub written_pairs : Pairs → Given → MarkedPairs
     written_pairs done p = done_marks
     written_pairs (entry k v ps) p = entry_marks (written k p) (written v (given k p)) (written_pairs ps (given v (given k p)))
+
+  -- the text of a node behind its anchor, and what is known after it
+  abbrev pub inner : Tree → Given → List ℕ → List ℕ
+  inner (scalar g x) p more = tag_text (written_tag 0 g) ++ (34 ∷ quoted (chars x) more)
+  inner (sequence g ts) p more = tag_text (written_tag 1 g) ++ (91 ∷ items_text [] (written_all ts p) more)
+  inner (mapping g ps) p more = tag_text (written_tag 2 g) ++ (123 ∷ pairs_text [] (written_pairs ps p) more)
+
+  abbrev pub given_inside : Tree → Given → Given
+  given_inside (scalar g x) p = p
+  given_inside (sequence g ts) p = given_all ts p
+  given_inside (mapping g ps) p = given_pairs ps p

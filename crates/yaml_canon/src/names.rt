@@ -1,8 +1,8 @@
 //! What is known of the nodes of each rank in the document that is being written.
-ghost use Rattle.std.specs.Prelude.{◌≡◌, ◌≤◌};
+ghost use Rattle.std.specs.Prelude.{◌≡◌, ◌<◌, ◌≤◌};
 ghost use Rattle.std.specs.List.{count_by, All};
 ghost use Rattle.std.proofs.Props.{props};
-ghost use Rattle.yaml_canon.specs.Known.{is_named, met_state};
+ghost use Rattle.yaml_canon.specs.Known.{is_named, met_state, state_number};
 
 use std::alloc::Global;
 use yaml_text::fault::Fault;
@@ -39,6 +39,7 @@ pub(crate) struct Names {
     document: usize,
     count: usize,
     ghost stamped: { All (λ s. s.0 ≤ document) states.items } by { Prim.hlevel props },
+    ghost numbered: { All (λ s. 0 < state_number s.1) states.items } by { Prim.hlevel props },
     ghost few: { count ≤ count_by (is_named document) states.items },
 }
 
@@ -57,7 +58,7 @@ impl Names {
     ghost use Rattle.std.specs.Prelude.{◌≡◌, ◌<◌, ◌+◌, ◌^◌, IfOk, IfErr};
     ghost use Rattle.yaml_canon.specs.declared.names.State.TheVariants.{Unseen};
     ghost use Rattle.yaml_canon.specs.Known.{is_unseen};
-    ghost use Rattle.yaml_canon.specs.NamesView.{ranks_in, document_of, count_of, table_of, met_at, opening, opened};
+    ghost use Rattle.yaml_canon.specs.NamesView.{ranks_in, document_of, count_of, table_of, met_at, opening, opened, given_of, opening_number};
 
     /// Nothing is known of so many ranks; no document was begun.
     pub(crate) fn new(alloc: Global, len: usize) -> Result<Names, Fault>
@@ -120,7 +121,8 @@ impl Names {
     pub(crate) fn open(&mut self, rank: usize) -> Opening
         requires { rank < ranks_in self.old }
         ensures opening { result ≡ opening (count_of self.old) (table_of self.old rank) }
-        ensures table { (table_of self.new, count_of self.new) ≡ opened rank (table_of self.old, count_of self.old) }
+        ensures positive { 0 < opening_number result }
+        ensures given { given_of self.new ≡ opened rank (given_of self.old) }
         ensures long { ranks_in self.new ≡ ranks_in self.old }
         ensures document { document_of self.new ≡ document_of self.old }
     {
