@@ -6,3 +6,6 @@ mod RankLaws
 mod WalkLaws
 mod ShortLaws
 mod WriteLaws
+mod Anchors
+mod Markings
+mod Linking

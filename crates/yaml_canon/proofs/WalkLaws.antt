@@ -185,6 +185,9 @@ module _ (g : Graph) (r : Ranks) (are : RanksAre g r) where
       let s = sorted-there i l in
       shape-there i n s.0 l h s.1 ∙ ap (arranged_kind g (cow_str_bytes n.tag) s.0.items) e ∙ ap (λ z. mapping (cow_str_bytes n.tag) (pairs (map (key_pair g) z))) (sym (f s.0 s.1))
 
+  pub mapping-some : (i : ℕ) (n : Node) (entries : _) → i < length (nodes_of g) → slice_get (nodes_of g) i ≡ Some n → n.kind ≡ kinds.Mapping entries → (xs : Entries) × (T i ≡ mapping (cow_str_bytes n.tag) (pairs (map (key_pair g) xs)))
+  mapping-some i n entries l h e = let s = sorted-there i l in (s.0.items, shape-there i n s.0 l h s.1 ∙ ap (arranged_kind g (cow_str_bytes n.tag) s.0.items) e)
+
   -- the entries in order stand below their mapping as the entries do
   pub sorted-below : (i : ℕ) (n : Node) (xs : Entries) → i < length (nodes_of g) → slice_get (nodes_of g) i ≡ Some n → ((e : Vec (NodeId × NodeId) Global) → slice_get (sorted_of r) i ≡ Some e → xs ≡ e.items) → All (λ p. (p.0.0 < i) × (p.1.0 < i)) xs
   sorted-below i n xs l h f =

@@ -17,7 +17,7 @@ use Rattle.yaml_canon.specs.NamesView.{Given}
 use Rattle.yaml_canon.specs.declared.names.Opening.{Opening}
 use Rattle.yaml_canon.specs.declared.names.Opening.TheVariants.{Plain, Anchored, Alias}
 use Rattle.yaml_canon.specs.Walked.{after, anchor_in, begun, separator, start, started, given, given_all, given_pairs, written, written_all, written_pairs, inner, given_inside}
-use Rattle.yaml_canon.proofs.PieceLaws.{Left, puts_as, puts_piece, puts_then, fails_as, fails_piece, fails_later, left_first, left_next, left_last, left_fails}
+use Rattle.yaml_canon.proofs.PieceLaws.{Left, puts_as, puts_piece, puts_then, fails_as, fails_piece, fails_later, left_first, left_next, left_last, left_fails, fails_more}
 use Rattle.yaml_canon.proofs.WalkLaws.{drop_next}
 
 pub all_ok : {T E P : Type 0} (r : Result T E) → P → OnOk r P
@@ -214,3 +214,68 @@ module _ {S O : Type 0} (holds : S → O → Began → List ℕ → Type 0) (sto
         → Puts holds t u v w (λ more. separator i ++ more) → Puts holds v w x y (text (written rank (f (get_or xs i d)).0 p)) → Adds holds x y a b (32 ∷ 58 ∷ 32 ∷ []) → Puts holds a b c z (text (written rank (f (get_or xs i d)).1 q)) → Left holds s o c z (rest_pairs rank f xs (i + 1) r) whole
     pairs_step d q r s o t u v w x y a b c z l e g h k m n j =
         left_next holds s o a b c z (value d q r) whole (text (written rank (f (get_or xs i d)).1 q)) (rest_pairs rank f xs (i + 1) r) (at_value d q r s o t u v w x y a b l e g h k m n) j (λ more. refl)
+
+  -- ---- a node's tag and content
+
+  module _ (p : Given) where
+    abbrev tagged : ℕ → List ℕ → List ℕ → List ℕ
+    tagged k g more = tag_text (written_tag k g) ++ more
+
+    pub scalar_put : (t : Tree) (g x a y : List ℕ) (s : S) (o : O) (u : S) (w : O) → t ≡ scalar g x → a ≡ g → y ≡ x → Puts holds s o u w (λ more. tag_text (written_tag 0 a) ++ (34 ∷ quoted (chars y) more)) → Puts holds s o u w (inner rank t p)
+    scalar_put t g x a y s o u w e f h k =
+        subst (λ z. Puts holds s o u w (inner rank z p)) (sym e) (subst (λ z. Puts holds s o u w (λ more. tag_text (written_tag 0 z) ++ (34 ∷ quoted (chars x) more))) f (subst (λ z. Puts holds s o u w (λ more. tag_text (written_tag 0 a) ++ (34 ∷ quoted (chars z) more))) h k))
+
+    pub scalar_fails : (t : Tree) (g x a y : List ℕ) (s : S) (o w : O) (fault : Fault) → t ≡ scalar g x → a ≡ g → y ≡ x → Fails holds stops s o w fault (λ more. tag_text (written_tag 0 a) ++ (34 ∷ quoted (chars y) more)) → Fails holds stops s o w fault (inner rank t p)
+    scalar_fails t g x a y s o w fault e f h k =
+        subst (λ z. Fails holds stops s o w fault (inner rank z p)) (sym e) (subst (λ z. Fails holds stops s o w fault (λ more. tag_text (written_tag 0 z) ++ (34 ∷ quoted (chars x) more))) f (subst (λ z. Fails holds stops s o w fault (λ more. tag_text (written_tag 0 a) ++ (34 ∷ quoted (chars z) more))) h k))
+
+    pub sequence_put : (t : Tree) (g a : List ℕ) (ts : Trees) (s : S) (o : O) (u : S) (w : O) (v : S) (y : O) → t ≡ sequence g ts → a ≡ g → Puts holds s o u w (tagged 1 a) → Puts holds u w v y (λ more. 91 ∷ items_text [] (written_all rank ts p) more) → Puts holds s o v y (inner rank t p)
+    sequence_put t g a ts s o u w v y e f h k =
+        subst (λ z. Puts holds s o v y (inner rank z p)) (sym e) (puts_then holds s o u w v y (tagged 1 g) (λ more. 91 ∷ items_text [] (written_all rank ts p) more) (subst (λ z. Puts holds s o u w (tagged 1 z)) f h) k)
+
+    pub sequence_fails : (t : Tree) (g a : List ℕ) (ts : Trees) (s : S) (o : O) (u : S) (w y : O) (fault : Fault) → t ≡ sequence g ts → a ≡ g → Puts holds s o u w (tagged 1 a) → Fails holds stops u w y fault (λ more. 91 ∷ items_text [] (written_all rank ts p) more) → Fails holds stops s o y fault (inner rank t p)
+    sequence_fails t g a ts s o u w y fault e f h k =
+        subst (λ z. Fails holds stops s o y fault (inner rank z p)) (sym e) (fails_later holds stops s o u w y fault (tagged 1 g) (λ more. 91 ∷ items_text [] (written_all rank ts p) more) (subst (λ z. Puts holds s o u w (tagged 1 z)) f h) k)
+
+    pub sequence_tag_fails : (t : Tree) (g a : List ℕ) (ts : Trees) (s : S) (o y : O) (fault : Fault) → t ≡ sequence g ts → a ≡ g → Fails holds stops s o y fault (tagged 1 a) → Fails holds stops s o y fault (inner rank t p)
+    sequence_tag_fails t g a ts s o y fault e f h =
+        subst (λ z. Fails holds stops s o y fault (inner rank z p)) (sym e) (fails_more holds stops s o y fault (tagged 1 g) (λ more. 91 ∷ items_text [] (written_all rank ts p) more) (subst (λ z. Fails holds stops s o y fault (tagged 1 z)) f h))
+
+    pub mapping_put : (t : Tree) (g a : List ℕ) (ps : Pairs) (s : S) (o : O) (u : S) (w : O) (v : S) (y : O) → t ≡ mapping g ps → a ≡ g → Puts holds s o u w (tagged 2 a) → Puts holds u w v y (λ more. 123 ∷ pairs_text [] (written_pairs rank ps p) more) → Puts holds s o v y (inner rank t p)
+    mapping_put t g a ps s o u w v y e f h k =
+        subst (λ z. Puts holds s o v y (inner rank z p)) (sym e) (puts_then holds s o u w v y (tagged 2 g) (λ more. 123 ∷ pairs_text [] (written_pairs rank ps p) more) (subst (λ z. Puts holds s o u w (tagged 2 z)) f h) k)
+
+    pub mapping_fails : (t : Tree) (g a : List ℕ) (ps : Pairs) (s : S) (o : O) (u : S) (w y : O) (fault : Fault) → t ≡ mapping g ps → a ≡ g → Puts holds s o u w (tagged 2 a) → Fails holds stops u w y fault (λ more. 123 ∷ pairs_text [] (written_pairs rank ps p) more) → Fails holds stops s o y fault (inner rank t p)
+    mapping_fails t g a ps s o u w y fault e f h k =
+        subst (λ z. Fails holds stops s o y fault (inner rank z p)) (sym e) (fails_later holds stops s o u w y fault (tagged 2 g) (λ more. 123 ∷ pairs_text [] (written_pairs rank ps p) more) (subst (λ z. Puts holds s o u w (tagged 2 z)) f h) k)
+
+    pub mapping_tag_fails : (t : Tree) (g a : List ℕ) (ps : Pairs) (s : S) (o y : O) (fault : Fault) → t ≡ mapping g ps → a ≡ g → Fails holds stops s o y fault (tagged 2 a) → Fails holds stops s o y fault (inner rank t p)
+    mapping_tag_fails t g a ps s o y fault e f h =
+        subst (λ z. Fails holds stops s o y fault (inner rank z p)) (sym e) (fails_more holds stops s o y fault (tagged 2 g) (λ more. 123 ∷ pairs_text [] (written_pairs rank ps p) more) (subst (λ z. Fails holds stops s o y fault (tagged 2 z)) f h))
+
+  -- ---- a node
+
+  module _ (t : Tree) (p : Given) (o : Opening) (at : o ≡ start rank t p) where
+    pub alias_written : (k : ℕ) (s : S) (a : O) (u : S) (b : O) → o ≡ Alias k → Puts holds s a u b (text (alias (name_of k))) → Puts holds s a u b (text (written rank t p))
+    alias_written k s a u b e h = puts_as holds s a u b (text (alias (name_of k))) (text (written rank t p)) h (text_alias rank t p o k at e)
+
+    pub alias_unwritten : (k : ℕ) (s : S) (a b : O) (fault : Fault) → o ≡ Alias k → Fails holds stops s a b fault (text (alias (name_of k))) → Fails holds stops s a b fault (text (written rank t p))
+    alias_unwritten k s a b fault e h = fails_as holds stops s a b fault (text (alias (name_of k))) (text (written rank t p)) h (text_alias rank t p o k at e)
+
+    pub anchored_written : (k : ℕ) (q : Given) (s : S) (a : O) (u : S) (b : O) (v : S) (c : O) → o ≡ Anchored k → q ≡ started rank t p → Puts holds s a u b (anchor_text (Some (name_of k))) → Puts holds u b v c (inner rank t q) → Puts holds s a v c (text (written rank t p))
+    anchored_written k q s a u b v c e f h i =
+        puts_as holds s a v c (λ more. anchor_text (Some (name_of k)) (inner rank t (started rank t p) more)) (text (written rank t p)) (puts_then holds s a u b v c (anchor_text (Some (name_of k))) (inner rank t (started rank t p)) h (subst (λ z. Puts holds u b v c (inner rank t z)) f i)) (text_anchored rank t p o k at e)
+
+    pub anchor_unwritten : (k : ℕ) (s : S) (a b : O) (fault : Fault) → o ≡ Anchored k → Fails holds stops s a b fault (anchor_text (Some (name_of k))) → Fails holds stops s a b fault (text (written rank t p))
+    anchor_unwritten k s a b fault e h =
+        fails_as holds stops s a b fault (λ more. anchor_text (Some (name_of k)) (inner rank t (started rank t p) more)) (text (written rank t p)) (fails_more holds stops s a b fault (anchor_text (Some (name_of k))) (inner rank t (started rank t p)) h) (text_anchored rank t p o k at e)
+
+    pub anchored_unwritten : (k : ℕ) (q : Given) (s : S) (a : O) (u : S) (b c : O) (fault : Fault) → o ≡ Anchored k → q ≡ started rank t p → Puts holds s a u b (anchor_text (Some (name_of k))) → Fails holds stops u b c fault (inner rank t q) → Fails holds stops s a c fault (text (written rank t p))
+    anchored_unwritten k q s a u b c fault e f h i =
+        fails_as holds stops s a c fault (λ more. anchor_text (Some (name_of k)) (inner rank t (started rank t p) more)) (text (written rank t p)) (fails_later holds stops s a u b c fault (anchor_text (Some (name_of k))) (inner rank t (started rank t p)) h (subst (λ z. Fails holds stops u b c fault (inner rank t z)) f i)) (text_anchored rank t p o k at e)
+
+    pub plain_written : (q : Given) (s : S) (a : O) (v : S) (c : O) → o ≡ Plain → q ≡ started rank t p → Puts holds s a v c (inner rank t q) → Puts holds s a v c (text (written rank t p))
+    plain_written q s a v c e f i = puts_as holds s a v c (inner rank t (started rank t p)) (text (written rank t p)) (subst (λ z. Puts holds s a v c (inner rank t z)) f i) (text_plain rank t p o at e)
+
+    pub plain_unwritten : (q : Given) (s : S) (a c : O) (fault : Fault) → o ≡ Plain → q ≡ started rank t p → Fails holds stops s a c fault (inner rank t q) → Fails holds stops s a c fault (text (written rank t p))
+    plain_unwritten q s a c fault e f i = fails_as holds stops s a c fault (inner rank t (started rank t p)) (text (written rank t p)) (subst (λ z. Fails holds stops s a c fault (inner rank t z)) f i) (text_plain rank t p o at e)

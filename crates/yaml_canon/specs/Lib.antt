@@ -8,3 +8,5 @@ pub mod Kinds
 pub mod ShortNodes
 pub mod Walked
 pub mod RankView
+pub mod Anchored
+pub mod Repeats
