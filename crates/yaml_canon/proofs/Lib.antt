@@ -9,3 +9,4 @@ mod WriteLaws
 mod Anchors
 mod Markings
 mod Linking
+mod NamesLaws

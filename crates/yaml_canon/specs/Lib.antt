@@ -10,3 +10,4 @@ pub mod Walked
 pub mod RankView
 pub mod Anchored
 pub mod Repeats
+pub mod Documents

@@ -22,12 +22,10 @@ entered _ outside inside = outside
 
 -- a short node begins plainly and is not noted
 abbrev pub opening_of : Bool → ℕ → Given → Opening
-opening_of true rank given = Plain
-opening_of false rank given = opening given.1 (given.0 rank)
+opening_of is_short rank given = cond is_short Plain (opening given.1 (given.0 rank))
 
 abbrev pub opened_of : Bool → ℕ → Given → Given
-opened_of true rank given = given
-opened_of false rank given = opened rank given
+opened_of is_short rank given = cond is_short given (opened rank given)
 
 -- nothing stands inside an alias
 abbrev pub after : Opening → Given → Given → Given

@@ -7,5 +7,8 @@ mod page;
 mod node;
 mod parts;
 mod sink;
+pub mod spell;
 mod text;
 mod walk;
+
+pub use spell::canonical_len;
