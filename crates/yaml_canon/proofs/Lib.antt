@@ -10,3 +10,4 @@ mod Anchors
 mod Markings
 mod Linking
 mod NamesLaws
+mod DocumentLaws

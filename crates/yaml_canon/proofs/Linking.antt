@@ -149,11 +149,11 @@ module _ (rank : Tree → ℕ) (Of : Tree → Type 0) (tell : (t u : Tree) → O
       by false false Repeated e h i = absurd (let z : Repeated ≡ Unseen = sym i ∙ n.is t o ∙ (λ j. cond (none_repeats t m k r h n j) Repeated (cond (h j) Seen Unseen)) in cc)
       by false false (Named x) e h i = absurd (let z : Named x ≡ Unseen = sym i ∙ n.is t o ∙ (λ j. cond (none_repeats t m k r h n j) Repeated (cond (h j) Seen Unseen)) in cc)
 
-  abbrev OfAll : Trees → Type 0
+  abbrev pub OfAll : Trees → Type 0
   OfAll end = Unit {0}
   OfAll (item t ts) = Of t × OfAll ts
 
-  abbrev OfPairs : Pairs → Type 0
+  abbrev pub OfPairs : Pairs → Type 0
   OfPairs done = Unit {0}
   OfPairs (entry k v ps) = Of k × Of v × OfPairs ps
 
