@@ -11,3 +11,4 @@ mod Markings
 mod Linking
 mod NamesLaws
 mod DocumentLaws
+mod ClaimLaws

@@ -1,5 +1,5 @@
 -- Pieces one after the other.
-use Rattle.std.specs.Prelude.{Result, Ok, Err, OnOk, IfErr}
+use Rattle.std.specs.Prelude.{Result, Ok, Err, OnOk, IfOk, IfErr}
 use Rattle.std.proofs.Common.{◌≡◌, ℕ, List, [], ◌∷◌, ◌++◌, refl, sym, ◌∙◌, ap, subst}
 use Rattle.std.proofs.lemmas.List.{append_assoc, append-nil}
 use Rattle.std.proofs.lemmas.Str.{encodes-append}
@@ -103,3 +103,7 @@ module _ {S O : Type 0} (holds : S → O → Began → List ℕ → Type 0) wher
       → Fails holds stops s o q fault whole
   left_fails stops s o t p q fault rest whole f g l h e =
       fails_as holds stops s o q fault (λ more. l.front (f (g more))) whole (fails_later holds stops s o t p q fault l.front (λ more. f (g more)) l.puts (fails_more holds stops t p q fault f g h)) (λ more. ap l.front (e more) ∙ l.is more)
+
+pub if_ok : {T E : Type 0} {P Q R : T → Type 0} (r : Result T E) → IfOk r P → IfOk r Q → ((x : T) → P x → Q x → R x) → IfOk r R
+if_ok (Ok x) h k f = f x h k
+if_ok (Err e) h k f = h

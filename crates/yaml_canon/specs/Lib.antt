@@ -11,3 +11,4 @@ pub mod RankView
 pub mod Anchored
 pub mod Repeats
 pub mod Documents
+pub mod Claims

@@ -6,9 +6,13 @@ mod names;
 mod page;
 mod node;
 mod parts;
+pub mod presenter;
+pub mod side;
 mod sink;
 pub mod spell;
 mod text;
 mod walk;
 
+pub use presenter::canonical;
+pub use side::Side;
 pub use spell::canonical_len;

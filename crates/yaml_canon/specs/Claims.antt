@@ -1,0 +1,73 @@
+-- What `canonical` promises.
+use Rattle.std.specs.Prelude.{◌≡◌, ◌↔◌, ◌<◌, ◌≤◌, ◌+◌, ◌*◌, ℕ, Bool, true, List, [], ◌∷◌, length, Ok, Err}
+use Rattle.yaml_text.specs.Limits.{text_limit, height_limit}
+use Rattle.yaml_text.specs.Tree.{Tree, height}
+use Rattle.yaml_text.specs.Same.{Keyed, Alike}
+use Rattle.yaml_text.specs.Spell.{spell_bytes}
+use Rattle.yaml_text.specs.Proper.{Admitted}
+use Rattle.yaml_text.specs.Means.{Means}
+use Rattle.yaml_text.specs.Marked.{Document, stream_events}
+use Rattle.yaml_text.specs.grammar.Reading.{Reads}
+use Rattle.yaml_text.specs.Text.{Text, RefusesText}
+use Rattle.yaml_text.specs.declared.fault.Fault.{Fault}
+use Rattle.yaml_text.specs.declared.fault.Fault.TheVariants.{TooLong, NotUtf8, NotPrintable, Syntax, Tab, KeyTooLong, TooDeep, BadEscape, BadDirective, UnknownHandle, BadTag, UndefinedAlias, CyclicAlias, WrongKind, BadContent, IntRange, FloatRange, TooHigh, EqualKeys, TextTooLong, OutOfMemory}
+use Rattle.yaml_graph.specs.Composed.{Composed, RefusesStream}
+use Rattle.yaml_graph.specs.declared.graph.Graph.{Graph}
+use Rattle.yaml_rank.specs.RanksView.{RefusesGraph}
+
+-- each of these trees
+abbrev pub AllOf : (Tree → Type 0) → List Tree → Type 0
+AllOf P [] = Unit {0}
+AllOf P (t ∷ f) = P t × AllOf P f
+
+-- The bytes mean these trees, and no others: none is too high, and no mapping has two keys that are the same.
+pub record Accepted (bytes : List ℕ) (f : List Tree) : Type 0 where
+  pub means : Means bytes f
+  pub only : (g : List Tree) → Means bytes g → g ≡ f
+  pub low : AllOf (λ t. height t ≤ height_limit) f
+  pub keyed : AllOf Keyed f
+
+-- The text is the canonical one of what the bytes mean: its spelling, which tells that forest from every other.
+pub record IsCanonicalText (bytes text : List ℕ) : Type 0 where
+  pub forest : List Tree
+  pub accepted : Accepted bytes forest
+  pub admitted : Admitted forest
+  pub spelled : text ≡ spell_bytes forest
+  pub tells : (g : List Tree) → Admitted g → (spell_bytes g ≡ text) ↔ Alike forest g
+
+-- the bytes are read as these documents
+pub record IsRead (bytes : List ℕ) (ds : List Document) : Type 0 where
+  pub reads : Reads bytes (stream_events ds)
+
+-- the bytes are a text
+abbrev pub IsText : List ℕ → Type 0
+IsText bytes = (cs : List ℕ) × Text bytes cs
+
+-- the bytes are read as documents whose composer refuses them with this fault
+abbrev pub RefusedComposing : List ℕ → Fault → Type 0
+RefusedComposing bytes fault = (ds : List Document) × IsRead bytes ds × RefusesStream ds fault
+
+-- What a refusal by `canonical` says of the bytes. Which of the eight faults of syntax is told, and where, is not claimed.
+abbrev pub CanonicalRefuses : List ℕ → Fault → Type 0
+CanonicalRefuses bytes TooLong = RefusesText bytes TooLong
+CanonicalRefuses bytes (NotUtf8 at) = RefusesText bytes (NotUtf8 at)
+CanonicalRefuses bytes (NotPrintable at) = RefusesText bytes (NotPrintable at)
+CanonicalRefuses bytes (Syntax at) = IsText bytes
+CanonicalRefuses bytes (Tab at) = IsText bytes
+CanonicalRefuses bytes (KeyTooLong at) = IsText bytes
+CanonicalRefuses bytes (TooDeep at) = IsText bytes
+CanonicalRefuses bytes (BadEscape at) = IsText bytes
+CanonicalRefuses bytes (BadDirective at) = IsText bytes
+CanonicalRefuses bytes (UnknownHandle at) = IsText bytes
+CanonicalRefuses bytes (BadTag at) = IsText bytes
+CanonicalRefuses bytes (UndefinedAlias event) = RefusedComposing bytes (UndefinedAlias event)
+CanonicalRefuses bytes (CyclicAlias event) = RefusedComposing bytes (CyclicAlias event)
+CanonicalRefuses bytes (WrongKind event) = RefusedComposing bytes (WrongKind event)
+CanonicalRefuses bytes (BadContent event) = RefusedComposing bytes (BadContent event)
+CanonicalRefuses bytes (IntRange event) = RefusedComposing bytes (IntRange event)
+CanonicalRefuses bytes (FloatRange event) = RefusedComposing bytes (FloatRange event)
+CanonicalRefuses bytes (TooHigh document) = RefusedComposing bytes (TooHigh document)
+CanonicalRefuses bytes (EqualKeys node first second) = (ds : List Document) × (g : Graph) × IsRead bytes ds × Composed ds g × RefusesGraph g (EqualKeys node first second)
+CanonicalRefuses bytes TextTooLong = (f : List Tree) × Accepted bytes f × (text_limit < length (spell_bytes f))
+CanonicalRefuses bytes OutOfMemory = Unit {0}
+CanonicalRefuses bytes _ = ⊥

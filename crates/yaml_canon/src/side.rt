@@ -1,0 +1,8 @@
+//! The sides of a comparison.
+
+/// The side of a comparison that a refusal names.
+#[derive(Clone, Copy, Debug, PartialEq, Eq)]
+pub enum Side {
+    Left,
+    Right,
+}
