@@ -14,81 +14,9 @@ use Rattle.yaml_text.proofs.Members.{and_both, both_and}
 use Rattle.yaml_text.proofs.SameLaws.{same_from}
 use Rattle.yaml_text.proofs.Neat.{Neat, neat_same}
 use Rattle.yaml_text.proofs.UnfoldLaws.{firsts-append, agains-append}
-use Rattle.yaml_canon.specs.Identical.{identical, identical_trees, identical_pairs}
 use Rattle.yaml_canon.specs.Anchored.{has}
 use Rattle.yaml_text.proofs.Equivalence.{same_refl, same_like, short_like}
 use Rattle.yaml_canon.specs.Repeats.{repeats_one, noticed, kept, kept_all, kept_pairs, repeats, repeats_all, repeats_pairs}
-
--- ---- trees that are one
-
-mutual
-  unfolding identical
-
-  pub identical_exact : (t u : Tree) → identical t u ≡ true → t ≡ u
-  identical_exact (scalar a x) (scalar b y) h =
-      let p = and_both (bytes_eq a b) (bytes_eq x y) h in
-      let e : a ≡ b = (bytes_decides a b).0 p.0 in
-      let f : x ≡ y = (bytes_decides x y).0 p.1 in
-      cc
-  identical_exact (sequence a ts) (sequence b us) h =
-      let p = and_both (bytes_eq a b) (identical_trees ts us) h in
-      let e : a ≡ b = (bytes_decides a b).0 p.0 in
-      let f : ts ≡ us = identical_trees_exact ts us p.1 in
-      cc
-  identical_exact (mapping a ps) (mapping b qs) h =
-      let p = and_both (bytes_eq a b) (identical_pairs ps qs) h in
-      let e : a ≡ b = (bytes_decides a b).0 p.0 in
-      let f : ps ≡ qs = identical_pairs_exact ps qs p.1 in
-      cc
-  identical_exact t u h = absurd (cc)
-
-  identical_trees_exact : (ts us : Trees) → identical_trees ts us ≡ true → ts ≡ us
-  identical_trees_exact end end h = refl
-  identical_trees_exact end (item u us) h = absurd (cc)
-  identical_trees_exact (item t ts) end h = absurd (cc)
-  identical_trees_exact (item t ts) (item u us) h =
-      let p = and_both (identical t u) (identical_trees ts us) h in
-      let e : t ≡ u = identical_exact t u p.0 in
-      let f : ts ≡ us = identical_trees_exact ts us p.1 in
-      cc
-
-  identical_pairs_exact : (ps qs : Pairs) → identical_pairs ps qs ≡ true → ps ≡ qs
-  identical_pairs_exact done done h = refl
-  identical_pairs_exact done (entry j w qs) h = absurd (cc)
-  identical_pairs_exact (entry k v ps) done h = absurd (cc)
-  identical_pairs_exact (entry k v ps) (entry j w qs) h =
-      let p = and_both (identical k j) (identical v w && identical_pairs ps qs) h in
-      let q = and_both (identical v w) (identical_pairs ps qs) p.1 in
-      let e : k ≡ j = identical_exact k j p.0 in
-      let f : v ≡ w = identical_exact v w q.0 in
-      let g : ps ≡ qs = identical_pairs_exact ps qs q.1 in
-      cc
-
-mutual
-  unfolding identical
-
-  pub identical_refl : (t : Tree) → identical t t ≡ true
-  identical_refl (scalar a x) = both_and (bytes_eq a a) (bytes_eq x x) ((bytes_decides a a).1 refl) ((bytes_decides x x).1 refl)
-  identical_refl (sequence a ts) = both_and (bytes_eq a a) (identical_trees ts ts) ((bytes_decides a a).1 refl) (identical_trees_refl ts)
-  identical_refl (mapping a ps) = both_and (bytes_eq a a) (identical_pairs ps ps) ((bytes_decides a a).1 refl) (identical_pairs_refl ps)
-
-  identical_trees_refl : (ts : Trees) → identical_trees ts ts ≡ true
-  identical_trees_refl end = refl
-  identical_trees_refl (item t ts) = both_and (identical t t) (identical_trees ts ts) (identical_refl t) (identical_trees_refl ts)
-
-  identical_pairs_refl : (ps : Pairs) → identical_pairs ps ps ≡ true
-  identical_pairs_refl done = refl
-  identical_pairs_refl (entry k v ps) =
-      both_and (identical k k) (identical v v && identical_pairs ps ps) (identical_refl k) (both_and (identical v v) (identical_pairs ps ps) (identical_refl v) (identical_pairs_refl ps))
-
-bool_eq : (a b : Bool) → (a ≡ true → b ≡ true) → (b ≡ true → a ≡ true) → a ≡ b
-bool_eq true b f g = sym (f refl)
-bool_eq false true f g = g refl
-bool_eq false false f g = refl
-
-pub same_identical : (t u : Tree) → Neat t → Neat u → same t u ≡ identical t u
-same_identical t u n m =
-    bool_eq (same t u) (identical t u) (λ s. subst (λ z. identical t z ≡ true) (neat_same t u n m s) (identical_refl t)) (λ i. same_from t u (ap arranged (identical_exact t u i)))
 
 -- ---- lists of trees
 

@@ -1,44 +1,14 @@
-pub mod Leads
-pub mod AnswerLemmas
-pub mod ScalarLemmas
-pub mod LineLemmas
-pub mod LineInside
-pub mod QuotedDerivation
-pub mod FlowDerivation
-pub mod FlowSpelled
-pub mod ReadingAnswers
-pub mod FlowInside
-pub mod FlowDocuments
-pub mod Ends
-pub mod TreeViews
-pub mod Heads
-pub mod Writing
-pub mod Names
-pub mod Found
-pub mod Nodes
-pub mod MachineLaws
-pub mod ComposerLaws
-pub mod GraphLaws
-pub mod MeasureLaws
-pub mod BoundLemmas
-pub mod Walking
-pub mod Shortness
-pub mod Anchors
-pub mod Markings
-pub mod Forests
-pub mod CanonicalAnswers
-pub mod PartLemmas
-pub mod NodeLemmas
-pub mod FlowText
-pub mod PlainLaws
-pub mod FlowClaims
-pub mod Arranging
-pub mod KeyLaws
-pub mod EventLaws
-pub mod NodeTrees
-pub mod EventsLeft
-pub mod NodePlaces
-pub mod SpelledKeys
-pub mod CompareAnswers
-pub mod Meetings
-pub mod Ascending
+mod Streams
+mod PieceLaws
+mod PageLaws
+mod PartLaws
+mod RankLaws
+mod WalkLaws
+mod ShortLaws
+mod WriteLaws
+mod Anchors
+mod Markings
+mod Linking
+mod NamesLaws
+mod DocumentLaws
+mod ClaimLaws

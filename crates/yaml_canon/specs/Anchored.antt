@@ -9,17 +9,8 @@ use Rattle.yaml_text.specs.Event.{Anchor, double}
 use Rattle.yaml_text.specs.Marked.{Marked, AllMarked, MarkedPairs, alias, scalar_at, sequence_at, mapping_at, end_marks, item_mark, done_marks, entry_marks}
 use Rattle.yaml_text.specs.TagText.{written_tag}
 use Rattle.yaml_text.specs.Mark.{name_of}
-use Rattle.yaml_canon.specs.declared.node.Node.{Node}
-use Rattle.yaml_canon.specs.TreeModel.{tree_of}
 
--- the trees that a list's references name
-abbrev pub nodes_of : List Node → List plain.Tree
-nodes_of = map (λ n. tree_of n.tree.now)
 
--- what stands before the entry at this place
-abbrev pub separator : ℕ → List ℕ
-separator zero = []
-separator (suc i) = 44 ∷ 32 ∷ []
 
 -- one of the list is the same as this tree
 abbrev pub has : List plain.Tree → plain.Tree → Bool

@@ -1,23 +1,18 @@
 //! The canonical text of a YAML stream, and whether two streams are the same.
 #![tactic(auto)]
 
-mod arrange;
-pub mod comparer;
-mod compose;
-mod forest;
-mod line;
+mod length;
+mod names;
+mod page;
 mod node;
-mod order;
+mod parts;
 pub mod presenter;
-mod quoted;
-mod reader;
-mod reading;
-mod sameness;
 pub mod side;
-mod spell;
-mod tree;
+mod sink;
+pub mod spell;
+mod text;
 mod walk;
 
-pub use comparer::same;
 pub use presenter::canonical;
 pub use side::Side;
+pub use spell::canonical_len;

@@ -1,44 +1,55 @@
 //! The canonical text of a stream.
-ghost use Rattle.std.specs.Prelude.{◌≡◌, ℕ, List, IfOk, IfErr, MatchResult};
+ghost use Rattle.std.specs.Prelude.{◌≡◌, ◌≤◌, ℕ, List, length, IfOk, IfErr};
 ghost use Rattle.std.specs.Result.{IsErrAnd};
 ghost use Rattle.std.specs.String.{string_bytes};
-ghost use Rattle.yaml_text.specs.Tree.{Tree};
 ghost use Rattle.yaml_text.specs.Text.{Text, RefusesText};
-ghost use Rattle.yaml_text.specs.Proper.{Admitted};
+ghost use Rattle.yaml_text.specs.Limits.{text_limit};
 ghost use Rattle.yaml_text.specs.Spell.{spell_bytes};
-ghost use Rattle.yaml_text.specs.declared.fault.Fault.TheVariants.{OutOfMemory};
-ghost use Rattle.yaml_canon.specs.PlainTrees.{Spoken};
+ghost use Rattle.yaml_graph.specs.GraphView.{forest};
+ghost use Rattle.yaml_rank.specs.RanksView.{RanksAre};
+ghost use Rattle.yaml_canon.specs.Documents.{RefusesLength};
 ghost use Rattle.yaml_canon.specs.Claims.{IsCanonicalText, CanonicalRefuses};
 
-use crate::forest::{check_keys, check_sizes, low_nodes, trees};
-use crate::reading::read;
-use crate::spell::spell;
+use crate::names::Names;
+use crate::spell::{canonical_len, write_documents};
+use crate::text::Whole;
 use std::alloc::Global;
+use yaml_graph::compose;
+use yaml_graph::graph::Graph;
+use yaml_rank::rank;
+use yaml_rank::ranks::Ranks;
+use yaml_read::read_events;
+use yaml_text::chars::Chars;
 use yaml_text::fault::Fault;
+
+/// The canonical text of a graph's documents, for which room is taken once.
+fn spelled(alloc: Global, graph: &Graph<'_>, ranks: &Ranks) -> Result<String, Fault>
+    requires { RanksAre graph.now ranks.now }
+    ensures ok { IfOk result (λ text. string_bytes text ≡ spell_bytes (forest graph.now)) }
+    ensures fits { IfOk result (λ text. length (string_bytes text) ≤ text_limit) }
+    ensures err { IfErr result (RefusesLength (forest graph.now)) }
+{
+    let len = canonical_len(alloc, graph, ranks)?;
+    let mut names = Names::new(alloc, graph.len())?;
+    let mut text = String::with_capacity(alloc, len)?;
+    write_documents(graph, ranks, &mut names, &mut Whole, &mut text)?;
+    Ok(text)
+}
 
 /// The canonical text of the stream that these bytes are.
 ///
-/// Today the stream is one document of double-quoted scalars, flow sequences, flow mappings,
-/// anchors and aliases on one line, after `---`. Refused are bytes that are no text (1 to 3),
-/// other streams (4, 5, 7, 8), an alias whose anchor is undefined (12) or stands on a collection
-/// that is still open (13), a document that is too high (18) or has too many nodes (24), two keys
-/// of a mapping that are written alike (19), a text that would be too long (20), and want of
+/// Refused are bytes that are no text (1 to 3), a text that is no stream of the profile (4 to 11),
+/// the first event with an alias or a tag that stands for nothing (12 to 17), a document that is too
+/// high (18), two equal keys of a mapping (19), a text that would be too long (20), and want of
 /// memory (21).
-///
-/// Keys are compared by their source text, not by meaning: where two keys of a mapping are the
-/// same, but written differently, the text is the spelling of what the bytes mean, and when it is
-/// given in turn it may be refused or have another text.
 pub fn canonical(alloc: Global, bytes: &[u8]) -> Result<String, Fault>
     ensures text { IfOk result (λ text. IsCanonicalText bytes.now (string_bytes text)) }
     ensures refused { IfErr result (CanonicalRefuses bytes.now) }
     ensures no_text { ((cs : List ℕ) → Text bytes.now cs → ⊥) → IsErrAnd result (RefusesText bytes.now) }
-    ensures spelled { (f : List Tree) → Spoken f → Admitted f → bytes.now ≡ spell_bytes f →
-        MatchResult result (λ text. string_bytes text ≡ bytes.now) (λ fault. fault ≡ OutOfMemory) }
 {
-    let events = read(alloc, bytes)?;
-    let nodes = low_nodes(alloc, &events)?;
-    check_sizes(&nodes)?;
-    check_keys(alloc, &events, &nodes)?;
-    let trees = trees(alloc, &nodes)?;
-    spell(alloc, &trees)
+    let source = Chars::read(bytes)?;
+    let events = read_events(alloc, &source)?;
+    let graph = compose(alloc, &events)?;
+    let ranks = rank(alloc, &graph)?;
+    spelled(alloc, &graph, &ranks)
 }

@@ -1,121 +1,246 @@
-//! Which nodes of an arranged tree repeat an earlier one. Temporary, as the trees are: nodes are
-//! compared one with another.
-ghost use Rattle.std.specs.Prelude.{◌≡◌, ◌+◌, [], ◌++◌, OnOk, IfOk, IfErr, length, nat_le};
-ghost use Rattle.std.specs.Str.{chars, encode_utf8_all};
-ghost use Rattle.yaml_text.specs.Limits.{short_limit};
-ghost use Rattle.yaml_text.specs.NodeText.{quoted};
-ghost use Rattle.yaml_text.specs.Spell.{short};
-ghost use Rattle.yaml_canon.specs.TreeModel.{tree_of, trees_of, pairs_of};
-ghost use Rattle.yaml_canon.specs.Anchored.{nodes_of};
-ghost use Rattle.yaml_canon.specs.Repeats.{repeats_one, noticed, kept, kept_all, kept_pairs, repeats, repeats_all, repeats_pairs};
+//! The walk of a graph in writing order, by ranks.
+ghost use Rattle.std.specs.Prelude.{◌≡◌, ◌<◌, ◌++◌, ◌∷◌, [], length, map, OnOk, IfErr};
+ghost use Rattle.std.specs.List.{All};
+ghost use Rattle.yaml_text.specs.Order.{arranged};
+ghost use Rattle.yaml_graph.specs.GraphView.{nodes_of, tree};
+ghost use Rattle.yaml_graph.specs.TreeLists.{trees, pairs};
+ghost use Rattle.yaml_rank.specs.RankModel.{key_pair};
+ghost use Rattle.yaml_rank.specs.RanksView.{RanksAre};
+ghost use Rattle.yaml_canon.specs.NamesView.{ranks_in, document_of, count_of, table_of, given_of, opening_number};
+ghost use Rattle.yaml_canon.specs.Pieces.{Puts, Fails};
+ghost use Rattle.yaml_text.specs.NodeText.{text, items_text, pairs_text};
+ghost use Rattle.yaml_canon.specs.RankView.{rank_in};
+ghost use Rattle.yaml_canon.specs.Walked.{noticed, noticed_all, noticed_pairs, opening_of, opened_of, separator, given, given_all, given_pairs, given_inside, written, written_all, written_pairs, inner};
 
-use crate::node::{Node, find};
-use crate::tree::Tree;
-use std::alloc::Global;
-use yaml_scalar::spell::spelled_len;
+use crate::names::{Names, Opening};
+use crate::node::is_short;
+use crate::parts::{Kind, put_alias, put_anchor, put_scalar, put_tag};
+use crate::sink::Sink;
+use yaml_graph::graph::Graph;
+use yaml_graph::node::{NodeId, NodeKind};
+use yaml_rank::ranks::Ranks;
 use yaml_text::fault::Fault;
 
-/// The bytes of a scalar or an empty collection that is always written out.
-const SHORT_LIMIT: usize = 64;
-
-/// Whether a scalar's text has at most `SHORT_LIMIT` bytes, its quotes among them.
-fn is_short_text(text: &str) -> bool
-    ensures { result ≡ nat_le (1 + length (encode_utf8_all (quoted (chars text.now) []))) short_limit }
+/// Notes which ranks are met in the tree of a node, and which come again. A node that comes again is
+/// not entered.
+#[cycle(notice)]
+pub(crate) fn notice(graph: &Graph<'_>, ranks: &Ranks, names: &mut Names, id: NodeId)
+    requires within { id.0 < length (nodes_of graph.now) }
+    requires ranked { RanksAre graph.now ranks.now }
+    requires long { ranks_in names.old ≡ length (nodes_of graph.now) }
+    ensures table { table_of names.new ≡ noticed (rank_in graph.now ranks.now) (arranged (tree graph.now id.0)) (table_of names.old) }
+    ensures long { ranks_in names.new ≡ ranks_in names.old }
+    ensures document { document_of names.new ≡ document_of names.old }
+    ensures count { count_of names.new ≡ count_of names.old }
 {
-    text.len() <= SHORT_LIMIT && spelled_len(text) <= SHORT_LIMIT as u128
-}
-
-/// Whether a node is always written out.
-fn is_short(tree: &Tree<'_>) -> bool
-    ensures { result ≡ short (tree_of tree.now) }
-{
-    match tree {
-        Tree::Scalar(text) => is_short_text(text),
-        Tree::Sequence(items) => items.is_empty(),
-        Tree::Mapping(entries) => entries.is_empty(),
+    let node = graph.node(id);
+    if is_short(node) {
+        return;
+    }
+    if !names.meet(ranks.of(id)) {
+        return;
+    }
+    match &node.kind {
+        NodeKind::Scalar(_) => {}
+        NodeKind::Sequence(items) => notice_items(graph, ranks, names, id, items),
+        NodeKind::Mapping(_) => notice_entries(graph, ranks, names, id, ranks.sorted(id)),
     }
 }
 
-/// Whether a node repeats one of `seen`, and is not short.
-fn is_again<'a>(alloc: Global, node: Node<'_, 'a>, seen: &[Node<'_, 'a>]) -> Result<bool, Fault>
-    ensures again { IfOk result (λ again. again ≡ repeats_one (tree_of node.entry.tree.now) (nodes_of seen.now)) }
-    ensures only { IfErr result (λ fault. fault ≡ Fault.OutOfMemory) }
-{
-    if is_short(node.tree) {
-        return Ok(false);
-    }
-    Ok(find(alloc, node, seen)?.is_some())
-}
-
-/// Puts a node that is not short at the end of `seen`.
-fn notice<'t, 'a>(node: Node<'t, 'a>, seen: &mut Vec<Node<'t, 'a>>) -> Result<(), Fault>
-    ensures seen { OnOk result (nodes_of seen.new.items ≡ noticed (tree_of node.entry.tree.now) (nodes_of seen.old.items)) }
-    ensures only { IfErr result (λ fault. fault ≡ Fault.OutOfMemory) }
-{
-    if !is_short(node.tree) {
-        seen.push(node)?;
-    }
-    Ok(())
-}
-
-/// Walks a tree: puts the nodes that are written out and not short at the end of `seen`, and
-/// those that repeat one of `seen` at the end of `repeated`.
-#[cycle(visit)]
-pub(crate) fn visit<'t, 'a>(
-    alloc: Global,
-    tree: &'t Tree<'a>,
-    seen: &mut Vec<Node<'t, 'a>>,
-    repeated: &mut Vec<Node<'t, 'a>>,
-) -> Result<(), Fault>
-    ensures seen { OnOk result (nodes_of seen.new.items ≡ kept (tree_of tree.now) (nodes_of seen.old.items)) }
-    ensures repeated { OnOk result (nodes_of repeated.new.items ≡ nodes_of repeated.old.items ++ repeats (tree_of tree.now) (nodes_of seen.old.items)) }
-    ensures only { IfErr result (λ fault. fault ≡ Fault.OutOfMemory) }
-{
-    let node = Node::new(tree);
-    let again = is_again(alloc, node, seen)?;
-    if again {
-        repeated.push(node)?;
-        return Ok(());
-    }
-    notice(node, seen)?;
-    match tree {
-        Tree::Scalar(_) => Ok(()),
-        Tree::Sequence(items) => visit_items(alloc, items, seen, repeated),
-        Tree::Mapping(entries) => visit_entries(alloc, entries, seen, repeated),
-    }
-}
-
-#[cycle(visit)]
-fn visit_items<'t, 'a>(
-    alloc: Global,
-    items: &'t [Tree<'a>],
-    seen: &mut Vec<Node<'t, 'a>>,
-    repeated: &mut Vec<Node<'t, 'a>>,
-) -> Result<(), Fault>
-    ensures seen { OnOk result (nodes_of seen.new.items ≡ kept_all (trees_of items.now) (nodes_of seen.old.items)) }
-    ensures repeated { OnOk result (nodes_of repeated.new.items ≡ nodes_of repeated.old.items ++ repeats_all (trees_of items.now) (nodes_of seen.old.items)) }
-    ensures only { IfErr result (λ fault. fault ≡ Fault.OutOfMemory) }
+/// The same of the items of a node.
+#[cycle(notice)]
+fn notice_items(
+    graph: &Graph<'_>,
+    ranks: &Ranks,
+    names: &mut Names,
+    owner: NodeId,
+    items: &[NodeId],
+)
+    requires within { owner.0 < length (nodes_of graph.now) }
+    requires below { All (λ i. i.0 < owner.0) items.now }
+    requires ranked { RanksAre graph.now ranks.now }
+    requires long { ranks_in names.old ≡ length (nodes_of graph.now) }
+    ensures table { table_of names.new ≡ noticed_all (rank_in graph.now ranks.now) (trees (map (λ i. arranged (tree graph.now i.0)) items.now)) (table_of names.old) }
+    ensures long { ranks_in names.new ≡ ranks_in names.old }
+    ensures document { document_of names.new ≡ document_of names.old }
+    ensures count { count_of names.new ≡ count_of names.old }
 {
     for item in items {
-        visit(alloc, item, seen, repeated)?;
+        notice(graph, ranks, names, *item);
     }
-    Ok(())
 }
 
-#[cycle(visit)]
-fn visit_entries<'t, 'a>(
-    alloc: Global,
-    entries: &'t [(Tree<'a>, Tree<'a>)],
-    seen: &mut Vec<Node<'t, 'a>>,
-    repeated: &mut Vec<Node<'t, 'a>>,
-) -> Result<(), Fault>
-    ensures seen { OnOk result (nodes_of seen.new.items ≡ kept_pairs (pairs_of entries.now) (nodes_of seen.old.items)) }
-    ensures repeated { OnOk result (nodes_of repeated.new.items ≡ nodes_of repeated.old.items ++ repeats_pairs (pairs_of entries.now) (nodes_of seen.old.items)) }
-    ensures only { IfErr result (λ fault. fault ≡ Fault.OutOfMemory) }
+/// The same of the entries of a node.
+#[cycle(notice)]
+fn notice_entries(
+    graph: &Graph<'_>,
+    ranks: &Ranks,
+    names: &mut Names,
+    owner: NodeId,
+    entries: &[(NodeId, NodeId)],
+)
+    requires within { owner.0 < length (nodes_of graph.now) }
+    requires below { All (λ p. (p.0.0 < owner.0) × (p.1.0 < owner.0)) entries.now }
+    requires ranked { RanksAre graph.now ranks.now }
+    requires long { ranks_in names.old ≡ length (nodes_of graph.now) }
+    ensures table { table_of names.new ≡ noticed_pairs (rank_in graph.now ranks.now) (pairs (map (key_pair graph.now) entries.now)) (table_of names.old) }
+    ensures long { ranks_in names.new ≡ ranks_in names.old }
+    ensures document { document_of names.new ≡ document_of names.old }
+    ensures count { count_of names.new ≡ count_of names.old }
 {
     for entry in entries {
-        visit(alloc, &entry.0, seen, repeated)?;
-        visit(alloc, &entry.1, seen, repeated)?;
+        notice(graph, ranks, names, entry.0);
+        notice(graph, ranks, names, entry.1);
     }
-    Ok(())
+}
+
+/// How a node begins. A short one begins plainly and is not noted.
+fn start(names: &mut Names, is_short: bool, rank: usize) -> Opening
+    requires { rank < ranks_in names.old }
+    ensures opening { result ≡ opening_of is_short rank (given_of names.old) }
+    ensures positive { 0 < opening_number result }
+    ensures given { given_of names.new ≡ opened_of is_short rank (given_of names.old) }
+    ensures long { ranks_in names.new ≡ ranks_in names.old }
+    ensures document { document_of names.new ≡ document_of names.old }
+{
+    if is_short {
+        return Opening::Plain;
+    }
+    names.open(rank)
+}
+
+/// What stands before the entry at this place.
+fn put_separator<O, S: Sink<O>>(sink: &mut S, out: &mut O, place: usize) -> Result<(), Fault>
+    ensures ok { OnOk result (Puts S.holds sink.old out.old sink.new out.new (λ more. separator place ++ more)) }
+    ensures err { IfErr result (λ fault. Fails S.holds S.stops sink.old out.old out.new fault (λ more. separator place ++ more)) }
+{
+    if place == 0 {
+        return Ok(());
+    }
+    sink.put(out, ", ")
+}
+
+/// Writes a node: an alias where its rank came before in its document and is not short, else its
+/// anchor, if its rank comes again, and what stands behind that.
+#[cycle(write)]
+pub(crate) fn write_node<O, S: Sink<O>>(
+    graph: &Graph<'_>,
+    ranks: &Ranks,
+    names: &mut Names,
+    id: NodeId,
+    sink: &mut S,
+    out: &mut O,
+) -> Result<(), Fault>
+    requires within { id.0 < length (nodes_of graph.now) }
+    requires ranked { RanksAre graph.now ranks.now }
+    requires long { ranks_in names.old ≡ length (nodes_of graph.now) }
+    ensures long { ranks_in names.new ≡ ranks_in names.old }
+    ensures document { document_of names.new ≡ document_of names.old }
+    ensures known { OnOk result (given_of names.new ≡ given (rank_in graph.now ranks.now) (arranged (tree graph.now id.0)) (given_of names.old)) }
+    ensures ok { OnOk result (Puts S.holds sink.old out.old sink.new out.new (text (written (rank_in graph.now ranks.now) (arranged (tree graph.now id.0)) (given_of names.old)))) }
+    ensures err { IfErr result (λ fault. Fails S.holds S.stops sink.old out.old out.new fault (text (written (rank_in graph.now ranks.now) (arranged (tree graph.now id.0)) (given_of names.old)))) }
+{
+    let opening = start(names, is_short(graph.node(id)), ranks.of(id));
+    match opening {
+        Opening::Alias(number) => put_alias(sink, out, number),
+        Opening::Anchored(number) => {
+            put_anchor(sink, out, number)?;
+            write_inside(graph, ranks, names, id, sink, out)
+        }
+        Opening::Plain => write_inside(graph, ranks, names, id, sink, out),
+    }
+}
+
+/// Writes a node's tag and content.
+#[cycle(write)]
+fn write_inside<O, S: Sink<O>>(
+    graph: &Graph<'_>,
+    ranks: &Ranks,
+    names: &mut Names,
+    id: NodeId,
+    sink: &mut S,
+    out: &mut O,
+) -> Result<(), Fault>
+    requires within { id.0 < length (nodes_of graph.now) }
+    requires ranked { RanksAre graph.now ranks.now }
+    requires long { ranks_in names.old ≡ length (nodes_of graph.now) }
+    ensures long { ranks_in names.new ≡ ranks_in names.old }
+    ensures document { document_of names.new ≡ document_of names.old }
+    ensures known { OnOk result (given_of names.new ≡ given_inside (rank_in graph.now ranks.now) (arranged (tree graph.now id.0)) (given_of names.old)) }
+    ensures ok { OnOk result (Puts S.holds sink.old out.old sink.new out.new (inner (rank_in graph.now ranks.now) (arranged (tree graph.now id.0)) (given_of names.old))) }
+    ensures err { IfErr result (λ fault. Fails S.holds S.stops sink.old out.old out.new fault (inner (rank_in graph.now ranks.now) (arranged (tree graph.now id.0)) (given_of names.old))) }
+{
+    let node = graph.node(id);
+    let tag = node.tag.as_str();
+    match &node.kind {
+        NodeKind::Scalar(content) => put_scalar(sink, out, tag, content.as_str()),
+        NodeKind::Sequence(items) => {
+            put_tag(sink, out, tag, Kind::Sequence)?;
+            write_items(graph, ranks, names, id, items, sink, out)
+        }
+        NodeKind::Mapping(_) => {
+            put_tag(sink, out, tag, Kind::Mapping)?;
+            write_entries(graph, ranks, names, id, ranks.sorted(id), sink, out)
+        }
+    }
+}
+
+/// Writes the items of a node between brackets.
+#[cycle(write)]
+fn write_items<O, S: Sink<O>>(
+    graph: &Graph<'_>,
+    ranks: &Ranks,
+    names: &mut Names,
+    owner: NodeId,
+    items: &[NodeId],
+    sink: &mut S,
+    out: &mut O,
+) -> Result<(), Fault>
+    requires within { owner.0 < length (nodes_of graph.now) }
+    requires below { All (λ i. i.0 < owner.0) items.now }
+    requires ranked { RanksAre graph.now ranks.now }
+    requires long { ranks_in names.old ≡ length (nodes_of graph.now) }
+    ensures long { ranks_in names.new ≡ ranks_in names.old }
+    ensures document { document_of names.new ≡ document_of names.old }
+    ensures known { OnOk result (given_of names.new ≡ given_all (rank_in graph.now ranks.now) (trees (map (λ i. arranged (tree graph.now i.0)) items.now)) (given_of names.old)) }
+    ensures ok { OnOk result (Puts S.holds sink.old out.old sink.new out.new (λ more. 91 ∷ items_text [] (written_all (rank_in graph.now ranks.now) (trees (map (λ i. arranged (tree graph.now i.0)) items.now)) (given_of names.old)) more)) }
+    ensures err { IfErr result (λ fault. Fails S.holds S.stops sink.old out.old out.new fault (λ more. 91 ∷ items_text [] (written_all (rank_in graph.now ranks.now) (trees (map (λ i. arranged (tree graph.now i.0)) items.now)) (given_of names.old)) more)) }
+{
+    sink.put(out, "[")?;
+    for (place, item) in items.iter().enumerate() {
+        put_separator(sink, out, place)?;
+        write_node(graph, ranks, names, *item, sink, out)?;
+    }
+    sink.put(out, "]")
+}
+
+/// Writes the entries of a node between braces.
+#[cycle(write)]
+fn write_entries<O, S: Sink<O>>(
+    graph: &Graph<'_>,
+    ranks: &Ranks,
+    names: &mut Names,
+    owner: NodeId,
+    entries: &[(NodeId, NodeId)],
+    sink: &mut S,
+    out: &mut O,
+) -> Result<(), Fault>
+    requires within { owner.0 < length (nodes_of graph.now) }
+    requires below { All (λ p. (p.0.0 < owner.0) × (p.1.0 < owner.0)) entries.now }
+    requires ranked { RanksAre graph.now ranks.now }
+    requires long { ranks_in names.old ≡ length (nodes_of graph.now) }
+    ensures long { ranks_in names.new ≡ ranks_in names.old }
+    ensures document { document_of names.new ≡ document_of names.old }
+    ensures known { OnOk result (given_of names.new ≡ given_pairs (rank_in graph.now ranks.now) (pairs (map (key_pair graph.now) entries.now)) (given_of names.old)) }
+    ensures ok { OnOk result (Puts S.holds sink.old out.old sink.new out.new (λ more. 123 ∷ pairs_text [] (written_pairs (rank_in graph.now ranks.now) (pairs (map (key_pair graph.now) entries.now)) (given_of names.old)) more)) }
+    ensures err { IfErr result (λ fault. Fails S.holds S.stops sink.old out.old out.new fault (λ more. 123 ∷ pairs_text [] (written_pairs (rank_in graph.now ranks.now) (pairs (map (key_pair graph.now) entries.now)) (given_of names.old)) more)) }
+{
+    sink.put(out, "{")?;
+    for (place, entry) in entries.iter().enumerate() {
+        put_separator(sink, out, place)?;
+        write_node(graph, ranks, names, entry.0, sink, out)?;
+        sink.put(out, " : ")?;
+        write_node(graph, ranks, names, entry.1, sink, out)?;
+    }
+    sink.put(out, "}")
 }

@@ -1,0 +1,130 @@
+-- From the layers' answers to what is promised of the bytes.
+use Rattle.std.proofs.Common.{◌≡◌, ◌↔◌, ℕ, zero, suc, ◌+◌, ◌*◌, ◌<◌, ◌≤◌, List, [], ◌∷◌, ◌++◌, length, map, get_or, refl, sym, ◌∙◌, ap, subst, arith}
+use Rattle.std.specs.Prelude.{Ok, Err, None}
+use Rattle.std.specs.List.{All}
+use Rattle.std.specs.Str.{chars, encode_utf8_all}
+use Rattle.std.specs.String.{string_bytes}
+use Rattle.std.proofs.lemmas.List.{append-nil}
+use Rattle.std.proofs.Common.{Global}
+use Rattle.yaml_text.specs.Limits.{text_limit, height_limit, open_limit}
+use Rattle.yaml_text.specs.Tree.{Tree, height}
+use Rattle.yaml_text.specs.Same.{Keyed, Alike}
+use Rattle.yaml_text.specs.Spell.{spell_bytes}
+use Rattle.yaml_text.specs.Proper.{AreAdmitted, Admitted}
+use Rattle.yaml_text.specs.Sound.{AllProper}
+use Rattle.yaml_text.specs.Means.{StandsFor, Means}
+use Rattle.yaml_text.specs.Marked.{Document, stream_events}
+use Rattle.yaml_text.specs.Unfold.{trees_of}
+use Rattle.yaml_text.specs.Event.{Event}
+use Rattle.yaml_text.specs.EventModel.{event_of}
+use Rattle.yaml_text.specs.Text.{Text, RefusesText}
+use Rattle.yaml_text.specs.grammar.Reading.{Reads}
+use Rattle.yaml_text.specs.grammar.Streams.{ReadsText}
+use Rattle.yaml_text.proofs.grammar.Documents.{readings_are_documents}
+use Rattle.yaml_text.proofs.MeaningLaws.{meaning_is_proper}
+use Rattle.yaml_text.proofs.Law.{texts_tell}
+use Rattle.yaml_text.specs.declared.event.Event as code
+use Rattle.yaml_text.specs.declared.fault.Fault.{Fault}
+use Rattle.yaml_text.specs.declared.fault.Fault.TheVariants as faults
+use Rattle.yaml_unique.proofs.Documents.{one_meaning}
+use Rattle.yaml_graph.specs.GraphModel.{tree_at}
+use Rattle.yaml_graph.specs.GraphView.{nodes_of, roots_of, trees_of as graph_trees, tree, forest}
+use Rattle.yaml_graph.specs.Composed.{Composable, Composed, RefusesStream}
+use Rattle.yaml_graph.specs.declared.node.NodeId.{NodeId}
+use Rattle.yaml_graph.specs.declared.graph.Graph.{Graph}
+use Rattle.yaml_rank.specs.RanksView.{RanksAre, RefusesGraph}
+use Rattle.yaml_rank.specs.declared.ranks.Ranks.{Ranks}
+use Rattle.yaml_canon.specs.Pieces.{Began, Writes, Puts, Fails}
+use Rattle.yaml_canon.specs.Documents.{spell_more, RefusesLength}
+use Rattle.yaml_canon.specs.Claims.{AllOf, Accepted, IsCanonicalText, IsRead, CanonicalRefuses}
+use Rattle.yaml_canon.proofs.DocumentLaws.{spell_whole}
+
+-- ---- the whole text
+
+abbrev nowhere : Began
+nowhere = record { number = 0; held = None }
+
+module _ {S T : Type 0} (bytes : T → List ℕ) where
+  pub whole_text : (s t : S) (o p : T) (f : List Tree) → bytes o ≡ [] → Puts (λ _ out _ xs. bytes out ≡ xs) s o t p (spell_more f) → bytes p ≡ spell_bytes f
+  whole_text s t o p f e h =
+      let a = h.is nowhere [] e in
+      a.1 ∙ sym (append-nil a.0) ∙ a.2.is [] ∙ spell_whole f
+
+  pub text_refused : (s : S) (o p : T) (fault : Fault) (f : List Tree) (g : List ℕ → List ℕ) → bytes o ≡ [] → Fails (λ _ out _ xs. bytes out ≡ xs) (λ _ _ z _. z ≡ faults.OutOfMemory) s o p fault g → RefusesLength f fault
+  text_refused s o p fault f g e h = subst (RefusesLength f) (sym (h.is nowhere [] [] e)) tt
+
+-- ---- documents
+
+abbrev pub Found : List ℕ → List code.Event → Type 0
+Found bytes es = (ds : List Document) × (map event_of es ≡ stream_events ds) × IsRead bytes ds
+
+pub found : (bytes : List ℕ) (text : List ℕ) (es : List code.Event) → Text bytes text → ReadsText text (Unit {0}) open_limit (map event_of es) → Found bytes es
+unfolding Reads
+found bytes text es t r =
+    let d = readings_are_documents bytes (map event_of es) (text, t, r) in
+    (d.0, d.1, record { reads = subst (Reads bytes) d.1 (text, t, r) })
+
+pub composable : (bytes : List ℕ) (es : List code.Event) → Found bytes es → Composable es
+composable bytes es d = record { documents = d.0; cut = d.1 }
+
+-- what the bytes mean
+pub means : (bytes : List ℕ) (ds : List Document) (g : Graph) → IsRead bytes ds → Composed ds g → Means bytes (forest g)
+means bytes ds g r c = record { events = stream_events ds; reads = r.reads; stands = record { documents = ds; cut = refl; unfolded = c.unfolded ∙ ap Ok (sym c.roots) } }
+
+all_of : (P : Tree → Type 0) (f : List Tree) → All P f → AllOf P f
+all_of P [] h = tt
+all_of P (t ∷ f) h = (h 0 t (omega arith), all_of P f (λ k d l. h (suc k) d (omega arith)))
+
+all_roots : (P : Tree → Type 0) (ts : List Tree) (roots : List NodeId) (n : ℕ) → ((i : ℕ) → i < n → P (tree_at ts i)) → All (λ i. i.0 < n) roots → AllOf P (map (λ i. tree_at ts i.0) roots)
+all_roots P ts [] n h w = tt
+all_roots P ts (r ∷ roots) n h w = (h r.0 (w 0 r (omega arith)), all_roots P ts roots n h (λ k d l. w (suc k) d (omega arith)))
+
+pub accepted : (bytes : List ℕ) (ds : List Document) (g : Graph) → IsRead bytes ds → Composed ds g → ((i : ℕ) → i < length (nodes_of g) → Keyed (tree g i)) → Accepted bytes (forest g)
+accepted bytes ds g r c k =
+    let m = means bytes ds g r c in
+    record {
+      means = m;
+      only = λ h n. one_meaning bytes h (forest g) n m;
+      low = subst (AllOf (λ t. height t ≤ height_limit)) (sym c.roots) (all_of (λ t. height t ≤ height_limit) c.trees c.low);
+      keyed = all_roots Keyed (graph_trees g) (roots_of g) (length (nodes_of g)) k g.rooted;
+    }
+
+are_admitted : (f : List Tree) → AllProper f → AllOf Keyed f → AllOf (λ t. height t ≤ height_limit) f → AreAdmitted f
+are_admitted [] p k l = tt
+are_admitted (t ∷ f) p k l = (record { proper = p.0; keyed = k.0; low = l.0 }, are_admitted f p.1 k.1 l.1)
+
+pub canonical_text : (bytes text : List ℕ) (f : List Tree) → Accepted bytes f → text ≡ spell_bytes f → length text ≤ text_limit → IsCanonicalText bytes text
+canonical_text bytes text f a e l =
+    let admitted : Admitted f = record { trees = are_admitted f (meaning_is_proper bytes f a.means) a.keyed a.low; fits = subst (λ z. length z ≤ text_limit) e l } in
+    record {
+      forest = f;
+      accepted = a;
+      admitted = admitted;
+      spelled = e;
+      tells = λ g h.
+          let t = texts_tell f g admitted h in
+          (λ q. t.0 (sym e ∙ sym q), λ q. sym (t.1 q) ∙ sym e);
+    }
+
+-- ---- refusals
+
+pub refused_composing : (bytes : List ℕ) (ds : List Document) (fault : Fault) → IsRead bytes ds → RefusesStream ds fault → CanonicalRefuses bytes fault
+refused_composing bytes ds (faults.UndefinedAlias e) r h = (ds, r, h)
+refused_composing bytes ds (faults.CyclicAlias e) r h = (ds, r, h)
+refused_composing bytes ds (faults.WrongKind e) r h = (ds, r, h)
+refused_composing bytes ds (faults.BadContent e) r h = (ds, r, h)
+refused_composing bytes ds (faults.IntRange e) r h = (ds, r, h)
+refused_composing bytes ds (faults.FloatRange e) r h = (ds, r, h)
+refused_composing bytes ds (faults.TooHigh e) r h = (ds, r, h)
+refused_composing bytes ds faults.OutOfMemory r h = tt
+refused_composing bytes ds _ r h = absurd h
+
+pub refused_ranking : (bytes : List ℕ) (ds : List Document) (g : Graph) (fault : Fault) → IsRead bytes ds → Composed ds g → RefusesGraph g fault → CanonicalRefuses bytes fault
+refused_ranking bytes ds g (faults.EqualKeys n i j) r c h = (ds, g, r, c, h)
+refused_ranking bytes ds g faults.OutOfMemory r c h = tt
+refused_ranking bytes ds g _ r c h = absurd h
+
+pub refused_spelling : (bytes : List ℕ) (f : List Tree) (fault : Fault) → Accepted bytes f → RefusesLength f fault → CanonicalRefuses bytes fault
+refused_spelling bytes f faults.TextTooLong a h = (f, a, h)
+refused_spelling bytes f faults.OutOfMemory a h = tt
+refused_spelling bytes f _ a h = absurd h

@@ -1,8 +1,0 @@
-use Rattle.std.proofs.Common.{◌≡◌, drop, map}
-use Rattle.yaml_text.specs.EventModel.{event_of}
-use Rattle.yaml_canon.specs.Machine.{State, start, run}
-use Rattle.yaml_canon.specs.ComposerModel.{Holds}
-use Rattle.yaml_canon.proofs.compose.composer.compose.Given as goal
-
-abbrev pub invariant-loop-at : goal.invariant-loop-at
-invariant-loop-at l = (s : State) × Holds l.composer s × (run l.at (map event_of (drop l.at l.events)) s ≡ run 0 (map event_of l.events) start)
