@@ -12,6 +12,8 @@ mod properties;
 #[cfg(test)]
 mod rows;
 #[cfg(test)]
+mod sample;
+#[cfg(test)]
 mod streams;
 #[cfg(test)]
 mod wide;

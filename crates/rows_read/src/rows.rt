@@ -114,3 +114,17 @@ pub fn check<T: Abort + AllocGlobal>(rt: &T, rows: &[Row]) -> Result<(), Fail> {
     }
     Ok(())
 }
+
+/// Asserts each row's events, or that it is refused.
+pub fn agree<T: Abort + AllocGlobal>(rt: &T, rows: &[Row]) -> Result<(), Fail> {
+    let alloc = rt.alloc();
+    for row in rows {
+        let got = match shown(alloc, row.input) {
+            Ok(text) => text,
+            Err(_) => String::from_str(alloc, "refused")?,
+        };
+        let input = row.input;
+        assert_eq!(rt; got.as_str(), row.answer, "{input}");
+    }
+    Ok(())
+}
