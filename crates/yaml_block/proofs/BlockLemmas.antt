@@ -9,8 +9,8 @@ use Rattle.yaml_text.specs.grammar.Tags.{Handles, properties}
 use Rattle.yaml_text.specs.grammar.Events.{Props, no_props, seq_start, map_start, wrapped}
 use Rattle.yaml_text.specs.grammar.Nodes as nodes
 use Rattle.yaml_text.specs.grammar.Nodes.{yaml_part, json_part, block_part, compact_part, reads, seq_entry, map_entry, indented, block_node}
-use Rattle.yaml_scalar.proofs.BlockChains.{any_push}
-use Rattle.yaml_scalar.proofs.LineRuns.{indent_run, indent_place}
+use Rattle.yaml_text.proofs.Repeats.{any_push}
+use Rattle.yaml_text.proofs.LineRuns.{indent_run, indent_place}
 use Rattle.yaml_flow.specs.Keys.{ColonAfter}
 use Rattle.yaml_flow.specs.Lines.{IsBlock}
 use Rattle.yaml_flow.specs.FlowRules.{part_of, flow_from, opens, below}

@@ -6,9 +6,8 @@ ghost use Rattle.yaml_text.specs.grammar.Calls as calls;
 ghost use Rattle.yaml_text.specs.grammar.Separation.{s_l_comments, l_comment, StartsLine, AtEnd};
 ghost use Rattle.yaml_text.specs.Lines.{Uncut};
 
-use yaml_text::lines::{skip_blank, skip_comments as skip_lines};
-use yaml_text::lines::starts_line;
 use yaml_text::chars::Chars;
+use yaml_text::lines::{skip_blank, skip_comments as skip_lines, starts_line};
 use yaml_text::places::{accept, is_border};
 
 /// Whether a border cuts a CR LF in two.

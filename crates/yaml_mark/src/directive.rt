@@ -13,9 +13,9 @@ ghost use Rattle.yaml_mark.specs.DirectiveParts.{IsMalformed, Settles, Unsettled
 use crate::comments::skip_comments;
 use crate::runs::{Class, next_escaped, skip_escaped, skip_run};
 use crate::tag::skip_handle;
-use yaml_text::lines::skip_spaces;
 use yaml_text::chars::Chars;
 use yaml_text::fault::Fault;
+use yaml_text::lines::skip_spaces;
 use yaml_text::places::{accept, text_between};
 
 /// What a directive says.

@@ -9,8 +9,8 @@ use Rattle.yaml_text.specs.grammar.Tags.{Handles}
 use Rattle.yaml_text.specs.grammar.Directives.{directives}
 use Rattle.yaml_text.specs.grammar.Calls.{read_directives}
 use Rattle.yaml_text.specs.grammar.Streams.{document_mark, explicit_document, directive_document, suffix, suffix_piece}
-use Rattle.yaml_scalar.specs.BlockRules.{AfterLine}
-use Rattle.yaml_scalar.proofs.LineRuns.{line_end_after}
+use Rattle.yaml_text.specs.Lines.{AfterLine}
+use Rattle.yaml_text.proofs.LineRuns.{line_end_after}
 use Rattle.yaml_text.specs.declared.fault.Fault.{Fault}
 use Rattle.yaml_text.specs.declared.fault.Fault.TheVariants as fault
 use Rattle.yaml_mark.specs.Answer.{DirectivesRefuse}

@@ -18,7 +18,7 @@ use yaml_flow::fault::unusable;
 use yaml_flow::line::{Line, first_line, next_line};
 use yaml_mark::directives::read_directives;
 use yaml_mark::handles::Handles;
-use yaml_scalar::line::{is_mark_of, starts_line};
+use yaml_text::lines::{is_mark_of, starts_line};
 use yaml_text::chars::Chars;
 use yaml_text::event::Event;
 use yaml_text::fault::Fault;

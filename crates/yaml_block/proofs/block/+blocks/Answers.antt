@@ -9,7 +9,7 @@ use Rattle.yaml_text.specs.grammar.Rules.{◌▸◌}
 use Rattle.yaml_text.specs.grammar.Separation.{s_l_comments, flow_out, block_key, block_in, block_out, indent}
 use Rattle.yaml_text.specs.grammar.Tags.{Handles}
 use Rattle.yaml_text.specs.grammar.Events.{empty, seq_start, map_start}
-use Rattle.yaml_scalar.proofs.OutcomeLemmas.{on_true_at, on_false_at}
+use Rattle.yaml_text.proofs.Tests.{on_true_at, on_false_at}
 use Rattle.yaml_mark.specs.HandlesModel.{handles_of}
 use Rattle.yaml_flow.specs.Lines.{IsLine, IsDash}
 use Rattle.yaml_flow.specs.Keys.{ColonAfter}

@@ -1,7 +1,7 @@
 use Rattle.std.proofs.Common.{inr, arith}
 use Rattle.yaml_text.specs.Source.{text_of}
-use Rattle.yaml_scalar.proofs.LineRuns.{indent_run, indent_place}
-use Rattle.yaml_scalar.proofs.OutcomeLemmas.{on_false_at}
+use Rattle.yaml_text.proofs.LineRuns.{indent_run, indent_place}
+use Rattle.yaml_text.proofs.Tests.{on_false_at}
 use Rattle.yaml_block.proofs.block.content_start.Goals as goal
 
 pub returns-clause-follows : goal.returns-clause-follows

@@ -1,5 +1,5 @@
 use Rattle.yaml_text.specs.Source.{text_of}
-use Rattle.yaml_scalar.proofs.LineRuns.{indent_run}
+use Rattle.yaml_text.proofs.LineRuns.{indent_run}
 use Rattle.yaml_block.proofs.block.first_colon.Goals as goal
 
 pub returns-in-Fits-clause-colon : goal.returns-in-Fits-clause-colon

@@ -1,6 +1,6 @@
 use Rattle.yaml_mark.specs.HandlesModel.{handles_of}
 use Rattle.yaml_text.specs.Source.{text_of}
-use Rattle.yaml_scalar.proofs.LineRuns.{indent_run}
+use Rattle.yaml_text.proofs.LineRuns.{indent_run}
 use Rattle.yaml_block.proofs.BlockLemmas.{colon_key}
 use Rattle.yaml_block.proofs.block.read_key.Goals as goal
 

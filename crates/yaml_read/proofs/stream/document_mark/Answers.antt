@@ -1,7 +1,7 @@
 use Rattle.std.proofs.Common.{arith}
 use Rattle.yaml_text.specs.Source.{text_of}
-use Rattle.yaml_scalar.proofs.OutcomeLemmas.{on_true_at}
-use Rattle.yaml_scalar.proofs.GapLemmas.{mark_is_of}
+use Rattle.yaml_text.proofs.Tests.{on_true_at}
+use Rattle.yaml_text.proofs.Breaks.{mark_is_of}
 use Rattle.yaml_read.proofs.StreamLemmas.{mark_here}
 use Rattle.yaml_read.proofs.stream.document_mark.Goals as goal
 

@@ -1,7 +1,7 @@
 use Rattle.std.proofs.Common.{◌≡◌, ◌+◌, ◌-◌, ◌*◌, map, false, length, if◌then◌else◌}
 use Rattle.yaml_text.specs.EventModel.{event_of}
 use Rattle.yaml_text.specs.Source.{bytes_of, text_of, place_of}
-use Rattle.yaml_scalar.specs.BlockRules.{AfterLine}
+use Rattle.yaml_text.specs.Lines.{AfterLine}
 use Rattle.yaml_flow.specs.Lines.{IsLine}
 use Rattle.yaml_read.specs.Sofar.{IsSofar}
 use Rattle.yaml_read.proofs.stream.read_events.Given as goal
