@@ -196,6 +196,11 @@ module _ (cs : List ℕ) (handles : Handles) where
   before_own col column i m n p q o (spaced e r s l) a =
       inr (e, above_own col column i m e p q o r a, flow_separate cs col e n (sep_separate cs col e n s l))
 
+-- a block scalar's event gets its properties
+pub scalar_dressed : (cs : List ℕ) (p : Props) (col i j : ℕ) (es : List Event) → block_scalar_rest cs no_props col i j es → block_scalar_rest cs p col i j (dressed p es)
+scalar_dressed cs p col i j es (inl (t, r, e)) = inl (t, r, ap (dressed p) e)
+scalar_dressed cs p col i j es (inr (t, r, e)) = inr (t, r, ap (dressed p) e)
+
 module _ (cs : List ℕ) (Wide : Type 0) (handles : Handles) where
   -- a block scalar after its properties
   pub block_scalar : (room col : ℕ) (c : Ctx) (column other : Option ℕ) (i m n j : ℕ) (p q : Props) (es : List Event) → Outer cs handles col column i m p → Before cs handles m n q → Apart p q →

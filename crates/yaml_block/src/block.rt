@@ -28,13 +28,13 @@ use yaml_flow::line::{Line, has_content, line_at, next_line, skip_comments};
 use yaml_flow::properties::{Properties, dress, read_properties};
 use yaml_flow::push::{block_mapping, block_sequence, push_empty, push_scalar};
 use yaml_mark::handles::Handles;
-use yaml_text::lines::skip_spaces;
 use yaml_scalar::block::{read_folded, read_literal};
-use yaml_text::class::is_ns;
 use yaml_text::chars::Chars;
+use yaml_text::class::is_ns;
 use yaml_text::context::Ctx;
 use yaml_text::event::{Event, Style};
 use yaml_text::fault::Fault;
+use yaml_text::lines::skip_spaces;
 use yaml_text::places::{accept, next};
 
 /// The border after a dash that begins an entry, if one stands at a border.
@@ -118,6 +118,27 @@ enum Block {
     Folded,
 }
 
+/// A block scalar without its properties, and the line after it.
+fn read_bare_scalar<'a>(
+    alloc: Global,
+    source: &Chars<'a>,
+    at: usize,
+    block: Block,
+    col: usize,
+    out: &mut Vec<Event<'a>>,
+) -> Result<Line, Fault>
+    requires border { IsBorder source.now at }
+    requires low { col ≤ at }
+    ensures line { IfOk result (IsLine source.now) }
+    ensures onward { IfOk result (λ line. at ≤ line.start) }
+    ensures reads { Appends (λ _. block_scalar_rest (text_of source.now) no_props col) (place_of source.now at) (λ line. place_of source.now line.start) out.old.items out.new.items result }
+{
+    match block {
+        Block::Literal => read_literal_node(alloc, source, at, col, out),
+        Block::Folded => read_folded_node(alloc, source, at, col, out),
+    }
+}
+
 /// A block scalar with its properties, and the line after it.
 fn read_block_scalar<'a>(
     alloc: Global,
@@ -135,10 +156,7 @@ fn read_block_scalar<'a>(
     ensures reads { Appends (λ _. block_scalar_rest (text_of source.now) (props_of properties.entry) col) (place_of source.now at) (λ line. place_of source.now line.start) out.old.items out.new.items result }
 {
     let start = out.len();
-    let line = match block {
-        Block::Literal => read_literal_node(alloc, source, at, col, out)?,
-        Block::Folded => read_folded_node(alloc, source, at, col, out)?,
-    };
+    let line = read_bare_scalar(alloc, source, at, block, col, out)?;
     dress(out, start, properties);
     Ok(line)
 }

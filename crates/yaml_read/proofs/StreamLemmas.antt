@@ -3,7 +3,7 @@ use Rattle.std.proofs.Common.{◌≡◌, ℕ, ◌+◌, inl, inr, Some, List, [],
 use Rattle.std.specs.Prelude.{slice_get}
 use Rattle.yaml_text.specs.Limits.{open_limit}
 use Rattle.yaml_text.specs.Event.{Event, document_start}
-use Rattle.yaml_text.specs.grammar.Rules.{any_span, Spans}
+use Rattle.yaml_text.specs.grammar.Rules.{any_span, Spans, Rule, seen}
 use Rattle.yaml_text.specs.grammar.Separation.{StartsLine, AtEnd, MarkOf, l_comment, s_l_comments, s_b_comment}
 use Rattle.yaml_text.specs.grammar.Tags.{Handles}
 use Rattle.yaml_text.specs.grammar.Directives.{directives}
@@ -14,8 +14,18 @@ use Rattle.yaml_text.proofs.LineRuns.{line_end_after}
 use Rattle.yaml_text.specs.declared.fault.Fault.{Fault}
 use Rattle.yaml_text.specs.declared.fault.Fault.TheVariants as fault
 use Rattle.yaml_mark.specs.Answer.{DirectivesRefuse}
-use Rattle.yaml_flow.specs.Answer.{IsRefusal}
+use Rattle.yaml_flow.specs.Answer.{IsRefusal, Appends}
+use Rattle.yaml_flow.proofs.AnswerLemmas.{adds_on}
+use Rattle.yaml_text.specs.EventModel.{Adds}
+use Rattle.yaml_text.specs.declared.event.Event as code
+use Rattle.std.specs.Prelude.{Result, Ok, Err}
 use Rattle.yaml_read.specs.StreamRules.{opened_by_mark, opened_by_directives}
+
+-- an event that was put down before what a call puts down
+pub appends_after : {X : Type 0} (R : X → Rule (List Event)) (v : Event) (i : ℕ) (end : X → ℕ) (old mid new : List code.Event) (r : Result X Fault) → Adds old (v ∷ []) mid →
+    Appends R i end mid new r → Appends (λ x. seen (λ es. v ∷ es) (R x)) i end old new r
+appends_after R v i end old mid new (Ok x) first (es, a, p) = (v ∷ es, adds_on old mid new (v ∷ []) es first a, (es, p, refl))
+appends_after R v i end old mid new (Err e) first a = a
 
 -- the faults of directives are faults of the reader
 pub directives_refusal : (P : Type 0) (e : Fault) → DirectivesRefuse e P → IsRefusal e

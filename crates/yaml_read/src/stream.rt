@@ -18,10 +18,10 @@ use yaml_flow::fault::unusable;
 use yaml_flow::line::{Line, first_line, next_line};
 use yaml_mark::directives::read_directives;
 use yaml_mark::handles::Handles;
-use yaml_text::lines::{is_mark_of, starts_line};
 use yaml_text::chars::Chars;
 use yaml_text::event::Event;
 use yaml_text::fault::Fault;
+use yaml_text::lines::{is_mark_of, starts_line};
 use yaml_text::places::{accept, is_end};
 
 /// How a stream goes on at a line that is no comment.

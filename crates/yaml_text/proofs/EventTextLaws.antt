@@ -27,7 +27,7 @@ use Rattle.yaml_text.proofs.ProperLaws.{utf8_bytes, low}
 
 -- ---- names: no space and no LF stands in them
 
-abbrev Inner : List ℕ → Type 0
+abbrev pub Inner : List ℕ → Type 0
 Inner [] = Unit {0}
 Inner (b ∷ bs) = (b ≡ 32 → ⊥) × (b ≡ 10 → ⊥) × Inner bs
 
@@ -62,7 +62,7 @@ inner_encodes (c ∷ cs) h k =
     (λ e. let f : is_name 10 ≡ true = subst (λ z. is_name z ≡ true) e n in let g = sym f ∙ name_no_feed in absurd (cc)))
     (inner_encodes cs p.1 q.1)
 
-inner_name : (name : List ℕ) → IsAnchor name → Inner name
+pub inner_name : (name : List ℕ) → IsAnchor name → Inner name
 unfolding is_anchor
 inner_name name h =
     let p = and_both (is_utf8 name) (nat_le 1 (length name) && list_all is_anchor_char (chars name)) h in
@@ -71,7 +71,7 @@ inner_name name h =
     subst Inner (encodes-chars name u) (inner_encodes (chars name) (scalars-chars name u) q.1)
 
 -- where a name ends
-abbrev Ends : List ℕ → Type 0
+abbrev pub Ends : List ℕ → Type 0
 Ends [] = ⊥
 Ends (c ∷ cs) = (c ≡ 32) ⊎ (c ≡ 10)
 
@@ -79,7 +79,7 @@ no_end : (x : ℕ) (xs r : List ℕ) → Inner (x ∷ xs) → Ends (x ∷ r) →
 no_end x xs r m (inl e) = m.0 e
 no_end x xs r m (inr e) = m.1 e
 
-name_once : (xs ys r s : List ℕ) → Inner xs → Inner ys → Ends r → Ends s → xs ++ r ≡ ys ++ s → (xs ≡ ys) × (r ≡ s)
+pub name_once : (xs ys r s : List ℕ) → Inner xs → Inner ys → Ends r → Ends s → xs ++ r ≡ ys ++ s → (xs ≡ ys) × (r ≡ s)
 name_once [] [] r s m n a b e = (refl, e)
 name_once [] (y ∷ ys) r s m n a b e = absurd (no_end y ys (ys ++ s) n (subst Ends e a))
 name_once (x ∷ xs) [] r s m n a b e = absurd (no_end x xs (xs ++ r) m (subst Ends (sym e) b))
@@ -111,7 +111,7 @@ mark_is : (s : List ℕ) → encoded (33 ∷ []) (62 ∷ s) ≡ 33 ∷ 62 ∷ s
 unfolding spell_byte is_uri is_word
 mark_is s = refl
 
-bytes_of_tag : (g : List ℕ) → IsTag g → AreBytes g
+pub bytes_of_tag : (g : List ℕ) → IsTag g → AreBytes g
 unfolding is_full
 bytes_of_tag g h = utf8_bytes g (and_both (is_utf8 g) _ h).0
 
@@ -127,7 +127,7 @@ not_mark g h e =
 full_once : (g h r s : List ℕ) → IsTag g → IsTag h → encoded g (62 ∷ []) ++ r ≡ encoded h (62 ∷ []) ++ s → (g ≡ h) × (r ≡ s)
 full_once g h r s m n e = encoded_once g h r s (bytes_of_tag g m) (bytes_of_tag h n) (sym (encoded_more g (62 ∷ []) r) ∙ (e ∙ encoded_more h (62 ∷ []) s))
 
-full_mark : (g r s : List ℕ) → IsTag g → encoded g (62 ∷ []) ++ r ≡ 33 ∷ 62 ∷ s → ⊥
+pub full_mark : (g r s : List ℕ) → IsTag g → encoded g (62 ∷ []) ++ r ≡ 33 ∷ 62 ∷ s → ⊥
 full_mark g r s m e =
     not_mark g m (encoded_once g (33 ∷ []) r s (bytes_of_tag g m) (omega arith, tt) (sym (encoded_more g (62 ∷ []) r) ∙ (e ∙ sym (mark_is s)))).0
 
@@ -202,18 +202,18 @@ end_flag true true r s e = (refl, tails (tails (tails (tails (tails e)))))
 
 -- ---- values
 
-abbrev read_escape : List ℕ → ℕ × List ℕ
+abbrev pub read_escape : List ℕ → ℕ × List ℕ
 read_escape [] = (0, [])
 read_escape (c ∷ r) = (cond (c == 110) 10 (cond (c == 116) 9 (cond (c == 114) 13 (cond (c == 98) 8 92))), r)
 
-abbrev read_value : List ℕ → ℕ × List ℕ
+abbrev pub read_value : List ℕ → ℕ × List ℕ
 read_value [] = (0, [])
 read_value (c ∷ r) = cond (c == 92) (read_escape r) (c, r)
 
-abbrev Back : ℕ → List ℕ → List ℕ → Type 0
+abbrev pub Back : ℕ → List ℕ → List ℕ → Type 0
 Back b r z = read_value (z ++ r) ≡ (b, r)
 
-read_spelled : (b : ℕ) (r : List ℕ) → Back b r (value_byte b)
+pub read_spelled : (b : ℕ) (r : List ℕ) → Back b r (value_byte b)
 unfolding value_byte
 read_spelled b r =
     cond_both (b == 92) _ _ (Back b r) (λ e. ap (λ z. (z, r)) (sym (eqb-true b 92 e))) (λ n.
@@ -262,7 +262,7 @@ style_rest double r s e = tails (tails e)
 style_rest literal r s e = tails (tails e)
 style_rest folded r s e = tails (tails e)
 
-style_once : (y w : Style) (r s : List ℕ) → style_text y ++ r ≡ style_text w ++ s → (y ≡ w) × (r ≡ s)
+pub style_once : (y w : Style) (r s : List ℕ) → style_text y ++ r ≡ style_text w ++ s → (y ≡ w) × (r ≡ s)
 style_once y w r s e =
     let p : y ≡ w = sym (style_back y r) ∙ (ap style_of e ∙ style_back w s) in
     (p, style_rest w r s (subst (λ z. style_text z ++ r ≡ style_text w ++ s) p e))
@@ -277,11 +277,11 @@ style_follows folded r = (λ q. omega arith, λ q. omega arith, λ q. omega arit
 -- ---- lines
 
 -- the first three bytes tell the kind of event
-abbrev seen : List ℕ → ℕ
+abbrev pub seen : List ℕ → ℕ
 seen (a ∷ b ∷ c ∷ r) = a * 65536 + b * 256 + c
 seen _ = 0
 
-seen_more : (e : Event) (r : List ℕ) → seen (event_line e ++ r) ≡ seen (event_line e)
+pub seen_more : (e : Event) (r : List ℕ) → seen (event_line e ++ r) ≡ seen (event_line e)
 unfolding event_line
 seen_more stream_start r = refl
 seen_more stream_end r = refl
@@ -305,7 +305,7 @@ scalar_line : (a : Anchor) (g : WrittenTag) (y x r : List ℕ) → (anchor_part 
 scalar_line a g y x r =
     append_assoc (anchor_part a) (tag_part g ++ (y ++ x)) r ∙ ap (λ z. anchor_part a ++ z) (append_assoc (tag_part g) (y ++ x) r ∙ ap (λ z. tag_part g ++ z) (append_assoc y x r))
 
-line_once : (e f : Event) (r s : List ℕ) → IsSound e → IsSound f → event_line e ++ (10 ∷ r) ≡ event_line f ++ (10 ∷ s) → (e ≡ f) × (r ≡ s)
+pub line_once : (e f : Event) (r s : List ℕ) → IsSound e → IsSound f → event_line e ++ (10 ∷ r) ≡ event_line f ++ (10 ∷ s) → (e ≡ f) × (r ≡ s)
 unfolding event_line
 line_once stream_start stream_start r s m n e = (refl, tails (four e))
 line_once stream_end stream_end r s m n e = (refl, tails (four e))

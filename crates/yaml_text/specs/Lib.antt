@@ -29,3 +29,5 @@ pub mod Fault
 pub mod grammar
 pub mod TextLaws
 pub mod Lines
+pub mod Count
+pub mod CountedModel

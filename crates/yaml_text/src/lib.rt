@@ -4,6 +4,7 @@
 pub mod chars;
 pub mod class;
 pub mod context;
+pub mod counted;
 pub mod event;
 pub mod fault;
 pub mod grammar_laws;

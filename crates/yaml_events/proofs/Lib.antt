@@ -1,0 +1,10 @@
+pub mod Pushes
+pub mod TagText
+pub mod ValueText
+pub mod ValueReading
+pub mod LineText
+pub mod Names
+pub mod Tags
+pub mod Reading
+pub mod Lines
+pub mod FirstBad

@@ -1,0 +1,7 @@
+-- What stands in a text after something was put at its end.
+use Rattle.std.proofs.Common.{◌≡◌, ℕ, List, Result, Err, ◌∙◌}
+use Rattle.std.specs.Prelude.{Ok, is_ok, OnOk, if◌then◌else◌}
+
+pub pushed : {T E : Type 0} (r : Result T E) (new all old x : List ℕ) → new ≡ (if is_ok r then all else old) → all ≡ x → OnOk r (new ≡ x)
+pushed (Ok u) new all old x e f = e ∙ f
+pushed (Err u) new all old x e f = tt

@@ -1,0 +1,37 @@
+-- A value, byte by byte.
+use Rattle.std.proofs.Common.{◌≡◌, ◌<◌, ◌≤◌, ◌-◌, ◌+◌, ℕ, List, [], ◌∷◌, ◌++◌, length, take, drop, get_or, refl, sym, ap, ◌∙◌, arith, append_assoc}
+use Rattle.std.proofs.lemmas.List.{append-nil, take_more, length-drop, get_or-drop}
+use Rattle.yaml_text.specs.EventText.{value_byte, value_text}
+
+pub value_append : (xs ys : List ℕ) → value_text (xs ++ ys) ≡ value_text xs ++ value_text ys
+value_append [] ys = refl
+value_append (x ∷ xs) ys = ap (λ z. value_byte x ++ z) (value_append xs ys) ∙ sym (append_assoc (value_byte x) (value_text xs) (value_text ys))
+
+-- a byte more of a text, and of the run from `start` to `i`
+pub value_more : (text : List ℕ) (i : ℕ) → i < length text → value_text (take (i + 1) text) ≡ value_text (take i text) ++ value_byte (get_or text i 0)
+value_more text i h =
+    ap value_text (take_more text i 0 h) ∙ value_append (take i text) (get_or text i 0 ∷ []) ∙ ap (λ z. value_text (take i text) ++ z) (append-nil (value_byte (get_or text i 0)))
+
+pub run_more : (text : List ℕ) (start i : ℕ) → start ≤ i → i < length text → take (i + 1 - start) (drop start text) ≡ take (i - start) (drop start text) ++ (get_or text i 0 ∷ [])
+run_more text start i h k =
+    let n : i + 1 - start ≡ (i - start) + 1 = omega arith in
+    let m : i - start < length (drop start text) = omega (arith, length-drop start text) in
+    let p : start + (i - start) ≡ i = omega arith in
+    ap (λ z. take z (drop start text)) n ∙ take_more (drop start text) (i - start) 0 m
+    ∙ ap (λ z. take (i - start) (drop start text) ++ (z ∷ [])) (get_or-drop start text (i - start) 0 ∙ ap (λ z. get_or text z 0) p)
+
+-- what is written of a text with the run that is not written yet, a byte further: one that stands for itself, and an escape
+pub spelled_on : (text old out : List ℕ) (start i : ℕ) → start ≤ i → i < length text → value_byte (get_or text i 0) ≡ get_or text i 0 ∷ []
+    → out ++ take (i - start) (drop start text) ≡ old ++ value_text (take i text) → out ++ take (i + 1 - start) (drop start text) ≡ old ++ value_text (take (i + 1) text)
+spelled_on text old out start i h k v e =
+    ap (λ z. out ++ z) (run_more text start i h k) ∙ sym (append_assoc out (take (i - start) (drop start text)) (get_or text i 0 ∷ []))
+    ∙ ap (λ z. z ++ (get_or text i 0 ∷ [])) e ∙ append_assoc old (value_text (take i text)) (get_or text i 0 ∷ [])
+    ∙ ap (λ z. old ++ z) (ap (λ z. value_text (take i text) ++ z) (sym v) ∙ sym (value_more text i k))
+
+pub spelled_escape : (text old out run escape pushed new : List ℕ) (start i : ℕ) → i < length text → escape ≡ value_byte (get_or text i 0) → run ≡ take (i - start) (drop start text)
+    → out ++ take (i - start) (drop start text) ≡ old ++ value_text (take i text) → pushed ≡ out ++ run → new ≡ pushed ++ escape
+    → new ++ take (i + 1 - (i + 1)) (drop (i + 1) text) ≡ old ++ value_text (take (i + 1) text)
+spelled_escape text old out run escape pushed new start i k v r e p q =
+    let z : i + 1 - (i + 1) ≡ 0 = omega arith in
+    ap (λ n. new ++ take n (drop (i + 1) text)) z ∙ append-nil new ∙ q ∙ ap (λ x. x ++ escape) (p ∙ ap (λ x. out ++ x) r ∙ e)
+    ∙ append_assoc old (value_text (take i text)) escape ∙ ap (λ x. old ++ x) (ap (λ x. value_text (take i text) ++ x) v ∙ sym (value_more text i k))

@@ -1,0 +1,38 @@
+use Rattle.std.proofs.Common.{◌≡◌, ◌<◌, ◌++◌, ℕ, ◌+◌, ◌-◌, length, List, [], ◌∷◌, arith, rules, ap, ◌∙◌, sym, subst, take, drop, get_or}
+use Rattle.std.specs.Str.{IsCharBoundary}
+use Rattle.std.specs.String.{string_bytes}
+use Rattle.std.proofs.lemmas.Str.{IsCharBoundary-start, IsCharBoundary-after_ascii}
+use Rattle.yaml_text.specs.EventText.{value_byte, value_text}
+use Rattle.yaml_events.proofs.ValueText.{spelled_on, spelled_escape}
+use Rattle.yaml_events.proofs.value.push_value.Goals as goal
+use Rattle.yaml_events.proofs.value.push_value.Goals.{in-Some+in_ok-push_str+in_ok-push_str-2, in_default}
+
+pub spell-init : goal.spell-init
+spell-init c = record { run = omega arith; border = IsCharBoundary-start c.args.text.now c.utf8.text; spells = search rules }
+
+pub spell-preserved : goal.spell-preserved
+spell-preserved c =
+    let text : List ℕ = c.args.text.now in
+    let at : ℕ = c.spell.at in
+    let old : List ℕ = string_bytes c.args.out.now in
+    let h = c.spell.invariant in
+    let same : get_or c.as_bytes-byte-items.result.now at 0 ≡ get_or text at 0 = ap (λ xs. get_or xs at 0) c.as_bytes-byte-items.ensures.value in
+    let within : at < length text = omega (arith, c.spell-test.true, c.as_bytes-byte-items.ensures.len) in
+    let Goes : List ℕ → ℕ → Type 0 = λ out run. out ++ take (at + 1 - run) (drop run text) ≡ old ++ value_text (take (at + 1) text) in
+    elim c.match-escape_of.branch [
+      | in-Some+in_ok-push_str+in_ok-push_str-2 w ↦
+          let s = w.in-Some.ensures in
+          record {
+            run = omega (arith, w.run-is);
+            border = subst (IsCharBoundary text) (sym w.run-is) (IsCharBoundary-after_ascii text at c.utf8.text within (omega (arith, same, s.1)));
+            spells = subst (Goes (string_bytes c.match-escape_of.out)) (sym w.run-is) (subst (λ o. Goes (string_bytes o) (at + 1)) (sym w.out-is)
+                (spelled_escape text old _ _ _ _ _ c.spell.run at within (s.0 ∙ ap value_byte same) w.range.ensures.value h.spells w.in_ok-push_str.ensures.bytes w.in_ok-push_str-2.ensures.bytes));
+          }
+      | in_default w ↦
+          record {
+            run = omega (arith, w.run-is, h.run);
+            border = subst (IsCharBoundary text) (sym w.run-is) h.border;
+            spells = subst (Goes (string_bytes c.match-escape_of.out)) (sym w.run-is) (subst (λ o. Goes (string_bytes o) c.spell.run) (sym w.out-is)
+                (spelled_on text old _ c.spell.run at h.run within (subst (λ b. value_byte b ≡ b ∷ []) same w.in_default.ensures) h.spells));
+          }
+    ]

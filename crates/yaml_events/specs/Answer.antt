@@ -1,0 +1,30 @@
+-- What the reading of an event text, and of its parts, answers.
+use Rattle.std.specs.Prelude.{◌≡◌, ℕ, List, Result, Ok, Err}
+use Rattle.percent_encoding.specs.declared.DecodeError.{DecodeError}
+use Rattle.percent_encoding.specs.declared.DecodeError.TheVariants as decoding
+use Rattle.yaml_events.specs.declared.fault.EventFault.{EventFault}
+use Rattle.yaml_events.specs.declared.fault.EventFault.TheVariants as text_faults
+use Rattle.yaml_events.specs.declared.fault.LineFault.{LineFault}
+use Rattle.yaml_events.specs.declared.fault.LineFault.TheVariants.{NoEvent, OutOfMemory}
+use Rattle.yaml_events.specs.Lines.{IsFirstBadLine}
+
+-- the fault of a line, as that of the text
+abbrev pub fault_of : LineFault → ℕ → EventFault
+fault_of NoEvent number = text_faults.BadLine number
+fault_of OutOfMemory number = text_faults.OutOfMemory
+
+-- bytes that are not UTF-8 make no tag
+abbrev pub decoding_fault : DecodeError → LineFault
+decoding_fault (decoding.Utf8 place) = NoEvent
+decoding_fault decoding.OutOfMemory = OutOfMemory
+
+-- A bad line is the first one; of want of memory nothing is said.
+abbrev pub IsRefused : List ℕ → EventFault → Type 0
+IsRefused text (text_faults.BadLine number) = IsFirstBadLine text number
+IsRefused text text_faults.OutOfMemory = Unit {0}
+
+-- The answer is one of the things looked for, and the only one that may be expected there; or nothing may be.
+abbrev pub Reads : {T A : Type 0} → (A → Type 0) → (A → Type 0) → (T → A) → Result T LineFault → Type 0
+Reads {A = A} Is Expected view (Ok x) = Is (view x) × ((a : A) → Expected a → view x ≡ a)
+Reads {A = A} Is Expected view (Err NoEvent) = (a : A) → Expected a → ⊥
+Reads Is Expected view (Err OutOfMemory) = Unit {0}

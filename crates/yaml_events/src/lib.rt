@@ -1,0 +1,14 @@
+//! Events as text, one line for each, and back.
+#![tactic(auto)]
+
+mod fault;
+mod line;
+mod name;
+mod reader;
+mod tag;
+mod value;
+mod writer;
+
+pub use fault::EventFault;
+pub use reader::read_event_text;
+pub use writer::write_events;

@@ -1,0 +1,35 @@
+//! Events, read from their lines.
+ghost use Rattle.std.specs.Prelude.{◌≡◌, IfOk, IfErr, map};
+ghost use Rattle.yaml_text.specs.EventModel.{event_of};
+ghost use Rattle.yaml_text.specs.EventText.{EventText};
+ghost use Rattle.yaml_events.specs.Answer.{IsRefused};
+
+use crate::fault::EventFault;
+use crate::line::read_line;
+use std::alloc::Global;
+use yaml_text::event::Event;
+
+/// The events whose text this is: one for each line, in the notation of yaml-test-suite.
+///
+/// Each line is ended by LF and has one spelling, that of `write_events`. `BadLine` names the
+/// first line, from 1, that is no event's; a last line without LF is none. How the events nest is
+/// not looked at. Names, tags and texts are slices where they stand in the text as they are.
+pub fn read_event_text<'a>(alloc: Global, text: &'a str) -> Result<Vec<Event<'a>>, EventFault>
+    ensures events { IfOk result (λ v. EventText text.now (map event_of v.items)) }
+    ensures refused { IfErr result (IsRefused text.now) }
+{
+    let mut events = Vec::new(alloc);
+    let mut rest = text;
+    'lines: while !rest.is_empty() {
+        let number = events.len() + 1;
+        let Some((line, after)) = rest.split_once('\n') else {
+            return Err(EventFault::BadLine(number));
+        };
+        match read_line(alloc, line) {
+            Ok(event) => events.push(event)?,
+            Err(fault) => return Err(fault.of_line(number)),
+        }
+        rest = after;
+    }
+    Ok(events)
+}

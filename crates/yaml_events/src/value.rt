@@ -1,0 +1,89 @@
+//! The values of event lines: a scalar's text, in which five characters are escaped.
+ghost use Rattle.std.specs.Prelude.{◌≡◌, ◌<◌, ◌++◌, [], ◌∷◌, MatchOption, OnOk, IfOk, ◌≢◌, ℕ};
+ghost use Rattle.std.specs.Str.{IsUtf8};
+ghost use Rattle.std.specs.String.{string_bytes};
+ghost use Rattle.std.specs.Cow.{cow_str_bytes};
+ghost use Rattle.yaml_text.specs.EventText.{value_byte, value_text};
+ghost use Rattle.yaml_events.specs.Answer.{Reads};
+
+use crate::fault::LineFault;
+use std::alloc::{AllocError, Global};
+use std::borrow::CowStr;
+
+/// The escape of a byte that no value has as itself.
+#[tactic(auto, unfolding(yaml_text::specs::EventText::value_byte))]
+fn escape_of(byte: u8) -> Option<&'static str>
+    ensures { MatchOption result (value_byte byte ≡ byte ∷ []) (λ text. (text.now ≡ value_byte byte) × (byte < 128) × (value_byte byte ≢ byte ∷ [])) }
+{
+    match byte {
+        b'\\' => Some("\\\\"),
+        b'\n' => Some("\\n"),
+        b'\t' => Some("\\t"),
+        b'\r' => Some("\\r"),
+        0x08 => Some("\\b"),
+        _ => None,
+    }
+}
+
+/// Appends a text as a value, by runs of what stands for itself.
+pub fn push_value(text: &str, out: &mut String) -> Result<(), AllocError>
+    ensures { OnOk result (string_bytes out.new ≡ string_bytes out.old ++ value_text text.now) }
+{
+    let mut run = 0;
+    'spell: for (at, byte) in text.as_bytes().iter().enumerate() {
+        if let Some(escape) = escape_of(*byte) {
+            out.push_str(&text[run..at])?;
+            out.push_str(escape)?;
+            run = at + 1;
+        }
+    }
+    out.push_str(&text[run..])
+}
+
+/// What a backslash and this byte stand for in a value.
+#[tactic(auto, unfolding(yaml_text::specs::EventText::value_byte))]
+fn unescape(byte: u8) -> Option<char>
+    ensures { MatchOption result ((b : ℕ) → value_byte b ≢ 92 ∷ byte ∷ []) (λ c. (value_byte c ≡ 92 ∷ byte ∷ []) × (byte < 128) × (c < 128)) }
+{
+    match byte {
+        b'\\' => Some('\\'),
+        b'n' => Some('\n'),
+        b't' => Some('\t'),
+        b'r' => Some('\r'),
+        b'b' => Some('\u{8}'),
+        _ => None,
+    }
+}
+
+/// The text that a value stands for: a slice where nothing in it is escaped, else put together of runs.
+pub fn read_value<'a>(alloc: Global, value: &'a str) -> Result<CowStr<'a>, LineFault>
+    ensures reads { Reads (λ x. value.now ≡ value_text x) (λ x. value.now ≡ value_text x) cow_str_bytes result }
+    ensures utf8 { IfOk result (λ x. IsUtf8 (cow_str_bytes x)) }
+{
+    let mut out = String::new(alloc);
+    let mut run = 0;
+    let mut escaped = false;
+    'read: for (at, byte) in value.as_bytes().iter().enumerate() {
+        if escaped {
+            let Some(c) = unescape(*byte) else {
+                return Err(LineFault::NoEvent);
+            };
+            out.push(c)?;
+            run = at + 1;
+            escaped = false;
+        } else if *byte == b'\\' {
+            out.push_str(&value[run..at])?;
+            escaped = true;
+        } else if escape_of(*byte).is_some() {
+            return Err(LineFault::NoEvent);
+        }
+    }
+    if escaped {
+        return Err(LineFault::NoEvent);
+    }
+    if run == 0 {
+        return Ok(CowStr::Borrowed(value));
+    }
+    out.push_str(&value[run..])?;
+    Ok(CowStr::Owned(out))
+}
