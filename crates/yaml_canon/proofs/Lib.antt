@@ -12,3 +12,4 @@ mod Linking
 mod NamesLaws
 mod DocumentLaws
 mod ClaimLaws
+mod CompareLaws

@@ -107,3 +107,7 @@ module _ {S O : Type 0} (holds : S → O → Began → List ℕ → Type 0) wher
 pub if_ok : {T E : Type 0} {P Q R : T → Type 0} (r : Result T E) → IfOk r P → IfOk r Q → ((x : T) → P x → Q x → R x) → IfOk r R
 if_ok (Ok x) h k f = f x h k
 if_ok (Err e) h k f = h
+
+pub if_one : {T E : Type 0} {P Q : T → Type 0} (r : Result T E) → IfOk r P → ((x : T) → P x → Q x) → IfOk r Q
+if_one (Ok x) h f = f x h
+if_one (Err e) h f = h

@@ -12,3 +12,4 @@ pub mod Anchored
 pub mod Repeats
 pub mod Documents
 pub mod Claims
+pub mod Comparing

@@ -1,6 +1,7 @@
 //! The canonical text of a YAML stream, and whether two streams are the same.
 #![tactic(auto)]
 
+pub mod comparer;
 mod length;
 mod names;
 mod page;
@@ -13,6 +14,7 @@ pub mod spell;
 mod text;
 mod walk;
 
+pub use comparer::same;
 pub use presenter::canonical;
 pub use side::Side;
 pub use spell::canonical_len;

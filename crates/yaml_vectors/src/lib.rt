@@ -7,3 +7,5 @@ mod mappings;
 mod rows;
 #[cfg(test)]
 mod sequences;
+#[cfg(test)]
+mod worked;

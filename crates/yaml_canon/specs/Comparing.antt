@@ -1,0 +1,77 @@
+-- What `same` promises.
+use Rattle.std.specs.Prelude.{◌≡◌, ◌↔◌, ◌<◌, ◌≤◌, ◌+◌, ◌-◌, ℕ, Bool, true, cond, nat_le, List, length, Ok}
+use Rattle.std.specs.Cmp.Lexicographic.{pointwise}
+use Rattle.yaml_text.specs.Same.{Alike, same, Keyed}
+use Rattle.yaml_text.specs.Tree.{Tree}
+use Rattle.yaml_text.specs.Means.{Means}
+use Rattle.yaml_text.specs.Marked.{Document}
+use Rattle.yaml_text.specs.declared.fault.Fault.{Fault}
+use Rattle.yaml_text.specs.declared.fault.Fault.TheVariants.{EqualKeys, TextTooLong, OutOfMemory}
+use Rattle.yaml_graph.specs.Composed.{Composed, RefusesStream}
+use Rattle.yaml_graph.specs.GraphView.{nodes_of, tree, forest}
+use Rattle.yaml_graph.specs.JoinModel.{Joined}
+use Rattle.yaml_graph.specs.declared.graph.Graph.{Graph}
+use Rattle.yaml_rank.specs.RanksView.{RefusesGraph}
+use Rattle.yaml_canon.specs.declared.side.Side.{Side}
+use Rattle.yaml_canon.specs.declared.side.Side.TheVariants.{Left, Right}
+use Rattle.yaml_canon.specs.Claims.{AllOf, Accepted, IsRead, CanonicalRefuses}
+
+-- The two streams are accepted, and the answer is whether they have equally many documents, pairwise the same.
+pub record Compares (left right : List ℕ) (answer : Bool) : Type 0 where
+  pub first : List Tree
+  pub second : List Tree
+  pub first_accepted : Accepted left first
+  pub second_accepted : Accepted right second
+  pub tells : (answer ≡ true) ↔ Alike first second
+
+-- the side and the fault, where so many nodes are the left side's
+abbrev pub told_at : ℕ → Fault → Side × Fault
+told_at nodes (EqualKeys node i j) = cond (nat_le nodes node) (Right, EqualKeys (node - nodes) i j) (Left, EqualKeys node i j)
+told_at nodes fault = (Left, fault)
+
+-- Of all mappings of both sides' documents this one, told with its number on its side, is the first with two equal keys.
+pub record HasEqualKeys (first second : List Document) (side : Side) (fault : Fault) : Type 0 where
+  pub first_graph : Graph
+  pub second_graph : Graph
+  pub both : Graph
+  pub first_composed : Composed first first_graph
+  pub second_composed : Composed second second_graph
+  pub joined : Joined first_graph second_graph both
+  pub refused : Fault
+  pub refuses : RefusesGraph both refused
+  pub told : (side, fault) ≡ told_at (length (nodes_of first_graph)) refused
+
+-- the documents have a graph
+abbrev pub IsComposable : List Document → Type 0
+IsComposable ds = (g : Graph) × Composed ds g
+
+-- The documents' trees have no equal keys, and the answer is whether they are equally many, pairwise the same.
+pub record ComparesDocuments (first second : List Document) (answer : Bool) : Type 0 where
+  pub first_graph : Graph
+  pub second_graph : Graph
+  pub first_composed : Composed first first_graph
+  pub second_composed : Composed second second_graph
+  pub first_keyed : (i : ℕ) → i < length (nodes_of first_graph) → Keyed (tree first_graph i)
+  pub second_keyed : (i : ℕ) → i < length (nodes_of second_graph) → Keyed (tree second_graph i)
+  pub tells : answer ≡ pointwise same (forest first_graph) (forest second_graph)
+
+-- why the documents of two sides are not compared
+abbrev pub RefusesDocuments : List Document → List Document → Side → Fault → Type 0
+RefusesDocuments first second side (EqualKeys node i j) = HasEqualKeys first second side (EqualKeys node i j)
+RefusesDocuments first second Left fault = RefusesStream first fault
+RefusesDocuments first second Right fault = RefusesStream second fault
+
+-- both sides are read as documents with equal keys
+abbrev pub ReadWithEqualKeys : List ℕ → List ℕ → Side → Fault → Type 0
+ReadWithEqualKeys left right side fault = (ds : List Document) × (es : List Document) × IsRead left ds × IsRead right es × HasEqualKeys ds es side fault
+
+-- the bytes are read as documents that the composer does not refuse
+abbrev pub IsComposed : List ℕ → Type 0
+IsComposed bytes = (ds : List Document) × IsRead bytes ds × IsComposable ds
+
+-- What a refusal by `same` says. The left side is judged first: where the right one is refused, the left one was composed.
+abbrev pub ComparerRefuses : List ℕ → List ℕ → Side → Fault → Type 0
+ComparerRefuses left right side (EqualKeys node i j) = ReadWithEqualKeys left right side (EqualKeys node i j)
+ComparerRefuses left right side TextTooLong = ⊥
+ComparerRefuses left right Left fault = CanonicalRefuses left fault
+ComparerRefuses left right Right fault = CanonicalRefuses right fault × IsComposed left

@@ -1,0 +1,119 @@
+//! Whether two streams are the same.
+ghost use Rattle.std.specs.Prelude.{◌≡◌, ◌⊎◌, ◌≤◌, ◌<◌, ℕ, List, true, Ok, Err, map, take, drop, length, OnOk, IfOk, IfErr};
+ghost use Rattle.std.specs.Result.{IsErrAnd};
+ghost use Rattle.std.specs.Cmp.Lexicographic.{pointwise};
+ghost use Rattle.yaml_text.specs.Text.{Text, RefusesText};
+ghost use Rattle.yaml_text.specs.Same.{same};
+ghost use Rattle.yaml_graph.specs.GraphView.{nodes_of, roots_of, tree};
+ghost use Rattle.yaml_rank.specs.RanksView.{RanksAre};
+ghost use Rattle.yaml_canon.specs.declared.side.Side.TheVariants.{Left, Right};
+ghost use Rattle.yaml_canon.specs.Comparing.{Compares, ComparerRefuses, told_at, ComparesDocuments, RefusesDocuments, IsComposable};
+ghost use Rattle.yaml_text.specs.EventModel.{event_of};
+ghost use Rattle.yaml_text.specs.Marked.{Document, stream_events};
+ghost use Rattle.yaml_graph.specs.Composed.{Composable, RefusesStream};
+
+use crate::side::Side;
+use std::alloc::Global;
+use yaml_graph::graph::Graph;
+use yaml_graph::{compose, join};
+use yaml_rank::rank;
+use yaml_rank::ranks::Ranks;
+use yaml_read::read_events;
+use yaml_text::chars::Chars;
+use yaml_text::event::Event;
+use yaml_text::fault::Fault;
+
+/// The answer for one side.
+fn on<T>(side: Side, answer: Result<T, Fault>) -> Result<T, (Side, Fault)>
+    ensures ok { IfOk result (λ value. answer ≡ Ok value) }
+    ensures err { IfErr result (λ refusal. (answer ≡ Err refusal.1) × (refusal.0 ≡ side)) }
+{
+    match answer {
+        Ok(value) => Ok(value),
+        Err(fault) => Err((side, fault)),
+    }
+}
+
+/// The side of a fault of the joined graph, of which so many nodes are the left side's. A mapping
+/// with equal keys has its number in its own side's graph.
+fn told(nodes: usize, fault: Fault) -> (Side, Fault)
+    ensures { result ≡ told_at nodes fault }
+{
+    if let Fault::EqualKeys(node, first, second) = fault {
+        if node >= nodes {
+            return (Side::Right, Fault::EqualKeys(node - nodes, first, second));
+        }
+    }
+    (Side::Left, fault)
+}
+
+/// Whether the roots from `middle` on are equally many as those before it, and of the same ranks.
+fn are_alike(graph: &Graph<'_>, ranks: &Ranks, middle: usize) -> bool
+    requires ranked { RanksAre graph.now ranks.now }
+    requires middle { middle ≤ length (roots_of graph.now) }
+    ensures { result ≡ pointwise same (map (λ i. tree graph.now i.0) (take middle (roots_of graph.now))) (map (λ i. tree graph.now i.0) (drop middle (roots_of graph.now))) }
+{
+    let (left, right) = graph.roots().split_at(middle);
+    if left.len() != right.len() {
+        return false;
+    }
+    for (place, root) in left.iter().enumerate() {
+        if ranks.of(*root) != ranks.of(right[place]) {
+            return false;
+        }
+    }
+    true
+}
+
+/// Refuses what the composer refuses (12 to 18).
+fn check(alloc: Global, events: &[Event<'_>]) -> Result<(), Fault>
+    requires { Composable events.now }
+    ensures ok { (ds : List Document) → map event_of events.now ≡ stream_events ds → OnOk result (IsComposable ds) }
+    ensures err { (ds : List Document) → map event_of events.now ≡ stream_events ds → IfErr result (RefusesStream ds) }
+{
+    compose(alloc, events)?;
+    Ok(())
+}
+
+/// Whether two streams' events stand for the same documents.
+fn compare<'e>(
+    alloc: Global,
+    first: &'e [Event<'_>],
+    second: &'e [Event<'_>],
+) -> Result<bool, (Side, Fault)>
+    requires first { Composable first.now }
+    requires second { Composable second.now }
+    ensures ok { (ds es : List Document) → map event_of first.now ≡ stream_events ds → map event_of second.now ≡ stream_events es → IfOk result (ComparesDocuments ds es) }
+    ensures err { (ds es : List Document) → map event_of first.now ≡ stream_events ds → map event_of second.now ≡ stream_events es → IfErr result (λ refusal. RefusesDocuments ds es refusal.0 refusal.1) }
+{
+    let left = on(Side::Left, compose(alloc, first))?;
+    let right = on(Side::Right, compose(alloc, second))?;
+    let nodes = left.len();
+    let middle = left.roots().len();
+    let both = on(Side::Left, join(left, right))?;
+    match rank(alloc, &both) {
+        Ok(ranks) => Ok(are_alike(&both, &ranks, middle)),
+        Err(fault) => Err(told(nodes, fault)),
+    }
+}
+
+/// Whether two streams have equally many documents, pairwise the same: aliases unfolded, mappings
+/// as sets of pairs, scalars by tag and content.
+///
+/// A refusal names the side, and is one of those of `canonical` but 20. The left side passes
+/// first what is judged of it alone (1 to 18), then the right one; then the keys of both are
+/// judged (19): told is the lower mapping with equal keys, or the left one. Want of memory after
+/// both sides were read is told as the left side's.
+pub fn same<'a>(alloc: Global, left: &'a [u8], right: &'a [u8]) -> Result<bool, (Side, Fault)>
+    ensures answer { IfOk result (λ answer. Compares left.now right.now answer) }
+    ensures refused { IfErr result (λ refusal. ComparerRefuses left.now right.now refusal.0 refusal.1) }
+    ensures no_left_text { ((cs : List ℕ) → Text left.now cs → ⊥) → IsErrAnd result (λ refusal. (refusal.0 ≡ Left) × RefusesText left.now refusal.1) }
+    ensures no_right_text { ((cs : List ℕ) → Text right.now cs → ⊥) → IsErrAnd result (λ refusal. (refusal.0 ≡ Left) ⊎ ((refusal.0 ≡ Right) × RefusesText right.now refusal.1)) }
+{
+    let first_source = on(Side::Left, Chars::read(left))?;
+    let first = on(Side::Left, read_events(alloc, &first_source))?;
+    on(Side::Left, check(alloc, &first))?;
+    let second_source = on(Side::Right, Chars::read(right))?;
+    let second = on(Side::Right, read_events(alloc, &second_source))?;
+    compare(alloc, &first, &second)
+}
