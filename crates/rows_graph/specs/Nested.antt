@@ -1,5 +1,5 @@
 -- Nodes and documents among events.
-use Rattle.std.specs.Prelude.{◌≡◌, ◌<◌, ◌≤◌, ℕ, zero, suc, Bool, true, not, List, [], ◌∷◌, length, map, drop}
+use Rattle.std.specs.Prelude.{◌≡◌, ◌<◌, ◌≤◌, ℕ, Bool, true, not, List, [], ◌∷◌, length, map, drop}
 use Rattle.yaml_text.specs.Event.{Event}
 use Rattle.yaml_text.specs.Marked.{Marked, flat, Document, documents_events}
 use Rattle.yaml_text.specs.EventModel.{event_of}

@@ -4,6 +4,7 @@ use Rattle.std.specs.Prelude.{slice_range}
 use Rattle.std.proofs.lemmas.Bool.{ne_eqb}
 use Rattle.std.proofs.lemmas.List.{take_more, drop_all, take_all}
 use Rattle.yaml_text.specs.Core.{is_empty, split_at}
+use Rattle.yaml_core.proofs.StateLemmas.{and_false}
 use Rattle.yaml_core.specs.Digits.{without_last_zeros}
 
 -- ---- cuts
@@ -12,7 +13,8 @@ use Rattle.yaml_core.specs.Digits.{without_last_zeros}
 abbrev pub after_front : List ℕ → List ℕ × Option (List ℕ) → List ℕ × Option (List ℕ)
 after_front x p = (x ++ p.0, p.1)
 
-next : (xs : List ℕ) (i : ℕ) → i < length xs → drop i xs ≡ get_or xs i 0 ∷ drop (i + 1) xs
+-- what is left begins with the character that stands there
+pub next : (xs : List ℕ) (i : ℕ) → i < length xs → drop i xs ≡ get_or xs i 0 ∷ drop (i + 1) xs
 next xs i h = rw add-one (drop-cons xs i 0 h)
 
 cut_no : (f : ℕ → Bool) (c : ℕ) (r : List ℕ) → f c ≡ false → split_at f (c ∷ r) ≡ (c ∷ (split_at f r).0, (split_at f r).1)
@@ -52,10 +54,6 @@ unfolding without_last_zeros
 zero_last [] = refl
 zero_last (c ∷ xs) = ap (λ z. cond (c == 48 && is_empty z) [] (c ∷ z)) (zero_last xs)
 
-not_both : (b : Bool) → (b && false) ≡ false
-not_both true = refl
-not_both false = refl
-
 pushed_some : (xs : List ℕ) (c : ℕ) → is_empty (xs ++ (c ∷ [])) ≡ false
 pushed_some [] c = refl
 pushed_some (d ∷ xs) c = refl
@@ -63,7 +61,7 @@ pushed_some (d ∷ xs) c = refl
 other_last : (xs : List ℕ) (c : ℕ) → (c == 48) ≡ false → without_last_zeros (xs ++ (c ∷ [])) ≡ xs ++ (c ∷ [])
 unfolding without_last_zeros
 other_last [] c h = rw h refl
-other_last (d ∷ xs) c h = let i = other_last xs c h in rw (i, pushed_some xs c, not_both (d == 48)) refl
+other_last (d ∷ xs) c h = let i = other_last xs c h in rw (i, pushed_some xs c, and_false (d == 48)) refl
 
 front : (xs : List ℕ) (n : ℕ) → 0 < n → n ≤ length xs → take n xs ≡ take (n - 1) xs ++ (get_or xs (n - 1) 0 ∷ [])
 front xs n p l = let e : n - 1 + 1 ≡ n = omega arith in ap (λ m. take m xs) (sym e) ∙ take_more xs (n - 1) 0 (omega arith)

@@ -10,24 +10,19 @@ use Rattle.std.specs.Int.Digits.{digits_of}
 use Rattle.yaml_text.specs.Core.{Value, decimal_value, float_range, are_digits, is_empty, number_in, unsigned, is_negative, signed, split_at, exponent_of, scaled, mantissa, decimal_of, trimmed, exponent_text, exponent, digits_text, decimal_text, content_of, refused}
 use Rattle.yaml_text.specs.Limits.{exponent_limit}
 use Rattle.yaml_text.proofs.FloatLaws.{digits_number}
+use Rattle.yaml_text.proofs.Members.{and_both, both_and}
 use Rattle.yaml_core.specs.Answer.{IsContent, RefusesValue, IsDecimalContent, RefusesDecimal}
 use Rattle.yaml_core.specs.State.{is_e, is_point, all_digits}
 use Rattle.yaml_core.specs.Digits.{without_zeros, without_last_zeros}
 use Rattle.yaml_core.specs.Decimal.{or_nothing, IsCut, With, scale_of, significant, mantissa_text, float_text}
 use Rattle.yaml_core.specs.declared.scalar.CoreFault.{CoreFault}
 use Rattle.yaml_core.specs.declared.scalar.CoreFault.TheVariants as faults
-use Rattle.yaml_core.proofs.IntLemmas.{are_all, digits_low, digit_back, stripped_digits, stripped_number, stripped_leads, Leads}
-
-halves : (a b : Bool) → (a && b) ≡ true → (a ≡ true) × (b ≡ true)
-halves true b h = (refl, h)
-halves false b h = absurd (cc)
-
-both : (a b : Bool) → a ≡ true → b ≡ true → (a && b) ≡ true
-both a b p q = rw (p, q) refl
+use Rattle.yaml_core.proofs.StateLemmas.{and_false}
+use Rattle.yaml_core.proofs.IntLemmas.{digits_back, are_all, digits_low, digit_back, stripped_digits, stripped_number, stripped_leads, Leads}
 
 pub digits_join : (x y : List ℕ) → all_digits 10 x ≡ true → all_digits 10 y ≡ true → all_digits 10 (x ++ y) ≡ true
 digits_join [] y h k = k
-digits_join (c ∷ x) y h k = let p = halves (is_digit c 10) (all_digits 10 x) h in both (is_digit c 10) (all_digits 10 (x ++ y)) p.0 (digits_join x y p.1 k)
+digits_join (c ∷ x) y h k = let p = and_both (is_digit c 10) (all_digits 10 x) h in both_and (is_digit c 10) (all_digits 10 (x ++ y)) p.0 (digits_join x y p.1 k)
 
 -- ---- what the text denotes
 
@@ -60,8 +55,8 @@ mantissa_reads n w (Some p) e h = by (all_digits 10 w && (all_digits 10 p && not
     by true d =
         let q : mantissa n w (Some p) e ≡ scaled n w p e = ap (λ b. cond b (scaled n w p e) None) d in
         let s = some e (sym (ap is_some q) ∙ h) in
-        let f = halves (all_digits 10 w) (all_digits 10 p && not (is_empty w && is_empty p)) d in
-        record { whole = f.0; part = (halves (all_digits 10 p) (not (is_empty w && is_empty p)) f.1).0; some = s.0; value = λ k g. q ∙ s.1 k g }
+        let f = and_both (all_digits 10 w) (all_digits 10 p && not (is_empty w && is_empty p)) d in
+        record { whole = f.0; part = (and_both (all_digits 10 p) (not (is_empty w && is_empty p)) f.1).0; some = s.0; value = λ k g. q ∙ s.1 k g }
     by false d = let g : false ≡ true = sym (ap (λ b. is_some (cond b (scaled n w p e) None)) d) ∙ h in absurd (cc)
 
 pub decimal_reads : (x whole part : List ℕ) (y : Option (List ℕ)) → IsCut x whole part y → is_some (decimal_of x) ≡ true → Reads (is_negative x) whole part (exponent_of y) (decimal_of x)
@@ -79,7 +74,7 @@ decimal_reads x whole part y c h =
 
 lead_number : (c : ℕ) (z : List ℕ) → all_digits 10 (c ∷ z) ≡ true → (c == 48) ≡ false → digits_of 10 (number_in 10 (c ∷ z)) ≡ map digit_value (c ∷ z)
 lead_number c z h l =
-    let p = halves (is_digit c 10) (all_digits 10 z) h in
+    let p = and_both (is_digit c 10) (all_digits 10 z) h in
     let b = digit_back c p.0 in
     let n = eqb-false c 48 l in
     digits_number (digit_value c) (map digit_value z) (omega (arith, n)) (digits_low (c ∷ z) h)
@@ -102,7 +97,7 @@ trimmed_digits : (z : List ℕ) → all_digits 10 z ≡ true → trimmed (map di
 unfolding trimmed without_last_zeros
 trimmed_digits [] h = refl
 trimmed_digits (c ∷ z) h =
-    let p = halves (is_digit c 10) (all_digits 10 z) h in
+    let p = and_both (is_digit c 10) (all_digits 10 z) h in
     let i = trimmed_digits z p.1 in
     let t : (digit_value c == 0 && is_empty (trimmed (map digit_value z))) ≡ (c == 48 && is_empty (without_last_zeros z)) =
     λ k. zero_digit c p.0 k && (ap is_empty i ∙ empty_map (without_last_zeros z)) k in
@@ -116,20 +111,16 @@ last_digits : (z : List ℕ) → all_digits 10 z ≡ true → all_digits 10 (wit
 unfolding without_last_zeros
 last_digits [] h = refl
 last_digits (c ∷ z) h =
-    let p = halves (is_digit c 10) (all_digits 10 z) h in
-    cond_both (c == 48 && is_empty (without_last_zeros z)) [] (c ∷ without_last_zeros z) (λ y. all_digits 10 y ≡ true) (λ e. refl) (λ e. both (is_digit c 10) (all_digits 10 (without_last_zeros z)) p.0 (last_digits z p.1))
+    let p = and_both (is_digit c 10) (all_digits 10 z) h in
+    cond_both (c == 48 && is_empty (without_last_zeros z)) [] (c ∷ without_last_zeros z) (λ y. all_digits 10 y ≡ true) (λ e. refl) (λ e. both_and (is_digit c 10) (all_digits 10 (without_last_zeros z)) p.0 (last_digits z p.1))
 
 pointed : (c : ℕ) (r : List ℕ) (e : ℤ) → all_digits 10 (c ∷ r) ≡ true → digits_text (map digit_value (c ∷ r)) e ≡ mantissa_text (c ∷ r) ++ exponent_text e
-pointed c [] e h = let q = digit_back c (halves (is_digit c 10) (all_digits 10 []) h).0 in λ i. q i ∷ exponent_text e
+pointed c [] e h = let q = digit_back c (and_both (is_digit c 10) (all_digits 10 []) h).0 in λ i. q i ∷ exponent_text e
 pointed c (d ∷ r) e h =
-    let p = halves (is_digit c 10) (all_digits 10 (d ∷ r)) h in
+    let p = and_both (is_digit c 10) (all_digits 10 (d ∷ r)) h in
     let q = digit_back c p.0 in
-    let b = backs (d ∷ r) p.1 in
+    let b = digits_back (d ∷ r) p.1 in
     λ i. q i ∷ (46 ∷ (b i ++ exponent_text e))
-  where
-    backs : (x : List ℕ) → all_digits 10 x ≡ true → map (λ d. 48 + d) (map digit_value x) ≡ x
-    backs [] h = refl
-    backs (c ∷ x) h = let p = halves (is_digit c 10) (all_digits 10 x) h in let q = digit_back c p.0 in let r = backs x p.1 in λ i. q i ∷ r i
 
 -- ---- the value by its digits x, without the zeros in front z
 
@@ -220,14 +211,10 @@ some_back [] [] n = absurd (n refl)
 some_back [] (c ∷ q) n = refl
 some_back (c ∷ w) q n = refl
 
-not_both : (b : Bool) → (b && false) ≡ false
-not_both true = refl
-not_both false = refl
-
 pub last_some_front : (w p : List ℕ) → (without_last_zeros p ≡ [] → ⊥) → without_last_zeros (w ++ p) ≡ w ++ without_last_zeros p
 unfolding without_last_zeros
 last_some_front [] p n = refl
-last_some_front (c ∷ w) p n = let i = last_some_front w p n in rw (i, some_back w (without_last_zeros p) n, not_both (c == 48)) refl
+last_some_front (c ∷ w) p n = let i = last_some_front w p n in rw (i, some_back w (without_last_zeros p) n, and_false (c == 48)) refl
 
 -- ---- ASCII
 

@@ -7,6 +7,7 @@ use Rattle.std.proofs.lemmas.Bool.{cond_both, eqb-true}
 use Rattle.std.proofs.lemmas.Bool.Decides.{nat_tests}
 use lib.Pointwise.{bytes_decides}
 use Rattle.yaml_text.specs.Core.{not_a_number, one_of, are_digits, number_in, unsigned, after, digits_after, split_at, decimal_of, bool_of, int_of, float_of, is_null}
+use Rattle.yaml_text.proofs.Members.{and_both}
 use Rattle.yaml_core.specs.Form.{table_kind, kind_of, form_of, bool_form, infinity_words, nan_words}
 use Rattle.yaml_core.specs.State.{is_e, is_point, all_digits, float_rest}
 use Rattle.yaml_core.specs.Values.{Values, HasValues}
@@ -31,10 +32,6 @@ none (Some a) e = absurd (cc)
 not_so : (b : Bool) → (b ≡ true → ⊥) → b ≡ false
 not_so true h = absurd (h refl)
 not_so false h = refl
-
-both : (a b : Bool) → (a && b) ≡ true → (a ≡ true) × (b ≡ true)
-both true b h = (refl, h)
-both false b h = absurd (cc)
 
 -- ---- words
 
@@ -80,13 +77,13 @@ all_float : (w : List ℕ) → all_digits 10 w ≡ true → float_rest true w �
 unfolding float_rest split_at
 all_float [] h = refl
 all_float (c ∷ w) h =
-    let p = both (is_digit c 10) (all_digits 10 w) h in
+    let p = and_both (is_digit c 10) (all_digits 10 w) h in
     float_digit true c w p.0 (digit_no_e c p.0) (digit_no_point c p.0) ∙ all_float w p.1
 
 digits_float : (w : List ℕ) → are_digits 10 w ≡ true → float_rest false w ≡ true
 digits_float [] h = absurd (cc)
 digits_float (c ∷ w) h =
-    let p = both (is_digit c 10) (all_digits 10 w) h in
+    let p = and_both (is_digit c 10) (all_digits 10 w) h in
     float_digit false c w p.0 (digit_no_e c p.0) (digit_no_point c p.0) ∙ all_float w p.1
 
 decimals : (x : List ℕ) → is_null x ≡ false → bool_of x ≡ None → are_digits 10 (unsigned x) ≡ true → HasValues forms.Decimal x
@@ -114,7 +111,7 @@ marked_parts mark base (c ∷ d ∷ y) h = by (c == 48 && d == mark) refl
 
     by : (b : Bool) → (c == 48 && d == mark) ≡ b → Marked mark base (c ∷ d ∷ y)
     by true e =
-        let p = both (c == 48) (d == mark) e in
+        let p = and_both (c == 48) (d == mark) e in
         let k : c ≡ 48 = eqb-true c 48 p.0 in
         let m : d ≡ mark = eqb-true d mark p.1 in
         let h1 : is_some (digits_after base (Some y)) ≡ true = ap (λ b. is_some (digits_after base (cond b (Some y) None))) (sym e) ∙ h in

@@ -1,5 +1,5 @@
 -- The content and the range of an int, by its digits.
-use Rattle.std.proofs.Common.{◌≡◌, ◌<◌, ◌≤◌, ℕ, zero, suc, ◌+◌, ◌-◌, ◌^◌, ◌==◌, ◌&&◌, nat_lt, Bool, true, false, cond, Option, Some, None, Result, Ok, Err, List, [], ◌∷◌, map, length, pos, refl, sym, ◌∙◌, ap, subst, arith}
+use Rattle.std.proofs.Common.{◌≡◌, ◌<◌, ◌≤◌, ℕ, zero, suc, ◌+◌, ◌-◌, ◌^◌, ◌==◌, nat_lt, Bool, true, false, cond, Option, Some, None, Result, Ok, Err, List, [], ◌∷◌, map, length, pos, refl, sym, ◌∙◌, ap, subst, arith}
 use Rattle.std.specs.Prelude.{MatchOption, MatchResult, is_some}
 use Rattle.std.proofs.lemmas.Bool.{cond_both, eqb-true, eqb-false, ne_eqb}
 use Rattle.std.proofs.lemmas.Bool.Decides.{nat_tests}
@@ -8,6 +8,7 @@ use Rattle.std.specs.Str.{IsAscii}
 use Rattle.std.specs.Int.Digits.{digits_of, AllBelowBase}
 use Rattle.yaml_text.specs.Core.{int_range, int_value, are_digits, number_in, unsigned, is_negative, signed, natural_text, int_text, content_of, Value, refused}
 use Rattle.yaml_text.proofs.FloatLaws.{digits_number}
+use Rattle.yaml_text.proofs.Members.{and_both}
 use Rattle.yaml_core.specs.Answer.{IsContent, RefusesValue}
 use Rattle.yaml_core.specs.Values.{decimal_int}
 use Rattle.yaml_core.specs.declared.scalar.CoreFault.{CoreFault}
@@ -15,10 +16,6 @@ use Rattle.yaml_core.specs.declared.scalar.CoreFault.TheVariants as faults
 use Rattle.yaml_core.specs.State.{all_digits}
 use Rattle.yaml_core.specs.Digits.{without_zeros, most_of}
 use Rattle.yaml_core.proofs.NumberLemmas.{digit_below}
-
-halves : (a b : Bool) → (a && b) ≡ true → (a ≡ true) × (b ≡ true)
-halves true b h = (refl, h)
-halves false b h = absurd (cc)
 
 -- ---- digits
 
@@ -31,30 +28,30 @@ digit_ascii c h = grind (arith, nat_tests)
 
 pub digits_ascii : (x : List ℕ) → all_digits 10 x ≡ true → IsAscii x
 digits_ascii [] h i = omega arith
-digits_ascii (c ∷ x) h zero = digit_ascii c (halves (is_digit c 10) (all_digits 10 x) h).0
-digits_ascii (c ∷ x) h (suc i) = digits_ascii x (halves (is_digit c 10) (all_digits 10 x) h).1 i
+digits_ascii (c ∷ x) h zero = digit_ascii c (and_both (is_digit c 10) (all_digits 10 x) h).0
+digits_ascii (c ∷ x) h (suc i) = digits_ascii x (and_both (is_digit c 10) (all_digits 10 x) h).1 i
 
 pub digit_back : (c : ℕ) → is_digit c 10 ≡ true → 48 + digit_value c ≡ c
 digit_back c h = grind (arith, nat_tests)
 
-digits_back : (x : List ℕ) → all_digits 10 x ≡ true → map (λ d. 48 + d) (map digit_value x) ≡ x
+pub digits_back : (x : List ℕ) → all_digits 10 x ≡ true → map (λ d. 48 + d) (map digit_value x) ≡ x
 digits_back [] h = refl
 digits_back (c ∷ x) h =
-    let p = halves (is_digit c 10) (all_digits 10 x) h in
+    let p = and_both (is_digit c 10) (all_digits 10 x) h in
     let q = digit_back c p.0 in
     let r = digits_back x p.1 in
     λ i. q i ∷ r i
 
 pub digits_low : (x : List ℕ) → all_digits 10 x ≡ true → AllBelowBase 10 (map digit_value x)
 digits_low [] h = tt
-digits_low (c ∷ x) h = let p = halves (is_digit c 10) (all_digits 10 x) h in (digit_below c 10 p.0, digits_low x p.1)
+digits_low (c ∷ x) h = let p = and_both (is_digit c 10) (all_digits 10 x) h in (digit_below c 10 p.0, digits_low x p.1)
 
 -- ---- without the zeros in front
 
 pub stripped_digits : (x : List ℕ) → all_digits 10 x ≡ true → all_digits 10 (without_zeros x) ≡ true
 unfolding without_zeros
 stripped_digits [] h = h
-stripped_digits (c ∷ x) h = cond_both (c == 48) _ _ (λ z. all_digits 10 z ≡ true) (λ e. stripped_digits x (halves (is_digit c 10) (all_digits 10 x) h).1) (λ e. h)
+stripped_digits (c ∷ x) h = cond_both (c == 48) _ _ (λ z. all_digits 10 z ≡ true) (λ e. stripped_digits x (and_both (is_digit c 10) (all_digits 10 x) h).1) (λ e. h)
 
 pub stripped_number : (x : List ℕ) → number_in 10 (without_zeros x) ≡ number_in 10 x
 unfolding without_zeros
@@ -79,7 +76,7 @@ pub natural_digits : (y : List ℕ) → all_digits 10 y ≡ true → Leads y →
 unfolding natural_text
 natural_digits [] h l n = absurd (n refl)
 natural_digits (c ∷ y) h l n =
-    let p = halves (is_digit c 10) (all_digits 10 y) h in
+    let p = and_both (is_digit c 10) (all_digits 10 y) h in
     let s = digit_some c p.0 l in
     let d = digits_number (digit_value c) (map digit_value y) s (digits_low (c ∷ y) h) in
     let z : (number_in 10 (c ∷ y) == 0) ≡ false = ne_eqb (number_in 10 (c ∷ y)) 0 (λ q. let e : [] ≡ map digit_value (c ∷ y) = ap (digits_of 10) (sym q) ∙ d in absurd (cc)) in

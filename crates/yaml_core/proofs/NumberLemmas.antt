@@ -1,5 +1,5 @@
 -- Numbers by their digits, one digit after the other.
-use Rattle.std.proofs.Common.{◌≡◌, ◌<◌, ◌≤◌, ℕ, zero, suc, ◌+◌, ◌*◌, ◌/◌, ◌%◌, ◌==◌, ◌&&◌, nat_lt, nat_le, Bool, true, false, cond, List, [], ◌∷◌, ◌++◌, map, length, take, drop, get_or, refl, sym, ◌∙◌, ap, arith}
+use Rattle.std.proofs.Common.{◌≡◌, ◌<◌, ◌≤◌, ℕ, zero, suc, ◌+◌, ◌*◌, ◌/◌, ◌%◌, ◌==◌, nat_lt, nat_le, Bool, true, false, cond, List, [], ◌∷◌, ◌++◌, map, length, take, drop, get_or, refl, sym, ◌∙◌, ap, arith}
 use Rattle.std.proofs.Math.Nat.{div-lt_iff_lt-mul}
 use Rattle.std.proofs.lemmas.Bool.{cond_both, ltb-true, eqb-true, eqb-false, ne_eqb}
 use Rattle.std.proofs.lemmas.Bool.Decides.{nat_tests}
@@ -8,6 +8,7 @@ use Rattle.std.proofs.lemmas.Int.Digits.{number_push, number_after_append, numbe
 use Rattle.std.specs.Char.{is_digit, digit_value}
 use Rattle.std.specs.Int.Digits.{digits_of, number_from_digits, number_from_digits_after}
 use Rattle.yaml_text.specs.Core.{number_in, natural_text}
+use Rattle.yaml_text.proofs.Members.{and_both}
 use Rattle.yaml_core.specs.State.{all_digits}
 use Rattle.yaml_core.specs.Digits.{without_zeros}
 
@@ -29,16 +30,8 @@ number_part base k xs p =
 
 pub digit_at : (base : ℕ) (xs : List ℕ) (i : ℕ) → all_digits base xs ≡ true → i < length xs → is_digit (get_or xs i 0) base ≡ true
 digit_at base [] i h l = absurd (omega arith)
-digit_at base (c ∷ xs) zero h l = (halves (is_digit c base) (all_digits base xs) h).0
-  where
-    halves : (a b : Bool) → (a && b) ≡ true → (a ≡ true) × (b ≡ true)
-    halves true b h = (refl, h)
-    halves false b h = absurd (cc)
-digit_at base (c ∷ xs) (suc i) h l = digit_at base xs i (halves (is_digit c base) (all_digits base xs) h).1 (omega arith)
-  where
-    halves : (a b : Bool) → (a && b) ≡ true → (a ≡ true) × (b ≡ true)
-    halves true b h = (refl, h)
-    halves false b h = absurd (cc)
+digit_at base (c ∷ xs) zero h l = (and_both (is_digit c base) (all_digits base xs) h).0
+digit_at base (c ∷ xs) (suc i) h l = digit_at base xs i (and_both (is_digit c base) (all_digits base xs) h).1 (omega arith)
 
 pub digit_below : (c base : ℕ) → is_digit c base ≡ true → digit_value c < base
 digit_below c base h = ltb-true (digit_value c) base h

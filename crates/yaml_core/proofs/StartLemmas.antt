@@ -7,7 +7,7 @@ use Rattle.yaml_core.specs.Form.{form_of, bool_form, infinity_words, nan_words}
 use Rattle.yaml_core.specs.State.{is_e, is_point, all_digits, exponent_fits, number_fits, float_rest, fraction_rest, marked, by_test}
 use Rattle.yaml_core.specs.declared.form.Form.{Form}
 use Rattle.yaml_core.specs.declared.form.Form.TheVariants as forms
-use Rattle.yaml_core.proofs.StateLemmas.{or_false, float_digit, float_point, float_none, no_infinity, no_nan}
+use Rattle.yaml_core.proofs.StateLemmas.{or_false, and_true, float_digit, float_point, float_none, no_infinity, no_nan}
 
 -- ---- a decimal is what may be left of a float
 
@@ -17,19 +17,11 @@ some_cond false o = refl
 
 are_digits_is : (w : List ℕ) → are_digits 10 w ≡ (all_digits 10 w && not (is_empty w))
 are_digits_is [] = refl
-are_digits_is (c ∷ w) = sym (true_last (all_digits 10 (c ∷ w)))
-  where
-    true_last : (b : Bool) → (b && true) ≡ b
-    true_last true = refl
-    true_last false = refl
+are_digits_is (c ∷ w) = sym (and_true (all_digits 10 (c ∷ w)))
 
 some_exponent : (y : Option (List ℕ)) → is_some (exponent_of y) ≡ exponent_fits y
 some_exponent None = refl
-some_exponent (Some x) = some_cond (are_digits 10 (unsigned x)) _ ∙ true_last (are_digits 10 (unsigned x))
-  where
-    true_last : (b : Bool) → (b && true) ≡ b
-    true_last true = refl
-    true_last false = refl
+some_exponent (Some x) = some_cond (are_digits 10 (unsigned x)) _ ∙ and_true (are_digits 10 (unsigned x))
 
 some_scaled : (n : Bool) (w p : List ℕ) (e : Option _) → is_some (scaled n w p e) ≡ is_some e
 some_scaled n w p None = refl
@@ -62,11 +54,7 @@ some_after mark base (d ∷ x) = by (d == mark)
   where
     by : (b : Bool) → is_some (digits_after base (cond b (Some x) None)) ≡ (b && are_digits base x)
     by false = refl
-    by true = some_cond (are_digits base x) _ ∙ true_last (are_digits base x)
-      where
-        true_last : (b : Bool) → (b && true) ≡ b
-        true_last true = refl
-        true_last false = refl
+    by true = some_cond (are_digits base x) _ ∙ and_true (are_digits base x)
 
 -- ---- words
 

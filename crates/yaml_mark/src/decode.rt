@@ -18,10 +18,11 @@ use yaml_text::limits::tag_limit;
 fn is_tag(text: &str) -> bool
     ensures { result ≡ is_full text.now }
 {
+    let longest = tag_limit();
     if text.is_empty() {
         return false;
     }
-    if text.len() > tag_limit() {
+    if text.len() > longest {
         return false;
     }
     text != "!"

@@ -3,13 +3,12 @@ ghost use Rattle.std.specs.Prelude.{◌≡◌, ◌≤◌, ◌<◌, IfSome, IfNon
 ghost use Rattle.std.specs.Bool.{OnTrue, OnFalse};
 ghost use Rattle.yaml_text.specs.Source.{text_of, place_of, IsBorder};
 ghost use Rattle.yaml_text.specs.grammar.Rules.{run, Stands, one, any_span};
-ghost use Rattle.yaml_text.specs.grammar.Characters.{is_ns};
 ghost use Rattle.std.specs.Char.{is_ascii_hexdigit};
 ghost use Rattle.yaml_mark.specs.Classes.{class_of};
 ghost use Rattle.yaml_mark.specs.Parts.{escape, escaped};
 
 use yaml_text::chars::Chars;
-use yaml_text::class::{is_break, is_flow_indicator, is_uri, is_white, is_word};
+use yaml_text::class::{is_flow_indicator, is_ns, is_uri, is_word};
 use yaml_text::places::{accept, next};
 
 /// A class of characters that runs are made of.
@@ -27,22 +26,14 @@ pub(crate) enum Class {
     Tag,
 }
 
-/// Whether a character is no white and no break.
-#[tactic(auto, unfolding(yaml_text::specs::grammar::Characters::is_ns, yaml_text::specs::grammar::Characters::is_nb))]
-fn is_solid(c: char) -> bool
-    ensures { result ≡ is_ns c }
-{
-    !is_break(c) && !is_white(c)
-}
-
 impl Class {
     #[tactic(auto, unfolding(yaml_text::specs::grammar::Tags::is_name, yaml_text::specs::grammar::Characters::is_tag))]
     fn has(self, c: char) -> bool
         ensures { result ≡ class_of self c }
     {
         match self {
-            Class::Solid => is_solid(c),
-            Class::Name => is_solid(c) && !is_flow_indicator(c),
+            Class::Solid => is_ns(c),
+            Class::Name => is_ns(c) && !is_flow_indicator(c),
             Class::Word => is_word(c),
             Class::Uri => is_uri(c),
             Class::Tag => is_uri(c) && c != '!' && !is_flow_indicator(c),

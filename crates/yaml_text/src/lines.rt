@@ -4,7 +4,7 @@ ghost use Rattle.std.specs.Prelude.{◌≡◌, ◌≢◌, ◌≤◌, ◌<◌, �
 ghost use Rattle.std.specs.Bool.{OnTrue, OnFalse};
 ghost use Rattle.yaml_text.specs.Answer.{IsUnread};
 ghost use Rattle.yaml_text.specs.Lines.{line_brk, DashesOf, Dashes, AfterLine, Uncut, blank_rest};
-ghost use Rattle.yaml_text.specs.Source.{text_of, place_of, IsBorder};
+ghost use Rattle.yaml_text.specs.Source.{mark_of, text_of, place_of, IsBorder};
 ghost use Rattle.yaml_text.specs.grammar.Characters.{is_space, is_white, is_nb};
 ghost use Rattle.yaml_text.specs.grammar.Rules.{run, Stands, any_span, ◌◆◌};
 ghost use Rattle.yaml_text.specs.grammar.Separation.{StartsLine, Mark, indent, line_end, comment, l_comment};
@@ -245,11 +245,13 @@ pub fn stands_mark(source: &Chars<'_>, at: usize) -> bool
     }
 }
 
-/// Which fault a character that can't be used gives: a tab is one of its own, since it bars where indentation or separation
-/// would stand.
+/// Which fault a character that can't be used gives, with its offset in the input: a tab is one of its own, since it bars where
+/// indentation or separation would stand.
 pub fn unusable(source: &Chars<'_>, at: usize) -> Fault
     requires { IsBorder source.now at }
-    ensures { IsUnread result }
+    ensures unread { IsUnread result }
+    ensures tab { slice_get (text_of source.now) (place_of source.now at) ≡ Some 9 → result ≡ Fault.Tab (mark_of source.now + at) }
+    ensures other { slice_get (text_of source.now) (place_of source.now at) ≢ Some 9 → result ≡ Fault.Syntax (mark_of source.now + at) }
 {
     match accept(source, at, '\t') {
         Some(_) => Fault::Tab(source.pos(at)),

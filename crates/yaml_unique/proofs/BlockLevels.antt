@@ -15,9 +15,11 @@ use Rattle.yaml_text.proofs.grammar.Widening.{Within, in_reads}
 use Rattle.yaml_text.specs.Lines.{Inside}
 use Rattle.yaml_text.proofs.LineRuns.{indent_run}
 use Rattle.yaml_text.proofs.Runs.{run_none}
-use Rattle.yaml_unique.proofs.Unique.{At, Then, Unique, Apart, from, unique_either}
-use Rattle.yaml_unique.proofs.Lines.{Comments, Way, Stuck, past_of, Solid, Fresh, Less, DashHere, less_stuck, run_solid}
-use Rattle.yaml_unique.proofs.BlockEntries.{Over, Follow, NodeStart, KeyHere, block_seq_unique, block_map_unique, compact_part_unique, compact_part_start, start_no_ns, past_no_ns}
+use Rattle.yaml_unique.proofs.Unique.{from, unique_either}
+use Rattle.yaml_unique.specs.Readings.{At, Then, Unique, Apart}
+use Rattle.yaml_unique.proofs.Lines.{past_of, less_stuck, run_solid}
+use Rattle.yaml_unique.specs.Follows.{Comments, Way, Stuck, Solid, Fresh, Less, DashHere, Over, Follow, KeyHere, F}
+use Rattle.yaml_unique.proofs.BlockEntries.{NodeStart, block_seq_unique, block_map_unique, compact_part_unique, compact_part_start, start_no_ns, past_no_ns}
 use Rattle.yaml_unique.proofs.KeyContexts.{at_block, Eased, no_eased, reads_eased, eased}
 use Rattle.yaml_unique.proofs.TagEnds.{prop_same, prop_here, prop_inside, alias_same, alias_inside}
 use Rattle.yaml_unique.proofs.PlainEnds.{plain_block_unique, plain_inside}
@@ -26,7 +28,7 @@ use Rattle.yaml_unique.proofs.FlowEntries.{Facts}
 use Rattle.yaml_unique.proofs.FlowLevels.{jsons_unique, inner_out, reads_facts, no_facts}
 use Rattle.yaml_unique.proofs.FlowNodes.{Kind, Sign, kind_fresh, prop_kind, plain_start, jsons_start, yaml_unique, json_node_unique, nodes_apart, Jsons, YamlRest, JsonRest, json_parts}
 use Rattle.yaml_unique.proofs.Properties.{props_here, props_two, props_inside}
-use Rattle.yaml_unique.proofs.BlockNodes.{F, KeyRead, Nodes, block_node_unique, block_parts, compact_node, nodes_start, Begin, nodes_begin, nodes_again, nodes_unique, colon_solid, next_here, content_here, dash_no_kind, dash_no_plain}
+use Rattle.yaml_unique.proofs.BlockNodes.{KeyRead, Nodes, block_node_unique, block_parts, compact_node, nodes_start, Begin, nodes_begin, nodes_again, nodes_unique, colon_solid, next_here, content_here, dash_no_kind, dash_no_plain}
 
 nb_quote : is_nb 39 ≡ true
 unfolding is_nb is_break
@@ -81,7 +83,7 @@ module _ (cs : List ℕ) (Wide : Type 0) (handles : Handles) where
     jsons_inside col p i j v (inr (inr (inl (o, (t, (k, s, (b, r, (g, f))), x))))) = ends_inside b j 93 g nb_bracket f
     jsons_inside col p i j v (inr (inr (inr (o, (t, (k, s, (b, r, (g, f))), x))))) = ends_inside b j 125 g nb_brace f
 
-    flow_inside : (col i j : ℕ) (v : List Event) → Flow col i j v → Inside cs j
+    pub flow_inside : (col i j : ℕ) (v : List Event) → Flow col i j v → Inside cs j
     unfolding flow_node yaml_node
     flow_inside col i j v (inl (inl (x, r, e))) = alias_inside cs i j x r
     flow_inside col i j v (inl (inr (inl (t, r, e)))) = plain_inside cs col flow_out i j t r
@@ -95,12 +97,12 @@ module _ (cs : List ℕ) (Wide : Type 0) (handles : Handles) where
         go (inr (k, p, t, (q, u, s))) = jsons_inside col p q j v s
 
     -- a key of the nodes inside is a flow node here
-    key_flow : (col i j : ℕ) (v : List Event) → (inside (yaml_part 0 block_key) ∪ inside (json_part 0 block_key)) i j v → Flow col i j v
+    pub key_flow : (col i j : ℕ) (v : List Event) → (inside (yaml_part 0 block_key) ∪ inside (json_part 0 block_key)) i j v → Flow col i j v
     unfolding flow_node
     key_flow col i j v (inl r) = inl ((eased cs Wide handles Open inside ease).yaml block_key flow_out at_block 0 col i j v (wider (yaml_part 0 block_key) i j v r))
     key_flow col i j v (inr r) = inr ((eased cs Wide handles Open inside ease).json block_key flow_out at_block 0 col i j v (wider (json_part 0 block_key) i j v r))
 
-    flow_one : (col d : ℕ) → Unique (Flow col) (At (F cs col d))
+    pub flow_one : (col d : ℕ) → Unique (Flow col) (At (F cs col d))
     unfolding flow_node
     flow_one col d = unique_either
         (yaml_unique cs Wide handles Open inside col flow_out (F cs col d) (F cs col d) (prop_same cs handles) (prop_here cs handles) (prop_inside cs handles) (alias_same cs) (plain_block_unique cs col d)
@@ -116,7 +118,7 @@ module _ (cs : List ℕ) (Wide : Type 0) (handles : Handles) where
     props_key : {V : Type 0} (col : ℕ) (S : Props → Rule V) (i j : ℕ) (v : V) → with_value (tags.properties cs handles col flow_out) S i j v → KeyHere cs i
     props_key col S i j v (k, p, r, s) = key_kind 1 i (prop_kind cs handles i (props_here cs handles (prop_same cs handles) (prop_here cs handles) (prop_inside cs handles) col flow_out i k p (props_two cs handles col flow_out i k p r)))
 
-    flow_start : (col i j : ℕ) (v : List Event) → Flow col i j v → KeyHere cs i
+    pub flow_start : (col i j : ℕ) (v : List Event) → Flow col i j v → KeyHere cs i
     unfolding flow_node yaml_node tags.alias
     flow_start col i j v (inl (inl (x, (k, (h, e), r), f))) = key_kind 2 i (42, h, Sign.star 42 refl)
     flow_start col i j v (inl (inr (inl (t, r, e)))) = let (f, h) = plain_start cs col flow_out i j t r in (f, λ g. dash_no_plain cs i g flow_out h)
@@ -138,7 +140,7 @@ module _ (cs : List ℕ) (Wide : Type 0) (handles : Handles) where
     spaces_of a j (inr (inl (r, l))) s = r
     spaces_of a j (inr (inr (e, l))) s = subst (run cs is_space a) (sym e) (run_none cs is_space a)
 
-    key_parts : (col i j : ℕ) (v : List Event) → Keys i j v → (a : ℕ) × Flow col i a v × maybe (sep cs) a j × OneLine cs i j
+    pub key_parts : (col i j : ℕ) (v : List Event) → Keys i j v → (a : ℕ) × Flow col i a v × maybe (sep cs) a j × OneLine cs i j
     unfolding implicit_yaml_key implicit_json_key
     key_parts col i j v (inl ((one, l), (a, r, s))) = (a, key_flow col i a v (inl r), s, one)
     key_parts col i j v (inr ((one, l), (a, r, s))) = (a, key_flow col i a v (inr r), s, one)
@@ -153,7 +155,7 @@ module _ (cs : List ℕ) (Wide : Type 0) (handles : Handles) where
         let l : j ≡ k = run_solid cs b j k (subst (λ o. run cs is_space o j) z.0 c) (colon_solid cs j h).0 d (colon_solid cs k h2).0 in
         (sym f ∙ e ∙ ap (λ o. o + 1) l ∙ sym e2 ∙ f2, z.1)
 
-    key_start : (i j : ℕ) (es : List Event) → Keys i j es → KeyHere cs i
+    pub key_start : (i j : ℕ) (es : List Event) → Keys i j es → KeyHere cs i
     key_start i j es r = let (a, p, t, one) = key_parts 0 i j es r in flow_start 0 i a es p
 
     -- ---- collections
@@ -165,11 +167,11 @@ module _ (cs : List ℕ) (Wide : Type 0) (handles : Handles) where
     maps p col = block_map_unique cs Wide handles Open inside blocks.node blocks.value blocks.compact blocks.node_start blocks.value_start blocks.compact_start key_unique key_start blocks.compact_apart p col
 
     -- no text just after a key's colon
-    value_no_ns : (k b a : ℕ) (v : List Event) → Inside cs b → (inside (block_part (k + 1) block_out) ∪ empty_rest cs Wide handles Open inside) b a v → Stands cs is_ns b → ⊥
+    pub value_no_ns : (k b a : ℕ) (v : List Event) → Inside cs b → (inside (block_part (k + 1) block_out) ∪ empty_rest cs Wide handles Open inside) b a v → Stands cs is_ns b → ⊥
     value_no_ns k b a v o (inl r) s = start_no_ns cs (k + 1) k b o (blocks.value_start k b a v r) s
     value_no_ns k b a v o (inr (y, (e, f), r)) s = past_no_ns cs b a o (past_of cs b a a (subst (λ z. s_l_comments cs z a) e r) (Spans.done refl)) s
 
-    entry_key : (col d : ℕ) (c : Ctx) (k q a : ℕ) (v : List Event) → map_entry cs Wide handles Open inside k q a v → KeyRead cs Wide handles Open inside col d c q
+    pub entry_key : (col d : ℕ) (c : Ctx) (k q a : ℕ) (v : List Event) → map_entry cs Wide handles Open inside k q a v → KeyRead cs Wide handles Open inside col d c q
     unfolding map_entry
     entry_key col d c k q a v (b, ks, ws, (m, key, (h, e)), val, x) =
         let (o, p, t, one) = key_parts col q m ks key in
@@ -204,7 +206,7 @@ module _ (cs : List ℕ) (Wide : Type 0) (handles : Handles) where
     forms : (col d : ℕ) (c : Ctx) (l : col ≤ d + 1) → seq_column cs Wide handles Open inside col c ≡ d → Within (block_node cs Wide handles Open inside col c) (Form col d c l)
     forms col d c l at = block_parts cs Wide handles Open inside col d c l (prop_same cs handles) (prop_here cs handles) (prop_inside cs handles) (alias_same cs) (plain_block_unique cs col d) (jsons_unique cs Wide handles Open inside facts col flow_out inner_out (F cs col d)) (flow_inside col) (fwd_flow_node cs Wide handles Open inside fwd col flow_out) (block_scalar_unique cs false col (Follow cs col d) (follow_stuck col d)) (block_scalar_unique cs true col (Follow cs col d) (follow_stuck col d)) (λ p. maps p col) (λ p. seqs p col d l) (map_key col d c) (seq_dash d) at
 
-    block_start : (col d : ℕ) (c : Ctx) (l : col ≤ d + 1) → seq_column cs Wide handles Open inside col c ≡ d → ((i q : ℕ) → separate cs col c i q → separate_lines cs col i q) →
+    pub block_start : (col d : ℕ) (c : Ctx) (l : col ≤ d + 1) → seq_column cs Wide handles Open inside col c ≡ d → ((i q : ℕ) → separate cs col c i q → separate_lines cs col i q) →
         (i j : ℕ) (v : List Event) → block_node cs Wide handles Open inside col c i j v → NodeStart cs col d i
     block_start col d c l at g i j v r = nodes_start cs Wide handles Open inside col d c l (prop_same cs handles) (prop_here cs handles) (prop_inside cs handles) (alias_same cs) (plain_block_unique cs col d) (jsons_unique cs Wide handles Open inside facts col flow_out inner_out (F cs col d)) (flow_inside col) (fwd_flow_node cs Wide handles Open inside fwd col flow_out) (block_scalar_unique cs false col (Follow cs col d) (follow_stuck col d)) (block_scalar_unique cs true col (Follow cs col d) (follow_stuck col d)) (λ p. maps p col) (λ p. seqs p col d l) (map_key col d c) (seq_dash d) g i j v (forms col d c l at i j v r)
 
@@ -220,11 +222,11 @@ module _ (cs : List ℕ) (Wide : Type 0) (handles : Handles) where
     compact_form col d c k q j v (inl (o, (t, (a, us, vs, r, s, x), e))) = inr (entry_dash k q a us r)
     compact_form col d c k q j v (inr (o, (t, (a, us, vs, r, s, x), e))) = inl (entry_key col d c k q a us r)
 
-    in_lines : (col i q : ℕ) → separate cs col block_in i q → separate_lines cs col i q
+    pub in_lines : (col i q : ℕ) → separate cs col block_in i q → separate_lines cs col i q
     unfolding separate
     in_lines col i q r = r
 
-    out_lines : (col i q : ℕ) → separate cs col block_out i q → separate_lines cs col i q
+    pub out_lines : (col i q : ℕ) → separate cs col block_out i q → separate_lines cs col i q
     unfolding separate
     out_lines col i q r = r
 
@@ -261,7 +263,7 @@ module _ (cs : List ℕ) (Wide : Type 0) (handles : Handles) where
           (nodes_again cs Wide handles Open inside 0 0 block_in (omega arith) (prop_same cs handles) (prop_here cs handles) (prop_inside cs handles) (alias_same cs) (plain_block_unique cs 0 0) (jsons_unique cs Wide handles Open inside facts 0 flow_out inner_out (F cs 0 0)) (flow_inside 0) (fwd_flow_node cs Wide handles Open inside fwd 0 flow_out) (block_scalar_unique cs false 0 (Follow cs 0 0) (follow_stuck 0 0)) (block_scalar_unique cs true 0 (Follow cs 0 0) (follow_stuck 0 0)) (λ p. maps p 0) (λ p. seqs p 0 0 (omega arith)) (map_key 0 0 block_in) (seq_dash 0) (in_lines 0) (lines_in 0) h m sh sm ch stuck k w (forms 0 0 block_in (omega arith) refl h k w s)) f;
     }
 
-  no_blocks : Blocks (λ q. never)
+  pub no_blocks : Blocks (λ q. never)
   no_blocks = record {
     node = λ col i j k m n v w r. absurd r;
     value = λ col i j k m n v w r. absurd r;
@@ -272,7 +274,7 @@ module _ (cs : List ℕ) (Wide : Type 0) (handles : Handles) where
     compact_apart = λ l i j k m n v w (a, (x, (b, (q, r, s)))). absurd s;
   }
 
-  one_more : (room : ℕ) (p : Part) → Within (reads cs Wide handles room p) (part cs Wide handles (Unit {0}) (reads cs Wide handles room) p)
+  pub one_more : (room : ℕ) (p : Part) → Within (reads cs Wide handles room p) (part cs Wide handles (Unit {0}) (reads cs Wide handles room) p)
   unfolding reads
   one_more room p i j v r = in_reads cs Wide Wide (λ h. h) handles room (suc room) (omega arith) p i j v r
 

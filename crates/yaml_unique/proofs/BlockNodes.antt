@@ -1,6 +1,7 @@
 -- A node of block level: which of its forms stands here.
 use Rattle.std.proofs.Common.{◌≡◌, ◌≢◌, ℕ, ◌+◌, ◌≤◌, ◌<◌, ◌⊎◌, inl, inr, List, true, Some, refl, sym, ◌∙◌, subst, arith}
 use Rattle.std.specs.Prelude.{slice_get}
+use Rattle.yaml_unique.specs.Follows as follows
 use Rattle.yaml_text.specs.grammar.Rules.{Rule, ◌▸◌, ◌◂◌, ◌∪◌, with_value, run, Stands, maybe, Spans}
 use Rattle.yaml_text.specs.grammar.Characters.{is_space, is_ns, is_nb, is_break, is_white, brk}
 use Rattle.yaml_text.specs.grammar.Separation.{Ctx, flow_out, separate, separate_lines, sep, StartsLine, AtEnd, OneLine, indent, s_l_comments, line_end, comment, l_comment}
@@ -19,12 +20,13 @@ use Rattle.yaml_text.proofs.Breaks.{run_join}
 use Rattle.std.proofs.Math.Nat.{eq-or-lt_of_le}
 use Rattle.yaml_scalar.proofs.PlainLemmas.{no_first_sign}
 use Rattle.yaml_text.proofs.LineRuns.{inside_no_line, indent_run, indent_place, brk_onward}
-use Rattle.yaml_text.proofs.RestLemmas.{from_s_b}
+use Rattle.yaml_text.proofs.RestLemmas.{from_s_b, l_comment_onward}
 use Rattle.yaml_text.proofs.Repeats.{spans_onward}
-use Rattle.yaml_text.proofs.RestLemmas.{l_comment_onward}
-use Rattle.yaml_unique.proofs.Unique.{End, At, Unique, Apart, To, unique_within, unique_until, unique_seen, unique_before, unique_either, unique_from, from}
-use Rattle.yaml_unique.proofs.Lines.{way_any, Solid, Fresh, Stuck, Less, DashHere, Past, Comments, Way, way_of, way_same, past_of, past_same, past_no_run, stuck_run, stuck_line, stuck_end, less_stuck, less_run, less_column, column_same, comments_none, end_no_run, dash_fresh}
-use Rattle.yaml_unique.proofs.BlockEntries.{Over, Follow, follow_seq, NodeStart}
+use Rattle.yaml_unique.proofs.Unique.{unique_within, unique_until, unique_seen, unique_before, unique_either, unique_from, from}
+use Rattle.yaml_unique.specs.Readings.{End, At, Unique, Apart, To}
+use Rattle.yaml_unique.proofs.Lines.{way_any, way_of, way_same, past_of, past_same, past_no_run, stuck_run, stuck_line, stuck_end, less_stuck, less_run, less_column, column_same, comments_none, end_no_run, dash_fresh}
+use Rattle.yaml_unique.specs.Follows.{Solid, Fresh, Stuck, Less, DashHere, Past, Comments, Way, Over, Follow}
+use Rattle.yaml_unique.proofs.BlockEntries.{follow_seq, NodeStart}
 use Rattle.yaml_unique.proofs.Properties.{PropHere, NoMore, prop, props_two, props_alone, props_here, props_inside, Compare, equal, less, more, compare, unique_propped, apart_propped, prop_solid}
 use Rattle.yaml_unique.proofs.FlowNodes.{kind_colon, kind_dash, sign_colon, sign_dash, safe_ns, Kind, Sign, sign_not, kind_same, kind_three, kind_fresh, plain_start, plain_no_kind, prop_kind, ContentHere, Jsons, Plains, YamlRest, JsonRest, jsons_start, json_parts, yaml_next, json_next, yaml_unique, json_node_unique, nodes_apart}
 
@@ -41,16 +43,14 @@ unfolding is_break
 break_return = refl
 
 module _ (cs : List ℕ) where
-  -- a key ends: spaces and a colon, and no text just after it
-  abbrev pub FollowKey : ℕ → Type 0
-  FollowKey j = (q : ℕ) × run cs is_space j q × (slice_get cs q ≡ Some 58) × (Stands cs is_ns (q + 1) → ⊥)
+  abbrev FollowKey : ℕ → Type 0
+  FollowKey = follows.FollowKey cs
 
-  -- a node ends, and what is less indented follows
-  abbrev pub FollowRest : ℕ → ℕ → ℕ → Type 0
-  FollowRest col d j = (m : ℕ) × Past cs j m × Follow cs col d m
+  abbrev FollowRest : ℕ → ℕ → ℕ → Type 0
+  FollowRest = follows.FollowRest cs
 
-  abbrev pub F : ℕ → ℕ → ℕ → Type 0
-  F col d j = FollowRest col d j ⊎ FollowKey j
+  abbrev F : ℕ → ℕ → ℕ → Type 0
+  F = follows.F cs
 
   pub colon_solid : (q : ℕ) → slice_get cs q ≡ Some 58 → Solid cs q
   colon_solid q h = ((58, h, ns_colon), λ g. let e : 58 ≡ 35 = same_char cs q 58 35 h g in omega (arith, e))
@@ -58,7 +58,7 @@ module _ (cs : List ℕ) where
   pub rest_key : (col d j : ℕ) → Inside cs j → FollowRest col d j → FollowKey j → ⊥
   rest_key col d j o (m, p, f) (q, r, h, n) = inside_no_line cs j o (past_no_run cs j m q p r (colon_solid q h)).0
 
-  rest_no : (col d : ℕ) (c : Ctx) (k q : ℕ) → Inside cs k → FollowRest col d k → separate cs col c k q → Fresh cs q → ⊥
+  pub rest_no : (col d : ℕ) (c : Ctx) (k q : ℕ) → Inside cs k → FollowRest col d k → separate cs col c k q → Fresh cs q → ⊥
   rest_no col d c k q o (m, p, (l, n)) s f = go (way_any cs col c k q s f.0)
     where
       go : (run cs is_space k q × Solid cs q) ⊎ ((x : ℕ) × Past cs k x × run cs is_space x q × (x + col ≤ q) × Solid cs q) → ⊥

@@ -6,18 +6,18 @@ use Rattle.yaml_text.specs.grammar.Rules.{Any, done, then, Spans, run, maybe}
 use Rattle.yaml_text.specs.grammar.Characters.{is_space, is_nb}
 use Rattle.yaml_text.specs.grammar.Separation.{AtEnd, line_end, comment, l_comment, sep, less}
 use Rattle.yaml_text.specs.grammar.BlockScalars.{Line, comment_lines, is_given}
-use Rattle.yaml_scalar.specs.BlockRules.{any_line}
 use Rattle.yaml_text.specs.Lines.{AfterLine}
+use Rattle.yaml_scalar.specs.BlockRules.{any_line}
 use Rattle.yaml_scalar.specs.BlockModel.{styled}
 use Rattle.yaml_scalar.proofs.BlockLemmas.{Parts, parts_of, meet}
 use Rattle.yaml_scalar.proofs.HeaderLemmas.{header_parts}
 use Rattle.yaml_scalar.proofs.LineLemmas.{Tail, blank_of, text_of, Over, chain_of}
 use Rattle.yaml_text.proofs.LineRuns.{brk_after, line_end_onward, end_stops}
 use Rattle.yaml_text.proofs.RestLemmas.{from_s_b, blank_after}
-use Rattle.yaml_unique.proofs.Unique.{Unique}
-use Rattle.yaml_unique.proofs.Lines.{Comments, Stuck, comments_same, comments_join}
-use Rattle.yaml_unique.proofs.BlockEntries as blocks
-use Rattle.yaml_unique.proofs.BlockEntries.{Follow}
+use Rattle.yaml_unique.specs.Readings.{Unique}
+use Rattle.yaml_unique.proofs.Lines.{comments_same, comments_join}
+use Rattle.yaml_unique.specs.Follows.{Comments, Stuck, Follow}
+use Rattle.yaml_unique.specs.Follows as blocks
 
 module _ (cs : List ℕ) where
   -- a comment of fewer spaces is a comment line

@@ -12,8 +12,10 @@ use Rattle.yaml_text.proofs.Runs.{same_char, no_stand, run_same, run_none, run_m
 use Rattle.yaml_text.proofs.Breaks.{run_join}
 use Rattle.yaml_text.proofs.LineRuns.{inside_no_line, line_end_same, line_end_stops}
 use Rattle.yaml_text.proofs.RestLemmas.{from_s_b, nb_feed, nb_return, is_the_space}
-use Rattle.yaml_unique.proofs.Unique.{At, Then, More, Unique, unique_seen, unique_holding, unique_after, unique_before, unique_first, unique_until}
-use Rattle.yaml_unique.proofs.Lines.{Comments, Stuck, Past, past_of, comments_same, solid_nb, stuck_run, stuck_mark}
+use Rattle.yaml_unique.proofs.Unique.{unique_seen, unique_holding, unique_after, unique_before, unique_first, unique_until}
+use Rattle.yaml_unique.specs.Readings.{At, Then, More, Unique}
+use Rattle.yaml_unique.proofs.Lines.{past_of, comments_same, solid_nb, stuck_run, stuck_mark}
+use Rattle.yaml_unique.specs.Follows.{Comments, Stuck, Past}
 use Rattle.yaml_unique.proofs.BlockEntries.{past_no_ns}
 use Rattle.yaml_unique.proofs.TagEnds.{no_tag_char, tag_char_name, tag_bang, spans_same, uri_same, tag_char_same, Handle, named, double, single, handle_of, ns_by, word_name, tag_is_name, name_is_ns}
 use Rattle.std.specs.Char.{is_ascii_hexdigit}

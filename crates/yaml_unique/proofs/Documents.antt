@@ -12,9 +12,11 @@ use Rattle.yaml_text.specs.Lines.{Inside, AfterLine}
 use Rattle.yaml_text.proofs.Runs.{same_char, run_none}
 use Rattle.yaml_text.proofs.LineRuns.{end_stops, indent_place, indent_run}
 use Rattle.yaml_text.proofs.RestLemmas.{from_s_b, from_l, blank_after, l_comment_same}
-use Rattle.yaml_unique.proofs.Unique.{End, Unique, unique_seen, unique_bounded, unique_gives, unique_after, unique_before, unique_taking, unique_within, unique_from, unique_from_either, from_before}
-use Rattle.yaml_unique.proofs.Lines.{blank_at_end, run_solid, Solid, Fresh, Comments, Stuck, Less, Dash, Past, Way, past_of, past_same, comments_none, stuck_run, stuck_end, stuck_mark, less_stuck, end_no_run, dash_fresh, solid_nb, lines_on, ns_dash}
-use Rattle.yaml_unique.proofs.BlockEntries.{NodeStart, Over, Follow, start_no_empty}
+use Rattle.yaml_unique.proofs.Unique.{unique_seen, unique_bounded, unique_gives, unique_after, unique_before, unique_taking, unique_within, unique_from, unique_from_either, from_before}
+use Rattle.yaml_unique.specs.Readings.{End, Unique}
+use Rattle.yaml_unique.proofs.Lines.{blank_at_end, run_solid, past_of, past_same, comments_none, stuck_run, stuck_end, stuck_mark, less_stuck, end_no_run, dash_fresh, solid_nb, lines_on, ns_dash}
+use Rattle.yaml_unique.specs.Follows.{Solid, Fresh, Comments, Stuck, Less, Dash, Past, Way, Over, Follow}
+use Rattle.yaml_unique.proofs.BlockEntries.{NodeStart, start_no_empty}
 use Rattle.yaml_scalar.specs.Chains.{plain_head, plain_sign}
 use Rattle.yaml_scalar.proofs.PlainLemmas.{no_first_head}
 use Rattle.yaml_text.proofs.Breaks.{mark_ns}
@@ -29,7 +31,7 @@ use Rattle.yaml_unique.proofs.BlockNodes.{Begin}
 use Rattle.yaml_unique.proofs.BlockLevels.{reads_whole, reads_blocks}
 use Rattle.yaml_unique.proofs.Directives.{Percent, directives_unique, directives_start, percent_stuck}
 
-ns_dot : is_ns 46 ≡ true
+pub ns_dot : is_ns 46 ≡ true
 unfolding is_ns is_nb is_break is_white
 ns_dot = refl
 
@@ -50,12 +52,12 @@ unfolding plain_head is_ns is_nb is_break is_white is_indicator
 head_percent = refl
 
 module _ (cs : List ℕ) (Wide : Type 0) (room : ℕ) where
-  abbrev E0 : End
+  abbrev pub E0 : End
   E0 = Over cs (Follow cs 0 0)
 
   -- ---- lines
 
-  after_comments : {j i : ℕ} → Comments cs i j → AfterLine cs i → AfterLine cs j
+  pub after_comments : {j i : ℕ} → Comments cs i j → AfterLine cs i → AfterLine cs j
   after_comments (Spans.done e) a = subst (AfterLine cs) (sym e) a
   after_comments (Spans.then k r more) a = after_comments more (blank_after cs _ k (from_l cs _ k r))
 
@@ -64,21 +66,21 @@ module _ (cs : List ℕ) (Wide : Type 0) (room : ℕ) where
   after_lines i j (a, inl b, c) = after_comments c (blank_after cs i a (from_s_b cs i a b))
   after_lines i j (a, inr (e, s), c) = after_comments c (inl (subst (StartsLine cs) (sym e) s))
 
-  mark_inside : (c i j : ℕ) → is_ns c ≡ true → document_mark cs Wide room c i j → (j ≡ i + 3) × Inside cs j × MarkOf cs c i
+  pub mark_inside : (c i j : ℕ) → is_ns c ≡ true → document_mark cs Wide room c i j → (j ≡ i + 3) × Inside cs j × MarkOf cs c i
   unfolding document_mark
   mark_inside c i j t (k, (e, m), (x, (a, b), (y, (d, f), (z, (g, h), u)))) =
       (omega (arith, e, b, f, h, u), (y, u ∙ h, solid_nb cs y (c, g, t)), m)
 
   -- ---- a document after `---`
 
-  no_dash : (m : ℕ) → AtEnd cs m ⊎ Mark cs m → Dash cs 0 m → ⊥
+  pub no_dash : (m : ℕ) → AtEnd cs m ⊎ Mark cs m → Dash cs 0 m → ⊥
   no_dash m (inl e) (p, r, d) = end_no_run cs m p e (indent_run cs 0 m p r) (dash_fresh cs p d).0.0
   no_dash m (inr e) (p, r, d) =
       let f : p ≡ m + 0 = indent_place cs 0 m p r in
       let g : m ≡ p = omega (arith, f) in
       (dash_fresh cs p d).1 (subst (Mark cs) g e)
 
-  no_less : (m : ℕ) → AtEnd cs m ⊎ Mark cs m → Less cs 0 m
+  pub no_less : (m : ℕ) → AtEnd cs m ⊎ Mark cs m → Less cs 0 m
   no_less m (inl e) = inl e
   no_less m (inr e) = inr (inl e)
 
@@ -168,45 +170,45 @@ module _ (cs : List ℕ) (Wide : Type 0) (room : ℕ) where
 
   -- ---- where it goes on
 
-  suffix_mark : (i k : ℕ) (us : List Piece) → suffix cs Wide room i k us → MarkOf cs 46 i
+  pub suffix_mark : (i k : ℕ) (us : List Piece) → suffix cs Wide room i k us → MarkOf cs 46 i
   unfolding suffix
   suffix_mark i k us (a, r, s) = (mark_inside 46 i a ns_dot r).2
 
-  suffix_past : (i k m : ℕ) (us : List Piece) → suffix cs Wide room i k us → Comments cs k m → Past cs (i + 3) m × (us ≡ suffix_piece ∷ [])
+  pub suffix_past : (i k m : ℕ) (us : List Piece) → suffix cs Wide room i k us → Comments cs k m → Past cs (i + 3) m × (us ≡ suffix_piece ∷ [])
   unfolding suffix
   suffix_past i k m us (a, r, (b, (e, f), s)) c =
       (past_of cs (i + 3) k m (subst (λ z. s_l_comments cs z k) (e ∙ (mark_inside 46 i a ns_dot r).0) s) c, f)
 
-  explicit_mark : (handles : Handles) (i k : ℕ) (us : List Event) → explicit_document cs Wide room handles i k us → MarkOf cs 45 i
+  pub explicit_mark : (handles : Handles) (i k : ℕ) (us : List Event) → explicit_document cs Wide room handles i k us → MarkOf cs 45 i
   unfolding explicit_document
   explicit_mark handles i k us (a, r, s) = (mark_inside 45 i a ns_dash r).2
 
-  shown_mark : (i k : ℕ) (us : List Piece) → explicit_piece cs Wide room i k us → MarkOf cs 45 i
+  pub shown_mark : (i k : ℕ) (us : List Piece) → explicit_piece cs Wide room i k us → MarkOf cs 45 i
   shown_mark i k us (es, r, e) = explicit_mark [] i k es r
 
-  dots_mark_is : (i : ℕ) → MarkOf cs 46 i → Mark cs i
+  pub dots_mark_is : (i : ℕ) → MarkOf cs 46 i → Mark cs i
   unfolding Mark
   dots_mark_is i h = inr h
 
-  dashes_mark_is : (i : ℕ) → MarkOf cs 45 i → Mark cs i
+  pub dashes_mark_is : (i : ℕ) → MarkOf cs 45 i → Mark cs i
   unfolding Mark
   dashes_mark_is i h = inl h
 
-  dots_stuck : (i : ℕ) → MarkOf cs 46 i → Stuck cs i
+  pub dots_stuck : (i : ℕ) → MarkOf cs 46 i → Stuck cs i
   dots_stuck i h = stuck_mark cs i (dots_mark_is i h)
 
-  dashes_stuck : (i : ℕ) → MarkOf cs 45 i → Stuck cs i
+  pub dashes_stuck : (i : ℕ) → MarkOf cs 45 i → Stuck cs i
   dashes_stuck i h = stuck_mark cs i (dashes_mark_is i h)
 
-  directive_percent : (i k : ℕ) (us : List Piece) → directive_piece cs Wide room i k us → Percent cs i
+  pub directive_percent : (i k : ℕ) (us : List Piece) → directive_piece cs Wide room i k us → Percent cs i
   unfolding directive_document
   directive_percent i k us (es, (a, h, r, s), e) = directives_start cs i a h r
 
-  bare_begin : (i k : ℕ) (us : List Piece) → bare_piece cs Wide room i k us → (q : ℕ) × Way cs i q × Fresh cs q × Begin cs q
+  pub bare_begin : (i k : ℕ) (us : List Piece) → bare_piece cs Wide room i k us → (q : ℕ) × Way cs i q × Fresh cs q × Begin cs q
   unfolding bare_document
   bare_begin i k us (es, (u, r), e) = (reads_whole cs Wide [] room).begin i k es r
 
-  lands_false : (k : ℕ) (xs : List Piece) → Tail false k xs → (m : ℕ) × Comments cs k m × Follow cs 0 0 m
+  pub lands_false : (k : ℕ) (xs : List Piece) → Tail false k xs → (m : ℕ) × Comments cs k m × Follow cs 0 0 m
   lands_false k xs (over e f) = (k, Spans.done refl, follow_end k (inl e))
   lands_false k xs (skip o r t) = let (m, c, f) = lands_false o xs t in (m, Spans.then o r c, f)
   lands_false k xs (dots o us vs r t e) = (k, Spans.done refl, follow_end k (inr (dots_mark_is k (suffix_mark k o us r))))
@@ -221,7 +223,7 @@ module _ (cs : List ℕ) (Wide : Type 0) (room : ℕ) where
   way_lands k q (inr e) (inr (p, h, r, s)) = (k, Spans.done refl, stuck_end cs k e)
   way_lands k q (inl st) (inr (p, inr (b, c), r, s)) = (p, c, stuck_run cs p q r s)
 
-  lands : (b : Bool) (k : ℕ) (xs : List Piece) → Tail b k xs → (m : ℕ) × Comments cs k m × Stuck cs m
+  pub lands : (b : Bool) (k : ℕ) (xs : List Piece) → Tail b k xs → (m : ℕ) × Comments cs k m × Stuck cs m
   lands b k xs (over e f) = (k, Spans.done refl, stuck_end cs k e)
   lands b k xs (skip o r t) = let (m, c, s) = lands b o xs t in (m, Spans.then o r c, s)
   lands b k xs (dots o us vs r t e) = (k, Spans.done refl, dots_stuck k (suffix_mark k o us r))
@@ -231,7 +233,7 @@ module _ (cs : List ℕ) (Wide : Type 0) (room : ℕ) where
 
   -- ---- seen from where it lands
 
-  data View (fresh : Bool) (i m : ℕ) (xs : List Piece) : Type 0 where
+  pub data View (fresh : Bool) (i m : ℕ) (xs : List Piece) : Type 0 where
     v_over : AtEnd cs m → xs ≡ [] → View fresh i m xs
     v_dots : (k : ℕ) (us vs : List Piece) → suffix cs Wide room m k us → Tail true k vs → xs ≡ us ++ vs → View fresh i m xs
     v_shown : (k : ℕ) (us vs : List Piece) → explicit_piece cs Wide room m k us → Tail false k vs → xs ≡ us ++ vs → View fresh i m xs
@@ -242,7 +244,7 @@ module _ (cs : List ℕ) (Wide : Type 0) (room : ℕ) where
   on_l i m k (Spans.done e) s r = absurd (s k (subst (λ z. l_comment cs z k) (sym e) r))
   on_l i m k (Spans.then o q more) s r = subst (λ z. Comments cs z m) (l_comment_same cs i o k q r) more
 
-  view : (b : Bool) (i m : ℕ) (xs : List Piece) → Tail b i xs → Comments cs i m → Stuck cs m → View b i m xs
+  pub view : (b : Bool) (i m : ℕ) (xs : List Piece) → Tail b i xs → Comments cs i m → Stuck cs m → View b i m xs
   view b i m xs (over e f) c s = v_over (subst (AtEnd cs) (sym (comments_none cs i m (stuck_end cs i e) c)) e) f
   view b i m xs (skip k r t) c s = again (view b k m xs t (on_l i m k c s r) s)
     where
@@ -262,19 +264,19 @@ module _ (cs : List ℕ) (Wide : Type 0) (room : ℕ) where
 
   -- ---- what stands where it lands is one of them
 
-  marks_apart : (i : ℕ) → MarkOf cs 45 i → MarkOf cs 46 i → ⊥
+  pub marks_apart : (i : ℕ) → MarkOf cs 45 i → MarkOf cs 46 i → ⊥
   unfolding MarkOf
   marks_apart i (s, (j, (k, (h, e), r)), t) (s2, (j2, (k2, (h2, e2), r2)), t2) = let z : 45 ≡ 46 = same_char cs i 45 46 h h2 in omega (arith, z)
 
-  mark_end : (c i : ℕ) → MarkOf cs c i → AtEnd cs i → ⊥
+  pub mark_end : (c i : ℕ) → MarkOf cs c i → AtEnd cs i → ⊥
   unfolding MarkOf
   mark_end c i (s, (j, (k, (h, e), r)), t) f = end_stops cs (λ u. true) i f (c, h, refl)
 
-  mark_percent : (c i : ℕ) → c ≢ 37 → MarkOf cs c i → Percent cs i → ⊥
+  pub mark_percent : (c i : ℕ) → c ≢ 37 → MarkOf cs c i → Percent cs i → ⊥
   unfolding MarkOf
   mark_percent c i n (s, (j, (k, (h, e), r)), t) (g, u) = n (same_char cs i c 37 h g)
 
-  percent_end : (i : ℕ) → Percent cs i → AtEnd cs i → ⊥
+  pub percent_end : (i : ℕ) → Percent cs i → AtEnd cs i → ⊥
   percent_end i (h, s) e = end_stops cs (λ u. true) i e (37, h, refl)
 
   end_past : (h p q : ℕ) → AtEnd cs h → Past cs h p → run cs is_space p q → Solid cs q → ⊥
@@ -295,15 +297,15 @@ module _ (cs : List ℕ) (Wide : Type 0) (room : ℕ) where
   bare_from : (h m k : ℕ) (us : List Piece) → AfterLine cs h → Comments cs h m → Stuck cs m → bare_piece cs Wide room h k us → (q : ℕ) × run cs is_space m q × Fresh cs q × Begin cs q
   bare_from h m k us a c s r = let (q, w, f, b) = bare_begin h k us r in (q, (way_from h m q a c s w).0, f, b)
 
-  bare_no_mark : (h m k : ℕ) (us : List Piece) → AfterLine cs h → Comments cs h m → Stuck cs m → bare_piece cs Wide room h k us → Mark cs m → ⊥
+  pub bare_no_mark : (h m k : ℕ) (us : List Piece) → AfterLine cs h → Comments cs h m → Stuck cs m → bare_piece cs Wide room h k us → Mark cs m → ⊥
   bare_no_mark h m k us a c s r mark =
       let (q, w, f, b) = bare_from h m k us a c s r in
       f.1 (subst (Mark cs) (run_solid cs m m q (run_none cs is_space m) (mark_ns cs m mark) w f.0.0) mark)
 
-  bare_no_end : (h m k : ℕ) (us : List Piece) → AfterLine cs h → Comments cs h m → Stuck cs m → bare_piece cs Wide room h k us → AtEnd cs m → ⊥
+  pub bare_no_end : (h m k : ℕ) (us : List Piece) → AfterLine cs h → Comments cs h m → Stuck cs m → bare_piece cs Wide room h k us → AtEnd cs m → ⊥
   bare_no_end h m k us a c s r e = let (q, w, f, b) = bare_from h m k us a c s r in end_no_run cs m q e w f.0.0
 
-  bare_no_percent : (h m k : ℕ) (us : List Piece) → AfterLine cs h → Comments cs h m → Stuck cs m → bare_piece cs Wide room h k us → Percent cs m → ⊥
+  pub bare_no_percent : (h m k : ℕ) (us : List Piece) → AfterLine cs h → Comments cs h m → Stuck cs m → bare_piece cs Wide room h k us → Percent cs m → ⊥
   bare_no_percent h m k us a c s r (p, st) = go (bare_from h m k us a c s r)
     where
       begin : (q : ℕ) → slice_get cs q ≡ Some 37 → Begin cs q → ⊥
@@ -314,7 +316,7 @@ module _ (cs : List ℕ) (Wide : Type 0) (room : ℕ) where
       go : (q : ℕ) × run cs is_space m q × Fresh cs q × Begin cs q → ⊥
       go (q, w, f, b) = begin q (subst (λ z. slice_get cs z ≡ Some 37) (run_solid cs m m q (run_none cs is_space m) (37, p, ns_percent) w f.0.0) p) b
 
-  line_of : (m : ℕ) → AfterLine cs m → (AtEnd cs m → ⊥) → StartsLine cs m
+  pub line_of : (m : ℕ) → AfterLine cs m → (AtEnd cs m → ⊥) → StartsLine cs m
   line_of m (inl s) n = s
   line_of m (inr e) n = absurd (n e)
 

@@ -1,6 +1,7 @@
 -- Flow collections: items by commas, entries and single pairs, one reading each where the nodes in them have one.
 use Rattle.std.proofs.Common.{◌≡◌, ◌≢◌, ℕ, ◌+◌, ◌<◌, ◌⊎◌, inl, inr, List, ◌++◌, true, Some, refl, sym, ◌∙◌, ap, subst, arith, append_assoc}
 use Rattle.std.specs.Prelude.{slice_get}
+use Rattle.yaml_unique.specs.Follows as ends
 use Rattle.yaml_text.specs.grammar.Rules.{Rule, Span, ◌◆◌, ◌▸◌, ◌◂◌, ◌⨾◌, ◌∪◌, any, Any, done, then, optional, maybe, given, chr, run, Stands}
 use Rattle.yaml_text.specs.grammar.Characters.{is_space, is_ns, is_nb, is_break, is_white}
 use Rattle.yaml_text.specs.grammar.Separation.{Ctx, flow_in, flow_key, inner, separate, sep}
@@ -14,8 +15,10 @@ use Rattle.yaml_text.specs.Lines.{Inside}
 use Rattle.yaml_text.proofs.LineRuns.{inside_next}
 use Rattle.yaml_unique.proofs.BlockEntries.{past_no_ns}
 use Rattle.yaml_text.proofs.Repeats.{SameRule}
-use Rattle.yaml_unique.proofs.Unique.{End, At, Unique, Apart, Ends, To, unique_until, unique_gives, unique_seen, unique_given, unique_before, unique_joined, unique_either}
-use Rattle.yaml_unique.proofs.Lines.{char_fresh, Past, solid_no_space, sep_parts, way_then, Solid, Fresh, Way, way_of, way_sep, way_here, way_maybe, way_same}
+use Rattle.yaml_unique.proofs.Unique.{unique_until, unique_gives, unique_seen, unique_given, unique_before, unique_joined, unique_either}
+use Rattle.yaml_unique.specs.Readings.{End, At, Unique, Apart, Ends, To}
+use Rattle.yaml_unique.proofs.Lines.{char_fresh, solid_no_space, sep_parts, way_then, way_of, way_sep, way_here, way_maybe, way_same}
+use Rattle.yaml_unique.specs.Follows.{Past, Solid, Fresh, Way}
 
 ns_colon : is_ns 58 ≡ true
 unfolding is_ns is_nb is_break is_white
@@ -34,29 +37,26 @@ unfolding is_ns is_nb is_break is_white
 ns_of c w x y z = grind (arith, w, x, y, z)
 
 module _ (cs : List ℕ) where
-  -- a comma or a closing bracket
-  abbrev pub Closes : ℕ → Type 0
-  Closes q = (slice_get cs q ≡ Some 44) ⊎ (slice_get cs q ≡ Some 93) ⊎ (slice_get cs q ≡ Some 125)
+  abbrev Closes : ℕ → Type 0
+  Closes = ends.Closes cs
 
-  abbrev pub Colon : ℕ → Type 0
-  Colon q = slice_get cs q ≡ Some 58
+  abbrev Colon : ℕ → Type 0
+  Colon = ends.Colon cs
 
-  abbrev pub ColonY : ℕ → Type 0
-  ColonY q = Colon q × (Stands cs (plain_safe flow_in) (q + 1) → ⊥)
+  abbrev ColonY : ℕ → Type 0
+  ColonY = ends.ColonY cs
 
-  -- after separation a comma or a bracket stands; or a colon that ends a yaml node; or any colon
-  abbrev pub Fs : ℕ → Type 0
-  Fs j = (q : ℕ) × Way cs j q × Closes q
+  abbrev Fs : ℕ → Type 0
+  Fs = ends.Fs cs
 
-  abbrev pub Fy : ℕ → Type 0
-  Fy j = (q : ℕ) × Way cs j q × (Closes q ⊎ ColonY q)
+  abbrev Fy : ℕ → Type 0
+  Fy = ends.Fy cs
 
-  abbrev pub Fj : ℕ → Type 0
-  Fj j = (q : ℕ) × Way cs j q × (Closes q ⊎ Colon q)
+  abbrev Fj : ℕ → Type 0
+  Fj = ends.Fj cs
 
-  -- a `?` that stands alone
-  abbrev pub MarkHere : ℕ → Type 0
-  MarkHere i = (slice_get cs i ≡ Some 63) × (Stands cs is_ns (i + 1) → ⊥)
+  abbrev MarkHere : ℕ → Type 0
+  MarkHere = ends.MarkHere cs
 
   -- what may begin an entry or an item; what may begin a node in one
   abbrev pub PartHere : ℕ → Type 0
@@ -68,9 +68,8 @@ module _ (cs : List ℕ) where
   pub item_part : (i : ℕ) → ItemHere i → PartHere i
   item_part i (f, a, b, c) = (f, a)
 
-  -- after separation a comma or a bracket stands at m
-  abbrev pub Es : End
-  Es j m = Way cs j m × Closes m
+  abbrev Es : End
+  Es = ends.Es cs
 
   pub ends_es : {V : Type 0} {R : Rule V} → Unique R (At Fs) → Unique R Es
   ends_es f i j k m n v w r (a, b) s (c, d) =
@@ -234,7 +233,7 @@ module _ (cs : List ℕ) where
         (unique_either (unique_before (Solid cs) to_solid_one (λ i j m v r e. (inner_start i j v r).0.0) inner_unique) (unique_gives _ (ends_at Fs))
         (λ i j k m o v w (q, s, r) e (a, b) (f, g). no_inner i q j k v (way_of cs n flow_in i q s (inner_start q j v r).0.0) r (sym a) g))
 
-    value_colon : (i j : ℕ) (v : List Event) → value cs Wide handles Open inside n flow_in i j v → ColonY i
+    pub value_colon : (i j : ℕ) (v : List Event) → value cs Wide handles Open inside n flow_in i j v → ColonY i
     unfolding value
     value_colon i j v (k, (a, (h, e), (f, x)), r) = (h, subst (λ z. Stands cs (plain_safe flow_in) z → ⊥) e x)
 
@@ -244,7 +243,7 @@ module _ (cs : List ℕ) where
         (unique_either (unique_before (Solid cs) (to_solid n flow_in) (λ i j m v r e. (inner_start i j v r).0.0) inner_unique) (unique_gives _ (ends_at Fs))
         (λ i j k m o v w (q, s, r) e (a, b) (f, g). no_inner i q j k v (way_maybe cs n flow_in i q s (inner_start q j v r).0.0) r (sym a) g))
 
-    adjacent_colon : (i j : ℕ) (v : List Event) → adjacent cs Wide handles Open inside n flow_in i j v → Colon i
+    pub adjacent_colon : (i j : ℕ) (v : List Event) → adjacent cs Wide handles Open inside n flow_in i j v → Colon i
     unfolding adjacent
     adjacent_colon i j v (k, (h, e), r) = h
 
@@ -276,7 +275,7 @@ module _ (cs : List ℕ) where
         (unique_joined Fj (facts.json n) (λ i j m v r (e, f). json_valued i j v r f) (valued_unique (adjacent cs Wide handles Open inside n flow_in) adjacent_unique adjacent_colon))
         (λ i j k m o v w (a, us, vs, r, s, x) (e, f) (b, ws, ts, t, u, y) (g, h). facts.apart n i a b a b us ws r (refl, yaml_valued a j vs s f) t (refl, json_valued b k ts u h))
 
-    implicit_start : (i j : ℕ) (v : List Event) → implicit_entry cs Wide handles Open inside n flow_in i j v → ItemHere i
+    pub implicit_start : (i j : ℕ) (v : List Event) → implicit_entry cs Wide handles Open inside n flow_in i j v → ItemHere i
     unfolding implicit_entry yaml_key_entry json_key_entry
     implicit_start i j v (inl (a, us, vs, r, s, x)) = facts.yaml_start n i a us r
     implicit_start i j v (inr (a, us, vs, r, s, x)) = facts.json_start n i a us r
@@ -286,7 +285,7 @@ module _ (cs : List ℕ) where
     unfolding empty_key
     empty_key_unique = unique_joined ColonY (unique_gives _ (ends_at ColonY)) (λ i j m v r e. value_colon i j v r) value_unique
 
-    empty_key_colon : (i j : ℕ) (v : List Event) → empty_key cs Wide handles Open inside n flow_in i j v → ColonY i
+    pub empty_key_colon : (i j : ℕ) (v : List Event) → empty_key cs Wide handles Open inside n flow_in i j v → ColonY i
     unfolding empty_key
     empty_key_colon i j v (k, us, vs, (e, f), r, x) = subst ColonY e (value_colon k j vs r)
 
@@ -320,17 +319,17 @@ module _ (cs : List ℕ) where
         go (inr (inl t)) = inl (inr t)
         go (inr (inr (b, us, vs, (x, y), (z, u), f))) = inr (sym (z ∙ x), f ∙ ap (λ q. q ++ vs) y ∙ ap (λ q. empty no_props ++ q) u)
 
-    mark_inside : (i : ℕ) → slice_get cs i ≡ Some 63 → Inside cs (i + 1)
+    pub mark_inside : (i : ℕ) → slice_get cs i ≡ Some 63 → Inside cs (i + 1)
     mark_inside i h = inside_next cs i (i + 1) (63, h, nb_question) refl
 
-    gap_no_ns : (i k : ℕ) → Inside cs i → separate cs n flow_in i k → Stands cs is_ns i → ⊥
+    pub gap_no_ns : (i k : ℕ) → Inside cs i → separate cs n flow_in i k → Stands cs is_ns i → ⊥
     gap_no_ns i k o s t = go (sep_parts cs n flow_in i k o s)
       where
         go : (run cs is_space i k × (i < k)) ⊎ ((p : ℕ) × Past cs i p × run cs is_space p k) → ⊥
         go (inl (r, l)) = solid_no_space cs i t (r.1 i (omega arith) l)
         go (inr (p, b, r)) = past_no_ns cs i p o b t
 
-    explicit_mark : (i j : ℕ) (v : List Event) → explicit cs Wide handles Open inside n flow_in i j v → MarkHere i
+    pub explicit_mark : (i j : ℕ) (v : List Event) → explicit cs Wide handles Open inside n flow_in i j v → MarkHere i
     explicit_mark i j v r = let m = marked_of i j v r in (m.mark, gap_no_ns (i + 1) m.k (mark_inside i m.mark) m.gap)
 
     explicit_unique : Unique (explicit cs Wide handles Open inside n flow_in) Es
@@ -364,11 +363,11 @@ module _ (cs : List ℕ) where
     abbrev Loose : Rule (List Event)
     Loose = empty_key cs Wide handles Open inside n flow_in ∪ explicit cs Wide handles Open inside n flow_in
 
-    loose_here : (i j : ℕ) (v : List Event) → Loose i j v → ColonY i ⊎ MarkHere i
+    pub loose_here : (i j : ℕ) (v : List Event) → Loose i j v → ColonY i ⊎ MarkHere i
     loose_here i j v (inl r) = inl (empty_key_colon i j v r)
     loose_here i j v (inr r) = inr (explicit_mark i j v r)
 
-    item_no_loose : (i j : ℕ) (v : List Event) → ItemHere i → Loose i j v → ⊥
+    pub item_no_loose : (i j : ℕ) (v : List Event) → ItemHere i → Loose i j v → ⊥
     item_no_loose i j v h r = go (loose_here i j v r)
       where
         go : ColonY i ⊎ MarkHere i → ⊥

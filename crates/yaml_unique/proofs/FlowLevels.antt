@@ -19,15 +19,16 @@ use Rattle.yaml_scalar.proofs.PlainLemmas.{no_first_head, no_first_sign, no_late
 use Rattle.yaml_scalar.proofs.QuotedLemmas.{rest_same, rest_of, single_parts}
 use Rattle.yaml_scalar.proofs.QuotedReadings.{single_to_chain}
 use Rattle.yaml_scalar.proofs.DoubleReadings.{double_same}
-use Rattle.yaml_unique.proofs.Unique.{At, Unique, Apart}
-use Rattle.yaml_unique.proofs.Lines.{Solid, Fresh, Way, way_of, way_same}
+use Rattle.yaml_unique.specs.Readings.{At, Unique, Apart}
+use Rattle.yaml_unique.proofs.Lines.{way_of, way_same}
+use Rattle.yaml_unique.specs.Follows.{Solid, Fresh, Way, Closes, Colon, ColonY, Fs, Fy, Fj}
 use Rattle.yaml_unique.proofs.Properties.{NoMore, prop_solid, props_here, props_two}
 use Rattle.yaml_unique.proofs.TagEnds.{prop_same, prop_here, prop_inside, alias_same}
 use Rattle.yaml_unique.proofs.FlowNodes.{safe_ns, Kind, Sign, kind, sign_not, sign_colon, kind_colon, kind_fresh, prop_kind, plain_start, ContentHere, YamlRest, JsonRest, Jsons, jsons_start, json_parts, yaml_unique, json_node_unique, nodes_apart}
 use Rattle.yaml_unique.proofs.PlainEnds.{plain_stops, stop_way}
 use Rattle.yaml_unique.proofs.KeyContexts.{at_flow, Eased, no_eased, reads_eased}
 use Rattle.yaml_text.proofs.grammar.Widening.{Within, in_reads}
-use Rattle.yaml_unique.proofs.FlowEntries.{PartHere, item_part, colon_part, mark_part, of_colon, of_mark, stop_json, closes_colon, Closes, Colon, ColonY, Fs, Fy, Fj, ItemHere, closes_solid, colon_solid, stop_yaml, Facts, until, seq_same, map_same, pair_unique, PairKey, of_yaml, of_json, pair_key}
+use Rattle.yaml_unique.proofs.FlowEntries.{PartHere, item_part, colon_part, mark_part, of_colon, of_mark, stop_json, closes_colon, ItemHere, closes_solid, colon_solid, stop_yaml, Facts, until, seq_same, map_same, pair_unique, PairKey, of_yaml, of_json, pair_key}
 
 kind_comma : kind 44 ≡ 0
 unfolding kind
@@ -104,7 +105,7 @@ module _ (cs : List ℕ) where
   closes_no_plain c q (inr (inl h)) f = no_first_head cs c q 93 h sign_bracket head_bracket f
   closes_no_plain c q (inr (inr h)) f = no_first_head cs c q 125 h sign_brace head_brace f
 
-  closes_no_later : (q : ℕ) → Closes cs q → Later cs flow_in q → ⊥
+  pub closes_no_later : (q : ℕ) → Closes cs q → Later cs flow_in q → ⊥
   closes_no_later q (inl h) l = no_later_inner cs flow_in q 44 h (λ e. omega (arith, e)) inner_comma l
   closes_no_later q (inr (inl h)) l = no_later_inner cs flow_in q 93 h (λ e. omega (arith, e)) inner_bracket l
   closes_no_later q (inr (inr h)) l = no_later_inner cs flow_in q 125 h (λ e. omega (arith, e)) inner_brace l

@@ -16,8 +16,10 @@ use Rattle.yaml_text.specs.Lines.{Inside}
 use Rattle.yaml_text.proofs.Runs.{same_char}
 use Rattle.yaml_scalar.proofs.PlainLemmas.{no_first_head, first_ns, no_plain_mark}
 use Rattle.yaml_scalar.proofs.PlainReadings.{plain_to_chain}
-use Rattle.yaml_unique.proofs.Unique.{At, Unique, Apart, Ends, To, unique_within, unique_gives, unique_seen, unique_before, unique_either, unique_from, unique_from_either, from}
-use Rattle.yaml_unique.proofs.Lines.{Solid, Fresh, way_of, way_same, char_fresh}
+use Rattle.yaml_unique.proofs.Unique.{unique_within, unique_gives, unique_seen, unique_before, unique_either, unique_from, unique_from_either, from}
+use Rattle.yaml_unique.specs.Readings.{At, Unique, Apart, Ends, To}
+use Rattle.yaml_unique.proofs.Lines.{way_of, way_same, char_fresh}
+use Rattle.yaml_unique.specs.Follows.{Solid, Fresh}
 use Rattle.yaml_unique.proofs.Properties.{PropHere, NoMore, prop, props_two, props_here, unique_propped, apart_propped, prop_solid}
 
 -- what a character begins: 1 a property, 2 an alias, 3 a quoted text or a flow collection, 4 a block scalar, 0 anything else

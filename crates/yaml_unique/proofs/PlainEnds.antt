@@ -6,24 +6,24 @@ use Rattle.yaml_text.specs.grammar.Rules.{Any, done, then, Spans, run, Stands, w
 use Rattle.yaml_text.specs.grammar.Characters.{is_space, is_ns, is_nb, is_break, is_white}
 use Rattle.yaml_text.specs.grammar.Separation.{Ctx, flow_out, Mark, Unmarked, AtEnd, line_end, comment}
 use Rattle.yaml_text.specs.grammar.FlowScalars.{plain, PlainFirst}
-use Rattle.yaml_text.specs.Lines.{Inside, blank_rest}
+use Rattle.yaml_text.specs.Lines.{Inside, blank_rest, line_brk}
 use Rattle.yaml_scalar.specs.Chains.{margin, lead, breaks, folds, gap, taken, Later, plain_more, plain_chain}
-use Rattle.yaml_text.specs.Lines.{line_brk}
 use Rattle.yaml_scalar.specs.Chains as chain
 use Rattle.yaml_scalar.proofs.AnyLemmas.{any_onward}
 use Rattle.yaml_text.proofs.Repeats.{any_to_stop}
 use Rattle.yaml_text.proofs.Runs.{same_char, run_same}
+use Rattle.yaml_text.proofs.Breaks.{Ns, AfterNs, ns_stops, brk_no_ns, brk_line, run_join, mark_ns, brk_stops, brk_same}
+use Rattle.yaml_text.proofs.LineRuns.{inside_no_line, end_stops, line_end_stops, indent_run, indent_place}
 use Rattle.yaml_scalar.proofs.GapLemmas.{margin_white, blank_white, empty, gap_onward, unmarked_cuts}
-use Rattle.yaml_text.proofs.Breaks.{Ns, AfterNs, ns_stops, brk_stops, brk_no_ns, brk_same, brk_line, run_join, mark_ns}
 use Rattle.yaml_scalar.proofs.PlainLemmas.{hash_ns, later_no_hash, one_same, later_ns, first_ns, no_later_colon, more_same, more_onward}
 use Rattle.yaml_scalar.proofs.PlainReadings.{plain_to_chain}
-use Rattle.yaml_text.proofs.LineRuns.{inside_no_line, end_stops, line_end_stops, indent_run, indent_place}
 use Rattle.yaml_text.proofs.RestLemmas.{is_the_space, comment_stops, from_s_b, from_l}
-use Rattle.yaml_unique.proofs.Unique.{At, Unique}
-use Rattle.yaml_unique.proofs.Lines.{Solid, Past, Comments, Less, Way, solid_nb, solid_no_space}
+use Rattle.yaml_unique.specs.Readings.{At, Unique}
+use Rattle.yaml_unique.proofs.Lines.{solid_nb, solid_no_space}
+use Rattle.yaml_unique.specs.Follows.{Solid, Past, Comments, Less, Way, F}
 use Rattle.yaml_unique.proofs.BlockEntries.{past_no_ns}
 use Rattle.yaml_unique.proofs.FlowNodes.{safe_ns}
-use Rattle.yaml_unique.proofs.BlockNodes.{colon_solid, F}
+use Rattle.yaml_unique.proofs.BlockNodes.{colon_solid}
 
 white_space : is_white 32 ≡ true
 unfolding is_white
@@ -165,7 +165,7 @@ module _ (cs : List ℕ) where
       solid_no_space cs q f ((indent_run cs n m b i).1 q (omega (arith, x)) (omega (arith, x, y, l)))
 
   -- where a less indented line follows
-  stop_rest : (n : ℕ) (c : Ctx) (j m o : ℕ) (xs : List ℕ) → plain_more cs n c j o xs → Unmarked cs j o → Inside cs j → Past cs j m → Less cs n m → ⊥
+  pub stop_rest : (n : ℕ) (c : Ctx) (j m o : ℕ) (xs : List ℕ) → plain_more cs n c j o xs → Unmarked cs j o → Inside cs j → Past cs j m → Less cs n m → ⊥
   unfolding plain_more
   stop_rest n c j m o xs (inl (h, r1, r2, r3, r4)) u a b t = past_no_ns cs j m a b (35, h, hash_ns)
   stop_rest n c j m o xs (inr (p, us, vs, r, (l, x, y, e, f), d)) u a b t =
@@ -174,7 +174,7 @@ module _ (cs : List ℕ) where
 
   -- ---- one reading
 
-  any_unmarked : (n : ℕ) (c : Ctx) {j i : ℕ} {xs : List ℕ} → Any (plain_more cs n c) j i xs → Unmarked cs i j → Any (where_both (Unmarked cs) (plain_more cs n c)) j i xs
+  pub any_unmarked : (n : ℕ) (c : Ctx) {j i : ℕ} {xs : List ℕ} → Any (plain_more cs n c) j i xs → Unmarked cs i j → Any (where_both (Unmarked cs) (plain_more cs n c)) j i xs
   any_unmarked n c (done e f) u = done e f
   any_unmarked n c {j} {i} (then k ys zs r rest e) u =
       let a : i < k = more_onward cs n c i k ys r in
@@ -186,11 +186,11 @@ module _ (cs : List ℕ) where
   more_after n c i j xs (inl (h, x, y, e, f)) = (i, e, (35, h, hash_ns))
   more_after n c i j xs (inr (p, us, vs, r, (l, x, y, e, f), d)) = (p, e, later_ns cs c p l)
 
-  any_after : (n : ℕ) (c : Ctx) {j i : ℕ} {xs : List ℕ} → Any (plain_more cs n c) j i xs → AfterNs cs i → AfterNs cs j
+  pub any_after : (n : ℕ) (c : Ctx) {j i : ℕ} {xs : List ℕ} → Any (plain_more cs n c) j i xs → AfterNs cs i → AfterNs cs j
   any_after n c (done e f) a = subst (AfterNs cs) (sym e) a
   any_after n c (then k ys zs r rest e) a = any_after n c rest (more_after n c _ k ys r)
 
-  after_inside : (j : ℕ) → AfterNs cs j → Inside cs j
+  pub after_inside : (j : ℕ) → AfterNs cs j → Inside cs j
   after_inside j (i, e, s) = (i, e, solid_nb cs i s)
 
   chain_inside : (n : ℕ) (c : Ctx) (i j : ℕ) (xs : List ℕ) → plain_chain cs n c i j xs → Inside cs j
@@ -224,7 +224,7 @@ module _ (cs : List ℕ) where
         (sym e ∙ h.0 ∙ f, h.1)
 
   -- in block context
-  colon_no_later : (c : Ctx) (q : ℕ) → slice_get cs q ≡ Some 58 → (Stands cs is_ns (q + 1) → ⊥) → Later cs c q → ⊥
+  pub colon_no_later : (c : Ctx) (q : ℕ) → slice_get cs q ≡ Some 58 → (Stands cs is_ns (q + 1) → ⊥) → Later cs c q → ⊥
   colon_no_later c q h none l = no_later_colon cs c q (q + 1) h refl (λ (x, g, t). none (x, g, safe_ns c x t)) l
 
   pub plain_block_unique : (col d : ℕ) → Unique (plain cs col flow_out) (At (F cs col d))

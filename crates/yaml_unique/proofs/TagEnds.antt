@@ -296,6 +296,9 @@ module _ (cs : List ℕ) where
   form_inside handles i k t (shorthand a h x ha eh (o, s, more) ex f) = spans_inside more (tag_char_inside a o s)
   form_inside handles i k t (bare h e f) = after_char i k 33 h nb_bang e
 
+  pub tag_here : (handles : Handles) (i j : ℕ) (t : WrittenTag) → tag cs handles i j t → slice_get cs i ≡ Some 33
+  tag_here handles i j t r = form_here handles i j t (form_of handles i j t r).0
+
   tag_anchor : (handles : Handles) (i j k : ℕ) (t : WrittenTag) (a : List ℕ) → tag cs handles i j t → anchor cs i k a → ⊥
   unfolding anchor
   tag_anchor handles i j k t a r (b, (h, e), s) = let z : 33 ≡ 38 = same_char cs i 33 38 (form_here handles i j t (form_of handles i j t r).0) h in omega (arith, z)

@@ -1,12 +1,9 @@
-use Rattle.std.proofs.Common.{◌≡◌, ℕ, ◌+◌, ◌<◌, List, ◌∷◌, length, get_or, drop, refl, sym, ◌∙◌, ap, drop-cons, add-one}
+use Rattle.std.proofs.Common.{◌+◌, drop, refl, sym, ◌∙◌, ap}
 use Rattle.std.proofs.lemmas.List.{drop_all}
 use Rattle.yaml_core.specs.Form.{form_of}
 use Rattle.yaml_core.specs.State.{meaning}
+use Rattle.yaml_core.proofs.CutLemmas.{next}
 use Rattle.yaml_core.proofs.form.judge.Goals as goal
-
--- what is left begins with the character that is read
-next : (xs : List ℕ) (i : ℕ) → i < length xs → drop i xs ≡ get_or xs i 0 ∷ drop (i + 1) xs
-next xs i h = rw add-one (drop-cons xs i 0 h)
 
 pub loop-byte-init : goal.loop-byte-init
 unfolding meaning

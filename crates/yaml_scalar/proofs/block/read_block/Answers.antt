@@ -18,7 +18,7 @@ column_is r n fits e = e ∙ ap column (to_z-of_z w32 n fits)
 
 pub returns-in_default-clause-reads : goal.returns-in_default-clause-reads
 returns-in_default-clause-reads c =
-    refuses_unread c.unusable.result c.unusable.ensures
+    refuses_unread c.unusable.result c.unusable.ensures.unread
     (no_mark (text_of c.args.source.now) c.args.is_folded _ _ (λ e. c.in_default.ensures.none (e ∙ ap Some (sym c.sign_of.ensures))))
 
 pub read_header-requires-clause-inside : goal.read_header-requires-clause-inside

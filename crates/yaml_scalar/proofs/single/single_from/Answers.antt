@@ -109,7 +109,7 @@ returns-in-Err-clause-reads c =
     let q = c.quoted_run-end.ensures in
     let i = place_of c.args.source.now c.pieces.from in
     let k = place_of c.args.source.now c.quoted_run-end.result.0 in
-    refuses_unread c.unusable.result c.unusable.ensures
+    refuses_unread c.unusable.result c.unusable.ensures.unread
     (single_unread cs _ _ _ (single_none cs c.args.least (context_of c.args.context) _ _ k _ _ s.next
     (single_line cs c.args.least (context_of c.args.context) _ _ i k _ (slice_range cs i k) c.pieces.invariant.state q.line) q.whites q.no_white c.in-None.ensures.none q.no_text
     (no_fold cs c.args.least (context_of c.args.context) _ _ q.whites q.no_white c.in-Err.ensures.none)))
