@@ -99,7 +99,7 @@ def exact(rng):
 
 def tower(rng):
     """a document about the greatest height, with or without sharing"""
-    height, empty = rng.choice([125, 126, 127, 128, 129, 130]), ('scalar', None, '')
+    height, empty = rng.choice([1021, 1022, 1023, 1024, 1025, 1026]), ('scalar', None, '')
     shared, one = rng.random() < 0.5, rng.choice([empty, ('seq', None, []), ('map', None, [])])
     items = [('seq', 'a', [])]
     for at in range(height):
@@ -266,7 +266,7 @@ class Speller:
 BITS = [bit.encode() for bit in
         list('[]{},:&*"\\ \t\n\r-ax0#|>\'%!@?.~') + ['\ufeff', '\x85', 'é', '\U0001f600', '\\x4', '\\ud800', '\\U00110000',
          '\\U0010FFFF', '\\\t', '\\\n', '\r\n', '&a ', '*a', '*a :', '&a\t', ' :', ': ', '---', '...', '[]', '{}', '""', '\x7f',
-         '\ufffe', '[' * 126, '{"":' * 127]] + [b'\xff', b'\xc3', b'\xed\xa0\x80', b'\xf4\x90\x80\x80', b'\xc0\x80']
+         '\ufffe', '[' * 1022, '{"":' * 1023]] + [b'\xff', b'\xc3', b'\xed\xa0\x80', b'\xf4\x90\x80\x80', b'\xc0\x80']
 
 
 def mutated(rng, source):

@@ -9,10 +9,10 @@ Python's own means. `fuzz.py` runs the program beside it. It proves nothing and 
 """
 import functools, itertools, re, sys
 
-sys.setrecursionlimit(10000)
+sys.setrecursionlimit(50000)
 
-SOURCE_MOST = TEXT_MOST = 16777216     # bytes
-OPEN_MOST, HIGH_MOST, NODES_MOST, SHORT_MOST = 128, 127, 65536, 64
+SOURCE_MOST = TEXT_MOST = 67108864     # bytes
+OPEN_MOST, HIGH_MOST, NODES_MOST, SHORT_MOST = 1024, 1023, 65536, 64
 FIRST_EVENT = 2     # after the starts of the stream and of the document
 
 

@@ -11,7 +11,7 @@ use Rattle.yaml_text.specs.declared.event.Event as code
 use Rattle.yaml_text.specs.declared.fault.Fault.{Fault}
 use Rattle.yaml_text.specs.declared.fault.Fault.TheVariants as fault
 use Rattle.yaml_canon.specs.Line.{one_document}
-use Rattle.yaml_text.specs.grammar.Calls.{Unread}
+use Rattle.yaml_text.specs.Answer.{Unread}
 use Rattle.yaml_canon.specs.ReaderAnswer.{Answers, Appends, LeadsOn, ReadsAll, Refuses}
 
 pub refuses_weaker : (e : Fault) {P Q : Type 0} → (P → Q) → Refuses e P → Refuses e Q

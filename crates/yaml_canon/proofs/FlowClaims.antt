@@ -1,5 +1,5 @@
 -- From what was read to what is promised.
-use Rattle.std.proofs.Common.{◌≡◌, ℕ, ◌<◌, ◌≤◌, Bool, ◌&&◌, inl, List, [], ◌∷◌, ◌++◌, length, map, Ok, Err, arith, refl, sym, ◌∙◌, ap, subst, encode_utf8_all}
+use Rattle.std.proofs.Common.{◌≡◌, ℕ, ◌<◌, ◌≤◌, Bool, ◌&&◌, List, [], ◌∷◌, ◌++◌, length, map, Ok, Err, arith, refl, sym, ◌∙◌, ap, subst, encode_utf8_all}
 use Rattle.std.specs.Cmp.Lexicographic.{pointwise}
 use Rattle.yaml_text.specs.Limits.{text_limit, height_limit, nodes_limit}
 use Rattle.yaml_text.specs.Event.{Event}
@@ -130,7 +130,7 @@ module _ (bytes : List ℕ) (es : List Event) (d : FlowDocument bytes es) where
 
   root_sound : Sound d.root
   root_sound =
-      let q = readings_are_documents bytes es (inl d.reads) in
+      let q = readings_are_documents bytes es d.reads in
       let p : q.0 ≡ document_of d.root ∷ [] = stream_once q.0 (document_of d.root ∷ []) (sym q.1 ∙ d.events) in
       (subst DocumentsSound p q.2).0
 

@@ -161,7 +161,7 @@ flow_documents bytes cs es text (xs, (p1, q1, (p2, q2, (p3, q3, (p4, q4, (p5, sp
     let told : OneNode xs = any_told cs (node cs open_limit) (node_told cs open_limit) p5 j xs r in
     let m : Marked = told.0 in
     let events : es ≡ stream_events (document_of m ∷ []) = e ∙ ap (λ v. stream_start ∷ document_start true ∷ v) (sym (told.1 (document_end false ∷ stream_end ∷ []))) in
-    let found : FromDocuments es = readings_are_documents bytes es (inl reads) in
+    let found : FromDocuments es = readings_are_documents bytes es reads in
     let same : found.0 ≡ document_of m ∷ [] = stream_once found.0 (document_of m ∷ []) (sym found.1 ∙ events) in
     let sound : DocumentsSound (document_of m ∷ []) = subst DocumentsSound same found.2 in
     record { root = m; events = events; plain = shaped_plain m told.2 sound.0; reads = reads }

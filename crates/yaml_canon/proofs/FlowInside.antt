@@ -128,7 +128,7 @@ module _ (cs : List ℕ) where
   anchored_in b i j p (inl q) = inl q
   anchored_in b i j p (inr (m, (xs, r, e), s)) = inr (m, inr (m, xs, r, inl (refl, e)), line.apart cs b m j (spaces_apart m j s))
 
-  alias_in : (room : ℕ) (c : Ctx) (i j : ℕ) (es : List Event) → alias_node cs i j es → reads cs ⊥ [] room (yaml_part 0 c) i j es
+  alias_in : (room : ℕ) (c : Ctx) (i j : ℕ) (es : List Event) → alias_node cs i j es → reads cs (Unit {0}) [] room (yaml_part 0 c) i j es
   unfolding alias_node reads yaml_node
   alias_in zero c i j es r = inl r
   alias_in (suc room) c i j es r = inl r
@@ -144,17 +144,17 @@ module _ (cs : List ℕ) where
 
   -- a node that is no alias, inside brackets
   abbrev Nodes : ℕ → Type 0
-  Nodes room = Inside cs (node cs room) (reads cs ⊥ [] room (json_part 0 flow_in))
+  Nodes room = Inside cs (node cs room) (reads cs (Unit {0}) [] room (json_part 0 flow_in))
 
-  any_in : (room : ℕ) → Nodes room → Inside cs (any_node cs (node cs room)) (reads cs ⊥ [] room (yaml_part 0 flow_in) ∪ reads cs ⊥ [] room (json_part 0 flow_in))
+  any_in : (room : ℕ) → Nodes room → Inside cs (any_node cs (node cs room)) (reads cs (Unit {0}) [] room (yaml_part 0 flow_in) ∪ reads cs (Unit {0}) [] room (json_part 0 flow_in))
   any_in room f i j es n (inl r) = inl (alias_in room flow_in i j es r)
   any_in room f i j es n (inr r) = inr (f i j es n r)
 
   abbrev items_of : ℕ → Ctx → Rule (List Event)
-  items_of room c = reads cs ⊥ [] room (pair_part 0 c) ∪ (reads cs ⊥ [] room (yaml_part 0 c) ∪ reads cs ⊥ [] room (json_part 0 c))
+  items_of room c = reads cs (Unit {0}) [] room (pair_part 0 c) ∪ (reads cs (Unit {0}) [] room (yaml_part 0 c) ∪ reads cs (Unit {0}) [] room (json_part 0 c))
 
   abbrev entries_of : ℕ → Ctx → Rule (List Event)
-  entries_of room c = map_entry_of cs ⊥ [] (Unit {0}) (reads cs ⊥ [] room) 0 c
+  entries_of room c = map_entry_of cs (Unit {0}) [] (Unit {0}) (reads cs (Unit {0}) [] room) 0 c
 
   item_in : (room : ℕ) (b : Bool) → Nodes room → Inside cs (any_node cs (node cs room)) (items_of room (inner (context cs b)))
   item_in room b f i j es n r = subst (λ c. items_of room c i j es) (sym (inner_is b)) (inr (any_in room f i j es n r))
@@ -193,21 +193,21 @@ module _ (cs : List ℕ) where
   entry_in : (room : ℕ) (b : Bool) → Nodes room → Inside cs (entry cs (node cs room)) (entries_of room (inner (context cs b)))
   entry_in room b f i j es n r = subst (λ c. entries_of room c i j es) (sym (inner_is b)) (flow_entry_in room f i j es n r)
 
-  sequence_in : (room : ℕ) (b : Bool) → Nodes room → (p : Props) → Inside cs (sequence cs (node cs room) p) (flow_seq cs ⊥ [] (Unit {0}) (reads cs ⊥ [] room) p 0 (context cs b))
+  sequence_in : (room : ℕ) (b : Bool) → Nodes room → (p : Props) → Inside cs (sequence cs (node cs room) p) (flow_seq cs (Unit {0}) [] (Unit {0}) (reads cs (Unit {0}) [] room) p 0 (context cs b))
   unfolding sequence flow_seq is_break
   sequence_in room b f p i j es n (xs, (a, (e, g), (o, s, r)), l) =
       let after : Inline cs o = inline_on cs a o (inline_on cs i a n (one_on cs i a 91 refl e g)) (spaces_on cs a o s) in
       let inside = parts_in b 93 (any_node cs (node cs room)) (items_of room (inner (context cs b))) (any_on (node cs room) (node_on room)) (item_in room b f) o j xs after r in
       (tt, (xs, (o, (a, (e, g), around cs b a o s), inside), l))
 
-  mapping_in : (room : ℕ) (b : Bool) → Nodes room → (p : Props) → Inside cs (mapping cs (node cs room) p) (flow_map cs ⊥ [] (Unit {0}) (reads cs ⊥ [] room) p 0 (context cs b))
+  mapping_in : (room : ℕ) (b : Bool) → Nodes room → (p : Props) → Inside cs (mapping cs (node cs room) p) (flow_map cs (Unit {0}) [] (Unit {0}) (reads cs (Unit {0}) [] room) p 0 (context cs b))
   unfolding mapping flow_map is_break
   mapping_in room b f p i j es n (xs, (a, (e, g), (o, s, r)), l) =
       let after : Inline cs o = inline_on cs a o (inline_on cs i a n (one_on cs i a 123 refl e g)) (spaces_on cs a o s) in
       let inside = parts_in b 125 (entry cs (node cs room)) (entries_of room (inner (context cs b))) (entry_on (node cs room) (node_on room)) (entry_in room b f) o j xs after r in
       (tt, (xs, (o, (a, (e, g), around cs b a o s), inside), l))
 
-  json_in : (room : ℕ) (b : Bool) → Inside cs (node cs room) (reads cs ⊥ [] room (json_part 0 (context cs b)))
+  json_in : (room : ℕ) (b : Bool) → Inside cs (node cs room) (reads cs (Unit {0}) [] room (json_part 0 (context cs b)))
   unfolding node reads json_node
   json_in zero b i j es n (k, p, a, r) =
       let after : Inline cs k = inline_on cs i k n (anchored_on i k p a) in
@@ -225,7 +225,7 @@ module _ (cs : List ℕ) where
   -- ---- the document
 
   block_in_room : (room : ℕ) (i k : ℕ) (es : List Event) → separate cs 0 flow_out i k → Inline cs k → (any_node cs (node cs room) ◂ tail cs) k (length cs) es
-      → reads cs ⊥ [] room (block_part 0 block_in) i (length cs) es
+      → reads cs (Unit {0}) [] room (block_part 0 block_in) i (length cs) es
   unfolding reads block_node flow_node
   block_in_room zero i k es s n (j, inl r, t) = inl (k, s, (j, inl (alias_in zero flow_out k j es r), tail_in cs j t))
   block_in_room zero i k es s n (j, inr r, t) = inl (k, s, (j, inr (json_in zero false k j es n r), tail_in cs j t))
@@ -234,7 +234,7 @@ module _ (cs : List ℕ) where
 
 -- ---- the stream
 
-pub flow_inside : (cs : List ℕ) (es : List Event) → ReadsFlow cs es → ReadsText cs ⊥ open_limit es
+pub flow_inside : (cs : List ℕ) (es : List Event) → ReadsFlow cs es → ReadsText cs (Unit {0}) open_limit es
 unfolding ReadsFlow document content ReadsText stream any_document explicit_document bare_document document_mark stream_events piece_events ends_explicitly separate separate_lines sep MarkOf StartsLine is_white is_break
 flow_inside cs es (xs, (p1, (e1, f1), (p2, (e2, f2), (p3, (e3, f3), (p4, (e4, f4), (p5, sp, (j, r, (m, sj, t))))))), e) =
     let start : p3 ≡ 3 = omega (arith, f1, f2, f3) in
@@ -247,7 +247,7 @@ flow_inside cs es (xs, (p1, (e1, f1), (p2, (e2, f2), (p3, (e3, f3), (p4, (e4, f4
     let along : Along cs p3 m = go_on cs p3 p4 m (one_on cs p3 p4 32 refl e4 f4) (go_on cs p4 p5 m (spaces_on cs p4 p5 sp) (go_on cs p5 j m node_along (spaces_on cs j m sj))) in
     let free : Unmarked cs p3 (length cs) = both_unmarked cs p3 m (length cs) (unmarked cs p3 m n3 along) (tail_unmarked cs m (inline_on cs p3 m n3 along) t) in
     let apart_at : separate cs 0 flow_out p3 p5 = inr (inl (space_run cs p3 p4 p5 e4 f4 sp, omega (arith, f4, sp.0))) in
-    let body : reads cs ⊥ [] open_limit (block_part 0 block_in) p3 (length cs) xs = block_in_room cs open_limit p3 p5 xs apart_at n5 (j, r, (m, sj, t)) in
+    let body : reads cs (Unit {0}) [] open_limit (block_part 0 block_in) p3 (length cs) xs = block_in_room cs open_limit p3 p5 xs apart_at n5 (j, r, (m, sj, t)) in
     let pieces : List Piece = document_piece true xs ∷ [] in (
       pieces,
       (length cs, pieces, [], (0, Spans.done refl, inr (inr (inl (xs, (p3, (0, (refl, mark), letters), inl (free, body)), refl)))), done refl refl, sym (append-nil pieces)),

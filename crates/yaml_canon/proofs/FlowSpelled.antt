@@ -17,6 +17,7 @@ use Rattle.yaml_text.specs.Proper.{IsProper, AreProper, ArePairsProper, IsAdmitt
 use Rattle.yaml_text.proofs.ProperLaws.{proper_arranged, fine_mark}
 use Rattle.yaml_text.proofs.MeansLaws.{height_arranged}
 use Rattle.yaml_text.proofs.TextLaws.{IsFine}
+use Rattle.yaml_text.specs.Limits.{open_limit}
 use Rattle.yaml_text.specs.grammar.Rules.{Rule, Stands}
 use Rattle.yaml_text.specs.grammar.Characters.{brk, is_nb, is_ns, is_break}
 use Rattle.yaml_text.specs.grammar.Tags as tags
@@ -193,7 +194,7 @@ flow_spelled t a f =
     let plain : Plain m = plain_mark repeated u [] (plain_arranged t f) proper in
     let fine : IsFine m = fine_mark short repeated u [] proper in
     let d0 : depth m ≤ suc (height u) = depth_mark repeated u [] in
-    let d : depth m ≤ 128 = omega (arith, d0, height_arranged t, a.low) in
+    let d : depth m ≤ open_limit = omega (arith, d0, height_arranged t, a.low) in
     let cs : List ℕ = spell (t ∷ []) in
     let x : List ℕ = text m (10 ∷ []) in
     let a0 : At cs 0 (45 ∷ 45 ∷ 45 ∷ 32 ∷ x) = refl in
@@ -202,10 +203,10 @@ flow_spelled t a f =
     let a3 = at_next cs (0 + 1 + 1) 45 (32 ∷ x) a2 in
     let a4 = at_next cs (0 + 1 + 1 + 1) 32 x a3 in
     let i : ℕ = 0 + 1 + 1 + 1 + 1 in
-    let n = plain_read cs m 128 i (10 ∷ []) plain fine d feed_stops a4 in
+    let n = plain_read cs m open_limit i (10 ∷ []) plain fine d feed_stops a4 in
     let b = at_next cs n.0 10 [] n.2 in
     let e : n.0 + 1 ≡ length cs = at_end cs (n.0 + 1) b in
-    let ends : brk cs n.0 (n.0 + 1) = feed_ends cs 128 i n.0 (flat m []) n.1 (at_get cs n.0 10 [] n.2) in
+    let ends : brk cs n.0 (n.0 + 1) = feed_ends cs open_limit i n.0 (flat m []) n.1 (at_get cs n.0 10 [] n.2) in
     let read : document cs 0 (n.0 + 1) (flat m []) = (
       0 + 1,
       (at_get cs 0 45 _ a0, refl),

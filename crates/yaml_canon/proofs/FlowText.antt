@@ -5,7 +5,7 @@ use Rattle.yaml_text.specs.Limits.{open_limit}
 use Rattle.yaml_text.specs.Answer.{Only}
 use Rattle.yaml_text.specs.Event.{Event}
 use Rattle.yaml_canon.specs.Line.{tail, one_document}
-use Rattle.yaml_text.specs.grammar.Calls.{Unread}
+use Rattle.yaml_text.specs.Answer.{Unread}
 use Rattle.yaml_canon.specs.ReaderAnswer.{Leads}
 use Rattle.yaml_canon.specs.FlowPath.{any_node, node, content, document, ReadsFlow}
 use Rattle.yaml_canon.specs.FlowAnswer.{marked}

@@ -2,7 +2,7 @@
 use Rattle.std.proofs.Common.{◌≡◌, ℕ, List, [], ◌++◌, refl, sym, ◌∙◌, ap, subst, append_assoc}
 use Rattle.yaml_text.specs.grammar.Rules.{Span, Rule, ◌◂◌, ◌⨾◌, Any, done, then, any}
 use Rattle.yaml_text.specs.Answer.{Only}
-use Rattle.yaml_text.specs.grammar.Calls.{Unread}
+use Rattle.yaml_text.specs.Answer.{Unread}
 use Rattle.yaml_canon.specs.ReaderAnswer.{Leads}
 
 pub leads_start : {A : Type 0} (R : Rule (List A)) (i : ℕ) → Leads R i R i []

@@ -7,7 +7,7 @@ use Rattle.std.proofs.Math.Nat.{eq-or-lt_of_le}
 use Rattle.yaml_text.specs.grammar.Rules.{Rule, ◌▸◌, chr, Stands}
 use Rattle.yaml_text.specs.grammar.Characters.{is_space, brk}
 use Rattle.yaml_canon.specs.Line.{spaces, AfterReturn, tail}
-use Rattle.yaml_text.specs.grammar.Calls.{Unread}
+use Rattle.yaml_text.specs.Answer.{Unread}
 use Rattle.yaml_canon.specs.ReaderAnswer.{Leads}
 use Rattle.yaml_canon.proofs.ScalarLemmas.{same_char}
 

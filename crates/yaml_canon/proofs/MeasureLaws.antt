@@ -33,7 +33,7 @@ nodes-entry : (ps : List (Tree × Tree)) (p : Tree × Tree) → nodes_of_pairs (
 nodes-entry [] p = omega arith
 nodes-entry (q ∷ ps) p = omega (arith, nodes-entry ps p)
 
-cut-height : (h k : ℕ) → min (max (min h 128) (min k 128 + 1)) 128 ≡ min (max h (suc k)) 128
+cut-height : (h k : ℕ) → min (max (min h 1024) (min k 1024 + 1)) 1024 ≡ min (max h (suc k)) 1024
 cut-height h k = omega arith
 
 cut-nodes : (h k : ℕ) → min (min h 65537 + min k 65537) 65537 ≡ min (h + k) 65537
@@ -49,7 +49,7 @@ same_measure m n h k = λ z. record { height = h z; nodes = k z }
 pub with-item : (us : List Tree) (u : Tree) (m part new : Measure) → m ≡ measure_of (sequence_from us) → part ≡ measure_of u → IsWith m part new → new ≡ measure_of (sequence_from (us ++ (u ∷ [])))
 with-item us u m part new e q w =
     same_measure new (measure_of (sequence_from (us ++ (u ∷ []))))
-    (w.0 ∙ ((λ z. min (max (e z).height ((q z).height + 1)) 128) ∙ (cut-height (heights (trees us)) (height u) ∙ ap (λ n. min n 128) (sym (heights-push us u)))))
+    (w.0 ∙ ((λ z. min (max (e z).height ((q z).height + 1)) 1024) ∙ (cut-height (heights (trees us)) (height u) ∙ ap (λ n. min n 1024) (sym (heights-push us u)))))
     (w.1 ∙ ((λ z. min ((e z).nodes + (q z).nodes) 65537) ∙ (cut-nodes (suc (nodes_of (trees us))) (nodes u) ∙ ap (λ n. min n 65537) (omega (arith, nodes-push us u)))))
 
 pub with-entry : (ps : List (Tree × Tree)) (p : Tree × Tree) (m key value mid new : Measure) → m ≡ measure_of (mapping map_tag (pairs ps)) → key ≡ measure_of p.0 → value ≡ measure_of p.1 → IsWith m key mid → IsWith mid value new
@@ -57,10 +57,10 @@ pub with-entry : (ps : List (Tree × Tree)) (p : Tree × Tree) (m key value mid 
 with-entry ps p m key value mid new e q r v w =
     let h = heights_of_pairs (pairs ps) in
     let n = suc (nodes_of_pairs (pairs ps)) in
-    let mid_height : mid.height ≡ min (max h (suc (height p.0))) 128 = v.0 ∙ ((λ z. min (max (e z).height ((q z).height + 1)) 128) ∙ cut-height h (height p.0)) in
+    let mid_height : mid.height ≡ min (max h (suc (height p.0))) 1024 = v.0 ∙ ((λ z. min (max (e z).height ((q z).height + 1)) 1024) ∙ cut-height h (height p.0)) in
     let mid_nodes : mid.nodes ≡ min (n + nodes p.0) 65537 = v.1 ∙ ((λ z. min ((e z).nodes + (q z).nodes) 65537) ∙ cut-nodes n (nodes p.0)) in
     same_measure new (measure_of (mapping map_tag (pairs (ps ++ (p ∷ [])))))
-    (w.0 ∙ ((λ z. min (max (mid_height z) ((r z).height + 1)) 128) ∙ (cut-height (max h (suc (height p.0))) (height p.1) ∙ ap (λ x. min x 128) (sym (heights-entry ps p)))))
+    (w.0 ∙ ((λ z. min (max (mid_height z) ((r z).height + 1)) 1024) ∙ (cut-height (max h (suc (height p.0))) (height p.1) ∙ ap (λ x. min x 1024) (sym (heights-entry ps p)))))
     (w.1 ∙ ((λ z. min (mid_nodes z + (r z).nodes) 65537) ∙ (cut-nodes (n + nodes p.0) (nodes p.1) ∙ ap (λ x. min x 65537) (omega (arith, nodes-entry ps p)))))
 
 -- ---- the code's loops

@@ -13,7 +13,7 @@ use Rattle.yaml_text.specs.grammar.Characters.{is_space, is_ns, is_nb, is_break}
 use Rattle.yaml_text.specs.grammar.Events.{Props, no_props, seq_start, map_start, wrapped}
 use Rattle.yaml_text.specs.grammar.Tags.{is_name, name, anchor, alias}
 use Rattle.yaml_canon.specs.Line.{spaces, double_line, AfterReturn}
-use Rattle.yaml_text.specs.grammar.Calls.{Unread}
+use Rattle.yaml_text.specs.Answer.{Unread}
 use Rattle.yaml_canon.specs.ReaderAnswer.{Leads, Appends}
 use Rattle.yaml_canon.specs.FlowPath.{apart, anchored, alias_node, scalar_node, any_node, sequence, entry, mapping, node}
 use Rattle.yaml_canon.specs.FlowAnswer.{props_of, opened, bare, gap}

@@ -129,7 +129,7 @@ some-there (a ∷ xs) [] i x q e = absurd (omega arith)
 some-there (a ∷ xs) (b ∷ ys) zero x q e = (b, refl)
 some-there (a ∷ xs) (b ∷ ys) (suc i) x q e = some-there xs ys i x (omega arith) e
 
-uncut : (n : ℕ) → n ≤ 127 → min n 128 ≡ n
+uncut : (n : ℕ) → n ≤ height_limit → min n (suc height_limit) ≡ n
 uncut n h = omega arith
 
 module _ (ds : List Document) (ms : List Measure) (g : Measured ds ms) where

@@ -7,7 +7,7 @@ use Rattle.yaml_text.specs.Answer.{Only}
 use Rattle.yaml_text.specs.Event.{Event}
 use Rattle.yaml_text.specs.grammar.Rules.{Rule, ◌◂◌, Any, done, then, chr, optional, Stands}
 use Rattle.yaml_canon.specs.Line.{spaces, comma}
-use Rattle.yaml_text.specs.grammar.Calls.{Unread}
+use Rattle.yaml_text.specs.Answer.{Unread}
 use Rattle.yaml_canon.specs.ReaderAnswer.{Leads}
 use Rattle.yaml_canon.specs.FlowPath.{parts}
 use Rattle.yaml_canon.specs.FlowAnswer.{opened}

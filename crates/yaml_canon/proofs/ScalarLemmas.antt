@@ -13,7 +13,7 @@ use Rattle.yaml_text.specs.grammar.Characters.{is_nb, is_ns, is_white, is_break,
 use Rattle.yaml_text.specs.grammar.FlowScalars.{double_char}
 use Rattle.yaml_text.proofs.PlaceLemmas.{slice_none, slice_join, slice_one, slice_snoc}
 use Rattle.yaml_canon.specs.Line.{is_verbatim, digit_count, piece, quoted_rest, double_line}
-use Rattle.yaml_text.specs.grammar.Calls.{Unread}
+use Rattle.yaml_text.specs.Answer.{Unread}
 use Rattle.yaml_canon.specs.ReaderAnswer.{Leads}
 use Rattle.yaml_canon.proofs.Leads.{leads_start, leads_on, any_more, any_end, any_none}
 

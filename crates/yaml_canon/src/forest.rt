@@ -15,9 +15,8 @@ use crate::tree::Tree;
 use std::alloc::Global;
 use yaml_text::event::Event;
 use yaml_text::fault::Fault;
+use yaml_text::limits::height_limit;
 
-/// The greatest height of a document's tree.
-const HEIGHT_LIMIT: usize = 127;
 /// The greatest number of nodes of a document's tree.
 const NODES_LIMIT: usize = 65_536;
 
@@ -35,9 +34,8 @@ pub(crate) struct Nodes<'a> {
 fn first_high(measures: &[Measure]) -> Option<usize>
     ensures { result ≡ position (λ measure. nat_lt height_limit measure.height) measures.now }
 {
-    measures
-        .iter()
-        .position(|measure| measure.height > HEIGHT_LIMIT)
+    let limit = height_limit();
+    measures.iter().position(|measure| measure.height > limit)
 }
 
 /// The first document whose tree has too many nodes, counted from 0.

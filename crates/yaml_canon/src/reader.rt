@@ -3,6 +3,7 @@ ghost use Rattle.std.specs.Prelude.{◌≡◌, ◌≢◌, ◌≤◌, ◌<◌, If
 ghost use Rattle.std.specs.Result.{result_map_both};
 ghost use Rattle.std.specs.Option.{option_map};
 ghost use Rattle.std.specs.Cow.{cow_str_bytes};
+ghost use Rattle.yaml_text.specs.Limits as limit;
 ghost use Rattle.yaml_text.specs.Place.{Steps};
 ghost use Rattle.yaml_text.specs.Source.{bytes_of, text_of, place_of, IsBorder};
 ghost use Rattle.yaml_text.specs.EventModel.{event_of};
@@ -20,13 +21,11 @@ use yaml_text::chars::Chars;
 use yaml_text::class::{is_break, is_flow_indicator, is_white};
 use yaml_text::event::{Event, EventTag, Style};
 use yaml_text::fault::Fault;
+use yaml_text::limits::open_limit;
 use yaml_text::places::{accept, next, text_between};
 
 #[cfg(test)]
 mod tests;
-
-/// How many collections may be open at one place.
-const OPEN_LIMIT: u32 = 128;
 
 /// The border after the spaces at a border, where one has to stand.
 fn read_apart(source: &Chars<'_>, at: usize) -> Result<usize, Fault>
@@ -119,7 +118,7 @@ fn read_node<'a>(
     alloc: Global,
     source: &Chars<'a>,
     at: usize,
-    room: u32,
+    room: usize,
     out: &mut Vec<Event<'a>>,
 ) -> Result<usize, Fault>
     requires { IsBorder source.now at }
@@ -148,7 +147,7 @@ fn read_bare<'a>(
     source: &Chars<'a>,
     at: usize,
     anchor: Option<CowStr<'a>>,
-    room: u32,
+    room: usize,
     out: &mut Vec<Event<'a>>,
 ) -> Result<usize, Fault>
     requires { IsBorder source.now at }
@@ -195,7 +194,7 @@ fn read_sequence<'a>(
     at: usize,
     inside: usize,
     anchor: Option<CowStr<'a>>,
-    room: u32,
+    room: usize,
     out: &mut Vec<Event<'a>>,
 ) -> Result<usize, Fault>
     requires bracket { Steps (bytes_of source.now) at 91 inside }
@@ -221,7 +220,7 @@ fn read_items<'a>(
     source: &Chars<'a>,
     at: usize,
     inside: usize,
-    room: u32,
+    room: usize,
     out: &mut Vec<Event<'a>>,
 ) -> Result<usize, Fault>
     requires bracket { Steps (bytes_of source.now) at 91 inside }
@@ -257,7 +256,7 @@ fn read_mapping<'a>(
     at: usize,
     inside: usize,
     anchor: Option<CowStr<'a>>,
-    room: u32,
+    room: usize,
     out: &mut Vec<Event<'a>>,
 ) -> Result<usize, Fault>
     requires brace { Steps (bytes_of source.now) at 123 inside }
@@ -283,7 +282,7 @@ fn read_entries<'a>(
     source: &Chars<'a>,
     at: usize,
     inside: usize,
-    room: u32,
+    room: usize,
     out: &mut Vec<Event<'a>>,
 ) -> Result<usize, Fault>
     requires brace { Steps (bytes_of source.now) at 123 inside }
@@ -353,7 +352,7 @@ fn read_entry<'a>(
     alloc: Global,
     source: &Chars<'a>,
     at: usize,
-    room: u32,
+    room: usize,
     out: &mut Vec<Event<'a>>,
 ) -> Result<usize, Fault>
     requires { IsBorder source.now at }
@@ -384,10 +383,25 @@ fn read_mark(source: &Chars<'_>) -> Result<usize, Fault>
     }
 }
 
+/// The node of a document, and the border after it.
+fn read_root<'a>(
+    alloc: Global,
+    source: &Chars<'a>,
+    at: usize,
+    out: &mut Vec<Event<'a>>,
+) -> Result<usize, Fault>
+    requires { IsBorder source.now at }
+    ensures border { IfOk result (λ to. IsBorder source.now to) }
+    ensures reads { Appends (any_node (text_of source.now) (node (text_of source.now) limit.open_limit)) (place_of source.now at)
+        (place_of source.now) out.old.items out.new.items result }
+{
+    read_node(alloc, source, at, open_limit(), out)
+}
+
 /// The events of a stream on one line of quoted scalars, flow collections, anchors and aliases.
 ///
 /// Refused are, with the input offset of the first character that cannot be used: a tab where
-/// separation may stand, the bracket or brace of a 129th open collection, the backslash of an
+/// separation may stand, the bracket or brace of a collection with which too many are open, the backslash of an
 /// escape that there is not, and anything else that the productions do not go on with.
 pub(crate) fn read_events<'a>(alloc: Global, source: &Chars<'a>) -> Result<Vec<Event<'a>>, Fault>
     ensures { ReadsAll (ReadsFlow (text_of source.now)) (result_map_both (λ v. map event_of v.items) (λ e. e) result) }
@@ -396,7 +410,7 @@ pub(crate) fn read_events<'a>(alloc: Global, source: &Chars<'a>) -> Result<Vec<E
     let mut out = Vec::new(alloc);
     out.push(Event::StreamStart)?;
     out.push(Event::DocumentStart { explicit: true })?;
-    let end = read_node(alloc, source, start, OPEN_LIMIT, &mut out)?;
+    let end = read_root(alloc, source, start, &mut out)?;
     read_tail(source, end)?;
     out.push(Event::DocumentEnd { explicit: false })?;
     out.push(Event::StreamEnd)?;

@@ -19,12 +19,10 @@ use crate::walk::visit;
 use std::alloc::Global;
 use yaml_scalar::spell::spell_into;
 use yaml_text::fault::Fault;
-
-/// The greatest length of a canonical text, in bytes.
-const TEXT_LIMIT: usize = 16_777_216;
+use yaml_text::limits::text_limit;
 
 /// The canonical text of a forest, a document each, from its trees with the entries of each
-/// mapping in order of their keys. A text of more than 16,777,216 bytes is refused as
+/// mapping in order of their keys. A text of more bytes than the limit is refused as
 /// `TextTooLong`.
 pub(crate) fn spell(alloc: Global, trees: &[Tree<'_>]) -> Result<String, Fault>
     ensures ok { (f : List plain.Tree) → map tree_of trees.now ≡ map arranged f → IfOk result (λ text. string_bytes text ≡ spell_bytes f) }
@@ -36,7 +34,7 @@ pub(crate) fn spell(alloc: Global, trees: &[Tree<'_>]) -> Result<String, Fault>
     for tree in trees {
         spell_document(alloc, tree, &mut out)?;
     }
-    if out.as_str().len() > TEXT_LIMIT {
+    if out.as_str().len() > text_limit() {
         return Err(Fault::TextTooLong);
     }
     Ok(out)

@@ -2,15 +2,13 @@
 use Rattle.std.proofs.Common.{◌≡◌, ℕ, ◌≤◌, ◌<◌, ◌⊎◌, inl, inr, List, [], ◌++◌, refl, sym, ◌∙◌, ap, subst, arith, append_assoc}
 use Rattle.std.proofs.lemmas.List.{append-nil}
 use Rattle.yaml_text.specs.grammar.Rules.{Span, ◌◂◌, ◌⨾◌, Any, done, then, any, where_both}
-use Rattle.yaml_scalar.specs.Outcome.{TextRule}
-use Rattle.yaml_text.specs.grammar.Calls.{Unread}
+use Rattle.yaml_text.proofs.Repeats.{SameEnd}
+use Rattle.yaml_scalar.specs.Chains.{TextRule}
+use Rattle.yaml_text.specs.Answer.{Unread}
 
 -- from a place the rule has one reading at most
 abbrev pub Same : TextRule → Type 0
 Same R = (i j k : ℕ) (xs ys : List ℕ) → R i j xs → R i k ys → (j ≡ k) × (xs ≡ ys)
-
-abbrev pub SameEnd : Span → Type 0
-SameEnd S = (i j k : ℕ) → S i j → S i k → j ≡ k
 
 abbrev pub Onward : TextRule → Type 0
 Onward R = (i j : ℕ) (xs : List ℕ) → R i j xs → i < j

@@ -3,8 +3,10 @@ use Rattle.std.proofs.Common.{◌≡◌, ◌≢◌, ℕ, ◌+◌, List, Some, Bo
 use Rattle.std.specs.Prelude.{slice_get}
 use Rattle.yaml_text.specs.grammar.Rules.{maybe, furthest_span}
 use Rattle.yaml_text.specs.grammar.BlockScalars.{Line, Header, is_given, content, header, indentation, lines, LinesEnd, comment_lines, block_content, block_scalar, literal, folded}
-use Rattle.yaml_text.specs.grammar.Calls.{Unread}
-use Rattle.yaml_scalar.specs.BlockRules.{Inside, FurthestAlone, block_lines}
+use Rattle.yaml_text.specs.Answer.{Unread}
+use Rattle.yaml_scalar.specs.BlockRules.{block_lines}
+use Rattle.yaml_text.specs.Answer.{FurthestAlone}
+use Rattle.yaml_text.specs.Lines.{Inside}
 use Rattle.yaml_scalar.specs.BlockModel.{sign_of, styled}
 use Rattle.yaml_text.specs.grammar.Characters.{is_nb, is_break}
 use Rattle.yaml_scalar.proofs.HeaderLemmas.{header_same}

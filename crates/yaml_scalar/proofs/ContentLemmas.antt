@@ -16,9 +16,9 @@ use Rattle.yaml_scalar.specs.declared.block.header.Chomp.TheVariants.{Strip, Cli
 use Rattle.yaml_scalar.specs.declared.block.content.Before.{Before}
 use Rattle.yaml_scalar.specs.declared.block.content.Before.TheVariants.{Nothing}
 use Rattle.yaml_text.proofs.PlaceLemmas.{slice_join, slice_one}
-use Rattle.yaml_scalar.proofs.Runs.{same_char}
+use Rattle.yaml_text.proofs.Runs.{same_char}
 use Rattle.yaml_scalar.proofs.LineLemmas.{Over, over_of, over_end, over_no_line, Content, content_start, content_more, lines_blank, lines_content}
-use Rattle.yaml_scalar.proofs.BlockChains.{any_push}
+use Rattle.yaml_text.proofs.Repeats.{any_push}
 
 pub few_breaks : (d : Bool) → breaks_of d ≤ 1
 few_breaks true = omega arith

@@ -3,15 +3,17 @@ use Rattle.std.proofs.Common.{◌≡◌, ◌≢◌, ℕ, ◌+◌, ◌-◌, ◌<�
 use Rattle.std.specs.Prelude.{slice_get, slice_range, not, ◌&&◌, ◌==◌}
 use Rattle.std.proofs.lemmas.Bool.{cases_eq}
 use Rattle.yaml_text.specs.Answer.{Only}
-use Rattle.yaml_text.specs.grammar.Calls.{Unread}
+use Rattle.yaml_text.specs.Answer.{Unread}
 use Rattle.yaml_text.specs.grammar.Rules.{chr, any, Stands, run}
 use Rattle.yaml_text.specs.grammar.Characters.{is_white, is_ns, is_nb, is_break, escape}
 use Rattle.yaml_text.specs.grammar.Separation.{Ctx, Mark, Unmarked}
 use Rattle.yaml_text.specs.grammar.FlowScalars.{double_char}
-use Rattle.yaml_scalar.specs.Chains.{line_brk, breaks, folds, gap, verbatim, quoted_more, Solid, NoSolidBreaks, escaped, double_gap, double_rest, double_chain}
+use Rattle.yaml_scalar.specs.Chains.{breaks, folds, gap, verbatim, quoted_more, Solid, NoSolidBreaks, escaped, double_gap, double_rest, double_chain}
+use Rattle.yaml_text.specs.Lines.{line_brk}
 use Rattle.yaml_scalar.proofs.AnyLemmas.{Same, Onward}
-use Rattle.yaml_scalar.proofs.Runs.{same_char, run_same}
-use Rattle.yaml_scalar.proofs.GapLemmas.{Ns, NoWhite, ns_stops, breaks_brk, breaks_same, breaks_stops, breaks_no_ns, breaks_onward, folds_through, gap_same, gap_onward, folds_onward, blank_gap, blank_white_run, blank_breaks, unmarked_one, unmarked_join, unmarked_blank, unmarked_cuts, inside_line, mark_starts, mark_dashes}
+use Rattle.yaml_text.proofs.Runs.{same_char, run_same}
+use Rattle.yaml_scalar.proofs.GapLemmas.{breaks_brk, breaks_same, breaks_stops, breaks_no_ns, breaks_onward, folds_through, gap_same, gap_onward, folds_onward, blank_gap, blank_breaks, unmarked_cuts}
+use Rattle.yaml_text.proofs.Breaks.{Ns, NoWhite, ns_stops, blank_white_run, unmarked_one, unmarked_join, unmarked_blank, inside_line, mark_starts, mark_dashes}
 use Rattle.yaml_scalar.proofs.QuotedLemmas.{Parts, State, rest_of, rest_same, rest_onward, state_start, state_line, state_solid, state_gap, state_end, state_none, still}
 use Rattle.yaml_scalar.proofs.EscapeLemmas.{escape_parts, escape_same, escape_characters}
 

@@ -2,11 +2,11 @@
 use Rattle.std.proofs.Common.{ℕ, ◌+◌, ◌-◌, ◌≤◌, inl, inr, List, refl, arith}
 use Rattle.std.specs.Prelude.{slice_range}
 use Rattle.yaml_text.specs.Answer.{Only}
-use Rattle.yaml_text.specs.grammar.Calls.{Unread}
+use Rattle.yaml_text.specs.Answer.{Unread}
 use Rattle.yaml_text.specs.grammar.Separation.{Ctx}
 use Rattle.yaml_text.specs.grammar.FlowScalars.{several, fold, escaped_break, double_char, double}
 use Rattle.yaml_scalar.specs.Chains.{gap, escaped, double_gap, double_rest, double_chain}
-use Rattle.yaml_scalar.proofs.GapLemmas.{ns_no_return, thirteen}
+use Rattle.yaml_text.proofs.Breaks.{ns_no_return, thirteen}
 use Rattle.yaml_scalar.proofs.Readings.{Clear, clear_after, fold_chain, fold_grammar, escaped_chain, escaped_grammar}
 use Rattle.yaml_scalar.proofs.QuotedReadings.{Gaps, Kinds, lines_pieces, lines_of}
 use Rattle.yaml_scalar.proofs.EscapeLemmas.{escape_characters}

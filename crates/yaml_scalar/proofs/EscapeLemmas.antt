@@ -7,12 +7,12 @@ use Rattle.std.specs.Str.Parse.{digits_value}
 use Rattle.std.proofs.lemmas.Int.Digits.{digits_value_push}
 use Rattle.std.proofs.Math.Nat.{pow-suc}
 use Rattle.std.proofs.lemmas.Bool.{cases_eq}
-use Rattle.yaml_text.specs.grammar.Calls.{Unread}
+use Rattle.yaml_text.specs.Answer.{Unread}
 use Rattle.yaml_text.specs.grammar.Rules.{exactly, Stands}
 use Rattle.yaml_text.specs.grammar.Characters.{is_nb, is_break, short_escape, numbered, escape}
 use Rattle.yaml_text.proofs.PlaceLemmas.{slice_none, slice_snoc}
 use Rattle.yaml_scalar.specs.Chains.{digit_count}
-use Rattle.yaml_scalar.proofs.Runs.{same_char, run_none, run_more}
+use Rattle.yaml_text.proofs.Runs.{same_char, run_none, run_more}
 
 no_count : (c : ℕ) → c ≢ 120 → c ≢ 117 → c ≢ 85 → digit_count c ≡ None
 unfolding digit_count

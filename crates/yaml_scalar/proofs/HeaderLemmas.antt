@@ -6,10 +6,11 @@ use Rattle.yaml_text.specs.grammar.Rules.{Stands}
 use Rattle.yaml_text.specs.grammar.Characters.{is_space, is_nb, is_break}
 use Rattle.yaml_text.specs.grammar.Separation.{sep, s_b_comment}
 use Rattle.yaml_text.specs.grammar.BlockScalars.{Chomp, strip, clip, keep, Header, indentation_indicator, chomping_indicator, header}
-use Rattle.yaml_scalar.specs.BlockRules.{Inside, blank_rest, is_sign, indicators, EndIndicators}
-use Rattle.yaml_scalar.proofs.Runs.{same_char, no_stand}
-use Rattle.yaml_scalar.proofs.LineRuns.{inside_no_line, line_end_stops}
-use Rattle.yaml_scalar.proofs.RestLemmas.{space_hash, blank_rest_same, blank_rest_stops, from_s_b}
+use Rattle.yaml_scalar.specs.BlockRules.{is_sign, indicators, EndIndicators}
+use Rattle.yaml_text.specs.Lines.{Inside, blank_rest}
+use Rattle.yaml_text.proofs.Runs.{same_char, no_stand}
+use Rattle.yaml_text.proofs.LineRuns.{inside_no_line, line_end_stops}
+use Rattle.yaml_text.proofs.RestLemmas.{space_hash, blank_rest_same, blank_rest_stops, from_s_b}
 
 digit_nb : (c : ℕ) → is_in_range 49 57 c ≡ true → is_nb c ≡ true
 unfolding is_nb is_break

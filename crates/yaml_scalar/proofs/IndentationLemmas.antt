@@ -5,11 +5,11 @@ use Rattle.yaml_text.specs.grammar.Rules.{Rule, ◌◂◌, run, Stands, how_many
 use Rattle.yaml_text.specs.grammar.Characters.{is_space, is_nb, is_break, brk}
 use Rattle.yaml_text.specs.grammar.Separation.{AtEnd, Mark, MarkOf, less}
 use Rattle.yaml_text.specs.grammar.BlockScalars.{space_lines, NoSpace, LessIndented, greatest, found_indentation, longest_indentation, indentation}
-use Rattle.yaml_text.specs.grammar.Calls.{Unread}
-use Rattle.yaml_scalar.proofs.Runs.{same_char, run_none, run_same}
-use Rattle.yaml_scalar.proofs.LineRuns.{end_stops, brk_same, brk_stops, brk_no_end}
-use Rattle.yaml_scalar.proofs.RestLemmas.{space_feed, space_return}
-use Rattle.yaml_scalar.proofs.BlockChains.{SameRule, any_to_stop}
+use Rattle.yaml_text.specs.Answer.{Unread}
+use Rattle.yaml_text.proofs.Runs.{same_char, run_none, run_same}
+use Rattle.yaml_text.proofs.LineRuns.{end_stops, brk_same, brk_stops, brk_no_end}
+use Rattle.yaml_text.proofs.RestLemmas.{space_feed, space_return}
+use Rattle.yaml_text.proofs.Repeats.{SameRule, any_to_stop}
 
 no_space_class : (c : ℕ) → is_space c ≡ true → (is_nb c && not (is_space c)) ≡ true → ⊥
 no_space_class c s t = grind (arith, s, t)

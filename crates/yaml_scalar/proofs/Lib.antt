@@ -1,11 +1,7 @@
 pub mod AnyLemmas
-pub mod Runs
 pub mod OutcomeLemmas
 pub mod GapLemmas
-pub mod LineRuns
-pub mod RestLemmas
 pub mod HeaderLemmas
-pub mod BlockChains
 pub mod IndentationLemmas
 pub mod LineLemmas
 pub mod TrailingLemmas

@@ -8,10 +8,10 @@ use Rattle.yaml_text.specs.grammar.Characters.{is_space, is_nb, is_break, brk}
 use Rattle.yaml_text.specs.grammar.Separation.{AtEnd, Mark, indent}
 use Rattle.yaml_text.specs.grammar.BlockScalars.{Line, blank, text, NoSpace, LessIndented, LinesEnd, blank_line, text_line, last_spaces, lines}
 use Rattle.yaml_scalar.specs.BlockRules.{any_line}
-use Rattle.yaml_scalar.proofs.Runs.{run_none, run_same}
-use Rattle.yaml_scalar.proofs.LineRuns.{end_stops, brk_same, brk_stops, brk_no_end, brk_onward}
-use Rattle.yaml_scalar.proofs.RestLemmas.{nb_feed, nb_return, space_feed, space_return}
-use Rattle.yaml_scalar.proofs.BlockChains.{SameRule, any_to_stop, any_push, any_join, any_by, any_start}
+use Rattle.yaml_text.proofs.Runs.{run_none, run_same}
+use Rattle.yaml_text.proofs.LineRuns.{end_stops, brk_same, brk_stops, brk_no_end, brk_onward}
+use Rattle.yaml_text.proofs.RestLemmas.{nb_feed, nb_return, space_feed, space_return}
+use Rattle.yaml_text.proofs.Repeats.{SameRule, any_to_stop, any_push, any_join, any_by, any_start}
 use Rattle.yaml_scalar.proofs.IndentationLemmas.{no_space_stops, no_space_no_brk, no_space_no_end, less_is, mark_no_space}
 
 space_nb : (c : ℕ) → is_space c ≡ true → is_nb c ≡ true

@@ -1,11 +1,12 @@
 -- What tests, refusals and counts say, passed on.
-use Rattle.std.proofs.Common.{◌≡◌, ℕ, zero, suc, ◌+◌, List, [], ◌∷◌, ◌++◌, Result, Err, replicate, sym, refl, subst, ap, ◌∙◌, Bool, true, false, add-one}
+use Rattle.std.proofs.Common.{◌≡◌, ℕ, zero, suc, ◌+◌, List, [], ◌∷◌, ◌++◌, Result, Err, replicate, sym, refl, subst, ap, ◌∙◌, add-one}
 use Rattle.std.specs.Prelude.{Ok, IfOk, is_ok, if◌then◌else◌}
 use Rattle.std.specs.Result.{IsErrAnd}
-use Rattle.std.specs.Bool.{OnFalse, OnTrue}
 use Rattle.std.proofs.lemmas.Result.{err_from_is_err_and}
-use Rattle.yaml_scalar.specs.Outcome.{TextRule, Answers, Refuses, IsUnread}
-use Rattle.yaml_text.specs.grammar.Calls.{Unread}
+use Rattle.yaml_scalar.specs.Chains.{TextRule}
+use Rattle.yaml_text.specs.Answer.{Answers, Refuses}
+use Rattle.yaml_text.specs.Answer.{IsUnread}
+use Rattle.yaml_text.specs.Answer.{Unread}
 use Rattle.yaml_text.specs.declared.fault.Fault.{Fault}
 use Rattle.yaml_text.specs.declared.fault.Fault.TheVariants as fault
 
@@ -69,40 +70,12 @@ answers_err Best R i end value r e was refused =
     let p = err_from_is_err_and r was in
     subst (Answers Best R i end value) (sym (p.1 ∙ ap Err p.2)) refused
 
-pub on_true_at : (b : Bool) {P : Type 0} → b ≡ true → OnTrue b P → P
-on_true_at true e p = p
-on_true_at false e p = let h : false ≡ true = e in cc
-
-pub on_false_at : (b : Bool) {P : Type 0} → b ≡ false → OnFalse b P → P
-on_false_at false e p = p
-on_false_at true e p = let h : true ≡ false = e in cc
-
-pub on_either : (b : Bool) {P Q A : Type 0} → OnTrue b P → OnFalse b Q → (P → A) → (Q → A) → A
-on_either true p q f g = f p
-on_either false p q f g = g q
-
 pub replicate_snoc : (n x : ℕ) → replicate (n + 1) x ≡ replicate n x ++ x ∷ []
 replicate_snoc n x = ap (λ m. replicate m x) (add-one n) ∙ go n
   where
     go : (n : ℕ) → replicate (suc n) x ≡ replicate n x ++ x ∷ []
     go zero = refl
     go (suc n) = ap (λ v. x ∷ v) (go n)
-
-pub on_true : (b : Bool) {P : Type 0} → (b ≡ true → P) → OnTrue b P
-on_true true f = f refl
-on_true false f = tt
-
-pub on_false : (b : Bool) {P : Type 0} → (b ≡ false → P) → OnFalse b P
-on_false false f = f refl
-on_false true f = tt
-
-pub on_true_weaker : (b : Bool) {P Q : Type 0} → (P → Q) → OnTrue b P → OnTrue b Q
-on_true_weaker true f p = f p
-on_true_weaker false f p = tt
-
-pub on_false_weaker : (b : Bool) {P Q : Type 0} → (P → Q) → OnFalse b P → OnFalse b Q
-on_false_weaker true f p = tt
-on_false_weaker false f p = f p
 
 -- what a growth made of a text, where its result is handed on
 pub if_ok : {T E : Type 0} (r : Result T E) (new grown same : List ℕ) → new ≡ (if is_ok r then grown else same) → IfOk r (λ _. new ≡ grown)

@@ -6,14 +6,15 @@ use Rattle.yaml_scalar.specs.Chains.{taken, folds, NoBreaks, NoLine, breaks, gap
 use Rattle.yaml_text.specs.grammar.Characters.{is_white, is_ns, is_nb, is_break, is_indicator}
 use Rattle.yaml_text.specs.grammar.Separation.{Mark, Unmarked}
 use Rattle.yaml_text.specs.grammar.FlowScalars.{plain_safe, PlainFirst}
-use Rattle.yaml_text.specs.grammar.Calls.{Unread}
+use Rattle.yaml_text.specs.Answer.{Unread}
 use Rattle.yaml_text.specs.Answer.{Furthest}
 use Rattle.yaml_text.specs.grammar.Separation.{Ctx}
 use Rattle.yaml_text.proofs.PlaceLemmas.{slice_one, slice_snoc, slice_join}
 use Rattle.std.proofs.lemmas.Bool.{cases_eq}
 use Rattle.yaml_scalar.proofs.AnyLemmas.{Same, Onward, any_onward, any_append, any_weaker, chain_furthest}
-use Rattle.yaml_scalar.proofs.Runs.{same_char, run_same, no_stand, no_stand_end, run_none}
-use Rattle.yaml_scalar.proofs.GapLemmas.{Ns, NoWhite, ns_stops, gap_then_same, folds_onward, folds_through, breaks_same, gap_onward, blank_gap, blank_white_run, unmarked_one, unmarked_join, unmarked_blank, unmarked_cuts, AfterNs, after_ns, after_white, mark_starts, BeginsNs}
+use Rattle.yaml_text.proofs.Runs.{same_char, run_same, no_stand, no_stand_end, run_none}
+use Rattle.yaml_scalar.proofs.GapLemmas.{gap_then_same, folds_onward, folds_through, breaks_same, gap_onward, blank_gap, unmarked_cuts, BeginsNs}
+use Rattle.yaml_text.proofs.Breaks.{Ns, NoWhite, ns_stops, blank_white_run, unmarked_one, unmarked_join, unmarked_blank, AfterNs, after_ns, after_white, mark_starts}
 
 -- what the classes of characters say of taken another
 inner_ns : (c : Ctx) (x : ℕ) → plain_inner c x ≡ true → is_ns x ≡ true

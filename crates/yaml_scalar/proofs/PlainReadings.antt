@@ -3,7 +3,7 @@ use Rattle.std.proofs.Common.{◌≡◌, ℕ, zero, suc, ◌+◌, ◌-◌, ◌<�
 use Rattle.std.specs.Prelude.{slice_get, slice_range, ◌==◌}
 use Rattle.std.proofs.lemmas.Bool.{cases_eq, cases_lt}
 use Rattle.yaml_text.specs.Answer.{Furthest}
-use Rattle.yaml_text.specs.grammar.Calls.{Unread}
+use Rattle.yaml_text.specs.Answer.{Unread}
 use Rattle.yaml_text.specs.grammar.Rules.{◌⨾◌, any, Any, done, then, Throughout, Stands, Behind, run}
 use Rattle.yaml_text.specs.grammar.Characters.{is_white, is_ns}
 use Rattle.yaml_text.specs.grammar.Separation.{Ctx}
@@ -11,8 +11,9 @@ use Rattle.yaml_text.specs.grammar.FlowScalars.{several, fold, PlainFirst, Plain
 use Rattle.yaml_text.proofs.PlaceLemmas.{slice_none, slice_one, slice_join, slice_snoc}
 use Rattle.yaml_scalar.specs.Chains.{folds, gap, plain_inner, Later, taken, plain_more, line_more, plain_chain}
 use Rattle.yaml_scalar.proofs.AnyLemmas.{any_none, any_snoc, any_append, any_weaker, any_onward}
-use Rattle.yaml_scalar.proofs.Runs.{all_more, run_none, run_more}
-use Rattle.yaml_scalar.proofs.GapLemmas.{Ns, AfterNs, ns_stops, folds_onward, blank_folds}
+use Rattle.yaml_text.proofs.Runs.{all_more, run_none, run_more}
+use Rattle.yaml_scalar.proofs.GapLemmas.{folds_onward, blank_folds}
+use Rattle.yaml_text.proofs.Breaks.{Ns, AfterNs, ns_stops}
 use Rattle.yaml_scalar.proofs.PlainLemmas.{later_colon, later_inner, later_ns, first_ns, line_hash, line_later, line_onward, line_is_more, hash_ns}
 use Rattle.yaml_scalar.proofs.Readings.{clear_ns, fold_chain, fold_grammar}
 

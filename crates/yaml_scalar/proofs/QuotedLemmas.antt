@@ -4,18 +4,21 @@ use Rattle.std.proofs.lemmas.List.{append-nil}
 use Rattle.std.specs.Prelude.{slice_get, slice_range, not, ◌&&◌, ◌==◌}
 use Rattle.std.proofs.lemmas.Bool.{cases_eq}
 use Rattle.yaml_text.specs.grammar.Rules.{Span, ◌◂◌, ◌⨾◌, any, Any, done, then, Stands, run, where_both}
-use Rattle.yaml_scalar.specs.Outcome.{TextRule}
+use Rattle.yaml_scalar.specs.Chains.{TextRule}
 use Rattle.yaml_text.specs.grammar.Characters.{is_white, is_ns, is_nb, is_break}
 use Rattle.yaml_text.specs.grammar.Separation.{Mark, Unmarked}
-use Rattle.yaml_scalar.specs.Chains.{Dashes, folds, NoFold, gap, verbatim, quoted_more, closing, single_rest, single_chain}
+use Rattle.yaml_scalar.specs.Chains.{folds, NoFold, gap, verbatim, quoted_more, closing, single_rest, single_chain}
+use Rattle.yaml_text.specs.Lines.{Dashes}
 use Rattle.yaml_text.specs.grammar.FlowScalars.{single_char}
-use Rattle.yaml_text.specs.grammar.Calls.{Unread}
+use Rattle.yaml_text.specs.Answer.{Unread}
 use Rattle.yaml_text.specs.Answer.{Only}
 use Rattle.yaml_text.specs.grammar.Separation.{Ctx}
 use Rattle.yaml_text.proofs.PlaceLemmas.{slice_snoc, slice_none}
-use Rattle.yaml_scalar.proofs.AnyLemmas.{Same, SameEnd, Onward, any_onward, any_none, any_snoc, any_then_same, any_then_none}
-use Rattle.yaml_scalar.proofs.Runs.{same_char, run_same, run_none}
-use Rattle.yaml_scalar.proofs.GapLemmas.{Ns, NoWhite, ns_stops, gap_same, gap_onward, folds_onward, blank_gap, blank_white_run, unmarked_one, unmarked_join, unmarked_blank, unmarked_cuts, after_ns, after_white, mark_starts, mark_dashes, BeginsNs}
+use Rattle.yaml_scalar.proofs.AnyLemmas.{Same, Onward, any_onward, any_none, any_snoc, any_then_same, any_then_none}
+use Rattle.yaml_text.proofs.Repeats.{SameEnd}
+use Rattle.yaml_text.proofs.Runs.{same_char, run_same, run_none}
+use Rattle.yaml_scalar.proofs.GapLemmas.{gap_same, gap_onward, folds_onward, blank_gap, unmarked_cuts, BeginsNs}
+use Rattle.yaml_text.proofs.Breaks.{Ns, NoWhite, ns_stops, blank_white_run, unmarked_one, unmarked_join, unmarked_blank, after_ns, after_white, mark_starts, mark_dashes}
 
 verbatim_ns : (q x : ℕ) → verbatim q x ≡ true → is_ns x ≡ true
 unfolding verbatim

@@ -4,17 +4,17 @@ use Rattle.std.proofs.lemmas.List.{append-nil}
 use Rattle.std.specs.Prelude.{slice_get, slice_range, ◌==◌}
 use Rattle.std.proofs.lemmas.Bool.{cases_eq}
 use Rattle.yaml_text.specs.Answer.{Only}
-use Rattle.yaml_text.specs.grammar.Calls.{Unread}
+use Rattle.yaml_text.specs.Answer.{Unread}
 use Rattle.yaml_text.specs.grammar.Rules.{◌⨾◌, never, ◌∪◌, any, Any, done, then, Stands, run, copied}
 use Rattle.yaml_text.specs.grammar.Characters.{is_white}
 use Rattle.yaml_text.specs.grammar.Separation.{Ctx}
 use Rattle.yaml_text.specs.grammar.FlowScalars.{several, fold, white_text, quoted_line, broken_line, quoted_lines, single_char, single}
 use Rattle.yaml_text.proofs.PlaceLemmas.{slice_none, slice_one, slice_join, slice_snoc}
-use Rattle.yaml_scalar.specs.Outcome.{TextRule}
+use Rattle.yaml_scalar.specs.Chains.{TextRule}
 use Rattle.yaml_scalar.specs.Chains.{gap, closing, single_rest, single_chain}
 use Rattle.yaml_scalar.proofs.AnyLemmas.{any_none, any_snoc, any_append, any_weaker}
-use Rattle.yaml_scalar.proofs.Runs.{run_none, run_more}
-use Rattle.yaml_scalar.proofs.GapLemmas.{ns_no_return}
+use Rattle.yaml_text.proofs.Runs.{run_none, run_more}
+use Rattle.yaml_text.proofs.Breaks.{ns_no_return}
 use Rattle.yaml_scalar.proofs.QuotedLemmas.{single_ns}
 use Rattle.yaml_scalar.proofs.Readings.{Clear, clear_after, fold_chain, fold_grammar}
 

@@ -6,11 +6,13 @@ use Rattle.yaml_text.specs.grammar.Rules.{Span, ◌◆◌, ◌▸◌, gives, Any
 use Rattle.yaml_text.specs.grammar.Characters.{is_white, brk}
 use Rattle.yaml_text.specs.grammar.Separation.{Ctx, block_out, block_in, flow_out, flow_in, block_key, flow_key, indent}
 use Rattle.yaml_text.specs.grammar.FlowScalars.{fold_text, empty_line, fold, escaped_break, several}
-use Rattle.yaml_scalar.specs.Outcome.{TextRule}
-use Rattle.yaml_scalar.specs.Chains.{is_key, line_brk, margin, lead, breaks, folds, escaped}
+use Rattle.yaml_scalar.specs.Chains.{TextRule}
+use Rattle.yaml_scalar.specs.Chains.{margin, lead, breaks, folds, escaped}
+use Rattle.yaml_text.specs.Lines.{is_key, line_brk}
 use Rattle.yaml_scalar.specs.Chains as chain
-use Rattle.yaml_scalar.proofs.Runs.{same_char}
-use Rattle.yaml_scalar.proofs.GapLemmas.{AfterNs, brk_line, thirteen, ns_no_return, white_no_return, blank_white}
+use Rattle.yaml_text.proofs.Runs.{same_char}
+use Rattle.yaml_scalar.proofs.GapLemmas.{blank_white}
+use Rattle.yaml_text.proofs.Breaks.{AfterNs, brk_line, thirteen, ns_no_return, white_no_return}
 
 -- ---- a number of lines
 

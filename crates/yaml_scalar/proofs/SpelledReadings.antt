@@ -18,7 +18,7 @@ use Rattle.yaml_text.proofs.CharLaws.{heads, tails, low}
 use Rattle.yaml_scalar.specs.Spelling.{ReadsBack}
 use Rattle.yaml_scalar.specs.Chains.{digit_count}
 use Rattle.yaml_scalar.proofs.EscapeLemmas.{digits_none, digits_more, numbered_is, escape_short, escape_long, escape_characters}
-use Rattle.yaml_scalar.proofs.GapLemmas.{ns_no_return, white_no_return}
+use Rattle.yaml_text.proofs.Breaks.{ns_no_return, white_no_return}
 use Rattle.yaml_scalar.proofs.DoubleLemmas.{letter_ns, no_dashes, no_mark_after}
 use Rattle.yaml_scalar.proofs.DoubleReadings.{double_same}
 

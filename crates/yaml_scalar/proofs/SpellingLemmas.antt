@@ -36,6 +36,10 @@ verbatim_spells c h = rw (eq_false c 34 (λ e. grind (arith, nat_tests)), eq_fal
     plain : (x : ℕ) → is_verbatim x ≡ true → is_plain x ≡ true
     plain x g = grind (arith, nat_tests)
 
+-- and as bytes
+pub verbatim_bytes : (c : ℕ) → is_verbatim c ≡ true → encode_utf8_all (spell_char c) ≡ encode_utf8 c
+verbatim_bytes c h = ap encode_utf8_all (verbatim_spells c h) ∙ append-nil (encode_utf8 c)
+
 -- ---- runs
 
 -- The text is a front that is written, a run from `start` that is not, and `rest`, which begins at `at`.

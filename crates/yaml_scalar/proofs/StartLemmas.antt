@@ -6,14 +6,15 @@ use Rattle.yaml_text.specs.grammar.Rules.{run, Stands, Any, done, then}
 use Rattle.yaml_text.specs.grammar.Characters.{is_space, is_nb, brk}
 use Rattle.yaml_text.specs.grammar.Separation.{AtEnd, Mark, indent, line_end}
 use Rattle.yaml_text.specs.grammar.BlockScalars.{Line, blank, text, NoSpace, LessIndented, space_lines, greatest, found_indentation, longest_indentation, indentation, blank_line, text_line}
-use Rattle.yaml_text.specs.grammar.Calls.{Unread}
-use Rattle.yaml_scalar.specs.Chains.{line_brk}
-use Rattle.yaml_scalar.specs.BlockRules.{Uncut, Solid, lines_over}
-use Rattle.yaml_scalar.proofs.Runs.{run_same}
-use Rattle.yaml_scalar.proofs.LineRuns.{indent_run, indent_place, spaces_uncut, to_brk, nb_here, line_end_stops, brk_onward, end_stops}
-use Rattle.yaml_scalar.proofs.GapLemmas.{run_join}
-use Rattle.yaml_scalar.proofs.RestLemmas.{nb_feed, nb_return, space_feed, space_return}
-use Rattle.yaml_scalar.proofs.BlockChains.{any_push, any_start}
+use Rattle.yaml_text.specs.Answer.{Unread}
+use Rattle.yaml_text.specs.Lines.{line_brk}
+use Rattle.yaml_scalar.specs.BlockRules.{Solid, lines_over}
+use Rattle.yaml_text.specs.Lines.{Uncut}
+use Rattle.yaml_text.proofs.Runs.{run_same}
+use Rattle.yaml_text.proofs.LineRuns.{indent_run, indent_place, spaces_uncut, to_brk, nb_here, line_end_stops, brk_onward, end_stops}
+use Rattle.yaml_text.proofs.Breaks.{run_join}
+use Rattle.yaml_text.proofs.RestLemmas.{nb_feed, nb_return, space_feed, space_return}
+use Rattle.yaml_text.proofs.Repeats.{any_push, any_start}
 use Rattle.yaml_scalar.proofs.IndentationLemmas.{space_line, greatest_push, nb_no_space, to_less, Found, at_line, at_less, at_mark, at_end, found_of, found_lines, less_stuck, mark_stuck, line_less, line_end_apart, no_space_stops, no_space_no_brk, no_space_no_end}
 use Rattle.yaml_scalar.proofs.LineLemmas.{Blank, Text, Tail, broken, last, blank_of, to_blank, text_of, to_text, no_blank_at, no_blank_end, tail_stops}
 

@@ -5,11 +5,11 @@ use Rattle.yaml_text.specs.grammar.Rules.{◌◆◌, run, Stands, maybe, any_spa
 use Rattle.yaml_text.specs.grammar.Characters.{is_space}
 use Rattle.yaml_text.specs.grammar.Separation.{indent, less, line_end, comment, l_comment}
 use Rattle.yaml_text.specs.grammar.BlockScalars.{comment_lines}
-use Rattle.yaml_scalar.specs.BlockRules.{AfterLine}
-use Rattle.yaml_scalar.proofs.Runs.{no_stand, run_same}
-use Rattle.yaml_scalar.proofs.LineRuns.{line_end_same, line_end_onward, line_end_after, indent_run, indent_place}
-use Rattle.yaml_scalar.proofs.RestLemmas.{space_hash, comment_same, l_comment_same, l_comment_onward}
-use Rattle.yaml_scalar.proofs.BlockChains.{spans_onward, spans_furthest}
+use Rattle.yaml_text.specs.Lines.{AfterLine}
+use Rattle.yaml_text.proofs.Runs.{no_stand, run_same}
+use Rattle.yaml_text.proofs.LineRuns.{line_end_same, line_end_onward, line_end_after, indent_run, indent_place}
+use Rattle.yaml_text.proofs.RestLemmas.{space_hash, comment_same, l_comment_same, l_comment_onward}
+use Rattle.yaml_text.proofs.Repeats.{spans_onward, spans_furthest}
 
 module _ (cs : List ℕ) where
   comment_hash : (i j : ℕ) → comment cs i j → slice_get cs i ≡ Some 35

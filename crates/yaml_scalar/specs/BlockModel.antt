@@ -8,7 +8,8 @@ use Rattle.yaml_text.specs.grammar.Separation.{AtEnd}
 use Rattle.yaml_text.specs.grammar.FlowScalars.{line_feeds}
 use Rattle.yaml_text.specs.grammar.BlockScalars as grammar
 use Rattle.yaml_scalar.specs.Chains.{fold_text}
-use Rattle.yaml_scalar.specs.BlockRules.{AfterLine, lines_over}
+use Rattle.yaml_scalar.specs.BlockRules.{lines_over}
+use Rattle.yaml_text.specs.Lines.{AfterLine}
 use Rattle.yaml_scalar.specs.declared.block.header.Chomp.{Chomp}
 use Rattle.yaml_scalar.specs.declared.block.header.Chomp.TheVariants.{Strip, Clip, Keep}
 use Rattle.yaml_scalar.specs.declared.block.header.Header.{Header}

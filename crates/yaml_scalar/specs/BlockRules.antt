@@ -1,37 +1,13 @@
 -- What the parts of a block scalar's reader say of a place.
-use Rattle.std.specs.Prelude.{◌≡◌, ℕ, ◌+◌, ◌≤◌, ◌⊎◌, List, Bool, true, false, ◌==◌, ◌||◌}
+use Rattle.std.specs.Prelude.{◌≡◌, ℕ, ◌⊎◌, List, Bool, true, false, ◌==◌, ◌||◌}
 use Rattle.std.specs.Int.{is_in_range}
-use Rattle.yaml_text.specs.grammar.Rules.{Span, Rule, ◌◆◌, ◌◂◌, ◌∪◌, run, maybe, ahead, seen, with_value, Stands, Behind}
-use Rattle.yaml_text.specs.grammar.Characters.{is_space, is_nb}
-use Rattle.yaml_text.specs.grammar.Separation.{StartsLine, AtEnd, comment, line_end}
+use Rattle.yaml_text.specs.grammar.Rules.{Span, Rule, ◌◆◌, ◌◂◌, ◌∪◌, maybe, ahead, seen, with_value, Stands}
 use Rattle.yaml_text.specs.grammar.BlockScalars.{Line, Header, is_given, content, indentation_indicator, chomping_indicator, blank_line, text_line, lines, last_spaces, LinesEnd}
-
--- the reading that ends furthest, and no other has another value
-pub record FurthestAlone {V : Type 0} (R : Rule V) (i j : ℕ) (v : V) : Type 0 where
-  pub is : R i j v
-  pub furthest : (k : ℕ) (w : V) → R i k w → k ≤ j
-  pub only : (k : ℕ) (w : V) → R i k w → w ≡ v
 
 abbrev pub is_sign : ℕ → Bool
 is_sign c = c == 45 || c == 43
 
 module _ (cs : List ℕ) where
-  -- a line starts here, or the text ends
-  abbrev pub AfterLine : ℕ → Type 0
-  AfterLine i = StartsLine cs i ⊎ AtEnd cs i
-
-  -- just after a character that is no break
-  abbrev pub Inside : ℕ → Type 0
-  Inside i = (k : ℕ) × (i ≡ k + 1) × Stands cs is_nb k
-
-  -- no CR LF is cut here
-  unfoldable pub Uncut : ℕ → Type 0
-  Uncut i = Behind cs (λ c. c == 13) i → Stands cs (λ c. c == 10) i → ⊥
-
-  -- the rest of a line that has no content
-  unfoldable pub blank_rest : Span
-  blank_rest = run cs is_space ◆ maybe (comment cs) ◆ line_end cs
-
   -- the indicators of a header, in either order
   unfoldable pub indicators : Rule Header
   indicators =

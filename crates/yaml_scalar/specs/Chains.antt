@@ -1,19 +1,15 @@
 -- The flow scalars again, in the form that the proofs go through: gaps and characters in turn, where a gap is a perhaps
 -- empty run of whites or a fold. That these are the readings of the grammar is proved, and contracts cite the grammar.
-use Rattle.std.specs.Prelude.{◌≡◌, ◌≢◌, ℕ, ◌+◌, ◌⊎◌, List, [], ◌∷◌, Bool, true, false, not, ◌&&◌, ◌==◌, if◌then◌else◌, Option, Some, None, slice_get}
-use Rattle.yaml_text.specs.grammar.Rules.{Span, ◌◆◌, ◌⊔◌, ◌▸◌, ◌◂◌, ◌⨾◌, ◌∪◌, gives, seen, any, chr, run, copied, Stands, where_both}
+use Rattle.std.specs.Prelude.{◌≡◌, ◌≢◌, ℕ, ◌+◌, ◌⊎◌, List, [], ◌∷◌, Bool, false, not, ◌&&◌, ◌==◌, if◌then◌else◌, Option, Some, None, slice_get}
+use Rattle.yaml_text.specs.grammar.Rules.{Span, Rule, ◌◆◌, ◌⊔◌, ◌▸◌, ◌◂◌, ◌⨾◌, ◌∪◌, gives, seen, any, chr, run, copied, Stands, where_both}
 use Rattle.yaml_text.specs.grammar.Characters.{is_in, is_white, is_ns, is_indicator}
-use Rattle.yaml_text.specs.grammar.Separation.{Ctx, block_out, block_in, flow_out, flow_in, block_key, flow_key, indent, less, Mark, Unmarked}
+use Rattle.yaml_text.specs.grammar.Separation.{Ctx, indent, less, Mark, Unmarked}
 use Rattle.yaml_text.specs.grammar.FlowScalars.{plain_safe, PlainFirst, single_char, double_char}
-use Rattle.yaml_scalar.specs.Outcome.{TextRule}
+use Rattle.yaml_text.specs.Lines.{is_key, line_brk}
 
-abbrev pub is_key : Ctx → Bool
-is_key block_key = true
-is_key flow_key = true
-is_key block_out = false
-is_key block_in = false
-is_key flow_out = false
-is_key flow_in = false
+-- a rule that reads a text
+abbrev pub TextRule : Type 1
+TextRule = Rule (List ℕ)
 
 -- a plain-safe character other than : and #
 unfoldable pub plain_inner : Ctx → ℕ → Bool
@@ -44,28 +40,13 @@ module _ (cs : List ℕ) where
   abbrev pub taken : (ℕ → Type 0) → TextRule
   taken P i j xs = P i × (c : ℕ) × (slice_get cs i ≡ Some c) × (j ≡ i + 1) × (xs ≡ c ∷ [])
 
-  -- a break; an LF is one here also just after a CR, where the chains never ask
-  abbrev pub line_brk : Span
-  line_brk i j =
-      ((slice_get cs i ≡ Some 10) × (j ≡ i + 1))
-      ⊎ ((slice_get cs i ≡ Some 13) × (slice_get cs (i + 1) ≡ Some 10) × (j ≡ i + 2))
-      ⊎ ((slice_get cs i ≡ Some 13) × (slice_get cs (i + 1) ≢ Some 10) × (j ≡ i + 1))
-
-  -- three of a character, and then no character of a line but a white
-  abbrev pub DashesOf : ℕ → ℕ → Type 0
-  DashesOf c i = (slice_get cs i ≡ Some c) × (slice_get cs (i + 1) ≡ Some c) × (slice_get cs (i + 2) ≡ Some c)
-      × (Stands cs is_ns (i + 3) → ⊥)
-
-  abbrev pub Dashes : ℕ → Type 0
-  Dashes i = DashesOf 45 i ⊎ DashesOf 46 i
-
   -- n spaces, then any whites
   unfoldable pub margin : ℕ → Span
   margin n = indent cs n ◆ run cs is_white
 
   -- an empty line inside a scalar
   unfoldable pub empty_line : ℕ → Span
-  empty_line n = (margin n ⊔ less cs n) ◆ line_brk
+  empty_line n = (margin n ⊔ less cs n) ◆ line_brk cs
 
   -- the empty lines after a break, and the margin of the next line; an LF for each empty line
   unfoldable pub lead : ℕ → TextRule
@@ -77,7 +58,7 @@ module _ (cs : List ℕ) where
 
   -- a break and a lead, where the context has lines
   unfoldable pub breaks : ℕ → Ctx → TextRule
-  breaks n c i j xs = (is_key c ≡ false) × (line_brk ▸ lead n) i j xs
+  breaks n c i j xs = (is_key c ≡ false) × (line_brk cs ▸ lead n) i j xs
 
   abbrev pub NoBreaks : ℕ → Ctx → ℕ → Type 0
   NoBreaks n c i = (j : ℕ) (xs : List ℕ) → breaks n c i j xs → Stands cs is_ns j → (Mark cs j → ⊥) → ⊥
@@ -139,7 +120,7 @@ module _ (cs : List ℕ) where
 
   -- where a character or the end of the text begins, and no escaped break
   abbrev pub Solid : ℕ → Type 0
-  Solid i = Stands cs is_ns i × (slice_get cs i ≡ Some 92 → (j : ℕ) → line_brk (i + 1) j → ⊥)
+  Solid i = Stands cs is_ns i × (slice_get cs i ≡ Some 92 → (j : ℕ) → line_brk cs (i + 1) j → ⊥)
 
   -- no break stands here whose lead ends where such text begins that is no mark
   abbrev pub NoSolidBreaks : ℕ → Ctx → ℕ → Type 0

@@ -1,30 +1,28 @@
 //! Block scalars (YAML 1.2.2, 8.1).
-ghost use Rattle.std.specs.Prelude.{◌≡◌, ◌<◌, IfOk};
+ghost use Rattle.std.specs.Prelude.{◌≡◌, ◌<◌, IfOk, IsUtf8};
 ghost use Rattle.std.specs.Str.{chars};
 ghost use Rattle.std.specs.Cow.{cow_str_bytes};
 ghost use Rattle.yaml_text.specs.Source.{text_of, place_of, IsBorder};
 ghost use Rattle.yaml_text.specs.grammar.BlockScalars.{literal, folded};
-ghost use Rattle.yaml_scalar.specs.Outcome.{Answers};
-ghost use Rattle.yaml_scalar.specs.BlockRules.{FurthestAlone};
+ghost use Rattle.yaml_text.specs.Answer.{Answers};
+ghost use Rattle.yaml_text.specs.Answer.{FurthestAlone};
 ghost use Rattle.yaml_scalar.specs.BlockModel.{column, sign_of, styled};
 
 use crate::block::blanks::trailing_comments;
 use crate::block::content::read_content;
 use crate::block::header::read_header;
-use crate::text::refusal;
 use std::alloc::Global;
 use std::borrow::CowStr;
 use yaml_text::chars::Chars;
 use yaml_text::context::Ctx;
 use yaml_text::fault::Fault;
+use yaml_text::lines::unusable;
 use yaml_text::places::accept;
 
-pub mod blanks;
+mod blanks;
 mod content;
 mod header;
 mod lines;
-#[cfg(test)]
-mod tests;
 
 /// The column after a parent's indentation, 0 below a root.
 fn column(n: i32) -> usize
@@ -51,11 +49,12 @@ fn read_block<'a>(
     requires { IsBorder source.now at }
     ensures border { IfOk result (λ r. IsBorder source.now r.1) }
     ensures onward { IfOk result (λ r. at < r.1) }
+    ensures utf8 { IfOk result (λ r. IsUtf8 (cow_str_bytes r.0)) }
     ensures reads { Answers FurthestAlone (styled (text_of source.now) is_folded (column n)) (place_of source.now at)
         (λ r. place_of source.now r.1) (λ r. chars (cow_str_bytes r.0)) result }
 {
     let Some(start) = accept(source, at, sign_of(is_folded)) else {
-        return Err(refusal(source, at));
+        return Err(unusable(source, at));
     };
     let (header, first) = read_header(source, start)?;
     let (text, end, indent) = read_content(alloc, source, first, column(n), header, is_folded)?;
@@ -77,6 +76,7 @@ pub fn read_literal<'a>(
     requires { IsBorder source.now at }
     ensures border { IfOk result (λ r. IsBorder source.now r.1) }
     ensures onward { IfOk result (λ r. at < r.1) }
+    ensures utf8 { IfOk result (λ r. IsUtf8 (cow_str_bytes r.0)) }
     ensures reads { Answers FurthestAlone (literal (text_of source.now) (column n)) (place_of source.now at)
         (λ r. place_of source.now r.1) (λ r. chars (cow_str_bytes r.0)) result }
 {
@@ -98,6 +98,7 @@ pub fn read_folded<'a>(
     requires { IsBorder source.now at }
     ensures border { IfOk result (λ r. IsBorder source.now r.1) }
     ensures onward { IfOk result (λ r. at < r.1) }
+    ensures utf8 { IfOk result (λ r. IsUtf8 (cow_str_bytes r.0)) }
     ensures reads { Answers FurthestAlone (folded (text_of source.now) (column n)) (place_of source.now at)
         (λ r. place_of source.now r.1) (λ r. chars (cow_str_bytes r.0)) result }
 {

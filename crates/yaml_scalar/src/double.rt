@@ -1,5 +1,5 @@
 //! Double-quoted scalars (YAML 1.2.2, 7.3.1).
-ghost use Rattle.std.specs.Prelude.{◌≡◌, ◌<◌, ◌+◌, ℕ, IfSome, IfNone, IfOk, IfErr, Some, slice_get, replicate, ℤ, pos, ◌≤ℤ◌, nat_abs};
+ghost use Rattle.std.specs.Prelude.{◌≡◌, ◌<◌, ◌+◌, ℕ, IfSome, IfNone, IfOk, IsUtf8, IfErr, Some, slice_get, replicate, ℤ, pos, ◌≤ℤ◌, nat_abs};
 ghost use Rattle.std.specs.Str.{chars};
 ghost use Rattle.std.specs.Cow.{cow_str_bytes};
 ghost use Rattle.yaml_text.specs.Answer.{Only};
@@ -7,18 +7,21 @@ ghost use Rattle.yaml_text.specs.EventModel.{context_of};
 ghost use Rattle.yaml_text.specs.Source.{text_of, place_of, IsBorder};
 ghost use Rattle.yaml_text.specs.grammar.FlowScalars.{double};
 ghost use Rattle.yaml_text.specs.grammar.Separation.{Mark};
-ghost use Rattle.yaml_scalar.specs.Chains.{line_brk, breaks, Solid, NoSolidBreaks};
-ghost use Rattle.yaml_scalar.specs.Outcome.{Answers, IsUnread};
+ghost use Rattle.yaml_scalar.specs.Chains.{breaks, Solid, NoSolidBreaks};
+ghost use Rattle.yaml_text.specs.Lines.{line_brk};
+ghost use Rattle.yaml_text.specs.Answer.{Answers};
+ghost use Rattle.yaml_text.specs.Answer.{IsUnread};
 
 use crate::escape::read_escape;
-use crate::line::{columns, line_break, read_break};
+use crate::line::{columns, read_break};
 use crate::quoted::quoted_run;
-use crate::text::{push_between, push_fold, push_lines, refusal};
+use crate::text::{push_between, push_fold, push_lines};
 use std::alloc::Global;
 use std::borrow::CowStr;
 use yaml_text::chars::Chars;
 use yaml_text::context::Ctx;
 use yaml_text::fault::Fault;
+use yaml_text::lines::{line_break, unusable};
 use yaml_text::places::{accept, text_between};
 
 /// The border between a backslash and a break, where they stand at a border.
@@ -58,7 +61,7 @@ fn read_solid_break(
     ensures fault { IfErr result IsUnread }
 {
     match read_break(source, at, least, context) {
-        Err(barred) => Err(refusal(source, barred)),
+        Err(barred) => Err(unusable(source, barred)),
         Ok((count, to)) => match escaped_break(source, to) {
             None => Ok((count, to)),
             Some(second) => Err(Fault::Syntax(source.pos(second))),
@@ -77,6 +80,7 @@ fn double_from<'a>(
     requires { IsBorder source.now at }
     ensures border { IfOk result (λ r. IsBorder source.now r.1) }
     ensures onward { IfOk result (λ r. at < r.1) }
+    ensures utf8 { IfOk result (λ r. IsUtf8 (cow_str_bytes r.0)) }
     ensures reads { Answers Only (double (text_of source.now) least (context_of context)) (place_of source.now at)
         (λ r. place_of source.now r.1) (λ r. chars (cow_str_bytes r.0)) result }
 {
@@ -130,6 +134,7 @@ pub fn read_double<'a>(
     requires indentation { pos 0 ≤ℤ n }
     ensures border { IfOk result (λ r. IsBorder source.now r.1) }
     ensures onward { IfOk result (λ r. at < r.1) }
+    ensures utf8 { IfOk result (λ r. IsUtf8 (cow_str_bytes r.0)) }
     ensures reads { Answers Only (double (text_of source.now) (nat_abs n) (context_of context)) (place_of source.now at)
         (λ r. place_of source.now r.1) (λ r. chars (cow_str_bytes r.0)) result }
 {

@@ -2,15 +2,13 @@
 #![tactic(auto)]
 
 pub mod block;
-pub mod class;
+mod class;
 pub mod double;
 mod escape;
 pub mod laws;
-pub mod line;
+mod line;
 pub mod plain;
 mod quoted;
 pub mod single;
 pub mod spell;
-#[cfg(test)]
-mod tests;
 mod text;

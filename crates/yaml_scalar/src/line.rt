@@ -1,18 +1,18 @@
-//! What stands on a line: whites, breaks, margins and document marks.
-ghost use Rattle.std.specs.Prelude.{◌≡◌, ◌≢◌, ◌≤◌, ◌<◌, IfSome, IfNone, IfOk, IfErr, Some, slice_get, replicate, ℕ, List, ℤ, pos, ◌≤ℤ◌, nat_abs};
+//! Breaks inside a scalar, the empty lines after them, and the margins of the lines that follow.
+ghost use Rattle.std.specs.Prelude.{◌≡◌, ◌≢◌, ◌≤◌, ◌<◌, IfOk, IfErr, Some, slice_get, replicate, ℤ, pos, ◌≤ℤ◌, nat_abs};
 ghost use Rattle.std.specs.Bool.{OnTrue, OnFalse};
 ghost use Rattle.yaml_text.specs.Source.{text_of, place_of, IsBorder};
 ghost use Rattle.yaml_text.specs.EventModel.{context_of};
-ghost use Rattle.yaml_text.specs.grammar.Rules.{run, Stands};
+ghost use Rattle.yaml_text.specs.grammar.Rules.{Stands};
 ghost use Rattle.yaml_text.specs.grammar.Characters.{is_white, is_ns};
-ghost use Rattle.yaml_text.specs.grammar.Separation.{StartsLine, Mark, indent, less};
-ghost use Rattle.yaml_scalar.specs.Chains.{line_brk, DashesOf, Dashes, margin, lead, breaks, NoLead, NoBreaks};
+ghost use Rattle.yaml_text.specs.grammar.Separation.{StartsLine, Mark, less};
+ghost use Rattle.yaml_scalar.specs.Chains.{margin, lead, breaks, NoLead, NoBreaks};
 
-use crate::class::{is_key, is_ns};
 use yaml_text::chars::Chars;
-use yaml_text::class::is_white;
+use yaml_text::class::is_key;
 use yaml_text::context::Ctx;
-use yaml_text::places::{accept, is_border, next};
+use yaml_text::lines::{is_mark, line_break, skip_whites};
+use yaml_text::places::{accept, next};
 
 /// An indentation that is not negative, as a count of spaces.
 pub fn columns(n: i32) -> usize
@@ -20,49 +20,6 @@ pub fn columns(n: i32) -> usize
     ensures { result ≡ nat_abs n }
 {
     n as usize
-}
-
-/// The border after the whites that stand at a border.
-pub fn skip_whites(source: &Chars<'_>, at: usize) -> usize
-    requires { IsBorder source.now at }
-    ensures border { IsBorder source.now result }
-    ensures onward { at ≤ result }
-    ensures whites { run (text_of source.now) is_white (place_of source.now at) (place_of source.now result) }
-    ensures furthest { Stands (text_of source.now) is_white (place_of source.now result) → ⊥ }
-{
-    let mut here = at;
-    'whites: loop {
-        match next(source, here) {
-            None => return here,
-            Some((c, to)) => {
-                if is_white(c) {
-                    here = to;
-                } else {
-                    return here;
-                }
-            }
-        }
-    }
-}
-
-/// The border after the break that stands at a border.
-pub fn line_break(source: &Chars<'_>, at: usize) -> Option<usize>
-    requires { IsBorder source.now at }
-    ensures border { IfSome result (λ to. IsBorder source.now to) }
-    ensures onward { IfSome result (λ to. at < to) }
-    ensures some { IfSome result (λ to. line_brk (text_of source.now) (place_of source.now at) (place_of source.now to)) }
-    ensures none { IfNone result ((j : ℕ) → line_brk (text_of source.now) (place_of source.now at) j → ⊥) }
-{
-    match accept(source, at, '\n') {
-        Some(to) => Some(to),
-        None => match accept(source, at, '\r') {
-            None => None,
-            Some(to) => match accept(source, to, '\n') {
-                Some(end) => Some(end),
-                None => Some(to),
-            },
-        },
-    }
 }
 
 /// Up to `most` spaces, and the whites after them where there are so many.
@@ -89,36 +46,6 @@ pub fn read_margin(source: &Chars<'_>, at: usize, most: usize) -> (usize, bool)
             }
         }
     }
-}
-
-/// Whether three of a character, and then no character of a line but a white, stand at a border.
-pub fn is_mark_of(source: &Chars<'_>, at: usize, c: char) -> bool
-    requires { IsBorder source.now at }
-    ensures yes { OnTrue result (DashesOf (text_of source.now) c (place_of source.now at)) }
-    ensures no { OnFalse result (DashesOf (text_of source.now) c (place_of source.now at) → ⊥) }
-{
-    match accept(source, at, c) {
-        None => false,
-        Some(first) => match accept(source, first, c) {
-            None => false,
-            Some(second) => match accept(source, second, c) {
-                None => false,
-                Some(third) => match next(source, third) {
-                    None => true,
-                    Some((d, _)) => !is_ns(d),
-                },
-            },
-        },
-    }
-}
-
-/// Whether what stands at a border is a document mark, if it begins a line.
-pub fn is_mark(source: &Chars<'_>, at: usize) -> bool
-    requires { IsBorder source.now at }
-    ensures yes { OnTrue result (Dashes (text_of source.now) (place_of source.now at)) }
-    ensures no { OnFalse result (Dashes (text_of source.now) (place_of source.now at) → ⊥) }
-{
-    is_mark_of(source, at, '-') || is_mark_of(source, at, '.')
 }
 
 /// After a break: how many empty lines stand there, and the border where the next line's text begins. Where no text may
@@ -156,37 +83,6 @@ pub fn read_lead(source: &Chars<'_>, at: usize, least: usize) -> Result<(usize, 
                 }
             }
         }
-    }
-}
-
-/// Whether a line starts at a border.
-pub fn starts_line(source: &Chars<'_>, at: usize) -> bool
-    requires { IsBorder source.now at }
-    ensures yes { OnTrue result (StartsLine (text_of source.now) (place_of source.now at)) }
-    ensures no { OnFalse result (StartsLine (text_of source.now) (place_of source.now at) → ⊥) }
-{
-    if at == 0 {
-        return true;
-    }
-    if !is_border(source, at - 1) {
-        return false;
-    }
-    match line_break(source, at - 1) {
-        None => false,
-        Some(to) => to == at,
-    }
-}
-
-/// Whether a document mark stands at a border.
-pub fn stands_mark(source: &Chars<'_>, at: usize) -> bool
-    requires { IsBorder source.now at }
-    ensures yes { OnTrue result (Mark (text_of source.now) (place_of source.now at)) }
-    ensures no { OnFalse result (Mark (text_of source.now) (place_of source.now at) → ⊥) }
-{
-    if is_mark(source, at) {
-        starts_line(source, at)
-    } else {
-        false
     }
 }
 

@@ -1,5 +1,5 @@
 //! Plain scalars (YAML 1.2.2, 7.3.3).
-ghost use Rattle.std.specs.Prelude.{◌≡◌, ◌≤◌, ◌<◌, IfSome, IfNone, IfOk, slice_get, slice_range, replicate, ℕ, List, false, ℤ, pos, ◌≤ℤ◌, nat_abs};
+ghost use Rattle.std.specs.Prelude.{◌≡◌, ◌≤◌, ◌<◌, IfSome, IfNone, IfOk, IsUtf8, slice_get, slice_range, replicate, ℕ, List, false, ℤ, pos, ◌≤ℤ◌, nat_abs};
 ghost use Rattle.std.specs.Bool.{OnTrue, OnFalse};
 ghost use Rattle.std.specs.Str.{chars};
 ghost use Rattle.std.specs.Cow.{cow_str_bytes};
@@ -7,23 +7,24 @@ ghost use Rattle.yaml_text.specs.Answer.{Furthest};
 ghost use Rattle.yaml_text.specs.EventModel.{context_of};
 ghost use Rattle.yaml_text.specs.Place.{Steps};
 ghost use Rattle.yaml_text.specs.Source.{bytes_of, text_of, place_of, IsBorder};
-ghost use Rattle.yaml_text.specs.grammar.Calls.{Unread};
+ghost use Rattle.yaml_text.specs.Answer.{Unread};
 ghost use Rattle.yaml_text.specs.grammar.Characters.{is_white};
 ghost use Rattle.yaml_text.specs.grammar.FlowScalars.{plain_safe, PlainFirst, plain};
 ghost use Rattle.yaml_text.specs.grammar.Rules.{run, Stands, any};
 ghost use Rattle.yaml_text.specs.grammar.Separation.{Mark};
 ghost use Rattle.yaml_scalar.specs.Chains.{breaks, Later, NoLine, line_more};
-ghost use Rattle.yaml_scalar.specs.Outcome.{Answers};
+ghost use Rattle.yaml_text.specs.Answer.{Answers};
 
-use crate::class::{is_plain_head, is_plain_inner, is_plain_safe, is_plain_sign};
-use crate::line::{columns, read_break, stands_mark};
+use crate::class::{is_plain_head, is_plain_inner, is_plain_sign};
+use crate::line::{columns, read_break};
 use crate::text::{push_between, push_fold};
 use std::alloc::Global;
 use std::borrow::CowStr;
 use yaml_text::chars::Chars;
-use yaml_text::class::is_white;
+use yaml_text::class::{is_plain_safe, is_white};
 use yaml_text::context::Ctx;
 use yaml_text::fault::Fault;
+use yaml_text::lines::stands_mark;
 use yaml_text::places::{next, text_between};
 
 /// Whether a plain-safe character stands at a border.
@@ -158,6 +159,7 @@ fn plain_from<'a>(
     requires { IsBorder source.now at }
     ensures border { IfOk result (λ r. IsBorder source.now r.1) }
     ensures onward { IfOk result (λ r. at < r.1) }
+    ensures utf8 { IfOk result (λ r. IsUtf8 (cow_str_bytes r.0)) }
     ensures reads { Answers Furthest (plain (text_of source.now) least (context_of context)) (place_of source.now at)
         (λ r. place_of source.now r.1) (λ r. chars (cow_str_bytes r.0)) result }
 {
@@ -210,6 +212,7 @@ pub fn read_plain<'a>(
     requires indentation { pos 0 ≤ℤ n }
     ensures border { IfOk result (λ r. IsBorder source.now r.1) }
     ensures onward { IfOk result (λ r. at < r.1) }
+    ensures utf8 { IfOk result (λ r. IsUtf8 (cow_str_bytes r.0)) }
     ensures reads { Answers Furthest (plain (text_of source.now) (nat_abs n) (context_of context)) (place_of source.now at)
         (λ r. place_of source.now r.1) (λ r. chars (cow_str_bytes r.0)) result }
 {

@@ -1,21 +1,22 @@
 //! Single-quoted scalars (YAML 1.2.2, 7.3.2).
-ghost use Rattle.std.specs.Prelude.{◌≡◌, ◌<◌, IfOk, ℤ, pos, ◌≤ℤ◌, nat_abs};
+ghost use Rattle.std.specs.Prelude.{◌≡◌, ◌<◌, IfOk, IsUtf8, ℤ, pos, ◌≤ℤ◌, nat_abs};
 ghost use Rattle.std.specs.Str.{chars};
 ghost use Rattle.std.specs.Cow.{cow_str_bytes};
 ghost use Rattle.yaml_text.specs.Answer.{Only};
 ghost use Rattle.yaml_text.specs.EventModel.{context_of};
 ghost use Rattle.yaml_text.specs.Source.{text_of, place_of, IsBorder};
 ghost use Rattle.yaml_text.specs.grammar.FlowScalars.{single};
-ghost use Rattle.yaml_scalar.specs.Outcome.{Answers};
+ghost use Rattle.yaml_text.specs.Answer.{Answers};
 
 use crate::line::{columns, read_break};
 use crate::quoted::quoted_run;
-use crate::text::{push_between, push_fold, refusal};
+use crate::text::{push_between, push_fold};
 use std::alloc::Global;
 use std::borrow::CowStr;
 use yaml_text::chars::Chars;
 use yaml_text::context::Ctx;
 use yaml_text::fault::Fault;
+use yaml_text::lines::unusable;
 use yaml_text::places::{accept, text_between};
 
 /// The same as `read_single`, with the indentation as a count.
@@ -29,6 +30,7 @@ fn single_from<'a>(
     requires { IsBorder source.now at }
     ensures border { IfOk result (λ r. IsBorder source.now r.1) }
     ensures onward { IfOk result (λ r. at < r.1) }
+    ensures utf8 { IfOk result (λ r. IsUtf8 (cow_str_bytes r.0)) }
     ensures reads { Answers Only (single (text_of source.now) least (context_of context)) (place_of source.now at)
         (λ r. place_of source.now r.1) (λ r. chars (cow_str_bytes r.0)) result }
 {
@@ -54,7 +56,7 @@ fn single_from<'a>(
                 }
             },
             None => match read_break(source, stop, least, context) {
-                Err(barred) => return Err(refusal(source, barred)),
+                Err(barred) => return Err(unusable(source, barred)),
                 Ok((count, to)) => {
                     push_between(&mut text, source, from, end)?;
                     push_fold(&mut text, count)?;
@@ -81,6 +83,7 @@ pub fn read_single<'a>(
     requires indentation { pos 0 ≤ℤ n }
     ensures border { IfOk result (λ r. IsBorder source.now r.1) }
     ensures onward { IfOk result (λ r. at < r.1) }
+    ensures utf8 { IfOk result (λ r. IsUtf8 (cow_str_bytes r.0)) }
     ensures reads { Answers Only (single (text_of source.now) (nat_abs n) (context_of context)) (place_of source.now at)
         (λ r. place_of source.now r.1) (λ r. chars (cow_str_bytes r.0)) result }
 {

@@ -1,5 +1,7 @@
 //! The spelling of a content between double quotes.
-ghost use Rattle.std.specs.Prelude.{◌≡◌, ◌<◌, ◌≤◌, length, ◌++◌, false, OnOk, OnErr, IfErr};
+ghost use Rattle.std.specs.Prelude.{◌≡◌, ◌<◌, ◌≤◌, length, ◌++◌, false, take, drop, OnOk, OnErr, IfErr};
+ghost use Rattle.std.specs.Char.{encode_utf8};
+ghost use Rattle.std.specs.List.{All};
 ghost use Rattle.std.specs.Str.{encode_utf8_all};
 ghost use Rattle.std.specs.String.{string_bytes};
 ghost use Rattle.yaml_text.specs.CharText.{hex_digit, spell_char};
@@ -34,6 +36,59 @@ pub fn spelled_len(text: &str) -> u128
         len += char_len(c) as u128;
     }
     len
+}
+
+/// A character's spelling between double quotes, and how many bytes it has; the rest of the array is
+/// zero. A content's spelling is a quote, these texts in order, and a quote.
+#[tactic(auto, unfolding(yaml_text::specs::CharText::spell_char))]
+pub fn spelled_char(c: char) -> ([u8; 6], usize)
+    ensures text { take result.1 result.0 ≡ encode_utf8_all (spell_char c) }
+    ensures len { result.1 ≡ length (encode_utf8_all (spell_char c)) }
+    ensures bound { result.1 ≤ 6 }
+    ensures rest { All (λ b. b ≡ 0) (drop result.1 result.0) }
+{
+    if is_verbatim(c) {
+        return itself(c);
+    }
+    match c {
+        '"' => ([b'\\', b'"', 0, 0, 0, 0], 2),
+        '\\' => ([b'\\', b'\\', 0, 0, 0, 0], 2),
+        '\n' => ([b'\\', b'n', 0, 0, 0, 0], 2),
+        '\t' => ([b'\\', b't', 0, 0, 0, 0], 2),
+        _ => escape(u32::from(c)),
+    }
+}
+
+/// A character's own bytes.
+fn itself(c: char) -> ([u8; 6], usize)
+    ensures text { take result.1 result.0 ≡ encode_utf8 c }
+    ensures len { result.1 ≡ length (encode_utf8 c) }
+    ensures bound { result.1 ≤ 6 }
+    ensures rest { All (λ b. b ≡ 0) (drop result.1 result.0) }
+{
+    let mut spelling = [0u8; 6];
+    let mut utf8 = [0u8; 4];
+    let text = c.encode_utf8(&mut utf8);
+    spelling[..text.len()].copy_from_slice(text.as_bytes());
+    (spelling, text.len())
+}
+
+/// `\xHH` below 256, else `\uHHHH`.
+fn escape(code: u32) -> ([u8; 6], usize)
+    requires { code < 65536 }
+    ensures text { take result.1 result.0 ≡ encode_utf8_all (code_text code) }
+    ensures len { result.1 ≡ length (encode_utf8_all (code_text code)) }
+    ensures bound { result.1 ≤ 6 }
+    ensures rest { All (λ b. b ≡ 0) (drop result.1 result.0) }
+{
+    let low = hex_byte(code % 16);
+    let next = hex_byte(code / 16 % 16);
+    if code < 256 {
+        ([b'\\', b'x', next, low, 0, 0], 4)
+    } else {
+        let third = hex_byte(code / 256 % 16);
+        ([b'\\', b'u', hex_byte(code / 4096), third, next, low], 6)
+    }
 }
 
 /// How many bytes a character takes between double quotes.
@@ -134,10 +189,17 @@ fn hex_digit(digit: u32) -> char
     requires { digit < 16 }
     ensures { result ≡ hex_digit digit }
 {
-    let byte = if digit < 10 {
+    char::from(hex_byte(digit))
+}
+
+/// The byte of a digit of base 16, in upper case.
+fn hex_byte(digit: u32) -> u8
+    requires { digit < 16 }
+    ensures { result ≡ hex_digit digit }
+{
+    if digit < 10 {
         b'0' + digit as u8
     } else {
         b'A' + (digit as u8 - 10)
-    };
-    char::from(byte)
+    }
 }

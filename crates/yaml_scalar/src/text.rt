@@ -1,15 +1,13 @@
-//! Texts that are put together, and the faults of what can't be read.
+//! Texts that are put together.
 ghost use Rattle.std.specs.Prelude.{◌≡◌, ◌≤◌, ◌++◌, IfOk, slice_range, replicate};
 ghost use Rattle.std.specs.Str.{chars};
 ghost use Rattle.std.specs.String.{string_bytes};
 ghost use Rattle.yaml_text.specs.Source.{text_of, place_of, IsBorder};
 ghost use Rattle.yaml_scalar.specs.Chains.{fold_text};
-ghost use Rattle.yaml_scalar.specs.Outcome.{IsUnread};
 
 use std::alloc::AllocError;
 use yaml_text::chars::Chars;
-use yaml_text::fault::Fault;
-use yaml_text::places::{accept, text_between};
+use yaml_text::places::text_between;
 
 /// Puts so many LFs at the end of a text.
 pub fn push_lines(text: &mut String, count: usize) -> Result<(), AllocError>
@@ -46,16 +44,4 @@ pub fn push_between(
         ++ slice_range (text_of source.now) (place_of source.now from) (place_of source.now to)) }
 {
     text.push_str(text_between(source, from, to))
-}
-
-/// The fault of what stands at a border and can't be read: a tab is one where indentation stands, as each other has been
-/// read.
-pub fn refusal(source: &Chars<'_>, at: usize) -> Fault
-    requires { IsBorder source.now at }
-    ensures { IsUnread result }
-{
-    match accept(source, at, '\t') {
-        Some(_) => Fault::Tab(source.pos(at)),
-        None => Fault::Syntax(source.pos(at)),
-    }
 }

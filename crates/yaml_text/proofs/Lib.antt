@@ -29,3 +29,9 @@ pub mod PlaceLemmas
 pub mod grammar
 pub mod RefusedText
 pub mod Equivalence
+pub mod Tests
+pub mod Repeats
+pub mod Runs
+pub mod Breaks
+pub mod LineRuns
+pub mod RestLemmas

@@ -1,6 +1,12 @@
 -- What a call that reads says of its production.
-use Rattle.std.specs.Prelude.{◌≡◌, ℕ, ◌≤◌}
+use Rattle.std.specs.Prelude.{◌≡◌, ℕ, ◌≤◌, Result, Ok, Err}
 use Rattle.yaml_text.specs.grammar.Rules.{Rule}
+use Rattle.yaml_text.specs.declared.fault.Fault.{Fault}
+use Rattle.yaml_text.specs.declared.fault.Fault.TheVariants as fault
+
+-- no reading begins at i
+abbrev pub Unread : {V : Type 0} → Rule V → ℕ → Type 0
+Unread {V} R i = (j : ℕ) (v : V) → R i j v → ⊥
 
 -- the only reading by the rule that begins at i
 pub record Only {V : Type 0} (R : Rule V) (i j : ℕ) (v : V) : Type 0 where
@@ -12,3 +18,28 @@ pub record Furthest {V : Type 0} (R : Rule V) (i j : ℕ) (v : V) : Type 0 where
   pub is : R i j v
   pub furthest : (k : ℕ) (w : V) → R i k w → k ≤ j
   pub only : (w : V) → R i j w → w ≡ v
+
+-- the reading that ends furthest, and no other has another value
+pub record FurthestAlone {V : Type 0} (R : Rule V) (i j : ℕ) (v : V) : Type 0 where
+  pub is : R i j v
+  pub furthest : (k : ℕ) (w : V) → R i k w → k ≤ j
+  pub only : (k : ℕ) (w : V) → R i k w → w ≡ v
+
+-- the faults that a scalar may have: each but want of memory means that P holds
+abbrev pub Refuses : Fault → Type 0 → Type 0
+Refuses (fault.Syntax at) P = P
+Refuses (fault.Tab at) P = P
+Refuses (fault.BadEscape at) P = P
+Refuses fault.OutOfMemory P = Unit {0}
+Refuses _ P = ⊥
+
+-- the answer is the reading that Best names, or there is none
+abbrev pub Answers : {V X : Type 0} (Best : Rule V → Rule V) (R : Rule V) → ℕ → (X → ℕ) → (X → V) → Result X Fault → Type 0
+Answers Best R i end value (Ok x) = Best R i (end x) (value x)
+Answers Best R i end value (Err e) = Refuses e (Unread R i)
+
+-- the text can't be read on
+abbrev pub IsUnread : Fault → Type 0
+IsUnread (fault.Syntax at) = Unit {0}
+IsUnread (fault.Tab at) = Unit {0}
+IsUnread _ = ⊥

@@ -28,3 +28,6 @@ pub mod Answer
 pub mod Fault
 pub mod grammar
 pub mod TextLaws
+pub mod Lines
+pub mod Count
+pub mod CountedModel

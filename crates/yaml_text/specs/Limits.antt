@@ -17,10 +17,6 @@ height_limit = 1023
 abbrev pub key_limit : ℕ
 key_limit = 1024
 
--- the greatest indentation that a scalar may be read at
-abbrev pub indentation_limit : ℕ
-indentation_limit = 67108863
-
 -- bytes of a decoded tag
 abbrev pub tag_limit : ℕ
 tag_limit = 1024

@@ -1,7 +1,12 @@
 //! The classes of characters (YAML 1.2.2, chapter 5).
 ghost use Rattle.std.specs.Prelude.{◌≡◌};
 ghost use Rattle.yaml_text.specs.Text.{is_text};
-ghost use Rattle.yaml_text.specs.grammar.Characters.{is_printable, is_white, is_break, is_word, is_uri, is_flow_indicator};
+ghost use Rattle.yaml_text.specs.EventModel.{context_of};
+ghost use Rattle.yaml_text.specs.Lines.{is_key};
+ghost use Rattle.yaml_text.specs.grammar.Characters.{is_printable, is_white, is_break, is_ns, is_word, is_uri, is_indicator, is_flow_indicator};
+ghost use Rattle.yaml_text.specs.grammar.FlowScalars.{is_flow, plain_safe};
+
+use crate::context::Ctx;
 
 /// Whether `c` is printable (5.1). U+FEFF is.
 #[tactic(auto, unfolding(crate::specs::grammar::Characters::is_printable))]
@@ -75,6 +80,79 @@ pub fn is_flow_indicator(c: char) -> bool
     ensures { result ≡ is_flow_indicator c }
 {
     matches!(c, ',' | '[' | ']' | '{' | '}')
+}
+
+/// Whether a character is no white and no break (YAML 1.2.2, 5.5).
+#[tactic(auto, unfolding(crate::specs::grammar::Characters::is_ns, crate::specs::grammar::Characters::is_nb))]
+pub fn is_ns(c: char) -> bool
+    ensures { result ≡ is_ns c }
+{
+    !is_break(c) && !is_white(c)
+}
+
+/// Whether a character has a meaning of its own where a node begins (5.3).
+#[tactic(auto, unfolding(crate::specs::grammar::Characters::is_indicator))]
+pub fn is_indicator(c: char) -> bool
+    ensures { result ≡ is_indicator c }
+{
+    matches!(
+        c,
+        '-' | '?'
+            | ':'
+            | ','
+            | '['
+            | ']'
+            | '{'
+            | '}'
+            | '#'
+            | '&'
+            | '*'
+            | '!'
+            | '|'
+            | '>'
+            | '\''
+            | '"'
+            | '%'
+            | '@'
+            | '`'
+    )
+}
+
+/// Whether a context is inside a flow collection.
+#[tactic(auto, unfolding(crate::specs::grammar::FlowScalars::is_flow))]
+pub fn is_flow(context: Ctx) -> bool
+    ensures { result ≡ is_flow (context_of context) }
+{
+    match context {
+        Ctx::FlowIn => true,
+        Ctx::FlowKey => true,
+        Ctx::BlockOut => false,
+        Ctx::BlockIn => false,
+        Ctx::FlowOut => false,
+        Ctx::BlockKey => false,
+    }
+}
+
+/// Whether a context is that of a key on one line.
+pub fn is_key(context: Ctx) -> bool
+    ensures { result ≡ is_key (context_of context) }
+{
+    match context {
+        Ctx::BlockKey => true,
+        Ctx::FlowKey => true,
+        Ctx::BlockOut => false,
+        Ctx::BlockIn => false,
+        Ctx::FlowOut => false,
+        Ctx::FlowIn => false,
+    }
+}
+
+/// Whether a character is safe in a plain scalar (7.3.3).
+#[tactic(auto, unfolding(crate::specs::grammar::FlowScalars::plain_safe))]
+pub fn is_plain_safe(context: Ctx, c: char) -> bool
+    ensures { result ≡ plain_safe (context_of context) c }
+{
+    is_ns(c) && !(is_flow(context) && is_flow_indicator(c))
 }
 
 /// Whether `c` may stand in a checked text, after the mark that its input may begin with.

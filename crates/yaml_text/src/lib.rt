@@ -4,12 +4,12 @@
 pub mod chars;
 pub mod class;
 pub mod context;
+pub mod counted;
 pub mod event;
 pub mod fault;
 pub mod grammar_laws;
 pub mod laws;
 pub mod limits;
+pub mod lines;
 pub mod places;
-#[cfg(test)]
-mod tests;
 pub mod text_laws;

@@ -1,9 +1,10 @@
 //! `canon`: the canonical text of an input.
-use crate::streams::{INPUT_LIMIT, gather, write_out};
+use crate::streams::{gather, write_out};
 use std::alloc::Global;
 use std::io::{Read, Write};
 use yaml_canon::canonical;
 use yaml_text::fault::Fault;
+use yaml_text::limits::text_limit;
 
 /// Reads all of an input, and writes its canonical text once it is whole.
 pub fn canon<R: Read + Drop, W: Write>(
@@ -11,7 +12,7 @@ pub fn canon<R: Read + Drop, W: Write>(
     mut input: R,
     out: &mut W,
 ) -> Result<(), Fault> {
-    let bytes = gather(alloc, &mut input, INPUT_LIMIT)?;
+    let bytes = gather(alloc, &mut input, text_limit())?;
     let text = canonical(alloc, bytes.as_slice())?;
     write_out(out, text.as_bytes())
 }

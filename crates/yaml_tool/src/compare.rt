@@ -1,11 +1,12 @@
 //! `same`: whether two files have the same documents.
 use crate::refusal::Refusal;
-use crate::streams::{INPUT_LIMIT, gather, write_out};
+use crate::streams::{gather, write_out};
 use std::alloc::Global;
 use std::fs;
 use std::io::Write;
 use std::rt::Files;
 use yaml_canon::{Side, same};
+use yaml_text::limits::text_limit;
 
 fn read_side<'a, T: Files>(
     rt: &T,
@@ -16,7 +17,7 @@ fn read_side<'a, T: Files>(
     let Ok(mut file) = fs::open(rt, name) else {
         return Err(Refusal::CannotOpen(name));
     };
-    let bytes = gather(alloc, &mut file, INPUT_LIMIT).map_err(|fault| (side, fault))?;
+    let bytes = gather(alloc, &mut file, text_limit()).map_err(|fault| (side, fault))?;
     Ok(bytes)
 }
 

@@ -6,9 +6,6 @@ use std::alloc::Global;
 use std::io::{Read, Write};
 use yaml_text::fault::Fault;
 
-/// The greatest length of an input, in bytes.
-pub const INPUT_LIMIT: usize = 16_777_216;
-
 /// How many bytes are asked of a reader at most in one call.
 const PIECE: usize = 4096;
 

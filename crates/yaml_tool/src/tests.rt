@@ -311,8 +311,8 @@ fn equal_keys_are_told(rt: HostRuntime) -> Result<(), Fail> {
 #[test]
 fn an_input_past_the_limit_is_too_long(rt: HostRuntime) -> Result<(), Fail> {
     for (zeros, err) in [
-        (16_777_216, "yaml: 3 NotPrintable at byte 0\n"),
-        (16_777_217, "yaml: 1 TooLong\n"),
+        (67_108_864, "yaml: 3 NotPrintable at byte 0\n"),
+        (67_108_865, "yaml: 1 TooLong\n"),
         (u64::MAX, "yaml: 1 TooLong\n"),
     ] {
         let ran = run(rt.alloc(), &Shelf::new(), &["canon"], Source::zeros(zeros))?;

@@ -552,8 +552,8 @@ fn aliases_that_double_unfold_too_far(rt: HostRuntime) -> Result<(), Fail> {
     let alloc = rt.alloc();
     for (count, message) in [
         (15, "24 UnfoldsTooFar in document 0"),
-        (126, "24 UnfoldsTooFar in document 0"),
-        (127, "18 TooHigh in document 0"),
+        (1022, "24 UnfoldsTooFar in document 0"),
+        (1023, "18 TooHigh in document 0"),
     ] {
         let input = linked(alloc, count, 2)?;
         is_refused(&rt, "doubled", input.as_bytes(), message)?;
@@ -561,13 +561,17 @@ fn aliases_that_double_unfold_too_far(rt: HostRuntime) -> Result<(), Fail> {
     Ok(())
 }
 
-/// No item stands twice in another, so that the trees stay small.
+/// No item stands twice in another, so that the trees stay small; heights are judged before sizes.
 #[test]
 fn aliases_count_in_the_height(rt: HostRuntime) -> Result<(), Fail> {
     is_accepted(&rt, 126, 1)?;
-    let input = linked(rt.alloc(), 127, 1)?;
+    let alloc = rt.alloc();
+    let low = linked(alloc, 1022, 1)?;
+    let message = "24 UnfoldsTooFar in document 0";
+    is_refused(&rt, "not too high", low.as_bytes(), message)?;
+    let high = linked(alloc, 1023, 1)?;
     let message = "18 TooHigh in document 0";
-    is_refused(&rt, "a chain", input.as_bytes(), message)
+    is_refused(&rt, "a chain", high.as_bytes(), message)
 }
 
 /// The sizes of both sides are judged once both are read, and before the keys of either.

@@ -469,9 +469,9 @@ fn escapes_that_the_end_cuts_are_refused(rt: HostRuntime) -> Result<(), Fail> {
 }
 
 #[test]
-fn brackets_nest_to_128(rt: HostRuntime) -> Result<(), Fail> {
+fn brackets_nest_to_1024(rt: HostRuntime) -> Result<(), Fail> {
     let alloc = rt.alloc();
-    for (depth, inner) in [(127, "\"x\""), (128, "")] {
+    for (depth, inner) in [(1023, "\"x\""), (1024, "")] {
         let mut input = nested(alloc, depth, inner)?;
         let got = answer(alloc, input.as_slice())?;
         input.push(b'\n')?;
@@ -480,30 +480,30 @@ fn brackets_nest_to_128(rt: HostRuntime) -> Result<(), Fail> {
             Err(message) => assert_eq!(rt; message.as_str(), "", "{depth}"),
         }
     }
-    let high = nested(alloc, 128, "\"x\"")?;
+    let high = nested(alloc, 1024, "\"x\"")?;
     is_refused(&rt, "too high", high.as_slice(), "18 TooHigh in document 0")?;
-    let deep = nested(alloc, 129, "")?;
-    is_refused(&rt, "too deep", deep.as_slice(), "7 TooDeep at byte 132")
+    let deep = nested(alloc, 1025, "")?;
+    is_refused(&rt, "too deep", deep.as_slice(), "7 TooDeep at byte 1028")
 }
 
 #[test]
-fn a_text_has_16_777_216_bytes_at_most(rt: HostRuntime) -> Result<(), Fail> {
+fn a_text_has_67_108_864_bytes_at_most(rt: HostRuntime) -> Result<(), Fail> {
     let alloc = rt.alloc();
-    let mut input = letters(alloc, 16_777_209)?;
+    let mut input = letters(alloc, 67_108_857)?;
     let got = answer(alloc, input.as_slice())?;
     input.push(b'\n')?;
     match got {
         Ok(text) => assert!(rt; text.as_bytes() == input.as_slice()),
         Err(message) => assert_eq!(rt; message.as_str(), ""),
     }
-    let long = letters(alloc, 16_777_210)?;
+    let long = letters(alloc, 67_108_858)?;
     is_refused(&rt, "too long a text", long.as_slice(), "20 TextTooLong")
 }
 
 #[test]
-fn an_input_has_16_777_216_bytes_at_most(rt: HostRuntime) -> Result<(), Fail> {
+fn an_input_has_67_108_864_bytes_at_most(rt: HostRuntime) -> Result<(), Fail> {
     let mut input = Vec::new(rt.alloc());
-    for _ in 0..16_777_216u32 {
+    for _ in 0..67_108_864u32 {
         input.push(0xFFu8)?;
     }
     is_refused(&rt, "the limit", input.as_slice(), "2 NotUtf8 at byte 0")?;

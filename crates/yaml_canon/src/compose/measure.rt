@@ -14,9 +14,8 @@ ghost use Rattle.yaml_text.specs.Tag.{map_tag};
 use super::graph::Node;
 use std::alloc::Global;
 use yaml_text::fault::Fault;
+use yaml_text::limits::height_limit;
 
-/// One above the greatest height that is accepted.
-const HEIGHT_CUT: usize = 128;
 /// One above the greatest number of nodes that is accepted.
 const NODES_CUT: usize = 65_537;
 
@@ -43,7 +42,7 @@ impl Measure {
             height: self
                 .height
                 .max(part.height.saturating_add(1))
-                .min(HEIGHT_CUT),
+                .min(height_limit() + 1),
             nodes: self.nodes.saturating_add(part.nodes).min(NODES_CUT),
         }
     }

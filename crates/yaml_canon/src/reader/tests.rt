@@ -286,18 +286,18 @@ fn nested(alloc: Global, count: usize) -> Result<String, Fault> {
 }
 
 #[test]
-fn opens_128_collections_at_most(rt: HostRuntime) -> Result<(), Fail> {
-    let deep = nested(rt.alloc(), 128)?;
+fn opens_1024_collections_at_most(rt: HostRuntime) -> Result<(), Fail> {
+    let deep = nested(rt.alloc(), 1024)?;
     assert_eq!(rt; shown(rt.alloc(), deep.as_str()).is_ok(), true);
-    let deeper = nested(rt.alloc(), 129)?;
+    let deeper = nested(rt.alloc(), 1025)?;
     assert_eq!(rt;
         shown(rt.alloc(), deeper.as_str()),
-        Err(Fault::TooDeep(324))
+        Err(Fault::TooDeep(2564))
     );
-    let deepest = nested(rt.alloc(), 200)?;
+    let deepest = nested(rt.alloc(), 2000)?;
     assert_eq!(rt;
         shown(rt.alloc(), deepest.as_str()),
-        Err(Fault::TooDeep(324))
+        Err(Fault::TooDeep(2564))
     );
     Ok(())
 }

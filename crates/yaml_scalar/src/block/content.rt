@@ -6,19 +6,21 @@ ghost use Rattle.yaml_text.specs.Source.{text_of, place_of, IsBorder};
 ghost use Rattle.std.specs.Bool.{OnTrue, OnFalse};
 ghost use Rattle.yaml_text.specs.grammar.Rules.{Stands};
 ghost use Rattle.yaml_text.specs.grammar.Characters.{is_white};
-ghost use Rattle.yaml_text.specs.grammar.Calls.{Unread};
+ghost use Rattle.yaml_text.specs.Answer.{Unread};
 ghost use Rattle.yaml_text.specs.grammar.BlockScalars.{indentation};
-ghost use Rattle.yaml_scalar.specs.Outcome.{Refuses};
-ghost use Rattle.yaml_scalar.specs.BlockRules.{AfterLine, block_lines};
+ghost use Rattle.yaml_text.specs.Answer.{Refuses};
+ghost use Rattle.yaml_scalar.specs.BlockRules.{block_lines};
+ghost use Rattle.yaml_text.specs.Lines.{AfterLine};
 ghost use Rattle.yaml_scalar.specs.BlockModel.{header_of, glue, last_breaks, shape, are_folded, breaks_of};
 
 use crate::block::header::{Chomp, Header};
 use crate::block::lines::{Line, read_line, read_start};
-use crate::text::{push_between, push_fold, push_lines, refusal};
+use crate::text::{push_between, push_fold, push_lines};
 use std::alloc::{AllocError, Global};
 use yaml_text::chars::Chars;
 use yaml_text::class::is_white;
 use yaml_text::fault::Fault;
+use yaml_text::lines::unusable;
 use yaml_text::places::next;
 
 /// The last line of content so far: none, one that begins with a white, or another.
@@ -118,7 +120,7 @@ pub fn read_content(
 {
     let start = match read_start(source, at, col, header) {
         Ok(start) => start,
-        Err(stop) => return Err(refusal(source, stop)),
+        Err(stop) => return Err(unusable(source, stop)),
     };
     let mut text = String::new(alloc);
     let mut before = Before::Nothing;

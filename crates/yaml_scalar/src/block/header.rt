@@ -3,16 +3,16 @@ ghost use Rattle.std.specs.Prelude.{◌≡◌, ◌≤◌, IfOk, IfErr, IfSome};
 ghost use Rattle.std.specs.Int.{is_in_range};
 ghost use Rattle.yaml_text.specs.Source.{text_of, place_of, IsBorder};
 ghost use Rattle.yaml_text.specs.grammar.Rules.{Stands};
-ghost use Rattle.yaml_text.specs.grammar.Calls.{Unread};
+ghost use Rattle.yaml_text.specs.Answer.{Unread};
 ghost use Rattle.yaml_text.specs.grammar.BlockScalars.{indentation_indicator, chomping_indicator, header};
-ghost use Rattle.yaml_scalar.specs.Outcome.{Refuses};
-ghost use Rattle.yaml_scalar.specs.BlockRules.{AfterLine, Inside, is_sign, EndIndicators, indicators};
+ghost use Rattle.yaml_text.specs.Answer.{Refuses};
+ghost use Rattle.yaml_scalar.specs.BlockRules.{is_sign, EndIndicators, indicators};
+ghost use Rattle.yaml_text.specs.Lines.{AfterLine, Inside};
 ghost use Rattle.yaml_scalar.specs.BlockModel.{chomp_of, header_of};
 
-use crate::block::blanks::{skip_blank, skip_spaces};
-use crate::text::refusal;
 use yaml_text::chars::Chars;
 use yaml_text::fault::Fault;
+use yaml_text::lines::{skip_blank, skip_spaces, unusable};
 use yaml_text::places::{accept, next};
 
 /// Which breaks stay at the end of a content.
@@ -118,12 +118,12 @@ pub fn read_header(source: &Chars<'_>, at: usize) -> Result<(Header, usize), Fau
 {
     let (header, end) = read_indicators(source, at);
     match accept(source, end, '#') {
-        Some(_) => Err(refusal(source, end)),
+        Some(_) => Err(unusable(source, end)),
         None => match skip_blank(source, end) {
             Some(after) => Ok((header, after)),
             None => {
                 let (_, stop) = skip_spaces(source, end);
-                Err(refusal(source, stop))
+                Err(unusable(source, stop))
             }
         },
     }

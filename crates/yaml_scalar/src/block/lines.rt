@@ -2,15 +2,16 @@
 ghost use Rattle.std.specs.Prelude.{◌≤◌, ◌+◌, ◌-◌, ◌<◌, IfOk, IfErr, IfSome, None, replicate};
 ghost use Rattle.yaml_text.specs.Source.{text_of, place_of, IsBorder};
 ghost use Rattle.yaml_text.specs.grammar.Rules.{any};
-ghost use Rattle.yaml_text.specs.grammar.Calls.{Unread};
+ghost use Rattle.yaml_text.specs.Answer.{Unread};
 ghost use Rattle.yaml_text.specs.grammar.BlockScalars.{indentation, blank_line, blank, is_given};
-ghost use Rattle.yaml_scalar.specs.BlockRules.{AfterLine, Solid, Ready};
+ghost use Rattle.yaml_scalar.specs.BlockRules.{Solid, Ready};
+ghost use Rattle.yaml_text.specs.Lines.{AfterLine};
 ghost use Rattle.yaml_scalar.specs.BlockModel.{LineIs};
 
-use crate::block::blanks::{read_spaces, rest_of_line, skip_spaces};
+use crate::block::blanks::read_spaces;
 use crate::block::header::Header;
-use crate::line::{line_break, stands_mark};
 use yaml_text::chars::Chars;
+use yaml_text::lines::{line_break, rest_of_line, skip_spaces, stands_mark};
 use yaml_text::places::next;
 
 /// Where the lines begin: the content's indentation, the start of the first line that is not known to be empty, and how many

@@ -162,7 +162,7 @@ impl Shelf<'static> {
                 ),
                 ("cycle.yaml", Source::of("--- &a [*a]")),
                 ("open.yaml", Source::of("--- [\"")),
-                ("long.yaml", Source::zeros(16_777_217)),
+                ("long.yaml", Source::zeros(67_108_865)),
                 ("failing.yaml", Source::of("--- \"x\"").by(2).failing_at(3)),
             ],
         }

@@ -1,4 +1,5 @@
 use Rattle.std.proofs.Common.{sym, subst, map, Ok}
+use Rattle.yaml_text.specs.Limits.{open_limit}
 use Rattle.yaml_text.specs.EventModel.{event_of}
 use Rattle.yaml_text.specs.Source.{text_of}
 use Rattle.yaml_canon.specs.FlowPath.{ReadsFlow}
@@ -21,7 +22,7 @@ returns-in_err-end c =
     (refuses_weaker e (λ u. no_text _ _ c.in_ok-start.ensures.reads (λ ys r. no_node _ _ u ys r)) c.in_err-end.ensures.reads)
 
 pub read_tail-requires-clause-start : goal.read_tail-requires-clause-start
-read_tail-requires-clause-start c = let n = c.in_ok-end.ensures.reads in any_no_return _ 128 _ _ n.0 n.2.is
+read_tail-requires-clause-start c = let n = c.in_ok-end.ensures.reads in any_no_return _ open_limit _ _ n.0 n.2.is
 
 pub returns-in_err-read_tail : goal.returns-in_err-read_tail
 returns-in_err-read_tail c =

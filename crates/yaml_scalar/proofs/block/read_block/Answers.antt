@@ -3,10 +3,11 @@ use Rattle.std.proofs.lemmas.Int.{to_z-of_z}
 use mir.Val.{SFits, of_z, to_z}
 use Rattle.std.specs.Str.{chars}
 use Rattle.std.specs.Cow.{cow_str_bytes}
+use Rattle.std.proofs.lemmas.Str.{IsUtf8-string_bytes}
 use Rattle.yaml_text.specs.Source.{text_of, place_of}
 use Rattle.yaml_text.specs.grammar.BlockScalars.{indentation}
-use Rattle.yaml_text.specs.grammar.Calls.{Unread}
-use Rattle.yaml_scalar.specs.BlockRules.{FurthestAlone}
+use Rattle.yaml_text.specs.Answer.{Unread}
+use Rattle.yaml_text.specs.Answer.{FurthestAlone}
 use Rattle.yaml_scalar.specs.BlockModel.{column, styled, header_of}
 use Rattle.yaml_scalar.proofs.OutcomeLemmas.{answers_err, refuses_unread, refuses_weaker}
 use Rattle.yaml_scalar.proofs.BlockLemmas.{block_is, no_mark, no_head, no_indent, sign_inside}
@@ -17,7 +18,7 @@ column_is r n fits e = e ∙ ap column (to_z-of_z w32 n fits)
 
 pub returns-in_default-clause-reads : goal.returns-in_default-clause-reads
 returns-in_default-clause-reads c =
-    refuses_unread c.refusal.result c.refusal.ensures
+    refuses_unread c.unusable.result c.unusable.ensures.unread
     (no_mark (text_of c.args.source.now) c.args.is_folded _ _ (λ e. c.in_default.ensures.none (e ∙ ap Some (sym c.sign_of.ensures))))
 
 pub read_header-requires-clause-inside : goal.read_header-requires-clause-inside
@@ -48,3 +49,6 @@ returns-clause-reads c =
     let first = place_of c.args.source.now c.in_ok-header.first in
     block_is cs c.args.is_folded (column c.args.n) _ _ _ _ _ _ (header_of c.in_ok-header.header) _ (s.is ∙ ap Some c.sign_of.ensures) s.next c.in_ok-header.ensures.header
     (subst (λ m. indentation cs m c.in_ok-header.header.digit first first c.in_ok-text.indent) (column_is _ _ (search rules) c.column.ensures) t.indentation) t.lines c.trailing_comments.ensures.lines
+
+pub returns-clause-utf8 : goal.returns-clause-utf8
+returns-clause-utf8 c = IsUtf8-string_bytes c.in_ok-text.text

@@ -3,6 +3,7 @@ use Rattle.std.specs.Prelude.{slice_range}
 use Rattle.std.specs.Str.{chars}
 use Rattle.std.specs.String.{string_bytes}
 use Rattle.std.proofs.lemmas.Str.{chars-nil, IsUtf8-string_bytes}
+use Rattle.std.proofs.lemmas.Str.{IsUtf8-string_bytes}
 use Rattle.yaml_text.proofs.PlaceLemmas.{slice_join, chars_pushed}
 use Rattle.yaml_text.specs.Answer.{Only}
 use Rattle.yaml_text.specs.EventModel.{context_of}
@@ -189,3 +190,6 @@ pieces-preserved c =
           (double_line cs c.args.least (context_of c.args.context) a b i k old (slice_range cs i k) v.state q.line)
           (folds_is cs c.args.least (context_of c.args.context) _ _ _ _ q.whites f.breaks) f.solid f.unmarked);
     }
+
+pub returns-in-Some-accept-clause-utf8 : goal.returns-in-Some-accept-clause-utf8
+returns-in-Some-accept-clause-utf8 c = IsUtf8-string_bytes c.push_between.new.text

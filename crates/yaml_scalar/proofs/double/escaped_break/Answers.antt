@@ -1,6 +1,6 @@
 use Rattle.std.proofs.Common.{subst, sym}
 use Rattle.yaml_text.specs.Source.{text_of}
-use Rattle.yaml_scalar.specs.Chains.{line_brk}
+use Rattle.yaml_text.specs.Lines.{line_brk}
 use Rattle.yaml_scalar.proofs.double.escaped_break.Goals as goal
 
 pub returns-in-None-line_break-clause-none : goal.returns-in-None-line_break-clause-none

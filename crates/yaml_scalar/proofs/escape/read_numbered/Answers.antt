@@ -1,7 +1,7 @@
 use Rattle.std.proofs.Common.{◌≡◌, ◌*◌, ◌+◌, ◌≤◌, ◌^◌, ◌∙◌, ap, sym, subst, arith}
 use Rattle.std.specs.Char.{IsScalar, is_ascii_hexdigit}
 use Rattle.yaml_text.specs.Source.{text_of, place_of}
-use Rattle.yaml_scalar.proofs.Runs.{no_stand_end}
+use Rattle.yaml_text.proofs.Runs.{no_stand_end}
 use Rattle.yaml_scalar.proofs.EscapeLemmas.{digits_none, digits_more, digits_stop, numbered_is, no_scalar, power_small, power_more, no_hex}
 use Rattle.yaml_scalar.proofs.escape.read_numbered.Goals as goal
 

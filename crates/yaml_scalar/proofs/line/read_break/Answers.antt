@@ -1,7 +1,8 @@
 use Rattle.std.proofs.Common.{sym, ◌∙◌}
 use Rattle.yaml_text.specs.Source.{text_of}
 use Rattle.yaml_text.specs.EventModel.{context_of}
-use Rattle.yaml_scalar.proofs.GapLemmas.{no_breaks_key, no_breaks_here, no_breaks_lead, breaks_is, starts_line}
+use Rattle.yaml_scalar.proofs.GapLemmas.{no_breaks_key, no_breaks_here, no_breaks_lead, breaks_is}
+use Rattle.yaml_text.proofs.Breaks.{starts_line}
 use Rattle.yaml_scalar.proofs.line.read_break.Goals as goal
 
 pub returns-then-is_key-clause-none : goal.returns-then-is_key-clause-none

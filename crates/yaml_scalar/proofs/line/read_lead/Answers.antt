@@ -1,11 +1,14 @@
 use Rattle.std.proofs.Common.{◌<◌, arith, sym, subst, inl, inr}
 use Rattle.yaml_text.specs.grammar.Rules.{◌⊔◌, any}
 use Rattle.yaml_text.specs.Source.{text_of, place_of}
-use Rattle.yaml_scalar.specs.Chains.{margin, Dashes}
+use Rattle.yaml_scalar.specs.Chains.{margin}
+use Rattle.yaml_text.specs.Lines.{Dashes}
 use Rattle.yaml_text.specs.grammar.Separation.{less, Mark}
 use Rattle.yaml_scalar.proofs.AnyLemmas.{any_none, any_snoc}
-use Rattle.yaml_scalar.proofs.OutcomeLemmas.{on_true_at, on_false_at, on_either, replicate_snoc}
-use Rattle.yaml_scalar.proofs.GapLemmas.{lead_is, lead_none, short_none, whole_none, empty_is, empty, ns_here, ns_nowhere, starts_line, after_white, mark_starts, mark_dashes, mark_is, margin_white}
+use Rattle.yaml_scalar.proofs.OutcomeLemmas.{replicate_snoc}
+use Rattle.yaml_text.proofs.Tests.{on_true_at, on_false_at, on_either}
+use Rattle.yaml_scalar.proofs.GapLemmas.{lead_is, lead_none, short_none, whole_none, empty_is, empty, margin_white}
+use Rattle.yaml_text.proofs.Breaks.{ns_here, ns_nowhere, starts_line, after_white, mark_starts, mark_dashes, mark_is}
 use Rattle.std.proofs.lemmas.Str.{IsUtf8-had}
 use Rattle.yaml_text.proofs.PlaceLemmas.{place_less}
 use Rattle.yaml_scalar.proofs.line.read_lead.Goals as goal

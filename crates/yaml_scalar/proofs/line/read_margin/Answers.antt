@@ -1,6 +1,7 @@
 use Rattle.std.proofs.Common.{arith}
 use Rattle.yaml_text.specs.Source.{text_of, place_of}
-use Rattle.yaml_scalar.proofs.GapLemmas.{spaces_none, spaces_more, spaces_less, margin_is}
+use Rattle.yaml_scalar.proofs.GapLemmas.{spaces_less, margin_is}
+use Rattle.yaml_text.proofs.Breaks.{spaces_none, spaces_more}
 use Rattle.yaml_scalar.proofs.line.read_margin.Goals as goal
 
 pub spaces-init : goal.spaces-init

@@ -1,6 +1,6 @@
 use Rattle.std.proofs.Common.{sym, ◌∙◌}
 use Rattle.yaml_text.specs.Source.{text_of}
-use Rattle.yaml_scalar.proofs.OutcomeLemmas.{on_true, on_false, on_true_weaker, on_false_weaker}
+use Rattle.yaml_text.proofs.Tests.{on_true, on_false, on_true_weaker, on_false_weaker}
 use Rattle.yaml_scalar.proofs.PlainLemmas.{first_sign, first_head, no_first_sign, no_first_head}
 use Rattle.yaml_scalar.proofs.plain.is_first.Goals as goal
 

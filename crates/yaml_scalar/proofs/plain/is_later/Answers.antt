@@ -1,6 +1,6 @@
 use Rattle.std.proofs.Common.{sym, ◌∙◌, ap, Some}
 use Rattle.yaml_text.specs.Source.{text_of}
-use Rattle.yaml_scalar.proofs.OutcomeLemmas.{on_true, on_false, on_true_weaker, on_false_weaker}
+use Rattle.yaml_text.proofs.Tests.{on_true, on_false, on_true_weaker, on_false_weaker}
 use Rattle.yaml_scalar.proofs.PlainLemmas.{later_colon, later_inner, no_later_colon, no_later_inner}
 use Rattle.yaml_scalar.proofs.plain.is_later.Goals as goal
 

@@ -4,9 +4,9 @@ use Rattle.yaml_text.specs.grammar.Rules.{any}
 use Rattle.yaml_text.specs.EventModel.{context_of}
 use Rattle.yaml_scalar.specs.Chains.{line_more}
 use Rattle.yaml_text.specs.grammar.Characters.{is_white}
-use Rattle.yaml_scalar.proofs.OutcomeLemmas.{on_true_at}
+use Rattle.yaml_text.proofs.Tests.{on_true_at}
 use Rattle.yaml_text.proofs.PlaceLemmas.{slice_none, slice_join}
-use Rattle.yaml_scalar.proofs.Runs.{run_none, run_more, no_stand_end, nothing_there}
+use Rattle.yaml_text.proofs.Runs.{run_none, run_more, no_stand_end, nothing_there}
 use Rattle.yaml_scalar.proofs.AnyLemmas.{any_none, any_snoc, any_onward}
 use Rattle.yaml_scalar.proofs.PlainLemmas.{line_stop, no_later_end, line_onward}
 use Rattle.yaml_scalar.proofs.plain.line_end.Goals as goal

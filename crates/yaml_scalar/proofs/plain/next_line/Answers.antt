@@ -1,6 +1,6 @@
 use Rattle.yaml_text.specs.EventModel.{context_of}
 use Rattle.yaml_text.specs.Source.{text_of}
-use Rattle.yaml_scalar.proofs.OutcomeLemmas.{on_false_at}
+use Rattle.yaml_text.proofs.Tests.{on_false_at}
 use Rattle.yaml_scalar.proofs.PlainLemmas.{no_text_line, no_later_line}
 use Rattle.yaml_scalar.proofs.plain.next_line.Goals as goal
 

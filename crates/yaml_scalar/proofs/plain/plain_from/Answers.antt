@@ -2,12 +2,13 @@ use Rattle.std.proofs.Common.{◌++◌, sym, ◌∙◌, ap, subst, arith}
 use Rattle.std.specs.Prelude.{slice_range}
 use Rattle.std.specs.Str.{chars}
 use Rattle.std.proofs.lemmas.Str.{chars-nil}
+use Rattle.std.proofs.lemmas.Str.{IsUtf8-string_bytes}
 use Rattle.yaml_text.specs.Answer.{Furthest}
 use Rattle.yaml_text.specs.EventModel.{context_of}
 use Rattle.yaml_text.specs.Source.{text_of, place_of}
 use Rattle.yaml_text.specs.grammar.FlowScalars.{plain}
 use Rattle.yaml_scalar.proofs.GapLemmas.{folds_is}
-use Rattle.yaml_scalar.proofs.OutcomeLemmas.{on_true_at, on_false_at}
+use Rattle.yaml_text.proofs.Tests.{on_true_at, on_false_at}
 use Rattle.yaml_scalar.proofs.PlainLemmas.{Sofar, sofar_start, sofar_line, sofar_end, no_plain_first, no_plain_end, no_plain_mark, no_more_line}
 use Rattle.yaml_scalar.proofs.PlainReadings.{plain_furthest, plain_unread}
 use Rattle.yaml_scalar.proofs.plain.plain_from.Goals as goal
@@ -87,3 +88,6 @@ returns-clause-reads c =
     (sofar_start cs c.args.least (context_of c.args.context) _ _ _ _ (on_true_at c.is_first.result c.if-not-is_first.false c.is_first.ensures.yes) s.is
     (on_false_at c.stands_mark.result c.if-stands_mark.false c.stands_mark.ensures.no) s.next l.line)
     l.furthest (no_more_line cs _ _ _ _ l.whites l.no_white c.in-None.ensures.none)))
+
+pub returns-in-None-next_line-clause-utf8 : goal.returns-in-None-next_line-clause-utf8
+returns-in-None-next_line-clause-utf8 c = IsUtf8-string_bytes c.push_between-in-lines.new.text

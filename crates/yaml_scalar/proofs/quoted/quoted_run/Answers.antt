@@ -4,7 +4,7 @@ use Rattle.yaml_text.specs.grammar.Rules.{any}
 use Rattle.yaml_scalar.specs.Chains.{quoted_more, verbatim}
 use Rattle.yaml_text.specs.grammar.Characters.{is_white}
 use Rattle.yaml_text.proofs.PlaceLemmas.{slice_none, slice_join}
-use Rattle.yaml_scalar.proofs.Runs.{run_none, run_more, no_stand_end}
+use Rattle.yaml_text.proofs.Runs.{run_none, run_more, no_stand_end}
 use Rattle.yaml_scalar.proofs.AnyLemmas.{any_none, any_snoc, any_onward}
 use Rattle.yaml_scalar.proofs.QuotedLemmas.{quoted_is, quoted_onward}
 use Rattle.yaml_scalar.proofs.quoted.quoted_run.Goals as goal

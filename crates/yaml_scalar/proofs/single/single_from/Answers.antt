@@ -3,6 +3,7 @@ use Rattle.std.specs.Prelude.{slice_range}
 use Rattle.std.specs.Str.{chars}
 use Rattle.std.specs.String.{string_bytes}
 use Rattle.std.proofs.lemmas.Str.{chars-nil}
+use Rattle.std.proofs.lemmas.Str.{IsUtf8-string_bytes}
 use Rattle.yaml_text.proofs.PlaceLemmas.{slice_join}
 use Rattle.yaml_text.specs.Answer.{Only}
 use Rattle.yaml_text.specs.EventModel.{context_of}
@@ -108,7 +109,7 @@ returns-in-Err-clause-reads c =
     let q = c.quoted_run-end.ensures in
     let i = place_of c.args.source.now c.pieces.from in
     let k = place_of c.args.source.now c.quoted_run-end.result.0 in
-    refuses_unread c.refusal.result c.refusal.ensures
+    refuses_unread c.unusable.result c.unusable.ensures.unread
     (single_unread cs _ _ _ (single_none cs c.args.least (context_of c.args.context) _ _ k _ _ s.next
     (single_line cs c.args.least (context_of c.args.context) _ _ i k _ (slice_range cs i k) c.pieces.invariant.state q.line) q.whites q.no_white c.in-None.ensures.none q.no_text
     (no_fold cs c.args.least (context_of c.args.context) _ _ q.whites q.no_white c.in-Err.ensures.none)))
@@ -135,3 +136,6 @@ pieces-preserved c =
           (single_line cs c.args.least (context_of c.args.context) a b i k old (slice_range cs i k) v.state q.line)
           (folds_is cs c.args.least (context_of c.args.context) _ _ _ _ q.whites f.breaks) f.text f.unmarked);
     }
+
+pub returns-in-None-accept-clause-utf8 : goal.returns-in-None-accept-clause-utf8
+returns-in-None-accept-clause-utf8 c = IsUtf8-string_bytes c.push_between.new.text

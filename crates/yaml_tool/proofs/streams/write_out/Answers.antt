@@ -1,4 +1,4 @@
-use Rattle.std.proofs.Common.{rules, arith}
+use Rattle.std.proofs.Common.{arith}
 use Rattle.std.proofs.lemmas.Grind.{common_steps}
 use Rattle.yaml_tool.proofs.StreamFacts.{appends_piece}
 use Rattle.yaml_tool.proofs.streams.write_out.Goals as goal

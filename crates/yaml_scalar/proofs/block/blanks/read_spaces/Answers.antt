@@ -1,7 +1,7 @@
 use Rattle.std.proofs.Common.{arith}
 use Rattle.yaml_text.specs.Source.{text_of, place_of}
-use Rattle.yaml_scalar.proofs.LineRuns.{no_char_space}
-use Rattle.yaml_scalar.proofs.GapLemmas.{spaces_none, spaces_more}
+use Rattle.yaml_text.proofs.LineRuns.{no_char_space}
+use Rattle.yaml_text.proofs.Breaks.{spaces_none, spaces_more}
 use Rattle.yaml_scalar.proofs.block.blanks.read_spaces.Goals as goal
 
 pub spaces-init : goal.spaces-init

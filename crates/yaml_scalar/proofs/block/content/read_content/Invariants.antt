@@ -3,7 +3,7 @@ use Rattle.std.specs.Str.{chars}
 use Rattle.std.specs.String.{string_bytes}
 use Rattle.yaml_text.specs.Source.{text_of, place_of, IsBorder}
 use Rattle.yaml_text.specs.grammar.BlockScalars.{is_given}
-use Rattle.yaml_scalar.specs.BlockRules.{AfterLine}
+use Rattle.yaml_text.specs.Lines.{AfterLine}
 use Rattle.yaml_scalar.specs.BlockModel.{chomp_of}
 use Rattle.yaml_scalar.proofs.ContentLemmas.{Sofar}
 use Rattle.yaml_scalar.proofs.block.content.read_content.Given as goal

@@ -1,8 +1,8 @@
 use Rattle.std.proofs.Common.{◌+◌, inl, arith, subst, sym}
 use Rattle.yaml_text.specs.Source.{text_of, place_of}
-use Rattle.yaml_scalar.proofs.LineRuns.{after_uncut}
-use Rattle.yaml_scalar.proofs.GapLemmas.{starts_line}
-use Rattle.yaml_scalar.proofs.OutcomeLemmas.{on_true_at, on_false_at}
+use Rattle.yaml_text.proofs.LineRuns.{after_uncut}
+use Rattle.yaml_text.proofs.Breaks.{starts_line}
+use Rattle.yaml_text.proofs.Tests.{on_true_at, on_false_at}
 use Rattle.yaml_scalar.proofs.StartLemmas.{Searched, search_start, search_more, no_space_at, found_end, found_mark, found_less, found_line, not_found, solid_line, solid_end, searched_empty}
 use Rattle.yaml_scalar.proofs.block.lines.find_start.Goals as goal
 use Rattle.yaml_scalar.proofs.block.lines.find_start.Goals.{then-stands_mark-via-then-stands_mark, then-stands_mark-via-else-stands_mark+then-width-col}

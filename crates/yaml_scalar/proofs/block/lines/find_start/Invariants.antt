@@ -1,6 +1,6 @@
 use Rattle.std.proofs.Common.{◌+◌, ◌-◌, ◌≤◌, length}
 use Rattle.yaml_text.specs.Source.{text_of, place_of, IsBorder}
-use Rattle.yaml_scalar.specs.BlockRules.{AfterLine}
+use Rattle.yaml_text.specs.Lines.{AfterLine}
 use Rattle.yaml_scalar.proofs.StartLemmas.{Searched}
 use Rattle.yaml_scalar.proofs.block.lines.find_start.Given as goal
 

@@ -4,9 +4,9 @@ use Rattle.yaml_text.specs.grammar.BlockScalars.{text, text_line}
 use Rattle.std.proofs.lemmas.Str.{IsUtf8-had}
 use Rattle.yaml_text.specs.Source.{text_of, place_of}
 use Rattle.yaml_text.proofs.PlaceLemmas.{place_same}
-use Rattle.yaml_scalar.proofs.LineRuns.{after_uncut, spaces_uncut, indent_run, line_end_after, nb_here}
-use Rattle.yaml_scalar.proofs.GapLemmas.{starts_line}
-use Rattle.yaml_scalar.proofs.OutcomeLemmas.{on_true_at, on_false_at}
+use Rattle.yaml_text.proofs.LineRuns.{after_uncut, spaces_uncut, indent_run, line_end_after, nb_here}
+use Rattle.yaml_text.proofs.Breaks.{starts_line}
+use Rattle.yaml_text.proofs.Tests.{on_true_at, on_false_at}
 use Rattle.yaml_scalar.proofs.StartLemmas.{Reads, no_space_at, empty_is, over_mark, over_less, over_end, text_is}
 use Rattle.yaml_scalar.proofs.block.lines.read_line.Goals as goal
 

@@ -1,5 +1,5 @@
 use Rattle.yaml_text.specs.Source.{text_of}
-use Rattle.yaml_scalar.proofs.BlockChains.{any_start}
+use Rattle.yaml_text.proofs.Repeats.{any_start}
 use Rattle.yaml_scalar.proofs.IndentationLemmas.{given_is, given_none}
 use Rattle.yaml_scalar.proofs.block.lines.read_start.Goals as goal
 

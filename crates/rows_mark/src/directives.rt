@@ -1,0 +1,79 @@
+//! Directives.
+use crate::rows::{Call, Row, answers};
+use std::test::Fail;
+
+const ENDS: [Row; 16] = [
+    ("%YAML 1.2\n---", 0, "ends at 10"),
+    ("%YAML  1.2 # c\n\n#d\n---", 0, "ends at 19"),
+    ("%YAML 1.2", 0, "ends at 9"),
+    ("%TAG !a! b\n%TAG !b! c\n%YAML 1.2\n---", 0, "ends at 32"),
+    ("%TAG   !   !x   # c\n---", 0, "ends at 20"),
+    ("%TAG ! a#b\n---", 0, "ends at 11"),
+    ("%TAG ! %41,[]\n---", 0, "ends at 14"),
+    ("%x a b # c\n---", 0, "ends at 11"),
+    ("%x a#b\n---", 0, "ends at 7"),
+    ("%x #\t\n---", 0, "ends at 6"),
+    ("%x a #b\tc\n---", 0, "ends at 10"),
+    ("%YAMLS 1.3\n%yaml 1\n%TAGS\n---", 0, "ends at 25"),
+    ("%x", 0, "ends at 2"),
+    ("%x\n  # c\n%y\n---", 0, "ends at 12"),
+    ("%x\n  %y", 0, "ends at 3"),
+    ("%x\r\n%y\r---", 0, "ends at 7"),
+];
+
+const MALFORMED: [Row; 18] = [
+    ("%YAML 1.3\n---", 0, "9 BadDirective at byte 0"),
+    ("%YAML 1.1\n---", 0, "9 BadDirective at byte 0"),
+    ("%YAML 1.2\n%YAML 1.2\n---", 0, "9 BadDirective at byte 10"),
+    ("%TAG ! a\n%TAG ! b\n---", 0, "9 BadDirective at byte 9"),
+    ("% x", 0, "9 BadDirective at byte 0"),
+    ("%", 0, "9 BadDirective at byte 0"),
+    ("%YAML 1.2 x", 0, "9 BadDirective at byte 0"),
+    ("%YAML 1.2#", 0, "9 BadDirective at byte 0"),
+    ("%YAML 1.22", 0, "9 BadDirective at byte 0"),
+    ("%YAML", 0, "9 BadDirective at byte 0"),
+    ("%TAG", 0, "9 BadDirective at byte 0"),
+    ("%TAG !a b", 0, "9 BadDirective at byte 0"),
+    ("%TAG a b", 0, "9 BadDirective at byte 0"),
+    ("%TAG !a!b c", 0, "9 BadDirective at byte 0"),
+    ("%TAG !a! ,b", 0, "9 BadDirective at byte 0"),
+    ("%TAG !a! b c", 0, "9 BadDirective at byte 0"),
+    ("%x\n%TAG !e! a%2\n", 0, "9 BadDirective at byte 3"),
+    ("\u{FEFF}%YAML 1.3\n---", 0, "9 BadDirective at byte 3"),
+];
+
+const TABS: [Row; 9] = [
+    ("%YAML\t1.2", 0, "5 Tab at byte 5"),
+    ("%YAML \t1.2", 0, "5 Tab at byte 6"),
+    ("%YAML 1.2\t", 0, "5 Tab at byte 9"),
+    ("%YAML 1.2 \t#", 0, "5 Tab at byte 10"),
+    ("%TAG\t! a", 0, "5 Tab at byte 4"),
+    ("%TAG !\ta", 0, "5 Tab at byte 6"),
+    ("%TAG ! a\t", 0, "5 Tab at byte 8"),
+    ("%x\t", 0, "5 Tab at byte 2"),
+    ("%x a\tb", 0, "5 Tab at byte 4"),
+];
+
+#[test]
+fn directives_end_before_the_first_other_line(rt: HostRuntime) -> Result<(), Fail> {
+    for row in &ENDS {
+        answers(&rt, Call::Directives, row)?;
+    }
+    Ok(())
+}
+
+#[test]
+fn malformed_and_repeated_directives_are_refused(rt: HostRuntime) -> Result<(), Fail> {
+    for row in &MALFORMED {
+        answers(&rt, Call::Directives, row)?;
+    }
+    Ok(())
+}
+
+#[test]
+fn a_tab_is_no_separation(rt: HostRuntime) -> Result<(), Fail> {
+    for row in &TABS {
+        answers(&rt, Call::Directives, row)?;
+    }
+    Ok(())
+}

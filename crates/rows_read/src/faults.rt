@@ -1,0 +1,167 @@
+//! Each fault of the reader, with its place.
+use crate::rows::{Row, check};
+use std::test::Fail;
+
+static SYNTAX: [Row; 20] = [
+    Row {
+        input: "a: b: c",
+        answer: "4 Syntax at byte 4",
+    },
+    Row {
+        input: "\"abc",
+        answer: "4 Syntax at byte 4",
+    },
+    Row {
+        input: "[a",
+        answer: "4 Syntax at byte 2",
+    },
+    Row {
+        input: "a:\n  b: 1\n c: 2\n",
+        answer: "4 Syntax at byte 11",
+    },
+    Row {
+        input: "&a *b",
+        answer: "4 Syntax at byte 3",
+    },
+    Row {
+        input: "\"a\":b",
+        answer: "4 Syntax at byte 4",
+    },
+    Row {
+        input: "*a :b",
+        answer: "4 Syntax at byte 4",
+    },
+    Row {
+        input: "{*a :b}",
+        answer: "4 Syntax at byte 4",
+    },
+    Row {
+        input: "&a\n&b x",
+        answer: "4 Syntax at byte 7",
+    },
+    Row {
+        input: "&a\n*b",
+        answer: "4 Syntax at byte 5",
+    },
+    Row {
+        input: "&a\n&b",
+        answer: "4 Syntax at byte 5",
+    },
+    Row {
+        input: "[a\n--- b]",
+        answer: "4 Syntax at byte 3",
+    },
+    Row {
+        input: "!<a>b",
+        answer: "4 Syntax at byte 4",
+    },
+    Row {
+        input: "x: |\n   \n a",
+        answer: "4 Syntax at byte 10",
+    },
+    Row {
+        input: "k: [\n a\n]",
+        answer: "4 Syntax at byte 8",
+    },
+    Row {
+        input: "&a &b c",
+        answer: "4 Syntax at byte 3",
+    },
+    Row {
+        input: "- a\nb",
+        answer: "4 Syntax at byte 4",
+    },
+    Row {
+        input: "a\n...\n b: c\n d",
+        answer: "4 Syntax at byte 14",
+    },
+    Row {
+        input: "a: b\n- c",
+        answer: "4 Syntax at byte 5",
+    },
+    Row {
+        input: "|1\n a",
+        answer: "4 Syntax at byte 1",
+    },
+];
+
+#[test]
+fn syntax(rt: HostRuntime) -> Result<(), Fail> {
+    check(&rt, &SYNTAX)
+}
+
+static TABS: [Row; 7] = [
+    Row {
+        input: "a:\tb",
+        answer: "5 Tab at byte 2",
+    },
+    Row {
+        input: "a\t: b",
+        answer: "5 Tab at byte 1",
+    },
+    Row {
+        input: "a\t",
+        answer: "5 Tab at byte 1",
+    },
+    Row {
+        input: "- a\n\tb",
+        answer: "5 Tab at byte 4",
+    },
+    Row {
+        input: "[a,\tb]",
+        answer: "5 Tab at byte 3",
+    },
+    Row {
+        input: "&a\tb",
+        answer: "5 Tab at byte 2",
+    },
+    Row {
+        input: "&\ta",
+        answer: "4 Syntax at byte 1",
+    },
+];
+
+#[test]
+fn tabs(rt: HostRuntime) -> Result<(), Fail> {
+    check(&rt, &TABS)
+}
+
+static TAGS: [Row; 8] = [
+    Row {
+        input: "\"\\q\"",
+        answer: "8 BadEscape at byte 1",
+    },
+    Row {
+        input: "\"\\ud800\"",
+        answer: "8 BadEscape at byte 1",
+    },
+    Row {
+        input: "!e!x v",
+        answer: "10 UnknownHandle at byte 0",
+    },
+    Row {
+        input: "!e!%zz x",
+        answer: "10 UnknownHandle at byte 0",
+    },
+    Row {
+        input: "- !e!x v",
+        answer: "10 UnknownHandle at byte 2",
+    },
+    Row {
+        input: "!<a b> x",
+        answer: "11 BadTag at byte 0",
+    },
+    Row {
+        input: "!!%ff x",
+        answer: "11 BadTag at byte 0",
+    },
+    Row {
+        input: "[!! x]",
+        answer: "11 BadTag at byte 1",
+    },
+];
+
+#[test]
+fn escapes_handles_and_tags(rt: HostRuntime) -> Result<(), Fail> {
+    check(&rt, &TAGS)
+}

@@ -1,0 +1,19 @@
+//! Rows of streams, and the events or the fault that they are read to: tests alone.
+#![tactic(auto)]
+
+#[cfg(test)]
+mod collections;
+#[cfg(test)]
+mod deep;
+#[cfg(test)]
+mod faults;
+#[cfg(test)]
+mod properties;
+#[cfg(test)]
+mod rows;
+#[cfg(test)]
+mod sample;
+#[cfg(test)]
+mod streams;
+#[cfg(test)]
+mod wide;

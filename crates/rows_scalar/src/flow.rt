@@ -1,0 +1,240 @@
+//! Flow scalars: the worked rows, and a row for each sentence of the productions.
+use crate::rows::{Call, Flow, Refused, is_read, is_refused, read_flow};
+use std::alloc::Global;
+use std::borrow::CowStr;
+use std::test::Fail;
+use yaml_text::context::Ctx;
+
+const PLAIN: [Flow; 23] = [
+    ("a b #c", 0, 0, Ctx::FlowOut, "a b", 3),
+    ("a\nb", 0, 0, Ctx::FlowOut, "a b", 3),
+    ("a\nb", 0, 1, Ctx::FlowOut, "a", 1),
+    ("a: b", 0, 0, Ctx::BlockKey, "a", 1),
+    ("a\nb", 0, 0, Ctx::BlockKey, "a", 1),
+    ("a\nb", 0, 0, Ctx::FlowKey, "a", 1),
+    ("a\n\nb\nc\n", 0, 0, Ctx::BlockIn, "a\nb c", 6),
+    ("a\n--- b", 0, 0, Ctx::FlowOut, "a", 1),
+    ("a\n...", 0, 0, Ctx::FlowOut, "a", 1),
+    ("a\n --- b", 0, 0, Ctx::FlowOut, "a --- b", 8),
+    ("a\n---b", 0, 0, Ctx::FlowOut, "a ---b", 6),
+    ("a \r\n \n\n  b#:c,d", 0, 0, Ctx::FlowOut, "a\n\nb#:c,d", 15),
+    ("a\n #b", 0, 0, Ctx::FlowOut, "a", 1),
+    ("a\t b\t", 0, 0, Ctx::FlowOut, "a\t b", 4),
+    ("a\n \tb", 0, 1, Ctx::FlowOut, "a b", 5),
+    ("a\n\tb", 0, 1, Ctx::FlowOut, "a", 1),
+    ("-a,b", 0, 0, Ctx::FlowIn, "-a", 2),
+    ("-a,b]", 0, 0, Ctx::BlockOut, "-a,b]", 5),
+    ("?é:\u{2028}x", 0, 0, Ctx::FlowIn, "?é:\u{2028}x", 8),
+    ("a\rb", 0, 0, Ctx::FlowOut, "a b", 3),
+    ("a\u{85}b", 0, 0, Ctx::FlowOut, "a\u{85}b", 4),
+    ("é\n--- 'b' ---", 11, 0, Ctx::FlowOut, "---", 14),
+    ("é\n--- 'b' ---", 0, 0, Ctx::FlowOut, "é", 2),
+];
+
+const SINGLE: [Flow; 11] = [
+    ("'a b' c", 0, 1, Ctx::FlowOut, "a b", 5),
+    ("'it''s'", 0, 1, Ctx::FlowOut, "it's", 7),
+    ("''", 0, 1, Ctx::FlowKey, "", 2),
+    ("''''", 0, 1, Ctx::FlowIn, "'", 4),
+    ("'a \n \n  b '", 0, 1, Ctx::FlowOut, "a\nb ", 11),
+    ("' \n '", 0, 1, Ctx::FlowOut, " ", 5),
+    ("'a\\\r\nb'", 0, 0, Ctx::FlowIn, "a\\ b", 7),
+    ("'a\n \tb'", 0, 1, Ctx::BlockOut, "a b", 7),
+    ("'a\r\r\nb'", 0, 0, Ctx::FlowOut, "a\nb", 7),
+    ("'''a\u{85}'''", 0, 0, Ctx::FlowOut, "'a\u{85}'", 9),
+    ("é\n--- 'b' ---", 7, 0, Ctx::FlowOut, "b", 10),
+];
+
+const DOUBLE: [Flow; 14] = [
+    ("\"a\\\n  b\"", 0, 0, Ctx::FlowOut, "ab", 8),
+    (
+        "\"\\x41\\u00e9\\/\\e\" ",
+        0,
+        0,
+        Ctx::FlowOut,
+        "Aé/\u{1B}",
+        16,
+    ),
+    ("\"a \n  b\\\n  c\"", 0, 0, Ctx::FlowOut, "a bc", 13),
+    ("\"\"", 0, 0, Ctx::BlockKey, "", 2),
+    ("\"a b\"c", 0, 0, Ctx::FlowKey, "a b", 5),
+    ("\"a \\\n\n\n b\"", 0, 0, Ctx::FlowOut, "a \n\nb", 10),
+    ("\"\\ \n b\\\t\"", 0, 0, Ctx::FlowOut, "  b\t", 9),
+    ("\"a\n\n b\"", 0, 1, Ctx::FlowIn, "a\nb", 7),
+    (
+        "\"\\0\\a\\b\\t\\n\\v\\f\\r\"",
+        0,
+        0,
+        Ctx::BlockKey,
+        "\0\u{7}\u{8}\t\n\u{B}\u{C}\r",
+        18,
+    ),
+    (
+        "\"\\\"\\\\\\N\\_\\L\\P\"",
+        0,
+        0,
+        Ctx::BlockKey,
+        "\"\\\u{85}\u{A0}\u{2028}\u{2029}",
+        14,
+    ),
+    (
+        "\"\\U0001F600\\uFeFf\"",
+        0,
+        0,
+        Ctx::BlockKey,
+        "\u{1F600}\u{FEFF}",
+        18,
+    ),
+    ("\"\\\n b\"", 0, 0, Ctx::FlowOut, "b", 6),
+    ("\"a\\\n \"", 0, 1, Ctx::FlowOut, "a", 6),
+    ("\"a\n --- b\"", 0, 1, Ctx::FlowOut, "a --- b", 10),
+];
+
+#[test]
+fn plain_scalars_end_as_far_as_they_can(rt: HostRuntime) -> Result<(), Fail> {
+    for row in &PLAIN {
+        is_read(&rt, Call::Plain, row)?;
+    }
+    Ok(())
+}
+
+#[test]
+fn single_quoted_scalars_end_at_a_lone_quote(rt: HostRuntime) -> Result<(), Fail> {
+    for row in &SINGLE {
+        is_read(&rt, Call::Single, row)?;
+    }
+    Ok(())
+}
+
+#[test]
+fn double_quoted_scalars_have_escapes_and_escaped_breaks(rt: HostRuntime) -> Result<(), Fail> {
+    for row in &DOUBLE {
+        is_read(&rt, Call::Double, row)?;
+    }
+    Ok(())
+}
+
+/// What no plain scalar begins.
+const NO_PLAIN: [Refused; 9] = [
+    ("", 0, 0, Ctx::FlowIn, "4 Syntax at byte 0"),
+    ("... a", 0, 0, Ctx::FlowIn, "4 Syntax at byte 0"),
+    ("---", 0, 0, Ctx::FlowIn, "4 Syntax at byte 0"),
+    ("- a", 0, 0, Ctx::FlowIn, "4 Syntax at byte 0"),
+    ("#a", 0, 0, Ctx::FlowIn, "4 Syntax at byte 0"),
+    ("?", 0, 0, Ctx::FlowIn, "4 Syntax at byte 0"),
+    (",a", 0, 0, Ctx::FlowIn, "4 Syntax at byte 0"),
+    ("\n", 0, 0, Ctx::FlowIn, "4 Syntax at byte 0"),
+    ("\u{FEFF}%a", 0, 0, Ctx::FlowIn, "4 Syntax at byte 3"),
+];
+
+/// The last breaks in a key.
+const NO_SINGLE: [Refused; 8] = [
+    ("'a", 0, 1, Ctx::FlowOut, "4 Syntax at byte 2"),
+    ("'a\n... b'", 0, 1, Ctx::FlowOut, "4 Syntax at byte 3"),
+    ("'a''", 0, 1, Ctx::FlowOut, "4 Syntax at byte 4"),
+    ("a", 0, 1, Ctx::FlowOut, "4 Syntax at byte 0"),
+    ("'a\nb'", 0, 1, Ctx::FlowOut, "4 Syntax at byte 3"),
+    ("'a\n\tb'", 0, 1, Ctx::FlowOut, "5 Tab at byte 3"),
+    ("'a\n\n \n", 0, 1, Ctx::FlowOut, "4 Syntax at byte 6"),
+    ("'a \nb'", 0, 0, Ctx::FlowKey, "4 Syntax at byte 3"),
+];
+
+/// The last two break in a key.
+const NO_DOUBLE: [Refused; 14] = [
+    ("\"abc", 0, 1, Ctx::FlowOut, "4 Syntax at byte 4"),
+    ("\"\\ud800\"", 0, 1, Ctx::FlowOut, "8 BadEscape at byte 1"),
+    ("\"\\q\"", 0, 1, Ctx::FlowOut, "8 BadEscape at byte 1"),
+    ("\"\\x4g\"", 0, 1, Ctx::FlowOut, "8 BadEscape at byte 1"),
+    ("\"a\\", 0, 1, Ctx::FlowOut, "8 BadEscape at byte 2"),
+    ("\"\\u12", 0, 1, Ctx::FlowOut, "8 BadEscape at byte 1"),
+    ("\"\\\n \\\n b\"", 0, 1, Ctx::FlowOut, "4 Syntax at byte 5"),
+    ("\"a\n \\\n b\"", 0, 1, Ctx::FlowOut, "4 Syntax at byte 5"),
+    ("\"a\n\tb\"", 0, 1, Ctx::FlowOut, "5 Tab at byte 3"),
+    ("\"a\\\n\tb\"", 0, 1, Ctx::FlowOut, "5 Tab at byte 4"),
+    ("\"a\n--- b\"", 0, 1, Ctx::FlowOut, "4 Syntax at byte 3"),
+    (
+        "\u{FEFF}\"\\q\"",
+        0,
+        1,
+        Ctx::FlowOut,
+        "8 BadEscape at byte 4",
+    ),
+    ("\"a \nb\"", 0, 0, Ctx::BlockKey, "4 Syntax at byte 3"),
+    ("\"a \\\nb\"", 0, 0, Ctx::FlowKey, "4 Syntax at byte 4"),
+];
+
+/// Escapes of surrogates and of numbers past the last character.
+const NO_CHARACTER: [Refused; 4] = [
+    (
+        "\"\\U00110000\"",
+        0,
+        1,
+        Ctx::FlowOut,
+        "8 BadEscape at byte 1",
+    ),
+    (
+        "\"\\UFFFFFFFF\"",
+        0,
+        1,
+        Ctx::FlowOut,
+        "8 BadEscape at byte 1",
+    ),
+    ("\"\\uDFFF\"", 0, 1, Ctx::FlowOut, "8 BadEscape at byte 1"),
+    (
+        "\"\\U0000d800\"",
+        0,
+        1,
+        Ctx::FlowOut,
+        "8 BadEscape at byte 1",
+    ),
+];
+
+#[test]
+fn what_begins_no_plain_scalar_is_refused(rt: HostRuntime) -> Result<(), Fail> {
+    for row in &NO_PLAIN {
+        is_refused(&rt, Call::Plain, row)?;
+    }
+    Ok(())
+}
+
+#[test]
+fn single_quoted_scalars_are_refused_where_they_break_off(rt: HostRuntime) -> Result<(), Fail> {
+    for row in &NO_SINGLE {
+        is_refused(&rt, Call::Single, row)?;
+    }
+    Ok(())
+}
+
+#[test]
+fn double_quoted_scalars_are_refused_where_they_break_off(rt: HostRuntime) -> Result<(), Fail> {
+    for row in &NO_DOUBLE {
+        is_refused(&rt, Call::Double, row)?;
+    }
+    Ok(())
+}
+
+#[test]
+fn escapes_of_no_character_are_refused(rt: HostRuntime) -> Result<(), Fail> {
+    for row in &NO_CHARACTER {
+        is_refused(&rt, Call::Double, row)?;
+    }
+    Ok(())
+}
+
+/// Whether a text's scalar is borrowed from it.
+fn is_borrowed(alloc: Global, call: Call, text: &str) -> Result<bool, Fail> {
+    let (content, _) = read_flow(alloc, call, text, 0, 0, Ctx::FlowOut)?;
+    Ok(matches!(content, CowStr::Borrowed("a b")))
+}
+
+#[test]
+fn one_line_as_it_stands_is_borrowed(rt: HostRuntime) -> Result<(), Fail> {
+    for (call, text) in [
+        (Call::Plain, "a b: c"),
+        (Call::Single, "'a b'"),
+        (Call::Double, "\"a b\""),
+    ] {
+        assert!(rt; is_borrowed(rt.alloc(), call, text)?, "{text}");
+    }
+    Ok(())
+}

@@ -1,0 +1,4 @@
+mod MarkLaws
+mod BlockLemmas
+mod OuterLemmas
+mod DocumentLemmas

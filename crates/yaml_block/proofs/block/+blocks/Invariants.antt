@@ -1,0 +1,62 @@
+use Rattle.std.proofs.Common.{◌+◌, ◌*◌, ◌-◌, ◌<◌, ◌≤◌, List, ◌∷◌, length, false}
+use Rattle.yaml_text.specs.Event.{Event}
+use Rattle.yaml_text.specs.EventModel.{Adds}
+use Rattle.yaml_text.specs.Source.{bytes_of, text_of, place_of}
+use Rattle.yaml_text.specs.grammar.Events.{seq_start}
+use Rattle.yaml_mark.specs.HandlesModel.{handles_of}
+use Rattle.yaml_flow.specs.Lines.{IsLine}
+use Rattle.yaml_flow.specs.PropertyRules.{props_of}
+use Rattle.yaml_block.specs.BlockRules.{entries_rest, seq_body}
+use Rattle.yaml_block.specs.OuterRules.{left}
+use Rattle.yaml_block.proofs.block.+blocks.Given as goal
+
+abbrev pub decreases-read_sequence : goal.decreases-read_sequence
+decreases-read_sequence l = 16 * l.room
+
+abbrev pub decreases-read_keyed : goal.decreases-read_keyed
+decreases-read_keyed l = 16 * l.room
+
+abbrev pub decreases-read_dressed : goal.decreases-read_dressed
+decreases-read_dressed l = 16 * l.room + 1
+
+abbrev pub decreases-read_node : goal.decreases-read_node
+decreases-read_node l = 16 * l.room + (4 * left (props_of l.outer) + 2)
+
+abbrev pub decreases-read_under : goal.decreases-read_under
+decreases-read_under l = 16 * l.room + (4 * left (props_of l.outer) + 3)
+
+abbrev pub decreases-read_below : goal.decreases-read_below
+decreases-read_below l = 16 * l.room + 12
+
+abbrev pub decreases-read_value : goal.decreases-read_value
+decreases-read_value l = 16 * l.room + 13
+
+abbrev pub decreases-read_indented : goal.decreases-read_indented
+decreases-read_indented l = 16 * l.room + 13
+
+abbrev pub decreases-read_entries : goal.decreases-read_entries
+decreases-read_entries l = 16 * l.room + 14
+
+abbrev pub invariant-read_sequence-entries : goal.invariant-read_sequence-entries
+invariant-read_sequence-entries l =
+    record {
+      line : IsLine l.source l.line;
+      onward : l.at < l.line.start;
+      reads : (es : List Event) × Adds l.fn.out.items (seq_start false (props_of l.fn.properties) ∷ es) l.out.items
+          × seq_body (text_of l.source) (Unit {0}) (handles_of l.handles) (l.room - 1) l.column (place_of l.source l.at) (place_of l.source l.line.start) es;
+    }
+
+abbrev pub decreases-read_sequence-entries : goal.decreases-read_sequence-entries
+decreases-read_sequence-entries l = length (bytes_of l.source) - l.line.start
+
+abbrev pub invariant-read_entries-entries : goal.invariant-read_entries-entries
+invariant-read_entries-entries l =
+    record {
+      line : IsLine l.source l.line;
+      onward : l.after ≤ l.line.start;
+      reads : (es : List Event) × Adds l.fn.out.items es l.out.items
+          × entries_rest (text_of l.source) (Unit {0}) (handles_of l.handles) l.room l.column (place_of l.source l.after) (place_of l.source l.line.start) es;
+    }
+
+abbrev pub decreases-read_entries-entries : goal.decreases-read_entries-entries
+decreases-read_entries-entries l = length (bytes_of l.source) - l.line.start

@@ -1,0 +1,2 @@
+pub mod BlockRules
+pub mod OuterRules

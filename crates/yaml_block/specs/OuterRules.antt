@@ -1,0 +1,56 @@
+-- Properties on the lines before a node (YAML 1.2.2, 8.2.3).
+use Rattle.std.specs.Prelude.{◌≡◌, ◌≢◌, ◌⊎◌, ℕ, ◌+◌, ◌<◌, ◌≤◌, List, Option, Some, None, slice_get}
+use Rattle.yaml_text.specs.Event.{Anchor, WrittenTag, untagged, non_specific, full}
+use Rattle.yaml_text.specs.grammar.Rules.{run}
+use Rattle.yaml_text.specs.grammar.Characters.{is_space}
+use Rattle.yaml_text.specs.grammar.Separation.{flow_out, block_key, indent, s_l_comments}
+use Rattle.yaml_text.specs.grammar.Tags.{Handles}
+use Rattle.yaml_text.specs.grammar.Events.{Props, no_props}
+use Rattle.yaml_flow.specs.PropertyRules.{Marks, Own}
+
+-- how many more properties a node may have
+abbrev pub anchors_left : Anchor → ℕ
+anchors_left None = 1
+anchors_left (Some a) = 0
+
+abbrev pub tags_left : WrittenTag → ℕ
+tags_left untagged = 1
+tags_left non_specific = 0
+tags_left (full t) = 0
+
+abbrev pub left : Props → ℕ
+left p = anchors_left p.anchor + tags_left p.tag
+
+-- the column in which a mapping may stand without properties: none, where there are outer ones
+abbrev pub column_by : Anchor → WrittenTag → Option ℕ → Option ℕ
+column_by None untagged column = column
+column_by None non_specific column = None
+column_by None (full t) column = None
+column_by (Some a) t column = None
+
+abbrev pub column_of : Props → Option ℕ → Option ℕ
+column_of p column = column_by p.anchor p.tag column
+
+module _ (cs : List ℕ) where
+  -- content may begin at n, after own properties from i to e, or without any
+  abbrev pub Follows : ℕ → ℕ → ℕ → Props → Type 0
+  Follows i e n p = ((p ≡ no_props) × (n ≡ i)) ⊎ ((p ≢ no_props) × run cs is_space e n × (e < n))
+
+  -- no alias stands at i, or it would have no properties
+  abbrev pub MayBear : ℕ → Props → Type 0
+  MayBear i p = (p ≡ no_props) ⊎ (slice_get cs i ≢ Some 42)
+
+module _ (cs : List ℕ) (handles : Handles) where
+  -- properties from i on that end before the line on which the node's first character stands, at m; or none
+  pub data Outer (col : ℕ) (column : Option ℕ) (i m : ℕ) (p : Props) : Type 0 where
+    nothing : m ≡ i → p ≡ no_props → Outer col column i m p
+    above : (e l k : ℕ) → Marks cs handles col flow_out i e p → s_l_comments cs e l → indent cs k l m → col ≤ k → column ≡ Some k → Outer col column i m p
+
+  -- a node's own properties, on the line of its first character
+  abbrev pub OnLine : ℕ → ℕ → Props → Type 0
+  OnLine i j p = Own cs handles 0 block_key i j p
+
+  -- content may begin at n, after the node's own properties
+  pub data Before (i n : ℕ) (p : Props) : Type 0 where
+    at_once : n ≡ i → p ≡ no_props → Before i n p
+    spaced : (e : ℕ) → Marks cs handles 0 block_key i e p → run cs is_space e n → e < n → Before i n p

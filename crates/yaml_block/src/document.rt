@@ -1,0 +1,61 @@
+//! Documents' nodes (YAML 1.2.2, 9.1).
+ghost use Rattle.std.specs.Prelude.{◌≡◌, ◌≤◌, IfOk};
+ghost use Rattle.yaml_text.specs.Limits.{open_limit};
+ghost use Rattle.yaml_text.specs.Source.{text_of, place_of, IsBorder};
+ghost use Rattle.yaml_text.specs.grammar.Rules.{◌◂◌, ◌∪◌, gives};
+ghost use Rattle.yaml_text.specs.grammar.Events.{no_props, empty};
+ghost use Rattle.yaml_text.specs.grammar.Separation.{StartsLine, s_l_comments};
+ghost use Rattle.yaml_text.specs.grammar.Streams.{bare_document};
+ghost use Rattle.yaml_mark.specs.HandlesModel.{handles_of};
+ghost use Rattle.yaml_flow.specs.Answer.{Appends};
+ghost use Rattle.yaml_flow.specs.Lines.{IsLine};
+
+use crate::block::{read_root, read_value};
+use std::alloc::Global;
+use yaml_flow::line::Line;
+use yaml_mark::handles::Handles;
+use yaml_text::chars::Chars;
+use yaml_text::context::Ctx;
+use yaml_text::event::Event;
+use yaml_text::fault::Fault;
+use yaml_text::limits::open_limit;
+
+/// How many collections may be open in a document.
+fn room() -> u32
+    ensures { result ≡ open_limit }
+{
+    open_limit() as u32
+}
+
+/// The node of a bare document on the line where it begins, with content on it (9.1.3), and the line after it.
+pub fn read_bare<'a>(
+    alloc: Global,
+    source: &Chars<'a>,
+    line: Line,
+    handles: Option<&Handles<'a>>,
+    out: &mut Vec<Event<'a>>,
+) -> Result<Line, Fault>
+    requires line { IsLine source.now line }
+    requires start { StartsLine (text_of source.now) (place_of source.now line.start) }
+    ensures line { IfOk result (IsLine source.now) }
+    ensures onward { IfOk result (λ next. line.start ≤ next.start) }
+    ensures reads { Appends (λ _. bare_document (text_of source.now) (Unit {0}) open_limit (handles_of handles.entry)) (place_of source.now line.start) (λ next. place_of source.now next.start) out.old.items out.new.items result }
+{
+    read_root(alloc, source, line, room(), handles, out)
+}
+
+/// What stands after the mark of an explicit document (9.1.4), and the line after it.
+pub fn read_marked<'a>(
+    alloc: Global,
+    source: &Chars<'a>,
+    at: usize,
+    handles: Option<&Handles<'a>>,
+    out: &mut Vec<Event<'a>>,
+) -> Result<Line, Fault>
+    requires { IsBorder source.now at }
+    ensures line { IfOk result (IsLine source.now) }
+    ensures onward { IfOk result (λ next. at ≤ next.start) }
+    ensures reads { Appends (λ _. bare_document (text_of source.now) (Unit {0}) open_limit (handles_of handles.entry) ∪ (gives (empty no_props) ◂ s_l_comments (text_of source.now))) (place_of source.now at) (λ next. place_of source.now next.start) out.old.items out.new.items result }
+{
+    read_value(alloc, source, at, 0, Ctx::BlockIn, room(), handles, out)
+}

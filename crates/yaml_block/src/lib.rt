@@ -1,0 +1,5 @@
+//! Block nodes and documents, read to events (YAML 1.2.2, 8.2 and 9.1).
+#![tactic(auto)]
+
+pub mod block;
+pub mod document;

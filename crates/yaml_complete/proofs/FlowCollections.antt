@@ -1,0 +1,159 @@
+-- A flow sequence and a flow mapping from their brackets on: what is left is their parts, and the bracket that closes them.
+use Rattle.std.proofs.Common.{◌≡◌, ◌≢◌, ℕ, ◌+◌, ◌⊎◌, inl, inr, List, Some, refl, ◌∙◌, ap, subst, arith}
+use Rattle.std.specs.Prelude.{slice_get}
+use Rattle.yaml_text.specs.grammar.Rules.{Span, Rule, ◌◆◌, ◌◂◌, ◌⨾◌, ◌∪◌, chr, maybe, any, optional}
+use Rattle.yaml_text.specs.grammar.Separation.{Ctx, flow_in, inner, separate}
+use Rattle.yaml_text.specs.grammar.Tags.{Handles}
+use Rattle.yaml_text.specs.Event.{Event}
+use Rattle.yaml_text.specs.grammar.Events.{Props, no_props}
+use Rattle.yaml_text.specs.grammar.Nodes.{Part, yaml_part, json_part, pair_part, flow_seq, flow_map, inside_flow, entry, json_node}
+use Rattle.yaml_unique.specs.Readings.{End, At}
+use Rattle.yaml_unique.specs.Follows.{Solid, Fresh, Closes}
+use Rattle.yaml_unique.proofs.FlowEntries.{PartHere, Facts, item_part, entry_start}
+use Rattle.yaml_complete.proofs.Decisions.{rest_goes, rest_refused}
+use Rattle.yaml_complete.specs.Decisions.{Refused, Goes, Rest, Here}
+use Rattle.yaml_complete.proofs.FlowLoops.{parts_start, parts_closed, closes_fresh}
+use Rattle.yaml_unique.proofs.FlowNodes.{Kind, Sign, Jsons}
+use Rattle.yaml_complete.proofs.FlowStarts.{content_left, sequence_left, mapping_left}
+
+module _ (cs : List ℕ) (Wide : Type 0) (handles : Handles) (Open : Type 0) (inside : Part → Rule (List Event)) (facts : Facts cs inside) (n : ℕ) (c : Ctx) (within : inner c ≡ flow_in) where
+  abbrev Gap : Span
+  Gap = maybe (separate cs n c)
+
+  abbrev Parts : Rule (List Event) → Rule (List Event)
+  Parts I = any ((I ◂ Gap) ◂ (chr cs 44 ◆ Gap)) ⨾ optional (I ◂ Gap)
+
+  abbrev Closed : ℕ → ℕ → Type 0
+  Closed b q = slice_get cs q ≡ Some b
+
+  -- up to the bracket and over it
+  abbrev pub Bracketed : Rule (List Event) → ℕ → Rule (List Event)
+  Bracketed I b = Parts I ◂ chr cs b
+
+  -- ---- any such collection
+
+  module _ (I : Rule (List Event)) (start : (i j : ℕ) (v : List Event) → I i j v → PartHere cs i) (close : ℕ) (shut : (q : ℕ) → slice_get cs q ≡ Some close → Closes cs q) (no_comma : close ≢ 44) where
+    bracketed_start : (i j : ℕ) (v : List Event) → Bracketed I close i j v → Fresh cs i
+    bracketed_start i j v (k, r, (h, e)) = go (parts_start cs n c I start close shut no_comma i k v r h)
+      where
+        go : PartHere cs i ⊎ Closed close i → Fresh cs i
+        go (inl p) = p.0
+        go (inr h) = closes_fresh cs i (shut i h)
+
+    -- the parts end at z, and the collection after the bracket there
+    bracketed_goes : (E : End) (x z : ℕ) → Goes (Parts I) (At (Closed close)) x Here z → Goes (Bracketed I close) E x E (z + 1)
+    bracketed_goes E x z g = record { goes = λ j m v (k, r, (h, e)) f. let d : k ≡ z = g.goes k k v r (refl, h) in subst (λ y. E y m) (e ∙ ap (λ y. y + 1) d) f }
+
+    bracketed_refused : (E : End) (x : ℕ) → Refused (Parts I) (At (Closed close)) x → Refused (Bracketed I close) E x
+    bracketed_refused E x f = record { none = λ j m v (k, r, (h, e)) d. f.none k k v r (refl, h) }
+
+  -- ---- sequences (7.4.1)
+
+  abbrev pub Items : Rule (List Event)
+  Items = inside (pair_part n (inner c)) ∪ inside_flow cs Wide handles Open inside n (inner c)
+
+  pub item_start : (i j : ℕ) (v : List Event) → Items i j v → PartHere cs i
+  item_start i j v (inl r) = facts.pair_start n i j v (subst (λ z. inside (pair_part n z) i j v) within r)
+  item_start i j v (inr (inl r)) = item_part cs i (facts.yaml_start n i j v (subst (λ z. inside (yaml_part n z) i j v) within r))
+  item_start i j v (inr (inr r)) = item_part cs i (facts.json_start n i j v (subst (λ z. inside (json_part n z) i j v) within r))
+
+  bracket_shut : (q : ℕ) → slice_get cs q ≡ Some 93 → Closes cs q
+  bracket_shut q h = inr (inl h)
+
+  abbrev Sequence : Props → Rule (List Event)
+  Sequence p = flow_seq cs Wide handles Open inside p n c
+
+  -- separation after the bracket leads to x
+  pub sequence_opens : (p : Props) (E : End) (i x : ℕ) → ((q : ℕ) → Gap (i + 1) q → Solid cs q → q ≡ x) → Rest (Sequence p) E i (Bracketed Items 93) E x
+  unfolding flow_seq
+  sequence_opens p E i x to = record { rest = go }
+    where
+      go : (j m : ℕ) (v : List Event) → Sequence p i j v → E j m → (k : ℕ) × (w : List Event) × Bracketed Items 93 x k w × E k m
+      go j m v (o, (t, (k, (a, (h, e), s), r), f)) d =
+          let g : k ≡ x = to k (subst (λ z. Gap z k) e s) (bracketed_start Items item_start 93 bracket_shut (λ z. omega (arith, z)) k j t r).0 in (j, t, subst (λ z. Bracketed Items 93 z j t) g r, d)
+
+  -- or nowhere
+  pub sequence_no_gap : (p : Props) (E : End) (i : ℕ) → ((q : ℕ) → Gap (i + 1) q → Fresh cs q → ⊥) → Refused (Sequence p) E i
+  unfolding flow_seq
+  sequence_no_gap p E i none = record {
+    none = λ j m v (o, (t, (k, (a, (h, e), s), r), f)) d.
+        none k (subst (λ z. Gap z k) e s) (bracketed_start Items item_start 93 bracket_shut (λ z. omega (arith, z)) k j t r);
+  }
+
+  pub sequence_no_room : (p : Props) (E : End) (i : ℕ) → (Open → ⊥) → Refused (Sequence p) E i
+  unfolding flow_seq
+  sequence_no_room p E i shut = record { none = λ j m v (o, r) d. shut o }
+
+  pub items_goes : (E : End) (x z : ℕ) → Goes (Parts Items) (At (Closed 93)) x Here z → Goes (Bracketed Items 93) E x E (z + 1)
+  items_goes = bracketed_goes Items item_start 93 bracket_shut (λ z. omega (arith, z))
+
+  pub items_refused : (E : End) (x : ℕ) → Refused (Parts Items) (At (Closed 93)) x → Refused (Bracketed Items 93) E x
+  items_refused = bracketed_refused Items item_start 93 bracket_shut (λ z. omega (arith, z))
+
+  -- ---- mappings (7.4.2)
+
+  abbrev pub Entries : Rule (List Event)
+  Entries = entry cs Wide handles Open inside n (inner c)
+
+  pub entries_start : (i j : ℕ) (v : List Event) → Entries i j v → PartHere cs i
+  entries_start i j v r = entry_start cs Wide handles Open inside facts n i j v (subst (λ z. entry cs Wide handles Open inside n z i j v) within r)
+
+  brace_shut : (q : ℕ) → slice_get cs q ≡ Some 125 → Closes cs q
+  brace_shut q h = inr (inr h)
+
+  abbrev Mapping : Props → Rule (List Event)
+  Mapping p = flow_map cs Wide handles Open inside p n c
+
+  pub mapping_opens : (p : Props) (E : End) (i x : ℕ) → ((q : ℕ) → Gap (i + 1) q → Solid cs q → q ≡ x) → Rest (Mapping p) E i (Bracketed Entries 125) E x
+  unfolding flow_map
+  mapping_opens p E i x to = record { rest = go }
+    where
+      go : (j m : ℕ) (v : List Event) → Mapping p i j v → E j m → (k : ℕ) × (w : List Event) × Bracketed Entries 125 x k w × E k m
+      go j m v (o, (t, (k, (a, (h, e), s), r), f)) d =
+          let g : k ≡ x = to k (subst (λ z. Gap z k) e s) (bracketed_start Entries entries_start 125 brace_shut (λ z. omega (arith, z)) k j t r).0 in (j, t, subst (λ z. Bracketed Entries 125 z j t) g r, d)
+
+  pub mapping_no_gap : (p : Props) (E : End) (i : ℕ) → ((q : ℕ) → Gap (i + 1) q → Fresh cs q → ⊥) → Refused (Mapping p) E i
+  unfolding flow_map
+  mapping_no_gap p E i none = record {
+    none = λ j m v (o, (t, (k, (a, (h, e), s), r), f)) d.
+        none k (subst (λ z. Gap z k) e s) (bracketed_start Entries entries_start 125 brace_shut (λ z. omega (arith, z)) k j t r);
+  }
+
+  pub mapping_no_room : (p : Props) (E : End) (i : ℕ) → (Open → ⊥) → Refused (Mapping p) E i
+  unfolding flow_map
+  mapping_no_room p E i shut = record { none = λ j m v (o, r) d. shut o }
+
+  pub entries_goes : (E : End) (x z : ℕ) → Goes (Parts Entries) (At (Closed 125)) x Here z → Goes (Bracketed Entries 125) E x E (z + 1)
+  entries_goes = bracketed_goes Entries entries_start 125 brace_shut (λ z. omega (arith, z))
+
+  pub entries_refused : (E : End) (x : ℕ) → Refused (Parts Entries) (At (Closed 125)) x → Refused (Bracketed Entries 125) E x
+  entries_refused = bracketed_refused Entries entries_start 125 brace_shut (λ z. omega (arith, z))
+
+  -- ---- from a node's first character on, after its properties or without any
+
+  abbrev Content : Props → Rule (List Event)
+  Content p = Jsons cs Wide handles Open inside n c p
+
+  pub bracket_goes : (p : Props) (E : End) (i x z : ℕ) → slice_get cs i ≡ Some 91 → ((q : ℕ) → Gap (i + 1) q → Solid cs q → q ≡ x) → Goes (Parts Items) (At (Closed 93)) x Here z → Goes (Content p) E i E (z + 1)
+  bracket_goes p E i x z h to g = rest_goes (sequence_left cs Wide handles Open inside n c p E i h) (rest_goes (sequence_opens p E i x to) (items_goes E x z g))
+
+  pub bracket_refused : (p : Props) (E : End) (i x : ℕ) → slice_get cs i ≡ Some 91 → ((q : ℕ) → Gap (i + 1) q → Solid cs q → q ≡ x) → Refused (Parts Items) (At (Closed 93)) x → Refused (Content p) E i
+  bracket_refused p E i x h to f = rest_refused (sequence_left cs Wide handles Open inside n c p E i h) (rest_refused (sequence_opens p E i x to) (items_refused E x f))
+
+  pub brace_goes : (p : Props) (E : End) (i x z : ℕ) → slice_get cs i ≡ Some 123 → ((q : ℕ) → Gap (i + 1) q → Solid cs q → q ≡ x) → Goes (Parts Entries) (At (Closed 125)) x Here z → Goes (Content p) E i E (z + 1)
+  brace_goes p E i x z h to g = rest_goes (mapping_left cs Wide handles Open inside n c p E i h) (rest_goes (mapping_opens p E i x to) (entries_goes E x z g))
+
+  pub brace_refused : (p : Props) (E : End) (i x : ℕ) → slice_get cs i ≡ Some 123 → ((q : ℕ) → Gap (i + 1) q → Solid cs q → q ≡ x) → Refused (Parts Entries) (At (Closed 125)) x → Refused (Content p) E i
+  brace_refused p E i x h to f = rest_refused (mapping_left cs Wide handles Open inside n c p E i h) (rest_refused (mapping_opens p E i x to) (entries_refused E x f))
+
+  -- a node without properties, of either kind
+  pub node_of_content : (E F : End) (i y : ℕ) → Kind cs 3 i → Goes (Content no_props) E i F y → Goes (json_node cs Wide handles Open inside n c) E i F y
+  node_of_content E F i y h g = rest_goes (content_left cs Wide handles Open inside n c E i h) g
+
+  pub no_node_of_content : (E : End) (i : ℕ) → Kind cs 3 i → Refused (Content no_props) E i → Refused (json_node cs Wide handles Open inside n c) E i
+  no_node_of_content E i h f = rest_refused (content_left cs Wide handles Open inside n c E i h) f
+
+  -- `[]`: the loop, the brackets and the node together
+  pub empty_sequence : (E : End) (i x : ℕ) → slice_get cs i ≡ Some 91 → ((q : ℕ) → Gap (i + 1) q → Solid cs q → q ≡ x) → slice_get cs x ≡ Some 93 → Goes (json_node cs Wide handles Open inside n c) E i E (x + 1)
+  empty_sequence E i x h to g =
+      node_of_content E E i (x + 1) (91, h, Sign.bracket 91 refl) (bracket_goes no_props E i x x h to (parts_closed cs n c Items item_start 93 bracket_shut (λ z. omega (arith, z)) x g))

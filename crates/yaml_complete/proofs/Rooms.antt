@@ -1,0 +1,65 @@
+-- What is known of the nodes at each room, in the form in which the lemmas on one level ask for it.
+use Rattle.std.proofs.Common.{ℕ, zero, suc, List}
+use Rattle.yaml_text.specs.grammar.Rules.{Rule, never}
+use Rattle.yaml_text.specs.grammar.Tags.{Handles}
+use Rattle.yaml_text.specs.Event.{Event}
+use Rattle.yaml_text.specs.grammar.Nodes.{Part, part, reads}
+use Rattle.yaml_text.proofs.grammar.Forward.{Forward, fwd_reads}
+use Rattle.yaml_text.proofs.grammar.Widening.{Within}
+use Rattle.yaml_unique.specs.Readings.{End}
+use Rattle.yaml_unique.proofs.FlowEntries.{Facts}
+use Rattle.yaml_unique.proofs.FlowLevels.{no_facts, reads_facts}
+use Rattle.yaml_unique.proofs.KeyContexts.{Eased, no_eased, reads_eased}
+use Rattle.yaml_unique.proofs.BlockLevels.{Blocks, no_blocks, one_more, reads_blocks}
+use Rattle.yaml_complete.specs.Decisions.{Refused, Goes, Rest}
+use Rattle.yaml_complete.proofs.Decisions.{rest_goes, rest_refused}
+
+module _ (cs : List ℕ) (Wide : Type 0) (handles : Handles) where
+  -- whether one more collection may be opened, and what may then stand in it
+  abbrev pub Opens : ℕ → Type 0
+  Opens zero = ⊥
+  Opens (suc room) = Unit {0}
+
+  abbrev pub below : ℕ → Part → Rule (List Event)
+  below zero = λ q. never
+  below (suc room) = reads cs Wide handles room
+
+  pub facts_below : (room : ℕ) → Facts cs (below room)
+  facts_below zero = no_facts cs Wide handles
+  facts_below (suc room) = reads_facts cs Wide handles room
+
+  pub eased_below : (room : ℕ) → Eased cs Wide handles (below room)
+  eased_below zero = no_eased cs Wide handles
+  eased_below (suc room) = reads_eased cs Wide handles room
+
+  pub wider_below : (room : ℕ) (p : Part) → Within (below room p) (part cs Wide handles (Opens room) (below room) p)
+  wider_below zero p i j v r = absurd r
+  wider_below (suc room) p i j v r = one_more cs Wide handles room p i j v r
+
+  pub forward_below : (room : ℕ) (p : Part) → Forward (below room p)
+  forward_below zero p i j v r = absurd r
+  forward_below (suc room) p i j v r = fwd_reads cs Wide handles room p i j v r
+
+  pub blocks_below : (room : ℕ) → Blocks cs Wide handles (below room)
+  blocks_below zero = no_blocks cs Wide handles
+  blocks_below (suc room) = reads_blocks cs Wide handles room
+
+  -- a part in so much room is one of its level
+  pub of_level : (room : ℕ) (p : Part) (i j : ℕ) (v : List Event) → part cs Wide handles (Opens room) (below room) p i j v → reads cs Wide handles room p i j v
+  unfolding reads
+  of_level zero p i j v r = r
+  of_level (suc room) p i j v r = r
+
+  pub to_level : (room : ℕ) (p : Part) (i j : ℕ) (v : List Event) → reads cs Wide handles room p i j v → part cs Wide handles (Opens room) (below room) p i j v
+  unfolding reads
+  to_level zero p i j v r = r
+  to_level (suc room) p i j v r = r
+
+  pub level_rest : (room : ℕ) (p : Part) (E : End) (i : ℕ) → Rest (reads cs Wide handles room p) E i (part cs Wide handles (Opens room) (below room) p) E i
+  level_rest room p E i = record { rest = λ j m v r e. (j, v, to_level room p i j v r, e) }
+
+  pub level_goes : (room : ℕ) (p : Part) (E F : End) (i x : ℕ) → Goes (part cs Wide handles (Opens room) (below room) p) E i F x → Goes (reads cs Wide handles room p) E i F x
+  level_goes room p E F i x g = rest_goes (level_rest room p E i) g
+
+  pub level_refused : (room : ℕ) (p : Part) (E : End) (i : ℕ) → Refused (part cs Wide handles (Opens room) (below room) p) E i → Refused (reads cs Wide handles room p) E i
+  level_refused room p E i f = rest_refused (level_rest room p E i) f

@@ -1,0 +1,10 @@
+mod StateLemmas
+mod StartLemmas
+mod FormLemmas
+mod KindLemmas
+mod NumberLemmas
+mod TextLemmas
+mod IntLemmas
+mod ResolveLemmas
+mod CutLemmas
+mod DecimalLemmas

@@ -1,0 +1,32 @@
+-- What a call that reads says of its production.
+use Rattle.std.specs.Prelude.{◌≡◌, ℕ, List, Result, Ok, Err, Option, Some, None}
+use Rattle.yaml_text.specs.Event.{Event}
+use Rattle.yaml_text.specs.EventModel.{Adds}
+use Rattle.yaml_text.specs.grammar.Rules.{Rule}
+use Rattle.yaml_text.specs.declared.event.Event as code
+use Rattle.yaml_text.specs.declared.fault.Fault.{Fault}
+use Rattle.yaml_text.specs.declared.fault.Fault.TheVariants.{Syntax, Tab, KeyTooLong, TooDeep, BadEscape, BadDirective, UnknownHandle, BadTag, OutOfMemory}
+
+-- the faults that a reader of events answers
+abbrev pub IsRefusal : Fault → Type 0
+IsRefusal (Syntax at) = Unit {0}
+IsRefusal (Tab at) = Unit {0}
+IsRefusal (KeyTooLong at) = Unit {0}
+IsRefusal (TooDeep at) = Unit {0}
+IsRefusal (BadEscape at) = Unit {0}
+IsRefusal (BadDirective at) = Unit {0}
+IsRefusal (UnknownHandle at) = Unit {0}
+IsRefusal (BadTag at) = Unit {0}
+IsRefusal OutOfMemory = Unit {0}
+IsRefusal _ = ⊥
+
+-- the events of a reading by the answer's rule are put at the end
+abbrev pub Appends : {X : Type 0} → (X → Rule (List Event)) → ℕ → (X → ℕ) → List code.Event → List code.Event → Result X Fault → Type 0
+Appends R i end old new (Ok x) = (es : List Event) × Adds old es new × R x i (end x) es
+Appends R i end old new (Err e) = IsRefusal e
+
+-- the same where there may be nothing to read; then the list is as it was
+abbrev pub Perhaps : {X : Type 0} → (X → Rule (List Event)) → ℕ → (X → ℕ) → List code.Event → List code.Event → Result (Option X) Fault → Type 0
+Perhaps R i end old new (Ok (Some x)) = (es : List Event) × Adds old es new × R x i (end x) es
+Perhaps R i end old new (Ok None) = new ≡ old
+Perhaps R i end old new (Err e) = IsRefusal e

@@ -1,0 +1,127 @@
+//! Comments, separation and the starts of lines (YAML 1.2.2, chapter 6).
+ghost use Rattle.std.specs.Prelude.{◌≡◌, ◌≢◌, ◌≤◌, ◌<◌, ◌⊎◌, IfSome, IfNone, IfOk, IfErr, ℕ, length};
+ghost use Rattle.std.specs.Bool.{OnTrue, OnFalse};
+ghost use Rattle.yaml_text.specs.Source.{text_of, place_of, IsBorder};
+ghost use Rattle.yaml_text.specs.EventModel.{context_of};
+ghost use Rattle.yaml_text.specs.grammar.Rules.{any_span, maybe};
+ghost use Rattle.yaml_text.specs.grammar.Separation.{s_l_comments, l_comment, separate};
+ghost use Rattle.yaml_text.specs.Lines.{AfterLine};
+ghost use Rattle.yaml_text.specs.Lines.{Dashes};
+ghost use Rattle.yaml_flow.specs.Answer.{IsRefusal};
+ghost use Rattle.yaml_flow.specs.Lines.{IsLine};
+
+use crate::fault::unusable;
+use yaml_mark::comments;
+use yaml_text::chars::Chars;
+use yaml_text::class::is_key;
+use yaml_text::context::Ctx;
+use yaml_text::fault::Fault;
+use yaml_text::lines::{is_mark, skip_comments as skip_lines, skip_spaces};
+use yaml_text::places::is_end;
+
+/// A line that is no comment, or the end of the text: its start, how many spaces it begins with, and the border after them.
+#[derive(Clone, Copy)]
+pub struct Line {
+    pub start: usize,
+    pub column: usize,
+    pub first: usize,
+}
+
+/// The line that starts at a border.
+pub fn line_at(source: &Chars<'_>, start: usize) -> Line
+    requires { IsBorder source.now start }
+    ensures line { IsLine source.now result }
+    ensures start { result.start ≡ start }
+{
+    let (column, first) = skip_spaces(source, start);
+    Line {
+        start,
+        column,
+        first,
+    }
+}
+
+/// The first line of a text.
+pub fn first_line(source: &Chars<'_>) -> Line
+    ensures line { IsLine source.now result }
+    ensures comments { any_span (l_comment (text_of source.now)) 0 (place_of source.now result.start) }
+    ensures after { AfterLine (text_of source.now) (place_of source.now result.start) }
+{
+    let start = skip_lines(source, 0);
+    line_at(source, start)
+}
+
+/// Whether a line has content: it is no document mark and not the end.
+pub fn has_content(source: &Chars<'_>, line: Line) -> bool
+    requires { IsLine source.now line }
+    ensures yes { OnTrue result ((place_of source.now line.first ≢ length (text_of source.now)) × (Dashes (text_of source.now) (place_of source.now line.start) → ⊥)) }
+    ensures no { OnFalse result ((place_of source.now line.first ≡ length (text_of source.now)) ⊎ Dashes (text_of source.now) (place_of source.now line.start)) }
+{
+    if is_end(source, line.first) {
+        return false;
+    }
+    !is_mark(source, line.start)
+}
+
+/// The start of the line after the rest of a line and any comment lines (`s-l-comments`, 6.6), the furthest that there is.
+#[tactic(auto, unfolding(yaml_text::specs::grammar::Calls::skip_comments))]
+pub fn skip_comments(source: &Chars<'_>, at: usize) -> Option<usize>
+    requires { IsBorder source.now at }
+    ensures border { IfSome result (λ to. IsBorder source.now to) }
+    ensures onward { IfSome result (λ to. at ≤ to) }
+    ensures some { IfSome result (λ to. s_l_comments (text_of source.now) (place_of source.now at) (place_of source.now to)) }
+    ensures stuck { IfSome result (λ to. (j : ℕ) → l_comment (text_of source.now) (place_of source.now to) j → ⊥) }
+    ensures none { IfNone result ((j : ℕ) → s_l_comments (text_of source.now) (place_of source.now at) j → ⊥) }
+{
+    comments::skip_comments(source, at)
+}
+
+/// The line after a block node's last character.
+pub fn next_line(source: &Chars<'_>, at: usize) -> Result<Line, Fault>
+    requires { IsBorder source.now at }
+    ensures line { IfOk result (IsLine source.now) }
+    ensures onward { IfOk result (λ line. at ≤ line.start) }
+    ensures comments { IfOk result (λ line. s_l_comments (text_of source.now) (place_of source.now at) (place_of source.now line.start)) }
+    ensures err { IfErr result IsRefusal }
+{
+    match skip_comments(source, at) {
+        Some(start) => Ok(line_at(source, start)),
+        None => {
+            let (_, first) = skip_spaces(source, at);
+            Err(unusable(source, first))
+        }
+    }
+}
+
+/// The border after the separation inside a flow collection (6.7), as much as there is.
+pub fn separation(source: &Chars<'_>, at: usize, least: usize, context: Ctx) -> Result<usize, Fault>
+    requires { IsBorder source.now at }
+    ensures border { IfOk result (λ to. IsBorder source.now to) }
+    ensures onward { IfOk result (λ to. at ≤ to) }
+    ensures separate { IfOk result (λ to. maybe (separate (text_of source.now) least (context_of context)) (place_of source.now at) (place_of source.now to)) }
+    ensures apart { IfOk result (λ to. at < to → separate (text_of source.now) least (context_of context) (place_of source.now at) (place_of source.now to)) }
+    ensures err { IfErr result IsRefusal }
+{
+    if is_key(context) {
+        let (_, end) = skip_spaces(source, at);
+        return Ok(end);
+    }
+    match skip_comments(source, at) {
+        None => {
+            let (_, end) = skip_spaces(source, at);
+            Ok(end)
+        }
+        Some(start) => {
+            let line = line_at(source, start);
+            if is_mark(source, start) {
+                Err(Fault::Syntax(source.pos(start)))
+            } else if line.column < least {
+                Err(unusable(source, line.first))
+            } else if is_end(source, line.first) {
+                Err(unusable(source, line.first))
+            } else {
+                Ok(line.first)
+            }
+        }
+    }
+}

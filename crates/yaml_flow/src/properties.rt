@@ -1,0 +1,215 @@
+//! Node properties (YAML 1.2.2, 6.9).
+ghost use Rattle.std.specs.Prelude.{◌≡◌, ◌≢◌, ◌≤◌, IfOk, IfErr, Some, slice_get};
+ghost use Rattle.std.specs.Bool.{OnTrue, OnFalse};
+ghost use Rattle.std.specs.Cow.{cow_str_bytes};
+ghost use Rattle.std.specs.Option.{option_map};
+ghost use Rattle.yaml_text.specs.Source.{text_of, place_of, IsBorder};
+ghost use Rattle.yaml_text.specs.EventModel.{context_of, event_of, written_of};
+ghost use Rattle.yaml_text.specs.grammar.Events.{no_props};
+ghost use Rattle.yaml_mark.specs.HandlesModel.{handles_of};
+ghost use Rattle.yaml_flow.specs.Answer.{IsRefusal};
+ghost use Rattle.yaml_flow.specs.PropertyRules.{props_of, both_props, anchor_of, tag_of, with_props, Dresses, Apart, Own};
+
+use crate::line::separation;
+use std::alloc::Global;
+use std::borrow::CowStr;
+use std::mem;
+use yaml_mark::handles::Handles;
+use yaml_mark::name::read_name;
+use yaml_mark::tag::read_tag;
+use yaml_text::chars::Chars;
+use yaml_text::context::Ctx;
+use yaml_text::event::{Event, EventTag};
+use yaml_text::fault::Fault;
+use yaml_text::places::accept;
+
+/// A node's anchor and tag.
+#[derive(Drop)]
+pub struct Properties<'a> {
+    pub anchor: Option<CowStr<'a>>,
+    pub tag: EventTag<'a>,
+}
+
+impl<'a> Properties<'a> {
+    /// Neither an anchor nor a tag.
+    pub fn none() -> Properties<'a>
+        ensures { props_of result ≡ no_props }
+    {
+        Properties {
+            anchor: None,
+            tag: EventTag::None,
+        }
+    }
+
+    /// Whether there is neither an anchor nor a tag.
+    pub fn is_none(&self) -> bool
+        ensures yes { OnTrue result (props_of self.now ≡ no_props) }
+        ensures no { OnFalse result (props_of self.now ≢ no_props) }
+    {
+        match (&self.anchor, &self.tag) {
+            (None, EventTag::None) => true,
+            _ => false,
+        }
+    }
+
+    /// Whether both have an anchor or both have a tag.
+    pub fn clash(&self, other: &Properties<'a>) -> bool
+        ensures yes { OnTrue result (Apart (props_of self.now) (props_of other.now) → ⊥) }
+        ensures no { OnFalse result (Apart (props_of self.now) (props_of other.now)) }
+    {
+        match (&self.anchor, &other.anchor) {
+            (Some(_), Some(_)) => true,
+            _ => match (&self.tag, &other.tag) {
+                (EventTag::None, _) => false,
+                (_, EventTag::None) => false,
+                _ => true,
+            },
+        }
+    }
+
+    /// These and a node's own properties.
+    pub fn and(self, own: Properties<'a>) -> Properties<'a>
+        ensures { props_of result ≡ both_props (props_of self.entry) (props_of own.entry) }
+    {
+        let Properties { anchor, tag } = own;
+        Properties {
+            anchor: first_anchor(anchor, self.anchor),
+            tag: first_tag(tag, self.tag),
+        }
+    }
+}
+
+/// An anchor, or else another.
+fn first_anchor<'a>(anchor: Option<CowStr<'a>>, other: Option<CowStr<'a>>) -> Option<CowStr<'a>>
+    ensures { option_map cow_str_bytes result ≡ anchor_of (option_map cow_str_bytes anchor.entry) (option_map cow_str_bytes other.entry) }
+{
+    match anchor {
+        Some(name) => Some(name),
+        None => other,
+    }
+}
+
+/// A tag, or else another.
+fn first_tag<'a>(tag: EventTag<'a>, other: EventTag<'a>) -> EventTag<'a>
+    ensures { written_of result ≡ tag_of (written_of tag.entry) (written_of other.entry) }
+{
+    match tag {
+        EventTag::Full(name) => EventTag::Full(name),
+        EventTag::NonSpecific => EventTag::NonSpecific,
+        EventTag::None => other,
+    }
+}
+
+/// The properties that stand at a border, if any, and the border after them.
+pub fn read_properties<'a>(
+    alloc: Global,
+    source: &Chars<'a>,
+    at: usize,
+    least: usize,
+    context: Ctx,
+    handles: Option<&Handles<'a>>,
+) -> Result<(Properties<'a>, usize), Fault>
+    requires { IsBorder source.now at }
+    ensures border { IfOk result (λ r. IsBorder source.now r.1) }
+    ensures onward { IfOk result (λ r. at ≤ r.1) }
+    ensures own { IfOk result (λ r. Own (text_of source.now) (handles_of handles.entry) least (context_of context) (place_of source.now at) (place_of source.now r.1) (props_of r.0)) }
+    ensures err { IfErr result IsRefusal }
+{
+    if let Some(_) = accept(source, at, '!') {
+        return read_tagged(alloc, source, at, least, context, handles);
+    }
+    if let Some(_) = accept(source, at, '&') {
+        return read_anchored(alloc, source, at, least, context, handles);
+    }
+    Ok((Properties::none(), at))
+}
+
+/// A tag, and an anchor that may follow it.
+fn read_tagged<'a>(
+    alloc: Global,
+    source: &Chars<'a>,
+    at: usize,
+    least: usize,
+    context: Ctx,
+    handles: Option<&Handles<'a>>,
+) -> Result<(Properties<'a>, usize), Fault>
+    requires { IsBorder source.now at }
+    ensures border { IfOk result (λ r. IsBorder source.now r.1) }
+    ensures onward { IfOk result (λ r. at ≤ r.1) }
+    ensures own { IfOk result (λ r. Own (text_of source.now) (handles_of handles.entry) least (context_of context) (place_of source.now at) (place_of source.now r.1) (props_of r.0)) }
+    ensures err { IfErr result IsRefusal }
+{
+    let (tag, end) = read_tag(alloc, source, at, handles)?;
+    let next = separation(source, end, least, context)?;
+    if next > end {
+        if let Some(_) = accept(source, next, '&') {
+            let (name, after) = read_name(alloc, source, next)?;
+            let anchor = Some(name);
+            return Ok((Properties { anchor, tag }, after));
+        }
+    }
+    Ok((Properties { anchor: None, tag }, end))
+}
+
+/// An anchor, and a tag that may follow it.
+fn read_anchored<'a>(
+    alloc: Global,
+    source: &Chars<'a>,
+    at: usize,
+    least: usize,
+    context: Ctx,
+    handles: Option<&Handles<'a>>,
+) -> Result<(Properties<'a>, usize), Fault>
+    requires border { IsBorder source.now at }
+    requires sign { slice_get (text_of source.now) (place_of source.now at) ≡ Some 38 }
+    ensures border { IfOk result (λ r. IsBorder source.now r.1) }
+    ensures onward { IfOk result (λ r. at ≤ r.1) }
+    ensures own { IfOk result (λ r. Own (text_of source.now) (handles_of handles.entry) least (context_of context) (place_of source.now at) (place_of source.now r.1) (props_of r.0)) }
+    ensures err { IfErr result IsRefusal }
+{
+    let (name, end) = read_name(alloc, source, at)?;
+    let anchor = Some(name);
+    let next = separation(source, end, least, context)?;
+    if next > end {
+        if let Some(_) = accept(source, next, '!') {
+            let (tag, after) = read_tag(alloc, source, next, handles)?;
+            return Ok((Properties { anchor, tag }, after));
+        }
+    }
+    let tag = EventTag::None;
+    Ok((Properties { anchor, tag }, end))
+}
+
+/// An event with these properties in place of its own.
+fn with_properties<'a>(event: Event<'a>, properties: Properties<'a>) -> Event<'a>
+    ensures { event_of result ≡ with_props (props_of properties.entry) (event_of event.entry) }
+{
+    let Properties { anchor, tag } = properties;
+    match event {
+        Event::Scalar { style, text, .. } => Event::Scalar {
+            anchor,
+            tag,
+            style,
+            text,
+        },
+        Event::SequenceStart { flow, .. } => Event::SequenceStart { flow, anchor, tag },
+        Event::MappingStart { flow, .. } => Event::MappingStart { flow, anchor, tag },
+        Event::Alias { name } => Event::Alias { name },
+        Event::StreamStart => Event::StreamStart,
+        Event::StreamEnd => Event::StreamEnd,
+        Event::DocumentStart { explicit } => Event::DocumentStart { explicit },
+        Event::DocumentEnd { explicit } => Event::DocumentEnd { explicit },
+        Event::SequenceEnd => Event::SequenceEnd,
+        Event::MappingEnd => Event::MappingEnd,
+    }
+}
+
+/// Puts properties on the first event of a node, which stands at `start`.
+pub fn dress<'a>(out: &mut Vec<Event<'a>>, start: usize, properties: Properties<'a>)
+    ensures { Dresses (props_of properties.entry) start out.old.items out.new.items }
+{
+    if start < out.len() {
+        let bare = mem::replace(&mut out[start], Event::StreamEnd);
+        out[start] = with_properties(bare, properties);
+    }
+}

@@ -1,0 +1,90 @@
+-- Names of anchors and the places where they stand.
+use Rattle.std.proofs.Common.{◌≡◌, ℕ, zero, suc, Bool, true, false, cond, bytes_eq, List, [], ◌∷◌, ◌++◌, length, set, refl, sym, ◌∙◌, ap, subst}
+use Rattle.std.specs.Prelude.{Option, None, Some}
+use Rattle.std.specs.List.{slice_get}
+use Rattle.std.specs.Option.{option_map}
+use Rattle.std.specs.Borrow.{Bor}
+use Rattle.std.specs.BTreeMap.{BTreeMap, UpdatesBy}
+use Rattle.std.specs.Cmp.Lexicographic.{slice_cmp}
+use Rattle.std.specs.Ordering.{nat_cmp}
+use Rattle.std.proofs.lemmas.List.{map-append, length-map}
+use Rattle.std.proofs.lemmas.Map.Text.{btree_map_updates_str}
+use Rattle.yaml_text.specs.Tree.{Tree}
+use Rattle.yaml_text.specs.Event.{Anchor}
+use Rattle.yaml_text.specs.Unfold.{Table, or_else, closed, last_named}
+use Rattle.yaml_graph.proofs.GraphLaws.{get-more, get-end}
+use Rattle.yaml_graph.specs.ComposerModel.{place_of, last_place, names_of, Placed}
+
+-- ---- the last place of a name
+
+push-cases : (b : Bool) (n : ℕ) (p z : Option ℕ) → or_else (option_map suc (cond b (Some n) p)) z ≡ cond b (Some (suc n)) (or_else (option_map suc p) z)
+push-cases true n p z = refl
+push-cases false n p z = refl
+
+place-push : (name : List ℕ) (xs : List (List ℕ)) (y : List ℕ) → last_place name (xs ++ (y ∷ [])) ≡ cond (bytes_eq y name) (Some (length xs)) (last_place name xs)
+unfolding last_place
+place-push name [] y = refl
+place-push name (x ∷ xs) y =
+    ap (λ p. or_else (option_map suc p) (cond (bytes_eq x name) (Some 0) None)) (place-push name xs y) ∙ push-cases (bytes_eq y name) (length xs) (last_place name xs) (cond (bytes_eq x name) (Some 0) None)
+
+names-push : (table : Table) (name : List ℕ) (o : Option Tree) → names_of (table ++ ((name, o) ∷ [])) ≡ names_of table ++ (name ∷ [])
+names-push table name o = map-append (λ o. o.0) table ((name, o) ∷ [])
+
+pub names-length : (table : Table) → length (names_of table) ≡ length table
+names-length table = length-map table (λ o. o.0)
+
+-- the map, once it has the new name
+pub named-push : (table : Table) (old new : BTreeMap (Bor (List ℕ)) ℕ) (name : List ℕ) (place : ℕ) → ((x : List ℕ) → place_of old x ≡ last_place x (names_of table)) → place ≡ length table
+    → UpdatesBy (λ x y. slice_cmp nat_cmp x.now y.now) (λ k. slice_cmp nat_cmp name k.now) old new (Some place) → (x : List ℕ) → place_of new x ≡ last_place x (names_of (table ++ ((name, None) ∷ [])))
+named-push table old new name place h e u x =
+    let n : place ≡ length (names_of table) = e ∙ sym (names-length table) in
+    btree_map_updates_str name old new (Some place) u x
+    ∙ ((λ z. cond (bytes_eq name x) (Some (n z)) (h x z))
+    ∙ (sym (place-push x (names_of table) name) ∙ ap (last_place x) (sym (names-push table name None))))
+
+-- a new anchor's place
+pub placed-push : (table : Table) (name : List ℕ) (place : ℕ) → place ≡ length table → Placed (names_of (table ++ ((name, None) ∷ []))) (Some place) (Some name) (length table)
+placed-push table name place e =
+    (e, subst (λ xs. slice_get xs (length table) ≡ Some name) (sym (names-push table name None)) (subst (λ n. slice_get (names_of table ++ (name ∷ [])) n ≡ Some name) (names-length table) (get-end (names_of table) name)))
+
+-- a place goes on standing
+placed-more : (xs ys : List (List ℕ)) (place : Option ℕ) (a : Anchor) (slot : ℕ) → Placed xs place a slot → Placed (xs ++ ys) place a slot
+placed-more xs ys None None slot h = tt
+placed-more xs ys (Some i) (Some name) slot h = (h.0, get-more xs ys slot name h.1)
+placed-more xs ys None (Some name) slot h = absurd h
+placed-more xs ys (Some i) None slot h = absurd h
+
+pub placed-opened : (table : Table) (name : List ℕ) (place : Option ℕ) (a : Anchor) (slot : ℕ) → Placed (names_of table) place a slot → Placed (names_of (table ++ ((name, None) ∷ []))) place a slot
+placed-opened table name place a slot h = subst (λ xs. Placed xs place a slot) (sym (names-push table name None)) (placed-more (names_of table) (name ∷ []) place a slot h)
+
+set-same : (table : Table) (i : ℕ) (name : List ℕ) (o : Option Tree) → slice_get (names_of table) i ≡ Some name → names_of (set table i (name, o)) ≡ names_of table
+set-same [] i name o h = refl
+set-same (q ∷ table) zero name o h = let e : q.0 ≡ name = cc in ap (λ z. z ∷ names_of table) (sym e)
+set-same (q ∷ table) (suc i) name o h = ap (λ zs. q.0 ∷ zs) (set-same table i name o h)
+
+-- a node that closes leaves the names as they are
+pub names-closed : (table : Table) (place : Option ℕ) (a : Anchor) (slot : ℕ) (t : Tree) → Placed (names_of table) place a slot → names_of (closed a slot t table) ≡ names_of table
+names-closed table None None slot t h = refl
+names-closed table (Some i) (Some name) slot t h = set-same table slot name (Some t) h.1
+names-closed table None (Some name) slot t h = absurd h
+names-closed table (Some i) None slot t h = absurd h
+
+-- ---- looking up
+
+-- what stands at this place, if there is one
+abbrev pub Found : Option ℕ → Option (Option Tree) → Table → Type 0
+Found None None e = Unit {0}
+Found (Some i) (Some o) e = (x : List ℕ) × (slice_get e i ≡ Some (x, o))
+Found _ _ e = ⊥
+
+found-next : (p : Option ℕ) (o : Option (Option Tree)) (q : List ℕ × Option Tree) (e : Table) (b : Bool) → Found p o e → Found (or_else (option_map suc p) (cond b (Some 0) None)) (or_else o (cond b (Some q.1) None)) (q ∷ e)
+found-next None None q e true h = (q.0, refl)
+found-next None None q e false h = tt
+found-next (Some i) (Some o) q e b h = h
+found-next None (Some o) q e b h = absurd h
+found-next (Some i) None q e b h = absurd h
+
+pub found : (name : List ℕ) (e : Table) → Found (last_place name (names_of e)) (last_named name e) e
+unfolding last_place last_named
+found name [] = tt
+found name (q ∷ e) = found-next (last_place name (names_of e)) (last_named name e) q e (bytes_eq q.0 name) (found name e)

@@ -1,0 +1,71 @@
+-- No node stands for a tree that is higher than the tree of its document.
+use Rattle.std.proofs.Common.{◌≡◌, ◌<◌, ◌≤◌, ℕ, zero, suc, List, [], ◌∷◌, ◌++◌, length, map, get_or, refl, arith}
+use Rattle.std.specs.List.{All}
+use Rattle.yaml_text.specs.Limits.{height_limit}
+use Rattle.yaml_text.specs.Tree.{Tree, Trees, Pairs, scalar, sequence, mapping, end, item, done, entry, height, heights, heights_of_pairs}
+use Rattle.yaml_text.specs.Marked.{Marked, AllMarked, MarkedPairs, alias, scalar_at, sequence_at, mapping_at, end_marks, item_mark, done_marks, entry_marks, Document}
+use Rattle.yaml_graph.specs.Closing.{trees_inside, trees_inside_all, trees_inside_pairs, stream_trees}
+use Rattle.yaml_graph.specs.ComposerModel.{cut}
+
+-- none of the trees is higher
+abbrev pub Low : ℕ → List Tree → Type 0
+Low h [] = Unit {0}
+Low h (t ∷ ts) = (height t ≤ h) × Low h ts
+
+low-append : (h : ℕ) (ts us : List Tree) → Low h ts → Low h us → Low h (ts ++ us)
+low-append h [] us k l = l
+low-append h (t ∷ ts) us k l = (k.0, low-append h ts us k.1 l)
+
+mutual
+  unfolding trees_inside
+
+  low-node : (m : Marked) (t : Tree) (h : ℕ) → height t ≤ h → Low h (trees_inside m t)
+  low-node (alias name) t h k = tt
+  low-node (scalar_at a g y x) t h k = (k, tt)
+  low-node (sequence_at a g b ms) (sequence w ts) h k = low-append h (trees_inside_all ms ts) (sequence w ts ∷ []) (low-all ms ts h k) (k, tt)
+  low-node (sequence_at a g b ms) (scalar w x) h k = tt
+  low-node (sequence_at a g b ms) (mapping w ps) h k = tt
+  low-node (mapping_at a g b ps) (mapping w qs) h k = low-append h (trees_inside_pairs ps qs) (mapping w qs ∷ []) (low-pairs ps qs h k) (k, tt)
+  low-node (mapping_at a g b ps) (scalar w x) h k = tt
+  low-node (mapping_at a g b ps) (sequence w ts) h k = tt
+
+  low-all : (ms : AllMarked) (ts : Trees) (h : ℕ) → heights ts ≤ h → Low h (trees_inside_all ms ts)
+  low-all end_marks ts h k = tt
+  low-all (item_mark m ms) end h k = tt
+  low-all (item_mark m ms) (item t ts) h k = low-append h (trees_inside m t) (trees_inside_all ms ts) (low-node m t h (omega arith)) (low-all ms ts h (omega arith))
+
+  low-pairs : (ps : MarkedPairs) (qs : Pairs) (h : ℕ) → heights_of_pairs qs ≤ h → Low h (trees_inside_pairs ps qs)
+  low-pairs done_marks qs h k = tt
+  low-pairs (entry_marks i j ps) done h k = tt
+  low-pairs (entry_marks i j ps) (entry t u qs) h k =
+      low-append h (trees_inside i t) (trees_inside j u ++ trees_inside_pairs ps qs) (low-node i t h (omega arith))
+      (low-append h (trees_inside j u) (trees_inside_pairs ps qs) (low-node j u h (omega arith)) (low-pairs ps qs h (omega arith)))
+
+pub low-stream : (ds : List Document) (ts : List Tree) (h : ℕ) → Low h ts → Low h (stream_trees ds ts)
+unfolding stream_trees
+low-stream [] ts h k = tt
+low-stream (d ∷ ds) [] h k = tt
+low-stream (d ∷ ds) (t ∷ ts) h k = low-append h (trees_inside d.root t) (stream_trees ds ts) (low-node d.root t h k.0) (low-stream ds ts h k.1)
+
+-- low trees are not cut
+pub uncut : (ts : List Tree) → Low height_limit ts → map cut ts ≡ map height ts
+uncut [] k = refl
+uncut (t ∷ ts) k = let e : cut t ≡ height t = omega arith in λ z. e z ∷ uncut ts k.1 z
+
+pub all-low : (h : ℕ) (ts : List Tree) → Low h ts → All (λ t. height t ≤ h) ts
+all-low h [] k = λ i d l. absurd (omega arith)
+all-low h (t ∷ ts) k = λ i d l. low-at h t ts k i d l
+  where
+    low-at : (h : ℕ) (t : Tree) (ts : List Tree) → Low h (t ∷ ts) → (i : ℕ) (d : Tree) → i < length (t ∷ ts) → height (get_or (t ∷ ts) i d) ≤ h
+    low-at h t ts k zero d l = k.0
+    low-at h t [] k (suc i) d l = absurd (omega arith)
+    low-at h t (u ∷ ts) k (suc i) d l = low-at h u ts k.1 i d (omega arith)
+
+pub heights-low : (h : ℕ) (ts : List Tree) → Low h ts → All (λ n. n ≤ h) (map height ts)
+heights-low h [] k = λ i d l. absurd (omega arith)
+heights-low h (t ∷ ts) k = λ i d l. low-at h t ts k i d l
+  where
+    low-at : (h : ℕ) (t : Tree) (ts : List Tree) → Low h (t ∷ ts) → (i : ℕ) (d : ℕ) → i < length (map height (t ∷ ts)) → get_or (map height (t ∷ ts)) i d ≤ h
+    low-at h t ts k zero d l = k.0
+    low-at h t [] k (suc i) d l = absurd (omega arith)
+    low-at h t (u ∷ ts) k (suc i) d l = low-at h u ts k.1 i d (omega arith)

@@ -1,0 +1,108 @@
+-- The composer over a whole stream.
+use Rattle.std.proofs.Common.{drop, drop-cons, ◌⊎◌, inl, inr, ◌≡◌, ◌+◌, ◌<◌, ◌≤◌, ℕ, suc, Bool, List, [], ◌∷◌, length, map, get_or, refl, sym, ◌∙◌, ap, subst, add-one, Ok, Err}
+use Rattle.std.specs.Prelude.{Option, None, Some}
+use Rattle.std.proofs.lemmas.List.{drop_all}
+use Rattle.yaml_text.specs.Tree.{Tree}
+use Rattle.yaml_text.specs.Core.{Cause, undefined_alias, cyclic_alias, wrong_kind, bad_content, int_range, float_range}
+use Rattle.yaml_text.specs.Unfold.{Outcome, and_then, trees_of}
+use Rattle.yaml_text.specs.Marked.{Document, stream_events}
+use Rattle.yaml_text.specs.EventModel.{event_of}
+use Rattle.yaml_text.specs.declared.fault.Fault.{Fault}
+use Rattle.yaml_text.specs.declared.fault.Fault.TheVariants as faults
+use Rattle.yaml_text.specs.declared.event.Event as code
+use Rattle.yaml_text.specs.declared.event.Event.TheVariants as events
+use Rattle.yaml_graph.specs.Closing.{stream_trees}
+use Rattle.yaml_graph.specs.Composed.{Refuses, RefusesStream}
+use Rattle.yaml_graph.specs.Machine.{State, start, cleared, step, told, next, run}
+use Rattle.yaml_graph.specs.Machine as machine
+use Rattle.yaml_graph.specs.ComposerModel.{Holds, Reached}
+use Rattle.yaml_graph.specs.declared.composer.Composer.{Composer}
+use Rattle.yaml_graph.proofs.MachineLaws.{comes_to, with_all, run-stream}
+
+-- ---- one event
+
+pub took : (at : ℕ) (given is : code.Event) (s : State) (found o : Outcome State) → given ≡ is → step at (event_of given) s ≡ Some found → step at (event_of is) s ≡ Some o → found ≡ o
+took at given is s found o q e f = let g : Some found ≡ Some o = sym e ∙ (ap (λ v. step at (event_of v) s) q ∙ f) in cc
+
+pub taken : (at : ℕ) (given is : code.Event) (s : State) (found : Outcome State) → given ≡ is → step at (event_of given) s ≡ Some found → step at (event_of is) s ≡ Some found
+taken at given is s found q e = subst (λ v. step at (event_of v) s ≡ Some found) q e
+
+-- events that change nothing
+pub stays : (at : ℕ) (given : code.Event) (s : State) (found : Outcome State) (c : Composer) → ((x : Bool) × (given ≡ events.DocumentEnd x)) ⊎ ((given ≡ events.StreamStart) ⊎ (given ≡ events.StreamEnd))
+    → step at (event_of given) s ≡ Some found → Holds c s → Reached found c
+unfolding step
+stays at given s found c (inl w) e h = record { state = s; is = took at given (events.DocumentEnd w.0) s found (Ok s) w.1 e refl; holds = h }
+stays at given s found c (inr (inl q)) e h = record { state = s; is = took at given events.StreamStart s found (Ok s) q e refl; holds = h }
+stays at given s found c (inr (inr q)) e h = record { state = s; is = took at given events.StreamEnd s found (Ok s) q e refl; holds = h }
+
+-- a document begins
+abbrev pub fresh : State → State
+fresh s = record { inner = s.inner; outer = []; table = []; done = s.done }
+
+cleared-found : (s : State) (os : List machine.Open) (found : Outcome State) → s.outer ≡ os → cleared s os ≡ Some found → (s.outer ≡ []) × (found ≡ Ok (fresh s))
+cleared-found s [] found q e = (q, cc)
+cleared-found s (o ∷ os) found q e = absurd (cc)
+
+pub document-found : (at : ℕ) (given : code.Event) (b : Bool) (s : State) (found : Outcome State) → given ≡ events.DocumentStart b → step at (event_of given) s ≡ Some found → (s.outer ≡ []) × (found ≡ Ok (fresh s))
+unfolding step
+document-found at given b s found q e = cleared-found s s.outer found refl (taken at given (events.DocumentStart b) s found q e)
+
+-- ---- a whole stream
+
+-- what the steps come to tells the documents' trees: refused, or found with those of all nodes
+stream-refused : (ds : List Document) (o : Outcome (List Tree)) (x : Cause × ℕ) → Some (Err x) ≡ Some (and_then o (with_all [] [] ds)) → o ≡ Err x
+stream-refused ds (Err e) x h = cc
+stream-refused ds (Ok f) x h = absurd (cc)
+
+stream-found : (ds : List Document) (o : Outcome (List Tree)) (ts us : List Tree) → Some (Ok (ts, us)) ≡ Some (and_then o (with_all [] [] ds)) → (o ≡ Ok ts) × (us ≡ stream_trees ds ts)
+stream-found ds (Ok f) ts us h =
+    let given : List Tree × List Tree = (ts, us) in
+    let made : List Tree × List Tree = (f, stream_trees ds f) in
+    let q : given ≡ made = cc in
+    let roots : ts ≡ f = ap (λ p. p.0) q in
+    (ap Ok (sym roots), ap (λ p. p.1) q ∙ ap (stream_trees ds) (sym roots))
+stream-found ds (Err e) ts us h = absurd (cc)
+
+module _ (es : List code.Event) (ds : List Document) (cut : map event_of es ≡ stream_events ds) where
+  total-is : comes_to (run 0 (map event_of es) start) ≡ Some (and_then (trees_of ds) (with_all [] [] ds))
+  total-is = ap (λ x. comes_to (run 0 x start)) cut ∙ run-stream ds
+
+  -- what the step at this place comes to
+  pub record Stepped (at : ℕ) (e : code.Event) (s : State) : Type 0 where
+    pub found : Outcome State
+    pub is : step at (event_of e) s ≡ Some found
+    pub rest : told found (run (suc at) (map event_of (drop (suc at) es))) ≡ run 0 (map event_of es) start
+
+  stepped-by : (at : ℕ) (e : code.Event) (s : State) (o : Option (Outcome State)) → step at (event_of e) s ≡ o → next o (run (suc at) (map event_of (drop (suc at) es))) ≡ run 0 (map event_of es) start → Stepped at e s
+  stepped-by at e s None q h = let w : comes_to None ≡ Some (and_then (trees_of ds) (with_all [] [] ds)) = ap comes_to h ∙ total-is in absurd (cc)
+  stepped-by at e s (Some found) q h = record { found = found; is = q; rest = h }
+
+  pub stepped : (at : ℕ) (e : code.Event) (s : State) → e ≡ get_or es at e → at < length es → run at (map event_of (drop at es)) s ≡ run 0 (map event_of es) start → Stepped at e s
+  unfolding run
+  stepped at e s i l h =
+      let q : drop at es ≡ e ∷ drop (suc at) es = drop-cons es at e l ∙ ap (λ x. x ∷ drop (suc at) es) (sym i) in
+      stepped-by at e s (step at (event_of e) s) refl (ap (λ x. run at (map event_of x) s) (sym q) ∙ h)
+
+  pub goes-on : (at : ℕ) (e : code.Event) (s : State) (k : Stepped at e s) (c : Composer) (r : Reached k.found c) → run (at + 1) (map event_of (drop (at + 1) es)) r.state ≡ run 0 (map event_of es) start
+  goes-on at e s k c r = rw add-one (ap (λ o. told o (run (suc at) (map event_of (drop (suc at) es)))) (sym r.is) ∙ k.rest)
+
+  refused-by : (at : ℕ) (e : code.Event) (s : State) (k : Stepped at e s) (x : Cause × ℕ) → k.found ≡ Err x → trees_of ds ≡ Err x
+  refused-by at e s k x q =
+      stream-refused ds (trees_of ds) x (ap (λ o. comes_to (told o (run (suc at) (map event_of (drop (suc at) es))))) (sym q) ∙ (ap comes_to k.rest ∙ total-is))
+
+  pub refused : (at : ℕ) (e : code.Event) (s : State) (k : Stepped at e s) (f : Fault) → Refuses k.found f → RefusesStream ds f
+  refused at e s k (faults.UndefinedAlias n) h = refused-by at e s k (undefined_alias, n) h
+  refused at e s k (faults.CyclicAlias n) h = refused-by at e s k (cyclic_alias, n) h
+  refused at e s k (faults.WrongKind n) h = refused-by at e s k (wrong_kind, n) h
+  refused at e s k (faults.BadContent n) h = refused-by at e s k (bad_content, n) h
+  refused at e s k (faults.IntRange n) h = refused-by at e s k (int_range, n) h
+  refused at e s k (faults.FloatRange n) h = refused-by at e s k (float_range, n) h
+  refused at e s k faults.OutOfMemory h = tt
+  refused at e s k _ h = absurd h
+
+  -- the roots that stand at last are the documents' trees, and the nodes are all of their own
+  pub ended : (at : ℕ) (s : State) → length es ≤ at → run at (map event_of (drop at es)) s ≡ run 0 (map event_of es) start → (trees_of ds ≡ Ok s.inner) × (s.done ≡ stream_trees ds s.inner)
+  unfolding run
+  ended at s l q =
+      let e : Some (Ok (s.inner, s.done)) ≡ Some (and_then (trees_of ds) (with_all [] [] ds)) = ap (λ x. comes_to (run at (map event_of x) s)) (sym (drop_all at es l)) ∙ (ap comes_to q ∙ total-is) in
+      stream-found ds (trees_of ds) s.inner s.done e

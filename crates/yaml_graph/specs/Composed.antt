@@ -1,0 +1,57 @@
+-- What the composer takes and answers.
+use Rattle.std.specs.Prelude.{◌≡◌, ℕ, ◌<◌, ◌≤◌, List, map, Some, Ok, Err}
+use Rattle.std.specs.List.{slice_get, All}
+use Rattle.yaml_text.specs.Limits.{height_limit}
+use Rattle.yaml_text.specs.Tree.{Tree, height}
+use Rattle.yaml_text.specs.Marked.{Document, stream_events}
+use Rattle.yaml_text.specs.Core.{undefined_alias, cyclic_alias, wrong_kind, bad_content, int_range, float_range}
+use Rattle.yaml_text.specs.Unfold.{Outcome, trees_of}
+use Rattle.yaml_text.specs.EventModel.{event_of}
+use Rattle.yaml_text.specs.declared.event.Event as code
+use Rattle.yaml_text.specs.declared.fault.Fault.{Fault}
+use Rattle.yaml_text.specs.declared.fault.Fault.TheVariants.{UndefinedAlias, CyclicAlias, WrongKind, BadContent, IntRange, FloatRange, TooHigh, OutOfMemory}
+use Rattle.yaml_graph.specs.Closing.{stream_trees}
+use Rattle.yaml_graph.specs.GraphView as graph
+use Rattle.yaml_graph.specs.declared.graph.Graph.{Graph}
+
+-- the events are those of some documents
+pub record Composable (events : List code.Event) : Type 0 where
+  pub documents : List Document
+  pub cut : map event_of events ≡ stream_events documents
+
+-- no tree is higher than the limit
+abbrev pub AreLow : List Tree → Type 0
+AreLow f = All (λ t. height t ≤ height_limit) f
+
+-- The documents unfold to these trees, for which the graph's roots stand; and its nodes, in order, stand for the trees of the documents' own nodes in the order in which they close.
+pub record Composed (ds : List Document) (g : Graph) : Type 0 where
+  pub trees : List Tree
+  pub unfolded : trees_of ds ≡ Ok trees
+  pub low : AreLow trees
+  pub roots : graph.forest g ≡ trees
+  pub nodes : graph.trees_of g ≡ stream_trees ds trees
+
+-- the documents unfold, and the tree of this one is the first that is higher than the limit
+pub record IsFirstHigh (ds : List Document) (number : ℕ) : Type 0 where
+  pub trees : List Tree
+  pub unfolded : trees_of ds ≡ Ok trees
+  pub tree : Tree
+  pub is : slice_get trees number ≡ Some tree
+  pub high : height_limit < height tree
+  pub before : (k : ℕ) (t : Tree) → k < number → slice_get trees k ≡ Some t → height t ≤ height_limit
+
+-- What was found is this fault, at the same event. Memory may be refused at any time.
+abbrev pub Refuses : {X : Type 0} → Outcome X → Fault → Type 0
+Refuses found (UndefinedAlias event) = found ≡ Err (undefined_alias, event)
+Refuses found (CyclicAlias event) = found ≡ Err (cyclic_alias, event)
+Refuses found (WrongKind event) = found ≡ Err (wrong_kind, event)
+Refuses found (BadContent event) = found ≡ Err (bad_content, event)
+Refuses found (IntRange event) = found ≡ Err (int_range, event)
+Refuses found (FloatRange event) = found ≡ Err (float_range, event)
+Refuses found OutOfMemory = Unit {0}
+Refuses found _ = ⊥
+
+-- the documents do not unfold, or one of their trees is too high
+abbrev pub RefusesStream : List Document → Fault → Type 0
+RefusesStream ds (TooHigh document) = IsFirstHigh ds document
+RefusesStream ds fault = Refuses (trees_of ds) fault

@@ -1,0 +1,8 @@
+pub mod TreeLists
+pub mod GraphModel
+pub mod GraphView
+pub mod JoinModel
+pub mod Closing
+pub mod Composed
+pub mod Machine
+pub mod ComposerModel

@@ -1,0 +1,271 @@
+//! One pass over a stream's events, which numbers its nodes and puts aliases in place.
+ghost use Rattle.std.specs.Prelude.{◌≡◌, ◌<◌, ℕ, List, length, map, Some, Ok, IfOk, IfErr, MatchResult};
+ghost use Rattle.std.specs.List.{All};
+ghost use Rattle.std.specs.Cow.{cow_str_bytes};
+ghost use Rattle.std.specs.Option.{option_map, IfSome};
+ghost use Rattle.yaml_core.specs.Answer.{RefusesScalar};
+ghost use Rattle.yaml_text.specs.Event.{Anchor};
+ghost use Rattle.yaml_text.specs.Core.{Resolved, resolve, collection_tag};
+ghost use Rattle.yaml_text.specs.Unfold.{Outcome, and_then, placed, tree_named, last_named};
+ghost use Rattle.yaml_text.specs.EventModel.{event_of, written_of, style_of};
+ghost use Rattle.yaml_graph.specs.GraphModel.{node_tree, trees_in, PartsBelow};
+ghost use Rattle.yaml_graph.specs.Composed.{Refuses};
+ghost use Rattle.yaml_graph.specs.Machine.{State, start, begun, whole, entered, left, added, step, scalar_added};
+ghost use Rattle.yaml_graph.specs.Machine.{paired as pairs_of};
+ghost use Rattle.yaml_graph.specs.ComposerModel.{is_mapping, kind_number, anchor_text, names_of, Placed, Collects, Holds, Reached};
+ghost use Rattle.yaml_graph.specs.declared.node.Node.{Node};
+ghost use Rattle.yaml_graph.specs.declared.node.NodeId.{NodeId};
+
+use crate::height;
+use crate::node::{Node, NodeId, NodeKind};
+use crate::tag::Collection;
+use std::alloc::Global;
+use std::borrow::CowStr;
+use std::collections::BTreeMap;
+use std::mem;
+use yaml_core::scalar::{CoreFault, resolve};
+use yaml_text::event::{Event, EventTag, Style};
+use yaml_text::fault::Fault;
+
+/// A collection that is still open.
+#[derive(Drop)]
+pub(crate) struct Open<'a> {
+    /// Its place among the anchored nodes, if it has an anchor.
+    place: Option<usize>,
+    tag: &'a str,
+    /// The nodes that stand before it in its parent.
+    before: Vec<NodeId>,
+}
+
+#[derive(Drop)]
+pub(crate) struct Composer<'a> {
+    pub(crate) nodes: Vec<Node<'a>>,
+    /// The nodes' heights, cut just above the limit.
+    pub(crate) heights: Vec<u32>,
+    /// For each name of an anchor of this document, the place of the last node that has it.
+    names: BTreeMap<&'a str, usize>,
+    /// The nodes of this document that have anchors, in the order in which they begin; none where
+    /// the node is still open.
+    anchored: Vec<Option<NodeId>>,
+    outer: Vec<Open<'a>>,
+    /// The whole nodes of the innermost open collection. Where none is open, the roots.
+    pub(crate) inner: Vec<NodeId>,
+}
+
+impl<'a> Composer<'a> {
+    pub(crate) fn new(alloc: Global) -> Composer<'a>
+        ensures { Holds result start }
+    {
+        Composer {
+            nodes: Vec::new(alloc),
+            heights: Vec::new(alloc),
+            names: BTreeMap::new(alloc),
+            anchored: Vec::new(alloc),
+            outer: Vec::new(alloc),
+            inner: Vec::new(alloc),
+        }
+    }
+
+    /// Notes that a node begins, and gives its place among the anchored ones.
+    fn begin(&mut self, anchor: Option<&'a str>) -> Result<Option<usize>, Fault>
+        ensures ok { (s : State) → Holds self.old s → IfOk result (λ place. Placed (names_of (begun (anchor_text anchor.entry) s).table) place (anchor_text anchor.entry) (length s.table) × Holds self.new (begun (anchor_text anchor.entry) s)) }
+        ensures err { IfErr result (λ fault. fault ≡ Fault.OutOfMemory) }
+    {
+        let Some(name) = anchor else {
+            return Ok(None);
+        };
+        let place = self.anchored.len();
+        self.anchored.push(None)?;
+        self.names.insert(name, place)?;
+        Ok(Some(place))
+    }
+
+    /// Adds a whole node, with its place among the anchored ones.
+    fn add(&mut self, place: Option<usize>, node: Node<'a>) -> Result<(), Fault>
+        requires below { PartsBelow (length self.old.nodes.items) node.kind }
+        requires within { IfSome place (λ i. i < length self.old.anchored.items) }
+        requires held { (s : State) × Holds self.old s }
+        ensures ok { (s : State) → Holds self.old s → (a : Anchor) (slot : ℕ) → Placed (names_of s.table) place a slot → IfOk result (λ _. Holds self.new (whole a slot (node_tree (trees_in self.old.nodes.items) node.entry) s)) }
+        ensures err { IfErr result (λ fault. fault ≡ Fault.OutOfMemory) }
+    {
+        let id = NodeId(self.nodes.len());
+        let height = height::of_kind(&self.heights, &node.kind);
+        self.nodes.push(node)?;
+        self.heights.push(height)?;
+        self.inner.push(id)?;
+        if let Some(place) = place {
+            self.anchored[place] = Some(id);
+        }
+        Ok(())
+    }
+
+    /// The event at `at` is a scalar.
+    fn scalar(
+        &mut self,
+        alloc: Global,
+        at: usize,
+        anchor: Option<&'a str>,
+        tag: &'a EventTag<'_>,
+        style: Style,
+        text: &'a str,
+    ) -> Result<(), Fault>
+        requires { (s : State) × Holds self.old s }
+        ensures { (s : State) → Holds self.old s →
+            let found = and_then (placed at (resolve (written_of tag.now) (style_of style) text.now)) (scalar_added (anchor_text anchor.entry) s) in
+            MatchResult result (λ _. Reached found self.new) (Refuses found) }
+    {
+        match resolve(alloc, tag, style, text) {
+            Ok(scalar) => {
+                let place = self.begin(anchor)?;
+                let kind = NodeKind::Scalar(scalar.content);
+                self.add(
+                    place,
+                    Node {
+                        tag: scalar.tag,
+                        kind,
+                    },
+                )
+            }
+            Err(fault) => Err(fault_at(at, fault)),
+        }
+    }
+
+    /// A collection begins at the event at `at`.
+    fn enter(
+        &mut self,
+        alloc: Global,
+        at: usize,
+        collection: Collection,
+        anchor: Option<&'a str>,
+        tag: &'a EventTag<'_>,
+    ) -> Result<(), Fault>
+        ensures { (s : State) → Holds self.old s →
+            let found = and_then (placed at (collection_tag (kind_number collection) (written_of tag.now))) (λ h. Ok (entered (anchor_text anchor.entry) s h)) in
+            MatchResult result (λ _. Reached found self.new) (Refuses found) }
+    {
+        let tag = collection.tag(at, tag)?;
+        let place = self.begin(anchor)?;
+        let before = mem::replace(&mut self.inner, Vec::new(alloc));
+        self.outer.push(Open { place, tag, before })?;
+        Ok(())
+    }
+
+    /// The innermost collection ends.
+    fn leave(&mut self, alloc: Global, collection: Collection) -> Result<(), Fault>
+        requires { (s : State) × Holds self.old s }
+        ensures ok { (s : State) → Holds self.old s → (found : Outcome State) → left (is_mapping collection) s s.outer ≡ Some found → IfOk result (λ _. Reached found self.new) }
+        ensures err { IfErr result (λ fault. fault ≡ Fault.OutOfMemory) }
+    {
+        if let Some(open) = self.outer.pop() {
+            let parts = mem::replace(&mut self.inner, open.before);
+            let kind = kind_of(alloc, collection, parts)?;
+            let tag = CowStr::Borrowed(open.tag);
+            self.add(open.place, Node { tag, kind })?;
+        }
+        Ok(())
+    }
+
+    /// The event at `at` is an alias.
+    fn alias(&mut self, at: usize, name: &str) -> Result<(), Fault>
+        requires { (s : State) × Holds self.old s }
+        ensures { (s : State) → Holds self.old s →
+            let found = and_then (placed at (tree_named (last_named name.now s.table))) (added s) in
+            MatchResult result (λ _. Reached found self.new) (Refuses found) }
+    {
+        let Some(place) = self.names.get(name).copied() else {
+            return Err(Fault::UndefinedAlias(at));
+        };
+        let Some(node) = self.anchored[place] else {
+            return Err(Fault::CyclicAlias(at));
+        };
+        self.inner.push(node)?;
+        Ok(())
+    }
+
+    /// Takes the event at `at`.
+    pub(crate) fn take(
+        &mut self,
+        alloc: Global,
+        at: usize,
+        event: &'a Event<'_>,
+    ) -> Result<(), Fault>
+        requires { (s : State) × Holds self.old s }
+        ensures { (s : State) → Holds self.old s → (found : Outcome State) → step at (event_of event.now) s ≡ Some found →
+            MatchResult result (λ _. Reached found self.new) (Refuses found) }
+    {
+        match event {
+            Event::Scalar {
+                anchor,
+                tag,
+                style,
+                text,
+            } => self.scalar(alloc, at, name_of(anchor), tag, *style, text.as_str()),
+            Event::Alias { name } => self.alias(at, name.as_str()),
+            Event::SequenceStart { anchor, tag, .. } => {
+                self.enter(alloc, at, Collection::Sequence, name_of(anchor), tag)
+            }
+            Event::MappingStart { anchor, tag, .. } => {
+                self.enter(alloc, at, Collection::Mapping, name_of(anchor), tag)
+            }
+            Event::SequenceEnd => self.leave(alloc, Collection::Sequence),
+            Event::MappingEnd => self.leave(alloc, Collection::Mapping),
+            Event::DocumentStart { .. } => {
+                self.names.clear();
+                self.anchored.clear();
+                Ok(())
+            }
+            Event::DocumentEnd { .. } | Event::StreamStart | Event::StreamEnd => Ok(()),
+        }
+    }
+}
+
+/// The fault of the scalar at this event.
+fn fault_at(at: usize, fault: CoreFault) -> Fault
+    ensures { (found : Resolved) → RefusesScalar found fault → Refuses (placed at found) result }
+{
+    match fault {
+        CoreFault::WrongKind => Fault::WrongKind(at),
+        CoreFault::BadContent => Fault::BadContent(at),
+        CoreFault::IntRange => Fault::IntRange(at),
+        CoreFault::FloatRange => Fault::FloatRange(at),
+        CoreFault::OutOfMemory => Fault::OutOfMemory,
+    }
+}
+
+/// The collection of these parts, which for a mapping are keys and values in turn.
+fn kind_of<'a>(
+    alloc: Global,
+    collection: Collection,
+    parts: Vec<NodeId>,
+) -> Result<NodeKind<'a>, Fault>
+    ensures ok { (nodes : List Node) → All (λ i. i.0 < length nodes) parts.items → IfOk result (Collects nodes (is_mapping collection) parts.items) }
+    ensures err { IfErr result (λ fault. fault ≡ Fault.OutOfMemory) }
+{
+    match collection {
+        Collection::Sequence => Ok(NodeKind::Sequence(parts)),
+        Collection::Mapping => Ok(NodeKind::Mapping(paired(alloc, &parts)?)),
+    }
+}
+
+/// Keys and values in turn, as pairs.
+fn paired(alloc: Global, parts: &[NodeId]) -> Result<Vec<(NodeId, NodeId)>, Fault>
+    ensures ok { IfOk result (λ entries. entries.items ≡ pairs_of parts.now) }
+    ensures err { IfErr result (λ fault. fault ≡ Fault.OutOfMemory) }
+{
+    let mut entries = Vec::with_capacity(alloc, parts.len() / 2)?;
+    let mut left = parts;
+    while let [key, value, rest @ ..] = left {
+        entries.push((*key, *value))?;
+        left = rest;
+    }
+    Ok(entries)
+}
+
+fn name_of<'a>(anchor: &'a Option<CowStr<'_>>) -> Option<&'a str>
+    ensures { anchor_text result ≡ option_map cow_str_bytes anchor.now }
+{
+    match anchor {
+        None => None,
+        Some(name) => Some(name.as_str()),
+    }
+}

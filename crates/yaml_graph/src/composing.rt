@@ -1,0 +1,53 @@
+//! From the events of a stream to its graph.
+ghost use Rattle.std.specs.Prelude.{◌≡◌, ◌<◌, List, length, map, MatchOption, MatchResult};
+ghost use Rattle.std.specs.List.{All};
+ghost use Rattle.yaml_text.specs.Marked.{Document, stream_events};
+ghost use Rattle.yaml_text.specs.EventModel.{event_of};
+ghost use Rattle.yaml_graph.specs.Composed.{Composable, Composed, RefusesStream};
+ghost use Rattle.yaml_graph.specs.ComposerModel.{AllBelow, IsFirstAbove};
+
+use crate::composer::Composer;
+use crate::graph::Graph;
+use crate::node::NodeId;
+use std::alloc::Global;
+use yaml_text::event::Event;
+use yaml_text::fault::Fault;
+use yaml_text::limits::height_limit;
+
+/// The first of these nodes that is higher than the limit.
+fn first_too_high(heights: &[u32], roots: &[NodeId]) -> Option<usize>
+    requires { All (λ i. i.0 < length heights.now) roots.now }
+    ensures { MatchOption result (AllBelow heights.now roots.now) (IsFirstAbove heights.now roots.now) }
+{
+    for (document, root) in roots.iter().enumerate() {
+        if heights[root.0] as usize > height_limit() {
+            return Some(document);
+        }
+    }
+    None
+}
+
+/// The graph of a stream's events, which are those of some documents, well nested. Nodes are
+/// numbered in the order in which they close. Texts and tags are borrowed from the events.
+///
+/// Refused are, at the first event of which one is true: an alias that no node before it in its
+/// document is named for (12) or whose node is still open (13), a core tag on another kind of node
+/// (14), a text that a written core tag does not match (15), and an int (16) or a float (17) out of
+/// range. Then the first document whose tree is higher than the limit (18).
+pub fn compose<'a>(alloc: Global, events: &'a [Event<'_>]) -> Result<Graph<'a>, Fault>
+    requires { Composable events.now }
+    ensures { (ds : List Document) → map event_of events.now ≡ stream_events ds → MatchResult result (Composed ds) (RefusesStream ds) }
+{
+    let mut composer = Composer::new(alloc);
+    for (at, event) in events.iter().enumerate() {
+        composer.take(alloc, at, event)?;
+    }
+    if let Some(document) = first_too_high(&composer.heights, &composer.inner) {
+        return Err(Fault::TooHigh(document));
+    }
+    Ok(Graph {
+        nodes: composer.nodes,
+        heights: composer.heights,
+        roots: composer.inner,
+    })
+}

@@ -1,0 +1,15 @@
+//! Graphs: the nodes of a stream, each of which stands for its unfolded tree.
+#![tactic(auto)]
+
+mod composer;
+pub mod composing;
+pub mod graph;
+mod height;
+pub mod joining;
+pub mod node;
+mod tag;
+
+pub use composing::compose;
+pub use graph::Graph;
+pub use joining::join;
+pub use node::{Node, NodeId, NodeKind};

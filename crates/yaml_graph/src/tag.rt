@@ -1,0 +1,63 @@
+//! Tags of collections.
+ghost use Rattle.std.specs.Prelude.{MatchResult, Ok, Err, ◌≡◌, true, length};
+ghost use Rattle.yaml_text.specs.Tag.{default_tag, is_core};
+ghost use Rattle.yaml_text.specs.Core.{collection_tag};
+ghost use Rattle.yaml_text.specs.Unfold.{placed};
+ghost use Rattle.yaml_text.specs.EventModel.{written_of};
+ghost use Rattle.yaml_graph.specs.Composed.{Refuses};
+ghost use Rattle.yaml_graph.specs.ComposerModel.{kind_number};
+
+use yaml_text::event::EventTag;
+use yaml_text::fault::Fault;
+
+/// A kind of collection.
+#[derive(Clone, Copy)]
+pub(crate) enum Collection {
+    Sequence,
+    Mapping,
+}
+
+/// Whether this is a tag of the core schema.
+#[tactic(auto, unfolding(yaml_text::specs::Tag::core_tag))]
+fn is_core(tag: &str) -> bool
+    ensures { result ≡ is_core tag.now }
+{
+    matches!(
+        tag,
+        "tag:yaml.org,2002:null"
+            | "tag:yaml.org,2002:bool"
+            | "tag:yaml.org,2002:int"
+            | "tag:yaml.org,2002:float"
+            | "tag:yaml.org,2002:str"
+            | "tag:yaml.org,2002:seq"
+            | "tag:yaml.org,2002:map"
+    )
+}
+
+impl Collection {
+    /// The tag of a collection that carries none.
+    #[tactic(auto, unfolding(yaml_text::specs::Tag::core_tag))]
+    fn default_tag(self) -> &'static str
+        ensures { result.now ≡ default_tag (kind_number self) }
+    {
+        match self {
+            Collection::Sequence => "tag:yaml.org,2002:seq",
+            Collection::Mapping => "tag:yaml.org,2002:map",
+        }
+    }
+
+    /// The tag of the collection that begins at the event at `at`.
+    #[tactic(auto, unfolding(yaml_text::specs::Core::collection_tag))]
+    pub(crate) fn tag<'a>(self, at: usize, tag: &'a EventTag<'_>) -> Result<&'a str, Fault>
+        ensures { MatchResult result (λ text. collection_tag (kind_number self) (written_of tag.now) ≡ Ok text.now) (Refuses (placed at (collection_tag (kind_number self) (written_of tag.now)))) }
+    {
+        let EventTag::Full(full) = tag else {
+            return Ok(self.default_tag());
+        };
+        let text = full.as_str();
+        if text != self.default_tag() && is_core(text) {
+            return Err(Fault::WrongKind(at));
+        }
+        Ok(text)
+    }
+}

@@ -1,0 +1,12 @@
+pub mod NameLemmas
+pub mod CommentLemmas
+pub mod HandleLemmas
+pub mod UriLemmas
+pub mod DecodeLemmas
+pub mod TagLemmas
+pub mod AsciiLemmas
+pub mod DirectiveLemmas
+pub mod LineEndLemmas
+pub mod BodyLemmas
+pub mod DirectivesLemmas
+pub mod RefusalLemmas

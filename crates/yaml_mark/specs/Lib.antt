@@ -1,0 +1,5 @@
+pub mod Answer
+pub mod HandlesModel
+pub mod Classes
+pub mod Parts
+pub mod DirectiveParts

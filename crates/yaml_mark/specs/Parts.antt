@@ -1,0 +1,22 @@
+-- Parts of the productions that a function of the code reads.
+use Rattle.std.specs.Prelude.{◌≡◌, ℕ, ◌⊎◌, Bool, List}
+use Rattle.std.specs.Char.{is_ascii_hexdigit}
+use Rattle.yaml_text.specs.grammar.Rules.{Span, ◌◆◌, ◌⊔◌, chr, one, run}
+use Rattle.yaml_text.specs.grammar.Characters.{is_word}
+
+module _ (cs : List ℕ) where
+  -- what an anchor or an alias begins with
+  unfoldable pub sign : Span
+  sign = chr cs 38 ⊔ chr cs 42
+
+  -- `%` and two hexadecimal digits
+  unfoldable pub escape : Span
+  escape = chr cs 37 ◆ one cs is_ascii_hexdigit ◆ one cs is_ascii_hexdigit
+
+  -- a character that passes the test, or an escape: `uri_char` and `tag_char` are of this form
+  unfoldable pub escaped : (ℕ → Bool) → Span
+  escaped p = one cs p ⊔ escape
+
+  -- the rest of a handle after its `!`: a word and `!`, wherever these stand
+  unfoldable pub handle_rest : Span
+  handle_rest i j = (run cs is_word ◆ chr cs 33) i j ⊎ ((j ≡ i) × ((k : ℕ) → (run cs is_word ◆ chr cs 33) i k → ⊥))

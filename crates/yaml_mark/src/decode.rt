@@ -1,0 +1,61 @@
+//! Tags decoded (YAML 1.2.2, 5.6 and 6.9.1).
+ghost use Rattle.std.specs.Prelude.{◌≡◌, ◌++◌, IfOk, IfErr, string_bytes};
+ghost use Rattle.std.specs.Option.{option_map};
+ghost use Rattle.std.specs.Cow.{cow_str_bytes};
+ghost use Rattle.yaml_text.specs.Event.{full};
+ghost use Rattle.yaml_text.specs.Tag.{is_full};
+ghost use Rattle.yaml_text.specs.grammar.Tags.{decoded};
+ghost use Rattle.yaml_text.specs.declared.fault.Fault.TheVariants as fault;
+
+use percent_encoding::{DecodeError, percent_decode_str};
+use std::alloc::Global;
+use std::borrow::CowStr;
+use yaml_text::fault::Fault;
+use yaml_text::limits::tag_limit;
+
+/// Whether a decoded text is a tag: neither empty nor too long nor `!`.
+#[tactic(auto, unfolding(yaml_text::specs::Tag::is_full))]
+fn is_tag(text: &str) -> bool
+    ensures { result ≡ is_full text.now }
+{
+    let longest = tag_limit();
+    if text.is_empty() {
+        return false;
+    }
+    if text.len() > longest {
+        return false;
+    }
+    text != "!"
+}
+
+/// The tag of a text, decoded once. A text without escapes is its own tag.
+pub(crate) fn decode<'a>(alloc: Global, text: &'a str) -> Result<Option<CowStr<'a>>, Fault>
+    ensures ok { IfOk result (λ tag. option_map (λ t. full (cow_str_bytes t)) tag ≡ decoded text.now) }
+    ensures err { IfErr result (λ e. e ≡ fault.OutOfMemory) }
+{
+    match percent_decode_str(text).decode_utf8(alloc) {
+        Ok(tag) => {
+            if is_tag(tag.as_str()) {
+                Ok(Some(tag))
+            } else {
+                Ok(None)
+            }
+        }
+        Err(DecodeError::Utf8(_)) => Ok(None),
+        Err(DecodeError::OutOfMemory) => Err(Fault::OutOfMemory),
+    }
+}
+
+/// The tag of a prefix and a suffix, decoded once they are joined.
+pub(crate) fn join(alloc: Global, prefix: &str, suffix: &str) -> Result<Option<String>, Fault>
+    ensures ok { IfOk result (λ tag. option_map (λ t. full (string_bytes t)) tag ≡ decoded (prefix.now ++ suffix.now)) }
+    ensures err { IfErr result (λ e. e ≡ fault.OutOfMemory) }
+{
+    let mut text = String::new(alloc);
+    text.push_str(prefix)?;
+    text.push_str(suffix)?;
+    match decode(alloc, text.as_str())? {
+        None => Ok(None),
+        Some(tag) => Ok(Some(tag.into_owned(alloc)?)),
+    }
+}

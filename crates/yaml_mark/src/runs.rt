@@ -1,0 +1,155 @@
+//! Runs of characters of one class.
+ghost use Rattle.std.specs.Prelude.{◌≡◌, ◌≤◌, ◌<◌, IfSome, IfNone, ℕ};
+ghost use Rattle.std.specs.Bool.{OnTrue, OnFalse};
+ghost use Rattle.yaml_text.specs.Source.{text_of, place_of, IsBorder};
+ghost use Rattle.yaml_text.specs.grammar.Rules.{run, Stands, one, any_span};
+ghost use Rattle.std.specs.Char.{is_ascii_hexdigit};
+ghost use Rattle.yaml_mark.specs.Classes.{class_of};
+ghost use Rattle.yaml_mark.specs.Parts.{escape, escaped};
+
+use yaml_text::chars::Chars;
+use yaml_text::class::{is_flow_indicator, is_ns, is_uri, is_word};
+use yaml_text::places::{accept, next};
+
+/// A class of characters that runs are made of.
+#[derive(Clone, Copy)]
+pub(crate) enum Class {
+    /// No white and no break (5.5).
+    Solid,
+    /// The same, but no flow indicator either (6.9.2).
+    Name,
+    /// An ASCII letter, a digit or `-` (5.6).
+    Word,
+    /// What stands for itself in a URI.
+    Uri,
+    /// The same, but no `!` and no flow indicator.
+    Tag,
+}
+
+impl Class {
+    #[tactic(auto, unfolding(yaml_text::specs::grammar::Tags::is_name, yaml_text::specs::grammar::Characters::is_tag))]
+    fn has(self, c: char) -> bool
+        ensures { result ≡ class_of self c }
+    {
+        match self {
+            Class::Solid => is_ns(c),
+            Class::Name => is_ns(c) && !is_flow_indicator(c),
+            Class::Word => is_word(c),
+            Class::Uri => is_uri(c),
+            Class::Tag => is_uri(c) && c != '!' && !is_flow_indicator(c),
+        }
+    }
+}
+
+/// The border after the characters of a class that stand at a border.
+pub(crate) fn skip_run(source: &Chars<'_>, at: usize, class: Class) -> usize
+    requires { IsBorder source.now at }
+    ensures border { IsBorder source.now result }
+    ensures onward { at ≤ result }
+    ensures run { run (text_of source.now) (class_of class) (place_of source.now at) (place_of source.now result) }
+    ensures furthest { Stands (text_of source.now) (class_of class) (place_of source.now result) → ⊥ }
+{
+    let mut here = at;
+    'run: loop {
+        match next(source, here) {
+            None => return here,
+            Some((c, to)) => {
+                if !class.has(c) {
+                    return here;
+                }
+                here = to;
+            }
+        }
+    }
+}
+
+/// Whether a character of a class stands at a border.
+pub(crate) fn stands(source: &Chars<'_>, at: usize, class: Class) -> bool
+    requires { IsBorder source.now at }
+    ensures yes { OnTrue result (Stands (text_of source.now) (class_of class) (place_of source.now at)) }
+    ensures no { OnFalse result (Stands (text_of source.now) (class_of class) (place_of source.now at) → ⊥) }
+{
+    match next(source, at) {
+        None => false,
+        Some((c, _)) => class.has(c),
+    }
+}
+
+/// The border after the hexadecimal digit that stands at a border.
+fn next_digit(source: &Chars<'_>, at: usize) -> Option<usize>
+    requires { IsBorder source.now at }
+    ensures border { IfSome result (λ to. IsBorder source.now to) }
+    ensures onward { IfSome result (λ to. at < to) }
+    ensures some { IfSome result (λ to. one (text_of source.now) is_ascii_hexdigit (place_of source.now at) (place_of source.now to)) }
+    ensures none { IfNone result (Stands (text_of source.now) is_ascii_hexdigit (place_of source.now at) → ⊥) }
+{
+    match next(source, at) {
+        None => None,
+        Some((c, to)) => {
+            if c.is_ascii_hexdigit() {
+                Some(to)
+            } else {
+                None
+            }
+        }
+    }
+}
+
+/// The border after the `%` and the two digits that stand at a border.
+fn next_escape(source: &Chars<'_>, at: usize) -> Option<usize>
+    requires { IsBorder source.now at }
+    ensures border { IfSome result (λ to. IsBorder source.now to) }
+    ensures onward { IfSome result (λ to. at < to) }
+    ensures some { IfSome result (λ to. escape (text_of source.now) (place_of source.now at) (place_of source.now to)) }
+    ensures none { IfNone result ((j : ℕ) → escape (text_of source.now) (place_of source.now at) j → ⊥) }
+{
+    match accept(source, at, '%') {
+        None => None,
+        Some(high) => match next_digit(source, high) {
+            None => None,
+            Some(low) => match next_digit(source, low) {
+                None => None,
+                Some(to) => Some(to),
+            },
+        },
+    }
+}
+
+/// The border after the character of a class, or the escape, that stands at a border.
+pub(crate) fn next_escaped(source: &Chars<'_>, at: usize, class: Class) -> Option<usize>
+    requires { IsBorder source.now at }
+    ensures border { IfSome result (λ to. IsBorder source.now to) }
+    ensures onward { IfSome result (λ to. at < to) }
+    ensures some { IfSome result (λ to. escaped (text_of source.now) (class_of class) (place_of source.now at) (place_of source.now to)) }
+    ensures none { IfNone result ((j : ℕ) → escaped (text_of source.now) (class_of class) (place_of source.now at) j → ⊥) }
+{
+    match next(source, at) {
+        None => None,
+        Some((c, to)) => {
+            if class.has(c) {
+                return Some(to);
+            }
+            match next_escape(source, at) {
+                None => None,
+                Some(after) => Some(after),
+            }
+        }
+    }
+}
+
+/// The border after the characters of a class and the escapes that stand at a border.
+pub(crate) fn skip_escaped(source: &Chars<'_>, at: usize, class: Class) -> usize
+    requires { IsBorder source.now at }
+    ensures border { IsBorder source.now result }
+    ensures onward { at ≤ result }
+    ensures spans { any_span (escaped (text_of source.now) (class_of class)) (place_of source.now at) (place_of source.now result) }
+    ensures furthest { (j : ℕ) → escaped (text_of source.now) (class_of class) (place_of source.now result) j → ⊥ }
+{
+    let mut here = at;
+    'run: loop {
+        match next_escaped(source, here, class) {
+            None => return here,
+            Some(to) => here = to,
+        }
+    }
+}

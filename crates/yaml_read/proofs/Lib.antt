@@ -1,0 +1,2 @@
+mod SofarLaws
+mod StreamLemmas

@@ -1,0 +1,72 @@
+-- From where a reader stands to documents and streams.
+use Rattle.std.proofs.Common.{◌≡◌, ℕ, ◌+◌, inl, inr, Some, List, [], ◌∷◌, true, refl, sym, subst}
+use Rattle.std.specs.Prelude.{slice_get}
+use Rattle.yaml_text.specs.Limits.{open_limit}
+use Rattle.yaml_text.specs.Event.{Event, document_start}
+use Rattle.yaml_text.specs.grammar.Rules.{any_span, Spans, Rule, seen}
+use Rattle.yaml_text.specs.grammar.Separation.{StartsLine, AtEnd, MarkOf, l_comment, s_l_comments, s_b_comment}
+use Rattle.yaml_text.specs.grammar.Tags.{Handles}
+use Rattle.yaml_text.specs.grammar.Directives.{directives}
+use Rattle.yaml_text.specs.grammar.Calls.{read_directives}
+use Rattle.yaml_text.specs.grammar.Streams.{document_mark, explicit_document, directive_document, suffix, suffix_piece}
+use Rattle.yaml_text.specs.Lines.{AfterLine}
+use Rattle.yaml_text.proofs.LineRuns.{line_end_after}
+use Rattle.yaml_text.specs.declared.fault.Fault.{Fault}
+use Rattle.yaml_text.specs.declared.fault.Fault.TheVariants as fault
+use Rattle.yaml_mark.specs.Answer.{DirectivesRefuse}
+use Rattle.yaml_flow.specs.Answer.{IsRefusal, Appends}
+use Rattle.yaml_flow.proofs.AnswerLemmas.{adds_on}
+use Rattle.yaml_text.specs.EventModel.{Adds}
+use Rattle.yaml_text.specs.declared.event.Event as code
+use Rattle.std.specs.Prelude.{Result, Ok, Err}
+use Rattle.yaml_read.specs.StreamRules.{opened_by_mark, opened_by_directives}
+
+-- an event that was put down before what a call puts down
+pub appends_after : {X : Type 0} (R : X → Rule (List Event)) (v : Event) (i : ℕ) (end : X → ℕ) (old mid new : List code.Event) (r : Result X Fault) → Adds old (v ∷ []) mid →
+    Appends R i end mid new r → Appends (λ x. seen (λ es. v ∷ es) (R x)) i end old new r
+appends_after R v i end old mid new (Ok x) first (es, a, p) = (v ∷ es, adds_on old mid new (v ∷ []) es first a, (es, p, refl))
+appends_after R v i end old mid new (Err e) first a = a
+
+-- the faults of directives are faults of the reader
+pub directives_refusal : (P : Type 0) (e : Fault) → DirectivesRefuse e P → IsRefusal e
+directives_refusal P (fault.Syntax at) p = tt
+directives_refusal P (fault.Tab at) p = tt
+directives_refusal P (fault.BadDirective at) p = tt
+directives_refusal P fault.OutOfMemory p = tt
+directives_refusal P _ p = absurd p
+
+module _ (cs : List ℕ) where
+  pub mark_here : (c i a b d : ℕ) → MarkOf cs c i → slice_get cs i ≡ Some c → a ≡ i + 1 → slice_get cs a ≡ Some c → b ≡ a + 1 → slice_get cs b ≡ Some c → d ≡ b + 1
+      → document_mark cs (Unit {0}) open_limit c i d
+  unfolding document_mark
+  mark_here c i a b d m f e g h k l = (i, (refl, m), (a, (f, e), (b, (g, h), (d, (k, l), refl))))
+
+  pub after_lines : (j i : ℕ) → AfterLine cs i → any_span (l_comment cs) i j → AfterLine cs j
+  unfolding l_comment
+  after_lines j i a (Spans.done e) = subst (AfterLine cs) (sym e) a
+  after_lines j i a (Spans.then k (l, (m, s, (n, c, e))) more) = after_lines j k (line_end_after cs n k e) more
+
+  pub after_comments : (i j : ℕ) → s_l_comments cs i j → AfterLine cs j
+  unfolding s_l_comments s_b_comment
+  after_comments i j (k, inl (m, s, e), lines) = after_lines j k (line_end_after cs m k e) lines
+  after_comments i j (k, inr (e, s), lines) = after_lines j k (inl (subst (StartsLine cs) (sym e) s)) lines
+
+  pub starts_line : (i : ℕ) → AfterLine cs i → (AtEnd cs i → ⊥) → StartsLine cs i
+  starts_line i (inl s) n = s
+  starts_line i (inr e) n = absurd (n e)
+
+  pub mark_suffix : (i k j : ℕ) → document_mark cs (Unit {0}) open_limit 46 i k → s_l_comments cs k j → suffix cs (Unit {0}) open_limit i j (suffix_piece ∷ [])
+  unfolding suffix
+  mark_suffix i k j m c = (k, m, (k, (refl, refl), c))
+
+  pub mark_explicit : (handles : Handles) (i k j : ℕ) (es : List Event) → document_mark cs (Unit {0}) open_limit 45 i k → opened_by_mark cs handles k j es
+      → (fs : List Event) × explicit_document cs (Unit {0}) open_limit handles i j fs × (es ≡ document_start true ∷ fs)
+  unfolding explicit_document
+  mark_explicit handles i k j es m (fs, r, e) = (fs, (k, m, r), e)
+
+  pub directed : (handles : Handles) (i k a j : ℕ) (es : List Event) → read_directives cs i k handles → document_mark cs (Unit {0}) open_limit 45 k a
+      → opened_by_mark cs handles a j es → opened_by_directives cs i j es
+  unfolding read_directives directive_document
+  directed handles i k a j es (n, d, (e, ends)) m r =
+      let x = mark_explicit handles k a j es m r in
+      (x.0, (k, handles, subst (λ z. directives cs i z handles) (sym e) d, x.1), x.2)

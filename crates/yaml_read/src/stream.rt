@@ -1,0 +1,208 @@
+//! Documents, suffixes and streams (YAML 1.2.2, chapter 9).
+ghost use Rattle.std.specs.Prelude.{◌≡◌, ◌≤◌, ◌<◌, IfSome, IfOk, IfErr, map, Some, slice_get, []};
+ghost use Rattle.yaml_text.specs.Limits.{open_limit};
+ghost use Rattle.yaml_text.specs.EventModel.{event_of, Adds};
+ghost use Rattle.yaml_text.specs.Source.{text_of, place_of, IsBorder};
+ghost use Rattle.yaml_text.specs.grammar.Rules.{◌∪◌};
+ghost use Rattle.yaml_text.specs.grammar.Separation.{StartsLine};
+ghost use Rattle.yaml_text.specs.grammar.Streams.{ReadsText};
+ghost use Rattle.yaml_flow.specs.Answer.{IsRefusal, Appends};
+ghost use Rattle.yaml_flow.specs.Lines.{IsLine};
+ghost use Rattle.yaml_mark.specs.HandlesModel.{handles_of};
+ghost use Rattle.yaml_read.specs.Sofar.{closing};
+ghost use Rattle.yaml_read.specs.StreamRules.{IsMarkOf, NextIs, opened_by_mark, opened_bare, opened_by_directives};
+
+use std::alloc::Global;
+use yaml_block::document::{read_bare, read_marked};
+use yaml_flow::fault::unusable;
+use yaml_flow::line::{Line, first_line, next_line};
+use yaml_mark::directives::read_directives;
+use yaml_mark::handles::Handles;
+use yaml_text::chars::Chars;
+use yaml_text::event::Event;
+use yaml_text::fault::Fault;
+use yaml_text::lines::{is_mark_of, starts_line};
+use yaml_text::places::{accept, is_end};
+
+/// How a stream goes on at a line that is no comment.
+enum Next {
+    /// It ends.
+    End,
+    /// With a suffix, whose mark ends here.
+    Suffix(usize),
+    /// With an explicit document, whose mark ends here.
+    Explicit(usize),
+    /// With anything else.
+    Content,
+}
+
+/// The border after a document mark of this character (9.1.2), if one stands at a border.
+fn document_mark(source: &Chars<'_>, at: usize, c: char) -> Option<usize>
+    requires { IsBorder source.now at }
+    ensures { IfSome result (IsMarkOf source.now c at) }
+{
+    if !starts_line(source, at) {
+        return None;
+    }
+    if !is_mark_of(source, at, c) {
+        return None;
+    }
+    match accept(source, at, c) {
+        None => None,
+        Some(first) => match accept(source, first, c) {
+            None => None,
+            Some(second) => match accept(source, second, c) {
+                None => None,
+                Some(third) => Some(third),
+            },
+        },
+    }
+}
+
+/// How a stream goes on at this line.
+fn next_piece(source: &Chars<'_>, line: Line) -> Next
+    requires { IsLine source.now line }
+    ensures { NextIs source.now line result }
+{
+    if is_end(source, line.start) {
+        return Next::End;
+    }
+    match document_mark(source, line.start, '-') {
+        Some(after) => Next::Explicit(after),
+        None => match document_mark(source, line.start, '.') {
+            Some(after) => Next::Suffix(after),
+            None => Next::Content,
+        },
+    }
+}
+
+/// Writes the end of the last document, where it is still to be written.
+fn close(is_open: bool, explicit: bool, out: &mut Vec<Event<'_>>) -> Result<(), Fault>
+    ensures ok { IfOk result (λ _. Adds out.old.items (closing is_open explicit) out.new.items) }
+    ensures err { IfErr result IsRefusal }
+{
+    if !is_open {
+        return Ok(());
+    }
+    out.push(Event::DocumentEnd { explicit })?;
+    Ok(())
+}
+
+/// A document from the border after its mark on (9.1.4), and the line after it.
+fn read_explicit<'a>(
+    alloc: Global,
+    source: &Chars<'a>,
+    after: usize,
+    handles: Option<&Handles<'a>>,
+    out: &mut Vec<Event<'a>>,
+) -> Result<Line, Fault>
+    requires { IsBorder source.now after }
+    ensures line { IfOk result (IsLine source.now) }
+    ensures onward { IfOk result (λ line. after ≤ line.start) }
+    ensures reads { Appends (λ _. opened_by_mark (text_of source.now) (handles_of handles.entry)) (place_of source.now after) (λ line. place_of source.now line.start) out.old.items out.new.items result }
+{
+    out.push(Event::DocumentStart { explicit: true })?;
+    read_marked(alloc, source, after, handles, out)
+}
+
+/// Directives and the document that they stand before (9.1.5), and the line after it.
+fn read_directed<'a>(
+    alloc: Global,
+    source: &Chars<'a>,
+    at: usize,
+    out: &mut Vec<Event<'a>>,
+) -> Result<Line, Fault>
+    requires border { IsBorder source.now at }
+    requires percent { slice_get (text_of source.now) (place_of source.now at) ≡ Some 37 }
+    requires start { StartsLine (text_of source.now) (place_of source.now at) }
+    ensures line { IfOk result (IsLine source.now) }
+    ensures onward { IfOk result (λ line. at ≤ line.start) }
+    ensures reads { Appends (λ _. opened_by_directives (text_of source.now)) (place_of source.now at) (λ line. place_of source.now line.start) out.old.items out.new.items result }
+{
+    let (handles, end) = read_directives(alloc, source, at)?;
+    match document_mark(source, end, '-') {
+        None => Err(unusable(source, end)),
+        Some(after) => {
+            let line = read_explicit(alloc, source, after, Some(&handles), out)?;
+            Ok(line)
+        }
+    }
+}
+
+/// A document without directives and without a mark (9.1.3), and the line after it.
+fn read_unmarked<'a>(
+    alloc: Global,
+    source: &Chars<'a>,
+    line: Line,
+    out: &mut Vec<Event<'a>>,
+) -> Result<Line, Fault>
+    requires line { IsLine source.now line }
+    requires start { StartsLine (text_of source.now) (place_of source.now line.start) }
+    ensures line { IfOk result (IsLine source.now) }
+    ensures onward { IfOk result (λ next. line.start ≤ next.start) }
+    ensures reads { Appends (λ _. opened_bare (text_of source.now)) (place_of source.now line.start) (λ line. place_of source.now line.start) out.old.items out.new.items result }
+{
+    out.push(Event::DocumentStart { explicit: false })?;
+    read_bare(alloc, source, line, None, out)
+}
+
+/// A document that no mark parts from what stands before it: with directives or without a mark.
+fn read_first<'a>(
+    alloc: Global,
+    source: &Chars<'a>,
+    line: Line,
+    out: &mut Vec<Event<'a>>,
+) -> Result<Line, Fault>
+    requires line { IsLine source.now line }
+    requires start { StartsLine (text_of source.now) (place_of source.now line.start) }
+    ensures line { IfOk result (IsLine source.now) }
+    ensures onward { IfOk result (λ next. line.start ≤ next.start) }
+    ensures reads { Appends (λ _. opened_bare (text_of source.now) ∪ opened_by_directives (text_of source.now)) (place_of source.now line.start) (λ line. place_of source.now line.start) out.old.items out.new.items result }
+{
+    match accept(source, line.start, '%') {
+        Some(_) => read_directed(alloc, source, line.start, out),
+        None => read_unmarked(alloc, source, line, out),
+    }
+}
+
+/// The events of a stream (9.2), from its start to its end.
+///
+/// Refused are, with the input offset of the first character that cannot be used: a tab where separation or indentation
+/// stands (5), a key of more than 1,024 characters (6), a collection too deep (7), an escape that there is not (8), a directive
+/// that is malformed, repeated or of another version (9), a handle that is not bound (10), a malformed tag (11), and anything
+/// else that the productions do not go on with (4).
+pub fn read_events<'a>(alloc: Global, source: &Chars<'a>) -> Result<Vec<Event<'a>>, Fault>
+    ensures ok { IfOk result (λ events. ReadsText (text_of source.now) (Unit {0}) open_limit (map event_of events.items)) }
+    ensures err { IfErr result IsRefusal }
+{
+    let mut out = Vec::new(alloc);
+    out.push(Event::StreamStart)?;
+    let mut line = first_line(source);
+    let mut is_open = false;
+    'pieces: loop {
+        match next_piece(source, line) {
+            Next::End => {
+                close(is_open, false, &mut out)?;
+                out.push(Event::StreamEnd)?;
+                return Ok(out);
+            }
+            Next::Suffix(after) => {
+                close(is_open, true, &mut out)?;
+                line = next_line(source, after)?;
+                is_open = false;
+            }
+            Next::Explicit(after) => {
+                close(is_open, false, &mut out)?;
+                line = read_explicit(alloc, source, after, None, &mut out)?;
+                is_open = true;
+            }
+            Next::Content => {
+                if is_open {
+                    return Err(unusable(source, line.first));
+                }
+                line = read_first(alloc, source, line, &mut out)?;
+                is_open = true;
+            }
+        }
+    }
+}

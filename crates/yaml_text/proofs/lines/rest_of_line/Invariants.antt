@@ -1,0 +1,17 @@
+use Rattle.std.proofs.Common.{◌-◌, ◌≤◌, length}
+use Rattle.yaml_text.specs.Source.{text_of, place_of, IsBorder}
+use Rattle.yaml_text.specs.grammar.Rules.{run}
+use Rattle.yaml_text.specs.grammar.Characters.{is_nb}
+use Rattle.yaml_text.specs.Lines.{Uncut}
+use Rattle.yaml_text.proofs.lines.rest_of_line.Given as goal
+
+abbrev pub invariant-line : goal.invariant-line
+invariant-line l = record {
+  border : IsBorder l.source l.here;
+  onward : l.at ≤ l.here;
+  uncut : Uncut (text_of l.source) (place_of l.source l.here);
+  chars : run (text_of l.source) is_nb (place_of l.source l.at) (place_of l.source l.here);
+}
+
+abbrev pub decreases-line : goal.decreases-line
+decreases-line l = length l.source.text.now - l.here

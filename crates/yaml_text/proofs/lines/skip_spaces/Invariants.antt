@@ -1,0 +1,14 @@
+use Rattle.std.proofs.Common.{◌+◌, ◌-◌, ◌≤◌, length}
+use Rattle.yaml_text.specs.Source.{text_of, place_of, IsBorder}
+use Rattle.yaml_text.specs.grammar.Separation.{indent}
+use Rattle.yaml_text.proofs.lines.skip_spaces.Given as goal
+
+abbrev pub invariant-spaces : goal.invariant-spaces
+invariant-spaces l = record {
+  border : IsBorder l.source l.here;
+  counted : l.at + l.count ≤ l.here;
+  spaces : indent (text_of l.source) l.count (place_of l.source l.at) (place_of l.source l.here);
+}
+
+abbrev pub decreases-spaces : goal.decreases-spaces
+decreases-spaces l = length l.source.text.now - l.here

@@ -1,0 +1,260 @@
+//! What stands on a line: spaces, whites, breaks, comments and document marks (YAML 1.2.2, 5.4, 5.5, 6.1, 6.6, 9.1.2).
+//! Offsets count bytes of the text.
+ghost use Rattle.std.specs.Prelude.{◌≡◌, ◌≢◌, ◌≤◌, ◌<◌, ◌+◌, IfSome, IfNone, Some, slice_get, ℕ};
+ghost use Rattle.std.specs.Bool.{OnTrue, OnFalse};
+ghost use Rattle.yaml_text.specs.Answer.{IsUnread};
+ghost use Rattle.yaml_text.specs.Lines.{line_brk, DashesOf, Dashes, AfterLine, Uncut, blank_rest};
+ghost use Rattle.yaml_text.specs.Source.{mark_of, text_of, place_of, IsBorder};
+ghost use Rattle.yaml_text.specs.grammar.Characters.{is_space, is_white, is_nb};
+ghost use Rattle.yaml_text.specs.grammar.Rules.{run, Stands, any_span, ◌◆◌};
+ghost use Rattle.yaml_text.specs.grammar.Separation.{StartsLine, Mark, indent, line_end, comment, l_comment};
+
+use crate::chars::Chars;
+use crate::class::{is_break, is_ns, is_white};
+use crate::fault::Fault;
+use crate::places::{accept, is_border, next};
+
+/// How many spaces stand at a border, and the border after them.
+pub fn skip_spaces(source: &Chars<'_>, at: usize) -> (usize, usize)
+    requires { IsBorder source.now at }
+    ensures border { IsBorder source.now result.1 }
+    ensures onward { at ≤ result.1 }
+    ensures counted { at + result.0 ≤ result.1 }
+    ensures spaces { indent (text_of source.now) result.0 (place_of source.now at) (place_of source.now result.1) }
+    ensures furthest { Stands (text_of source.now) is_space (place_of source.now result.1) → ⊥ }
+{
+    let mut count = 0;
+    let mut here = at;
+    'spaces: loop {
+        match accept(source, here, ' ') {
+            None => return (count, here),
+            Some(to) => {
+                count += 1;
+                here = to;
+            }
+        }
+    }
+}
+
+/// The border after the whites that stand at a border.
+pub fn skip_whites(source: &Chars<'_>, at: usize) -> usize
+    requires { IsBorder source.now at }
+    ensures border { IsBorder source.now result }
+    ensures onward { at ≤ result }
+    ensures whites { run (text_of source.now) is_white (place_of source.now at) (place_of source.now result) }
+    ensures furthest { Stands (text_of source.now) is_white (place_of source.now result) → ⊥ }
+{
+    let mut here = at;
+    'whites: loop {
+        match next(source, here) {
+            None => return here,
+            Some((c, to)) => {
+                if is_white(c) {
+                    here = to;
+                } else {
+                    return here;
+                }
+            }
+        }
+    }
+}
+
+/// The border after the break that stands at a border.
+pub fn line_break(source: &Chars<'_>, at: usize) -> Option<usize>
+    requires { IsBorder source.now at }
+    ensures border { IfSome result (λ to. IsBorder source.now to) }
+    ensures onward { IfSome result (λ to. at < to) }
+    ensures some { IfSome result (λ to. line_brk (text_of source.now) (place_of source.now at) (place_of source.now to)) }
+    ensures none { IfNone result ((j : ℕ) → line_brk (text_of source.now) (place_of source.now at) j → ⊥) }
+{
+    match accept(source, at, '\n') {
+        Some(to) => Some(to),
+        None => match accept(source, at, '\r') {
+            None => None,
+            Some(to) => match accept(source, to, '\n') {
+                Some(end) => Some(end),
+                None => Some(to),
+            },
+        },
+    }
+}
+
+/// The border after the end of a line that stands at a border: after a break, or at the end of the text.
+pub fn end_line(source: &Chars<'_>, at: usize) -> Option<usize>
+    requires border { IsBorder source.now at }
+    requires uncut { Uncut (text_of source.now) (place_of source.now at) }
+    ensures border { IfSome result (λ to. IsBorder source.now to) }
+    ensures onward { IfSome result (λ to. at ≤ to) }
+    ensures some { IfSome result (λ to. line_end (text_of source.now) (place_of source.now at) (place_of source.now to)) }
+    ensures none { IfNone result (Stands (text_of source.now) is_nb (place_of source.now at)) }
+{
+    match line_break(source, at) {
+        Some(to) => Some(to),
+        None => match next(source, at) {
+            None => Some(at),
+            Some(_) => None,
+        },
+    }
+}
+
+/// The end of a line's characters from a border on, and the border after their line.
+pub fn rest_of_line(source: &Chars<'_>, at: usize) -> (usize, usize)
+    requires border { IsBorder source.now at }
+    requires uncut { Uncut (text_of source.now) (place_of source.now at) }
+    ensures border { IsBorder source.now result.0 }
+    ensures onward { at ≤ result.0 }
+    ensures after { IsBorder source.now result.1 }
+    ensures further { result.0 ≤ result.1 }
+    ensures chars { run (text_of source.now) is_nb (place_of source.now at) (place_of source.now result.0) }
+    ensures end { line_end (text_of source.now) (place_of source.now result.0) (place_of source.now result.1) }
+{
+    let mut here = at;
+    'line: loop {
+        match next(source, here) {
+            None => return (here, here),
+            Some((c, to)) => {
+                if is_break(c) {
+                    return match line_break(source, here) {
+                        Some(after) => (here, after),
+                        None => (here, here),
+                    };
+                }
+                here = to;
+            }
+        }
+    }
+}
+
+/// The border after the line of a comment that begins at a border.
+pub fn read_comment(source: &Chars<'_>, at: usize) -> Option<usize>
+    requires { IsBorder source.now at }
+    ensures border { IfSome result (λ to. IsBorder source.now to) }
+    ensures onward { IfSome result (λ to. at < to) }
+    ensures some { IfSome result (λ to. (comment (text_of source.now) ◆ line_end (text_of source.now)) (place_of source.now at) (place_of source.now to)) }
+    ensures none { IfNone result (slice_get (text_of source.now) (place_of source.now at) ≢ Some 35) }
+{
+    match accept(source, at, '#') {
+        None => None,
+        Some(to) => {
+            let (_, after) = rest_of_line(source, to);
+            Some(after)
+        }
+    }
+}
+
+/// The border after a line that has no content from a border on.
+pub fn skip_blank(source: &Chars<'_>, at: usize) -> Option<usize>
+    requires border { IsBorder source.now at }
+    requires uncut { Uncut (text_of source.now) (place_of source.now at) }
+    ensures border { IfSome result (λ to. IsBorder source.now to) }
+    ensures onward { IfSome result (λ to. at ≤ to) }
+    ensures some { IfSome result (λ to. blank_rest (text_of source.now) (place_of source.now at) (place_of source.now to)) }
+    ensures none { IfNone result ((j : ℕ) → blank_rest (text_of source.now) (place_of source.now at) j → ⊥) }
+{
+    let (_, from) = skip_spaces(source, at);
+    match read_comment(source, from) {
+        Some(after) => Some(after),
+        None => match end_line(source, from) {
+            Some(after) => Some(after),
+            None => None,
+        },
+    }
+}
+
+/// The border after the comment lines (6.6) that stand at a border.
+pub fn skip_comments(source: &Chars<'_>, at: usize) -> usize
+    requires border { IsBorder source.now at }
+    requires after { AfterLine (text_of source.now) (place_of source.now at) }
+    ensures border { IsBorder source.now result }
+    ensures onward { at ≤ result }
+    ensures lines { any_span (l_comment (text_of source.now)) (place_of source.now at) (place_of source.now result) }
+    ensures furthest { (j : ℕ) → l_comment (text_of source.now) (place_of source.now result) j → ⊥ }
+{
+    let mut line = at;
+    'lines: loop {
+        match skip_blank(source, line) {
+            None => return line,
+            Some(after) => {
+                if after == line {
+                    return line;
+                }
+                line = after;
+            }
+        }
+    }
+}
+
+/// Whether three of a character, and then no character of a line but a white, stand at a border.
+pub fn is_mark_of(source: &Chars<'_>, at: usize, c: char) -> bool
+    requires { IsBorder source.now at }
+    ensures yes { OnTrue result (DashesOf (text_of source.now) c (place_of source.now at)) }
+    ensures no { OnFalse result (DashesOf (text_of source.now) c (place_of source.now at) → ⊥) }
+{
+    match accept(source, at, c) {
+        None => false,
+        Some(first) => match accept(source, first, c) {
+            None => false,
+            Some(second) => match accept(source, second, c) {
+                None => false,
+                Some(third) => match next(source, third) {
+                    None => true,
+                    Some((d, _)) => !is_ns(d),
+                },
+            },
+        },
+    }
+}
+
+/// Whether what stands at a border is a document mark, if it begins a line.
+pub fn is_mark(source: &Chars<'_>, at: usize) -> bool
+    requires { IsBorder source.now at }
+    ensures yes { OnTrue result (Dashes (text_of source.now) (place_of source.now at)) }
+    ensures no { OnFalse result (Dashes (text_of source.now) (place_of source.now at) → ⊥) }
+{
+    is_mark_of(source, at, '-') || is_mark_of(source, at, '.')
+}
+
+/// Whether a line starts at a border.
+pub fn starts_line(source: &Chars<'_>, at: usize) -> bool
+    requires { IsBorder source.now at }
+    ensures yes { OnTrue result (StartsLine (text_of source.now) (place_of source.now at)) }
+    ensures no { OnFalse result (StartsLine (text_of source.now) (place_of source.now at) → ⊥) }
+{
+    if at == 0 {
+        return true;
+    }
+    if !is_border(source, at - 1) {
+        return false;
+    }
+    match line_break(source, at - 1) {
+        None => false,
+        Some(to) => to == at,
+    }
+}
+
+/// Whether a document mark stands at a border.
+pub fn stands_mark(source: &Chars<'_>, at: usize) -> bool
+    requires { IsBorder source.now at }
+    ensures yes { OnTrue result (Mark (text_of source.now) (place_of source.now at)) }
+    ensures no { OnFalse result (Mark (text_of source.now) (place_of source.now at) → ⊥) }
+{
+    if is_mark(source, at) {
+        starts_line(source, at)
+    } else {
+        false
+    }
+}
+
+/// Which fault a character that can't be used gives, with its offset in the input: a tab is one of its own, since it bars where
+/// indentation or separation would stand.
+pub fn unusable(source: &Chars<'_>, at: usize) -> Fault
+    requires { IsBorder source.now at }
+    ensures unread { IsUnread result }
+    ensures tab { slice_get (text_of source.now) (place_of source.now at) ≡ Some 9 → result ≡ Fault.Tab (mark_of source.now + at) }
+    ensures other { slice_get (text_of source.now) (place_of source.now at) ≢ Some 9 → result ≡ Fault.Syntax (mark_of source.now + at) }
+{
+    match accept(source, at, '\t') {
+        Some(_) => Fault::Tab(source.pos(at)),
+        None => Fault::Syntax(source.pos(at)),
+    }
+}

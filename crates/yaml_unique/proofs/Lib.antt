@@ -1,0 +1,15 @@
+pub mod Unique
+pub mod Lines
+pub mod BlockEntries
+pub mod Properties
+pub mod FlowNodes
+pub mod BlockNodes
+pub mod PlainEnds
+pub mod BlockScalarEnds
+pub mod KeyContexts
+pub mod TagEnds
+pub mod FlowEntries
+pub mod FlowLevels
+pub mod BlockLevels
+pub mod Directives
+pub mod Documents
