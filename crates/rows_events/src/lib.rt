@@ -1,0 +1,5 @@
+//! Rows on event text, as tests alone.
+#![tactic(auto)]
+
+#[cfg(test)]
+mod lines;

@@ -1,0 +1,146 @@
+//! Vectors: what the productions do not go on with.
+use crate::rows::{Refused, is_refused};
+use std::test::Fail;
+
+const ROWS: [Refused; 33] = [
+    Refused {
+        input: "a: b: c",
+        message: "4 Syntax at byte 4",
+    },
+    Refused {
+        input: "\"abc",
+        message: "4 Syntax at byte 4",
+    },
+    Refused {
+        input: "'a",
+        message: "4 Syntax at byte 2",
+    },
+    Refused {
+        input: "[a",
+        message: "4 Syntax at byte 2",
+    },
+    Refused {
+        input: "{a: b",
+        message: "4 Syntax at byte 5",
+    },
+    Refused {
+        input: "[,]",
+        message: "4 Syntax at byte 1",
+    },
+    Refused {
+        input: "[a,,]",
+        message: "4 Syntax at byte 3",
+    },
+    Refused {
+        input: "a:\n  b: 1\n c: 2\n",
+        message: "4 Syntax at byte 11",
+    },
+    Refused {
+        input: "[a\n--- b]",
+        message: "4 Syntax at byte 3",
+    },
+    Refused {
+        input: "\"a\":b",
+        message: "4 Syntax at byte 4",
+    },
+    Refused {
+        input: "*a :b",
+        message: "4 Syntax at byte 4",
+    },
+    Refused {
+        input: "{*a :b}",
+        message: "4 Syntax at byte 4",
+    },
+    Refused {
+        input: "&a *b",
+        message: "4 Syntax at byte 3",
+    },
+    Refused {
+        input: "&a\n&b x",
+        message: "4 Syntax at byte 7",
+    },
+    Refused {
+        input: "&a\n&b",
+        message: "4 Syntax at byte 5",
+    },
+    Refused {
+        input: "!<a>b",
+        message: "4 Syntax at byte 4",
+    },
+    Refused {
+        input: "%YAML 1.2\nb",
+        message: "4 Syntax at byte 10",
+    },
+    Refused {
+        input: "%YAML 1.2\n...\n",
+        message: "4 Syntax at byte 10",
+    },
+    Refused {
+        input: "x: |\n   \n a",
+        message: "4 Syntax at byte 10",
+    },
+    Refused {
+        input: "k: [\n a\n]",
+        message: "4 Syntax at byte 8",
+    },
+    Refused {
+        input: "- a\nb",
+        message: "4 Syntax at byte 4",
+    },
+    Refused {
+        input: "@a",
+        message: "4 Syntax at byte 0",
+    },
+    Refused {
+        input: "`a",
+        message: "4 Syntax at byte 0",
+    },
+    Refused {
+        input: "a: - b",
+        message: "4 Syntax at byte 3",
+    },
+    Refused {
+        input: "|1\n a",
+        message: "4 Syntax at byte 1",
+    },
+    Refused {
+        input: "[a]b",
+        message: "4 Syntax at byte 3",
+    },
+    Refused {
+        input: "a\n b: c",
+        message: "4 Syntax at byte 4",
+    },
+    Refused {
+        input: "\"a\"x",
+        message: "4 Syntax at byte 3",
+    },
+    Refused {
+        input: "[a\n}",
+        message: "4 Syntax at byte 3",
+    },
+    Refused {
+        input: "[a\n : b]",
+        message: "4 Syntax at byte 4",
+    },
+    Refused {
+        input: "'a\n... b'",
+        message: "4 Syntax at byte 3",
+    },
+    Refused {
+        input: "&",
+        message: "4 Syntax at byte 1",
+    },
+    Refused {
+        input: "*",
+        message: "4 Syntax at byte 1",
+    },
+];
+
+#[test]
+fn each_is_refused(rt: HostRuntime) -> Result<(), Fail> {
+    for row in &ROWS {
+        is_refused(&rt, row)?;
+    }
+    Ok(())
+}

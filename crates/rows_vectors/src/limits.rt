@@ -1,0 +1,170 @@
+//! Vectors: keys that are too long and collections that are too deep, built of one piece many times.
+use crate::rows::is_message;
+use std::process::Abort;
+use std::test::Fail;
+
+/// A text of a start, a piece so many times, a middle, another piece as often, and an end; and the message of its fault, or
+/// none.
+struct Built {
+    start: &'static str,
+    piece: &'static str,
+    times: usize,
+    middle: &'static str,
+    closing: &'static str,
+    end: &'static str,
+    message: &'static str,
+}
+
+/// Asserts that what is built is read, or refused with the message.
+fn is_built<T: Abort + AllocGlobal>(rt: &T, row: &Built) -> Result<(), Fail> {
+    let mut text = String::new(rt.alloc());
+    text.push_str(row.start)?;
+    for _ in 0..row.times {
+        text.push_str(row.piece)?;
+    }
+    text.push_str(row.middle)?;
+    for _ in 0..row.times {
+        text.push_str(row.closing)?;
+    }
+    text.push_str(row.end)?;
+    is_message(rt, text.as_str(), row.message)
+}
+
+const KEYS: [Built; 7] = [
+    Built {
+        start: "",
+        piece: "k",
+        times: 1_024,
+        middle: "",
+        closing: "",
+        end: ": b",
+        message: "",
+    },
+    Built {
+        start: "",
+        piece: "k",
+        times: 1_025,
+        middle: "",
+        closing: "",
+        end: ": b",
+        message: "6 KeyTooLong at byte 0",
+    },
+    Built {
+        start: "[",
+        piece: "k",
+        times: 1_024,
+        middle: "",
+        closing: "",
+        end: ": b]",
+        message: "",
+    },
+    Built {
+        start: "[",
+        piece: "k",
+        times: 1_025,
+        middle: "",
+        closing: "",
+        end: ": b]",
+        message: "6 KeyTooLong at byte 1",
+    },
+    Built {
+        start: "{",
+        piece: "k",
+        times: 1_025,
+        middle: "",
+        closing: "",
+        end: ": b}",
+        message: "",
+    },
+    Built {
+        start: "&k ",
+        piece: "k",
+        times: 1_021,
+        middle: "",
+        closing: "",
+        end: ": b",
+        message: "",
+    },
+    Built {
+        start: "&k ",
+        piece: "k",
+        times: 1_022,
+        middle: "",
+        closing: "",
+        end: ": b",
+        message: "6 KeyTooLong at byte 0",
+    },
+];
+
+#[test]
+fn keys_have_1024_characters_at_most(rt: HostRuntime) -> Result<(), Fail> {
+    for row in &KEYS {
+        is_built(&rt, row)?;
+    }
+    Ok(())
+}
+
+const DEPTHS: [Built; 6] = [
+    Built {
+        start: "",
+        piece: "[",
+        times: 1_024,
+        middle: "",
+        closing: "]",
+        end: "",
+        message: "",
+    },
+    Built {
+        start: "",
+        piece: "[",
+        times: 1_025,
+        middle: "",
+        closing: "]",
+        end: "",
+        message: "7 TooDeep at byte 1024",
+    },
+    Built {
+        start: "",
+        piece: "- ",
+        times: 1_024,
+        middle: "x",
+        closing: "",
+        end: "",
+        message: "",
+    },
+    Built {
+        start: "",
+        piece: "- ",
+        times: 1_025,
+        middle: "x",
+        closing: "",
+        end: "",
+        message: "7 TooDeep at byte 2048",
+    },
+    Built {
+        start: "",
+        piece: "[",
+        times: 1_023,
+        middle: "a: b",
+        closing: "]",
+        end: "",
+        message: "",
+    },
+    Built {
+        start: "",
+        piece: "[",
+        times: 1_024,
+        middle: "a: b",
+        closing: "]",
+        end: "",
+        message: "7 TooDeep at byte 1024",
+    },
+];
+
+#[test]
+fn collections_are_1024_deep_at_most(rt: HostRuntime) -> Result<(), Fail> {
+    for row in &DEPTHS {
+        is_built(&rt, row)?;
+    }
+    Ok(())
+}

@@ -1,0 +1,96 @@
+//! How a vector is judged: its events are those of its event text.
+use std::process::Abort;
+use std::test::Fail;
+use yaml_events::{read_event_text, write_events};
+use yaml_read::read_events;
+use yaml_text::chars::Chars;
+
+/// An input of one bare document, the lines of its node's events, and its canonical text.
+pub struct Node {
+    pub shows: &'static str,
+    pub input: &'static str,
+    pub events: &'static str,
+    pub canonical: &'static str,
+}
+
+/// An input, the lines of all its events, and its canonical text.
+pub struct Stream {
+    pub shows: &'static str,
+    pub input: &'static str,
+    pub events: &'static str,
+    pub canonical: &'static str,
+}
+
+/// An input that is not read, and the message of its fault.
+pub struct Refused {
+    pub input: &'static str,
+    pub message: &'static str,
+}
+
+/// An input that is read and has no canonical text, the lines of its events, and the message of the fault.
+pub struct Meaningless {
+    pub input: &'static str,
+    pub events: &'static str,
+    pub message: &'static str,
+}
+
+/// Asserts that an input's events are those of an event text, which is written as it was.
+fn has_events<T: Abort + AllocGlobal>(
+    rt: &T,
+    shows: &str,
+    input: &str,
+    text: &str,
+) -> Result<(), Fail> {
+    let source = Chars::read(input.as_bytes())?;
+    let wanted = read_event_text(rt.alloc(), text)?;
+    let written = write_events(rt.alloc(), wanted.as_slice())?;
+    assert_eq!(rt; written.as_str(), text, "{shows}: {input:?}");
+    match read_events(rt.alloc(), &source) {
+        Ok(events) => {
+            assert_eq!(rt; events, wanted, "{shows}: {input:?}");
+        }
+        Err(fault) => {
+            let message = format!(in rt.alloc(); "{fault}")?;
+            assert_eq!(rt; message.as_str(), "", "{shows}: {input:?}");
+        }
+    }
+    Ok(())
+}
+
+/// Asserts that the node of a bare document has these events.
+pub fn is_node<T: Abort + AllocGlobal>(rt: &T, row: &Node) -> Result<(), Fail> {
+    let text = format!(in rt.alloc(); "+STR\n+DOC\n{}-DOC\n-STR\n", row.events)?;
+    has_events(rt, row.shows, row.input, text.as_str())
+}
+
+/// Asserts that a stream has these events.
+pub fn is_stream<T: Abort + AllocGlobal>(rt: &T, row: &Stream) -> Result<(), Fail> {
+    has_events(rt, row.shows, row.input, row.events)
+}
+
+/// Asserts that an input is not read, for this fault.
+pub fn is_refused<T: Abort + AllocGlobal>(rt: &T, row: &Refused) -> Result<(), Fail> {
+    is_message(rt, row.input, row.message)
+}
+
+/// Asserts that an input is read, where the message is empty, or that its fault has the message.
+pub fn is_message<T: Abort + AllocGlobal>(rt: &T, input: &str, wanted: &str) -> Result<(), Fail> {
+    let read = match Chars::read(input.as_bytes()) {
+        Ok(source) => match read_events(rt.alloc(), &source) {
+            Ok(_events) => None,
+            Err(fault) => Some(fault),
+        },
+        Err(fault) => Some(fault),
+    };
+    let message = match read {
+        Some(fault) => format!(in rt.alloc(); "{fault}")?,
+        None => String::new(rt.alloc()),
+    };
+    assert_eq!(rt; message.as_str(), wanted, "{input:?}");
+    Ok(())
+}
+
+/// Asserts that an input has these events.
+pub fn is_meaningless<T: Abort + AllocGlobal>(rt: &T, row: &Meaningless) -> Result<(), Fail> {
+    has_events(rt, row.message, row.input, row.events)
+}
