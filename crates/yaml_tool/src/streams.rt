@@ -9,6 +9,9 @@ use yaml_text::fault::Fault;
 /// The greatest length of an input, in bytes.
 pub const INPUT_LIMIT: usize = 16_777_216;
 
+/// The greatest length of an event text, in bytes.
+pub const EVENTS_LIMIT: usize = 1_073_741_824;
+
 /// How many bytes are asked of a reader at most in one call.
 const PIECE: usize = 4096;
 
