@@ -301,25 +301,30 @@ fn a_tag_has_1024_bytes_at_most(rt: HostRuntime) -> Result<(), Fail> {
     Ok(())
 }
 
-/// How many of an event's name, tag and text are slices of the text that it was read from.
-fn slices(event: &Event<'_>) -> usize {
+fn is_slice(text: &CowStr<'_>) -> bool {
+    match text {
+        CowStr::Borrowed(_) => true,
+        CowStr::Owned(_) => false,
+    }
+}
+
+/// Whether an event's text or name is a slice of the text that it was read from.
+fn has_slice(event: &Event<'_>) -> bool {
     match event {
-        Event::Scalar {
-            anchor: Some(CowStr::Borrowed(_)),
-            tag: EventTag::Full(CowStr::Borrowed(_)),
-            text: CowStr::Borrowed(_),
-            ..
-        } => 3,
-        Event::Scalar {
-            anchor: Some(CowStr::Borrowed(_)),
-            tag: EventTag::Full(CowStr::Owned(_)),
-            text: CowStr::Owned(_),
-            ..
-        } => 1,
-        Event::Alias {
-            name: CowStr::Borrowed(_),
-        } => 1,
-        _ => 0,
+        Event::Scalar { text, .. } => is_slice(text),
+        Event::Alias { name } => is_slice(name),
+        _ => false,
+    }
+}
+
+/// Whether an event's tag is one.
+fn has_tag_slice(event: &Event<'_>) -> bool {
+    match event {
+        Event::Scalar { tag, .. } => match tag {
+            EventTag::Full(full) => is_slice(full),
+            _ => false,
+        },
+        _ => false,
     }
 }
 
@@ -329,11 +334,14 @@ fn what_stands_there_as_it_is_is_a_slice(rt: HostRuntime) -> Result<(), Fail> {
         rt.alloc(),
         "=VAL &a <t> :b c\n=VAL &a <%25> :\\n\n=ALI *a\n",
     )?;
-    let mut counts = Vec::new(rt.alloc());
+    let mut texts = Vec::new(rt.alloc());
+    let mut tags = Vec::new(rt.alloc());
     for event in events.as_slice() {
-        counts.push(slices(event))?;
+        texts.push(has_slice(event))?;
+        tags.push(has_tag_slice(event))?;
     }
-    assert_eq!(rt; counts.as_slice(), [3, 1, 1].as_slice());
+    assert_eq!(rt; texts.as_slice(), [true, false, true].as_slice());
+    assert_eq!(rt; tags.as_slice(), [true, false, false].as_slice());
     Ok(())
 }
 
