@@ -2,10 +2,9 @@
 use crate::refusal::Refusal;
 use crate::streams::{EVENTS_LIMIT, INPUT_LIMIT, gather, write_out};
 use std::alloc::Global;
-use std::fs;
 use std::io::Write;
 use std::rt::Files;
-use std::str;
+use std::{fs, str};
 use yaml_events::read_event_text;
 use yaml_read::read_events;
 use yaml_text::chars::Chars;
@@ -20,7 +19,7 @@ fn has_events<'a>(alloc: Global, input: &[u8], lines: &[u8]) -> Result<bool, Ref
         Err(place) => return Err(Refusal::EventText(Fault::NotUtf8(place.valid_up_to()))),
     };
     let wanted = read_event_text(alloc, text)?;
-    Ok(events.as_slice() == wanted.as_slice())
+    Ok(events == wanted)
 }
 
 /// Reads both files whole, the input first, then judges them and writes `match` or `differ`. The
