@@ -2,7 +2,9 @@
 ghost use Rattle.std.specs.Prelude.{◌≤◌, IfOk};
 
 use crate::canon::canon;
+use crate::check::check;
 use crate::compare::compare;
+use crate::events::events;
 use crate::refusal::Refusal;
 use crate::words::{Asked, read_words};
 use std::alloc::Global;
@@ -33,6 +35,16 @@ fn run<'a, T: Files, R: Read + Drop, W: Write>(
         },
         Asked::Same(left, right) => {
             if !compare(rt, alloc, left, right, out)? {
+                return Ok(DIFFERENT);
+            }
+        }
+        Asked::Events(None) => events(alloc, input, out)?,
+        Asked::Events(Some(name)) => match fs::open(rt, name) {
+            Ok(file) => events(alloc, file, out)?,
+            Err(_) => return Err(Refusal::CannotOpen(name)),
+        },
+        Asked::Check(file, lines) => {
+            if !check(rt, alloc, file, lines, out)? {
                 return Ok(DIFFERENT);
             }
         }

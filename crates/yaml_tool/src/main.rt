@@ -2,8 +2,10 @@
 #![tactic(auto)]
 
 mod canon;
+mod check;
 pub mod command;
 mod compare;
+mod events;
 mod refusal;
 mod streams;
 #[cfg(test)]

@@ -5,6 +5,7 @@ use crate::words::WordsFault;
 use std::fmt;
 use std::fmt::Display;
 use yaml_canon::Side;
+use yaml_events::EventFault;
 use yaml_text::fault::Fault;
 
 /// The status of an input that is refused.
@@ -25,6 +26,10 @@ pub enum Refusal<'a> {
     Input(Fault),
     /// A fault of one of the two inputs that are compared.
     OneSide(Side, Fault),
+    /// A fault in reading the event text that an input is checked against.
+    EventText(Fault),
+    /// A fault of that text's lines.
+    EventLines(EventFault),
 }
 
 impl Refusal<'_> {
@@ -35,7 +40,10 @@ impl Refusal<'_> {
     {
         match self {
             Refusal::Words(_) | Refusal::CannotOpen(_) => UNUSABLE,
-            Refusal::Input(fault) | Refusal::OneSide(_, fault) => status_of(fault),
+            Refusal::Input(fault) | Refusal::OneSide(_, fault) | Refusal::EventText(fault) => {
+                status_of(fault)
+            }
+            Refusal::EventLines(_) => REFUSED,
         }
     }
 }
@@ -67,6 +75,12 @@ impl From<(Side, Fault)> for Refusal<'_> {
     }
 }
 
+impl From<EventFault> for Refusal<'_> {
+    fn from(fault: EventFault) -> Self {
+        Refusal::EventLines(fault)
+    }
+}
+
 impl Display for Refusal<'_> {
     fn fmt<W: fmt::Write>(&self, f: &mut fmt::Formatter<W>) -> fmt::Result {
         match self {
@@ -76,6 +90,8 @@ impl Display for Refusal<'_> {
             Refusal::Input(fault) => write!(f, "{fault}"),
             Refusal::OneSide(Side::Left, fault) => write!(f, "left: {fault}"),
             Refusal::OneSide(Side::Right, fault) => write!(f, "right: {fault}"),
+            Refusal::EventText(fault) => write!(f, "events: {fault}"),
+            Refusal::EventLines(fault) => write!(f, "events: {fault}"),
         }
     }
 }

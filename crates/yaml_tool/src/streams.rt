@@ -6,6 +6,9 @@ use std::alloc::Global;
 use std::io::{Read, Write};
 use yaml_text::fault::Fault;
 
+/// The greatest length of an event text, in bytes.
+pub const EVENTS_LIMIT: usize = 1_073_741_824;
+
 /// How many bytes are asked of a reader at most in one call.
 const PIECE: usize = 4096;
 

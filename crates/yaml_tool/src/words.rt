@@ -10,6 +10,10 @@ pub enum Asked<'a> {
     Canon(Option<&'a str>),
     /// Whether these two files have the same documents.
     Same(&'a str, &'a str),
+    /// The event text of this file, or of the standard input.
+    Events(Option<&'a str>),
+    /// Whether the first file's events are those of the second, an event text.
+    Check(&'a str, &'a str),
 }
 
 #[derive(Clone, Copy, Debug, PartialEq, Eq)]
@@ -51,17 +55,25 @@ fn grammar<'a>(alloc: Global) -> Result<Command<'a>, AllocError> {
     let same = plain(alloc, "same")
         .arg(file(alloc, "A", true))?
         .arg(file(alloc, "B", true))?;
+    let events = plain(alloc, "events").arg(file(alloc, "FILE", false))?;
+    let check = plain(alloc, "check")
+        .arg(file(alloc, "FILE", true))?
+        .arg(file(alloc, "EVENTS", true))?;
     plain(alloc, "yamlcanon")
         .no_binary_name(true)
         .subcommand_required(true)
         .subcommand(canon)?
-        .subcommand(same)
+        .subcommand(same)?
+        .subcommand(events)?
+        .subcommand(check)
 }
 
 fn chosen<'a>(name: &str, files: &ArgMatches<'a>) -> Option<Asked<'a>> {
     match name {
         "canon" => Some(Asked::Canon(files.get_str("FILE"))),
         "same" => Some(Asked::Same(files.get_str("A")?, files.get_str("B")?)),
+        "events" => Some(Asked::Events(files.get_str("FILE"))),
+        "check" => Some(Asked::Check(files.get_str("FILE")?, files.get_str("EVENTS")?)),
         _ => None,
     }
 }
