@@ -3,16 +3,11 @@ use Rattle.std.proofs.Common.{◌≡◌, Bool, true, false, not, cond, ◌&&◌,
 use Rattle.std.proofs.lemmas.List.{append_assoc, append-nil}
 use Rattle.std.proofs.lemmas.List.Elements.{filter-append}
 use Rattle.std.specs.List.{filter, list_any}
-use lib.Pointwise.{bytes_decides}
-use Rattle.std.specs.Prelude.{bytes_eq}
 use Rattle.yaml_text.specs.Tree.{Tree, Trees, Pairs, scalar, sequence, mapping, end, item, done, entry}
-use Rattle.yaml_text.specs.Order.{arranged}
 use Rattle.yaml_text.specs.Same.{same}
 use Rattle.yaml_text.specs.Walk.{Place, first, again, firsts, agains, is_again, walk, walk_trees, walk_pairs}
 use Rattle.yaml_text.specs.Spell.{short}
-use Rattle.yaml_text.proofs.Members.{and_both, both_and}
-use Rattle.yaml_text.proofs.SameLaws.{same_from}
-use Rattle.yaml_text.proofs.Neat.{Neat, neat_same}
+use Rattle.yaml_text.proofs.Members.{and_both}
 use Rattle.yaml_text.proofs.UnfoldLaws.{firsts-append, agains-append}
 use Rattle.yaml_canon.specs.Anchored.{has}
 use Rattle.yaml_text.proofs.Equivalence.{same_refl, same_like, short_like}

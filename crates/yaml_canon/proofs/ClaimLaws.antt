@@ -1,23 +1,18 @@
 -- From the layers' answers to what is promised of the bytes.
-use Rattle.std.proofs.Common.{◌≡◌, ◌↔◌, ℕ, zero, suc, ◌+◌, ◌*◌, ◌<◌, ◌≤◌, List, [], ◌∷◌, ◌++◌, length, map, get_or, refl, sym, ◌∙◌, ap, subst, arith}
-use Rattle.std.specs.Prelude.{Ok, Err, None}
+use Rattle.std.proofs.Common.{◌≡◌, ℕ, suc, ◌<◌, ◌≤◌, List, [], ◌∷◌, length, map, refl, sym, ◌∙◌, ap, subst, arith}
+use Rattle.std.specs.Prelude.{Ok, None}
 use Rattle.std.specs.List.{All}
-use Rattle.std.specs.Str.{chars, encode_utf8_all}
-use Rattle.std.specs.String.{string_bytes}
 use Rattle.std.proofs.lemmas.List.{append-nil}
-use Rattle.std.proofs.Common.{Global}
 use Rattle.yaml_text.specs.Limits.{text_limit, height_limit, open_limit}
 use Rattle.yaml_text.specs.Tree.{Tree, height}
-use Rattle.yaml_text.specs.Same.{Keyed, Alike}
+use Rattle.yaml_text.specs.Same.{Keyed}
 use Rattle.yaml_text.specs.Spell.{spell_bytes}
 use Rattle.yaml_text.specs.Proper.{AreAdmitted, Admitted}
 use Rattle.yaml_text.specs.Sound.{AllProper}
-use Rattle.yaml_text.specs.Means.{StandsFor, Means}
+use Rattle.yaml_text.specs.Means.{Means}
 use Rattle.yaml_text.specs.Marked.{Document, stream_events}
-use Rattle.yaml_text.specs.Unfold.{trees_of}
-use Rattle.yaml_text.specs.Event.{Event}
 use Rattle.yaml_text.specs.EventModel.{event_of}
-use Rattle.yaml_text.specs.Text.{Text, RefusesText}
+use Rattle.yaml_text.specs.Text.{Text}
 use Rattle.yaml_text.specs.grammar.Reading.{Reads}
 use Rattle.yaml_text.specs.grammar.Streams.{ReadsText}
 use Rattle.yaml_text.proofs.grammar.Documents.{readings_are_documents}
@@ -32,9 +27,8 @@ use Rattle.yaml_graph.specs.GraphView.{nodes_of, roots_of, trees_of as graph_tre
 use Rattle.yaml_graph.specs.Composed.{Composable, Composed, RefusesStream}
 use Rattle.yaml_graph.specs.declared.node.NodeId.{NodeId}
 use Rattle.yaml_graph.specs.declared.graph.Graph.{Graph}
-use Rattle.yaml_rank.specs.RanksView.{RanksAre, RefusesGraph}
-use Rattle.yaml_rank.specs.declared.ranks.Ranks.{Ranks}
-use Rattle.yaml_canon.specs.Pieces.{Began, Writes, Puts, Fails}
+use Rattle.yaml_rank.specs.RanksView.{RefusesGraph}
+use Rattle.yaml_canon.specs.Pieces.{Began, Puts, Fails}
 use Rattle.yaml_canon.specs.Documents.{spell_more, RefusesLength}
 use Rattle.yaml_canon.specs.Claims.{AllOf, Accepted, IsCanonicalText, IsRead, CanonicalRefuses}
 use Rattle.yaml_canon.proofs.DocumentLaws.{spell_whole}

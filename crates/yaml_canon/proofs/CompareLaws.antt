@@ -1,13 +1,11 @@
 -- Roots of one rank, joined graphs, and what their answers say of two sides.
-use Rattle.std.proofs.Common.{◌≡◌, ◌≢◌, ℕ, zero, suc, ◌+◌, ◌-◌, ◌<◌, ◌≤◌, Bool, true, false, cond, ◌&&◌, List, [], ◌∷◌, ◌++◌, length, map, take, drop, get_or, refl, sym, ◌∙◌, ap, subst, arith, get_or-take}
+use Rattle.std.proofs.Common.{◌≡◌, ℕ, zero, suc, ◌+◌, ◌-◌, ◌<◌, ◌≤◌, Bool, true, false, cond, ◌&&◌, List, [], ◌∷◌, ◌++◌, length, map, take, drop, get_or, refl, sym, ◌∙◌, ap, subst, arith, get_or-take}
 use Rattle.std.specs.Prelude.{Result, Ok, Err, OnOk, IfOk, IfErr, MatchResult, nat_le}
-use Rattle.std.specs.List.{All, slice_index_or}
+use Rattle.std.specs.List.{All}
 use Rattle.std.specs.Cmp.Lexicographic.{pointwise}
 use Rattle.std.proofs.Math.Seq.{drop-append_seam, take-append_seam}
-use Rattle.std.proofs.Math.ListN.{drop_of_length-le}
-use Rattle.std.proofs.lemmas.List.{length-map}
-use Rattle.yaml_text.specs.Tree.{Tree, scalar}
-use Rattle.yaml_text.specs.Same.{same, Same, Keyed, Alike}
+use Rattle.yaml_text.specs.Tree.{Tree}
+use Rattle.yaml_text.specs.Same.{same, Keyed}
 use Rattle.yaml_text.specs.Marked.{Document}
 use Rattle.yaml_text.specs.Limits.{open_limit}
 use Rattle.yaml_text.specs.Source.{text_of}
@@ -32,8 +30,8 @@ use Rattle.yaml_rank.specs.declared.ranks.Ranks.{Ranks}
 use Rattle.yaml_read.specs.Answer.{IsRefusal}
 use Rattle.yaml_canon.specs.declared.side.Side.{Side}
 use Rattle.yaml_canon.specs.declared.side.Side.TheVariants.{Left, Right}
-use Rattle.yaml_canon.specs.Claims.{Accepted, IsRead, CanonicalRefuses}
-use Rattle.yaml_canon.specs.Comparing.{Compares, told_at, HasEqualKeys, IsComposable, ComparesDocuments, RefusesDocuments, IsComposed, ComparerRefuses}
+use Rattle.yaml_canon.specs.Claims.{IsRead}
+use Rattle.yaml_canon.specs.Comparing.{Compares, told_at, IsComposable, ComparesDocuments, RefusesDocuments, IsComposed, ComparerRefuses}
 use Rattle.yaml_canon.proofs.WalkLaws.{drop_next}
 use Rattle.yaml_canon.proofs.ClaimLaws.{accepted}
 

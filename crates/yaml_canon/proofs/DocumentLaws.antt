@@ -1,5 +1,5 @@
 -- The text of documents.
-use Rattle.std.proofs.Common.{◌≡◌, ℕ, zero, suc, ◌+◌, ◌<◌, ◌≤◌, Bool, true, false, ◌==◌, List, [], ◌∷◌, ◌++◌, Vec, Global, length, map, drop, get_or, refl, sym, ◌∙◌, ap, subst, arith}
+use Rattle.std.proofs.Common.{◌≡◌, ℕ, zero, suc, ◌+◌, ◌<◌, ◌≤◌, Bool, true, false, ◌==◌, List, [], ◌∷◌, ◌++◌, length, map, drop, get_or, refl, sym, ◌∙◌, ap, subst, arith}
 use Rattle.std.specs.Prelude.{Some, None}
 use Rattle.std.proofs.lemmas.Bool.{eqb-true}
 use Rattle.std.proofs.lemmas.Bool.Decides.{nat_tests}
@@ -9,18 +9,17 @@ use Rattle.std.specs.Cow.{cow_str_bytes}
 use Rattle.std.specs.Char.{encode_utf8}
 use Rattle.std.specs.Str.{encode_utf8_all}
 use Rattle.yaml_text.specs.declared.fault.Fault.{Fault}
-use Rattle.yaml_text.specs.Tree.{Tree, Trees, Pairs, scalar, sequence, mapping, end, item, done, entry}
+use Rattle.yaml_text.specs.Tree.{Tree, Trees, Pairs, sequence, mapping}
 use Rattle.yaml_text.specs.Order.{arranged}
 use Rattle.yaml_text.specs.Same.{same}
 use Rattle.yaml_text.specs.Marked.{Marked}
 use Rattle.yaml_text.specs.NodeText.{text}
-use Rattle.yaml_text.specs.Spell.{marks_of, marks_of_arranged, spell, spell_bytes}
+use Rattle.yaml_text.specs.Spell.{marks_of, spell, spell_bytes}
 use Rattle.yaml_text.proofs.Equivalence.{same_refl}
 use Rattle.yaml_graph.specs.TreeLists.{trees, pairs}
-use Rattle.yaml_graph.specs.GraphModel.{Entries, PartsBelow, items_of, entries_of}
-use Rattle.yaml_graph.specs.GraphView.{nodes_of, tree, forest}
+use Rattle.yaml_graph.specs.GraphModel.{Entries, PartsBelow}
+use Rattle.yaml_graph.specs.GraphView.{nodes_of, tree}
 use Rattle.yaml_graph.specs.declared.node.NodeId.{NodeId}
-use Rattle.yaml_graph.specs.declared.node.Node.{Node}
 use Rattle.yaml_graph.specs.declared.node.NodeKind.{NodeKind}
 use Rattle.yaml_graph.specs.declared.node.NodeKind.TheVariants as kinds
 use Rattle.yaml_graph.specs.declared.graph.Graph.{Graph}

@@ -1,16 +1,16 @@
 -- The marks that a walk by ranks writes are those of the definition.
-use Rattle.std.proofs.Common.{◌≡◌, ℕ, zero, suc, ◌+◌, ◌<◌, Bool, true, false, not, cond, ◌&&◌, ◌||◌, ◌==◌, List, [], ◌∷◌, ◌++◌, length, refl, sym, ◌∙◌, ap, subst, arith, add-one}
+use Rattle.std.proofs.Common.{◌≡◌, ℕ, suc, ◌+◌, Bool, true, false, not, cond, ◌&&◌, ◌||◌, ◌==◌, List, [], ◌∷◌, ◌++◌, length, refl, sym, ◌∙◌, ap, subst, arith}
 use Rattle.std.proofs.lemmas.List.{append_assoc, append-nil, length-append}
-use Rattle.std.specs.List.{list_any, position_or_len}
+use Rattle.std.specs.List.{position_or_len}
 use Rattle.std.specs.declared.option.Option.TheVariants.{None, Some}
 use Rattle.yaml_text.specs.Tree.{Tree, Trees, Pairs, scalar, sequence, mapping, end, item, done, entry}
 use Rattle.yaml_text.specs.Same.{same}
 use Rattle.yaml_text.specs.Spell.{short, marks_of_arranged}
 use Rattle.yaml_text.specs.Event.{Anchor, double}
 use Rattle.yaml_text.specs.Mark.{name_of}
-use Rattle.yaml_text.specs.Marked.{Marked, alias, scalar_at, sequence_at, mapping_at, item_mark, entry_marks}
+use Rattle.yaml_text.specs.Marked.{Marked, scalar_at, sequence_at, mapping_at, item_mark, entry_marks}
 use Rattle.yaml_text.specs.TagText.{written_tag}
-use Rattle.yaml_text.proofs.Equivalence.{same_refl, same_like, short_like}
+use Rattle.yaml_text.proofs.Equivalence.{short_like}
 use Rattle.yaml_canon.specs.Anchored.{has, alias_at, anchor_at, enrolled, marked, marked_all, marked_pairs}
 use Rattle.yaml_canon.specs.Anchored as twin
 use Rattle.yaml_canon.specs.Repeats.{repeats_one, kept, kept_all, kept_pairs, repeats, repeats_all, repeats_pairs}
@@ -19,9 +19,9 @@ use Rattle.yaml_canon.specs.declared.names.State.{State}
 use Rattle.yaml_canon.specs.declared.names.State.TheVariants.{Unseen, Seen, Repeated, Named}
 use Rattle.yaml_canon.specs.declared.names.Opening.{Opening}
 use Rattle.yaml_canon.specs.declared.names.Opening.TheVariants.{Plain, Anchored, Alias}
-use Rattle.yaml_canon.specs.NamesView.{Table, Given, put, met_at, opening, opened, opened_by}
+use Rattle.yaml_canon.specs.NamesView.{Table, Given, put, met_at, opening, opened_by}
 use Rattle.yaml_canon.specs.Known.{met_state}
-use Rattle.yaml_canon.specs.Walked.{entered, noted, noticed, noticed_all, noticed_pairs, opening_of, opened_of, after, anchor_in, begun, start, started, given, given_all, given_pairs, written, written_all, written_pairs}
+use Rattle.yaml_canon.specs.Walked.{entered, noted, noticed, noticed_all, noticed_pairs, after, anchor_in, begun, start, started, given, given_all, given_pairs, written, written_all, written_pairs}
 use Rattle.yaml_canon.proofs.Anchors.{Every, of_has, has_like, IsLong, agains_long, repeats_are}
 use Rattle.yaml_canon.proofs.Markings.{marked_is}
 

@@ -1,5 +1,5 @@
 -- What is known of ranks, as one of them changes.
-use Rattle.std.proofs.Common.{◌≡◌, ◌≢◌, ℕ, ◌<◌, Bool, true, false, cond, ◌==◌, List, length, get_or, refl, sym, ◌∙◌, ap, arith, get_or-set_other, get_or-set_same}
+use Rattle.std.proofs.Common.{◌≡◌, ◌≢◌, ℕ, ◌<◌, Bool, true, false, cond, ◌==◌, List, length, refl, ◌∙◌, ap, arith, get_or-set_other, get_or-set_same}
 use Rattle.std.specs.Prelude.{slice_set}
 use Rattle.std.specs.List.{slice_index_or}
 use Rattle.std.proofs.lemmas.Bool.Decides.{nat_tests}

@@ -1,11 +1,11 @@
 -- What a page and its writer hold, step by step.
-use Rattle.std.proofs.Common.{◌≡◌, ◌≢◌, ℕ, ◌+◌, ◌-◌, ◌≤◌, ◌<◌, min, true, false, ◌&&◌, not, ◌==◌, cond, List, [], ◌∷◌, ◌++◌, Option, length, take, drop, refl, sym, ◌∙◌, ap, subst, arith, suc, zero-add, take-add, take-append-drop}
-use Rattle.std.proofs.lemmas.List.{append_assoc, append-nil, length-append}
+use Rattle.std.proofs.Common.{◌≡◌, ℕ, ◌+◌, ◌-◌, min, false, ◌&&◌, not, ◌==◌, cond, List, [], ◌∷◌, ◌++◌, Option, length, take, drop, sym, ◌∙◌, ap, subst, arith, suc, zero-add, take-add, take-append-drop}
+use Rattle.std.proofs.lemmas.List.{append_assoc, append-nil}
 use Rattle.std.proofs.lemmas.Bool.Decides.{nat_tests}
 use Rattle.std.proofs.lemmas.Grind.{common_steps}
 use Rattle.std.specs.Io.KnownBytes.{Appends}
 use Rattle.std.specs.Char.{encode_utf8}
-use Rattle.std.specs.Str.{encode_utf8_all, IsUtf8, chars}
+use Rattle.std.specs.Str.{encode_utf8_all, IsUtf8}
 use Rattle.std.specs.Prelude.{flat_map}
 use Rattle.std.proofs.lemmas.Str.{IsUtf8-past_char, chars-nil}
 use Rattle.yaml_text.specs.CharText.{spell_char}
@@ -14,7 +14,7 @@ use Rattle.yaml_scalar.proofs.SpellingLemmas.{next_spelled, spelled_is}
 use Rattle.yaml_text.specs.declared.fault.Fault.{Fault}
 use Rattle.yaml_text.specs.declared.counted.Counted.{Counted}
 use Rattle.yaml_text.specs.Count.{one_more}
-use Rattle.yaml_text.specs.CountedModel.{inner_of, faults_of}
+use Rattle.yaml_text.specs.CountedModel.{inner_of}
 use Rattle.yaml_canon.specs.declared.page.Page.{Page}
 use Rattle.yaml_canon.specs.Pieces.{Began, Adds, Misses}
 use Rattle.yaml_canon.specs.Pages.{page_bytes, page_len, PageHolds, PageStops}

@@ -1,15 +1,14 @@
 -- Ranks of arranged trees.
-use Rattle.std.proofs.Common.{◌≡◌, ℕ, zero, suc, ◌+◌, ◌<◌, ◌≤◌, Bool, true, false, not, cond, ◌&&◌, ◌==◌, List, [], ◌∷◌, length, map, get_or, refl, sym, ◌∙◌, ap, subst, arith}
+use Rattle.std.proofs.Common.{◌≡◌, ℕ, zero, suc, ◌+◌, ◌<◌, Bool, true, false, not, cond, List, [], ◌∷◌, length, map, get_or, refl, sym, ◌∙◌, subst, arith}
 use Rattle.std.specs.List.{position_or_len}
 use Rattle.std.proofs.lemmas.List.{length-map}
 use Rattle.yaml_text.specs.Tree.{Tree, scalar}
 use Rattle.yaml_text.specs.Order.{arranged}
-use Rattle.yaml_text.specs.Same.{same, Same, keyed}
+use Rattle.yaml_text.specs.Same.{same}
 use Rattle.yaml_text.proofs.SameLaws.{same_to, same_from}
-use Rattle.yaml_text.proofs.Neat.{Neat, neat_fixed, neat_keyed, neat_same, arranged_neat}
+use Rattle.yaml_text.proofs.Neat.{Neat, neat_same, arranged_neat}
 use Rattle.yaml_text.proofs.Equivalence.{same_refl}
 use Rattle.yaml_graph.specs.GraphView.{nodes_of, trees_of, tree}
-use Rattle.yaml_graph.specs.GraphModel.{tree_at}
 use Rattle.yaml_graph.proofs.GraphLaws.{trees-length}
 use Rattle.yaml_graph.specs.declared.graph.Graph.{Graph}
 use Rattle.yaml_rank.specs.RanksView.{RanksAre, rank_of}

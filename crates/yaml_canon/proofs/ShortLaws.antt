@@ -1,12 +1,12 @@
 -- The length of a text that is given to a length with a limit.
-use Rattle.std.proofs.Common.{◌≡◌, ℕ, ◌+◌, ◌<◌, ◌≤◌, Bool, true, false, List, [], ◌∷◌, ◌++◌, length, refl, sym, ◌∙◌, ap, subst, arith}
+use Rattle.std.proofs.Common.{◌≡◌, ℕ, ◌<◌, ◌≤◌, Bool, true, false, List, [], length, sym, ◌∙◌, ap, subst, arith}
 use Rattle.std.specs.Prelude.{Result, Ok, Err, OnOk, IfErr, None, nat_le, is_ok, is_err}
-use Rattle.std.proofs.lemmas.List.{append-nil, length-append}
+use Rattle.std.proofs.lemmas.List.{append-nil}
 use Rattle.std.proofs.lemmas.Bool.Decides.{nat_tests}
 use Rattle.std.specs.Str.{encode_utf8_all}
 use Rattle.yaml_text.specs.declared.fault.Fault.{Fault}
 use Rattle.yaml_canon.specs.declared.length.Length.{Length}
-use Rattle.yaml_canon.specs.Pieces.{Began, Writes, Adds, Puts, Misses, Fails}
+use Rattle.yaml_canon.specs.Pieces.{Began, Writes, Puts, Fails}
 use Rattle.yaml_canon.specs.SinkViews.{len_of, limit_of, LengthHolds, LengthStops}
 
 abbrev pub Holds : Length → Unit {0} → Began → List ℕ → Type 0

@@ -1,13 +1,13 @@
 -- The walk by ranks, step by step.
-use Rattle.std.proofs.Common.{◌≡◌, ℕ, zero, suc, ◌+◌, ◌<◌, ◌≤◌, Bool, true, false, not, cond, ◌&&◌, ◌==◌, List, [], ◌∷◌, ◌++◌, Vec, Global, length, map, drop, get_or, slice_index, refl, sym, ◌∙◌, ap, subst, arith, add-one}
+use Rattle.std.proofs.Common.{◌≡◌, ℕ, zero, suc, ◌+◌, ◌<◌, ◌≤◌, Bool, true, false, cond, ◌&&◌, ◌==◌, List, [], ◌∷◌, ◌++◌, Vec, Global, length, map, drop, get_or, refl, sym, ◌∙◌, ap, subst, arith, add-one}
 use Rattle.std.specs.Prelude.{Some, nat_le}
-use Rattle.std.specs.List.{slice_get, All, Contains, position_or_len}
+use Rattle.std.specs.List.{slice_get, All}
 use Rattle.std.specs.Cow.{cow_str_bytes}
 use Rattle.std.specs.Str.{encode_utf8_all}
 use Rattle.std.specs.Char.{encode_utf8}
 use Rattle.std.proofs.Math.Seq.{drop-cons}
 use Rattle.std.proofs.Math.ListN.{drop_of_length-le}
-use Rattle.std.proofs.lemmas.List.{length-map, length-append, append-nil}
+use Rattle.std.proofs.lemmas.List.{length-append}
 use Rattle.std.proofs.lemmas.Bool.Decides.{nat_tests}
 use Rattle.std.proofs.lemmas.Str.{encodes-append}
 use Rattle.yaml_text.specs.Limits.{short_limit}
@@ -17,23 +17,22 @@ use Rattle.yaml_text.specs.NodeText.{text}
 use Rattle.yaml_text.specs.Spell.{short, text_len}
 use Rattle.yaml_text.specs.TagText.{tag_text, written_tag}
 use Rattle.yaml_graph.specs.TreeLists.{trees, pairs}
-use Rattle.yaml_graph.specs.GraphModel.{Entries, items_of, entries_of, PartsBelow}
-use Rattle.yaml_graph.specs.GraphView.{nodes_of, trees_of, tree}
+use Rattle.yaml_graph.specs.GraphModel.{Entries, entries_of}
+use Rattle.yaml_graph.specs.GraphView.{nodes_of, tree}
 use Rattle.yaml_graph.specs.declared.node.NodeId.{NodeId}
 use Rattle.yaml_graph.specs.declared.node.Node.{Node}
 use Rattle.yaml_graph.specs.declared.node.NodeKind.{NodeKind}
 use Rattle.yaml_graph.specs.declared.node.NodeKind.TheVariants as kinds
 use Rattle.yaml_graph.specs.declared.graph.Graph.{Graph}
 use Rattle.yaml_rank.specs.RankModel.{key_pair}
-use Rattle.yaml_rank.specs.RanksView.{RanksAre, rank_of, sorted_of}
+use Rattle.yaml_rank.specs.RanksView.{RanksAre, sorted_of}
 use Rattle.yaml_rank.specs.Laws.{arranged_kind}
 use Rattle.yaml_rank.specs.declared.ranks.Ranks.{Ranks}
 use Rattle.yaml_rank.proofs.Shapes.{sorted-is-arranged}
 use Rattle.yaml_canon.specs.Known.{is_unseen}
 use Rattle.yaml_canon.specs.NamesView.{Table, met_at}
-use Rattle.yaml_canon.specs.RankView.{rank_in}
-use Rattle.yaml_canon.specs.ShortNodes.{short_kind, short_scalar, short_tag}
-use Rattle.yaml_canon.specs.Walked.{entered, noted, noticed, noticed_all, noticed_pairs}
+use Rattle.yaml_canon.specs.ShortNodes.{short_kind, short_tag}
+use Rattle.yaml_canon.specs.Walked.{entered, noticed, noticed_all, noticed_pairs}
 use Rattle.yaml_canon.specs.declared.names.State.{State}
 use Rattle.yaml_canon.specs.declared.names.State.TheVariants.{Unseen, Seen, Repeated, Named}
 

@@ -1,12 +1,11 @@
 -- The second walk by ranks, step by step.
-use Rattle.std.specs.Prelude.{Result, Ok, Err, OnOk, IfErr, Some, None}
-use Rattle.std.proofs.Common.{◌≡◌, ℕ, zero, suc, ◌+◌, ◌<◌, ◌≤◌, Bool, true, false, cond, List, [], ◌∷◌, ◌++◌, length, map, drop, get_or, refl, sym, ◌∙◌, ap, subst, arith, add-one}
+use Rattle.std.specs.Prelude.{Result, Ok, Err, OnOk, Some}
+use Rattle.std.proofs.Common.{◌≡◌, ℕ, ◌+◌, ◌<◌, ◌≤◌, true, List, [], ◌∷◌, ◌++◌, length, map, drop, get_or, refl, sym, ◌∙◌, ap, subst, add-one}
 use Rattle.std.proofs.Math.ListN.{drop_of_length-le}
 use Rattle.std.specs.Char.{encode_utf8}
 use Rattle.std.specs.Str.{encode_utf8_all, chars}
 use Rattle.yaml_text.specs.declared.fault.Fault.{Fault}
-use Rattle.yaml_text.specs.Tree.{Tree, Trees, Pairs, scalar, sequence, mapping, end, item, done, entry}
-use Rattle.yaml_text.specs.Spell.{short}
+use Rattle.yaml_text.specs.Tree.{Tree, Trees, Pairs, scalar, sequence, mapping}
 use Rattle.yaml_text.specs.Mark.{name_of}
 use Rattle.yaml_text.specs.Marked.{alias}
 use Rattle.yaml_text.specs.NodeText.{text, anchor_text, items_text, pairs_text, quoted}
@@ -17,7 +16,7 @@ use Rattle.yaml_canon.specs.NamesView.{Given}
 use Rattle.yaml_canon.specs.declared.names.Opening.{Opening}
 use Rattle.yaml_canon.specs.declared.names.Opening.TheVariants.{Plain, Anchored, Alias}
 use Rattle.yaml_canon.specs.Walked.{after, anchor_in, begun, separator, start, started, given, given_all, given_pairs, written, written_all, written_pairs, inner, given_inside}
-use Rattle.yaml_canon.proofs.PieceLaws.{Left, puts_as, puts_piece, puts_then, fails_as, fails_piece, fails_later, left_first, left_next, left_last, left_fails, fails_more}
+use Rattle.yaml_canon.proofs.PieceLaws.{Left, puts_as, puts_piece, puts_then, fails_as, fails_piece, fails_later, left_next, left_fails, fails_more}
 use Rattle.yaml_canon.proofs.WalkLaws.{drop_next}
 
 pub all_ok : {T E P : Type 0} (r : Result T E) → P → OnOk r P

@@ -1,5 +1,5 @@
 -- The marks of an arranged tree, from the anchored nodes that were written before it.
-use Rattle.std.specs.Prelude.{ℕ, zero, suc, Bool, true, cond, List, [], ◌∷◌, ◌++◌, length, map}
+use Rattle.std.specs.Prelude.{suc, Bool, true, cond, List, [], ◌∷◌, ◌++◌, length}
 use Rattle.std.specs.declared.option.Option.TheVariants.{None, Some}
 use Rattle.std.specs.List.{list_any, position_or_len}
 use Rattle.yaml_text.specs.Tree.{Trees, Pairs, scalar, sequence, mapping, end, item, done, entry}
@@ -9,8 +9,6 @@ use Rattle.yaml_text.specs.Event.{Anchor, double}
 use Rattle.yaml_text.specs.Marked.{Marked, AllMarked, MarkedPairs, alias, scalar_at, sequence_at, mapping_at, end_marks, item_mark, done_marks, entry_marks}
 use Rattle.yaml_text.specs.TagText.{written_tag}
 use Rattle.yaml_text.specs.Mark.{name_of}
-
-
 
 -- one of the list is the same as this tree
 abbrev pub has : List plain.Tree → plain.Tree → Bool

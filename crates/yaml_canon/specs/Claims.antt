@@ -1,5 +1,5 @@
 -- What `canonical` promises.
-use Rattle.std.specs.Prelude.{◌≡◌, ◌↔◌, ◌<◌, ◌≤◌, ◌+◌, ◌*◌, ℕ, Bool, true, List, [], ◌∷◌, length, Ok, Err}
+use Rattle.std.specs.Prelude.{◌≡◌, ◌↔◌, ◌<◌, ◌≤◌, ℕ, List, [], ◌∷◌, length}
 use Rattle.yaml_text.specs.Limits.{text_limit, height_limit}
 use Rattle.yaml_text.specs.Tree.{Tree, height}
 use Rattle.yaml_text.specs.Same.{Keyed, Alike}

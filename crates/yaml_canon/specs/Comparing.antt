@@ -1,12 +1,11 @@
 -- What `same` promises.
-use Rattle.std.specs.Prelude.{◌≡◌, ◌↔◌, ◌<◌, ◌≤◌, ◌+◌, ◌-◌, ℕ, Bool, true, cond, nat_le, List, length, Ok}
+use Rattle.std.specs.Prelude.{◌≡◌, ◌↔◌, ◌<◌, ◌-◌, ℕ, Bool, true, cond, nat_le, List, length}
 use Rattle.std.specs.Cmp.Lexicographic.{pointwise}
 use Rattle.yaml_text.specs.Same.{Alike, same, Keyed}
 use Rattle.yaml_text.specs.Tree.{Tree}
-use Rattle.yaml_text.specs.Means.{Means}
 use Rattle.yaml_text.specs.Marked.{Document}
 use Rattle.yaml_text.specs.declared.fault.Fault.{Fault}
-use Rattle.yaml_text.specs.declared.fault.Fault.TheVariants.{EqualKeys, TextTooLong, OutOfMemory}
+use Rattle.yaml_text.specs.declared.fault.Fault.TheVariants.{EqualKeys, TextTooLong}
 use Rattle.yaml_graph.specs.Composed.{Composed, RefusesStream}
 use Rattle.yaml_graph.specs.GraphView.{nodes_of, tree, forest}
 use Rattle.yaml_graph.specs.JoinModel.{Joined}
@@ -14,7 +13,7 @@ use Rattle.yaml_graph.specs.declared.graph.Graph.{Graph}
 use Rattle.yaml_rank.specs.RanksView.{RefusesGraph}
 use Rattle.yaml_canon.specs.declared.side.Side.{Side}
 use Rattle.yaml_canon.specs.declared.side.Side.TheVariants.{Left, Right}
-use Rattle.yaml_canon.specs.Claims.{AllOf, Accepted, IsRead, CanonicalRefuses}
+use Rattle.yaml_canon.specs.Claims.{Accepted, IsRead, CanonicalRefuses}
 
 -- The two streams are accepted, and the answer is whether they have equally many documents, pairwise the same.
 pub record Compares (left right : List ℕ) (answer : Bool) : Type 0 where

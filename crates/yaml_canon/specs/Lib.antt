@@ -13,3 +13,4 @@ pub mod Repeats
 pub mod Documents
 pub mod Claims
 pub mod Comparing
+pub mod Gathering

@@ -1,8 +1,8 @@
 -- What is known of each rank, as a table, and how nodes change it.
-use Rattle.std.specs.Prelude.{◌≡◌, ℕ, suc, cond, ◌==◌, length}
+use Rattle.std.specs.Prelude.{ℕ, suc, cond, ◌==◌, length}
 use Rattle.std.specs.List.{slice_index_or}
 use Rattle.yaml_canon.specs.declared.names.State.{State}
-use Rattle.yaml_canon.specs.declared.names.State.TheVariants.{Unseen, Seen, Repeated, Named}
+use Rattle.yaml_canon.specs.declared.names.State.TheVariants.{Unseen, Repeated, Named}
 use Rattle.yaml_canon.specs.declared.names.Opening.{Opening}
 use Rattle.yaml_canon.specs.declared.names.Opening.TheVariants.{Plain, Anchored, Alias}
 use Rattle.yaml_canon.specs.declared.names.Names.{Names}

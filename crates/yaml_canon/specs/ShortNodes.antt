@@ -1,5 +1,5 @@
 -- Which nodes of a graph are short.
-use Rattle.std.specs.Prelude.{ℕ, ◌+◌, Bool, ◌&&◌, ◌==◌, nat_le, List, [], length}
+use Rattle.std.specs.Prelude.{ℕ, ◌+◌, Bool, ◌&&◌, ◌==◌, nat_le, List, length}
 use Rattle.std.specs.Cow.{cow_str_bytes}
 use Rattle.std.specs.Str.{encode_utf8_all}
 use Rattle.std.specs.declared.option.Option.TheVariants.{None}

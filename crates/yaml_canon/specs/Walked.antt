@@ -1,5 +1,5 @@
 -- How a walk in writing order changes what is known of each rank, and the marks that it writes.
-use Rattle.std.specs.Prelude.{ℕ, zero, suc, Bool, true, false, cond, ◌++◌, List, [], ◌∷◌}
+use Rattle.std.specs.Prelude.{ℕ, zero, suc, Bool, true, cond, ◌++◌, List, [], ◌∷◌}
 use Rattle.std.specs.Str.{chars}
 use Rattle.yaml_text.specs.NodeText.{quoted, items_text, pairs_text}
 use Rattle.std.specs.declared.option.Option.TheVariants.{None, Some}

@@ -4,10 +4,11 @@
 pub mod comparer;
 mod length;
 mod names;
-mod page;
 mod node;
+mod page;
 mod parts;
 pub mod presenter;
+pub mod reading;
 pub mod side;
 mod sink;
 pub mod spell;
@@ -16,5 +17,6 @@ mod walk;
 
 pub use comparer::same;
 pub use presenter::canonical;
+pub use reading::gather;
 pub use side::Side;
 pub use spell::canonical_len;

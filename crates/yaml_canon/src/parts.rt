@@ -16,11 +16,17 @@ use yaml_text::class::is_uri;
 use yaml_text::fault::Fault;
 
 const NULL_TAG: &str = "tag:yaml.org,2002:null";
+
 const BOOL_TAG: &str = "tag:yaml.org,2002:bool";
+
 const INT_TAG: &str = "tag:yaml.org,2002:int";
+
 const FLOAT_TAG: &str = "tag:yaml.org,2002:float";
+
 const STR_TAG: &str = "tag:yaml.org,2002:str";
+
 const SEQ_TAG: &str = "tag:yaml.org,2002:seq";
+
 const MAP_TAG: &str = "tag:yaml.org,2002:map";
 
 /// The kinds of nodes.

@@ -1,7 +1,7 @@
-use Rattle.std.proofs.Common.{◌≡◌, ◌<◌, ◌∙◌, sym, ap, subst, arith, ℕ, length, take, drop, map, get_or}
+use Rattle.std.proofs.Common.{◌≡◌, ◌<◌, ◌∙◌, sym, ap, arith, length, take, drop, map}
 use Rattle.std.specs.Cmp.Lexicographic.{pointwise}
 use Rattle.yaml_text.specs.Same.{same}
-use Rattle.yaml_graph.specs.GraphView.{tree, roots_of, nodes_of}
+use Rattle.yaml_graph.specs.GraphView.{tree, roots_of}
 use Rattle.yaml_graph.specs.declared.node.NodeId.{NodeId}
 use Rattle.yaml_canon.proofs.CompareLaws.{within-left, within-right, alike-next, alike-not}
 use Rattle.yaml_canon.proofs.comparer.are_alike.Goals as goal

@@ -1,4 +1,4 @@
-use Rattle.std.proofs.Common.{◌≡◌, ◌∙◌, sym, ap, subst, refl, length}
+use Rattle.std.proofs.Common.{◌∙◌, ap, length}
 use Rattle.yaml_canon.specs.Comparing.{told_at}
 use Rattle.yaml_canon.proofs.CompareLaws.{joined_ok, composed_ok, left-keyed, right-keyed, joined-alike, joined-refused}
 use Rattle.yaml_canon.proofs.comparer.compare.Goals as goal

@@ -1,8 +1,8 @@
-use Rattle.std.proofs.Common.{◌≡◌, ◌∙◌, sym, ap, subst, rules, map}
+use Rattle.std.proofs.Common.{◌∙◌, sym, ap, subst, rules, map}
 use Rattle.yaml_text.specs.EventModel.{event_of}
 use Rattle.yaml_graph.specs.Composed.{Composable}
 use Rattle.yaml_canon.specs.Comparing.{ComparerRefuses, IsComposed}
-use Rattle.yaml_canon.proofs.PieceLaws.{if_ok, if_err, if_one}
+use Rattle.yaml_canon.proofs.PieceLaws.{if_err, if_one}
 use Rattle.yaml_canon.proofs.ClaimLaws.{found, composable}
 use Rattle.yaml_canon.proofs.CompareLaws.{text_ok, text_err, events_ok, events_err, checked_ok, checked_err, compares, refuses-left, refuses-text, refuses-reading, refuses-both}
 use Rattle.yaml_canon.proofs.comparer.same.Goals as goal

@@ -1,4 +1,4 @@
-use Rattle.std.proofs.Common.{◌∙◌, sym, ap}
+use Rattle.std.proofs.Common.{◌∙◌}
 use Rattle.yaml_text.specs.NodeText.{text}
 use Rattle.yaml_text.specs.Spell.{text_len}
 use Rattle.yaml_canon.proofs.ShortLaws.{fits_text}

@@ -1,4 +1,4 @@
-use Rattle.std.proofs.Common.{◌∙◌, sym, ap, refl, ◌∷◌, [], ◌++◌}
+use Rattle.std.proofs.Common.{◌∙◌, sym, ap, ◌∷◌, [], ◌++◌}
 use Rattle.std.specs.Prelude.{nat_le}
 use Rattle.yaml_text.specs.Limits.{short_limit}
 use Rattle.yaml_text.specs.TagText.{tag_text, written_tag}

@@ -1,4 +1,4 @@
-use Rattle.std.proofs.Common.{◌≡◌, ◌-◌, ◌≤◌, length, take}
+use Rattle.std.proofs.Common.{◌-◌, ◌≤◌, length, take}
 use Rattle.yaml_canon.specs.Writers.{Sent}
 use Rattle.yaml_canon.proofs.page.write_whole.Given as goal
 

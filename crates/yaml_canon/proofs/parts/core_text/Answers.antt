@@ -1,4 +1,4 @@
-use Rattle.std.proofs.Common.{refl, sym, ◌∙◌, ap, rules}
+use Rattle.std.proofs.Common.{refl, rules}
 use Rattle.std.specs.Char.{encode_utf8}
 use Rattle.yaml_text.specs.Tag.{core_tag}
 use Rattle.yaml_text.specs.TagText.{full_text}

@@ -1,5 +1,4 @@
-use Rattle.std.proofs.Common.{rules, arith, sym, ◌∙◌, ap, subst}
-use Rattle.yaml_text.specs.TagText.{spell_byte}
+use Rattle.std.proofs.Common.{arith, sym, ◌∙◌, subst}
 use Rattle.yaml_canon.specs.Pieces.{Adds, Misses}
 use Rattle.yaml_canon.proofs.PieceLaws.{on_ok, if_err}
 use Rattle.yaml_canon.proofs.PartLaws.{byte_itself, byte_escaped}

@@ -1,8 +1,7 @@
-use Rattle.std.proofs.Common.{◌≡◌, ◌∙◌, sym, ap, subst, rules, map}
+use Rattle.std.proofs.Common.{◌∙◌, sym, ap, subst, rules, map}
 use Rattle.yaml_text.specs.EventModel.{event_of}
 use Rattle.yaml_graph.specs.Composed.{Composable}
 use Rattle.yaml_graph.specs.GraphView.{forest}
-use Rattle.yaml_canon.specs.Claims.{CanonicalRefuses}
 use Rattle.yaml_canon.proofs.PieceLaws.{if_ok, if_err}
 use Rattle.yaml_canon.proofs.ClaimLaws.{found, composable, accepted, canonical_text, refused_composing, refused_ranking, refused_spelling}
 use Rattle.yaml_canon.proofs.presenter.canonical.Goals as goal

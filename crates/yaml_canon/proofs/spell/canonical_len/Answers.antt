@@ -1,4 +1,4 @@
-use Rattle.std.proofs.Common.{◌≡◌, ◌≤◌, ◌∙◌, sym, ap, subst, rules, length, ℕ}
+use Rattle.std.proofs.Common.{◌≤◌, ◌∙◌, ap, subst, rules, length}
 use Rattle.yaml_graph.specs.GraphView.{forest}
 use Rattle.yaml_canon.specs.Documents.{spell_more}
 use Rattle.yaml_canon.proofs.ShortLaws.{measured}

@@ -1,13 +1,12 @@
-use Rattle.std.proofs.Common.{◌≡◌, ◌∙◌, sym, ap, rules, refl, ℕ}
+use Rattle.std.proofs.Common.{◌≡◌, ◌∙◌, ap, rules}
 use Rattle.yaml_text.specs.Order.{arranged}
-use Rattle.yaml_text.specs.Spell.{marks_of}
 use Rattle.yaml_graph.specs.GraphView.{tree}
-use Rattle.yaml_canon.specs.NamesView.{given_of, Given, count_of, table_of}
+use Rattle.yaml_canon.specs.NamesView.{given_of}
 use Rattle.yaml_canon.specs.RankView.{rank_in}
-use Rattle.yaml_canon.specs.Walked.{noticed, written}
+use Rattle.yaml_canon.specs.Walked.{noticed}
 use Rattle.yaml_canon.specs.declared.names.State.TheVariants.{Unseen}
 use Rattle.yaml_canon.proofs.PieceLaws.{on_ok, if_err}
-use Rattle.yaml_canon.proofs.DocumentLaws.{marks-there, document_put, document_unstarted, document_broken, document_unended}
+use Rattle.yaml_canon.proofs.DocumentLaws.{marks-there, document_put, document_broken, document_unended}
 use Rattle.yaml_canon.proofs.spell.write_document.Goals as goal
 
 pub returns-in_err-write_node-clause-err : goal.returns-in_err-write_node-clause-err

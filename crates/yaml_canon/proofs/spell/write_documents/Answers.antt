@@ -1,10 +1,10 @@
-use Rattle.std.proofs.Common.{◌≡◌, ◌+◌, ◌∙◌, sym, ap, rules, arith, refl}
+use Rattle.std.proofs.Common.{◌+◌, ◌∙◌, ap, arith, refl}
 use Rattle.yaml_graph.specs.GraphView.{tree}
 use Rattle.yaml_graph.specs.declared.node.NodeId.{NodeId}
 use Rattle.yaml_canon.specs.Documents.{spell_more}
 use Rattle.std.proofs.Common.{map}
-use Rattle.yaml_canon.proofs.PieceLaws.{puts_none, on_ok, if_err}
-use Rattle.yaml_canon.proofs.DocumentLaws.{next_document, document_fails, last_document}
+use Rattle.yaml_canon.proofs.PieceLaws.{puts_none}
+use Rattle.yaml_canon.proofs.DocumentLaws.{next_document}
 use Rattle.yaml_canon.proofs.spell.write_documents.Goals as goal
 
 pub loop-root-init : goal.loop-root-init

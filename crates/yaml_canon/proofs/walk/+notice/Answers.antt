@@ -1,4 +1,4 @@
-use Rattle.std.proofs.Common.{◌≡◌, false, true, sym, ◌∙◌, ap, rules, arith, ◌<◌}
+use Rattle.std.proofs.Common.{◌≡◌, false, true, sym, ◌∙◌, ap, rules, arith}
 use Rattle.yaml_text.specs.Order.{arranged}
 use Rattle.yaml_text.specs.Spell.{short}
 use Rattle.yaml_graph.specs.GraphView.{tree}

@@ -1,18 +1,16 @@
-use Rattle.std.proofs.Common.{◌≡◌, ◌+◌, false, true, sym, ◌∙◌, ap, subst, refl, rules, arith, ◌<◌, ◌++◌, ◌∷◌, [], List, ℕ}
+use Rattle.std.proofs.Common.{◌≡◌, sym, ◌∙◌, ap, refl, rules, arith, ◌++◌, ◌∷◌, []}
 use Rattle.yaml_text.specs.Order.{arranged}
 use Rattle.yaml_text.specs.Spell.{short}
-use Rattle.yaml_text.specs.NodeText.{text, items_text, pairs_text}
 use Rattle.yaml_graph.specs.GraphView.{tree}
 use Rattle.yaml_rank.specs.RankModel.{key_pair}
 use Rattle.yaml_graph.specs.declared.node.NodeId.{NodeId}
-use Rattle.yaml_canon.specs.Pieces.{Puts, Fails}
 use Rattle.yaml_canon.specs.RankView.{rank_in}
 use Rattle.yaml_canon.specs.NamesView.{given_of}
-use Rattle.yaml_canon.specs.Walked.{opening_of, opened_of, separator, start, started, given, given_all, given_pairs, given_inside, written, written_all, written_pairs, inner}
-use Rattle.yaml_canon.proofs.PieceLaws.{Left, on_ok, if_err, puts_as, puts_piece, puts_then, fails_as, fails_piece, fails_later, fails_more, left_first, left_next, left_last, left_fails}
+use Rattle.yaml_canon.specs.Walked.{opening_of, opened_of, start, started, given_inside}
+use Rattle.yaml_canon.proofs.PieceLaws.{on_ok, if_err, puts_piece, fails_piece, left_first, left_last, left_fails}
 use Rattle.yaml_canon.proofs.RankLaws.{rank-there}
 use Rattle.yaml_canon.proofs.WalkLaws.{short-there, scalar-there, sequence-there, mapping-there, mapping-some, sorted-below}
-use Rattle.yaml_canon.proofs.WriteLaws.{scalar_put, scalar_fails, sequence_put, sequence_fails, sequence_tag_fails, mapping_put, mapping_fails, mapping_tag_fails, alias_written, alias_unwritten, anchored_written, anchor_unwritten, anchored_unwritten, plain_written, plain_unwritten, all_ok, closing_bracket, closing_brace, opening_bracket, opening_brace, colon_bytes, text_alias, given_alias, text_anchored, text_plain, given_anchored, given_plain, items_separator_fails, items_node_fails, items_step, items_end, items_given, items_known, pairs_separator_fails, pairs_key_fails, pairs_colon_fails, pairs_value_fails, pairs_step, pairs_end, pairs_given, pairs_known}
+use Rattle.yaml_canon.proofs.WriteLaws.{scalar_put, scalar_fails, sequence_put, sequence_fails, sequence_tag_fails, mapping_put, mapping_fails, mapping_tag_fails, alias_written, alias_unwritten, anchored_written, anchor_unwritten, anchored_unwritten, plain_written, plain_unwritten, all_ok, closing_bracket, closing_brace, opening_bracket, opening_brace, given_alias, given_anchored, given_plain, items_separator_fails, items_node_fails, items_step, items_end, items_given, items_known, pairs_separator_fails, pairs_key_fails, pairs_colon_fails, pairs_value_fails, pairs_step, pairs_end, pairs_given, pairs_known}
 use Rattle.yaml_canon.proofs.walk.+write.Goals as goal
 
 pub write_items-loop-place-init : goal.write_items-loop-place-init

@@ -1,4 +1,4 @@
-use Rattle.std.proofs.Common.{◌∙◌, ap, sym, rules, arith, refl}
+use Rattle.std.proofs.Common.{◌∙◌, ap, rules, refl}
 use Rattle.yaml_canon.specs.NamesView.{put, table_of}
 use Rattle.yaml_canon.specs.Known.{met_state}
 use Rattle.yaml_canon.proofs.NamesLaws.{table_set}

@@ -8,6 +8,7 @@ returns-in_err-make_room-clause-err g c =
     search (rules, m)
 
 pub add-preserved : goal.add-preserved
-add-preserved g c =
-    (adds_piece g.W.Write.contents c.args.self.now c.add.self c.make_room.new.self c.fill.new.self c.args.out.now c.add.out c.make_room.new.out c.args.piece.now _ c.add.at c.min-took.result c.add.invariant.0 c.in_ok-make_room.ensures.ok (same_slice c.args.piece.now c.add.at c.min-took.result) c.fill.ensures,
-     omega arith)
+add-preserved g c = (
+  adds_piece g.W.Write.contents c.args.self.now c.add.self c.make_room.new.self c.fill.new.self c.args.out.now c.add.out c.make_room.new.out c.args.piece.now _ c.add.at c.min-took.result c.add.invariant.0 c.in_ok-make_room.ensures.ok (same_slice c.args.piece.now c.add.at c.min-took.result) c.fill.ensures,
+  omega arith,
+)

@@ -1,4 +1,4 @@
-use Rattle.std.proofs.Common.{◌≡◌, ◌-◌, ◌≤◌, length, take}
+use Rattle.std.proofs.Common.{◌-◌, ◌≤◌, length, take}
 use Rattle.yaml_canon.specs.Pieces.{Adds}
 use Rattle.yaml_canon.specs.Pages.{PageHolds}
 use Rattle.yaml_canon.proofs.page.Page.add.Given as goal

@@ -1,4 +1,4 @@
-use Rattle.std.proofs.Common.{rules, arith, ap, sym, subst, ◌∙◌}
+use Rattle.std.proofs.Common.{rules, ap, sym, subst, ◌∙◌}
 use Rattle.std.proofs.lemmas.List.{nil_from_length}
 use Rattle.yaml_canon.proofs.PieceLaws.{on_ok, if_err}
 use Rattle.yaml_canon.proofs.PageLaws.{Spelled, spelled_first, spelled_next, spelled_missed, spelled_unopened, spelled_last, spelled_unclosed}

@@ -1,6 +1,4 @@
 use Rattle.std.proofs.Common.{rules}
-use Rattle.yaml_canon.specs.Pieces.{Misses}
-use Rattle.yaml_canon.specs.Pages.{PageHolds, PageStops}
 use Rattle.yaml_canon.proofs.PageLaws.{adds_sent, misses_sent}
 use Rattle.yaml_canon.proofs.page.Page.make_room.Goals as goal
 
