@@ -68,7 +68,7 @@ moved run c rest after e =
     ap (λ x. encode_utf8_all run ++ x) e ∙ sym (append_assoc (encode_utf8_all run) (encode_utf8 c) after) ∙ ap (λ x. x ++ after) (sym (encoded_more run c))
 
 -- the spelling of what is left begins with this one's
-next_spelled : (rest after : List ℕ) (c : ℕ) → IsUtf8 rest → rest ≡ encode_utf8 c ++ after → spelled_chars rest ≡ encode_utf8_all (spell_char c) ++ spelled_chars after
+pub next_spelled : (rest after : List ℕ) (c : ℕ) → IsUtf8 rest → rest ≡ encode_utf8 c ++ after → spelled_chars rest ≡ encode_utf8_all (spell_char c) ++ spelled_chars after
 next_spelled rest after c u e =
     ap (λ x. encode_utf8_all (flat_map spell_char x)) (chars_past_char rest after c u e) ∙ encodes-append (spell_char c) (flat_map spell_char (chars after))
 
