@@ -31,13 +31,12 @@ fn fault(number: u8) -> Option<Fault> {
         21 => Some(Fault::OutOfMemory),
         22 => Some(Fault::ReadFault),
         23 => Some(Fault::WriteFault),
-        24 => Some(Fault::UnfoldsTooFar(0)),
         _ => None,
     }
 }
 
 /// A fault's number, its name and its message.
-const FAULTS: [(u8, &str, &str); 24] = [
+const FAULTS: [(u8, &str, &str); 23] = [
     (1, "TooLong", "1 TooLong"),
     (2, "NotUtf8", "2 NotUtf8 at byte 0"),
     (3, "NotPrintable", "3 NotPrintable at byte 1"),
@@ -61,7 +60,6 @@ const FAULTS: [(u8, &str, &str); 24] = [
     (21, "OutOfMemory", "21 OutOfMemory"),
     (22, "ReadFault", "22 ReadFault"),
     (23, "WriteFault", "23 WriteFault"),
-    (24, "UnfoldsTooFar", "24 UnfoldsTooFar in document 0"),
 ];
 
 /// Number, name and message of the fault with a number.

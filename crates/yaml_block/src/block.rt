@@ -13,7 +13,8 @@ ghost use Rattle.yaml_text.specs.grammar.Separation.{flow_out, s_l_comments};
 ghost use Rattle.yaml_text.specs.grammar.Events.{empty, no_props};
 ghost use Rattle.yaml_scalar.specs.BlockModel.{column};
 ghost use Rattle.yaml_mark.specs.HandlesModel.{handles_of};
-ghost use Rattle.yaml_flow.specs.Answer.{IsRefusal, Appends};
+ghost use Rattle.yaml_text.specs.Answer.{IsRefusal};
+ghost use Rattle.yaml_flow.specs.Answer.{Appends};
 ghost use Rattle.yaml_flow.specs.Lines.{IsLine, IsDash, IsBlock};
 ghost use Rattle.yaml_flow.specs.Keys.{ColonAfter};
 ghost use Rattle.yaml_flow.specs.PropertyRules.{props_of, both_props, Apart, Dresses, Marks};
@@ -21,7 +22,6 @@ ghost use Rattle.yaml_block.specs.BlockRules.{least_dash, block_scalar_rest, nod
 ghost use Rattle.yaml_block.specs.OuterRules.{Outer, OnLine, Follows, MayBear, column_of};
 
 use std::alloc::Global;
-use yaml_flow::fault::unusable;
 use yaml_flow::flow::{Node, read_bare, read_flow_node, too_deep};
 use yaml_flow::key::{Fit, key_fit};
 use yaml_flow::line::{Line, has_content, line_at, next_line, skip_comments};
@@ -34,7 +34,7 @@ use yaml_text::class::is_ns;
 use yaml_text::context::Ctx;
 use yaml_text::event::{Event, Style};
 use yaml_text::fault::Fault;
-use yaml_text::lines::skip_spaces;
+use yaml_text::lines::{skip_spaces, unusable};
 use yaml_text::places::{accept, next};
 
 /// The border after a dash that begins an entry, if one stands at a border.

@@ -27,7 +27,7 @@ use Rattle.yaml_graph.specs.declared.node.NodeId.{NodeId}
 use Rattle.yaml_graph.specs.declared.graph.Graph.{Graph}
 use Rattle.yaml_rank.specs.RanksView.{RanksAre, RefusesGraph, rank_of}
 use Rattle.yaml_rank.specs.declared.ranks.Ranks.{Ranks}
-use Rattle.yaml_flow.specs.Answer.{IsRefusal}
+use Rattle.yaml_text.specs.Answer.{IsRefusal}
 use Rattle.yaml_canon.specs.declared.side.Side.{Side}
 use Rattle.yaml_canon.specs.declared.side.Side.TheVariants.{Left, Right}
 use Rattle.yaml_canon.specs.Claims.{IsRead}

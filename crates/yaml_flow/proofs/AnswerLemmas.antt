@@ -12,7 +12,8 @@ use Rattle.yaml_text.specs.declared.event.Event as code
 use Rattle.yaml_text.specs.declared.fault.Fault.{Fault}
 use Rattle.yaml_text.specs.declared.fault.Fault.TheVariants as fault
 use Rattle.yaml_text.specs.Answer as scalar
-use Rattle.yaml_flow.specs.Answer.{IsRefusal, Appends, Perhaps}
+use Rattle.yaml_text.specs.Answer.{IsRefusal}
+use Rattle.yaml_flow.specs.Answer.{Appends, Perhaps}
 
 -- at the exit of a `?`
 pub appends_err : {X : Type 0} (R : X → Rule (List Event)) (i : ℕ) (end : X → ℕ) (old new : List code.Event) (r : Result X Fault) (e : Fault) →

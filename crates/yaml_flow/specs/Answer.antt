@@ -2,23 +2,10 @@
 use Rattle.std.specs.Prelude.{◌≡◌, ℕ, List, Result, Ok, Err, Option, Some, None}
 use Rattle.yaml_text.specs.Event.{Event}
 use Rattle.yaml_text.specs.EventModel.{Adds}
+use Rattle.yaml_text.specs.Answer.{IsRefusal}
 use Rattle.yaml_text.specs.grammar.Rules.{Rule}
 use Rattle.yaml_text.specs.declared.event.Event as code
 use Rattle.yaml_text.specs.declared.fault.Fault.{Fault}
-use Rattle.yaml_text.specs.declared.fault.Fault.TheVariants.{Syntax, Tab, KeyTooLong, TooDeep, BadEscape, BadDirective, UnknownHandle, BadTag, OutOfMemory}
-
--- the faults that a reader of events answers
-abbrev pub IsRefusal : Fault → Type 0
-IsRefusal (Syntax at) = Unit {0}
-IsRefusal (Tab at) = Unit {0}
-IsRefusal (KeyTooLong at) = Unit {0}
-IsRefusal (TooDeep at) = Unit {0}
-IsRefusal (BadEscape at) = Unit {0}
-IsRefusal (BadDirective at) = Unit {0}
-IsRefusal (UnknownHandle at) = Unit {0}
-IsRefusal (BadTag at) = Unit {0}
-IsRefusal OutOfMemory = Unit {0}
-IsRefusal _ = ⊥
 
 -- the events of a reading by the answer's rule are put at the end
 abbrev pub Appends : {X : Type 0} → (X → Rule (List Event)) → ℕ → (X → ℕ) → List code.Event → List code.Event → Result X Fault → Type 0

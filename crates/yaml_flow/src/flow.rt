@@ -11,11 +11,11 @@ ghost use Rattle.yaml_text.specs.grammar.Tags as tags;
 ghost use Rattle.yaml_text.specs.grammar.Events.{alias, empty, no_props};
 ghost use Rattle.yaml_mark.specs.HandlesModel.{handles_of};
 ghost use Rattle.yaml_flow.specs.declared.flow.Kind.TheVariants.{Yaml};
-ghost use Rattle.yaml_flow.specs.Answer.{IsRefusal, Appends, Perhaps};
+ghost use Rattle.yaml_text.specs.Answer.{IsRefusal};
+ghost use Rattle.yaml_flow.specs.Answer.{Appends, Perhaps};
 ghost use Rattle.yaml_flow.specs.PropertyRules.{props_of, Own};
 ghost use Rattle.yaml_flow.specs.FlowRules.{flow_from, content_from, Bare, from_room, item_at, entry_at, keyed_at, asked_at, value_at, parts, IsSign, IsInner, IsParted, FirstIs};
 
-use crate::fault::unusable;
 use crate::key::{Fit, key_fit};
 use crate::line::separation;
 use crate::properties::{Properties, dress, read_properties};
@@ -31,7 +31,7 @@ use yaml_text::class::is_plain_safe;
 use yaml_text::context::Ctx;
 use yaml_text::event::{Event, Style};
 use yaml_text::fault::Fault;
-use yaml_text::lines::skip_spaces;
+use yaml_text::lines::{skip_spaces, unusable};
 use yaml_text::places::{accept, next};
 
 /// Which of the two kinds of flow nodes (7.5): after a key that is like JSON no separation needs to follow the colon.

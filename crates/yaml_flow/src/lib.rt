@@ -1,7 +1,6 @@
 //! What stands on lines, and flow nodes, read to events.
 #![tactic(auto)]
 
-pub mod fault;
 pub mod flow;
 pub mod key;
 pub mod line;

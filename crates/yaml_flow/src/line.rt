@@ -7,16 +7,15 @@ ghost use Rattle.yaml_text.specs.grammar.Rules.{any_span, maybe};
 ghost use Rattle.yaml_text.specs.grammar.Separation.{s_l_comments, l_comment, separate};
 ghost use Rattle.yaml_text.specs.Lines.{AfterLine};
 ghost use Rattle.yaml_text.specs.Lines.{Dashes};
-ghost use Rattle.yaml_flow.specs.Answer.{IsRefusal};
+ghost use Rattle.yaml_text.specs.Answer.{IsRefusal};
 ghost use Rattle.yaml_flow.specs.Lines.{IsLine};
 
-use crate::fault::unusable;
 use yaml_mark::comments;
 use yaml_text::chars::Chars;
 use yaml_text::class::is_key;
 use yaml_text::context::Ctx;
 use yaml_text::fault::Fault;
-use yaml_text::lines::{is_mark, skip_comments as skip_lines, skip_spaces};
+use yaml_text::lines::{is_mark, skip_comments as skip_lines, skip_spaces, unusable};
 use yaml_text::places::is_end;
 
 /// A line that is no comment, or the end of the text: its start, how many spaces it begins with, and the border after them.

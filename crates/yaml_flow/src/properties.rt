@@ -7,7 +7,7 @@ ghost use Rattle.yaml_text.specs.Source.{text_of, place_of, IsBorder};
 ghost use Rattle.yaml_text.specs.EventModel.{context_of, event_of, written_of};
 ghost use Rattle.yaml_text.specs.grammar.Events.{no_props};
 ghost use Rattle.yaml_mark.specs.HandlesModel.{handles_of};
-ghost use Rattle.yaml_flow.specs.Answer.{IsRefusal};
+ghost use Rattle.yaml_text.specs.Answer.{IsRefusal};
 ghost use Rattle.yaml_flow.specs.PropertyRules.{props_of, both_props, anchor_of, tag_of, with_props, Dresses, Apart, Own};
 
 use crate::line::separation;

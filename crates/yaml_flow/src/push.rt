@@ -5,7 +5,7 @@ ghost use Rattle.std.specs.Str.{chars};
 ghost use Rattle.yaml_text.specs.Event.{untagged, sequence_start, mapping_start};
 ghost use Rattle.yaml_text.specs.grammar.Events.{no_props, seq_start, map_start, scalar, empty};
 ghost use Rattle.yaml_text.specs.EventModel.{event_of, style_of, Adds};
-ghost use Rattle.yaml_flow.specs.Answer.{IsRefusal};
+ghost use Rattle.yaml_text.specs.Answer.{IsRefusal};
 ghost use Rattle.yaml_flow.specs.PropertyRules.{props_of};
 
 use crate::properties::Properties;

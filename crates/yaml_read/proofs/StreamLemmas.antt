@@ -14,7 +14,8 @@ use Rattle.yaml_text.proofs.LineRuns.{line_end_after}
 use Rattle.yaml_text.specs.declared.fault.Fault.{Fault}
 use Rattle.yaml_text.specs.declared.fault.Fault.TheVariants as fault
 use Rattle.yaml_mark.specs.Answer.{DirectivesRefuse}
-use Rattle.yaml_flow.specs.Answer.{IsRefusal, Appends}
+use Rattle.yaml_text.specs.Answer.{IsRefusal}
+use Rattle.yaml_flow.specs.Answer.{Appends}
 use Rattle.yaml_flow.proofs.AnswerLemmas.{adds_on}
 use Rattle.yaml_text.specs.EventModel.{Adds}
 use Rattle.yaml_text.specs.declared.event.Event as code

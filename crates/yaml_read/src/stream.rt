@@ -6,7 +6,8 @@ ghost use Rattle.yaml_text.specs.Source.{text_of, place_of, IsBorder};
 ghost use Rattle.yaml_text.specs.grammar.Rules.{◌∪◌};
 ghost use Rattle.yaml_text.specs.grammar.Separation.{StartsLine};
 ghost use Rattle.yaml_text.specs.grammar.Streams.{ReadsText};
-ghost use Rattle.yaml_flow.specs.Answer.{IsRefusal, Appends};
+ghost use Rattle.yaml_text.specs.Answer.{IsRefusal};
+ghost use Rattle.yaml_flow.specs.Answer.{Appends};
 ghost use Rattle.yaml_flow.specs.Lines.{IsLine};
 ghost use Rattle.yaml_mark.specs.HandlesModel.{handles_of};
 ghost use Rattle.yaml_read.specs.Sofar.{closing};
@@ -14,14 +15,13 @@ ghost use Rattle.yaml_read.specs.StreamRules.{IsMarkOf, NextIs, opened_by_mark, 
 
 use std::alloc::Global;
 use yaml_block::document::{read_bare, read_marked};
-use yaml_flow::fault::unusable;
 use yaml_flow::line::{Line, first_line, next_line};
 use yaml_mark::directives::read_directives;
 use yaml_mark::handles::Handles;
 use yaml_text::chars::Chars;
 use yaml_text::event::Event;
 use yaml_text::fault::Fault;
-use yaml_text::lines::{is_mark_of, starts_line};
+use yaml_text::lines::{is_mark_of, starts_line, unusable};
 use yaml_text::places::{accept, is_end};
 
 /// How a stream goes on at a line that is no comment.

@@ -34,7 +34,6 @@ refuses_weaker fault.TooLong f p = p
 refuses_weaker fault.TextTooLong f p = p
 refuses_weaker fault.ReadFault f p = p
 refuses_weaker fault.WriteFault f p = p
-refuses_weaker (fault.UnfoldsTooFar at) f p = p
 
 -- at a place where the text can't be read on
 pub refuses_unread : (e : Fault) {P : Type 0} → IsUnread e → P → Refuses e P
@@ -61,7 +60,6 @@ refuses_unread fault.TooLong u p = u
 refuses_unread fault.TextTooLong u p = u
 refuses_unread fault.ReadFault u p = u
 refuses_unread fault.WriteFault u p = u
-refuses_unread (fault.UnfoldsTooFar at) u p = u
 
 -- at the exit of a `?`
 pub answers_err : {X : Type 0} (Best : TextRule → TextRule) (R : TextRule) (i : ℕ) (end : X → ℕ) (value : X → List ℕ) (r : Result X Fault) (e : Fault) →

@@ -38,6 +38,19 @@ abbrev pub Answers : {V X : Type 0} (Best : Rule V → Rule V) (R : Rule V) → 
 Answers Best R i end value (Ok x) = Best R i (end x) (value x)
 Answers Best R i end value (Err e) = Refuses e (Unread R i)
 
+-- the faults that a reader of events answers
+abbrev pub IsRefusal : Fault → Type 0
+IsRefusal (fault.Syntax at) = Unit {0}
+IsRefusal (fault.Tab at) = Unit {0}
+IsRefusal (fault.KeyTooLong at) = Unit {0}
+IsRefusal (fault.TooDeep at) = Unit {0}
+IsRefusal (fault.BadEscape at) = Unit {0}
+IsRefusal (fault.BadDirective at) = Unit {0}
+IsRefusal (fault.UnknownHandle at) = Unit {0}
+IsRefusal (fault.BadTag at) = Unit {0}
+IsRefusal fault.OutOfMemory = Unit {0}
+IsRefusal _ = ⊥
+
 -- the text can't be read on
 abbrev pub IsUnread : Fault → Type 0
 IsUnread (fault.Syntax at) = Unit {0}

@@ -32,7 +32,3 @@ int_bits = 127
 -- the greatest exponent of a float's canonical content, and the least is its negative
 abbrev pub exponent_limit : ℕ
 exponent_limit = 1000000
-
--- nodes of an unfolded tree; this one stands until ranks decide equality without unfolding
-abbrev pub nodes_limit : ℕ
-nodes_limit = 65536

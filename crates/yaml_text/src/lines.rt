@@ -2,7 +2,7 @@
 //! Offsets count bytes of the text.
 ghost use Rattle.std.specs.Prelude.{◌≡◌, ◌≢◌, ◌≤◌, ◌<◌, ◌+◌, IfSome, IfNone, Some, slice_get, ℕ};
 ghost use Rattle.std.specs.Bool.{OnTrue, OnFalse};
-ghost use Rattle.yaml_text.specs.Answer.{IsUnread};
+ghost use Rattle.yaml_text.specs.Answer.{IsUnread, IsRefusal};
 ghost use Rattle.yaml_text.specs.Lines.{line_brk, DashesOf, Dashes, AfterLine, Uncut, blank_rest};
 ghost use Rattle.yaml_text.specs.Source.{mark_of, text_of, place_of, IsBorder};
 ghost use Rattle.yaml_text.specs.grammar.Characters.{is_space, is_white, is_nb};
@@ -250,6 +250,7 @@ pub fn stands_mark(source: &Chars<'_>, at: usize) -> bool
 pub fn unusable(source: &Chars<'_>, at: usize) -> Fault
     requires { IsBorder source.now at }
     ensures unread { IsUnread result }
+    ensures refusal { IsRefusal result }
     ensures tab { slice_get (text_of source.now) (place_of source.now at) ≡ Some 9 → result ≡ Fault.Tab (mark_of source.now + at) }
     ensures other { slice_get (text_of source.now) (place_of source.now at) ≢ Some 9 → result ≡ Fault.Syntax (mark_of source.now + at) }
 {
