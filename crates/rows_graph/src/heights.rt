@@ -27,7 +27,7 @@ fn chain(alloc: Global, depth: usize) -> Result<String, AllocError> {
 
 /// The beginning of a document: twice as many lines and two more, each of which holds the one before
 /// it twice.
-fn doubling(alloc: Global, pairs: usize) -> Result<String, AllocError> {
+pub fn doubling(alloc: Global, pairs: usize) -> Result<String, AllocError> {
     let mut text = String::new(alloc);
     text.push_str("--- [ &a [ x x ] &b [ *a *a ]")?;
     repeat(&mut text, pairs, " &a [ *b *b ] &b [ *a *a ]")?;

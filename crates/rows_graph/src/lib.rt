@@ -1,10 +1,12 @@
-//! Rows of events and the graphs that they give, as tests alone.
+//! Rows of events, the graphs that they give and the ranks of their nodes, as tests alone.
 #![tactic(auto)]
 
 #[cfg(test)]
 mod heights;
 #[cfg(test)]
 mod nested;
+#[cfg(test)]
+mod ranks;
 #[cfg(test)]
 mod rows;
 #[cfg(test)]

@@ -1,0 +1,315 @@
+//! Ranks of the nodes of streams. In what is shown the nodes of one rank stand together, `=` between
+//! them, and ranks in their order, `<` between them; then each nonempty mapping with its entries in the
+//! order of their keys, and the visits.
+ghost use Rattle.yaml_rank.specs.RanksView.{RanksAre};
+
+use crate::heights::doubling;
+use crate::shown::composed;
+use crate::words::events;
+use std::alloc::{AllocError, Global};
+use std::fmt::Write;
+use std::process::Abort;
+use std::test::Fail;
+use yaml_graph::{Graph, NodeId, join};
+use yaml_rank::{Ranks, rank};
+use yaml_text::event::Event;
+use yaml_text::fault::Fault;
+
+/// Appends the nodes of a rank, if there are any, behind those of the ranks before.
+fn show_rank(
+    text: &mut String,
+    graph: &Graph<'_>,
+    ranks: &Ranks,
+    rank: usize,
+) -> Result<(), AllocError>
+    requires { RanksAre graph.now ranks.now }
+{
+    let mut sign = if text.is_empty() { "" } else { " < " };
+    for number in 0..graph.len() {
+        if ranks.of(NodeId(number)) == rank {
+            text.push_str(sign)?;
+            write!(text, "{number}")?;
+            sign = "=";
+        }
+    }
+    Ok(())
+}
+
+/// Appends the entries of a mapping in the order of their keys; nothing for other nodes.
+fn show_entries(
+    text: &mut String,
+    number: usize,
+    entries: &[(NodeId, NodeId)],
+) -> Result<(), AllocError> {
+    if entries.is_empty() {
+        return Ok(());
+    }
+    write!(text, "; {number}")?;
+    for (key, value) in entries {
+        write!(text, " {}:{}", key.0, value.0)?;
+    }
+    Ok(())
+}
+
+fn shown(alloc: Global, graph: &Graph<'_>, ranks: &Ranks) -> Result<String, AllocError>
+    requires { RanksAre graph.now ranks.now }
+{
+    let mut text = String::new(alloc);
+    for rank in 0..graph.len() {
+        show_rank(&mut text, graph, ranks, rank)?;
+    }
+    for number in 0..graph.len() {
+        show_entries(&mut text, number, ranks.sorted(NodeId(number)))?;
+    }
+    write!(text, "; {} visits", ranks.visits())?;
+    Ok(text)
+}
+
+/// What is shown of a graph's ranks, or the message of the fault.
+fn told(alloc: Global, graph: &Graph<'_>) -> Result<String, Fail> {
+    match rank(alloc, graph) {
+        Ok(ranks) => Ok(shown(alloc, graph, &ranks)?),
+        Err(fault) => Ok(format!(in alloc; "{fault}")?),
+    }
+}
+
+/// The words of events, and what is shown of the ranks, or the message of the fault.
+struct Row {
+    shows: &'static str,
+    words: &'static str,
+    gives: &'static str,
+}
+
+fn answer(alloc: Global, words: &str) -> Result<String, Fail> {
+    let events = events(alloc, words)?;
+    match composed(alloc, &events) {
+        Ok(Some(graph)) => told(alloc, &graph),
+        Ok(None) => Ok(format!(in alloc; "no stream")?),
+        Err(fault) => Ok(format!(in alloc; "{fault}")?),
+    }
+}
+
+fn check<T: Abort + AllocGlobal>(rt: &T, row: &Row) -> Result<(), Fail> {
+    let got = answer(rt.alloc(), row.words)?;
+    assert_eq!(rt; got.as_str(), row.gives, "{}", row.shows);
+    Ok(())
+}
+
+const RANKS: [Row; 12] = [
+    Row {
+        shows: "a graph without nodes has no ranks",
+        words: "",
+        gives: "; 0 visits",
+    },
+    Row {
+        shows: "equal trees have one rank, and higher ones come later",
+        words: "--- [ [ a ] [ a ] a ] ...",
+        gives: "0=2=4 < 1=3 < 5; 6 visits",
+    },
+    Row {
+        shows: "an alias is no node",
+        words: "--- [ &x [ p q ] [ p q ] *x ] ...",
+        gives: "0=3 < 1=4 < 2=5 < 6; 7 visits",
+    },
+    Row {
+        shows: "scalars stand before sequences and these before mappings of one height",
+        words: "--- [ { } [ ] x ] ...",
+        gives: "2 < 1 < 0 < 3; 4 visits",
+    },
+    Row {
+        shows: "scalars stand in the order of their tags, then of their contents",
+        words: "--- [ b =2 =10 =~ =true a ] ...",
+        gives: "4 < 2 < 1 < 3 < 5 < 0 < 6; 7 visits",
+    },
+    Row {
+        shows: "one value in two spellings is one rank, an int and a float are two",
+        words: "--- [ =1 =0x1 =1.0 1 ] ...",
+        gives: "2 < 0=1 < 3 < 4; 5 visits",
+    },
+    Row {
+        shows: "a tag tells nodes of one content",
+        words: "--- [ !!x a a !!x [ a ] [ a ] ] ...",
+        gives: "0 < 1=2=4 < 3 < 5 < 6; 7 visits",
+    },
+    Row {
+        shows: "a sequence that begins another stands before it",
+        words: "--- [ [ a b ] [ a ] [ a a ] ] ...",
+        gives: "0=3=5=6 < 1 < 4 < 7 < 2 < 8; 9 visits",
+    },
+    Row {
+        shows: "entries stand in the order of their keys",
+        words: "--- { b x a y } ...",
+        gives: "2 < 0 < 1 < 3 < 4; 4 2:3 0:1; 5 visits",
+    },
+    Row {
+        shows: "a scalar as a key stands before a collection",
+        words: "--- { [ a ] =1 b =2 } ...",
+        gives: "2 < 4 < 0 < 3 < 1 < 5; 5 3:4 1:2; 6 visits",
+    },
+    Row {
+        shows: "mappings are the same in every order of their entries",
+        words: "--- [ { a x b y } { b y a x } ] ...",
+        gives: "0=7 < 2=5 < 1=8 < 3=6 < 4=9 < 10; 4 0:1 2:3; 9 7:8 5:6; 11 visits",
+    },
+    Row {
+        shows: "documents are ranked together",
+        words: "--- [ a ] ... --- [ a ] ...",
+        gives: "0=2 < 1=3; 4 visits",
+    },
+];
+
+#[test]
+fn trees_have_their_ranks(rt: HostRuntime) -> Result<(), Fail> {
+    for row in &RANKS {
+        check(&rt, row)?;
+    }
+    Ok(())
+}
+
+const EQUAL_KEYS: [Row; 9] = [
+    Row {
+        shows: "one value in two spellings is one key",
+        words: "--- { =1 a =0x1 b } ...",
+        gives: "19 EqualKeys in node 4, entries 0 and 1",
+    },
+    Row {
+        shows: "an int and a float are two keys",
+        words: "--- { =1 a =1.0 b } ...",
+        gives: "2 < 0 < 1 < 3 < 4; 4 2:3 0:1; 5 visits",
+    },
+    Row {
+        shows: "the least second entry is told, and with it the least first one",
+        words: "--- { a x b x b x a x a x } ...",
+        gives: "19 EqualKeys in node 10, entries 1 and 2",
+    },
+    Row {
+        shows: "of three equal keys the first two are told",
+        words: "--- { a x a x a x } ...",
+        gives: "19 EqualKeys in node 6, entries 0 and 1",
+    },
+    Row {
+        shows: "the mapping of least height is told",
+        words: "--- [ { [ a ] x [ a ] x } { a x a x } ] ...",
+        gives: "19 EqualKeys in node 11, entries 0 and 1",
+    },
+    Row {
+        shows: "of one height the one that closed first",
+        words: "--- [ { a x a x } { b x b x } ] ...",
+        gives: "19 EqualKeys in node 4, entries 0 and 1",
+    },
+    Row {
+        shows: "an alias to a key is the same key",
+        words: "--- { &a k v *a w } ...",
+        gives: "19 EqualKeys in node 3, entries 0 and 1",
+    },
+    Row {
+        shows: "a node that aliases stand for is told once",
+        words: "--- [ x &a { p q p q } *a *a ] ...",
+        gives: "19 EqualKeys in node 5, entries 0 and 1",
+    },
+    Row {
+        shows: "keys that are collections are the same by their parts",
+        words: "--- { { a =1 b =2 } x { b =0x2 a =01 } y } ...",
+        gives: "19 EqualKeys in node 12, entries 0 and 1",
+    },
+];
+
+#[test]
+fn equal_keys_are_told(rt: HostRuntime) -> Result<(), Fail> {
+    for row in &EQUAL_KEYS {
+        check(&rt, row)?;
+    }
+    Ok(())
+}
+
+/// Two streams, and what is shown of the ranks of both graphs as one.
+struct Pair {
+    shows: &'static str,
+    left: &'static str,
+    right: &'static str,
+    gives: &'static str,
+}
+
+/// Both graphs as one, where both are streams.
+fn both<'a>(
+    alloc: Global,
+    left: &'a [Event<'_>],
+    right: &'a [Event<'_>],
+) -> Result<Option<Graph<'a>>, Fault> {
+    let Some(left) = composed(alloc, left)? else {
+        return Ok(None);
+    };
+    let Some(right) = composed(alloc, right)? else {
+        return Ok(None);
+    };
+    Ok(Some(join(left, right)?))
+}
+
+fn joined<'a>(alloc: Global, left: &'a str, right: &'a str) -> Result<String, Fail> {
+    let mut streams = Vec::new(alloc);
+    streams.push(events(alloc, left)?)?;
+    streams.push(events(alloc, right)?)?;
+    let [left, right] = streams.as_slice() else {
+        return Ok(String::new(alloc));
+    };
+    match both(alloc, left, right) {
+        Ok(Some(graph)) => told(alloc, &graph),
+        Ok(None) => Ok(format!(in alloc; "no stream")?),
+        Err(fault) => Ok(format!(in alloc; "{fault}")?),
+    }
+}
+
+const PAIRS: [Pair; 3] = [
+    Pair {
+        shows: "equal nodes of two graphs have one rank",
+        left: "--- [ a [ b ] ] ...",
+        right: "--- [ [ b ] a ] ...",
+        gives: "0=6 < 1=4 < 2=5 < 3 < 7; 8 visits",
+    },
+    Pair {
+        shows: "equal keys of the second graph are told with their number in both",
+        left: "--- { a x } ...",
+        right: "--- { a x a y } ...",
+        gives: "19 EqualKeys in node 7, entries 0 and 1",
+    },
+    Pair {
+        shows: "the lower mapping of both sides is told",
+        left: "--- { [ a ] x [ a ] y } ...",
+        right: "--- { a x a y } ...",
+        gives: "19 EqualKeys in node 11, entries 0 and 1",
+    },
+];
+
+#[test]
+fn two_graphs_are_ranked_as_one(rt: HostRuntime) -> Result<(), Fail> {
+    for pair in &PAIRS {
+        let got = joined(rt.alloc(), pair.left, pair.right)?;
+        assert_eq!(rt; got.as_str(), pair.gives, "{}", pair.shows);
+    }
+    Ok(())
+}
+
+/// How many ranks, one more than the greatest, the nodes have, and how often one was visited.
+fn counted(alloc: Global, words: &str) -> Result<String, Fail> {
+    let events = events(alloc, words)?;
+    let Ok(Some(graph)) = composed(alloc, &events) else {
+        return Ok(format!(in alloc; "no graph")?);
+    };
+    let Ok(ranks) = rank(alloc, &graph) else {
+        return Ok(format!(in alloc; "no ranks")?);
+    };
+    let mut most = 0;
+    for number in 0..graph.len() {
+        most = most.max(ranks.of(NodeId(number)) + 1);
+    }
+    Ok(format!(in alloc; "{most} ranks at most, {} visits", ranks.visits())?)
+}
+
+#[test]
+fn lines_that_double_are_ranked_with_a_visit_a_node(rt: HostRuntime) -> Result<(), Fail> {
+    let mut lines = doubling(rt.alloc(), 510)?;
+    lines.push_str(" ] ...")?;
+    let got = counted(rt.alloc(), lines.as_str())?;
+    assert_eq!(rt; got.as_str(), "1025 ranks at most, 1025 visits");
+    Ok(())
+}
