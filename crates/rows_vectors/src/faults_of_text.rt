@@ -1,5 +1,5 @@
 //! Vectors: characters that no text holds.
-use crate::rows::{Refused, is_refused};
+use crate::rows::{Refused, answers, is_refused};
 use std::test::Fail;
 
 const ROWS: [Refused; 5] = [
@@ -29,6 +29,26 @@ const ROWS: [Refused; 5] = [
 fn each_is_refused(rt: HostRuntime) -> Result<(), Fail> {
     for row in &ROWS {
         is_refused(&rt, row)?;
+    }
+    Ok(())
+}
+
+/// Bytes that are no UTF-8, or that no text may have, and the message of the fault.
+const BYTES: [(&[u8], &str); 8] = [
+    (b"\xFF", "2 NotUtf8 at byte 0"),
+    (b"a: \x80", "2 NotUtf8 at byte 3"),
+    (b"\xC0\x80", "2 NotUtf8 at byte 0"),
+    (b"a\xE2\x82", "2 NotUtf8 at byte 1"),
+    (b"\xED\xA0\x80", "2 NotUtf8 at byte 0"),
+    (b"\xEF\xBB\xBFa\xFF", "2 NotUtf8 at byte 4"),
+    (b"\x00\xFF", "2 NotUtf8 at byte 1"),
+    (b"\xEF\xBB\xBF\x00", "3 NotPrintable at byte 3"),
+];
+
+#[test]
+fn bytes_that_are_no_text_are_refused(rt: HostRuntime) -> Result<(), Fail> {
+    for (bytes, message) in &BYTES {
+        answers(&rt, bytes, message)?;
     }
     Ok(())
 }

@@ -1,6 +1,9 @@
-//! How a vector is judged: its events are those of its event text.
+//! How a vector is judged: its events are those of its event text, and its canonical text, which is its own, or the fault of
+//! both calls.
+use std::alloc::Global;
 use std::process::Abort;
 use std::test::Fail;
+use yaml_canon::canonical;
 use yaml_events::{read_event_text, write_events};
 use yaml_read::read_events;
 use yaml_text::chars::Chars;
@@ -57,20 +60,44 @@ fn has_events<T: Abort + AllocGlobal>(
     Ok(())
 }
 
-/// Asserts that the node of a bare document has these events.
+/// The canonical text of an input, or the message of its fault.
+fn answer(alloc: Global, input: &[u8]) -> Result<String, Fail> {
+    match canonical(alloc, input) {
+        Ok(text) => Ok(text),
+        Err(fault) => Ok(format!(in alloc; "{fault}")?),
+    }
+}
+
+/// Asserts that `canonical` answers this text, or a fault with this message.
+pub fn answers<T: Abort + AllocGlobal>(rt: &T, input: &[u8], wanted: &str) -> Result<(), Fail> {
+    let got = answer(rt.alloc(), input)?;
+    assert_eq!(rt; got.as_str(), wanted, "{input:?}");
+    Ok(())
+}
+
+/// Asserts that an input has this canonical text, and that the text is its own.
+fn has_text<T: Abort + AllocGlobal>(rt: &T, input: &str, text: &str) -> Result<(), Fail> {
+    answers(rt, input.as_bytes(), text)?;
+    answers(rt, text.as_bytes(), text)
+}
+
+/// Asserts that the node of a bare document has these events and this canonical text.
 pub fn is_node<T: Abort + AllocGlobal>(rt: &T, row: &Node) -> Result<(), Fail> {
     let text = format!(in rt.alloc(); "+STR\n+DOC\n{}-DOC\n-STR\n", row.events)?;
-    has_events(rt, row.shows, row.input, text.as_str())
+    has_events(rt, row.shows, row.input, text.as_str())?;
+    has_text(rt, row.input, row.canonical)
 }
 
-/// Asserts that a stream has these events.
+/// Asserts that a stream has these events and this canonical text.
 pub fn is_stream<T: Abort + AllocGlobal>(rt: &T, row: &Stream) -> Result<(), Fail> {
-    has_events(rt, row.shows, row.input, row.events)
+    has_events(rt, row.shows, row.input, row.events)?;
+    has_text(rt, row.input, row.canonical)
 }
 
-/// Asserts that an input is not read, for this fault.
+/// Asserts that an input is not read and has no canonical text, for this fault.
 pub fn is_refused<T: Abort + AllocGlobal>(rt: &T, row: &Refused) -> Result<(), Fail> {
-    is_message(rt, row.input, row.message)
+    is_message(rt, row.input, row.message)?;
+    answers(rt, row.input.as_bytes(), row.message)
 }
 
 /// Asserts that an input is read, where the message is empty, or that its fault has the message.
@@ -90,7 +117,8 @@ pub fn is_message<T: Abort + AllocGlobal>(rt: &T, input: &str, wanted: &str) -> 
     Ok(())
 }
 
-/// Asserts that an input has these events.
+/// Asserts that an input has these events, and no canonical text for this fault.
 pub fn is_meaningless<T: Abort + AllocGlobal>(rt: &T, row: &Meaningless) -> Result<(), Fail> {
-    has_events(rt, row.message, row.input, row.events)
+    has_events(rt, row.message, row.input, row.events)?;
+    answers(rt, row.input.as_bytes(), row.message)
 }
