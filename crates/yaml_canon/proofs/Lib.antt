@@ -13,3 +13,4 @@ mod NamesLaws
 mod DocumentLaws
 mod ClaimLaws
 mod CompareLaws
+mod RunLaws
