@@ -1,4 +1,4 @@
-mod Streams
+pub mod Streams
 mod PieceLaws
 mod PageLaws
 mod PartLaws

@@ -1,15 +1,39 @@
 //! `check`: whether a file's events are those of an event text.
+ghost use Rattle.std.specs.Prelude.{◌<◌, ◌-◌, ◌^◌};
+ghost use Rattle.yaml_text.specs.CountedModel.{faults_of};
+
 use crate::refusal::Refusal;
-use crate::streams::{EVENTS_LIMIT, gather, write_out};
+use crate::streams::{open, write_out};
 use std::alloc::Global;
 use std::io::Write;
 use std::rt::Files;
-use std::{fs, str};
+use std::str;
+use yaml_canon::gather;
 use yaml_events::read_event_text;
 use yaml_read::read_events;
 use yaml_text::chars::Chars;
+use yaml_text::counted::Counted;
 use yaml_text::fault::Fault;
 use yaml_text::limits::text_limit;
+
+/// The greatest length of an event text, in bytes.
+const EVENTS_LIMIT: usize = 1_073_741_824;
+
+fn read_input<'a, T: Files>(rt: &T, alloc: Global, name: &'a str) -> Result<Vec<u8>, Refusal<'a>> {
+    let mut file = open(rt, name)?;
+    match gather(alloc, &mut file, text_limit()) {
+        Ok(bytes) => Ok(bytes),
+        Err(fault) => Err(Refusal::Input(fault)),
+    }
+}
+
+fn read_lines<'a, T: Files>(rt: &T, alloc: Global, name: &'a str) -> Result<Vec<u8>, Refusal<'a>> {
+    let mut file = open(rt, name)?;
+    match gather(alloc, &mut file, EVENTS_LIMIT) {
+        Ok(bytes) => Ok(bytes),
+        Err(fault) => Err(Refusal::EventText(fault)),
+    }
+}
 
 /// Whether an input's events are those of an event text. The input is judged first.
 fn has_events<'a>(alloc: Global, input: &[u8], lines: &[u8]) -> Result<bool, Refusal<'a>> {
@@ -23,6 +47,21 @@ fn has_events<'a>(alloc: Global, input: &[u8], lines: &[u8]) -> Result<bool, Ref
     Ok(events == wanted)
 }
 
+/// Judges an input and an event text, and writes `match` or `differ`.
+fn print_match<'a, W: Write>(
+    alloc: Global,
+    input: &[u8],
+    lines: &[u8],
+    out: &mut Counted<W>,
+) -> Result<bool, Refusal<'a>>
+    requires { faults_of out.old < 2 ^ 64 - 1 }
+{
+    let matches = has_events(alloc, input, lines)?;
+    let line = if matches { "match\n" } else { "differ\n" };
+    write_out(out, line.as_bytes())?;
+    Ok(matches)
+}
+
 /// Reads both files whole, the input first, then judges them and writes `match` or `differ`. The
 /// answer is whether the input's events are those of the event text.
 pub fn check<'a, T: Files, W: Write>(
@@ -30,18 +69,11 @@ pub fn check<'a, T: Files, W: Write>(
     alloc: Global,
     input: &'a str,
     lines: &'a str,
-    out: &mut W,
-) -> Result<bool, Refusal<'a>> {
-    let Ok(mut file) = fs::open(rt, input) else {
-        return Err(Refusal::CannotOpen(input));
-    };
-    let input = gather(alloc, &mut file, text_limit())?;
-    let Ok(mut file) = fs::open(rt, lines) else {
-        return Err(Refusal::CannotOpen(lines));
-    };
-    let lines = gather(alloc, &mut file, EVENTS_LIMIT).map_err(|fault| Refusal::EventText(fault))?;
-    let matches = has_events(alloc, input.as_slice(), lines.as_slice())?;
-    let line = if matches { "match\n" } else { "differ\n" };
-    write_out(out, line.as_bytes())?;
-    Ok(matches)
+    out: &mut Counted<W>,
+) -> Result<bool, Refusal<'a>>
+    requires { faults_of out.old < 2 ^ 64 - 1 }
+{
+    let input = read_input(rt, alloc, input)?;
+    let lines = read_lines(rt, alloc, lines)?;
+    print_match(alloc, input.as_slice(), lines.as_slice(), out)
 }

@@ -1,10 +1,15 @@
 //! `events`: the event text of an input.
-use crate::streams::{gather, write_out};
+ghost use Rattle.std.specs.Prelude.{◌<◌, ◌-◌, ◌^◌};
+ghost use Rattle.yaml_text.specs.CountedModel.{faults_of};
+
+use crate::streams::write_out;
 use std::alloc::Global;
 use std::io::{Read, Write};
+use yaml_canon::gather;
 use yaml_events::write_events;
 use yaml_read::read_events;
 use yaml_text::chars::Chars;
+use yaml_text::counted::Counted;
 use yaml_text::fault::Fault;
 use yaml_text::limits::text_limit;
 
@@ -16,12 +21,15 @@ fn event_text(alloc: Global, bytes: &[u8]) -> Result<String, Fault> {
 }
 
 /// Reads all of an input, and writes its event text once it is whole.
-pub fn events<R: Read + Drop, W: Write>(
+pub fn events<R: Read, W: Write>(
     alloc: Global,
-    mut input: R,
-    out: &mut W,
-) -> Result<(), Fault> {
-    let bytes = gather(alloc, &mut input, text_limit())?;
+    input: &mut Counted<R>,
+    out: &mut Counted<W>,
+) -> Result<(), Fault>
+    requires few_reads { faults_of input.old < 2 ^ 64 - 1 }
+    requires few_writes { faults_of out.old < 2 ^ 64 - 1 }
+{
+    let bytes = gather(alloc, input, text_limit())?;
     let text = event_text(alloc, bytes.as_slice())?;
     write_out(out, text.as_bytes())
 }
