@@ -1,6 +1,10 @@
 //! The commands.
-ghost use Rattle.std.specs.Prelude.{◌≡◌, ◌≤◌, ◌<◌, ◌-◌, ◌^◌, IfOk};
+ghost use Rattle.std.specs.Prelude.{◌≡◌, ◌⊎◌, ◌≤◌, ◌<◌, ◌-◌, ◌^◌, ℕ, List, IfOk, IfErr};
 ghost use Rattle.yaml_text.specs.CountedModel.{faults_of};
+ghost use Rattle.yaml_canon.specs.Writers.{Broken};
+ghost use Rattle.yaml_tool.specs.declared.words.Asked.{Asked};
+ghost use Rattle.yaml_tool.specs.Commands.{written_status, judged_status, Does, RefusesInput};
+ghost use Rattle.yaml_tool.specs.Judged.{Silent};
 
 use crate::check::check;
 use crate::compare::compare;
@@ -23,7 +27,7 @@ const DIFFERENT: u8 = 1;
 
 /// The status of a command that writes a text.
 fn written<'a>(answer: Result<(), Fault>) -> Result<u8, Refusal<'a>>
-    ensures { IfOk result (λ status. status ≤ 1) }
+    ensures { result ≡ written_status answer }
 {
     match answer {
         Ok(()) => Ok(DONE),
@@ -33,7 +37,7 @@ fn written<'a>(answer: Result<(), Fault>) -> Result<u8, Refusal<'a>>
 
 /// The status of a command that answers whether two files are alike.
 fn judged<'a>(answer: Result<bool, Refusal<'a>>) -> Result<u8, Refusal<'a>>
-    ensures { IfOk result (λ status. status ≤ 1) }
+    ensures { result ≡ judged_status answer.entry }
 {
     match answer {
         Ok(true) => Ok(DONE),
@@ -52,7 +56,9 @@ fn run<'a, T: Files, R: Read, W: Write>(
 ) -> Result<u8, Refusal<'a>>
     requires few_reads { faults_of input.old < 2 ^ 64 - 1 }
     requires few_writes { faults_of out.old < 2 ^ 64 - 1 }
-    ensures { IfOk result (λ status. status ≤ 1) }
+    ensures ok { IfOk result (Does W.contents R.remaining asked.entry input.old input.new out.old out.new) }
+    ensures silent { IfErr result (Silent W.contents out.old out.new) }
+    ensures refused { IfErr result (λ refusal. RefusesInput W.contents R.remaining input.old input.new out.old out.new refusal asked.entry) }
 {
     match asked {
         Asked::Canon(None) => written(run_canonical(alloc, input, out)),
@@ -80,7 +86,8 @@ fn run_words<'a, T: Files, R: Read, W: Write>(
 ) -> Result<u8, Refusal<'a>>
     requires few_reads { faults_of input.old < 2 ^ 64 - 1 }
     requires few_writes { faults_of out.old < 2 ^ 64 - 1 }
-    ensures { IfOk result (λ status. status ≤ 1) }
+    ensures ok { IfOk result (λ status. (asked : Asked) × Does W.contents R.remaining asked input.old input.new out.old out.new status) }
+    ensures silent { IfErr result (Silent W.contents out.old out.new) }
 {
     let asked = read_words(alloc, words)?;
     run(rt, alloc, asked, input, out)
@@ -97,7 +104,10 @@ fn answer<T: Files, R: Read, W: Write, E: Write>(
 ) -> u8
     requires few_reads { faults_of input.old < 2 ^ 64 - 1 }
     requires few_writes { faults_of out.old < 2 ^ 64 - 1 }
-    ensures { result ≤ 3 }
+    ensures status { result ≤ 3 }
+    ensures done { result ≤ 1 → (asked : Asked) × Does W.contents R.remaining asked input.old input.new out.old out.new result }
+    ensures refused { result ≡ 2 → out.new ≡ out.old }
+    ensures unusable { result ≡ 3 → (out.new ≡ out.old) ⊎ ((text : List ℕ) × Broken W.contents out.old out.new text) }
 {
     match run_words(rt, alloc, words, input, out) {
         Ok(status) => status,

@@ -1,6 +1,9 @@
 //! `same`: whether two files have the same documents.
-ghost use Rattle.std.specs.Prelude.{◌<◌, ◌-◌, ◌^◌};
+ghost use Rattle.std.specs.Prelude.{◌≡◌, ◌<◌, ◌-◌, ◌^◌, IfOk, IfErr};
 ghost use Rattle.yaml_text.specs.CountedModel.{faults_of};
+ghost use Rattle.yaml_tool.specs.Commands.{FilesCompared};
+ghost use Rattle.yaml_tool.specs.Judged.{same_line, PrintsSame, SameFails, Silent};
+ghost use Rattle.yaml_tool.specs.Refusals.{IsUnreadSide};
 
 use crate::refusal::Refusal;
 use crate::streams::{open, write_out};
@@ -16,12 +19,21 @@ fn read_side<'a, T: Files>(
     alloc: Global,
     name: &'a str,
     side: Side,
-) -> Result<Vec<u8>, Refusal<'a>> {
+) -> Result<Vec<u8>, Refusal<'a>>
+    ensures { IfErr result (IsUnreadSide side) }
+{
     let mut file = open(rt, name)?;
     match gather(alloc, &mut file, text_limit()) {
         Ok(bytes) => Ok(bytes),
         Err(fault) => Err(Refusal::OneSide(side, fault)),
     }
+}
+
+/// The line that tells the answer.
+fn line_of(alike: bool) -> &'static str
+    ensures { result.now ≡ same_line alike }
+{
+    if alike { "same\n" } else { "different\n" }
 }
 
 /// Judges both inputs, the left one first, and writes `same` or `different`.
@@ -32,10 +44,11 @@ fn print_same<'a, W: Write>(
     out: &mut Counted<W>,
 ) -> Result<bool, Refusal<'a>>
     requires { faults_of out.old < 2 ^ 64 - 1 }
+    ensures ok { IfOk result (λ alike. PrintsSame W.contents left.now right.now out.old out.new alike) }
+    ensures err { IfErr result (SameFails W.contents left.now right.now out.old out.new) }
 {
     let alike = same(alloc, left, right)?;
-    let line = if alike { "same\n" } else { "different\n" };
-    write_out(out, line.as_bytes())?;
+    write_out(out, line_of(alike).as_bytes())?;
     Ok(alike)
 }
 
@@ -49,6 +62,8 @@ pub fn compare<'a, T: Files, W: Write>(
     out: &mut Counted<W>,
 ) -> Result<bool, Refusal<'a>>
     requires { faults_of out.old < 2 ^ 64 - 1 }
+    ensures ok { IfOk result (λ alike. FilesCompared W.contents out.old out.new alike) }
+    ensures err { IfErr result (Silent W.contents out.old out.new) }
 {
     let left = read_side(rt, alloc, left, Side::Left)?;
     let right = read_side(rt, alloc, right, Side::Right)?;
