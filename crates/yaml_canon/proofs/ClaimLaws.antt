@@ -1,8 +1,9 @@
 -- From the layers' answers to what is promised of the bytes.
-use Rattle.std.proofs.Common.{◌≡◌, ℕ, suc, ◌<◌, ◌≤◌, List, [], ◌∷◌, length, map, refl, sym, ◌∙◌, ap, subst, arith}
+use Rattle.std.proofs.Common.{◌≡◌, ℕ, suc, ◌+◌, ◌*◌, ◌<◌, ◌≤◌, List, [], ◌∷◌, length, map, refl, sym, ◌∙◌, ap, subst, arith}
 use Rattle.std.specs.Prelude.{Ok, None}
 use Rattle.std.specs.List.{All}
 use Rattle.std.proofs.lemmas.List.{append-nil}
+use Rattle.yaml_text.specs.Event.{Event}
 use Rattle.yaml_text.specs.Limits.{text_limit, height_limit, open_limit}
 use Rattle.yaml_text.specs.Tree.{Tree, height}
 use Rattle.yaml_text.specs.Same.{Keyed}
@@ -21,7 +22,11 @@ use Rattle.yaml_text.proofs.Law.{texts_tell}
 use Rattle.yaml_text.specs.declared.event.Event as code
 use Rattle.yaml_text.specs.declared.fault.Fault.{Fault}
 use Rattle.yaml_text.specs.declared.fault.Fault.TheVariants as faults
-use Rattle.yaml_unique.proofs.Documents.{one_meaning}
+use Rattle.yaml_unique.proofs.Documents.{one_reading, one_meaning}
+use Rattle.yaml_size.specs.Sizes.{texts_bytes}
+use Rattle.yaml_size.proofs.Contents.{tag_light}
+use Rattle.yaml_size.proofs.Numbers.{text_light}
+use Rattle.yaml_size.proofs.Forests.{meaning_bounded}
 use Rattle.yaml_graph.specs.GraphModel.{tree_at}
 use Rattle.yaml_graph.specs.GraphView.{nodes_of, roots_of, trees_of as graph_trees, tree, forest}
 use Rattle.yaml_graph.specs.Composed.{Composable, Composed, RefusesStream}
@@ -87,6 +92,9 @@ are_admitted : (f : List Tree) → AllProper f → AllOf Keyed f → AllOf (λ t
 are_admitted [] p k l = tt
 are_admitted (t ∷ f) p k l = (record { proper = p.0; keyed = k.0; low = l.0 }, are_admitted f p.1 k.1 l.1)
 
+abbrev IsWithin : List ℕ → List Event → Type 0
+IsWithin text events = length text ≤ 4 * texts_bytes events + 4096 * length events
+
 pub canonical_text : (bytes text : List ℕ) (f : List Tree) → Accepted bytes f → text ≡ spell_bytes f → length text ≤ text_limit → IsCanonicalText bytes text
 canonical_text bytes text f a e l =
     let admitted : Admitted f = record { trees = are_admitted f (meaning_is_proper bytes f a.means) a.keyed a.low; fits = subst (λ z. length z ≤ text_limit) e l } in
@@ -98,6 +106,7 @@ canonical_text bytes text f a e l =
       tells = λ g h.
           let t = texts_tell f g admitted h in
           (λ q. t.0 (sym e ∙ sym q), λ q. sym (t.1 q) ∙ sym e);
+      bounded = λ events r. subst (IsWithin text) (one_reading bytes a.means.events events a.means.reads r) (subst (λ z. IsWithin z a.means.events) (sym e) (meaning_bounded tag_light text_light bytes f a.means admitted));
     }
 
 -- ---- refusals

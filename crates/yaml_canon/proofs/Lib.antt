@@ -1,4 +1,4 @@
-mod Streams
+pub mod Streams
 mod PieceLaws
 mod PageLaws
 mod PartLaws
@@ -13,3 +13,4 @@ mod NamesLaws
 mod DocumentLaws
 mod ClaimLaws
 mod CompareLaws
+mod RunLaws

@@ -1,7 +1,6 @@
 -- What a page and its writer hold, step by step.
-use Rattle.std.proofs.Common.{◌≡◌, ℕ, ◌+◌, ◌-◌, min, false, ◌&&◌, not, ◌==◌, cond, List, [], ◌∷◌, ◌++◌, Option, length, take, drop, sym, ◌∙◌, ap, subst, arith, suc, zero-add, take-add, take-append-drop}
+use Rattle.std.proofs.Common.{◌≡◌, ℕ, ◌+◌, ◌-◌, min, List, [], ◌∷◌, ◌++◌, Option, length, take, drop, sym, ◌∙◌, ap, subst, arith, suc, zero-add, take-add, take-append-drop}
 use Rattle.std.proofs.lemmas.List.{append_assoc, append-nil}
-use Rattle.std.proofs.lemmas.Bool.Decides.{nat_tests}
 use Rattle.std.proofs.lemmas.Grind.{common_steps}
 use Rattle.std.specs.Io.KnownBytes.{Appends}
 use Rattle.std.specs.Char.{encode_utf8}
@@ -21,13 +20,6 @@ use Rattle.yaml_canon.specs.Pages.{page_bytes, page_len, PageHolds, PageStops}
 use Rattle.yaml_canon.specs.Writers.{Sent, CutOff}
 use Rattle.yaml_canon.proofs.Streams.{appends_more}
 use Rattle.yaml_canon.proofs.PieceLaws.{adds_then, misses_more, misses_later}
-
--- a write that took some bytes is not counted
-pub count_kept : (took n m : ℕ) → (took ≡ 0 → ⊥) → cond (took == 0 && not (m == 0)) (one_more n) n ≡ n
-count_kept took n m h = ap (λ b. cond (b && not (m == 0)) (one_more n) n) (no took h)
-  where
-    no : (t : ℕ) → (t ≡ 0 → ⊥) → (t == 0) ≡ false
-    no t q = grind (arith, nat_tests)
 
 -- what is still to be written goes out
 take_past : (xs ys : List ℕ) (k : ℕ) → take (length xs + k) (xs ++ ys) ≡ xs ++ take k ys

@@ -111,3 +111,7 @@ if_ok (Err e) h k f = h
 pub if_one : {T E : Type 0} {P Q : T → Type 0} (r : Result T E) → IfOk r P → ((x : T) → P x → Q x) → IfOk r Q
 if_one (Ok x) h f = f x h
 if_one (Err e) h f = h
+
+pub if_both : {T E : Type 0} {P Q R : E → Type 0} (r : Result T E) → IfErr r P → IfErr r Q → ((e : E) → P e → Q e → R e) → IfErr r R
+if_both (Ok x) h k f = h
+if_both (Err e) h k f = f e h k

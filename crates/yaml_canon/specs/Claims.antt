@@ -1,5 +1,6 @@
 -- What `canonical` promises.
-use Rattle.std.specs.Prelude.{◌≡◌, ◌↔◌, ◌<◌, ◌≤◌, ℕ, List, [], ◌∷◌, length}
+use Rattle.std.specs.Prelude.{◌≡◌, ◌↔◌, ◌<◌, ◌≤◌, ◌+◌, ◌*◌, ℕ, List, [], ◌∷◌, length}
+use Rattle.yaml_text.specs.Event.{Event}
 use Rattle.yaml_text.specs.Limits.{text_limit, height_limit}
 use Rattle.yaml_text.specs.Tree.{Tree, height}
 use Rattle.yaml_text.specs.Same.{Keyed, Alike}
@@ -11,6 +12,7 @@ use Rattle.yaml_text.specs.grammar.Reading.{Reads}
 use Rattle.yaml_text.specs.Text.{Text, RefusesText}
 use Rattle.yaml_text.specs.declared.fault.Fault.{Fault}
 use Rattle.yaml_text.specs.declared.fault.Fault.TheVariants.{TooLong, NotUtf8, NotPrintable, Syntax, Tab, KeyTooLong, TooDeep, BadEscape, BadDirective, UnknownHandle, BadTag, UndefinedAlias, CyclicAlias, WrongKind, BadContent, IntRange, FloatRange, TooHigh, EqualKeys, TextTooLong, OutOfMemory}
+use Rattle.yaml_size.specs.Sizes.{texts_bytes}
 use Rattle.yaml_graph.specs.Composed.{Composed, RefusesStream}
 use Rattle.yaml_graph.specs.declared.graph.Graph.{Graph}
 use Rattle.yaml_rank.specs.RanksView.{RefusesGraph}
@@ -27,13 +29,14 @@ pub record Accepted (bytes : List ℕ) (f : List Tree) : Type 0 where
   pub low : AllOf (λ t. height t ≤ height_limit) f
   pub keyed : AllOf Keyed f
 
--- The text is the canonical one of what the bytes mean: its spelling, which tells that forest from every other.
+-- The text is the canonical one of what the bytes mean: its spelling, which tells that forest from every other. It has at most 4 bytes for each byte of the scalars' texts and 4,096 for each event of the events that the bytes are read to.
 pub record IsCanonicalText (bytes text : List ℕ) : Type 0 where
   pub forest : List Tree
   pub accepted : Accepted bytes forest
   pub admitted : Admitted forest
   pub spelled : text ≡ spell_bytes forest
   pub tells : (g : List Tree) → Admitted g → (spell_bytes g ≡ text) ↔ Alike forest g
+  pub bounded : (events : List Event) → Reads bytes events → length text ≤ 4 * texts_bytes events + 4096 * length events
 
 -- the bytes are read as these documents
 pub record IsRead (bytes : List ℕ) (ds : List Document) : Type 0 where

@@ -14,3 +14,4 @@ pub mod Documents
 pub mod Claims
 pub mod Comparing
 pub mod Gathering
+pub mod Runs

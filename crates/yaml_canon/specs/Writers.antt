@@ -1,11 +1,11 @@
--- What writing a piece whole does to a writer.
-use Rattle.std.specs.Prelude.{◌≡◌, ℕ, List, Option, take}
+-- What writing a piece, or a text, whole does to a writer.
+use Rattle.std.specs.Prelude.{◌≡◌, ℕ, ◌+◌, List, Option, take, true}
 use Rattle.std.specs.Io.KnownBytes.{Appends}
 use Rattle.yaml_text.specs.declared.fault.Fault.{Fault}
 use Rattle.yaml_text.specs.declared.fault.Fault.TheVariants.{WriteFault}
 use Rattle.yaml_text.specs.declared.counted.Counted.{Counted}
 use Rattle.yaml_text.specs.Count.{one_more}
-use Rattle.yaml_text.specs.CountedModel.{inner_of, faults_of}
+use Rattle.yaml_text.specs.CountedModel.{inner_of, faults_of, flushed_of}
 
 module _ {W : Type 0} (contents : W → Option (List ℕ)) where
   -- the writer took it whole, and no call failed
@@ -19,3 +19,15 @@ module _ {W : Type 0} (contents : W → Option (List ℕ)) where
     pub count : ℕ
     pub took : Appends (contents (inner_of old)) (contents (inner_of new)) (take count piece)
     pub counted : faults_of new ≡ one_more (faults_of old)
+
+  -- The writer took the whole text and was flushed, and no call failed.
+  pub record Printed (old new : Counted W) (text : List ℕ) : Type 0 where
+    pub took : Appends (contents (inner_of old)) (contents (inner_of new)) text
+    pub flushed : flushed_of new ≡ true
+    pub counted : faults_of new ≡ faults_of old
+
+  -- The writer took a beginning of the text, and then a call failed.
+  pub record Broken (old new : Counted W) (text : List ℕ) : Type 0 where
+    pub count : ℕ
+    pub took : Appends (contents (inner_of old)) (contents (inner_of new)) (take count text)
+    pub counted : faults_of new ≡ faults_of old + 1

@@ -1,1 +1,2 @@
-pub mod StreamFacts
+mod SameEvents
+mod Answering

@@ -1,18 +1,52 @@
 //! `check`: whether a file's events are those of an event text.
+ghost use Rattle.std.specs.Prelude.{◌≡◌, ◌<◌, ◌-◌, ◌^◌, IfOk, IfErr};
+ghost use Rattle.yaml_text.specs.CountedModel.{faults_of};
+ghost use Rattle.yaml_tool.specs.Commands.{FilesMatched};
+ghost use Rattle.yaml_tool.specs.Judged.{match_line, HasEvents, MatchRefuses, PrintsMatch, MatchFails, Silent};
+ghost use Rattle.yaml_tool.specs.Refusals.{IsUnreadInput, IsUnreadLines};
+
 use crate::refusal::Refusal;
-use crate::streams::{EVENTS_LIMIT, gather, write_out};
+use crate::streams::{open, write_out};
 use std::alloc::Global;
 use std::io::Write;
 use std::rt::Files;
-use std::{fs, str};
+use std::str;
+use yaml_canon::gather;
 use yaml_events::read_event_text;
 use yaml_read::read_events;
 use yaml_text::chars::Chars;
+use yaml_text::counted::Counted;
 use yaml_text::fault::Fault;
 use yaml_text::limits::text_limit;
 
+/// The greatest length of an event text, in bytes.
+const EVENTS_LIMIT: usize = 1_073_741_824;
+
+fn read_input<'a, T: Files>(rt: &T, alloc: Global, name: &'a str) -> Result<Vec<u8>, Refusal<'a>>
+    ensures { IfErr result IsUnreadInput }
+{
+    let mut file = open(rt, name)?;
+    match gather(alloc, &mut file, text_limit()) {
+        Ok(bytes) => Ok(bytes),
+        Err(fault) => Err(Refusal::Input(fault)),
+    }
+}
+
+fn read_lines<'a, T: Files>(rt: &T, alloc: Global, name: &'a str) -> Result<Vec<u8>, Refusal<'a>>
+    ensures { IfErr result IsUnreadLines }
+{
+    let mut file = open(rt, name)?;
+    match gather(alloc, &mut file, EVENTS_LIMIT) {
+        Ok(bytes) => Ok(bytes),
+        Err(fault) => Err(Refusal::EventText(fault)),
+    }
+}
+
 /// Whether an input's events are those of an event text. The input is judged first.
-fn has_events<'a>(alloc: Global, input: &[u8], lines: &[u8]) -> Result<bool, Refusal<'a>> {
+fn has_events<'a>(alloc: Global, input: &[u8], lines: &[u8]) -> Result<bool, Refusal<'a>>
+    ensures ok { IfOk result (HasEvents input.now lines.now) }
+    ensures err { IfErr result (MatchRefuses input.now lines.now) }
+{
     let source = Chars::read(input)?;
     let events = read_events(alloc, &source)?;
     let text = match str::from_utf8(lines) {
@@ -23,6 +57,29 @@ fn has_events<'a>(alloc: Global, input: &[u8], lines: &[u8]) -> Result<bool, Ref
     Ok(events == wanted)
 }
 
+/// The line that tells the answer.
+fn line_of(matches: bool) -> &'static str
+    ensures { result.now ≡ match_line matches }
+{
+    if matches { "match\n" } else { "differ\n" }
+}
+
+/// Judges an input and an event text, and writes `match` or `differ`.
+fn print_match<'a, W: Write>(
+    alloc: Global,
+    input: &[u8],
+    lines: &[u8],
+    out: &mut Counted<W>,
+) -> Result<bool, Refusal<'a>>
+    requires { faults_of out.old < 2 ^ 64 - 1 }
+    ensures ok { IfOk result (λ matches. PrintsMatch W.contents input.now lines.now out.old out.new matches) }
+    ensures err { IfErr result (MatchFails W.contents input.now lines.now out.old out.new) }
+{
+    let matches = has_events(alloc, input, lines)?;
+    write_out(out, line_of(matches).as_bytes())?;
+    Ok(matches)
+}
+
 /// Reads both files whole, the input first, then judges them and writes `match` or `differ`. The
 /// answer is whether the input's events are those of the event text.
 pub fn check<'a, T: Files, W: Write>(
@@ -30,18 +87,13 @@ pub fn check<'a, T: Files, W: Write>(
     alloc: Global,
     input: &'a str,
     lines: &'a str,
-    out: &mut W,
-) -> Result<bool, Refusal<'a>> {
-    let Ok(mut file) = fs::open(rt, input) else {
-        return Err(Refusal::CannotOpen(input));
-    };
-    let input = gather(alloc, &mut file, text_limit())?;
-    let Ok(mut file) = fs::open(rt, lines) else {
-        return Err(Refusal::CannotOpen(lines));
-    };
-    let lines = gather(alloc, &mut file, EVENTS_LIMIT).map_err(|fault| Refusal::EventText(fault))?;
-    let matches = has_events(alloc, input.as_slice(), lines.as_slice())?;
-    let line = if matches { "match\n" } else { "differ\n" };
-    write_out(out, line.as_bytes())?;
-    Ok(matches)
+    out: &mut Counted<W>,
+) -> Result<bool, Refusal<'a>>
+    requires { faults_of out.old < 2 ^ 64 - 1 }
+    ensures ok { IfOk result (λ matches. FilesMatched W.contents out.old out.new matches) }
+    ensures err { IfErr result (Silent W.contents out.old out.new) }
+{
+    let input = read_input(rt, alloc, input)?;
+    let lines = read_lines(rt, alloc, lines)?;
+    print_match(alloc, input.as_slice(), lines.as_slice(), out)
 }

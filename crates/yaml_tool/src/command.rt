@@ -1,16 +1,23 @@
 //! The commands.
-ghost use Rattle.std.specs.Prelude.{◌≤◌, IfOk};
+ghost use Rattle.std.specs.Prelude.{◌≡◌, ◌⊎◌, ◌≤◌, ◌<◌, ◌-◌, ◌^◌, ℕ, List, IfOk, IfErr};
+ghost use Rattle.yaml_text.specs.CountedModel.{faults_of};
+ghost use Rattle.yaml_canon.specs.Writers.{Broken};
+ghost use Rattle.yaml_tool.specs.declared.words.Asked.{Asked};
+ghost use Rattle.yaml_tool.specs.Commands.{written_status, judged_status, Does, RefusesInput};
+ghost use Rattle.yaml_tool.specs.Judged.{Silent};
 
-use crate::canon::canon;
 use crate::check::check;
 use crate::compare::compare;
 use crate::events::events;
 use crate::refusal::Refusal;
+use crate::streams::open;
 use crate::words::{Asked, read_words};
 use std::alloc::Global;
-use std::fs;
 use std::io::{Read, Write};
 use std::rt::Files;
+use yaml_canon::run_canonical;
+use yaml_text::counted::Counted;
+use yaml_text::fault::Fault;
 
 /// The status of a command that did what it was asked.
 const DONE: u8 = 0;
@@ -18,38 +25,98 @@ const DONE: u8 = 0;
 /// The status where two files differ.
 const DIFFERENT: u8 = 1;
 
-fn run<'a, T: Files, R: Read + Drop, W: Write>(
+/// The status of a command that writes a text.
+fn written<'a>(answer: Result<(), Fault>) -> Result<u8, Refusal<'a>>
+    ensures { result ≡ written_status answer }
+{
+    match answer {
+        Ok(()) => Ok(DONE),
+        Err(fault) => Err(Refusal::Input(fault)),
+    }
+}
+
+/// The status of a command that answers whether two files are alike.
+fn judged<'a>(answer: Result<bool, Refusal<'a>>) -> Result<u8, Refusal<'a>>
+    ensures { result ≡ judged_status answer.entry }
+{
+    match answer {
+        Ok(true) => Ok(DONE),
+        Ok(false) => Ok(DIFFERENT),
+        Err(refusal) => Err(refusal),
+    }
+}
+
+/// Does what is asked, and answers the status: 0, or 1 where two files differ.
+fn run<'a, T: Files, R: Read, W: Write>(
+    rt: &T,
+    alloc: Global,
+    asked: Asked<'a>,
+    input: &mut Counted<R>,
+    out: &mut Counted<W>,
+) -> Result<u8, Refusal<'a>>
+    requires few_reads { faults_of input.old < 2 ^ 64 - 1 }
+    requires few_writes { faults_of out.old < 2 ^ 64 - 1 }
+    ensures ok { IfOk result (Does W.contents R.remaining asked.entry input.old input.new out.old out.new) }
+    ensures silent { IfErr result (Silent W.contents out.old out.new) }
+    ensures refused { IfErr result (λ refusal. RefusesInput W.contents R.remaining input.old input.new out.old out.new refusal asked.entry) }
+{
+    match asked {
+        Asked::Canon(None) => written(run_canonical(alloc, input, out)),
+        Asked::Canon(Some(name)) => {
+            let mut file = open(rt, name)?;
+            written(run_canonical(alloc, &mut file, out))
+        }
+        Asked::Same(left, right) => judged(compare(rt, alloc, left, right, out)),
+        Asked::Events(None) => written(events(alloc, input, out)),
+        Asked::Events(Some(name)) => {
+            let mut file = open(rt, name)?;
+            written(events(alloc, &mut file, out))
+        }
+        Asked::Check(file, lines) => judged(check(rt, alloc, file, lines, out)),
+    }
+}
+
+/// Does what the words ask.
+fn run_words<'a, T: Files, R: Read, W: Write>(
     rt: &T,
     alloc: Global,
     words: &'a [String],
-    input: R,
-    out: &mut W,
+    input: &mut Counted<R>,
+    out: &mut Counted<W>,
 ) -> Result<u8, Refusal<'a>>
-    ensures { IfOk result (λ status. status ≤ 1) }
+    requires few_reads { faults_of input.old < 2 ^ 64 - 1 }
+    requires few_writes { faults_of out.old < 2 ^ 64 - 1 }
+    ensures ok { IfOk result (λ status. (asked : Asked) × Does W.contents R.remaining asked input.old input.new out.old out.new status) }
+    ensures silent { IfErr result (Silent W.contents out.old out.new) }
 {
-    match read_words(alloc, words)? {
-        Asked::Canon(None) => canon(alloc, input, out)?,
-        Asked::Canon(Some(name)) => match fs::open(rt, name) {
-            Ok(file) => canon(alloc, file, out)?,
-            Err(_) => return Err(Refusal::CannotOpen(name)),
-        },
-        Asked::Same(left, right) => {
-            if !compare(rt, alloc, left, right, out)? {
-                return Ok(DIFFERENT);
-            }
-        }
-        Asked::Events(None) => events(alloc, input, out)?,
-        Asked::Events(Some(name)) => match fs::open(rt, name) {
-            Ok(file) => events(alloc, file, out)?,
-            Err(_) => return Err(Refusal::CannotOpen(name)),
-        },
-        Asked::Check(file, lines) => {
-            if !check(rt, alloc, file, lines, out)? {
-                return Ok(DIFFERENT);
-            }
+    let asked = read_words(alloc, words)?;
+    run(rt, alloc, asked, input, out)
+}
+
+/// The same, with the refusal, if there is one, as a line on `err` and as the status.
+fn answer<T: Files, R: Read, W: Write, E: Write>(
+    rt: &T,
+    alloc: Global,
+    words: &[String],
+    input: &mut Counted<R>,
+    out: &mut Counted<W>,
+    err: &mut E,
+) -> u8
+    requires few_reads { faults_of input.old < 2 ^ 64 - 1 }
+    requires few_writes { faults_of out.old < 2 ^ 64 - 1 }
+    ensures status { result ≤ 3 }
+    ensures done { result ≤ 1 → (asked : Asked) × Does W.contents R.remaining asked input.old input.new out.old out.new result }
+    ensures refused { result ≡ 2 → out.new ≡ out.old }
+    ensures unusable { result ≡ 3 → (out.new ≡ out.old) ⊎ ((text : List ℕ) × Broken W.contents out.old out.new text) }
+{
+    match run_words(rt, alloc, words, input, out) {
+        Ok(status) => status,
+        Err(refusal) => {
+            // Where standard error fails too, the status alone is left to tell it.
+            let _ = writeln!(err, "yaml: {refusal}");
+            refusal.status()
         }
     }
-    Ok(DONE)
 }
 
 /// Runs the command that the words give, without the program's own name, and answers the exit
@@ -63,17 +130,12 @@ pub fn command<T: Files, R: Read + Drop, W: Write + Drop, E: Write + Drop>(
     alloc: Global,
     words: &[String],
     input: R,
-    mut out: W,
+    out: W,
     mut err: E,
 ) -> u8
     ensures { result ≤ 3 }
 {
-    match run(rt, alloc, words, input, &mut out) {
-        Ok(status) => status,
-        Err(refusal) => {
-            // Where standard error fails too, the status alone is left to tell it.
-            let _ = writeln!(err, "yaml: {refusal}");
-            refusal.status()
-        }
-    }
+    let mut input = Counted::new(input);
+    let mut out = Counted::new(out);
+    answer(rt, alloc, words, &mut input, &mut out, &mut err)
 }

@@ -1,11 +1,17 @@
 //! `same`: whether two files have the same documents.
+ghost use Rattle.std.specs.Prelude.{◌≡◌, ◌<◌, ◌-◌, ◌^◌, IfOk, IfErr};
+ghost use Rattle.yaml_text.specs.CountedModel.{faults_of};
+ghost use Rattle.yaml_tool.specs.Commands.{FilesCompared};
+ghost use Rattle.yaml_tool.specs.Judged.{same_line, PrintsSame, SameFails, Silent};
+ghost use Rattle.yaml_tool.specs.Refusals.{IsUnreadSide};
+
 use crate::refusal::Refusal;
-use crate::streams::{gather, write_out};
+use crate::streams::{open, write_out};
 use std::alloc::Global;
-use std::fs;
 use std::io::Write;
 use std::rt::Files;
-use yaml_canon::{Side, same};
+use yaml_canon::{Side, gather, same};
+use yaml_text::counted::Counted;
 use yaml_text::limits::text_limit;
 
 fn read_side<'a, T: Files>(
@@ -13,12 +19,37 @@ fn read_side<'a, T: Files>(
     alloc: Global,
     name: &'a str,
     side: Side,
-) -> Result<Vec<u8>, Refusal<'a>> {
-    let Ok(mut file) = fs::open(rt, name) else {
-        return Err(Refusal::CannotOpen(name));
-    };
-    let bytes = gather(alloc, &mut file, text_limit()).map_err(|fault| (side, fault))?;
-    Ok(bytes)
+) -> Result<Vec<u8>, Refusal<'a>>
+    ensures { IfErr result (IsUnreadSide side) }
+{
+    let mut file = open(rt, name)?;
+    match gather(alloc, &mut file, text_limit()) {
+        Ok(bytes) => Ok(bytes),
+        Err(fault) => Err(Refusal::OneSide(side, fault)),
+    }
+}
+
+/// The line that tells the answer.
+fn line_of(alike: bool) -> &'static str
+    ensures { result.now ≡ same_line alike }
+{
+    if alike { "same\n" } else { "different\n" }
+}
+
+/// Judges both inputs, the left one first, and writes `same` or `different`.
+fn print_same<'a, W: Write>(
+    alloc: Global,
+    left: &[u8],
+    right: &[u8],
+    out: &mut Counted<W>,
+) -> Result<bool, Refusal<'a>>
+    requires { faults_of out.old < 2 ^ 64 - 1 }
+    ensures ok { IfOk result (λ alike. PrintsSame W.contents left.now right.now out.old out.new alike) }
+    ensures err { IfErr result (SameFails W.contents left.now right.now out.old out.new) }
+{
+    let alike = same(alloc, left, right)?;
+    write_out(out, line_of(alike).as_bytes())?;
+    Ok(alike)
 }
 
 /// Reads both files whole, the left one first, then judges them and writes `same` or `different`.
@@ -28,12 +59,13 @@ pub fn compare<'a, T: Files, W: Write>(
     alloc: Global,
     left: &'a str,
     right: &'a str,
-    out: &mut W,
-) -> Result<bool, Refusal<'a>> {
+    out: &mut Counted<W>,
+) -> Result<bool, Refusal<'a>>
+    requires { faults_of out.old < 2 ^ 64 - 1 }
+    ensures ok { IfOk result (λ alike. FilesCompared W.contents out.old out.new alike) }
+    ensures err { IfErr result (Silent W.contents out.old out.new) }
+{
     let left = read_side(rt, alloc, left, Side::Left)?;
     let right = read_side(rt, alloc, right, Side::Right)?;
-    let alike = same(alloc, left.as_slice(), right.as_slice())?;
-    let line = if alike { "same\n" } else { "different\n" };
-    write_out(out, line.as_bytes())?;
-    Ok(alike)
+    print_same(alloc, left.as_slice(), right.as_slice(), out)
 }

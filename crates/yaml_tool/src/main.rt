@@ -1,7 +1,6 @@
 //! The program `yamlcanon`, which reads YAML and writes its canonical text.
 #![tactic(auto)]
 
-mod canon;
 mod check;
 pub mod command;
 mod compare;
@@ -16,15 +15,15 @@ use crate::command::command;
 use crate::refusal::Refusal;
 use crate::words::WordsFault;
 use std::alloc::Global;
+use std::env;
 use std::io::Write;
 use std::process::ExitCode;
-use std::{env, io};
 
 /// The words behind the program's own name.
-fn words_of(rt: &HostRuntime, alloc: Global) -> io::Result<Vec<String>> {
+fn words_of(rt: &HostRuntime, alloc: Global) -> Result<Vec<String>, WordsFault> {
     let mut words = Vec::new(alloc);
     for word in env::args(rt)?.skip(1) {
-        words.push(word)?;
+        words.push(word).map_err(|_| WordsFault::OutOfMemory)?;
     }
     Ok(words)
 }
@@ -40,8 +39,8 @@ fn main(rt: HostRuntime) -> ExitCode {
             rt.stdout(),
             rt.stderr(),
         ),
-        Err(_) => {
-            let refusal = Refusal::Words(WordsFault::Usage);
+        Err(fault) => {
+            let refusal = Refusal::Words(fault);
             let _ = writeln!(rt.stderr(), "yaml: {refusal}");
             refusal.status()
         }

@@ -1,5 +1,6 @@
 //! Why the program ends without an answer.
-ghost use Rattle.std.specs.Prelude.{◌≤◌};
+ghost use Rattle.std.specs.Prelude.{◌≡◌};
+ghost use Rattle.yaml_tool.specs.Statuses.{fault_status};
 
 use crate::words::WordsFault;
 use std::fmt;
@@ -33,10 +34,13 @@ pub enum Refusal<'a> {
 }
 
 impl Refusal<'_> {
+    ghost use Rattle.std.specs.Prelude.{◌≡◌};
+    ghost use Rattle.yaml_tool.specs.Statuses.{refusal_status};
+
     /// The exit status: 2 where an input is refused, 3 where the words, a file or a stream can't be
     /// used.
     pub fn status(self) -> u8
-        ensures { result ≤ 3 }
+        ensures { result ≡ refusal_status self.entry }
     {
         match self {
             Refusal::Words(_) | Refusal::CannotOpen(_) => UNUSABLE,
@@ -49,7 +53,7 @@ impl Refusal<'_> {
 }
 
 fn status_of(fault: Fault) -> u8
-    ensures { result ≤ 3 }
+    ensures { result ≡ fault_status fault }
 {
     match fault {
         Fault::ReadFault | Fault::WriteFault => UNUSABLE,
@@ -58,24 +62,44 @@ fn status_of(fault: Fault) -> u8
 }
 
 impl From<WordsFault> for Refusal<'_> {
+    ghost use Rattle.std.specs.Prelude.{◌≡◌};
+    ghost use Rattle.yaml_tool.specs.declared.refusal.Refusal.TheVariants.{Words};
+
+    ghost from_gives = { λ fault refusal. refusal ≡ Words fault };
+
     fn from(fault: WordsFault) -> Self {
         Refusal::Words(fault)
     }
 }
 
 impl From<Fault> for Refusal<'_> {
+    ghost use Rattle.std.specs.Prelude.{◌≡◌};
+    ghost use Rattle.yaml_tool.specs.declared.refusal.Refusal.TheVariants.{Input};
+
+    ghost from_gives = { λ fault refusal. refusal ≡ Input fault };
+
     fn from(fault: Fault) -> Self {
         Refusal::Input(fault)
     }
 }
 
 impl From<(Side, Fault)> for Refusal<'_> {
+    ghost use Rattle.std.specs.Prelude.{◌≡◌};
+    ghost use Rattle.yaml_tool.specs.declared.refusal.Refusal.TheVariants.{OneSide};
+
+    ghost from_gives = { λ told refusal. refusal ≡ OneSide told.0 told.1 };
+
     fn from((side, fault): (Side, Fault)) -> Self {
         Refusal::OneSide(side, fault)
     }
 }
 
 impl From<EventFault> for Refusal<'_> {
+    ghost use Rattle.std.specs.Prelude.{◌≡◌};
+    ghost use Rattle.yaml_tool.specs.declared.refusal.Refusal.TheVariants.{EventLines};
+
+    ghost from_gives = { λ fault refusal. refusal ≡ EventLines fault };
+
     fn from(fault: EventFault) -> Self {
         Refusal::EventLines(fault)
     }

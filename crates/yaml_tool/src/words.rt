@@ -2,6 +2,7 @@
 use clap::error::ErrorKind;
 use clap::{Arg, ArgMatches, Command, Error};
 use std::alloc::{AllocError, Global};
+use std::io;
 
 /// A command and the names of its files.
 #[derive(Clone, Copy, Debug, PartialEq, Eq)]
@@ -33,6 +34,15 @@ impl From<Error> for WordsFault {
     fn from(fault: Error) -> WordsFault {
         match fault.kind() {
             ErrorKind::OutOfMemory => WordsFault::OutOfMemory,
+            _ => WordsFault::Usage,
+        }
+    }
+}
+
+impl From<io::Error> for WordsFault {
+    fn from(fault: io::Error) -> WordsFault {
+        match fault.kind() {
+            io::ErrorKind::OutOfMemory => WordsFault::OutOfMemory,
             _ => WordsFault::Usage,
         }
     }

@@ -1,10 +1,12 @@
 use Rattle.std.proofs.Common.{map, subst, sym}
 use Rattle.yaml_text.specs.EventModel.{event_of}
 use Rattle.std.specs.List.{All}
-use Rattle.yaml_text.specs.EventText.{IsSound}
+use Rattle.std.specs.String.{string_bytes}
+use Rattle.yaml_text.specs.EventText.{IsSound, EventText}
 use Rattle.yaml_text.specs.Source.{text_of}
 use Rattle.yaml_text.specs.grammar.Reading.{Reads}
 use Rattle.yaml_text.proofs.MeaningLaws.{readings_have_text}
+use Rattle.yaml_tool.proofs.Answering.{if_one}
 use Rattle.yaml_tool.proofs.events.event_text.Goals as goal
 
 -- what is read has an event text
@@ -14,3 +16,13 @@ write_events-requires c =
     let events = c.in_ok-events.events.items in
     let r = (readings_have_text c.args.bytes.now (map event_of events) (text_of c.in_ok-source.source, c.in_ok-source.ensures.read, c.in_ok-events.ensures.ok)).sound in
     subst (λ z. All IsSound (map event_of z)) (sym c.as_slice.ensures.value) r
+
+pub returns-clause-ok : goal.returns-clause-ok
+unfolding Reads
+returns-clause-ok c =
+    let events = map event_of c.in_ok-events.events.items in
+    if_one c.write_events.result c.write_events.ensures.text (λ text h. record {
+      events = events;
+      reads = (text_of c.in_ok-source.source, c.in_ok-source.ensures.read, c.in_ok-events.ensures.ok);
+      is = subst (λ z. EventText (string_bytes text) (map event_of z)) c.as_slice.ensures.value h;
+    })

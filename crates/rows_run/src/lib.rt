@@ -1,0 +1,13 @@
+//! Runs over readers and writers that give and take little at a time, or fail: tests alone.
+#![tactic(auto)]
+
+#[cfg(test)]
+mod failing;
+#[cfg(test)]
+mod gathering;
+#[cfg(test)]
+mod lengths;
+#[cfg(test)]
+mod runs;
+#[cfg(test)]
+mod streams;

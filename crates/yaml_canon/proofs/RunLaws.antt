@@ -1,0 +1,81 @@
+-- From a text that was written page by page to what a run promises.
+use Rattle.std.proofs.Common.{◌≡◌, ℕ, ◌+◌, ◌-◌, ◌^◌, ◌<◌, ◌≤◌, min, true, List, [], ◌++◌, Option, length, take, refl, sym, ◌∙◌, ap, subst, arith}
+use Rattle.std.proofs.lemmas.List.{append-nil}
+use Rattle.std.proofs.Math.Seq.{take-length}
+use Rattle.std.specs.Io.KnownBytes.{Appends, Keeps}
+use Rattle.yaml_text.specs.Limits.{text_limit}
+use Rattle.yaml_text.specs.Tree.{Tree}
+use Rattle.yaml_text.specs.Spell.{spell_bytes}
+use Rattle.yaml_text.specs.declared.fault.Fault.{Fault}
+use Rattle.yaml_text.specs.declared.fault.Fault.TheVariants.{WriteFault}
+use Rattle.yaml_text.specs.declared.counted.Counted.{Counted}
+use Rattle.yaml_text.specs.Count.{one_more}
+use Rattle.yaml_text.specs.CountedModel.{inner_of, faults_of, flushed_of}
+use Rattle.yaml_canon.specs.declared.page.Page.{Page}
+use Rattle.yaml_canon.specs.Pieces.{Began, Puts, Fails}
+use Rattle.yaml_canon.specs.Pages.{page_bytes, page_len, PageHolds, PageStops}
+use Rattle.yaml_canon.specs.Writers.{Sent, CutOff, Printed, Broken}
+use Rattle.yaml_canon.specs.Documents.{spell_more}
+use Rattle.yaml_canon.specs.Claims.{Accepted, CanonicalRefuses}
+use Rattle.yaml_canon.specs.Runs.{WritesCanonical, WriteRefuses}
+use Rattle.yaml_canon.proofs.ClaimLaws.{canonical_text}
+use Rattle.yaml_canon.proofs.Streams.{appends_none, appends_more, appends_kept}
+use Rattle.yaml_canon.proofs.PageLaws.{held_cut}
+use Rattle.yaml_canon.proofs.DocumentLaws.{spell_whole}
+
+one_higher : (n : ℕ) → n < 2 ^ 64 - 1 → one_more n ≡ n + 1
+one_higher n h = omega (arith, h)
+
+module _ {W : Type 0} (contents : W → Option (List ℕ)) where
+  abbrev started : Counted W → Began
+  started o = record { number = faults_of o; held = contents (inner_of o) }
+
+  first_page : (p : Page) (o : Counted W) → page_len p ≡ 0 → PageHolds contents p o (started o) []
+  first_page p o e = record { front = []; sent = appends_none (contents (inner_of o)); is = ap (λ n. take n p.bytes) (sym e); counted = refl }
+
+  -- all of the text is written but for the last page
+  pub all_but_a_page : (p q : Page) (o u : Counted W) (f : List Tree) → page_len p ≡ 0 → Puts (PageHolds contents) p o q u (spell_more f) → PageHolds contents q u (started o) (spell_bytes f)
+  all_but_a_page p q o u f e h =
+      let a = h.is (started o) [] (first_page p o e) in
+      subst (PageHolds contents q u (started o)) (sym (append-nil a.0) ∙ a.2.is [] ∙ spell_whole f) a.1
+
+  pub all_sent : (q : Page) (o u v : Counted W) (xs : List ℕ) → PageHolds contents q u (started o) xs → Sent contents u v (page_bytes q) → Sent contents o v xs
+  all_sent q o u v xs h s = record {
+    took = subst (Appends (contents (inner_of o)) (contents (inner_of v))) (sym h.is) (appends_more _ _ _ h.front (page_bytes q) h.sent s.took);
+    counted = s.counted ∙ h.counted;
+  }
+
+  -- what a flush leaves
+  pub printed : (o u v : Counted W) (xs : List ℕ) → Sent contents o u xs → Keeps (contents (inner_of u)) (contents (inner_of v)) → faults_of v ≡ faults_of u → flushed_of v ≡ true → Printed contents o v xs
+  printed o u v xs s k e f = record { took = appends_kept _ _ _ xs s.took k; flushed = f; counted = e ∙ s.counted }
+
+  pub unflushed : (o u v : Counted W) (xs : List ℕ) → faults_of o < 2 ^ 64 - 1 → Sent contents o u xs → Keeps (contents (inner_of u)) (contents (inner_of v)) → faults_of v ≡ one_more (faults_of u) → Broken contents o v xs
+  unflushed o u v xs l s k e = record {
+    count = length xs;
+    took = subst (Appends (contents (inner_of o)) (contents (inner_of v))) (sym (take-length xs)) (appends_kept _ _ _ xs s.took k);
+    counted = e ∙ ap one_more s.counted ∙ one_higher (faults_of o) l;
+  }
+
+  stopped : (o u : Counted W) (fault : Fault) (xs : List ℕ) → faults_of o < 2 ^ 64 - 1 → PageStops contents u (started o) fault xs → Broken contents o u xs
+  stopped o u fault xs l s = record { count = s.count; took = s.sent; counted = s.counted ∙ one_higher (faults_of o) l }
+
+  -- the writer fails within the text, or in its last page
+  pub broken_within : (p : Page) (o u : Counted W) (fault : Fault) (f : List Tree) → faults_of o < 2 ^ 64 - 1 → page_len p ≡ 0 → Fails (PageHolds contents) (PageStops contents) p o u fault (spell_more f) → Broken contents o u (spell_bytes f) × (fault ≡ WriteFault)
+  broken_within p o u fault f l e h =
+      let s = h.is (started o) [] [] (first_page p o e) in
+      (stopped o u fault (spell_bytes f) l (subst (PageStops contents u (started o) fault) (spell_whole f) s), s.is)
+
+  pub broken_at_the_end : (q : Page) (o u v : Counted W) (fault : Fault) (xs : List ℕ) → faults_of o < 2 ^ 64 - 1 → PageHolds contents q u (started o) xs → CutOff contents u v (page_bytes q) fault → Broken contents o v xs
+  broken_at_the_end q o u v fault xs l h s = stopped o v fault xs l (subst (PageStops contents v (started o) fault) (append-nil xs) (held_cut contents q u v (started o) fault xs [] h s))
+
+  -- the bytes are refused, and nothing was written
+  pub refused_unwritten : (bytes : List ℕ) (o : Counted W) (fault : Fault) → CanonicalRefuses bytes fault → WriteRefuses contents bytes o o fault
+  refused_unwritten bytes o WriteFault h = absurd h
+  refused_unwritten bytes o _ h = record { refused = h; untouched = refl }
+
+  pub canonical_written : (bytes : List ℕ) (f : List Tree) (o u : Counted W) → Accepted bytes f → length (spell_bytes f) ≤ text_limit → Printed contents o u (spell_bytes f) → WritesCanonical contents bytes o u
+  canonical_written bytes f o u a l p = record { text = spell_bytes f; canonical = canonical_text bytes (spell_bytes f) f a refl l; printed = p }
+
+  pub canonical_broken : (bytes : List ℕ) (f : List Tree) (o u : Counted W) (fault : Fault) → Accepted bytes f → length (spell_bytes f) ≤ text_limit → Broken contents o u (spell_bytes f) → fault ≡ WriteFault → WriteRefuses contents bytes o u fault
+  canonical_broken bytes f o u fault a l b e =
+      subst (WriteRefuses contents bytes o u) (sym e) (record { text = spell_bytes f; canonical = canonical_text bytes (spell_bytes f) f a refl l; broken = b })

@@ -1,0 +1,90 @@
+//! Reading a stream and writing its canonical text page by page.
+ghost use Rattle.std.specs.Prelude.{◌≡◌, ◌<◌, ◌-◌, ◌^◌, length, OnOk, IfErr};
+ghost use Rattle.yaml_text.specs.CountedModel.{faults_of};
+ghost use Rattle.yaml_text.specs.Spell.{spell_bytes};
+ghost use Rattle.yaml_graph.specs.GraphView.{nodes_of, forest};
+ghost use Rattle.yaml_rank.specs.RanksView.{RanksAre};
+ghost use Rattle.yaml_canon.specs.NamesView.{ranks_in, document_of};
+ghost use Rattle.yaml_canon.specs.Writers.{Printed, Broken};
+ghost use Rattle.yaml_canon.specs.Runs.{WritesCanonical, WriteRefuses, RunsWhole, RunFails};
+
+use crate::names::Names;
+use crate::page::Page;
+use crate::reading::gather;
+use crate::spell::{canonical_len, write_documents};
+use std::alloc::Global;
+use std::io::{Read, Write};
+use yaml_graph::compose;
+use yaml_graph::graph::Graph;
+use yaml_rank::rank;
+use yaml_rank::ranks::Ranks;
+use yaml_read::read_events;
+use yaml_text::chars::Chars;
+use yaml_text::counted::Counted;
+use yaml_text::fault::Fault;
+use yaml_text::limits::text_limit;
+
+/// Writes the canonical text of a graph's documents page by page, and flushes. It takes no memory,
+/// and fails as the writer does (23).
+fn write_pages<W: Write>(
+    graph: &Graph<'_>,
+    ranks: &Ranks,
+    names: &mut Names,
+    out: &mut Counted<W>,
+) -> Result<(), Fault>
+    requires ranked { RanksAre graph.now ranks.now }
+    requires long { ranks_in names.old ≡ length (nodes_of graph.now) }
+    requires fresh { document_of names.old ≡ 0 }
+    requires few { faults_of out.old < 2 ^ 64 - 1 }
+    ensures ok { OnOk result (Printed W.contents out.old out.new (spell_bytes (forest graph.now))) }
+    ensures broken { IfErr result (λ _. Broken W.contents out.old out.new (spell_bytes (forest graph.now))) }
+    ensures err { IfErr result (λ fault. fault ≡ Fault.WriteFault) }
+{
+    let mut page = Page::new();
+    write_documents(graph, ranks, names, &mut page, out)?;
+    page.send(out)?;
+    match out.flush() {
+        Ok(()) => Ok(()),
+        Err(_) => Err(Fault::WriteFault),
+    }
+}
+
+/// Writes the canonical text of the stream that these bytes are. Each growth is made before the
+/// first byte goes out.
+fn write_canonical<W: Write>(alloc: Global, bytes: &[u8], out: &mut Counted<W>) -> Result<(), Fault>
+    requires few { faults_of out.old < 2 ^ 64 - 1 }
+    ensures ok { OnOk result (WritesCanonical W.contents bytes.now out.old out.new) }
+    ensures err { IfErr result (WriteRefuses W.contents bytes.now out.old out.new) }
+{
+    let source = Chars::read(bytes)?;
+    let events = read_events(alloc, &source)?;
+    let graph = compose(alloc, &events)?;
+    let ranks = rank(alloc, &graph)?;
+    canonical_len(alloc, &graph, &ranks)?;
+    let mut names = Names::new(alloc, graph.len())?;
+    write_pages(&graph, &ranks, &mut names, out)
+}
+
+/// Reads a stream to its end and writes its canonical text, which is never held whole: it goes out
+/// in pieces of at most 4,096 bytes, and then the writer is flushed.
+///
+/// Refused are, before the first byte goes out, what `canonical` refuses (1 to 21) and a reader that
+/// fails, also by an interrupted call (22); and a writer that fails or takes no byte of a piece (23),
+/// which then has a beginning of the text. An input of more bytes than the limit is refused once one
+/// byte more than that was read. The count of the reader, or of the writer, is one higher after 22,
+/// or 23, and else as it was.
+///
+/// Both counts are below the greatest u64.
+pub fn run_canonical<R: Read, W: Write>(
+    alloc: Global,
+    input: &mut Counted<R>,
+    out: &mut Counted<W>,
+) -> Result<(), Fault>
+    requires few_reads { faults_of input.old < 2 ^ 64 - 1 }
+    requires few_writes { faults_of out.old < 2 ^ 64 - 1 }
+    ensures ok { OnOk result (RunsWhole W.contents R.remaining input.old input.new out.old out.new) }
+    ensures err { IfErr result (RunFails W.contents R.remaining input.old input.new out.old out.new) }
+{
+    let bytes = gather(alloc, input, text_limit())?;
+    write_canonical(alloc, &bytes, out)
+}

@@ -1,0 +1,20 @@
+-- The exit status of each refusal.
+use Rattle.std.specs.Prelude.{ℕ}
+use Rattle.yaml_text.specs.declared.fault.Fault.{Fault}
+use Rattle.yaml_text.specs.declared.fault.Fault.TheVariants.{ReadFault, WriteFault}
+use Rattle.yaml_tool.specs.declared.refusal.Refusal.{Refusal}
+use Rattle.yaml_tool.specs.declared.refusal.Refusal.TheVariants.{Words, CannotOpen, Input, OneSide, EventText, EventLines}
+
+-- a stream that fails, or an input that is refused
+abbrev pub fault_status : Fault → ℕ
+fault_status ReadFault = 3
+fault_status WriteFault = 3
+fault_status _ = 2
+
+abbrev pub refusal_status : Refusal → ℕ
+refusal_status (Words fault) = 3
+refusal_status (CannotOpen name) = 3
+refusal_status (Input fault) = fault_status fault
+refusal_status (OneSide side fault) = fault_status fault
+refusal_status (EventText fault) = fault_status fault
+refusal_status (EventLines fault) = 2
