@@ -9,7 +9,6 @@ use Rattle.yaml_text.specs.grammar.Separation.{Ctx, block_out, block_in, flow_ou
 use Rattle.yaml_text.specs.Lines.{is_key}
 use Rattle.yaml_flow.specs.Lines.{IsLine}
 use Rattle.yaml_flow.specs.declared.line.Line.{Line}
-use Rattle.yaml_unique.specs.Follows.{Stuck}
 use Rattle.yaml_complete.proofs.Separations.{IsKey, Spaces, separate_in_key, separate_on_line, separate_on_next, separate_short, separate_no_mark, separate_no_end}
 use Rattle.yaml_flow.proofs.LineLemmas.{lines_apart, spaces_apart, spaces_maybe, comments_after, dashes_mark}
 use Rattle.yaml_flow.proofs.SpaceLemmas.{lines_separate}
