@@ -71,32 +71,32 @@ module _ (cs : List ℕ) (handles : Handles) where
   module _ (n : ℕ) (c : Ctx) where
     -- ---- where none could be read
 
-    pub barred_none : (i : ℕ) → ((j : ℕ) (p : Props) → prop cs handles i j p → ⊥) → Barred cs handles n c i
-    barred_none i none k p s = go (kinds cs handles n c i k p s)
+    pub barred_none : (i : ℕ) → IsProperty cs i → ((j : ℕ) (p : Props) → prop cs handles i j p → ⊥) → Barred cs handles n c i
+    barred_none i at none = (at, λ k p s. go k p (kinds cs handles n c i k p s))
       where
-        go : Kinds cs handles n c i k p → Stops cs handles n c k
-        go (one_prop b) = absurd (none k p b)
-        go (two_props x y a b f g u w d) = absurd (none x a f)
+        go : (k : ℕ) (p : Props) → Kinds cs handles n c i k p → Stops cs handles n c k
+        go k p (one_prop b) = absurd (none k p b)
+        go k p (two_props x y a b f g u w d) = absurd (none x a f)
 
     -- no content comes after the first
     pub barred_first : (i e : ℕ) (a : Props) → prop cs handles i e a → (Inside cs e → (q : ℕ) → maybe (separate cs n c) e q → Fresh cs q → ⊥) → Barred cs handles n c i
-    barred_first i e a r none k p s = go (kinds cs handles n c i k p s)
+    barred_first i e a r none = (prop_here cs handles i e a r, λ k p s. go k p (kinds cs handles n c i k p s))
       where
         here : (x : ℕ) → e ≡ x → (q : ℕ) → maybe (separate cs n c) x q → Fresh cs q → ⊥
         here x h q m f = none (prop_inside cs handles i e a r) q (subst (λ z. maybe (separate cs n c) z q) (sym h) m) f
 
-        go : Kinds cs handles n c i k p → Stops cs handles n c k
-        go (one_prop b) = nothing (here k (prop_same cs handles i e k a p r b).0)
-        go (two_props x y a2 b2 f g u w d) = absurd (here x (prop_same cs handles i e x a a2 r f).0 y (inr g) (prop_solid cs handles y (prop_here cs handles y k b2 u)))
+        go : (k : ℕ) (p : Props) → Kinds cs handles n c i k p → Stops cs handles n c k
+        go k p (one_prop b) = nothing (here k (prop_same cs handles i e k a p r b).0)
+        go k p (two_props x y a2 b2 f g u w d) = absurd (here x (prop_same cs handles i e x a a2 r f).0 y (inr g) (prop_solid cs handles y (prop_here cs handles y k b2 u)))
 
     -- the second, which begins at o, could not be read
     pub barred_second : (i e o : ℕ) (a : Props) → prop cs handles i e a → separate cs n c e o → IsProperty cs o
         → ((q : ℕ) → maybe (separate cs n c) e q → Solid cs q → q ≡ o) → ((j : ℕ) (p : Props) → prop cs handles o j p → ⊥) → Barred cs handles n c i
-    barred_second i e o a r t is to none k p s = go (kinds cs handles n c i k p s)
+    barred_second i e o a r t is to none = (prop_here cs handles i e a r, λ k p s. go k p (kinds cs handles n c i k p s))
       where
-        go : Kinds cs handles n c i k p → Stops cs handles n c k
-        go (one_prop b) = another o (subst (λ z. separate cs n c z o) (prop_same cs handles i e k a p r b).0 t) is
-        go (two_props x y a2 b2 f g u w d) =
+        go : (k : ℕ) (p : Props) → Kinds cs handles n c i k p → Stops cs handles n c k
+        go k p (one_prop b) = another o (subst (λ z. separate cs n c z o) (prop_same cs handles i e k a p r b).0 t) is
+        go k p (two_props x y a2 b2 f g u w d) =
             let h : y ≡ o = to y (inr (subst (λ z. separate cs n c z y) (sym (prop_same cs handles i e x a a2 r f).0) g)) (prop_solid cs handles y (prop_here cs handles y k b2 u)).0 in
             absurd (none k b2 (subst (λ z. prop cs handles z k b2) h u))
 

@@ -1,4 +1,4 @@
-use Rattle.std.proofs.Common.{◌≡◌, ◌+◌, true, false, ℕ, ◌<◌, ◌≤◌, sym, subst, ◌∙◌, inr, arith}
+use Rattle.std.proofs.Common.{◌≡◌, ◌+◌, true, false, ℕ, ◌<◌, ◌≤◌, sym, subst, ◌∙◌, ap, inr, arith}
 use Rattle.std.proofs.lemmas.Str.{IsUtf8-had}
 use Rattle.yaml_text.specs.declared.chars.Chars.{Chars}
 use Rattle.yaml_text.specs.Source.{text_of, place_of, IsBorder}
@@ -9,7 +9,7 @@ use Rattle.yaml_text.specs.grammar.Separation.{Ctx, block_out, block_in, flow_ou
 use Rattle.yaml_text.specs.Lines.{is_key}
 use Rattle.yaml_flow.specs.Lines.{IsLine}
 use Rattle.yaml_flow.specs.declared.line.Line.{Line}
-use Rattle.yaml_complete.proofs.Separations.{IsKey, Spaces, separate_in_key, separate_on_line, separate_on_next, separate_short, separate_no_mark, separate_no_end}
+use Rattle.yaml_complete.proofs.Separations.{IsKey, Spaces, separate_in_key, separate_on_line, separate_on_next, separate_short, separate_no_mark, separate_no_end, way_on_line, way_on_next}
 use Rattle.yaml_flow.proofs.LineLemmas.{lines_apart, spaces_apart, spaces_maybe, comments_after, dashes_mark}
 use Rattle.yaml_flow.proofs.SpaceLemmas.{lines_separate}
 use Rattle.yaml_flow.proofs.line.separation.Goals as goal
@@ -111,3 +111,19 @@ returns-else-is_end-clause-to c =
     let line = c.line_at-line.result in
     let is = c.line_at-line.ensures.line in
     separate_on_next (text_of s) c.args.least (context_of c.args.context) _ _ _ (comments_to s c.args.at c.in-Some.start line c.line_at-line.ensures.start c.in-Some.ensures.some) is.stuck (line_spaces s line is)
+
+pub returns-then-is_key-clause-way : goal.returns-then-is_key-clause-way
+returns-then-is_key-clause-way c = λ h q w. let e : false ≡ true = sym (ap is_key h) ∙ sym c.is_key.ensures ∙ c.if-is_key.true in cc
+
+pub returns-in-None-clause-way : goal.returns-in-None-clause-way
+returns-in-None-clause-way c = λ h.
+    let s = c.skip_spaces-end-in-None.ensures in
+    let cs = text_of c.args.source.now in
+    way_on_line cs _ _ c.in-None.ensures.none (indent_run cs _ _ _ s.spaces, s.furthest)
+
+pub returns-else-is_end-clause-way : goal.returns-else-is_end-clause-way
+returns-else-is_end-clause-way c = λ h.
+    let s = c.args.source.now in
+    let line = c.line_at-line.result in
+    let is = c.line_at-line.ensures.line in
+    way_on_next (text_of s) _ _ _ (comments_to s c.args.at c.in-Some.start line c.line_at-line.ensures.start c.in-Some.ensures.some) is.stuck (line_spaces s line is)

@@ -35,7 +35,7 @@ returns-in_err-tag-clause-barred c =
     let cs = text_of c.args.source.now in
     let handles = handles_of c.args.handles in
     failed _ c.from_residual.result c.in_err-tag.field-0.0 c.from_residual.ensures.1
-    (or_else (λ none. barred_none cs handles c.args.least (context_of c.args.context) _ (no_tag cs handles _ c.requires.sign none)) (tag_refused _ c.in_err-tag.ensures.refused))
+    (or_else (λ none. barred_none cs handles c.args.least (context_of c.args.context) _ (inl c.requires.sign) (no_tag cs handles _ c.requires.sign none)) (tag_refused _ c.in_err-tag.ensures.refused))
 
 pub returns-in_err-next-clause-barred : goal.returns-in_err-next-clause-barred
 returns-in_err-next-clause-barred c =
