@@ -1,11 +1,11 @@
 -- Node properties: that those read are all, and what stops every node where none could be read.
-use Rattle.std.proofs.Common.{◌≡◌, ◌≢◌, ℕ, ◌<◌, ◌⊎◌, List, Some, None, refl, sym, ◌∙◌, ap, subst, arith, inl, inr, Result, Err, IfErr}
+use Rattle.std.proofs.Common.{◌≡◌, ◌≢◌, false, ℕ, ◌<◌, ◌⊎◌, List, Some, None, refl, sym, ◌∙◌, ap, subst, arith, inl, inr, Result, Err, IfErr}
 use Rattle.std.specs.Prelude.{slice_get}
 use Rattle.std.specs.Result.{IsErrAnd}
 use Rattle.std.proofs.lemmas.Result.{err_from_is_err_and}
 use Rattle.yaml_text.specs.Answer.{Unread}
 use Rattle.yaml_text.specs.Event.{WrittenTag}
-use Rattle.yaml_text.specs.Lines.{Inside}
+use Rattle.yaml_text.specs.Lines.{Inside, is_key}
 use Rattle.yaml_text.specs.declared.fault.Fault.{Fault}
 use Rattle.yaml_text.specs.declared.fault.Fault.TheVariants as fault
 use Rattle.yaml_text.specs.grammar.Rules.{maybe, run}
@@ -79,14 +79,14 @@ module _ (cs : List ℕ) (handles : Handles) where
         go k p (two_props x y a b f g u w d) = absurd (none x a f)
 
     -- no content comes after the first
-    pub barred_first : (i e : ℕ) (a : Props) → prop cs handles i e a → (Inside cs e → (q : ℕ) → maybe (separate cs n c) e q → Fresh cs q → ⊥) → Barred cs handles n c i
-    barred_first i e a r none = (prop_here cs handles i e a r, λ k p s. go k p (kinds cs handles n c i k p s))
+    pub barred_first : (i e : ℕ) (a : Props) → prop cs handles i e a → is_key c ≡ false → (Inside cs e → (q : ℕ) → maybe (separate cs n c) e q → Fresh cs q → ⊥) → Barred cs handles n c i
+    barred_first i e a r key none = (prop_here cs handles i e a r, λ k p s. go k p (kinds cs handles n c i k p s))
       where
         here : (x : ℕ) → e ≡ x → (q : ℕ) → maybe (separate cs n c) x q → Fresh cs q → ⊥
         here x h q m f = none (prop_inside cs handles i e a r) q (subst (λ z. maybe (separate cs n c) z q) (sym h) m) f
 
         go : (k : ℕ) (p : Props) → Kinds cs handles n c i k p → Stops cs handles n c k
-        go k p (one_prop b) = nothing (here k (prop_same cs handles i e k a p r b).0)
+        go k p (one_prop b) = nothing key (here k (prop_same cs handles i e k a p r b).0)
         go k p (two_props x y a2 b2 f g u w d) = absurd (here x (prop_same cs handles i e x a a2 r f).0 y (inr g) (prop_solid cs handles y (prop_here cs handles y k b2 u)))
 
     -- the second, which begins at o, could not be read

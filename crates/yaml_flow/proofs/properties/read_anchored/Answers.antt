@@ -46,7 +46,7 @@ returns-in_err-next-clause-barred c =
     let name = chars (cow_str_bytes c.in_ok-name.name) in
     let anchor = anchor_read cs handles _ _ _ c.requires.sign c.in_ok-name.ensures.only.is in
     failed _ c.from_residual-in_err-next.result c.in_err-next.field-0.0 c.from_residual-in_err-next.ensures.1
-    (inr (barred_first cs handles c.args.least (context_of c.args.context) _ _ (anchor_props name) (inr (_, anchor, refl)) c.in_err-next.ensures.none))
+    (inr (barred_first cs handles c.args.least (context_of c.args.context) _ _ (anchor_props name) (inr (_, anchor, refl)) c.in_err-next.ensures.lines c.in_err-next.ensures.none))
 
 pub returns-in_err-tag-clause-barred : goal.returns-in_err-tag-clause-barred
 returns-in_err-tag-clause-barred c =

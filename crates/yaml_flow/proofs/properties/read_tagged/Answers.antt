@@ -43,7 +43,7 @@ returns-in_err-next-clause-barred c =
     let handles = handles_of c.args.handles in
     let tag = tag_read cs handles _ _ _ c.in_ok-tag.ensures.only.is in
     failed _ c.from_residual-in_err-next.result c.in_err-next.field-0.0 c.from_residual-in_err-next.ensures.1
-    (inr (barred_first cs handles c.args.least (context_of c.args.context) _ _ (tag_props (written_of c.in_ok-tag.tag)) (inl (_, tag, refl)) c.in_err-next.ensures.none))
+    (inr (barred_first cs handles c.args.least (context_of c.args.context) _ _ (tag_props (written_of c.in_ok-tag.tag)) (inl (_, tag, refl)) c.in_err-next.ensures.lines c.in_err-next.ensures.none))
 
 pub returns-in_err-name-clause-barred : goal.returns-in_err-name-clause-barred
 returns-in_err-name-clause-barred c =
