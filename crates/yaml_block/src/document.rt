@@ -7,7 +7,9 @@ ghost use Rattle.yaml_text.specs.grammar.Events.{no_props, empty};
 ghost use Rattle.yaml_text.specs.grammar.Separation.{StartsLine, s_l_comments};
 ghost use Rattle.yaml_text.specs.grammar.Streams.{bare_document};
 ghost use Rattle.yaml_mark.specs.HandlesModel.{handles_of};
-ghost use Rattle.yaml_flow.specs.Answer.{Appends};
+ghost use Rattle.yaml_unique.specs.Follows.{Over, Follow};
+ghost use Rattle.yaml_complete.specs.Decisions.{Here};
+ghost use Rattle.yaml_flow.specs.Answer.{Appends, Decides};
 ghost use Rattle.yaml_flow.specs.Lines.{IsLine};
 
 use crate::block::{read_root, read_value};
@@ -40,6 +42,7 @@ pub fn read_bare<'a>(
     ensures line { IfOk result (IsLine source.now) }
     ensures onward { IfOk result (λ next. line.start ≤ next.start) }
     ensures reads { Appends (λ _. bare_document (text_of source.now) (Unit {0}) open_limit (handles_of handles.entry)) (place_of source.now line.start) (λ next. place_of source.now next.start) out.old.items out.new.items result }
+    ensures decides { Decides (bare_document (text_of source.now) (Unit {0}) open_limit (handles_of handles.entry)) (Over (text_of source.now) (Follow (text_of source.now) 0 0)) (place_of source.now line.start) Here (λ next. place_of source.now next.start) result }
 {
     read_root(alloc, source, line, room(), handles, out)
 }
@@ -56,6 +59,7 @@ pub fn read_marked<'a>(
     ensures line { IfOk result (IsLine source.now) }
     ensures onward { IfOk result (λ next. at ≤ next.start) }
     ensures reads { Appends (λ _. bare_document (text_of source.now) (Unit {0}) open_limit (handles_of handles.entry) ∪ (gives (empty no_props) ◂ s_l_comments (text_of source.now))) (place_of source.now at) (λ next. place_of source.now next.start) out.old.items out.new.items result }
+    ensures decides { Decides (bare_document (text_of source.now) (Unit {0}) open_limit (handles_of handles.entry) ∪ (gives (empty no_props) ◂ s_l_comments (text_of source.now))) (Over (text_of source.now) (Follow (text_of source.now) 0 0)) (place_of source.now at) Here (λ next. place_of source.now next.start) result }
 {
     read_value(alloc, source, at, 0, Ctx::BlockIn, room(), handles, out)
 }

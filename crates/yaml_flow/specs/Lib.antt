@@ -1,4 +1,5 @@
 pub mod Answer
+pub mod Decisions
 pub mod Lines
 pub mod Keys
 pub mod PropertyRules

@@ -5,16 +5,17 @@ use Rattle.yaml_text.specs.Source.{bytes_of, text_of, place_of, IsBorder}
 use Rattle.yaml_text.specs.declared.chars.Chars.{Chars}
 use Rattle.yaml_text.specs.grammar.Rules.{Stands}
 use Rattle.yaml_text.specs.grammar.Characters.{is_ns, is_space}
-use Rattle.yaml_text.specs.grammar.Separation.{Ctx, block_out, block_in, flow_out, flow_in, block_key, flow_key, indent}
+use Rattle.yaml_text.specs.grammar.Separation.{Ctx, block_out, block_in, flow_out, flow_in, block_key, flow_key, indent, l_comment}
 use Rattle.yaml_flow.specs.declared.line.Line.{Line}
 
--- so many spaces, and no more, stand from the line's start on
+-- no comment line starts here, and so many spaces, and no more, stand from the line's start on
 pub record IsLine (source : Chars) (line : Line) : Type 0 where
   pub start : IsBorder source line.start
   pub first : IsBorder source line.first
   pub spaces : indent (text_of source) line.column (place_of source line.start) (place_of source line.first)
   pub wide : line.start + line.column ≤ line.first
   pub all : Stands (text_of source) is_space (place_of source line.first) → ⊥
+  pub stuck : (j : ℕ) → l_comment (text_of source) (place_of source line.start) j → ⊥
 
 -- a dash that begins an entry (YAML 1.2.2, 8.2.1)
 pub record IsDash (source : Chars) (at after : ℕ) : Type 0 where

@@ -5,7 +5,7 @@ ghost use Rattle.yaml_text.specs.Limits.{text_limit};
 ghost use Rattle.yaml_text.specs.Place.{Steps};
 ghost use Rattle.yaml_text.specs.Source.{bytes_of, text_of, place_of, IsBorder};
 ghost use Rattle.yaml_text.specs.EventModel.{context_of};
-ghost use Rattle.yaml_text.specs.grammar.Separation.{inner};
+ghost use Rattle.yaml_text.specs.grammar.Separation.{inner, flow_in, flow_out};
 ghost use Rattle.yaml_text.specs.grammar.Rules.{given, gives, seen};
 ghost use Rattle.yaml_text.specs.grammar.Tags as tags;
 ghost use Rattle.yaml_text.specs.grammar.Events.{alias, empty, no_props};
@@ -13,6 +13,7 @@ ghost use Rattle.yaml_mark.specs.HandlesModel.{handles_of};
 ghost use Rattle.yaml_flow.specs.declared.flow.Kind.TheVariants.{Yaml};
 ghost use Rattle.yaml_text.specs.Answer.{IsRefusal};
 ghost use Rattle.yaml_flow.specs.Answer.{Appends, Perhaps};
+ghost use Rattle.yaml_flow.specs.Decisions.{AllProperties, LineGoesOn, DecidesNode};
 ghost use Rattle.yaml_flow.specs.PropertyRules.{props_of, Own};
 ghost use Rattle.yaml_flow.specs.FlowRules.{flow_from, content_from, Bare, from_room, item_at, entry_at, keyed_at, asked_at, value_at, parts, IsSign, IsInner, IsParted, FirstIs};
 
@@ -239,6 +240,7 @@ pub fn read_flow_node<'a>(
     ensures onward { IfOk result (λ node. at ≤ node.end) }
     ensures within { IfOk result (λ node. node.deep ≤ room) }
     ensures reads { Appends (λ node. flow_from (text_of source.now) (Unit {0}) (handles_of handles.entry) node.deep node.kind least (context_of context)) (place_of source.now at) (λ node. place_of source.now node.end) out.old.items out.new.items result }
+    ensures decides { context_of context ≡ flow_in → DecidesNode (text_of source.now) (handles_of handles.entry) room least (context_of context) (place_of source.now at) (λ node. place_of source.now node.end) result }
 {
     let start = out.len();
     let (own, end) = read_properties(alloc, source, at, least, context, handles)?;
@@ -268,11 +270,14 @@ pub fn read_bare<'a>(
     requires end { IsBorder source.now end }
     requires order { at ≤ end }
     requires own { Own (text_of source.now) (handles_of handles) least (context_of context) (place_of source.now at) (place_of source.now end) (props_of own.now) }
+    requires all { AllProperties (text_of source.now) (handles_of handles) least (context_of context) (place_of source.now at) (place_of source.now end) (props_of own.now) }
+    requires goes_on { context_of context ≡ flow_out → LineGoesOn (text_of source.now) (place_of source.now end) (props_of own.now) }
     requires low { least ≤ at }
     ensures border { IfOk result (λ node. IsBorder source.now node.end) }
     ensures onward { IfOk result (λ node. at ≤ node.end) }
     ensures within { IfOk result (λ node. node.deep ≤ room) }
     ensures reads { Appends (λ node. Bare (text_of source.now) (Unit {0}) (handles_of handles.entry) node.deep node.kind least (context_of context) (props_of own.now) (place_of source.now end)) (place_of source.now at) (λ node. place_of source.now node.end) out.old.items out.new.items result }
+    ensures decides { DecidesNode (text_of source.now) (handles_of handles.entry) room least (context_of context) (place_of source.now at) (λ node. place_of source.now node.end) result }
 {
     if own.is_none() {
         if let Some(_) = accept(source, at, '*') {

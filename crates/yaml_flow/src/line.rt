@@ -1,13 +1,14 @@
 //! Comments, separation and the starts of lines (YAML 1.2.2, chapter 6).
-ghost use Rattle.std.specs.Prelude.{◌≡◌, ◌≢◌, ◌≤◌, ◌<◌, ◌⊎◌, IfSome, IfNone, IfOk, IfErr, ℕ, length};
+ghost use Rattle.std.specs.Prelude.{◌≡◌, ◌≢◌, ◌≤◌, ◌<◌, ◌⊎◌, IfSome, IfNone, IfOk, IfErr, ℕ, length, false};
 ghost use Rattle.std.specs.Bool.{OnTrue, OnFalse};
 ghost use Rattle.yaml_text.specs.Source.{text_of, place_of, IsBorder};
 ghost use Rattle.yaml_text.specs.EventModel.{context_of};
 ghost use Rattle.yaml_text.specs.grammar.Rules.{any_span, maybe};
-ghost use Rattle.yaml_text.specs.grammar.Separation.{s_l_comments, l_comment, separate};
-ghost use Rattle.yaml_text.specs.Lines.{AfterLine};
+ghost use Rattle.yaml_text.specs.grammar.Separation.{s_l_comments, l_comment, separate, flow_in};
+ghost use Rattle.yaml_text.specs.Lines.{AfterLine, Inside, is_key};
 ghost use Rattle.yaml_text.specs.Lines.{Dashes};
 ghost use Rattle.yaml_text.specs.Answer.{IsRefusal};
+ghost use Rattle.yaml_unique.specs.Follows.{Solid, Fresh, Way};
 ghost use Rattle.yaml_flow.specs.Lines.{IsLine};
 
 use yaml_mark::comments;
@@ -26,9 +27,10 @@ pub struct Line {
     pub first: usize,
 }
 
-/// The line that starts at a border.
+/// The line that starts at a border, and is no comment.
 pub fn line_at(source: &Chars<'_>, start: usize) -> Line
-    requires { IsBorder source.now start }
+    requires border { IsBorder source.now start }
+    requires stuck { (j : ℕ) → l_comment (text_of source.now) (place_of source.now start) j → ⊥ }
     ensures line { IsLine source.now result }
     ensures start { result.start ≡ start }
 {
@@ -82,6 +84,7 @@ pub fn next_line(source: &Chars<'_>, at: usize) -> Result<Line, Fault>
     ensures onward { IfOk result (λ line. at ≤ line.start) }
     ensures comments { IfOk result (λ line. s_l_comments (text_of source.now) (place_of source.now at) (place_of source.now line.start)) }
     ensures err { IfErr result IsRefusal }
+    ensures none { IfErr result (λ _. (j : ℕ) → s_l_comments (text_of source.now) (place_of source.now at) j → ⊥) }
 {
     match skip_comments(source, at) {
         Some(start) => Ok(line_at(source, start)),
@@ -92,14 +95,18 @@ pub fn next_line(source: &Chars<'_>, at: usize) -> Result<Line, Fault>
     }
 }
 
-/// The border after the separation inside a flow collection (6.7), as much as there is.
+/// The border after the separation inside a flow collection (6.7), as much as there is: where content goes on, if it does.
 pub fn separation(source: &Chars<'_>, at: usize, least: usize, context: Ctx) -> Result<usize, Fault>
     requires { IsBorder source.now at }
     ensures border { IfOk result (λ to. IsBorder source.now to) }
     ensures onward { IfOk result (λ to. at ≤ to) }
     ensures separate { IfOk result (λ to. maybe (separate (text_of source.now) least (context_of context)) (place_of source.now at) (place_of source.now to)) }
     ensures apart { IfOk result (λ to. at < to → separate (text_of source.now) least (context_of context) (place_of source.now at) (place_of source.now to)) }
+    ensures to { IfOk result (λ to. (q : ℕ) → maybe (separate (text_of source.now) least (context_of context)) (place_of source.now at) q → Solid (text_of source.now) q → q ≡ place_of source.now to) }
+    ensures way { context_of context ≡ flow_in → IfOk result (λ to. (q : ℕ) → Way (text_of source.now) (place_of source.now at) q → q ≡ place_of source.now to) }
     ensures err { IfErr result IsRefusal }
+    ensures lines { IfErr result (λ _. is_key (context_of context) ≡ false) }
+    ensures none { IfErr result (λ _. Inside (text_of source.now) (place_of source.now at) → (q : ℕ) → maybe (separate (text_of source.now) least (context_of context)) (place_of source.now at) q → Fresh (text_of source.now) q → ⊥) }
 {
     if is_key(context) {
         let (_, end) = skip_spaces(source, at);

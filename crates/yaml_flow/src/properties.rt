@@ -1,5 +1,5 @@
 //! Node properties (YAML 1.2.2, 6.9).
-ghost use Rattle.std.specs.Prelude.{◌≡◌, ◌≢◌, ◌≤◌, IfOk, IfErr, Some, slice_get};
+ghost use Rattle.std.specs.Prelude.{◌≡◌, ◌≢◌, ◌≤◌, ◌⊎◌, IfOk, IfErr, Some, slice_get};
 ghost use Rattle.std.specs.Bool.{OnTrue, OnFalse};
 ghost use Rattle.std.specs.Cow.{cow_str_bytes};
 ghost use Rattle.std.specs.Option.{option_map};
@@ -8,6 +8,8 @@ ghost use Rattle.yaml_text.specs.EventModel.{context_of, event_of, written_of};
 ghost use Rattle.yaml_text.specs.grammar.Events.{no_props};
 ghost use Rattle.yaml_mark.specs.HandlesModel.{handles_of};
 ghost use Rattle.yaml_text.specs.Answer.{IsRefusal};
+ghost use Rattle.yaml_text.specs.declared.fault.Fault.TheVariants.{OutOfMemory};
+ghost use Rattle.yaml_flow.specs.Decisions.{AllProperties, Barred};
 ghost use Rattle.yaml_flow.specs.PropertyRules.{props_of, both_props, anchor_of, tag_of, with_props, Dresses, Apart, Own};
 
 use crate::line::separation;
@@ -114,6 +116,8 @@ pub fn read_properties<'a>(
     ensures onward { IfOk result (λ r. at ≤ r.1) }
     ensures own { IfOk result (λ r. Own (text_of source.now) (handles_of handles.entry) least (context_of context) (place_of source.now at) (place_of source.now r.1) (props_of r.0)) }
     ensures err { IfErr result IsRefusal }
+    ensures all { IfOk result (λ r. AllProperties (text_of source.now) (handles_of handles.entry) least (context_of context) (place_of source.now at) (place_of source.now r.1) (props_of r.0)) }
+    ensures barred { IfErr result (λ e. (e ≡ OutOfMemory) ⊎ Barred (text_of source.now) (handles_of handles.entry) least (context_of context) (place_of source.now at)) }
 {
     if let Some(_) = accept(source, at, '!') {
         return read_tagged(alloc, source, at, least, context, handles);
@@ -133,11 +137,14 @@ fn read_tagged<'a>(
     context: Ctx,
     handles: Option<&Handles<'a>>,
 ) -> Result<(Properties<'a>, usize), Fault>
-    requires { IsBorder source.now at }
+    requires border { IsBorder source.now at }
+    requires sign { slice_get (text_of source.now) (place_of source.now at) ≡ Some 33 }
     ensures border { IfOk result (λ r. IsBorder source.now r.1) }
     ensures onward { IfOk result (λ r. at ≤ r.1) }
     ensures own { IfOk result (λ r. Own (text_of source.now) (handles_of handles.entry) least (context_of context) (place_of source.now at) (place_of source.now r.1) (props_of r.0)) }
     ensures err { IfErr result IsRefusal }
+    ensures all { IfOk result (λ r. AllProperties (text_of source.now) (handles_of handles.entry) least (context_of context) (place_of source.now at) (place_of source.now r.1) (props_of r.0)) }
+    ensures barred { IfErr result (λ e. (e ≡ OutOfMemory) ⊎ Barred (text_of source.now) (handles_of handles.entry) least (context_of context) (place_of source.now at)) }
 {
     let (tag, end) = read_tag(alloc, source, at, handles)?;
     let next = separation(source, end, least, context)?;
@@ -166,6 +173,8 @@ fn read_anchored<'a>(
     ensures onward { IfOk result (λ r. at ≤ r.1) }
     ensures own { IfOk result (λ r. Own (text_of source.now) (handles_of handles.entry) least (context_of context) (place_of source.now at) (place_of source.now r.1) (props_of r.0)) }
     ensures err { IfErr result IsRefusal }
+    ensures all { IfOk result (λ r. AllProperties (text_of source.now) (handles_of handles.entry) least (context_of context) (place_of source.now at) (place_of source.now r.1) (props_of r.0)) }
+    ensures barred { IfErr result (λ e. (e ≡ OutOfMemory) ⊎ Barred (text_of source.now) (handles_of handles.entry) least (context_of context) (place_of source.now at)) }
 {
     let (name, end) = read_name(alloc, source, at)?;
     let anchor = Some(name);
