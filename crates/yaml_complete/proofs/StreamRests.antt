@@ -1,5 +1,5 @@
 -- What is left of a stream, at each place where its reader stands between documents.
-use Rattle.std.proofs.Common.{◌≡◌, ℕ, ◌+◌, ◌≤◌, ◌<◌, inl, inr, List, [], Bool, true, false, length, refl, sym, ◌∙◌, subst, arith}
+use Rattle.std.proofs.Common.{◌≡◌, ℕ, ◌+◌, ◌≤◌, ◌<◌, inl, inr, List, [], ◌∷◌, Bool, true, false, length, refl, sym, ◌∙◌, subst, arith}
 use Rattle.yaml_text.specs.grammar.Rules.{Rule, Spans, ◌◂◌, ◌∪◌, gives}
 use Rattle.yaml_text.specs.grammar.Separation.{block_in, StartsLine, AtEnd, MarkOf, Mark, s_l_comments}
 use Rattle.yaml_text.specs.grammar.Tags.{Handles}
@@ -7,16 +7,16 @@ use Rattle.yaml_text.specs.grammar.Directives.{directives}
 use Rattle.yaml_text.specs.grammar.Nodes.{block_part, reads}
 use Rattle.yaml_text.specs.grammar.Events.{no_props, empty}
 use Rattle.yaml_text.specs.Event.{Event}
-use Rattle.yaml_text.specs.grammar.Streams.{Piece, bare_document, explicit_document, directive_document, suffix, ReadsText}
+use Rattle.yaml_text.specs.grammar.Streams.{Piece, document_piece, bare_document, explicit_document, directive_document, suffix, ReadsText}
 use Rattle.yaml_text.proofs.RestLemmas.{l_comment_onward}
 use Rattle.yaml_text.proofs.Repeats.{spans_onward}
 use Rattle.yaml_unique.specs.Readings.{End, At}
 use Rattle.yaml_unique.proofs.Lines.{ns_dash, past_of, past_same, less_stuck, comments_same, comments_none, stuck_end}
 use Rattle.yaml_unique.specs.Follows.{Comments, Stuck, Less, Follow}
-use Rattle.yaml_unique.proofs.Directives.{Percent, directives_unique}
+use Rattle.yaml_unique.proofs.Directives.{Percent, directives_unique, directives_start}
 use Rattle.yaml_unique.proofs.Documents.{Tail, View, v_over, v_dots, v_shown, v_bare, v_directed, E0, stream_tail, view, lands, lands_false, line_of, mark_inside, suffix_mark, suffix_past, shown_mark, directive_percent, after_comments, marks_apart, mark_end, mark_percent, bare_no_mark, bare_no_end, bare_no_percent, dots_mark_is, dashes_mark_is, percent_end}
 use Rattle.yaml_unique.proofs.Documents as documents
-use Rattle.yaml_complete.specs.Decisions.{Refused, Goes, Here}
+use Rattle.yaml_complete.specs.Decisions.{Refused, Goes, Rest, Here}
 use Rattle.yaml_complete.proofs.NodesAgain.{root_again}
 
 module _ (cs : List ℕ) (Wide : Type 0) (room : ℕ) where
@@ -75,18 +75,16 @@ module _ (cs : List ℕ) (Wide : Type 0) (room : ℕ) where
   abbrev pub Marked : Handles → Rule (List Event)
   Marked handles = bare_document cs Wide room handles ∪ (gives (empty no_props) ◂ s_l_comments cs)
 
-  -- the document's reading, and that it is followed
-  explicit_left : (handles : Handles) (m k : ℕ) (us : List Event) (vs : List Piece) → explicit_document cs Wide room handles m k us → Tail cs Wide room false k vs → (o : ℕ) × Marked handles (m + 3) k us × Follows k o
+  -- what is read after it
+  explicit_marked : (handles : Handles) (m k : ℕ) (us : List Event) → explicit_document cs Wide room handles m k us → Marked handles (m + 3) k us
   unfolding explicit_document
-  explicit_left handles m k us vs (a, d, r) t =
-      let (o, c, f) = lands_false cs Wide room k vs t in
-      (o, subst (λ z. Marked handles z k us) (mark_inside cs Wide room 45 m a ns_dash d).0 r, (c, f))
+  explicit_marked handles m k us (a, d, r) = subst (λ z. Marked handles z k us) (mark_inside cs Wide room 45 m a ns_dash d).0 r
 
   shown_left : (fresh : Bool) (m h : ℕ) (xs : List Piece) → Stuck cs m → MarkOf cs 45 m → View cs Wide room fresh h m xs →
       (k : ℕ) × (o : ℕ) × (us : List Event) × (vs : List Piece) × Marked [] (m + 3) k us × Follows k o × Tail cs Wide room false k vs
   shown_left fresh m h xs st mark (v_over e f) = absurd (mark_end cs Wide room 45 m mark e)
   shown_left fresh m h xs st mark (v_dots k us vs r t e) = absurd (marks_apart cs Wide room m mark (suffix_mark cs Wide room m k us r))
-  shown_left fresh m h xs st mark (v_shown k us vs (es, r, f) t e) = let (o, d, y) = explicit_left [] m k es vs r t in (k, o, es, vs, d, y, t)
+  shown_left fresh m h xs st mark (v_shown k us vs (es, r, g) t e) = let (o, c, f) = lands_false cs Wide room k vs t in (k, o, es, vs, explicit_marked [] m k es r, (c, f), t)
   shown_left fresh m h xs st mark (v_bare g k us vs a c r t e) = absurd (bare_no_mark cs Wide room g m k us a c st r (dashes_mark_is cs Wide room m mark))
   shown_left fresh m h xs st mark (v_directed k us vs r t e) = absurd (mark_percent cs Wide room 45 m (λ z. omega (arith, z)) mark (directive_percent cs Wide room m k us r))
 
@@ -104,40 +102,25 @@ module _ (cs : List ℕ) (Wide : Type 0) (room : ℕ) where
 
   -- ---- a document after directives (9.1.5)
 
-  directed_left : (fresh : Bool) (m h : ℕ) (xs : List Piece) → Stuck cs m → Percent cs m → View cs Wide room fresh h m xs →
-      (a : ℕ) × (hs : Handles) × directives cs m a hs × (k : ℕ) × (us : List Event) × (vs : List Piece) × explicit_document cs Wide room hs a k us × Tail cs Wide room false k vs
-  unfolding directive_document
-  directed_left fresh m h xs st p (v_over e f) = absurd (percent_end cs Wide room m p e)
-  directed_left fresh m h xs st p (v_dots k us vs r t e) = absurd (mark_percent cs Wide room 46 m (λ z. omega (arith, z)) (suffix_mark cs Wide room m k us r) p)
-  directed_left fresh m h xs st p (v_shown k us vs r t e) = absurd (mark_percent cs Wide room 45 m (λ z. omega (arith, z)) (shown_mark cs Wide room m k us r) p)
-  directed_left fresh m h xs st p (v_bare g k us vs a c r t e) = absurd (bare_no_percent cs Wide room g m k us a c st r p)
-  directed_left fresh m h xs st p (v_directed k us vs (es, (a, hs, d, r), f) t e) = (a, hs, d, k, es, vs, r, t)
-
   -- the directives that were read, up to the document's mark
-  pub left_directed : {fresh : Bool} (m a n : ℕ) (hs : Handles) → Percent cs m → directives cs m a hs → MarkOf cs 45 a → Goes (Marked hs) Follows (a + 3) Here n → Left fresh m → Left false n
-  left_directed {fresh} m a n hs p d mark g x = go (directed_left fresh m x.from_place x.pieces x.stuck p (seen_from x))
+  pub directed_marked : (m a : ℕ) (hs : Handles) → directives cs m a hs → MarkOf cs 45 a → Rest (directive_document cs Wide room) Follows m (Marked hs) Follows (a + 3)
+  unfolding directive_document
+  directed_marked m a hs d mark = record { rest = go }
     where
-      go : (b : ℕ) × (gs : Handles) × directives cs m b gs × (k : ℕ) × (us : List Event) × (vs : List Piece) × explicit_document cs Wide room gs b k us × Tail cs Wide room false k vs → Left false n
-      go (b, gs, e, k, us, vs, r, t) =
-          let h = directives_unique cs m a b a b hs gs d (refl, mark) e (refl, documents.explicit_mark cs Wide room gs b k us r) in
-          let (o, w, f) = explicit_left hs a k us vs (subst (λ z. explicit_document cs Wide room z a k us) (sym h.1) (subst (λ z. explicit_document cs Wide room gs z k us) (sym h.0) r)) t in
-          left_after false k n o vs t f.0 (follows_stuck k o f) (g.goes k o us w f)
-
-  pub no_directed : {fresh : Bool} (m a : ℕ) (hs : Handles) → Percent cs m → directives cs m a hs → MarkOf cs 45 a → Refused (Marked hs) Follows (a + 3) → Left fresh m → ⊥
-  no_directed {fresh} m a hs p d mark g x = go (directed_left fresh m x.from_place x.pieces x.stuck p (seen_from x))
-    where
-      go : (b : ℕ) × (gs : Handles) × directives cs m b gs × (k : ℕ) × (us : List Event) × (vs : List Piece) × explicit_document cs Wide room gs b k us × Tail cs Wide room false k vs → ⊥
-      go (b, gs, e, k, us, vs, r, t) =
-          let h = directives_unique cs m a b a b hs gs d (refl, mark) e (refl, documents.explicit_mark cs Wide room gs b k us r) in
-          let (o, w, f) = explicit_left hs a k us vs (subst (λ z. explicit_document cs Wide room z a k us) (sym h.1) (subst (λ z. explicit_document cs Wide room gs z k us) (sym h.0) r)) t in
-          g.none k o us w f
+      go : (j o : ℕ) (us : List Event) → (b : ℕ) × (gs : Handles) × directives cs m b gs × explicit_document cs Wide room gs b j us → Follows j o →
+          (k : ℕ) × (vs : List Event) × Marked hs (a + 3) k vs × Follows k o
+      go j o us (b, gs, e, r) f =
+          let h = directives_unique cs m a b a b hs gs d (refl, mark) e (refl, documents.explicit_mark cs Wide room gs b j us r) in
+          (j, us, explicit_marked hs a j us (subst (λ z. explicit_document cs Wide room z a j us) (sym h.1) (subst (λ z. explicit_document cs Wide room gs z j us) (sym h.0) r)), f)
 
   -- no directives before a mark begin here
-  pub no_directives : {fresh : Bool} (m : ℕ) → Percent cs m → Refused (directives cs) (At (MarkOf cs 45)) m → Left fresh m → ⊥
-  no_directives {fresh} m p g x = go (directed_left fresh m x.from_place x.pieces x.stuck p (seen_from x))
-    where
-      go : (b : ℕ) × (gs : Handles) × directives cs m b gs × (k : ℕ) × (us : List Event) × (vs : List Piece) × explicit_document cs Wide room gs b k us × Tail cs Wide room false k vs → ⊥
-      go (b, gs, e, k, us, vs, r, t) = g.none b b gs e (refl, documents.explicit_mark cs Wide room gs b k us r)
+  pub no_directives : (m : ℕ) → Refused (directives cs) (At (MarkOf cs 45)) m → Refused (directive_document cs Wide room) Follows m
+  unfolding directive_document
+  no_directives m g = record { none = λ j o us (b, gs, e, r) f. g.none b b gs e (refl, documents.explicit_mark cs Wide room gs b j us r) }
+
+  pub no_percent : (m : ℕ) → (Percent cs m → ⊥) → Refused (directive_document cs Wide room) Follows m
+  unfolding directive_document
+  no_percent m n = record { none = λ j o us (b, gs, e, r) f. n (directives_start cs m b gs e) }
 
   -- ---- a document without a mark (9.1.3)
 
@@ -153,29 +136,37 @@ module _ (cs : List ℕ) (Wide : Type 0) (room : ℕ) where
       go : (n : ℕ) × Comments cs x.from_place n × Follow cs 0 0 n → ⊥
       go (n, c, (l, o)) = held (subst (Less cs 0) (comments_same cs x.from_place n m c (less_stuck cs 0 n l) x.comments x.stuck) l)
 
-  -- content that is no directive: a document's node, from the line that the comments come to
-  bare_left : (fresh : Bool) (m h : ℕ) (xs : List Piece) → Stuck cs m → (AtEnd cs m → ⊥) → (Mark cs m → ⊥) → (Percent cs m → ⊥) → View cs Wide room fresh h m xs →
-      (k : ℕ) × (o : ℕ) × (us : List Event) × (vs : List Piece) × bare_document cs Wide room [] m k us × Follows k o × Tail cs Wide room false k vs
+  -- where directives begin, no node does
+  pub no_bare : (m : ℕ) → Stuck cs m → Percent cs m → Refused (bare_document cs Wide room []) Follows m
+  no_bare m s p = record { none = λ j o us r f. bare_no_percent cs Wide room m m j (document_piece false us ∷ []) (inl p.1) (Spans.done refl) s (us, r, refl) p }
+
+  -- a document that no mark parts from what stands before it
+  abbrev pub Unparted : Rule (List Event)
+  Unparted = bare_document cs Wide room [] ∪ directive_document cs Wide room
+
+  -- content: a document's node from the line that the comments come to, or directives
+  unparted_left : (fresh : Bool) (m h : ℕ) (xs : List Piece) → Stuck cs m → (AtEnd cs m → ⊥) → (Mark cs m → ⊥) → View cs Wide room fresh h m xs →
+      (k : ℕ) × (o : ℕ) × (us : List Event) × (vs : List Piece) × Unparted m k us × Follows k o × Tail cs Wide room false k vs
   unfolding bare_document
-  bare_left fresh m h xs st en mn pn (v_over e f) = absurd (en e)
-  bare_left fresh m h xs st en mn pn (v_dots k us vs r t e) = absurd (mn (dots_mark_is cs Wide room m (suffix_mark cs Wide room m k us r)))
-  bare_left fresh m h xs st en mn pn (v_shown k us vs r t e) = absurd (mn (dashes_mark_is cs Wide room m (shown_mark cs Wide room m k us r)))
-  bare_left fresh m h xs st en mn pn (v_directed k us vs r t e) = absurd (pn (directive_percent cs Wide room m k us r))
-  bare_left fresh m h xs st en mn pn (v_bare g k us vs a c (es, (u, r), f) t e) =
+  unparted_left fresh m h xs st en mn (v_over e f) = absurd (en e)
+  unparted_left fresh m h xs st en mn (v_dots k us vs r t e) = absurd (mn (dots_mark_is cs Wide room m (suffix_mark cs Wide room m k us r)))
+  unparted_left fresh m h xs st en mn (v_shown k us vs r t e) = absurd (mn (dashes_mark_is cs Wide room m (shown_mark cs Wide room m k us r)))
+  unparted_left fresh m h xs st en mn (v_directed k us vs (es, r, f) t e) = let (o, d, w) = lands_false cs Wide room k vs t in (k, o, es, vs, inr r, (d, w), t)
+  unparted_left fresh m h xs st en mn (v_bare g k us vs a c (es, (u, r), f) t e) =
       let (o, d, w) = lands_false cs Wide room k vs t in
       let le : g ≤ m = spans_onward (λ i j l. let x : i < j = l_comment_onward cs i j l in omega (arith, x)) c in
       let at : StartsLine cs g = line_of cs Wide room g a (λ z. en (subst (AtEnd cs) (sym (comments_none cs g m (stuck_end cs g z) c)) z)) in
       let to : StartsLine cs m = line_of cs Wide room m (after_comments cs Wide room c a) en in
-      (k, o, es, vs, ((λ x y z. u x (omega (arith, y, le)) z), root_again cs g m (inr (at, c)) st to Wide [] room k es r), (d, w), t)
+      (k, o, es, vs, inl ((λ x y z. u x (omega (arith, y, le)) z), root_again cs g m (inr (at, c)) st to Wide [] room k es r), (d, w), t)
 
-  pub left_bare : {fresh : Bool} (m n : ℕ) → (AtEnd cs m → ⊥) → (Mark cs m → ⊥) → (Percent cs m → ⊥) → Goes (bare_document cs Wide room []) Follows m Here n → Left fresh m → Left false n
-  left_bare {fresh} m n e d p g x =
-      let (k, o, us, vs, r, f, t) = bare_left fresh m x.from_place x.pieces x.stuck e d p (seen_from x) in
+  pub left_unparted : {fresh : Bool} (m n : ℕ) → (AtEnd cs m → ⊥) → (Mark cs m → ⊥) → Goes Unparted Follows m Here n → Left fresh m → Left false n
+  left_unparted {fresh} m n e d g x =
+      let (k, o, us, vs, r, f, t) = unparted_left fresh m x.from_place x.pieces x.stuck e d (seen_from x) in
       left_after false k n o vs t f.0 (follows_stuck k o f) (g.goes k o us r f)
 
-  pub no_bare : {fresh : Bool} (m : ℕ) → (AtEnd cs m → ⊥) → (Mark cs m → ⊥) → (Percent cs m → ⊥) → Refused (bare_document cs Wide room []) Follows m → Left fresh m → ⊥
-  no_bare {fresh} m e d p g x =
-      let (k, o, us, vs, r, f, t) = bare_left fresh m x.from_place x.pieces x.stuck e d p (seen_from x) in g.none k o us r f
+  pub no_unparted : {fresh : Bool} (m : ℕ) → (AtEnd cs m → ⊥) → (Mark cs m → ⊥) → Refused Unparted Follows m → Left fresh m → ⊥
+  no_unparted {fresh} m e d g x =
+      let (k, o, us, vs, r, f, t) = unparted_left fresh m x.from_place x.pieces x.stuck e d (seen_from x) in g.none k o us r f
 
   -- ---- the document's own clauses
 

@@ -1,2 +1,4 @@
 mod SofarLaws
 mod StreamLemmas
+mod DecidedLemmas
+mod LeftLemmas

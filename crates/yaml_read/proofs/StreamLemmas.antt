@@ -4,7 +4,7 @@ use Rattle.std.specs.Prelude.{slice_get}
 use Rattle.yaml_text.specs.Limits.{open_limit}
 use Rattle.yaml_text.specs.Event.{Event, document_start}
 use Rattle.yaml_text.specs.grammar.Rules.{any_span, Spans, Rule, seen}
-use Rattle.yaml_text.specs.grammar.Separation.{StartsLine, AtEnd, MarkOf, l_comment, s_l_comments, s_b_comment}
+use Rattle.yaml_text.specs.grammar.Separation.{StartsLine, AtEnd, MarkOf, Mark, l_comment, s_l_comments, s_b_comment}
 use Rattle.yaml_text.specs.grammar.Tags.{Handles}
 use Rattle.yaml_text.specs.grammar.Directives.{directives}
 use Rattle.yaml_text.specs.grammar.Calls.{read_directives}
@@ -41,6 +41,15 @@ module _ (cs : List ℕ) where
       → document_mark cs (Unit {0}) open_limit c i d
   unfolding document_mark
   mark_here c i a b d m f e g h k l = (i, (refl, m), (a, (f, e), (b, (g, h), (d, (k, l), refl))))
+
+  pub mark_line : (c i : ℕ) → MarkOf cs c i → StartsLine cs i
+  unfolding MarkOf
+  mark_line c i m = m.0
+
+  pub no_mark : (i : ℕ) → (MarkOf cs 45 i → ⊥) → (MarkOf cs 46 i → ⊥) → Mark cs i → ⊥
+  unfolding Mark
+  no_mark i n o (inl m) = n m
+  no_mark i n o (inr m) = o m
 
   pub after_lines : (j i : ℕ) → AfterLine cs i → any_span (l_comment cs) i j → AfterLine cs j
   unfolding l_comment

@@ -1,15 +1,17 @@
 //! Documents, suffixes and streams (YAML 1.2.2, chapter 9).
-ghost use Rattle.std.specs.Prelude.{◌≡◌, ◌≤◌, ◌<◌, IfSome, IfOk, IfErr, map, Some, slice_get, []};
+ghost use Rattle.std.specs.Prelude.{◌≡◌, ◌≤◌, ◌<◌, ◌⊎◌, IfSome, IfNone, IfOk, IfErr, map, Some, slice_get, []};
 ghost use Rattle.yaml_text.specs.Limits.{open_limit};
 ghost use Rattle.yaml_text.specs.EventModel.{event_of, Adds};
 ghost use Rattle.yaml_text.specs.Source.{text_of, place_of, IsBorder};
 ghost use Rattle.yaml_text.specs.grammar.Rules.{◌∪◌};
-ghost use Rattle.yaml_text.specs.grammar.Separation.{StartsLine};
+ghost use Rattle.yaml_text.specs.grammar.Separation.{StartsLine, MarkOf};
 ghost use Rattle.yaml_text.specs.grammar.Streams.{ReadsText};
 ghost use Rattle.yaml_text.specs.Answer.{IsRefusal};
-ghost use Rattle.yaml_flow.specs.Answer.{Appends};
+ghost use Rattle.yaml_complete.specs.Decisions.{Here};
+ghost use Rattle.yaml_flow.specs.Answer.{Appends, Decides};
 ghost use Rattle.yaml_flow.specs.Lines.{IsLine};
 ghost use Rattle.yaml_mark.specs.HandlesModel.{handles_of};
+ghost use Rattle.yaml_read.specs.Decided.{DocumentEnd, IsAlone, IsNoStream};
 ghost use Rattle.yaml_read.specs.Sofar.{closing};
 ghost use Rattle.yaml_read.specs.StreamRules.{IsMarkOf, NextIs, opened_by_mark, opened_bare, opened_by_directives};
 
@@ -39,7 +41,8 @@ enum Next {
 /// The border after a document mark of this character (9.1.2), if one stands at a border.
 fn document_mark(source: &Chars<'_>, at: usize, c: char) -> Option<usize>
     requires { IsBorder source.now at }
-    ensures { IfSome result (IsMarkOf source.now c at) }
+    ensures some { IfSome result (IsMarkOf source.now c at) }
+    ensures none { IfNone result (MarkOf (text_of source.now) c (place_of source.now at) → ⊥) }
 {
     if !starts_line(source, at) {
         return None;
@@ -79,7 +82,7 @@ fn next_piece(source: &Chars<'_>, line: Line) -> Next
 /// Writes the end of the last document, where it is still to be written.
 fn close(is_open: bool, explicit: bool, out: &mut Vec<Event<'_>>) -> Result<(), Fault>
     ensures ok { IfOk result (λ _. Adds out.old.items (closing is_open explicit) out.new.items) }
-    ensures err { IfErr result IsRefusal }
+    ensures err { IfErr result (λ e. e ≡ Fault.OutOfMemory) }
 {
     if !is_open {
         return Ok(());
@@ -100,6 +103,7 @@ fn read_explicit<'a>(
     ensures line { IfOk result (IsLine source.now) }
     ensures onward { IfOk result (λ line. after ≤ line.start) }
     ensures reads { Appends (λ _. opened_by_mark (text_of source.now) (handles_of handles.entry)) (place_of source.now after) (λ line. place_of source.now line.start) out.old.items out.new.items result }
+    ensures decides { Decides (opened_by_mark (text_of source.now) (handles_of handles.entry)) (DocumentEnd (text_of source.now)) (place_of source.now after) Here (λ line. place_of source.now line.start) result }
 {
     out.push(Event::DocumentStart { explicit: true })?;
     read_marked(alloc, source, after, handles, out)
@@ -118,6 +122,7 @@ fn read_directed<'a>(
     ensures line { IfOk result (IsLine source.now) }
     ensures onward { IfOk result (λ line. at ≤ line.start) }
     ensures reads { Appends (λ _. opened_by_directives (text_of source.now)) (place_of source.now at) (λ line. place_of source.now line.start) out.old.items out.new.items result }
+    ensures decides { Decides (opened_by_directives (text_of source.now)) (DocumentEnd (text_of source.now)) (place_of source.now at) Here (λ line. place_of source.now line.start) result }
 {
     let (handles, end) = read_directives(alloc, source, at)?;
     match document_mark(source, end, '-') {
@@ -141,6 +146,7 @@ fn read_unmarked<'a>(
     ensures line { IfOk result (IsLine source.now) }
     ensures onward { IfOk result (λ next. line.start ≤ next.start) }
     ensures reads { Appends (λ _. opened_bare (text_of source.now)) (place_of source.now line.start) (λ line. place_of source.now line.start) out.old.items out.new.items result }
+    ensures decides { Decides (opened_bare (text_of source.now)) (DocumentEnd (text_of source.now)) (place_of source.now line.start) Here (λ next. place_of source.now next.start) result }
 {
     out.push(Event::DocumentStart { explicit: false })?;
     read_bare(alloc, source, line, None, out)
@@ -158,6 +164,7 @@ fn read_first<'a>(
     ensures line { IfOk result (IsLine source.now) }
     ensures onward { IfOk result (λ next. line.start ≤ next.start) }
     ensures reads { Appends (λ _. opened_bare (text_of source.now) ∪ opened_by_directives (text_of source.now)) (place_of source.now line.start) (λ line. place_of source.now line.start) out.old.items out.new.items result }
+    ensures decides { Decides (opened_bare (text_of source.now) ∪ opened_by_directives (text_of source.now)) (DocumentEnd (text_of source.now)) (place_of source.now line.start) Here (λ next. place_of source.now next.start) result }
 {
     match accept(source, line.start, '%') {
         Some(_) => read_directed(alloc, source, line.start, out),
@@ -165,7 +172,8 @@ fn read_first<'a>(
     }
 }
 
-/// The events of a stream (9.2), from its start to its end.
+/// The events of a stream (9.2), from its start to its end: the one list that the productions give the text, and a refusal for want
+/// of room in memory, or where they give none.
 ///
 /// Refused are, with the input offset of the first character that cannot be used: a tab where separation or indentation
 /// stands (5), a key of more than 1,024 characters (6), a collection too deep (7), an escape that there is not (8), a directive
@@ -174,6 +182,8 @@ fn read_first<'a>(
 pub fn read_events<'a>(alloc: Global, source: &Chars<'a>) -> Result<Vec<Event<'a>>, Fault>
     ensures ok { IfOk result (λ events. ReadsText (text_of source.now) (Unit {0}) open_limit (map event_of events.items)) }
     ensures err { IfErr result IsRefusal }
+    ensures only { IfOk result (λ events. IsAlone (text_of source.now) (map event_of events.items)) }
+    ensures decides { IfErr result (λ e. (e ≡ Fault.OutOfMemory) ⊎ IsNoStream (text_of source.now)) }
 {
     let mut out = Vec::new(alloc);
     out.push(Event::StreamStart)?;

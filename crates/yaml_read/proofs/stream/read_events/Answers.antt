@@ -1,4 +1,4 @@
-use Rattle.std.proofs.Common.{◌≡◌, [], ◌∷◌, ◌++◌, List, map, refl, sym, ◌∙◌, ap, subst, false, inl, inr}
+use Rattle.std.proofs.Common.{◌≡◌, [], ◌∷◌, ◌++◌, List, map, refl, sym, ◌∙◌, ap, subst, false, not, ◌⊎◌, inl, inr}
 use Rattle.std.proofs.lemmas.Bool.{false≢true}
 use Rattle.yaml_text.specs.Event.{Event, stream_start, stream_end}
 use Rattle.yaml_text.specs.EventModel.{event_of, Adds}
@@ -8,6 +8,12 @@ use Rattle.yaml_flow.proofs.AnswerLemmas.{adds_one}
 use Rattle.yaml_read.specs.Sofar.{closing, IsSofar}
 use Rattle.yaml_read.proofs.SofarLaws.{sofar_start, sofar_suffix, sofar_explicit, sofar_bare, sofar_directives, sofar_end}
 use Rattle.yaml_read.proofs.StreamLemmas.{mark_suffix, mark_explicit, after_comments}
+use Rattle.yaml_text.specs.Limits.{open_limit}
+use Rattle.yaml_text.specs.declared.fault.Fault.TheVariants.{OutOfMemory}
+use Rattle.yaml_unique.proofs.Documents.{text_same}
+use Rattle.yaml_read.specs.Decided.{IsNoStream}
+use Rattle.yaml_read.proofs.DecidedLemmas.{if_err}
+use Rattle.yaml_read.proofs.LeftLemmas.{Leaves, either, leaves_start, leaves_suffix, none_suffix, leaves_marked, none_marked, leaves_first, none_first, none_second}
 use Rattle.yaml_read.proofs.stream.read_events.Goals as goal
 
 -- all that is in a list that was empty
@@ -21,6 +27,7 @@ pieces-init c =
       subst (IsSofar cs false (place_of c.args.source.now c.first_line-line.result.start)) (sym e) (sofar_start cs _ c.first_line-line.ensures.comments),
       c.first_line-line.ensures.line,
       λ q. c.first_line-line.ensures.after,
+      leaves_start cs _ c.first_line-line.ensures.comments c.first_line-line.ensures.line.stuck,
     )
 
 pub returns-in-End-clause-ok : goal.returns-in-End-clause-ok
@@ -36,6 +43,7 @@ pieces-preserved-in-Suffix c =
       sofar_suffix cs c.pieces.is_open _ _ _ _ c.pieces.invariant.0 (mark_suffix cs _ _ _ c.in-Suffix.ensures.mark n.comments) c.in_ok-close-in-Suffix.ensures.ok,
       n.line,
       λ q. after_comments cs _ _ n.comments,
+      leaves_suffix cs _ _ _ c.in-Suffix.ensures.mark n.comments n.line.stuck c.pieces.invariant.3,
     )
 
 pub pieces-preserved-in-Explicit : goal.pieces-preserved-in-Explicit
@@ -48,6 +56,7 @@ pieces-preserved-in-Explicit c =
           (n.reads.1 ∙ ap (λ v. v ++ n.reads.0) c.in_ok-close-in-Explicit.ensures.ok ∙ ap (λ v. before ++ v) d.2),
       n.line,
       λ q. absurd (false≢true (sym q)),
+      leaves_marked cs _ _ _ c.in-Explicit.ensures.mark n.decides c.pieces.invariant.3,
     )
 
 pub pieces-preserved : goal.pieces-preserved
@@ -61,4 +70,36 @@ pieces-preserved c =
       ],
       n.line,
       λ q. absurd (false≢true (sym q)),
+      leaves_first cs _ _ c.in-Content.ensures n.decides c.pieces.invariant.3,
     )
+
+-- the events are those of each reading of the text
+pub returns-in-End-clause-only : goal.returns-in-End-clause-only
+returns-in-End-clause-only c =
+    let cs = text_of c.args.source.now in
+    λ fs r. text_same cs (Unit {0}) open_limit fs _ r
+    (sofar_end cs c.pieces.is_open _ _ _ c.pieces.invariant.0 c.in-End.ensures
+    (adds_one _ _ _ _ refl c.in_ok-push-in-End.ensures.items ∙ ap (λ v. v ++ (stream_end ∷ [])) c.in_ok-close-in-End.ensures.ok))
+
+pub returns-in_err-line-in-Suffix-clause-decides : goal.returns-in_err-line-in-Suffix-clause-decides
+returns-in_err-line-in-Suffix-clause-decides c =
+    let cs = text_of c.args.source.now in
+    if_err (λ e. (e ≡ OutOfMemory) ⊎ IsNoStream cs) _ _ c.from_residual-in_err-line-in-Suffix.ensures.1
+    (inr (none_suffix cs _ _ c.in-Suffix.ensures.mark c.in_err-line-in-Suffix.ensures.none c.pieces.invariant.3))
+
+pub returns-in_err-line-in-Explicit-clause-decides : goal.returns-in_err-line-in-Explicit-clause-decides
+returns-in_err-line-in-Explicit-clause-decides c =
+    let cs = text_of c.args.source.now in
+    if_err (λ e. (e ≡ OutOfMemory) ⊎ IsNoStream cs) _ _ c.from_residual-in_err-line-in-Explicit.ensures.1
+    (either (λ n. none_marked cs _ _ c.in-Explicit.ensures.mark n c.pieces.invariant.3) c.in_err-line-in-Explicit.ensures.decides)
+
+pub returns-then-is_open-clause-decides : goal.returns-then-is_open-clause-decides
+returns-then-is_open-clause-decides c =
+    let cs = text_of c.args.source.now in
+    inr (none_second cs _ c.in-Content.ensures (subst (λ b. Leaves cs (not b) (place_of c.args.source.now c.pieces.line.start)) c.if-is_open.true c.pieces.invariant.3))
+
+pub returns-in_err-line-in-Content-clause-decides : goal.returns-in_err-line-in-Content-clause-decides
+returns-in_err-line-in-Content-clause-decides c =
+    let cs = text_of c.args.source.now in
+    if_err (λ e. (e ≡ OutOfMemory) ⊎ IsNoStream cs) _ _ c.from_residual-in_err-line-in-Content.ensures.1
+    (either (λ n. none_first cs _ c.in-Content.ensures n c.pieces.invariant.3) c.in_err-line-in-Content.ensures.decides)
