@@ -1,5 +1,5 @@
 -- From the layers' answers to what is promised of the bytes.
-use Rattle.std.proofs.Common.{◌≡◌, ℕ, suc, ◌+◌, ◌*◌, ◌<◌, ◌≤◌, List, [], ◌∷◌, length, map, refl, sym, ◌∙◌, ap, subst, arith}
+use Rattle.std.proofs.Common.{◌≡◌, ℕ, suc, ◌+◌, ◌*◌, ◌<◌, ◌≤◌, ◌⊎◌, inl, inr, List, [], ◌∷◌, length, map, refl, sym, ◌∙◌, ap, subst, arith}
 use Rattle.std.specs.Prelude.{Ok, None}
 use Rattle.std.specs.List.{All}
 use Rattle.std.proofs.lemmas.List.{append-nil}
@@ -13,9 +13,11 @@ use Rattle.yaml_text.specs.Sound.{AllProper}
 use Rattle.yaml_text.specs.Means.{Means}
 use Rattle.yaml_text.specs.Marked.{Document, stream_events}
 use Rattle.yaml_text.specs.EventModel.{event_of}
-use Rattle.yaml_text.specs.Text.{Text}
+use Rattle.yaml_text.specs.Text.{Text, RefusesText}
 use Rattle.yaml_text.specs.grammar.Reading.{Reads}
 use Rattle.yaml_text.specs.grammar.Streams.{ReadsText}
+use Rattle.yaml_text.specs.Answer.{IsRefusal}
+use Rattle.yaml_text.proofs.grammar.OneText.{one-text}
 use Rattle.yaml_text.proofs.grammar.Documents.{readings_are_documents}
 use Rattle.yaml_text.proofs.MeaningLaws.{meaning_is_proper}
 use Rattle.yaml_text.proofs.Law.{texts_tell}
@@ -23,6 +25,7 @@ use Rattle.yaml_text.specs.declared.event.Event as code
 use Rattle.yaml_text.specs.declared.fault.Fault.{Fault}
 use Rattle.yaml_text.specs.declared.fault.Fault.TheVariants as faults
 use Rattle.yaml_unique.proofs.Documents.{one_reading, one_meaning}
+use Rattle.yaml_read.specs.Decided.{IsNoStream as NoReading}
 use Rattle.yaml_size.specs.Sizes.{texts_bytes}
 use Rattle.yaml_size.proofs.Contents.{tag_light}
 use Rattle.yaml_size.proofs.Numbers.{text_light}
@@ -35,7 +38,7 @@ use Rattle.yaml_graph.specs.declared.graph.Graph.{Graph}
 use Rattle.yaml_rank.specs.RanksView.{RefusesGraph}
 use Rattle.yaml_canon.specs.Pieces.{Began, Puts, Fails}
 use Rattle.yaml_canon.specs.Documents.{spell_more, RefusesLength}
-use Rattle.yaml_canon.specs.Claims.{AllOf, Accepted, IsCanonicalText, IsRead, CanonicalRefuses}
+use Rattle.yaml_canon.specs.Claims.{AllOf, Accepted, IsCanonicalText, IsRead, IsNoStream, CanonicalRefuses}
 use Rattle.yaml_canon.proofs.DocumentLaws.{spell_whole}
 
 -- ---- the whole text
@@ -110,6 +113,33 @@ canonical_text bytes text f a e l =
     }
 
 -- ---- refusals
+
+-- a refusal to read that is not want of memory means that the bytes are no stream
+pub no_stream : (bytes text : List ℕ) (fault : Fault) → Text bytes text → (fault ≡ faults.OutOfMemory) ⊎ NoReading text → (fault ≡ faults.OutOfMemory → ⊥) → IsNoStream bytes
+unfolding Reads
+no_stream bytes text fault t (inl e) n = absurd (n e)
+no_stream bytes text fault t (inr h) n = record {
+  text = (text, t);
+  unread = λ es (cs, u, r). h es (subst (λ z. ReadsText z (Unit {0}) open_limit es) (one-text bytes cs text u t) r);
+}
+
+pub refused_text : (bytes : List ℕ) (fault : Fault) → RefusesText bytes fault → CanonicalRefuses bytes fault
+refused_text bytes faults.TooLong h = h
+refused_text bytes (faults.NotUtf8 at) h = h
+refused_text bytes (faults.NotPrintable at) h = h
+refused_text bytes _ h = absurd h
+
+pub refused_reading : (bytes text : List ℕ) (fault : Fault) → Text bytes text → IsRefusal fault → (fault ≡ faults.OutOfMemory) ⊎ NoReading text → CanonicalRefuses bytes fault
+refused_reading bytes text (faults.Syntax at) t h d = no_stream bytes text (faults.Syntax at) t d (λ e. absurd (cc))
+refused_reading bytes text (faults.Tab at) t h d = no_stream bytes text (faults.Tab at) t d (λ e. absurd (cc))
+refused_reading bytes text (faults.KeyTooLong at) t h d = no_stream bytes text (faults.KeyTooLong at) t d (λ e. absurd (cc))
+refused_reading bytes text (faults.TooDeep at) t h d = no_stream bytes text (faults.TooDeep at) t d (λ e. absurd (cc))
+refused_reading bytes text (faults.BadEscape at) t h d = no_stream bytes text (faults.BadEscape at) t d (λ e. absurd (cc))
+refused_reading bytes text (faults.BadDirective at) t h d = no_stream bytes text (faults.BadDirective at) t d (λ e. absurd (cc))
+refused_reading bytes text (faults.UnknownHandle at) t h d = no_stream bytes text (faults.UnknownHandle at) t d (λ e. absurd (cc))
+refused_reading bytes text (faults.BadTag at) t h d = no_stream bytes text (faults.BadTag at) t d (λ e. absurd (cc))
+refused_reading bytes text faults.OutOfMemory t h d = tt
+refused_reading bytes text _ t h d = absurd h
 
 pub refused_composing : (bytes : List ℕ) (ds : List Document) (fault : Fault) → IsRead bytes ds → RefusesStream ds fault → CanonicalRefuses bytes fault
 refused_composing bytes ds (faults.UndefinedAlias e) r h = (ds, r, h)

@@ -1,5 +1,5 @@
 -- Roots of one rank, joined graphs, and what their answers say of two sides.
-use Rattle.std.proofs.Common.{◌≡◌, ℕ, zero, suc, ◌+◌, ◌-◌, ◌<◌, ◌≤◌, Bool, true, false, cond, ◌&&◌, List, [], ◌∷◌, ◌++◌, length, map, take, drop, get_or, refl, sym, ◌∙◌, ap, subst, arith, get_or-take}
+use Rattle.std.proofs.Common.{◌≡◌, ℕ, zero, suc, ◌+◌, ◌-◌, ◌<◌, ◌≤◌, ◌⊎◌, Bool, true, false, cond, ◌&&◌, List, [], ◌∷◌, ◌++◌, length, map, take, drop, get_or, refl, sym, ◌∙◌, ap, subst, arith, get_or-take}
 use Rattle.std.specs.Prelude.{Result, Ok, Err, OnOk, IfOk, IfErr, MatchResult, nat_le}
 use Rattle.std.specs.List.{All}
 use Rattle.std.specs.Cmp.Lexicographic.{pointwise}
@@ -28,12 +28,13 @@ use Rattle.yaml_graph.specs.declared.graph.Graph.{Graph}
 use Rattle.yaml_rank.specs.RanksView.{RanksAre, RefusesGraph, rank_of}
 use Rattle.yaml_rank.specs.declared.ranks.Ranks.{Ranks}
 use Rattle.yaml_text.specs.Answer.{IsRefusal}
+use Rattle.yaml_read.specs.Decided.{IsNoStream as NoReading}
 use Rattle.yaml_canon.specs.declared.side.Side.{Side}
 use Rattle.yaml_canon.specs.declared.side.Side.TheVariants.{Left, Right}
 use Rattle.yaml_canon.specs.Claims.{IsRead}
 use Rattle.yaml_canon.specs.Comparing.{Compares, told_at, IsComposable, ComparesDocuments, RefusesDocuments, IsComposed, ComparerRefuses}
 use Rattle.yaml_canon.proofs.WalkLaws.{drop_next}
-use Rattle.yaml_canon.proofs.ClaimLaws.{accepted}
+use Rattle.yaml_canon.proofs.ClaimLaws.{accepted, refused_reading}
 
 -- ---- what an answer was
 
@@ -48,6 +49,9 @@ events_ok text r x e h = subst (λ z. IfOk z (λ v. ReadsText text (Unit {0}) op
 
 pub events_err : (r : Result (Vec code.Event Global) Fault) (x : Fault) → r ≡ Err x → IfErr r IsRefusal → IsRefusal x
 events_err r x e h = subst (λ z. IfErr z IsRefusal) e h
+
+pub events_unread : (text : List ℕ) (r : Result (Vec code.Event Global) Fault) (x : Fault) → r ≡ Err x → IfErr r (λ e. (e ≡ faults.OutOfMemory) ⊎ NoReading text) → (x ≡ faults.OutOfMemory) ⊎ NoReading text
+events_unread text r x e h = subst (λ z. IfErr z (λ e. (e ≡ faults.OutOfMemory) ⊎ NoReading text)) e h
 
 pub joined_ok : (a b : Graph) (r : Result Graph Fault) (x : Graph) → r ≡ Ok x → IfOk r (Joined a b) → Joined a b x
 joined_ok a b r x e h = subst (λ z. IfOk z (Joined a b)) e h
@@ -198,17 +202,37 @@ refuses-text left right (faults.NotUtf8 at) c h = (h, c)
 refuses-text left right (faults.NotPrintable at) c h = (h, c)
 refuses-text left right _ c h = absurd h
 
-pub refuses-reading : (left right cs : List ℕ) (fault : Fault) → IsComposed left → Text right cs → IsRefusal fault → ComparerRefuses left right Right fault
-refuses-reading left right cs (faults.Syntax at) c t h = ((cs, t), c)
-refuses-reading left right cs (faults.Tab at) c t h = ((cs, t), c)
-refuses-reading left right cs (faults.KeyTooLong at) c t h = ((cs, t), c)
-refuses-reading left right cs (faults.TooDeep at) c t h = ((cs, t), c)
-refuses-reading left right cs (faults.BadEscape at) c t h = ((cs, t), c)
-refuses-reading left right cs (faults.BadDirective at) c t h = ((cs, t), c)
-refuses-reading left right cs (faults.UnknownHandle at) c t h = ((cs, t), c)
-refuses-reading left right cs (faults.BadTag at) c t h = ((cs, t), c)
-refuses-reading left right cs faults.OutOfMemory c t h = (tt, c)
-refuses-reading left right cs _ c t h = absurd h
+pub refuses-reading : (left right cs : List ℕ) (fault : Fault) → IsComposed left → Text right cs → IsRefusal fault → (fault ≡ faults.OutOfMemory) ⊎ NoReading cs → ComparerRefuses left right Right fault
+refuses-reading left right cs (faults.Syntax at) c t h d = (refused_reading right cs (faults.Syntax at) t h d, c)
+refuses-reading left right cs (faults.Tab at) c t h d = (refused_reading right cs (faults.Tab at) t h d, c)
+refuses-reading left right cs (faults.KeyTooLong at) c t h d = (refused_reading right cs (faults.KeyTooLong at) t h d, c)
+refuses-reading left right cs (faults.TooDeep at) c t h d = (refused_reading right cs (faults.TooDeep at) t h d, c)
+refuses-reading left right cs (faults.BadEscape at) c t h d = (refused_reading right cs (faults.BadEscape at) t h d, c)
+refuses-reading left right cs (faults.BadDirective at) c t h d = (refused_reading right cs (faults.BadDirective at) t h d, c)
+refuses-reading left right cs (faults.UnknownHandle at) c t h d = (refused_reading right cs (faults.UnknownHandle at) t h d, c)
+refuses-reading left right cs (faults.BadTag at) c t h d = (refused_reading right cs (faults.BadTag at) t h d, c)
+refuses-reading left right cs faults.OutOfMemory c t h d = (tt, c)
+refuses-reading left right cs _ c t h d = absurd h
+
+-- the left side is no text
+pub refuses-source : (left right : List ℕ) (fault : Fault) → RefusesText left fault → ComparerRefuses left right Left fault
+refuses-source left right faults.TooLong h = h
+refuses-source left right (faults.NotUtf8 at) h = h
+refuses-source left right (faults.NotPrintable at) h = h
+refuses-source left right _ h = absurd h
+
+-- its text can't be read on
+pub refuses-first : (left right cs : List ℕ) (fault : Fault) → Text left cs → IsRefusal fault → (fault ≡ faults.OutOfMemory) ⊎ NoReading cs → ComparerRefuses left right Left fault
+refuses-first left right cs (faults.Syntax at) t h d = refused_reading left cs (faults.Syntax at) t h d
+refuses-first left right cs (faults.Tab at) t h d = refused_reading left cs (faults.Tab at) t h d
+refuses-first left right cs (faults.KeyTooLong at) t h d = refused_reading left cs (faults.KeyTooLong at) t h d
+refuses-first left right cs (faults.TooDeep at) t h d = refused_reading left cs (faults.TooDeep at) t h d
+refuses-first left right cs (faults.BadEscape at) t h d = refused_reading left cs (faults.BadEscape at) t h d
+refuses-first left right cs (faults.BadDirective at) t h d = refused_reading left cs (faults.BadDirective at) t h d
+refuses-first left right cs (faults.UnknownHandle at) t h d = refused_reading left cs (faults.UnknownHandle at) t h d
+refuses-first left right cs (faults.BadTag at) t h d = refused_reading left cs (faults.BadTag at) t h d
+refuses-first left right cs faults.OutOfMemory t h d = tt
+refuses-first left right cs _ t h d = absurd h
 
 pub refuses-both : (left right : List ℕ) (ds es : List Document) (side : Side) (fault : Fault) → IsRead left ds → IsComposed left → IsRead right es → RefusesDocuments ds es side fault → ComparerRefuses left right side fault
 refuses-both left right ds es Left (faults.EqualKeys n i k) p c q h = (ds, es, p, q, h)

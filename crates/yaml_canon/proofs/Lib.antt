@@ -12,5 +12,7 @@ mod Linking
 mod NamesLaws
 mod DocumentLaws
 mod ClaimLaws
+mod AcceptLaws
 mod CompareLaws
+mod AcceptBoth
 mod RunLaws

@@ -3,6 +3,7 @@ use Rattle.std.specs.Prelude.{◌≡◌, ◌↔◌, ◌<◌, ◌≤◌, ◌+◌,
 use Rattle.yaml_text.specs.Event.{Event}
 use Rattle.yaml_text.specs.Limits.{text_limit, height_limit}
 use Rattle.yaml_text.specs.Tree.{Tree, height}
+use Rattle.yaml_text.specs.Event.{Event}
 use Rattle.yaml_text.specs.Same.{Keyed, Alike}
 use Rattle.yaml_text.specs.Spell.{spell_bytes}
 use Rattle.yaml_text.specs.Proper.{Admitted}
@@ -46,23 +47,28 @@ pub record IsRead (bytes : List ℕ) (ds : List Document) : Type 0 where
 abbrev pub IsText : List ℕ → Type 0
 IsText bytes = (cs : List ℕ) × Text bytes cs
 
+-- The bytes are a text, and no list of events is a reading of it by the productions.
+pub record IsNoStream (bytes : List ℕ) : Type 0 where
+  pub text : IsText bytes
+  pub unread : (es : List Event) → Reads bytes es → ⊥
+
 -- the bytes are read as documents whose composer refuses them with this fault
 abbrev pub RefusedComposing : List ℕ → Fault → Type 0
 RefusedComposing bytes fault = (ds : List Document) × IsRead bytes ds × RefusesStream ds fault
 
--- What a refusal by `canonical` says of the bytes. Which of the eight faults of syntax is told, and where, is not claimed.
+-- What a refusal by `canonical` says of the bytes. Eight faults mean that it is no stream; which of them is told, and where, is not claimed.
 abbrev pub CanonicalRefuses : List ℕ → Fault → Type 0
 CanonicalRefuses bytes TooLong = RefusesText bytes TooLong
 CanonicalRefuses bytes (NotUtf8 at) = RefusesText bytes (NotUtf8 at)
 CanonicalRefuses bytes (NotPrintable at) = RefusesText bytes (NotPrintable at)
-CanonicalRefuses bytes (Syntax at) = IsText bytes
-CanonicalRefuses bytes (Tab at) = IsText bytes
-CanonicalRefuses bytes (KeyTooLong at) = IsText bytes
-CanonicalRefuses bytes (TooDeep at) = IsText bytes
-CanonicalRefuses bytes (BadEscape at) = IsText bytes
-CanonicalRefuses bytes (BadDirective at) = IsText bytes
-CanonicalRefuses bytes (UnknownHandle at) = IsText bytes
-CanonicalRefuses bytes (BadTag at) = IsText bytes
+CanonicalRefuses bytes (Syntax at) = IsNoStream bytes
+CanonicalRefuses bytes (Tab at) = IsNoStream bytes
+CanonicalRefuses bytes (KeyTooLong at) = IsNoStream bytes
+CanonicalRefuses bytes (TooDeep at) = IsNoStream bytes
+CanonicalRefuses bytes (BadEscape at) = IsNoStream bytes
+CanonicalRefuses bytes (BadDirective at) = IsNoStream bytes
+CanonicalRefuses bytes (UnknownHandle at) = IsNoStream bytes
+CanonicalRefuses bytes (BadTag at) = IsNoStream bytes
 CanonicalRefuses bytes (UndefinedAlias event) = RefusedComposing bytes (UndefinedAlias event)
 CanonicalRefuses bytes (CyclicAlias event) = RefusedComposing bytes (CyclicAlias event)
 CanonicalRefuses bytes (WrongKind event) = RefusedComposing bytes (WrongKind event)

@@ -13,5 +13,6 @@ pub mod Repeats
 pub mod Documents
 pub mod Claims
 pub mod Comparing
+pub mod Accepting
 pub mod Gathering
 pub mod Runs

@@ -1,13 +1,17 @@
 //! Whether two streams are the same.
-ghost use Rattle.std.specs.Prelude.{◌≡◌, ◌⊎◌, ◌≤◌, ◌<◌, ℕ, List, true, Ok, Err, map, take, drop, length, OnOk, IfOk, IfErr};
+ghost use Rattle.std.specs.Prelude.{◌≡◌, ◌↔◌, ◌⊎◌, ◌≤◌, ◌<◌, ℕ, List, true, Ok, Err, map, take, drop, length, OnOk, IfOk, IfErr, MatchResult};
 ghost use Rattle.std.specs.Result.{IsErrAnd};
 ghost use Rattle.std.specs.Cmp.Lexicographic.{pointwise};
 ghost use Rattle.yaml_text.specs.Text.{Text, RefusesText};
-ghost use Rattle.yaml_text.specs.Same.{same};
+ghost use Rattle.yaml_text.specs.Same.{Alike, same};
+ghost use Rattle.yaml_text.specs.Tree.{Tree};
+ghost use Rattle.yaml_text.specs.Proper.{Admitted};
+ghost use Rattle.yaml_text.specs.Means.{Means};
 ghost use Rattle.yaml_graph.specs.GraphView.{nodes_of, roots_of, tree};
 ghost use Rattle.yaml_rank.specs.RanksView.{RanksAre};
 ghost use Rattle.yaml_canon.specs.declared.side.Side.TheVariants.{Left, Right};
 ghost use Rattle.yaml_canon.specs.Comparing.{Compares, ComparerRefuses, told_at, ComparesDocuments, RefusesDocuments, IsComposable};
+ghost use Rattle.yaml_canon.specs.Accepting.{IsSpelling, IsMemory, TellsTexts};
 ghost use Rattle.yaml_text.specs.EventModel.{event_of};
 ghost use Rattle.yaml_text.specs.Marked.{Document, stream_events};
 ghost use Rattle.yaml_graph.specs.Composed.{Composable, RefusesStream};
@@ -103,10 +107,15 @@ fn compare<'e>(
 /// A refusal names the side, and is one of those of `canonical` but 20. The left side passes
 /// first what is judged of it alone (1 to 18), then the right one; then the keys of both are
 /// judged (19): told is the lower mapping with equal keys, or the left one. Want of memory after
-/// both sides were read is told as the left side's.
+/// both sides were read is told as the left side's. Where both sides mean admitted forests, only
+/// want of memory is left; and where both have a canonical text, they are the same exactly where
+/// those texts are.
 pub fn same<'a>(alloc: Global, left: &'a [u8], right: &'a [u8]) -> Result<bool, (Side, Fault)>
     ensures answer { IfOk result (λ answer. Compares left.now right.now answer) }
+    ensures texts { IfOk result (TellsTexts left.now right.now) }
     ensures refused { IfErr result (λ refusal. ComparerRefuses left.now right.now refusal.0 refusal.1) }
+    ensures accepts { (f g : List Tree) → Admitted f → Admitted g → Means left.now f → Means right.now g → MatchResult result (λ answer. (answer ≡ true) ↔ Alike f g) (λ refusal. IsMemory refusal.1) }
+    ensures spellings { (f g : List Tree) → Admitted f → Admitted g → IsSpelling left.now f → IsSpelling right.now g → MatchResult result (λ answer. (answer ≡ true) ↔ Alike f g) (λ refusal. IsMemory refusal.1) }
     ensures no_left_text { ((cs : List ℕ) → Text left.now cs → ⊥) → IsErrAnd result (λ refusal. (refusal.0 ≡ Left) × RefusesText left.now refusal.1) }
     ensures no_right_text { ((cs : List ℕ) → Text right.now cs → ⊥) → IsErrAnd result (λ refusal. (refusal.0 ≡ Left) ⊎ ((refusal.0 ≡ Right) × RefusesText right.now refusal.1)) }
 {

@@ -1,14 +1,18 @@
 //! The canonical text of a stream.
-ghost use Rattle.std.specs.Prelude.{◌≡◌, ◌≤◌, ℕ, List, length, IfOk, IfErr};
+ghost use Rattle.std.specs.Prelude.{◌≡◌, ◌≤◌, ℕ, List, length, IfOk, IfErr, MatchResult};
 ghost use Rattle.std.specs.Result.{IsErrAnd};
 ghost use Rattle.std.specs.String.{string_bytes};
 ghost use Rattle.yaml_text.specs.Text.{Text, RefusesText};
 ghost use Rattle.yaml_text.specs.Limits.{text_limit};
+ghost use Rattle.yaml_text.specs.Tree.{Tree};
 ghost use Rattle.yaml_text.specs.Spell.{spell_bytes};
+ghost use Rattle.yaml_text.specs.Proper.{Admitted};
+ghost use Rattle.yaml_text.specs.Means.{Means};
 ghost use Rattle.yaml_graph.specs.GraphView.{forest};
 ghost use Rattle.yaml_rank.specs.RanksView.{RanksAre};
 ghost use Rattle.yaml_canon.specs.Documents.{RefusesLength};
 ghost use Rattle.yaml_canon.specs.Claims.{IsCanonicalText, CanonicalRefuses};
+ghost use Rattle.yaml_canon.specs.Accepting.{IsSpelling, IsMemory};
 
 use crate::names::Names;
 use crate::spell::{canonical_len, write_documents};
@@ -41,11 +45,14 @@ fn spelled(alloc: Global, graph: &Graph<'_>, ranks: &Ranks) -> Result<String, Fa
 /// Refused are bytes that are no text (1 to 3), a text that is no stream of the profile (4 to 11),
 /// the first event with an alias or a tag that stands for nothing (12 to 17), a document that is too
 /// high (18), two equal keys of a mapping (19), a text that would be too long (20), and want of
-/// memory (21).
+/// memory (21). Nothing else is: each stream that means an admitted forest is given its text, the
+/// canonical text itself and the block spelling among them, or memory is refused.
 pub fn canonical(alloc: Global, bytes: &[u8]) -> Result<String, Fault>
     ensures text { IfOk result (λ text. IsCanonicalText bytes.now (string_bytes text)) }
     ensures refused { IfErr result (CanonicalRefuses bytes.now) }
     ensures no_text { ((cs : List ℕ) → Text bytes.now cs → ⊥) → IsErrAnd result (RefusesText bytes.now) }
+    ensures accepts { (f : List Tree) → Admitted f → Means bytes.now f → MatchResult result (λ text. string_bytes text ≡ spell_bytes f) IsMemory }
+    ensures spelling { (f : List Tree) → Admitted f → IsSpelling bytes.now f → MatchResult result (λ text. string_bytes text ≡ spell_bytes f) IsMemory }
 {
     let source = Chars::read(bytes)?;
     let events = read_events(alloc, &source)?;

@@ -1,9 +1,11 @@
 use Rattle.std.proofs.Common.{◌∙◌, sym, ap, subst, rules, map}
+use Rattle.std.specs.String.{string_bytes}
 use Rattle.yaml_text.specs.EventModel.{event_of}
 use Rattle.yaml_graph.specs.Composed.{Composable}
 use Rattle.yaml_graph.specs.GraphView.{forest}
 use Rattle.yaml_canon.proofs.PieceLaws.{if_ok, if_err}
-use Rattle.yaml_canon.proofs.ClaimLaws.{found, composable, accepted, canonical_text, refused_composing, refused_ranking, refused_spelling}
+use Rattle.yaml_canon.proofs.ClaimLaws.{found, composable, accepted, canonical_text, refused_composing, refused_ranking, refused_reading, refused_spelling, refused_text}
+use Rattle.yaml_canon.proofs.AcceptLaws.{accepted-answer, accepted-exit, accepted-spelling}
 use Rattle.yaml_canon.proofs.presenter.canonical.Goals as goal
 
 pub compose-requires : goal.compose-requires
@@ -37,3 +39,56 @@ returns-clause-refused c =
     let k = c.in_ok-graph.ensures d.0 (ap (map event_of) c.deref.ensures.value ∙ d.1) in
     let a = accepted c.args.bytes.now d.0 c.in_ok-graph.graph d.2 k c.in_ok-ranks.ensures.ok.keyed in
     if_err c.spelled.result c.spelled.ensures.err (λ fault h. refused_spelling c.args.bytes.now (forest c.in_ok-graph.graph) fault a h)
+
+-- ---- what is accepted
+
+pub returns-in_err-events-clause-refused : goal.returns-in_err-events-clause-refused
+returns-in_err-events-clause-refused c =
+    let f = refused_reading c.args.bytes.now _ c.in_err-events.field-0.0 c.in_ok-source.ensures.read c.in_err-events.ensures.err c.in_err-events.ensures.decides in
+    search (rules, f)
+
+pub returns-in_err-source-clause-accepts : goal.returns-in_err-source-clause-accepts
+returns-in_err-source-clause-accepts c =
+    accepted-exit string_bytes c.args.bytes.now c.from_residual.result _ c.from_residual.ensures.1 (refused_text c.args.bytes.now _ c.in_err-source.ensures.refused)
+
+pub returns-in_err-source-clause-spelling : goal.returns-in_err-source-clause-spelling
+returns-in_err-source-clause-spelling c =
+    accepted-spelling string_bytes c.args.bytes.now c.from_residual.result (returns-in_err-source-clause-accepts c)
+
+pub returns-in_err-events-clause-accepts : goal.returns-in_err-events-clause-accepts
+returns-in_err-events-clause-accepts c =
+    accepted-exit string_bytes c.args.bytes.now c.from_residual-in_err-events.result _ c.from_residual-in_err-events.ensures.1
+    (refused_reading c.args.bytes.now _ c.in_err-events.field-0.0 c.in_ok-source.ensures.read c.in_err-events.ensures.err c.in_err-events.ensures.decides)
+
+pub returns-in_err-events-clause-spelling : goal.returns-in_err-events-clause-spelling
+returns-in_err-events-clause-spelling c =
+    accepted-spelling string_bytes c.args.bytes.now c.from_residual-in_err-events.result (returns-in_err-events-clause-accepts c)
+
+pub returns-in_err-graph-clause-accepts : goal.returns-in_err-graph-clause-accepts
+returns-in_err-graph-clause-accepts c =
+    let d = found c.args.bytes.now _ c.in_ok-events.events.items c.in_ok-source.ensures.read c.in_ok-events.ensures.ok in
+    accepted-exit string_bytes c.args.bytes.now c.from_residual-in_err-graph.result _ c.from_residual-in_err-graph.ensures.1
+    (refused_composing c.args.bytes.now d.0 c.in_err-graph.field-0.0 d.2 (c.in_err-graph.ensures d.0 (ap (map event_of) c.deref.ensures.value ∙ d.1)))
+
+pub returns-in_err-graph-clause-spelling : goal.returns-in_err-graph-clause-spelling
+returns-in_err-graph-clause-spelling c =
+    accepted-spelling string_bytes c.args.bytes.now c.from_residual-in_err-graph.result (returns-in_err-graph-clause-accepts c)
+
+pub returns-in_err-ranks-clause-accepts : goal.returns-in_err-ranks-clause-accepts
+returns-in_err-ranks-clause-accepts c =
+    let d = found c.args.bytes.now _ c.in_ok-events.events.items c.in_ok-source.ensures.read c.in_ok-events.ensures.ok in
+    let k = c.in_ok-graph.ensures d.0 (ap (map event_of) c.deref.ensures.value ∙ d.1) in
+    accepted-exit string_bytes c.args.bytes.now c.from_residual-in_err-ranks.result _ c.from_residual-in_err-ranks.ensures.1
+    (refused_ranking c.args.bytes.now d.0 c.in_ok-graph.graph c.in_err-ranks.field-0.0 d.2 k c.in_err-ranks.ensures.err)
+
+pub returns-in_err-ranks-clause-spelling : goal.returns-in_err-ranks-clause-spelling
+returns-in_err-ranks-clause-spelling c =
+    accepted-spelling string_bytes c.args.bytes.now c.from_residual-in_err-ranks.result (returns-in_err-ranks-clause-accepts c)
+
+pub returns-clause-accepts : goal.returns-clause-accepts
+returns-clause-accepts c =
+    accepted-answer string_bytes c.args.bytes.now c.spelled.result (returns-clause-text c) (returns-clause-refused c)
+
+pub returns-clause-spelling : goal.returns-clause-spelling
+returns-clause-spelling c =
+    accepted-spelling string_bytes c.args.bytes.now c.spelled.result (returns-clause-accepts c)
