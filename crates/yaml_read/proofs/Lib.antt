@@ -2,3 +2,4 @@ mod SofarLaws
 mod StreamLemmas
 mod DecidedLemmas
 mod LeftLemmas
+mod SpelledLemmas

@@ -1,6 +1,12 @@
 //! Documents, suffixes and streams (YAML 1.2.2, chapter 9).
-ghost use Rattle.std.specs.Prelude.{◌≡◌, ◌≤◌, ◌<◌, ◌⊎◌, IfSome, IfNone, IfOk, IfErr, map, Some, slice_get, []};
-ghost use Rattle.yaml_text.specs.Limits.{open_limit};
+ghost use Rattle.std.specs.Prelude.{◌≡◌, ◌≤◌, ◌<◌, ◌⊎◌, IfSome, IfNone, IfOk, IfErr, MatchResult, List, map, length, Some, slice_get, [], ◌∷◌, ◌++◌};
+ghost use Rattle.yaml_text.specs.Limits.{open_limit, text_limit};
+ghost use Rattle.yaml_text.specs.Event.{stream_start, stream_end};
+ghost use Rattle.yaml_text.specs.Tree.{Tree};
+ghost use Rattle.yaml_text.specs.Text.{Text};
+ghost use Rattle.yaml_text.specs.Proper.{Admitted};
+ghost use Rattle.yaml_text.specs.Spell.{spell_bytes, spelled};
+ghost use Rattle.yaml_text.specs.Block.{block_bytes, blocked, AllKeysFit};
 ghost use Rattle.yaml_text.specs.EventModel.{event_of, Adds};
 ghost use Rattle.yaml_text.specs.Source.{text_of, place_of, IsBorder};
 ghost use Rattle.yaml_text.specs.grammar.Rules.{◌∪◌};
@@ -172,8 +178,44 @@ fn read_first<'a>(
     }
 }
 
+/// Reads a stream's documents and suffixes to its end, and puts down their events after the stream's start.
+fn read_pieces<'a>(alloc: Global, source: &Chars<'a>, out: &mut Vec<Event<'a>>) -> Result<(), Fault>
+    requires { map event_of out.old.items ≡ stream_start ∷ [] }
+    ensures ok { IfOk result (λ _. ReadsText (text_of source.now) (Unit {0}) open_limit (map event_of out.new.items ++ (stream_end ∷ []))) }
+    ensures err { IfErr result IsRefusal }
+    ensures decides { IfErr result (λ e. (e ≡ Fault.OutOfMemory) ⊎ IsNoStream (text_of source.now)) }
+{
+    let mut line = first_line(source);
+    let mut is_open = false;
+    'pieces: loop {
+        match next_piece(source, line) {
+            Next::End => {
+                close(is_open, false, out)?;
+                return Ok(());
+            }
+            Next::Suffix(after) => {
+                close(is_open, true, out)?;
+                line = next_line(source, after)?;
+                is_open = false;
+            }
+            Next::Explicit(after) => {
+                close(is_open, false, out)?;
+                line = read_explicit(alloc, source, after, None, out)?;
+                is_open = true;
+            }
+            Next::Content => {
+                if is_open {
+                    return Err(unusable(source, line.first));
+                }
+                line = read_first(alloc, source, line, out)?;
+                is_open = true;
+            }
+        }
+    }
+}
+
 /// The events of a stream (9.2), from its start to its end: the one list that the productions give the text, and a refusal for want
-/// of room in memory, or where they give none.
+/// of room in memory, or where they give none. Of a canonical text, and of a block spelling, these are the events spelled.
 ///
 /// Refused are, with the input offset of the first character that cannot be used: a tab where separation or indentation
 /// stands (5), a key of more than 1,024 characters (6), a collection too deep (7), an escape that there is not (8), a directive
@@ -184,35 +226,12 @@ pub fn read_events<'a>(alloc: Global, source: &Chars<'a>) -> Result<Vec<Event<'a
     ensures err { IfErr result IsRefusal }
     ensures only { IfOk result (λ events. IsAlone (text_of source.now) (map event_of events.items)) }
     ensures decides { IfErr result (λ e. (e ≡ Fault.OutOfMemory) ⊎ IsNoStream (text_of source.now)) }
+    ensures spelling { (f : List Tree) → Admitted f → Text (spell_bytes f) (text_of source.now) → MatchResult result (λ events. map event_of events.items ≡ spelled f) (λ e. e ≡ Fault.OutOfMemory) }
+    ensures block { (f : List Tree) → Admitted f → AllKeysFit f → length (block_bytes f) ≤ text_limit → Text (block_bytes f) (text_of source.now) → MatchResult result (λ events. map event_of events.items ≡ blocked f) (λ e. e ≡ Fault.OutOfMemory) }
 {
     let mut out = Vec::new(alloc);
     out.push(Event::StreamStart)?;
-    let mut line = first_line(source);
-    let mut is_open = false;
-    'pieces: loop {
-        match next_piece(source, line) {
-            Next::End => {
-                close(is_open, false, &mut out)?;
-                out.push(Event::StreamEnd)?;
-                return Ok(out);
-            }
-            Next::Suffix(after) => {
-                close(is_open, true, &mut out)?;
-                line = next_line(source, after)?;
-                is_open = false;
-            }
-            Next::Explicit(after) => {
-                close(is_open, false, &mut out)?;
-                line = read_explicit(alloc, source, after, None, &mut out)?;
-                is_open = true;
-            }
-            Next::Content => {
-                if is_open {
-                    return Err(unusable(source, line.first));
-                }
-                line = read_first(alloc, source, line, &mut out)?;
-                is_open = true;
-            }
-        }
-    }
+    read_pieces(alloc, source, &mut out)?;
+    out.push(Event::StreamEnd)?;
+    Ok(out)
 }

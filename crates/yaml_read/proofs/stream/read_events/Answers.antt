@@ -1,105 +1,43 @@
-use Rattle.std.proofs.Common.{◌≡◌, [], ◌∷◌, ◌++◌, List, map, refl, sym, ◌∙◌, ap, subst, false, not, ◌⊎◌, inl, inr}
-use Rattle.std.proofs.lemmas.Bool.{false≢true}
-use Rattle.yaml_text.specs.Event.{Event, stream_start, stream_end}
-use Rattle.yaml_text.specs.EventModel.{event_of, Adds}
-use Rattle.yaml_text.specs.Source.{text_of, place_of}
-use Rattle.yaml_text.specs.declared.event.Event as code
-use Rattle.yaml_flow.proofs.AnswerLemmas.{adds_one}
-use Rattle.yaml_read.specs.Sofar.{closing, IsSofar}
-use Rattle.yaml_read.proofs.SofarLaws.{sofar_start, sofar_suffix, sofar_explicit, sofar_bare, sofar_directives, sofar_end}
-use Rattle.yaml_read.proofs.StreamLemmas.{mark_suffix, mark_explicit, after_comments}
+use Rattle.std.proofs.Common.{◌≡◌, [], ◌∷◌, ◌++◌, List, map, refl, sym, ◌∙◌, ap, subst}
 use Rattle.yaml_text.specs.Limits.{open_limit}
-use Rattle.yaml_text.specs.declared.fault.Fault.TheVariants.{OutOfMemory}
+use Rattle.yaml_text.specs.Event.{Event, stream_start}
+use Rattle.yaml_text.specs.EventModel.{event_of, Adds}
+use Rattle.yaml_text.specs.Source.{text_of}
+use Rattle.yaml_text.specs.grammar.Streams.{ReadsText}
+use Rattle.yaml_text.specs.declared.event.Event as code
 use Rattle.yaml_unique.proofs.Documents.{text_same}
-use Rattle.yaml_read.specs.Decided.{IsNoStream}
-use Rattle.yaml_read.proofs.DecidedLemmas.{if_err}
-use Rattle.yaml_read.proofs.LeftLemmas.{Leaves, either, leaves_start, leaves_suffix, none_suffix, leaves_marked, none_marked, leaves_first, none_first, none_second}
+use Rattle.yaml_flow.proofs.AnswerLemmas.{adds_one}
+use Rattle.yaml_text.specs.Spell.{spelled}
+use Rattle.yaml_text.specs.Block.{blocked}
+use Rattle.yaml_read.proofs.SpelledLemmas.{spelling_reads, block_reads, read_or_memory}
 use Rattle.yaml_read.proofs.stream.read_events.Goals as goal
 
 -- all that is in a list that was empty
 whole : (a b : List code.Event) (es : List Event) → a ≡ [] → Adds a es b → map event_of b ≡ es
 whole a b es e h = h ∙ ap (λ v. map event_of v ++ es) e
 
-pub pieces-init : goal.pieces-init
-pieces-init c =
-    let cs = text_of c.args.source.now in
-    let e = whole c.new-out.result.items c.push.new.self.items (stream_start ∷ []) c.new-out.ensures.items (adds_one _ _ _ _ refl c.in_ok-push.ensures.items) in (
-      subst (IsSofar cs false (place_of c.args.source.now c.first_line-line.result.start)) (sym e) (sofar_start cs _ c.first_line-line.ensures.comments),
-      c.first_line-line.ensures.line,
-      λ q. c.first_line-line.ensures.after,
-      leaves_start cs _ c.first_line-line.ensures.comments c.first_line-line.ensures.line.stuck,
-    )
+pub read_pieces-requires : goal.read_pieces-requires
+read_pieces-requires c = whole _ _ (stream_start ∷ []) c.new-out.ensures.items (adds_one _ _ _ _ refl c.in_ok-push.ensures.items)
 
-pub returns-in-End-clause-ok : goal.returns-in-End-clause-ok
-returns-in-End-clause-ok c =
-    let cs = text_of c.args.source.now in
-    sofar_end cs c.pieces.is_open _ _ _ c.pieces.invariant.0 c.in-End.ensures
-    (adds_one _ _ _ _ refl c.in_ok-push-in-End.ensures.items ∙ ap (λ v. v ++ (stream_end ∷ [])) c.in_ok-close-in-End.ensures.ok)
+pub returns-clause-ok : goal.returns-clause-ok
+returns-clause-ok c =
+    subst (ReadsText (text_of c.args.source.now) (Unit {0}) open_limit) (sym (adds_one _ _ _ _ refl c.in_ok-push-2.ensures.items)) c.in_ok-read_pieces.ensures.ok
 
-pub pieces-preserved-in-Suffix : goal.pieces-preserved-in-Suffix
-pieces-preserved-in-Suffix c =
-    let cs = text_of c.args.source.now in
-    let n = c.in_ok-line-in-Suffix.ensures in (
-      sofar_suffix cs c.pieces.is_open _ _ _ _ c.pieces.invariant.0 (mark_suffix cs _ _ _ c.in-Suffix.ensures.mark n.comments) c.in_ok-close-in-Suffix.ensures.ok,
-      n.line,
-      λ q. after_comments cs _ _ n.comments,
-      leaves_suffix cs _ _ _ c.in-Suffix.ensures.mark n.comments n.line.stuck c.pieces.invariant.3,
-    )
+pub returns-clause-only : goal.returns-clause-only
+returns-clause-only c = λ fs r. text_same (text_of c.args.source.now) (Unit {0}) open_limit fs _ r (returns-clause-ok c)
 
-pub pieces-preserved-in-Explicit : goal.pieces-preserved-in-Explicit
-pieces-preserved-in-Explicit c =
-    let cs = text_of c.args.source.now in
-    let n = c.in_ok-line-in-Explicit.ensures in
-    let d = mark_explicit cs [] _ _ _ n.reads.0 c.in-Explicit.ensures.mark n.reads.2 in
-    let before = map event_of c.pieces.out.items ++ closing c.pieces.is_open false in (
-      sofar_explicit cs c.pieces.is_open _ _ d.0 _ _ c.pieces.invariant.0 d.1
-          (n.reads.1 ∙ ap (λ v. v ++ n.reads.0) c.in_ok-close-in-Explicit.ensures.ok ∙ ap (λ v. before ++ v) d.2),
-      n.line,
-      λ q. absurd (false≢true (sym q)),
-      leaves_marked cs _ _ _ c.in-Explicit.ensures.mark n.decides c.pieces.invariant.3,
-    )
+pub returns-clause-spelling : goal.returns-clause-spelling
+returns-clause-spelling c = λ f a t. sym (returns-clause-only c (spelled f) (spelling_reads (text_of c.args.source.now) f a t))
 
-pub pieces-preserved : goal.pieces-preserved
-pieces-preserved c =
-    let cs = text_of c.args.source.now in
-    let n = c.in_ok-line-in-Content.ensures in
-    let sofar = subst (λ b. IsSofar cs b (place_of c.args.source.now c.pieces.line.start) (map event_of c.pieces.out.items)) c.if-is_open.false c.pieces.invariant.0 in (
-      elim n.reads.2 [
-        | inl d ↦ sofar_bare cs _ _ d.0 _ _ sofar d.1 (n.reads.1 ∙ ap (λ v. map event_of c.pieces.out.items ++ v) d.2)
-        | inr d ↦ sofar_directives cs _ _ d.0 _ _ sofar d.1 (n.reads.1 ∙ ap (λ v. map event_of c.pieces.out.items ++ v) d.2)
-      ],
-      n.line,
-      λ q. absurd (false≢true (sym q)),
-      leaves_first cs _ _ c.in-Content.ensures n.decides c.pieces.invariant.3,
-    )
+pub returns-clause-block : goal.returns-clause-block
+returns-clause-block c = λ f a k l t. sym (returns-clause-only c (blocked f) (block_reads (text_of c.args.source.now) f a k l t))
 
--- the events are those of each reading of the text
-pub returns-in-End-clause-only : goal.returns-in-End-clause-only
-returns-in-End-clause-only c =
+pub returns-in_err-read_pieces-clause-spelling : goal.returns-in_err-read_pieces-clause-spelling
+returns-in_err-read_pieces-clause-spelling c =
     let cs = text_of c.args.source.now in
-    λ fs r. text_same cs (Unit {0}) open_limit fs _ r
-    (sofar_end cs c.pieces.is_open _ _ _ c.pieces.invariant.0 c.in-End.ensures
-    (adds_one _ _ _ _ refl c.in_ok-push-in-End.ensures.items ∙ ap (λ v. v ++ (stream_end ∷ [])) c.in_ok-close-in-End.ensures.ok))
+    λ f a t. read_or_memory cs (λ events. map event_of events.items ≡ spelled f) c.from_residual-in_err-read_pieces.result _ (spelled f) c.from_residual-in_err-read_pieces.ensures.1 c.in_err-read_pieces.ensures.decides (spelling_reads cs f a t)
 
-pub returns-in_err-line-in-Suffix-clause-decides : goal.returns-in_err-line-in-Suffix-clause-decides
-returns-in_err-line-in-Suffix-clause-decides c =
+pub returns-in_err-read_pieces-clause-block : goal.returns-in_err-read_pieces-clause-block
+returns-in_err-read_pieces-clause-block c =
     let cs = text_of c.args.source.now in
-    if_err (λ e. (e ≡ OutOfMemory) ⊎ IsNoStream cs) _ _ c.from_residual-in_err-line-in-Suffix.ensures.1
-    (inr (none_suffix cs _ _ c.in-Suffix.ensures.mark c.in_err-line-in-Suffix.ensures.none c.pieces.invariant.3))
-
-pub returns-in_err-line-in-Explicit-clause-decides : goal.returns-in_err-line-in-Explicit-clause-decides
-returns-in_err-line-in-Explicit-clause-decides c =
-    let cs = text_of c.args.source.now in
-    if_err (λ e. (e ≡ OutOfMemory) ⊎ IsNoStream cs) _ _ c.from_residual-in_err-line-in-Explicit.ensures.1
-    (either (λ n. none_marked cs _ _ c.in-Explicit.ensures.mark n c.pieces.invariant.3) c.in_err-line-in-Explicit.ensures.decides)
-
-pub returns-then-is_open-clause-decides : goal.returns-then-is_open-clause-decides
-returns-then-is_open-clause-decides c =
-    let cs = text_of c.args.source.now in
-    inr (none_second cs _ c.in-Content.ensures (subst (λ b. Leaves cs (not b) (place_of c.args.source.now c.pieces.line.start)) c.if-is_open.true c.pieces.invariant.3))
-
-pub returns-in_err-line-in-Content-clause-decides : goal.returns-in_err-line-in-Content-clause-decides
-returns-in_err-line-in-Content-clause-decides c =
-    let cs = text_of c.args.source.now in
-    if_err (λ e. (e ≡ OutOfMemory) ⊎ IsNoStream cs) _ _ c.from_residual-in_err-line-in-Content.ensures.1
-    (either (λ n. none_first cs _ c.in-Content.ensures n c.pieces.invariant.3) c.in_err-line-in-Content.ensures.decides)
+    λ f a k l t. read_or_memory cs (λ events. map event_of events.items ≡ blocked f) c.from_residual-in_err-read_pieces.result _ (blocked f) c.from_residual-in_err-read_pieces.ensures.1 c.in_err-read_pieces.ensures.decides (block_reads cs f a k l t)

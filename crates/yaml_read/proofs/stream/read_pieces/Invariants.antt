@@ -5,7 +5,7 @@ use Rattle.yaml_text.specs.Lines.{AfterLine}
 use Rattle.yaml_flow.specs.Lines.{IsLine}
 use Rattle.yaml_read.specs.Sofar.{IsSofar}
 use Rattle.yaml_read.proofs.LeftLemmas.{Leaves}
-use Rattle.yaml_read.proofs.stream.read_events.Given as goal
+use Rattle.yaml_read.proofs.stream.read_pieces.Given as goal
 
 abbrev pub invariant-pieces : goal.invariant-pieces
 invariant-pieces l =
