@@ -30,7 +30,7 @@ use Rattle.yaml_graph.specs.Composed.{Composed, RefusesStream}
 use Rattle.yaml_graph.specs.declared.graph.Graph.{Graph}
 use Rattle.yaml_rank.proofs.Standing.{keyed-none}
 use Rattle.yaml_canon.specs.Claims.{AllOf, IsCanonicalText, IsRead, CanonicalRefuses}
-use Rattle.yaml_canon.specs.Accepting.{IsSpelling, IsMemory}
+use Rattle.yaml_canon.specs.Accepting.{IsSpelling, IsMemory, SpellingsAreAccepted, SpellingsHaveTheText}
 
 -- ---- where a tree has no equal keys, none of its nodes has
 
@@ -184,3 +184,9 @@ pub accepted-spelling : {T : Type 0} (bytes_of : T → List ℕ) (bytes : List �
 accepted-spelling {T} bytes_of bytes r h f a s =
     let u = spelling-means bytes f a s in
     subst (λ z. MatchResult r (λ t. bytes_of t ≡ z) IsMemory) u.text (h u.forest u.admitted u.means)
+
+pub memory-of-spelling : SpellingsAreAccepted
+memory-of-spelling bytes f fault a s h = let u = spelling-means bytes f a s in memory bytes u.forest u.admitted u.means fault h
+
+pub text-of-spelling : SpellingsHaveTheText
+text-of-spelling bytes text f a s c = let u = spelling-means bytes f a s in text-is bytes u.forest u.admitted u.means text c ∙ u.text

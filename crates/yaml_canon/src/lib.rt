@@ -2,6 +2,7 @@
 #![tactic(auto)]
 
 pub mod comparer;
+pub mod laws;
 mod length;
 mod names;
 mod node;
