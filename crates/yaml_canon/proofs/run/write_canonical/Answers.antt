@@ -4,7 +4,7 @@ use Rattle.yaml_text.specs.Limits.{text_limit}
 use Rattle.yaml_graph.specs.Composed.{Composable}
 use Rattle.yaml_graph.specs.GraphView.{forest}
 use Rattle.yaml_canon.proofs.PieceLaws.{on_ok, if_err, if_both}
-use Rattle.yaml_canon.proofs.ClaimLaws.{found, composable, accepted, refused_composing, refused_ranking, refused_spelling}
+use Rattle.yaml_canon.proofs.ClaimLaws.{found, composable, accepted, refused_composing, refused_ranking, refused_reading, refused_spelling}
 use Rattle.yaml_canon.proofs.RunLaws.{refused_unwritten, canonical_written, canonical_broken}
 use Rattle.yaml_canon.proofs.run.write_canonical.Goals as goal
 
@@ -12,6 +12,12 @@ pub compose-requires : goal.compose-requires
 compose-requires g c =
     let d = found c.args.bytes.now _ c.in_ok-events.events.items c.in_ok-source.ensures.read c.in_ok-events.ensures.ok in
     subst Composable (sym c.deref.ensures.value) (composable c.args.bytes.now c.in_ok-events.events.items d)
+
+pub returns-in_err-events-clause-err : goal.returns-in_err-events-clause-err
+returns-in_err-events-clause-err g c =
+    let f = refused_unwritten g.W.Write.contents c.args.bytes.now c.args.out.now c.in_err-events.field-0.0
+    (refused_reading c.args.bytes.now _ c.in_err-events.field-0.0 c.in_ok-source.ensures.read c.in_err-events.ensures.err c.in_err-events.ensures.decides) in
+    search (rules, f)
 
 pub returns-in_err-graph-clause-err : goal.returns-in_err-graph-clause-err
 returns-in_err-graph-clause-err g c =
