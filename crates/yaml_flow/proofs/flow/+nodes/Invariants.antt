@@ -22,8 +22,8 @@ decreases-read_bare l = 12 * l.room + 2
 abbrev pub decreases-read_flow_node : goal.decreases-read_flow_node
 decreases-read_flow_node l = 12 * l.room + 3
 
-abbrev pub decreases-too_deep : goal.decreases-too_deep
-decreases-too_deep l = 12 * l.room + 4
+abbrev pub decreases-read_pair : goal.decreases-read_pair
+decreases-read_pair l = 12 * l.room + 5
 
 abbrev pub decreases-read_value : goal.decreases-read_value
 decreases-read_value l = 12 * l.room + 4
