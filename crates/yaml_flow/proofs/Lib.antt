@@ -4,3 +4,4 @@ pub mod LineLemmas
 pub mod SpaceLemmas
 pub mod PropertyLemmas
 pub mod FlowLemmas
+pub mod PropertyDecisions

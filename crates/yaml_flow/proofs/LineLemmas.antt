@@ -9,9 +9,12 @@ use Rattle.yaml_text.specs.Source.{text_of, place_of, IsBorder}
 use Rattle.yaml_text.proofs.PlaceLemmas.{before_ascii}
 use Rattle.yaml_text.specs.grammar.Rules.{◌◆◌, Spans, any_span, Behind, run, maybe}
 use Rattle.yaml_text.specs.grammar.Characters.{is_space}
-use Rattle.yaml_text.specs.grammar.Separation.{Ctx, block_out, block_in, flow_out, flow_in, block_key, flow_key, separate, separate_lines, StartsLine, comment, line_end, s_b_comment, s_l_comments, l_comment, sep}
-use Rattle.yaml_text.specs.Lines.{Uncut, AfterLine}
+use Rattle.yaml_text.specs.grammar.Separation.{Ctx, block_out, block_in, flow_out, flow_in, block_key, flow_key, separate, separate_lines, StartsLine, Mark, comment, line_end, s_b_comment, s_l_comments, l_comment, sep}
+use Rattle.yaml_text.specs.Lines.{Uncut, AfterLine, Dashes}
+use Rattle.std.proofs.lemmas.Option.{slice_get_within}
+use Rattle.yaml_text.proofs.Breaks.{mark_is}
 use Rattle.yaml_text.proofs.LineRuns.{line_end_after}
+use Rattle.yaml_text.proofs.RestLemmas.{blank_after, from_s_b}
 use Rattle.yaml_text.specs.Lines.{is_key}
 
 equal : (a b : ℕ) → nat_eq a b ≡ true → a ≡ b
@@ -88,3 +91,16 @@ module _ (cs : List ℕ) where
   pub starts_line : (i : ℕ) → AfterLine cs i → (i ≡ length cs → ⊥) → StartsLine cs i
   starts_line i (inl s) n = s
   starts_line i (inr e) n = absurd (n e)
+
+  pub comments_after : (i j : ℕ) → s_l_comments cs i j → AfterLine cs j
+  unfolding s_l_comments
+  comments_after i j (a, inl b, lines) = after_lines j a (blank_after cs i a (from_s_b cs i a b)) lines
+  comments_after i j (a, inr (e, s), lines) = after_lines j a (inl (subst (StartsLine cs) (sym e) s)) lines
+
+  -- after a line's end three dashes, or dots, are a document mark
+  pub dashes_mark : (i : ℕ) → AfterLine cs i → Dashes cs i → Mark cs i
+  dashes_mark i a d = mark_is cs i (starts_line i a (within d)) d
+    where
+      within : Dashes cs i → i ≡ length cs → ⊥
+      within (inl h) e = let l : i < length cs = slice_get_within cs i 45 h.0 in omega (arith, l, e)
+      within (inr h) e = let l : i < length cs = slice_get_within cs i 46 h.0 in omega (arith, l, e)

@@ -1,11 +1,11 @@
 //! Comments, separation and the starts of lines (YAML 1.2.2, chapter 6).
-ghost use Rattle.std.specs.Prelude.{◌≡◌, ◌≢◌, ◌≤◌, ◌<◌, ◌⊎◌, IfSome, IfNone, IfOk, IfErr, ℕ, length};
+ghost use Rattle.std.specs.Prelude.{◌≡◌, ◌≢◌, ◌≤◌, ◌<◌, ◌⊎◌, IfSome, IfNone, IfOk, IfErr, ℕ, length, false};
 ghost use Rattle.std.specs.Bool.{OnTrue, OnFalse};
 ghost use Rattle.yaml_text.specs.Source.{text_of, place_of, IsBorder};
 ghost use Rattle.yaml_text.specs.EventModel.{context_of};
 ghost use Rattle.yaml_text.specs.grammar.Rules.{any_span, maybe};
 ghost use Rattle.yaml_text.specs.grammar.Separation.{s_l_comments, l_comment, separate, flow_in};
-ghost use Rattle.yaml_text.specs.Lines.{AfterLine, Inside};
+ghost use Rattle.yaml_text.specs.Lines.{AfterLine, Inside, is_key};
 ghost use Rattle.yaml_text.specs.Lines.{Dashes};
 ghost use Rattle.yaml_text.specs.Answer.{IsRefusal};
 ghost use Rattle.yaml_unique.specs.Follows.{Solid, Fresh, Way};
@@ -105,6 +105,7 @@ pub fn separation(source: &Chars<'_>, at: usize, least: usize, context: Ctx) -> 
     ensures to { IfOk result (λ to. (q : ℕ) → maybe (separate (text_of source.now) least (context_of context)) (place_of source.now at) q → Solid (text_of source.now) q → q ≡ place_of source.now to) }
     ensures way { context_of context ≡ flow_in → IfOk result (λ to. (q : ℕ) → Way (text_of source.now) (place_of source.now at) q → q ≡ place_of source.now to) }
     ensures err { IfErr result IsRefusal }
+    ensures lines { IfErr result (λ _. is_key (context_of context) ≡ false) }
     ensures none { IfErr result (λ _. Inside (text_of source.now) (place_of source.now at) → (q : ℕ) → maybe (separate (text_of source.now) least (context_of context)) (place_of source.now at) q → Fresh (text_of source.now) q → ⊥) }
 {
     if is_key(context) {

@@ -137,7 +137,8 @@ fn read_tagged<'a>(
     context: Ctx,
     handles: Option<&Handles<'a>>,
 ) -> Result<(Properties<'a>, usize), Fault>
-    requires { IsBorder source.now at }
+    requires border { IsBorder source.now at }
+    requires sign { slice_get (text_of source.now) (place_of source.now at) ≡ Some 33 }
     ensures border { IfOk result (λ r. IsBorder source.now r.1) }
     ensures onward { IfOk result (λ r. at ≤ r.1) }
     ensures own { IfOk result (λ r. Own (text_of source.now) (handles_of handles.entry) least (context_of context) (place_of source.now at) (place_of source.now r.1) (props_of r.0)) }

@@ -1,15 +1,16 @@
-use Rattle.std.proofs.Common.{◌≡◌, false, ℕ, ◌<◌, ◌≤◌, sym, subst, ◌∙◌, inr}
+use Rattle.std.proofs.Common.{◌≡◌, ◌+◌, true, false, ℕ, ◌<◌, ◌≤◌, sym, subst, ◌∙◌, ap, inr, arith}
 use Rattle.std.proofs.lemmas.Str.{IsUtf8-had}
 use Rattle.yaml_text.specs.declared.chars.Chars.{Chars}
 use Rattle.yaml_text.specs.Source.{text_of, place_of, IsBorder}
 use Rattle.yaml_text.specs.EventModel.{context_of}
 use Rattle.yaml_text.proofs.PlaceLemmas.{place_less}
-use Rattle.yaml_text.proofs.LineRuns.{indent_run}
-use Rattle.yaml_text.specs.grammar.Separation.{Ctx, separate, s_l_comments}
+use Rattle.yaml_text.proofs.LineRuns.{indent_run, indent_place}
+use Rattle.yaml_text.specs.grammar.Separation.{Ctx, block_out, block_in, flow_out, flow_in, block_key, flow_key, separate, s_l_comments}
 use Rattle.yaml_text.specs.Lines.{is_key}
 use Rattle.yaml_flow.specs.Lines.{IsLine}
 use Rattle.yaml_flow.specs.declared.line.Line.{Line}
-use Rattle.yaml_flow.proofs.LineLemmas.{lines_apart, spaces_apart, spaces_maybe}
+use Rattle.yaml_complete.proofs.Separations.{IsKey, Spaces, separate_in_key, separate_on_line, separate_on_next, separate_short, separate_no_mark, separate_no_end, way_on_line, way_on_next}
+use Rattle.yaml_flow.proofs.LineLemmas.{lines_apart, spaces_apart, spaces_maybe, comments_after, dashes_mark}
 use Rattle.yaml_flow.proofs.SpaceLemmas.{lines_separate}
 use Rattle.yaml_flow.proofs.line.separation.Goals as goal
 
@@ -50,3 +51,79 @@ returns-else-is_end-clause-separate c =
 pub returns-else-is_end-clause-apart : goal.returns-else-is_end-clause-apart
 returns-else-is_end-clause-apart c = λ l.
     below_is c.args.source.now (context_of c.args.context) c.args.least c.args.at c.in-Some.start c.line_at-line.result (sym c.is_key.ensures ∙ c.if-is_key.false) c.in-Some.ensures.some c.line_at-line.ensures.start c.line_at-line.ensures.line c.if-line-least.false
+
+-- ---- where else separation could lead
+
+key_is : (c0 : Ctx) → is_key c0 ≡ true → IsKey c0
+key_is block_key t = tt
+key_is flow_key t = tt
+key_is block_out t = let h : false ≡ true = t in cc
+key_is block_in t = let h : false ≡ true = t in cc
+key_is flow_out t = let h : false ≡ true = t in cc
+key_is flow_in t = let h : false ≡ true = t in cc
+
+line_spaces : (s : Chars) (line : Line) → IsLine s line → Spaces (text_of s) (place_of s line.start) (place_of s line.first)
+line_spaces s line is = (indent_run (text_of s) line.column _ _ is.spaces, is.all)
+
+comments_to : (s : Chars) (at start : ℕ) (line : Line) → line.start ≡ start → s_l_comments (text_of s) (place_of s at) (place_of s start) → s_l_comments (text_of s) (place_of s at) (place_of s line.start)
+comments_to s at start line e comments = subst (λ x. s_l_comments (text_of s) (place_of s at) (place_of s x)) (sym e) comments
+
+pub returns-then-is_key-clause-to : goal.returns-then-is_key-clause-to
+returns-then-is_key-clause-to c =
+    let s = c.skip_spaces-end.ensures in
+    let cs = text_of c.args.source.now in
+    separate_in_key cs c.args.least (context_of c.args.context) (key_is _ (sym c.is_key.ensures ∙ c.if-is_key.true)) _ _ (indent_run cs _ _ _ s.spaces, s.furthest)
+
+pub returns-in-None-clause-to : goal.returns-in-None-clause-to
+returns-in-None-clause-to c =
+    let s = c.skip_spaces-end-in-None.ensures in
+    let cs = text_of c.args.source.now in
+    separate_on_line cs c.args.least (context_of c.args.context) _ _ c.in-None.ensures.none (indent_run cs _ _ _ s.spaces, s.furthest)
+
+pub returns-then-is_mark-clause-none : goal.returns-then-is_mark-clause-none
+returns-then-is_mark-clause-none c = λ o.
+    let cs = text_of c.args.source.now in
+    let lines = c.in-Some.ensures.some in
+    separate_no_mark cs c.args.least (context_of c.args.context) _ _ lines (dashes_mark cs _ (comments_after cs _ _ lines) c.if-is_mark.ensures.yes)
+
+pub returns-then-line-least-clause-none : goal.returns-then-line-least-clause-none
+returns-then-line-least-clause-none c = λ o q r f.
+    let cs = text_of c.args.source.now in
+    let s = c.args.source.now in
+    let line = c.line_at-line.result in
+    let is = c.line_at-line.ensures.line in
+    let e : place_of s line.first ≡ place_of s line.start + line.column = indent_place cs line.column _ _ is.spaces in
+    separate_short cs c.args.least (context_of c.args.context) _ _ _ o (comments_to s c.args.at c.in-Some.start line c.line_at-line.ensures.start c.in-Some.ensures.some) is.stuck (line_spaces s line is)
+    (omega (arith, e, c.if-line-least.true)) q r f.0
+
+pub returns-then-is_end-clause-none : goal.returns-then-is_end-clause-none
+returns-then-is_end-clause-none c = λ o q r f.
+    let cs = text_of c.args.source.now in
+    let s = c.args.source.now in
+    let line = c.line_at-line.result in
+    let is = c.line_at-line.ensures.line in
+    separate_no_end cs c.args.least (context_of c.args.context) _ _ _ (comments_to s c.args.at c.in-Some.start line c.line_at-line.ensures.start c.in-Some.ensures.some) is.stuck (line_spaces s line is)
+    c.if-is_end.ensures.yes q r f.0
+
+pub returns-else-is_end-clause-to : goal.returns-else-is_end-clause-to
+returns-else-is_end-clause-to c =
+    let s = c.args.source.now in
+    let line = c.line_at-line.result in
+    let is = c.line_at-line.ensures.line in
+    separate_on_next (text_of s) c.args.least (context_of c.args.context) _ _ _ (comments_to s c.args.at c.in-Some.start line c.line_at-line.ensures.start c.in-Some.ensures.some) is.stuck (line_spaces s line is)
+
+pub returns-then-is_key-clause-way : goal.returns-then-is_key-clause-way
+returns-then-is_key-clause-way c = λ h q w. let e : false ≡ true = sym (ap is_key h) ∙ sym c.is_key.ensures ∙ c.if-is_key.true in cc
+
+pub returns-in-None-clause-way : goal.returns-in-None-clause-way
+returns-in-None-clause-way c = λ h.
+    let s = c.skip_spaces-end-in-None.ensures in
+    let cs = text_of c.args.source.now in
+    way_on_line cs _ _ c.in-None.ensures.none (indent_run cs _ _ _ s.spaces, s.furthest)
+
+pub returns-else-is_end-clause-way : goal.returns-else-is_end-clause-way
+returns-else-is_end-clause-way c = λ h.
+    let s = c.args.source.now in
+    let line = c.line_at-line.result in
+    let is = c.line_at-line.ensures.line in
+    way_on_next (text_of s) _ _ _ (comments_to s c.args.at c.in-Some.start line c.line_at-line.ensures.start c.in-Some.ensures.some) is.stuck (line_spaces s line is)
