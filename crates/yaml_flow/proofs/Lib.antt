@@ -5,3 +5,5 @@ pub mod SpaceLemmas
 pub mod PropertyLemmas
 pub mod FlowLemmas
 pub mod PropertyDecisions
+pub mod Deciding
+pub mod ContentDecisions

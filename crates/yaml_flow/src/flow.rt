@@ -160,8 +160,10 @@ fn read_plain_node<'a>(
                 kind: Kind::Yaml,
             }))
         }
-        Err(Fault::OutOfMemory) => Err(Fault::OutOfMemory),
-        Err(_) => Ok(None),
+        Err(fault) => match fault {
+            Fault::OutOfMemory => Err(Fault::OutOfMemory),
+            _ => Ok(None),
+        },
     }
 }
 
