@@ -1,5 +1,5 @@
 //! Flow nodes (YAML 1.2.2, 7.4 and 7.5).
-ghost use Rattle.std.specs.Prelude.{◌≡◌, ◌≤◌, ◌<◌, ◌⊎◌, ℕ, IfSome, IfNone, IfOk, IfErr, Some, pos, slice_get, [], ◌∷◌};
+ghost use Rattle.std.specs.Prelude.{◌≡◌, ◌≤◌, ◌<◌, ◌+◌, ◌⊎◌, ℕ, IfSome, IfNone, IfOk, IfErr, Some, pos, slice_get, [], ◌∷◌};
 ghost use Rattle.std.specs.Bool.{OnTrue, OnFalse};
 ghost use Rattle.yaml_text.specs.Limits.{text_limit};
 ghost use Rattle.yaml_text.specs.Place.{Steps};
@@ -288,13 +288,12 @@ pub fn read_bare<'a>(
     requires order { at ≤ end }
     requires own { Own (text_of source.now) (handles_of handles) least (context_of context) (place_of source.now at) (place_of source.now end) (props_of own.now) }
     requires all { AllProperties (text_of source.now) (handles_of handles) least (context_of context) (place_of source.now at) (place_of source.now end) (props_of own.now) }
-    requires goes_on { context_of context ≡ flow_out → LineGoesOn (text_of source.now) (place_of source.now end) (props_of own.now) }
     requires low { least ≤ at }
     ensures border { IfOk result (λ node. IsBorder source.now node.end) }
     ensures onward { IfOk result (λ node. at ≤ node.end) }
     ensures within { IfOk result (λ node. node.deep ≤ room) }
     ensures reads { Appends (λ node. Bare (text_of source.now) (Unit {0}) (handles_of handles.entry) node.deep node.kind least (context_of context) (props_of own.now) (place_of source.now end)) (place_of source.now at) (λ node. place_of source.now node.end) out.old.items out.new.items result }
-    ensures decides { DecidesNode (text_of source.now) (handles_of handles.entry) room least (context_of context) (place_of source.now at) (λ node. place_of source.now node.end) result }
+    ensures decides { (context_of context ≡ flow_out → LineGoesOn (text_of source.now) (place_of source.now end) (props_of own.now)) → DecidesNode (text_of source.now) (handles_of handles.entry) room least (context_of context) (place_of source.now at) (λ node. place_of source.now node.end) result }
 {
     if own.is_none() {
         if let Some(_) = accept(source, at, '*') {
@@ -335,29 +334,35 @@ fn read_content<'a>(
     ensures reads { Perhaps (λ node. content_from (text_of source.now) (Unit {0}) (handles_of handles.entry) node.deep node.kind least (context_of context)) (place_of source.now at) (λ node. place_of source.now node.end) out.old.items out.new.items result }
     ensures decides { DecidesContent (text_of source.now) (handles_of handles.entry) room least (context_of context) (place_of source.now at) (λ node. place_of source.now node.end) result }
 {
-    let first = first_of(source, at);
-    let node = match first {
+    match first_of(source, at) {
         First::Sequence(inside) => {
             if room == 0 {
                 return Err(Fault::TooDeep(source.pos(at)));
             }
-            read_sequence(
+            let node = read_sequence(
                 alloc, source, at, inside, least, context, room, handles, out,
-            )?
+            )?;
+            Ok(Some(node))
         }
         First::Mapping(inside) => {
             if room == 0 {
                 return Err(Fault::TooDeep(source.pos(at)));
             }
-            read_mapping(
+            let node = read_mapping(
                 alloc, source, at, inside, least, context, room, handles, out,
-            )?
+            )?;
+            Ok(Some(node))
         }
-        First::Single => read_single_node(alloc, source, at, least, context, handles, out)?,
-        First::Double => read_double_node(alloc, source, at, least, context, handles, out)?,
-        First::Other => return read_plain_node(alloc, source, at, least, context, handles, out),
-    };
-    Ok(Some(node))
+        First::Single => {
+            let node = read_single_node(alloc, source, at, least, context, handles, out)?;
+            Ok(Some(node))
+        }
+        First::Double => {
+            let node = read_double_node(alloc, source, at, least, context, handles, out)?;
+            Ok(Some(node))
+        }
+        First::Other => read_plain_node(alloc, source, at, least, context, handles, out),
+    }
 }
 
 /// A flow sequence, after its bracket.

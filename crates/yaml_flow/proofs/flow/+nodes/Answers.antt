@@ -146,24 +146,6 @@ read_key_entry-returns-in_ok-end-in-Some-clause-reads t c =
 
 -- ---- pairs
 
-pub read_node_item-returns-in_ok-push-in-Fits-clause-reads : goal.read_node_item-returns-in_ok-push-in-Fits-clause-reads
-read_node_item-returns-in_ok-push-in-Fits-clause-reads t c =
-    let cs = text_of c.args.source.now in
-    let k = c.in_ok-key.ensures.reads in
-    let v = c.in_ok-end-in-Fits.ensures.reads in
-    let s = c.in-Some.ensures.colon in
-    let length_is : c.len-start.result ≡ length c.args.out.now.items = omega (arith, c.len-start.ensures, c.args.out.now.ok.0) in
-    let start : c.insert.new.self.items ≡ insert c.read_flow_node.new.out.items (length c.args.out.now.items) c.flow_mapping.result = c.in_ok-insert-in-Fits.ensures.items ∙ ap (λ n. insert c.read_flow_node.new.out.items n c.flow_mapping.result) length_is in (
-      mapping_start true None untagged ∷ ((k.0 ++ v.0) ++ (mapping_end ∷ [])),
-      adds_on c.args.out.now.items c.read_value.new.out.items _ (mapping_start true None untagged ∷ (k.0 ++ v.0)) (mapping_end ∷ [])
-          (adds_on c.args.out.now.items c.insert.new.self.items _ (mapping_start true None untagged ∷ k.0) v.0
-          (adds_before c.args.out.now.items c.read_flow_node.new.out.items c.insert.new.self.items k.0 c.flow_mapping.result (mapping_start true None untagged) c.flow_mapping.ensures k.1 start) v.1)
-          (adds_one _ _ _ _ refl c.in_ok-push-in-Fits.ensures.items),
-      from_same (c.max.result + 1) (max c.in_ok-key.key.deep c.in_ok-end-in-Fits.deep + 1) (λ room. item_at cs (Unit {0}) (handles_of c.args.handles) room c.args.least (context_of c.args.context)) _ _ _ (ap (λ x. x + 1) c.max.ensures)
-          (pair_item cs (Unit {0}) (handles_of c.args.handles) c.in_ok-key.key.deep c.in_ok-end-in-Fits.deep c.in_ok-key.key.kind c.args.least (context_of c.args.context) _ _ _ _ _ k.0 v.0 c.requires.inner k.2
-          (_, indent_run cs _ _ _ c.skip_spaces-colon.ensures.spaces, (s.is, s.next), c.in-Fits.ensures) (s.is, s.next) v.2),
-    )
-
 -- ---- collections
 
 pub read_sequence-returns-clause-reads : goal.read_sequence-returns-clause-reads
@@ -229,7 +211,7 @@ read_flow_node-returns-clause-reads t c =
     )
 
 pub read_flow_node-read_bare-requires : goal.read_flow_node-read_bare-requires
-read_flow_node-read_bare-requires t c = (omega arith, (c.requires.border, (c.in_ok-own.ensures.border, (c.in_ok-own.ensures.onward, (c.in_ok-own.ensures.own, c.requires.low)))))
+read_flow_node-read_bare-requires t c = (omega arith, (c.requires.border, (c.in_ok-own.ensures.border, (c.in_ok-own.ensures.onward, (c.in_ok-own.ensures.own, (c.in_ok-own.ensures.all, c.requires.low))))))
 
 -- an alias
 pub read_bare-returns-in-Some-clause-reads : goal.read_bare-returns-in-Some-clause-reads
@@ -322,7 +304,7 @@ read_entry-returns-in-Some-clause-reads t c =
     let n = c.args.least in
     let x = context_of c.args.context in
     let s = c.args.source.now in
-    let q = c.in-Some.ensures in
+    let q = c.in-Some.ensures.sign in
     appends_by (λ r. from_room r.1 (λ room. asked_at cs (Unit {0}) h room n x)) (λ r. from_room r.1 (λ room. entry_at cs (Unit {0}) h room n x))
     (place_of s c.in-Some.after) (place_of s c.args.at) (λ r. place_of s r.0) _ _ c.read_asked.result
     (λ r es p. asked_entry cs h r.1 n x _ _ _ es (q.is, q.next) p) c.read_asked.ensures.reads
