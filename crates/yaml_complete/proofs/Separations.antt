@@ -101,7 +101,7 @@ module _ (cs : List ℕ) where
 
   -- ---- twice
 
-  lines_of : (i m : ℕ) → Past cs i m → s_l_comments cs i m
+  pub lines_of : (i m : ℕ) → Past cs i m → s_l_comments cs i m
   unfolding s_l_comments
   lines_of i m (inl (a, b, c)) = (a, inl b, c)
   lines_of i m (inr (s, c)) = (i, inr (refl, s), c)

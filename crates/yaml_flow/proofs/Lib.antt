@@ -7,3 +7,4 @@ pub mod FlowLemmas
 pub mod PropertyDecisions
 pub mod Deciding
 pub mod ContentDecisions
+pub mod BareDecisions

@@ -103,7 +103,7 @@ module _ (cs : List ℕ) (handles : Handles) where
     -- ---- all that stand here
 
     -- content is not apart from what ends where it begins
-    no_gap : (e : ℕ) → Inside cs e → separate cs n c e e → Solid cs e → ⊥
+    pub no_gap : (e : ℕ) → Inside cs e → separate cs n c e e → Solid cs e → ⊥
     no_gap e o s h = go (sep_parts cs n c e e o s)
       where
         go : (run cs is_space e e × (e < e)) ⊎ ((p : ℕ) × Past cs e p × run cs is_space p e) → ⊥

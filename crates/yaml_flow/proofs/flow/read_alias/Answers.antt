@@ -1,3 +1,4 @@
+use Rattle.yaml_flow.proofs.BareDecisions as temporary
 use Rattle.std.proofs.Common.{refl, sym, ap, [], ◌∷◌}
 use Rattle.std.specs.Str.{chars}
 use Rattle.std.specs.Cow.{cow_str_bytes}
