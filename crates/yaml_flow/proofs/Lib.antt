@@ -8,3 +8,7 @@ pub mod PropertyDecisions
 pub mod Deciding
 pub mod ContentDecisions
 pub mod BareDecisions
+pub mod LoopDecisions
+pub mod PartDecisions
+pub mod ItemDecisions
+pub mod EntryDecisions

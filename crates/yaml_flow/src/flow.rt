@@ -10,7 +10,7 @@ ghost use Rattle.yaml_text.specs.grammar.Rules.{given, gives, seen, maybe};
 ghost use Rattle.yaml_text.specs.grammar.Tags as tags;
 ghost use Rattle.yaml_text.specs.grammar.Events.{Props, alias, empty, no_props};
 ghost use Rattle.yaml_text.specs.grammar.FlowScalars.{single, double};
-ghost use Rattle.yaml_text.specs.grammar.Nodes.{flow_seq, flow_map, pair, reads};
+ghost use Rattle.yaml_text.specs.grammar.Nodes.{flow_seq, flow_map, pair};
 ghost use Rattle.yaml_text.specs.Lines.{Inside};
 ghost use Rattle.yaml_text.specs.declared.fault.Fault.TheVariants.{OutOfMemory};
 ghost use Rattle.yaml_unique.specs.Follows.{Closes, Solid, Fresh};
@@ -653,7 +653,7 @@ fn read_node_item<'a>(
             if key.deep >= room {
                 // the fault to tell is in the key, where its last collection opens
                 out.truncate(start);
-                return read_pair(alloc, source, at, least, context, room - 1, handles, out);
+                return read_pair(alloc, source, at, least, context, room, handles, out);
             }
             out.insert(start, flow_mapping())?;
             let (end, deep) = read_value(
@@ -705,7 +705,7 @@ fn key_colon(
     }
 }
 
-/// A pair that begins with its key (7.4.2), in which, but for the pair itself, `room` collections may be open.
+/// A pair that begins with its key (7.4.2).
 #[cycle(nodes)]
 fn read_pair<'a>(
     alloc: Global,
@@ -719,23 +719,33 @@ fn read_pair<'a>(
 ) -> Result<(usize, u32), Fault>
     requires border { IsBorder source.now at }
     requires low { least ≤ at }
+    requires some { 0 < room }
     requires inner { IsInner (context_of context) }
     requires no_colon { SignAt Yaml (context_of context) (text_of source.now) (place_of source.now at) → ⊥ }
     requires no_mark { AskedAt (context_of context) (text_of source.now) (place_of source.now at) → ⊥ }
     ensures border { IfOk result (λ r. IsBorder source.now r.0) }
     ensures onward { IfOk result (λ r. at ≤ r.0) }
-    ensures within { IfOk result (λ r. r.1 ≤ room + 1) }
+    ensures within { IfOk result (λ r. r.1 ≤ room) }
     ensures reads { Appends (λ r. from_room r.1 (λ room. item_at (text_of source.now) (Unit {0}) (handles_of handles.entry) room least (context_of context))) (place_of source.now at) (λ r. place_of source.now r.0) out.old.items out.new.items result }
     ensures ends { IfOk result (λ r. Inside (text_of source.now) (place_of source.now r.0) ⊎ Closes (text_of source.now) (place_of source.now r.0)) }
-    ensures decides { context_of context ≡ flow_in → DecidesPart (text_of source.now) least (pair (text_of source.now) (Unit {0}) (handles_of handles.entry) (Unit {0}) (reads (text_of source.now) (Unit {0}) (handles_of handles.entry) room) least flow_in) (place_of source.now at) (λ r. place_of source.now r.0) result }
+    ensures decides { context_of context ≡ flow_in → DecidesPart (text_of source.now) least (pair (text_of source.now) (Unit {0}) (handles_of handles.entry) (opens (text_of source.now) (Unit {0}) (handles_of handles.entry) room) (below (text_of source.now) (Unit {0}) (handles_of handles.entry) room) least flow_in) (place_of source.now at) (λ r. place_of source.now r.0) result }
 {
     out.push(flow_mapping())?;
-    let key = read_flow_node(alloc, source, at, least, context, room, handles, out)?;
+    let key = read_flow_node(alloc, source, at, least, context, room - 1, handles, out)?;
     match key_colon(source, at, key.end, key.kind, context)? {
         None => Err(unusable(source, key.end)),
         Some((colon, after)) => {
             let (end, deep) = read_value(
-                alloc, source, colon, after, key.kind, least, context, room, handles, out,
+                alloc,
+                source,
+                colon,
+                after,
+                key.kind,
+                least,
+                context,
+                room - 1,
+                handles,
+                out,
             )?;
             out.push(Event::MappingEnd)?;
             Ok((end, key.deep.max(deep) + 1))
@@ -935,7 +945,7 @@ fn read_asked<'a>(
     requires border { IsBorder source.now after }
     requires low { least ≤ after }
     requires inner { IsInner (context_of context) }
-    requires inside { Inside (text_of source.now) (place_of source.now after) }
+    requires mark { (i : ℕ) × (place_of source.now after ≡ i + 1) × (slice_get (text_of source.now) i ≡ Some 63) }
     ensures border { IfOk result (λ r. IsBorder source.now r.0) }
     ensures onward { IfOk result (λ r. after ≤ r.0) }
     ensures within { IfOk result (λ r. r.1 ≤ room) }
