@@ -9,7 +9,7 @@ use Rattle.yaml_text.specs.grammar.Events.{Props}
 use Rattle.yaml_text.specs.grammar.FlowScalars.{plain}
 use Rattle.yaml_text.specs.declared.fault.Fault.{Fault}
 use Rattle.yaml_text.specs.declared.fault.Fault.TheVariants.{OutOfMemory}
-use Rattle.yaml_complete.specs.Decisions.{Refused, Goes}
+use Rattle.yaml_complete.specs.Decisions.{Refused, Goes, Here}
 use Rattle.yaml_complete.specs.FlowEnds.{InFlow}
 use Rattle.yaml_flow.specs.Answer.{Decides}
 use Rattle.yaml_flow.specs.Decisions.{EndOf}
@@ -56,3 +56,8 @@ LongKey cs kind c i j = (q : ℕ) × Spaced cs j q × SignAt kind c cs q × (IsK
 -- an item, an entry or a value: separation and a comma or a closing bracket follow it
 abbrev pub DecidesPart : {X : Type 0} → List ℕ → ℕ → Rule (List Event) → ℕ → (X → ℕ) → Result X Fault → Type 0
 DecidesPart cs n R i end result = Decides R (InFlow cs n) i (InFlow cs n) end result
+
+-- a flow collection, after any properties: one end whatever follows
+abbrev pub DecidesEach : {X : Type 0} → (Props → Rule (List Event)) → ℕ → (X → ℕ) → Result X Fault → Type 0
+DecidesEach R i end (Ok x) = (p : Props) → Goes (R p) Here i Here (end x)
+DecidesEach R i end (Err e) = (e ≡ OutOfMemory) ⊎ ((p : Props) → Refused (R p) Here i)

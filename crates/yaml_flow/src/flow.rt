@@ -8,7 +8,7 @@ ghost use Rattle.yaml_text.specs.EventModel.{context_of};
 ghost use Rattle.yaml_text.specs.grammar.Separation.{inner, flow_in, flow_out, separate};
 ghost use Rattle.yaml_text.specs.grammar.Rules.{given, gives, seen, maybe};
 ghost use Rattle.yaml_text.specs.grammar.Tags as tags;
-ghost use Rattle.yaml_text.specs.grammar.Events.{Props, alias, empty, no_props};
+ghost use Rattle.yaml_text.specs.grammar.Events.{alias, empty, no_props};
 ghost use Rattle.yaml_text.specs.grammar.FlowScalars.{single, double};
 ghost use Rattle.yaml_text.specs.grammar.Nodes.{flow_seq, flow_map, pair};
 ghost use Rattle.yaml_text.specs.Lines.{Inside};
@@ -20,7 +20,7 @@ ghost use Rattle.yaml_flow.specs.declared.flow.Kind.TheVariants.{Yaml, Json};
 ghost use Rattle.yaml_text.specs.Answer.{IsRefusal};
 ghost use Rattle.yaml_flow.specs.Answer.{Appends, Perhaps, Decides};
 ghost use Rattle.yaml_flow.specs.Decisions.{AllProperties, LineGoesOn, DecidesNode};
-ghost use Rattle.yaml_flow.specs.FlowDecisions.{DecidesPlain, DecidesContent, DecidesPart, NoKey, LongKey};
+ghost use Rattle.yaml_flow.specs.FlowDecisions.{DecidesPlain, DecidesContent, DecidesPart, DecidesEach, NoKey, LongKey};
 ghost use Rattle.yaml_flow.specs.Keys.{IsKeySized, Spaced};
 ghost use Rattle.yaml_flow.specs.PropertyRules.{props_of, Own};
 ghost use Rattle.yaml_flow.specs.FlowRules.{flow_from, content_from, Bare, from_room, item_at, entry_at, keyed_at, asked_at, value_at, parts, opens, below, IsSign, SignAt, AskedAt, IsInner, IsParted, FirstIs};
@@ -387,7 +387,7 @@ fn read_sequence<'a>(
     ensures within { IfOk result (λ node. node.deep ≤ room) }
     ensures reads { Appends (λ node. content_from (text_of source.now) (Unit {0}) (handles_of handles.entry) node.deep node.kind least (context_of context)) (place_of source.now at) (λ node. place_of source.now node.end) out.old.items out.new.items result }
     ensures kind { IfOk result (λ node. node.kind ≡ Json) }
-    ensures decides { inner (context_of context) ≡ flow_in → (p : Props) → Decides (flow_seq (text_of source.now) (Unit {0}) (handles_of handles.entry) (opens (text_of source.now) (Unit {0}) (handles_of handles.entry) room) (below (text_of source.now) (Unit {0}) (handles_of handles.entry) room) p least (context_of context)) Here (place_of source.now at) Here (λ node. place_of source.now node.end) result }
+    ensures decides { inner (context_of context) ≡ flow_in → DecidesEach (λ p. flow_seq (text_of source.now) (Unit {0}) (handles_of handles.entry) (opens (text_of source.now) (Unit {0}) (handles_of handles.entry) room) (below (text_of source.now) (Unit {0}) (handles_of handles.entry) room) p least (context_of context)) (place_of source.now at) (λ node. place_of source.now node.end) result }
 {
     out.push(flow_sequence())?;
     let first = separation(source, inside, least, context)?;
@@ -836,7 +836,7 @@ fn read_mapping<'a>(
     ensures within { IfOk result (λ node. node.deep ≤ room) }
     ensures reads { Appends (λ node. content_from (text_of source.now) (Unit {0}) (handles_of handles.entry) node.deep node.kind least (context_of context)) (place_of source.now at) (λ node. place_of source.now node.end) out.old.items out.new.items result }
     ensures kind { IfOk result (λ node. node.kind ≡ Json) }
-    ensures decides { inner (context_of context) ≡ flow_in → (p : Props) → Decides (flow_map (text_of source.now) (Unit {0}) (handles_of handles.entry) (opens (text_of source.now) (Unit {0}) (handles_of handles.entry) room) (below (text_of source.now) (Unit {0}) (handles_of handles.entry) room) p least (context_of context)) Here (place_of source.now at) Here (λ node. place_of source.now node.end) result }
+    ensures decides { inner (context_of context) ≡ flow_in → DecidesEach (λ p. flow_map (text_of source.now) (Unit {0}) (handles_of handles.entry) (opens (text_of source.now) (Unit {0}) (handles_of handles.entry) room) (below (text_of source.now) (Unit {0}) (handles_of handles.entry) room) p least (context_of context)) (place_of source.now at) (λ node. place_of source.now node.end) result }
 {
     out.push(flow_mapping())?;
     let first = separation(source, inside, least, context)?;

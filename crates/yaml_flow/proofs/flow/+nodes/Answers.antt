@@ -16,6 +16,8 @@ use Rattle.yaml_flow.specs.declared.flow.Kind.TheVariants.{Yaml}
 use Rattle.yaml_flow.proofs.PropertyLemmas.{own_marks}
 use Rattle.yaml_flow.proofs.AnswerLemmas.{adds_one, adds_on, adds_before, appends_by, appends_after, appends_same, perhaps_some, perhaps_none}
 use Rattle.yaml_flow.proofs.FlowLemmas.{no_parts, one_part, parts_end, part_end, sequence_is, mapping_is, pair_item, no_value, key_entry, lone_entry, value_is, bare_flow, empty_entry, asked_keyed, asked_nothing, keyed_entry, asked_entry, asked_pair, empty_pair}
+use Rattle.yaml_text.specs.grammar.Separation.{flow_in}
+use Rattle.yaml_flow.proofs.LoopDecisions.{all_left, left_more, to_in, item_begins, entry_begins, bracket_shut, bracket_other, brace_shut, brace_other}
 use Rattle.yaml_flow.proofs.flow.+nodes.Goals as goal
 
 -- at the rooms from another, equal, number on
@@ -32,6 +34,7 @@ read_items-items-init t c =
       onward = omega arith;
       within = omega arith;
       reads = ([], sym (append-nil _), no_parts cs c.args.least (context_of c.args.context) (λ room. item_at cs (Unit {0}) (handles_of c.args.handles) room c.args.least (context_of c.args.context)) _);
+      left = λ e. all_left cs c.args.least _ 93 _;
     }
 
 pub read_items-returns-in-Some-clause-reads : goal.read_items-returns-in-Some-clause-reads
@@ -71,6 +74,9 @@ read_items-items-preserved t c =
             (one_part cs c.args.least (context_of c.args.context) (λ room. item_at cs (Unit {0}) (handles_of c.args.handles) room c.args.least (context_of c.args.context)) c.items.most c.in_ok-item-in-None.deep _ _ _ _ _ _ v.reads.0 n.0 v.reads.2 n.2
             c.in_ok-after-in-None.ensures.separate (s.is, s.next) h.separate),
       );
+      left = λ e.
+          left_more cs c.args.least (item_at cs (Unit {0}) (handles_of c.args.handles) c.args.room c.args.least flow_in) (item_begins cs (handles_of c.args.handles) c.args.room c.args.least) 93 (bracket_shut cs) bracket_other
+          _ _ (v.left e) c.in-None.ensures.none _ (c.in_ok-item-in-None.ensures.decides e) _ (to_in cs c.args.least _ _ _ e c.in_ok-after-in-None.ensures.to) s.is _ s.next _ (to_in cs c.args.least _ _ _ e h.to);
     }
 
 -- ---- entries
@@ -83,6 +89,7 @@ read_entries-entries-init t c =
       onward = omega arith;
       within = omega arith;
       reads = ([], sym (append-nil _), no_parts cs c.args.least (context_of c.args.context) (λ room. entry_at cs (Unit {0}) (handles_of c.args.handles) room c.args.least (context_of c.args.context)) _);
+      left = λ e. all_left cs c.args.least _ 125 _;
     }
 
 pub read_entries-returns-in-Some-clause-reads : goal.read_entries-returns-in-Some-clause-reads
@@ -122,6 +129,9 @@ read_entries-entries-preserved t c =
             (one_part cs c.args.least (context_of c.args.context) (λ room. entry_at cs (Unit {0}) (handles_of c.args.handles) room c.args.least (context_of c.args.context)) c.entries.most c.in_ok-entry-in-None.deep _ _ _ _ _ _ v.reads.0 n.0 v.reads.2 n.2
             c.in_ok-after-in-None.ensures.separate (s.is, s.next) h.separate),
       );
+      left = λ e.
+          left_more cs c.args.least (entry_at cs (Unit {0}) (handles_of c.args.handles) c.args.room c.args.least flow_in) (entry_begins cs (handles_of c.args.handles) c.args.room c.args.least) 125 (brace_shut cs) brace_other
+          _ _ (v.left e) c.in-None.ensures.none _ (c.in_ok-entry-in-None.ensures.decides e) _ (to_in cs c.args.least _ _ _ e c.in_ok-after-in-None.ensures.to) s.is _ s.next _ (to_in cs c.args.least _ _ _ e h.to);
     }
 
 pub read_key_entry-returns-in_ok-push_empty-in-None-clause-reads : goal.read_key_entry-returns-in_ok-push_empty-in-None-clause-reads
@@ -338,3 +348,255 @@ read_keyed-returns-in_ok-push_empty-in-Some-clause-reads t c =
     appends_after (λ r. from_room r.1 (λ room. value_at cs (Unit {0}) h Yaml room n x)) (λ r. from_room r.1 (λ room. keyed_at cs (Unit {0}) h room n x))
     (place_of s c.args.at) (place_of s c.args.at) (λ r. place_of s r.0) _ _ _ c.read_value.result (empty no_props) c.in_ok-push_empty-in-Some.ensures.ok
     (λ r vs v. empty_entry cs (Unit {0}) h r.1 n x _ _ vs v) c.read_value.ensures.reads
+
+pub read_asked-returns-clause-decides : goal.read_asked-returns-clause-decides
+read_asked-returns-clause-decides t c = ?
+
+pub read_asked-returns-in_err-start-clause-decides : goal.read_asked-returns-in_err-start-clause-decides
+read_asked-returns-in_err-start-clause-decides t c = ?
+
+pub read_asked-returns-then-ends_value-clause-decides : goal.read_asked-returns-then-ends_value-clause-decides
+read_asked-returns-then-ends_value-clause-decides t c = ?
+
+pub read_asked-returns-then-start-after-clause-decides : goal.read_asked-returns-then-start-after-clause-decides
+read_asked-returns-then-start-after-clause-decides t c = ?
+
+pub read_asked_pair-read_asked-requires : goal.read_asked_pair-read_asked-requires
+read_asked_pair-read_asked-requires t c = ?
+
+pub read_asked_pair-returns-clause-decides : goal.read_asked_pair-returns-clause-decides
+read_asked_pair-returns-clause-decides t c = ?
+
+pub read_asked_pair-returns-in_err-end-clause-decides : goal.read_asked_pair-returns-in_err-end-clause-decides
+read_asked_pair-returns-in_err-end-clause-decides t c = ?
+
+pub read_asked_pair-returns-then-room-eq0-clause-decides : goal.read_asked_pair-returns-then-room-eq0-clause-decides
+read_asked_pair-returns-then-room-eq0-clause-decides t c = ?
+
+pub read_bare-returns-in-None-2-clause-decides : goal.read_bare-returns-in-None-2-clause-decides
+read_bare-returns-in-None-2-clause-decides t c = ?
+
+pub read_bare-returns-in-None-clause-decides : goal.read_bare-returns-in-None-clause-decides
+read_bare-returns-in-None-clause-decides t c = ?
+
+pub read_bare-returns-in-Some-2-clause-decides : goal.read_bare-returns-in-Some-2-clause-decides
+read_bare-returns-in-Some-2-clause-decides t c = ?
+
+pub read_bare-returns-in-Some-3-clause-decides : goal.read_bare-returns-in-Some-3-clause-decides
+read_bare-returns-in-Some-3-clause-decides t c = ?
+
+pub read_bare-returns-in-Some-clause-decides : goal.read_bare-returns-in-Some-clause-decides
+read_bare-returns-in-Some-clause-decides t c = ?
+
+pub read_bare-returns-in_err-node-2-clause-decides : goal.read_bare-returns-in_err-node-2-clause-decides
+read_bare-returns-in_err-node-2-clause-decides t c = ?
+
+pub read_bare-returns-in_err-node-clause-decides : goal.read_bare-returns-in_err-node-clause-decides
+read_bare-returns-in_err-node-clause-decides t c = ?
+
+pub read_bare-returns-in_err-start-clause-decides : goal.read_bare-returns-in_err-start-clause-decides
+read_bare-returns-in_err-start-clause-decides t c = ?
+
+pub read_bare-returns-then-start-end-clause-decides : goal.read_bare-returns-then-start-end-clause-decides
+read_bare-returns-then-start-end-clause-decides t c = ?
+
+pub read_content-returns-in-Other-clause-decides : goal.read_content-returns-in-Other-clause-decides
+read_content-returns-in-Other-clause-decides t c = ?
+
+pub read_content-returns-in_err-node-in-Double-clause-decides : goal.read_content-returns-in_err-node-in-Double-clause-decides
+read_content-returns-in_err-node-in-Double-clause-decides t c = ?
+
+pub read_content-returns-in_err-node-in-Mapping-clause-decides : goal.read_content-returns-in_err-node-in-Mapping-clause-decides
+read_content-returns-in_err-node-in-Mapping-clause-decides t c = ?
+
+pub read_content-returns-in_err-node-in-Sequence-clause-decides : goal.read_content-returns-in_err-node-in-Sequence-clause-decides
+read_content-returns-in_err-node-in-Sequence-clause-decides t c = ?
+
+pub read_content-returns-in_err-node-in-Single-clause-decides : goal.read_content-returns-in_err-node-in-Single-clause-decides
+read_content-returns-in_err-node-in-Single-clause-decides t c = ?
+
+pub read_content-returns-in_ok-node-in-Double-clause-decides : goal.read_content-returns-in_ok-node-in-Double-clause-decides
+read_content-returns-in_ok-node-in-Double-clause-decides t c = ?
+
+pub read_content-returns-in_ok-node-in-Mapping-clause-decides : goal.read_content-returns-in_ok-node-in-Mapping-clause-decides
+read_content-returns-in_ok-node-in-Mapping-clause-decides t c = ?
+
+pub read_content-returns-in_ok-node-in-Sequence-clause-decides : goal.read_content-returns-in_ok-node-in-Sequence-clause-decides
+read_content-returns-in_ok-node-in-Sequence-clause-decides t c = ?
+
+pub read_content-returns-in_ok-node-in-Single-clause-decides : goal.read_content-returns-in_ok-node-in-Single-clause-decides
+read_content-returns-in_ok-node-in-Single-clause-decides t c = ?
+
+pub read_content-returns-then-room-eq0-2-clause-decides : goal.read_content-returns-then-room-eq0-2-clause-decides
+read_content-returns-then-room-eq0-2-clause-decides t c = ?
+
+pub read_content-returns-then-room-eq0-clause-decides : goal.read_content-returns-then-room-eq0-clause-decides
+read_content-returns-then-room-eq0-clause-decides t c = ?
+
+pub read_empty_pair-returns-clause-decides : goal.read_empty_pair-returns-clause-decides
+read_empty_pair-returns-clause-decides t c = ?
+
+pub read_empty_pair-returns-in_err-end-clause-decides : goal.read_empty_pair-returns-in_err-end-clause-decides
+read_empty_pair-returns-in_err-end-clause-decides t c = ?
+
+pub read_empty_pair-returns-then-room-eq0-clause-decides : goal.read_empty_pair-returns-then-room-eq0-clause-decides
+read_empty_pair-returns-then-room-eq0-clause-decides t c = ?
+
+pub read_entries-returns-in-None-accept-2-clause-decides : goal.read_entries-returns-in-None-accept-2-clause-decides
+read_entries-returns-in-None-accept-2-clause-decides t c = ?
+
+pub read_entries-returns-in-Some-accept-clause-decides : goal.read_entries-returns-in-Some-accept-clause-decides
+read_entries-returns-in-Some-accept-clause-decides t c = ?
+
+pub read_entries-returns-in-Some-clause-decides : goal.read_entries-returns-in-Some-clause-decides
+read_entries-returns-in-Some-clause-decides t c = ?
+
+pub read_entries-returns-in_err-after-in-None-clause-decides : goal.read_entries-returns-in_err-after-in-None-clause-decides
+read_entries-returns-in_err-after-in-None-clause-decides t c = ?
+
+pub read_entries-returns-in_err-entry-in-None-clause-decides : goal.read_entries-returns-in_err-entry-in-None-clause-decides
+read_entries-returns-in_err-entry-in-None-clause-decides t c = ?
+
+pub read_entries-returns-in_err-here-in-Some-accept-2-clause-decides : goal.read_entries-returns-in_err-here-in-Some-accept-2-clause-decides
+read_entries-returns-in_err-here-in-Some-accept-2-clause-decides t c = ?
+
+pub read_entry-read_asked-requires : goal.read_entry-read_asked-requires
+read_entry-read_asked-requires t c = ?
+
+pub read_entry-returns-in-None-clause-decides : goal.read_entry-returns-in-None-clause-decides
+read_entry-returns-in-None-clause-decides t c = ?
+
+pub read_entry-returns-in-Some-clause-decides : goal.read_entry-returns-in-Some-clause-decides
+read_entry-returns-in-Some-clause-decides t c = ?
+
+pub read_flow_node-returns-in_err-own-clause-decides : goal.read_flow_node-returns-in_err-own-clause-decides
+read_flow_node-returns-in_err-own-clause-decides t c = ?
+
+pub read_items-returns-in-None-accept-2-clause-decides : goal.read_items-returns-in-None-accept-2-clause-decides
+read_items-returns-in-None-accept-2-clause-decides t c = ?
+
+pub read_items-returns-in-Some-accept-clause-decides : goal.read_items-returns-in-Some-accept-clause-decides
+read_items-returns-in-Some-accept-clause-decides t c = ?
+
+pub read_items-returns-in-Some-clause-decides : goal.read_items-returns-in-Some-clause-decides
+read_items-returns-in-Some-clause-decides t c = ?
+
+pub read_items-returns-in_err-after-in-None-clause-decides : goal.read_items-returns-in_err-after-in-None-clause-decides
+read_items-returns-in_err-after-in-None-clause-decides t c = ?
+
+pub read_items-returns-in_err-here-in-Some-accept-2-clause-decides : goal.read_items-returns-in_err-here-in-Some-accept-2-clause-decides
+read_items-returns-in_err-here-in-Some-accept-2-clause-decides t c = ?
+
+pub read_items-returns-in_err-item-in-None-clause-decides : goal.read_items-returns-in_err-item-in-None-clause-decides
+read_items-returns-in_err-item-in-None-clause-decides t c = ?
+
+pub read_key_entry-returns-in_err-colon-clause-decides : goal.read_key_entry-returns-in_err-colon-clause-decides
+read_key_entry-returns-in_err-colon-clause-decides t c = ?
+
+pub read_key_entry-returns-in_err-end-in-Some-clause-decides : goal.read_key_entry-returns-in_err-end-in-Some-clause-decides
+read_key_entry-returns-in_err-end-in-Some-clause-decides t c = ?
+
+pub read_key_entry-returns-in_err-key-clause-decides : goal.read_key_entry-returns-in_err-key-clause-decides
+read_key_entry-returns-in_err-key-clause-decides t c = ?
+
+pub read_key_entry-returns-in_ok-end-in-Some-clause-decides : goal.read_key_entry-returns-in_ok-end-in-Some-clause-decides
+read_key_entry-returns-in_ok-end-in-Some-clause-decides t c = ?
+
+pub read_key_entry-returns-in_ok-push_empty-in-None-clause-decides : goal.read_key_entry-returns-in_ok-push_empty-in-None-clause-decides
+read_key_entry-returns-in_ok-push_empty-in-None-clause-decides t c = ?
+
+pub read_key_entry-returns-in_ok-push_empty-in-None-clause-ends : goal.read_key_entry-returns-in_ok-push_empty-in-None-clause-ends
+read_key_entry-returns-in_ok-push_empty-in-None-clause-ends t c = ?
+
+pub read_keyed-returns-in_ok-push_empty-in-Some-clause-decides : goal.read_keyed-returns-in_ok-push_empty-in-Some-clause-decides
+read_keyed-returns-in_ok-push_empty-in-Some-clause-decides t c = ?
+
+pub read_mapping-returns-clause-decides : goal.read_mapping-returns-clause-decides
+read_mapping-returns-clause-decides t c = ?
+
+pub read_mapping-returns-in_err-end-clause-decides : goal.read_mapping-returns-in_err-end-clause-decides
+read_mapping-returns-in_err-end-clause-decides t c = ?
+
+pub read_mapping-returns-in_err-first-clause-decides : goal.read_mapping-returns-in_err-first-clause-decides
+read_mapping-returns-in_err-first-clause-decides t c = ?
+
+pub read_node_item-returns-in-None-clause-decides : goal.read_node_item-returns-in-None-clause-decides
+read_node_item-returns-in-None-clause-decides t c = ?
+
+pub read_node_item-returns-in-None-clause-ends : goal.read_node_item-returns-in-None-clause-ends
+read_node_item-returns-in-None-clause-ends t c = ?
+
+pub read_node_item-returns-in_err-end-in-Some-clause-decides : goal.read_node_item-returns-in_err-end-in-Some-clause-decides
+read_node_item-returns-in_err-end-in-Some-clause-decides t c = ?
+
+pub read_node_item-returns-in_err-key-clause-decides : goal.read_node_item-returns-in_err-key-clause-decides
+read_node_item-returns-in_err-key-clause-decides t c = ?
+
+pub read_node_item-returns-in_err-key_colon-clause-decides : goal.read_node_item-returns-in_err-key_colon-clause-decides
+read_node_item-returns-in_err-key_colon-clause-decides t c = ?
+
+pub read_node_item-returns-in_ok-push-in-Some-clause-decides : goal.read_node_item-returns-in_ok-push-in-Some-clause-decides
+read_node_item-returns-in_ok-push-in-Some-clause-decides t c = ?
+
+pub read_node_item-returns-in_ok-push-in-Some-clause-reads : goal.read_node_item-returns-in_ok-push-in-Some-clause-reads
+read_node_item-returns-in_ok-push-in-Some-clause-reads t c = ?
+
+pub read_node_item-returns-then-key-room-clause-decides : goal.read_node_item-returns-then-key-room-clause-decides
+read_node_item-returns-then-key-room-clause-decides t c = ?
+
+pub read_node_item-returns-then-key-room-clause-reads : goal.read_node_item-returns-then-key-room-clause-reads
+read_node_item-returns-then-key-room-clause-reads t c = ?
+
+pub read_node_item-returns-then-room-eq0-clause-decides : goal.read_node_item-returns-then-room-eq0-clause-decides
+read_node_item-returns-then-room-eq0-clause-decides t c = ?
+
+pub read_pair-returns-in-None-clause-decides : goal.read_pair-returns-in-None-clause-decides
+read_pair-returns-in-None-clause-decides t c = ?
+
+pub read_pair-returns-in_err-end-in-Some-clause-decides : goal.read_pair-returns-in_err-end-in-Some-clause-decides
+read_pair-returns-in_err-end-in-Some-clause-decides t c = ?
+
+pub read_pair-returns-in_err-key-clause-decides : goal.read_pair-returns-in_err-key-clause-decides
+read_pair-returns-in_err-key-clause-decides t c = ?
+
+pub read_pair-returns-in_err-key_colon-clause-decides : goal.read_pair-returns-in_err-key_colon-clause-decides
+read_pair-returns-in_err-key_colon-clause-decides t c = ?
+
+pub read_pair-returns-in_ok-push-in-Some-clause-decides : goal.read_pair-returns-in_ok-push-in-Some-clause-decides
+read_pair-returns-in_ok-push-in-Some-clause-decides t c = ?
+
+pub read_pair-returns-in_ok-push-in-Some-clause-reads : goal.read_pair-returns-in_ok-push-in-Some-clause-reads
+read_pair-returns-in_ok-push-in-Some-clause-reads t c = ?
+
+pub read_sequence-returns-clause-decides : goal.read_sequence-returns-clause-decides
+read_sequence-returns-clause-decides t c = ?
+
+pub read_sequence-returns-in_err-end-clause-decides : goal.read_sequence-returns-in_err-end-clause-decides
+read_sequence-returns-in_err-end-clause-decides t c = ?
+
+pub read_sequence-returns-in_err-first-clause-decides : goal.read_sequence-returns-in_err-first-clause-decides
+read_sequence-returns-in_err-first-clause-decides t c = ?
+
+pub read_value-returns-clause-decides : goal.read_value-returns-clause-decides
+read_value-returns-clause-decides t c = ?
+
+pub read_value-returns-clause-ends : goal.read_value-returns-clause-ends
+read_value-returns-clause-ends t c = ?
+
+pub read_value-returns-in_err-start-clause-decides : goal.read_value-returns-in_err-start-clause-decides
+read_value-returns-in_err-start-clause-decides t c = ?
+
+pub read_value-returns-in_err-value-clause-decides : goal.read_value-returns-in_err-value-clause-decides
+read_value-returns-in_err-value-clause-decides t c = ?
+
+pub read_value-returns-then-ends_value-clause-decides : goal.read_value-returns-then-ends_value-clause-decides
+read_value-returns-then-ends_value-clause-decides t c = ?
+
+pub read_value-returns-then-ends_value-clause-ends : goal.read_value-returns-then-ends_value-clause-ends
+read_value-returns-then-ends_value-clause-ends t c = ?
+
+pub read_value-returns-then-not-is_parted-clause-decides : goal.read_value-returns-then-not-is_parted-clause-decides
+read_value-returns-then-not-is_parted-clause-decides t c = ?
+
+pub read_value-returns-then-not-is_parted-clause-ends : goal.read_value-returns-then-not-is_parted-clause-ends
+read_value-returns-then-not-is_parted-clause-ends t c = ?
