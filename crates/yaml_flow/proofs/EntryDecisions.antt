@@ -51,7 +51,7 @@ pub nb_colon : is_nb 58 ≡ true
 unfolding is_nb is_break
 nb_colon = refl
 
-nb_question : is_nb 63 ≡ true
+pub nb_question : is_nb 63 ≡ true
 unfolding is_nb is_break
 nb_question = refl
 

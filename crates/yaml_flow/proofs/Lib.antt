@@ -12,3 +12,4 @@ pub mod LoopDecisions
 pub mod PartDecisions
 pub mod ItemDecisions
 pub mod EntryDecisions
+pub mod FlowAnswers

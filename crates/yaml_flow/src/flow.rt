@@ -121,6 +121,7 @@ fn read_alias<'a>(
     ensures border { IfOk result (λ node. IsBorder source.now node.end) }
     ensures onward { IfOk result (λ node. at < node.end) }
     ensures within { IfOk result (λ node. node.deep ≡ 0) }
+    ensures kind { IfOk result (λ node. node.kind ≡ Yaml) }
     ensures reads { Appends (λ node. given (node.kind ≡ Yaml) (seen (λ x. alias x ∷ []) (tags.alias (text_of source.now)))) (place_of source.now at) (λ node. place_of source.now node.end) out.old.items out.new.items result }
     ensures decides { Decides (tags.alias (text_of source.now)) Here (place_of source.now at) Here (λ node. place_of source.now node.end) result }
 {
@@ -228,6 +229,7 @@ fn push_lone<'a>(source: &Chars<'a>, end: usize, out: &mut Vec<Event<'a>>) -> Re
     requires { IsBorder source.now end }
     ensures end { IfOk result (λ node. node.end ≡ end) }
     ensures within { IfOk result (λ node. node.deep ≡ 0) }
+    ensures kind { IfOk result (λ node. node.kind ≡ Yaml) }
     ensures reads { Appends (λ node. given (node.kind ≡ Yaml) (gives (empty no_props))) (place_of source.now end) (λ node. place_of source.now node.end) out.old.items out.new.items result }
     ensures memory { IfErr result (λ e. e ≡ OutOfMemory) }
 {
