@@ -32,7 +32,8 @@ pub if_some : {X : Type 0} (P : X → Type 0) (o : Option X) (x : X) → o ≡ S
 if_some P o x e p = let q : IfSome (Some x) P = subst (λ y. IfSome y P) e p in q
 
 pub if_none : {X : Type 0} (P : Type 0) (o : Option X) → o ≡ None → IfNone o P → P
-if_none {X} P o e p = let q : IfNone {X} None P = subst (λ y. IfNone y P) e p in q
+if_none P None e p = p
+if_none P (Some x) e p = let h : Some x ≡ None = e in cc
 
 module _ (cs : List ℕ) (handles : Handles) (room n : ℕ) (c : Ctx) (i : ℕ) (end : Node → ℕ) (found : Option Node) where
   pub content_some : (node : Node) → found ≡ Some node → DecidesContent cs handles room n c i end (Ok found) → ContentOnly cs handles room n c i node.kind (end node)

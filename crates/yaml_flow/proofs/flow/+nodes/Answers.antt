@@ -9,12 +9,12 @@ use Rattle.yaml_text.specs.grammar.Tags as tags
 use Rattle.yaml_text.specs.grammar.Rules.{any, ◌◂◌, given, gives, seen}
 use Rattle.yaml_text.proofs.Tests.{on_true_at, on_false_at}
 use Rattle.yaml_text.proofs.LineRuns.{indent_run}
-use Rattle.yaml_flow.specs.FlowRules.{opens, below, SignAt, AskedAt, spaced, comma, from_room, item_at, entry_at, keyed_at, asked_at, value_at, parts, content_from, Bare, aliased, plainly, marked, lone}
+use Rattle.yaml_flow.specs.FlowRules.{opens, below, IsSign, SignAt, AskedAt, spaced, comma, from_room, item_at, entry_at, keyed_at, asked_at, value_at, parts, content_from, Bare, aliased, plainly, marked, lone}
 use Rattle.yaml_mark.specs.HandlesModel.{handles_of}
 use Rattle.yaml_flow.specs.PropertyRules.{props_of, dressed}
 use Rattle.yaml_flow.specs.declared.flow.Kind.TheVariants.{Yaml, Json}
 use Rattle.yaml_flow.proofs.PropertyLemmas.{own_marks}
-use Rattle.yaml_flow.proofs.AnswerLemmas.{adds_one, adds_on, adds_before, appends_by, appends_after, appends_same, perhaps_some, perhaps_none}
+use Rattle.yaml_flow.proofs.AnswerLemmas.{adds_one, adds_on, adds_before, adds_back, appends_by, appends_after, appends_same, perhaps_some, perhaps_none}
 use Rattle.yaml_flow.proofs.FlowLemmas.{no_parts, one_part, parts_end, part_end, sequence_is, mapping_is, pair_item, no_value, key_entry, lone_entry, value_is, bare_flow, empty_entry, asked_keyed, asked_nothing, keyed_entry, asked_entry, asked_pair, empty_pair}
 use Rattle.yaml_text.specs.grammar.Separation.{flow_in}
 use Rattle.yaml_flow.proofs.LoopDecisions.{all_left, left_closed, left_refused, left_no_way, left_last, left_unclosed, left_more, left_no_more, to_in, none_in, item_begins, entry_begins, bracket_shut, bracket_other, brace_shut, brace_other, sequence_nowhere, sequence_goes, sequence_refused, mapping_nowhere, mapping_goes, mapping_refused}
@@ -22,6 +22,10 @@ use Rattle.yaml_text.specs.declared.fault.Fault.TheVariants.{OutOfMemory}
 use Rattle.yaml_text.specs.grammar.Nodes.{flow_seq, flow_map, pair}
 use Rattle.yaml_complete.specs.Decisions.{Here}
 use Rattle.yaml_complete.specs.FlowEnds.{InFlow}
+use Rattle.yaml_text.specs.Place.{Steps}
+use Rattle.yaml_text.specs.Source.{bytes_of}
+use Rattle.yaml_text.specs.EventModel.{Adds}
+use Rattle.yaml_flow.specs.Keys.{Spaced, IsKeySized}
 use Rattle.yaml_flow.specs.FlowDecisions.{NoKey, LongKey}
 use Rattle.yaml_flow.proofs.PropertyLemmas.{marks_props}
 use Rattle.yaml_flow.proofs.PropertyDecisions.{or_else}
@@ -929,7 +933,17 @@ read_node_item-returns-in-None-clause-ends t c =
     inl (node_inside cs h c.in_ok-key.key.deep n x c.in_ok-key.key.kind _ _ c.in_ok-key.ensures.reads.0 (c.in_ok-key.ensures.reads.2 c.in_ok-key.key.deep (omega arith)))
 
 pub read_node_item-returns-in_err-end-in-Some-clause-decides : goal.read_node_item-returns-in_err-end-in-Some-clause-decides
-read_node_item-returns-in_err-end-in-Some-clause-decides t c = ?
+read_node_item-returns-in_err-end-in-Some-clause-decides t c =
+    let cs = text_of c.args.source.now in
+    let h = handles_of c.args.handles in
+    let n = c.args.least in
+    let x = context_of c.args.context in
+    let s = c.args.source.now in
+    let q = place_of s c.in-Some.colon in
+    let apart = if_some (λ r. Spaced cs (place_of s c.in_ok-key.key.end) (place_of s r.0)) c.in_ok-key_colon.field-0 (c.in-Some.colon, c.in-Some.after) c.in-Some.is c.in_ok-key_colon.ensures.spaced in
+    let colon = if_some (λ r. Steps (bytes_of s) r.0 58 r.1) c.in_ok-key_colon.field-0 (c.in-Some.colon, c.in-Some.after) c.in-Some.is c.in_ok-key_colon.ensures.colon in
+    let sign = if_some (λ r. IsSign c.in_ok-key.key.kind x cs (place_of s r.1)) c.in_ok-key_colon.field-0 (c.in-Some.colon, c.in-Some.after) c.in-Some.is c.in_ok-key_colon.ensures.sign in
+    λ e. decides_err (item_at cs (Unit {0}) h c.args.room n flow_in) (InFlow cs n) (place_of s c.args.at) (InFlow cs n) (λ r. place_of s r.0) c.from_residual-in_err-end-in-Some.result c.in_err-end-in-Some.field-0.0 c.from_residual-in_err-end-in-Some.ensures.1 (or_else (λ f. item_no_pair cs h n c.args.room (place_of s c.args.at) (subst (λ y. SignAt Yaml y cs (place_of s c.args.at) → ⊥) e c.requires.no_colon) (no_mark cs (place_of s c.args.at) (subst (λ y. AskedAt y cs (place_of s c.args.at) → ⊥) e c.requires.no_mark)) c.in_ok-key.key.kind (place_of s c.in_ok-key.key.end) (only_in cs h c.args.room n x c.in_ok-key.key.kind _ _ e (c.in_ok-key.ensures.decides e)) q apart (sign_in cs c.in_ok-key.key.kind x q (place_of s c.in-Some.after) e colon.is colon.next sign) (own_refused cs h n c.args.room (c.args.room - 1) (omega arith) (place_of s c.args.at) (subst (λ y. SignAt Yaml y cs (place_of s c.args.at) → ⊥) e c.requires.no_colon) (no_mark cs (place_of s c.args.at) (subst (λ y. AskedAt y cs (place_of s c.args.at) → ⊥) e c.requires.no_mark)) c.in_ok-key.key.kind (place_of s c.in_ok-key.key.end) q (only_in cs h c.args.room n x c.in_ok-key.key.kind _ _ e (c.in_ok-key.ensures.decides e)) apart f)) (c.in_err-end-in-Some.ensures.decides e))
 
 pub read_node_item-returns-in_err-key-clause-decides : goal.read_node_item-returns-in_err-key-clause-decides
 read_node_item-returns-in_err-key-clause-decides t c =
@@ -950,37 +964,160 @@ read_node_item-returns-in_err-key_colon-clause-decides t c =
     λ e. decides_err (item_at cs (Unit {0}) h c.args.room n flow_in) (InFlow cs n) (place_of s c.args.at) (InFlow cs n) (λ r. place_of s r.0) c.from_residual-in_err-key_colon.result c.in_err-key_colon.field-0.0 c.from_residual-in_err-key_colon.ensures.1 (inr (item_long cs h n c.args.room (place_of s c.args.at) (subst (λ y. SignAt Yaml y cs (place_of s c.args.at) → ⊥) e c.requires.no_colon) (no_mark cs (place_of s c.args.at) (subst (λ y. AskedAt y cs (place_of s c.args.at) → ⊥) e c.requires.no_mark)) c.in_ok-key.key.kind (place_of s c.in_ok-key.key.end) (only_in cs h c.args.room n x c.in_ok-key.key.kind _ _ e (c.in_ok-key.ensures.decides e)) (subst (λ y. LongKey cs c.in_ok-key.key.kind y (place_of s c.args.at) (place_of s c.in_ok-key.key.end)) e c.in_err-key_colon.ensures.long)))
 
 pub read_node_item-returns-in_ok-push-in-Some-clause-decides : goal.read_node_item-returns-in_ok-push-in-Some-clause-decides
-read_node_item-returns-in_ok-push-in-Some-clause-decides t c = ?
+read_node_item-returns-in_ok-push-in-Some-clause-decides t c =
+    let cs = text_of c.args.source.now in
+    let h = handles_of c.args.handles in
+    let n = c.args.least in
+    let x = context_of c.args.context in
+    let s = c.args.source.now in
+    let q = place_of s c.in-Some.colon in
+    let apart = if_some (λ r. Spaced cs (place_of s c.in_ok-key.key.end) (place_of s r.0)) c.in_ok-key_colon.field-0 (c.in-Some.colon, c.in-Some.after) c.in-Some.is c.in_ok-key_colon.ensures.spaced in
+    let colon = if_some (λ r. Steps (bytes_of s) r.0 58 r.1) c.in_ok-key_colon.field-0 (c.in-Some.colon, c.in-Some.after) c.in-Some.is c.in_ok-key_colon.ensures.colon in
+    let sign = if_some (λ r. IsSign c.in_ok-key.key.kind x cs (place_of s r.1)) c.in_ok-key_colon.field-0 (c.in-Some.colon, c.in-Some.after) c.in-Some.is c.in_ok-key_colon.ensures.sign in
+    λ e. item_of_pair cs h n c.args.room (place_of s c.args.at) (subst (λ y. SignAt Yaml y cs (place_of s c.args.at) → ⊥) e c.requires.no_colon) (no_mark cs (place_of s c.args.at) (subst (λ y. AskedAt y cs (place_of s c.args.at) → ⊥) e c.requires.no_mark)) c.in_ok-key.key.kind (place_of s c.in_ok-key.key.end) (only_in cs h c.args.room n x c.in_ok-key.key.kind _ _ e (c.in_ok-key.ensures.decides e)) q apart (sign_in cs c.in_ok-key.key.kind x q (place_of s c.in-Some.after) e colon.is colon.next sign) (place_of s c.in_ok-end-in-Some.end) (own_goes cs h n c.args.room (c.args.room - 1) (omega arith) (place_of s c.args.at) (subst (λ y. SignAt Yaml y cs (place_of s c.args.at) → ⊥) e c.requires.no_colon) (no_mark cs (place_of s c.args.at) (subst (λ y. AskedAt y cs (place_of s c.args.at) → ⊥) e c.requires.no_mark)) c.in_ok-key.key.kind (place_of s c.in_ok-key.key.end) q (place_of s c.in_ok-end-in-Some.end) (only_in cs h c.args.room n x c.in_ok-key.key.kind _ _ e (c.in_ok-key.ensures.decides e)) apart (c.in_ok-end-in-Some.ensures.decides e))
 
 pub read_node_item-returns-in_ok-push-in-Some-clause-reads : goal.read_node_item-returns-in_ok-push-in-Some-clause-reads
-read_node_item-returns-in_ok-push-in-Some-clause-reads t c = ?
+read_node_item-returns-in_ok-push-in-Some-clause-reads t c =
+    let cs = text_of c.args.source.now in
+    let h = handles_of c.args.handles in
+    let n = c.args.least in
+    let x = context_of c.args.context in
+    let s = c.args.source.now in
+    let q = place_of s c.in-Some.colon in
+    let apart = if_some (λ r. Spaced cs (place_of s c.in_ok-key.key.end) (place_of s r.0)) c.in_ok-key_colon.field-0 (c.in-Some.colon, c.in-Some.after) c.in-Some.is c.in_ok-key_colon.ensures.spaced in
+    let colon = if_some (λ r. Steps (bytes_of s) r.0 58 r.1) c.in_ok-key_colon.field-0 (c.in-Some.colon, c.in-Some.after) c.in-Some.is c.in_ok-key_colon.ensures.colon in
+    let sign = if_some (λ r. IsSign c.in_ok-key.key.kind x cs (place_of s r.1)) c.in_ok-key_colon.field-0 (c.in-Some.colon, c.in-Some.after) c.in-Some.is c.in_ok-key_colon.ensures.sign in
+    let fits = if_some (λ r. IsKeySized cs (place_of s c.args.at) (place_of s r.0)) c.in_ok-key_colon.field-0 (c.in-Some.colon, c.in-Some.after) c.in-Some.is c.in_ok-key_colon.ensures.fits in
+    let k = c.in_ok-key.ensures.reads in
+    let v = c.in_ok-end-in-Some.ensures.reads in
+    let length_is : c.len-start.result ≡ length c.args.out.now.items = omega (arith, c.len-start.ensures, c.args.out.now.ok.0) in
+    let start : c.insert.new.self.items ≡ insert c.read_flow_node.new.out.items (length c.args.out.now.items) c.flow_mapping.result = c.in_ok-insert-in-Some.ensures.items ∙ ap (λ n. insert c.read_flow_node.new.out.items n c.flow_mapping.result) length_is in (
+      mapping_start true None untagged ∷ ((k.0 ++ v.0) ++ (mapping_end ∷ [])),
+      adds_on c.args.out.now.items c.read_value.new.out.items _ (mapping_start true None untagged ∷ (k.0 ++ v.0)) (mapping_end ∷ [])
+          (adds_on c.args.out.now.items c.insert.new.self.items _ (mapping_start true None untagged ∷ k.0) v.0
+          (adds_before c.args.out.now.items c.read_flow_node.new.out.items c.insert.new.self.items k.0 c.flow_mapping.result (mapping_start true None untagged) c.flow_mapping.ensures k.1 start) v.1)
+          (adds_one _ _ _ _ refl c.in_ok-push-in-Some.ensures.items),
+      from_same (c.max.result + 1) (max c.in_ok-key.key.deep c.in_ok-end-in-Some.deep + 1) (λ room. item_at cs (Unit {0}) h room n x) _ _ _ (ap (λ x. x + 1) c.max.ensures)
+          (pair_item cs (Unit {0}) h c.in_ok-key.key.deep c.in_ok-end-in-Some.deep c.in_ok-key.key.kind n x _ _ _ _ _ k.0 v.0 c.requires.inner k.2
+          (_, apart.0, (colon.is, colon.next), fits) (colon.is, colon.next) v.2),
+    )
 
 pub read_node_item-returns-then-key-room-clause-decides : goal.read_node_item-returns-then-key-room-clause-decides
-read_node_item-returns-then-key-room-clause-decides t c = ?
+read_node_item-returns-then-key-room-clause-decides t c =
+    let cs = text_of c.args.source.now in
+    let h = handles_of c.args.handles in
+    let n = c.args.least in
+    let x = context_of c.args.context in
+    let s = c.args.source.now in
+    let q = place_of s c.in-Some.colon in
+    let apart = if_some (λ r. Spaced cs (place_of s c.in_ok-key.key.end) (place_of s r.0)) c.in_ok-key_colon.field-0 (c.in-Some.colon, c.in-Some.after) c.in-Some.is c.in_ok-key_colon.ensures.spaced in
+    let colon = if_some (λ r. Steps (bytes_of s) r.0 58 r.1) c.in_ok-key_colon.field-0 (c.in-Some.colon, c.in-Some.after) c.in-Some.is c.in_ok-key_colon.ensures.colon in
+    let sign = if_some (λ r. IsSign c.in_ok-key.key.kind x cs (place_of s r.1)) c.in_ok-key_colon.field-0 (c.in-Some.colon, c.in-Some.after) c.in-Some.is c.in_ok-key_colon.ensures.sign in
+    λ e. decides_by (PairAt cs h n c.args.room) (InFlow cs n) (place_of s c.args.at) (InFlow cs n) (item_at cs (Unit {0}) h c.args.room n flow_in) (InFlow cs n) (place_of s c.args.at) (InFlow cs n) (λ r. place_of s r.0) c.read_pair.result
+    (item_of_pair cs h n c.args.room (place_of s c.args.at) (subst (λ y. SignAt Yaml y cs (place_of s c.args.at) → ⊥) e c.requires.no_colon) (no_mark cs (place_of s c.args.at) (subst (λ y. AskedAt y cs (place_of s c.args.at) → ⊥) e c.requires.no_mark)) c.in_ok-key.key.kind (place_of s c.in_ok-key.key.end) (only_in cs h c.args.room n x c.in_ok-key.key.kind _ _ e (c.in_ok-key.ensures.decides e)) q apart (sign_in cs c.in_ok-key.key.kind x q (place_of s c.in-Some.after) e colon.is colon.next sign)) (item_no_pair cs h n c.args.room (place_of s c.args.at) (subst (λ y. SignAt Yaml y cs (place_of s c.args.at) → ⊥) e c.requires.no_colon) (no_mark cs (place_of s c.args.at) (subst (λ y. AskedAt y cs (place_of s c.args.at) → ⊥) e c.requires.no_mark)) c.in_ok-key.key.kind (place_of s c.in_ok-key.key.end) (only_in cs h c.args.room n x c.in_ok-key.key.kind _ _ e (c.in_ok-key.ensures.decides e)) q apart (sign_in cs c.in_ok-key.key.kind x q (place_of s c.in-Some.after) e colon.is colon.next sign)) (c.read_pair.ensures.decides e)
 
 pub read_node_item-returns-then-key-room-clause-reads : goal.read_node_item-returns-then-key-room-clause-reads
-read_node_item-returns-then-key-room-clause-reads t c = ?
+read_node_item-returns-then-key-room-clause-reads t c =
+    let cs = text_of c.args.source.now in
+    let h = handles_of c.args.handles in
+    let n = c.args.least in
+    let x = context_of c.args.context in
+    let s = c.args.source.now in
+    let k = c.in_ok-key.ensures.reads in
+    let length_is : c.len-start.result ≡ length c.args.out.now.items = omega (arith, c.len-start.ensures, c.args.out.now.ok.0) in
+    let cut : Adds c.args.out.now.items [] c.truncate.new.self.items = subst (Adds c.args.out.now.items []) (sym c.truncate.ensures.items) (adds_back c.args.out.now.items c.read_flow_node.new.out.items c.len-start.result k.0 length_is k.1) in
+    appends_after (λ r. from_room r.1 (λ room. item_at cs (Unit {0}) h room n x)) (λ r. from_room r.1 (λ room. item_at cs (Unit {0}) h room n x))
+    (place_of s c.args.at) (place_of s c.args.at) (λ r. place_of s r.0) c.args.out.now.items c.truncate.new.self.items c.read_pair.new.out.items c.read_pair.result [] cut (λ r vs p. p) c.read_pair.ensures.reads
 
 pub read_node_item-returns-then-room-eq0-clause-decides : goal.read_node_item-returns-then-room-eq0-clause-decides
-read_node_item-returns-then-room-eq0-clause-decides t c = let k = c.in-Some in ?
+read_node_item-returns-then-room-eq0-clause-decides t c =
+    let cs = text_of c.args.source.now in
+    let h = handles_of c.args.handles in
+    let n = c.args.least in
+    let x = context_of c.args.context in
+    let s = c.args.source.now in
+    let q = place_of s c.in-Some.colon in
+    let apart = if_some (λ r. Spaced cs (place_of s c.in_ok-key.key.end) (place_of s r.0)) c.in_ok-key_colon.field-0 (c.in-Some.colon, c.in-Some.after) c.in-Some.is c.in_ok-key_colon.ensures.spaced in
+    let colon = if_some (λ r. Steps (bytes_of s) r.0 58 r.1) c.in_ok-key_colon.field-0 (c.in-Some.colon, c.in-Some.after) c.in-Some.is c.in_ok-key_colon.ensures.colon in
+    let sign = if_some (λ r. IsSign c.in_ok-key.key.kind x cs (place_of s r.1)) c.in_ok-key_colon.field-0 (c.in-Some.colon, c.in-Some.after) c.in-Some.is c.in_ok-key_colon.ensures.sign in
+    λ e. inr (item_full cs h n c.args.room (place_of s c.args.at) (subst (λ y. SignAt Yaml y cs (place_of s c.args.at) → ⊥) e c.requires.no_colon) (no_mark cs (place_of s c.args.at) (subst (λ y. AskedAt y cs (place_of s c.args.at) → ⊥) e c.requires.no_mark)) c.in_ok-key.key.kind (place_of s c.in_ok-key.key.end) (only_in cs h c.args.room n x c.in_ok-key.key.kind _ _ e (c.in_ok-key.ensures.decides e)) q apart (sign_in cs c.in_ok-key.key.kind x q (place_of s c.in-Some.after) e colon.is colon.next sign) c.if-room-eq0.true)
 
 pub read_pair-returns-in-None-clause-decides : goal.read_pair-returns-in-None-clause-decides
-read_pair-returns-in-None-clause-decides t c = ?
+read_pair-returns-in-None-clause-decides t c =
+    let cs = text_of c.args.source.now in
+    let h = handles_of c.args.handles in
+    let n = c.args.least in
+    let x = context_of c.args.context in
+    let s = c.args.source.now in
+    λ e. inr (pair_lone cs h n c.args.room (c.args.room - 1) (omega arith) (place_of s c.args.at) (subst (λ y. SignAt Yaml y cs (place_of s c.args.at) → ⊥) e c.requires.no_colon) (no_mark cs (place_of s c.args.at) (subst (λ y. AskedAt y cs (place_of s c.args.at) → ⊥) e c.requires.no_mark)) c.in_ok-key.key.kind (place_of s c.in_ok-key.key.end) (only_in cs h (c.args.room - 1) n x c.in_ok-key.key.kind _ _ e (c.in_ok-key.ensures.decides e)) (subst (λ y. NoKey cs c.in_ok-key.key.kind y (place_of s c.args.at) (place_of s c.in_ok-key.key.end)) e (if_none _ c.in_ok-key_colon.field-0 c.in-None.is c.in_ok-key_colon.ensures.none)))
 
 pub read_pair-returns-in_err-end-in-Some-clause-decides : goal.read_pair-returns-in_err-end-in-Some-clause-decides
-read_pair-returns-in_err-end-in-Some-clause-decides t c = ?
+read_pair-returns-in_err-end-in-Some-clause-decides t c =
+    let cs = text_of c.args.source.now in
+    let h = handles_of c.args.handles in
+    let n = c.args.least in
+    let x = context_of c.args.context in
+    let s = c.args.source.now in
+    let q = place_of s c.in-Some.colon in
+    let apart = if_some (λ r. Spaced cs (place_of s c.in_ok-key.key.end) (place_of s r.0)) c.in_ok-key_colon.field-0 (c.in-Some.colon, c.in-Some.after) c.in-Some.is c.in_ok-key_colon.ensures.spaced in
+    let colon = if_some (λ r. Steps (bytes_of s) r.0 58 r.1) c.in_ok-key_colon.field-0 (c.in-Some.colon, c.in-Some.after) c.in-Some.is c.in_ok-key_colon.ensures.colon in
+    let sign = if_some (λ r. IsSign c.in_ok-key.key.kind x cs (place_of s r.1)) c.in_ok-key_colon.field-0 (c.in-Some.colon, c.in-Some.after) c.in-Some.is c.in_ok-key_colon.ensures.sign in
+    λ e. decides_err (PairAt cs h n c.args.room) (InFlow cs n) (place_of s c.args.at) (InFlow cs n) (λ r. place_of s r.0) c.from_residual-in_err-end-in-Some.result c.in_err-end-in-Some.field-0.0 c.from_residual-in_err-end-in-Some.ensures.1 (or_else (pair_refused cs h n c.args.room (c.args.room - 1) (omega arith) (place_of s c.args.at) (subst (λ y. SignAt Yaml y cs (place_of s c.args.at) → ⊥) e c.requires.no_colon) (no_mark cs (place_of s c.args.at) (subst (λ y. AskedAt y cs (place_of s c.args.at) → ⊥) e c.requires.no_mark)) c.in_ok-key.key.kind (place_of s c.in_ok-key.key.end) (only_in cs h (c.args.room - 1) n x c.in_ok-key.key.kind _ _ e (c.in_ok-key.ensures.decides e)) q apart) (c.in_err-end-in-Some.ensures.decides e))
 
 pub read_pair-returns-in_err-key-clause-decides : goal.read_pair-returns-in_err-key-clause-decides
-read_pair-returns-in_err-key-clause-decides t c = ?
+read_pair-returns-in_err-key-clause-decides t c =
+    let cs = text_of c.args.source.now in
+    let h = handles_of c.args.handles in
+    let n = c.args.least in
+    let x = context_of c.args.context in
+    let s = c.args.source.now in
+    λ e. decides_err (PairAt cs h n c.args.room) (InFlow cs n) (place_of s c.args.at) (InFlow cs n) (λ r. place_of s r.0) c.from_residual-in_err-key.result c.in_err-key.field-0.0 c.from_residual-in_err-key.ensures.1 (or_else (λ f. pair_nothing cs h n c.args.room (c.args.room - 1) (omega arith) (place_of s c.args.at) (subst (λ y. SignAt Yaml y cs (place_of s c.args.at) → ⊥) e c.requires.no_colon) (no_mark cs (place_of s c.args.at) (subst (λ y. AskedAt y cs (place_of s c.args.at) → ⊥) e c.requires.no_mark)) (refused_in cs h (c.args.room - 1) n x _ e f)) (c.in_err-key.ensures.decides e))
 
 pub read_pair-returns-in_err-key_colon-clause-decides : goal.read_pair-returns-in_err-key_colon-clause-decides
-read_pair-returns-in_err-key_colon-clause-decides t c = ?
+read_pair-returns-in_err-key_colon-clause-decides t c =
+    let cs = text_of c.args.source.now in
+    let h = handles_of c.args.handles in
+    let n = c.args.least in
+    let x = context_of c.args.context in
+    let s = c.args.source.now in
+    λ e. decides_err (PairAt cs h n c.args.room) (InFlow cs n) (place_of s c.args.at) (InFlow cs n) (λ r. place_of s r.0) c.from_residual-in_err-key_colon.result c.in_err-key_colon.field-0.0 c.from_residual-in_err-key_colon.ensures.1 (inr (pair_long cs h n c.args.room (c.args.room - 1) (omega arith) (place_of s c.args.at) (subst (λ y. SignAt Yaml y cs (place_of s c.args.at) → ⊥) e c.requires.no_colon) (no_mark cs (place_of s c.args.at) (subst (λ y. AskedAt y cs (place_of s c.args.at) → ⊥) e c.requires.no_mark)) c.in_ok-key.key.kind (place_of s c.in_ok-key.key.end) (only_in cs h (c.args.room - 1) n x c.in_ok-key.key.kind _ _ e (c.in_ok-key.ensures.decides e)) (subst (λ y. LongKey cs c.in_ok-key.key.kind y (place_of s c.args.at) (place_of s c.in_ok-key.key.end)) e c.in_err-key_colon.ensures.long)))
 
 pub read_pair-returns-in_ok-push-in-Some-clause-decides : goal.read_pair-returns-in_ok-push-in-Some-clause-decides
-read_pair-returns-in_ok-push-in-Some-clause-decides t c = ?
+read_pair-returns-in_ok-push-in-Some-clause-decides t c =
+    let cs = text_of c.args.source.now in
+    let h = handles_of c.args.handles in
+    let n = c.args.least in
+    let x = context_of c.args.context in
+    let s = c.args.source.now in
+    let q = place_of s c.in-Some.colon in
+    let apart = if_some (λ r. Spaced cs (place_of s c.in_ok-key.key.end) (place_of s r.0)) c.in_ok-key_colon.field-0 (c.in-Some.colon, c.in-Some.after) c.in-Some.is c.in_ok-key_colon.ensures.spaced in
+    let colon = if_some (λ r. Steps (bytes_of s) r.0 58 r.1) c.in_ok-key_colon.field-0 (c.in-Some.colon, c.in-Some.after) c.in-Some.is c.in_ok-key_colon.ensures.colon in
+    let sign = if_some (λ r. IsSign c.in_ok-key.key.kind x cs (place_of s r.1)) c.in_ok-key_colon.field-0 (c.in-Some.colon, c.in-Some.after) c.in-Some.is c.in_ok-key_colon.ensures.sign in
+    λ e. pair_goes cs h n c.args.room (c.args.room - 1) (omega arith) (place_of s c.args.at) (subst (λ y. SignAt Yaml y cs (place_of s c.args.at) → ⊥) e c.requires.no_colon) (no_mark cs (place_of s c.args.at) (subst (λ y. AskedAt y cs (place_of s c.args.at) → ⊥) e c.requires.no_mark)) c.in_ok-key.key.kind (place_of s c.in_ok-key.key.end) (only_in cs h (c.args.room - 1) n x c.in_ok-key.key.kind _ _ e (c.in_ok-key.ensures.decides e)) q (place_of s c.in_ok-end-in-Some.end) apart (c.in_ok-end-in-Some.ensures.decides e)
 
 pub read_pair-returns-in_ok-push-in-Some-clause-reads : goal.read_pair-returns-in_ok-push-in-Some-clause-reads
-read_pair-returns-in_ok-push-in-Some-clause-reads t c = ?
+read_pair-returns-in_ok-push-in-Some-clause-reads t c =
+    let cs = text_of c.args.source.now in
+    let h = handles_of c.args.handles in
+    let n = c.args.least in
+    let x = context_of c.args.context in
+    let s = c.args.source.now in
+    let q = place_of s c.in-Some.colon in
+    let apart = if_some (λ r. Spaced cs (place_of s c.in_ok-key.key.end) (place_of s r.0)) c.in_ok-key_colon.field-0 (c.in-Some.colon, c.in-Some.after) c.in-Some.is c.in_ok-key_colon.ensures.spaced in
+    let colon = if_some (λ r. Steps (bytes_of s) r.0 58 r.1) c.in_ok-key_colon.field-0 (c.in-Some.colon, c.in-Some.after) c.in-Some.is c.in_ok-key_colon.ensures.colon in
+    let sign = if_some (λ r. IsSign c.in_ok-key.key.kind x cs (place_of s r.1)) c.in_ok-key_colon.field-0 (c.in-Some.colon, c.in-Some.after) c.in-Some.is c.in_ok-key_colon.ensures.sign in
+    let fits = if_some (λ r. IsKeySized cs (place_of s c.args.at) (place_of s r.0)) c.in_ok-key_colon.field-0 (c.in-Some.colon, c.in-Some.after) c.in-Some.is c.in_ok-key_colon.ensures.fits in
+    let k = c.in_ok-key.ensures.reads in
+    let v = c.in_ok-end-in-Some.ensures.reads in (
+      mapping_start true None untagged ∷ ((k.0 ++ v.0) ++ (mapping_end ∷ [])),
+      adds_on c.args.out.now.items c.read_value.new.out.items _ (mapping_start true None untagged ∷ (k.0 ++ v.0)) (mapping_end ∷ [])
+          (adds_on c.args.out.now.items c.read_flow_node.new.out.items _ (mapping_start true None untagged ∷ k.0) v.0
+          (adds_on c.args.out.now.items c.push.new.self.items _ (mapping_start true None untagged ∷ []) k.0 (adds_one _ _ _ _ c.flow_mapping.ensures c.in_ok-push.ensures.items) k.1) v.1)
+          (adds_one _ _ _ _ refl c.in_ok-push-in-Some.ensures.items),
+      from_same (c.max.result + 1) (max c.in_ok-key.key.deep c.in_ok-end-in-Some.deep + 1) (λ room. item_at cs (Unit {0}) h room n x) _ _ _ (ap (λ x. x + 1) c.max.ensures)
+          (pair_item cs (Unit {0}) h c.in_ok-key.key.deep c.in_ok-end-in-Some.deep c.in_ok-key.key.kind n x _ _ _ _ _ k.0 v.0 c.requires.inner k.2
+          (_, apart.0, (colon.is, colon.next), fits) (colon.is, colon.next) v.2),
+    )
 
 pub read_sequence-returns-clause-decides : goal.read_sequence-returns-clause-decides
 read_sequence-returns-clause-decides t c =

@@ -1,8 +1,3 @@
-use Rattle.yaml_flow.proofs.EntryDecisions as temporary5
-use Rattle.yaml_flow.proofs.ItemDecisions as temporary4
-use Rattle.yaml_flow.proofs.PartDecisions as temporary3
-use Rattle.yaml_flow.proofs.LoopDecisions as temporary2
-use Rattle.yaml_flow.proofs.BareDecisions as temporary
 use Rattle.std.proofs.Common.{refl, sym, ap, [], ◌∷◌}
 use Rattle.std.specs.Str.{chars}
 use Rattle.std.specs.Cow.{cow_str_bytes}
