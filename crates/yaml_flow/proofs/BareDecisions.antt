@@ -1,5 +1,5 @@
 -- A flow node with its properties or without any: it decides what its content decides.
-use Rattle.std.proofs.Common.{◌≡◌, ◌≢◌, ℕ, zero, suc, ◌⊎◌, inl, inr, List, [], ◌∷◌, Result, Ok, Err, Some, refl, sym, ◌∙◌, ap, subst, arith, ◌<◌}
+use Rattle.std.proofs.Common.{◌≡◌, ◌≢◌, ℕ, zero, suc, ◌⊎◌, inl, inr, List, [], ◌∷◌, Result, Err, Some, refl, sym, ◌∙◌, ap, subst, arith, ◌<◌}
 use Rattle.std.specs.Prelude.{slice_get}
 use Rattle.std.specs.Result.{IsErrAnd}
 use Rattle.std.proofs.Math.Nat.{eq-or-lt_of_le}
@@ -8,8 +8,7 @@ use Rattle.yaml_text.specs.Event.{Event}
 use Rattle.yaml_text.specs.Lines.{Inside}
 use Rattle.yaml_text.specs.declared.fault.Fault.{Fault}
 use Rattle.yaml_text.specs.declared.fault.Fault.TheVariants.{OutOfMemory}
-use Rattle.yaml_text.specs.grammar.Rules.{Rule, ◌▸◌, ◌∪◌, gives, maybe, with_value, run, Spans}
-use Rattle.yaml_text.specs.grammar.Characters.{is_space}
+use Rattle.yaml_text.specs.grammar.Rules.{Rule, ◌▸◌, ◌∪◌, gives, maybe, with_value}
 use Rattle.yaml_text.specs.grammar.Separation.{Ctx, block_out, block_in, flow_out, flow_in, block_key, flow_key, separate, s_l_comments}
 use Rattle.yaml_text.specs.grammar.Tags.{Handles, properties}
 use Rattle.yaml_text.specs.grammar.Tags as tags
@@ -24,7 +23,7 @@ use Rattle.yaml_unique.proofs.FlowNodes.{Kind, Sign, kind_three, kind_same, plai
 use Rattle.yaml_unique.proofs.FlowEntries.{Facts, closes_solid, colon_solid, colon_part}
 use Rattle.yaml_unique.proofs.FlowLevels.{inner_in, inner_out, no_facts, reads_facts, jsons_unique, plain_flow_unique, next_flow, content_flow, end_solid}
 use Rattle.yaml_unique.proofs.PlainEnds.{plain_block_unique}
-use Rattle.yaml_unique.proofs.BlockNodes.{next_here, content_here, rest_no}
+use Rattle.yaml_unique.proofs.BlockNodes.{next_here, content_here}
 use Rattle.yaml_complete.specs.Decisions.{Refused, Goes, Rest, Here}
 use Rattle.yaml_complete.specs.FlowEnds.{EndsYaml, EndsJson}
 use Rattle.yaml_complete.proofs.Decisions.{rest_goes, rest_refused, rest_rest, rest_right, rest_seen, refused_either}
@@ -32,7 +31,7 @@ use Rattle.yaml_complete.proofs.FlowStarts.{plain_left, alias_left, no_json, yam
 use Rattle.yaml_complete.proofs.PropertyChoices.{Second, rest_propped, plain_after, json_after, goes_gives, refused_gives}
 use Rattle.yaml_complete.proofs.Separations.{rest_separate, refused_separate, lines_of}
 use Rattle.yaml_complete.proofs.FlowLoops.{closes_fresh}
-use Rattle.yaml_flow.specs.Decisions.{IsProperty, IsSingle, AllProperties, Barred, Stops, another, nothing, EndOf, LineGoesOn, IsTaken, IsRefused, IsOnly, DecidesNode}
+use Rattle.yaml_flow.specs.Decisions.{IsProperty, IsSingle, AllProperties, Barred, Stops, another, nothing, EndOf, LineGoesOn, IsRefused, IsOnly, DecidesNode}
 use Rattle.yaml_flow.specs.FlowDecisions.{IsOpening, ContentOnly, ContentRefused}
 use Rattle.yaml_flow.specs.FlowRules.{opens, below, content_at, content_from}
 use Rattle.yaml_flow.specs.declared.flow.Kind as kinds
@@ -322,8 +321,10 @@ module _ (cs : List ℕ) (handles : Handles) (room n : ℕ) where
 
   -- a property begins here, but no properties that a node goes on after
   barred_in : (i : ℕ) → Barred cs handles n flow_in i → IsRefused cs handles room n flow_in i Yaml × IsRefused cs handles room n flow_in i Json
-  barred_in i (h, f) = ((λ d. rest_refused (yaml_level cs handles room n flow_in (EndOf cs Yaml n flow_in d) i) (rest_refused (yaml_propped cs Wide handles Open Inner n flow_in (EndOf cs Yaml n flow_in d) i (prop_kind cs handles i h)) (record { none = yaml d }))),
-      λ d. rest_refused (json_level cs handles room n flow_in (EndOf cs Json n flow_in d) i) (rest_refused (json_propped cs Wide handles Open Inner n flow_in (EndOf cs Json n flow_in d) i (prop_kind cs handles i h)) (record { none = json d })))
+  barred_in i (h, f) = (
+    (λ d. rest_refused (yaml_level cs handles room n flow_in (EndOf cs Yaml n flow_in d) i) (rest_refused (yaml_propped cs Wide handles Open Inner n flow_in (EndOf cs Yaml n flow_in d) i (prop_kind cs handles i h)) (record { none = yaml d }))),
+    λ d. rest_refused (json_level cs handles room n flow_in (EndOf cs Json n flow_in d) i) (rest_refused (json_propped cs Wide handles Open Inner n flow_in (EndOf cs Json n flow_in d) i (prop_kind cs handles i h)) (record { none = json d })),
+  )
     where
       Open : Type 0
       Open = opens cs Wide handles room

@@ -1,5 +1,5 @@
 -- What a node's content decides by its first character: an alias, a plain scalar, a quoted one or a flow collection.
-use Rattle.std.proofs.Common.{◌≡◌, ◌≢◌, ℕ, zero, suc, ◌+◌, ◌⊎◌, inl, inr, List, [], ◌∷◌, Result, Ok, Err, Option, Some, None, refl, sym, ◌∙◌, ap, subst, arith}
+use Rattle.std.proofs.Common.{◌≡◌, ℕ, ◌⊎◌, inl, inr, List, [], ◌∷◌, Result, Ok, Err, Option, Some, None, refl, sym, ◌∙◌, ap, subst}
 use Rattle.std.specs.Prelude.{slice_get}
 use Rattle.std.specs.Result.{IsErrAnd}
 use Rattle.std.proofs.lemmas.Result.{err_from_is_err_and}
@@ -11,14 +11,12 @@ use Rattle.yaml_text.specs.grammar.Events.{Props, scalar}
 use Rattle.yaml_text.specs.grammar.Nodes.{Part, flow_seq, flow_map}
 use Rattle.yaml_text.specs.grammar.Tags.{Handles}
 use Rattle.yaml_text.specs.grammar.FlowScalars.{single, double}
-use Rattle.yaml_text.proofs.Runs.{same_char}
 use Rattle.yaml_text.specs.Answer.{Unread, Only, Furthest}
 use Rattle.yaml_text.specs.grammar.Calls as calls
-use Rattle.yaml_text.specs.grammar.Rules.{Rule, seen}
+use Rattle.yaml_text.specs.grammar.Rules.{Rule}
 use Rattle.yaml_text.specs.grammar.Separation.{Ctx, block_out, block_in, flow_out, flow_in, block_key, flow_key, inner}
 use Rattle.yaml_text.specs.grammar.Tags as tags
 use Rattle.yaml_text.specs.grammar.FlowScalars.{plain}
-use Rattle.yaml_unique.specs.Readings.{At}
 use Rattle.yaml_unique.proofs.FlowNodes.{Kind, Sign, plain_no_kind, plain_start, jsons_start}
 use Rattle.yaml_unique.proofs.FlowLevels.{inner_in, inner_out}
 use Rattle.yaml_complete.proofs.Decisions.{rest_goes, rest_refused, rest_seen}
@@ -26,7 +24,6 @@ use Rattle.yaml_complete.proofs.FlowStarts.{single_left, double_left, sequence_l
 use Rattle.yaml_complete.specs.Decisions.{Refused, Goes, Here}
 use Rattle.yaml_complete.proofs.PlainScalars.{plain_block_goes}
 use Rattle.yaml_complete.proofs.FlowChoices.{plain_in_flow}
-use Rattle.yaml_flow.specs.Answer.{Decides}
 use Rattle.yaml_flow.specs.Decisions.{EndOf}
 use Rattle.yaml_flow.specs.FlowDecisions.{IsOpening, DecidesPlain, ContentTaken, ContentRefused, ContentOnly, DecidesContent}
 use Rattle.yaml_flow.specs.FlowRules.{opens, below, content_at, NoOpening}

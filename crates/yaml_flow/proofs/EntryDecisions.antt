@@ -1,18 +1,18 @@
 -- Entries of a flow mapping and values: what each decides, by what separation leads to.
-use Rattle.std.proofs.Common.{◌≡◌, ◌≢◌, ℕ, zero, suc, ◌+◌, ◌⊎◌, inl, inr, List, true, Some, refl, sym, ◌∙◌, ap, subst, arith}
+use Rattle.std.proofs.Common.{◌≡◌, ℕ, ◌+◌, inl, inr, List, true, Some, refl, sym, ◌∙◌, subst, arith}
 use Rattle.std.specs.Prelude.{slice_get}
 use Rattle.yaml_text.specs.Event.{Event}
 use Rattle.yaml_text.specs.Lines.{Inside}
-use Rattle.yaml_text.specs.grammar.Rules.{Rule, ◌▸◌, ◌⨾◌, ◌∪◌, gives, maybe, with_value}
+use Rattle.yaml_text.specs.grammar.Rules.{Rule, ◌▸◌, ◌∪◌, gives, maybe, with_value}
 use Rattle.yaml_text.specs.grammar.Characters.{is_nb, is_break}
 use Rattle.yaml_text.specs.grammar.Separation.{Ctx, flow_in, separate}
 use Rattle.yaml_text.specs.grammar.Tags.{Handles, properties}
 use Rattle.yaml_text.specs.grammar.FlowScalars.{single, double}
 use Rattle.yaml_text.specs.grammar.Events.{Props, no_props, empty}
-use Rattle.yaml_text.specs.grammar.Nodes.{Part, yaml_part, json_part, yaml_node, value, adjacent, implicit_entry, explicit, flow_seq, flow_map, reads}
+use Rattle.yaml_text.specs.grammar.Nodes.{Part, yaml_part, json_part, yaml_node, implicit_entry, explicit, flow_seq, flow_map, reads}
 use Rattle.yaml_text.proofs.Runs.{same_char}
 use Rattle.yaml_unique.specs.Readings.{End, At}
-use Rattle.yaml_unique.specs.Follows.{Solid, Fresh, Way, Closes, Colon, ColonY, MarkHere}
+use Rattle.yaml_unique.specs.Follows.{Solid, Fresh, Way, Closes, ColonY}
 use Rattle.yaml_unique.proofs.Properties.{props_two, props_inside}
 use Rattle.yaml_unique.proofs.TagEnds.{prop_same, prop_here, prop_inside, alias_inside}
 use Rattle.yaml_unique.proofs.PlainEnds.{plain_inside}
@@ -23,7 +23,7 @@ use Rattle.yaml_complete.specs.Decisions.{Refused, Goes, Rest}
 use Rattle.yaml_complete.specs.FlowEnds.{InFlow, EndsYaml, EndsJson}
 use Rattle.yaml_complete.proofs.Decisions.{rest_goes, rest_refused, rest_rest}
 use Rattle.yaml_complete.proofs.FlowChoices as left
-use Rattle.yaml_flow.specs.FlowRules.{part_of, opens, below, item_at, entry_at, keyed_at, asked_at, value_at, SignAt, AskedAt, IsParted}
+use Rattle.yaml_flow.specs.FlowRules.{part_of, opens, below, entry_at, keyed_at, asked_at, value_at, SignAt, AskedAt, IsParted}
 use Rattle.yaml_flow.specs.declared.flow.Kind as kinds
 use Rattle.yaml_flow.specs.declared.flow.Kind.TheVariants.{Yaml, Json}
 use Rattle.yaml_flow.proofs.FlowLemmas.{from_reads}

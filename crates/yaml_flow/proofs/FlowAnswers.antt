@@ -1,5 +1,5 @@
 -- From what a call says of its answer, found or refused, to what its caller decides.
-use Rattle.std.proofs.Common.{◌≡◌, ℕ, ◌+◌, ◌≤◌, ◌<◌, ◌⊎◌, inl, inr, List, Result, Ok, Err, Option, Some, None, IfOk, IfErr, IfSome, IfNone, refl, sym, ◌∙◌, ap, subst, arith}
+use Rattle.std.proofs.Common.{◌≡◌, ℕ, ◌+◌, ◌≤◌, ◌⊎◌, inl, inr, List, Result, Ok, Err, Option, Some, None, IfOk, IfErr, IfSome, IfNone, refl, sym, ◌∙◌, ap, subst, arith}
 use Rattle.std.specs.Prelude.{slice_get}
 use Rattle.std.specs.Result.{IsErrAnd}
 use Rattle.std.proofs.lemmas.Result.{err_from_is_err_and}
@@ -13,10 +13,9 @@ use Rattle.yaml_text.specs.grammar.Tags.{Handles}
 use Rattle.yaml_text.specs.grammar.Tags as tags
 use Rattle.yaml_text.specs.grammar.Events.{Props}
 use Rattle.yaml_unique.specs.Follows.{Solid}
-use Rattle.yaml_unique.proofs.FlowLevels.{inner_in, inner_out}
-use Rattle.yaml_complete.specs.Decisions.{Refused, Goes, Here}
+use Rattle.yaml_complete.specs.Decisions.{Refused, Here}
 use Rattle.yaml_flow.specs.Answer.{Decides}
-use Rattle.yaml_flow.specs.Decisions.{IsOnly, IsRefused, DecidesNode}
+use Rattle.yaml_flow.specs.Decisions.{IsOnly, DecidesNode}
 use Rattle.yaml_flow.specs.FlowDecisions.{ContentOnly, ContentRefused, DecidesContent, DecidesEach}
 use Rattle.yaml_flow.specs.FlowRules.{IsSign, SignAt, IsParted}
 use Rattle.yaml_flow.specs.declared.flow.Kind as kinds

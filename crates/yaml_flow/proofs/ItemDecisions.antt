@@ -1,17 +1,16 @@
 -- Items of a flow sequence at the room that they have: a node, a pair that begins with its key, with a `?` or with a colon.
-use Rattle.std.proofs.Common.{◌≡◌, ℕ, zero, suc, ◌+◌, ◌⊎◌, inl, inr, List, Some, refl, sym, ◌∙◌, ap, subst, arith}
+use Rattle.std.proofs.Common.{◌≡◌, ℕ, zero, suc, ◌+◌, inl, inr, List, Some, refl, sym, subst, arith}
 use Rattle.std.specs.Prelude.{slice_get}
 use Rattle.yaml_text.specs.Event.{Event}
 use Rattle.yaml_text.specs.grammar.Rules.{Rule, ◌∪◌}
-use Rattle.yaml_text.specs.grammar.Separation.{Ctx, flow_in, flow_key, separate}
+use Rattle.yaml_text.specs.grammar.Separation.{flow_in, flow_key, separate}
 use Rattle.yaml_text.specs.grammar.Tags.{Handles}
-use Rattle.yaml_text.specs.grammar.Nodes.{Part, yaml_part, json_part, pair_part, value, adjacent, explicit, pair, reads}
+use Rattle.yaml_text.specs.grammar.Nodes.{Part, yaml_part, json_part, pair_part, explicit, pair, reads}
 use Rattle.yaml_text.proofs.Runs.{same_char}
 use Rattle.yaml_unique.specs.Readings.{End, At}
 use Rattle.yaml_unique.specs.Follows.{ColonY, MarkHere}
-use Rattle.yaml_unique.proofs.FlowEntries.{ItemHere}
 use Rattle.yaml_unique.proofs.FlowLevels.{reads_facts}
-use Rattle.yaml_unique.proofs.KeyContexts.{Eased, at_flow, no_eased, reads_eased}
+use Rattle.yaml_unique.proofs.KeyContexts.{at_flow, reads_eased}
 use Rattle.yaml_unique.proofs.BlockLevels.{one_more}
 use Rattle.yaml_complete.specs.Decisions.{Refused, Goes, Rest}
 use Rattle.yaml_complete.specs.FlowEnds.{InFlow, EndsYaml, EndsJson}

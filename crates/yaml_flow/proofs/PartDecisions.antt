@@ -1,40 +1,30 @@
 -- Items, entries and values between brackets: what each decides, by what stands after its nodes.
-use Rattle.std.proofs.Common.{◌≡◌, ◌≢◌, ℕ, zero, suc, ◌+◌, ◌<◌, ◌⊎◌, inl, inr, List, true, false, Some, refl, sym, ◌∙◌, ap, subst, arith}
+use Rattle.std.proofs.Common.{◌≡◌, ◌≢◌, ℕ, ◌+◌, ◌⊎◌, inl, inr, List, true, Some, refl, subst, arith}
 use Rattle.std.specs.Prelude.{slice_get}
 use Rattle.yaml_text.specs.Event.{Event}
-use Rattle.yaml_text.specs.Lines.{Inside}
-use Rattle.yaml_text.specs.grammar.Rules.{Rule, ◌▸◌, ◌⨾◌, ◌∪◌, gives, maybe, with_value, Stands}
-use Rattle.yaml_text.specs.grammar.Characters.{is_ns, is_nb, is_break}
-use Rattle.yaml_text.specs.grammar.Separation.{Ctx, flow_in, flow_key, separate}
-use Rattle.yaml_text.specs.grammar.Tags.{Handles, properties}
-use Rattle.yaml_text.specs.grammar.FlowScalars.{plain_safe, PlainFirst, single, double}
-use Rattle.yaml_text.specs.grammar.Events.{Props, no_props, empty}
-use Rattle.yaml_text.specs.grammar.Nodes.{Part, yaml_part, json_part, pair_part, yaml_node, json_node, flow_seq, flow_map, value, adjacent, implicit_entry, empty_key, explicit, entry, pair, reads}
+use Rattle.yaml_text.specs.grammar.Rules.{Rule, ◌∪◌}
+use Rattle.yaml_text.specs.grammar.Separation.{Ctx, flow_in, flow_key}
+use Rattle.yaml_text.specs.grammar.Tags.{Handles}
+use Rattle.yaml_text.specs.grammar.Events.{no_props}
+use Rattle.yaml_text.specs.grammar.Nodes.{Part, yaml_part, json_part, value, adjacent, pair, reads}
 use Rattle.yaml_text.proofs.Runs.{same_char}
-use Rattle.yaml_text.proofs.grammar.Widening.{in_reads}
 use Rattle.yaml_scalar.specs.Chains.{plain_sign}
 use Rattle.yaml_scalar.proofs.PlainLemmas.{no_first_sign}
 use Rattle.yaml_unique.specs.Readings.{End, At}
-use Rattle.yaml_unique.specs.Follows.{Solid, Fresh, Way, Closes, Colon, ColonY, MarkHere}
-use Rattle.yaml_unique.proofs.Properties.{props_two, props_inside}
-use Rattle.yaml_unique.proofs.TagEnds.{prop_same, prop_here, prop_inside, alias_inside}
-use Rattle.yaml_unique.proofs.PlainEnds.{plain_inside}
-use Rattle.yaml_unique.proofs.FlowNodes.{Kind, sign_not, kind, plain_start, jsons_start, safe_ns, Jsons, JsonRest, json_parts}
+use Rattle.yaml_unique.specs.Follows.{Colon, ColonY, MarkHere}
+use Rattle.yaml_unique.proofs.FlowNodes.{Kind, sign_not, kind, plain_start, jsons_start, safe_ns}
 use Rattle.yaml_unique.proofs.FlowEntries.{Facts, ItemHere}
 use Rattle.yaml_unique.proofs.FlowLevels.{reads_facts}
-use Rattle.yaml_unique.proofs.KeyContexts.{at_flow, reads_eased}
 use Rattle.yaml_complete.specs.Decisions.{Refused, Goes, Rest}
 use Rattle.yaml_complete.specs.FlowEnds.{InFlow, EndsYaml, EndsJson}
-use Rattle.yaml_complete.proofs.Decisions.{rest_goes, rest_refused, rest_rest, refused_either, refused_within}
+use Rattle.yaml_complete.proofs.Decisions.{rest_refused, refused_within}
 use Rattle.yaml_complete.proofs.FlowChoices as left
 use Rattle.yaml_flow.specs.Decisions.{IsOnly, IsRefused}
-use Rattle.yaml_flow.specs.FlowDecisions.{NoKey, LongKey}
 use Rattle.yaml_flow.specs.Keys.{Spaced, IsKeySized}
-use Rattle.yaml_flow.specs.FlowRules.{part_of, opens, below, content_at, flow_from, item_at, entry_at, keyed_at, asked_at, value_at, SignAt, AskedAt, IsParted}
+use Rattle.yaml_flow.specs.FlowRules.{opens, below, SignAt, AskedAt}
 use Rattle.yaml_flow.specs.declared.flow.Kind as kinds
 use Rattle.yaml_flow.specs.declared.flow.Kind.TheVariants.{Yaml, Json}
-use Rattle.yaml_flow.proofs.BareDecisions.{facts_of, bare_yaml, bare_json}
-use Rattle.yaml_flow.proofs.FlowLemmas.{from_reads}
+use Rattle.yaml_flow.proofs.BareDecisions.{bare_yaml, bare_json}
 
 abbrev Wide : Type 0
 Wide = Unit {0}

@@ -8,18 +8,16 @@ use Rattle.yaml_text.specs.grammar.Events.{no_props, empty, alias}
 use Rattle.yaml_text.specs.grammar.Tags as tags
 use Rattle.yaml_text.specs.grammar.Rules.{any, ◌◂◌, given, gives, seen}
 use Rattle.yaml_text.proofs.Tests.{on_true_at, on_false_at}
-use Rattle.yaml_text.proofs.LineRuns.{indent_run}
 use Rattle.yaml_flow.specs.FlowRules.{opens, below, IsSign, SignAt, AskedAt, spaced, comma, from_room, item_at, entry_at, keyed_at, asked_at, value_at, parts, content_from, Bare, aliased, plainly, marked, lone}
 use Rattle.yaml_mark.specs.HandlesModel.{handles_of}
 use Rattle.yaml_flow.specs.PropertyRules.{props_of, dressed}
-use Rattle.yaml_flow.specs.declared.flow.Kind.TheVariants.{Yaml, Json}
+use Rattle.yaml_flow.specs.declared.flow.Kind.TheVariants.{Yaml}
 use Rattle.yaml_flow.proofs.PropertyLemmas.{own_marks}
 use Rattle.yaml_flow.proofs.AnswerLemmas.{adds_one, adds_on, adds_before, adds_back, appends_by, appends_after, appends_same, perhaps_some, perhaps_none}
 use Rattle.yaml_flow.proofs.FlowLemmas.{no_parts, one_part, parts_end, part_end, sequence_is, mapping_is, pair_item, no_value, key_entry, lone_entry, value_is, bare_flow, empty_entry, asked_keyed, asked_nothing, keyed_entry, asked_entry, asked_pair, empty_pair}
 use Rattle.yaml_text.specs.grammar.Separation.{flow_in}
 use Rattle.yaml_flow.proofs.LoopDecisions.{all_left, left_closed, left_refused, left_no_way, left_last, left_unclosed, left_more, left_no_more, to_in, none_in, item_begins, entry_begins, bracket_shut, bracket_other, brace_shut, brace_other, sequence_nowhere, sequence_goes, sequence_refused, mapping_nowhere, mapping_goes, mapping_refused}
-use Rattle.yaml_text.specs.declared.fault.Fault.TheVariants.{OutOfMemory}
-use Rattle.yaml_text.specs.grammar.Nodes.{flow_seq, flow_map, pair}
+use Rattle.yaml_text.specs.grammar.Nodes.{flow_seq, flow_map}
 use Rattle.yaml_complete.specs.Decisions.{Here}
 use Rattle.yaml_complete.specs.FlowEnds.{InFlow}
 use Rattle.yaml_text.specs.Place.{Steps}

@@ -1,5 +1,5 @@
-use Rattle.std.proofs.Common.{◌≡◌, subst, arith}
-use Rattle.yaml_text.specs.Source.{text_of, place_of}
+use Rattle.std.proofs.Common.{subst, arith}
+use Rattle.yaml_text.specs.Source.{text_of}
 use Rattle.yaml_text.specs.EventModel.{context_of}
 use Rattle.yaml_text.proofs.LineRuns.{indent_run}
 use Rattle.yaml_flow.specs.FlowRules.{IsSign}

@@ -1,4 +1,4 @@
-use Rattle.std.proofs.Common.{ℕ, ℤ, pos, ◌≡◌, List, ap, subst}
+use Rattle.std.proofs.Common.{ℕ, ℤ, pos, ◌≡◌, ap, subst}
 use Rattle.std.specs.Prelude.{nat_abs}
 use Rattle.std.proofs.Common.{rules, w32, ◌∙◌}
 use Rattle.std.proofs.lemmas.Int.{to_z-of_z}
