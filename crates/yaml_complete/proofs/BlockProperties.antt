@@ -64,7 +64,7 @@ module _ (cs : List ℕ) (Wide : Type 0) (handles : Handles) (Open : Type 0) (in
   -- ---- flow nodes
 
   -- a flow node's reading after some of its properties is followed by no further one
-  rest_next : (p : Props) (k j m : ℕ) (v : List Event) → Inside cs k → FlowRest p k j v → At (F cs col d) j m → NoMore cs handles col k
+  pub rest_next : (p : Props) (k j m : ℕ) (v : List Event) → Inside cs k → FlowRest p k j v → At (F cs col d) j m → NoMore cs handles col k
   rest_next p k j m v o (inl r) e =
       yaml_next cs Wide handles Open inside col flow_out (F cs col d) (F cs col d) (prop_same cs handles) (prop_here cs handles) (prop_inside cs handles) (alias_same cs) (plain_block_unique cs col d)
       (jsons_unique cs Wide handles Open inside facts col flow_out inner_out (F cs col d)) (next_here cs handles col d) (content_here cs col d) p k j m v o r e
@@ -75,7 +75,7 @@ module _ (cs : List ℕ) (Wide : Type 0) (handles : Handles) (Open : Type 0) (in
   abbrev Propped : Rule (List Event)
   Propped = with_value (properties cs handles col flow_out) FlowRest
 
-  propped_left : (E : End) (i : ℕ) → Kind cs 1 i → Rest Flow E i Propped E i
+  pub propped_left : (E : End) (i : ℕ) → Kind cs 1 i → Rest Flow E i Propped E i
   unfolding flow_node
   propped_left E i h = record { rest = go }
     where
@@ -97,7 +97,7 @@ module _ (cs : List ℕ) (Wide : Type 0) (handles : Handles) (Open : Type 0) (in
 
   -- ---- block scalars
 
-  scalar_next : (p : Props) (k j m : ℕ) (v : List Event) → Inside cs k → (separate cs col c ▸ Scalar p) k j v → AfterNode j m → NoMore cs handles col k
+  pub scalar_next : (p : Props) (k j m : ℕ) (v : List Event) → Inside cs k → (separate cs col c ▸ Scalar p) k j v → AfterNode j m → NoMore cs handles col k
   scalar_next p k j m v o (q, s, r) e x y t h =
       let z = scalar_kind cs Wide handles Open inside facts ease wider fwd blocks col c p q j v r in
       let f : q ≡ y = way_same cs k q y (way_of cs col c k q s (kind_fresh cs 4 q z).0) (way_of cs col x k y t (prop_solid cs handles y h).0) in
@@ -144,7 +144,7 @@ module _ (cs : List ℕ) (Wide : Type 0) (handles : Handles) (Open : Type 0) (in
   abbrev pub Under : Props → Rule (List Event)
   Under p = (FlowRest p ◂ s_l_comments cs) ∪ (separate cs col c ▸ Scalar p) ∪ CollectionsBelow p
 
-  contents_fresh : (p : Props) (i j : ℕ) (v : List Event) → Contents p i j v → ContentHere cs flow_out i
+  pub contents_fresh : (p : Props) (i j : ℕ) (v : List Event) → Contents p i j v → ContentHere cs flow_out i
   contents_fresh p i j v (inl (t, r, e)) = let (f, h) = plain_start cs col flow_out i j t r in (f, inr h)
   contents_fresh p i j v (inr r) = let z = jsons_start cs Wide handles Open inside col flow_out p i j v r in (kind_three cs i z, inl z)
 
@@ -177,12 +177,12 @@ module _ (cs : List ℕ) (Wide : Type 0) (handles : Handles) (Open : Type 0) (in
 
   -- ---- after properties, on a line below
 
-  collections_stuck : (p : Props) (x j : ℕ) (v : List Event) → Collections p x j v → (l : ℕ) × (b : ℕ) × indent cs l x b × Fresh cs b
+  pub collections_stuck : (p : Props) (x j : ℕ) (v : List Event) → Collections p x j v → (l : ℕ) × (b : ℕ) × indent cs l x b × Fresh cs b
   unfolding block_map block_seq
   collections_stuck p x j v (inl (o, (t, (l, (le, (a, us, vs, (b, s, u), rest, y))), e))) = (l, b, s, (map_key cs Wide handles Open inside facts ease wider fwd blocks col c l b a us u).0)
   collections_stuck p x j v (inr (o, (t, (l, (le, (a, us, vs, (b, s, u), rest, y))), e))) = (l, b, s, dash_fresh cs b (seq_dash cs Wide handles Open inside facts ease wider fwd blocks col c l b a us u))
 
-  line_of : (e s x : ℕ) → s_l_comments cs e s → Stuck cs s → s_l_comments cs e x → (l : ℕ) × (b : ℕ) × indent cs l x b × Fresh cs b → x ≡ s
+  pub line_of : (e s x : ℕ) → s_l_comments cs e s → Stuck cs s → s_l_comments cs e x → (l : ℕ) × (b : ℕ) × indent cs l x b × Fresh cs b → x ≡ s
   line_of e s x l st t (n, b, ind, f) = past_same cs e x s (past_of cs e x x t (Spans.done refl)) (Rattle.yaml_unique.proofs.Lines.stuck_line cs n x b ind f.0) (past_of cs e s s l (Spans.done refl)) st
 
   abbrev pub BelowThem : Props → ℕ → Rule (List Event)
@@ -245,7 +245,7 @@ module _ (cs : List ℕ) (Wide : Type 0) (handles : Handles) (Open : Type 0) (in
 
   -- ---- a key that properties begin, and whose line is over after them: there is none
 
-  prop_on : (i j : ℕ) (p : Props) → prop cs handles i j p → i ≤ j
+  pub prop_on : (i j : ℕ) (p : Props) → prop cs handles i j p → i ≤ j
   prop_on i j p (inl (t, r, e)) = fwd_tag cs handles i j t r
   prop_on i j p (inr (t, r, e)) = fwd_anchor cs i j t r
 

@@ -17,3 +17,4 @@ pub mod FlowCollections
 pub mod BlockProperties
 pub mod StreamRests
 pub mod Depths
+pub mod PropertyLines

@@ -40,7 +40,7 @@ use Rattle.yaml_flow.specs.declared.flow.Node.{Node}
 use Rattle.yaml_flow.proofs.Deciding.{one_end, no_end}
 use Rattle.yaml_flow.proofs.FlowLemmas.{from_reads}
 use Rattle.yaml_flow.proofs.LineLemmas.{spaces_apart}
-use Rattle.yaml_flow.proofs.PropertyDecisions.{no_gap}
+use Rattle.yaml_complete.proofs.PropertyLines.{no_gap}
 use Rattle.yaml_flow.proofs.ContentDecisions.{opening_kind}
 
 abbrev Wide : Type 0
@@ -175,7 +175,7 @@ module _ (cs : List ℕ) (handles : Handles) (room n : ℕ) (c : Ctx) where
     )
       where
         cut : (q : ℕ) → separate cs n c k q → Solid cs q → ⊥
-        cut q s h = let e : q ≡ k = to q (inr s) h in no_gap cs handles n c k within (subst (separate cs n c k) e s) (subst (Solid cs) e h)
+        cut q s h = let e : q ≡ k = to q (inr s) h in no_gap cs n c k within (subst (separate cs n c k) e s) (subst (Solid cs) e h)
 
     module _ (x : ℕ) (to : To x) where
       no_plain : Refused (Content Yaml p) EY x → Refused (separate cs n c ▸ Plains cs Wide handles Open Inner n c p) EY k

@@ -1,29 +1,28 @@
 -- Node properties: that those read are all, and what stops every node where none could be read.
-use Rattle.std.proofs.Common.{◌≡◌, ◌≢◌, false, ℕ, ◌<◌, ◌⊎◌, List, Some, None, refl, sym, ◌∙◌, ap, subst, arith, inl, inr, Result, Err, IfErr}
+use Rattle.std.proofs.Common.{◌≡◌, ◌≢◌, true, false, ℕ, ◌⊎◌, List, Some, None, refl, sym, ◌∙◌, ap, subst, arith, inl, inr, Result, Err, IfErr}
 use Rattle.std.specs.Prelude.{slice_get}
 use Rattle.std.specs.Result.{IsErrAnd}
 use Rattle.std.proofs.lemmas.Result.{err_from_is_err_and}
 use Rattle.yaml_text.specs.Answer.{Unread}
-use Rattle.yaml_text.specs.Event.{WrittenTag}
+use Rattle.yaml_text.specs.Event.{WrittenTag, untagged, non_specific, full, Anchor}
 use Rattle.yaml_text.specs.Lines.{Inside, is_key}
 use Rattle.yaml_text.specs.declared.fault.Fault.{Fault}
 use Rattle.yaml_text.specs.declared.fault.Fault.TheVariants as fault
-use Rattle.yaml_text.specs.grammar.Rules.{maybe, run}
-use Rattle.yaml_text.specs.grammar.Characters.{is_space}
-use Rattle.yaml_text.specs.grammar.Separation.{Ctx, separate}
+use Rattle.yaml_text.specs.grammar.Rules.{maybe}
+use Rattle.yaml_text.specs.grammar.Separation.{Ctx, block_key, separate}
 use Rattle.yaml_text.specs.grammar.Calls as calls
 use Rattle.yaml_text.specs.grammar.Tags.{Handles, anchor}
 use Rattle.yaml_text.specs.grammar.Events.{Props, no_props}
-use Rattle.yaml_text.proofs.Runs.{same_char, run_none}
-use Rattle.yaml_text.proofs.LineRuns.{inside_no_line}
+use Rattle.yaml_text.proofs.Runs.{same_char}
 use Rattle.yaml_mark.specs.Answer.{NameRefuses, TagRefuses}
-use Rattle.yaml_unique.specs.Follows.{Solid, Fresh, Past}
-use Rattle.yaml_unique.proofs.Lines.{past_no_run, sep_parts}
+use Rattle.yaml_unique.specs.Follows.{Solid, Fresh}
+use Rattle.yaml_unique.proofs.Properties as pair
 use Rattle.yaml_unique.proofs.Properties.{prop, prop_solid}
 use Rattle.yaml_unique.proofs.TagEnds.{prop_same, prop_here, prop_inside, tag_here}
-use Rattle.yaml_complete.proofs.PropertyChoices.{Kinds, one_prop, two_props, kinds}
-use Rattle.yaml_flow.specs.Decisions.{IsProperty, Differ, IsSingle, Stops, another, nothing, Barred, AllProperties}
-use Rattle.yaml_flow.specs.PropertyRules.{IsTag}
+use Rattle.yaml_complete.proofs.PropertyChoices.{Second, Kinds, one_prop, two_props, kinds}
+use Rattle.yaml_complete.proofs.PropertyLines.{no_gap, separate_line, line_properties, BarredLine}
+use Rattle.yaml_flow.specs.Decisions.{IsProperty, Differ, IsSingle, Stops, another, nothing, Barred, AllProperties, LineGoesOn}
+use Rattle.yaml_flow.specs.PropertyRules.{IsTag, IsAnchor, Marks, tag_alone, anchor_alone, both, Own, Apart, anchor_of, tag_of, both_props}
 
 -- ---- what refusals say
 
@@ -45,6 +44,30 @@ tag_refused _ p = absurd p
 pub or_else : {A P Q : Type 0} → (P → Q) → A ⊎ P → A ⊎ Q
 or_else f (inl a) = inl a
 or_else f (inr p) = inr (f p)
+
+-- ---- two that are not apart
+
+two_tags : (p q : Props) → IsTag p.tag → IsTag q.tag → Apart p q → ⊥
+two_tags p q s t (a, inl h) = subst IsTag h s
+two_tags p q s t (a, inr h) = subst IsTag h t
+
+two_anchors : (p q : Props) → IsAnchor p.anchor → IsAnchor q.anchor → Apart p q → ⊥
+two_anchors p q s t (inl h, b) = subst IsAnchor h s
+two_anchors p q s t (inr h, b) = subst IsAnchor h t
+
+-- the joined properties are those of the readings
+pub both_is : (p q : Props) → both_props p q ≡ pair.both p q
+unfolding pair.both pair.joined_anchor pair.joined_tag
+both_is p q = ap (λ a. record { anchor = a; tag = tag_of q.tag p.tag }) (anchors p.anchor q.anchor) ∙ ap (λ t. record { anchor = pair.joined_anchor p.anchor q.anchor; tag = t }) (tags p.tag q.tag)
+  where
+    anchors : (a b : Anchor) → anchor_of b a ≡ pair.joined_anchor a b
+    anchors a None = refl
+    anchors a (Some b) = refl
+
+    tags : (t u : WrittenTag) → tag_of u t ≡ pair.joined_tag t u
+    tags t untagged = refl
+    tags t non_specific = refl
+    tags t (full u) = refl
 
 module _ (cs : List ℕ) where
   -- a tag here, or an anchor, and none of the other kind there
@@ -102,14 +125,6 @@ module _ (cs : List ℕ) (handles : Handles) where
 
     -- ---- all that stand here
 
-    -- content is not apart from what ends where it begins
-    pub no_gap : (e : ℕ) → Inside cs e → separate cs n c e e → Solid cs e → ⊥
-    no_gap e o s h = go (sep_parts cs n c e e o s)
-      where
-        go : (run cs is_space e e × (e < e)) ⊎ ((p : ℕ) × Past cs e p × run cs is_space p e) → ⊥
-        go (inl (r, l)) = omega (arith, l)
-        go (inr (p, a, r)) = inside_no_line cs e o (past_no_run cs e p e a (run_none cs is_space e) h).0
-
     -- one, and separation leads to no other kind
     pub all_one : (i e x : ℕ) (a p : Props) → prop cs handles i e a → (p ≡ no_props → ⊥)
         → ((q : ℕ) → maybe (separate cs n c) e q → Solid cs q → q ≡ x) → (x ≡ e) ⊎ (Differ cs i x → ⊥) → AllProperties cs handles n c i e p
@@ -125,7 +140,7 @@ module _ (cs : List ℕ) (handles : Handles) where
             go : (x ≡ e) ⊎ (Differ cs i x → ⊥) → o ≡ x → ⊥
             go (inl h) f =
                 let g : o ≡ e = f ∙ h in
-                no_gap e (prop_inside cs handles i e a r) (subst (separate cs n c e) g s) (subst (Solid cs) g (solid o d))
+                no_gap cs n c e (prop_inside cs handles i e a r) (subst (separate cs n c e) g s) (subst (Solid cs) g (solid o d))
             go (inr none) f = none (subst (Differ cs i) f d)
 
     -- both
@@ -145,3 +160,48 @@ module _ (cs : List ℕ) (handles : Handles) where
         first : (o : ℕ) → Differ cs i o → IsProperty cs i
         first o (inl (g, h)) = inl g
         first o (inr (g, h)) = inr g
+
+    -- where a single property stands no second one follows
+    pub no_more : (i e : ℕ) (p : Props) → AllProperties cs handles n c i e p → Second cs handles n c i e p → ⊥
+    no_more i e p all (a, (l, o, b, s, r, d)) = all.second (single a) o s d
+      where
+        single : prop cs handles i e p → IsSingle p
+        single (inl (t, u, h)) = inl (ap Props.anchor h)
+        single (inr (x, u, h)) = inr (ap Props.tag h)
+
+    -- ---- what was read on one line holds wherever the line goes on
+
+    pub line_marks : (i e : ℕ) (p : Props) → Marks cs handles 0 block_key i e p → Marks cs handles n c i e p
+    line_marks i e p (tag_alone t r s h) = tag_alone t r s h
+    line_marks i e p (anchor_alone a r h) = anchor_alone a r h
+    line_marks i e p (both r s t) = both (line_properties cs handles n c i e p r) s t
+
+    pub line_own : (i e : ℕ) (p : Props) → Own cs handles 0 block_key i e p → Own cs handles n c i e p
+    line_own i e p (inl h) = inl h
+    line_own i e p (inr m) = inr (line_marks i e p m)
+
+    pub line_all : (i e : ℕ) (p : Props) → LineGoesOn cs e p → AllProperties cs handles 0 block_key i e p → AllProperties cs handles n c i e p
+    line_all i e p (inl h) all = all_none i e p (all.none h)
+    line_all i e p (inr f) all = record { none = all.none; second = λ one o s d. all.second one o (separate_line cs n c e o f s) d }
+
+  -- ---- at block level
+
+  pub barred_line : (i : ℕ) → Barred cs handles 0 block_key i → BarredLine cs handles i
+  barred_line i (at, stops) = (at, λ l q r. go l (stops l q r))
+    where
+      go : (l : ℕ) → Stops cs handles 0 block_key l → (o : ℕ) × separate cs 0 block_key l o × IsProperty cs o
+      go l (another o s h) = (o, s, h)
+      go l (nothing key f) = let e : true ≡ false = key in cc
+
+  -- one of each kind
+  pub apart_kinds : (i e x f : ℕ) (p q : Props) → Marks cs handles 0 block_key i e p → Marks cs handles 0 block_key x f q → Apart p q → prop cs handles i e p × prop cs handles x f q × Differ cs i x
+  unfolding anchor
+  apart_kinds i e x f p q (tag_alone t r s h) (anchor_alone a (k, (g, m), u) w) y = (inl (t, r, h), inr (a, (k, (g, m), u), w), inl (tag_here cs handles i e t r, g))
+  apart_kinds i e x f p q (anchor_alone a (k, (g, m), u) w) (tag_alone t r s h) y = (inr (a, (k, (g, m), u), w), inl (t, r, h), inr (g, tag_here cs handles x f t r))
+  apart_kinds i e x f p q (tag_alone t r s h) (tag_alone t2 r2 s2 h2) y = absurd (two_tags p q (subst IsTag (sym (ap Props.tag h)) s) (subst IsTag (sym (ap Props.tag h2)) s2) y)
+  apart_kinds i e x f p q (tag_alone t r s h) (both r2 s2 t2) y = absurd (two_tags p q (subst IsTag (sym (ap Props.tag h)) s) s2 y)
+  apart_kinds i e x f p q (anchor_alone a r h) (anchor_alone a2 r2 h2) y = absurd (two_anchors p q (subst IsAnchor (sym (ap Props.anchor h)) tt) (subst IsAnchor (sym (ap Props.anchor h2)) tt) y)
+  apart_kinds i e x f p q (anchor_alone a r h) (both r2 s2 t2) y = absurd (two_anchors p q (subst IsAnchor (sym (ap Props.anchor h)) tt) t2 y)
+  apart_kinds i e x f p q (both r s t) (tag_alone t2 r2 s2 h2) y = absurd (two_tags p q s (subst IsTag (sym (ap Props.tag h2)) s2) y)
+  apart_kinds i e x f p q (both r s t) (anchor_alone a2 r2 h2) y = absurd (two_anchors p q t (subst IsAnchor (sym (ap Props.anchor h2)) tt) y)
+  apart_kinds i e x f p q (both r s t) (both r2 s2 t2) y = absurd (two_tags p q s s2 y)
