@@ -23,7 +23,7 @@ use Rattle.yaml_unique.proofs.FlowEntries.{ItemHere, PartHere, Facts, closes_sol
 use Rattle.yaml_complete.specs.FlowEnds as ends
 use Rattle.yaml_complete.specs.Decisions.{Refused, Goes, Rest}
 use Rattle.yaml_complete.proofs.Decisions.{rest_goes, rest_refused, rest_rest, rest_left, rest_right, rest_before, rest_joined, refused_joined, refused_before, refused_either}
-use Rattle.yaml_complete.proofs.Separations.{Spaces, spaces_to}
+use Rattle.yaml_complete.proofs.Separations.{Spaces, spaces_to, separate_twice}
 use Rattle.yaml_complete.proofs.PropertyChoices.{goes_gives, refused_gives}
 use Rattle.yaml_complete.proofs.FlowLoops.{closes_fresh}
 use Rattle.yaml_complete.proofs.PlainScalars.{plain_goes}
@@ -164,6 +164,17 @@ module _ (cs : List ℕ) where
         empty m (inl e) h = c (subst (Closes cs) e h)
         empty m (inr s) h = parted m (sep_parts cs n flow_in k m o s)
 
+    -- nothing but content just after the colon of a YAML key: no value is parted from it
+    pub value_alone : (k : ℕ) → Inside cs k → GapTo n k k → Goes AfterY (InFlow n) k (InFlow n) k
+    value_alone k o to = rest_goes (rest_right Empty (record { none = λ j m v (q, s, r) e. parted q s (node_item q j v r).0.0 })) (goes_gives (empty no_props) (InFlow n) k)
+      where
+        cut : Solid cs k → (q : ℕ) → q ≡ k → (run cs is_space k q × (k < q)) ⊎ ((p : ℕ) × Past cs k p × run cs is_space p q) → ⊥
+        cut h q e (inl (r, l)) = omega (arith, e, l)
+        cut h q e (inr (p, b, r)) = past_no_ns cs k p o b h.0
+
+        parted : (q : ℕ) → separate cs n flow_in k q → Solid cs q → ⊥
+        parted q s h = let e : q ≡ k = to q (inr s) h in cut (subst (Solid cs) e h) q e (sep_parts cs n flow_in k q o s)
+
     -- a comma or a closing bracket at x: no value
     pub value_closed : (k x : ℕ) → GapTo n k x → Closes cs x → Goes AfterY (InFlow n) k (InFlow n) k
     value_closed k x to c = rest_goes (rest_right (Empty) (refused_before (separate cs n flow_in) (NodeY ∪ NodeJ) (InFlow n) (λ q. ItemHere cs q) k (λ i j m v r e. node_item i j v r) (λ l s f. f.1 (subst (Closes cs) (sym (to l (inr s) f.0.0)) c))))
@@ -300,6 +311,40 @@ module _ (cs : List ℕ) where
         go j m v (k, (a, (h, e), s), inr (inr r)) (g, b) =
             there m (way m (way_then cs n flow_in (i + 1) k m o (subst (λ z. separate cs n flow_in z k) e s) (subst (λ z. Way cs z m) (both_here k j v r) (way_maybe cs n flow_in j m g (closes_solid cs m b))))) b
 
+    -- nothing parts content from it
+    pub explicit_not_parted : (i : ℕ) → Inside cs (i + 1) → ((q : ℕ) → Way cs (i + 1) q → q ≡ i + 1) → Refused Explicit (InFlow n) i
+    unfolding explicit
+    explicit_not_parted i o way = record { none = go }
+      where
+        cut : Solid cs (i + 1) → (q : ℕ) → (run cs is_space (i + 1) q × (i + 1 < q)) ⊎ ((p : ℕ) × Past cs (i + 1) p × run cs is_space p q) → ⊥
+        cut h q (inl (r, l)) = solid_no_space cs (i + 1) h.0 (r.1 (i + 1) (omega arith) l)
+        cut h q (inr (p, b, r)) = past_no_ns cs (i + 1) p o b h.0
+
+        parted : (k q : ℕ) → separate cs n flow_in (i + 1) k → Way cs (i + 1) q → Solid cs q → ⊥
+        parted k q s w h = cut (subst (Solid cs) (way q w) h) k (sep_parts cs n flow_in (i + 1) k o s)
+
+        apart : (k m : ℕ) → separate cs n flow_in (i + 1) k → Gap n k m → Closes cs m → ⊥
+        apart k m s g h = parted k m s (way_then cs n flow_in (i + 1) k m o s (way_maybe cs n flow_in k m g (closes_solid cs m h))) (closes_solid cs m h)
+
+        content : (k : ℕ) → separate cs n flow_in (i + 1) k → Solid cs k → ⊥
+        content k s h = parted k k s (way_maybe cs n flow_in (i + 1) k (inr s) h) h
+
+        go : (j m : ℕ) (v : List Event) → Explicit i j v → InFlow n j m → ⊥
+        go j m v (k, (a, (h, e), s), inl r) f = content k (subst (λ z. separate cs n flow_in z k) e s) (keyed_fresh k j v (inl r)).0.0
+        go j m v (k, (a, (h, e), s), inr (inl r)) f = content k (subst (λ z. separate cs n flow_in z k) e s) (keyed_fresh k j v (inr r)).0.0
+        go j m v (k, (a, (h, e), s), inr (inr r)) (g, b) = apart k m (subst (λ z. separate cs n flow_in z k) e s) (subst (λ z. Gap n z m) (both_here k j v r) g) b
+
+    -- nothing to go on with after it
+    pub explicit_no_gap : (i : ℕ) → Inside cs (i + 1) → NoGap n (i + 1) → Refused Explicit (InFlow n) i
+    unfolding explicit
+    explicit_no_gap i o none = record { none = go }
+      where
+        go : (j m : ℕ) (v : List Event) → Explicit i j v → InFlow n j m → ⊥
+        go j m v (k, (a, (h, e), s), inl r) f = none k (inr (subst (λ z. separate cs n flow_in z k) e s)) (keyed_fresh k j v (inl r)).0
+        go j m v (k, (a, (h, e), s), inr (inl r)) f = none k (inr (subst (λ z. separate cs n flow_in z k) e s)) (keyed_fresh k j v (inr r)).0
+        go j m v (k, (a, (h, e), s), inr (inr r)) (g, b) =
+          none m (inr (separate_twice cs n (i + 1) k m o (subst (λ z. separate cs n flow_in z k) e s) (subst (λ z. Gap n z m) (both_here k j v r) g) (closes_solid cs m b))) (closes_fresh cs m b)
+
     -- ---- which entry
 
     abbrev Entry : Rule (List Event)
@@ -330,6 +375,32 @@ module _ (cs : List ℕ) where
         go j m v (inl r) e = absurd ((implicit_start cs Wide handles Open inside facts n i j v r).3 h)
         go j m v (inr (w, inl r)) e = let z : 58 ≡ 63 = same_char cs i 58 63 (empty_key_colon cs Wide handles Open inside facts n i j v r).0 h.0 in absurd (omega (arith, z))
         go j m v (inr (w, inr r)) e = (j, v, r, e)
+
+    -- no `?` stands here; one does, and no key begins here
+    pub entry_keyed : (E : End) (i : ℕ) → (MarkHere cs i → ⊥) → Rest Entry E i Keyed E i
+    unfolding entry
+    entry_keyed E i f = record { rest = go }
+      where
+        go : (j m : ℕ) (v : List Event) → Entry i j v → E j m → (k : ℕ) × (w : List Event) × Keyed i k w × E k m
+        go j m v (inl r) e = (j, v, inl r, e)
+        go j m v (inr (w, inl r)) e = (j, v, inr r, e)
+        go j m v (inr (w, inr r)) e = absurd (f (explicit_mark cs Wide handles Open inside facts n i j v r))
+
+    pub entry_asked : (i : ℕ) → Refused Implicit (InFlow n) i → (ColonY cs i → ⊥) → Rest Entry (InFlow n) i Explicit (InFlow n) i
+    unfolding entry
+    entry_asked i f g = record { rest = go }
+      where
+        go : (j m : ℕ) (v : List Event) → Entry i j v → InFlow n j m → (k : ℕ) × (w : List Event) × Explicit i k w × InFlow n k m
+        go j m v (inl r) e = absurd (f.none j m v r e)
+        go j m v (inr (w, inl r)) e = absurd (g (empty_key_colon cs Wide handles Open inside facts n i j v r))
+        go j m v (inr (w, inr r)) e = (j, v, r, e)
+
+    -- without `?`: a key that begins here, or an empty one
+    pub keyed_implicit : (E : End) (i : ℕ) → (ColonY cs i → ⊥) → Rest Keyed E i Implicit E i
+    keyed_implicit E i f = rest_left Implicit (record { none = λ j m v r e. f (empty_key_colon cs Wide handles Open inside facts n i j v r) })
+
+    pub keyed_empty : (E : End) (i : ℕ) → ColonY cs i → Rest Keyed E i EmptyKey E i
+    keyed_empty E i h = rest_right EmptyKey (record { none = λ j m v r e. (implicit_start cs Wide handles Open inside facts n i j v r).2 h })
 
     -- ---- items of a flow sequence: a pair, or a node of the pair's own level
 
@@ -478,7 +549,21 @@ module _ (cs : List ℕ) where
           held j m v (inl r) e = f.none j j v r (in_yaml n j m e)
           held j m v (inr r) e = g.none j j v r (in_json n j m e)
 
-      nodes_not : (E : End) (i : ℕ) → ColonY cs i ⊎ MarkHere cs i → Refused (Yaml ∪ Json) E i
+      -- no node begins here: a pair that begins with `?`
+      pub item_asked : (i : ℕ) → Refused Yaml (At (EndsYaml n)) i → Refused Json (At (EndsJson n)) i → (ColonY cs i → ⊥) → Rest Item (InFlow n) i Explicit (InFlow n) i
+      item_asked i f g c = rest_rest (rest_left Pair (record { none = held })) (rest_rest (pair_body (InFlow n) i) (record { rest = go }))
+        where
+          held : (j m : ℕ) (v : List Event) → (Yaml ∪ Json) i j v → InFlow n j m → ⊥
+          held j m v (inl r) e = f.none j j v r (in_yaml n j m e)
+          held j m v (inr r) e = g.none j j v r (in_json n j m e)
+
+          go : (j m : ℕ) (v : List Event) → PairBody i j v → InFlow n j m → (k : ℕ) × (w : List Event) × Explicit i k w × InFlow n k m
+          go j m v (inl (a, us, vs, r, s, x)) e = absurd (no_yaml_key i a us f r (value_colon cs Wide handles Open inside facts n a j vs s))
+          go j m v (inr (inl (a, us, vs, r, s, x))) e = absurd (no_json_key i a us g r (adjacent_colon cs Wide handles Open inside facts n a j vs s))
+          go j m v (inr (inr (w, inl r))) e = absurd (c (empty_key_colon cs Wide handles Open inside facts n i j v r))
+          go j m v (inr (inr (w, inr r))) e = (j, v, r, e)
+
+      pub nodes_not : (E : End) (i : ℕ) → ColonY cs i ⊎ MarkHere cs i → Refused (Yaml ∪ Json) E i
       nodes_not E i h = record { none = go h }
         where
           go : ColonY cs i ⊎ MarkHere cs i → (j m : ℕ) (v : List Event) → (Yaml ∪ Json) i j v → E j m → ⊥

@@ -138,8 +138,13 @@ module _ (cs : List ℕ) (n : ℕ) (c : Ctx) (I : Rule (List Event)) (start : (i
       go j h (more a b p v w r s f t u rest) = n.none a b v r s
 
   -- neither a comma nor the bracket after it
-  pub parts_unclosed : (x y q : ℕ) → (Close x → ⊥) → Goes I InParts x InParts y → To y q → (Closes cs q → ⊥) → Refused Parted (At Close) x
-  parts_unclosed x y q o g to d = parts_refused x o (goes_refused g (λ m e. d (subst (Closes cs) (part_to y q m to e) e.1)))
+  pub parts_unclosed : (x y q : ℕ) → (Close x → ⊥) → Goes I InParts x InParts y → To y q → (Close q → ⊥) → (slice_get cs q ≡ Some 44 → ⊥) → Refused Parted (At Close) x
+  parts_unclosed x y q o g to d n = record { none = λ j m v r (e, h). go j h (seen x j v r h) }
+    where
+      go : (j : ℕ) → Close j → Seen x j → ⊥
+      go j h (closed e) = o (subst Close e h)
+      go j h (last a v r s) = d (subst Close (part_to y q j to (g.goes a j v r s)) h)
+      go j h (more a b p v w r s f t u rest) = n (subst (λ z. slice_get cs z ≡ Some 44) (part_to y q b to (g.goes a b v r s)) f)
 
   -- nothing to go on with after it
   pub parts_no_way : (x y : ℕ) → (Close x → ⊥) → Goes I InParts x InParts y → Nowhere y → Refused Parted (At Close) x

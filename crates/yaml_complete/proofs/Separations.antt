@@ -2,13 +2,13 @@
 use Rattle.std.proofs.Common.{◌≡◌, ℕ, ◌+◌, ◌≤◌, ◌<◌, ◌⊎◌, inl, inr, List, refl, sym, ◌∙◌, subst, arith}
 use Rattle.yaml_text.specs.grammar.Rules.{Rule, maybe, Spans, Stands, run, ◌▸◌}
 use Rattle.yaml_text.specs.grammar.Characters.{is_space, is_ns}
-use Rattle.yaml_text.specs.grammar.Separation.{Ctx, block_out, block_in, flow_out, flow_in, block_key, flow_key, AtEnd, Mark, s_l_comments, separate}
+use Rattle.yaml_text.specs.grammar.Separation.{Ctx, block_out, block_in, flow_out, flow_in, block_key, flow_key, AtEnd, Mark, s_l_comments, separate, separate_lines, sep, indent}
 use Rattle.yaml_text.specs.Lines.{Inside}
 use Rattle.yaml_text.proofs.Runs.{run_none, run_same}
-use Rattle.yaml_text.proofs.Breaks.{mark_ns}
+use Rattle.yaml_text.proofs.Breaks.{mark_ns, run_join}
 use Rattle.yaml_text.proofs.LineRuns.{inside_no_line, end_stops}
 use Rattle.yaml_unique.specs.Readings.{End, Starts}
-use Rattle.yaml_unique.proofs.Lines.{solid_no_space, past_of, past_same, past_no_run, stuck_run, stuck_mark, sep_run, way_any, way_maybe}
+use Rattle.yaml_unique.proofs.Lines.{solid_no_space, past_of, past_same, past_no_run, stuck_run, stuck_mark, sep_run, way_any, way_maybe, past_then}
 use Rattle.yaml_unique.specs.Follows.{Solid, Fresh, Stuck, Past, Way}
 use Rattle.yaml_complete.specs.Decisions.{Refused, Rest}
 use Rattle.yaml_complete.proofs.Decisions.{rest_before, refused_before}
@@ -98,6 +98,26 @@ module _ (cs : List ℕ) where
 
   pub separate_no_end : (n : ℕ) (c : Ctx) (i s x : ℕ) → s_l_comments cs i s → Stuck cs s → Spaces s x → AtEnd cs x → (q : ℕ) → maybe (separate cs n c) i q → Solid cs q → ⊥
   separate_no_end n c i s x l t y e q r h = way_no_end i s x l t y e q (way_maybe cs n c i q r h) h
+
+  -- ---- twice
+
+  pub lines_of : (i m : ℕ) → Past cs i m → s_l_comments cs i m
+  unfolding s_l_comments
+  lines_of i m (inl (a, b, c)) = (a, inl b, c)
+  lines_of i m (inr (s, c)) = (i, inr (refl, s), c)
+
+  -- separation and more of it, up to content, is separation
+  pub separate_twice : (n a k m : ℕ) → Inside cs a → separate cs n flow_in a k → maybe (separate cs n flow_in) k m → Solid cs m → separate cs n flow_in a m
+  unfolding separate separate_lines sep indent
+  separate_twice n a k m o r (inl e) h = subst (separate cs n flow_in a) (sym e) r
+  separate_twice n a k m o r (inr s) h = go (way_any cs n flow_in k m s h) r
+    where
+      go : (run cs is_space k m × Solid cs m) ⊎ ((p : ℕ) × Past cs k p × run cs is_space p m × (p + n ≤ m) × Solid cs m) → separate cs n flow_in a k → separate cs n flow_in a m
+      go (inl (t, f)) (inl (p, c, (x, d, u))) = inl (p, c, (x, d, run_join cs is_space x k m u t))
+      go (inl (t, f)) (inr (inl (u, l))) = inr (inl (run_join cs is_space a k m u t, omega (arith, l, t.0)))
+      go (inl (t, f)) (inr (inr (e, st))) = absurd (inside_no_line cs a o st)
+      go (inr (p, b, t, le, f)) u =
+          inl (p, lines_of a p (past_then cs n flow_in a k p m o r b t h), (p + n, ((omega arith, λ x l g. t.1 x l (omega (arith, g, le))), refl), (le, λ x l g. t.1 x (omega (arith, l)) g)))
 
   -- ---- before a rule that begins with content
 

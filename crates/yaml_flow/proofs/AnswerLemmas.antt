@@ -3,7 +3,7 @@ use Rattle.std.proofs.Common.{◌≡◌, ℕ, zero, suc, List, [], ◌∷◌, �
 use Rattle.std.specs.Prelude.{insert}
 use Rattle.std.specs.Result.{IsErrAnd}
 use Rattle.std.proofs.lemmas.Result.{err_from_is_err_and}
-use Rattle.std.proofs.lemmas.List.{map-append}
+use Rattle.std.proofs.lemmas.List.{map-append, append-nil}
 use Rattle.std.proofs.Math.Seq.{take-append_seam, drop-append_seam}
 use Rattle.yaml_text.specs.Event.{Event}
 use Rattle.yaml_text.specs.EventModel.{event_of, Adds}
@@ -79,6 +79,11 @@ adds_before old mid new es e v h a g =
     ap (map event_of) g ∙ map_insert mid (length old) e ∙ ap (λ xs. insert xs (length old) (event_of e)) a
     ∙ ap (λ n. insert (map event_of old ++ es) n (event_of e)) (length_events old) ∙ insert_seam (map event_of old) es (event_of e)
     ∙ ap (λ u. map event_of old ++ u ∷ es) h
+
+-- events that were put down and taken back
+pub adds_back : (old mid : List code.Event) (start : ℕ) (es : List Event) → start ≡ length old → Adds old es mid → Adds old [] (take start mid)
+adds_back old mid start es e a =
+    map_take mid start ∙ ap (take start) a ∙ ap (λ n. take n (map event_of old ++ es)) (e ∙ length_events old) ∙ take-append_seam (map event_of old) es ∙ sym (append-nil (map event_of old))
 
 -- the faults of a scalar are faults of the reader
 pub scalar_refusal : (P : Type 0) (e : Fault) → scalar.Refuses e P → IsRefusal e

@@ -5,3 +5,11 @@ pub mod SpaceLemmas
 pub mod PropertyLemmas
 pub mod FlowLemmas
 pub mod PropertyDecisions
+pub mod Deciding
+pub mod ContentDecisions
+pub mod BareDecisions
+pub mod LoopDecisions
+pub mod PartDecisions
+pub mod ItemDecisions
+pub mod EntryDecisions
+pub mod FlowAnswers

@@ -1,5 +1,5 @@
 -- Flow nodes by the number of collections that are open in them at once (YAML 1.2.2, 7.4 and 7.5).
-use Rattle.std.specs.Prelude.{◌≡◌, ℕ, zero, suc, ◌≤◌, ◌<◌, List, [], ◌∷◌}
+use Rattle.std.specs.Prelude.{◌≡◌, ◌≢◌, ℕ, zero, suc, ◌≤◌, ◌<◌, ◌+◌, List, [], ◌∷◌, Some, slice_get}
 use Rattle.yaml_text.specs.Event.{Event}
 use Rattle.yaml_text.specs.Event as style
 use Rattle.yaml_text.specs.grammar.Rules.{Span, Rule, ◌◆◌, ◌▸◌, ◌◂◌, ◌⨾◌, ◌∪◌, any, optional, maybe, gives, never, chr, Stands}
@@ -10,7 +10,7 @@ use Rattle.yaml_text.specs.grammar.Events.{Props, no_props, empty}
 use Rattle.yaml_text.specs.grammar.Events as events
 use Rattle.yaml_text.specs.grammar.Nodes.{Part, yaml_part, json_part, pair_part, scalar_of, flow_seq, flow_map, implicit_entry, empty_key, entry, value, adjacent, reads}
 use Rattle.yaml_text.specs.Place.{Steps}
-use Rattle.yaml_text.specs.Source.{bytes_of}
+use Rattle.yaml_text.specs.Source.{bytes_of, text_of, place_of}
 use Rattle.yaml_text.specs.declared.chars.Chars.{Chars}
 use Rattle.yaml_flow.specs.PropertyRules.{Marks}
 use Rattle.yaml_flow.specs.declared.flow.First.{First}
@@ -94,13 +94,24 @@ abbrev pub IsSign : Kind → Ctx → List ℕ → ℕ → Type 0
 IsSign Yaml c cs i = Stands cs (plain_safe c) i → ⊥
 IsSign Json c cs i = Unit {0}
 
--- the bracket or brace that a collection begins with
+-- neither a bracket nor a brace nor a quote stands here
+abbrev pub NoOpening : List ℕ → ℕ → Type 0
+NoOpening cs i = (slice_get cs i ≢ Some 91) × (slice_get cs i ≢ Some 123) × (slice_get cs i ≢ Some 39) × (slice_get cs i ≢ Some 34)
+
+-- the bracket, brace or quote that a node begins with
 abbrev pub FirstIs : Chars → ℕ → First → Type 0
 FirstIs source at (Sequence inside) = Steps (bytes_of source) at 91 inside
 FirstIs source at (Mapping inside) = Steps (bytes_of source) at 123 inside
-FirstIs source at Single = Unit {0}
-FirstIs source at Double = Unit {0}
-FirstIs source at Other = Unit {0}
+FirstIs source at Single = slice_get (text_of source) (place_of source at) ≡ Some 39
+FirstIs source at Double = slice_get (text_of source) (place_of source at) ≡ Some 34
+FirstIs source at Other = NoOpening (text_of source) (place_of source at)
+
+-- the colon stands here that makes a node of this kind a key; a `?` that begins an entry
+abbrev pub SignAt : Kind → Ctx → List ℕ → ℕ → Type 0
+SignAt kind c cs i = (slice_get cs i ≡ Some 58) × IsSign kind c cs (i + 1)
+
+abbrev pub AskedAt : Ctx → List ℕ → ℕ → Type 0
+AskedAt c cs i = (slice_get cs i ≡ Some 63) × (Stands cs (plain_safe c) (i + 1) → ⊥)
 
 -- of what stands inside a flow collection
 abbrev pub IsInner : Ctx → Type 0

@@ -1,7 +1,7 @@
 -- Implicit keys (YAML 1.2.2, 7.4.2).
 use Rattle.std.specs.Prelude.{ℕ, ◌+◌, ◌≤◌, ◌<◌, List}
 use Rattle.yaml_text.specs.Limits.{key_limit}
-use Rattle.yaml_text.specs.grammar.Rules.{run, chr}
+use Rattle.yaml_text.specs.grammar.Rules.{run, chr, Stands}
 use Rattle.yaml_text.specs.grammar.Characters.{is_space}
 use Rattle.yaml_text.specs.grammar.Separation.{OneLine}
 use Rattle.yaml_flow.specs.declared.key.Fit.{Fit}
@@ -21,3 +21,7 @@ module _ (cs : List ℕ) where
   -- after a node from i to j spaces and a colon stand, which ends at k, and the node and the spaces fit a key
   abbrev pub ColonAfter : ℕ → ℕ → ℕ → Type 0
   ColonAfter i j k = (m : ℕ) × run cs is_space j m × chr cs 58 m k × IsKeySized i m
+
+  -- so many spaces and no more
+  abbrev pub Spaced : ℕ → ℕ → Type 0
+  Spaced j q = run cs is_space j q × (Stands cs is_space q → ⊥)

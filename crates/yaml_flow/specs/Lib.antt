@@ -4,3 +4,4 @@ pub mod Lines
 pub mod Keys
 pub mod PropertyRules
 pub mod FlowRules
+pub mod FlowDecisions

@@ -1,21 +1,29 @@
 //! Flow nodes (YAML 1.2.2, 7.4 and 7.5).
-ghost use Rattle.std.specs.Prelude.{◌≡◌, ◌≤◌, ◌<◌, IfSome, IfOk, Some, pos, slice_get, [], ◌∷◌};
+ghost use Rattle.std.specs.Prelude.{◌≡◌, ◌≤◌, ◌<◌, ◌+◌, ◌⊎◌, ℕ, IfSome, IfNone, IfOk, IfErr, Some, pos, slice_get, [], ◌∷◌};
 ghost use Rattle.std.specs.Bool.{OnTrue, OnFalse};
 ghost use Rattle.yaml_text.specs.Limits.{text_limit};
 ghost use Rattle.yaml_text.specs.Place.{Steps};
 ghost use Rattle.yaml_text.specs.Source.{bytes_of, text_of, place_of, IsBorder};
 ghost use Rattle.yaml_text.specs.EventModel.{context_of};
-ghost use Rattle.yaml_text.specs.grammar.Separation.{inner, flow_in, flow_out};
-ghost use Rattle.yaml_text.specs.grammar.Rules.{given, gives, seen};
+ghost use Rattle.yaml_text.specs.grammar.Separation.{inner, flow_in, flow_out, separate};
+ghost use Rattle.yaml_text.specs.grammar.Rules.{given, gives, seen, maybe};
 ghost use Rattle.yaml_text.specs.grammar.Tags as tags;
 ghost use Rattle.yaml_text.specs.grammar.Events.{alias, empty, no_props};
+ghost use Rattle.yaml_text.specs.grammar.FlowScalars.{single, double};
+ghost use Rattle.yaml_text.specs.grammar.Nodes.{flow_seq, flow_map, pair};
+ghost use Rattle.yaml_text.specs.Lines.{Inside};
+ghost use Rattle.yaml_text.specs.declared.fault.Fault.TheVariants.{OutOfMemory};
+ghost use Rattle.yaml_unique.specs.Follows.{Closes, Solid, Fresh};
+ghost use Rattle.yaml_complete.specs.Decisions.{Here};
 ghost use Rattle.yaml_mark.specs.HandlesModel.{handles_of};
-ghost use Rattle.yaml_flow.specs.declared.flow.Kind.TheVariants.{Yaml};
+ghost use Rattle.yaml_flow.specs.declared.flow.Kind.TheVariants.{Yaml, Json};
 ghost use Rattle.yaml_text.specs.Answer.{IsRefusal};
-ghost use Rattle.yaml_flow.specs.Answer.{Appends, Perhaps};
+ghost use Rattle.yaml_flow.specs.Answer.{Appends, Perhaps, Decides};
 ghost use Rattle.yaml_flow.specs.Decisions.{AllProperties, LineGoesOn, DecidesNode};
+ghost use Rattle.yaml_flow.specs.FlowDecisions.{DecidesPlain, DecidesContent, DecidesPart, DecidesEach, NoKey, LongKey};
+ghost use Rattle.yaml_flow.specs.Keys.{IsKeySized, Spaced};
 ghost use Rattle.yaml_flow.specs.PropertyRules.{props_of, Own};
-ghost use Rattle.yaml_flow.specs.FlowRules.{flow_from, content_from, Bare, from_room, item_at, entry_at, keyed_at, asked_at, value_at, parts, IsSign, IsInner, IsParted, FirstIs};
+ghost use Rattle.yaml_flow.specs.FlowRules.{flow_from, content_from, Bare, from_room, item_at, entry_at, keyed_at, asked_at, value_at, parts, opens, below, IsSign, SignAt, AskedAt, IsInner, IsParted, FirstIs};
 
 use crate::key::{Fit, key_fit};
 use crate::line::separation;
@@ -113,7 +121,9 @@ fn read_alias<'a>(
     ensures border { IfOk result (λ node. IsBorder source.now node.end) }
     ensures onward { IfOk result (λ node. at < node.end) }
     ensures within { IfOk result (λ node. node.deep ≡ 0) }
+    ensures kind { IfOk result (λ node. node.kind ≡ Yaml) }
     ensures reads { Appends (λ node. given (node.kind ≡ Yaml) (seen (λ x. alias x ∷ []) (tags.alias (text_of source.now)))) (place_of source.now at) (λ node. place_of source.now node.end) out.old.items out.new.items result }
+    ensures decides { Decides (tags.alias (text_of source.now)) Here (place_of source.now at) Here (λ node. place_of source.now node.end) result }
 {
     let (name, end) = read_name(alloc, source, at)?;
     out.push(Event::Alias { name })?;
@@ -140,6 +150,7 @@ fn read_plain_node<'a>(
     ensures onward { IfOk result (λ found. IfSome found (λ node. at < node.end)) }
     ensures within { IfOk result (λ found. IfSome found (λ node. node.deep ≡ 0)) }
     ensures reads { Perhaps (λ node. content_from (text_of source.now) (Unit {0}) (handles_of handles.entry) node.deep node.kind least (context_of context)) (place_of source.now at) (λ node. place_of source.now node.end) out.old.items out.new.items result }
+    ensures decides { DecidesPlain (text_of source.now) least (context_of context) (place_of source.now at) (λ node. place_of source.now node.end) result }
 {
     match read_plain(alloc, source, at, indentation(least), context) {
         Ok((text, end)) => {
@@ -150,8 +161,10 @@ fn read_plain_node<'a>(
                 kind: Kind::Yaml,
             }))
         }
-        Err(Fault::OutOfMemory) => Err(Fault::OutOfMemory),
-        Err(_) => Ok(None),
+        Err(fault) => match fault {
+            Fault::OutOfMemory => Err(Fault::OutOfMemory),
+            _ => Ok(None),
+        },
     }
 }
 
@@ -171,6 +184,8 @@ fn read_single_node<'a>(
     ensures onward { IfOk result (λ node. at < node.end) }
     ensures within { IfOk result (λ node. node.deep ≡ 0) }
     ensures reads { Appends (λ node. content_from (text_of source.now) (Unit {0}) (handles_of handles.entry) node.deep node.kind least (context_of context)) (place_of source.now at) (λ node. place_of source.now node.end) out.old.items out.new.items result }
+    ensures kind { IfOk result (λ node. node.kind ≡ Json) }
+    ensures decides { Decides (single (text_of source.now) least (context_of context)) Here (place_of source.now at) Here (λ node. place_of source.now node.end) result }
 {
     let (text, end) = read_single(alloc, source, at, indentation(least), context)?;
     push_scalar(out, Style::Single, text)?;
@@ -197,6 +212,8 @@ fn read_double_node<'a>(
     ensures onward { IfOk result (λ node. at < node.end) }
     ensures within { IfOk result (λ node. node.deep ≡ 0) }
     ensures reads { Appends (λ node. content_from (text_of source.now) (Unit {0}) (handles_of handles.entry) node.deep node.kind least (context_of context)) (place_of source.now at) (λ node. place_of source.now node.end) out.old.items out.new.items result }
+    ensures kind { IfOk result (λ node. node.kind ≡ Json) }
+    ensures decides { Decides (double (text_of source.now) least (context_of context)) Here (place_of source.now at) Here (λ node. place_of source.now node.end) result }
 {
     let (text, end) = read_double(alloc, source, at, indentation(least), context)?;
     push_scalar(out, Style::Double, text)?;
@@ -212,7 +229,9 @@ fn push_lone<'a>(source: &Chars<'a>, end: usize, out: &mut Vec<Event<'a>>) -> Re
     requires { IsBorder source.now end }
     ensures end { IfOk result (λ node. node.end ≡ end) }
     ensures within { IfOk result (λ node. node.deep ≡ 0) }
+    ensures kind { IfOk result (λ node. node.kind ≡ Yaml) }
     ensures reads { Appends (λ node. given (node.kind ≡ Yaml) (gives (empty no_props))) (place_of source.now end) (λ node. place_of source.now node.end) out.old.items out.new.items result }
+    ensures memory { IfErr result (λ e. e ≡ OutOfMemory) }
 {
     push_empty(out)?;
     Ok(Node {
@@ -271,13 +290,12 @@ pub fn read_bare<'a>(
     requires order { at ≤ end }
     requires own { Own (text_of source.now) (handles_of handles) least (context_of context) (place_of source.now at) (place_of source.now end) (props_of own.now) }
     requires all { AllProperties (text_of source.now) (handles_of handles) least (context_of context) (place_of source.now at) (place_of source.now end) (props_of own.now) }
-    requires goes_on { context_of context ≡ flow_out → LineGoesOn (text_of source.now) (place_of source.now end) (props_of own.now) }
     requires low { least ≤ at }
     ensures border { IfOk result (λ node. IsBorder source.now node.end) }
     ensures onward { IfOk result (λ node. at ≤ node.end) }
     ensures within { IfOk result (λ node. node.deep ≤ room) }
     ensures reads { Appends (λ node. Bare (text_of source.now) (Unit {0}) (handles_of handles.entry) node.deep node.kind least (context_of context) (props_of own.now) (place_of source.now end)) (place_of source.now at) (λ node. place_of source.now node.end) out.old.items out.new.items result }
-    ensures decides { DecidesNode (text_of source.now) (handles_of handles.entry) room least (context_of context) (place_of source.now at) (λ node. place_of source.now node.end) result }
+    ensures decides { (context_of context ≡ flow_out → LineGoesOn (text_of source.now) (place_of source.now end) (props_of own.now)) → DecidesNode (text_of source.now) (handles_of handles.entry) room least (context_of context) (place_of source.now at) (λ node. place_of source.now node.end) result }
 {
     if own.is_none() {
         if let Some(_) = accept(source, at, '*') {
@@ -316,30 +334,37 @@ fn read_content<'a>(
     ensures onward { IfOk result (λ found. IfSome found (λ node. at < node.end)) }
     ensures within { IfOk result (λ found. IfSome found (λ node. node.deep ≤ room)) }
     ensures reads { Perhaps (λ node. content_from (text_of source.now) (Unit {0}) (handles_of handles.entry) node.deep node.kind least (context_of context)) (place_of source.now at) (λ node. place_of source.now node.end) out.old.items out.new.items result }
+    ensures decides { DecidesContent (text_of source.now) (handles_of handles.entry) room least (context_of context) (place_of source.now at) (λ node. place_of source.now node.end) result }
 {
-    let first = first_of(source, at);
-    let node = match first {
+    match first_of(source, at) {
         First::Sequence(inside) => {
             if room == 0 {
                 return Err(Fault::TooDeep(source.pos(at)));
             }
-            read_sequence(
+            let node = read_sequence(
                 alloc, source, at, inside, least, context, room, handles, out,
-            )?
+            )?;
+            Ok(Some(node))
         }
         First::Mapping(inside) => {
             if room == 0 {
                 return Err(Fault::TooDeep(source.pos(at)));
             }
-            read_mapping(
+            let node = read_mapping(
                 alloc, source, at, inside, least, context, room, handles, out,
-            )?
+            )?;
+            Ok(Some(node))
         }
-        First::Single => read_single_node(alloc, source, at, least, context, handles, out)?,
-        First::Double => read_double_node(alloc, source, at, least, context, handles, out)?,
-        First::Other => return read_plain_node(alloc, source, at, least, context, handles, out),
-    };
-    Ok(Some(node))
+        First::Single => {
+            let node = read_single_node(alloc, source, at, least, context, handles, out)?;
+            Ok(Some(node))
+        }
+        First::Double => {
+            let node = read_double_node(alloc, source, at, least, context, handles, out)?;
+            Ok(Some(node))
+        }
+        First::Other => read_plain_node(alloc, source, at, least, context, handles, out),
+    }
 }
 
 /// A flow sequence, after its bracket.
@@ -363,6 +388,8 @@ fn read_sequence<'a>(
     ensures onward { IfOk result (λ node. at < node.end) }
     ensures within { IfOk result (λ node. node.deep ≤ room) }
     ensures reads { Appends (λ node. content_from (text_of source.now) (Unit {0}) (handles_of handles.entry) node.deep node.kind least (context_of context)) (place_of source.now at) (λ node. place_of source.now node.end) out.old.items out.new.items result }
+    ensures kind { IfOk result (λ node. node.kind ≡ Json) }
+    ensures decides { inner (context_of context) ≡ flow_in → DecidesEach (λ p. flow_seq (text_of source.now) (Unit {0}) (handles_of handles.entry) (opens (text_of source.now) (Unit {0}) (handles_of handles.entry) room) (below (text_of source.now) (Unit {0}) (handles_of handles.entry) room) p least (context_of context)) (place_of source.now at) (λ node. place_of source.now node.end) result }
 {
     out.push(flow_sequence())?;
     let first = separation(source, inside, least, context)?;
@@ -403,6 +430,7 @@ fn read_items<'a>(
     ensures onward { IfOk result (λ r. first < r.0) }
     ensures within { IfOk result (λ r. r.1 ≤ room) }
     ensures reads { Appends (λ r. from_room r.1 (λ room. parts (text_of source.now) least (context_of context) 93 (item_at (text_of source.now) (Unit {0}) (handles_of handles.entry) room least (context_of context)))) (place_of source.now first) (λ r. place_of source.now r.0) out.old.items out.new.items result }
+    ensures decides { context_of context ≡ flow_in → Decides (parts (text_of source.now) least flow_in 93 (item_at (text_of source.now) (Unit {0}) (handles_of handles.entry) room least flow_in)) Here (place_of source.now first) Here (λ r. place_of source.now r.0) result }
 {
     let mut here = first;
     let mut most: u32 = 0;
@@ -414,7 +442,7 @@ fn read_items<'a>(
                     alloc, source, here, least, context, room, handles, out,
                 )?;
                 most = most.max(deep);
-                let after = separation(source, item, least, context)?;
+                let after = part_gap(source, item, least, context)?;
                 match accept(source, after, ']') {
                     Some(end) => return Ok((end, most)),
                     None => match accept(source, after, ',') {
@@ -427,11 +455,29 @@ fn read_items<'a>(
     }
 }
 
+/// The border after the separation that follows a part, as much as there is.
+fn part_gap(source: &Chars<'_>, at: usize, least: usize, context: Ctx) -> Result<usize, Fault>
+    requires { IsBorder source.now at }
+    ensures border { IfOk result (λ to. IsBorder source.now to) }
+    ensures onward { IfOk result (λ to. at ≤ to) }
+    ensures separate { IfOk result (λ to. maybe (separate (text_of source.now) least (context_of context)) (place_of source.now at) (place_of source.now to)) }
+    ensures to { IfOk result (λ to. (q : ℕ) → maybe (separate (text_of source.now) least (context_of context)) (place_of source.now at) q → Solid (text_of source.now) q → q ≡ place_of source.now to) }
+    ensures err { IfErr result IsRefusal }
+    ensures none { IfErr result (λ _. Inside (text_of source.now) (place_of source.now at) ⊎ Closes (text_of source.now) (place_of source.now at) → (q : ℕ) → maybe (separate (text_of source.now) least (context_of context)) (place_of source.now at) q → Fresh (text_of source.now) q → ⊥) }
+{
+    if ends_value(source, at) {
+        // what closes it may begin a line
+        return Ok(at);
+    }
+    separation(source, at, least, context)
+}
+
 /// The border after the colon that makes a node a key, if it stands at a border.
 fn value_sign(source: &Chars<'_>, at: usize, kind: Kind, context: Ctx) -> Option<usize>
     requires { IsBorder source.now at }
     ensures colon { IfSome result (λ after. Steps (bytes_of source.now) at 58 after) }
     ensures sign { IfSome result (λ after. IsSign kind (context_of context) (text_of source.now) (place_of source.now after)) }
+    ensures none { IfNone result (SignAt kind (context_of context) (text_of source.now) (place_of source.now at) → ⊥) }
 {
     match accept(source, at, ':') {
         None => None,
@@ -448,7 +494,9 @@ fn value_sign(source: &Chars<'_>, at: usize, kind: Kind, context: Ctx) -> Option
 /// The border after the `?` that begins an entry, if it stands at a border.
 fn question_sign(source: &Chars<'_>, at: usize, context: Ctx) -> Option<usize>
     requires { IsBorder source.now at }
-    ensures { IfSome result (λ after. Steps (bytes_of source.now) at 63 after) }
+    ensures sign { IfSome result (λ after. Steps (bytes_of source.now) at 63 after) }
+    ensures asked { IfSome result (λ _. AskedAt (context_of context) (text_of source.now) (place_of source.now at)) }
+    ensures none { IfNone result (AskedAt (context_of context) (text_of source.now) (place_of source.now at) → ⊥) }
 {
     match accept(source, at, '?') {
         None => None,
@@ -456,40 +504,6 @@ fn question_sign(source: &Chars<'_>, at: usize, context: Ctx) -> Option<usize>
             Some((c, _)) if is_plain_safe(context, c) => None,
             _ => Some(after),
         },
-    }
-}
-
-/// The fault of a key whose mapping is one collection too many: it is told where the last of them opens.
-#[cycle(nodes)]
-pub fn too_deep<'a>(
-    alloc: Global,
-    source: &Chars<'a>,
-    at: usize,
-    least: usize,
-    context: Ctx,
-    room: u32,
-    handles: Option<&Handles<'a>>,
-) -> Fault
-    requires border { IsBorder source.now at }
-    requires low { least ≤ at }
-    ensures { IsRefusal result }
-{
-    if room == 0 {
-        return Fault::TooDeep(source.pos(at));
-    }
-    let mut key = Vec::new(alloc);
-    match read_flow_node(
-        alloc,
-        source,
-        at,
-        least,
-        context,
-        room - 1,
-        handles,
-        &mut key,
-    ) {
-        Ok(_) => Fault::TooDeep(source.pos(at)),
-        Err(fault) => fault,
     }
 }
 
@@ -512,6 +526,8 @@ fn read_item<'a>(
     ensures onward { IfOk result (λ r. at ≤ r.0) }
     ensures within { IfOk result (λ r. r.1 ≤ room) }
     ensures reads { Appends (λ r. from_room r.1 (λ room. item_at (text_of source.now) (Unit {0}) (handles_of handles.entry) room least (context_of context))) (place_of source.now at) (λ r. place_of source.now r.0) out.old.items out.new.items result }
+    ensures ends { IfOk result (λ r. Inside (text_of source.now) (place_of source.now r.0) ⊎ Closes (text_of source.now) (place_of source.now r.0)) }
+    ensures decides { context_of context ≡ flow_in → DecidesPart (text_of source.now) least (item_at (text_of source.now) (Unit {0}) (handles_of handles.entry) room least flow_in) (place_of source.now at) (λ r. place_of source.now r.0) result }
 {
     if let Some(after) = question_sign(source, at, context) {
         return read_asked_pair(alloc, source, at, after, least, context, room, handles, out);
@@ -539,12 +555,15 @@ fn read_asked_pair<'a>(
 ) -> Result<(usize, u32), Fault>
     requires border { IsBorder source.now at }
     requires sign { Steps (bytes_of source.now) at 63 after }
+    requires asked { AskedAt (context_of context) (text_of source.now) (place_of source.now at) }
     requires low { least ≤ at }
     requires inner { IsInner (context_of context) }
     ensures border { IfOk result (λ r. IsBorder source.now r.0) }
     ensures onward { IfOk result (λ r. at ≤ r.0) }
     ensures within { IfOk result (λ r. r.1 ≤ room) }
     ensures reads { Appends (λ r. from_room r.1 (λ room. item_at (text_of source.now) (Unit {0}) (handles_of handles.entry) room least (context_of context))) (place_of source.now at) (λ r. place_of source.now r.0) out.old.items out.new.items result }
+    ensures ends { IfOk result (λ r. Inside (text_of source.now) (place_of source.now r.0) ⊎ Closes (text_of source.now) (place_of source.now r.0)) }
+    ensures decides { context_of context ≡ flow_in → DecidesPart (text_of source.now) least (item_at (text_of source.now) (Unit {0}) (handles_of handles.entry) room least flow_in) (place_of source.now at) (λ r. place_of source.now r.0) result }
 {
     if room == 0 {
         return Err(Fault::TooDeep(source.pos(at)));
@@ -577,6 +596,8 @@ fn read_empty_pair<'a>(
     ensures onward { IfOk result (λ r. at ≤ r.0) }
     ensures within { IfOk result (λ r. r.1 ≤ room) }
     ensures reads { Appends (λ r. from_room r.1 (λ room. item_at (text_of source.now) (Unit {0}) (handles_of handles.entry) room least (context_of context))) (place_of source.now at) (λ r. place_of source.now r.0) out.old.items out.new.items result }
+    ensures ends { IfOk result (λ r. Inside (text_of source.now) (place_of source.now r.0) ⊎ Closes (text_of source.now) (place_of source.now r.0)) }
+    ensures decides { context_of context ≡ flow_in → DecidesPart (text_of source.now) least (item_at (text_of source.now) (Unit {0}) (handles_of handles.entry) room least flow_in) (place_of source.now at) (λ r. place_of source.now r.0) result }
 {
     if room == 0 {
         return Err(Fault::TooDeep(source.pos(at)));
@@ -614,40 +635,123 @@ fn read_node_item<'a>(
     requires border { IsBorder source.now at }
     requires low { least ≤ at }
     requires inner { IsInner (context_of context) }
+    requires no_colon { SignAt Yaml (context_of context) (text_of source.now) (place_of source.now at) → ⊥ }
+    requires no_mark { AskedAt (context_of context) (text_of source.now) (place_of source.now at) → ⊥ }
     ensures border { IfOk result (λ r. IsBorder source.now r.0) }
     ensures onward { IfOk result (λ r. at ≤ r.0) }
     ensures within { IfOk result (λ r. r.1 ≤ room) }
     ensures reads { Appends (λ r. from_room r.1 (λ room. item_at (text_of source.now) (Unit {0}) (handles_of handles.entry) room least (context_of context))) (place_of source.now at) (λ r. place_of source.now r.0) out.old.items out.new.items result }
+    ensures ends { IfOk result (λ r. Inside (text_of source.now) (place_of source.now r.0) ⊎ Closes (text_of source.now) (place_of source.now r.0)) }
+    ensures decides { context_of context ≡ flow_in → DecidesPart (text_of source.now) least (item_at (text_of source.now) (Unit {0}) (handles_of handles.entry) room least flow_in) (place_of source.now at) (λ r. place_of source.now r.0) result }
 {
     let start = out.len();
     let key = read_flow_node(alloc, source, at, least, context, room, handles, out)?;
-    let (_, colon) = skip_spaces(source, key.end);
-    match value_sign(source, colon, key.kind, context) {
+    match key_colon(source, at, key.end, key.kind, context)? {
         None => Ok((key.end, key.deep)),
-        Some(after) => match key_fit(source, at, colon) {
-            Fit::Broken => Ok((key.end, key.deep)),
-            Fit::Long => Err(Fault::KeyTooLong(source.pos(at))),
-            Fit::Fits => {
-                if key.deep >= room {
-                    return Err(too_deep(alloc, source, at, least, context, room, handles));
-                }
-                out.insert(start, flow_mapping())?;
-                let (end, deep) = read_value(
-                    alloc,
-                    source,
-                    colon,
-                    after,
-                    key.kind,
-                    least,
-                    context,
-                    room - 1,
-                    handles,
-                    out,
-                )?;
-                out.push(Event::MappingEnd)?;
-                Ok((end, key.deep.max(deep) + 1))
+        Some((colon, after)) => {
+            if room == 0 {
+                return Err(Fault::TooDeep(source.pos(at)));
             }
+            if key.deep >= room {
+                // the fault to tell is in the key, where its last collection opens
+                out.truncate(start);
+                return read_pair(alloc, source, at, least, context, room, handles, out);
+            }
+            out.insert(start, flow_mapping())?;
+            let (end, deep) = read_value(
+                alloc,
+                source,
+                colon,
+                after,
+                key.kind,
+                least,
+                context,
+                room - 1,
+                handles,
+                out,
+            )?;
+            out.push(Event::MappingEnd)?;
+            Ok((end, key.deep.max(deep) + 1))
+        }
+    }
+}
+
+/// The colon that makes a node from `at` to `end` the key of a pair, if it stands after it, and the border after the colon.
+fn key_colon(
+    source: &Chars<'_>,
+    at: usize,
+    end: usize,
+    kind: Kind,
+    context: Ctx,
+) -> Result<Option<(usize, usize)>, Fault>
+    requires border { IsBorder source.now at }
+    requires end { IsBorder source.now end }
+    requires order { at ≤ end }
+    ensures onward { IfOk result (λ found. IfSome found (λ r. end ≤ r.0)) }
+    ensures spaced { IfOk result (λ found. IfSome found (λ r. Spaced (text_of source.now) (place_of source.now end) (place_of source.now r.0))) }
+    ensures colon { IfOk result (λ found. IfSome found (λ r. Steps (bytes_of source.now) r.0 58 r.1)) }
+    ensures sign { IfOk result (λ found. IfSome found (λ r. IsSign kind (context_of context) (text_of source.now) (place_of source.now r.1))) }
+    ensures fits { IfOk result (λ found. IfSome found (λ r. IsKeySized (text_of source.now) (place_of source.now at) (place_of source.now r.0))) }
+    ensures none { IfOk result (λ found. IfNone found (NoKey (text_of source.now) kind (context_of context) (place_of source.now at) (place_of source.now end))) }
+    ensures err { IfErr result IsRefusal }
+    ensures long { IfErr result (λ _. LongKey (text_of source.now) kind (context_of context) (place_of source.now at) (place_of source.now end)) }
+{
+    let (_, colon) = skip_spaces(source, end);
+    match value_sign(source, colon, kind, context) {
+        None => Ok(None),
+        Some(after) => match key_fit(source, at, colon) {
+            Fit::Broken => Ok(None),
+            Fit::Long => Err(Fault::KeyTooLong(source.pos(at))),
+            Fit::Fits => Ok(Some((colon, after))),
         },
+    }
+}
+
+/// A pair that begins with its key (7.4.2).
+#[cycle(nodes)]
+fn read_pair<'a>(
+    alloc: Global,
+    source: &Chars<'a>,
+    at: usize,
+    least: usize,
+    context: Ctx,
+    room: u32,
+    handles: Option<&Handles<'a>>,
+    out: &mut Vec<Event<'a>>,
+) -> Result<(usize, u32), Fault>
+    requires border { IsBorder source.now at }
+    requires low { least ≤ at }
+    requires some { 0 < room }
+    requires inner { IsInner (context_of context) }
+    requires no_colon { SignAt Yaml (context_of context) (text_of source.now) (place_of source.now at) → ⊥ }
+    requires no_mark { AskedAt (context_of context) (text_of source.now) (place_of source.now at) → ⊥ }
+    ensures border { IfOk result (λ r. IsBorder source.now r.0) }
+    ensures onward { IfOk result (λ r. at ≤ r.0) }
+    ensures within { IfOk result (λ r. r.1 ≤ room) }
+    ensures reads { Appends (λ r. from_room r.1 (λ room. item_at (text_of source.now) (Unit {0}) (handles_of handles.entry) room least (context_of context))) (place_of source.now at) (λ r. place_of source.now r.0) out.old.items out.new.items result }
+    ensures ends { IfOk result (λ r. Inside (text_of source.now) (place_of source.now r.0) ⊎ Closes (text_of source.now) (place_of source.now r.0)) }
+    ensures decides { context_of context ≡ flow_in → DecidesPart (text_of source.now) least (pair (text_of source.now) (Unit {0}) (handles_of handles.entry) (opens (text_of source.now) (Unit {0}) (handles_of handles.entry) room) (below (text_of source.now) (Unit {0}) (handles_of handles.entry) room) least flow_in) (place_of source.now at) (λ r. place_of source.now r.0) result }
+{
+    out.push(flow_mapping())?;
+    let key = read_flow_node(alloc, source, at, least, context, room - 1, handles, out)?;
+    match key_colon(source, at, key.end, key.kind, context)? {
+        None => Err(unusable(source, key.end)),
+        Some((colon, after)) => {
+            let (end, deep) = read_value(
+                alloc,
+                source,
+                colon,
+                after,
+                key.kind,
+                least,
+                context,
+                room - 1,
+                handles,
+                out,
+            )?;
+            out.push(Event::MappingEnd)?;
+            Ok((end, key.deep.max(deep) + 1))
+        }
     }
 }
 
@@ -666,6 +770,8 @@ fn is_parted(kind: Kind, after: usize, start: usize) -> bool
 /// Whether nothing of a value stands before a border.
 fn ends_value(source: &Chars<'_>, at: usize) -> bool
     requires { IsBorder source.now at }
+    ensures yes { OnTrue result (Closes (text_of source.now) (place_of source.now at)) }
+    ensures no { OnFalse result (Closes (text_of source.now) (place_of source.now at) → ⊥) }
 {
     match next(source, at) {
         Some((',' | ']' | '}', _)) => true,
@@ -694,6 +800,8 @@ fn read_value<'a>(
     ensures onward { IfOk result (λ r. after ≤ r.0) }
     ensures within { IfOk result (λ r. r.1 ≤ room) }
     ensures reads { Appends (λ r. from_room r.1 (λ room. value_at (text_of source.now) (Unit {0}) (handles_of handles.entry) kind room least (context_of context))) (place_of source.now colon) (λ r. place_of source.now r.0) out.old.items out.new.items result }
+    ensures ends { IfOk result (λ r. Inside (text_of source.now) (place_of source.now r.0) ⊎ Closes (text_of source.now) (place_of source.now r.0)) }
+    ensures decides { context_of context ≡ flow_in → DecidesPart (text_of source.now) least (value_at (text_of source.now) (Unit {0}) (handles_of handles.entry) kind room least flow_in) (place_of source.now colon) (λ r. place_of source.now r.0) result }
 {
     let start = separation(source, after, least, context)?;
     if !is_parted(kind, after, start) {
@@ -729,6 +837,8 @@ fn read_mapping<'a>(
     ensures onward { IfOk result (λ node. at < node.end) }
     ensures within { IfOk result (λ node. node.deep ≤ room) }
     ensures reads { Appends (λ node. content_from (text_of source.now) (Unit {0}) (handles_of handles.entry) node.deep node.kind least (context_of context)) (place_of source.now at) (λ node. place_of source.now node.end) out.old.items out.new.items result }
+    ensures kind { IfOk result (λ node. node.kind ≡ Json) }
+    ensures decides { inner (context_of context) ≡ flow_in → DecidesEach (λ p. flow_map (text_of source.now) (Unit {0}) (handles_of handles.entry) (opens (text_of source.now) (Unit {0}) (handles_of handles.entry) room) (below (text_of source.now) (Unit {0}) (handles_of handles.entry) room) p least (context_of context)) (place_of source.now at) (λ node. place_of source.now node.end) result }
 {
     out.push(flow_mapping())?;
     let first = separation(source, inside, least, context)?;
@@ -769,6 +879,7 @@ fn read_entries<'a>(
     ensures onward { IfOk result (λ r. first < r.0) }
     ensures within { IfOk result (λ r. r.1 ≤ room) }
     ensures reads { Appends (λ r. from_room r.1 (λ room. parts (text_of source.now) least (context_of context) 125 (entry_at (text_of source.now) (Unit {0}) (handles_of handles.entry) room least (context_of context)))) (place_of source.now first) (λ r. place_of source.now r.0) out.old.items out.new.items result }
+    ensures decides { context_of context ≡ flow_in → Decides (parts (text_of source.now) least flow_in 125 (entry_at (text_of source.now) (Unit {0}) (handles_of handles.entry) room least flow_in)) Here (place_of source.now first) Here (λ r. place_of source.now r.0) result }
 {
     let mut here = first;
     let mut most: u32 = 0;
@@ -780,7 +891,7 @@ fn read_entries<'a>(
                     alloc, source, here, least, context, room, handles, out,
                 )?;
                 most = most.max(deep);
-                let after = separation(source, entry, least, context)?;
+                let after = part_gap(source, entry, least, context)?;
                 match accept(source, after, '}') {
                     Some(end) => return Ok((end, most)),
                     None => match accept(source, after, ',') {
@@ -812,6 +923,8 @@ fn read_entry<'a>(
     ensures onward { IfOk result (λ r. at ≤ r.0) }
     ensures within { IfOk result (λ r. r.1 ≤ room) }
     ensures reads { Appends (λ r. from_room r.1 (λ room. entry_at (text_of source.now) (Unit {0}) (handles_of handles.entry) room least (context_of context))) (place_of source.now at) (λ r. place_of source.now r.0) out.old.items out.new.items result }
+    ensures ends { IfOk result (λ r. Inside (text_of source.now) (place_of source.now r.0) ⊎ Closes (text_of source.now) (place_of source.now r.0)) }
+    ensures decides { context_of context ≡ flow_in → DecidesPart (text_of source.now) least (entry_at (text_of source.now) (Unit {0}) (handles_of handles.entry) room least flow_in) (place_of source.now at) (λ r. place_of source.now r.0) result }
 {
     match question_sign(source, at, context) {
         None => read_keyed(alloc, source, at, least, context, room, handles, out),
@@ -834,10 +947,13 @@ fn read_asked<'a>(
     requires border { IsBorder source.now after }
     requires low { least ≤ after }
     requires inner { IsInner (context_of context) }
+    requires mark { (i : ℕ) × (place_of source.now after ≡ i + 1) × (slice_get (text_of source.now) i ≡ Some 63) }
     ensures border { IfOk result (λ r. IsBorder source.now r.0) }
     ensures onward { IfOk result (λ r. after ≤ r.0) }
     ensures within { IfOk result (λ r. r.1 ≤ room) }
     ensures reads { Appends (λ r. from_room r.1 (λ room. asked_at (text_of source.now) (Unit {0}) (handles_of handles.entry) room least (context_of context))) (place_of source.now after) (λ r. place_of source.now r.0) out.old.items out.new.items result }
+    ensures ends { IfOk result (λ r. Inside (text_of source.now) (place_of source.now r.0) ⊎ Closes (text_of source.now) (place_of source.now r.0)) }
+    ensures decides { context_of context ≡ flow_in → DecidesPart (text_of source.now) least (asked_at (text_of source.now) (Unit {0}) (handles_of handles.entry) room least flow_in) (place_of source.now after) (λ r. place_of source.now r.0) result }
 {
     let start = separation(source, after, least, context)?;
     if start == after {
@@ -870,6 +986,8 @@ fn read_keyed<'a>(
     ensures onward { IfOk result (λ r. at ≤ r.0) }
     ensures within { IfOk result (λ r. r.1 ≤ room) }
     ensures reads { Appends (λ r. from_room r.1 (λ room. keyed_at (text_of source.now) (Unit {0}) (handles_of handles.entry) room least (context_of context))) (place_of source.now at) (λ r. place_of source.now r.0) out.old.items out.new.items result }
+    ensures ends { IfOk result (λ r. Inside (text_of source.now) (place_of source.now r.0) ⊎ Closes (text_of source.now) (place_of source.now r.0)) }
+    ensures decides { context_of context ≡ flow_in → DecidesPart (text_of source.now) least (keyed_at (text_of source.now) (Unit {0}) (handles_of handles.entry) room least flow_in) (place_of source.now at) (λ r. place_of source.now r.0) result }
 {
     match value_sign(source, at, Kind::Yaml, context) {
         None => read_key_entry(alloc, source, at, least, context, room, handles, out),
@@ -906,10 +1024,13 @@ fn read_key_entry<'a>(
     requires border { IsBorder source.now at }
     requires low { least ≤ at }
     requires inner { IsInner (context_of context) }
+    requires no_colon { SignAt Yaml (context_of context) (text_of source.now) (place_of source.now at) → ⊥ }
     ensures border { IfOk result (λ r. IsBorder source.now r.0) }
     ensures onward { IfOk result (λ r. at ≤ r.0) }
     ensures within { IfOk result (λ r. r.1 ≤ room) }
     ensures reads { Appends (λ r. from_room r.1 (λ room. keyed_at (text_of source.now) (Unit {0}) (handles_of handles.entry) room least (context_of context))) (place_of source.now at) (λ r. place_of source.now r.0) out.old.items out.new.items result }
+    ensures ends { IfOk result (λ r. Inside (text_of source.now) (place_of source.now r.0) ⊎ Closes (text_of source.now) (place_of source.now r.0)) }
+    ensures decides { context_of context ≡ flow_in → DecidesPart (text_of source.now) least (keyed_at (text_of source.now) (Unit {0}) (handles_of handles.entry) room least flow_in) (place_of source.now at) (λ r. place_of source.now r.0) result }
 {
     let key = read_flow_node(alloc, source, at, least, context, room, handles, out)?;
     let colon = separation(source, key.end, least, context)?;

@@ -86,7 +86,7 @@ sign_question : plain_sign 63 ≡ true
 unfolding plain_sign
 sign_question = refl
 
-inner_in : inner flow_in ≡ flow_in
+pub inner_in : inner flow_in ≡ flow_in
 unfolding inner
 inner_in = refl
 
@@ -127,7 +127,7 @@ module _ (cs : List ℕ) where
   end_no_plain q (inl h) a = closes_no_plain flow_in q h a
   end_no_plain q (inr h) a = colon_no_plain q h a
 
-  end_solid : (q : ℕ) → Closes cs q ⊎ ColonY cs q → Solid cs q
+  pub end_solid : (q : ℕ) → Closes cs q ⊎ ColonY cs q → Solid cs q
   end_solid q (inl h) = closes_solid cs q h
   end_solid q (inr h) = colon_solid cs q h.0
 
@@ -137,12 +137,12 @@ module _ (cs : List ℕ) where
   item_plain : (i : ℕ) → Fresh cs i → PlainFirst cs flow_in i → ItemHere cs i
   item_plain i f a = (f, (λ h. closes_no_plain flow_in i h a), (λ h. colon_no_plain i h a), λ (h, n). no_first_sign cs flow_in i (i + 1) 63 h sign_question refl (λ (x, g, t). n (x, g, safe_ns flow_in x t)) a)
 
-  next_flow : (handles : Handles) (n k : ℕ) → Inside cs k → Fy cs k → NoMore cs handles n k
+  pub next_flow : (handles : Handles) (n k : ℕ) → Inside cs k → Fy cs k → NoMore cs handles n k
   next_flow handles n k o (q, w, h) c x s p =
       let e : q ≡ x = way_same cs k q x w (way_of cs n c k x s (prop_solid cs handles x p).0) in
       end_no_kind 1 q h (subst (Kind cs 1) (sym e) (prop_kind cs handles x p))
 
-  content_flow : (n k x : ℕ) → Inside cs k → Fy cs k → separate cs n flow_in k x → ContentHere cs flow_in x → ⊥
+  pub content_flow : (n k x : ℕ) → Inside cs k → Fy cs k → separate cs n flow_in k x → ContentHere cs flow_in x → ⊥
   content_flow n k x o (q, w, h) s (f, a) =
       let e : x ≡ q = way_same cs k x q (way_of cs n flow_in k x s f.0) w in go e a
     where
@@ -150,7 +150,7 @@ module _ (cs : List ℕ) where
       go e (inl b) = end_no_kind 3 q h (subst (Kind cs 3) e b)
       go e (inr b) = end_no_plain q h (subst (PlainFirst cs flow_in) e b)
 
-  plain_flow_unique : (n : ℕ) → Unique (plain cs n flow_in) (At (Fy cs))
+  pub plain_flow_unique : (n : ℕ) → Unique (plain cs n flow_in) (At (Fy cs))
   plain_flow_unique n = plain_stops cs n flow_in (Fy cs) (λ j o xs a (q, w, h) r u. stop_way cs n flow_in j o q xs r a w (later q h))
     where
       later : (q : ℕ) → Closes cs q ⊎ ColonY cs q → Later cs flow_in q → ⊥

@@ -1,10 +1,12 @@
-use Rattle.std.proofs.Common.{◌+◌, ◌*◌, ◌-◌, ◌≤◌, List, length}
+use Rattle.std.proofs.Common.{◌≡◌, ◌+◌, ◌*◌, ◌-◌, ◌≤◌, List, length}
 use Rattle.yaml_text.specs.Event.{Event}
 use Rattle.yaml_text.specs.EventModel.{Adds, context_of}
 use Rattle.yaml_text.specs.Source.{bytes_of, text_of, place_of, IsBorder}
 use Rattle.yaml_text.specs.grammar.Rules.{any, ◌◂◌}
+use Rattle.yaml_text.specs.grammar.Separation.{flow_in}
 use Rattle.yaml_mark.specs.HandlesModel.{handles_of}
 use Rattle.yaml_flow.specs.FlowRules.{from_room, item_at, entry_at, spaced, comma}
+use Rattle.yaml_flow.proofs.LoopDecisions.{PartsLeft}
 use Rattle.yaml_flow.proofs.flow.+nodes.Given as goal
 
 abbrev pub decreases-read_sequence : goal.decreases-read_sequence
@@ -22,8 +24,8 @@ decreases-read_bare l = 12 * l.room + 2
 abbrev pub decreases-read_flow_node : goal.decreases-read_flow_node
 decreases-read_flow_node l = 12 * l.room + 3
 
-abbrev pub decreases-too_deep : goal.decreases-too_deep
-decreases-too_deep l = 12 * l.room + 4
+abbrev pub decreases-read_pair : goal.decreases-read_pair
+decreases-read_pair l = 12 * l.room + 4
 
 abbrev pub decreases-read_value : goal.decreases-read_value
 decreases-read_value l = 12 * l.room + 4
@@ -68,6 +70,7 @@ invariant-read_items-items l =
       within : l.most ≤ l.room;
       reads : (es : List Event) × Adds l.fn.out.items es l.out.items
           × from_room l.most (λ room. any (spaced cs l.least c (item_at cs (Unit {0}) (handles_of l.handles) room l.least c) ◂ comma cs l.least c)) (place_of l.source l.first) (place_of l.source l.here) es;
+      left : context_of l.context ≡ flow_in → PartsLeft cs l.least (item_at cs (Unit {0}) (handles_of l.handles) l.room l.least flow_in) 93 (place_of l.source l.first) (place_of l.source l.here);
     }
 
 abbrev pub decreases-read_items-items : goal.decreases-read_items-items
@@ -83,6 +86,7 @@ invariant-read_entries-entries l =
       within : l.most ≤ l.room;
       reads : (es : List Event) × Adds l.fn.out.items es l.out.items
           × from_room l.most (λ room. any (spaced cs l.least c (entry_at cs (Unit {0}) (handles_of l.handles) room l.least c) ◂ comma cs l.least c)) (place_of l.source l.first) (place_of l.source l.here) es;
+      left : context_of l.context ≡ flow_in → PartsLeft cs l.least (entry_at cs (Unit {0}) (handles_of l.handles) l.room l.least flow_in) 125 (place_of l.source l.first) (place_of l.source l.here);
     }
 
 abbrev pub decreases-read_entries-entries : goal.decreases-read_entries-entries

@@ -1,4 +1,4 @@
-use Rattle.std.proofs.Common.{ℕ, ℤ, pos, ◌≡◌, ap, subst}
+use Rattle.std.proofs.Common.{ℕ, ℤ, pos, ◌≡◌, refl, ap, subst}
 use Rattle.std.specs.Prelude.{nat_abs}
 use Rattle.std.proofs.Common.{rules, w32, ◌∙◌}
 use Rattle.std.proofs.lemmas.Int.{to_z-of_z}
@@ -8,6 +8,9 @@ use Rattle.std.specs.Cow.{cow_str_bytes}
 use Rattle.yaml_text.specs.Source.{text_of, place_of}
 use Rattle.yaml_text.specs.EventModel.{context_of}
 use Rattle.yaml_text.specs.grammar.FlowScalars.{plain}
+use Rattle.yaml_text.specs.Answer.{Furthest, Unread}
+use Rattle.yaml_flow.proofs.Deciding.{refusal, one_left}
+use Rattle.yaml_flow.proofs.ContentDecisions.{plain_taken}
 use Rattle.yaml_mark.specs.HandlesModel.{handles_of}
 use Rattle.yaml_flow.proofs.FlowLemmas.{plain_is}
 use Rattle.yaml_flow.proofs.flow.read_plain_node.Goals as goal
@@ -25,3 +28,20 @@ returns-in_ok-push_scalar-in-Ok-clause-reads c =
       plain_is cs (Unit {0}) (handles_of c.args.handles) c.args.least (context_of c.args.context) _ _ text
           (subst (λ m. plain cs m (context_of c.args.context) (place_of c.args.source.now c.args.at) (place_of c.args.source.now c.in-Ok.end) text) n c.in-Ok.ensures.reads.is),
     )
+
+pub returns-in_ok-push_scalar-in-Ok-clause-decides : goal.returns-in_ok-push_scalar-in-Ok-clause-decides
+returns-in_ok-push_scalar-in-Ok-clause-decides c =
+    let cs = text_of c.args.source.now in
+    let x = context_of c.args.context in
+    let i = place_of c.args.source.now c.args.at in
+    let j = place_of c.args.source.now c.in-Ok.end in
+    let n = least_is c.indentation.result c.args.least (search rules) c.indentation.ensures in
+    (refl, λ d. plain_taken cs c.args.least x i j _ (subst (λ m. Furthest (plain cs m x) i j (chars (cow_str_bytes c.in-Ok.text))) n c.in-Ok.ensures.reads) d)
+
+pub returns-in_default-clause-decides : goal.returns-in_default-clause-decides
+returns-in_default-clause-decides c =
+    let cs = text_of c.args.source.now in
+    let x = context_of c.args.context in
+    let i = place_of c.args.source.now c.args.at in
+    let n = least_is c.indentation.result c.args.least (search rules) c.indentation.ensures in
+    subst (λ m. Unread (plain cs m x) i) n (one_left (refusal c.in-Err.fault c.in-Err.ensures.reads) c.in_default.not-OutOfMemory)

@@ -8,6 +8,10 @@ use Rattle.std.specs.Cow.{cow_str_bytes}
 use Rattle.yaml_text.specs.Source.{text_of, place_of}
 use Rattle.yaml_text.specs.EventModel.{context_of}
 use Rattle.yaml_text.specs.grammar.FlowScalars.{single}
+use Rattle.yaml_text.specs.Answer.{Unread}
+use Rattle.yaml_complete.specs.Decisions.{Goes, Here}
+use Rattle.yaml_flow.proofs.Deciding.{decides_err, refusal, unread_refused, only_goes}
+use Rattle.yaml_flow.proofs.PropertyDecisions.{or_else}
 use Rattle.yaml_mark.specs.HandlesModel.{handles_of}
 use Rattle.yaml_flow.proofs.FlowLemmas.{single_is}
 use Rattle.yaml_flow.proofs.flow.read_single_node.Goals as goal
@@ -25,3 +29,17 @@ returns-clause-reads c =
       single_is cs (Unit {0}) (handles_of c.args.handles) c.args.least (context_of c.args.context) _ _ text
           (subst (λ m. single cs m (context_of c.args.context) (place_of c.args.source.now c.args.at) (place_of c.args.source.now c.in_ok-text.end) text) n c.in_ok-text.ensures.reads.is),
     )
+
+pub returns-clause-decides : goal.returns-clause-decides
+returns-clause-decides c =
+    let cs = text_of c.args.source.now in
+    let n = least_is c.indentation.result c.args.least (search rules) c.indentation.ensures in
+    subst (λ m. Goes (single cs m (context_of c.args.context)) Here (place_of c.args.source.now c.args.at) Here (place_of c.args.source.now c.in_ok-text.end)) n (only_goes _ _ _ _ c.in_ok-text.ensures.reads)
+
+pub returns-in_err-text-clause-decides : goal.returns-in_err-text-clause-decides
+returns-in_err-text-clause-decides c =
+    let cs = text_of c.args.source.now in
+    let i = place_of c.args.source.now c.args.at in
+    let n = least_is c.indentation.result c.args.least (search rules) c.indentation.ensures in
+    decides_err (single cs c.args.least (context_of c.args.context)) Here i Here (λ node. place_of c.args.source.now node.end) c.from_residual.result _ c.from_residual.ensures.1
+    (or_else (λ none. unread_refused _ Here i (subst (λ m. Unread (single cs m (context_of c.args.context)) i) n none)) (refusal _ c.in_err-text.ensures.reads))
