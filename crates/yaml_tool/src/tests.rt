@@ -286,6 +286,177 @@ fn same_reads_both_files_before_it_judges_either(rt: HostRuntime) -> Result<(), 
     check(&rt, &Shelf::new(), &SAME)
 }
 
+const EVENTS: [Row; 7] = [
+    Row {
+        words: &["events"],
+        input: "a: 1\nb: 0x1\n",
+        status: 0,
+        out: "+STR\n+DOC\n+MAP\n=VAL :a\n=VAL :1\n=VAL :b\n=VAL :0x1\n-MAP\n-DOC\n-STR\n",
+        err: "",
+    },
+    Row {
+        words: &["events", "a.yaml"],
+        input: "",
+        status: 0,
+        out: "+STR\n+DOC ---\n+SEQ []\n=VAL \"a\n=VAL \"b\n-SEQ\n-DOC\n-STR\n",
+        err: "",
+    },
+    Row {
+        words: &["events"],
+        input: "[*x]",
+        status: 0,
+        out: "+STR\n+DOC\n+SEQ []\n=ALI *x\n-SEQ\n-DOC\n-STR\n",
+        err: "",
+    },
+    Row {
+        words: &["events"],
+        input: "a: b: c",
+        status: 2,
+        out: "",
+        err: "yaml: 4 Syntax at byte 4\n",
+    },
+    Row {
+        words: &["events", "long.yaml"],
+        input: "",
+        status: 2,
+        out: "",
+        err: "yaml: 1 TooLong\n",
+    },
+    Row {
+        words: &["events", "failing.yaml"],
+        input: "",
+        status: 3,
+        out: "",
+        err: "yaml: 22 ReadFault\n",
+    },
+    Row {
+        words: &["events", "missing.yaml"],
+        input: "",
+        status: 3,
+        out: "",
+        err: "yaml: cannot open missing.yaml\n",
+    },
+];
+
+#[test]
+fn events_are_written_as_they_are_read(rt: HostRuntime) -> Result<(), Fail> {
+    check(&rt, &Shelf::new(), &EVENTS)
+}
+
+const CHECK: [Row; 12] = [
+    Row {
+        words: &["check", "a.yaml", "a.events"],
+        input: "",
+        status: 0,
+        out: "match\n",
+        err: "",
+    },
+    Row {
+        words: &["check", "b.yaml", "a.events"],
+        input: "",
+        status: 0,
+        out: "match\n",
+        err: "",
+    },
+    Row {
+        words: &["check", "a.yaml", "empty.events"],
+        input: "",
+        status: 1,
+        out: "differ\n",
+        err: "",
+    },
+    Row {
+        words: &["check", "cycle.yaml", "empty.events"],
+        input: "",
+        status: 1,
+        out: "differ\n",
+        err: "",
+    },
+    Row {
+        words: &["check", "a.yaml", "bad.events"],
+        input: "",
+        status: 2,
+        out: "",
+        err: "yaml: events: bad line 3\n",
+    },
+    Row {
+        words: &["check", "a.yaml", "bytes.events"],
+        input: "",
+        status: 2,
+        out: "",
+        err: "yaml: events: 2 NotUtf8 at byte 5\n",
+    },
+    Row {
+        words: &["check", "open.yaml", "bad.events"],
+        input: "",
+        status: 2,
+        out: "",
+        err: "yaml: 4 Syntax at byte 6\n",
+    },
+    Row {
+        words: &["check", "long.yaml", "missing.yaml"],
+        input: "",
+        status: 2,
+        out: "",
+        err: "yaml: 1 TooLong\n",
+    },
+    Row {
+        words: &["check", "open.yaml", "failing.yaml"],
+        input: "",
+        status: 3,
+        out: "",
+        err: "yaml: events: 22 ReadFault\n",
+    },
+    Row {
+        words: &["check", "failing.yaml", "missing.yaml"],
+        input: "",
+        status: 3,
+        out: "",
+        err: "yaml: 22 ReadFault\n",
+    },
+    Row {
+        words: &["check", "missing.yaml", "failing.yaml"],
+        input: "",
+        status: 3,
+        out: "",
+        err: "yaml: cannot open missing.yaml\n",
+    },
+    Row {
+        words: &["check", "open.yaml", "missing.yaml"],
+        input: "",
+        status: 3,
+        out: "",
+        err: "yaml: cannot open missing.yaml\n",
+    },
+];
+
+#[test]
+fn check_reads_both_files_before_it_judges_either(rt: HostRuntime) -> Result<(), Fail> {
+    check(&rt, &Shelf::new(), &CHECK)
+}
+
+/// Words that name their files, and what is written.
+const NAMED: [(&[&str], &str); 4] = [
+    (&["canon", "a.yaml"], "--- [\"a\", \"b\"]\n"),
+    (
+        &["events", "a.yaml"],
+        "+STR\n+DOC ---\n+SEQ []\n=VAL \"a\n=VAL \"b\n-SEQ\n-DOC\n-STR\n",
+    ),
+    (&["same", "a.yaml", "b.yaml"], "same\n"),
+    (&["check", "a.yaml", "a.events"], "match\n"),
+];
+
+#[test]
+fn standard_input_is_not_read_where_a_file_is_named(rt: HostRuntime) -> Result<(), Fail> {
+    for (words, out) in &NAMED {
+        let input = Source::of("x").failing_at(1);
+        let ran = run(rt.alloc(), &Shelf::new(), words, input)?;
+        assert_eq!(rt; ran.out.as_str(), *out, "{words:?}");
+        assert_eq!(rt; ran.status, 0, "{words:?}");
+    }
+    Ok(())
+}
+
 const KEYS: [Row; 2] = [
     Row {
         words: &["canon"],

@@ -136,7 +136,7 @@ impl Write for Narrow<'_> {
 /// A few files, by name.
 #[derive(Clone, Copy)]
 pub struct Shelf<'a> {
-    files: [(&'a str, Source<'a>); 12],
+    files: [(&'a str, Source<'a>); 16],
 }
 
 impl Shelf<'static> {
@@ -164,6 +164,13 @@ impl Shelf<'static> {
                 ("open.yaml", Source::of("--- [\"")),
                 ("long.yaml", Source::zeros(67_108_865)),
                 ("failing.yaml", Source::of("--- \"x\"").by(2).failing_at(3)),
+                (
+                    "a.events",
+                    Source::of("+STR\n+DOC ---\n+SEQ []\n=VAL \"a\n=VAL \"b\n-SEQ\n-DOC\n-STR\n"),
+                ),
+                ("empty.events", Source::of("+STR\n-STR\n")),
+                ("bad.events", Source::of("+STR\n+DOC\nnothing\n-STR\n")),
+                ("bytes.events", Source::over(b"+STR\n\xff\n")),
             ],
         }
     }
