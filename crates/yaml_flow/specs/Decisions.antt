@@ -34,9 +34,9 @@ module _ (cs : List ℕ) (handles : Handles) (n : ℕ) (c : Ctx) where
     another : (o : ℕ) → separate cs n c k o → IsProperty cs o → Stops k
     nothing : ((q : ℕ) → maybe (separate cs n c) k q → Fresh cs q → ⊥) → Stops k
 
-  -- no properties begin here, or none that a node goes on after
+  -- a property begins here, but no properties, or none that a node goes on after
   abbrev pub Barred : ℕ → Type 0
-  Barred i = (k : ℕ) (p : Props) → properties cs handles n c i k p → Stops k
+  Barred i = IsProperty cs i × ((k : ℕ) (p : Props) → properties cs handles n c i k p → Stops k)
 
   -- the properties that end at e are all that stand at i
   pub record AllProperties (i e : ℕ) (p : Props) : Type 0 where
