@@ -144,16 +144,16 @@ module _ (cs : List ℕ) (Wide : Type 0) (handles : Handles) (Open : Type 0) (in
   abbrev pub Under : Props → Rule (List Event)
   Under p = (FlowRest p ◂ s_l_comments cs) ∪ (separate cs col c ▸ Scalar p) ∪ CollectionsBelow p
 
-  contents_fresh : (p : Props) (i j : ℕ) (v : List Event) → Contents p i j v → ContentHere cs flow_out i
+  pub contents_fresh : (p : Props) (i j : ℕ) (v : List Event) → Contents p i j v → ContentHere cs flow_out i
   contents_fresh p i j v (inl (t, r, e)) = let (f, h) = plain_start cs col flow_out i j t r in (f, inr h)
   contents_fresh p i j v (inr r) = let z = jsons_start cs Wide handles Open inside col flow_out p i j v r in (kind_three cs i z, inl z)
 
   -- the rest of a flow node after its properties: content after separation, or none
-  data Rested (p : Props) (k j : ℕ) (v : List Event) : Type 0 where
+  pub data Rested (p : Props) (k j : ℕ) (v : List Event) : Type 0 where
     content : (q : ℕ) → separate cs col flow_out k q → Contents p q j v → Rested p k j v
     lone : j ≡ k → Rested p k j v
 
-  rested : (p : Props) (k j : ℕ) (v : List Event) → FlowRest p k j v → Rested p k j v
+  pub rested : (p : Props) (k j : ℕ) (v : List Event) → FlowRest p k j v → Rested p k j v
   rested p k j v (inl (inl (q, s, r))) = content q s (inl r)
   rested p k j v (inl (inr (a, b))) = lone a
   rested p k j v (inr (q, s, r)) = content q s (inr r)
@@ -177,12 +177,12 @@ module _ (cs : List ℕ) (Wide : Type 0) (handles : Handles) (Open : Type 0) (in
 
   -- ---- after properties, on a line below
 
-  collections_stuck : (p : Props) (x j : ℕ) (v : List Event) → Collections p x j v → (l : ℕ) × (b : ℕ) × indent cs l x b × Fresh cs b
+  pub collections_stuck : (p : Props) (x j : ℕ) (v : List Event) → Collections p x j v → (l : ℕ) × (b : ℕ) × indent cs l x b × Fresh cs b
   unfolding block_map block_seq
   collections_stuck p x j v (inl (o, (t, (l, (le, (a, us, vs, (b, s, u), rest, y))), e))) = (l, b, s, (map_key cs Wide handles Open inside facts ease wider fwd blocks col c l b a us u).0)
   collections_stuck p x j v (inr (o, (t, (l, (le, (a, us, vs, (b, s, u), rest, y))), e))) = (l, b, s, dash_fresh cs b (seq_dash cs Wide handles Open inside facts ease wider fwd blocks col c l b a us u))
 
-  line_of : (e s x : ℕ) → s_l_comments cs e s → Stuck cs s → s_l_comments cs e x → (l : ℕ) × (b : ℕ) × indent cs l x b × Fresh cs b → x ≡ s
+  pub line_of : (e s x : ℕ) → s_l_comments cs e s → Stuck cs s → s_l_comments cs e x → (l : ℕ) × (b : ℕ) × indent cs l x b × Fresh cs b → x ≡ s
   line_of e s x l st t (n, b, ind, f) = past_same cs e x s (past_of cs e x x t (Spans.done refl)) (Rattle.yaml_unique.proofs.Lines.stuck_line cs n x b ind f.0) (past_of cs e s s l (Spans.done refl)) st
 
   abbrev pub BelowThem : Props → ℕ → Rule (List Event)
