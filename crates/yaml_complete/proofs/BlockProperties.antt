@@ -64,7 +64,7 @@ module _ (cs : List ℕ) (Wide : Type 0) (handles : Handles) (Open : Type 0) (in
   -- ---- flow nodes
 
   -- a flow node's reading after some of its properties is followed by no further one
-  rest_next : (p : Props) (k j m : ℕ) (v : List Event) → Inside cs k → FlowRest p k j v → At (F cs col d) j m → NoMore cs handles col k
+  pub rest_next : (p : Props) (k j m : ℕ) (v : List Event) → Inside cs k → FlowRest p k j v → At (F cs col d) j m → NoMore cs handles col k
   rest_next p k j m v o (inl r) e =
       yaml_next cs Wide handles Open inside col flow_out (F cs col d) (F cs col d) (prop_same cs handles) (prop_here cs handles) (prop_inside cs handles) (alias_same cs) (plain_block_unique cs col d)
       (jsons_unique cs Wide handles Open inside facts col flow_out inner_out (F cs col d)) (next_here cs handles col d) (content_here cs col d) p k j m v o r e
@@ -75,7 +75,7 @@ module _ (cs : List ℕ) (Wide : Type 0) (handles : Handles) (Open : Type 0) (in
   abbrev Propped : Rule (List Event)
   Propped = with_value (properties cs handles col flow_out) FlowRest
 
-  propped_left : (E : End) (i : ℕ) → Kind cs 1 i → Rest Flow E i Propped E i
+  pub propped_left : (E : End) (i : ℕ) → Kind cs 1 i → Rest Flow E i Propped E i
   unfolding flow_node
   propped_left E i h = record { rest = go }
     where
@@ -97,7 +97,7 @@ module _ (cs : List ℕ) (Wide : Type 0) (handles : Handles) (Open : Type 0) (in
 
   -- ---- block scalars
 
-  scalar_next : (p : Props) (k j m : ℕ) (v : List Event) → Inside cs k → (separate cs col c ▸ Scalar p) k j v → AfterNode j m → NoMore cs handles col k
+  pub scalar_next : (p : Props) (k j m : ℕ) (v : List Event) → Inside cs k → (separate cs col c ▸ Scalar p) k j v → AfterNode j m → NoMore cs handles col k
   scalar_next p k j m v o (q, s, r) e x y t h =
       let z = scalar_kind cs Wide handles Open inside facts ease wider fwd blocks col c p q j v r in
       let f : q ≡ y = way_same cs k q y (way_of cs col c k q s (kind_fresh cs 4 q z).0) (way_of cs col x k y t (prop_solid cs handles y h).0) in
@@ -245,7 +245,7 @@ module _ (cs : List ℕ) (Wide : Type 0) (handles : Handles) (Open : Type 0) (in
 
   -- ---- a key that properties begin, and whose line is over after them: there is none
 
-  prop_on : (i j : ℕ) (p : Props) → prop cs handles i j p → i ≤ j
+  pub prop_on : (i j : ℕ) (p : Props) → prop cs handles i j p → i ≤ j
   prop_on i j p (inl (t, r, e)) = fwd_tag cs handles i j t r
   prop_on i j p (inr (t, r, e)) = fwd_anchor cs i j t r
 

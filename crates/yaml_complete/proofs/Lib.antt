@@ -19,3 +19,4 @@ pub mod BlockProperties
 pub mod BlockLines
 pub mod StreamRests
 pub mod Depths
+pub mod PropertyLines

@@ -180,12 +180,12 @@ module _ (cs : List ℕ) where
     jsons_other p b i j v (inr (inr (inl (o, (t, r, e))))) = (_, inr (inr (inl (o, (t, r, refl)))))
     jsons_other p b i j v (inr (inr (inr (o, (t, r, e))))) = (_, inr (inr (inr (o, (t, r, refl)))))
 
-    rest_other : (p b : Props) (i j : ℕ) (v : List Event) → FlowRest p i j v → (w : List Event) × FlowRest b i j w
+    pub rest_other : (p b : Props) (i j : ℕ) (v : List Event) → FlowRest p i j v → (w : List Event) × FlowRest b i j w
     rest_other p b i j v (inl (inl (q, s, (t, r, e)))) = (_, inl (inl (q, s, (t, r, refl))))
     rest_other p b i j v (inl (inr (e, f))) = (_, inl (inr (e, refl)))
     rest_other p b i j v (inr (q, s, r)) = let (w, t) = jsons_other p b q j v r in (w, inr (q, s, t))
 
-    scalars_other : (p b : Props) (i j : ℕ) (v : List Event) → Scalars p i j v → (w : List Event) × Scalars b i j w
+    pub scalars_other : (p b : Props) (i j : ℕ) (v : List Event) → Scalars p i j v → (w : List Event) × Scalars b i j w
     scalars_other p b i j v (inl (t, r, e)) = (_, inl (t, r, refl))
     scalars_other p b i j v (inr (t, r, e)) = (_, inr (t, r, refl))
 
@@ -194,7 +194,7 @@ module _ (cs : List ℕ) where
     colls_other p b i j v (inl (o, (t, r, e))) = (_, inl (o, (t, r, refl)))
     colls_other p b i j v (inr (o, (t, r, e))) = (_, inr (o, (t, r, refl)))
 
-    flow_propped : (i j : ℕ) (v : List Event) → with_value (properties cs handles col flow_out) FlowRest i j v → Flow i j v
+    pub flow_propped : (i j : ℕ) (v : List Event) → with_value (properties cs handles col flow_out) FlowRest i j v → Flow i j v
     unfolding flow_node yaml_node json_node
     flow_propped i j v (k, p, r, inl s) = inl (inr (inr (k, p, r, s)))
     flow_propped i j v (k, p, r, inr (q, s, t)) = inr (q, p, inr (k, r, s), t)
@@ -204,7 +204,7 @@ module _ (cs : List ℕ) where
     flow_content i j v (inl r) = inl (inr (inl r))
     flow_content i j v (inr r) = inr (i, no_props, inl (refl, refl), r)
 
-    content_flow : (p : Props) (i j : ℕ) (v : List Event) → Contents p i j v → (w : List Event) × Flow i j w
+    pub content_flow : (p : Props) (i j : ℕ) (v : List Event) → Contents p i j v → (w : List Event) × Flow i j w
     content_flow p i j v (inl (t, r, e)) = (_, flow_content i j _ (inl (t, r, refl)))
     content_flow p i j v (inr r) = let (w, t) = jsons_other p no_props i j v r in (w, flow_content i j w (inr t))
 
