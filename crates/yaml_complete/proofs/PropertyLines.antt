@@ -1,12 +1,12 @@
 -- Properties of a block node on one line and on two, as a reader finds them: it reads those of a line, and then looks whether the line is over.
 use Rattle.std.proofs.Common.{◌≡◌, ℕ, ◌+◌, ◌≤◌, ◌<◌, ◌⊎◌, inl, inr, List, Some, None, refl, sym, ◌∙◌, ap, subst, arith}
 use Rattle.std.specs.Prelude.{slice_get, encode_utf8_all}
-use Rattle.yaml_text.specs.Event.{Event}
+use Rattle.yaml_text.specs.Event.{Event, WrittenTag, untagged}
 use Rattle.yaml_text.specs.Lines.{Inside}
-use Rattle.yaml_text.specs.grammar.Rules.{Rule, Spans, ◌▸◌, ◌◂◌, ◌∪◌, with_value, run, Stands}
+use Rattle.yaml_text.specs.grammar.Rules.{Rule, Spans, ◌▸◌, ◌∪◌, with_value, run, Stands}
 use Rattle.yaml_text.specs.grammar.Characters.{is_space}
 use Rattle.yaml_text.specs.grammar.Separation.{Ctx, block_out, block_in, flow_out, flow_in, block_key, flow_key, separate, separate_lines, s_l_comments, indent}
-use Rattle.yaml_text.specs.grammar.Tags.{Handles, anchor, properties}
+use Rattle.yaml_text.specs.grammar.Tags.{Handles, tag, anchor, properties}
 use Rattle.yaml_text.specs.grammar.Events.{Props, no_props}
 use Rattle.yaml_text.specs.grammar.Nodes.{Part, part, flow_node}
 use Rattle.yaml_text.proofs.grammar.Widening.{Within}
@@ -14,20 +14,21 @@ use Rattle.yaml_text.proofs.Runs.{run_none, same_char}
 use Rattle.yaml_text.proofs.LineRuns.{inside_no_line}
 use Rattle.yaml_text.proofs.grammar.Forward.{Forward, on_separate, fwd_tag, fwd_anchor}
 use Rattle.yaml_unique.specs.Readings.{End, At}
-use Rattle.yaml_unique.specs.Follows.{Solid, Stuck, Past, Way, Over, Follow, FollowKey, F, DashHere}
+use Rattle.yaml_unique.specs.Follows.{Solid, Stuck, Past, Way, Over, Follow, F}
 use Rattle.yaml_unique.proofs.Lines.{past_of, past_no_run, sep_parts, sep_run, way_of, way_same}
-use Rattle.yaml_unique.proofs.FlowNodes.{Kind, kind_same, plain_no_kind, prop_kind, Plains, Jsons, YamlRest, JsonRest}
+use Rattle.yaml_unique.proofs.FlowNodes.{Kind, kind_same, prop_kind, YamlRest, JsonRest}
 use Rattle.yaml_unique.proofs.FlowEntries.{Facts}
-use Rattle.yaml_unique.proofs.BlockNodes.{KeyRead, dash_no_kind, content_flow, rest_other, scalars_other, flow_propped}
+use Rattle.yaml_unique.proofs.BlockNodes.{KeyRead, dash_no_kind}
 use Rattle.yaml_unique.proofs.KeyContexts.{Eased}
 use Rattle.yaml_unique.proofs.BlockLevels.{Blocks, entry_key}
-use Rattle.yaml_unique.proofs.Properties.{PropHere, NoMore, prop, prop_solid, Two, alone, pair, both, props_two, props_here, props_inside, tag_props, anchor_props}
+use Rattle.yaml_unique.proofs.Properties.{PropHere, prop, prop_solid, Two, alone, pair, both, props_two, props_here, props_inside, props_alone, tag_props, anchor_props}
 use Rattle.yaml_unique.proofs.TagEnds.{prop_same, prop_here, prop_inside, tag_here}
 use Rattle.yaml_complete.specs.Decisions.{Refused, Rest}
+use Rattle.yaml_complete.proofs.Decisions.{rest_refused}
 use Rattle.yaml_complete.proofs.PropertyChoices.{Differ, Second, Kinds, one_prop, two_props, kinds}
 use Rattle.yaml_complete.proofs.BlockLoops.{SequenceFrom, MappingFrom}
-use Rattle.yaml_complete.proofs.BlockStarts.{FlowLine, ScalarOf, ProppedScalar, ProppedCollection, CollectionsOf, OnLine, OnOwnLine, scalar_kind, propped_kind, mapping_from, sequence_from, seq_dash}
-use Rattle.yaml_complete.proofs.BlockProperties.{Contents, Under, BelowThem, rest_next, propped_left, scalar_next, collections_stuck, line_of, contents_fresh, line_after, scalar_after, collection_after, collection_of_both, no_mapping_over}
+use Rattle.yaml_complete.proofs.BlockStarts.{FlowLine, ScalarOf, ProppedScalar, ProppedCollection, CollectionsOf, OnLine, OnOwnLine, scalar_kind, mapping_from, sequence_from, seq_dash}
+use Rattle.yaml_complete.proofs.BlockProperties.{Contents, Under, rest_next, propped_left, scalar_next, collections_stuck, line_of, line_after, scalar_after, collection_after, collection_of_both, no_mapping_over}
 
 module _ (cs : List ℕ) where
   -- separation on one line is separation everywhere
@@ -53,6 +54,11 @@ module _ (cs : List ℕ) where
   separate_line n flow_in i j f (inr s) = s
   separate_line n block_key i j f s = s
   separate_line n flow_key i j f s = s
+
+  -- a line below with at least n spaces
+  pub below_separate : (n k i s x : ℕ) → s_l_comments cs i s → indent cs k s x → n ≤ k → separate_lines cs n i x
+  unfolding separate_lines indent
+  below_separate n k i s x l (r, e) le = inl (s, l, (s + n, ((omega arith, λ m a b. r.1 m a (omega (arith, e, b, le))), refl), (omega (arith, e, le), λ m a b. r.1 m (omega (arith, a)) b)))
 
   pub line_run : (i j : ℕ) → separate cs 0 block_key i j → run cs is_space i j
   unfolding separate
@@ -107,6 +113,14 @@ module _ (cs : List ℕ) (handles : Handles) where
   unfolding anchor
   anchor_here i j x (k, (h, e), r) = h
 
+  two_tags : (i x j l : ℕ) (t u : WrittenTag) → tag cs handles i j t → tag cs handles x l u → Differ cs handles 0 block_key i x → ⊥
+  two_tags i x j l t u r s (inl (g, h)) = let m : 33 ≡ 38 = same_char cs x 33 38 (tag_here cs handles x l u s) h in omega (arith, m)
+  two_tags i x j l t u r s (inr (g, h)) = let m : 33 ≡ 38 = same_char cs i 33 38 (tag_here cs handles i j t r) g in omega (arith, m)
+
+  two_anchors : (i x j l : ℕ) (a b : List ℕ) → anchor cs i j a → anchor cs x l b → Differ cs handles 0 block_key i x → ⊥
+  two_anchors i x j l a b r s (inl (g, h)) = let m : 38 ≡ 33 = same_char cs i 38 33 (anchor_here i j a r) g in omega (arith, m)
+  two_anchors i x j l a b r s (inr (g, h)) = let m : 38 ≡ 33 = same_char cs x 38 33 (anchor_here x l b s) h in omega (arith, m)
+
   -- two on two lines, or on one
   pub properties_of_both : (n : ℕ) (c : Ctx) (i l z e : ℕ) (a b : Props) → prop cs handles i l a → separate cs n c l z → prop cs handles z e b → Differ cs handles n c i z → properties cs handles n c i e (both a b)
   unfolding properties
@@ -129,10 +143,30 @@ module _ (cs : List ℕ) (handles : Handles) where
       go : prop cs handles i l a → prop cs handles z e b → Differ cs handles n c i z → properties cs handles n c i e (both a b)
       go (inl (x, f, h)) (inr (y, g, k)) w = given (record { anchor = Some (encode_utf8_all y); tag = x }) (inl (l, x, f, inr (z, s, (y, g, refl))))
       go (inr (x, f, h)) (inl (y, g, k)) w = given (record { anchor = Some (encode_utf8_all x); tag = y }) (inr (l, x, f, inr (z, s, (y, g, refl))))
-      go (inl (x, f, h)) (inl (y, g, k)) (inl (u, v)) = let m : 33 ≡ 38 = same_char cs z 33 38 (tag_here cs handles z e y g) v in absurd (omega (arith, m))
-      go (inl (x, f, h)) (inl (y, g, k)) (inr (u, v)) = let m : 33 ≡ 38 = same_char cs i 33 38 (tag_here cs handles i l x f) u in absurd (omega (arith, m))
-      go (inr (x, f, h)) (inr (y, g, k)) (inl (u, v)) = let m : 38 ≡ 33 = same_char cs i 38 33 (anchor_here i l x f) u in absurd (omega (arith, m))
-      go (inr (x, f, h)) (inr (y, g, k)) (inr (u, v)) = let m : 38 ≡ 33 = same_char cs z 38 33 (anchor_here z e y g) v in absurd (omega (arith, m))
+      go (inl (x, f, h)) (inl (y, g, k)) w = absurd (two_tags i z l e x y f g w)
+      go (inr (x, f, h)) (inr (y, g, k)) w = absurd (two_anchors i z l e x y f g w)
+
+  -- properties begin on this line, but after all of them one more follows on it
+  abbrev pub BarredLine : ℕ → Type 0
+  BarredLine i = PropHere cs handles i × ((l : ℕ) (q : Props) → properties cs handles 0 block_key i l q → (o : ℕ) × separate cs 0 block_key l o × PropHere cs handles o)
+
+  -- whichever way properties are separated, the same line bars them
+  pub barred_further : (i : ℕ) → BarredLine i → (n : ℕ) (c : Ctx) (l : ℕ) (q : Props) → properties cs handles n c i l q → (o : ℕ) × separate cs 0 block_key l o × PropHere cs handles o
+  unfolding properties
+  barred_further i (at, more) n c l q (inl (k, t, r, inl (e, f))) = more l q (inl (k, t, r, inl (e, f)))
+  barred_further i (at, more) n c l q (inr (k, a, r, inl (e, f))) = more l q (inr (k, a, r, inl (e, f)))
+  barred_further i (at, more) n c l q (inl (k, t, r, inr (z, s, (a, u, f)))) = more l q (inl (k, t, r, inr (z, on_line (more k (tag_props t) (inl (k, t, r, inl (refl, refl)))), (a, u, f))))
+    where
+      on_line : (o : ℕ) × separate cs 0 block_key k o × PropHere cs handles o → separate cs 0 block_key k z
+      on_line (o, v, h) =
+          let e : o ≡ z = way_same cs k o z (way_of cs 0 block_key k o v (prop_solid cs handles o h).0) (way_of cs n c k z s (prop_solid cs handles z (inr (anchor_here z l a u))).0) in
+          subst (separate cs 0 block_key k) e v
+  barred_further i (at, more) n c l q (inr (k, a, r, inr (z, s, (t, u, f)))) = more l q (inr (k, a, r, inr (z, on_line (more k (anchor_props a) (inr (k, a, r, inl (refl, refl)))), (t, u, f))))
+    where
+      on_line : (o : ℕ) × separate cs 0 block_key k o × PropHere cs handles o → separate cs 0 block_key k z
+      on_line (o, v, h) =
+          let e : o ≡ z = way_same cs k o z (way_of cs 0 block_key k o v (prop_solid cs handles o h).0) (way_of cs n c k z s (prop_solid cs handles z (inl (tag_here cs handles z l t u))).0) in
+          subst (separate cs 0 block_key k) e v
 
 module _ (cs : List ℕ) (Wide : Type 0) (handles : Handles) (Open : Type 0) (inside : Part → Rule (List Event)) (facts : Facts cs inside) (ease : Eased cs Wide handles inside)
     (wider : (p : Part) → Within (inside p) (part cs Wide handles Open inside p)) (fwd : (p : Part) → Forward (inside p)) (blocks : Blocks cs Wide handles inside) (col d : ℕ) (c : Ctx) where
@@ -183,25 +217,25 @@ module _ (cs : List ℕ) (Wide : Type 0) (handles : Handles) (Open : Type 0) (in
 
   -- ---- the properties of a line, or of two, are all there are
 
-  pub under_after : (i e : ℕ) (p : Props) → Kind cs 1 i → properties cs handles 0 block_key i e p → ((b : Ctx) → Second cs handles col b i e p → ⊥) → Rest Forms AfterNode i (AfterThem p) AfterNode e
-  under_after i e p h r none = record { rest = go }
+  pub under_after : (i e : ℕ) (p : Props) → Kind cs 1 i → properties cs handles 0 block_key i e p → (Second cs handles col flow_out i e p → ⊥) → (Second cs handles col c i e p → ⊥) → Rest Forms AfterNode i (AfterThem p) AfterNode e
+  under_after i e p h r out none = record { rest = go }
     where
       go : (j m : ℕ) (v : List Event) → Forms i j v → AfterNode j m → (k : ℕ) × (w : List Event) × AfterThem p e k w × AfterNode k m
       go j m v (inl t) f =
-          let (k, w, s, g) = (line_after cs Wide handles Open inside facts ease wider fwd blocks col d c i e p h (line_properties cs handles col flow_out i e p r) (none flow_out)).rest j m v t f in (k, w, inl s, g)
+          let (k, w, s, g) = (line_after cs Wide handles Open inside facts ease wider fwd blocks col d c i e p h (line_properties cs handles col flow_out i e p r) out).rest j m v t f in (k, w, inl s, g)
       go j m v (inr (inl t)) f = absurd (no_scalar_at no_props i j v h t)
       go j m v (inr (inr (inl t))) f =
-          let (k, w, s, g) = (scalar_after cs Wide handles Open inside facts ease wider fwd blocks col d c i e p (line_properties cs handles col c i e p r) (none c)).rest j m v t f in (k, w, inr (inl s), g)
+          let (k, w, s, g) = (scalar_after cs Wide handles Open inside facts ease wider fwd blocks col d c i e p (line_properties cs handles col c i e p r) none).rest j m v t f in (k, w, inr (inl s), g)
       go j m v (inr (inr (inr t))) f =
-          let (k, w, s, g) = (collection_after cs Wide handles Open inside facts ease wider fwd blocks col d c i e p (line_properties cs handles col c i e p r) (none c) (λ l o a b. one_line cs handles i e p r col c l o a b)).rest j m v t f in
+          let (k, w, s, g) = (collection_after cs Wide handles Open inside facts ease wider fwd blocks col d c i e p (line_properties cs handles col c i e p r) none (λ l o a b. one_line cs handles i e p r col c l o a b)).rest j m v t f in
           (k, w, inr (inr s), g)
 
   -- where their line is over, no key begins with them
-  pub under_own : (k0 i e s : ℕ) (p : Props) → Kind cs 1 i → i ≤ e → properties cs handles 0 block_key i e p → ((b : Ctx) → Second cs handles col b i e p → ⊥) → s_l_comments cs e s → Rest (OwnForms k0) AfterNode i (AfterThem p) AfterNode e
-  under_own k0 i e s p h le r none over = record { rest = go }
+  pub under_own : (k0 i e s : ℕ) (p : Props) → Kind cs 1 i → i ≤ e → properties cs handles 0 block_key i e p → (Second cs handles col flow_out i e p → ⊥) → (Second cs handles col c i e p → ⊥) → s_l_comments cs e s → Rest (OwnForms k0) AfterNode i (AfterThem p) AfterNode e
+  under_own k0 i e s p h le r out none over = record { rest = go }
     where
       go : (j m : ℕ) (v : List Event) → OwnForms k0 i j v → AfterNode j m → (k : ℕ) × (w : List Event) × AfterThem p e k w × AfterNode k m
-      go j m v (inl t) f = (under_after i e p h r none).rest j m v t f
+      go j m v (inl t) f = (under_after i e p h r out none).rest j m v t f
       go j m v (inr (inl t)) f =
           absurd ((no_mapping_over cs Wide handles Open inside facts ease wider fwd blocks col d c no_props AfterNode k0 i e s p h le (line_properties cs handles col block_key i e p r) over).none j m v t f)
       go j m v (inr (inr t)) f = absurd (no_sequence_at no_props k0 i j v h t)
@@ -255,40 +289,39 @@ module _ (cs : List ℕ) (Wide : Type 0) (handles : Handles) (Open : Type 0) (in
           let (o, x, s, p) = more c l q r in
           scalar_next cs Wide handles Open inside facts ease wider fwd blocks col d c q l j m v (inside_of c i l q r) u f x o s p
 
-  -- the same on the line of the properties
-  abbrev FurtherOnLine : ℕ → Type 0
-  FurtherOnLine i = (b : Ctx) (l : ℕ) (q : Props) → properties cs handles col b i l q → (o : ℕ) × separate cs 0 block_key l o × PropHere cs handles o
-
-  further : (i : ℕ) → FurtherOnLine i → Further i
-  further i more b l q r = let (o, s, p) = more b l q r in (o, block_key, line_separate cs col block_key l o s, p)
+  further : (i : ℕ) → BarredLine cs handles i → Further i
+  further i bar b l q r = let (o, s, p) = barred_further cs handles i bar col b l q r in (o, block_key, line_separate cs col block_key l o s, p)
 
   -- a property on the line of what stands before: the line is not over
   not_over : (l o x : ℕ) → Inside cs l → separate cs 0 block_key l o → PropHere cs handles o → s_l_comments cs l x → ⊥
   not_over l o x ins s p t = inside_no_line cs l ins (past_no_run cs l x o (past_of cs l x x t (Spans.done refl)) (line_run cs l o s) (prop_solid cs handles o p).0).0
 
   -- so nothing of block level begins with them
-  pub no_forms_barred : (i : ℕ) → Kind cs 1 i → FurtherOnLine i → Refused Forms AfterNode i
-  no_forms_barred i h more = record { none = go }
+  pub no_flow_barred : (i : ℕ) → BarredLine cs handles i → Refused Flow (At (F cs col d)) i
+  no_flow_barred i bar = no_flow_further i (prop_kind cs handles i bar.0) (further i bar)
+
+  pub no_forms_barred : (i : ℕ) → BarredLine cs handles i → Refused Forms AfterNode i
+  no_forms_barred i bar = record { none = go }
     where
       go : (j m : ℕ) (v : List Event) → Forms i j v → AfterNode j m → ⊥
-      go j m v (inl t) f = (no_line_further i h (further i more)).none j m v t f
-      go j m v (inr (inl t)) f = no_scalar_at no_props i j v h t
-      go j m v (inr (inr (inl t))) f = (no_scalar_further i (further i more)).none j m v t f
-      go j m v (inr (inr (inr (l, q, r, (x, t, u))))) f = let (o, s, p) = more c l q r in not_over l o x (inside_of c i l q r) s p t
+      go j m v (inl t) f = (no_line_further i (prop_kind cs handles i bar.0) (further i bar)).none j m v t f
+      go j m v (inr (inl t)) f = no_scalar_at no_props i j v (prop_kind cs handles i bar.0) t
+      go j m v (inr (inr (inl t))) f = (no_scalar_further i (further i bar)).none j m v t f
+      go j m v (inr (inr (inr (l, q, r, (x, t, u))))) f = let (o, s, p) = barred_further cs handles i bar col c l q r in not_over l o x (inside_of c i l q r) s p t
 
-  pub no_mapping_barred : (p : Props) (E : End) (k i : ℕ) → Kind cs 1 i → FurtherOnLine i → Refused (Mapping k p) E i
-  no_mapping_barred p E k i h more = record { none = λ j m v (a, (t, (b, us, vs, u, rest, y), f)) w. key (entry_key cs Wide handles Open inside facts ease wider fwd blocks col d c k i b us u) }
+  pub no_mapping_barred : (p : Props) (E : End) (k i : ℕ) → BarredLine cs handles i → Refused (Mapping k p) E i
+  no_mapping_barred p E k i bar = record { none = λ j m v (a, (t, (b, us, vs, u, rest, y), f)) w. key (entry_key cs Wide handles Open inside facts ease wider fwd blocks col d c k i b us u) }
     where
       key : KeyRead cs Wide handles Open inside col d c i → ⊥
-      key (o, v, f, fk, one) = (no_flow_further i h (further i more)).none o o v f (refl, inr fk)
+      key (o, v, f, fk, one) = (no_flow_barred i bar).none o o v f (refl, inr fk)
 
-  pub no_own_barred : (k0 i : ℕ) → Kind cs 1 i → FurtherOnLine i → Refused (OwnForms k0) AfterNode i
-  no_own_barred k0 i h more = record { none = go }
+  pub no_own_barred : (k0 i : ℕ) → BarredLine cs handles i → Refused (OwnForms k0) AfterNode i
+  no_own_barred k0 i bar = record { none = go }
     where
       go : (j m : ℕ) (v : List Event) → OwnForms k0 i j v → AfterNode j m → ⊥
-      go j m v (inl t) f = (no_forms_barred i h more).none j m v t f
-      go j m v (inr (inl t)) f = (no_mapping_barred no_props AfterNode k0 i h more).none j m v t f
-      go j m v (inr (inr t)) f = no_sequence_at no_props k0 i j v h t
+      go j m v (inl t) f = (no_forms_barred i bar).none j m v t f
+      go j m v (inr (inl t)) f = (no_mapping_barred no_props AfterNode k0 i bar).none j m v t f
+      go j m v (inr (inr t)) f = no_sequence_at no_props k0 i j v (prop_kind cs handles i bar.0) t
 
   -- ---- properties above, and one more on the next line that is not theirs: they are a mapping's, whose key begins there
 
@@ -371,3 +404,96 @@ module _ (cs : List ℕ) (Wide : Type 0) (handles : Handles) (Open : Type 0) (in
 
     pub key_under : Kind cs 1 i → Rest Forms AfterNode i (Mapping k p) AfterNode x
     key_under h = mapping_alone i e s x k p h more_after collections_held over st ind n (prop_kind cs handles x hx)
+
+  -- ---- all properties above the line on which a node goes on
+
+  -- all on one line, or one on a line and one of the other kind on the next
+  pub data Upper (i e : ℕ) (p : Props) : Type 0 where
+    one_line_above : properties cs handles 0 block_key i e p → Upper i e p
+    two_lines_above : (l s k z : ℕ) (a b : Props) → prop cs handles i l a → s_l_comments cs l s → Stuck cs s → indent cs k s z → (Stands cs is_space z → ⊥) → col ≤ k → prop cs handles z e b → Differ cs handles col c i z
+        → p ≡ both a b → Upper i e p
+
+  -- neither has what the other has
+  abbrev pub Unlike : Props → Props → Type 0
+  Unlike p q = ((p.anchor ≡ None) ⊎ (q.anchor ≡ None)) × ((p.tag ≡ untagged) ⊎ (q.tag ≡ untagged))
+
+  upper_kind : (i e : ℕ) (p : Props) → Upper i e p → Kind cs 1 i
+  upper_kind i e p (one_line_above r) = prop_kind cs handles i (props_here cs handles (prop_same cs handles) (prop_here cs handles) (prop_inside cs handles) 0 block_key i e p (props_two cs handles 0 block_key i e p r))
+  upper_kind i e p (two_lines_above l s k z a b r x st ind n le t df eq) = prop_kind cs handles i (prop_here cs handles i l a r)
+
+  module _ (block : (i q : ℕ) → separate_lines cs col i q → separate cs col c i q) (lines : (i q : ℕ) → separate cs col c i q → separate_lines cs col i q) where
+    out : (i q : ℕ) → separate_lines cs col i q → separate cs col flow_out i q
+    unfolding separate
+    out i q s = s
+
+    out_lines : (i q : ℕ) → separate cs col flow_out i q → separate_lines cs col i q
+    unfolding separate
+    out_lines i q s = s
+
+    no_second_in : (i e : ℕ) (p : Props) → (Second cs handles col flow_out i e p → ⊥) → Second cs handles col c i e p → ⊥
+    no_second_in i e p none (a, (l, o, b, s, r, df)) = none (a, (l, o, b, out e o (lines e o s), r, df))
+
+    -- and no more property follows on the next line: what is left after them
+    pub upper_left : (i e s : ℕ) (p : Props) → Upper i e p → s_l_comments cs e s → (Second cs handles col flow_out i e p → ⊥) → Rest Forms AfterNode i (AfterThem p) AfterNode e
+    upper_left i e s p u l none = go u
+      where
+        go : Upper i e p → Rest Forms AfterNode i (AfterThem p) AfterNode e
+        go (one_line_above r) = under_after i e p (upper_kind i e p u) r none (no_second_in i e p none)
+        go (two_lines_above l2 s2 k z a b r x st ind n le t df eq) =
+            let sp = below_separate cs col k l2 s2 z x ind le in
+            subst (λ q. Rest Forms AfterNode i (AfterThem q) AfterNode e) (sym eq) (under_both i l2 e s2 z k s a b r x st ind n (out l2 z sp) (block l2 z sp) t df l)
+
+    -- a property begins the next line, at x, but it is none of theirs: they are a mapping's
+    module _ (i e s k x : ℕ) (p : Props) (u : Upper i e p) (over : s_l_comments cs e s) (st : Stuck cs s) (ind : indent cs k s x) (n : Stands cs is_space x → ⊥) (le : col ≤ k) (hx : PropHere cs handles x) where
+      next : separate cs col flow_out e x
+      next = out e x (below_separate cs col k e s x over ind le)
+
+      -- after the first of two lines the second follows, and after both the next line's
+      further_of_two : (l s2 k2 z : ℕ) (a b : Props) → prop cs handles i l a → s_l_comments cs l s2 → indent cs k2 s2 z → col ≤ k2 → prop cs handles z e b → Further i
+      further_of_two l s2 k2 z a b r over2 ind2 le2 t c2 m q w = go (kinds cs handles col c2 i m q w)
+        where
+          sp : separate cs col flow_out l z
+          sp = out l z (below_separate cs col k2 l s2 z over2 ind2 le2)
+
+          go : Kinds cs handles col c2 i m q → (o : ℕ) × (y : Ctx) × separate cs col y m o × PropHere cs handles o
+          go (one_prop v) = (z, flow_out, subst (λ y. separate cs col flow_out y z) (prop_same cs handles i l m a q r v).0 sp, prop_here cs handles z e b t)
+          go (two_props y z2 a2 b2 f g v eq df) =
+              let h = prop_same cs handles i y l a2 a f r in
+              let h2 : z2 ≡ z = way_same cs l z2 z (subst (λ o. Way cs o z2) h.0 (way_of cs col c2 y z2 g (prop_solid cs handles z2 (prop_here cs handles z2 m b2 v)).0)) (way_of cs col flow_out l z sp (prop_solid cs handles z (prop_here cs handles z e b t)).0) in
+              let h3 = prop_same cs handles z e m b b2 t (subst (λ o. prop cs handles o m b2) h2 v) in
+              (x, flow_out, subst (λ y. separate cs col flow_out y x) h3.0 next, hx)
+
+      upper_key : Held i e x p → Rest Forms AfterNode i (Mapping k p) AfterNode x
+      upper_key held = go u
+        where
+          go : Upper i e p → Rest Forms AfterNode i (Mapping k p) AfterNode x
+          go (one_line_above r) = key_under i e s x k p r over st ind n next hx held (upper_kind i e p u)
+          go (two_lines_above l2 s2 k2 z a b r x2 st2 ind2 n2 le2 t df eq) =
+              let sp = below_separate cs col k2 l2 s2 z x2 ind2 le2 in
+              let left = collection_of_both cs Wide handles Open inside facts ease wider fwd blocks col d c i l2 e s2 z k2 s a b r x2 st2 ind2 n2 (block l2 z sp) t over in
+              subst (λ q. Rest Forms AfterNode i (Mapping k q) AfterNode x) (sym eq)
+              (mapping_alone i e s x k (both a b) (upper_kind i e p u) (further_of_two l2 s2 k2 z a b r x2 ind2 le2 t) left over st ind n (prop_kind cs handles x hx))
+
+      -- since both have a tag, or both an anchor
+      pub upper_clash : (f : ℕ) (q : Props) → properties cs handles 0 block_key x f q → (Unlike p q → ⊥) → Rest Forms AfterNode i (Mapping k p) AfterNode x
+      upper_clash f q r clash = upper_key held
+        where
+          unlike : (l : ℕ) → prop cs handles i e p → prop cs handles x l q → Differ cs handles col c i x → Unlike p q
+          unlike l (inl (t, a, g)) (inr (y, b, h)) w = (inl (ap Props.anchor g), inr (ap Props.tag h))
+          unlike l (inr (y, a, g)) (inl (t, b, h)) w = (inr (ap Props.anchor h), inl (ap Props.tag g))
+          unlike l (inl (t, a, g)) (inl (u2, b, h)) w = absurd (two_tags cs handles i x e l t u2 a b w)
+          unlike l (inr (y, a, g)) (inr (z, b, h)) w = absurd (two_anchors cs handles i x e l y z a b w)
+
+          held : Held i e x p
+          held l b a t w = go (props_two cs handles 0 block_key x f q r)
+            where
+              go : Two cs handles 0 block_key x f q → (o : ℕ) × separate cs 0 block_key l o × PropHere cs handles o
+              go (alone v) = absurd (clash (unlike f a v w))
+              go (pair y z a2 b2 g v m eq) = (z, subst (λ o. separate cs 0 block_key o z) (prop_same cs handles x y l a2 b g t).0 v, prop_here cs handles z f b2 m)
+
+      -- or since none of those that begin there can be read to the end
+      pub upper_barred : BarredLine cs handles x → Refused Forms AfterNode i
+      upper_barred bar = rest_refused (upper_key held) (no_mapping_barred p AfterNode k x bar)
+        where
+          held : Held i e x p
+          held l b a t w = bar.1 l b (props_alone cs handles 0 block_key x l b t)
