@@ -20,3 +20,4 @@ pub mod BlockLines
 pub mod StreamRests
 pub mod Depths
 pub mod PropertyLines
+pub mod OwnLines
