@@ -21,3 +21,4 @@ pub mod StreamRests
 pub mod Depths
 pub mod PropertyLines
 pub mod OwnLines
+pub mod KeyChoices
