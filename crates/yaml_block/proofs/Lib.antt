@@ -2,3 +2,5 @@ mod MarkLaws
 mod BlockLemmas
 mod OuterLemmas
 mod DocumentLemmas
+mod Levels
+mod NodeForms

@@ -814,6 +814,7 @@ fn read_node<'a>(
     requires low { col ≤ from }
     requires block { IsBlock (context_of context) }
     requires column { MatchOption column (Unit {0}) (λ k. k ≤ at) }
+    requires wide { MatchOption column (Unit {0}) (λ k. col ≤ k) }
     requires outer { Outer (text_of source.now) (handles_of handles) col column (place_of source.now from) (place_of source.now at) (props_of outer) }
     ensures line { IfOk result (IsLine source.now) }
     ensures onward { IfOk result (λ line. from ≤ line.start) }
@@ -870,6 +871,7 @@ fn read_dressed<'a>(
     requires low { col ≤ from }
     requires block { IsBlock (context_of context) }
     requires column { MatchOption column (Unit {0}) (λ k. k ≤ at) }
+    requires wide { MatchOption column (Unit {0}) (λ k. col ≤ k) }
     requires outer { Outer (text_of source.now) (handles_of handles) col column (place_of source.now from) (place_of source.now at) (props_of outer) }
     requires own { OnLine (text_of source.now) (handles_of handles) (place_of source.now at) (place_of source.now end) (props_of own) }
     requires all { AllProperties (text_of source.now) (handles_of handles) 0 block_key (place_of source.now at) (place_of source.now end) (props_of own) }
@@ -920,6 +922,7 @@ fn read_keyed<'a>(
     requires low { col ≤ from }
     requires block { IsBlock (context_of context) }
     requires column { MatchOption column (Unit {0}) (λ k. k ≤ at) }
+    requires wide { MatchOption column (Unit {0}) (λ k. col ≤ k) }
     requires outer { Outer (text_of source.now) (handles_of handles) col column (place_of source.now from) (place_of source.now at) (props_of outer) }
     requires own { OnLine (text_of source.now) (handles_of handles) (place_of source.now at) (place_of source.now end) (props_of own) }
     requires all { AllProperties (text_of source.now) (handles_of handles) 0 block_key (place_of source.now at) (place_of source.now end) (props_of own) }
