@@ -4,3 +4,5 @@ pub mod LineLemmas
 pub mod SpaceLemmas
 pub mod PropertyLemmas
 pub mod FlowLemmas
+pub mod PropertyDecisions
+pub mod Deciding
