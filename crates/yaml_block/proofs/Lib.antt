@@ -4,3 +4,9 @@ mod OuterLemmas
 mod DocumentLemmas
 mod Levels
 mod NodeForms
+mod ScalarDecisions
+mod LineDecisions
+mod KeyDecisions
+mod Places
+mod Found
+mod ValueDecisions

@@ -3,10 +3,10 @@ use Rattle.std.specs.Prelude.{◌≡◌, ◌≢◌, ◌⊎◌, ℕ, ◌+◌, ◌
 use Rattle.yaml_text.specs.Event.{Anchor, WrittenTag, untagged, non_specific, full}
 use Rattle.yaml_text.specs.grammar.Rules.{run, Stands}
 use Rattle.yaml_text.specs.grammar.Characters.{is_space}
-use Rattle.yaml_text.specs.grammar.Separation.{flow_out, block_key, indent, s_l_comments}
+use Rattle.yaml_text.specs.grammar.Separation.{flow_out, block_key, indent, s_l_comments, AtEnd, Mark}
 use Rattle.yaml_text.specs.grammar.Tags.{Handles}
 use Rattle.yaml_text.specs.grammar.Events.{Props, no_props}
-use Rattle.yaml_unique.specs.Follows.{Stuck}
+use Rattle.yaml_unique.specs.Follows.{Stuck, DashHere}
 use Rattle.yaml_flow.specs.Decisions.{AllProperties}
 use Rattle.yaml_flow.specs.PropertyRules.{Marks, Own, Apart, both_props}
 
@@ -52,7 +52,8 @@ module _ (cs : List ℕ) (handles : Handles) where
   -- properties from i on that end before the line on which the node's first character stands, at m; or none
   pub data Outer (col : ℕ) (column : Option ℕ) (i m : ℕ) (p : Props) : Type 0 where
     nothing : m ≡ i → p ≡ no_props → Outer col column i m p
-    above : (e l k : ℕ) → Marks cs handles col flow_out i e p → s_l_comments cs e l → indent cs k l m → col ≤ k → column ≡ Some k → Above col i e p → Stuck cs l → (Stands cs is_space m → ⊥) → Outer col column i m p
+    above : (e l k : ℕ) → Marks cs handles col flow_out i e p → s_l_comments cs e l → indent cs k l m → col ≤ k → column ≡ Some k → Above col i e p → Stuck cs l → (Stands cs is_space m → ⊥) → (DashHere cs m → ⊥) → (AtEnd cs l → ⊥)
+        → (Mark cs l → ⊥) → Outer col column i m p
 
   -- a node's own properties, on the line of its first character
   abbrev pub OnLine : ℕ → ℕ → Props → Type 0

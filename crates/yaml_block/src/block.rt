@@ -222,10 +222,12 @@ fn block_sign(
 {
     match content_start(source, at, end, own) {
         None => None,
-        Some(first) => match next(source, first) {
-            Some(('|', _)) => Some((first, Block::Literal)),
-            Some(('>', _)) => Some((first, Block::Folded)),
-            _ => None,
+        Some(first) => match accept(source, first, '|') {
+            Some(_) => Some((first, Block::Literal)),
+            None => match accept(source, first, '>') {
+                Some(_) => Some((first, Block::Folded)),
+                None => None,
+            },
         },
     }
 }
@@ -240,7 +242,10 @@ fn goes_on(source: &Chars<'_>, line: Line, column: usize) -> Result<bool, Fault>
     ensures err { IfErr result IsRefusal }
     ensures further { IfErr result (λ _. IsFurther source.now line column) }
 {
-    if line.column < column || !has_content(source, line) {
+    if !has_content(source, line) {
+        return Ok(false);
+    }
+    if line.column < column {
         Ok(false)
     } else if line.column == column {
         Ok(true)
@@ -346,9 +351,9 @@ fn read_entry_key<'a>(
     )?;
     match first_colon(source, at, key.end, Some(column))? {
         None => Err(unusable(source, key.end)),
-        Some((_, after)) => {
+        Some(colon) => {
             dress(out, start, own);
-            Ok(after)
+            Ok(colon.1)
         }
     }
 }

@@ -1,10 +1,10 @@
 -- A flow node that was read where a node of block level begins: by what stands after it, it is the node, or the first key of a mapping, or neither.
-use Rattle.std.proofs.Common.{◌≡◌, ℕ, ◌+◌, ◌≤◌, ◌⊎◌, inl, inr, List, Option, Some, None, refl, arith}
+use Rattle.std.proofs.Common.{◌≡◌, ℕ, ◌+◌, ◌≤◌, ◌⊎◌, inl, inr, List, Option, Some, None, refl, sym, subst, arith}
 use Rattle.std.specs.Prelude.{slice_get}
 use Rattle.yaml_text.specs.Limits.{key_limit}
-use Rattle.yaml_text.specs.grammar.Rules.{Rule, ◌⨾◌, ◌∪◌, any, run, Stands}
+use Rattle.yaml_text.specs.grammar.Rules.{Rule, ◌⨾◌, ◌∪◌, any, maybe, run, Stands}
 use Rattle.yaml_text.specs.grammar.Characters.{is_space, is_ns}
-use Rattle.yaml_text.specs.grammar.Separation.{Ctx, flow_out, s_l_comments, OneLine}
+use Rattle.yaml_text.specs.grammar.Separation.{Ctx, flow_out, sep, s_l_comments, OneLine}
 use Rattle.yaml_text.specs.grammar.Tags.{Handles}
 use Rattle.yaml_text.specs.Event.{Event}
 use Rattle.yaml_text.specs.grammar.Events.{Props}
@@ -14,10 +14,12 @@ use Rattle.yaml_text.proofs.grammar.Widening.{Within}
 use Rattle.yaml_text.specs.Lines.{Inside}
 use Rattle.yaml_unique.specs.Readings.{End, At}
 use Rattle.yaml_unique.specs.Follows.{Stuck, Over, Follow, F, KeyHere}
-use Rattle.yaml_unique.proofs.Lines.{past_of}
+use Rattle.yaml_unique.proofs.Lines.{past_of, sep_run}
 use Rattle.yaml_unique.proofs.FlowEntries.{Facts}
 use Rattle.yaml_unique.proofs.KeyContexts.{Eased}
-use Rattle.yaml_unique.proofs.BlockLevels.{Blocks, key_flow, value_no_ns}
+use Rattle.yaml_text.proofs.Runs.{run_none}
+use Rattle.yaml_unique.proofs.BlockNodes.{KeyRead}
+use Rattle.yaml_unique.proofs.BlockLevels.{Blocks, key_flow, key_parts, value_no_ns}
 use Rattle.yaml_complete.specs.Decisions.{Refused, Goes, Rest, Here}
 use Rattle.yaml_complete.proofs.Decisions.{rest_rest, rest_goes, rest_refused, rest_left, rest_right, goes_at, goes_until, refused_until, refused_either}
 use Rattle.yaml_complete.proofs.KeyOrScalar.{node_line, node_no_line, node_no_rest, key_goes, no_colon}
@@ -33,6 +35,19 @@ module _ (cs : List ℕ) (Wide : Type 0) (handles : Handles) (Open : Type 0) (in
 
   pub key_starts : (k i j : ℕ) (v : List Event) → map_entry cs Wide handles Open inside k i j v → KeyHere cs i
   key_starts k i j v r = map_key cs Wide handles Open inside facts ease wider fwd blocks 0 flow_out k i j v r
+
+  -- no flow node that a colon follows is no key
+  pub keys_refused : (col d : ℕ) (c : Ctx) (k x : ℕ) → (KeyRead cs Wide handles Open inside col d c x → ⊥) → Refused (Keys cs Wide handles Open inside k) (At (Colon cs Wide handles Open inside k)) x
+  keys_refused col d c k x n = record { none = λ j m v (z, r, (h, e)) (f, g). go z v h (λ s. g (subst (Stands cs is_ns) (sym e) s)) (key_parts cs Wide handles Open inside facts ease wider fwd blocks col x z v r) }
+    where
+      spaces : (a z : ℕ) → maybe (sep cs) a z → run cs is_space a z
+      spaces a z (inl e) = subst (run cs is_space a) (sym e) (run_none cs is_space a)
+      spaces a z (inr s) = sep_run cs a z s
+
+      go : (z : ℕ) (v : List Event) → slice_get cs z ≡ Some 58 → (Stands cs is_ns (z + 1) → ⊥) → (a : ℕ) × flow_node cs Wide handles Open inside col flow_out x a v × maybe (sep cs) a z × OneLine cs x z → ⊥
+      go z v h g (a, p, t, one) =
+          let s = spaces a z t in
+          let le : a ≤ z = s.0 in n (a, v, p, (z, s, h, g), λ l y w. one l y (omega (arith, w, le)))
 
   module _ (col d : ℕ) (c : Ctx) where
     abbrev Flow : Rule (List Event)
