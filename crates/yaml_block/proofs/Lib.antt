@@ -10,3 +10,4 @@ mod KeyDecisions
 mod Places
 mod Found
 mod ValueDecisions
+mod NodeDecisions

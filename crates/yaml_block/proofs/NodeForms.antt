@@ -69,7 +69,7 @@ module _ (cs : List ℕ) (Wide : Type 0) (handles : Handles) (room : ℕ) (col :
       go block_out b = refl
       go _ b = absurd b
 
-  mapping_at : (p : Props) (column : Option ℕ) (i j : ℕ) (v : List Event) → p ≡ no_props → mapping_in cs Wide handles room column i j v → MappingAt p column i j v
+  pub mapping_at : (p : Props) (column : Option ℕ) (i j : ℕ) (v : List Event) → p ≡ no_props → mapping_in cs Wide handles room column i j v → MappingAt p column i j v
   mapping_at p None i j v e r = r
   mapping_at p (Some k) i j v e r = subst (λ x. MappingFrom cs Wide handles (opens cs Wide handles room) (below cs Wide handles room) k x i j v) (sym e) r
 

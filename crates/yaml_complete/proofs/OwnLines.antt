@@ -177,7 +177,7 @@ module _ (cs : List ℕ) (Wide : Type 0) (handles : Handles) (Open : Type 0) (in
         go j m v (inr (inr (y, s, r))) f = absurd (own.goes_on y s)
 
     -- and no key
-    no_key_signed : (n : ℕ) → Signed e n → KeyRead cs Wide handles Open inside col d c x → ⊥
+    pub no_key_signed : (n : ℕ) → Signed e n → KeyRead cs Wide handles Open inside col d c x → ⊥
     no_key_signed n sign (o, v, f, fk, one) = go ((flow_after cs Wide handles Open inside facts ease wider fwd blocks col d c x e b (own_kind x e b own) (line_properties cs handles col flow_out x e b own.read) (own_second x e b own flow_out)).rest o o v f (refl, inr fk))
       where
         on : (k : ℕ) (w : List Event) → k ≡ o → Rested cs Wide handles Open inside facts ease wider fwd blocks col d c b e k w → ⊥
