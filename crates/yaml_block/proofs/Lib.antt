@@ -11,3 +11,6 @@ mod Places
 mod Found
 mod ValueDecisions
 mod NodeDecisions
+mod LoopDecisions
+mod KeyedDecisions
+mod Passing
