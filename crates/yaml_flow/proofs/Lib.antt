@@ -4,5 +4,3 @@ pub mod LineLemmas
 pub mod SpaceLemmas
 pub mod PropertyLemmas
 pub mod FlowLemmas
-pub mod PropertyDecisions
-pub mod Deciding

@@ -1,12 +1,11 @@
 -- What calls that read properties and flow nodes decide: which readings a text could go on with (YAML 1.2.2, 6.9 and 7.5).
-use Rattle.std.specs.Prelude.{◌≡◌, ◌⊎◌, ℕ, List, Result, Ok, Err, Some, None, slice_get, false}
+use Rattle.std.specs.Prelude.{◌≡◌, ◌⊎◌, ℕ, List, Result, Ok, Err, Some, None, slice_get}
 use Rattle.yaml_text.specs.Event.{Event, untagged}
 use Rattle.yaml_text.specs.grammar.Rules.{Rule, maybe}
 use Rattle.yaml_text.specs.grammar.Separation.{Ctx, block_out, block_in, flow_out, flow_in, block_key, flow_key, separate, s_l_comments}
 use Rattle.yaml_text.specs.grammar.Tags.{Handles, properties}
 use Rattle.yaml_text.specs.grammar.Events.{Props, no_props}
 use Rattle.yaml_text.specs.grammar.Nodes.{reads}
-use Rattle.yaml_text.specs.Lines.{is_key}
 use Rattle.yaml_text.specs.declared.fault.Fault.{Fault}
 use Rattle.yaml_text.specs.declared.fault.Fault.TheVariants.{OutOfMemory}
 use Rattle.yaml_unique.specs.Readings.{End, At}
@@ -30,14 +29,14 @@ abbrev pub IsSingle : Props → Type 0
 IsSingle p = (p.anchor ≡ None) ⊎ (p.tag ≡ untagged)
 
 module _ (cs : List ℕ) (handles : Handles) (n : ℕ) (c : Ctx) where
-  -- after properties that end here separation leads to one more; or, where it may go on to other lines, to no content
+  -- after properties that end here separation leads to one more, or to no content
   pub data Stops (k : ℕ) : Type 0 where
     another : (o : ℕ) → separate cs n c k o → IsProperty cs o → Stops k
-    nothing : is_key c ≡ false → ((q : ℕ) → maybe (separate cs n c) k q → Fresh cs q → ⊥) → Stops k
+    nothing : ((q : ℕ) → maybe (separate cs n c) k q → Fresh cs q → ⊥) → Stops k
 
-  -- a property begins here, but no properties that a node goes on after
+  -- no properties begin here, or none that a node goes on after
   abbrev pub Barred : ℕ → Type 0
-  Barred i = IsProperty cs i × ((k : ℕ) (p : Props) → properties cs handles n c i k p → Stops k)
+  Barred i = (k : ℕ) (p : Props) → properties cs handles n c i k p → Stops k
 
   -- the properties that end at e are all that stand at i
   pub record AllProperties (i e : ℕ) (p : Props) : Type 0 where

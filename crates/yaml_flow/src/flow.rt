@@ -18,6 +18,7 @@ ghost use Rattle.yaml_flow.specs.PropertyRules.{props_of, Own};
 ghost use Rattle.yaml_flow.specs.FlowRules.{flow_from, content_from, Bare, from_room, item_at, entry_at, keyed_at, asked_at, value_at, parts, IsSign, IsInner, IsParted, FirstIs};
 
 use crate::key::{Fit, key_fit};
+use crate::line::separation;
 use crate::properties::{Properties, dress, read_properties};
 use crate::push::{flow_mapping, flow_sequence, push_empty, push_scalar};
 use std::alloc::Global;
@@ -59,7 +60,170 @@ enum First {
     Other,
 }
 
+/// What stands at a border where a flow node may begin.
+fn first_of(source: &Chars<'_>, at: usize) -> First
+    requires { IsBorder source.now at }
+    ensures { FirstIs source.now at result }
+{
+    match next(source, at) {
+        None => First::Other,
+        Some((c, to)) => match c {
+            '[' => First::Sequence(to),
+            '{' => First::Mapping(to),
+            '\'' => First::Single,
+            '"' => First::Double,
+            _ => First::Other,
+        },
+    }
+}
+
+/// The context inside a flow collection (`in-flow`, 7.4).
+#[tactic(auto, unfolding(yaml_text::specs::grammar::Separation::inner))]
+fn inner(context: Ctx) -> Ctx
+    ensures context { context_of result ≡ inner (context_of context) }
+    ensures within { IsInner (context_of result) }
+{
+    match context {
+        Ctx::BlockKey => Ctx::FlowKey,
+        Ctx::FlowKey => Ctx::FlowKey,
+        Ctx::BlockOut => Ctx::FlowIn,
+        Ctx::BlockIn => Ctx::FlowIn,
+        Ctx::FlowOut => Ctx::FlowIn,
+        Ctx::FlowIn => Ctx::FlowIn,
+    }
+}
+
+/// A column as the indentation of a scalar.
+fn indentation(least: usize) -> i32
+    requires { least ≤ text_limit }
+    ensures { result ≡ pos least }
+{
+    least as i32
+}
+
+/// An alias.
+fn read_alias<'a>(
+    alloc: Global,
+    source: &Chars<'a>,
+    at: usize,
+    out: &mut Vec<Event<'a>>,
+) -> Result<Node, Fault>
+    requires border { IsBorder source.now at }
+    requires sign { slice_get (text_of source.now) (place_of source.now at) ≡ Some 42 }
+    ensures border { IfOk result (λ node. IsBorder source.now node.end) }
+    ensures onward { IfOk result (λ node. at < node.end) }
+    ensures within { IfOk result (λ node. node.deep ≡ 0) }
+    ensures reads { Appends (λ node. given (node.kind ≡ Yaml) (seen (λ x. alias x ∷ []) (tags.alias (text_of source.now)))) (place_of source.now at) (λ node. place_of source.now node.end) out.old.items out.new.items result }
+{
+    let (name, end) = read_name(alloc, source, at)?;
+    out.push(Event::Alias { name })?;
+    Ok(Node {
+        end,
+        deep: 0,
+        kind: Kind::Yaml,
+    })
+}
+
+/// A plain scalar, if one begins here.
+fn read_plain_node<'a>(
+    alloc: Global,
+    source: &Chars<'a>,
+    at: usize,
+    least: usize,
+    context: Ctx,
+    handles: Option<&Handles<'a>>,
+    out: &mut Vec<Event<'a>>,
+) -> Result<Option<Node>, Fault>
+    requires border { IsBorder source.now at }
+    requires low { least ≤ at }
+    ensures border { IfOk result (λ found. IfSome found (λ node. IsBorder source.now node.end)) }
+    ensures onward { IfOk result (λ found. IfSome found (λ node. at < node.end)) }
+    ensures within { IfOk result (λ found. IfSome found (λ node. node.deep ≡ 0)) }
+    ensures reads { Perhaps (λ node. content_from (text_of source.now) (Unit {0}) (handles_of handles.entry) node.deep node.kind least (context_of context)) (place_of source.now at) (λ node. place_of source.now node.end) out.old.items out.new.items result }
+{
+    match read_plain(alloc, source, at, indentation(least), context) {
+        Ok((text, end)) => {
+            push_scalar(out, Style::Plain, text)?;
+            Ok(Some(Node {
+                end,
+                deep: 0,
+                kind: Kind::Yaml,
+            }))
+        }
+        Err(Fault::OutOfMemory) => Err(Fault::OutOfMemory),
+        Err(_) => Ok(None),
+    }
+}
+
+/// A single-quoted scalar.
+fn read_single_node<'a>(
+    alloc: Global,
+    source: &Chars<'a>,
+    at: usize,
+    least: usize,
+    context: Ctx,
+    handles: Option<&Handles<'a>>,
+    out: &mut Vec<Event<'a>>,
+) -> Result<Node, Fault>
+    requires border { IsBorder source.now at }
+    requires low { least ≤ at }
+    ensures border { IfOk result (λ node. IsBorder source.now node.end) }
+    ensures onward { IfOk result (λ node. at < node.end) }
+    ensures within { IfOk result (λ node. node.deep ≡ 0) }
+    ensures reads { Appends (λ node. content_from (text_of source.now) (Unit {0}) (handles_of handles.entry) node.deep node.kind least (context_of context)) (place_of source.now at) (λ node. place_of source.now node.end) out.old.items out.new.items result }
+{
+    let (text, end) = read_single(alloc, source, at, indentation(least), context)?;
+    push_scalar(out, Style::Single, text)?;
+    Ok(Node {
+        end,
+        deep: 0,
+        kind: Kind::Json,
+    })
+}
+
+/// A double-quoted scalar.
+fn read_double_node<'a>(
+    alloc: Global,
+    source: &Chars<'a>,
+    at: usize,
+    least: usize,
+    context: Ctx,
+    handles: Option<&Handles<'a>>,
+    out: &mut Vec<Event<'a>>,
+) -> Result<Node, Fault>
+    requires border { IsBorder source.now at }
+    requires low { least ≤ at }
+    ensures border { IfOk result (λ node. IsBorder source.now node.end) }
+    ensures onward { IfOk result (λ node. at < node.end) }
+    ensures within { IfOk result (λ node. node.deep ≡ 0) }
+    ensures reads { Appends (λ node. content_from (text_of source.now) (Unit {0}) (handles_of handles.entry) node.deep node.kind least (context_of context)) (place_of source.now at) (λ node. place_of source.now node.end) out.old.items out.new.items result }
+{
+    let (text, end) = read_double(alloc, source, at, indentation(least), context)?;
+    push_scalar(out, Style::Double, text)?;
+    Ok(Node {
+        end,
+        deep: 0,
+        kind: Kind::Json,
+    })
+}
+
+/// The empty scalar of a node of properties alone, which end at `end`.
+fn push_lone<'a>(source: &Chars<'a>, end: usize, out: &mut Vec<Event<'a>>) -> Result<Node, Fault>
+    requires { IsBorder source.now end }
+    ensures end { IfOk result (λ node. node.end ≡ end) }
+    ensures within { IfOk result (λ node. node.deep ≡ 0) }
+    ensures reads { Appends (λ node. given (node.kind ≡ Yaml) (gives (empty no_props))) (place_of source.now end) (λ node. place_of source.now node.end) out.old.items out.new.items result }
+{
+    push_empty(out)?;
+    Ok(Node {
+        end,
+        deep: 0,
+        kind: Kind::Yaml,
+    })
+}
+
 /// A flow node in which `room` collections may be open, one inside another.
+#[cycle(nodes)]
 pub fn read_flow_node<'a>(
     alloc: Global,
     source: &Chars<'a>,
@@ -78,11 +242,18 @@ pub fn read_flow_node<'a>(
     ensures reads { Appends (λ node. flow_from (text_of source.now) (Unit {0}) (handles_of handles.entry) node.deep node.kind least (context_of context)) (place_of source.now at) (λ node. place_of source.now node.end) out.old.items out.new.items result }
     ensures decides { context_of context ≡ flow_in → DecidesNode (text_of source.now) (handles_of handles.entry) room least (context_of context) (place_of source.now at) (λ node. place_of source.now node.end) result }
 {
-    Err(Fault::OutOfMemory)
+    let start = out.len();
+    let (own, end) = read_properties(alloc, source, at, least, context, handles)?;
+    let node = read_bare(
+        alloc, source, at, end, &own, least, context, room, handles, out,
+    )?;
+    dress(out, start, own);
+    Ok(node)
 }
 
 /// A flow node after its own properties, which end at `end`: an alias, its content, or nothing. The properties are not in
 /// its events yet.
+#[cycle(nodes)]
 pub fn read_bare<'a>(
     alloc: Global,
     source: &Chars<'a>,
@@ -108,5 +279,650 @@ pub fn read_bare<'a>(
     ensures reads { Appends (λ node. Bare (text_of source.now) (Unit {0}) (handles_of handles.entry) node.deep node.kind least (context_of context) (props_of own.now) (place_of source.now end)) (place_of source.now at) (λ node. place_of source.now node.end) out.old.items out.new.items result }
     ensures decides { DecidesNode (text_of source.now) (handles_of handles.entry) room least (context_of context) (place_of source.now at) (λ node. place_of source.now node.end) result }
 {
-    Err(Fault::OutOfMemory)
+    if own.is_none() {
+        if let Some(_) = accept(source, at, '*') {
+            return read_alias(alloc, source, at, out);
+        }
+        return match read_content(alloc, source, at, least, context, room, handles, out)? {
+            Some(node) => Ok(node),
+            None => Err(unusable(source, at)),
+        };
+    }
+    let start = separation(source, end, least, context)?;
+    if start == end {
+        return push_lone(source, end, out);
+    }
+    match read_content(alloc, source, start, least, context, room, handles, out)? {
+        Some(node) => Ok(node),
+        None => push_lone(source, end, out),
+    }
+}
+
+/// A node's content, if any begins here.
+#[cycle(nodes)]
+fn read_content<'a>(
+    alloc: Global,
+    source: &Chars<'a>,
+    at: usize,
+    least: usize,
+    context: Ctx,
+    room: u32,
+    handles: Option<&Handles<'a>>,
+    out: &mut Vec<Event<'a>>,
+) -> Result<Option<Node>, Fault>
+    requires border { IsBorder source.now at }
+    requires low { least ≤ at }
+    ensures border { IfOk result (λ found. IfSome found (λ node. IsBorder source.now node.end)) }
+    ensures onward { IfOk result (λ found. IfSome found (λ node. at < node.end)) }
+    ensures within { IfOk result (λ found. IfSome found (λ node. node.deep ≤ room)) }
+    ensures reads { Perhaps (λ node. content_from (text_of source.now) (Unit {0}) (handles_of handles.entry) node.deep node.kind least (context_of context)) (place_of source.now at) (λ node. place_of source.now node.end) out.old.items out.new.items result }
+{
+    let first = first_of(source, at);
+    let node = match first {
+        First::Sequence(inside) => {
+            if room == 0 {
+                return Err(Fault::TooDeep(source.pos(at)));
+            }
+            read_sequence(
+                alloc, source, at, inside, least, context, room, handles, out,
+            )?
+        }
+        First::Mapping(inside) => {
+            if room == 0 {
+                return Err(Fault::TooDeep(source.pos(at)));
+            }
+            read_mapping(
+                alloc, source, at, inside, least, context, room, handles, out,
+            )?
+        }
+        First::Single => read_single_node(alloc, source, at, least, context, handles, out)?,
+        First::Double => read_double_node(alloc, source, at, least, context, handles, out)?,
+        First::Other => return read_plain_node(alloc, source, at, least, context, handles, out),
+    };
+    Ok(Some(node))
+}
+
+/// A flow sequence, after its bracket.
+#[cycle(nodes)]
+fn read_sequence<'a>(
+    alloc: Global,
+    source: &Chars<'a>,
+    at: usize,
+    inside: usize,
+    least: usize,
+    context: Ctx,
+    room: u32,
+    handles: Option<&Handles<'a>>,
+    out: &mut Vec<Event<'a>>,
+) -> Result<Node, Fault>
+    requires bracket { Steps (bytes_of source.now) at 91 inside }
+    requires border { IsBorder source.now at }
+    requires low { least ≤ at }
+    requires some { 0 < room }
+    ensures border { IfOk result (λ node. IsBorder source.now node.end) }
+    ensures onward { IfOk result (λ node. at < node.end) }
+    ensures within { IfOk result (λ node. node.deep ≤ room) }
+    ensures reads { Appends (λ node. content_from (text_of source.now) (Unit {0}) (handles_of handles.entry) node.deep node.kind least (context_of context)) (place_of source.now at) (λ node. place_of source.now node.end) out.old.items out.new.items result }
+{
+    out.push(flow_sequence())?;
+    let first = separation(source, inside, least, context)?;
+    let (end, deep) = read_items(
+        alloc,
+        source,
+        first,
+        least,
+        inner(context),
+        room - 1,
+        handles,
+        out,
+    )?;
+    out.push(Event::SequenceEnd)?;
+    Ok(Node {
+        end,
+        deep: deep + 1,
+        kind: Kind::Json,
+    })
+}
+
+/// The items of a flow sequence, up to its closing bracket: the border after it, and how many collections are open at once.
+#[cycle(nodes)]
+fn read_items<'a>(
+    alloc: Global,
+    source: &Chars<'a>,
+    first: usize,
+    least: usize,
+    context: Ctx,
+    room: u32,
+    handles: Option<&Handles<'a>>,
+    out: &mut Vec<Event<'a>>,
+) -> Result<(usize, u32), Fault>
+    requires border { IsBorder source.now first }
+    requires low { least ≤ first }
+    requires inner { IsInner (context_of context) }
+    ensures border { IfOk result (λ r. IsBorder source.now r.0) }
+    ensures onward { IfOk result (λ r. first < r.0) }
+    ensures within { IfOk result (λ r. r.1 ≤ room) }
+    ensures reads { Appends (λ r. from_room r.1 (λ room. parts (text_of source.now) least (context_of context) 93 (item_at (text_of source.now) (Unit {0}) (handles_of handles.entry) room least (context_of context)))) (place_of source.now first) (λ r. place_of source.now r.0) out.old.items out.new.items result }
+{
+    let mut here = first;
+    let mut most: u32 = 0;
+    'items: loop {
+        match accept(source, here, ']') {
+            Some(end) => return Ok((end, most)),
+            None => {
+                let (item, deep) = read_item(
+                    alloc, source, here, least, context, room, handles, out,
+                )?;
+                most = most.max(deep);
+                let after = separation(source, item, least, context)?;
+                match accept(source, after, ']') {
+                    Some(end) => return Ok((end, most)),
+                    None => match accept(source, after, ',') {
+                        Some(to) => here = separation(source, to, least, context)?,
+                        None => return Err(unusable(source, after)),
+                    },
+                }
+            }
+        }
+    }
+}
+
+/// The border after the colon that makes a node a key, if it stands at a border.
+fn value_sign(source: &Chars<'_>, at: usize, kind: Kind, context: Ctx) -> Option<usize>
+    requires { IsBorder source.now at }
+    ensures colon { IfSome result (λ after. Steps (bytes_of source.now) at 58 after) }
+    ensures sign { IfSome result (λ after. IsSign kind (context_of context) (text_of source.now) (place_of source.now after)) }
+{
+    match accept(source, at, ':') {
+        None => None,
+        Some(after) => match kind {
+            Kind::Json => Some(after),
+            Kind::Yaml => match next(source, after) {
+                Some((c, _)) if is_plain_safe(context, c) => None,
+                _ => Some(after),
+            },
+        },
+    }
+}
+
+/// The border after the `?` that begins an entry, if it stands at a border.
+fn question_sign(source: &Chars<'_>, at: usize, context: Ctx) -> Option<usize>
+    requires { IsBorder source.now at }
+    ensures { IfSome result (λ after. Steps (bytes_of source.now) at 63 after) }
+{
+    match accept(source, at, '?') {
+        None => None,
+        Some(after) => match next(source, after) {
+            Some((c, _)) if is_plain_safe(context, c) => None,
+            _ => Some(after),
+        },
+    }
+}
+
+/// The fault of a key whose mapping is one collection too many: it is told where the last of them opens.
+#[cycle(nodes)]
+pub fn too_deep<'a>(
+    alloc: Global,
+    source: &Chars<'a>,
+    at: usize,
+    least: usize,
+    context: Ctx,
+    room: u32,
+    handles: Option<&Handles<'a>>,
+) -> Fault
+    requires border { IsBorder source.now at }
+    requires low { least ≤ at }
+    ensures { IsRefusal result }
+{
+    if room == 0 {
+        return Fault::TooDeep(source.pos(at));
+    }
+    let mut key = Vec::new(alloc);
+    match read_flow_node(
+        alloc,
+        source,
+        at,
+        least,
+        context,
+        room - 1,
+        handles,
+        &mut key,
+    ) {
+        Ok(_) => Fault::TooDeep(source.pos(at)),
+        Err(fault) => fault,
+    }
+}
+
+/// An item of a flow sequence: a node, or a key and its value (7.4.1).
+#[cycle(nodes)]
+fn read_item<'a>(
+    alloc: Global,
+    source: &Chars<'a>,
+    at: usize,
+    least: usize,
+    context: Ctx,
+    room: u32,
+    handles: Option<&Handles<'a>>,
+    out: &mut Vec<Event<'a>>,
+) -> Result<(usize, u32), Fault>
+    requires border { IsBorder source.now at }
+    requires low { least ≤ at }
+    requires inner { IsInner (context_of context) }
+    ensures border { IfOk result (λ r. IsBorder source.now r.0) }
+    ensures onward { IfOk result (λ r. at ≤ r.0) }
+    ensures within { IfOk result (λ r. r.1 ≤ room) }
+    ensures reads { Appends (λ r. from_room r.1 (λ room. item_at (text_of source.now) (Unit {0}) (handles_of handles.entry) room least (context_of context))) (place_of source.now at) (λ r. place_of source.now r.0) out.old.items out.new.items result }
+{
+    if let Some(after) = question_sign(source, at, context) {
+        return read_asked_pair(alloc, source, at, after, least, context, room, handles, out);
+    }
+    match value_sign(source, at, Kind::Yaml, context) {
+        None => read_node_item(alloc, source, at, least, context, room, handles, out),
+        Some(after) => {
+            read_empty_pair(alloc, source, at, after, least, context, room, handles, out)
+        }
+    }
+}
+
+/// A pair whose key follows a `?` (7.4.2).
+#[cycle(nodes)]
+fn read_asked_pair<'a>(
+    alloc: Global,
+    source: &Chars<'a>,
+    at: usize,
+    after: usize,
+    least: usize,
+    context: Ctx,
+    room: u32,
+    handles: Option<&Handles<'a>>,
+    out: &mut Vec<Event<'a>>,
+) -> Result<(usize, u32), Fault>
+    requires border { IsBorder source.now at }
+    requires sign { Steps (bytes_of source.now) at 63 after }
+    requires low { least ≤ at }
+    requires inner { IsInner (context_of context) }
+    ensures border { IfOk result (λ r. IsBorder source.now r.0) }
+    ensures onward { IfOk result (λ r. at ≤ r.0) }
+    ensures within { IfOk result (λ r. r.1 ≤ room) }
+    ensures reads { Appends (λ r. from_room r.1 (λ room. item_at (text_of source.now) (Unit {0}) (handles_of handles.entry) room least (context_of context))) (place_of source.now at) (λ r. place_of source.now r.0) out.old.items out.new.items result }
+{
+    if room == 0 {
+        return Err(Fault::TooDeep(source.pos(at)));
+    }
+    out.push(flow_mapping())?;
+    let (end, deep) = read_asked(alloc, source, after, least, context, room - 1, handles, out)?;
+    out.push(Event::MappingEnd)?;
+    Ok((end, deep + 1))
+}
+
+/// A pair without a key, from its colon on (7.4.2).
+#[cycle(nodes)]
+fn read_empty_pair<'a>(
+    alloc: Global,
+    source: &Chars<'a>,
+    at: usize,
+    after: usize,
+    least: usize,
+    context: Ctx,
+    room: u32,
+    handles: Option<&Handles<'a>>,
+    out: &mut Vec<Event<'a>>,
+) -> Result<(usize, u32), Fault>
+    requires border { IsBorder source.now at }
+    requires colon { Steps (bytes_of source.now) at 58 after }
+    requires sign { IsSign Yaml (context_of context) (text_of source.now) (place_of source.now after) }
+    requires low { least ≤ at }
+    requires inner { IsInner (context_of context) }
+    ensures border { IfOk result (λ r. IsBorder source.now r.0) }
+    ensures onward { IfOk result (λ r. at ≤ r.0) }
+    ensures within { IfOk result (λ r. r.1 ≤ room) }
+    ensures reads { Appends (λ r. from_room r.1 (λ room. item_at (text_of source.now) (Unit {0}) (handles_of handles.entry) room least (context_of context))) (place_of source.now at) (λ r. place_of source.now r.0) out.old.items out.new.items result }
+{
+    if room == 0 {
+        return Err(Fault::TooDeep(source.pos(at)));
+    }
+    out.push(flow_mapping())?;
+    push_empty(out)?;
+    let (end, deep) = read_value(
+        alloc,
+        source,
+        at,
+        after,
+        Kind::Yaml,
+        least,
+        context,
+        room - 1,
+        handles,
+        out,
+    )?;
+    out.push(Event::MappingEnd)?;
+    Ok((end, deep + 1))
+}
+
+/// An item of a flow sequence that begins with a node, which may be a key (7.4.1).
+#[cycle(nodes)]
+fn read_node_item<'a>(
+    alloc: Global,
+    source: &Chars<'a>,
+    at: usize,
+    least: usize,
+    context: Ctx,
+    room: u32,
+    handles: Option<&Handles<'a>>,
+    out: &mut Vec<Event<'a>>,
+) -> Result<(usize, u32), Fault>
+    requires border { IsBorder source.now at }
+    requires low { least ≤ at }
+    requires inner { IsInner (context_of context) }
+    ensures border { IfOk result (λ r. IsBorder source.now r.0) }
+    ensures onward { IfOk result (λ r. at ≤ r.0) }
+    ensures within { IfOk result (λ r. r.1 ≤ room) }
+    ensures reads { Appends (λ r. from_room r.1 (λ room. item_at (text_of source.now) (Unit {0}) (handles_of handles.entry) room least (context_of context))) (place_of source.now at) (λ r. place_of source.now r.0) out.old.items out.new.items result }
+{
+    let start = out.len();
+    let key = read_flow_node(alloc, source, at, least, context, room, handles, out)?;
+    let (_, colon) = skip_spaces(source, key.end);
+    match value_sign(source, colon, key.kind, context) {
+        None => Ok((key.end, key.deep)),
+        Some(after) => match key_fit(source, at, colon) {
+            Fit::Broken => Ok((key.end, key.deep)),
+            Fit::Long => Err(Fault::KeyTooLong(source.pos(at))),
+            Fit::Fits => {
+                if key.deep >= room {
+                    return Err(too_deep(alloc, source, at, least, context, room, handles));
+                }
+                out.insert(start, flow_mapping())?;
+                let (end, deep) = read_value(
+                    alloc,
+                    source,
+                    colon,
+                    after,
+                    key.kind,
+                    least,
+                    context,
+                    room - 1,
+                    handles,
+                    out,
+                )?;
+                out.push(Event::MappingEnd)?;
+                Ok((end, key.deep.max(deep) + 1))
+            }
+        },
+    }
+}
+
+/// Whether what begins at `start` may be the value after a colon that ends at `after`: after a YAML key something has to part them.
+fn is_parted(kind: Kind, after: usize, start: usize) -> bool
+    requires { after ≤ start }
+    ensures yes { OnTrue result (IsParted kind after start) }
+    ensures no { OnFalse result (IsParted kind after start → ⊥) }
+{
+    match kind {
+        Kind::Yaml => after < start,
+        Kind::Json => true,
+    }
+}
+
+/// Whether nothing of a value stands before a border.
+fn ends_value(source: &Chars<'_>, at: usize) -> bool
+    requires { IsBorder source.now at }
+{
+    match next(source, at) {
+        Some((',' | ']' | '}', _)) => true,
+        _ => false,
+    }
+}
+
+/// The value after a key's colon (7.4.2).
+#[cycle(nodes)]
+fn read_value<'a>(
+    alloc: Global,
+    source: &Chars<'a>,
+    colon: usize,
+    after: usize,
+    kind: Kind,
+    least: usize,
+    context: Ctx,
+    room: u32,
+    handles: Option<&Handles<'a>>,
+    out: &mut Vec<Event<'a>>,
+) -> Result<(usize, u32), Fault>
+    requires colon { Steps (bytes_of source.now) colon 58 after }
+    requires sign { IsSign kind (context_of context) (text_of source.now) (place_of source.now after) }
+    requires low { least ≤ after }
+    ensures border { IfOk result (λ r. IsBorder source.now r.0) }
+    ensures onward { IfOk result (λ r. after ≤ r.0) }
+    ensures within { IfOk result (λ r. r.1 ≤ room) }
+    ensures reads { Appends (λ r. from_room r.1 (λ room. value_at (text_of source.now) (Unit {0}) (handles_of handles.entry) kind room least (context_of context))) (place_of source.now colon) (λ r. place_of source.now r.0) out.old.items out.new.items result }
+{
+    let start = separation(source, after, least, context)?;
+    if !is_parted(kind, after, start) {
+        push_empty(out)?;
+        return Ok((after, 0));
+    }
+    if ends_value(source, start) {
+        push_empty(out)?;
+        return Ok((after, 0));
+    }
+    let value = read_flow_node(alloc, source, start, least, context, room, handles, out)?;
+    Ok((value.end, value.deep))
+}
+
+/// A flow mapping, after its brace.
+#[cycle(nodes)]
+fn read_mapping<'a>(
+    alloc: Global,
+    source: &Chars<'a>,
+    at: usize,
+    inside: usize,
+    least: usize,
+    context: Ctx,
+    room: u32,
+    handles: Option<&Handles<'a>>,
+    out: &mut Vec<Event<'a>>,
+) -> Result<Node, Fault>
+    requires bracket { Steps (bytes_of source.now) at 123 inside }
+    requires border { IsBorder source.now at }
+    requires low { least ≤ at }
+    requires some { 0 < room }
+    ensures border { IfOk result (λ node. IsBorder source.now node.end) }
+    ensures onward { IfOk result (λ node. at < node.end) }
+    ensures within { IfOk result (λ node. node.deep ≤ room) }
+    ensures reads { Appends (λ node. content_from (text_of source.now) (Unit {0}) (handles_of handles.entry) node.deep node.kind least (context_of context)) (place_of source.now at) (λ node. place_of source.now node.end) out.old.items out.new.items result }
+{
+    out.push(flow_mapping())?;
+    let first = separation(source, inside, least, context)?;
+    let (end, deep) = read_entries(
+        alloc,
+        source,
+        first,
+        least,
+        inner(context),
+        room - 1,
+        handles,
+        out,
+    )?;
+    out.push(Event::MappingEnd)?;
+    Ok(Node {
+        end,
+        deep: deep + 1,
+        kind: Kind::Json,
+    })
+}
+
+/// The entries of a flow mapping, up to its closing brace: the border after it, and how many collections are open at once.
+#[cycle(nodes)]
+fn read_entries<'a>(
+    alloc: Global,
+    source: &Chars<'a>,
+    first: usize,
+    least: usize,
+    context: Ctx,
+    room: u32,
+    handles: Option<&Handles<'a>>,
+    out: &mut Vec<Event<'a>>,
+) -> Result<(usize, u32), Fault>
+    requires border { IsBorder source.now first }
+    requires low { least ≤ first }
+    requires inner { IsInner (context_of context) }
+    ensures border { IfOk result (λ r. IsBorder source.now r.0) }
+    ensures onward { IfOk result (λ r. first < r.0) }
+    ensures within { IfOk result (λ r. r.1 ≤ room) }
+    ensures reads { Appends (λ r. from_room r.1 (λ room. parts (text_of source.now) least (context_of context) 125 (entry_at (text_of source.now) (Unit {0}) (handles_of handles.entry) room least (context_of context)))) (place_of source.now first) (λ r. place_of source.now r.0) out.old.items out.new.items result }
+{
+    let mut here = first;
+    let mut most: u32 = 0;
+    'entries: loop {
+        match accept(source, here, '}') {
+            Some(end) => return Ok((end, most)),
+            None => {
+                let (entry, deep) = read_entry(
+                    alloc, source, here, least, context, room, handles, out,
+                )?;
+                most = most.max(deep);
+                let after = separation(source, entry, least, context)?;
+                match accept(source, after, '}') {
+                    Some(end) => return Ok((end, most)),
+                    None => match accept(source, after, ',') {
+                        Some(to) => here = separation(source, to, least, context)?,
+                        None => return Err(unusable(source, after)),
+                    },
+                }
+            }
+        }
+    }
+}
+
+/// An entry of a flow mapping (7.4.2).
+#[cycle(nodes)]
+fn read_entry<'a>(
+    alloc: Global,
+    source: &Chars<'a>,
+    at: usize,
+    least: usize,
+    context: Ctx,
+    room: u32,
+    handles: Option<&Handles<'a>>,
+    out: &mut Vec<Event<'a>>,
+) -> Result<(usize, u32), Fault>
+    requires border { IsBorder source.now at }
+    requires low { least ≤ at }
+    requires inner { IsInner (context_of context) }
+    ensures border { IfOk result (λ r. IsBorder source.now r.0) }
+    ensures onward { IfOk result (λ r. at ≤ r.0) }
+    ensures within { IfOk result (λ r. r.1 ≤ room) }
+    ensures reads { Appends (λ r. from_room r.1 (λ room. entry_at (text_of source.now) (Unit {0}) (handles_of handles.entry) room least (context_of context))) (place_of source.now at) (λ r. place_of source.now r.0) out.old.items out.new.items result }
+{
+    match question_sign(source, at, context) {
+        None => read_keyed(alloc, source, at, least, context, room, handles, out),
+        Some(after) => read_asked(alloc, source, after, least, context, room, handles, out),
+    }
+}
+
+/// A key and its value after a `?`, either of which may be empty (7.4.2).
+#[cycle(nodes)]
+fn read_asked<'a>(
+    alloc: Global,
+    source: &Chars<'a>,
+    after: usize,
+    least: usize,
+    context: Ctx,
+    room: u32,
+    handles: Option<&Handles<'a>>,
+    out: &mut Vec<Event<'a>>,
+) -> Result<(usize, u32), Fault>
+    requires border { IsBorder source.now after }
+    requires low { least ≤ after }
+    requires inner { IsInner (context_of context) }
+    ensures border { IfOk result (λ r. IsBorder source.now r.0) }
+    ensures onward { IfOk result (λ r. after ≤ r.0) }
+    ensures within { IfOk result (λ r. r.1 ≤ room) }
+    ensures reads { Appends (λ r. from_room r.1 (λ room. asked_at (text_of source.now) (Unit {0}) (handles_of handles.entry) room least (context_of context))) (place_of source.now after) (λ r. place_of source.now r.0) out.old.items out.new.items result }
+{
+    let start = separation(source, after, least, context)?;
+    if start == after {
+        return Err(unusable(source, after));
+    }
+    if ends_value(source, start) {
+        push_empty(out)?;
+        push_empty(out)?;
+        return Ok((start, 0));
+    }
+    read_keyed(alloc, source, start, least, context, room, handles, out)
+}
+
+/// An entry of a flow mapping without `?`: a key, perhaps an empty one, and its value or none (7.4.2).
+#[cycle(nodes)]
+fn read_keyed<'a>(
+    alloc: Global,
+    source: &Chars<'a>,
+    at: usize,
+    least: usize,
+    context: Ctx,
+    room: u32,
+    handles: Option<&Handles<'a>>,
+    out: &mut Vec<Event<'a>>,
+) -> Result<(usize, u32), Fault>
+    requires border { IsBorder source.now at }
+    requires low { least ≤ at }
+    requires inner { IsInner (context_of context) }
+    ensures border { IfOk result (λ r. IsBorder source.now r.0) }
+    ensures onward { IfOk result (λ r. at ≤ r.0) }
+    ensures within { IfOk result (λ r. r.1 ≤ room) }
+    ensures reads { Appends (λ r. from_room r.1 (λ room. keyed_at (text_of source.now) (Unit {0}) (handles_of handles.entry) room least (context_of context))) (place_of source.now at) (λ r. place_of source.now r.0) out.old.items out.new.items result }
+{
+    match value_sign(source, at, Kind::Yaml, context) {
+        None => read_key_entry(alloc, source, at, least, context, room, handles, out),
+        Some(after) => {
+            push_empty(out)?;
+            read_value(
+                alloc,
+                source,
+                at,
+                after,
+                Kind::Yaml,
+                least,
+                context,
+                room,
+                handles,
+                out,
+            )
+        }
+    }
+}
+
+/// An entry of a flow mapping that begins with a key.
+#[cycle(nodes)]
+fn read_key_entry<'a>(
+    alloc: Global,
+    source: &Chars<'a>,
+    at: usize,
+    least: usize,
+    context: Ctx,
+    room: u32,
+    handles: Option<&Handles<'a>>,
+    out: &mut Vec<Event<'a>>,
+) -> Result<(usize, u32), Fault>
+    requires border { IsBorder source.now at }
+    requires low { least ≤ at }
+    requires inner { IsInner (context_of context) }
+    ensures border { IfOk result (λ r. IsBorder source.now r.0) }
+    ensures onward { IfOk result (λ r. at ≤ r.0) }
+    ensures within { IfOk result (λ r. r.1 ≤ room) }
+    ensures reads { Appends (λ r. from_room r.1 (λ room. keyed_at (text_of source.now) (Unit {0}) (handles_of handles.entry) room least (context_of context))) (place_of source.now at) (λ r. place_of source.now r.0) out.old.items out.new.items result }
+{
+    let key = read_flow_node(alloc, source, at, least, context, room, handles, out)?;
+    let colon = separation(source, key.end, least, context)?;
+    match value_sign(source, colon, key.kind, context) {
+        None => {
+            push_empty(out)?;
+            Ok((key.end, key.deep))
+        }
+        Some(after) => {
+            let (end, deep) = read_value(
+                alloc, source, colon, after, key.kind, least, context, room, handles, out,
+            )?;
+            Ok((end, key.deep.max(deep)))
+        }
+    }
 }

@@ -95,3 +95,37 @@ pub fn next_line(source: &Chars<'_>, at: usize) -> Result<Line, Fault>
     }
 }
 
+/// The border after the separation inside a flow collection (6.7), as much as there is: where content goes on, if it does.
+pub fn separation(source: &Chars<'_>, at: usize, least: usize, context: Ctx) -> Result<usize, Fault>
+    requires { IsBorder source.now at }
+    ensures border { IfOk result (λ to. IsBorder source.now to) }
+    ensures onward { IfOk result (λ to. at ≤ to) }
+    ensures separate { IfOk result (λ to. maybe (separate (text_of source.now) least (context_of context)) (place_of source.now at) (place_of source.now to)) }
+    ensures apart { IfOk result (λ to. at < to → separate (text_of source.now) least (context_of context) (place_of source.now at) (place_of source.now to)) }
+    ensures to { IfOk result (λ to. (q : ℕ) → maybe (separate (text_of source.now) least (context_of context)) (place_of source.now at) q → Solid (text_of source.now) q → q ≡ place_of source.now to) }
+    ensures err { IfErr result IsRefusal }
+    ensures none { IfErr result (λ _. Inside (text_of source.now) (place_of source.now at) → (q : ℕ) → maybe (separate (text_of source.now) least (context_of context)) (place_of source.now at) q → Fresh (text_of source.now) q → ⊥) }
+{
+    if is_key(context) {
+        let (_, end) = skip_spaces(source, at);
+        return Ok(end);
+    }
+    match skip_comments(source, at) {
+        None => {
+            let (_, end) = skip_spaces(source, at);
+            Ok(end)
+        }
+        Some(start) => {
+            let line = line_at(source, start);
+            if is_mark(source, start) {
+                Err(Fault::Syntax(source.pos(start)))
+            } else if line.column < least {
+                Err(unusable(source, line.first))
+            } else if is_end(source, line.first) {
+                Err(unusable(source, line.first))
+            } else {
+                Ok(line.first)
+            }
+        }
+    }
+}

@@ -12,6 +12,7 @@ ghost use Rattle.yaml_text.specs.declared.fault.Fault.TheVariants.{OutOfMemory};
 ghost use Rattle.yaml_flow.specs.Decisions.{AllProperties, Barred};
 ghost use Rattle.yaml_flow.specs.PropertyRules.{props_of, both_props, anchor_of, tag_of, with_props, Dresses, Apart, Own};
 
+use crate::line::separation;
 use std::alloc::Global;
 use std::borrow::CowStr;
 use std::mem;
@@ -118,7 +119,73 @@ pub fn read_properties<'a>(
     ensures all { IfOk result (λ r. AllProperties (text_of source.now) (handles_of handles.entry) least (context_of context) (place_of source.now at) (place_of source.now r.1) (props_of r.0)) }
     ensures barred { IfErr result (λ e. (e ≡ OutOfMemory) ⊎ Barred (text_of source.now) (handles_of handles.entry) least (context_of context) (place_of source.now at)) }
 {
-    Err(Fault::OutOfMemory)
+    if let Some(_) = accept(source, at, '!') {
+        return read_tagged(alloc, source, at, least, context, handles);
+    }
+    if let Some(_) = accept(source, at, '&') {
+        return read_anchored(alloc, source, at, least, context, handles);
+    }
+    Ok((Properties::none(), at))
+}
+
+/// A tag, and an anchor that may follow it.
+fn read_tagged<'a>(
+    alloc: Global,
+    source: &Chars<'a>,
+    at: usize,
+    least: usize,
+    context: Ctx,
+    handles: Option<&Handles<'a>>,
+) -> Result<(Properties<'a>, usize), Fault>
+    requires { IsBorder source.now at }
+    ensures border { IfOk result (λ r. IsBorder source.now r.1) }
+    ensures onward { IfOk result (λ r. at ≤ r.1) }
+    ensures own { IfOk result (λ r. Own (text_of source.now) (handles_of handles.entry) least (context_of context) (place_of source.now at) (place_of source.now r.1) (props_of r.0)) }
+    ensures err { IfErr result IsRefusal }
+    ensures all { IfOk result (λ r. AllProperties (text_of source.now) (handles_of handles.entry) least (context_of context) (place_of source.now at) (place_of source.now r.1) (props_of r.0)) }
+    ensures barred { IfErr result (λ e. (e ≡ OutOfMemory) ⊎ Barred (text_of source.now) (handles_of handles.entry) least (context_of context) (place_of source.now at)) }
+{
+    let (tag, end) = read_tag(alloc, source, at, handles)?;
+    let next = separation(source, end, least, context)?;
+    if next > end {
+        if let Some(_) = accept(source, next, '&') {
+            let (name, after) = read_name(alloc, source, next)?;
+            let anchor = Some(name);
+            return Ok((Properties { anchor, tag }, after));
+        }
+    }
+    Ok((Properties { anchor: None, tag }, end))
+}
+
+/// An anchor, and a tag that may follow it.
+fn read_anchored<'a>(
+    alloc: Global,
+    source: &Chars<'a>,
+    at: usize,
+    least: usize,
+    context: Ctx,
+    handles: Option<&Handles<'a>>,
+) -> Result<(Properties<'a>, usize), Fault>
+    requires border { IsBorder source.now at }
+    requires sign { slice_get (text_of source.now) (place_of source.now at) ≡ Some 38 }
+    ensures border { IfOk result (λ r. IsBorder source.now r.1) }
+    ensures onward { IfOk result (λ r. at ≤ r.1) }
+    ensures own { IfOk result (λ r. Own (text_of source.now) (handles_of handles.entry) least (context_of context) (place_of source.now at) (place_of source.now r.1) (props_of r.0)) }
+    ensures err { IfErr result IsRefusal }
+    ensures all { IfOk result (λ r. AllProperties (text_of source.now) (handles_of handles.entry) least (context_of context) (place_of source.now at) (place_of source.now r.1) (props_of r.0)) }
+    ensures barred { IfErr result (λ e. (e ≡ OutOfMemory) ⊎ Barred (text_of source.now) (handles_of handles.entry) least (context_of context) (place_of source.now at)) }
+{
+    let (name, end) = read_name(alloc, source, at)?;
+    let anchor = Some(name);
+    let next = separation(source, end, least, context)?;
+    if next > end {
+        if let Some(_) = accept(source, next, '!') {
+            let (tag, after) = read_tag(alloc, source, next, handles)?;
+            return Ok((Properties { anchor, tag }, after));
+        }
+    }
+    let tag = EventTag::None;
+    Ok((Properties { anchor, tag }, end))
 }
 
 /// An event with these properties in place of its own.

@@ -5,7 +5,7 @@ ghost use Rattle.std.specs.Str.{chars};
 ghost use Rattle.yaml_text.specs.Event.{untagged, sequence_start, mapping_start};
 ghost use Rattle.yaml_text.specs.grammar.Events.{no_props, seq_start, map_start, scalar, empty};
 ghost use Rattle.yaml_text.specs.EventModel.{event_of, style_of, Adds};
-ghost use Rattle.yaml_text.specs.declared.fault.Fault.TheVariants.{OutOfMemory};
+ghost use Rattle.yaml_text.specs.Answer.{IsRefusal};
 ghost use Rattle.yaml_flow.specs.PropertyRules.{props_of};
 
 use crate::properties::Properties;
@@ -64,7 +64,7 @@ pub fn push_scalar<'a>(
     text: CowStr<'a>,
 ) -> Result<(), Fault>
     ensures ok { IfOk result (λ _. Adds out.old.items (scalar no_props (style_of style) (chars (cow_str_bytes text.entry)) ∷ []) out.new.items) }
-    ensures err { IfErr result (λ e. e ≡ OutOfMemory) }
+    ensures err { IfErr result IsRefusal }
 {
     // a text that is seen is known to be UTF-8
     let _ = text.as_str();
@@ -80,7 +80,7 @@ pub fn push_scalar<'a>(
 /// Puts down the empty scalar, which takes no characters (YAML 1.2.2, 7.2).
 pub fn push_empty(out: &mut Vec<Event<'_>>) -> Result<(), Fault>
     ensures ok { IfOk result (λ _. Adds out.old.items (empty no_props) out.new.items) }
-    ensures err { IfErr result (λ e. e ≡ OutOfMemory) }
+    ensures err { IfErr result IsRefusal }
 {
     push_scalar(out, Style::Plain, CowStr::Borrowed(""))
 }
