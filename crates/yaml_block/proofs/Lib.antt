@@ -2,3 +2,15 @@ mod MarkLaws
 mod BlockLemmas
 mod OuterLemmas
 mod DocumentLemmas
+mod Levels
+mod NodeForms
+mod ScalarDecisions
+mod LineDecisions
+mod KeyDecisions
+mod Places
+mod Found
+mod ValueDecisions
+mod NodeDecisions
+mod LoopDecisions
+mod KeyedDecisions
+mod Passing

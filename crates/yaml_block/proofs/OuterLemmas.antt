@@ -180,7 +180,7 @@ module _ (cs : List ℕ) (handles : Handles) where
       Marks cs handles col flow_out i j (both_props p q)
   above_own col column i m j p q (nothing e h) r a =
       subst (λ x. Marks cs handles col flow_out x j (both_props p q)) e (subst (λ x. Marks cs handles col flow_out m j x) (sym (ap (λ x. both_props x q) h ∙ none_both q)) (line_marks col m j q r))
-  above_own col column i m j p q (above e l k s c ind le f) r a = joined col i e m j p q s (above_separate col k e l m c ind le) (line_marks col m j q r) a
+  above_own col column i m j p q (above e l k s c ind le f up st sp nd ne nm) r a = joined col i e m j p q s (above_separate col k e l m c ind le) (line_marks col m j q r) a
 
   pub follows_before : (i e n : ℕ) (p : Props) → OnLine cs handles i e p → Follows cs i e n p → Before cs handles i n p
   follows_before i e n p own (inl (h, f)) = at_once f h
@@ -191,7 +191,7 @@ module _ (cs : List ℕ) (handles : Handles) where
   pub before_own : (col : ℕ) (column : Option ℕ) (i m n : ℕ) (p q : Props) → Outer cs handles col column i m p → Before cs handles m n q → Apart p q →
       ((n ≡ i) × (both_props p q ≡ no_props)) ⊎ ((e : ℕ) × Marks cs handles col flow_out i e (both_props p q) × separate cs col flow_out e n)
   before_own col column i m n p q (nothing e h) (at_once f g) a = inl (f ∙ e, ap (λ x. both_props x q) h ∙ none_both q ∙ g)
-  before_own col column i m n p q (above e l k s c ind le f) (at_once g h) a =
+  before_own col column i m n p q (above e l k s c ind le f up st sp nd ne nm) (at_once g h) a =
       inr (e, subst (λ x. Marks cs handles col flow_out i e (both_props p x)) (sym h) s, subst (separate cs col flow_out e) (sym g) (above_separate col k e l m c ind le))
   before_own col column i m n p q o (spaced e r s l) a =
       inr (e, above_own col column i m e p q o r a, flow_separate cs col e n (sep_separate cs col e n s l))
@@ -232,7 +232,7 @@ module _ (cs : List ℕ) (Wide : Type 0) (handles : Handles) where
             (bare_flow cs Wide handles deep kind col flow_out q e m n es bare room le))),
         lines,
       )
-  no_key room deep col c kind column other i m e n l p q es (above d b k s comments ind lo f) own bare le a may lines =
+  no_key room deep col c kind column other i m e n l p q es (above d b k s comments ind lo f up st sp nd ne nm) own bare le a may lines =
       inl (n, part_flow kind room col i n _ (node bare), lines)
     where
       apart : separate cs col flow_out d m
@@ -261,7 +261,7 @@ module _ (cs : List ℕ) (Wide : Type 0) (handles : Handles) where
   keyed room col k c column i m j p es (nothing e h) f r =
       inr (inr (inr (subst (λ o. mapping_in cs Wide handles room o i j es) (sym (column_free p column h ∙ f))
       (subst (λ x. mapping_with cs Wide handles no_props room k x j es) e (subst (λ x. mapping_with cs Wide handles x room k m j es) h r)))))
-  keyed room col k c column i m j p es (above e l n s comments ind le g) f (o, (xs, (x, ys, zs, entry, more, h), w)) =
+  keyed room col k c column i m j p es (above e l n s comments ind le g up st sp nd ne nm) f (o, (xs, (x, ys, zs, entry, more, h), w)) =
       inr (inr (inl (l, p, (e, marks_props cs handles col flow_out i e p s, comments), inl (o, (xs, (k, (subst (λ y. col ≤ y) same le, (x, ys, zs, (m, subst (λ y. indent cs y l m) same ind, entry), more, h))), w)))))
     where
       some_is : {a b : ℕ} → Some a ≡ Some b → a ≡ b

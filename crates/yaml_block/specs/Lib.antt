@@ -1,2 +1,4 @@
 pub mod BlockRules
+pub mod BlockEnds
 pub mod OuterRules
+pub mod KeyFits

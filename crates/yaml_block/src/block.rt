@@ -4,25 +4,34 @@
 //! A node is read before it is known whether it is a mapping's first key: its own properties stand on its line, and those of
 //! the mapping on lines before it, the outer ones. Where a colon follows, the mapping's start with the outer properties is put
 //! before the key's events; else both sets are the node's.
-ghost use Rattle.std.specs.Prelude.{◌≡◌, ◌≢◌, ◌≤◌, ◌<◌, IfSome, IfOk, IfErr, MatchOption, Some, None, ◌∷◌, [], length};
+ghost use Rattle.std.specs.Prelude.{◌≡◌, ◌≢◌, ◌≤◌, ◌<◌, ◌⊎◌, ℕ, IfSome, IfNone, IfOk, IfErr, MatchOption, Some, None, ◌∷◌, [], length, slice_get};
 ghost use Rattle.std.specs.Bool.{OnTrue, OnFalse};
 ghost use Rattle.yaml_text.specs.Limits.{text_limit};
+ghost use Rattle.yaml_text.specs.Lines.{AfterLine, Inside};
 ghost use Rattle.yaml_text.specs.Source.{text_of, place_of, IsBorder};
 ghost use Rattle.yaml_text.specs.EventModel.{context_of, Adds};
-ghost use Rattle.yaml_text.specs.grammar.Separation.{flow_out, s_l_comments};
+ghost use Rattle.yaml_text.specs.grammar.Rules.{Stands};
+ghost use Rattle.yaml_text.specs.grammar.Characters.{is_space};
+ghost use Rattle.yaml_text.specs.grammar.Separation.{block_in, flow_out, block_key, s_l_comments, StartsLine, AtEnd, Mark};
 ghost use Rattle.yaml_text.specs.grammar.Events.{empty, no_props};
+ghost use Rattle.yaml_text.specs.declared.fault.Fault.TheVariants.{OutOfMemory};
 ghost use Rattle.yaml_scalar.specs.BlockModel.{column};
 ghost use Rattle.yaml_mark.specs.HandlesModel.{handles_of};
 ghost use Rattle.yaml_text.specs.Answer.{IsRefusal};
-ghost use Rattle.yaml_flow.specs.Answer.{Appends};
+ghost use Rattle.yaml_unique.specs.Follows.{DashHere, Dash};
+ghost use Rattle.yaml_complete.specs.Decisions.{Here};
+ghost use Rattle.yaml_flow.specs.Answer.{Appends, Decides};
+ghost use Rattle.yaml_flow.specs.Decisions.{AllProperties, LineGoesOn, IsOnly};
 ghost use Rattle.yaml_flow.specs.Lines.{IsLine, IsDash, IsBlock};
 ghost use Rattle.yaml_flow.specs.Keys.{ColonAfter};
-ghost use Rattle.yaml_flow.specs.PropertyRules.{props_of, both_props, Apart, Dresses, Marks};
+ghost use Rattle.yaml_flow.specs.PropertyRules.{props_of, both_props, Apart, Dresses, Marks, Own};
 ghost use Rattle.yaml_block.specs.BlockRules.{least_dash, block_scalar_rest, node_rest, line_rest, value_rest, entry_rest, sequence_with, key_rest, entries_rest, root_rest};
-ghost use Rattle.yaml_block.specs.OuterRules.{Outer, OnLine, Follows, MayBear, column_of};
+ghost use Rattle.yaml_block.specs.OuterRules.{Outer, OnLine, Follows, MayBear, Above, column_of};
+ghost use Rattle.yaml_block.specs.BlockEnds.{AfterNode, AfterEntry, AfterSequence, AfterMapping, AfterColon, AfterScalar, SignIs, IsSign, ColonStands, IsNoKey, NoneIn, IsFurther};
+ghost use Rattle.yaml_block.specs.KeyFits.{FitsAgain, NoneBelow};
 
 use std::alloc::Global;
-use yaml_flow::flow::{Node, read_bare, read_flow_node, too_deep};
+use yaml_flow::flow::{Node, read_bare, read_flow_node};
 use yaml_flow::key::{Fit, key_fit};
 use yaml_flow::line::{Line, has_content, line_at, next_line, skip_comments};
 use yaml_flow::properties::{Properties, dress, read_properties};
@@ -40,7 +49,8 @@ use yaml_text::places::{accept, next};
 /// The border after a dash that begins an entry, if one stands at a border.
 pub(crate) fn dash(source: &Chars<'_>, at: usize) -> Option<usize>
     requires { IsBorder source.now at }
-    ensures { IfSome result (IsDash source.now at) }
+    ensures some { IfSome result (IsDash source.now at) }
+    ensures none { IfNone result (DashHere (text_of source.now) (place_of source.now at) → ⊥) }
 {
     match accept(source, at, '-') {
         None => None,
@@ -83,9 +93,12 @@ fn read_literal_node<'a>(
 ) -> Result<Line, Fault>
     requires border { IsBorder source.now at }
     requires low { col ≤ at }
+    requires sign { slice_get (text_of source.now) (place_of source.now at) ≡ Some 124 }
     ensures line { IfOk result (IsLine source.now) }
     ensures onward { IfOk result (λ line. at ≤ line.start) }
     ensures reads { Appends (λ _. block_scalar_rest (text_of source.now) no_props col) (place_of source.now at) (λ line. place_of source.now line.start) out.old.items out.new.items result }
+    ensures after { IfOk result (λ line. AfterLine (text_of source.now) (place_of source.now line.start)) }
+    ensures decides { Decides (block_scalar_rest (text_of source.now) no_props col) (AfterScalar (text_of source.now)) (place_of source.now at) Here (λ line. place_of source.now line.start) result }
 {
     let (text, end) = read_literal(alloc, source, at, parent(col), Ctx::BlockIn)?;
     push_scalar(out, Style::Literal, text)?;
@@ -102,9 +115,12 @@ fn read_folded_node<'a>(
 ) -> Result<Line, Fault>
     requires border { IsBorder source.now at }
     requires low { col ≤ at }
+    requires sign { slice_get (text_of source.now) (place_of source.now at) ≡ Some 62 }
     ensures line { IfOk result (IsLine source.now) }
     ensures onward { IfOk result (λ line. at ≤ line.start) }
     ensures reads { Appends (λ _. block_scalar_rest (text_of source.now) no_props col) (place_of source.now at) (λ line. place_of source.now line.start) out.old.items out.new.items result }
+    ensures after { IfOk result (λ line. AfterLine (text_of source.now) (place_of source.now line.start)) }
+    ensures decides { Decides (block_scalar_rest (text_of source.now) no_props col) (AfterScalar (text_of source.now)) (place_of source.now at) Here (λ line. place_of source.now line.start) result }
 {
     let (text, end) = read_folded(alloc, source, at, parent(col), Ctx::BlockIn)?;
     push_scalar(out, Style::Folded, text)?;
@@ -129,9 +145,12 @@ fn read_bare_scalar<'a>(
 ) -> Result<Line, Fault>
     requires border { IsBorder source.now at }
     requires low { col ≤ at }
+    requires sign { SignIs (text_of source.now) (place_of source.now at) block }
     ensures line { IfOk result (IsLine source.now) }
     ensures onward { IfOk result (λ line. at ≤ line.start) }
     ensures reads { Appends (λ _. block_scalar_rest (text_of source.now) no_props col) (place_of source.now at) (λ line. place_of source.now line.start) out.old.items out.new.items result }
+    ensures after { IfOk result (λ line. AfterLine (text_of source.now) (place_of source.now line.start)) }
+    ensures decides { Decides (block_scalar_rest (text_of source.now) no_props col) (AfterScalar (text_of source.now)) (place_of source.now at) Here (λ line. place_of source.now line.start) result }
 {
     match block {
         Block::Literal => read_literal_node(alloc, source, at, col, out),
@@ -151,9 +170,12 @@ fn read_block_scalar<'a>(
 ) -> Result<Line, Fault>
     requires border { IsBorder source.now at }
     requires low { col ≤ at }
+    requires sign { SignIs (text_of source.now) (place_of source.now at) block }
     ensures line { IfOk result (IsLine source.now) }
     ensures onward { IfOk result (λ line. at ≤ line.start) }
     ensures reads { Appends (λ _. block_scalar_rest (text_of source.now) (props_of properties.entry) col) (place_of source.now at) (λ line. place_of source.now line.start) out.old.items out.new.items result }
+    ensures after { IfOk result (λ line. AfterLine (text_of source.now) (place_of source.now line.start)) }
+    ensures decides { Decides (block_scalar_rest (text_of source.now) (props_of properties.entry) col) (AfterScalar (text_of source.now)) (place_of source.now at) Here (λ line. place_of source.now line.start) result }
 {
     let start = out.len();
     let line = read_bare_scalar(alloc, source, at, block, col, out)?;
@@ -169,6 +191,8 @@ fn content_start(source: &Chars<'_>, at: usize, end: usize, own: &Properties<'_>
     ensures border { IfSome result (λ to. IsBorder source.now to) }
     ensures onward { IfSome result (λ to. at ≤ to) }
     ensures follows { IfSome result (λ to. Follows (text_of source.now) (place_of source.now at) (place_of source.now end) (place_of source.now to) (props_of own.now)) }
+    ensures none { IfNone result ((props_of own.now ≢ no_props) × (Stands (text_of source.now) is_space (place_of source.now end) → ⊥)) }
+    ensures furthest { IfSome result (λ to. (props_of own.now ≢ no_props) → Stands (text_of source.now) is_space (place_of source.now to) → ⊥) }
 {
     if own.is_none() {
         return Some(at);
@@ -193,24 +217,35 @@ fn block_sign(
     ensures border { IfSome result (λ r. IsBorder source.now r.0) }
     ensures onward { IfSome result (λ r. at ≤ r.0) }
     ensures follows { IfSome result (λ r. Follows (text_of source.now) (place_of source.now at) (place_of source.now end) (place_of source.now r.0) (props_of own.now)) }
+    ensures sign { IfSome result (λ r. SignIs (text_of source.now) (place_of source.now r.0) r.1) }
+    ensures none { IfNone result ((n : ℕ) → Follows (text_of source.now) (place_of source.now at) (place_of source.now end) n (props_of own.now) → IsSign (text_of source.now) n → ⊥) }
 {
     match content_start(source, at, end, own) {
         None => None,
-        Some(first) => match next(source, first) {
-            Some(('|', _)) => Some((first, Block::Literal)),
-            Some(('>', _)) => Some((first, Block::Folded)),
-            _ => None,
+        Some(first) => match accept(source, first, '|') {
+            Some(_) => Some((first, Block::Literal)),
+            None => match accept(source, first, '>') {
+                Some(_) => Some((first, Block::Folded)),
+                None => None,
+            },
         },
     }
 }
 
 /// Whether a line at a collection's column or further left is its next entry's; one further right is none's.
 fn goes_on(source: &Chars<'_>, line: Line, column: usize) -> Result<bool, Fault>
-    requires { IsLine source.now line }
+    requires line { IsLine source.now line }
+    requires after { AfterLine (text_of source.now) (place_of source.now line.start) }
     ensures next { IfOk result (λ is_next. OnTrue is_next (line.column ≡ column)) }
+    ensures content { IfOk result (λ is_next. OnTrue is_next ((AtEnd (text_of source.now) (place_of source.now line.start) → ⊥) × (Mark (text_of source.now) (place_of source.now line.start) → ⊥))) }
+    ensures over { IfOk result (λ is_next. OnFalse is_next (NoneIn source.now line column)) }
     ensures err { IfErr result IsRefusal }
+    ensures further { IfErr result (λ _. IsFurther source.now line column) }
 {
-    if line.column < column || !has_content(source, line) {
+    if !has_content(source, line) {
+        return Ok(false);
+    }
+    if line.column < column {
         Ok(false)
     } else if line.column == column {
         Ok(true)
@@ -221,10 +256,13 @@ fn goes_on(source: &Chars<'_>, line: Line, column: usize) -> Result<bool, Fault>
 
 /// The border after the dash of a sequence's next entry, if a line at its column or further left begins with one.
 fn next_dash(source: &Chars<'_>, line: Line, column: usize) -> Result<Option<usize>, Fault>
-    requires { IsLine source.now line }
+    requires line { IsLine source.now line }
+    requires after { AfterLine (text_of source.now) (place_of source.now line.start) }
     ensures column { IfOk result (λ found. IfSome found (λ _. line.column ≡ column)) }
     ensures dash { IfOk result (λ found. IfSome found (IsDash source.now line.first)) }
+    ensures none { IfOk result (λ found. IfNone found (Dash (text_of source.now) column (place_of source.now line.start) → ⊥)) }
     ensures err { IfErr result IsRefusal }
+    ensures further { IfErr result (λ _. IsFurther source.now line column) }
 {
     if !goes_on(source, line, column)? {
         return Ok(None);
@@ -249,7 +287,9 @@ fn first_colon(
     ensures border { IfOk result (λ found. IfSome found (λ r. IsBorder source.now r.1)) }
     ensures further { IfOk result (λ found. IfSome found (λ r. end < r.1)) }
     ensures colon { IfOk result (λ found. IfSome found (λ r. ColonAfter (text_of source.now) (place_of source.now at) (place_of source.now end) (place_of source.now r.1))) }
+    ensures none { IfOk result (λ found. IfNone found ((column ≡ None) ⊎ IsNoKey (text_of source.now) (place_of source.now at) (place_of source.now end))) }
     ensures err { IfErr result IsRefusal }
+    ensures long { IfErr result (λ _. ColonStands (text_of source.now) (place_of source.now end) × IsNoKey (text_of source.now) (place_of source.now at) (place_of source.now end)) }
 {
     match column {
         None => Ok(None),
@@ -267,36 +307,177 @@ fn first_colon(
     }
 }
 
-/// A key that has to stand at a border, and the border after its colon.
-fn read_key<'a>(
+/// Whether content may follow a node's own properties on their line, which end at `end`: always, if there are none.
+fn line_goes_on(source: &Chars<'_>, end: usize, own: &Properties<'_>) -> bool
+    requires { IsBorder source.now end }
+    ensures yes { OnTrue result (LineGoesOn (text_of source.now) (place_of source.now end) (props_of own.now)) }
+    ensures no { OnFalse result ((props_of own.now ≢ no_props) × ((j : ℕ) × s_l_comments (text_of source.now) (place_of source.now end) j)) }
+{
+    if own.is_none() {
+        return true;
+    }
+    match skip_comments(source, end) {
+        None => true,
+        Some(_) => false,
+    }
+}
+
+/// The key of an entry in this column, which has to stand at a border, and the border after its colon. It is read as the first
+/// key of a mapping is, as a node that is a key if a colon follows.
+fn read_entry_key<'a>(
     alloc: Global,
     source: &Chars<'a>,
     at: usize,
+    column: usize,
     room: u32,
     handles: Option<&Handles<'a>>,
     out: &mut Vec<Event<'a>>,
 ) -> Result<usize, Fault>
     requires border { IsBorder source.now at }
+    requires low { column ≤ at }
     ensures border { IfOk result (λ to. IsBorder source.now to) }
     ensures onward { IfOk result (λ to. at < to) }
     ensures reads { Appends (λ _. key_rest (text_of source.now) (Unit {0}) (handles_of handles.entry) room) (place_of source.now at) (place_of source.now) out.old.items out.new.items result }
+    ensures decides { Decides (key_rest (text_of source.now) (Unit {0}) (handles_of handles.entry) room) (AfterColon (text_of source.now)) (place_of source.now at) Here (place_of source.now) result }
 {
-    let key = read_flow_node(alloc, source, at, 0, Ctx::BlockKey, room, handles, out)?;
-    let (_, colon) = skip_spaces(source, key.end);
-    match accept(source, colon, ':') {
-        None => Err(unusable(source, colon)),
-        Some(after) => match key_fit(source, at, colon) {
-            Fit::Fits => Ok(after),
-            Fit::Long => Err(Fault::KeyTooLong(source.pos(at))),
-            Fit::Broken => Err(Fault::Syntax(source.pos(colon))),
-        },
+    let start = out.len();
+    let (own, end) = read_properties(alloc, source, at, 0, Ctx::BlockKey, handles)?;
+    if !line_goes_on(source, end, &own) {
+        return Err(unusable(source, end));
+    }
+    let context = Ctx::FlowOut;
+    let key = read_bare(
+        alloc, source, at, end, &own, column, context, room, handles, out,
+    )?;
+    match first_colon(source, at, key.end, Some(column))? {
+        None => Err(unusable(source, key.end)),
+        Some(colon) => {
+            dress(out, start, own);
+            Ok(colon.1)
+        }
+    }
+}
+
+/// The fault of a line on which no key stands, at the place where a key that is read by itself ends.
+fn key_fault<'a>(
+    alloc: Global,
+    source: &Chars<'a>,
+    at: usize,
+    room: u32,
+    handles: Option<&Handles<'a>>,
+) -> Fault
+    requires { IsBorder source.now at }
+    ensures { IsRefusal result }
+{
+    let mut events = Vec::new(alloc);
+    let context = Ctx::BlockKey;
+    match read_flow_node(
+        alloc,
+        source,
+        at,
+        0,
+        context,
+        room,
+        handles,
+        &mut events,
+    ) {
+        Err(fault) => fault,
+        Ok(key) => {
+            let (_, colon) = skip_spaces(source, key.end);
+            match accept(source, colon, ':') {
+                None => unusable(source, colon),
+                Some(_) => match key_fit(source, at, colon) {
+                    Fit::Long => Fault::KeyTooLong(source.pos(at)),
+                    _ => Fault::Syntax(source.pos(colon)),
+                },
+            }
+        }
+    }
+}
+
+/// A key in this column that has to stand at a border, and the border after its colon.
+fn read_key<'a>(
+    alloc: Global,
+    source: &Chars<'a>,
+    at: usize,
+    column: usize,
+    room: u32,
+    handles: Option<&Handles<'a>>,
+    out: &mut Vec<Event<'a>>,
+) -> Result<usize, Fault>
+    requires border { IsBorder source.now at }
+    requires low { column ≤ at }
+    ensures border { IfOk result (λ to. IsBorder source.now to) }
+    ensures onward { IfOk result (λ to. at < to) }
+    ensures reads { Appends (λ _. key_rest (text_of source.now) (Unit {0}) (handles_of handles.entry) room) (place_of source.now at) (place_of source.now) out.old.items out.new.items result }
+    ensures decides { Decides (key_rest (text_of source.now) (Unit {0}) (handles_of handles.entry) room) (AfterColon (text_of source.now)) (place_of source.now at) Here (place_of source.now) result }
+{
+    match read_entry_key(alloc, source, at, column, room, handles, out) {
+        Ok(after) => Ok(after),
+        Err(Fault::OutOfMemory) => Err(Fault::OutOfMemory),
+        Err(_) => Err(key_fault(alloc, source, at, room, handles)),
+    }
+}
+
+/// The first key of a mapping, which was read with as much room as the mapping itself has: read again where that was too much.
+/// Its events begin at `start`.
+fn fit_key<'a>(
+    alloc: Global,
+    source: &Chars<'a>,
+    at: usize,
+    end: usize,
+    own: &Properties<'a>,
+    col: usize,
+    key: Node,
+    start: usize,
+    room: u32,
+    handles: Option<&Handles<'a>>,
+    out: &mut Vec<Event<'a>>,
+) -> Result<(), Fault>
+    requires border { IsBorder source.now at }
+    requires end { IsBorder source.now end }
+    requires order { at ≤ end }
+    requires stop { IsBorder source.now key.end }
+    requires own { Own (text_of source.now) (handles_of handles) col flow_out (place_of source.now at) (place_of source.now end) (props_of own.now) }
+    requires all { AllProperties (text_of source.now) (handles_of handles) col flow_out (place_of source.now at) (place_of source.now end) (props_of own.now) }
+    requires goes_on { LineGoesOn (text_of source.now) (place_of source.now end) (props_of own.now) }
+    requires low { col ≤ at }
+    requires key { IsOnly (text_of source.now) (handles_of handles) room col flow_out (place_of source.now at) key.kind (place_of source.now key.end) }
+    ensures reads { IfOk result (λ _. FitsAgain (text_of source.now) (handles_of handles.entry) col (props_of own.now) (place_of source.now end) (place_of source.now at) (place_of source.now key.end) key.deep key.kind room start out.old.items out.new.items) }
+    ensures err { IfErr result IsRefusal }
+    ensures decides { IfErr result (λ e. (e ≡ OutOfMemory) ⊎ NoneBelow (text_of source.now) (handles_of handles.entry) room col (place_of source.now at)) }
+{
+    if key.deep < room {
+        return Ok(());
+    }
+    if room == 0 {
+        return Err(Fault::TooDeep(source.pos(at)));
+    }
+    out.truncate(start);
+    let context = Ctx::FlowOut;
+    let again = read_bare(
+        alloc,
+        source,
+        at,
+        end,
+        own,
+        col,
+        context,
+        room - 1,
+        handles,
+        out,
+    )?;
+    if again.end == key.end {
+        Ok(())
+    } else {
+        Err(unusable(source, again.end))
     }
 }
 
 /// The empty scalar with these properties.
 fn push_lone<'a>(properties: Properties<'a>, out: &mut Vec<Event<'a>>) -> Result<(), Fault>
     ensures ok { IfOk result (λ _. Adds out.old.items (empty (props_of properties.entry)) out.new.items) }
-    ensures err { IfErr result IsRefusal }
+    ensures err { IfErr result (λ e. e ≡ OutOfMemory) }
 {
     let start = out.len();
     push_empty(out)?;
@@ -319,10 +500,12 @@ fn finish_node<'a>(
     ensures line { IfOk result (IsLine source.now) }
     ensures onward { IfOk result (λ line. node.end ≤ line.start) }
     ensures comments { IfOk result (λ line. s_l_comments (text_of source.now) (place_of source.now node.end) (place_of source.now line.start)) }
+    ensures after { IfOk result (λ line. AfterLine (text_of source.now) (place_of source.now line.start)) }
     ensures apart { IfOk result (λ _. Apart (props_of outer.entry) (props_of own.entry)) }
     ensures bears { IfOk result (λ _. MayBear (text_of source.now) (place_of source.now at) (props_of outer.entry)) }
     ensures dressed { IfOk result (λ _. Dresses (both_props (props_of outer.entry) (props_of own.entry)) start out.old.items out.new.items) }
     ensures err { IfErr result IsRefusal }
+    ensures unfit { IfErr result (λ _. ((j : ℕ) → s_l_comments (text_of source.now) (place_of source.now node.end) j → ⊥) ⊎ (Apart (props_of outer.entry) (props_of own.entry) → ⊥) ⊎ (MayBear (text_of source.now) (place_of source.now at) (props_of outer.entry) → ⊥)) }
 {
     let line = next_line(source, node.end)?;
     if outer.clash(&own) {
@@ -338,7 +521,8 @@ fn finish_node<'a>(
 /// Whether a node at a border may have these properties: an alias has none.
 fn may_bear(source: &Chars<'_>, at: usize, outer: &Properties<'_>) -> bool
     requires { IsBorder source.now at }
-    ensures { OnTrue result (MayBear (text_of source.now) (place_of source.now at) (props_of outer.now)) }
+    ensures yes { OnTrue result (MayBear (text_of source.now) (place_of source.now at) (props_of outer.now)) }
+    ensures no { OnFalse result (MayBear (text_of source.now) (place_of source.now at) (props_of outer.now) → ⊥) }
 {
     if outer.is_none() {
         return true;
@@ -364,9 +548,12 @@ pub(crate) fn read_value<'a>(
     requires border { IsBorder source.now at }
     requires low { col ≤ at }
     requires block { IsBlock (context_of context) }
+    requires inside { Inside (text_of source.now) (place_of source.now at) ⊎ (col ≡ 0) }
     ensures line { IfOk result (IsLine source.now) }
     ensures onward { IfOk result (λ line. at ≤ line.start) }
     ensures reads { Appends (λ _. value_rest (text_of source.now) (Unit {0}) (handles_of handles.entry) room col (context_of context)) (place_of source.now at) (λ line. place_of source.now line.start) out.old.items out.new.items result }
+    ensures after { IfOk result (λ line. AfterLine (text_of source.now) (place_of source.now line.start)) }
+    ensures decides { Decides (value_rest (text_of source.now) (Unit {0}) (handles_of handles.entry) room col (context_of context)) (AfterNode (text_of source.now) col (context_of context)) (place_of source.now at) Here (λ line. place_of source.now line.start) result }
 {
     match skip_comments(source, at) {
         Some(start) => {
@@ -399,9 +586,12 @@ fn read_indented<'a>(
 ) -> Result<Line, Fault>
     requires border { IsBorder source.now at }
     requires low { column < at }
+    requires inside { Inside (text_of source.now) (place_of source.now at) }
     ensures line { IfOk result (IsLine source.now) }
     ensures onward { IfOk result (λ line. at ≤ line.start) }
     ensures reads { Appends (λ _. entry_rest (text_of source.now) (Unit {0}) (handles_of handles.entry) room column) (place_of source.now at) (λ line. place_of source.now line.start) out.old.items out.new.items result }
+    ensures after { IfOk result (λ line. AfterLine (text_of source.now) (place_of source.now line.start)) }
+    ensures decides { Decides (entry_rest (text_of source.now) (Unit {0}) (handles_of handles.entry) room column) (AfterEntry (text_of source.now) column) (place_of source.now at) Here (λ line. place_of source.now line.start) result }
 {
     match skip_comments(source, at) {
         Some(start) => {
@@ -458,9 +648,12 @@ pub(crate) fn read_below<'a>(
     requires line { IsLine source.now line }
     requires low { col ≤ line.start }
     requires block { IsBlock (context_of context) }
+    requires after { AfterLine (text_of source.now) (place_of source.now line.start) }
     ensures line { IfOk result (IsLine source.now) }
     ensures onward { IfOk result (λ next. line.start ≤ next.start) }
     ensures reads { Appends (λ _. line_rest (text_of source.now) (Unit {0}) (handles_of handles.entry) room col (context_of context)) (place_of source.now line.start) (λ line. place_of source.now line.start) out.old.items out.new.items result }
+    ensures after { IfOk result (λ line. AfterLine (text_of source.now) (place_of source.now line.start)) }
+    ensures decides { Decides (line_rest (text_of source.now) (Unit {0}) (handles_of handles.entry) room col (context_of context)) (AfterNode (text_of source.now) col (context_of context)) (place_of source.now line.start) Here (λ line. place_of source.now line.start) result }
 {
     if !has_content(source, line) {
         push_empty(out)?;
@@ -521,9 +714,13 @@ fn read_under<'a>(
     requires block { IsBlock (context_of context) }
     requires marks { Marks (text_of source.now) (handles_of handles) col flow_out (place_of source.now from) (place_of source.now end) (props_of outer) }
     requires comments { s_l_comments (text_of source.now) (place_of source.now end) (place_of source.now line.start) }
+    requires after { AfterLine (text_of source.now) (place_of source.now line.start) }
+    requires above { Above (text_of source.now) (handles_of handles) col (place_of source.now from) (place_of source.now end) (props_of outer) }
     ensures line { IfOk result (IsLine source.now) }
     ensures onward { IfOk result (λ next. from ≤ next.start) }
     ensures reads { Appends (λ _. node_rest (text_of source.now) (Unit {0}) (handles_of handles.entry) room col (context_of context) None) (place_of source.now from) (λ line. place_of source.now line.start) out.old.items out.new.items result }
+    ensures after { IfOk result (λ line. AfterLine (text_of source.now) (place_of source.now line.start)) }
+    ensures decides { Decides (node_rest (text_of source.now) (Unit {0}) (handles_of handles.entry) room col (context_of context) None) (AfterNode (text_of source.now) col (context_of context)) (place_of source.now from) Here (λ line. place_of source.now line.start) result }
 {
     if !has_content(source, line) {
         push_lone(outer, out)?;
@@ -579,6 +776,8 @@ fn read_sequence<'a>(
     ensures line { IfOk result (IsLine source.now) }
     ensures onward { IfOk result (λ line. at ≤ line.start) }
     ensures reads { Appends (λ _. sequence_with (text_of source.now) (Unit {0}) (handles_of handles.entry) (props_of properties.entry) room column) (place_of source.now at) (λ line. place_of source.now line.start) out.old.items out.new.items result }
+    ensures after { IfOk result (λ line. AfterLine (text_of source.now) (place_of source.now line.start)) }
+    ensures decides { Decides (sequence_with (text_of source.now) (Unit {0}) (handles_of handles.entry) (props_of properties.entry) room column) (AfterSequence (text_of source.now) column) (place_of source.now at) Here (λ line. place_of source.now line.start) result }
 {
     if room == 0 {
         return Err(Fault::TooDeep(source.pos(at)));
@@ -620,10 +819,13 @@ fn read_node<'a>(
     requires low { col ≤ from }
     requires block { IsBlock (context_of context) }
     requires column { MatchOption column (Unit {0}) (λ k. k ≤ at) }
+    requires wide { MatchOption column (Unit {0}) (λ k. col ≤ k) }
     requires outer { Outer (text_of source.now) (handles_of handles) col column (place_of source.now from) (place_of source.now at) (props_of outer) }
     ensures line { IfOk result (IsLine source.now) }
     ensures onward { IfOk result (λ line. from ≤ line.start) }
     ensures reads { Appends (λ _. node_rest (text_of source.now) (Unit {0}) (handles_of handles.entry) room col (context_of context) (column_of (props_of outer.entry) column)) (place_of source.now from) (λ line. place_of source.now line.start) out.old.items out.new.items result }
+    ensures after { IfOk result (λ line. AfterLine (text_of source.now) (place_of source.now line.start)) }
+    ensures decides { Decides (node_rest (text_of source.now) (Unit {0}) (handles_of handles.entry) room col (context_of context) (column_of (props_of outer.entry) column)) (AfterNode (text_of source.now) col (context_of context)) (place_of source.now from) Here (λ line. place_of source.now line.start) result }
 {
     let (own, end) = read_properties(alloc, source, at, 0, Ctx::BlockKey, handles)?;
     if own.is_none() {
@@ -674,11 +876,16 @@ fn read_dressed<'a>(
     requires low { col ≤ from }
     requires block { IsBlock (context_of context) }
     requires column { MatchOption column (Unit {0}) (λ k. k ≤ at) }
+    requires wide { MatchOption column (Unit {0}) (λ k. col ≤ k) }
     requires outer { Outer (text_of source.now) (handles_of handles) col column (place_of source.now from) (place_of source.now at) (props_of outer) }
     requires own { OnLine (text_of source.now) (handles_of handles) (place_of source.now at) (place_of source.now end) (props_of own) }
+    requires all { AllProperties (text_of source.now) (handles_of handles) 0 block_key (place_of source.now at) (place_of source.now end) (props_of own) }
+    requires goes_on { LineGoesOn (text_of source.now) (place_of source.now end) (props_of own) }
     ensures line { IfOk result (IsLine source.now) }
     ensures onward { IfOk result (λ line. from ≤ line.start) }
     ensures reads { Appends (λ _. node_rest (text_of source.now) (Unit {0}) (handles_of handles.entry) room col (context_of context) (column_of (props_of outer.entry) column)) (place_of source.now from) (λ line. place_of source.now line.start) out.old.items out.new.items result }
+    ensures after { IfOk result (λ line. AfterLine (text_of source.now) (place_of source.now line.start)) }
+    ensures decides { Decides (node_rest (text_of source.now) (Unit {0}) (handles_of handles.entry) room col (context_of context) (column_of (props_of outer.entry) column)) (AfterNode (text_of source.now) col (context_of context)) (place_of source.now from) Here (λ line. place_of source.now line.start) result }
 {
     match block_sign(source, at, end, &own) {
         None => read_keyed(
@@ -720,11 +927,17 @@ fn read_keyed<'a>(
     requires low { col ≤ from }
     requires block { IsBlock (context_of context) }
     requires column { MatchOption column (Unit {0}) (λ k. k ≤ at) }
+    requires wide { MatchOption column (Unit {0}) (λ k. col ≤ k) }
     requires outer { Outer (text_of source.now) (handles_of handles) col column (place_of source.now from) (place_of source.now at) (props_of outer) }
     requires own { OnLine (text_of source.now) (handles_of handles) (place_of source.now at) (place_of source.now end) (props_of own) }
+    requires all { AllProperties (text_of source.now) (handles_of handles) 0 block_key (place_of source.now at) (place_of source.now end) (props_of own) }
+    requires goes_on { LineGoesOn (text_of source.now) (place_of source.now end) (props_of own) }
+    requires no_scalar { (n : ℕ) → Follows (text_of source.now) (place_of source.now at) (place_of source.now end) n (props_of own) → IsSign (text_of source.now) n → ⊥ }
     ensures line { IfOk result (IsLine source.now) }
     ensures onward { IfOk result (λ line. from ≤ line.start) }
     ensures reads { Appends (λ _. node_rest (text_of source.now) (Unit {0}) (handles_of handles.entry) room col (context_of context) (column_of (props_of outer.entry) column)) (place_of source.now from) (λ line. place_of source.now line.start) out.old.items out.new.items result }
+    ensures after { IfOk result (λ line. AfterLine (text_of source.now) (place_of source.now line.start)) }
+    ensures decides { Decides (node_rest (text_of source.now) (Unit {0}) (handles_of handles.entry) room col (context_of context) (column_of (props_of outer.entry) column)) (AfterNode (text_of source.now) col (context_of context)) (place_of source.now from) Here (λ line. place_of source.now line.start) result }
 {
     let start = out.len();
     let node = read_bare(
@@ -745,9 +958,9 @@ fn read_keyed<'a>(
             Ok(line)
         }
         Some((column, after)) => {
-            if node.deep >= room {
-                return Err(too_deep(alloc, source, at, col, Ctx::FlowOut, room, handles));
-            }
+            fit_key(
+                alloc, source, at, end, &own, col, node, start, room, handles, out,
+            )?;
             dress(out, start, own);
             out.insert(start, block_mapping(outer))?;
             let line = read_entries(alloc, source, after, column, room - 1, handles, out)?;
@@ -770,9 +983,12 @@ fn read_entries<'a>(
 ) -> Result<Line, Fault>
     requires border { IsBorder source.now after }
     requires low { column < after }
+    requires inside { Inside (text_of source.now) (place_of source.now after) }
     ensures line { IfOk result (IsLine source.now) }
     ensures onward { IfOk result (λ line. after ≤ line.start) }
     ensures reads { Appends (λ _. entries_rest (text_of source.now) (Unit {0}) (handles_of handles.entry) room column) (place_of source.now after) (λ line. place_of source.now line.start) out.old.items out.new.items result }
+    ensures after { IfOk result (λ line. AfterLine (text_of source.now) (place_of source.now line.start)) }
+    ensures decides { Decides (entries_rest (text_of source.now) (Unit {0}) (handles_of handles.entry) room column) (AfterMapping (text_of source.now) column) (place_of source.now after) Here (λ line. place_of source.now line.start) result }
 {
     let mut line = read_value(
         alloc,
@@ -788,7 +1004,7 @@ fn read_entries<'a>(
         if !goes_on(source, line, column)? {
             return Ok(line);
         }
-        let colon = read_key(alloc, source, line.first, room, handles, out)?;
+        let colon = read_key(alloc, source, line.first, column, room, handles, out)?;
         line = read_value(
             alloc,
             source,
@@ -812,9 +1028,12 @@ pub(crate) fn read_root<'a>(
     out: &mut Vec<Event<'a>>,
 ) -> Result<Line, Fault>
     requires line { IsLine source.now line }
+    requires start { StartsLine (text_of source.now) (place_of source.now line.start) }
     ensures line { IfOk result (IsLine source.now) }
     ensures onward { IfOk result (λ next. line.start ≤ next.start) }
     ensures reads { Appends (λ _. root_rest (text_of source.now) (Unit {0}) (handles_of handles.entry) room line.column) (place_of source.now line.start) (λ line. place_of source.now line.start) out.old.items out.new.items result }
+    ensures after { IfOk result (λ line. AfterLine (text_of source.now) (place_of source.now line.start)) }
+    ensures decides { Decides (root_rest (text_of source.now) (Unit {0}) (handles_of handles.entry) room line.column) (AfterNode (text_of source.now) 0 block_in) (place_of source.now line.start) Here (λ line. place_of source.now line.start) result }
 {
     let first = line.first;
     let outer = Properties::none();

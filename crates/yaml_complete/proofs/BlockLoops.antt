@@ -1,20 +1,25 @@
 -- The loops of a reader of block sequences and block mappings: what is left after each call, and when there is nothing left.
-use Rattle.std.proofs.Common.{◌≡◌, ℕ, ◌+◌, ◌≤◌, ◌<◌, inl, inr, List, false, sym, ◌∙◌, subst, arith}
+use Rattle.std.proofs.Common.{◌≡◌, ℕ, ◌+◌, ◌≤◌, ◌<◌, ◌++◌, inl, inr, List, true, false, refl, sym, ◌∙◌, subst, arith}
 use Rattle.yaml_text.specs.grammar.Rules.{Rule, ◌▸◌, ◌◂◌, ◌∪◌, ◌⨾◌, chr, any, given, seen, Spans, Stands}
-use Rattle.yaml_text.specs.grammar.Characters.{is_ns, is_space}
+use Rattle.yaml_text.specs.grammar.Characters.{is_ns, is_space, is_nb, is_break}
 use Rattle.yaml_text.specs.grammar.Separation.{block_out, block_key, indent, AtEnd, Mark}
 use Rattle.yaml_text.specs.grammar.Tags.{Handles}
 use Rattle.yaml_text.specs.Event.{Event, sequence_end, mapping_end}
 use Rattle.yaml_text.specs.grammar.Events.{Props, no_props, seq_start, map_start, wrapped}
 use Rattle.yaml_text.specs.grammar.Nodes.{Part, block_part, empty_rest, indented, seq_entry, map_entry, implicit_yaml_key, implicit_json_key, compact_seq, compact_map}
+use Rattle.yaml_text.specs.Lines.{Inside}
 use Rattle.yaml_text.proofs.LineRuns.{indent_place, indent_run}
 use Rattle.yaml_text.proofs.Runs.{run_same}
 use Rattle.yaml_unique.specs.Readings.{End, At, More, Starts}
 use Rattle.yaml_complete.specs.Decisions.{Refused, Goes, Rest, Here}
-use Rattle.yaml_complete.proofs.Decisions.{rest_refused, rest_goes, rest_rest, goes_refused, refused_until, rest_seen, rest_given, refused_given, rest_before, rest_joined, refused_joined, rest_first, refused_first, rest_more, refused_more, goes_done}
+use Rattle.yaml_complete.proofs.Decisions.{rest_refused, rest_goes, rest_rest, goes_refused, refused_until, rest_seen, rest_given, refused_given, rest_before, rest_first, refused_first, rest_more, refused_more, rest_next, refused_next, goes_done}
 use Rattle.yaml_unique.proofs.Lines.{solid_no_space, dash_fresh, comments_none, less_stuck}
 use Rattle.yaml_unique.specs.Follows.{Solid, Stuck, Less, DashHere, Dash, Over, Follow, KeyHere, KeyAt}
 use Rattle.yaml_unique.proofs.BlockEntries.{dash_less, key_dash, follow_less, less_key}
+
+nb_colon : is_nb 58 ≡ true
+unfolding is_nb is_break
+nb_colon = refl
 
 module _ (cs : List ℕ) where
   -- one more begins at x, or the text goes on there
@@ -60,6 +65,15 @@ module _ (cs : List ℕ) where
   right_less c k s x p le o (inl e) = o.no_end e
   right_less c k s x p le o (inr (inl e)) = o.no_mark e
   right_less c k s x p le o (inr (inr (t, q, l, r, h))) = let lt : k < t = right_at k s t x p q o r h in omega (arith, lt, l, le)
+
+  -- a line with at least so many spaces that is neither the end nor a mark
+  pub line_less : (c s x p : ℕ) → indent cs s x p → (Stands cs is_space p → ⊥) → c ≤ s → (AtEnd cs x → ⊥) → (Mark cs x → ⊥) → Less cs c x → ⊥
+  line_less c s x p ind w le e m (inl a) = e a
+  line_less c s x p ind w le e m (inr (inl a)) = m a
+  line_less c s x p ind w le e m (inr (inr (t, q, l, r, h))) =
+      let f : q ≡ p = run_same cs is_space x q p (indent_run cs t x q r) (indent_run cs s x p ind) (solid_no_space cs q h.0) w in
+      let a : q ≡ x + t = indent_place cs t x q r in
+      let b : p ≡ x + s = indent_place cs s x p ind in omega (arith, f, a, b, l, le)
 
   right_dash : (k s x p : ℕ) → Right k s x p → Dash cs k x → ⊥
   right_dash k s x p o (q, t, d) = let lt : k < k = right_at k s k x p q o t (dash_fresh cs q d).0 in omega (arith, lt)
@@ -170,48 +184,68 @@ module _ (cs : List ℕ) where
     abbrev pub Colon : ℕ → Type 0
     Colon i = Stands cs is_ns i → ⊥
 
-    -- two facts of uniqueness
-    module _ (value_starts : Starts Values InDashes Colon) (key_starts : (i j : ℕ) (es : List Event) → map_entry cs Wide handles Open inside k i j es → KeyHere cs i) where
+    -- a key ends just after its colon
+    key_inside : (i j : ℕ) (v : List Event) → Keys i j v → Inside cs j
+    key_inside i j v (m, r, (h, e)) = (m, e, (58, h, nb_colon))
+
+    -- two facts of uniqueness: nothing stands just after a key's colon, and what a key begins with
+    module _ (value_starts : (i j : ℕ) (v : List Event) → Inside cs i → Values i j v → Colon i) (key_starts : (i j : ℕ) (es : List Event) → map_entry cs Wide handles Open inside k i j es → KeyHere cs i) where
       pair_starts : Starts Pairs (More (KeyAt cs k) InPairs) (KeyAt cs k)
       pair_starts i j m v (a, r, s) e = (a, r, key_starts a j v s)
 
       key_there : (j m : ℕ) → KeyAt cs k m → InPairs j m → ⊥
       key_there j m d (c, l) = less_key cs k k m l (omega arith) d
 
-      key_here : (i m : ℕ) → KeyAt cs k i → InPairs i m → ⊥
-      key_here i m d (c, l) = less_key cs k k i (subst (Less cs k) (comments_none cs i m (less_stuck cs (k + 1) i (key_less k i d).0) c) l) (omega arith) d
+      -- the value, after the key's colon
+      pair_value : (E : End) (p x : ℕ) → Goes Keys (At Colon) p (At Colon) x → Rest (map_entry cs Wide handles Open inside k) E p Values E x
+      unfolding map_entry
+      pair_value E p x f = record { rest = λ j m v (l, ks, ws, key, val, h) e. (j, ws, subst (λ y. Values y j ws) (sym (f.goes l l ks key (refl, value_starts l j ws (key_inside p l ks key) val)).0) val, e) }
 
       pair_goes : (p x y : ℕ) → Goes Keys (At Colon) p (At Colon) x → Goes Values InDashes x Here y → Goes (map_entry cs Wide handles Open inside k) (More (KeyAt cs k) InPairs) p (More (KeyAt cs k) InPairs) y
-      unfolding map_entry
-      pair_goes p x y f g = to_more (KeyAt cs k) (Less cs k) (Follow cs (k + 1) k) (more_follow k) (rest_goes (rest_joined Values value_starts f) g)
+      pair_goes p x y f g = to_more (KeyAt cs k) (Less cs k) (Follow cs (k + 1) k) (more_follow k) (rest_goes (pair_value InDashes p x f) g)
 
       pair_refused : (p x : ℕ) → Goes Keys (At Colon) p (At Colon) x → Refused Values InDashes x → Refused (map_entry cs Wide handles Open inside k) (More (KeyAt cs k) InPairs) p
-      unfolding map_entry
-      pair_refused p x f n = refused_until _ (more_follow k) (rest_refused (rest_joined Values value_starts f) n)
+      pair_refused p x f n = refused_until _ (more_follow k) (rest_refused (pair_value InDashes p x f) n)
 
-      pair_no_key : (p : ℕ) → Refused Keys (At Colon) p → Refused (map_entry cs Wide handles Open inside k) (More (KeyAt cs k) InPairs) p
+      pair_no_key : (E : End) (p : ℕ) → Refused Keys (At Colon) p → Refused (map_entry cs Wide handles Open inside k) E p
       unfolding map_entry
-      pair_no_key p n = refused_until _ (more_follow k) (refused_joined Values value_starts n)
+      pair_no_key E p n = record { none = λ j m v (l, ks, ws, key, val, h) e. n.none l l ks key (refl, value_starts l j ws (key_inside p l ks key) val) }
 
       pair_line : (E : End) (x p : ℕ) → indent cs k x p → Rest Pairs E x (map_entry cs Wide handles Open inside k) E p
       pair_line E x p r = rest_before (indent cs k) _ E (λ i. Unit {0}) x p (λ i j m v r e. tt)
           (λ l s d. let a : l ≡ x + k = indent_place cs k x l s in let b : p ≡ x + k = indent_place cs k x p r in omega (arith, a, b))
 
-      pub mapping_first : (o : Props) (p x y : ℕ) → Goes Keys (At Colon) p (At Colon) x → Goes Values InDashes x Here y → Rest (MappingFrom o) InPairs p (any Pairs) InPairs y
-      mapping_first o p x y f g = rest_rest (rest_given _ _ _ p) (rest_rest (rest_seen _ _ _ p) (rest_first (KeyAt cs k) pair_starts key_there (pair_goes p x y f g)))
+      -- from the colon of the first key on
+      pub mapping_keyed : (o : Props) (E : End) (p x : ℕ) → Goes Keys (At Colon) p (At Colon) x → Rest (MappingFrom o) E p (Values ⨾ any Pairs) E x
+      unfolding map_entry
+      mapping_keyed o E p x f = record {
+        rest = λ j m v (op, (t, (a, us, vs, (l, ks, ws, key, val, h), more, y), w)) e.
+            (j, ws ++ vs, (a, ws, vs, subst (λ z. Values z a ws) (sym (f.goes l l ks key (refl, value_starts l a ws (key_inside p l ks key) val)).0) val, more, refl), e);
+      }
 
-      pub mapping_no_key : (o : Props) (p : ℕ) → Refused Keys (At Colon) p → Refused (MappingFrom o) InPairs p
-      mapping_no_key o p n = rest_refused (rest_given _ _ _ p) (rest_refused (rest_seen _ _ _ p) (refused_first (KeyAt cs k) pair_starts key_there (pair_no_key p n)))
+      pub mapping_no_key : (o : Props) (E : End) (p : ℕ) → Refused Keys (At Colon) p → Refused (MappingFrom o) E p
+      mapping_no_key o E p n = record { none = λ j m v (op, (t, (a, us, vs, u, more, y), w)) e. (pair_no_key (λ z y. Unit {0}) p n).none a a us u tt }
 
-      pub mapping_more : (x p y z : ℕ) → indent cs k x p → KeyHere cs p → Goes Keys (At Colon) p (At Colon) y → Goes Values InDashes y Here z → Rest (any Pairs) InPairs x (any Pairs) InPairs z
-      mapping_more x p y z r h f g = rest_more (KeyAt cs k) pair_starts key_there (p, r, h) (key_here x) (rest_goes (pair_line _ x p r) (pair_goes p y z f g))
+      -- the first value
+      pub values_first : (x y : ℕ) → Goes Values InDashes x Here y → Rest (Values ⨾ any Pairs) InPairs x (any Pairs) InPairs y
+      values_first x y g = rest_first (KeyAt cs k) pair_starts key_there (to_more (KeyAt cs k) (Less cs k) (Follow cs (k + 1) k) (more_follow k) g)
 
-      -- content in this column that is no key with a value
-      pub mapping_no_more : (x p : ℕ) → indent cs k x p → KeyHere cs p → Refused Keys (At Colon) p → Refused (any Pairs) InPairs x
-      mapping_no_more x p r h n = refused_more (KeyAt cs k) pair_starts key_there (p, r, h) (key_here x) (rest_refused (pair_line _ x p r) (pair_no_key p n))
+      pub values_refused : (x : ℕ) → Refused Values InDashes x → Refused (Values ⨾ any Pairs) InPairs x
+      values_refused x n = refused_first (KeyAt cs k) pair_starts key_there (refused_until _ (more_follow k) n)
 
-      pub mapping_no_value : (x p y : ℕ) → indent cs k x p → KeyHere cs p → Goes Keys (At Colon) p (At Colon) y → Refused Values InDashes y → Refused (any Pairs) InPairs x
-      mapping_no_value x p y r h f n = refused_more (KeyAt cs k) pair_starts key_there (p, r, h) (key_here x) (rest_refused (pair_line _ x p r) (pair_refused p y f n))
+      -- a line where the mapping is not over
+      goes_on : (x m : ℕ) → Stuck cs x → (Less cs k x → ⊥) → InPairs x m → ⊥
+      goes_on x m s n (c, l) = n (subst (Less cs k) (comments_none cs x m s c) l)
+
+      pub mapping_more : (x p y z : ℕ) → indent cs k x p → Stuck cs x → (Less cs k x → ⊥) → Goes Keys (At Colon) p (At Colon) y → Goes Values InDashes y Here z → Rest (any Pairs) InPairs x (any Pairs) InPairs z
+      mapping_more x p y z r s n f g = rest_next (KeyAt cs k) pair_starts key_there (λ m. goes_on x m s n) (rest_goes (pair_line _ x p r) (pair_goes p y z f g))
+
+      -- something in this column that is no key with a value
+      pub mapping_no_more : (x p : ℕ) → indent cs k x p → Stuck cs x → (Less cs k x → ⊥) → Refused Keys (At Colon) p → Refused (any Pairs) InPairs x
+      mapping_no_more x p r s n f = refused_next (KeyAt cs k) pair_starts key_there (λ m. goes_on x m s n) (rest_refused (pair_line _ x p r) (pair_no_key _ p f))
+
+      pub mapping_no_value : (x p y : ℕ) → indent cs k x p → Stuck cs x → (Less cs k x → ⊥) → Goes Keys (At Colon) p (At Colon) y → Refused Values InDashes y → Refused (any Pairs) InPairs x
+      mapping_no_value x p y r s n f g = refused_next (KeyAt cs k) pair_starts key_there (λ m. goes_on x m s n) (rest_refused (pair_line _ x p r) (pair_refused p y f g))
 
       pub mapping_done : (x : ℕ) → Stuck cs x → (KeyAt cs k x → ⊥) → Goes (any Pairs) InPairs x Here x
       mapping_done x s n = to_here (Less cs k) s (goes_done (KeyAt cs k) pair_starts key_there n)

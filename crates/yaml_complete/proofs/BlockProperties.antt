@@ -149,11 +149,11 @@ module _ (cs : List ℕ) (Wide : Type 0) (handles : Handles) (Open : Type 0) (in
   contents_fresh p i j v (inr r) = let z = jsons_start cs Wide handles Open inside col flow_out p i j v r in (kind_three cs i z, inl z)
 
   -- the rest of a flow node after its properties: content after separation, or none
-  data Rested (p : Props) (k j : ℕ) (v : List Event) : Type 0 where
+  pub data Rested (p : Props) (k j : ℕ) (v : List Event) : Type 0 where
     content : (q : ℕ) → separate cs col flow_out k q → Contents p q j v → Rested p k j v
     lone : j ≡ k → Rested p k j v
 
-  rested : (p : Props) (k j : ℕ) (v : List Event) → FlowRest p k j v → Rested p k j v
+  pub rested : (p : Props) (k j : ℕ) (v : List Event) → FlowRest p k j v → Rested p k j v
   rested p k j v (inl (inl (q, s, r))) = content q s (inl r)
   rested p k j v (inl (inr (a, b))) = lone a
   rested p k j v (inr (q, s, r)) = content q s (inr r)

@@ -4,14 +4,16 @@ use Rattle.yaml_text.specs.grammar.Rules.{Spans, run, maybe, Stands}
 use Rattle.yaml_text.specs.grammar.Characters.{is_space, is_nb}
 use Rattle.yaml_text.specs.grammar.Separation.{comment, l_comment, less}
 use Rattle.yaml_text.specs.grammar.BlockScalars.{literal, folded, block_content, comment_lines, LessIndented, LinesEnd}
-use Rattle.yaml_text.specs.Lines.{blank_rest}
+use Rattle.yaml_text.specs.Lines.{AfterLine, blank_rest}
 use Rattle.yaml_scalar.specs.BlockModel.{styled}
 use Rattle.yaml_text.proofs.Runs.{run_same, same_char}
 use Rattle.yaml_text.proofs.LineRuns.{line_end_stops}
 use Rattle.yaml_text.proofs.RestLemmas.{from_l, comment_stops, l_comment_onward, nb_feed, nb_return, space_feed, space_return, space_hash}
 use Rattle.yaml_unique.proofs.Lines.{comments_join, stuck_end, stuck_mark}
 use Rattle.yaml_unique.specs.Follows.{Stuck, Over}
-use Rattle.yaml_unique.proofs.BlockScalarEnds.{block_scalar_unique}
+use Rattle.yaml_unique.proofs.BlockScalarEnds.{block_scalar_unique, comments_of, after_end}
+use Rattle.yaml_unique.proofs.Documents.{after_comments}
+use Rattle.yaml_scalar.proofs.BlockLemmas.{parts_of}
 use Rattle.yaml_complete.specs.Decisions.{Goes, Here}
 use Rattle.yaml_complete.proofs.Decisions.{goes_seen, goes_until}
 
@@ -65,3 +67,9 @@ module _ (cs : List ℕ) where
   -- so the text goes on there, whatever follows
   pub block_scalar_goes : (f : Bool) (col : ℕ) (X : ℕ → Type 0) → ((m : ℕ) → X m → Stuck cs m) → (i x : ℕ) (v : List ℕ) → styled cs f col i x v → ((j : ℕ) (w : List ℕ) → styled cs f col i j w → j ≤ x) → Goes (styled cs f col) (Over cs X) i Here x
   block_scalar_goes f col X stuck i x v r far = goes_until (Over cs X) {F = Over cs (Stuck cs)} (λ j m (c, y). (c, stuck m y)) (goes_seen (block_scalar_unique cs f col (Stuck cs) (λ m s. s)) r (Spans.done refl, furthest_stuck f col i x v r far))
+
+  -- and a line starts there, or the text ends
+  pub scalar_after : (f : Bool) (col i j : ℕ) (v : List ℕ) → styled cs f col i j v → AfterLine cs j
+  scalar_after f col i j v r =
+      let p = parts_of cs f col i j v r in
+      let a = after_end cs f col i j v p in after_comments cs (Unit {0}) 0 (comments_of cs p.k p.end j a p.comments) a

@@ -105,6 +105,13 @@ module _ (cs : List ℕ) where
             h (subst (λ z. slice_get cs z ≡ Some 58) u f);
       }
 
+      -- no colon that ends a key
+      pub no_colon : (i y : ℕ) → Goes R (At (F cs col d)) i (At (F cs col d)) y → ((q : ℕ) → run cs is_space y q → slice_get cs q ≡ Some 58 → OneLine cs i q → q ≤ i + key_limit → ⊥) → Refused Keys (At Colon) i
+      no_colon i y g x = record {
+        none = λ j m v k (e, n).
+            let (p, s, f, o, l, t) = key_colon i y j g (key_is i j v k) n in x p s f o l;
+      }
+
       -- a colon, but on another line or too far off
       pub no_fit : (i y q : ℕ) → Goes R (At (F cs col d)) i (At (F cs col d)) y → run cs is_space y q → slice_get cs q ≡ Some 58 → (OneLine cs i q × (q ≤ i + key_limit) → ⊥) → Refused Keys (At Colon) i
       no_fit i y q g r h x = record {

@@ -1,5 +1,6 @@
 pub mod Decisions
 pub mod BlockLoops
+pub mod LineChoices
 pub mod FlowLoops
 pub mod KeyOrScalar
 pub mod PlainScalars
@@ -15,6 +16,9 @@ pub mod NodesAgain
 pub mod FlowChoices
 pub mod FlowCollections
 pub mod BlockProperties
+pub mod BlockLines
 pub mod StreamRests
 pub mod Depths
 pub mod PropertyLines
+pub mod OwnLines
+pub mod KeyChoices

@@ -29,7 +29,7 @@ module _ (cs : List ℕ) where
       (omega (arith, o, f, y, z), (b, inr (sym o, s), (c, inr (x, (h, f), t), n)))
   one_line e b x c d (inl o) (inr s) r h f t n = absurd (end_stops cs (λ u. true) e s (35, subst (λ u. slice_get cs u ≡ Some 35) (sym o) h, refl))
 
-  comments_of : (k e j : ℕ) → AfterLine cs e → maybe (comment_lines cs k) e j → Comments cs e j
+  pub comments_of : (k e j : ℕ) → AfterLine cs e → maybe (comment_lines cs k) e j → Comments cs e j
   unfolding comment_lines less comment
   comments_of k e j a (inl h) = Spans.done h
   comments_of k e j a (inr (b, (l, r), (c, (x, (h, f), t), (d, n, s)))) =
@@ -54,7 +54,7 @@ module _ (cs : List ℕ) where
   over_after k q j (Over.here l e) a = subst (AfterLine cs) (sym e) a
   over_after k q j (Over.spaces r l e) a = inr e
 
-  after_end : (f : Bool) (col i j : ℕ) (v : List ℕ) (p : Parts cs f col i j v) → AfterLine cs p.end
+  pub after_end : (f : Bool) (col i j : ℕ) (v : List ℕ) (p : Parts cs f col i j v) → AfterLine cs p.end
   after_end f col i j v p =
       let (a, h, s) = header_parts cs (i + 1) p.first p.head p.header in
       let first : AfterLine cs p.first = blank_after cs a p.first (from_s_b cs a p.first s) in

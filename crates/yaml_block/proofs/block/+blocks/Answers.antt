@@ -22,6 +22,7 @@ use Rattle.yaml_block.specs.BlockRules.{block_scalar_rest, node_rest, line_rest,
 use Rattle.yaml_block.specs.OuterRules.{above, column_of, left}
 use Rattle.yaml_block.proofs.BlockLemmas.{line_value, same_value, line_entry, sequence_entry, node_entry, dash_entry, seq_entry_at, map_entry_at, sequence_done, value_key, mapping_done, key_entry, joined_more, joined_start}
 use Rattle.yaml_block.proofs.OuterLemmas.{column_none, column_free, marked_column, any_column, above_own, line_own, follows_before, block_scalar, no_key, keyed, marked_nothing, marked_sequence, fewer_left, adds_longer}
+use Rattle.yaml_block.proofs.NodeForms.{node_left}
 use Rattle.yaml_block.proofs.block.+blocks.Goals as goal
 
 -- comments up to where a line starts
