@@ -1,9 +1,8 @@
 -- A flow node with its properties or without any: it decides what its content decides.
-use Rattle.std.proofs.Common.{◌≡◌, ◌≢◌, ℕ, zero, suc, ◌⊎◌, inl, inr, List, [], ◌∷◌, Result, Err, Some, refl, sym, ◌∙◌, ap, subst, arith, ◌<◌}
+use Rattle.std.proofs.Common.{◌≡◌, ◌≢◌, ℕ, zero, suc, ◌⊎◌, inl, inr, List, [], ◌∷◌, Result, Some, refl, sym, subst, arith, ◌<◌}
 use Rattle.std.specs.Prelude.{slice_get}
 use Rattle.std.specs.Result.{IsErrAnd}
 use Rattle.std.proofs.Math.Nat.{eq-or-lt_of_le}
-use Rattle.std.proofs.lemmas.Result.{err_from_is_err_and}
 use Rattle.yaml_text.specs.Event.{Event}
 use Rattle.yaml_text.specs.Lines.{Inside}
 use Rattle.yaml_text.specs.declared.fault.Fault.{Fault}
@@ -17,7 +16,7 @@ use Rattle.yaml_text.specs.grammar.Nodes.{Part, yaml_part, json_part, yaml_node,
 use Rattle.yaml_unique.specs.Readings.{End, At, Starts}
 use Rattle.yaml_unique.specs.Follows.{Solid, Fresh, Closes, Colon, Fy, Fj, F}
 use Rattle.yaml_unique.proofs.Lines.{way_maybe}
-use Rattle.yaml_unique.proofs.Properties.{NoMore, prop, props_two, props_here, props_inside}
+use Rattle.yaml_unique.proofs.Properties.{NoMore, props_two, props_here, props_inside}
 use Rattle.yaml_unique.proofs.TagEnds.{prop_same, prop_here, prop_inside, alias_same}
 use Rattle.yaml_unique.proofs.FlowNodes.{Kind, Sign, kind_three, kind_same, plain_start, jsons_start, prop_kind, ContentHere, Plains, Jsons, YamlRest, JsonRest, yaml_next, json_next, json_parts}
 use Rattle.yaml_unique.proofs.FlowEntries.{Facts, closes_solid, colon_solid, colon_part}
@@ -31,16 +30,17 @@ use Rattle.yaml_complete.proofs.FlowStarts.{plain_left, alias_left, no_json, yam
 use Rattle.yaml_complete.proofs.PropertyChoices.{Second, rest_propped, plain_after, json_after, goes_gives, refused_gives}
 use Rattle.yaml_complete.proofs.Separations.{rest_separate, refused_separate, lines_of}
 use Rattle.yaml_complete.proofs.FlowLoops.{closes_fresh}
-use Rattle.yaml_flow.specs.Decisions.{IsProperty, IsSingle, AllProperties, Barred, Stops, another, nothing, EndOf, LineGoesOn, IsRefused, IsOnly, DecidesNode}
+use Rattle.yaml_flow.specs.Decisions.{IsProperty, AllProperties, Barred, Stops, another, nothing, EndOf, LineGoesOn, IsRefused, IsOnly, DecidesNode}
 use Rattle.yaml_flow.specs.FlowDecisions.{IsOpening, ContentOnly, ContentRefused}
 use Rattle.yaml_flow.specs.FlowRules.{opens, below, content_at, content_from}
 use Rattle.yaml_flow.specs.declared.flow.Kind as kinds
 use Rattle.yaml_flow.specs.declared.flow.Kind.TheVariants.{Yaml, Json}
 use Rattle.yaml_flow.specs.declared.flow.Node.{Node}
-use Rattle.yaml_flow.proofs.Deciding.{one_end, no_end}
+use Rattle.yaml_flow.proofs.Deciding.{at_err, one_end, no_end}
 use Rattle.yaml_flow.proofs.FlowLemmas.{from_reads}
 use Rattle.yaml_flow.proofs.LineLemmas.{spaces_apart}
 use Rattle.yaml_complete.proofs.PropertyLines.{no_gap}
+use Rattle.yaml_flow.proofs.PropertyDecisions.{no_more}
 use Rattle.yaml_flow.proofs.ContentDecisions.{opening_kind}
 
 abbrev Wide : Type 0
@@ -144,12 +144,8 @@ module _ (cs : List ℕ) (handles : Handles) (room n : ℕ) (c : Ctx) where
     within : Inside cs k
     within = props_inside cs handles (prop_same cs handles) (prop_here cs handles) (prop_inside cs handles) n c i k p (props_two cs handles n c i k p r)
 
-    single : prop cs handles i k p → IsSingle p
-    single (inl (t, a, e)) = inl (ap Props.anchor e)
-    single (inr (t, a, e)) = inr (ap Props.tag e)
-
     none : Second cs handles n c i k p → ⊥
-    none (a, (l, o, b, s, t, d)) = all.second (single a) o s d
+    none = no_more cs handles n c i k p all
 
     left_yaml : Rest YamlNode EY i (YamlRest cs Wide handles Open Inner n c p) EY k
     left_yaml = rest_rest (yaml_level EY i) (rest_rest (yaml_propped cs Wide handles Open Inner n c EY i here) (rest_propped cs handles n c (YamlRest cs Wide handles Open Inner n c) EY i k p r none f.nexty))
@@ -359,4 +355,4 @@ module _ (cs : List ℕ) (handles : Handles) (room n : ℕ) where
 -- at the exit of a `?`
 pub node_err : (cs : List ℕ) (handles : Handles) (room n : ℕ) (c : Ctx) (i : ℕ) (end : Node → ℕ) (r : Result Node Fault) (e : Fault) → IsErrAnd r (λ y. y ≡ e)
     → (e ≡ OutOfMemory) ⊎ (IsRefused cs handles room n c i Yaml × IsRefused cs handles room n c i Json) → DecidesNode cs handles room n c i end r
-node_err cs handles room n c i end r e was p = let h = err_from_is_err_and r was in subst (DecidesNode cs handles room n c i end) (sym (h.1 ∙ ap Err h.2)) p
+node_err cs handles room n c i end = at_err (DecidesNode cs handles room n c i end)

@@ -1,8 +1,7 @@
 -- What a node's content decides by its first character: an alias, a plain scalar, a quoted one or a flow collection.
-use Rattle.std.proofs.Common.{◌≡◌, ℕ, ◌⊎◌, inl, inr, List, [], ◌∷◌, Result, Ok, Err, Option, Some, None, refl, sym, ◌∙◌, ap, subst}
+use Rattle.std.proofs.Common.{◌≡◌, ℕ, ◌⊎◌, inl, inr, List, [], ◌∷◌, Result, Ok, Err, Option, Some, None, refl, sym, ◌∙◌, subst}
 use Rattle.std.specs.Prelude.{slice_get}
 use Rattle.std.specs.Result.{IsErrAnd}
-use Rattle.std.proofs.lemmas.Result.{err_from_is_err_and}
 use Rattle.yaml_text.specs.Event.{Event}
 use Rattle.yaml_text.specs.Event as style
 use Rattle.yaml_text.specs.declared.fault.Fault.{Fault}
@@ -29,7 +28,7 @@ use Rattle.yaml_flow.specs.FlowDecisions.{IsOpening, DecidesPlain, ContentTaken,
 use Rattle.yaml_flow.specs.FlowRules.{opens, below, content_at, NoOpening}
 use Rattle.yaml_flow.specs.declared.flow.Kind as kinds
 use Rattle.yaml_flow.specs.declared.flow.Node.{Node}
-use Rattle.yaml_flow.proofs.Deciding.{one_end, no_end}
+use Rattle.yaml_flow.proofs.Deciding.{at_err, one_end, no_end}
 use Rattle.yaml_flow.specs.declared.flow.Kind.TheVariants.{Yaml, Json}
 
 module _ (cs : List ℕ) where
@@ -168,4 +167,4 @@ module _ (cs : List ℕ) (handles : Handles) (room n : ℕ) (c : Ctx) (i : ℕ) 
   -- at the exit of a `?`
   pub content_err : (end : Node → ℕ) (r : Result (Option Node) Fault) (e : Fault) → IsErrAnd r (λ y. y ≡ e)
       → (e ≡ OutOfMemory) ⊎ (IsOpening cs i × ContentRefused cs handles room n c i Yaml × ContentRefused cs handles room n c i Json) → DecidesContent cs handles room n c i end r
-  content_err end r e was p = let h = err_from_is_err_and r was in subst (DecidesContent cs handles room n c i end) (sym (h.1 ∙ ap Err h.2)) p
+  content_err end = at_err (DecidesContent cs handles room n c i end)

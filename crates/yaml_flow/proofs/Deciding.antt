@@ -11,8 +11,11 @@ use Rattle.yaml_complete.specs.Decisions.{Refused, Goes, Here}
 use Rattle.yaml_flow.specs.Answer.{Decides}
 
 -- at the exit of a `?`
+pub at_err : {X : Type 0} (P : Result X Fault → Type 0) (r : Result X Fault) (e : Fault) → IsErrAnd r (λ y. y ≡ e) → P (Err e) → P r
+at_err P r e was p = let h = err_from_is_err_and r was in subst P (sym (h.1 ∙ ap Err h.2)) p
+
 pub decides_err : {V X : Type 0} (R : Rule V) (E : End) (i : ℕ) (F : End) (end : X → ℕ) (r : Result X Fault) (e : Fault) → IsErrAnd r (λ y. y ≡ e) → (e ≡ fault.OutOfMemory) ⊎ Refused R E i → Decides R E i F end r
-decides_err R E i F end r e was p = let h = err_from_is_err_and r was in subst (Decides R E i F end) (sym (h.1 ∙ ap Err h.2)) p
+decides_err R E i F end = at_err (Decides R E i F end)
 
 -- the same of another rule
 pub decides_by : {V W X : Type 0} (R : Rule V) (E : End) (i : ℕ) (F : End) (S : Rule W) (G : End) (k : ℕ) (H : End) (end : X → ℕ) (r : Result X Fault)

@@ -1,8 +1,7 @@
 -- From what a call says of its answer, found or refused, to what its caller decides.
-use Rattle.std.proofs.Common.{◌≡◌, ℕ, ◌+◌, ◌≤◌, ◌⊎◌, inl, inr, List, Result, Ok, Err, Option, Some, None, IfOk, IfErr, IfSome, IfNone, refl, sym, ◌∙◌, ap, subst, arith}
+use Rattle.std.proofs.Common.{◌≡◌, ℕ, ◌+◌, ◌≤◌, ◌⊎◌, inl, inr, List, Result, Ok, Err, Option, Some, None, IfOk, IfErr, IfSome, IfNone, refl, sym, subst, arith}
 use Rattle.std.specs.Prelude.{slice_get}
 use Rattle.std.specs.Result.{IsErrAnd}
-use Rattle.std.proofs.lemmas.Result.{err_from_is_err_and}
 use Rattle.yaml_text.specs.Event.{Event}
 use Rattle.yaml_text.specs.Lines.{Inside}
 use Rattle.yaml_text.specs.declared.fault.Fault.{Fault}
@@ -21,6 +20,7 @@ use Rattle.yaml_flow.specs.FlowRules.{IsSign, SignAt, IsParted}
 use Rattle.yaml_flow.specs.declared.flow.Kind as kinds
 use Rattle.yaml_flow.specs.declared.flow.Kind.TheVariants.{Yaml, Json}
 use Rattle.yaml_flow.specs.declared.flow.Node.{Node}
+use Rattle.yaml_flow.proofs.Deciding.{at_err}
 use Rattle.yaml_flow.proofs.PropertyDecisions.{or_else}
 use Rattle.yaml_flow.proofs.BareDecisions.{alias_only, alias_refused}
 use Rattle.yaml_flow.proofs.EntryDecisions.{char_inside, nb_question}
@@ -59,7 +59,7 @@ module _ (cs : List ℕ) (handles : Handles) (room n : ℕ) (c : Ctx) (i : ℕ) 
 -- ---- collections
 
 pub each_err : {X : Type 0} (R : Props → Rule (List Event)) (i : ℕ) (end : X → ℕ) (r : Result X Fault) (e : Fault) → IsErrAnd r (λ y. y ≡ e) → (e ≡ OutOfMemory) ⊎ ((p : Props) → Refused (R p) Here i) → DecidesEach R i end r
-each_err R i end r e was p = let h = err_from_is_err_and r was in subst (DecidesEach R i end) (sym (h.1 ∙ ap Err h.2)) p
+each_err R i end = at_err (DecidesEach R i end)
 
 -- between brackets comes what is between brackets, but in a key
 flow_or_key : (c : Ctx) → (inner c ≡ flow_in) ⊎ (inner c ≡ flow_in → ⊥)

@@ -750,7 +750,8 @@ fn read_pair<'a>(
                 out,
             )?;
             out.push(Event::MappingEnd)?;
-            Ok((end, key.deep.max(deep) + 1))
+            let most = key.deep.max(deep);
+            Ok((end, most + 1))
         }
     }
 }

@@ -1112,7 +1112,7 @@ read_pair-returns-in_ok-push-in-Some-clause-reads t c =
           (adds_on c.args.out.now.items c.read_flow_node.new.out.items _ (mapping_start true None untagged ∷ k.0) v.0
           (adds_on c.args.out.now.items c.push.new.self.items _ (mapping_start true None untagged ∷ []) k.0 (adds_one _ _ _ _ c.flow_mapping.ensures c.in_ok-push.ensures.items) k.1) v.1)
           (adds_one _ _ _ _ refl c.in_ok-push-in-Some.ensures.items),
-      from_same (c.max.result + 1) (max c.in_ok-key.key.deep c.in_ok-end-in-Some.deep + 1) (λ room. item_at cs (Unit {0}) h room n x) _ _ _ (ap (λ x. x + 1) c.max.ensures)
+      from_same (c.max-most.result + 1) (max c.in_ok-key.key.deep c.in_ok-end-in-Some.deep + 1) (λ room. item_at cs (Unit {0}) h room n x) _ _ _ (ap (λ x. x + 1) c.max-most.ensures)
           (pair_item cs (Unit {0}) h c.in_ok-key.key.deep c.in_ok-end-in-Some.deep c.in_ok-key.key.kind n x _ _ _ _ _ k.0 v.0 c.requires.inner k.2
           (_, apart.0, (colon.is, colon.next), fits) (colon.is, colon.next) v.2),
     )
