@@ -14,3 +14,5 @@ mod NodeDecisions
 mod LoopDecisions
 mod KeyedDecisions
 mod Passing
+mod MappingDecisions
+mod RootDecisions

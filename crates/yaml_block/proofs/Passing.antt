@@ -1,6 +1,5 @@
 -- What a call decides, passed on to the call that made it.
 use Rattle.std.proofs.Common.{◌≡◌, ℕ, zero, suc, ◌⊎◌, List, Result, Ok, Err, Option, Some, None, inl, inr, subst}
-use Rattle.std.specs.Option.{MatchOption}
 use Rattle.yaml_text.specs.Event.{Event}
 use Rattle.yaml_text.specs.grammar.Rules.{Rule}
 use Rattle.yaml_text.specs.grammar.Separation.{Ctx, flow_out}
@@ -33,9 +32,6 @@ pub decides_rest : {V W X : Type 0} (R : Rule V) (E : End) (i : ℕ) (S : Rule W
 decides_rest R E i S G k F end (Ok x) t g = rest_goes t g
 decides_rest R E i S G k F end (Err e) t (inl m) = inl m
 decides_rest R E i S G k F end (Err e) t (inr n) = inr (rest_refused t n)
-
-pub matched : {A B : Type 0} (P : A → Type 0) (o : Option A) (x : A) → o ≡ Some x → MatchOption o B P → P x
-matched {A} {B} P o x e m = let some : MatchOption {B = B} (Some x) B P = subst (λ z. MatchOption z B P) e m in some
 
 module _ (cs : List ℕ) where
   pub sign_of : (i : ℕ) (b : Block) → SignIs cs i b → IsSign cs i

@@ -1,16 +1,21 @@
-use Rattle.std.proofs.Common.{◌≡◌, ℕ, suc, false, ◌+◌, ◌-◌, ◌≤◌, List, [], ◌∷◌, ◌++◌, Option, Some, None, refl, sym, ◌∙◌, ap, subst, arith, inl, inr, length}
-use Rattle.std.specs.Prelude.{IfSome, IfOk, insert, Result, Ok, Err}
+use Rattle.std.proofs.Common.{◌≡◌, ◌⊎◌, ℕ, suc, false, ◌+◌, ◌-◌, ◌<◌, ◌≤◌, List, [], ◌∷◌, ◌++◌, Option, Some, None, refl, sym, ◌∙◌, ap, subst, arith, inl, inr, length}
+use Rattle.std.specs.Prelude.{IfOk, insert, Result, Ok, Err}
+use Rattle.std.proofs.lemmas.Option.{MatchOption-at_some}
 use Rattle.yaml_text.specs.declared.fault.Fault.{Fault}
 use Rattle.yaml_text.specs.Event.{Event, sequence_end, mapping_end}
 use Rattle.yaml_text.specs.EventModel.{context_of}
-use Rattle.yaml_text.specs.Source.{text_of, place_of}
+use Rattle.yaml_text.specs.Source.{text_of, place_of, IsBorder}
 use Rattle.yaml_text.specs.declared.chars.Chars.{Chars}
 use Rattle.yaml_text.specs.grammar.Rules.{◌▸◌}
 use Rattle.yaml_text.specs.grammar.Separation.{s_l_comments, flow_out, block_key, block_in, block_out, indent}
 use Rattle.yaml_text.specs.grammar.Tags.{Handles}
-use Rattle.yaml_text.specs.grammar.Events.{empty, seq_start, map_start}
+use Rattle.yaml_text.specs.grammar.Events.{no_props, empty, seq_start, map_start}
 use Rattle.yaml_text.proofs.Tests.{on_true_at, on_false_at}
 use Rattle.yaml_mark.specs.HandlesModel.{handles_of}
+use Rattle.yaml_unique.specs.Follows.{Dash}
+use Rattle.yaml_complete.specs.Decisions.{Here}
+use Rattle.yaml_complete.proofs.Decisions.{rest_rest, rest_goes, rest_refused}
+use Rattle.yaml_flow.specs.Answer.{Decides}
 use Rattle.yaml_flow.specs.Lines.{IsLine, IsDash}
 use Rattle.yaml_flow.specs.Keys.{ColonAfter}
 use Rattle.yaml_flow.specs.PropertyRules.{props_of, both_props, dressed, Marks}
@@ -18,20 +23,27 @@ use Rattle.yaml_flow.specs.declared.line.Line.{Line}
 use Rattle.yaml_flow.proofs.AnswerLemmas.{appends_by, adds_one, adds_on, adds_before}
 use Rattle.yaml_flow.proofs.PropertyLemmas.{own_marks}
 use Rattle.yaml_flow.proofs.FlowLemmas.{bare_flow}
-use Rattle.yaml_block.specs.BlockRules.{block_scalar_rest, node_rest, line_rest, value_rest, entry_rest, sequence_with, seq_body}
-use Rattle.yaml_block.specs.OuterRules.{above, column_of, left}
+use Rattle.yaml_flow.proofs.PropertyDecisions.{or_else, line_all}
+use Rattle.yaml_flow.proofs.Deciding.{decides_err}
+use Rattle.yaml_block.specs.BlockRules.{block_scalar_rest, node_rest, line_rest, value_rest, entry_rest, entries_rest, sequence_with, seq_body}
+use Rattle.yaml_block.specs.BlockEnds.{AfterNode, AfterEntry, AfterSequence, AfterMapping, IsNoKey}
+use Rattle.yaml_block.specs.OuterRules.{above, Above, column_of, left}
 use Rattle.yaml_block.proofs.BlockLemmas.{line_value, same_value, line_entry, sequence_entry, node_entry, dash_entry, seq_entry_at, map_entry_at, sequence_done, value_key, mapping_done, key_entry, joined_more, joined_start}
 use Rattle.yaml_block.proofs.OuterLemmas.{column_none, column_free, marked_column, any_column, above_own, line_own, follows_before, block_scalar, no_key, keyed, marked_nothing, marked_sequence, fewer_left, adds_longer}
-use Rattle.yaml_block.proofs.NodeForms.{node_left}
+use Rattle.yaml_block.proofs.Found.{found_is, none_is}
+use Rattle.yaml_block.proofs.Places.{places_up}
+use Rattle.yaml_block.proofs.Passing.{decides_rest, sign_of, scalar_done, scalar_none, keyed_none_below}
+use Rattle.yaml_block.proofs.LineDecisions.{comments_after, colon_inside, no_content, no_end, no_mark, dash_here, dash_inside}
+use Rattle.yaml_block.proofs.ValueDecisions.{value_below, value_beside, value_gap, lines_over, lines_dash_short, lines_short, lines_dash, lines_node, entry_value, entry_dash, entry_own, entry_gap}
+use Rattle.yaml_block.proofs.LoopDecisions.{seq_first, seq_no_first, seq_more, seq_no_more, seq_done, seq_further, map_first, map_no_first, map_more, map_no_key, map_no_value, map_done, map_further, same_line, not_less}
+use Rattle.yaml_block.proofs.NodeDecisions.{kept, signed, signed_clash, barred, over_above, over_left, over_clash}
+use Rattle.yaml_block.proofs.KeyedDecisions.{end_inside, kept_line, kept_neither, kept_keyed, kept_refused, under_over, under_dash_short, under_short, under_dash}
+use Rattle.yaml_block.proofs.MappingDecisions.{colon_stands, colon_after_inside, unfit_none, mapping_left}
 use Rattle.yaml_block.proofs.block.+blocks.Goals as goal
 
 -- comments up to where a line starts
 moved : (s : Chars) (at start to : ℕ) → to ≡ start → s_l_comments (text_of s) (place_of s at) (place_of s start) → s_l_comments (text_of s) (place_of s at) (place_of s to)
 moved s at start to e r = subst (λ x. s_l_comments (text_of s) (place_of s at) (place_of s x)) (sym e) r
-
--- what is said of a value that was found
-found_is : {A : Type 0} (P : A → Type 0) (found : Option A) (x : A) → found ≡ Some x → IfSome found P → P x
-found_is P found x e h = let some : IfSome (Some x) P = subst (λ o. IfSome o P) e h in some
 
 if_ok : {X : Type 0} (P Q : X → Type 0) (r : Result X Fault) → ((x : X) → P x → Q x) → IfOk r P → IfOk r Q
 if_ok P Q (Ok x) f h = f x h
@@ -192,7 +204,12 @@ read_under-read_node-requires t c = (
             c.requires.block,
             (
               omega (arith, c.requires.line.wide),
-              above _ _ c.args.line.column c.requires.marks c.requires.comments c.requires.line.spaces (omega (arith, c.if-line-col.false)) refl,
+              (
+                omega (arith, c.if-line-col.false),
+                let yes = on_true_at c.has_content.result c.if-not-has_content.false c.has_content.ensures.yes in
+                above _ _ c.args.line.column c.requires.marks c.requires.comments c.requires.line.spaces (omega (arith, c.if-line-col.false)) refl c.requires.above c.requires.line.stuck c.requires.line.all c.in-None.ensures.none
+                (no_end c.args.source.now c.args.line c.requires.line yes.0) (no_mark c.args.source.now c.args.line c.requires.line yes.1),
+              ),
             ),
           ),
         ),
@@ -240,6 +257,8 @@ read_sequence-entries-init t c =
         joined_start (seq_entry_at cs (Unit {0}) h r c.args.column) (indent cs c.args.column ▸ seq_entry_at cs (Unit {0}) h r c.args.column)
             (dash_entry cs (Unit {0}) h r c.args.column _ _ _ n.0 (c.requires.dash.dash.is, c.requires.dash.dash.next) c.requires.dash.apart n.2),
       );
+      after = c.in_ok-line.ensures.after;
+      rest = seq_first cs h r c.args.column c.args.room (props_of c.args.properties) _ _ _ (omega (arith, c.if-room-eq0.false)) c.requires.dash.dash.next c.in_ok-line.ensures.decides;
     }
 
 pub read_sequence-returns-in-None-clause-reads : goal.read_sequence-returns-in-None-clause-reads
@@ -268,6 +287,9 @@ read_sequence-entries-preserved t c =
         adds_on c.args.out.now.items c.entries.out.items _ (first ∷ v.reads.0) n.0 v.reads.1 n.1,
         next_entry s (handles_of c.args.handles) c.entries.line (c.args.room - 1) c.args.column _ c.in-Some.after _ v.reads.0 n.0 v.line e d v.reads.2 n.2,
       );
+      after = c.in_ok-line-in-Some.ensures.after;
+      rest = rest_rest v.rest (seq_more (text_of s) (handles_of c.args.handles) (c.args.room - 1) c.args.column _ _ _ _
+          (same_line s (handles_of c.args.handles) (c.args.room - 1) c.entries.line c.args.column v.line e) (dash_here s c.entries.line.first c.in-Some.after d) d.dash.next c.in_ok-line-in-Some.ensures.decides);
     }
 
 -- ---- mappings
@@ -281,6 +303,8 @@ read_entries-entries-init t c =
       line = c.in_ok-line.ensures.line;
       onward = c.in_ok-line.ensures.onward;
       reads = (n.0, n.1, joined_start (value_rest cs (Unit {0}) h c.args.room (c.args.column + 1) block_out) (indent cs c.args.column ▸ map_entry_at cs (Unit {0}) h c.args.room c.args.column) n.2);
+      after = c.in_ok-line.ensures.after;
+      rest = map_first cs h c.args.room c.args.column _ _ c.in_ok-line.ensures.decides;
     }
 
 pub read_entries-entries-preserved : goal.read_entries-entries-preserved
@@ -304,6 +328,10 @@ read_entries-entries-preserved t c =
           key_entry cs (Unit {0}) h c.args.room c.args.column _ _ _ k.0 n.0 k.2 n.2,
         ),
       );
+      after = c.in_ok-line-2.ensures.after;
+      rest = rest_rest v.rest (map_more cs h c.args.room c.args.column _ _ _ _ (same_line s h c.args.room c.entries.line c.args.column v.line e) v.line.stuck
+          (not_less s h c.args.room c.entries.line c.args.column v.line e (on_true_at c.in_ok-goes_on.field-0 c.if-not-branch.false c.in_ok-goes_on.ensures.content).0 (on_true_at c.in_ok-goes_on.field-0 c.if-not-branch.false c.in_ok-goes_on.ensures.content).1)
+          c.in_ok-colon.ensures.decides c.in_ok-line-2.ensures.decides);
     }
 
 -- ---- nodes
@@ -325,7 +353,7 @@ read_node-read_dressed-requires t c = (
               c.requires.low,
               (
                 c.requires.block,
-                (c.requires.column, (c.requires.outer, c.in_ok-own.ensures.own)),
+                (c.requires.column, (c.requires.wide, (c.requires.outer, (c.in_ok-own.ensures.own, (c.in_ok-own.ensures.all, inl (on_true_at c.is_none.result c.if-is_none.true c.is_none.ensures.yes)))))),
               ),
             ),
           ),
@@ -352,7 +380,7 @@ read_node-read_dressed-requires-in-None t c = (
               c.requires.low,
               (
                 c.requires.block,
-                (c.requires.column, (c.requires.outer, c.in_ok-own.ensures.own)),
+                (c.requires.column, (c.requires.wide, (c.requires.outer, (c.in_ok-own.ensures.own, (c.in_ok-own.ensures.all, inr c.in-None.ensures.none))))),
               ),
             ),
           ),
@@ -385,7 +413,16 @@ read_node-read_under-requires t c =
                 c.requires.block,
                 (
                   subst (Marks cs h c.args.col flow_out (place_of s c.args.from) (place_of s c.in_ok-own.end)) (sym c.and-outer.ensures) marks,
-                  moved s _ _ _ c.line_at-line.ensures.start c.in-Some.ensures.some,
+                  (
+                    moved s _ _ _ c.line_at-line.ensures.start c.in-Some.ensures.some,
+                    (
+                      comments_after cs _ _ (moved s _ _ _ c.line_at-line.ensures.start c.in-Some.ensures.some),
+                      subst (Above cs h c.args.col (place_of s c.args.from) (place_of s c.in_ok-own.end)) (sym c.and-outer.ensures)
+                          (over_above cs h c.args.room c.args.col (context_of c.args.context) c.requires.block c.args.column _ _ (props_of c.args.outer) _ _ (props_of c.in_ok-own.own)
+                          (places_up s _ _ c.requires.border c.in_ok-own.ensures.border c.in_ok-own.ensures.onward) (own_marks cs h 0 block_key _ _ (props_of c.in_ok-own.own) c.in_ok-own.ensures.own some) c.in_ok-own.ensures.all
+                          c.in-Some.ensures.some c.requires.outer apart),
+                    ),
+                  ),
                 ),
               ),
             ),
@@ -428,7 +465,8 @@ pub read_keyed-insert-requires : goal.read_keyed-insert-requires
 read_keyed-insert-requires t c =
     let k = c.in_ok-node.ensures.reads in
     let length_is : c.len-start.result ≡ length c.args.out.now.items = omega (arith, c.len-start.ensures, c.args.out.now.ok.0) in
-    let longer = adds_longer c.args.out.now.items c.dress.new.out.items _ (c.dress.ensures c.args.out.now.items k.0 length_is k.1) in
+    let fit = c.in_ok-fit_key-in-Some.ensures.reads c.args.out.now.items k.0 length_is k.1 k.2 in
+    let longer = adds_longer c.args.out.now.items c.dress.new.out.items _ (c.dress.ensures c.args.out.now.items fit.2 length_is fit.4) in
     omega (arith, longer, length_is, c.dress.new.out.ok.0)
 
 pub read_keyed-returns-in_ok-line-in-None-clause-reads : goal.read_keyed-returns-in_ok-line-in-None-clause-reads
@@ -454,19 +492,20 @@ read_keyed-returns-in_ok-push-in-Some-clause-reads t c =
     let h = handles_of c.args.handles in
     let p = props_of c.args.outer in
     let q = props_of c.args.own in
-    let k = c.in_ok-node.ensures.reads in
+    let first_read = c.in_ok-node.ensures.reads in
     let n = c.in_ok-line-in-Some.ensures.reads in
     let r = c.args.room - 1 in
     let first = map_start false p in
-    let ks = dressed q k.0 in
-    let e : c.args.room ≡ suc r = omega (arith, c.if-node-room.false) in
+    let length_is : c.len-start.result ≡ length c.args.out.now.items = omega (arith, c.len-start.ensures, c.args.out.now.ok.0) in
+    let k = c.in_ok-fit_key-in-Some.ensures.reads c.args.out.now.items first_read.0 length_is first_read.1 first_read.2 in
+    let ks = dressed q k.2 in
+    let e : c.args.room ≡ suc r = omega (arith, k.3) in
     let column = found_is (λ x. c.args.column ≡ Some x.0) c.in_ok-first_colon.field-0 _ c.in-Some.is c.in_ok-first_colon.ensures.some in
     let colon = found_is (λ x. ColonAfter cs (place_of s c.args.at) (place_of s c.in_ok-node.node.end) (place_of s x.1)) c.in_ok-first_colon.field-0 _ c.in-Some.is c.in_ok-first_colon.ensures.colon in
-    let length_is : c.len-start.result ≡ length c.args.out.now.items = omega (arith, c.len-start.ensures, c.args.out.now.ok.0) in
-    let own = c.dress.ensures c.args.out.now.items k.0 length_is k.1 in
+    let own = c.dress.ensures c.args.out.now.items k.2 length_is k.4 in
     let start : c.insert.new.self.items ≡ insert c.dress.new.out.items (length c.args.out.now.items) c.block_mapping.result = c.in_ok-insert-in-Some.ensures.items ∙ ap (λ n. insert c.dress.new.out.items n c.block_mapping.result) length_is in
-    let flow = bare_flow cs (Unit {0}) h c.in_ok-node.node.deep c.in_ok-node.node.kind c.args.col flow_out q _ _ _ k.0 k.2 in
-    let key = value_key cs (Unit {0}) h r c.args.col c.in_ok-node.node.deep c.in_ok-node.node.kind _ _ _ ks flow (omega (arith, c.if-node-room.false)) colon in
+    let flow = bare_flow cs (Unit {0}) h k.0 k.1 c.args.col flow_out q _ _ _ k.2 k.5 in
+    let key = value_key cs (Unit {0}) h r c.args.col k.0 k.1 _ _ _ ks flow (omega (arith, k.3)) colon in
     let whole = mapping_done cs (Unit {0}) h p r c.args.room c.in-Some.column _ _ _ ks n.0 e key n.2 in (
       first ∷ ((ks ++ n.0) ++ (mapping_end ∷ [])),
       adds_on c.args.out.now.items c.read_entries.new.out.items _ (first ∷ (ks ++ n.0)) (mapping_end ∷ [])
@@ -475,3 +514,572 @@ read_keyed-returns-in_ok-push-in-Some-clause-reads t c =
           (adds_one _ _ _ _ refl c.in_ok-push-in-Some.ensures.items),
       keyed cs (Unit {0}) h c.args.room c.args.col c.in-Some.column (context_of c.args.context) c.args.column _ _ _ p _ c.requires.outer column whole,
     )
+
+-- ---- what the calls decide
+
+pub read_value-read_below-requires : goal.read_value-read_below-requires
+read_value-read_below-requires t c =
+    let s = c.args.source.now in (
+      omega arith,
+      (
+        c.line_at-line.ensures.line,
+        (
+          omega (arith, c.requires.low, c.in-Some.ensures.onward, c.line_at-line.ensures.start),
+          (c.requires.block, comments_after (text_of s) _ _ (moved s _ _ _ c.line_at-line.ensures.start c.in-Some.ensures.some)),
+        ),
+      ),
+    )
+
+pub read_value-returns-then-count-eq0-clause-decides : goal.read_value-returns-then-count-eq0-clause-decides
+read_value-returns-then-count-eq0-clause-decides t c =
+    let s = c.args.source.now in
+    inr (value_gap (text_of s) (handles_of c.args.handles) c.args.room c.args.col (context_of c.args.context) c.requires.block (place_of s c.args.at) c.skip_spaces-count.result.0 (place_of s c.skip_spaces-count.result.1)
+    c.in-None.ensures.none c.skip_spaces-count.ensures.spaces c.skip_spaces-count.ensures.furthest c.if-count-eq0.true)
+
+pub read_value-returns-in-Some-clause-decides : goal.read_value-returns-in-Some-clause-decides
+read_value-returns-in-Some-clause-decides t c =
+    let s = c.args.source.now in
+    let cs = text_of s in
+    let h = handles_of c.args.handles in
+    let x = context_of c.args.context in
+    let line = c.line_at-line.ensures.line in
+    decides_rest (value_rest cs (Unit {0}) h c.args.room c.args.col x) (AfterNode cs c.args.col x) (place_of s c.args.at) (line_rest cs (Unit {0}) h c.args.room c.args.col x) (AfterNode cs c.args.col x) (place_of s c.line_at-line.result.start)
+    Here (λ line. place_of s line.start) c.read_below.result
+    (value_below cs h c.args.room c.args.col x c.requires.block _ _ c.line_at-line.result.column _ (moved s _ _ _ c.line_at-line.ensures.start c.in-Some.ensures.some) line.stuck line.spaces line.all c.requires.inside) c.read_below.ensures.decides
+
+pub read_value-returns-else-count-eq0-clause-decides : goal.read_value-returns-else-count-eq0-clause-decides
+read_value-returns-else-count-eq0-clause-decides t c =
+    let s = c.args.source.now in
+    let cs = text_of s in
+    let h = handles_of c.args.handles in
+    let x = context_of c.args.context in
+    let p = props_of c.none-outer.result in
+    decides_rest (value_rest cs (Unit {0}) h c.args.room c.args.col x) (AfterNode cs c.args.col x) (place_of s c.args.at) (node_rest cs (Unit {0}) h c.args.room c.args.col x None) (AfterNode cs c.args.col x) (place_of s c.skip_spaces-count.result.1)
+    Here (λ line. place_of s line.start) c.read_node.result
+    (value_beside cs h c.args.room c.args.col x c.requires.block _ c.skip_spaces-count.result.0 _ c.in-None.ensures.none c.skip_spaces-count.ensures.spaces c.skip_spaces-count.ensures.furthest)
+    (subst (λ o. Decides (node_rest cs (Unit {0}) h c.args.room c.args.col x o) (AfterNode cs c.args.col x) (place_of s c.skip_spaces-count.result.1) Here (λ line. place_of s line.start) c.read_node.result) (column_none p) c.read_node.ensures.decides)
+
+pub read_indented-read_below-requires : goal.read_indented-read_below-requires
+read_indented-read_below-requires t c =
+    let s = c.args.source.now in (
+      omega arith,
+      (
+        c.line_at-line.ensures.line,
+        (
+          omega (arith, c.requires.low, c.in-Some.ensures.onward, c.line_at-line.ensures.start),
+          (tt, comments_after (text_of s) _ _ (moved s _ _ _ c.line_at-line.ensures.start c.in-Some.ensures.some)),
+        ),
+      ),
+    )
+
+pub read_indented-returns-then-count-eq0-clause-decides : goal.read_indented-returns-then-count-eq0-clause-decides
+read_indented-returns-then-count-eq0-clause-decides t c =
+    let s = c.args.source.now in
+    inr (entry_gap (text_of s) (handles_of c.args.handles) c.args.room c.args.column _ c.skip_spaces-count.result.0 _ c.in-None.ensures.none c.skip_spaces-count.ensures.spaces c.skip_spaces-count.ensures.furthest c.if-count-eq0.true)
+
+pub read_indented-returns-in-Some-clause-decides : goal.read_indented-returns-in-Some-clause-decides
+read_indented-returns-in-Some-clause-decides t c =
+    let s = c.args.source.now in
+    let cs = text_of s in
+    let h = handles_of c.args.handles in
+    let k = c.args.column in
+    let line = c.line_at-line.ensures.line in
+    let over = moved s _ _ _ c.line_at-line.ensures.start c.in-Some.ensures.some in
+    decides_rest (entry_rest cs (Unit {0}) h c.args.room k) (AfterEntry cs k) (place_of s c.args.at) (line_rest cs (Unit {0}) h c.args.room (k + 1) block_in) (AfterNode cs (k + 1) block_in) (place_of s c.line_at-line.result.start)
+    Here (λ line. place_of s line.start) c.read_below.result
+    (rest_rest (entry_value cs h c.args.room k _ _ c.requires.inside over) (value_below cs h c.args.room (k + 1) block_in tt _ _ c.line_at-line.result.column _ over line.stuck line.spaces line.all (inl c.requires.inside))) c.read_below.ensures.decides
+
+pub read_indented-returns-in-Some-dash-clause-decides : goal.read_indented-returns-in-Some-dash-clause-decides
+read_indented-returns-in-Some-dash-clause-decides t c =
+    let s = c.args.source.now in
+    let cs = text_of s in
+    let h = handles_of c.args.handles in
+    let k = c.args.column in
+    let n = c.skip_spaces-count.result.0 in
+    let i = place_of s c.skip_spaces-count.result.1 in
+    decides_rest (entry_rest cs (Unit {0}) h c.args.room k) (AfterEntry cs k) (place_of s c.args.at) (sequence_with cs (Unit {0}) h no_props c.args.room (k + 1 + n)) (AfterSequence cs (k + 1 + n)) i Here (λ line. place_of s line.start) c.read_sequence.result
+    (entry_dash cs h c.args.room k _ n _ c.in-None.ensures.none c.skip_spaces-count.ensures.spaces c.skip_spaces-count.ensures.furthest (dash_here s _ _ c.in-Some-dash.ensures.some))
+    (subst (λ p. Decides (sequence_with cs (Unit {0}) h p c.args.room (k + 1 + n)) (AfterSequence cs (k + 1 + n)) i Here (λ line. place_of s line.start) c.read_sequence.result) c.none-outer.ensures c.read_sequence.ensures.decides)
+
+pub read_indented-returns-in-None-dash-clause-decides : goal.read_indented-returns-in-None-dash-clause-decides
+read_indented-returns-in-None-dash-clause-decides t c =
+    let s = c.args.source.now in
+    let cs = text_of s in
+    let h = handles_of c.args.handles in
+    let k = c.args.column in
+    let n = c.skip_spaces-count.result.0 in
+    let i = place_of s c.skip_spaces-count.result.1 in
+    let p = props_of c.none-outer.result in
+    decides_rest (entry_rest cs (Unit {0}) h c.args.room k) (AfterEntry cs k) (place_of s c.args.at) (node_rest cs (Unit {0}) h c.args.room (k + 1) block_in (Some (k + 1 + n))) (AfterNode cs (k + 1) block_in) i Here (λ line. place_of s line.start) c.read_node.result
+    (entry_own cs h c.args.room k _ n _ c.in-None.ensures.none c.skip_spaces-count.ensures.spaces c.skip_spaces-count.ensures.furthest c.in-None-dash.ensures.none)
+    (subst (λ o. Decides (node_rest cs (Unit {0}) h c.args.room (k + 1) block_in o) (AfterNode cs (k + 1) block_in) i Here (λ line. place_of s line.start) c.read_node.result) (column_free p (Some (k + 1 + n)) c.none-outer.ensures) c.read_node.ensures.decides)
+
+-- ---- lines below
+
+pub read_below-returns-then-not-has_content-clause-decides : goal.read_below-returns-then-not-has_content-clause-decides
+read_below-returns-then-not-has_content-clause-decides t c =
+    let s = c.args.source.now in
+    let line = c.requires.line in
+    lines_over (text_of s) (handles_of c.args.handles) c.args.room c.args.col (context_of c.args.context) c.requires.block _ c.args.line.column _ line.spaces line.all line.stuck
+    (no_content s c.args.line line c.requires.after (on_false_at c.has_content.result c.if-not-has_content.true c.has_content.ensures.no))
+
+pub read_below-returns-then-line-sequence_column-clause-decides : goal.read_below-returns-then-line-sequence_column-clause-decides
+read_below-returns-then-line-sequence_column-clause-decides t c =
+    let s = c.args.source.now in
+    let line = c.requires.line in
+    lines_dash_short (text_of s) (handles_of c.args.handles) c.args.room c.args.col (context_of c.args.context) c.requires.block _ c.args.line.column _ line.spaces line.all line.stuck
+    (dash_here s _ _ c.in-Some.ensures.some) (subst (λ n. c.args.line.column < n) c.sequence_column.ensures c.if-line-sequence_column.true)
+
+pub read_below-returns-then-line-col-clause-decides : goal.read_below-returns-then-line-col-clause-decides
+read_below-returns-then-line-col-clause-decides t c =
+    let s = c.args.source.now in
+    let line = c.requires.line in
+    lines_short (text_of s) (handles_of c.args.handles) c.args.room c.args.col (context_of c.args.context) c.requires.block _ c.args.line.column _ line.spaces line.all line.stuck c.in-None.ensures.none c.if-line-col.true
+
+pub read_below-returns-else-line-sequence_column-clause-decides : goal.read_below-returns-else-line-sequence_column-clause-decides
+read_below-returns-else-line-sequence_column-clause-decides t c =
+    let s = c.args.source.now in
+    let cs = text_of s in
+    let h = handles_of c.args.handles in
+    let x = context_of c.args.context in
+    let k = c.args.line.column in
+    let line = c.requires.line in
+    let i = place_of s c.args.line.first in
+    decides_rest (line_rest cs (Unit {0}) h c.args.room c.args.col x) (AfterNode cs c.args.col x) (place_of s c.args.line.start) (sequence_with cs (Unit {0}) h no_props c.args.room k) (AfterSequence cs k) i Here (λ line. place_of s line.start) c.read_sequence.result
+    (lines_dash cs h c.args.room c.args.col x c.requires.block _ k _ line.spaces line.all line.stuck (dash_here s _ _ c.in-Some.ensures.some) (subst (λ n. n ≤ k) c.sequence_column.ensures c.if-line-sequence_column.false))
+    (subst (λ p. Decides (sequence_with cs (Unit {0}) h p c.args.room k) (AfterSequence cs k) i Here (λ line. place_of s line.start) c.read_sequence.result) c.none-outer.ensures c.read_sequence.ensures.decides)
+
+pub read_below-returns-else-line-col-clause-decides : goal.read_below-returns-else-line-col-clause-decides
+read_below-returns-else-line-col-clause-decides t c =
+    let s = c.args.source.now in
+    let cs = text_of s in
+    let h = handles_of c.args.handles in
+    let x = context_of c.args.context in
+    let k = c.args.line.column in
+    let line = c.requires.line in
+    let i = place_of s c.args.line.first in
+    let p = props_of c.none-outer.result in
+    let yes = on_true_at c.has_content.result c.if-not-has_content.false c.has_content.ensures.yes in
+    decides_rest (line_rest cs (Unit {0}) h c.args.room c.args.col x) (AfterNode cs c.args.col x) (place_of s c.args.line.start) (node_rest cs (Unit {0}) h c.args.room c.args.col x (Some k)) (AfterNode cs c.args.col x) i Here (λ line. place_of s line.start) c.read_node.result
+    (lines_node cs h c.args.room c.args.col x c.requires.block _ k _ line.spaces line.all line.stuck c.in-None.ensures.none c.if-line-col.false (no_end s c.args.line line yes.0) (no_mark s c.args.line line yes.1))
+    (subst (λ o. Decides (node_rest cs (Unit {0}) h c.args.room c.args.col x o) (AfterNode cs c.args.col x) i Here (λ line. place_of s line.start) c.read_node.result) (column_free p (Some k) c.none-outer.ensures) c.read_node.ensures.decides)
+
+-- ---- lines below properties
+
+pub read_under-returns-then-not-has_content-clause-decides : goal.read_under-returns-then-not-has_content-clause-decides
+read_under-returns-then-not-has_content-clause-decides t c =
+    let s = c.args.source.now in
+    let line = c.requires.line in
+    under_over (text_of s) (handles_of c.args.handles) c.args.room c.args.col (context_of c.args.context) c.requires.block (props_of c.args.outer) _ _ _ c.args.line.column _ c.requires.above c.requires.comments line.stuck line.spaces line.all
+    (no_content s c.args.line line c.requires.after (on_false_at c.has_content.result c.if-not-has_content.true c.has_content.ensures.no))
+
+pub read_under-returns-then-line-sequence_column-clause-decides : goal.read_under-returns-then-line-sequence_column-clause-decides
+read_under-returns-then-line-sequence_column-clause-decides t c =
+    let s = c.args.source.now in
+    let line = c.requires.line in
+    under_dash_short (text_of s) (handles_of c.args.handles) c.args.room c.args.col (context_of c.args.context) c.requires.block (props_of c.args.outer) _ _ _ c.args.line.column _ c.requires.above c.requires.comments line.stuck line.spaces line.all
+    (dash_here s _ _ c.in-Some.ensures.some) (subst (λ n. c.args.line.column < n) c.sequence_column.ensures c.if-line-sequence_column.true)
+
+pub read_under-returns-then-line-col-clause-decides : goal.read_under-returns-then-line-col-clause-decides
+read_under-returns-then-line-col-clause-decides t c =
+    let s = c.args.source.now in
+    let line = c.requires.line in
+    under_short (text_of s) (handles_of c.args.handles) c.args.room c.args.col (context_of c.args.context) c.requires.block (props_of c.args.outer) _ _ _ c.args.line.column _ c.requires.above c.requires.comments line.stuck line.spaces line.all
+    c.in-None.ensures.none c.if-line-col.true
+
+pub read_under-returns-else-line-sequence_column-clause-decides : goal.read_under-returns-else-line-sequence_column-clause-decides
+read_under-returns-else-line-sequence_column-clause-decides t c =
+    let s = c.args.source.now in
+    let cs = text_of s in
+    let h = handles_of c.args.handles in
+    let x = context_of c.args.context in
+    let k = c.args.line.column in
+    let line = c.requires.line in
+    decides_rest (node_rest cs (Unit {0}) h c.args.room c.args.col x None) (AfterNode cs c.args.col x) (place_of s c.args.from) (sequence_with cs (Unit {0}) h (props_of c.args.outer) c.args.room k) (AfterSequence cs k) (place_of s c.args.line.first)
+    Here (λ line. place_of s line.start) c.read_sequence.result
+    (under_dash cs h c.args.room c.args.col x c.requires.block (props_of c.args.outer) _ _ _ k _ c.requires.above c.requires.comments line.stuck line.spaces line.all (dash_here s _ _ c.in-Some.ensures.some)
+    (subst (λ n. n ≤ k) c.sequence_column.ensures c.if-line-sequence_column.false)) c.read_sequence.ensures.decides
+
+pub read_under-returns-else-line-col-clause-decides : goal.read_under-returns-else-line-col-clause-decides
+read_under-returns-else-line-col-clause-decides t c =
+    let s = c.args.source.now in
+    let cs = text_of s in
+    let h = handles_of c.args.handles in
+    let x = context_of c.args.context in
+    subst (λ o. Decides (node_rest cs (Unit {0}) h c.args.room c.args.col x o) (AfterNode cs c.args.col x) (place_of s c.args.from) Here (λ line. place_of s line.start) c.read_node.result)
+    (marked_column cs (Unit {0}) h c.args.col _ _ (props_of c.args.outer) (Some c.args.line.column) c.requires.marks) c.read_node.ensures.decides
+
+-- ---- sequences
+
+pub read_sequence-read_indented-requires : goal.read_sequence-read_indented-requires
+read_sequence-read_indented-requires t c = (
+  omega (arith, c.if-room-eq0.false),
+  (c.requires.dash.dash.border, (omega (arith, c.requires.low, c.requires.dash.dash.forward), dash_inside c.args.source.now _ _ c.requires.dash)),
+)
+
+pub read_sequence-returns-in_err-line-clause-decides : goal.read_sequence-returns-in_err-line-clause-decides
+read_sequence-returns-in_err-line-clause-decides t c =
+    let s = c.args.source.now in
+    let cs = text_of s in
+    let h = handles_of c.args.handles in
+    let k = c.args.column in
+    let p = props_of c.args.properties in
+    decides_err (sequence_with cs (Unit {0}) h p c.args.room k) (AfterSequence cs k) (place_of s c.args.at) Here (λ line. place_of s line.start) c.from_residual-in_err-line.result _ c.from_residual-in_err-line.ensures.1
+    (or_else (seq_no_first cs h (c.args.room - 1) k c.args.room p _ _ (omega (arith, c.if-room-eq0.false)) c.requires.dash.dash.next) c.in_err-line.ensures.decides)
+
+pub read_sequence-next_dash-requires-clause-after : goal.read_sequence-next_dash-requires-clause-after
+read_sequence-next_dash-requires-clause-after t c = c.entries.invariant.after
+
+pub read_sequence-returns-in_err-next_dash-clause-decides : goal.read_sequence-returns-in_err-next_dash-clause-decides
+read_sequence-returns-in_err-next_dash-clause-decides t c =
+    let s = c.args.source.now in
+    let cs = text_of s in
+    let h = handles_of c.args.handles in
+    let k = c.args.column in
+    let v = c.entries.invariant in
+    decides_err (sequence_with cs (Unit {0}) h (props_of c.args.properties) c.args.room k) (AfterSequence cs k) (place_of s c.args.at) Here (λ line. place_of s line.start) c.from_residual-in_err-next_dash.result _ c.from_residual-in_err-next_dash.ensures.1
+    (inr (rest_refused v.rest (seq_further s h (c.args.room - 1) c.entries.line k v.line c.in_err-next_dash.ensures.further)))
+
+pub read_sequence-returns-in-None-clause-after : goal.read_sequence-returns-in-None-clause-after
+read_sequence-returns-in-None-clause-after t c = c.entries.invariant.after
+
+pub read_sequence-returns-in-None-clause-decides : goal.read_sequence-returns-in-None-clause-decides
+read_sequence-returns-in-None-clause-decides t c =
+    let s = c.args.source.now in
+    let cs = text_of s in
+    let k = c.args.column in
+    let v = c.entries.invariant in
+    let none = none_is (Dash cs k (place_of s c.entries.line.start) → ⊥) c.in_ok-next_dash.field-0 c.in-None.is c.in_ok-next_dash.ensures.none in
+    rest_goes v.rest (seq_done cs (handles_of c.args.handles) (c.args.room - 1) k _ v.line.stuck none)
+
+pub read_sequence-read_indented-requires-in-Some : goal.read_sequence-read_indented-requires-in-Some
+read_sequence-read_indented-requires-in-Some t c =
+    let s = c.args.source.now in
+    let v = c.entries.invariant in
+    let d = found_is (IsDash s c.entries.line.first) c.in_ok-next_dash.field-0 c.in-Some.after c.in-Some.is c.in_ok-next_dash.ensures.dash in (
+      omega (arith, c.if-room-eq0.false),
+      (d.dash.border, (omega (arith, c.requires.low, v.onward, v.line.wide, d.dash.forward), dash_inside s _ _ d)),
+    )
+
+pub read_sequence-returns-in_err-line-in-Some-clause-decides : goal.read_sequence-returns-in_err-line-in-Some-clause-decides
+read_sequence-returns-in_err-line-in-Some-clause-decides t c =
+    let s = c.args.source.now in
+    let cs = text_of s in
+    let h = handles_of c.args.handles in
+    let k = c.args.column in
+    let v = c.entries.invariant in
+    let r = c.args.room - 1 in
+    let d = found_is (IsDash s c.entries.line.first) c.in_ok-next_dash.field-0 c.in-Some.after c.in-Some.is c.in_ok-next_dash.ensures.dash in
+    let e = found_is (λ x. c.entries.line.column ≡ k) c.in_ok-next_dash.field-0 c.in-Some.after c.in-Some.is c.in_ok-next_dash.ensures.column in
+    decides_err (sequence_with cs (Unit {0}) h (props_of c.args.properties) c.args.room k) (AfterSequence cs k) (place_of s c.args.at) Here (λ line. place_of s line.start) c.from_residual-in_err-line-in-Some.result _ c.from_residual-in_err-line-in-Some.ensures.1
+    (or_else (λ n. rest_refused v.rest (seq_no_more cs h r k _ _ _ (same_line s h r c.entries.line k v.line e) (dash_here s c.entries.line.first c.in-Some.after d) d.dash.next n)) c.in_err-line-in-Some.ensures.decides)
+
+-- ---- mappings
+
+pub read_entries-returns-in_err-line-clause-decides : goal.read_entries-returns-in_err-line-clause-decides
+read_entries-returns-in_err-line-clause-decides t c =
+    let s = c.args.source.now in
+    let cs = text_of s in
+    let h = handles_of c.args.handles in
+    let k = c.args.column in
+    decides_err (entries_rest cs (Unit {0}) h c.args.room k) (AfterMapping cs k) (place_of s c.args.after) Here (λ line. place_of s line.start) c.from_residual.result _ c.from_residual.ensures.1
+    (or_else (map_no_first cs h c.args.room k _) c.in_err-line.ensures.decides)
+
+pub read_entries-goes_on-requires-clause-after : goal.read_entries-goes_on-requires-clause-after
+read_entries-goes_on-requires-clause-after t c = c.entries.invariant.after
+
+pub read_entries-returns-in_err-goes_on-clause-decides : goal.read_entries-returns-in_err-goes_on-clause-decides
+read_entries-returns-in_err-goes_on-clause-decides t c =
+    let s = c.args.source.now in
+    let cs = text_of s in
+    let h = handles_of c.args.handles in
+    let k = c.args.column in
+    let v = c.entries.invariant in
+    decides_err (entries_rest cs (Unit {0}) h c.args.room k) (AfterMapping cs k) (place_of s c.args.after) Here (λ line. place_of s line.start) c.from_residual-in_err-goes_on.result _ c.from_residual-in_err-goes_on.ensures.1
+    (inr (rest_refused v.rest (map_further s h c.args.room c.entries.line k v.line c.in_err-goes_on.ensures.further)))
+
+pub read_entries-returns-then-not-branch-clause-after : goal.read_entries-returns-then-not-branch-clause-after
+read_entries-returns-then-not-branch-clause-after t c = c.entries.invariant.after
+
+pub read_entries-returns-then-not-branch-clause-decides : goal.read_entries-returns-then-not-branch-clause-decides
+read_entries-returns-then-not-branch-clause-decides t c =
+    let s = c.args.source.now in
+    let v = c.entries.invariant in
+    rest_goes v.rest (map_done (text_of s) (handles_of c.args.handles) c.args.room c.args.column _ v.line.stuck (on_false_at c.in_ok-goes_on.field-0 c.if-not-branch.true c.in_ok-goes_on.ensures.over))
+
+pub read_entries-returns-in_err-colon-clause-decides : goal.read_entries-returns-in_err-colon-clause-decides
+read_entries-returns-in_err-colon-clause-decides t c =
+    let s = c.args.source.now in
+    let cs = text_of s in
+    let h = handles_of c.args.handles in
+    let k = c.args.column in
+    let v = c.entries.invariant in
+    let e = on_true_at c.in_ok-goes_on.field-0 c.if-not-branch.false c.in_ok-goes_on.ensures.next in
+    let some = on_true_at c.in_ok-goes_on.field-0 c.if-not-branch.false c.in_ok-goes_on.ensures.content in
+    decides_err (entries_rest cs (Unit {0}) h c.args.room k) (AfterMapping cs k) (place_of s c.args.after) Here (λ line. place_of s line.start) c.from_residual-in_err-colon.result _ c.from_residual-in_err-colon.ensures.1
+    (or_else (λ n. rest_refused v.rest (map_no_key cs h c.args.room k _ _ (same_line s h c.args.room c.entries.line k v.line e) v.line.stuck (not_less s h c.args.room c.entries.line k v.line e some.0 some.1) n)) c.in_err-colon.ensures.decides)
+
+pub read_entries-read_value-requires-in-entries : goal.read_entries-read_value-requires-in-entries
+read_entries-read_value-requires-in-entries t c =
+    let s = c.args.source.now in
+    let v = c.entries.invariant in
+    let k = c.in_ok-colon.ensures.reads in
+    let colon = k.2 in (
+      omega arith,
+      (
+        c.in_ok-colon.ensures.border,
+        (
+          omega (arith, c.requires.low, v.onward, v.line.wide, c.in_ok-colon.ensures.onward),
+          (tt, inl (colon_inside (text_of s) colon.0 _ colon.2.0 colon.2.1)),
+        ),
+      ),
+    )
+
+pub read_entries-returns-in_err-line-2-clause-decides : goal.read_entries-returns-in_err-line-2-clause-decides
+read_entries-returns-in_err-line-2-clause-decides t c =
+    let s = c.args.source.now in
+    let cs = text_of s in
+    let h = handles_of c.args.handles in
+    let k = c.args.column in
+    let v = c.entries.invariant in
+    let e = on_true_at c.in_ok-goes_on.field-0 c.if-not-branch.false c.in_ok-goes_on.ensures.next in
+    let some = on_true_at c.in_ok-goes_on.field-0 c.if-not-branch.false c.in_ok-goes_on.ensures.content in
+    decides_err (entries_rest cs (Unit {0}) h c.args.room k) (AfterMapping cs k) (place_of s c.args.after) Here (λ line. place_of s line.start) c.from_residual-in_err-line-2.result _ c.from_residual-in_err-line-2.ensures.1
+    (or_else (λ n. rest_refused v.rest (map_no_value cs h c.args.room k _ _ _ (same_line s h c.args.room c.entries.line k v.line e) v.line.stuck (not_less s h c.args.room c.entries.line k v.line e some.0 some.1) c.in_ok-colon.ensures.decides n)) c.in_err-line-2.ensures.decides)
+
+-- ---- nodes
+
+pub read_node-returns-in_err-own-clause-decides : goal.read_node-returns-in_err-own-clause-decides
+read_node-returns-in_err-own-clause-decides t c =
+    let s = c.args.source.now in
+    let cs = text_of s in
+    let h = handles_of c.args.handles in
+    let x = context_of c.args.context in
+    let p = props_of c.args.outer in
+    decides_err (node_rest cs (Unit {0}) h c.args.room c.args.col x (column_of p c.args.column)) (AfterNode cs c.args.col x) (place_of s c.args.from) Here (λ line. place_of s line.start) c.from_residual.result _ c.from_residual.ensures.1
+    (or_else (barred cs h c.args.room c.args.col x c.requires.block c.args.column _ _ p c.requires.outer) c.in_err-own.ensures.barred)
+
+pub read_node-returns-then-clash-clause-decides : goal.read_node-returns-then-clash-clause-decides
+read_node-returns-then-clash-clause-decides t c =
+    let s = c.args.source.now in
+    let cs = text_of s in
+    let h = handles_of c.args.handles in
+    let q = props_of c.in_ok-own.own in
+    let some = on_false_at c.is_none.result c.if-is_none.false c.is_none.ensures.no in
+    inr (over_clash cs h c.args.room c.args.col (context_of c.args.context) c.requires.block c.args.column _ _ (props_of c.args.outer) _ _ q (places_up s _ _ c.requires.border c.in_ok-own.ensures.border c.in_ok-own.ensures.onward)
+    (own_marks cs h 0 block_key _ _ q c.in_ok-own.ensures.own some) c.in_ok-own.ensures.all c.in-Some.ensures.some c.requires.outer (on_true_at c.clash.result c.if-clash.true c.clash.ensures.yes))
+
+pub read_node-returns-else-clash-clause-decides : goal.read_node-returns-else-clash-clause-decides
+read_node-returns-else-clash-clause-decides t c =
+    let s = c.args.source.now in
+    let cs = text_of s in
+    let h = handles_of c.args.handles in
+    let x = context_of c.args.context in
+    let p = props_of c.args.outer in
+    let q = props_of c.in_ok-own.own in
+    let some = on_false_at c.is_none.result c.if-is_none.false c.is_none.ensures.no in
+    decides_rest (node_rest cs (Unit {0}) h c.args.room c.args.col x (column_of p c.args.column)) (AfterNode cs c.args.col x) (place_of s c.args.from) (node_rest cs (Unit {0}) h c.args.room c.args.col x None) (AfterNode cs c.args.col x) (place_of s c.args.from)
+    Here (λ line. place_of s line.start) c.read_under.result
+    (over_left cs h c.args.room c.args.col x c.requires.block c.args.column _ _ p _ _ q (places_up s _ _ c.requires.border c.in_ok-own.ensures.border c.in_ok-own.ensures.onward)
+    (own_marks cs h 0 block_key _ _ q c.in_ok-own.ensures.own some) c.in_ok-own.ensures.all c.in-Some.ensures.some c.requires.outer) c.read_under.ensures.decides
+
+pub read_dressed-read_keyed-requires : goal.read_dressed-read_keyed-requires
+read_dressed-read_keyed-requires t c = (
+  omega arith,
+  (
+    c.requires.border,
+    (
+      c.requires.end,
+      (
+        c.requires.start,
+        (
+          c.requires.order,
+          (
+            c.requires.own_order,
+            (
+              c.requires.low,
+              (c.requires.block, (c.requires.column, (c.requires.wide, (c.requires.outer, (c.requires.own, (c.requires.all, (c.requires.goes_on, c.in-None.ensures.none))))))),
+            ),
+          ),
+        ),
+      ),
+    ),
+  ),
+)
+
+pub read_dressed-returns-then-clash-clause-decides : goal.read_dressed-returns-then-clash-clause-decides
+read_dressed-returns-then-clash-clause-decides t c =
+    let s = c.args.source.now in
+    let cs = text_of s in
+    inr (signed_clash cs (handles_of c.args.handles) c.args.room c.args.col (context_of c.args.context) c.requires.block c.args.column _ _ (props_of c.args.outer) _ (props_of c.args.own) c.requires.all c.requires.goes_on c.requires.own _
+    c.requires.outer c.in-Some.ensures.follows (sign_of cs _ _ c.in-Some.ensures.sign) (on_true_at c.clash.result c.if-clash.true c.clash.ensures.yes))
+
+pub read_dressed-returns-in_err-line-in-Some-clause-decides : goal.read_dressed-returns-in_err-line-in-Some-clause-decides
+read_dressed-returns-in_err-line-in-Some-clause-decides t c =
+    let s = c.args.source.now in
+    let cs = text_of s in
+    let h = handles_of c.args.handles in
+    let x = context_of c.args.context in
+    let p = props_of c.args.outer in
+    let apart = on_false_at c.clash.result c.if-clash.false c.clash.ensures.no in
+    let left = signed cs h c.args.room c.args.col x c.requires.block c.args.column _ _ p _ (props_of c.args.own) c.requires.all c.requires.goes_on c.requires.own _ c.requires.outer c.in-Some.ensures.follows (sign_of cs _ _ c.in-Some.ensures.sign) apart in
+    decides_err (node_rest cs (Unit {0}) h c.args.room c.args.col x (column_of p c.args.column)) (AfterNode cs c.args.col x) (place_of s c.args.from) Here (λ line. place_of s line.start) c.from_residual.result _ c.from_residual.ensures.1
+    (or_else (scalar_none cs c.args.col x _ _ _ left.0 (props_of c.and-both.result) left.1) c.in_err-line-in-Some.ensures.decides)
+
+pub read_dressed-returns-in_ok-line-in-Some-clause-decides : goal.read_dressed-returns-in_ok-line-in-Some-clause-decides
+read_dressed-returns-in_ok-line-in-Some-clause-decides t c =
+    let s = c.args.source.now in
+    let cs = text_of s in
+    let h = handles_of c.args.handles in
+    let x = context_of c.args.context in
+    let p = props_of c.args.outer in
+    let apart = on_false_at c.clash.result c.if-clash.false c.clash.ensures.no in
+    let left = signed cs h c.args.room c.args.col x c.requires.block c.args.column _ _ p _ (props_of c.args.own) c.requires.all c.requires.goes_on c.requires.own _ c.requires.outer c.in-Some.ensures.follows (sign_of cs _ _ c.in-Some.ensures.sign) apart in
+    scalar_done cs c.args.col x _ _ _ left.0 (props_of c.and-both.result) left.1 _ c.in_ok-line-in-Some.ensures.decides
+
+-- ---- keys and flow nodes
+
+pub read_keyed-read_bare-requires-clause-all : goal.read_keyed-read_bare-requires-clause-all
+read_keyed-read_bare-requires-clause-all t c = line_all (text_of c.args.source.now) (handles_of c.args.handles) c.args.col flow_out _ _ _ c.requires.goes_on c.requires.all
+
+pub read_keyed-fit_key-requires-clause-own : goal.read_keyed-fit_key-requires-clause-own
+read_keyed-fit_key-requires-clause-own t c = line_own (text_of c.args.source.now) (handles_of c.args.handles) c.args.col _ _ _ c.requires.own
+
+pub read_keyed-fit_key-requires-clause-all : goal.read_keyed-fit_key-requires-clause-all
+read_keyed-fit_key-requires-clause-all t c = line_all (text_of c.args.source.now) (handles_of c.args.handles) c.args.col flow_out _ _ _ c.requires.goes_on c.requires.all
+
+pub read_keyed-returns-in_err-node-clause-decides : goal.read_keyed-returns-in_err-node-clause-decides
+read_keyed-returns-in_err-node-clause-decides t c =
+    let s = c.args.source.now in
+    let cs = text_of s in
+    let h = handles_of c.args.handles in
+    let x = context_of c.args.context in
+    let p = props_of c.args.outer in
+    let whole = kept cs h c.args.room c.args.col x c.requires.block c.args.column _ _ p _ (props_of c.args.own) c.requires.all c.requires.goes_on c.requires.own c.requires.outer c.requires.no_scalar in
+    decides_err (node_rest cs (Unit {0}) h c.args.room c.args.col x (column_of p c.args.column)) (AfterNode cs c.args.col x) (place_of s c.args.from) Here (λ line. place_of s line.start) c.from_residual.result _ c.from_residual.ensures.1
+    (or_else (λ n. rest_refused whole (kept_refused cs h c.args.room c.args.col x c.requires.block _ p c.args.column n)) c.in_err-node.ensures.decides)
+
+pub read_keyed-returns-in_err-first_colon-clause-decides : goal.read_keyed-returns-in_err-first_colon-clause-decides
+read_keyed-returns-in_err-first_colon-clause-decides t c =
+    let s = c.args.source.now in
+    let cs = text_of s in
+    let h = handles_of c.args.handles in
+    let x = context_of c.args.context in
+    let p = props_of c.args.outer in
+    let q = props_of c.args.own in
+    let k = c.in_ok-node.ensures.reads in
+    let node = c.in_ok-node.node in
+    let flow = bare_flow cs (Unit {0}) h node.deep node.kind c.args.col flow_out q _ _ _ k.0 k.2 in
+    let inside = end_inside cs h c.args.room c.args.col x c.requires.block node.kind node.deep _ _ (dressed q k.0) flow c.in_ok-node.ensures.within in
+    let whole = kept cs h c.args.room c.args.col x c.requires.block c.args.column _ _ p _ q c.requires.all c.requires.goes_on c.requires.own c.requires.outer c.requires.no_scalar in
+    let long = c.in_err-first_colon.ensures.long in
+    decides_err (node_rest cs (Unit {0}) h c.args.room c.args.col x (column_of p c.args.column)) (AfterNode cs c.args.col x) (place_of s c.args.from) Here (λ line. place_of s line.start) c.from_residual-in_err-first_colon.result _ c.from_residual-in_err-first_colon.ensures.1
+    (inr (rest_refused whole (kept_neither cs h c.args.room c.args.col x c.requires.block _ _ node.kind c.in_ok-node.ensures.decides p c.args.column inside long.0 long.1)))
+
+pub read_keyed-returns-in_err-line-in-None-clause-decides : goal.read_keyed-returns-in_err-line-in-None-clause-decides
+read_keyed-returns-in_err-line-in-None-clause-decides t c =
+    let s = c.args.source.now in
+    let cs = text_of s in
+    let h = handles_of c.args.handles in
+    let x = context_of c.args.context in
+    let p = props_of c.args.outer in
+    let q = props_of c.args.own in
+    let node = c.in_ok-node.node in
+    let no_key = none_is ((c.args.column ≡ None) ⊎ IsNoKey cs (place_of s c.args.at) (place_of s node.end)) c.in_ok-first_colon.field-0 c.in-None.is c.in_ok-first_colon.ensures.none in
+    decides_err (node_rest cs (Unit {0}) h c.args.room c.args.col x (column_of p c.args.column)) (AfterNode cs c.args.col x) (place_of s c.args.from) Here (λ line. place_of s line.start) c.from_residual-in_err-line-in-None.result _ c.from_residual-in_err-line-in-None.ensures.1
+    (inr (unfit_none cs h c.args.room c.args.col x c.requires.block c.args.column _ _ p _ q c.requires.all c.requires.goes_on c.requires.own c.requires.outer c.requires.no_scalar _ node.kind c.in_ok-node.ensures.decides no_key c.in_err-line-in-None.ensures.unfit))
+
+pub read_keyed-returns-in_ok-line-in-None-clause-decides : goal.read_keyed-returns-in_ok-line-in-None-clause-decides
+read_keyed-returns-in_ok-line-in-None-clause-decides t c =
+    let s = c.args.source.now in
+    let cs = text_of s in
+    let h = handles_of c.args.handles in
+    let x = context_of c.args.context in
+    let p = props_of c.args.outer in
+    let n = c.in_ok-line-in-None.ensures in
+    let node = c.in_ok-node.node in
+    let no_key = none_is ((c.args.column ≡ None) ⊎ IsNoKey cs (place_of s c.args.at) (place_of s node.end)) c.in_ok-first_colon.field-0 c.in-None.is c.in_ok-first_colon.ensures.none in
+    let whole = kept cs h c.args.room c.args.col x c.requires.block c.args.column _ _ p _ (props_of c.args.own) c.requires.all c.requires.goes_on c.requires.own c.requires.outer c.requires.no_scalar in
+    rest_goes whole (kept_line cs h c.args.room c.args.col x c.requires.block _ _ node.kind c.in_ok-node.ensures.decides p c.args.column _ no_key n.comments n.line.stuck)
+
+pub read_keyed-overflow_sub-room : goal.read_keyed-overflow_sub-room
+read_keyed-overflow_sub-room t c =
+    let k = c.in_ok-node.ensures.reads in
+    let length_is : c.len-start.result ≡ length c.args.out.now.items = omega (arith, c.len-start.ensures, c.args.out.now.ok.0) in
+    let fit = c.in_ok-fit_key-in-Some.ensures.reads c.args.out.now.items k.0 length_is k.1 k.2 in
+    omega (arith, fit.3)
+
+pub read_keyed-returns-in_err-fit_key-in-Some-clause-decides : goal.read_keyed-returns-in_err-fit_key-in-Some-clause-decides
+read_keyed-returns-in_err-fit_key-in-Some-clause-decides t c =
+    let s = c.args.source.now in
+    let cs = text_of s in
+    let h = handles_of c.args.handles in
+    let x = context_of c.args.context in
+    let p = props_of c.args.outer in
+    let q = props_of c.args.own in
+    let k = c.in_ok-node.ensures.reads in
+    let node = c.in_ok-node.node in
+    let flow = bare_flow cs (Unit {0}) h node.deep node.kind c.args.col flow_out q _ _ _ k.0 k.2 in
+    let inside = end_inside cs h c.args.room c.args.col x c.requires.block node.kind node.deep _ _ (dressed q k.0) flow c.in_ok-node.ensures.within in
+    let whole = kept cs h c.args.room c.args.col x c.requires.block c.args.column _ _ p _ q c.requires.all c.requires.goes_on c.requires.own c.requires.outer c.requires.no_scalar in
+    let colon = found_is (λ z. ColonAfter cs (place_of s c.args.at) (place_of s node.end) (place_of s z.1)) c.in_ok-first_colon.field-0 _ c.in-Some.is c.in_ok-first_colon.ensures.colon in
+    decides_err (node_rest cs (Unit {0}) h c.args.room c.args.col x (column_of p c.args.column)) (AfterNode cs c.args.col x) (place_of s c.args.from) Here (λ line. place_of s line.start) c.from_residual-in_err-fit_key-in-Some.result _ c.from_residual-in_err-fit_key-in-Some.ensures.1
+    (or_else (λ n. rest_refused (rest_rest whole (kept_keyed cs h c.args.room c.args.col x c.requires.block _ _ node.kind c.in_ok-node.ensures.decides p c.args.column inside (colon_stands cs _ _ _ colon)))
+    (keyed_none_below cs h c.args.room c.args.col x c.requires.block p c.args.column _ (AfterNode cs c.args.col x) n)) c.in_err-fit_key-in-Some.ensures.decides)
+
+pub read_keyed-read_entries-requires : goal.read_keyed-read_entries-requires
+read_keyed-read_entries-requires t c =
+    let s = c.args.source.now in
+    let cs = text_of s in
+    let k = c.in_ok-node.ensures.reads in
+    let node = c.in_ok-node.node in
+    let length_is : c.len-start.result ≡ length c.args.out.now.items = omega (arith, c.len-start.ensures, c.args.out.now.ok.0) in
+    let fit = c.in_ok-fit_key-in-Some.ensures.reads c.args.out.now.items k.0 length_is k.1 k.2 in
+    let column = found_is (λ z. c.args.column ≡ Some z.0) c.in_ok-first_colon.field-0 _ c.in-Some.is c.in_ok-first_colon.ensures.some in
+    let border = found_is (λ z. IsBorder s z.1) c.in_ok-first_colon.field-0 _ c.in-Some.is c.in_ok-first_colon.ensures.border in
+    let further = found_is (λ z. node.end < z.1) c.in_ok-first_colon.field-0 _ c.in-Some.is c.in_ok-first_colon.ensures.further in
+    let colon = found_is (λ z. ColonAfter cs (place_of s c.args.at) (place_of s node.end) (place_of s z.1)) c.in_ok-first_colon.field-0 _ c.in-Some.is c.in_ok-first_colon.ensures.colon in
+    let low = MatchOption-at_some (Unit {0}) (λ k. k ≤ c.args.at) _ column c.requires.column in (
+      omega (arith, fit.3),
+      (border, (omega (arith, low, further, c.in_ok-node.ensures.onward), colon_after_inside cs _ _ _ colon)),
+    )
+
+pub read_keyed-returns-in_err-line-in-Some-clause-decides : goal.read_keyed-returns-in_err-line-in-Some-clause-decides
+read_keyed-returns-in_err-line-in-Some-clause-decides t c =
+    let s = c.args.source.now in
+    let cs = text_of s in
+    let h = handles_of c.args.handles in
+    let x = context_of c.args.context in
+    let p = props_of c.args.outer in
+    let q = props_of c.args.own in
+    let k = c.in_ok-node.ensures.reads in
+    let node = c.in_ok-node.node in
+    let length_is : c.len-start.result ≡ length c.args.out.now.items = omega (arith, c.len-start.ensures, c.args.out.now.ok.0) in
+    let fit = c.in_ok-fit_key-in-Some.ensures.reads c.args.out.now.items k.0 length_is k.1 k.2 in
+    let flow = bare_flow cs (Unit {0}) h node.deep node.kind c.args.col flow_out q _ _ _ k.0 k.2 in
+    let column = found_is (λ z. c.args.column ≡ Some z.0) c.in_ok-first_colon.field-0 _ c.in-Some.is c.in_ok-first_colon.ensures.some in
+    let colon = found_is (λ z. ColonAfter cs (place_of s c.args.at) (place_of s node.end) (place_of s z.1)) c.in_ok-first_colon.field-0 _ c.in-Some.is c.in_ok-first_colon.ensures.colon in
+    let wide = MatchOption-at_some (Unit {0}) (λ k. c.args.col ≤ k) _ column c.requires.wide in
+    let rest = mapping_left cs h (c.args.room - 1) c.args.room c.args.col x c.requires.block c.args.column _ _ p _ q c.requires.all c.requires.goes_on c.requires.own c.requires.outer c.requires.no_scalar _ node.kind node.deep (dressed q k.0) flow c.in_ok-node.ensures.within
+        c.in_ok-node.ensures.decides (omega (arith, fit.3)) _ _ column wide colon in
+    decides_err (node_rest cs (Unit {0}) h c.args.room c.args.col x (column_of p c.args.column)) (AfterNode cs c.args.col x) (place_of s c.args.from) Here (λ line. place_of s line.start) c.from_residual-in_err-line-in-Some.result _ c.from_residual-in_err-line-in-Some.ensures.1
+    (or_else (rest_refused rest) c.in_err-line-in-Some.ensures.decides)
+
+pub read_keyed-returns-in_ok-push-in-Some-clause-decides : goal.read_keyed-returns-in_ok-push-in-Some-clause-decides
+read_keyed-returns-in_ok-push-in-Some-clause-decides t c =
+    let s = c.args.source.now in
+    let cs = text_of s in
+    let h = handles_of c.args.handles in
+    let x = context_of c.args.context in
+    let p = props_of c.args.outer in
+    let q = props_of c.args.own in
+    let k = c.in_ok-node.ensures.reads in
+    let node = c.in_ok-node.node in
+    let length_is : c.len-start.result ≡ length c.args.out.now.items = omega (arith, c.len-start.ensures, c.args.out.now.ok.0) in
+    let fit = c.in_ok-fit_key-in-Some.ensures.reads c.args.out.now.items k.0 length_is k.1 k.2 in
+    let flow = bare_flow cs (Unit {0}) h node.deep node.kind c.args.col flow_out q _ _ _ k.0 k.2 in
+    let column = found_is (λ z. c.args.column ≡ Some z.0) c.in_ok-first_colon.field-0 _ c.in-Some.is c.in_ok-first_colon.ensures.some in
+    let colon = found_is (λ z. ColonAfter cs (place_of s c.args.at) (place_of s node.end) (place_of s z.1)) c.in_ok-first_colon.field-0 _ c.in-Some.is c.in_ok-first_colon.ensures.colon in
+    let wide = MatchOption-at_some (Unit {0}) (λ k. c.args.col ≤ k) _ column c.requires.wide in
+    rest_goes (mapping_left cs h (c.args.room - 1) c.args.room c.args.col x c.requires.block c.args.column _ _ p _ q c.requires.all c.requires.goes_on c.requires.own c.requires.outer c.requires.no_scalar _ node.kind node.deep (dressed q k.0) flow c.in_ok-node.ensures.within
+    c.in_ok-node.ensures.decides (omega (arith, fit.3)) _ _ column wide colon) c.in_ok-line-in-Some.ensures.decides

@@ -6,7 +6,13 @@ use Rattle.yaml_text.specs.grammar.Events.{seq_start}
 use Rattle.yaml_mark.specs.HandlesModel.{handles_of}
 use Rattle.yaml_flow.specs.Lines.{IsLine}
 use Rattle.yaml_flow.specs.PropertyRules.{props_of}
-use Rattle.yaml_block.specs.BlockRules.{entries_rest, seq_body}
+use Rattle.yaml_text.specs.Lines.{AfterLine}
+use Rattle.yaml_text.specs.grammar.Rules.{◌▸◌, any}
+use Rattle.yaml_text.specs.grammar.Separation.{indent}
+use Rattle.yaml_complete.specs.Decisions.{Rest}
+use Rattle.yaml_block.specs.BlockEnds.{AfterSequence, AfterMapping}
+use Rattle.yaml_block.specs.BlockRules.{entries_rest, sequence_with, seq_body}
+use Rattle.yaml_block.proofs.BlockLemmas.{seq_entry_at, map_entry_at}
 use Rattle.yaml_block.specs.OuterRules.{left}
 use Rattle.yaml_block.proofs.block.+blocks.Given as goal
 
@@ -44,6 +50,9 @@ invariant-read_sequence-entries l =
       onward : l.at < l.line.start;
       reads : (es : List Event) × Adds l.fn.out.items (seq_start false (props_of l.fn.properties) ∷ es) l.out.items
           × seq_body (text_of l.source) (Unit {0}) (handles_of l.handles) (l.room - 1) l.column (place_of l.source l.at) (place_of l.source l.line.start) es;
+      after : AfterLine (text_of l.source) (place_of l.source l.line.start);
+      rest : Rest (sequence_with (text_of l.source) (Unit {0}) (handles_of l.handles) (props_of l.fn.properties) l.room l.column) (AfterSequence (text_of l.source) l.column) (place_of l.source l.at)
+          (any (indent (text_of l.source) l.column ▸ seq_entry_at (text_of l.source) (Unit {0}) (handles_of l.handles) (l.room - 1) l.column)) (AfterSequence (text_of l.source) l.column) (place_of l.source l.line.start);
     }
 
 abbrev pub decreases-read_sequence-entries : goal.decreases-read_sequence-entries
@@ -56,6 +65,9 @@ invariant-read_entries-entries l =
       onward : l.after ≤ l.line.start;
       reads : (es : List Event) × Adds l.fn.out.items es l.out.items
           × entries_rest (text_of l.source) (Unit {0}) (handles_of l.handles) l.room l.column (place_of l.source l.after) (place_of l.source l.line.start) es;
+      after : AfterLine (text_of l.source) (place_of l.source l.line.start);
+      rest : Rest (entries_rest (text_of l.source) (Unit {0}) (handles_of l.handles) l.room l.column) (AfterMapping (text_of l.source) l.column) (place_of l.source l.after)
+          (any (indent (text_of l.source) l.column ▸ map_entry_at (text_of l.source) (Unit {0}) (handles_of l.handles) l.room l.column)) (AfterMapping (text_of l.source) l.column) (place_of l.source l.line.start);
     }
 
 abbrev pub decreases-read_entries-entries : goal.decreases-read_entries-entries

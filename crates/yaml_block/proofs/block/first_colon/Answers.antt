@@ -1,4 +1,3 @@
-use Rattle.yaml_block.proofs.Passing.{matched}
 use Rattle.std.proofs.Common.{inr, arith}
 use Rattle.yaml_text.specs.Source.{text_of}
 use Rattle.yaml_text.proofs.LineRuns.{indent_run}
