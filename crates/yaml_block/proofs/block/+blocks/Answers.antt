@@ -957,7 +957,7 @@ read_keyed-returns-in_err-node-clause-decides t c =
     let p = props_of c.args.outer in
     let whole = kept cs h c.args.room c.args.col x c.requires.block c.args.column _ _ p _ (props_of c.args.own) c.requires.all c.requires.goes_on c.requires.own c.requires.outer c.requires.no_scalar in
     decides_err (node_rest cs (Unit {0}) h c.args.room c.args.col x (column_of p c.args.column)) (AfterNode cs c.args.col x) (place_of s c.args.from) Here (λ line. place_of s line.start) c.from_residual.result _ c.from_residual.ensures.1
-    (or_else (λ n. rest_refused whole (kept_refused cs h c.args.room c.args.col x c.requires.block _ p c.args.column n)) c.in_err-node.ensures.decides)
+    (or_else (λ n. rest_refused whole (kept_refused cs h c.args.room c.args.col x c.requires.block _ p c.args.column n)) (c.in_err-node.ensures.decides (λ _. c.requires.goes_on)))
 
 pub read_keyed-returns-in_err-first_colon-clause-decides : goal.read_keyed-returns-in_err-first_colon-clause-decides
 read_keyed-returns-in_err-first_colon-clause-decides t c =
@@ -974,7 +974,7 @@ read_keyed-returns-in_err-first_colon-clause-decides t c =
     let whole = kept cs h c.args.room c.args.col x c.requires.block c.args.column _ _ p _ q c.requires.all c.requires.goes_on c.requires.own c.requires.outer c.requires.no_scalar in
     let long = c.in_err-first_colon.ensures.long in
     decides_err (node_rest cs (Unit {0}) h c.args.room c.args.col x (column_of p c.args.column)) (AfterNode cs c.args.col x) (place_of s c.args.from) Here (λ line. place_of s line.start) c.from_residual-in_err-first_colon.result _ c.from_residual-in_err-first_colon.ensures.1
-    (inr (rest_refused whole (kept_neither cs h c.args.room c.args.col x c.requires.block _ _ node.kind c.in_ok-node.ensures.decides p c.args.column inside long.0 long.1)))
+    (inr (rest_refused whole (kept_neither cs h c.args.room c.args.col x c.requires.block _ _ node.kind (c.in_ok-node.ensures.decides (λ _. c.requires.goes_on)) p c.args.column inside long.0 long.1)))
 
 pub read_keyed-returns-in_err-line-in-None-clause-decides : goal.read_keyed-returns-in_err-line-in-None-clause-decides
 read_keyed-returns-in_err-line-in-None-clause-decides t c =
@@ -987,7 +987,7 @@ read_keyed-returns-in_err-line-in-None-clause-decides t c =
     let node = c.in_ok-node.node in
     let no_key = none_is ((c.args.column ≡ None) ⊎ IsNoKey cs (place_of s c.args.at) (place_of s node.end)) c.in_ok-first_colon.field-0 c.in-None.is c.in_ok-first_colon.ensures.none in
     decides_err (node_rest cs (Unit {0}) h c.args.room c.args.col x (column_of p c.args.column)) (AfterNode cs c.args.col x) (place_of s c.args.from) Here (λ line. place_of s line.start) c.from_residual-in_err-line-in-None.result _ c.from_residual-in_err-line-in-None.ensures.1
-    (inr (unfit_none cs h c.args.room c.args.col x c.requires.block c.args.column _ _ p _ q c.requires.all c.requires.goes_on c.requires.own c.requires.outer c.requires.no_scalar _ node.kind c.in_ok-node.ensures.decides no_key c.in_err-line-in-None.ensures.unfit))
+    (inr (unfit_none cs h c.args.room c.args.col x c.requires.block c.args.column _ _ p _ q c.requires.all c.requires.goes_on c.requires.own c.requires.outer c.requires.no_scalar _ node.kind (c.in_ok-node.ensures.decides (λ _. c.requires.goes_on)) no_key c.in_err-line-in-None.ensures.unfit))
 
 pub read_keyed-returns-in_ok-line-in-None-clause-decides : goal.read_keyed-returns-in_ok-line-in-None-clause-decides
 read_keyed-returns-in_ok-line-in-None-clause-decides t c =
@@ -1000,7 +1000,7 @@ read_keyed-returns-in_ok-line-in-None-clause-decides t c =
     let node = c.in_ok-node.node in
     let no_key = none_is ((c.args.column ≡ None) ⊎ IsNoKey cs (place_of s c.args.at) (place_of s node.end)) c.in_ok-first_colon.field-0 c.in-None.is c.in_ok-first_colon.ensures.none in
     let whole = kept cs h c.args.room c.args.col x c.requires.block c.args.column _ _ p _ (props_of c.args.own) c.requires.all c.requires.goes_on c.requires.own c.requires.outer c.requires.no_scalar in
-    rest_goes whole (kept_line cs h c.args.room c.args.col x c.requires.block _ _ node.kind c.in_ok-node.ensures.decides p c.args.column _ no_key n.comments n.line.stuck)
+    rest_goes whole (kept_line cs h c.args.room c.args.col x c.requires.block _ _ node.kind (c.in_ok-node.ensures.decides (λ _. c.requires.goes_on)) p c.args.column _ no_key n.comments n.line.stuck)
 
 pub read_keyed-overflow_sub-room : goal.read_keyed-overflow_sub-room
 read_keyed-overflow_sub-room t c =
@@ -1024,7 +1024,7 @@ read_keyed-returns-in_err-fit_key-in-Some-clause-decides t c =
     let whole = kept cs h c.args.room c.args.col x c.requires.block c.args.column _ _ p _ q c.requires.all c.requires.goes_on c.requires.own c.requires.outer c.requires.no_scalar in
     let colon = found_is (λ z. ColonAfter cs (place_of s c.args.at) (place_of s node.end) (place_of s z.1)) c.in_ok-first_colon.field-0 _ c.in-Some.is c.in_ok-first_colon.ensures.colon in
     decides_err (node_rest cs (Unit {0}) h c.args.room c.args.col x (column_of p c.args.column)) (AfterNode cs c.args.col x) (place_of s c.args.from) Here (λ line. place_of s line.start) c.from_residual-in_err-fit_key-in-Some.result _ c.from_residual-in_err-fit_key-in-Some.ensures.1
-    (or_else (λ n. rest_refused (rest_rest whole (kept_keyed cs h c.args.room c.args.col x c.requires.block _ _ node.kind c.in_ok-node.ensures.decides p c.args.column inside (colon_stands cs _ _ _ colon)))
+    (or_else (λ n. rest_refused (rest_rest whole (kept_keyed cs h c.args.room c.args.col x c.requires.block _ _ node.kind (c.in_ok-node.ensures.decides (λ _. c.requires.goes_on)) p c.args.column inside (colon_stands cs _ _ _ colon)))
     (keyed_none_below cs h c.args.room c.args.col x c.requires.block p c.args.column _ (AfterNode cs c.args.col x) n)) c.in_err-fit_key-in-Some.ensures.decides)
 
 pub read_keyed-read_entries-requires : goal.read_keyed-read_entries-requires
@@ -1061,7 +1061,7 @@ read_keyed-returns-in_err-line-in-Some-clause-decides t c =
     let colon = found_is (λ z. ColonAfter cs (place_of s c.args.at) (place_of s node.end) (place_of s z.1)) c.in_ok-first_colon.field-0 _ c.in-Some.is c.in_ok-first_colon.ensures.colon in
     let wide = MatchOption-at_some (Unit {0}) (λ k. c.args.col ≤ k) _ column c.requires.wide in
     let rest = mapping_left cs h (c.args.room - 1) c.args.room c.args.col x c.requires.block c.args.column _ _ p _ q c.requires.all c.requires.goes_on c.requires.own c.requires.outer c.requires.no_scalar _ node.kind node.deep (dressed q k.0) flow c.in_ok-node.ensures.within
-        c.in_ok-node.ensures.decides (omega (arith, fit.3)) _ _ column wide colon in
+        (c.in_ok-node.ensures.decides (λ _. c.requires.goes_on)) (omega (arith, fit.3)) _ _ column wide colon in
     decides_err (node_rest cs (Unit {0}) h c.args.room c.args.col x (column_of p c.args.column)) (AfterNode cs c.args.col x) (place_of s c.args.from) Here (λ line. place_of s line.start) c.from_residual-in_err-line-in-Some.result _ c.from_residual-in_err-line-in-Some.ensures.1
     (or_else (rest_refused rest) c.in_err-line-in-Some.ensures.decides)
 
@@ -1082,4 +1082,4 @@ read_keyed-returns-in_ok-push-in-Some-clause-decides t c =
     let colon = found_is (λ z. ColonAfter cs (place_of s c.args.at) (place_of s node.end) (place_of s z.1)) c.in_ok-first_colon.field-0 _ c.in-Some.is c.in_ok-first_colon.ensures.colon in
     let wide = MatchOption-at_some (Unit {0}) (λ k. c.args.col ≤ k) _ column c.requires.wide in
     rest_goes (mapping_left cs h (c.args.room - 1) c.args.room c.args.col x c.requires.block c.args.column _ _ p _ q c.requires.all c.requires.goes_on c.requires.own c.requires.outer c.requires.no_scalar _ node.kind node.deep (dressed q k.0) flow c.in_ok-node.ensures.within
-    c.in_ok-node.ensures.decides (omega (arith, fit.3)) _ _ column wide colon) c.in_ok-line-in-Some.ensures.decides
+    (c.in_ok-node.ensures.decides (λ _. c.requires.goes_on)) (omega (arith, fit.3)) _ _ column wide colon) c.in_ok-line-in-Some.ensures.decides

@@ -28,5 +28,5 @@ returns-else-again-key-clause-decides c =
     let e : c.args.room ≡ suc (c.args.room - 1) = omega (arith, c.if-room-eq0.false) in
     inr (subst (λ n. NoneBelow cs h n c.args.col i) (sym e)
     (none_below cs h (c.args.room - 1) c.args.col i _ _ c.args.key.kind c.in_ok-again.again.kind
-    (subst (λ n. IsOnly cs h n c.args.col flow_out i c.args.key.kind (place_of c.args.source.now c.args.key.end)) e c.requires.key) c.in_ok-again.ensures.decides
+    (subst (λ n. IsOnly cs h n c.args.col flow_out i c.args.key.kind (place_of c.args.source.now c.args.key.end)) e c.requires.key) (c.in_ok-again.ensures.decides (λ _. c.requires.goes_on))
     (λ z. let same : c.in_ok-again.again.end ≡ c.args.key.end = borders_same c.args.source.now _ _ c.in_ok-again.ensures.border c.requires.stop z in omega (arith, same, c.if-again-key.false))))

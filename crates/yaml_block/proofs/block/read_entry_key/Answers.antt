@@ -60,7 +60,7 @@ returns-in_err-key-clause-decides c =
     let cs = text_of s in
     let h = handles_of c.args.handles in
     decides_err (key_rest cs (Unit {0}) h c.args.room) (AfterColon cs) (place_of s c.args.at) Here (place_of s) c.from_residual-in_err-key.result _ c.from_residual-in_err-key.ensures.1
-    (or_else (key_no_node cs h c.args.room c.args.column _) c.in_err-key.ensures.decides)
+    (or_else (key_no_node cs h c.args.room c.args.column _) (c.in_err-key.ensures.decides (λ _. on_true_at c.line_goes_on.result c.if-not-line_goes_on.false c.line_goes_on.ensures.yes)))
 
 pub returns-in_err-first_colon-clause-decides : goal.returns-in_err-first_colon-clause-decides
 returns-in_err-first_colon-clause-decides c =
@@ -68,17 +68,17 @@ returns-in_err-first_colon-clause-decides c =
     let cs = text_of s in
     let h = handles_of c.args.handles in
     decides_err (key_rest cs (Unit {0}) h c.args.room) (AfterColon cs) (place_of s c.args.at) Here (place_of s) c.from_residual-in_err-first_colon.result _ c.from_residual-in_err-first_colon.ensures.1
-    (inr (key_none cs h c.args.room c.args.column _ _ c.in_ok-key.key.kind c.in_ok-key.ensures.decides c.in_err-first_colon.ensures.long.1))
+    (inr (key_none cs h c.args.room c.args.column _ _ c.in_ok-key.key.kind (c.in_ok-key.ensures.decides (λ _. on_true_at c.line_goes_on.result c.if-not-line_goes_on.false c.line_goes_on.ensures.yes)) c.in_err-first_colon.ensures.long.1))
 
 pub returns-in-None-clause-decides : goal.returns-in-None-clause-decides
 returns-in-None-clause-decides c =
     let cs = text_of c.args.source.now in
     let h = handles_of c.args.handles in
-    inr (key_none cs h c.args.room c.args.column _ _ c.in_ok-key.key.kind c.in_ok-key.ensures.decides
+    inr (key_none cs h c.args.room c.args.column _ _ c.in_ok-key.key.kind (c.in_ok-key.ensures.decides (λ _. on_true_at c.line_goes_on.result c.if-not-line_goes_on.false c.line_goes_on.ensures.yes))
     (is_some c.args.column (none_is ((Some c.args.column ≡ None) ⊎ IsNoKey cs (place_of c.args.source.now c.args.at) (place_of c.args.source.now c.in_ok-key.key.end)) c.in_ok-first_colon.field-0 c.in-None.is c.in_ok-first_colon.ensures.none)))
 
 pub returns-in-Some-clause-decides : goal.returns-in-Some-clause-decides
 returns-in-Some-clause-decides c =
     let cs = text_of c.args.source.now in
     let h = handles_of c.args.handles in
-    key_ends cs h c.args.room c.args.column _ _ _ c.in_ok-key.key.kind c.in_ok-key.ensures.decides (found_is (λ x. ColonAfter cs (place_of c.args.source.now c.args.at) (place_of c.args.source.now c.in_ok-key.key.end) (place_of c.args.source.now x.1)) c.in_ok-first_colon.field-0 _ c.in-Some.is c.in_ok-first_colon.ensures.colon)
+    key_ends cs h c.args.room c.args.column _ _ _ c.in_ok-key.key.kind (c.in_ok-key.ensures.decides (λ _. on_true_at c.line_goes_on.result c.if-not-line_goes_on.false c.line_goes_on.ensures.yes)) (found_is (λ x. ColonAfter cs (place_of c.args.source.now c.args.at) (place_of c.args.source.now c.in_ok-key.key.end) (place_of c.args.source.now x.1)) c.in_ok-first_colon.field-0 _ c.in-Some.is c.in_ok-first_colon.ensures.colon)
