@@ -1,5 +1,5 @@
 -- The exit status of each refusal.
-use Rattle.std.specs.Prelude.{ℕ}
+use Rattle.std.specs.Prelude.{ℕ, Result, Ok, Err}
 use Rattle.yaml_text.specs.declared.fault.Fault.{Fault}
 use Rattle.yaml_text.specs.declared.fault.Fault.TheVariants.{ReadFault, WriteFault}
 use Rattle.yaml_tool.specs.declared.refusal.Refusal.{Refusal}
@@ -18,3 +18,8 @@ refusal_status (Input fault) = fault_status fault
 refusal_status (OneSide side fault) = fault_status fault
 refusal_status (EventText fault) = fault_status fault
 refusal_status (EventLines fault) = 2
+
+-- the status of an answer
+abbrev pub told_status : Result ℕ Refusal → ℕ
+told_status (Ok status) = status
+told_status (Err refusal) = refusal_status refusal

@@ -5,6 +5,7 @@ ghost use Rattle.yaml_canon.specs.Writers.{Broken};
 ghost use Rattle.yaml_tool.specs.declared.words.Asked.{Asked};
 ghost use Rattle.yaml_tool.specs.Commands.{written_status, judged_status, Does, RefusesInput};
 ghost use Rattle.yaml_tool.specs.Judged.{Silent};
+ghost use Rattle.yaml_tool.specs.Statuses.{told_status};
 
 use crate::check::check;
 use crate::compare::compare;
@@ -93,7 +94,21 @@ fn run_words<'a, T: Files, R: Read, W: Write>(
     run(rt, alloc, asked, input, out)
 }
 
-/// The same, with the refusal, if there is one, as a line on `err` and as the status.
+/// The status of an answer. A refusal is told as a line.
+fn told<E: Write>(answer: Result<u8, Refusal<'_>>, err: &mut E) -> u8
+    ensures { result ≡ told_status answer.entry }
+{
+    match answer {
+        Ok(status) => status,
+        Err(refusal) => {
+            // Where standard error fails too, the status alone is left to tell it.
+            let _ = writeln!(err, "yaml: {refusal}");
+            refusal.status()
+        }
+    }
+}
+
+/// Does what the words ask, and answers the status.
 fn answer<T: Files, R: Read, W: Write, E: Write>(
     rt: &T,
     alloc: Global,
@@ -109,14 +124,8 @@ fn answer<T: Files, R: Read, W: Write, E: Write>(
     ensures refused { result ≡ 2 → out.new ≡ out.old }
     ensures unusable { result ≡ 3 → (out.new ≡ out.old) ⊎ ((text : List ℕ) × Broken W.contents out.old out.new text) }
 {
-    match run_words(rt, alloc, words, input, out) {
-        Ok(status) => status,
-        Err(refusal) => {
-            // Where standard error fails too, the status alone is left to tell it.
-            let _ = writeln!(err, "yaml: {refusal}");
-            refusal.status()
-        }
-    }
+    let answer = run_words(rt, alloc, words, input, out);
+    told(answer, err)
 }
 
 /// Runs the command that the words give, without the program's own name, and answers the exit
