@@ -1,14 +1,12 @@
 -- Keys: whether a flow node that was read is one, and whether it fits into its mapping.
-use Rattle.std.proofs.Common.{◌≡◌, ◌≢◌, ℕ, zero, suc, ◌+◌, ◌<◌, ◌≤◌, ◌⊎◌, inl, inr, List, [], ◌∷◌, ◌++◌, Some, None, length, map, take, refl, sym, ◌∙◌, ap, subst, arith}
-use Rattle.std.specs.Prelude.{slice_get}
+use Rattle.std.proofs.Common.{◌≡◌, ℕ, zero, suc, ◌+◌, ◌≤◌, inl, inr, List, [], ◌∷◌, ◌++◌, length, map, take, refl, sym, ◌∙◌, ap, subst, arith}
 use Rattle.std.proofs.Math.Seq.{take-append_seam}
 use Rattle.yaml_text.specs.Event.{Event}
 use Rattle.yaml_text.specs.EventModel.{event_of, Adds}
 use Rattle.yaml_text.specs.declared.event.Event as code
-use Rattle.yaml_text.specs.grammar.Rules.{Rule, ◌∪◌, run}
-use Rattle.yaml_text.specs.grammar.Characters.{is_space}
+use Rattle.yaml_text.specs.grammar.Rules.{Rule, ◌∪◌}
 use Rattle.yaml_text.specs.grammar.Separation.{flow_out, block_key, s_l_comments}
-use Rattle.yaml_text.specs.grammar.Tags.{Handles, properties}
+use Rattle.yaml_text.specs.grammar.Tags.{Handles}
 use Rattle.yaml_text.specs.grammar.Events.{Props}
 use Rattle.yaml_text.specs.grammar.Nodes.{yaml_part, json_part, reads}
 use Rattle.yaml_text.proofs.grammar.Forward.{fwd_reads}
@@ -25,10 +23,9 @@ use Rattle.yaml_complete.specs.Decisions.{Refused, Goes, Here}
 use Rattle.yaml_complete.proofs.KeyOrScalar.{key_goes, no_colon, no_node}
 use Rattle.yaml_complete.proofs.KeyChoices.{keys_refused}
 use Rattle.yaml_complete.proofs.BlockProperties.{no_key_over}
-use Rattle.yaml_complete.proofs.PropertyLines.{no_flow_barred, line_properties}
-use Rattle.yaml_flow.specs.Decisions.{Barred, IsOnly, IsRefused, IsTaken}
+use Rattle.yaml_complete.proofs.PropertyLines.{no_flow_barred}
+use Rattle.yaml_flow.specs.Decisions.{Barred, IsOnly, IsRefused}
 use Rattle.yaml_flow.specs.Keys.{ColonAfter}
-use Rattle.yaml_flow.specs.FlowRules.{part_of}
 use Rattle.yaml_flow.specs.PropertyRules.{Marks}
 use Rattle.yaml_flow.specs.declared.flow.Kind.{Kind}
 use Rattle.yaml_flow.specs.declared.flow.Kind.TheVariants.{Yaml, Json}

@@ -1,32 +1,30 @@
 -- A flow node that was read where a node of block level begins, and what follows properties on a line below, by the reader's rules.
-use Rattle.std.proofs.Common.{◌≡◌, ℕ, suc, ◌+◌, ◌<◌, ◌≤◌, ◌⊎◌, List, Option, Some, None, inl, inr, refl, sym, subst, arith}
-use Rattle.std.specs.Prelude.{slice_get}
+use Rattle.std.proofs.Common.{◌≡◌, ℕ, suc, ◌+◌, ◌<◌, ◌≤◌, ◌⊎◌, List, Option, Some, None, inl, inr, refl, sym, subst}
 use Rattle.yaml_text.specs.Event.{Event}
 use Rattle.yaml_text.specs.Lines.{Inside}
 use Rattle.yaml_text.specs.grammar.Rules.{Rule, ◌∪◌, ◌◂◌, Stands}
 use Rattle.yaml_text.specs.grammar.Characters.{is_space}
-use Rattle.yaml_text.specs.grammar.Separation.{Ctx, block_in, flow_out, indent, s_l_comments, AtEnd, Mark, StartsLine}
+use Rattle.yaml_text.specs.grammar.Separation.{Ctx, flow_out, indent, s_l_comments}
 use Rattle.yaml_text.specs.grammar.FlowScalars.{PlainFirst}
 use Rattle.yaml_text.specs.grammar.Tags.{Handles}
-use Rattle.yaml_text.specs.grammar.Events.{Props, no_props, empty}
-use Rattle.yaml_text.specs.grammar.Nodes.{yaml_part, json_part, block_part, flow_node, reads}
+use Rattle.yaml_text.specs.grammar.Events.{Props, empty}
+use Rattle.yaml_text.specs.grammar.Nodes.{yaml_part, json_part, flow_node, reads}
 use Rattle.yaml_unique.specs.Readings.{End, At}
-use Rattle.yaml_unique.specs.Follows.{Fresh, Stuck, Follow, Over, DashHere, KeyHere, F}
-use Rattle.yaml_unique.proofs.Lines.{less_more, less_stuck}
+use Rattle.yaml_unique.specs.Follows.{Fresh, Stuck, DashHere, KeyHere, F}
+use Rattle.yaml_unique.proofs.Lines.{less_more}
 use Rattle.yaml_unique.proofs.FlowNodes.{Kind as Begins, kind_fresh, prop_kind}
 use Rattle.yaml_unique.proofs.BlockNodes.{dash_no_kind, dash_no_plain}
 use Rattle.yaml_unique.proofs.BlockLevels.{flow_inside}
 use Rattle.yaml_unique.proofs.Properties.{PropHere, prop_solid}
 use Rattle.yaml_complete.specs.Decisions.{Refused, Goes, Rest, Here}
-use Rattle.yaml_complete.proofs.Decisions.{rest_rest, rest_goes, rest_refused, goes_within, refused_within, goes_until}
+use Rattle.yaml_complete.proofs.Decisions.{rest_rest, rest_goes, rest_refused, goes_within, refused_within}
 use Rattle.yaml_complete.proofs.BlockStarts.{ScalarOf, scalar_kind}
-use Rattle.yaml_complete.proofs.BlockProperties.{Under, Contents, contents_fresh}
+use Rattle.yaml_complete.proofs.BlockProperties.{Contents, contents_fresh}
 use Rattle.yaml_complete.proofs.PropertyChoices.{Second}
-use Rattle.yaml_complete.proofs.LineChoices as line
 use Rattle.yaml_complete.proofs.LineChoices.{LineRest, line_over, dash_short, line_short, dash_left}
 use Rattle.yaml_complete.proofs.BlockLines.{under_line}
-use Rattle.yaml_complete.proofs.BlockLoops.{SequenceFrom, MappingFrom}
-use Rattle.yaml_complete.proofs.KeyChoices.{NoKey, no_flow, no_flow_mapping, no_key_left, no_key_mapping, line_goes, line_not_over, neither, key_left, keyed_left}
+use Rattle.yaml_complete.proofs.BlockLoops.{MappingFrom}
+use Rattle.yaml_complete.proofs.KeyChoices.{NoKey, no_flow, no_key_left, no_key_mapping, line_goes, line_not_over, neither, key_left, keyed_left}
 use Rattle.yaml_flow.specs.Decisions.{IsOnly, IsRefused}
 use Rattle.yaml_flow.specs.FlowRules.{opens, below, flow_from, part_of}
 use Rattle.yaml_flow.specs.Keys.{ColonAfter}
@@ -34,8 +32,8 @@ use Rattle.yaml_flow.specs.Lines.{IsBlock}
 use Rattle.yaml_flow.specs.declared.flow.Kind.{Kind}
 use Rattle.yaml_flow.specs.declared.flow.Kind.TheVariants.{Yaml, Json}
 use Rattle.yaml_flow.proofs.FlowLemmas.{to_reads, from_reads}
-use Rattle.yaml_block.specs.BlockRules.{least_dash, node_rest, sequence_with, entries_rest, block_scalar_rest}
-use Rattle.yaml_block.specs.BlockEnds.{AfterNode, AfterSequence, AfterMapping, AfterScalar, ColonStands, IsNoKey}
+use Rattle.yaml_block.specs.BlockRules.{least_dash, node_rest, sequence_with, entries_rest}
+use Rattle.yaml_block.specs.BlockEnds.{AfterNode, AfterSequence, AfterMapping, ColonStands, IsNoKey}
 use Rattle.yaml_block.specs.OuterRules.{Above}
 use Rattle.yaml_block.proofs.Levels.{facts_at, eased_at, wider_at, forward_at, blocks_at}
 use Rattle.yaml_block.proofs.NodeForms.{least_column, dash_narrow, mapping_key, sequence_dash}

@@ -1,12 +1,11 @@
 -- The loops over the entries of block sequences and block mappings, by the reader's rules.
-use Rattle.std.proofs.Common.{◌≡◌, ℕ, zero, suc, ◌+◌, ◌-◌, ◌<◌, ◌≤◌, List, Some, refl, sym, subst, arith}
-use Rattle.std.specs.Prelude.{slice_get}
+use Rattle.std.proofs.Common.{◌≡◌, ℕ, suc, ◌+◌, ◌-◌, List, sym, subst, arith}
 use Rattle.yaml_text.specs.Event.{Event}
 use Rattle.yaml_text.specs.Source.{text_of, place_of}
 use Rattle.yaml_text.specs.declared.chars.Chars.{Chars}
 use Rattle.yaml_text.specs.Lines.{Inside}
 use Rattle.yaml_text.specs.grammar.Rules.{Rule, ◌▸◌, any, Stands}
-use Rattle.yaml_text.specs.grammar.Characters.{is_ns, is_space}
+use Rattle.yaml_text.specs.grammar.Characters.{is_ns}
 use Rattle.yaml_text.specs.grammar.Separation.{block_out, indent, AtEnd, Mark}
 use Rattle.yaml_text.specs.grammar.Tags.{Handles}
 use Rattle.yaml_text.specs.grammar.Events.{Props}
@@ -19,11 +18,11 @@ use Rattle.yaml_unique.proofs.KeyContexts.{reads_eased}
 use Rattle.yaml_unique.proofs.BlockLevels.{one_more, reads_blocks}
 use Rattle.yaml_complete.specs.Decisions.{Refused, Goes, Rest, Here}
 use Rattle.yaml_complete.proofs.Decisions.{goes_at, goes_until, refused_until}
-use Rattle.yaml_complete.proofs.BlockLoops.{Right, line_less, sequence_first, sequence_no_first, sequence_no_room, sequence_more, sequence_no_more, sequence_done, sequence_further, values_first, values_refused, mapping_more, mapping_no_more, mapping_no_value, mapping_done, mapping_further, Colon}
+use Rattle.yaml_complete.proofs.BlockLoops.{Right, line_less, sequence_first, sequence_no_first, sequence_more, sequence_no_more, sequence_done, sequence_further, values_first, values_refused, mapping_more, mapping_no_more, mapping_no_value, mapping_done, mapping_further, Colon}
 use Rattle.yaml_complete.proofs.KeyChoices.{value_starts, key_starts}
 use Rattle.yaml_flow.specs.Lines.{IsLine}
 use Rattle.yaml_flow.specs.declared.line.Line.{Line}
-use Rattle.yaml_block.specs.BlockEnds.{AfterNode, AfterEntry, AfterSequence, AfterMapping, AfterColon, NoneIn, IsFurther}
+use Rattle.yaml_block.specs.BlockEnds.{AfterNode, AfterEntry, AfterSequence, AfterMapping, AfterColon, IsFurther}
 use Rattle.yaml_block.specs.BlockRules.{value_rest, entry_rest, entries_rest, sequence_with, key_rest}
 use Rattle.yaml_block.proofs.BlockLemmas.{seq_entry_at, map_entry_at}
 

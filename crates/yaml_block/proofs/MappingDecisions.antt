@@ -1,5 +1,5 @@
 -- A flow node that was read where a node of block level begins: what is left where it is no key, and where a mapping begins with it.
-use Rattle.std.proofs.Common.{◌≡◌, ℕ, suc, ◌+◌, ◌≤◌, ◌⊎◌, List, Option, Some, None, inl, inr, sym, subst}
+use Rattle.std.proofs.Common.{◌≡◌, ℕ, suc, ◌≤◌, ◌⊎◌, List, Option, Some, None, inl, inr, sym, subst}
 use Rattle.yaml_text.specs.Event.{Event}
 use Rattle.yaml_text.specs.Lines.{Inside}
 use Rattle.yaml_text.specs.grammar.Separation.{Ctx, block_key, flow_out, s_l_comments}

@@ -4,34 +4,32 @@ use Rattle.std.specs.Prelude.{slice_get}
 use Rattle.std.proofs.lemmas.Bool.{cases_eq}
 use Rattle.yaml_text.specs.Event.{Event, WrittenTag, Anchor, untagged, non_specific, full}
 use Rattle.yaml_text.specs.Lines.{Inside}
-use Rattle.yaml_text.specs.grammar.Rules.{Rule, ◌∪◌, ◌◂◌, run, Stands}
+use Rattle.yaml_text.specs.grammar.Rules.{Rule, Stands}
 use Rattle.yaml_text.specs.grammar.Characters.{is_space}
 use Rattle.yaml_text.specs.grammar.Separation.{Ctx, block_key, flow_out, indent, separate, separate_lines, s_l_comments, AtEnd, Mark}
-use Rattle.yaml_text.specs.grammar.Tags.{Handles, properties}
-use Rattle.yaml_text.specs.grammar.Events.{Props, no_props, empty}
+use Rattle.yaml_text.specs.grammar.Tags.{Handles}
+use Rattle.yaml_text.specs.grammar.Events.{Props, no_props}
 use Rattle.yaml_text.proofs.LineRuns.{indent_run, indent_place}
 use Rattle.yaml_text.proofs.Runs.{same_char}
 use Rattle.yaml_unique.specs.Readings.{End}
-use Rattle.yaml_unique.specs.Follows.{Solid, Fresh, Stuck, Less, Follow, Over, DashHere, KeyHere}
-use Rattle.yaml_unique.proofs.Lines.{less_stuck}
-use Rattle.yaml_unique.proofs.BlockNodes.{dash_no_kind}
-use Rattle.yaml_unique.proofs.FlowNodes.{Kind, Sign, prop_kind, kind_fresh}
+use Rattle.yaml_unique.specs.Follows.{Stuck, Follow, DashHere}
+use Rattle.yaml_unique.proofs.FlowNodes.{Kind, Sign}
 use Rattle.yaml_unique.proofs.Properties.{PropHere, prop, prop_solid, both, props_two, props_here, props_inside}
 use Rattle.yaml_unique.proofs.TagEnds.{prop_same, prop_here, prop_inside}
-use Rattle.yaml_complete.specs.Decisions.{Refused, Goes, Rest, Here}
-use Rattle.yaml_complete.proofs.Decisions.{rest_rest, rest_goes, rest_refused, rest_left, rest_right, refused_either, goes_until}
+use Rattle.yaml_complete.specs.Decisions.{Refused, Rest}
+use Rattle.yaml_complete.proofs.Decisions.{rest_rest, rest_refused, refused_either}
 use Rattle.yaml_complete.proofs.Separations.{separate_on_next, separate_short}
 use Rattle.yaml_complete.proofs.PropertyChoices.{Second, no_second}
-use Rattle.yaml_complete.proofs.BlockLoops.{SequenceFrom, MappingFrom, line_less}
+use Rattle.yaml_complete.proofs.BlockLoops.{line_less}
 use Rattle.yaml_complete.proofs.BlockStarts.{ScalarOf}
-use Rattle.yaml_complete.proofs.BlockProperties.{Under, Contents}
+use Rattle.yaml_complete.proofs.BlockProperties.{Under}
 use Rattle.yaml_complete.proofs.PropertyLines.{Upper, one_line_above, two_lines_above, upper_left, upper_clash, upper_barred, no_forms_barred, no_mapping_barred}
 use Rattle.yaml_complete.proofs.OwnLines as own
 use Rattle.yaml_complete.proofs.OwnLines.{MappingIn, FlowOrKey, mapping_refused, flow_or_key, scalar_here, own_flow_or_key, own_scalar, no_mapping_in, above_flow_or_key, above_scalar, above_alias, both_flow_or_key, both_scalar, no_key_signed}
 use Rattle.yaml_flow.specs.Decisions.{AllProperties, Barred, IsProperty, LineGoesOn}
 use Rattle.yaml_flow.specs.FlowRules.{opens, below}
 use Rattle.yaml_flow.specs.Lines.{IsBlock}
-use Rattle.yaml_flow.specs.PropertyRules.{Marks, tag_alone, anchor_alone, Own, Apart, both_props}
+use Rattle.yaml_flow.specs.PropertyRules.{Marks, Apart, both_props}
 use Rattle.yaml_flow.proofs.PropertyLemmas.{marks_props, marks_some}
 use Rattle.yaml_flow.proofs.PropertyDecisions.{both_is, apart_kinds, barred_line}
 use Rattle.yaml_flow.proofs.SpaceLemmas.{lines_separate, flow_separate, block_separate}

@@ -1,5 +1,5 @@
 -- The reader's rules of block nodes are those forms of a node that the lemmas on one level speak of.
-use Rattle.std.proofs.Common.{◌≡◌, ℕ, ◌+◌, ◌-◌, ◌≤◌, ◌⊎◌, List, Option, Some, None, inl, inr, refl, sym, subst, arith}
+use Rattle.std.proofs.Common.{◌≡◌, ℕ, ◌+◌, ◌≤◌, ◌⊎◌, List, Option, Some, None, inl, inr, refl, sym, subst, arith}
 use Rattle.yaml_text.specs.Event.{Event}
 use Rattle.yaml_text.specs.grammar.Rules.{Rule, ◌▸◌, ◌∪◌}
 use Rattle.yaml_text.specs.grammar.Separation.{Ctx, block_in, block_out, flow_out, separate, separate_lines, s_l_comments}
@@ -8,10 +8,10 @@ use Rattle.yaml_text.specs.grammar.Events.{Props, no_props}
 use Rattle.yaml_text.specs.grammar.Nodes as nodes
 use Rattle.yaml_text.specs.grammar.Nodes.{yaml_part, json_part, seq_column}
 use Rattle.yaml_unique.specs.Readings.{End}
-use Rattle.yaml_unique.specs.Follows.{Over, Follow, DashHere, KeyHere}
+use Rattle.yaml_unique.specs.Follows.{DashHere, KeyHere}
 use Rattle.yaml_unique.proofs.FlowNodes.{Kind, kind_fresh}
 use Rattle.yaml_unique.proofs.BlockNodes.{dash_no_kind}
-use Rattle.yaml_complete.specs.Decisions.{Refused, Goes, Rest}
+use Rattle.yaml_complete.specs.Decisions.{Rest}
 use Rattle.yaml_complete.proofs.BlockLoops.{SequenceFrom, MappingFrom}
 use Rattle.yaml_complete.proofs.BlockStarts.{OnLine, FlowLine, ScalarOf, CollectionsOf, flow_key, scalar_kind, propped_kind, map_key, seq_dash}
 use Rattle.yaml_complete.proofs.OwnLines.{MappingIn}
@@ -19,7 +19,7 @@ use Rattle.yaml_flow.specs.FlowRules.{opens, below}
 use Rattle.yaml_flow.specs.Lines.{IsBlock}
 use Rattle.yaml_flow.proofs.FlowLemmas.{to_reads, from_reads}
 use Rattle.yaml_flow.proofs.SpaceLemmas.{flow_separate, block_separate}
-use Rattle.yaml_block.specs.BlockRules.{least_dash, node_rest, mapping_in, sequence_with, mapping_with}
+use Rattle.yaml_block.specs.BlockRules.{least_dash, node_rest, mapping_in}
 use Rattle.yaml_block.proofs.BlockLemmas.{block_properties, separate_flow}
 use Rattle.yaml_block.proofs.Levels.{facts_at, eased_at, wider_at, forward_at, blocks_at}
 

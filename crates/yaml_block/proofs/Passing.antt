@@ -1,8 +1,8 @@
 -- What a call decides, passed on to the call that made it.
-use Rattle.std.proofs.Common.{◌≡◌, ℕ, zero, suc, ◌⊎◌, List, Result, Ok, Err, Option, Some, None, inl, inr, subst}
+use Rattle.std.proofs.Common.{ℕ, zero, suc, List, Result, Ok, Err, Option, Some, None, inl, inr}
 use Rattle.yaml_text.specs.Event.{Event}
 use Rattle.yaml_text.specs.grammar.Rules.{Rule}
-use Rattle.yaml_text.specs.grammar.Separation.{Ctx, flow_out}
+use Rattle.yaml_text.specs.grammar.Separation.{Ctx}
 use Rattle.yaml_text.specs.grammar.Tags.{Handles}
 use Rattle.yaml_text.specs.grammar.Events.{Props}
 use Rattle.yaml_text.specs.grammar.Nodes.{reads}

@@ -1,7 +1,7 @@
 -- Documents' nodes: what is left of them on their first line, and after their mark.
-use Rattle.std.proofs.Common.{◌≡◌, ℕ, ◌+◌, ◌≤◌, List, Option, Some, None, inl, inr, refl, sym, subst, arith}
+use Rattle.std.proofs.Common.{◌≡◌, ℕ, ◌+◌, List, Some, inl, inr, subst, arith}
 use Rattle.yaml_text.specs.Event.{Event}
-use Rattle.yaml_text.specs.grammar.Rules.{Rule, ◌▸◌, ◌◂◌, ◌∪◌, gives, Stands}
+use Rattle.yaml_text.specs.grammar.Rules.{Rule, ◌◂◌, ◌∪◌, gives, Stands}
 use Rattle.yaml_text.specs.grammar.Characters.{is_space}
 use Rattle.yaml_text.specs.grammar.Separation.{block_in, indent, s_l_comments, StartsLine}
 use Rattle.yaml_text.specs.grammar.Tags.{Handles}
@@ -10,7 +10,7 @@ use Rattle.yaml_text.specs.grammar.Nodes.{block_part, block_node}
 use Rattle.yaml_text.specs.grammar.Streams.{bare_document}
 use Rattle.yaml_text.proofs.LineRuns.{indent_place}
 use Rattle.yaml_unique.specs.Readings.{End}
-use Rattle.yaml_unique.specs.Follows.{Stuck, DashHere, Follow, Over}
+use Rattle.yaml_unique.specs.Follows.{Stuck, DashHere}
 use Rattle.yaml_complete.specs.Decisions.{Rest}
 use Rattle.yaml_complete.proofs.Decisions.{rest_rest, rest_left, rest_right}
 use Rattle.yaml_complete.proofs.BlockStarts.{OnOwnLine, node_below}

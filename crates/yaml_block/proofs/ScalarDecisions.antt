@@ -1,17 +1,16 @@
 -- Block scalars: by the sign that they begin with one of the two kinds is left, whatever their properties.
-use Rattle.std.proofs.Common.{◌≡◌, ℕ, ◌<◌, ◌⊎◌, inl, inr, List, Bool, true, false, Some, refl, sym, ◌∙◌, subst, arith}
+use Rattle.std.proofs.Common.{◌≡◌, ℕ, inl, inr, List, Bool, true, false, Some, refl, sym, ◌∙◌, subst, arith}
 use Rattle.std.specs.Prelude.{slice_get}
 use Rattle.yaml_text.specs.Answer.{Unread, FurthestAlone}
 use Rattle.yaml_text.specs.Event.{Event}
-use Rattle.yaml_text.specs.Lines.{AfterLine}
-use Rattle.yaml_text.specs.grammar.Rules.{run, Stands}
+use Rattle.yaml_text.specs.grammar.Rules.{Stands}
 use Rattle.yaml_text.specs.grammar.Characters.{is_space}
 use Rattle.yaml_text.specs.grammar.Events.{Props, no_props}
 use Rattle.yaml_text.specs.grammar.BlockScalars.{literal, folded}
 use Rattle.yaml_text.proofs.Runs.{same_char, run_same}
 use Rattle.yaml_scalar.specs.BlockModel.{styled}
 use Rattle.yaml_unique.specs.Readings.{End}
-use Rattle.yaml_unique.specs.Follows.{Stuck, Over}
+use Rattle.yaml_unique.specs.Follows.{Stuck}
 use Rattle.yaml_unique.proofs.FlowNodes.{Kind, Sign, kind_fresh}
 use Rattle.yaml_unique.proofs.Lines.{solid_no_space}
 use Rattle.yaml_complete.specs.Decisions.{Refused, Goes, Here}

@@ -1,36 +1,36 @@
 -- Values and the nodes of entries: what is left of them on their parent's line, and on a line below.
-use Rattle.std.proofs.Common.{◌≡◌, ℕ, ◌+◌, ◌<◌, ◌≤◌, ◌⊎◌, List, Option, Some, None, inl, inr, refl, sym, subst, arith}
+use Rattle.std.proofs.Common.{◌≡◌, ℕ, ◌+◌, ◌<◌, ◌≤◌, ◌⊎◌, List, Option, Some, None, inl, inr, subst, arith}
 use Rattle.yaml_text.specs.Event.{Event}
 use Rattle.yaml_text.specs.Lines.{Inside}
 use Rattle.yaml_text.specs.grammar.Rules.{Rule, ◌▸◌, ◌◂◌, ◌∪◌, given, gives, Stands}
 use Rattle.yaml_text.specs.grammar.Characters.{is_space}
 use Rattle.yaml_text.specs.grammar.Separation.{Ctx, block_in, block_key, flow_out, indent, sep, separate, s_l_comments, StartsLine, AtEnd, Mark}
 use Rattle.yaml_text.specs.grammar.Tags.{Handles}
-use Rattle.yaml_text.specs.grammar.Events.{Props, no_props, empty}
+use Rattle.yaml_text.specs.grammar.Events.{no_props, empty}
 use Rattle.yaml_text.specs.grammar.Nodes.{block_part, compact_part, reads, block_node, compact_seq, compact_map}
 use Rattle.yaml_text.proofs.LineRuns.{indent_run, indent_place}
 use Rattle.yaml_unique.specs.Readings.{End}
-use Rattle.yaml_unique.specs.Follows.{Solid, Fresh, Stuck, Less, Follow, Over, DashHere, KeyHere}
+use Rattle.yaml_unique.specs.Follows.{Fresh, Stuck, DashHere, KeyHere}
 use Rattle.yaml_unique.proofs.BlockEntries.{follow_less, follow_seq, less_dash}
 use Rattle.yaml_unique.proofs.FlowNodes.{kind_fresh}
 use Rattle.yaml_unique.proofs.BlockLevels.{reads_blocks}
 use Rattle.yaml_complete.specs.Decisions.{Refused, Goes, Rest, Here}
-use Rattle.yaml_complete.proofs.Decisions.{rest_rest, rest_goes, rest_refused, rest_left, rest_right, refused_either}
-use Rattle.yaml_complete.proofs.Separations.{Spaces, separate_on_line}
-use Rattle.yaml_complete.proofs.BlockLoops.{SequenceFrom, MappingFrom, compact_sequence, compact_mapping}
+use Rattle.yaml_complete.proofs.Decisions.{rest_rest, rest_refused, rest_left, rest_right, refused_either}
+use Rattle.yaml_complete.proofs.Separations.{separate_on_line}
+use Rattle.yaml_complete.proofs.BlockLoops.{compact_sequence, compact_mapping}
 use Rattle.yaml_complete.proofs.LineChoices.{line_over, dash_short, line_short, dash_left, node_left as own_left}
 use Rattle.yaml_complete.proofs.BlockLines.{value_line}
 use Rattle.yaml_complete.proofs.BlockStarts.{Form, flow, scalar, propped, collection, named, form, flow_key, scalar_kind, propped_kind, ScalarOf, CollectionsOf, node_on_line}
-use Rattle.yaml_complete.proofs.BlockChoices.{entry_below, entry_on_line, on_dash, nothing_on_line}
+use Rattle.yaml_complete.proofs.BlockChoices.{entry_below, entry_on_line, nothing_on_line}
 use Rattle.yaml_complete.proofs.PropertyLines.{separate_line}
 use Rattle.yaml_flow.specs.FlowRules.{opens, below}
 use Rattle.yaml_flow.specs.Lines.{IsBlock}
-use Rattle.yaml_flow.proofs.FlowLemmas.{to_reads, from_reads}
+use Rattle.yaml_flow.proofs.FlowLemmas.{from_reads}
 use Rattle.yaml_flow.proofs.LineLemmas.{no_lines}
 use Rattle.yaml_block.specs.BlockRules.{least_dash, node_rest, line_rest, value_rest, entry_rest, sequence_with}
-use Rattle.yaml_block.specs.BlockEnds.{AfterNode, AfterEntry, AfterSequence, AfterMapping}
+use Rattle.yaml_block.specs.BlockEnds.{AfterNode, AfterEntry, AfterSequence}
 use Rattle.yaml_block.proofs.Levels.{facts_at, eased_at, wider_at, forward_at, blocks_at}
-use Rattle.yaml_block.proofs.NodeForms.{Forms, MappingAt, forms_node, forms_key, node_key, least_column, sequence_dash, dash_narrow}
+use Rattle.yaml_block.proofs.NodeForms.{Forms, forms_node, node_key, least_column, sequence_dash, dash_narrow}
 
 -- what follows, said with less
 pub rest_onto : {V V2 : Type 0} {R : Rule V} {S : Rule V2} {E F G : End} {i x : ℕ} → ((j m : ℕ) → F j m → G j m) → Rest R E i S F x → Rest R E i S G x

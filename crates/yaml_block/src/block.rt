@@ -340,7 +340,7 @@ fn read_entry_key<'a>(
     ensures reads { Appends (λ _. key_rest (text_of source.now) (Unit {0}) (handles_of handles.entry) room) (place_of source.now at) (place_of source.now) out.old.items out.new.items result }
     ensures decides { Decides (key_rest (text_of source.now) (Unit {0}) (handles_of handles.entry) room) (AfterColon (text_of source.now)) (place_of source.now at) Here (place_of source.now) result }
 {
-    let start = out.len();
+    let begin = out.len();
     let (own, end) = read_properties(alloc, source, at, 0, Ctx::BlockKey, handles)?;
     if !line_goes_on(source, end, &own) {
         return Err(unusable(source, end));
@@ -352,7 +352,7 @@ fn read_entry_key<'a>(
     match first_colon(source, at, key.end, Some(column))? {
         None => Err(unusable(source, key.end)),
         Some(colon) => {
-            dress(out, start, own);
+            dress(out, begin, own);
             Ok(colon.1)
         }
     }
@@ -371,16 +371,7 @@ fn key_fault<'a>(
 {
     let mut events = Vec::new(alloc);
     let context = Ctx::BlockKey;
-    match read_flow_node(
-        alloc,
-        source,
-        at,
-        0,
-        context,
-        room,
-        handles,
-        &mut events,
-    ) {
+    match read_flow_node(alloc, source, at, 0, context, room, handles, &mut events) {
         Err(fault) => fault,
         Ok(key) => {
             let (_, colon) = skip_spaces(source, key.end);

@@ -343,7 +343,7 @@ module _ (cs : List ℕ) where
         go j m v (k, (a, (h, e), s), inl r) f = none k (inr (subst (λ z. separate cs n flow_in z k) e s)) (keyed_fresh k j v (inl r)).0
         go j m v (k, (a, (h, e), s), inr (inl r)) f = none k (inr (subst (λ z. separate cs n flow_in z k) e s)) (keyed_fresh k j v (inr r)).0
         go j m v (k, (a, (h, e), s), inr (inr r)) (g, b) =
-          none m (inr (separate_twice cs n (i + 1) k m o (subst (λ z. separate cs n flow_in z k) e s) (subst (λ z. Gap n z m) (both_here k j v r) g) (closes_solid cs m b))) (closes_fresh cs m b)
+            none m (inr (separate_twice cs n (i + 1) k m o (subst (λ z. separate cs n flow_in z k) e s) (subst (λ z. Gap n z m) (both_here k j v r) g) (closes_solid cs m b))) (closes_fresh cs m b)
 
     -- ---- which entry
 

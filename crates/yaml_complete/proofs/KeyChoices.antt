@@ -2,7 +2,7 @@
 use Rattle.std.proofs.Common.{◌≡◌, ℕ, ◌+◌, ◌≤◌, ◌⊎◌, inl, inr, List, Option, Some, None, refl, sym, subst, arith}
 use Rattle.std.specs.Prelude.{slice_get}
 use Rattle.yaml_text.specs.Limits.{key_limit}
-use Rattle.yaml_text.specs.grammar.Rules.{Rule, ◌⨾◌, ◌∪◌, any, maybe, run, Stands}
+use Rattle.yaml_text.specs.grammar.Rules.{Rule, ◌⨾◌, any, maybe, run, Stands}
 use Rattle.yaml_text.specs.grammar.Characters.{is_space, is_ns}
 use Rattle.yaml_text.specs.grammar.Separation.{Ctx, flow_out, sep, s_l_comments, OneLine}
 use Rattle.yaml_text.specs.grammar.Tags.{Handles}
@@ -21,9 +21,9 @@ use Rattle.yaml_text.proofs.Runs.{run_none}
 use Rattle.yaml_unique.proofs.BlockNodes.{KeyRead}
 use Rattle.yaml_unique.proofs.BlockLevels.{Blocks, key_flow, key_parts, value_no_ns}
 use Rattle.yaml_complete.specs.Decisions.{Refused, Goes, Rest, Here}
-use Rattle.yaml_complete.proofs.Decisions.{rest_rest, rest_goes, rest_refused, rest_left, rest_right, goes_at, goes_until, refused_until, refused_either}
+use Rattle.yaml_complete.proofs.Decisions.{rest_refused, rest_left, rest_right, goes_at, refused_either}
 use Rattle.yaml_complete.proofs.KeyOrScalar.{node_line, node_no_line, node_no_rest, key_goes, no_colon}
-use Rattle.yaml_complete.proofs.BlockLoops.{MappingFrom, Keys, Values, Pairs, InPairs, InDashes, Colon, mapping_keyed, mapping_no_key}
+use Rattle.yaml_complete.proofs.BlockLoops.{MappingFrom, Keys, Values, Pairs, Colon, mapping_keyed, mapping_no_key}
 use Rattle.yaml_complete.proofs.BlockStarts.{FlowLine, map_key}
 use Rattle.yaml_complete.proofs.OwnLines.{MappingIn, FlowOrKey, mapping_refused}
 

@@ -1,5 +1,5 @@
 -- A line on which a node, a sequence of its parent or nothing stands: which of them is left, by its first character and its column.
-use Rattle.std.proofs.Common.{◌≡◌, ℕ, ◌+◌, ◌≤◌, ◌<◌, inl, inr, List, refl, subst, arith}
+use Rattle.std.proofs.Common.{◌≡◌, ℕ, ◌+◌, ◌≤◌, ◌<◌, inl, inr, List, subst, arith}
 use Rattle.yaml_text.specs.grammar.Rules.{Rule, ◌▸◌, ◌∪◌, gives, given, some, Stands}
 use Rattle.yaml_text.specs.grammar.Characters.{is_space}
 use Rattle.yaml_text.specs.grammar.Separation.{indent, AtEnd, Mark}

@@ -1,10 +1,10 @@
 -- A node of block level on its line, as a reader finds it: its own properties, and whether a block scalar follows them or else text.
-use Rattle.std.proofs.Common.{◌≡◌, ℕ, ◌+◌, ◌≤◌, ◌<◌, ◌⊎◌, inl, inr, List, Option, Some, None, refl, sym, ◌∙◌, subst, arith}
+use Rattle.std.proofs.Common.{◌≡◌, ℕ, ◌≤◌, ◌<◌, ◌⊎◌, inl, inr, List, Option, Some, None, refl, sym, ◌∙◌, subst, arith}
 use Rattle.std.specs.Prelude.{slice_get}
 use Rattle.std.proofs.Math.Nat.{eq-or-lt_of_le}
 use Rattle.yaml_text.specs.grammar.Rules.{Rule, ◌▸◌, ◌◂◌, ◌∪◌, never, run, Stands}
 use Rattle.yaml_text.specs.grammar.Characters.{is_space}
-use Rattle.yaml_text.specs.grammar.Separation.{Ctx, flow_out, block_key, separate, separate_lines, s_l_comments, indent}
+use Rattle.yaml_text.specs.grammar.Separation.{Ctx, flow_out, block_key, separate, s_l_comments, indent}
 use Rattle.yaml_text.specs.grammar.Tags.{Handles, properties}
 use Rattle.yaml_text.specs.grammar.FlowScalars.{PlainFirst}
 use Rattle.yaml_text.specs.Event.{Event}
@@ -14,20 +14,20 @@ use Rattle.yaml_text.proofs.grammar.Forward.{Forward}
 use Rattle.yaml_text.proofs.grammar.Widening.{Within}
 use Rattle.yaml_text.specs.Lines.{Inside}
 use Rattle.yaml_unique.specs.Readings.{End, At}
-use Rattle.yaml_unique.specs.Follows.{Solid, Fresh, Stuck, DashHere, Over, Follow, FollowKey, F, KeyHere}
+use Rattle.yaml_unique.specs.Follows.{Solid, Stuck, DashHere, Over, Follow, FollowKey, F}
 use Rattle.yaml_unique.proofs.Lines.{run_solid}
 use Rattle.yaml_unique.proofs.FlowNodes.{Kind, kind_same, kind_fresh, plain_no_kind, prop_kind, YamlRest, JsonRest}
 use Rattle.yaml_unique.proofs.FlowEntries.{Facts}
-use Rattle.yaml_unique.proofs.BlockNodes.{KeyRead, dash_no_kind, colon_no_kind, colon_solid, content_flow, rest_other, scalars_other, flow_propped}
+use Rattle.yaml_unique.proofs.BlockNodes.{KeyRead, dash_no_kind, colon_no_kind, colon_solid, content_flow, rest_other, flow_propped}
 use Rattle.yaml_unique.proofs.KeyContexts.{Eased}
 use Rattle.yaml_unique.proofs.BlockLevels.{Blocks, entry_key}
-use Rattle.yaml_unique.proofs.Properties.{PropHere, prop, prop_solid, both, props_two, props_here, props_inside, props_alone}
+use Rattle.yaml_unique.proofs.Properties.{PropHere, prop, both, props_two, props_here, props_inside}
 use Rattle.yaml_unique.proofs.TagEnds.{prop_same, prop_here, prop_inside}
-use Rattle.yaml_complete.specs.Decisions.{Refused, Goes, Rest}
-use Rattle.yaml_complete.proofs.Decisions.{rest_rest, rest_left, rest_right, rest_both, refused_either}
+use Rattle.yaml_complete.specs.Decisions.{Refused, Rest}
+use Rattle.yaml_complete.proofs.Decisions.{rest_rest, rest_left, rest_both}
 use Rattle.yaml_complete.proofs.PropertyChoices.{Differ, Second}
-use Rattle.yaml_complete.proofs.BlockLoops.{SequenceFrom, MappingFrom}
-use Rattle.yaml_complete.proofs.BlockStarts.{FlowLine, ScalarOf, ProppedScalar, ProppedCollection, CollectionsOf, OnLine, scalar_kind, propped_kind, map_key, flow_left, scalar_left}
+use Rattle.yaml_complete.proofs.BlockLoops.{MappingFrom}
+use Rattle.yaml_complete.proofs.BlockStarts.{FlowLine, ScalarOf, OnLine, scalar_kind, flow_left, scalar_left}
 use Rattle.yaml_complete.proofs.BlockProperties.{Under, BelowThem, ContentOrKey, Rested, content, lone, rested, contents_fresh, flow_after, line_after, scalar_after, mapping_of_first, no_mapping_over, under_below, content_below, scalar_below}
 use Rattle.yaml_complete.proofs.FlowStarts.{no_node_at_bar}
 use Rattle.yaml_complete.proofs.PropertyLines.{separate_line, line_run, line_properties, no_gap, properties_of_both, no_second_of_two, under_after}

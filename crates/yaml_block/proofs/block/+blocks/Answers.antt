@@ -1,4 +1,4 @@
-use Rattle.std.proofs.Common.{◌≡◌, ◌⊎◌, ℕ, suc, false, ◌+◌, ◌-◌, ◌<◌, ◌≤◌, List, [], ◌∷◌, ◌++◌, Option, Some, None, refl, sym, ◌∙◌, ap, subst, arith, inl, inr, length}
+use Rattle.std.proofs.Common.{◌≡◌, ◌⊎◌, ℕ, suc, false, ◌+◌, ◌-◌, ◌<◌, ◌≤◌, List, [], ◌∷◌, ◌++◌, Some, None, refl, sym, ◌∙◌, ap, subst, arith, inl, inr, length}
 use Rattle.std.specs.Prelude.{IfOk, insert, Result, Ok, Err}
 use Rattle.std.proofs.lemmas.Option.{MatchOption-at_some}
 use Rattle.yaml_text.specs.declared.fault.Fault.{Fault}
@@ -207,8 +207,8 @@ read_under-read_node-requires t c = (
               (
                 omega (arith, c.if-line-col.false),
                 let yes = on_true_at c.has_content.result c.if-not-has_content.false c.has_content.ensures.yes in
-                above _ _ c.args.line.column c.requires.marks c.requires.comments c.requires.line.spaces (omega (arith, c.if-line-col.false)) refl c.requires.above c.requires.line.stuck c.requires.line.all c.in-None.ensures.none
-                (no_end c.args.source.now c.args.line c.requires.line yes.0) (no_mark c.args.source.now c.args.line c.requires.line yes.1),
+                    above _ _ c.args.line.column c.requires.marks c.requires.comments c.requires.line.spaces (omega (arith, c.if-line-col.false)) refl c.requires.above c.requires.line.stuck c.requires.line.all c.in-None.ensures.none
+                    (no_end c.args.source.now c.args.line c.requires.line yes.0) (no_mark c.args.source.now c.args.line c.requires.line yes.1),
               ),
             ),
           ),
@@ -1061,7 +1061,7 @@ read_keyed-returns-in_err-line-in-Some-clause-decides t c =
     let colon = found_is (λ z. ColonAfter cs (place_of s c.args.at) (place_of s node.end) (place_of s z.1)) c.in_ok-first_colon.field-0 _ c.in-Some.is c.in_ok-first_colon.ensures.colon in
     let wide = MatchOption-at_some (Unit {0}) (λ k. c.args.col ≤ k) _ column c.requires.wide in
     let rest = mapping_left cs h (c.args.room - 1) c.args.room c.args.col x c.requires.block c.args.column _ _ p _ q c.requires.all c.requires.goes_on c.requires.own c.requires.outer c.requires.no_scalar _ node.kind node.deep (dressed q k.0) flow c.in_ok-node.ensures.within
-        (c.in_ok-node.ensures.decides (λ _. c.requires.goes_on)) (omega (arith, fit.3)) _ _ column wide colon in
+    (c.in_ok-node.ensures.decides (λ _. c.requires.goes_on)) (omega (arith, fit.3)) _ _ column wide colon in
     decides_err (node_rest cs (Unit {0}) h c.args.room c.args.col x (column_of p c.args.column)) (AfterNode cs c.args.col x) (place_of s c.args.from) Here (λ line. place_of s line.start) c.from_residual-in_err-line-in-Some.result _ c.from_residual-in_err-line-in-Some.ensures.1
     (or_else (rest_refused rest) c.in_err-line-in-Some.ensures.decides)
 

@@ -1,5 +1,4 @@
-use Rattle.std.proofs.Common.{◌≡◌, ℕ, ◌⊎◌, inl, inr, Some, subst}
-use Rattle.std.specs.Prelude.{slice_get}
+use Rattle.std.proofs.Common.{◌≡◌, inl, inr, subst}
 use Rattle.yaml_text.specs.Source.{text_of, place_of}
 use Rattle.yaml_flow.specs.PropertyRules.{props_of}
 use Rattle.yaml_block.specs.BlockEnds.{IsSign}

@@ -1,4 +1,4 @@
-use Rattle.std.proofs.Common.{◌≡◌, ℕ, suc, inl, inr, arith, subst, sym, ◌-◌, []}
+use Rattle.std.proofs.Common.{◌≡◌, suc, inr, arith, subst, sym, ◌-◌, []}
 use Rattle.yaml_text.specs.Source.{text_of, place_of}
 use Rattle.yaml_text.specs.grammar.Separation.{flow_out}
 use Rattle.yaml_mark.specs.HandlesModel.{handles_of}
@@ -16,7 +16,11 @@ returns-then-again-key-clause-reads c = λ old es e a b.
     let r = c.in_ok-again.ensures.reads in
     let s = c.args.source.now in
     let cs = text_of s in (
-      c.in_ok-again.again.deep, c.in_ok-again.again.kind, r.0, omega (arith, c.in_ok-again.ensures.within, c.if-room-eq0.false), adds_on old c.truncate.new.self.items _ [] r.0 (adds_cut old _ _ es c.args.start e a c.truncate.ensures.items) r.1,
+      c.in_ok-again.again.deep,
+      c.in_ok-again.again.kind,
+      r.0,
+      omega (arith, c.in_ok-again.ensures.within, c.if-room-eq0.false),
+      adds_on old c.truncate.new.self.items _ [] r.0 (adds_cut old _ _ es c.args.start e a c.truncate.ensures.items) r.1,
       subst (λ x. Bare cs (Unit {0}) (handles_of c.args.handles) c.in_ok-again.again.deep c.in_ok-again.again.kind c.args.col flow_out (props_of c.args.own.now) (place_of s c.args.end) (place_of s c.args.at) (place_of s x) r.0) c.if-again-key.true r.2,
     )
 

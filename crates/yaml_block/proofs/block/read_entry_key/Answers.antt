@@ -1,4 +1,4 @@
-use Rattle.std.proofs.Common.{inl, inr, arith, length, ◌≡◌, ◌⊎◌, Some, None}
+use Rattle.std.proofs.Common.{inr, arith, length, ◌≡◌, ◌⊎◌, Some, None}
 use Rattle.yaml_text.specs.Source.{text_of, place_of}
 use Rattle.yaml_text.specs.grammar.Separation.{flow_out, block_key}
 use Rattle.yaml_text.proofs.Tests.{on_true_at, on_false_at}
@@ -31,7 +31,7 @@ returns-in-Some-clause-reads c =
     let h = handles_of c.args.handles in
     let k = c.in_ok-key.ensures.reads in
     let q = props_of c.in_ok-own.own in
-    let length_is : c.len-start.result ≡ length c.args.out.now.items = omega (arith, c.len-start.ensures, c.args.out.now.ok.0) in (
+    let length_is : c.len-begin.result ≡ length c.args.out.now.items = omega (arith, c.len-begin.ensures, c.args.out.now.ok.0) in (
       dressed q k.0,
       c.dress.ensures c.args.out.now.items k.0 length_is k.1,
       value_key cs (Unit {0}) h c.args.room c.args.column c.in_ok-key.key.deep c.in_ok-key.key.kind _ _ _ (dressed q k.0) (bare_flow cs (Unit {0}) h c.in_ok-key.key.deep c.in_ok-key.key.kind c.args.column flow_out q _ _ _ k.0 k.2) c.in_ok-key.ensures.within
