@@ -80,8 +80,8 @@ CONDITIONS = [
         [('Nodes', '(chr cs 63 ◆ separate cs n c)', '(chr cs 63 ◆ maybe (separate cs n c))')],
         ['{?a}'], True),
     Condition(
-        'the first alternative of a block node at n + 1', 'block_node',
-        [('Nodes', '(separate cs col flow_out ▸ flow_node col flow_out ◂', '(separate cs (col - 1) flow_out ▸ flow_node (col - 1) flow_out ◂')],
+        'the first alternative of a block node at n + 1', 'flow_in_block',
+        [('Nodes', '= separate cs col flow_out ▸ flow_node col flow_out ◂', '= separate cs (col - 1) flow_out ▸ flow_node (col - 1) flow_out ◂')],
         ['- a\n- b']),
     Condition(
         'a block sequence at n - 1 in block-out alone', 'seq_column',
@@ -92,7 +92,7 @@ CONDITIONS = [
         [('Nodes', 'given (col ≤ k) (any_one (indent cs k ▸ map_entry k))', 'given (col ≤ k + 1) (any_one (indent cs k ▸ map_entry k))')],
         ['a:\nb:']),
     Condition(
-        'properties of a block collection are followed by s-l-comments', 'block_node',
+        'properties of a block collection are followed by s-l-comments', 'block_collection',
         [('Nodes', 'properties cs handles col c)) ◂ s_l_comments cs)', 'properties cs handles col c)) ◂ (s_l_comments cs ⊔ sep cs))')],
         ['&a b: c']),
     Condition(

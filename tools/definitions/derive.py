@@ -266,8 +266,8 @@ Span.__call__ = lambda self, i, *rest: InP(self, i, rest[0] if len(rest) == 1 el
 for prop in (And, Or, Not, Eq, Less):
     setattr(shadow, prop.__name__, prop)
 W = shadow.W = shadow.World()
-MARK = W.defs['Separation.Mark']
-W.defs.update({'Separation.Mark': Lam(2, MarkP), 'Separation.Unmarked': Lam(3, UnmarkedP), 'Separation.OneLine': Lam(3, OneLineP)})
+MARK = W.defs['Separation.DocumentMark']
+W.defs.update({'Separation.DocumentMark': Lam(2, MarkP), 'Separation.Unmarked': Lam(3, UnmarkedP), 'Separation.OneLine': Lam(3, OneLineP)})
 
 # ------------------------------------------------------------------ values, as antt writes them
 
@@ -483,11 +483,11 @@ def theorem(reading):
     global TEXT
     TEXT = reading.name + '_text'
     VISITED.clear()
-    VISITED.update(W[d] for d in ('Streams.stream', 'Streams.stream_events'))
+    VISITED.update(W[d] for d in ('Streams.stream', 'Streams.stream_of_pieces'))
     cs = shadow.new_text(tuple(map(ord, reading.text)))
     stream = ap(W['Streams.stream'], cs, reading.wide, ROOM)
     found = [x for x in stream.at(0) if x[0] == len(cs)]
-    events = {ap(W['Streams.stream_events'], pieces) for (_, pieces) in found}
+    events = {ap(W['Streams.stream_of_pieces'], pieces) for (_, pieces) in found}
     assert len(events) == 1, (reading.name, events)
     pieces = found[0][1]
     proof = derive(stream, 0, found[0])

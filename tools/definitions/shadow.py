@@ -864,7 +864,7 @@ def readings(s, wide=False, room=128):
     """The event lists of a text, each a tuple of events as specs/Event.antt has them."""
     cs = new_text(tuple(map(ord, s)))
     stream = ap(W['Streams.stream'], cs, wide, room)
-    return {ap(W['Streams.stream_events'], pieces) for (j, pieces) in stream.at(0) if j == len(cs)}
+    return {ap(W['Streams.stream_of_pieces'], pieces) for (j, pieces) in stream.at(0) if j == len(cs)}
 
 
 STYLES = {'plain': ':', 'single': "'", 'double': '"', 'literal': '|', 'folded': '>'}

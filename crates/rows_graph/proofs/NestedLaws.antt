@@ -2,22 +2,22 @@
 use Rattle.std.proofs.Common.{◌≡◌, ◌<◌, ◌+◌, ℕ, Bool, true, false, not, List, [], ◌∷◌, ◌++◌, length, map, drop-cons, get_or, refl, sym, ◌∙◌, ap, arith, add-one}
 use Rattle.std.proofs.lemmas.List.{drop_all}
 use Rattle.yaml_text.specs.Event.{Event, Anchor, WrittenTag, Style, stream_start, stream_end, document_start, document_end, sequence_start, sequence_end, mapping_start, mapping_end, scalar_event, alias_event}
-use Rattle.yaml_text.specs.Marked.{Marked, AllMarked, MarkedPairs, alias, scalar_at, sequence_at, mapping_at, end_marks, item_mark, done_marks, entry_marks, flat, flat_all, flat_pairs, Document, documents_events, stream_events}
+use Rattle.yaml_text.specs.Serial.{SerialNode, SerialNodes, SerialPairs, alias_at, scalar_at, sequence_at, mapping_at, end_serial, item_serial, done_serial, entry_serial, flat, flat_all, flat_pairs, Document, documents_events, stream_events}
 use Rattle.yaml_text.specs.EventModel.{event_of}
 use Rattle.yaml_text.specs.declared.event.Event as code
 use Rattle.yaml_graph.specs.Composed.{Composable}
 use Rattle.rows_graph.specs.Nested.{from, flat_list, is_even, IsNode, AreNodes, IsDocument, AreDocuments}
 
-to_all : List Marked → AllMarked
-to_all [] = end_marks
-to_all (t ∷ ts) = item_mark t (to_all ts)
+to_all : List SerialNode → SerialNodes
+to_all [] = end_serial
+to_all (t ∷ ts) = item_serial t (to_all ts)
 
-to_pairs : List Marked → MarkedPairs
-to_pairs [] = done_marks
-to_pairs (k ∷ []) = done_marks
-to_pairs (k ∷ (v ∷ ts)) = entry_marks k v (to_pairs ts)
+to_pairs : List SerialNode → SerialPairs
+to_pairs [] = done_serial
+to_pairs (k ∷ []) = done_serial
+to_pairs (k ∷ (v ∷ ts)) = entry_serial k v (to_pairs ts)
 
-all-listed : (ts : List Marked) (more : List Event) → flat_all (to_all ts) more ≡ flat_list ts more
+all-listed : (ts : List SerialNode) (more : List Event) → flat_all (to_all ts) more ≡ flat_list ts more
 unfolding flat to_all
 all-listed [] more = refl
 all-listed (t ∷ ts) more = ap (flat t) (all-listed ts more)
@@ -26,17 +26,17 @@ not-not : (b : Bool) → not (not b) ≡ b
 not-not true = refl
 not-not false = refl
 
-pairs-listed : (ts : List Marked) (more : List Event) → is_even ts ≡ true → flat_pairs (to_pairs ts) more ≡ flat_list ts more
+pairs-listed : (ts : List SerialNode) (more : List Event) → is_even ts ≡ true → flat_pairs (to_pairs ts) more ≡ flat_list ts more
 unfolding flat to_pairs
 pairs-listed [] more h = refl
 pairs-listed (k ∷ []) more h = absurd (cc)
 pairs-listed (k ∷ (v ∷ ts)) more h = ap (λ x. flat k (flat v x)) (pairs-listed ts more (sym (not-not (is_even ts)) ∙ h))
 
-list-push : (ts : List Marked) (t : Marked) (more : List Event) → flat_list (ts ++ (t ∷ [])) more ≡ flat_list ts (flat t more)
+list-push : (ts : List SerialNode) (t : SerialNode) (more : List Event) → flat_list (ts ++ (t ∷ [])) more ≡ flat_list ts (flat t more)
 list-push [] t more = refl
 list-push (u ∷ ts) t more = ap (flat u) (list-push ts t more)
 
-even-push : (ts : List Marked) (t : Marked) → is_even (ts ++ (t ∷ [])) ≡ not (is_even ts)
+even-push : (ts : List SerialNode) (t : SerialNode) → is_even (ts ++ (t ∷ [])) ≡ not (is_even ts)
 even-push [] t = refl
 even-push (u ∷ ts) t = ap not (even-push ts t)
 
@@ -59,7 +59,7 @@ module _ (es : List code.Event) where
 
     pub alias-node : (name : List ℕ) → event_of e ≡ alias_event name → IsNode es at (at + 1)
     unfolding flat
-    alias-node name q = record { node = alias name; after = omega arith; within = omega arith; is = is-here at e (alias_event name) i l q }
+    alias-node name q = record { node = alias_at name; after = omega arith; within = omega arith; is = is-here at e (alias_event name) i l q }
 
     module _ (end : ℕ) (even : Bool) (ns : AreNodes es (at + 1) end even) (f : code.Event) (j : f ≡ get_or es end f) (m : end < length es) where
       pub sequence-node : (b : Bool) (a : Anchor) (g : WrittenTag) → event_of e ≡ sequence_start b a g → event_of f ≡ sequence_end → IsNode es at (end + 1)

@@ -6,6 +6,8 @@ mod heights;
 #[cfg(test)]
 mod nested;
 #[cfg(test)]
+mod pairs;
+#[cfg(test)]
 mod ranks;
 #[cfg(test)]
 mod rows;

@@ -4,16 +4,15 @@
 ghost use Rattle.yaml_rank.specs.RanksView.{RanksAre};
 
 use crate::heights::doubling;
+use crate::pairs::{Pair, Shown, check_pair};
 use crate::shown::composed;
 use crate::words::events;
 use std::alloc::{AllocError, Global};
 use std::fmt::Write;
 use std::process::Abort;
 use std::test::Fail;
-use yaml_graph::{Graph, NodeId, join};
+use yaml_graph::{Graph, NodeId};
 use yaml_rank::{Ranks, rank};
-use yaml_text::event::Event;
-use yaml_text::fault::Fault;
 
 /// Appends the nodes of a rank, if there are any, behind those of the ranks before.
 fn show_rank(
@@ -66,7 +65,7 @@ fn shown(alloc: Global, graph: &Graph<'_>, ranks: &Ranks) -> Result<String, Allo
 }
 
 /// What is shown of a graph's ranks, or the message of the fault.
-fn told(alloc: Global, graph: &Graph<'_>) -> Result<String, Fail> {
+pub fn told(alloc: Global, graph: &Graph<'_>) -> Result<String, Fail> {
     match rank(alloc, graph) {
         Ok(ranks) => Ok(shown(alloc, graph, &ranks)?),
         Err(fault) => Ok(format!(in alloc; "{fault}")?),
@@ -222,43 +221,7 @@ fn equal_keys_are_told(rt: HostRuntime) -> Result<(), Fail> {
     Ok(())
 }
 
-/// Two streams, and what is shown of the ranks of both graphs as one.
-struct Pair {
-    shows: &'static str,
-    left: &'static str,
-    right: &'static str,
-    gives: &'static str,
-}
-
-/// Both graphs as one, where both are streams.
-fn both<'a>(
-    alloc: Global,
-    left: &'a [Event<'_>],
-    right: &'a [Event<'_>],
-) -> Result<Option<Graph<'a>>, Fault> {
-    let Some(left) = composed(alloc, left)? else {
-        return Ok(None);
-    };
-    let Some(right) = composed(alloc, right)? else {
-        return Ok(None);
-    };
-    Ok(Some(join(left, right)?))
-}
-
-fn joined<'a>(alloc: Global, left: &'a str, right: &'a str) -> Result<String, Fail> {
-    let mut streams = Vec::new(alloc);
-    streams.push(events(alloc, left)?)?;
-    streams.push(events(alloc, right)?)?;
-    let [left, right] = streams.as_slice() else {
-        return Ok(String::new(alloc));
-    };
-    match both(alloc, left, right) {
-        Ok(Some(graph)) => told(alloc, &graph),
-        Ok(None) => Ok(format!(in alloc; "no stream")?),
-        Err(fault) => Ok(format!(in alloc; "{fault}")?),
-    }
-}
-
+/// What is shown of the ranks of both graphs as one.
 const PAIRS: [Pair; 3] = [
     Pair {
         shows: "equal nodes of two graphs have one rank",
@@ -283,8 +246,7 @@ const PAIRS: [Pair; 3] = [
 #[test]
 fn two_graphs_are_ranked_as_one(rt: HostRuntime) -> Result<(), Fail> {
     for pair in &PAIRS {
-        let got = joined(rt.alloc(), pair.left, pair.right)?;
-        assert_eq!(rt; got.as_str(), pair.gives, "{}", pair.shows);
+        check_pair(&rt, pair, Shown::Ranks)?;
     }
     Ok(())
 }

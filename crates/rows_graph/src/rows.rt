@@ -1,13 +1,11 @@
 //! Streams of a few events. In what is shown each node stands as its tag, its content or the numbers
 //! of its parts, and its height behind `^`; then the roots.
+use crate::pairs::{Pair, Shown, check_pair};
 use crate::shown::{composed, shown};
 use crate::words::events;
 use std::alloc::Global;
 use std::process::Abort;
 use std::test::Fail;
-use yaml_graph::{Graph, join};
-use yaml_text::event::Event;
-use yaml_text::fault::Fault;
 
 /// The words of events, and what is shown of their graph, or the message of the fault.
 struct Row {
@@ -297,50 +295,7 @@ fn other_events_are_no_stream(rt: HostRuntime) -> Result<(), Fail> {
     Ok(())
 }
 
-/// Two streams, and what is shown of both graphs as one.
-struct Pair {
-    shows: &'static str,
-    left: &'static str,
-    right: &'static str,
-    gives: &'static str,
-}
-
-/// Both graphs as one, where both are streams.
-fn both<'a>(
-    alloc: Global,
-    left: &'a [Event<'_>],
-    right: &'a [Event<'_>],
-) -> Result<Option<Graph<'a>>, Fault> {
-    let Some(left) = composed(alloc, left)? else {
-        return Ok(None);
-    };
-    let Some(right) = composed(alloc, right)? else {
-        return Ok(None);
-    };
-    Ok(Some(join(left, right)?))
-}
-
-/// What is shown of both graphs as one, the message of a fault, or `no stream`.
-fn joined<'a>(alloc: Global, left: &'a str, right: &'a str) -> Result<String, Fail> {
-    let mut streams = Vec::new(alloc);
-    streams.push(events(alloc, left)?)?;
-    streams.push(events(alloc, right)?)?;
-    let [left, right] = streams.as_slice() else {
-        return Ok(String::new(alloc));
-    };
-    match both(alloc, left, right) {
-        Ok(Some(graph)) => Ok(shown(alloc, &graph)?),
-        Ok(None) => Ok(format!(in alloc; "no stream")?),
-        Err(fault) => Ok(format!(in alloc; "{fault}")?),
-    }
-}
-
-fn check_pair<T: Abort + AllocGlobal>(rt: &T, pair: &Pair) -> Result<(), Fail> {
-    let got = joined(rt.alloc(), pair.left, pair.right)?;
-    assert_eq!(rt; got.as_str(), pair.gives, "{}", pair.shows);
-    Ok(())
-}
-
+/// What is shown of both graphs as one.
 const PAIRS: [Pair; 4] = [
     Pair {
         shows: "the second graph's numbers and roots are moved up",
@@ -371,7 +326,7 @@ const PAIRS: [Pair; 4] = [
 #[test]
 fn two_graphs_are_one(rt: HostRuntime) -> Result<(), Fail> {
     for pair in &PAIRS {
-        check_pair(&rt, pair)?;
+        check_pair(&rt, pair, Shown::Nodes)?;
     }
     Ok(())
 }

@@ -7,7 +7,7 @@ use yaml_text::event::Event;
 use yaml_text::fault::Fault;
 
 /// The graph of events, or what was refused. Events that are those of no stream give no graph.
-pub fn composed<'a>(alloc: Global, events: &'a [Event<'_>]) -> Result<Option<Graph<'a>>, Fault> {
+pub fn composed<'s>(alloc: Global, events: &[Event<'s>]) -> Result<Option<Graph<'s>>, Fault> {
     if !is_stream(events) {
         return Ok(None);
     }

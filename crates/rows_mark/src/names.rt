@@ -7,7 +7,7 @@ use yaml_mark::name::read_name;
 use yaml_text::chars::Chars;
 use yaml_text::places::is_border;
 
-const NAMES: [Row; 15] = [
+const NAMES: [Row; 17] = [
     ("&a b", 0, "a ends at 2"),
     ("*a b", 0, "a ends at 2"),
     ("*a", 0, "a ends at 2"),
@@ -23,6 +23,8 @@ const NAMES: [Row; 15] = [
     ("&", 0, "4 Syntax at byte 1"),
     ("*,", 0, "4 Syntax at byte 1"),
     ("- &\ta", 2, "4 Syntax at byte 3"),
+    ("a", 0, "4 Syntax at byte 0"),
+    ("\u{FEFF}a", 0, "4 Syntax at byte 3"),
 ];
 
 #[test]

@@ -49,7 +49,7 @@ const BOUND: [Row; 7] = [
     ),
 ];
 
-const NO_TAGS: [Row; 22] = [
+const NO_TAGS: [Row; 23] = [
     ("!<a b> x", 0, "11 BadTag at byte 0"),
     ("!<>", 0, "11 BadTag at byte 0"),
     ("!<a", 0, "11 BadTag at byte 0"),
@@ -72,6 +72,7 @@ const NO_TAGS: [Row; 22] = [
     ("%TAG !e! a\n---\n!f!x v", 15, "10 UnknownHandle at byte 15"),
     ("!<a>b", 0, "4 Syntax at byte 4"),
     ("a", 0, "4 Syntax at byte 0"),
+    ("\u{FEFF}a", 0, "4 Syntax at byte 3"),
 ];
 
 #[test]

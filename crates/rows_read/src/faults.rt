@@ -2,7 +2,7 @@
 use crate::rows::{Row, check};
 use std::test::Fail;
 
-static SYNTAX: [Row; 20] = [
+static SYNTAX: [Row; 21] = [
     Row {
         input: "a: b: c",
         answer: "4 Syntax at byte 4",
@@ -83,6 +83,10 @@ static SYNTAX: [Row; 20] = [
         input: "|1\n a",
         answer: "4 Syntax at byte 1",
     },
+    Row {
+        input: "\"x\"\n  y",
+        answer: "4 Syntax at byte 6",
+    },
 ];
 
 #[test]
@@ -90,7 +94,7 @@ fn syntax(rt: HostRuntime) -> Result<(), Fail> {
     check(&rt, &SYNTAX)
 }
 
-static TABS: [Row; 7] = [
+static TABS: [Row; 8] = [
     Row {
         input: "a:\tb",
         answer: "5 Tab at byte 2",
@@ -98,6 +102,10 @@ static TABS: [Row; 7] = [
     Row {
         input: "a\t: b",
         answer: "5 Tab at byte 1",
+    },
+    Row {
+        input: "a: b\nc\t: d",
+        answer: "5 Tab at byte 6",
     },
     Row {
         input: "a\t",

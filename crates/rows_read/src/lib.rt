@@ -8,6 +8,8 @@ mod deep;
 #[cfg(test)]
 mod faults;
 #[cfg(test)]
+mod marked;
+#[cfg(test)]
 mod properties;
 #[cfg(test)]
 mod rows;

@@ -115,7 +115,7 @@ fn double_quoted_scalars_have_escapes_and_escaped_breaks(rt: HostRuntime) -> Res
 }
 
 /// What no plain scalar begins.
-const NO_PLAIN: [Refused; 9] = [
+const NO_PLAIN: [Refused; 10] = [
     ("", 0, 0, Ctx::FlowIn, "4 Syntax at byte 0"),
     ("... a", 0, 0, Ctx::FlowIn, "4 Syntax at byte 0"),
     ("---", 0, 0, Ctx::FlowIn, "4 Syntax at byte 0"),
@@ -125,14 +125,16 @@ const NO_PLAIN: [Refused; 9] = [
     (",a", 0, 0, Ctx::FlowIn, "4 Syntax at byte 0"),
     ("\n", 0, 0, Ctx::FlowIn, "4 Syntax at byte 0"),
     ("\u{FEFF}%a", 0, 0, Ctx::FlowIn, "4 Syntax at byte 3"),
+    ("\u{FEFF}", 0, 0, Ctx::FlowIn, "4 Syntax at byte 3"),
 ];
 
 /// The last breaks in a key.
-const NO_SINGLE: [Refused; 8] = [
+const NO_SINGLE: [Refused; 9] = [
     ("'a", 0, 1, Ctx::FlowOut, "4 Syntax at byte 2"),
     ("'a\n... b'", 0, 1, Ctx::FlowOut, "4 Syntax at byte 3"),
     ("'a''", 0, 1, Ctx::FlowOut, "4 Syntax at byte 4"),
     ("a", 0, 1, Ctx::FlowOut, "4 Syntax at byte 0"),
+    ("\u{FEFF}a", 0, 1, Ctx::FlowOut, "4 Syntax at byte 3"),
     ("'a\nb'", 0, 1, Ctx::FlowOut, "4 Syntax at byte 3"),
     ("'a\n\tb'", 0, 1, Ctx::FlowOut, "5 Tab at byte 3"),
     ("'a\n\n \n", 0, 1, Ctx::FlowOut, "4 Syntax at byte 6"),
@@ -140,8 +142,9 @@ const NO_SINGLE: [Refused; 8] = [
 ];
 
 /// The last two break in a key.
-const NO_DOUBLE: [Refused; 14] = [
+const NO_DOUBLE: [Refused; 15] = [
     ("\"abc", 0, 1, Ctx::FlowOut, "4 Syntax at byte 4"),
+    ("\u{FEFF}a", 0, 1, Ctx::FlowOut, "4 Syntax at byte 3"),
     ("\"\\ud800\"", 0, 1, Ctx::FlowOut, "8 BadEscape at byte 1"),
     ("\"\\q\"", 0, 1, Ctx::FlowOut, "8 BadEscape at byte 1"),
     ("\"\\x4g\"", 0, 1, Ctx::FlowOut, "8 BadEscape at byte 1"),

@@ -26,7 +26,7 @@ use Rattle.yaml_complete.proofs.BlockProperties.{no_key_over}
 use Rattle.yaml_complete.proofs.PropertyLines.{no_flow_barred}
 use Rattle.yaml_flow.specs.Decisions.{Barred, IsOnly, IsRefused}
 use Rattle.yaml_flow.specs.Keys.{ColonAfter}
-use Rattle.yaml_flow.specs.PropertyRules.{Marks}
+use Rattle.yaml_flow.specs.PropertyRules.{SomeProperties}
 use Rattle.yaml_flow.specs.declared.flow.Kind.{Kind}
 use Rattle.yaml_flow.specs.declared.flow.Kind.TheVariants.{Yaml, Json}
 use Rattle.yaml_flow.proofs.PropertyDecisions.{barred_line}
@@ -102,7 +102,7 @@ module _ (cs : List ℕ) (handles : Handles) (room : ℕ) where
       keys_refused cs (Unit {0}) handles (Unit {0}) (reads cs (Unit {0}) handles room) (reads_facts cs (Unit {0}) handles room) (reads_eased cs (Unit {0}) handles room) (one_more cs (Unit {0}) handles room) (fwd_reads cs (Unit {0}) handles room) (reads_blocks cs (Unit {0}) handles room) 0 0 flow_out 0 i (λ (o, v, f, fk, one). (no_flow_barred cs (Unit {0}) handles (Unit {0}) (reads cs (Unit {0}) handles room) (reads_facts cs (Unit {0}) handles room) (reads_eased cs (Unit {0}) handles room) (one_more cs (Unit {0}) handles room) (fwd_reads cs (Unit {0}) handles room) (reads_blocks cs (Unit {0}) handles room) 0 0 flow_out i (barred_line cs handles i b)).none o o v f (refl, inr fk))
 
   -- the line is over after its properties
-  pub key_over : (i e s : ℕ) (p : Props) → i ≤ e → Marks cs handles 0 block_key i e p → s_l_comments cs e s → Refused Keys (AfterColon cs) i
+  pub key_over : (i e s : ℕ) (p : Props) → i ≤ e → SomeProperties cs handles 0 block_key i e p → s_l_comments cs e s → Refused Keys (AfterColon cs) i
   key_over i e s p le m over =
       let r = marks_props cs handles 0 block_key i e p m in
       keys_refused cs (Unit {0}) handles (Unit {0}) (reads cs (Unit {0}) handles room) (reads_facts cs (Unit {0}) handles room) (reads_eased cs (Unit {0}) handles room) (one_more cs (Unit {0}) handles room) (fwd_reads cs (Unit {0}) handles room) (reads_blocks cs (Unit {0}) handles room) 0 0 flow_out 0 i (no_key_over cs (Unit {0}) handles (Unit {0}) (reads cs (Unit {0}) handles room) (reads_facts cs (Unit {0}) handles room) (reads_eased cs (Unit {0}) handles room) (one_more cs (Unit {0}) handles room) (fwd_reads cs (Unit {0}) handles room) (reads_blocks cs (Unit {0}) handles room) 0 0 flow_out i e s p (prop_kind cs handles i (props_here cs handles (prop_same cs handles) (prop_here cs handles) (prop_inside cs handles) 0 block_key i e p (props_two cs handles 0 block_key i e p r))) le r over)

@@ -8,7 +8,7 @@ use Rattle.yaml_text.specs.declared.chars.Chars.{Chars}
 use Rattle.yaml_text.specs.Lines.{AfterLine, Inside, Dashes}
 use Rattle.yaml_text.specs.grammar.Rules.{run, Stands}
 use Rattle.yaml_text.specs.grammar.Characters.{is_ns, is_space, is_nb, is_break}
-use Rattle.yaml_text.specs.grammar.Separation.{indent, AtEnd, Mark, StartsLine, s_l_comments}
+use Rattle.yaml_text.specs.grammar.Separation.{indent, AtEnd, DocumentMark, StartsLine, s_l_comments}
 use Rattle.yaml_text.proofs.Breaks.{mark_dashes, mark_is}
 use Rattle.yaml_text.proofs.Runs.{run_same, same_char}
 use Rattle.yaml_text.proofs.LineRuns.{indent_run, indent_place, end_stops}
@@ -92,7 +92,7 @@ module _ (s : Chars) (line : Line) (is : IsLine s line) where
 
   pub no_content : AfterLine Cs Start → (First ≡ length Cs) ⊎ Dashes Cs Start → Fresh Cs First → ⊥
   no_content a (inl e) f = end_stops Cs is_ns First e f.0.0
-  no_content (inl st) (inr d) f = f.1 (subst (Mark Cs) (sym (dashes_first d)) (mark_is Cs Start st d))
+  no_content (inl st) (inr d) f = f.1 (subst (DocumentMark Cs) (sym (dashes_first d)) (mark_is Cs Start st d))
   no_content (inr e) (inr d) f = let (c, h, n) = dashes_char Start d in let l : Start < length Cs = slice_get_within Cs Start c h in omega (arith, e, l)
 
   -- ---- content
@@ -104,7 +104,7 @@ module _ (s : Chars) (line : Line) (is : IsLine s line) where
       go (inl f) = n (sym f ∙ e)
       go (inr lt) = end_stops Cs is_space Start e ((indent_run Cs line.column Start First is.spaces).1 Start (omega arith) lt)
 
-  pub no_mark : (Dashes Cs Start → ⊥) → Mark Cs Start → ⊥
+  pub no_mark : (Dashes Cs Start → ⊥) → DocumentMark Cs Start → ⊥
   no_mark n m = n (mark_dashes Cs Start m)
 
   -- ---- dashes

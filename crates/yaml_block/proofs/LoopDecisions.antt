@@ -6,7 +6,7 @@ use Rattle.yaml_text.specs.declared.chars.Chars.{Chars}
 use Rattle.yaml_text.specs.Lines.{Inside}
 use Rattle.yaml_text.specs.grammar.Rules.{Rule, ◌▸◌, any, Stands}
 use Rattle.yaml_text.specs.grammar.Characters.{is_ns}
-use Rattle.yaml_text.specs.grammar.Separation.{block_out, indent, AtEnd, Mark}
+use Rattle.yaml_text.specs.grammar.Separation.{block_out, indent, AtEnd, DocumentMark}
 use Rattle.yaml_text.specs.grammar.Tags.{Handles}
 use Rattle.yaml_text.specs.grammar.Events.{Props}
 use Rattle.yaml_text.specs.grammar.Nodes.{reads}
@@ -111,7 +111,7 @@ module _ (s : Chars) (handles : Handles) (r : ℕ) (line : Line) (k : ℕ) (is :
   pub same_line : line.column ≡ k → indent (text_of s) k (place_of s line.start) (place_of s line.first)
   same_line e = subst (λ n. indent (text_of s) n (place_of s line.start) (place_of s line.first)) e is.spaces
 
-  pub not_less : line.column ≡ k → (AtEnd (text_of s) (place_of s line.start) → ⊥) → (Mark (text_of s) (place_of s line.start) → ⊥) → Less (text_of s) k (place_of s line.start) → ⊥
+  pub not_less : line.column ≡ k → (AtEnd (text_of s) (place_of s line.start) → ⊥) → (DocumentMark (text_of s) (place_of s line.start) → ⊥) → Less (text_of s) k (place_of s line.start) → ⊥
   not_less e n m = line_less (text_of s) k line.column (place_of s line.start) (place_of s line.first) is.spaces is.all (omega (arith, e)) n m
 
 pub seq_no_room : (cs : List ℕ) (handles : Handles) (room k : ℕ) (p : Props) (E : End) (i : ℕ) → room ≡ 0 → Refused (sequence_with cs (Unit {0}) handles p room k) E i

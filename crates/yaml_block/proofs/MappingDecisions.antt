@@ -11,10 +11,10 @@ use Rattle.yaml_flow.specs.Decisions.{AllProperties, LineGoesOn, IsOnly}
 use Rattle.yaml_flow.specs.FlowRules.{flow_from}
 use Rattle.yaml_flow.specs.Keys.{ColonAfter}
 use Rattle.yaml_flow.specs.Lines.{IsBlock}
-use Rattle.yaml_flow.specs.PropertyRules.{Apart}
+use Rattle.yaml_flow.specs.PropertyRules.{Disjoint}
 use Rattle.yaml_flow.specs.declared.flow.Kind.{Kind}
 use Rattle.yaml_block.specs.BlockRules.{node_rest, entries_rest}
-use Rattle.yaml_block.specs.BlockEnds.{AfterNode, AfterMapping, ColonStands, IsNoKey, IsSign}
+use Rattle.yaml_block.specs.BlockEnds.{AfterNode, AfterMapping, ColonStands, IsNoKey, IsStyleSign}
 use Rattle.yaml_block.specs.OuterRules.{Outer, OnLine, Follows, MayBear, column_of}
 use Rattle.yaml_block.proofs.LineDecisions.{colon_inside}
 use Rattle.yaml_block.proofs.NodeDecisions.{Keyed, kept, keyed_only}
@@ -29,15 +29,15 @@ module _ (cs : List ℕ) where
 
 -- the first nodes from `from` on, with the outer properties p, and own ones q from x to e
 module _ (cs : List ℕ) (handles : Handles) (room : ℕ) (col : ℕ) (c : Ctx) (b : IsBlock c) (column : Option ℕ) (i x : ℕ) (p : Props) (e : ℕ) (q : Props) (all : AllProperties cs handles 0 block_key x e q) (on : LineGoesOn cs e q)
-    (line : OnLine cs handles x e q) (outer : Outer cs handles col column i x p) (none : (n : ℕ) → Follows cs x e n q → IsSign cs n → ⊥) where
+    (line : OnLine cs handles x e q) (outer : Outer cs handles col column i x p) (none : (n : ℕ) → Follows cs x e n q → IsStyleSign cs n → ⊥) where
   pub unfit_none : (y : ℕ) (kind : Kind) → IsOnly cs handles room col flow_out x kind y → (column ≡ None) ⊎ IsNoKey cs x y
-      → ((j : ℕ) → s_l_comments cs y j → ⊥) ⊎ (Apart p q → ⊥) ⊎ (MayBear cs x p → ⊥) → Refused (node_rest cs (Unit {0}) handles room col c (column_of p column)) (AfterNode cs col c) i
+      → ((j : ℕ) → s_l_comments cs y j → ⊥) ⊎ (Disjoint p q → ⊥) ⊎ (MayBear cs x p → ⊥) → Refused (node_rest cs (Unit {0}) handles room col c (column_of p column)) (AfterNode cs col c) i
   unfit_none y kind only n (inl over) =
       rest_refused (kept cs handles room col c b column i x p e q all on line outer none) (kept_not_over cs handles room col c b x y kind only p column n over)
   unfit_none y kind only n (inr why) = rest_refused (keyed_only cs handles room col c b column i x p e q all on line outer why) (keyed_none cs handles room col c b x y kind only p column n)
 
 module _ (cs : List ℕ) (handles : Handles) (r room : ℕ) (col : ℕ) (c : Ctx) (b : IsBlock c) (column : Option ℕ) (i x : ℕ) (p : Props) (e : ℕ) (q : Props) (all : AllProperties cs handles 0 block_key x e q) (on : LineGoesOn cs e q)
-    (line : OnLine cs handles x e q) (outer : Outer cs handles col column i x p) (none : (n : ℕ) → Follows cs x e n q → IsSign cs n → ⊥) where
+    (line : OnLine cs handles x e q) (outer : Outer cs handles col column i x p) (none : (n : ℕ) → Follows cs x e n q → IsStyleSign cs n → ⊥) where
   pub mapping_left : (y : ℕ) (kind : Kind) (deep : ℕ) (es : List Event) → flow_from cs (Unit {0}) handles deep kind col flow_out x y es → deep ≤ room → IsOnly cs handles room col flow_out x kind y → room ≡ suc r
       → (k a : ℕ) → column ≡ Some k → col ≤ k → ColonAfter cs x y a
       → Rest (node_rest cs (Unit {0}) handles room col c (column_of p column)) (AfterNode cs col c) i (entries_rest cs (Unit {0}) handles r k) (AfterMapping cs k) a

@@ -6,7 +6,7 @@ use Rattle.yaml_text.specs.Event.{Event, WrittenTag, Anchor, untagged, non_speci
 use Rattle.yaml_text.specs.Lines.{Inside}
 use Rattle.yaml_text.specs.grammar.Rules.{Rule, Stands}
 use Rattle.yaml_text.specs.grammar.Characters.{is_space}
-use Rattle.yaml_text.specs.grammar.Separation.{Ctx, block_key, flow_out, indent, separate, separate_lines, s_l_comments, AtEnd, Mark}
+use Rattle.yaml_text.specs.grammar.Separation.{Ctx, block_key, flow_out, indent, separate, separate_lines, s_l_comments, AtEnd, DocumentMark}
 use Rattle.yaml_text.specs.grammar.Tags.{Handles}
 use Rattle.yaml_text.specs.grammar.Events.{Props, no_props}
 use Rattle.yaml_text.proofs.LineRuns.{indent_run, indent_place}
@@ -29,13 +29,13 @@ use Rattle.yaml_complete.proofs.OwnLines.{MappingIn, FlowOrKey, mapping_refused,
 use Rattle.yaml_flow.specs.Decisions.{AllProperties, Barred, IsProperty, LineGoesOn}
 use Rattle.yaml_flow.specs.FlowRules.{opens, below}
 use Rattle.yaml_flow.specs.Lines.{IsBlock}
-use Rattle.yaml_flow.specs.PropertyRules.{Marks, Apart, both_props}
+use Rattle.yaml_flow.specs.PropertyRules.{SomeProperties, Disjoint, both_props}
 use Rattle.yaml_flow.proofs.PropertyLemmas.{marks_props, marks_some}
 use Rattle.yaml_flow.proofs.PropertyDecisions.{both_is, apart_kinds, barred_line}
 use Rattle.yaml_flow.proofs.SpaceLemmas.{lines_separate, flow_separate, block_separate}
 use Rattle.yaml_block.specs.BlockRules.{least_dash, node_rest}
-use Rattle.yaml_block.specs.BlockEnds.{AfterNode, IsSign}
-use Rattle.yaml_block.specs.OuterRules.{Outer, nothing, above, Above, one_line, two_lines, OnLine, Follows, MayBear, left, column_of}
+use Rattle.yaml_block.specs.BlockEnds.{AfterNode, IsStyleSign}
+use Rattle.yaml_block.specs.OuterRules.{Outer, nothing, above, Above, one_line, two_lines, OnLine, Follows, MayBear, properties_left, column_of}
 use Rattle.yaml_block.proofs.Levels.{facts_at, eased_at, wider_at, forward_at, blocks_at}
 use Rattle.yaml_block.proofs.NodeForms.{Forms, MappingAt, mapping_at, node_left, node_alone, block_lines}
 use Rattle.yaml_block.proofs.OuterLemmas.{column_free, marked_column, none_both, fewer_left}
@@ -77,28 +77,28 @@ tags_or (full a) (full b) = inr none
     none (inl e) = cc
     none (inr e) = cc
 
-pub apart_or : (p q : Props) → Apart p q ⊎ (Apart p q → ⊥)
+pub apart_or : (p q : Props) → Disjoint p q ⊎ (Disjoint p q → ⊥)
 apart_or p q = go (anchors_or p.anchor q.anchor) (tags_or p.tag q.tag)
   where
-    go : ((p.anchor ≡ None) ⊎ (q.anchor ≡ None)) ⊎ (((p.anchor ≡ None) ⊎ (q.anchor ≡ None)) → ⊥) → ((p.tag ≡ untagged) ⊎ (q.tag ≡ untagged)) ⊎ (((p.tag ≡ untagged) ⊎ (q.tag ≡ untagged)) → ⊥) → Apart p q ⊎ (Apart p q → ⊥)
+    go : ((p.anchor ≡ None) ⊎ (q.anchor ≡ None)) ⊎ (((p.anchor ≡ None) ⊎ (q.anchor ≡ None)) → ⊥) → ((p.tag ≡ untagged) ⊎ (q.tag ≡ untagged)) ⊎ (((p.tag ≡ untagged) ⊎ (q.tag ≡ untagged)) → ⊥) → Disjoint p q ⊎ (Disjoint p q → ⊥)
     go (inl a) (inl b) = inl (a, b)
     go (inr a) b = inr (λ z. a z.0)
     go (inl a) (inr b) = inr (λ z. b z.1)
 
-pub apart_none : (q : Props) → Apart no_props q
+pub apart_none : (q : Props) → Disjoint no_props q
 apart_none q = (inl refl, inl refl)
 
-pub none_apart : (p : Props) → Apart p no_props
+pub none_apart : (p : Props) → Disjoint p no_props
 none_apart p = (inr refl, inr refl)
 
 -- two of them are all that a node may have
-two_full : (a b q : Props) → (a ≡ no_props → ⊥) → (b ≡ no_props → ⊥) → (q ≡ no_props → ⊥) → Apart a b → Apart (both_props a b) q → ⊥
+two_full : (a b q : Props) → (a ≡ no_props → ⊥) → (b ≡ no_props → ⊥) → (q ≡ no_props → ⊥) → Disjoint a b → Disjoint (both_props a b) q → ⊥
 two_full a b q sa sb sq u v =
-    let x : left (both_props no_props a) < left no_props = fewer_left no_props a (apart_none a) sa in
-    let y : left (both_props no_props a) ≡ left a = ap left (none_both a) in
-    let z : left (both_props a b) < left a = fewer_left a b u sb in
-    let w : left (both_props (both_props a b) q) < left (both_props a b) = fewer_left (both_props a b) q v sq in
-    let two : left no_props ≡ 2 = refl in
+    let x : properties_left (both_props no_props a) < properties_left no_props = fewer_left no_props a (apart_none a) sa in
+    let y : properties_left (both_props no_props a) ≡ properties_left a = ap properties_left (none_both a) in
+    let z : properties_left (both_props a b) < properties_left a = fewer_left a b u sb in
+    let w : properties_left (both_props (both_props a b) q) < properties_left (both_props a b) = fewer_left (both_props a b) q v sq in
+    let two : properties_left no_props ≡ 2 = refl in
     omega (arith, x, y, z, w, two)
 
 star_or : (o : Option ℕ) → (o ≡ Some 42) ⊎ (o ≢ Some 42)
@@ -115,10 +115,10 @@ star_or (Some c) = elim (cases_eq c 42) [
     some_is e = cc
 
 module _ (cs : List ℕ) (handles : Handles) where
-  marked : (i e : ℕ) (p : Props) → Marks cs handles 0 block_key i e p → p ≡ no_props → ⊥
+  marked : (i e : ℕ) (p : Props) → SomeProperties cs handles 0 block_key i e p → p ≡ no_props → ⊥
   marked i e p m h = marks_some cs handles 0 block_key i e p m h
 
-  marked_here : (i e : ℕ) (p : Props) → Marks cs handles 0 block_key i e p → PropHere cs handles i
+  marked_here : (i e : ℕ) (p : Props) → SomeProperties cs handles 0 block_key i e p → PropHere cs handles i
   marked_here i e p m = props_here cs handles (prop_same cs handles) (prop_here cs handles) (prop_inside cs handles) 0 block_key i e p (props_two cs handles 0 block_key i e p (marks_props cs handles 0 block_key i e p m))
 
   kind_property : (i : ℕ) → Kind cs 1 i → IsProperty cs i
@@ -156,7 +156,7 @@ module _ (cs : List ℕ) (handles : Handles) where
 
     -- ---- own properties
 
-    pub own_of : (x e : ℕ) (q : Props) → Marks cs handles 0 block_key x e q → AllProperties cs handles 0 block_key x e q → LineGoesOn cs e q → own.Own cs (Unit {0}) handles (opens cs (Unit {0}) handles room) (below cs (Unit {0}) handles room) (facts_at cs (Unit {0}) handles room) (eased_at cs (Unit {0}) handles room) (wider_at cs (Unit {0}) handles room) (forward_at cs (Unit {0}) handles room) (blocks_at cs (Unit {0}) handles room) col (least_dash col c) c x e q
+    pub own_of : (x e : ℕ) (q : Props) → SomeProperties cs handles 0 block_key x e q → AllProperties cs handles 0 block_key x e q → LineGoesOn cs e q → own.Own cs (Unit {0}) handles (opens cs (Unit {0}) handles room) (below cs (Unit {0}) handles room) (facts_at cs (Unit {0}) handles room) (eased_at cs (Unit {0}) handles room) (wider_at cs (Unit {0}) handles room) (forward_at cs (Unit {0}) handles room) (blocks_at cs (Unit {0}) handles room) col (least_dash col c) c x e q
     own_of x e q m all on = record { read = marks_props cs handles 0 block_key x e q m; all = λ o r s d. all.second (single r) o s d; goes_on = going on }
       where
         single : prop cs handles x e q → (q.anchor ≡ None) ⊎ (q.tag ≡ untagged)
@@ -169,7 +169,7 @@ module _ (cs : List ℕ) (handles : Handles) where
 
     -- ---- no properties above
 
-    alone_left : (x e : ℕ) (q : Props) (column : Option ℕ) → OnLine cs handles x e q → AllProperties cs handles 0 block_key x e q → LineGoesOn cs e q → ((n : ℕ) → Follows cs x e n q → IsSign cs n → ⊥)
+    alone_left : (x e : ℕ) (q : Props) (column : Option ℕ) → OnLine cs handles x e q → AllProperties cs handles 0 block_key x e q → LineGoesOn cs e q → ((n : ℕ) → Follows cs x e n q → IsStyleSign cs n → ⊥)
         → Rest (Node column) E x (Kept no_props column) E x
     alone_left x e q column (inl (h, g)) all on none =
         rest_rest (node_left cs (Unit {0}) handles room col c b column E x) (flow_or_key cs (Unit {0}) handles (opens cs (Unit {0}) handles room) (below cs (Unit {0}) handles room) (facts_at cs (Unit {0}) handles room) (eased_at cs (Unit {0}) handles room) (wider_at cs (Unit {0}) handles room) (forward_at cs (Unit {0}) handles room) (blocks_at cs (Unit {0}) handles room) col (least_dash col c) c x column (no_kind_one x e q all g) (λ k. none x (inl (g, refl)) (kind_sign cs x k)))
@@ -188,10 +188,10 @@ module _ (cs : List ℕ) (handles : Handles) where
     upper_inside i e p (two_lines l s k z a d ma over st ind whole le md ap eq) = props_inside cs handles (prop_same cs handles) (prop_here cs handles) (prop_inside cs handles) 0 block_key z e d (props_two cs handles 0 block_key z e d (marks_props cs handles 0 block_key z e d md))
 
     -- one more that is apart from them: they were one
-    first_of : (i e x f : ℕ) (p q : Props) → Above cs handles col i e p → Marks cs handles 0 block_key x f q → Apart p q → Marks cs handles 0 block_key i e p
+    first_of : (i e x f : ℕ) (p q : Props) → Above cs handles col i e p → SomeProperties cs handles 0 block_key x f q → Disjoint p q → SomeProperties cs handles 0 block_key i e p
     first_of i e x f p q (one_line m all) mq ap = m
     first_of i e x f p q (two_lines l s k z a d ma over st ind whole le md u eq) mq ap =
-        absurd (two_full a d q (marked i l a ma) (marked z e d md) (marked x f q mq) u (subst (λ y. Apart y q) eq ap))
+        absurd (two_full a d q (marked i l a ma) (marked z e d md) (marked x f q mq) u (subst (λ y. Disjoint y q) eq ap))
 
     to_block : (i q : ℕ) → separate_lines cs col i q → separate cs col c i q
     to_block i q s = block_separate cs col c i q b s
@@ -216,14 +216,14 @@ module _ (cs : List ℕ) (handles : Handles) where
           separate_short cs col flow_out f s x (upper_inside i f p up) over st (indent_run cs k s x ind, whole) (let a : x ≡ s + k = indent_place cs k s x ind in omega (arith, a, lt)) o (inr t) (prop_solid cs handles o (prop_here cs handles o l q u)).0
 
       module _ (le : col ≤ k) where
-        clash_left : (e : ℕ) (q : Props) → Marks cs handles 0 block_key x e q → (Apart p q → ⊥) → Rest (Node None) E i (Keyed p (Some k)) E x
+        clash_left : (e : ℕ) (q : Props) → SomeProperties cs handles 0 block_key x e q → (Disjoint p q → ⊥) → Rest (Node None) E i (Keyed p (Some k)) E x
         clash_left e q m clash =
             rest_rest (node_alone cs (Unit {0}) handles room col c b E i) (upper_clash cs (Unit {0}) handles (opens cs (Unit {0}) handles room) (below cs (Unit {0}) handles room) (facts_at cs (Unit {0}) handles room) (eased_at cs (Unit {0}) handles room) (wider_at cs (Unit {0}) handles room) (forward_at cs (Unit {0}) handles room) (blocks_at cs (Unit {0}) handles room) col (least_dash col c) c to_block to_lines i f s k x p (upper_of i f p up) over st ind whole le (marked_here x e q m) e q (marks_props cs handles 0 block_key x e q m) clash)
 
         keyed_kept : Rest (Keyed p (Some k)) E x (Kept p (Some k)) E x
         keyed_kept = record { rest = λ j m v r e. (j, v, inr r, e) }
 
-        module _ (no_dash : DashHere cs x → ⊥) (no_end : AtEnd cs s → ⊥) (no_mark : Mark cs s → ⊥) (e : ℕ) (q : Props) (all : AllProperties cs handles 0 block_key x e q) (on : LineGoesOn cs e q) where
+        module _ (no_dash : DashHere cs x → ⊥) (no_end : AtEnd cs s → ⊥) (no_mark : DocumentMark cs s → ⊥) (e : ℕ) (q : Props) (all : AllProperties cs handles 0 block_key x e q) (on : LineGoesOn cs e q) where
           other : Follow cs col (least_dash col c) s → ⊥
           other g = line_less cs col k s x ind whole le no_end no_mark g.0
 
@@ -234,19 +234,19 @@ module _ (cs : List ℕ) (handles : Handles) where
           apart_at : separate_lines cs col f x
           apart_at = lines_separate cs col k f s x le over ind
 
-          above_left : OnLine cs handles x e q → ((n : ℕ) → Follows cs x e n q → IsSign cs n → ⊥) → Rest (Node None) E i (Kept p (Some k)) E x
+          above_left : OnLine cs handles x e q → ((n : ℕ) → Follows cs x e n q → IsStyleSign cs n → ⊥) → Rest (Node None) E i (Kept p (Some k)) E x
           above_left (inl (h, g)) none =
               rest_rest (node_alone cs (Unit {0}) handles room col c b E i) (above_flow_or_key cs (Unit {0}) handles (opens cs (Unit {0}) handles room) (below cs (Unit {0}) handles room) (facts_at cs (Unit {0}) handles room) (eased_at cs (Unit {0}) handles room) (wider_at cs (Unit {0}) handles room) (forward_at cs (Unit {0}) handles room) (blocks_at cs (Unit {0}) handles room) col (least_dash col c) c i f s k x p (bare_under g) over st ind whole other (λ z. none x (inl (g, refl)) (kind_sign cs x z)) no_dash)
           above_left (inr m) none = go (apart_or p q)
             where
-              go : Apart p q ⊎ (Apart p q → ⊥) → Rest (Node None) E i (Kept p (Some k)) E x
+              go : Disjoint p q ⊎ (Disjoint p q → ⊥) → Rest (Node None) E i (Kept p (Some k)) E x
               go (inl ap) =
                   let (rp, rq, df) = apart_kinds cs handles i f x e p q (first_of i f x e p q up m ap) m ap in
                   rest_rest (node_alone cs (Unit {0}) handles room col c b E i) (both_flow_or_key cs (Unit {0}) handles (opens cs (Unit {0}) handles room) (below cs (Unit {0}) handles room) (facts_at cs (Unit {0}) handles room) (eased_at cs (Unit {0}) handles room) (wider_at cs (Unit {0}) handles room) (forward_at cs (Unit {0}) handles room) (blocks_at cs (Unit {0}) handles room) col (least_dash col c) c i f s k x e p q rp over st ind whole (flow_separate cs col f x apart_at) (to_block f x apart_at) rq df (own_of x e q m all on) (λ n r lt z. none n (inr (marked x e q m, r, lt)) (kind_sign cs n z)))
               go (inr clash) = rest_rest (clash_left e q m clash) keyed_kept
 
-          above_keyed : OnLine cs handles x e q → (Apart p q → ⊥) ⊎ (MayBear cs x p → ⊥) → Rest (Node None) E i (Keyed p (Some k)) E x
-          above_keyed (inl (h, g)) (inl clash) = absurd (clash (subst (Apart p) (sym g) (none_apart p)))
+          above_keyed : OnLine cs handles x e q → (Disjoint p q → ⊥) ⊎ (MayBear cs x p → ⊥) → Rest (Node None) E i (Keyed p (Some k)) E x
+          above_keyed (inl (h, g)) (inl clash) = absurd (clash (subst (Disjoint p) (sym g) (none_apart p)))
           above_keyed (inl (h, g)) (inr alias) = go (star_or (slice_get cs x))
             where
               go : (slice_get cs x ≡ Some 42) ⊎ (slice_get cs x ≢ Some 42) → Rest (Node None) E i (Keyed p (Some k)) E x
@@ -260,7 +260,7 @@ module _ (cs : List ℕ) (handles : Handles) where
               not_star (inr h) g = let z : 38 ≡ 42 = same_char cs x 38 42 h g in omega (arith, z)
 
           -- a block scalar
-          above_signed : (n : ℕ) → OnLine cs handles x e q → Follows cs x e n q → IsSign cs n → Apart p q → (r : Props) × Rest (Node None) E i (Scalar r) E n
+          above_signed : (n : ℕ) → OnLine cs handles x e q → Follows cs x e n q → IsStyleSign cs n → Disjoint p q → (r : Props) × Rest (Node None) E i (Scalar r) E n
           above_signed n (inl (h, g)) (inl (u, v)) sign ap =
               (p, subst (λ z. Rest (Node None) E i (Scalar p) E z) (sym v) (rest_rest (node_alone cs (Unit {0}) handles room col c b E i) (above_scalar cs (Unit {0}) handles (opens cs (Unit {0}) handles room) (below cs (Unit {0}) handles room) (facts_at cs (Unit {0}) handles room) (eased_at cs (Unit {0}) handles room) (wider_at cs (Unit {0}) handles room) (forward_at cs (Unit {0}) handles room) (blocks_at cs (Unit {0}) handles room) col (least_dash col c) c i f s k x p (bare_under g) over st ind whole other (subst (Kind cs 4) v (sign_kind cs n sign)))))
           above_signed n (inl (h, g)) (inr (u, r, lt)) sign ap = absurd (u g)
@@ -269,8 +269,8 @@ module _ (cs : List ℕ) (handles : Handles) where
               let (rp, rq, df) = apart_kinds cs handles i f x e p q (first_of i f x e p q up m ap) m ap in
               (both p q, rest_rest (node_alone cs (Unit {0}) handles room col c b E i) (both_scalar cs (Unit {0}) handles (opens cs (Unit {0}) handles room) (below cs (Unit {0}) handles room) (facts_at cs (Unit {0}) handles room) (eased_at cs (Unit {0}) handles room) (wider_at cs (Unit {0}) handles room) (forward_at cs (Unit {0}) handles room) (blocks_at cs (Unit {0}) handles room) col (least_dash col c) c i f s k x e p q rp over st ind whole (flow_separate cs col f x apart_at) (to_block f x apart_at) rq df (own_of x e q m all on) n (r, lt, sign_kind cs n sign)))
 
-          above_signed_clash : (n : ℕ) → OnLine cs handles x e q → Follows cs x e n q → IsSign cs n → (Apart p q → ⊥) → Refused (Node None) E i
-          above_signed_clash n (inl (h, g)) t sign clash = absurd (clash (subst (Apart p) (sym g) (none_apart p)))
+          above_signed_clash : (n : ℕ) → OnLine cs handles x e q → Follows cs x e n q → IsStyleSign cs n → (Disjoint p q → ⊥) → Refused (Node None) E i
+          above_signed_clash n (inl (h, g)) t sign clash = absurd (clash (subst (Disjoint p) (sym g) (none_apart p)))
           above_signed_clash n (inr m) (inl (u, v)) sign clash = absurd (marked x e q m u)
           above_signed_clash n (inr m) (inr (u, r, lt)) sign clash =
               rest_refused (clash_left e q m clash) (mapping_refused cs (Unit {0}) handles (opens cs (Unit {0}) handles room) (below cs (Unit {0}) handles room) (facts_at cs (Unit {0}) handles room) (eased_at cs (Unit {0}) handles room) (wider_at cs (Unit {0}) handles room) (forward_at cs (Unit {0}) handles room) (blocks_at cs (Unit {0}) handles room) col (least_dash col c) c E x p (Some k) (no_key_signed cs (Unit {0}) handles (opens cs (Unit {0}) handles room) (below cs (Unit {0}) handles room) (facts_at cs (Unit {0}) handles room) (eased_at cs (Unit {0}) handles room) (wider_at cs (Unit {0}) handles room) (forward_at cs (Unit {0}) handles room) (blocks_at cs (Unit {0}) handles room) col (least_dash col c) c x e q (own_of x e q m all on) n (r, lt, sign_kind cs n sign)))
@@ -281,7 +281,7 @@ module _ (cs : List ℕ) (handles : Handles) where
             rest_refused (node_alone cs (Unit {0}) handles room col c b E i) (upper_barred cs (Unit {0}) handles (opens cs (Unit {0}) handles room) (below cs (Unit {0}) handles room) (facts_at cs (Unit {0}) handles room) (eased_at cs (Unit {0}) handles room) (wider_at cs (Unit {0}) handles room) (forward_at cs (Unit {0}) handles room) (blocks_at cs (Unit {0}) handles room) col (least_dash col c) c to_block to_lines i f s k x p (upper_of i f p up) over st ind whole le bar.0 (barred_line cs handles x bar))
 
         -- their line is over too
-        above_over_clash : (e h : ℕ) (q : Props) → x ≤ e → Marks cs handles 0 block_key x e q → s_l_comments cs e h → (Apart p q → ⊥) → Refused (Node None) E i
+        above_over_clash : (e h : ℕ) (q : Props) → x ≤ e → SomeProperties cs handles 0 block_key x e q → s_l_comments cs e h → (Disjoint p q → ⊥) → Refused (Node None) E i
         above_over_clash e h q on m end clash =
             rest_refused (clash_left e q m clash) (no_mapping_in cs (Unit {0}) handles (opens cs (Unit {0}) handles room) (below cs (Unit {0}) handles room) (facts_at cs (Unit {0}) handles room) (eased_at cs (Unit {0}) handles room) (wider_at cs (Unit {0}) handles room) (forward_at cs (Unit {0}) handles room) (blocks_at cs (Unit {0}) handles room) col (least_dash col c) c p E x e h q (Some k) on (marks_props cs handles 0 block_key x e q m) end)
 
@@ -294,22 +294,22 @@ module _ (cs : List ℕ) (handles : Handles) where
       beside : (R : Props → Option ℕ → Option ℕ → ℕ → Type 0) → x ≡ i → p ≡ no_props → R no_props column column x → R p (column_of p column) column i
       beside R e h r = moved (λ q o z. R q o column z) e h r
 
-      up_to : (R : Option ℕ → Option ℕ → Type 0) (f k : ℕ) → Marks cs handles col flow_out i f p → column ≡ Some k → R None (Some k) → R (column_of p column) column
+      up_to : (R : Option ℕ → Option ℕ → Type 0) (f k : ℕ) → SomeProperties cs handles col flow_out i f p → column ≡ Some k → R None (Some k) → R (column_of p column) column
       up_to R f k m g r = subst (λ o. R o column) (sym (marked_column cs (Unit {0}) handles col i f p column m)) (subst (R None) (sym g) r)
 
       module _ (e : ℕ) (q : Props) (all : AllProperties cs handles 0 block_key x e q) (on : LineGoesOn cs e q) (line : OnLine cs handles x e q) where
-        pub kept : Outer cs handles col column i x p → ((n : ℕ) → Follows cs x e n q → IsSign cs n → ⊥) → Rest (Node (column_of p column)) E i (Kept p column) E x
+        pub kept : Outer cs handles col column i x p → ((n : ℕ) → Follows cs x e n q → IsStyleSign cs n → ⊥) → Rest (Node (column_of p column)) E i (Kept p column) E x
         kept (nothing g h) none = beside (λ u o a z. Rest (Node o) E z (Kept u a) E x) g h (alone_left x e q column line all on none)
         kept (above f l k m over ind le g up st whole dash end mark) none =
             up_to (λ o a. Rest (Node o) E i (Kept p a) E x) f k m g (above_left i f l k x p up over st ind whole le dash end mark e q all on line none)
 
-        pub keyed_only : Outer cs handles col column i x p → (Apart p q → ⊥) ⊎ (MayBear cs x p → ⊥) → Rest (Node (column_of p column)) E i (Keyed p column) E x
-        keyed_only (nothing g h) (inl clash) = absurd (clash (subst (λ z. Apart z q) (sym h) (apart_none q)))
+        pub keyed_only : Outer cs handles col column i x p → (Disjoint p q → ⊥) ⊎ (MayBear cs x p → ⊥) → Rest (Node (column_of p column)) E i (Keyed p column) E x
+        keyed_only (nothing g h) (inl clash) = absurd (clash (subst (λ z. Disjoint z q) (sym h) (apart_none q)))
         keyed_only (nothing g h) (inr alias) = absurd (alias (inl h))
         keyed_only (above f l k m over ind le g up st whole dash end mark) why =
             up_to (λ o a. Rest (Node o) E i (Keyed p a) E x) f k m g (above_keyed i f l k x p up over st ind whole le dash end mark e q all on line why)
 
-        pub signed : (n : ℕ) → Outer cs handles col column i x p → Follows cs x e n q → IsSign cs n → Apart p q → (r : Props) × Rest (Node (column_of p column)) E i (Scalar r) E n
+        pub signed : (n : ℕ) → Outer cs handles col column i x p → Follows cs x e n q → IsStyleSign cs n → Disjoint p q → (r : Props) × Rest (Node (column_of p column)) E i (Scalar r) E n
         signed n (nothing g h) t sign ap = beside (λ u o a z. (r : Props) × Rest (Node o) E z (Scalar r) E n) g h (go line t)
           where
             go : OnLine cs handles x e q → Follows cs x e n q → (r : Props) × Rest (Node column) E x (Scalar r) E n
@@ -320,8 +320,8 @@ module _ (cs : List ℕ) (handles : Handles) where
         signed n (above f l k m over ind le g up st whole dash end mark) t sign ap =
             up_to (λ o a. (r : Props) × Rest (Node o) E i (Scalar r) E n) f k m g (above_signed i f l k x p up over st ind whole le dash end mark e q all on n line t sign ap)
 
-        pub signed_clash : (n : ℕ) → Outer cs handles col column i x p → Follows cs x e n q → IsSign cs n → (Apart p q → ⊥) → Refused (Node (column_of p column)) E i
-        signed_clash n (nothing g h) t sign clash = absurd (clash (subst (λ z. Apart z q) (sym h) (apart_none q)))
+        pub signed_clash : (n : ℕ) → Outer cs handles col column i x p → Follows cs x e n q → IsStyleSign cs n → (Disjoint p q → ⊥) → Refused (Node (column_of p column)) E i
+        signed_clash n (nothing g h) t sign clash = absurd (clash (subst (λ z. Disjoint z q) (sym h) (apart_none q)))
         signed_clash n (above f l k m over ind le g up st whole dash end mark) t sign clash =
             up_to (λ o a. Refused (Node o) E i) f k m g (above_signed_clash i f l k x p up over st ind whole le dash end mark e q all on n line t sign clash)
 
@@ -336,8 +336,8 @@ module _ (cs : List ℕ) (handles : Handles) where
 
       -- ---- the line is over after own properties
 
-      module _ (e h : ℕ) (q : Props) (onward : x ≤ e) (own_marks : Marks cs handles 0 block_key x e q) (all : AllProperties cs handles 0 block_key x e q) (end : s_l_comments cs e h) where
-        pub over_above : Outer cs handles col column i x p → Apart p q → Above cs handles col i e (both_props p q)
+      module _ (e h : ℕ) (q : Props) (onward : x ≤ e) (own_marks : SomeProperties cs handles 0 block_key x e q) (all : AllProperties cs handles 0 block_key x e q) (end : s_l_comments cs e h) where
+        pub over_above : Outer cs handles col column i x p → Disjoint p q → Above cs handles col i e (both_props p q)
         over_above (nothing g u) ap =
             subst (λ z. Above cs handles col z e (both_props p q)) g (subst (Above cs handles col x e) (sym (ap_both u)) (one_line own_marks all))
           where
@@ -357,7 +357,7 @@ module _ (cs : List ℕ) (handles : Handles) where
         over_left (above f l k m over ind le g up st whole dash no_end mark) =
             up_to (λ o a. Rest (Node o) E i (Node None) E i) f k m g (record { rest = λ j n v r w. (j, v, r, w) })
 
-        pub over_clash : Outer cs handles col column i x p → (Apart p q → ⊥) → Refused (Node (column_of p column)) E i
-        over_clash (nothing g u) clash = absurd (clash (subst (λ z. Apart z q) (sym u) (apart_none q)))
+        pub over_clash : Outer cs handles col column i x p → (Disjoint p q → ⊥) → Refused (Node (column_of p column)) E i
+        over_clash (nothing g u) clash = absurd (clash (subst (λ z. Disjoint z q) (sym u) (apart_none q)))
         over_clash (above f l k m over ind le g up st whole dash no_end mark) clash =
             up_to (λ o a. Refused (Node o) E i) f k m g (above_over_clash i f l k x p up over st ind whole le e h q onward own_marks end clash)

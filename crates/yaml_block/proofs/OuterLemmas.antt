@@ -9,15 +9,15 @@ use Rattle.yaml_text.specs.grammar.Tags.{Handles, tag, alias, properties}
 use Rattle.yaml_text.specs.grammar.Events.{Props, no_props, empty}
 use Rattle.yaml_text.specs.grammar.Nodes as nodes
 use Rattle.yaml_text.specs.grammar.Nodes.{yaml_part, reads}
-use Rattle.yaml_flow.specs.FlowRules.{Bare, aliased, plainly, marked, lone, part_of}
-use Rattle.yaml_flow.specs.PropertyRules.{Marks, tag_alone, anchor_alone, both, Own, Apart, IsTag, IsAnchor, both_props, anchor_of, tag_of, tag_props, anchor_props, dressed}
+use Rattle.yaml_flow.specs.FlowRules.{Bare, aliased, plainly, with_properties, lone, part_of}
+use Rattle.yaml_flow.specs.PropertyRules.{SomeProperties, tag_alone, anchor_alone, both, Own, Disjoint, HasTag, HasAnchor, both_props, either_anchor, either_tag, tag_props, anchor_props, dressed}
 use Rattle.yaml_flow.specs.declared.flow.Kind.{Kind}
 use Rattle.yaml_flow.specs.declared.flow.Kind.TheVariants.{Yaml, Json}
 use Rattle.yaml_flow.proofs.PropertyLemmas.{marks_props, marks_some, tag_then, anchor_then}
 use Rattle.yaml_flow.proofs.SpaceLemmas.{lines_separate, sep_separate, flow_separate}
 use Rattle.yaml_flow.proofs.FlowLemmas.{dressed_at, marked_node, lone_node, bare_flow}
 use Rattle.yaml_block.specs.BlockRules.{least_dash, node_rest, block_scalar_rest, sequence_with, mapping_with, mapping_in}
-use Rattle.yaml_block.specs.OuterRules.{Outer, nothing, above, OnLine, Before, at_once, spaced, Follows, MayBear, left, anchors_left, tags_left, column_by, column_of}
+use Rattle.yaml_block.specs.OuterRules.{Outer, nothing, above, OnLine, AfterOwn, at_once, spaced, Follows, MayBear, properties_left, anchors_left, tags_left, column_by, column_of}
 
 -- ---- the column of a mapping without properties
 
@@ -33,7 +33,7 @@ column_none p = go p.anchor p.tag
 pub column_free : (p : Props) (column : Option ℕ) → p ≡ no_props → column_of p column ≡ column
 column_free p column e = ap (λ x. column_of x column) e
 
-column_marked : (a : Anchor) (t : WrittenTag) (column : Option ℕ) → IsTag t → column_by a t column ≡ None
+column_marked : (a : Anchor) (t : WrittenTag) (column : Option ℕ) → HasTag t → column_by a t column ≡ None
 column_marked None untagged column h = absurd h
 column_marked None non_specific column h = refl
 column_marked None (full t) column h = refl
@@ -55,11 +55,11 @@ adds_longer old new es a =
 pub none_both : (q : Props) → both_props no_props q ≡ q
 none_both q = λ z. record { anchor = anchor_none q.anchor z; tag = tag_none q.tag z }
   where
-    anchor_none : (a : Anchor) → anchor_of a None ≡ a
+    anchor_none : (a : Anchor) → either_anchor a None ≡ a
     anchor_none None = refl
     anchor_none (Some a) = refl
 
-    tag_none : (t : WrittenTag) → tag_of t untagged ≡ t
+    tag_none : (t : WrittenTag) → either_tag t untagged ≡ t
     tag_none untagged = refl
     tag_none non_specific = refl
     tag_none (full t) = refl
@@ -68,11 +68,11 @@ pub both_none : (p : Props) → both_props p no_props ≡ p
 both_none p = refl
 
 -- an own property takes one of those that were left
-pub fewer_left : (p q : Props) → Apart p q → (q ≡ no_props → ⊥) → left (both_props p q) < left p
+pub fewer_left : (p q : Props) → Disjoint p q → (q ≡ no_props → ⊥) → properties_left (both_props p q) < properties_left p
 fewer_left p q apart some = go p.anchor q.anchor p.tag q.tag apart.0 apart.1 (λ a t. some (λ z. record { anchor = a z; tag = t z }))
   where
     go : (a b : Anchor) (s t : WrittenTag) → (a ≡ None) ⊎ (b ≡ None) → (s ≡ untagged) ⊎ (t ≡ untagged) → (b ≡ None → t ≡ untagged → ⊥) →
-        anchors_left (anchor_of b a) + tags_left (tag_of t s) < anchors_left a + tags_left s
+        anchors_left (either_anchor b a) + tags_left (either_tag t s) < anchors_left a + tags_left s
     go a None s untagged x y f = absurd (f refl refl)
     go None None untagged non_specific x y f = omega arith
     go (Some a) None untagged non_specific x y f = omega arith
@@ -111,7 +111,7 @@ module _ (cs : List ℕ) (handles : Handles) where
   line_properties n i j p (inr (k, a, r, inl e)) = inr (k, a, r, inl e)
   line_properties n i j p (inr (k, a, r, inr (m, s, t))) = inr (k, a, r, inr (m, inr s, t))
 
-  pub line_marks : (n : ℕ) (i j : ℕ) (p : Props) → Marks cs handles 0 block_key i j p → Marks cs handles n flow_out i j p
+  pub line_marks : (n : ℕ) (i j : ℕ) (p : Props) → SomeProperties cs handles 0 block_key i j p → SomeProperties cs handles n flow_out i j p
   line_marks n i j p (tag_alone t r s e) = tag_alone t r s e
   line_marks n i j p (anchor_alone a r e) = anchor_alone a r e
   line_marks n i j p (both r s t) = both (line_properties n i j p r) s t
@@ -122,77 +122,77 @@ module _ (cs : List ℕ) (handles : Handles) where
 
   module _ (n : ℕ) where
     -- properties of two places, of which each has one
-    pub joined : (i e k j : ℕ) (p q : Props) → Marks cs handles n flow_out i e p → separate cs n flow_out e k → Marks cs handles n flow_out k j q → Apart p q →
-        Marks cs handles n flow_out i j (both_props p q)
+    pub joined : (i e k j : ℕ) (p q : Props) → SomeProperties cs handles n flow_out i e p → separate cs n flow_out e k → SomeProperties cs handles n flow_out k j q → Disjoint p q →
+        SomeProperties cs handles n flow_out i j (both_props p q)
     joined i e k j p q (tag_alone t r s h) d (tag_alone u v w g) a = absurd (no_two a.1)
       where
         no_two : (p.tag ≡ untagged) ⊎ (q.tag ≡ untagged) → ⊥
-        no_two (inl f) = subst IsTag (ap Props.tag (sym h) ∙ f) s
-        no_two (inr f) = subst IsTag (ap Props.tag (sym g) ∙ f) w
+        no_two (inl f) = subst HasTag (ap Props.tag (sym h) ∙ f) s
+        no_two (inr f) = subst HasTag (ap Props.tag (sym g) ∙ f) w
     joined i e k j p q (anchor_alone x r h) d (anchor_alone y v g) a = absurd (no_two a.0)
       where
         no_two : (p.anchor ≡ None) ⊎ (q.anchor ≡ None) → ⊥
-        no_two (inl f) = subst IsAnchor (ap Props.anchor (sym h) ∙ f) tt
-        no_two (inr f) = subst IsAnchor (ap Props.anchor (sym g) ∙ f) tt
+        no_two (inl f) = subst HasAnchor (ap Props.anchor (sym h) ∙ f) tt
+        no_two (inr f) = subst HasAnchor (ap Props.anchor (sym g) ∙ f) tt
     joined i e k j p q (tag_alone t r s h) d (anchor_alone y v g) a =
-        subst (Marks cs handles n flow_out i j) (λ z. both_props (sym h z) (sym g z)) (tag_then cs handles n flow_out i e k j t y r d v)
+        subst (SomeProperties cs handles n flow_out i j) (λ z. both_props (sym h z) (sym g z)) (tag_then cs handles n flow_out i e k j t y r d v)
     joined i e k j p q (anchor_alone x r h) d (tag_alone u v w g) a = by_tag u v w g
       where
-        with_tag : (u : WrittenTag) → IsTag u → both_props (anchor_props x) (tag_props u) ≡ record { anchor = Some (encode_utf8_all x); tag = u }
+        with_tag : (u : WrittenTag) → HasTag u → both_props (anchor_props x) (tag_props u) ≡ record { anchor = Some (encode_utf8_all x); tag = u }
         with_tag untagged w = absurd w
         with_tag non_specific w = refl
         with_tag (full t) w = refl
 
-        by_tag : (u : WrittenTag) → tag cs handles k j u → IsTag u → q ≡ tag_props u → Marks cs handles n flow_out i j (both_props p q)
-        by_tag u v w g = subst (Marks cs handles n flow_out i j) (sym (with_tag u w) ∙ (λ z. both_props (sym h z) (sym g z))) (anchor_then cs handles n flow_out i e k j u x r d v)
+        by_tag : (u : WrittenTag) → tag cs handles k j u → HasTag u → q ≡ tag_props u → SomeProperties cs handles n flow_out i j (both_props p q)
+        by_tag u v w g = subst (SomeProperties cs handles n flow_out i j) (sym (with_tag u w) ∙ (λ z. both_props (sym h z) (sym g z))) (anchor_then cs handles n flow_out i e k j u x r d v)
     joined i e k j p q (both r s t) d (tag_alone u v w g) a = absurd (no_two a.1)
       where
         no_two : (p.tag ≡ untagged) ⊎ (q.tag ≡ untagged) → ⊥
-        no_two (inl f) = subst IsTag f s
-        no_two (inr f) = subst IsTag (ap Props.tag (sym g) ∙ f) w
+        no_two (inl f) = subst HasTag f s
+        no_two (inr f) = subst HasTag (ap Props.tag (sym g) ∙ f) w
     joined i e k j p q (both r s t) d (anchor_alone y v g) a = absurd (no_two a.0)
       where
         no_two : (p.anchor ≡ None) ⊎ (q.anchor ≡ None) → ⊥
-        no_two (inl f) = subst IsAnchor f t
-        no_two (inr f) = subst IsAnchor (ap Props.anchor (sym g) ∙ f) tt
+        no_two (inl f) = subst HasAnchor f t
+        no_two (inr f) = subst HasAnchor (ap Props.anchor (sym g) ∙ f) tt
     joined i e k j p q (tag_alone t r s h) d (both u v w) a = absurd (no_two a.1)
       where
         no_two : (p.tag ≡ untagged) ⊎ (q.tag ≡ untagged) → ⊥
-        no_two (inl f) = subst IsTag (ap Props.tag (sym h) ∙ f) s
-        no_two (inr f) = subst IsTag f v
+        no_two (inl f) = subst HasTag (ap Props.tag (sym h) ∙ f) s
+        no_two (inr f) = subst HasTag f v
     joined i e k j p q (anchor_alone x r h) d (both u v w) a = absurd (no_two a.0)
       where
         no_two : (p.anchor ≡ None) ⊎ (q.anchor ≡ None) → ⊥
-        no_two (inl f) = subst IsAnchor (ap Props.anchor (sym h) ∙ f) tt
-        no_two (inr f) = subst IsAnchor f w
+        no_two (inl f) = subst HasAnchor (ap Props.anchor (sym h) ∙ f) tt
+        no_two (inr f) = subst HasAnchor f w
     joined i e k j p q (both r s t) d (both u v w) a = absurd (no_two a.1)
       where
         no_two : (p.tag ≡ untagged) ⊎ (q.tag ≡ untagged) → ⊥
-        no_two (inl f) = subst IsTag f s
-        no_two (inr f) = subst IsTag f v
+        no_two (inl f) = subst HasTag f s
+        no_two (inr f) = subst HasTag f v
 
   -- the line on which the node stands is apart from the properties
   pub above_separate : (col k e l m : ℕ) → s_l_comments cs e l → indent cs k l m → col ≤ k → separate cs col flow_out e m
   above_separate col k e l m c ind le = flow_separate cs col e m (lines_separate cs col k e l m le c ind)
 
   -- one more line of properties
-  pub above_own : (col : ℕ) (column : Option ℕ) (i m j : ℕ) (p q : Props) → Outer cs handles col column i m p → Marks cs handles 0 block_key m j q → Apart p q →
-      Marks cs handles col flow_out i j (both_props p q)
+  pub above_own : (col : ℕ) (column : Option ℕ) (i m j : ℕ) (p q : Props) → Outer cs handles col column i m p → SomeProperties cs handles 0 block_key m j q → Disjoint p q →
+      SomeProperties cs handles col flow_out i j (both_props p q)
   above_own col column i m j p q (nothing e h) r a =
-      subst (λ x. Marks cs handles col flow_out x j (both_props p q)) e (subst (λ x. Marks cs handles col flow_out m j x) (sym (ap (λ x. both_props x q) h ∙ none_both q)) (line_marks col m j q r))
+      subst (λ x. SomeProperties cs handles col flow_out x j (both_props p q)) e (subst (λ x. SomeProperties cs handles col flow_out m j x) (sym (ap (λ x. both_props x q) h ∙ none_both q)) (line_marks col m j q r))
   above_own col column i m j p q (above e l k s c ind le f up st sp nd ne nm) r a = joined col i e m j p q s (above_separate col k e l m c ind le) (line_marks col m j q r) a
 
-  pub follows_before : (i e n : ℕ) (p : Props) → OnLine cs handles i e p → Follows cs i e n p → Before cs handles i n p
+  pub follows_before : (i e n : ℕ) (p : Props) → OnLine cs handles i e p → Follows cs i e n p → AfterOwn cs handles i n p
   follows_before i e n p own (inl (h, f)) = at_once f h
   follows_before i e n p (inl (f, h)) (inr (g, r, l)) = absurd (g h)
   follows_before i e n p (inr m) (inr (g, r, l)) = spaced e m r l
 
   -- what stands before content
-  pub before_own : (col : ℕ) (column : Option ℕ) (i m n : ℕ) (p q : Props) → Outer cs handles col column i m p → Before cs handles m n q → Apart p q →
-      ((n ≡ i) × (both_props p q ≡ no_props)) ⊎ ((e : ℕ) × Marks cs handles col flow_out i e (both_props p q) × separate cs col flow_out e n)
+  pub before_own : (col : ℕ) (column : Option ℕ) (i m n : ℕ) (p q : Props) → Outer cs handles col column i m p → AfterOwn cs handles m n q → Disjoint p q →
+      ((n ≡ i) × (both_props p q ≡ no_props)) ⊎ ((e : ℕ) × SomeProperties cs handles col flow_out i e (both_props p q) × separate cs col flow_out e n)
   before_own col column i m n p q (nothing e h) (at_once f g) a = inl (f ∙ e, ap (λ x. both_props x q) h ∙ none_both q ∙ g)
   before_own col column i m n p q (above e l k s c ind le f up st sp nd ne nm) (at_once g h) a =
-      inr (e, subst (λ x. Marks cs handles col flow_out i e (both_props p x)) (sym h) s, subst (separate cs col flow_out e) (sym g) (above_separate col k e l m c ind le))
+      inr (e, subst (λ x. SomeProperties cs handles col flow_out i e (both_props p x)) (sym h) s, subst (separate cs col flow_out e) (sym g) (above_separate col k e l m c ind le))
   before_own col column i m n p q o (spaced e r s l) a =
       inr (e, above_own col column i m e p q o r a, flow_separate cs col e n (sep_separate cs col e n s l))
 
@@ -203,11 +203,11 @@ scalar_dressed cs p col i j es (inr (t, r, e)) = inr (t, r, ap (dressed p) e)
 
 module _ (cs : List ℕ) (Wide : Type 0) (handles : Handles) where
   -- a block scalar after its properties
-  pub block_scalar : (room col : ℕ) (c : Ctx) (column other : Option ℕ) (i m n j : ℕ) (p q : Props) (es : List Event) → Outer cs handles col column i m p → Before cs handles m n q → Apart p q →
+  pub block_scalar : (room col : ℕ) (c : Ctx) (column other : Option ℕ) (i m n j : ℕ) (p q : Props) (es : List Event) → Outer cs handles col column i m p → AfterOwn cs handles m n q → Disjoint p q →
       block_scalar_rest cs (both_props p q) col n j es → node_rest cs Wide handles room col c other i j es
   block_scalar room col c column other i m n j p q es o b a r = pick (before_own cs handles col column i m n p q o b a)
     where
-      pick : ((n ≡ i) × (both_props p q ≡ no_props)) ⊎ ((e : ℕ) × Marks cs handles col flow_out i e (both_props p q) × separate cs col flow_out e n) → node_rest cs Wide handles room col c other i j es
+      pick : ((n ≡ i) × (both_props p q ≡ no_props)) ⊎ ((e : ℕ) × SomeProperties cs handles col flow_out i e (both_props p q) × separate cs col flow_out e n) → node_rest cs Wide handles room col c other i j es
       pick (inl (e, f)) = inr (inl (n, both_props p q, inl (e, f), r))
       pick (inr (e, s, d)) = inr (inl (n, both_props p q, inr (e, marks_props cs handles col flow_out i e (both_props p q) s, d), r))
 
@@ -222,7 +222,7 @@ module _ (cs : List ℕ) (Wide : Type 0) (handles : Handles) where
 
   -- a flow node that is no key
   pub no_key : (room deep col : ℕ) (c : Ctx) (kind : Kind) (column other : Option ℕ) (i m e n l : ℕ) (p q : Props) (es : List Event) → Outer cs handles col column i m p → OnLine cs handles m e q →
-      Bare cs Wide handles deep kind col flow_out q e m n es → deep ≤ room → Apart p q → MayBear cs m p → s_l_comments cs n l →
+      Bare cs Wide handles deep kind col flow_out q e m n es → deep ≤ room → Disjoint p q → MayBear cs m p → s_l_comments cs n l →
       node_rest cs Wide handles room col c other i l (dressed (both_props p q) es)
   no_key room deep col c kind column other i m e n l p q es (nothing f g) own bare le a may lines =
       inl (
@@ -246,7 +246,7 @@ module _ (cs : List ℕ) (Wide : Type 0) (handles : Handles) where
           no_alias (inr z) = z (alias_star m n x r)
       node (plainly h r) = marked_node cs Wide handles kind room col flow_out (both_props p q) i d m n (dressed (both_props p q) es)
           (subst (λ x. properties cs handles col flow_out i d (both_props p x)) (sym h) (marks_props cs handles col flow_out i d p s)) apart (dressed_at cs Wide handles (both_props p q) kind room col flow_out m n es (r room le))
-      node (marked v r t u) = marked_node cs Wide handles kind room col flow_out (both_props p q) i e v n (dressed (both_props p q) es)
+      node (with_properties v r t u) = marked_node cs Wide handles kind room col flow_out (both_props p q) i e v n (dressed (both_props p q) es)
           (marks_props cs handles col flow_out i e (both_props p q) (joined cs handles col i d m e p q s apart r a)) t (dressed_at cs Wide handles (both_props p q) kind room col flow_out v n es (u room le))
       node (lone r g h t) =
           subst (λ x. reads cs Wide handles room (part_of x col flow_out) i n (dressed (both_props p q) es)) (sym t)
@@ -271,20 +271,20 @@ module _ (cs : List ℕ) (Wide : Type 0) (handles : Handles) where
       same = some_is (sym g ∙ f)
 
   -- properties, and a sequence on a later line
-  pub marked_sequence : (room col k : ℕ) (c : Ctx) (other : Option ℕ) (i e l m j : ℕ) (p : Props) (es : List Event) → Marks cs handles col flow_out i e p → s_l_comments cs e l → least_dash col c ≤ k → indent cs k l m →
+  pub marked_sequence : (room col k : ℕ) (c : Ctx) (other : Option ℕ) (i e l m j : ℕ) (p : Props) (es : List Event) → SomeProperties cs handles col flow_out i e p → s_l_comments cs e l → least_dash col c ≤ k → indent cs k l m →
       sequence_with cs Wide handles p room k m j es → node_rest cs Wide handles room col c other i j es
   unfolding nodes.block_seq
   marked_sequence room col k c other i e l m j p es s comments le ind (o, (xs, (x, ys, zs, entry, more, h), w)) =
       inr (inr (inl (l, p, (e, marks_props cs handles col flow_out i e p s, comments), inr (o, (xs, (k, (le, (x, ys, zs, (m, ind, entry), more, h))), w)))))
 
   -- properties, and no content on a later line
-  pub marked_nothing : (room col : ℕ) (c : Ctx) (other : Option ℕ) (i e l : ℕ) (p : Props) (es : List Event) → Marks cs handles col flow_out i e p → s_l_comments cs e l → es ≡ empty p →
+  pub marked_nothing : (room col : ℕ) (c : Ctx) (other : Option ℕ) (i e l : ℕ) (p : Props) (es : List Event) → SomeProperties cs handles col flow_out i e p → s_l_comments cs e l → es ≡ empty p →
       node_rest cs Wide handles room col c other i l es
   marked_nothing room col c other i e l p es s comments f =
       inl (e, inl (lone_node cs Wide handles room col flow_out p i e es (marks_props cs handles col flow_out i e p s) f), comments)
 
   -- after outer properties no mapping stands without any
-  pub marked_column : (col i e : ℕ) (p : Props) (column : Option ℕ) → Marks cs handles col flow_out i e p → column_of p column ≡ None
+  pub marked_column : (col i e : ℕ) (p : Props) (column : Option ℕ) → SomeProperties cs handles col flow_out i e p → column_of p column ≡ None
   marked_column col i e p column (tag_alone t r s h) = ap (λ x. column_of x column) h ∙ column_marked None t column s
   marked_column col i e p column (anchor_alone a r h) = ap (λ x. column_of x column) h
   marked_column col i e p column (both r s t) = column_marked p.anchor p.tag column s

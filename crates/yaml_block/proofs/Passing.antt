@@ -20,7 +20,7 @@ use Rattle.yaml_complete.proofs.KeyChoices.{value_starts, key_starts}
 use Rattle.yaml_flow.specs.Answer.{Decides}
 use Rattle.yaml_flow.specs.Lines.{IsBlock}
 use Rattle.yaml_block.specs.BlockRules.{block_scalar_rest}
-use Rattle.yaml_block.specs.BlockEnds.{AfterNode, AfterScalar, SignIs, IsSign}
+use Rattle.yaml_block.specs.BlockEnds.{AfterNode, AfterScalar, SignIs, IsStyleSign}
 use Rattle.yaml_block.specs.KeyFits.{NoneBelow}
 use Rattle.yaml_block.specs.declared.block.Block.{Block}
 use Rattle.yaml_block.specs.declared.block.Block.TheVariants.{Literal, Folded}
@@ -34,7 +34,7 @@ decides_rest R E i S G k F end (Err e) t (inl m) = inl m
 decides_rest R E i S G k F end (Err e) t (inr n) = inr (rest_refused t n)
 
 module _ (cs : List ℕ) where
-  pub sign_of : (i : ℕ) (b : Block) → SignIs cs i b → IsSign cs i
+  pub sign_of : (i : ℕ) (b : Block) → SignIs cs i b → IsStyleSign cs i
   sign_of i Literal h = inl h
   sign_of i Folded h = inr h
 

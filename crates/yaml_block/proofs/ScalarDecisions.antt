@@ -16,23 +16,23 @@ use Rattle.yaml_unique.proofs.Lines.{solid_no_space}
 use Rattle.yaml_complete.specs.Decisions.{Refused, Goes, Here}
 use Rattle.yaml_complete.proofs.BlockScalars.{furthest_stuck, block_scalar_goes}
 use Rattle.yaml_block.specs.BlockRules.{block_scalar_rest}
-use Rattle.yaml_block.specs.BlockEnds.{AfterScalar, IsSign}
+use Rattle.yaml_block.specs.BlockEnds.{AfterScalar, IsStyleSign}
 use Rattle.yaml_block.specs.OuterRules.{Follows}
 
 module _ (cs : List ℕ) where
   -- ---- the sign
 
-  pub sign_kind : (i : ℕ) → IsSign cs i → Kind cs 4 i
+  pub sign_kind : (i : ℕ) → IsStyleSign cs i → Kind cs 4 i
   sign_kind i (inl h) = (124, h, Sign.bar 124 refl)
   sign_kind i (inr h) = (62, h, Sign.greater 62 refl)
 
-  pub kind_sign : (i : ℕ) → Kind cs 4 i → IsSign cs i
+  pub kind_sign : (i : ℕ) → Kind cs 4 i → IsStyleSign cs i
   kind_sign i (c, h, s) = go 4 c refl s h
     where
       four : {A : Type 0} (k : ℕ) → (k ≡ 4 → ⊥) → k ≡ 4 → A
       four k n e = absurd (n e)
 
-      go : (k c : ℕ) → k ≡ 4 → Sign k c → slice_get cs i ≡ Some c → IsSign cs i
+      go : (k c : ℕ) → k ≡ 4 → Sign k c → slice_get cs i ≡ Some c → IsStyleSign cs i
       go _ c e (Sign.bang d f) h = let z : 1 ≡ 4 = e in absurd (omega (arith, z))
       go _ c e (Sign.and d f) h = let z : 1 ≡ 4 = e in absurd (omega (arith, z))
       go _ c e (Sign.star d f) h = let z : 2 ≡ 4 = e in absurd (omega (arith, z))
@@ -44,7 +44,7 @@ module _ (cs : List ℕ) where
       go _ c e (Sign.greater d f) h = inr (subst (λ x. slice_get cs i ≡ Some x) f h)
 
   -- content begins at one place after own properties
-  pub follows_same : (i e n m : ℕ) (p : Props) → Follows cs i e n p → Follows cs i e m p → ((p ≡ no_props → ⊥) → Stands cs is_space m → ⊥) → IsSign cs n → n ≡ m
+  pub follows_same : (i e n m : ℕ) (p : Props) → Follows cs i e n p → Follows cs i e m p → ((p ≡ no_props → ⊥) → Stands cs is_space m → ⊥) → IsStyleSign cs n → n ≡ m
   follows_same i e n m p (inl (a, b)) (inl (c, d)) f s = b ∙ sym d
   follows_same i e n m p (inl (a, b)) (inr (c, d, l)) f s = absurd (c a)
   follows_same i e n m p (inr (a, b, k)) (inl (c, d)) f s = absurd (a c)

@@ -4,7 +4,7 @@ use Rattle.yaml_text.specs.Event.{Event}
 use Rattle.yaml_text.specs.Lines.{Inside}
 use Rattle.yaml_text.specs.grammar.Rules.{Rule, ◌▸◌, ◌◂◌, ◌∪◌, given, gives, Stands}
 use Rattle.yaml_text.specs.grammar.Characters.{is_space}
-use Rattle.yaml_text.specs.grammar.Separation.{Ctx, block_in, block_key, flow_out, indent, sep, separate, s_l_comments, StartsLine, AtEnd, Mark}
+use Rattle.yaml_text.specs.grammar.Separation.{Ctx, block_in, block_key, flow_out, indent, sep, separate, s_l_comments, StartsLine, AtEnd, DocumentMark}
 use Rattle.yaml_text.specs.grammar.Tags.{Handles}
 use Rattle.yaml_text.specs.grammar.Events.{no_props, empty}
 use Rattle.yaml_text.specs.grammar.Nodes.{block_part, compact_part, reads, block_node, compact_seq, compact_map}
@@ -118,7 +118,7 @@ module _ (cs : List ℕ) (handles : Handles) (room : ℕ) where
           rest_onto (node_sequence cs col k c b le)
           (dash_left cs col (least_dash col c) (λ l. Node (Some l)) (sequence_with cs (Unit {0}) handles no_props room) (empty no_props) starts dashes s k x ind whole stuck h le (dash_narrow col c b))
 
-      pub lines_node : (DashHere cs x → ⊥) → col ≤ k → (AtEnd cs s → ⊥) → (Mark cs s → ⊥) → Rest Lines E s (Node (Some k)) E x
+      pub lines_node : (DashHere cs x → ⊥) → col ≤ k → (AtEnd cs s → ⊥) → (DocumentMark cs s → ⊥) → Rest Lines E s (Node (Some k)) E x
       lines_node n le no_end no_mark = own_left cs col (least_dash col c) (λ l. Node (Some l)) (sequence_with cs (Unit {0}) handles no_props room) (empty no_props) starts dashes s k x ind whole stuck n le no_end no_mark
 
     -- ---- on the parent's line

@@ -4,7 +4,7 @@ use Rattle.yaml_text.specs.Source.{text_of, place_of}
 use Rattle.yaml_text.specs.declared.chars.Chars.{Chars}
 use Rattle.yaml_text.specs.grammar.Rules.{run, Stands}
 use Rattle.yaml_text.specs.grammar.Characters.{is_ns, is_space}
-use Rattle.yaml_text.specs.grammar.Separation.{Ctx, indent, AtEnd, Mark}
+use Rattle.yaml_text.specs.grammar.Separation.{Ctx, indent, AtEnd, DocumentMark}
 use Rattle.yaml_unique.specs.Readings.{End, At}
 use Rattle.yaml_unique.specs.Follows.{Fresh, Stuck, Less, Over, Follow}
 use Rattle.yaml_flow.specs.Keys.{ColonAfter}
@@ -42,8 +42,8 @@ module _ (cs : List ℕ) where
   SignIs i Literal = slice_get cs i ≡ Some 124
   SignIs i Folded = slice_get cs i ≡ Some 62
 
-  abbrev pub IsSign : ℕ → Type 0
-  IsSign i = (slice_get cs i ≡ Some 124) ⊎ (slice_get cs i ≡ Some 62)
+  abbrev pub IsStyleSign : ℕ → Type 0
+  IsStyleSign i = (slice_get cs i ≡ Some 124) ⊎ (slice_get cs i ≡ Some 62)
 
   -- after a node that ends at j spaces and a colon stand
   abbrev pub ColonStands : ℕ → Type 0
@@ -61,4 +61,4 @@ NoneIn source line k = (p : ℕ) → indent (text_of source) k (place_of source 
 
 -- a line with more spaces, which is neither the end nor a document mark
 abbrev pub IsFurther : Chars → Line → ℕ → Type 0
-IsFurther source line k = (k < line.column) × (AtEnd (text_of source) (place_of source line.start) → ⊥) × (Mark (text_of source) (place_of source line.start) → ⊥)
+IsFurther source line k = (k < line.column) × (AtEnd (text_of source) (place_of source line.start) → ⊥) × (DocumentMark (text_of source) (place_of source line.start) → ⊥)

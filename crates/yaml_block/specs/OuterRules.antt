@@ -3,12 +3,12 @@ use Rattle.std.specs.Prelude.{◌≡◌, ◌≢◌, ◌⊎◌, ℕ, ◌+◌, ◌
 use Rattle.yaml_text.specs.Event.{Anchor, WrittenTag, untagged, non_specific, full}
 use Rattle.yaml_text.specs.grammar.Rules.{run, Stands}
 use Rattle.yaml_text.specs.grammar.Characters.{is_space}
-use Rattle.yaml_text.specs.grammar.Separation.{flow_out, block_key, indent, s_l_comments, AtEnd, Mark}
+use Rattle.yaml_text.specs.grammar.Separation.{flow_out, block_key, indent, s_l_comments, AtEnd, DocumentMark}
 use Rattle.yaml_text.specs.grammar.Tags.{Handles}
 use Rattle.yaml_text.specs.grammar.Events.{Props, no_props}
 use Rattle.yaml_unique.specs.Follows.{Stuck, DashHere}
 use Rattle.yaml_flow.specs.Decisions.{AllProperties}
-use Rattle.yaml_flow.specs.PropertyRules.{Marks, Own, Apart, both_props}
+use Rattle.yaml_flow.specs.PropertyRules.{SomeProperties, Own, Disjoint, both_props}
 
 -- how many more properties a node may have
 abbrev pub anchors_left : Anchor → ℕ
@@ -20,8 +20,8 @@ tags_left untagged = 1
 tags_left non_specific = 0
 tags_left (full t) = 0
 
-abbrev pub left : Props → ℕ
-left p = anchors_left p.anchor + tags_left p.tag
+abbrev pub properties_left : Props → ℕ
+properties_left p = anchors_left p.anchor + tags_left p.tag
 
 -- the column in which a mapping may stand without properties: none, where there are outer ones
 abbrev pub column_by : Anchor → WrittenTag → Option ℕ → Option ℕ
@@ -45,21 +45,21 @@ module _ (cs : List ℕ) where
 module _ (cs : List ℕ) (handles : Handles) where
   -- all properties of one line, or one of a line and another of the next, which has at least col spaces
   pub data Above (col : ℕ) (i e : ℕ) (p : Props) : Type 0 where
-    one_line : Marks cs handles 0 block_key i e p → AllProperties cs handles 0 block_key i e p → Above col i e p
-    two_lines : (l s k z : ℕ) (a b : Props) → Marks cs handles 0 block_key i l a → s_l_comments cs l s → Stuck cs s → indent cs k s z → (Stands cs is_space z → ⊥) → col ≤ k → Marks cs handles 0 block_key z e b → Apart a b
+    one_line : SomeProperties cs handles 0 block_key i e p → AllProperties cs handles 0 block_key i e p → Above col i e p
+    two_lines : (l s k z : ℕ) (a b : Props) → SomeProperties cs handles 0 block_key i l a → s_l_comments cs l s → Stuck cs s → indent cs k s z → (Stands cs is_space z → ⊥) → col ≤ k → SomeProperties cs handles 0 block_key z e b → Disjoint a b
         → p ≡ both_props a b → Above col i e p
 
   -- properties from i on that end before the line on which the node's first character stands, at m; or none
   pub data Outer (col : ℕ) (column : Option ℕ) (i m : ℕ) (p : Props) : Type 0 where
     nothing : m ≡ i → p ≡ no_props → Outer col column i m p
-    above : (e l k : ℕ) → Marks cs handles col flow_out i e p → s_l_comments cs e l → indent cs k l m → col ≤ k → column ≡ Some k → Above col i e p → Stuck cs l → (Stands cs is_space m → ⊥) → (DashHere cs m → ⊥) → (AtEnd cs l → ⊥)
-        → (Mark cs l → ⊥) → Outer col column i m p
+    above : (e l k : ℕ) → SomeProperties cs handles col flow_out i e p → s_l_comments cs e l → indent cs k l m → col ≤ k → column ≡ Some k → Above col i e p → Stuck cs l → (Stands cs is_space m → ⊥) → (DashHere cs m → ⊥) → (AtEnd cs l → ⊥)
+        → (DocumentMark cs l → ⊥) → Outer col column i m p
 
   -- a node's own properties, on the line of its first character
   abbrev pub OnLine : ℕ → ℕ → Props → Type 0
   OnLine i j p = Own cs handles 0 block_key i j p
 
   -- content may begin at n, after the node's own properties
-  pub data Before (i n : ℕ) (p : Props) : Type 0 where
-    at_once : n ≡ i → p ≡ no_props → Before i n p
-    spaced : (e : ℕ) → Marks cs handles 0 block_key i e p → run cs is_space e n → e < n → Before i n p
+  pub data AfterOwn (i n : ℕ) (p : Props) : Type 0 where
+    at_once : n ≡ i → p ≡ no_props → AfterOwn i n p
+    spaced : (e : ℕ) → SomeProperties cs handles 0 block_key i e p → run cs is_space e n → e < n → AfterOwn i n p

@@ -12,7 +12,7 @@ ghost use Rattle.yaml_text.specs.Source.{text_of, place_of, IsBorder};
 ghost use Rattle.yaml_text.specs.EventModel.{context_of, Adds};
 ghost use Rattle.yaml_text.specs.grammar.Rules.{Stands};
 ghost use Rattle.yaml_text.specs.grammar.Characters.{is_space};
-ghost use Rattle.yaml_text.specs.grammar.Separation.{block_in, flow_out, block_key, s_l_comments, StartsLine, AtEnd, Mark};
+ghost use Rattle.yaml_text.specs.grammar.Separation.{block_in, flow_out, block_key, s_l_comments, StartsLine, AtEnd, DocumentMark};
 ghost use Rattle.yaml_text.specs.grammar.Events.{empty, no_props};
 ghost use Rattle.yaml_text.specs.declared.fault.Fault.TheVariants.{OutOfMemory};
 ghost use Rattle.yaml_scalar.specs.BlockModel.{column};
@@ -24,14 +24,14 @@ ghost use Rattle.yaml_flow.specs.Answer.{Appends, Decides};
 ghost use Rattle.yaml_flow.specs.Decisions.{AllProperties, LineGoesOn, IsOnly};
 ghost use Rattle.yaml_flow.specs.Lines.{IsLine, IsDash, IsBlock};
 ghost use Rattle.yaml_flow.specs.Keys.{ColonAfter};
-ghost use Rattle.yaml_flow.specs.PropertyRules.{props_of, both_props, Apart, Dresses, Marks, Own};
+ghost use Rattle.yaml_flow.specs.PropertyRules.{props_of, both_props, Disjoint, Dresses, SomeProperties, Own};
 ghost use Rattle.yaml_block.specs.BlockRules.{least_dash, block_scalar_rest, node_rest, line_rest, value_rest, entry_rest, sequence_with, key_rest, entries_rest, root_rest};
 ghost use Rattle.yaml_block.specs.OuterRules.{Outer, OnLine, Follows, MayBear, Above, column_of};
-ghost use Rattle.yaml_block.specs.BlockEnds.{AfterNode, AfterEntry, AfterSequence, AfterMapping, AfterColon, AfterScalar, SignIs, IsSign, ColonStands, IsNoKey, NoneIn, IsFurther};
+ghost use Rattle.yaml_block.specs.BlockEnds.{AfterNode, AfterEntry, AfterSequence, AfterMapping, AfterColon, AfterScalar, SignIs, IsStyleSign, ColonStands, IsNoKey, NoneIn, IsFurther};
 ghost use Rattle.yaml_block.specs.KeyFits.{FitsAgain, NoneBelow};
 
 use std::alloc::Global;
-use yaml_flow::flow::{Node, read_bare, read_flow_node};
+use yaml_flow::flow::{FlowNode, read_bare, read_flow_node};
 use yaml_flow::key::{Fit, key_fit};
 use yaml_flow::line::{Line, has_content, line_at, next_line, skip_comments};
 use yaml_flow::properties::{Properties, dress, read_properties};
@@ -218,7 +218,7 @@ fn block_sign(
     ensures onward { IfSome result (λ r. at ≤ r.0) }
     ensures follows { IfSome result (λ r. Follows (text_of source.now) (place_of source.now at) (place_of source.now end) (place_of source.now r.0) (props_of own.now)) }
     ensures sign { IfSome result (λ r. SignIs (text_of source.now) (place_of source.now r.0) r.1) }
-    ensures none { IfNone result ((n : ℕ) → Follows (text_of source.now) (place_of source.now at) (place_of source.now end) n (props_of own.now) → IsSign (text_of source.now) n → ⊥) }
+    ensures none { IfNone result ((n : ℕ) → Follows (text_of source.now) (place_of source.now at) (place_of source.now end) n (props_of own.now) → IsStyleSign (text_of source.now) n → ⊥) }
 {
     match content_start(source, at, end, own) {
         None => None,
@@ -237,7 +237,7 @@ fn goes_on(source: &Chars<'_>, line: Line, column: usize) -> Result<bool, Fault>
     requires line { IsLine source.now line }
     requires after { AfterLine (text_of source.now) (place_of source.now line.start) }
     ensures next { IfOk result (λ is_next. OnTrue is_next (line.column ≡ column)) }
-    ensures content { IfOk result (λ is_next. OnTrue is_next ((AtEnd (text_of source.now) (place_of source.now line.start) → ⊥) × (Mark (text_of source.now) (place_of source.now line.start) → ⊥))) }
+    ensures content { IfOk result (λ is_next. OnTrue is_next ((AtEnd (text_of source.now) (place_of source.now line.start) → ⊥) × (DocumentMark (text_of source.now) (place_of source.now line.start) → ⊥))) }
     ensures over { IfOk result (λ is_next. OnFalse is_next (NoneIn source.now line column)) }
     ensures err { IfErr result IsRefusal }
     ensures further { IfErr result (λ _. IsFurther source.now line column) }
@@ -419,7 +419,7 @@ fn fit_key<'a>(
     end: usize,
     own: &Properties<'a>,
     col: usize,
-    key: Node,
+    key: FlowNode,
     start: usize,
     room: u32,
     handles: Option<&Handles<'a>>,
@@ -480,7 +480,7 @@ fn push_lone<'a>(properties: Properties<'a>, out: &mut Vec<Event<'a>>) -> Result
 fn finish_node<'a>(
     source: &Chars<'a>,
     at: usize,
-    node: Node,
+    node: FlowNode,
     own: Properties<'a>,
     outer: Properties<'a>,
     start: usize,
@@ -492,14 +492,14 @@ fn finish_node<'a>(
     ensures onward { IfOk result (λ line. node.end ≤ line.start) }
     ensures comments { IfOk result (λ line. s_l_comments (text_of source.now) (place_of source.now node.end) (place_of source.now line.start)) }
     ensures after { IfOk result (λ line. AfterLine (text_of source.now) (place_of source.now line.start)) }
-    ensures apart { IfOk result (λ _. Apart (props_of outer.entry) (props_of own.entry)) }
+    ensures apart { IfOk result (λ _. Disjoint (props_of outer.entry) (props_of own.entry)) }
     ensures bears { IfOk result (λ _. MayBear (text_of source.now) (place_of source.now at) (props_of outer.entry)) }
     ensures dressed { IfOk result (λ _. Dresses (both_props (props_of outer.entry) (props_of own.entry)) start out.old.items out.new.items) }
     ensures err { IfErr result IsRefusal }
-    ensures unfit { IfErr result (λ _. ((j : ℕ) → s_l_comments (text_of source.now) (place_of source.now node.end) j → ⊥) ⊎ (Apart (props_of outer.entry) (props_of own.entry) → ⊥) ⊎ (MayBear (text_of source.now) (place_of source.now at) (props_of outer.entry) → ⊥)) }
+    ensures unfit { IfErr result (λ _. ((j : ℕ) → s_l_comments (text_of source.now) (place_of source.now node.end) j → ⊥) ⊎ (Disjoint (props_of outer.entry) (props_of own.entry) → ⊥) ⊎ (MayBear (text_of source.now) (place_of source.now at) (props_of outer.entry) → ⊥)) }
 {
     let line = next_line(source, node.end)?;
-    if outer.clash(&own) {
+    if outer.overlaps(&own) {
         return Err(unusable(source, node.end));
     }
     if !may_bear(source, at, &outer) {
@@ -703,7 +703,7 @@ fn read_under<'a>(
     requires low { col ≤ from }
     requires order { from ≤ line.start }
     requires block { IsBlock (context_of context) }
-    requires marks { Marks (text_of source.now) (handles_of handles) col flow_out (place_of source.now from) (place_of source.now end) (props_of outer) }
+    requires marks { SomeProperties (text_of source.now) (handles_of handles) col flow_out (place_of source.now from) (place_of source.now end) (props_of outer) }
     requires comments { s_l_comments (text_of source.now) (place_of source.now end) (place_of source.now line.start) }
     requires after { AfterLine (text_of source.now) (place_of source.now line.start) }
     requires above { Above (text_of source.now) (handles_of handles) col (place_of source.now from) (place_of source.now end) (props_of outer) }
@@ -829,7 +829,7 @@ fn read_node<'a>(
             alloc, source, at, end, own, from, outer, col, context, column, room, handles, out,
         ),
         Some(start) => {
-            if outer.clash(&own) {
+            if outer.overlaps(&own) {
                 return Err(unusable(source, end));
             }
             let line = line_at(source, start);
@@ -883,7 +883,7 @@ fn read_dressed<'a>(
             alloc, source, at, end, own, from, outer, col, context, column, room, handles, out,
         ),
         Some((first, block)) => {
-            if outer.clash(&own) {
+            if outer.overlaps(&own) {
                 return Err(unusable(source, first));
             }
             let both = outer.and(own);
@@ -923,7 +923,7 @@ fn read_keyed<'a>(
     requires own { OnLine (text_of source.now) (handles_of handles) (place_of source.now at) (place_of source.now end) (props_of own) }
     requires all { AllProperties (text_of source.now) (handles_of handles) 0 block_key (place_of source.now at) (place_of source.now end) (props_of own) }
     requires goes_on { LineGoesOn (text_of source.now) (place_of source.now end) (props_of own) }
-    requires no_scalar { (n : ℕ) → Follows (text_of source.now) (place_of source.now at) (place_of source.now end) n (props_of own) → IsSign (text_of source.now) n → ⊥ }
+    requires no_scalar { (n : ℕ) → Follows (text_of source.now) (place_of source.now at) (place_of source.now end) n (props_of own) → IsStyleSign (text_of source.now) n → ⊥ }
     ensures line { IfOk result (IsLine source.now) }
     ensures onward { IfOk result (λ line. from ≤ line.start) }
     ensures reads { Appends (λ _. node_rest (text_of source.now) (Unit {0}) (handles_of handles.entry) room col (context_of context) (column_of (props_of outer.entry) column)) (place_of source.now from) (λ line. place_of source.now line.start) out.old.items out.new.items result }

@@ -7,17 +7,17 @@ use Rattle.yaml_text.specs.Tree.{Tree}
 use Rattle.yaml_text.specs.Same.{Keyed, Alike}
 use Rattle.yaml_text.specs.Proper.{Admitted}
 use Rattle.yaml_text.specs.Means.{Means}
-use Rattle.yaml_text.specs.Marked.{Document}
+use Rattle.yaml_text.specs.Serial.{Document}
 use Rattle.yaml_text.specs.declared.fault.Fault.{Fault}
 use Rattle.yaml_text.specs.declared.fault.Fault.TheVariants as faults
 use Rattle.yaml_text.proofs.Law.{texts_tell}
-use Rattle.yaml_graph.specs.GraphView.{nodes_of, trees_of as graph_trees}
+use Rattle.yaml_graph.specs.GraphView.{nodes_of, graph_trees}
 use Rattle.yaml_rank.specs.RanksView.{RefusesGraph}
 use Rattle.yaml_rank.proofs.Standing.{keyed-none}
 use Rattle.yaml_canon.specs.declared.side.Side.{Side}
 use Rattle.yaml_canon.specs.declared.side.Side.TheVariants.{Left, Right}
 use Rattle.yaml_canon.specs.Claims.{AllOf, IsRead}
-use Rattle.yaml_canon.specs.Comparing.{Compares, ComparerRefuses, HasEqualKeys, told_at}
+use Rattle.yaml_canon.specs.Comparing.{Compares, ComparerRefuses, HasEqualKeys, side_of_fault}
 use Rattle.yaml_canon.specs.Accepting.{IsSpelling, IsMemory, TellsTexts}
 use Rattle.yaml_canon.proofs.AcceptLaws.{all-append, keyed-at, nodes-keyed, memory, spelling-means}
 
@@ -37,7 +37,7 @@ module _ (left right : List ℕ) (f g : List Tree) (a : Admitted f) (b : Admitte
           subst (AllOf Keyed) (sym h.joined.trees)
           (all-append Keyed (graph_trees h.first_graph) (graph_trees h.second_graph) (nodes-keyed left f a m ds h.first_graph p h.first_composed) (nodes-keyed right g b n es h.second_graph q h.second_composed))
 
-      by : (fault : Fault) → RefusesGraph h.both fault → (side, faults.EqualKeys k i j) ≡ told_at (length (nodes_of h.first_graph)) fault → ⊥
+      by : (fault : Fault) → RefusesGraph h.both fault → (side, faults.EqualKeys k i j) ≡ side_of_fault (length (nodes_of h.first_graph)) fault → ⊥
       by (faults.EqualKeys x y z) r e = keyed-none h.both x y z (keyed-at (graph_trees h.both) x keyed-nodes) r.0.is
       by faults.OutOfMemory r e = let q : faults.EqualKeys k i j ≡ faults.OutOfMemory = ap (λ z. z.1) e in cc
       by _ r e = r

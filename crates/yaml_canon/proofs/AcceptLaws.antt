@@ -13,7 +13,7 @@ use Rattle.yaml_text.specs.Text.{RefusesText}
 use Rattle.yaml_text.specs.Unfold.{trees_of}
 use Rattle.yaml_text.specs.Core.{Cause}
 use Rattle.yaml_text.specs.Means.{Means}
-use Rattle.yaml_text.specs.Marked.{Marked, AllMarked, MarkedPairs, alias, scalar_at, sequence_at, mapping_at, end_marks, item_mark, done_marks, entry_marks, Document}
+use Rattle.yaml_text.specs.Serial.{SerialNode, SerialNodes, SerialPairs, alias_at, scalar_at, sequence_at, mapping_at, end_serial, item_serial, done_serial, entry_serial, Document}
 use Rattle.yaml_text.specs.grammar.Reading.{Reads}
 use Rattle.yaml_text.specs.declared.fault.Fault.{Fault}
 use Rattle.yaml_text.specs.declared.fault.Fault.TheVariants as faults
@@ -24,7 +24,7 @@ use Rattle.yaml_unique.proofs.Documents.{one_reading}
 use Rattle.yaml_spelled.specs.Spellings.{MeansLike}
 use Rattle.yaml_spelled.proofs.Meanings.{spellings_mean, blocks_mean}
 use Rattle.yaml_graph.specs.GraphModel.{tree_at}
-use Rattle.yaml_graph.specs.GraphView.{trees_of as graph_trees}
+use Rattle.yaml_graph.specs.GraphView.{graph_trees}
 use Rattle.yaml_graph.specs.Closing.{trees_inside, trees_inside_all, trees_inside_pairs, stream_trees}
 use Rattle.yaml_graph.specs.Composed.{Composed, RefusesStream}
 use Rattle.yaml_graph.specs.declared.graph.Graph.{Graph}
@@ -45,8 +45,8 @@ both false b e = absurd (cc)
 mutual
   unfolding trees_inside
 
-  keyed-node : (m : Marked) (t : Tree) → keyed t ≡ true → AllOf Keyed (trees_inside m t)
-  keyed-node (alias name) t k = tt
+  keyed-node : (m : SerialNode) (t : Tree) → keyed t ≡ true → AllOf Keyed (trees_inside m t)
+  keyed-node (alias_at name) t k = tt
   keyed-node (scalar_at a g y x) t k = (k, tt)
   keyed-node (sequence_at a g b ms) (sequence w ts) k = all-append Keyed (trees_inside_all ms ts) (sequence w ts ∷ []) (keyed-all ms ts k) (k, tt)
   keyed-node (sequence_at a g b ms) (scalar w x) k = tt
@@ -55,17 +55,17 @@ mutual
   keyed-node (mapping_at a g b ps) (scalar w x) k = tt
   keyed-node (mapping_at a g b ps) (sequence w ts) k = tt
 
-  keyed-all : (ms : AllMarked) (ts : Trees) → keyed_trees ts ≡ true → AllOf Keyed (trees_inside_all ms ts)
-  keyed-all end_marks ts k = tt
-  keyed-all (item_mark m ms) end k = tt
-  keyed-all (item_mark m ms) (item t ts) k =
+  keyed-all : (ms : SerialNodes) (ts : Trees) → keyed_trees ts ≡ true → AllOf Keyed (trees_inside_all ms ts)
+  keyed-all end_serial ts k = tt
+  keyed-all (item_serial m ms) end k = tt
+  keyed-all (item_serial m ms) (item t ts) k =
       let h = both (keyed t) (keyed_trees ts) k in
       all-append Keyed (trees_inside m t) (trees_inside_all ms ts) (keyed-node m t h.0) (keyed-all ms ts h.1)
 
-  keyed-entries : (ps : MarkedPairs) (qs : Pairs) → keyed_pairs qs ≡ true → AllOf Keyed (trees_inside_pairs ps qs)
-  keyed-entries done_marks qs k = tt
-  keyed-entries (entry_marks i j ps) done k = tt
-  keyed-entries (entry_marks i j ps) (entry t u qs) k =
+  keyed-entries : (ps : SerialPairs) (qs : Pairs) → keyed_pairs qs ≡ true → AllOf Keyed (trees_inside_pairs ps qs)
+  keyed-entries done_serial qs k = tt
+  keyed-entries (entry_serial i j ps) done k = tt
+  keyed-entries (entry_serial i j ps) (entry t u qs) k =
       let h = keyed_parts t u qs k in
       all-append Keyed (trees_inside i t) (trees_inside j u ++ trees_inside_pairs ps qs) (keyed-node i t h.0)
       (all-append Keyed (trees_inside j u) (trees_inside_pairs ps qs) (keyed-node j u h.1) (keyed-entries ps qs h.3))

@@ -1,6 +1,6 @@
 -- From the layers' answers to what is promised of the bytes.
 use Rattle.std.proofs.Common.{◌≡◌, ℕ, suc, ◌+◌, ◌*◌, ◌<◌, ◌≤◌, ◌⊎◌, inl, inr, List, [], ◌∷◌, length, map, refl, sym, ◌∙◌, ap, subst, arith}
-use Rattle.std.specs.Prelude.{Ok, None}
+use Rattle.std.specs.Prelude.{Result, Ok, Err, None, IfOk, IfErr, MatchResult}
 use Rattle.std.specs.List.{All}
 use Rattle.std.proofs.lemmas.List.{append-nil}
 use Rattle.yaml_text.specs.Event.{Event}
@@ -11,7 +11,7 @@ use Rattle.yaml_text.specs.Spell.{spell_bytes}
 use Rattle.yaml_text.specs.Proper.{AreAdmitted, Admitted}
 use Rattle.yaml_text.specs.Sound.{AllProper}
 use Rattle.yaml_text.specs.Means.{Means}
-use Rattle.yaml_text.specs.Marked.{Document, stream_events}
+use Rattle.yaml_text.specs.Serial.{Document, stream_events}
 use Rattle.yaml_text.specs.EventModel.{event_of}
 use Rattle.yaml_text.specs.Text.{Text, RefusesText}
 use Rattle.yaml_text.specs.grammar.Reading.{Reads}
@@ -25,20 +25,20 @@ use Rattle.yaml_text.specs.declared.event.Event as code
 use Rattle.yaml_text.specs.declared.fault.Fault.{Fault}
 use Rattle.yaml_text.specs.declared.fault.Fault.TheVariants as faults
 use Rattle.yaml_unique.proofs.Documents.{one_reading, one_meaning}
-use Rattle.yaml_read.specs.Decided.{IsNoStream as NoReading}
+use Rattle.yaml_read.specs.Decided.{HasNoReading as NoReading}
 use Rattle.yaml_size.specs.Sizes.{texts_bytes}
 use Rattle.yaml_size.proofs.Contents.{tag_light}
 use Rattle.yaml_size.proofs.Numbers.{text_light}
 use Rattle.yaml_size.proofs.Forests.{meaning_bounded}
 use Rattle.yaml_graph.specs.GraphModel.{tree_at}
-use Rattle.yaml_graph.specs.GraphView.{nodes_of, roots_of, trees_of as graph_trees, tree, forest}
+use Rattle.yaml_graph.specs.GraphView.{nodes_of, roots_of, graph_trees, tree, forest}
 use Rattle.yaml_graph.specs.Composed.{Composable, Composed, RefusesStream}
 use Rattle.yaml_graph.specs.declared.node.NodeId.{NodeId}
 use Rattle.yaml_graph.specs.declared.graph.Graph.{Graph}
 use Rattle.yaml_rank.specs.RanksView.{RefusesGraph}
 use Rattle.yaml_canon.specs.Pieces.{Began, Puts, Fails}
 use Rattle.yaml_canon.specs.Documents.{spell_more, RefusesLength}
-use Rattle.yaml_canon.specs.Claims.{AllOf, Accepted, IsCanonicalText, IsRead, IsNoStream, CanonicalRefuses}
+use Rattle.yaml_canon.specs.Claims.{AllOf, Accepted, IsCanonicalText, IsRead, IsNoStream, CanonicalRefuses, HasGraph, GraphRefuses}
 use Rattle.yaml_canon.proofs.DocumentLaws.{spell_whole}
 
 -- ---- the whole text
@@ -123,13 +123,13 @@ no_stream bytes text fault t (inr h) n = record {
   unread = λ es (cs, u, r). h es (subst (λ z. ReadsText z (Unit {0}) open_limit es) (one-text bytes cs text u t) r);
 }
 
-pub refused_text : (bytes : List ℕ) (fault : Fault) → RefusesText bytes fault → CanonicalRefuses bytes fault
+pub refused_text : (bytes : List ℕ) (fault : Fault) → RefusesText bytes fault → GraphRefuses bytes fault
 refused_text bytes faults.TooLong h = h
 refused_text bytes (faults.NotUtf8 at) h = h
 refused_text bytes (faults.NotPrintable at) h = h
 refused_text bytes _ h = absurd h
 
-pub refused_reading : (bytes text : List ℕ) (fault : Fault) → Text bytes text → IsRefusal fault → (fault ≡ faults.OutOfMemory) ⊎ NoReading text → CanonicalRefuses bytes fault
+pub refused_reading : (bytes text : List ℕ) (fault : Fault) → Text bytes text → IsRefusal fault → (fault ≡ faults.OutOfMemory) ⊎ NoReading text → GraphRefuses bytes fault
 refused_reading bytes text (faults.Syntax at) t h d = no_stream bytes text (faults.Syntax at) t d (λ e. absurd (cc))
 refused_reading bytes text (faults.Tab at) t h d = no_stream bytes text (faults.Tab at) t d (λ e. absurd (cc))
 refused_reading bytes text (faults.KeyTooLong at) t h d = no_stream bytes text (faults.KeyTooLong at) t d (λ e. absurd (cc))
@@ -141,7 +141,7 @@ refused_reading bytes text (faults.BadTag at) t h d = no_stream bytes text (faul
 refused_reading bytes text faults.OutOfMemory t h d = tt
 refused_reading bytes text _ t h d = absurd h
 
-pub refused_composing : (bytes : List ℕ) (ds : List Document) (fault : Fault) → IsRead bytes ds → RefusesStream ds fault → CanonicalRefuses bytes fault
+pub refused_composing : (bytes : List ℕ) (ds : List Document) (fault : Fault) → IsRead bytes ds → RefusesStream ds fault → GraphRefuses bytes fault
 refused_composing bytes ds (faults.UndefinedAlias e) r h = (ds, r, h)
 refused_composing bytes ds (faults.CyclicAlias e) r h = (ds, r, h)
 refused_composing bytes ds (faults.WrongKind e) r h = (ds, r, h)
@@ -151,6 +151,21 @@ refused_composing bytes ds (faults.FloatRange e) r h = (ds, r, h)
 refused_composing bytes ds (faults.TooHigh e) r h = (ds, r, h)
 refused_composing bytes ds faults.OutOfMemory r h = tt
 refused_composing bytes ds _ r h = absurd h
+
+-- what composing answers, once the bytes are read as these documents
+pub graph_found : (bytes : List ℕ) (ds : List Document) → IsRead bytes ds → (r : Result Graph Fault) → MatchResult r (Composed ds) (RefusesStream ds) → IfOk r (HasGraph bytes)
+graph_found bytes ds p (Ok g) h = record { documents = ds; read = p; composed = h }
+graph_found bytes ds p (Err fault) h = tt
+
+pub graph_unfound : (bytes : List ℕ) (ds : List Document) → IsRead bytes ds → (r : Result Graph Fault) → MatchResult r (Composed ds) (RefusesStream ds) → IfErr r (GraphRefuses bytes)
+graph_unfound bytes ds p (Ok g) h = tt
+graph_unfound bytes ds p (Err fault) h = refused_composing bytes ds fault p h
+
+-- bytes without a graph have no canonical text
+pub refused_graph : (bytes : List ℕ) (fault : Fault) → GraphRefuses bytes fault → CanonicalRefuses bytes fault
+refused_graph bytes (faults.EqualKeys n i j) h = absurd h
+refused_graph bytes faults.TextTooLong h = absurd h
+refused_graph bytes _ h = h
 
 pub refused_ranking : (bytes : List ℕ) (ds : List Document) (g : Graph) (fault : Fault) → IsRead bytes ds → Composed ds g → RefusesGraph g fault → CanonicalRefuses bytes fault
 refused_ranking bytes ds g (faults.EqualKeys n i j) r c h = (ds, g, r, c, h)

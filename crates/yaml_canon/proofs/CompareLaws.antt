@@ -1,25 +1,16 @@
 -- Roots of one rank, joined graphs, and what their answers say of two sides.
-use Rattle.std.proofs.Common.{◌≡◌, ℕ, zero, suc, ◌+◌, ◌-◌, ◌<◌, ◌≤◌, ◌⊎◌, Bool, true, false, cond, ◌&&◌, List, [], ◌∷◌, ◌++◌, length, map, take, drop, get_or, refl, sym, ◌∙◌, ap, subst, arith, get_or-take}
-use Rattle.std.specs.Prelude.{Result, Ok, Err, OnOk, IfOk, IfErr, MatchResult, nat_le}
+use Rattle.std.proofs.Common.{◌≡◌, ℕ, zero, suc, ◌+◌, ◌-◌, ◌<◌, ◌≤◌, Bool, true, false, cond, ◌&&◌, List, [], ◌∷◌, ◌++◌, length, map, take, drop, get_or, refl, sym, ◌∙◌, ap, subst, arith, get_or-take}
+use Rattle.std.specs.Prelude.{Result, Ok, Err, IfOk, IfErr, nat_le}
 use Rattle.std.specs.List.{All}
 use Rattle.std.specs.Cmp.Lexicographic.{pointwise}
 use Rattle.std.proofs.Math.Seq.{drop-append_seam, take-append_seam}
 use Rattle.yaml_text.specs.Tree.{Tree}
 use Rattle.yaml_text.specs.Same.{same, Keyed}
-use Rattle.yaml_text.specs.Marked.{Document}
-use Rattle.yaml_text.specs.Limits.{open_limit}
-use Rattle.yaml_text.specs.Source.{text_of}
-use Rattle.yaml_text.specs.EventModel.{event_of}
-use Rattle.yaml_text.specs.grammar.Streams.{ReadsText}
-use Rattle.yaml_text.specs.declared.chars.Chars.{Chars}
-use Rattle.yaml_text.specs.declared.event.Event as code
-use Rattle.std.specs.Prelude.{Vec}
-use Rattle.std.proofs.Common.{Global}
-use Rattle.yaml_text.specs.Text.{Text, RefusesText}
+use Rattle.yaml_text.specs.Serial.{Document}
 use Rattle.yaml_text.specs.declared.fault.Fault.{Fault}
 use Rattle.yaml_text.specs.declared.fault.Fault.TheVariants as faults
 use Rattle.yaml_graph.specs.GraphModel.{tree_at}
-use Rattle.yaml_graph.specs.GraphView.{nodes_of, roots_of, trees_of, tree, forest}
+use Rattle.yaml_graph.specs.GraphView.{nodes_of, roots_of, graph_trees, tree, forest}
 use Rattle.yaml_graph.specs.JoinModel.{raised, Joined}
 use Rattle.yaml_graph.proofs.GraphLaws.{trees-length}
 use Rattle.yaml_graph.specs.Composed.{Composed, RefusesStream}
@@ -27,43 +18,23 @@ use Rattle.yaml_graph.specs.declared.node.NodeId.{NodeId}
 use Rattle.yaml_graph.specs.declared.graph.Graph.{Graph}
 use Rattle.yaml_rank.specs.RanksView.{RanksAre, RefusesGraph, rank_of}
 use Rattle.yaml_rank.specs.declared.ranks.Ranks.{Ranks}
-use Rattle.yaml_text.specs.Answer.{IsRefusal}
-use Rattle.yaml_read.specs.Decided.{IsNoStream as NoReading}
 use Rattle.yaml_canon.specs.declared.side.Side.{Side}
 use Rattle.yaml_canon.specs.declared.side.Side.TheVariants.{Left, Right}
-use Rattle.yaml_canon.specs.Claims.{IsRead}
-use Rattle.yaml_canon.specs.Comparing.{Compares, told_at, IsComposable, ComparesDocuments, RefusesDocuments, IsComposed, ComparerRefuses}
+use Rattle.yaml_canon.specs.Claims.{IsRead, HasGraph, GraphRefuses}
+use Rattle.yaml_canon.specs.Comparing.{Compares, side_of_fault, ComparesDocuments, RefusesDocuments, IsComposed, ComparerRefuses}
 use Rattle.yaml_canon.proofs.WalkLaws.{drop_next}
-use Rattle.yaml_canon.proofs.ClaimLaws.{accepted, refused_reading}
+use Rattle.yaml_canon.proofs.ClaimLaws.{accepted}
 
 -- ---- what an answer was
 
-pub text_ok : (bytes : List ℕ) (r : Result Chars Fault) (x : Chars) → r ≡ Ok x → IfOk r (λ c. Text bytes (text_of c)) → Text bytes (text_of x)
-text_ok bytes r x e h = subst (λ z. IfOk z (λ c. Text bytes (text_of c))) e h
+pub graph_ok : (bytes : List ℕ) (r : Result Graph Fault) (x : Graph) → r ≡ Ok x → IfOk r (HasGraph bytes) → HasGraph bytes x
+graph_ok bytes r x e h = subst (λ z. IfOk z (HasGraph bytes)) e h
 
-pub text_err : (bytes : List ℕ) (r : Result Chars Fault) (x : Fault) → r ≡ Err x → IfErr r (RefusesText bytes) → RefusesText bytes x
-text_err bytes r x e h = subst (λ z. IfErr z (RefusesText bytes)) e h
-
-pub events_ok : (text : List ℕ) (r : Result (Vec code.Event Global) Fault) (x : Vec code.Event Global) → r ≡ Ok x → IfOk r (λ v. ReadsText text (Unit {0}) open_limit (map event_of v.items)) → ReadsText text (Unit {0}) open_limit (map event_of x.items)
-events_ok text r x e h = subst (λ z. IfOk z (λ v. ReadsText text (Unit {0}) open_limit (map event_of v.items))) e h
-
-pub events_err : (r : Result (Vec code.Event Global) Fault) (x : Fault) → r ≡ Err x → IfErr r IsRefusal → IsRefusal x
-events_err r x e h = subst (λ z. IfErr z IsRefusal) e h
-
-pub events_unread : (text : List ℕ) (r : Result (Vec code.Event Global) Fault) (x : Fault) → r ≡ Err x → IfErr r (λ e. (e ≡ faults.OutOfMemory) ⊎ NoReading text) → (x ≡ faults.OutOfMemory) ⊎ NoReading text
-events_unread text r x e h = subst (λ z. IfErr z (λ e. (e ≡ faults.OutOfMemory) ⊎ NoReading text)) e h
+pub graph_err : (bytes : List ℕ) (r : Result Graph Fault) (x : Fault) → r ≡ Err x → IfErr r (GraphRefuses bytes) → GraphRefuses bytes x
+graph_err bytes r x e h = subst (λ z. IfErr z (GraphRefuses bytes)) e h
 
 pub joined_ok : (a b : Graph) (r : Result Graph Fault) (x : Graph) → r ≡ Ok x → IfOk r (Joined a b) → Joined a b x
 joined_ok a b r x e h = subst (λ z. IfOk z (Joined a b)) e h
-
-pub composed_ok : (ds : List Document) (r : Result Graph Fault) (x : Graph) → r ≡ Ok x → MatchResult r (Composed ds) (RefusesStream ds) → Composed ds x
-composed_ok ds r x e h = subst (λ z. MatchResult z (Composed ds) (RefusesStream ds)) e h
-
-pub checked_ok : (ds : List Document) (r : Result (Unit {0}) Fault) (x : Unit {0}) → r ≡ Ok x → OnOk r (IsComposable ds) → IsComposable ds
-checked_ok ds r x e h = subst (λ z. OnOk z (IsComposable ds)) e h
-
-pub checked_err : (ds : List Document) (r : Result (Unit {0}) Fault) (x : Fault) → r ≡ Err x → IfErr r (RefusesStream ds) → RefusesStream ds x
-checked_err ds r x e h = subst (λ z. IfErr z (RefusesStream ds)) e h
 
 -- ---- roots
 
@@ -128,14 +99,14 @@ map-raised f h s [] e = refl
 map-raised f h s (x ∷ xs) e = λ z. e x z ∷ map-raised f h s xs e z
 
 module _ (a b both : Graph) (j : Joined a b both) where
-  long : length (trees_of a) ≡ length (nodes_of a)
+  long : length (graph_trees a) ≡ length (nodes_of a)
   long = trees-length a.nodes.items
 
   left-tree : (i : ℕ) → i < length (nodes_of a) → tree both i ≡ tree a i
-  left-tree i l = ap (λ z. tree_at z i) j.trees ∙ front-at (trees_of a) (trees_of b) i (omega (arith, long))
+  left-tree i l = ap (λ z. tree_at z i) j.trees ∙ front-at (graph_trees a) (graph_trees b) i (omega (arith, long))
 
   right-tree : (i n : ℕ) → n ≡ i + length (nodes_of a) → tree both n ≡ tree b i
-  right-tree i n e = ap (λ z. tree_at z n) j.trees ∙ back-at (trees_of a) (trees_of b) i n (omega (arith, long))
+  right-tree i n e = ap (λ z. tree_at z n) j.trees ∙ back-at (graph_trees a) (graph_trees b) i n (omega (arith, long))
 
   pub left-keyed : ((i : ℕ) → i < length (nodes_of both) → Keyed (tree both i)) → (i : ℕ) → i < length (nodes_of a) → Keyed (tree a i)
   left-keyed h i l = let c = j.count in subst Keyed (left-tree i l) (h i (omega arith))
@@ -151,14 +122,14 @@ module _ (a b both : Graph) (j : Joined a b both) where
       let rights : map (λ i. tree both i.0) (drop m (roots_of both)) ≡ forest b = ap (map (λ i. tree both i.0)) back ∙ map-raised (λ i. tree both i.0) (λ i. tree b i.0) (length (nodes_of a)) (roots_of b) (λ i. right-tree i.0 (i.0 + length (nodes_of a)) refl) in
       λ z. pointwise same (lefts z) (rights z)
 
-  pub joined-refused : (ds es : List Document) (fault : Fault) (told : Side × Fault) → Composed ds a → Composed es b → RefusesGraph both fault → told ≡ told_at (length (nodes_of a)) fault → RefusesDocuments ds es told.0 told.1
+  pub joined-refused : (ds es : List Document) (fault : Fault) (told : Side × Fault) → Composed ds a → Composed es b → RefusesGraph both fault → told ≡ side_of_fault (length (nodes_of a)) fault → RefusesDocuments ds es told.0 told.1
   joined-refused ds es fault told c d h e = subst (λ z. RefusesDocuments ds es z.0 z.1) (sym e) (by fault h)
     where
-      keys : (refused : Fault) (s : Bool) (n i k m : ℕ) → RefusesGraph both refused → told_at (length (nodes_of a)) refused ≡ side_of s n i k m → RefusesDocuments ds es (side_of s n i k m).0 (side_of s n i k m).1
+      keys : (refused : Fault) (s : Bool) (n i k m : ℕ) → RefusesGraph both refused → side_of_fault (length (nodes_of a)) refused ≡ side_of s n i k m → RefusesDocuments ds es (side_of s n i k m).0 (side_of s n i k m).1
       keys refused true n i k m w q = record { first_graph = a; second_graph = b; both = both; first_composed = c; second_composed = d; joined = j; refused = refused; refuses = w; told = sym q }
       keys refused false n i k m w q = record { first_graph = a; second_graph = b; both = both; first_composed = c; second_composed = d; joined = j; refused = refused; refuses = w; told = sym q }
 
-      by : (z : Fault) → RefusesGraph both z → RefusesDocuments ds es (told_at (length (nodes_of a)) z).0 (told_at (length (nodes_of a)) z).1
+      by : (z : Fault) → RefusesGraph both z → RefusesDocuments ds es (side_of_fault (length (nodes_of a)) z).0 (side_of_fault (length (nodes_of a)) z).1
       by (faults.EqualKeys n i k) w = keys (faults.EqualKeys n i k) (nat_le (length (nodes_of a)) n) (n - length (nodes_of a)) i k n w refl
       by faults.OutOfMemory w = tt
       by _ w = absurd w
@@ -196,43 +167,16 @@ refuses-right left right es (faults.TooHigh e) c r h = ((es, r, h), c)
 refuses-right left right es faults.OutOfMemory c r h = (tt, c)
 refuses-right left right es _ c r h = absurd h
 
-pub refuses-text : (left right : List ℕ) (fault : Fault) → IsComposed left → RefusesText right fault → ComparerRefuses left right Right fault
-refuses-text left right faults.TooLong c h = (h, c)
-refuses-text left right (faults.NotUtf8 at) c h = (h, c)
-refuses-text left right (faults.NotPrintable at) c h = (h, c)
-refuses-text left right _ c h = absurd h
+-- the left side has no graph, or the right one has none
+pub refuses-first : (left right : List ℕ) (fault : Fault) → GraphRefuses left fault → ComparerRefuses left right Left fault
+refuses-first left right (faults.EqualKeys n i j) h = absurd h
+refuses-first left right faults.TextTooLong h = absurd h
+refuses-first left right _ h = h
 
-pub refuses-reading : (left right cs : List ℕ) (fault : Fault) → IsComposed left → Text right cs → IsRefusal fault → (fault ≡ faults.OutOfMemory) ⊎ NoReading cs → ComparerRefuses left right Right fault
-refuses-reading left right cs (faults.Syntax at) c t h d = (refused_reading right cs (faults.Syntax at) t h d, c)
-refuses-reading left right cs (faults.Tab at) c t h d = (refused_reading right cs (faults.Tab at) t h d, c)
-refuses-reading left right cs (faults.KeyTooLong at) c t h d = (refused_reading right cs (faults.KeyTooLong at) t h d, c)
-refuses-reading left right cs (faults.TooDeep at) c t h d = (refused_reading right cs (faults.TooDeep at) t h d, c)
-refuses-reading left right cs (faults.BadEscape at) c t h d = (refused_reading right cs (faults.BadEscape at) t h d, c)
-refuses-reading left right cs (faults.BadDirective at) c t h d = (refused_reading right cs (faults.BadDirective at) t h d, c)
-refuses-reading left right cs (faults.UnknownHandle at) c t h d = (refused_reading right cs (faults.UnknownHandle at) t h d, c)
-refuses-reading left right cs (faults.BadTag at) c t h d = (refused_reading right cs (faults.BadTag at) t h d, c)
-refuses-reading left right cs faults.OutOfMemory c t h d = (tt, c)
-refuses-reading left right cs _ c t h d = absurd h
-
--- the left side is no text
-pub refuses-source : (left right : List ℕ) (fault : Fault) → RefusesText left fault → ComparerRefuses left right Left fault
-refuses-source left right faults.TooLong h = h
-refuses-source left right (faults.NotUtf8 at) h = h
-refuses-source left right (faults.NotPrintable at) h = h
-refuses-source left right _ h = absurd h
-
--- its text can't be read on
-pub refuses-first : (left right cs : List ℕ) (fault : Fault) → Text left cs → IsRefusal fault → (fault ≡ faults.OutOfMemory) ⊎ NoReading cs → ComparerRefuses left right Left fault
-refuses-first left right cs (faults.Syntax at) t h d = refused_reading left cs (faults.Syntax at) t h d
-refuses-first left right cs (faults.Tab at) t h d = refused_reading left cs (faults.Tab at) t h d
-refuses-first left right cs (faults.KeyTooLong at) t h d = refused_reading left cs (faults.KeyTooLong at) t h d
-refuses-first left right cs (faults.TooDeep at) t h d = refused_reading left cs (faults.TooDeep at) t h d
-refuses-first left right cs (faults.BadEscape at) t h d = refused_reading left cs (faults.BadEscape at) t h d
-refuses-first left right cs (faults.BadDirective at) t h d = refused_reading left cs (faults.BadDirective at) t h d
-refuses-first left right cs (faults.UnknownHandle at) t h d = refused_reading left cs (faults.UnknownHandle at) t h d
-refuses-first left right cs (faults.BadTag at) t h d = refused_reading left cs (faults.BadTag at) t h d
-refuses-first left right cs faults.OutOfMemory t h d = tt
-refuses-first left right cs _ t h d = absurd h
+pub refuses-second : (left right : List ℕ) (fault : Fault) → IsComposed left → GraphRefuses right fault → ComparerRefuses left right Right fault
+refuses-second left right (faults.EqualKeys n i j) c h = absurd h
+refuses-second left right faults.TextTooLong c h = absurd h
+refuses-second left right _ c h = (h, c)
 
 pub refuses-both : (left right : List ℕ) (ds es : List Document) (side : Side) (fault : Fault) → IsRead left ds → IsComposed left → IsRead right es → RefusesDocuments ds es side fault → ComparerRefuses left right side fault
 refuses-both left right ds es Left (faults.EqualKeys n i k) p c q h = (ds, es, p, q, h)

@@ -12,9 +12,9 @@ use Rattle.yaml_text.specs.declared.fault.Fault.{Fault}
 use Rattle.yaml_text.specs.Tree.{Tree, Trees, Pairs, sequence, mapping}
 use Rattle.yaml_text.specs.Order.{arranged}
 use Rattle.yaml_text.specs.Same.{same}
-use Rattle.yaml_text.specs.Marked.{Marked}
-use Rattle.yaml_text.specs.NodeText.{text}
-use Rattle.yaml_text.specs.Spell.{marks_of, spell, spell_bytes}
+use Rattle.yaml_text.specs.Serial.{SerialNode}
+use Rattle.yaml_text.specs.NodeText.{node_text}
+use Rattle.yaml_text.specs.Spell.{serial_of, spell, spell_bytes}
 use Rattle.yaml_text.proofs.Equivalence.{same_refl}
 use Rattle.yaml_graph.specs.TreeLists.{trees, pairs}
 use Rattle.yaml_graph.specs.GraphModel.{Entries, PartsBelow}
@@ -29,7 +29,7 @@ use Rattle.yaml_rank.specs.Laws.{arranged_kind}
 use Rattle.yaml_rank.specs.declared.ranks.Ranks.{Ranks}
 use Rattle.yaml_canon.specs.declared.names.State.TheVariants.{Unseen}
 use Rattle.yaml_canon.specs.NamesView.{Given}
-use Rattle.yaml_canon.specs.Pieces.{Began, Adds, Puts, Misses, Fails}
+use Rattle.yaml_canon.specs.Pieces.{Began, TakesPiece, Puts, Misses, Fails}
 use Rattle.yaml_canon.specs.RankView.{rank_in}
 use Rattle.yaml_canon.specs.Walked.{noticed, written}
 use Rattle.yaml_text.specs.Limits.{text_limit}
@@ -111,8 +111,8 @@ module _ (g : Graph) (r : Ranks) (are : RanksAre g r) where
       by tag (kinds.Mapping entries) sorted q h = let f : ps ≡ pairs (map (key_pair g) sorted) = cc in subst (OfPairs R Of tell) (sym f) (pairs-of o.0 o.1 sorted (λ k d m. h k d m))
 
   -- what is written of a root after both passes
-  pub marks-there : (i : ℕ) (p : Given) → i < length (nodes_of g) → p ≡ (noticed R (T i) (λ _. Unseen), 0) → written R (T i) p ≡ marks_of (tree g i)
-  unfolding marks_of
+  pub marks-there : (i : ℕ) (p : Given) → i < length (nodes_of g) → p ≡ (noticed R (T i) (λ _. Unseen), 0) → written R (T i) p ≡ serial_of (tree g i)
+  unfolding serial_of
   marks-there i p l e = ap (written R (T i)) e ∙ written_is R Of tell in_sequence in_mapping (T i) (i, l, refl)
 
 -- ---- pieces of a document
@@ -126,31 +126,31 @@ unfolding encode_utf8
 end_bytes = refl
 
 module _ {S O : Type 0} (holds : S → O → Began → List ℕ → Type 0) (stops : O → Began → Fault → List ℕ → Type 0) where
-  abbrev opened : Marked → List ℕ → List ℕ
-  opened m more = (45 ∷ 45 ∷ 45 ∷ 32 ∷ []) ++ text m more
+  abbrev opened : SerialNode → List ℕ → List ℕ
+  opened m more = (45 ∷ 45 ∷ 45 ∷ 32 ∷ []) ++ node_text m more
 
-  begun : (m : Marked) (s : S) (o : O) (t : S) (p : O) (u : S) (q : O) → Adds holds s o t p (45 ∷ 45 ∷ 45 ∷ 32 ∷ []) → Puts holds t p u q (text m) → Puts holds s o u q (opened m)
-  begun m s o t p u q a h = puts_then holds s o t p u q (λ more. (45 ∷ 45 ∷ 45 ∷ 32 ∷ []) ++ more) (text m) (puts_piece holds s o t p (45 ∷ 45 ∷ 45 ∷ 32 ∷ []) (45 ∷ 45 ∷ 45 ∷ 32 ∷ []) a start_bytes) h
+  begun : (m : SerialNode) (s : S) (o : O) (t : S) (p : O) (u : S) (q : O) → TakesPiece holds s o t p (45 ∷ 45 ∷ 45 ∷ 32 ∷ []) → Puts holds t p u q (node_text m) → Puts holds s o u q (opened m)
+  begun m s o t p u q a h = puts_then holds s o t p u q (λ more. (45 ∷ 45 ∷ 45 ∷ 32 ∷ []) ++ more) (node_text m) (puts_piece holds s o t p (45 ∷ 45 ∷ 45 ∷ 32 ∷ []) (45 ∷ 45 ∷ 45 ∷ 32 ∷ []) a start_bytes) h
 
-  pub document_put : (t : Tree) (m : Marked) (s : S) (o : O) (v : S) (p : O) (u : S) (q : O) (x : S) (y : O) → m ≡ marks_of t → Adds holds s o v p (45 ∷ 45 ∷ 45 ∷ 32 ∷ []) → Puts holds v p u q (text m) → Adds holds u q x y (10 ∷ []) → Puts holds s o x y (document_text t)
+  pub document_put : (t : Tree) (m : SerialNode) (s : S) (o : O) (v : S) (p : O) (u : S) (q : O) (x : S) (y : O) → m ≡ serial_of t → TakesPiece holds s o v p (45 ∷ 45 ∷ 45 ∷ 32 ∷ []) → Puts holds v p u q (node_text m) → TakesPiece holds u q x y (10 ∷ []) → Puts holds s o x y (document_text t)
   document_put t m s o v p u q x y e a h b =
       puts_as holds s o x y (λ more. opened m ((10 ∷ []) ++ more)) (document_text t) (puts_then holds s o u q x y (opened m) (λ more. (10 ∷ []) ++ more) (begun m s o v p u q a h) (puts_piece holds u q x y (10 ∷ []) (10 ∷ []) b end_bytes))
-      (λ more. ap (λ z. 45 ∷ 45 ∷ 45 ∷ 32 ∷ text z (10 ∷ more)) e)
+      (λ more. ap (λ z. 45 ∷ 45 ∷ 45 ∷ 32 ∷ node_text z (10 ∷ more)) e)
 
   pub document_unstarted : (t : Tree) (s : S) (o q : O) (fault : Fault) → Misses holds stops s o q fault (45 ∷ 45 ∷ 45 ∷ 32 ∷ []) → Fails holds stops s o q fault (document_text t)
   document_unstarted t s o q fault a =
-      fails_more holds stops s o q fault (λ more. (45 ∷ 45 ∷ 45 ∷ 32 ∷ []) ++ more) (λ more. text (marks_of t) (10 ∷ more)) (fails_piece holds stops s o q fault (45 ∷ 45 ∷ 45 ∷ 32 ∷ []) (45 ∷ 45 ∷ 45 ∷ 32 ∷ []) a start_bytes)
+      fails_more holds stops s o q fault (λ more. (45 ∷ 45 ∷ 45 ∷ 32 ∷ []) ++ more) (λ more. node_text (serial_of t) (10 ∷ more)) (fails_piece holds stops s o q fault (45 ∷ 45 ∷ 45 ∷ 32 ∷ []) (45 ∷ 45 ∷ 45 ∷ 32 ∷ []) a start_bytes)
 
-  pub document_broken : (t : Tree) (m : Marked) (s : S) (o : O) (v : S) (p q : O) (fault : Fault) → m ≡ marks_of t → Adds holds s o v p (45 ∷ 45 ∷ 45 ∷ 32 ∷ []) → Fails holds stops v p q fault (text m) → Fails holds stops s o q fault (document_text t)
+  pub document_broken : (t : Tree) (m : SerialNode) (s : S) (o : O) (v : S) (p q : O) (fault : Fault) → m ≡ serial_of t → TakesPiece holds s o v p (45 ∷ 45 ∷ 45 ∷ 32 ∷ []) → Fails holds stops v p q fault (node_text m) → Fails holds stops s o q fault (document_text t)
   document_broken t m s o v p q fault e a h =
       fails_as holds stops s o q fault (λ more. opened m (10 ∷ more)) (document_text t)
-      (fails_later holds stops s o v p q fault (λ more. (45 ∷ 45 ∷ 45 ∷ 32 ∷ []) ++ more) (λ more. text m (10 ∷ more)) (puts_piece holds s o v p (45 ∷ 45 ∷ 45 ∷ 32 ∷ []) (45 ∷ 45 ∷ 45 ∷ 32 ∷ []) a start_bytes) (fails_more holds stops v p q fault (text m) (λ more. 10 ∷ more) h))
-      (λ more. ap (λ z. 45 ∷ 45 ∷ 45 ∷ 32 ∷ text z (10 ∷ more)) e)
+      (fails_later holds stops s o v p q fault (λ more. (45 ∷ 45 ∷ 45 ∷ 32 ∷ []) ++ more) (λ more. node_text m (10 ∷ more)) (puts_piece holds s o v p (45 ∷ 45 ∷ 45 ∷ 32 ∷ []) (45 ∷ 45 ∷ 45 ∷ 32 ∷ []) a start_bytes) (fails_more holds stops v p q fault (node_text m) (λ more. 10 ∷ more) h))
+      (λ more. ap (λ z. 45 ∷ 45 ∷ 45 ∷ 32 ∷ node_text z (10 ∷ more)) e)
 
-  pub document_unended : (t : Tree) (m : Marked) (s : S) (o : O) (v : S) (p : O) (u : S) (q y : O) (fault : Fault) → m ≡ marks_of t → Adds holds s o v p (45 ∷ 45 ∷ 45 ∷ 32 ∷ []) → Puts holds v p u q (text m) → Misses holds stops u q y fault (10 ∷ []) → Fails holds stops s o y fault (document_text t)
+  pub document_unended : (t : Tree) (m : SerialNode) (s : S) (o : O) (v : S) (p : O) (u : S) (q y : O) (fault : Fault) → m ≡ serial_of t → TakesPiece holds s o v p (45 ∷ 45 ∷ 45 ∷ 32 ∷ []) → Puts holds v p u q (node_text m) → Misses holds stops u q y fault (10 ∷ []) → Fails holds stops s o y fault (document_text t)
   document_unended t m s o v p u q y fault e a h b =
       fails_as holds stops s o y fault (λ more. opened m ((10 ∷ []) ++ more)) (document_text t) (fails_later holds stops s o u q y fault (opened m) (λ more. (10 ∷ []) ++ more) (begun m s o v p u q a h) (fails_piece holds stops u q y fault (10 ∷ []) (10 ∷ []) b end_bytes))
-      (λ more. ap (λ z. 45 ∷ 45 ∷ 45 ∷ 32 ∷ text z (10 ∷ more)) e)
+      (λ more. ap (λ z. 45 ∷ 45 ∷ 45 ∷ 32 ∷ node_text z (10 ∷ more)) e)
 
   -- ---- documents one after the other
 
@@ -173,7 +173,7 @@ spell_whole f = ap encode_utf8_all (same_text f)
   where
     same_text : (h : List Tree) → spell_more h [] ≡ spell h
     same_text [] = refl
-    same_text (t ∷ h) = ap (λ z. 45 ∷ 45 ∷ 45 ∷ 32 ∷ text (marks_of t) (10 ∷ z)) (same_text h)
+    same_text (t ∷ h) = ap (λ z. 45 ∷ 45 ∷ 45 ∷ 32 ∷ node_text (serial_of t) (10 ∷ z)) (same_text h)
 
 -- why a length is not taken
 pub length_refused : (f : List Tree) (s : Length) (o p : Unit {0}) (fault : Fault) → len_of s ≡ 0 → limit_of s ≡ text_limit → Fails Holds Stops s o p fault (spell_more f) → RefusesLength f fault

@@ -1,5 +1,6 @@
 pub mod Streams
 mod PieceLaws
+mod QuotedLaws
 mod PageLaws
 mod PartLaws
 mod RankLaws

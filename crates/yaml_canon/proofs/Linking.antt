@@ -5,13 +5,13 @@ use Rattle.std.specs.List.{position_or_len}
 use Rattle.std.specs.declared.option.Option.TheVariants.{None, Some}
 use Rattle.yaml_text.specs.Tree.{Tree, Trees, Pairs, scalar, sequence, mapping, end, item, done, entry}
 use Rattle.yaml_text.specs.Same.{same}
-use Rattle.yaml_text.specs.Spell.{short, marks_of_arranged}
+use Rattle.yaml_text.specs.Spell.{short, serial_of_arranged}
 use Rattle.yaml_text.specs.Event.{Anchor, double}
-use Rattle.yaml_text.specs.Mark.{name_of}
-use Rattle.yaml_text.specs.Marked.{Marked, scalar_at, sequence_at, mapping_at, item_mark, entry_marks}
+use Rattle.yaml_text.specs.Serialize.{anchor_name}
+use Rattle.yaml_text.specs.Serial.{SerialNode, scalar_at, sequence_at, mapping_at, item_serial, entry_serial}
 use Rattle.yaml_text.specs.TagText.{written_tag}
 use Rattle.yaml_text.proofs.Equivalence.{short_like}
-use Rattle.yaml_canon.specs.Anchored.{has, alias_at, anchor_at, enrolled, marked, marked_all, marked_pairs}
+use Rattle.yaml_canon.specs.Anchored.{has, alias_to, anchor_at, enrolled, serialized, serialized_all, serialized_pairs}
 use Rattle.yaml_canon.specs.Anchored as twin
 use Rattle.yaml_canon.specs.Repeats.{repeats_one, kept, kept_all, kept_pairs, repeats, repeats_all, repeats_pairs}
 use Rattle.yaml_canon.specs.Repeats as seen
@@ -19,7 +19,7 @@ use Rattle.yaml_canon.specs.declared.names.State.{State}
 use Rattle.yaml_canon.specs.declared.names.State.TheVariants.{Unseen, Seen, Repeated, Named}
 use Rattle.yaml_canon.specs.declared.names.Opening.{Opening}
 use Rattle.yaml_canon.specs.declared.names.Opening.TheVariants.{Plain, Anchored, Alias}
-use Rattle.yaml_canon.specs.NamesView.{Table, Given, put, met_at, opening, opened_by}
+use Rattle.yaml_canon.specs.NamesView.{RankStates, Given, put, met_at, opening, rank_begun_by}
 use Rattle.yaml_canon.specs.Known.{met_state}
 use Rattle.yaml_canon.specs.Walked.{entered, noted, noticed, noticed_all, noticed_pairs, after, anchor_in, begun, start, started, given, given_all, given_pairs, written, written_all, written_pairs}
 use Rattle.yaml_canon.proofs.Anchors.{Every, of_has, has_like, IsLong, agains_long, repeats_are}
@@ -71,7 +71,7 @@ state_for k r w t = cond (has w t) (Named (suc (position_or_len (same t) w))) (c
 module _ (rank : Tree → ℕ) (Of : Tree → Type 0) (tell : (t u : Tree) → Of t → Of u → (rank t == rank u) ≡ same t u) where
   -- ---- the first pass
 
-  pub record Knows (m : Table) (k r : List Tree) : Type 0 where
+  pub record Knows (m : RankStates) (k r : List Tree) : Type 0 where
     pub is : (t : Tree) → Of t → m (rank t) ≡ state_for k r [] t
     pub within : (t : Tree) → has r t ≡ true → has k t ≡ true
 
@@ -79,7 +79,7 @@ module _ (rank : Tree → ℕ) (Of : Tree → Type 0) (tell : (t u : Tree) → O
   same_state k r w t u e f g h = (λ z. cond (g z) (Named (suc (position_or_len (same u) w))) (cond (f z) Repeated (cond (e z) Seen Unseen)))
 
   -- a node that was kept comes again
-  again : (t : Tree) (m : Table) (k r : List Tree) → Of t → has k t ≡ true → Knows m k r → Knows (met_at (rank t) m) k (r ++ (t ∷ []))
+  again : (t : Tree) (m : RankStates) (k r : List Tree) → Of t → has k t ≡ true → Knows m k r → Knows (met_at (rank t) m) k (r ++ (t ∷ []))
   again t m k r o h n = record {
     is = λ u p. ap (λ b. cond b (met_state (m (rank t))) (m (rank u))) (tell u t p o) ∙ by (same u t) refl u p refl;
     within = λ u g. back (same u t) u refl (sym (has_end r t u) ∙ g);
@@ -101,7 +101,7 @@ module _ (rank : Tree → ℕ) (Of : Tree → Type 0) (tell : (t u : Tree) → O
       back false u e g = n.within u (sym (or_false (has r u) false refl) ∙ g)
 
   -- a node is met for the first time
-  fresh : (t : Tree) (m : Table) (k r : List Tree) → Of t → has k t ≡ false → Knows m k r → Knows (met_at (rank t) m) (k ++ (t ∷ [])) r
+  fresh : (t : Tree) (m : RankStates) (k r : List Tree) → Of t → has k t ≡ false → Knows m k r → Knows (met_at (rank t) m) (k ++ (t ∷ [])) r
   fresh t m k r o h n = record {
     is = λ u p. ap (λ b. cond b (met_state (m (rank t))) (m (rank u))) (tell u t p o) ∙ by (same u t) u p refl;
     within = λ u g. has_end k t u ∙ ap (λ z. z || same u t) (n.within u g);
@@ -121,7 +121,7 @@ module _ (rank : Tree → ℕ) (Of : Tree → Type 0) (tell : (t u : Tree) → O
       by true u p e = seen_now ∙ sym (λ z. cond ((has_like r u t e ∙ none) z) Repeated (cond ((has_end k t u ∙ or_true (has k u) (same u t) e) z) Seen Unseen))
       by false u p e = n.is u p ∙ ap (λ z. cond (has r u) Repeated (cond z Seen Unseen)) (sym (has_end k t u ∙ or_false (has k u) (same u t) e))
 
-  none_repeats : (t : Tree) (m : Table) (k r : List Tree) → has k t ≡ false → Knows m k r → has r t ≡ false
+  none_repeats : (t : Tree) (m : RankStates) (k r : List Tree) → has k t ≡ false → Knows m k r → has r t ≡ false
   none_repeats t m k r h n = by (has r t) refl
     where
       by : (b : Bool) → has r t ≡ b → b ≡ false
@@ -133,8 +133,8 @@ module _ (rank : Tree → ℕ) (Of : Tree → Type 0) (tell : (t u : Tree) → O
   met_before false e = cc
 
   -- one node, of which the inside is known
-  node_linked : (t : Tree) (m : Table) (k r : List Tree) (inside : Table → Table) (kin rin : List Tree → List Tree) → Of t → Knows m k r → (short t ≡ true → (kin k ≡ k) × (rin k ≡ []))
-      → ((n : Table) (l : List Tree) → Knows n l r → Knows (inside n) (kin l) (r ++ rin l)) → Knows (noted rank t m inside) (cond (repeats_one t k) k (kin (seen.noticed t k))) (r ++ cond (repeats_one t k) (t ∷ []) (rin (seen.noticed t k)))
+  node_linked : (t : Tree) (m : RankStates) (k r : List Tree) (inside : RankStates → RankStates) (kin rin : List Tree → List Tree) → Of t → Knows m k r → (short t ≡ true → (kin k ≡ k) × (rin k ≡ []))
+      → ((n : RankStates) (l : List Tree) → Knows n l r → Knows (inside n) (kin l) (r ++ rin l)) → Knows (noted rank t m inside) (cond (repeats_one t k) k (kin (seen.noticed t k))) (r ++ cond (repeats_one t k) (t ∷ []) (rin (seen.noticed t k)))
   node_linked t m k r inside kin rin o n f g = by (short t) (has k t) (m (rank t)) refl refl refl
     where
       by : (b c : Bool) (s : State) → short t ≡ b → has k t ≡ c → m (rank t) ≡ s
@@ -171,17 +171,17 @@ module _ (rank : Tree → ℕ) (Of : Tree → Type 0) (tell : (t u : Tree) → O
     mutual
       unfolding noticed kept repeats
 
-      linked : (t : Tree) (m : Table) (k r : List Tree) → Of t → Knows m k r → Knows (noticed rank t m) (kept t k) (r ++ repeats t k)
+      linked : (t : Tree) (m : RankStates) (k r : List Tree) → Of t → Knows m k r → Knows (noticed rank t m) (kept t k) (r ++ repeats t k)
       linked (scalar g x) m k r o n = node_linked (scalar g x) m k r (λ z. z) (λ l. l) (λ l. []) o n (λ _. (refl, refl)) (λ z l h. subst (λ y. Knows z l y) (sym (append-nil r)) h)
       linked (sequence g ts) m k r o n = node_linked (sequence g ts) m k r (noticed_all rank ts) (kept_all ts) (repeats_all ts) o n (short_items g ts k) (λ z l h. linked_all ts z l r (in_sequence g ts o) h)
       linked (mapping g ps) m k r o n = node_linked (mapping g ps) m k r (noticed_pairs rank ps) (kept_pairs ps) (repeats_pairs ps) o n (short_entries g ps k) (λ z l h. linked_pairs ps z l r (in_mapping g ps o) h)
 
-      linked_all : (ts : Trees) (m : Table) (k r : List Tree) → OfAll ts → Knows m k r → Knows (noticed_all rank ts m) (kept_all ts k) (r ++ repeats_all ts k)
+      linked_all : (ts : Trees) (m : RankStates) (k r : List Tree) → OfAll ts → Knows m k r → Knows (noticed_all rank ts m) (kept_all ts k) (r ++ repeats_all ts k)
       linked_all end m k r o n = subst (λ y. Knows m k y) (sym (append-nil r)) n
       linked_all (item t ts) m k r o n =
           subst (λ y. Knows (noticed_all rank ts (noticed rank t m)) (kept_all ts (kept t k)) y) (append_assoc r (repeats t k) (repeats_all ts (kept t k))) (linked_all ts (noticed rank t m) (kept t k) (r ++ repeats t k) o.1 (linked t m k r o.0 n))
 
-      linked_pairs : (ps : Pairs) (m : Table) (k r : List Tree) → OfPairs ps → Knows m k r → Knows (noticed_pairs rank ps m) (kept_pairs ps k) (r ++ repeats_pairs ps k)
+      linked_pairs : (ps : Pairs) (m : RankStates) (k r : List Tree) → OfPairs ps → Knows m k r → Knows (noticed_pairs rank ps m) (kept_pairs ps k) (r ++ repeats_pairs ps k)
       linked_pairs done m k r o n = subst (λ y. Knows m k y) (sym (append-nil r)) n
       linked_pairs (entry x v ps) m k r o n =
           subst (λ y. Knows (noticed_pairs rank ps (noticed rank v (noticed rank x m))) (kept_pairs ps (kept v (kept x k))) y)
@@ -224,16 +224,16 @@ module _ (rank : Tree → ℕ) (Of : Tree → Type 0) (tell : (t u : Tree) → O
           back true u e z = has_like r u t e ∙ g
           back false u e z = n.within u (sym (or_false (has w u) false refl) ∙ z)
 
-      module _ (t : Tree) (p : Given) (w : List Tree) (body : Anchor → Given → Marked) (twin_body : Anchor → List Tree → Marked) (gin : Given → Given) (nin : List Tree → List Tree) where
+      module _ (t : Tree) (p : Given) (w : List Tree) (body : Anchor → Given → SerialNode) (twin_body : Anchor → List Tree → SerialNode) (gin : Given → Given) (nin : List Tree → List Tree) where
         abbrev at : Bool → State → Opening
         at b s = cond b Plain (opening p.1 s)
 
         abbrev then : Bool → State → Given
-        then b s = cond b p (opened_by (rank t) s p)
+        then b s = cond b p (rank_begun_by (rank t) s p)
 
         abbrev Goal : Bool → Bool → Bool → State → Type 0
         Goal b cw cr s =
-            (begun (at b s) (body (anchor_in (at b s)) (then b s)) ≡ cond cw (alias_at t w) (twin_body (cond cr (Some (name_of (suc (length w)))) None) (cond cr (w ++ (t ∷ [])) w)))
+            (begun (at b s) (body (anchor_in (at b s)) (then b s)) ≡ cond cw (alias_to t w) (twin_body (cond cr (Some (anchor_name (suc (length w)))) None) (cond cr (w ++ (t ∷ [])) w)))
             × Names (after (at b s) (then b s) (gin (then b s))) (cond cw w (nin (cond cr (w ++ (t ∷ [])) w)))
 
       both : (b : Bool) → b ≡ true → b ≡ false → ⊥
@@ -241,9 +241,9 @@ module _ (rank : Tree → ℕ) (Of : Tree → Type 0) (tell : (t u : Tree) → O
       both false e h = absurd (cc)
 
       -- one node, of which the inside is known
-      node_named : (t : Tree) (p : Given) (w : List Tree) (body : Anchor → Given → Marked) (twin_body : Anchor → List Tree → Marked) (gin : Given → Given) (nin : List Tree → List Tree) → Of t → Names p w
+      node_named : (t : Tree) (p : Given) (w : List Tree) (body : Anchor → Given → SerialNode) (twin_body : Anchor → List Tree → SerialNode) (gin : Given → Given) (nin : List Tree → List Tree) → Of t → Names p w
           → ((q : Given) (v : List Tree) → Names q v → ((a : Anchor) → body a q ≡ twin_body a v) × Names (gin q) (nin v))
-          → (begun (start rank t p) (body (anchor_in (start rank t p)) (started rank t p)) ≡ cond (has w t) (alias_at t w) (twin_body (anchor_at r t w) (enrolled r t w)))
+          → (begun (start rank t p) (body (anchor_in (start rank t p)) (started rank t p)) ≡ cond (has w t) (alias_to t w) (twin_body (anchor_at r t w) (enrolled r t w)))
           × Names (after (start rank t p) (started rank t p) (gin (started rank t p))) (cond (has w t) w (nin (enrolled r t w)))
       node_named t p w body twin_body gin nin o n f = by (short t) (has w t) (has r t) refl refl refl
         where
@@ -261,7 +261,7 @@ module _ (rank : Tree → ℕ) (Of : Tree → Type 0) (tell : (t u : Tree) → O
           by false false true e h g =
               let s : p.0 (rank t) ≡ Repeated = n.is t o ∙ (λ z. cond (h z) (Named (suc (position_or_len (same t) w))) (cond (g z) Repeated (cond (has k t) Seen Unseen))) in
               let z = f (put (rank t) (Named (suc p.1)) p.0, suc p.1) (w ++ (t ∷ [])) (enroll t p w o h g n) in
-              subst (λ z. Goal t p w body twin_body gin nin false false true z) (sym s) (z.0 (Some (name_of (suc p.1))) ∙ ap (λ i. twin_body (Some (name_of (suc i))) (w ++ (t ∷ []))) n.count, z.1)
+              subst (λ z. Goal t p w body twin_body gin nin false false true z) (sym s) (z.0 (Some (anchor_name (suc p.1))) ∙ ap (λ i. twin_body (Some (anchor_name (suc i))) (w ++ (t ∷ []))) n.count, z.1)
           by false false false e h g =
               let s : p.0 (rank t) ≡ cond (has k t) Seen Unseen = n.is t o ∙ (λ z. cond (h z) (Named (suc (position_or_len (same t) w))) (cond (g z) Repeated (cond (has k t) Seen Unseen))) in
               subst (λ z. Goal t p w body twin_body gin nin false false false z) (sym s) (plain (has k t))
@@ -272,36 +272,36 @@ module _ (rank : Tree → ℕ) (Of : Tree → Type 0) (tell : (t u : Tree) → O
       after_same (Alias i) a = refl
 
       mutual
-        unfolding written given marked twin.noted
+        unfolding written given serialized twin.noted
 
-        named : (t : Tree) (p : Given) (w : List Tree) → Of t → Names p w → (written rank t p ≡ marked r t w) × Names (given rank t p) (twin.noted r t w)
+        named : (t : Tree) (p : Given) (w : List Tree) → Of t → Names p w → (written rank t p ≡ serialized r t w) × Names (given rank t p) (twin.noted r t w)
         named (scalar g x) p w o n =
             let z = node_named (scalar g x) p w (λ a q. scalar_at a (written_tag 0 g) double x) (λ a v. scalar_at a (written_tag 0 g) double x) (λ q. q) (λ v. v) o n (λ q v h. (λ a. refl, h)) in
             (z.0, subst (λ y. Names y (cond (has w (scalar g x)) w (enrolled r (scalar g x) w))) (after_same (start rank (scalar g x) p) (started rank (scalar g x) p)) z.1)
         named (sequence g ts) p w o n =
-            node_named (sequence g ts) p w (λ a q. sequence_at a (written_tag 1 g) true (written_all rank ts q)) (λ a v. sequence_at a (written_tag 1 g) true (marked_all r ts v)) (given_all rank ts) (twin.noted_all r ts) o n
+            node_named (sequence g ts) p w (λ a q. sequence_at a (written_tag 1 g) true (written_all rank ts q)) (λ a v. sequence_at a (written_tag 1 g) true (serialized_all r ts v)) (given_all rank ts) (twin.noted_all r ts) o n
             (λ q v h. let z = named_all ts q v (in_sequence g ts o) h in (λ a. ap (sequence_at a (written_tag 1 g) true) z.0, z.1))
         named (mapping g ps) p w o n =
-            node_named (mapping g ps) p w (λ a q. mapping_at a (written_tag 2 g) true (written_pairs rank ps q)) (λ a v. mapping_at a (written_tag 2 g) true (marked_pairs r ps v)) (given_pairs rank ps) (twin.noted_pairs r ps) o n
+            node_named (mapping g ps) p w (λ a q. mapping_at a (written_tag 2 g) true (written_pairs rank ps q)) (λ a v. mapping_at a (written_tag 2 g) true (serialized_pairs r ps v)) (given_pairs rank ps) (twin.noted_pairs r ps) o n
             (λ q v h. let z = named_pairs ps q v (in_mapping g ps o) h in (λ a. ap (mapping_at a (written_tag 2 g) true) z.0, z.1))
 
-        named_all : (ts : Trees) (p : Given) (w : List Tree) → OfAll ts → Names p w → (written_all rank ts p ≡ marked_all r ts w) × Names (given_all rank ts p) (twin.noted_all r ts w)
+        named_all : (ts : Trees) (p : Given) (w : List Tree) → OfAll ts → Names p w → (written_all rank ts p ≡ serialized_all r ts w) × Names (given_all rank ts p) (twin.noted_all r ts w)
         named_all end p w o n = (refl, n)
         named_all (item t ts) p w o n =
             let a = named t p w o.0 n in
             let b = named_all ts (given rank t p) (twin.noted r t w) o.1 a.1 in
-            (λ z. item_mark (a.0 z) (b.0 z), b.1)
+            (λ z. item_serial (a.0 z) (b.0 z), b.1)
 
-        named_pairs : (ps : Pairs) (p : Given) (w : List Tree) → OfPairs ps → Names p w → (written_pairs rank ps p ≡ marked_pairs r ps w) × Names (given_pairs rank ps p) (twin.noted_pairs r ps w)
+        named_pairs : (ps : Pairs) (p : Given) (w : List Tree) → OfPairs ps → Names p w → (written_pairs rank ps p ≡ serialized_pairs r ps w) × Names (given_pairs rank ps p) (twin.noted_pairs r ps w)
         named_pairs done p w o n = (refl, n)
         named_pairs (entry x v ps) p w o n =
             let a = named x p w o.0 n in
             let b = named v (given rank x p) (twin.noted r x w) o.1 a.1 in
             let c = named_pairs ps (given rank v (given rank x p)) (twin.noted r v (twin.noted r x w)) o.2 b.1 in
-            (λ z. entry_marks (a.0 z) (b.0 z) (c.0 z), c.1)
+            (λ z. entry_serial (a.0 z) (b.0 z) (c.0 z), c.1)
 
     -- what is written after both passes are the marks of the definition
-    pub written_is : (t : Tree) → Of t → written rank t (noticed rank t (λ _. Unseen), 0) ≡ marks_of_arranged t
+    pub written_is : (t : Tree) → Of t → written rank t (noticed rank t (λ _. Unseen), 0) ≡ serial_of_arranged t
     written_is t o =
         let none : Knows (λ _. Unseen) [] [] = record { is = λ u p. refl; within = λ u h. h } in
         let n : Knows (noticed rank t (λ _. Unseen)) (kept t []) (repeats t []) = linked t (λ _. Unseen) [] [] o none in

@@ -6,12 +6,12 @@ use Rattle.std.specs.List.{filter}
 use Rattle.yaml_text.specs.Tree.{Tree, Trees, Pairs, scalar, sequence, mapping, end, item, done, entry}
 use Rattle.yaml_text.specs.Walk.{Place, first, again, firsts, agains, is_again, walk, walk_trees, walk_pairs}
 use Rattle.yaml_text.specs.Event.{double}
-use Rattle.yaml_text.specs.Marked.{alias, scalar_at, sequence_at, mapping_at, item_mark, entry_marks}
+use Rattle.yaml_text.specs.Serial.{alias_at, scalar_at, sequence_at, mapping_at, item_serial, entry_serial}
 use Rattle.yaml_text.specs.TagText.{written_tag}
-use Rattle.yaml_text.specs.Mark.{is_anchored, anchored, anchor_of, alias_of, mark, mark_trees, mark_pairs}
-use Rattle.yaml_text.specs.Spell.{short, marks_of_arranged}
+use Rattle.yaml_text.specs.Serialize.{is_anchored, anchored, anchor_of, alias_of, serialize, serialize_all, serialize_pairs}
+use Rattle.yaml_text.specs.Spell.{short, serial_of_arranged}
 use Rattle.yaml_text.proofs.UnfoldLaws.{firsts-append, agains-append}
-use Rattle.yaml_canon.specs.Anchored.{has, alias_at, anchor_at, enrolled, noted, noted_all, noted_pairs, marked, marked_all, marked_pairs}
+use Rattle.yaml_canon.specs.Anchored.{has, alias_to, anchor_at, enrolled, noted, noted_all, noted_pairs, serialized, serialized_all, serialized_pairs}
 use Rattle.yaml_canon.specs.Repeats.{repeats}
 use Rattle.yaml_text.proofs.Equivalence.{short_like}
 use Rattle.yaml_canon.proofs.Anchors.{Every, every_parts, of_has, has_itself, has_filter, has_like, IsLong, agains_long, repeats_are}
@@ -59,10 +59,10 @@ module _ (r : List Tree) (all_long : Every IsLong r) where
       by false = sym (append-nil (anchored r b))
 
   abbrev Marks : Tree → List Tree → Type 0
-  Marks t b = (marked r t (anchored r b) ≡ mark short r t b) × (noted r t (anchored r b) ≡ anchored r (b ++ firsts (walk short t b)))
+  Marks t b = (serialized r t (anchored r b) ≡ serialize short r t b) × (noted r t (anchored r b) ≡ anchored r (b ++ firsts (walk short t b)))
 
   mutual
-    unfolding marked noted mark walk
+    unfolding serialized noted serialize walk
 
     pub marks : (t : Tree) (b : List Tree) → Every InR (agains (walk short t b)) → Marks t b
     marks (scalar a x) b i =
@@ -70,8 +70,8 @@ module _ (r : List Tree) (all_long : Every IsLong r) where
         let w : List Tree = anchored r b in
         let c : Bool = is_again short t b in
         let s = seen_is t b (again_in InR c t [] i) in (
-          ap (λ z. cond z (alias_at t w) (scalar_at (anchor_at r t w) (written_tag 0 a) double x)) s
-              ∙ cond_both c (alias_at t w) (alias (alias_of r t b)) (scalar_at (anchor_at r t w) (written_tag 0 a) double x) (scalar_at (anchor_of r t b) (written_tag 0 a) double x)
+          ap (λ z. cond z (alias_to t w) (scalar_at (anchor_at r t w) (written_tag 0 a) double x)) s
+              ∙ cond_both c (alias_to t w) (alias_at (alias_of r t b)) (scalar_at (anchor_at r t w) (written_tag 0 a) double x) (scalar_at (anchor_of r t b) (written_tag 0 a) double x)
               (λ _. refl) (λ _. refl),
           ap (λ z. cond z w (enrolled r t w)) s ∙ noted_case (is_anchored r) c t b (enrolled r t w) [] (λ _. enrolled_is t b ∙ ap (anchored r) (sym (append-nil (b ++ (t ∷ []))))),
         )
@@ -84,10 +84,10 @@ module _ (r : List Tree) (all_long : Every IsLong r) where
         let s = seen_is t b (again_in InR c t v i) in
         let e = enrolled_is t b in
         let inside = λ (f : c ≡ false). marks_trees ts d (inside_in InR c t v i f) in (
-          ap (λ z. cond z (alias_at t w) (sequence_at (anchor_at r t w) (written_tag 1 a) true (marked_all r ts (enrolled r t w)))) s
-              ∙ cond_both c (alias_at t w) (alias (alias_of r t b)) (sequence_at (anchor_at r t w) (written_tag 1 a) true (marked_all r ts (enrolled r t w))) (sequence_at (anchor_of r t b) (written_tag 1 a) true (mark_trees short r ts d))
+          ap (λ z. cond z (alias_to t w) (sequence_at (anchor_at r t w) (written_tag 1 a) true (serialized_all r ts (enrolled r t w)))) s
+              ∙ cond_both c (alias_to t w) (alias_at (alias_of r t b)) (sequence_at (anchor_at r t w) (written_tag 1 a) true (serialized_all r ts (enrolled r t w))) (sequence_at (anchor_of r t b) (written_tag 1 a) true (serialize_all short r ts d))
               (λ _. refl)
-              (λ f. ap (λ z. sequence_at (anchor_of r t b) (written_tag 1 a) true z) (ap (marked_all r ts) e ∙ (inside f).0)),
+              (λ f. ap (λ z. sequence_at (anchor_of r t b) (written_tag 1 a) true z) (ap (serialized_all r ts) e ∙ (inside f).0)),
           ap (λ z. cond z w (noted_all r ts (enrolled r t w))) s ∙ noted_case (is_anchored r) c t b (noted_all r ts (enrolled r t w)) v (λ f. ap (noted_all r ts) e ∙ (inside f).1),
         )
     marks (mapping a ps) b i =
@@ -99,15 +99,15 @@ module _ (r : List Tree) (all_long : Every IsLong r) where
         let s = seen_is t b (again_in InR c t v i) in
         let e = enrolled_is t b in
         let inside = λ (f : c ≡ false). marks_pairs ps d (inside_in InR c t v i f) in (
-          ap (λ z. cond z (alias_at t w) (mapping_at (anchor_at r t w) (written_tag 2 a) true (marked_pairs r ps (enrolled r t w)))) s
-              ∙ cond_both c (alias_at t w) (alias (alias_of r t b)) (mapping_at (anchor_at r t w) (written_tag 2 a) true (marked_pairs r ps (enrolled r t w))) (mapping_at (anchor_of r t b) (written_tag 2 a) true (mark_pairs short r ps d))
+          ap (λ z. cond z (alias_to t w) (mapping_at (anchor_at r t w) (written_tag 2 a) true (serialized_pairs r ps (enrolled r t w)))) s
+              ∙ cond_both c (alias_to t w) (alias_at (alias_of r t b)) (mapping_at (anchor_at r t w) (written_tag 2 a) true (serialized_pairs r ps (enrolled r t w))) (mapping_at (anchor_of r t b) (written_tag 2 a) true (serialize_pairs short r ps d))
               (λ _. refl)
-              (λ f. ap (λ z. mapping_at (anchor_of r t b) (written_tag 2 a) true z) (ap (marked_pairs r ps) e ∙ (inside f).0)),
+              (λ f. ap (λ z. mapping_at (anchor_of r t b) (written_tag 2 a) true z) (ap (serialized_pairs r ps) e ∙ (inside f).0)),
           ap (λ z. cond z w (noted_pairs r ps (enrolled r t w))) s ∙ noted_case (is_anchored r) c t b (noted_pairs r ps (enrolled r t w)) v (λ f. ap (noted_pairs r ps) e ∙ (inside f).1),
         )
 
     marks_trees : (ts : Trees) (b : List Tree) → Every InR (agains (walk_trees short ts b))
-        → (marked_all r ts (anchored r b) ≡ mark_trees short r ts b) × (noted_all r ts (anchored r b) ≡ anchored r (b ++ firsts (walk_trees short ts b)))
+        → (serialized_all r ts (anchored r b) ≡ serialize_all short r ts b) × (noted_all r ts (anchored r b) ≡ anchored r (b ++ firsts (walk_trees short ts b)))
     marks_trees end b i = (refl, ap (anchored r) (sym (append-nil b)))
     marks_trees (item t ts) b i =
         let f : List Tree = firsts (walk short t b) in
@@ -116,12 +116,12 @@ module _ (r : List Tree) (all_long : Every IsLong r) where
         let p = every_parts InR (agains (walk short t b)) (agains v) (subst (Every InR) (agains-append (walk short t b) v) i) in
         let h = marks t b p.0 in
         let k = marks_trees ts c p.1 in (
-          ap (λ z. item_mark z (marked_all r ts (noted r t (anchored r b)))) h.0 ∙ ap (λ z. item_mark (mark short r t b) z) (ap (marked_all r ts) h.1 ∙ k.0),
+          ap (λ z. item_serial z (serialized_all r ts (noted r t (anchored r b)))) h.0 ∙ ap (λ z. item_serial (serialize short r t b) z) (ap (serialized_all r ts) h.1 ∙ k.0),
           ap (noted_all r ts) h.1 ∙ k.1 ∙ ap (anchored r) (append_assoc b f (firsts v) ∙ ap (λ z. b ++ z) (sym (firsts-append (walk short t b) v))),
         )
 
     marks_pairs : (ps : Pairs) (b : List Tree) → Every InR (agains (walk_pairs short ps b))
-        → (marked_pairs r ps (anchored r b) ≡ mark_pairs short r ps b) × (noted_pairs r ps (anchored r b) ≡ anchored r (b ++ firsts (walk_pairs short ps b)))
+        → (serialized_pairs r ps (anchored r b) ≡ serialize_pairs short r ps b) × (noted_pairs r ps (anchored r b) ≡ anchored r (b ++ firsts (walk_pairs short ps b)))
     marks_pairs done b i = (refl, ap (anchored r) (sym (append-nil b)))
     marks_pairs (entry k v ps) b i =
         let f : List Tree = firsts (walk short k b) in
@@ -136,13 +136,13 @@ module _ (r : List Tree) (all_long : Every IsLong r) where
         let l = marks_pairs ps d q.1 in
         let after : noted r v (noted r k (anchored r b)) ≡ anchored r d = ap (noted r v) h.1 ∙ j.1 in
         let two : firsts (walk short k b ++ (walk short v c ++ w)) ≡ f ++ (g ++ firsts w) = firsts-append (walk short k b) (walk short v c ++ w) ∙ ap (λ z. f ++ z) (firsts-append (walk short v c) w) in (
-          ap (λ z. entry_marks z (marked r v (noted r k (anchored r b))) (marked_pairs r ps (noted r v (noted r k (anchored r b))))) h.0
-              ∙ ap (λ z. entry_marks (mark short r k b) z (marked_pairs r ps (noted r v (noted r k (anchored r b))))) (ap (marked r v) h.1 ∙ j.0)
-              ∙ ap (λ z. entry_marks (mark short r k b) (mark short r v c) z) (ap (marked_pairs r ps) after ∙ l.0),
+          ap (λ z. entry_serial z (serialized r v (noted r k (anchored r b))) (serialized_pairs r ps (noted r v (noted r k (anchored r b))))) h.0
+              ∙ ap (λ z. entry_serial (serialize short r k b) z (serialized_pairs r ps (noted r v (noted r k (anchored r b))))) (ap (serialized r v) h.1 ∙ j.0)
+              ∙ ap (λ z. entry_serial (serialize short r k b) (serialize short r v c) z) (ap (serialized_pairs r ps) after ∙ l.0),
           ap (noted_pairs r ps) after ∙ l.1 ∙ ap (anchored r) (append_assoc c g (firsts w) ∙ append_assoc b f (g ++ firsts w) ∙ ap (λ z. b ++ z) (sym two)),
         )
 
-pub marked_is : (t : Tree) → marked (repeats t []) t [] ≡ marks_of_arranged t
+pub marked_is : (t : Tree) → serialized (repeats t []) t [] ≡ serial_of_arranged t
 marked_is t =
     let r : List Tree = agains (walk short t []) in
-    ap (λ z. marked z t []) (repeats_are t) ∙ (marks r (agains_long t []) t [] (has_itself r)).0
+    ap (λ z. serialized z t []) (repeats_are t) ∙ (marks r (agains_long t []) t [] (has_itself r)).0

@@ -3,19 +3,18 @@ use Rattle.std.proofs.Common.{◌≡◌, ℕ, ◌+◌, ◌-◌, min, List, [], �
 use Rattle.std.proofs.lemmas.List.{append_assoc, append-nil}
 use Rattle.std.proofs.lemmas.Grind.{common_steps}
 use Rattle.std.specs.Io.KnownBytes.{Appends}
-use Rattle.std.specs.Char.{encode_utf8}
-use Rattle.std.specs.Str.{encode_utf8_all, IsUtf8}
+use Rattle.std.specs.Str.{encode_utf8_all}
 use Rattle.std.specs.Prelude.{flat_map}
-use Rattle.std.proofs.lemmas.Str.{IsUtf8-past_char, chars-nil}
+use Rattle.std.proofs.lemmas.Str.{chars-nil}
 use Rattle.yaml_text.specs.CharText.{spell_char}
-use Rattle.yaml_scalar.specs.Spelling.{spelled, spelled_chars}
-use Rattle.yaml_scalar.proofs.SpellingLemmas.{next_spelled, spelled_is}
+use Rattle.yaml_scalar.specs.Spelling.{quoted_bytes, spelled_chars}
+use Rattle.yaml_scalar.proofs.SpellingLemmas.{spelled_is}
 use Rattle.yaml_text.specs.declared.fault.Fault.{Fault}
 use Rattle.yaml_text.specs.declared.counted.Counted.{Counted}
 use Rattle.yaml_text.specs.Count.{one_more}
 use Rattle.yaml_text.specs.CountedModel.{inner_of}
 use Rattle.yaml_canon.specs.declared.page.Page.{Page}
-use Rattle.yaml_canon.specs.Pieces.{Began, Adds, Misses}
+use Rattle.yaml_canon.specs.Pieces.{Began, TakesPiece, Misses}
 use Rattle.yaml_canon.specs.Pages.{page_bytes, page_len, PageHolds, PageStops}
 use Rattle.yaml_canon.specs.Writers.{Sent, CutOff}
 use Rattle.yaml_canon.proofs.Streams.{appends_more}
@@ -71,23 +70,23 @@ module _ {W : Type 0} (contents : W → Option (List ℕ)) where
   abbrev Stops : Counted W → Began → Fault → List ℕ → Type 0
   Stops = PageStops contents
 
-  pub adds_sent : (p q : Page) (o u : Counted W) → Sent contents o u (page_bytes p) → page_len q ≡ 0 → Adds Holds p o q u []
+  pub adds_sent : (p q : Page) (o u : Counted W) → Sent contents o u (page_bytes p) → page_len q ≡ 0 → TakesPiece Holds p o q u []
   adds_sent p q o u s e = record { is = λ b xs h. subst (Holds q u b) (sym (append-nil xs)) (held_sent p q o u b xs h s e) }
 
   pub misses_sent : (p : Page) (o u : Counted W) (fault : Fault) → CutOff contents o u (page_bytes p) fault → Misses Holds Stops p o u fault []
   misses_sent p o u fault s = record { is = λ b xs more h. held_cut p o u b fault xs more h s }
 
-  pub adds_filled : (p q : Page) (o : Counted W) (piece : List ℕ) → page_bytes q ≡ page_bytes p ++ piece → Adds Holds p o q o piece
+  pub adds_filled : (p q : Page) (o : Counted W) (piece : List ℕ) → page_bytes q ≡ page_bytes p ++ piece → TakesPiece Holds p o q o piece
   adds_filled p q o piece e = record { is = λ b xs h. held_more p q o b xs piece h e }
 
   -- one more piece of a text
-  pub adds_piece : (p q r t : Page) (o u w : Counted W) (xs part : List ℕ) (i n : ℕ) → Adds Holds p o q u (take i xs) → Adds Holds q u r w [] → part ≡ take n (drop i xs) → page_bytes t ≡ page_bytes r ++ part → Adds Holds p o t w (take (i + n) xs)
+  pub adds_piece : (p q r t : Page) (o u w : Counted W) (xs part : List ℕ) (i n : ℕ) → TakesPiece Holds p o q u (take i xs) → TakesPiece Holds q u r w [] → part ≡ take n (drop i xs) → page_bytes t ≡ page_bytes r ++ part → TakesPiece Holds p o t w (take (i + n) xs)
   adds_piece p q r t o u w xs part i n h k e f =
       let a = adds_then Holds p o q u r w (take i xs) [] h k in
       let b = adds_then Holds p o r w t w (take i xs ++ []) part a (adds_filled r t w part f) in
-      subst (Adds Holds p o t w) (ap (λ z. z ++ part) (append-nil (take i xs)) ∙ ap (λ z. take i xs ++ z) e ∙ sym (take-add i n xs)) b
+      subst (TakesPiece Holds p o t w) (ap (λ z. z ++ part) (append-nil (take i xs)) ∙ ap (λ z. take i xs ++ z) e ∙ sym (take-add i n xs)) b
 
-  pub misses_piece : (p q : Page) (o u w : Counted W) (fault : Fault) (xs : List ℕ) (i : ℕ) → Adds Holds p o q u (take i xs) → Misses Holds Stops q u w fault [] → Misses Holds Stops p o w fault xs
+  pub misses_piece : (p q : Page) (o u w : Counted W) (fault : Fault) (xs : List ℕ) (i : ℕ) → TakesPiece Holds p o q u (take i xs) → Misses Holds Stops q u w fault [] → Misses Holds Stops p o w fault xs
   misses_piece p q o u w fault xs i h k =
       misses_more Holds Stops p o w fault (take i xs ++ []) (drop i xs) xs (misses_later Holds Stops p o q u w fault (take i xs) [] h k)
       (ap (λ z. z ++ drop i xs) (append-nil (take i xs)) ∙ take-append-drop i xs)
@@ -95,38 +94,37 @@ module _ {W : Type 0} (contents : W → Option (List ℕ)) where
   -- A content's spelling is taken but for that of the rest and the closing quote.
   pub record Spelled (p : Page) (o : Counted W) (q : Page) (u : Counted W) (content rest : List ℕ) : Type 0 where
     pub taken : List ℕ
-    pub adds : Adds Holds p o q u taken
-    pub utf8 : IsUtf8 rest
-    pub left : taken ++ (spelled_chars rest ++ (34 ∷ [])) ≡ spelled content
+    pub adds : TakesPiece Holds p o q u taken
+    pub left : taken ++ (spelled_chars rest ++ (34 ∷ [])) ≡ quoted_bytes content
 
-  pub spelled_first : (p q : Page) (o u : Counted W) (content : List ℕ) → IsUtf8 content → Adds Holds p o q u (34 ∷ []) → Spelled p o q u content content
-  spelled_first p q o u content v h = record { taken = 34 ∷ []; adds = h; utf8 = v; left = sym (spelled_is content) }
+  pub spelled_first : (p q : Page) (o u : Counted W) (content : List ℕ) → TakesPiece Holds p o q u (34 ∷ []) → Spelled p o q u content content
+  spelled_first p q o u content h = record { taken = 34 ∷ []; adds = h; left = sym (spelled_is content) }
 
-  pub spelled_next : (p q r : Page) (o u w : Counted W) (content rest after piece : List ℕ) (c : ℕ) → Spelled p o q u content rest → rest ≡ encode_utf8 c ++ after → piece ≡ encode_utf8_all (spell_char c) → Adds Holds q u r w piece → Spelled p o r w content after
-  spelled_next p q r o u w content rest after piece c s e f h = record {
+  pieced : (taken content rest after piece : List ℕ) → taken ++ (spelled_chars rest ++ (34 ∷ [])) ≡ quoted_bytes content → spelled_chars rest ≡ piece ++ spelled_chars after → (taken ++ piece) ++ (spelled_chars after ++ (34 ∷ [])) ≡ quoted_bytes content
+  pieced taken content rest after piece h f =
+      append_assoc taken piece (spelled_chars after ++ (34 ∷ [])) ∙ ap (λ z. taken ++ z) (sym (append_assoc piece (spelled_chars after) (34 ∷ [])) ∙ ap (λ z. z ++ (34 ∷ [])) (sym f)) ∙ h
+
+  pub spelled_next : (p q r : Page) (o u w : Counted W) (content rest after piece : List ℕ) → Spelled p o q u content rest → spelled_chars rest ≡ piece ++ spelled_chars after → TakesPiece Holds q u r w piece → Spelled p o r w content after
+  spelled_next p q r o u w content rest after piece s f h = record {
     taken = s.taken ++ piece;
     adds = adds_then Holds p o q u r w s.taken piece s.adds h;
-    utf8 = IsUtf8-past_char rest after c s.utf8 e;
-    left = ap (λ z. (s.taken ++ z) ++ (spelled_chars after ++ (34 ∷ []))) f ∙ append_assoc s.taken (encode_utf8_all (spell_char c)) (spelled_chars after ++ (34 ∷ []))
-        ∙ ap (λ z. s.taken ++ z) (sym (append_assoc (encode_utf8_all (spell_char c)) (spelled_chars after) (34 ∷ [])) ∙ ap (λ z. z ++ (34 ∷ [])) (sym (next_spelled rest after c s.utf8 e))) ∙ s.left;
+    left = pieced s.taken content rest after piece s.left f;
   }
 
-  pub spelled_missed : (p q : Page) (o u w : Counted W) (fault : Fault) (content rest after piece : List ℕ) (c : ℕ) → Spelled p o q u content rest → rest ≡ encode_utf8 c ++ after → piece ≡ encode_utf8_all (spell_char c) → Misses Holds Stops q u w fault piece → Misses Holds Stops p o w fault (spelled content)
-  spelled_missed p q o u w fault content rest after piece c s e f h =
-      misses_more Holds Stops p o w fault (s.taken ++ piece) (spelled_chars after ++ (34 ∷ [])) (spelled content) (misses_later Holds Stops p o q u w fault s.taken piece s.adds h)
-      (ap (λ z. (s.taken ++ z) ++ (spelled_chars after ++ (34 ∷ []))) f ∙ append_assoc s.taken (encode_utf8_all (spell_char c)) (spelled_chars after ++ (34 ∷ []))
-      ∙ ap (λ z. s.taken ++ z) (sym (append_assoc (encode_utf8_all (spell_char c)) (spelled_chars after) (34 ∷ [])) ∙ ap (λ z. z ++ (34 ∷ [])) (sym (next_spelled rest after c s.utf8 e))) ∙ s.left)
+  pub spelled_missed : (p q : Page) (o u w : Counted W) (fault : Fault) (content rest after piece : List ℕ) → Spelled p o q u content rest → spelled_chars rest ≡ piece ++ spelled_chars after → Misses Holds Stops q u w fault piece → Misses Holds Stops p o w fault (quoted_bytes content)
+  spelled_missed p q o u w fault content rest after piece s f h =
+      misses_more Holds Stops p o w fault (s.taken ++ piece) (spelled_chars after ++ (34 ∷ [])) (quoted_bytes content) (misses_later Holds Stops p o q u w fault s.taken piece s.adds h) (pieced s.taken content rest after piece s.left f)
 
   -- the first quote, or the last one, is not taken
-  pub spelled_unopened : (p : Page) (o w : Counted W) (fault : Fault) (content : List ℕ) → Misses Holds Stops p o w fault (34 ∷ []) → Misses Holds Stops p o w fault (spelled content)
-  spelled_unopened p o w fault content h = misses_more Holds Stops p o w fault (34 ∷ []) (spelled_chars content ++ (34 ∷ [])) (spelled content) h (sym (spelled_is content))
+  pub spelled_unopened : (p : Page) (o w : Counted W) (fault : Fault) (content : List ℕ) → Misses Holds Stops p o w fault (34 ∷ []) → Misses Holds Stops p o w fault (quoted_bytes content)
+  spelled_unopened p o w fault content h = misses_more Holds Stops p o w fault (34 ∷ []) (spelled_chars content ++ (34 ∷ [])) (quoted_bytes content) h (sym (spelled_is content))
 
-  all_spelled : (taken content rest : List ℕ) → taken ++ (spelled_chars rest ++ (34 ∷ [])) ≡ spelled content → rest ≡ [] → taken ++ (34 ∷ []) ≡ spelled content
+  all_spelled : (taken content rest : List ℕ) → taken ++ (spelled_chars rest ++ (34 ∷ [])) ≡ quoted_bytes content → rest ≡ [] → taken ++ (34 ∷ []) ≡ quoted_bytes content
   all_spelled taken content rest h e = ap (λ z. taken ++ (z ++ (34 ∷ []))) (sym (ap spelled_chars e ∙ ap (λ z. encode_utf8_all (flat_map spell_char z)) chars-nil)) ∙ h
 
-  pub spelled_last : (p q r : Page) (o u w : Counted W) (content rest : List ℕ) → Spelled p o q u content rest → rest ≡ [] → Adds Holds q u r w (34 ∷ []) → Adds Holds p o r w (spelled content)
-  spelled_last p q r o u w content rest s e h = subst (Adds Holds p o r w) (all_spelled s.taken content rest s.left e) (adds_then Holds p o q u r w s.taken (34 ∷ []) s.adds h)
+  pub spelled_last : (p q r : Page) (o u w : Counted W) (content rest : List ℕ) → Spelled p o q u content rest → rest ≡ [] → TakesPiece Holds q u r w (34 ∷ []) → TakesPiece Holds p o r w (quoted_bytes content)
+  spelled_last p q r o u w content rest s e h = subst (TakesPiece Holds p o r w) (all_spelled s.taken content rest s.left e) (adds_then Holds p o q u r w s.taken (34 ∷ []) s.adds h)
 
-  pub spelled_unclosed : (p q : Page) (o u w : Counted W) (fault : Fault) (content rest : List ℕ) → Spelled p o q u content rest → rest ≡ [] → Misses Holds Stops q u w fault (34 ∷ []) → Misses Holds Stops p o w fault (spelled content)
+  pub spelled_unclosed : (p q : Page) (o u w : Counted W) (fault : Fault) (content rest : List ℕ) → Spelled p o q u content rest → rest ≡ [] → Misses Holds Stops q u w fault (34 ∷ []) → Misses Holds Stops p o w fault (quoted_bytes content)
   spelled_unclosed p q o u w fault content rest s e h =
-      misses_more Holds Stops p o w fault (s.taken ++ (34 ∷ [])) [] (spelled content) (misses_later Holds Stops p o q u w fault s.taken (34 ∷ []) s.adds h) (append-nil (s.taken ++ (34 ∷ [])) ∙ all_spelled s.taken content rest s.left e)
+      misses_more Holds Stops p o w fault (s.taken ++ (34 ∷ [])) [] (quoted_bytes content) (misses_later Holds Stops p o q u w fault s.taken (34 ∷ []) s.adds h) (append-nil (s.taken ++ (34 ∷ [])) ∙ all_spelled s.taken content rest s.left e)

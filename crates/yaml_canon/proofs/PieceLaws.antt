@@ -5,7 +5,7 @@ use Rattle.std.proofs.lemmas.List.{append_assoc, append-nil}
 use Rattle.std.proofs.lemmas.Str.{encodes-append}
 use Rattle.std.specs.Str.{encode_utf8_all}
 use Rattle.yaml_text.specs.declared.fault.Fault.{Fault}
-use Rattle.yaml_canon.specs.Pieces.{Began, Writes, Adds, Puts, Misses, Fails}
+use Rattle.yaml_canon.specs.Pieces.{Began, Writes, TakesPiece, Puts, Misses, Fails}
 
 -- a fact of one arm of an answer
 pub on_ok : {T E P Q : Type 0} (r : Result T E) → OnOk r P → (P → Q) → OnOk r Q
@@ -29,10 +29,10 @@ writes_text old bytes cs u = record {
 }
 
 module _ {S O : Type 0} (holds : S → O → Began → List ℕ → Type 0) where
-  pub adds_none : (s : S) (o : O) → Adds holds s o s o []
+  pub adds_none : (s : S) (o : O) → TakesPiece holds s o s o []
   adds_none s o = record { is = λ b xs h. subst (holds s o b) (sym (append-nil xs)) h }
 
-  pub adds_then : (s : S) (o : O) (t : S) (p : O) (u : S) (q : O) (x y : List ℕ) → Adds holds s o t p x → Adds holds t p u q y → Adds holds s o u q (x ++ y)
+  pub adds_then : (s : S) (o : O) (t : S) (p : O) (u : S) (q : O) (x y : List ℕ) → TakesPiece holds s o t p x → TakesPiece holds t p u q y → TakesPiece holds s o u q (x ++ y)
   adds_then s o t p u q x y h k = record { is = λ b xs i. subst (holds u q b) (append_assoc xs x y) (k.is b (xs ++ x) (h.is b xs i)) }
 
   pub puts_none : (s : S) (o : O) → Puts holds s o s o (λ more. more)
@@ -47,7 +47,7 @@ module _ {S O : Type 0} (holds : S → O → Began → List ℕ → Type 0) wher
   }
 
   -- a piece of these characters
-  pub puts_piece : (s : S) (o : O) (t : S) (p : O) (bytes cs : List ℕ) → Adds holds s o t p bytes → encode_utf8_all cs ≡ bytes → Puts holds s o t p (λ more. cs ++ more)
+  pub puts_piece : (s : S) (o : O) (t : S) (p : O) (bytes cs : List ℕ) → TakesPiece holds s o t p bytes → encode_utf8_all cs ≡ bytes → Puts holds s o t p (λ more. cs ++ more)
   puts_piece s o t p bytes cs h e = record { is = λ b xs i. (xs ++ bytes, h.is b xs i, writes_text xs bytes cs e) }
 
   pub puts_as : (s : S) (o : O) (t : S) (p : O) (f g : List ℕ → List ℕ) → Puts holds s o t p f → ((more : List ℕ) → f more ≡ g more) → Puts holds s o t p g
@@ -59,7 +59,7 @@ module _ {S O : Type 0} (holds : S → O → Began → List ℕ → Type 0) wher
       is = λ b xs more i. subst (λ w. stops p b fault (xs ++ w)) (sym (append_assoc x y more) ∙ ap (λ w. w ++ more) e) (h.is b xs (y ++ more) i);
     }
 
-    pub misses_later : (s : S) (o : O) (t : S) (p q : O) (fault : Fault) (x y : List ℕ) → Adds holds s o t p x → Misses holds stops t p q fault y → Misses holds stops s o q fault (x ++ y)
+    pub misses_later : (s : S) (o : O) (t : S) (p q : O) (fault : Fault) (x y : List ℕ) → TakesPiece holds s o t p x → Misses holds stops t p q fault y → Misses holds stops s o q fault (x ++ y)
     misses_later s o t p q fault x y h k = record {
       is = λ b xs more i. subst (stops q b fault) (append_assoc xs x (y ++ more) ∙ ap (λ w. xs ++ w) (sym (append_assoc x y more))) (k.is b (xs ++ x) more (h.is b xs i));
     }

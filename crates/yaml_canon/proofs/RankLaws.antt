@@ -6,9 +6,9 @@ use Rattle.yaml_text.specs.Tree.{Tree, scalar}
 use Rattle.yaml_text.specs.Order.{arranged}
 use Rattle.yaml_text.specs.Same.{same}
 use Rattle.yaml_text.proofs.SameLaws.{same_to, same_from}
-use Rattle.yaml_text.proofs.Neat.{Neat, neat_same, arranged_neat}
+use Rattle.yaml_text.proofs.Arranged.{IsArranged, neat_same, arranged_neat}
 use Rattle.yaml_text.proofs.Equivalence.{same_refl}
-use Rattle.yaml_graph.specs.GraphView.{nodes_of, trees_of, tree}
+use Rattle.yaml_graph.specs.GraphView.{nodes_of, graph_trees, tree}
 use Rattle.yaml_graph.proofs.GraphLaws.{trees-length}
 use Rattle.yaml_graph.specs.declared.graph.Graph.{Graph}
 use Rattle.yaml_rank.specs.RanksView.{RanksAre, rank_of}
@@ -39,7 +39,7 @@ map-at (t ∷ ts) zero d e h = refl
 map-at (t ∷ ts) (suc i) d e h = map-at ts i d e (omega arith)
 
 module _ (g : Graph) (r : Ranks) (are : RanksAre g r) where
-  neat-there : (i : ℕ) → i < length (nodes_of g) → Neat (arranged (tree g i))
+  neat-there : (i : ℕ) → i < length (nodes_of g) → IsArranged (arranged (tree g i))
   neat-there i l = arranged_neat (tree g i) (are.keyed i l)
 
   -- two arranged trees are the same exactly if their ranks are
@@ -52,7 +52,7 @@ module _ (g : Graph) (r : Ranks) (are : RanksAre g r) where
   pub rank-there : (i : ℕ) → i < length (nodes_of g) → rank_in g r (arranged (tree g i)) ≡ rank_of r i
   unfolding rank_in
   rank-there i l =
-      let ts : List Tree = trees_of g in
+      let ts : List Tree = graph_trees g in
       let t : Tree = arranged (tree g i) in
       let all : length ts ≡ length (nodes_of g) = trees-length g.nodes.items in
       let m : i < length ts = omega (arith, all) in

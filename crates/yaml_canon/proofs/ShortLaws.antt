@@ -4,7 +4,19 @@ use Rattle.std.specs.Prelude.{Result, Ok, Err, OnOk, IfErr, None, nat_le, is_ok,
 use Rattle.std.proofs.lemmas.List.{append-nil}
 use Rattle.std.proofs.lemmas.Bool.Decides.{nat_tests}
 use Rattle.std.specs.Str.{encode_utf8_all}
+use Rattle.std.specs.Prelude.{bytes_eq, cond}
+use Rattle.std.specs.Str.{IsUtf8}
+use Rattle.std.proofs.lemmas.Str.{is_utf8-from_IsUtf8}
+use Rattle.yaml_text.specs.Event.{double, untagged, full}
+use Rattle.yaml_text.specs.Serial.{scalar_at}
+use Rattle.yaml_text.specs.NodeText.{node_text}
+use Rattle.yaml_text.specs.Spell.{text_len}
+use Rattle.yaml_text.specs.Tag.{default_tag}
+use Rattle.yaml_text.specs.TagText.{written_tag}
 use Rattle.yaml_text.specs.declared.fault.Fault.{Fault}
+use Rattle.yaml_size.proofs.Weights.{bytes, content_bytes}
+use Rattle.yaml_size.proofs.Contents.{content_light}
+use Rattle.yaml_canon.specs.ShortNodes.{short_scalar}
 use Rattle.yaml_canon.specs.declared.length.Length.{Length}
 use Rattle.yaml_canon.specs.Pieces.{Began, Writes, Puts, Fails}
 use Rattle.yaml_canon.specs.SinkViews.{len_of, limit_of, LengthHolds, LengthStops}
@@ -51,3 +63,11 @@ long_front (Err fault) s o p limit f more e z l k = sym (beyond _ limit (too_lon
 pub was_ok : {T E P : Type 0} (r : Result T E) → is_err r ≡ false → OnOk r P → P
 was_ok (Ok x) e h = h
 was_ok (Err x) e h = absurd (cc)
+
+-- a small content without a tag
+pub small_scalar : (tag x : List ℕ) → bytes_eq tag (default_tag 0) ≡ true → IsUtf8 x → length x ≤ 15 → true ≡ short_scalar tag x
+unfolding text_len node_text written_tag content_bytes bytes
+small_scalar tag x e u l =
+    let w : written_tag 0 tag ≡ untagged = ap (λ b. cond b untagged (full tag)) e in
+    let m : content_bytes x ≤ 64 = omega (arith, l, content_light x (is_utf8-from_IsUtf8 x u)) in
+    sym (ap (λ g. nat_le (text_len (scalar_at None g double x)) 64) w ∙ within _ 64 m)

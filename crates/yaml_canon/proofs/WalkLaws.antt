@@ -13,7 +13,7 @@ use Rattle.std.proofs.lemmas.Str.{encodes-append}
 use Rattle.yaml_text.specs.Limits.{short_limit}
 use Rattle.yaml_text.specs.Tree.{Tree, Trees, Pairs, scalar, sequence, mapping}
 use Rattle.yaml_text.specs.Order.{arranged}
-use Rattle.yaml_text.specs.NodeText.{text}
+use Rattle.yaml_text.specs.NodeText.{node_text}
 use Rattle.yaml_text.specs.Spell.{short, text_len}
 use Rattle.yaml_text.specs.TagText.{tag_text, written_tag}
 use Rattle.yaml_graph.specs.TreeLists.{trees, pairs}
@@ -30,7 +30,7 @@ use Rattle.yaml_rank.specs.Laws.{arranged_kind}
 use Rattle.yaml_rank.specs.declared.ranks.Ranks.{Ranks}
 use Rattle.yaml_rank.proofs.Shapes.{sorted-is-arranged}
 use Rattle.yaml_canon.specs.Known.{is_unseen}
-use Rattle.yaml_canon.specs.NamesView.{Table, met_at}
+use Rattle.yaml_canon.specs.NamesView.{RankStates, met_at}
 use Rattle.yaml_canon.specs.ShortNodes.{short_kind, short_tag}
 use Rattle.yaml_canon.specs.Walked.{entered, noticed, noticed_all, noticed_pairs}
 use Rattle.yaml_canon.specs.declared.names.State.{State}
@@ -61,12 +61,12 @@ no_items n b = ap (λ z. z && b) (by n)
 
 module _ (g : Graph) where
   short-items : (tag : List ℕ) (items : List NodeId) → short (sequence tag (trees (map (λ i. arranged (tree g i.0)) items))) ≡ (length items == 0) && short_tag 1 tag
-  unfolding short text_len text
+  unfolding short text_len node_text
   short-items tag [] = ap (λ n. nat_le n short_limit) (brackets 1 tag (91 ∷ 93 ∷ []) two_square)
   short-items tag (i ∷ items) = sym (no_items (length items) (short_tag 1 tag))
 
   short-entries : (tag : List ℕ) (entries : Entries) → short (mapping tag (pairs (map (key_pair g) entries))) ≡ (length entries == 0) && short_tag 2 tag
-  unfolding short text_len text
+  unfolding short text_len node_text
   short-entries tag [] = ap (λ n. nat_le n short_limit) (brackets 2 tag (123 ∷ 125 ∷ []) two_curly)
   short-entries tag (p ∷ entries) = sym (no_items (length entries) (short_tag 2 tag))
 
@@ -84,66 +84,66 @@ drop_next xs i d h = rw add-one (drop-cons xs i d h)
 -- ---- the first pass
 
 module _ (rank : Tree → ℕ) where
-  pub noticed_short : (t : Tree) (m : Table) → short t ≡ true → m ≡ noticed rank t m
+  pub noticed_short : (t : Tree) (m : RankStates) → short t ≡ true → m ≡ noticed rank t m
   unfolding noticed
   noticed_short (scalar g x) m h = ap (λ b. cond b m (entered (m (rank (scalar g x))) (met_at (rank (scalar g x)) m) (met_at (rank (scalar g x)) m))) (sym h)
   noticed_short (sequence g ts) m h = ap (λ b. cond b m (entered (m (rank (sequence g ts))) (met_at (rank (sequence g ts)) m) (noticed_all rank ts (met_at (rank (sequence g ts)) m)))) (sym h)
   noticed_short (mapping g ps) m h = ap (λ b. cond b m (entered (m (rank (mapping g ps))) (met_at (rank (mapping g ps)) m) (noticed_pairs rank ps (met_at (rank (mapping g ps)) m)))) (sym h)
 
-  outside : (s : State) (a b : Table) → is_unseen s ≡ false → entered s a b ≡ a
+  outside : (s : State) (a b : RankStates) → is_unseen s ≡ false → entered s a b ≡ a
   outside Unseen a b h = absurd (cc)
   outside Seen a b h = refl
   outside Repeated a b h = refl
   outside (Named k) a b h = refl
 
-  inside : (s : State) (a b : Table) → is_unseen s ≡ true → entered s a b ≡ b
+  inside : (s : State) (a b : RankStates) → is_unseen s ≡ true → entered s a b ≡ b
   inside Unseen a b h = refl
   inside Seen a b h = absurd (cc)
   inside Repeated a b h = absurd (cc)
   inside (Named k) a b h = absurd (cc)
 
-  stays : (t : Tree) (m n : Table) → short t ≡ false → is_unseen (m (rank t)) ≡ false → met_at (rank t) m ≡ cond (short t) m (entered (m (rank t)) (met_at (rank t) m) n)
+  stays : (t : Tree) (m n : RankStates) → short t ≡ false → is_unseen (m (rank t)) ≡ false → met_at (rank t) m ≡ cond (short t) m (entered (m (rank t)) (met_at (rank t) m) n)
   stays t m n h k = sym (outside (m (rank t)) (met_at (rank t) m) n k) ∙ ap (λ b. cond b m (entered (m (rank t)) (met_at (rank t) m) n)) (sym h)
 
-  enters : (t : Tree) (m n : Table) → short t ≡ false → is_unseen (m (rank t)) ≡ true → n ≡ cond (short t) m (entered (m (rank t)) (met_at (rank t) m) n)
+  enters : (t : Tree) (m n : RankStates) → short t ≡ false → is_unseen (m (rank t)) ≡ true → n ≡ cond (short t) m (entered (m (rank t)) (met_at (rank t) m) n)
   enters t m n h k = sym (inside (m (rank t)) (met_at (rank t) m) n k) ∙ ap (λ b. cond b m (entered (m (rank t)) (met_at (rank t) m) n)) (sym h)
 
-  pub noticed_again : (t : Tree) (m : Table) → short t ≡ false → is_unseen (m (rank t)) ≡ false → met_at (rank t) m ≡ noticed rank t m
+  pub noticed_again : (t : Tree) (m : RankStates) → short t ≡ false → is_unseen (m (rank t)) ≡ false → met_at (rank t) m ≡ noticed rank t m
   unfolding noticed
   noticed_again (scalar g x) m h k = stays (scalar g x) m _ h k
   noticed_again (sequence g ts) m h k = stays (sequence g ts) m _ h k
   noticed_again (mapping g ps) m h k = stays (mapping g ps) m _ h k
 
-  pub noticed_scalar : (t : Tree) (g x : List ℕ) (m : Table) → t ≡ scalar g x → short t ≡ false → is_unseen (m (rank t)) ≡ true → met_at (rank t) m ≡ noticed rank t m
+  pub noticed_scalar : (t : Tree) (g x : List ℕ) (m : RankStates) → t ≡ scalar g x → short t ≡ false → is_unseen (m (rank t)) ≡ true → met_at (rank t) m ≡ noticed rank t m
   unfolding noticed
   noticed_scalar t g x m e h k =
       subst (λ z. short z ≡ false → is_unseen (m (rank z)) ≡ true → met_at (rank z) m ≡ noticed rank z m) (sym e) (λ i j. enters (scalar g x) m (met_at (rank (scalar g x)) m) i j) h k
 
-  pub noticed_sequence : (t : Tree) (g : List ℕ) (ts : Trees) (m n : Table) → t ≡ sequence g ts → short t ≡ false → is_unseen (m (rank t)) ≡ true → n ≡ noticed_all rank ts (met_at (rank t) m) → n ≡ noticed rank t m
+  pub noticed_sequence : (t : Tree) (g : List ℕ) (ts : Trees) (m n : RankStates) → t ≡ sequence g ts → short t ≡ false → is_unseen (m (rank t)) ≡ true → n ≡ noticed_all rank ts (met_at (rank t) m) → n ≡ noticed rank t m
   unfolding noticed
   noticed_sequence t g ts m n e h k f =
       f ∙ subst (λ z. short z ≡ false → is_unseen (m (rank z)) ≡ true → noticed_all rank ts (met_at (rank z) m) ≡ noticed rank z m) (sym e) (λ i j. enters (sequence g ts) m (noticed_all rank ts (met_at (rank (sequence g ts)) m)) i j) h k
 
-  pub noticed_mapping : (t : Tree) (g : List ℕ) (ps : Pairs) (m n : Table) → t ≡ mapping g ps → short t ≡ false → is_unseen (m (rank t)) ≡ true → n ≡ noticed_pairs rank ps (met_at (rank t) m) → n ≡ noticed rank t m
+  pub noticed_mapping : (t : Tree) (g : List ℕ) (ps : Pairs) (m n : RankStates) → t ≡ mapping g ps → short t ≡ false → is_unseen (m (rank t)) ≡ true → n ≡ noticed_pairs rank ps (met_at (rank t) m) → n ≡ noticed rank t m
   unfolding noticed
   noticed_mapping t g ps m n e h k f =
       f ∙ subst (λ z. short z ≡ false → is_unseen (m (rank z)) ≡ true → noticed_pairs rank ps (met_at (rank z) m) ≡ noticed rank z m) (sym e) (λ i j. enters (mapping g ps) m (noticed_pairs rank ps (met_at (rank (mapping g ps)) m)) i j) h k
 
-  pub items_noticed : (f : NodeId → Tree) (xs : List NodeId) (i : ℕ) (d : NodeId) (m n w : Table) → i < length xs → noticed_all rank (trees (map f (drop i xs))) m ≡ w → n ≡ noticed rank (f (get_or xs i d)) m → noticed_all rank (trees (map f (drop (i + 1) xs))) n ≡ w
+  pub items_noticed : (f : NodeId → Tree) (xs : List NodeId) (i : ℕ) (d : NodeId) (m n w : RankStates) → i < length xs → noticed_all rank (trees (map f (drop i xs))) m ≡ w → n ≡ noticed rank (f (get_or xs i d)) m → noticed_all rank (trees (map f (drop (i + 1) xs))) n ≡ w
   unfolding noticed
   items_noticed f xs i d m n w l h e = ap (noticed_all rank (trees (map f (drop (i + 1) xs)))) e ∙ ap (λ z. noticed_all rank (trees (map f z)) m) (sym (drop_next xs i d l)) ∙ h
 
-  pub items_done : (f : NodeId → Tree) (xs : List NodeId) (i : ℕ) (m w : Table) → length xs ≤ i → noticed_all rank (trees (map f (drop i xs))) m ≡ w → m ≡ w
+  pub items_done : (f : NodeId → Tree) (xs : List NodeId) (i : ℕ) (m w : RankStates) → length xs ≤ i → noticed_all rank (trees (map f (drop i xs))) m ≡ w → m ≡ w
   unfolding noticed
   items_done f xs i m w l h = ap (λ z. noticed_all rank (trees (map f z)) m) (sym (drop_of_length-le xs l)) ∙ h
 
-  pub entries_noticed : (f : NodeId × NodeId → Tree × Tree) (xs : Entries) (i : ℕ) (d : NodeId × NodeId) (m n o w : Table) → i < length xs → noticed_pairs rank (pairs (map f (drop i xs))) m ≡ w
+  pub entries_noticed : (f : NodeId × NodeId → Tree × Tree) (xs : Entries) (i : ℕ) (d : NodeId × NodeId) (m n o w : RankStates) → i < length xs → noticed_pairs rank (pairs (map f (drop i xs))) m ≡ w
       → n ≡ noticed rank (f (get_or xs i d)).0 m → o ≡ noticed rank (f (get_or xs i d)).1 n → noticed_pairs rank (pairs (map f (drop (i + 1) xs))) o ≡ w
   unfolding noticed
   entries_noticed f xs i d m n o w l h e k =
       ap (noticed_pairs rank (pairs (map f (drop (i + 1) xs)))) (k ∙ ap (noticed rank (f (get_or xs i d)).1) e) ∙ ap (λ z. noticed_pairs rank (pairs (map f z)) m) (sym (drop_next xs i d l)) ∙ h
 
-  pub entries_done : (f : NodeId × NodeId → Tree × Tree) (xs : Entries) (i : ℕ) (m w : Table) → length xs ≤ i → noticed_pairs rank (pairs (map f (drop i xs))) m ≡ w → m ≡ w
+  pub entries_done : (f : NodeId × NodeId → Tree × Tree) (xs : Entries) (i : ℕ) (m w : RankStates) → length xs ≤ i → noticed_pairs rank (pairs (map f (drop i xs))) m ≡ w → m ≡ w
   unfolding noticed
   entries_done f xs i m w l h = ap (λ z. noticed_pairs rank (pairs (map f z)) m) (sym (drop_of_length-le xs l)) ∙ h
 

@@ -1,4 +1,4 @@
--- The marks of an arranged tree, from the anchored nodes that were written before it.
+-- The serialization of an arranged tree, from the anchored nodes that were written before it.
 use Rattle.std.specs.Prelude.{suc, Bool, true, cond, List, [], ◌∷◌, ◌++◌, length}
 use Rattle.std.specs.declared.option.Option.TheVariants.{None, Some}
 use Rattle.std.specs.List.{list_any, position_or_len}
@@ -6,21 +6,21 @@ use Rattle.yaml_text.specs.Tree.{Trees, Pairs, scalar, sequence, mapping, end, i
 use Rattle.yaml_text.specs.Tree as plain
 use Rattle.yaml_text.specs.Same.{same}
 use Rattle.yaml_text.specs.Event.{Anchor, double}
-use Rattle.yaml_text.specs.Marked.{Marked, AllMarked, MarkedPairs, alias, scalar_at, sequence_at, mapping_at, end_marks, item_mark, done_marks, entry_marks}
+use Rattle.yaml_text.specs.Serial.{SerialNode, SerialNodes, SerialPairs, alias_at, scalar_at, sequence_at, mapping_at, end_serial, item_serial, done_serial, entry_serial}
 use Rattle.yaml_text.specs.TagText.{written_tag}
-use Rattle.yaml_text.specs.Mark.{name_of}
+use Rattle.yaml_text.specs.Serialize.{anchor_name}
 
 -- one of the list is the same as this tree
 abbrev pub has : List plain.Tree → plain.Tree → Bool
 has ts t = list_any (same t) ts
 
-abbrev pub alias_at : plain.Tree → List plain.Tree → Marked
-alias_at t written = alias (name_of (suc (position_or_len (same t) written)))
+abbrev pub alias_to : plain.Tree → List plain.Tree → SerialNode
+alias_to t written = alias_at (anchor_name (suc (position_or_len (same t) written)))
 
 -- `repeated` are the nodes that a later one repeats
 module _ (repeated : List plain.Tree) where
   abbrev pub anchor_at : plain.Tree → List plain.Tree → Anchor
-  anchor_at t written = cond (has repeated t) (Some (name_of (suc (length written)))) None
+  anchor_at t written = cond (has repeated t) (Some (anchor_name (suc (length written)))) None
 
   -- the anchored nodes once this one stands among them, if it is anchored
   abbrev pub enrolled : plain.Tree → List plain.Tree → List plain.Tree
@@ -41,21 +41,21 @@ module _ (repeated : List plain.Tree) where
     noted_pairs done written = written
     noted_pairs (entry k v ps) written = noted_pairs ps (noted v (noted k written))
 
-  -- its marks
+  -- its serialization tree
   unfoldable mutual
-    pub marked : plain.Tree → List plain.Tree → Marked
-    marked (scalar a x) written = cond (has written (scalar a x)) (alias_at (scalar a x) written) (scalar_at (anchor_at (scalar a x) written) (written_tag 0 a) double x)
-    marked (sequence a ts) written =
-        cond (has written (sequence a ts)) (alias_at (sequence a ts) written)
-        (sequence_at (anchor_at (sequence a ts) written) (written_tag 1 a) true (marked_all ts (enrolled (sequence a ts) written)))
-    marked (mapping a ps) written =
-        cond (has written (mapping a ps)) (alias_at (mapping a ps) written)
-        (mapping_at (anchor_at (mapping a ps) written) (written_tag 2 a) true (marked_pairs ps (enrolled (mapping a ps) written)))
+    pub serialized : plain.Tree → List plain.Tree → SerialNode
+    serialized (scalar a x) written = cond (has written (scalar a x)) (alias_to (scalar a x) written) (scalar_at (anchor_at (scalar a x) written) (written_tag 0 a) double x)
+    serialized (sequence a ts) written =
+        cond (has written (sequence a ts)) (alias_to (sequence a ts) written)
+        (sequence_at (anchor_at (sequence a ts) written) (written_tag 1 a) true (serialized_all ts (enrolled (sequence a ts) written)))
+    serialized (mapping a ps) written =
+        cond (has written (mapping a ps)) (alias_to (mapping a ps) written)
+        (mapping_at (anchor_at (mapping a ps) written) (written_tag 2 a) true (serialized_pairs ps (enrolled (mapping a ps) written)))
 
-    pub marked_all : Trees → List plain.Tree → AllMarked
-    marked_all end written = end_marks
-    marked_all (item t ts) written = item_mark (marked t written) (marked_all ts (noted t written))
+    pub serialized_all : Trees → List plain.Tree → SerialNodes
+    serialized_all end written = end_serial
+    serialized_all (item t ts) written = item_serial (serialized t written) (serialized_all ts (noted t written))
 
-    pub marked_pairs : Pairs → List plain.Tree → MarkedPairs
-    marked_pairs done written = done_marks
-    marked_pairs (entry k v ps) written = entry_marks (marked k written) (marked v (noted k written)) (marked_pairs ps (noted v (noted k written)))
+    pub serialized_pairs : Pairs → List plain.Tree → SerialPairs
+    serialized_pairs done written = done_serial
+    serialized_pairs (entry k v ps) written = entry_serial (serialized k written) (serialized v (noted k written)) (serialized_pairs ps (noted v (noted k written)))

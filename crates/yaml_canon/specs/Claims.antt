@@ -8,7 +8,7 @@ use Rattle.yaml_text.specs.Same.{Keyed, Alike}
 use Rattle.yaml_text.specs.Spell.{spell_bytes}
 use Rattle.yaml_text.specs.Proper.{Admitted}
 use Rattle.yaml_text.specs.Means.{Means}
-use Rattle.yaml_text.specs.Marked.{Document, stream_events}
+use Rattle.yaml_text.specs.Serial.{Document, stream_events}
 use Rattle.yaml_text.specs.grammar.Reading.{Reads}
 use Rattle.yaml_text.specs.Text.{Text, RefusesText}
 use Rattle.yaml_text.specs.declared.fault.Fault.{Fault}
@@ -80,3 +80,15 @@ CanonicalRefuses bytes (EqualKeys node first second) = (ds : List Document) × (
 CanonicalRefuses bytes TextTooLong = (f : List Tree) × Accepted bytes f × (text_limit < length (spell_bytes f))
 CanonicalRefuses bytes OutOfMemory = Unit {0}
 CanonicalRefuses bytes _ = ⊥
+
+-- The bytes are read as documents whose graph this is.
+pub record HasGraph (bytes : List ℕ) (g : Graph) : Type 0 where
+  pub documents : List Document
+  pub read : IsRead bytes documents
+  pub composed : Composed documents g
+
+-- why the bytes have no graph: of what `canonical` refuses, all that is judged before ranks are
+abbrev pub GraphRefuses : List ℕ → Fault → Type 0
+GraphRefuses bytes (EqualKeys node first second) = ⊥
+GraphRefuses bytes TextTooLong = ⊥
+GraphRefuses bytes fault = CanonicalRefuses bytes fault

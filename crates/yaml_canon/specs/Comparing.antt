@@ -3,7 +3,7 @@ use Rattle.std.specs.Prelude.{◌≡◌, ◌↔◌, ◌<◌, ◌-◌, ℕ, Bool,
 use Rattle.std.specs.Cmp.Lexicographic.{pointwise}
 use Rattle.yaml_text.specs.Same.{Alike, same, Keyed}
 use Rattle.yaml_text.specs.Tree.{Tree}
-use Rattle.yaml_text.specs.Marked.{Document}
+use Rattle.yaml_text.specs.Serial.{Document}
 use Rattle.yaml_text.specs.declared.fault.Fault.{Fault}
 use Rattle.yaml_text.specs.declared.fault.Fault.TheVariants.{EqualKeys, TextTooLong}
 use Rattle.yaml_graph.specs.Composed.{Composed, RefusesStream}
@@ -24,9 +24,9 @@ pub record Compares (left right : List ℕ) (answer : Bool) : Type 0 where
   pub tells : (answer ≡ true) ↔ Alike first second
 
 -- the side and the fault, where so many nodes are the left side's
-abbrev pub told_at : ℕ → Fault → Side × Fault
-told_at nodes (EqualKeys node i j) = cond (nat_le nodes node) (Right, EqualKeys (node - nodes) i j) (Left, EqualKeys node i j)
-told_at nodes fault = (Left, fault)
+abbrev pub side_of_fault : ℕ → Fault → Side × Fault
+side_of_fault nodes (EqualKeys node i j) = cond (nat_le nodes node) (Right, EqualKeys (node - nodes) i j) (Left, EqualKeys node i j)
+side_of_fault nodes fault = (Left, fault)
 
 -- Of all mappings of both sides' documents this one, told with its number on its side, is the first with two equal keys.
 pub record HasEqualKeys (first second : List Document) (side : Side) (fault : Fault) : Type 0 where
@@ -38,7 +38,7 @@ pub record HasEqualKeys (first second : List Document) (side : Side) (fault : Fa
   pub joined : Joined first_graph second_graph both
   pub refused : Fault
   pub refuses : RefusesGraph both refused
-  pub told : (side, fault) ≡ told_at (length (nodes_of first_graph)) refused
+  pub told : (side, fault) ≡ side_of_fault (length (nodes_of first_graph)) refused
 
 -- the documents have a graph
 abbrev pub IsComposable : List Document → Type 0

@@ -2,14 +2,14 @@
 use Rattle.std.specs.Prelude.{◌<◌, List, [], ◌∷◌, ℕ, length}
 use Rattle.yaml_text.specs.Limits.{text_limit}
 use Rattle.yaml_text.specs.Tree.{Tree}
-use Rattle.yaml_text.specs.NodeText.{text}
-use Rattle.yaml_text.specs.Spell.{marks_of, spell_bytes}
+use Rattle.yaml_text.specs.NodeText.{node_text}
+use Rattle.yaml_text.specs.Spell.{serial_of, spell_bytes}
 use Rattle.yaml_text.specs.declared.fault.Fault.{Fault}
 use Rattle.yaml_text.specs.declared.fault.Fault.TheVariants.{TextTooLong, OutOfMemory}
 
 -- a document's start, its root and the end of the line
 abbrev pub document_text : Tree → List ℕ → List ℕ
-document_text t more = 45 ∷ 45 ∷ 45 ∷ 32 ∷ text (marks_of t) (10 ∷ more)
+document_text t more = 45 ∷ 45 ∷ 45 ∷ 32 ∷ node_text (serial_of t) (10 ∷ more)
 
 abbrev pub spell_more : List Tree → List ℕ → List ℕ
 spell_more [] more = more

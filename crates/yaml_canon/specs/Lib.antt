@@ -2,6 +2,7 @@ pub mod Pieces
 pub mod SinkViews
 pub mod Writers
 pub mod Pages
+pub mod Quoted
 pub mod Known
 pub mod NamesView
 pub mod Kinds

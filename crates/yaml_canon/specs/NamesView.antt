@@ -11,27 +11,27 @@ use Rattle.yaml_canon.specs.Known.{met_state}
 abbrev pub ranks_in : Names → ℕ
 ranks_in n = length n.states.items
 
-abbrev pub document_of : Names → ℕ
-document_of n = n.document
+abbrev pub document_number : Names → ℕ
+document_number n = n.document
 
 abbrev pub count_of : Names → ℕ
 count_of n = n.count
 
 -- how each rank is known
-abbrev pub Table : Type 0
-Table = ℕ → State
+abbrev pub RankStates : Type 0
+RankStates = ℕ → State
 
 abbrev pub stamped_state : ℕ → ℕ × State → State
 stamped_state document s = cond (s.0 == document) s.1 Unseen
 
-abbrev pub table_of : Names → Table
+abbrev pub table_of : Names → RankStates
 table_of n rank = stamped_state n.document (slice_index_or n.states.items rank (0, Unseen))
 
-abbrev pub put : ℕ → State → Table → Table
+abbrev pub put : ℕ → State → RankStates → RankStates
 put rank s table q = cond (q == rank) s (table q)
 
 -- one more node of this rank is met
-abbrev pub met_at : ℕ → Table → Table
+abbrev pub met_at : ℕ → RankStates → RankStates
 met_at rank table = put rank (met_state (table rank)) table
 
 -- how a node begins, where so many names were given
@@ -42,15 +42,15 @@ opening count _ = Plain
 
 -- the table and the number of names
 abbrev pub Given : Type 0
-Given = Table × ℕ
+Given = RankStates × ℕ
 
-abbrev pub opened_by : ℕ → State → Given → Given
-opened_by rank Repeated given = (put rank (Named (suc given.1)) given.0, suc given.1)
-opened_by rank _ given = given
+abbrev pub rank_begun_by : ℕ → State → Given → Given
+rank_begun_by rank Repeated given = (put rank (Named (suc given.1)) given.0, suc given.1)
+rank_begun_by rank _ given = given
 
 -- after a node of this rank has begun
-abbrev pub opened : ℕ → Given → Given
-opened rank given = opened_by rank (given.0 rank) given
+abbrev pub rank_begun : ℕ → Given → Given
+rank_begun rank given = rank_begun_by rank (given.0 rank) given
 
 abbrev pub given_of : Names → Given
 given_of n = (table_of n, count_of n)

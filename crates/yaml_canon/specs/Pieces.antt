@@ -15,7 +15,7 @@ pub record Writes (old new : List ℕ) (f : List ℕ → List ℕ) : Type 0 wher
 -- `holds s o b xs` says that the sink s and the output o have xs of the text.
 module _ {S O : Type 0} (holds : S → O → Began → List ℕ → Type 0) where
   -- the bytes of a piece were taken
-  pub record Adds (s : S) (o : O) (t : S) (p : O) (piece : List ℕ) : Type 0 where
+  pub record TakesPiece (s : S) (o : O) (t : S) (p : O) (piece : List ℕ) : Type 0 where
     pub is : (b : Began) (xs : List ℕ) → holds s o b xs → holds t p b (xs ++ piece)
 
   -- the characters that `f` puts before others were taken

@@ -5,7 +5,7 @@ use Rattle.std.specs.Str.{encode_utf8_all}
 use Rattle.std.specs.declared.option.Option.TheVariants.{None}
 use Rattle.yaml_text.specs.Event.{double}
 use Rattle.yaml_text.specs.Limits.{short_limit}
-use Rattle.yaml_text.specs.Marked.{scalar_at}
+use Rattle.yaml_text.specs.Serial.{scalar_at}
 use Rattle.yaml_text.specs.Spell.{text_len}
 use Rattle.yaml_text.specs.TagText.{tag_text, written_tag}
 use Rattle.yaml_graph.specs.declared.node.NodeKind.{NodeKind}

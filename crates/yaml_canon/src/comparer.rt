@@ -10,21 +10,18 @@ ghost use Rattle.yaml_text.specs.Means.{Means};
 ghost use Rattle.yaml_graph.specs.GraphView.{nodes_of, roots_of, tree};
 ghost use Rattle.yaml_rank.specs.RanksView.{RanksAre};
 ghost use Rattle.yaml_canon.specs.declared.side.Side.TheVariants.{Left, Right};
-ghost use Rattle.yaml_canon.specs.Comparing.{Compares, ComparerRefuses, told_at, ComparesDocuments, RefusesDocuments, IsComposable};
+ghost use Rattle.yaml_canon.specs.Comparing.{Compares, ComparerRefuses, side_of_fault, ComparesDocuments, RefusesDocuments};
 ghost use Rattle.yaml_canon.specs.Accepting.{IsSpelling, IsMemory, TellsTexts};
-ghost use Rattle.yaml_text.specs.EventModel.{event_of};
-ghost use Rattle.yaml_text.specs.Marked.{Document, stream_events};
-ghost use Rattle.yaml_graph.specs.Composed.{Composable, RefusesStream};
+ghost use Rattle.yaml_text.specs.Serial.{Document};
+ghost use Rattle.yaml_graph.specs.Composed.{Composed};
 
+use crate::composed::graph_of;
 use crate::side::Side;
 use std::alloc::Global;
 use yaml_graph::graph::Graph;
-use yaml_graph::{compose, join};
+use yaml_graph::join;
 use yaml_rank::rank;
 use yaml_rank::ranks::Ranks;
-use yaml_read::read_events;
-use yaml_text::chars::Chars;
-use yaml_text::event::Event;
 use yaml_text::fault::Fault;
 
 /// The answer for one side.
@@ -40,8 +37,8 @@ fn on<T>(side: Side, answer: Result<T, Fault>) -> Result<T, (Side, Fault)>
 
 /// The side of a fault of the joined graph, of which so many nodes are the left side's. A mapping
 /// with equal keys has its number in its own side's graph.
-fn told(nodes: usize, fault: Fault) -> (Side, Fault)
-    ensures { result ≡ told_at nodes fault }
+fn with_side(nodes: usize, fault: Fault) -> (Side, Fault)
+    ensures { result ≡ side_of_fault nodes fault }
 {
     if let Fault::EqualKeys(node, first, second) = fault {
         if node >= nodes {
@@ -69,35 +66,17 @@ fn are_alike(graph: &Graph<'_>, ranks: &Ranks, middle: usize) -> bool
     true
 }
 
-/// Refuses what the composer refuses (12 to 18).
-fn check(alloc: Global, events: &[Event<'_>]) -> Result<(), Fault>
-    requires { Composable events.now }
-    ensures ok { (ds : List Document) → map event_of events.now ≡ stream_events ds → OnOk result (IsComposable ds) }
-    ensures err { (ds : List Document) → map event_of events.now ≡ stream_events ds → IfErr result (RefusesStream ds) }
+/// Whether two graphs stand for the same documents.
+fn compare<'a>(alloc: Global, left: Graph<'a>, right: Graph<'a>) -> Result<bool, (Side, Fault)>
+    ensures ok { (ds es : List Document) → Composed ds left.entry → Composed es right.entry → IfOk result (ComparesDocuments ds es) }
+    ensures err { (ds es : List Document) → Composed ds left.entry → Composed es right.entry → IfErr result (λ refusal. RefusesDocuments ds es refusal.0 refusal.1) }
 {
-    compose(alloc, events)?;
-    Ok(())
-}
-
-/// Whether two streams' events stand for the same documents.
-fn compare<'e>(
-    alloc: Global,
-    first: &'e [Event<'_>],
-    second: &'e [Event<'_>],
-) -> Result<bool, (Side, Fault)>
-    requires first { Composable first.now }
-    requires second { Composable second.now }
-    ensures ok { (ds es : List Document) → map event_of first.now ≡ stream_events ds → map event_of second.now ≡ stream_events es → IfOk result (ComparesDocuments ds es) }
-    ensures err { (ds es : List Document) → map event_of first.now ≡ stream_events ds → map event_of second.now ≡ stream_events es → IfErr result (λ refusal. RefusesDocuments ds es refusal.0 refusal.1) }
-{
-    let left = on(Side::Left, compose(alloc, first))?;
-    let right = on(Side::Right, compose(alloc, second))?;
     let nodes = left.len();
     let middle = left.roots().len();
     let both = on(Side::Left, join(left, right))?;
     match rank(alloc, &both) {
         Ok(ranks) => Ok(are_alike(&both, &ranks, middle)),
-        Err(fault) => Err(told(nodes, fault)),
+        Err(fault) => Err(with_side(nodes, fault)),
     }
 }
 
@@ -119,10 +98,7 @@ pub fn same<'a>(alloc: Global, left: &'a [u8], right: &'a [u8]) -> Result<bool, 
     ensures no_left_text { ((cs : List ℕ) → Text left.now cs → ⊥) → IsErrAnd result (λ refusal. (refusal.0 ≡ Left) × RefusesText left.now refusal.1) }
     ensures no_right_text { ((cs : List ℕ) → Text right.now cs → ⊥) → IsErrAnd result (λ refusal. (refusal.0 ≡ Left) ⊎ ((refusal.0 ≡ Right) × RefusesText right.now refusal.1)) }
 {
-    let first_source = on(Side::Left, Chars::read(left))?;
-    let first = on(Side::Left, read_events(alloc, &first_source))?;
-    on(Side::Left, check(alloc, &first))?;
-    let second_source = on(Side::Right, Chars::read(right))?;
-    let second = on(Side::Right, read_events(alloc, &second_source))?;
-    compare(alloc, &first, &second)
+    let first = on(Side::Left, graph_of(alloc, left))?;
+    let second = on(Side::Right, graph_of(alloc, right))?;
+    compare(alloc, first, second)
 }

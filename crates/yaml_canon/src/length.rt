@@ -1,8 +1,8 @@
 //! The length of a text, up to a limit.
 ghost use Rattle.std.specs.Prelude.{◌≤◌};
 
+use crate::quoted::cut;
 use crate::sink::Sink;
-use yaml_scalar::spell::spelled_len;
 use yaml_text::fault::Fault;
 
 /// How many bytes a text has, of which no more than a limit are taken.
@@ -14,7 +14,8 @@ pub(crate) struct Length {
 }
 
 impl Length {
-    ghost use Rattle.std.specs.Prelude.{◌≡◌, ◌≤◌, ◌<◌, ◌+◌, OnOk, IfErr};
+    ghost use Rattle.std.specs.Prelude.{◌≡◌, ◌≤◌, ◌<◌, ◌+◌, length, OnOk, IfErr};
+    ghost use Rattle.yaml_scalar.specs.Spelling.{quoted_bytes};
     ghost use Rattle.yaml_canon.specs.SinkViews.{len_of, limit_of};
 
     /// No byte yet.
@@ -45,12 +46,28 @@ impl Length {
         self.len += by as usize;
         Ok(())
     }
+
+    /// Takes so many bytes more as a content's spelling has.
+    fn grow_spelled(&mut self, content: &str) -> Result<(), Fault>
+        ensures limit { limit_of self.new ≡ limit_of self.old }
+        ensures ok { OnOk result (len_of self.new ≡ len_of self.old + length (quoted_bytes content.now)) }
+        ensures err { IfErr result (λ fault. (fault ≡ Fault.TextTooLong) × (limit_of self.old < len_of self.old + length (quoted_bytes content.now))) }
+    {
+        self.grow(2)?;
+        let mut rest = content;
+        'measure: while !rest.is_empty() {
+            let piece = cut(rest);
+            self.grow(piece.len())?;
+            rest = piece.rest;
+        }
+        Ok(())
+    }
 }
 
 impl Sink<()> for Length {
     ghost use Rattle.std.specs.Prelude.{OnOk, IfErr};
-    ghost use Rattle.yaml_scalar.specs.Spelling.{spelled};
-    ghost use Rattle.yaml_canon.specs.Pieces.{Adds, Misses};
+    ghost use Rattle.yaml_scalar.specs.Spelling.{quoted_bytes};
+    ghost use Rattle.yaml_canon.specs.Pieces.{TakesPiece, Misses};
     ghost use Rattle.yaml_canon.specs.SinkViews.{LengthHolds, LengthStops};
 
     ghost holds = { λ s _ b xs. LengthHolds s b xs };
@@ -62,6 +79,6 @@ impl Sink<()> for Length {
     }
 
     fn put_spelled(&mut self, _out: &mut (), content: &str) -> Result<(), Fault> {
-        self.grow(spelled_len(content))
+        self.grow_spelled(content)
     }
 }

@@ -2,6 +2,7 @@
 #![tactic(auto)]
 
 pub mod comparer;
+mod composed;
 pub mod laws;
 mod length;
 mod names;
@@ -9,6 +10,7 @@ mod node;
 mod page;
 mod parts;
 pub mod presenter;
+mod quoted;
 pub mod reading;
 pub mod run;
 pub mod side;

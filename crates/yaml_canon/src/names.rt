@@ -58,12 +58,12 @@ impl Names {
     ghost use Rattle.std.specs.Prelude.{◌≡◌, ◌<◌, ◌+◌, ◌^◌, IfOk, IfErr};
     ghost use Rattle.yaml_canon.specs.declared.names.State.TheVariants.{Unseen};
     ghost use Rattle.yaml_canon.specs.Known.{is_unseen};
-    ghost use Rattle.yaml_canon.specs.NamesView.{ranks_in, document_of, count_of, table_of, met_at, opening, opened, given_of, opening_number};
+    ghost use Rattle.yaml_canon.specs.NamesView.{ranks_in, document_number, count_of, table_of, met_at, opening, rank_begun, given_of, opening_number};
 
     /// Nothing is known of so many ranks; no document was begun.
     pub(crate) fn new(alloc: Global, len: usize) -> Result<Names, Fault>
         ensures long { IfOk result (λ names. ranks_in names ≡ len) }
-        ensures document { IfOk result (λ names. document_of names ≡ 0) }
+        ensures document { IfOk result (λ names. document_number names ≡ 0) }
         ensures err { IfErr result (λ fault. fault ≡ Fault.OutOfMemory) }
     {
         let mut states = Vec::with_capacity(alloc, len)?;
@@ -79,9 +79,9 @@ impl Names {
 
     /// Begins the next document, in which nothing is known.
     pub(crate) fn begin(&mut self)
-        requires { document_of self.old < 2 ^ 63 }
+        requires { document_number self.old < 2 ^ 63 }
         ensures long { ranks_in self.new ≡ ranks_in self.old }
-        ensures document { document_of self.new ≡ document_of self.old + 1 }
+        ensures document { document_number self.new ≡ document_number self.old + 1 }
         ensures count { count_of self.new ≡ 0 }
         ensures table { table_of self.new ≡ (λ _. Unseen) }
     {
@@ -108,7 +108,7 @@ impl Names {
         ensures first { result ≡ is_unseen (table_of self.old rank) }
         ensures table { table_of self.new ≡ met_at rank (table_of self.old) }
         ensures long { ranks_in self.new ≡ ranks_in self.old }
-        ensures document { document_of self.new ≡ document_of self.old }
+        ensures document { document_number self.new ≡ document_number self.old }
         ensures count { count_of self.new ≡ count_of self.old }
     {
         let state = self.state(rank);
@@ -122,9 +122,9 @@ impl Names {
         requires { rank < ranks_in self.old }
         ensures opening { result ≡ opening (count_of self.old) (table_of self.old rank) }
         ensures positive { 0 < opening_number result }
-        ensures given { given_of self.new ≡ opened rank (given_of self.old) }
+        ensures given { given_of self.new ≡ rank_begun rank (given_of self.old) }
         ensures long { ranks_in self.new ≡ ranks_in self.old }
-        ensures document { document_of self.new ≡ document_of self.old }
+        ensures document { document_number self.new ≡ document_number self.old }
     {
         match self.state(rank) {
             State::Named(number) => Opening::Alias(number),

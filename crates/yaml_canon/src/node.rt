@@ -5,15 +5,21 @@ ghost use Rattle.yaml_canon.specs.Kinds.{number_of_kind};
 ghost use Rattle.yaml_canon.specs.ShortNodes.{short_kind, short_scalar, short_tag};
 
 use crate::length::Length;
-use crate::parts::{Kind, put_scalar, put_tag};
+use crate::parts::{Kind, default_tag, put_scalar, put_tag};
 use crate::sink::Sink;
 use yaml_graph::node::{Node, NodeKind};
 use yaml_text::limits::short_limit;
+
+/// A content of so many bytes or fewer is short where no tag is written: each byte takes four at most.
+const SMALL: usize = 15;
 
 /// Whether a scalar of this tag and content is short.
 fn is_short_scalar(tag: &str, content: &str) -> bool
     ensures { result ≡ short_scalar tag.now content.now }
 {
+    if content.len() <= SMALL && tag == default_tag(Kind::Scalar) {
+        return true;
+    }
     let mut length = Length::new(short_limit());
     put_scalar(&mut length, &mut (), tag, content).is_ok()
 }

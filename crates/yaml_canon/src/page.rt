@@ -2,6 +2,7 @@
 ghost use Rattle.std.specs.Prelude.{◌≤◌, OnOk, IfErr};
 ghost use Rattle.yaml_canon.specs.Writers.{Sent, CutOff};
 
+use crate::quoted::{Piece, cut};
 use crate::sink::Sink;
 use std::io::Write;
 use yaml_scalar::spell::spelled_char;
@@ -38,8 +39,9 @@ fn write_whole<W: Write>(out: &mut Counted<W>, piece: &[u8]) -> Result<(), Fault
 
 impl Page {
     ghost use Rattle.std.specs.Prelude.{◌≡◌, ◌<◌, ◌≤◌, ◌+◌, ◌++◌, length, [], OnOk, IfErr};
-    ghost use Rattle.yaml_scalar.specs.Spelling.{spelled};
-    ghost use Rattle.yaml_canon.specs.Pieces.{Adds, Misses};
+    ghost use Rattle.yaml_scalar.specs.Spelling.{quoted_bytes};
+    ghost use Rattle.yaml_canon.specs.Pieces.{TakesPiece, Misses};
+    ghost use Rattle.yaml_canon.specs.Quoted.{piece_text};
     ghost use Rattle.yaml_canon.specs.Writers.{Sent, CutOff};
     ghost use Rattle.yaml_canon.specs.Pages.{page_bytes, page_len, PageHolds, PageStops};
 
@@ -66,7 +68,7 @@ impl Page {
 
     /// Writes the page if it is full.
     fn make_room<W: Write>(&mut self, out: &mut Counted<W>) -> Result<(), Fault>
-        ensures ok { OnOk result (Adds (PageHolds W.contents) self.old out.old self.new out.new []) }
+        ensures ok { OnOk result (TakesPiece (PageHolds W.contents) self.old out.old self.new out.new []) }
         ensures room { OnOk result (page_len self.new < 4096) }
         ensures err { IfErr result (λ fault. Misses (PageHolds W.contents) (PageStops W.contents) self.old out.old out.new fault []) }
     {
@@ -88,7 +90,7 @@ impl Page {
 
     /// Takes some bytes, and writes each page that is full.
     fn add<W: Write>(&mut self, out: &mut Counted<W>, piece: &[u8]) -> Result<(), Fault>
-        ensures ok { OnOk result (Adds (PageHolds W.contents) self.old out.old self.new out.new piece.now) }
+        ensures ok { OnOk result (TakesPiece (PageHolds W.contents) self.old out.old self.new out.new piece.now) }
         ensures err { IfErr result (λ fault. Misses (PageHolds W.contents) (PageStops W.contents) self.old out.old out.new fault piece.now) }
     {
         let mut at = 0;
@@ -101,15 +103,30 @@ impl Page {
         Ok(())
     }
 
+    /// Takes a piece of a content's spelling.
+    fn add_piece<W: Write>(&mut self, out: &mut Counted<W>, piece: &Piece<'_>) -> Result<(), Fault>
+        ensures ok { OnOk result (TakesPiece (PageHolds W.contents) self.old out.old self.new out.new (piece_text piece.now)) }
+        ensures err { IfErr result (λ fault. Misses (PageHolds W.contents) (PageStops W.contents) self.old out.old out.new fault (piece_text piece.now)) }
+    {
+        self.add(out, piece.run.as_bytes())?;
+        let Some(c) = piece.next else {
+            return Ok(());
+        };
+        let (bytes, len) = spelled_char(c);
+        self.add(out, &bytes[..len])
+    }
+
     /// Takes a content's spelling.
     fn add_spelled<W: Write>(&mut self, out: &mut Counted<W>, content: &str) -> Result<(), Fault>
-        ensures ok { OnOk result (Adds (PageHolds W.contents) self.old out.old self.new out.new (spelled content.now)) }
-        ensures err { IfErr result (λ fault. Misses (PageHolds W.contents) (PageStops W.contents) self.old out.old out.new fault (spelled content.now)) }
+        ensures ok { OnOk result (TakesPiece (PageHolds W.contents) self.old out.old self.new out.new (quoted_bytes content.now)) }
+        ensures err { IfErr result (λ fault. Misses (PageHolds W.contents) (PageStops W.contents) self.old out.old out.new fault (quoted_bytes content.now)) }
     {
         self.add(out, b"\"")?;
-        'spell: for c in content.chars() {
-            let (bytes, len) = spelled_char(c);
-            self.add(out, &bytes[..len])?;
+        let mut rest = content;
+        'spell: while !rest.is_empty() {
+            let piece = cut(rest);
+            self.add_piece(out, &piece)?;
+            rest = piece.rest;
         }
         self.add(out, b"\"")
     }

@@ -3,12 +3,12 @@ ghost use Rattle.std.specs.Prelude.{◌≡◌, ◌<◌, ◌/◌, ◌%◌, ◌++�
 ghost use Rattle.std.specs.Fmt.{decimal};
 ghost use Rattle.std.specs.Str.{encode_utf8_all, chars};
 ghost use Rattle.yaml_text.specs.CharText.{hex_digit};
-ghost use Rattle.yaml_text.specs.Mark.{name_of};
-ghost use Rattle.yaml_text.specs.Marked.{alias};
-ghost use Rattle.yaml_text.specs.NodeText.{text, anchor_text, quoted};
+ghost use Rattle.yaml_text.specs.Serialize.{anchor_name};
+ghost use Rattle.yaml_text.specs.Serial.{alias_at};
+ghost use Rattle.yaml_text.specs.NodeText.{node_text, anchor_text, quoted};
 ghost use Rattle.yaml_text.specs.Tag.{default_tag};
 ghost use Rattle.yaml_text.specs.TagText.{spell_byte, encoded, full_text, tag_text, written_tag};
-ghost use Rattle.yaml_canon.specs.Pieces.{Adds, Puts, Misses, Fails};
+ghost use Rattle.yaml_canon.specs.Pieces.{TakesPiece, Puts, Misses, Fails};
 ghost use Rattle.yaml_canon.specs.Kinds.{number_of_kind};
 
 use crate::sink::Sink;
@@ -39,7 +39,7 @@ pub(crate) enum Kind {
 
 /// The tag of a node of this kind that carries none.
 #[tactic(auto, unfolding(yaml_text::specs::Tag::core_tag))]
-fn default_tag(kind: Kind) -> &'static str
+pub(crate) fn default_tag(kind: Kind) -> &'static str
     ensures { result.now ≡ default_tag (number_of_kind kind) }
 {
     match kind {
@@ -76,7 +76,7 @@ fn digit(value: u8) -> &'static str
 
 /// A number in decimal.
 fn put_number<O, S: Sink<O>>(sink: &mut S, out: &mut O, number: usize) -> Result<(), Fault>
-    ensures ok { OnOk result (Adds S.holds sink.old out.old sink.new out.new (decimal number)) }
+    ensures ok { OnOk result (TakesPiece S.holds sink.old out.old sink.new out.new (decimal number)) }
     ensures err { IfErr result (λ fault. Misses S.holds S.stops sink.old out.old out.new fault (decimal number)) }
 {
     let last = digit((number % 10) as u8);
@@ -94,8 +94,8 @@ pub(crate) fn put_alias<O, S: Sink<O>>(
     number: usize,
 ) -> Result<(), Fault>
     requires { 0 < number }
-    ensures ok { OnOk result (Puts S.holds sink.old out.old sink.new out.new (text (alias (name_of number)))) }
-    ensures err { IfErr result (λ fault. Fails S.holds S.stops sink.old out.old out.new fault (text (alias (name_of number)))) }
+    ensures ok { OnOk result (Puts S.holds sink.old out.old sink.new out.new (node_text (alias_at (anchor_name number)))) }
+    ensures err { IfErr result (λ fault. Fails S.holds S.stops sink.old out.old out.new fault (node_text (alias_at (anchor_name number)))) }
 {
     sink.put(out, "*a")?;
     put_number(sink, out, number)
@@ -108,8 +108,8 @@ pub(crate) fn put_anchor<O, S: Sink<O>>(
     number: usize,
 ) -> Result<(), Fault>
     requires { 0 < number }
-    ensures ok { OnOk result (Puts S.holds sink.old out.old sink.new out.new (anchor_text (Some (name_of number)))) }
-    ensures err { IfErr result (λ fault. Fails S.holds S.stops sink.old out.old out.new fault (anchor_text (Some (name_of number)))) }
+    ensures ok { OnOk result (Puts S.holds sink.old out.old sink.new out.new (anchor_text (Some (anchor_name number)))) }
+    ensures err { IfErr result (λ fault. Fails S.holds S.stops sink.old out.old out.new fault (anchor_text (Some (anchor_name number)))) }
 {
     sink.put(out, "&a")?;
     put_number(sink, out, number)?;
@@ -118,7 +118,7 @@ pub(crate) fn put_anchor<O, S: Sink<O>>(
 
 /// `%HH`, for a byte that is not written as itself.
 fn put_escape<O, S: Sink<O>>(sink: &mut S, out: &mut O, byte: u8) -> Result<(), Fault>
-    ensures ok { OnOk result (Adds S.holds sink.old out.old sink.new out.new (37 ∷ hex_digit (byte / 16) ∷ hex_digit (byte % 16) ∷ [])) }
+    ensures ok { OnOk result (TakesPiece S.holds sink.old out.old sink.new out.new (37 ∷ hex_digit (byte / 16) ∷ hex_digit (byte % 16) ∷ [])) }
     ensures err { IfErr result (λ fault. Misses S.holds S.stops sink.old out.old out.new fault (37 ∷ hex_digit (byte / 16) ∷ hex_digit (byte % 16) ∷ [])) }
 {
     sink.put(out, "%")?;
@@ -128,7 +128,7 @@ fn put_escape<O, S: Sink<O>>(sink: &mut S, out: &mut O, byte: u8) -> Result<(), 
 
 /// A byte of a tag: as it is where it is a URI character, else percent-encoded.
 fn put_byte<O, S: Sink<O>>(sink: &mut S, out: &mut O, byte: u8) -> Result<(), Fault>
-    ensures ok { OnOk result (Adds S.holds sink.old out.old sink.new out.new (encode_utf8_all (spell_byte byte))) }
+    ensures ok { OnOk result (TakesPiece S.holds sink.old out.old sink.new out.new (encode_utf8_all (spell_byte byte))) }
     ensures err { IfErr result (λ fault. Misses S.holds S.stops sink.old out.old out.new fault (encode_utf8_all (spell_byte byte))) }
 {
     let c = char::from(byte);
@@ -142,7 +142,7 @@ fn put_byte<O, S: Sink<O>>(sink: &mut S, out: &mut O, byte: u8) -> Result<(), Fa
 
 /// A tag's bytes, percent-encoded.
 fn put_encoded<O, S: Sink<O>>(sink: &mut S, out: &mut O, tag: &str) -> Result<(), Fault>
-    ensures ok { OnOk result (Adds S.holds sink.old out.old sink.new out.new (encode_utf8_all (encoded tag.now []))) }
+    ensures ok { OnOk result (TakesPiece S.holds sink.old out.old sink.new out.new (encode_utf8_all (encoded tag.now []))) }
     ensures err { IfErr result (λ fault. Misses S.holds S.stops sink.old out.old out.new fault (encode_utf8_all (encoded tag.now []))) }
 {
     for byte in tag.as_bytes() {

@@ -14,16 +14,14 @@ ghost use Rattle.yaml_canon.specs.Documents.{RefusesLength};
 ghost use Rattle.yaml_canon.specs.Claims.{IsCanonicalText, CanonicalRefuses};
 ghost use Rattle.yaml_canon.specs.Accepting.{IsSpelling, IsMemory};
 
+use crate::composed::graph_of;
 use crate::names::Names;
 use crate::spell::{canonical_len, write_documents};
 use crate::text::Whole;
 use std::alloc::Global;
-use yaml_graph::compose;
 use yaml_graph::graph::Graph;
 use yaml_rank::rank;
 use yaml_rank::ranks::Ranks;
-use yaml_read::read_events;
-use yaml_text::chars::Chars;
 use yaml_text::fault::Fault;
 
 /// The canonical text of a graph's documents, for which room is taken once.
@@ -54,9 +52,7 @@ pub fn canonical(alloc: Global, bytes: &[u8]) -> Result<String, Fault>
     ensures accepts { (f : List Tree) → Admitted f → Means bytes.now f → MatchResult result (λ text. string_bytes text ≡ spell_bytes f) IsMemory }
     ensures spelling { (f : List Tree) → Admitted f → IsSpelling bytes.now f → MatchResult result (λ text. string_bytes text ≡ spell_bytes f) IsMemory }
 {
-    let source = Chars::read(bytes)?;
-    let events = read_events(alloc, &source)?;
-    let graph = compose(alloc, &events)?;
+    let graph = graph_of(alloc, bytes)?;
     let ranks = rank(alloc, &graph)?;
     spelled(alloc, &graph, &ranks)
 }

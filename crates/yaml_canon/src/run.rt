@@ -4,22 +4,20 @@ ghost use Rattle.yaml_text.specs.CountedModel.{faults_of};
 ghost use Rattle.yaml_text.specs.Spell.{spell_bytes};
 ghost use Rattle.yaml_graph.specs.GraphView.{nodes_of, forest};
 ghost use Rattle.yaml_rank.specs.RanksView.{RanksAre};
-ghost use Rattle.yaml_canon.specs.NamesView.{ranks_in, document_of};
+ghost use Rattle.yaml_canon.specs.NamesView.{ranks_in, document_number};
 ghost use Rattle.yaml_canon.specs.Writers.{Printed, Broken};
 ghost use Rattle.yaml_canon.specs.Runs.{WritesCanonical, WriteRefuses, RunsWhole, RunFails};
 
+use crate::composed::graph_of;
 use crate::names::Names;
 use crate::page::Page;
 use crate::reading::gather;
 use crate::spell::{canonical_len, write_documents};
 use std::alloc::Global;
 use std::io::{Read, Write};
-use yaml_graph::compose;
 use yaml_graph::graph::Graph;
 use yaml_rank::rank;
 use yaml_rank::ranks::Ranks;
-use yaml_read::read_events;
-use yaml_text::chars::Chars;
 use yaml_text::counted::Counted;
 use yaml_text::fault::Fault;
 use yaml_text::limits::text_limit;
@@ -34,7 +32,7 @@ fn write_pages<W: Write>(
 ) -> Result<(), Fault>
     requires ranked { RanksAre graph.now ranks.now }
     requires long { ranks_in names.old ≡ length (nodes_of graph.now) }
-    requires fresh { document_of names.old ≡ 0 }
+    requires fresh { document_number names.old ≡ 0 }
     requires few { faults_of out.old < 2 ^ 64 - 1 }
     ensures ok { OnOk result (Printed W.contents out.old out.new (spell_bytes (forest graph.now))) }
     ensures broken { IfErr result (λ _. Broken W.contents out.old out.new (spell_bytes (forest graph.now))) }
@@ -56,9 +54,7 @@ fn write_canonical<W: Write>(alloc: Global, bytes: &[u8], out: &mut Counted<W>) 
     ensures ok { OnOk result (WritesCanonical W.contents bytes.now out.old out.new) }
     ensures err { IfErr result (WriteRefuses W.contents bytes.now out.old out.new) }
 {
-    let source = Chars::read(bytes)?;
-    let events = read_events(alloc, &source)?;
-    let graph = compose(alloc, &events)?;
+    let graph = graph_of(alloc, bytes)?;
     let ranks = rank(alloc, &graph)?;
     canonical_len(alloc, &graph, &ranks)?;
     let mut names = Names::new(alloc, graph.len())?;

@@ -1,8 +1,8 @@
 //! What takes a text piece by piece.
 ghost use Rattle.std.specs.Prelude.{List, ℕ, OnOk, IfErr};
 ghost use Rattle.yaml_text.specs.declared.fault.Fault.{Fault};
-ghost use Rattle.yaml_scalar.specs.Spelling.{spelled};
-ghost use Rattle.yaml_canon.specs.Pieces.{Began, Adds, Misses};
+ghost use Rattle.yaml_scalar.specs.Spelling.{quoted_bytes};
+ghost use Rattle.yaml_canon.specs.Pieces.{Began, TakesPiece, Misses};
 
 use yaml_text::fault::Fault;
 
@@ -16,11 +16,11 @@ pub(crate) trait Sink<O> {
 
     /// Takes a piece as it is.
     fn put(&mut self, out: &mut O, piece: &str) -> Result<(), Fault>
-        ensures ok { OnOk result (Adds holds self.old out.old self.new out.new piece.now) }
+        ensures ok { OnOk result (TakesPiece holds self.old out.old self.new out.new piece.now) }
         ensures err { IfErr result (λ fault. Misses holds stops self.old out.old out.new fault piece.now) };
 
     /// Takes a content's spelling, quotes included.
     fn put_spelled(&mut self, out: &mut O, content: &str) -> Result<(), Fault>
-        ensures ok { OnOk result (Adds holds self.old out.old self.new out.new (spelled content.now)) }
-        ensures err { IfErr result (λ fault. Misses holds stops self.old out.old out.new fault (spelled content.now)) };
+        ensures ok { OnOk result (TakesPiece holds self.old out.old self.new out.new (quoted_bytes content.now)) }
+        ensures err { IfErr result (λ fault. Misses holds stops self.old out.old out.new fault (quoted_bytes content.now)) };
 }

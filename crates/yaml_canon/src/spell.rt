@@ -1,11 +1,11 @@
 //! The canonical text of a graph's documents.
 ghost use Rattle.std.specs.Prelude.{◌≡◌, ◌<◌, ◌≤◌, ◌^◌, ◌+◌, ◌∷◌, length, OnOk, IfErr, IfOk};
 ghost use Rattle.yaml_text.specs.Limits.{text_limit};
-ghost use Rattle.yaml_text.specs.NodeText.{text};
-ghost use Rattle.yaml_text.specs.Spell.{marks_of, spell_bytes};
+ghost use Rattle.yaml_text.specs.NodeText.{node_text};
+ghost use Rattle.yaml_text.specs.Spell.{serial_of, spell_bytes};
 ghost use Rattle.yaml_graph.specs.GraphView.{nodes_of, tree, forest};
 ghost use Rattle.yaml_rank.specs.RanksView.{RanksAre};
-ghost use Rattle.yaml_canon.specs.NamesView.{ranks_in, document_of};
+ghost use Rattle.yaml_canon.specs.NamesView.{ranks_in, document_number};
 ghost use Rattle.yaml_canon.specs.Pieces.{Puts, Fails};
 ghost use Rattle.yaml_canon.specs.Documents.{spell_more, document_text, RefusesLength};
 
@@ -32,9 +32,9 @@ fn write_document<O, S: Sink<O>>(
     requires within { root.0 < length (nodes_of graph.now) }
     requires ranked { RanksAre graph.now ranks.now }
     requires long { ranks_in names.old ≡ length (nodes_of graph.now) }
-    requires few { document_of names.old < 2 ^ 63 }
+    requires few { document_number names.old < 2 ^ 63 }
     ensures long { ranks_in names.new ≡ ranks_in names.old }
-    ensures document { document_of names.new ≡ document_of names.old + 1 }
+    ensures document { document_number names.new ≡ document_number names.old + 1 }
     ensures ok { OnOk result (Puts S.holds sink.old out.old sink.new out.new (document_text (tree graph.now root.0))) }
     ensures err { IfErr result (λ fault. Fails S.holds S.stops sink.old out.old out.new fault (document_text (tree graph.now root.0))) }
 {
@@ -55,7 +55,7 @@ pub(crate) fn write_documents<O, S: Sink<O>>(
 ) -> Result<(), Fault>
     requires ranked { RanksAre graph.now ranks.now }
     requires long { ranks_in names.old ≡ length (nodes_of graph.now) }
-    requires fresh { document_of names.old ≡ 0 }
+    requires fresh { document_number names.old ≡ 0 }
     ensures ok { OnOk result (Puts S.holds sink.old out.old sink.new out.new (spell_more (forest graph.now))) }
     ensures err { IfErr result (λ fault. Fails S.holds S.stops sink.old out.old out.new fault (spell_more (forest graph.now))) }
 {

@@ -6,11 +6,11 @@ ghost use Rattle.yaml_graph.specs.GraphView.{nodes_of, tree};
 ghost use Rattle.yaml_graph.specs.TreeLists.{trees, pairs};
 ghost use Rattle.yaml_rank.specs.RankModel.{key_pair};
 ghost use Rattle.yaml_rank.specs.RanksView.{RanksAre};
-ghost use Rattle.yaml_canon.specs.NamesView.{ranks_in, document_of, count_of, table_of, given_of, opening_number};
+ghost use Rattle.yaml_canon.specs.NamesView.{ranks_in, document_number, count_of, table_of, given_of, opening_number};
 ghost use Rattle.yaml_canon.specs.Pieces.{Puts, Fails};
-ghost use Rattle.yaml_text.specs.NodeText.{text, items_text, pairs_text};
+ghost use Rattle.yaml_text.specs.NodeText.{node_text, items_text, pairs_text};
 ghost use Rattle.yaml_canon.specs.RankView.{rank_in};
-ghost use Rattle.yaml_canon.specs.Walked.{noticed, noticed_all, noticed_pairs, opening_of, opened_of, separator, given, given_all, given_pairs, given_inside, written, written_all, written_pairs, inner};
+ghost use Rattle.yaml_canon.specs.Walked.{noticed, noticed_all, noticed_pairs, opening_of, begun_unless_short, separator, given, given_all, given_pairs, given_inside, written, written_all, written_pairs, behind_anchor};
 
 use crate::names::{Names, Opening};
 use crate::node::is_short;
@@ -30,7 +30,7 @@ pub(crate) fn notice(graph: &Graph<'_>, ranks: &Ranks, names: &mut Names, id: No
     requires long { ranks_in names.old ≡ length (nodes_of graph.now) }
     ensures table { table_of names.new ≡ noticed (rank_in graph.now ranks.now) (arranged (tree graph.now id.0)) (table_of names.old) }
     ensures long { ranks_in names.new ≡ ranks_in names.old }
-    ensures document { document_of names.new ≡ document_of names.old }
+    ensures document { document_number names.new ≡ document_number names.old }
     ensures count { count_of names.new ≡ count_of names.old }
 {
     let node = graph.node(id);
@@ -62,7 +62,7 @@ fn notice_items(
     requires long { ranks_in names.old ≡ length (nodes_of graph.now) }
     ensures table { table_of names.new ≡ noticed_all (rank_in graph.now ranks.now) (trees (map (λ i. arranged (tree graph.now i.0)) items.now)) (table_of names.old) }
     ensures long { ranks_in names.new ≡ ranks_in names.old }
-    ensures document { document_of names.new ≡ document_of names.old }
+    ensures document { document_number names.new ≡ document_number names.old }
     ensures count { count_of names.new ≡ count_of names.old }
 {
     for item in items {
@@ -85,7 +85,7 @@ fn notice_entries(
     requires long { ranks_in names.old ≡ length (nodes_of graph.now) }
     ensures table { table_of names.new ≡ noticed_pairs (rank_in graph.now ranks.now) (pairs (map (key_pair graph.now) entries.now)) (table_of names.old) }
     ensures long { ranks_in names.new ≡ ranks_in names.old }
-    ensures document { document_of names.new ≡ document_of names.old }
+    ensures document { document_number names.new ≡ document_number names.old }
     ensures count { count_of names.new ≡ count_of names.old }
 {
     for entry in entries {
@@ -99,9 +99,9 @@ fn start(names: &mut Names, is_short: bool, rank: usize) -> Opening
     requires { rank < ranks_in names.old }
     ensures opening { result ≡ opening_of is_short rank (given_of names.old) }
     ensures positive { 0 < opening_number result }
-    ensures given { given_of names.new ≡ opened_of is_short rank (given_of names.old) }
+    ensures given { given_of names.new ≡ begun_unless_short is_short rank (given_of names.old) }
     ensures long { ranks_in names.new ≡ ranks_in names.old }
-    ensures document { document_of names.new ≡ document_of names.old }
+    ensures document { document_number names.new ≡ document_number names.old }
 {
     if is_short {
         return Opening::Plain;
@@ -135,10 +135,10 @@ pub(crate) fn write_node<O, S: Sink<O>>(
     requires ranked { RanksAre graph.now ranks.now }
     requires long { ranks_in names.old ≡ length (nodes_of graph.now) }
     ensures long { ranks_in names.new ≡ ranks_in names.old }
-    ensures document { document_of names.new ≡ document_of names.old }
+    ensures document { document_number names.new ≡ document_number names.old }
     ensures known { OnOk result (given_of names.new ≡ given (rank_in graph.now ranks.now) (arranged (tree graph.now id.0)) (given_of names.old)) }
-    ensures ok { OnOk result (Puts S.holds sink.old out.old sink.new out.new (text (written (rank_in graph.now ranks.now) (arranged (tree graph.now id.0)) (given_of names.old)))) }
-    ensures err { IfErr result (λ fault. Fails S.holds S.stops sink.old out.old out.new fault (text (written (rank_in graph.now ranks.now) (arranged (tree graph.now id.0)) (given_of names.old)))) }
+    ensures ok { OnOk result (Puts S.holds sink.old out.old sink.new out.new (node_text (written (rank_in graph.now ranks.now) (arranged (tree graph.now id.0)) (given_of names.old)))) }
+    ensures err { IfErr result (λ fault. Fails S.holds S.stops sink.old out.old out.new fault (node_text (written (rank_in graph.now ranks.now) (arranged (tree graph.now id.0)) (given_of names.old)))) }
 {
     let opening = start(names, is_short(graph.node(id)), ranks.of(id));
     match opening {
@@ -165,10 +165,10 @@ fn write_inside<O, S: Sink<O>>(
     requires ranked { RanksAre graph.now ranks.now }
     requires long { ranks_in names.old ≡ length (nodes_of graph.now) }
     ensures long { ranks_in names.new ≡ ranks_in names.old }
-    ensures document { document_of names.new ≡ document_of names.old }
+    ensures document { document_number names.new ≡ document_number names.old }
     ensures known { OnOk result (given_of names.new ≡ given_inside (rank_in graph.now ranks.now) (arranged (tree graph.now id.0)) (given_of names.old)) }
-    ensures ok { OnOk result (Puts S.holds sink.old out.old sink.new out.new (inner (rank_in graph.now ranks.now) (arranged (tree graph.now id.0)) (given_of names.old))) }
-    ensures err { IfErr result (λ fault. Fails S.holds S.stops sink.old out.old out.new fault (inner (rank_in graph.now ranks.now) (arranged (tree graph.now id.0)) (given_of names.old))) }
+    ensures ok { OnOk result (Puts S.holds sink.old out.old sink.new out.new (behind_anchor (rank_in graph.now ranks.now) (arranged (tree graph.now id.0)) (given_of names.old))) }
+    ensures err { IfErr result (λ fault. Fails S.holds S.stops sink.old out.old out.new fault (behind_anchor (rank_in graph.now ranks.now) (arranged (tree graph.now id.0)) (given_of names.old))) }
 {
     let node = graph.node(id);
     let tag = node.tag.as_str();
@@ -201,7 +201,7 @@ fn write_items<O, S: Sink<O>>(
     requires ranked { RanksAre graph.now ranks.now }
     requires long { ranks_in names.old ≡ length (nodes_of graph.now) }
     ensures long { ranks_in names.new ≡ ranks_in names.old }
-    ensures document { document_of names.new ≡ document_of names.old }
+    ensures document { document_number names.new ≡ document_number names.old }
     ensures known { OnOk result (given_of names.new ≡ given_all (rank_in graph.now ranks.now) (trees (map (λ i. arranged (tree graph.now i.0)) items.now)) (given_of names.old)) }
     ensures ok { OnOk result (Puts S.holds sink.old out.old sink.new out.new (λ more. 91 ∷ items_text [] (written_all (rank_in graph.now ranks.now) (trees (map (λ i. arranged (tree graph.now i.0)) items.now)) (given_of names.old)) more)) }
     ensures err { IfErr result (λ fault. Fails S.holds S.stops sink.old out.old out.new fault (λ more. 91 ∷ items_text [] (written_all (rank_in graph.now ranks.now) (trees (map (λ i. arranged (tree graph.now i.0)) items.now)) (given_of names.old)) more)) }
@@ -230,7 +230,7 @@ fn write_entries<O, S: Sink<O>>(
     requires ranked { RanksAre graph.now ranks.now }
     requires long { ranks_in names.old ≡ length (nodes_of graph.now) }
     ensures long { ranks_in names.new ≡ ranks_in names.old }
-    ensures document { document_of names.new ≡ document_of names.old }
+    ensures document { document_number names.new ≡ document_number names.old }
     ensures known { OnOk result (given_of names.new ≡ given_pairs (rank_in graph.now ranks.now) (pairs (map (key_pair graph.now) entries.now)) (given_of names.old)) }
     ensures ok { OnOk result (Puts S.holds sink.old out.old sink.new out.new (λ more. 123 ∷ pairs_text [] (written_pairs (rank_in graph.now ranks.now) (pairs (map (key_pair graph.now) entries.now)) (given_of names.old)) more)) }
     ensures err { IfErr result (λ fault. Fails S.holds S.stops sink.old out.old out.new fault (λ more. 123 ∷ pairs_text [] (written_pairs (rank_in graph.now ranks.now) (pairs (map (key_pair graph.now) entries.now)) (given_of names.old)) more)) }

@@ -1,29 +1,27 @@
 -- A value, an entry's node, or nothing: which of them is left, by the line that comes next.
-use Rattle.std.proofs.Common.{◌≡◌, ℕ, ◌+◌, ◌≤◌, ◌<◌, inl, inr, List, refl, sym, subst, arith}
+use Rattle.std.proofs.Common.{◌≡◌, ℕ, ◌+◌, ◌≤◌, inl, inr, List, refl, subst, arith}
 use Rattle.yaml_text.specs.grammar.Rules.{Rule, Spans, ◌▸◌, ◌∪◌, given, Stands}
 use Rattle.yaml_text.specs.grammar.Characters.{is_space}
-use Rattle.yaml_text.specs.grammar.Separation.{Ctx, block_in, flow_out, separate, s_l_comments, indent}
+use Rattle.yaml_text.specs.grammar.Separation.{Ctx, block_in, s_l_comments, indent}
 use Rattle.yaml_text.specs.grammar.Tags.{Handles}
 use Rattle.yaml_text.specs.Event.{Event}
 use Rattle.yaml_text.specs.grammar.Events.{no_props}
-use Rattle.yaml_text.specs.grammar.Nodes.{Part, block_part, compact_part, part, block_node, seq_column, empty_rest, indented}
+use Rattle.yaml_text.specs.grammar.Nodes.{Part, block_part, compact_part, part, block_node, empty_rest, indented}
 use Rattle.yaml_text.proofs.grammar.Forward.{Forward}
 use Rattle.yaml_text.proofs.grammar.Widening.{Within}
 use Rattle.yaml_text.specs.Lines.{Inside}
 use Rattle.yaml_text.proofs.Runs.{run_same}
 use Rattle.yaml_text.proofs.LineRuns.{indent_run, indent_place, inside_no_line}
 use Rattle.yaml_unique.specs.Readings.{End}
-use Rattle.yaml_unique.proofs.Lines.{dash_fresh, solid_no_space, past_of, past_same, past_no_run}
+use Rattle.yaml_unique.proofs.Lines.{solid_no_space, past_of, past_same, past_no_run}
 use Rattle.yaml_unique.specs.Follows.{Fresh, Stuck, Past, Over, Follow}
 use Rattle.yaml_unique.proofs.BlockEntries.{NodeStart, start_no_empty}
-use Rattle.yaml_unique.proofs.FlowNodes.{kind_fresh}
 use Rattle.yaml_unique.proofs.FlowEntries.{Facts}
 use Rattle.yaml_unique.proofs.KeyContexts.{Eased}
 use Rattle.yaml_unique.proofs.BlockLevels.{Blocks}
 use Rattle.yaml_complete.specs.Decisions.{Refused, Goes, Rest, Here}
-use Rattle.yaml_complete.proofs.Separations.{separate_short}
 use Rattle.yaml_complete.proofs.BlockLoops.{SequenceFrom, MappingFrom}
-use Rattle.yaml_complete.proofs.BlockStarts.{OnLine, OnOwnLine, Form, flow, scalar, propped, collection, named, form, flow_key, scalar_kind, propped_kind, ScalarOf, CollectionsOf, collection_stuck, lines_to, mapping_from, sequence_from, map_key, seq_dash}
+use Rattle.yaml_complete.proofs.BlockStarts.{OnLine, Form}
 
 module _ (cs : List ℕ) where
   -- ---- nothing
@@ -63,76 +61,8 @@ module _ (cs : List ℕ) where
       abbrev LineForm : Rule (List Event)
       LineForm = OnLine cs Wide handles Open inside facts ease wider fwd blocks col c
 
-      abbrev OwnForm : ℕ → Rule (List Event)
-      OwnForm k = OnOwnLine cs Wide handles Open inside facts ease wider fwd blocks col c k
-
       abbrev Forms : ℕ → ℕ → List Event → Type 0
       Forms = Form cs Wide handles Open inside facts ease wider fwd blocks col c
-
-      line_fresh : (x j : ℕ) (v : List Event) → LineForm x j v → Fresh cs x
-      line_fresh x j v (inl r) = (flow_key cs Wide handles Open inside facts ease wider fwd blocks col c x j v r).0
-      line_fresh x j v (inr (inl r)) = kind_fresh cs 4 x (scalar_kind cs Wide handles Open inside facts ease wider fwd blocks col c no_props x j v r)
-      line_fresh x j v (inr (inr (inl r))) = kind_fresh cs 1 x (propped_kind cs Wide handles Open inside facts ease wider fwd blocks col c (λ p. separate cs col c ▸ ScalarOf cs Wide handles Open inside facts ease wider fwd blocks col c p) x j v r)
-      line_fresh x j v (inr (inr (inr r))) = kind_fresh cs 1 x (propped_kind cs Wide handles Open inside facts ease wider fwd blocks col c (λ p. s_l_comments cs ▸ CollectionsOf cs Wide handles Open inside facts ease wider fwd blocks col c p) x j v r)
-
-      mapping_fresh : (k x j : ℕ) (v : List Event) → Mapping k x j v → Fresh cs x
-      mapping_fresh k x j v (o, (t, (a, us, vs, u, rest, y), f)) = (map_key cs Wide handles Open inside facts ease wider fwd blocks col c k x a us u).0
-
-      sequence_fresh : (k x j : ℕ) (v : List Event) → Sequence k x j v → Fresh cs x
-      sequence_fresh k x j v (o, (t, (a, us, vs, u, rest, y), f)) = dash_fresh cs x (seq_dash cs Wide handles Open inside facts ease wider fwd blocks col c k x a us u)
-
-      -- no content stands where a node would have to begin
-      pub no_line_without_content : (E : End) (x : ℕ) → (Fresh cs x → ⊥) → Refused LineForm E x
-      no_line_without_content E x n = record { none = λ j m v r e. n (line_fresh x j v r) }
-
-      pub no_own_without_content : (E : End) (k x : ℕ) → (Fresh cs x → ⊥) → Refused (OwnForm k) E x
-      no_own_without_content E k x n = record { none = go }
-        where
-          go : (j m : ℕ) (v : List Event) → OwnForm k x j v → E j m → ⊥
-          go j m v (inl r) e = n (line_fresh x j v r)
-          go j m v (inr (inl r)) e = n (mapping_fresh k x j v r)
-          go j m v (inr (inr r)) e = n (sequence_fresh k x j v r)
-
-      -- a line with fewer spaces than a node has: a sequence in the parent's column alone (8.2.3)
-      pub node_short : (E : End) (i s x k : ℕ) → Inside cs i → s_l_comments cs i s → Stuck cs s → indent cs k s x → (Stands cs is_space x → ⊥) → k < col → Rest (Node col c) E i (Sequence k) E x
-      node_short E i s x k o l st ind n lt = record { rest = λ j m v r e. go j m v e (form cs Wide handles Open inside facts ease wider fwd blocks col c i j v r) }
-        where
-          short : (b : Ctx) (q : ℕ) → separate cs col b i q → Fresh cs q → ⊥
-          short b q r f = separate_short cs col b i s x o l st (indent_run cs k s x ind, n) (let a : x ≡ s + k = indent_place cs k s x ind in omega (arith, a, lt)) q (inr r) f.0
-
-          go : (j m : ℕ) (v : List Event) → E j m → Forms i j v → (y : ℕ) × (w : List Event) × Sequence k x y w × E y m
-          go j m v e (flow q r t) = absurd (short flow_out q r (line_fresh q j v (inl t)))
-          go j m v e (scalar q r t) = absurd (short c q r (line_fresh q j v (inr (inl t))))
-          go j m v e (propped q r t) = absurd (short c q r (line_fresh q j v (inr (inr (inl t)))))
-          go j m v e (named q r t) = absurd (short c q r (line_fresh q j v (inr (inr (inr t)))))
-          go j m v e (collection y r t) = held (lines_to cs Wide handles Open inside facts ease wider fwd blocks col c i s y l st r (collection_stuck cs Wide handles Open inside facts ease wider fwd blocks col c y j v t)) t
-            where
-              held : y ≡ s → CollectionsOf cs Wide handles Open inside facts ease wider fwd blocks col c no_props y j v → (o : ℕ) × (w : List Event) × Sequence k x o w × E o m
-              held h (inl u) =
-                  let le = (mapping_from cs Wide handles Open inside facts ease wider fwd blocks col c no_props k y x j v (subst (λ z. indent cs k z x) (sym h) ind) n u).0 in absurd (let z : col ≤ k = le in omega (arith, z, lt))
-              held h (inr u) =
-                  (j, v, (sequence_from cs Wide handles Open inside facts ease wider fwd blocks col c no_props (seq_column cs Wide handles Open inside col c) k y x j v (subst (λ z. indent cs k z x) (sym h) ind) n u).1, e)
-
-      -- and further left than that: none
-      pub node_shorter : (E : End) (i s x k : ℕ) → Inside cs i → s_l_comments cs i s → Stuck cs s → indent cs k s x → (Stands cs is_space x → ⊥) → k < col → k < seq_column cs Wide handles Open inside col c → Refused (Node col c) E i
-      node_shorter E i s x k o l st ind n lt less = record { none = λ j m v r e. go j v (form cs Wide handles Open inside facts ease wider fwd blocks col c i j v r) }
-        where
-          short : (b : Ctx) (q : ℕ) → separate cs col b i q → Fresh cs q → ⊥
-          short b q r f = separate_short cs col b i s x o l st (indent_run cs k s x ind, n) (let a : x ≡ s + k = indent_place cs k s x ind in omega (arith, a, lt)) q (inr r) f.0
-
-          go : (j : ℕ) (v : List Event) → Forms i j v → ⊥
-          go j v (flow q r t) = short flow_out q r (line_fresh q j v (inl t))
-          go j v (scalar q r t) = short c q r (line_fresh q j v (inr (inl t)))
-          go j v (propped q r t) = short c q r (line_fresh q j v (inr (inr (inl t))))
-          go j v (named q r t) = short c q r (line_fresh q j v (inr (inr (inr t))))
-          go j v (collection y r t) = held (lines_to cs Wide handles Open inside facts ease wider fwd blocks col c i s y l st r (collection_stuck cs Wide handles Open inside facts ease wider fwd blocks col c y j v t)) t
-            where
-              held : y ≡ s → CollectionsOf cs Wide handles Open inside facts ease wider fwd blocks col c no_props y j v → ⊥
-              held h (inl u) =
-                  let le = (mapping_from cs Wide handles Open inside facts ease wider fwd blocks col c no_props k y x j v (subst (λ z. indent cs k z x) (sym h) ind) n u).0 in (let z : col ≤ k = le in omega (arith, z, lt))
-              held h (inr u) =
-                  let le = (sequence_from cs Wide handles Open inside facts ease wider fwd blocks col c no_props (seq_column cs Wide handles Open inside col c) k y x j v (subst (λ z. indent cs k z x) (sym h) ind) n u).0 in
-                  (let z : seq_column cs Wide handles Open inside col c ≤ k = le in omega (arith, z, less))
 
   -- ---- after a dash (8.2.1), where `inside` reads what stands in the entry
 
@@ -173,6 +103,3 @@ module _ (cs : List ℕ) where
             (j, v, inl (subst (λ z. 1 ≤ z) f b, subst (λ z. OnDash z i j v) f (q, r, t)), e)
         go j m v (inr (inl r)) e = (j, v, inr r, e)
         go j m v (inr (inr r)) e = absurd ((nothing_on_line Wide handles Open inside E i none).none j m v r e)
-
-    pub on_dash : (E : End) (i x n : ℕ) → indent cs n i x → Rest (OnDash n) E i (inside (compact_part (k + 1 + n))) E x
-    on_dash E i x n ind = record { rest = λ j m v (q, r, t) e. (j, v, subst (λ z. inside (compact_part (k + 1 + n)) z j v) (let a : q ≡ i + n = indent_place cs n i q r in let b : x ≡ i + n = indent_place cs n i x ind in let h : q ≡ x = omega (arith, a, b) in h) t, e) }

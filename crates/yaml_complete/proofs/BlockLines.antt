@@ -92,10 +92,6 @@ module _ (cs : List ℕ) (Wide : Type 0) (handles : Handles) (Open : Type 0) (in
                 let h : m ≡ s = at_line j m (subst (λ z. s_l_comments cs z j) f l) e in
                 (s, empty no_props, inr (inr (refl, refl)), (Spans.done h, e.1))
 
-        -- a node alone
-        pub whole_line : Rest (block_node cs Wide handles Open inside col c) AfterNode i ValueLine AfterNode s
-        whole_line = record { rest = λ j m v r e. (j, v, node_line j v (form cs Wide handles Open inside facts ease wider fwd blocks col c i j v r), e) }
-
       -- what stands under properties
       module _ (p : Props) (node : (j : ℕ) (v : List Event) → ((Contents cs Wide handles Open inside facts ease wider fwd blocks col d c p ◂ s_l_comments cs) ∪ ScalarOf cs Wide handles Open inside facts ease wider fwd blocks col c p ∪ MappingFrom cs Wide handles Open inside k p) x j v → X k x j v)
           (sequence : (j : ℕ) (v : List Event) → SequenceFrom cs Wide handles Open inside k p x j v → S k x j v) where

@@ -2,7 +2,7 @@
 use Rattle.std.proofs.Common.{◌≡◌, ℕ, ◌+◌, ◌≤◌, ◌<◌, ◌++◌, inl, inr, List, true, false, refl, sym, ◌∙◌, subst, arith}
 use Rattle.yaml_text.specs.grammar.Rules.{Rule, ◌▸◌, ◌◂◌, ◌∪◌, ◌⨾◌, chr, any, given, seen, Spans, Stands}
 use Rattle.yaml_text.specs.grammar.Characters.{is_ns, is_space, is_nb, is_break}
-use Rattle.yaml_text.specs.grammar.Separation.{block_out, block_key, indent, AtEnd, Mark}
+use Rattle.yaml_text.specs.grammar.Separation.{block_out, block_key, indent, AtEnd, DocumentMark}
 use Rattle.yaml_text.specs.grammar.Tags.{Handles}
 use Rattle.yaml_text.specs.Event.{Event, sequence_end, mapping_end}
 use Rattle.yaml_text.specs.grammar.Events.{Props, no_props, seq_start, map_start, wrapped}
@@ -52,7 +52,7 @@ module _ (cs : List ℕ) where
     pub whole : Stands cs is_space p → ⊥
     pub further : k < s
     pub no_end : AtEnd cs x → ⊥
-    pub no_mark : Mark cs x → ⊥
+    pub no_mark : DocumentMark cs x → ⊥
 
   right_at : (k s t x p q : ℕ) → Right k s x p → indent cs t x q → Solid cs q → k < t
   right_at k s t x p q o r h =
@@ -67,7 +67,7 @@ module _ (cs : List ℕ) where
   right_less c k s x p le o (inr (inr (t, q, l, r, h))) = let lt : k < t = right_at k s t x p q o r h in omega (arith, lt, l, le)
 
   -- a line with at least so many spaces that is neither the end nor a mark
-  pub line_less : (c s x p : ℕ) → indent cs s x p → (Stands cs is_space p → ⊥) → c ≤ s → (AtEnd cs x → ⊥) → (Mark cs x → ⊥) → Less cs c x → ⊥
+  pub line_less : (c s x p : ℕ) → indent cs s x p → (Stands cs is_space p → ⊥) → c ≤ s → (AtEnd cs x → ⊥) → (DocumentMark cs x → ⊥) → Less cs c x → ⊥
   line_less c s x p ind w le e m (inl a) = e a
   line_less c s x p ind w le e m (inr (inl a)) = m a
   line_less c s x p ind w le e m (inr (inr (t, q, l, r, h))) =

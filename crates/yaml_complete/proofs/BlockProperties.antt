@@ -1,5 +1,5 @@
 -- A node of block level after its properties: what is left on their line, on a line below, and where nothing follows them.
-use Rattle.std.proofs.Common.{◌≡◌, ℕ, ◌+◌, ◌≤◌, ◌<◌, ◌⊎◌, inl, inr, List, refl, sym, ◌∙◌, subst, arith}
+use Rattle.std.proofs.Common.{◌≡◌, ℕ, ◌+◌, ◌≤◌, ◌⊎◌, inl, inr, List, refl, sym, ◌∙◌, subst, arith}
 use Rattle.yaml_text.specs.grammar.Rules.{Rule, Spans, ◌▸◌, ◌◂◌, ◌∪◌, with_value, run, Stands}
 use Rattle.yaml_text.specs.grammar.Characters.{is_space}
 use Rattle.yaml_text.specs.grammar.Separation.{Ctx, flow_out, block_key, separate, s_l_comments, indent, OneLine}
@@ -13,7 +13,7 @@ use Rattle.yaml_text.proofs.grammar.Widening.{Within}
 use Rattle.yaml_text.specs.Lines.{Inside}
 use Rattle.yaml_text.proofs.LineRuns.{inside_no_line, indent_run}
 use Rattle.yaml_unique.specs.Readings.{End, At}
-use Rattle.yaml_unique.specs.Follows.{Solid, Fresh, Stuck, DashHere, Dash, Past, Way, Over, Follow, FollowKey, FollowRest, F}
+use Rattle.yaml_unique.specs.Follows.{Solid, Fresh, Stuck, DashHere, Past, Way, Over, Follow, FollowKey, F}
 use Rattle.yaml_unique.proofs.Lines.{past_of, past_same, past_no_run, less_stuck, less_column, dash_fresh, comments_none, way_of, way_same, way_any}
 use Rattle.yaml_unique.proofs.Properties.{PropHere, NoMore, prop, prop_solid, Two, alone, pair, both, props_two, props_inside, props_alone}
 use Rattle.yaml_unique.proofs.TagEnds.{prop_same, prop_here, prop_inside, alias_same}
@@ -21,14 +21,14 @@ use Rattle.yaml_unique.proofs.FlowNodes.{Kind, kind_fresh, kind_three, kind_same
 use Rattle.yaml_unique.proofs.FlowEntries.{Facts}
 use Rattle.yaml_unique.proofs.FlowLevels.{jsons_unique, inner_out}
 use Rattle.yaml_unique.proofs.PlainEnds.{plain_block_unique}
-use Rattle.yaml_unique.proofs.BlockNodes.{next_here, content_here, rest_no, past_crosses, colon_solid, KeyRead, dash_no_kind, dash_no_plain}
+use Rattle.yaml_unique.proofs.BlockNodes.{next_here, content_here, past_crosses, colon_solid, KeyRead, dash_no_kind}
 use Rattle.yaml_unique.proofs.KeyContexts.{Eased}
 use Rattle.yaml_unique.proofs.BlockLevels.{Blocks, entry_key}
-use Rattle.yaml_complete.specs.Decisions.{Refused, Goes, Rest, Here}
+use Rattle.yaml_complete.specs.Decisions.{Refused, Rest}
 use Rattle.yaml_complete.proofs.Decisions.{rest_rest}
 use Rattle.yaml_complete.proofs.FlowStarts.{yaml_propped, json_propped, no_node_at_bar}
 use Rattle.yaml_complete.proofs.PropertyChoices.{Second, Kinds, one_prop, two_props, kinds, rest_propped}
-use Rattle.yaml_complete.proofs.Separations.{Spaces, separate_on_line, separate_on_next}
+use Rattle.yaml_complete.proofs.Separations.{separate_on_next}
 use Rattle.yaml_complete.proofs.BlockLoops.{SequenceFrom, MappingFrom}
 use Rattle.yaml_complete.proofs.BlockStarts.{FlowLine, ScalarOf, ProppedScalar, CollectionsOf, ProppedCollection, scalar_kind, mapping_from, sequence_from, map_key, seq_dash}
 
@@ -161,20 +161,6 @@ module _ (cs : List ℕ) (Wide : Type 0) (handles : Handles) (Open : Type 0) (in
   abbrev OnTheirLine : Props → Rule (List Event)
   OnTheirLine p = (Contents p ◂ s_l_comments cs) ∪ Scalar p
 
-  pub under_on_line : (p : Props) (E : End) (e y : ℕ) → ((j : ℕ) → s_l_comments cs e j → ⊥) → Spaces cs e y → Rest (Under p) E e (OnTheirLine p) E y
-  under_on_line p E e y none sp = record { rest = go }
-    where
-      flows : (k j m : ℕ) (v : List Event) → Rested p e k v → s_l_comments cs k j → E j m → (o : ℕ) × (w : List Event) × OnTheirLine p y o w × E o m
-      flows k j m v (content q s r) t f =
-          let h : q ≡ y = separate_on_line cs col flow_out e y none sp q (inr s) (contents_fresh p q k v r).0.0 in (j, v, inl (k, subst (λ z. Contents p z k v) h r, t), f)
-      flows k j m v (lone h) t f = absurd (none j (subst (λ z. s_l_comments cs z j) h t))
-
-      go : (j m : ℕ) (v : List Event) → Under p e j v → E j m → (o : ℕ) × (w : List Event) × OnTheirLine p y o w × E o m
-      go j m v (inl (k, r, t)) f = flows k j m v (rested p e k v r) t f
-      go j m v (inr (inl (q, s, r))) f =
-          let h : q ≡ y = separate_on_line cs col c e y none sp q (inr s) (kind_fresh cs 4 q (scalar_kind cs Wide handles Open inside facts ease wider fwd blocks col c p q j v r)).0 in (j, v, inr (subst (λ z. Scalar p z j v) h r), f)
-      go j m v (inr (inr (x, s, r))) f = absurd (none x s)
-
   -- ---- after properties, on a line below
 
   pub collections_stuck : (p : Props) (x j : ℕ) (v : List Event) → Collections p x j v → (l : ℕ) × (b : ℕ) × indent cs l x b × Fresh cs b
@@ -210,38 +196,6 @@ module _ (cs : List ℕ) (Wide : Type 0) (handles : Handles) (Open : Type 0) (in
       go j m v (inl (o, r, t)) f = flows o j m v (rested p e o v r) t f
       go j m v (inr (inl (q, t, r))) f = (j, v, inl (inr (subst (λ z. Scalar p z j v) (at c q t (kind_fresh cs 4 q (scalar_kind cs Wide handles Open inside facts ease wider fwd blocks col c p q j v r))) r)), f)
       go j m v (inr (inr (y, t, r))) f = below j m y v (line_of e s y l st t (collections_stuck p y j v r)) r f
-
-  -- a line that is not the node's: nothing but the properties
-  pub under_none : (p : Props) (e s : ℕ) → col ≤ d + 1 → seq_column cs Wide handles Open inside col c ≡ d → Inside cs e → s_l_comments cs e s → Stuck cs s → Follow cs col d s → Goes (Under p) AfterNode e Here s
-  unfolding block_map block_seq
-  under_none p e s narrow at o l st follow = record { goes = go }
-    where
-      fr : FollowRest cs col d e
-      fr = (s, past_of cs e s s l (Spans.done refl), follow)
-
-      flows : (k j m : ℕ) (v : List Event) → Rested p e k v → s_l_comments cs k j → AfterNode j m → m ≡ s
-      flows k j m v (content q t r) u f = absurd (rest_no cs col d flow_out e q o fr t (contents_fresh p q k v r).0)
-      flows k j m v (lone h) u (a, b) = past_same cs e m s (past_of cs e j m (subst (λ z. s_l_comments cs z j) h u) a) (less_stuck cs col m b.0) (past_of cs e s s l (Spans.done refl)) st
-
-      column : (n b : ℕ) → indent cs n s b → Fresh cs b → col ≤ n → ⊥
-      column n b ind f le = less_column cs col n s b follow.0 ind le f
-
-      held : (y j : ℕ) (v : List Event) → y ≡ s → Collections p y j v → ⊥
-      held y j v h (inl (a, (t, (n, (le, (x, us, vs, (b, ind, u), rest, z))), f))) =
-          column n b (subst (λ q. indent cs n q b) h ind) (map_key cs Wide handles Open inside facts ease wider fwd blocks col c n b x us u).0 le
-      held y j v h (inr (a, (t, (n, (le, (x, us, vs, (b, ind, u), rest, z))), f))) =
-          let dash = seq_dash cs Wide handles Open inside facts ease wider fwd blocks col c n b x us u in
-          let low : d ≤ n = subst (λ q. q ≤ n) at le in
-          further (Rattle.std.proofs.Math.Nat.eq-or-lt_of_le low) dash (subst (λ q. indent cs n q b) h ind)
-        where
-          further : (d ≡ n) ⊎ (d < n) → DashHere cs b → indent cs n s b → ⊥
-          further (inl q) g i = follow.1 (subst (λ w. Dash cs w s) (sym q) (b, i, g))
-          further (inr q) g i = column n b i (dash_fresh cs b g) (omega (arith, q, narrow))
-
-      go : (j m : ℕ) (v : List Event) → Under p e j v → AfterNode j m → m ≡ s
-      go j m v (inl (k, r, t)) f = flows k j m v (rested p e k v r) t f
-      go j m v (inr (inl (q, t, r))) f = absurd (rest_no cs col d c e q o fr t (kind_fresh cs 4 q (scalar_kind cs Wide handles Open inside facts ease wider fwd blocks col c p q j v r)))
-      go j m v (inr (inr (y, t, r))) f = absurd (held y j v (line_of e s y l st t (collections_stuck p y j v r)) r)
 
   -- ---- a key that properties begin, and whose line is over after them: there is none
 
@@ -359,34 +313,6 @@ module _ (cs : List ℕ) (Wide : Type 0) (handles : Handles) (Open : Type 0) (in
       go j m v f (of_both r) = (j, v, r, f)
 
   -- ---- what a line below begins with
-
-  -- a property: the mapping alone whose key it begins
-  pub key_below : (p : Props) (E : End) (k x : ℕ) → Kind cs 1 x → Rest (BelowThem p k) E x (Mapping k p) E x
-  key_below p E k x h = record { rest = go }
-    where
-      no_content : Kind cs 3 x ⊎ PlainFirst cs flow_out x → ⊥
-      no_content (inl q) = let z : 3 ≡ 1 = kind_same cs 3 1 x q h in omega (arith, z)
-      no_content (inr q) = plain_no_kind cs flow_out 1 x h q
-
-      go : (j m : ℕ) (v : List Event) → BelowThem p k x j v → E j m → (o : ℕ) × (w : List Event) × Mapping k p x o w × E o m
-      go j m v (inl (inl (o, r, t))) e = absurd (no_content (contents_fresh p x o v r).1)
-      go j m v (inl (inr r)) e = let z : 4 ≡ 1 = kind_same cs 4 1 x (scalar_kind cs Wide handles Open inside facts ease wider fwd blocks col c p x j v r) h in absurd (omega (arith, z))
-      go j m v (inr (inl r)) e = (j, v, r, e)
-      go j m v (inr (inr (o, (t, (a, us, vs, d1, rest, f), y)))) e = absurd (dash_no_kind cs 1 x (seq_dash cs Wide handles Open inside facts ease wider fwd blocks col c k x a us d1) h)
-
-  -- a dash: the sequence alone
-  pub dash_below : (p : Props) (E : End) (k x : ℕ) → DashHere cs x → Rest (BelowThem p k) E x (Sequence k p) E x
-  dash_below p E k x h = record { rest = go }
-    where
-      no_content : Kind cs 3 x ⊎ PlainFirst cs flow_out x → ⊥
-      no_content (inl q) = dash_no_kind cs 3 x h q
-      no_content (inr q) = dash_no_plain cs x h flow_out q
-
-      go : (j m : ℕ) (v : List Event) → BelowThem p k x j v → E j m → (o : ℕ) × (w : List Event) × Sequence k p x o w × E o m
-      go j m v (inl (inl (o, r, t))) e = absurd (no_content (contents_fresh p x o v r).1)
-      go j m v (inl (inr r)) e = absurd (dash_no_kind cs 4 x h (scalar_kind cs Wide handles Open inside facts ease wider fwd blocks col c p x j v r))
-      go j m v (inr (inl (o, (t, (a, us, vs, u, rest, f), y)))) e = absurd ((map_key cs Wide handles Open inside facts ease wider fwd blocks col c k x a us u).1 h)
-      go j m v (inr (inr r)) e = (j, v, r, e)
 
   -- a bar or a greater sign: the block scalar alone
   no_key_at_bar : (x : ℕ) → Kind cs 4 x → KeyRead cs Wide handles Open inside col d c x → ⊥

@@ -83,10 +83,6 @@ module _ (cs : List ℕ) (Wide : Type 0) (handles : Handles) (Open : Type 0) (in
   pub propped_kind : {V : Type 0} (S : Props → Rule V) (i j : ℕ) (v : V) → with_value (properties cs handles col c) S i j v → Kind cs 1 i
   propped_kind S i j v (k, p, r, s) = prop_kind cs handles i (props_here cs handles (prop_same cs handles) (prop_here cs handles) (prop_inside cs handles) col c i k p (props_two cs handles col c i k p r))
 
-  -- an entry of a collection stands in its column
-  abbrev EntryAt : ℕ → ℕ → Type 0
-  EntryAt k x = (q : ℕ) × indent cs k x q × Fresh cs q
-
   pub map_key : (k q a : ℕ) (v : List Event) → map_entry cs Wide handles Open inside k q a v → KeyHere cs q
   unfolding map_entry
   map_key k q a v (b, ks, ws, (m, key, h), val, x) = key_start cs Wide handles Open inside facts ease wider fwd blocks q m ks key

@@ -42,9 +42,6 @@ level_peak r es (d, l, f) =
     let g : peak 0 (es ++ []) ≡ max (0 + d) (peak 0 []) = f 0 [] in
     let h : peak 0 (es ++ []) ≡ peak 0 es = ap (peak 0) (append_none es) in omega (arith, g, h, l)
 
-level_more : (r s : ℕ) → r ≤ s → (es : List Event) → Level r es → Level s es
-level_more r s le es (d, l, f) = (d, omega (arith, l, le), f)
-
 level_none : (r : ℕ) → Level r []
 level_none r = (0, omega arith, λ n fs. let a : n ≤ peak n fs = peak_low n fs in omega (arith, a))
 
@@ -132,9 +129,6 @@ any_level r f (then k ys zs x more e) = subst (Level r) (sym e) (level_join r ys
 
 each_any : (r : ℕ) {R : Rule (List Event)} → Each r R → Each r (any R)
 each_any r f i j v x = any_level r f x
-
-each_more : (r s : ℕ) → r ≤ s → {R : Rule (List Event)} → Each r R → Each s R
-each_more r s le f i j v x = level_more r s le v (f i j v x)
 
 -- ---- the productions
 

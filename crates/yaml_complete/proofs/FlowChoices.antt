@@ -2,7 +2,7 @@
 use Rattle.std.proofs.Common.{◌≡◌, ℕ, ◌+◌, ◌≤◌, ◌<◌, ◌⊎◌, inl, inr, List, refl, sym, ◌∙◌, subst, arith}
 use Rattle.yaml_text.specs.grammar.Rules.{Span, Rule, ◌▸◌, ◌⨾◌, ◌∪◌, gives, given, maybe, run}
 use Rattle.yaml_text.specs.grammar.Characters.{is_space}
-use Rattle.yaml_text.specs.grammar.Separation.{flow_in, flow_out, flow_key, separate, separate_lines, sep, OneLine}
+use Rattle.yaml_text.specs.grammar.Separation.{flow_in, flow_key, separate, separate_lines, sep, OneLine}
 use Rattle.yaml_text.specs.grammar.Tags.{Handles}
 use Rattle.yaml_text.specs.grammar.FlowScalars.{plain}
 use Rattle.yaml_text.specs.Limits.{key_limit}
@@ -33,7 +33,7 @@ module _ (cs : List ℕ) where
 
   module _ (n : ℕ) where
     abbrev Gap : Span
-    Gap = ends.Gap cs n
+    Gap = ends.OptionalSeparation cs n
 
     abbrev InFlow : End
     InFlow = ends.InFlow cs n
@@ -56,15 +56,6 @@ module _ (cs : List ℕ) where
 
     abbrev pub NoGap : ℕ → Type 0
     NoGap k = (q : ℕ) → Gap k q → Fresh cs q → ⊥
-
-  -- separation is the same in a collection and outside all of them
-  pub gap_in : (n i j : ℕ) → maybe (separate cs n flow_out) i j → Gap n i j
-  unfolding separate
-  gap_in n i j s = s
-
-  pub gap_out : (n i j : ℕ) → Gap n i j → maybe (separate cs n flow_out) i j
-  unfolding separate
-  gap_out n i j s = s
 
   -- a plain scalar
   pub plain_in_flow : (n i x : ℕ) (w : List ℕ) → plain cs n flow_in i x w → ((j : ℕ) (v : List ℕ) → plain cs n flow_in i j v → j ≤ x) → Goes (plain cs n flow_in) (At (EndsYaml n)) i (At (EndsYaml n)) x
@@ -149,20 +140,6 @@ module _ (cs : List ℕ) where
 
     pub adjacent_content : (k x : ℕ) → GapTo n k x → (Closes cs x → ⊥) → Rest AfterJ (InFlow n) k (NodeY ∪ NodeJ) (InFlow n) x
     adjacent_content k x to c = rest_rest (rest_left _ (no_empty k x to c)) (rest_before (Gap n) (NodeY ∪ NodeJ) (InFlow n) (Solid cs) k x (nodes_fresh (InFlow n)) (λ l s f. to l s f))
-
-    -- content just after the colon of a YAML key
-    pub value_not_parted : (k : ℕ) → Inside cs k → Solid cs k → (Closes cs k → ⊥) → Refused AfterY (InFlow n) k
-    value_not_parted k o f c = refused_either
-        (record { none = λ j m v (q, s, r) e. parted q (sep_parts cs n flow_in k q o s) })
-        (refused_gives _ (InFlow n) k (λ m (s, h). empty m s h))
-      where
-        parted : (q : ℕ) → (run cs is_space k q × (k < q)) ⊎ ((p : ℕ) × Past cs k p × run cs is_space p q) → ⊥
-        parted q (inl (r, l)) = solid_no_space cs k f.0 (r.1 k (omega arith) l)
-        parted q (inr (p, b, r)) = past_no_ns cs k p o b f.0
-
-        empty : (m : ℕ) → Gap n k m → Closes cs m → ⊥
-        empty m (inl e) h = c (subst (Closes cs) e h)
-        empty m (inr s) h = parted m (sep_parts cs n flow_in k m o s)
 
     -- nothing but content just after the colon of a YAML key: no value is parted from it
     pub value_alone : (k : ℕ) → Inside cs k → GapTo n k k → Goes AfterY (InFlow n) k (InFlow n) k
@@ -349,32 +326,6 @@ module _ (cs : List ℕ) where
 
     abbrev Entry : Rule (List Event)
     Entry = entry cs Wide handles Open inside n flow_in
-
-    pub entry_implicit : (E : End) (i : ℕ) → (ColonY cs i → ⊥) → (MarkHere cs i → ⊥) → Rest Entry E i Implicit E i
-    unfolding entry
-    entry_implicit E i f g = rest_left _ (record { none = go })
-      where
-        go : (j m : ℕ) (v : List Event) → given Wide (EmptyKey ∪ Explicit) i j v → E j m → ⊥
-        go j m v (w, inl r) e = f (empty_key_colon cs Wide handles Open inside facts n i j v r)
-        go j m v (w, inr r) e = g (explicit_mark cs Wide handles Open inside facts n i j v r)
-
-    pub entry_empty_key : (E : End) (i : ℕ) → ColonY cs i → Rest Entry E i EmptyKey E i
-    unfolding entry
-    entry_empty_key E i h = record { rest = go }
-      where
-        go : (j m : ℕ) (v : List Event) → Entry i j v → E j m → (k : ℕ) × (w : List Event) × EmptyKey i k w × E k m
-        go j m v (inl r) e = absurd ((implicit_start cs Wide handles Open inside facts n i j v r).2 h)
-        go j m v (inr (w, inl r)) e = (j, v, r, e)
-        go j m v (inr (w, inr r)) e = let z : 58 ≡ 63 = same_char cs i 58 63 h.0 (explicit_mark cs Wide handles Open inside facts n i j v r).0 in absurd (omega (arith, z))
-
-    pub entry_explicit : (E : End) (i : ℕ) → MarkHere cs i → Rest Entry E i Explicit E i
-    unfolding entry
-    entry_explicit E i h = record { rest = go }
-      where
-        go : (j m : ℕ) (v : List Event) → Entry i j v → E j m → (k : ℕ) × (w : List Event) × Explicit i k w × E k m
-        go j m v (inl r) e = absurd ((implicit_start cs Wide handles Open inside facts n i j v r).3 h)
-        go j m v (inr (w, inl r)) e = let z : 58 ≡ 63 = same_char cs i 58 63 (empty_key_colon cs Wide handles Open inside facts n i j v r).0 h.0 in absurd (omega (arith, z))
-        go j m v (inr (w, inr r)) e = (j, v, r, e)
 
     -- no `?` stands here; one does, and no key begins here
     pub entry_keyed : (E : End) (i : ℕ) → (MarkHere cs i → ⊥) → Rest Entry E i Keyed E i
@@ -589,12 +540,3 @@ module _ (cs : List ℕ) where
           go j m v (inr (inl (a, us, vs, r, s, x))) e = absurd ((key_here_json i a us r).2 h)
           go j m v (inr (inr (w, inl r))) e = (j, v, r, e)
           go j m v (inr (inr (w, inr r))) e = let z : 58 ≡ 63 = same_char cs i 58 63 h.0 (explicit_mark cs Wide handles Open inside facts n i j v r).0 in absurd (omega (arith, z))
-
-      pub item_explicit : (i : ℕ) → MarkHere cs i → Rest Item (InFlow n) i Explicit (InFlow n) i
-      item_explicit i h = rest_rest (rest_left Pair (nodes_not (InFlow n) i (inr h))) (rest_rest (pair_body (InFlow n) i) (record { rest = go }))
-        where
-          go : (j m : ℕ) (v : List Event) → PairBody i j v → InFlow n j m → (k : ℕ) × (w : List Event) × Explicit i k w × InFlow n k m
-          go j m v (inl (a, us, vs, r, s, x)) e = absurd ((key_here_yaml i a us r).3 h)
-          go j m v (inr (inl (a, us, vs, r, s, x))) e = absurd ((key_here_json i a us r).3 h)
-          go j m v (inr (inr (w, inl r))) e = let z : 58 ≡ 63 = same_char cs i 58 63 (empty_key_colon cs Wide handles Open inside facts n i j v r).0 h.0 in absurd (omega (arith, z))
-          go j m v (inr (inr (w, inr r))) e = (j, v, r, e)

@@ -1,20 +1,18 @@
 -- A flow sequence and a flow mapping from their brackets on: what is left is their parts, and the bracket that closes them.
-use Rattle.std.proofs.Common.{◌≡◌, ◌≢◌, ℕ, ◌+◌, ◌⊎◌, inl, inr, List, Some, refl, ◌∙◌, ap, subst, arith}
+use Rattle.std.proofs.Common.{◌≡◌, ◌≢◌, ℕ, ◌+◌, ◌⊎◌, inl, inr, List, Some, subst, arith}
 use Rattle.std.specs.Prelude.{slice_get}
 use Rattle.yaml_text.specs.grammar.Rules.{Span, Rule, ◌◆◌, ◌◂◌, ◌⨾◌, ◌∪◌, chr, maybe, any, optional}
 use Rattle.yaml_text.specs.grammar.Separation.{Ctx, flow_in, inner, separate}
 use Rattle.yaml_text.specs.grammar.Tags.{Handles}
 use Rattle.yaml_text.specs.Event.{Event}
-use Rattle.yaml_text.specs.grammar.Events.{Props, no_props}
-use Rattle.yaml_text.specs.grammar.Nodes.{Part, yaml_part, json_part, pair_part, flow_seq, flow_map, inside_flow, entry, json_node}
-use Rattle.yaml_unique.specs.Readings.{End, At}
+use Rattle.yaml_text.specs.grammar.Events.{Props}
+use Rattle.yaml_text.specs.grammar.Nodes.{Part, yaml_part, json_part, pair_part, flow_seq, flow_map, inside_flow, entry}
+use Rattle.yaml_unique.specs.Readings.{End}
 use Rattle.yaml_unique.specs.Follows.{Solid, Fresh, Closes}
 use Rattle.yaml_unique.proofs.FlowEntries.{PartHere, Facts, item_part, entry_start}
-use Rattle.yaml_complete.proofs.Decisions.{rest_goes, rest_refused}
-use Rattle.yaml_complete.specs.Decisions.{Refused, Goes, Rest, Here}
-use Rattle.yaml_complete.proofs.FlowLoops.{parts_start, parts_closed, closes_fresh}
-use Rattle.yaml_unique.proofs.FlowNodes.{Kind, Sign, Jsons}
-use Rattle.yaml_complete.proofs.FlowStarts.{content_left, sequence_left, mapping_left}
+use Rattle.yaml_complete.specs.Decisions.{Refused, Rest}
+use Rattle.yaml_complete.proofs.FlowLoops.{parts_start, closes_fresh}
+use Rattle.yaml_unique.proofs.FlowNodes.{Jsons}
 
 module _ (cs : List ℕ) (Wide : Type 0) (handles : Handles) (Open : Type 0) (inside : Part → Rule (List Event)) (facts : Facts cs inside) (n : ℕ) (c : Ctx) (within : inner c ≡ flow_in) where
   abbrev Gap : Span
@@ -39,13 +37,6 @@ module _ (cs : List ℕ) (Wide : Type 0) (handles : Handles) (Open : Type 0) (in
         go : PartHere cs i ⊎ Closed close i → Fresh cs i
         go (inl p) = p.0
         go (inr h) = closes_fresh cs i (shut i h)
-
-    -- the parts end at z, and the collection after the bracket there
-    bracketed_goes : (E : End) (x z : ℕ) → Goes (Parts I) (At (Closed close)) x Here z → Goes (Bracketed I close) E x E (z + 1)
-    bracketed_goes E x z g = record { goes = λ j m v (k, r, (h, e)) f. let d : k ≡ z = g.goes k k v r (refl, h) in subst (λ y. E y m) (e ∙ ap (λ y. y + 1) d) f }
-
-    bracketed_refused : (E : End) (x : ℕ) → Refused (Parts I) (At (Closed close)) x → Refused (Bracketed I close) E x
-    bracketed_refused E x f = record { none = λ j m v (k, r, (h, e)) d. f.none k k v r (refl, h) }
 
   -- ---- sequences (7.4.1)
 
@@ -84,12 +75,6 @@ module _ (cs : List ℕ) (Wide : Type 0) (handles : Handles) (Open : Type 0) (in
   unfolding flow_seq
   sequence_no_room p E i shut = record { none = λ j m v (o, r) d. shut o }
 
-  pub items_goes : (E : End) (x z : ℕ) → Goes (Parts Items) (At (Closed 93)) x Here z → Goes (Bracketed Items 93) E x E (z + 1)
-  items_goes = bracketed_goes Items item_start 93 bracket_shut (λ z. omega (arith, z))
-
-  pub items_refused : (E : End) (x : ℕ) → Refused (Parts Items) (At (Closed 93)) x → Refused (Bracketed Items 93) E x
-  items_refused = bracketed_refused Items item_start 93 bracket_shut (λ z. omega (arith, z))
-
   -- ---- mappings (7.4.2)
 
   abbrev pub Entries : Rule (List Event)
@@ -119,41 +104,7 @@ module _ (cs : List ℕ) (Wide : Type 0) (handles : Handles) (Open : Type 0) (in
         none k (subst (λ z. Gap z k) e s) (bracketed_start Entries entries_start 125 brace_shut (λ z. omega (arith, z)) k j t r);
   }
 
-  pub mapping_no_room : (p : Props) (E : End) (i : ℕ) → (Open → ⊥) → Refused (Mapping p) E i
-  unfolding flow_map
-  mapping_no_room p E i shut = record { none = λ j m v (o, r) d. shut o }
-
-  pub entries_goes : (E : End) (x z : ℕ) → Goes (Parts Entries) (At (Closed 125)) x Here z → Goes (Bracketed Entries 125) E x E (z + 1)
-  entries_goes = bracketed_goes Entries entries_start 125 brace_shut (λ z. omega (arith, z))
-
-  pub entries_refused : (E : End) (x : ℕ) → Refused (Parts Entries) (At (Closed 125)) x → Refused (Bracketed Entries 125) E x
-  entries_refused = bracketed_refused Entries entries_start 125 brace_shut (λ z. omega (arith, z))
-
   -- ---- from a node's first character on, after its properties or without any
 
   abbrev Content : Props → Rule (List Event)
   Content p = Jsons cs Wide handles Open inside n c p
-
-  pub bracket_goes : (p : Props) (E : End) (i x z : ℕ) → slice_get cs i ≡ Some 91 → ((q : ℕ) → Gap (i + 1) q → Solid cs q → q ≡ x) → Goes (Parts Items) (At (Closed 93)) x Here z → Goes (Content p) E i E (z + 1)
-  bracket_goes p E i x z h to g = rest_goes (sequence_left cs Wide handles Open inside n c p E i h) (rest_goes (sequence_opens p E i x to) (items_goes E x z g))
-
-  pub bracket_refused : (p : Props) (E : End) (i x : ℕ) → slice_get cs i ≡ Some 91 → ((q : ℕ) → Gap (i + 1) q → Solid cs q → q ≡ x) → Refused (Parts Items) (At (Closed 93)) x → Refused (Content p) E i
-  bracket_refused p E i x h to f = rest_refused (sequence_left cs Wide handles Open inside n c p E i h) (rest_refused (sequence_opens p E i x to) (items_refused E x f))
-
-  pub brace_goes : (p : Props) (E : End) (i x z : ℕ) → slice_get cs i ≡ Some 123 → ((q : ℕ) → Gap (i + 1) q → Solid cs q → q ≡ x) → Goes (Parts Entries) (At (Closed 125)) x Here z → Goes (Content p) E i E (z + 1)
-  brace_goes p E i x z h to g = rest_goes (mapping_left cs Wide handles Open inside n c p E i h) (rest_goes (mapping_opens p E i x to) (entries_goes E x z g))
-
-  pub brace_refused : (p : Props) (E : End) (i x : ℕ) → slice_get cs i ≡ Some 123 → ((q : ℕ) → Gap (i + 1) q → Solid cs q → q ≡ x) → Refused (Parts Entries) (At (Closed 125)) x → Refused (Content p) E i
-  brace_refused p E i x h to f = rest_refused (mapping_left cs Wide handles Open inside n c p E i h) (rest_refused (mapping_opens p E i x to) (entries_refused E x f))
-
-  -- a node without properties, of either kind
-  pub node_of_content : (E F : End) (i y : ℕ) → Kind cs 3 i → Goes (Content no_props) E i F y → Goes (json_node cs Wide handles Open inside n c) E i F y
-  node_of_content E F i y h g = rest_goes (content_left cs Wide handles Open inside n c E i h) g
-
-  pub no_node_of_content : (E : End) (i : ℕ) → Kind cs 3 i → Refused (Content no_props) E i → Refused (json_node cs Wide handles Open inside n c) E i
-  no_node_of_content E i h f = rest_refused (content_left cs Wide handles Open inside n c E i h) f
-
-  -- `[]`: the loop, the brackets and the node together
-  pub empty_sequence : (E : End) (i x : ℕ) → slice_get cs i ≡ Some 91 → ((q : ℕ) → Gap (i + 1) q → Solid cs q → q ≡ x) → slice_get cs x ≡ Some 93 → Goes (json_node cs Wide handles Open inside n c) E i E (x + 1)
-  empty_sequence E i x h to g =
-      node_of_content E E i (x + 1) (91, h, Sign.bracket 91 refl) (bracket_goes no_props E i x x h to (parts_closed cs n c Items item_start 93 bracket_shut (λ z. omega (arith, z)) x g))

@@ -33,33 +33,33 @@ module _ (cs : List ℕ) where
 
 module _ (cs : List ℕ) (n : ℕ) (c : Ctx) (I : Rule (List Event)) (start : (i j : ℕ) (v : List Event) → I i j v → PartHere cs i)
     (close : ℕ) (shut : (q : ℕ) → slice_get cs q ≡ Some close → Closes cs q) (no_comma : close ≢ 44) where
-  abbrev pub Gap : Span
-  Gap = maybe (separate cs n c)
+  abbrev pub OptionalSeparation : Span
+  OptionalSeparation = maybe (separate cs n c)
 
   abbrev pub Part1 : Rule (List Event)
-  Part1 = (I ◂ Gap) ◂ (chr cs 44 ◆ Gap)
+  Part1 = (I ◂ OptionalSeparation) ◂ (chr cs 44 ◆ OptionalSeparation)
 
   abbrev pub Parted : Rule (List Event)
-  Parted = any Part1 ⨾ optional (I ◂ Gap)
+  Parted = any Part1 ⨾ optional (I ◂ OptionalSeparation)
 
   -- after separation a comma or a closing bracket
   abbrev pub InParts : End
-  InParts j m = Gap j m × Closes cs m
+  InParts j m = OptionalSeparation j m × Closes cs m
 
   abbrev pub Close : ℕ → Type 0
   Close q = slice_get cs q ≡ Some close
 
   -- what separation from k leads to: content at x alone; none
   abbrev pub To : ℕ → ℕ → Type 0
-  To k x = (q : ℕ) → Gap k q → Solid cs q → q ≡ x
+  To k x = (q : ℕ) → OptionalSeparation k q → Solid cs q → q ≡ x
 
   abbrev pub Nowhere : ℕ → Type 0
-  Nowhere k = (q : ℕ) → Gap k q → Fresh cs q → ⊥
+  Nowhere k = (q : ℕ) → OptionalSeparation k q → Fresh cs q → ⊥
 
   part_to : (a b m : ℕ) → To a b → InParts a m → m ≡ b
   part_to a b m to (s, h) = to m s (closes_solid cs m h)
 
-  solid : (k j i : ℕ) (us vs : List Event) → Any Part1 k i us → optional (I ◂ Gap) k j vs → Close j → Fresh cs i
+  solid : (k j i : ℕ) (us vs : List Event) → Any Part1 k i us → optional (I ◂ OptionalSeparation) k j vs → Close j → Fresh cs i
   solid k j i us vs (done e f) (inl (g, h)) x = subst (Fresh cs) (g ∙ e) (closes_fresh cs j (shut j x))
   solid k j i us vs (done e f) (inr (a, r, s)) x = subst (Fresh cs) e (start k a vs r).0
   solid k j i us vs (then p ws ts (b, (a, r, s), t) more f) l x = (start i a ws r).0
@@ -68,16 +68,16 @@ module _ (cs : List ℕ) (n : ℕ) (c : Ctx) (I : Rule (List Event)) (start : (i
   data Seen (x j : ℕ) : Type 0 where
     closed : j ≡ x → Seen x j
     last : (a : ℕ) (v : List Event) → I x a v → InParts a j → Seen x j
-    more : (a b p : ℕ) (v w : List Event) → I x a v → InParts a b → slice_get cs b ≡ Some 44 → Gap (b + 1) p → Fresh cs p → Parted p j w → Seen x j
+    more : (a b p : ℕ) (v w : List Event) → I x a v → InParts a b → slice_get cs b ≡ Some 44 → OptionalSeparation (b + 1) p → Fresh cs p → Parted p j w → Seen x j
 
-  seen_last : (k j x : ℕ) (vs : List Event) → k ≡ x → optional (I ◂ Gap) k j vs → Close j → Seen x j
+  seen_last : (k j x : ℕ) (vs : List Event) → k ≡ x → optional (I ◂ OptionalSeparation) k j vs → Close j → Seen x j
   seen_last k j x vs a (inl (e, f)) d = closed (e ∙ a)
   seen_last k j x vs a (inr (o, r, s)) d = last o vs (subst (λ z. I z o vs) a r) (s, shut j d)
 
   seen : (x j : ℕ) (v : List Event) → Parted x j v → Close j → Seen x j
   seen x j v (k, us, vs, done a b, l, h) d = seen_last k j x vs a l d
   seen x j v (k, us, vs, then p ws ts (b, (a, r, s), (o, (g, f), t)) rest y, l, h) d =
-      more a b p ws (ts ++ vs) r (s, inl g) g (subst (λ z. Gap z p) f t) (solid k j p ts vs rest l d) (k, ts, vs, rest, l, refl)
+      more a b p ws (ts ++ vs) r (s, inl g) g (subst (λ z. OptionalSeparation z p) f t) (solid k j p ts vs rest l d) (k, ts, vs, rest, l, refl)
 
   -- the parts begin with content, or with the bracket
   pub parts_start : (i j : ℕ) (v : List Event) → Parted i j v → Close j → PartHere cs i ⊎ Close i
@@ -116,7 +116,7 @@ module _ (cs : List ℕ) (n : ℕ) (c : Ctx) (I : Rule (List Event)) (start : (i
       go j m h (last a v r s) = absurd (no_comma (same_char cs q close 44 (subst Close (part_to y q j to (g.goes a j v r s)) h.1) d))
       go j m h (more a b p v w r s f t u rest) =
           let e : b ≡ q = part_to y q b to (g.goes a b v r s) in
-          let l : p ≡ z = on p (subst (λ i. Gap (i + 1) p) e t) u.0 in
+          let l : p ≡ z = on p (subst (λ i. OptionalSeparation (i + 1) p) e t) u.0 in
           (j, w, subst (λ i. Parted i j w) l rest, h)
 
   -- nothing to go on with after the comma
@@ -126,7 +126,7 @@ module _ (cs : List ℕ) (n : ℕ) (c : Ctx) (I : Rule (List Event)) (start : (i
       go : (j : ℕ) → Close j → Seen x j → ⊥
       go j h (closed e) = o (subst Close e h)
       go j h (last a v r s) = no_comma (same_char cs q close 44 (subst Close (part_to y q j to (g.goes a j v r s)) h) d)
-      go j h (more a b p v w r s f t u rest) = let e : b ≡ q = part_to y q b to (g.goes a b v r s) in none p (subst (λ i. Gap (i + 1) p) e t) u
+      go j h (more a b p v w r s f t u rest) = let e : b ≡ q = part_to y q b to (g.goes a b v r s) in none p (subst (λ i. OptionalSeparation (i + 1) p) e t) u
 
   -- no item here
   pub parts_refused : (x : ℕ) → (Close x → ⊥) → Refused I InParts x → Refused Parted (At Close) x

@@ -11,14 +11,12 @@ use Rattle.yaml_text.specs.Event as style
 use Rattle.yaml_text.specs.grammar.Events.{Props, no_props}
 use Rattle.yaml_text.specs.grammar.Nodes.{Part, yaml_node, json_node, scalar_of, flow_seq, flow_map, flow_node}
 use Rattle.yaml_text.proofs.Runs.{same_char}
-use Rattle.yaml_scalar.proofs.DoubleReadings.{double_same}
 use Rattle.yaml_unique.specs.Readings.{End}
 use Rattle.yaml_unique.proofs.TagEnds.{prop_same, prop_here, prop_inside}
 use Rattle.yaml_unique.proofs.Properties.{props_here, props_two}
 use Rattle.yaml_unique.proofs.FlowNodes.{Kind, Sign, kind_same, plain_no_kind, prop_kind, plain_start, Jsons, Plains, Aliases, YamlRest, JsonRest, jsons_start, json_parts}
-use Rattle.yaml_unique.proofs.FlowLevels.{single_same}
-use Rattle.yaml_complete.specs.Decisions.{Refused, Goes, Rest}
-use Rattle.yaml_complete.proofs.Decisions.{goes_one, rest_left, rest_right, rest_goes, rest_refused, refused_either}
+use Rattle.yaml_complete.specs.Decisions.{Refused, Rest}
+use Rattle.yaml_complete.proofs.Decisions.{rest_refused, refused_either}
 
 module _ (cs : List ℕ) (Wide : Type 0) (handles : Handles) (Open : Type 0) (inside : Part → Rule (List Event)) (n : ℕ) (c : Ctx) where
   abbrev Yaml : Rule (List Event)
@@ -68,14 +66,6 @@ module _ (cs : List ℕ) (Wide : Type 0) (handles : Handles) (Open : Type 0) (in
   json_kind p i j v r = jsons_start cs Wide handles Open inside n c p i j v r
 
   -- ---- a quote or an opening bracket: content of a json node
-
-  pub no_yaml_at_quote : (E : End) (i : ℕ) → Kind cs 3 i → Refused Yaml E i
-  no_yaml_at_quote E i h = record { none = λ j m v r e. go j v (yaml_forms i j v r) }
-    where
-      go : (j : ℕ) (v : List Event) → AliasNode i j v ⊎ PlainNode i j v ⊎ PropYaml i j v → ⊥
-      go j v (inl r) = two_kinds 2 3 i (λ e. omega (arith, e)) (alias_begin i j v r) h
-      go j v (inr (inl r)) = plain_no_kind cs c 3 i h (plain_begin i j v r)
-      go j v (inr (inr r)) = two_kinds 1 3 i (λ e. omega (arith, e)) (propped_begin (YamlRest cs Wide handles Open inside n c) i j v r) h
 
   pub content_left : (E : End) (i : ℕ) → Kind cs 3 i → Rest Json E i (JsonContent no_props) E i
   content_left E i h = record { rest = λ j m v r e. go j m v e (json_forms i j v r) }
@@ -151,13 +141,6 @@ module _ (cs : List ℕ) (Wide : Type 0) (handles : Handles) (Open : Type 0) (in
       go j m v (inr (inr (inl r))) e = absurd (other i 91 123 (λ z. omega (arith, z)) (seq_char p i j v r) h)
       go j m v (inr (inr (inr r))) e = (j, v, r, e)
 
-  -- what quotes begin has one end
-  pub single_goes : (p : Props) (E : End) (i x : ℕ) (w : List Event) → SingleNode p i x w → Goes (SingleNode p) E i E x
-  single_goes p E i x w (s, t, f) = goes_one (SingleNode p) E i x (λ j v (u, r, e). (single_same cs n c i j x u s r t).0)
-
-  pub double_goes : (p : Props) (E : End) (i x : ℕ) (w : List Event) → DoubleNode p i x w → Goes (DoubleNode p) E i E x
-  double_goes p E i x w (s, t, f) = goes_one (DoubleNode p) E i x (λ j v (u, r, e). (double_same cs n c i j x u s r t).0)
-
   -- ---- an asterisk: an alias
 
   pub alias_left : (E : End) (i : ℕ) → Kind cs 2 i → Rest Yaml E i AliasNode E i
@@ -206,14 +189,6 @@ module _ (cs : List ℕ) (Wide : Type 0) (handles : Handles) (Open : Type 0) (in
 
   abbrev Node : Rule (List Event)
   Node = flow_node cs Wide handles Open inside n c
-
-  pub node_goes_yaml : (E F : End) (i y : ℕ) → Goes Yaml E i F y → Refused Json E i → Goes Node E i F y
-  unfolding flow_node
-  node_goes_yaml E F i y g f = rest_goes (rest_left Yaml f) g
-
-  pub node_goes_json : (E F : End) (i y : ℕ) → Goes Json E i F y → Refused Yaml E i → Goes Node E i F y
-  unfolding flow_node
-  node_goes_json E F i y g f = rest_goes (rest_right Json f) g
 
   pub node_refused : (E : End) (i : ℕ) → Refused Yaml E i → Refused Json E i → Refused Node E i
   unfolding flow_node

@@ -75,9 +75,6 @@ module _ (cs : List ℕ) (Wide : Type 0) (handles : Handles) (Open : Type 0) (in
     pub no_flow : (p : Props) (column : Option ℕ) (x : ℕ) → Refused Flow InText x → Refused (Whole p column) AfterNode x
     no_flow p column x n = refused_either (line_refused x n) (mapping_refused cs Wide handles Open inside facts ease wider fwd blocks col d c AfterNode x p column (λ (o, v, f, fk, one). n.none o o v f (refl, inr fk)))
 
-    pub no_flow_mapping : (E : End) (p : Props) (column : Option ℕ) (x : ℕ) → Refused Flow InText x → Refused (Mapping p column) E x
-    no_flow_mapping E p column x n = mapping_refused cs Wide handles Open inside facts ease wider fwd blocks col d c E x p column (λ (o, v, f, fk, one). n.none o o v f (refl, inr fk))
-
     -- one that ends at y does
     module _ (x y : ℕ) (node : Goes Flow InText x InText y) where
       -- no colon that makes it a key, or no column for a mapping

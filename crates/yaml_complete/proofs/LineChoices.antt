@@ -2,7 +2,7 @@
 use Rattle.std.proofs.Common.{◌≡◌, ℕ, ◌+◌, ◌≤◌, ◌<◌, inl, inr, List, subst, arith}
 use Rattle.yaml_text.specs.grammar.Rules.{Rule, ◌▸◌, ◌∪◌, gives, given, some, Stands}
 use Rattle.yaml_text.specs.grammar.Characters.{is_space}
-use Rattle.yaml_text.specs.grammar.Separation.{indent, AtEnd, Mark}
+use Rattle.yaml_text.specs.grammar.Separation.{indent, AtEnd, DocumentMark}
 use Rattle.yaml_text.specs.Event.{Event}
 use Rattle.yaml_text.proofs.Runs.{run_same}
 use Rattle.yaml_text.proofs.LineRuns.{indent_run, indent_place}
@@ -74,7 +74,7 @@ module _ (cs : List ℕ) (col d : ℕ) (X S : ℕ → Rule (List Event)) (n : Li
         go j m v e (sequence a r) = (j, v, r, e)
         go j m v e (nothing a) = absurd ((follow_seq cs col d k s (subst (Follow cs col d) (here j m a e) e.1) le narrow).1 (x, ind, h))
 
-    pub node_left : (DashHere cs x → ⊥) → col ≤ k → (AtEnd cs s → ⊥) → (Mark cs s → ⊥) → Rest LineRest AfterNode s (X k) AfterNode x
+    pub node_left : (DashHere cs x → ⊥) → col ≤ k → (AtEnd cs s → ⊥) → (DocumentMark cs s → ⊥) → Rest LineRest AfterNode s (X k) AfterNode x
     node_left n le no_end no_mark = record { rest = λ j m v r e. go j m v e (left j v r) }
       where
         go : (j m : ℕ) (v : List Event) → AfterNode j m → Left j v → (o : ℕ) × (w : List Event) × X k x o w × AfterNode o m

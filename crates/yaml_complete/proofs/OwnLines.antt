@@ -212,9 +212,6 @@ module _ (cs : List ℕ) (Wide : Type 0) (handles : Handles) (Open : Type 0) (in
   no_mapping_in o E x e s p (Some k) le r over =
       no_mapping_over cs Wide handles Open inside facts ease wider fwd blocks col d c o E k x e s p (prop_kind cs handles x (props_here cs handles (prop_same cs handles) (prop_here cs handles) (prop_inside cs handles) 0 block_key x e p (props_two cs handles 0 block_key x e p r))) le (line_properties cs handles col block_key x e p r) over
 
-  pub own_over : (x e s : ℕ) (p : Props) (column : Option ℕ) → x ≤ e → properties cs handles 0 block_key x e p → s_l_comments cs e s → Rest (Forms ∪ MappingIn no_props column) AfterNode x Forms AfterNode x
-  own_over x e s p column le r over = rest_left Forms (no_mapping_in no_props AfterNode x e s p column le r over)
-
   -- ---- properties above, from i to f, and a line in column k
 
   module _ (i f s k x : ℕ) (p : Props) (under : Rest Forms AfterNode i (After p) AfterNode f) (over : s_l_comments cs f s) (st : Stuck cs s) (ind : indent cs k s x) (whole : Stands cs is_space x → ⊥) (other : Follow cs col d s → ⊥) where

@@ -1,19 +1,18 @@
 -- A plain scalar that ends as far on as any from its place goes on wherever one of them does.
-use Rattle.std.proofs.Common.{◌≡◌, ℕ, ◌+◌, ◌≤◌, ◌⊎◌, inl, inr, List, ◌++◌, refl, sym, subst, arith}
+use Rattle.std.proofs.Common.{◌≡◌, ℕ, ◌≤◌, ◌⊎◌, inl, inr, List, ◌++◌, sym, subst, arith}
 use Rattle.yaml_text.specs.grammar.Rules.{Any, done, then, where_both}
-use Rattle.yaml_text.specs.grammar.Separation.{Ctx, flow_in, flow_out, Unmarked}
+use Rattle.yaml_text.specs.grammar.Separation.{Ctx, flow_out, Unmarked}
 use Rattle.yaml_text.specs.grammar.FlowScalars.{plain, PlainFirst}
 use Rattle.yaml_text.specs.Lines.{Inside}
-use Rattle.yaml_scalar.specs.Chains.{Later, plain_more, plain_chain}
+use Rattle.yaml_scalar.specs.Chains.{plain_more, plain_chain}
 use Rattle.yaml_scalar.proofs.AnyLemmas.{any_onward, any_chain}
 use Rattle.yaml_scalar.proofs.GapLemmas.{unmarked_cuts}
-use Rattle.yaml_scalar.proofs.PlainLemmas.{one_same, first_ns, more_same, more_onward, no_later_colon}
+use Rattle.yaml_scalar.proofs.PlainLemmas.{one_same, first_ns, more_same, more_onward}
 use Rattle.yaml_scalar.proofs.PlainReadings.{plain_to_chain}
 use Rattle.yaml_unique.specs.Readings.{At}
 use Rattle.yaml_unique.proofs.BlockNodes.{colon_solid}
-use Rattle.yaml_unique.specs.Follows.{F, Closes, ColonY, Fy}
+use Rattle.yaml_unique.specs.Follows.{F}
 use Rattle.yaml_unique.proofs.PlainEnds.{stop_way, stop_rest, any_unmarked, any_after, after_inside, colon_no_later}
-use Rattle.yaml_unique.proofs.FlowLevels.{closes_no_later}
 use Rattle.yaml_complete.specs.Decisions.{Goes}
 
 module _ (cs : List ℕ) where
@@ -54,11 +53,3 @@ module _ (cs : List ℕ) where
       go : (j o : ℕ) (xs : List ℕ) → Inside cs j → F cs col d j → plain_more cs col flow_out j o xs → Unmarked cs j o → ⊥
       go j o xs a (inl (m, p, (l, n))) r u = stop_rest cs col flow_out j m o xs r u a p l
       go j o xs a (inr (q, s, h, n)) r u = stop_way cs col flow_out j o q xs r a (inl (s, colon_solid cs q h)) (colon_no_later cs flow_out q h n)
-
-  -- inside brackets
-  pub plain_flow_goes : (n i x : ℕ) (w : List ℕ) → plain cs n flow_in i x w → ((j : ℕ) (v : List ℕ) → plain cs n flow_in i j v → j ≤ x) → Goes (plain cs n flow_in) (At (Fy cs)) i (At (Fy cs)) x
-  plain_flow_goes n = plain_goes n flow_in (Fy cs) (λ j o xs a (q, w, h) r u. stop_way cs n flow_in j o q xs r a w (later q h))
-    where
-      later : (q : ℕ) → Closes cs q ⊎ ColonY cs q → Later cs flow_in q → ⊥
-      later q (inl h) l = closes_no_later cs q h l
-      later q (inr (h, n)) l = no_later_colon cs flow_in q (q + 1) h refl n l

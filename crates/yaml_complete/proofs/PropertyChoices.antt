@@ -5,7 +5,6 @@ use Rattle.yaml_text.specs.grammar.Separation.{Ctx, separate}
 use Rattle.std.specs.Prelude.{slice_get}
 use Rattle.yaml_text.specs.grammar.Tags.{Handles, tag, anchor, properties}
 use Rattle.yaml_text.specs.Event.{WrittenTag, Event}
-use Rattle.yaml_text.specs.grammar.FlowScalars.{PlainFirst}
 use Rattle.yaml_text.specs.grammar.Events.{Props}
 use Rattle.yaml_text.specs.grammar.Nodes.{Part}
 use Rattle.yaml_text.specs.Lines.{Inside}
@@ -14,7 +13,7 @@ use Rattle.yaml_unique.proofs.Lines.{way_of, way_same}
 use Rattle.yaml_unique.specs.Follows.{Solid, Fresh, Way}
 use Rattle.yaml_unique.proofs.Properties.{NoMore, prop, prop_solid, Two, alone, pair, both, props_two, tag_props, anchor_props}
 use Rattle.yaml_unique.proofs.TagEnds.{prop_same, prop_here, prop_inside, tag_here}
-use Rattle.yaml_unique.proofs.FlowNodes.{Kind, kind_three, plain_start, jsons_start, Plains, Jsons, YamlRest, JsonRest}
+use Rattle.yaml_unique.proofs.FlowNodes.{kind_three, plain_start, jsons_start, Plains, Jsons, YamlRest, JsonRest}
 use Rattle.yaml_complete.specs.Decisions.{Refused, Goes, Rest}
 use Rattle.yaml_complete.proofs.Separations.{rest_separate}
 
@@ -90,10 +89,6 @@ module _ (cs : List ℕ) (handles : Handles) (n : ℕ) (c : Ctx) where
           let d : p ≡ q = w ∙ subst (λ z. both a b ≡ both z b) h.1 refl ∙ subst (λ z. both a2 b ≡ both a2 z) o.1 refl ∙ sym w2 in
           (j, v, subst (λ z. S z k j v) (sym d) (subst (λ z. S q z j v) (sym o.0) t), e)
 
-  -- no property could be read: no reading begins with one
-  pub refused_propped : {V : Type 0} (S : Props → Rule V) (E : End) (i : ℕ) → ((k : ℕ) (p : Props) → properties cs handles n c i k p → ⊥) → Refused (with_value (properties cs handles n c) S) E i
-  refused_propped S E i f = record { none = λ j m v (l, q, s, t) e. f l q s }
-
   module _ (Wide : Type 0) (Open : Type 0) (inside : Part → Rule (List Event)) (p : Props) where
     plains_fresh : (E : End) → Starts (Plains cs Wide handles Open inside n c p) E (Fresh cs)
     plains_fresh E i j m v (t, r, f) e = (plain_start cs n c i j t r).0
@@ -110,17 +105,5 @@ module _ (cs : List ℕ) (handles : Handles) (n : ℕ) (c : Ctx) where
         go j m v (inl r) e = (rest_separate cs n c (Plains cs Wide handles Open inside n c p) E k x (plains_fresh E) to).rest j m v r e
         go j m v (inr (a, b)) e = absurd (stop m (subst (λ y. E y m) a e))
 
-    -- properties alone, where no plain scalar follows
-    pub nothing_after : (E : End) (k : ℕ) → ((q : ℕ) → separate cs n c k q → Fresh cs q → PlainFirst cs c q → ⊥)
-        → Goes (YamlRest cs Wide handles Open inside n c p) E k E k
-    nothing_after E k none = record { goes = go }
-      where
-        go : (j m : ℕ) (v : List Event) → YamlRest cs Wide handles Open inside n c p k j v → E j m → E k m
-        go j m v (inl (q, s, (t, r, f))) e = let h = plain_start cs n c q j t r in absurd (none q s h.0 h.1)
-        go j m v (inr (a, b)) e = subst (λ y. E y m) a e
-
     pub json_after : (E : End) (k x : ℕ) → ((q : ℕ) → maybe (separate cs n c) k q → Solid cs q → q ≡ x) → Rest (JsonRest cs Wide handles Open inside n c p) E k (Jsons cs Wide handles Open inside n c p) E x
     json_after E k x to = rest_separate cs n c (Jsons cs Wide handles Open inside n c p) E k x (jsons_fresh E) to
-
-    pub no_json_after : (E : End) (k : ℕ) → ((q : ℕ) → separate cs n c k q → Kind cs 3 q → ⊥) → Refused (JsonRest cs Wide handles Open inside n c p) E k
-    no_json_after E k none = record { none = λ j m v (q, s, r) e. none q s (jsons_start cs Wide handles Open inside n c p q j v r) }

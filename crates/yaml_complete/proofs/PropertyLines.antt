@@ -3,7 +3,7 @@ use Rattle.std.proofs.Common.{◌≡◌, ℕ, ◌+◌, ◌≤◌, ◌<◌, ◌�
 use Rattle.std.specs.Prelude.{slice_get, encode_utf8_all}
 use Rattle.yaml_text.specs.Event.{Event, WrittenTag, untagged}
 use Rattle.yaml_text.specs.Lines.{Inside}
-use Rattle.yaml_text.specs.grammar.Rules.{Rule, ◌◂◌, Spans, ◌▸◌, ◌∪◌, with_value, run, Stands}
+use Rattle.yaml_text.specs.grammar.Rules.{Rule, Spans, ◌▸◌, ◌∪◌, with_value, run, Stands}
 use Rattle.yaml_text.specs.grammar.Characters.{is_space}
 use Rattle.yaml_text.specs.grammar.Separation.{Ctx, block_out, block_in, flow_out, flow_in, block_key, flow_key, separate, separate_lines, s_l_comments, indent}
 use Rattle.yaml_text.specs.grammar.Tags.{Handles, tag, anchor, properties}
@@ -16,9 +16,9 @@ use Rattle.yaml_text.proofs.grammar.Forward.{Forward, on_separate, fwd_tag, fwd_
 use Rattle.yaml_unique.specs.Readings.{End, At}
 use Rattle.yaml_unique.specs.Follows.{Solid, Stuck, Past, Way, Over, Follow, F}
 use Rattle.yaml_unique.proofs.Lines.{past_of, past_no_run, sep_parts, sep_run, way_of, way_same}
-use Rattle.yaml_unique.proofs.FlowNodes.{Kind, kind_same, prop_kind, YamlRest, JsonRest, plain_no_kind, plain_start, jsons_start}
+use Rattle.yaml_unique.proofs.FlowNodes.{Kind, kind_same, prop_kind, YamlRest, JsonRest}
 use Rattle.yaml_unique.proofs.FlowEntries.{Facts}
-use Rattle.yaml_unique.proofs.BlockNodes.{KeyRead, dash_no_kind, content_flow, rest_other, scalars_other, flow_propped}
+use Rattle.yaml_unique.proofs.BlockNodes.{KeyRead, dash_no_kind, scalars_other}
 use Rattle.yaml_unique.proofs.KeyContexts.{Eased}
 use Rattle.yaml_unique.proofs.BlockLevels.{Blocks, entry_key}
 use Rattle.yaml_unique.proofs.Properties.{PropHere, prop, prop_solid, Two, alone, pair, both, props_two, props_here, props_inside, props_alone, tag_props, anchor_props}
@@ -27,8 +27,8 @@ use Rattle.yaml_complete.specs.Decisions.{Refused, Rest}
 use Rattle.yaml_complete.proofs.Decisions.{rest_refused}
 use Rattle.yaml_complete.proofs.PropertyChoices.{Differ, Second, Kinds, one_prop, two_props, kinds}
 use Rattle.yaml_complete.proofs.BlockLoops.{SequenceFrom, MappingFrom}
-use Rattle.yaml_complete.proofs.BlockStarts.{FlowLine, ScalarOf, ProppedScalar, ProppedCollection, CollectionsOf, OnLine, OnOwnLine, scalar_kind, mapping_from, sequence_from, seq_dash}
-use Rattle.yaml_complete.proofs.BlockProperties.{Contents, Under, rest_next, propped_left, scalar_next, collections_stuck, line_of, line_after, scalar_after, collection_after, collection_of_both, no_mapping_over, BelowThem, mapping_of_first}
+use Rattle.yaml_complete.proofs.BlockStarts.{FlowLine, ScalarOf, ProppedScalar, ProppedCollection, CollectionsOf, OnLine, scalar_kind, mapping_from, sequence_from, seq_dash}
+use Rattle.yaml_complete.proofs.BlockProperties.{Contents, Under, rest_next, propped_left, scalar_next, collections_stuck, line_of, line_after, scalar_after, collection_after, collection_of_both}
 
 module _ (cs : List ℕ) where
   -- separation on one line is separation everywhere
@@ -194,9 +194,6 @@ module _ (cs : List ℕ) (Wide : Type 0) (handles : Handles) (Open : Type 0) (in
   abbrev Forms : Rule (List Event)
   Forms = OnLine cs Wide handles Open inside facts ease wider fwd blocks col c
 
-  abbrev OwnForms : ℕ → Rule (List Event)
-  OwnForms = OnOwnLine cs Wide handles Open inside facts ease wider fwd blocks col c
-
   abbrev Mapping : ℕ → Props → Rule (List Event)
   Mapping k = MappingFrom cs Wide handles Open inside k
 
@@ -229,16 +226,6 @@ module _ (cs : List ℕ) (Wide : Type 0) (handles : Handles) (Open : Type 0) (in
       go j m v (inr (inr (inr t))) f =
           let (k, w, s, g) = (collection_after cs Wide handles Open inside facts ease wider fwd blocks col d c i e p (line_properties cs handles col c i e p r) none (λ l o a b. one_line cs handles i e p r col c l o a b)).rest j m v t f in
           (k, w, inr (inr s), g)
-
-  -- where their line is over, no key begins with them
-  pub under_own : (k0 i e s : ℕ) (p : Props) → Kind cs 1 i → i ≤ e → properties cs handles 0 block_key i e p → (Second cs handles col flow_out i e p → ⊥) → (Second cs handles col c i e p → ⊥) → s_l_comments cs e s → Rest (OwnForms k0) AfterNode i (AfterThem p) AfterNode e
-  under_own k0 i e s p h le r out none over = record { rest = go }
-    where
-      go : (j m : ℕ) (v : List Event) → OwnForms k0 i j v → AfterNode j m → (k : ℕ) × (w : List Event) × AfterThem p e k w × AfterNode k m
-      go j m v (inl t) f = (under_after i e p h r out none).rest j m v t f
-      go j m v (inr (inl t)) f =
-          absurd ((no_mapping_over cs Wide handles Open inside facts ease wider fwd blocks col d c no_props AfterNode k0 i e s p h le (line_properties cs handles col block_key i e p r) over).none j m v t f)
-      go j m v (inr (inr t)) f = absurd (no_sequence_at no_props k0 i j v h t)
 
   -- one alone on its line, and one of the other kind on the next, whose line is over after it
   pub under_both : (i l e s z k h : ℕ) (a b : Props) → prop cs handles i l a → s_l_comments cs l s → Stuck cs s → indent cs k s z → (Stands cs is_space z → ⊥)
@@ -314,14 +301,6 @@ module _ (cs : List ℕ) (Wide : Type 0) (handles : Handles) (Open : Type 0) (in
     where
       key : KeyRead cs Wide handles Open inside col d c i → ⊥
       key (o, v, f, fk, one) = (no_flow_barred i bar).none o o v f (refl, inr fk)
-
-  pub no_own_barred : (k0 i : ℕ) → BarredLine cs handles i → Refused (OwnForms k0) AfterNode i
-  no_own_barred k0 i bar = record { none = go }
-    where
-      go : (j m : ℕ) (v : List Event) → OwnForms k0 i j v → AfterNode j m → ⊥
-      go j m v (inl t) f = (no_forms_barred i bar).none j m v t f
-      go j m v (inr (inl t)) f = (no_mapping_barred no_props AfterNode k0 i bar).none j m v t f
-      go j m v (inr (inr t)) f = no_sequence_at no_props k0 i j v (prop_kind cs handles i bar.0) t
 
   -- ---- properties above, and one more on the next line that is not theirs: they are a mapping's, whose key begins there
 
@@ -407,51 +386,8 @@ module _ (cs : List ℕ) (Wide : Type 0) (handles : Handles) (Open : Type 0) (in
 
   -- ---- what is left after properties, as a node by itself: the values differ, the places do not
 
-  pub content_line : (p : Props) (E : End) (x : ℕ) → Rest (Content p ◂ s_l_comments cs) E x Line E x
-  content_line p E x = record { rest = λ j m v (k, r, s) e. let (w, t) = content_flow cs Wide handles Open inside col d c p x k v r in (j, w, (k, t, s), e) }
-
-  pub rest_line : (p q : Props) (E : End) (z e : ℕ) → properties cs handles col flow_out z e q → Rest (FlowRest p ◂ s_l_comments cs) E e Line E z
-  rest_line p q E z e own = record { rest = λ j m v (k, r, s) f. let (w, t) = rest_other cs Wide handles Open inside col d c p q e k v r in (j, w, (k, flow_propped cs Wide handles Open inside col d c z k w (e, q, own, t), s), f) }
-
   pub scalar_line : (p q : Props) (E : End) (z e : ℕ) → properties cs handles col c z e q → Rest (separate cs col c ▸ Scalar p) E e Scalars E z
   scalar_line p q E z e own = record { rest = λ j m v (k, s, r) f. let (w, t) = scalars_other cs Wide handles Open inside col d c p q k j v r in (j, w, (e, q, own, (k, s, t)), f) }
-
-  -- an alias has no properties: those above are a mapping's, whose key it is
-  pub alias_below : (p : Props) (E : End) (k x : ℕ) → Kind cs 2 x → Rest (BelowThem cs Wide handles Open inside facts ease wider fwd blocks col d c p k) E x (Mapping k p) E x
-  alias_below p E k x h = record { rest = go }
-    where
-      no_content : (j : ℕ) (v : List Event) → Content p x j v → ⊥
-      no_content j v (inl (t, r, e)) = plain_no_kind cs flow_out 2 x h (plain_start cs col flow_out x j t r).1
-      no_content j v (inr r) = let z : 3 ≡ 2 = kind_same cs 3 2 x (jsons_start cs Wide handles Open inside col flow_out p x j v r) h in omega (arith, z)
-
-      go : (j m : ℕ) (v : List Event) → BelowThem cs Wide handles Open inside facts ease wider fwd blocks col d c p k x j v → E j m → (o : ℕ) × (w : List Event) × Mapping k p x o w × E o m
-      go j m v (inl (inl (o, r, t))) e = absurd (no_content o v r)
-      go j m v (inl (inr r)) e = let z : 4 ≡ 2 = kind_same cs 4 2 x (scalar_kind cs Wide handles Open inside facts ease wider fwd blocks col c p x j v r) h in absurd (omega (arith, z))
-      go j m v (inr (inl r)) e = (j, v, r, e)
-      go j m v (inr (inr (o, (t, (a, us, vs, d1, rest, f), y)))) e = absurd (dash_no_kind cs 2 x (seq_dash cs Wide handles Open inside facts ease wider fwd blocks col c k x a us d1) h)
-
-  -- one alone on its line, and one of the other kind on the next, whose line goes on: a node by itself there, or a mapping of the first
-  pub second_line : (i l e s z k : ℕ) (a b : Props) → prop cs handles i l a → s_l_comments cs l s → Stuck cs s → indent cs k s z → (Stands cs is_space z → ⊥)
-      → separate cs col flow_out l z → separate cs col c l z → prop cs handles z e b → Differ cs handles col c i z → ((j : ℕ) → s_l_comments cs e j → ⊥) → Rest Forms AfterNode i (Line ∪ Scalars ∪ Mapping k a) AfterNode z
-  second_line i l e s z k a b ra over st ind n sf sc rb df goes = record { rest = go }
-    where
-      here : Kind cs 1 i
-      here = prop_kind cs handles i (prop_here cs handles i l a ra)
-
-      go : (j m : ℕ) (v : List Event) → Forms i j v → AfterNode j m → (o : ℕ) × (w : List Event) × (Line ∪ Scalars ∪ Mapping k a) z o w × AfterNode o m
-      go j m v (inl t) f =
-          let r = properties_of_both cs handles col flow_out i l z e a b ra sf rb df in
-          let (o, w, u, g) = (line_after cs Wide handles Open inside facts ease wider fwd blocks col d c i e (both a b) here r (no_second_of_two cs handles col col flow_out flow_out i l z e a b (both a b) ra sf rb)).rest j m v t f in
-          let (o2, w2, u2, g2) = (rest_line (both a b) b AfterNode z e (props_alone cs handles col flow_out z e b rb)).rest o m w u g in
-          (o2, w2, inl u2, g2)
-      go j m v (inr (inl t)) f = absurd (no_scalar_at no_props i j v here t)
-      go j m v (inr (inr (inl t))) f =
-          let r = properties_of_both cs handles col c i l z e a b ra sc rb df in
-          let (o, w, u, g) = (scalar_after cs Wide handles Open inside facts ease wider fwd blocks col d c i e (both a b) r (no_second_of_two cs handles col col c c i l z e a b (both a b) ra sc rb)).rest j m v t f in
-          let (o2, w2, u2, g2) = (scalar_line (both a b) b AfterNode z e (props_alone cs handles col c z e b rb)).rest o m w u g in
-          (o2, w2, inr (inl u2), g2)
-      go j m v (inr (inr (inr t))) f =
-          let (o, w, u, g) = (mapping_of_first cs Wide handles Open inside facts ease wider fwd blocks col d c i l e s z k a b ra over st ind n sc rb goes).rest j m v t f in (o, w, inr (inr u), g)
 
   -- ---- all properties above the line on which a node goes on
 

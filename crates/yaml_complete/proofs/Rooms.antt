@@ -6,13 +6,10 @@ use Rattle.yaml_text.specs.Event.{Event}
 use Rattle.yaml_text.specs.grammar.Nodes.{Part, part, reads}
 use Rattle.yaml_text.proofs.grammar.Forward.{Forward, fwd_reads}
 use Rattle.yaml_text.proofs.grammar.Widening.{Within}
-use Rattle.yaml_unique.specs.Readings.{End}
 use Rattle.yaml_unique.proofs.FlowEntries.{Facts}
 use Rattle.yaml_unique.proofs.FlowLevels.{no_facts, reads_facts}
 use Rattle.yaml_unique.proofs.KeyContexts.{Eased, no_eased, reads_eased}
 use Rattle.yaml_unique.proofs.BlockLevels.{Blocks, no_blocks, one_more, reads_blocks}
-use Rattle.yaml_complete.specs.Decisions.{Refused, Goes, Rest}
-use Rattle.yaml_complete.proofs.Decisions.{rest_goes, rest_refused}
 
 module _ (cs : List ℕ) (Wide : Type 0) (handles : Handles) where
   -- whether one more collection may be opened, and what may then stand in it
@@ -54,12 +51,3 @@ module _ (cs : List ℕ) (Wide : Type 0) (handles : Handles) where
   unfolding reads
   to_level zero p i j v r = r
   to_level (suc room) p i j v r = r
-
-  pub level_rest : (room : ℕ) (p : Part) (E : End) (i : ℕ) → Rest (reads cs Wide handles room p) E i (part cs Wide handles (Opens room) (below room) p) E i
-  level_rest room p E i = record { rest = λ j m v r e. (j, v, to_level room p i j v r, e) }
-
-  pub level_goes : (room : ℕ) (p : Part) (E F : End) (i x : ℕ) → Goes (part cs Wide handles (Opens room) (below room) p) E i F x → Goes (reads cs Wide handles room p) E i F x
-  level_goes room p E F i x g = rest_goes (level_rest room p E i) g
-
-  pub level_refused : (room : ℕ) (p : Part) (E : End) (i : ℕ) → Refused (part cs Wide handles (Opens room) (below room) p) E i → Refused (reads cs Wide handles room p) E i
-  level_refused room p E i f = rest_refused (level_rest room p E i) f

@@ -2,7 +2,7 @@
 use Rattle.std.proofs.Common.{◌≡◌, ℕ, ◌+◌, ◌≤◌, ◌<◌, ◌⊎◌, inl, inr, List, refl, sym, ◌∙◌, subst, arith}
 use Rattle.yaml_text.specs.grammar.Rules.{Rule, maybe, Spans, Stands, run, ◌▸◌}
 use Rattle.yaml_text.specs.grammar.Characters.{is_space, is_ns}
-use Rattle.yaml_text.specs.grammar.Separation.{Ctx, block_out, block_in, flow_out, flow_in, block_key, flow_key, AtEnd, Mark, s_l_comments, separate, separate_lines, sep, indent}
+use Rattle.yaml_text.specs.grammar.Separation.{Ctx, block_out, block_in, flow_out, flow_in, block_key, flow_key, AtEnd, DocumentMark, s_l_comments, separate, separate_lines, sep, indent}
 use Rattle.yaml_text.specs.Lines.{Inside}
 use Rattle.yaml_text.proofs.Runs.{run_none, run_same}
 use Rattle.yaml_text.proofs.Breaks.{mark_ns, run_join}
@@ -51,10 +51,10 @@ module _ (cs : List ℕ) where
       spaces_to s x q y (subst (λ z. run cs is_space z q) e r) h
 
   -- a mark, or the end, stands there: no content comes
-  pub way_no_mark : (i s : ℕ) → s_l_comments cs i s → Mark cs s → (q : ℕ) → Way cs i q → Fresh cs q → ⊥
+  pub way_no_mark : (i s : ℕ) → s_l_comments cs i s → DocumentMark cs s → (q : ℕ) → Way cs i q → Fresh cs q → ⊥
   way_no_mark i s c m q w (h, n) =
       let e : q ≡ s = way_on_next i s s c (stuck_mark cs s m) (run_none cs is_space s, solid_no_space cs s (mark_ns cs s m)) q w in
-      n (subst (Mark cs) (sym e) m)
+      n (subst (DocumentMark cs) (sym e) m)
 
   pub way_no_end : (i s x : ℕ) → s_l_comments cs i s → Stuck cs s → Spaces s x → AtEnd cs x → (q : ℕ) → Way cs i q → Solid cs q → ⊥
   way_no_end i s x c t y e q w h = let f : q ≡ x = way_on_next i s x c t y q w in end_stops cs is_ns q (f ∙ e) h.0
@@ -93,7 +93,7 @@ module _ (cs : List ℕ) where
           omega (arith, e, g, le, lt)
 
   -- a mark, or the end
-  pub separate_no_mark : (n : ℕ) (c : Ctx) (i s : ℕ) → s_l_comments cs i s → Mark cs s → (q : ℕ) → maybe (separate cs n c) i q → Fresh cs q → ⊥
+  pub separate_no_mark : (n : ℕ) (c : Ctx) (i s : ℕ) → s_l_comments cs i s → DocumentMark cs s → (q : ℕ) → maybe (separate cs n c) i q → Fresh cs q → ⊥
   separate_no_mark n c i s l m q r f = way_no_mark i s l m q (way_maybe cs n c i q r f.0) f
 
   pub separate_no_end : (n : ℕ) (c : Ctx) (i s x : ℕ) → s_l_comments cs i s → Stuck cs s → Spaces s x → AtEnd cs x → (q : ℕ) → maybe (separate cs n c) i q → Solid cs q → ⊥
@@ -125,11 +125,5 @@ module _ (cs : List ℕ) where
   pub rest_separate : {V : Type 0} (n : ℕ) (c : Ctx) (S : Rule V) (E : End) (i x : ℕ) → Starts S E (Fresh cs) → ((q : ℕ) → maybe (separate cs n c) i q → Solid cs q → q ≡ x) → Rest (separate cs n c ▸ S) E i S E x
   rest_separate n c S E i x s t = rest_before (separate cs n c) S E (Fresh cs) i x s (λ l r f. t l (inr r) f.0)
 
-  pub rest_maybe_separate : {V : Type 0} (n : ℕ) (c : Ctx) (S : Rule V) (E : End) (i x : ℕ) → Starts S E (Fresh cs) → ((q : ℕ) → maybe (separate cs n c) i q → Solid cs q → q ≡ x) → Rest (maybe (separate cs n c) ▸ S) E i S E x
-  rest_maybe_separate n c S E i x s t = rest_before (maybe (separate cs n c)) S E (Fresh cs) i x s (λ l r f. t l r f.0)
-
   pub refused_separate : {V : Type 0} (n : ℕ) (c : Ctx) (S : Rule V) (E : End) (i : ℕ) → Starts S E (Fresh cs) → ((q : ℕ) → maybe (separate cs n c) i q → Fresh cs q → ⊥) → Refused (separate cs n c ▸ S) E i
   refused_separate n c S E i s t = refused_before (separate cs n c) S E (Fresh cs) i s (λ l r f. t l (inr r) f)
-
-  pub refused_maybe_separate : {V : Type 0} (n : ℕ) (c : Ctx) (S : Rule V) (E : End) (i : ℕ) → Starts S E (Fresh cs) → ((q : ℕ) → maybe (separate cs n c) i q → Fresh cs q → ⊥) → Refused (maybe (separate cs n c) ▸ S) E i
-  refused_maybe_separate n c S E i s t = refused_before (maybe (separate cs n c)) S E (Fresh cs) i s t

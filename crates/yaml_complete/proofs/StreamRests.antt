@@ -1,7 +1,7 @@
 -- What is left of a stream, at each place where its reader stands between documents.
 use Rattle.std.proofs.Common.{◌≡◌, ℕ, ◌+◌, ◌≤◌, ◌<◌, inl, inr, List, [], ◌∷◌, Bool, true, false, length, refl, sym, ◌∙◌, subst, arith}
 use Rattle.yaml_text.specs.grammar.Rules.{Rule, Spans, ◌◂◌, ◌∪◌, gives}
-use Rattle.yaml_text.specs.grammar.Separation.{block_in, StartsLine, AtEnd, MarkOf, Mark, s_l_comments}
+use Rattle.yaml_text.specs.grammar.Separation.{block_in, StartsLine, AtEnd, DocumentMarkOf, DocumentMark, s_l_comments}
 use Rattle.yaml_text.specs.grammar.Tags.{Handles}
 use Rattle.yaml_text.specs.grammar.Directives.{directives}
 use Rattle.yaml_text.specs.grammar.Nodes.{block_part, reads}
@@ -45,7 +45,7 @@ module _ (cs : List ℕ) (Wide : Type 0) (room : ℕ) where
 
   -- ---- a suffix (9.1.2)
 
-  dots_left : (fresh : Bool) (m n h : ℕ) (xs : List Piece) → Stuck cs m → MarkOf cs 46 m → s_l_comments cs (m + 3) n → Stuck cs n → View cs Wide room fresh h m xs → Left true n
+  dots_left : (fresh : Bool) (m n h : ℕ) (xs : List Piece) → Stuck cs m → DocumentMarkOf cs 46 m → s_l_comments cs (m + 3) n → Stuck cs n → View cs Wide room fresh h m xs → Left true n
   dots_left fresh m n h xs st mark l s (v_over e f) = absurd (mark_end cs Wide room 46 m mark e)
   dots_left fresh m n h xs st mark l s (v_dots k us vs r t e) =
       let (o, c, u) = lands cs Wide room true k vs t in
@@ -54,10 +54,10 @@ module _ (cs : List ℕ) (Wide : Type 0) (room : ℕ) where
   dots_left fresh m n h xs st mark l s (v_bare g k us vs a c r t e) = absurd (bare_no_mark cs Wide room g m k us a c st r (dots_mark_is cs Wide room m mark))
   dots_left fresh m n h xs st mark l s (v_directed k us vs r t e) = absurd (mark_percent cs Wide room 46 m (λ z. omega (arith, z)) mark (directive_percent cs Wide room m k us r))
 
-  pub left_suffix : {fresh : Bool} (m n : ℕ) → MarkOf cs 46 m → s_l_comments cs (m + 3) n → Stuck cs n → Left fresh m → Left true n
+  pub left_suffix : {fresh : Bool} (m n : ℕ) → DocumentMarkOf cs 46 m → s_l_comments cs (m + 3) n → Stuck cs n → Left fresh m → Left true n
   left_suffix {fresh} m n mark l s x = dots_left fresh m n x.from_place x.pieces x.stuck mark l s (seen_from x)
 
-  no_dots : (fresh : Bool) (m h : ℕ) (xs : List Piece) → Stuck cs m → MarkOf cs 46 m → ((j : ℕ) → s_l_comments cs (m + 3) j → ⊥) → View cs Wide room fresh h m xs → ⊥
+  no_dots : (fresh : Bool) (m h : ℕ) (xs : List Piece) → Stuck cs m → DocumentMarkOf cs 46 m → ((j : ℕ) → s_l_comments cs (m + 3) j → ⊥) → View cs Wide room fresh h m xs → ⊥
   unfolding suffix
   no_dots fresh m h xs st mark n (v_over e f) = mark_end cs Wide room 46 m mark e
   no_dots fresh m h xs st mark n (v_dots k us vs (a, d, (b, (e, f), s)) t g) = n k (subst (λ z. s_l_comments cs z k) (e ∙ (mark_inside cs Wide room 46 m a documents.ns_dot d).0) s)
@@ -66,7 +66,7 @@ module _ (cs : List ℕ) (Wide : Type 0) (room : ℕ) where
   no_dots fresh m h xs st mark n (v_directed k us vs r t e) = mark_percent cs Wide room 46 m (λ z. omega (arith, z)) mark (directive_percent cs Wide room m k us r)
 
   -- something else on its line
-  pub no_suffix : {fresh : Bool} (m : ℕ) → MarkOf cs 46 m → ((j : ℕ) → s_l_comments cs (m + 3) j → ⊥) → Left fresh m → ⊥
+  pub no_suffix : {fresh : Bool} (m : ℕ) → DocumentMarkOf cs 46 m → ((j : ℕ) → s_l_comments cs (m + 3) j → ⊥) → Left fresh m → ⊥
   no_suffix {fresh} m mark n x = no_dots fresh m x.from_place x.pieces x.stuck mark n (seen_from x)
 
   -- ---- a document with its mark (9.1.4)
@@ -80,7 +80,7 @@ module _ (cs : List ℕ) (Wide : Type 0) (room : ℕ) where
   unfolding explicit_document
   explicit_marked handles m k us (a, d, r) = subst (λ z. Marked handles z k us) (mark_inside cs Wide room 45 m a ns_dash d).0 r
 
-  shown_left : (fresh : Bool) (m h : ℕ) (xs : List Piece) → Stuck cs m → MarkOf cs 45 m → View cs Wide room fresh h m xs →
+  shown_left : (fresh : Bool) (m h : ℕ) (xs : List Piece) → Stuck cs m → DocumentMarkOf cs 45 m → View cs Wide room fresh h m xs →
       (k : ℕ) × (o : ℕ) × (us : List Event) × (vs : List Piece) × Marked [] (m + 3) k us × Follows k o × Tail cs Wide room false k vs
   shown_left fresh m h xs st mark (v_over e f) = absurd (mark_end cs Wide room 45 m mark e)
   shown_left fresh m h xs st mark (v_dots k us vs r t e) = absurd (marks_apart cs Wide room m mark (suffix_mark cs Wide room m k us r))
@@ -91,19 +91,19 @@ module _ (cs : List ℕ) (Wide : Type 0) (room : ℕ) where
   follows_stuck : (k o : ℕ) → Follows k o → Stuck cs o
   follows_stuck k o (c, (l, n)) = less_stuck cs 0 o l
 
-  pub left_marked : {fresh : Bool} (m n : ℕ) → MarkOf cs 45 m → Goes (Marked []) Follows (m + 3) Here n → Left fresh m → Left false n
+  pub left_marked : {fresh : Bool} (m n : ℕ) → DocumentMarkOf cs 45 m → Goes (Marked []) Follows (m + 3) Here n → Left fresh m → Left false n
   left_marked {fresh} m n mark g x =
       let (k, o, us, vs, r, f, t) = shown_left fresh m x.from_place x.pieces x.stuck mark (seen_from x) in
       left_after false k n o vs t f.0 (follows_stuck k o f) (g.goes k o us r f)
 
-  pub no_marked : {fresh : Bool} (m : ℕ) → MarkOf cs 45 m → Refused (Marked []) Follows (m + 3) → Left fresh m → ⊥
+  pub no_marked : {fresh : Bool} (m : ℕ) → DocumentMarkOf cs 45 m → Refused (Marked []) Follows (m + 3) → Left fresh m → ⊥
   no_marked {fresh} m mark g x =
       let (k, o, us, vs, r, f, t) = shown_left fresh m x.from_place x.pieces x.stuck mark (seen_from x) in g.none k o us r f
 
   -- ---- a document after directives (9.1.5)
 
   -- the directives that were read, up to the document's mark
-  pub directed_marked : (m a : ℕ) (hs : Handles) → directives cs m a hs → MarkOf cs 45 a → Rest (directive_document cs Wide room) Follows m (Marked hs) Follows (a + 3)
+  pub directed_marked : (m a : ℕ) (hs : Handles) → directives cs m a hs → DocumentMarkOf cs 45 a → Rest (directive_document cs Wide room) Follows m (Marked hs) Follows (a + 3)
   unfolding directive_document
   directed_marked m a hs d mark = record { rest = go }
     where
@@ -114,7 +114,7 @@ module _ (cs : List ℕ) (Wide : Type 0) (room : ℕ) where
           (j, us, explicit_marked hs a j us (subst (λ z. explicit_document cs Wide room z a j us) (sym h.1) (subst (λ z. explicit_document cs Wide room gs z j us) (sym h.0) r)), f)
 
   -- no directives before a mark begin here
-  pub no_directives : (m : ℕ) → Refused (directives cs) (At (MarkOf cs 45)) m → Refused (directive_document cs Wide room) Follows m
+  pub no_directives : (m : ℕ) → Refused (directives cs) (At (DocumentMarkOf cs 45)) m → Refused (directive_document cs Wide room) Follows m
   unfolding directive_document
   no_directives m g = record { none = λ j o us (b, gs, e, r) f. g.none b b gs e (refl, documents.explicit_mark cs Wide room gs b j us r) }
 
@@ -125,7 +125,7 @@ module _ (cs : List ℕ) (Wide : Type 0) (room : ℕ) where
   -- ---- a document without a mark (9.1.3)
 
   -- after a document, with no suffix between, a mark or the end stands
-  pub no_second : (m : ℕ) → (AtEnd cs m → ⊥) → (Mark cs m → ⊥) → Left false m → ⊥
+  pub no_second : (m : ℕ) → (AtEnd cs m → ⊥) → (DocumentMark cs m → ⊥) → Left false m → ⊥
   no_second m e d x = go (lands_false cs Wide room x.from_place x.pieces x.tail)
     where
       held : Less cs 0 m → ⊥
@@ -145,7 +145,7 @@ module _ (cs : List ℕ) (Wide : Type 0) (room : ℕ) where
   Unparted = bare_document cs Wide room [] ∪ directive_document cs Wide room
 
   -- content: a document's node from the line that the comments come to, or directives
-  unparted_left : (fresh : Bool) (m h : ℕ) (xs : List Piece) → Stuck cs m → (AtEnd cs m → ⊥) → (Mark cs m → ⊥) → View cs Wide room fresh h m xs →
+  unparted_left : (fresh : Bool) (m h : ℕ) (xs : List Piece) → Stuck cs m → (AtEnd cs m → ⊥) → (DocumentMark cs m → ⊥) → View cs Wide room fresh h m xs →
       (k : ℕ) × (o : ℕ) × (us : List Event) × (vs : List Piece) × Unparted m k us × Follows k o × Tail cs Wide room false k vs
   unfolding bare_document
   unparted_left fresh m h xs st en mn (v_over e f) = absurd (en e)
@@ -159,21 +159,16 @@ module _ (cs : List ℕ) (Wide : Type 0) (room : ℕ) where
       let to : StartsLine cs m = line_of cs Wide room m (after_comments cs Wide room c a) en in
       (k, o, es, vs, inl ((λ x y z. u x (omega (arith, y, le)) z), root_again cs g m (inr (at, c)) st to Wide [] room k es r), (d, w), t)
 
-  pub left_unparted : {fresh : Bool} (m n : ℕ) → (AtEnd cs m → ⊥) → (Mark cs m → ⊥) → Goes Unparted Follows m Here n → Left fresh m → Left false n
+  pub left_unparted : {fresh : Bool} (m n : ℕ) → (AtEnd cs m → ⊥) → (DocumentMark cs m → ⊥) → Goes Unparted Follows m Here n → Left fresh m → Left false n
   left_unparted {fresh} m n e d g x =
       let (k, o, us, vs, r, f, t) = unparted_left fresh m x.from_place x.pieces x.stuck e d (seen_from x) in
       left_after false k n o vs t f.0 (follows_stuck k o f) (g.goes k o us r f)
 
-  pub no_unparted : {fresh : Bool} (m : ℕ) → (AtEnd cs m → ⊥) → (Mark cs m → ⊥) → Refused Unparted Follows m → Left fresh m → ⊥
+  pub no_unparted : {fresh : Bool} (m : ℕ) → (AtEnd cs m → ⊥) → (DocumentMark cs m → ⊥) → Refused Unparted Follows m → Left fresh m → ⊥
   no_unparted {fresh} m e d g x =
       let (k, o, us, vs, r, f, t) = unparted_left fresh m x.from_place x.pieces x.stuck e d (seen_from x) in g.none k o us r f
 
   -- ---- the document's own clauses
-
-  -- a document of a node from a line's start; Marks may not stand in it
-  pub bare_goes : (handles : Handles) (m n : ℕ) → Goes (reads cs Wide handles room (block_part 0 block_in)) Follows m Here n → Goes (bare_document cs Wide room handles) Follows m Here n
-  unfolding bare_document
-  bare_goes handles m n g = record { goes = λ j o v (u, r) f. g.goes j o v r f }
 
   pub bare_refused : (handles : Handles) (m : ℕ) → Refused (reads cs Wide handles room (block_part 0 block_in)) Follows m → Refused (bare_document cs Wide room handles) Follows m
   unfolding bare_document

@@ -6,16 +6,16 @@ use Rattle.yaml_unique.specs.Readings.{End}
 use Rattle.yaml_unique.specs.Follows.{Closes, Colon, ColonY}
 
 module _ (cs : List ℕ) (n : ℕ) where
-  abbrev pub Gap : Span
-  Gap = maybe (separate cs n flow_in)
+  abbrev pub OptionalSeparation : Span
+  OptionalSeparation = maybe (separate cs n flow_in)
 
   -- after a part: separation, and a comma or a closing bracket
   abbrev pub InFlow : End
-  InFlow j m = Gap j m × Closes cs m
+  InFlow j m = OptionalSeparation j m × Closes cs m
 
   -- after a node: the same, or the colon that makes it a key
   abbrev pub EndsYaml : ℕ → Type 0
-  EndsYaml j = (q : ℕ) × Gap j q × (Closes cs q ⊎ ColonY cs q)
+  EndsYaml j = (q : ℕ) × OptionalSeparation j q × (Closes cs q ⊎ ColonY cs q)
 
   abbrev pub EndsJson : ℕ → Type 0
-  EndsJson j = (q : ℕ) × Gap j q × (Closes cs q ⊎ Colon cs q)
+  EndsJson j = (q : ℕ) × OptionalSeparation j q × (Closes cs q ⊎ Colon cs q)

@@ -58,7 +58,7 @@ pushed_some : (xs : List ℕ) (c : ℕ) → is_empty (xs ++ (c ∷ [])) ≡ fals
 pushed_some [] c = refl
 pushed_some (d ∷ xs) c = refl
 
-other_last : (xs : List ℕ) (c : ℕ) → (c == 48) ≡ false → without_last_zeros (xs ++ (c ∷ [])) ≡ xs ++ (c ∷ [])
+pub other_last : (xs : List ℕ) (c : ℕ) → (c == 48) ≡ false → without_last_zeros (xs ++ (c ∷ [])) ≡ xs ++ (c ∷ [])
 unfolding without_last_zeros
 other_last [] c h = rw h refl
 other_last (d ∷ xs) c h = let i = other_last xs c h in rw (i, pushed_some xs c, and_false (d == 48)) refl

@@ -14,7 +14,7 @@ use Rattle.yaml_text.proofs.Members.{and_both, both_and}
 use Rattle.yaml_core.specs.Answer.{IsContent, RefusesValue, IsDecimalContent, RefusesDecimal}
 use Rattle.yaml_core.specs.State.{is_e, is_point, all_digits}
 use Rattle.yaml_core.specs.Digits.{without_zeros, without_last_zeros}
-use Rattle.yaml_core.specs.Decimal.{or_nothing, IsCut, With, scale_of, significant, mantissa_text, float_text}
+use Rattle.yaml_core.specs.Decimal.{or_nothing, AreParts, With, scale_of, significant, mantissa_text, float_text}
 use Rattle.yaml_core.specs.declared.scalar.CoreFault.{CoreFault}
 use Rattle.yaml_core.specs.declared.scalar.CoreFault.TheVariants as faults
 use Rattle.yaml_core.proofs.StateLemmas.{and_false}
@@ -59,7 +59,7 @@ mantissa_reads n w (Some p) e h = by (all_digits 10 w && (all_digits 10 p && not
         record { whole = f.0; part = (and_both (all_digits 10 p) (not (is_empty w && is_empty p)) f.1).0; some = s.0; value = λ k g. q ∙ s.1 k g }
     by false d = let g : false ≡ true = sym (ap (λ b. is_some (cond b (scaled n w p e) None)) d) ∙ h in absurd (cc)
 
-pub decimal_reads : (x whole part : List ℕ) (y : Option (List ℕ)) → IsCut x whole part y → is_some (decimal_of x) ≡ true → Reads (is_negative x) whole part (exponent_of y) (decimal_of x)
+pub decimal_reads : (x whole part : List ℕ) (y : Option (List ℕ)) → AreParts x whole part y → is_some (decimal_of x) ≡ true → Reads (is_negative x) whole part (exponent_of y) (decimal_of x)
 unfolding decimal_of
 decimal_reads x whole part y c h =
     let cut = split_at is_e (unsigned x) in
@@ -93,7 +93,7 @@ empty_map : (z : List ℕ) → is_empty (map digit_value z) ≡ is_empty z
 empty_map [] = refl
 empty_map (c ∷ z) = refl
 
-trimmed_digits : (z : List ℕ) → all_digits 10 z ≡ true → trimmed (map digit_value z) ≡ map digit_value (without_last_zeros z)
+pub trimmed_digits : (z : List ℕ) → all_digits 10 z ≡ true → trimmed (map digit_value z) ≡ map digit_value (without_last_zeros z)
 unfolding trimmed without_last_zeros
 trimmed_digits [] h = refl
 trimmed_digits (c ∷ z) h =

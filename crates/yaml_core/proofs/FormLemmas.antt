@@ -6,9 +6,9 @@ use Rattle.std.specs.Char.{is_digit}
 use Rattle.std.proofs.lemmas.Bool.{cond_both, eqb-true}
 use Rattle.std.proofs.lemmas.Bool.Decides.{nat_tests}
 use lib.Pointwise.{bytes_decides}
-use Rattle.yaml_text.specs.Core.{not_a_number, one_of, are_digits, number_in, unsigned, after, digits_after, split_at, decimal_of, bool_of, int_of, float_of, is_null}
+use Rattle.yaml_text.specs.Core.{not_a_number, one_of, are_digits, number_in, unsigned, after_prefix, digits_after, split_at, decimal_of, bool_of, int_of, float_of, is_null}
 use Rattle.yaml_text.proofs.Members.{and_both}
-use Rattle.yaml_core.specs.Form.{table_kind, kind_of, form_of, bool_form, infinity_words, nan_words}
+use Rattle.yaml_core.specs.Form.{table_kind, form_kind, form_of, by_bool, infinity_words, nan_words}
 use Rattle.yaml_core.specs.State.{is_e, is_point, all_digits, float_rest}
 use Rattle.yaml_core.specs.Values.{Values, HasValues}
 use Rattle.yaml_core.specs.declared.form.Form.{Form}
@@ -100,7 +100,7 @@ decimals x n b d =
 abbrev Marked : ℕ → ℕ → List ℕ → Type 0
 Marked mark base x = (y : List ℕ) × (x ≡ 48 ∷ mark ∷ y) × (are_digits base y ≡ true)
 
-marked_parts : (mark base : ℕ) (x : List ℕ) → is_some (digits_after base (after 48 mark x)) ≡ true → Marked mark base x
+marked_parts : (mark base : ℕ) (x : List ℕ) → is_some (digits_after base (after_prefix 48 mark x)) ≡ true → Marked mark base x
 marked_parts mark base [] h = absurd (cc)
 marked_parts mark base (c ∷ []) h = absurd (cc)
 marked_parts mark base (c ∷ d ∷ y) h = by (c == 48 && d == mark) refl
@@ -118,7 +118,7 @@ marked_parts mark base (c ∷ d ∷ y) h = by (c == 48 && d == mark) refl
         (y, (λ i. k i ∷ m i ∷ y), sym (last (are_digits base y)) ∙ h1)
     by false e = let g : false ≡ true = ap (λ b. is_some (digits_after base (cond b (Some y) None))) (sym e) ∙ h in absurd (cc)
 
-octals : (x : List ℕ) → is_some (digits_after 8 (after 48 111 x)) ≡ true → HasValues forms.Octal x
+octals : (x : List ℕ) → is_some (digits_after 8 (after_prefix 48 111 x)) ≡ true → HasValues forms.Octal x
 unfolding is_null bool_of int_of float_of
 octals x h =
     let m = marked_parts 111 8 x h in
@@ -126,7 +126,7 @@ octals x h =
     none (decimal_of (48 ∷ 111 ∷ m.0)) (decimal_is (48 ∷ 111 ∷ m.0) ∙ (float_digit false 48 (111 ∷ m.0) refl refl refl ∙ float_other true 111 m.0 refl refl refl)) in
     subst (HasValues forms.Octal) (sym m.1) (record { null = refl; bool = refl; int = rw m.2 refl; float = f }, m.2)
 
-hexadecimals : (x : List ℕ) → is_some (digits_after 16 (after 48 120 x)) ≡ true → HasValues forms.Hexadecimal x
+hexadecimals : (x : List ℕ) → is_some (digits_after 16 (after_prefix 48 120 x)) ≡ true → HasValues forms.Hexadecimal x
 unfolding is_null bool_of int_of float_of
 hexadecimals x h =
     let m = marked_parts 120 16 x h in
@@ -139,24 +139,24 @@ hexadecimals x h =
 abbrev number_form : List ℕ → Form
 number_form x =
     if are_digits 10 (unsigned x) then forms.Decimal
-    else if is_some (digits_after 8 (after 48 111 x)) then forms.Octal
-    else if is_some (digits_after 16 (after 48 120 x)) then forms.Hexadecimal
+    else if is_some (digits_after 8 (after_prefix 48 111 x)) then forms.Octal
+    else if is_some (digits_after 16 (after_prefix 48 120 x)) then forms.Hexadecimal
     else if one_of nan_words x then forms.NotANumber
     else if one_of infinity_words (unsigned x) then forms.Infinity
     else if is_some (decimal_of x) then forms.Float
     else forms.Other
 
-no_int : (x : List ℕ) → are_digits 10 (unsigned x) ≡ false → is_some (digits_after 8 (after 48 111 x)) ≡ false → is_some (digits_after 16 (after 48 120 x)) ≡ false → int_of x ≡ None
+no_int : (x : List ℕ) → are_digits 10 (unsigned x) ≡ false → is_some (digits_after 8 (after_prefix 48 111 x)) ≡ false → is_some (digits_after 16 (after_prefix 48 120 x)) ≡ false → int_of x ≡ None
 unfolding int_of
-no_int x d o h = rw (d, none (digits_after 8 (after 48 111 x)) o, none (digits_after 16 (after 48 120 x)) h) refl
+no_int x d o h = rw (d, none (digits_after 8 (after_prefix 48 111 x)) o, none (digits_after 16 (after_prefix 48 120 x)) h) refl
 
 numbers : (x : List ℕ) → is_null x ≡ false → bool_of x ≡ None → HasValues (number_form x) x
 unfolding float_of
 numbers x n b =
     let P : Form → Type 0 = λ f. HasValues f x in
     cond_both (are_digits 10 (unsigned x)) _ _ P (λ d. decimals x n b d) (λ d.
-    cond_both (is_some (digits_after 8 (after 48 111 x))) _ _ P (λ o. octals x o) (λ o.
-    cond_both (is_some (digits_after 16 (after 48 120 x))) _ _ P (λ h. hexadecimals x h) (λ h.
+    cond_both (is_some (digits_after 8 (after_prefix 48 111 x))) _ _ P (λ o. octals x o) (λ o.
+    cond_both (is_some (digits_after 16 (after_prefix 48 120 x))) _ _ P (λ h. hexadecimals x h) (λ h.
     let i = no_int x d o h in
     cond_both (one_of nan_words x) _ _ P (λ q. nans x q) (λ q.
     cond_both (one_of infinity_words (unsigned x)) _ _ P (λ t. record { null = n; bool = b; int = i; float = rw (q, t) refl }) (λ t.
@@ -167,13 +167,13 @@ pub values : (x : List ℕ) → HasValues (form_of x) x
 unfolding form_of bool_of
 values x =
     cond_both (is_null x) _ _ (λ f. HasValues f x) (λ n. nulls x n) (λ n.
-    cond_both (one_of true_words x) _ _ (λ o. HasValues (bool_form o (number_form x)) x) (λ t. trues x t) (λ t.
-    cond_both (one_of false_words x) _ _ (λ o. HasValues (bool_form o (number_form x)) x) (λ f. falses x f) (λ f.
+    cond_both (one_of true_words x) _ _ (λ o. HasValues (by_bool o (number_form x)) x) (λ t. trues x t) (λ t.
+    cond_both (one_of false_words x) _ _ (λ o. HasValues (by_bool o (number_form x)) x) (λ f. falses x f) (λ f.
     numbers x n (rw (t, f) refl))))
 
 -- ---- the kind
 
-kinds_by : (f : Form) (x : List ℕ) → HasValues f x → kind_of f ≡ table_kind x
+kinds_by : (f : Form) (x : List ℕ) → HasValues f x → form_kind f ≡ table_kind x
 unfolding table_kind
 kinds_by forms.Null x v = rw v.null refl
 kinds_by forms.True x v = rw (v.null, v.bool) refl
@@ -186,5 +186,5 @@ kinds_by forms.Infinity x v = rw (v.null, v.bool, v.int, v.float) refl
 kinds_by forms.NotANumber x v = rw (v.null, v.bool, v.int, v.float) refl
 kinds_by forms.Other x v = rw (v.null, v.bool, v.int, v.float) refl
 
-pub kind_is : (x : List ℕ) → kind_of (form_of x) ≡ table_kind x
+pub kind_is : (x : List ℕ) → form_kind (form_of x) ≡ table_kind x
 kind_is x = kinds_by (form_of x) x (values x)

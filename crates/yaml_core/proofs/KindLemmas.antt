@@ -2,7 +2,7 @@
 use Rattle.std.proofs.Common.{◌≡◌, ℕ, true, ◌⊎◌, inl, inr, Option, Some, None, Result, Ok, Err, List, pos, drop, codes, refl, sym, ◌∙◌, ap, subst}
 use Rattle.std.specs.Prelude.{MatchResult, is_some}
 use Rattle.yaml_text.specs.Tag.{null_tag, bool_tag, int_tag, float_tag}
-use Rattle.yaml_text.specs.Core.{bad_content, Value, int_value, infinity, number_in, is_negative, decimal_of, null_of, content_of, refused, Resolved, accepted, taken, by_pattern}
+use Rattle.yaml_text.specs.Core.{bad_content, Value, int_value, infinity, number_in, is_negative, decimal_of, null_of, content_of, refused, Resolved, accepted, by_range, by_pattern}
 use Rattle.yaml_core.specs.Answer.{RefusesScalar, RefusesValue, IsContent, IsDecimalContent, RefusesDecimal}
 use Rattle.yaml_core.specs.Form.{form_of}
 use Rattle.yaml_core.specs.Kind.{of_kind, word_of}
@@ -71,17 +71,17 @@ bool_resolved bytes f x (Err fault) e h = subst (RefusesScalar (of_kind kinds.Bo
 
 -- ---- values
 
-taken_content : (g : List ℕ) (v : Value) (x : List ℕ) → IsContent v x → taken g v ≡ Ok (g, x)
+taken_content : (g : List ℕ) (v : Value) (x : List ℕ) → IsContent v x → by_range g v ≡ Ok (g, x)
 taken_content g v x h = ap (accepted g v) h.0 ∙ ap (λ z. Ok (g, z)) (sym h.1)
 
-taken_refused : (g : List ℕ) (v : Value) (fault : CoreFault) → RefusesValue (refused v) fault → RefusesScalar (taken g v) fault
+taken_refused : (g : List ℕ) (v : Value) (fault : CoreFault) → RefusesValue (refused v) fault → RefusesScalar (by_range g v) fault
 taken_refused g v faults.WrongKind h = absurd h
 taken_refused g v faults.BadContent h = absurd h
 taken_refused g v faults.IntRange h = ap (accepted g v) h
 taken_refused g v faults.FloatRange h = ap (accepted g v) h
 taken_refused g v faults.OutOfMemory h = tt
 
-pub taken_resolved : {A : Type 0} (bytes : A → List ℕ) (g : List ℕ) (found : Resolved) (v : Value) (r : Result A CoreFault) → found ≡ taken g v
+pub taken_resolved : {A : Type 0} (bytes : A → List ℕ) (g : List ℕ) (found : Resolved) (v : Value) (r : Result A CoreFault) → found ≡ by_range g v
     → MatchResult r (λ c. IsContent v (bytes c)) (RefusesValue (refused v)) → IsResolved bytes g found r
 taken_resolved bytes g found v (Ok c) e h = e ∙ taken_content g v (bytes c) h
 taken_resolved bytes g found v (Err fault) e h = subst (λ t. RefusesScalar t fault) (sym e) (taken_refused g v fault h)
@@ -94,15 +94,15 @@ decimal_resolved bytes g found None (Err fault) e h = absurd h
 
 -- ---- ints
 
-pub int_decimal : (f : Form) (x : List ℕ) → f ≡ form_of x → f ≡ forms.Decimal → of_kind kinds.Int x ≡ taken int_tag (int_value (decimal_int x))
+pub int_decimal : (f : Form) (x : List ℕ) → f ≡ form_of x → f ≡ forms.Decimal → of_kind kinds.Int x ≡ by_range int_tag (int_value (decimal_int x))
 unfolding of_kind
 int_decimal f x e k = let v = has forms.Decimal x (sym k ∙ e) in rw v.0.int refl
 
-pub int_octal : (f : Form) (x : List ℕ) → f ≡ form_of x → f ≡ forms.Octal → of_kind kinds.Int x ≡ taken int_tag (int_value (pos (number_in 8 (drop 2 x))))
+pub int_octal : (f : Form) (x : List ℕ) → f ≡ form_of x → f ≡ forms.Octal → of_kind kinds.Int x ≡ by_range int_tag (int_value (pos (number_in 8 (drop 2 x))))
 unfolding of_kind
 int_octal f x e k = let v = has forms.Octal x (sym k ∙ e) in rw v.0.int refl
 
-pub int_hexadecimal : (f : Form) (x : List ℕ) → f ≡ form_of x → f ≡ forms.Hexadecimal → of_kind kinds.Int x ≡ taken int_tag (int_value (pos (number_in 16 (drop 2 x))))
+pub int_hexadecimal : (f : Form) (x : List ℕ) → f ≡ form_of x → f ≡ forms.Hexadecimal → of_kind kinds.Int x ≡ by_range int_tag (int_value (pos (number_in 16 (drop 2 x))))
 unfolding of_kind
 int_hexadecimal f x e k = let v = has forms.Hexadecimal x (sym k ∙ e) in rw v.0.int refl
 

@@ -8,3 +8,5 @@ mod IntLemmas
 mod ResolveLemmas
 mod CutLemmas
 mod DecimalLemmas
+mod ContentForms
+mod ResolvedForms

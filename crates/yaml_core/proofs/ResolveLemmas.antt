@@ -6,7 +6,7 @@ use lib.Pointwise.{bytes_decides}
 use Rattle.yaml_text.specs.Tag.{core_tag, null_tag, bool_tag, int_tag, float_tag, seq_tag, map_tag}
 use Rattle.yaml_text.specs.Core.{wrong_kind, bad_content, Value, null_of, bool_of, int_of, float_of, as_bool, as_int, Resolved, by_pattern, by_table, by_tag}
 use Rattle.yaml_text.proofs.CoreLaws.{pattern_parts, wrong}
-use Rattle.yaml_core.specs.Form.{kind_of, form_of}
+use Rattle.yaml_core.specs.Form.{form_kind, form_of}
 use Rattle.yaml_core.specs.Kind.{kind_tag, of_kind, use_of, has_value}
 use Rattle.yaml_core.specs.Values.{HasValues}
 use Rattle.yaml_core.specs.declared.kind.PlainKind.{PlainKind}
@@ -23,7 +23,7 @@ found : (g : List ℕ) (o : Option Value) (r s : Resolved) → is_some o ≡ tru
 found g (Some v) r s h = refl
 found g None r s h = absurd (cc)
 
-table_by : (f : Form) (x : List ℕ) → HasValues f x → by_table x ≡ of_kind (kind_of f) x
+table_by : (f : Form) (x : List ℕ) → HasValues f x → by_table x ≡ of_kind (form_kind f) x
 unfolding by_table of_kind null_of
 table_by forms.Null x v = rw v.null refl
 table_by forms.True x v = rw (v.null, v.bool) refl
@@ -36,7 +36,7 @@ table_by forms.Infinity x v = rw (v.null, v.bool, v.int, v.float) refl
 table_by forms.NotANumber x v = rw (v.null, v.bool, v.int, v.float) refl
 table_by forms.Other x v = rw (v.null, v.bool, v.int, v.float) refl
 
-pub table_is : (x : List ℕ) → by_table x ≡ of_kind (kind_of (form_of x)) x
+pub table_is : (x : List ℕ) → by_table x ≡ of_kind (form_kind (form_of x)) x
 table_is x = table_by (form_of x) x (values x)
 
 -- ---- by a tag

@@ -2,9 +2,9 @@
 use Rattle.std.proofs.Common.{◌≡◌, ℕ, Bool, true, false, cond, not, ◌&&◌, ◌||◌, ◌==◌, if◌then◌else◌, Option, Some, None, List, [], ◌∷◌, codes, refl, sym, ◌∙◌, ap}
 use Rattle.std.specs.Prelude.{bytes_eq, is_some}
 use Rattle.std.specs.Char.{is_digit}
-use Rattle.yaml_text.specs.Core.{one_of, are_digits, is_empty, unsigned, is_negative, after, digits_after, split_at, exponent_of, scaled, mantissa, decimal_of, bool_of, is_null}
-use Rattle.yaml_core.specs.Form.{form_of, bool_form, infinity_words, nan_words}
-use Rattle.yaml_core.specs.State.{is_e, is_point, all_digits, exponent_fits, number_fits, float_rest, fraction_rest, marked, by_test}
+use Rattle.yaml_text.specs.Core.{one_of, are_digits, is_empty, unsigned, is_negative, after_prefix, digits_after, split_at, exponent_of, scaled, mantissa, decimal_of, bool_of, is_null}
+use Rattle.yaml_core.specs.Form.{form_of, by_bool, infinity_words, nan_words}
+use Rattle.yaml_core.specs.State.{is_e, is_point, all_digits, exponent_fits, number_fits, float_rest, fraction_rest, prefixed, by_test}
 use Rattle.yaml_core.specs.declared.form.Form.{Form}
 use Rattle.yaml_core.specs.declared.form.Form.TheVariants as forms
 use Rattle.yaml_core.proofs.StateLemmas.{or_false, and_true, float_digit, float_point, float_none, no_infinity, no_nan}
@@ -44,11 +44,11 @@ decimal_is x =
 
 -- ---- marks of a base
 
-after_none : (a b c : ℕ) (r : List ℕ) → (c == a) ≡ false → after a b (c ∷ r) ≡ None
+after_none : (a b c : ℕ) (r : List ℕ) → (c == a) ≡ false → after_prefix a b (c ∷ r) ≡ None
 after_none a b c [] e = refl
 after_none a b c (d ∷ r) e = rw e refl
 
-some_after : (mark base : ℕ) (r : List ℕ) → is_some (digits_after base (after 48 mark (48 ∷ r))) ≡ marked mark base r
+some_after : (mark base : ℕ) (r : List ℕ) → is_some (digits_after base (after_prefix 48 mark (48 ∷ r))) ≡ prefixed mark base r
 some_after mark base [] = refl
 some_after mark base (d ∷ x) = by (d == mark)
   where
@@ -77,7 +77,7 @@ unfolding bool_of
 not_bool c r w = rw (w.yes, w.capital_yes, w.nay, w.capital_nay) refl
 
 abbrev letter_form : List ℕ → Form
-letter_form x = if is_null x then forms.Null else bool_form (bool_of x) forms.Other
+letter_form x = if is_null x then forms.Null else by_bool (bool_of x) forms.Other
 
 -- what begins with a letter is a word or nothing
 letter : (c : ℕ) (r : List ℕ) → (c == 43 || c == 45) ≡ false → is_digit c 10 ≡ false → is_point c ≡ false → (c == 48) ≡ false → form_of (c ∷ r) ≡ letter_form (c ∷ r)
@@ -87,11 +87,11 @@ letter c r s d p z =
     let f : is_some (decimal_of (c ∷ r)) ≡ false = decimal_is (c ∷ r) ∙ (ap (float_rest false) m ∙ float_none c r d p) in
     rw (f, m, d, after_none 48 111 c r z, after_none 48 120 c r z, no_nan c r p, no_infinity c r p) refl
 
-when_true : (b : Bool) → bool_form (if b then Some true else None) forms.Other ≡ by_test b forms.True
+when_true : (b : Bool) → by_bool (if b then Some true else None) forms.Other ≡ by_test b forms.True
 when_true true = refl
 when_true false = refl
 
-when_false : (b : Bool) → bool_form (if b then Some false else None) forms.Other ≡ by_test b forms.False
+when_false : (b : Bool) → by_bool (if b then Some false else None) forms.Other ≡ by_test b forms.False
 when_false true = refl
 when_false false = refl
 
@@ -151,7 +151,7 @@ start_digit c r w s d e p z =
 
 pub start_zero : (c : ℕ) (r : List ℕ) → c ≡ 48
     → form_of (c ∷ r)
-    ≡ (if all_digits 10 r then forms.Decimal else if marked 111 8 r then forms.Octal else if marked 120 16 r then forms.Hexadecimal else by_test (float_rest true r) forms.Float)
+    ≡ (if all_digits 10 r then forms.Decimal else if prefixed 111 8 r then forms.Octal else if prefixed 120 16 r then forms.Hexadecimal else by_test (float_rest true r) forms.Float)
 unfolding form_of is_null bool_of
 start_zero c r e =
     let f : is_some (decimal_of (48 ∷ r)) ≡ float_rest true r = decimal_is (48 ∷ r) ∙ float_digit false 48 r refl refl refl in

@@ -4,7 +4,7 @@ use Rattle.std.specs.Prelude.{bytes_eq}
 use Rattle.std.specs.Char.{is_digit}
 use Rattle.yaml_text.specs.Core.{one_of, are_digits, unsigned, split_at}
 use Rattle.yaml_core.specs.Form.{infinity_words, nan_words}
-use Rattle.yaml_core.specs.State.{is_e, is_point, all_digits, exponent_fits, number_fits, float_rest, fraction_rest, marked, by_test}
+use Rattle.yaml_core.specs.State.{is_e, is_point, all_digits, exponent_fits, number_fits, float_rest, fraction_rest, prefixed, by_test}
 use Rattle.yaml_core.specs.declared.form.Form.{Form}
 use Rattle.yaml_core.specs.declared.form.Form.TheVariants as forms
 
@@ -133,8 +133,8 @@ sign_other c r d p = rw (d, no_infinity c r p, float_none c r d p) refl
 abbrev zero_rest : List ℕ → Form
 zero_rest r =
     if all_digits 10 r then forms.Decimal
-    else if marked 111 8 r then forms.Octal
-    else if marked 120 16 r then forms.Hexadecimal
+    else if prefixed 111 8 r then forms.Octal
+    else if prefixed 120 16 r then forms.Hexadecimal
     else by_test (float_rest true r) forms.Float
 
 pub zero_octal : (c : ℕ) (r : List ℕ) → c ≡ 111 → zero_rest (c ∷ r) ≡ by_test (are_digits 8 r) forms.Octal

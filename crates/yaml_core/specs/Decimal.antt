@@ -10,8 +10,8 @@ or_nothing None = []
 or_nothing (Some x) = x
 
 -- the digits before and after the point, and what stands after the `e`
-abbrev pub IsCut : (x whole part : List ℕ) → (exponent : Option (List ℕ)) → Type 0
-IsCut x whole part exponent =
+abbrev pub AreParts : (x whole part : List ℕ) → (exponent : Option (List ℕ)) → Type 0
+AreParts x whole part exponent =
     let cut = split_at is_e (unsigned x) in
     let number = split_at is_point cut.0 in
     (whole ≡ number.0) × (part ≡ or_nothing number.1) × (exponent ≡ cut.1)

@@ -1,6 +1,6 @@
 -- What a text is by the patterns of the core schema.
 use Rattle.std.specs.Prelude.{ℕ, Bool, true, false, if◌then◌else◌, List, [], ◌∷◌, codes, Option, Some, None, is_some}
-use Rattle.yaml_text.specs.Core.{one_of, are_digits, unsigned, after, digits_after, decimal_of, bool_of, int_of, float_of, is_null}
+use Rattle.yaml_text.specs.Core.{one_of, are_digits, unsigned, after_prefix, digits_after, decimal_of, bool_of, int_of, float_of, is_null}
 use Rattle.yaml_core.specs.declared.kind.PlainKind.{PlainKind}
 use Rattle.yaml_core.specs.declared.kind.PlainKind.TheVariants as kinds
 use Rattle.yaml_core.specs.declared.form.Form.{Form}
@@ -21,33 +21,33 @@ nan_words = codes ".nan" ∷ codes ".NaN" ∷ codes ".NAN" ∷ []
 abbrev pub infinity_words : List (List ℕ)
 infinity_words = codes ".inf" ∷ codes ".Inf" ∷ codes ".INF" ∷ []
 
-abbrev pub bool_form : Option Bool → Form → Form
-bool_form (Some true) or = forms.True
-bool_form (Some false) or = forms.False
-bool_form None or = or
+abbrev pub by_bool : Option Bool → Form → Form
+by_bool (Some true) or = forms.True
+by_bool (Some false) or = forms.False
+by_bool None or = or
 
 -- the patterns of the table, each by itself
 unfoldable pub form_of : List ℕ → Form
 form_of x =
     if is_null x then forms.Null
-    else bool_form (bool_of x) (
+    else by_bool (bool_of x) (
     if are_digits 10 (unsigned x) then forms.Decimal
-    else if is_some (digits_after 8 (after 48 111 x)) then forms.Octal
-    else if is_some (digits_after 16 (after 48 120 x)) then forms.Hexadecimal
+    else if is_some (digits_after 8 (after_prefix 48 111 x)) then forms.Octal
+    else if is_some (digits_after 16 (after_prefix 48 120 x)) then forms.Hexadecimal
     else if one_of nan_words x then forms.NotANumber
     else if one_of infinity_words (unsigned x) then forms.Infinity
     else if is_some (decimal_of x) then forms.Float
     else forms.Other)
 
 -- the kind that a form belongs to
-abbrev pub kind_of : Form → PlainKind
-kind_of forms.Null = kinds.Null
-kind_of forms.True = kinds.Bool
-kind_of forms.False = kinds.Bool
-kind_of forms.Decimal = kinds.Int
-kind_of forms.Octal = kinds.Int
-kind_of forms.Hexadecimal = kinds.Int
-kind_of forms.Float = kinds.Float
-kind_of forms.Infinity = kinds.Float
-kind_of forms.NotANumber = kinds.Float
-kind_of forms.Other = kinds.Str
+abbrev pub form_kind : Form → PlainKind
+form_kind forms.Null = kinds.Null
+form_kind forms.True = kinds.Bool
+form_kind forms.False = kinds.Bool
+form_kind forms.Decimal = kinds.Int
+form_kind forms.Octal = kinds.Int
+form_kind forms.Hexadecimal = kinds.Int
+form_kind forms.Float = kinds.Float
+form_kind forms.Infinity = kinds.Float
+form_kind forms.NotANumber = kinds.Float
+form_kind forms.Other = kinds.Str

@@ -42,9 +42,9 @@ fraction_rest seen r =
     (all_digits 10 cut.0 && (seen || not (is_empty cut.0))) && exponent_fits cut.1
 
 -- a mark and digits of a base
-abbrev pub marked : ℕ → ℕ → List ℕ → Bool
-marked mark base [] = false
-marked mark base (c ∷ x) = c == mark && are_digits base x
+abbrev pub prefixed : ℕ → ℕ → List ℕ → Bool
+prefixed mark base [] = false
+prefixed mark base (c ∷ x) = c == mark && are_digits base x
 
 abbrev pub by_test : Bool → Form → Form
 by_test b f = if b then f else forms.Other
@@ -57,8 +57,8 @@ meaning states.Sign r =
     else by_test (float_rest false r) forms.Float
 meaning states.Zero r =
     if all_digits 10 r then forms.Decimal
-    else if marked 111 8 r then forms.Octal
-    else if marked 120 16 r then forms.Hexadecimal
+    else if prefixed 111 8 r then forms.Octal
+    else if prefixed 120 16 r then forms.Hexadecimal
     else by_test (float_rest true r) forms.Float
 meaning states.Digits r = if all_digits 10 r then forms.Decimal else by_test (float_rest true r) forms.Float
 meaning states.Point r =

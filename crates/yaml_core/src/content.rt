@@ -57,8 +57,8 @@ fn int_content<'a>(alloc: Global, form: Form, text: &'a str) -> Result<CowStr<'a
 {
     match form {
         Form::Decimal => int::decimal(alloc, text),
-        Form::Octal => int::marked(alloc, text, 8),
-        Form::Hexadecimal => int::marked(alloc, text, 16),
+        Form::Octal => int::prefixed(alloc, text, 8),
+        Form::Hexadecimal => int::prefixed(alloc, text, 16),
         _ => Err(CoreFault::BadContent),
     }
 }

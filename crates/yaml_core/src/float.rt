@@ -7,13 +7,13 @@ ghost use Rattle.std.specs.String.{string_bytes};
 ghost use Rattle.yaml_text.specs.Core.{infinity, is_negative, decimal_of, content_of, signed, exponent_of, exponent_text};
 ghost use Rattle.yaml_text.specs.Limits.{exponent_limit};
 ghost use Rattle.yaml_core.specs.Answer.{RefusesDecimal, IsDecimalContent};
-ghost use Rattle.yaml_core.specs.Decimal.{IsCut, With, scale_of, significant, float_text, mantissa_text, pointed_text};
+ghost use Rattle.yaml_core.specs.Decimal.{AreParts, With, scale_of, significant, float_text, mantissa_text, pointed_text};
 ghost use Rattle.yaml_core.specs.Digits.{without_zeros, without_last_zeros};
 
 use crate::int::number;
 use crate::scalar::CoreFault;
 use crate::text::{
-    Mark, cut, is_negative, push_natural, unsigned, without_last_zeros, without_zeros,
+    Delimiter, cut, is_negative, push_natural, unsigned, without_last_zeros, without_zeros,
 };
 use std::alloc::{AllocError, Global};
 use std::borrow::CowStr;
@@ -73,10 +73,10 @@ pub(crate) fn decimal<'a>(alloc: Global, text: &'a str) -> Result<CowStr<'a>, Co
 
 /// The parts of a float's text.
 fn take_apart<'a>(text: &'a str) -> Parts<'a>
-    ensures { IsCut text.now result.whole.now result.part.now (option_map (λ s. s.now) result.exponent) }
+    ensures { AreParts text.now result.whole.now result.part.now (option_map (λ s. s.now) result.exponent) }
 {
-    let (number, exponent) = cut(unsigned(text), Mark::Exponent);
-    let (whole, part) = cut(number, Mark::Point);
+    let (number, exponent) = cut(unsigned(text), Delimiter::Exponent);
+    let (whole, part) = cut(number, Delimiter::Point);
     Parts {
         whole,
         part: part.unwrap_or(""),

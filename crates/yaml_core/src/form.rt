@@ -1,6 +1,6 @@
 //! The one pass over a text that tells by which patterns of the core schema it matches.
 ghost use Rattle.std.specs.Prelude.{◌≡◌, ℕ, false, List, [], ◌∷◌, MatchOption, bytes_eq};
-ghost use Rattle.yaml_core.specs.Form.{form_of, kind_of};
+ghost use Rattle.yaml_core.specs.Form.{form_of, form_kind};
 ghost use Rattle.yaml_core.specs.State.{meaning, by_test};
 
 use crate::kind::PlainKind;
@@ -23,7 +23,7 @@ pub(crate) enum Form {
 impl Form {
     /// The kind of scalar that a plain text of this form is.
     pub(crate) fn kind(self) -> PlainKind
-        ensures { result ≡ kind_of self }
+        ensures { result ≡ form_kind self }
     {
         match self {
             Form::Null => PlainKind::Null,

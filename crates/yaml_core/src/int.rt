@@ -54,7 +54,11 @@ fn minus<'a>(alloc: Global, digits: &str) -> Result<CowStr<'a>, CoreFault>
 }
 
 /// The canonical content of an int in base 8 or 16, whose digits stand after two characters.
-pub(crate) fn marked<'a>(alloc: Global, text: &'a str, base: u128) -> Result<CowStr<'a>, CoreFault>
+pub(crate) fn prefixed<'a>(
+    alloc: Global,
+    text: &'a str,
+    base: u128,
+) -> Result<CowStr<'a>, CoreFault>
     requires least { 2 ≤ base }
     requires greatest { base ≤ 16 }
     requires digits { are_digits base (drop 2 text.now) ≡ true }

@@ -5,7 +5,7 @@ ghost use Rattle.std.specs.Str.{IsAscii};
 ghost use Rattle.std.specs.String.{string_bytes};
 ghost use Rattle.yaml_text.specs.Core.{is_negative, unsigned, split_at, natural_text};
 ghost use Rattle.yaml_core.specs.Digits.{without_zeros, without_last_zeros};
-ghost use Rattle.yaml_core.specs.Mark.{is_mark};
+ghost use Rattle.yaml_core.specs.Delimiter.{is_delimiter};
 
 use std::alloc::AllocError;
 
@@ -55,25 +55,25 @@ pub(crate) fn without_last_zeros(text: &str) -> &str
 
 /// What parts the text of a float.
 #[derive(Clone, Copy)]
-pub(crate) enum Mark {
+pub(crate) enum Delimiter {
     Point,
     Exponent,
 }
 
-impl Mark {
+impl Delimiter {
     fn is_at(self, byte: u8) -> bool
-        ensures { result ≡ is_mark self byte }
+        ensures { result ≡ is_delimiter self byte }
     {
         match self {
-            Mark::Point => byte == b'.',
-            Mark::Exponent => byte == b'e' || byte == b'E',
+            Delimiter::Point => byte == b'.',
+            Delimiter::Exponent => byte == b'e' || byte == b'E',
         }
     }
 }
 
 /// The text before the first mark of this kind, and the text after it where there is one.
-pub(crate) fn cut(text: &str, mark: Mark) -> (&str, Option<&str>)
-    ensures { (result.0.now, option_map (λ s. s.now) result.1) ≡ split_at (is_mark mark) text.now }
+pub(crate) fn cut(text: &str, mark: Delimiter) -> (&str, Option<&str>)
+    ensures { (result.0.now, option_map (λ s. s.now) result.1) ≡ split_at (is_delimiter mark) text.now }
 {
     let bytes = text.as_bytes();
     for (at, byte) in bytes.iter().enumerate() {

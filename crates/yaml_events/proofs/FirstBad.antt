@@ -9,10 +9,10 @@ use Rattle.yaml_text.specs.Event.{Event}
 use Rattle.yaml_text.specs.EventText.{IsSound, event_line, events_text}
 use Rattle.yaml_events.specs.Lines.{IsEventLine, IsOneLine, lines_text, IsBadBefore, IsFirstBadLine}
 use Rattle.yaml_events.specs.Parts.{IsLineOf}
-use Rattle.yaml_events.specs.Answer.{IsRefused, fault_of}
+use Rattle.yaml_events.specs.Answer.{RefusesEventText, fault_of}
 use Rattle.yaml_events.specs.declared.fault.LineFault.{LineFault}
 use Rattle.yaml_events.specs.declared.fault.LineFault.TheVariants.{NoEvent, OutOfMemory}
-use Rattle.yaml_events.proofs.Reading.{Refuses}
+use Rattle.yaml_events.proofs.Reading.{RefusesPart}
 use Rattle.yaml_events.proofs.LineText.{events_none, events_one_more}
 
 -- the text is the lines of these events, and then the rest
@@ -84,6 +84,6 @@ pub no_feed_left : (text rest : List ℕ) (events : List Event) (count number : 
 no_feed_left text rest events count number h n e o = first_bad text rest rest [] events count number h n (sym (append-nil rest)) o (some_left rest e)
 
 pub bad_line : (text rest line after : List ℕ) (events : List Event) (count number : ℕ) (e : LineFault) → IsRead text events rest count → number ≡ count + 1 → rest ≡ line ++ (10 ∷ after) → IsOneLine line
-    → Refuses e (IsLineOf line) → IsRefused text (fault_of e number)
+    → RefusesPart e (IsLineOf line) → RefusesEventText text (fault_of e number)
 bad_line text rest line after events count number NoEvent h n s o r = first_bad text rest line (10 ∷ after) events count number h n s o (refl, λ k. r k.0 (k.1, k.2))
 bad_line text rest line after events count number OutOfMemory h n s o r = tt

@@ -9,7 +9,7 @@ use Rattle.std.proofs.lemmas.Result.{err_from_is_err_and}
 use Rattle.percent_encoding.specs.declared.DecodeError.{DecodeError}
 use Rattle.percent_encoding.specs.declared.DecodeError.TheVariants as decoding
 use Rattle.yaml_events.specs.declared.fault.LineFault.{LineFault}
-use Rattle.yaml_events.specs.Answer.{Reads, decoding_fault}
+use Rattle.yaml_events.specs.Answer.{Parses, decoding_fault}
 use Rattle.std.specs.Str.{IsUtf8, is_utf8}
 use Rattle.std.specs.List.{All}
 use Rattle.std.proofs.lemmas.List.{append-nil}
@@ -77,12 +77,12 @@ encoding_tells b given text tag e f = (
 
 -- bytes that are no UTF-8 are no encoding of a tag
 pub undecoded : (text given : List ℕ) (r : Result (CowStr Global) LineFault) (e : DecodeError) → percent_decode given ≡ percent_decode text → IsErrAnd r (λ x. x ≡ decoding_fault e) → (IsUtf8 (percent_decode given) → e ≡ decoding.OutOfMemory)
-    → Reads (IsEncoded text) (IsEncoded text) cow_str_bytes r
+    → Parses (IsEncoded text) (IsEncoded text) cow_str_bytes r
 undecoded text given r e s was h =
     let q = err_from_is_err_and r was in
-    subst (Reads (IsEncoded text) (IsEncoded text) cow_str_bytes) (sym (q.1 ∙ ap Err q.2)) (by e h)
+    subst (Parses (IsEncoded text) (IsEncoded text) cow_str_bytes) (sym (q.1 ∙ ap Err q.2)) (by e h)
   where
-    by : (e : DecodeError) → (IsUtf8 (percent_decode given) → e ≡ decoding.OutOfMemory) → Reads {T = CowStr Global} (IsEncoded text) (IsEncoded text) cow_str_bytes (Err (decoding_fault e))
+    by : (e : DecodeError) → (IsUtf8 (percent_decode given) → e ≡ decoding.OutOfMemory) → Parses {T = CowStr Global} (IsEncoded text) (IsEncoded text) cow_str_bytes (Err (decoding_fault e))
     by (decoding.Utf8 place) f = λ a p. let q = f (subst IsUtf8 (sym (decoded_is text a p) ∙ sym s) (tag_utf8 a p.0)) in absurd (cc)
     by decoding.OutOfMemory f = tt
 

@@ -19,12 +19,12 @@ decoding_fault (decoding.Utf8 place) = NoEvent
 decoding_fault decoding.OutOfMemory = OutOfMemory
 
 -- A bad line is the first one; of want of memory nothing is said.
-abbrev pub IsRefused : List ℕ → EventFault → Type 0
-IsRefused text (text_faults.BadLine number) = IsFirstBadLine text number
-IsRefused text text_faults.OutOfMemory = Unit {0}
+abbrev pub RefusesEventText : List ℕ → EventFault → Type 0
+RefusesEventText text (text_faults.BadLine number) = IsFirstBadLine text number
+RefusesEventText text text_faults.OutOfMemory = Unit {0}
 
 -- The answer is one of the things looked for, and the only one that may be expected there; or nothing may be.
-abbrev pub Reads : {T A : Type 0} → (A → Type 0) → (A → Type 0) → (T → A) → Result T LineFault → Type 0
-Reads {A = A} Is Expected view (Ok x) = Is (view x) × ((a : A) → Expected a → view x ≡ a)
-Reads {A = A} Is Expected view (Err NoEvent) = (a : A) → Expected a → ⊥
-Reads Is Expected view (Err OutOfMemory) = Unit {0}
+abbrev pub Parses : {T A : Type 0} → (A → Type 0) → (A → Type 0) → (T → A) → Result T LineFault → Type 0
+Parses {A = A} Is Expected view (Ok x) = Is (view x) × ((a : A) → Expected a → view x ≡ a)
+Parses {A = A} Is Expected view (Err NoEvent) = (a : A) → Expected a → ⊥
+Parses Is Expected view (Err OutOfMemory) = Unit {0}

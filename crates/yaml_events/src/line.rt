@@ -6,7 +6,7 @@ ghost use Rattle.std.specs.Cow.{cow_str_bytes};
 ghost use Rattle.yaml_text.specs.EventModel.{event_of, style_of, written_of};
 ghost use Rattle.yaml_text.specs.EventText.{event_line, style_text};
 ghost use Rattle.yaml_text.specs.Event as plain;
-ghost use Rattle.yaml_events.specs.Answer.{Reads};
+ghost use Rattle.yaml_events.specs.Answer.{Parses};
 ghost use Rattle.yaml_events.specs.Parts.{IsProps, EndsProps, IsCut, EndsMark, IsMark, IsCollection, IsScalarLine, IsLineOf, IsBare, IsSigned};
 
 use crate::fault::LineFault;
@@ -22,7 +22,7 @@ fn read_properties<'a>(
     alloc: Global,
     text: &'a str,
 ) -> Result<(Option<CowStr<'a>>, EventTag<'a>, &'a str), LineFault>
-    ensures { Reads (IsProps text.now) (λ p. IsProps text.now p × EndsProps p)
+    ensures { Parses (IsProps text.now) (λ p. IsProps text.now p × EndsProps p)
         (λ r. (option_map cow_str_bytes r.0, written_of r.1, r.2.now)) result }
 {
     let (anchor, rest) = read_anchor(text)?;
@@ -48,7 +48,7 @@ fn read_collection<'a>(
     text: &'a str,
 ) -> Result<(bool, Option<CowStr<'a>>, EventTag<'a>), LineFault>
     requires { IsMark mark.now }
-    ensures { Reads (IsCollection mark.now text.now) (IsCollection mark.now text.now)
+    ensures { Parses (IsCollection mark.now text.now) (IsCollection mark.now text.now)
         (λ r. (r.0, option_map cow_str_bytes r.1, written_of r.2)) result }
 {
     let (flow, rest) = cut_mark(mark, text);
@@ -61,7 +61,7 @@ fn read_collection<'a>(
 
 /// The style that a sign before a value means, and the value.
 fn cut_sign<'a>(text: &'a str) -> Result<(Style, &'a str), LineFault>
-    ensures { Reads (IsSigned text.now) (IsSigned text.now) (λ r. (style_of r.0, r.1.now)) result }
+    ensures { Parses (IsSigned text.now) (IsSigned text.now) (λ r. (style_of r.0, r.1.now)) result }
 {
     if let Some(value) = text.strip_prefix(" :") {
         return Ok((Style::Plain, value));
@@ -86,7 +86,7 @@ fn read_scalar<'a>(
     alloc: Global,
     text: &'a str,
 ) -> Result<(Option<CowStr<'a>>, EventTag<'a>, Style, CowStr<'a>), LineFault>
-    ensures reads { Reads (IsScalarLine text.now) (IsScalarLine text.now)
+    ensures reads { Parses (IsScalarLine text.now) (IsScalarLine text.now)
         (λ r. (option_map cow_str_bytes r.0, written_of r.1, style_of r.2, cow_str_bytes r.3)) result }
     ensures utf8 { IfOk result (λ r. IsUtf8 (cow_str_bytes r.3)) }
 {
@@ -117,7 +117,7 @@ fn bare_event<'a>(line: &str) -> Option<Event<'a>>
 
 /// The event that a line is that of.
 pub fn read_line<'a>(alloc: Global, line: &'a str) -> Result<Event<'a>, LineFault>
-    ensures { Reads (IsLineOf line.now) (IsLineOf line.now) event_of result }
+    ensures { Parses (IsLineOf line.now) (IsLineOf line.now) event_of result }
 {
     if let Some(event) = bare_event(line) {
         return Ok(event);

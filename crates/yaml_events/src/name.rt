@@ -5,7 +5,7 @@ ghost use Rattle.std.specs.Cow.{cow_str_bytes};
 ghost use Rattle.std.specs.String.{string_bytes};
 ghost use Rattle.yaml_text.specs.EventText.{anchor_part};
 ghost use Rattle.yaml_text.specs.Sound.{is_anchor, is_anchor_char};
-ghost use Rattle.yaml_events.specs.Answer.{Reads};
+ghost use Rattle.yaml_events.specs.Answer.{Parses};
 ghost use Rattle.yaml_events.specs.Parts.{IsCutAtSpace, IsAnchored, EndsAnchor};
 
 use crate::fault::LineFault;
@@ -58,7 +58,7 @@ fn cut_at_space(text: &str) -> (&str, &str)
 
 /// The anchor that a text begins with, if it does, after a space, and what is left.
 pub fn read_anchor<'a>(text: &'a str) -> Result<(Option<CowStr<'a>>, &'a str), LineFault>
-    ensures { Reads (IsAnchored text.now) (λ p. IsAnchored text.now p × EndsAnchor p) (λ r. (option_map cow_str_bytes r.0, r.1.now)) result }
+    ensures { Parses (IsAnchored text.now) (λ p. IsAnchored text.now p × EndsAnchor p) (λ r. (option_map cow_str_bytes r.0, r.1.now)) result }
 {
     let Some(after) = text.strip_prefix(" &") else {
         return Ok((None, text));

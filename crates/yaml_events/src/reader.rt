@@ -2,7 +2,7 @@
 ghost use Rattle.std.specs.Prelude.{◌≡◌, IfOk, IfErr, map};
 ghost use Rattle.yaml_text.specs.EventModel.{event_of};
 ghost use Rattle.yaml_text.specs.EventText.{EventText};
-ghost use Rattle.yaml_events.specs.Answer.{IsRefused};
+ghost use Rattle.yaml_events.specs.Answer.{RefusesEventText};
 
 use crate::fault::EventFault;
 use crate::line::read_line;
@@ -16,7 +16,7 @@ use yaml_text::event::Event;
 /// not looked at. Names, tags and texts are slices where they stand in the text as they are.
 pub fn read_event_text<'a>(alloc: Global, text: &'a str) -> Result<Vec<Event<'a>>, EventFault>
     ensures events { IfOk result (λ v. EventText text.now (map event_of v.items)) }
-    ensures refused { IfErr result (IsRefused text.now) }
+    ensures refused { IfErr result (RefusesEventText text.now) }
 {
     let mut events = Vec::new(alloc);
     let mut rest = text;

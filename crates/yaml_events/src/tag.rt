@@ -6,7 +6,7 @@ ghost use Rattle.yaml_text.specs.EventText.{tag_part};
 ghost use Rattle.yaml_text.specs.TagText.{encoded};
 ghost use Rattle.std.specs.Cow.{cow_str_bytes};
 ghost use Rattle.yaml_text.specs.Tag.{is_full};
-ghost use Rattle.yaml_events.specs.Answer.{Reads};
+ghost use Rattle.yaml_events.specs.Answer.{Parses};
 ghost use Rattle.yaml_events.specs.Parts.{IsEncoded, IsTagged, EndsTag};
 
 use crate::fault::LineFault;
@@ -77,7 +77,7 @@ fn is_encoding(alloc: Global, text: &str, tag: &str) -> Result<bool, AllocError>
 /// The full tag whose percent-encoding this is. A tag has one encoding, so what is decoded is
 /// encoded again and compared.
 fn decode<'a>(alloc: Global, text: &'a str) -> Result<CowStr<'a>, LineFault>
-    ensures { Reads (IsEncoded text.now) (IsEncoded text.now) cow_str_bytes result }
+    ensures { Parses (IsEncoded text.now) (IsEncoded text.now) cow_str_bytes result }
 {
     let tag = percent_decode(text.as_bytes()).decode_utf8(alloc)?;
     if !is_full(tag.as_str()) {
@@ -91,7 +91,7 @@ fn decode<'a>(alloc: Global, text: &'a str) -> Result<CowStr<'a>, LineFault>
 
 /// The tag that a text begins with, if it does, after a space, and what is left.
 pub fn read_tag<'a>(alloc: Global, text: &'a str) -> Result<(EventTag<'a>, &'a str), LineFault>
-    ensures { Reads (IsTagged text.now) (λ p. IsTagged text.now p × EndsTag p) (λ r. (written_of r.0, r.1.now)) result }
+    ensures { Parses (IsTagged text.now) (λ p. IsTagged text.now p × EndsTag p) (λ r. (written_of r.0, r.1.now)) result }
 {
     let Some(after) = text.strip_prefix(" <") else {
         return Ok((EventTag::None, text));

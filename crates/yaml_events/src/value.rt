@@ -4,7 +4,7 @@ ghost use Rattle.std.specs.Str.{IsUtf8};
 ghost use Rattle.std.specs.String.{string_bytes};
 ghost use Rattle.std.specs.Cow.{cow_str_bytes};
 ghost use Rattle.yaml_text.specs.EventText.{value_byte, value_text};
-ghost use Rattle.yaml_events.specs.Answer.{Reads};
+ghost use Rattle.yaml_events.specs.Answer.{Parses};
 
 use crate::fault::LineFault;
 use std::alloc::{AllocError, Global};
@@ -57,7 +57,7 @@ fn unescape(byte: u8) -> Option<char>
 
 /// The text that a value stands for: a slice where nothing in it is escaped, else put together of runs.
 pub fn read_value<'a>(alloc: Global, value: &'a str) -> Result<CowStr<'a>, LineFault>
-    ensures reads { Reads (λ x. value.now ≡ value_text x) (λ x. value.now ≡ value_text x) cow_str_bytes result }
+    ensures reads { Parses (λ x. value.now ≡ value_text x) (λ x. value.now ≡ value_text x) cow_str_bytes result }
     ensures utf8 { IfOk result (λ x. IsUtf8 (cow_str_bytes x)) }
 {
     let mut out = String::new(alloc);

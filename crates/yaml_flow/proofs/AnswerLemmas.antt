@@ -86,14 +86,14 @@ adds_back old mid start es e a =
     map_take mid start ∙ ap (take start) a ∙ ap (λ n. take n (map event_of old ++ es)) (e ∙ length_events old) ∙ take-append_seam (map event_of old) es ∙ sym (append-nil (map event_of old))
 
 -- the faults of a scalar are faults of the reader
-pub scalar_refusal : (P : Type 0) (e : Fault) → scalar.Refuses e P → IsRefusal e
+pub scalar_refusal : (P : Type 0) (e : Fault) → scalar.ScalarFaultMeans e P → IsRefusal e
 scalar_refusal P (fault.Syntax at) p = tt
 scalar_refusal P (fault.Tab at) p = tt
 scalar_refusal P (fault.BadEscape at) p = tt
 scalar_refusal P fault.OutOfMemory p = tt
 scalar_refusal P _ p = absurd p
 
-pub unread_refusal : (e : Fault) → scalar.IsUnread e → IsRefusal e
+pub unread_refusal : (e : Fault) → scalar.IsSyntaxFault e → IsRefusal e
 unread_refusal (fault.Syntax at) p = tt
 unread_refusal (fault.Tab at) p = tt
 unread_refusal _ p = absurd p

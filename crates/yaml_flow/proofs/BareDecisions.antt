@@ -11,7 +11,7 @@ use Rattle.yaml_text.specs.grammar.Rules.{Rule, ◌▸◌, ◌∪◌, gives, may
 use Rattle.yaml_text.specs.grammar.Separation.{Ctx, block_out, block_in, flow_out, flow_in, block_key, flow_key, separate, s_l_comments}
 use Rattle.yaml_text.specs.grammar.Tags.{Handles, properties}
 use Rattle.yaml_text.specs.grammar.Tags as tags
-use Rattle.yaml_text.specs.grammar.Events.{Props, no_props, alias, empty}
+use Rattle.yaml_text.specs.grammar.Events.{Props, no_props, alias_node, empty}
 use Rattle.yaml_text.specs.grammar.Nodes.{Part, yaml_part, json_part, yaml_node, json_node, reads}
 use Rattle.yaml_unique.specs.Readings.{End, At, Starts}
 use Rattle.yaml_unique.specs.Follows.{Solid, Fresh, Closes, Colon, Fy, Fj, F}
@@ -35,7 +35,7 @@ use Rattle.yaml_flow.specs.FlowDecisions.{IsOpening, ContentOnly, ContentRefused
 use Rattle.yaml_flow.specs.FlowRules.{opens, below, content_at, content_from}
 use Rattle.yaml_flow.specs.declared.flow.Kind as kinds
 use Rattle.yaml_flow.specs.declared.flow.Kind.TheVariants.{Yaml, Json}
-use Rattle.yaml_flow.specs.declared.flow.Node.{Node}
+use Rattle.yaml_flow.specs.declared.flow.FlowNode.{FlowNode}
 use Rattle.yaml_flow.proofs.Deciding.{at_err, one_end, no_end}
 use Rattle.yaml_flow.proofs.FlowLemmas.{from_reads}
 use Rattle.yaml_flow.proofs.LineLemmas.{spaces_apart}
@@ -109,7 +109,7 @@ module _ (cs : List ℕ) (handles : Handles) (room n : ℕ) (c : Ctx) where
   star_no_json E i h = rest_refused (json_level E i) (no_json cs Wide handles Open Inner n c E i (star_kind 1 i h (λ e. omega (arith, e))) (star_kind 3 i h (λ e. omega (arith, e))))
 
   star_left : (E : End) (i : ℕ) → slice_get cs i ≡ Some 42 → Rest YamlNode E i (tags.alias cs) E i
-  star_left E i h = rest_rest (yaml_level E i) (rest_rest (alias_left cs Wide handles Open Inner n c E i (42, h, Sign.star 42 refl)) (rest_seen (λ x. alias x ∷ []) (tags.alias cs) E i))
+  star_left E i h = rest_rest (yaml_level E i) (rest_rest (alias_left cs Wide handles Open Inner n c E i (42, h, Sign.star 42 refl)) (rest_seen (λ x. alias_node x ∷ []) (tags.alias cs) E i))
 
   pub alias_only : (i x : ℕ) → slice_get cs i ≡ Some 42 → Goes (tags.alias cs) Here i Here x → IsOnly cs handles room n c i Yaml x
   alias_only i x h g = ((λ d. let E = EndOf cs Yaml n c d in rest_goes (star_left E i h) (one_end (tags.alias cs) E i x g)), λ d. star_no_json (EndOf cs Json n c d) i h)
@@ -353,6 +353,6 @@ module _ (cs : List ℕ) (handles : Handles) (room n : ℕ) where
   barred_refused c i e = subst (λ x. Barred cs handles n x i → IsRefused cs handles room n x i Yaml × IsRefused cs handles room n x i Json) (sym e) (barred_in i)
 
 -- at the exit of a `?`
-pub node_err : (cs : List ℕ) (handles : Handles) (room n : ℕ) (c : Ctx) (i : ℕ) (end : Node → ℕ) (r : Result Node Fault) (e : Fault) → IsErrAnd r (λ y. y ≡ e)
+pub node_err : (cs : List ℕ) (handles : Handles) (room n : ℕ) (c : Ctx) (i : ℕ) (end : FlowNode → ℕ) (r : Result FlowNode Fault) (e : Fault) → IsErrAnd r (λ y. y ≡ e)
     → (e ≡ OutOfMemory) ⊎ (IsRefused cs handles room n c i Yaml × IsRefused cs handles room n c i Json) → DecidesNode cs handles room n c i end r
 node_err cs handles room n c i end = at_err (DecidesNode cs handles room n c i end)

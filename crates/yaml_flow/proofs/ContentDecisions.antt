@@ -27,7 +27,7 @@ use Rattle.yaml_flow.specs.Decisions.{EndOf}
 use Rattle.yaml_flow.specs.FlowDecisions.{IsOpening, DecidesPlain, ContentTaken, ContentRefused, ContentOnly, DecidesContent}
 use Rattle.yaml_flow.specs.FlowRules.{opens, below, content_at, NoOpening}
 use Rattle.yaml_flow.specs.declared.flow.Kind as kinds
-use Rattle.yaml_flow.specs.declared.flow.Node.{Node}
+use Rattle.yaml_flow.specs.declared.flow.FlowNode.{FlowNode}
 use Rattle.yaml_flow.proofs.Deciding.{at_err, one_end, no_end}
 use Rattle.yaml_flow.specs.declared.flow.Kind.TheVariants.{Yaml, Json}
 
@@ -90,7 +90,7 @@ module _ (cs : List ℕ) (handles : Handles) (room n : ℕ) (c : Ctx) (i : ℕ) 
   no_plain_content h p d = record { none = λ j m v (t, r, e) f. plain_no_kind cs c 3 i (opening_kind h) (plain_start cs n c i j t r).1 }
 
   -- neither a quote nor a bracket: what is said of plain scalars
-  pub plain_content : (end : Node → ℕ) (r : Result (Option Node) Fault) → NoOpening cs i → DecidesPlain cs n c i end r → DecidesContent cs handles room n c i end r
+  pub plain_content : (end : FlowNode → ℕ) (r : Result (Option FlowNode) Fault) → NoOpening cs i → DecidesPlain cs n c i end r → DecidesContent cs handles room n c i end r
   plain_content end (Ok (Some node)) none (k, g) =
       subst (λ x. ContentOnly cs handles room n c i x (end node)) (sym k)
       ((λ p d. rest_goes (rest_seen (λ t. scalar p style.plain t ∷ []) (plain cs n c) (EndOf cs Yaml n c d) i) (g d)), no_json_content none)
@@ -165,6 +165,6 @@ module _ (cs : List ℕ) (handles : Handles) (room n : ℕ) (c : Ctx) (i : ℕ) 
   no_mapping_left h p = record { none = λ j m v (o, r) e. subst (λ x. opens cs Wide handles x) h o }
 
   -- at the exit of a `?`
-  pub content_err : (end : Node → ℕ) (r : Result (Option Node) Fault) (e : Fault) → IsErrAnd r (λ y. y ≡ e)
+  pub content_err : (end : FlowNode → ℕ) (r : Result (Option FlowNode) Fault) (e : Fault) → IsErrAnd r (λ y. y ≡ e)
       → (e ≡ OutOfMemory) ⊎ (IsOpening cs i × ContentRefused cs handles room n c i Yaml × ContentRefused cs handles room n c i Json) → DecidesContent cs handles room n c i end r
   content_err end = at_err (DecidesContent cs handles room n c i end)

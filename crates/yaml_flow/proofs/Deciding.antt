@@ -2,7 +2,7 @@
 use Rattle.std.proofs.Common.{◌≡◌, ℕ, ◌⊎◌, inl, inr, Result, Ok, Err, refl, sym, ◌∙◌, ap, subst}
 use Rattle.std.specs.Result.{IsErrAnd}
 use Rattle.std.proofs.lemmas.Result.{err_from_is_err_and}
-use Rattle.yaml_text.specs.Answer.{Unread, Only, Refuses}
+use Rattle.yaml_text.specs.Answer.{Unread, Only, ScalarFaultMeans}
 use Rattle.yaml_text.specs.grammar.Rules.{Rule}
 use Rattle.yaml_text.specs.declared.fault.Fault.{Fault}
 use Rattle.yaml_text.specs.declared.fault.Fault.TheVariants as fault
@@ -24,7 +24,7 @@ decides_by R E i F S G k H end (Ok x) f g d = f (end x) d
 decides_by R E i F S G k H end (Err e) f g (inl m) = inl m
 decides_by R E i F S G k H end (Err e) f g (inr n) = inr (g n)
 
-pub refusal : {P : Type 0} (e : Fault) → Refuses e P → (e ≡ fault.OutOfMemory) ⊎ P
+pub refusal : {P : Type 0} (e : Fault) → ScalarFaultMeans e P → (e ≡ fault.OutOfMemory) ⊎ P
 refusal (fault.Syntax at) p = inr p
 refusal (fault.Tab at) p = inr p
 refusal (fault.BadEscape at) p = inr p

@@ -16,10 +16,10 @@ use Rattle.yaml_complete.specs.Decisions.{Refused, Here}
 use Rattle.yaml_flow.specs.Answer.{Decides}
 use Rattle.yaml_flow.specs.Decisions.{IsOnly, DecidesNode}
 use Rattle.yaml_flow.specs.FlowDecisions.{ContentOnly, ContentRefused, DecidesContent, DecidesEach}
-use Rattle.yaml_flow.specs.FlowRules.{IsSign, SignAt, IsParted}
+use Rattle.yaml_flow.specs.FlowRules.{MayFollowColon, SignAt, IsParted}
 use Rattle.yaml_flow.specs.declared.flow.Kind as kinds
 use Rattle.yaml_flow.specs.declared.flow.Kind.TheVariants.{Yaml, Json}
-use Rattle.yaml_flow.specs.declared.flow.Node.{Node}
+use Rattle.yaml_flow.specs.declared.flow.FlowNode.{FlowNode}
 use Rattle.yaml_flow.proofs.Deciding.{at_err}
 use Rattle.yaml_flow.proofs.PropertyDecisions.{or_else}
 use Rattle.yaml_flow.proofs.BareDecisions.{alias_only, alias_refused}
@@ -34,8 +34,8 @@ pub if_none : {X : Type 0} (P : Type 0) (o : Option X) → o ≡ None → IfNone
 if_none P None e p = p
 if_none P (Some x) e p = let h : Some x ≡ None = e in cc
 
-module _ (cs : List ℕ) (handles : Handles) (room n : ℕ) (c : Ctx) (i : ℕ) (end : Node → ℕ) (found : Option Node) where
-  pub content_some : (node : Node) → found ≡ Some node → DecidesContent cs handles room n c i end (Ok found) → ContentOnly cs handles room n c i node.kind (end node)
+module _ (cs : List ℕ) (handles : Handles) (room n : ℕ) (c : Ctx) (i : ℕ) (end : FlowNode → ℕ) (found : Option FlowNode) where
+  pub content_some : (node : FlowNode) → found ≡ Some node → DecidesContent cs handles room n c i end (Ok found) → ContentOnly cs handles room n c i node.kind (end node)
   content_some node e d = let q : DecidesContent cs handles room n c i end (Ok (Some node)) = subst (λ y. DecidesContent cs handles room n c i end (Ok y)) e d in q
 
   pub content_none : found ≡ None → DecidesContent cs handles room n c i end (Ok found) → ContentRefused cs handles room n c i Yaml × ContentRefused cs handles room n c i Json
@@ -47,11 +47,11 @@ module _ (cs : List ℕ) (handles : Handles) (room n : ℕ) (c : Ctx) (i : ℕ) 
   only_kind : (kind : kinds.Kind) (x y : ℕ) → kind ≡ Yaml → x ≡ y → IsOnly cs handles room n c i Yaml y → IsOnly cs handles room n c i kind x
   only_kind kind x y e f o = subst (λ k. IsOnly cs handles room n c i k x) (sym e) (subst (λ z. IsOnly cs handles room n c i Yaml z) (sym f) o)
 
-  pub alias_decides : slice_get cs i ≡ Some 42 → (end : Node → ℕ) (r : Result Node Fault) → IfOk r (λ node. node.kind ≡ Yaml) → Decides (tags.alias cs) Here i Here end r → DecidesNode cs handles room n c i end r
+  pub alias_decides : slice_get cs i ≡ Some 42 → (end : FlowNode → ℕ) (r : Result FlowNode Fault) → IfOk r (λ node. node.kind ≡ Yaml) → Decides (tags.alias cs) Here i Here end r → DecidesNode cs handles room n c i end r
   alias_decides h end (Ok node) k d = only_kind node.kind (end node) (end node) k refl (alias_only cs handles room n c i (end node) h d)
   alias_decides h end (Err e) k d = or_else (alias_refused cs handles room n c i h) d
 
-  pub lone_decides : (k : ℕ) (end : Node → ℕ) (r : Result Node Fault) (e : ℕ) → IfOk r (λ node. node.kind ≡ Yaml) → ((node : Node) → node.end ≡ e → end node ≡ k) → IfOk r (λ node. node.end ≡ e) → IfErr r (λ f. f ≡ OutOfMemory)
+  pub lone_decides : (k : ℕ) (end : FlowNode → ℕ) (r : Result FlowNode Fault) (e : ℕ) → IfOk r (λ node. node.kind ≡ Yaml) → ((node : FlowNode) → node.end ≡ e → end node ≡ k) → IfOk r (λ node. node.end ≡ e) → IfErr r (λ f. f ≡ OutOfMemory)
       → IsOnly cs handles room n c i Yaml k → DecidesNode cs handles room n c i end r
   lone_decides k end (Ok node) e kind at is memory o = only_kind node.kind (end node) k kind (at node is) o
   lone_decides k end (Err f) e kind at is memory o = inl memory
@@ -80,8 +80,8 @@ collection_err {A} {F} {Z} c make d = go (flow_or_key c)
 
 -- ---- signs
 
-pub sign_in : (cs : List ℕ) (kind : kinds.Kind) (c : Ctx) (q k : ℕ) → c ≡ flow_in → slice_get cs q ≡ Some 58 → k ≡ q + 1 → IsSign kind c cs k → SignAt kind flow_in cs q
-sign_in cs kind c q k e h t s = (h, subst (λ y. IsSign kind y cs (q + 1)) e (subst (IsSign kind c cs) t s))
+pub sign_in : (cs : List ℕ) (kind : kinds.Kind) (c : Ctx) (q k : ℕ) → c ≡ flow_in → slice_get cs q ≡ Some 58 → k ≡ q + 1 → MayFollowColon kind c cs k → SignAt kind flow_in cs q
+sign_in cs kind c q k e h t s = (h, subst (λ y. MayFollowColon kind y cs (q + 1)) e (subst (MayFollowColon kind c cs) t s))
 
 pub mark_inside : (cs : List ℕ) (k : ℕ) → (i : ℕ) × (k ≡ i + 1) × (slice_get cs i ≡ Some 63) → Inside cs k
 mark_inside cs k (i, e, h) = char_inside cs i k 63 h e nb_question

@@ -6,13 +6,13 @@ use Rattle.yaml_text.specs.grammar.Rules.{Rule, ◌◂◌, any, optional, chr, m
 use Rattle.yaml_text.specs.grammar.Separation.{Ctx, block_in, block_out, flow_out, flow_in, block_key, flow_key, inner, separate}
 use Rattle.yaml_text.specs.grammar.Tags.{Handles, properties}
 use Rattle.yaml_text.specs.grammar.Tags as tags
-use Rattle.yaml_text.specs.grammar.Events.{Props, no_props, seq_start, map_start, scalar, alias, wrapped, empty}
+use Rattle.yaml_text.specs.grammar.Events.{Props, no_props, seq_start, map_start, scalar, alias_node, wrapped, empty}
 use Rattle.yaml_text.specs.grammar.FlowScalars as flow
 use Rattle.yaml_text.specs.grammar.Nodes as nodes
 use Rattle.yaml_text.specs.grammar.Nodes.{Part, yaml_part, json_part, pair_part, part, reads}
 use Rattle.yaml_text.proofs.Repeats.{any_push, any_by}
 use Rattle.yaml_flow.specs.Keys.{ColonAfter}
-use Rattle.yaml_flow.specs.FlowRules.{part_of, opens, below, flow_from, content_at, content_from, Bare, aliased, plainly, marked, lone, from_room, item_at, entry_at, keyed_at, asked_at, value_at, spaced, comma, parts, IsSign, IsInner, IsParted}
+use Rattle.yaml_flow.specs.FlowRules.{part_of, opens, below, flow_from, content_at, content_from, Bare, aliased, plainly, with_properties, lone, from_room, item_at, entry_at, keyed_at, asked_at, value_at, spaced, comma, parts, MayFollowColon, IsInner, IsParted}
 use Rattle.yaml_flow.specs.PropertyRules.{dressed}
 use Rattle.yaml_flow.proofs.PropertyLemmas.{marks_props}
 use Rattle.yaml_flow.specs.declared.flow.Kind.{Kind}
@@ -132,17 +132,17 @@ module _ (cs : List ℕ) (Wide : Type 0) (handles : Handles) where
   unfolding nodes.yaml_node
   lone_node room n c p i j es m e = to_reads room (yaml_part n c) i j es (inr (inr (j, p, m, inr (refl, e))))
 
-  pub alias_node : (room n : ℕ) (c : Ctx) (i j : ℕ) (x : List ℕ) (es : List Event) → tags.alias cs i j x → es ≡ alias x ∷ [] → reads cs Wide handles room (yaml_part n c) i j es
+  pub alias_reading : (room n : ℕ) (c : Ctx) (i j : ℕ) (x : List ℕ) (es : List Event) → tags.alias cs i j x → es ≡ alias_node x ∷ [] → reads cs Wide handles room (yaml_part n c) i j es
   unfolding nodes.yaml_node
-  alias_node room n c i j x es a e = to_reads room (yaml_part n c) i j es (inl (x, a, e))
+  alias_reading room n c i j x es a e = to_reads room (yaml_part n c) i j es (inl (x, a, e))
 
   -- a node with its own properties put on its first event
   pub bare_flow : (deep : ℕ) (kind : Kind) (n : ℕ) (c : Ctx) (p : Props) (e i j : ℕ) (es : List Event) → Bare cs Wide handles deep kind n c p e i j es → flow_from cs Wide handles deep kind n c i j (dressed p es)
   bare_flow deep kind n c p e i j es (aliased x a f q g) =
-      subst (λ k. flow_from cs Wide handles deep k n c i j (dressed p es)) (sym g) (λ room le. alias_node room n c i j x (dressed p es) a (ap (dressed p) f))
+      subst (λ k. flow_from cs Wide handles deep k n c i j (dressed p es)) (sym g) (λ room le. alias_reading room n c i j x (dressed p es) a (ap (dressed p) f))
   bare_flow deep kind n c p e i j es (plainly q r) =
       subst (λ x. flow_from cs Wide handles deep kind n c i j (dressed x es)) (sym q) (λ room le. unmarked_node kind room n c i j (dressed no_props es) (dressed_at no_props kind room n c i j es (r room le)))
-  bare_flow deep kind n c p e i j es (marked k m s r) = λ room le.
+  bare_flow deep kind n c p e i j es (with_properties k m s r) = λ room le.
       marked_node kind room n c p i e k j (dressed p es) (marks_props cs handles n c i e p m) s (dressed_at p kind room n c k j es (r room le))
   bare_flow deep kind n c p e i j es (lone m f g h) =
       subst (λ k. flow_from cs Wide handles deep k n c i j (dressed p es)) (sym h)
@@ -194,12 +194,12 @@ module _ (cs : List ℕ) (Wide : Type 0) (handles : Handles) where
         ),
       )
 
-  pub no_value : (kind : Kind) (n : ℕ) (c : Ctx) (i j : ℕ) → chr cs 58 i j → IsSign kind c cs j → from_room 0 (λ room. value_at cs Wide handles kind room n c) i j (empty no_props)
+  pub no_value : (kind : Kind) (n : ℕ) (c : Ctx) (i j : ℕ) → chr cs 58 i j → MayFollowColon kind c cs j → from_room 0 (λ room. value_at cs Wide handles kind room n c) i j (empty no_props)
   unfolding nodes.value nodes.adjacent
   no_value Yaml n c i j h s room le = (j, (j, h, (refl, s)), inr (refl, refl))
   no_value Json n c i j h s room le = (j, h, inr (refl, refl))
 
-  pub yaml_value : (deep : ℕ) (kind : Kind) (n : ℕ) (c : Ctx) (i j k l : ℕ) (es : List Event) → chr cs 58 i j → IsSign Yaml c cs j → separate cs n c j k → flow_from cs Wide handles deep kind n c k l es →
+  pub yaml_value : (deep : ℕ) (kind : Kind) (n : ℕ) (c : Ctx) (i j k l : ℕ) (es : List Event) → chr cs 58 i j → MayFollowColon Yaml c cs j → separate cs n c j k → flow_from cs Wide handles deep kind n c k l es →
       from_room deep (λ room. value_at cs Wide handles Yaml room n c) i l es
   unfolding nodes.value
   yaml_value deep Yaml n c i j k l es h s a p room le = (j, (j, h, (refl, s)), inl (k, a, inl (p room le)))
@@ -211,7 +211,7 @@ module _ (cs : List ℕ) (Wide : Type 0) (handles : Handles) where
   json_value deep Yaml n c i j k l es h a p room le = (j, h, inl (k, a, inl (p room le)))
   json_value deep Json n c i j k l es h a p room le = (j, h, inl (k, a, inr (p room le)))
 
-  pub value_is : (deep : ℕ) (kind made : Kind) (n : ℕ) (c : Ctx) (a b i j k l : ℕ) (es : List Event) → chr cs 58 i j → IsSign kind c cs j → IsParted kind a b →
+  pub value_is : (deep : ℕ) (kind made : Kind) (n : ℕ) (c : Ctx) (a b i j k l : ℕ) (es : List Event) → chr cs 58 i j → MayFollowColon kind c cs j → IsParted kind a b →
       maybe (separate cs n c) j k → (a < b → separate cs n c j k) → flow_from cs Wide handles deep made n c k l es → from_room deep (λ room. value_at cs Wide handles kind room n c) i l es
   value_is deep Yaml made n c a b i j k l es h s apart m f p = yaml_value deep made n c i j k l es h s (f apart) p
   value_is deep Json made n c a b i j k l es h s apart m f p = json_value deep made n c i j k l es h m p

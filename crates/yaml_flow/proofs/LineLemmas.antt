@@ -9,7 +9,7 @@ use Rattle.yaml_text.specs.Source.{text_of, place_of, IsBorder}
 use Rattle.yaml_text.proofs.PlaceLemmas.{before_ascii}
 use Rattle.yaml_text.specs.grammar.Rules.{◌◆◌, Spans, any_span, Behind, run, maybe}
 use Rattle.yaml_text.specs.grammar.Characters.{is_space}
-use Rattle.yaml_text.specs.grammar.Separation.{Ctx, block_out, block_in, flow_out, flow_in, block_key, flow_key, separate, separate_lines, StartsLine, Mark, comment, line_end, s_b_comment, s_l_comments, l_comment, sep}
+use Rattle.yaml_text.specs.grammar.Separation.{Ctx, block_out, block_in, flow_out, flow_in, block_key, flow_key, separate, separate_lines, StartsLine, DocumentMark, comment, line_end, s_b_comment, s_l_comments, l_comment, sep}
 use Rattle.yaml_text.specs.Lines.{Uncut, AfterLine, Dashes}
 use Rattle.std.proofs.lemmas.Option.{slice_get_within}
 use Rattle.yaml_text.proofs.Breaks.{mark_is}
@@ -98,7 +98,7 @@ module _ (cs : List ℕ) where
   comments_after i j (a, inr (e, s), lines) = after_lines j a (inl (subst (StartsLine cs) (sym e) s)) lines
 
   -- after a line's end three dashes, or dots, are a document mark
-  pub dashes_mark : (i : ℕ) → AfterLine cs i → Dashes cs i → Mark cs i
+  pub dashes_mark : (i : ℕ) → AfterLine cs i → Dashes cs i → DocumentMark cs i
   dashes_mark i a d = mark_is cs i (starts_line i a (within d)) d
     where
       within : Dashes cs i → i ≡ length cs → ⊥

@@ -22,7 +22,7 @@ use Rattle.yaml_unique.proofs.TagEnds.{prop_same, prop_here, prop_inside, tag_he
 use Rattle.yaml_complete.proofs.PropertyChoices.{Second, Kinds, one_prop, two_props, kinds}
 use Rattle.yaml_complete.proofs.PropertyLines.{no_gap, separate_line, line_properties, BarredLine}
 use Rattle.yaml_flow.specs.Decisions.{IsProperty, Differ, IsSingle, Stops, another, nothing, Barred, AllProperties, LineGoesOn}
-use Rattle.yaml_flow.specs.PropertyRules.{IsTag, IsAnchor, Marks, tag_alone, anchor_alone, both, Own, Apart, anchor_of, tag_of, both_props}
+use Rattle.yaml_flow.specs.PropertyRules.{HasTag, HasAnchor, SomeProperties, tag_alone, anchor_alone, both, Own, Disjoint, either_anchor, either_tag, both_props}
 
 -- ---- what refusals say
 
@@ -47,24 +47,24 @@ or_else f (inr p) = inr (f p)
 
 -- ---- two that are not apart
 
-two_tags : (p q : Props) → IsTag p.tag → IsTag q.tag → Apart p q → ⊥
-two_tags p q s t (a, inl h) = subst IsTag h s
-two_tags p q s t (a, inr h) = subst IsTag h t
+two_tags : (p q : Props) → HasTag p.tag → HasTag q.tag → Disjoint p q → ⊥
+two_tags p q s t (a, inl h) = subst HasTag h s
+two_tags p q s t (a, inr h) = subst HasTag h t
 
-two_anchors : (p q : Props) → IsAnchor p.anchor → IsAnchor q.anchor → Apart p q → ⊥
-two_anchors p q s t (inl h, b) = subst IsAnchor h s
-two_anchors p q s t (inr h, b) = subst IsAnchor h t
+two_anchors : (p q : Props) → HasAnchor p.anchor → HasAnchor q.anchor → Disjoint p q → ⊥
+two_anchors p q s t (inl h, b) = subst HasAnchor h s
+two_anchors p q s t (inr h, b) = subst HasAnchor h t
 
 -- the joined properties are those of the readings
 pub both_is : (p q : Props) → both_props p q ≡ pair.both p q
 unfolding pair.both pair.joined_anchor pair.joined_tag
-both_is p q = ap (λ a. record { anchor = a; tag = tag_of q.tag p.tag }) (anchors p.anchor q.anchor) ∙ ap (λ t. record { anchor = pair.joined_anchor p.anchor q.anchor; tag = t }) (tags p.tag q.tag)
+both_is p q = ap (λ a. record { anchor = a; tag = either_tag q.tag p.tag }) (anchors p.anchor q.anchor) ∙ ap (λ t. record { anchor = pair.joined_anchor p.anchor q.anchor; tag = t }) (tags p.tag q.tag)
   where
-    anchors : (a b : Anchor) → anchor_of b a ≡ pair.joined_anchor a b
+    anchors : (a b : Anchor) → either_anchor b a ≡ pair.joined_anchor a b
     anchors a None = refl
     anchors a (Some b) = refl
 
-    tags : (t u : WrittenTag) → tag_of u t ≡ pair.joined_tag t u
+    tags : (t u : WrittenTag) → either_tag u t ≡ pair.joined_tag t u
     tags t untagged = refl
     tags t non_specific = refl
     tags t (full u) = refl
@@ -144,7 +144,7 @@ module _ (cs : List ℕ) (handles : Handles) where
             go (inr none) f = none (subst (Differ cs i) f d)
 
     -- both
-    pub all_both : (i e : ℕ) (name : List ℕ) (t : WrittenTag) → IsTag t → AllProperties cs handles n c i e (record { anchor = Some name; tag = t })
+    pub all_both : (i e : ℕ) (name : List ℕ) (t : WrittenTag) → HasTag t → AllProperties cs handles n c i e (record { anchor = Some name; tag = t })
     all_both i e name t is = record { none = λ h p. named (ap Props.anchor h); second = λ one o s d. single one }
       where
         named : {A : Type 0} → Some name ≡ None → A
@@ -152,7 +152,7 @@ module _ (cs : List ℕ) (handles : Handles) where
 
         single : {A : Type 0} → IsSingle (record { anchor = Some name; tag = t }) → A
         single (inl h) = named h
-        single (inr h) = absurd (subst IsTag h is)
+        single (inr h) = absurd (subst HasTag h is)
 
     pub all_none : (i e : ℕ) (p : Props) → (IsProperty cs i → ⊥) → AllProperties cs handles n c i e p
     all_none i e p not = record { none = λ h is. not is; second = λ one o s d. not (first o d) }
@@ -171,7 +171,7 @@ module _ (cs : List ℕ) (handles : Handles) where
 
     -- ---- what was read on one line holds wherever the line goes on
 
-    pub line_marks : (i e : ℕ) (p : Props) → Marks cs handles 0 block_key i e p → Marks cs handles n c i e p
+    pub line_marks : (i e : ℕ) (p : Props) → SomeProperties cs handles 0 block_key i e p → SomeProperties cs handles n c i e p
     line_marks i e p (tag_alone t r s h) = tag_alone t r s h
     line_marks i e p (anchor_alone a r h) = anchor_alone a r h
     line_marks i e p (both r s t) = both (line_properties cs handles n c i e p r) s t
@@ -194,14 +194,14 @@ module _ (cs : List ℕ) (handles : Handles) where
       go l (nothing key f) = let e : true ≡ false = key in cc
 
   -- one of each kind
-  pub apart_kinds : (i e x f : ℕ) (p q : Props) → Marks cs handles 0 block_key i e p → Marks cs handles 0 block_key x f q → Apart p q → prop cs handles i e p × prop cs handles x f q × Differ cs i x
+  pub apart_kinds : (i e x f : ℕ) (p q : Props) → SomeProperties cs handles 0 block_key i e p → SomeProperties cs handles 0 block_key x f q → Disjoint p q → prop cs handles i e p × prop cs handles x f q × Differ cs i x
   unfolding anchor
   apart_kinds i e x f p q (tag_alone t r s h) (anchor_alone a (k, (g, m), u) w) y = (inl (t, r, h), inr (a, (k, (g, m), u), w), inl (tag_here cs handles i e t r, g))
   apart_kinds i e x f p q (anchor_alone a (k, (g, m), u) w) (tag_alone t r s h) y = (inr (a, (k, (g, m), u), w), inl (t, r, h), inr (g, tag_here cs handles x f t r))
-  apart_kinds i e x f p q (tag_alone t r s h) (tag_alone t2 r2 s2 h2) y = absurd (two_tags p q (subst IsTag (sym (ap Props.tag h)) s) (subst IsTag (sym (ap Props.tag h2)) s2) y)
-  apart_kinds i e x f p q (tag_alone t r s h) (both r2 s2 t2) y = absurd (two_tags p q (subst IsTag (sym (ap Props.tag h)) s) s2 y)
-  apart_kinds i e x f p q (anchor_alone a r h) (anchor_alone a2 r2 h2) y = absurd (two_anchors p q (subst IsAnchor (sym (ap Props.anchor h)) tt) (subst IsAnchor (sym (ap Props.anchor h2)) tt) y)
-  apart_kinds i e x f p q (anchor_alone a r h) (both r2 s2 t2) y = absurd (two_anchors p q (subst IsAnchor (sym (ap Props.anchor h)) tt) t2 y)
-  apart_kinds i e x f p q (both r s t) (tag_alone t2 r2 s2 h2) y = absurd (two_tags p q s (subst IsTag (sym (ap Props.tag h2)) s2) y)
-  apart_kinds i e x f p q (both r s t) (anchor_alone a2 r2 h2) y = absurd (two_anchors p q t (subst IsAnchor (sym (ap Props.anchor h2)) tt) y)
+  apart_kinds i e x f p q (tag_alone t r s h) (tag_alone t2 r2 s2 h2) y = absurd (two_tags p q (subst HasTag (sym (ap Props.tag h)) s) (subst HasTag (sym (ap Props.tag h2)) s2) y)
+  apart_kinds i e x f p q (tag_alone t r s h) (both r2 s2 t2) y = absurd (two_tags p q (subst HasTag (sym (ap Props.tag h)) s) s2 y)
+  apart_kinds i e x f p q (anchor_alone a r h) (anchor_alone a2 r2 h2) y = absurd (two_anchors p q (subst HasAnchor (sym (ap Props.anchor h)) tt) (subst HasAnchor (sym (ap Props.anchor h2)) tt) y)
+  apart_kinds i e x f p q (anchor_alone a r h) (both r2 s2 t2) y = absurd (two_anchors p q (subst HasAnchor (sym (ap Props.anchor h)) tt) t2 y)
+  apart_kinds i e x f p q (both r s t) (tag_alone t2 r2 s2 h2) y = absurd (two_tags p q s (subst HasTag (sym (ap Props.tag h2)) s2) y)
+  apart_kinds i e x f p q (both r s t) (anchor_alone a2 r2 h2) y = absurd (two_anchors p q t (subst HasAnchor (sym (ap Props.anchor h2)) tt) y)
   apart_kinds i e x f p q (both r s t) (both r2 s2 t2) y = absurd (two_tags p q s s2 y)

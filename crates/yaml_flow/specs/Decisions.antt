@@ -16,7 +16,7 @@ use Rattle.yaml_complete.specs.FlowEnds.{EndsYaml, EndsJson}
 use Rattle.yaml_flow.specs.FlowRules.{part_of}
 use Rattle.yaml_flow.specs.declared.flow.Kind.{Kind}
 use Rattle.yaml_flow.specs.declared.flow.Kind.TheVariants.{Yaml, Json}
-use Rattle.yaml_flow.specs.declared.flow.Node.{Node}
+use Rattle.yaml_flow.specs.declared.flow.FlowNode.{FlowNode}
 
 -- a tag or an anchor begins here
 abbrev pub IsProperty : List ℕ → ℕ → Type 0
@@ -66,22 +66,22 @@ abbrev pub LineGoesOn : List ℕ → ℕ → Props → Type 0
 LineGoesOn cs e p = (p ≡ no_props) ⊎ ((j : ℕ) → s_l_comments cs e j → ⊥)
 
 module _ (cs : List ℕ) (handles : Handles) (room n : ℕ) (c : Ctx) (i : ℕ) where
-  abbrev pub Reads : Kind → Rule (List Event)
-  Reads kind = reads cs (Unit {0}) handles room (part_of kind n c)
+  abbrev pub NodeRule : Kind → Rule (List Event)
+  NodeRule kind = reads cs (Unit {0}) handles room (part_of kind n c)
 
   -- where any node of this kind goes on, the one that ends at x does
   abbrev pub IsTaken : Kind → ℕ → Type 0
-  IsTaken kind x = (d : ℕ) → Goes (Reads kind) (EndOf cs kind n c d) i (EndOf cs kind n c d) x
+  IsTaken kind x = (d : ℕ) → Goes (NodeRule kind) (EndOf cs kind n c d) i (EndOf cs kind n c d) x
 
   -- no node of this kind goes on
   abbrev pub IsRefused : Kind → Type 0
-  IsRefused kind = (d : ℕ) → Refused (Reads kind) (EndOf cs kind n c d) i
+  IsRefused kind = (d : ℕ) → Refused (NodeRule kind) (EndOf cs kind n c d) i
 
   -- and none of the other kind
   abbrev pub IsOnly : Kind → ℕ → Type 0
   IsOnly Yaml x = IsTaken Yaml x × IsRefused Json
   IsOnly Json x = IsTaken Json x × IsRefused Yaml
 
-  abbrev pub DecidesNode : (Node → ℕ) → Result Node Fault → Type 0
+  abbrev pub DecidesNode : (FlowNode → ℕ) → Result FlowNode Fault → Type 0
   DecidesNode end (Ok node) = IsOnly node.kind (end node)
   DecidesNode end (Err e) = (e ≡ OutOfMemory) ⊎ (IsRefused Yaml × IsRefused Json)

@@ -17,14 +17,14 @@ use Rattle.yaml_flow.specs.FlowRules.{content_at, SignAt}
 use Rattle.yaml_flow.specs.Keys.{Spaced, IsKeySized}
 use Rattle.yaml_flow.specs.declared.flow.Kind.{Kind}
 use Rattle.yaml_flow.specs.declared.flow.Kind.TheVariants.{Yaml, Json}
-use Rattle.yaml_flow.specs.declared.flow.Node.{Node}
+use Rattle.yaml_flow.specs.declared.flow.FlowNode.{FlowNode}
 
 -- a bracket, a brace or a quote
 abbrev pub IsOpening : List ℕ → ℕ → Type 0
 IsOpening cs i = (slice_get cs i ≡ Some 91) ⊎ (slice_get cs i ≡ Some 123) ⊎ (slice_get cs i ≡ Some 39) ⊎ (slice_get cs i ≡ Some 34)
 
 -- a plain scalar, if one begins here
-abbrev pub DecidesPlain : List ℕ → ℕ → Ctx → ℕ → (Node → ℕ) → Result (Option Node) Fault → Type 0
+abbrev pub DecidesPlain : List ℕ → ℕ → Ctx → ℕ → (FlowNode → ℕ) → Result (Option FlowNode) Fault → Type 0
 DecidesPlain cs n c i end (Ok (Some node)) = (node.kind ≡ Yaml) × ((d : ℕ) → Goes (plain cs n c) (EndOf cs Yaml n c d) i (EndOf cs Yaml n c d) (end node))
 DecidesPlain cs n c i end (Ok None) = Unread (plain cs n c) i
 DecidesPlain cs n c i end (Err e) = e ≡ OutOfMemory
@@ -41,7 +41,7 @@ module _ (cs : List ℕ) (handles : Handles) (room n : ℕ) (c : Ctx) (i : ℕ) 
   ContentOnly Yaml x = ContentTaken Yaml x × ContentRefused Json
   ContentOnly Json x = ContentTaken Json x × ContentRefused Yaml
 
-  abbrev pub DecidesContent : (Node → ℕ) → Result (Option Node) Fault → Type 0
+  abbrev pub DecidesContent : (FlowNode → ℕ) → Result (Option FlowNode) Fault → Type 0
   DecidesContent end (Ok (Some node)) = ContentOnly node.kind (end node)
   DecidesContent end (Ok None) = ContentRefused Yaml × ContentRefused Json
   DecidesContent end (Err e) = (e ≡ OutOfMemory) ⊎ (IsOpening cs i × ContentRefused Yaml × ContentRefused Json)

@@ -12,7 +12,7 @@ use Rattle.yaml_text.specs.grammar.Nodes.{Part, yaml_part, json_part, pair_part,
 use Rattle.yaml_text.specs.Place.{Steps}
 use Rattle.yaml_text.specs.Source.{bytes_of, text_of, place_of}
 use Rattle.yaml_text.specs.declared.chars.Chars.{Chars}
-use Rattle.yaml_flow.specs.PropertyRules.{Marks}
+use Rattle.yaml_flow.specs.PropertyRules.{SomeProperties}
 use Rattle.yaml_flow.specs.declared.flow.First.{First}
 use Rattle.yaml_flow.specs.declared.flow.First.TheVariants.{Sequence, Mapping, Single, Double, Other}
 use Rattle.yaml_flow.specs.declared.flow.Kind.{Kind}
@@ -53,10 +53,10 @@ module _ (cs : List ℕ) (Wide : Type 0) (handles : Handles) where
 
   -- a node after its own properties, which stand from i to e: its events are still without them
   pub data Bare (deep : ℕ) (kind : Kind) (n : ℕ) (c : Ctx) (p : Props) (e : ℕ) (i j : ℕ) (es : List Event) : Type 0 where
-    aliased : (x : List ℕ) → alias cs i j x → es ≡ events.alias x ∷ [] → p ≡ no_props → kind ≡ Yaml → Bare deep kind n c p e i j es
+    aliased : (x : List ℕ) → alias cs i j x → es ≡ events.alias_node x ∷ [] → p ≡ no_props → kind ≡ Yaml → Bare deep kind n c p e i j es
     plainly : p ≡ no_props → content_from deep kind n c i j es → Bare deep kind n c p e i j es
-    marked : (k : ℕ) → Marks cs handles n c i e p → separate cs n c e k → content_from deep kind n c k j es → Bare deep kind n c p e i j es
-    lone : Marks cs handles n c i e p → j ≡ e → es ≡ empty no_props → kind ≡ Yaml → Bare deep kind n c p e i j es
+    with_properties : (k : ℕ) → SomeProperties cs handles n c i e p → separate cs n c e k → content_from deep kind n c k j es → Bare deep kind n c p e i j es
+    lone : SomeProperties cs handles n c i e p → j ≡ e → es ≡ empty no_props → kind ≡ Yaml → Bare deep kind n c p e i j es
 
   -- 7.4.1: an item of a sequence
   abbrev pub item_at : ℕ → ℕ → Ctx → Rule (List Event)
@@ -90,9 +90,9 @@ module _ (cs : List ℕ) (n : ℕ) (c : Ctx) where
   parts close R = (any (spaced R ◂ comma) ⨾ optional (spaced R)) ◂ chr cs close
 
 -- a colon after a key of this kind
-abbrev pub IsSign : Kind → Ctx → List ℕ → ℕ → Type 0
-IsSign Yaml c cs i = Stands cs (plain_safe c) i → ⊥
-IsSign Json c cs i = Unit {0}
+abbrev pub MayFollowColon : Kind → Ctx → List ℕ → ℕ → Type 0
+MayFollowColon Yaml c cs i = Stands cs (plain_safe c) i → ⊥
+MayFollowColon Json c cs i = Unit {0}
 
 -- neither a bracket nor a brace nor a quote stands here
 abbrev pub NoOpening : List ℕ → ℕ → Type 0
@@ -108,7 +108,7 @@ FirstIs source at Other = NoOpening (text_of source) (place_of source at)
 
 -- the colon stands here that makes a node of this kind a key; a `?` that begins an entry
 abbrev pub SignAt : Kind → Ctx → List ℕ → ℕ → Type 0
-SignAt kind c cs i = (slice_get cs i ≡ Some 58) × IsSign kind c cs (i + 1)
+SignAt kind c cs i = (slice_get cs i ≡ Some 58) × MayFollowColon kind c cs (i + 1)
 
 abbrev pub AskedAt : Ctx → List ℕ → ℕ → Type 0
 AskedAt c cs i = (slice_get cs i ≡ Some 63) × (Stands cs (plain_safe c) (i + 1) → ⊥)

@@ -14,31 +14,31 @@ abbrev pub props_of : Properties → Props
 props_of p = record { anchor = option_map cow_str_bytes p.anchor; tag = written_of p.tag }
 
 -- a tag, an anchor
-abbrev pub IsTag : WrittenTag → Type 0
-IsTag untagged = ⊥
-IsTag non_specific = Unit {0}
-IsTag (full t) = Unit {0}
+abbrev pub HasTag : WrittenTag → Type 0
+HasTag untagged = ⊥
+HasTag non_specific = Unit {0}
+HasTag (full t) = Unit {0}
 
-abbrev pub IsAnchor : Anchor → Type 0
-IsAnchor None = ⊥
-IsAnchor (Some a) = Unit {0}
+abbrev pub HasAnchor : Anchor → Type 0
+HasAnchor None = ⊥
+HasAnchor (Some a) = Unit {0}
 
 -- not two tags and not two anchors
-abbrev pub Apart : Props → Props → Type 0
-Apart p q = ((p.anchor ≡ None) ⊎ (q.anchor ≡ None)) × ((p.tag ≡ untagged) ⊎ (q.tag ≡ untagged))
+abbrev pub Disjoint : Props → Props → Type 0
+Disjoint p q = ((p.anchor ≡ None) ⊎ (q.anchor ≡ None)) × ((p.tag ≡ untagged) ⊎ (q.tag ≡ untagged))
 
 -- both together
-abbrev pub anchor_of : Anchor → Anchor → Anchor
-anchor_of None a = a
-anchor_of (Some b) a = Some b
+abbrev pub either_anchor : Anchor → Anchor → Anchor
+either_anchor None a = a
+either_anchor (Some b) a = Some b
 
-abbrev pub tag_of : WrittenTag → WrittenTag → WrittenTag
-tag_of untagged t = t
-tag_of non_specific t = non_specific
-tag_of (full u) t = full u
+abbrev pub either_tag : WrittenTag → WrittenTag → WrittenTag
+either_tag untagged t = t
+either_tag non_specific t = non_specific
+either_tag (full u) t = full u
 
 abbrev pub both_props : Props → Props → Props
-both_props outer own = record { anchor = anchor_of own.anchor outer.anchor; tag = tag_of own.tag outer.tag }
+both_props outer own = record { anchor = either_anchor own.anchor outer.anchor; tag = either_tag own.tag outer.tag }
 
 -- a node's first event with these properties; an alias has none
 abbrev pub with_props : Props → Event → Event
@@ -69,11 +69,11 @@ anchor_props a = record { anchor = Some (encode_utf8_all a); tag = untagged }
 
 module _ (cs : List ℕ) (handles : Handles) (n : ℕ) (c : Ctx) where
   -- a tag, an anchor, or both
-  pub data Marks (i j : ℕ) (p : Props) : Type 0 where
-    tag_alone : (t : WrittenTag) → tag cs handles i j t → IsTag t → p ≡ tag_props t → Marks i j p
-    anchor_alone : (a : List ℕ) → anchor cs i j a → p ≡ anchor_props a → Marks i j p
-    both : properties cs handles n c i j p → IsTag p.tag → IsAnchor p.anchor → Marks i j p
+  pub data SomeProperties (i j : ℕ) (p : Props) : Type 0 where
+    tag_alone : (t : WrittenTag) → tag cs handles i j t → HasTag t → p ≡ tag_props t → SomeProperties i j p
+    anchor_alone : (a : List ℕ) → anchor cs i j a → p ≡ anchor_props a → SomeProperties i j p
+    both : properties cs handles n c i j p → HasTag p.tag → HasAnchor p.anchor → SomeProperties i j p
 
   -- or neither
   abbrev pub Own : ℕ → ℕ → Props → Type 0
-  Own i j p = ((j ≡ i) × (p ≡ no_props)) ⊎ Marks i j p
+  Own i j p = ((j ≡ i) × (p ≡ no_props)) ⊎ SomeProperties i j p

@@ -8,7 +8,7 @@ ghost use Rattle.yaml_text.specs.EventModel.{context_of};
 ghost use Rattle.yaml_text.specs.grammar.Separation.{inner, flow_in, flow_out, separate};
 ghost use Rattle.yaml_text.specs.grammar.Rules.{given, gives, seen, maybe};
 ghost use Rattle.yaml_text.specs.grammar.Tags as tags;
-ghost use Rattle.yaml_text.specs.grammar.Events.{alias, empty, no_props};
+ghost use Rattle.yaml_text.specs.grammar.Events.{alias_node, empty, no_props};
 ghost use Rattle.yaml_text.specs.grammar.FlowScalars.{single, double};
 ghost use Rattle.yaml_text.specs.grammar.Nodes.{flow_seq, flow_map, pair};
 ghost use Rattle.yaml_text.specs.Lines.{Inside};
@@ -23,7 +23,7 @@ ghost use Rattle.yaml_flow.specs.Decisions.{AllProperties, LineGoesOn, DecidesNo
 ghost use Rattle.yaml_flow.specs.FlowDecisions.{DecidesPlain, DecidesContent, DecidesPart, DecidesEach, NoKey, LongKey};
 ghost use Rattle.yaml_flow.specs.Keys.{IsKeySized, Spaced};
 ghost use Rattle.yaml_flow.specs.PropertyRules.{props_of, Own};
-ghost use Rattle.yaml_flow.specs.FlowRules.{flow_from, content_from, Bare, from_room, item_at, entry_at, keyed_at, asked_at, value_at, parts, opens, below, IsSign, SignAt, AskedAt, IsInner, IsParted, FirstIs};
+ghost use Rattle.yaml_flow.specs.FlowRules.{flow_from, content_from, Bare, from_room, item_at, entry_at, keyed_at, asked_at, value_at, parts, opens, below, MayFollowColon, SignAt, AskedAt, IsInner, IsParted, FirstIs};
 
 use crate::key::{Fit, key_fit};
 use crate::line::separation;
@@ -52,7 +52,7 @@ pub enum Kind {
 
 /// A flow node that was read: the border after it, how many collections are open in it at once, and its kind.
 #[derive(Clone, Copy)]
-pub struct Node {
+pub struct FlowNode {
     pub end: usize,
     pub deep: u32,
     pub kind: Kind,
@@ -115,19 +115,19 @@ fn read_alias<'a>(
     source: &Chars<'a>,
     at: usize,
     out: &mut Vec<Event<'a>>,
-) -> Result<Node, Fault>
+) -> Result<FlowNode, Fault>
     requires border { IsBorder source.now at }
     requires sign { slice_get (text_of source.now) (place_of source.now at) ≡ Some 42 }
     ensures border { IfOk result (λ node. IsBorder source.now node.end) }
     ensures onward { IfOk result (λ node. at < node.end) }
     ensures within { IfOk result (λ node. node.deep ≡ 0) }
     ensures kind { IfOk result (λ node. node.kind ≡ Yaml) }
-    ensures reads { Appends (λ node. given (node.kind ≡ Yaml) (seen (λ x. alias x ∷ []) (tags.alias (text_of source.now)))) (place_of source.now at) (λ node. place_of source.now node.end) out.old.items out.new.items result }
+    ensures reads { Appends (λ node. given (node.kind ≡ Yaml) (seen (λ x. alias_node x ∷ []) (tags.alias (text_of source.now)))) (place_of source.now at) (λ node. place_of source.now node.end) out.old.items out.new.items result }
     ensures decides { Decides (tags.alias (text_of source.now)) Here (place_of source.now at) Here (λ node. place_of source.now node.end) result }
 {
     let (name, end) = read_name(alloc, source, at)?;
     out.push(Event::Alias { name })?;
-    Ok(Node {
+    Ok(FlowNode {
         end,
         deep: 0,
         kind: Kind::Yaml,
@@ -143,7 +143,7 @@ fn read_plain_node<'a>(
     context: Ctx,
     handles: Option<&Handles<'a>>,
     out: &mut Vec<Event<'a>>,
-) -> Result<Option<Node>, Fault>
+) -> Result<Option<FlowNode>, Fault>
     requires border { IsBorder source.now at }
     requires low { least ≤ at }
     ensures border { IfOk result (λ found. IfSome found (λ node. IsBorder source.now node.end)) }
@@ -155,7 +155,7 @@ fn read_plain_node<'a>(
     match read_plain(alloc, source, at, indentation(least), context) {
         Ok((text, end)) => {
             push_scalar(out, Style::Plain, text)?;
-            Ok(Some(Node {
+            Ok(Some(FlowNode {
                 end,
                 deep: 0,
                 kind: Kind::Yaml,
@@ -177,7 +177,7 @@ fn read_single_node<'a>(
     context: Ctx,
     handles: Option<&Handles<'a>>,
     out: &mut Vec<Event<'a>>,
-) -> Result<Node, Fault>
+) -> Result<FlowNode, Fault>
     requires border { IsBorder source.now at }
     requires low { least ≤ at }
     ensures border { IfOk result (λ node. IsBorder source.now node.end) }
@@ -189,7 +189,7 @@ fn read_single_node<'a>(
 {
     let (text, end) = read_single(alloc, source, at, indentation(least), context)?;
     push_scalar(out, Style::Single, text)?;
-    Ok(Node {
+    Ok(FlowNode {
         end,
         deep: 0,
         kind: Kind::Json,
@@ -205,7 +205,7 @@ fn read_double_node<'a>(
     context: Ctx,
     handles: Option<&Handles<'a>>,
     out: &mut Vec<Event<'a>>,
-) -> Result<Node, Fault>
+) -> Result<FlowNode, Fault>
     requires border { IsBorder source.now at }
     requires low { least ≤ at }
     ensures border { IfOk result (λ node. IsBorder source.now node.end) }
@@ -217,7 +217,7 @@ fn read_double_node<'a>(
 {
     let (text, end) = read_double(alloc, source, at, indentation(least), context)?;
     push_scalar(out, Style::Double, text)?;
-    Ok(Node {
+    Ok(FlowNode {
         end,
         deep: 0,
         kind: Kind::Json,
@@ -225,7 +225,11 @@ fn read_double_node<'a>(
 }
 
 /// The empty scalar of a node of properties alone, which end at `end`.
-fn push_lone<'a>(source: &Chars<'a>, end: usize, out: &mut Vec<Event<'a>>) -> Result<Node, Fault>
+fn push_lone<'a>(
+    source: &Chars<'a>,
+    end: usize,
+    out: &mut Vec<Event<'a>>,
+) -> Result<FlowNode, Fault>
     requires { IsBorder source.now end }
     ensures end { IfOk result (λ node. node.end ≡ end) }
     ensures within { IfOk result (λ node. node.deep ≡ 0) }
@@ -234,7 +238,7 @@ fn push_lone<'a>(source: &Chars<'a>, end: usize, out: &mut Vec<Event<'a>>) -> Re
     ensures memory { IfErr result (λ e. e ≡ OutOfMemory) }
 {
     push_empty(out)?;
-    Ok(Node {
+    Ok(FlowNode {
         end,
         deep: 0,
         kind: Kind::Yaml,
@@ -252,7 +256,7 @@ pub fn read_flow_node<'a>(
     room: u32,
     handles: Option<&Handles<'a>>,
     out: &mut Vec<Event<'a>>,
-) -> Result<Node, Fault>
+) -> Result<FlowNode, Fault>
     requires border { IsBorder source.now at }
     requires low { least ≤ at }
     ensures border { IfOk result (λ node. IsBorder source.now node.end) }
@@ -284,7 +288,7 @@ pub fn read_bare<'a>(
     room: u32,
     handles: Option<&Handles<'a>>,
     out: &mut Vec<Event<'a>>,
-) -> Result<Node, Fault>
+) -> Result<FlowNode, Fault>
     requires border { IsBorder source.now at }
     requires end { IsBorder source.now end }
     requires order { at ≤ end }
@@ -327,7 +331,7 @@ fn read_content<'a>(
     room: u32,
     handles: Option<&Handles<'a>>,
     out: &mut Vec<Event<'a>>,
-) -> Result<Option<Node>, Fault>
+) -> Result<Option<FlowNode>, Fault>
     requires border { IsBorder source.now at }
     requires low { least ≤ at }
     ensures border { IfOk result (λ found. IfSome found (λ node. IsBorder source.now node.end)) }
@@ -379,7 +383,7 @@ fn read_sequence<'a>(
     room: u32,
     handles: Option<&Handles<'a>>,
     out: &mut Vec<Event<'a>>,
-) -> Result<Node, Fault>
+) -> Result<FlowNode, Fault>
     requires bracket { Steps (bytes_of source.now) at 91 inside }
     requires border { IsBorder source.now at }
     requires low { least ≤ at }
@@ -404,7 +408,7 @@ fn read_sequence<'a>(
         out,
     )?;
     out.push(Event::SequenceEnd)?;
-    Ok(Node {
+    Ok(FlowNode {
         end,
         deep: deep + 1,
         kind: Kind::Json,
@@ -476,7 +480,7 @@ fn part_gap(source: &Chars<'_>, at: usize, least: usize, context: Ctx) -> Result
 fn value_sign(source: &Chars<'_>, at: usize, kind: Kind, context: Ctx) -> Option<usize>
     requires { IsBorder source.now at }
     ensures colon { IfSome result (λ after. Steps (bytes_of source.now) at 58 after) }
-    ensures sign { IfSome result (λ after. IsSign kind (context_of context) (text_of source.now) (place_of source.now after)) }
+    ensures sign { IfSome result (λ after. MayFollowColon kind (context_of context) (text_of source.now) (place_of source.now after)) }
     ensures none { IfNone result (SignAt kind (context_of context) (text_of source.now) (place_of source.now at) → ⊥) }
 {
     match accept(source, at, ':') {
@@ -589,7 +593,7 @@ fn read_empty_pair<'a>(
 ) -> Result<(usize, u32), Fault>
     requires border { IsBorder source.now at }
     requires colon { Steps (bytes_of source.now) at 58 after }
-    requires sign { IsSign Yaml (context_of context) (text_of source.now) (place_of source.now after) }
+    requires sign { MayFollowColon Yaml (context_of context) (text_of source.now) (place_of source.now after) }
     requires low { least ≤ at }
     requires inner { IsInner (context_of context) }
     ensures border { IfOk result (λ r. IsBorder source.now r.0) }
@@ -690,7 +694,7 @@ fn key_colon(
     ensures onward { IfOk result (λ found. IfSome found (λ r. end ≤ r.0)) }
     ensures spaced { IfOk result (λ found. IfSome found (λ r. Spaced (text_of source.now) (place_of source.now end) (place_of source.now r.0))) }
     ensures colon { IfOk result (λ found. IfSome found (λ r. Steps (bytes_of source.now) r.0 58 r.1)) }
-    ensures sign { IfOk result (λ found. IfSome found (λ r. IsSign kind (context_of context) (text_of source.now) (place_of source.now r.1))) }
+    ensures sign { IfOk result (λ found. IfSome found (λ r. MayFollowColon kind (context_of context) (text_of source.now) (place_of source.now r.1))) }
     ensures fits { IfOk result (λ found. IfSome found (λ r. IsKeySized (text_of source.now) (place_of source.now at) (place_of source.now r.0))) }
     ensures none { IfOk result (λ found. IfNone found (NoKey (text_of source.now) kind (context_of context) (place_of source.now at) (place_of source.now end))) }
     ensures err { IfErr result IsRefusal }
@@ -795,7 +799,7 @@ fn read_value<'a>(
     out: &mut Vec<Event<'a>>,
 ) -> Result<(usize, u32), Fault>
     requires colon { Steps (bytes_of source.now) colon 58 after }
-    requires sign { IsSign kind (context_of context) (text_of source.now) (place_of source.now after) }
+    requires sign { MayFollowColon kind (context_of context) (text_of source.now) (place_of source.now after) }
     requires low { least ≤ after }
     ensures border { IfOk result (λ r. IsBorder source.now r.0) }
     ensures onward { IfOk result (λ r. after ≤ r.0) }
@@ -829,7 +833,7 @@ fn read_mapping<'a>(
     room: u32,
     handles: Option<&Handles<'a>>,
     out: &mut Vec<Event<'a>>,
-) -> Result<Node, Fault>
+) -> Result<FlowNode, Fault>
     requires bracket { Steps (bytes_of source.now) at 123 inside }
     requires border { IsBorder source.now at }
     requires low { least ≤ at }
@@ -854,7 +858,7 @@ fn read_mapping<'a>(
         out,
     )?;
     out.push(Event::MappingEnd)?;
-    Ok(Node {
+    Ok(FlowNode {
         end,
         deep: deep + 1,
         kind: Kind::Json,

@@ -10,7 +10,7 @@ ghost use Rattle.yaml_mark.specs.HandlesModel.{handles_of};
 ghost use Rattle.yaml_text.specs.Answer.{IsRefusal};
 ghost use Rattle.yaml_text.specs.declared.fault.Fault.TheVariants.{OutOfMemory};
 ghost use Rattle.yaml_flow.specs.Decisions.{AllProperties, Barred};
-ghost use Rattle.yaml_flow.specs.PropertyRules.{props_of, both_props, anchor_of, tag_of, with_props, Dresses, Apart, Own};
+ghost use Rattle.yaml_flow.specs.PropertyRules.{props_of, both_props, either_anchor, either_tag, with_props, Dresses, Disjoint, Own};
 
 use crate::line::separation;
 use std::alloc::Global;
@@ -55,9 +55,9 @@ impl<'a> Properties<'a> {
     }
 
     /// Whether both have an anchor or both have a tag.
-    pub fn clash(&self, other: &Properties<'a>) -> bool
-        ensures yes { OnTrue result (Apart (props_of self.now) (props_of other.now) → ⊥) }
-        ensures no { OnFalse result (Apart (props_of self.now) (props_of other.now)) }
+    pub fn overlaps(&self, other: &Properties<'a>) -> bool
+        ensures yes { OnTrue result (Disjoint (props_of self.now) (props_of other.now) → ⊥) }
+        ensures no { OnFalse result (Disjoint (props_of self.now) (props_of other.now)) }
     {
         match (&self.anchor, &other.anchor) {
             (Some(_), Some(_)) => true,
@@ -83,7 +83,7 @@ impl<'a> Properties<'a> {
 
 /// An anchor, or else another.
 fn first_anchor<'a>(anchor: Option<CowStr<'a>>, other: Option<CowStr<'a>>) -> Option<CowStr<'a>>
-    ensures { option_map cow_str_bytes result ≡ anchor_of (option_map cow_str_bytes anchor.entry) (option_map cow_str_bytes other.entry) }
+    ensures { option_map cow_str_bytes result ≡ either_anchor (option_map cow_str_bytes anchor.entry) (option_map cow_str_bytes other.entry) }
 {
     match anchor {
         Some(name) => Some(name),
@@ -93,7 +93,7 @@ fn first_anchor<'a>(anchor: Option<CowStr<'a>>, other: Option<CowStr<'a>>) -> Op
 
 /// A tag, or else another.
 fn first_tag<'a>(tag: EventTag<'a>, other: EventTag<'a>) -> EventTag<'a>
-    ensures { written_of result ≡ tag_of (written_of tag.entry) (written_of other.entry) }
+    ensures { written_of result ≡ either_tag (written_of tag.entry) (written_of other.entry) }
 {
     match tag {
         EventTag::Full(name) => EventTag::Full(name),

@@ -13,7 +13,7 @@ use Rattle.yaml_text.specs.Tree.{Tree}
 use Rattle.yaml_text.specs.Event.{Anchor}
 use Rattle.yaml_text.specs.Unfold.{Table, or_else, closed, last_named}
 use Rattle.yaml_graph.proofs.GraphLaws.{get-more, get-end}
-use Rattle.yaml_graph.specs.ComposerModel.{place_of, last_place, names_of, Placed}
+use Rattle.yaml_graph.specs.ComposerModel.{place_named, last_place, names_of, Placed}
 
 -- ---- the last place of a name
 
@@ -34,8 +34,8 @@ pub names-length : (table : Table) → length (names_of table) ≡ length table
 names-length table = length-map table (λ o. o.0)
 
 -- the map, once it has the new name
-pub named-push : (table : Table) (old new : BTreeMap (Bor (List ℕ)) ℕ) (name : List ℕ) (place : ℕ) → ((x : List ℕ) → place_of old x ≡ last_place x (names_of table)) → place ≡ length table
-    → UpdatesBy (λ x y. slice_cmp nat_cmp x.now y.now) (λ k. slice_cmp nat_cmp name k.now) old new (Some place) → (x : List ℕ) → place_of new x ≡ last_place x (names_of (table ++ ((name, None) ∷ [])))
+pub named-push : (table : Table) (old new : BTreeMap (Bor (List ℕ)) ℕ) (name : List ℕ) (place : ℕ) → ((x : List ℕ) → place_named old x ≡ last_place x (names_of table)) → place ≡ length table
+    → UpdatesBy (λ x y. slice_cmp nat_cmp x.now y.now) (λ k. slice_cmp nat_cmp name k.now) old new (Some place) → (x : List ℕ) → place_named new x ≡ last_place x (names_of (table ++ ((name, None) ∷ [])))
 named-push table old new name place h e u x =
     let n : place ≡ length (names_of table) = e ∙ sym (names-length table) in
     btree_map_updates_str name old new (Some place) u x

@@ -5,15 +5,16 @@ use Rattle.std.specs.List.{All}
 use Rattle.std.specs.Borrow.{Bor}
 use Rattle.std.specs.BTreeMap.{BTreeMap}
 use Rattle.std.proofs.lemmas.List.Elements.{All-nil, All-cons}
+use Rattle.std.specs.Cow.{cow_str_bytes}
 use Rattle.yaml_text.specs.Unfold.{Outcome, and_then}
 use Rattle.yaml_text.specs.Tree.{Tree, mapping}
 use Rattle.yaml_text.specs.declared.fault.Fault.{Fault}
 use Rattle.yaml_text.specs.declared.fault.Fault.TheVariants as faults
 use Rattle.yaml_graph.specs.TreeLists.{pairs}
 use Rattle.yaml_graph.specs.GraphModel.{Entries, tree_at, trees_at, entries_at, kind_tree, trees_in}
-use Rattle.yaml_graph.specs.Machine.{State, paired, whole, left, collection_from}
-use Rattle.yaml_graph.specs.Machine as machine
-use Rattle.yaml_graph.specs.Composed.{Refuses}
+use Rattle.yaml_graph.specs.ComposerSteps.{State, paired, whole, collection_ended, collection_from}
+use Rattle.yaml_graph.specs.ComposerSteps as machine
+use Rattle.yaml_graph.specs.Composed.{RefusesUnfolding}
 use Rattle.yaml_graph.specs.ComposerModel.{AllStand, Collects, Holds, Reached}
 use Rattle.yaml_graph.specs.declared.composer.Composer.{Composer}
 use Rattle.yaml_graph.specs.declared.composer.Open.{Open}
@@ -23,7 +24,7 @@ use Rattle.yaml_graph.specs.declared.node.NodeKind.{NodeKind}
 use Rattle.yaml_graph.proofs.ComposerLaws.{Leaves, trees-at}
 
 -- a refusal is that of all that follows
-refuses-err : {X : Type 0} (f : Fault) (e : Outcome X) → Refuses e f → {Y : Type 0} → (k : X → Outcome Y) → Refuses (and_then e k) f
+refuses-err : {X : Type 0} (f : Fault) (e : Outcome X) → RefusesUnfolding e f → {Y : Type 0} → (k : X → Outcome Y) → RefusesUnfolding (and_then e k) f
 refuses-err (faults.UndefinedAlias n) o h k = ap (λ z. and_then z k) h
 refuses-err (faults.CyclicAlias n) o h k = ap (λ z. and_then z k) h
 refuses-err (faults.WrongKind n) o h k = ap (λ z. and_then z k) h
@@ -33,20 +34,20 @@ refuses-err (faults.FloatRange n) o h k = ap (λ z. and_then z k) h
 refuses-err faults.OutOfMemory o h k = tt
 refuses-err _ o h k = absurd h
 
-pub refuses-then : {X Y : Type 0} (o : Outcome X) (k : X → Outcome Y) (f : Fault) → Refuses o f → Refuses (and_then o k) f
+pub refuses-then : {X Y : Type 0} (o : Outcome X) (k : X → Outcome Y) (f : Fault) → RefusesUnfolding o f → RefusesUnfolding (and_then o k) f
 refuses-then o k f h = refuses-err f o h k
 
 -- a call that can only want memory
-pub answered : (r : Result (Unit {0}) Fault) (c : Composer) (t : State) (found : Outcome State) → found ≡ Ok t → IfOk r (λ _. Holds c t) → IfErr r (λ fault. fault ≡ faults.OutOfMemory) → MatchResult r (λ _. Reached found c) (Refuses found)
+pub answered : (r : Result (Unit {0}) Fault) (c : Composer) (t : State) (found : Outcome State) → found ≡ Ok t → IfOk r (λ _. Holds c t) → IfErr r (λ fault. fault ≡ faults.OutOfMemory) → MatchResult r (λ _. Reached found c) (RefusesUnfolding found)
 answered (Ok v) c t found e h k = record { state = t; is = e; holds = h }
-answered (Err f) c t found e h k = subst (λ z. Refuses found z) (sym k) tt
+answered (Err f) c t found e h k = subst (λ z. RefusesUnfolding found z) (sym k) tt
 
-pub answered-reached : (r : Result (Unit {0}) Fault) (c : Composer) (found : Outcome State) → IfOk r (λ _. Reached found c) → IfErr r (λ fault. fault ≡ faults.OutOfMemory) → MatchResult r (λ _. Reached found c) (Refuses found)
+pub answered-reached : (r : Result (Unit {0}) Fault) (c : Composer) (found : Outcome State) → IfOk r (λ _. Reached found c) → IfErr r (λ fault. fault ≡ faults.OutOfMemory) → MatchResult r (λ _. Reached found c) (RefusesUnfolding found)
 answered-reached (Ok u) c found h k = h
-answered-reached (Err f) c found h k = subst (λ z. Refuses found z) (sym k) tt
+answered-reached (Err f) c found h k = subst (λ z. RefusesUnfolding found z) (sym k) tt
 
-pub answered-same : (r : Result (Unit {0}) Fault) (c : Composer) (found o : Outcome State) → found ≡ o → MatchResult r (λ _. Reached o c) (Refuses o) → MatchResult r (λ _. Reached found c) (Refuses found)
-answered-same r c found o e h = subst (λ w. MatchResult r (λ _. Reached w c) (Refuses w)) (sym e) h
+pub answered-same : (r : Result (Unit {0}) Fault) (c : Composer) (found o : Outcome State) → found ≡ o → MatchResult r (λ _. Reached o c) (RefusesUnfolding o) → MatchResult r (λ _. Reached found c) (RefusesUnfolding found)
+answered-same r c found o e h = subst (λ w. MatchResult r (λ _. Reached w c) (RefusesUnfolding w)) (sym e) h
 
 -- ---- a collection ends
 
@@ -73,12 +74,12 @@ abbrev pub rest_of : State → machine.Open → List machine.Open → State
 rest_of s p ps = record { inner = p.before; outer = ps; table = s.table; done = s.done }
 
 pub leave-found : (ns : List Node) (hs : List ℕ) (m : BTreeMap (Bor (List ℕ)) ℕ) (anchored : List (Option NodeId)) (os : List Open) (o : Open) (s : State) (l : Leaves ns hs m anchored os o s) (mapped : Bool) (kind : NodeKind) (places : List NodeId)
-    → Collects ns mapped places kind → AllStand (trees_in ns) places s.inner → (found : Outcome State) → left mapped s s.outer ≡ Some found → (c : Composer)
-    → Holds c (whole l.frame.anchor l.frame.slot (kind_tree (trees_in ns) o.tag.now kind) (rest_of s l.frame l.frames)) → Reached found c
+    → Collects ns mapped places kind → AllStand (trees_in ns) places s.inner → (found : Outcome State) → collection_ended mapped s s.outer ≡ Some found → (c : Composer)
+    → Holds c (whole l.frame.anchor l.frame.slot (kind_tree (trees_in ns) (cow_str_bytes o.tag) kind) (rest_of s l.frame l.frames)) → Reached found c
 leave-found ns hs m anchored os o s l mapped kind places k h found e c p =
     let rest = rest_of s l.frame l.frames in
     let t : State = whole l.frame.anchor l.frame.slot (collection_from mapped l.frame.tag s.inner) rest in
-    let q : Some found ≡ Some (Ok t) = sym e ∙ ap (left mapped s) l.outer in
-    let tree : kind_tree (trees_in ns) o.tag.now kind ≡ collection_from mapped l.frame.tag s.inner =
-    k.tree o.tag.now ∙ (λ z. collection_from mapped (l.stands.tag z) (trees-at (trees_in ns) places s.inner h z)) in
+    let q : Some found ≡ Some (Ok t) = sym e ∙ ap (collection_ended mapped s) l.outer in
+    let tree : kind_tree (trees_in ns) (cow_str_bytes o.tag) kind ≡ collection_from mapped l.frame.tag s.inner =
+    k.tree (cow_str_bytes o.tag) ∙ (λ z. collection_from mapped (l.stands.tag z) (trees-at (trees_in ns) places s.inner h z)) in
     record { state = t; is = cc; holds = subst (λ x. Holds c (whole l.frame.anchor l.frame.slot x rest)) tree p }

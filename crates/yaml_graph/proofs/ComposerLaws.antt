@@ -14,10 +14,10 @@ use Rattle.yaml_text.specs.Tree.{Tree, scalar}
 use Rattle.yaml_text.specs.Event.{Anchor}
 use Rattle.yaml_text.specs.Unfold.{Table, closed, last_named, tree_named, and_then, placed}
 use Rattle.yaml_text.specs.Core.{undefined_alias, cyclic_alias}
-use Rattle.yaml_graph.specs.Machine.{State, start, begun, whole, added}
-use Rattle.yaml_graph.specs.Machine as machine
+use Rattle.yaml_graph.specs.ComposerSteps.{State, initial_state, node_begun, whole, added}
+use Rattle.yaml_graph.specs.ComposerSteps as machine
 use Rattle.yaml_graph.specs.GraphModel.{trees_at, node_tree, trees_in, PartsBelow}
-use Rattle.yaml_graph.specs.ComposerModel.{cut, place_of, last_place, names_of, Stands, AllStand, SlotStands, TableStands, Placed, OpenStands, OpensStand, Held, Holds, Reached}
+use Rattle.yaml_graph.specs.ComposerModel.{cut, place_named, last_place, names_of, TreeStands, AllStand, SlotStands, TableStands, Placed, OpenStands, OpensStand, Held, Holds, Reached}
 use Rattle.std.specs.Option.{IfSome}
 use Rattle.yaml_graph.specs.declared.composer.Composer.{Composer}
 use Rattle.yaml_graph.specs.declared.composer.Open.{Open}
@@ -64,7 +64,7 @@ opens-none ts xs ys (o ∷ os) h = absurd h
 
 -- ---- one more
 
-all-push : (ts : List Tree) (places : List NodeId) (vs : List Tree) (i : NodeId) (v : Tree) → AllStand ts places vs → Stands ts i v → AllStand ts (places ++ (i ∷ [])) (vs ++ (v ∷ []))
+all-push : (ts : List Tree) (places : List NodeId) (vs : List Tree) (i : NodeId) (v : Tree) → AllStand ts places vs → TreeStands ts i v → AllStand ts (places ++ (i ∷ [])) (vs ++ (v ∷ []))
 all-push ts [] [] i v h e = (e, tt)
 all-push ts (j ∷ places) (u ∷ vs) i v h e = (h.0, all-push ts places vs i v h.1 e)
 all-push ts [] (u ∷ vs) i v h e = absurd h
@@ -76,7 +76,7 @@ table-push ts (a ∷ anchored) (o ∷ table) name h = (h.0, table-push ts anchor
 table-push ts [] (o ∷ table) name h = absurd h
 table-push ts (a ∷ anchored) [] name h = absurd h
 
-table-set : (ts : List Tree) (anchored : List (Option NodeId)) (table : Table) (slot : ℕ) (i : NodeId) (t : Tree) (name : List ℕ) → TableStands ts anchored table → Stands ts i t
+table-set : (ts : List Tree) (anchored : List (Option NodeId)) (table : Table) (slot : ℕ) (i : NodeId) (t : Tree) (name : List ℕ) → TableStands ts anchored table → TreeStands ts i t
     → TableStands ts (set anchored slot (Some i)) (set table slot (name, Some t))
 table-set ts [] [] slot i t name h e = tt
 table-set ts (a ∷ anchored) (o ∷ table) zero i t name h e = (e, h.1)
@@ -122,15 +122,15 @@ slot-at ts (b ∷ anchored) [] i a x o h e q = absurd h
 
 module _ (ns : List Node) (hs : List ℕ) (m : BTreeMap (Bor (List ℕ)) ℕ) (anchored : List (Option NodeId)) (os : List Open) (places : List NodeId) (s : State) (h : Held ns hs m anchored os places s) where
   -- no anchor
-  pub held-plain : (a : Anchor) → a ≡ None → Held ns hs m anchored os places (begun a s)
+  pub held-plain : (a : Anchor) → a ≡ None → Held ns hs m anchored os places (node_begun a s)
   held-plain a e = rw e h
 
   -- an anchor
   pub held-begun : (a : Anchor) (name : List ℕ) (new : BTreeMap (Bor (List ℕ)) ℕ) (place : ℕ) → a ≡ Some name → place ≡ length anchored
-      → UpdatesBy (λ x y. slice_cmp nat_cmp x.now y.now) (λ k. slice_cmp nat_cmp name k.now) m new (Some place) → Held ns hs new (anchored ++ (None ∷ [])) os places (begun a s)
+      → UpdatesBy (λ x y. slice_cmp nat_cmp x.now y.now) (λ k. slice_cmp nat_cmp name k.now) m new (Some place) → Held ns hs new (anchored ++ (None ∷ [])) os places (node_begun a s)
   held-begun a name new place e l u =
       let n : place ≡ length s.table = l ∙ table-length (trees_in ns) anchored s.table h.anchors in
-      let made : Held ns hs new (anchored ++ (None ∷ [])) os places (begun (Some name) s) = record {
+      let made : Held ns hs new (anchored ++ (None ∷ [])) os places (node_begun (Some name) s) = record {
         grounded = h.grounded;
         measured = h.measured;
         inside = h.inside;
@@ -139,22 +139,22 @@ module _ (ns : List Node) (hs : List ℕ) (m : BTreeMap (Bor (List ℕ)) ℕ) (a
         named = named-push s.table m new name place h.named n u;
         done = h.done;
       } in
-      subst (λ z. Held ns hs new (anchored ++ (None ∷ [])) os places (begun z s)) (sym e) made
+      subst (λ z. Held ns hs new (anchored ++ (None ∷ [])) os places (node_begun z s)) (sym e) made
 
-  pub placed-begun : (a : Anchor) (name : List ℕ) (place : ℕ) → a ≡ Some name → place ≡ length anchored → Placed (names_of (begun a s).table) (Some place) a (length s.table)
+  pub placed-begun : (a : Anchor) (name : List ℕ) (place : ℕ) → a ≡ Some name → place ≡ length anchored → Placed (names_of (node_begun a s).table) (Some place) a (length s.table)
   placed-begun a name place e l =
       let n : place ≡ length s.table = l ∙ table-length (trees_in ns) anchored s.table h.anchors in
-      subst (λ z. Placed (names_of (begun z s).table) (Some place) z (length s.table)) (sym e) (placed-push s.table name place n)
+      subst (λ z. Placed (names_of (node_begun z s).table) (Some place) z (length s.table)) (sym e) (placed-push s.table name place n)
 
   -- the map has places that there are
-  pub place-within : (name : List ℕ) (i : ℕ) → place_of m name ≡ Some i → Found (Some i) (last_named name s.table) s.table
+  pub place-within : (name : List ℕ) (i : ℕ) → place_named m name ≡ Some i → Found (Some i) (last_named name s.table) s.table
   place-within name i e = subst (λ p. Found p (last_named name s.table) s.table) (sym (h.named name) ∙ e) (found name s.table)
 
-  pub no-place : (name : List ℕ) → place_of m name ≡ None → Found None (last_named name s.table) s.table
+  pub no-place : (name : List ℕ) → place_named m name ≡ None → Found None (last_named name s.table) s.table
   no-place name e = subst (λ p. Found p (last_named name s.table) s.table) (sym (h.named name) ∙ e) (found name s.table)
 
   -- another node stands in the innermost collection
-  pub held-alias : (i : NodeId) (t : Tree) → Stands (trees_in ns) i t → Held ns hs m anchored os (places ++ (i ∷ [])) (record { inner = s.inner ++ (t ∷ []); outer = s.outer; table = s.table; done = s.done })
+  pub held-alias : (i : NodeId) (t : Tree) → TreeStands (trees_in ns) i t → Held ns hs m anchored os (places ++ (i ∷ [])) (record { inner = s.inner ++ (t ∷ []); outer = s.outer; table = s.table; done = s.done })
   held-alias i t e =
       record { grounded = h.grounded; measured = h.measured; inside = all-push (trees_in ns) places s.inner i t h.inside e; outside = h.outside; anchors = h.anchors; named = h.named; done = h.done }
 
@@ -189,7 +189,7 @@ abbrev pub filled : Option ℕ → NodeId → List (Option NodeId) → List (Opt
 filled None i anchored = anchored
 filled (Some place) i anchored = set anchored place (Some i)
 
-table-closed : (ts : List Tree) (names : List (List ℕ)) (anchored : List (Option NodeId)) (table : Table) (place : Option ℕ) (a : Anchor) (slot : ℕ) (i : NodeId) (t : Tree) → TableStands ts anchored table → Stands ts i t → Placed names place a slot
+table-closed : (ts : List Tree) (names : List (List ℕ)) (anchored : List (Option NodeId)) (table : Table) (place : Option ℕ) (a : Anchor) (slot : ℕ) (i : NodeId) (t : Tree) → TableStands ts anchored table → TreeStands ts i t → Placed names place a slot
     → TableStands ts (filled place i anchored) (closed a slot t table)
 table-closed ts names anchored table None None slot i t h e w = h
 table-closed ts names anchored table (Some place) (Some name) slot i t h e w = subst (λ n. TableStands ts (set anchored n (Some i)) (set table slot (name, Some t))) (sym w.0) (table-set ts anchored table slot i t name h e)
@@ -204,7 +204,7 @@ held-whole ns hs m anchored os places s h n high i below is number place a slot 
     let t = node_tree (trees_in ns) n in
     let us = t ∷ [] in
     let q : trees_in ns ++ us ≡ trees_in (ns ++ (n ∷ [])) = sym (trees-push ns n) in
-    let here : Stands (trees_in ns ++ us) i t = subst (λ k. slice_get (trees_in ns ++ us) k ≡ Some t) (trees-length ns ∙ sym number) (get-end (trees_in ns) t) in
+    let here : TreeStands (trees_in ns ++ us) i t = subst (λ k. slice_get (trees_in ns ++ us) k ≡ Some t) (trees-length ns ∙ sym number) (get-end (trees_in ns) t) in
     let names : names_of s.table ≡ names_of (closed a slot t s.table) = sym (names-closed s.table place a slot t w) in
     record {
       grounded = get-push (λ k x. PartsBelow k x.kind) ns n h.grounded below;
@@ -240,7 +240,7 @@ held-leave ns hs m anchored os o places s h =
     leaves-by ns hs m anchored os o places s s.outer refl h (subst (λ z. OpensStand (trees_in ns) (names_of s.table) z s.outer) (reverse-append os (o ∷ [])) h.outside)
 
 pub held-start : (ns : List Node) (hs : List ℕ) (m : BTreeMap (Bor (List ℕ)) ℕ) (anchored : List (Option NodeId)) (os : List Open) (places : List NodeId) → ns ≡ [] → hs ≡ [] → m.entries ≡ [] → anchored ≡ [] → os ≡ [] → places ≡ []
-    → Held ns hs m anchored os places start
+    → Held ns hs m anchored os places initial_state
 unfolding last_place
 held-start ns hs m anchored os places en eh em ea eo ep = rw (en, eh, ea, eo, ep) (record {
   grounded = λ k n e. absurd (cc);
@@ -294,19 +294,19 @@ open-slot ts (Some t) h = absurd h
 record WholeSlot (ts : List Tree) (i : NodeId) (o : Option Tree) : Type 0 where
   tree : Tree
   is : o ≡ Some tree
-  stands : Stands ts i tree
+  stands : TreeStands ts i tree
 
 whole-slot : (ts : List Tree) (i : NodeId) (o : Option Tree) → SlotStands ts (Some i) o → WholeSlot ts i o
 whole-slot ts i (Some t) h = record { tree = t; is = refl; stands = h }
 whole-slot ts i None h = absurd h
 
 module _ (at : ℕ) (name : List ℕ) (c : Composer) (s : State) (h : Holds c s) where
-  pub alias-undefined : place_of c.names name ≡ None → and_then (placed at (tree_named (last_named name s.table))) (added s) ≡ Err (undefined_alias, at)
+  pub alias-undefined : place_named c.names name ≡ None → and_then (placed at (tree_named (last_named name s.table))) (added s) ≡ Err (undefined_alias, at)
   alias-undefined e =
       let q : last_named name s.table ≡ None = found-none (last_named name s.table) s.table (no-place c.nodes.items c.heights.items c.names c.anchored.items c.outer.items c.inner.items s h name e) in
       ap (λ o. and_then (placed at (tree_named o)) (added s)) q
 
-  module _ (i : ℕ) (e : place_of c.names name ≡ Some i) where
+  module _ (i : ℕ) (e : place_named c.names name ≡ Some i) where
     at-place : FoundAt i (last_named name s.table) s.table
     at-place = found-at i (last_named name s.table) s.table (place-within c.nodes.items c.heights.items c.names c.anchored.items c.outer.items c.inner.items s h name i e)
 

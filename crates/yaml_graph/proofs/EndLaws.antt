@@ -4,11 +4,11 @@ use Rattle.std.specs.Prelude.{Some}
 use Rattle.std.specs.List.{All, slice_get}
 use Rattle.yaml_text.specs.Limits.{height_limit}
 use Rattle.yaml_text.specs.Tree.{Tree, height}
-use Rattle.yaml_text.specs.Marked.{Document}
+use Rattle.yaml_text.specs.Serial.{Document}
 use Rattle.yaml_text.specs.Unfold.{trees_of}
 use Rattle.yaml_graph.specs.Closing.{stream_trees}
 use Rattle.yaml_graph.specs.Composed.{IsFirstHigh}
-use Rattle.yaml_graph.specs.Machine.{State}
+use Rattle.yaml_graph.specs.ComposerSteps.{State}
 use Rattle.yaml_graph.specs.GraphModel.{trees_in}
 use Rattle.yaml_graph.specs.ComposerModel.{cut, AllStand, Holds, IsBelow, AllBelow, IsFirstAbove}
 use Rattle.yaml_graph.specs.declared.composer.Composer.{Composer}

@@ -3,7 +3,7 @@ use Rattle.std.proofs.Common.{◌≡◌, ◌<◌, ◌≤◌, ℕ, zero, suc, Lis
 use Rattle.std.specs.List.{All}
 use Rattle.yaml_text.specs.Limits.{height_limit}
 use Rattle.yaml_text.specs.Tree.{Tree, Trees, Pairs, scalar, sequence, mapping, end, item, done, entry, height, heights, heights_of_pairs}
-use Rattle.yaml_text.specs.Marked.{Marked, AllMarked, MarkedPairs, alias, scalar_at, sequence_at, mapping_at, end_marks, item_mark, done_marks, entry_marks, Document}
+use Rattle.yaml_text.specs.Serial.{SerialNode, SerialNodes, SerialPairs, alias_at, scalar_at, sequence_at, mapping_at, end_serial, item_serial, done_serial, entry_serial, Document}
 use Rattle.yaml_graph.specs.Closing.{trees_inside, trees_inside_all, trees_inside_pairs, stream_trees}
 use Rattle.yaml_graph.specs.ComposerModel.{cut}
 
@@ -19,8 +19,8 @@ low-append h (t ∷ ts) us k l = (k.0, low-append h ts us k.1 l)
 mutual
   unfolding trees_inside
 
-  low-node : (m : Marked) (t : Tree) (h : ℕ) → height t ≤ h → Low h (trees_inside m t)
-  low-node (alias name) t h k = tt
+  low-node : (m : SerialNode) (t : Tree) (h : ℕ) → height t ≤ h → Low h (trees_inside m t)
+  low-node (alias_at name) t h k = tt
   low-node (scalar_at a g y x) t h k = (k, tt)
   low-node (sequence_at a g b ms) (sequence w ts) h k = low-append h (trees_inside_all ms ts) (sequence w ts ∷ []) (low-all ms ts h k) (k, tt)
   low-node (sequence_at a g b ms) (scalar w x) h k = tt
@@ -29,15 +29,15 @@ mutual
   low-node (mapping_at a g b ps) (scalar w x) h k = tt
   low-node (mapping_at a g b ps) (sequence w ts) h k = tt
 
-  low-all : (ms : AllMarked) (ts : Trees) (h : ℕ) → heights ts ≤ h → Low h (trees_inside_all ms ts)
-  low-all end_marks ts h k = tt
-  low-all (item_mark m ms) end h k = tt
-  low-all (item_mark m ms) (item t ts) h k = low-append h (trees_inside m t) (trees_inside_all ms ts) (low-node m t h (omega arith)) (low-all ms ts h (omega arith))
+  low-all : (ms : SerialNodes) (ts : Trees) (h : ℕ) → heights ts ≤ h → Low h (trees_inside_all ms ts)
+  low-all end_serial ts h k = tt
+  low-all (item_serial m ms) end h k = tt
+  low-all (item_serial m ms) (item t ts) h k = low-append h (trees_inside m t) (trees_inside_all ms ts) (low-node m t h (omega arith)) (low-all ms ts h (omega arith))
 
-  low-pairs : (ps : MarkedPairs) (qs : Pairs) (h : ℕ) → heights_of_pairs qs ≤ h → Low h (trees_inside_pairs ps qs)
-  low-pairs done_marks qs h k = tt
-  low-pairs (entry_marks i j ps) done h k = tt
-  low-pairs (entry_marks i j ps) (entry t u qs) h k =
+  low-pairs : (ps : SerialPairs) (qs : Pairs) (h : ℕ) → heights_of_pairs qs ≤ h → Low h (trees_inside_pairs ps qs)
+  low-pairs done_serial qs h k = tt
+  low-pairs (entry_serial i j ps) done h k = tt
+  low-pairs (entry_serial i j ps) (entry t u qs) h k =
       low-append h (trees_inside i t) (trees_inside j u ++ trees_inside_pairs ps qs) (low-node i t h (omega arith))
       (low-append h (trees_inside j u) (trees_inside_pairs ps qs) (low-node j u h (omega arith)) (low-pairs ps qs h (omega arith)))
 

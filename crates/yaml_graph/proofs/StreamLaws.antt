@@ -5,19 +5,19 @@ use Rattle.std.proofs.lemmas.List.{drop_all}
 use Rattle.yaml_text.specs.Tree.{Tree}
 use Rattle.yaml_text.specs.Core.{Cause, undefined_alias, cyclic_alias, wrong_kind, bad_content, int_range, float_range}
 use Rattle.yaml_text.specs.Unfold.{Outcome, and_then, trees_of}
-use Rattle.yaml_text.specs.Marked.{Document, stream_events}
+use Rattle.yaml_text.specs.Serial.{Document, stream_events}
 use Rattle.yaml_text.specs.EventModel.{event_of}
 use Rattle.yaml_text.specs.declared.fault.Fault.{Fault}
 use Rattle.yaml_text.specs.declared.fault.Fault.TheVariants as faults
 use Rattle.yaml_text.specs.declared.event.Event as code
 use Rattle.yaml_text.specs.declared.event.Event.TheVariants as events
 use Rattle.yaml_graph.specs.Closing.{stream_trees}
-use Rattle.yaml_graph.specs.Composed.{Refuses, RefusesStream}
-use Rattle.yaml_graph.specs.Machine.{State, start, cleared, step, told, next, run}
-use Rattle.yaml_graph.specs.Machine as machine
+use Rattle.yaml_graph.specs.Composed.{RefusesUnfolding, RefusesStream}
+use Rattle.yaml_graph.specs.ComposerSteps.{State, initial_state, cleared, step, on_outcome, next, steps}
+use Rattle.yaml_graph.specs.ComposerSteps as machine
 use Rattle.yaml_graph.specs.ComposerModel.{Holds, Reached}
 use Rattle.yaml_graph.specs.declared.composer.Composer.{Composer}
-use Rattle.yaml_graph.proofs.MachineLaws.{comes_to, with_all, run-stream}
+use Rattle.yaml_graph.proofs.StepLaws.{comes_to, with_all, run-stream}
 
 -- ---- one event
 
@@ -64,33 +64,33 @@ stream-found ds (Ok f) ts us h =
 stream-found ds (Err e) ts us h = absurd (cc)
 
 module _ (es : List code.Event) (ds : List Document) (cut : map event_of es ≡ stream_events ds) where
-  total-is : comes_to (run 0 (map event_of es) start) ≡ Some (and_then (trees_of ds) (with_all [] [] ds))
-  total-is = ap (λ x. comes_to (run 0 x start)) cut ∙ run-stream ds
+  total-is : comes_to (steps 0 (map event_of es) initial_state) ≡ Some (and_then (trees_of ds) (with_all [] [] ds))
+  total-is = ap (λ x. comes_to (steps 0 x initial_state)) cut ∙ run-stream ds
 
   -- what the step at this place comes to
   pub record Stepped (at : ℕ) (e : code.Event) (s : State) : Type 0 where
     pub found : Outcome State
     pub is : step at (event_of e) s ≡ Some found
-    pub rest : told found (run (suc at) (map event_of (drop (suc at) es))) ≡ run 0 (map event_of es) start
+    pub rest : on_outcome found (steps (suc at) (map event_of (drop (suc at) es))) ≡ steps 0 (map event_of es) initial_state
 
-  stepped-by : (at : ℕ) (e : code.Event) (s : State) (o : Option (Outcome State)) → step at (event_of e) s ≡ o → next o (run (suc at) (map event_of (drop (suc at) es))) ≡ run 0 (map event_of es) start → Stepped at e s
+  stepped-by : (at : ℕ) (e : code.Event) (s : State) (o : Option (Outcome State)) → step at (event_of e) s ≡ o → next o (steps (suc at) (map event_of (drop (suc at) es))) ≡ steps 0 (map event_of es) initial_state → Stepped at e s
   stepped-by at e s None q h = let w : comes_to None ≡ Some (and_then (trees_of ds) (with_all [] [] ds)) = ap comes_to h ∙ total-is in absurd (cc)
   stepped-by at e s (Some found) q h = record { found = found; is = q; rest = h }
 
-  pub stepped : (at : ℕ) (e : code.Event) (s : State) → e ≡ get_or es at e → at < length es → run at (map event_of (drop at es)) s ≡ run 0 (map event_of es) start → Stepped at e s
-  unfolding run
+  pub stepped : (at : ℕ) (e : code.Event) (s : State) → e ≡ get_or es at e → at < length es → steps at (map event_of (drop at es)) s ≡ steps 0 (map event_of es) initial_state → Stepped at e s
+  unfolding steps
   stepped at e s i l h =
       let q : drop at es ≡ e ∷ drop (suc at) es = drop-cons es at e l ∙ ap (λ x. x ∷ drop (suc at) es) (sym i) in
-      stepped-by at e s (step at (event_of e) s) refl (ap (λ x. run at (map event_of x) s) (sym q) ∙ h)
+      stepped-by at e s (step at (event_of e) s) refl (ap (λ x. steps at (map event_of x) s) (sym q) ∙ h)
 
-  pub goes-on : (at : ℕ) (e : code.Event) (s : State) (k : Stepped at e s) (c : Composer) (r : Reached k.found c) → run (at + 1) (map event_of (drop (at + 1) es)) r.state ≡ run 0 (map event_of es) start
-  goes-on at e s k c r = rw add-one (ap (λ o. told o (run (suc at) (map event_of (drop (suc at) es)))) (sym r.is) ∙ k.rest)
+  pub goes-on : (at : ℕ) (e : code.Event) (s : State) (k : Stepped at e s) (c : Composer) (r : Reached k.found c) → steps (at + 1) (map event_of (drop (at + 1) es)) r.state ≡ steps 0 (map event_of es) initial_state
+  goes-on at e s k c r = rw add-one (ap (λ o. on_outcome o (steps (suc at) (map event_of (drop (suc at) es)))) (sym r.is) ∙ k.rest)
 
   refused-by : (at : ℕ) (e : code.Event) (s : State) (k : Stepped at e s) (x : Cause × ℕ) → k.found ≡ Err x → trees_of ds ≡ Err x
   refused-by at e s k x q =
-      stream-refused ds (trees_of ds) x (ap (λ o. comes_to (told o (run (suc at) (map event_of (drop (suc at) es))))) (sym q) ∙ (ap comes_to k.rest ∙ total-is))
+      stream-refused ds (trees_of ds) x (ap (λ o. comes_to (on_outcome o (steps (suc at) (map event_of (drop (suc at) es))))) (sym q) ∙ (ap comes_to k.rest ∙ total-is))
 
-  pub refused : (at : ℕ) (e : code.Event) (s : State) (k : Stepped at e s) (f : Fault) → Refuses k.found f → RefusesStream ds f
+  pub refused : (at : ℕ) (e : code.Event) (s : State) (k : Stepped at e s) (f : Fault) → RefusesUnfolding k.found f → RefusesStream ds f
   refused at e s k (faults.UndefinedAlias n) h = refused-by at e s k (undefined_alias, n) h
   refused at e s k (faults.CyclicAlias n) h = refused-by at e s k (cyclic_alias, n) h
   refused at e s k (faults.WrongKind n) h = refused-by at e s k (wrong_kind, n) h
@@ -101,8 +101,8 @@ module _ (es : List code.Event) (ds : List Document) (cut : map event_of es ≡ 
   refused at e s k _ h = absurd h
 
   -- the roots that stand at last are the documents' trees, and the nodes are all of their own
-  pub ended : (at : ℕ) (s : State) → length es ≤ at → run at (map event_of (drop at es)) s ≡ run 0 (map event_of es) start → (trees_of ds ≡ Ok s.inner) × (s.done ≡ stream_trees ds s.inner)
-  unfolding run
+  pub ended : (at : ℕ) (s : State) → length es ≤ at → steps at (map event_of (drop at es)) s ≡ steps 0 (map event_of es) initial_state → (trees_of ds ≡ Ok s.inner) × (s.done ≡ stream_trees ds s.inner)
+  unfolding steps
   ended at s l q =
-      let e : Some (Ok (s.inner, s.done)) ≡ Some (and_then (trees_of ds) (with_all [] [] ds)) = ap (λ x. comes_to (run at (map event_of x) s)) (sym (drop_all at es l)) ∙ (ap comes_to q ∙ total-is) in
+      let e : Some (Ok (s.inner, s.done)) ≡ Some (and_then (trees_of ds) (with_all [] [] ds)) = ap (λ x. comes_to (steps at (map event_of x) s)) (sym (drop_all at es l)) ∙ (ap comes_to q ∙ total-is) in
       stream-found ds (trees_of ds) s.inner s.done e

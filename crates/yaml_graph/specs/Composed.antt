@@ -3,7 +3,7 @@ use Rattle.std.specs.Prelude.{◌≡◌, ℕ, ◌<◌, ◌≤◌, List, map, Som
 use Rattle.std.specs.List.{slice_get, All}
 use Rattle.yaml_text.specs.Limits.{height_limit}
 use Rattle.yaml_text.specs.Tree.{Tree, height}
-use Rattle.yaml_text.specs.Marked.{Document, stream_events}
+use Rattle.yaml_text.specs.Serial.{Document, stream_events}
 use Rattle.yaml_text.specs.Core.{undefined_alias, cyclic_alias, wrong_kind, bad_content, int_range, float_range}
 use Rattle.yaml_text.specs.Unfold.{Outcome, trees_of}
 use Rattle.yaml_text.specs.EventModel.{event_of}
@@ -29,7 +29,7 @@ pub record Composed (ds : List Document) (g : Graph) : Type 0 where
   pub unfolded : trees_of ds ≡ Ok trees
   pub low : AreLow trees
   pub roots : graph.forest g ≡ trees
-  pub nodes : graph.trees_of g ≡ stream_trees ds trees
+  pub nodes : graph.graph_trees g ≡ stream_trees ds trees
 
 -- the documents unfold, and the tree of this one is the first that is higher than the limit
 pub record IsFirstHigh (ds : List Document) (number : ℕ) : Type 0 where
@@ -41,17 +41,17 @@ pub record IsFirstHigh (ds : List Document) (number : ℕ) : Type 0 where
   pub before : (k : ℕ) (t : Tree) → k < number → slice_get trees k ≡ Some t → height t ≤ height_limit
 
 -- What was found is this fault, at the same event. Memory may be refused at any time.
-abbrev pub Refuses : {X : Type 0} → Outcome X → Fault → Type 0
-Refuses found (UndefinedAlias event) = found ≡ Err (undefined_alias, event)
-Refuses found (CyclicAlias event) = found ≡ Err (cyclic_alias, event)
-Refuses found (WrongKind event) = found ≡ Err (wrong_kind, event)
-Refuses found (BadContent event) = found ≡ Err (bad_content, event)
-Refuses found (IntRange event) = found ≡ Err (int_range, event)
-Refuses found (FloatRange event) = found ≡ Err (float_range, event)
-Refuses found OutOfMemory = Unit {0}
-Refuses found _ = ⊥
+abbrev pub RefusesUnfolding : {X : Type 0} → Outcome X → Fault → Type 0
+RefusesUnfolding found (UndefinedAlias event) = found ≡ Err (undefined_alias, event)
+RefusesUnfolding found (CyclicAlias event) = found ≡ Err (cyclic_alias, event)
+RefusesUnfolding found (WrongKind event) = found ≡ Err (wrong_kind, event)
+RefusesUnfolding found (BadContent event) = found ≡ Err (bad_content, event)
+RefusesUnfolding found (IntRange event) = found ≡ Err (int_range, event)
+RefusesUnfolding found (FloatRange event) = found ≡ Err (float_range, event)
+RefusesUnfolding found OutOfMemory = Unit {0}
+RefusesUnfolding found _ = ⊥
 
 -- the documents do not unfold, or one of their trees is too high
 abbrev pub RefusesStream : List Document → Fault → Type 0
 RefusesStream ds (TooHigh document) = IsFirstHigh ds document
-RefusesStream ds fault = Refuses (trees_of ds) fault
+RefusesStream ds fault = RefusesUnfolding (trees_of ds) fault

@@ -2,6 +2,7 @@
 use Rattle.std.specs.Prelude.{◌≡◌, ◌<◌, ◌≤◌, ℕ, suc, min, slice_index, Bool, true, false, List, [], ◌∷◌, Option, Some, None, Ok, cond, bytes_eq, reverse, map, length}
 use Rattle.std.specs.List.{slice_get}
 use Rattle.std.specs.Borrow.{Bor}
+use Rattle.std.specs.Cow.{cow_str_bytes}
 use Rattle.std.specs.Option.{option_map}
 use Rattle.std.specs.BTreeMap.{BTreeMap, get_by}
 use Rattle.std.specs.Cmp.Lexicographic.{slice_cmp}
@@ -10,7 +11,7 @@ use Rattle.yaml_text.specs.Limits.{height_limit}
 use Rattle.yaml_text.specs.Tree.{Tree, height}
 use Rattle.yaml_text.specs.Event.{Anchor}
 use Rattle.yaml_text.specs.Unfold.{Outcome, Table, or_else}
-use Rattle.yaml_graph.specs.Machine as machine
+use Rattle.yaml_graph.specs.ComposerSteps as machine
 use Rattle.yaml_graph.specs.GraphModel.{kind_tree, trees_in, trees_at, PartsBelow, Grounded}
 use Rattle.yaml_graph.specs.declared.composer.Composer.{Composer}
 use Rattle.yaml_graph.specs.declared.composer.Open.{Open}
@@ -29,16 +30,16 @@ abbrev pub kind_number : Collection → ℕ
 kind_number collections.Sequence = 1
 kind_number collections.Mapping = 2
 
-abbrev pub anchor_text : Option (Bor (List ℕ)) → Anchor
-anchor_text anchor = option_map (λ name. name.now) anchor
+abbrev pub anchor_view : Option (Bor (List ℕ)) → Anchor
+anchor_view anchor = option_map (λ name. name.now) anchor
 
 -- the tree's height, cut just above the limit
 abbrev pub cut : Tree → ℕ
 cut t = min (height t) (suc height_limit)
 
 -- where the map has this name
-abbrev pub place_of : BTreeMap (Bor (List ℕ)) ℕ → List ℕ → Option ℕ
-place_of names name = get_by (λ k. slice_cmp nat_cmp name k.now) names
+abbrev pub place_named : BTreeMap (Bor (List ℕ)) ℕ → List ℕ → Option ℕ
+place_named names name = get_by (λ k. slice_cmp nat_cmp name k.now) names
 
 -- the last place of this name
 unfoldable pub last_place : List ℕ → List (List ℕ) → Option ℕ
@@ -50,17 +51,17 @@ abbrev pub names_of : Table → List (List ℕ)
 names_of table = map (λ o. o.0) table
 
 -- the tree stands at this place
-abbrev pub Stands : List Tree → NodeId → Tree → Type 0
-Stands ts i t = slice_get ts i.0 ≡ Some t
+abbrev pub TreeStands : List Tree → NodeId → Tree → Type 0
+TreeStands ts i t = slice_get ts i.0 ≡ Some t
 
 abbrev pub AllStand : List Tree → List NodeId → List Tree → Type 0
 AllStand ts [] [] = Unit {0}
-AllStand ts (i ∷ places) (u ∷ us) = Stands ts i u × AllStand ts places us
+AllStand ts (i ∷ places) (u ∷ us) = TreeStands ts i u × AllStand ts places us
 AllStand ts _ _ = ⊥
 
 abbrev pub SlotStands : List Tree → Option NodeId → Option Tree → Type 0
 SlotStands ts None None = Unit {0}
-SlotStands ts (Some i) (Some u) = Stands ts i u
+SlotStands ts (Some i) (Some u) = TreeStands ts i u
 SlotStands ts _ _ = ⊥
 
 abbrev pub TableStands : List Tree → List (Option NodeId) → Table → Type 0
@@ -76,7 +77,7 @@ Placed names _ _ slot = ⊥
 
 pub record OpenStands (ts : List Tree) (names : List (List ℕ)) (o : Open) (p : machine.Open) : Type 0 where
   pub place : Placed names o.place p.anchor p.slot
-  pub tag : o.tag.now ≡ p.tag
+  pub tag : cow_str_bytes o.tag ≡ p.tag
   pub before : AllStand ts o.before.items p.before
 
 abbrev pub OpensStand : List Tree → List (List ℕ) → List Open → List machine.Open → Type 0
@@ -96,7 +97,7 @@ pub record Held (nodes : List Node) (heights : List ℕ) (names : BTreeMap (Bor 
   pub inside : AllStand (trees_in nodes) inner s.inner
   pub outside : OpensStand (trees_in nodes) (names_of s.table) (reverse outer) s.outer
   pub anchors : TableStands (trees_in nodes) anchored s.table
-  pub named : (name : List ℕ) → place_of names name ≡ last_place name (names_of s.table)
+  pub named : (name : List ℕ) → place_named names name ≡ last_place name (names_of s.table)
   pub done : trees_in nodes ≡ s.done
 
 abbrev pub Holds : Composer → machine.State → Type 0

@@ -4,5 +4,5 @@ pub mod GraphView
 pub mod JoinModel
 pub mod Closing
 pub mod Composed
-pub mod Machine
+pub mod ComposerSteps
 pub mod ComposerModel

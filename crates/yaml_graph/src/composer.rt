@@ -9,52 +9,55 @@ ghost use Rattle.yaml_text.specs.Core.{Resolved, resolve, collection_tag};
 ghost use Rattle.yaml_text.specs.Unfold.{Outcome, and_then, placed, tree_named, last_named};
 ghost use Rattle.yaml_text.specs.EventModel.{event_of, written_of, style_of};
 ghost use Rattle.yaml_graph.specs.GraphModel.{node_tree, trees_in, PartsBelow};
-ghost use Rattle.yaml_graph.specs.Composed.{Refuses};
-ghost use Rattle.yaml_graph.specs.Machine.{State, start, begun, whole, entered, left, added, step, scalar_added};
-ghost use Rattle.yaml_graph.specs.Machine.{paired as pairs_of};
-ghost use Rattle.yaml_graph.specs.ComposerModel.{is_mapping, kind_number, anchor_text, names_of, Placed, Collects, Holds, Reached};
+ghost use Rattle.yaml_graph.specs.Composed.{RefusesUnfolding};
+ghost use Rattle.yaml_graph.specs.ComposerSteps.{State, initial_state, node_begun, whole, collection_begun, collection_ended, added, step, scalar_added};
+ghost use Rattle.yaml_graph.specs.ComposerSteps.{paired as pairs_of};
+ghost use Rattle.yaml_graph.specs.ComposerModel.{is_mapping, kind_number, anchor_view, names_of, Placed, Collects, Holds, Reached};
 ghost use Rattle.yaml_graph.specs.declared.node.Node.{Node};
 ghost use Rattle.yaml_graph.specs.declared.node.NodeId.{NodeId};
 
 use crate::height;
+use crate::kept::scalar_of;
 use crate::node::{Node, NodeId, NodeKind};
 use crate::tag::Collection;
 use std::alloc::Global;
 use std::borrow::CowStr;
 use std::collections::BTreeMap;
 use std::mem;
-use yaml_core::scalar::{CoreFault, resolve};
+use yaml_core::scalar::CoreFault;
 use yaml_text::event::{Event, EventTag, Style};
 use yaml_text::fault::Fault;
 
 /// A collection that is still open.
 #[derive(Drop)]
-pub(crate) struct Open<'a> {
+pub(crate) struct Open<'s> {
     /// Its place among the anchored nodes, if it has an anchor.
     place: Option<usize>,
-    tag: &'a str,
+    tag: CowStr<'s>,
     /// The nodes that stand before it in its parent.
     before: Vec<NodeId>,
 }
 
+/// What was composed of the events so far. Names are lent by the events, and what the graph keeps by
+/// their source.
 #[derive(Drop)]
-pub(crate) struct Composer<'a> {
-    pub(crate) nodes: Vec<Node<'a>>,
+pub(crate) struct Composer<'e, 's> {
+    pub(crate) nodes: Vec<Node<'s>>,
     /// The nodes' heights, cut just above the limit.
     pub(crate) heights: Vec<u32>,
     /// For each name of an anchor of this document, the place of the last node that has it.
-    names: BTreeMap<&'a str, usize>,
+    names: BTreeMap<&'e str, usize>,
     /// The nodes of this document that have anchors, in the order in which they begin; none where
     /// the node is still open.
     anchored: Vec<Option<NodeId>>,
-    outer: Vec<Open<'a>>,
+    outer: Vec<Open<'s>>,
     /// The whole nodes of the innermost open collection. Where none is open, the roots.
     pub(crate) inner: Vec<NodeId>,
 }
 
-impl<'a> Composer<'a> {
-    pub(crate) fn new(alloc: Global) -> Composer<'a>
-        ensures { Holds result start }
+impl<'e, 's> Composer<'e, 's> {
+    pub(crate) fn new(alloc: Global) -> Composer<'e, 's>
+        ensures { Holds result initial_state }
     {
         Composer {
             nodes: Vec::new(alloc),
@@ -67,8 +70,8 @@ impl<'a> Composer<'a> {
     }
 
     /// Notes that a node begins, and gives its place among the anchored ones.
-    fn begin(&mut self, anchor: Option<&'a str>) -> Result<Option<usize>, Fault>
-        ensures ok { (s : State) → Holds self.old s → IfOk result (λ place. Placed (names_of (begun (anchor_text anchor.entry) s).table) place (anchor_text anchor.entry) (length s.table) × Holds self.new (begun (anchor_text anchor.entry) s)) }
+    fn begin(&mut self, anchor: Option<&'e str>) -> Result<Option<usize>, Fault>
+        ensures ok { (s : State) → Holds self.old s → IfOk result (λ place. Placed (names_of (node_begun (anchor_view anchor.entry) s).table) place (anchor_view anchor.entry) (length s.table) × Holds self.new (node_begun (anchor_view anchor.entry) s)) }
         ensures err { IfErr result (λ fault. fault ≡ Fault.OutOfMemory) }
     {
         let Some(name) = anchor else {
@@ -81,7 +84,7 @@ impl<'a> Composer<'a> {
     }
 
     /// Adds a whole node, with its place among the anchored ones.
-    fn add(&mut self, place: Option<usize>, node: Node<'a>) -> Result<(), Fault>
+    fn add(&mut self, place: Option<usize>, node: Node<'s>) -> Result<(), Fault>
         requires below { PartsBelow (length self.old.nodes.items) node.kind }
         requires within { IfSome place (λ i. i < length self.old.anchored.items) }
         requires held { (s : State) × Holds self.old s }
@@ -104,17 +107,17 @@ impl<'a> Composer<'a> {
         &mut self,
         alloc: Global,
         at: usize,
-        anchor: Option<&'a str>,
-        tag: &'a EventTag<'_>,
+        anchor: Option<&'e str>,
+        tag: &EventTag<'s>,
         style: Style,
-        text: &'a str,
+        text: &CowStr<'s>,
     ) -> Result<(), Fault>
         requires { (s : State) × Holds self.old s }
         ensures { (s : State) → Holds self.old s →
-            let found = and_then (placed at (resolve (written_of tag.now) (style_of style) text.now)) (scalar_added (anchor_text anchor.entry) s) in
-            MatchResult result (λ _. Reached found self.new) (Refuses found) }
+            let found = and_then (placed at (resolve (written_of tag.now) (style_of style) (cow_str_bytes text.now))) (scalar_added (anchor_view anchor.entry) s) in
+            MatchResult result (λ _. Reached found self.new) (RefusesUnfolding found) }
     {
-        match resolve(alloc, tag, style, text) {
+        match scalar_of(alloc, tag, style, text) {
             Ok(scalar) => {
                 let place = self.begin(anchor)?;
                 let kind = NodeKind::Scalar(scalar.content);
@@ -136,14 +139,14 @@ impl<'a> Composer<'a> {
         alloc: Global,
         at: usize,
         collection: Collection,
-        anchor: Option<&'a str>,
-        tag: &'a EventTag<'_>,
+        anchor: Option<&'e str>,
+        tag: &EventTag<'s>,
     ) -> Result<(), Fault>
         ensures { (s : State) → Holds self.old s →
-            let found = and_then (placed at (collection_tag (kind_number collection) (written_of tag.now))) (λ h. Ok (entered (anchor_text anchor.entry) s h)) in
-            MatchResult result (λ _. Reached found self.new) (Refuses found) }
+            let found = and_then (placed at (collection_tag (kind_number collection) (written_of tag.now))) (λ h. Ok (collection_begun (anchor_view anchor.entry) s h)) in
+            MatchResult result (λ _. Reached found self.new) (RefusesUnfolding found) }
     {
-        let tag = collection.tag(at, tag)?;
+        let tag = collection.tag(alloc, at, tag)?;
         let place = self.begin(anchor)?;
         let before = mem::replace(&mut self.inner, Vec::new(alloc));
         self.outer.push(Open { place, tag, before })?;
@@ -153,13 +156,13 @@ impl<'a> Composer<'a> {
     /// The innermost collection ends.
     fn leave(&mut self, alloc: Global, collection: Collection) -> Result<(), Fault>
         requires { (s : State) × Holds self.old s }
-        ensures ok { (s : State) → Holds self.old s → (found : Outcome State) → left (is_mapping collection) s s.outer ≡ Some found → IfOk result (λ _. Reached found self.new) }
+        ensures ok { (s : State) → Holds self.old s → (found : Outcome State) → collection_ended (is_mapping collection) s s.outer ≡ Some found → IfOk result (λ _. Reached found self.new) }
         ensures err { IfErr result (λ fault. fault ≡ Fault.OutOfMemory) }
     {
         if let Some(open) = self.outer.pop() {
             let parts = mem::replace(&mut self.inner, open.before);
             let kind = kind_of(alloc, collection, parts)?;
-            let tag = CowStr::Borrowed(open.tag);
+            let tag = open.tag;
             self.add(open.place, Node { tag, kind })?;
         }
         Ok(())
@@ -170,7 +173,7 @@ impl<'a> Composer<'a> {
         requires { (s : State) × Holds self.old s }
         ensures { (s : State) → Holds self.old s →
             let found = and_then (placed at (tree_named (last_named name.now s.table))) (added s) in
-            MatchResult result (λ _. Reached found self.new) (Refuses found) }
+            MatchResult result (λ _. Reached found self.new) (RefusesUnfolding found) }
     {
         let Some(place) = self.names.get(name).copied() else {
             return Err(Fault::UndefinedAlias(at));
@@ -187,11 +190,11 @@ impl<'a> Composer<'a> {
         &mut self,
         alloc: Global,
         at: usize,
-        event: &'a Event<'_>,
+        event: &'e Event<'s>,
     ) -> Result<(), Fault>
         requires { (s : State) × Holds self.old s }
         ensures { (s : State) → Holds self.old s → (found : Outcome State) → step at (event_of event.now) s ≡ Some found →
-            MatchResult result (λ _. Reached found self.new) (Refuses found) }
+            MatchResult result (λ _. Reached found self.new) (RefusesUnfolding found) }
     {
         match event {
             Event::Scalar {
@@ -199,7 +202,7 @@ impl<'a> Composer<'a> {
                 tag,
                 style,
                 text,
-            } => self.scalar(alloc, at, name_of(anchor), tag, *style, text.as_str()),
+            } => self.scalar(alloc, at, name_of(anchor), tag, *style, text),
             Event::Alias { name } => self.alias(at, name.as_str()),
             Event::SequenceStart { anchor, tag, .. } => {
                 self.enter(alloc, at, Collection::Sequence, name_of(anchor), tag)
@@ -221,7 +224,7 @@ impl<'a> Composer<'a> {
 
 /// The fault of the scalar at this event.
 fn fault_at(at: usize, fault: CoreFault) -> Fault
-    ensures { (found : Resolved) → RefusesScalar found fault → Refuses (placed at found) result }
+    ensures { (found : Resolved) → RefusesScalar found fault → RefusesUnfolding (placed at found) result }
 {
     match fault {
         CoreFault::WrongKind => Fault::WrongKind(at),
@@ -262,7 +265,7 @@ fn paired(alloc: Global, parts: &[NodeId]) -> Result<Vec<(NodeId, NodeId)>, Faul
 }
 
 fn name_of<'a>(anchor: &'a Option<CowStr<'_>>) -> Option<&'a str>
-    ensures { anchor_text result ≡ option_map cow_str_bytes anchor.now }
+    ensures { anchor_view result ≡ option_map cow_str_bytes anchor.now }
 {
     match anchor {
         None => None,

@@ -1,7 +1,7 @@
 //! From the events of a stream to its graph.
 ghost use Rattle.std.specs.Prelude.{◌≡◌, ◌<◌, List, length, map, MatchOption, MatchResult};
 ghost use Rattle.std.specs.List.{All};
-ghost use Rattle.yaml_text.specs.Marked.{Document, stream_events};
+ghost use Rattle.yaml_text.specs.Serial.{Document, stream_events};
 ghost use Rattle.yaml_text.specs.EventModel.{event_of};
 ghost use Rattle.yaml_graph.specs.Composed.{Composable, Composed, RefusesStream};
 ghost use Rattle.yaml_graph.specs.ComposerModel.{AllBelow, IsFirstAbove};
@@ -28,13 +28,14 @@ fn first_too_high(heights: &[u32], roots: &[NodeId]) -> Option<usize>
 }
 
 /// The graph of a stream's events, which are those of some documents, well nested. Nodes are
-/// numbered in the order in which they close. Texts and tags are borrowed from the events.
+/// numbered in the order in which they close. Texts and tags that the events lend are lent on, so that
+/// the events may go before the graph; others are copied.
 ///
 /// Refused are, at the first event of which one is true: an alias that no node before it in its
 /// document is named for (12) or whose node is still open (13), a core tag on another kind of node
 /// (14), a text that a written core tag does not match (15), and an int (16) or a float (17) out of
 /// range. Then the first document whose tree is higher than the limit (18).
-pub fn compose<'a>(alloc: Global, events: &'a [Event<'_>]) -> Result<Graph<'a>, Fault>
+pub fn compose<'s>(alloc: Global, events: &[Event<'s>]) -> Result<Graph<'s>, Fault>
     requires { Composable events.now }
     ensures { (ds : List Document) → map event_of events.now ≡ stream_events ds → MatchResult result (Composed ds) (RefusesStream ds) }
 {

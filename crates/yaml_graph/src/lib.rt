@@ -6,6 +6,7 @@ pub mod composing;
 pub mod graph;
 mod height;
 pub mod joining;
+mod kept;
 pub mod node;
 mod tag;
 

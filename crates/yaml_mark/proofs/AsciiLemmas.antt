@@ -15,7 +15,7 @@ use Rattle.yaml_text.proofs.Runs.{run_none, run_more}
 use Rattle.yaml_text.proofs.Breaks.{run_join}
 use Rattle.yaml_mark.specs.DirectiveParts.{prefix_start, prefix_run}
 use Rattle.yaml_mark.proofs.TagLemmas.{spans_map, is_uri_char, is_tag_char}
-use Rattle.yaml_mark.specs.Parts.{escape, escaped, handle_rest}
+use Rattle.yaml_mark.specs.Parts.{percent_escape, char_or_escape, handle_rest}
 
 abbrev pub is_low : ℕ → Bool
 is_low c = nat_lt c 128
@@ -77,13 +77,13 @@ module _ (cs : List ℕ) where
   low_run : (p : ℕ → Bool) → ((c : ℕ) → p c ≡ true → is_low c ≡ true) → (i j : ℕ) → run cs p i j → run cs is_low i j
   low_run p f i j (a, r) = (a, λ k u v. let (c, h, t) = r k u v in (c, h, f c t))
 
-  low_escaped : (p : ℕ → Bool) → ((c : ℕ) → p c ≡ true → is_low c ≡ true) → (i j : ℕ) → escaped cs p i j → run cs is_low i j
-  unfolding escaped escape
+  low_escaped : (p : ℕ → Bool) → ((c : ℕ) → p c ≡ true → is_low c ≡ true) → (i j : ℕ) → char_or_escape cs p i j → run cs is_low i j
+  unfolding char_or_escape percent_escape
   low_escaped p f i j (inl ((c, h, t), e)) = low_one i j c h (f c t) e
   low_escaped p f i j (inr (a, (h, e), (b, ((c, g, t), k), ((d, l, u), m)))) =
       run_join cs is_low i a j (low_one i a 37 h refl e) (run_join cs is_low a b j (low_one a b c g (hex_low c t) k) (low_one b j d l (hex_low d u) m))
 
-  pub low_spans : (p : ℕ → Bool) → ((c : ℕ) → p c ≡ true → is_low c ≡ true) → {j i : ℕ} → Spans (escaped cs p) j i → run cs is_low i j
+  pub low_spans : (p : ℕ → Bool) → ((c : ℕ) → p c ≡ true → is_low c ≡ true) → {j i : ℕ} → Spans (char_or_escape cs p) j i → run cs is_low i j
   low_spans p f {j} {i} (Spans.done e) = subst (run cs is_low i) (sym e) (run_none cs is_low i)
   low_spans p f {j} {i} (Spans.then k r more) = run_join cs is_low i k j (low_escaped p f i k r) (low_spans p f more)
 

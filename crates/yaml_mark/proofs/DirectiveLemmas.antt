@@ -13,7 +13,7 @@ use Rattle.yaml_text.proofs.Runs.{same_char, no_stand, run_same, run_none, run_m
 use Rattle.yaml_text.proofs.Breaks.{run_join}
 use Rattle.yaml_text.proofs.LineRuns.{inside_no_line}
 use Rattle.yaml_text.proofs.RestLemmas.{from_s_b, no_blank, is_the_space}
-use Rattle.yaml_mark.specs.Parts.{escaped, handle_rest}
+use Rattle.yaml_mark.specs.Parts.{char_or_escape, handle_rest}
 use Rattle.yaml_mark.specs.DirectiveParts.{version_rest, binding_rest, parameter, prefix_start, prefix_run, Settles, Unsettled}
 use Rattle.yaml_mark.proofs.CommentLemmas.{hash_rest}
 use Rattle.yaml_mark.proofs.TagLemmas.{spans_same, spans_map, uri_is, tag_is, is_tag_char, uri_same, tag_char_same, tag_char_name, no_tag_char, Handle, named, double, single, handle_of, handle_is, name_is_ns, ns_by, tag_is_name, tag_bang, word_bang}
@@ -120,15 +120,15 @@ module _ (cs : List ℕ) where
 
   -- ---- prefixes
 
-  pub bang_prefix : (i a j : ℕ) → slice_get cs i ≡ Some 33 → a ≡ i + 1 → Spans (escaped cs is_uri) j a → prefix_run cs i j
+  pub bang_prefix : (i a j : ℕ) → slice_get cs i ≡ Some 33 → a ≡ i + 1 → Spans (char_or_escape cs is_uri) j a → prefix_run cs i j
   unfolding prefix_run prefix_start
   bang_prefix i a j h e s = (a, inl (h, e), spans_map (uri_is cs) s)
 
-  pub char_prefix : (i a j : ℕ) → escaped cs is_tag i a → Spans (escaped cs is_uri) j a → prefix_run cs i j
+  pub char_prefix : (i a j : ℕ) → char_or_escape cs is_tag i a → Spans (char_or_escape cs is_uri) j a → prefix_run cs i j
   unfolding prefix_run prefix_start
   char_prefix i a j r s = (a, inr (tag_is cs i a r), spans_map (uri_is cs) s)
 
-  pub no_start : (i : ℕ) → slice_get cs i ≢ Some 33 → ((j : ℕ) → escaped cs is_tag i j → ⊥) → (j : ℕ) → prefix_start cs i j → ⊥
+  pub no_start : (i : ℕ) → slice_get cs i ≢ Some 33 → ((j : ℕ) → char_or_escape cs is_tag i j → ⊥) → (j : ℕ) → prefix_start cs i j → ⊥
   unfolding prefix_start
   no_start i n m j (inl (h, e)) = n h
   no_start i n m j (inr r) = m j (is_tag_char cs i j r)

@@ -12,7 +12,7 @@ use Rattle.yaml_text.specs.grammar.Rules.{Rule, Any, ◌⊔◌, Begins, chr}
 use Rattle.yaml_text.specs.grammar.Characters.{is_space}
 use Rattle.yaml_text.specs.grammar.Separation.{StartsLine, AtEnd, l_comment}
 use Rattle.yaml_text.specs.grammar.Tags.{Handles}
-use Rattle.yaml_text.specs.grammar.Directives.{Directive, version, reserved, binding, bindings, clashes, is_consistent, directive, directives, yaml_directive, tag_directive, reserved_directive}
+use Rattle.yaml_text.specs.grammar.Directives.{Directive, version, reserved, binding, bindings, excludes, is_consistent, directive, directives, yaml_directive, tag_directive, reserved_directive}
 use Rattle.yaml_text.proofs.Runs.{same_char, run_none}
 use Rattle.yaml_text.proofs.LineRuns.{end_stops}
 use Rattle.yaml_text.proofs.RestLemmas.{from_l, no_blank}
@@ -35,29 +35,29 @@ any_end : (p : Directive → Bool) (ds : List Directive) (d : Directive) → p d
 any_end p [] d h = rw h refl
 any_end p (x ∷ ds) d h = ap (λ t. p x || t) (any_end p ds d h)
 
-pub clash_dead : (ds ws : List Directive) (d : Directive) → list_any (λ e. clashes e d) ds ≡ true → is_consistent (ds ++ d ∷ ws) ≡ true → ⊥
+pub clash_dead : (ds ws : List Directive) (d : Directive) → list_any (λ e. excludes e d) ds ≡ true → is_consistent (ds ++ d ∷ ws) ≡ true → ⊥
 unfolding is_consistent
 clash_dead [] ws d h c = let z : false ≡ true = h in cc
-clash_dead (x ∷ ds) ws d h c = pick (clashes x d) refl h (clash_dead ds ws d)
+clash_dead (x ∷ ds) ws d h c = pick (excludes x d) refl h (clash_dead ds ws d)
   where
     both : (a b : Bool) → (not a && b) ≡ true → (a ≡ false) × (b ≡ true)
     both false b e = (refl, e)
     both true b e = let z : false ≡ true = e in absurd (cc)
 
-    pick : (t : Bool) → clashes x d ≡ t → (t || list_any (λ e. clashes e d) ds) ≡ true → (list_any (λ e. clashes e d) ds ≡ true → is_consistent (ds ++ d ∷ ws) ≡ true → ⊥) → ⊥
-    pick true e k rec = let z : true ≡ false = sym (any_later (clashes x) ds ws d e) ∙ (both _ _ c).0 in cc
+    pick : (t : Bool) → excludes x d ≡ t → (t || list_any (λ e. excludes e d) ds) ≡ true → (list_any (λ e. excludes e d) ds ≡ true → is_consistent (ds ++ d ∷ ws) ≡ true → ⊥) → ⊥
+    pick true e k rec = let z : true ≡ false = sym (any_later (excludes x) ds ws d e) ∙ (both _ _ c).0 in cc
     pick false e k rec = rec k (both _ _ c).1
 
-pub consistent_more : (ds : List Directive) (d : Directive) → is_consistent ds ≡ true → list_any (λ e. clashes e d) ds ≡ false → is_consistent (ds ++ d ∷ []) ≡ true
+pub consistent_more : (ds : List Directive) (d : Directive) → is_consistent ds ≡ true → list_any (λ e. excludes e d) ds ≡ false → is_consistent (ds ++ d ∷ []) ≡ true
 unfolding is_consistent
 consistent_more [] d h n = refl
-consistent_more (x ∷ ds) d h n = pick (clashes x d) refl n (list_any (clashes x) ds) refl h (consistent_more ds d)
+consistent_more (x ∷ ds) d h n = pick (excludes x d) refl n (list_any (excludes x) ds) refl h (consistent_more ds d)
   where
-    pick : (t : Bool) → clashes x d ≡ t → (t || list_any (λ e. clashes e d) ds) ≡ false → (s : Bool) → list_any (clashes x) ds ≡ s → (not s && is_consistent ds) ≡ true →
-        (is_consistent ds ≡ true → list_any (λ e. clashes e d) ds ≡ false → is_consistent (ds ++ d ∷ []) ≡ true) → (not (list_any (clashes x) (ds ++ d ∷ [])) && is_consistent (ds ++ d ∷ [])) ≡ true
+    pick : (t : Bool) → excludes x d ≡ t → (t || list_any (λ e. excludes e d) ds) ≡ false → (s : Bool) → list_any (excludes x) ds ≡ s → (not s && is_consistent ds) ≡ true →
+        (is_consistent ds ≡ true → list_any (λ e. excludes e d) ds ≡ false → is_consistent (ds ++ d ∷ []) ≡ true) → (not (list_any (excludes x) (ds ++ d ∷ [])) && is_consistent (ds ++ d ∷ [])) ≡ true
     pick true e k s f c rec = let z : true ≡ false = k in absurd (cc)
     pick false e k true f c rec = let z : false ≡ true = c in absurd (cc)
-    pick false e k false f c rec = let y = any_end (clashes x) ds d e ∙ f in let z = rec c k in rw (y, z) refl
+    pick false e k false f c rec = let y = any_end (excludes x) ds d e ∙ f in let z = rec c k in rw (y, z) refl
 
 pub bindings_more : (ds : List Directive) (d : Directive) → bindings (ds ++ d ∷ []) ≡ bindings ds ++ bindings (d ∷ [])
 unfolding bindings
@@ -67,35 +67,35 @@ bindings_more (reserved ∷ ds) d = bindings_more ds d
 bindings_more (binding h p ∷ ds) d = ap (λ z. (h, p) ∷ z) (bindings_more ds d)
 
 -- a handle that is bound already
-pub bound_clashes : (h p : List ℕ) (ds : List Directive) → list_any (λ e. clashes e (binding h p)) ds ≡ is_some (lookup (bytes_eq h) (bindings ds))
-unfolding bindings clashes
+pub bound_clashes : (h p : List ℕ) (ds : List Directive) → list_any (λ e. excludes e (binding h p)) ds ≡ is_some (lookup (bytes_eq h) (bindings ds))
+unfolding bindings excludes
 bound_clashes h p [] = refl
 bound_clashes h p (version ∷ ds) = bound_clashes h p ds
 bound_clashes h p (reserved ∷ ds) = bound_clashes h p ds
-bound_clashes h p (binding g m ∷ ds) = ap (λ t. t || list_any (λ e. clashes e (binding h p)) ds) (nat_list_eq_equiv.symm g h) ∙ pick (bytes_eq h g) (bound_clashes h p ds)
+bound_clashes h p (binding g m ∷ ds) = ap (λ t. t || list_any (λ e. excludes e (binding h p)) ds) (nat_list_eq_equiv.symm g h) ∙ pick (bytes_eq h g) (bound_clashes h p ds)
   where
-    pick : (t : Bool) → list_any (λ e. clashes e (binding h p)) ds ≡ is_some (lookup (bytes_eq h) (bindings ds)) →
-        (t || list_any (λ e. clashes e (binding h p)) ds) ≡ is_some (cond t (Some m) (lookup (bytes_eq h) (bindings ds)))
+    pick : (t : Bool) → list_any (λ e. excludes e (binding h p)) ds ≡ is_some (lookup (bytes_eq h) (bindings ds)) →
+        (t || list_any (λ e. excludes e (binding h p)) ds) ≡ is_some (cond t (Some m) (lookup (bytes_eq h) (bindings ds)))
     pick true e = refl
     pick false e = e
 
-reserved_apart : (ds : List Directive) → list_any (λ e. clashes e reserved) ds ≡ false
-unfolding clashes
+reserved_apart : (ds : List Directive) → list_any (λ e. excludes e reserved) ds ≡ false
+unfolding excludes
 reserved_apart [] = refl
 reserved_apart (version ∷ ds) = reserved_apart ds
 reserved_apart (reserved ∷ ds) = reserved_apart ds
 reserved_apart (binding h p ∷ ds) = reserved_apart ds
 
-version_alike : clashes version version ≡ true
-unfolding clashes
+version_alike : excludes version version ≡ true
+unfolding excludes
 version_alike = refl
 
-binding_apart : (h p : List ℕ) → clashes (binding h p) version ≡ false
-unfolding clashes
+binding_apart : (h p : List ℕ) → excludes (binding h p) version ≡ false
+unfolding excludes
 binding_apart h p = refl
 
-reserved_version : clashes reserved version ≡ false
-unfolding clashes
+reserved_version : excludes reserved version ≡ false
+unfolding excludes
 reserved_version = refl
 
 version_bindings : bindings (version ∷ []) ≡ []
@@ -145,7 +145,7 @@ module _ (cs : List ℕ) where
     pub chain : Directives at line ds
     pub consistent : is_consistent ds ≡ true
     pub goes : Goes at line ds
-    pub version_is : has_version ≡ list_any (λ e. clashes e version) ds
+    pub version_is : has_version ≡ list_any (λ e. excludes e version) ds
     pub handles_are : bindings ds ≡ handles
 
   pub percent_stuck : (i : ℕ) → slice_get cs i ≡ Some 37 → Stuck cs i
@@ -216,7 +216,7 @@ module _ (cs : List ℕ) where
     chain = chain_more version r.chain (whole_is line next _ o.is);
     consistent = consistent_more r.ds version r.consistent (sym r.version_is ∙ n);
     goes = goes_more at line next r.ds version r.goes h o;
-    version_is = sym (any_later (λ e. clashes e version) r.ds [] version version_alike);
+    version_is = sym (any_later (λ e. excludes e version) r.ds [] version version_alike);
     handles_are = bindings_more r.ds version ∙ ap (λ z. bindings r.ds ++ z) version_bindings ∙ append-nil (bindings r.ds) ∙ r.handles_are;
   }
 
@@ -226,7 +226,7 @@ module _ (cs : List ℕ) where
     chain = chain_more reserved r.chain (whole_is line next _ o.is);
     consistent = consistent_more r.ds reserved r.consistent (reserved_apart r.ds);
     goes = goes_more at line next r.ds reserved r.goes h o;
-    version_is = r.version_is ∙ sym (any_end (λ e. clashes e version) r.ds reserved reserved_version);
+    version_is = r.version_is ∙ sym (any_end (λ e. excludes e version) r.ds reserved reserved_version);
     handles_are = bindings_more r.ds reserved ∙ ap (λ z. bindings r.ds ++ z) reserved_bindings ∙ append-nil (bindings r.ds) ∙ r.handles_are;
   }
 
@@ -237,7 +237,7 @@ module _ (cs : List ℕ) where
     chain = chain_more (binding h p) r.chain (whole_is line next _ o.is);
     consistent = consistent_more r.ds (binding h p) r.consistent (bound_clashes h p r.ds ∙ ap is_some (ap (lookup (bytes_eq h)) r.handles_are ∙ free));
     goes = goes_more at line next r.ds (binding h p) r.goes c o;
-    version_is = r.version_is ∙ sym (any_end (λ e. clashes e version) r.ds (binding h p) (binding_apart h p));
+    version_is = r.version_is ∙ sym (any_end (λ e. excludes e version) r.ds (binding h p) (binding_apart h p));
     handles_are = bindings_more r.ds (binding h p) ∙ ap (λ z. bindings r.ds ++ z) (binding_bindings h p) ∙ ap (λ z. z ++ (h, p) ∷ []) r.handles_are ∙ sym e;
   }
 
@@ -277,7 +277,7 @@ module _ (cs : List ℕ) where
       go k s ws (Any.then m ys zs u more g) = none m ys (m, u, (refl, next_stuck more s))
 
   repeated : (at line next : ℕ) (v : Bool) (hs : Handles) (d : Directive) → Read at line v hs → slice_get cs line ≡ Some 37 → Only (whole_directive cs) line next (d ∷ []) →
-      ((ds : List Directive) → bindings ds ≡ hs → v ≡ list_any (λ e. clashes e version) ds → list_any (λ e. clashes e d) ds ≡ true) → Unread (read_directives cs) at
+      ((ds : List Directive) → bindings ds ≡ hs → v ≡ list_any (λ e. excludes e version) ds → list_any (λ e. excludes e d) ds ≡ true) → Unread (read_directives cs) at
   repeated at line next v hs d r h o clash k w q =
       let (ds, c, s, ok, f) = parts at k w q in
       let (ws, e, t) = r.goes k ds c s in

@@ -16,7 +16,7 @@ use Rattle.yaml_text.proofs.PlaceLemmas.{slice_none, slice_one}
 use Rattle.yaml_text.proofs.Runs.{same_char, no_stand, run_none, run_same}
 use Rattle.yaml_mark.proofs.DecodeLemmas.{decoded_no, empty_is_none}
 use Rattle.yaml_mark.proofs.HandleLemmas.{prefix_or}
-use Rattle.yaml_mark.specs.Parts.{escape, escaped, handle_rest}
+use Rattle.yaml_mark.specs.Parts.{percent_escape, char_or_escape, handle_rest}
 
 -- ---- classes of characters
 
@@ -124,24 +124,24 @@ spans_map {R} {S} f {j} {i} (Spans.then k r more) = Spans.then k (f i k r) (span
 module _ (cs : List ℕ) where
   -- ---- the characters of tags
 
-  pub uri_is : (i j : ℕ) → escaped cs is_uri i j → uri_char cs i j
-  unfolding uri_char escaped escape
+  pub uri_is : (i j : ℕ) → char_or_escape cs is_uri i j → uri_char cs i j
+  unfolding uri_char char_or_escape percent_escape
   uri_is i j r = r
 
-  pub is_uri_char : (i j : ℕ) → uri_char cs i j → escaped cs is_uri i j
-  unfolding uri_char escaped escape
+  pub is_uri_char : (i j : ℕ) → uri_char cs i j → char_or_escape cs is_uri i j
+  unfolding uri_char char_or_escape percent_escape
   is_uri_char i j r = r
 
-  pub tag_is : (i j : ℕ) → escaped cs is_tag i j → tag_char cs i j
-  unfolding tag_char escaped escape
+  pub tag_is : (i j : ℕ) → char_or_escape cs is_tag i j → tag_char cs i j
+  unfolding tag_char char_or_escape percent_escape
   tag_is i j r = r
 
-  pub is_tag_char : (i j : ℕ) → tag_char cs i j → escaped cs is_tag i j
-  unfolding tag_char escaped escape
+  pub is_tag_char : (i j : ℕ) → tag_char cs i j → char_or_escape cs is_tag i j
+  unfolding tag_char char_or_escape percent_escape
   is_tag_char i j r = r
 
-  pub escaped_same : (p : ℕ → Bool) → p 37 ≡ false → (i j k : ℕ) → escaped cs p i j → escaped cs p i k → j ≡ k
-  unfolding escaped escape
+  pub escaped_same : (p : ℕ → Bool) → p 37 ≡ false → (i j k : ℕ) → char_or_escape cs p i j → char_or_escape cs p i k → j ≡ k
+  unfolding char_or_escape percent_escape
   escaped_same p none i j k (inl (s, e)) (inl (t, f)) = e ∙ sym f
   escaped_same p none i j k (inr (a, (h, e), (b, (s, f), (t, g)))) (inr (c, (l, m), (d, (u, n), (v, o)))) = g ∙ ap (λ z. z + 1) (f ∙ ap (λ z. z + 1) (e ∙ sym m) ∙ sym n) ∙ sym o
   escaped_same p none i j k (inl (s, e)) (inr (c, (l, m), r)) = absurd (no_stand cs p i 37 l none s)

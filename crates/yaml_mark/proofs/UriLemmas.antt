@@ -3,7 +3,7 @@ use Rattle.std.proofs.Common.{◌≡◌, ◌≢◌, ℕ, ◌+◌, inl, inr, List
 use Rattle.std.specs.Prelude.{slice_get}
 use Rattle.std.specs.Char.{is_ascii_hexdigit}
 use Rattle.yaml_text.specs.grammar.Rules.{Stands, one}
-use Rattle.yaml_mark.specs.Parts.{escape, escaped}
+use Rattle.yaml_mark.specs.Parts.{percent_escape, char_or_escape}
 use Rattle.yaml_text.proofs.Runs.{no_stand, no_stand_end, nothing_there}
 
 module _ (cs : List ℕ) where
@@ -13,36 +13,36 @@ module _ (cs : List ℕ) where
   one_stands : (p : ℕ → Bool) (i j : ℕ) → one cs p i j → Stands cs p i
   one_stands p i j (s, e) = s
 
-  pub escape_is : (i j k m : ℕ) → slice_get cs i ≡ Some 37 → j ≡ i + 1 → one cs is_ascii_hexdigit j k → one cs is_ascii_hexdigit k m → escape cs i m
-  unfolding escape
+  pub escape_is : (i j k m : ℕ) → slice_get cs i ≡ Some 37 → j ≡ i + 1 → one cs is_ascii_hexdigit j k → one cs is_ascii_hexdigit k m → percent_escape cs i m
+  unfolding percent_escape
   escape_is i j k m h e r s = (j, (h, e), (k, r, s))
 
-  pub no_percent : (i : ℕ) → slice_get cs i ≢ Some 37 → (j : ℕ) → escape cs i j → ⊥
-  unfolding escape
+  pub no_percent : (i : ℕ) → slice_get cs i ≢ Some 37 → (j : ℕ) → percent_escape cs i j → ⊥
+  unfolding percent_escape
   no_percent i n j (k, (h, e), r) = n h
 
-  pub no_high : (i k : ℕ) → k ≡ i + 1 → (Stands cs is_ascii_hexdigit k → ⊥) → (j : ℕ) → escape cs i j → ⊥
-  unfolding escape
+  pub no_high : (i k : ℕ) → k ≡ i + 1 → (Stands cs is_ascii_hexdigit k → ⊥) → (j : ℕ) → percent_escape cs i j → ⊥
+  unfolding percent_escape
   no_high i k e n j (a, (h, f), (b, (s, g), r)) = n (subst (Stands cs is_ascii_hexdigit) (f ∙ sym e) s)
 
-  pub no_low : (i k m : ℕ) → k ≡ i + 1 → one cs is_ascii_hexdigit k m → (Stands cs is_ascii_hexdigit m → ⊥) → (j : ℕ) → escape cs i j → ⊥
-  unfolding escape
+  pub no_low : (i k m : ℕ) → k ≡ i + 1 → one cs is_ascii_hexdigit k m → (Stands cs is_ascii_hexdigit m → ⊥) → (j : ℕ) → percent_escape cs i j → ⊥
+  unfolding percent_escape
   no_low i k m e (t, u) n j (a, (h, f), (b, (s, g), (r, o))) = n (subst (Stands cs is_ascii_hexdigit) (g ∙ ap (λ z. z + 1) (f ∙ sym e) ∙ sym u) r)
 
-  pub letter_is : (p : ℕ → Bool) (i j c : ℕ) → slice_get cs i ≡ Some c → p c ≡ true → j ≡ i + 1 → escaped cs p i j
-  unfolding escaped
+  pub letter_is : (p : ℕ → Bool) (i j c : ℕ) → slice_get cs i ≡ Some c → p c ≡ true → j ≡ i + 1 → char_or_escape cs p i j
+  unfolding char_or_escape
   letter_is p i j c h t e = inl ((c, h, t), e)
 
-  pub escaped_is : (p : ℕ → Bool) (i j : ℕ) → escape cs i j → escaped cs p i j
-  unfolding escaped
+  pub escaped_is : (p : ℕ → Bool) (i j : ℕ) → percent_escape cs i j → char_or_escape cs p i j
+  unfolding char_or_escape
   escaped_is p i j r = inr r
 
-  pub nothing_escaped : (p : ℕ → Bool) (i : ℕ) → slice_get cs i ≡ None → (j : ℕ) → escaped cs p i j → ⊥
-  unfolding escaped escape
+  pub nothing_escaped : (p : ℕ → Bool) (i : ℕ) → slice_get cs i ≡ None → (j : ℕ) → char_or_escape cs p i j → ⊥
+  unfolding char_or_escape percent_escape
   nothing_escaped p i n j (inl (s, e)) = no_stand_end cs p i n s
   nothing_escaped p i n j (inr (k, (h, e), r)) = nothing_there cs i 37 n h
 
-  pub no_escaped : (p : ℕ → Bool) (i c : ℕ) → slice_get cs i ≡ Some c → p c ≡ false → ((j : ℕ) → escape cs i j → ⊥) → (j : ℕ) → escaped cs p i j → ⊥
-  unfolding escaped
+  pub no_escaped : (p : ℕ → Bool) (i c : ℕ) → slice_get cs i ≡ Some c → p c ≡ false → ((j : ℕ) → percent_escape cs i j → ⊥) → (j : ℕ) → char_or_escape cs p i j → ⊥
+  unfolding char_or_escape
   no_escaped p i c h f n j (inl (s, e)) = no_stand cs p i c h f s
   no_escaped p i c h f n j (inr r) = n j r

@@ -10,12 +10,12 @@ module _ (cs : List ℕ) where
   sign = chr cs 38 ⊔ chr cs 42
 
   -- `%` and two hexadecimal digits
-  unfoldable pub escape : Span
-  escape = chr cs 37 ◆ one cs is_ascii_hexdigit ◆ one cs is_ascii_hexdigit
+  unfoldable pub percent_escape : Span
+  percent_escape = chr cs 37 ◆ one cs is_ascii_hexdigit ◆ one cs is_ascii_hexdigit
 
   -- a character that passes the test, or an escape: `uri_char` and `tag_char` are of this form
-  unfoldable pub escaped : (ℕ → Bool) → Span
-  escaped p = one cs p ⊔ escape
+  unfoldable pub char_or_escape : (ℕ → Bool) → Span
+  char_or_escape p = one cs p ⊔ percent_escape
 
   -- the rest of a handle after its `!`: a word and `!`, wherever these stand
   unfoldable pub handle_rest : Span

@@ -5,7 +5,7 @@ ghost use Rattle.yaml_text.specs.Source.{text_of, place_of, IsBorder};
 ghost use Rattle.yaml_text.specs.grammar.Rules.{run, Stands, one, any_span};
 ghost use Rattle.std.specs.Char.{is_ascii_hexdigit};
 ghost use Rattle.yaml_mark.specs.Classes.{class_of};
-ghost use Rattle.yaml_mark.specs.Parts.{escape, escaped};
+ghost use Rattle.yaml_mark.specs.Parts.{percent_escape, char_or_escape};
 
 use yaml_text::chars::Chars;
 use yaml_text::class::{is_flow_indicator, is_ns, is_uri, is_word};
@@ -100,8 +100,8 @@ fn next_escape(source: &Chars<'_>, at: usize) -> Option<usize>
     requires { IsBorder source.now at }
     ensures border { IfSome result (λ to. IsBorder source.now to) }
     ensures onward { IfSome result (λ to. at < to) }
-    ensures some { IfSome result (λ to. escape (text_of source.now) (place_of source.now at) (place_of source.now to)) }
-    ensures none { IfNone result ((j : ℕ) → escape (text_of source.now) (place_of source.now at) j → ⊥) }
+    ensures some { IfSome result (λ to. percent_escape (text_of source.now) (place_of source.now at) (place_of source.now to)) }
+    ensures none { IfNone result ((j : ℕ) → percent_escape (text_of source.now) (place_of source.now at) j → ⊥) }
 {
     match accept(source, at, '%') {
         None => None,
@@ -120,8 +120,8 @@ pub(crate) fn next_escaped(source: &Chars<'_>, at: usize, class: Class) -> Optio
     requires { IsBorder source.now at }
     ensures border { IfSome result (λ to. IsBorder source.now to) }
     ensures onward { IfSome result (λ to. at < to) }
-    ensures some { IfSome result (λ to. escaped (text_of source.now) (class_of class) (place_of source.now at) (place_of source.now to)) }
-    ensures none { IfNone result ((j : ℕ) → escaped (text_of source.now) (class_of class) (place_of source.now at) j → ⊥) }
+    ensures some { IfSome result (λ to. char_or_escape (text_of source.now) (class_of class) (place_of source.now at) (place_of source.now to)) }
+    ensures none { IfNone result ((j : ℕ) → char_or_escape (text_of source.now) (class_of class) (place_of source.now at) j → ⊥) }
 {
     match next(source, at) {
         None => None,
@@ -142,8 +142,8 @@ pub(crate) fn skip_escaped(source: &Chars<'_>, at: usize, class: Class) -> usize
     requires { IsBorder source.now at }
     ensures border { IsBorder source.now result }
     ensures onward { at ≤ result }
-    ensures spans { any_span (escaped (text_of source.now) (class_of class)) (place_of source.now at) (place_of source.now result) }
-    ensures furthest { (j : ℕ) → escaped (text_of source.now) (class_of class) (place_of source.now result) j → ⊥ }
+    ensures spans { any_span (char_or_escape (text_of source.now) (class_of class)) (place_of source.now at) (place_of source.now result) }
+    ensures furthest { (j : ℕ) → char_or_escape (text_of source.now) (class_of class) (place_of source.now result) j → ⊥ }
 {
     let mut here = at;
     'run: loop {

@@ -7,7 +7,7 @@ use Rattle.yaml_text.specs.Limits.{open_limit}
 use Rattle.yaml_text.specs.Event.{document_start}
 use Rattle.yaml_text.specs.Answer.{Unread, Only}
 use Rattle.yaml_text.specs.grammar.Rules.{Rule, ◌⊔◌, ◌∪◌, Begins, chr, seen}
-use Rattle.yaml_text.specs.grammar.Separation.{StartsLine, MarkOf, l_comment}
+use Rattle.yaml_text.specs.grammar.Separation.{StartsLine, DocumentMarkOf, l_comment}
 use Rattle.yaml_text.specs.grammar.Tags.{Handles}
 use Rattle.yaml_text.specs.grammar.Directives.{directives}
 use Rattle.yaml_text.specs.grammar.Calls.{read_directives}
@@ -25,7 +25,7 @@ use Rattle.yaml_complete.proofs.Decisions.{rest_goes, rest_refused, rest_rest, r
 use Rattle.yaml_complete.proofs.StreamRests.{directed_marked, no_directives, no_percent, no_bare}
 use Rattle.yaml_flow.specs.Answer.{Decides}
 use Rattle.yaml_read.specs.Decided.{DocumentEnd}
-use Rattle.yaml_read.specs.StreamRules.{marked, opened_by_mark, opened_bare, opened_by_directives}
+use Rattle.yaml_read.specs.StreamRules.{after_mark, opened_by_mark, opened_bare, opened_by_directives}
 
 -- what the rest decides
 pub decides_rest : {V W X : Type 0} {R : Rule V} {S : Rule W} {E F : End} (G : End) {i x : ℕ} (end : X → ℕ) (r : Result X Fault) → Rest R E i S F x → Decides S F x G end r → Decides R E i G end r
@@ -59,20 +59,20 @@ directives_fault P _ p = absurd p
 module _ (cs : List ℕ) where
   -- ---- directives before a document's mark
 
-  mark_stops : (j : ℕ) → MarkOf cs 45 j → Begins (chr cs 37 ⊔ l_comment cs) j → ⊥
-  unfolding MarkOf
+  mark_stops : (j : ℕ) → DocumentMarkOf cs 45 j → Begins (chr cs 37 ⊔ l_comment cs) j → ⊥
+  unfolding DocumentMarkOf
   mark_stops j (s, (a, (b, (h, e), r)), t) (k, inl (g, f)) = let z : 45 ≡ 37 = same_char cs j 45 37 h g in omega (arith, z)
   mark_stops j m (k, inr c) = stuck_mark cs j (dashes_mark_is cs (Unit {0}) open_limit j m) k c
 
-  before_mark : (i j : ℕ) (hs : Handles) → directives cs i j hs → MarkOf cs 45 j → read_directives cs i j hs
+  before_mark : (i j : ℕ) (hs : Handles) → directives cs i j hs → DocumentMarkOf cs 45 j → read_directives cs i j hs
   unfolding read_directives
   before_mark i j hs d m = (j, d, (refl, mark_stops j m))
 
-  unread_directives : (i : ℕ) → Unread (read_directives cs) i → Refused (directives cs) (At (MarkOf cs 45)) i
+  unread_directives : (i : ℕ) → Unread (read_directives cs) i → Refused (directives cs) (At (DocumentMarkOf cs 45)) i
   unread_directives i n = record { none = λ j o hs d (e, m). n j hs (before_mark i j hs d m) }
 
-  unmarked_directives : (i k : ℕ) (hs : Handles) → Only (read_directives cs) i k hs → (MarkOf cs 45 k → ⊥) → Refused (directives cs) (At (MarkOf cs 45)) i
-  unmarked_directives i k hs only n = record { none = λ j o gs d (e, m). n (subst (MarkOf cs 45) (only.only j gs (before_mark i j gs d m)).0 m) }
+  unmarked_directives : (i k : ℕ) (hs : Handles) → Only (read_directives cs) i k hs → (DocumentMarkOf cs 45 k → ⊥) → Refused (directives cs) (At (DocumentMarkOf cs 45)) i
+  unmarked_directives i k hs only n = record { none = λ j o gs d (e, m). n (subst (DocumentMarkOf cs 45) (only.only j gs (before_mark i j gs d m)).0 m) }
 
   -- the handles that were read are those of directives
   directives_are : (i j : ℕ) (hs : Handles) → read_directives cs i j hs → directives cs i j hs
@@ -89,7 +89,7 @@ module _ (cs : List ℕ) where
       go (inl h) = inl h
       go (inr n) = inr (rest_refused (opened i) (no_directives cs (Unit {0}) open_limit i (unread_directives i n)))
 
-  pub directed_unmarked : (i k : ℕ) (hs : Handles) → Only (read_directives cs) i k hs → (MarkOf cs 45 k → ⊥) → Refused (opened_by_directives cs) (DocumentEnd cs) i
+  pub directed_unmarked : (i k : ℕ) (hs : Handles) → Only (read_directives cs) i k hs → (DocumentMarkOf cs 45 k → ⊥) → Refused (opened_by_directives cs) (DocumentEnd cs) i
   directed_unmarked i k hs only n = rest_refused (opened i) (no_directives cs (Unit {0}) open_limit i (unmarked_directives i k hs only n))
 
   -- the mark's document is left
@@ -98,7 +98,7 @@ module _ (cs : List ℕ) where
   directed_rest i k a hs d m =
       let x = mark_inside cs (Unit {0}) open_limit 45 k a ns_dash m in
       subst (λ z. Rest (opened_by_directives cs) (DocumentEnd cs) i (opened_by_mark cs hs) (DocumentEnd cs) z) (sym x.0)
-      (rest_rest (opened i) (rest_rest (directed_marked cs (Unit {0}) open_limit i k hs (directives_are i k hs d) x.2) (rest_shown (λ es. document_start true ∷ es) (marked cs hs) (DocumentEnd cs) (k + 3))))
+      (rest_rest (opened i) (rest_rest (directed_marked cs (Unit {0}) open_limit i k hs (directives_are i k hs d) x.2) (rest_shown (λ es. document_start true ∷ es) (after_mark cs hs) (DocumentEnd cs) (k + 3))))
 
   -- ---- a document that no mark parts from what stands before it
 
@@ -111,5 +111,5 @@ module _ (cs : List ℕ) where
 
   -- ---- what stands after the mark
 
-  pub opened_rest : (hs : Handles) (i : ℕ) → Rest (opened_by_mark cs hs) (DocumentEnd cs) i (marked cs hs) (DocumentEnd cs) i
-  opened_rest hs i = rest_seen (λ es. document_start true ∷ es) (marked cs hs) (DocumentEnd cs) i
+  pub opened_rest : (hs : Handles) (i : ℕ) → Rest (opened_by_mark cs hs) (DocumentEnd cs) i (after_mark cs hs) (DocumentEnd cs) i
+  opened_rest hs i = rest_seen (λ es. document_start true ∷ es) (after_mark cs hs) (DocumentEnd cs) i

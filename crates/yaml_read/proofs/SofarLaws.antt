@@ -8,7 +8,7 @@ use Rattle.yaml_text.specs.grammar.Rules.{Rule, ◌▸◌, ◌∪◌, ◌⨾◌,
 use Rattle.yaml_text.specs.grammar.Separation.{l_comment}
 use Rattle.yaml_text.specs.grammar.Streams as streams
 use Rattle.yaml_text.specs.grammar.Streams.{Piece, document_piece, suffix_piece, stream, suffix, any_document, explicit_document, bare_document, directive_document, explicit_piece, piece_events, ends_explicitly, ReadsText}
-use Rattle.yaml_read.specs.Sofar.{ends_so, events_so, closing, Pieces, Fresh, IsSofar}
+use Rattle.yaml_read.specs.Sofar.{ends_so, events_so, document_closing, Pieces, MayBeBare, IsSofar}
 
 -- ---- events
 
@@ -87,12 +87,12 @@ module _ (cs : List ℕ) where
   unfolding stream
   first_document i j qs lines d = (j, qs, [], (i, lines, inr d), done refl refl, sym (append-nil qs))
 
-  fresh_read : (i : ℕ) (ps : List Piece) → Fresh cs i ps → Pieces cs i ps
+  fresh_read : (i : ℕ) (ps : List Piece) → MayBeBare cs i ps → Pieces cs i ps
   fresh_read i ps (inl (lines, e)) = subst (λ v. Pieces cs i v) (sym e) (first_comments i lines)
   fresh_read i ps (inr (k, qs, rs, r, (m, s, lines), e)) =
       subst (λ v. Pieces cs i v) (sym e) (goes_on k i qs rs r (inl (m, rs, [], s, (i, lines, inl (refl, refl)), sym (append-nil rs))))
 
-  fresh_document : (i j : ℕ) (ps qs : List Piece) → Fresh cs i ps → any_document cs (Unit {0}) open_limit i j qs → Pieces cs j (ps ++ qs)
+  fresh_document : (i j : ℕ) (ps qs : List Piece) → MayBeBare cs i ps → any_document cs (Unit {0}) open_limit i j qs → Pieces cs j (ps ++ qs)
   fresh_document i j ps qs (inl (lines, e)) d = subst (λ v. Pieces cs j (v ++ qs)) (sym e) (first_document i j qs lines d)
   fresh_document i j ps qs (inr (k, us, rs, r, (m, s, lines), e)) d =
       subst (λ v. Pieces cs j v) (sym (append_assoc us rs qs) ∙ ap (λ v. v ++ qs) (sym e))
@@ -108,9 +108,9 @@ module _ (cs : List ℕ) where
   sofar_start i lines = record { pieces = []; read = first_comments i lines; fresh = λ e. inl (lines, refl); events = λ next. refl }
 
   pub sofar_suffix : (is_open : Bool) (i j : ℕ) (written new : List Event) → IsSofar cs is_open i written →
-      suffix cs (Unit {0}) open_limit i j (suffix_piece ∷ []) → new ≡ written ++ closing is_open true → IsSofar cs false j new
+      suffix cs (Unit {0}) open_limit i j (suffix_piece ∷ []) → new ≡ written ++ document_closing is_open true → IsSofar cs false j new
   sofar_suffix is_open i j written new s r e =
-      let fresh : Fresh cs j (s.pieces ++ (suffix_piece ∷ [])) = inr (i, s.pieces, suffix_piece ∷ [], s.read, (j, one_suffix i j r, Spans.done refl), refl) in
+      let fresh : MayBeBare cs j (s.pieces ++ (suffix_piece ∷ [])) = inr (i, s.pieces, suffix_piece ∷ [], s.read, (j, one_suffix i j r, Spans.done refl), refl) in
       record {
         pieces = s.pieces ++ (suffix_piece ∷ []);
         read = fresh_read j _ fresh;
@@ -119,15 +119,15 @@ module _ (cs : List ℕ) where
       }
 
   document_events : (is_open : Bool) (ps : List Piece) (explicit : Bool) (es written new : List Event) →
-      ((next : Bool) → written ++ closing is_open next ≡ stream_start ∷ events_so ps next) →
-      new ≡ (written ++ closing is_open false) ++ (document_start explicit ∷ es) →
-      (next : Bool) → new ++ closing true next ≡ stream_start ∷ events_so (ps ++ (document_piece explicit es ∷ [])) next
+      ((next : Bool) → written ++ document_closing is_open next ≡ stream_start ∷ events_so ps next) →
+      new ≡ (written ++ document_closing is_open false) ++ (document_start explicit ∷ es) →
+      (next : Bool) → new ++ document_closing true next ≡ stream_start ∷ events_so (ps ++ (document_piece explicit es ∷ [])) next
   document_events is_open ps explicit es written new h e next =
       ap (λ x. x ++ (document_end next ∷ [])) (e ∙ ap (λ x. x ++ (document_start explicit ∷ es)) (h false))
       ∙ ap (λ x. stream_start ∷ x) (append_assoc (events_so ps false) (document_start explicit ∷ es) (document_end next ∷ []) ∙ sym (events_document ps explicit es next))
 
   pub sofar_explicit : (is_open : Bool) (i j : ℕ) (es written new : List Event) → IsSofar cs is_open i written →
-      explicit_document cs (Unit {0}) open_limit [] i j es → new ≡ (written ++ closing is_open false) ++ (document_start true ∷ es) → IsSofar cs true j new
+      explicit_document cs (Unit {0}) open_limit [] i j es → new ≡ (written ++ document_closing is_open false) ++ (document_start true ∷ es) → IsSofar cs true j new
   sofar_explicit is_open i j es written new s d e = record {
     pieces = s.pieces ++ (document_piece true es ∷ []);
     read = goes_on i j s.pieces (document_piece true es ∷ []) s.read (inr (inl (es, d, refl)));
@@ -156,8 +156,8 @@ module _ (cs : List ℕ) where
   sofar_directives i j es written new s d e = sofar_document true i j es written new s (inr (inr (es, d, refl))) e
 
   pub sofar_end : (is_open : Bool) (i : ℕ) (written new : List Event) → IsSofar cs is_open i written → i ≡ length cs →
-      new ≡ (written ++ closing is_open false) ++ (stream_end ∷ []) → ReadsText cs (Unit {0}) open_limit new
-  unfolding ReadsText streams.stream_events
+      new ≡ (written ++ document_closing is_open false) ++ (stream_end ∷ []) → ReadsText cs (Unit {0}) open_limit new
+  unfolding ReadsText streams.stream_of_pieces
   sofar_end is_open i written new s at_end e = (
     s.pieces,
     subst (λ n. Pieces cs n s.pieces) at_end s.read,

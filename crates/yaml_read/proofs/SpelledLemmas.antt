@@ -17,7 +17,7 @@ use Rattle.yaml_text.specs.declared.fault.Fault.TheVariants.{OutOfMemory}
 use Rattle.yaml_text.proofs.grammar.OneText.{one-text}
 use Rattle.yaml_spelled.proofs.StreamReadings.{spellings_are_read}
 use Rattle.yaml_spelled.proofs.BlockReadings.{blocks_are_read}
-use Rattle.yaml_read.specs.Decided.{IsNoStream}
+use Rattle.yaml_read.specs.Decided.{HasNoReading}
 
 module _ (cs : List ℕ) where
   text_reads : (bytes : List ℕ) (es : List Event) → Text bytes cs → Reads bytes es → ReadsText cs (Unit {0}) open_limit es
@@ -31,11 +31,11 @@ module _ (cs : List ℕ) where
   block_reads f a k l t = text_reads (block_bytes f) (blocked f) t (blocks_are_read f a l k)
 
   -- a text with a reading is refused for want of memory alone
-  memory : (fault : Fault) (es : List Event) → (fault ≡ OutOfMemory) ⊎ IsNoStream cs → ReadsText cs (Unit {0}) open_limit es → fault ≡ OutOfMemory
+  memory : (fault : Fault) (es : List Event) → (fault ≡ OutOfMemory) ⊎ HasNoReading cs → ReadsText cs (Unit {0}) open_limit es → fault ≡ OutOfMemory
   memory fault es (inl e) r = e
   memory fault es (inr n) r = absurd (n es r)
 
-  pub read_or_memory : {T : Type 0} (P : T → Type 0) (r : Result T Fault) (fault : Fault) (es : List Event) → IsErrAnd r (λ y. y ≡ fault) → (fault ≡ OutOfMemory) ⊎ IsNoStream cs →
+  pub read_or_memory : {T : Type 0} (P : T → Type 0) (r : Result T Fault) (fault : Fault) (es : List Event) → IsErrAnd r (λ y. y ≡ fault) → (fault ≡ OutOfMemory) ⊎ HasNoReading cs →
       ReadsText cs (Unit {0}) open_limit es → MatchResult r P (λ e. e ≡ OutOfMemory)
   read_or_memory P r fault es was d reads =
       let p = err_from_is_err_and r was in

@@ -4,7 +4,7 @@ use Rattle.std.specs.Prelude.{slice_get}
 use Rattle.yaml_text.specs.Limits.{open_limit}
 use Rattle.yaml_text.specs.Event.{Event, document_start}
 use Rattle.yaml_text.specs.grammar.Rules.{any_span, Spans, Rule, seen}
-use Rattle.yaml_text.specs.grammar.Separation.{StartsLine, AtEnd, MarkOf, Mark, l_comment, s_l_comments, s_b_comment}
+use Rattle.yaml_text.specs.grammar.Separation.{StartsLine, AtEnd, DocumentMarkOf, DocumentMark, l_comment, s_l_comments, s_b_comment}
 use Rattle.yaml_text.specs.grammar.Tags.{Handles}
 use Rattle.yaml_text.specs.grammar.Directives.{directives}
 use Rattle.yaml_text.specs.grammar.Calls.{read_directives}
@@ -37,17 +37,17 @@ directives_refusal P fault.OutOfMemory p = tt
 directives_refusal P _ p = absurd p
 
 module _ (cs : List ℕ) where
-  pub mark_here : (c i a b d : ℕ) → MarkOf cs c i → slice_get cs i ≡ Some c → a ≡ i + 1 → slice_get cs a ≡ Some c → b ≡ a + 1 → slice_get cs b ≡ Some c → d ≡ b + 1
+  pub mark_here : (c i a b d : ℕ) → DocumentMarkOf cs c i → slice_get cs i ≡ Some c → a ≡ i + 1 → slice_get cs a ≡ Some c → b ≡ a + 1 → slice_get cs b ≡ Some c → d ≡ b + 1
       → document_mark cs (Unit {0}) open_limit c i d
   unfolding document_mark
   mark_here c i a b d m f e g h k l = (i, (refl, m), (a, (f, e), (b, (g, h), (d, (k, l), refl))))
 
-  pub mark_line : (c i : ℕ) → MarkOf cs c i → StartsLine cs i
-  unfolding MarkOf
+  pub mark_line : (c i : ℕ) → DocumentMarkOf cs c i → StartsLine cs i
+  unfolding DocumentMarkOf
   mark_line c i m = m.0
 
-  pub no_mark : (i : ℕ) → (MarkOf cs 45 i → ⊥) → (MarkOf cs 46 i → ⊥) → Mark cs i → ⊥
-  unfolding Mark
+  pub no_mark : (i : ℕ) → (DocumentMarkOf cs 45 i → ⊥) → (DocumentMarkOf cs 46 i → ⊥) → DocumentMark cs i → ⊥
+  unfolding DocumentMark
   no_mark i n o (inl m) = n m
   no_mark i n o (inr m) = o m
 

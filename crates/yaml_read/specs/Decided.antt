@@ -16,5 +16,5 @@ module _ (cs : List ℕ) where
   IsAlone es = (fs : List Event) → ReadsText cs (Unit {0}) open_limit fs → fs ≡ es
 
   -- none is
-  abbrev pub IsNoStream : Type 0
-  IsNoStream = (es : List Event) → ReadsText cs (Unit {0}) open_limit es → ⊥
+  abbrev pub HasNoReading : Type 0
+  HasNoReading = (es : List Event) → ReadsText cs (Unit {0}) open_limit es → ⊥

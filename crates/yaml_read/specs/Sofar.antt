@@ -19,22 +19,22 @@ events_so (suffix_piece ∷ ps) next = events_so ps next
 events_so (document_piece explicit es ∷ ps) next = document_start explicit ∷ (es ++ (document_end (ends_so ps next) ∷ events_so ps next))
 
 -- the end of the last document, where it is still to be written
-abbrev pub closing : Bool → Bool → List Event
-closing true next = document_end next ∷ []
-closing false next = []
+abbrev pub document_closing : Bool → Bool → List Event
+document_closing true next = document_end next ∷ []
+document_closing false next = []
 
 module _ (cs : List ℕ) where
   abbrev pub Pieces : ℕ → List Piece → Type 0
   Pieces i ps = stream cs (Unit {0}) open_limit 0 i ps
 
   -- only comment lines stand before i, or a suffix and comment lines: a document needs no mark here
-  abbrev pub Fresh : ℕ → List Piece → Type 0
-  Fresh i ps = (any_span (l_comment cs) 0 i × (ps ≡ []))
+  abbrev pub MayBeBare : ℕ → List Piece → Type 0
+  MayBeBare i ps = (any_span (l_comment cs) 0 i × (ps ≡ []))
       ⊎ ((k : ℕ) × (qs : List Piece) × (rs : List Piece) × Pieces k qs × (any_one (suffix cs (Unit {0}) open_limit) ◂ any_span (l_comment cs)) k i rs × (ps ≡ qs ++ rs))
 
   -- The pieces up to i were read and written. `is_open`: the last of them is a document whose end is still to be written.
   pub record IsSofar (is_open : Bool) (i : ℕ) (written : List Event) : Type 0 where
     pub pieces : List Piece
     pub read : Pieces i pieces
-    pub fresh : is_open ≡ false → Fresh i pieces
-    pub events : (next : Bool) → written ++ closing is_open next ≡ stream_start ∷ events_so pieces next
+    pub fresh : is_open ≡ false → MayBeBare i pieces
+    pub events : (next : Bool) → written ++ document_closing is_open next ≡ stream_start ∷ events_so pieces next

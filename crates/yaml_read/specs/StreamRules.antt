@@ -5,7 +5,7 @@ use Rattle.yaml_text.specs.Source.{text_of, place_of, IsBorder}
 use Rattle.yaml_text.specs.Event.{Event, document_start}
 use Rattle.yaml_text.specs.declared.chars.Chars.{Chars}
 use Rattle.yaml_text.specs.grammar.Rules.{Rule, ◌◂◌, ◌∪◌, gives, seen}
-use Rattle.yaml_text.specs.grammar.Separation.{AtEnd, Mark, s_l_comments}
+use Rattle.yaml_text.specs.grammar.Separation.{AtEnd, DocumentMark, s_l_comments}
 use Rattle.yaml_text.specs.grammar.Tags.{Handles}
 use Rattle.yaml_text.specs.grammar.Events.{no_props, empty}
 use Rattle.yaml_text.specs.grammar.Streams.{document_mark, bare_document, directive_document}
@@ -24,16 +24,16 @@ abbrev pub NextIs : Chars → Line → Next → Type 0
 NextIs source line End = AtEnd (text_of source) (place_of source line.start)
 NextIs source line (Suffix after) = IsMarkOf source 46 line.start after
 NextIs source line (Explicit after) = IsMarkOf source 45 line.start after
-NextIs source line Content = (AtEnd (text_of source) (place_of source line.start) → ⊥) × (Mark (text_of source) (place_of source line.start) → ⊥)
+NextIs source line Content = (AtEnd (text_of source) (place_of source line.start) → ⊥) × (DocumentMark (text_of source) (place_of source line.start) → ⊥)
 
 module _ (cs : List ℕ) where
   -- what stands after a document's mark
-  abbrev pub marked : Handles → Rule (List Event)
-  marked handles = bare_document cs (Unit {0}) open_limit handles ∪ (gives (empty no_props) ◂ s_l_comments cs)
+  abbrev pub after_mark : Handles → Rule (List Event)
+  after_mark handles = bare_document cs (Unit {0}) open_limit handles ∪ (gives (empty no_props) ◂ s_l_comments cs)
 
   -- a document's events with its start, as it opens
   abbrev pub opened_by_mark : Handles → Rule (List Event)
-  opened_by_mark handles = seen (λ es. document_start true ∷ es) (marked handles)
+  opened_by_mark handles = seen (λ es. document_start true ∷ es) (after_mark handles)
 
   abbrev pub opened_bare : Rule (List Event)
   opened_bare = seen (λ es. document_start false ∷ es) (bare_document cs (Unit {0}) open_limit [])

@@ -10,15 +10,15 @@ ghost use Rattle.yaml_text.specs.Block.{block_bytes, blocked, AllKeysFit};
 ghost use Rattle.yaml_text.specs.EventModel.{event_of, Adds};
 ghost use Rattle.yaml_text.specs.Source.{text_of, place_of, IsBorder};
 ghost use Rattle.yaml_text.specs.grammar.Rules.{◌∪◌};
-ghost use Rattle.yaml_text.specs.grammar.Separation.{StartsLine, MarkOf};
+ghost use Rattle.yaml_text.specs.grammar.Separation.{StartsLine, DocumentMarkOf};
 ghost use Rattle.yaml_text.specs.grammar.Streams.{ReadsText};
 ghost use Rattle.yaml_text.specs.Answer.{IsRefusal};
 ghost use Rattle.yaml_complete.specs.Decisions.{Here};
 ghost use Rattle.yaml_flow.specs.Answer.{Appends, Decides};
 ghost use Rattle.yaml_flow.specs.Lines.{IsLine};
 ghost use Rattle.yaml_mark.specs.HandlesModel.{handles_of};
-ghost use Rattle.yaml_read.specs.Decided.{DocumentEnd, IsAlone, IsNoStream};
-ghost use Rattle.yaml_read.specs.Sofar.{closing};
+ghost use Rattle.yaml_read.specs.Decided.{DocumentEnd, IsAlone, HasNoReading};
+ghost use Rattle.yaml_read.specs.Sofar.{document_closing};
 ghost use Rattle.yaml_read.specs.StreamRules.{IsMarkOf, NextIs, opened_by_mark, opened_bare, opened_by_directives};
 
 use std::alloc::Global;
@@ -48,7 +48,7 @@ enum Next {
 fn document_mark(source: &Chars<'_>, at: usize, c: char) -> Option<usize>
     requires { IsBorder source.now at }
     ensures some { IfSome result (IsMarkOf source.now c at) }
-    ensures none { IfNone result (MarkOf (text_of source.now) c (place_of source.now at) → ⊥) }
+    ensures none { IfNone result (DocumentMarkOf (text_of source.now) c (place_of source.now at) → ⊥) }
 {
     if !starts_line(source, at) {
         return None;
@@ -87,7 +87,7 @@ fn next_piece(source: &Chars<'_>, line: Line) -> Next
 
 /// Writes the end of the last document, where it is still to be written.
 fn close(is_open: bool, explicit: bool, out: &mut Vec<Event<'_>>) -> Result<(), Fault>
-    ensures ok { IfOk result (λ _. Adds out.old.items (closing is_open explicit) out.new.items) }
+    ensures ok { IfOk result (λ _. Adds out.old.items (document_closing is_open explicit) out.new.items) }
     ensures err { IfErr result (λ e. e ≡ Fault.OutOfMemory) }
 {
     if !is_open {
@@ -183,7 +183,7 @@ fn read_pieces<'a>(alloc: Global, source: &Chars<'a>, out: &mut Vec<Event<'a>>) 
     requires { map event_of out.old.items ≡ stream_start ∷ [] }
     ensures ok { IfOk result (λ _. ReadsText (text_of source.now) (Unit {0}) open_limit (map event_of out.new.items ++ (stream_end ∷ []))) }
     ensures err { IfErr result IsRefusal }
-    ensures decides { IfErr result (λ e. (e ≡ Fault.OutOfMemory) ⊎ IsNoStream (text_of source.now)) }
+    ensures decides { IfErr result (λ e. (e ≡ Fault.OutOfMemory) ⊎ HasNoReading (text_of source.now)) }
 {
     let mut line = first_line(source);
     let mut is_open = false;
@@ -225,7 +225,7 @@ pub fn read_events<'a>(alloc: Global, source: &Chars<'a>) -> Result<Vec<Event<'a
     ensures ok { IfOk result (λ events. ReadsText (text_of source.now) (Unit {0}) open_limit (map event_of events.items)) }
     ensures err { IfErr result IsRefusal }
     ensures only { IfOk result (λ events. IsAlone (text_of source.now) (map event_of events.items)) }
-    ensures decides { IfErr result (λ e. (e ≡ Fault.OutOfMemory) ⊎ IsNoStream (text_of source.now)) }
+    ensures decides { IfErr result (λ e. (e ≡ Fault.OutOfMemory) ⊎ HasNoReading (text_of source.now)) }
     ensures spelling { (f : List Tree) → Admitted f → Text (spell_bytes f) (text_of source.now) → MatchResult result (λ events. map event_of events.items ≡ spelled f) (λ e. e ≡ Fault.OutOfMemory) }
     ensures block { (f : List Tree) → Admitted f → AllKeysFit f → length (block_bytes f) ≤ text_limit → Text (block_bytes f) (text_of source.now) → MatchResult result (λ events. map event_of events.items ≡ blocked f) (λ e. e ≡ Fault.OutOfMemory) }
 {

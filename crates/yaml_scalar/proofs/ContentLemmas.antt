@@ -8,7 +8,7 @@ use Rattle.yaml_text.specs.grammar.Characters.{is_white, is_nb}
 use Rattle.yaml_text.specs.grammar.Separation.{AtEnd}
 use Rattle.yaml_text.specs.grammar.FlowScalars.{line_feeds}
 use Rattle.yaml_text.specs.grammar.BlockScalars as grammar
-use Rattle.yaml_text.specs.grammar.BlockScalars.{Line, blank, text, is_spaced, joint, chomped, after_line, kept, content_after, content, blank_line, text_line, is_given, lines, last_spaces, LinesEnd}
+use Rattle.yaml_text.specs.grammar.BlockScalars.{Line, blank, content_line, is_spaced, joint, chomped, after_line, kept_breaks, content_after, content, blank_line, text_line, is_given, lines, last_spaces, LinesEnd}
 use Rattle.yaml_scalar.specs.BlockRules.{any_line, Ready, block_lines, lines_over}
 use Rattle.yaml_scalar.specs.BlockModel.{chomp_of, glue, last_breaks, shape, are_folded, breaks_of}
 use Rattle.yaml_scalar.specs.declared.block.header.Chomp.{Chomp}
@@ -31,7 +31,7 @@ unfolding after_line
 after_blank f c e a j more = refl
 
 after_text : (f : Bool) (c : grammar.Chomp) (e : Bool) (a : List ℕ) (j : ℕ) (d : Bool) (b : List ℕ) (more : List Line) →
-    after_line f c e a j (text d b ∷ more) ≡ joint f a j b ++ (b ++ after_line f c d b 0 more)
+    after_line f c e a j (content_line d b ∷ more) ≡ joint f a j b ++ (b ++ after_line f c d b 0 more)
 unfolding after_line
 after_text f c e a j d b more = refl
 
@@ -44,11 +44,11 @@ unfolding content_after
 content_blank f c j more = refl
 
 content_text : (f : Bool) (c : grammar.Chomp) (j : ℕ) (d : Bool) (b : List ℕ) (more : List Line) →
-    content_after f c j (text d b ∷ more) ≡ line_feeds j ++ (b ++ after_line f c d b 0 more)
+    content_after f c j (content_line d b ∷ more) ≡ line_feeds j ++ (b ++ after_line f c d b 0 more)
 unfolding content_after
 content_text f c j d b more = refl
 
-content_none : (f : Bool) (c : grammar.Chomp) (j : ℕ) → content_after f c j [] ≡ kept c j
+content_none : (f : Bool) (c : grammar.Chomp) (j : ℕ) → content_after f c j [] ≡ kept_breaks c j
 unfolding content_after
 content_none f c j = refl
 
@@ -89,8 +89,8 @@ joint_glue true a j b = go (is_spaced a) (is_spaced b) j
     go false false zero = refl
     go false false (suc j) = ap (λ c. if c then 32 ∷ [] else line_feeds (suc j)) (no_zero j)
 
-kept_is : (h : Chomp) (j : ℕ) → kept (chomp_of h) j ≡ line_feeds (last_breaks h Nothing j)
-unfolding kept
+kept_is : (h : Chomp) (j : ℕ) → kept_breaks (chomp_of h) j ≡ line_feeds (last_breaks h Nothing j)
+unfolding kept_breaks
 kept_is Strip j = refl
 kept_is Clip j = refl
 kept_is Keep j = refl
@@ -155,22 +155,22 @@ module _ (cs : List ℕ) where
   after_content f c s k i j ls xs false t p g e = unended ls t p g refl refl (e refl)
 
   pub sofar_text : (f : Bool) (c : grammar.Chomp) (s : Bool) (k i here j : ℕ) (xs : List ℕ) (b : Before) (n : ℕ) (d : Bool) (t : List ℕ) →
-      Sofar f c s k i here xs b n → text_line cs true k here j (text d t ∷ []) → (d ≡ false → AtEnd cs j) →
+      Sofar f c s k i here xs b n → text_line cs true k here j (content_line d t ∷ []) → (d ≡ false → AtEnd cs j) →
       Sofar f c s k i j ((xs ++ glue (are_folded f b (is_spaced t)) n) ++ t) (shape (is_spaced t)) (breaks_of d)
   sofar_text f c s k i here j xs b n d t (empties ls a r g e) l z =
-      after_content f c s k i j (ls ++ text d t ∷ []) ((xs ++ glue (are_folded f b (is_spaced t)) n) ++ t) d t
-      (content_start cs s k i here j ls (text d t ∷ []) a (allowed s k here j (text d t ∷ []) r l))
-      (subst (λ v. Gives f c (ls ++ text d t ∷ []) v (after_line f c d t 0)) (whole b e)
-      (gives_push f c ls xs (text d t) (content_after f c n) (after_line f c d t 0) (line_feeds n ++ t) g
+      after_content f c s k i j (ls ++ content_line d t ∷ []) ((xs ++ glue (are_folded f b (is_spaced t)) n) ++ t) d t
+      (content_start cs s k i here j ls (content_line d t ∷ []) a (allowed s k here j (content_line d t ∷ []) r l))
+      (subst (λ v. Gives f c (ls ++ content_line d t ∷ []) v (after_line f c d t 0)) (whole b e)
+      (gives_push f c ls xs (content_line d t) (content_after f c n) (after_line f c d t 0) (line_feeds n ++ t) g
       (λ more. content_text f c n d t more ∙ sym (append_assoc (line_feeds n) t (after_line f c d t 0 more))))) z
     where
       whole : (b : Before) → b ≡ Nothing → xs ++ (line_feeds n ++ t) ≡ (xs ++ glue (are_folded f b (is_spaced t)) n) ++ t
       whole b e = sym (append_assoc xs (line_feeds n) t) ∙ ap (λ v. (xs ++ glue (are_folded f v (is_spaced t)) n) ++ t) (sym e)
   sofar_text f c s k i here j xs b n d t (ended ls a m p g e q) l z =
-      after_content f c s k i j (ls ++ text d t ∷ []) ((xs ++ glue (are_folded f b (is_spaced t)) n) ++ t) d t
-      (content_more cs s k i here j ls (text d t ∷ []) p (inr l))
-      (subst (λ v. Gives f c (ls ++ text d t ∷ []) v (after_line f c d t 0)) whole
-      (gives_push f c ls xs (text d t) (after_line f c true a m) (after_line f c d t 0) (joint f a m t ++ t) g
+      after_content f c s k i j (ls ++ content_line d t ∷ []) ((xs ++ glue (are_folded f b (is_spaced t)) n) ++ t) d t
+      (content_more cs s k i here j ls (content_line d t ∷ []) p (inr l))
+      (subst (λ v. Gives f c (ls ++ content_line d t ∷ []) v (after_line f c d t 0)) whole
+      (gives_push f c ls xs (content_line d t) (after_line f c true a m) (after_line f c d t 0) (joint f a m t ++ t) g
       (λ more. after_text f c true a m d t more ∙ sym (append_assoc (joint f a m t) t (after_line f c d t 0 more))))) z
     where
       same : joint f a m t ≡ glue (are_folded f b (is_spaced t)) n
@@ -178,7 +178,7 @@ module _ (cs : List ℕ) where
 
       whole : xs ++ (joint f a m t ++ t) ≡ (xs ++ glue (are_folded f b (is_spaced t)) n) ++ t
       whole = sym (append_assoc xs (joint f a m t) t) ∙ ap (λ v. (xs ++ v) ++ t) same
-  sofar_text f c s k i here j xs b n d t (unended ls a p g e q y) l z = absurd (over_at_end k here j (text d t ∷ []) (inr l) y)
+  sofar_text f c s k i here j xs b n d t (unended ls a p g e q y) l z = absurd (over_at_end k here j (content_line d t ∷ []) (inr l) y)
 
   -- where no further line stands
   pub sofar_over : (f : Bool) (h : Chomp) (o : grammar.Header) (k i here end : ℕ) (xs : List ℕ) (b : Before) (n : ℕ) → o.chomp ≡ chomp_of h →

@@ -6,9 +6,9 @@ use Rattle.yaml_text.specs.Answer.{Only}
 use Rattle.yaml_text.specs.Answer.{Unread}
 use Rattle.yaml_text.specs.grammar.Rules.{chr, any, Stands, run}
 use Rattle.yaml_text.specs.grammar.Characters.{is_white, is_ns, is_nb, is_break, escape}
-use Rattle.yaml_text.specs.grammar.Separation.{Ctx, Mark, Unmarked}
+use Rattle.yaml_text.specs.grammar.Separation.{Ctx, DocumentMark, Unmarked}
 use Rattle.yaml_text.specs.grammar.FlowScalars.{double_char}
-use Rattle.yaml_scalar.specs.Chains.{breaks, folds, gap, verbatim, quoted_more, Solid, NoSolidBreaks, escaped, double_gap, double_rest, double_chain}
+use Rattle.yaml_scalar.specs.Chains.{breaks, folds, gap, verbatim, quoted_more, SolidStart, NoSolidBreaks, escaped_end, double_gap, double_rest, double_chain}
 use Rattle.yaml_text.specs.Lines.{line_brk}
 use Rattle.yaml_scalar.proofs.AnyLemmas.{Same, Onward}
 use Rattle.yaml_text.proofs.Runs.{same_char, run_same}
@@ -67,17 +67,17 @@ module _ (cs : List ℕ) where
   solid_same i j k xs ys (x, inr p, f) (y, inr q, b) =
       let both = escape_same cs i j k x y p q in (both.0, f ∙ ap (λ v. v ∷ []) both.1 ∙ sym b)
 
-  escaped_at : (n : ℕ) (c : Ctx) (i j : ℕ) (xs : List ℕ) → escaped cs n c i j xs →
+  escaped_at : (n : ℕ) (c : Ctx) (i j : ℕ) (xs : List ℕ) → escaped_end cs n c i j xs →
       (m : ℕ) × (us : List ℕ) × run cs is_white i m × (slice_get cs m ≡ Some 92) × breaks cs n c (m + 1) j us × (xs ≡ slice_range cs i m ++ us)
-  unfolding escaped
+  unfolding escaped_end
   escaped_at n c i j xs (m, us, vs, (r, e), (k, (h, f), b), g) = (m, vs, r, h, subst (λ x. breaks cs n c x j vs) f b, g ∙ ap (λ v. v ++ vs) e)
 
-  escaped_is : (n : ℕ) (c : Ctx) (i m k j : ℕ) (us : List ℕ) → run cs is_white i m → slice_get cs m ≡ Some 92 → k ≡ m + 1 → breaks cs n c k j us → escaped cs n c i j (slice_range cs i m ++ us)
-  unfolding escaped
+  escaped_is : (n : ℕ) (c : Ctx) (i m k j : ℕ) (us : List ℕ) → run cs is_white i m → slice_get cs m ≡ Some 92 → k ≡ m + 1 → breaks cs n c k j us → escaped_end cs n c i j (slice_range cs i m ++ us)
+  unfolding escaped_end
   escaped_is n c i m k j us r h e b = (m, slice_range cs i m, us, (r, refl), (k, (h, e), b), refl)
 
   -- neither whites nor a fold stands where an escaped break does
-  gap_no_escaped : (n : ℕ) (c : Ctx) (i j k : ℕ) (xs ys : List ℕ) → gap cs n c i j xs → Solid cs j → escaped cs n c i k ys → ⊥
+  gap_no_escaped : (n : ℕ) (c : Ctx) (i j k : ℕ) (xs ys : List ℕ) → gap cs n c i j xs → SolidStart cs j → escaped_end cs n c i k ys → ⊥
   unfolding gap folds
   gap_no_escaped n c i j k xs ys (inl (r, e)) s p =
       let (m, us, q, h, b, f) = escaped_at n c i k ys p in
@@ -89,7 +89,7 @@ module _ (cs : List ℕ) where
       let at : o ≡ m = run_same cs is_white i o m r q (breaks_stops cs n c o j vs a) (ns_stops cs m (mark_ns m h)) in
       breaks_no_ns cs n c o j vs a (subst (Ns cs) (sym at) (mark_ns m h))
 
-  double_gap_same : (n : ℕ) (c : Ctx) (i j k : ℕ) (xs ys : List ℕ) → double_gap cs n c i j xs → Solid cs j → double_gap cs n c i k ys → Solid cs k → (j ≡ k) × (xs ≡ ys)
+  double_gap_same : (n : ℕ) (c : Ctx) (i j k : ℕ) (xs ys : List ℕ) → double_gap cs n c i j xs → SolidStart cs j → double_gap cs n c i k ys → SolidStart cs k → (j ≡ k) × (xs ≡ ys)
   unfolding double_gap
   double_gap_same n c i j k xs ys (inl p) s (inl q) t = gap_same cs n c i j k xs ys p s.0 q t.0
   double_gap_same n c i j k xs ys (inl p) s (inr q) t = absurd (gap_no_escaped n c i j k xs ys p s q)
@@ -106,12 +106,12 @@ module _ (cs : List ℕ) where
   quote_apart i j xs (x, inl (h, p, e), f) g = letter_quote x p (same_char cs i x 34 h g)
   quote_apart i j xs (x, inr q, f) g = let e : 34 ≡ 92 = same_char cs i 34 92 g (escape_parts cs i j x q).mark in omega (arith, e)
 
-  solid_begins : (i j : ℕ) (xs : List ℕ) → double_char cs i j xs → Solid cs i
+  solid_begins : (i j : ℕ) (xs : List ℕ) → double_char cs i j xs → SolidStart cs i
   unfolding double_char
   solid_begins i j xs (x, inl (h, p, e), f) = ((x, h, letter_ns x p), λ g k b. letter_mark x p (same_char cs i x 92 h g))
   solid_begins i j xs (x, inr q, f) = (mark_ns i (escape_parts cs i j x q).mark, λ g k b. escape_no_break i j k x q b)
 
-  quote_begins : (i : ℕ) → slice_get cs i ≡ Some 34 → Solid cs i
+  quote_begins : (i : ℕ) → slice_get cs i ≡ Some 34 → SolidStart cs i
   quote_begins i h = ((34, h, quote_ns), λ g k b. absurd (let e : 34 ≡ 92 = same_char cs i 34 92 h g in omega (arith, e)))
 
   solid_onward : Onward (double_char cs)
@@ -128,7 +128,7 @@ module _ (cs : List ℕ) where
       let y : m + 1 < j = breaks_onward cs n c (m + 1) j us b in
       omega (arith, x, y)
 
-  pub double_parts : (n : ℕ) (c : Ctx) → Parts cs (Solid cs) (double_gap cs n c) (double_char cs) (chr cs 34)
+  pub double_parts : (n : ℕ) (c : Ctx) → Parts cs (SolidStart cs) (double_gap cs n c) (double_char cs) (chr cs 34)
   unfolding double_gap gap
   double_parts n c = record {
     g_white = λ i j r. inl (inl (r, refl));
@@ -145,21 +145,21 @@ module _ (cs : List ℕ) where
   }
 
   abbrev pub DoubleState : ℕ → Ctx → ℕ → ℕ → ℕ → List ℕ → Type 0
-  DoubleState n c = State cs (Solid cs) (double_gap cs n c) (double_char cs) (chr cs 34) (double_parts n c)
+  DoubleState n c = State cs (SolidStart cs) (double_gap cs n c) (double_char cs) (chr cs 34) (double_parts n c)
 
   -- ---- marks
 
-  pub no_dashes : (x i : ℕ) → slice_get cs i ≡ Some x → x ≢ 45 → x ≢ 46 → Mark cs i → ⊥
+  pub no_dashes : (x i : ℕ) → slice_get cs i ≡ Some x → x ≢ 45 → x ≢ 46 → DocumentMark cs i → ⊥
   no_dashes x i h a b m = elim (mark_dashes cs i m) [
     | inl d ↦ a (same_char cs i x 45 h d.0)
     | inr d ↦ b (same_char cs i x 46 h d.0)
   ]
 
   -- no line starts after a character that is no break
-  pub no_mark_after : (i k : ℕ) → k ≡ i + 1 → (c : ℕ) × (slice_get cs i ≡ Some c) × (c ≢ 10) × (c ≢ 13) → Mark cs k → ⊥
+  pub no_mark_after : (i k : ℕ) → k ≡ i + 1 → (c : ℕ) × (slice_get cs i ≡ Some c) × (c ≢ 10) × (c ≢ 13) → DocumentMark cs k → ⊥
   no_mark_after i k e (c, h, a, b) m = inside_line cs i k e (λ g. a (same_char cs i c 10 h g)) (λ g. b (same_char cs i c 13 h g)) (mark_starts cs k m)
 
-  escape_unmarked : (i j v : ℕ) → escape cs i j v → Unmarked cs i j × (Mark cs j → ⊥)
+  escape_unmarked : (i j v : ℕ) → escape cs i j v → Unmarked cs i j × (DocumentMark cs j → ⊥)
   escape_unmarked i j v p =
       let q = escape_characters cs i j v p in
       let l : i + 2 ≤ j = q.0 in (
@@ -189,16 +189,16 @@ module _ (cs : List ℕ) where
       subst (DoubleState n c a b m) (sym (append_assoc xs (slice_range cs j k) (v ∷ [])))
       (state_solid cs _ _ _ _ (double_parts n c) a b j k m xs (v ∷ []) s r (v, inr p, refl) (unmarked_join cs j k m (unmarked_blank cs j k (blank_white_run cs j k r)) u.0) u.1)
 
-  pub double_fold : (n : ℕ) (c : Ctx) (a b j k : ℕ) (xs ws : List ℕ) → DoubleState n c a b j xs → folds cs n c j k ws → Solid cs k → (Mark cs k → ⊥) → DoubleState n c a b k (xs ++ ws)
+  pub double_fold : (n : ℕ) (c : Ctx) (a b j k : ℕ) (xs ws : List ℕ) → DoubleState n c a b j xs → folds cs n c j k ws → SolidStart cs k → (DocumentMark cs k → ⊥) → DoubleState n c a b k (xs ++ ws)
   unfolding double_gap gap
   double_fold n c a b j k xs ws s f t u =
       state_gap cs _ _ _ _ (double_parts n c) a b j k xs ws s bare
       (record { gap = inl (inr f); first = t; only = λ o zs g h. (double_gap_same n c j o k zs ws g h (inl (inr f)) t).0 }) (unmarked_blank cs j k (blank_gap cs n c j k ws (inr f))) u
     where
-      bare : Solid cs j → ⊥
+      bare : SolidStart cs j → ⊥
       bare q = (let l : j < k = folds_onward cs n c j k ws f in blank_gap cs n c j k ws (inr f) j (omega arith) l q.0)
 
-  pub double_break : (n : ℕ) (c : Ctx) (a b j k l m : ℕ) (xs ws : List ℕ) → DoubleState n c a b j xs → run cs is_white j k → slice_get cs k ≡ Some 92 → l ≡ k + 1 → breaks cs n c l m ws → Solid cs m → (Mark cs m → ⊥) →
+  pub double_break : (n : ℕ) (c : Ctx) (a b j k l m : ℕ) (xs ws : List ℕ) → DoubleState n c a b j xs → run cs is_white j k → slice_get cs k ≡ Some 92 → l ≡ k + 1 → breaks cs n c l m ws → SolidStart cs m → (DocumentMark cs m → ⊥) →
       DoubleState n c a b m ((xs ++ slice_range cs j k) ++ ws)
   unfolding double_gap
   double_break n c a b j k l m xs ws s r h e p t u =
@@ -206,10 +206,10 @@ module _ (cs : List ℕ) where
       (state_gap cs _ _ _ _ (double_parts n c) a b j m xs (slice_range cs j k ++ ws) s bare
       (record { gap = inr whole; first = t; only = λ o zs g f. (double_gap_same n c j o m zs _ g f (inr whole) t).0 }) unmarked u)
     where
-      whole : escaped cs n c j m (slice_range cs j k ++ ws)
+      whole : escaped_end cs n c j m (slice_range cs j k ++ ws)
       whole = escaped_is n c j k l m ws r h e p
 
-      bare : Solid cs j → ⊥
+      bare : SolidStart cs j → ⊥
       bare q =
           (let at : j ≡ k = still cs _ _ _ _ (double_parts n c) j k q.0 r in
           let o = breaks_brk cs n c l m ws p in
@@ -245,7 +245,7 @@ module _ (cs : List ℕ) where
       solid m zs (x, inl (h, v, f), g) = no_text (x, h, double_verbatim x v)
       solid m zs (x, inr p, g) = no_escape m x p
 
-      gaps : (o : ℕ) (ys : List ℕ) → double_gap cs n c j o ys → Solid cs o → (Mark cs o → ⊥) → o ≡ k
+      gaps : (o : ℕ) (ys : List ℕ) → double_gap cs n c j o ys → SolidStart cs o → (DocumentMark cs o → ⊥) → o ≡ k
       gaps o ys (inl (inl (q, w))) t v = run_same cs is_white j o k q r (ns_stops cs o t.0) stop
       gaps o ys (inl (inr q)) t v = let z = folds_through cs n c j k r stop o ys q in absurd (no_fold o z.0 z.1 t v)
       gaps o ys (inr q) t v =
@@ -265,7 +265,7 @@ module _ (cs : List ℕ) where
 
   -- ---- no break that leads on
 
-  pub no_solid : (n : ℕ) (c : Ctx) (i : ℕ) → ((j : ℕ) (xs : List ℕ) → breaks cs n c i j xs → Ns cs j → (Mark cs j → ⊥) → ⊥) → NoSolidBreaks cs n c i
+  pub no_solid : (n : ℕ) (c : Ctx) (i : ℕ) → ((j : ℕ) (xs : List ℕ) → breaks cs n c i j xs → Ns cs j → (DocumentMark cs j → ⊥) → ⊥) → NoSolidBreaks cs n c i
   no_solid n c i none j xs p s m = none j xs p s.0 m
 
   pub no_solid_second : (n : ℕ) (c : Ctx) (i j k : ℕ) (us : List ℕ) → breaks cs n c i j us → Ns cs j → slice_get cs j ≡ Some 92 → k ≡ j + 1 → (l : ℕ) × line_brk cs k l → NoSolidBreaks cs n c i

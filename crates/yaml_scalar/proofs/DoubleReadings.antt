@@ -5,7 +5,7 @@ use Rattle.yaml_text.specs.Answer.{Only}
 use Rattle.yaml_text.specs.Answer.{Unread}
 use Rattle.yaml_text.specs.grammar.Separation.{Ctx}
 use Rattle.yaml_text.specs.grammar.FlowScalars.{several, fold, escaped_break, double_char, double}
-use Rattle.yaml_scalar.specs.Chains.{gap, escaped, double_gap, double_rest, double_chain}
+use Rattle.yaml_scalar.specs.Chains.{gap, escaped_end, double_gap, double_rest, double_chain}
 use Rattle.yaml_text.proofs.Breaks.{ns_no_return, thirteen}
 use Rattle.yaml_scalar.proofs.Readings.{Clear, clear_after, fold_chain, fold_grammar, escaped_chain, escaped_grammar}
 use Rattle.yaml_scalar.proofs.QuotedReadings.{Gaps, Kinds, lines_pieces, lines_of}
@@ -15,7 +15,7 @@ use Rattle.yaml_scalar.proofs.AnyLemmas.{Same}
 
 module _ (cs : List ℕ) where
   double_gaps : (n : ℕ) (c : Ctx) → Gaps cs (double_char cs) (several cs c (fold cs n)) (several cs c (escaped_break cs n)) (double_gap cs n c)
-  unfolding gap double_gap escaped
+  unfolding gap double_gap escaped_end
   double_gaps n c = record {
     whites = λ i j r. inl (inl (r, refl));
     fold = λ i j xs p. inl (inr (fold_chain cs n c i j xs p));
@@ -23,7 +23,7 @@ module _ (cs : List ℕ) where
   }
 
   double_kinds : (n : ℕ) (c : Ctx) (i j : ℕ) (xs : List ℕ) → Clear cs i → double_gap cs n c i j xs → Kinds cs (double_char cs) (several cs c (fold cs n)) (several cs c (escaped_break cs n)) (double_gap cs n c) i j xs
-  unfolding gap double_gap escaped
+  unfolding gap double_gap escaped_end
   double_kinds n c i j xs w (inl (inl p)) = inl p
   double_kinds n c i j xs w (inl (inr p)) = inr (inl (fold_grammar cs n c i j xs w p))
   double_kinds n c i j xs w (inr (m, us, vs, p, (k, (h, e), b), f)) = inr (inr (m, us, vs, p, escaped_grammar cs n c m k j vs h e b, f))

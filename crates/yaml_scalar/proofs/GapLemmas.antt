@@ -4,9 +4,9 @@ use Rattle.std.specs.Prelude.{slice_get, slice_range}
 use Rattle.yaml_text.specs.grammar.Rules.{Span, ◌⊔◌, ◌▸◌, ◌◂◌, ◌⨾◌, gives, any, Any, done, then, Stands, run}
 use Rattle.yaml_scalar.specs.Chains.{TextRule}
 use Rattle.yaml_text.specs.grammar.Characters.{is_white, is_space}
-use Rattle.yaml_scalar.specs.Chains.{margin, empty_line, lead, breaks, fold_text, folds, NoLead, NoBreaks, NoFold, gap}
+use Rattle.yaml_scalar.specs.Chains.{margin, skipped_line, lead, breaks, folded_breaks, folds, NoLead, NoBreaks, NoFold, gap}
 use Rattle.yaml_text.specs.Lines.{line_brk, is_key}
-use Rattle.yaml_text.specs.grammar.Separation.{Mark, Unmarked, indent, less}
+use Rattle.yaml_text.specs.grammar.Separation.{DocumentMark, Unmarked, indent, less}
 use Rattle.yaml_text.specs.Answer.{Unread}
 use Rattle.yaml_text.specs.grammar.Separation.{Ctx}
 use Rattle.yaml_scalar.proofs.AnyLemmas.{Same, Onward, Cuts, any_span_same, any_span_none, any_onward}
@@ -35,27 +35,27 @@ module _ (cs : List ℕ) where
   blank_white n i j (inr (b, s)) = spaces_white cs i j s
 
   abbrev pub empty : ℕ → TextRule
-  empty n = empty_line cs n ▸ gives (10 ∷ [])
+  empty n = skipped_line cs n ▸ gives (10 ∷ [])
 
   -- the margin of a line with text
   abbrev pub text_margin : ℕ → Span
   text_margin n i j = margin cs n i j × Ns cs j
 
   pub empty_same : (n : ℕ) → Same (empty n)
-  unfolding empty_line
+  unfolding skipped_line
   empty_same n i j k xs ys (l, (m, b, r), (e, f)) (o, (q, c, s), (g, h)) =
       let at : m ≡ q = run_same cs is_white i m q (blank_white n i m b) (blank_white n i q c) (brk_stops cs m l r) (brk_stops cs q o s) in
       (e ∙ brk_same cs q l o (subst (λ x. line_brk cs x l) at r) s ∙ sym g, f ∙ sym h)
 
   pub empty_onward : (n : ℕ) → Onward (empty n)
-  unfolding empty_line
+  unfolding skipped_line
   empty_onward n i j xs (l, (m, b, r), (e, f)) =
       let x : i ≤ m = (blank_white n i m b).0 in
       let y : m < l = brk_onward cs m l r in
       omega (arith, x, y, e)
 
   pub empty_apart : (n i j k : ℕ) (xs : List ℕ) → empty n i j xs → text_margin n i k → ⊥
-  unfolding empty_line
+  unfolding skipped_line
   empty_apart n i j k xs (l, (m, b, r), (e, f)) (s, t) =
       let at : m ≡ k = run_same cs is_white i m k (blank_white n i m b) (margin_white n i k s) (brk_stops cs m l r) (ns_stops cs k t) in
       brk_no_ns cs m l r (subst (Ns cs) (sym at) t)
@@ -84,12 +84,12 @@ module _ (cs : List ℕ) where
   breaks_no_ns n c i j xs p = let q = breaks_brk n c i j xs p in brk_no_ns cs i q.0 q.1
 
   -- a fold goes through the break after the whites
-  pub folds_through : (n : ℕ) (c : Ctx) (i k : ℕ) → run cs is_white i k → NoWhite cs k → (j : ℕ) (xs : List ℕ) → folds cs n c i j xs → (us : List ℕ) × breaks cs n c k j us × (xs ≡ fold_text us)
+  pub folds_through : (n : ℕ) (c : Ctx) (i k : ℕ) → run cs is_white i k → NoWhite cs k → (j : ℕ) (xs : List ℕ) → folds cs n c i j xs → (us : List ℕ) × breaks cs n c k j us × (xs ≡ folded_breaks us)
   unfolding folds
   folds_through n c i k r stop j xs (l, s, (us, p, e)) =
       (us, subst (λ x. breaks cs n c x j us) (run_same cs is_white i l k s r (breaks_stops n c l j us p) stop) p, e)
 
-  pub folds_is : (n : ℕ) (c : Ctx) (i k j : ℕ) (us : List ℕ) → run cs is_white i k → breaks cs n c k j us → folds cs n c i j (fold_text us)
+  pub folds_is : (n : ℕ) (c : Ctx) (i k j : ℕ) (us : List ℕ) → run cs is_white i k → breaks cs n c k j us → folds cs n c i j (folded_breaks us)
   unfolding folds
   folds_is n c i k j us r p = (k, r, (us, p, refl))
 
@@ -98,7 +98,7 @@ module _ (cs : List ℕ) where
   folds_same n c i j k xs ys (l, r, (us, p, e)) a q b =
       let through = folds_through n c i l r (breaks_stops n c l j us p) k ys q in
       let both = breaks_same n c l j k us through.0 p a through.1 b in
-      (both.0, e ∙ ap fold_text both.1 ∙ sym through.2)
+      (both.0, e ∙ ap folded_breaks both.1 ∙ sym through.2)
 
   -- where no break leads on after the whites there is no fold
   pub no_fold : (n : ℕ) (c : Ctx) (i k : ℕ) → run cs is_white i k → NoWhite cs k → NoBreaks cs n c k → NoFold cs n c i
@@ -129,7 +129,7 @@ module _ (cs : List ℕ) where
 
   -- the margin of a line with text that is no mark
   abbrev pub solid_margin : ℕ → Span
-  solid_margin n i j = margin cs n i j × Ns cs j × (Mark cs j → ⊥)
+  solid_margin n i j = margin cs n i j × Ns cs j × (DocumentMark cs j → ⊥)
 
   abbrev pub solid_lead : ℕ → TextRule
   solid_lead n = any (empty n) ◂ solid_margin n
@@ -139,7 +139,7 @@ module _ (cs : List ℕ) where
   lead_is n i k j xs p m = (k, p, m)
 
   -- where no lead to text stands at a later line, none stands at the first
-  pub lead_none : (n i k : ℕ) (xs : List ℕ) → any (empty n) i k xs → Unread (solid_lead n) k → (j : ℕ) (ys : List ℕ) → lead cs n i j ys → Ns cs j → (Mark cs j → ⊥) → ⊥
+  pub lead_none : (n i k : ℕ) (xs : List ℕ) → any (empty n) i k xs → Unread (solid_lead n) k → (j : ℕ) (ys : List ℕ) → lead cs n i j ys → Ns cs j → (DocumentMark cs j → ⊥) → ⊥
   unfolding lead
   lead_none n i k xs p none j ys (l, q, m) a b =
       any_span_none (empty_same n) (λ x y z us e (f, g, h). empty_apart n x y z us e (f, g)) p none j ys (l, q, (m, a, b))
@@ -155,7 +155,7 @@ module _ (cs : List ℕ) where
   no_space_break i j b h = brk_stops cs i j b (32, h, space_white)
 
   pub short_none : (n i m : ℕ) → less cs n i m → slice_get cs m ≢ Some 32 → ((j : ℕ) → line_brk cs m j → ⊥) → Unread (solid_lead n) i
-  unfolding empty_line less
+  unfolding skipped_line less
   short_none n i m short stop no_break j xs (l, p, (t, a, b)) = go xs p t
     where
       go : (xs : List ℕ) → Any (empty n) l i xs → margin cs n l j → ⊥
@@ -165,26 +165,26 @@ module _ (cs : List ℕ) where
           let at : q ≡ m = run_same cs is_space i q m r.1 short.1 (no_space q (no_space_break q o c)) (no_space m stop) in
           no_break o (subst (λ x. line_brk cs x o) at c)
 
-  pub whole_none : (n i m : ℕ) → margin cs n i m → NoWhite cs m → ((j : ℕ) → line_brk cs m j → ⊥) → (Ns cs m → (Mark cs m → ⊥) → ⊥) → Unread (solid_lead n) i
-  unfolding empty_line
+  pub whole_none : (n i m : ℕ) → margin cs n i m → NoWhite cs m → ((j : ℕ) → line_brk cs m j → ⊥) → (Ns cs m → (DocumentMark cs m → ⊥) → ⊥) → Unread (solid_lead n) i
+  unfolding skipped_line
   whole_none n i m whole stop no_break barred j xs (l, p, (t, a, b)) = go xs p t
     where
       go : (xs : List ℕ) → Any (empty n) l i xs → margin cs n l j → ⊥
       go xs (done e f) t =
           let at : j ≡ m = run_same cs is_white i j m (margin_white n i j (subst (λ x. margin cs n x j) e t)) (margin_white n i m whole) (ns_stops cs j a) stop in
-          barred (subst (Ns cs) at a) (subst (λ x. Mark cs x → ⊥) at b)
+          barred (subst (Ns cs) at a) (subst (λ x. DocumentMark cs x → ⊥) at b)
       go xs (then k ys zs (o, (q, r, c), e) rest f) t =
           let at : q ≡ m = run_same cs is_white i q m (blank_white n i q r) (margin_white n i m whole) (brk_stops cs q o c) stop in
           no_break o (subst (λ x. line_brk cs x o) at c)
 
   pub empty_is : (n i m j : ℕ) → (margin cs n ⊔ less cs n) i m → line_brk cs m j → empty n i j (10 ∷ [])
-  unfolding empty_line
+  unfolding skipped_line
   empty_is n i m j b r = (j, (m, b, r), (refl, refl))
 
   -- ---- no mark stands in a gap
 
   blank_empties : (n : ℕ) {j i : ℕ} {xs : List ℕ} → Any (empty n) j i xs → Blank cs i j
-  unfolding empty_line
+  unfolding skipped_line
   blank_empties n {j} {i} (done e f) = λ k a b s. absurd (omega (arith, a, b, e))
   blank_empties n {j} {i} (then m ys zs (l, (q, r, c), (e, f)) rest g) =
       blank_join cs i m j (subst (Blank cs i) (sym e) (blank_join cs i q l (blank_white_run cs i q (blank_white n i q r)) (blank_brk cs q l c))) (blank_empties n rest)

@@ -3,7 +3,7 @@ use Rattle.std.proofs.Common.{◌≡◌, ◌≢◌, ℕ, ◌+◌, ◌-◌, ◌<�
 use Rattle.std.proofs.lemmas.List.{append-nil}
 use Rattle.yaml_text.specs.grammar.Rules.{Rule, ◌◂◌, run, Stands, how_many, seen}
 use Rattle.yaml_text.specs.grammar.Characters.{is_space, is_nb, is_break, brk}
-use Rattle.yaml_text.specs.grammar.Separation.{AtEnd, Mark, MarkOf, less}
+use Rattle.yaml_text.specs.grammar.Separation.{AtEnd, DocumentMark, DocumentMarkOf, less}
 use Rattle.yaml_text.specs.grammar.BlockScalars.{space_lines, NoSpace, LessIndented, greatest, found_indentation, longest_indentation, indentation}
 use Rattle.yaml_text.specs.Answer.{Unread}
 use Rattle.yaml_text.proofs.Runs.{same_char, run_none, run_same}
@@ -75,12 +75,12 @@ module _ (cs : List ℕ) where
       go (inl n) b = no_space_no_brk q j n b
       go (inr e) b = brk_no_end cs q j b e
 
-  pub mark_no_space : (i : ℕ) → Mark cs i → NoSpace cs i
-  unfolding Mark MarkOf
+  pub mark_no_space : (i : ℕ) → DocumentMark cs i → NoSpace cs i
+  unfolding DocumentMark DocumentMarkOf
   mark_no_space i (inl (s, (j, (k, (h, e), w)), t)) = (45, h, dash_class)
   mark_no_space i (inr (s, (j, (k, (h, e), w)), t)) = (46, h, dot_class)
 
-  pub mark_stuck : (i : ℕ) → Mark cs i → Stuck i
+  pub mark_stuck : (i : ℕ) → DocumentMark cs i → Stuck i
   mark_stuck i m = (i, run_none cs is_space i, inl (mark_no_space i m))
 
   -- fewer than k spaces and then another character
@@ -92,7 +92,7 @@ module _ (cs : List ℕ) where
   pub less_stuck : (k i : ℕ) → LessIndented cs k i → Stuck i
   less_stuck k i l = let d = less_is k i l in (d.0, d.1, inl d.3)
 
-  pub to_less : (k i q : ℕ) → (Mark cs i → ⊥) → run cs is_space i q → q < i + k → NoSpace cs q → LessIndented cs k i
+  pub to_less : (k i q : ℕ) → (DocumentMark cs i → ⊥) → run cs is_space i q → q < i + k → NoSpace cs q → LessIndented cs k i
   unfolding less
   to_less k i q m r l n = (q, (i, (refl, m), (q, (l, r), (refl, n))))
 
@@ -100,10 +100,10 @@ module _ (cs : List ℕ) where
 
   -- where the search ends, with what it gives
   pub data Found (col i k : ℕ) : Type 0 where
-    at_line : (p q : ℕ) (ms : List ℕ) → space_lines cs i p ms → col ≤ k → greatest ms ≤ k → (Mark cs p → ⊥) →
+    at_line : (p q : ℕ) (ms : List ℕ) → space_lines cs i p ms → col ≤ k → greatest ms ≤ k → (DocumentMark cs p → ⊥) →
         run cs is_space p q → q ≡ p + k → NoSpace cs q → Found col i k
     at_less : (p : ℕ) (ms : List ℕ) → space_lines cs i p ms → LessIndented cs col p → k ≡ max col (greatest ms) → Found col i k
-    at_mark : (p : ℕ) (ms : List ℕ) → space_lines cs i p ms → Mark cs p → k ≡ max col (greatest ms) → Found col i k
+    at_mark : (p : ℕ) (ms : List ℕ) → space_lines cs i p ms → DocumentMark cs p → k ≡ max col (greatest ms) → Found col i k
     at_end : (p q : ℕ) (ms : List ℕ) → space_lines cs i p ms → run cs is_space p q → AtEnd cs q → k ≡ max (max col (greatest ms)) (q - p) → Found col i k
 
   pub found_of : (col i j k : ℕ) → indentation cs col None i j k → Found col i k
@@ -115,13 +115,13 @@ module _ (cs : List ℕ) where
       whole : os ≡ [] → ns ≡ ms
       whole h = g ∙ ap (λ v. ms ++ v) h ∙ append-nil ms
 
-      pick : l ≡ p → greatest ns ≡ greatest ms → LessIndented cs col p ⊎ Mark cs p ⊎ AtEnd cs p → Found col i k
+      pick : l ≡ p → greatest ns ≡ greatest ms → LessIndented cs col p ⊎ DocumentMark cs p ⊎ AtEnd cs p → Found col i k
       pick h u (inl d) = at_less l ms a (subst (LessIndented cs col) (sym h) d) (z ∙ ap (max col) u)
-      pick h u (inr (inl d)) = at_mark l ms a (subst (Mark cs) (sym h) d) (z ∙ ap (max col) u)
+      pick h u (inr (inl d)) = at_mark l ms a (subst (DocumentMark cs) (sym h) d) (z ∙ ap (max col) u)
       pick h u (inr (inr d)) = at_end l l ms a (run_none cs is_space l) (h ∙ d) (omega (arith, z, u))
 
       last : ((p ≡ l) × (os ≡ [])) ⊎ ((t : ℕ) × ((m : ℕ) × (run cs is_space l t × (t ≡ l + m)) × (os ≡ m ∷ [])) × ((p ≡ t) × AtEnd cs t)) →
-          LessIndented cs col p ⊎ Mark cs p ⊎ AtEnd cs p → Found col i k
+          LessIndented cs col p ⊎ DocumentMark cs p ⊎ AtEnd cs p → Found col i k
       last (inl (h, u)) c = pick (sym h) (ap greatest (whole u)) c
       last (inr (t, (m, (r, h), u), (v, w))) c =
           let big : greatest ns ≡ max (greatest ms) m = ap greatest (g ∙ ap (λ d. ms ++ d) u) ∙ greatest_push ms m in
@@ -176,7 +176,7 @@ module _ (cs : List ℕ) where
           absurd (line_less col k p q b r e n (subst (LessIndented cs col) (sym one.0) d))
       go (at_line p q ms a b c m r e n) (at_mark o ns f d y) same =
           let one = same p o ms ns a (q, r, inl n) f (mark_stuck o d) in
-          absurd (m (subst (Mark cs) (sym one.0) d))
+          absurd (m (subst (DocumentMark cs) (sym one.0) d))
       go (at_line p q ms a b c m r e n) (at_end o u ns f s z y) same =
           let one = same p o ms ns a (q, r, inl n) f (u, s, inr z) in
           absurd (line_end_apart p q u r n (subst (λ v. run cs is_space v u) (sym one.0) s) z)
@@ -193,7 +193,7 @@ module _ (cs : List ℕ) where
           absurd (line_end_apart p w.0 u w.1 w.3 (subst (λ v. run cs is_space v u) (sym one.0) s) z)
       go (at_mark p ms a d e) (at_line o u ns f g h x s y z) same =
           let one = same p o ms ns a (mark_stuck p d) f (u, s, inl z) in
-          absurd (x (subst (Mark cs) one.0 d))
+          absurd (x (subst (DocumentMark cs) one.0 d))
       go (at_mark p ms a d e) (at_less o ns f c y) same =
           let one = same p o ms ns a (mark_stuck p d) f (less_stuck col o c) in gather col i k l p o ms ns one.0 one.1 e y
       go (at_mark p ms a d e) (at_mark o ns f c y) same =

@@ -5,8 +5,8 @@ use Rattle.std.proofs.Math.Nat.{eq-or-lt_of_le}
 use Rattle.std.proofs.lemmas.List.{append-nil}
 use Rattle.yaml_text.specs.grammar.Rules.{run, Stands, maybe, Any, then}
 use Rattle.yaml_text.specs.grammar.Characters.{is_space, is_nb, is_break, brk}
-use Rattle.yaml_text.specs.grammar.Separation.{AtEnd, Mark, indent}
-use Rattle.yaml_text.specs.grammar.BlockScalars.{Line, blank, text, NoSpace, LessIndented, LinesEnd, blank_line, text_line, last_spaces, lines}
+use Rattle.yaml_text.specs.grammar.Separation.{AtEnd, DocumentMark, indent}
+use Rattle.yaml_text.specs.grammar.BlockScalars.{Line, blank, content_line, NoSpace, LessIndented, LinesEnd, blank_line, text_line, last_spaces, lines}
 use Rattle.yaml_scalar.specs.BlockRules.{any_line}
 use Rattle.yaml_text.proofs.Runs.{run_none, run_same}
 use Rattle.yaml_text.proofs.LineRuns.{end_stops, brk_same, brk_stops, brk_no_end, brk_onward}
@@ -29,11 +29,11 @@ module _ (cs : List ℕ) where
     pub is : v ≡ blank ∷ []
 
   pub data Tail (q j : ℕ) (xs : List ℕ) (v : List Line) : Type 0 where
-    broken : brk cs q j → v ≡ text true xs ∷ [] → Tail q j xs v
-    last : AtEnd cs q → j ≡ q → v ≡ text false xs ∷ [] → Tail q j xs v
+    broken : brk cs q j → v ≡ content_line true xs ∷ [] → Tail q j xs v
+    last : AtEnd cs q → j ≡ q → v ≡ content_line false xs ∷ [] → Tail q j xs v
 
   pub record Text (k i j : ℕ) (v : List Line) : Type 0 where
-    pub unmarked : Mark cs i → ⊥
+    pub unmarked : DocumentMark cs i → ⊥
     pub spaces : run cs is_space i (i + k)
     pub stop : ℕ
     pub chars : run cs is_nb (i + k) stop
@@ -61,9 +61,9 @@ module _ (cs : List ℕ) where
         ends = tail w (g ∙ ap (λ x. slice_range cs x q) at);
       }
     where
-      tail : ((e : ℕ) × brk cs q e × ((j ≡ e) × (v ≡ text true xs ∷ []))) ⊎ ((e : ℕ) × ((e ≡ q) × AtEnd cs q) × ((j ≡ e) × (v ≡ text false xs ∷ []))) → xs ≡ slice_range cs (i + k) q → Tail q j (slice_range cs (i + k) q) v
-      tail (inl (a, b, (c, d))) x = broken (subst (brk cs q) (sym c) b) (d ∙ ap (λ y. text true y ∷ []) x)
-      tail (inr (a, (b, z), (c, d))) x = last z (c ∙ b) (d ∙ ap (λ y. text false y ∷ []) x)
+      tail : ((e : ℕ) × brk cs q e × ((j ≡ e) × (v ≡ content_line true xs ∷ []))) ⊎ ((e : ℕ) × ((e ≡ q) × AtEnd cs q) × ((j ≡ e) × (v ≡ content_line false xs ∷ []))) → xs ≡ slice_range cs (i + k) q → Tail q j (slice_range cs (i + k) q) v
+      tail (inl (a, b, (c, d))) x = broken (subst (brk cs q) (sym c) b) (d ∙ ap (λ y. content_line true y ∷ []) x)
+      tail (inr (a, (b, z), (c, d))) x = last z (c ∙ b) (d ∙ ap (λ y. content_line false y ∷ []) x)
 
   pub to_text : (s : Bool) (k i j : ℕ) (v : List Line) → (t : Text k i j v) → (s ≡ true) ⊎ (run cs is_space (i + k) t.stop → ⊥) → text_line cs s k i j v
   unfolding text_line indent
@@ -71,7 +71,7 @@ module _ (cs : List ℕ) where
       (i + k, (i, (refl, t.unmarked), (t.spaces, refl)), (t.stop, slice_range cs (i + k) t.stop, ((l, (t.chars, t.some)), refl), tail t.ends))
     where
       tail : Tail t.stop j (slice_range cs (i + k) t.stop) v →
-          ((e : ℕ) × brk cs t.stop e × ((j ≡ e) × (v ≡ text true (slice_range cs (i + k) t.stop) ∷ []))) ⊎ ((e : ℕ) × ((e ≡ t.stop) × AtEnd cs t.stop) × ((j ≡ e) × (v ≡ text false (slice_range cs (i + k) t.stop) ∷ [])))
+          ((e : ℕ) × brk cs t.stop e × ((j ≡ e) × (v ≡ content_line true (slice_range cs (i + k) t.stop) ∷ []))) ⊎ ((e : ℕ) × ((e ≡ t.stop) × AtEnd cs t.stop) × ((j ≡ e) × (v ≡ content_line false (slice_range cs (i + k) t.stop) ∷ [])))
       tail (broken b e) = inl (j, b, (refl, e))
       tail (last z f e) = inr (t.stop, (refl, z), (f, e))
 
@@ -180,7 +180,7 @@ module _ (cs : List ℕ) where
       let at : w.0 ≡ q = run_same cs is_space i w.0 q w.1 r (no_space_stops cs w.0 w.3) (end_stops cs is_space q z) in
       no_space_no_end cs q (subst (NoSpace cs) at w.3) z
 
-  mark_no_end : (i q : ℕ) → Mark cs i → run cs is_space i q → AtEnd cs q → ⊥
+  mark_no_end : (i q : ℕ) → DocumentMark cs i → run cs is_space i q → AtEnd cs q → ⊥
   mark_no_end i q m r z =
       let at : i ≡ q = run_same cs is_space i i q (run_none cs is_space i) r (no_space_stops cs i (mark_no_space cs i m)) (end_stops cs is_space q z) in
       no_space_no_end cs q (subst (NoSpace cs) at (mark_no_space cs i m)) z

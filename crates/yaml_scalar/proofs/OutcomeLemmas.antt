@@ -4,13 +4,13 @@ use Rattle.std.specs.Prelude.{Ok, IfOk, is_ok, if◌then◌else◌}
 use Rattle.std.specs.Result.{IsErrAnd}
 use Rattle.std.proofs.lemmas.Result.{err_from_is_err_and}
 use Rattle.yaml_scalar.specs.Chains.{TextRule}
-use Rattle.yaml_text.specs.Answer.{Answers, Refuses}
-use Rattle.yaml_text.specs.Answer.{IsUnread}
+use Rattle.yaml_text.specs.Answer.{Answers, ScalarFaultMeans}
+use Rattle.yaml_text.specs.Answer.{IsSyntaxFault}
 use Rattle.yaml_text.specs.Answer.{Unread}
 use Rattle.yaml_text.specs.declared.fault.Fault.{Fault}
 use Rattle.yaml_text.specs.declared.fault.Fault.TheVariants as fault
 
-pub refuses_weaker : (e : Fault) {P Q : Type 0} → (P → Q) → Refuses e P → Refuses e Q
+pub refuses_weaker : (e : Fault) {P Q : Type 0} → (P → Q) → ScalarFaultMeans e P → ScalarFaultMeans e Q
 refuses_weaker (fault.Syntax at) f p = f p
 refuses_weaker (fault.Tab at) f p = f p
 refuses_weaker (fault.BadEscape at) f p = f p
@@ -36,7 +36,7 @@ refuses_weaker fault.ReadFault f p = p
 refuses_weaker fault.WriteFault f p = p
 
 -- at a place where the text can't be read on
-pub refuses_unread : (e : Fault) {P : Type 0} → IsUnread e → P → Refuses e P
+pub refuses_unread : (e : Fault) {P : Type 0} → IsSyntaxFault e → P → ScalarFaultMeans e P
 refuses_unread (fault.Syntax at) u p = p
 refuses_unread (fault.Tab at) u p = p
 refuses_unread (fault.BadEscape at) u p = p
@@ -63,7 +63,7 @@ refuses_unread fault.WriteFault u p = u
 
 -- at the exit of a `?`
 pub answers_err : {X : Type 0} (Best : TextRule → TextRule) (R : TextRule) (i : ℕ) (end : X → ℕ) (value : X → List ℕ) (r : Result X Fault) (e : Fault) →
-    IsErrAnd r (λ y. y ≡ e) → Refuses e (Unread R i) → Answers Best R i end value r
+    IsErrAnd r (λ y. y ≡ e) → ScalarFaultMeans e (Unread R i) → Answers Best R i end value r
 answers_err Best R i end value r e was refused =
     let p = err_from_is_err_and r was in
     subst (Answers Best R i end value) (sym (p.1 ∙ ap Err p.2)) refused

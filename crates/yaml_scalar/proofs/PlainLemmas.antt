@@ -2,9 +2,9 @@
 use Rattle.std.proofs.Common.{◌≡◌, ◌≢◌, ℕ, ◌+◌, ◌<◌, ◌≤◌, ◌⊎◌, inl, inr, List, [], ◌∷◌, ◌++◌, Some, None, true, false, refl, sym, ◌∙◌, ap, subst, arith, append_assoc}
 use Rattle.std.specs.Prelude.{slice_get, slice_range}
 use Rattle.yaml_text.specs.grammar.Rules.{◌⨾◌, any, Any, done, then, Stands, run, where_both}
-use Rattle.yaml_scalar.specs.Chains.{taken, folds, NoBreaks, NoLine, breaks, gap, plain_inner, plain_head, plain_sign, Later, line_more, fold_more, plain_more, plain_chain}
+use Rattle.yaml_scalar.specs.Chains.{taken_at, folds, NoBreaks, NoPlainLine, breaks, gap, plain_inner, plain_head, plain_sign, Later, line_more, fold_more, plain_more, plain_chain}
 use Rattle.yaml_text.specs.grammar.Characters.{is_white, is_ns, is_nb, is_break, is_indicator}
-use Rattle.yaml_text.specs.grammar.Separation.{Mark, Unmarked}
+use Rattle.yaml_text.specs.grammar.Separation.{DocumentMark, Unmarked}
 use Rattle.yaml_text.specs.grammar.FlowScalars.{plain_safe, PlainFirst}
 use Rattle.yaml_text.specs.Answer.{Unread}
 use Rattle.yaml_text.specs.Answer.{Furthest}
@@ -139,33 +139,33 @@ module _ (cs : List ℕ) where
 
   -- ---- over a fold
 
-  pub no_more_line : (n : ℕ) (c : Ctx) (i k : ℕ) → run cs is_white i k → NoWhite cs k → NoLine cs n c k → Unread (fold_more cs n c) i
+  pub no_more_line : (n : ℕ) (c : Ctx) (i k : ℕ) → run cs is_white i k → NoWhite cs k → NoPlainLine cs n c k → Unread (fold_more cs n c) i
   unfolding fold_more
   no_more_line n c i k r stop none j xs (u, (m, us, vs, p, (t, x, g, e, d), h)) =
       let a : i < m = folds_onward cs n c i m us p in
       let q = folds_through cs n c i k r stop m us p in
       none m q.0 q.1 t (u m (omega (arith, a)) (omega (arith, e)))
 
-  pub no_text_line : (n : ℕ) (c : Ctx) (i : ℕ) → NoBreaks cs n c i → NoLine cs n c i
+  pub no_text_line : (n : ℕ) (c : Ctx) (i : ℕ) → NoBreaks cs n c i → NoPlainLine cs n c i
   no_text_line n c i none j xs p l m = none j xs p (later_ns c j l) m
 
-  pub no_later_line : (n : ℕ) (c : Ctx) (i o : ℕ) (ws : List ℕ) → breaks cs n c i o ws → Ns cs o → (Later cs c o → ⊥) → NoLine cs n c i
+  pub no_later_line : (n : ℕ) (c : Ctx) (i o : ℕ) (ws : List ℕ) → breaks cs n c i o ws → Ns cs o → (Later cs c o → ⊥) → NoPlainLine cs n c i
   no_later_line n c i o ws q s none j xs p l m =
       none (subst (Later cs c) (breaks_same cs n c i j o xs ws p (later_ns c j l) q s).0 l)
 
   -- ---- the whole scalar
 
-  pub one_same : (P : ℕ → Type 0) → Same (taken cs P)
+  pub one_same : (P : ℕ → Type 0) → Same (taken_at cs P)
   one_same P i j k xs ys (p, x, h, e, f) (q, y, g, a, b) = (e ∙ sym a, f ∙ ap (λ v. v ∷ []) (same_char cs i x y h g) ∙ sym b)
 
-  pub one_onward : (P : ℕ → Type 0) → Onward (taken cs P)
+  pub one_onward : (P : ℕ → Type 0) → Onward (taken_at cs P)
   one_onward P i j xs (p, x, h, e, f) = omega (arith, e)
 
-  later_begins : (c : Ctx) → BeginsNs cs (taken cs (Later cs c))
+  later_begins : (c : Ctx) → BeginsNs cs (taken_at cs (Later cs c))
   later_begins c i j xs p = later_ns c i p.0
 
   -- a gap and a later character do not begin with a #
-  hash_apart : (n : ℕ) (c : Ctx) (i j : ℕ) (xs : List ℕ) → slice_get cs i ≡ Some 35 → (gap cs n c ⨾ taken cs (Later cs c)) i j xs → ⊥
+  hash_apart : (n : ℕ) (c : Ctx) (i j : ℕ) (xs : List ℕ) → slice_get cs i ≡ Some 35 → (gap cs n c ⨾ taken_at cs (Later cs c)) i j xs → ⊥
   hash_apart n c i j xs h (m, us, vs, g, (l, x, t, e, f), d) =
       elim (cases_eq m i) [
         | inl q ↦ later_no_hash c m l (subst (λ y. slice_get cs y ≡ Some 35) (sym q) h)
@@ -179,7 +179,7 @@ module _ (cs : List ℕ) where
   more_same n c i j k xs ys (inl p) (inr q) = absurd (hash_apart n c i k ys p.0 q)
   more_same n c i j k xs ys (inr p) (inl q) = absurd (hash_apart n c i j xs q.0 p)
   more_same n c i j k xs ys (inr p) (inr q) =
-      gap_then_same cs n c (taken cs (Later cs c)) (later_begins c) (one_same (Later cs c)) i j k xs ys p q
+      gap_then_same cs n c (taken_at cs (Later cs c)) (later_begins c) (one_same (Later cs c)) i j k xs ys p q
 
   pub more_onward : (n : ℕ) (c : Ctx) → Onward (plain_more cs n c)
   unfolding plain_more
@@ -204,8 +204,8 @@ module _ (cs : List ℕ) where
   line_after c i j xs (inr (m, us, vs, (r, y), (l, x, g, e, f), d)) a =
       (unmarked_join cs i m j (unmarked_blank cs i m (blank_white_run cs i m r)) (unmarked_one cs m j e (here (cases_eq m i))), (m, e, later_ns c m l))
     where
-      here : (m ≡ i) ⊎ (m ≡ i → ⊥) → Mark cs m → ⊥
-      here (inl q) = subst (λ y. Mark cs y → ⊥) (sym q) (after_ns cs i a)
+      here : (m ≡ i) ⊎ (m ≡ i → ⊥) → DocumentMark cs m → ⊥
+      here (inl q) = subst (λ y. DocumentMark cs y → ⊥) (sym q) (after_ns cs i a)
       here (inr q) = λ t. after_white cs i m r (let z : i ≤ m = r.0 in omega (arith, z, q)) (mark_starts cs m t)
 
   line_ends : (c : Ctx) {j i : ℕ} {xs : List ℕ} → Any (line_more cs c) j i xs → AfterNs cs i → Unmarked cs i j × AfterNs cs j
@@ -217,11 +217,11 @@ module _ (cs : List ℕ) where
 
   -- what has been read of a plain scalar
   pub record Sofar (n : ℕ) (c : Ctx) (i j : ℕ) (xs : List ℕ) : Type 0 where
-    pub is : (taken cs (PlainFirst cs c) ⨾ any (plain_more cs n c)) i j xs
+    pub is : (taken_at cs (PlainFirst cs c) ⨾ any (plain_more cs n c)) i j xs
     pub unmarked : Unmarked cs i j
     pub after : AfterNs cs j
 
-  pub sofar_start : (n : ℕ) (c : Ctx) (i k j x : ℕ) → PlainFirst cs c i → slice_get cs i ≡ Some x → (Mark cs i → ⊥) → k ≡ i + 1 → any (line_more cs c) k j (slice_range cs k j) →
+  pub sofar_start : (n : ℕ) (c : Ctx) (i k j x : ℕ) → PlainFirst cs c i → slice_get cs i ≡ Some x → (DocumentMark cs i → ⊥) → k ≡ i + 1 → any (line_more cs c) k j (slice_range cs k j) →
       Sofar n c i j (slice_range cs i j)
   sofar_start n c i k j x p h u e line =
       let a : AfterNs cs k = (i, e, first_ns c i p) in
@@ -240,7 +240,7 @@ module _ (cs : List ℕ) where
         after = b.1;
       }
 
-  pub sofar_line : (n : ℕ) (c : Ctx) (i j s t k x : ℕ) (xs f : List ℕ) → Sofar n c i j xs → folds cs n c j s f → Later cs c s → slice_get cs s ≡ Some x → (Mark cs s → ⊥) → t ≡ s + 1 →
+  pub sofar_line : (n : ℕ) (c : Ctx) (i j s t k x : ℕ) (xs f : List ℕ) → Sofar n c i j xs → folds cs n c j s f → Later cs c s → slice_get cs s ≡ Some x → (DocumentMark cs s → ⊥) → t ≡ s + 1 →
       any (line_more cs c) t k (slice_range cs t k) → Sofar n c i k ((xs ++ f) ++ slice_range cs s k)
   unfolding plain_more gap
   sofar_line n c i j s t k x xs f so g l h u e line =
@@ -274,7 +274,7 @@ module _ (cs : List ℕ) where
     only = λ ys r. (both j ys r).1 refl;
   }
     where
-      both : (k : ℕ) (ys : List ℕ) → where_both (Unmarked cs) (taken cs (PlainFirst cs c) ⨾ any (plain_more cs n c)) i k ys → (k ≤ j) × (k ≡ j → ys ≡ xs)
+      both : (k : ℕ) (ys : List ℕ) → where_both (Unmarked cs) (taken_at cs (PlainFirst cs c) ⨾ any (plain_more cs n c)) i k ys → (k ≤ j) × (k ≡ j → ys ≡ xs)
       both k ys (u, (m, us, vs, f, r, e)) =
           let s = so.is in
           let same = one_same (PlainFirst cs c) i m s.0 us s.1 f s.3 in
@@ -291,7 +291,7 @@ module _ (cs : List ℕ) where
   pub no_plain_end : (n : ℕ) (c : Ctx) (i : ℕ) → slice_get cs i ≡ None → Unread (plain_chain cs n c) i
   no_plain_end n c i h = no_plain_first n c i (λ f. no_stand_end cs is_ns i h (first_ns c i f))
 
-  pub no_plain_mark : (n : ℕ) (c : Ctx) (i : ℕ) → Mark cs i → Unread (plain_chain cs n c) i
+  pub no_plain_mark : (n : ℕ) (c : Ctx) (i : ℕ) → DocumentMark cs i → Unread (plain_chain cs n c) i
   unfolding plain_chain
   no_plain_mark n c i t j xs (u, (m, us, vs, (p, x, h, e, f), r, d)) =
       let a : m ≤ j = any_onward (more_onward n c) r in

@@ -9,7 +9,7 @@ use Rattle.yaml_text.specs.grammar.Characters.{is_white, is_ns}
 use Rattle.yaml_text.specs.grammar.Separation.{Ctx}
 use Rattle.yaml_text.specs.grammar.FlowScalars.{several, fold, PlainFirst, PlainChar, plain_line, plain}
 use Rattle.yaml_text.proofs.PlaceLemmas.{slice_none, slice_one, slice_join, slice_snoc}
-use Rattle.yaml_scalar.specs.Chains.{folds, gap, plain_inner, Later, taken, plain_more, line_more, plain_chain}
+use Rattle.yaml_scalar.specs.Chains.{folds, gap, plain_inner, Later, taken_at, plain_more, line_more, plain_chain}
 use Rattle.yaml_scalar.proofs.AnyLemmas.{any_none, any_snoc, any_append, any_weaker, any_onward}
 use Rattle.yaml_text.proofs.Runs.{all_more, run_none, run_more}
 use Rattle.yaml_scalar.proofs.GapLemmas.{folds_onward, blank_folds}
@@ -77,7 +77,7 @@ module _ (cs : List ℕ) where
       line_go c k j all none (j - k) k k (omega (arith, le)) (subst (any (line_more cs c) k k) (sym (slice_none cs k)) any_none) (run_none cs is_white k) (omega arith)
 
   -- a line's first character, and the rest of it
-  line_parts : (P : ℕ → Type 0) (c : Ctx) (i j : ℕ) (xs : List ℕ) → ((k : ℕ) → P k → Ns cs k) → plain_line cs P c i j xs → (taken cs P ⨾ any (line_more cs c)) i j xs
+  line_parts : (P : ℕ → Type 0) (c : Ctx) (i j : ℕ) (xs : List ℕ) → ((k : ℕ) → P k → Ns cs k) → plain_line cs P c i j xs → (taken_at cs P ⨾ any (line_more cs c)) i j xs
   unfolding plain_line
   line_parts P c i j xs ns ((none, (k, (p, e), (le, all))), f) =
       let s = ns i p in

@@ -6,8 +6,8 @@ use Rattle.std.proofs.lemmas.Bool.{cases_eq}
 use Rattle.yaml_text.specs.grammar.Rules.{Span, ◌◂◌, ◌⨾◌, any, Any, done, then, Stands, run, where_both}
 use Rattle.yaml_scalar.specs.Chains.{TextRule}
 use Rattle.yaml_text.specs.grammar.Characters.{is_white, is_ns, is_nb, is_break}
-use Rattle.yaml_text.specs.grammar.Separation.{Mark, Unmarked}
-use Rattle.yaml_scalar.specs.Chains.{folds, NoFold, gap, verbatim, quoted_more, closing, single_rest, single_chain}
+use Rattle.yaml_text.specs.grammar.Separation.{DocumentMark, Unmarked}
+use Rattle.yaml_scalar.specs.Chains.{folds, NoFold, gap, verbatim, quoted_more, closing_quote, single_rest, single_chain}
 use Rattle.yaml_text.specs.Lines.{Dashes}
 use Rattle.yaml_text.specs.grammar.FlowScalars.{single_char}
 use Rattle.yaml_text.specs.Answer.{Unread}
@@ -126,9 +126,9 @@ module _ (cs : List ℕ) where
       pub pending : ((e ≡ j) × (ys ≡ [])) ⊎ Found e j ys
       pub text : xs ≡ us ++ ys
       pub unmarked : Unmarked cs a j
-      pub fresh : Mark cs j → ⊥
+      pub fresh : DocumentMark cs j → ⊥
 
-    pub state_start : (a b q : ℕ) → slice_get cs a ≡ Some q → is_ns q ≡ true → (Mark cs a → ⊥) → b ≡ a + 1 → State a b b []
+    pub state_start : (a b q : ℕ) → slice_get cs a ≡ Some q → is_ns q ≡ true → (DocumentMark cs a → ⊥) → b ≡ a + 1 → State a b b []
     state_start a b q h t n e = record {
       e = b;
       us = [];
@@ -158,7 +158,7 @@ module _ (cs : List ℕ) where
             subst (λ v. G s.e k (s.ys ++ v)) (sym (ap (slice_range cs j) (sym at) ∙ slice_none cs j))
             (subst (G s.e k) (sym (append-nil s.ys)) (subst (λ x. G s.e x s.ys) at f.gap))
 
-    pub state_solid : (a b j k m : ℕ) (xs zs : List ℕ) → State a b j xs → run cs is_white j k → S k m zs → Unmarked cs j m → (Mark cs m → ⊥) → State a b m (xs ++ (slice_range cs j k ++ zs))
+    pub state_solid : (a b j k m : ℕ) (xs zs : List ℕ) → State a b j xs → run cs is_white j k → S k m zs → Unmarked cs j m → (DocumentMark cs m → ⊥) → State a b m (xs ++ (slice_range cs j k ++ zs))
     state_solid a b j k m xs zs s r p u f =
         let g = state_whites a b j k xs s r in
         record {
@@ -176,11 +176,11 @@ module _ (cs : List ℕ) where
         regroup a b c d = simp (append_assoc, append-nil)
 
     -- the whites before a place and no mark there
-    pub unmarked_to : (j k : ℕ) → run cs is_white j k → (Mark cs j → ⊥) → Mark cs k → ⊥
+    pub unmarked_to : (j k : ℕ) → run cs is_white j k → (DocumentMark cs j → ⊥) → DocumentMark cs k → ⊥
     unmarked_to j k r f = go (cases_eq j k)
       where
-        go : (j ≡ k) ⊎ (j ≡ k → ⊥) → Mark cs k → ⊥
-        go (inl e) = subst (λ x. Mark cs x → ⊥) e f
+        go : (j ≡ k) ⊎ (j ≡ k → ⊥) → DocumentMark cs k → ⊥
+        go (inl e) = subst (λ x. DocumentMark cs x → ⊥) e f
         go (inr n) = λ m. after_white cs j k r (let l : j ≤ k = r.0 in omega (arith, l, n)) (mark_starts cs k m)
 
     pub state_line : (q : ℕ) → ((i j c : ℕ) → slice_get cs i ≡ Some c → verbatim q c ≡ true → j ≡ i + 1 → S i j (c ∷ [])) → (a b : ℕ) →
@@ -196,7 +196,7 @@ module _ (cs : List ℕ) where
         let after : State a b m (xs ++ vs) = subst (λ w. State a b m (xs ++ w)) (sym same) next in
         subst (State a b k) (append_assoc xs vs ws ∙ ap (λ w. xs ++ w) (sym t)) (state_line q solid a b rest (xs ++ vs) after)
 
-    pub state_gap : (a b j k : ℕ) (xs ws : List ℕ) → State a b j xs → (F j → ⊥) → Found j k ws → Unmarked cs j k → (Mark cs k → ⊥) → State a b k (xs ++ ws)
+    pub state_gap : (a b j k : ℕ) (xs ws : List ℕ) → State a b j xs → (F j → ⊥) → Found j k ws → Unmarked cs j k → (DocumentMark cs k → ⊥) → State a b k (xs ++ ws)
     state_gap a b j k xs ws s bare g u f = go s.pending
       where
         go : ((s.e ≡ j) × (s.ys ≡ [])) ⊎ Found s.e j s.ys → State a b k (xs ++ ws)
@@ -218,11 +218,11 @@ module _ (cs : List ℕ) where
 
     -- where after the whites neither a character nor the end stands, and no other gap leads to one
     pub state_none : (a b j k : ℕ) (xs : List ℕ) → State a b j xs → run cs is_white j k → ((m : ℕ) (zs : List ℕ) → S k m zs → ⊥) → ((m : ℕ) → C k m → ⊥) →
-        ((o : ℕ) (ys : List ℕ) → G j o ys → F o → (Mark cs o → ⊥) → o ≡ k) → Unread (where_both (Unmarked cs) (rest_of G S C)) b
+        ((o : ℕ) (ys : List ℕ) → G j o ys → F o → (DocumentMark cs o → ⊥) → o ≡ k) → Unread (where_both (Unmarked cs) (rest_of G S C)) b
     state_none a b j k xs s r no_solid no_close gaps =
         any_then_none more_same more_onward (unmarked_cuts cs) end_onward end_apart s.chain here
       where
-        at_k : (o : ℕ) (ys : List ℕ) → G s.e o ys → F o → (Mark cs o → ⊥) → ((s.e ≡ j) × (s.ys ≡ [])) ⊎ Found s.e j s.ys → o ≡ k
+        at_k : (o : ℕ) (ys : List ℕ) → G s.e o ys → F o → (DocumentMark cs o → ⊥) → ((s.e ≡ j) × (s.ys ≡ [])) ⊎ Found s.e j s.ys → o ≡ k
         at_k o ys g n f (inl (e, z)) = gaps o ys (subst (λ x. G x o ys) e g) n f
         at_k o ys g n f (inr h) = h.only o ys g n ∙ still j k (parts.f_ns j h.first) r
 
@@ -258,8 +258,8 @@ module _ (cs : List ℕ) where
   unfolding single_char
   pair_solid i k j h e g f = (39, inr (j, (k, (h, e), (g, f)), (refl, refl)), refl)
 
-  pub single_parts : (n : ℕ) (c : Ctx) → Parts (Ns cs) (gap cs n c) (single_char cs) (closing cs)
-  unfolding gap single_char closing
+  pub single_parts : (n : ℕ) (c : Ctx) → Parts (Ns cs) (gap cs n c) (single_char cs) (closing_quote cs)
+  unfolding gap single_char closing_quote
   single_parts n c = record {
     g_white = λ i j r. inl (r, refl);
     f_ns = λ i f. f;
@@ -289,14 +289,14 @@ module _ (cs : List ℕ) where
       onward i j xs (x, inl (h, p, e), f) = omega (arith, e)
       onward i j xs (x, inr (l, (m, (h, e), (g, f)), (a, b)), q) = omega (arith, e, f, a)
 
-      apart : (i j k : ℕ) (xs : List ℕ) → single_char cs i j xs → closing cs i k → ⊥
+      apart : (i j k : ℕ) (xs : List ℕ) → single_char cs i j xs → closing_quote cs i k → ⊥
       apart i j k xs (x, inl (t, v, f), q) (h, g, e) = no_verbatim_quote i h x t v
       apart i j k xs (x, inr (l, (m, (a, b), (d, f)), t), q) (h, g, e) = g (subst (λ x. slice_get cs x ≡ Some 39) b d)
 
   abbrev pub SingleState : ℕ → Ctx → ℕ → ℕ → ℕ → List ℕ → Type 0
-  SingleState n c = State (Ns cs) (gap cs n c) (single_char cs) (closing cs) (single_parts n c)
+  SingleState n c = State (Ns cs) (gap cs n c) (single_char cs) (closing_quote cs) (single_parts n c)
 
-  quote_unmarked : (i : ℕ) → slice_get cs i ≡ Some 39 → Mark cs i → ⊥
+  quote_unmarked : (i : ℕ) → slice_get cs i ≡ Some 39 → DocumentMark cs i → ⊥
   quote_unmarked i h m = go (mark_dashes cs i m)
     where
       go : Dashes cs i → ⊥
@@ -322,37 +322,37 @@ module _ (cs : List ℕ) where
   unfolding gap
   folds_bare n c j k ws f s = let l : j < k = folds_onward cs n c j k ws f in blank_gap cs n c j k ws (inr f) j (omega arith) l s
 
-  pub single_fold : (n : ℕ) (c : Ctx) (a b j k : ℕ) (xs ws : List ℕ) → SingleState n c a b j xs → folds cs n c j k ws → Ns cs k → (Mark cs k → ⊥) → SingleState n c a b k (xs ++ ws)
+  pub single_fold : (n : ℕ) (c : Ctx) (a b j k : ℕ) (xs ws : List ℕ) → SingleState n c a b j xs → folds cs n c j k ws → Ns cs k → (DocumentMark cs k → ⊥) → SingleState n c a b k (xs ++ ws)
   unfolding gap
   single_fold n c a b j k xs ws s f t u =
       state_gap _ _ _ _ (single_parts n c) a b j k xs ws s (folds_bare n c j k ws f)
       (record { gap = inr f; first = t; only = λ o zs g h. (gap_same cs n c j o k zs ws g h (inr f) t).0 }) (unmarked_blank cs j k (blank_gap cs n c j k ws (inr f))) u
 
-  pub single_end : (n : ℕ) (c : Ctx) (a b j k l : ℕ) (xs : List ℕ) → slice_get cs a ≡ Some 39 → b ≡ a + 1 → SingleState n c a b j xs → run cs is_white j k → closing cs k l → Only (single_chain cs n c) a l (xs ++ slice_range cs j k)
-  unfolding single_chain single_rest closing
+  pub single_end : (n : ℕ) (c : Ctx) (a b j k l : ℕ) (xs : List ℕ) → slice_get cs a ≡ Some 39 → b ≡ a + 1 → SingleState n c a b j xs → run cs is_white j k → closing_quote cs k l → Only (single_chain cs n c) a l (xs ++ slice_range cs j k)
+  unfolding single_chain single_rest closing_quote
   single_end n c a b j k l xs h e s r cl = record {
     is = (unmarked_join cs a j l s.unmarked (unmarked_join cs j k l (unmarked_blank cs j k (blank_white_run cs j k r)) (unmarked_one cs k l cl.2 (quote_unmarked k cl.0))), (b, (h, e), text));
     only = λ m ys (u, (d, (g, f), p)).
-        let q = rest_same _ _ _ _ (single_parts n c) b m l ys (xs ++ slice_range cs j k) (subst (λ x. rest_of (gap cs n c) (single_char cs) (closing cs) x m ys) (f ∙ sym e) p) text in
+        let q = rest_same _ _ _ _ (single_parts n c) b m l ys (xs ++ slice_range cs j k) (subst (λ x. rest_of (gap cs n c) (single_char cs) (closing_quote cs) x m ys) (f ∙ sym e) p) text in
         (q.0, q.1);
   }
     where
-      text : rest_of (gap cs n c) (single_char cs) (closing cs) b l (xs ++ slice_range cs j k)
+      text : rest_of (gap cs n c) (single_char cs) (closing_quote cs) b l (xs ++ slice_range cs j k)
       text = state_end _ _ _ _ (single_parts n c) a b j k l xs s r cl
 
   pub single_none : (n : ℕ) (c : Ctx) (a b j k : ℕ) (xs : List ℕ) → b ≡ a + 1 → SingleState n c a b j xs → run cs is_white j k → NoWhite cs k → slice_get cs k ≢ Some 39 → (Stands cs (verbatim 39) k → ⊥) → NoFold cs n c j →
       Unread (single_chain cs n c) a
-  unfolding single_chain single_rest closing single_char gap
+  unfolding single_chain single_rest closing_quote single_char gap
   single_none n c a b j k xs e s r stop no_quote no_text no_fold m ys (u, (d, (g, f), p)) =
-      let l : b ≤ m = rest_onward _ _ _ _ (single_parts n c) b m ys (subst (λ x. rest_of (gap cs n c) (single_char cs) (closing cs) x m ys) (f ∙ sym e) p) in
+      let l : b ≤ m = rest_onward _ _ _ _ (single_parts n c) b m ys (subst (λ x. rest_of (gap cs n c) (single_char cs) (closing_quote cs) x m ys) (f ∙ sym e) p) in
       state_none _ _ _ _ (single_parts n c) a b j k xs s r solid (λ m (h, g, e). no_quote h) gaps m ys
-      ((unmarked_cuts cs).back a b m (omega (arith, e)) l u, subst (λ x. rest_of (gap cs n c) (single_char cs) (closing cs) x m ys) (f ∙ sym e) p)
+      ((unmarked_cuts cs).back a b m (omega (arith, e)) l u, subst (λ x. rest_of (gap cs n c) (single_char cs) (closing_quote cs) x m ys) (f ∙ sym e) p)
     where
       solid : (m : ℕ) (zs : List ℕ) → single_char cs k m zs → ⊥
       solid m zs (x, inl (h, v, f), g) = no_text (x, h, single_verbatim x v)
       solid m zs (x, inr (l, (o, (h, t), v), f), g) = no_quote h
 
-      gaps : (o : ℕ) (ys : List ℕ) → gap cs n c j o ys → Ns cs o → (Mark cs o → ⊥) → o ≡ k
+      gaps : (o : ℕ) (ys : List ℕ) → gap cs n c j o ys → Ns cs o → (DocumentMark cs o → ⊥) → o ≡ k
       gaps o ys (inl (q, w)) t v = run_same cs is_white j o k q r (ns_stops cs o t) stop
       gaps o ys (inr q) t v = absurd (no_fold o ys q t v)
 
@@ -360,6 +360,6 @@ module _ (cs : List ℕ) where
   unfolding single_chain
   no_single n c a h m ys (u, (d, (g, f), p)) = h g
 
-  pub close_here : (i j : ℕ) → slice_get cs i ≡ Some 39 → j ≡ i + 1 → slice_get cs j ≢ Some 39 → closing cs i j
-  unfolding closing
+  pub close_here : (i j : ℕ) → slice_get cs i ≡ Some 39 → j ≡ i + 1 → slice_get cs j ≢ Some 39 → closing_quote cs i j
+  unfolding closing_quote
   close_here i j h e n = (h, (λ g. n (ap (slice_get cs) e ∙ g)), e)

@@ -11,7 +11,7 @@ use Rattle.yaml_text.specs.grammar.Separation.{Ctx}
 use Rattle.yaml_text.specs.grammar.FlowScalars.{several, fold, white_text, quoted_line, broken_line, quoted_lines, single_char, single}
 use Rattle.yaml_text.proofs.PlaceLemmas.{slice_none, slice_one, slice_join, slice_snoc}
 use Rattle.yaml_scalar.specs.Chains.{TextRule}
-use Rattle.yaml_scalar.specs.Chains.{gap, closing, single_rest, single_chain}
+use Rattle.yaml_scalar.specs.Chains.{gap, closing_quote, single_rest, single_chain}
 use Rattle.yaml_scalar.proofs.AnyLemmas.{any_none, any_snoc, any_append, any_weaker}
 use Rattle.yaml_text.proofs.Runs.{run_none, run_more}
 use Rattle.yaml_text.proofs.Breaks.{ns_no_return}
@@ -217,13 +217,13 @@ module _ (cs : List ℕ) where
   single_clear i j xs (x, inr (k, (m, (h, e), (g, d)), (f, t)), q) = clear_after cs m j 39 g (f ∙ d) (omega arith)
 
   pub single_to_chain : (n : ℕ) (c : Ctx) (i j : ℕ) (xs : List ℕ) → single cs n c i j xs → single_chain cs n c i j xs
-  unfolding single single_chain single_rest closing
+  unfolding single single_chain single_rest closing_quote
   single_to_chain n c i j xs (u, (k, q, (l, p, (m, (h, e), (f, none))))) =
       let (o, us, vs, chain, g, t) = lines_pieces (single_char cs) (several cs c (fold cs n)) never (gap cs n c) (single_gaps n c) k l xs p in
       (u, (k, q, (o, us, vs, chain, (l, g, (h, (λ d. none (subst (Stands cs (λ x. x == 39)) (sym e) (39, d, refl))), f ∙ e)), t)))
 
   single_from_chain : (n : ℕ) (c : Ctx) (i j : ℕ) (xs : List ℕ) → single_chain cs n c i j xs → single cs n c i j xs
-  unfolding single single_chain single_rest closing
+  unfolding single single_chain single_rest closing_quote
   single_from_chain n c i j xs (u, (k, (q, a), (o, us, vs, chain, (l, g, (h, none, e)), t))) = (
     u,
     (

@@ -7,7 +7,7 @@ use Rattle.yaml_text.specs.grammar.Characters.{is_white, brk}
 use Rattle.yaml_text.specs.grammar.Separation.{Ctx, block_out, block_in, flow_out, flow_in, block_key, flow_key, indent}
 use Rattle.yaml_text.specs.grammar.FlowScalars.{fold_text, empty_line, fold, escaped_break, several}
 use Rattle.yaml_scalar.specs.Chains.{TextRule}
-use Rattle.yaml_scalar.specs.Chains.{margin, lead, breaks, folds, escaped}
+use Rattle.yaml_scalar.specs.Chains.{margin, lead, breaks, folds, escaped_end}
 use Rattle.yaml_text.specs.Lines.{is_key, line_brk}
 use Rattle.yaml_scalar.specs.Chains as chain
 use Rattle.yaml_text.proofs.Runs.{same_char}
@@ -38,7 +38,7 @@ times_where W f (suc n) i j w (k, r, t) =
     let p = times_where W f n k j q.1 t in
     ((k, q.0, p.0), p.1)
 
-pub fold_texts : (k : ℕ) → fold_text k ≡ chain.fold_text (replicate k 10)
+pub fold_texts : (k : ℕ) → fold_text k ≡ chain.folded_breaks (replicate k 10)
 unfolding fold_text
 fold_texts zero = refl
 fold_texts (suc k) = refl
@@ -93,12 +93,12 @@ module _ (cs : List ℕ) where
 
   -- ---- empty lines and breaks
 
-  empty_chain : (n i j : ℕ) → empty_line cs n i j → chain.empty_line cs n i j
-  unfolding empty_line chain.empty_line margin
+  empty_chain : (n i j : ℕ) → empty_line cs n i j → chain.skipped_line cs n i j
+  unfolding empty_line chain.skipped_line margin
   empty_chain n i j (k, b, r) = (k, b, brk_line cs k j r)
 
-  empty_grammar : (n i j : ℕ) → Clear i → chain.empty_line cs n i j → empty_line cs n i j × Clear j
-  unfolding empty_line chain.empty_line margin
+  empty_grammar : (n i j : ℕ) → Clear i → chain.skipped_line cs n i j → empty_line cs n i j × Clear j
+  unfolding empty_line chain.skipped_line margin
   empty_grammar n i j w (k, b, r) =
       let q = line_brk_is k j (clear_run i k w (blank_white cs n i k b)) r in
       ((k, b, q.0), q.1)
@@ -108,14 +108,14 @@ module _ (cs : List ℕ) where
 
   pub breaks_chain : (n a : ℕ) (c : Ctx) (i k l j : ℕ) → is_key c ≡ false → brk cs i k → times a (empty_line cs n) k l → Margin n l j → breaks cs n c i j (replicate a 10)
   unfolding breaks lead margin
-  breaks_chain n a c i k l j f b t m = (f, (k, brk_line cs i k b, (l, times_any (chain.empty_line cs n) a k l (times_weaker (empty_chain n) a k l t), m)))
+  breaks_chain n a c i k l j f b t m = (f, (k, brk_line cs i k b, (l, times_any (chain.skipped_line cs n) a k l (times_weaker (empty_chain n) a k l t), m)))
 
   pub breaks_grammar : (n : ℕ) (c : Ctx) (i j : ℕ) (us : List ℕ) → Clear i → breaks cs n c i j us →
       (a : ℕ) × (k : ℕ) × (l : ℕ) × (is_key c ≡ false) × brk cs i k × times a (empty_line cs n) k l × Margin n l j × (us ≡ replicate a 10)
   unfolding breaks lead margin
   breaks_grammar n c i j us w (f, (k, b, (l, p, m))) =
       let first = line_brk_is i k w b in
-      let lines = any_times (chain.empty_line cs n) p in
+      let lines = any_times (chain.skipped_line cs n) p in
       let all = times_where Clear (empty_grammar n) lines.0 k l first.1 lines.1 in
       (lines.0, k, l, f, first.0, all.0, m, lines.2)
 
@@ -130,7 +130,7 @@ module _ (cs : List ℕ) where
   unfolding fold folds
   fold_grammar n c i j xs w (m, r, (us, p, e)) =
       let (a, k, l, f, b, t, q, g) = breaks_grammar n c m j us (clear_run i m w r) p in
-      is_several c (fold cs n) i j xs f (k, (m, r, b), (l, (a, t, e ∙ ap chain.fold_text g ∙ sym (fold_texts a)), q))
+      is_several c (fold cs n) i j xs f (k, (m, r, b), (l, (a, t, e ∙ ap chain.folded_breaks g ∙ sym (fold_texts a)), q))
 
   pub escaped_chain : (n : ℕ) (c : Ctx) (i j : ℕ) (xs : List ℕ) → several cs c (escaped_break cs n) i j xs → (k : ℕ) × (slice_get cs i ≡ Some 92) × (k ≡ i + 1) × breaks cs n c k j xs
   unfolding escaped_break

@@ -11,7 +11,7 @@ use lib.Utf8.{scalar}
 use Rattle.yaml_text.specs.CharText.{is_plain, spell_char}
 use Rattle.yaml_text.specs.NodeText.{quoted}
 use Rattle.yaml_text.proofs.CharLaws.{low}
-use Rattle.yaml_scalar.specs.Spelling.{Grows, is_verbatim, code_text, spelled, spelled_chars}
+use Rattle.yaml_scalar.specs.Spelling.{Grows, is_verbatim, code_text, quoted_bytes, spelled_chars}
 
 -- ---- one character
 
@@ -139,7 +139,7 @@ quoted_flat : (cs : List ℕ) → quoted cs [] ≡ flat_map spell_char cs ++ (34
 quoted_flat [] = refl
 quoted_flat (c ∷ cs) = ap (λ x. spell_char c ++ x) (quoted_flat cs) ∙ sym (append_assoc (spell_char c) (flat_map spell_char cs) (34 ∷ []))
 
-pub spelled_is : (text : List ℕ) → spelled text ≡ 34 ∷ (spelled_chars text ++ (34 ∷ []))
+pub spelled_is : (text : List ℕ) → quoted_bytes text ≡ 34 ∷ (spelled_chars text ++ (34 ∷ []))
 unfolding encode_utf8
 spelled_is text = ap (λ x. 34 ∷ encode_utf8_all x) (quoted_flat (chars text)) ∙ ap (λ x. 34 ∷ x) (encodes-append (flat_map spell_char (chars text)) (34 ∷ []))
 
@@ -148,7 +148,7 @@ pub quoted_more : (cs more : List ℕ) → quoted cs more ≡ quoted cs [] ++ mo
 quoted_more [] more = refl
 quoted_more (c ∷ cs) more = ap (λ x. spell_char c ++ x) (quoted_more cs more) ∙ sym (append_assoc (spell_char c) (quoted cs []) more)
 
-pub spelled_pushed : (text old a b new : List ℕ) → a ≡ old ++ (34 ∷ []) → b ≡ a ++ spelled_chars text → new ≡ b ++ (34 ∷ []) → new ≡ old ++ spelled text
+pub spelled_pushed : (text old a b new : List ℕ) → a ≡ old ++ (34 ∷ []) → b ≡ a ++ spelled_chars text → new ≡ b ++ (34 ∷ []) → new ≡ old ++ quoted_bytes text
 spelled_pushed text old a b new e f g =
     g ∙ ap (λ x. x ++ (34 ∷ [])) (f ∙ ap (λ x. x ++ spelled_chars text) e) ∙ together old (34 ∷ []) (spelled_chars text) (34 ∷ []) ∙ ap (λ x. old ++ x) (sym (spelled_is text))
   where
@@ -187,8 +187,8 @@ measured_more rest after text c n len u e f b s m =
     let one : 1 ≤ length (encode_utf8 c) = omega (arith, length-encode c, (len_utf8_bounds c).0) in
     (omega (arith, k, f, s), omega (arith, l, one, b, m))
 
-pub measured_all : (rest text : List ℕ) (len : ℕ) → rest ≡ [] → len + length (spelled_chars rest) ≡ 2 + length (spelled_chars text) → len ≡ length (spelled text)
+pub measured_all : (rest text : List ℕ) (len : ℕ) → rest ≡ [] → len + length (spelled_chars rest) ≡ 2 + length (spelled_chars text) → len ≡ length (quoted_bytes text)
 measured_all rest text len e s =
     let none : length (spelled_chars rest) ≡ 0 = ap (λ x. length (spelled_chars x)) e ∙ ap (λ x. length (encode_utf8_all (flat_map spell_char x))) chars-nil in
-    let all : length (spelled text) ≡ 1 + length (spelled_chars text ++ (34 ∷ [])) = ap length (spelled_is text) ∙ omega arith in
+    let all : length (quoted_bytes text) ≡ 1 + length (spelled_chars text ++ (34 ∷ [])) = ap length (spelled_is text) ∙ omega arith in
     omega (arith, none, all, s, length-append (spelled_chars text) (34 ∷ []))

@@ -4,11 +4,11 @@ use Rattle.std.specs.Prelude.{slice_get, slice_range}
 use Rattle.std.proofs.lemmas.List.{append-nil}
 use Rattle.yaml_text.specs.grammar.Rules.{run, Stands, Any, done, then}
 use Rattle.yaml_text.specs.grammar.Characters.{is_space, is_nb, brk}
-use Rattle.yaml_text.specs.grammar.Separation.{AtEnd, Mark, indent, line_end}
-use Rattle.yaml_text.specs.grammar.BlockScalars.{Line, blank, text, NoSpace, LessIndented, space_lines, greatest, found_indentation, longest_indentation, indentation, blank_line, text_line}
+use Rattle.yaml_text.specs.grammar.Separation.{AtEnd, DocumentMark, indent, line_end}
+use Rattle.yaml_text.specs.grammar.BlockScalars.{Line, blank, content_line, NoSpace, LessIndented, space_lines, greatest, found_indentation, longest_indentation, indentation, blank_line, text_line}
 use Rattle.yaml_text.specs.Answer.{Unread}
 use Rattle.yaml_text.specs.Lines.{line_brk}
-use Rattle.yaml_scalar.specs.BlockRules.{Solid, lines_over}
+use Rattle.yaml_scalar.specs.BlockRules.{NoSpaceLine, lines_over}
 use Rattle.yaml_text.specs.Lines.{Uncut}
 use Rattle.yaml_text.proofs.Runs.{run_same}
 use Rattle.yaml_text.proofs.LineRuns.{indent_run, indent_place, spaces_uncut, to_brk, nb_here, line_end_stops, brk_onward, end_stops}
@@ -67,19 +67,19 @@ module _ (cs : List ℕ) where
       h : longest ≡ max col (greatest s.widths)
       h = s.longest_is
 
-  longest_at : (col i p longest count : ℕ) → Searched col i p longest count → LessIndented cs col p ⊎ Mark cs p ⊎ AtEnd cs p → indentation cs col None i i longest
+  longest_at : (col i p longest count : ℕ) → Searched col i p longest count → LessIndented cs col p ⊎ DocumentMark cs p ⊎ AtEnd cs p → indentation cs col None i i longest
   unfolding indentation longest_indentation
   longest_at col i p longest count s e =
       (refl, p, inr (p, s.widths, (p, s.widths, [], s.lines, inl (refl, refl), sym (append-nil s.widths)), (p, (refl, e), (refl, s.longest_is))))
 
-  pub found_mark : (col i p longest count : ℕ) → Searched col i p longest count → Mark cs p → indentation cs col None i i longest
+  pub found_mark : (col i p longest count : ℕ) → Searched col i p longest count → DocumentMark cs p → indentation cs col None i i longest
   found_mark col i p longest count s m = longest_at col i p longest count s (inr (inl m))
 
-  pub found_less : (col i p q n longest count : ℕ) → Searched col i p longest count → indent cs n p q → n < col → NoSpace cs q → (Mark cs p → ⊥) → indentation cs col None i i longest
+  pub found_less : (col i p q n longest count : ℕ) → Searched col i p longest count → indent cs n p q → n < col → NoSpace cs q → (DocumentMark cs p → ⊥) → indentation cs col None i i longest
   found_less col i p q n longest count s d l e m =
       longest_at col i p longest count s (inl (to_less cs col p q m (indent_run cs n p q d) (let h = indent_place cs n p q d in omega (arith, h, l)) e))
 
-  pub found_line : (col i p q n longest count : ℕ) → Searched col i p longest count → indent cs n p q → col ≤ n → longest ≤ n → NoSpace cs q → (Mark cs p → ⊥) → indentation cs col None i i n
+  pub found_line : (col i p q n longest count : ℕ) → Searched col i p longest count → indent cs n p q → col ≤ n → longest ≤ n → NoSpace cs q → (DocumentMark cs p → ⊥) → indentation cs col None i i n
   unfolding indentation found_indentation
   found_line col i p q n longest count s d l w e m =
       (refl, q, inl (p, s.widths, s.lines, ((l, omega (arith, w, h)), (p, (refl, m), (q, (indent_run cs n p q d, indent_place cs n p q d), (refl, e))))))
@@ -88,7 +88,7 @@ module _ (cs : List ℕ) where
       h = s.longest_is
 
   -- a longer line of spaces stands before
-  pub not_found : (col i p q n longest count : ℕ) → Searched col i p longest count → indent cs n p q → col ≤ n → n < longest → NoSpace cs q → (Mark cs p → ⊥) → Unread (indentation cs col None) i
+  pub not_found : (col i p q n longest count : ℕ) → Searched col i p longest count → indent cs n p q → col ≤ n → n < longest → NoSpace cs q → (DocumentMark cs p → ⊥) → Unread (indentation cs col None) i
   not_found col i p q n longest count s d l w e m j k r = go (found_of cs col i j k r)
     where
       h : longest ≡ max col (greatest s.widths)
@@ -111,14 +111,14 @@ module _ (cs : List ℕ) where
           line_less cs col n p q l r0 at e (subst (LessIndented cs col) (sym one.0) t)
       go (at_mark o ns f t z) =
           let one = found_lines cs i p o s.widths ns s.lines (q, r0, inl e) f (mark_stuck cs o t) in
-          m (subst (Mark cs) (sym one.0) t)
+          m (subst (DocumentMark cs) (sym one.0) t)
       go (at_end o u ns f t z v) =
           let one = found_lines cs i p o s.widths ns s.lines (q, r0, inl e) f (u, t, inr z) in
           line_end_apart cs p q u r0 e (subst (λ b. run cs is_space b u) (sym one.0) t) z
 
   -- ---- what stands where the search ends
 
-  solid : (k i q : ℕ) → run cs is_space i q → NoSpace cs q ⊎ (AtEnd cs q × (q ≤ i + k)) → Solid cs k i
+  solid : (k i q : ℕ) → run cs is_space i q → NoSpace cs q ⊎ (AtEnd cs q × (q ≤ i + k)) → NoSpaceLine cs k i
   solid k i q r e = (λ j v b. no_empty j v (blank_of cs k i j v b) e, λ j v t. to_text cs false k i j v (text_of cs true k i j v t) (inr (λ s. all_spaces j v (text_of cs true k i j v t) s e)))
     where
       stops : NoSpace cs q ⊎ (AtEnd cs q × (q ≤ i + k)) → Stands cs is_space q → ⊥
@@ -143,10 +143,10 @@ module _ (cs : List ℕ) where
           go (inl n) = ends n t.ends
           go (inr (z, l)) = let m = t.some in omega (arith, at, m, l)
 
-  pub solid_line : (k i q n : ℕ) → indent cs n i q → NoSpace cs q → Solid cs k i
+  pub solid_line : (k i q n : ℕ) → indent cs n i q → NoSpace cs q → NoSpaceLine cs k i
   solid_line k i q n d e = solid k i q (indent_run cs n i q d) (inl e)
 
-  pub solid_end : (k i q n : ℕ) → indent cs n i q → n ≤ k → AtEnd cs q → Solid cs k i
+  pub solid_end : (k i q n : ℕ) → indent cs n i q → n ≤ k → AtEnd cs q → NoSpaceLine cs k i
   solid_end k i q n d l e = solid k i q (indent_run cs n i q d) (inr (e, let h = indent_place cs n i q d in omega (arith, h, l)))
 
   -- ---- the lines of spaces are empty lines
@@ -182,10 +182,10 @@ module _ (cs : List ℕ) where
     is = refl;
   })
 
-  pub over_mark : (k i : ℕ) → Mark cs i → lines_over cs k i i
+  pub over_mark : (k i : ℕ) → DocumentMark cs i → lines_over cs k i i
   over_mark k i m = (i, inl refl, (refl, inr (inl m)))
 
-  pub over_less : (k i m n : ℕ) → indent cs n i m → n < k → NoSpace cs m → (Mark cs i → ⊥) → lines_over cs k i i
+  pub over_less : (k i m n : ℕ) → indent cs n i m → n < k → NoSpace cs m → (DocumentMark cs i → ⊥) → lines_over cs k i i
   over_less k i m n d l e f =
       (i, inl refl, (refl, inl (to_less cs k i m f (indent_run cs n i m d) (let h = indent_place cs n i m d in omega (arith, h, l)) e)))
 
@@ -197,11 +197,11 @@ module _ (cs : List ℕ) where
   pub record Reads (k i m q j : ℕ) : Type 0 where
     pub some : m < q
     pub ended : Bool
-    pub line : text_line cs true k i j (text ended (slice_range cs m q) ∷ [])
+    pub line : text_line cs true k i j (content_line ended (slice_range cs m q) ∷ [])
     pub broken : ended ≡ true → q < j
     pub last : ended ≡ false → (j ≡ q) × AtEnd cs j
 
-  pub text_is : (k i m q j n : ℕ) → indent cs n i m → n ≡ k → (Mark cs i → ⊥) → Stands cs is_nb m → run cs is_nb m q → line_end cs q j → Reads k i m q j
+  pub text_is : (k i m q j n : ℕ) → indent cs n i m → n ≡ k → (DocumentMark cs i → ⊥) → Stands cs is_nb m → run cs is_nb m q → line_end cs q j → Reads k i m q j
   unfolding line_end
   text_is k i m q j n d e f s r l = go l
     where
@@ -221,8 +221,8 @@ module _ (cs : List ℕ) where
         ends = t;
       }) (inl refl)
 
-      here : (b : Bool) → text b (slice_range cs m q) ∷ [] ≡ text b (slice_range cs (i + k) q) ∷ []
-      here b = ap (λ x. text b (slice_range cs x q) ∷ []) at
+      here : (b : Bool) → content_line b (slice_range cs m q) ∷ [] ≡ content_line b (slice_range cs (i + k) q) ∷ []
+      here b = ap (λ x. content_line b (slice_range cs x q) ∷ []) at
 
       go : brk cs q j ⊎ ((j ≡ q) × AtEnd cs q) → Reads k i m q j
       go (inl b) = record {

@@ -7,7 +7,7 @@ use Rattle.yaml_text.specs.grammar.Characters.{is_nb}
 use Rattle.yaml_text.specs.grammar.Separation.{AtEnd}
 use Rattle.yaml_text.specs.grammar.FlowScalars.{line_feeds}
 use Rattle.yaml_text.specs.grammar.BlockScalars as grammar
-use Rattle.yaml_scalar.specs.Chains.{fold_text}
+use Rattle.yaml_scalar.specs.Chains.{folded_breaks}
 use Rattle.yaml_scalar.specs.BlockRules.{lines_over}
 use Rattle.yaml_text.specs.Lines.{AfterLine}
 use Rattle.yaml_scalar.specs.declared.block.header.Chomp.{Chomp}
@@ -59,10 +59,10 @@ pub record TextLine (source : Chars) (k at from to next : ℕ) (is_ended : Bool)
   pub some : place_of source from < place_of source to
   pub begins : Stands (text_of source) is_nb (place_of source from)
   pub line : grammar.text_line (text_of source) true k (place_of source at) (place_of source next)
-      (grammar.text is_ended (slice_range (text_of source) (place_of source from) (place_of source to)) ∷ [])
+      (grammar.content_line is_ended (slice_range (text_of source) (place_of source from) (place_of source to)) ∷ [])
   pub last : is_ended ≡ false → AtEnd (text_of source) (place_of source next)
 
-pub record NoLine (source : Chars) (k at end : ℕ) : Type 0 where
+pub record IsNoLine (source : Chars) (k at end : ℕ) : Type 0 where
   pub border : IsBorder source end
   pub onward : at ≤ end
   pub over : lines_over (text_of source) k (place_of source at) (place_of source end)
@@ -70,7 +70,7 @@ pub record NoLine (source : Chars) (k at end : ℕ) : Type 0 where
 abbrev pub LineIs : Chars → ℕ → ℕ → Line → Type 0
 LineIs source k at (Empty next) = EmptyLine source k at next
 LineIs source k at (Text from to next is_ended) = TextLine source k at from to next is_ended
-LineIs source k at (Over end) = NoLine source k at end
+LineIs source k at (Over end) = IsNoLine source k at end
 
 -- ---- breaks
 
@@ -78,7 +78,7 @@ LineIs source k at (Over end) = NoLine source k at end
 abbrev pub glue : Bool → ℕ → List ℕ
 glue false breaks = line_feeds breaks
 glue true zero = []
-glue true (suc breaks) = fold_text (line_feeds breaks)
+glue true (suc breaks) = folded_breaks (line_feeds breaks)
 
 -- a line's kind, by whether it begins with a white
 abbrev pub shape : Bool → Before

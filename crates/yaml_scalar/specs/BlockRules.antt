@@ -23,14 +23,14 @@ module _ (cs : List ℕ) where
   any_line k = blank_line cs k ∪ text_line cs true k
 
   -- no line of spaces alone stands here
-  abbrev pub Solid : ℕ → ℕ → Type 0
-  Solid k i =
+  abbrev pub NoSpaceLine : ℕ → ℕ → Type 0
+  NoSpaceLine k i =
       ((j : ℕ) (v : List Line) → blank_line cs k i j v → ⊥)
       × ((j : ℕ) (v : List Line) → text_line cs true k i j v → text_line cs false k i j v)
 
   -- where the first line of content may not be of spaces alone, none such stands here
   abbrev pub Ready : Bool → ℕ → ℕ → Type 0
-  Ready spaces_too k i = (spaces_too ≡ true) ⊎ Solid k i
+  Ready spaces_too k i = (spaces_too ≡ true) ⊎ NoSpaceLine k i
 
   -- no further line, but perhaps spaces up to the text's end
   abbrev pub lines_over : ℕ → Span

@@ -8,8 +8,8 @@ use Rattle.yaml_text.specs.grammar.FlowScalars.{double}
 use Rattle.yaml_text.specs.grammar.Separation.{Ctx}
 
 -- the bytes of a content's spelling, quotes included
-abbrev pub spelled : List ℕ → List ℕ
-spelled text = encode_utf8_all (34 ∷ quoted (chars text) [])
+abbrev pub quoted_bytes : List ℕ → List ℕ
+quoted_bytes text = encode_utf8_all (34 ∷ quoted (chars text) [])
 
 -- the same without the quotes
 abbrev pub spelled_chars : List ℕ → List ℕ

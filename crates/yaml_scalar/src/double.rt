@@ -6,11 +6,11 @@ ghost use Rattle.yaml_text.specs.Answer.{Only};
 ghost use Rattle.yaml_text.specs.EventModel.{context_of};
 ghost use Rattle.yaml_text.specs.Source.{text_of, place_of, IsBorder};
 ghost use Rattle.yaml_text.specs.grammar.FlowScalars.{double};
-ghost use Rattle.yaml_text.specs.grammar.Separation.{Mark};
-ghost use Rattle.yaml_scalar.specs.Chains.{breaks, Solid, NoSolidBreaks};
+ghost use Rattle.yaml_text.specs.grammar.Separation.{DocumentMark};
+ghost use Rattle.yaml_scalar.specs.Chains.{breaks, SolidStart, NoSolidBreaks};
 ghost use Rattle.yaml_text.specs.Lines.{line_brk};
 ghost use Rattle.yaml_text.specs.Answer.{Answers};
-ghost use Rattle.yaml_text.specs.Answer.{IsUnread};
+ghost use Rattle.yaml_text.specs.Answer.{IsSyntaxFault};
 
 use crate::escape::read_escape;
 use crate::line::{columns, read_break};
@@ -55,10 +55,10 @@ fn read_solid_break(
     ensures breaks { IfOk result (λ r. breaks (text_of source.now) least (context_of context) (place_of source.now at) (place_of source.now r.1) (replicate r.0 10)) }
     ensures onward { IfOk result (λ r. at < r.1) }
     ensures border { IfOk result (λ r. IsBorder source.now r.1) }
-    ensures solid { IfOk result (λ r. Solid (text_of source.now) (place_of source.now r.1)) }
-    ensures unmarked { IfOk result (λ r. Mark (text_of source.now) (place_of source.now r.1) → ⊥) }
+    ensures solid { IfOk result (λ r. SolidStart (text_of source.now) (place_of source.now r.1)) }
+    ensures unmarked { IfOk result (λ r. DocumentMark (text_of source.now) (place_of source.now r.1) → ⊥) }
     ensures none { IfErr result (λ _. NoSolidBreaks (text_of source.now) least (context_of context) (place_of source.now at)) }
-    ensures fault { IfErr result IsUnread }
+    ensures fault { IfErr result IsSyntaxFault }
 {
     match read_break(source, at, least, context) {
         Err(barred) => Err(unusable(source, barred)),

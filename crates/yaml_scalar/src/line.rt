@@ -5,7 +5,7 @@ ghost use Rattle.yaml_text.specs.Source.{text_of, place_of, IsBorder};
 ghost use Rattle.yaml_text.specs.EventModel.{context_of};
 ghost use Rattle.yaml_text.specs.grammar.Rules.{Stands};
 ghost use Rattle.yaml_text.specs.grammar.Characters.{is_white, is_ns};
-ghost use Rattle.yaml_text.specs.grammar.Separation.{StartsLine, Mark, less};
+ghost use Rattle.yaml_text.specs.grammar.Separation.{StartsLine, DocumentMark, less};
 ghost use Rattle.yaml_scalar.specs.Chains.{margin, lead, breaks, NoLead, NoBreaks};
 
 use yaml_text::chars::Chars;
@@ -57,7 +57,7 @@ pub fn read_lead(source: &Chars<'_>, at: usize, least: usize) -> Result<(usize, 
     ensures onward { IfOk result (λ r. at ≤ r.1) }
     ensures lead { IfOk result (λ r. lead (text_of source.now) least (place_of source.now at) (place_of source.now r.1) (replicate r.0 10)) }
     ensures text { IfOk result (λ r. Stands (text_of source.now) is_ns (place_of source.now r.1)) }
-    ensures unmarked { IfOk result (λ r. Mark (text_of source.now) (place_of source.now r.1) → ⊥) }
+    ensures unmarked { IfOk result (λ r. DocumentMark (text_of source.now) (place_of source.now r.1) → ⊥) }
     ensures none { IfErr result (λ _. NoLead (text_of source.now) least (place_of source.now at)) }
     ensures barred { IfErr result (λ stop. IsBorder source.now stop) }
 {
@@ -99,7 +99,7 @@ pub fn read_break(
     ensures onward { IfOk result (λ r. at < r.1) }
     ensures border { IfOk result (λ r. IsBorder source.now r.1) }
     ensures text { IfOk result (λ r. Stands (text_of source.now) is_ns (place_of source.now r.1)) }
-    ensures unmarked { IfOk result (λ r. Mark (text_of source.now) (place_of source.now r.1) → ⊥) }
+    ensures unmarked { IfOk result (λ r. DocumentMark (text_of source.now) (place_of source.now r.1) → ⊥) }
     ensures none { IfErr result (λ _. NoBreaks (text_of source.now) least (context_of context) (place_of source.now at)) }
     ensures barred { IfErr result (λ stop. IsBorder source.now stop) }
 {

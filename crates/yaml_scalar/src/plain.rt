@@ -11,8 +11,8 @@ ghost use Rattle.yaml_text.specs.Answer.{Unread};
 ghost use Rattle.yaml_text.specs.grammar.Characters.{is_white};
 ghost use Rattle.yaml_text.specs.grammar.FlowScalars.{plain_safe, PlainFirst, plain};
 ghost use Rattle.yaml_text.specs.grammar.Rules.{run, Stands, any};
-ghost use Rattle.yaml_text.specs.grammar.Separation.{Mark};
-ghost use Rattle.yaml_scalar.specs.Chains.{breaks, Later, NoLine, line_more};
+ghost use Rattle.yaml_text.specs.grammar.Separation.{DocumentMark};
+ghost use Rattle.yaml_scalar.specs.Chains.{breaks, Later, NoPlainLine, line_more};
 ghost use Rattle.yaml_text.specs.Answer.{Answers};
 
 use crate::class::{is_plain_head, is_plain_inner, is_plain_sign};
@@ -130,8 +130,8 @@ fn next_line(
     ensures border { IfSome result (λ r. IsBorder source.now r.1) }
     ensures steps { IfSome result (λ r. (c : ℕ) × Steps (bytes_of source.now) r.1 c r.2) }
     ensures later { IfSome result (λ r. Later (text_of source.now) (context_of context) (place_of source.now r.1)) }
-    ensures unmarked { IfSome result (λ r. Mark (text_of source.now) (place_of source.now r.1) → ⊥) }
-    ensures none { IfNone result (NoLine (text_of source.now) least (context_of context) (place_of source.now stop)) }
+    ensures unmarked { IfSome result (λ r. DocumentMark (text_of source.now) (place_of source.now r.1) → ⊥) }
+    ensures none { IfNone result (NoPlainLine (text_of source.now) least (context_of context) (place_of source.now stop)) }
 {
     match read_break(source, stop, least, context) {
         Err(_) => None,

@@ -5,7 +5,7 @@ ghost use Rattle.std.specs.List.{All};
 ghost use Rattle.std.specs.Str.{encode_utf8_all};
 ghost use Rattle.std.specs.String.{string_bytes};
 ghost use Rattle.yaml_text.specs.CharText.{hex_digit, spell_char};
-ghost use Rattle.yaml_scalar.specs.Spelling.{Grows, spelled, spelled_chars, is_verbatim, code_text, byte_text};
+ghost use Rattle.yaml_scalar.specs.Spelling.{Grows, quoted_bytes, spelled_chars, is_verbatim, code_text, byte_text};
 
 use std::alloc::AllocError;
 use yaml_text::fault::Fault;
@@ -13,7 +13,7 @@ use yaml_text::fault::Fault;
 /// Appends a content's spelling: its characters between double quotes, each that does not stand for itself as an escape
 /// (YAML 1.2.2, 5.7). After `OutOfMemory`, the only fault, nothing is appended.
 pub fn spell_into(text: &str, out: &mut String) -> Result<(), Fault>
-    ensures ok { OnOk result (string_bytes out.new ≡ string_bytes out.old ++ spelled text.now) }
+    ensures ok { OnOk result (string_bytes out.new ≡ string_bytes out.old ++ quoted_bytes text.now) }
     ensures kept { OnErr result (string_bytes out.new ≡ string_bytes out.old) }
     ensures only { IfErr result (λ fault. fault ≡ Fault.OutOfMemory) }
 {
@@ -29,7 +29,7 @@ pub fn spell_into(text: &str, out: &mut String) -> Result<(), Fault>
 
 /// How many bytes a content's spelling has, quotes included.
 pub fn spelled_len(text: &str) -> u128
-    ensures { result ≡ length (spelled text.now) }
+    ensures { result ≡ length (quoted_bytes text.now) }
 {
     let mut len: u128 = 2;
     'measure: for c in text.chars() {
@@ -108,7 +108,7 @@ fn char_len(c: char) -> usize
 
 /// Appends the quotes and what stands between them; where memory is wanted, perhaps a beginning.
 fn push_quoted(text: &str, out: &mut String) -> Result<(), AllocError>
-    ensures ok { OnOk result (string_bytes out.new ≡ string_bytes out.old ++ spelled text.now) }
+    ensures ok { OnOk result (string_bytes out.new ≡ string_bytes out.old ++ quoted_bytes text.now) }
     ensures grows { Grows (string_bytes out.old) (string_bytes out.new) }
 {
     out.push('"')?;

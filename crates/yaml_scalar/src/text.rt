@@ -3,7 +3,7 @@ ghost use Rattle.std.specs.Prelude.{◌≡◌, ◌≤◌, ◌++◌, IfOk, slice_
 ghost use Rattle.std.specs.Str.{chars};
 ghost use Rattle.std.specs.String.{string_bytes};
 ghost use Rattle.yaml_text.specs.Source.{text_of, place_of, IsBorder};
-ghost use Rattle.yaml_scalar.specs.Chains.{fold_text};
+ghost use Rattle.yaml_scalar.specs.Chains.{folded_breaks};
 
 use std::alloc::AllocError;
 use yaml_text::chars::Chars;
@@ -21,7 +21,7 @@ pub fn push_lines(text: &mut String, count: usize) -> Result<(), AllocError>
 
 /// Puts one space, or an LF for each empty line of a fold, at the end of a text.
 pub fn push_fold(text: &mut String, count: usize) -> Result<(), AllocError>
-    ensures { IfOk result (λ _. chars (string_bytes text.new) ≡ chars (string_bytes text.old) ++ fold_text (replicate count 10)) }
+    ensures { IfOk result (λ _. chars (string_bytes text.new) ≡ chars (string_bytes text.old) ++ folded_breaks (replicate count 10)) }
 {
     if count == 0 {
         text.push(' ')

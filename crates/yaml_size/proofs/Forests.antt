@@ -5,13 +5,13 @@ use Rattle.yaml_text.specs.Limits.{text_limit}
 use Rattle.yaml_text.specs.Tree.{Tree}
 use Rattle.yaml_text.specs.Tag.{IsTag}
 use Rattle.yaml_text.specs.Event.{Event, Style, WrittenTag, stream_end, document_start, document_end}
-use Rattle.yaml_text.specs.Marked.{flat, Document, documents_events, stream_events}
+use Rattle.yaml_text.specs.Serial.{flat, Document, documents_events, stream_events}
 use Rattle.yaml_text.specs.Core.{resolve}
 use Rattle.yaml_text.specs.Order.{arranged}
 use Rattle.yaml_text.specs.Walk.{walk, agains}
-use Rattle.yaml_text.specs.Mark.{mark}
-use Rattle.yaml_text.specs.NodeText.{text}
-use Rattle.yaml_text.specs.Spell.{short, marks_of, spell, spell_bytes}
+use Rattle.yaml_text.specs.Serialize.{serialize}
+use Rattle.yaml_text.specs.NodeText.{node_text}
+use Rattle.yaml_text.specs.Spell.{short, serial_of, spell, spell_bytes}
 use Rattle.yaml_text.specs.Unfold.{unfold_node, trees_from, event_count}
 use Rattle.yaml_text.specs.Proper.{AreAdmitted}
 use Rattle.yaml_text.proofs.ReadLaws.{ok_one, bind}
@@ -31,7 +31,7 @@ module _ (tag_light : (k : ℕ) (g : List ℕ) → IsTag g → tag_bytes k g ≤
   Bounded ds more f = AreAdmitted f → bytes (spell f) ≤ text_limit → bytes (spell f) + allowed more ≤ allowed (documents_events ds more)
 
   forest_light : (ds : List Document) (f : List Tree) (at : ℕ) (more : List Event) → trees_from at ds ≡ Ok f → Bounded ds more f
-  unfolding trees_from spell marks_of
+  unfolding trees_from spell serial_of
   forest_light [] f at more q = subst (Bounded [] more) (ok_one [] f q) (λ a l. omega (arith, frame.2))
   forest_light (d ∷ ds) f at more q =
       let b = bind (unfold_node d.root [] (suc at)) _ f q in
@@ -42,7 +42,7 @@ module _ (tag_light : (k : ℕ) (g : List ℕ) → IsTag g → tag_bytes k g ≤
       let t = arranged b.0.0 in
       let r = agains (walk short t []) in
       let rest = spell c.0 in
-      let line = text (mark short r t []) (10 ∷ rest) in
+      let line = node_text (serialize short r t []) (10 ∷ rest) in
       let front : bytes (45 ∷ 45 ∷ 45 ∷ 32 ∷ line) ≡ 4 + bytes line = omega (arith, bytes-join (45 ∷ 45 ∷ 45 ∷ 32 ∷ []) line, frame.0) in
       let tail : bytes (10 ∷ rest) ≡ 1 + bytes rest = omega (arith, bytes-join (10 ∷ []) rest, frame.1) in
       let few = firsts_low r t [] (10 ∷ rest) in

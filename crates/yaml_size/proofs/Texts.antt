@@ -13,12 +13,12 @@ use Rattle.yaml_text.specs.Limits.{text_limit}
 use Rattle.yaml_text.specs.Tree.{Tree, Trees, Pairs, scalar, sequence, mapping, end, item, done, entry}
 use Rattle.yaml_text.specs.Same.{same}
 use Rattle.yaml_text.specs.Event.{Anchor, double}
-use Rattle.yaml_text.specs.Marked.{Marked, alias, scalar_at, sequence_at, mapping_at}
+use Rattle.yaml_text.specs.Serial.{SerialNode, alias_at, scalar_at, sequence_at, mapping_at}
 use Rattle.yaml_text.specs.Walk.{Place, first, again, firsts, is_again, walk, walk_trees, walk_pairs}
 use Rattle.yaml_text.specs.TagText.{written_tag, tag_text}
 use Rattle.yaml_text.specs.CharText.{spell_char}
-use Rattle.yaml_text.specs.Mark.{name_of, is_anchored, anchored, anchor_of, alias_of, mark, mark_trees, mark_pairs}
-use Rattle.yaml_text.specs.NodeText.{anchor_text, quoted, text, items_text, pairs_text}
+use Rattle.yaml_text.specs.Serialize.{anchor_name, is_anchored, anchored, anchor_of, alias_of, serialize, serialize_all, serialize_pairs}
+use Rattle.yaml_text.specs.NodeText.{anchor_text, quoted, node_text, items_text, pairs_text}
 use Rattle.yaml_text.specs.Spell.{text_len, short}
 use Rattle.yaml_size.proofs.Sums.{total, total-join}
 use Rattle.yaml_size.proofs.Walks.{longs, longs_join, longs_here}
@@ -66,15 +66,15 @@ digits_ascii [] m i = omega arith
 digits_ascii (x ∷ xs) m zero = let q = m.0 in omega arith
 digits_ascii (x ∷ xs) m (suc i) = digits_ascii xs m.1 i
 
-name_ascii : (n : ℕ) → IsAscii (name_of n)
-unfolding name_of
+name_ascii : (n : ℕ) → IsAscii (anchor_name n)
+unfolding anchor_name
 name_ascii n zero = omega arith
 name_ascii n (suc i) = digits_ascii (digits_of 10 n) (all_below_base_digits_of 10 n (omega arith)) i
 
-name_light : (n : ℕ) → n ≤ text_limit → bytes (chars (name_of (suc n))) ≤ 9
-unfolding bytes name_of
+name_light : (n : ℕ) → n ≤ text_limit → bytes (chars (anchor_name (suc n))) ≤ 9
+unfolding bytes anchor_name
 name_light n h =
-    let e = ap length (encodes-chars (name_of (suc n)) (IsUtf8-from_ascii (name_of (suc n)) (name_ascii (suc n)))) in
+    let e = ap length (encodes-chars (anchor_name (suc n)) (IsUtf8-from_ascii (anchor_name (suc n)) (name_ascii (suc n)))) in
     let small : suc n < 10 ^ 8 = omega (arith, h) in
     omega (arith, e, length-map (digits_of 10 (suc n)) (λ d. 48 + d), length-digits_of-le 10 8 (suc n) (omega arith) small)
 
@@ -89,20 +89,20 @@ anchor_light r t before more h = by (is_anchored r t)
     n = length (anchored r before)
 
     name : List ℕ
-    name = chars (name_of (suc n))
+    name = chars (anchor_name (suc n))
 
-    by : (b : Bool) → bytes (anchor_text (cond b (Some (name_of (suc n))) None) more) ≤ 11 + bytes more
+    by : (b : Bool) → bytes (anchor_text (cond b (Some (anchor_name (suc n))) None) more) ≤ 11 + bytes more
     by true = omega (arith, one_byte 38 (name ++ (32 ∷ more)) alone.0, bytes-join name (32 ∷ more), one_byte 32 more alone.1, name_light n (omega (arith, h, length_filter (is_anchored r) before)))
     by false = omega arith
 
-alias_light : (r : List Tree) (t : Tree) (before : List Tree) (more : List ℕ) → length before ≤ text_limit → bytes (text (alias (alias_of r t before)) more) ≤ 75 + bytes more
-unfolding text
+alias_light : (r : List Tree) (t : Tree) (before : List Tree) (more : List ℕ) → length before ≤ text_limit → bytes (node_text (alias_at (alias_of r t before)) more) ≤ 75 + bytes more
+unfolding node_text
 alias_light r t before more h =
     let n = position_or_len (same t) (anchored r before) in
     omega (
       arith,
-      one_byte 42 (chars (name_of (suc n)) ++ more) alone.2,
-      bytes-join (chars (name_of (suc n))) more,
+      one_byte 42 (chars (anchor_name (suc n)) ++ more) alone.2,
+      bytes-join (chars (anchor_name (suc n))) more,
       name_light n (omega (arith, h, position_low (same t) (anchored r before), length_filter (is_anchored r) before)),
     )
 
@@ -118,7 +118,7 @@ few : (n : ℕ) → nat_le n 64 ≡ true → n ≤ 64
 few n h = grind (arith, nat_tests, h)
 
 short_light : (t : Tree) → short t ≡ true → own t ≤ 64
-unfolding short own text text_len tag_bytes content_bytes
+unfolding short own node_text text_len tag_bytes content_bytes
 short_light (scalar g x) h = let n = tag_text (written_tag 0 g) in omega (arith, bytes-join n (34 ∷ quoted (chars x) []), few (bytes (n ++ (34 ∷ quoted (chars x) []))) (subst (λ z. nat_le z 64 ≡ true) (len (n ++ (34 ∷ quoted (chars x) []))) h))
 short_light (sequence g end) h = let n = tag_text (written_tag 1 g) in omega (arith, bytes-join n (91 ∷ 93 ∷ []), one_byte 91 (93 ∷ []) alone.3, alone.4, few (bytes (n ++ (91 ∷ 93 ∷ []))) (subst (λ z. nat_le z 64 ≡ true) (len (n ++ (91 ∷ 93 ∷ []))) h))
 short_light (sequence g (item t ts)) h = absurd (cc)
@@ -126,10 +126,10 @@ short_light (mapping g done) h = let n = tag_text (written_tag 2 g) in omega (ar
 short_light (mapping g (entry k v ps)) h = absurd (cc)
 
 -- a node: again, short, or written out with its weight
-here_light : (r : List Tree) (t : Tree) (before : List Tree) (w : List Place) (b : Bool) (m : Marked) (more : List ℕ)
+here_light : (r : List Tree) (t : Tree) (before : List Tree) (w : List Place) (b : Bool) (m : SerialNode) (more : List ℕ)
     → length before + length (firsts (cond b (again t ∷ []) (first t ∷ w))) ≤ text_limit
-    → (length (before ++ (t ∷ [])) + length (firsts w) ≤ text_limit → bytes (text m more) ≤ 11 + own t + total own (longs short w) + bytes more)
-    → bytes (text (cond b (alias (alias_of r t before)) m) more) ≤ 75 + total own (longs short (cond b (again t ∷ []) (first t ∷ w))) + bytes more
+    → (length (before ++ (t ∷ [])) + length (firsts w) ≤ text_limit → bytes (node_text m more) ≤ 11 + own t + total own (longs short w) + bytes more)
+    → bytes (node_text (cond b (alias_at (alias_of r t before)) m) more) ≤ 75 + total own (longs short (cond b (again t ∷ []) (first t ∷ w))) + bytes more
 unfolding total
 here_light r t before w true m more h f = omega (arith, alias_light r t before more (omega (arith, h)))
 here_light r t before w false m more h f =
@@ -137,8 +137,8 @@ here_light r t before w false m more h f =
     let g = f (omega (arith, h, length-append before (t ∷ []))) in
     by (short t) refl (subst (λ l. total own (longs short (first t ∷ w)) ≡ total own l) e refl) g
   where
-    by : (s : Bool) → short t ≡ s → total own (longs short (first t ∷ w)) ≡ total own (cond s (longs short w) (t ∷ longs short w)) → bytes (text m more) ≤ 11 + own t + total own (longs short w) + bytes more
-        → bytes (text m more) ≤ 75 + total own (longs short (first t ∷ w)) + bytes more
+    by : (s : Bool) → short t ≡ s → total own (longs short (first t ∷ w)) ≡ total own (cond s (longs short w) (t ∷ longs short w)) → bytes (node_text m more) ≤ 11 + own t + total own (longs short w) + bytes more
+        → bytes (node_text m more) ≤ 75 + total own (longs short (first t ∷ w)) + bytes more
     by true e q g = omega (arith, q, g, short_light t e)
     by false e q g = omega (arith, q, g)
 
@@ -171,36 +171,36 @@ written_scalar r g x before more l =
     omega (arith, anchor_light r (scalar g x) before (tag_text (written_tag 0 g) ++ (34 ∷ quoted (chars x) more)) l, bytes-join (tag_text (written_tag 0 g)) (34 ∷ quoted (chars x) more), c)
 
 mutual
-  unfolding walk mark text
+  unfolding walk serialize node_text
 
   pub node_light : (r : List Tree) (t : Tree) (before : List Tree) (more : List ℕ) → length before + length (firsts (walk short t before)) ≤ text_limit
-      → bytes (text (mark short r t before) more) ≤ 75 + total own (longs short (walk short t before)) + bytes more
+      → bytes (node_text (serialize short r t before) more) ≤ 75 + total own (longs short (walk short t before)) + bytes more
   node_light r (scalar g x) before more h =
       here_light r (scalar g x) before [] (is_again short (scalar g x) before) (scalar_at (anchor_of r (scalar g x) before) (written_tag 0 g) double x) more h
       (λ l. omega (arith, written_scalar r g x before more (omega (arith, l, length-append before (scalar g x ∷ [])))))
   node_light r (sequence g ts) before more h =
       let b = before ++ (sequence g ts ∷ []) in
-      here_light r (sequence g ts) before (walk_trees short ts b) (is_again short (sequence g ts) before) (sequence_at (anchor_of r (sequence g ts) before) (written_tag 1 g) true (mark_trees short r ts b)) more h
-      (λ l. written_seq r g ts before (items_text [] (mark_trees short r ts b) more) more (total own (longs short (walk_trees short ts b))) (omega (arith, l, length-append before (sequence g ts ∷ [])))
+      here_light r (sequence g ts) before (walk_trees short ts b) (is_again short (sequence g ts) before) (sequence_at (anchor_of r (sequence g ts) before) (written_tag 1 g) true (serialize_all short r ts b)) more h
+      (λ l. written_seq r g ts before (items_text [] (serialize_all short r ts b) more) more (total own (longs short (walk_trees short ts b))) (omega (arith, l, length-append before (sequence g ts ∷ [])))
       (items_light r ts b [] more (omega (arith, alone.9)) l))
   node_light r (mapping g ps) before more h =
       let b = before ++ (mapping g ps ∷ []) in
-      here_light r (mapping g ps) before (walk_pairs short ps b) (is_again short (mapping g ps) before) (mapping_at (anchor_of r (mapping g ps) before) (written_tag 2 g) true (mark_pairs short r ps b)) more h
-      (λ l. written_map r g ps before (pairs_text [] (mark_pairs short r ps b) more) more (total own (longs short (walk_pairs short ps b))) (omega (arith, l, length-append before (mapping g ps ∷ [])))
+      here_light r (mapping g ps) before (walk_pairs short ps b) (is_again short (mapping g ps) before) (mapping_at (anchor_of r (mapping g ps) before) (written_tag 2 g) true (serialize_pairs short r ps b)) more h
+      (λ l. written_map r g ps before (pairs_text [] (serialize_pairs short r ps b) more) more (total own (longs short (walk_pairs short ps b))) (omega (arith, l, length-append before (mapping g ps ∷ [])))
       (pairs_light r ps b [] more (omega (arith, alone.9)) l))
 
   items_light : (r : List Tree) (ts : Trees) (before : List Tree) (sep more : List ℕ) → bytes sep ≤ 2 → length before + length (firsts (walk_trees short ts before)) ≤ text_limit
-      → bytes (items_text sep (mark_trees short r ts before) more) ≤ 1 + 77 * count ts + total own (longs short (walk_trees short ts before)) + bytes more
+      → bytes (items_text sep (serialize_all short r ts before) more) ≤ 1 + 77 * count ts + total own (longs short (walk_trees short ts before)) + bytes more
   items_light r end before sep more q h = omega (arith, one_byte 93 more alone.4)
   items_light r (item t ts) before sep more q h =
       let v = walk short t before in
       let b = before ++ firsts v in
       let a = after_first before v (walk_trees short ts b) h in
-      let rest = items_text (44 ∷ 32 ∷ []) (mark_trees short r ts b) more in
-      omega (arith, items_more sep (text (mark short r t before) rest) q, node_light r t before rest a.0, items_light r ts b (44 ∷ 32 ∷ []) more (omega (arith, alone.8)) a.1, longs_sum v (walk_trees short ts b))
+      let rest = items_text (44 ∷ 32 ∷ []) (serialize_all short r ts b) more in
+      omega (arith, items_more sep (node_text (serialize short r t before) rest) q, node_light r t before rest a.0, items_light r ts b (44 ∷ 32 ∷ []) more (omega (arith, alone.8)) a.1, longs_sum v (walk_trees short ts b))
 
   pairs_light : (r : List Tree) (ps : Pairs) (before : List Tree) (sep more : List ℕ) → bytes sep ≤ 2 → length before + length (firsts (walk_pairs short ps before)) ≤ text_limit
-      → bytes (pairs_text sep (mark_pairs short r ps before) more) ≤ 1 + 155 * count_pairs ps + total own (longs short (walk_pairs short ps before)) + bytes more
+      → bytes (pairs_text sep (serialize_pairs short r ps before) more) ≤ 1 + 155 * count_pairs ps + total own (longs short (walk_pairs short ps before)) + bytes more
   pairs_light r done before sep more q h = omega (arith, one_byte 125 more alone.6)
   pairs_light r (entry k v ps) before sep more q h =
       let wk = walk short k before in
@@ -210,11 +210,11 @@ mutual
       let wp = walk_pairs short ps after_both in
       let a = after_first before wk (wv ++ wp) h in
       let c = after_first after_key wv wp a.1 in
-      let rest = pairs_text (44 ∷ 32 ∷ []) (mark_pairs short r ps after_both) more in
-      let value = text (mark short r v after_key) rest in
+      let rest = pairs_text (44 ∷ 32 ∷ []) (serialize_pairs short r ps after_both) more in
+      let value = node_text (serialize short r v after_key) rest in
       omega (
         arith,
-        items_more sep (text (mark short r k before) (32 ∷ 58 ∷ 32 ∷ value)) q,
+        items_more sep (node_text (serialize short r k before) (32 ∷ 58 ∷ 32 ∷ value)) q,
         node_light r k before (32 ∷ 58 ∷ 32 ∷ value) a.0,
         one_byte 32 (58 ∷ 32 ∷ value) alone.1,
         one_byte 58 (32 ∷ value) alone.7,
@@ -234,9 +234,9 @@ anchor_low (Some name) more = omega (arith, bytes-join (38 ∷ []) (chars name +
 head_low : (a : Anchor) (g : List ℕ) (c : ℕ) (inside : List ℕ) → bytes (c ∷ []) ≡ 1 → suc (bytes inside) ≤ bytes (anchor_text a (g ++ (c ∷ inside)))
 head_low a g c inside e = omega (arith, anchor_low a (g ++ (c ∷ inside)), bytes-join g (c ∷ inside), one_byte c inside e)
 
-here_low : (t : Tree) (w : List Place) (b : Bool) (name : List ℕ) (m : Marked) (more : List ℕ) → suc (length (firsts w)) + bytes more ≤ bytes (text m more)
-    → length (firsts (cond b (again t ∷ []) (first t ∷ w))) + bytes more ≤ bytes (text (cond b (alias name) m) more)
-unfolding text
+here_low : (t : Tree) (w : List Place) (b : Bool) (name : List ℕ) (m : SerialNode) (more : List ℕ) → suc (length (firsts w)) + bytes more ≤ bytes (node_text m more)
+    → length (firsts (cond b (again t ∷ []) (first t ∷ w))) + bytes more ≤ bytes (node_text (cond b (alias_at name) m) more)
+unfolding node_text
 here_low t w true name m more h = omega (arith, bytes-join (42 ∷ []) (chars name ++ more), bytes-join (chars name) more)
 here_low t w false name m more h = omega (arith, h)
 
@@ -248,30 +248,30 @@ quoted_low : (cs more : List ℕ) → bytes more ≤ bytes (quoted cs more)
 quoted_low cs more = omega (arith, ap bytes (quoted_more cs more), bytes-join (quoted cs []) more)
 
 mutual
-  unfolding walk mark text
+  unfolding walk serialize node_text
 
-  pub firsts_low : (r : List Tree) (t : Tree) (before : List Tree) (more : List ℕ) → length (firsts (walk short t before)) + bytes more ≤ bytes (text (mark short r t before) more)
+  pub firsts_low : (r : List Tree) (t : Tree) (before : List Tree) (more : List ℕ) → length (firsts (walk short t before)) + bytes more ≤ bytes (node_text (serialize short r t before) more)
   firsts_low r (scalar g x) before more =
       here_low (scalar g x) [] (is_again short (scalar g x) before) (alias_of r (scalar g x) before) (scalar_at (anchor_of r (scalar g x) before) (written_tag 0 g) double x) more
       (omega (arith, head_low (anchor_of r (scalar g x) before) (tag_text (written_tag 0 g)) 34 (quoted (chars x) more) quote_alone, quoted_low (chars x) more))
   firsts_low r (sequence g ts) before more =
       let b = before ++ (sequence g ts ∷ []) in
-      here_low (sequence g ts) (walk_trees short ts b) (is_again short (sequence g ts) before) (alias_of r (sequence g ts) before) (sequence_at (anchor_of r (sequence g ts) before) (written_tag 1 g) true (mark_trees short r ts b)) more
-      (omega (arith, head_low (anchor_of r (sequence g ts) before) (tag_text (written_tag 1 g)) 91 (items_text [] (mark_trees short r ts b) more) alone.3, items_low r ts b [] more))
+      here_low (sequence g ts) (walk_trees short ts b) (is_again short (sequence g ts) before) (alias_of r (sequence g ts) before) (sequence_at (anchor_of r (sequence g ts) before) (written_tag 1 g) true (serialize_all short r ts b)) more
+      (omega (arith, head_low (anchor_of r (sequence g ts) before) (tag_text (written_tag 1 g)) 91 (items_text [] (serialize_all short r ts b) more) alone.3, items_low r ts b [] more))
   firsts_low r (mapping g ps) before more =
       let b = before ++ (mapping g ps ∷ []) in
-      here_low (mapping g ps) (walk_pairs short ps b) (is_again short (mapping g ps) before) (alias_of r (mapping g ps) before) (mapping_at (anchor_of r (mapping g ps) before) (written_tag 2 g) true (mark_pairs short r ps b)) more
-      (omega (arith, head_low (anchor_of r (mapping g ps) before) (tag_text (written_tag 2 g)) 123 (pairs_text [] (mark_pairs short r ps b) more) alone.5, pairs_low r ps b [] more))
+      here_low (mapping g ps) (walk_pairs short ps b) (is_again short (mapping g ps) before) (alias_of r (mapping g ps) before) (mapping_at (anchor_of r (mapping g ps) before) (written_tag 2 g) true (serialize_pairs short r ps b)) more
+      (omega (arith, head_low (anchor_of r (mapping g ps) before) (tag_text (written_tag 2 g)) 123 (pairs_text [] (serialize_pairs short r ps b) more) alone.5, pairs_low r ps b [] more))
 
-  items_low : (r : List Tree) (ts : Trees) (before : List Tree) (sep more : List ℕ) → length (firsts (walk_trees short ts before)) + bytes more ≤ bytes (items_text sep (mark_trees short r ts before) more)
+  items_low : (r : List Tree) (ts : Trees) (before : List Tree) (sep more : List ℕ) → length (firsts (walk_trees short ts before)) + bytes more ≤ bytes (items_text sep (serialize_all short r ts before) more)
   items_low r end before sep more = omega (arith, one_byte 93 more alone.4)
   items_low r (item t ts) before sep more =
       let v = walk short t before in
       let b = before ++ firsts v in
-      let rest = items_text (44 ∷ 32 ∷ []) (mark_trees short r ts b) more in
-      omega (arith, bytes-join sep (text (mark short r t before) rest), firsts_low r t before rest, items_low r ts b (44 ∷ 32 ∷ []) more, firsts_join v (walk_trees short ts b))
+      let rest = items_text (44 ∷ 32 ∷ []) (serialize_all short r ts b) more in
+      omega (arith, bytes-join sep (node_text (serialize short r t before) rest), firsts_low r t before rest, items_low r ts b (44 ∷ 32 ∷ []) more, firsts_join v (walk_trees short ts b))
 
-  pairs_low : (r : List Tree) (ps : Pairs) (before : List Tree) (sep more : List ℕ) → length (firsts (walk_pairs short ps before)) + bytes more ≤ bytes (pairs_text sep (mark_pairs short r ps before) more)
+  pairs_low : (r : List Tree) (ps : Pairs) (before : List Tree) (sep more : List ℕ) → length (firsts (walk_pairs short ps before)) + bytes more ≤ bytes (pairs_text sep (serialize_pairs short r ps before) more)
   pairs_low r done before sep more = omega (arith, one_byte 125 more alone.6)
   pairs_low r (entry k v ps) before sep more =
       let wk = walk short k before in
@@ -279,11 +279,11 @@ mutual
       let wv = walk short v after_key in
       let after_both = after_key ++ firsts wv in
       let wp = walk_pairs short ps after_both in
-      let rest = pairs_text (44 ∷ 32 ∷ []) (mark_pairs short r ps after_both) more in
-      let value = text (mark short r v after_key) rest in
+      let rest = pairs_text (44 ∷ 32 ∷ []) (serialize_pairs short r ps after_both) more in
+      let value = node_text (serialize short r v after_key) rest in
       omega (
         arith,
-        bytes-join sep (text (mark short r k before) (32 ∷ 58 ∷ 32 ∷ value)),
+        bytes-join sep (node_text (serialize short r k before) (32 ∷ 58 ∷ 32 ∷ value)),
         firsts_low r k before (32 ∷ 58 ∷ 32 ∷ value),
         bytes-join (32 ∷ 58 ∷ 32 ∷ []) value,
         firsts_low r v after_key rest,

@@ -5,16 +5,16 @@ use Rattle.std.specs.Prelude.{bytes_eq}
 use Rattle.yaml_text.specs.Limits.{open_limit, key_limit}
 use Rattle.yaml_text.specs.Tree.{Tree}
 use Rattle.yaml_text.specs.Event.{Event, Anchor, WrittenTag, untagged, non_specific, full, sequence_start, sequence_end, mapping_start, mapping_end}
-use Rattle.yaml_text.specs.Marked.{Marked, AllMarked, MarkedPairs, alias, scalar_at, sequence_at, mapping_at, end_marks, item_mark, done_marks, entry_marks, flat, flat_all, flat_pairs}
+use Rattle.yaml_text.specs.Serial.{SerialNode, SerialNodes, SerialPairs, alias_at, scalar_at, sequence_at, mapping_at, end_serial, item_serial, done_serial, entry_serial, flat, flat_all, flat_pairs}
 use Rattle.yaml_text.specs.Tag.{null_tag, bool_tag, int_tag, float_tag}
 use Rattle.yaml_text.specs.TagText.{full_text, tag_text}
-use Rattle.yaml_text.specs.NodeText.{anchor_text, text}
-use Rattle.yaml_text.specs.Spell.{marks_of}
-use Rattle.yaml_text.specs.Block.{in_block, items_in_block, pairs_in_block, spaces, line, item_lines, pair_lines, blocked_marks, block, block_bytes, blocked, KeysFit, ItemsKeysFit, PairsKeysFit, AllKeysFit}
+use Rattle.yaml_text.specs.NodeText.{anchor_text, node_text}
+use Rattle.yaml_text.specs.Spell.{serial_of}
+use Rattle.yaml_text.specs.Block.{in_block, items_in_block, pairs_in_block, spaces, line, item_lines, pair_lines, blocked_serial, block, block_bytes, blocked, KeysFit, ItemsKeysFit, PairsKeysFit, AllKeysFit}
 use Rattle.yaml_text.specs.Proper.{AreAdmitted}
 use Rattle.yaml_text.specs.grammar.Rules.{Rule, Any, done, then, run, ◌▸◌, ◌◂◌, ◌∪◌, gives}
 use Rattle.yaml_text.specs.grammar.Characters.{is_nb, is_break, is_ns, is_white, is_space}
-use Rattle.yaml_text.specs.grammar.Separation.{Ctx, block_out, block_in, flow_out, flow_in, block_key, flow_key, indent, separate, s_l_comments, StartsLine, OneLine, Mark, Unmarked}
+use Rattle.yaml_text.specs.grammar.Separation.{Ctx, block_out, block_in, flow_out, flow_in, block_key, flow_key, indent, separate, s_l_comments, StartsLine, OneLine, DocumentMark, Unmarked}
 use Rattle.yaml_text.specs.grammar.Tags.{properties}
 use Rattle.yaml_text.specs.grammar.Events.{Props, no_props}
 use Rattle.yaml_text.specs.grammar.Nodes.{Part, block_part, block_node, block_seq, block_map, seq_entry, indented, map_entry, implicit_yaml_key, implicit_json_key, seq_column, reads}
@@ -53,9 +53,9 @@ node_first None non_specific c r t h = absurd t
 node_first None (full g) c r t h = full_first g (c ∷ r)
 node_first (Some x) g c r t h = (λ e. omega (arith, e), λ e. omega (arith, e))
 
-text_first : (m : Marked) (r : List ℕ) → Spells m → First (text m r)
-unfolding text
-text_first (alias x) r p = (λ e. omega (arith, e), λ e. omega (arith, e))
+text_first : (m : SerialNode) (r : List ℕ) → Spells m → First (node_text m r)
+unfolding node_text
+text_first (alias_at x) r p = (λ e. omega (arith, e), λ e. omega (arith, e))
 text_first (scalar_at a g y x) r p = node_first a g 34 _ p.1 (λ e. omega (arith, e), λ e. omega (arith, e))
 text_first (sequence_at a g b ts) r p = node_first a g 91 _ p.1 (λ e. omega (arith, e), λ e. omega (arith, e))
 text_first (mapping_at a g b ps) r p = node_first a g 123 _ p.1 (λ e. omega (arith, e), λ e. omega (arith, e))
@@ -88,7 +88,7 @@ module _ (cs : List ℕ) where
   column_low R n block_key = omega arith
   column_low R n flow_key = omega arith
 
-  text_unmarked : (i : ℕ) (xs : List ℕ) → First xs → At cs i xs → Mark cs i → ⊥
+  text_unmarked : (i : ℕ) (xs : List ℕ) → First xs → At cs i xs → DocumentMark cs i → ⊥
   text_unmarked i [] f a = absurd f
   text_unmarked i (c ∷ xs) f a = other_first cs i c (at_get cs i c xs a) f.0 f.1
 
@@ -142,10 +142,10 @@ module _ (cs : List ℕ) where
   Entries room n = indent cs n ▸ map_entry cs (Unit {0}) [] (Unit {0}) (reads cs (Unit {0}) [] room) n
 
   -- a node after a space, wherever it stands
-  abbrev ReadsLine : Marked → ℕ → ℕ → Type 0
+  abbrev ReadsLine : SerialNode → ℕ → ℕ → Type 0
   ReadsLine t room n = (c : Ctx) (i : ℕ) (r : List ℕ) → At cs i (32 ∷ line n t r) → Lines (reads cs (Unit {0}) [] room (block_part n c)) (i + 1) i r (flat t [])
 
-  item_read : (t : Marked) (room n i : ℕ) (r : List ℕ) → ReadsLine t room (suc n) → At cs i (spaces n (45 ∷ 32 ∷ line (suc n) t r)) → Lines (Items room n) i i r (flat t [])
+  item_read : (t : SerialNode) (room n i : ℕ) (r : List ℕ) → ReadsLine t room (suc n) → At cs i (spaces n (45 ∷ 32 ∷ line (suc n) t r)) → Lines (Items room n) i i r (flat t [])
   unfolding seq_entry indented
   item_read t room n i r read a =
       let x : List ℕ = line (suc n) t r in
@@ -165,17 +165,17 @@ module _ (cs : List ℕ) where
         d.4,
       )
     where
-      start : (n : ℕ) → At cs i (spaces n (45 ∷ 32 ∷ line (suc n) t r)) → Mark cs i → ⊥
+      start : (n : ℕ) → At cs i (spaces n (45 ∷ 32 ∷ line (suc n) t r)) → DocumentMark cs i → ⊥
       start zero a = dash_first cs i (at_get cs i 45 (32 ∷ line 1 t r) a) (at_get cs (i + 1) 32 (line 1 t r) (at_next cs i 45 (32 ∷ line 1 t r) a))
       start (suc m) a = other_first cs i 32 (at_get cs i 32 (spaces m (45 ∷ 32 ∷ line (suc (suc m)) t r)) a) (λ e. omega (arith, e)) (λ e. omega (arith, e))
 
-  pair_read : (x v : Marked) (room n i : ℕ) (r : List ℕ) → Spells x → depth x ≤ room → length (text x []) + 1 ≤ key_limit → ReadsLine v room (suc n)
-      → At cs i (spaces n (text x (32 ∷ 58 ∷ 32 ∷ line (suc n) v r))) → Lines (Entries room n) i i r (flat x (flat v []))
+  pair_read : (x v : SerialNode) (room n i : ℕ) (r : List ℕ) → Spells x → depth x ≤ room → length (node_text x []) + 1 ≤ key_limit → ReadsLine v room (suc n)
+      → At cs i (spaces n (node_text x (32 ∷ 58 ∷ 32 ∷ line (suc n) v r))) → Lines (Entries room n) i i r (flat x (flat v []))
   unfolding map_entry implicit_yaml_key implicit_json_key
   pair_read x v room n i r p l fit read a =
       let y : List ℕ = line (suc n) v r in
       let s : List ℕ = 32 ∷ 58 ∷ 32 ∷ y in
-      let b = indent_read n i (text x s) a in
+      let b = indent_read n i (node_text x s) a in
       let k : ℕ = i + n in
       let d = node_read cs x room 0 block_key k s p l space_ends b.2 in
       let o = text_over cs x k d.0 s p b.2 d.2 in
@@ -204,9 +204,9 @@ module _ (cs : List ℕ) where
       key k j es o z e (inl d) = inl ((o, z), (j, d, inr (parted_by cs j e)))
       key k j es o z e (inr d) = inr ((o, z), (j, d, inr (parted_by cs j e)))
 
-      start : (n : ℕ) → At cs i (spaces n (text x (32 ∷ 58 ∷ 32 ∷ line (suc n) v r))) → Mark cs i → ⊥
-      start zero a = text_unmarked i (text x (32 ∷ 58 ∷ 32 ∷ line 1 v r)) (text_first x (32 ∷ 58 ∷ 32 ∷ line 1 v r) p) a
-      start (suc m) a = other_first cs i 32 (at_get cs i 32 (spaces m (text x (32 ∷ 58 ∷ 32 ∷ line (suc (suc m)) v r))) a) (λ e. omega (arith, e)) (λ e. omega (arith, e))
+      start : (n : ℕ) → At cs i (spaces n (node_text x (32 ∷ 58 ∷ 32 ∷ line (suc n) v r))) → DocumentMark cs i → ⊥
+      start zero a = text_unmarked i (node_text x (32 ∷ 58 ∷ 32 ∷ line 1 v r)) (text_first x (32 ∷ 58 ∷ 32 ∷ line 1 v r) p) a
+      start (suc m) a = other_first cs i 32 (at_get cs i 32 (spaces m (node_text x (32 ∷ 58 ∷ 32 ∷ line (suc (suc m)) v r))) a) (λ e. omega (arith, e)) (λ e. omega (arith, e))
 
   -- ---- collections
 
@@ -223,19 +223,19 @@ module _ (cs : List ℕ) where
   mutual
     unfolding line in_block flat KeysFit
 
-    pub line_read : (m : Marked) (room n : ℕ) (c : Ctx) (i : ℕ) (r : List ℕ) → Spells m → depth m ≤ room → KeysFit (in_block m) → At cs i (32 ∷ line n (in_block m) r)
+    pub line_read : (m : SerialNode) (room n : ℕ) (c : Ctx) (i : ℕ) (r : List ℕ) → Spells m → depth m ≤ room → KeysFit (in_block m) → At cs i (32 ∷ line n (in_block m) r)
         → Lines (reads cs (Unit {0}) [] room (block_part n c)) (i + 1) i r (flat (in_block m) [])
-    line_read (alias x) room n c i r p l f a = flow_line cs (alias x) room n c i r p l a
+    line_read (alias_at x) room n c i r p l f a = flow_line cs (alias_at x) room n c i r p l a
     line_read (scalar_at o g y x) room n c i r p l f a = flow_line cs (scalar_at o g y x) room n c i r p l a
-    line_read (sequence_at o g true end_marks) room n c i r p l f a = flow_line cs (sequence_at o g true end_marks) room n c i r p l a
-    line_read (sequence_at o g false end_marks) room n c i r p l f a = absurd (cc p.2)
-    line_read (mapping_at o g true done_marks) room n c i r p l f a = flow_line cs (mapping_at o g true done_marks) room n c i r p l a
-    line_read (mapping_at o g false done_marks) room n c i r p l f a = absurd (cc p.2)
-    line_read (sequence_at o g b (item_mark t ts)) zero n c i r p l f a = absurd (omega arith)
-    line_read (mapping_at o g b (entry_marks x v ps)) zero n c i r p l f a = absurd (omega arith)
-    line_read (sequence_at o g b (item_mark t ts)) (suc room) n c i r p l f a =
-        let us : AllMarked = items_in_block ts in
-        let u : Marked = in_block t in
+    line_read (sequence_at o g true end_serial) room n c i r p l f a = flow_line cs (sequence_at o g true end_serial) room n c i r p l a
+    line_read (sequence_at o g false end_serial) room n c i r p l f a = absurd (cc p.2)
+    line_read (mapping_at o g true done_serial) room n c i r p l f a = flow_line cs (mapping_at o g true done_serial) room n c i r p l a
+    line_read (mapping_at o g false done_serial) room n c i r p l f a = absurd (cc p.2)
+    line_read (sequence_at o g b (item_serial t ts)) zero n c i r p l f a = absurd (omega arith)
+    line_read (mapping_at o g b (entry_serial x v ps)) zero n c i r p l f a = absurd (omega arith)
+    line_read (sequence_at o g b (item_serial t ts)) (suc room) n c i r p l f a =
+        let us : SerialNodes = items_in_block ts in
+        let u : SerialNode = in_block t in
         let rest : List ℕ = item_lines n us r in
         let h = head_read o g n c i (spaces n (45 ∷ 32 ∷ line (suc n) u rest)) p.0 p.1 a in
         let d = item_read u room n h.0 rest (λ c k s x. line_read t room (suc n) c k s p.3.0 (omega arith) f.0 x) h.2 in
@@ -243,25 +243,25 @@ module _ (cs : List ℕ) where
         let es : List Event = flat u [] in
         let fs : List Event = flat_all us [] in
         let w = as_block_seq room n c i h.0 d.0 e.0 o g es fs h.1 d.1 e.1 in
-        let q : flat u (flat_all us (sequence_end ∷ [])) ≡ (es ++ fs) ++ (sequence_end ∷ []) = all_more (item_mark u us) [] (sequence_end ∷ []) ∙ ap (λ z. z ++ (sequence_end ∷ [])) (flat_more u [] fs) in (
+        let q : flat u (flat_all us (sequence_end ∷ [])) ≡ (es ++ fs) ++ (sequence_end ∷ []) = all_more (item_serial u us) [] (sequence_end ∷ []) ∙ ap (λ z. z ++ (sequence_end ∷ [])) (flat_more u [] fs) in (
           e.0,
           subst (reads cs (Unit {0}) [] (suc room) (block_part n c) i e.0) (λ z. sequence_start false o g ∷ sym q z) w,
           e.2,
           both_unmarked cs (i + 1) h.0 e.0 h.3 (both_unmarked cs h.0 d.0 e.0 d.3 e.3),
           e.4,
         )
-    line_read (mapping_at o g b (entry_marks x v ps)) (suc room) n c i r p l f a =
-        let qs : MarkedPairs = pairs_in_block ps in
-        let u : Marked = in_block v in
+    line_read (mapping_at o g b (entry_serial x v ps)) (suc room) n c i r p l f a =
+        let qs : SerialPairs = pairs_in_block ps in
+        let u : SerialNode = in_block v in
         let rest : List ℕ = pair_lines n qs r in
-        let h = head_read o g n c i (spaces n (text x (32 ∷ 58 ∷ 32 ∷ line (suc n) u rest))) p.0 p.1 a in
+        let h = head_read o g n c i (spaces n (node_text x (32 ∷ 58 ∷ 32 ∷ line (suc n) u rest))) p.0 p.1 a in
         let d = pair_read x u room n h.0 rest p.3.0 (omega arith) f.0 (λ c k s y. line_read v room (suc n) c k s p.3.1 (omega arith) f.1 y) h.2 in
         let e = pairs_read ps room n d.0 r p.3.2 (omega arith) f.2 d.4 d.2 in
         let es : List Event = flat x (flat u []) in
         let fs : List Event = flat_pairs qs [] in
         let w = as_block_map room n c i h.0 d.0 e.0 o g es fs h.1 d.1 e.1 in
         let q : flat x (flat u (flat_pairs qs (mapping_end ∷ []))) ≡ (es ++ fs) ++ (mapping_end ∷ []) =
-        pairs_more (entry_marks x u qs) [] (mapping_end ∷ []) ∙ ap (λ z. z ++ (mapping_end ∷ [])) (ap (flat x) (flat_more u [] fs) ∙ flat_more x (flat u []) fs) in (
+        pairs_more (entry_serial x u qs) [] (mapping_end ∷ []) ∙ ap (λ z. z ++ (mapping_end ∷ [])) (ap (flat x) (flat_more u [] fs) ∙ flat_more x (flat u []) fs) in (
           e.0,
           subst (reads cs (Unit {0}) [] (suc room) (block_part n c) i e.0) (λ z. mapping_start false o g ∷ sym q z) w,
           e.2,
@@ -269,23 +269,23 @@ module _ (cs : List ℕ) where
           e.4,
         )
 
-    items_read : (ts : AllMarked) (room n i : ℕ) (r : List ℕ) → AllSpell ts → depths ts ≤ room → ItemsKeysFit (items_in_block ts) → StartsLine cs i → At cs i (item_lines n (items_in_block ts) r)
+    items_read : (ts : SerialNodes) (room n i : ℕ) (r : List ℕ) → AllSpell ts → depths ts ≤ room → ItemsKeysFit (items_in_block ts) → StartsLine cs i → At cs i (item_lines n (items_in_block ts) r)
         → (j : ℕ) × Any (Items room n) j i (flat_all (items_in_block ts) []) × At cs j r × Unmarked cs i j × StartsLine cs j
-    items_read end_marks room n i r p l f s a = (i, done refl refl, a, (λ m x y. absurd (let z : ⊥ = omega (arith, x, y) in z)), s)
-    items_read (item_mark t ts) room n i r p l f s a =
-        let us : AllMarked = items_in_block ts in
-        let u : Marked = in_block t in
+    items_read end_serial room n i r p l f s a = (i, done refl refl, a, (λ m x y. absurd (let z : ⊥ = omega (arith, x, y) in z)), s)
+    items_read (item_serial t ts) room n i r p l f s a =
+        let us : SerialNodes = items_in_block ts in
+        let u : SerialNode = in_block t in
         let rest : List ℕ = item_lines n us r in
         let d = item_read u room n i rest (λ c k s x. line_read t room (suc n) c k s p.0 (omega arith) f.0 x) a in
         let e = items_read ts room n d.0 r p.1 (omega arith) f.1 d.4 d.2 in
         (e.0, then d.0 (flat u []) (flat_all us []) d.1 e.1 (flat_more u [] (flat_all us [])), e.2, both_unmarked cs i d.0 e.0 d.3 e.3, e.4)
 
-    pairs_read : (ps : MarkedPairs) (room n i : ℕ) (r : List ℕ) → PairsSpell ps → pairs_depth ps ≤ room → PairsKeysFit (pairs_in_block ps) → StartsLine cs i → At cs i (pair_lines n (pairs_in_block ps) r)
+    pairs_read : (ps : SerialPairs) (room n i : ℕ) (r : List ℕ) → PairsSpell ps → pairs_depth ps ≤ room → PairsKeysFit (pairs_in_block ps) → StartsLine cs i → At cs i (pair_lines n (pairs_in_block ps) r)
         → (j : ℕ) × Any (Entries room n) j i (flat_pairs (pairs_in_block ps) []) × At cs j r × Unmarked cs i j × StartsLine cs j
-    pairs_read done_marks room n i r p l f s a = (i, done refl refl, a, (λ m x y. absurd (let z : ⊥ = omega (arith, x, y) in z)), s)
-    pairs_read (entry_marks x v ps) room n i r p l f s a =
-        let qs : MarkedPairs = pairs_in_block ps in
-        let u : Marked = in_block v in
+    pairs_read done_serial room n i r p l f s a = (i, done refl refl, a, (λ m x y. absurd (let z : ⊥ = omega (arith, x, y) in z)), s)
+    pairs_read (entry_serial x v ps) room n i r p l f s a =
+        let qs : SerialPairs = pairs_in_block ps in
+        let u : SerialNode = in_block v in
         let rest : List ℕ = pair_lines n qs r in
         let d = pair_read x u room n i rest p.0 (omega arith) f.0 (λ c k s y. line_read v room (suc n) c k s p.1 (omega arith) f.1 y) a in
         let e = pairs_read ps room n d.0 r p.2 (omega arith) f.2 d.4 d.2 in
@@ -293,15 +293,15 @@ module _ (cs : List ℕ) where
 
   -- ---- the stream
 
-  forest_read : (f : List Tree) (i : ℕ) → AreAdmitted f → AllKeysFit f → StartsLine cs i → At cs i (block f) → Documents cs blocked_marks f i
+  forest_read : (f : List Tree) (i : ℕ) → AreAdmitted f → AllKeysFit f → StartsLine cs i → At cs i (block f) → Documents cs blocked_serial f i
   unfolding block
   forest_read [] i p k s a = at_end cs i a
   forest_read (t ∷ f) i p k s a =
-      let r : List ℕ = line 0 (blocked_marks t) (block f) in
+      let r : List ℕ = line 0 (blocked_serial t) (block f) in
       let a3 = at_next cs (i + 1 + 1) 45 (32 ∷ r) (at_next cs (i + 1) 45 (45 ∷ 32 ∷ r) (at_next cs i 45 (45 ∷ 45 ∷ 32 ∷ r) a)) in
-      let d = line_read (marks_of t) open_limit 0 block_in (i + 1 + 1 + 1) (block f) (spells_tree t p.0) (depth_tree t p.0) k.0 a3 in
-      (d.0, explicit_read cs i r d.0 (flat (blocked_marks t) []) s a d.1 d.3, forest_read f d.0 p.1 k.1 d.4 d.2)
+      let d = line_read (serial_of t) open_limit 0 block_in (i + 1 + 1 + 1) (block f) (spells_tree t p.0) (depth_tree t p.0) k.0 a3 in
+      (d.0, explicit_read cs i r d.0 (flat (blocked_serial t) []) s a d.1 d.3, forest_read f d.0 p.1 k.1 d.4 d.2)
 
 pub blocks_are_read : BlocksAreRead
 unfolding Reads blocked StartsLine block_bytes
-blocks_are_read f a h k = let cs : List ℕ = block f in (cs, blocks_are_text f a h, stream_read cs blocked_marks f (forest_read cs f 0 a.trees k (inl refl) (refl, omega arith)))
+blocks_are_read f a h k = let cs : List ℕ = block f in (cs, blocks_are_text f a h, stream_read cs blocked_serial f (forest_read cs f 0 a.trees k (inl refl) (refl, omega arith)))

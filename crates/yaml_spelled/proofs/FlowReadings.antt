@@ -7,11 +7,11 @@ use Rattle.std.specs.Prelude.{IsUtf8, encode_utf8_all}
 use Rattle.std.specs.Str.{is_utf8}
 use Rattle.std.specs.Int.Digits.{digits_of, AllBelowBase}
 use Rattle.yaml_text.specs.Event.{Event, Anchor, WrittenTag, untagged, non_specific, full, double as double_quoted, sequence_start, sequence_end, mapping_start, mapping_end, scalar_event, alias_event}
-use Rattle.yaml_text.specs.Mark.{name_of}
-use Rattle.yaml_text.specs.Marked.{Marked, AllMarked, MarkedPairs, alias, scalar_at, sequence_at, mapping_at, end_marks, item_mark, done_marks, entry_marks, flat, flat_all, flat_pairs}
+use Rattle.yaml_text.specs.Serialize.{anchor_name}
+use Rattle.yaml_text.specs.Serial.{SerialNode, SerialNodes, SerialPairs, alias_at, scalar_at, sequence_at, mapping_at, end_serial, item_serial, done_serial, entry_serial, flat, flat_all, flat_pairs}
 use Rattle.yaml_text.specs.Tag.{IsTag}
 use Rattle.yaml_text.specs.TagText.{tag_text, full_text}
-use Rattle.yaml_text.specs.NodeText.{anchor_text, quoted, text, items_text, pairs_text}
+use Rattle.yaml_text.specs.NodeText.{anchor_text, quoted, node_text, items_text, pairs_text}
 use Rattle.yaml_text.specs.grammar.Rules.{Rule, done, then, chr, Stands, ◌◆◌, ◌◂◌, ◌⨾◌, ◌∪◌, any, optional, maybe, seen, gives}
 use Rattle.yaml_text.specs.grammar.Characters.{is_break, is_nb, is_ns, is_white, is_flow_indicator}
 use Rattle.yaml_text.specs.grammar.Separation.{Ctx, inner, separate}
@@ -34,53 +34,53 @@ IsTagged non_specific = ⊥
 IsTagged (full g) = IsTag g
 
 abbrev mutual
-  pub Spells : Marked → Type 0
-  Spells (alias n) = IsName n
+  pub Spells : SerialNode → Type 0
+  Spells (alias_at n) = IsName n
   Spells (scalar_at a g y x) = IsAnchor a × IsTagged g × (y ≡ double_quoted) × (is_utf8 x ≡ true)
   Spells (sequence_at a g b ts) = IsAnchor a × IsTagged g × (b ≡ true) × AllSpell ts
   Spells (mapping_at a g b ps) = IsAnchor a × IsTagged g × (b ≡ true) × PairsSpell ps
 
-  pub AllSpell : AllMarked → Type 0
-  AllSpell end_marks = Unit {0}
-  AllSpell (item_mark t ts) = Spells t × AllSpell ts
+  pub AllSpell : SerialNodes → Type 0
+  AllSpell end_serial = Unit {0}
+  AllSpell (item_serial t ts) = Spells t × AllSpell ts
 
-  pub PairsSpell : MarkedPairs → Type 0
-  PairsSpell done_marks = Unit {0}
-  PairsSpell (entry_marks k v ps) = Spells k × Spells v × PairsSpell ps
+  pub PairsSpell : SerialPairs → Type 0
+  PairsSpell done_serial = Unit {0}
+  PairsSpell (entry_serial k v ps) = Spells k × Spells v × PairsSpell ps
 
 -- how many collections are open at most
 abbrev mutual
-  pub depth : Marked → ℕ
-  depth (alias n) = 0
+  pub depth : SerialNode → ℕ
+  depth (alias_at n) = 0
   depth (scalar_at a g y x) = 0
   depth (sequence_at a g b ts) = suc (depths ts)
   depth (mapping_at a g b ps) = suc (pairs_depth ps)
 
-  pub depths : AllMarked → ℕ
-  depths end_marks = 0
-  depths (item_mark t ts) = max (depth t) (depths ts)
+  pub depths : SerialNodes → ℕ
+  depths end_serial = 0
+  depths (item_serial t ts) = max (depth t) (depths ts)
 
-  pub pairs_depth : MarkedPairs → ℕ
-  pairs_depth done_marks = 0
-  pairs_depth (entry_marks k v ps) = max (max (depth k) (depth v)) (pairs_depth ps)
+  pub pairs_depth : SerialPairs → ℕ
+  pairs_depth done_serial = 0
+  pairs_depth (entry_serial k v ps) = max (max (depth k) (depth v)) (pairs_depth ps)
 
 -- the events of nodes, one after another
 mutual
   unfolding flat
 
-  pub flat_more : (t : Marked) (r s : List Event) → flat t (r ++ s) ≡ flat t r ++ s
-  flat_more (alias n) r s = refl
+  pub flat_more : (t : SerialNode) (r s : List Event) → flat t (r ++ s) ≡ flat t r ++ s
+  flat_more (alias_at n) r s = refl
   flat_more (scalar_at a g y x) r s = refl
   flat_more (sequence_at a g b ts) r s = ap (λ z. sequence_start b a g ∷ z) (all_more ts (sequence_end ∷ r) s)
   flat_more (mapping_at a g b ps) r s = ap (λ z. mapping_start b a g ∷ z) (pairs_more ps (mapping_end ∷ r) s)
 
-  pub all_more : (ts : AllMarked) (r s : List Event) → flat_all ts (r ++ s) ≡ flat_all ts r ++ s
-  all_more end_marks r s = refl
-  all_more (item_mark t ts) r s = ap (flat t) (all_more ts r s) ∙ flat_more t (flat_all ts r) s
+  pub all_more : (ts : SerialNodes) (r s : List Event) → flat_all ts (r ++ s) ≡ flat_all ts r ++ s
+  all_more end_serial r s = refl
+  all_more (item_serial t ts) r s = ap (flat t) (all_more ts r s) ∙ flat_more t (flat_all ts r) s
 
-  pub pairs_more : (ps : MarkedPairs) (r s : List Event) → flat_pairs ps (r ++ s) ≡ flat_pairs ps r ++ s
-  pairs_more done_marks r s = refl
-  pairs_more (entry_marks k v ps) r s = ap (λ z. flat k (flat v z)) (pairs_more ps r s) ∙ (ap (flat k) (flat_more v (flat_pairs ps r) s) ∙ flat_more k (flat v (flat_pairs ps r)) s)
+  pub pairs_more : (ps : SerialPairs) (r s : List Event) → flat_pairs ps (r ++ s) ≡ flat_pairs ps r ++ s
+  pairs_more done_serial r s = refl
+  pairs_more (entry_serial k v ps) r s = ap (λ z. flat k (flat v z)) (pairs_more ps r s) ∙ (ap (flat k) (flat_more v (flat_pairs ps r) s) ∙ flat_more k (flat v (flat_pairs ps r)) s)
 
 -- ---- names
 
@@ -122,8 +122,8 @@ digits_names : (ds : List ℕ) → AllBelowBase 10 ds → AreNames (map (λ d. 4
 digits_names [] h = tt
 digits_names (d ∷ ds) h = let l = h.0 in (omega arith, digit_names d l, digits_names ds h.1)
 
-name_names : (n : ℕ) → (0 < length (name_of n)) × AreNames (name_of n)
-unfolding name_of is_name is_flow_indicator is_ns is_nb is_break is_white
+name_names : (n : ℕ) → (0 < length (anchor_name n)) × AreNames (anchor_name n)
+unfolding anchor_name is_name is_flow_indicator is_ns is_nb is_break is_white
 name_names n = (omega arith, (omega arith, refl, digits_names (digits_of 10 n) (all_below_base_digits_of 10 n (omega arith))))
 
 names_ascii : (xs : List ℕ) → AreNames xs → IsAscii xs
@@ -136,10 +136,10 @@ names_pass [] n = tt
 names_pass (x ∷ xs) n = (n.1, names_pass xs n.2)
 
 chars_names : (x : List ℕ) → IsName x → (0 < length (chars x)) × Pass is_name (chars x)
-chars_names x n = subst (λ z. (0 < length z) × Pass is_name z) (sym (ap chars n.1 ∙ name_chars n.0)) ((name_names n.0).0, names_pass (name_of n.0) (name_names n.0).1)
+chars_names x n = subst (λ z. (0 < length z) × Pass is_name z) (sym (ap chars n.1 ∙ name_chars n.0)) ((name_names n.0).0, names_pass (anchor_name n.0) (name_names n.0).1)
 
 name_bytes : (x : List ℕ) → IsName x → encode_utf8_all (chars x) ≡ x
-name_bytes x n = encodes-chars x (subst IsUtf8 (sym n.1) (IsUtf8-from_ascii (name_of n.0) (names_ascii (name_of n.0) (name_names n.0).1)))
+name_bytes x n = encodes-chars x (subst IsUtf8 (sym n.1) (IsUtf8-from_ascii (anchor_name n.0) (names_ascii (anchor_name n.0) (name_names n.0).1)))
 
 module _ (cs : List ℕ) where
   -- ---- names, properties, scalars
@@ -267,25 +267,25 @@ module _ (cs : List ℕ) where
   as_mapping room n c i k j o g es a f d = (k, props_of o g, a, inr (inr (inr (tt, (es, (k + 1, (k + 1, (f, refl), inl refl), d), refl)))))
 
   -- wherever it stands, and whatever follows
-  abbrev Read : Marked → ℕ → ℕ → Ctx → Type 0
-  Read t room n c = (i : ℕ) (r : List ℕ) → Stops r → At cs i (text t r) → (j : ℕ) × Node room n c i j (flat t []) × At cs j r
+  abbrev Read : SerialNode → ℕ → ℕ → Ctx → Type 0
+  Read t room n c = (i : ℕ) (r : List ℕ) → Stops r → At cs i (node_text t r) → (j : ℕ) × Node room n c i j (flat t []) × At cs j r
 
-  entry_read : (k v : Marked) (room n : ℕ) (c : Ctx) (i : ℕ) (r : List ℕ) → Read k room n c → Read v room n c → Stops r → At cs i (text k (32 ∷ 58 ∷ 32 ∷ text v r))
+  entry_read : (k v : SerialNode) (room n : ℕ) (c : Ctx) (i : ℕ) (r : List ℕ) → Read k room n c → Read v room n c → Stops r → At cs i (node_text k (32 ∷ 58 ∷ 32 ∷ node_text v r))
       → (j : ℕ) × entries_of room n c i j (flat k (flat v [])) × At cs j r
   entry_read k v room n c i r f g s a =
-      let d = f i (32 ∷ 58 ∷ 32 ∷ text v r) space_ends a in
-      let n1 = at_next cs d.0 32 (58 ∷ 32 ∷ text v r) d.2 in
-      let n2 = at_next cs (d.0 + 1) 58 (32 ∷ text v r) n1 in
-      let n3 = at_next cs (d.0 + 1 + 1) 32 (text v r) n2 in
+      let d = f i (32 ∷ 58 ∷ 32 ∷ node_text v r) space_ends a in
+      let n1 = at_next cs d.0 32 (58 ∷ 32 ∷ node_text v r) d.2 in
+      let n2 = at_next cs (d.0 + 1) 58 (32 ∷ node_text v r) n1 in
+      let n3 = at_next cs (d.0 + 1 + 1) 32 (node_text v r) n2 in
       let w = g (d.0 + 1 + 1 + 1) r s n3 in
-      let e = entry_read_at room n c i d.0 w.0 (flat k []) (flat v []) d.1 (at_get cs d.0 32 (58 ∷ 32 ∷ text v r) d.2) (at_get cs (d.0 + 1) 58 (32 ∷ text v r) n1) (at_get cs (d.0 + 1 + 1) 32 (text v r) n2) w.1 in
+      let e = entry_read_at room n c i d.0 w.0 (flat k []) (flat v []) d.1 (at_get cs d.0 32 (58 ∷ 32 ∷ node_text v r) d.2) (at_get cs (d.0 + 1) 58 (32 ∷ node_text v r) n1) (at_get cs (d.0 + 1 + 1) 32 (node_text v r) n2) w.1 in
       (w.0, subst (entries_of room n c i w.0) (sym (flat_more k [] (flat v []))) e, w.2)
 
   mutual
-    unfolding text flat
+    unfolding node_text flat
 
-    pub node_read : (t : Marked) (room n : ℕ) (c : Ctx) (i : ℕ) (r : List ℕ) → Spells t → depth t ≤ room → Stops r → At cs i (text t r) → (j : ℕ) × Node room n c i j (flat t []) × At cs j r
-    node_read (alias x) room n c i r p l s a = let d = alias_read x i r p s a in (d.0, inl (as_alias room n c i d.0 (alias_event x ∷ []) d.1), d.2)
+    pub node_read : (t : SerialNode) (room n : ℕ) (c : Ctx) (i : ℕ) (r : List ℕ) → Spells t → depth t ≤ room → Stops r → At cs i (node_text t r) → (j : ℕ) × Node room n c i j (flat t []) × At cs j r
+    node_read (alias_at x) room n c i r p l s a = let d = alias_read x i r p s a in (d.0, inl (as_alias room n c i d.0 (alias_event x ∷ []) d.1), d.2)
     node_read (scalar_at o g y x) room n c i r p l s a =
         let d = props_read o g n c i (34 ∷ quoted (chars x) r) p.0 p.1 a in
         let e = double_read cs x n c d.0 r p.3 d.2 in
@@ -306,19 +306,19 @@ module _ (cs : List ℕ) where
         let w = as_mapping room n c i d.0 m.0 o g (flat_pairs ps []) d.1 (at_get cs d.0 123 t d.2) m.1 in
         (m.0, inr (subst (reads cs (Unit {0}) [] (suc room) (json_part n c) i m.0) (λ z. mapping_start (sym p.2 z) o g ∷ sym (pairs_more ps [] (mapping_end ∷ [])) z) w), m.2)
 
-    items : (ts : AllMarked) (room n : ℕ) (c b : Ctx) (i : ℕ) (r : List ℕ) → AllSpell ts → depths ts ≤ room → At cs i (items_text [] ts r)
+    items : (ts : SerialNodes) (room n : ℕ) (c b : Ctx) (i : ℕ) (r : List ℕ) → AllSpell ts → depths ts ≤ room → At cs i (items_text [] ts r)
         → (j : ℕ) × parts 93 n b (items_of room n c) i j (flat_all ts []) × At cs j r
-    items end_marks room n c b i r p l a = (i + 1, no_part 93 n b (items_of room n c) i (at_get cs i 93 r a), at_next cs i 93 r a)
-    items (item_mark t ts) room n c b i r p l a = more_items ts t room n c b i r (λ k q s x. node_read t room n c k q p.0 (omega arith) s x) p.1 (omega arith) a
+    items end_serial room n c b i r p l a = (i + 1, no_part 93 n b (items_of room n c) i (at_get cs i 93 r a), at_next cs i 93 r a)
+    items (item_serial t ts) room n c b i r p l a = more_items ts t room n c b i r (λ k q s x. node_read t room n c k q p.0 (omega arith) s x) p.1 (omega arith) a
 
     -- an item, and those after it
-    more_items : (ts : AllMarked) (t : Marked) (room n : ℕ) (c b : Ctx) (i : ℕ) (r : List ℕ) → Read t room n c → AllSpell ts → depths ts ≤ room → At cs i (text t (items_text (44 ∷ 32 ∷ []) ts r))
+    more_items : (ts : SerialNodes) (t : SerialNode) (room n : ℕ) (c b : Ctx) (i : ℕ) (r : List ℕ) → Read t room n c → AllSpell ts → depths ts ≤ room → At cs i (node_text t (items_text (44 ∷ 32 ∷ []) ts r))
         → (j : ℕ) × parts 93 n b (items_of room n c) i j (flat t (flat_all ts [])) × At cs j r
-    more_items end_marks t room n c b i r read p l a =
+    more_items end_serial t room n c b i r read p l a =
         let d = read i (93 ∷ r) bracket_stops a in
         (d.0 + 1, last_part 93 n b (items_of room n c) i d.0 (flat t []) (inr d.1) (at_get cs d.0 93 r d.2), at_next cs d.0 93 r d.2)
-    more_items (item_mark u us) t room n c b i r read p l a =
-        let rest : List ℕ = text u (items_text (44 ∷ 32 ∷ []) us r) in
+    more_items (item_serial u us) t room n c b i r read p l a =
+        let rest : List ℕ = node_text u (items_text (44 ∷ 32 ∷ []) us r) in
         let d = read i (44 ∷ 32 ∷ rest) comma_stops a in
         let n1 = at_next cs d.0 44 (32 ∷ rest) d.2 in
         let k : ℕ = d.0 + 1 in
@@ -327,21 +327,21 @@ module _ (cs : List ℕ) where
         let w = one_more 93 n b (items_of room n c) i d.0 m.0 (flat t []) es (inr d.1) (at_get cs d.0 44 (32 ∷ rest) d.2) (at_get cs k 32 rest n1) m.1 in
         (m.0, subst (parts 93 n b (items_of room n c) i m.0) (sym (flat_more t [] es)) w, m.2)
 
-    pairs : (ps : MarkedPairs) (room n : ℕ) (c b : Ctx) (i : ℕ) (r : List ℕ) → PairsSpell ps → pairs_depth ps ≤ room → At cs i (pairs_text [] ps r)
+    pairs : (ps : SerialPairs) (room n : ℕ) (c b : Ctx) (i : ℕ) (r : List ℕ) → PairsSpell ps → pairs_depth ps ≤ room → At cs i (pairs_text [] ps r)
         → (j : ℕ) × parts 125 n b (entries_of room n c) i j (flat_pairs ps []) × At cs j r
-    pairs done_marks room n c b i r p l a = (i + 1, no_part 125 n b (entries_of room n c) i (at_get cs i 125 r a), at_next cs i 125 r a)
-    pairs (entry_marks k v ps) room n c b i r p l a =
+    pairs done_serial room n c b i r p l a = (i + 1, no_part 125 n b (entries_of room n c) i (at_get cs i 125 r a), at_next cs i 125 r a)
+    pairs (entry_serial k v ps) room n c b i r p l a =
         more_pairs ps k v room n c b i r (λ x q s y. node_read k room n c x q p.0 (omega arith) s y) (λ x q s y. node_read v room n c x q p.1 (omega arith) s y) p.2 (omega arith) a
 
     -- an entry, and those after it
-    more_pairs : (ps : MarkedPairs) (k v : Marked) (room n : ℕ) (c b : Ctx) (i : ℕ) (r : List ℕ) → Read k room n c → Read v room n c → PairsSpell ps → pairs_depth ps ≤ room
-        → At cs i (text k (32 ∷ 58 ∷ 32 ∷ text v (pairs_text (44 ∷ 32 ∷ []) ps r)))
+    more_pairs : (ps : SerialPairs) (k v : SerialNode) (room n : ℕ) (c b : Ctx) (i : ℕ) (r : List ℕ) → Read k room n c → Read v room n c → PairsSpell ps → pairs_depth ps ≤ room
+        → At cs i (node_text k (32 ∷ 58 ∷ 32 ∷ node_text v (pairs_text (44 ∷ 32 ∷ []) ps r)))
         → (j : ℕ) × parts 125 n b (entries_of room n c) i j (flat k (flat v (flat_pairs ps []))) × At cs j r
-    more_pairs done_marks k v room n c b i r key value p l a =
+    more_pairs done_serial k v room n c b i r key value p l a =
         let d = entry_read k v room n c i (125 ∷ r) key value brace_stops a in
         (d.0 + 1, last_part 125 n b (entries_of room n c) i d.0 (flat k (flat v [])) d.1 (at_get cs d.0 125 r d.2), at_next cs d.0 125 r d.2)
-    more_pairs (entry_marks x w qs) k v room n c b i r key value p l a =
-        let rest : List ℕ = text x (32 ∷ 58 ∷ 32 ∷ text w (pairs_text (44 ∷ 32 ∷ []) qs r)) in
+    more_pairs (entry_serial x w qs) k v room n c b i r key value p l a =
+        let rest : List ℕ = node_text x (32 ∷ 58 ∷ 32 ∷ node_text w (pairs_text (44 ∷ 32 ∷ []) qs r)) in
         let d = entry_read k v room n c i (44 ∷ 32 ∷ rest) key value comma_stops a in
         let n1 = at_next cs d.0 44 (32 ∷ rest) d.2 in
         let q : ℕ = d.0 + 1 in

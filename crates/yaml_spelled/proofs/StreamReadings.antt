@@ -3,13 +3,13 @@ use Rattle.std.proofs.Common.{◌≡◌, ℕ, zero, suc, ◌+◌, ◌≤◌, tru
 use Rattle.yaml_text.specs.Limits.{open_limit}
 use Rattle.yaml_text.specs.Tree.{Tree}
 use Rattle.yaml_text.specs.Event.{Event, stream_start, stream_end, document_start, document_end}
-use Rattle.yaml_text.specs.Marked.{Marked, flat, documents_events, stream_events}
-use Rattle.yaml_text.specs.NodeText.{text}
-use Rattle.yaml_text.specs.Spell.{marks_of, spell, spelled, document_of}
+use Rattle.yaml_text.specs.Serial.{SerialNode, flat, documents_events, stream_events}
+use Rattle.yaml_text.specs.NodeText.{node_text}
+use Rattle.yaml_text.specs.Spell.{serial_of, spell, spelled, document_of}
 use Rattle.yaml_text.specs.Proper.{AreAdmitted}
 use Rattle.yaml_text.specs.grammar.Rules.{Rule, Any, done, then, Spans, word, Stands, ◌▸◌, ◌⨾◌, ◌∪◌, gives, optional, any_one, any_span}
 use Rattle.yaml_text.specs.grammar.Characters.{is_white}
-use Rattle.yaml_text.specs.grammar.Separation.{Ctx, block_in, flow_out, separate, s_l_comments, l_comment, MarkOf, StartsLine, Unmarked}
+use Rattle.yaml_text.specs.grammar.Separation.{Ctx, block_in, flow_out, separate, s_l_comments, l_comment, DocumentMarkOf, StartsLine, Unmarked}
 use Rattle.yaml_text.specs.grammar.Nodes.{block_part, block_node, flow_node, reads}
 use Rattle.yaml_text.specs.grammar.Streams as grammar
 use Rattle.yaml_text.specs.grammar.Streams.{Piece, document_piece, piece_events, ends_explicitly, document_mark, bare_document, explicit_document, explicit_piece, any_document, suffix, stream, ReadsText}
@@ -32,11 +32,11 @@ module _ (cs : List ℕ) where
   flow_block (suc room) n c i k m j es s (inr d) t = inl (k, s, (m, inr d, t))
 
   -- a node in flow style and the end of its line, after a space
-  pub flow_line : (t : Marked) (room n : ℕ) (c : Ctx) (i : ℕ) (r : List ℕ) → Spells t → depth t ≤ room → At cs i (32 ∷ text t (10 ∷ r))
+  pub flow_line : (t : SerialNode) (room n : ℕ) (c : Ctx) (i : ℕ) (r : List ℕ) → Spells t → depth t ≤ room → At cs i (32 ∷ node_text t (10 ∷ r))
       → (j : ℕ) × reads cs (Unit {0}) [] room (block_part n c) i j (flat t []) × At cs j r × Unmarked cs (i + 1) j × StartsLine cs j
   flow_line t room n c i r p l a =
-      let e = at_get cs i 32 (text t (10 ∷ r)) a in
-      let b = at_next cs i 32 (text t (10 ∷ r)) a in
+      let e = at_get cs i 32 (node_text t (10 ∷ r)) a in
+      let b = at_next cs i 32 (node_text t (10 ∷ r)) a in
       let d = node_read cs t room n flow_out (i + 1) (10 ∷ r) p l feed_stops b in
       let o = text_over cs t (i + 1) d.0 (10 ∷ r) p b d.2 in
       let calm : Calm cs (i + 1) = calm_after cs i 32 e (a_nb 32 (omega arith)) in
@@ -49,7 +49,7 @@ module _ (cs : List ℕ) where
   -- `---` and what is read after it
   pub explicit_read : (i : ℕ) (r : List ℕ) (j : ℕ) (es : List Event) → StartsLine cs i → At cs i (45 ∷ 45 ∷ 45 ∷ 32 ∷ r)
       → reads cs (Unit {0}) [] open_limit (block_part 0 block_in) (i + 1 + 1 + 1) j es → Unmarked cs (i + 1 + 1 + 1 + 1) j → explicit_document cs (Unit {0}) open_limit [] i j es
-  unfolding explicit_document bare_document document_mark MarkOf is_white
+  unfolding explicit_document bare_document document_mark DocumentMarkOf is_white
   explicit_read i r j es s a d u =
       let a1 = at_next cs i 45 (45 ∷ 45 ∷ 32 ∷ r) a in
       let a2 = at_next cs (i + 1) 45 (45 ∷ 32 ∷ r) a1 in
@@ -60,7 +60,7 @@ module _ (cs : List ℕ) where
       let w : word cs (45 ∷ 45 ∷ 45 ∷ []) i k = (i + 1, (at_get cs i 45 _ a, refl), (i + 1 + 1, (at_get cs (i + 1) 45 _ a1, refl), (k, (e2, refl), refl))) in
       let q : k ≡ i + 3 = omega arith in
       let white : Stands cs is_white (i + 3) = (32, subst (λ z. slice_get cs z ≡ Some 32) q e3, refl) in
-      let mark : MarkOf cs 45 i = (s, (k, w), inl white) in
+      let mark : DocumentMarkOf cs 45 i = (s, (k, w), inl white) in
       let calm : Calm cs k = calm_after cs (i + 1 + 1) 45 e2 (a_nb 45 (omega arith)) in
       let all : Unmarked cs k j = both k j calm e3 u in
       (k, (i, (refl, mark), w), inl (all, d))
@@ -70,7 +70,7 @@ module _ (cs : List ℕ) where
           let one = rest_unmarked cs k k calm (omega arith, λ m x y. absurd (let z : ⊥ = omega (arith, x, y) in z)) in
           λ m x y h. elim (below_or_not cs m (k + 1)) [ inl f ↦ one m x f h | inr f ↦ u m f y h ]
 
-  module _ (root : Tree → Marked) where
+  module _ (root : Tree → SerialNode) where
     -- documents with these roots stand from the place on, up to the end
     abbrev pub Documents : List Tree → ℕ → Type 0
     Documents [] i = i ≡ length cs
@@ -80,11 +80,11 @@ module _ (cs : List ℕ) where
   abbrev Later : Rule (List Piece)
   Later = (any_one (suffix cs (Unit {0}) open_limit) ⨾ (any_span (l_comment cs) ▸ optional (any_document cs (Unit {0}) open_limit))) ∪ explicit_piece cs (Unit {0}) open_limit ∪ (l_comment cs ▸ gives [])
 
-  abbrev Pieces : (Tree → Marked) → List Tree → ℕ → Type 0
+  abbrev Pieces : (Tree → SerialNode) → List Tree → ℕ → Type 0
   Pieces root f i = (ps : List Piece) × Any Later (length cs) i ps × (ends_explicitly ps ≡ false)
       × ((more : List Event) → piece_events ps ++ more ≡ documents_events (map (λ t. document_of (root t)) f) more)
 
-  many : (root : Tree → Marked) (f : List Tree) (i : ℕ) → Documents root f i → Pieces root f i
+  many : (root : Tree → SerialNode) (f : List Tree) (i : ℕ) → Documents root f i → Pieces root f i
   unfolding piece_events ends_explicitly
   many root [] i e = ([], done (sym e) refl, refl, λ more. refl)
   many root (t ∷ f) i (j, d, h) =
@@ -97,23 +97,23 @@ module _ (cs : List ℕ) where
             ∙ sym (flat_more (root t) [] (document_end false ∷ documents_events (map (λ t. document_of (root t)) f) more))),
       )
 
-  pub stream_read : (root : Tree → Marked) (f : List Tree) → Documents root f 0 → ReadsText cs (Unit {0}) open_limit (stream_events (map (λ t. document_of (root t)) f))
-  unfolding ReadsText stream stream_events grammar.stream_events
+  pub stream_read : (root : Tree → SerialNode) (f : List Tree) → Documents root f 0 → ReadsText cs (Unit {0}) open_limit (stream_events (map (λ t. document_of (root t)) f))
+  unfolding ReadsText stream stream_events grammar.stream_of_pieces
   stream_read root f h =
       let (ps, rest, q, w) = many root f 0 h in
       (ps, (0, [], ps, (0, Spans.done refl, inl (refl, refl)), rest, refl), ap (λ z. stream_start ∷ z) (sym (w (stream_end ∷ []))))
 
   -- ---- canonical text
 
-  forest_read : (f : List Tree) (i : ℕ) → AreAdmitted f → StartsLine cs i → At cs i (spell f) → Documents marks_of f i
+  forest_read : (f : List Tree) (i : ℕ) → AreAdmitted f → StartsLine cs i → At cs i (spell f) → Documents serial_of f i
   unfolding spell
   forest_read [] i p s a = at_end cs i a
   forest_read (t ∷ f) i p s a =
-      let r : List ℕ = text (marks_of t) (10 ∷ spell f) in
+      let r : List ℕ = node_text (serial_of t) (10 ∷ spell f) in
       let a3 = at_next cs (i + 1 + 1) 45 (32 ∷ r) (at_next cs (i + 1) 45 (45 ∷ 32 ∷ r) (at_next cs i 45 (45 ∷ 45 ∷ 32 ∷ r) a)) in
-      let d = flow_line (marks_of t) open_limit 0 block_in (i + 1 + 1 + 1) (spell f) (spells_tree t p.0) (depth_tree t p.0) a3 in
-      (d.0, explicit_read i r d.0 (flat (marks_of t) []) s a d.1 d.3, forest_read f d.0 p.1 d.4 d.2)
+      let d = flow_line (serial_of t) open_limit 0 block_in (i + 1 + 1 + 1) (spell f) (spells_tree t p.0) (depth_tree t p.0) a3 in
+      (d.0, explicit_read i r d.0 (flat (serial_of t) []) s a d.1 d.3, forest_read f d.0 p.1 d.4 d.2)
 
 pub spellings_are_read : SpellingsAreRead
 unfolding Reads spelled StartsLine
-spellings_are_read f a = let cs : List ℕ = spell f in (cs, spelled_text f a, stream_read cs marks_of f (forest_read cs f 0 a.trees (inl refl) (refl, omega arith)))
+spellings_are_read f a = let cs : List ℕ = spell f in (cs, spelled_text f a, stream_read cs serial_of f (forest_read cs f 0 a.trees (inl refl) (refl, omega arith)))

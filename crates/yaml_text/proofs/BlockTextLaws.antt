@@ -5,10 +5,10 @@ use Rattle.yaml_text.specs.Tree.{Tree}
 use Rattle.yaml_text.specs.Order.{arranged}
 use Rattle.yaml_text.specs.Walk.{walk, agains}
 use Rattle.yaml_text.specs.Event.{Anchor, WrittenTag}
-use Rattle.yaml_text.specs.Marked.{Marked, AllMarked, MarkedPairs, alias, scalar_at, sequence_at, mapping_at, end_marks, item_mark, done_marks, entry_marks}
+use Rattle.yaml_text.specs.Serial.{SerialNode, SerialNodes, SerialPairs, alias_at, scalar_at, sequence_at, mapping_at, end_serial, item_serial, done_serial, entry_serial}
 use Rattle.yaml_text.specs.TagText.{tag_text}
-use Rattle.yaml_text.specs.NodeText.{anchor_text, text}
-use Rattle.yaml_text.specs.Spell.{short, marks_of}
+use Rattle.yaml_text.specs.NodeText.{anchor_text, node_text}
+use Rattle.yaml_text.specs.Spell.{short, serial_of}
 use Rattle.yaml_text.specs.Block.{in_block, items_in_block, pairs_in_block, spaces, line, item_lines, pair_lines, block, block_bytes}
 use Rattle.yaml_text.specs.Text.{mark_len}
 use Rattle.yaml_text.specs.Proper.{AreAdmitted}
@@ -34,37 +34,37 @@ start_good a g r p m h = anchor_good a (tag_text g ++ (10 ∷ r)) p (join (tag_t
 item_good : (n : ℕ) (r : List ℕ) → Good r → Good (spaces n (45 ∷ 32 ∷ r))
 item_good n r h = spaces_good n (45 ∷ 32 ∷ r) (a_good 45 (omega arith) (omega arith), (space_good, h))
 
-pair_good : (n : ℕ) (k : Marked) (r : List ℕ) → IsFine k → Good r → Good (spaces n (text k (32 ∷ 58 ∷ 32 ∷ r)))
-pair_good n k r f h = spaces_good n (text k (32 ∷ 58 ∷ 32 ∷ r)) (text_good k (32 ∷ 58 ∷ 32 ∷ r) f (space_good, (a_good 58 (omega arith) (omega arith), (space_good, h))))
+pair_good : (n : ℕ) (k : SerialNode) (r : List ℕ) → IsFine k → Good r → Good (spaces n (node_text k (32 ∷ 58 ∷ 32 ∷ r)))
+pair_good n k r f h = spaces_good n (node_text k (32 ∷ 58 ∷ 32 ∷ r)) (text_good k (32 ∷ 58 ∷ 32 ∷ r) f (space_good, (a_good 58 (omega arith) (omega arith), (space_good, h))))
 
 mutual
   unfolding line in_block
 
-  line_good : (n : ℕ) (m : Marked) (r : List ℕ) → IsFine m → Good r → Good (line n (in_block m) r)
-  line_good n (alias name) r f h = text_good (alias name) (10 ∷ r) f (break_good, h)
+  line_good : (n : ℕ) (m : SerialNode) (r : List ℕ) → IsFine m → Good r → Good (line n (in_block m) r)
+  line_good n (alias_at name) r f h = text_good (alias_at name) (10 ∷ r) f (break_good, h)
   line_good n (scalar_at a g y x) r f h = text_good (scalar_at a g y x) (10 ∷ r) f (break_good, h)
-  line_good n (sequence_at a g true end_marks) r f h = text_good (sequence_at a g true end_marks) (10 ∷ r) f (break_good, h)
-  line_good n (sequence_at a g false end_marks) r f h = absurd (cc f.2)
-  line_good n (sequence_at a g b (item_mark t ts)) r f h = start_good a g _ f.0 f.1 (item_good n _ (line_good (suc n) t _ f.3.0 (items_good n ts r f.3.1 h)))
-  line_good n (mapping_at a g true done_marks) r f h = text_good (mapping_at a g true done_marks) (10 ∷ r) f (break_good, h)
-  line_good n (mapping_at a g false done_marks) r f h = absurd (cc f.2)
-  line_good n (mapping_at a g b (entry_marks k v ps)) r f h = start_good a g _ f.0 f.1 (pair_good n k _ f.3.0 (line_good (suc n) v _ f.3.1 (pairs_good n ps r f.3.2 h)))
+  line_good n (sequence_at a g true end_serial) r f h = text_good (sequence_at a g true end_serial) (10 ∷ r) f (break_good, h)
+  line_good n (sequence_at a g false end_serial) r f h = absurd (cc f.2)
+  line_good n (sequence_at a g b (item_serial t ts)) r f h = start_good a g _ f.0 f.1 (item_good n _ (line_good (suc n) t _ f.3.0 (items_good n ts r f.3.1 h)))
+  line_good n (mapping_at a g true done_serial) r f h = text_good (mapping_at a g true done_serial) (10 ∷ r) f (break_good, h)
+  line_good n (mapping_at a g false done_serial) r f h = absurd (cc f.2)
+  line_good n (mapping_at a g b (entry_serial k v ps)) r f h = start_good a g _ f.0 f.1 (pair_good n k _ f.3.0 (line_good (suc n) v _ f.3.1 (pairs_good n ps r f.3.2 h)))
 
-  items_good : (n : ℕ) (ts : AllMarked) (r : List ℕ) → AreFine ts → Good r → Good (item_lines n (items_in_block ts) r)
-  items_good n end_marks r f h = h
-  items_good n (item_mark t ts) r f h = item_good n _ (line_good (suc n) t _ f.0 (items_good n ts r f.1 h))
+  items_good : (n : ℕ) (ts : SerialNodes) (r : List ℕ) → AreFine ts → Good r → Good (item_lines n (items_in_block ts) r)
+  items_good n end_serial r f h = h
+  items_good n (item_serial t ts) r f h = item_good n _ (line_good (suc n) t _ f.0 (items_good n ts r f.1 h))
 
-  pairs_good : (n : ℕ) (ps : MarkedPairs) (r : List ℕ) → ArePairsFine ps → Good r → Good (pair_lines n (pairs_in_block ps) r)
-  pairs_good n done_marks r f h = h
-  pairs_good n (entry_marks k v ps) r f h = pair_good n k _ f.0 (line_good (suc n) v _ f.1 (pairs_good n ps r f.2 h))
+  pairs_good : (n : ℕ) (ps : SerialPairs) (r : List ℕ) → ArePairsFine ps → Good r → Good (pair_lines n (pairs_in_block ps) r)
+  pairs_good n done_serial r f h = h
+  pairs_good n (entry_serial k v ps) r f h = pair_good n k _ f.0 (line_good (suc n) v _ f.1 (pairs_good n ps r f.2 h))
 
 forest_good : (f : List Tree) → AreAdmitted f → Good (block f)
-unfolding block marks_of
+unfolding block serial_of
 forest_good [] a = tt
 forest_good (t ∷ f) a =
     let d : good 45 ≡ true = a_good 45 (omega arith) (omega arith) in
     let m = fine_mark short (agains (walk short (arranged t) [])) (arranged t) [] (proper_arranged t a.0.proper) in
-    (d, (d, (d, (space_good, line_good 0 (marks_of t) (block f) m (forest_good f a.1)))))
+    (d, (d, (d, (space_good, line_good 0 (serial_of t) (block f) m (forest_good f a.1)))))
 
 unmarked : (f : List Tree) → mark_len (block_bytes f) ≡ 0
 unfolding block_bytes block encode_utf8

@@ -5,7 +5,7 @@ use Rattle.std.proofs.lemmas.Option.{slice_get_past}
 use Rattle.std.proofs.lemmas.Bool.{cases_lt, cases_eq}
 use Rattle.yaml_text.specs.grammar.Rules.{Span, Stands, Behind, run}
 use Rattle.yaml_text.specs.grammar.Characters.{is_white, is_ns, is_nb, is_break, is_space, brk}
-use Rattle.yaml_text.specs.grammar.Separation.{StartsLine, MarkOf, Mark, Unmarked, AtEnd, indent}
+use Rattle.yaml_text.specs.grammar.Separation.{StartsLine, DocumentMarkOf, DocumentMark, Unmarked, AtEnd, indent}
 use Rattle.yaml_text.specs.Lines.{line_brk, Dashes, DashesOf}
 use Rattle.yaml_text.proofs.Repeats.{SameEnd}
 use Rattle.yaml_text.proofs.Runs.{same_char, run_none, run_more, no_stand, no_stand_end}
@@ -230,13 +230,13 @@ module _ (cs : List ℕ) where
       let w = f (pred j) d e in
       inside_line (pred j) j (omega (arith, l)) (λ h. no_stand cs is_white (pred j) 10 h break_no_white w) (λ h. no_stand cs is_white (pred j) 13 h return_no_white w) s
 
-  pub mark_starts : (i : ℕ) → Mark cs i → StartsLine cs i
-  unfolding Mark MarkOf
+  pub mark_starts : (i : ℕ) → DocumentMark cs i → StartsLine cs i
+  unfolding DocumentMark DocumentMarkOf
   mark_starts i (inl m) = m.0
   mark_starts i (inr m) = m.0
 
-  pub mark_dashes_of : (c i : ℕ) → MarkOf cs c i → DashesOf cs c i
-  unfolding MarkOf
+  pub mark_dashes_of : (c i : ℕ) → DocumentMarkOf cs c i → DashesOf cs c i
+  unfolding DocumentMarkOf
   mark_dashes_of c i (s, (j, (k, (h, e), (l, (g, f), (m, (d, t), u)))), after) =
       (h, subst (λ x. slice_get cs x ≡ Some c) e g, subst (λ x. slice_get cs x ≡ Some c) (let q : l ≡ i + 2 = omega (arith, e, f) in q) d, ends after)
     where
@@ -245,18 +245,18 @@ module _ (cs : List ℕ) where
       ends (inr (inl b)) s = ns_no_break (i + 3) s b
       ends (inr (inr e)) s = no_stand_end cs is_ns (i + 3) (slice_get_past cs (i + 3) (omega (arith, e))) s
 
-  pub mark_is_of : (c i : ℕ) → StartsLine cs i → DashesOf cs c i → MarkOf cs c i
-  unfolding MarkOf
+  pub mark_is_of : (c i : ℕ) → StartsLine cs i → DashesOf cs c i → DocumentMarkOf cs c i
+  unfolding DocumentMarkOf
   mark_is_of c i s (h, g, d, none) =
       (s, (i + 3, (i + 1, (h, refl), (i + 2, (g, omega arith), (i + 3, (d, omega arith), refl)))), after_is (i + 3) (let l = slice_get_within cs (i + 2) c d in omega (arith, l)) none)
 
-  pub mark_dashes : (i : ℕ) → Mark cs i → Dashes cs i
-  unfolding Mark
+  pub mark_dashes : (i : ℕ) → DocumentMark cs i → Dashes cs i
+  unfolding DocumentMark
   mark_dashes i (inl m) = inl (mark_dashes_of 45 i m)
   mark_dashes i (inr m) = inr (mark_dashes_of 46 i m)
 
-  pub mark_is : (i : ℕ) → StartsLine cs i → Dashes cs i → Mark cs i
-  unfolding Mark
+  pub mark_is : (i : ℕ) → StartsLine cs i → Dashes cs i → DocumentMark cs i
+  unfolding DocumentMark
   mark_is i s (inl d) = inl (mark_is_of 45 i s d)
   mark_is i s (inr d) = inr (mark_is_of 46 i s d)
 
@@ -300,7 +300,7 @@ module _ (cs : List ℕ) where
   unfolding is_ns is_nb is_break is_white
   dot_ns = refl
 
-  pub mark_ns : (i : ℕ) → Mark cs i → Ns i
+  pub mark_ns : (i : ℕ) → DocumentMark cs i → Ns i
   mark_ns i m = go (mark_dashes i m)
     where
       go : Dashes cs i → Ns i
@@ -313,16 +313,16 @@ module _ (cs : List ℕ) where
   pub unmarked_join : (i k j : ℕ) → Unmarked cs i k → Unmarked cs k j → Unmarked cs i j
   unmarked_join i k j f g m a b = go (f m a) (λ h. g m h b)
     where
-      go : (m < k → Mark cs m → ⊥) → (k ≤ m → Mark cs m → ⊥) → Mark cs m → ⊥
+      go : (m < k → DocumentMark cs m → ⊥) → (k ≤ m → DocumentMark cs m → ⊥) → DocumentMark cs m → ⊥
       go f g s = elim (cases_lt m k) [ inl h ↦ f h s | inr h ↦ g h s ]
 
-  pub unmarked_one : (i j : ℕ) → j ≡ i + 1 → (Mark cs i → ⊥) → Unmarked cs i j
-  unmarked_one i j e n k a b = subst (λ x. Mark cs x → ⊥) (let f : i ≡ k = omega (arith, a, b, e) in f) n
+  pub unmarked_one : (i j : ℕ) → j ≡ i + 1 → (DocumentMark cs i → ⊥) → Unmarked cs i j
+  unmarked_one i j e n k a b = subst (λ x. DocumentMark cs x → ⊥) (let f : i ≡ k = omega (arith, a, b, e) in f) n
 
   -- the place just after a character of text
   abbrev pub AfterNs : ℕ → Type 0
   AfterNs j = (i : ℕ) × (j ≡ i + 1) × Ns i
 
-  pub after_ns : (j : ℕ) → AfterNs j → Mark cs j → ⊥
+  pub after_ns : (j : ℕ) → AfterNs j → DocumentMark cs j → ⊥
   after_ns j (i, e, s) m =
       inside_line i j e (λ h. no_stand cs is_ns i 10 h break_no_ns s) (λ h. no_stand cs is_ns i 13 h return_no_ns s) (mark_starts j m)

@@ -14,7 +14,7 @@ use Rattle.yaml_text.specs.Tag.{is_full, IsTag}
 use Rattle.yaml_text.specs.grammar.Characters.{is_uri, is_word, is_nb, is_break, is_white, is_ns}
 use Rattle.yaml_text.specs.grammar.Tags.{is_name}
 use Rattle.yaml_text.specs.Event.{Style, plain, single, double, literal, folded, WrittenTag, untagged, non_specific, full, Anchor, Event, stream_start, stream_end, document_start, document_end, sequence_start, sequence_end, mapping_start, mapping_end, scalar_event, alias_event}
-use Rattle.yaml_text.specs.Marked.{Marked, AllMarked, MarkedPairs, alias, scalar_at, sequence_at, mapping_at, end_marks, item_mark, done_marks, entry_marks, flat, flat_all, flat_pairs, Document, documents_events, stream_events}
+use Rattle.yaml_text.specs.Serial.{SerialNode, SerialNodes, SerialPairs, alias_at, scalar_at, sequence_at, mapping_at, end_serial, item_serial, done_serial, entry_serial, flat, flat_all, flat_pairs, Document, documents_events, stream_events}
 use Rattle.yaml_text.specs.TagText.{spell_byte, encoded}
 use Rattle.yaml_text.specs.Text.{is_text}
 use Rattle.yaml_text.specs.Sound.{SoundTag, is_anchor_char, is_anchor, IsAnchor, SoundAnchor, Sound, AllSound, PairsSound, DocumentsSound}
@@ -365,19 +365,19 @@ first = All-cons IsSound
 mutual
   unfolding flat
 
-  node_sound : (m : Marked) (more : List Event) → Sound m → All IsSound more → All IsSound (flat m more)
-  node_sound (alias name) more s h = first (alias_event name) more s h
+  node_sound : (m : SerialNode) (more : List Event) → Sound m → All IsSound more → All IsSound (flat m more)
+  node_sound (alias_at name) more s h = first (alias_event name) more s h
   node_sound (scalar_at a g y x) more s h = first (scalar_event a g y x) more s h
   node_sound (sequence_at a g b ts) more s h = first (sequence_start b a g) _ (s.0, s.1) (items_sound ts (sequence_end ∷ more) s.2 (first sequence_end more tt h))
   node_sound (mapping_at a g b ps) more s h = first (mapping_start b a g) _ (s.0, s.1) (pairs_sound ps (mapping_end ∷ more) s.2 (first mapping_end more tt h))
 
-  items_sound : (ts : AllMarked) (more : List Event) → AllSound ts → All IsSound more → All IsSound (flat_all ts more)
-  items_sound end_marks more s h = h
-  items_sound (item_mark t ts) more s h = node_sound t (flat_all ts more) s.0 (items_sound ts more s.1 h)
+  items_sound : (ts : SerialNodes) (more : List Event) → AllSound ts → All IsSound more → All IsSound (flat_all ts more)
+  items_sound end_serial more s h = h
+  items_sound (item_serial t ts) more s h = node_sound t (flat_all ts more) s.0 (items_sound ts more s.1 h)
 
-  pairs_sound : (ps : MarkedPairs) (more : List Event) → PairsSound ps → All IsSound more → All IsSound (flat_pairs ps more)
-  pairs_sound done_marks more s h = h
-  pairs_sound (entry_marks k v ps) more s h = node_sound k (flat v (flat_pairs ps more)) s.0 (node_sound v (flat_pairs ps more) s.1 (pairs_sound ps more s.2 h))
+  pairs_sound : (ps : SerialPairs) (more : List Event) → PairsSound ps → All IsSound more → All IsSound (flat_pairs ps more)
+  pairs_sound done_serial more s h = h
+  pairs_sound (entry_serial k v ps) more s h = node_sound k (flat v (flat_pairs ps more)) s.0 (node_sound v (flat_pairs ps more) s.1 (pairs_sound ps more s.2 h))
 
 documents_sound : (ds : List Document) (more : List Event) → DocumentsSound ds → All IsSound more → All IsSound (documents_events ds more)
 documents_sound [] more s h = h

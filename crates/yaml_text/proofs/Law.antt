@@ -8,33 +8,33 @@ use Rattle.yaml_text.specs.Tree.{Tree}
 use Rattle.yaml_text.specs.Order.{arranged}
 use Rattle.yaml_text.specs.Same.{same, Keyed}
 use Rattle.yaml_text.specs.Walk.{walk, agains}
-use Rattle.yaml_text.specs.NodeText.{text}
-use Rattle.yaml_text.specs.Spell.{short, marks_of_arranged, marks_of, spell, spell_bytes, spelled, document_of}
+use Rattle.yaml_text.specs.NodeText.{node_text}
+use Rattle.yaml_text.specs.Spell.{short, serial_of_arranged, serial_of, spell, spell_bytes, spelled, document_of}
 use Rattle.yaml_text.specs.Unfold.{trees_from, event_count}
 use Rattle.yaml_text.specs.Proper.{IsProper, AreAdmitted, IsAdmittedTree}
 use Rattle.yaml_text.specs.Means.{StandsFor}
 use Rattle.yaml_text.specs.Laws.{TextsTell}
 use Rattle.yaml_text.proofs.Members.{and_both, both_and}
 use Rattle.yaml_text.proofs.SameLaws.{same_to, same_from}
-use Rattle.yaml_text.proofs.Neat.{arranged_neat}
+use Rattle.yaml_text.proofs.Arranged.{arranged_neat}
 use Rattle.yaml_text.proofs.UnfoldLaws.{marks_one, marks_unfold}
 use Rattle.yaml_text.proofs.CharLaws.{tails}
 use Rattle.yaml_text.proofs.TextLaws.{IsFine, text_once}
 use Rattle.yaml_text.proofs.ProperLaws.{proper_arranged, proper_resolves, fine_mark}
 
-fine_marks_of : (t : Tree) → IsProper t → IsFine (marks_of t)
-unfolding marks_of
+fine_marks_of : (t : Tree) → IsProper t → IsFine (serial_of t)
+unfolding serial_of
 fine_marks_of t h = fine_mark short (agains (walk short (arranged t) [])) (arranged t) [] (proper_arranged t h)
 
-marks_same : (t u : Tree) → IsAdmittedTree t → IsAdmittedTree u → marks_of t ≡ marks_of u → same t u ≡ true
-unfolding marks_of
+marks_same : (t u : Tree) → IsAdmittedTree t → IsAdmittedTree u → serial_of t ≡ serial_of u → same t u ≡ true
+unfolding serial_of
 marks_same t u a b e =
     same_from t u (marks_one short (arranged t) (arranged u) (arranged_neat t a.keyed) (arranged_neat u b.keyed)
     (proper_resolves (arranged t) (proper_arranged t a.proper)) (proper_resolves (arranged u) (proper_arranged u b.proper)) e)
 
-same_marks : (t u : Tree) → Keyed t → Keyed u → same t u ≡ true → marks_of t ≡ marks_of u
-unfolding marks_of
-same_marks t u m n h = ap marks_of_arranged (same_to t u m n h)
+same_marks : (t u : Tree) → Keyed t → Keyed u → same t u ≡ true → serial_of t ≡ serial_of u
+unfolding serial_of
+same_marks t u m n h = ap serial_of_arranged (same_to t u m n h)
 
 same_text : (f g : List Tree) → AreAdmitted f → AreAdmitted g → pointwise same f g ≡ true → spell f ≡ spell g
 unfolding spell
@@ -45,7 +45,7 @@ same_text (t ∷ f) (u ∷ g) a b h =
     let p = and_both (same t u) (pointwise same f g) h in
     let e = same_marks t u a.0.keyed b.0.keyed p.0 in
     let i = same_text f g a.1 b.1 p.1 in
-    λ z. 45 ∷ 45 ∷ 45 ∷ 32 ∷ text (e z) (10 ∷ i z)
+    λ z. 45 ∷ 45 ∷ 45 ∷ 32 ∷ node_text (e z) (10 ∷ i z)
 
 text_same : (f g : List Tree) → AreAdmitted f → AreAdmitted g → spell f ≡ spell g → pointwise same f g ≡ true
 unfolding spell
@@ -53,7 +53,7 @@ text_same [] [] a b h = refl
 text_same [] (u ∷ g) a b h = absurd (cc)
 text_same (t ∷ f) [] a b h = absurd (cc)
 text_same (t ∷ f) (u ∷ g) a b h =
-    let p = text_once (marks_of t) (marks_of u) (10 ∷ spell f) (10 ∷ spell g)
+    let p = text_once (serial_of t) (serial_of u) (10 ∷ spell f) (10 ∷ spell g)
     (fine_marks_of t a.0.proper) (fine_marks_of u b.0.proper) (λ d m q. omega arith) (λ d m q. omega arith) (tails (tails (tails (tails h)))) in
     both_and (same t u) (pointwise same f g) (marks_same t u a.0 b.0 p.0) (text_same f g a.1 b.1 (tails p.1))
 
@@ -63,14 +63,14 @@ texts_tell f g a b = (λ e. text_same f g a.trees b.trees (encodes_same (spell f
 
 -- ---- what a spelling means
 
-pub unfold_from : (at : ℕ) (f : List Tree) → AreAdmitted f → trees_from at (map (λ t. document_of (marks_of t)) f) ≡ Ok (map arranged f)
-unfolding trees_from marks_of
+pub unfold_from : (at : ℕ) (f : List Tree) → AreAdmitted f → trees_from at (map (λ t. document_of (serial_of t)) f) ≡ Ok (map arranged f)
+unfolding trees_from serial_of
 unfold_from at [] a = refl
 unfold_from at (t ∷ f) a =
     let i = marks_unfold short (arranged t) (suc at) (arranged_neat t a.0.keyed) (proper_resolves (arranged t) (proper_arranged t a.0.proper)) in
-    let j = unfold_from (suc (suc (at + event_count (marks_of t)))) f a.1 in
+    let j = unfold_from (suc (suc (at + event_count (serial_of t)))) f a.1 in
     rw (i, j) refl
 
 pub spelled_stands : (f : List Tree) → AreAdmitted f → StandsFor (spelled f) (map arranged f)
 unfolding spelled
-spelled_stands f a = record { documents = map (λ t. document_of (marks_of t)) f; cut = refl; unfolded = unfold_from 1 f a }
+spelled_stands f a = record { documents = map (λ t. document_of (serial_of t)) f; cut = refl; unfolded = unfold_from 1 f a }

@@ -1,7 +1,7 @@
 pub mod Members
 pub mod OrderLaws
 pub mod SameLaws
-pub mod Neat
+pub mod Arranged
 pub mod CharLaws
 pub mod TagLaws
 pub mod TextLaws

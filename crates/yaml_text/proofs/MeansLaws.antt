@@ -8,16 +8,16 @@ use Rattle.yaml_text.specs.Tree.{Tree, Trees, Pairs, scalar, sequence, mapping, 
 use Rattle.yaml_text.specs.Order.{tree_cmp, enter, arranged, arranged_trees, arranged_pairs}
 use Rattle.yaml_text.specs.Same.{same, Keyed}
 use Rattle.yaml_text.specs.Event.{Event}
-use Rattle.yaml_text.specs.NodeText.{text}
-use Rattle.yaml_text.specs.Spell.{marks_of_arranged, marks_of, spell, spell_bytes, spelled, document_of}
-use Rattle.yaml_text.specs.Block.{blocked_marks, blocked}
+use Rattle.yaml_text.specs.NodeText.{node_text}
+use Rattle.yaml_text.specs.Spell.{serial_of_arranged, serial_of, spell, spell_bytes, spelled, document_of}
+use Rattle.yaml_text.specs.Block.{blocked_serial, blocked}
 use Rattle.yaml_text.specs.Unfold.{and_then, trees_from, trees_of, event_count}
 use Rattle.yaml_text.specs.Proper.{IsAdmittedTree, AreAdmitted, Admitted}
 use Rattle.yaml_text.specs.Same.{Alike}
 use Rattle.yaml_text.specs.Means.{StandsFor, Understood}
 use Rattle.yaml_text.proofs.Members.{both_and}
 use Rattle.yaml_text.proofs.SameLaws.{same_from}
-use Rattle.yaml_text.proofs.Neat.{neat_fixed, neat_keyed, arranged_neat}
+use Rattle.yaml_text.proofs.Arranged.{neat_fixed, neat_keyed, arranged_neat}
 use Rattle.yaml_text.proofs.FlatLaws.{stream_once}
 use Rattle.yaml_text.proofs.ProperLaws.{proper_arranged}
 use Rattle.yaml_text.proofs.BlockLaws.{block_count, block_unfold}
@@ -96,23 +96,23 @@ admitted_trees [] a = tt
 admitted_trees (t ∷ f) a = (admitted_tree t a.0, admitted_trees f a.1)
 
 arranged_text : (f : List Tree) → AreAdmitted f → spell (map arranged f) ≡ spell f
-unfolding spell marks_of
+unfolding spell serial_of
 arranged_text [] a = refl
 arranged_text (t ∷ f) a =
-    let p = ap marks_of_arranged (arranged_twice t a.0.keyed) in
+    let p = ap serial_of_arranged (arranged_twice t a.0.keyed) in
     let q = arranged_text f a.1 in
-    λ z. 45 ∷ 45 ∷ 45 ∷ 32 ∷ text (p z) (10 ∷ q z)
+    λ z. 45 ∷ 45 ∷ 45 ∷ 32 ∷ node_text (p z) (10 ∷ q z)
 
 arranged_alike : (f : List Tree) → AreAdmitted f → Alike (map arranged f) f
 arranged_alike [] a = refl
 arranged_alike (t ∷ f) a = both_and (same (arranged t) t) (pointwise same (map arranged f) f) (same_from (arranged t) t (arranged_twice t a.0.keyed)) (arranged_alike f a.1)
 
-block_from : (at : ℕ) (f : List Tree) → trees_from at (map (λ t. document_of (blocked_marks t)) f) ≡ trees_from at (map (λ t. document_of (marks_of t)) f)
+block_from : (at : ℕ) (f : List Tree) → trees_from at (map (λ t. document_of (blocked_serial t)) f) ≡ trees_from at (map (λ t. document_of (serial_of t)) f)
 unfolding trees_from
 block_from at [] = refl
 block_from at (t ∷ f) =
-    let p = block_unfold (marks_of t) [] (suc at) in
-    let q = block_from (suc (suc (at + event_count (blocked_marks t)))) f ∙ ap (λ n. trees_from (suc (suc (at + n))) (map (λ t. document_of (marks_of t)) f)) (block_count (marks_of t)) in
+    let p = block_unfold (serial_of t) [] (suc at) in
+    let q = block_from (suc (suc (at + event_count (blocked_serial t)))) f ∙ ap (λ n. trees_from (suc (suc (at + n))) (map (λ t. document_of (serial_of t)) f)) (block_count (serial_of t)) in
     λ z. and_then {Y = List Tree} (p z) (λ r. and_then (q z) (λ g. Ok (r.0 ∷ g)))
 
 -- ---- what the events of the spellings stand for
@@ -133,7 +133,7 @@ spelled_understood f a = understood (spelled f) f a (spelled_stands f a.trees)
 pub blocked_understood : (f : List Tree) → Admitted f → Understood (blocked f) f
 unfolding blocked
 blocked_understood f a =
-    understood (blocked f) f a (record { documents = map (λ t. document_of (blocked_marks t)) f; cut = refl; unfolded = block_from 1 f ∙ unfold_from 1 f a.trees })
+    understood (blocked f) f a (record { documents = map (λ t. document_of (blocked_serial t)) f; cut = refl; unfolded = block_from 1 f ∙ unfold_from 1 f a.trees })
 
 -- events stand for one forest
 pub stands_one : (events : List Event) (f g : List Tree) → StandsFor events f → StandsFor events g → f ≡ g

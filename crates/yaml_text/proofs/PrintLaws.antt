@@ -14,14 +14,14 @@ use Rattle.yaml_text.specs.Tree.{Tree}
 use Rattle.yaml_text.specs.Order.{arranged}
 use Rattle.yaml_text.specs.Walk.{walk, agains}
 use Rattle.yaml_text.specs.Event.{Anchor, WrittenTag, untagged, full}
-use Rattle.yaml_text.specs.Marked.{Marked, AllMarked, MarkedPairs, alias, scalar_at, sequence_at, mapping_at, end_marks, item_mark, done_marks, entry_marks}
-use Rattle.yaml_text.specs.Mark.{name_of}
+use Rattle.yaml_text.specs.Serial.{SerialNode, SerialNodes, SerialPairs, alias_at, scalar_at, sequence_at, mapping_at, end_serial, item_serial, done_serial, entry_serial}
+use Rattle.yaml_text.specs.Serialize.{anchor_name}
 use Rattle.yaml_text.specs.CharText.{is_plain, hex_digit, spell_char}
 use Rattle.yaml_text.specs.Tag.{null_tag, bool_tag, int_tag, float_tag}
 use Rattle.yaml_text.specs.grammar.Characters.{is_printable, is_uri, is_word}
 use Rattle.yaml_text.specs.TagText.{spell_byte, encoded, full_text, tag_text}
-use Rattle.yaml_text.specs.NodeText.{anchor_text, quoted, text, items_text, pairs_text}
-use Rattle.yaml_text.specs.Spell.{short, marks_of, spell, spell_bytes}
+use Rattle.yaml_text.specs.NodeText.{anchor_text, quoted, node_text, items_text, pairs_text}
+use Rattle.yaml_text.specs.Spell.{short, serial_of, spell, spell_bytes}
 use Rattle.yaml_text.specs.Text.{mark_len, Text}
 use Rattle.yaml_text.specs.Proper.{AreAdmitted, Admitted}
 use Rattle.yaml_text.proofs.Members.{and_both, both_and}
@@ -120,10 +120,10 @@ digits_good [] m = tt
 digits_good (x ∷ xs) m = let l = m.0 in (a_good (48 + x) (omega arith) (omega arith), digits_good xs m.1)
 
 name_good : (name r : List ℕ) → IsName name → Good r → Good (chars name ++ r)
-unfolding name_of
+unfolding anchor_name
 name_good name r p g =
-    let n : Good (name_of p.0) = (a_good 97 (omega arith) (omega arith), digits_good (digits_of 10 p.0) (all_below_base_digits_of 10 p.0 (omega arith))) in
-    subst (λ z. Good (z ++ r)) (sym (ap chars p.1 ∙ name_chars p.0)) (join (name_of p.0) r n g)
+    let n : Good (anchor_name p.0) = (a_good 97 (omega arith) (omega arith), digits_good (digits_of 10 p.0) (all_below_base_digits_of 10 p.0 (omega arith))) in
+    subst (λ z. Good (z ++ r)) (sym (ap chars p.1 ∙ name_chars p.0)) (join (anchor_name p.0) r n g)
 
 pub anchor_good : (a : Anchor) (r : List ℕ) → IsAnchor a → Good r → Good (anchor_text a r)
 anchor_good None r p g = g
@@ -133,41 +133,41 @@ node_good : (a : Anchor) (g : WrittenTag) (c : ℕ) (r : List ℕ) → IsAnchor 
 node_good a g c r p m h l n = anchor_good a (tag_text g ++ (c ∷ r)) p (join (tag_text g) (c ∷ r) (tag_good g m) (a_good c h l, n))
 
 mutual
-  unfolding text
+  unfolding node_text
 
-  pub text_good : (m : Marked) (r : List ℕ) → IsFine m → Good r → Good (text m r)
-  text_good (alias name) r f h = (a_good 42 (omega arith) (omega arith), name_good name r f h)
+  pub text_good : (m : SerialNode) (r : List ℕ) → IsFine m → Good r → Good (node_text m r)
+  text_good (alias_at name) r f h = (a_good 42 (omega arith) (omega arith), name_good name r f h)
   text_good (scalar_at a g y x) r f h =
       node_good a g 34 (quoted (chars x) r) f.0 f.1 (omega arith) (omega arith) (quoted_good (chars x) r (scalars-chars x (IsUtf8-from_is_utf8 x f.3)) h)
   text_good (sequence_at a g b ts) r f h = node_good a g 91 (items_text [] ts r) f.0 f.1 (omega arith) (omega arith) (items_good [] tt ts r f.3 h)
   text_good (mapping_at a g b ps) r f h = node_good a g 123 (pairs_text [] ps r) f.0 f.1 (omega arith) (omega arith) (pairs_good [] tt ps r f.3 h)
 
-  items_good : (s : List ℕ) → Good s → (ts : AllMarked) (r : List ℕ) → AreFine ts → Good r → Good (items_text s ts r)
-  items_good s k end_marks r f h = (a_good 93 (omega arith) (omega arith), h)
-  items_good s k (item_mark t ts) r f h =
+  items_good : (s : List ℕ) → Good s → (ts : SerialNodes) (r : List ℕ) → AreFine ts → Good r → Good (items_text s ts r)
+  items_good s k end_serial r f h = (a_good 93 (omega arith) (omega arith), h)
+  items_good s k (item_serial t ts) r f h =
       let c : Good (44 ∷ 32 ∷ []) = ascii (44 ∷ 32 ∷ []) (omega arith, omega arith, (omega arith, omega arith, tt)) in
-      join s (text t (items_text (44 ∷ 32 ∷ []) ts r)) k (text_good t (items_text (44 ∷ 32 ∷ []) ts r) f.0 (items_good (44 ∷ 32 ∷ []) c ts r f.1 h))
+      join s (node_text t (items_text (44 ∷ 32 ∷ []) ts r)) k (text_good t (items_text (44 ∷ 32 ∷ []) ts r) f.0 (items_good (44 ∷ 32 ∷ []) c ts r f.1 h))
 
-  pairs_good : (s : List ℕ) → Good s → (ps : MarkedPairs) (r : List ℕ) → ArePairsFine ps → Good r → Good (pairs_text s ps r)
-  pairs_good s k done_marks r f h = (a_good 125 (omega arith) (omega arith), h)
-  pairs_good s k (entry_marks x v ps) r f h =
+  pairs_good : (s : List ℕ) → Good s → (ps : SerialPairs) (r : List ℕ) → ArePairsFine ps → Good r → Good (pairs_text s ps r)
+  pairs_good s k done_serial r f h = (a_good 125 (omega arith) (omega arith), h)
+  pairs_good s k (entry_serial x v ps) r f h =
       let c : Good (44 ∷ 32 ∷ []) = ascii (44 ∷ 32 ∷ []) (omega arith, omega arith, (omega arith, omega arith, tt)) in
       let b : good 32 ≡ true = a_good 32 (omega arith) (omega arith) in
       let e : List ℕ = pairs_text (44 ∷ 32 ∷ []) ps r in
-      join s (text x (32 ∷ 58 ∷ 32 ∷ text v e)) k
-      (text_good x (32 ∷ 58 ∷ 32 ∷ text v e) f.0 (b, (a_good 58 (omega arith) (omega arith), (b, text_good v e f.1 (pairs_good (44 ∷ 32 ∷ []) c ps r f.2 h)))))
+      join s (node_text x (32 ∷ 58 ∷ 32 ∷ node_text v e)) k
+      (text_good x (32 ∷ 58 ∷ 32 ∷ node_text v e) f.0 (b, (a_good 58 (omega arith) (omega arith), (b, text_good v e f.1 (pairs_good (44 ∷ 32 ∷ []) c ps r f.2 h)))))
 
 pub break_good : good 10 ≡ true
 unfolding good is_printable
 break_good = refl
 
 forest_good : (f : List Tree) → AreAdmitted f → Good (spell f)
-unfolding spell marks_of
+unfolding spell serial_of
 forest_good [] a = tt
 forest_good (t ∷ f) a =
     let d : good 45 ≡ true = a_good 45 (omega arith) (omega arith) in
     let m = fine_mark short (agains (walk short (arranged t) [])) (arranged t) [] (proper_arranged t a.0.proper) in
-    (d, (d, (d, (a_good 32 (omega arith) (omega arith), text_good (marks_of t) (10 ∷ spell f) m (break_good, forest_good f a.1)))))
+    (d, (d, (d, (a_good 32 (omega arith) (omega arith), text_good (serial_of t) (10 ∷ spell f) m (break_good, forest_good f a.1)))))
 
 pub all_good : (cs : List ℕ) → Good cs → All (λ c. good c ≡ true) cs
 all_good [] g = search rules

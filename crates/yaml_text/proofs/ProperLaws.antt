@@ -11,8 +11,8 @@ use Rattle.yaml_text.specs.Order.{tree_cmp, enter, arranged, arranged_trees, arr
 use Rattle.std.specs.Prelude.{bytes_eq}
 use Rattle.yaml_text.specs.Walk.{walk, firsts, is_again}
 use Rattle.yaml_text.specs.Event.{full, double}
-use Rattle.yaml_text.specs.Marked.{Marked, alias}
-use Rattle.yaml_text.specs.Mark.{name_of, is_anchored, anchored, anchor_of, mark, mark_trees, mark_pairs}
+use Rattle.yaml_text.specs.Serial.{SerialNode, alias_at}
+use Rattle.yaml_text.specs.Serialize.{anchor_name, is_anchored, anchored, anchor_of, serialize, serialize_all, serialize_pairs}
 use Rattle.yaml_text.specs.TagText.{written_tag}
 use Rattle.yaml_text.specs.Core.{resolve, collection_tag}
 use Rattle.yaml_text.specs.Proper.{IsProper, AreProper, ArePairsProper}
@@ -98,7 +98,7 @@ mutual
 
 -- ---- marks
 
-either : (b : Bool) (n : ℕ) (m : Marked) → IsFine m → IsFine (cond b (alias (name_of n)) m)
+either : (b : Bool) (n : ℕ) (m : SerialNode) → IsFine m → IsFine (cond b (alias_at (anchor_name n)) m)
 either true n m f = (n, refl)
 either false n m f = f
 
@@ -110,24 +110,24 @@ module _ (short : Tree → Bool) (repeated : List Tree) where
   anchor_fine : (t : Tree) (w : List Tree) → IsAnchor (anchor_of repeated t w)
   anchor_fine t w =
       let n : ℕ = suc (length (anchored repeated w)) in
-      let name : IsName (name_of n) = (n, refl) in
-      elim (is_anchored repeated t) as (λ b. IsAnchor (cond b (Some (name_of n)) None)) [ true ↦ name | false ↦ tt ]
+      let name : IsName (anchor_name n) = (n, refl) in
+      elim (is_anchored repeated t) as (λ b. IsAnchor (cond b (Some (anchor_name n)) None)) [ true ↦ name | false ↦ tt ]
 
   mutual
-    unfolding walk mark IsProper
+    unfolding walk serialize IsProper
 
-    pub fine_mark : (t : Tree) (w : List Tree) → IsProper t → IsFine (mark short repeated t w)
+    pub fine_mark : (t : Tree) (w : List Tree) → IsProper t → IsFine (serialize short repeated t w)
     fine_mark (leaf g x) w h = either (is_again short (leaf g x) w) _ _ (anchor_fine (leaf g x) w, tag_fine 0 g h.0, refl, h.1)
     fine_mark (sequence g ts) w h =
         either (is_again short (sequence g ts) w) _ _ (anchor_fine (sequence g ts) w, tag_fine 1 g h.0, refl, fine_marks ts (w ++ (sequence g ts ∷ [])) h.2)
     fine_mark (mapping g ps) w h =
         either (is_again short (mapping g ps) w) _ _ (anchor_fine (mapping g ps) w, tag_fine 2 g h.0, refl, fine_pairs ps (w ++ (mapping g ps ∷ [])) h.2)
 
-    fine_marks : (ts : Trees) (w : List Tree) → AreProper ts → AreFine (mark_trees short repeated ts w)
+    fine_marks : (ts : Trees) (w : List Tree) → AreProper ts → AreFine (serialize_all short repeated ts w)
     fine_marks end w h = tt
     fine_marks (item t ts) w h = (fine_mark t w h.0, fine_marks ts (w ++ firsts (walk short t w)) h.1)
 
-    fine_pairs : (ps : Pairs) (w : List Tree) → ArePairsProper ps → ArePairsFine (mark_pairs short repeated ps w)
+    fine_pairs : (ps : Pairs) (w : List Tree) → ArePairsProper ps → ArePairsFine (serialize_pairs short repeated ps w)
     fine_pairs done w h = tt
     fine_pairs (entry k v ps) w h =
         let u : List Tree = w ++ firsts (walk short k w) in

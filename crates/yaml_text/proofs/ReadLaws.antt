@@ -6,7 +6,7 @@ use lib.Pointwise.{bytes_decides}
 use Rattle.yaml_text.specs.Tree.{Tree, Trees, Pairs, scalar, sequence, mapping, end, item, done, entry}
 use Rattle.std.specs.Prelude.{bytes_eq}
 use Rattle.yaml_text.specs.Event.{Anchor, Style, WrittenTag, untagged, non_specific, full}
-use Rattle.yaml_text.specs.Marked.{Marked, AllMarked, MarkedPairs, alias, scalar_at, sequence_at, mapping_at, end_marks, item_mark, done_marks, entry_marks}
+use Rattle.yaml_text.specs.Serial.{SerialNode, SerialNodes, SerialPairs, alias_at, scalar_at, sequence_at, mapping_at, end_serial, item_serial, done_serial, entry_serial}
 use Rattle.yaml_text.specs.Tag.{default_tag, is_core}
 use Rattle.yaml_text.specs.Core.{Cause, wrong_kind, resolve, collection_tag}
 use Rattle.yaml_text.specs.Unfold.{Outcome, Table, opened, closed, last_named, tree_named, placed, and_then, or_else, event_count, unfold_node, unfold_all, unfold_pairs}
@@ -96,8 +96,8 @@ module _ (seq_is : IsTag (default_tag 1)) (map_is : IsTag (default_tag 2))
   mutual
     unfolding unfold_node IsProper
 
-    pub unfold_proper : (m : Marked) (e : Table) (at : ℕ) (z : Tree × Table) → Sound m → TableProper e → unfold_node m e at ≡ Ok z → Good z
-    unfold_proper (alias n) e at z s h q =
+    pub unfold_proper : (m : SerialNode) (e : Table) (at : ℕ) (z : Tree × Table) → Sound m → TableProper e → unfold_node m e at ≡ Ok z → Good z
+    unfold_proper (alias_at n) e at z s h q =
         let b = bind (placed at (tree_named (last_named n e))) (λ t. Ok (t, e)) z q in
         subst Good (ok_one (b.0, e) z b.2) (tree_is (last_named n e) b.0 (named_proper n e h) (unplaced at (tree_named (last_named n e)) b.0 b.1), h)
     unfold_proper (scalar_at a g y x) e at z s h q =
@@ -121,18 +121,18 @@ module _ (seq_is : IsTag (default_tag 1)) (map_is : IsTag (default_tag 2))
         let t : IsProper (mapping b.0 c.0.0) = (r.0, r.1, i.0) in
         subst Good (ok_one _ z c.2) (t, close_proper a (length e) (mapping b.0 c.0.0) c.0.1 i.1 t)
 
-    items_proper : (ts : AllMarked) (e : Table) (at : ℕ) (z : Trees × Table) → AllSound ts → TableProper e → unfold_all ts e at ≡ Ok z → AreProper z.0 × TableProper z.1
-    items_proper end_marks e at z s h q = subst (λ w. AreProper w.0 × TableProper w.1) (ok_one (end, e) z q) (tt, h)
-    items_proper (item_mark t ts) e at z s h q =
+    items_proper : (ts : SerialNodes) (e : Table) (at : ℕ) (z : Trees × Table) → AllSound ts → TableProper e → unfold_all ts e at ≡ Ok z → AreProper z.0 × TableProper z.1
+    items_proper end_serial e at z s h q = subst (λ w. AreProper w.0 × TableProper w.1) (ok_one (end, e) z q) (tt, h)
+    items_proper (item_serial t ts) e at z s h q =
         let b = bind (unfold_node t e at) _ z q in
         let i = unfold_proper t e at b.0 s.0 h b.1 in
         let c = bind (unfold_all ts b.0.1 (at + event_count t)) _ z b.2 in
         let j = items_proper ts b.0.1 (at + event_count t) c.0 s.1 i.1 c.1 in
         subst (λ w. AreProper w.0 × TableProper w.1) (ok_one (item b.0.0 c.0.0, c.0.1) z c.2) ((i.0, j.0), j.1)
 
-    pairs_proper : (ps : MarkedPairs) (e : Table) (at : ℕ) (z : Pairs × Table) → PairsSound ps → TableProper e → unfold_pairs ps e at ≡ Ok z → ArePairsProper z.0 × TableProper z.1
-    pairs_proper done_marks e at z s h q = subst (λ w. ArePairsProper w.0 × TableProper w.1) (ok_one (done, e) z q) (tt, h)
-    pairs_proper (entry_marks k v ps) e at z s h q =
+    pairs_proper : (ps : SerialPairs) (e : Table) (at : ℕ) (z : Pairs × Table) → PairsSound ps → TableProper e → unfold_pairs ps e at ≡ Ok z → ArePairsProper z.0 × TableProper z.1
+    pairs_proper done_serial e at z s h q = subst (λ w. ArePairsProper w.0 × TableProper w.1) (ok_one (done, e) z q) (tt, h)
+    pairs_proper (entry_serial k v ps) e at z s h q =
         let b = bind (unfold_node k e at) _ z q in
         let i = unfold_proper k e at b.0 s.0 h b.1 in
         let c = bind (unfold_node v b.0.1 (at + event_count k)) _ z b.2 in

@@ -9,25 +9,25 @@ use Rattle.std.proofs.lemmas.Str.{IsUtf8-append, IsUtf8-past_char, chars_past_ch
 use Rattle.std.specs.Char.{encode_utf8}
 use Rattle.std.specs.List.{All, starts_with}
 use Rattle.std.specs.Str.{encode_utf8_all, chars, IsUtf8}
-use Rattle.yaml_text.specs.Text.{is_text, mark, mark_len, Text, IsFirstRefused, RefusesText}
+use Rattle.yaml_text.specs.Text.{is_text, byte_order_mark, mark_len, Text, IsFirstRefused, RefusesText}
 use Rattle.yaml_text.specs.declared.fault.Fault.{Fault}
 use Rattle.yaml_text.specs.declared.fault.Fault.TheVariants as fault
 
 text_utf8 : (bytes cs : List ℕ) → Text bytes cs → IsUtf8 (drop (mark_len bytes) bytes)
 text_utf8 bytes cs t = (cs, (t.scalars, sym t.decodes))
 
-mark_utf8 : IsUtf8 mark
+mark_utf8 : IsUtf8 byte_order_mark
 unfolding encode_utf8
 mark_utf8 = (65279 ∷ [], (refl, refl))
 
 pub whole_utf8 : (bytes cs : List ℕ) → Text bytes cs → IsUtf8 bytes
-whole_utf8 bytes cs t = by (starts_with ◌==◌ bytes mark) refl
+whole_utf8 bytes cs t = by (starts_with ◌==◌ bytes byte_order_mark) refl
   where
-    by : (b : Bool) → starts_with ◌==◌ bytes mark ≡ b → IsUtf8 bytes
+    by : (b : Bool) → starts_with ◌==◌ bytes byte_order_mark ≡ b → IsUtf8 bytes
     by true e =
-        let whole : bytes ≡ mark ++ drop 3 bytes = (starts_is Decides-eqb bytes mark (starts_with ◌==◌ bytes mark) refl).0 e in
+        let whole : bytes ≡ byte_order_mark ++ drop 3 bytes = (starts_is Decides-eqb bytes byte_order_mark (starts_with ◌==◌ bytes byte_order_mark) refl).0 e in
         let rest : IsUtf8 (drop 3 bytes) = subst (λ b. IsUtf8 (drop (cond b 3 0) bytes)) e (text_utf8 bytes cs t) in
-        subst IsUtf8 (sym whole) (IsUtf8-append mark (drop 3 bytes) mark_utf8 rest)
+        subst IsUtf8 (sym whole) (IsUtf8-append byte_order_mark (drop 3 bytes) mark_utf8 rest)
     by false e = subst (λ b. IsUtf8 (drop (cond b 3 0) bytes)) e (text_utf8 bytes cs t)
 
 -- each character of a text may stand in it

@@ -56,7 +56,7 @@ not_nan false d r = rw (digit_no_dot d) refl
 not_infinite : (d : ℕ) (r : List ℕ) → one_of (codes ".inf" ∷ codes ".Inf" ∷ codes ".INF" ∷ []) ((48 + d) ∷ r) ≡ false
 not_infinite d r = rw (digit_no_dot d) refl
 
-float_is : (negative : Bool) (d : ℕ) (r : List ℕ) → float_of (sign_text negative ++ ((48 + d) ∷ r)) ≡ decimal_of (sign_text negative ++ ((48 + d) ∷ r))
+pub float_is : (negative : Bool) (d : ℕ) (r : List ℕ) → float_of (sign_text negative ++ ((48 + d) ∷ r)) ≡ decimal_of (sign_text negative ++ ((48 + d) ∷ r))
 unfolding float_of
 float_is negative d r = rw (not_nan negative d r, unsigned_back negative d r, not_infinite d r) refl
 
@@ -82,7 +82,7 @@ module _ (negative : Bool) (d : ℕ) (ds : List ℕ) (x : ℤ) (some : 0 < d) (b
   not_zero : (number == 0) ≡ false
   not_zero = ne_eqb number 0 (λ q. let e : [] ≡ d ∷ ds = ap (digits_of 10) (sym q) ∙ digits_are in absurd (cc))
 
-  exponent_is : exponent number (x -ℤ pos (length ds)) ≡ x
+  pub exponent_is : exponent number (x -ℤ pos (length ds)) ≡ x
   unfolding exponent
   exponent_is = ap (λ z. ((x -ℤ pos (length ds)) +ℤ pos (length z)) -ℤ pos 1) digits_are ∙ exponent_kept x (length ds)
 

@@ -16,7 +16,7 @@ use Rattle.yaml_text.proofs.CoreLaws.{Taken, pattern_parts, ok_first, wrong}
 use Rattle.yaml_text.proofs.FloatLaws.{trimmed_below}
 use Rattle.yaml_text.specs.Sound.{SoundTag, DocumentsSound, AllProper}
 use Rattle.yaml_text.specs.Tree.{Tree}
-use Rattle.yaml_text.specs.Marked.{Document}
+use Rattle.yaml_text.specs.Serial.{Document}
 use Rattle.yaml_text.specs.Unfold.{trees_from, unfold_node, event_count}
 use Rattle.yaml_text.specs.Laws.{ReadIsProper}
 use Rattle.yaml_text.proofs.ReadLaws.{bind, ok_one, unfold_proper}

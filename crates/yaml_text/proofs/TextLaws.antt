@@ -7,10 +7,10 @@ use Rattle.std.specs.declared.option.Option.TheVariants.{None, Some}
 use Rattle.std.specs.Int.Digits.{digits_of, AllBelowBase}
 use Rattle.std.proofs.lemmas.Int.Digits.{same_from_digits_of, all_below_base_digits_of}
 use Rattle.yaml_text.specs.Event.{Anchor, double, WrittenTag}
-use Rattle.yaml_text.specs.Marked.{Marked, AllMarked, MarkedPairs, alias, scalar_at, sequence_at, mapping_at, end_marks, item_mark, done_marks, entry_marks}
-use Rattle.yaml_text.specs.Mark.{name_of}
+use Rattle.yaml_text.specs.Serial.{SerialNode, SerialNodes, SerialPairs, alias_at, scalar_at, sequence_at, mapping_at, end_serial, item_serial, done_serial, entry_serial}
+use Rattle.yaml_text.specs.Serialize.{anchor_name}
 use Rattle.yaml_text.specs.TagText.{tag_text}
-use Rattle.yaml_text.specs.NodeText.{anchor_text, quoted, text, items_text, pairs_text}
+use Rattle.yaml_text.specs.NodeText.{anchor_text, quoted, node_text, items_text, pairs_text}
 use Rattle.yaml_text.proofs.Members.{and_both}
 use Rattle.yaml_text.proofs.CharLaws.{heads, tails, char_once, no_quote}
 use Rattle.yaml_text.proofs.TagLaws.{bracket, opens, IsWritten, tag_once, tag_opens}
@@ -47,26 +47,26 @@ digits_ascii [] m i = omega arith
 digits_ascii (x ∷ xs) m zero = let q = m.0 in omega arith
 digits_ascii (x ∷ xs) m (suc i) = digits_ascii xs m.1 i
 
-name_ascii : (n : ℕ) → IsAscii (name_of n)
-unfolding name_of
+name_ascii : (n : ℕ) → IsAscii (anchor_name n)
+unfolding anchor_name
 name_ascii n zero = omega arith
 name_ascii n (suc i) = digits_ascii (digits_of 10 n) (digits_below n) i
 
-pub name_chars : (n : ℕ) → chars (name_of n) ≡ name_of n
-name_chars n = chars-IsAscii (name_of n) (name_ascii n)
+pub name_chars : (n : ℕ) → chars (anchor_name n) ≡ anchor_name n
+name_chars n = chars-IsAscii (anchor_name n) (name_ascii n)
 
-pub same_name : (n m : ℕ) → name_of n ≡ name_of m → n ≡ m
-unfolding name_of
+pub same_name : (n m : ℕ) → anchor_name n ≡ anchor_name m → n ≡ m
+unfolding anchor_name
 same_name n m e =
     let i = digits_once (digits_of 10 n) (digits_of 10 m) [] [] (digits_below n) (digits_below m) tt tt (ap (λ z. z ++ []) (tails e)) in
     same_from_digits_of 10 n m (omega arith) i.0
 
 -- `aN`
 abbrev pub IsName : List ℕ → Type 0
-IsName name = (n : ℕ) × (name ≡ name_of n)
+IsName name = (n : ℕ) × (name ≡ anchor_name n)
 
-number_once : (n m : ℕ) (r s : List ℕ) → Ends r → Ends s → name_of n ++ r ≡ name_of m ++ s → (n ≡ m) × (r ≡ s)
-unfolding name_of
+number_once : (n m : ℕ) (r s : List ℕ) → Ends r → Ends s → anchor_name n ++ r ≡ anchor_name m ++ s → (n ≡ m) × (r ≡ s)
+unfolding anchor_name
 number_once n m r s a b e =
     let i = digits_once (digits_of 10 n) (digits_of 10 m) r s (digits_below n) (digits_below m) a b (tails e) in
     (same_from_digits_of 10 n m (omega arith) i.0, i.1)
@@ -76,7 +76,7 @@ name_once a b r s p q x y e =
     let c = ap chars p.1 ∙ name_chars p.0 in
     let d = ap chars q.1 ∙ name_chars q.0 in
     let i = number_once p.0 q.0 r s x y (ap (λ z. z ++ r) (sym c) ∙ (e ∙ ap (λ z. z ++ s) d)) in
-    (p.1 ∙ (ap name_of i.0 ∙ sym q.1), i.1)
+    (p.1 ∙ (ap anchor_name i.0 ∙ sym q.1), i.1)
 
 abbrev pub IsAnchor : Anchor → Type 0
 IsAnchor None = Unit {0}
@@ -91,19 +91,19 @@ three e = tails (tails (tails e))
 
 -- marks as canonical text has them
 abbrev mutual
-  pub IsFine : Marked → Type 0
-  IsFine (alias name) = IsName name
+  pub IsFine : SerialNode → Type 0
+  IsFine (alias_at name) = IsName name
   IsFine (scalar_at a g y x) = IsAnchor a × IsWritten g × (y ≡ double) × (is_utf8 x ≡ true)
   IsFine (sequence_at a g b ts) = IsAnchor a × IsWritten g × (b ≡ true) × AreFine ts
   IsFine (mapping_at a g b ps) = IsAnchor a × IsWritten g × (b ≡ true) × ArePairsFine ps
 
-  pub AreFine : AllMarked → Type 0
-  AreFine end_marks = Unit {0}
-  AreFine (item_mark t ts) = IsFine t × AreFine ts
+  pub AreFine : SerialNodes → Type 0
+  AreFine end_serial = Unit {0}
+  AreFine (item_serial t ts) = IsFine t × AreFine ts
 
-  pub ArePairsFine : MarkedPairs → Type 0
-  ArePairsFine done_marks = Unit {0}
-  ArePairsFine (entry_marks k v ps) = IsFine k × IsFine v × ArePairsFine ps
+  pub ArePairsFine : SerialPairs → Type 0
+  ArePairsFine done_serial = Unit {0}
+  ArePairsFine (entry_serial k v ps) = IsFine k × IsFine v × ArePairsFine ps
 
 abbrev AreScalars : List ℕ → Type 0
 AreScalars xs = scalars xs ≡ true
@@ -137,8 +137,8 @@ node_once (Some a) (Some b) k j g h r s c d x y m n e =
     (ap Some p.0, q.0, q.1, q.2)
 
 -- the place of its kind
-abbrev kind_at : Marked → ℕ
-kind_at (alias name) = 3
+abbrev kind_at : SerialNode → ℕ
+kind_at (alias_at name) = 3
 kind_at (scalar_at a g y x) = 0
 kind_at (sequence_at a g b ts) = 1
 kind_at (mapping_at a g b ps) = 2
@@ -149,9 +149,9 @@ no_star None k g r s m e = cc (tag_opens k g r s 42 m e)
 no_star (Some a) k g r s m e = omega (arith, heads e)
 
 -- a node's first character closes nothing
-no_close : (t : Marked) (r s : List ℕ) (c : ℕ) → IsFine t → text t r ≡ c ∷ s → opens c ≡ false → (c ≡ 42 → ⊥) → (c ≡ 38 → ⊥) → ⊥
-unfolding text
-no_close (alias n) r s c m e o x y = x (sym (heads e))
+no_close : (t : SerialNode) (r s : List ℕ) (c : ℕ) → IsFine t → node_text t r ≡ c ∷ s → opens c ≡ false → (c ≡ 42 → ⊥) → (c ≡ 38 → ⊥) → ⊥
+unfolding node_text
+no_close (alias_at n) r s c m e o x y = x (sym (heads e))
 no_close (scalar_at (Some a) g w z) r s c m e o x y = y (sym (heads e))
 no_close (sequence_at (Some a) g w z) r s c m e o x y = y (sym (heads e))
 no_close (mapping_at (Some a) g w z) r s c m e o x y = y (sym (heads e))
@@ -159,15 +159,15 @@ no_close (scalar_at None g w z) r s c m e o x y = cc (tag_opens 0 g (quoted (cha
 no_close (sequence_at None g w z) r s c m e o x y = cc (tag_opens 1 g (items_text [] z r) s c m.1 e)
 no_close (mapping_at None g w z) r s c m e o x y = cc (tag_opens 2 g (pairs_text [] z r) s c m.1 e)
 
-one_kind : (t u : Marked) (r s : List ℕ) → IsFine t → IsFine u → text t r ≡ text u s → kind_at t ≡ kind_at u
-unfolding text
-one_kind (alias n) (alias m) r s f g e = refl
-one_kind (alias n) (scalar_at a h v x) r s f g e = absurd (no_star a 0 h _ _ g.1 (sym e))
-one_kind (alias n) (sequence_at a h v x) r s f g e = absurd (no_star a 1 h _ _ g.1 (sym e))
-one_kind (alias n) (mapping_at a h v x) r s f g e = absurd (no_star a 2 h _ _ g.1 (sym e))
-one_kind (scalar_at a h v x) (alias m) r s f g e = absurd (no_star a 0 h _ _ f.1 e)
-one_kind (sequence_at a h v x) (alias m) r s f g e = absurd (no_star a 1 h _ _ f.1 e)
-one_kind (mapping_at a h v x) (alias m) r s f g e = absurd (no_star a 2 h _ _ f.1 e)
+one_kind : (t u : SerialNode) (r s : List ℕ) → IsFine t → IsFine u → node_text t r ≡ node_text u s → kind_at t ≡ kind_at u
+unfolding node_text
+one_kind (alias_at n) (alias_at m) r s f g e = refl
+one_kind (alias_at n) (scalar_at a h v x) r s f g e = absurd (no_star a 0 h _ _ g.1 (sym e))
+one_kind (alias_at n) (sequence_at a h v x) r s f g e = absurd (no_star a 1 h _ _ g.1 (sym e))
+one_kind (alias_at n) (mapping_at a h v x) r s f g e = absurd (no_star a 2 h _ _ g.1 (sym e))
+one_kind (scalar_at a h v x) (alias_at m) r s f g e = absurd (no_star a 0 h _ _ f.1 e)
+one_kind (sequence_at a h v x) (alias_at m) r s f g e = absurd (no_star a 1 h _ _ f.1 e)
+one_kind (mapping_at a h v x) (alias_at m) r s f g e = absurd (no_star a 2 h _ _ f.1 e)
 one_kind (scalar_at a h v x) (scalar_at b i w y) r s f g e = refl
 one_kind (sequence_at a h v x) (sequence_at b i w y) r s f g e = refl
 one_kind (mapping_at a h v x) (mapping_at b i w y) r s f g e = refl
@@ -180,7 +180,7 @@ one_kind (mapping_at a h v x) (sequence_at b i w y) r s f g e = (node_once a b 2
 
 -- what stands before an item is no closing bracket, nor the item's first character
 abbrev Apart : List ℕ → Type 0
-Apart before = (t : Marked) (r s : List ℕ) → IsFine t → (before ++ text t r ≡ 93 ∷ s → ⊥) × (before ++ text t r ≡ 125 ∷ s → ⊥)
+Apart before = (t : SerialNode) (r s : List ℕ) → IsFine t → (before ++ node_text t r ≡ 93 ∷ s → ⊥) × (before ++ node_text t r ≡ 125 ∷ s → ⊥)
 
 none_before : Apart []
 none_before t r s f = (λ e. no_close t r s 93 f e refl (λ q. omega arith) (λ q. omega arith), λ e. no_close t r s 125 f e refl (λ q. omega arith) (λ q. omega arith))
@@ -188,23 +188,23 @@ none_before t r s f = (λ e. no_close t r s 93 f e refl (λ q. omega arith) (λ 
 comma_before : Apart (44 ∷ 32 ∷ [])
 comma_before t r s f = (λ e. omega (arith, heads e), λ e. omega (arith, heads e))
 
-items_end : (ts : AllMarked) (r : List ℕ) → Ends (items_text (44 ∷ 32 ∷ []) ts r)
-unfolding text
-items_end end_marks r = λ d m q. omega arith
-items_end (item_mark t ts) r = λ d m q. omega arith
+items_end : (ts : SerialNodes) (r : List ℕ) → Ends (items_text (44 ∷ 32 ∷ []) ts r)
+unfolding node_text
+items_end end_serial r = λ d m q. omega arith
+items_end (item_serial t ts) r = λ d m q. omega arith
 
-pairs_end : (ps : MarkedPairs) (r : List ℕ) → Ends (pairs_text (44 ∷ 32 ∷ []) ps r)
-unfolding text
-pairs_end done_marks r = λ d m q. omega arith
-pairs_end (entry_marks k v ps) r = λ d m q. omega arith
+pairs_end : (ps : SerialPairs) (r : List ℕ) → Ends (pairs_text (44 ∷ 32 ∷ []) ps r)
+unfolding node_text
+pairs_end done_serial r = λ d m q. omega arith
+pairs_end (entry_serial k v ps) r = λ d m q. omega arith
 
 mutual
-  unfolding text
+  unfolding node_text
 
-  pub text_once : (t u : Marked) (r s : List ℕ) → IsFine t → IsFine u → Ends r → Ends s → text t r ≡ text u s → (t ≡ u) × (r ≡ s)
-  text_once (alias n) (alias m) r s f g x y e =
+  pub text_once : (t u : SerialNode) (r s : List ℕ) → IsFine t → IsFine u → Ends r → Ends s → node_text t r ≡ node_text u s → (t ≡ u) × (r ≡ s)
+  text_once (alias_at n) (alias_at m) r s f g x y e =
       let p = name_once n m r s f g x y (tails e) in
-      (ap alias p.0, p.1)
+      (ap alias_at p.0, p.1)
   text_once (scalar_at a h v i) (scalar_at b k w j) r s f g x y e =
       let p = node_once a b 0 0 h k (quoted (chars i) r) (quoted (chars j) s) (omega arith) (omega arith) f.0 g.0 f.1 g.1 e in
       let q = quoted_once i j r s f.3 g.3 p.3 in
@@ -222,30 +222,30 @@ mutual
       (λ z. mapping_at (p.0 z) (p.2 z) (o z) (q.0 z), q.1)
   text_once t u r s f g x y e = let q : kind_at t ≡ kind_at u = one_kind t u r s f g e in absurd (omega arith)
 
-  items_once : (before : List ℕ) → Apart before → (ts us : AllMarked) (r s : List ℕ) → AreFine ts → AreFine us
+  items_once : (before : List ℕ) → Apart before → (ts us : SerialNodes) (r s : List ℕ) → AreFine ts → AreFine us
       → items_text before ts r ≡ items_text before us s → (ts ≡ us) × (r ≡ s)
-  items_once before b end_marks end_marks r s f g e = (refl, tails e)
-  items_once before b end_marks (item_mark u us) r s f g e = absurd ((b u (items_text (44 ∷ 32 ∷ []) us s) r g.0).0 (sym e))
-  items_once before b (item_mark t ts) end_marks r s f g e = absurd ((b t (items_text (44 ∷ 32 ∷ []) ts r) s f.0).0 e)
-  items_once before b (item_mark t ts) (item_mark u us) r s f g e =
+  items_once before b end_serial end_serial r s f g e = (refl, tails e)
+  items_once before b end_serial (item_serial u us) r s f g e = absurd ((b u (items_text (44 ∷ 32 ∷ []) us s) r g.0).0 (sym e))
+  items_once before b (item_serial t ts) end_serial r s f g e = absurd ((b t (items_text (44 ∷ 32 ∷ []) ts r) s f.0).0 e)
+  items_once before b (item_serial t ts) (item_serial u us) r s f g e =
       let n = items_text (44 ∷ 32 ∷ []) ts r in
       let m = items_text (44 ∷ 32 ∷ []) us s in
-      let p = text_once t u n m f.0 g.0 (items_end ts r) (items_end us s) (cancel before (text t n) (text u m) e) in
+      let p = text_once t u n m f.0 g.0 (items_end ts r) (items_end us s) (cancel before (node_text t n) (node_text u m) e) in
       let q = items_once (44 ∷ 32 ∷ []) comma_before ts us r s f.1 g.1 p.1 in
-      (λ i. item_mark (p.0 i) (q.0 i), q.1)
+      (λ i. item_serial (p.0 i) (q.0 i), q.1)
 
-  pairs_once : (before : List ℕ) → Apart before → (ps qs : MarkedPairs) (r s : List ℕ) → ArePairsFine ps → ArePairsFine qs
+  pairs_once : (before : List ℕ) → Apart before → (ps qs : SerialPairs) (r s : List ℕ) → ArePairsFine ps → ArePairsFine qs
       → pairs_text before ps r ≡ pairs_text before qs s → (ps ≡ qs) × (r ≡ s)
-  pairs_once before b done_marks done_marks r s f g e = (refl, tails e)
-  pairs_once before b done_marks (entry_marks j w qs) r s f g e = absurd ((b j (32 ∷ 58 ∷ 32 ∷ text w (pairs_text (44 ∷ 32 ∷ []) qs s)) r g.0).1 (sym e))
-  pairs_once before b (entry_marks k v ps) done_marks r s f g e = absurd ((b k (32 ∷ 58 ∷ 32 ∷ text v (pairs_text (44 ∷ 32 ∷ []) ps r)) s f.0).1 e)
-  pairs_once before b (entry_marks k v ps) (entry_marks j w qs) r s f g e =
+  pairs_once before b done_serial done_serial r s f g e = (refl, tails e)
+  pairs_once before b done_serial (entry_serial j w qs) r s f g e = absurd ((b j (32 ∷ 58 ∷ 32 ∷ node_text w (pairs_text (44 ∷ 32 ∷ []) qs s)) r g.0).1 (sym e))
+  pairs_once before b (entry_serial k v ps) done_serial r s f g e = absurd ((b k (32 ∷ 58 ∷ 32 ∷ node_text v (pairs_text (44 ∷ 32 ∷ []) ps r)) s f.0).1 e)
+  pairs_once before b (entry_serial k v ps) (entry_serial j w qs) r s f g e =
       let n = pairs_text (44 ∷ 32 ∷ []) ps r in
       let m = pairs_text (44 ∷ 32 ∷ []) qs s in
-      let nv : List ℕ = 32 ∷ 58 ∷ 32 ∷ text v n in
-      let mw : List ℕ = 32 ∷ 58 ∷ 32 ∷ text w m in
-      let p = text_once k j nv mw f.0 g.0 (λ d x y. omega arith) (λ d x y. omega arith) (cancel before (text k nv) (text j mw) e) in
-      let o : text v n ≡ text w m = three p.1 in
+      let nv : List ℕ = 32 ∷ 58 ∷ 32 ∷ node_text v n in
+      let mw : List ℕ = 32 ∷ 58 ∷ 32 ∷ node_text w m in
+      let p = text_once k j nv mw f.0 g.0 (λ d x y. omega arith) (λ d x y. omega arith) (cancel before (node_text k nv) (node_text j mw) e) in
+      let o : node_text v n ≡ node_text w m = three p.1 in
       let q = text_once v w n m f.1 g.1 (pairs_end ps r) (pairs_end qs s) o in
       let i = pairs_once (44 ∷ 32 ∷ []) comma_before ps qs r s f.2 g.2 q.1 in
-      (λ x. entry_marks (p.0 x) (q.0 x) (i.0 x), i.1)
+      (λ x. entry_serial (p.0 x) (q.0 x) (i.0 x), i.1)

@@ -9,20 +9,20 @@ use Rattle.std.specs.Prelude.{bytes_eq}
 use lib.Pointwise.{bytes_decides}
 use Rattle.yaml_text.specs.Walk.{Place, first, again, firsts, agains, is_again, walk, walk_trees, walk_pairs}
 use Rattle.yaml_text.specs.Event.{double}
-use Rattle.yaml_text.specs.Marked.{Marked, alias, scalar_at, sequence_at, mapping_at}
+use Rattle.yaml_text.specs.Serial.{SerialNode, alias_at, scalar_at, sequence_at, mapping_at}
 use Rattle.yaml_text.specs.TagText.{written_tag}
 use Rattle.yaml_text.specs.Core.{resolve, collection_tag}
-use Rattle.yaml_text.specs.Mark.{name_of, is_anchored, anchored, anchor_of, alias_of, mark, mark_trees, mark_pairs}
+use Rattle.yaml_text.specs.Serialize.{anchor_name, is_anchored, anchored, anchor_of, alias_of, serialize, serialize_all, serialize_pairs}
 use Rattle.yaml_text.specs.Unfold.{Outcome, Table, opened, closed, last_named, tree_named, placed, and_then, event_count, unfold_node, unfold_all, unfold_pairs}
 use Rattle.yaml_text.proofs.TextLaws.{same_name}
 use Rattle.yaml_text.proofs.Members.{and_both, both_and, or_left, or_right}
 use Rattle.yaml_text.proofs.SameLaws.{same_from}
-use Rattle.yaml_text.proofs.Neat.{Neat, NeatTrees, NeatPairs, neat_same}
+use Rattle.yaml_text.proofs.Arranged.{IsArranged, AreArranged, ArePairsArranged, neat_same}
 
 -- the table has these trees under the names from i on, and holds those lower than h
 abbrev pub Known : ℕ → ℕ → List Tree → Table → Type 0
 Known h i [] [] = Unit {0}
-Known h i (x ∷ xs) (o ∷ e) = (o.0 ≡ name_of (suc i)) × (height x < h → o.1 ≡ Some x) × Known h (suc i) xs e
+Known h i (x ∷ xs) (o ∷ e) = (o.0 ≡ anchor_name (suc i)) × (height x < h → o.1 ≡ Some x) × Known h (suc i) xs e
 Known h i [] (o ∷ e) = ⊥
 Known h i (x ∷ xs) [] = ⊥
 
@@ -47,7 +47,7 @@ Known-append h i j (x ∷ xs) ys [] f q k m = absurd k
 -- these trees under the names from i on
 abbrev rows : ℕ → List Tree → Table
 rows i [] = []
-rows i (x ∷ xs) = (name_of (suc i), Some x) ∷ rows (suc i) xs
+rows i (x ∷ xs) = (anchor_name (suc i), Some x) ∷ rows (suc i) xs
 
 Known-whole : (h i : ℕ) (xs : List Tree) → Known h i xs (rows i xs)
 Known-whole h i [] = tt
@@ -55,11 +55,11 @@ Known-whole h i (x ∷ xs) = (refl, λ l. refl, Known-whole h (suc i) xs)
 
 rows-append : (i j : ℕ) (xs ys : List Tree) → i + length xs ≡ j → rows i (xs ++ ys) ≡ rows i xs ++ rows j ys
 rows-append i j [] ys q = let e : i ≡ j = omega arith in ap (λ z. rows z ys) e
-rows-append i j (x ∷ xs) ys q = ap (λ z. (name_of (suc i), Some x) ∷ z) (rows-append (suc i) j xs ys (omega arith))
+rows-append i j (x ∷ xs) ys q = ap (λ z. (anchor_name (suc i), Some x) ∷ z) (rows-append (suc i) j xs ys (omega arith))
 
 abbrev pub AllNeat : List Tree → Type 0
 AllNeat [] = Unit {0}
-AllNeat (x ∷ xs) = Neat x × AllNeat xs
+AllNeat (x ∷ xs) = IsArranged x × AllNeat xs
 
 AllNeat-append : (xs ys : List Tree) → AllNeat xs → AllNeat ys → AllNeat (xs ++ ys)
 AllNeat-append [] ys n m = m
@@ -95,30 +95,30 @@ bytes_ne a b n = by (bytes_eq a b) refl
     by false e = refl
 
 -- no name below the first is in the table
-none_named : (h i n : ℕ) (xs : List Tree) (e : Table) → n < i → Known h i xs e → last_named (name_of (suc n)) e ≡ None
+none_named : (h i n : ℕ) (xs : List Tree) (e : Table) → n < i → Known h i xs e → last_named (anchor_name (suc n)) e ≡ None
 unfolding last_named
 none_named h i n [] [] l k = refl
-none_named h i n (x ∷ xs) (o ∷ e) l k = rw (none_named h (suc i) n xs e (omega arith) k.2, bytes_ne o.0 (name_of (suc n)) (λ q. let p = same_name (suc n) (suc i) (sym q ∙ k.0) in omega arith))
+none_named h i n (x ∷ xs) (o ∷ e) l k = rw (none_named h (suc i) n xs e (omega arith) k.2, bytes_ne o.0 (anchor_name (suc n)) (λ q. let p = same_name (suc n) (suc i) (sym q ∙ k.0) in omega arith))
 none_named h i n [] (o ∷ e) l k = absurd k
 none_named h i n (x ∷ xs) [] l k = absurd k
 
 -- a tree that stands among those known is found in the table
-found : (t : Tree) (i : ℕ) (xs : List Tree) (e : Table) → Neat t → AllNeat xs → Known (suc (height t)) i xs e → list_any (same t) xs ≡ true → last_named (name_of (suc (i + position_or_len (same t) xs))) e ≡ Some (Some t)
+found : (t : Tree) (i : ℕ) (xs : List Tree) (e : Table) → IsArranged t → AllNeat xs → Known (suc (height t)) i xs e → list_any (same t) xs ≡ true → last_named (anchor_name (suc (i + position_or_len (same t) xs))) e ≡ Some (Some t)
 unfolding last_named
 found t i [] e n m k h = absurd (cc)
 found t i (x ∷ xs) [] n m k h = absurd k
 found t i (x ∷ xs) (o ∷ e) n m k h = by (λ g. found t (suc i) xs e n m.1 k.2 g) (same t x) refl h
   where
-    by : (list_any (same t) xs ≡ true → last_named (name_of (suc (suc i + position_or_len (same t) xs))) e ≡ Some (Some t)) → (b : Bool) → same t x ≡ b → (b || list_any (same t) xs) ≡ true
-        → last_named (name_of (suc (i + cond (not b) (1 + position_or_len (same t) xs) 0))) (o ∷ e) ≡ Some (Some t)
+    by : (list_any (same t) xs ≡ true → last_named (anchor_name (suc (suc i + position_or_len (same t) xs))) e ≡ Some (Some t)) → (b : Bool) → same t x ≡ b → (b || list_any (same t) xs) ≡ true
+        → last_named (anchor_name (suc (i + cond (not b) (1 + position_or_len (same t) xs) 0))) (o ∷ e) ≡ Some (Some t)
     by ih true s g =
         let q = neat_same t x n m.0 s in
         let v : o.1 ≡ Some t = k.1 (omega (arith, ap height q)) ∙ ap Some (sym q) in
-        let w : last_named (name_of (suc i)) (o ∷ e) ≡ Some (Some t) = rw (none_named (suc (height t)) (suc i) i xs e (omega arith) k.2, (bytes_decides o.0 (name_of (suc i))).1 k.0) (ap Some v) in
-        subst (λ z. last_named (name_of (suc z)) (o ∷ e) ≡ Some (Some t)) (sym (add-zero i)) w
+        let w : last_named (anchor_name (suc i)) (o ∷ e) ≡ Some (Some t) = rw (none_named (suc (height t)) (suc i) i xs e (omega arith) k.2, (bytes_decides o.0 (anchor_name (suc i))).1 k.0) (ap Some v) in
+        subst (λ z. last_named (anchor_name (suc z)) (o ∷ e) ≡ Some (Some t)) (sym (add-zero i)) w
     by ih false s g =
         let r : i + (1 + position_or_len (same t) xs) ≡ suc i + position_or_len (same t) xs = omega arith in
-        subst (λ z. last_named (name_of (suc z)) (o ∷ e) ≡ Some (Some t)) (sym r) (rw (ih g))
+        subst (λ z. last_named (anchor_name (suc z)) (o ∷ e) ≡ Some (Some t)) (sym r) (rw (ih g))
 
 set-append : (e f : Table) (o p : List ℕ × Option Tree) → set ((e ++ (o ∷ [])) ++ f) (length e) p ≡ e ++ (p ∷ f)
 set-append [] f o p = refl
@@ -154,7 +154,7 @@ module _ (short : Tree → Bool) (repeated : List Tree) where
       ∙ rows-append (length (anchored repeated w)) (length (anchored repeated (w ++ xs))) (anchored repeated xs) (anchored repeated ys) (longer w xs)
 
   -- a node that is the same as an earlier one has that one among the anchored
-  among : (t : Tree) (xs : List Tree) → Neat t → AllNeat xs → is_anchored repeated t ≡ true → list_any (same t) xs ≡ true → list_any (same t) (anchored repeated xs) ≡ true
+  among : (t : Tree) (xs : List Tree) → IsArranged t → AllNeat xs → is_anchored repeated t ≡ true → list_any (same t) xs ≡ true → list_any (same t) (anchored repeated xs) ≡ true
   among t [] n m a h = h
   among t (x ∷ xs) n m a h = by (λ g. among t xs n m.1 a g) (same t x) refl h
     where
@@ -174,16 +174,16 @@ module _ (short : Tree → Bool) (repeated : List Tree) where
       [ true ↦ (n.0, anchored_neat xs n.1) | false ↦ anchored_neat xs n.1 ]
 
   -- a node, again or first
-  visit : (t : Tree) (w : List Tree) (e : Table) (at : ℕ) → Neat t → AllNeat w → Known (suc (height t)) 0 (anchored repeated w) e
-      → (b : Bool) → is_again short t w ≡ b → (m : Marked) (n : List Place) → AllAnchored (agains (cond b (again t ∷ []) (first t ∷ n)))
+  visit : (t : Tree) (w : List Tree) (e : Table) (at : ℕ) → IsArranged t → AllNeat w → Known (suc (height t)) 0 (anchored repeated w) e
+      → (b : Bool) → is_again short t w ≡ b → (m : SerialNode) (n : List Place) → AllAnchored (agains (cond b (again t ∷ []) (first t ∷ n)))
       → (AllAnchored (agains n) → unfold_node m e at ≡ Ok (t, e ++ table_of w (t ∷ firsts n)))
-      → unfold_node (cond b (alias (alias_of repeated t w)) m) e at ≡ Ok (t, e ++ table_of w (firsts (cond b (again t ∷ []) (first t ∷ n))))
+      → unfold_node (cond b (alias_at (alias_of repeated t w)) m) e at ≡ Ok (t, e ++ table_of w (firsts (cond b (again t ∷ []) (first t ∷ n))))
   unfolding unfold_node
   visit t w e at n m k true s mk p a h =
       let g = and_both (not (short t)) (list_any (same t) w) s in
       let i = and_both (is_anchored repeated t) true a in
       let f = found t 0 (anchored repeated w) e n (anchored_neat w m) k (among t w n m i.0 g.1) in
-      let c : last_named (alias_of repeated t w) e ≡ Some (Some t) = subst (λ z. last_named (name_of (suc z)) e ≡ Some (Some t)) (zero-add (position_or_len (same t) (anchored repeated w))) f in
+      let c : last_named (alias_of repeated t w) e ≡ Some (Some t) = subst (λ z. last_named (anchor_name (suc z)) e ≡ Some (Some t)) (zero-add (position_or_len (same t) (anchored repeated w))) f in
       ap (λ o. and_then {Y = Tree × Table} (placed at (tree_named o)) (λ t'. Ok (t', e))) c ∙ ap (λ z. Ok (t, z)) (sym (append-nil e))
   visit t w e at n m k false s mk p a h = h a
 
@@ -195,7 +195,7 @@ module _ (short : Tree → Bool) (repeated : List Tree) where
   finish {X} make x w e n u k h = by (is_anchored repeated (make x)) refl
     where
       name : List ℕ
-      name = name_of (suc (length (anchored repeated w)))
+      name = anchor_name (suc (length (anchored repeated w)))
 
       by : (b : Bool) → is_anchored repeated (make x) ≡ b
           → and_then {Y = Tree × Table} (u (opened (cond b (Some name) None) e)) (λ r. Ok (make r.0, closed (cond b (Some name) None) (length e) (make r.0) r.1))
@@ -222,7 +222,7 @@ module _ (short : Tree → Bool) (repeated : List Tree) where
       subst (λ z. Known h 0 z (e ++ table_of w xs)) (sym (filter-append (is_anchored repeated) w xs))
       (Known-append h 0 (length (anchored repeated w)) (anchored repeated w) (anchored repeated xs) e (table_of w xs) (omega arith) k (Known-whole h (length (anchored repeated w)) (anchored repeated xs)))
 
-  chosen : (b : Bool) (t : Tree) (p : List Place) → Neat t → AllNeat (firsts p) → AllNeat (firsts (cond b (again t ∷ []) (first t ∷ p)))
+  chosen : (b : Bool) (t : Tree) (p : List Place) → IsArranged t → AllNeat (firsts p) → AllNeat (firsts (cond b (again t ∷ []) (first t ∷ p)))
   chosen true t p n m = tt
   chosen false t p n m = (n, m)
 
@@ -230,18 +230,18 @@ module _ (short : Tree → Bool) (repeated : List Tree) where
   joined p q m n = rw (firsts-append p q) (AllNeat-append (firsts p) (firsts q) m n)
 
   mutual
-    unfolding walk mark
+    unfolding walk serialize
 
-    news_neat : (t : Tree) (w : List Tree) → Neat t → AllNeat (firsts (walk short t w))
+    news_neat : (t : Tree) (w : List Tree) → IsArranged t → AllNeat (firsts (walk short t w))
     news_neat (scalar a x) w n = chosen (is_again short (scalar a x) w) (scalar a x) [] n tt
     news_neat (sequence a ts) w n = chosen (is_again short (sequence a ts) w) (sequence a ts) (walk_trees short ts (w ++ (sequence a ts ∷ []))) n (news_neat_trees ts (w ++ (sequence a ts ∷ [])) n)
     news_neat (mapping a ps) w n = chosen (is_again short (mapping a ps) w) (mapping a ps) (walk_pairs short ps (w ++ (mapping a ps ∷ []))) n (news_neat_pairs ps (w ++ (mapping a ps ∷ [])) n)
 
-    news_neat_trees : (ts : Trees) (w : List Tree) → NeatTrees ts → AllNeat (firsts (walk_trees short ts w))
+    news_neat_trees : (ts : Trees) (w : List Tree) → AreArranged ts → AllNeat (firsts (walk_trees short ts w))
     news_neat_trees end w n = tt
     news_neat_trees (item t ts) w n = joined (walk short t w) (walk_trees short ts (w ++ firsts (walk short t w))) (news_neat t w n.0) (news_neat_trees ts (w ++ firsts (walk short t w)) n.1)
 
-    news_neat_pairs : (ps : Pairs) (w : List Tree) → NeatPairs ps → AllNeat (firsts (walk_pairs short ps w))
+    news_neat_pairs : (ps : Pairs) (w : List Tree) → ArePairsArranged ps → AllNeat (firsts (walk_pairs short ps w))
     news_neat_pairs done w n = tt
     news_neat_pairs (entry k v ps) w n =
         let u : List Tree = w ++ firsts (walk short k w) in
@@ -261,10 +261,10 @@ module _ (short : Tree → Bool) (repeated : List Tree) where
   both3 e w p q r = both (e ++ table_of w (firsts p)) (w ++ firsts p) q r ∙ both e w p (q ++ r)
 
   mutual
-    unfolding walk mark unfold_node
+    unfolding walk serialize unfold_node
 
-    pub unfold_tree : (t : Tree) (w : List Tree) (e : Table) (at : ℕ) → Neat t → Resolves t → AllNeat w → Known (suc (height t)) 0 (anchored repeated w) e → AllAnchored (agains (walk short t w))
-        → unfold_node (mark short repeated t w) e at ≡ Ok (t, e ++ table_of w (firsts (walk short t w)))
+    pub unfold_tree : (t : Tree) (w : List Tree) (e : Table) (at : ℕ) → IsArranged t → Resolves t → AllNeat w → Known (suc (height t)) 0 (anchored repeated w) e → AllAnchored (agains (walk short t w))
+        → unfold_node (serialize short repeated t w) e at ≡ Ok (t, e ++ table_of w (firsts (walk short t w)))
     unfold_tree (scalar a x) w e at n c m k g =
         visit (scalar a x) w e at n m k (is_again short (scalar a x) w) refl (scalar_at (anchor_of repeated (scalar a x) w) (written_tag 0 a) double x) [] g
         (λ i. ap (λ z. and_then {Y = Tree × Table} (placed at z) (λ r. Ok (scalar r.0 r.1, closed (anchor_of repeated (scalar a x) w) (length e) (scalar r.0 r.1) (opened (anchor_of repeated (scalar a x) w) e)))) c
@@ -272,20 +272,20 @@ module _ (short : Tree → Bool) (repeated : List Tree) where
     unfold_tree (sequence a ts) w e at n c m k g =
         let u : List Tree = w ++ (sequence a ts ∷ []) in
         let o = anchor_of repeated (sequence a ts) w in
-        visit (sequence a ts) w e at n m k (is_again short (sequence a ts) w) refl (sequence_at o (written_tag 1 a) true (mark_trees short repeated ts u)) (walk_trees short ts u) g
-        (λ i. ap (λ z. and_then {Y = Tree × Table} (placed at z) (λ h. and_then (unfold_all (mark_trees short repeated ts u) (opened o e) (suc at)) (λ r. Ok (sequence h r.0, closed o (length e) (sequence h r.0) r.1)))) c.0
-        ∙ finish (sequence a) ts w e (firsts (walk_trees short ts u)) (λ f. unfold_all (mark_trees short repeated ts u) f (suc at)) k
+        visit (sequence a ts) w e at n m k (is_again short (sequence a ts) w) refl (sequence_at o (written_tag 1 a) true (serialize_all short repeated ts u)) (walk_trees short ts u) g
+        (λ i. ap (λ z. and_then {Y = Tree × Table} (placed at z) (λ h. and_then (unfold_all (serialize_all short repeated ts u) (opened o e) (suc at)) (λ r. Ok (sequence h r.0, closed o (length e) (sequence h r.0) r.1)))) c.0
+        ∙ finish (sequence a) ts w e (firsts (walk_trees short ts u)) (λ f. unfold_all (serialize_all short repeated ts u) f (suc at)) k
         (λ f l. unfold_trees ts u f (suc at) n c.1 (AllNeat-append w (sequence a ts ∷ []) m (n, tt)) l i))
     unfold_tree (mapping a ps) w e at n c m k g =
         let u : List Tree = w ++ (mapping a ps ∷ []) in
         let o = anchor_of repeated (mapping a ps) w in
-        visit (mapping a ps) w e at n m k (is_again short (mapping a ps) w) refl (mapping_at o (written_tag 2 a) true (mark_pairs short repeated ps u)) (walk_pairs short ps u) g
-        (λ i. ap (λ z. and_then {Y = Tree × Table} (placed at z) (λ h. and_then (unfold_pairs (mark_pairs short repeated ps u) (opened o e) (suc at)) (λ r. Ok (mapping h r.0, closed o (length e) (mapping h r.0) r.1)))) c.0
-        ∙ finish (mapping a) ps w e (firsts (walk_pairs short ps u)) (λ f. unfold_pairs (mark_pairs short repeated ps u) f (suc at)) k
+        visit (mapping a ps) w e at n m k (is_again short (mapping a ps) w) refl (mapping_at o (written_tag 2 a) true (serialize_pairs short repeated ps u)) (walk_pairs short ps u) g
+        (λ i. ap (λ z. and_then {Y = Tree × Table} (placed at z) (λ h. and_then (unfold_pairs (serialize_pairs short repeated ps u) (opened o e) (suc at)) (λ r. Ok (mapping h r.0, closed o (length e) (mapping h r.0) r.1)))) c.0
+        ∙ finish (mapping a) ps w e (firsts (walk_pairs short ps u)) (λ f. unfold_pairs (serialize_pairs short repeated ps u) f (suc at)) k
         (λ f l. unfold_entries ps u f (suc at) n c.1 (AllNeat-append w (mapping a ps ∷ []) m (n, tt)) l i))
 
-    unfold_trees : (ts : Trees) (w : List Tree) (e : Table) (at : ℕ) → NeatTrees ts → ResolvesAll ts → AllNeat w → Known (heights ts) 0 (anchored repeated w) e → AllAnchored (agains (walk_trees short ts w))
-        → unfold_all (mark_trees short repeated ts w) e at ≡ Ok (ts, e ++ table_of w (firsts (walk_trees short ts w)))
+    unfold_trees : (ts : Trees) (w : List Tree) (e : Table) (at : ℕ) → AreArranged ts → ResolvesAll ts → AllNeat w → Known (heights ts) 0 (anchored repeated w) e → AllAnchored (agains (walk_trees short ts w))
+        → unfold_all (serialize_all short repeated ts w) e at ≡ Ok (ts, e ++ table_of w (firsts (walk_trees short ts w)))
     unfold_trees end w e at n c m k g = ap (λ z. Ok (end, z)) (sym (append-nil e))
     unfold_trees (item t ts) w e at n c m k g =
         let p : List Place = walk short t w in
@@ -294,11 +294,11 @@ module _ (short : Tree → Bool) (repeated : List Tree) where
         let h = parts p q g in
         let i = unfold_tree t w e at n.0 c.0 m (Known-less (max (suc (height t)) (heights ts)) (suc (height t)) 0 (anchored repeated w) e (omega arith) k) h.0 in
         let l = after (heights ts) w e (firsts p) (Known-less (max (suc (height t)) (heights ts)) (heights ts) 0 (anchored repeated w) e (omega arith) k) in
-        let j = unfold_trees ts u (e ++ table_of w (firsts p)) (at + event_count (mark short repeated t w)) n.1 c.1 (AllNeat-append w (firsts p) m (news_neat t w n.0)) l h.1 in
+        let j = unfold_trees ts u (e ++ table_of w (firsts p)) (at + event_count (serialize short repeated t w)) n.1 c.1 (AllNeat-append w (firsts p) m (news_neat t w n.0)) l h.1 in
         rw (i, j) (ap (λ z. Ok (item t ts, z)) (both e w p q))
 
-    unfold_entries : (ps : Pairs) (w : List Tree) (e : Table) (at : ℕ) → NeatPairs ps → ResolvesPairs ps → AllNeat w → Known (heights_of_pairs ps) 0 (anchored repeated w) e → AllAnchored (agains (walk_pairs short ps w))
-        → unfold_pairs (mark_pairs short repeated ps w) e at ≡ Ok (ps, e ++ table_of w (firsts (walk_pairs short ps w)))
+    unfold_entries : (ps : Pairs) (w : List Tree) (e : Table) (at : ℕ) → ArePairsArranged ps → ResolvesPairs ps → AllNeat w → Known (heights_of_pairs ps) 0 (anchored repeated w) e → AllAnchored (agains (walk_pairs short ps w))
+        → unfold_pairs (serialize_pairs short repeated ps w) e at ≡ Ok (ps, e ++ table_of w (firsts (walk_pairs short ps w)))
     unfold_entries done w e at n c m k g = ap (λ z. Ok (done, z)) (sym (append-nil e))
     unfold_entries (entry x v ps) w e at n c m k g =
         let p : List Place = walk short x w in
@@ -310,26 +310,26 @@ module _ (short : Tree → Bool) (repeated : List Tree) where
         let hh = parts q r h.1 in
         let top : ℕ = heights_of_pairs (entry x v ps) in
         let f : Table = e ++ table_of w (firsts p) in
-        let b : ℕ = at + event_count (mark short repeated x w) in
+        let b : ℕ = at + event_count (serialize short repeated x w) in
         let i = unfold_tree x w e at n.0 c.0 m (Known-less top (suc (height x)) 0 (anchored repeated w) e (omega arith) k) h.0 in
         let l = after top w e (firsts p) k in
         let mu = AllNeat-append w (firsts p) m (news_neat x w n.0) in
         let j = unfold_tree v u f b n.1 c.1 mu (Known-less top (suc (height v)) 0 (anchored repeated u) f (omega arith) l) hh.0 in
         let ll = after (heights_of_pairs ps) u f (firsts q) (Known-less top (heights_of_pairs ps) 0 (anchored repeated u) f (omega arith) l) in
-        let o = unfold_entries ps s (f ++ table_of u (firsts q)) (b + event_count (mark short repeated v u)) n.3 c.2 (AllNeat-append u (firsts q) mu (news_neat v u n.1)) ll hh.1 in
+        let o = unfold_entries ps s (f ++ table_of u (firsts q)) (b + event_count (serialize short repeated v u)) n.3 c.2 (AllNeat-append u (firsts q) mu (news_neat v u n.1)) ll hh.1 in
         rw (i, j, o) (ap (λ z. Ok (entry x v ps, z)) (both3 e w p q r))
 
 -- ---- whole documents
 
-abbrev marks_of : (Tree → Bool) → Tree → Marked
-marks_of short t = mark short (agains (walk short t [])) t []
+abbrev marks_of : (Tree → Bool) → Tree → SerialNode
+marks_of short t = serialize short (agains (walk short t [])) t []
 
 all-themselves : (xs ys : List Tree) → ((x : Tree) → list_any (same x) ys ≡ true → list_any (same x) xs ≡ true) → list_all (is_anchored xs) ys ≡ true
 all-themselves xs [] h = refl
 all-themselves xs (y ∷ ys) h = both_and (is_anchored xs y) (list_all (is_anchored xs) ys) (h y (or_left (same y y) (list_any (same y) ys) (same-refl y)))
     (all-themselves xs ys (λ x i. h x (or_right (same x y) (list_any (same x) ys) i)))
 
-pub marks_unfold : (short : Tree → Bool) (t : Tree) (at : ℕ) → Neat t → Resolves t
+pub marks_unfold : (short : Tree → Bool) (t : Tree) (at : ℕ) → IsArranged t → Resolves t
     → unfold_node (marks_of short t) [] at ≡ Ok (t, rows 0 (anchored (agains (walk short t [])) (firsts (walk short t []))))
 marks_unfold short t at n c = unfold_tree short (agains (walk short t [])) t [] [] at n c tt tt (all-themselves (agains (walk short t [])) (agains (walk short t [])) (λ x i. i))
 
@@ -337,7 +337,7 @@ found_first : {X Y E : Type 0} (x y : X) (z w : Y) → ◌≡◌ {A = Result (X 
 found_first {X} {Y} x y z w e = let q : ◌≡◌ {A = X × Y} (x, z) (y, w) = cc in ap (λ p. p.0) q
 
 -- neat trees with the same marks are one
-pub marks_one : (short : Tree → Bool) (t u : Tree) → Neat t → Neat u → Resolves t → Resolves u → marks_of short t ≡ marks_of short u → t ≡ u
+pub marks_one : (short : Tree → Bool) (t u : Tree) → IsArranged t → IsArranged u → Resolves t → Resolves u → marks_of short t ≡ marks_of short u → t ≡ u
 marks_one short t u n m c d e =
     let a = marks_unfold short t 0 n c in
     let b = marks_unfold short u 0 m d in

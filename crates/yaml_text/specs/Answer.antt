@@ -26,17 +26,17 @@ pub record FurthestAlone {V : Type 0} (R : Rule V) (i j : ℕ) (v : V) : Type 0 
   pub only : (k : ℕ) (w : V) → R i k w → w ≡ v
 
 -- the faults that a scalar may have: each but want of memory means that P holds
-abbrev pub Refuses : Fault → Type 0 → Type 0
-Refuses (fault.Syntax at) P = P
-Refuses (fault.Tab at) P = P
-Refuses (fault.BadEscape at) P = P
-Refuses fault.OutOfMemory P = Unit {0}
-Refuses _ P = ⊥
+abbrev pub ScalarFaultMeans : Fault → Type 0 → Type 0
+ScalarFaultMeans (fault.Syntax at) P = P
+ScalarFaultMeans (fault.Tab at) P = P
+ScalarFaultMeans (fault.BadEscape at) P = P
+ScalarFaultMeans fault.OutOfMemory P = Unit {0}
+ScalarFaultMeans _ P = ⊥
 
 -- the answer is the reading that Best names, or there is none
 abbrev pub Answers : {V X : Type 0} (Best : Rule V → Rule V) (R : Rule V) → ℕ → (X → ℕ) → (X → V) → Result X Fault → Type 0
 Answers Best R i end value (Ok x) = Best R i (end x) (value x)
-Answers Best R i end value (Err e) = Refuses e (Unread R i)
+Answers Best R i end value (Err e) = ScalarFaultMeans e (Unread R i)
 
 -- the faults that a reader of events answers
 abbrev pub IsRefusal : Fault → Type 0
@@ -52,7 +52,7 @@ IsRefusal fault.OutOfMemory = Unit {0}
 IsRefusal _ = ⊥
 
 -- the text can't be read on
-abbrev pub IsUnread : Fault → Type 0
-IsUnread (fault.Syntax at) = Unit {0}
-IsUnread (fault.Tab at) = Unit {0}
-IsUnread _ = ⊥
+abbrev pub IsSyntaxFault : Fault → Type 0
+IsSyntaxFault (fault.Syntax at) = Unit {0}
+IsSyntaxFault (fault.Tab at) = Unit {0}
+IsSyntaxFault _ = ⊥

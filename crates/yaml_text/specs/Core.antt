@@ -50,9 +50,9 @@ abbrev pub signed : Bool → ℕ → ℤ
 signed negative n = cond negative (neg_ℤ (pos n)) (pos n)
 
 -- what stands after these two characters
-abbrev pub after : ℕ → ℕ → List ℕ → Option (List ℕ)
-after a b (c ∷ d ∷ x) = cond (c == a && d == b) (Some x) None
-after a b _ = None
+abbrev pub after_prefix : ℕ → ℕ → List ℕ → Option (List ℕ)
+after_prefix a b (c ∷ d ∷ x) = cond (c == a && d == b) (Some x) None
+after_prefix a b _ = None
 
 abbrev pub digits_after : ℕ → Option (List ℕ) → Option ℤ
 digits_after base None = None
@@ -66,7 +66,7 @@ first_some None o = o
 unfoldable pub int_of : List ℕ → Option ℤ
 int_of x =
     first_some (cond (are_digits 10 (unsigned x)) (Some (signed (is_negative x) (number_in 10 (unsigned x)))) None)
-    (first_some (digits_after 8 (after 48 111 x)) (digits_after 16 (after 48 120 x)))
+    (first_some (digits_after 8 (after_prefix 48 111 x)) (digits_after 16 (after_prefix 48 120 x)))
 
 -- the text before the first character that passes, and the text after it, where there is one
 unfoldable pub split_at : (ℕ → Bool) → List ℕ → List ℕ × Option (List ℕ)
@@ -176,8 +176,8 @@ abbrev pub accepted : List ℕ → Value → Option Cause → Resolved
 accepted g v None = Ok (g, content_of v)
 accepted g v (Some cause) = Err cause
 
-abbrev pub taken : List ℕ → Value → Resolved
-taken g v = accepted g v (refused v)
+abbrev pub by_range : List ℕ → Value → Resolved
+by_range g v = accepted g v (refused v)
 
 -- what the text denotes by this tag's own patterns
 unfoldable pub null_of : List ℕ → Option Value
@@ -202,7 +202,7 @@ value_of g x =
 
 -- by a pattern, or else
 abbrev pub by_pattern : List ℕ → Option Value → Resolved → Resolved
-by_pattern g (Some v) or = taken g v
+by_pattern g (Some v) or = by_range g v
 by_pattern g None or = or
 
 -- by the first pattern of the table that matches, else str

@@ -6,9 +6,9 @@ abbrev pub one_more : ℕ → ℕ
 one_more n = min (n + 1) (2 ^ 64 - 1)
 
 -- one more after a call that answered an error
-abbrev pub counted : {T E : Type 0} → Result T E → ℕ → ℕ
-counted (Ok value) n = n
-counted (Err error) n = one_more n
+abbrev pub counted_call : {T E : Type 0} → Result T E → ℕ → ℕ
+counted_call (Ok value) n = n
+counted_call (Err error) n = one_more n
 
 -- and after a write of a nonempty piece that took no byte
 abbrev pub counted_write : {E : Type 0} → Result ℕ E → List ℕ → ℕ → ℕ

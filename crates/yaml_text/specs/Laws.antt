@@ -12,7 +12,7 @@ use Rattle.yaml_text.specs.EventText.{events_text, EventText}
 use Rattle.yaml_text.specs.Spell.{spell, spell_bytes, spelled}
 use Rattle.yaml_text.specs.Block.{block, block_bytes, blocked}
 use Rattle.yaml_text.specs.Text.{Text}
-use Rattle.yaml_text.specs.Marked.{Marked, flat, Document, stream_events}
+use Rattle.yaml_text.specs.Serial.{SerialNode, flat, Document, stream_events}
 use Rattle.yaml_text.specs.Unfold.{trees_of}
 use Rattle.yaml_text.specs.Sound.{DocumentsSound, AllProper}
 use Rattle.yaml_text.specs.Means.{StandsFor, Means, Understood}
@@ -62,9 +62,9 @@ SameIsArranged = (t u : Tree) → Keyed t → Keyed u → Same t u ↔ (arranged
 
 -- ---- events
 
--- The events of a node, whatever follows them, are those of one marked tree, and end at one place.
+-- The events of a node, whatever follows them, are those of one serialization tree, and end at one place.
 abbrev pub NodeEventsTell : Type 0
-NodeEventsTell = (m n : Marked) (more others : List Event) → flat m more ≡ flat n others → (m ≡ n) × (more ≡ others)
+NodeEventsTell = (m n : SerialNode) (more others : List Event) → flat m more ≡ flat n others → (m ≡ n) × (more ≡ others)
 
 -- The events of a stream are those of one list of documents.
 abbrev pub StreamEventsTell : Type 0

@@ -4,11 +4,11 @@ pub mod Order
 pub mod Walk
 pub mod Limits
 pub mod Event
-pub mod Marked
+pub mod Serial
 pub mod CharText
 pub mod Tag
 pub mod TagText
-pub mod Mark
+pub mod Serialize
 pub mod NodeText
 pub mod Spell
 pub mod Block

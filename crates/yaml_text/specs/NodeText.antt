@@ -1,9 +1,9 @@
--- The canonical text of a marked tree, as characters, before more text.
+-- The canonical text of a serialization tree, as characters, before more text.
 use Rattle.std.specs.Prelude.{ℕ, ◌++◌, List, [], ◌∷◌}
 use Rattle.std.specs.Str.{chars}
 use Rattle.std.specs.declared.option.Option.TheVariants.{None, Some}
 use Rattle.yaml_text.specs.Event.{Anchor}
-use Rattle.yaml_text.specs.Marked.{Marked, AllMarked, MarkedPairs, alias, scalar_at, sequence_at, mapping_at, end_marks, item_mark, done_marks, entry_marks}
+use Rattle.yaml_text.specs.Serial.{SerialNode, SerialNodes, SerialPairs, alias_at, scalar_at, sequence_at, mapping_at, end_serial, item_serial, done_serial, entry_serial}
 use Rattle.yaml_text.specs.CharText.{spell_char}
 use Rattle.yaml_text.specs.TagText.{tag_text}
 
@@ -19,18 +19,18 @@ quoted (c ∷ cs) more = spell_char c ++ quoted cs more
 
 -- in flow style, each scalar in double quotes
 unfoldable mutual
-  pub text : Marked → List ℕ → List ℕ
-  text (alias name) more = 42 ∷ (chars name ++ more)
-  text (scalar_at a g y x) more = anchor_text a (tag_text g ++ (34 ∷ quoted (chars x) more))
-  text (sequence_at a g b ts) more = anchor_text a (tag_text g ++ (91 ∷ items_text [] ts more))
-  text (mapping_at a g b ps) more = anchor_text a (tag_text g ++ (123 ∷ pairs_text [] ps more))
+  pub node_text : SerialNode → List ℕ → List ℕ
+  node_text (alias_at name) more = 42 ∷ (chars name ++ more)
+  node_text (scalar_at a g y x) more = anchor_text a (tag_text g ++ (34 ∷ quoted (chars x) more))
+  node_text (sequence_at a g b ts) more = anchor_text a (tag_text g ++ (91 ∷ items_text [] ts more))
+  node_text (mapping_at a g b ps) more = anchor_text a (tag_text g ++ (123 ∷ pairs_text [] ps more))
 
   -- the items, each after a separator, and the bracket
-  pub items_text : List ℕ → AllMarked → List ℕ → List ℕ
-  items_text before end_marks more = 93 ∷ more
-  items_text before (item_mark t ts) more = before ++ text t (items_text (44 ∷ 32 ∷ []) ts more)
+  pub items_text : List ℕ → SerialNodes → List ℕ → List ℕ
+  items_text before end_serial more = 93 ∷ more
+  items_text before (item_serial t ts) more = before ++ node_text t (items_text (44 ∷ 32 ∷ []) ts more)
 
   -- the entries, each after a separator, and the brace
-  pub pairs_text : List ℕ → MarkedPairs → List ℕ → List ℕ
-  pairs_text before done_marks more = 125 ∷ more
-  pairs_text before (entry_marks k v ps) more = before ++ text k (32 ∷ 58 ∷ 32 ∷ text v (pairs_text (44 ∷ 32 ∷ []) ps more))
+  pub pairs_text : List ℕ → SerialPairs → List ℕ → List ℕ
+  pairs_text before done_serial more = 125 ∷ more
+  pairs_text before (entry_serial k v ps) more = before ++ node_text k (32 ∷ 58 ∷ 32 ∷ node_text v (pairs_text (44 ∷ 32 ∷ []) ps more))

@@ -7,7 +7,7 @@ use Rattle.yaml_text.specs.grammar.Tags.{is_name}
 use Rattle.yaml_text.specs.Text.{is_text}
 use Rattle.yaml_text.specs.Tree.{Tree}
 use Rattle.yaml_text.specs.Event.{WrittenTag, full, Anchor}
-use Rattle.yaml_text.specs.Marked.{Marked, AllMarked, MarkedPairs, alias, scalar_at, sequence_at, mapping_at, end_marks, item_mark, done_marks, entry_marks, Document}
+use Rattle.yaml_text.specs.Serial.{SerialNode, SerialNodes, SerialPairs, alias_at, scalar_at, sequence_at, mapping_at, end_serial, item_serial, done_serial, entry_serial, Document}
 use Rattle.yaml_text.specs.Proper.{IsProper}
 use Rattle.yaml_text.specs.Tag.{IsTag}
 
@@ -32,19 +32,19 @@ SoundAnchor None = Unit {0}
 SoundAnchor (Some name) = IsAnchor name
 
 abbrev mutual
-  pub Sound : Marked → Type 0
-  Sound (alias name) = IsAnchor name
+  pub Sound : SerialNode → Type 0
+  Sound (alias_at name) = IsAnchor name
   Sound (scalar_at a g y x) = SoundAnchor a × SoundTag g × (is_utf8 x ≡ true)
   Sound (sequence_at a g b ts) = SoundAnchor a × SoundTag g × AllSound ts
   Sound (mapping_at a g b ps) = SoundAnchor a × SoundTag g × PairsSound ps
 
-  pub AllSound : AllMarked → Type 0
-  AllSound end_marks = Unit {0}
-  AllSound (item_mark t ts) = Sound t × AllSound ts
+  pub AllSound : SerialNodes → Type 0
+  AllSound end_serial = Unit {0}
+  AllSound (item_serial t ts) = Sound t × AllSound ts
 
-  pub PairsSound : MarkedPairs → Type 0
-  PairsSound done_marks = Unit {0}
-  PairsSound (entry_marks k v ps) = Sound k × Sound v × PairsSound ps
+  pub PairsSound : SerialPairs → Type 0
+  PairsSound done_serial = Unit {0}
+  PairsSound (entry_serial k v ps) = Sound k × Sound v × PairsSound ps
 
 abbrev pub DocumentsSound : List Document → Type 0
 DocumentsSound [] = Unit {0}

@@ -6,41 +6,41 @@ use Rattle.yaml_text.specs.Tree.{Tree, scalar, sequence, mapping, end, done}
 use Rattle.yaml_text.specs.Order.{arranged}
 use Rattle.yaml_text.specs.Walk.{walk, agains}
 use Rattle.yaml_text.specs.Event.{Event, double}
-use Rattle.yaml_text.specs.Marked.{Marked, scalar_at, sequence_at, mapping_at, end_marks, done_marks, Document, stream_events}
+use Rattle.yaml_text.specs.Serial.{SerialNode, scalar_at, sequence_at, mapping_at, end_serial, done_serial, Document, stream_events}
 use Rattle.yaml_text.specs.TagText.{written_tag}
-use Rattle.yaml_text.specs.Mark.{mark}
-use Rattle.yaml_text.specs.NodeText.{text}
+use Rattle.yaml_text.specs.Serialize.{serialize}
+use Rattle.yaml_text.specs.NodeText.{node_text}
 
 -- how many bytes a node takes by itself, its tag included
-unfoldable pub text_len : Marked → ℕ
-text_len m = length (encode_utf8_all (text m []))
+unfoldable pub text_len : SerialNode → ℕ
+text_len m = length (encode_utf8_all (node_text m []))
 
 -- a scalar or an empty collection of at most `short_limit` bytes
 unfoldable pub short : Tree → Bool
 short (scalar g x) = nat_le (text_len (scalar_at None (written_tag 0 g) double x)) short_limit
-short (sequence g end) = nat_le (text_len (sequence_at None (written_tag 1 g) true end_marks)) short_limit
-short (mapping g done) = nat_le (text_len (mapping_at None (written_tag 2 g) true done_marks)) short_limit
+short (sequence g end) = nat_le (text_len (sequence_at None (written_tag 1 g) true end_serial)) short_limit
+short (mapping g done) = nat_le (text_len (mapping_at None (written_tag 2 g) true done_serial)) short_limit
 short _ = false
 
--- the marks of a tree whose pairs stand in order
-abbrev pub marks_of_arranged : Tree → Marked
-marks_of_arranged t = mark short (agains (walk short t [])) t []
+-- the serialization tree of a tree whose pairs stand in order
+abbrev pub serial_of_arranged : Tree → SerialNode
+serial_of_arranged t = serialize short (agains (walk short t [])) t []
 
-unfoldable pub marks_of : Tree → Marked
-marks_of t = marks_of_arranged (arranged t)
+unfoldable pub serial_of : Tree → SerialNode
+serial_of t = serial_of_arranged (arranged t)
 
 -- the text of a forest, as characters
 unfoldable pub spell : List Tree → List ℕ
 spell [] = []
-spell (t ∷ f) = 45 ∷ 45 ∷ 45 ∷ 32 ∷ text (marks_of t) (10 ∷ spell f)
+spell (t ∷ f) = 45 ∷ 45 ∷ 45 ∷ 32 ∷ node_text (serial_of t) (10 ∷ spell f)
 
 -- and as bytes
 unfoldable pub spell_bytes : List Tree → List ℕ
 spell_bytes f = encode_utf8_all (spell f)
 
 -- its documents, each with an explicit start alone, and its events
-abbrev pub document_of : Marked → Document
+abbrev pub document_of : SerialNode → Document
 document_of m = record { starts = true; root = m; ends = false }
 
 unfoldable pub spelled : List Tree → List Event
-spelled f = stream_events (map (λ t. document_of (marks_of t)) f)
+spelled f = stream_events (map (λ t. document_of (serial_of t)) f)

@@ -13,11 +13,11 @@ abbrev pub is_text : ℕ → Bool
 is_text c = is_printable c && not (c == 0xFEFF)
 
 -- the byte order mark, and its length where the bytes begin with one
-abbrev pub mark : List ℕ
-mark = 0xEF ∷ 0xBB ∷ 0xBF ∷ []
+abbrev pub byte_order_mark : List ℕ
+byte_order_mark = 0xEF ∷ 0xBB ∷ 0xBF ∷ []
 
 abbrev pub mark_len : List ℕ → ℕ
-mark_len bytes = cond (starts_with ◌==◌ bytes mark) 3 0
+mark_len bytes = cond (starts_with ◌==◌ bytes byte_order_mark) 3 0
 
 -- the bytes are a text of these characters
 pub record Text (bytes chars : List ℕ) : Type 0 where

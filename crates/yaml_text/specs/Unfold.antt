@@ -5,7 +5,7 @@ use Rattle.std.specs.declared.option.Option.TheVariants.{None, Some}
 use Rattle.yaml_text.specs.Tree.{Tree, Trees, Pairs, scalar, sequence, mapping, end, item, done, entry}
 use Rattle.std.specs.Prelude.{bytes_eq}
 use Rattle.yaml_text.specs.Event.{Anchor}
-use Rattle.yaml_text.specs.Marked.{Marked, AllMarked, MarkedPairs, alias, scalar_at, sequence_at, mapping_at, end_marks, item_mark, done_marks, entry_marks, flat, Document}
+use Rattle.yaml_text.specs.Serial.{SerialNode, SerialNodes, SerialPairs, alias_at, scalar_at, sequence_at, mapping_at, end_serial, item_serial, done_serial, entry_serial, flat, Document}
 use Rattle.yaml_text.specs.Core.{Cause, undefined_alias, cyclic_alias, resolve, collection_tag}
 
 -- what was found, or the first refusal: its cause, and its event's number
@@ -48,13 +48,13 @@ tree_named (Some None) = Err cyclic_alias
 tree_named (Some (Some t)) = Ok t
 
 -- how many events it has
-abbrev pub event_count : Marked → ℕ
+abbrev pub event_count : SerialNode → ℕ
 event_count m = length (flat m [])
 
 -- The last number is that of the first event.
 unfoldable mutual
-  pub unfold_node : Marked → Table → ℕ → Outcome (Tree × Table)
-  unfold_node (alias name) e at = and_then (placed at (tree_named (last_named name e))) (λ t. Ok (t, e))
+  pub unfold_node : SerialNode → Table → ℕ → Outcome (Tree × Table)
+  unfold_node (alias_at name) e at = and_then (placed at (tree_named (last_named name e))) (λ t. Ok (t, e))
   unfold_node (scalar_at a g y x) e at =
       and_then (placed at (resolve g y x)) (λ r. Ok (scalar r.0 r.1, closed a (length e) (scalar r.0 r.1) (opened a e)))
   unfold_node (sequence_at a g b ts) e at =
@@ -62,13 +62,13 @@ unfoldable mutual
   unfold_node (mapping_at a g b ps) e at =
       and_then (placed at (collection_tag 2 g)) (λ h. and_then (unfold_pairs ps (opened a e) (suc at)) (λ r. Ok (mapping h r.0, closed a (length e) (mapping h r.0) r.1)))
 
-  pub unfold_all : AllMarked → Table → ℕ → Outcome (Trees × Table)
-  unfold_all end_marks e at = Ok (end, e)
-  unfold_all (item_mark t ts) e at = and_then (unfold_node t e at) (λ r. and_then (unfold_all ts r.1 (at + event_count t)) (λ s. Ok (item r.0 s.0, s.1)))
+  pub unfold_all : SerialNodes → Table → ℕ → Outcome (Trees × Table)
+  unfold_all end_serial e at = Ok (end, e)
+  unfold_all (item_serial t ts) e at = and_then (unfold_node t e at) (λ r. and_then (unfold_all ts r.1 (at + event_count t)) (λ s. Ok (item r.0 s.0, s.1)))
 
-  pub unfold_pairs : MarkedPairs → Table → ℕ → Outcome (Pairs × Table)
-  unfold_pairs done_marks e at = Ok (done, e)
-  unfold_pairs (entry_marks k v ps) e at =
+  pub unfold_pairs : SerialPairs → Table → ℕ → Outcome (Pairs × Table)
+  unfold_pairs done_serial e at = Ok (done, e)
+  unfold_pairs (entry_serial k v ps) e at =
       and_then (unfold_node k e at) (λ r. and_then (unfold_node v r.1 (at + event_count k)) (λ s.
       and_then (unfold_pairs ps s.1 (at + event_count k + event_count v)) (λ u. Ok (entry r.0 s.0 u.0, u.1))))
 

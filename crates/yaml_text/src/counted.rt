@@ -56,7 +56,7 @@ impl<R: Read> Read for Counted<R> {
     ghost use Rattle.std.specs.Prelude.{◌≡◌};
     ghost use Rattle.std.specs.Io.{ReadsAtMost};
     ghost use Rattle.std.specs.Io.KnownBytes.{ReadConsumes};
-    ghost use Rattle.yaml_text.specs.Count.{counted};
+    ghost use Rattle.yaml_text.specs.Count.{counted_call};
     ghost use Rattle.yaml_text.specs.CountedModel.{inner_of, faults_of, flushed_of};
 
     ghost remaining = { λ c. R.remaining (inner_of c) };
@@ -64,7 +64,7 @@ impl<R: Read> Read for Counted<R> {
     fn read(&mut self, buf: &mut [u8]) -> Result<usize>
         ensures bound { ReadsAtMost result buf.new }
         ensures bytes { ReadConsumes (R.remaining (inner_of self.old)) (R.remaining (inner_of self.new)) result buf.new }
-        ensures faults { faults_of self.new ≡ counted result (faults_of self.old) }
+        ensures faults { faults_of self.new ≡ counted_call result (faults_of self.old) }
         ensures flushed { flushed_of self.new ≡ flushed_of self.old }
     {
         let result = self.inner.read(buf);
@@ -79,7 +79,7 @@ impl<W: Write> Write for Counted<W> {
     ghost use Rattle.std.specs.Prelude.{◌≡◌, false, is_ok};
     ghost use Rattle.std.specs.Io.{WritesAtMost};
     ghost use Rattle.std.specs.Io.KnownBytes.{WriteAppends, Keeps};
-    ghost use Rattle.yaml_text.specs.Count.{counted, counted_write};
+    ghost use Rattle.yaml_text.specs.Count.{counted_call, counted_write};
     ghost use Rattle.yaml_text.specs.CountedModel.{inner_of, faults_of, flushed_of};
 
     ghost contents = { λ c. W.contents (inner_of c) };
@@ -104,7 +104,7 @@ impl<W: Write> Write for Counted<W> {
 
     fn flush(&mut self) -> Result<()>
         ensures bytes { Keeps (W.contents (inner_of self.old)) (W.contents (inner_of self.new)) }
-        ensures faults { faults_of self.new ≡ counted result (faults_of self.old) }
+        ensures faults { faults_of self.new ≡ counted_call result (faults_of self.old) }
         ensures flushed { flushed_of self.new ≡ is_ok result }
     {
         let result = self.inner.flush();

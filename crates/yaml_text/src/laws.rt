@@ -24,7 +24,7 @@ pub fn same_is_equivalence()
     ensures arranged { SameIsArranged }
 {}
 
-/// The events of a node belong to one marked tree, and those of a stream to one list of
+/// The events of a node belong to one serialization tree, and those of a stream to one list of
 /// documents.
 pub fn events_belong_to_one()
     ensures node { NodeEventsTell }

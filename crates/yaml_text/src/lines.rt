@@ -2,12 +2,12 @@
 //! Offsets count bytes of the text.
 ghost use Rattle.std.specs.Prelude.{◌≡◌, ◌≢◌, ◌≤◌, ◌<◌, ◌+◌, IfSome, IfNone, Some, slice_get, ℕ};
 ghost use Rattle.std.specs.Bool.{OnTrue, OnFalse};
-ghost use Rattle.yaml_text.specs.Answer.{IsUnread, IsRefusal};
+ghost use Rattle.yaml_text.specs.Answer.{IsSyntaxFault, IsRefusal};
 ghost use Rattle.yaml_text.specs.Lines.{line_brk, DashesOf, Dashes, AfterLine, Uncut, blank_rest};
 ghost use Rattle.yaml_text.specs.Source.{mark_of, text_of, place_of, IsBorder};
 ghost use Rattle.yaml_text.specs.grammar.Characters.{is_space, is_white, is_nb};
 ghost use Rattle.yaml_text.specs.grammar.Rules.{run, Stands, any_span, ◌◆◌};
-ghost use Rattle.yaml_text.specs.grammar.Separation.{StartsLine, Mark, indent, line_end, comment, l_comment};
+ghost use Rattle.yaml_text.specs.grammar.Separation.{StartsLine, DocumentMark, indent, line_end, comment, l_comment};
 
 use crate::chars::Chars;
 use crate::class::{is_break, is_ns, is_white};
@@ -235,8 +235,8 @@ pub fn starts_line(source: &Chars<'_>, at: usize) -> bool
 /// Whether a document mark stands at a border.
 pub fn stands_mark(source: &Chars<'_>, at: usize) -> bool
     requires { IsBorder source.now at }
-    ensures yes { OnTrue result (Mark (text_of source.now) (place_of source.now at)) }
-    ensures no { OnFalse result (Mark (text_of source.now) (place_of source.now at) → ⊥) }
+    ensures yes { OnTrue result (DocumentMark (text_of source.now) (place_of source.now at)) }
+    ensures no { OnFalse result (DocumentMark (text_of source.now) (place_of source.now at) → ⊥) }
 {
     if is_mark(source, at) {
         starts_line(source, at)
@@ -249,7 +249,7 @@ pub fn stands_mark(source: &Chars<'_>, at: usize) -> bool
 /// indentation or separation would stand.
 pub fn unusable(source: &Chars<'_>, at: usize) -> Fault
     requires { IsBorder source.now at }
-    ensures unread { IsUnread result }
+    ensures unread { IsSyntaxFault result }
     ensures refusal { IsRefusal result }
     ensures tab { slice_get (text_of source.now) (place_of source.now at) ≡ Some 9 → result ≡ Fault.Tab (mark_of source.now + at) }
     ensures other { slice_get (text_of source.now) (place_of source.now at) ≢ Some 9 → result ≡ Fault.Syntax (mark_of source.now + at) }

@@ -1,2 +1,3 @@
 mod SameEvents
 mod Answering
+mod Reading

@@ -1,11 +1,10 @@
 -- Events are equal in the code exactly if they are the same as plain values.
-use Rattle.std.proofs.Common.{◌≡◌, ◌↔◌, ℕ, Bool, true, false, ◌&&◌, ◌==◌, List, [], ◌∷◌, Option, Some, None, map, refl, sym, ◌∙◌, ap, subst, rules, Global}
+use Rattle.std.proofs.Common.{◌≡◌, Bool, true, false, ◌&&◌, ◌==◌, List, [], ◌∷◌, Option, Some, None, map, refl, ◌∙◌, ap, rules, Global}
 use Rattle.std.specs.Cmp.Lexicographic.{pointwise}
 use Rattle.std.specs.Cow.{cow_str_bytes}
 use Rattle.std.specs.Option.{option_map}
 use Rattle.std.specs.declared.borrow.CowStr.{CowStr}
 use Rattle.yaml_text.specs.EventModel.{event_of, written_of, style_of}
-use Rattle.yaml_text.specs.Event as plain
 use Rattle.yaml_text.specs.declared.event.Event as code
 use Rattle.yaml_text.specs.declared.event.Event.TheVariants as events
 use Rattle.yaml_text.specs.declared.event.EventTag as code_tag

@@ -1,15 +1,14 @@
 -- What `events` does to its input and its output.
-use Rattle.std.specs.Prelude.{◌≡◌, ◌⊎◌, ℕ, List, Option}
-use Rattle.yaml_text.specs.Answer.{IsRefusal}
+use Rattle.std.specs.Prelude.{◌≡◌, ℕ, List, Option}
 use Rattle.yaml_text.specs.Event.{Event}
 use Rattle.yaml_text.specs.EventText.{EventText}
 use Rattle.yaml_text.specs.Limits.{text_limit}
 use Rattle.yaml_text.specs.Text.{RefusesText}
 use Rattle.yaml_text.specs.grammar.Reading.{Reads}
 use Rattle.yaml_text.specs.declared.fault.Fault.{Fault}
-use Rattle.yaml_text.specs.declared.fault.Fault.TheVariants.{TooLong, OutOfMemory, ReadFault, WriteFault}
+use Rattle.yaml_text.specs.declared.fault.Fault.TheVariants.{TooLong, NotUtf8, NotPrintable, Syntax, Tab, KeyTooLong, TooDeep, BadEscape, BadDirective, UnknownHandle, BadTag, OutOfMemory, ReadFault, WriteFault}
 use Rattle.yaml_text.specs.declared.counted.Counted.{Counted}
-use Rattle.yaml_canon.specs.Claims.{IsText}
+use Rattle.yaml_canon.specs.Claims.{IsNoStream}
 use Rattle.yaml_canon.specs.Gathering.{Gathers}
 use Rattle.yaml_canon.specs.Runs.{FailsReading}
 use Rattle.yaml_canon.specs.Writers.{Printed, Broken}
@@ -20,9 +19,21 @@ pub record IsEventText (bytes text : List ℕ) : Type 0 where
   pub reads : Reads bytes events
   pub is : EventText text events
 
--- The bytes are no text, or they are one and are not read; which of the faults of syntax is told, and where, is not claimed.
+-- What a refusal to read the bytes says of them. Eight faults mean that they are a text that has no reading; which of them is told, and where, is not claimed.
 abbrev pub IsUnread : List ℕ → Fault → Type 0
-IsUnread bytes fault = RefusesText bytes fault ⊎ (IsText bytes × IsRefusal fault)
+IsUnread bytes TooLong = RefusesText bytes TooLong
+IsUnread bytes (NotUtf8 at) = RefusesText bytes (NotUtf8 at)
+IsUnread bytes (NotPrintable at) = RefusesText bytes (NotPrintable at)
+IsUnread bytes (Syntax at) = IsNoStream bytes
+IsUnread bytes (Tab at) = IsNoStream bytes
+IsUnread bytes (KeyTooLong at) = IsNoStream bytes
+IsUnread bytes (TooDeep at) = IsNoStream bytes
+IsUnread bytes (BadEscape at) = IsNoStream bytes
+IsUnread bytes (BadDirective at) = IsNoStream bytes
+IsUnread bytes (UnknownHandle at) = IsNoStream bytes
+IsUnread bytes (BadTag at) = IsNoStream bytes
+IsUnread bytes OutOfMemory = Unit {0}
+IsUnread bytes _ = ⊥
 
 module _ {R W : Type 0} (remaining : R → Option (List ℕ)) (contents : W → Option (List ℕ)) where
   -- The reader gave all that it had, and its event text was written.

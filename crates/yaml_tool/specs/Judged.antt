@@ -7,7 +7,7 @@ use Rattle.yaml_text.specs.grammar.Reading.{Reads}
 use Rattle.yaml_text.specs.declared.fault.Fault.{Fault}
 use Rattle.yaml_text.specs.declared.fault.Fault.TheVariants.{NotUtf8, WriteFault}
 use Rattle.yaml_text.specs.declared.counted.Counted.{Counted}
-use Rattle.yaml_events.specs.Answer.{IsRefused}
+use Rattle.yaml_events.specs.Answer.{RefusesEventText}
 use Rattle.yaml_canon.specs.Comparing.{Compares, ComparerRefuses}
 use Rattle.yaml_canon.specs.Writers.{Printed, Broken}
 use Rattle.yaml_tool.specs.EventRuns.{IsUnread}
@@ -43,7 +43,7 @@ IsNotUtf8 lines _ = ⊥
 abbrev pub MatchRefuses : List ℕ → List ℕ → Refusal → Type 0
 MatchRefuses input lines (Input fault) = IsUnread input fault
 MatchRefuses input lines (EventTextFault fault) = IsReadable input × IsNotUtf8 lines fault
-MatchRefuses input lines (EventLines fault) = IsReadable input × IsRefused lines fault
+MatchRefuses input lines (EventLines fault) = IsReadable input × RefusesEventText lines fault
 MatchRefuses input lines _ = ⊥
 
 module _ {W : Type 0} (contents : W → Option (List ℕ)) where

@@ -1,15 +1,22 @@
 -- Which refusals there are of opening and reading a file.
-use Rattle.std.specs.Prelude.{◌≡◌}
+use Rattle.std.specs.Prelude.{◌≡◌, ℕ, List, Option}
 use Rattle.yaml_text.specs.declared.fault.Fault.{Fault}
 use Rattle.yaml_text.specs.declared.fault.Fault.TheVariants.{TooLong, OutOfMemory, ReadFault}
+use Rattle.yaml_text.specs.declared.counted.Counted.{Counted}
+use Rattle.yaml_text.specs.Limits.{text_limit}
+use Rattle.yaml_canon.specs.Gathering.{GatherFails}
 use Rattle.yaml_canon.specs.declared.side.Side.{Side}
 use Rattle.yaml_tool.specs.declared.refusal.Refusal.{Refusal}
 use Rattle.yaml_tool.specs.declared.refusal.Refusal.TheVariants.{CannotOpen, Input, OneSide, EventText}
 
--- it can't be opened
-abbrev pub IsUnopened : Refusal → Type 0
-IsUnopened (CannotOpen name) = Unit {0}
-IsUnopened _ = ⊥
+-- the greatest length of an event text, in bytes
+abbrev pub events_limit : ℕ
+events_limit = 1073741824
+
+-- the file of this name can't be opened
+abbrev pub IsUnopened : List ℕ → Refusal → Type 0
+IsUnopened name (CannotOpen told) = told.now ≡ name
+IsUnopened name _ = ⊥
 
 -- it is too long, memory was refused, or a read failed
 abbrev pub IsReadingFault : Fault → Type 0
@@ -19,17 +26,31 @@ IsReadingFault ReadFault = Unit {0}
 IsReadingFault _ = ⊥
 
 -- how that is told of the one input, of a side and of an event text
-abbrev pub IsUnreadInput : Refusal → Type 0
-IsUnreadInput (CannotOpen name) = Unit {0}
-IsUnreadInput (Input fault) = IsReadingFault fault
-IsUnreadInput _ = ⊥
+abbrev pub IsUnreadInput : List ℕ → Refusal → Type 0
+IsUnreadInput name (CannotOpen told) = told.now ≡ name
+IsUnreadInput name (Input fault) = IsReadingFault fault
+IsUnreadInput name _ = ⊥
 
-abbrev pub IsUnreadSide : Side → Refusal → Type 0
-IsUnreadSide side (CannotOpen name) = Unit {0}
-IsUnreadSide side (OneSide told fault) = (told ≡ side) × IsReadingFault fault
-IsUnreadSide side _ = ⊥
+abbrev pub IsUnreadSide : List ℕ → Side → Refusal → Type 0
+IsUnreadSide name side (CannotOpen told) = told.now ≡ name
+IsUnreadSide name side (OneSide told fault) = (told ≡ side) × IsReadingFault fault
+IsUnreadSide name side _ = ⊥
 
-abbrev pub IsUnreadLines : Refusal → Type 0
-IsUnreadLines (CannotOpen name) = Unit {0}
-IsUnreadLines (EventText fault) = IsReadingFault fault
-IsUnreadLines _ = ⊥
+abbrev pub IsUnreadLines : List ℕ → Refusal → Type 0
+IsUnreadLines name (CannotOpen told) = told.now ≡ name
+IsUnreadLines name (EventText fault) = IsReadingFault fault
+IsUnreadLines name _ = ⊥
+
+module _ {R : Type 0} (remaining : R → Option (List ℕ)) where
+  -- the file had more bytes than it may have, memory was refused, or a call failed
+  abbrev pub InputFails : Counted R → Counted R → Refusal → Type 0
+  InputFails old new (Input fault) = GatherFails remaining old new text_limit fault
+  InputFails old new _ = ⊥
+
+  abbrev pub SideFails : Side → Counted R → Counted R → Refusal → Type 0
+  SideFails side old new (OneSide told fault) = (told ≡ side) × GatherFails remaining old new text_limit fault
+  SideFails side old new _ = ⊥
+
+  abbrev pub LinesFail : Counted R → Counted R → Refusal → Type 0
+  LinesFail old new (EventText fault) = GatherFails remaining old new events_limit fault
+  LinesFail old new _ = ⊥

@@ -20,6 +20,6 @@ refusal_status (EventText fault) = fault_status fault
 refusal_status (EventLines fault) = 2
 
 -- the status of an answer
-abbrev pub told_status : Result ℕ Refusal → ℕ
-told_status (Ok status) = status
-told_status (Err refusal) = refusal_status refusal
+abbrev pub answer_status : Result ℕ Refusal → ℕ
+answer_status (Ok status) = status
+answer_status (Err refusal) = refusal_status refusal

@@ -1,14 +1,16 @@
 //! `check`: whether a file's events are those of an event text.
-ghost use Rattle.std.specs.Prelude.{◌≡◌, ◌<◌, ◌-◌, ◌^◌, IfOk, IfErr};
+ghost use Rattle.std.specs.Prelude.{◌≡◌, ◌≤◌, ◌<◌, ◌-◌, ◌^◌, length, IfOk, IfErr};
 ghost use Rattle.yaml_text.specs.CountedModel.{faults_of};
-ghost use Rattle.yaml_tool.specs.Commands.{FilesMatched};
-ghost use Rattle.yaml_tool.specs.Judged.{match_line, HasEvents, MatchRefuses, PrintsMatch, MatchFails, Silent};
-ghost use Rattle.yaml_tool.specs.Refusals.{IsUnreadInput, IsUnreadLines};
+ghost use Rattle.yaml_text.specs.Limits.{text_limit};
+ghost use Rattle.yaml_canon.specs.Gathering.{Gathers};
+ghost use Rattle.yaml_tool.specs.Commands.{FilesMatched, FilesNotMatched};
+ghost use Rattle.yaml_tool.specs.Judged.{match_line, HasEvents, MatchRefuses, PrintsMatch, MatchFails};
+ghost use Rattle.yaml_tool.specs.Refusals.{events_limit, IsUnreadInput, IsUnreadLines, InputFails, LinesFail};
 
 use crate::refusal::Refusal;
 use crate::streams::{open, write_out};
 use std::alloc::Global;
-use std::io::Write;
+use std::io::{Read, Write};
 use std::rt::Files;
 use std::str;
 use yaml_canon::gather;
@@ -22,24 +24,44 @@ use yaml_text::limits::text_limit;
 /// The greatest length of an event text, in bytes.
 const EVENTS_LIMIT: usize = 1_073_741_824;
 
-fn read_input<'a, T: Files>(rt: &T, alloc: Global, name: &'a str) -> Result<Vec<u8>, Refusal<'a>>
-    ensures { IfErr result IsUnreadInput }
+/// All of an input.
+fn gather_input<'a, R: Read>(alloc: Global, file: &mut Counted<R>) -> Result<Vec<u8>, Refusal<'a>>
+    requires { faults_of file.old < 2 ^ 64 - 1 }
+    ensures ok { IfOk result (λ v. Gathers R.remaining file.old file.new text_limit v.items) }
+    ensures err { IfErr result (InputFails R.remaining file.old file.new) }
 {
-    let mut file = open(rt, name)?;
-    match gather(alloc, &mut file, text_limit()) {
+    match gather(alloc, file, text_limit()) {
         Ok(bytes) => Ok(bytes),
         Err(fault) => Err(Refusal::Input(fault)),
     }
 }
 
-fn read_lines<'a, T: Files>(rt: &T, alloc: Global, name: &'a str) -> Result<Vec<u8>, Refusal<'a>>
-    ensures { IfErr result IsUnreadLines }
+/// All of an event text.
+fn gather_lines<'a, R: Read>(alloc: Global, file: &mut Counted<R>) -> Result<Vec<u8>, Refusal<'a>>
+    requires { faults_of file.old < 2 ^ 64 - 1 }
+    ensures ok { IfOk result (λ v. Gathers R.remaining file.old file.new events_limit v.items) }
+    ensures err { IfErr result (LinesFail R.remaining file.old file.new) }
 {
-    let mut file = open(rt, name)?;
-    match gather(alloc, &mut file, EVENTS_LIMIT) {
+    match gather(alloc, file, EVENTS_LIMIT) {
         Ok(bytes) => Ok(bytes),
         Err(fault) => Err(Refusal::EventText(fault)),
     }
+}
+
+fn read_input<'a, T: Files>(rt: &T, alloc: Global, name: &'a str) -> Result<Vec<u8>, Refusal<'a>>
+    ensures ok { IfOk result (λ v. length v.items ≤ text_limit) }
+    ensures err { IfErr result (IsUnreadInput name.now) }
+{
+    let mut file = open(rt, name)?;
+    gather_input(alloc, &mut file)
+}
+
+fn read_lines<'a, T: Files>(rt: &T, alloc: Global, name: &'a str) -> Result<Vec<u8>, Refusal<'a>>
+    ensures ok { IfOk result (λ v. length v.items ≤ events_limit) }
+    ensures err { IfErr result (IsUnreadLines name.now) }
+{
+    let mut file = open(rt, name)?;
+    gather_lines(alloc, &mut file)
 }
 
 /// Whether an input's events are those of an event text. The input is judged first.
@@ -91,7 +113,7 @@ pub fn check<'a, T: Files, W: Write>(
 ) -> Result<bool, Refusal<'a>>
     requires { faults_of out.old < 2 ^ 64 - 1 }
     ensures ok { IfOk result (λ matches. FilesMatched W.contents out.old out.new matches) }
-    ensures err { IfErr result (Silent W.contents out.old out.new) }
+    ensures err { IfErr result (FilesNotMatched W.contents input.now lines.now out.old out.new) }
 {
     let input = read_input(rt, alloc, input)?;
     let lines = read_lines(rt, alloc, lines)?;

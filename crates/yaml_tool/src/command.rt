@@ -3,9 +3,9 @@ ghost use Rattle.std.specs.Prelude.{◌≡◌, ◌⊎◌, ◌≤◌, ◌<◌, �
 ghost use Rattle.yaml_text.specs.CountedModel.{faults_of};
 ghost use Rattle.yaml_canon.specs.Writers.{Broken};
 ghost use Rattle.yaml_tool.specs.declared.words.Asked.{Asked};
-ghost use Rattle.yaml_tool.specs.Commands.{written_status, judged_status, Does, RefusesInput};
+ghost use Rattle.yaml_tool.specs.Commands.{written_status, judged_status, Does, DoesNot};
 ghost use Rattle.yaml_tool.specs.Judged.{Silent};
-ghost use Rattle.yaml_tool.specs.Statuses.{told_status};
+ghost use Rattle.yaml_tool.specs.Statuses.{answer_status};
 
 use crate::check::check;
 use crate::compare::compare;
@@ -59,7 +59,7 @@ fn run<'a, T: Files, R: Read, W: Write>(
     requires few_writes { faults_of out.old < 2 ^ 64 - 1 }
     ensures ok { IfOk result (Does W.contents R.remaining asked.entry input.old input.new out.old out.new) }
     ensures silent { IfErr result (Silent W.contents out.old out.new) }
-    ensures refused { IfErr result (λ refusal. RefusesInput W.contents R.remaining input.old input.new out.old out.new refusal asked.entry) }
+    ensures refused { IfErr result (λ refusal. DoesNot W.contents R.remaining input.old input.new out.old out.new refusal asked.entry) }
 {
     match asked {
         Asked::Canon(None) => written(run_canonical(alloc, input, out)),
@@ -95,8 +95,8 @@ fn run_words<'a, T: Files, R: Read, W: Write>(
 }
 
 /// The status of an answer. A refusal is told as a line.
-fn told<E: Write>(answer: Result<u8, Refusal<'_>>, err: &mut E) -> u8
-    ensures { result ≡ told_status answer.entry }
+fn report<E: Write>(answer: Result<u8, Refusal<'_>>, err: &mut E) -> u8
+    ensures { result ≡ answer_status answer.entry }
 {
     match answer {
         Ok(status) => status,
@@ -125,7 +125,7 @@ fn answer<T: Files, R: Read, W: Write, E: Write>(
     ensures unusable { result ≡ 3 → (out.new ≡ out.old) ⊎ ((text : List ℕ) × Broken W.contents out.old out.new text) }
 {
     let answer = run_words(rt, alloc, words, input, out);
-    told(answer, err)
+    report(answer, err)
 }
 
 /// Runs the command that the words give, without the program's own name, and answers the exit

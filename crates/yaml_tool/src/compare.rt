@@ -1,18 +1,36 @@
 //! `same`: whether two files have the same documents.
-ghost use Rattle.std.specs.Prelude.{◌≡◌, ◌<◌, ◌-◌, ◌^◌, IfOk, IfErr};
+ghost use Rattle.std.specs.Prelude.{◌≡◌, ◌≤◌, ◌<◌, ◌-◌, ◌^◌, length, IfOk, IfErr};
 ghost use Rattle.yaml_text.specs.CountedModel.{faults_of};
-ghost use Rattle.yaml_tool.specs.Commands.{FilesCompared};
-ghost use Rattle.yaml_tool.specs.Judged.{same_line, PrintsSame, SameFails, Silent};
-ghost use Rattle.yaml_tool.specs.Refusals.{IsUnreadSide};
+ghost use Rattle.yaml_text.specs.Limits.{text_limit};
+ghost use Rattle.yaml_canon.specs.Gathering.{Gathers};
+ghost use Rattle.yaml_tool.specs.Commands.{FilesCompared, FilesNotCompared};
+ghost use Rattle.yaml_tool.specs.Judged.{same_line, PrintsSame, SameFails};
+ghost use Rattle.yaml_tool.specs.Refusals.{IsUnreadSide, SideFails};
 
 use crate::refusal::Refusal;
 use crate::streams::{open, write_out};
 use std::alloc::Global;
-use std::io::Write;
+use std::io::{Read, Write};
 use std::rt::Files;
 use yaml_canon::{Side, gather, same};
 use yaml_text::counted::Counted;
 use yaml_text::limits::text_limit;
+
+/// All of one side.
+fn gather_side<'a, R: Read>(
+    alloc: Global,
+    file: &mut Counted<R>,
+    side: Side,
+) -> Result<Vec<u8>, Refusal<'a>>
+    requires { faults_of file.old < 2 ^ 64 - 1 }
+    ensures ok { IfOk result (λ v. Gathers R.remaining file.old file.new text_limit v.items) }
+    ensures err { IfErr result (SideFails R.remaining side file.old file.new) }
+{
+    match gather(alloc, file, text_limit()) {
+        Ok(bytes) => Ok(bytes),
+        Err(fault) => Err(Refusal::OneSide(side, fault)),
+    }
+}
 
 fn read_side<'a, T: Files>(
     rt: &T,
@@ -20,13 +38,11 @@ fn read_side<'a, T: Files>(
     name: &'a str,
     side: Side,
 ) -> Result<Vec<u8>, Refusal<'a>>
-    ensures { IfErr result (IsUnreadSide side) }
+    ensures ok { IfOk result (λ v. length v.items ≤ text_limit) }
+    ensures err { IfErr result (IsUnreadSide name.now side) }
 {
     let mut file = open(rt, name)?;
-    match gather(alloc, &mut file, text_limit()) {
-        Ok(bytes) => Ok(bytes),
-        Err(fault) => Err(Refusal::OneSide(side, fault)),
-    }
+    gather_side(alloc, &mut file, side)
 }
 
 /// The line that tells the answer.
@@ -63,7 +79,7 @@ pub fn compare<'a, T: Files, W: Write>(
 ) -> Result<bool, Refusal<'a>>
     requires { faults_of out.old < 2 ^ 64 - 1 }
     ensures ok { IfOk result (λ alike. FilesCompared W.contents out.old out.new alike) }
-    ensures err { IfErr result (Silent W.contents out.old out.new) }
+    ensures err { IfErr result (FilesNotCompared W.contents left.now right.now out.old out.new) }
 {
     let left = read_side(rt, alloc, left, Side::Left)?;
     let right = read_side(rt, alloc, right, Side::Right)?;

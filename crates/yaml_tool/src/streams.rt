@@ -15,7 +15,7 @@ use yaml_text::fault::Fault;
 /// The file of this name, of which no call has failed.
 pub fn open<'a, T: Files>(rt: &T, name: &'a str) -> Result<Counted<T::File>, Refusal<'a>>
     ensures ok { IfOk result (λ file. faults_of file ≡ 0) }
-    ensures err { IfErr result IsUnopened }
+    ensures err { IfErr result (IsUnopened name.now) }
 {
     match fs::open(rt, name) {
         Ok(file) => Ok(Counted::new(file)),

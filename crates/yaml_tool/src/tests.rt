@@ -479,6 +479,77 @@ fn equal_keys_are_told(rt: HostRuntime) -> Result<(), Fail> {
     check(&rt, &Shelf::new(), &KEYS)
 }
 
+const REFUSED: [Row; 9] = [
+    Row {
+        words: &["canon"],
+        input: "a:\tb",
+        status: 2,
+        out: "",
+        err: "yaml: 5 Tab at byte 2\n",
+    },
+    Row {
+        words: &["canon"],
+        input: "\"\\q\"",
+        status: 2,
+        out: "",
+        err: "yaml: 8 BadEscape at byte 1\n",
+    },
+    Row {
+        words: &["canon"],
+        input: "%YAML 1.1\n---",
+        status: 2,
+        out: "",
+        err: "yaml: 9 BadDirective at byte 0\n",
+    },
+    Row {
+        words: &["canon"],
+        input: "!e!x v",
+        status: 2,
+        out: "",
+        err: "yaml: 10 UnknownHandle at byte 0\n",
+    },
+    Row {
+        words: &["canon"],
+        input: "!<a b> x",
+        status: 2,
+        out: "",
+        err: "yaml: 11 BadTag at byte 0\n",
+    },
+    Row {
+        words: &["canon"],
+        input: "!!int [a]",
+        status: 2,
+        out: "",
+        err: "yaml: 14 WrongKind at event 2\n",
+    },
+    Row {
+        words: &["canon"],
+        input: "!!int a",
+        status: 2,
+        out: "",
+        err: "yaml: 15 BadContent at event 2\n",
+    },
+    Row {
+        words: &["canon"],
+        input: "170141183460469231731687303715884105728",
+        status: 2,
+        out: "",
+        err: "yaml: 16 IntRange at event 2\n",
+    },
+    Row {
+        words: &["canon"],
+        input: "1e1000001",
+        status: 2,
+        out: "",
+        err: "yaml: 17 FloatRange at event 2\n",
+    },
+];
+
+#[test]
+fn a_refusal_is_one_line_and_status_2(rt: HostRuntime) -> Result<(), Fail> {
+    check(&rt, &Shelf::new(), &REFUSED)
+}
+
 #[test]
 fn an_input_past_the_limit_is_too_long(rt: HostRuntime) -> Result<(), Fail> {
     for (zeros, err) in [

@@ -3,7 +3,7 @@ use Rattle.std.proofs.Common.{◌≡◌, ℕ, ◌+◌, ◌-◌, ◌<◌, ◌⊎�
 use Rattle.std.specs.Prelude.{slice_get, slice_range, codes}
 use Rattle.yaml_text.specs.grammar.Rules.{Rule, ◌◆◌, ◌⊔◌, ◌∪◌, Spans, run, some_run, whole_run, Stands, word, one, chr, any_span}
 use Rattle.yaml_text.specs.grammar.Characters.{is_ns, is_nb, is_break, is_white, is_space, is_word, is_uri, is_tag}
-use Rattle.yaml_text.specs.grammar.Separation.{StartsLine, MarkOf, Mark, s_l_comments, line_end, comment}
+use Rattle.yaml_text.specs.grammar.Separation.{StartsLine, DocumentMarkOf, DocumentMark, s_l_comments, line_end, comment}
 use Rattle.yaml_text.specs.grammar.Tags.{Handles, tag_prefix, tag_char, uri_char}
 use Rattle.yaml_text.specs.grammar.Directives.{Directive, binding, is_known, yaml_directive, tag_directive, reserved_directive, directive, directives}
 use Rattle.yaml_text.proofs.PlaceLemmas.{slice_none, slice_one, slice_join}
@@ -325,20 +325,20 @@ module _ (cs : List ℕ) where
   unfolding directive
   directive_starts i j v (a, (e, s), (b, (d, r, f), t)) = (subst (λ z. slice_get cs z ≡ Some 37) e (body_percent a b d r), s)
 
-  mark_percent : (i : ℕ) → slice_get cs i ≡ Some 37 → MarkOf cs 45 i → ⊥
-  unfolding MarkOf
+  mark_percent : (i : ℕ) → slice_get cs i ≡ Some 37 → DocumentMarkOf cs 45 i → ⊥
+  unfolding DocumentMarkOf
   mark_percent i h (s, (j, (k, (g, e), r)), t) = let z : 37 ≡ 45 = same_char cs i 37 45 h g in omega (arith, z)
 
-  more_stuck : (j m : ℕ) → More Percent (At (MarkOf cs 45)) j m → At (Stuck cs) j m
-  unfolding Mark
+  more_stuck : (j m : ℕ) → More Percent (At (DocumentMarkOf cs 45)) j m → At (Stuck cs) j m
+  unfolding DocumentMark
   more_stuck j m (inl (e, (h, s))) = (e, percent_stuck j h)
   more_stuck j m (inr (e, h)) = (e, stuck_mark cs j (inl h))
 
   -- the handles before a document's mark
-  pub directives_unique : Unique (directives cs) (At (MarkOf cs 45))
+  pub directives_unique : Unique (directives cs) (At (DocumentMarkOf cs 45))
   unfolding directives
   directives_unique = unique_seen _ (unique_holding _ (unique_first Percent (λ i j m v r e. directive_starts i j v r) (unique_until more_stuck directive_unique)
-      (λ i m (h, s) (e, t). mark_percent i h t) (λ j m (h, s) (e, t). mark_percent m h (subst (MarkOf cs 45) e t)) (λ i m n (e, f) (g, h). sym e ∙ g) (unique_until more_stuck directive_unique)))
+      (λ i m (h, s) (e, t). mark_percent i h t) (λ j m (h, s) (e, t). mark_percent m h (subst (DocumentMarkOf cs 45) e t)) (λ i m n (e, f) (g, h). sym e ∙ g) (unique_until more_stuck directive_unique)))
 
   pub directives_start : (i j : ℕ) (hs : Handles) → directives cs i j hs → Percent i
   unfolding directives

@@ -3,11 +3,11 @@ use Rattle.std.proofs.Common.{◌≡◌, ◌≢◌, ℕ, ◌+◌, ◌⊎◌, inl
 use Rattle.std.specs.Prelude.{slice_get}
 use Rattle.yaml_text.specs.grammar.Rules.{Rule, ◌▸◌, ◌◂◌, ◌∪◌, ◌⨾◌, Any, done, then, Spans, any_one, any_span, optional, gives, run}
 use Rattle.yaml_text.specs.grammar.Characters.{is_indicator, is_ns, is_nb, is_break, is_white, is_space}
-use Rattle.yaml_text.specs.grammar.Separation.{flow_out, StartsLine, AtEnd, MarkOf, Mark, s_l_comments, l_comment}
+use Rattle.yaml_text.specs.grammar.Separation.{flow_out, StartsLine, AtEnd, DocumentMarkOf, DocumentMark, s_l_comments, l_comment}
 use Rattle.yaml_text.specs.grammar.Tags.{Handles}
 use Rattle.yaml_text.specs.grammar.Events.{no_props, empty}
 use Rattle.yaml_text.specs.Event.{Event}
-use Rattle.yaml_text.specs.grammar.Streams.{Piece, document_piece, suffix_piece, stream_events, document_mark, bare_document, explicit_document, directive_document, bare_piece, explicit_piece, directive_piece, any_document, suffix, stream, ReadsText}
+use Rattle.yaml_text.specs.grammar.Streams.{Piece, document_piece, suffix_piece, stream_of_pieces, document_mark, bare_document, explicit_document, directive_document, bare_piece, explicit_piece, directive_piece, any_document, suffix, stream, ReadsText}
 use Rattle.yaml_text.specs.Lines.{Inside, AfterLine}
 use Rattle.yaml_text.proofs.Runs.{same_char, run_none}
 use Rattle.yaml_text.proofs.LineRuns.{end_stops, indent_place, indent_run}
@@ -66,25 +66,25 @@ module _ (cs : List ℕ) (Wide : Type 0) (room : ℕ) where
   after_lines i j (a, inl b, c) = after_comments c (blank_after cs i a (from_s_b cs i a b))
   after_lines i j (a, inr (e, s), c) = after_comments c (inl (subst (StartsLine cs) (sym e) s))
 
-  pub mark_inside : (c i j : ℕ) → is_ns c ≡ true → document_mark cs Wide room c i j → (j ≡ i + 3) × Inside cs j × MarkOf cs c i
+  pub mark_inside : (c i j : ℕ) → is_ns c ≡ true → document_mark cs Wide room c i j → (j ≡ i + 3) × Inside cs j × DocumentMarkOf cs c i
   unfolding document_mark
   mark_inside c i j t (k, (e, m), (x, (a, b), (y, (d, f), (z, (g, h), u)))) =
       (omega (arith, e, b, f, h, u), (y, u ∙ h, solid_nb cs y (c, g, t)), m)
 
   -- ---- a document after `---`
 
-  pub no_dash : (m : ℕ) → AtEnd cs m ⊎ Mark cs m → Dash cs 0 m → ⊥
+  pub no_dash : (m : ℕ) → AtEnd cs m ⊎ DocumentMark cs m → Dash cs 0 m → ⊥
   no_dash m (inl e) (p, r, d) = end_no_run cs m p e (indent_run cs 0 m p r) (dash_fresh cs p d).0.0
   no_dash m (inr e) (p, r, d) =
       let f : p ≡ m + 0 = indent_place cs 0 m p r in
       let g : m ≡ p = omega (arith, f) in
-      (dash_fresh cs p d).1 (subst (Mark cs) g e)
+      (dash_fresh cs p d).1 (subst (DocumentMark cs) g e)
 
-  pub no_less : (m : ℕ) → AtEnd cs m ⊎ Mark cs m → Less cs 0 m
+  pub no_less : (m : ℕ) → AtEnd cs m ⊎ DocumentMark cs m → Less cs 0 m
   no_less m (inl e) = inl e
   no_less m (inr e) = inr (inl e)
 
-  follow_end : (m : ℕ) → AtEnd cs m ⊎ Mark cs m → Follow cs 0 0 m
+  follow_end : (m : ℕ) → AtEnd cs m ⊎ DocumentMark cs m → Follow cs 0 0 m
   follow_end m h = (no_less m h, no_dash m h)
 
   empty_unique : Unique (gives (empty no_props) ◂ s_l_comments cs) E0
@@ -170,7 +170,7 @@ module _ (cs : List ℕ) (Wide : Type 0) (room : ℕ) where
 
   -- ---- where it goes on
 
-  pub suffix_mark : (i k : ℕ) (us : List Piece) → suffix cs Wide room i k us → MarkOf cs 46 i
+  pub suffix_mark : (i k : ℕ) (us : List Piece) → suffix cs Wide room i k us → DocumentMarkOf cs 46 i
   unfolding suffix
   suffix_mark i k us (a, r, s) = (mark_inside 46 i a ns_dot r).2
 
@@ -179,25 +179,25 @@ module _ (cs : List ℕ) (Wide : Type 0) (room : ℕ) where
   suffix_past i k m us (a, r, (b, (e, f), s)) c =
       (past_of cs (i + 3) k m (subst (λ z. s_l_comments cs z k) (e ∙ (mark_inside 46 i a ns_dot r).0) s) c, f)
 
-  pub explicit_mark : (handles : Handles) (i k : ℕ) (us : List Event) → explicit_document cs Wide room handles i k us → MarkOf cs 45 i
+  pub explicit_mark : (handles : Handles) (i k : ℕ) (us : List Event) → explicit_document cs Wide room handles i k us → DocumentMarkOf cs 45 i
   unfolding explicit_document
   explicit_mark handles i k us (a, r, s) = (mark_inside 45 i a ns_dash r).2
 
-  pub shown_mark : (i k : ℕ) (us : List Piece) → explicit_piece cs Wide room i k us → MarkOf cs 45 i
+  pub shown_mark : (i k : ℕ) (us : List Piece) → explicit_piece cs Wide room i k us → DocumentMarkOf cs 45 i
   shown_mark i k us (es, r, e) = explicit_mark [] i k es r
 
-  pub dots_mark_is : (i : ℕ) → MarkOf cs 46 i → Mark cs i
-  unfolding Mark
+  pub dots_mark_is : (i : ℕ) → DocumentMarkOf cs 46 i → DocumentMark cs i
+  unfolding DocumentMark
   dots_mark_is i h = inr h
 
-  pub dashes_mark_is : (i : ℕ) → MarkOf cs 45 i → Mark cs i
-  unfolding Mark
+  pub dashes_mark_is : (i : ℕ) → DocumentMarkOf cs 45 i → DocumentMark cs i
+  unfolding DocumentMark
   dashes_mark_is i h = inl h
 
-  pub dots_stuck : (i : ℕ) → MarkOf cs 46 i → Stuck cs i
+  pub dots_stuck : (i : ℕ) → DocumentMarkOf cs 46 i → Stuck cs i
   dots_stuck i h = stuck_mark cs i (dots_mark_is i h)
 
-  pub dashes_stuck : (i : ℕ) → MarkOf cs 45 i → Stuck cs i
+  pub dashes_stuck : (i : ℕ) → DocumentMarkOf cs 45 i → Stuck cs i
   dashes_stuck i h = stuck_mark cs i (dashes_mark_is i h)
 
   pub directive_percent : (i k : ℕ) (us : List Piece) → directive_piece cs Wide room i k us → Percent cs i
@@ -264,16 +264,16 @@ module _ (cs : List ℕ) (Wide : Type 0) (room : ℕ) where
 
   -- ---- what stands where it lands is one of them
 
-  pub marks_apart : (i : ℕ) → MarkOf cs 45 i → MarkOf cs 46 i → ⊥
-  unfolding MarkOf
+  pub marks_apart : (i : ℕ) → DocumentMarkOf cs 45 i → DocumentMarkOf cs 46 i → ⊥
+  unfolding DocumentMarkOf
   marks_apart i (s, (j, (k, (h, e), r)), t) (s2, (j2, (k2, (h2, e2), r2)), t2) = let z : 45 ≡ 46 = same_char cs i 45 46 h h2 in omega (arith, z)
 
-  pub mark_end : (c i : ℕ) → MarkOf cs c i → AtEnd cs i → ⊥
-  unfolding MarkOf
+  pub mark_end : (c i : ℕ) → DocumentMarkOf cs c i → AtEnd cs i → ⊥
+  unfolding DocumentMarkOf
   mark_end c i (s, (j, (k, (h, e), r)), t) f = end_stops cs (λ u. true) i f (c, h, refl)
 
-  pub mark_percent : (c i : ℕ) → c ≢ 37 → MarkOf cs c i → Percent cs i → ⊥
-  unfolding MarkOf
+  pub mark_percent : (c i : ℕ) → c ≢ 37 → DocumentMarkOf cs c i → Percent cs i → ⊥
+  unfolding DocumentMarkOf
   mark_percent c i n (s, (j, (k, (h, e), r)), t) (g, u) = n (same_char cs i c 37 h g)
 
   pub percent_end : (i : ℕ) → Percent cs i → AtEnd cs i → ⊥
@@ -297,10 +297,10 @@ module _ (cs : List ℕ) (Wide : Type 0) (room : ℕ) where
   bare_from : (h m k : ℕ) (us : List Piece) → AfterLine cs h → Comments cs h m → Stuck cs m → bare_piece cs Wide room h k us → (q : ℕ) × run cs is_space m q × Fresh cs q × Begin cs q
   bare_from h m k us a c s r = let (q, w, f, b) = bare_begin h k us r in (q, (way_from h m q a c s w).0, f, b)
 
-  pub bare_no_mark : (h m k : ℕ) (us : List Piece) → AfterLine cs h → Comments cs h m → Stuck cs m → bare_piece cs Wide room h k us → Mark cs m → ⊥
+  pub bare_no_mark : (h m k : ℕ) (us : List Piece) → AfterLine cs h → Comments cs h m → Stuck cs m → bare_piece cs Wide room h k us → DocumentMark cs m → ⊥
   bare_no_mark h m k us a c s r mark =
       let (q, w, f, b) = bare_from h m k us a c s r in
-      f.1 (subst (Mark cs) (run_solid cs m m q (run_none cs is_space m) (mark_ns cs m mark) w f.0.0) mark)
+      f.1 (subst (DocumentMark cs) (run_solid cs m m q (run_none cs is_space m) (mark_ns cs m mark) w f.0.0) mark)
 
   pub bare_no_end : (h m k : ℕ) (us : List Piece) → AfterLine cs h → Comments cs h m → Stuck cs m → bare_piece cs Wide room h k us → AtEnd cs m → ⊥
   bare_no_end h m k us a c s r e = let (q, w, f, b) = bare_from h m k us a c s r in end_no_run cs m q e w f.0.0
@@ -334,7 +334,7 @@ module _ (cs : List ℕ) (Wide : Type 0) (room : ℕ) where
 
   directed_unique : Unique (directive_piece cs Wide room) E0
   unfolding directive_document
-  directed_unique = unique_seen _ (unique_taking (MarkOf cs 45) (directives_unique cs) (λ handles i j m v r e. explicit_mark handles i j v r) explicit_unique)
+  directed_unique = unique_seen _ (unique_taking (DocumentMarkOf cs 45) (directives_unique cs) (λ handles i j m v r e. explicit_mark handles i j v r) explicit_unique)
 
   -- ---- one list of pieces
 
@@ -418,7 +418,7 @@ module _ (cs : List ℕ) (Wide : Type 0) (room : ℕ) where
 
   pub text_same : (es fs : List Event) → ReadsText cs Wide room es → ReadsText cs Wide room fs → es ≡ fs
   unfolding ReadsText
-  text_same es fs (ps, r, e) (qs, s, f) = e ∙ ap stream_events (stream_same ps qs r s) ∙ sym f
+  text_same es fs (ps, r, e) (qs, s, f) = e ∙ ap stream_of_pieces (stream_same ps qs r s) ∙ sym f
 
 -- bytes are read as one list of events at most
 pub one_reading : OneReading

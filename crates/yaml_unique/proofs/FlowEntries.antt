@@ -16,7 +16,7 @@ use Rattle.yaml_text.proofs.LineRuns.{inside_next}
 use Rattle.yaml_unique.proofs.BlockEntries.{past_no_ns}
 use Rattle.yaml_text.proofs.Repeats.{SameRule}
 use Rattle.yaml_unique.proofs.Unique.{unique_until, unique_gives, unique_seen, unique_given, unique_before, unique_joined, unique_either}
-use Rattle.yaml_unique.specs.Readings.{End, At, Unique, Apart, Ends, To}
+use Rattle.yaml_unique.specs.Readings.{End, At, Unique, Apart, OneWayOn, To}
 use Rattle.yaml_unique.proofs.Lines.{char_fresh, solid_no_space, sep_parts, way_then, way_of, way_sep, way_here, way_maybe, way_same}
 use Rattle.yaml_unique.specs.Follows.{Past, Solid, Fresh, Way}
 
@@ -112,10 +112,6 @@ module _ (cs : List ℕ) where
   pub stop_json : (j : ℕ) → Fs j → Fj j
   stop_json j (q, w, h) = (q, w, inl h)
 
-  yaml_json : (j : ℕ) → Fy j → Fj j
-  yaml_json j (q, w, inl h) = (q, w, inl h)
-  yaml_json j (q, w, inr (h, n)) = (q, w, inr h)
-
   to_solid : (n : ℕ) (c : Ctx) → To (maybe (separate cs n c)) (Solid cs)
   to_solid n c i k l r s t u = way_same cs i k l (way_maybe cs n c i k r s) (way_maybe cs n c i l t u)
 
@@ -200,7 +196,7 @@ module _ (cs : List ℕ) where
     pub pair_yaml : (n : ℕ) → Apart (inside (pair_part n flow_in)) (At Fs) (inside (yaml_part n flow_in)) (At Fs)
     pub pair_json : (n : ℕ) → Apart (inside (pair_part n flow_in)) (At Fs) (inside (json_part n flow_in)) (At Fs)
 
-  ends_at : (D : ℕ → Type 0) → Ends (At D)
+  ends_at : (D : ℕ → Type 0) → OneWayOn (At D)
   ends_at D i m n (e, f) (g, h) = sym e ∙ g
 
   module _ (Wide : Type 0) (handles : Handles) (Open : Type 0) (inside : Part → Rule (List Event)) (facts : Facts inside) (n : ℕ) where

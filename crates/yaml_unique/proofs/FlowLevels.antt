@@ -12,7 +12,7 @@ use Rattle.yaml_text.specs.grammar.Events.{Props, no_props, scalar}
 use Rattle.yaml_text.specs.Event as style
 use Rattle.yaml_text.specs.grammar.Nodes.{Part, yaml_part, json_part, part, reads, yaml_node, json_node, flow_seq, flow_map, pair}
 use Rattle.yaml_text.specs.Lines.{Inside}
-use Rattle.yaml_scalar.specs.Chains.{Later, plain_inner, plain_head, plain_sign, single_chain, single_rest, gap, closing}
+use Rattle.yaml_scalar.specs.Chains.{Later, plain_inner, plain_head, plain_sign, single_chain, single_rest, gap, closing_quote}
 use Rattle.yaml_text.proofs.Runs.{same_char}
 use Rattle.yaml_text.proofs.Repeats.{SameRule}
 use Rattle.yaml_scalar.proofs.PlainLemmas.{no_first_head, no_first_sign, no_later_colon, no_later_inner}
@@ -160,7 +160,7 @@ module _ (cs : List ℕ) where
   single_chain_same : (n : ℕ) (c : Ctx) → SameRule (single_chain cs n c)
   unfolding single_chain single_rest
   single_chain_same n c i j k xs ys (u, (m, (h, e), p)) (v, (o, (g, f), q)) =
-      rest_same cs _ _ _ _ (single_parts cs n c) m j k xs ys p (subst (λ x. rest_of cs (gap cs n c) (single_char cs) (closing cs) x k ys) (f ∙ sym e) q)
+      rest_same cs _ _ _ _ (single_parts cs n c) m j k xs ys p (subst (λ x. rest_of cs (gap cs n c) (single_char cs) (closing_quote cs) x k ys) (f ∙ sym e) q)
 
   pub single_same : (n : ℕ) (c : Ctx) → SameRule (single cs n c)
   single_same n c i j k xs ys r s = single_chain_same n c i j k xs ys (single_to_chain cs n c i j xs r) (single_to_chain cs n c i k ys s)

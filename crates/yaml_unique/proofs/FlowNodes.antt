@@ -9,7 +9,7 @@ use Rattle.yaml_text.specs.grammar.Tags as tags
 use Rattle.yaml_text.specs.grammar.FlowScalars.{plain, single, double, PlainFirst, plain_safe, plain_line}
 use Rattle.yaml_text.specs.Event.{Event}
 use Rattle.yaml_text.specs.Event as style
-use Rattle.yaml_text.specs.grammar.Events.{Props, no_props, alias, empty}
+use Rattle.yaml_text.specs.grammar.Events.{Props, no_props, alias_node, empty}
 use Rattle.yaml_text.specs.grammar.Nodes.{Part, yaml_node, json_node, scalar_of, flow_seq, flow_map}
 use Rattle.yaml_scalar.specs.Chains.{plain_head, plain_sign}
 use Rattle.yaml_text.specs.Lines.{Inside}
@@ -17,7 +17,7 @@ use Rattle.yaml_text.proofs.Runs.{same_char}
 use Rattle.yaml_scalar.proofs.PlainLemmas.{no_first_head, first_ns, no_plain_mark}
 use Rattle.yaml_scalar.proofs.PlainReadings.{plain_to_chain}
 use Rattle.yaml_unique.proofs.Unique.{unique_within, unique_gives, unique_seen, unique_before, unique_either, unique_from, unique_from_either, from}
-use Rattle.yaml_unique.specs.Readings.{At, Unique, Apart, Ends, To}
+use Rattle.yaml_unique.specs.Readings.{At, Unique, Apart, OneWayOn, To}
 use Rattle.yaml_unique.proofs.Lines.{way_of, way_same, char_fresh}
 use Rattle.yaml_unique.specs.Follows.{Solid, Fresh}
 use Rattle.yaml_unique.proofs.Properties.{PropHere, NoMore, prop, props_two, props_here, unique_propped, apart_propped, prop_solid}
@@ -174,7 +174,7 @@ module _ (cs : List ℕ) where
     Plains p = scalar_of cs Wide handles Open inside p style.plain (plain cs n c)
 
     abbrev pub Aliases : Rule (List Event)
-    Aliases = seen (λ x. alias x ∷ []) (tags.alias cs)
+    Aliases = seen (λ x. alias_node x ∷ []) (tags.alias cs)
 
     -- after properties
     abbrev pub YamlRest : Props → Rule (List Event)
@@ -237,7 +237,7 @@ module _ (cs : List ℕ) where
       yaml_next p k j m v o (inl (q, s, r)) e = λ d x t h. no_prop k q x d s (plain_content q (plains_start p q j v r)) t h
       yaml_next p k j m v o (inr (a, b)) (e, f) = f_next k o (subst Fy a f)
 
-      ends_at : (F : ℕ → Type 0) → Ends (At F)
+      ends_at : (F : ℕ → Type 0) → OneWayOn (At F)
       ends_at F i m n2 (e, f) (g, h) = sym e ∙ g
 
       yaml_rest_unique : (p : Props) → Unique (from (Inside cs) (YamlRest p)) (At Fy)

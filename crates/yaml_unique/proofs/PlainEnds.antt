@@ -4,10 +4,10 @@ use Rattle.std.specs.Prelude.{slice_get}
 use Rattle.std.proofs.Math.Nat.{eq-or-lt_of_le}
 use Rattle.yaml_text.specs.grammar.Rules.{Any, done, then, Spans, run, Stands, where_both, maybe}
 use Rattle.yaml_text.specs.grammar.Characters.{is_space, is_ns, is_nb, is_break, is_white}
-use Rattle.yaml_text.specs.grammar.Separation.{Ctx, flow_out, Mark, Unmarked, AtEnd, line_end, comment}
+use Rattle.yaml_text.specs.grammar.Separation.{Ctx, flow_out, DocumentMark, Unmarked, AtEnd, line_end, comment}
 use Rattle.yaml_text.specs.grammar.FlowScalars.{plain, PlainFirst}
 use Rattle.yaml_text.specs.Lines.{Inside, blank_rest, line_brk}
-use Rattle.yaml_scalar.specs.Chains.{margin, lead, breaks, folds, gap, taken, Later, plain_more, plain_chain}
+use Rattle.yaml_scalar.specs.Chains.{margin, lead, breaks, folds, gap, taken_at, Later, plain_more, plain_chain}
 use Rattle.yaml_scalar.specs.Chains as chain
 use Rattle.yaml_scalar.proofs.AnyLemmas.{any_onward}
 use Rattle.yaml_text.proofs.Repeats.{any_to_stop}
@@ -52,7 +52,7 @@ ns_return = refl
 module _ (cs : List ℕ) where
   -- a line of content, or the document's end
   abbrev pub Landed : ℕ → Type 0
-  Landed m = AtEnd cs m ⊎ Mark cs m ⊎ ((q : ℕ) × run cs is_space m q × Solid cs q)
+  Landed m = AtEnd cs m ⊎ DocumentMark cs m ⊎ ((q : ℕ) × run cs is_space m q × Solid cs q)
 
   pub less_landed : (col m : ℕ) → Less cs col m → Landed m
   less_landed col m (inl e) = inl e
@@ -105,7 +105,7 @@ module _ (cs : List ℕ) where
   -- ---- folds and comment lines
 
   lead_landed : (n m p : ℕ) {b a : ℕ} {xs : List ℕ} → Any (empty cs n) b a xs → margin cs n b p → Ns cs p → slice_get cs p ≢ Some 35 → Comments cs a m → Landed m → margin cs n m p
-  unfolding chain.empty_line
+  unfolding chain.skipped_line
   lead_landed n m p {b} {a} (done e f) g s h (Spans.done c) l = subst (λ x. margin cs n x p) (e ∙ sym c) g
   lead_landed n m p {b} {a} (done e f) g s h (Spans.then k c more) l =
       absurd (rest_no_text a k p (from_l cs a k c) (subst (λ x. run cs is_white x p) e (margin_white cs n b p g)) s h)
@@ -116,7 +116,7 @@ module _ (cs : List ℕ) where
 
   -- text after a gap, and comments from the same place: the same line
   pub gap_landed : (n : ℕ) (c : Ctx) (j m p : ℕ) (xs : List ℕ) → gap cs n c j p xs → Ns cs p → slice_get cs p ≢ Some 35 → Inside cs j → Past cs j m → Landed m → margin cs n m p
-  unfolding gap folds breaks lead chain.empty_line
+  unfolding gap folds breaks lead chain.skipped_line
   gap_landed n c j m p xs g s h o (inr (a, b)) l = absurd (inside_no_line cs j o a)
   gap_landed n c j m p xs (inl (r, e)) s h o (inl (a, b, d)) l = absurd (rest_no_text j a p (from_s_b cs j a b) r s h)
   gap_landed n c j m p xs (inr (x, r, (us, (f, (y, k, (b, q, t))), e))) s h o (inl (a, u, d)) l =
@@ -141,7 +141,7 @@ module _ (cs : List ℕ) where
       let g = gap_landed n c j m p us r (later_ns cs c p l) (later_no_hash cs c p l) a b (inr (inr (q, e, s))) in
       t (subst (Later cs c) (run_same cs is_white m p q (margin_white cs n m p g) (spaces_white m q e) (ns_stops cs p (later_ns cs c p l)) (ns_stops cs q s.0)) l)
 
-  margin_less : (n m p : ℕ) → margin cs n m p → Less cs n m → Ns cs p → (Mark cs p → ⊥) → ⊥
+  margin_less : (n m p : ℕ) → margin cs n m p → Less cs n m → Ns cs p → (DocumentMark cs p → ⊥) → ⊥
   unfolding margin
   margin_less n m p (b, i, w) (inl e) s none = end_no_white (eq-or-lt_of_le (whole p).0)
     where
@@ -157,7 +157,7 @@ module _ (cs : List ℕ) where
       whole x = run_join cs is_white m b p (spaces_white m b (indent_run cs n m b i)) w
 
       go : (m ≡ p) ⊎ (m < p) → ⊥
-      go (inl h) = none (subst (Mark cs) h e)
+      go (inl h) = none (subst (DocumentMark cs) h e)
       go (inr l) = ns_stops cs m (mark_ns cs m e) ((whole p).1 m (omega arith) l)
   margin_less n m p (b, i, w) (inr (inr (t, q, l, r, (f, h)))) s none =
       let x : q ≡ m + t = indent_place cs t m q r in

@@ -2,7 +2,7 @@
 use Rattle.std.specs.Prelude.{◌≡◌, ◌≢◌, ◌⊎◌, ◌<◌, ◌+◌, ℕ, List, Some, slice_get}
 use Rattle.yaml_text.specs.grammar.Rules.{Span, Stands, run, any_span}
 use Rattle.yaml_text.specs.grammar.Characters.{is_ns, is_space}
-use Rattle.yaml_text.specs.grammar.Separation.{StartsLine, AtEnd, Mark, indent, flow_in, l_comment, s_b_comment}
+use Rattle.yaml_text.specs.grammar.Separation.{StartsLine, AtEnd, DocumentMark, indent, flow_in, l_comment, s_b_comment}
 use Rattle.yaml_text.specs.grammar.FlowScalars.{plain_safe}
 use Rattle.yaml_unique.specs.Readings.{End}
 
@@ -15,7 +15,7 @@ module _ (cs : List ℕ) where
 
   -- and no document mark
   abbrev pub Fresh : ℕ → Type 0
-  Fresh i = Solid i × (Mark cs i → ⊥)
+  Fresh i = Solid i × (DocumentMark cs i → ⊥)
 
   abbrev pub Comments : Span
   Comments = any_span (l_comment cs)
@@ -25,7 +25,7 @@ module _ (cs : List ℕ) where
 
   -- the document ends here, or a line with fewer than col spaces and content begins
   abbrev pub Less : ℕ → ℕ → Type 0
-  Less col m = AtEnd cs m ⊎ Mark cs m ⊎ ((s : ℕ) × (p : ℕ) × (s < col) × indent cs s m p × Solid p)
+  Less col m = AtEnd cs m ⊎ DocumentMark cs m ⊎ ((s : ℕ) × (p : ℕ) × (s < col) × indent cs s m p × Solid p)
 
   -- a sequence's entry
   abbrev pub DashHere : ℕ → Type 0

@@ -31,8 +31,8 @@ abbrev pub Starts : {V : Type 0} → Rule V → End → (ℕ → Type 0) → Typ
 Starts {V} R E D = (i j m : ℕ) (v : V) → R i j v → E j m → D i
 
 -- the text goes on in one way
-abbrev pub Ends : End → Type 0
-Ends E = (i m n : ℕ) → E i m → E i n → m ≡ n
+abbrev pub OneWayOn : End → Type 0
+OneWayOn E = (i m n : ℕ) → E i m → E i n → m ≡ n
 
 -- one end at most where this holds
 abbrev pub To : Span → (ℕ → Type 0) → Type 0

@@ -8,7 +8,7 @@ ghost use Rattle.yaml_text.specs.grammar.Rules.{Stands};
 ghost use Rattle.yaml_text.specs.grammar.Characters.{is_white};
 ghost use Rattle.yaml_text.specs.Answer.{Unread};
 ghost use Rattle.yaml_text.specs.grammar.BlockScalars.{indentation};
-ghost use Rattle.yaml_text.specs.Answer.{Refuses};
+ghost use Rattle.yaml_text.specs.Answer.{ScalarFaultMeans};
 ghost use Rattle.yaml_scalar.specs.BlockRules.{block_lines};
 ghost use Rattle.yaml_text.specs.Lines.{AfterLine};
 ghost use Rattle.yaml_scalar.specs.BlockModel.{header_of, glue, last_breaks, shape, are_folded, breaks_of};
@@ -116,7 +116,7 @@ pub fn read_content(
     ensures indentation { IfOk result (λ r. indentation (text_of source.now) col header.digit (place_of source.now at) (place_of source.now at) r.2) }
     ensures lines { IfOk result (λ r. block_lines (text_of source.now) is_folded (header_of header) r.2
         (place_of source.now at) (place_of source.now r.1) (chars (string_bytes r.0))) }
-    ensures none { IfErr result (λ e. Refuses e (Unread (indentation (text_of source.now) col header.digit) (place_of source.now at))) }
+    ensures none { IfErr result (λ e. ScalarFaultMeans e (Unread (indentation (text_of source.now) col header.digit) (place_of source.now at))) }
 {
     let start = match read_start(source, at, col, header) {
         Ok(start) => start,

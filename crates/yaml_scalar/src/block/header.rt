@@ -5,7 +5,7 @@ ghost use Rattle.yaml_text.specs.Source.{text_of, place_of, IsBorder};
 ghost use Rattle.yaml_text.specs.grammar.Rules.{Stands};
 ghost use Rattle.yaml_text.specs.Answer.{Unread};
 ghost use Rattle.yaml_text.specs.grammar.BlockScalars.{indentation_indicator, chomping_indicator, header};
-ghost use Rattle.yaml_text.specs.Answer.{Refuses};
+ghost use Rattle.yaml_text.specs.Answer.{ScalarFaultMeans};
 ghost use Rattle.yaml_scalar.specs.BlockRules.{is_sign, EndIndicators, indicators};
 ghost use Rattle.yaml_text.specs.Lines.{AfterLine, Inside};
 ghost use Rattle.yaml_scalar.specs.BlockModel.{chomp_of, header_of};
@@ -114,7 +114,7 @@ pub fn read_header(source: &Chars<'_>, at: usize) -> Result<(Header, usize), Fau
     ensures small { IfOk result (λ r. IfSome r.0.digit (λ d. d ≤ 9)) }
     ensures after { IfOk result (λ r. AfterLine (text_of source.now) (place_of source.now r.1)) }
     ensures header { IfOk result (λ r. header (text_of source.now) (place_of source.now at) (place_of source.now r.1) (header_of r.0)) }
-    ensures none { IfErr result (λ e. Refuses e (Unread (header (text_of source.now)) (place_of source.now at))) }
+    ensures none { IfErr result (λ e. ScalarFaultMeans e (Unread (header (text_of source.now)) (place_of source.now at))) }
 {
     let (header, end) = read_indicators(source, at);
     match accept(source, end, '#') {

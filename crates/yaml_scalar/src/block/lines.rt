@@ -4,7 +4,7 @@ ghost use Rattle.yaml_text.specs.Source.{text_of, place_of, IsBorder};
 ghost use Rattle.yaml_text.specs.grammar.Rules.{any};
 ghost use Rattle.yaml_text.specs.Answer.{Unread};
 ghost use Rattle.yaml_text.specs.grammar.BlockScalars.{indentation, blank_line, blank, is_given};
-ghost use Rattle.yaml_scalar.specs.BlockRules.{Solid, Ready};
+ghost use Rattle.yaml_scalar.specs.BlockRules.{NoSpaceLine, Ready};
 ghost use Rattle.yaml_text.specs.Lines.{AfterLine};
 ghost use Rattle.yaml_scalar.specs.BlockModel.{LineIs};
 
@@ -47,7 +47,7 @@ fn find_start(source: &Chars<'_>, at: usize, col: usize) -> Result<Start, usize>
     ensures after { IfOk result (λ s. AfterLine (text_of source.now) (place_of source.now s.line)) }
     ensures indentation { IfOk result (λ s. indentation (text_of source.now) col None (place_of source.now at) (place_of source.now at) s.indent) }
     ensures empty { IfOk result (λ s. any (blank_line (text_of source.now) s.indent) (place_of source.now at) (place_of source.now s.line) (replicate s.empty blank)) }
-    ensures ready { IfOk result (λ s. Solid (text_of source.now) s.indent (place_of source.now s.line)) }
+    ensures ready { IfOk result (λ s. NoSpaceLine (text_of source.now) s.indent (place_of source.now s.line)) }
     ensures none { IfErr result (λ _. Unread (indentation (text_of source.now) col None) (place_of source.now at)) }
     ensures refused { IfErr result (λ stop. IsBorder source.now stop) }
 {

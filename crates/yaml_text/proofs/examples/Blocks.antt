@@ -11,15 +11,15 @@ use Rattle.yaml_text.specs.Walk.{walk}
 use Rattle.yaml_text.specs.CharText.{spell_char}
 use Rattle.yaml_text.specs.grammar.Characters.{is_uri, is_word}
 use Rattle.yaml_text.specs.TagText.{spell_byte, full_text, written_tag}
-use Rattle.yaml_text.specs.Mark.{name_of, mark}
-use Rattle.yaml_text.specs.NodeText.{text}
-use Rattle.yaml_text.specs.Spell.{text_len, short, marks_of}
+use Rattle.yaml_text.specs.Serialize.{anchor_name, serialize}
+use Rattle.yaml_text.specs.NodeText.{node_text}
+use Rattle.yaml_text.specs.Spell.{text_len, short, serial_of}
 use Rattle.yaml_text.specs.Block.{in_block, line, block}
 use Rattle.yaml_text.proofs.examples.Build.{str, int, null, trees, seq, map_of}
 
 -- the block spelling of these documents, as characters
 blocked : List Tree → List ℕ
-unfolding tree_cmp spell_char marks_of same arranged walk mark text text_len short written_tag full_text spell_byte is_uri is_word core_tag name_of chars encode_utf8 in_block line block
+unfolding tree_cmp spell_char serial_of same arranged walk serialize node_text text_len short written_tag full_text spell_byte is_uri is_word core_tag anchor_name chars encode_utf8 in_block line block
 blocked f = block f
 
 -- What holds no item is as in canonical text.

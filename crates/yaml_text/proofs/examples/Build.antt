@@ -4,7 +4,7 @@ use Rattle.std.specs.declared.option.Option.TheVariants.{Some}
 use Rattle.yaml_text.specs.Tag.{null_tag, bool_tag, int_tag, float_tag, str_tag, seq_tag, map_tag}
 use Rattle.yaml_text.specs.Tree.{Tree, Trees, Pairs, scalar, sequence, mapping, end, item, done, entry}
 use Rattle.yaml_text.specs.Event.{Anchor, plain, untagged}
-use Rattle.yaml_text.specs.Marked.{Marked, AllMarked, MarkedPairs, alias, scalar_at, sequence_at, mapping_at, end_marks, item_mark, done_marks, entry_marks, Document}
+use Rattle.yaml_text.specs.Serial.{SerialNode, SerialNodes, SerialPairs, alias_at, scalar_at, sequence_at, mapping_at, end_serial, item_serial, done_serial, entry_serial, Document}
 
 abbrev pub Text : Type 0
 Text = Prim.Native.String.String
@@ -43,25 +43,25 @@ map_of ps = mapping map_tag (pairs ps)
 abbrev pub named : Text → Anchor
 named x = Some (codes x)
 
-abbrev pub leaf : Anchor → Text → Marked
+abbrev pub leaf : Anchor → Text → SerialNode
 leaf a x = scalar_at a untagged plain (codes x)
 
-abbrev pub again : Text → Marked
-again name = alias (codes name)
+abbrev pub again : Text → SerialNode
+again name = alias_at (codes name)
 
-abbrev pub marks : List Marked → AllMarked
-marks [] = end_marks
-marks (m ∷ ms) = item_mark m (marks ms)
+abbrev pub marks : List SerialNode → SerialNodes
+marks [] = end_serial
+marks (m ∷ ms) = item_serial m (marks ms)
 
-abbrev pub entries : List (Marked × Marked) → MarkedPairs
-entries [] = done_marks
-entries (p ∷ ps) = entry_marks p.0 p.1 (entries ps)
+abbrev pub entries : List (SerialNode × SerialNode) → SerialPairs
+entries [] = done_serial
+entries (p ∷ ps) = entry_serial p.0 p.1 (entries ps)
 
-abbrev pub flow_seq : Anchor → List Marked → Marked
+abbrev pub flow_seq : Anchor → List SerialNode → SerialNode
 flow_seq a ms = sequence_at a untagged true (marks ms)
 
-abbrev pub flow_map : Anchor → List (Marked × Marked) → Marked
+abbrev pub flow_map : Anchor → List (SerialNode × SerialNode) → SerialNode
 flow_map a ps = mapping_at a untagged true (entries ps)
 
-abbrev pub bare : Marked → Document
+abbrev pub bare : SerialNode → Document
 bare m = record { starts = false; root = m; ends = false }

@@ -11,14 +11,14 @@ use Rattle.yaml_text.specs.Walk.{walk}
 use Rattle.yaml_text.specs.CharText.{spell_char}
 use Rattle.yaml_text.specs.grammar.Characters.{is_uri, is_word}
 use Rattle.yaml_text.specs.TagText.{spell_byte, full_text, written_tag}
-use Rattle.yaml_text.specs.Mark.{name_of, mark}
-use Rattle.yaml_text.specs.NodeText.{text}
-use Rattle.yaml_text.specs.Spell.{text_len, short, marks_of, spell}
+use Rattle.yaml_text.specs.Serialize.{anchor_name, serialize}
+use Rattle.yaml_text.specs.NodeText.{node_text}
+use Rattle.yaml_text.specs.Spell.{text_len, short, serial_of, spell}
 use Rattle.yaml_text.proofs.examples.Build.{str, int, float, bool, null, seq, map_of}
 
 -- the canonical text of these documents, as characters
 spelled : List Tree → List ℕ
-unfolding tree_cmp spell_char marks_of same arranged walk mark text text_len short spell written_tag full_text spell_byte is_uri is_word core_tag name_of chars encode_utf8
+unfolding tree_cmp spell_char serial_of same arranged walk serialize node_text text_len short spell written_tag full_text spell_byte is_uri is_word core_tag anchor_name chars encode_utf8
 spelled f = spell f
 
 -- ---- documents
@@ -109,8 +109,8 @@ unfolding spelled doubled
 names_by_document = refl
 
 -- The tenth name has two digits.
-tenth_name : name_of 10 ≡ codes "a10"
-unfolding name_of
+tenth_name : anchor_name 10 ≡ codes "a10"
+unfolding anchor_name
 tenth_name = refl
 
 -- ---- what is short is always written out

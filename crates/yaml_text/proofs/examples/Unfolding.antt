@@ -5,13 +5,13 @@ use Rattle.std.specs.declared.option.Option.TheVariants.{None}
 use Rattle.yaml_text.specs.Tag.{core_tag, int_tag}
 use Rattle.yaml_text.specs.Tree.{Tree}
 use Rattle.yaml_text.specs.Event.{plain, double, full}
-use Rattle.yaml_text.specs.Marked.{Marked, scalar_at, sequence_at, flat}
+use Rattle.yaml_text.specs.Serial.{SerialNode, scalar_at, sequence_at, flat}
 use Rattle.yaml_text.specs.Core.{undefined_alias, cyclic_alias, wrong_kind, resolve, collection_tag, by_table, by_tag, null_of, is_null, bool_of, int_of, float_of, decimal_of, split_at, content_of, natural_text, int_text}
 use Rattle.yaml_text.specs.Unfold.{Outcome, last_named, unfold_node, trees_from, trees_of}
 use Rattle.yaml_text.proofs.examples.Build.{str, int, seq, map_of, named, leaf, again, marks, flow_seq, flow_map, bare}
 
 -- the trees of a stream of one document, or the first refusal with its event's number; the node's first event is number 2
-unfolded : Marked → Outcome (List Tree)
+unfolded : SerialNode → Outcome (List Tree)
 unfolding flat trees_from unfold_node last_named collection_tag resolve by_table by_tag null_of is_null bool_of int_of float_of decimal_of split_at content_of natural_text int_text core_tag
 unfolded m = trees_of (bare m ∷ [])
 

@@ -5,7 +5,7 @@ use Rattle.std.proofs.Math.Nat.{eq-or-lt_of_le}
 use Rattle.std.proofs.lemmas.Bool.{false≢true}
 use Rattle.yaml_text.specs.grammar.Rules.{Throughout, Stands, Behind, Begins, word, run}
 use Rattle.yaml_text.specs.grammar.Characters.{is_break, brk}
-use Rattle.yaml_text.specs.grammar.Separation.{StartsLine, Mark, MarkOf, Unmarked, OneLine}
+use Rattle.yaml_text.specs.grammar.Separation.{StartsLine, DocumentMark, DocumentMarkOf, Unmarked, OneLine}
 use Rattle.yaml_text.proofs.Members.{and_both, or_either}
 
 -- ---- one character
@@ -97,18 +97,18 @@ not_begun cs c i r m (j, (k, (e, f), (l, (g, h), (n, (p, q), w)))) =
     (λ b. neither (λ a. not_here cs (λ d. d == c) (i + 1) a second) (λ a. not_here cs (λ d. d == c) (i + 2) a third) (or_either (misses_at (i + 1)) (misses_at (i + 2)) b))
     (or_either (misses_at i) (misses_at (i + 1) || misses_at (i + 2)) m)
 
-unlettered : (cs : List ℕ) (i : ℕ) → (fewer 45 cs i && fewer 46 cs i) ≡ true → Mark cs i → ⊥
-unfolding Mark MarkOf
+unlettered : (cs : List ℕ) (i : ℕ) → (fewer 45 cs i && fewer 46 cs i) ≡ true → DocumentMark cs i → ⊥
+unfolding DocumentMark DocumentMarkOf
 unlettered cs i h m =
     let p = and_both (fewer 45 cs i) (fewer 46 cs i) h in
     neither (λ d. not_begun cs 45 i refl p.0 d.1) (λ d. not_begun cs 46 i refl p.1 d.1) m
 
-mark_starts : (cs : List ℕ) (i : ℕ) → Mark cs i → StartsLine cs i
-unfolding Mark MarkOf
+mark_starts : (cs : List ℕ) (i : ℕ) → DocumentMark cs i → StartsLine cs i
+unfolding DocumentMark DocumentMarkOf
 mark_starts cs i (inl m) = m.0
 mark_starts cs i (inr m) = m.0
 
-pub no_mark : (cs : List ℕ) (i : ℕ) → is_clear cs i ≡ true → Mark cs i → ⊥
+pub no_mark : (cs : List ℕ) (i : ℕ) → is_clear cs i ≡ true → DocumentMark cs i → ⊥
 no_mark cs zero h m = unlettered cs zero h m
 no_mark cs (suc i) h m =
     neither (λ a. within_line cs i a (subst (λ k. StartsLine cs k) (let e : suc i ≡ i + 1 = omega arith in e) (mark_starts cs (suc i) m)))
@@ -116,4 +116,4 @@ no_mark cs (suc i) h m =
     (or_either (misses is_break (slice_get cs i)) (fewer 45 cs (suc i) && fewer 46 cs (suc i)) h)
 
 pub unmarked : (cs : List ℕ) (i n : ℕ) → each (is_clear cs) i n ≡ true → Unmarked cs i (i + n)
-unmarked cs i n h = each_between (λ k. Mark cs k → ⊥) (is_clear cs) (no_mark cs) i n h
+unmarked cs i n h = each_between (λ k. DocumentMark cs k → ⊥) (is_clear cs) (no_mark cs) i n h

@@ -6,8 +6,8 @@ use Rattle.std.proofs.lemmas.List.{append_assoc}
 use Rattle.yaml_text.specs.Event.{Event, Style, sequence_start, sequence_end, mapping_start, mapping_end, document_start, document_end, stream_start, stream_end}
 use Rattle.yaml_text.specs.Event as style
 use Rattle.yaml_text.specs.Limits.{open_limit}
-use Rattle.yaml_text.specs.Marked.{Marked, AllMarked, MarkedPairs, alias, scalar_at, sequence_at, mapping_at, end_marks, item_mark, done_marks, entry_marks, flat, flat_all, flat_pairs, Document, documents_events}
-use Rattle.yaml_text.specs.Marked as marked
+use Rattle.yaml_text.specs.Serial.{SerialNode, SerialNodes, SerialPairs, alias_at, scalar_at, sequence_at, mapping_at, end_serial, item_serial, done_serial, entry_serial, flat, flat_all, flat_pairs, Document, documents_events}
+use Rattle.yaml_text.specs.Serial as marked
 use Rattle.std.proofs.lemmas.List.Sums.{list_all-from_AllPass}
 use Rattle.yaml_text.specs.Text.{is_text}
 use Rattle.yaml_text.specs.Sound.{Sound, AllSound, PairsSound, DocumentsSound}
@@ -27,13 +27,13 @@ use Rattle.yaml_text.proofs.grammar.Values.{Each, Free, Joins, AreScalars, AreCh
 -- ---- the events of a node, of items and of entries; the last two before more of them
 
 abbrev pub IsNode : List Event → Type 0
-IsNode es = (t : Marked) × ((more : List Event) → es ++ more ≡ flat t more) × Sound t
+IsNode es = (t : SerialNode) × ((more : List Event) → es ++ more ≡ flat t more) × Sound t
 
 abbrev AreItems : List Event → Type 0
-AreItems es = (rest : AllMarked) → AllSound rest → (ts : AllMarked) × ((more : List Event) → es ++ flat_all rest more ≡ flat_all ts more) × AllSound ts
+AreItems es = (rest : SerialNodes) → AllSound rest → (ts : SerialNodes) × ((more : List Event) → es ++ flat_all rest more ≡ flat_all ts more) × AllSound ts
 
 abbrev AreEntries : List Event → Type 0
-AreEntries es = (rest : MarkedPairs) → PairsSound rest → (ps : MarkedPairs) × ((more : List Event) → es ++ flat_pairs rest more ≡ flat_pairs ps more) × PairsSound ps
+AreEntries es = (rest : SerialPairs) → PairsSound rest → (ps : SerialPairs) × ((more : List Event) → es ++ flat_pairs rest more ≡ flat_pairs ps more) × PairsSound ps
 
 items_join : (xs ys : List Event) → AreItems xs → AreItems ys → AreItems (xs ++ ys)
 items_join xs ys f g rest s =
@@ -55,12 +55,12 @@ entry_lists = ((λ rest s. (rest, (λ more. refl), s)), entries_join)
 
 one_item : (es : List Event) → IsNode es → AreItems es
 unfolding flat
-one_item es h rest s = (item_mark h.0 rest, (λ more. h.1 (flat_all rest more)), (h.2, s))
+one_item es h rest s = (item_serial h.0 rest, (λ more. h.1 (flat_all rest more)), (h.2, s))
 
 one_entry : (xs ys : List Event) → IsNode xs → IsNode ys → AreEntries (xs ++ ys)
 unfolding flat
 one_entry xs ys k v rest s = (
-  entry_marks k.0 v.0 rest,
+  entry_serial k.0 v.0 rest,
   (λ more. append_assoc xs ys (flat_pairs rest more) ∙ ap (λ es. xs ++ es) (v.1 (flat_pairs rest more)) ∙ k.1 (flat v.0 (flat_pairs rest more))),
   (k.2, v.2, s),
 )
@@ -73,9 +73,9 @@ each_entry f g i j v (k, ys, zs, r, s, e) = subst AreEntries (sym e) (one_entry 
 
 -- ---- nodes
 
-alias_node : (name : List ℕ) → IsNameText name → IsNode (events.alias name ∷ [])
+alias_node : (name : List ℕ) → IsNameText name → IsNode (events.alias_node name ∷ [])
 unfolding flat
-alias_node name h = (alias (encode_utf8_all name), (λ more. refl), h)
+alias_node name h = (alias_at (encode_utf8_all name), (λ more. refl), h)
 
 scalar_node : (p : Props) (s : Style) → SoundProps p → (text : List ℕ) → AreScalars text → IsNode (scalar p s text ∷ [])
 unfolding flat
@@ -87,13 +87,13 @@ empty_node p h = scalar_node p style.plain h [] refl
 sequence_node : (is_flow : Bool) (p : Props) → SoundProps p → (es : List Event) → AreItems es → IsNode (wrapped (seq_start is_flow p) sequence_end es)
 unfolding flat
 sequence_node is_flow p h es f =
-    let q = f end_marks tt in
+    let q = f end_serial tt in
     (sequence_at p.anchor p.tag is_flow q.0, (λ more. ap (λ x. seq_start is_flow p ∷ x) (append_assoc es (sequence_end ∷ []) more ∙ q.1 (sequence_end ∷ more))), (h.0, h.1, q.2))
 
 mapping_node : (is_flow : Bool) (p : Props) → SoundProps p → (es : List Event) → AreEntries es → IsNode (wrapped (map_start is_flow p) mapping_end es)
 unfolding flat
 mapping_node is_flow p h es f =
-    let q = f done_marks tt in
+    let q = f done_serial tt in
     (mapping_at p.anchor p.tag is_flow q.0, (λ more. ap (λ x. map_start is_flow p ∷ x) (append_assoc es (mapping_end ∷ []) more ∙ q.1 (mapping_end ∷ more))), (h.0, h.1, q.2))
 
 -- ---- pieces of a stream
@@ -323,7 +323,7 @@ module _ (cs : List ℕ) (characters : AreCharacters cs) where
         (each_either ArePieces each_explicit_piece (each_before ArePieces _ (each_giving ArePieces [] tt)))))
 
     pub documents_of_reading : (es : List Event) → ReadsText cs Wide room es → FromDocuments es
-    unfolding ReadsText streams.stream_events marked.stream_events
+    unfolding ReadsText streams.stream_of_pieces marked.stream_events
     documents_of_reading es (pieces, r, e) =
         let q = piece_documents pieces (each_stream 0 (length cs) pieces r) in
         (q.0, e ∙ ap (λ x. stream_start ∷ x) (q.1 (stream_end ∷ [])), q.2)

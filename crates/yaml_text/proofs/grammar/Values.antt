@@ -233,7 +233,7 @@ name_text xs s n h =
 
 abbrev SoundLine : block.Line → Type 0
 SoundLine block.blank = Unit {0}
-SoundLine (block.text ended xs) = AreScalars xs
+SoundLine (block.content_line ended xs) = AreScalars xs
 
 abbrev SoundLines : List block.Line → Type 0
 SoundLines [] = Unit {0}
@@ -266,12 +266,12 @@ after_scalars : (folded : Bool) (s : block.Chomp) (ended : Bool) (a : List ℕ) 
 unfolding block.after_line
 after_scalars folded s ended a j [] h = chomped_scalars s ended j
 after_scalars folded s ended a j (block.blank ∷ ls) h = after_scalars folded s ended a (suc j) ls h.1
-after_scalars folded s ended a j (block.text more b ∷ ls) h =
+after_scalars folded s ended a j (block.content_line more b ∷ ls) h =
     scalars_join (block.joint folded a j b) (b ++ block.after_line folded s more b 0 ls) (joint_scalars folded a j b)
     (scalars_join b (block.after_line folded s more b 0 ls) h.0 (after_scalars folded s more b 0 ls h.1))
 
-kept_scalars : (s : block.Chomp) (j : ℕ) → AreScalars (block.kept s j)
-unfolding block.kept
+kept_scalars : (s : block.Chomp) (j : ℕ) → AreScalars (block.kept_breaks s j)
+unfolding block.kept_breaks
 kept_scalars block.strip j = refl
 kept_scalars block.clip j = refl
 kept_scalars block.keep j = line_feeds_scalars j
@@ -280,7 +280,7 @@ content_after_scalars : (folded : Bool) (s : block.Chomp) (j : ℕ) (ls : List b
 unfolding block.content_after
 content_after_scalars folded s j [] h = kept_scalars s j
 content_after_scalars folded s j (block.blank ∷ ls) h = content_after_scalars folded s (suc j) ls h.1
-content_after_scalars folded s j (block.text ended b ∷ ls) h =
+content_after_scalars folded s j (block.content_line ended b ∷ ls) h =
     scalars_join (flow.line_feeds j) (b ++ block.after_line folded s ended b 0 ls) (line_feeds_scalars j)
     (scalars_join b (block.after_line folded s ended b 0 ls) h.0 (after_scalars folded s ended b 0 ls h.1))
 

@@ -6,49 +6,52 @@ use Rattle.yaml_text.specs.grammar.Characters.{is_ns, is_space}
 use Rattle.yaml_text.specs.grammar.Separation.{s_l_comments, StartsLine}
 use Rattle.yaml_text.specs.grammar.Tags.{Handles, tag_handle, tag_prefix}
 
+-- no production: what a directive says
 pub data Directive : Type 0 where
   version reserved : Directive
   binding : List ℕ → List ℕ → Directive
 
+-- no production: the handles that directives bind, with their prefixes
 unfoldable pub bindings : List Directive → Handles
 bindings [] = []
 bindings (version ∷ ds) = bindings ds
 bindings (reserved ∷ ds) = bindings ds
 bindings (binding handle prefix ∷ ds) = (handle, prefix) ∷ bindings ds
 
--- the two may not both stand before a document
-unfoldable pub clashes : Directive → Directive → Bool
-clashes version version = true
-clashes (binding handle prefix) (binding other more) = bytes_eq handle other
-clashes _ _ = false
+-- no production: the two may not both stand before a document (6.8.1, 6.8.2)
+unfoldable pub excludes : Directive → Directive → Bool
+excludes version version = true
+excludes (binding handle prefix) (binding other more) = bytes_eq handle other
+excludes _ _ = false
 
--- at most one version, and one binding for a handle
+-- no production: at most one version, and one binding for a handle
 unfoldable pub is_consistent : List Directive → Bool
 is_consistent [] = true
-is_consistent (d ∷ ds) = not (list_any (clashes d) ds) && is_consistent ds
+is_consistent (d ∷ ds) = not (list_any (excludes d) ds) && is_consistent ds
 
+-- no production: the names of the two directives that are not reserved
 unfoldable pub is_known : List ℕ → Bool
 is_known name = bytes_eq name (codes "YAML") || bytes_eq name (codes "TAG")
 
 module _ (cs : List ℕ) where
-  -- 6.8.1: no other version
+  -- [86] ns-yaml-directive (6.8.1), with its `%`; of [87] ns-yaml-version 1.2 alone
   unfoldable pub yaml_directive : Rule Directive
   yaml_directive = (word cs (codes "%YAML") ◆ some_run cs is_space ◆ word cs (codes "1.2")) ▸ gives version
 
-  -- 6.8.2
+  -- [88] ns-tag-directive (6.8.2), with its `%`
   unfoldable pub tag_directive : Rule Directive
   tag_directive = (word cs (codes "%TAG") ◆ some_run cs is_space) ▸ with_value (tag_handle cs) (λ handle.
       some_run cs is_space ▸ seen (λ prefix. binding handle prefix) (tag_prefix cs))
 
-  -- 6.8: another name, and parameters
+  -- [83] ns-reserved-directive (6.8), with its `%`: [84] ns-directive-name, and [85] ns-directive-parameter any number of times
   unfoldable pub reserved_directive : Rule Directive
   reserved_directive = chr cs 37 ▸ seen (λ name. reserved) (where_value (λ name. is_known name ≡ false) (copied cs (whole_run cs is_ns)))
       ◂ any_span (some_run cs is_space ◆ some_run cs is_ns)
 
-  -- 6.8: at column 0, with the comment lines after it
+  -- [82] l-directive (6.8)
   unfoldable pub directive : Rule (List Directive)
   directive = ahead (StartsLine cs) ▸ seen (λ d. d ∷ []) (yaml_directive ∪ tag_directive ∪ reserved_directive) ◂ s_l_comments cs
 
-  -- 9.1.5; the comment lines between them are in `directive`
+  -- no production: the directives of [209] l-directive-document (9.1.5); the comment lines between them are in `directive`
   unfoldable pub directives : Rule Handles
   directives = seen bindings (where_value (λ ds. is_consistent ds ≡ true) (any_one directive))

@@ -1,7 +1,7 @@
 -- Laws of readings, in both profiles.
 use Rattle.std.specs.Prelude.{◌≡◌, ℕ, ◌≤◌, Bool, true, false, List}
 use Rattle.yaml_text.specs.Event.{Event}
-use Rattle.yaml_text.specs.Marked.{Document, stream_events}
+use Rattle.yaml_text.specs.Serial.{Document, stream_events}
 use Rattle.yaml_text.specs.Sound.{DocumentsSound}
 use Rattle.yaml_text.specs.Text.{Text}
 use Rattle.yaml_text.specs.grammar.Rules.{Span, Rule}

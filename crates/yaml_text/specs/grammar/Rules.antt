@@ -1,4 +1,6 @@
 -- How productions are put together. A span lies between two places of a text; a rule also has a value. Place i stands before the ith character.
+-- Nothing in this file is a production. In the other files of this folder the comment before a definition gives its production by
+-- the number that YAML 1.2.2 gives it, with the section in parentheses, or says that it is none.
 use Rattle.std.specs.Prelude.{◌≡◌, ℕ, zero, suc, ◌+◌, ◌-◌, ◌<◌, ◌≤◌, ◌⊎◌, Bool, true, Option, Some, List, [], ◌∷◌, ◌++◌, slice_get, slice_range}
 
 abbrev pub Span : Type 1

@@ -3,10 +3,11 @@ use Rattle.std.specs.Prelude.{◌≡◌, ℕ, ◌+◌, ◌<◌, ◌⊎◌, List,
 use Rattle.yaml_text.specs.grammar.Rules.{Span, ◌◆◌, ◌⊔◌, maybe, any_span, chr, run, some_run, exactly, word, Stands, ahead, limited, Throughout, Begins, Ends}
 use Rattle.yaml_text.specs.grammar.Characters.{is_space, is_white, is_break, is_nb, brk}
 
+-- no production: the contexts, the standard's parameter c
 pub data Ctx : Type 0 where
   block_out block_in flow_out flow_in block_key flow_key : Ctx
 
--- 7.4: `in-flow(c)`
+-- [136] in-flow(c) (7.4); the standard gives none for block-out and block-in, and no production asks for it
 unfoldable pub inner : Ctx → Ctx
 inner block_out = flow_in
 inner block_in = flow_in
@@ -16,47 +17,55 @@ inner block_key = flow_key
 inner flow_key = flow_key
 
 module _ (cs : List ℕ) where
+  -- no production: the standard's start of a line
   unfoldable pub StartsLine : ℕ → Type 0
   StartsLine i = (i ≡ 0) ⊎ Ends (brk cs) i
 
+  -- no production: the standard's end of input
   abbrev pub AtEnd : ℕ → Type 0
   AtEnd i = i ≡ length cs
 
-  -- no break stands between the places
+  -- no production: no break stands between the places
   abbrev pub OneLine : ℕ → ℕ → Type 0
   OneLine = Throughout (λ k. Stands cs is_break k → ⊥)
 
-  -- 6.1
+  -- [63] s-indent(n) (6.1)
   unfoldable pub indent : ℕ → Span
   indent n = exactly cs n is_space
 
+  -- [64] s-indent-less-than(n) (6.1)
   unfoldable pub less : ℕ → Span
   less n = limited (λ i j. j < i + n) (run cs is_space)
 
-  -- 6.2
+  -- [66] s-separate-in-line (6.2); in the profile spaces alone, no tab
   unfoldable pub sep : Span
   sep = some_run cs is_space ⊔ ahead StartsLine
 
-  -- 6.6
+  -- [75] c-nb-comment-text (6.6)
   unfoldable pub comment : Span
   comment = chr cs 35 ◆ run cs is_nb
 
+  -- [76] b-comment (6.6)
   unfoldable pub line_end : Span
   line_end = brk cs ⊔ ahead AtEnd
 
+  -- [77] s-b-comment (6.6)
   unfoldable pub s_b_comment : Span
   s_b_comment = maybe (sep ◆ maybe comment) ◆ line_end
 
+  -- [78] l-comment (6.6); it takes at least one character, so that no text has any number of them at its end
   unfoldable pub l_comment : Span
   l_comment = limited (λ i j. i < j) (sep ◆ maybe comment ◆ line_end)
 
+  -- [79] s-l-comments (6.6)
   unfoldable pub s_l_comments : Span
   s_l_comments = (s_b_comment ⊔ ahead StartsLine) ◆ any_span l_comment
 
-  -- 6.7
+  -- [81] s-separate-lines(n) (6.7)
   unfoldable pub separate_lines : ℕ → Span
   separate_lines n = (s_l_comments ◆ indent n ◆ run cs is_space) ⊔ sep
 
+  -- [80] s-separate(n,c) (6.7)
   unfoldable pub separate : ℕ → Ctx → Span
   separate n block_key = sep
   separate n flow_key = sep
@@ -65,14 +74,15 @@ module _ (cs : List ℕ) where
   separate n flow_out = separate_lines n
   separate n flow_in = separate_lines n
 
-  -- 9.1.2: three of these characters at column 0 before a white, a break or the end
-  unfoldable pub MarkOf : ℕ → ℕ → Type 0
-  MarkOf c i = StartsLine i × Begins (word cs (c ∷ c ∷ c ∷ [])) i
+  -- [206] c-forbidden (9.1.2), of one of the two marks: three of these characters at column 0 before a white, a break or the end
+  unfoldable pub DocumentMarkOf : ℕ → ℕ → Type 0
+  DocumentMarkOf c i = StartsLine i × Begins (word cs (c ∷ c ∷ c ∷ [])) i
       × (Stands cs is_white (i + 3) ⊎ Stands cs is_break (i + 3) ⊎ AtEnd (i + 3))
 
-  unfoldable pub Mark : ℕ → Type 0
-  Mark i = MarkOf 45 i ⊎ MarkOf 46 i
+  -- [206] c-forbidden (9.1.2)
+  unfoldable pub DocumentMark : ℕ → Type 0
+  DocumentMark i = DocumentMarkOf 45 i ⊎ DocumentMarkOf 46 i
 
-  -- no line between the places begins with a document mark
+  -- no production: no line between the places begins with a document mark, as l-bare-document asks (9.1.3)
   abbrev pub Unmarked : ℕ → ℕ → Type 0
-  Unmarked = Throughout (λ k. Mark k → ⊥)
+  Unmarked = Throughout (λ k. DocumentMark k → ⊥)

@@ -11,7 +11,7 @@ use Rattle.yaml_text.specs.Tag.{is_full}
 
 -- ---- tags' texts
 
--- `%` and two hexadecimal digits stand for a byte
+-- no production: `%` and two hexadecimal digits stand for a byte (5.6)
 unfoldable pub percent_decode : List ℕ → List ℕ
 percent_decode [] = []
 percent_decode (b ∷ []) = b ∷ []
@@ -21,76 +21,84 @@ percent_decode (b ∷ high ∷ low ∷ rest) =
     then (16 * digit_value high + digit_value low) ∷ percent_decode rest
     else b ∷ percent_decode (high ∷ low ∷ rest)
 
--- the tag of a text, decoded once
+-- no production: the tag of a text, decoded once
 unfoldable pub decoded : List ℕ → Option WrittenTag
 decoded text = if is_full (percent_decode text) then Some (full (percent_decode text)) else None
 
 -- ---- handles: each with its prefix
 
+-- no production: handles, each with its prefix
 abbrev pub Handles : Type 0
 Handles = List (List ℕ × List ℕ)
 
--- 6.8.2
+-- no production: the prefixes of the primary and the secondary handle where no directive gives another (6.8.2.1)
 unfoldable pub default_handles : Handles
 default_handles = (codes "!", codes "!") ∷ (codes "!!", codes "tag:yaml.org,2002:") ∷ []
 
+-- no production: a handle's prefix, by a directive or by default
 unfoldable pub prefix_of : Handles → List ℕ → Option (List ℕ)
 prefix_of handles handle = lookup (bytes_eq handle) (handles ++ default_handles)
 
--- the tag of a handle and a suffix, joined
+-- no production: the tag of a handle and a suffix, joined
 unfoldable pub joined : Handles → List ℕ → List ℕ → Option WrittenTag
 joined handles handle suffix = option_and_then (λ prefix. decoded (prefix ++ suffix)) (prefix_of handles handle)
 
--- an ns-char other than a flow indicator
+-- [102] ns-anchor-char (6.9.2): an ns-char other than a flow indicator
 unfoldable pub is_name : ℕ → Bool
 is_name c = is_ns c && not (is_flow_indicator c)
 
 module _ (cs : List ℕ) where
-  -- 5.6
+  -- [39] ns-uri-char (5.6)
   unfoldable pub uri_char : Span
   uri_char = one cs is_uri ⊔ (chr cs 37 ◆ one cs is_ascii_hexdigit ◆ one cs is_ascii_hexdigit)
 
+  -- [40] ns-tag-char (5.6)
   unfoldable pub tag_char : Span
   tag_char = one cs is_tag ⊔ (chr cs 37 ◆ one cs is_ascii_hexdigit ◆ one cs is_ascii_hexdigit)
 
-  -- 6.8.2.1
+  -- [89] c-tag-handle (6.8.2.1): [92] c-named-tag-handle, [91] c-secondary-tag-handle, [90] c-primary-tag-handle
   unfoldable pub tag_handle : Rule (List ℕ)
   tag_handle = copied cs ((chr cs 33 ◆ some_run cs is_word ◆ chr cs 33) ⊔ (chr cs 33 ◆ chr cs 33) ⊔ chr cs 33)
 
-  -- 6.8.2.2
+  -- [93] ns-tag-prefix (6.8.2.2): [94] c-ns-local-tag-prefix, [95] ns-global-tag-prefix
   unfoldable pub tag_prefix : Rule (List ℕ)
   tag_prefix = copied cs ((chr cs 33 ⊔ tag_char) ◆ any_span uri_char)
 
   -- ---- properties
 
-  -- a white, a break, the end or a flow indicator stands here
+  -- no production: a white, a break, the end or a flow indicator stands here
   abbrev pub NameEnds : ℕ → Type 0
   NameEnds i = Stands cs is_name i → ⊥
 
-  -- 6.9.1
+  -- [98] c-verbatim-tag (6.9.1)
   unfoldable pub verbatim_tag : Rule WrittenTag
   verbatim_tag = word cs (codes "!<") ▸ mapped decoded (copied cs (any_one_span uri_char)) ◂ chr cs 62
 
+  -- [99] c-ns-shorthand-tag (6.9.1)
   unfoldable pub shorthand_tag : Handles → Rule WrittenTag
   shorthand_tag handles = with_value tag_handle (λ handle. mapped (joined handles handle) (copied cs (any_one_span tag_char)))
 
+  -- [100] c-non-specific-tag (6.9.1)
   unfoldable pub non_specific_tag : Rule WrittenTag
   non_specific_tag = chr cs 33 ▸ gives non_specific
 
+  -- [97] c-ns-tag-property (6.9.1)
   unfoldable pub tag : Handles → Rule WrittenTag
   tag handles = (verbatim_tag ∪ shorthand_tag handles ∪ non_specific_tag) ◂ ahead NameEnds
 
-  -- 6.9.2, 7.1
+  -- [103] ns-anchor-name (6.9.2)
   unfoldable pub name : Rule (List ℕ)
   name = copied cs (whole_run cs is_name)
 
+  -- [101] c-ns-anchor-property (6.9.2)
   unfoldable pub anchor : Rule (List ℕ)
   anchor = chr cs 38 ▸ name
 
+  -- [104] c-ns-alias-node (7.1)
   unfoldable pub alias : Rule (List ℕ)
   alias = chr cs 42 ▸ name
 
-  -- 6.9
+  -- [96] c-ns-properties(n,c) (6.9)
   unfoldable pub properties : Handles → ℕ → Ctx → Rule Props
   properties handles n c =
       with_value (tag handles) (λ t.

@@ -18,7 +18,7 @@ use Rattle.yaml_complete.proofs.Decisions.{rest_rest, rest_goes, rest_refused}
 use Rattle.yaml_flow.specs.Answer.{Decides}
 use Rattle.yaml_flow.specs.Lines.{IsLine, IsDash}
 use Rattle.yaml_flow.specs.Keys.{ColonAfter}
-use Rattle.yaml_flow.specs.PropertyRules.{props_of, both_props, dressed, Marks}
+use Rattle.yaml_flow.specs.PropertyRules.{props_of, both_props, dressed, SomeProperties}
 use Rattle.yaml_flow.specs.declared.line.Line.{Line}
 use Rattle.yaml_flow.proofs.AnswerLemmas.{appends_by, adds_one, adds_on, adds_before}
 use Rattle.yaml_flow.proofs.PropertyLemmas.{own_marks}
@@ -27,7 +27,7 @@ use Rattle.yaml_flow.proofs.PropertyDecisions.{or_else, line_all}
 use Rattle.yaml_flow.proofs.Deciding.{decides_err}
 use Rattle.yaml_block.specs.BlockRules.{block_scalar_rest, node_rest, line_rest, value_rest, entry_rest, entries_rest, sequence_with, seq_body}
 use Rattle.yaml_block.specs.BlockEnds.{AfterNode, AfterEntry, AfterSequence, AfterMapping, IsNoKey}
-use Rattle.yaml_block.specs.OuterRules.{above, Above, column_of, left}
+use Rattle.yaml_block.specs.OuterRules.{above, Above, column_of, properties_left}
 use Rattle.yaml_block.proofs.BlockLemmas.{line_value, same_value, line_entry, sequence_entry, node_entry, dash_entry, seq_entry_at, map_entry_at, sequence_done, value_key, mapping_done, key_entry, joined_more, joined_start}
 use Rattle.yaml_block.proofs.OuterLemmas.{column_none, column_free, marked_column, any_column, above_own, line_own, follows_before, block_scalar, no_key, keyed, marked_nothing, marked_sequence, fewer_left, adds_longer}
 use Rattle.yaml_block.proofs.Found.{found_is, none_is}
@@ -396,11 +396,11 @@ read_node-read_under-requires t c =
     let cs = text_of s in
     let h = handles_of c.args.handles in
     let some = on_false_at c.is_none.result c.if-is_none.false c.is_none.ensures.no in
-    let apart = on_false_at c.clash.result c.if-clash.false c.clash.ensures.no in
+    let apart = on_false_at c.overlaps.result c.if-overlaps.false c.overlaps.ensures.no in
     let fewer = fewer_left (props_of c.args.outer) (props_of c.in_ok-own.own) apart some in
     let marks = above_own cs h c.args.col c.args.column _ _ _ (props_of c.args.outer) (props_of c.in_ok-own.own) c.requires.outer
     (own_marks cs h 0 block_key _ _ (props_of c.in_ok-own.own) c.in_ok-own.ensures.own some) apart in (
-      omega (arith, fewer, ap left c.and-outer.ensures),
+      omega (arith, fewer, ap properties_left c.and-outer.ensures),
       (
         c.line_at-line.ensures.line,
         (
@@ -412,7 +412,7 @@ read_node-read_under-requires t c =
               (
                 c.requires.block,
                 (
-                  subst (Marks cs h c.args.col flow_out (place_of s c.args.from) (place_of s c.in_ok-own.end)) (sym c.and-outer.ensures) marks,
+                  subst (SomeProperties cs h c.args.col flow_out (place_of s c.args.from) (place_of s c.in_ok-own.end)) (sym c.and-outer.ensures) marks,
                   (
                     moved s _ _ _ c.line_at-line.ensures.start c.in-Some.ensures.some,
                     (
@@ -431,8 +431,8 @@ read_node-read_under-requires t c =
       ),
     )
 
-pub read_node-returns-else-clash-clause-reads : goal.read_node-returns-else-clash-clause-reads
-read_node-returns-else-clash-clause-reads t c =
+pub read_node-returns-else-overlaps-clause-reads : goal.read_node-returns-else-overlaps-clause-reads
+read_node-returns-else-overlaps-clause-reads t c =
     let s = c.args.source.now in
     let cs = text_of s in
     let h = handles_of c.args.handles in
@@ -449,7 +449,7 @@ read_dressed-returns-in_ok-line-in-Some-clause-reads t c =
     let n = c.in_ok-line-in-Some.ensures.reads in
     let p = props_of c.args.outer in
     let q = props_of c.args.own in
-    let apart = on_false_at c.clash.result c.if-clash.false c.clash.ensures.no in (
+    let apart = on_false_at c.overlaps.result c.if-overlaps.false c.overlaps.ensures.no in (
       n.0,
       n.1,
       block_scalar cs (Unit {0}) h c.args.room c.args.col (context_of c.args.context) c.args.column (column_of p c.args.column) _ _ _ _ p q n.0 c.requires.outer
@@ -859,18 +859,18 @@ read_node-returns-in_err-own-clause-decides t c =
     decides_err (node_rest cs (Unit {0}) h c.args.room c.args.col x (column_of p c.args.column)) (AfterNode cs c.args.col x) (place_of s c.args.from) Here (λ line. place_of s line.start) c.from_residual.result _ c.from_residual.ensures.1
     (or_else (barred cs h c.args.room c.args.col x c.requires.block c.args.column _ _ p c.requires.outer) c.in_err-own.ensures.barred)
 
-pub read_node-returns-then-clash-clause-decides : goal.read_node-returns-then-clash-clause-decides
-read_node-returns-then-clash-clause-decides t c =
+pub read_node-returns-then-overlaps-clause-decides : goal.read_node-returns-then-overlaps-clause-decides
+read_node-returns-then-overlaps-clause-decides t c =
     let s = c.args.source.now in
     let cs = text_of s in
     let h = handles_of c.args.handles in
     let q = props_of c.in_ok-own.own in
     let some = on_false_at c.is_none.result c.if-is_none.false c.is_none.ensures.no in
     inr (over_clash cs h c.args.room c.args.col (context_of c.args.context) c.requires.block c.args.column _ _ (props_of c.args.outer) _ _ q (places_up s _ _ c.requires.border c.in_ok-own.ensures.border c.in_ok-own.ensures.onward)
-    (own_marks cs h 0 block_key _ _ q c.in_ok-own.ensures.own some) c.in_ok-own.ensures.all c.in-Some.ensures.some c.requires.outer (on_true_at c.clash.result c.if-clash.true c.clash.ensures.yes))
+    (own_marks cs h 0 block_key _ _ q c.in_ok-own.ensures.own some) c.in_ok-own.ensures.all c.in-Some.ensures.some c.requires.outer (on_true_at c.overlaps.result c.if-overlaps.true c.overlaps.ensures.yes))
 
-pub read_node-returns-else-clash-clause-decides : goal.read_node-returns-else-clash-clause-decides
-read_node-returns-else-clash-clause-decides t c =
+pub read_node-returns-else-overlaps-clause-decides : goal.read_node-returns-else-overlaps-clause-decides
+read_node-returns-else-overlaps-clause-decides t c =
     let s = c.args.source.now in
     let cs = text_of s in
     let h = handles_of c.args.handles in
@@ -907,12 +907,12 @@ read_dressed-read_keyed-requires t c = (
   ),
 )
 
-pub read_dressed-returns-then-clash-clause-decides : goal.read_dressed-returns-then-clash-clause-decides
-read_dressed-returns-then-clash-clause-decides t c =
+pub read_dressed-returns-then-overlaps-clause-decides : goal.read_dressed-returns-then-overlaps-clause-decides
+read_dressed-returns-then-overlaps-clause-decides t c =
     let s = c.args.source.now in
     let cs = text_of s in
     inr (signed_clash cs (handles_of c.args.handles) c.args.room c.args.col (context_of c.args.context) c.requires.block c.args.column _ _ (props_of c.args.outer) _ (props_of c.args.own) c.requires.all c.requires.goes_on c.requires.own _
-    c.requires.outer c.in-Some.ensures.follows (sign_of cs _ _ c.in-Some.ensures.sign) (on_true_at c.clash.result c.if-clash.true c.clash.ensures.yes))
+    c.requires.outer c.in-Some.ensures.follows (sign_of cs _ _ c.in-Some.ensures.sign) (on_true_at c.overlaps.result c.if-overlaps.true c.overlaps.ensures.yes))
 
 pub read_dressed-returns-in_err-line-in-Some-clause-decides : goal.read_dressed-returns-in_err-line-in-Some-clause-decides
 read_dressed-returns-in_err-line-in-Some-clause-decides t c =
@@ -921,10 +921,10 @@ read_dressed-returns-in_err-line-in-Some-clause-decides t c =
     let h = handles_of c.args.handles in
     let x = context_of c.args.context in
     let p = props_of c.args.outer in
-    let apart = on_false_at c.clash.result c.if-clash.false c.clash.ensures.no in
-    let left = signed cs h c.args.room c.args.col x c.requires.block c.args.column _ _ p _ (props_of c.args.own) c.requires.all c.requires.goes_on c.requires.own _ c.requires.outer c.in-Some.ensures.follows (sign_of cs _ _ c.in-Some.ensures.sign) apart in
+    let apart = on_false_at c.overlaps.result c.if-overlaps.false c.overlaps.ensures.no in
+    let properties_left = signed cs h c.args.room c.args.col x c.requires.block c.args.column _ _ p _ (props_of c.args.own) c.requires.all c.requires.goes_on c.requires.own _ c.requires.outer c.in-Some.ensures.follows (sign_of cs _ _ c.in-Some.ensures.sign) apart in
     decides_err (node_rest cs (Unit {0}) h c.args.room c.args.col x (column_of p c.args.column)) (AfterNode cs c.args.col x) (place_of s c.args.from) Here (λ line. place_of s line.start) c.from_residual.result _ c.from_residual.ensures.1
-    (or_else (scalar_none cs c.args.col x _ _ _ left.0 (props_of c.and-both.result) left.1) c.in_err-line-in-Some.ensures.decides)
+    (or_else (scalar_none cs c.args.col x _ _ _ properties_left.0 (props_of c.and-both.result) properties_left.1) c.in_err-line-in-Some.ensures.decides)
 
 pub read_dressed-returns-in_ok-line-in-Some-clause-decides : goal.read_dressed-returns-in_ok-line-in-Some-clause-decides
 read_dressed-returns-in_ok-line-in-Some-clause-decides t c =
@@ -933,9 +933,9 @@ read_dressed-returns-in_ok-line-in-Some-clause-decides t c =
     let h = handles_of c.args.handles in
     let x = context_of c.args.context in
     let p = props_of c.args.outer in
-    let apart = on_false_at c.clash.result c.if-clash.false c.clash.ensures.no in
-    let left = signed cs h c.args.room c.args.col x c.requires.block c.args.column _ _ p _ (props_of c.args.own) c.requires.all c.requires.goes_on c.requires.own _ c.requires.outer c.in-Some.ensures.follows (sign_of cs _ _ c.in-Some.ensures.sign) apart in
-    scalar_done cs c.args.col x _ _ _ left.0 (props_of c.and-both.result) left.1 _ c.in_ok-line-in-Some.ensures.decides
+    let apart = on_false_at c.overlaps.result c.if-overlaps.false c.overlaps.ensures.no in
+    let properties_left = signed cs h c.args.room c.args.col x c.requires.block c.args.column _ _ p _ (props_of c.args.own) c.requires.all c.requires.goes_on c.requires.own _ c.requires.outer c.in-Some.ensures.follows (sign_of cs _ _ c.in-Some.ensures.sign) apart in
+    scalar_done cs c.args.col x _ _ _ properties_left.0 (props_of c.and-both.result) properties_left.1 _ c.in_ok-line-in-Some.ensures.decides
 
 -- ---- keys and flow nodes
 

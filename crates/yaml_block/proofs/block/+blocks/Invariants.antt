@@ -13,7 +13,7 @@ use Rattle.yaml_complete.specs.Decisions.{Rest}
 use Rattle.yaml_block.specs.BlockEnds.{AfterSequence, AfterMapping}
 use Rattle.yaml_block.specs.BlockRules.{entries_rest, sequence_with, seq_body}
 use Rattle.yaml_block.proofs.BlockLemmas.{seq_entry_at, map_entry_at}
-use Rattle.yaml_block.specs.OuterRules.{left}
+use Rattle.yaml_block.specs.OuterRules.{properties_left}
 use Rattle.yaml_block.proofs.block.+blocks.Given as goal
 
 abbrev pub decreases-read_sequence : goal.decreases-read_sequence
@@ -26,10 +26,10 @@ abbrev pub decreases-read_dressed : goal.decreases-read_dressed
 decreases-read_dressed l = 16 * l.room + 1
 
 abbrev pub decreases-read_node : goal.decreases-read_node
-decreases-read_node l = 16 * l.room + (4 * left (props_of l.outer) + 2)
+decreases-read_node l = 16 * l.room + (4 * properties_left (props_of l.outer) + 2)
 
 abbrev pub decreases-read_under : goal.decreases-read_under
-decreases-read_under l = 16 * l.room + (4 * left (props_of l.outer) + 3)
+decreases-read_under l = 16 * l.room + (4 * properties_left (props_of l.outer) + 3)
 
 abbrev pub decreases-read_below : goal.decreases-read_below
 decreases-read_below l = 16 * l.room + 12

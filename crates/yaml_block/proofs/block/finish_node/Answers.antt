@@ -4,8 +4,8 @@ use Rattle.yaml_text.proofs.Tests.{on_true_at, on_false_at}
 use Rattle.yaml_block.proofs.LineDecisions.{comments_after}
 use Rattle.yaml_block.proofs.block.finish_node.Goals as goal
 
-pub returns-then-clash-clause-unfit : goal.returns-then-clash-clause-unfit
-returns-then-clash-clause-unfit c = inr (inl (on_true_at c.clash.result c.if-clash.true c.clash.ensures.yes))
+pub returns-then-overlaps-clause-unfit : goal.returns-then-overlaps-clause-unfit
+returns-then-overlaps-clause-unfit c = inr (inl (on_true_at c.overlaps.result c.if-overlaps.true c.overlaps.ensures.yes))
 
 pub returns-then-not-may_bear-clause-unfit : goal.returns-then-not-may_bear-clause-unfit
 returns-then-not-may_bear-clause-unfit c = inr (inr (on_false_at c.may_bear.result c.if-not-may_bear.true c.may_bear.ensures.no))

@@ -1,85 +1,49 @@
-use Rattle.std.proofs.Common.{◌∙◌, sym, ap, subst, rules, map}
+use Rattle.std.proofs.Common.{rules}
 use Rattle.std.specs.String.{string_bytes}
-use Rattle.yaml_text.specs.EventModel.{event_of}
-use Rattle.yaml_graph.specs.Composed.{Composable}
 use Rattle.yaml_graph.specs.GraphView.{forest}
 use Rattle.yaml_canon.proofs.PieceLaws.{if_ok, if_err}
-use Rattle.yaml_canon.proofs.ClaimLaws.{found, composable, accepted, canonical_text, refused_composing, refused_ranking, refused_reading, refused_spelling, refused_text}
+use Rattle.yaml_canon.proofs.ClaimLaws.{accepted, canonical_text, refused_graph, refused_ranking, refused_spelling}
 use Rattle.yaml_canon.proofs.AcceptLaws.{accepted-answer, accepted-exit, accepted-spelling}
 use Rattle.yaml_canon.proofs.presenter.canonical.Goals as goal
 
-pub compose-requires : goal.compose-requires
-compose-requires c =
-    let d = found c.args.bytes.now _ c.in_ok-events.events.items c.in_ok-source.ensures.read c.in_ok-events.ensures.ok in
-    subst Composable (sym c.deref.ensures.value) (composable c.args.bytes.now c.in_ok-events.events.items d)
-
 pub returns-in_err-graph-clause-refused : goal.returns-in_err-graph-clause-refused
 returns-in_err-graph-clause-refused c =
-    let d = found c.args.bytes.now _ c.in_ok-events.events.items c.in_ok-source.ensures.read c.in_ok-events.ensures.ok in
-    let f = refused_composing c.args.bytes.now d.0 c.in_err-graph.field-0.0 d.2 (c.in_err-graph.ensures d.0 (ap (map event_of) c.deref.ensures.value ∙ d.1)) in
+    let f = refused_graph c.args.bytes.now c.in_err-graph.field-0.0 c.in_err-graph.ensures.refused in
     search (rules, f)
 
 pub returns-in_err-ranks-clause-refused : goal.returns-in_err-ranks-clause-refused
 returns-in_err-ranks-clause-refused c =
-    let d = found c.args.bytes.now _ c.in_ok-events.events.items c.in_ok-source.ensures.read c.in_ok-events.ensures.ok in
-    let k = c.in_ok-graph.ensures d.0 (ap (map event_of) c.deref.ensures.value ∙ d.1) in
-    let f = refused_ranking c.args.bytes.now d.0 c.in_ok-graph.graph c.in_err-ranks.field-0.0 d.2 k c.in_err-ranks.ensures.err in
+    let k = c.in_ok-graph.ensures.graph in
+    let f = refused_ranking c.args.bytes.now k.documents c.in_ok-graph.graph c.in_err-ranks.field-0.0 k.read k.composed c.in_err-ranks.ensures.err in
     search (rules, f)
 
 pub returns-clause-text : goal.returns-clause-text
 returns-clause-text c =
-    let d = found c.args.bytes.now _ c.in_ok-events.events.items c.in_ok-source.ensures.read c.in_ok-events.ensures.ok in
-    let k = c.in_ok-graph.ensures d.0 (ap (map event_of) c.deref.ensures.value ∙ d.1) in
-    let a = accepted c.args.bytes.now d.0 c.in_ok-graph.graph d.2 k c.in_ok-ranks.ensures.ok.keyed in
+    let k = c.in_ok-graph.ensures.graph in
+    let a = accepted c.args.bytes.now k.documents c.in_ok-graph.graph k.read k.composed c.in_ok-ranks.ensures.ok.keyed in
     if_ok c.spelled.result c.spelled.ensures.ok c.spelled.ensures.fits (λ text e l. canonical_text c.args.bytes.now _ (forest c.in_ok-graph.graph) a e l)
 
 pub returns-clause-refused : goal.returns-clause-refused
 returns-clause-refused c =
-    let d = found c.args.bytes.now _ c.in_ok-events.events.items c.in_ok-source.ensures.read c.in_ok-events.ensures.ok in
-    let k = c.in_ok-graph.ensures d.0 (ap (map event_of) c.deref.ensures.value ∙ d.1) in
-    let a = accepted c.args.bytes.now d.0 c.in_ok-graph.graph d.2 k c.in_ok-ranks.ensures.ok.keyed in
+    let k = c.in_ok-graph.ensures.graph in
+    let a = accepted c.args.bytes.now k.documents c.in_ok-graph.graph k.read k.composed c.in_ok-ranks.ensures.ok.keyed in
     if_err c.spelled.result c.spelled.ensures.err (λ fault h. refused_spelling c.args.bytes.now (forest c.in_ok-graph.graph) fault a h)
 
 -- ---- what is accepted
 
-pub returns-in_err-events-clause-refused : goal.returns-in_err-events-clause-refused
-returns-in_err-events-clause-refused c =
-    let f = refused_reading c.args.bytes.now _ c.in_err-events.field-0.0 c.in_ok-source.ensures.read c.in_err-events.ensures.err c.in_err-events.ensures.decides in
-    search (rules, f)
-
-pub returns-in_err-source-clause-accepts : goal.returns-in_err-source-clause-accepts
-returns-in_err-source-clause-accepts c =
-    accepted-exit string_bytes c.args.bytes.now c.from_residual.result _ c.from_residual.ensures.1 (refused_text c.args.bytes.now _ c.in_err-source.ensures.refused)
-
-pub returns-in_err-source-clause-spelling : goal.returns-in_err-source-clause-spelling
-returns-in_err-source-clause-spelling c =
-    accepted-spelling string_bytes c.args.bytes.now c.from_residual.result (returns-in_err-source-clause-accepts c)
-
-pub returns-in_err-events-clause-accepts : goal.returns-in_err-events-clause-accepts
-returns-in_err-events-clause-accepts c =
-    accepted-exit string_bytes c.args.bytes.now c.from_residual-in_err-events.result _ c.from_residual-in_err-events.ensures.1
-    (refused_reading c.args.bytes.now _ c.in_err-events.field-0.0 c.in_ok-source.ensures.read c.in_err-events.ensures.err c.in_err-events.ensures.decides)
-
-pub returns-in_err-events-clause-spelling : goal.returns-in_err-events-clause-spelling
-returns-in_err-events-clause-spelling c =
-    accepted-spelling string_bytes c.args.bytes.now c.from_residual-in_err-events.result (returns-in_err-events-clause-accepts c)
-
 pub returns-in_err-graph-clause-accepts : goal.returns-in_err-graph-clause-accepts
 returns-in_err-graph-clause-accepts c =
-    let d = found c.args.bytes.now _ c.in_ok-events.events.items c.in_ok-source.ensures.read c.in_ok-events.ensures.ok in
-    accepted-exit string_bytes c.args.bytes.now c.from_residual-in_err-graph.result _ c.from_residual-in_err-graph.ensures.1
-    (refused_composing c.args.bytes.now d.0 c.in_err-graph.field-0.0 d.2 (c.in_err-graph.ensures d.0 (ap (map event_of) c.deref.ensures.value ∙ d.1)))
+    accepted-exit string_bytes c.args.bytes.now c.from_residual.result _ c.from_residual.ensures.1 (refused_graph c.args.bytes.now c.in_err-graph.field-0.0 c.in_err-graph.ensures.refused)
 
 pub returns-in_err-graph-clause-spelling : goal.returns-in_err-graph-clause-spelling
 returns-in_err-graph-clause-spelling c =
-    accepted-spelling string_bytes c.args.bytes.now c.from_residual-in_err-graph.result (returns-in_err-graph-clause-accepts c)
+    accepted-spelling string_bytes c.args.bytes.now c.from_residual.result (returns-in_err-graph-clause-accepts c)
 
 pub returns-in_err-ranks-clause-accepts : goal.returns-in_err-ranks-clause-accepts
 returns-in_err-ranks-clause-accepts c =
-    let d = found c.args.bytes.now _ c.in_ok-events.events.items c.in_ok-source.ensures.read c.in_ok-events.ensures.ok in
-    let k = c.in_ok-graph.ensures d.0 (ap (map event_of) c.deref.ensures.value ∙ d.1) in
+    let k = c.in_ok-graph.ensures.graph in
     accepted-exit string_bytes c.args.bytes.now c.from_residual-in_err-ranks.result _ c.from_residual-in_err-ranks.ensures.1
-    (refused_ranking c.args.bytes.now d.0 c.in_ok-graph.graph c.in_err-ranks.field-0.0 d.2 k c.in_err-ranks.ensures.err)
+    (refused_ranking c.args.bytes.now k.documents c.in_ok-graph.graph c.in_err-ranks.field-0.0 k.read k.composed c.in_err-ranks.ensures.err)
 
 pub returns-in_err-ranks-clause-spelling : goal.returns-in_err-ranks-clause-spelling
 returns-in_err-ranks-clause-spelling c =

@@ -1,58 +1,39 @@
-use Rattle.std.proofs.Common.{◌≤◌, ◌∙◌, sym, ap, subst, rules, map}
-use Rattle.yaml_text.specs.EventModel.{event_of}
+use Rattle.std.proofs.Common.{◌≤◌, subst, rules}
 use Rattle.yaml_text.specs.Limits.{text_limit}
-use Rattle.yaml_graph.specs.Composed.{Composable}
 use Rattle.yaml_graph.specs.GraphView.{forest}
-use Rattle.yaml_canon.proofs.PieceLaws.{on_ok, if_err, if_both}
-use Rattle.yaml_canon.proofs.ClaimLaws.{found, composable, accepted, refused_composing, refused_ranking, refused_reading, refused_spelling}
+use Rattle.yaml_canon.proofs.PieceLaws.{on_ok, if_both}
+use Rattle.yaml_canon.proofs.ClaimLaws.{accepted, refused_graph, refused_ranking, refused_spelling}
 use Rattle.yaml_canon.proofs.RunLaws.{refused_unwritten, canonical_written, canonical_broken}
 use Rattle.yaml_canon.proofs.run.write_canonical.Goals as goal
 
-pub compose-requires : goal.compose-requires
-compose-requires g c =
-    let d = found c.args.bytes.now _ c.in_ok-events.events.items c.in_ok-source.ensures.read c.in_ok-events.ensures.ok in
-    subst Composable (sym c.deref.ensures.value) (composable c.args.bytes.now c.in_ok-events.events.items d)
-
-pub returns-in_err-events-clause-err : goal.returns-in_err-events-clause-err
-returns-in_err-events-clause-err g c =
-    let f = refused_unwritten g.W.Write.contents c.args.bytes.now c.args.out.now c.in_err-events.field-0.0
-    (refused_reading c.args.bytes.now _ c.in_err-events.field-0.0 c.in_ok-source.ensures.read c.in_err-events.ensures.err c.in_err-events.ensures.decides) in
-    search (rules, f)
-
 pub returns-in_err-graph-clause-err : goal.returns-in_err-graph-clause-err
 returns-in_err-graph-clause-err g c =
-    let d = found c.args.bytes.now _ c.in_ok-events.events.items c.in_ok-source.ensures.read c.in_ok-events.ensures.ok in
-    let f = refused_unwritten g.W.Write.contents c.args.bytes.now c.args.out.now c.in_err-graph.field-0.0
-    (refused_composing c.args.bytes.now d.0 c.in_err-graph.field-0.0 d.2 (c.in_err-graph.ensures d.0 (ap (map event_of) c.deref.ensures.value ∙ d.1))) in
+    let f = refused_unwritten g.W.Write.contents c.args.bytes.now c.args.out.now c.in_err-graph.field-0.0 (refused_graph c.args.bytes.now c.in_err-graph.field-0.0 c.in_err-graph.ensures.refused) in
     search (rules, f)
 
 pub returns-in_err-ranks-clause-err : goal.returns-in_err-ranks-clause-err
 returns-in_err-ranks-clause-err g c =
-    let d = found c.args.bytes.now _ c.in_ok-events.events.items c.in_ok-source.ensures.read c.in_ok-events.ensures.ok in
-    let k = c.in_ok-graph.ensures d.0 (ap (map event_of) c.deref.ensures.value ∙ d.1) in
-    let f = refused_unwritten g.W.Write.contents c.args.bytes.now c.args.out.now c.in_err-ranks.field-0.0 (refused_ranking c.args.bytes.now d.0 c.in_ok-graph.graph c.in_err-ranks.field-0.0 d.2 k c.in_err-ranks.ensures.err) in
+    let k = c.in_ok-graph.ensures.graph in
+    let f = refused_unwritten g.W.Write.contents c.args.bytes.now c.args.out.now c.in_err-ranks.field-0.0 (refused_ranking c.args.bytes.now k.documents c.in_ok-graph.graph c.in_err-ranks.field-0.0 k.read k.composed c.in_err-ranks.ensures.err) in
     search (rules, f)
 
 pub returns-in_err-canonical_len-clause-err : goal.returns-in_err-canonical_len-clause-err
 returns-in_err-canonical_len-clause-err g c =
-    let d = found c.args.bytes.now _ c.in_ok-events.events.items c.in_ok-source.ensures.read c.in_ok-events.ensures.ok in
-    let k = c.in_ok-graph.ensures d.0 (ap (map event_of) c.deref.ensures.value ∙ d.1) in
-    let a = accepted c.args.bytes.now d.0 c.in_ok-graph.graph d.2 k c.in_ok-ranks.ensures.ok.keyed in
+    let k = c.in_ok-graph.ensures.graph in
+    let a = accepted c.args.bytes.now k.documents c.in_ok-graph.graph k.read k.composed c.in_ok-ranks.ensures.ok.keyed in
     let f = refused_unwritten g.W.Write.contents c.args.bytes.now c.args.out.now c.in_err-canonical_len.field-0.0 (refused_spelling c.args.bytes.now (forest c.in_ok-graph.graph) c.in_err-canonical_len.field-0.0 a c.in_err-canonical_len.ensures.err) in
     search (rules, f)
 
 pub returns-clause-ok : goal.returns-clause-ok
 returns-clause-ok g c =
-    let d = found c.args.bytes.now _ c.in_ok-events.events.items c.in_ok-source.ensures.read c.in_ok-events.ensures.ok in
-    let k = c.in_ok-graph.ensures d.0 (ap (map event_of) c.deref.ensures.value ∙ d.1) in
-    let a = accepted c.args.bytes.now d.0 c.in_ok-graph.graph d.2 k c.in_ok-ranks.ensures.ok.keyed in
+    let k = c.in_ok-graph.ensures.graph in
+    let a = accepted c.args.bytes.now k.documents c.in_ok-graph.graph k.read k.composed c.in_ok-ranks.ensures.ok.keyed in
     let l = subst (λ n. n ≤ text_limit) c.in_ok-canonical_len.ensures.ok c.in_ok-canonical_len.ensures.fits in
     on_ok c.write_pages.result c.write_pages.ensures.ok (λ h. canonical_written g.W.Write.contents c.args.bytes.now (forest c.in_ok-graph.graph) c.args.out.now c.write_pages.new.out a l h)
 
 pub returns-clause-err : goal.returns-clause-err
 returns-clause-err g c =
-    let d = found c.args.bytes.now _ c.in_ok-events.events.items c.in_ok-source.ensures.read c.in_ok-events.ensures.ok in
-    let k = c.in_ok-graph.ensures d.0 (ap (map event_of) c.deref.ensures.value ∙ d.1) in
-    let a = accepted c.args.bytes.now d.0 c.in_ok-graph.graph d.2 k c.in_ok-ranks.ensures.ok.keyed in
+    let k = c.in_ok-graph.ensures.graph in
+    let a = accepted c.args.bytes.now k.documents c.in_ok-graph.graph k.read k.composed c.in_ok-ranks.ensures.ok.keyed in
     let l = subst (λ n. n ≤ text_limit) c.in_ok-canonical_len.ensures.ok c.in_ok-canonical_len.ensures.fits in
     if_both c.write_pages.result c.write_pages.ensures.broken c.write_pages.ensures.err (λ fault b e. canonical_broken g.W.Write.contents c.args.bytes.now (forest c.in_ok-graph.graph) c.args.out.now c.write_pages.new.out fault a l b e)

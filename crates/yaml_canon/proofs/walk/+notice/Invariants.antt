@@ -3,7 +3,7 @@ use Rattle.yaml_text.specs.Order.{arranged}
 use Rattle.yaml_graph.specs.GraphView.{tree}
 use Rattle.yaml_graph.specs.TreeLists.{trees, pairs}
 use Rattle.yaml_rank.specs.RankModel.{key_pair}
-use Rattle.yaml_canon.specs.NamesView.{ranks_in, document_of, count_of, table_of}
+use Rattle.yaml_canon.specs.NamesView.{ranks_in, document_number, count_of, table_of}
 use Rattle.yaml_canon.specs.RankView.{rank_in}
 use Rattle.yaml_canon.specs.Walked.{noticed_all, noticed_pairs}
 use Rattle.yaml_canon.proofs.walk.+notice.Given as goal
@@ -23,7 +23,7 @@ invariant-notice_items-loop-item l =
       table : noticed_all (rank_in l.graph l.ranks) (trees (map (λ i. arranged (tree l.graph i.0)) (drop l.item-index l.items))) (table_of l.names)
           ≡ noticed_all (rank_in l.graph l.ranks) (trees (map (λ i. arranged (tree l.graph i.0)) l.items)) (table_of l.initial.names);
       long : ranks_in l.names ≡ ranks_in l.initial.names;
-      document : document_of l.names ≡ document_of l.initial.names;
+      document : document_number l.names ≡ document_number l.initial.names;
       count : count_of l.names ≡ count_of l.initial.names;
     }
 
@@ -33,6 +33,6 @@ invariant-notice_entries-loop-entry l =
       table : noticed_pairs (rank_in l.graph l.ranks) (pairs (map (key_pair l.graph) (drop l.entry-index l.entries))) (table_of l.names)
           ≡ noticed_pairs (rank_in l.graph l.ranks) (pairs (map (key_pair l.graph) l.entries)) (table_of l.initial.names);
       long : ranks_in l.names ≡ ranks_in l.initial.names;
-      document : document_of l.names ≡ document_of l.initial.names;
+      document : document_number l.names ≡ document_number l.initial.names;
       count : count_of l.names ≡ count_of l.initial.names;
     }

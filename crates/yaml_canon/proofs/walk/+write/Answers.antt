@@ -6,7 +6,7 @@ use Rattle.yaml_rank.specs.RankModel.{key_pair}
 use Rattle.yaml_graph.specs.declared.node.NodeId.{NodeId}
 use Rattle.yaml_canon.specs.RankView.{rank_in}
 use Rattle.yaml_canon.specs.NamesView.{given_of}
-use Rattle.yaml_canon.specs.Walked.{opening_of, opened_of, start, started, given_inside}
+use Rattle.yaml_canon.specs.Walked.{opening_of, begun_unless_short, start, started, given_inside}
 use Rattle.yaml_canon.proofs.PieceLaws.{on_ok, if_err, puts_piece, fails_piece, left_first, left_last, left_fails}
 use Rattle.yaml_canon.proofs.RankLaws.{rank-there}
 use Rattle.yaml_canon.proofs.WalkLaws.{short-there, scalar-there, sequence-there, mapping-there, mapping-some, sorted-below}
@@ -300,7 +300,7 @@ write_node-returns-in-Alias-clause-known g w c =
     let b : c.is_short.result ≡ short t = c.is_short.ensures ∙ sym (short-there G K c.requires.ranked c.args.id.0 c.node.result.now c.requires.within c.node.ensures) in
     let k : c.of.result ≡ R t = c.of.ensures ∙ sym (rank-there G K c.requires.ranked c.args.id.0 c.requires.within) in
     let o : c.start-opening.result ≡ start R t p = c.start-opening.ensures.opening ∙ (λ z. opening_of (b z) (k z) p) in
-    let q : given_of c.start-opening.new.names ≡ started R t p = c.start-opening.ensures.given ∙ (λ z. opened_of (b z) (k z) p) in
+    let q : given_of c.start-opening.new.names ≡ started R t p = c.start-opening.ensures.given ∙ (λ z. begun_unless_short (b z) (k z) p) in
     all_ok c.put_alias.result (q ∙ given_alias R t p c.start-opening.result c.in-Alias.number o c.in-Alias.is)
 
 pub write_node-returns-in-Alias-clause-ok : goal.write_node-returns-in-Alias-clause-ok
@@ -313,7 +313,7 @@ write_node-returns-in-Alias-clause-ok g w c =
     let b : c.is_short.result ≡ short t = c.is_short.ensures ∙ sym (short-there G K c.requires.ranked c.args.id.0 c.node.result.now c.requires.within c.node.ensures) in
     let k : c.of.result ≡ R t = c.of.ensures ∙ sym (rank-there G K c.requires.ranked c.args.id.0 c.requires.within) in
     let o : c.start-opening.result ≡ start R t p = c.start-opening.ensures.opening ∙ (λ z. opening_of (b z) (k z) p) in
-    let q : given_of c.start-opening.new.names ≡ started R t p = c.start-opening.ensures.given ∙ (λ z. opened_of (b z) (k z) p) in
+    let q : given_of c.start-opening.new.names ≡ started R t p = c.start-opening.ensures.given ∙ (λ z. begun_unless_short (b z) (k z) p) in
     on_ok c.put_alias.result c.put_alias.ensures.ok (λ h. alias_written g.S.Sink.holds g.S.Sink.stops R t p c.start-opening.result o c.in-Alias.number c.args.sink.now c.args.out.now c.put_alias.new.sink c.put_alias.new.out c.in-Alias.is h)
 
 pub write_node-returns-in-Alias-clause-err : goal.write_node-returns-in-Alias-clause-err
@@ -326,7 +326,7 @@ write_node-returns-in-Alias-clause-err g w c =
     let b : c.is_short.result ≡ short t = c.is_short.ensures ∙ sym (short-there G K c.requires.ranked c.args.id.0 c.node.result.now c.requires.within c.node.ensures) in
     let k : c.of.result ≡ R t = c.of.ensures ∙ sym (rank-there G K c.requires.ranked c.args.id.0 c.requires.within) in
     let o : c.start-opening.result ≡ start R t p = c.start-opening.ensures.opening ∙ (λ z. opening_of (b z) (k z) p) in
-    let q : given_of c.start-opening.new.names ≡ started R t p = c.start-opening.ensures.given ∙ (λ z. opened_of (b z) (k z) p) in
+    let q : given_of c.start-opening.new.names ≡ started R t p = c.start-opening.ensures.given ∙ (λ z. begun_unless_short (b z) (k z) p) in
     if_err c.put_alias.result c.put_alias.ensures.err (λ fault h. alias_unwritten g.S.Sink.holds g.S.Sink.stops R t p c.start-opening.result o c.in-Alias.number c.args.sink.now c.args.out.now c.put_alias.new.out fault c.in-Alias.is h)
 
 pub write_node-returns-in_err-put_anchor-in-Anchored-clause-err : goal.write_node-returns-in_err-put_anchor-in-Anchored-clause-err
@@ -339,7 +339,7 @@ write_node-returns-in_err-put_anchor-in-Anchored-clause-err g w c =
     let b : c.is_short.result ≡ short t = c.is_short.ensures ∙ sym (short-there G K c.requires.ranked c.args.id.0 c.node.result.now c.requires.within c.node.ensures) in
     let k : c.of.result ≡ R t = c.of.ensures ∙ sym (rank-there G K c.requires.ranked c.args.id.0 c.requires.within) in
     let o : c.start-opening.result ≡ start R t p = c.start-opening.ensures.opening ∙ (λ z. opening_of (b z) (k z) p) in
-    let q : given_of c.start-opening.new.names ≡ started R t p = c.start-opening.ensures.given ∙ (λ z. opened_of (b z) (k z) p) in
+    let q : given_of c.start-opening.new.names ≡ started R t p = c.start-opening.ensures.given ∙ (λ z. begun_unless_short (b z) (k z) p) in
     let m = anchor_unwritten g.S.Sink.holds g.S.Sink.stops R t p c.start-opening.result o c.in-Anchored.number c.args.sink.now c.args.out.now c.put_anchor.new.out c.in_err-put_anchor-in-Anchored.field-0.0 c.in-Anchored.is c.in_err-put_anchor-in-Anchored.ensures.err in
     search (rules, m)
 
@@ -353,7 +353,7 @@ write_node-returns-in_ok-put_anchor-in-Anchored-clause-known g w c =
     let b : c.is_short.result ≡ short t = c.is_short.ensures ∙ sym (short-there G K c.requires.ranked c.args.id.0 c.node.result.now c.requires.within c.node.ensures) in
     let k : c.of.result ≡ R t = c.of.ensures ∙ sym (rank-there G K c.requires.ranked c.args.id.0 c.requires.within) in
     let o : c.start-opening.result ≡ start R t p = c.start-opening.ensures.opening ∙ (λ z. opening_of (b z) (k z) p) in
-    let q : given_of c.start-opening.new.names ≡ started R t p = c.start-opening.ensures.given ∙ (λ z. opened_of (b z) (k z) p) in
+    let q : given_of c.start-opening.new.names ≡ started R t p = c.start-opening.ensures.given ∙ (λ z. begun_unless_short (b z) (k z) p) in
     on_ok c.write_inside.result c.write_inside.ensures.known (λ h. h ∙ ap (given_inside R t) q ∙ given_anchored R t p c.start-opening.result c.in-Anchored.number o c.in-Anchored.is)
 
 pub write_node-returns-in_ok-put_anchor-in-Anchored-clause-ok : goal.write_node-returns-in_ok-put_anchor-in-Anchored-clause-ok
@@ -366,7 +366,7 @@ write_node-returns-in_ok-put_anchor-in-Anchored-clause-ok g w c =
     let b : c.is_short.result ≡ short t = c.is_short.ensures ∙ sym (short-there G K c.requires.ranked c.args.id.0 c.node.result.now c.requires.within c.node.ensures) in
     let k : c.of.result ≡ R t = c.of.ensures ∙ sym (rank-there G K c.requires.ranked c.args.id.0 c.requires.within) in
     let o : c.start-opening.result ≡ start R t p = c.start-opening.ensures.opening ∙ (λ z. opening_of (b z) (k z) p) in
-    let q : given_of c.start-opening.new.names ≡ started R t p = c.start-opening.ensures.given ∙ (λ z. opened_of (b z) (k z) p) in
+    let q : given_of c.start-opening.new.names ≡ started R t p = c.start-opening.ensures.given ∙ (λ z. begun_unless_short (b z) (k z) p) in
     on_ok c.write_inside.result c.write_inside.ensures.ok (λ h. anchored_written g.S.Sink.holds g.S.Sink.stops R t p c.start-opening.result o c.in-Anchored.number _ c.args.sink.now c.args.out.now c.put_anchor.new.sink c.put_anchor.new.out c.write_inside.new.sink c.write_inside.new.out c.in-Anchored.is q c.in_ok-put_anchor-in-Anchored.ensures.ok h)
 
 pub write_node-returns-in_ok-put_anchor-in-Anchored-clause-err : goal.write_node-returns-in_ok-put_anchor-in-Anchored-clause-err
@@ -379,7 +379,7 @@ write_node-returns-in_ok-put_anchor-in-Anchored-clause-err g w c =
     let b : c.is_short.result ≡ short t = c.is_short.ensures ∙ sym (short-there G K c.requires.ranked c.args.id.0 c.node.result.now c.requires.within c.node.ensures) in
     let k : c.of.result ≡ R t = c.of.ensures ∙ sym (rank-there G K c.requires.ranked c.args.id.0 c.requires.within) in
     let o : c.start-opening.result ≡ start R t p = c.start-opening.ensures.opening ∙ (λ z. opening_of (b z) (k z) p) in
-    let q : given_of c.start-opening.new.names ≡ started R t p = c.start-opening.ensures.given ∙ (λ z. opened_of (b z) (k z) p) in
+    let q : given_of c.start-opening.new.names ≡ started R t p = c.start-opening.ensures.given ∙ (λ z. begun_unless_short (b z) (k z) p) in
     if_err c.write_inside.result c.write_inside.ensures.err (λ fault h. anchored_unwritten g.S.Sink.holds g.S.Sink.stops R t p c.start-opening.result o c.in-Anchored.number _ c.args.sink.now c.args.out.now c.put_anchor.new.sink c.put_anchor.new.out c.write_inside.new.out fault c.in-Anchored.is q c.in_ok-put_anchor-in-Anchored.ensures.ok h)
 
 pub write_node-returns-in-Plain-clause-known : goal.write_node-returns-in-Plain-clause-known
@@ -392,7 +392,7 @@ write_node-returns-in-Plain-clause-known g w c =
     let b : c.is_short.result ≡ short t = c.is_short.ensures ∙ sym (short-there G K c.requires.ranked c.args.id.0 c.node.result.now c.requires.within c.node.ensures) in
     let k : c.of.result ≡ R t = c.of.ensures ∙ sym (rank-there G K c.requires.ranked c.args.id.0 c.requires.within) in
     let o : c.start-opening.result ≡ start R t p = c.start-opening.ensures.opening ∙ (λ z. opening_of (b z) (k z) p) in
-    let q : given_of c.start-opening.new.names ≡ started R t p = c.start-opening.ensures.given ∙ (λ z. opened_of (b z) (k z) p) in
+    let q : given_of c.start-opening.new.names ≡ started R t p = c.start-opening.ensures.given ∙ (λ z. begun_unless_short (b z) (k z) p) in
     on_ok c.write_inside-in-Plain.result c.write_inside-in-Plain.ensures.known (λ h. h ∙ ap (given_inside R t) q ∙ given_plain R t p c.start-opening.result o c.in-Plain.is)
 
 pub write_node-returns-in-Plain-clause-ok : goal.write_node-returns-in-Plain-clause-ok
@@ -405,7 +405,7 @@ write_node-returns-in-Plain-clause-ok g w c =
     let b : c.is_short.result ≡ short t = c.is_short.ensures ∙ sym (short-there G K c.requires.ranked c.args.id.0 c.node.result.now c.requires.within c.node.ensures) in
     let k : c.of.result ≡ R t = c.of.ensures ∙ sym (rank-there G K c.requires.ranked c.args.id.0 c.requires.within) in
     let o : c.start-opening.result ≡ start R t p = c.start-opening.ensures.opening ∙ (λ z. opening_of (b z) (k z) p) in
-    let q : given_of c.start-opening.new.names ≡ started R t p = c.start-opening.ensures.given ∙ (λ z. opened_of (b z) (k z) p) in
+    let q : given_of c.start-opening.new.names ≡ started R t p = c.start-opening.ensures.given ∙ (λ z. begun_unless_short (b z) (k z) p) in
     on_ok c.write_inside-in-Plain.result c.write_inside-in-Plain.ensures.ok (λ h. plain_written g.S.Sink.holds g.S.Sink.stops R t p c.start-opening.result o _ c.args.sink.now c.args.out.now c.write_inside-in-Plain.new.sink c.write_inside-in-Plain.new.out c.in-Plain.is q h)
 
 pub write_node-returns-in-Plain-clause-err : goal.write_node-returns-in-Plain-clause-err
@@ -418,7 +418,7 @@ write_node-returns-in-Plain-clause-err g w c =
     let b : c.is_short.result ≡ short t = c.is_short.ensures ∙ sym (short-there G K c.requires.ranked c.args.id.0 c.node.result.now c.requires.within c.node.ensures) in
     let k : c.of.result ≡ R t = c.of.ensures ∙ sym (rank-there G K c.requires.ranked c.args.id.0 c.requires.within) in
     let o : c.start-opening.result ≡ start R t p = c.start-opening.ensures.opening ∙ (λ z. opening_of (b z) (k z) p) in
-    let q : given_of c.start-opening.new.names ≡ started R t p = c.start-opening.ensures.given ∙ (λ z. opened_of (b z) (k z) p) in
+    let q : given_of c.start-opening.new.names ≡ started R t p = c.start-opening.ensures.given ∙ (λ z. begun_unless_short (b z) (k z) p) in
     if_err c.write_inside-in-Plain.result c.write_inside-in-Plain.ensures.err (λ fault h. plain_unwritten g.S.Sink.holds g.S.Sink.stops R t p c.start-opening.result o _ c.args.sink.now c.args.out.now c.write_inside-in-Plain.new.out fault c.in-Plain.is q h)
 
 pub write_inside-write_entries-requires : goal.write_inside-write_entries-requires

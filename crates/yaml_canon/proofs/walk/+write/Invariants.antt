@@ -4,7 +4,7 @@ use Rattle.yaml_text.specs.NodeText.{items_text, pairs_text}
 use Rattle.yaml_graph.specs.GraphView.{tree}
 use Rattle.yaml_graph.specs.TreeLists.{trees, pairs}
 use Rattle.yaml_rank.specs.RankModel.{key_pair}
-use Rattle.yaml_canon.specs.NamesView.{ranks_in, document_of, given_of}
+use Rattle.yaml_canon.specs.NamesView.{ranks_in, document_number, given_of}
 use Rattle.yaml_canon.specs.RankView.{rank_in}
 use Rattle.yaml_canon.specs.Walked.{separator, given_all, given_pairs, written_all, written_pairs}
 use Rattle.yaml_canon.proofs.PieceLaws.{Left}
@@ -28,7 +28,7 @@ invariant-write_items-loop-place g l =
       known : given_all (rank_in l.graph l.ranks) (trees (map (λ i. arranged (tree l.graph i.0)) (drop l.place l.items))) (given_of l.names)
           ≡ given_all (rank_in l.graph l.ranks) (trees (map (λ i. arranged (tree l.graph i.0)) l.items)) (given_of l.fn.names);
       long : ranks_in l.names ≡ ranks_in l.fn.names;
-      document : document_of l.names ≡ document_of l.fn.names;
+      document : document_number l.names ≡ document_number l.fn.names;
       left : Left g.S.Sink.holds l.fn.sink l.fn.out l.sink l.out
           (λ more. items_text (separator l.place) (written_all (rank_in l.graph l.ranks) (trees (map (λ i. arranged (tree l.graph i.0)) (drop l.place l.items))) (given_of l.names)) more)
           (λ more. 91 ∷ items_text [] (written_all (rank_in l.graph l.ranks) (trees (map (λ i. arranged (tree l.graph i.0)) l.items)) (given_of l.fn.names)) more);
@@ -40,7 +40,7 @@ invariant-write_entries-loop-place g l =
       known : given_pairs (rank_in l.graph l.ranks) (pairs (map (key_pair l.graph) (drop l.place l.entries))) (given_of l.names)
           ≡ given_pairs (rank_in l.graph l.ranks) (pairs (map (key_pair l.graph) l.entries)) (given_of l.fn.names);
       long : ranks_in l.names ≡ ranks_in l.fn.names;
-      document : document_of l.names ≡ document_of l.fn.names;
+      document : document_number l.names ≡ document_number l.fn.names;
       left : Left g.S.Sink.holds l.fn.sink l.fn.out l.sink l.out
           (λ more. pairs_text (separator l.place) (written_pairs (rank_in l.graph l.ranks) (pairs (map (key_pair l.graph) (drop l.place l.entries))) (given_of l.names)) more)
           (λ more. 123 ∷ pairs_text [] (written_pairs (rank_in l.graph l.ranks) (pairs (map (key_pair l.graph) l.entries)) (given_of l.fn.names)) more);

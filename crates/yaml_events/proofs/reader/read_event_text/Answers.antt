@@ -6,7 +6,7 @@ use Rattle.std.proofs.lemmas.List.Elements.{All-from_get_or}
 use Rattle.std.proofs.lemmas.Str.{IsUtf8-drop}
 use Rattle.std.proofs.lemmas.Str.Pattern.{split_parts}
 use Rattle.yaml_text.specs.EventModel.{event_of}
-use Rattle.yaml_events.specs.Answer.{IsRefused}
+use Rattle.yaml_events.specs.Answer.{RefusesEventText}
 use Rattle.yaml_events.proofs.FirstBad.{read_none, read_more, no_feed_left, bad_line}
 use Rattle.yaml_events.proofs.Reading.{refusal}
 use Rattle.yaml_events.specs.Parts.{IsLineOf}
@@ -32,7 +32,7 @@ returns-in-Err-clause-refused c =
     let rest : List ℕ = c.lines.rest.now in
     let line : List ℕ = c.in-Some.line.now in
     let f = split_parts 10 rest (Some (c.in-Some.line, c.in-Some.after)) c.in-Some.ensures.cases (omega arith) in
-    subst (IsRefused c.args.text.now) (sym c.of_line.ensures)
+    subst (RefusesEventText c.args.text.now) (sym c.of_line.ensures)
     (bad_line c.args.text.now rest line c.in-Some.after.now _ _ _ c.in-Err.fault c.lines.invariant (ap (λ z. z + 1) c.len-number.ensures) f.0 (All-from_get_or (λ b. b ≢ 10) line 0 f.1)
     (refusal (IsLineOf line) (IsLineOf line) event_of c.in-Err.fault c.in-Err.ensures))
 

@@ -4,11 +4,11 @@ use Rattle.std.proofs.lemmas.List.{append-nil}
 use Rattle.yaml_text.specs.Event.{Event, untagged, sequence_start, mapping_start, sequence_end, mapping_end}
 use Rattle.yaml_text.specs.EventModel.{context_of}
 use Rattle.yaml_text.specs.Source.{text_of, place_of}
-use Rattle.yaml_text.specs.grammar.Events.{no_props, empty, alias}
+use Rattle.yaml_text.specs.grammar.Events.{no_props, empty, alias_node}
 use Rattle.yaml_text.specs.grammar.Tags as tags
 use Rattle.yaml_text.specs.grammar.Rules.{any, ◌◂◌, given, gives, seen}
 use Rattle.yaml_text.proofs.Tests.{on_true_at, on_false_at}
-use Rattle.yaml_flow.specs.FlowRules.{opens, below, IsSign, SignAt, AskedAt, spaced, comma, from_room, item_at, entry_at, keyed_at, asked_at, value_at, parts, content_from, Bare, aliased, plainly, marked, lone}
+use Rattle.yaml_flow.specs.FlowRules.{opens, below, MayFollowColon, SignAt, AskedAt, spaced, comma, from_room, item_at, entry_at, keyed_at, asked_at, value_at, parts, content_from, Bare, aliased, plainly, with_properties, lone}
 use Rattle.yaml_mark.specs.HandlesModel.{handles_of}
 use Rattle.yaml_flow.specs.PropertyRules.{props_of, dressed}
 use Rattle.yaml_flow.specs.declared.flow.Kind.TheVariants.{Yaml}
@@ -246,7 +246,7 @@ read_bare-returns-in-Some-clause-reads t c =
     let h = handles_of c.args.handles in
     let p = props_of c.args.own.now in
     let none = on_true_at c.is_none.result c.if-is_none.true c.is_none.ensures.yes in
-    appends_by (λ node. given (node.kind ≡ Yaml) (seen (λ x. alias x ∷ []) (tags.alias cs))) (λ node. Bare cs (Unit {0}) h node.deep node.kind c.args.least (context_of c.args.context) p (place_of c.args.source.now c.args.end))
+    appends_by (λ node. given (node.kind ≡ Yaml) (seen (λ x. alias_node x ∷ []) (tags.alias cs))) (λ node. Bare cs (Unit {0}) h node.deep node.kind c.args.least (context_of c.args.context) p (place_of c.args.source.now c.args.end))
     (place_of c.args.source.now c.args.at) (place_of c.args.source.now c.args.at) (λ node. place_of c.args.source.now node.end) _ _ c.read_alias.result
     (λ node es (k, (x, a, e)). aliased x a e none k) c.read_alias.ensures.reads
 
@@ -262,7 +262,7 @@ read_bare-returns-in-Some-3-clause-reads t c =
     let h = handles_of c.args.handles in
     let some = on_false_at c.is_none.result c.if-is_none.false c.is_none.ensures.no in
     let n = perhaps_some (λ node. content_from cs (Unit {0}) h node.deep node.kind c.args.least (context_of c.args.context)) _ (λ node. place_of c.args.source.now node.end) _ _ _ _ c.in-Some-3.is c.in_ok-node-2.ensures.reads in
-    (n.0, n.1, marked _ (own_marks cs h c.args.least (context_of c.args.context) _ _ _ c.requires.own some) (c.in_ok-start.ensures.apart (omega (arith, c.in_ok-start.ensures.onward, c.if-start-end.false))) n.2)
+    (n.0, n.1, with_properties _ (own_marks cs h c.args.least (context_of c.args.context) _ _ _ c.requires.own some) (c.in_ok-start.ensures.apart (omega (arith, c.in_ok-start.ensures.onward, c.if-start-end.false))) n.2)
 
 -- properties alone
 pub read_bare-returns-then-start-end-clause-reads : goal.read_bare-returns-then-start-end-clause-reads
@@ -940,7 +940,7 @@ read_node_item-returns-in_err-end-in-Some-clause-decides t c =
     let q = place_of s c.in-Some.colon in
     let apart = if_some (λ r. Spaced cs (place_of s c.in_ok-key.key.end) (place_of s r.0)) c.in_ok-key_colon.field-0 (c.in-Some.colon, c.in-Some.after) c.in-Some.is c.in_ok-key_colon.ensures.spaced in
     let colon = if_some (λ r. Steps (bytes_of s) r.0 58 r.1) c.in_ok-key_colon.field-0 (c.in-Some.colon, c.in-Some.after) c.in-Some.is c.in_ok-key_colon.ensures.colon in
-    let sign = if_some (λ r. IsSign c.in_ok-key.key.kind x cs (place_of s r.1)) c.in_ok-key_colon.field-0 (c.in-Some.colon, c.in-Some.after) c.in-Some.is c.in_ok-key_colon.ensures.sign in
+    let sign = if_some (λ r. MayFollowColon c.in_ok-key.key.kind x cs (place_of s r.1)) c.in_ok-key_colon.field-0 (c.in-Some.colon, c.in-Some.after) c.in-Some.is c.in_ok-key_colon.ensures.sign in
     λ e. decides_err (item_at cs (Unit {0}) h c.args.room n flow_in) (InFlow cs n) (place_of s c.args.at) (InFlow cs n) (λ r. place_of s r.0) c.from_residual-in_err-end-in-Some.result c.in_err-end-in-Some.field-0.0 c.from_residual-in_err-end-in-Some.ensures.1 (or_else (λ f. item_no_pair cs h n c.args.room (place_of s c.args.at) (subst (λ y. SignAt Yaml y cs (place_of s c.args.at) → ⊥) e c.requires.no_colon) (no_mark cs (place_of s c.args.at) (subst (λ y. AskedAt y cs (place_of s c.args.at) → ⊥) e c.requires.no_mark)) c.in_ok-key.key.kind (place_of s c.in_ok-key.key.end) (only_in cs h c.args.room n x c.in_ok-key.key.kind _ _ e (c.in_ok-key.ensures.decides e)) q apart (sign_in cs c.in_ok-key.key.kind x q (place_of s c.in-Some.after) e colon.is colon.next sign) (own_refused cs h n c.args.room (c.args.room - 1) (omega arith) (place_of s c.args.at) (subst (λ y. SignAt Yaml y cs (place_of s c.args.at) → ⊥) e c.requires.no_colon) (no_mark cs (place_of s c.args.at) (subst (λ y. AskedAt y cs (place_of s c.args.at) → ⊥) e c.requires.no_mark)) c.in_ok-key.key.kind (place_of s c.in_ok-key.key.end) q (only_in cs h c.args.room n x c.in_ok-key.key.kind _ _ e (c.in_ok-key.ensures.decides e)) apart f)) (c.in_err-end-in-Some.ensures.decides e))
 
 pub read_node_item-returns-in_err-key-clause-decides : goal.read_node_item-returns-in_err-key-clause-decides
@@ -971,7 +971,7 @@ read_node_item-returns-in_ok-push-in-Some-clause-decides t c =
     let q = place_of s c.in-Some.colon in
     let apart = if_some (λ r. Spaced cs (place_of s c.in_ok-key.key.end) (place_of s r.0)) c.in_ok-key_colon.field-0 (c.in-Some.colon, c.in-Some.after) c.in-Some.is c.in_ok-key_colon.ensures.spaced in
     let colon = if_some (λ r. Steps (bytes_of s) r.0 58 r.1) c.in_ok-key_colon.field-0 (c.in-Some.colon, c.in-Some.after) c.in-Some.is c.in_ok-key_colon.ensures.colon in
-    let sign = if_some (λ r. IsSign c.in_ok-key.key.kind x cs (place_of s r.1)) c.in_ok-key_colon.field-0 (c.in-Some.colon, c.in-Some.after) c.in-Some.is c.in_ok-key_colon.ensures.sign in
+    let sign = if_some (λ r. MayFollowColon c.in_ok-key.key.kind x cs (place_of s r.1)) c.in_ok-key_colon.field-0 (c.in-Some.colon, c.in-Some.after) c.in-Some.is c.in_ok-key_colon.ensures.sign in
     λ e. item_of_pair cs h n c.args.room (place_of s c.args.at) (subst (λ y. SignAt Yaml y cs (place_of s c.args.at) → ⊥) e c.requires.no_colon) (no_mark cs (place_of s c.args.at) (subst (λ y. AskedAt y cs (place_of s c.args.at) → ⊥) e c.requires.no_mark)) c.in_ok-key.key.kind (place_of s c.in_ok-key.key.end) (only_in cs h c.args.room n x c.in_ok-key.key.kind _ _ e (c.in_ok-key.ensures.decides e)) q apart (sign_in cs c.in_ok-key.key.kind x q (place_of s c.in-Some.after) e colon.is colon.next sign) (place_of s c.in_ok-end-in-Some.end) (own_goes cs h n c.args.room (c.args.room - 1) (omega arith) (place_of s c.args.at) (subst (λ y. SignAt Yaml y cs (place_of s c.args.at) → ⊥) e c.requires.no_colon) (no_mark cs (place_of s c.args.at) (subst (λ y. AskedAt y cs (place_of s c.args.at) → ⊥) e c.requires.no_mark)) c.in_ok-key.key.kind (place_of s c.in_ok-key.key.end) q (place_of s c.in_ok-end-in-Some.end) (only_in cs h c.args.room n x c.in_ok-key.key.kind _ _ e (c.in_ok-key.ensures.decides e)) apart (c.in_ok-end-in-Some.ensures.decides e))
 
 pub read_node_item-returns-in_ok-push-in-Some-clause-reads : goal.read_node_item-returns-in_ok-push-in-Some-clause-reads
@@ -984,7 +984,7 @@ read_node_item-returns-in_ok-push-in-Some-clause-reads t c =
     let q = place_of s c.in-Some.colon in
     let apart = if_some (λ r. Spaced cs (place_of s c.in_ok-key.key.end) (place_of s r.0)) c.in_ok-key_colon.field-0 (c.in-Some.colon, c.in-Some.after) c.in-Some.is c.in_ok-key_colon.ensures.spaced in
     let colon = if_some (λ r. Steps (bytes_of s) r.0 58 r.1) c.in_ok-key_colon.field-0 (c.in-Some.colon, c.in-Some.after) c.in-Some.is c.in_ok-key_colon.ensures.colon in
-    let sign = if_some (λ r. IsSign c.in_ok-key.key.kind x cs (place_of s r.1)) c.in_ok-key_colon.field-0 (c.in-Some.colon, c.in-Some.after) c.in-Some.is c.in_ok-key_colon.ensures.sign in
+    let sign = if_some (λ r. MayFollowColon c.in_ok-key.key.kind x cs (place_of s r.1)) c.in_ok-key_colon.field-0 (c.in-Some.colon, c.in-Some.after) c.in-Some.is c.in_ok-key_colon.ensures.sign in
     let fits = if_some (λ r. IsKeySized cs (place_of s c.args.at) (place_of s r.0)) c.in_ok-key_colon.field-0 (c.in-Some.colon, c.in-Some.after) c.in-Some.is c.in_ok-key_colon.ensures.fits in
     let k = c.in_ok-key.ensures.reads in
     let v = c.in_ok-end-in-Some.ensures.reads in
@@ -1010,7 +1010,7 @@ read_node_item-returns-then-key-room-clause-decides t c =
     let q = place_of s c.in-Some.colon in
     let apart = if_some (λ r. Spaced cs (place_of s c.in_ok-key.key.end) (place_of s r.0)) c.in_ok-key_colon.field-0 (c.in-Some.colon, c.in-Some.after) c.in-Some.is c.in_ok-key_colon.ensures.spaced in
     let colon = if_some (λ r. Steps (bytes_of s) r.0 58 r.1) c.in_ok-key_colon.field-0 (c.in-Some.colon, c.in-Some.after) c.in-Some.is c.in_ok-key_colon.ensures.colon in
-    let sign = if_some (λ r. IsSign c.in_ok-key.key.kind x cs (place_of s r.1)) c.in_ok-key_colon.field-0 (c.in-Some.colon, c.in-Some.after) c.in-Some.is c.in_ok-key_colon.ensures.sign in
+    let sign = if_some (λ r. MayFollowColon c.in_ok-key.key.kind x cs (place_of s r.1)) c.in_ok-key_colon.field-0 (c.in-Some.colon, c.in-Some.after) c.in-Some.is c.in_ok-key_colon.ensures.sign in
     λ e. decides_by (PairAt cs h n c.args.room) (InFlow cs n) (place_of s c.args.at) (InFlow cs n) (item_at cs (Unit {0}) h c.args.room n flow_in) (InFlow cs n) (place_of s c.args.at) (InFlow cs n) (λ r. place_of s r.0) c.read_pair.result
     (item_of_pair cs h n c.args.room (place_of s c.args.at) (subst (λ y. SignAt Yaml y cs (place_of s c.args.at) → ⊥) e c.requires.no_colon) (no_mark cs (place_of s c.args.at) (subst (λ y. AskedAt y cs (place_of s c.args.at) → ⊥) e c.requires.no_mark)) c.in_ok-key.key.kind (place_of s c.in_ok-key.key.end) (only_in cs h c.args.room n x c.in_ok-key.key.kind _ _ e (c.in_ok-key.ensures.decides e)) q apart (sign_in cs c.in_ok-key.key.kind x q (place_of s c.in-Some.after) e colon.is colon.next sign)) (item_no_pair cs h n c.args.room (place_of s c.args.at) (subst (λ y. SignAt Yaml y cs (place_of s c.args.at) → ⊥) e c.requires.no_colon) (no_mark cs (place_of s c.args.at) (subst (λ y. AskedAt y cs (place_of s c.args.at) → ⊥) e c.requires.no_mark)) c.in_ok-key.key.kind (place_of s c.in_ok-key.key.end) (only_in cs h c.args.room n x c.in_ok-key.key.kind _ _ e (c.in_ok-key.ensures.decides e)) q apart (sign_in cs c.in_ok-key.key.kind x q (place_of s c.in-Some.after) e colon.is colon.next sign)) (c.read_pair.ensures.decides e)
 
@@ -1037,7 +1037,7 @@ read_node_item-returns-then-room-eq0-clause-decides t c =
     let q = place_of s c.in-Some.colon in
     let apart = if_some (λ r. Spaced cs (place_of s c.in_ok-key.key.end) (place_of s r.0)) c.in_ok-key_colon.field-0 (c.in-Some.colon, c.in-Some.after) c.in-Some.is c.in_ok-key_colon.ensures.spaced in
     let colon = if_some (λ r. Steps (bytes_of s) r.0 58 r.1) c.in_ok-key_colon.field-0 (c.in-Some.colon, c.in-Some.after) c.in-Some.is c.in_ok-key_colon.ensures.colon in
-    let sign = if_some (λ r. IsSign c.in_ok-key.key.kind x cs (place_of s r.1)) c.in_ok-key_colon.field-0 (c.in-Some.colon, c.in-Some.after) c.in-Some.is c.in_ok-key_colon.ensures.sign in
+    let sign = if_some (λ r. MayFollowColon c.in_ok-key.key.kind x cs (place_of s r.1)) c.in_ok-key_colon.field-0 (c.in-Some.colon, c.in-Some.after) c.in-Some.is c.in_ok-key_colon.ensures.sign in
     λ e. inr (item_full cs h n c.args.room (place_of s c.args.at) (subst (λ y. SignAt Yaml y cs (place_of s c.args.at) → ⊥) e c.requires.no_colon) (no_mark cs (place_of s c.args.at) (subst (λ y. AskedAt y cs (place_of s c.args.at) → ⊥) e c.requires.no_mark)) c.in_ok-key.key.kind (place_of s c.in_ok-key.key.end) (only_in cs h c.args.room n x c.in_ok-key.key.kind _ _ e (c.in_ok-key.ensures.decides e)) q apart (sign_in cs c.in_ok-key.key.kind x q (place_of s c.in-Some.after) e colon.is colon.next sign) c.if-room-eq0.true)
 
 pub read_pair-returns-in-None-clause-decides : goal.read_pair-returns-in-None-clause-decides
@@ -1059,7 +1059,7 @@ read_pair-returns-in_err-end-in-Some-clause-decides t c =
     let q = place_of s c.in-Some.colon in
     let apart = if_some (λ r. Spaced cs (place_of s c.in_ok-key.key.end) (place_of s r.0)) c.in_ok-key_colon.field-0 (c.in-Some.colon, c.in-Some.after) c.in-Some.is c.in_ok-key_colon.ensures.spaced in
     let colon = if_some (λ r. Steps (bytes_of s) r.0 58 r.1) c.in_ok-key_colon.field-0 (c.in-Some.colon, c.in-Some.after) c.in-Some.is c.in_ok-key_colon.ensures.colon in
-    let sign = if_some (λ r. IsSign c.in_ok-key.key.kind x cs (place_of s r.1)) c.in_ok-key_colon.field-0 (c.in-Some.colon, c.in-Some.after) c.in-Some.is c.in_ok-key_colon.ensures.sign in
+    let sign = if_some (λ r. MayFollowColon c.in_ok-key.key.kind x cs (place_of s r.1)) c.in_ok-key_colon.field-0 (c.in-Some.colon, c.in-Some.after) c.in-Some.is c.in_ok-key_colon.ensures.sign in
     λ e. decides_err (PairAt cs h n c.args.room) (InFlow cs n) (place_of s c.args.at) (InFlow cs n) (λ r. place_of s r.0) c.from_residual-in_err-end-in-Some.result c.in_err-end-in-Some.field-0.0 c.from_residual-in_err-end-in-Some.ensures.1 (or_else (pair_refused cs h n c.args.room (c.args.room - 1) (omega arith) (place_of s c.args.at) (subst (λ y. SignAt Yaml y cs (place_of s c.args.at) → ⊥) e c.requires.no_colon) (no_mark cs (place_of s c.args.at) (subst (λ y. AskedAt y cs (place_of s c.args.at) → ⊥) e c.requires.no_mark)) c.in_ok-key.key.kind (place_of s c.in_ok-key.key.end) (only_in cs h (c.args.room - 1) n x c.in_ok-key.key.kind _ _ e (c.in_ok-key.ensures.decides e)) q apart) (c.in_err-end-in-Some.ensures.decides e))
 
 pub read_pair-returns-in_err-key-clause-decides : goal.read_pair-returns-in_err-key-clause-decides
@@ -1090,7 +1090,7 @@ read_pair-returns-in_ok-push-in-Some-clause-decides t c =
     let q = place_of s c.in-Some.colon in
     let apart = if_some (λ r. Spaced cs (place_of s c.in_ok-key.key.end) (place_of s r.0)) c.in_ok-key_colon.field-0 (c.in-Some.colon, c.in-Some.after) c.in-Some.is c.in_ok-key_colon.ensures.spaced in
     let colon = if_some (λ r. Steps (bytes_of s) r.0 58 r.1) c.in_ok-key_colon.field-0 (c.in-Some.colon, c.in-Some.after) c.in-Some.is c.in_ok-key_colon.ensures.colon in
-    let sign = if_some (λ r. IsSign c.in_ok-key.key.kind x cs (place_of s r.1)) c.in_ok-key_colon.field-0 (c.in-Some.colon, c.in-Some.after) c.in-Some.is c.in_ok-key_colon.ensures.sign in
+    let sign = if_some (λ r. MayFollowColon c.in_ok-key.key.kind x cs (place_of s r.1)) c.in_ok-key_colon.field-0 (c.in-Some.colon, c.in-Some.after) c.in-Some.is c.in_ok-key_colon.ensures.sign in
     λ e. pair_goes cs h n c.args.room (c.args.room - 1) (omega arith) (place_of s c.args.at) (subst (λ y. SignAt Yaml y cs (place_of s c.args.at) → ⊥) e c.requires.no_colon) (no_mark cs (place_of s c.args.at) (subst (λ y. AskedAt y cs (place_of s c.args.at) → ⊥) e c.requires.no_mark)) c.in_ok-key.key.kind (place_of s c.in_ok-key.key.end) (only_in cs h (c.args.room - 1) n x c.in_ok-key.key.kind _ _ e (c.in_ok-key.ensures.decides e)) q (place_of s c.in_ok-end-in-Some.end) apart (c.in_ok-end-in-Some.ensures.decides e)
 
 pub read_pair-returns-in_ok-push-in-Some-clause-reads : goal.read_pair-returns-in_ok-push-in-Some-clause-reads
@@ -1103,7 +1103,7 @@ read_pair-returns-in_ok-push-in-Some-clause-reads t c =
     let q = place_of s c.in-Some.colon in
     let apart = if_some (λ r. Spaced cs (place_of s c.in_ok-key.key.end) (place_of s r.0)) c.in_ok-key_colon.field-0 (c.in-Some.colon, c.in-Some.after) c.in-Some.is c.in_ok-key_colon.ensures.spaced in
     let colon = if_some (λ r. Steps (bytes_of s) r.0 58 r.1) c.in_ok-key_colon.field-0 (c.in-Some.colon, c.in-Some.after) c.in-Some.is c.in_ok-key_colon.ensures.colon in
-    let sign = if_some (λ r. IsSign c.in_ok-key.key.kind x cs (place_of s r.1)) c.in_ok-key_colon.field-0 (c.in-Some.colon, c.in-Some.after) c.in-Some.is c.in_ok-key_colon.ensures.sign in
+    let sign = if_some (λ r. MayFollowColon c.in_ok-key.key.kind x cs (place_of s r.1)) c.in_ok-key_colon.field-0 (c.in-Some.colon, c.in-Some.after) c.in-Some.is c.in_ok-key_colon.ensures.sign in
     let fits = if_some (λ r. IsKeySized cs (place_of s c.args.at) (place_of s r.0)) c.in_ok-key_colon.field-0 (c.in-Some.colon, c.in-Some.after) c.in-Some.is c.in_ok-key_colon.ensures.fits in
     let k = c.in_ok-key.ensures.reads in
     let v = c.in_ok-end-in-Some.ensures.reads in (

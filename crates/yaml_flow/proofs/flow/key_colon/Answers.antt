@@ -2,7 +2,7 @@ use Rattle.std.proofs.Common.{subst, arith}
 use Rattle.yaml_text.specs.Source.{text_of}
 use Rattle.yaml_text.specs.EventModel.{context_of}
 use Rattle.yaml_text.proofs.LineRuns.{indent_run}
-use Rattle.yaml_flow.specs.FlowRules.{IsSign}
+use Rattle.yaml_flow.specs.FlowRules.{MayFollowColon}
 use Rattle.yaml_flow.proofs.flow.key_colon.Goals as goal
 
 pub returns-in-None-clause-none : goal.returns-in-None-clause-none
@@ -21,7 +21,7 @@ returns-in-Long-clause-long c =
     let sign = c.in-Some.ensures in (
       _,
       (indent_run (text_of c.args.source.now) _ _ _ s.spaces, s.furthest),
-      (sign.colon.is, subst (IsSign c.args.kind (context_of c.args.context) (text_of c.args.source.now)) sign.colon.next sign.sign),
+      (sign.colon.is, subst (MayFollowColon c.args.kind (context_of c.args.context) (text_of c.args.source.now)) sign.colon.next sign.sign),
       λ fits. omega (arith, c.in-Long.ensures.1, fits.1),
     )
 

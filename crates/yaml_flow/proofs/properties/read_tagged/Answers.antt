@@ -5,7 +5,7 @@ use Rattle.yaml_text.specs.EventModel.{context_of, written_of}
 use Rattle.yaml_text.specs.Source.{text_of, place_of}
 use Rattle.yaml_mark.specs.HandlesModel.{handles_of}
 use Rattle.yaml_unique.proofs.Properties.{tag_props}
-use Rattle.yaml_flow.specs.PropertyRules.{IsTag, tag_alone}
+use Rattle.yaml_flow.specs.PropertyRules.{HasTag, tag_alone}
 use Rattle.yaml_flow.proofs.PropertyLemmas.{tag_is, tag_read, anchor_read, named, tag_then}
 use Rattle.yaml_flow.proofs.PropertyDecisions.{failed, name_refused, tag_refused, or_else, no_anchor, no_tag, barred_none, barred_first, barred_second, all_one, all_both, tag_alike}
 use Rattle.yaml_text.specs.grammar.Events.{Props}
@@ -68,7 +68,7 @@ returns-clause-all c =
     let handles = handles_of c.args.handles in
     let tag = tag_read cs handles _ _ _ c.in_ok-tag.ensures.only.is in
     all_one cs handles c.args.least (context_of c.args.context) _ _ (place_of s c.in_ok-next.next) (tag_props (written_of c.in_ok-tag.tag)) _ (inl (_, tag, refl))
-    (λ h. subst IsTag (ap Props.tag h) (tag_is cs handles _ _ _ tag)) c.in_ok-next.ensures.to
+    (λ h. subst HasTag (ap Props.tag h) (tag_is cs handles _ _ _ tag)) c.in_ok-next.ensures.to
     (elim c.if-next-end.branch [
       | then-next-end+in_default w ↦ inr (tag_alike cs _ _ c.requires.sign w.in_default.ensures.none)
       | else-next-end w ↦ inl (let e : c.in_ok-next.next ≡ c.in_ok-tag.end = omega (arith, w.if-next-end.false, c.in_ok-next.ensures.onward) in ap (place_of s) e)

@@ -2,14 +2,14 @@ use Rattle.std.proofs.Common.{◌-◌, ◌≤◌, length}
 use Rattle.yaml_text.specs.Source.{text_of, place_of, IsBorder}
 use Rattle.yaml_text.specs.grammar.Rules.{any_span}
 use Rattle.yaml_mark.specs.Classes.{class_of}
-use Rattle.yaml_mark.specs.Parts.{escaped}
+use Rattle.yaml_mark.specs.Parts.{char_or_escape}
 use Rattle.yaml_mark.proofs.runs.skip_escaped.Given as goal
 
 abbrev pub invariant-run : goal.invariant-run
 invariant-run l = record {
   border : IsBorder l.source l.here;
   onward : l.at ≤ l.here;
-  spans : any_span (escaped (text_of l.source) (class_of l.class)) (place_of l.source l.at) (place_of l.source l.here);
+  spans : any_span (char_or_escape (text_of l.source) (class_of l.class)) (place_of l.source l.at) (place_of l.source l.here);
 }
 
 abbrev pub decreases-run : goal.decreases-run

@@ -3,11 +3,11 @@ use Rattle.std.proofs.lemmas.Bool.{false≢true}
 use Rattle.yaml_text.specs.Event.{stream_end}
 use Rattle.yaml_text.specs.EventModel.{event_of}
 use Rattle.yaml_text.specs.Source.{text_of, place_of}
-use Rattle.yaml_read.specs.Sofar.{closing, IsSofar}
+use Rattle.yaml_read.specs.Sofar.{document_closing, IsSofar}
 use Rattle.yaml_read.proofs.SofarLaws.{sofar_start, sofar_suffix, sofar_explicit, sofar_bare, sofar_directives, sofar_end}
 use Rattle.yaml_read.proofs.StreamLemmas.{mark_suffix, mark_explicit, after_comments}
 use Rattle.yaml_text.specs.declared.fault.Fault.TheVariants.{OutOfMemory}
-use Rattle.yaml_read.specs.Decided.{IsNoStream}
+use Rattle.yaml_read.specs.Decided.{HasNoReading}
 use Rattle.yaml_read.proofs.DecidedLemmas.{if_err}
 use Rattle.yaml_read.proofs.LeftLemmas.{Leaves, either, leaves_start, leaves_suffix, none_suffix, leaves_marked, none_marked, leaves_first, none_first, none_second}
 use Rattle.yaml_read.proofs.stream.read_pieces.Goals as goal
@@ -40,7 +40,7 @@ pieces-preserved-in-Explicit c =
     let cs = text_of c.args.source.now in
     let n = c.in_ok-line-in-Explicit.ensures in
     let d = mark_explicit cs [] _ _ _ n.reads.0 c.in-Explicit.ensures.mark n.reads.2 in
-    let before = map event_of c.pieces.out.items ++ closing c.pieces.is_open false in (
+    let before = map event_of c.pieces.out.items ++ document_closing c.pieces.is_open false in (
       sofar_explicit cs c.pieces.is_open _ _ d.0 _ _ c.pieces.invariant.0 d.1
           (n.reads.1 ∙ ap (λ v. v ++ n.reads.0) c.in_ok-close-in-Explicit.ensures.ok ∙ ap (λ v. before ++ v) d.2),
       n.line,
@@ -65,13 +65,13 @@ pieces-preserved c =
 pub returns-in_err-line-in-Suffix-clause-decides : goal.returns-in_err-line-in-Suffix-clause-decides
 returns-in_err-line-in-Suffix-clause-decides c =
     let cs = text_of c.args.source.now in
-    if_err (λ e. (e ≡ OutOfMemory) ⊎ IsNoStream cs) _ _ c.from_residual-in_err-line-in-Suffix.ensures.1
+    if_err (λ e. (e ≡ OutOfMemory) ⊎ HasNoReading cs) _ _ c.from_residual-in_err-line-in-Suffix.ensures.1
     (inr (none_suffix cs _ _ c.in-Suffix.ensures.mark c.in_err-line-in-Suffix.ensures.none c.pieces.invariant.3))
 
 pub returns-in_err-line-in-Explicit-clause-decides : goal.returns-in_err-line-in-Explicit-clause-decides
 returns-in_err-line-in-Explicit-clause-decides c =
     let cs = text_of c.args.source.now in
-    if_err (λ e. (e ≡ OutOfMemory) ⊎ IsNoStream cs) _ _ c.from_residual-in_err-line-in-Explicit.ensures.1
+    if_err (λ e. (e ≡ OutOfMemory) ⊎ HasNoReading cs) _ _ c.from_residual-in_err-line-in-Explicit.ensures.1
     (either (λ n. none_marked cs _ _ c.in-Explicit.ensures.mark n c.pieces.invariant.3) c.in_err-line-in-Explicit.ensures.decides)
 
 pub returns-then-is_open-clause-decides : goal.returns-then-is_open-clause-decides
@@ -82,5 +82,5 @@ returns-then-is_open-clause-decides c =
 pub returns-in_err-line-in-Content-clause-decides : goal.returns-in_err-line-in-Content-clause-decides
 returns-in_err-line-in-Content-clause-decides c =
     let cs = text_of c.args.source.now in
-    if_err (λ e. (e ≡ OutOfMemory) ⊎ IsNoStream cs) _ _ c.from_residual-in_err-line-in-Content.ensures.1
+    if_err (λ e. (e ≡ OutOfMemory) ⊎ HasNoReading cs) _ _ c.from_residual-in_err-line-in-Content.ensures.1
     (either (λ n. none_first cs _ c.in-Content.ensures n c.pieces.invariant.3) c.in_err-line-in-Content.ensures.decides)

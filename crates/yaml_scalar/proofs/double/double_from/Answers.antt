@@ -10,7 +10,7 @@ use Rattle.yaml_text.specs.EventModel.{context_of}
 use Rattle.yaml_text.specs.Source.{text_of, place_of}
 use Rattle.yaml_text.specs.grammar.FlowScalars.{double}
 use Rattle.yaml_text.specs.grammar.Rules.{any}
-use Rattle.yaml_scalar.specs.Chains.{NoSolidBreaks, quoted_more, fold_text}
+use Rattle.yaml_scalar.specs.Chains.{NoSolidBreaks, quoted_more, folded_breaks}
 use Rattle.yaml_scalar.proofs.AnyLemmas.{any_onward}
 use Rattle.yaml_scalar.proofs.GapLemmas.{folds_is}
 use Rattle.yaml_scalar.proofs.OutcomeLemmas.{answers_err, refuses_unread}
@@ -185,7 +185,7 @@ pieces-preserved c =
       later = omega (arith, v.later, q.onward, q.further, f.onward);
       nothing = λ e. absurd (omega (arith, e, v.later, q.onward, q.further, f.onward));
       state = subst (DoubleState cs c.args.least (context_of c.args.context) a b (place_of c.args.source.now c.in_ok-count-2.to))
-          (sym (c.in_ok-push_fold.ensures ∙ ap (λ v. v ++ fold_text (replicate c.in_ok-count-2.count 10)) c.in_ok-push_between-4.ensures))
+          (sym (c.in_ok-push_fold.ensures ∙ ap (λ v. v ++ folded_breaks (replicate c.in_ok-count-2.count 10)) c.in_ok-push_between-4.ensures))
           (double_fold cs c.args.least (context_of c.args.context) a b k _ (old ++ slice_range cs i k) _
           (double_line cs c.args.least (context_of c.args.context) a b i k old (slice_range cs i k) v.state q.line)
           (folds_is cs c.args.least (context_of c.args.context) _ _ _ _ q.whites f.breaks) f.solid f.unmarked);

@@ -3,7 +3,7 @@ use Rattle.yaml_text.specs.grammar.Rules.{◌⊔◌, any}
 use Rattle.yaml_text.specs.Source.{text_of, place_of}
 use Rattle.yaml_scalar.specs.Chains.{margin}
 use Rattle.yaml_text.specs.Lines.{Dashes}
-use Rattle.yaml_text.specs.grammar.Separation.{less, Mark}
+use Rattle.yaml_text.specs.grammar.Separation.{less, DocumentMark}
 use Rattle.yaml_scalar.proofs.AnyLemmas.{any_none, any_snoc}
 use Rattle.yaml_scalar.proofs.OutcomeLemmas.{replicate_snoc}
 use Rattle.yaml_text.proofs.Tests.{on_true_at, on_false_at, on_either}
@@ -43,8 +43,8 @@ returns-then-is_mark-clause-none c =
     let cs = text_of c.args.source.now in
     let s = on_true_at c.read_margin-after.result.1 c.if-not-whole.false c.read_margin-after.ensures.whole in
     let d = on_true_at c.is_mark.result c.if-is_mark.true c.is_mark.ensures.yes in
-    let m : Mark cs (place_of c.args.source.now c.read_margin-after.result.0) =
-    subst (λ x. Mark cs (place_of c.args.source.now x)) (sym c.if-after-line.true) (mark_is cs _ c.lines.invariant.start d) in
+    let m : DocumentMark cs (place_of c.args.source.now c.read_margin-after.result.0) =
+    subst (λ x. DocumentMark cs (place_of c.args.source.now x)) (sym c.if-after-line.true) (mark_is cs _ c.lines.invariant.start d) in
     lead_none cs c.args.least _ _ _ c.lines.invariant.lines (whole_none _ _ _ _ s.0 s.1 c.in-None.ensures.none (λ a b. b m))
 
 pub returns-in-None-next-clause-none : goal.returns-in-None-next-clause-none

@@ -4,8 +4,8 @@ use Rattle.std.specs.String.{string_bytes}
 use Rattle.yaml_text.specs.Place.{Steps}
 use Rattle.yaml_text.specs.Source.{text_of, place_of, IsBorder}
 use Rattle.yaml_text.specs.EventModel.{context_of}
-use Rattle.yaml_scalar.specs.Chains.{folds, fold_text, Later}
-use Rattle.yaml_text.specs.grammar.Separation.{Mark}
+use Rattle.yaml_scalar.specs.Chains.{folds, folded_breaks, Later}
+use Rattle.yaml_text.specs.grammar.Separation.{DocumentMark}
 use Rattle.yaml_scalar.proofs.PlainLemmas.{Sofar}
 use Rattle.yaml_scalar.proofs.plain.plain_from.Given as goal
 
@@ -19,9 +19,9 @@ invariant-lines l =
       begins : IsBorder l.source l.start;
       further : l.end ≤ l.start;
       sofar : Sofar cs l.least (context_of l.context) (at l.at) (at l.end) (chars (string_bytes l.text));
-      fold : folds cs l.least (context_of l.context) (at l.end) (at l.start) (fold_text (replicate l.count 10));
+      fold : folds cs l.least (context_of l.context) (at l.end) (at l.start) (folded_breaks (replicate l.count 10));
       later : Later cs (context_of l.context) (at l.start);
-      unmarked : Mark cs (at l.start) → ⊥;
+      unmarked : DocumentMark cs (at l.start) → ⊥;
       steps : (c : ℕ) × Steps l.source.text.now l.start c l.to;
     }
 

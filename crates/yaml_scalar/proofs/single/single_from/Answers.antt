@@ -10,7 +10,7 @@ use Rattle.yaml_text.specs.EventModel.{context_of}
 use Rattle.yaml_text.specs.Source.{text_of, place_of}
 use Rattle.yaml_text.specs.grammar.Rules.{any}
 use Rattle.yaml_text.specs.grammar.FlowScalars.{single}
-use Rattle.yaml_scalar.specs.Chains.{quoted_more, fold_text}
+use Rattle.yaml_scalar.specs.Chains.{quoted_more, folded_breaks}
 use Rattle.yaml_scalar.proofs.AnyLemmas.{any_onward}
 use Rattle.yaml_scalar.proofs.GapLemmas.{folds_is, no_fold}
 use Rattle.yaml_scalar.proofs.OutcomeLemmas.{refuses_unread}
@@ -131,7 +131,7 @@ pieces-preserved c =
       later = omega (arith, v.later, q.onward, q.further, f.onward);
       nothing = λ e. absurd (omega (arith, e, v.later, q.onward, q.further, f.onward));
       state = subst (SingleState cs c.args.least (context_of c.args.context) a b (place_of c.args.source.now c.in-Ok.to))
-          (sym (c.in_ok-push_fold-in-Ok.ensures ∙ ap (λ v. v ++ fold_text (replicate c.in-Ok.count 10)) c.in_ok-push_between-in-Ok.ensures))
+          (sym (c.in_ok-push_fold-in-Ok.ensures ∙ ap (λ v. v ++ folded_breaks (replicate c.in-Ok.count 10)) c.in_ok-push_between-in-Ok.ensures))
           (single_fold cs c.args.least (context_of c.args.context) a b k _ (old ++ slice_range cs i k) _
           (single_line cs c.args.least (context_of c.args.context) a b i k old (slice_range cs i k) v.state q.line)
           (folds_is cs c.args.least (context_of c.args.context) _ _ _ _ q.whites f.breaks) f.text f.unmarked);

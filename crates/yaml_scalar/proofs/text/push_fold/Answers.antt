@@ -4,15 +4,15 @@ use Rattle.std.specs.String.{string_bytes}
 use Rattle.std.proofs.lemmas.Str.{IsUtf8-string_bytes}
 use Rattle.std.proofs.lemmas.Result.{IfOk-weaker}
 use Rattle.yaml_text.proofs.PlaceLemmas.{chars_pushed}
-use Rattle.yaml_scalar.specs.Chains.{fold_text}
+use Rattle.yaml_scalar.specs.Chains.{folded_breaks}
 use Rattle.yaml_scalar.proofs.OutcomeLemmas.{if_ok}
 use Rattle.yaml_scalar.proofs.text.push_fold.Goals as goal
 
-no_lines : (n : ℕ) → n ≡ 0 → fold_text (replicate n 10) ≡ 32 ∷ []
+no_lines : (n : ℕ) → n ≡ 0 → folded_breaks (replicate n 10) ≡ 32 ∷ []
 no_lines zero e = refl
 no_lines (suc n) e = absurd (omega (arith, e))
 
-some_lines : (n : ℕ) → n ≢ 0 → fold_text (replicate n 10) ≡ replicate n 10
+some_lines : (n : ℕ) → n ≢ 0 → folded_breaks (replicate n 10) ≡ replicate n 10
 some_lines zero e = absurd (e refl)
 some_lines (suc n) e = refl
 

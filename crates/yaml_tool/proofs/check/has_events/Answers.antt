@@ -1,12 +1,18 @@
-use Rattle.std.proofs.Common.{◌≡◌, ◌∙◌, sym, subst, map, rules}
-use Rattle.std.specs.Str.{IsUtf8, IsValidUpTo}
+use Rattle.std.proofs.Common.{◌∙◌, sym, subst, map, rules}
+use Rattle.std.specs.Str.{IsValidUpTo}
 use Rattle.yaml_text.specs.EventModel.{event_of}
 use Rattle.yaml_text.specs.EventText.{EventText}
 use Rattle.yaml_text.specs.Source.{text_of}
 use Rattle.yaml_text.specs.grammar.Reading.{Reads}
 use Rattle.yaml_tool.specs.Judged.{IsReadable}
 use Rattle.yaml_tool.proofs.SameEvents.{all_same, same_all}
+use Rattle.yaml_tool.proofs.Reading.{unread}
 use Rattle.yaml_tool.proofs.check.has_events.Goals as goal
+
+pub returns-in_err-events-clause-err : goal.returns-in_err-events-clause-err
+returns-in_err-events-clause-err c =
+    let f = unread c.args.input.now _ c.in_err-events.field-0.0 c.in_ok-source.ensures.read c.in_err-events.ensures.err c.in_err-events.ensures.decides in
+    search (rules, f)
 
 pub returns-in-Err-clause-err : goal.returns-in-Err-clause-err
 unfolding Reads

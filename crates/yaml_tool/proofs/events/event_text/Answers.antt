@@ -1,4 +1,4 @@
-use Rattle.std.proofs.Common.{map, subst, sym}
+use Rattle.std.proofs.Common.{map, subst, sym, rules}
 use Rattle.yaml_text.specs.EventModel.{event_of}
 use Rattle.std.specs.List.{All}
 use Rattle.std.specs.String.{string_bytes}
@@ -7,6 +7,7 @@ use Rattle.yaml_text.specs.Source.{text_of}
 use Rattle.yaml_text.specs.grammar.Reading.{Reads}
 use Rattle.yaml_text.proofs.MeaningLaws.{readings_have_text}
 use Rattle.yaml_tool.proofs.Answering.{if_one}
+use Rattle.yaml_tool.proofs.Reading.{unread}
 use Rattle.yaml_tool.proofs.events.event_text.Goals as goal
 
 -- what is read has an event text
@@ -26,3 +27,8 @@ returns-clause-ok c =
       reads = (text_of c.in_ok-source.source, c.in_ok-source.ensures.read, c.in_ok-events.ensures.ok);
       is = subst (λ z. EventText (string_bytes text) (map event_of z)) c.as_slice.ensures.value h;
     })
+
+pub returns-in_err-events-clause-err : goal.returns-in_err-events-clause-err
+returns-in_err-events-clause-err c =
+    let f = unread c.args.bytes.now _ c.in_err-events.field-0.0 c.in_ok-source.ensures.read c.in_err-events.ensures.err c.in_err-events.ensures.decides in
+    search (rules, f)

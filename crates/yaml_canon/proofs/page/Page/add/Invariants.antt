@@ -1,10 +1,10 @@
 use Rattle.std.proofs.Common.{◌-◌, ◌≤◌, length, take}
-use Rattle.yaml_canon.specs.Pieces.{Adds}
+use Rattle.yaml_canon.specs.Pieces.{TakesPiece}
 use Rattle.yaml_canon.specs.Pages.{PageHolds}
 use Rattle.yaml_canon.proofs.page.Page.add.Given as goal
 
 abbrev pub invariant-add : goal.invariant-add
-invariant-add g l = Adds (PageHolds g.W.Write.contents) l.initial.self l.initial.out l.self l.out (take l.at l.piece) × (l.at ≤ length l.piece)
+invariant-add g l = TakesPiece (PageHolds g.W.Write.contents) l.initial.self l.initial.out l.self l.out (take l.at l.piece) × (l.at ≤ length l.piece)
 
 abbrev pub decreases-add : goal.decreases-add
 decreases-add g l = length l.piece - l.at

@@ -1,7 +1,7 @@
 use Rattle.std.proofs.Common.{Global, ◌≡◌, ◌<◌, ◌++◌, ◌∷◌, [], length, subst, sym, List}
 use Rattle.std.specs.Prelude.{Vec}
 use Rattle.std.specs.List.{All}
-use Rattle.yaml_graph.specs.Machine.{State}
+use Rattle.yaml_graph.specs.ComposerSteps.{State}
 use Rattle.yaml_graph.specs.ComposerModel.{is_mapping, Collects, Held, Holds}
 use Rattle.yaml_graph.specs.declared.composer.Composer.{Composer}
 use Rattle.yaml_graph.specs.declared.composer.Open.{Open}

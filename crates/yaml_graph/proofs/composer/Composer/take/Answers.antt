@@ -1,8 +1,9 @@
 use Rattle.std.proofs.Common.{refl, sym, ap, ◌∙◌, subst, Ok}
+use Rattle.std.specs.Cow.{cow_str_bytes}
 use Rattle.yaml_text.specs.Core.{resolve, collection_tag}
 use Rattle.yaml_text.specs.EventModel.{written_of, style_of}
 use Rattle.yaml_text.specs.Unfold.{and_then, placed, tree_named, last_named}
-use Rattle.yaml_graph.specs.Machine.{step, scalar_added, entered, added}
+use Rattle.yaml_graph.specs.ComposerSteps.{step, scalar_added, collection_begun, added}
 use Rattle.yaml_graph.specs.ComposerModel.{Held}
 use Rattle.yaml_graph.proofs.ComposerLaws.{held-clear}
 use Rattle.yaml_graph.proofs.CallLaws.{answered-reached, answered-same}
@@ -14,25 +15,25 @@ unfolding step
 returns-in-Scalar c = λ s h found e.
     answered-same c.scalar.result c.scalar.new.self found _
     (took c.args.at c.args.event.now _ s found _ c.in-Scalar.is e refl
-    ∙ (λ z. and_then (placed c.args.at (resolve (written_of c.in-Scalar.tag) (style_of c.in-Scalar.style) (sym c.as_str.ensures.value z))) (scalar_added (sym c.name_of.ensures z) s))) (c.scalar.ensures s h)
+    ∙ ap (λ a. and_then (placed c.args.at (resolve (written_of c.in-Scalar.tag) (style_of c.in-Scalar.style) (cow_str_bytes c.in-Scalar.text))) (scalar_added a s)) (sym c.name_of.ensures)) (c.scalar.ensures s h)
 
 pub returns-in-Alias : goal.returns-in-Alias
 unfolding step
 returns-in-Alias c = λ s h found e.
     answered-same c.alias.result c.alias.new.self found _
-    (took c.args.at c.args.event.now _ s found _ c.in-Alias.is e refl ∙ sym (ap (λ x. and_then (placed c.args.at (tree_named (last_named x s.table))) (added s)) c.as_str-in-Alias.ensures.value)) (c.alias.ensures s h)
+    (took c.args.at c.args.event.now _ s found _ c.in-Alias.is e refl ∙ sym (ap (λ x. and_then (placed c.args.at (tree_named (last_named x s.table))) (added s)) c.as_str.ensures.value)) (c.alias.ensures s h)
 
 pub returns-in-SequenceStart : goal.returns-in-SequenceStart
 unfolding step
 returns-in-SequenceStart c = λ s h found e.
     answered-same c.enter.result c.enter.new.self found _
-    (took c.args.at c.args.event.now _ s found _ c.in-SequenceStart.is e refl ∙ sym (ap (λ a. and_then (placed c.args.at (collection_tag 1 (written_of c.in-SequenceStart.tag))) (λ g. Ok (entered a s g))) c.name_of-in-SequenceStart.ensures)) (c.enter.ensures s h)
+    (took c.args.at c.args.event.now _ s found _ c.in-SequenceStart.is e refl ∙ sym (ap (λ a. and_then (placed c.args.at (collection_tag 1 (written_of c.in-SequenceStart.tag))) (λ g. Ok (collection_begun a s g))) c.name_of-in-SequenceStart.ensures)) (c.enter.ensures s h)
 
 pub returns-in-MappingStart : goal.returns-in-MappingStart
 unfolding step
 returns-in-MappingStart c = λ s h found e.
     answered-same c.enter-in-MappingStart.result c.enter-in-MappingStart.new.self found _
-    (took c.args.at c.args.event.now _ s found _ c.in-MappingStart.is e refl ∙ sym (ap (λ a. and_then (placed c.args.at (collection_tag 2 (written_of c.in-MappingStart.tag))) (λ g. Ok (entered a s g))) c.name_of-in-MappingStart.ensures)) (c.enter-in-MappingStart.ensures s h)
+    (took c.args.at c.args.event.now _ s found _ c.in-MappingStart.is e refl ∙ sym (ap (λ a. and_then (placed c.args.at (collection_tag 2 (written_of c.in-MappingStart.tag))) (λ g. Ok (collection_begun a s g))) c.name_of-in-MappingStart.ensures)) (c.enter-in-MappingStart.ensures s h)
 
 pub returns-in-SequenceEnd : goal.returns-in-SequenceEnd
 unfolding step

@@ -1,6 +1,6 @@
 use Rattle.std.proofs.Common.{◌≡◌, ◌<◌, ◌≤◌, ℕ, Bool, true, false, nat_lt, [], ◌∷◌, ap, arith, inl, refl, ◌∙◌, subst}
 use Rattle.std.specs.Prelude.{slice_range}
-use Rattle.yaml_text.specs.grammar.BlockScalars.{text, text_line}
+use Rattle.yaml_text.specs.grammar.BlockScalars.{content_line, text_line}
 use Rattle.std.proofs.lemmas.Str.{IsUtf8-had}
 use Rattle.yaml_text.specs.Source.{text_of, place_of}
 use Rattle.yaml_text.proofs.PlaceLemmas.{place_same}
@@ -82,6 +82,6 @@ returns-else-count-indent c =
       some = t.some;
       begins = nb_here cs _ _ c.in-Some-next.ensures.some.is c.in-None.ensures.none;
       line = subst (λ b. text_line cs true c.args.indent (place_of c.args.source.now c.args.at) (place_of c.args.source.now c.rest_of_line-to.result.1)
-          (text b (slice_range cs (place_of c.args.source.now c.read_spaces-count.result.1) (place_of c.args.source.now c.rest_of_line-to.result.0)) ∷ [])) is t.line;
+          (content_line b (slice_range cs (place_of c.args.source.now c.read_spaces-count.result.1) (place_of c.args.source.now c.rest_of_line-to.result.0)) ∷ [])) is t.line;
       last = λ e. (t.last (is ∙ e)).1;
     }
