@@ -139,16 +139,28 @@ none_added old mid start e l a = let x : length mid ≡ length old + 0 = lengths
 some_added : (old mid : List code.Event) (x : Event) (es : List Event) (start : ℕ) → start ≡ length old → Adds old (x ∷ es) mid → start < length mid
 some_added old mid x es start e a = let h : length mid ≡ length old + suc (length es) = lengths old mid (x ∷ es) a in omega (arith, h, e)
 
--- the event at the place where the new ones begin gets the properties
+-- the event at the place where the new ones begin
+added_there : (old mid : List code.Event) (x : Event) (es : List Event) (start : ℕ) (bare : code.Event) → start ≡ length old → bare ≡ slice_index_or mid start bare → Adds old (x ∷ es) mid → event_of bare ≡ x
+added_there old mid x es start bare e b a =
+    ap event_of b ∙ map_index mid start bare ∙ ap (λ u. slice_index_or u start (event_of bare)) a ∙ ap (λ k. slice_index_or (map event_of old ++ x ∷ es) k (event_of bare)) (e ∙ sym (map_length old)) ∙ index_seam (map event_of old) es x (event_of bare)
+
+-- it gets the properties
 pub adds_dressed : (p : Props) (old mid new : List code.Event) (es : List Event) (start : ℕ) (bare blank event : code.Event) → start ≡ length old → start < length mid →
     bare ≡ slice_index_or mid start bare → event_of event ≡ with_props p (event_of bare) → new ≡ slice_set (slice_set mid start blank) start event →
     Adds old es mid → Adds old (dressed p es) new
 adds_dressed p old mid new [] start bare blank event e l b w h a = absurd (none_added old mid start e l a)
 adds_dressed p old mid new (x ∷ es) start bare blank event e l b w h a =
     let at : start ≡ length (map event_of old) = e ∙ sym (map_length old) in
-    let is : event_of bare ≡ x = ap event_of b ∙ map_index mid start bare ∙ ap (λ u. slice_index_or u start (event_of bare)) a ∙ ap (λ k. slice_index_or (map event_of old ++ x ∷ es) k (event_of bare)) at ∙ index_seam (map event_of old) es x (event_of bare) in
+    let is : event_of bare ≡ x = added_there old mid x es start bare e b a in
     ap (map event_of) (h ∙ set_twice mid start blank event) ∙ map_set mid start event ∙ ap (λ u. slice_set u start (event_of event)) a ∙ ap (λ k. slice_set (map event_of old ++ x ∷ es) k (event_of event)) at
     ∙ set_seam (map event_of old) es x (event_of event) ∙ ap (λ v. map event_of old ++ v ∷ es) (w ∙ ap (with_props p) is)
+
+-- or stays, since it has these
+pub adds_bare : (p : Props) (old mid : List code.Event) (es : List Event) (start : ℕ) (bare : code.Event) → start ≡ length old → bare ≡ slice_index_or mid start bare → with_props p (event_of bare) ≡ event_of bare → Adds old es mid → Adds old (dressed p es) mid
+adds_bare p old mid [] start bare e b w a = a
+adds_bare p old mid (x ∷ es) start bare e b w a =
+    let is : event_of bare ≡ x = added_there old mid x es start bare e b a in
+    a ∙ ap (λ v. map event_of old ++ v ∷ es) (sym (ap (with_props p) (sym is) ∙ w ∙ is))
 
 -- there were no new ones
 pub adds_nothing : (p : Props) (old mid : List code.Event) (es : List Event) (start : ℕ) → start ≡ length old → (start < length mid → ⊥) → Adds old es mid → Adds old (dressed p es) mid

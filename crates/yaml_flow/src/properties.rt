@@ -213,11 +213,39 @@ fn with_properties<'a>(event: Event<'a>, properties: Properties<'a>) -> Event<'a
     }
 }
 
-/// Puts properties on the first event of a node, which stands at `start`.
+/// Whether an event stays as it is where a node has no properties: it has neither an anchor nor a tag.
+fn is_bare(event: &Event<'_>) -> bool
+    ensures { OnTrue result (with_props no_props (event_of event.now) ≡ event_of event.now) }
+{
+    match event {
+        Event::Scalar {
+            anchor: None,
+            tag: EventTag::None,
+            ..
+        } => true,
+        Event::SequenceStart {
+            anchor: None,
+            tag: EventTag::None,
+            ..
+        } => true,
+        Event::MappingStart {
+            anchor: None,
+            tag: EventTag::None,
+            ..
+        } => true,
+        _ => false,
+    }
+}
+
+/// Puts properties on the first event of a node, which stands at `start`. Most nodes have none, and
+/// their event is not moved.
 pub fn dress<'a>(out: &mut Vec<Event<'a>>, start: usize, properties: Properties<'a>)
     ensures { Dresses (props_of properties.entry) start out.old.items out.new.items }
 {
     if start < out.len() {
+        if properties.is_none() && is_bare(&out[start]) {
+            return;
+        }
         let bare = mem::replace(&mut out[start], Event::StreamEnd);
         out[start] = with_properties(bare, properties);
     }

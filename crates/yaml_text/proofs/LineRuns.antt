@@ -198,10 +198,13 @@ module _ (cs : List ℕ) where
   unfolding is_space is_nb is_break
   space_is_nb c t = grind (arith, t)
 
-  -- after spaces no CR LF is cut, as none is before them
-  pub spaces_uncut : (i j : ℕ) → run cs is_space i j → Uncut cs i → Uncut cs j
-  spaces_uncut i j (a, f) u = go (eq-or-lt_of_le a)
+  -- after characters of a line no CR LF is cut, as none is before them
+  pub nb_uncut : (i j : ℕ) → run cs is_nb i j → Uncut cs i → Uncut cs j
+  nb_uncut i j (a, f) u = go (eq-or-lt_of_le a)
     where
       go : (i ≡ j) ⊎ (i < j) → Uncut cs j
       go (inl e) = subst (Uncut cs) e u
-      go (inr l) = let h = f (j - 1) (omega (arith, l)) (omega (arith, l)) in inside_uncut j (j - 1, omega (arith, l), (h.0, h.1, space_is_nb h.0 h.2))
+      go (inr l) = inside_uncut j (j - 1, omega (arith, l), f (j - 1) (omega (arith, l)) (omega (arith, l)))
+
+  pub spaces_uncut : (i j : ℕ) → run cs is_space i j → Uncut cs i → Uncut cs j
+  spaces_uncut i j (a, f) = nb_uncut i j (a, λ m x y. let h = f m x y in (h.0, h.1, space_is_nb h.0 h.2))

@@ -1,10 +1,10 @@
 -- Places of a text, from its bytes.
-use Rattle.std.proofs.Common.{◌≡◌, ℕ, ◌+◌, ◌-◌, ◌≤◌, ◌<◌, ◌≢◌, get_or, zero, suc, List, [], ◌∷◌, ◌++◌, length, take, drop, Option, Some, None, refl, sym, ◌∙◌, ap, arith, length-append, append_assoc}
+use Rattle.std.proofs.Common.{◌≡◌, ℕ, ◌+◌, ◌-◌, ◌≤◌, ◌<◌, ◌≢◌, add-one, subst, get_or, zero, suc, List, [], ◌∷◌, ◌++◌, length, take, drop, Option, Some, None, refl, sym, ◌∙◌, ap, arith, length-append, append_assoc}
 use Rattle.std.specs.Prelude.{IsUtf8, slice_get, encode_utf8, slice_range}
-use Rattle.std.proofs.Math.Seq.{take-add}
+use Rattle.std.proofs.Math.Seq.{take-add, drop-cons}
 use Rattle.std.specs.Str.{chars, IsCharBoundary}
 use Rattle.std.specs.Char.{len_utf8, IsScalar}
-use Rattle.std.proofs.lemmas.Str.{chars-append, chars_past_char, drop_past_char, IsCharBoundary-past_char, IsUtf8-take, IsUtf8-drop, len_utf8_bounds, chars-nil, IsUtf8-encode, IsUtf8-between, encodes-chars, encodes-append, encode_ascii, IsCharBoundary-before_ascii, IsCharBoundary-start, chars-IsAscii}
+use Rattle.std.proofs.lemmas.Str.{len_utf8_ascii, chars-append, chars_past_char, drop_past_char, IsCharBoundary-past_char, IsUtf8-take, IsUtf8-drop, len_utf8_bounds, chars-nil, IsUtf8-encode, IsUtf8-between, encodes-chars, encodes-append, encode_ascii, IsCharBoundary-before_ascii, IsCharBoundary-start, chars-IsAscii}
 use Rattle.std.proofs.lemmas.List.{take-append-drop, length-take-le, length-drop, drop-drop, nil_from_length, append-nil}
 use Rattle.std.proofs.lemmas.Option.{slice_get_past}
 use Rattle.std.proofs.Math.Nat.{add-zero}
@@ -36,6 +36,12 @@ steps text rest at c u b e =
       is = ap (λ xs. slice_get xs (length (chars (take at text)))) before ∙ slice_get_seam (chars (take at text)) (chars rest) c;
       next = omega (arith, sym (length-append (chars (take at text)) (c ∷ chars rest)), sym (length-append (chars (take (at + len_utf8 c) text)) (chars rest)), ap length before, ap length after);
     }
+
+-- an ASCII character is one byte
+pub ascii_steps : (text : List ℕ) (at b : ℕ) → IsUtf8 text → IsCharBoundary text at → at < length text → get_or text at 0 ≡ b → b < 128 → Steps text at b (at + 1)
+ascii_steps text at b u p l e a =
+    subst (λ n. Steps text at b (at + n)) (len_utf8_ascii b a)
+    (steps text (drop (at + 1) text) at b u p ((rw add-one (drop-cons text at 0 l)) ∙ ap (λ x. x ∷ drop (at + 1) text) e ∙ ap (λ z. z ++ drop (at + 1) text) (sym (encode_ascii b a))))
 
 pub ends : (text : List ℕ) (at : ℕ) → IsUtf8 text → IsCharBoundary text at → length (drop at text) ≡ 0 → slice_get (chars text) (place text at) ≡ None
 unfolding place

@@ -1,57 +1,71 @@
--- A text whose characters are read one by one.
-use Rattle.std.proofs.Common.{◌≡◌, ℕ, ◌+◌, true, false, List, [], ◌∷◌, ◌++◌, ◌≤◌, length, drop, refl, sym, ◌∙◌, ap, subst, rules, arith}
-use Rattle.std.proofs.lemmas.List.{append_assoc, append-nil}
+-- A text whose characters are read one after another.
+use Rattle.std.proofs.Common.{◌≡◌, ℕ, ◌+◌, ◌-◌, true, false, List, [], ◌∷◌, ◌++◌, ◌≤◌, ◌<◌, length, drop, get_or, refl, sym, ◌∙◌, ap, subst, add-one, rules, arith}
+use Rattle.std.proofs.lemmas.List.{append_assoc, append-nil, length-append}
 use Rattle.std.proofs.lemmas.List.Elements.{All-append}
-use Rattle.std.proofs.lemmas.Grind.{common_steps}
+use Rattle.std.proofs.Math.Seq.{drop-cons}
 use Rattle.std.specs.List.{All}
 use Rattle.std.specs.Char.{encode_utf8}
-use Rattle.std.specs.Str.{encode_utf8_all, all_scalars, IsUtf8, chars}
-use Rattle.std.proofs.lemmas.Str.{encodes-append, encodes_same, chars_from_encodes}
+use Rattle.std.specs.Str.{encode_utf8_all, all_scalars, IsUtf8, IsCharBoundary, chars}
+use Rattle.std.proofs.lemmas.Str.{encodes-append, encodes_same, chars_from_encodes, encode_ascii, IsUtf8-past_char, IsCharBoundary-from_drop}
 use Rattle.yaml_text.specs.Limits.{text_limit}
-use Rattle.yaml_text.specs.Text.{is_text, AllText, IsFirstRefused, Text, mark_len}
+use Rattle.yaml_text.specs.Text.{is_text, AllText, IsFirstRefused, IsScanned, Text, mark_len}
 
--- the front of the text, of is_text characters alone, takes `at` bytes, and `rest` is left
-pub record IsScanned (text rest : List ℕ) (at : ℕ) : Type 0 where
-  pub before : List ℕ
-  pub split : text ≡ encode_utf8_all before ++ rest
-  pub permitted : All (λ c. is_text c ≡ true) before
-  pub place : at ≡ length (encode_utf8_all before)
-
-pub scanned_none : (text : List ℕ) → IsScanned text text 0
-scanned_none text = record { before = []; split = refl; permitted = search rules; place = refl }
+pub scanned_none : (text : List ℕ) → IsScanned text text
+scanned_none text = record { before = []; split = refl; permitted = search rules }
 
 one : (c : ℕ) → is_text c ≡ true → All (λ d. is_text d ≡ true) (c ∷ [])
 one c e = search rules
 
-encoded_one : (c : ℕ) → encode_utf8_all (c ∷ []) ≡ encode_utf8 c
-encoded_one c = append-nil (encode_utf8 c)
+-- a front of the rest, too
+pub scanned_on : (text rest tail : List ℕ) → IsScanned text rest → IsScanned rest tail → IsScanned text tail
+scanned_on text rest tail h k = record {
+  before = h.before ++ k.before;
+  split = h.split ∙ ap (λ x. encode_utf8_all h.before ++ x) k.split ∙ sym (append_assoc (encode_utf8_all h.before) (encode_utf8_all k.before) tail) ∙ ap (λ x. x ++ tail) (sym (encodes-append h.before k.before));
+  permitted = All-append (λ d. is_text d ≡ true) h.before k.before h.permitted k.permitted;
+}
 
-pub scanned_more : (text rest after : List ℕ) (c at next : ℕ) → IsScanned text rest at → rest ≡ encode_utf8 c ++ after → next ≡ at + length (encode_utf8 c) → is_text c ≡ true → IsScanned text after next
-scanned_more text rest after c at next h e n a =
-    let whole : encode_utf8_all (h.before ++ (c ∷ [])) ≡ encode_utf8_all h.before ++ encode_utf8 c = encodes-append h.before (c ∷ []) ∙ ap (λ x. encode_utf8_all h.before ++ x) (encoded_one c) in
-    record {
-      before = h.before ++ (c ∷ []);
-      split = h.split ∙ ap (λ x. encode_utf8_all h.before ++ x) e ∙ sym (append_assoc (encode_utf8_all h.before) (encode_utf8 c) after) ∙ ap (λ x. x ++ after) (sym whole);
-      permitted = All-append (λ d. is_text d ≡ true) h.before (c ∷ []) h.permitted (one c a);
-      place = rw whole (grind (arith, common_steps, n, h.place));
-    }
+scanned_one : (rest after : List ℕ) (c : ℕ) → rest ≡ encode_utf8 c ++ after → is_text c ≡ true → IsScanned rest after
+scanned_one rest after c e a = record { before = c ∷ []; split = e ∙ ap (λ x. x ++ after) (sym (append-nil (encode_utf8 c))); permitted = one c a }
 
-pub scanned_refused : (text rest after : List ℕ) (c at : ℕ) → IsScanned text rest at → rest ≡ encode_utf8 c ++ after → is_text c ≡ false → IsFirstRefused text at
-scanned_refused text rest after c at h e a = record {
+pub scanned_more : (text rest after : List ℕ) (c : ℕ) → IsScanned text rest → rest ≡ encode_utf8 c ++ after → is_text c ≡ true → IsScanned text after
+scanned_more text rest after c h e a = scanned_on text rest after h (scanned_one rest after c e a)
+
+scanned_len : (text rest : List ℕ) (h : IsScanned text rest) → length text - length rest ≡ length (encode_utf8_all h.before)
+scanned_len text rest h = let n = ap length h.split ∙ length-append (encode_utf8_all h.before) rest in omega (arith, n)
+
+pub scanned_refused : (text rest after : List ℕ) (c : ℕ) → IsScanned text rest → rest ≡ encode_utf8 c ++ after → is_text c ≡ false → IsFirstRefused text (length text - length rest)
+scanned_refused text rest after c h e a = record {
   before = h.before;
   refused = c;
   after = after;
   split = h.split ∙ ap (λ x. encode_utf8_all h.before ++ x) e;
   permitted = h.permitted;
   forbidden = a;
-  place = h.place;
+  place = scanned_len text rest h;
 }
 
-pub scanned_all : (text rest : List ℕ) (at : ℕ) → IsScanned text rest at → rest ≡ [] → IsUtf8 text → AllText text
-scanned_all text rest at h e u =
+pub scanned_all : (text rest : List ℕ) → IsScanned text rest → rest ≡ [] → IsUtf8 text → AllText text
+scanned_all text rest h e u =
     let whole : text ≡ encode_utf8_all h.before = h.split ∙ ap (λ x. encode_utf8_all h.before ++ x) e ∙ append-nil (encode_utf8_all h.before) in
     let same : u.0 ≡ h.before = encodes_same u.0 h.before (u.1.1 ∙ whole) in
     (h.before, whole, subst (λ cs. all_scalars cs ≡ true) same u.1.0, h.permitted)
+
+-- the first so many bytes are ASCII characters that a text may hold
+pub record AsciiTo (text : List ℕ) (i : ℕ) : Type 0 where
+  pub scanned : IsScanned text (drop i text)
+  pub utf8 : IsUtf8 (drop i text)
+
+pub ascii_more : (text : List ℕ) (i b : ℕ) → AsciiTo text i → i < length text → get_or text i 0 ≡ b → b < 128 → is_text b ≡ true → AsciiTo text (i + 1)
+ascii_more text i b r l e a v =
+    let rest : drop i text ≡ encode_utf8 b ++ drop (i + 1) text =
+    (rw add-one (drop-cons text i 0 l)) ∙ ap (λ x. x ∷ drop (i + 1) text) e ∙ ap (λ z. z ++ drop (i + 1) text) (sym (encode_ascii b a)) in
+    record {
+      scanned = scanned_more text (drop i text) (drop (i + 1) text) b r.scanned rest v;
+      utf8 = IsUtf8-past_char (drop i text) (drop (i + 1) text) b r.utf8 rest;
+    }
+
+pub ascii_border : (text : List ℕ) (i : ℕ) → AsciiTo text i → i ≤ length text → IsCharBoundary text i
+ascii_border text i r l = IsCharBoundary-from_drop text i l r.utf8
 
 pub text_read : (bytes text : List ℕ) → length bytes ≤ text_limit → text ≡ drop (mark_len bytes) bytes → AllText text → Text bytes (chars text)
 text_read bytes text short e h =

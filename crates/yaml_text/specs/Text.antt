@@ -47,3 +47,9 @@ RefusesText bytes _ = ⊥
 -- the text is of characters that a text may hold
 abbrev pub AllText : List ℕ → Type 0
 AllText text = (chars : List ℕ) × (text ≡ encode_utf8_all chars) × (all_scalars chars ≡ true) × All (λ c. is_text c ≡ true) chars
+
+-- the front of the text before this rest is of characters that a text may hold
+pub record IsScanned (text rest : List ℕ) : Type 0 where
+  pub before : List ℕ
+  pub split : text ≡ encode_utf8_all before ++ rest
+  pub permitted : All (λ c. is_text c ≡ true) before

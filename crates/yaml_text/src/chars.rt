@@ -1,7 +1,7 @@
 //! A checked text.
-ghost use Rattle.std.specs.Prelude.{◌≡◌, ◌+◌, ◌≤◌, ◌<◌, length, drop, IfOk, IfErr, MatchOption};
+ghost use Rattle.std.specs.Prelude.{◌≡◌, ◌+◌, ◌≤◌, ◌<◌, true, length, drop, IfOk, IfErr, MatchOption};
 ghost use Rattle.std.specs.Str.{IsCharBoundary, IsUtf8, chars};
-ghost use Rattle.yaml_text.specs.Text.{Text, RefusesText, IsFirstRefused, AllText, mark_len};
+ghost use Rattle.yaml_text.specs.Text.{is_text, Text, RefusesText, IsFirstRefused, AllText, IsScanned, mark_len};
 ghost use Rattle.yaml_text.specs.Limits.{text_limit};
 
 use crate::class::is_text;
@@ -34,16 +34,47 @@ fn skip_mark(text: &str) -> (&str, usize)
     }
 }
 
-/// The offset of the first character that no text may hold.
+/// Whether a byte is an ASCII character that a text may hold.
+#[tactic(auto, unfolding(crate::specs::grammar::Characters::is_printable))]
+fn is_ascii_text(byte: u8) -> bool
+    ensures ascii { result ≡ true → byte < 128 }
+    ensures text { result ≡ true → is_text byte ≡ true }
+{
+    matches!(byte, b'\t' | b'\n' | b'\r' | b' '..=b'~')
+}
+
+/// How many such characters stand at a text's start: as many bytes.
+fn ascii_len(text: &str) -> usize
+    ensures scanned { IsScanned text.now (drop result text.now) }
+    ensures border { IsCharBoundary text.now result }
+{
+    for (at, byte) in text.as_bytes().iter().enumerate() {
+        if !is_ascii_text(*byte) {
+            return at;
+        }
+    }
+    text.len()
+}
+
+/// The offset of the first character that no text may hold. Runs of ASCII are passed over without
+/// being decoded.
 fn first_refused(text: &str) -> Option<usize>
     ensures { MatchOption result (AllText text.now) (IsFirstRefused text.now) }
 {
-    'scan: for (at, c) in text.char_indices() {
-        if !is_text(c) {
-            return Some(at);
+    let mut rest = text;
+    'scan: loop {
+        let (_, tail) = rest.split_at(ascii_len(rest));
+        let mut chars = tail.chars();
+        match chars.next() {
+            None => return None,
+            Some(c) => {
+                if !is_text(c) {
+                    return Some(text.len() - tail.len());
+                }
+                rest = chars.as_str();
+            }
         }
     }
-    None
 }
 
 impl<'a> Chars<'a> {

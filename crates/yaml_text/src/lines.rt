@@ -1,6 +1,6 @@
 //! What stands on a line: spaces, whites, breaks, comments and document marks (YAML 1.2.2, 5.4, 5.5, 6.1, 6.6, 9.1.2).
 //! Offsets count bytes of the text.
-ghost use Rattle.std.specs.Prelude.{◌≡◌, ◌≢◌, ◌≤◌, ◌<◌, ◌+◌, IfSome, IfNone, Some, slice_get, ℕ};
+ghost use Rattle.std.specs.Prelude.{◌≡◌, ◌≢◌, ◌≤◌, ◌<◌, ◌+◌, IfSome, IfNone, Some, slice_get, ℕ, true};
 ghost use Rattle.std.specs.Bool.{OnTrue, OnFalse};
 ghost use Rattle.yaml_text.specs.Answer.{IsSyntaxFault, IsRefusal};
 ghost use Rattle.yaml_text.specs.Lines.{line_brk, DashesOf, Dashes, AfterLine, Uncut, blank_rest};
@@ -97,6 +97,30 @@ pub fn end_line(source: &Chars<'_>, at: usize) -> Option<usize>
     }
 }
 
+/// Whether a byte is an ASCII character of a line, which is no break.
+#[tactic(auto, unfolding(crate::specs::grammar::Characters::is_nb, crate::specs::grammar::Characters::is_break))]
+fn is_ascii_nb(byte: u8) -> bool
+    ensures ascii { result ≡ true → byte < 128 }
+    ensures line { result ≡ true → is_nb byte ≡ true }
+{
+    byte.is_ascii() && byte != b'\n' && byte != b'\r'
+}
+
+/// The border after the ASCII characters of a line that stand at a border, which are not decoded.
+fn skip_ascii(source: &Chars<'_>, at: usize) -> usize
+    requires { IsBorder source.now at }
+    ensures border { IsBorder source.now result }
+    ensures onward { at ≤ result }
+    ensures chars { run (text_of source.now) is_nb (place_of source.now at) (place_of source.now result) }
+{
+    for (count, byte) in source.rest(at).as_bytes().iter().enumerate() {
+        if !is_ascii_nb(*byte) {
+            return at + count;
+        }
+    }
+    source.end()
+}
+
 /// The end of a line's characters from a border on, and the border after their line.
 pub fn rest_of_line(source: &Chars<'_>, at: usize) -> (usize, usize)
     requires border { IsBorder source.now at }
@@ -108,8 +132,9 @@ pub fn rest_of_line(source: &Chars<'_>, at: usize) -> (usize, usize)
     ensures chars { run (text_of source.now) is_nb (place_of source.now at) (place_of source.now result.0) }
     ensures end { line_end (text_of source.now) (place_of source.now result.0) (place_of source.now result.1) }
 {
-    let mut here = at;
+    let mut from = at;
     'line: loop {
+        let here = skip_ascii(source, from);
         match next(source, here) {
             None => return (here, here),
             Some((c, to)) => {
@@ -119,7 +144,7 @@ pub fn rest_of_line(source: &Chars<'_>, at: usize) -> (usize, usize)
                         None => (here, here),
                     };
                 }
-                here = to;
+                from = to;
             }
         }
     }
