@@ -1,9 +1,10 @@
 //! Node properties (YAML 1.2.2, 6.9).
-ghost use Rattle.std.specs.Prelude.{◌≡◌, ◌≢◌, ◌≤◌, ◌⊎◌, IfOk, IfErr, Some, slice_get};
+ghost use Rattle.std.specs.Prelude.{◌≡◌, ◌≢◌, ◌≤◌, ◌⊎◌, IfOk, IfErr, Some, None, slice_get};
 ghost use Rattle.std.specs.Bool.{OnTrue, OnFalse};
 ghost use Rattle.std.specs.Cow.{cow_str_bytes};
 ghost use Rattle.std.specs.Option.{option_map};
 ghost use Rattle.yaml_text.specs.Source.{text_of, place_of, IsBorder};
+ghost use Rattle.yaml_text.specs.Event.{untagged};
 ghost use Rattle.yaml_text.specs.EventModel.{context_of, event_of, written_of};
 ghost use Rattle.yaml_text.specs.grammar.Events.{no_props};
 ghost use Rattle.yaml_mark.specs.HandlesModel.{handles_of};
@@ -24,6 +25,17 @@ use yaml_text::context::Ctx;
 use yaml_text::event::{Event, EventTag};
 use yaml_text::fault::Fault;
 use yaml_text::places::accept;
+
+/// Whether there is neither an anchor nor a tag.
+fn is_absent(anchor: &Option<CowStr<'_>>, tag: &EventTag<'_>) -> bool
+    ensures yes { OnTrue result ((option_map cow_str_bytes anchor.now ≡ None) × (written_of tag.now ≡ untagged)) }
+    ensures no { OnFalse result ((option_map cow_str_bytes anchor.now ≡ None) × (written_of tag.now ≡ untagged) → ⊥) }
+{
+    match (anchor, tag) {
+        (None, EventTag::None) => true,
+        _ => false,
+    }
+}
 
 /// A node's anchor and tag.
 #[derive(Drop)]
@@ -48,10 +60,7 @@ impl<'a> Properties<'a> {
         ensures yes { OnTrue result (props_of self.now ≡ no_props) }
         ensures no { OnFalse result (props_of self.now ≢ no_props) }
     {
-        match (&self.anchor, &self.tag) {
-            (None, EventTag::None) => true,
-            _ => false,
-        }
+        is_absent(&self.anchor, &self.tag)
     }
 
     /// Whether both have an anchor or both have a tag.
@@ -213,39 +222,31 @@ fn with_properties<'a>(event: Event<'a>, properties: Properties<'a>) -> Event<'a
     }
 }
 
-/// Whether an event stays as it is where a node has no properties: it has neither an anchor nor a tag.
+/// Whether an event has neither an anchor nor a tag, but could.
 fn is_bare(event: &Event<'_>) -> bool
     ensures { OnTrue result (with_props no_props (event_of event.now) ≡ event_of event.now) }
 {
     match event {
-        Event::Scalar {
-            anchor: None,
-            tag: EventTag::None,
-            ..
-        } => true,
-        Event::SequenceStart {
-            anchor: None,
-            tag: EventTag::None,
-            ..
-        } => true,
-        Event::MappingStart {
-            anchor: None,
-            tag: EventTag::None,
-            ..
-        } => true,
+        Event::Scalar { anchor, tag, .. } => is_absent(anchor, tag),
+        Event::SequenceStart { anchor, tag, .. } => is_absent(anchor, tag),
+        Event::MappingStart { anchor, tag, .. } => is_absent(anchor, tag),
         _ => false,
     }
 }
 
-/// Puts properties on the first event of a node, which stands at `start`. Most nodes have none, and
-/// their event is not moved.
+/// Whether an event stays as it is where it gets these properties: none, as most nodes have.
+fn stays(event: &Event<'_>, properties: &Properties<'_>) -> bool
+    ensures { OnTrue result (with_props (props_of properties.now) (event_of event.now) ≡ event_of event.now) }
+{
+    properties.is_none() && is_bare(event)
+}
+
+/// Puts properties on the first event of a node, which stands at `start`. An event that stays as it is
+/// is not moved.
 pub fn dress<'a>(out: &mut Vec<Event<'a>>, start: usize, properties: Properties<'a>)
     ensures { Dresses (props_of properties.entry) start out.old.items out.new.items }
 {
-    if start < out.len() {
-        if properties.is_none() && is_bare(&out[start]) {
-            return;
-        }
+    if start < out.len() && !stays(&out[start], &properties) {
         let bare = mem::replace(&mut out[start], Event::StreamEnd);
         out[start] = with_properties(bare, properties);
     }
