@@ -2,7 +2,7 @@
 use crate::rows::{Row, check};
 use std::test::Fail;
 
-static SYNTAX: [Row; 10] = [
+static SYNTAX: [Row; 11] = [
     Row {
         input: "\u{FEFF}a: b: c",
         answer: "4 Syntax at byte 7",
@@ -42,6 +42,10 @@ static SYNTAX: [Row; 10] = [
     Row {
         input: "\u{FEFF}|x",
         answer: "4 Syntax at byte 4",
+    },
+    Row {
+        input: "\u{FEFF}a: 1\n\"b\":c",
+        answer: "4 Syntax at byte 12",
     },
 ];
 

@@ -62,3 +62,5 @@ mod single;
 mod streams_1;
 #[cfg(test)]
 mod streams_2;
+#[cfg(test)]
+mod thousands;

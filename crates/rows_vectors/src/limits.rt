@@ -1,7 +1,6 @@
 //! Vectors: keys that are too long and collections that are too deep, built of one piece many times.
 use crate::rows::{answers, is_message};
 use std::alloc::{AllocError, Global};
-use std::fmt::Write;
 use std::process::Abort;
 use std::test::Fail;
 
@@ -253,53 +252,4 @@ fn documents_are_1023_high_at_most(rt: HostRuntime) -> Result<(), Fail> {
         answers(&rt, text.as_bytes(), row.message)?;
     }
     Ok(())
-}
-
-/// A block mapping of a thousand entries, in the order of their keys, and its canonical text.
-fn entries(alloc: Global) -> Result<(String, String), AllocError> {
-    let mut source = String::new(alloc);
-    let mut text = String::new(alloc);
-    let mut sign = "--- {";
-    for number in 1_000..2_000 {
-        writeln!(source, "k{number}: v{number}")?;
-        write!(text, "{sign}\"k{number}\" : \"v{number}\"")?;
-        sign = ", ";
-    }
-    text.push_str("}\n")?;
-    Ok((source, text))
-}
-
-#[test]
-fn a_thousand_entries_are_read(rt: HostRuntime) -> Result<(), Fail> {
-    let (source, text) = entries(rt.alloc())?;
-    answers(&rt, source.as_bytes(), text.as_str())
-}
-
-/// A thousand lines after these words, and the canonical text with so many pieces between two others.
-fn lines(
-    alloc: Global,
-    start: &str,
-    line: &str,
-    piece: &str,
-    end: &str,
-) -> Result<(String, String), AllocError> {
-    let mut source = String::new(alloc);
-    source.push_str(start)?;
-    repeat(&mut source, 1_000, line)?;
-    let mut text = String::new(alloc);
-    text.push_str("--- \"")?;
-    repeat(&mut text, 999, piece)?;
-    text.push_str(end)?;
-    Ok((source, text))
-}
-
-#[test]
-fn scalars_of_a_thousand_lines_are_read(rt: HostRuntime) -> Result<(), Fail> {
-    let alloc = rt.alloc();
-    let (plain, words) = lines(alloc, "", "a\n", "a ", "a\"\n")?;
-    answers(&rt, plain.as_bytes(), words.as_str())?;
-    let (folded, words) = lines(alloc, "--- >\n", " a\n", "a ", "a\\n\"\n")?;
-    answers(&rt, folded.as_bytes(), words.as_str())?;
-    let (literal, kept) = lines(alloc, "--- |\n", " a\n", "a\\n", "a\\n\"\n")?;
-    answers(&rt, literal.as_bytes(), kept.as_str())
 }

@@ -38,7 +38,7 @@ pub struct Meaningless {
 }
 
 /// Asserts that an input's events are those of an event text, which is written as it was.
-fn has_events<T: Abort + AllocGlobal>(
+pub fn has_events<T: Abort + AllocGlobal>(
     rt: &T,
     shows: &str,
     input: &str,
@@ -76,7 +76,7 @@ pub fn answers<T: Abort + AllocGlobal>(rt: &T, input: &[u8], wanted: &str) -> Re
 }
 
 /// Asserts that an input has this canonical text, and that the text is its own.
-fn has_text<T: Abort + AllocGlobal>(rt: &T, input: &str, text: &str) -> Result<(), Fail> {
+pub fn has_text<T: Abort + AllocGlobal>(rt: &T, input: &str, text: &str) -> Result<(), Fail> {
     answers(rt, input.as_bytes(), text)?;
     answers(rt, text.as_bytes(), text)
 }

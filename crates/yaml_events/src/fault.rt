@@ -9,8 +9,10 @@ use thiserror::Error;
 /// Why a text is not read as events. Lines are counted from 1.
 #[derive(Clone, Copy, Debug, PartialEq, Eq, Error)]
 pub enum EventFault {
+    /// The first line that is no event's, as a last one without a line feed: its number.
     #[error("bad line {0}")]
     BadLine(usize),
+    /// Memory was refused.
     #[error("21 OutOfMemory")]
     OutOfMemory,
 }

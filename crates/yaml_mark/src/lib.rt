@@ -10,3 +10,9 @@ pub mod name;
 mod prefix;
 mod runs;
 pub mod tag;
+
+pub use comments::skip_comments;
+pub use directives::read_directives;
+pub use handles::Handles;
+pub use name::read_name;
+pub use tag::read_tag;

@@ -12,3 +12,9 @@ mod quoted;
 pub mod single;
 pub mod spell;
 mod text;
+
+pub use block::{read_folded, read_literal};
+pub use double::read_double;
+pub use plain::read_plain;
+pub use single::read_single;
+pub use spell::{spell_into, spelled_char, spelled_len};

@@ -13,3 +13,9 @@ pub mod limits;
 pub mod lines;
 pub mod places;
 pub mod text_laws;
+
+pub use chars::Chars;
+pub use context::Ctx;
+pub use counted::Counted;
+pub use event::{Event, EventTag, Style};
+pub use fault::Fault;

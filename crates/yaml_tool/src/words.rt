@@ -21,6 +21,7 @@ pub enum Asked<'a> {
 pub enum WordsFault {
     /// The words give no command.
     Usage,
+    /// Memory was refused while the words were gathered or read.
     OutOfMemory,
 }
 
