@@ -1,6 +1,6 @@
 -- From the answers of calls to what a command promises.
 use Rattle.std.specs.Prelude.{Result, Ok, Err, IfOk, IfErr}
-use Rattle.std.proofs.Common.{◌≡◌, ℕ, Bool, List, Option, subst, refl, inl, inr}
+use Rattle.std.proofs.Common.{◌≡◌, ◌⊎◌, ◌≤◌, ℕ, Bool, List, Option, Some, None, subst, refl, inl, inr, arith}
 use Rattle.yaml_text.specs.declared.fault.Fault.{Fault}
 use Rattle.yaml_text.specs.declared.fault.Fault.TheVariants.{TooLong, OutOfMemory, ReadFault, WriteFault}
 use Rattle.yaml_text.specs.declared.counted.Counted.{Counted}
@@ -8,11 +8,16 @@ use Rattle.yaml_canon.specs.Comparing.{Compares}
 use Rattle.yaml_canon.specs.Runs.{RunFails}
 use Rattle.yaml_canon.specs.Writers.{Broken}
 use Rattle.yaml_tool.specs.declared.refusal.Refusal.{Refusal}
-use Rattle.yaml_tool.specs.declared.refusal.Refusal.TheVariants.{CannotOpen, Input, EventText, EventLines}
+use Rattle.yaml_tool.specs.declared.refusal.Refusal.TheVariants.{Words, CannotOpen, Input, OneSide, EventText, EventLines}
+use Rattle.yaml_tool.specs.declared.words.Asked.{Asked}
+use Rattle.yaml_tool.specs.declared.words.Asked.TheVariants.{Canon, Same, Events, Check}
+use Rattle.yaml_tool.specs.declared.words.WordsFault.{WordsFault}
 use Rattle.yaml_tool.specs.Printing.{PrintFails}
 use Rattle.yaml_tool.specs.Judged.{same_line, match_line, HasEvents, SameFails, MatchFails}
 use Rattle.yaml_tool.specs.Refusals.{IsUnreadInput}
-use Rattle.yaml_tool.specs.Commands.{written_status, FileNotCanonical, FilesNotMatched}
+use Rattle.yaml_tool.specs.Statuses.{answer_status, fault_status, refusal_status}
+use Rattle.yaml_tool.specs.Words.{Asks}
+use Rattle.yaml_tool.specs.Commands.{written_status, FileNotCanonical, FilesNotMatched, DoesNot, WordsNotDone}
 
 -- a fact of one arm of an answer
 pub if_one : {T E : Type 0} {P Q : T → Type 0} (r : Result T E) → IfOk r P → ((x : T) → P x → Q x) → IfOk r Q
@@ -58,3 +63,48 @@ module _ {W : Type 0} (contents : W → Option (List ℕ)) where
     pub file_uncanonical : {T : Type 0} (name : List ℕ) (i e : Counted F) (o u : Counted W) (r : Result T Fault) → IfErr r (RunFails contents remaining i e o u) → IfErr (written_status r) (FileNotCanonical contents name o u)
     file_uncanonical name i e o u (Ok x) h = tt
     file_uncanonical name i e o u (Err fault) h = run_uncanonical name i e o u fault h
+
+    -- ---- what words ask for
+
+    no_words : (i e : Counted F) (o u : Counted W) (fault : WordsFault) (asked : Asked) → DoesNot contents remaining i e o u (Words fault) asked → ⊥
+    no_words i e o u fault (Canon None) h = h
+    no_words i e o u fault (Canon (Some name)) h = h.0
+    no_words i e o u fault (Same left right) h = h.0
+    no_words i e o u fault (Events None) h = h
+    no_words i e o u fault (Events (Some name)) h = h.0
+    no_words i e o u fault (Check file lines) h = h.0
+
+    pub not_done : (words : List (List ℕ)) (i e : Counted F) (o u : Counted W) (asked : Asked) → Asks words asked → (refusal : Refusal) → DoesNot contents remaining i e o u refusal asked → WordsNotDone contents remaining words i e o u refusal
+    not_done words i e o u asked asks (Words fault) h = absurd (no_words i e o u fault asked h)
+    not_done words i e o u asked asks refusal h = (asked, asks, h)
+
+-- what an answer's status tells
+pub told : (P : ℕ → Type 0) (Q : Refusal → Type 0) (r : Result ℕ Refusal) → IfOk r P → IfErr r Q → P (answer_status r) ⊎ ((refusal : Refusal) × Q refusal × (answer_status r ≡ refusal_status refusal))
+told P Q (Ok status) p q = inl p
+told P Q (Err refusal) p q = inr (refusal, q, refl)
+
+fault_above : (fault : Fault) → 2 ≤ fault_status fault
+fault_above ReadFault = omega arith
+fault_above WriteFault = omega arith
+fault_above _ = omega arith
+
+refusal_above : (refusal : Refusal) → 2 ≤ refusal_status refusal
+refusal_above (Words fault) = omega arith
+refusal_above (CannotOpen name) = omega arith
+refusal_above (Input fault) = fault_above fault
+refusal_above (OneSide side fault) = fault_above fault
+refusal_above (EventText fault) = fault_above fault
+refusal_above (EventLines fault) = omega arith
+
+-- a status of at most 1 is that of an answer
+pub answered : (P : ℕ → Type 0) (Q : Refusal → Type 0) (status : ℕ) → status ≤ 1 → P status ⊎ ((refusal : Refusal) × Q refusal × (status ≡ refusal_status refusal)) → P status
+answered P Q status low (inl p) = p
+answered P Q status low (inr (refusal, q, e)) =
+    let two = refusal_above refusal in
+    absurd (omega (arith, e, two))
+
+pub quiet_below : {X : Type 0} (r : Result ℕ Refusal) → IfOk r (λ _. X) → answer_status r ≤ 1 → X
+quiet_below (Ok status) x low = x
+quiet_below (Err refusal) x low =
+    let two = refusal_above refusal in
+    absurd (omega (arith, two))

@@ -1,3 +1,4 @@
 mod SameEvents
 mod Answering
 mod Reading
+mod Parsing

@@ -3,6 +3,7 @@ use Rattle.std.specs.Prelude.{◌≡◌, ◌⊎◌, ℕ, Bool, cond, List, Optio
 use Rattle.yaml_text.specs.declared.fault.Fault.{Fault}
 use Rattle.yaml_text.specs.declared.fault.Fault.TheVariants.{TooLong, OutOfMemory, ReadFault, WriteFault}
 use Rattle.yaml_text.specs.declared.counted.Counted.{Counted}
+use Rattle.yaml_text.specs.CountedModel.{inner_of, faults_of}
 use Rattle.yaml_canon.specs.declared.side.Side.{Side}
 use Rattle.yaml_canon.specs.Comparing.{ComparerRefuses}
 use Rattle.yaml_canon.specs.Runs.{WritesCanonical, WriteRefuses, RunsWhole, RunFails}
@@ -11,10 +12,12 @@ use Rattle.yaml_events.specs.Answer.{RefusesEventText}
 use Rattle.yaml_tool.specs.EventRuns.{IsEventText, IsUnread, EventsPrinted, EventsFail}
 use Rattle.yaml_tool.specs.Judged.{IsNotUtf8, PrintsSame, BreaksSame, PrintsMatch, BreaksMatch}
 use Rattle.yaml_tool.specs.Refusals.{IsReadingFault}
+use Rattle.yaml_tool.specs.Statuses.{refusal_status}
+use Rattle.yaml_tool.specs.Words.{Asks, RefusesWords}
 use Rattle.yaml_tool.specs.declared.words.Asked.{Asked}
 use Rattle.yaml_tool.specs.declared.words.Asked.TheVariants.{Canon, Same, Events, Check}
 use Rattle.yaml_tool.specs.declared.refusal.Refusal.{Refusal}
-use Rattle.yaml_tool.specs.declared.refusal.Refusal.TheVariants.{CannotOpen, Input, OneSide, EventText, EventLines}
+use Rattle.yaml_tool.specs.declared.refusal.Refusal.TheVariants.{Words, CannotOpen, Input, OneSide, EventText, EventLines}
 
 -- the status of a command that writes a text
 abbrev pub written_status : {T : Type 0} → Result T Fault → Result ℕ Refusal
@@ -104,3 +107,29 @@ module _ {W : Type 0} (contents : W → Option (List ℕ)) where
     DoesNot input end old new refusal (Events None) = ⊥
     DoesNot input end old new refusal (Events (Some name)) = FileHasNoEvents name.now old new refusal × (end ≡ input)
     DoesNot input end old new refusal (Check file lines) = FilesNotMatched file.now lines.now old new refusal × (end ≡ input)
+
+    -- what the words ask for is done, with this status
+    abbrev pub WordsDone : List (List ℕ) → Counted R → Counted R → Counted W → Counted W → ℕ → Type 0
+    WordsDone words input end old new status = (asked : Asked) × Asks words asked × Does asked input end old new status
+
+    -- why it is not: the words are refused, and no stream is used, or what they ask for is not done
+    abbrev pub WordsNotDone : List (List ℕ) → Counted R → Counted R → Counted W → Counted W → Refusal → Type 0
+    WordsNotDone words input end old new (Words fault) = RefusesWords words fault × (end ≡ input) × (new ≡ old)
+    WordsNotDone words input end old new refusal = (asked : Asked) × Asks words asked × DoesNot input end old new refusal asked
+
+    -- what a status tells of words
+    abbrev pub Tells : List (List ℕ) → Counted R → Counted R → Counted W → Counted W → ℕ → Type 0
+    Tells words input end old new status =
+        WordsDone words input end old new status ⊎ ((refusal : Refusal) × WordsNotDone words input end old new refusal × (status ≡ refusal_status refusal))
+
+    -- the same of a reader and a writer that were given away, where no call of theirs had failed
+    pub record RunTells (words : List (List ℕ)) (input : R) (out : W) (status : ℕ) : Type 0 where
+      pub start : Counted R
+      pub end : Counted R
+      pub old : Counted W
+      pub new : Counted W
+      pub reader : inner_of start ≡ input
+      pub no_read : faults_of start ≡ 0
+      pub writer : inner_of old ≡ out
+      pub no_write : faults_of old ≡ 0
+      pub tells : Tells words start end old new status

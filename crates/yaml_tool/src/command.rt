@@ -1,9 +1,8 @@
 //! The commands.
-ghost use Rattle.std.specs.Prelude.{◌≡◌, ◌⊎◌, ◌≤◌, ◌<◌, ◌-◌, ◌^◌, ℕ, List, IfOk, IfErr};
+ghost use Rattle.std.specs.Prelude.{◌≡◌, ◌⊎◌, ◌≤◌, ◌<◌, ◌-◌, ◌^◌, ℕ, List, IfOk, IfErr, map, string_bytes};
 ghost use Rattle.yaml_text.specs.CountedModel.{faults_of};
 ghost use Rattle.yaml_canon.specs.Writers.{Broken};
-ghost use Rattle.yaml_tool.specs.declared.words.Asked.{Asked};
-ghost use Rattle.yaml_tool.specs.Commands.{written_status, judged_status, Does, DoesNot};
+ghost use Rattle.yaml_tool.specs.Commands.{written_status, judged_status, Does, DoesNot, WordsDone, WordsNotDone, Tells, RunTells};
 ghost use Rattle.yaml_tool.specs.Judged.{Silent};
 ghost use Rattle.yaml_tool.specs.Statuses.{answer_status};
 
@@ -87,8 +86,9 @@ fn run_words<'a, T: Files, R: Read, W: Write>(
 ) -> Result<u8, Refusal<'a>>
     requires few_reads { faults_of input.old < 2 ^ 64 - 1 }
     requires few_writes { faults_of out.old < 2 ^ 64 - 1 }
-    ensures ok { IfOk result (λ status. (asked : Asked) × Does W.contents R.remaining asked input.old input.new out.old out.new status) }
+    ensures ok { IfOk result (WordsDone W.contents R.remaining (map string_bytes words.now) input.old input.new out.old out.new) }
     ensures silent { IfErr result (Silent W.contents out.old out.new) }
+    ensures refused { IfErr result (WordsNotDone W.contents R.remaining (map string_bytes words.now) input.old input.new out.old out.new) }
 {
     let asked = read_words(alloc, words)?;
     run(rt, alloc, asked, input, out)
@@ -96,7 +96,8 @@ fn run_words<'a, T: Files, R: Read, W: Write>(
 
 /// The status of an answer. A refusal is told as a line.
 fn report<E: Write>(answer: Result<u8, Refusal<'_>>, err: &mut E) -> u8
-    ensures { result ≡ answer_status answer.entry }
+    ensures status { result ≡ answer_status answer.entry }
+    ensures quiet { IfOk answer.entry (λ _. err.new ≡ err.old) }
 {
     match answer {
         Ok(status) => status,
@@ -120,7 +121,9 @@ fn answer<T: Files, R: Read, W: Write, E: Write>(
     requires few_reads { faults_of input.old < 2 ^ 64 - 1 }
     requires few_writes { faults_of out.old < 2 ^ 64 - 1 }
     ensures status { result ≤ 3 }
-    ensures done { result ≤ 1 → (asked : Asked) × Does W.contents R.remaining asked input.old input.new out.old out.new result }
+    ensures tells { Tells W.contents R.remaining (map string_bytes words.now) input.old input.new out.old out.new result }
+    ensures done { result ≤ 1 → WordsDone W.contents R.remaining (map string_bytes words.now) input.old input.new out.old out.new result }
+    ensures quiet { result ≤ 1 → err.new ≡ err.old }
     ensures refused { result ≡ 2 → out.new ≡ out.old }
     ensures unusable { result ≡ 3 → (out.new ≡ out.old) ⊎ ((text : List ℕ) × Broken W.contents out.old out.new text) }
 {
@@ -142,7 +145,8 @@ pub fn command<T: Files, R: Read + Drop, W: Write + Drop, E: Write + Drop>(
     out: W,
     mut err: E,
 ) -> u8
-    ensures { result ≤ 3 }
+    ensures status { result ≤ 3 }
+    ensures tells { RunTells W.contents R.remaining (map string_bytes words.now) input out result }
 {
     let mut input = Counted::new(input);
     let mut out = Counted::new(out);
