@@ -14,7 +14,7 @@ use Rattle.yaml_tool.specs.declared.words.Asked.TheVariants.{Canon, Same, Events
 use Rattle.yaml_tool.specs.declared.words.WordsFault.{WordsFault}
 use Rattle.yaml_tool.specs.Printing.{PrintFails}
 use Rattle.yaml_tool.specs.Judged.{same_line, match_line, HasEvents, SameFails, MatchFails}
-use Rattle.yaml_tool.specs.Refusals.{IsUnreadInput}
+use Rattle.yaml_tool.specs.Refusals.{InputFails}
 use Rattle.yaml_tool.specs.Statuses.{answer_status, fault_status, refusal_status}
 use Rattle.yaml_tool.specs.Words.{Asks}
 use Rattle.yaml_tool.specs.Commands.{written_status, FileNotCanonical, FilesNotMatched, DoesNot, WordsNotDone}
@@ -38,14 +38,7 @@ module _ {W : Type 0} (contents : W → Option (List ℕ)) where
   match_broken input lines o u alike text WriteFault a e h = record { answer = alike; has = a; broken = subst (Broken contents o u) e h }
   match_broken input lines o u alike text _ a e h = absurd h
 
-  -- a file is not read, or what was read is refused
-  pub unread_unmatched : (first second : List ℕ) (o : Counted W) (refusal : Refusal) → IsUnreadInput first refusal → FilesNotMatched contents first second o o refusal
-  unread_unmatched first second o (CannotOpen told) h = (inl h, refl)
-  unread_unmatched first second o (Input TooLong) h = (inl h, refl)
-  unread_unmatched first second o (Input OutOfMemory) h = (inl h, refl)
-  unread_unmatched first second o (Input ReadFault) h = (inl h, refl)
-  unread_unmatched first second o _ h = absurd h
-
+  -- what was read is refused
   pub judged_unmatched : (first second input lines : List ℕ) (o u : Counted W) (refusal : Refusal) → MatchFails contents input lines o u refusal → FilesNotMatched contents first second o u refusal
   judged_unmatched first second input lines o u (Input WriteFault) h = (input, lines, h)
   judged_unmatched first second input lines o u (Input fault) h = (inr (input, h.0), h.1)
@@ -54,6 +47,13 @@ module _ {W : Type 0} (contents : W → Option (List ℕ)) where
   judged_unmatched first second input lines o u _ h = absurd h.0
 
   module _ {F : Type 0} (remaining : F → Option (List ℕ)) where
+    -- a file is not read whole
+    pub ungathered_unmatched : (first second : List ℕ) (i e : Counted F) (o : Counted W) (refusal : Refusal) → InputFails remaining i e refusal → FilesNotMatched contents first second o o refusal
+    ungathered_unmatched first second i e o (Input TooLong) h = (inl tt, refl)
+    ungathered_unmatched first second i e o (Input OutOfMemory) h = (inl tt, refl)
+    ungathered_unmatched first second i e o (Input ReadFault) h = (inl tt, refl)
+    ungathered_unmatched first second i e o _ h = absurd h
+
     pub run_uncanonical : (name : List ℕ) (i e : Counted F) (o u : Counted W) (fault : Fault) → RunFails contents remaining i e o u fault → FileNotCanonical contents name o u (Input fault)
     run_uncanonical name i e o u TooLong h = h.untouched
     run_uncanonical name i e o u OutOfMemory h = h.untouched
@@ -79,9 +79,9 @@ module _ {W : Type 0} (contents : W → Option (List ℕ)) where
     not_done words i e o u asked asks refusal h = (asked, asks, h)
 
 -- what an answer's status tells
-pub told : (P : ℕ → Type 0) (Q : Refusal → Type 0) (r : Result ℕ Refusal) → IfOk r P → IfErr r Q → P (answer_status r) ⊎ ((refusal : Refusal) × Q refusal × (answer_status r ≡ refusal_status refusal))
-told P Q (Ok status) p q = inl p
-told P Q (Err refusal) p q = inr (refusal, q, refl)
+pub status_tells : (P : ℕ → Type 0) (Q : Refusal → Type 0) (r : Result ℕ Refusal) → IfOk r P → IfErr r Q → P (answer_status r) ⊎ ((refusal : Refusal) × Q refusal × (answer_status r ≡ refusal_status refusal))
+status_tells P Q (Ok status) p q = inl p
+status_tells P Q (Err refusal) p q = inr (refusal, q, refl)
 
 fault_above : (fault : Fault) → 2 ≤ fault_status fault
 fault_above ReadFault = omega arith

@@ -1,13 +1,14 @@
--- Which refusals there are of opening and reading a file.
-use Rattle.std.specs.Prelude.{◌≡◌, ℕ, List, Option}
+-- Which refusals there are of opening and reading a file, and what they say.
+use Rattle.std.specs.Prelude.{◌≡◌, ◌++◌, ℕ, List, Option, Some, None, codes}
 use Rattle.yaml_text.specs.declared.fault.Fault.{Fault}
 use Rattle.yaml_text.specs.declared.fault.Fault.TheVariants.{TooLong, OutOfMemory, ReadFault}
 use Rattle.yaml_text.specs.declared.counted.Counted.{Counted}
 use Rattle.yaml_text.specs.Limits.{text_limit}
 use Rattle.yaml_canon.specs.Gathering.{GatherFails}
 use Rattle.yaml_canon.specs.declared.side.Side.{Side}
+use Rattle.yaml_tool.specs.declared.words.WordsFault.TheVariants.{Usage}
 use Rattle.yaml_tool.specs.declared.refusal.Refusal.{Refusal}
-use Rattle.yaml_tool.specs.declared.refusal.Refusal.TheVariants.{CannotOpen, Input, OneSide, EventText}
+use Rattle.yaml_tool.specs.declared.refusal.Refusal.TheVariants.{Words, CannotOpen, Input, OneSide, EventText}
 
 -- the greatest length of an event text, in bytes
 abbrev pub events_limit : ℕ
@@ -25,21 +26,11 @@ IsReadingFault OutOfMemory = Unit {0}
 IsReadingFault ReadFault = Unit {0}
 IsReadingFault _ = ⊥
 
--- how that is told of the one input, of a side and of an event text
-abbrev pub IsUnreadInput : List ℕ → Refusal → Type 0
-IsUnreadInput name (CannotOpen told) = told.now ≡ name
-IsUnreadInput name (Input fault) = IsReadingFault fault
-IsUnreadInput name _ = ⊥
-
-abbrev pub IsUnreadSide : List ℕ → Side → Refusal → Type 0
-IsUnreadSide name side (CannotOpen told) = told.now ≡ name
-IsUnreadSide name side (OneSide told fault) = (told ≡ side) × IsReadingFault fault
-IsUnreadSide name side _ = ⊥
-
-abbrev pub IsUnreadLines : List ℕ → Refusal → Type 0
-IsUnreadLines name (CannotOpen told) = told.now ≡ name
-IsUnreadLines name (EventText fault) = IsReadingFault fault
-IsUnreadLines name _ = ⊥
+-- The text of a refusal, where no fault tells it. The texts of faults are derived.
+abbrev pub refusal_text : Refusal → Option (List ℕ)
+refusal_text (Words Usage) = Some (codes "usage")
+refusal_text (CannotOpen name) = Some (codes "cannot open " ++ name.now)
+refusal_text _ = None
 
 module _ {R : Type 0} (remaining : R → Option (List ℕ)) where
   -- the file had more bytes than it may have, memory was refused, or a call failed

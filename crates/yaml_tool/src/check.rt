@@ -5,7 +5,7 @@ ghost use Rattle.yaml_text.specs.Limits.{text_limit};
 ghost use Rattle.yaml_canon.specs.Gathering.{Gathers};
 ghost use Rattle.yaml_tool.specs.Commands.{FilesMatched, FilesNotMatched};
 ghost use Rattle.yaml_tool.specs.Judged.{match_line, HasEvents, MatchRefuses, PrintsMatch, MatchFails};
-ghost use Rattle.yaml_tool.specs.Refusals.{events_limit, IsUnreadInput, IsUnreadLines, InputFails, LinesFail};
+ghost use Rattle.yaml_tool.specs.Refusals.{events_limit, InputFails, LinesFail};
 
 use crate::refusal::Refusal;
 use crate::streams::{open, write_out};
@@ -46,22 +46,6 @@ fn gather_lines<'a, R: Read>(alloc: Global, file: &mut Counted<R>) -> Result<Vec
         Ok(bytes) => Ok(bytes),
         Err(fault) => Err(Refusal::EventText(fault)),
     }
-}
-
-fn read_input<'a, T: Files>(rt: &T, alloc: Global, name: &'a str) -> Result<Vec<u8>, Refusal<'a>>
-    ensures ok { IfOk result (λ v. length v.items ≤ text_limit) }
-    ensures err { IfErr result (IsUnreadInput name.now) }
-{
-    let mut file = open(rt, name)?;
-    gather_input(alloc, &mut file)
-}
-
-fn read_lines<'a, T: Files>(rt: &T, alloc: Global, name: &'a str) -> Result<Vec<u8>, Refusal<'a>>
-    ensures ok { IfOk result (λ v. length v.items ≤ events_limit) }
-    ensures err { IfErr result (IsUnreadLines name.now) }
-{
-    let mut file = open(rt, name)?;
-    gather_lines(alloc, &mut file)
 }
 
 /// Whether an input's events are those of an event text. The input is judged first.
@@ -115,7 +99,9 @@ pub fn check<'a, T: Files, W: Write>(
     ensures ok { IfOk result (λ matches. FilesMatched W.contents out.old out.new matches) }
     ensures err { IfErr result (FilesNotMatched W.contents input.now lines.now out.old out.new) }
 {
-    let input = read_input(rt, alloc, input)?;
-    let lines = read_lines(rt, alloc, lines)?;
+    let mut input_file = open(rt, input)?;
+    let input = gather_input(alloc, &mut input_file)?;
+    let mut lines_file = open(rt, lines)?;
+    let lines = gather_lines(alloc, &mut lines_file)?;
     print_match(alloc, input.as_slice(), lines.as_slice(), out)
 }

@@ -95,7 +95,7 @@ fn run_words<'a, T: Files, R: Read, W: Write>(
 }
 
 /// The status of an answer. A refusal is told as a line.
-fn report<E: Write>(answer: Result<u8, Refusal<'_>>, err: &mut E) -> u8
+pub fn report<E: Write>(answer: Result<u8, Refusal<'_>>, err: &mut E) -> u8
     ensures status { result ≡ answer_status answer.entry }
     ensures quiet { IfOk answer.entry (λ _. err.new ≡ err.old) }
 {

@@ -5,7 +5,7 @@ ghost use Rattle.yaml_text.specs.Limits.{text_limit};
 ghost use Rattle.yaml_canon.specs.Gathering.{Gathers};
 ghost use Rattle.yaml_tool.specs.Commands.{FilesCompared, FilesNotCompared};
 ghost use Rattle.yaml_tool.specs.Judged.{same_line, PrintsSame, SameFails};
-ghost use Rattle.yaml_tool.specs.Refusals.{IsUnreadSide, SideFails};
+ghost use Rattle.yaml_tool.specs.Refusals.{SideFails};
 
 use crate::refusal::Refusal;
 use crate::streams::{open, write_out};
@@ -30,19 +30,6 @@ fn gather_side<'a, R: Read>(
         Ok(bytes) => Ok(bytes),
         Err(fault) => Err(Refusal::OneSide(side, fault)),
     }
-}
-
-fn read_side<'a, T: Files>(
-    rt: &T,
-    alloc: Global,
-    name: &'a str,
-    side: Side,
-) -> Result<Vec<u8>, Refusal<'a>>
-    ensures ok { IfOk result (λ v. length v.items ≤ text_limit) }
-    ensures err { IfErr result (IsUnreadSide name.now side) }
-{
-    let mut file = open(rt, name)?;
-    gather_side(alloc, &mut file, side)
 }
 
 /// The line that tells the answer.
@@ -81,7 +68,9 @@ pub fn compare<'a, T: Files, W: Write>(
     ensures ok { IfOk result (λ alike. FilesCompared W.contents out.old out.new alike) }
     ensures err { IfErr result (FilesNotCompared W.contents left.now right.now out.old out.new) }
 {
-    let left = read_side(rt, alloc, left, Side::Left)?;
-    let right = read_side(rt, alloc, right, Side::Right)?;
+    let mut left_file = open(rt, left)?;
+    let left = gather_side(alloc, &mut left_file, Side::Left)?;
+    let mut right_file = open(rt, right)?;
+    let right = gather_side(alloc, &mut right_file, Side::Right)?;
     print_same(alloc, left.as_slice(), right.as_slice(), out)
 }

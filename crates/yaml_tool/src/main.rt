@@ -1,5 +1,6 @@
 //! The program `yamlcanon`, which reads YAML and writes its canonical text.
 #![tactic(auto)]
+ghost use Rattle.std.specs.Prelude.{◌≡◌, drop};
 
 mod check;
 pub mod command;
@@ -11,39 +12,38 @@ mod streams;
 mod tests;
 mod words;
 
-use crate::command::command;
+use crate::command::{command, report};
 use crate::refusal::Refusal;
 use crate::words::WordsFault;
-use std::alloc::Global;
 use std::env;
-use std::io::Write;
 use std::process::ExitCode;
 
-/// The words behind the program's own name.
-fn words_of(rt: &HostRuntime, alloc: Global) -> Result<Vec<String>, WordsFault> {
-    let mut words = Vec::new(alloc);
-    for word in env::args(rt)?.skip(1) {
-        words.push(word).map_err(|_| WordsFault::OutOfMemory)?;
+/// The words behind the first, which is the program's own name.
+fn behind_name(words: &[String]) -> &[String]
+    ensures { result.now ≡ drop 1 words.now }
+{
+    match words.split_first() {
+        Some((_, rest)) => rest,
+        None => words,
     }
-    Ok(words)
 }
 
 fn main(rt: HostRuntime) -> ExitCode {
     let alloc = rt.alloc();
-    let status = match words_of(&rt, alloc) {
+    let words: Result<Vec<String>, WordsFault> = match env::args(&rt) {
+        Ok(words) => words.collect(alloc).map_err(WordsFault::from),
+        Err(error) => Err(WordsFault::from(error)),
+    };
+    let status = match words {
         Ok(words) => command(
             &rt,
             alloc,
-            words.as_slice(),
+            behind_name(&words),
             rt.stdin(),
             rt.stdout(),
             rt.stderr(),
         ),
-        Err(fault) => {
-            let refusal = Refusal::Words(fault);
-            let _ = writeln!(rt.stderr(), "yaml: {refusal}");
-            refusal.status()
-        }
+        Err(fault) => report(Err(Refusal::Words(fault)), &mut rt.stderr()),
     };
     ExitCode::from(status)
 }

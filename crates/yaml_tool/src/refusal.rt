@@ -106,6 +106,10 @@ impl From<EventFault> for Refusal<'_> {
 }
 
 impl Display for Refusal<'_> {
+    ghost use Rattle.yaml_tool.specs.Refusals.{refusal_text};
+
+    ghost output = { refusal_text };
+
     fn fmt<W: fmt::Write>(&self, f: &mut fmt::Formatter<W>) -> fmt::Result {
         match self {
             Refusal::Words(WordsFault::Usage) => write!(f, "usage"),
