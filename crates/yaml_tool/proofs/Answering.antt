@@ -17,7 +17,7 @@ use Rattle.yaml_tool.specs.Judged.{same_line, match_line, HasEvents, SameFails, 
 use Rattle.yaml_tool.specs.Refusals.{InputFails}
 use Rattle.yaml_tool.specs.Statuses.{answer_status, fault_status, refusal_status}
 use Rattle.yaml_tool.specs.Words.{Asks}
-use Rattle.yaml_tool.specs.Commands.{written_status, FileNotCanonical, FilesNotMatched, DoesNot, WordsNotDone}
+use Rattle.yaml_tool.specs.Commands.{written_status, judged_status, FileNotCanonical, FilesNotMatched, DoesNot, WordsNotDone}
 
 -- a fact of one arm of an answer
 pub if_one : {T E : Type 0} {P Q : T → Type 0} (r : Result T E) → IfOk r P → ((x : T) → P x → Q x) → IfOk r Q
@@ -39,12 +39,16 @@ module _ {W : Type 0} (contents : W → Option (List ℕ)) where
   match_broken input lines o u alike text _ a e h = absurd h
 
   -- what was read is refused
-  pub judged_unmatched : (first second input lines : List ℕ) (o u : Counted W) (refusal : Refusal) → MatchFails contents input lines o u refusal → FilesNotMatched contents first second o u refusal
-  judged_unmatched first second input lines o u (Input WriteFault) h = (input, lines, h)
-  judged_unmatched first second input lines o u (Input fault) h = (inr (input, h.0), h.1)
-  judged_unmatched first second input lines o u (EventText fault) h = (inr (lines, h.0.1), h.1)
-  judged_unmatched first second input lines o u (EventLines fault) h = ((lines, h.0.1), h.1)
-  judged_unmatched first second input lines o u _ h = absurd h.0
+  refused_unmatched : (first second input lines : List ℕ) (o u : Counted W) (refusal : Refusal) → MatchFails contents input lines o u refusal → FilesNotMatched contents first second o u refusal
+  refused_unmatched first second input lines o u (Input WriteFault) h = (input, lines, h)
+  refused_unmatched first second input lines o u (Input fault) h = (inr (input, h.0), h.1)
+  refused_unmatched first second input lines o u (EventText fault) h = (inr (lines, h.0.1), h.1)
+  refused_unmatched first second input lines o u (EventLines fault) h = ((lines, h.0.1), h.1)
+  refused_unmatched first second input lines o u _ h = absurd h.0
+
+  pub judged_unmatched : (first second input lines : List ℕ) (o u : Counted W) (r : Result Bool Refusal) → IfErr r (MatchFails contents input lines o u) → IfErr (judged_status r) (FilesNotMatched contents first second o u)
+  judged_unmatched first second input lines o u (Ok answer) h = tt
+  judged_unmatched first second input lines o u (Err refusal) h = refused_unmatched first second input lines o u refusal h
 
   module _ {F : Type 0} (remaining : F → Option (List ℕ)) where
     -- a file is not read whole

@@ -1,17 +1,15 @@
-//! `check`: whether a file's events are those of an event text.
+//! `check`: whether an input's events are those of an event text.
 ghost use Rattle.std.specs.Prelude.{◌≡◌, ◌≤◌, ◌<◌, ◌-◌, ◌^◌, length, IfOk, IfErr};
 ghost use Rattle.yaml_text.specs.CountedModel.{faults_of};
 ghost use Rattle.yaml_text.specs.Limits.{text_limit};
 ghost use Rattle.yaml_canon.specs.Gathering.{Gathers};
-ghost use Rattle.yaml_tool.specs.Commands.{FilesMatched, FilesNotMatched};
 ghost use Rattle.yaml_tool.specs.Judged.{match_line, HasEvents, MatchRefuses, PrintsMatch, MatchFails};
 ghost use Rattle.yaml_tool.specs.Refusals.{events_limit, InputFails, LinesFail};
 
 use crate::refusal::Refusal;
-use crate::streams::{open, write_out};
+use crate::streams::write_out;
 use std::alloc::Global;
 use std::io::{Read, Write};
-use std::rt::Files;
 use std::str;
 use yaml_canon::gather;
 use yaml_events::read_event_text;
@@ -25,7 +23,10 @@ use yaml_text::limits::text_limit;
 const EVENTS_LIMIT: usize = 1_073_741_824;
 
 /// All of an input.
-fn gather_input<'a, R: Read>(alloc: Global, file: &mut Counted<R>) -> Result<Vec<u8>, Refusal<'a>>
+pub fn gather_input<'a, R: Read>(
+    alloc: Global,
+    file: &mut Counted<R>,
+) -> Result<Vec<u8>, Refusal<'a>>
     requires { faults_of file.old < 2 ^ 64 - 1 }
     ensures ok { IfOk result (λ v. Gathers R.remaining file.old file.new text_limit v.items) }
     ensures err { IfErr result (InputFails R.remaining file.old file.new) }
@@ -37,7 +38,10 @@ fn gather_input<'a, R: Read>(alloc: Global, file: &mut Counted<R>) -> Result<Vec
 }
 
 /// All of an event text.
-fn gather_lines<'a, R: Read>(alloc: Global, file: &mut Counted<R>) -> Result<Vec<u8>, Refusal<'a>>
+pub fn gather_lines<'a, R: Read>(
+    alloc: Global,
+    file: &mut Counted<R>,
+) -> Result<Vec<u8>, Refusal<'a>>
     requires { faults_of file.old < 2 ^ 64 - 1 }
     ensures ok { IfOk result (λ v. Gathers R.remaining file.old file.new events_limit v.items) }
     ensures err { IfErr result (LinesFail R.remaining file.old file.new) }
@@ -70,8 +74,9 @@ fn line_of(matches: bool) -> &'static str
     if matches { "match\n" } else { "differ\n" }
 }
 
-/// Judges an input and an event text, and writes `match` or `differ`.
-fn print_match<'a, W: Write>(
+/// Judges an input and an event text, and writes `match` or `differ`. The answer is whether the input's
+/// events are those of the event text.
+pub fn print_match<'a, W: Write>(
     alloc: Global,
     input: &[u8],
     lines: &[u8],
@@ -84,24 +89,4 @@ fn print_match<'a, W: Write>(
     let matches = has_events(alloc, input, lines)?;
     write_out(out, line_of(matches).as_bytes())?;
     Ok(matches)
-}
-
-/// Reads both files whole, the input first, then judges them and writes `match` or `differ`. The
-/// answer is whether the input's events are those of the event text.
-pub fn check<'a, T: Files, W: Write>(
-    rt: &T,
-    alloc: Global,
-    input: &'a str,
-    lines: &'a str,
-    out: &mut Counted<W>,
-) -> Result<bool, Refusal<'a>>
-    requires { faults_of out.old < 2 ^ 64 - 1 }
-    ensures ok { IfOk result (λ matches. FilesMatched W.contents out.old out.new matches) }
-    ensures err { IfErr result (FilesNotMatched W.contents input.now lines.now out.old out.new) }
-{
-    let mut input_file = open(rt, input)?;
-    let input = gather_input(alloc, &mut input_file)?;
-    let mut lines_file = open(rt, lines)?;
-    let lines = gather_lines(alloc, &mut lines_file)?;
-    print_match(alloc, input.as_slice(), lines.as_slice(), out)
 }

@@ -6,8 +6,8 @@ ghost use Rattle.yaml_tool.specs.Commands.{written_status, judged_status, Does, 
 ghost use Rattle.yaml_tool.specs.Judged.{Silent};
 ghost use Rattle.yaml_tool.specs.Statuses.{answer_status};
 
-use crate::check::check;
-use crate::compare::compare;
+use crate::check::{gather_input, gather_lines, print_match};
+use crate::compare::{gather_side, print_same};
 use crate::events::events;
 use crate::refusal::Refusal;
 use crate::streams::open;
@@ -15,7 +15,7 @@ use crate::words::{Asked, read_words};
 use std::alloc::Global;
 use std::io::{Read, Write};
 use std::rt::Files;
-use yaml_canon::run_canonical;
+use yaml_canon::{Side, run_canonical};
 use yaml_text::counted::Counted;
 use yaml_text::fault::Fault;
 
@@ -46,7 +46,8 @@ fn judged<'a>(answer: Result<bool, Refusal<'a>>) -> Result<u8, Refusal<'a>>
     }
 }
 
-/// Does what is asked, and answers the status: 0, or 1 where two files differ.
+/// Does what is asked, and answers the status: 0, or 1 where two files differ. Of two files the first is
+/// read whole, then the second, before either is judged.
 fn run<'a, T: Files, R: Read, W: Write>(
     rt: &T,
     alloc: Global,
@@ -66,13 +67,25 @@ fn run<'a, T: Files, R: Read, W: Write>(
             let mut file = open(rt, name)?;
             written(run_canonical(alloc, &mut file, out))
         }
-        Asked::Same(left, right) => judged(compare(rt, alloc, left, right, out)),
+        Asked::Same(left, right) => {
+            let mut left_file = open(rt, left)?;
+            let left = gather_side(alloc, &mut left_file, Side::Left)?;
+            let mut right_file = open(rt, right)?;
+            let right = gather_side(alloc, &mut right_file, Side::Right)?;
+            judged(print_same(alloc, &left, &right, out))
+        }
         Asked::Events(None) => written(events(alloc, input, out)),
         Asked::Events(Some(name)) => {
             let mut file = open(rt, name)?;
             written(events(alloc, &mut file, out))
         }
-        Asked::Check(file, lines) => judged(check(rt, alloc, file, lines, out)),
+        Asked::Check(file, lines) => {
+            let mut input_file = open(rt, file)?;
+            let bytes = gather_input(alloc, &mut input_file)?;
+            let mut lines_file = open(rt, lines)?;
+            let lines = gather_lines(alloc, &mut lines_file)?;
+            judged(print_match(alloc, &bytes, &lines, out))
+        }
     }
 }
 

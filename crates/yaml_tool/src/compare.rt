@@ -1,23 +1,21 @@
-//! `same`: whether two files have the same documents.
+//! `same`: whether two inputs have the same documents.
 ghost use Rattle.std.specs.Prelude.{◌≡◌, ◌≤◌, ◌<◌, ◌-◌, ◌^◌, length, IfOk, IfErr};
 ghost use Rattle.yaml_text.specs.CountedModel.{faults_of};
 ghost use Rattle.yaml_text.specs.Limits.{text_limit};
 ghost use Rattle.yaml_canon.specs.Gathering.{Gathers};
-ghost use Rattle.yaml_tool.specs.Commands.{FilesCompared, FilesNotCompared};
 ghost use Rattle.yaml_tool.specs.Judged.{same_line, PrintsSame, SameFails};
 ghost use Rattle.yaml_tool.specs.Refusals.{SideFails};
 
 use crate::refusal::Refusal;
-use crate::streams::{open, write_out};
+use crate::streams::write_out;
 use std::alloc::Global;
 use std::io::{Read, Write};
-use std::rt::Files;
 use yaml_canon::{Side, gather, same};
 use yaml_text::counted::Counted;
 use yaml_text::limits::text_limit;
 
 /// All of one side.
-fn gather_side<'a, R: Read>(
+pub fn gather_side<'a, R: Read>(
     alloc: Global,
     file: &mut Counted<R>,
     side: Side,
@@ -39,8 +37,9 @@ fn line_of(alike: bool) -> &'static str
     if alike { "same\n" } else { "different\n" }
 }
 
-/// Judges both inputs, the left one first, and writes `same` or `different`.
-fn print_same<'a, W: Write>(
+/// Judges both inputs, the left one first, and writes `same` or `different`. The answer is whether they
+/// are the same.
+pub fn print_same<'a, W: Write>(
     alloc: Global,
     left: &[u8],
     right: &[u8],
@@ -53,24 +52,4 @@ fn print_same<'a, W: Write>(
     let alike = same(alloc, left, right)?;
     write_out(out, line_of(alike).as_bytes())?;
     Ok(alike)
-}
-
-/// Reads both files whole, the left one first, then judges them and writes `same` or `different`.
-/// The answer is whether they are the same.
-pub fn compare<'a, T: Files, W: Write>(
-    rt: &T,
-    alloc: Global,
-    left: &'a str,
-    right: &'a str,
-    out: &mut Counted<W>,
-) -> Result<bool, Refusal<'a>>
-    requires { faults_of out.old < 2 ^ 64 - 1 }
-    ensures ok { IfOk result (λ alike. FilesCompared W.contents out.old out.new alike) }
-    ensures err { IfErr result (FilesNotCompared W.contents left.now right.now out.old out.new) }
-{
-    let mut left_file = open(rt, left)?;
-    let left = gather_side(alloc, &mut left_file, Side::Left)?;
-    let mut right_file = open(rt, right)?;
-    let right = gather_side(alloc, &mut right_file, Side::Right)?;
-    print_same(alloc, left.as_slice(), right.as_slice(), out)
 }

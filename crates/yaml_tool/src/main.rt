@@ -1,5 +1,6 @@
 //! The program `yamlcanon`, which reads YAML and writes its canonical text.
 #![tactic(auto)]
+
 ghost use Rattle.std.specs.Prelude.{◌≡◌, drop};
 
 mod check;
