@@ -1,5 +1,5 @@
 -- A content's spelling, from its front on.
-use Rattle.std.proofs.Common.{◌≡◌, ◌==◌, Bool, ℕ, suc, ◌+◌, ◌<◌, ◌≤◌, true, List, [], ◌∷◌, ◌++◌, length, take, drop, get_or, sym, ◌∙◌, ap, subst, add-one, arith}
+use Rattle.std.proofs.Common.{◌≡◌, ◌==◌, Bool, ℕ, zero, suc, ◌+◌, ◌<◌, ◌≤◌, true, List, [], ◌∷◌, ◌++◌, length, take, drop, get_or, refl, sym, ◌∙◌, ap, subst, add-one, arith}
 use Rattle.std.proofs.Math.Seq.{take-suc}
 use Rattle.std.proofs.lemmas.List.{append_assoc, append-nil, length-append, nil_from_length}
 use Rattle.std.proofs.lemmas.Bool.Decides.{nat_tests}
@@ -20,7 +20,7 @@ pub record Ran (text : List ℕ) (i : ℕ) : Type 0 where
 take_next : (xs : List ℕ) (i d : ℕ) → i < length xs → take (i + 1) xs ≡ take i xs ++ (get_or xs i d ∷ [])
 take_next xs i d h = rw add-one (take-suc xs i d h)
 
-pub ran_more : (text : List ℕ) (i b : ℕ) → Ran text i → i < length text → get_or text i 0 ≡ b → b < 128 → is_verbatim b ≡ true → Ran text (i + 1)
+ran_more : (text : List ℕ) (i b : ℕ) → Ran text i → i < length text → get_or text i 0 ≡ b → b < 128 → is_verbatim b ≡ true → Ran text (i + 1)
 ran_more text i b r l e a v =
     let rest : drop i text ≡ encode_utf8 b ++ drop (i + 1) text =
     drop_next text i 0 l ∙ ap (λ x. x ∷ drop (i + 1) text) e ∙ ap (λ z. z ++ drop (i + 1) text) (sym (encode_ascii b a)) in
@@ -34,6 +34,17 @@ ran_more text i b r l e a v =
 
 pub ran_border : (text : List ℕ) (i : ℕ) → Ran text i → i ≤ length text → IsCharBoundary text i
 ran_border text i r l = IsCharBoundary-from_drop text i l r.utf8
+
+ran_all : (text : List ℕ) (n : ℕ) → IsUtf8 text → n ≤ length text → ((k : ℕ) → k < n → (get_or text k 0 < 128) × (is_verbatim (get_or text k 0) ≡ true)) → Ran text n
+ran_all text zero u l h = record { spelled = refl; utf8 = u }
+ran_all text (suc n) u l h =
+    let before = ran_all text n u (omega (arith, l)) (λ k e. h k (omega (arith, e))) in
+    let here = h n (omega arith) in
+    let next : n + 1 ≡ suc n = omega arith in
+    subst (Ran text) next (ran_more text n (get_or text n 0) before (omega (arith, l)) refl here.0 here.1)
+
+pub ran_front : (text bytes : List ℕ) (n : ℕ) → IsUtf8 text → bytes ≡ text → n ≤ length bytes → ((k : ℕ) → k < n → (get_or bytes k 0 < 128) × (is_verbatim (get_or bytes k 0) ≡ true)) → Ran text n
+ran_front text bytes n u e l h = ran_all text n u (subst (λ z. n ≤ length z) e l) (subst (λ z. (k : ℕ) → k < n → (get_or z k 0 < 128) × (is_verbatim (get_or z k 0) ≡ true)) e h)
 
 -- a character behind the front, or none
 pub cut_some : (text run tail rest : List ℕ) (n c : ℕ) → spelled_chars text ≡ take n text ++ spelled_chars (drop n text) → run ≡ take n text → tail ≡ drop n text → IsUtf8 text → IsCharBoundary text n → tail ≡ encode_utf8 c ++ rest

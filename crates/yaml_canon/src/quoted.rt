@@ -5,6 +5,7 @@ ghost use Rattle.yaml_scalar.specs.Spelling.{spelled_chars, is_verbatim};
 ghost use Rattle.yaml_canon.specs.Quoted.{next_text, piece_text};
 
 use yaml_scalar::spell::spelled_char;
+use yaml_text::front::front_len;
 
 /// The front of a content: letters that are written as they are, and the character behind them.
 #[derive(Clone, Copy)]
@@ -15,13 +16,13 @@ pub(crate) struct Piece<'a> {
     pub(crate) rest: &'a str,
 }
 
-/// Whether a byte is a letter of ASCII that is written as it is.
+/// Whether a byte is a letter of ASCII that is written as it is. It has no branch, for `front_len`.
 #[tactic(auto, unfolding(yaml_scalar::specs::Spelling::is_verbatim))]
 fn is_plain(byte: u8) -> bool
     ensures ascii { result ≡ true → byte < 128 }
     ensures verbatim { result ≡ true → is_verbatim byte ≡ true }
 {
-    matches!(byte, b' ' | b'!' | b'#'..=b'[' | b']'..=b'~')
+    (byte >= b' ') & (byte <= b'~') & (byte != b'"') & (byte != b'\\')
 }
 
 /// How many bytes at a text's start are such letters.
@@ -29,12 +30,7 @@ fn plain_len(text: &str) -> usize
     ensures spelled { spelled_chars text.now ≡ take result text.now ++ spelled_chars (drop result text.now) }
     ensures border { IsCharBoundary text.now result }
 {
-    for (at, byte) in text.as_bytes().iter().enumerate() {
-        if !is_plain(*byte) {
-            return at;
-        }
-    }
-    text.len()
+    front_len(text.as_bytes(), is_plain)
 }
 
 /// The first piece of a content.

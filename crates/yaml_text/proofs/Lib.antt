@@ -35,3 +35,5 @@ pub mod Runs
 pub mod Breaks
 pub mod LineRuns
 pub mod RestLemmas
+pub mod FrontLemmas
+pub mod AsciiRuns

@@ -1,5 +1,5 @@
 -- A text whose characters are read one after another.
-use Rattle.std.proofs.Common.{◌≡◌, ℕ, ◌+◌, ◌-◌, true, false, List, [], ◌∷◌, ◌++◌, ◌≤◌, ◌<◌, length, drop, get_or, refl, sym, ◌∙◌, ap, subst, add-one, rules, arith}
+use Rattle.std.proofs.Common.{◌≡◌, ℕ, zero, suc, ◌+◌, ◌-◌, true, false, List, [], ◌∷◌, ◌++◌, ◌≤◌, ◌<◌, length, drop, get_or, refl, sym, ◌∙◌, ap, subst, add-one, rules, arith}
 use Rattle.std.proofs.lemmas.List.{append_assoc, append-nil, length-append}
 use Rattle.std.proofs.lemmas.List.Elements.{All-append}
 use Rattle.std.proofs.Math.Seq.{drop-cons}
@@ -72,3 +72,14 @@ text_read bytes text short e h =
     let utf8 : IsUtf8 text = (h.0, (h.2, sym h.1)) in
     let same : h.0 ≡ chars text = chars_from_encodes h.0 text utf8 (sym h.1) in
     subst (λ cs. Text bytes cs) same record { short = short; decodes = sym e ∙ h.1; scalars = h.2; permitted = h.3 }
+
+ascii_all : (text : List ℕ) (n : ℕ) → IsUtf8 text → n ≤ length text → ((k : ℕ) → k < n → (get_or text k 0 < 128) × (is_text (get_or text k 0) ≡ true)) → AsciiTo text n
+ascii_all text zero u l h = record { scanned = scanned_none text; utf8 = u }
+ascii_all text (suc n) u l h =
+    let before = ascii_all text n u (omega (arith, l)) (λ k e. h k (omega (arith, e))) in
+    let here = h n (omega arith) in
+    let next : n + 1 ≡ suc n = omega arith in
+    subst (AsciiTo text) next (ascii_more text n (get_or text n 0) before (omega (arith, l)) refl here.0 here.1)
+
+pub ascii_front : (text bytes : List ℕ) (n : ℕ) → IsUtf8 text → bytes ≡ text → n ≤ length bytes → ((k : ℕ) → k < n → (get_or bytes k 0 < 128) × (is_text (get_or bytes k 0) ≡ true)) → AsciiTo text n
+ascii_front text bytes n u e l h = ascii_all text n u (subst (λ z. n ≤ length z) e l) (subst (λ z. (k : ℕ) → k < n → (get_or z k 0 < 128) × (is_text (get_or z k 0) ≡ true)) e h)

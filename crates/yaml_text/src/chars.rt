@@ -6,6 +6,7 @@ ghost use Rattle.yaml_text.specs.Limits.{text_limit};
 
 use crate::class::is_text;
 use crate::fault::Fault;
+use crate::front::front_len;
 use crate::limits::text_limit;
 
 const MARK: &str = "\u{FEFF}";
@@ -34,13 +35,13 @@ fn skip_mark(text: &str) -> (&str, usize)
     }
 }
 
-/// Whether a byte is an ASCII character that a text may hold.
+/// Whether a byte is an ASCII character that a text may hold. It has no branch, for `front_len`.
 #[tactic(auto, unfolding(crate::specs::grammar::Characters::is_printable))]
 fn is_ascii_text(byte: u8) -> bool
     ensures ascii { result ≡ true → byte < 128 }
     ensures text { result ≡ true → is_text byte ≡ true }
 {
-    matches!(byte, b'\t' | b'\n' | b'\r' | b' '..=b'~')
+    ((byte >= b' ') & (byte <= b'~')) | (byte == b'\t') | (byte == b'\n') | (byte == b'\r')
 }
 
 /// How many such characters stand at a text's start: as many bytes.
@@ -48,12 +49,7 @@ fn ascii_len(text: &str) -> usize
     ensures scanned { IsScanned text.now (drop result text.now) }
     ensures border { IsCharBoundary text.now result }
 {
-    for (at, byte) in text.as_bytes().iter().enumerate() {
-        if !is_ascii_text(*byte) {
-            return at;
-        }
-    }
-    text.len()
+    front_len(text.as_bytes(), is_ascii_text)
 }
 
 /// The offset of the first character that no text may hold. Runs of ASCII are passed over without

@@ -7,6 +7,7 @@ pub mod context;
 pub mod counted;
 pub mod event;
 pub mod fault;
+pub mod front;
 pub mod grammar_laws;
 pub mod laws;
 pub mod limits;

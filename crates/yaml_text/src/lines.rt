@@ -12,6 +12,7 @@ ghost use Rattle.yaml_text.specs.grammar.Separation.{StartsLine, DocumentMark, i
 use crate::chars::Chars;
 use crate::class::{is_break, is_ns, is_white};
 use crate::fault::Fault;
+use crate::front::front_len;
 use crate::places::{accept, is_border, next};
 
 /// How many spaces stand at a border, and the border after them.
@@ -97,13 +98,13 @@ pub fn end_line(source: &Chars<'_>, at: usize) -> Option<usize>
     }
 }
 
-/// Whether a byte is an ASCII character of a line, which is no break.
+/// Whether a byte is an ASCII character of a line, which is no break. It has no branch, for `front_len`.
 #[tactic(auto, unfolding(crate::specs::grammar::Characters::is_nb, crate::specs::grammar::Characters::is_break))]
 fn is_ascii_nb(byte: u8) -> bool
     ensures ascii { result ≡ true → byte < 128 }
     ensures line { result ≡ true → is_nb byte ≡ true }
 {
-    byte.is_ascii() && byte != b'\n' && byte != b'\r'
+    byte.is_ascii() & (byte != b'\n') & (byte != b'\r')
 }
 
 /// The border after the ASCII characters of a line that stand at a border, which are not decoded.
@@ -113,12 +114,7 @@ fn skip_ascii(source: &Chars<'_>, at: usize) -> usize
     ensures onward { at ≤ result }
     ensures chars { run (text_of source.now) is_nb (place_of source.now at) (place_of source.now result) }
 {
-    for (count, byte) in source.rest(at).as_bytes().iter().enumerate() {
-        if !is_ascii_nb(*byte) {
-            return at + count;
-        }
-    }
-    source.end()
+    at + front_len(source.rest(at).as_bytes(), is_ascii_nb)
 }
 
 /// The end of a line's characters from a border on, and the border after their line.

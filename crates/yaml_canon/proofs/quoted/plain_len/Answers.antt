@@ -1,11 +1,12 @@
-use Rattle.std.proofs.Common.{get_or, sym, ap, arith}
-use Rattle.yaml_canon.proofs.QuotedLaws.{ran_more, ran_border}
+use Rattle.std.proofs.Common.{◌≤◌, length, subst, refl}
+use Rattle.yaml_canon.proofs.QuotedLaws.{Ran, ran_front, ran_border}
 use Rattle.yaml_canon.proofs.quoted.plain_len.Goals as goal
 
-pub returns-then-not-is_plain-clause-border : goal.returns-then-not-is_plain-clause-border
-returns-then-not-is_plain-clause-border c = ran_border c.args.text.now c.loop-at.at c.loop-at.invariant (omega (arith, c.as_bytes-byte-items.ensures.len))
+ran : (c : goal.After-front_len) → Ran c.args.text.now c.front_len.result
+ran c = ran_front c.args.text.now c.as_bytes.result.now c.front_len.result c.utf8.text c.as_bytes.ensures.value c.front_len.ensures.len (λ k e. let f = c.front_len.ensures.front k e in (f.0 refl, f.1 refl))
 
-pub loop-at-preserved : goal.loop-at-preserved
-loop-at-preserved c =
-    let e = c.as_bytes-byte-items.ensures.value in
-    ran_more c.args.text.now c.loop-at.at _ c.loop-at.invariant (omega (arith, c.as_bytes-byte-items.ensures.len)) (ap (λ z. get_or z c.loop-at.at 0) (sym e)) (c.is_plain.ensures.ascii c.if-not-is_plain.false) (c.is_plain.ensures.verbatim c.if-not-is_plain.false)
+pub returns-clause-spelled : goal.returns-clause-spelled
+returns-clause-spelled c = (ran c).spelled
+
+pub returns-clause-border : goal.returns-clause-border
+returns-clause-border c = ran_border c.args.text.now c.front_len.result (ran c) (subst (λ z. c.front_len.result ≤ length z) c.as_bytes.ensures.value c.front_len.ensures.len)

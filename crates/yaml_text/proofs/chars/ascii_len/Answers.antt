@@ -1,11 +1,12 @@
-use Rattle.std.proofs.Common.{get_or, sym, ap, arith}
-use Rattle.yaml_text.proofs.Scan.{ascii_more, ascii_border}
+use Rattle.std.proofs.Common.{◌≤◌, length, subst, refl}
+use Rattle.yaml_text.proofs.Scan.{AsciiTo, ascii_front, ascii_border}
 use Rattle.yaml_text.proofs.chars.ascii_len.Goals as goal
 
-pub returns-then-not-is_ascii_text-clause-border : goal.returns-then-not-is_ascii_text-clause-border
-returns-then-not-is_ascii_text-clause-border c = ascii_border c.args.text.now c.loop-at.at c.loop-at.invariant (omega (arith, c.as_bytes-byte-items.ensures.len))
+ran : (c : goal.After-front_len) → AsciiTo c.args.text.now c.front_len.result
+ran c = ascii_front c.args.text.now c.as_bytes.result.now c.front_len.result c.utf8.text c.as_bytes.ensures.value c.front_len.ensures.len (λ k e. let f = c.front_len.ensures.front k e in (f.0 refl, f.1 refl))
 
-pub loop-at-preserved : goal.loop-at-preserved
-loop-at-preserved c =
-    let e = c.as_bytes-byte-items.ensures.value in
-    ascii_more c.args.text.now c.loop-at.at _ c.loop-at.invariant (omega (arith, c.as_bytes-byte-items.ensures.len)) (ap (λ z. get_or z c.loop-at.at 0) (sym e)) (c.is_ascii_text.ensures.ascii c.if-not-is_ascii_text.false) (c.is_ascii_text.ensures.text c.if-not-is_ascii_text.false)
+pub returns-clause-scanned : goal.returns-clause-scanned
+returns-clause-scanned c = (ran c).scanned
+
+pub returns-clause-border : goal.returns-clause-border
+returns-clause-border c = ascii_border c.args.text.now c.front_len.result (ran c) (subst (λ z. c.front_len.result ≤ length z) c.as_bytes.ensures.value c.front_len.ensures.len)
