@@ -1,5 +1,5 @@
 //! A content's spelling between double quotes, cut into pieces.
-ghost use Rattle.std.specs.Prelude.{◌≡◌, ◌<◌, ◌+◌, ◌++◌, true, take, drop, length};
+ghost use Rattle.std.specs.Prelude.{◌≡◌, ◌<◌, ◌+◌, ◌++◌, true, false, take, drop, length, slice_index};
 ghost use Rattle.std.specs.Str.{IsCharBoundary, IsUtf8};
 ghost use Rattle.yaml_scalar.specs.Spelling.{spelled_chars, is_verbatim};
 ghost use Rattle.yaml_canon.specs.Quoted.{next_text, piece_text};
@@ -21,6 +21,7 @@ pub(crate) struct Piece<'a> {
 fn is_plain(byte: u8) -> bool
     ensures ascii { result ≡ true → byte < 128 }
     ensures verbatim { result ≡ true → is_verbatim byte ≡ true }
+    ensures other { result ≡ false → byte < 128 → is_verbatim byte ≡ false }
 {
     (byte >= b' ') & (byte <= b'~') & (byte != b'"') & (byte != b'\\')
 }
@@ -29,6 +30,7 @@ fn is_plain(byte: u8) -> bool
 fn plain_len(text: &str) -> usize
     ensures spelled { spelled_chars text.now ≡ take result text.now ++ spelled_chars (drop result text.now) }
     ensures border { IsCharBoundary text.now result }
+    ensures furthest { result < length text.now → slice_index text.now result < 128 → is_verbatim (slice_index text.now result) ≡ false }
 {
     front_len(text.as_bytes(), is_plain)
 }

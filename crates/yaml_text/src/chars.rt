@@ -1,5 +1,5 @@
 //! A checked text.
-ghost use Rattle.std.specs.Prelude.{◌≡◌, ◌+◌, ◌≤◌, ◌<◌, true, length, drop, IfOk, IfErr, MatchOption};
+ghost use Rattle.std.specs.Prelude.{◌≡◌, ◌+◌, ◌≤◌, ◌<◌, true, false, length, drop, slice_index, IfOk, IfErr, MatchOption};
 ghost use Rattle.std.specs.Str.{IsCharBoundary, IsUtf8, chars};
 ghost use Rattle.yaml_text.specs.Text.{is_text, Text, RefusesText, IsFirstRefused, AllText, IsScanned, mark_len};
 ghost use Rattle.yaml_text.specs.Limits.{text_limit};
@@ -40,6 +40,7 @@ fn skip_mark(text: &str) -> (&str, usize)
 fn is_ascii_text(byte: u8) -> bool
     ensures ascii { result ≡ true → byte < 128 }
     ensures text { result ≡ true → is_text byte ≡ true }
+    ensures other { result ≡ false → byte < 128 → is_text byte ≡ false }
 {
     ((byte >= b' ') & (byte <= b'~')) | (byte == b'\t') | (byte == b'\n') | (byte == b'\r')
 }
@@ -48,6 +49,7 @@ fn is_ascii_text(byte: u8) -> bool
 fn ascii_len(text: &str) -> usize
     ensures scanned { IsScanned text.now (drop result text.now) }
     ensures border { IsCharBoundary text.now result }
+    ensures furthest { result < length text.now → slice_index text.now result < 128 → is_text (slice_index text.now result) ≡ false }
 {
     front_len(text.as_bytes(), is_ascii_text)
 }

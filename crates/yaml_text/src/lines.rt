@@ -1,10 +1,10 @@
 //! What stands on a line: spaces, whites, breaks, comments and document marks (YAML 1.2.2, 5.4, 5.5, 6.1, 6.6, 9.1.2).
 //! Offsets count bytes of the text.
-ghost use Rattle.std.specs.Prelude.{◌≡◌, ◌≢◌, ◌≤◌, ◌<◌, ◌+◌, IfSome, IfNone, Some, slice_get, ℕ, true};
+ghost use Rattle.std.specs.Prelude.{◌≡◌, ◌≢◌, ◌≤◌, ◌<◌, ◌+◌, IfSome, IfNone, Some, slice_get, slice_index, length, ℕ, true, false};
 ghost use Rattle.std.specs.Bool.{OnTrue, OnFalse};
 ghost use Rattle.yaml_text.specs.Answer.{IsSyntaxFault, IsRefusal};
 ghost use Rattle.yaml_text.specs.Lines.{line_brk, DashesOf, Dashes, AfterLine, Uncut, blank_rest};
-ghost use Rattle.yaml_text.specs.Source.{mark_of, text_of, place_of, IsBorder};
+ghost use Rattle.yaml_text.specs.Source.{bytes_of, mark_of, text_of, place_of, IsBorder};
 ghost use Rattle.yaml_text.specs.grammar.Characters.{is_space, is_white, is_nb};
 ghost use Rattle.yaml_text.specs.grammar.Rules.{run, Stands, any_span, ◌◆◌};
 ghost use Rattle.yaml_text.specs.grammar.Separation.{StartsLine, DocumentMark, indent, line_end, comment, l_comment};
@@ -103,6 +103,7 @@ pub fn end_line(source: &Chars<'_>, at: usize) -> Option<usize>
 fn is_ascii_nb(byte: u8) -> bool
     ensures ascii { result ≡ true → byte < 128 }
     ensures line { result ≡ true → is_nb byte ≡ true }
+    ensures other { result ≡ false → byte < 128 → is_nb byte ≡ false }
 {
     byte.is_ascii() & (byte != b'\n') & (byte != b'\r')
 }
@@ -113,6 +114,7 @@ fn skip_ascii(source: &Chars<'_>, at: usize) -> usize
     ensures border { IsBorder source.now result }
     ensures onward { at ≤ result }
     ensures chars { run (text_of source.now) is_nb (place_of source.now at) (place_of source.now result) }
+    ensures furthest { result < length (bytes_of source.now) → slice_index (bytes_of source.now) result < 128 → is_nb (slice_index (bytes_of source.now) result) ≡ false }
 {
     at + front_len(source.rest(at).as_bytes(), is_ascii_nb)
 }

@@ -3,7 +3,7 @@ use Rattle.yaml_canon.proofs.QuotedLaws.{Ran, ran_front, ran_border}
 use Rattle.yaml_canon.proofs.quoted.plain_len.Goals as goal
 
 ran : (c : goal.After-front_len) → Ran c.args.text.now c.front_len.result
-ran c = ran_front c.args.text.now c.as_bytes.result.now c.front_len.result c.utf8.text c.as_bytes.ensures.value c.front_len.ensures.len (λ k e. let f = c.front_len.ensures.front k e in (f.0 refl, f.1 refl))
+ran c = ran_front c.args.text.now c.as_bytes.result.now c.front_len.result c.utf8.text c.as_bytes.ensures.value c.front_len.ensures.len (λ k e. let f = c.front_len.ensures.front k e in (f.0 refl, f.1.0 refl))
 
 pub returns-clause-spelled : goal.returns-clause-spelled
 returns-clause-spelled c = (ran c).spelled
