@@ -1,19 +1,21 @@
 //! The handles of a document's tags.
 ghost use Rattle.std.specs.Prelude.{◌≡◌, ℕ, List, bytes_eq, IfOk, None};
 ghost use Rattle.std.specs.Option.{option_map};
-ghost use Rattle.std.specs.HashMap.{get_by};
+ghost use Rattle.std.specs.BTreeMap.{get_by};
+ghost use Rattle.std.specs.Ordering.{nat_cmp};
+ghost use Rattle.std.specs.Cmp.Lexicographic.{slice_cmp};
 ghost use Rattle.std.specs.Map.{lookup};
 ghost use Rattle.std.proofs.Props.{props};
 
 use std::alloc::{AllocFailed, Global};
-use std::collections::HashMap;
+use std::collections::BTreeMap;
 
 /// The handles that a document's directives bind, each with its prefix (YAML 1.2.2, 6.8.2).
 #[derive(Drop)]
 pub struct Handles<'a> {
     bindings: Vec<(&'a str, &'a str)>,
-    prefixes: HashMap<&'a str, &'a str>,
-    ghost found: { (q : List ℕ) → get_by (λ k. bytes_eq q k.now) prefixes ≡ lookup (λ k. bytes_eq q k.now) bindings.items } by { Prim.hlevel props },
+    prefixes: BTreeMap<&'a str, &'a str>,
+    ghost found: { (q : List ℕ) → get_by (λ k. slice_cmp nat_cmp q k.now) prefixes ≡ lookup (λ k. bytes_eq q k.now) bindings.items } by { Prim.hlevel props },
 }
 
 impl<'a> Handles<'a> {
@@ -26,7 +28,7 @@ impl<'a> Handles<'a> {
     {
         Handles {
             bindings: Vec::new(alloc),
-            prefixes: HashMap::new(alloc),
+            prefixes: BTreeMap::new(alloc),
         }
     }
 
