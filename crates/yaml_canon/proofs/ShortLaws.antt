@@ -14,8 +14,8 @@ use Rattle.yaml_text.specs.Spell.{text_len}
 use Rattle.yaml_text.specs.Tag.{default_tag}
 use Rattle.yaml_text.specs.TagText.{written_tag}
 use Rattle.yaml_text.specs.declared.fault.Fault.{Fault}
-use Rattle.yaml_size.proofs.Weights.{bytes, content_bytes}
-use Rattle.yaml_size.proofs.Contents.{content_light}
+use Rattle.yaml_size.proofs.Weights.{bytes, tag_bytes, content_bytes}
+use Rattle.yaml_size.proofs.Contents.{content_light, content_heavy, tag_and_content}
 use Rattle.yaml_canon.specs.ShortNodes.{short_scalar}
 use Rattle.yaml_canon.specs.declared.length.Length.{Length}
 use Rattle.yaml_canon.specs.Pieces.{Began, Writes, Puts, Fails}
@@ -71,3 +71,8 @@ small_scalar tag x e u l =
     let w : written_tag 0 tag ≡ untagged = ap (λ b. cond b untagged (full tag)) e in
     let m : content_bytes x ≤ 64 = omega (arith, l, content_light x (is_utf8-from_IsUtf8 x u)) in
     sym (ap (λ g. nat_le (text_len (scalar_at None g double x)) 64) w ∙ within _ 64 m)
+
+-- a content that is too long, whatever its tag
+pub long_scalar : (tag x : List ℕ) → IsUtf8 x → 256 < length x → false ≡ short_scalar tag x
+unfolding text_len node_text bytes
+long_scalar tag x u l = sym (beyond _ 64 (omega (arith, l, content_heavy x (is_utf8-from_IsUtf8 x u), tag_and_content 0 tag x)))

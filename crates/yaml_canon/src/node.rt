@@ -13,10 +13,17 @@ use yaml_text::limits::short_limit;
 /// A content of so many bytes or fewer is short where no tag is written: each byte takes four at most.
 const SMALL: usize = 15;
 
+/// A content of more bytes is not short: each character has four bytes at most, and is written by one or
+/// more. So a long content is not read again each time that its node is met.
+const LONG: usize = 256;
+
 /// Whether a scalar of this tag and content is short.
 fn is_short_scalar(tag: &str, content: &str) -> bool
     ensures { result ≡ short_scalar tag.now content.now }
 {
+    if content.len() > LONG {
+        return false;
+    }
     if content.len() <= SMALL && tag == default_tag(Kind::Scalar) {
         return true;
     }

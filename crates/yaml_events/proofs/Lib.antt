@@ -8,3 +8,5 @@ pub mod Tags
 pub mod Reading
 pub mod Lines
 pub mod FirstBad
+pub mod SameEvents
+pub mod Holding

@@ -2,14 +2,9 @@
 use Rattle.std.proofs.Common.{◌≡◌, Result, Err, sym, ap, ◌∙◌, subst}
 use Rattle.std.specs.Result.{IsErrAnd}
 use Rattle.std.proofs.lemmas.Result.{err_from_is_err_and}
-use Rattle.yaml_events.specs.Answer.{Parses}
+use Rattle.yaml_events.specs.Answer.{Parses, RefusesPart}
 use Rattle.yaml_events.specs.declared.fault.LineFault.{LineFault}
 use Rattle.yaml_events.specs.declared.fault.LineFault.TheVariants.{NoEvent, OutOfMemory}
-
--- what a refusal says of what may be expected
-abbrev pub RefusesPart : LineFault → {A : Type 0} → (A → Type 0) → Type 0
-RefusesPart NoEvent {A} P = (a : A) → P a → ⊥
-RefusesPart OutOfMemory P = Unit {0}
 
 refuses_for : (e : LineFault) {A B : Type 0} (P : A → Type 0) (Q : B → Type 0) → RefusesPart e P → ((b : B) → Q b → (a : A) × P a) → RefusesPart e Q
 refuses_for NoEvent P Q h f = λ b q. let p = f b q in h p.0 p.1

@@ -1,11 +1,13 @@
 -- What the reading of an event text, and of its parts, answers.
-use Rattle.std.specs.Prelude.{◌≡◌, ℕ, List, Result, Ok, Err}
+use Rattle.std.specs.Prelude.{◌≡◌, ◌≢◌, ◌↔◌, ℕ, Bool, true, List, ◌∷◌, Option, Some, None, Result, Ok, Err}
 use Rattle.percent_encoding.specs.declared.DecodeError.{DecodeError}
 use Rattle.percent_encoding.specs.declared.DecodeError.TheVariants as decoding
 use Rattle.yaml_events.specs.declared.fault.EventFault.{EventFault}
 use Rattle.yaml_events.specs.declared.fault.EventFault.TheVariants as text_faults
 use Rattle.yaml_events.specs.declared.fault.LineFault.{LineFault}
 use Rattle.yaml_events.specs.declared.fault.LineFault.TheVariants.{NoEvent, OutOfMemory}
+use Rattle.yaml_text.specs.Event.{Event}
+use Rattle.yaml_text.specs.EventText.{EventText}
 use Rattle.yaml_events.specs.Lines.{IsFirstBadLine}
 
 -- the fault of a line, as that of the text
@@ -28,3 +30,24 @@ abbrev pub Parses : {T A : Type 0} → (A → Type 0) → (A → Type 0) → (T 
 Parses {A = A} Is Expected view (Ok x) = Is (view x) × ((a : A) → Expected a → view x ≡ a)
 Parses {A = A} Is Expected view (Err NoEvent) = (a : A) → Expected a → ⊥
 Parses Is Expected view (Err OutOfMemory) = Unit {0}
+
+-- The text is one of events, and the answer is whether they are these.
+pub record TellsEventText (text : List ℕ) (events : List Event) (answer : Bool) : Type 0 where
+  pub wanted : List Event
+  pub is : EventText text wanted
+  pub tells : (answer ≡ true) ↔ (events ≡ wanted)
+
+-- what a refusal says of what may be expected
+abbrev pub RefusesPart : LineFault → {A : Type 0} → (A → Type 0) → Type 0
+RefusesPart NoEvent {A} P = (a : A) → P a → ⊥
+RefusesPart OutOfMemory P = Unit {0}
+
+-- The events behind the first, which is this one; or they do not begin with it.
+abbrev pub Behind : Event → List Event → Option (List Event) → Type 0
+Behind e left (Some rest) = left ≡ e ∷ rest
+Behind e left None = (rest : List Event) → left ≢ e ∷ rest
+
+-- the same where some may have differed before
+abbrev pub StillBehind : Event → Option (List Event) → Option (List Event) → Type 0
+StillBehind e (Some left) next = Behind e left next
+StillBehind e None next = next ≡ None

@@ -3,6 +3,7 @@
 
 mod fault;
 mod line;
+mod matching;
 mod name;
 mod reader;
 mod tag;
@@ -10,5 +11,6 @@ mod value;
 mod writer;
 
 pub use fault::EventFault;
+pub use matching::is_event_text;
 pub use reader::read_event_text;
 pub use writer::write_events;
