@@ -14,7 +14,7 @@ use Rattle.yaml_text.specs.Spell.{text_len}
 use Rattle.yaml_text.specs.Tag.{default_tag}
 use Rattle.yaml_text.specs.TagText.{written_tag}
 use Rattle.yaml_text.specs.declared.fault.Fault.{Fault}
-use Rattle.yaml_size.proofs.Weights.{bytes, tag_bytes, content_bytes}
+use Rattle.yaml_size.proofs.Weights.{bytes, content_bytes}
 use Rattle.yaml_size.proofs.Contents.{content_light, content_heavy, tag_and_content}
 use Rattle.yaml_canon.specs.ShortNodes.{short_scalar}
 use Rattle.yaml_canon.specs.declared.length.Length.{Length}

@@ -1,7 +1,7 @@
 -- Events that are held against the lines of a text, one after the other.
 use Rattle.std.proofs.Common.{◌≡◌, ◌≢◌, ◌+◌, ◌==◌, Bool, true, false, ℕ, List, [], ◌∷◌, ◌++◌, Option, Some, None, length, refl, sym, ap, ◌∙◌, subst, append_assoc, arith}
 use Rattle.std.specs.Str.{IsUtf8}
-use Rattle.std.proofs.lemmas.List.{append-nil, length-append, append_cancel_left, nil_from_length}
+use Rattle.std.proofs.lemmas.List.{append-nil, length-append, append_cancel_left}
 use Rattle.std.proofs.lemmas.Bool.Decides.{nat_tests}
 use Rattle.yaml_text.specs.Event.{Event}
 use Rattle.yaml_text.specs.EventText.{EventText, events_text}

@@ -11,3 +11,6 @@ returns c = fits_text _ _ _ _ _ _ _ _ c.is_ok.ensures.value c.new-length.ensures
 
 pub returns-then-eq : goal.returns-then-eq
 returns-then-eq c = small_scalar c.args.tag.now c.args.content.now (ap (bytes_eq c.args.tag.now) (sym c.default_tag.ensures) ∙ sym c.eq.ensures ∙ c.if-eq.true) c.utf8.content c.if-content-le-SMALL.true
+
+pub returns-then-content-gt-LONG : goal.returns-then-content-gt-LONG
+returns-then-content-gt-LONG c = long_scalar c.args.tag.now c.args.content.now c.utf8.content c.if-content-gt-LONG.true

@@ -1,4 +1,4 @@
-use Rattle.std.proofs.Common.{◌≢◌, ◌+◌, ◌∷◌, [], false, List, ℕ, map, refl, sym, ap, subst, ◌∙◌, arith}
+use Rattle.std.proofs.Common.{◌≢◌, false, List, ℕ, map, refl, sym, subst, arith}
 use Rattle.std.specs.Prelude.{Some, None}
 use Rattle.std.specs.Option.{option_map}
 use Rattle.std.specs.Str.{IsUtf8, IsCharBoundary}
