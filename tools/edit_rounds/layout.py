@@ -1,0 +1,78 @@
+"""Which function a text stands in, by the layout that `rt fmt` gives."""
+import re
+
+
+class Place:
+    """A function: its name as the check prints it, the folders of its proof files, and its lines, counted from 1.
+
+    `key` is what it shares a proof with: itself, or the cycle of calls that it is of."""
+
+    def __init__(self, name, key, folders, path, first, last):
+        self.name, self.key, self.folders, self.path, self.first, self.last = name, key, folders, path, first, last
+
+    def __eq__(self, other):
+        return self.name == other.name
+
+    def is_of_cycle(self):
+        return len(self.key) > 1
+
+
+def owner_of(line):
+    """The name under which the check tells the functions of an impl: its type, and the trait behind it, if there is one."""
+    head = re.match(r"(?:unsafe )?impl\b(.*)", line)
+    if not head:
+        return None
+    rest = re.sub(r"<[^<>]*(?:<[^<>]*>[^<>]*)*>", "", head[1])
+    what, _, whom = rest.split(" where ")[0].partition(" for ")
+    return re.search(r"\w+", whom or what)[0] + (re.findall(r"\w+", what)[-1] if whom else "")
+
+
+def last_line(lines, number, indent):
+    """The last line of the function that begins in this line."""
+    line = lines[number]
+    if line.endswith("}") and line.count("{") == line.count("}"):
+        return number
+    while number < len(lines) - 1 and lines[number] != indent + "}":
+        number += 1
+    return number
+
+
+def first_line(lines, number):
+    """The first line of a function's attributes and comments, and the cycle that they name."""
+    cycle = None
+    while number and re.match(r" *(#\[|///)", lines[number - 1]):
+        number -= 1
+        cycle = cycle or re.search(r"#\[cycle\((\w+)\)\]", lines[number])
+    return number, cycle and cycle[1]
+
+
+def function_at(text, path, crate, start, length):
+    """The function in which a part of a file of `src/` stands (its attributes and contract too), or None."""
+    if not path.startswith("src/"):
+        return None
+    first = text.count("\n", 0, start)
+    last = text.count("\n", 0, start + length)
+    module = path[len("src/") : -len(".rt")].split("/")
+    module = [] if module in (["lib"], ["main"]) else module
+    lines, owner = text.split("\n"), None
+    for number, line in enumerate(lines):
+        owner = None if line == "}" else owner_of(line) or owner
+        found = re.match(r"( *)(?:pub(?:\([^)]*\))? )?(?:const )?(?:unsafe )?fn (\w+)", line)
+        if not found:
+            continue
+        top, cycle = first_line(lines, number)
+        end = last_line(lines, number, found[1])
+        if top <= first and last <= end:
+            room = module + ([owner] if found[1] and owner else [])
+            return place_of(crate, module, room, found[2], cycle, path, top + 1, end + 1)
+    return None
+
+
+def place_of(crate, module, room, function, cycle, path, first, last):
+    """The place of a function of a module and an impl, if it stands in one."""
+    name = "::".join([crate, *room, function])
+    if cycle:
+        folders = {f"proofs/{'/'.join(it + ['+' + cycle])}/" for it in (room, module)}
+        return Place(name, ("/".join(module), "+" + cycle), sorted(folders), path, first, last)
+    own = "/".join(room + [function])
+    return Place(name, (own,), [f"proofs/{own}/"], path, first, last)
