@@ -1,33 +1,11 @@
 //! The program `yamlcanon`, which reads YAML and writes its canonical text.
 #![tactic(auto)]
 
-ghost use Rattle.std.specs.Prelude.{◌≡◌, drop};
-
-mod check;
-pub mod command;
-mod compare;
-mod events;
-mod refusal;
-mod streams;
-#[cfg(test)]
-mod tests;
-mod words;
-
-use crate::command::{command, report};
-use crate::refusal::Refusal;
-use crate::words::WordsFault;
 use std::env;
 use std::process::ExitCode;
-
-/// The words behind the first, which is the program's own name.
-fn behind_name(words: &[String]) -> &[String]
-    ensures { result.now ≡ drop 1 words.now }
-{
-    match words.split_first() {
-        Some((_, rest)) => rest,
-        None => words,
-    }
-}
+use yaml_command::command::{command, report};
+use yaml_command::refusal::Refusal;
+use yaml_words::{WordsFault, behind_name};
 
 fn main(rt: HostRuntime) -> ExitCode {
     let alloc = rt.alloc();

@@ -1,0 +1,11 @@
+//! What the program prints and answers, through `command`: tests alone.
+#![tactic(auto)]
+
+#[cfg(test)]
+mod failing;
+#[cfg(test)]
+mod fakes;
+#[cfg(test)]
+mod rows;
+#[cfg(test)]
+mod runs;

@@ -1,0 +1,2 @@
+mod SameEvents
+mod Answering

@@ -1,0 +1,14 @@
+use Rattle.yaml_command.proofs.command.command.Goals as goal
+
+pub returns-clause-tells : goal.returns-clause-tells
+returns-clause-tells g c = record {
+  start = c.new-input.result;
+  end = c.answer.new.input;
+  old = c.new-out.result;
+  new = c.answer.new.out;
+  reader = c.new-input.ensures.inner;
+  no_read = c.new-input.ensures.faults;
+  writer = c.new-out.ensures.inner;
+  no_write = c.new-out.ensures.faults;
+  tells = c.answer.ensures.tells;
+}

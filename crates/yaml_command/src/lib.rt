@@ -1,0 +1,9 @@
+//! The commands of the program `yamlcanon`, over streams and files that are given.
+#![tactic(auto)]
+
+mod check;
+pub mod command;
+mod compare;
+mod events;
+pub mod refusal;
+mod streams;

@@ -1,4 +1,0 @@
-mod SameEvents
-mod Answering
-mod Reading
-mod Parsing
