@@ -2,6 +2,7 @@
 use crate::rows::{Given, Is, Row, check};
 use std::test::Fail;
 
+/// Each digit counts.
 const FLOATS: [Row; 22] = [
     Row {
         given: Given::Plain,
@@ -137,6 +138,7 @@ const FLOATS: [Row; 22] = [
     },
 ];
 
+/// Every zero is 0.
 const ZEROS: [Row; 9] = [
     Row {
         given: Given::Plain,
@@ -194,6 +196,7 @@ const ZEROS: [Row; 9] = [
     },
 ];
 
+/// Exponents end at a million.
 const ENDS: [Row; 18] = [
     Row {
         given: Given::Plain,
@@ -305,6 +308,7 @@ const ENDS: [Row; 18] = [
     },
 ];
 
+/// Infinities and not a number.
 const WORDS: [Row; 8] = [
     Row {
         given: Given::Plain,
@@ -356,34 +360,15 @@ const WORDS: [Row; 8] = [
     },
 ];
 
-#[test]
-fn each_digit_counts(rt: HostRuntime) -> Result<(), Fail> {
-    for row in &FLOATS {
-        check(&rt, row)?;
-    }
-    Ok(())
-}
+/// All of them.
+const TABLES: [&[Row]; 4] = [&FLOATS, &ZEROS, &ENDS, &WORDS];
 
 #[test]
-fn every_zero_is_0(rt: HostRuntime) -> Result<(), Fail> {
-    for row in &ZEROS {
-        check(&rt, row)?;
-    }
-    Ok(())
-}
-
-#[test]
-fn exponents_end_at_a_million(rt: HostRuntime) -> Result<(), Fail> {
-    for row in &ENDS {
-        check(&rt, row)?;
-    }
-    Ok(())
-}
-
-#[test]
-fn infinities_and_not_a_number(rt: HostRuntime) -> Result<(), Fail> {
-    for row in &WORDS {
-        check(&rt, row)?;
+fn floats_are_exact(rt: HostRuntime) -> Result<(), Fail> {
+    for table in &TABLES {
+        for row in *table {
+            check(&rt, row)?;
+        }
     }
     Ok(())
 }

@@ -2,6 +2,7 @@
 use crate::rows::{Given, Is, Row, check};
 use std::test::Fail;
 
+/// Each base gives decimal.
 const INTS: [Row; 18] = [
     Row {
         given: Given::Plain,
@@ -113,6 +114,7 @@ const INTS: [Row; 18] = [
     },
 ];
 
+/// Ranges end where 128 bits do.
 const RANGES: [Row; 20] = [
     Row {
         given: Given::Plain,
@@ -236,18 +238,15 @@ const RANGES: [Row; 20] = [
     },
 ];
 
-#[test]
-fn each_base_gives_decimal(rt: HostRuntime) -> Result<(), Fail> {
-    for row in &INTS {
-        check(&rt, row)?;
-    }
-    Ok(())
-}
+/// All of them.
+const TABLES: [&[Row]; 2] = [&INTS, &RANGES];
 
 #[test]
-fn ranges_end_where_128_bits_do(rt: HostRuntime) -> Result<(), Fail> {
-    for row in &RANGES {
-        check(&rt, row)?;
+fn ints_are_decimal_and_have_128_bits(rt: HostRuntime) -> Result<(), Fail> {
+    for table in &TABLES {
+        for row in *table {
+            check(&rt, row)?;
+        }
     }
     Ok(())
 }

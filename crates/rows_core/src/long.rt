@@ -13,50 +13,96 @@ fn long(alloc: Global, head: &str, middle: &str, count: usize, tail: &str) -> Re
     Ok(text)
 }
 
-#[test]
-fn exponent_of_a_million_nines(rt: HostRuntime) -> Result<(), Fail> {
-    let text = long(rt.alloc(), "1e", "9", 1_000_000, "")?;
-    gives(&rt, Given::Plain, text.as_str(), Is::FloatRange, "")
+/// What a long text resolves to, with its canonical content: its head, its middle, how often that stands, and its tail.
+struct LongText {
+    head: &'static str,
+    middle: &'static str,
+    count: usize,
+    tail: &'static str,
+    is: Is,
+    content: &'static str,
 }
 
-#[test]
-fn exponent_of_a_million_zeros(rt: HostRuntime) -> Result<(), Fail> {
-    let text = long(rt.alloc(), "-1.5e-", "0", 1_000_000, "7")?;
-    gives(&rt, Given::Plain, text.as_str(), Is::Float, "-1.5e-7")
-}
+const LONG_TEXTS: [LongText; 8] = [
+    // Exponent of a million nines.
+    LongText {
+        head: "1e",
+        middle: "9",
+        count: 1_000_000,
+        tail: "",
+        is: Is::FloatRange,
+        content: "",
+    },
+    // Exponent of a million zeros.
+    LongText {
+        head: "-1.5e-",
+        middle: "0",
+        count: 1_000_000,
+        tail: "7",
+        is: Is::Float,
+        content: "-1.5e-7",
+    },
+    // Million zeros before the first digit.
+    LongText {
+        head: "0.",
+        middle: "0",
+        count: 1_000_000,
+        tail: "1e1000000",
+        is: Is::Float,
+        content: "1e-1",
+    },
+    // Million zeros after the last digit.
+    LongText {
+        head: "7",
+        middle: "0",
+        count: 1_000_000,
+        tail: "e-1000000",
+        is: Is::Float,
+        content: "7",
+    },
+    // Int of 16 megabytes of zeros.
+    LongText {
+        head: "-",
+        middle: "00000000",
+        count: 2_000_000,
+        tail: "5",
+        is: Is::Int,
+        content: "-5",
+    },
+    // Int of 16 megabytes of digits.
+    LongText {
+        head: "",
+        middle: "12345678",
+        count: 2_000_000,
+        tail: "",
+        is: Is::IntRange,
+        content: "",
+    },
+    // Octal of 16 megabytes of zeros.
+    LongText {
+        head: "0o",
+        middle: "00000000",
+        count: 2_000_000,
+        tail: "17",
+        is: Is::Int,
+        content: "15",
+    },
+    // Hexadecimal of 16 megabytes.
+    LongText {
+        head: "0x",
+        middle: "abcdef01",
+        count: 2_000_000,
+        tail: "",
+        is: Is::IntRange,
+        content: "",
+    },
+];
 
 #[test]
-fn million_zeros_before_the_first_digit(rt: HostRuntime) -> Result<(), Fail> {
-    let text = long(rt.alloc(), "0.", "0", 1_000_000, "1e1000000")?;
-    gives(&rt, Given::Plain, text.as_str(), Is::Float, "1e-1")
-}
-
-#[test]
-fn million_zeros_after_the_last_digit(rt: HostRuntime) -> Result<(), Fail> {
-    let text = long(rt.alloc(), "7", "0", 1_000_000, "e-1000000")?;
-    gives(&rt, Given::Plain, text.as_str(), Is::Float, "7")
-}
-
-#[test]
-fn int_of_16_megabytes_of_zeros(rt: HostRuntime) -> Result<(), Fail> {
-    let text = long(rt.alloc(), "-", "00000000", 2_000_000, "5")?;
-    gives(&rt, Given::Plain, text.as_str(), Is::Int, "-5")
-}
-
-#[test]
-fn int_of_16_megabytes_of_digits(rt: HostRuntime) -> Result<(), Fail> {
-    let text = long(rt.alloc(), "", "12345678", 2_000_000, "")?;
-    gives(&rt, Given::Plain, text.as_str(), Is::IntRange, "")
-}
-
-#[test]
-fn octal_of_16_megabytes_of_zeros(rt: HostRuntime) -> Result<(), Fail> {
-    let text = long(rt.alloc(), "0o", "00000000", 2_000_000, "17")?;
-    gives(&rt, Given::Plain, text.as_str(), Is::Int, "15")
-}
-
-#[test]
-fn hexadecimal_of_16_megabytes(rt: HostRuntime) -> Result<(), Fail> {
-    let text = long(rt.alloc(), "0x", "abcdef01", 2_000_000, "")?;
-    gives(&rt, Given::Plain, text.as_str(), Is::IntRange, "")
+fn long_texts_are_resolved_in_one_pass(rt: HostRuntime) -> Result<(), Fail> {
+    for row in &LONG_TEXTS {
+        let text = long(rt.alloc(), row.head, row.middle, row.count, row.tail)?;
+        gives(&rt, Given::Plain, text.as_str(), row.is, row.content)?;
+    }
+    Ok(())
 }

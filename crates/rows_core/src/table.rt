@@ -57,32 +57,19 @@ fn all_are<T: Abort>(rt: &T, texts: &[&str], kind: PlainKind) {
     }
 }
 
-#[test]
-fn null_words(rt: HostRuntime) {
-    all_are(&rt, &NULLS, PlainKind::Null);
-}
+/// All of them, with what they are.
+const TABLES: [(&[&str], PlainKind); 6] = [
+    (&NULLS, PlainKind::Null),
+    (&BOOLS, PlainKind::Bool),
+    (&INTS, PlainKind::Int),
+    (&FLOATS, PlainKind::Float),
+    (&NUMBER_MISSES, PlainKind::Str),
+    (&WORD_MISSES, PlainKind::Str),
+];
 
 #[test]
-fn bool_words(rt: HostRuntime) {
-    all_are(&rt, &BOOLS, PlainKind::Bool);
-}
-
-#[test]
-fn int_patterns(rt: HostRuntime) {
-    all_are(&rt, &INTS, PlainKind::Int);
-}
-
-#[test]
-fn float_patterns(rt: HostRuntime) {
-    all_are(&rt, &FLOATS, PlainKind::Float);
-}
-
-#[test]
-fn nearly_a_number_is_str(rt: HostRuntime) {
-    all_are(&rt, &NUMBER_MISSES, PlainKind::Str);
-}
-
-#[test]
-fn nearly_a_word_is_str(rt: HostRuntime) {
-    all_are(&rt, &WORD_MISSES, PlainKind::Str);
+fn patterns_have_their_kind(rt: HostRuntime) {
+    for (texts, kind) in TABLES {
+        all_are(&rt, texts, kind);
+    }
 }

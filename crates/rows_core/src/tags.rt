@@ -2,6 +2,7 @@
 use crate::rows::{Given, Is, Row, check};
 use std::test::Fail;
 
+/// Written tags and quotes.
 const TAGS: [Row; 24] = [
     Row {
         given: Given::Quoted,
@@ -149,6 +150,7 @@ const TAGS: [Row; 24] = [
     },
 ];
 
+/// Plain scalars.
 const PLAIN: [Row; 11] = [
     Row {
         given: Given::Plain,
@@ -218,18 +220,15 @@ const PLAIN: [Row; 11] = [
     },
 ];
 
-#[test]
-fn written_tags_and_quotes(rt: HostRuntime) -> Result<(), Fail> {
-    for row in &TAGS {
-        check(&rt, row)?;
-    }
-    Ok(())
-}
+/// All of them.
+const TABLES: [&[Row]; 2] = [&TAGS, &PLAIN];
 
 #[test]
-fn plain_scalars(rt: HostRuntime) -> Result<(), Fail> {
-    for row in &PLAIN {
-        check(&rt, row)?;
+fn tags_and_quotes_are_kept_to(rt: HostRuntime) -> Result<(), Fail> {
+    for table in &TABLES {
+        for row in *table {
+            check(&rt, row)?;
+        }
     }
     Ok(())
 }

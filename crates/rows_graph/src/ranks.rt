@@ -94,6 +94,7 @@ fn check<T: Abort + AllocGlobal>(rt: &T, row: &Row) -> Result<(), Fail> {
     Ok(())
 }
 
+/// Trees have their ranks.
 const RANKS: [Row; 12] = [
     Row {
         shows: "a graph without nodes has no ranks",
@@ -157,14 +158,7 @@ const RANKS: [Row; 12] = [
     },
 ];
 
-#[test]
-fn trees_have_their_ranks(rt: HostRuntime) -> Result<(), Fail> {
-    for row in &RANKS {
-        check(&rt, row)?;
-    }
-    Ok(())
-}
-
+/// Equal keys are told.
 const EQUAL_KEYS: [Row; 9] = [
     Row {
         shows: "one value in two spellings is one key",
@@ -213,10 +207,15 @@ const EQUAL_KEYS: [Row; 9] = [
     },
 ];
 
+/// All of them.
+const TABLES: [&[Row]; 2] = [&RANKS, &EQUAL_KEYS];
+
 #[test]
-fn equal_keys_are_told(rt: HostRuntime) -> Result<(), Fail> {
-    for row in &EQUAL_KEYS {
-        check(&rt, row)?;
+fn trees_have_their_ranks_or_equal_keys(rt: HostRuntime) -> Result<(), Fail> {
+    for table in &TABLES {
+        for row in *table {
+            check(&rt, row)?;
+        }
     }
     Ok(())
 }

@@ -30,6 +30,7 @@ fn check<T: Abort + AllocGlobal>(rt: &T, row: &Row) -> Result<(), Fail> {
     Ok(())
 }
 
+/// Events have their graph.
 const GRAPHS: [Row; 15] = [
     Row {
         shows: "a stream without documents has no nodes",
@@ -108,14 +109,7 @@ const GRAPHS: [Row; 15] = [
     },
 ];
 
-#[test]
-fn events_have_their_graph(rt: HostRuntime) -> Result<(), Fail> {
-    for row in &GRAPHS {
-        check(&rt, row)?;
-    }
-    Ok(())
-}
-
+/// Scalars have their tag and content.
 const SCALARS: [Row; 6] = [
     Row {
         shows: "another tag stands on any kind",
@@ -149,14 +143,7 @@ const SCALARS: [Row; 6] = [
     },
 ];
 
-#[test]
-fn scalars_have_their_tag_and_content(rt: HostRuntime) -> Result<(), Fail> {
-    for row in &SCALARS {
-        check(&rt, row)?;
-    }
-    Ok(())
-}
-
+/// The first fault is told.
 const REFUSED: [Row; 12] = [
     Row {
         shows: "an alias needs a node of its name",
@@ -220,14 +207,7 @@ const REFUSED: [Row; 12] = [
     },
 ];
 
-#[test]
-fn the_first_fault_is_told(rt: HostRuntime) -> Result<(), Fail> {
-    for row in &REFUSED {
-        check(&rt, row)?;
-    }
-    Ok(())
-}
-
+/// Faults of scalars are told.
 const REFUSED_SCALARS: [Row; 5] = [
     Row {
         shows: "a collection's tag is none of a scalar",
@@ -256,14 +236,7 @@ const REFUSED_SCALARS: [Row; 5] = [
     },
 ];
 
-#[test]
-fn faults_of_scalars_are_told(rt: HostRuntime) -> Result<(), Fail> {
-    for row in &REFUSED_SCALARS {
-        check(&rt, row)?;
-    }
-    Ok(())
-}
-
+/// Other events are no stream.
 const NO_STREAMS: [Row; 4] = [
     Row {
         shows: "a document ends",
@@ -287,10 +260,15 @@ const NO_STREAMS: [Row; 4] = [
     },
 ];
 
+/// All of them.
+const TABLES: [&[Row]; 5] = [&GRAPHS, &SCALARS, &REFUSED, &REFUSED_SCALARS, &NO_STREAMS];
+
 #[test]
-fn other_events_are_no_stream(rt: HostRuntime) -> Result<(), Fail> {
-    for row in &NO_STREAMS {
-        check(&rt, row)?;
+fn events_have_their_graph_or_fault(rt: HostRuntime) -> Result<(), Fail> {
+    for table in &TABLES {
+        for row in *table {
+            check(&rt, row)?;
+        }
     }
     Ok(())
 }

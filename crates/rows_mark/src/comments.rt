@@ -2,6 +2,7 @@
 use crate::rows::{Call, Row, answers};
 use std::test::Fail;
 
+/// Comments end as far as they can.
 const ENDS: [Row; 21] = [
     ("", 0, "ends at 0"),
     ("a", 0, "ends at 0"),
@@ -26,6 +27,7 @@ const ENDS: [Row; 21] = [
     ("é # ü\nx", 2, "ends at 8"),
 ];
 
+/// Content and tabs are no comments.
 const NONE: [Row; 9] = [
     ("a b", 1, "none"),
     ("a  b", 1, "none"),
@@ -38,18 +40,15 @@ const NONE: [Row; 9] = [
     ("a\u{2028}", 1, "none"),
 ];
 
-#[test]
-fn comments_end_as_far_as_they_can(rt: HostRuntime) -> Result<(), Fail> {
-    for row in &ENDS {
-        answers(&rt, Call::Comments, row)?;
-    }
-    Ok(())
-}
+/// All of them.
+const TABLES: [&[Row]; 2] = [&ENDS, &NONE];
 
 #[test]
-fn content_and_tabs_are_no_comments(rt: HostRuntime) -> Result<(), Fail> {
-    for row in &NONE {
-        answers(&rt, Call::Comments, row)?;
+fn comments_end_as_far_as_they_can(rt: HostRuntime) -> Result<(), Fail> {
+    for table in &TABLES {
+        for row in *table {
+            answers(&rt, Call::Comments, row)?;
+        }
     }
     Ok(())
 }

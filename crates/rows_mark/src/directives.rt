@@ -2,6 +2,7 @@
 use crate::rows::{Call, Row, answers};
 use std::test::Fail;
 
+/// Directives end before the first other line.
 const ENDS: [Row; 16] = [
     ("%YAML 1.2\n---", 0, "ends at 10"),
     ("%YAML  1.2 # c\n\n#d\n---", 0, "ends at 19"),
@@ -21,6 +22,7 @@ const ENDS: [Row; 16] = [
     ("%x\r\n%y\r---", 0, "ends at 7"),
 ];
 
+/// Malformed and repeated directives are refused.
 const MALFORMED: [Row; 18] = [
     ("%YAML 1.3\n---", 0, "9 BadDirective at byte 0"),
     ("%YAML 1.1\n---", 0, "9 BadDirective at byte 0"),
@@ -42,6 +44,7 @@ const MALFORMED: [Row; 18] = [
     ("\u{FEFF}%YAML 1.3\n---", 0, "9 BadDirective at byte 3"),
 ];
 
+/// A tab is no separation.
 const TABS: [Row; 9] = [
     ("%YAML\t1.2", 0, "5 Tab at byte 5"),
     ("%YAML \t1.2", 0, "5 Tab at byte 6"),
@@ -54,26 +57,15 @@ const TABS: [Row; 9] = [
     ("%x a\tb", 0, "5 Tab at byte 4"),
 ];
 
-#[test]
-fn directives_end_before_the_first_other_line(rt: HostRuntime) -> Result<(), Fail> {
-    for row in &ENDS {
-        answers(&rt, Call::Directives, row)?;
-    }
-    Ok(())
-}
+/// All of them.
+const TABLES: [&[Row]; 3] = [&ENDS, &MALFORMED, &TABS];
 
 #[test]
-fn malformed_and_repeated_directives_are_refused(rt: HostRuntime) -> Result<(), Fail> {
-    for row in &MALFORMED {
-        answers(&rt, Call::Directives, row)?;
-    }
-    Ok(())
-}
-
-#[test]
-fn a_tab_is_no_separation(rt: HostRuntime) -> Result<(), Fail> {
-    for row in &TABS {
-        answers(&rt, Call::Directives, row)?;
+fn directives_end_or_are_refused(rt: HostRuntime) -> Result<(), Fail> {
+    for table in &TABLES {
+        for row in *table {
+            answers(&rt, Call::Directives, row)?;
+        }
     }
     Ok(())
 }

@@ -6,6 +6,7 @@ use std::test::Fail;
 use yaml_text::chars::Chars;
 use yaml_text::event::EventTag;
 
+/// Tags are decoded once.
 const TAGS: [Row; 18] = [
     ("! a", 0, "! ends at 1"),
     ("!", 0, "! ends at 1"),
@@ -27,6 +28,7 @@ const TAGS: [Row; 18] = [
     ("!<%41>", 0, "A ends at 6"),
 ];
 
+/// Handles stand for their prefixes.
 const BOUND: [Row; 7] = [
     (
         "%TAG !e! tag:example.com,2000:\n---\n!e!x%21 v",
@@ -49,6 +51,7 @@ const BOUND: [Row; 7] = [
     ),
 ];
 
+/// What is no tag is refused.
 const NO_TAGS: [Row; 23] = [
     ("!<a b> x", 0, "11 BadTag at byte 0"),
     ("!<>", 0, "11 BadTag at byte 0"),
@@ -75,26 +78,15 @@ const NO_TAGS: [Row; 23] = [
     ("\u{FEFF}a", 0, "4 Syntax at byte 3"),
 ];
 
-#[test]
-fn tags_are_decoded_once(rt: HostRuntime) -> Result<(), Fail> {
-    for row in &TAGS {
-        answers(&rt, Call::Tag, row)?;
-    }
-    Ok(())
-}
+/// All of them.
+const TABLES: [&[Row]; 3] = [&TAGS, &BOUND, &NO_TAGS];
 
 #[test]
-fn handles_stand_for_their_prefixes(rt: HostRuntime) -> Result<(), Fail> {
-    for row in &BOUND {
-        answers(&rt, Call::Tag, row)?;
-    }
-    Ok(())
-}
-
-#[test]
-fn what_is_no_tag_is_refused(rt: HostRuntime) -> Result<(), Fail> {
-    for row in &NO_TAGS {
-        answers(&rt, Call::Tag, row)?;
+fn tags_are_read_or_refused(rt: HostRuntime) -> Result<(), Fail> {
+    for table in &TABLES {
+        for row in *table {
+            answers(&rt, Call::Tag, row)?;
+        }
     }
     Ok(())
 }

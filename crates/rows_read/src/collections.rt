@@ -1,8 +1,7 @@
 //! Block and flow collections, and scalars in them.
-use crate::rows::{Row, check};
-use std::test::Fail;
+use crate::rows::Row;
 
-static BLOCK: [Row; 14] = [
+pub const BLOCK: [Row; 14] = [
     Row {
         input: "",
         answer: "",
@@ -61,12 +60,7 @@ static BLOCK: [Row; 14] = [
     },
 ];
 
-#[test]
-fn block_collections(rt: HostRuntime) -> Result<(), Fail> {
-    check(&rt, &BLOCK)
-}
-
-static FLOW: [Row; 10] = [
+pub const FLOW: [Row; 10] = [
     Row {
         input: "[\"c\":d, {e}]",
         answer: "|+DOC|+SEQ []|+MAP {}|=VAL \"c|=VAL :d|-MAP|+MAP {}|=VAL :e|=VAL :|-MAP|-SEQ|-DOC",
@@ -108,8 +102,3 @@ static FLOW: [Row; 10] = [
         answer: "4 Syntax at byte 1",
     },
 ];
-
-#[test]
-fn flow_collections(rt: HostRuntime) -> Result<(), Fail> {
-    check(&rt, &FLOW)
-}

@@ -28,73 +28,52 @@ fn nested<T: Abort + AllocGlobal>(
     reads(rt, input.as_str(), answer)
 }
 
-#[test]
-fn opens_no_1025th_collection(rt: HostRuntime) -> Result<(), Fail> {
-    nested(&rt, "", 1025, "[", "", "7 TooDeep at byte 1024")?;
-    nested(&rt, "", 1025, "{", "", "7 TooDeep at byte 1024")?;
-    nested(&rt, "", 1025, "- ", "x", "7 TooDeep at byte 2048")?;
-    nested(&rt, "", 1024, "[", "a: b]", "7 TooDeep at byte 1024")?;
-    nested(&rt, "", 1024, "[", "? a]", "7 TooDeep at byte 1024")?;
-    nested(&rt, "", 1024, "[", ": a]", "7 TooDeep at byte 1024")?;
-    nested(&rt, "", 1024, "- ", "x: y", "7 TooDeep at byte 2048")
-}
+/// A head, how often a piece stands, the piece, a tail, and the answer.
+const NESTED: [(&str, usize, &str, &str, &str); 32] = [
+    // Opens no 1025th collection.
+    ("", 1025, "[", "", "7 TooDeep at byte 1024"),
+    ("", 1025, "{", "", "7 TooDeep at byte 1024"),
+    ("", 1025, "- ", "x", "7 TooDeep at byte 2048"),
+    ("", 1024, "[", "a: b]", "7 TooDeep at byte 1024"),
+    ("", 1024, "[", "? a]", "7 TooDeep at byte 1024"),
+    ("", 1024, "[", ": a]", "7 TooDeep at byte 1024"),
+    ("", 1024, "- ", "x: y", "7 TooDeep at byte 2048"),
+    // A mapping makes its keys collections deeper.
+    ("", 1022, "[", "[[a]]: b]", "7 TooDeep at byte 1023"),
+    ("", 1022, "- ", "[[a]]: b", "7 TooDeep at byte 2045"),
+    ("a: b\n", 1024, "[", "", "7 TooDeep at byte 1028"),
+    // Opens the 1024th collection.
+    ("", 1024, "[", "", "4 Syntax at byte 1024"),
+    ("", 1024, "{", "", "4 Syntax at byte 1024"),
+    ("", 1024, "- ", "@", "4 Syntax at byte 2048"),
+    ("", 1023, "[", "a: b", "4 Syntax at byte 1027"),
+    // Keys have at most 1024 characters.
+    ("", 1024, "k", ": @", "4 Syntax at byte 1026"),
+    ("", 1025, "k", ": b", "6 KeyTooLong at byte 0"),
+    ("[", 1024, "k", ": @", "4 Syntax at byte 1027"),
+    ("[", 1025, "k", ": b]", "6 KeyTooLong at byte 1"),
+    ("{", 1025, "k", ": @", "4 Syntax at byte 1028"),
+    ("&k ", 1021, "k", ": @", "4 Syntax at byte 1026"),
+    ("&k ", 1022, "k", ": b", "6 KeyTooLong at byte 0"),
+    ("a: 1\n", 1025, "k", ": b", "6 KeyTooLong at byte 5"),
+    // Collections too deep are told behind a mark.
+    ("\u{FEFF}", 1025, "[", "", "7 TooDeep at byte 1027"),
+    ("\u{FEFF}", 1024, "[", "{", "7 TooDeep at byte 1027"),
+    ("\u{FEFF}", 1024, "[", "a: b]", "7 TooDeep at byte 1027"),
+    ("\u{FEFF}", 1024, "[", "? a]", "7 TooDeep at byte 1027"),
+    ("\u{FEFF}", 1024, "[", ": a]", "7 TooDeep at byte 1027"),
+    ("\u{FEFF}", 1025, "- ", "x", "7 TooDeep at byte 2051"),
+    ("\u{FEFF}", 1024, "- ", "x: y", "7 TooDeep at byte 2051"),
+    // Keys too long are told behind a mark.
+    ("\u{FEFF}", 1025, "k", ": b", "6 KeyTooLong at byte 3"),
+    ("\u{FEFF}[", 1025, "k", ": b]", "6 KeyTooLong at byte 4"),
+    ("\u{FEFF}a: 1\n", 1025, "k", ": b", "6 KeyTooLong at byte 8"),
+];
 
 #[test]
-fn a_mapping_makes_its_keys_collections_deeper(rt: HostRuntime) -> Result<(), Fail> {
-    nested(&rt, "", 1022, "[", "[[a]]: b]", "7 TooDeep at byte 1023")?;
-    nested(&rt, "", 1022, "- ", "[[a]]: b", "7 TooDeep at byte 2045")?;
-    nested(&rt, "a: b\n", 1024, "[", "", "7 TooDeep at byte 1028")
-}
-
-#[test]
-fn opens_the_1024th_collection(rt: HostRuntime) -> Result<(), Fail> {
-    nested(&rt, "", 1024, "[", "", "4 Syntax at byte 1024")?;
-    nested(&rt, "", 1024, "{", "", "4 Syntax at byte 1024")?;
-    nested(&rt, "", 1024, "- ", "@", "4 Syntax at byte 2048")?;
-    nested(&rt, "", 1023, "[", "a: b", "4 Syntax at byte 1027")
-}
-
-#[test]
-fn keys_have_at_most_1024_characters(rt: HostRuntime) -> Result<(), Fail> {
-    nested(&rt, "", 1024, "k", ": @", "4 Syntax at byte 1026")?;
-    nested(&rt, "", 1025, "k", ": b", "6 KeyTooLong at byte 0")?;
-    nested(&rt, "[", 1024, "k", ": @", "4 Syntax at byte 1027")?;
-    nested(&rt, "[", 1025, "k", ": b]", "6 KeyTooLong at byte 1")?;
-    nested(&rt, "{", 1025, "k", ": @", "4 Syntax at byte 1028")?;
-    nested(&rt, "&k ", 1021, "k", ": @", "4 Syntax at byte 1026")?;
-    nested(&rt, "&k ", 1022, "k", ": b", "6 KeyTooLong at byte 0")?;
-    nested(&rt, "a: 1\n", 1025, "k", ": b", "6 KeyTooLong at byte 5")
-}
-
-#[test]
-fn collections_too_deep_are_told_behind_a_mark(rt: HostRuntime) -> Result<(), Fail> {
-    let mark = "\u{FEFF}";
-    nested(&rt, mark, 1025, "[", "", "7 TooDeep at byte 1027")?;
-    nested(&rt, mark, 1024, "[", "{", "7 TooDeep at byte 1027")?;
-    nested(&rt, mark, 1024, "[", "a: b]", "7 TooDeep at byte 1027")?;
-    nested(&rt, mark, 1024, "[", "? a]", "7 TooDeep at byte 1027")?;
-    nested(&rt, mark, 1024, "[", ": a]", "7 TooDeep at byte 1027")?;
-    nested(&rt, mark, 1025, "- ", "x", "7 TooDeep at byte 2051")?;
-    nested(&rt, mark, 1024, "- ", "x: y", "7 TooDeep at byte 2051")
-}
-
-#[test]
-fn keys_too_long_are_told_behind_a_mark(rt: HostRuntime) -> Result<(), Fail> {
-    nested(&rt, "\u{FEFF}", 1025, "k", ": b", "6 KeyTooLong at byte 3")?;
-    nested(
-        &rt,
-        "\u{FEFF}[",
-        1025,
-        "k",
-        ": b]",
-        "6 KeyTooLong at byte 4",
-    )?;
-    nested(
-        &rt,
-        "\u{FEFF}a: 1\n",
-        1025,
-        "k",
-        ": b",
-        "6 KeyTooLong at byte 8",
-    )
+fn collections_and_keys_end_at_their_limits(rt: HostRuntime) -> Result<(), Fail> {
+    for (head, count, piece, tail, answer) in NESTED {
+        nested(&rt, head, count, piece, tail, answer)?;
+    }
+    Ok(())
 }

@@ -1,8 +1,7 @@
 //! Each fault of the reader, with its place.
-use crate::rows::{Row, check};
-use std::test::Fail;
+use crate::rows::Row;
 
-static SYNTAX: [Row; 21] = [
+pub const SYNTAX: [Row; 21] = [
     Row {
         input: "a: b: c",
         answer: "4 Syntax at byte 4",
@@ -89,12 +88,7 @@ static SYNTAX: [Row; 21] = [
     },
 ];
 
-#[test]
-fn syntax(rt: HostRuntime) -> Result<(), Fail> {
-    check(&rt, &SYNTAX)
-}
-
-static TABS: [Row; 8] = [
+pub const TABS: [Row; 8] = [
     Row {
         input: "a:\tb",
         answer: "5 Tab at byte 2",
@@ -129,12 +123,7 @@ static TABS: [Row; 8] = [
     },
 ];
 
-#[test]
-fn tabs(rt: HostRuntime) -> Result<(), Fail> {
-    check(&rt, &TABS)
-}
-
-static TAGS: [Row; 8] = [
+pub const TAGS: [Row; 8] = [
     Row {
         input: "\"\\q\"",
         answer: "8 BadEscape at byte 1",
@@ -168,8 +157,3 @@ static TAGS: [Row; 8] = [
         answer: "11 BadTag at byte 1",
     },
 ];
-
-#[test]
-fn escapes_handles_and_tags(rt: HostRuntime) -> Result<(), Fail> {
-    check(&rt, &TAGS)
-}

@@ -18,4 +18,6 @@ mod sample;
 #[cfg(test)]
 mod streams;
 #[cfg(test)]
+mod tables;
+#[cfg(test)]
 mod wide;

@@ -1,8 +1,7 @@
 //! The place of each fault counts the byte order mark that the stream begins with.
-use crate::rows::{Row, check};
-use std::test::Fail;
+use crate::rows::Row;
 
-static SYNTAX: [Row; 11] = [
+pub const SYNTAX: [Row; 11] = [
     Row {
         input: "\u{FEFF}a: b: c",
         answer: "4 Syntax at byte 7",
@@ -49,12 +48,7 @@ static SYNTAX: [Row; 11] = [
     },
 ];
 
-#[test]
-fn syntax(rt: HostRuntime) -> Result<(), Fail> {
-    check(&rt, &SYNTAX)
-}
-
-static TABS_AND_ESCAPES: [Row; 5] = [
+pub const TABS_AND_ESCAPES: [Row; 5] = [
     Row {
         input: "\u{FEFF}a:\tb",
         answer: "5 Tab at byte 5",
@@ -77,12 +71,7 @@ static TABS_AND_ESCAPES: [Row; 5] = [
     },
 ];
 
-#[test]
-fn tabs_and_escapes(rt: HostRuntime) -> Result<(), Fail> {
-    check(&rt, &TABS_AND_ESCAPES)
-}
-
-static DIRECTIVES_AND_TAGS: [Row; 10] = [
+pub const DIRECTIVES_AND_TAGS: [Row; 10] = [
     Row {
         input: "\u{FEFF}%YAML 1.1\n---",
         answer: "9 BadDirective at byte 3",
@@ -124,8 +113,3 @@ static DIRECTIVES_AND_TAGS: [Row; 10] = [
         answer: "11 BadTag at byte 3",
     },
 ];
-
-#[test]
-fn directives_handles_and_tags(rt: HostRuntime) -> Result<(), Fail> {
-    check(&rt, &DIRECTIVES_AND_TAGS)
-}

@@ -1,8 +1,7 @@
 //! Tags, anchors and aliases.
-use crate::rows::{Row, check};
-use std::test::Fail;
+use crate::rows::Row;
 
-static PROPERTIES: [Row; 22] = [
+pub const PROPERTIES: [Row; 22] = [
     Row {
         input: "&a x",
         answer: "|+DOC|=VAL &a :x|-DOC",
@@ -93,12 +92,7 @@ static PROPERTIES: [Row; 22] = [
     },
 ];
 
-#[test]
-fn properties(rt: HostRuntime) -> Result<(), Fail> {
-    check(&rt, &PROPERTIES)
-}
-
-static IN_FLOW: [Row; 8] = [
+pub const IN_FLOW: [Row; 8] = [
     Row {
         input: "[&a b, !!str \"c\", *a]",
         answer: "|+DOC|+SEQ []|=VAL &a :b|=VAL <tag:yaml.org,2002:str> \"c|=ALI *a|-SEQ|-DOC",
@@ -132,8 +126,3 @@ static IN_FLOW: [Row; 8] = [
         answer: "|+DOC|+MAP {}|=VAL &k :a|+MAP {} &v|-MAP|-MAP|-DOC",
     },
 ];
-
-#[test]
-fn properties_in_flow(rt: HostRuntime) -> Result<(), Fail> {
-    check(&rt, &IN_FLOW)
-}

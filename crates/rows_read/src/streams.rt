@@ -1,8 +1,7 @@
 //! Documents, their marks and directives.
-use crate::rows::{Row, check};
-use std::test::Fail;
+use crate::rows::Row;
 
-static DOCUMENTS: [Row; 10] = [
+pub const DOCUMENTS: [Row; 10] = [
     Row {
         input: "a\n...\nb\n",
         answer: "|+DOC|=VAL :a|-DOC ...|+DOC|=VAL :b|-DOC",
@@ -45,12 +44,7 @@ static DOCUMENTS: [Row; 10] = [
     },
 ];
 
-#[test]
-fn documents(rt: HostRuntime) -> Result<(), Fail> {
-    check(&rt, &DOCUMENTS)
-}
-
-static DIRECTIVES: [Row; 12] = [
+pub const DIRECTIVES: [Row; 12] = [
     Row {
         input: "%YAML 1.2\n---\na",
         answer: "|+DOC ---|=VAL :a|-DOC",
@@ -100,8 +94,3 @@ static DIRECTIVES: [Row; 12] = [
         answer: "4 Syntax at byte 4",
     },
 ];
-
-#[test]
-fn directives(rt: HostRuntime) -> Result<(), Fail> {
-    check(&rt, &DIRECTIVES)
-}

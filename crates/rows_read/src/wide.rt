@@ -1,8 +1,7 @@
 //! `?` keys and empty keys in flow collections.
-use crate::rows::{Row, check};
-use std::test::Fail;
+use crate::rows::Row;
 
-static WIDE: [Row; 13] = [
+pub const WIDE: [Row; 13] = [
     Row {
         input: "{? a : b, : d}",
         answer: "|+DOC|+MAP {}|=VAL :a|=VAL :b|=VAL :|=VAL :d|-MAP|-DOC",
@@ -56,8 +55,3 @@ static WIDE: [Row; 13] = [
         answer: "4 Syntax at byte 3",
     },
 ];
-
-#[test]
-fn wide_profile(rt: HostRuntime) -> Result<(), Fail> {
-    check(&rt, &WIDE)
-}

@@ -6,6 +6,7 @@ use yaml_scalar::block::read_folded;
 use yaml_text::chars::Chars;
 use yaml_text::context::Ctx;
 
+/// Reads the rows of the profile.
 const READS_THE_ROWS_OF_THE_PROFILE: [Block; 8] = [
     ("|2-\n   a\n", 0, 0, " a", 9),
     (">+\n a\n\n", 0, -1, "a\n\n", 7),
@@ -17,14 +18,7 @@ const READS_THE_ROWS_OF_THE_PROFILE: [Block; 8] = [
     ("--- >\n a\n  b\n c\n", 4, -1, "a\n b\nc\n", 16),
 ];
 
-#[test]
-fn reads_the_rows_of_the_profile(rt: HostRuntime) -> Result<(), Fail> {
-    for row in &READS_THE_ROWS_OF_THE_PROFILE {
-        is_block(&rt, row)?;
-    }
-    Ok(())
-}
-
+/// Reads a header in either order.
 const READS_A_HEADER_IN_EITHER_ORDER: [Block; 9] = [
     ("|2-\n   a\n", 0, 0, " a", 9),
     ("|-2\n   a\n", 0, 0, " a", 9),
@@ -37,14 +31,7 @@ const READS_A_HEADER_IN_EITHER_ORDER: [Block; 9] = [
     ("|+ #", 0, 0, "", 4),
 ];
 
-#[test]
-fn reads_a_header_in_either_order(rt: HostRuntime) -> Result<(), Fail> {
-    for row in &READS_A_HEADER_IN_EITHER_ORDER {
-        is_block(&rt, row)?;
-    }
-    Ok(())
-}
-
+/// Finds the indentation.
 const FINDS_THE_INDENTATION: [Block; 13] = [
     ("|\n  a\n b\n", 0, 0, "a\n", 6),
     ("|\n\n  \n   a\n", 0, 0, "\n\na\n", 11),
@@ -61,14 +48,7 @@ const FINDS_THE_INDENTATION: [Block; 13] = [
     ("|\n   a\n", 0, 3, "", 2),
 ];
 
-#[test]
-fn finds_the_indentation(rt: HostRuntime) -> Result<(), Fail> {
-    for row in &FINDS_THE_INDENTATION {
-        is_block(&rt, row)?;
-    }
-    Ok(())
-}
-
+/// Ends before a mark.
 const ENDS_BEFORE_A_MARK: [Block; 6] = [
     ("|\n...\n", 0, -1, "", 2),
     ("|+\n\n--- a", 0, -1, "\n", 4),
@@ -78,14 +58,7 @@ const ENDS_BEFORE_A_MARK: [Block; 6] = [
     ("|-\n a\n---\n", 0, -1, "a", 6),
 ];
 
-#[test]
-fn ends_before_a_mark(rt: HostRuntime) -> Result<(), Fail> {
-    for row in &ENDS_BEFORE_A_MARK {
-        is_block(&rt, row)?;
-    }
-    Ok(())
-}
-
+/// Chomps.
 const CHOMPS: [Block; 18] = [
     ("|\n a\n", 0, 0, "a\n", 5),
     ("|-\n a\n", 0, 0, "a", 6),
@@ -107,14 +80,7 @@ const CHOMPS: [Block; 18] = [
     (">+\n\n\n", 0, 0, "\n\n", 5),
 ];
 
-#[test]
-fn chomps(rt: HostRuntime) -> Result<(), Fail> {
-    for row in &CHOMPS {
-        is_block(&rt, row)?;
-    }
-    Ok(())
-}
-
+/// Reads a last line without a break.
 const READS_A_LAST_LINE_WITHOUT_A_BREAK: [Block; 10] = [
     ("|\n a", 0, 0, "a", 4),
     ("|-\n a", 0, 0, "a", 5),
@@ -128,14 +94,7 @@ const READS_A_LAST_LINE_WITHOUT_A_BREAK: [Block; 10] = [
     (">\n a\n b", 0, 0, "a b", 7),
 ];
 
-#[test]
-fn reads_a_last_line_without_a_break(rt: HostRuntime) -> Result<(), Fail> {
-    for row in &READS_A_LAST_LINE_WITHOUT_A_BREAK {
-        is_block(&rt, row)?;
-    }
-    Ok(())
-}
-
+/// Reads lines of spaces.
 const READS_LINES_OF_SPACES: [Block; 4] = [
     ("|\n a\n   \n", 0, 0, "a\n  \n", 9),
     ("|1\n   \n", 0, 0, "  \n", 7),
@@ -143,14 +102,7 @@ const READS_LINES_OF_SPACES: [Block; 4] = [
     ("|\n a\n \n\n b\n", 0, 0, "a\n\n\nb\n", 11),
 ];
 
-#[test]
-fn reads_lines_of_spaces(rt: HostRuntime) -> Result<(), Fail> {
-    for row in &READS_LINES_OF_SPACES {
-        is_block(&rt, row)?;
-    }
-    Ok(())
-}
-
+/// Folds lines.
 const FOLDS_LINES: [Block; 9] = [
     (">\n a\n b\n", 0, 0, "a b\n", 8),
     (">\n a\n\n b\n", 0, 0, "a\nb\n", 9),
@@ -163,14 +115,7 @@ const FOLDS_LINES: [Block; 9] = [
     (">\n a \n b\t\n c\n", 0, 0, "a  b\t c\n", 13),
 ];
 
-#[test]
-fn folds_lines(rt: HostRuntime) -> Result<(), Fail> {
-    for row in &FOLDS_LINES {
-        is_block(&rt, row)?;
-    }
-    Ok(())
-}
-
+/// Reads each break as one line feed.
 const READS_EACH_BREAK_AS_ONE_LINE_FEED: [Block; 5] = [
     ("|\r\n a\r\n b\r\n", 0, 0, "a\nb\n", 11),
     ("|\r a\r\r b", 0, 0, "a\n\nb", 8),
@@ -179,14 +124,7 @@ const READS_EACH_BREAK_AS_ONE_LINE_FEED: [Block; 5] = [
     ("|\n \u{E9}\u{85}\n", 0, 0, "\u{E9}\u{85}\n", 8),
 ];
 
-#[test]
-fn reads_each_break_as_one_line_feed(rt: HostRuntime) -> Result<(), Fail> {
-    for row in &READS_EACH_BREAK_AS_ONE_LINE_FEED {
-        is_block(&rt, row)?;
-    }
-    Ok(())
-}
-
+/// Reads comment lines after it.
 const READS_COMMENT_LINES_AFTER_IT: [Block; 8] = [
     ("|\n a\n# c\n  # d\n\n b: c", 0, 0, "a\n", 16),
     ("|\n a\n # c\n", 0, 0, "a\n# c\n", 10),
@@ -198,10 +136,26 @@ const READS_COMMENT_LINES_AFTER_IT: [Block; 8] = [
     ("|\n# c\n a\n", 0, 0, "", 6),
 ];
 
+/// All that are read.
+const TABLES: [&[Block]; 10] = [
+    &READS_THE_ROWS_OF_THE_PROFILE,
+    &READS_A_HEADER_IN_EITHER_ORDER,
+    &FINDS_THE_INDENTATION,
+    &ENDS_BEFORE_A_MARK,
+    &CHOMPS,
+    &READS_A_LAST_LINE_WITHOUT_A_BREAK,
+    &READS_LINES_OF_SPACES,
+    &FOLDS_LINES,
+    &READS_EACH_BREAK_AS_ONE_LINE_FEED,
+    &READS_COMMENT_LINES_AFTER_IT,
+];
+
 #[test]
-fn reads_comment_lines_after_it(rt: HostRuntime) -> Result<(), Fail> {
-    for row in &READS_COMMENT_LINES_AFTER_IT {
-        is_block(&rt, row)?;
+fn block_scalars_are_read(rt: HostRuntime) -> Result<(), Fail> {
+    for table in &TABLES {
+        for row in *table {
+            is_block(&rt, row)?;
+        }
     }
     Ok(())
 }

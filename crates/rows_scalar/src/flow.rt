@@ -5,6 +5,7 @@ use std::borrow::CowStr;
 use std::test::Fail;
 use yaml_text::context::Ctx;
 
+/// Plain scalars end as far as they can.
 const PLAIN: [Flow; 23] = [
     ("a b #c", 0, 0, Ctx::FlowOut, "a b", 3),
     ("a\nb", 0, 0, Ctx::FlowOut, "a b", 3),
@@ -31,6 +32,7 @@ const PLAIN: [Flow; 23] = [
     ("é\n--- 'b' ---", 0, 0, Ctx::FlowOut, "é", 2),
 ];
 
+/// Single quoted scalars end at a lone quote.
 const SINGLE: [Flow; 11] = [
     ("'a b' c", 0, 1, Ctx::FlowOut, "a b", 5),
     ("'it''s'", 0, 1, Ctx::FlowOut, "it's", 7),
@@ -45,6 +47,7 @@ const SINGLE: [Flow; 11] = [
     ("é\n--- 'b' ---", 7, 0, Ctx::FlowOut, "b", 10),
 ];
 
+/// Double quoted scalars have escapes and escaped breaks.
 const DOUBLE: [Flow; 14] = [
     ("\"a\\\n  b\"", 0, 0, Ctx::FlowOut, "ab", 8),
     (
@@ -90,30 +93,24 @@ const DOUBLE: [Flow; 14] = [
     ("\"a\n --- b\"", 0, 1, Ctx::FlowOut, "a --- b", 10),
 ];
 
+/// All that are read, with their calls.
+const READ: [(Call, &[Flow]); 3] = [
+    (Call::Plain, &PLAIN),
+    (Call::Single, &SINGLE),
+    (Call::Double, &DOUBLE),
+];
+
 #[test]
-fn plain_scalars_end_as_far_as_they_can(rt: HostRuntime) -> Result<(), Fail> {
-    for row in &PLAIN {
-        is_read(&rt, Call::Plain, row)?;
+fn flow_scalars_are_read(rt: HostRuntime) -> Result<(), Fail> {
+    for (call, table) in READ {
+        for row in table {
+            is_read(&rt, call, row)?;
+        }
     }
     Ok(())
 }
 
-#[test]
-fn single_quoted_scalars_end_at_a_lone_quote(rt: HostRuntime) -> Result<(), Fail> {
-    for row in &SINGLE {
-        is_read(&rt, Call::Single, row)?;
-    }
-    Ok(())
-}
-
-#[test]
-fn double_quoted_scalars_have_escapes_and_escaped_breaks(rt: HostRuntime) -> Result<(), Fail> {
-    for row in &DOUBLE {
-        is_read(&rt, Call::Double, row)?;
-    }
-    Ok(())
-}
-
+/// What begins no plain scalar is refused.
 /// What no plain scalar begins.
 const NO_PLAIN: [Refused; 10] = [
     ("", 0, 0, Ctx::FlowIn, "4 Syntax at byte 0"),
@@ -128,6 +125,7 @@ const NO_PLAIN: [Refused; 10] = [
     ("\u{FEFF}", 0, 0, Ctx::FlowIn, "4 Syntax at byte 3"),
 ];
 
+/// Single quoted scalars are refused where they break off.
 /// The last breaks in a key.
 const NO_SINGLE: [Refused; 9] = [
     ("'a", 0, 1, Ctx::FlowOut, "4 Syntax at byte 2"),
@@ -141,6 +139,7 @@ const NO_SINGLE: [Refused; 9] = [
     ("'a \nb'", 0, 0, Ctx::FlowKey, "4 Syntax at byte 3"),
 ];
 
+/// Double quoted scalars are refused where they break off.
 /// The last two break in a key.
 const NO_DOUBLE: [Refused; 15] = [
     ("\"abc", 0, 1, Ctx::FlowOut, "4 Syntax at byte 4"),
@@ -166,6 +165,7 @@ const NO_DOUBLE: [Refused; 15] = [
     ("\"a \\\nb\"", 0, 0, Ctx::FlowKey, "4 Syntax at byte 4"),
 ];
 
+/// Escapes of no character are refused.
 /// Escapes of surrogates and of numbers past the last character.
 const NO_CHARACTER: [Refused; 4] = [
     (
@@ -192,34 +192,20 @@ const NO_CHARACTER: [Refused; 4] = [
     ),
 ];
 
-#[test]
-fn what_begins_no_plain_scalar_is_refused(rt: HostRuntime) -> Result<(), Fail> {
-    for row in &NO_PLAIN {
-        is_refused(&rt, Call::Plain, row)?;
-    }
-    Ok(())
-}
+/// All that are refused, with their calls.
+const REFUSED: [(Call, &[Refused]); 4] = [
+    (Call::Plain, &NO_PLAIN),
+    (Call::Single, &NO_SINGLE),
+    (Call::Double, &NO_DOUBLE),
+    (Call::Double, &NO_CHARACTER),
+];
 
 #[test]
-fn single_quoted_scalars_are_refused_where_they_break_off(rt: HostRuntime) -> Result<(), Fail> {
-    for row in &NO_SINGLE {
-        is_refused(&rt, Call::Single, row)?;
-    }
-    Ok(())
-}
-
-#[test]
-fn double_quoted_scalars_are_refused_where_they_break_off(rt: HostRuntime) -> Result<(), Fail> {
-    for row in &NO_DOUBLE {
-        is_refused(&rt, Call::Double, row)?;
-    }
-    Ok(())
-}
-
-#[test]
-fn escapes_of_no_character_are_refused(rt: HostRuntime) -> Result<(), Fail> {
-    for row in &NO_CHARACTER {
-        is_refused(&rt, Call::Double, row)?;
+fn flow_scalars_are_refused(rt: HostRuntime) -> Result<(), Fail> {
+    for (call, table) in REFUSED {
+        for row in table {
+            is_refused(&rt, call, row)?;
+        }
     }
     Ok(())
 }

@@ -1,8 +1,7 @@
 //! Vectors: block mappings (8.2.2).
-use crate::rows::{Node, is_node};
-use std::test::Fail;
+use crate::rows::Node;
 
-const ROWS: [Node; 19] = [
+pub const ROWS: [Node; 19] = [
     Node {
         shows: "one entry",
         input: "a: b\n",
@@ -118,11 +117,3 @@ const ROWS: [Node; 19] = [
         canonical: "--- {\"a\" : [{\"b\" : \"c\", \"d\" : \"e\"}, \"f\"], \"g\" : [[\"h\"]]}\n",
     },
 ];
-
-#[test]
-fn each_is_read(rt: HostRuntime) -> Result<(), Fail> {
-    for row in &ROWS {
-        is_node(&rt, row)?;
-    }
-    Ok(())
-}

@@ -1,8 +1,7 @@
 //! Vectors: block scalars (8.1).
-use crate::rows::{Node, is_node};
-use std::test::Fail;
+use crate::rows::Node;
 
-const ROWS: [Node; 16] = [
+pub const ROWS: [Node; 16] = [
     Node {
         shows: "literal, clip",
         input: "k: |\n  a\n  b\n\nl: c\n",
@@ -100,11 +99,3 @@ const ROWS: [Node; 16] = [
         canonical: "--- {\"k\" : \" a\\nb\", \"l\" : \"c\"}\n",
     },
 ];
-
-#[test]
-fn each_is_read(rt: HostRuntime) -> Result<(), Fail> {
-    for row in &ROWS {
-        is_node(&rt, row)?;
-    }
-    Ok(())
-}

@@ -1,8 +1,7 @@
 //! Vectors: block scalars (8.1).
-use crate::rows::{Node, is_node};
-use std::test::Fail;
+use crate::rows::Node;
 
-const ROWS: [Node; 16] = [
+pub const ROWS: [Node; 16] = [
     Node {
         shows: "folded, strip, the digit last",
         input: "k: >-2\n   a\n\n",
@@ -100,11 +99,3 @@ const ROWS: [Node; 16] = [
         canonical: "--- {\"x\" : \"\", \"y\" : \"b\"}\n",
     },
 ];
-
-#[test]
-fn each_is_read(rt: HostRuntime) -> Result<(), Fail> {
-    for row in &ROWS {
-        is_node(&rt, row)?;
-    }
-    Ok(())
-}

@@ -1,8 +1,7 @@
 //! Vectors: block scalars (8.1).
-use crate::rows::{Node, is_node};
-use std::test::Fail;
+use crate::rows::Node;
 
-const ROWS: [Node; 15] = [
+pub const ROWS: [Node; 15] = [
     Node {
         shows: "what looks like a comment is content",
         input: "|\n # a\n b\n",
@@ -94,11 +93,3 @@ const ROWS: [Node; 15] = [
         canonical: "--- {\"k\" : \"\\n\\n\"}\n",
     },
 ];
-
-#[test]
-fn each_is_read(rt: HostRuntime) -> Result<(), Fail> {
-    for row in &ROWS {
-        is_node(&rt, row)?;
-    }
-    Ok(())
-}

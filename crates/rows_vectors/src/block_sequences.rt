@@ -1,8 +1,7 @@
 //! Vectors: block sequences (8.2.1).
-use crate::rows::{Node, is_node};
-use std::test::Fail;
+use crate::rows::Node;
 
-const ROWS: [Node; 15] = [
+pub const ROWS: [Node; 15] = [
     Node {
         shows: "one item",
         input: "- a\n",
@@ -94,11 +93,3 @@ const ROWS: [Node; 15] = [
         canonical: "--- [[\"a\", \"b\"]]\n",
     },
 ];
-
-#[test]
-fn each_is_read(rt: HostRuntime) -> Result<(), Fail> {
-    for row in &ROWS {
-        is_node(&rt, row)?;
-    }
-    Ok(())
-}

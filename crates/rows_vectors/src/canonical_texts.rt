@@ -1,8 +1,7 @@
 //! Vectors: nodes that are equal, and the spelling of tags and numbers.
-use crate::rows::{Node, is_node};
-use std::test::Fail;
+use crate::rows::Node;
 
-const ROWS: [Node; 19] = [
+pub const ROWS: [Node; 19] = [
     Node {
         shows: "equal collections are written once",
         input: "- &x [p, q]\n- [p, q]\n- *x\n",
@@ -118,11 +117,3 @@ const ROWS: [Node; 19] = [
         canonical: "--- [!!float \"1.5\", !!float \"1e-3\", !!float \"1.2e+2\", !!float \"-1e-3\", !!float \"1e+2\", !!float \"0\"]\n",
     },
 ];
-
-#[test]
-fn each_is_read(rt: HostRuntime) -> Result<(), Fail> {
-    for row in &ROWS {
-        is_node(&rt, row)?;
-    }
-    Ok(())
-}

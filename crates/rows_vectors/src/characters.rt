@@ -1,8 +1,7 @@
 //! Vectors: characters (chapter 5).
-use crate::rows::{Node, is_node};
-use std::test::Fail;
+use crate::rows::Node;
 
-const ROWS: [Node; 12] = [
+pub const ROWS: [Node; 12] = [
     Node {
         shows: "a byte order mark at the start",
         input: "\u{FEFF}a",
@@ -76,11 +75,3 @@ const ROWS: [Node; 12] = [
         canonical: "--- \"a,[]{}&*!|>'\\\"%@`\"\n",
     },
 ];
-
-#[test]
-fn each_is_read(rt: HostRuntime) -> Result<(), Fail> {
-    for row in &ROWS {
-        is_node(&rt, row)?;
-    }
-    Ok(())
-}

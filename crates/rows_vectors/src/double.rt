@@ -1,8 +1,7 @@
 //! Vectors: double-quoted scalars (7.3.1).
-use crate::rows::{Node, is_node};
-use std::test::Fail;
+use crate::rows::Node;
 
-const ROWS: [Node; 18] = [
+pub const ROWS: [Node; 18] = [
     Node {
         shows: "nothing",
         input: "\"\"",
@@ -112,11 +111,3 @@ const ROWS: [Node; 18] = [
         canonical: "--- \"a --- b\"\n",
     },
 ];
-
-#[test]
-fn each_is_read(rt: HostRuntime) -> Result<(), Fail> {
-    for row in &ROWS {
-        is_node(&rt, row)?;
-    }
-    Ok(())
-}

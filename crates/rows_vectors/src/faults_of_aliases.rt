@@ -1,8 +1,7 @@
 //! Vectors: aliases that stand for no node, or for an open one. The events are read; the canonical text is refused.
-use crate::rows::{Meaningless, is_meaningless};
-use std::test::Fail;
+use crate::rows::Meaningless;
 
-const ROWS: [Meaningless; 7] = [
+pub const ROWS: [Meaningless; 7] = [
     Meaningless {
         input: "[*x]",
         events: "+STR\n+DOC\n+SEQ []\n=ALI *x\n-SEQ\n-DOC\n-STR\n",
@@ -39,11 +38,3 @@ const ROWS: [Meaningless; 7] = [
         message: "13 CyclicAlias at event 6",
     },
 ];
-
-#[test]
-fn each_is_read_and_refused(rt: HostRuntime) -> Result<(), Fail> {
-    for row in &ROWS {
-        is_meaningless(&rt, row)?;
-    }
-    Ok(())
-}

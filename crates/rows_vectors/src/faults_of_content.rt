@@ -1,8 +1,7 @@
 //! Vectors: tags of another kind, content that no pattern matches, and numbers out of range. The events are read; the canonical text is refused.
-use crate::rows::{Meaningless, is_meaningless};
-use std::test::Fail;
+use crate::rows::Meaningless;
 
-const ROWS: [Meaningless; 23] = [
+pub const ROWS: [Meaningless; 23] = [
     Meaningless {
         input: "!!seq x",
         events: "+STR\n+DOC\n=VAL <tag:yaml.org,2002:seq> :x\n-DOC\n-STR\n",
@@ -119,11 +118,3 @@ const ROWS: [Meaningless; 23] = [
         message: "17 FloatRange at event 2",
     },
 ];
-
-#[test]
-fn each_is_read_and_refused(rt: HostRuntime) -> Result<(), Fail> {
-    for row in &ROWS {
-        is_meaningless(&rt, row)?;
-    }
-    Ok(())
-}

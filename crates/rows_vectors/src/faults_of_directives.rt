@@ -1,8 +1,7 @@
 //! Vectors: directives that are malformed, repeated or of another version.
-use crate::rows::{Refused, is_refused};
-use std::test::Fail;
+use crate::rows::Refused;
 
-const ROWS: [Refused; 10] = [
+pub const ROWS: [Refused; 10] = [
     Refused {
         input: "%YAML 1.3\n---\n",
         message: "9 BadDirective at byte 0",
@@ -44,11 +43,3 @@ const ROWS: [Refused; 10] = [
         message: "9 BadDirective at byte 6",
     },
 ];
-
-#[test]
-fn each_is_refused(rt: HostRuntime) -> Result<(), Fail> {
-    for row in &ROWS {
-        is_refused(&rt, row)?;
-    }
-    Ok(())
-}

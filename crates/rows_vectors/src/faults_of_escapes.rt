@@ -1,8 +1,7 @@
 //! Vectors: escapes that there are not.
-use crate::rows::{Refused, is_refused};
-use std::test::Fail;
+use crate::rows::Refused;
 
-const ROWS: [Refused; 7] = [
+pub const ROWS: [Refused; 7] = [
     Refused {
         input: "\"\\q\"",
         message: "8 BadEscape at byte 1",
@@ -32,11 +31,3 @@ const ROWS: [Refused; 7] = [
         message: "8 BadEscape at byte 4",
     },
 ];
-
-#[test]
-fn each_is_refused(rt: HostRuntime) -> Result<(), Fail> {
-    for row in &ROWS {
-        is_refused(&rt, row)?;
-    }
-    Ok(())
-}

@@ -1,8 +1,7 @@
 //! Vectors: equal keys. The events are read; the canonical text is refused.
-use crate::rows::{Meaningless, is_meaningless};
-use std::test::Fail;
+use crate::rows::Meaningless;
 
-const ROWS: [Meaningless; 14] = [
+pub const ROWS: [Meaningless; 14] = [
     Meaningless {
         input: "{1: a, 0x1: b}",
         events: "+STR\n+DOC\n+MAP {}\n=VAL :1\n=VAL :a\n=VAL :0x1\n=VAL :b\n-MAP\n-DOC\n-STR\n",
@@ -74,11 +73,3 @@ const ROWS: [Meaningless; 14] = [
         message: "19 EqualKeys in node 4, entries 0 and 1",
     },
 ];
-
-#[test]
-fn each_is_read_and_refused(rt: HostRuntime) -> Result<(), Fail> {
-    for row in &ROWS {
-        is_meaningless(&rt, row)?;
-    }
-    Ok(())
-}

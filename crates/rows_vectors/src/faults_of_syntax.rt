@@ -1,8 +1,7 @@
 //! Vectors: what the productions do not go on with.
-use crate::rows::{Refused, is_refused};
-use std::test::Fail;
+use crate::rows::Refused;
 
-const ROWS: [Refused; 33] = [
+pub const ROWS: [Refused; 33] = [
     Refused {
         input: "a: b: c",
         message: "4 Syntax at byte 4",
@@ -136,11 +135,3 @@ const ROWS: [Refused; 33] = [
         message: "4 Syntax at byte 1",
     },
 ];
-
-#[test]
-fn each_is_refused(rt: HostRuntime) -> Result<(), Fail> {
-    for row in &ROWS {
-        is_refused(&rt, row)?;
-    }
-    Ok(())
-}

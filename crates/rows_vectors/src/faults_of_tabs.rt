@@ -1,8 +1,7 @@
 //! Vectors: tabs where spaces stand.
-use crate::rows::{Refused, is_refused};
-use std::test::Fail;
+use crate::rows::Refused;
 
-const ROWS: [Refused; 12] = [
+pub const ROWS: [Refused; 12] = [
     Refused {
         input: "a:\tb",
         message: "5 Tab at byte 2",
@@ -52,11 +51,3 @@ const ROWS: [Refused; 12] = [
         message: "5 Tab at byte 3",
     },
 ];
-
-#[test]
-fn each_is_refused(rt: HostRuntime) -> Result<(), Fail> {
-    for row in &ROWS {
-        is_refused(&rt, row)?;
-    }
-    Ok(())
-}

@@ -1,8 +1,8 @@
 //! Vectors: characters that no text holds.
-use crate::rows::{Refused, answers, is_refused};
+use crate::rows::{Refused, answers};
 use std::test::Fail;
 
-const ROWS: [Refused; 5] = [
+pub const ROWS: [Refused; 5] = [
     Refused {
         input: "a\u{0}",
         message: "3 NotPrintable at byte 1",
@@ -24,14 +24,6 @@ const ROWS: [Refused; 5] = [
         message: "3 NotPrintable at byte 2",
     },
 ];
-
-#[test]
-fn each_is_refused(rt: HostRuntime) -> Result<(), Fail> {
-    for row in &ROWS {
-        is_refused(&rt, row)?;
-    }
-    Ok(())
-}
 
 /// Bytes that are no UTF-8, or that no text may have, and the message of the fault.
 const BYTES: [(&[u8], &str); 8] = [

@@ -1,8 +1,7 @@
 //! Vectors: flow mappings (7.4.2).
-use crate::rows::{Node, is_node};
-use std::test::Fail;
+use crate::rows::Node;
 
-const ROWS: [Node; 14] = [
+pub const ROWS: [Node; 14] = [
     Node {
         shows: "nothing",
         input: "{}",
@@ -88,11 +87,3 @@ const ROWS: [Node; 14] = [
         canonical: "--- {!<!s> \"b\" : !<!t> \"d\"}\n",
     },
 ];
-
-#[test]
-fn each_is_read(rt: HostRuntime) -> Result<(), Fail> {
-    for row in &ROWS {
-        is_node(&rt, row)?;
-    }
-    Ok(())
-}

@@ -1,8 +1,7 @@
 //! Vectors: flow mappings (7.4.2).
-use crate::rows::{Node, is_node};
-use std::test::Fail;
+use crate::rows::Node;
 
-const ROWS: [Node; 13] = [
+pub const ROWS: [Node; 13] = [
     Node {
         shows: "an explicit entry",
         input: "{? a : b}",
@@ -82,11 +81,3 @@ const ROWS: [Node; 13] = [
         canonical: "--- {\"b\" : !!int \"2\", [\"a\"] : !!int \"1\"}\n",
     },
 ];
-
-#[test]
-fn each_is_read(rt: HostRuntime) -> Result<(), Fail> {
-    for row in &ROWS {
-        is_node(&rt, row)?;
-    }
-    Ok(())
-}

@@ -1,8 +1,7 @@
 //! Vectors: flow sequences and single pairs (7.4.1).
-use crate::rows::{Node, is_node};
-use std::test::Fail;
+use crate::rows::Node;
 
-const ROWS: [Node; 22] = [
+pub const ROWS: [Node; 22] = [
     Node {
         shows: "nothing",
         input: "[]",
@@ -136,11 +135,3 @@ const ROWS: [Node; 22] = [
         canonical: "--- {\"k\" : [\"a\", \"b\"]}\n",
     },
 ];
-
-#[test]
-fn each_is_read(rt: HostRuntime) -> Result<(), Fail> {
-    for row in &ROWS {
-        is_node(&rt, row)?;
-    }
-    Ok(())
-}

@@ -43,7 +43,11 @@ mod flow_mappings_2;
 #[cfg(test)]
 mod flow_sequences;
 #[cfg(test)]
+mod fronts;
+#[cfg(test)]
 mod limits;
+#[cfg(test)]
+mod many;
 #[cfg(test)]
 mod plain_1;
 #[cfg(test)]
@@ -63,4 +67,4 @@ mod streams_1;
 #[cfg(test)]
 mod streams_2;
 #[cfg(test)]
-mod thousands;
+mod tables;

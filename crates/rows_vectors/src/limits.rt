@@ -6,7 +6,7 @@ use std::test::Fail;
 
 /// A text of a start, a piece so many times, a middle, another piece as often, and an end; and the message of its fault, or
 /// none.
-struct Built {
+pub struct Built {
     start: &'static str,
     piece: &'static str,
     times: usize,
@@ -23,7 +23,7 @@ fn repeat(text: &mut String, times: usize, piece: &str) -> Result<(), AllocError
     Ok(())
 }
 
-fn build(alloc: Global, row: &Built) -> Result<String, AllocError> {
+pub fn build(alloc: Global, row: &Built) -> Result<String, AllocError> {
     let mut text = String::new(alloc);
     text.push_str(row.start)?;
     repeat(&mut text, row.times, row.piece)?;
@@ -39,7 +39,7 @@ fn is_built<T: Abort + AllocGlobal>(rt: &T, row: &Built) -> Result<(), Fail> {
     is_message(rt, text.as_str(), row.message)
 }
 
-const KEYS: [Built; 7] = [
+pub const KEYS: [Built; 7] = [
     Built {
         start: "",
         piece: "k",
@@ -113,7 +113,7 @@ fn keys_have_1024_characters_at_most(rt: HostRuntime) -> Result<(), Fail> {
     Ok(())
 }
 
-const DEPTHS: [Built; 9] = [
+pub const DEPTHS: [Built; 9] = [
     Built {
         start: "",
         piece: "[",
@@ -205,7 +205,7 @@ fn collections_are_1024_deep_at_most(rt: HostRuntime) -> Result<(), Fail> {
     Ok(())
 }
 
-const HEIGHTS: [Built; 4] = [
+pub const HEIGHTS: [Built; 4] = [
     Built {
         start: "",
         piece: "[",

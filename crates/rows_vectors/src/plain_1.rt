@@ -1,8 +1,7 @@
 //! Vectors: plain scalars (7.3.3).
-use crate::rows::{Node, is_node};
-use std::test::Fail;
+use crate::rows::Node;
 
-const ROWS: [Node; 15] = [
+pub const ROWS: [Node; 15] = [
     Node {
         shows: "one word",
         input: "a",
@@ -94,11 +93,3 @@ const ROWS: [Node; 15] = [
         canonical: "--- [\"-a\", \"?b\", \":c\"]\n",
     },
 ];
-
-#[test]
-fn each_is_read(rt: HostRuntime) -> Result<(), Fail> {
-    for row in &ROWS {
-        is_node(&rt, row)?;
-    }
-    Ok(())
-}

@@ -1,8 +1,7 @@
 //! Vectors: plain scalars (7.3.3).
-use crate::rows::{Node, is_node};
-use std::test::Fail;
+use crate::rows::Node;
 
-const ROWS: [Node; 14] = [
+pub const ROWS: [Node; 14] = [
     Node {
         shows: "quotes inside",
         input: "it's \"a\"",
@@ -88,11 +87,3 @@ const ROWS: [Node; 14] = [
         canonical: "--- [!!float \"1e+1000000\", !!float \"1e+1000000\", !!float \"1e+1000000\", !!float \"1e-1000000\"]\n",
     },
 ];
-
-#[test]
-fn each_is_read(rt: HostRuntime) -> Result<(), Fail> {
-    for row in &ROWS {
-        is_node(&rt, row)?;
-    }
-    Ok(())
-}

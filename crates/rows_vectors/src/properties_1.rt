@@ -1,8 +1,7 @@
 //! Vectors: tags, anchors and aliases (6.8.2, 6.9, 7.1).
-use crate::rows::{Node, is_node};
-use std::test::Fail;
+use crate::rows::Node;
 
-const ROWS: [Node; 16] = [
+pub const ROWS: [Node; 16] = [
     Node {
         shows: "an anchor",
         input: "&a b",
@@ -100,11 +99,3 @@ const ROWS: [Node; 16] = [
         canonical: "--- !<!t> \"b\"\n",
     },
 ];
-
-#[test]
-fn each_is_read(rt: HostRuntime) -> Result<(), Fail> {
-    for row in &ROWS {
-        is_node(&rt, row)?;
-    }
-    Ok(())
-}

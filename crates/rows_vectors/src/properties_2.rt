@@ -1,8 +1,7 @@
 //! Vectors: tags, anchors and aliases (6.8.2, 6.9, 7.1).
-use crate::rows::{Node, is_node};
-use std::test::Fail;
+use crate::rows::Node;
 
-const ROWS: [Node; 15] = [
+pub const ROWS: [Node; 15] = [
     Node {
         shows: "properties of a block mapping",
         input: "!!map\n&a\nb: c\n",
@@ -94,11 +93,3 @@ const ROWS: [Node; 15] = [
         canonical: "--- [!!null \"null\", \"\", {!!null \"null\" : !!null \"null\"}]\n",
     },
 ];
-
-#[test]
-fn each_is_read(rt: HostRuntime) -> Result<(), Fail> {
-    for row in &ROWS {
-        is_node(&rt, row)?;
-    }
-    Ok(())
-}

@@ -1,8 +1,7 @@
 //! Vectors: separation and comments (chapter 6).
-use crate::rows::{Node, is_node};
-use std::test::Fail;
+use crate::rows::Node;
 
-const ROWS: [Node; 17] = [
+pub const ROWS: [Node; 17] = [
     Node {
         shows: "a comment after a node",
         input: "a # c\n",
@@ -106,11 +105,3 @@ const ROWS: [Node; 17] = [
         canonical: "--- [\"a b\"]\n",
     },
 ];
-
-#[test]
-fn each_is_read(rt: HostRuntime) -> Result<(), Fail> {
-    for row in &ROWS {
-        is_node(&rt, row)?;
-    }
-    Ok(())
-}

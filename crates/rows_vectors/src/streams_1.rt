@@ -1,8 +1,7 @@
 //! Vectors: streams, documents and directives (6.8, chapter 9).
-use crate::rows::{Stream, is_stream};
-use std::test::Fail;
+use crate::rows::Stream;
 
-const ROWS: [Stream; 20] = [
+pub const ROWS: [Stream; 20] = [
     Stream {
         shows: "nothing",
         input: "",
@@ -124,11 +123,3 @@ const ROWS: [Stream; 20] = [
         canonical: "--- \"a\\n\"\n--- \"b\\n\"\n--- \"c\"\n",
     },
 ];
-
-#[test]
-fn each_is_read(rt: HostRuntime) -> Result<(), Fail> {
-    for row in &ROWS {
-        is_stream(&rt, row)?;
-    }
-    Ok(())
-}

@@ -1,8 +1,7 @@
 //! Vectors: streams, documents and directives (6.8, chapter 9).
-use crate::rows::{Stream, is_stream};
-use std::test::Fail;
+use crate::rows::Stream;
 
-const ROWS: [Stream; 19] = [
+pub const ROWS: [Stream; 19] = [
     Stream {
         shows: "a quoted scalar on the line of a mark",
         input: "--- \"a\"\n...\n",
@@ -118,11 +117,3 @@ const ROWS: [Stream; 19] = [
         canonical: "--- \"a\"\n--- \"b\"\n",
     },
 ];
-
-#[test]
-fn each_is_read(rt: HostRuntime) -> Result<(), Fail> {
-    for row in &ROWS {
-        is_stream(&rt, row)?;
-    }
-    Ok(())
-}

@@ -1,2 +1,1 @@
-mod SameEvents
 mod Answering

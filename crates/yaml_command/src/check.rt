@@ -12,7 +12,7 @@ use std::alloc::Global;
 use std::io::{Read, Write};
 use std::str;
 use yaml_canon::gather;
-use yaml_events::read_event_text;
+use yaml_events::is_event_text;
 use yaml_read::read_events;
 use yaml_text::chars::Chars;
 use yaml_text::counted::Counted;
@@ -52,7 +52,8 @@ pub fn gather_lines<'a, R: Read>(
     }
 }
 
-/// Whether an input's events are those of an event text. The input is judged first.
+/// Whether an input's events are those of an event text. The input is judged first, and the lines are
+/// held against its events as they are read.
 fn has_events<'a>(alloc: Global, input: &[u8], lines: &[u8]) -> Result<bool, Refusal<'a>>
     ensures ok { IfOk result (HasEvents input.now lines.now) }
     ensures err { IfErr result (MatchRefuses input.now lines.now) }
@@ -63,8 +64,8 @@ fn has_events<'a>(alloc: Global, input: &[u8], lines: &[u8]) -> Result<bool, Ref
         Ok(text) => text,
         Err(place) => return Err(Refusal::EventText(Fault::NotUtf8(place.valid_up_to()))),
     };
-    let wanted = read_event_text(alloc, text)?;
-    Ok(events == wanted)
+    let has_events = is_event_text(alloc, text, events.as_slice())?;
+    Ok(has_events)
 }
 
 /// The line that tells the answer.

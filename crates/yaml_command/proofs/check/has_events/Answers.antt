@@ -1,11 +1,11 @@
-use Rattle.std.proofs.Common.{◌∙◌, sym, subst, map, rules}
+use Rattle.std.proofs.Common.{◌≡◌, ◌∙◌, true, sym, subst, map, rules}
+use Rattle.std.specs.Prelude.{◌↔◌}
 use Rattle.std.specs.Str.{IsValidUpTo}
 use Rattle.yaml_text.specs.EventModel.{event_of}
 use Rattle.yaml_text.specs.EventText.{EventText}
 use Rattle.yaml_text.specs.Source.{text_of}
 use Rattle.yaml_text.specs.grammar.Reading.{Reads}
 use Rattle.yaml_command.specs.Judged.{IsReadable}
-use Rattle.yaml_command.proofs.SameEvents.{all_same, same_all}
 use Rattle.yaml_event_text.proofs.Reading.{unread}
 use Rattle.yaml_command.proofs.check.has_events.Goals as goal
 
@@ -21,20 +21,22 @@ returns-in-Err-clause-err c =
     let n = c.in-Err.ensures.cases in
     (r, (n.0, subst (IsValidUpTo c.args.lines.now) (sym c.valid_up_to.ensures) n.1))
 
-pub returns-in_err-wanted-clause-err : goal.returns-in_err-wanted-clause-err
+pub returns-in_err-has_events-clause-err : goal.returns-in_err-has_events-clause-err
 unfolding Reads
-returns-in_err-wanted-clause-err c =
+returns-in_err-has_events-clause-err c =
     let r : IsReadable c.args.input.now = (map event_of c.in_ok-events.events.items, (text_of c.in_ok-source.source, c.in_ok-source.ensures.read, c.in_ok-events.ensures.ok)) in
     let n = c.in-Ok.ensures.cases in
-    let e = c.in_err-wanted.ensures.refused in
+    let e = c.in_err-has_events.ensures.refused in
     search (rules, r, n, e)
 
 pub returns-clause-ok : goal.returns-clause-ok
 unfolding Reads
-returns-clause-ok c = record {
-  events = map event_of c.in_ok-events.events.items;
-  wanted = map event_of c.in_ok-wanted.wanted.items;
-  reads = (text_of c.in_ok-source.source, c.in_ok-source.ensures.read, c.in_ok-events.ensures.ok);
-  text = subst (λ z. EventText z (map event_of c.in_ok-wanted.wanted.items)) c.in-Ok.ensures.cases.0 c.in_ok-wanted.ensures.events;
-  tells = (λ q. all_same c.in_ok-events.events.items c.in_ok-wanted.wanted.items (sym c.eq.ensures ∙ q), λ q. c.eq.ensures ∙ same_all c.in_ok-events.events.items c.in_ok-wanted.wanted.items q);
-}
+returns-clause-ok c =
+    let t = c.in_ok-has_events.ensures.told in
+    record {
+      events = map event_of c.in_ok-events.events.items;
+      wanted = t.wanted;
+      reads = (text_of c.in_ok-source.source, c.in_ok-source.ensures.read, c.in_ok-events.ensures.ok);
+      text = subst (λ z. EventText z t.wanted) c.in-Ok.ensures.cases.0 t.is;
+      tells = subst (λ z. (c.in_ok-has_events.has_events ≡ true) ↔ (map event_of z ≡ t.wanted)) c.as_slice.ensures.value t.tells;
+    }

@@ -1,13 +1,13 @@
-//! Vectors: a thousand lines, items, entries, documents, comments, directives and handles. All of them are read, and none is
-//! refused for want of memory.
+//! Vectors: a hundred thousand lines, items, entries, documents, comments, directives and handles. All of them are read, and
+//! none is refused for want of memory.
 use crate::rows::{has_events, has_text};
 use std::alloc::{AllocError, Global};
 use std::fmt::Write;
 use std::process::Abort;
 use std::test::Fail;
 
-/// A start, a piece a thousand times, what stands between two of them, and an end. In the piece the numbers from 1000 on stand
-/// in the place of `@`.
+/// A start, a piece a hundred thousand times, what stands between two of them, and an end. In the piece the numbers from 100000
+/// on stand in the place of `@`.
 type Many = (&'static str, &'static str, &'static str, &'static str);
 
 const NONE: Many = ("", "", "", "");
@@ -35,8 +35,8 @@ fn put_piece(text: &mut String, piece: &str, number: usize) -> Result<(), AllocE
 fn put_many(text: &mut String, many: &Many) -> Result<(), AllocError> {
     let (start, piece, between, end) = many;
     text.push_str(start)?;
-    for number in 1_000..2_000 {
-        if number > 1_000 {
+    for number in 100_000..200_000 {
+        if number > 100_000 {
             text.push_str(between)?;
         }
         put_piece(text, piece, number)?;
@@ -58,10 +58,11 @@ fn is_read<T: Abort + AllocGlobal>(rt: &T, row: &Row) -> Result<(), Fail> {
     let input = build(alloc, &[&row.head, &row.rest])?;
     let events = build(alloc, &[&row.events])?;
     let canonical = build(alloc, &[&row.canonical])?;
-    has_events(rt, "a thousand", input.as_str(), events.as_str())?;
+    has_events(rt, "a hundred thousand", input.as_str(), events.as_str())?;
     has_text(rt, input.as_str(), canonical.as_str())
 }
 
+/// Lines of a plain scalar.
 const PLAIN: Row = Row {
     head: NONE,
     rest: ("", "a@", "\n", "\n"),
@@ -69,11 +70,7 @@ const PLAIN: Row = Row {
     canonical: ("--- \"", "a@", " ", "\"\n"),
 };
 
-#[test]
-fn lines_of_a_plain_scalar(rt: HostRuntime) -> Result<(), Fail> {
-    is_read(&rt, &PLAIN)
-}
-
+/// Lines of a single quoted scalar.
 const SINGLE: Row = Row {
     head: NONE,
     rest: ("'", "a@", "\n", "'\n"),
@@ -81,11 +78,7 @@ const SINGLE: Row = Row {
     canonical: ("--- \"", "a@", " ", "\"\n"),
 };
 
-#[test]
-fn lines_of_a_single_quoted_scalar(rt: HostRuntime) -> Result<(), Fail> {
-    is_read(&rt, &SINGLE)
-}
-
+/// Lines of a double quoted scalar.
 const DOUBLE: Row = Row {
     head: NONE,
     rest: ("\"", "a@", "\n", "\"\n"),
@@ -93,11 +86,7 @@ const DOUBLE: Row = Row {
     canonical: ("--- \"", "a@", " ", "\"\n"),
 };
 
-#[test]
-fn lines_of_a_double_quoted_scalar(rt: HostRuntime) -> Result<(), Fail> {
-    is_read(&rt, &DOUBLE)
-}
-
+/// Escapes of a double quoted scalar.
 const ESCAPES: Row = Row {
     head: NONE,
     rest: ("\"", "\\x41@\\n", "", "\"\n"),
@@ -105,11 +94,7 @@ const ESCAPES: Row = Row {
     canonical: ("--- \"", "A@\\n", "", "\"\n"),
 };
 
-#[test]
-fn escapes_of_a_double_quoted_scalar(rt: HostRuntime) -> Result<(), Fail> {
-    is_read(&rt, &ESCAPES)
-}
-
+/// Lines of a literal scalar.
 const LITERAL: Row = Row {
     head: NONE,
     rest: ("|\n", " a@\n", "", ""),
@@ -117,11 +102,7 @@ const LITERAL: Row = Row {
     canonical: ("--- \"", "a@\\n", "", "\"\n"),
 };
 
-#[test]
-fn lines_of_a_literal_scalar(rt: HostRuntime) -> Result<(), Fail> {
-    is_read(&rt, &LITERAL)
-}
-
+/// Lines of a folded scalar.
 const FOLDED: Row = Row {
     head: NONE,
     rest: (">\n", " a@\n", "", ""),
@@ -129,11 +110,7 @@ const FOLDED: Row = Row {
     canonical: ("--- \"", "a@", " ", "\\n\"\n"),
 };
 
-#[test]
-fn lines_of_a_folded_scalar(rt: HostRuntime) -> Result<(), Fail> {
-    is_read(&rt, &FOLDED)
-}
-
+/// Items of a block sequence.
 const ITEMS: Row = Row {
     head: NONE,
     rest: ("", "- a@\n", "", ""),
@@ -141,11 +118,7 @@ const ITEMS: Row = Row {
     canonical: ("--- [", "\"a@\"", ", ", "]\n"),
 };
 
-#[test]
-fn items_of_a_block_sequence(rt: HostRuntime) -> Result<(), Fail> {
-    is_read(&rt, &ITEMS)
-}
-
+/// Entries of a block mapping.
 const ENTRIES: Row = Row {
     head: NONE,
     rest: ("", "k@: v@\n", "", ""),
@@ -158,11 +131,7 @@ const ENTRIES: Row = Row {
     canonical: ("--- {", "\"k@\" : \"v@\"", ", ", "}\n"),
 };
 
-#[test]
-fn entries_of_a_block_mapping(rt: HostRuntime) -> Result<(), Fail> {
-    is_read(&rt, &ENTRIES)
-}
-
+/// Items of a flow sequence.
 const FLOW_ITEMS: Row = Row {
     head: NONE,
     rest: ("[", "a@", ", ", "]\n"),
@@ -175,11 +144,7 @@ const FLOW_ITEMS: Row = Row {
     canonical: ("--- [", "\"a@\"", ", ", "]\n"),
 };
 
-#[test]
-fn items_of_a_flow_sequence(rt: HostRuntime) -> Result<(), Fail> {
-    is_read(&rt, &FLOW_ITEMS)
-}
-
+/// Entries of a flow mapping.
 const FLOW_ENTRIES: Row = Row {
     head: NONE,
     rest: ("{", "k@: v@", ", ", "}\n"),
@@ -192,11 +157,7 @@ const FLOW_ENTRIES: Row = Row {
     canonical: ("--- {", "\"k@\" : \"v@\"", ", ", "}\n"),
 };
 
-#[test]
-fn entries_of_a_flow_mapping(rt: HostRuntime) -> Result<(), Fail> {
-    is_read(&rt, &FLOW_ENTRIES)
-}
-
+/// Anchors tags and aliases.
 const PROPERTIES: Row = Row {
     head: NONE,
     rest: ("", "- &n@ !t@ a@\n- *n@\n", "", ""),
@@ -209,11 +170,7 @@ const PROPERTIES: Row = Row {
     canonical: ("--- [", "!<!t@> \"a@\", !<!t@> \"a@\"", ", ", "]\n"),
 };
 
-#[test]
-fn anchors_tags_and_aliases(rt: HostRuntime) -> Result<(), Fail> {
-    is_read(&rt, &PROPERTIES)
-}
-
+/// Documents after their marks.
 const DOCUMENTS: Row = Row {
     head: NONE,
     rest: ("", "--- a@\n", "", ""),
@@ -221,11 +178,7 @@ const DOCUMENTS: Row = Row {
     canonical: ("", "--- \"a@\"\n", "", ""),
 };
 
-#[test]
-fn documents_after_their_marks(rt: HostRuntime) -> Result<(), Fail> {
-    is_read(&rt, &DOCUMENTS)
-}
-
+/// Documents before their marks.
 const BARE_DOCUMENTS: Row = Row {
     head: NONE,
     rest: ("", "a@\n...\n", "", ""),
@@ -233,11 +186,7 @@ const BARE_DOCUMENTS: Row = Row {
     canonical: ("", "--- \"a@\"\n", "", ""),
 };
 
-#[test]
-fn documents_before_their_marks(rt: HostRuntime) -> Result<(), Fail> {
-    is_read(&rt, &BARE_DOCUMENTS)
-}
-
+/// Comment lines.
 const COMMENTS: Row = Row {
     head: ("", "# c@\n", "", ""),
     rest: ("- a\n", " # c@\n", "", "- b\n"),
@@ -250,11 +199,7 @@ const COMMENTS: Row = Row {
     canonical: ("--- [\"a\", \"b\"]\n", "", "", ""),
 };
 
-#[test]
-fn comment_lines(rt: HostRuntime) -> Result<(), Fail> {
-    is_read(&rt, &COMMENTS)
-}
-
+/// Comments in a flow sequence.
 const FLOW_COMMENTS: Row = Row {
     head: NONE,
     rest: ("[\n", " a@ # c@\n", " ,\n", " ]\n"),
@@ -267,11 +212,7 @@ const FLOW_COMMENTS: Row = Row {
     canonical: ("--- [", "\"a@\"", ", ", "]\n"),
 };
 
-#[test]
-fn comments_in_a_flow_sequence(rt: HostRuntime) -> Result<(), Fail> {
-    is_read(&rt, &FLOW_COMMENTS)
-}
-
+/// Directives of unknown names.
 const DIRECTIVES: Row = Row {
     head: ("", "%A@ b\n", "", ""),
     rest: ("--- a\n", "", "", ""),
@@ -279,13 +220,9 @@ const DIRECTIVES: Row = Row {
     canonical: ("--- \"a\"\n", "", "", ""),
 };
 
-#[test]
-fn directives_of_unknown_names(rt: HostRuntime) -> Result<(), Fail> {
-    is_read(&rt, &DIRECTIVES)
-}
-
 const HANDLES: Many = ("", "%TAG !h@! tag:h@:\n", "", "---\n");
 
+/// Handles that no tag uses.
 const UNUSED: Row = Row {
     head: HANDLES,
     rest: ("a\n", "", "", ""),
@@ -293,11 +230,7 @@ const UNUSED: Row = Row {
     canonical: ("--- \"a\"\n", "", "", ""),
 };
 
-#[test]
-fn handles_that_no_tag_uses(rt: HostRuntime) -> Result<(), Fail> {
-    is_read(&rt, &UNUSED)
-}
-
+/// Handles that tags use.
 const USED: Row = Row {
     head: HANDLES,
     rest: ("", "- !h@!t a@\n", "", ""),
@@ -311,6 +244,33 @@ const USED: Row = Row {
 };
 
 #[test]
-fn handles_that_tags_use(rt: HostRuntime) -> Result<(), Fail> {
-    is_read(&rt, &USED)
+fn lines_of_scalars_are_read(rt: HostRuntime) -> Result<(), Fail> {
+    for row in [&PLAIN, &SINGLE, &DOUBLE, &ESCAPES, &LITERAL, &FOLDED] {
+        is_read(&rt, row)?;
+    }
+    Ok(())
+}
+
+#[test]
+fn items_entries_and_properties_are_read(rt: HostRuntime) -> Result<(), Fail> {
+    for row in [&ITEMS, &ENTRIES, &FLOW_ITEMS, &FLOW_ENTRIES, &PROPERTIES] {
+        is_read(&rt, row)?;
+    }
+    Ok(())
+}
+
+#[test]
+fn documents_comments_and_directives_are_read(rt: HostRuntime) -> Result<(), Fail> {
+    for row in [
+        &DOCUMENTS,
+        &BARE_DOCUMENTS,
+        &COMMENTS,
+        &FLOW_COMMENTS,
+        &DIRECTIVES,
+        &UNUSED,
+        &USED,
+    ] {
+        is_read(&rt, row)?;
+    }
+    Ok(())
 }
