@@ -1,0 +1,84 @@
+"""cost.py: the most time, memory and output that a byte of input costs, on each shape of shapes.py.
+
+    bench/hostile --cost [--size BYTES] [--space MB] [--runs KIND,..] [SHAPE ..]
+
+Runs each command of the built program on each shape, and `canon` once more with a refusal behind it (`later`): a last document of
+an alias without an anchor. Prints the shapes that cost the most of each. Seconds are of the processor, memory is the peak; of both
+what the program takes for the empty input is taken off. Bytes are those of one file. A run that ends by a signal is named and
+fails. `--space` bounds the address space, as `ulimit -v` does, so that memory is refused; each such refusal is counted.
+Needs Python 3, and without a bound about 3 kB for each byte.
+"""
+import argparse
+import collections
+import concurrent.futures
+import os
+import resource
+import subprocess
+import sys
+import tempfile
+
+from growth import PROGRAM, words_of
+from shapes import SHAPES
+
+KINDS, SHOWN = 'canon,later,same,events,check', 6
+REFUSED_LATER = b'\n--- *x\n'
+Cost = collections.namedtuple('Cost', 'micros memory output ended')
+
+
+def bounded(space):
+    return lambda: resource.setrlimit(resource.RLIMIT_AS, (space << 20, space << 20)) if space else None
+
+
+def measured(command, text, space):
+    """Seconds, peak memory and output of a run, and how it ended."""
+    with tempfile.TemporaryDirectory(dir='/dev/shm') as room:
+        words = words_of(command, text, room)
+        with open(os.path.join(room, 'out'), 'wb') as out, open(os.path.join(room, 'err'), 'w+b') as err:
+            process = subprocess.Popen([PROGRAM] + words, stdout=out, stderr=err, preexec_fn=bounded(space))
+            _, status, used = os.wait4(process.pid, 0)
+            process.returncode = 0
+            err.seek(0)
+            said = err.read().decode().strip() or 'answered'
+            ended = 'signal %d' % os.WTERMSIG(status) if os.WIFSIGNALED(status) else said
+            return used.ru_utime + used.ru_stime, used.ru_maxrss * 1024, os.fstat(out.fileno()).st_size, ended
+
+
+def cost(kind, name, asked):
+    text = SHAPES[name](asked.size) + (REFUSED_LATER if kind == 'later' else b'')
+    command = 'canon' if kind == 'later' else kind
+    seconds, memory, output, ended = measured(command, text, asked.space)
+    free = measured(command, b'', asked.space)
+    each = len(text)
+    return Cost((seconds - free[0]) * 1e6 / each, max(0, memory - free[1]) / each, output / each, ended)
+
+
+def tell(kind, costs):
+    """The counts and the worst shapes of a kind; whether none ended by a signal."""
+    signals = [name for name in costs if costs[name].ended.startswith('signal')]
+    ends = [cost.ended for cost in costs.values()]
+    print('%s: %d answered, %d refused for memory, %d refused, %d ended by a signal %s' % (
+        kind, ends.count('answered'), sum('21 OutOfMemory' in end for end in ends),
+        sum(end.startswith('yaml:') and '21 OutOfMemory' not in end for end in ends), len(signals), ' '.join(signals)))
+    for field, unit in (('micros', 'microseconds'), ('memory', 'bytes of memory'), ('output', 'bytes of output')):
+        most = sorted(costs, key=lambda name: -getattr(costs[name], field))[:SHOWN]
+        print('  %-16s a byte: %s' % (unit, ', '.join('%s %.4g' % (name, getattr(costs[name], field)) for name in most)), flush=True)
+    return not signals
+
+
+def main(args):
+    parser = argparse.ArgumentParser(prog='bench/hostile --cost')
+    parser.add_argument('--size', type=int, default=500_000)
+    parser.add_argument('--space', type=int, default=0)
+    parser.add_argument('--runs', default=KINDS)
+    parser.add_argument('shapes', nargs='*', metavar='SHAPE')
+    asked = parser.parse_args(args)
+    names, fine = asked.shapes or list(SHAPES), True
+    for kind in asked.runs.split(','):
+        with concurrent.futures.ThreadPoolExecutor(max(1, len(os.sched_getaffinity(0)) // 2)) as pool:
+            costs = dict(zip(names, pool.map(lambda name: cost(kind, name, asked), names)))
+        fine = tell(kind, costs) and fine
+    return 0 if fine else 1
+
+
+if __name__ == '__main__':
+    sys.exit(main(sys.argv[1:]))

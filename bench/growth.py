@@ -1,0 +1,81 @@
+"""growth.py: whether the built program's work grows with its input, on each shape of shapes.py.
+
+    bench/hostile --growth [--command canon|events|same|check] [SHAPE ..]
+
+Counts the instructions at a size, at twice and at four times that size (valgrind's callgrind). What the second doubling adds is
+set against what the first added, and scaled to the bytes that each added, so that the start of the program and a head that does
+not grow count for nothing: 2 is linear, 4 quadratic. More than 2.3 fails. Needs valgrind and Python 3.
+"""
+import concurrent.futures
+import os
+import re
+import subprocess
+import sys
+import tempfile
+
+from shapes import SHAPES
+
+PROGRAM = os.environ.get('YAMLCANON') or os.path.join(os.path.dirname(os.path.abspath(__file__)), '../crates/yaml_tool/out/yaml_tool')
+SMALLEST, LARGEST, MOST = 10_000, 640_000, 2.3
+
+
+def size_of(make):
+    """A size at which a text grows by its pieces and not by whole turns."""
+    size = SMALLEST
+    while size < LARGEST and not 1.7 < len(make(2 * size)) / len(make(size)) < 2.3:
+        size *= 2
+    return size
+
+
+def words_of(command, text, room):
+    path, events = os.path.join(room, 'text'), os.path.join(room, 'events')
+    with open(path, 'wb') as file:
+        file.write(text)
+    if command == 'check':
+        with open(events, 'wb') as file:
+            subprocess.run([PROGRAM, 'events', path], stdout=file, stderr=subprocess.DEVNULL)
+    return [command, path] + {'same': [path], 'check': [events]}.get(command, [])
+
+
+def instructions(command, text):
+    """How many there were, and how the run ended."""
+    with tempfile.TemporaryDirectory() as room:
+        log = os.path.join(room, 'log')
+        words = words_of(command, text, room)
+        done = subprocess.run(['valgrind', '--tool=callgrind', '--callgrind-out-file=/dev/null', '--log-file=' + log, PROGRAM] + words,
+                              stdout=subprocess.DEVNULL, stderr=subprocess.PIPE)
+        with open(log, encoding='utf-8') as file:
+            counted = re.search(r'Collected : (\d+)', file.read())
+        return int(counted.group(1)), done.stderr.decode().strip() or 'answered'
+
+
+def growth(command, name):
+    """The growth on a shape, the instructions a byte, and a line that tells both."""
+    make = SHAPES[name]
+    size = size_of(make)
+    texts = [make(times * size) for times in (1, 2, 4)]
+    counts = [instructions(command, text) for text in texts]
+    bytes_added = [len(texts[k + 1]) - len(texts[k]) for k in (0, 1)]
+    added = [counts[k + 1][0] - counts[k][0] for k in (0, 1)]
+    grows = 2 * (added[1] / bytes_added[1]) / max(1, added[0] / bytes_added[0])
+    return grows, '%-26s %8d %8.0f %6.2f  %s' % (name, len(texts[2]), counts[2][0] / len(texts[2]), grows, counts[2][1])
+
+
+def main(args):
+    command = 'canon'
+    if args[:1] == ['--command']:
+        command, args = args[1], args[2:]
+    print('%-26s %8s %8s %6s  %s' % ('shape', 'bytes', 'a byte', 'growth', 'how it ended'))
+    failed = []
+    with concurrent.futures.ThreadPoolExecutor(len(os.sched_getaffinity(0))) as pool:
+        names = args or list(SHAPES)
+        for name, (grows, line) in zip(names, pool.map(lambda name: growth(command, name), names)):
+            print(line, flush=True)
+            if grows > MOST:
+                failed.append(name)
+    print('%d shapes, %d grow by more than %s: %s' % (len(names), len(failed), MOST, ' '.join(failed)))
+    return 1 if failed else 0
+
+
+if __name__ == '__main__':
+    sys.exit(main(sys.argv[1:]))
