@@ -89,16 +89,17 @@ def set_aside(aside, wrong):
     return is_new
 
 
-def try_edits(room, edits):
-    """What is said of each edit, its answers that name what is not there left to the search."""
+def try_edits(room, edits, listed, alone):
+    """What is said of each edit, its answers that name what is not there left to the search. Of those that are listed as
+    refused for no goal of their own it is asked only whether they are refused, so they are tried once."""
     trials = {it.name: Trial(it, it.changes(), it.set_aside) for it in edits}
-    told = judge(room, [*trials.values()])
+    told = judge(room, [*trials.values()], alone)
     for _ in range(TRIES):
         again = [trials[it.name] for it in edits
-                 if told[it.name] and not told[it.name].false and set_aside(it.set_aside, told[it.name].names)]
+                 if it.name not in listed and told[it.name] and not told[it.name].false and set_aside(it.set_aside, told[it.name].names)]
         if not again:
             break
-        told.update(judge(room, again))
+        told.update(judge(room, again, alone))
     # what was refused only with others that it calls is told alone
     silent = [trials[it.name] for it in edits if told[it.name] and not told[it.name].is_proved and told[it.name].is_none()]
     told.update(judge(room, silent, alone=True))
@@ -110,12 +111,12 @@ def wants_control(edit, told):
     return told and not told.is_proved and told.goals and not told.false and not (edit.keeps_shape() and not edit.set_aside)
 
 
-def try_twins(room, edits, told):
+def try_twins(room, edits, told, listed):
     """What is said of the twin of each edit that wants one: the same shape, the right meaning, the same answers."""
     trials = []
     for edit in edits:
         twin = edit.twin()
-        if wants_control(edit, told[edit.name]) and (twin or edit.set_aside):
+        if wants_control(edit, told[edit.name]) and edit.name not in listed and (twin or edit.set_aside):
             trials.append(Trial(edit, twin or [], {path: set(goals) for path, goals in edit.set_aside.items()}))
     control = judge(room, trials)
     for _ in range(TWIN_TRIES):
@@ -173,16 +174,16 @@ def hold_beside(edit, told, control):
         edit.verdict, edit.control = NONE, f"{what}: refused too, in {' '.join(failed[:3])}"
 
 
-def try_crate(root, crate, edits, anew, says):
-    """Judges the edits of a crate, and returns the processor seconds and the checks that it took."""
+def try_crate(root, crate, edits, listed, says, options):
+    """Judges the edits of a crate, of which some are listed (by name), and returns the processor seconds and the checks that it took."""
     good = [it for it in edits if not it.why]
     for edit in edits:
         if edit.why:
             edit.verdict, edit.control = BROKEN, edit.why
-    room = Room(root, crate, anew, says)
+    room = Room(root, crate, options.anew, says)
     try:
-        told = try_edits(room, good)
-        control = try_twins(room, good, told)
+        told = try_edits(room, good, listed, options.alone)
+        control = try_twins(room, good, told, listed)
         for edit in good:
             conclude(edit, told[edit.name], [control[edit.name]] if edit.name in control else None)
     finally:
