@@ -2,7 +2,7 @@
 use Rattle.std.proofs.Common.{◌≡◌, ◌≢◌, ℕ, ◌+◌, ◌<◌, ◌≤◌, ◌⊎◌, inl, inr, List, [], ◌∷◌, ◌++◌, Some, None, true, false, refl, sym, ◌∙◌, ap, subst, arith, append_assoc}
 use Rattle.std.specs.Prelude.{slice_get, slice_range}
 use Rattle.yaml_text.specs.grammar.Rules.{◌⨾◌, any, Any, done, then, Stands, run, where_both}
-use Rattle.yaml_scalar.specs.Chains.{taken_at, folds, NoBreaks, NoPlainLine, breaks, gap, plain_inner, plain_head, plain_sign, Later, line_more, fold_more, plain_more, plain_chain}
+use Rattle.yaml_scalar.specs.Chains.{taken_at, folds, NoBreaks, NoPlainLine, breaks, gap, plain_inner, plain_head, plain_sign, Later, line_more, fold_more, plain_more, plain_chain, GoesOnBelow}
 use Rattle.yaml_text.specs.grammar.Characters.{is_white, is_ns, is_nb, is_break, is_indicator}
 use Rattle.yaml_text.specs.grammar.Separation.{DocumentMark, Unmarked}
 use Rattle.yaml_text.specs.grammar.FlowScalars.{plain_safe, PlainFirst}
@@ -13,7 +13,7 @@ use Rattle.yaml_text.proofs.PlaceLemmas.{slice_one, slice_snoc, slice_join}
 use Rattle.std.proofs.lemmas.Bool.{cases_eq}
 use Rattle.yaml_scalar.proofs.AnyLemmas.{Same, Onward, any_onward, any_append, any_weaker, chain_furthest}
 use Rattle.yaml_text.proofs.Runs.{same_char, run_same, no_stand, no_stand_end, run_none}
-use Rattle.yaml_scalar.proofs.GapLemmas.{gap_then_same, folds_onward, folds_through, breaks_same, gap_onward, blank_gap, unmarked_cuts, BeginsNs}
+use Rattle.yaml_scalar.proofs.GapLemmas.{gap_then_same, folds_onward, folds_through, breaks_same, folds_is, gap_onward, blank_gap, unmarked_cuts, BeginsNs}
 use Rattle.yaml_text.proofs.Breaks.{Ns, NoWhite, ns_stops, blank_white_run, unmarked_one, unmarked_join, unmarked_blank, AfterNs, after_ns, after_white, mark_starts}
 
 -- what the classes of characters say of taken another
@@ -220,6 +220,10 @@ module _ (cs : List ℕ) where
     pub is : (taken_at cs (PlainFirst cs c) ⨾ any (plain_more cs n c)) i j xs
     pub unmarked : Unmarked cs i j
     pub after : AfterNs cs j
+
+  pub goes_below : (n : ℕ) (c : Ctx) (i k e l j : ℕ) (xs us : List ℕ) → k ≡ i + 1 → any (line_more cs c) k e xs → run cs is_white e l → breaks cs n c l j us → Later cs c j → GoesOnBelow cs n c i
+  goes_below n c i k e l j xs us at line whites broken later =
+      (e, j, xs, _, subst (λ v. any (line_more cs c) v e xs) at line, folds_is cs n c e l j us whites broken, later)
 
   pub sofar_start : (n : ℕ) (c : Ctx) (i k j x : ℕ) → PlainFirst cs c i → slice_get cs i ≡ Some x → (DocumentMark cs i → ⊥) → k ≡ i + 1 → any (line_more cs c) k j (slice_range cs k j) →
       Sofar n c i j (slice_range cs i j)

@@ -94,6 +94,10 @@ module _ (cs : List ℕ) where
   abbrev pub NoPlainLine : ℕ → Ctx → ℕ → Type 0
   NoPlainLine n c i = (j : ℕ) (xs : List ℕ) → breaks n c i j xs → Later c j → (DocumentMark cs j → ⊥) → ⊥
 
+  -- a plain scalar that begins at i goes on below the line that it begins on
+  abbrev pub GoesOnBelow : ℕ → Ctx → ℕ → Type 0
+  GoesOnBelow n c i = (e : ℕ) × (j : ℕ) × (xs : List ℕ) × (ys : List ℕ) × any (line_more c) (i + 1) e xs × folds n c e j ys × Later c j
+
   unfoldable pub plain_chain : ℕ → Ctx → TextRule
   plain_chain n c = where_both (Unmarked cs) (taken_at (PlainFirst cs c) ⨾ any (plain_more n c))
 

@@ -1,5 +1,5 @@
 //! Plain scalars (YAML 1.2.2, 7.3.3).
-ghost use Rattle.std.specs.Prelude.{◌≡◌, ◌≤◌, ◌<◌, IfSome, IfNone, IfOk, IsUtf8, slice_get, slice_range, replicate, ℕ, List, false, ℤ, pos, ◌≤ℤ◌, nat_abs};
+ghost use Rattle.std.specs.Prelude.{◌≡◌, ◌≤◌, ◌<◌, IfSome, IfNone, IfOk, IfErr, IsUtf8, slice_get, slice_range, replicate, ℕ, List, false, ℤ, pos, ◌≤ℤ◌, nat_abs};
 ghost use Rattle.std.specs.Bool.{OnTrue, OnFalse};
 ghost use Rattle.std.specs.Str.{chars};
 ghost use Rattle.std.specs.Cow.{cow_str_bytes};
@@ -12,7 +12,7 @@ ghost use Rattle.yaml_text.specs.grammar.Characters.{is_white};
 ghost use Rattle.yaml_text.specs.grammar.FlowScalars.{plain_safe, PlainFirst, plain};
 ghost use Rattle.yaml_text.specs.grammar.Rules.{run, Stands, any};
 ghost use Rattle.yaml_text.specs.grammar.Separation.{DocumentMark};
-ghost use Rattle.yaml_scalar.specs.Chains.{breaks, Later, NoPlainLine, line_more};
+ghost use Rattle.yaml_scalar.specs.Chains.{breaks, GoesOnBelow, Later, NoPlainLine, line_more};
 ghost use Rattle.yaml_text.specs.Answer.{Answers};
 
 use crate::class::{is_plain_head, is_plain_inner, is_plain_sign};
@@ -162,6 +162,7 @@ fn plain_from<'a>(
     ensures utf8 { IfOk result (λ r. IsUtf8 (cow_str_bytes r.0)) }
     ensures reads { Answers Furthest (plain (text_of source.now) least (context_of context)) (place_of source.now at)
         (λ r. place_of source.now r.1) (λ r. chars (cow_str_bytes r.0)) result }
+    ensures memory { IfErr result (λ fault. fault ≡ Fault.OutOfMemory → GoesOnBelow (text_of source.now) least (context_of context) (place_of source.now at)) }
 {
     let Some((c, first)) = next(source, at) else {
         return Err(Fault::Syntax(source.pos(at)));
@@ -215,6 +216,7 @@ pub fn read_plain<'a>(
     ensures utf8 { IfOk result (λ r. IsUtf8 (cow_str_bytes r.0)) }
     ensures reads { Answers Furthest (plain (text_of source.now) (nat_abs n) (context_of context)) (place_of source.now at)
         (λ r. place_of source.now r.1) (λ r. chars (cow_str_bytes r.0)) result }
+    ensures memory { IfErr result (λ fault. fault ≡ Fault.OutOfMemory → GoesOnBelow (text_of source.now) (nat_abs n) (context_of context) (place_of source.now at)) }
 {
     plain_from(alloc, source, at, columns(n), context)
 }

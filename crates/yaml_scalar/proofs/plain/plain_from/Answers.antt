@@ -1,4 +1,4 @@
-use Rattle.std.proofs.Common.{◌++◌, sym, ◌∙◌, ap, subst, arith}
+use Rattle.std.proofs.Common.{◌++◌, sym, ◌∙◌, ap, subst, arith, rules}
 use Rattle.std.specs.Prelude.{slice_range}
 use Rattle.std.specs.Str.{chars}
 use Rattle.std.proofs.lemmas.Str.{chars-nil}
@@ -9,7 +9,7 @@ use Rattle.yaml_text.specs.Source.{text_of, place_of}
 use Rattle.yaml_text.specs.grammar.FlowScalars.{plain}
 use Rattle.yaml_scalar.proofs.GapLemmas.{folds_is}
 use Rattle.yaml_text.proofs.Tests.{on_true_at, on_false_at}
-use Rattle.yaml_scalar.proofs.PlainLemmas.{Sofar, sofar_start, sofar_line, sofar_end, no_plain_first, no_plain_end, no_plain_mark, no_more_line}
+use Rattle.yaml_scalar.proofs.PlainLemmas.{Sofar, sofar_start, sofar_line, sofar_end, no_plain_first, no_plain_end, no_plain_mark, no_more_line, goes_below}
 use Rattle.yaml_scalar.proofs.PlainReadings.{plain_furthest, plain_unread}
 use Rattle.yaml_scalar.proofs.plain.plain_from.Goals as goal
 use Rattle.yaml_scalar.proofs.plain.plain_from.Goals.{then-not-is_first-via-then-not-is_first, then-not-is_first-via-else-not-is_first+then-stands_mark}
@@ -91,3 +91,21 @@ returns-clause-reads c =
 
 pub returns-in-None-next_line-clause-utf8 : goal.returns-in-None-next_line-clause-utf8
 returns-in-None-next_line-clause-utf8 c = IsUtf8-string_bytes c.push_between-in-lines.new.text
+
+pub returns-in_err-push_between-in-Some-next_line-clause-memory : goal.returns-in_err-push_between-in-Some-next_line-clause-memory
+returns-in_err-push_between-in-Some-next_line-clause-memory c =
+    let n = c.in-Some-next_line.ensures in
+    let below = goes_below (text_of c.args.source.now) c.args.least (context_of c.args.context) _ _ _ _ _ _ _ c.in-Some.ensures.some.next c.line_end-line.ensures.line c.line_end-line.ensures.whites n.breaks n.later in
+    search (rules, below)
+
+pub returns-in_err-push_fold-in-Some-next_line-clause-memory : goal.returns-in_err-push_fold-in-Some-next_line-clause-memory
+returns-in_err-push_fold-in-Some-next_line-clause-memory c =
+    let n = c.in-Some-next_line.ensures in
+    let below = goes_below (text_of c.args.source.now) c.args.least (context_of c.args.context) _ _ _ _ _ _ _ c.in-Some.ensures.some.next c.line_end-line.ensures.line c.line_end-line.ensures.whites n.breaks n.later in
+    search (rules, below)
+
+pub returns-in_err-push_between-in-Some-next_line-2-clause-memory : goal.returns-in_err-push_between-in-Some-next_line-2-clause-memory
+returns-in_err-push_between-in-Some-next_line-2-clause-memory c =
+    let n = c.in-Some-next_line.ensures in
+    let below = goes_below (text_of c.args.source.now) c.args.least (context_of c.args.context) _ _ _ _ _ _ _ c.in-Some.ensures.some.next c.line_end-line.ensures.line c.line_end-line.ensures.whites n.breaks n.later in
+    search (rules, below)

@@ -1,8 +1,4 @@
 use Rattle.std.proofs.Common.{length, ◌∙◌, ap, sym, arith}
-use Rattle.std.proofs.lemmas.List.{append-nil}
-use Rattle.std.specs.Char.{encode_utf8}
-use Rattle.std.specs.Str.{encode_utf8_all}
-use Rattle.yaml_text.specs.CharText.{spell_char}
 use Rattle.yaml_scalar.proofs.SpellingLemmas.{code_low, code_spells, verbatim_bytes}
 use Rattle.yaml_scalar.proofs.spell.spelled_char.Goals as goal
 
