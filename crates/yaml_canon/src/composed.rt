@@ -5,14 +5,14 @@ ghost use Rattle.yaml_text.specs.Text.{Text, RefusesText};
 ghost use Rattle.yaml_canon.specs.Claims.{HasGraph, GraphRefuses};
 
 use std::alloc::Global;
-use yaml_graph::compose;
+use yaml_graph::compose_owned;
 use yaml_graph::graph::Graph;
 use yaml_read::read_events;
 use yaml_text::chars::Chars;
 use yaml_text::fault::Fault;
 
-/// The graph of the stream that these bytes are, once its events are given up. What it does not have
-/// of its own the bytes lend.
+/// The graph of the stream that these bytes are, which takes the texts of its events. What it does not
+/// have of its own the bytes lend.
 ///
 /// Refused are bytes that are no text (1 to 3), a text that is no stream of the profile (4 to 11),
 /// the first event with an alias or a tag that stands for nothing (12 to 17), a document that is too
@@ -24,5 +24,5 @@ pub(crate) fn graph_of<'a>(alloc: Global, bytes: &'a [u8]) -> Result<Graph<'a>, 
 {
     let source = Chars::read(bytes)?;
     let events = read_events(alloc, &source)?;
-    compose(alloc, &events)
+    compose_owned(alloc, events)
 }

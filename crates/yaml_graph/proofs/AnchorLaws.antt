@@ -1,19 +1,23 @@
 -- Names of anchors and the places where they stand.
-use Rattle.std.proofs.Common.{◌≡◌, ℕ, zero, suc, Bool, true, false, cond, bytes_eq, List, [], ◌∷◌, ◌++◌, length, set, refl, sym, ◌∙◌, ap, subst}
+use Rattle.std.proofs.Common.{Global, Ordering, inl, inr, ◌≡◌, ℕ, zero, suc, Bool, true, false, cond, bytes_eq, List, [], ◌∷◌, ◌++◌, length, set, refl, sym, ◌∙◌, ap, subst}
 use Rattle.std.specs.Prelude.{Option, None, Some}
 use Rattle.std.specs.List.{slice_get}
 use Rattle.std.specs.Option.{option_map}
-use Rattle.std.specs.Borrow.{Bor}
-use Rattle.std.specs.BTreeMap.{BTreeMap, UpdatesBy}
-use Rattle.std.specs.Cmp.Lexicographic.{slice_cmp}
-use Rattle.std.specs.Ordering.{nat_cmp}
+use Rattle.std.specs.Cow.{cow_str_bytes}
+use Rattle.std.specs.BTreeMap.{UpdatesBy}
+use Rattle.std.specs.Map.{KeepsOthers, AreApart, lookup}
+use Rattle.std.specs.Cmp.{eq_by_cmp_equiv}
+use Rattle.std.specs.Cmp.Lexicographic.{slice_cmp, bytes_decides, nat_list_cmp_total, nat_list_eq_equiv}
+use Rattle.std.specs.declared.borrow.CowStr.{CowStr}
+use Rattle.std.specs.Ordering.{nat_cmp, is_eq, eq_by_cmp}
 use Rattle.std.proofs.lemmas.List.{map-append, length-map}
-use Rattle.std.proofs.lemmas.Map.Text.{btree_map_updates_str}
+use Rattle.std.proofs.lemmas.Map.Text.{is_eq-slice_cmp}
+use Rattle.std.proofs.lemmas.Bool.{cases_Bool, cond-true, cond-false}
 use Rattle.yaml_text.specs.Tree.{Tree}
 use Rattle.yaml_text.specs.Event.{Anchor}
 use Rattle.yaml_text.specs.Unfold.{Table, or_else, closed, last_named}
 use Rattle.yaml_graph.proofs.GraphLaws.{get-more, get-end}
-use Rattle.yaml_graph.specs.ComposerModel.{place_named, last_place, names_of, Placed}
+use Rattle.yaml_graph.specs.ComposerModel.{Names, place_named, last_place, names_of, Placed}
 
 -- ---- the last place of a name
 
@@ -33,12 +37,38 @@ names-push table name o = map-append (λ o. o.0) table ((name, o) ∷ [])
 pub names-length : (table : Table) → length (names_of table) ≡ length table
 names-length table = length-map table (λ o. o.0)
 
+-- ---- the map of names
+
+abbrev pub order : CowStr Global → CowStr Global → Ordering
+order x y = slice_cmp nat_cmp (cow_str_bytes x) (cow_str_bytes y)
+
+abbrev pub at_name : List ℕ → CowStr Global → Bool
+at_name name k = is_eq (slice_cmp nat_cmp name (cow_str_bytes k))
+
+apart : (name x : List ℕ) → bytes_eq name x ≡ false → AreApart (at_name name) (at_name x)
+apart name x n k y =
+    is_eq-slice_cmp x (cow_str_bytes k)
+    ∙ (nat_list_eq_equiv.symm x (cow_str_bytes k)
+    ∙ (sym (nat_list_eq_equiv.congr name (cow_str_bytes k) x (sym (is_eq-slice_cmp name (cow_str_bytes k)) ∙ y)) ∙ n))
+
+others : (old new : List (CowStr Global × ℕ)) (name x : List ℕ) → KeepsOthers (eq_by_cmp order) (at_name name) old new → bytes_eq name x ≡ false → lookup (at_name x) new ≡ lookup (at_name x) old
+unfolding KeepsOthers
+others old new name x h n = h (at_name x) (λ a b. (eq_by_cmp_equiv nat_list_cmp_total).congr x (cow_str_bytes a) (cow_str_bytes b)) (apart name x n)
+
+-- what the map has at any name once it has a new place at this one
+updated : (old new : Names) (name : List ℕ) (place : ℕ) → UpdatesBy order (λ k. slice_cmp nat_cmp name (cow_str_bytes k)) old new (Some place) → (x : List ℕ) → place_named new x ≡ cond (bytes_eq name x) (Some place) (place_named old x)
+updated old new name place u x =
+    elim (cases_Bool (bytes_eq name x)) [
+      | inl y ↦ subst (λ l. place_named new l ≡ Some place) ((bytes_decides name x).0 y) u.1 ∙ sym (cond-true (bytes_eq name x) (Some place) (place_named old x) y)
+      | inr n ↦ others old.entries new.entries name x u.3 n ∙ sym (cond-false (bytes_eq name x) (Some place) (place_named old x) n)
+    ]
+
 -- the map, once it has the new name
-pub named-push : (table : Table) (old new : BTreeMap (Bor (List ℕ)) ℕ) (name : List ℕ) (place : ℕ) → ((x : List ℕ) → place_named old x ≡ last_place x (names_of table)) → place ≡ length table
-    → UpdatesBy (λ x y. slice_cmp nat_cmp x.now y.now) (λ k. slice_cmp nat_cmp name k.now) old new (Some place) → (x : List ℕ) → place_named new x ≡ last_place x (names_of (table ++ ((name, None) ∷ [])))
+pub named-push : (table : Table) (old new : Names) (name : List ℕ) (place : ℕ) → ((x : List ℕ) → place_named old x ≡ last_place x (names_of table)) → place ≡ length table
+    → UpdatesBy order (λ k. slice_cmp nat_cmp name (cow_str_bytes k)) old new (Some place) → (x : List ℕ) → place_named new x ≡ last_place x (names_of (table ++ ((name, None) ∷ [])))
 named-push table old new name place h e u x =
     let n : place ≡ length (names_of table) = e ∙ sym (names-length table) in
-    btree_map_updates_str name old new (Some place) u x
+    updated old new name place u x
     ∙ ((λ z. cond (bytes_eq name x) (Some (n z)) (h x z))
     ∙ (sym (place-push x (names_of table) name) ∙ ap (last_place x) (sym (names-push table name None))))
 

@@ -2,8 +2,6 @@
 use Rattle.std.proofs.Common.{Result, Ok, Err, ◌≡◌, ◌<◌, ℕ, suc, Bool, true, List, [], ◌∷◌, refl, sym, ◌∙◌, ap, subst, arith}
 use Rattle.std.specs.Prelude.{Option, Some, IfOk, IfErr, MatchResult}
 use Rattle.std.specs.List.{All}
-use Rattle.std.specs.Borrow.{Bor}
-use Rattle.std.specs.BTreeMap.{BTreeMap}
 use Rattle.std.proofs.lemmas.List.Elements.{All-nil, All-cons}
 use Rattle.std.specs.Cow.{cow_str_bytes}
 use Rattle.yaml_text.specs.Unfold.{Outcome, and_then}
@@ -15,7 +13,7 @@ use Rattle.yaml_graph.specs.GraphModel.{Entries, tree_at, trees_at, entries_at, 
 use Rattle.yaml_graph.specs.ComposerSteps.{State, paired, whole, collection_ended, collection_from}
 use Rattle.yaml_graph.specs.ComposerSteps as machine
 use Rattle.yaml_graph.specs.Composed.{RefusesUnfolding}
-use Rattle.yaml_graph.specs.ComposerModel.{AllStand, Collects, Holds, Reached}
+use Rattle.yaml_graph.specs.ComposerModel.{Names, AllStand, Collects, Holds, Reached}
 use Rattle.yaml_graph.specs.declared.composer.Composer.{Composer}
 use Rattle.yaml_graph.specs.declared.composer.Open.{Open}
 use Rattle.yaml_graph.specs.declared.node.Node.{Node}
@@ -73,7 +71,7 @@ entries-tree ts places entries q g = ap (λ ps. mapping g (pairs ps)) (ap (entri
 abbrev pub rest_of : State → machine.Open → List machine.Open → State
 rest_of s p ps = record { inner = p.before; outer = ps; table = s.table; done = s.done }
 
-pub leave-found : (ns : List Node) (hs : List ℕ) (m : BTreeMap (Bor (List ℕ)) ℕ) (anchored : List (Option NodeId)) (os : List Open) (o : Open) (s : State) (l : Leaves ns hs m anchored os o s) (mapped : Bool) (kind : NodeKind) (places : List NodeId)
+pub leave-found : (ns : List Node) (hs : List ℕ) (m : Names) (anchored : List (Option NodeId)) (os : List Open) (o : Open) (s : State) (l : Leaves ns hs m anchored os o s) (mapped : Bool) (kind : NodeKind) (places : List NodeId)
     → Collects ns mapped places kind → AllStand (trees_in ns) places s.inner → (found : Outcome State) → collection_ended mapped s s.outer ≡ Some found → (c : Composer)
     → Holds c (whole l.frame.anchor l.frame.slot (kind_tree (trees_in ns) (cow_str_bytes o.tag) kind) (rest_of s l.frame l.frames)) → Reached found c
 leave-found ns hs m anchored os o s l mapped kind places k h found e c p =

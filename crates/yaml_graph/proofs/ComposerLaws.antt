@@ -2,9 +2,9 @@
 use Rattle.std.proofs.Common.{◌≡◌, ℕ, zero, suc, ◌<◌, List, [], ◌∷◌, ◌++◌, length, set, map, reverse, refl, sym, ◌∙◌, ap, subst, arith, get_or, Err}
 use Rattle.std.specs.Prelude.{Option, None, Some}
 use Rattle.std.specs.List.{slice_get, All}
-use Rattle.std.specs.Borrow.{Bor}
-use Rattle.std.specs.BTreeMap.{BTreeMap, UpdatesBy}
+use Rattle.std.specs.BTreeMap.{UpdatesBy}
 use Rattle.std.specs.Map.{lookup}
+use Rattle.std.specs.Cow.{cow_str_bytes}
 use Rattle.std.specs.Cmp.Lexicographic.{slice_cmp}
 use Rattle.std.specs.Ordering.{nat_cmp, is_eq}
 use Rattle.std.proofs.lemmas.Option.{slice_get_within, get_or_from_slice_get, slice_get_read}
@@ -17,7 +17,7 @@ use Rattle.yaml_text.specs.Core.{undefined_alias, cyclic_alias}
 use Rattle.yaml_graph.specs.ComposerSteps.{State, initial_state, node_begun, whole, added}
 use Rattle.yaml_graph.specs.ComposerSteps as machine
 use Rattle.yaml_graph.specs.GraphModel.{trees_at, node_tree, trees_in, PartsBelow}
-use Rattle.yaml_graph.specs.ComposerModel.{cut, place_named, last_place, names_of, TreeStands, AllStand, SlotStands, TableStands, Placed, OpenStands, OpensStand, Held, Holds, Reached}
+use Rattle.yaml_graph.specs.ComposerModel.{Names, cut, place_named, last_place, names_of, TreeStands, AllStand, SlotStands, TableStands, Placed, OpenStands, OpensStand, Held, Holds, Reached}
 use Rattle.std.specs.Option.{IfSome}
 use Rattle.yaml_graph.specs.declared.composer.Composer.{Composer}
 use Rattle.yaml_graph.specs.declared.composer.Open.{Open}
@@ -120,14 +120,14 @@ slot-at ts (b ∷ anchored) [] i a x o h e q = absurd h
 
 -- ---- the composer's lists after each of its calls
 
-module _ (ns : List Node) (hs : List ℕ) (m : BTreeMap (Bor (List ℕ)) ℕ) (anchored : List (Option NodeId)) (os : List Open) (places : List NodeId) (s : State) (h : Held ns hs m anchored os places s) where
+module _ (ns : List Node) (hs : List ℕ) (m : Names) (anchored : List (Option NodeId)) (os : List Open) (places : List NodeId) (s : State) (h : Held ns hs m anchored os places s) where
   -- no anchor
   pub held-plain : (a : Anchor) → a ≡ None → Held ns hs m anchored os places (node_begun a s)
   held-plain a e = rw e h
 
   -- an anchor
-  pub held-begun : (a : Anchor) (name : List ℕ) (new : BTreeMap (Bor (List ℕ)) ℕ) (place : ℕ) → a ≡ Some name → place ≡ length anchored
-      → UpdatesBy (λ x y. slice_cmp nat_cmp x.now y.now) (λ k. slice_cmp nat_cmp name k.now) m new (Some place) → Held ns hs new (anchored ++ (None ∷ [])) os places (node_begun a s)
+  pub held-begun : (a : Anchor) (name : List ℕ) (new : Names) (place : ℕ) → a ≡ Some name → place ≡ length anchored
+      → UpdatesBy (λ x y. slice_cmp nat_cmp (cow_str_bytes x) (cow_str_bytes y)) (λ k. slice_cmp nat_cmp name (cow_str_bytes k)) m new (Some place) → Held ns hs new (anchored ++ (None ∷ [])) os places (node_begun a s)
   held-begun a name new place e l u =
       let n : place ≡ length s.table = l ∙ table-length (trees_in ns) anchored s.table h.anchors in
       let made : Held ns hs new (anchored ++ (None ∷ [])) os places (node_begun (Some name) s) = record {
@@ -159,7 +159,7 @@ module _ (ns : List Node) (hs : List ℕ) (m : BTreeMap (Bor (List ℕ)) ℕ) (a
       record { grounded = h.grounded; measured = h.measured; inside = all-push (trees_in ns) places s.inner i t h.inside e; outside = h.outside; anchors = h.anchors; named = h.named; done = h.done }
 
   -- a document begins
-  pub held-clear : (none : BTreeMap (Bor (List ℕ)) ℕ) → none.entries ≡ [] → s.outer ≡ [] → Held ns hs none [] os places (record { inner = s.inner; outer = []; table = []; done = s.done })
+  pub held-clear : (none : Names) → none.entries ≡ [] → s.outer ≡ [] → Held ns hs none [] os places (record { inner = s.inner; outer = []; table = []; done = s.done })
   unfolding last_place
   held-clear none e q = record {
     grounded = h.grounded;
@@ -167,7 +167,7 @@ module _ (ns : List Node) (hs : List ℕ) (m : BTreeMap (Bor (List ℕ)) ℕ) (a
     inside = h.inside;
     outside = opens-none (trees_in ns) (names_of s.table) [] (reverse os) (subst (OpensStand (trees_in ns) (names_of s.table) (reverse os)) q h.outside);
     anchors = tt;
-    named = λ name. ap (λ es. lookup (λ k. is_eq (slice_cmp nat_cmp name k.now)) es) e;
+    named = λ name. ap (λ es. lookup (λ k. is_eq (slice_cmp nat_cmp name (cow_str_bytes k))) es) e;
     done = h.done;
   }
 
@@ -197,7 +197,7 @@ table-closed ts names anchored table None (Some name) slot i t h e w = absurd w
 table-closed ts names anchored table (Some place) None slot i t h e w = absurd w
 
 -- a node is whole
-pub held-whole : (ns : List Node) (hs : List ℕ) (m : BTreeMap (Bor (List ℕ)) ℕ) (anchored : List (Option NodeId)) (os : List Open) (places : List NodeId) (s : State) → Held ns hs m anchored os places s
+pub held-whole : (ns : List Node) (hs : List ℕ) (m : Names) (anchored : List (Option NodeId)) (os : List Open) (places : List NodeId) (s : State) → Held ns hs m anchored os places s
     → (n : Node) (high : ℕ) (i : NodeId) → PartsBelow (length ns) n.kind → high ≡ cut (node_tree (trees_in ns) n) → i.0 ≡ length ns → (place : Option ℕ) (a : Anchor) (slot : ℕ) → Placed (names_of s.table) place a slot
     → Held (ns ++ (n ∷ [])) (hs ++ (high ∷ [])) m (filled place i anchored) os (places ++ (i ∷ [])) (whole a slot (node_tree (trees_in ns) n) s)
 held-whole ns hs m anchored os places s h n high i below is number place a slot w =
@@ -217,14 +217,14 @@ held-whole ns hs m anchored os places s h n high i below is number place a slot 
     }
 
 -- what the innermost collection leaves
-pub record Leaves (ns : List Node) (hs : List ℕ) (m : BTreeMap (Bor (List ℕ)) ℕ) (anchored : List (Option NodeId)) (os : List Open) (o : Open) (s : State) : Type 0 where
+pub record Leaves (ns : List Node) (hs : List ℕ) (m : Names) (anchored : List (Option NodeId)) (os : List Open) (o : Open) (s : State) : Type 0 where
   pub frame : machine.Open
   pub frames : List machine.Open
   pub outer : s.outer ≡ frame ∷ frames
   pub stands : OpenStands (trees_in ns) (names_of s.table) o frame
   pub held : Held ns hs m anchored os o.before.items (record { inner = frame.before; outer = frames; table = s.table; done = s.done })
 
-leaves-by : (ns : List Node) (hs : List ℕ) (m : BTreeMap (Bor (List ℕ)) ℕ) (anchored : List (Option NodeId)) (os : List Open) (o : Open) (places : List NodeId) (s : State) (ps : List machine.Open) → s.outer ≡ ps
+leaves-by : (ns : List Node) (hs : List ℕ) (m : Names) (anchored : List (Option NodeId)) (os : List Open) (o : Open) (places : List NodeId) (s : State) (ps : List machine.Open) → s.outer ≡ ps
     → Held ns hs m anchored (os ++ (o ∷ [])) places s → OpensStand (trees_in ns) (names_of s.table) (o ∷ reverse os) ps → Leaves ns hs m anchored os o s
 leaves-by ns hs m anchored os o places s [] e h f = absurd f
 leaves-by ns hs m anchored os o places s (p ∷ ps) e h f = record {
@@ -235,11 +235,11 @@ leaves-by ns hs m anchored os o places s (p ∷ ps) e h f = record {
   held = record { grounded = h.grounded; measured = h.measured; inside = f.0.before; outside = f.1; anchors = h.anchors; named = h.named; done = h.done };
 }
 
-pub held-leave : (ns : List Node) (hs : List ℕ) (m : BTreeMap (Bor (List ℕ)) ℕ) (anchored : List (Option NodeId)) (os : List Open) (o : Open) (places : List NodeId) (s : State) → Held ns hs m anchored (os ++ (o ∷ [])) places s → Leaves ns hs m anchored os o s
+pub held-leave : (ns : List Node) (hs : List ℕ) (m : Names) (anchored : List (Option NodeId)) (os : List Open) (o : Open) (places : List NodeId) (s : State) → Held ns hs m anchored (os ++ (o ∷ [])) places s → Leaves ns hs m anchored os o s
 held-leave ns hs m anchored os o places s h =
     leaves-by ns hs m anchored os o places s s.outer refl h (subst (λ z. OpensStand (trees_in ns) (names_of s.table) z s.outer) (reverse-append os (o ∷ [])) h.outside)
 
-pub held-start : (ns : List Node) (hs : List ℕ) (m : BTreeMap (Bor (List ℕ)) ℕ) (anchored : List (Option NodeId)) (os : List Open) (places : List NodeId) → ns ≡ [] → hs ≡ [] → m.entries ≡ [] → anchored ≡ [] → os ≡ [] → places ≡ []
+pub held-start : (ns : List Node) (hs : List ℕ) (m : Names) (anchored : List (Option NodeId)) (os : List Open) (places : List NodeId) → ns ≡ [] → hs ≡ [] → m.entries ≡ [] → anchored ≡ [] → os ≡ [] → places ≡ []
     → Held ns hs m anchored os places initial_state
 unfolding last_place
 held-start ns hs m anchored os places en eh em ea eo ep = rw (en, eh, ea, eo, ep) (record {
@@ -248,13 +248,13 @@ held-start ns hs m anchored os places en eh em ea eo ep = rw (en, eh, ea, eo, ep
   inside = tt;
   outside = tt;
   anchors = tt;
-  named = λ name. ap (λ es. lookup (λ k. is_eq (slice_cmp nat_cmp name k.now)) es) em;
+  named = λ name. ap (λ es. lookup (λ k. is_eq (slice_cmp nat_cmp name (cow_str_bytes k))) es) em;
   done = refl;
 })
 
 -- ---- the same, as the code's calls give it
 
-module _ (ns : List Node) (hs : List ℕ) (m : BTreeMap (Bor (List ℕ)) ℕ) (anchored : List (Option NodeId)) (os : List Open) (places : List NodeId) (s : State) (h : Held ns hs m anchored os places s) where
+module _ (ns : List Node) (hs : List ℕ) (m : Names) (anchored : List (Option NodeId)) (os : List Open) (places : List NodeId) (s : State) (h : Held ns hs m anchored os places s) where
   pub heights-length : length hs ≡ length ns
   heights-length = omega (arith, ap length h.measured, length-map (trees_in ns) cut, trees-length ns)
 

@@ -1,7 +1,6 @@
 -- The composer over a whole stream.
-use Rattle.std.proofs.Common.{drop, drop-cons, ◌⊎◌, inl, inr, ◌≡◌, ◌+◌, ◌<◌, ◌≤◌, ℕ, suc, Bool, List, [], ◌∷◌, length, map, get_or, refl, sym, ◌∙◌, ap, subst, add-one, Ok, Err}
+use Rattle.std.proofs.Common.{◌⊎◌, inl, inr, ◌≡◌, ◌+◌, ℕ, suc, Bool, List, [], ◌∷◌, length, map, refl, sym, ◌∙◌, ap, subst, add-one, Ok, Err}
 use Rattle.std.specs.Prelude.{Option, None, Some}
-use Rattle.std.proofs.lemmas.List.{drop_all}
 use Rattle.yaml_text.specs.Tree.{Tree}
 use Rattle.yaml_text.specs.Core.{Cause, undefined_alias, cyclic_alias, wrong_kind, bad_content, int_range, float_range}
 use Rattle.yaml_text.specs.Unfold.{Outcome, and_then, trees_of}
@@ -67,42 +66,41 @@ module _ (es : List code.Event) (ds : List Document) (cut : map event_of es ≡ 
   total-is : comes_to (steps 0 (map event_of es) initial_state) ≡ Some (and_then (trees_of ds) (with_all [] [] ds))
   total-is = ap (λ x. comes_to (steps 0 x initial_state)) cut ∙ run-stream ds
 
-  -- what the step at this place comes to
-  pub record Stepped (at : ℕ) (e : code.Event) (s : State) : Type 0 where
+  -- what the step at this place comes to, where these events are left behind it
+  pub record Stepped (at : ℕ) (e : code.Event) (more : List code.Event) (s : State) : Type 0 where
     pub found : Outcome State
     pub is : step at (event_of e) s ≡ Some found
-    pub rest : on_outcome found (steps (suc at) (map event_of (drop (suc at) es))) ≡ steps 0 (map event_of es) initial_state
+    pub rest : on_outcome found (steps (suc at) (map event_of more)) ≡ steps 0 (map event_of es) initial_state
 
-  stepped-by : (at : ℕ) (e : code.Event) (s : State) (o : Option (Outcome State)) → step at (event_of e) s ≡ o → next o (steps (suc at) (map event_of (drop (suc at) es))) ≡ steps 0 (map event_of es) initial_state → Stepped at e s
-  stepped-by at e s None q h = let w : comes_to None ≡ Some (and_then (trees_of ds) (with_all [] [] ds)) = ap comes_to h ∙ total-is in absurd (cc)
-  stepped-by at e s (Some found) q h = record { found = found; is = q; rest = h }
+  stepped-by : (at : ℕ) (e : code.Event) (more : List code.Event) (s : State) (o : Option (Outcome State)) → step at (event_of e) s ≡ o → next o (steps (suc at) (map event_of more)) ≡ steps 0 (map event_of es) initial_state → Stepped at e more s
+  stepped-by at e more s None q h = let w : comes_to None ≡ Some (and_then (trees_of ds) (with_all [] [] ds)) = ap comes_to h ∙ total-is in absurd (cc)
+  stepped-by at e more s (Some found) q h = record { found = found; is = q; rest = h }
 
-  pub stepped : (at : ℕ) (e : code.Event) (s : State) → e ≡ get_or es at e → at < length es → steps at (map event_of (drop at es)) s ≡ steps 0 (map event_of es) initial_state → Stepped at e s
+  pub stepped : (at : ℕ) (e : code.Event) (left more : List code.Event) (s : State) → left ≡ e ∷ more → steps at (map event_of left) s ≡ steps 0 (map event_of es) initial_state → Stepped at e more s
   unfolding steps
-  stepped at e s i l h =
-      let q : drop at es ≡ e ∷ drop (suc at) es = drop-cons es at e l ∙ ap (λ x. x ∷ drop (suc at) es) (sym i) in
-      stepped-by at e s (step at (event_of e) s) refl (ap (λ x. steps at (map event_of x) s) (sym q) ∙ h)
+  stepped at e left more s q h = stepped-by at e more s (step at (event_of e) s) refl (ap (λ x. steps at (map event_of x) s) (sym q) ∙ h)
 
-  pub goes-on : (at : ℕ) (e : code.Event) (s : State) (k : Stepped at e s) (c : Composer) (r : Reached k.found c) → steps (at + 1) (map event_of (drop (at + 1) es)) r.state ≡ steps 0 (map event_of es) initial_state
-  goes-on at e s k c r = rw add-one (ap (λ o. on_outcome o (steps (suc at) (map event_of (drop (suc at) es)))) (sym r.is) ∙ k.rest)
+  pub goes-on : (at : ℕ) (e : code.Event) (more : List code.Event) (s : State) (k : Stepped at e more s) (c : Composer) (r : Reached k.found c) → steps (at + 1) (map event_of more) r.state ≡ steps 0 (map event_of es) initial_state
+  goes-on at e more s k c r = rw add-one (ap (λ o. on_outcome o (steps (suc at) (map event_of more))) (sym r.is) ∙ k.rest)
 
-  refused-by : (at : ℕ) (e : code.Event) (s : State) (k : Stepped at e s) (x : Cause × ℕ) → k.found ≡ Err x → trees_of ds ≡ Err x
-  refused-by at e s k x q =
-      stream-refused ds (trees_of ds) x (ap (λ o. comes_to (on_outcome o (steps (suc at) (map event_of (drop (suc at) es))))) (sym q) ∙ (ap comes_to k.rest ∙ total-is))
+  refused-by : (at : ℕ) (e : code.Event) (more : List code.Event) (s : State) (k : Stepped at e more s) (x : Cause × ℕ) → k.found ≡ Err x → trees_of ds ≡ Err x
+  refused-by at e more s k x q =
+      stream-refused ds (trees_of ds) x (ap (λ o. comes_to (on_outcome o (steps (suc at) (map event_of more)))) (sym q) ∙ (ap comes_to k.rest ∙ total-is))
 
-  pub refused : (at : ℕ) (e : code.Event) (s : State) (k : Stepped at e s) (f : Fault) → RefusesUnfolding k.found f → RefusesStream ds f
-  refused at e s k (faults.UndefinedAlias n) h = refused-by at e s k (undefined_alias, n) h
-  refused at e s k (faults.CyclicAlias n) h = refused-by at e s k (cyclic_alias, n) h
-  refused at e s k (faults.WrongKind n) h = refused-by at e s k (wrong_kind, n) h
-  refused at e s k (faults.BadContent n) h = refused-by at e s k (bad_content, n) h
-  refused at e s k (faults.IntRange n) h = refused-by at e s k (int_range, n) h
-  refused at e s k (faults.FloatRange n) h = refused-by at e s k (float_range, n) h
-  refused at e s k faults.OutOfMemory h = tt
-  refused at e s k _ h = absurd h
+  pub refused : (at : ℕ) (e : code.Event) (more : List code.Event) (s : State) (k : Stepped at e more s) (f : Fault) → RefusesUnfolding k.found f → RefusesStream ds f
+  refused at e more s k (faults.UndefinedAlias n) h = refused-by at e more s k (undefined_alias, n) h
+  refused at e more s k (faults.CyclicAlias n) h = refused-by at e more s k (cyclic_alias, n) h
+  refused at e more s k (faults.WrongKind n) h = refused-by at e more s k (wrong_kind, n) h
+  refused at e more s k (faults.BadContent n) h = refused-by at e more s k (bad_content, n) h
+  refused at e more s k (faults.IntRange n) h = refused-by at e more s k (int_range, n) h
+  refused at e more s k (faults.FloatRange n) h = refused-by at e more s k (float_range, n) h
+  refused at e more s k faults.OutOfMemory h = tt
+  refused at e more s k _ h = absurd h
 
   -- the roots that stand at last are the documents' trees, and the nodes are all of their own
-  pub ended : (at : ℕ) (s : State) → length es ≤ at → steps at (map event_of (drop at es)) s ≡ steps 0 (map event_of es) initial_state → (trees_of ds ≡ Ok s.inner) × (s.done ≡ stream_trees ds s.inner)
+  pub ended : (at : ℕ) (left : List code.Event) (s : State) → length left ≡ 0 → steps at (map event_of left) s ≡ steps 0 (map event_of es) initial_state → (trees_of ds ≡ Ok s.inner) × (s.done ≡ stream_trees ds s.inner)
   unfolding steps
-  ended at s l q =
-      let e : Some (Ok (s.inner, s.done)) ≡ Some (and_then (trees_of ds) (with_all [] [] ds)) = ap (λ x. comes_to (steps at (map event_of x) s)) (sym (drop_all at es l)) ∙ (ap comes_to q ∙ total-is) in
+  ended at [] s l q =
+      let e : Some (Ok (s.inner, s.done)) ≡ Some (and_then (trees_of ds) (with_all [] [] ds)) = ap comes_to q ∙ total-is in
       stream-found ds (trees_of ds) s.inner s.done e
+  ended at (e ∷ left) s l q = absurd (cc)

@@ -1,8 +1,9 @@
 -- What the composer holds, as plain values.
 use Rattle.std.specs.Prelude.{◌≡◌, ◌<◌, ◌≤◌, ℕ, suc, min, slice_index, Bool, true, false, List, [], ◌∷◌, Option, Some, None, Ok, cond, bytes_eq, reverse, map, length}
+use Rattle.std.specs.Global.{Global}
 use Rattle.std.specs.List.{slice_get}
-use Rattle.std.specs.Borrow.{Bor}
 use Rattle.std.specs.Cow.{cow_str_bytes}
+use Rattle.std.specs.declared.borrow.CowStr.{CowStr}
 use Rattle.std.specs.Option.{option_map}
 use Rattle.std.specs.BTreeMap.{BTreeMap, get_by}
 use Rattle.std.specs.Cmp.Lexicographic.{slice_cmp}
@@ -30,16 +31,20 @@ abbrev pub kind_number : Collection → ℕ
 kind_number collections.Sequence = 1
 kind_number collections.Mapping = 2
 
-abbrev pub anchor_view : Option (Bor (List ℕ)) → Anchor
-anchor_view anchor = option_map (λ name. name.now) anchor
+abbrev pub anchor_view : Option (CowStr Global) → Anchor
+anchor_view anchor = option_map cow_str_bytes anchor
 
 -- the tree's height, cut just above the limit
 abbrev pub cut : Tree → ℕ
 cut t = min (height t) (suc height_limit)
 
+-- places by names
+abbrev pub Names : Type 0
+Names = BTreeMap (CowStr Global) ℕ
+
 -- where the map has this name
-abbrev pub place_named : BTreeMap (Bor (List ℕ)) ℕ → List ℕ → Option ℕ
-place_named names name = get_by (λ k. slice_cmp nat_cmp name k.now) names
+abbrev pub place_named : Names → List ℕ → Option ℕ
+place_named names name = get_by (λ k. slice_cmp nat_cmp name (cow_str_bytes k)) names
 
 -- the last place of this name
 unfoldable pub last_place : List ℕ → List (List ℕ) → Option ℕ
@@ -91,7 +96,7 @@ pub record Collects (nodes : List Node) (mapped : Bool) (places : List NodeId) (
   pub tree : (g : List ℕ) → kind_tree (trees_in nodes) g kind ≡ machine.collection_from mapped g (trees_at (trees_in nodes) places)
 
 -- these lists and this map are the state
-pub record Held (nodes : List Node) (heights : List ℕ) (names : BTreeMap (Bor (List ℕ)) ℕ) (anchored : List (Option NodeId)) (outer : List Open) (inner : List NodeId) (s : machine.State) : Type 0 where
+pub record Held (nodes : List Node) (heights : List ℕ) (names : Names) (anchored : List (Option NodeId)) (outer : List Open) (inner : List NodeId) (s : machine.State) : Type 0 where
   pub grounded : Grounded nodes
   pub measured : heights ≡ map cut (trees_in nodes)
   pub inside : AllStand (trees_in nodes) inner s.inner

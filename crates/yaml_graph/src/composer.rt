@@ -2,7 +2,7 @@
 ghost use Rattle.std.specs.Prelude.{◌≡◌, ◌<◌, ℕ, List, length, map, Some, Ok, IfOk, IfErr, MatchResult};
 ghost use Rattle.std.specs.List.{All};
 ghost use Rattle.std.specs.Cow.{cow_str_bytes};
-ghost use Rattle.std.specs.Option.{option_map, IfSome};
+ghost use Rattle.std.specs.Option.{IfSome};
 ghost use Rattle.yaml_core.specs.Answer.{RefusesScalar};
 ghost use Rattle.yaml_text.specs.Event.{Anchor};
 ghost use Rattle.yaml_text.specs.Core.{Resolved, resolve, collection_tag};
@@ -38,15 +38,14 @@ pub(crate) struct Open<'s> {
     before: Vec<NodeId>,
 }
 
-/// What was composed of the events so far. Names are lent by the events, and what the graph keeps by
-/// their source.
+/// What was composed of the events so far.
 #[derive(Drop)]
-pub(crate) struct Composer<'e, 's> {
+pub(crate) struct Composer<'s> {
     pub(crate) nodes: Vec<Node<'s>>,
     /// The nodes' heights, cut just above the limit.
     pub(crate) heights: Vec<u32>,
     /// For each name of an anchor of this document, the place of the last node that has it.
-    names: BTreeMap<&'e str, usize>,
+    names: BTreeMap<CowStr<'s>, usize>,
     /// The nodes of this document that have anchors, in the order in which they begin; none where
     /// the node is still open.
     anchored: Vec<Option<NodeId>>,
@@ -55,8 +54,8 @@ pub(crate) struct Composer<'e, 's> {
     pub(crate) inner: Vec<NodeId>,
 }
 
-impl<'e, 's> Composer<'e, 's> {
-    pub(crate) fn new(alloc: Global) -> Composer<'e, 's>
+impl<'s> Composer<'s> {
+    pub(crate) fn new(alloc: Global) -> Composer<'s>
         ensures { Holds result initial_state }
     {
         Composer {
@@ -70,7 +69,7 @@ impl<'e, 's> Composer<'e, 's> {
     }
 
     /// Notes that a node begins, and gives its place among the anchored ones.
-    fn begin(&mut self, anchor: Option<&'e str>) -> Result<Option<usize>, Fault>
+    fn begin(&mut self, anchor: Option<CowStr<'s>>) -> Result<Option<usize>, Fault>
         ensures ok { (s : State) → Holds self.old s → IfOk result (λ place. Placed (names_of (node_begun (anchor_view anchor.entry) s).table) place (anchor_view anchor.entry) (length s.table) × Holds self.new (node_begun (anchor_view anchor.entry) s)) }
         ensures err { IfErr result (λ fault. fault ≡ Fault.OutOfMemory) }
     {
@@ -107,14 +106,14 @@ impl<'e, 's> Composer<'e, 's> {
         &mut self,
         alloc: Global,
         at: usize,
-        anchor: Option<&'e str>,
-        tag: &EventTag<'s>,
+        anchor: Option<CowStr<'s>>,
+        tag: EventTag<'s>,
         style: Style,
-        text: &CowStr<'s>,
+        text: CowStr<'s>,
     ) -> Result<(), Fault>
         requires { (s : State) × Holds self.old s }
         ensures { (s : State) → Holds self.old s →
-            let found = and_then (placed at (resolve (written_of tag.now) (style_of style) (cow_str_bytes text.now))) (scalar_added (anchor_view anchor.entry) s) in
+            let found = and_then (placed at (resolve (written_of tag.entry) (style_of style) (cow_str_bytes text.entry))) (scalar_added (anchor_view anchor.entry) s) in
             MatchResult result (λ _. Reached found self.new) (RefusesUnfolding found) }
     {
         match scalar_of(alloc, tag, style, text) {
@@ -139,14 +138,14 @@ impl<'e, 's> Composer<'e, 's> {
         alloc: Global,
         at: usize,
         collection: Collection,
-        anchor: Option<&'e str>,
-        tag: &EventTag<'s>,
+        anchor: Option<CowStr<'s>>,
+        tag: EventTag<'s>,
     ) -> Result<(), Fault>
         ensures { (s : State) → Holds self.old s →
-            let found = and_then (placed at (collection_tag (kind_number collection) (written_of tag.now))) (λ h. Ok (collection_begun (anchor_view anchor.entry) s h)) in
+            let found = and_then (placed at (collection_tag (kind_number collection) (written_of tag.entry))) (λ h. Ok (collection_begun (anchor_view anchor.entry) s h)) in
             MatchResult result (λ _. Reached found self.new) (RefusesUnfolding found) }
     {
-        let tag = collection.tag(alloc, at, tag)?;
+        let tag = collection.tag(at, tag)?;
         let place = self.begin(anchor)?;
         let before = mem::replace(&mut self.inner, Vec::new(alloc));
         self.outer.push(Open { place, tag, before })?;
@@ -186,14 +185,9 @@ impl<'e, 's> Composer<'e, 's> {
     }
 
     /// Takes the event at `at`.
-    pub(crate) fn take(
-        &mut self,
-        alloc: Global,
-        at: usize,
-        event: &'e Event<'s>,
-    ) -> Result<(), Fault>
+    pub(crate) fn take(&mut self, alloc: Global, at: usize, event: Event<'s>) -> Result<(), Fault>
         requires { (s : State) × Holds self.old s }
-        ensures { (s : State) → Holds self.old s → (found : Outcome State) → step at (event_of event.now) s ≡ Some found →
+        ensures { (s : State) → Holds self.old s → (found : Outcome State) → step at (event_of event.entry) s ≡ Some found →
             MatchResult result (λ _. Reached found self.new) (RefusesUnfolding found) }
     {
         match event {
@@ -202,13 +196,13 @@ impl<'e, 's> Composer<'e, 's> {
                 tag,
                 style,
                 text,
-            } => self.scalar(alloc, at, name_of(anchor), tag, *style, text),
+            } => self.scalar(alloc, at, anchor, tag, style, text),
             Event::Alias { name } => self.alias(at, name.as_str()),
             Event::SequenceStart { anchor, tag, .. } => {
-                self.enter(alloc, at, Collection::Sequence, name_of(anchor), tag)
+                self.enter(alloc, at, Collection::Sequence, anchor, tag)
             }
             Event::MappingStart { anchor, tag, .. } => {
-                self.enter(alloc, at, Collection::Mapping, name_of(anchor), tag)
+                self.enter(alloc, at, Collection::Mapping, anchor, tag)
             }
             Event::SequenceEnd => self.leave(alloc, Collection::Sequence),
             Event::MappingEnd => self.leave(alloc, Collection::Mapping),
@@ -239,13 +233,16 @@ fn fault_at(at: usize, fault: CoreFault) -> Fault
 fn kind_of<'a>(
     alloc: Global,
     collection: Collection,
-    parts: Vec<NodeId>,
+    mut parts: Vec<NodeId>,
 ) -> Result<NodeKind<'a>, Fault>
     ensures ok { (nodes : List Node) → All (λ i. i.0 < length nodes) parts.items → IfOk result (Collects nodes (is_mapping collection) parts.items) }
     ensures err { IfErr result (λ fault. fault ≡ Fault.OutOfMemory) }
 {
     match collection {
-        Collection::Sequence => Ok(NodeKind::Sequence(parts)),
+        Collection::Sequence => {
+            parts.shrink_to_fit();
+            Ok(NodeKind::Sequence(parts))
+        }
         Collection::Mapping => Ok(NodeKind::Mapping(paired(alloc, &parts)?)),
     }
 }
@@ -262,13 +259,4 @@ fn paired(alloc: Global, parts: &[NodeId]) -> Result<Vec<(NodeId, NodeId)>, Faul
         left = rest;
     }
     Ok(entries)
-}
-
-fn name_of<'a>(anchor: &'a Option<CowStr<'_>>) -> Option<&'a str>
-    ensures { anchor_view result ≡ option_map cow_str_bytes anchor.now }
-{
-    match anchor {
-        None => None,
-        Some(name) => Some(name.as_str()),
-    }
 }

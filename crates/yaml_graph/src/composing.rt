@@ -7,6 +7,7 @@ ghost use Rattle.yaml_graph.specs.Composed.{Composable, Composed, RefusesStream}
 ghost use Rattle.yaml_graph.specs.ComposerModel.{AllBelow, IsFirstAbove};
 
 use crate::composer::Composer;
+use crate::copied::copies;
 use crate::graph::Graph;
 use crate::node::NodeId;
 use std::alloc::Global;
@@ -28,19 +29,18 @@ fn first_too_high(heights: &[u32], roots: &[NodeId]) -> Option<usize>
 }
 
 /// The graph of a stream's events, which are those of some documents, well nested. Nodes are
-/// numbered in the order in which they close. Texts and tags that the events lend are lent on, so that
-/// the events may go before the graph; others are copied.
+/// numbered in the order in which they close. Texts and tags move from the events to the nodes.
 ///
 /// Refused are, at the first event of which one is true: an alias that no node before it in its
 /// document is named for (12) or whose node is still open (13), a core tag on another kind of node
 /// (14), a text that a written core tag does not match (15), and an int (16) or a float (17) out of
 /// range. Then the first document whose tree is higher than the limit (18).
-pub fn compose<'s>(alloc: Global, events: &[Event<'s>]) -> Result<Graph<'s>, Fault>
-    requires { Composable events.now }
-    ensures { (ds : List Document) → map event_of events.now ≡ stream_events ds → MatchResult result (Composed ds) (RefusesStream ds) }
+pub fn compose_owned<'s>(alloc: Global, events: Vec<Event<'s>>) -> Result<Graph<'s>, Fault>
+    requires { Composable events.items }
+    ensures { (ds : List Document) → map event_of events.entry.items ≡ stream_events ds → MatchResult result (Composed ds) (RefusesStream ds) }
 {
     let mut composer = Composer::new(alloc);
-    for (at, event) in events.iter().enumerate() {
+    for (at, event) in events.into_iter().enumerate() {
         composer.take(alloc, at, event)?;
     }
     if let Some(document) = first_too_high(&composer.heights, &composer.inner) {
@@ -51,4 +51,13 @@ pub fn compose<'s>(alloc: Global, events: &[Event<'s>]) -> Result<Graph<'s>, Fau
         heights: composer.heights,
         roots: composer.inner,
     })
+}
+
+/// The graph of events that stay with the caller, as `compose_owned` gives it. Texts and tags that
+/// the events lend are lent on, so that the events may go before the graph; others are copied.
+pub fn compose<'s>(alloc: Global, events: &[Event<'s>]) -> Result<Graph<'s>, Fault>
+    requires { Composable events.now }
+    ensures { (ds : List Document) → map event_of events.now ≡ stream_events ds → MatchResult result (Composed ds) (RefusesStream ds) }
+{
+    compose_owned(alloc, copies(alloc, events)?)
 }

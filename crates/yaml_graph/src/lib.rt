@@ -3,6 +3,7 @@
 
 mod composer;
 pub mod composing;
+mod copied;
 pub mod graph;
 mod height;
 pub mod joining;
@@ -10,7 +11,7 @@ mod kept;
 pub mod node;
 mod tag;
 
-pub use composing::compose;
+pub use composing::{compose, compose_owned};
 pub use graph::Graph;
 pub use joining::join;
 pub use node::{Node, NodeId, NodeKind};

@@ -8,8 +8,6 @@ ghost use Rattle.yaml_text.specs.EventModel.{written_of};
 ghost use Rattle.yaml_graph.specs.Composed.{RefusesUnfolding};
 ghost use Rattle.yaml_graph.specs.ComposerModel.{kind_number};
 
-use crate::kept::kept_text;
-use std::alloc::Global;
 use std::borrow::CowStr;
 use yaml_text::event::EventTag;
 use yaml_text::fault::Fault;
@@ -52,21 +50,19 @@ impl Collection {
 
     /// The tag of the collection that begins at the event at `at`.
     #[tactic(auto, unfolding(yaml_text::specs::Core::collection_tag))]
-    pub(crate) fn tag<'s>(
-        self,
-        alloc: Global,
-        at: usize,
-        tag: &EventTag<'s>,
-    ) -> Result<CowStr<'s>, Fault>
-        ensures { MatchResult result (λ text. collection_tag (kind_number self) (written_of tag.now) ≡ Ok (cow_str_bytes text)) (RefusesUnfolding (placed at (collection_tag (kind_number self) (written_of tag.now)))) }
+    pub(crate) fn tag<'s>(self, at: usize, tag: EventTag<'s>) -> Result<CowStr<'s>, Fault>
+        ensures { MatchResult result (λ text. collection_tag (kind_number self) (written_of tag.entry) ≡ Ok (cow_str_bytes text)) (RefusesUnfolding (placed at (collection_tag (kind_number self) (written_of tag.entry)))) }
     {
         let EventTag::Full(full) = tag else {
             return Ok(CowStr::Borrowed(self.default_tag()));
         };
         let text = full.as_str();
-        if text != self.default_tag() && is_core(text) {
+        if text == self.default_tag() {
+            return Ok(CowStr::Borrowed(self.default_tag()));
+        }
+        if is_core(text) {
             return Err(Fault::WrongKind(at));
         }
-        Ok(kept_text(alloc, full)?)
+        Ok(full)
     }
 }

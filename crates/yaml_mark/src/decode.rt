@@ -28,6 +28,19 @@ fn is_tag(text: &str) -> bool
     text != "!"
 }
 
+/// The text with no room to spare. Decoding takes room as it finds escapes, and each use of a tag keeps its own.
+fn trimmed<'a>(text: CowStr<'a>) -> CowStr<'a>
+    ensures { cow_str_bytes result ≡ cow_str_bytes text.entry }
+{
+    match text {
+        CowStr::Borrowed(text) => CowStr::Borrowed(text),
+        CowStr::Owned(mut text) => {
+            text.shrink_to_fit();
+            CowStr::Owned(text)
+        }
+    }
+}
+
 /// The tag of a text, decoded once. A text without escapes is its own tag.
 pub(crate) fn decode<'a>(alloc: Global, text: &'a str) -> Result<Option<CowStr<'a>>, Fault>
     ensures ok { IfOk result (λ tag. option_map (λ t. full (cow_str_bytes t)) tag ≡ decoded text.now) }
@@ -36,7 +49,7 @@ pub(crate) fn decode<'a>(alloc: Global, text: &'a str) -> Result<Option<CowStr<'
     match percent_decode_str(text).decode_utf8(alloc) {
         Ok(tag) => {
             if is_tag(tag.as_str()) {
-                Ok(Some(tag))
+                Ok(Some(trimmed(tag)))
             } else {
                 Ok(None)
             }
@@ -51,7 +64,7 @@ pub(crate) fn join(alloc: Global, prefix: &str, suffix: &str) -> Result<Option<S
     ensures ok { IfOk result (λ tag. option_map (λ t. full (string_bytes t)) tag ≡ decoded (prefix.now ++ suffix.now)) }
     ensures err { IfErr result (λ e. e ≡ fault.OutOfMemory) }
 {
-    let mut text = String::new(alloc);
+    let mut text = String::with_capacity(alloc, prefix.len() + suffix.len())?;
     text.push_str(prefix)?;
     text.push_str(suffix)?;
     match decode(alloc, text.as_str())? {

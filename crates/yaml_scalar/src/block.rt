@@ -57,7 +57,8 @@ fn read_block<'a>(
         return Err(unusable(source, at));
     };
     let (header, first) = read_header(source, start)?;
-    let (text, end, indent) = read_content(alloc, source, first, column(n), header, is_folded)?;
+    let (mut text, end, indent) = read_content(alloc, source, first, column(n), header, is_folded)?;
+    text.shrink_to_fit();
     Ok((CowStr::Owned(text), trailing_comments(source, end, indent)))
 }
 

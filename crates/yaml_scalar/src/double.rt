@@ -96,6 +96,7 @@ fn double_from<'a>(
                 return Ok((CowStr::Borrowed(text_between(source, start, stop)), after));
             }
             push_between(&mut text, source, from, stop)?;
+            text.shrink_to_fit();
             return Ok((CowStr::Owned(text), after));
         }
         if let Some((c, after)) = read_escape(source, stop) {

@@ -186,7 +186,10 @@ fn plain_from<'a>(
                 end = last;
                 push_between(&mut text, source, start, end)?;
                 match next_line(source, stop, least, context) {
-                    None => return Ok((CowStr::Owned(text), end)),
+                    None => {
+                        text.shrink_to_fit();
+                        return Ok((CowStr::Owned(text), end));
+                    }
                     Some((more_empty, more_from, more_after)) => {
                         count = more_empty;
                         start = more_from;

@@ -48,6 +48,7 @@ fn single_from<'a>(
                         return Ok((CowStr::Borrowed(text_between(source, start, stop)), quote));
                     }
                     push_between(&mut text, source, from, stop)?;
+                    text.shrink_to_fit();
                     return Ok((CowStr::Owned(text), quote));
                 }
                 Some(after) => {

@@ -1,13 +1,11 @@
-use Rattle.std.proofs.Common.{◌∙◌, sym, ap, subst, rules, map}
-use Rattle.yaml_text.specs.EventModel.{event_of}
-use Rattle.yaml_graph.specs.Composed.{Composable}
+use Rattle.std.proofs.Common.{rules}
 use Rattle.yaml_canon.proofs.ClaimLaws.{found, composable, refused_text, refused_reading, graph_found, graph_unfound}
 use Rattle.yaml_canon.proofs.composed.graph_of.Goals as goal
 
-pub compose-requires : goal.compose-requires
-compose-requires c =
+pub compose_owned-requires : goal.compose_owned-requires
+compose_owned-requires c =
     let d = found c.args.bytes.now _ c.in_ok-events.events.items c.in_ok-source.ensures.read c.in_ok-events.ensures.ok in
-    subst Composable (sym c.deref.ensures.value) (composable c.args.bytes.now c.in_ok-events.events.items d)
+    composable c.args.bytes.now c.in_ok-events.events.items d
 
 pub returns-in_err-source-clause-refused : goal.returns-in_err-source-clause-refused
 returns-in_err-source-clause-refused c =
@@ -22,9 +20,9 @@ returns-in_err-events-clause-refused c =
 pub returns-clause-graph : goal.returns-clause-graph
 returns-clause-graph c =
     let d = found c.args.bytes.now _ c.in_ok-events.events.items c.in_ok-source.ensures.read c.in_ok-events.ensures.ok in
-    graph_found c.args.bytes.now d.0 d.2 c.compose.result (c.compose.ensures d.0 (ap (map event_of) c.deref.ensures.value ∙ d.1))
+    graph_found c.args.bytes.now d.0 d.2 c.compose_owned.result (c.compose_owned.ensures d.0 d.1)
 
 pub returns-clause-refused : goal.returns-clause-refused
 returns-clause-refused c =
     let d = found c.args.bytes.now _ c.in_ok-events.events.items c.in_ok-source.ensures.read c.in_ok-events.ensures.ok in
-    graph_unfound c.args.bytes.now d.0 d.2 c.compose.result (c.compose.ensures d.0 (ap (map event_of) c.deref.ensures.value ∙ d.1))
+    graph_unfound c.args.bytes.now d.0 d.2 c.compose_owned.result (c.compose_owned.ensures d.0 d.1)

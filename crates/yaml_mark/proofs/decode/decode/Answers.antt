@@ -10,7 +10,7 @@ pub returns-then-is_tag-clause-ok : goal.returns-then-is_tag-clause-ok
 returns-then-is_tag-clause-ok c =
     let e = c.in-Ok.ensures.value ∙ c.percent_decode_str.ensures.bytes ∙ same_decode c.args.text.now in
     let t = ap is_full (sym e) ∙ ap is_full (sym c.as_str.ensures.value) ∙ sym c.is_tag.ensures ∙ c.if-is_tag.true in
-    ap (λ x. Some (full x)) e ∙ sym (decoded_yes c.args.text.now t)
+    ap (λ x. Some (full x)) (c.trimmed.ensures ∙ e) ∙ sym (decoded_yes c.args.text.now t)
 
 pub returns-in-Ok-clause-ok : goal.returns-in-Ok-clause-ok
 returns-in-Ok-clause-ok c =

@@ -47,8 +47,9 @@ returns-clause-reads c =
     let s = c.in-Some.ensures.some in
     let t = c.in_ok-text.ensures in
     let first = place_of c.args.source.now c.in_ok-header.first in
-    block_is cs c.args.is_folded (column c.args.n) _ _ _ _ _ _ (header_of c.in_ok-header.header) _ (s.is ∙ ap Some c.sign_of.ensures) s.next c.in_ok-header.ensures.header
-    (subst (λ m. indentation cs m c.in_ok-header.header.digit first first c.in_ok-text.indent) (column_is _ _ (search rules) c.column.ensures) t.indentation) t.lines c.trailing_comments.ensures.lines
+    subst (λ b. FurthestAlone (styled cs c.args.is_folded (column c.args.n)) (place_of c.args.source.now c.args.at) (place_of c.args.source.now c.trailing_comments.result) (chars b)) (sym c.shrink_to_fit.ensures.bytes)
+    (block_is cs c.args.is_folded (column c.args.n) _ _ _ _ _ _ (header_of c.in_ok-header.header) _ (s.is ∙ ap Some c.sign_of.ensures) s.next c.in_ok-header.ensures.header
+    (subst (λ m. indentation cs m c.in_ok-header.header.digit first first c.in_ok-text.indent) (column_is _ _ (search rules) c.column.ensures) t.indentation) t.lines c.trailing_comments.ensures.lines)
 
 pub returns-clause-utf8 : goal.returns-clause-utf8
-returns-clause-utf8 c = IsUtf8-string_bytes c.in_ok-text.text
+returns-clause-utf8 c = IsUtf8-string_bytes c.shrink_to_fit.new.self

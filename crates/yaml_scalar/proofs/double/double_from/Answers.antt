@@ -70,7 +70,7 @@ returns-in-Some-accept-clause-reads c =
     let k = place_of c.args.source.now c.quoted_run-end.result.0 in
     let j = place_of c.args.source.now c.quoted_run-end.result.1 in
     subst (Only (double cs c.args.least (context_of c.args.context)) (place_of c.args.source.now c.args.at) (place_of c.args.source.now c.in-Some-accept.after))
-    (two_slices cs old 34 i k j q.line q.whites.0 ∙ sym c.in_ok-push_between.ensures)
+    (two_slices cs old 34 i k j q.line q.whites.0 ∙ (sym c.in_ok-push_between.ensures ∙ ap chars (sym c.shrink_to_fit.ensures.bytes)))
     (double_only cs _ _ _ _ _ (double_end cs c.args.least (context_of c.args.context) _ _ k j _ (old ++ slice_range cs i k) s.is s.next
     (double_line cs c.args.least (context_of c.args.context) _ _ i k old (slice_range cs i k) c.pieces.invariant.state q.line) q.whites t.is t.next))
 
@@ -192,4 +192,4 @@ pieces-preserved c =
     }
 
 pub returns-in-Some-accept-clause-utf8 : goal.returns-in-Some-accept-clause-utf8
-returns-in-Some-accept-clause-utf8 c = IsUtf8-string_bytes c.push_between.new.text
+returns-in-Some-accept-clause-utf8 c = IsUtf8-string_bytes c.shrink_to_fit.new.self

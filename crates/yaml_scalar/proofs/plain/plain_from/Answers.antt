@@ -52,7 +52,7 @@ returns-in-None-next_line-clause-reads c =
     let v = c.lines.invariant in
     let l = c.line_end-last.ensures in
     subst (Furthest (plain cs c.args.least (context_of c.args.context)) (place_of c.args.source.now c.args.at) (place_of c.args.source.now c.line_end-last.result.0))
-    (sym (c.in_ok-push_between-in-Some-next_line-2.ensures ∙ ap (λ v. v ++ slice_range cs (place_of c.args.source.now c.lines.start) (place_of c.args.source.now c.line_end-last.result.0)) c.in_ok-push_fold-in-Some-next_line.ensures))
+    (sym (ap chars c.shrink_to_fit.ensures.bytes ∙ (c.in_ok-push_between-in-Some-next_line-2.ensures ∙ ap (λ v. v ++ slice_range cs (place_of c.args.source.now c.lines.start) (place_of c.args.source.now c.line_end-last.result.0)) c.in_ok-push_fold-in-Some-next_line.ensures)))
     (plain_furthest cs _ _ _ _ _ (sofar_end cs c.args.least (context_of c.args.context) _ _ _
     (sofar_line cs c.args.least (context_of c.args.context) _ _ _ _ _ _ _ _ v.sofar v.fold v.later v.steps.1.is v.unmarked v.steps.1.next l.line)
     l.furthest (no_more_line cs _ _ _ _ l.whites l.no_white c.in-None-next_line.ensures.none)))
@@ -90,7 +90,7 @@ returns-clause-reads c =
     l.furthest (no_more_line cs _ _ _ _ l.whites l.no_white c.in-None.ensures.none)))
 
 pub returns-in-None-next_line-clause-utf8 : goal.returns-in-None-next_line-clause-utf8
-returns-in-None-next_line-clause-utf8 c = IsUtf8-string_bytes c.push_between-in-lines.new.text
+returns-in-None-next_line-clause-utf8 c = IsUtf8-string_bytes c.shrink_to_fit.new.self
 
 pub returns-in_err-push_between-in-Some-next_line-clause-memory : goal.returns-in_err-push_between-in-Some-next_line-clause-memory
 returns-in_err-push_between-in-Some-next_line-clause-memory c =

@@ -70,7 +70,7 @@ returns-in-None-accept-clause-reads c =
     let k = place_of c.args.source.now c.quoted_run-end.result.0 in
     let j = place_of c.args.source.now c.quoted_run-end.result.1 in
     subst (Only (single cs c.args.least (context_of c.args.context)) (place_of c.args.source.now c.args.at) (place_of c.args.source.now c.in-Some-accept.quote))
-    (two_slices cs old 39 i k j q.line q.whites.0 ∙ sym c.in_ok-push_between-in-None-accept.ensures)
+    (two_slices cs old 39 i k j q.line q.whites.0 ∙ (sym c.in_ok-push_between-in-None-accept.ensures ∙ ap chars (sym c.shrink_to_fit.ensures.bytes)))
     (single_only cs _ _ _ _ _ (single_end cs c.args.least (context_of c.args.context) _ _ k j _ (old ++ slice_range cs i k) s.is s.next
     (single_line cs c.args.least (context_of c.args.context) _ _ i k old (slice_range cs i k) c.pieces.invariant.state q.line) q.whites
     (close_here cs _ _ t.is t.next c.in-None-accept.ensures.none)))
@@ -138,4 +138,4 @@ pieces-preserved c =
     }
 
 pub returns-in-None-accept-clause-utf8 : goal.returns-in-None-accept-clause-utf8
-returns-in-None-accept-clause-utf8 c = IsUtf8-string_bytes c.push_between.new.text
+returns-in-None-accept-clause-utf8 c = IsUtf8-string_bytes c.shrink_to_fit.new.self

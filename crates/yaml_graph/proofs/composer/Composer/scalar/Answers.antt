@@ -25,4 +25,4 @@ returns-in_ok-place-in-Ok c = λ s h.
 
 pub returns-in-Err : goal.returns-in-Err
 returns-in-Err c = λ s h.
-    refuses-then (placed c.args.at (resolve (written_of c.args.tag.now) (style_of c.args.style) (cow_str_bytes c.args.text.now))) (scalar_added (anchor_view c.args.anchor) s) c.fault_at.result (c.fault_at.ensures _ c.in-Err.ensures)
+    refuses-then (placed c.args.at (resolve (written_of c.args.tag) (style_of c.args.style) (cow_str_bytes c.args.text))) (scalar_added (anchor_view c.args.anchor) s) c.fault_at.result (c.fault_at.ensures _ c.in-Err.ensures)

@@ -1,9 +1,6 @@
-use Rattle.std.proofs.Common.{refl, sym, ap, ◌∙◌, subst, Ok}
-use Rattle.std.specs.Cow.{cow_str_bytes}
-use Rattle.yaml_text.specs.Core.{resolve, collection_tag}
-use Rattle.yaml_text.specs.EventModel.{written_of, style_of}
+use Rattle.std.proofs.Common.{refl, sym, ap, ◌∙◌, subst}
 use Rattle.yaml_text.specs.Unfold.{and_then, placed, tree_named, last_named}
-use Rattle.yaml_graph.specs.ComposerSteps.{step, scalar_added, collection_begun, added}
+use Rattle.yaml_graph.specs.ComposerSteps.{step, added}
 use Rattle.yaml_graph.specs.ComposerModel.{Held}
 use Rattle.yaml_graph.proofs.ComposerLaws.{held-clear}
 use Rattle.yaml_graph.proofs.CallLaws.{answered-reached, answered-same}
@@ -14,41 +11,40 @@ pub returns-in-Scalar : goal.returns-in-Scalar
 unfolding step
 returns-in-Scalar c = λ s h found e.
     answered-same c.scalar.result c.scalar.new.self found _
-    (took c.args.at c.args.event.now _ s found _ c.in-Scalar.is e refl
-    ∙ ap (λ a. and_then (placed c.args.at (resolve (written_of c.in-Scalar.tag) (style_of c.in-Scalar.style) (cow_str_bytes c.in-Scalar.text))) (scalar_added a s)) (sym c.name_of.ensures)) (c.scalar.ensures s h)
+    (took c.args.at c.args.event _ s found _ c.in-Scalar.is e refl) (c.scalar.ensures s h)
 
 pub returns-in-Alias : goal.returns-in-Alias
 unfolding step
 returns-in-Alias c = λ s h found e.
     answered-same c.alias.result c.alias.new.self found _
-    (took c.args.at c.args.event.now _ s found _ c.in-Alias.is e refl ∙ sym (ap (λ x. and_then (placed c.args.at (tree_named (last_named x s.table))) (added s)) c.as_str.ensures.value)) (c.alias.ensures s h)
+    (took c.args.at c.args.event _ s found _ c.in-Alias.is e refl ∙ sym (ap (λ x. and_then (placed c.args.at (tree_named (last_named x s.table))) (added s)) c.as_str.ensures.value)) (c.alias.ensures s h)
 
 pub returns-in-SequenceStart : goal.returns-in-SequenceStart
 unfolding step
 returns-in-SequenceStart c = λ s h found e.
     answered-same c.enter.result c.enter.new.self found _
-    (took c.args.at c.args.event.now _ s found _ c.in-SequenceStart.is e refl ∙ sym (ap (λ a. and_then (placed c.args.at (collection_tag 1 (written_of c.in-SequenceStart.tag))) (λ g. Ok (collection_begun a s g))) c.name_of-in-SequenceStart.ensures)) (c.enter.ensures s h)
+    (took c.args.at c.args.event _ s found _ c.in-SequenceStart.is e refl) (c.enter.ensures s h)
 
 pub returns-in-MappingStart : goal.returns-in-MappingStart
 unfolding step
 returns-in-MappingStart c = λ s h found e.
     answered-same c.enter-in-MappingStart.result c.enter-in-MappingStart.new.self found _
-    (took c.args.at c.args.event.now _ s found _ c.in-MappingStart.is e refl ∙ sym (ap (λ a. and_then (placed c.args.at (collection_tag 2 (written_of c.in-MappingStart.tag))) (λ g. Ok (collection_begun a s g))) c.name_of-in-MappingStart.ensures)) (c.enter-in-MappingStart.ensures s h)
+    (took c.args.at c.args.event _ s found _ c.in-MappingStart.is e refl) (c.enter-in-MappingStart.ensures s h)
 
 pub returns-in-SequenceEnd : goal.returns-in-SequenceEnd
 unfolding step
 returns-in-SequenceEnd c = λ s h found e.
-    answered-reached c.leave.result c.leave.new.self found (c.leave.ensures.ok s h found (taken c.args.at c.args.event.now _ s found c.in-SequenceEnd.is e)) c.leave.ensures.err
+    answered-reached c.leave.result c.leave.new.self found (c.leave.ensures.ok s h found (taken c.args.at c.args.event _ s found c.in-SequenceEnd.is e)) c.leave.ensures.err
 
 pub returns-in-MappingEnd : goal.returns-in-MappingEnd
 unfolding step
 returns-in-MappingEnd c = λ s h found e.
-    answered-reached c.leave-in-MappingEnd.result c.leave-in-MappingEnd.new.self found (c.leave-in-MappingEnd.ensures.ok s h found (taken c.args.at c.args.event.now _ s found c.in-MappingEnd.is e)) c.leave-in-MappingEnd.ensures.err
+    answered-reached c.leave-in-MappingEnd.result c.leave-in-MappingEnd.new.self found (c.leave-in-MappingEnd.ensures.ok s h found (taken c.args.at c.args.event _ s found c.in-MappingEnd.is e)) c.leave-in-MappingEnd.ensures.err
 
 pub returns-in-DocumentStart : goal.returns-in-DocumentStart
 returns-in-DocumentStart c = λ s h found e.
     let self = c.args.self.now in
-    let w = document-found c.args.at c.args.event.now c.in-DocumentStart.explicit s found c.in-DocumentStart.is e in
+    let w = document-found c.args.at c.args.event c.in-DocumentStart.explicit s found c.in-DocumentStart.is e in
     record {
       state = fresh s;
       is = w.1;
@@ -57,10 +53,4 @@ returns-in-DocumentStart c = λ s h found e.
     }
 
 pub returns-in-DocumentEnd : goal.returns-in-DocumentEnd
-returns-in-DocumentEnd c = λ s h found e. stays c.args.at c.args.event.now s found c.args.self.now c.in-DocumentEnd.is e h
-
-pub returns-in-DocumentEnd-2 : goal.returns-in-DocumentEnd-2
-returns-in-DocumentEnd-2 c = λ s h found e. stays c.args.at c.args.event.now s found c.args.self.now c.in-DocumentEnd.is e h
-
-pub returns-in-DocumentEnd-3 : goal.returns-in-DocumentEnd-3
-returns-in-DocumentEnd-3 c = λ s h found e. stays c.args.at c.args.event.now s found c.args.self.now c.in-DocumentEnd.is e h
+returns-in-DocumentEnd c = λ s h found e. stays c.args.at c.args.event s found c.args.self.now c.in-DocumentEnd.is e h
