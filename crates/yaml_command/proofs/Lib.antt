@@ -1,1 +1,3 @@
 mod Answering
+mod EventLaws
+mod PageLaws

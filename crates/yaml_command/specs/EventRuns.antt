@@ -9,6 +9,18 @@ use Rattle.yaml_canon.specs.Runs.{FailsReading}
 use Rattle.yaml_canon.specs.Writers.{Printed, Broken}
 use Rattle.yaml_event_text.specs.Answer.{IsEventText, IsUnread}
 
+module _ {W : Type 0} (contents : W → Option (List ℕ)) where
+  -- the event text of the bytes was written
+  pub record TextPrinted (bytes : List ℕ) (old new : Counted W) : Type 0 where
+    pub text : List ℕ
+    pub is_text : IsEventText bytes text
+    pub printed : Printed contents old new text
+
+  -- a beginning of the event text of the bytes was written; or they are not read, and no call of the writer was made
+  abbrev pub TextFails : List ℕ → Counted W → Counted W → Fault → Type 0
+  TextFails bytes old new WriteFault = (text : List ℕ) × IsEventText bytes text × Broken contents old new text
+  TextFails bytes old new fault = IsUnread bytes fault × (new ≡ old)
+
 module _ {R W : Type 0} (remaining : R → Option (List ℕ)) (contents : W → Option (List ℕ)) where
   -- The reader gave all that it had, and its event text was written.
   pub record EventsPrinted (input end : Counted R) (old new : Counted W) : Type 0 where

@@ -1,4 +1,5 @@
 pub mod Printing
+pub mod Pages
 pub mod Refusals
 pub mod Statuses
 pub mod EventRuns

@@ -1,18 +1,30 @@
 //! `events`: the event text of an input.
 ghost use Rattle.std.specs.Prelude.{◌<◌, ◌-◌, ◌^◌, IfErr, OnOk};
 ghost use Rattle.yaml_text.specs.CountedModel.{faults_of};
-ghost use Rattle.yaml_command.specs.EventRuns.{EventsPrinted, EventsFail};
+ghost use Rattle.yaml_command.specs.EventRuns.{TextPrinted, TextFails, EventsPrinted, EventsFail};
 
-use crate::streams::write_out;
+use crate::pages::print_events;
 use std::alloc::Global;
 use std::io::{Read, Write};
 use yaml_canon::gather;
-use yaml_event_text::event_text;
+use yaml_read::read_events;
+use yaml_text::chars::Chars;
 use yaml_text::counted::Counted;
 use yaml_text::fault::Fault;
 use yaml_text::limits::text_limit;
 
-/// Reads all of an input, and writes its event text once it is whole.
+/// Reads the bytes, and writes their event text page by page.
+fn print_text<W: Write>(alloc: Global, bytes: &[u8], out: &mut Counted<W>) -> Result<(), Fault>
+    requires { faults_of out.old < 2 ^ 64 - 1 }
+    ensures ok { OnOk result (TextPrinted W.contents bytes.now out.old out.new) }
+    ensures err { IfErr result (TextFails W.contents bytes.now out.old out.new) }
+{
+    let source = Chars::read(bytes)?;
+    let events = read_events(alloc, &source)?;
+    print_events(alloc, events.as_slice(), out)
+}
+
+/// Reads all of an input, and writes its event text page by page once all of it is read.
 pub fn events<R: Read, W: Write>(
     alloc: Global,
     input: &mut Counted<R>,
@@ -24,6 +36,5 @@ pub fn events<R: Read, W: Write>(
     ensures err { IfErr result (EventsFail R.remaining W.contents input.old input.new out.old out.new) }
 {
     let bytes = gather(alloc, input, text_limit())?;
-    let text = event_text(alloc, bytes.as_slice())?;
-    write_out(out, text.as_bytes())
+    print_text(alloc, bytes.as_slice(), out)
 }

@@ -5,5 +5,6 @@ mod check;
 pub mod command;
 mod compare;
 mod events;
+mod pages;
 pub mod refusal;
 mod streams;

@@ -1,7 +1,7 @@
 //! Opening a file, and writing an answer whole.
 ghost use Rattle.std.specs.Prelude.{◌≡◌, ◌<◌, ◌-◌, ◌^◌, IfOk, IfErr, OnOk};
 ghost use Rattle.yaml_text.specs.CountedModel.{faults_of};
-ghost use Rattle.yaml_canon.specs.Writers.{Printed};
+ghost use Rattle.yaml_canon.specs.Writers.{Sent, CutOff, Printed};
 ghost use Rattle.yaml_command.specs.Printing.{PrintFails};
 ghost use Rattle.yaml_command.specs.Refusals.{IsUnopened};
 
@@ -23,6 +23,22 @@ pub fn open<'a, T: Files>(rt: &T, name: &'a str) -> Result<Counted<T::File>, Ref
     }
 }
 
+/// Writes a piece whole. Any error of the writer, and a write that takes no byte, is `WriteFault`;
+/// the writer then has a beginning of the piece.
+pub fn write_whole<W: Write>(out: &mut Counted<W>, piece: &[u8]) -> Result<(), Fault>
+    ensures ok { OnOk result (Sent W.contents out.old out.new piece.now) }
+    ensures err { IfErr result (CutOff W.contents out.old out.new piece.now) }
+{
+    let mut at = 0;
+    'write: while at < piece.len() {
+        match out.write(&piece[at..]) {
+            Ok(0) | Err(_) => return Err(Fault::WriteFault),
+            Ok(took) => at += took,
+        }
+    }
+    Ok(())
+}
+
 /// Writes the whole text and flushes. Any error of the writer, and a write that takes no byte, is
 /// `WriteFault`; the writer then has a beginning of the text, and its count is one higher.
 pub fn write_out<W: Write>(out: &mut Counted<W>, text: &[u8]) -> Result<(), Fault>
@@ -30,13 +46,7 @@ pub fn write_out<W: Write>(out: &mut Counted<W>, text: &[u8]) -> Result<(), Faul
     ensures ok { OnOk result (Printed W.contents out.old out.new text.now) }
     ensures err { IfErr result (PrintFails W.contents out.old out.new text.now) }
 {
-    let mut at = 0;
-    'write: while at < text.len() {
-        match out.write(&text[at..]) {
-            Ok(0) | Err(_) => return Err(Fault::WriteFault),
-            Ok(took) => at += took,
-        }
-    }
+    write_whole(out, text)?;
     match out.flush() {
         Ok(()) => Ok(()),
         Err(_) => Err(Fault::WriteFault),

@@ -1,4 +1,6 @@
 pub mod Pushes
+pub mod Room
+pub mod LineLengths
 pub mod TagText
 pub mod ValueText
 pub mod ValueReading

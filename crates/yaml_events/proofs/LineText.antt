@@ -12,6 +12,10 @@ pub events_one_more : (es : List Event) (e : Event) → events_text (es ++ (e �
 unfolding events_text
 events_one_more es e = events_append es (e ∷ []) ∙ sym (append_assoc (events_text es) (event_line e) (10 ∷ []))
 
+pub events_line_more : (es : List Event) (e : Event) → events_text (es ++ (e ∷ [])) ≡ events_text es ++ (event_line e ++ (10 ∷ []))
+unfolding events_text
+events_line_more es e = events_append es (e ∷ [])
+
 pub events_none : events_text [] ≡ []
 unfolding events_text
 events_none = refl

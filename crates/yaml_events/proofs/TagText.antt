@@ -1,5 +1,6 @@
 -- Percent-encoding by the set of this crate is the spelling of tags.
-use Rattle.std.proofs.Common.{◌≡◌, ◌<◌, ℕ, zero, suc, ◌==◌, Bool, true, false, ◌&&◌, List, [], ◌∷◌, ◌++◌, refl, ap, ◌∙◌, subst, arith, append_assoc}
+use Rattle.std.proofs.Common.{◌≡◌, ◌<◌, ℕ, zero, suc, ◌==◌, Bool, true, false, ◌&&◌, List, [], ◌∷◌, ◌++◌, refl, sym, ap, ◌∙◌, subst, arith, append_assoc}
+use Rattle.std.proofs.lemmas.List.{append-nil}
 use Rattle.std.specs.Prelude.{bytes_eq}
 use Rattle.std.proofs.lemmas.Bool.Decides.{nat_tests}
 use lib.Pointwise.{bytes_decides}
@@ -41,3 +42,11 @@ unfolding percent_encode
 encoded_is [] more m = refl
 encoded_is (b ∷ g) more m =
     append_assoc (encode_byte ESCAPED b) (percent_encode ESCAPED g) more ∙ ap (λ x. x ++ (percent_encode ESCAPED g ++ more)) (byte_alike b m.0) ∙ ap (λ x. spell_byte b ++ x) (encoded_is g more m.1)
+
+-- what follows stands after the spelling
+pub encoded_then : (g more : List ℕ) → encoded g [] ++ more ≡ encoded g more
+encoded_then [] more = refl
+encoded_then (b ∷ g) more = append_assoc (spell_byte b) (encoded g []) more ∙ ap (λ x. spell_byte b ++ x) (encoded_then g more)
+
+pub encoded_whole : (g : List ℕ) → AreBytes g → percent_encode ESCAPED g ≡ encoded g []
+encoded_whole g m = sym (append-nil (percent_encode ESCAPED g)) ∙ encoded_is g [] m

@@ -1,6 +1,8 @@
 -- A value, byte by byte.
-use Rattle.std.proofs.Common.{◌≡◌, ◌<◌, ◌≤◌, ◌-◌, ◌+◌, ℕ, List, [], ◌∷◌, ◌++◌, length, take, drop, get_or, refl, sym, ap, ◌∙◌, arith, append_assoc}
+use Rattle.std.proofs.Common.{◌≡◌, ◌<◌, ◌≤◌, ◌-◌, ◌+◌, ℕ, List, [], ◌∷◌, ◌++◌, length, take, drop, get_or, refl, sym, ap, ◌∙◌, arith, append_assoc, length-append, take-append-drop}
 use Rattle.std.proofs.lemmas.List.{append-nil, take_more, length-drop, get_or-drop}
+use Rattle.std.proofs.lemmas.Grind.{common_steps}
+use Rattle.std.proofs.Math.Seq.{take-length}
 use Rattle.yaml_text.specs.EventText.{value_byte, value_text}
 
 pub value_append : (xs ys : List ℕ) → value_text (xs ++ ys) ≡ value_text xs ++ value_text ys
@@ -35,3 +37,20 @@ spelled_escape text old out run escape pushed new start i k v r e p q =
     let z : i + 1 - (i + 1) ≡ 0 = omega arith in
     ap (λ n. new ++ take n (drop (i + 1) text)) z ∙ append-nil new ∙ q ∙ ap (λ x. x ++ escape) (p ∙ ap (λ x. out ++ x) r ∙ e)
     ∙ append_assoc old (value_text (take i text)) escape ∙ ap (λ x. old ++ x) (ap (λ x. value_text (take i text) ++ x) v ∙ sym (value_more text i k))
+
+-- what is written of a text's front is no longer than the text's value
+pub front_within : (text : List ℕ) (i : ℕ) → length (value_text (take i text)) ≤ length (value_text text)
+front_within text i =
+    omega (arith, ap length (ap value_text (sym (take-append-drop i text)) ∙ value_append (take i text) (drop i text)), length-append (value_text (take i text)) (value_text (drop i text)))
+
+-- what is written with an escape, and with all that is left
+pub escape_joined : (text old out run escape pushed : List ℕ) (i : ℕ) → i < length text → escape ≡ value_byte (get_or text i 0) → out ++ run ≡ old ++ value_text (take i text) → pushed ≡ out ++ run → pushed ++ escape ≡ old ++ value_text (take (i + 1) text)
+escape_joined text old out run escape pushed i k v e p =
+    ap (λ x. x ++ escape) (p ∙ e) ∙ append_assoc old (value_text (take i text)) escape ∙ ap (λ x. old ++ x) (ap (λ x. value_text (take i text) ++ x) v ∙ sym (value_more text i k))
+
+whole_rest : (i : ℕ) (xs : List ℕ) → take (length xs - i) (drop i xs) ≡ drop i xs
+whole_rest i xs = grind (arith, common_steps)
+
+pub rest_joined : (text old out : List ℕ) (start i : ℕ) → i ≡ length text → out ++ take (i - start) (drop start text) ≡ old ++ value_text (take i text) → out ++ drop start text ≡ old ++ value_text text
+rest_joined text old out start i n e =
+    ap (λ z. out ++ z) (sym (whole_rest start text) ∙ ap (λ m. take (m - start) (drop start text)) (sym n)) ∙ e ∙ ap (λ m. old ++ value_text (take m text)) n ∙ ap (λ z. old ++ value_text z) (take-length text)

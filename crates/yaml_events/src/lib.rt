@@ -2,6 +2,7 @@
 #![tactic(auto)]
 
 mod fault;
+mod length;
 mod line;
 mod matching;
 mod name;
@@ -11,6 +12,7 @@ mod value;
 mod writer;
 
 pub use fault::EventFault;
+pub use length::longest_line;
 pub use matching::is_event_text;
 pub use reader::read_event_text;
-pub use writer::write_events;
+pub use writer::{push_line, write_events};

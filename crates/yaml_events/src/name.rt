@@ -1,8 +1,8 @@
 //! The names of event lines: anchors and aliases.
-ghost use Rattle.std.specs.Prelude.{◌≡◌, ◌++◌, OnOk};
+ghost use Rattle.std.specs.Prelude.{◌≡◌, ◌<◌, ◌≤◌, ◌+◌, ◌++◌, length, OnOk, OnErr};
 ghost use Rattle.std.specs.Option.{option_map};
 ghost use Rattle.std.specs.Cow.{cow_str_bytes};
-ghost use Rattle.std.specs.String.{string_bytes};
+ghost use Rattle.std.specs.String.{string_bytes, string_len, string_capacity};
 ghost use Rattle.yaml_text.specs.EventText.{anchor_part};
 ghost use Rattle.yaml_text.specs.Sound.{is_anchor, is_anchor_char};
 ghost use Rattle.yaml_events.specs.Answer.{Parses};
@@ -15,7 +15,9 @@ use yaml_text::class::{is_break, is_flow_indicator, is_printable, is_white};
 
 /// Appends an anchor, where there is one, after a space.
 pub fn push_anchor(anchor: &Option<CowStr<'_>>, out: &mut String) -> Result<(), AllocError>
-    ensures { OnOk result (string_bytes out.new ≡ string_bytes out.old ++ anchor_part (option_map cow_str_bytes anchor.now)) }
+    ensures ok { OnOk result (string_bytes out.new ≡ string_bytes out.old ++ anchor_part (option_map cow_str_bytes anchor.now)) }
+    ensures keeps { string_capacity out.old ≤ string_capacity out.new }
+    ensures full { OnErr result (string_capacity out.old < string_len out.old + length (anchor_part (option_map cow_str_bytes anchor.now))) }
 {
     match anchor {
         None => Ok(()),

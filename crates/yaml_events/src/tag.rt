@@ -1,6 +1,6 @@
 //! The tags of event lines, percent-encoded between angle brackets.
-ghost use Rattle.std.specs.Prelude.{◌≡◌, ◌++◌, [], OnOk, IfOk, IsTrue, ◌↔◌};
-ghost use Rattle.std.specs.String.{string_bytes};
+ghost use Rattle.std.specs.Prelude.{◌≡◌, ◌<◌, ◌≤◌, ◌+◌, ◌++◌, [], length, OnOk, OnErr, IfOk, IsTrue, ◌↔◌};
+ghost use Rattle.std.specs.String.{string_bytes, string_len, string_capacity};
 ghost use Rattle.yaml_text.specs.EventModel.{written_of};
 ghost use Rattle.yaml_text.specs.EventText.{tag_part};
 ghost use Rattle.yaml_text.specs.TagText.{encoded};
@@ -43,16 +43,30 @@ const ESCAPED: AsciiSet = ascii_set!(
         .remove(b']')
 );
 
+/// Appends a tag's percent-encoding.
+fn push_encoded(tag: &str, out: &mut String) -> Result<(), AllocError>
+    ensures ok { OnOk result (string_bytes out.new ≡ string_bytes out.old ++ encoded tag.now []) }
+    ensures keeps { string_capacity out.old ≤ string_capacity out.new }
+    ensures full { OnErr result (string_capacity out.old < string_len out.old + length (encoded tag.now [])) }
+{
+    'encode: for piece in percent_encode(tag.as_bytes(), ESCAPED) {
+        out.push_str(piece)?;
+    }
+    Ok(())
+}
+
 /// Appends a tag, where there is one, after a space.
 pub fn push_tag(tag: &EventTag<'_>, out: &mut String) -> Result<(), AllocError>
-    ensures { OnOk result (string_bytes out.new ≡ string_bytes out.old ++ tag_part (written_of tag.now)) }
+    ensures ok { OnOk result (string_bytes out.new ≡ string_bytes out.old ++ tag_part (written_of tag.now)) }
+    ensures keeps { string_capacity out.old ≤ string_capacity out.new }
+    ensures full { OnErr result (string_capacity out.old < string_len out.old + length (tag_part (written_of tag.now))) }
 {
     match tag {
         EventTag::None => Ok(()),
         EventTag::NonSpecific => out.push_str(" <!>"),
         EventTag::Full(full) => {
             out.push_str(" <")?;
-            percent_encode(full.as_bytes(), ESCAPED).append_to(out)?;
+            push_encoded(full.as_str(), out)?;
             out.push_str(">")
         }
     }

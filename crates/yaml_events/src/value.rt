@@ -1,7 +1,7 @@
 //! The values of event lines: a scalar's text, in which five characters are escaped.
-ghost use Rattle.std.specs.Prelude.{◌≡◌, ◌<◌, ◌++◌, [], ◌∷◌, MatchOption, OnOk, IfOk, ◌≢◌, ℕ};
+ghost use Rattle.std.specs.Prelude.{◌≡◌, ◌<◌, ◌≤◌, ◌+◌, ◌++◌, [], ◌∷◌, length, MatchOption, OnOk, OnErr, IfOk, ◌≢◌, ℕ};
 ghost use Rattle.std.specs.Str.{IsUtf8};
-ghost use Rattle.std.specs.String.{string_bytes};
+ghost use Rattle.std.specs.String.{string_bytes, string_len, string_capacity};
 ghost use Rattle.std.specs.Cow.{cow_str_bytes};
 ghost use Rattle.yaml_text.specs.EventText.{value_byte, value_text};
 ghost use Rattle.yaml_events.specs.Answer.{Parses};
@@ -27,7 +27,9 @@ fn escape_of(byte: u8) -> Option<&'static str>
 
 /// Appends a text as a value, by runs of what stands for itself.
 pub fn push_value(text: &str, out: &mut String) -> Result<(), AllocError>
-    ensures { OnOk result (string_bytes out.new ≡ string_bytes out.old ++ value_text text.now) }
+    ensures ok { OnOk result (string_bytes out.new ≡ string_bytes out.old ++ value_text text.now) }
+    ensures keeps { string_capacity out.old ≤ string_capacity out.new }
+    ensures full { OnErr result (string_capacity out.old < string_len out.old + length (value_text text.now)) }
 {
     let mut run = 0;
     'spell: for (at, byte) in text.as_bytes().iter().enumerate() {

@@ -1,10 +1,10 @@
 //! Events, written as lines.
-ghost use Rattle.std.specs.Prelude.{◌≡◌, ◌++◌, ◌∷◌, [], IfOk, IfErr, OnOk, map, All, codes};
+ghost use Rattle.std.specs.Prelude.{◌≡◌, ◌<◌, ◌≤◌, ◌+◌, ◌++◌, ◌∷◌, [], length, IfOk, IfErr, OnOk, OnErr, map, All, codes};
 ghost use Rattle.std.specs.Option.{option_map};
 ghost use Rattle.std.specs.Cow.{cow_str_bytes};
-ghost use Rattle.std.specs.String.{string_bytes};
+ghost use Rattle.std.specs.String.{string_bytes, string_len, string_capacity};
 ghost use Rattle.yaml_text.specs.EventModel.{event_of, style_of, written_of};
-ghost use Rattle.yaml_text.specs.EventText.{EventText, IsSound, event_line, anchor_part, tag_part, style_text, flag_text};
+ghost use Rattle.yaml_text.specs.EventText.{EventText, IsSound, event_line, anchor_part, tag_part, style_text, flag_text, value_text};
 
 use crate::name::push_anchor;
 use crate::tag::push_tag;
@@ -27,6 +27,15 @@ fn style_text(style: Style) -> &'static str
     }
 }
 
+/// Appends a flow mark, if there is to be one.
+fn push_mark(mark: &str, flow: bool, out: &mut String) -> Result<(), AllocError>
+    ensures ok { OnOk result (string_bytes out.new ≡ string_bytes out.old ++ flag_text flow mark.now) }
+    ensures keeps { string_capacity out.old ≤ string_capacity out.new }
+    ensures full { OnErr result (string_capacity out.old < string_len out.old + length (flag_text flow mark.now)) }
+{
+    if flow { out.push_str(mark) } else { Ok(()) }
+}
+
 /// Appends a collection's start from its flow mark on.
 fn push_collection(
     mark: &str,
@@ -35,20 +44,43 @@ fn push_collection(
     tag: &EventTag<'_>,
     out: &mut String,
 ) -> Result<(), AllocError>
-    ensures { OnOk result (string_bytes out.new ≡ string_bytes out.old
+    ensures ok { OnOk result (string_bytes out.new ≡ string_bytes out.old
         ++ (flag_text flow mark.now ++ (anchor_part (option_map cow_str_bytes anchor.now) ++ tag_part (written_of tag.now)))) }
+    ensures keeps { string_capacity out.old ≤ string_capacity out.new }
+    ensures full { OnErr result (string_capacity out.old < string_len out.old
+        + length (flag_text flow mark.now ++ (anchor_part (option_map cow_str_bytes anchor.now) ++ tag_part (written_of tag.now)))) }
 {
-    if flow {
-        out.push_str(mark)?;
-    }
+    push_mark(mark, flow, out)?;
     push_anchor(anchor, out)?;
     push_tag(tag, out)
+}
+
+/// Appends a scalar's line from its properties on.
+fn push_scalar(
+    anchor: &Option<CowStr<'_>>,
+    tag: &EventTag<'_>,
+    style: Style,
+    text: &str,
+    out: &mut String,
+) -> Result<(), AllocError>
+    ensures ok { OnOk result (string_bytes out.new ≡ string_bytes out.old
+        ++ (anchor_part (option_map cow_str_bytes anchor.now) ++ (tag_part (written_of tag.now) ++ (style_text (style_of style) ++ value_text text.now)))) }
+    ensures keeps { string_capacity out.old ≤ string_capacity out.new }
+    ensures full { OnErr result (string_capacity out.old < string_len out.old
+        + length (anchor_part (option_map cow_str_bytes anchor.now) ++ (tag_part (written_of tag.now) ++ (style_text (style_of style) ++ value_text text.now)))) }
+{
+    push_anchor(anchor, out)?;
+    push_tag(tag, out)?;
+    out.push_str(style_text(style))?;
+    push_value(text, out)
 }
 
 /// Appends an event's line without its LF.
 #[tactic(auto, unfolding(yaml_text::specs::EventText::event_line))]
 fn push_event(event: &Event<'_>, out: &mut String) -> Result<(), AllocError>
-    ensures { OnOk result (string_bytes out.new ≡ string_bytes out.old ++ event_line (event_of event.now)) }
+    ensures ok { OnOk result (string_bytes out.new ≡ string_bytes out.old ++ event_line (event_of event.now)) }
+    ensures keeps { string_capacity out.old ≤ string_capacity out.new }
+    ensures full { OnErr result (string_capacity out.old < string_len out.old + length (event_line (event_of event.now))) }
 {
     match event {
         Event::StreamStart => out.push_str("+STR"),
@@ -74,16 +106,26 @@ fn push_event(event: &Event<'_>, out: &mut String) -> Result<(), AllocError>
             text,
         } => {
             out.push_str("=VAL")?;
-            push_anchor(anchor, out)?;
-            push_tag(tag, out)?;
-            out.push_str(style_text(*style))?;
-            push_value(text.as_str(), out)
+            push_scalar(anchor, tag, *style, text.as_str(), out)
         }
         Event::Alias { name } => {
             out.push_str("=ALI *")?;
             out.push_str(name.as_str())
         }
     }
+}
+
+/// Appends an event's line with its LF, as `write_events` writes it. The only fault is `OutOfMemory`,
+/// and only where the text had no room for the line; a part of the line may then stand in it.
+pub fn push_line(event: &Event<'_>, out: &mut String) -> Result<(), Fault>
+    ensures ok { OnOk result (string_bytes out.new ≡ string_bytes out.old ++ (event_line (event_of event.now) ++ (10 ∷ []))) }
+    ensures keeps { string_capacity out.old ≤ string_capacity out.new }
+    ensures full { OnErr result (string_capacity out.old < string_len out.old + length (event_line (event_of event.now) ++ (10 ∷ []))) }
+    ensures only { IfErr result (λ fault. fault ≡ Fault.OutOfMemory) }
+{
+    push_event(event, out)?;
+    out.push_str("\n")?;
+    Ok(())
 }
 
 /// The text of events: a line for each, ended by LF, in the notation of yaml-test-suite.
@@ -98,8 +140,7 @@ pub fn write_events(alloc: Global, events: &[Event<'_>]) -> Result<String, Fault
 {
     let mut out = String::new(alloc);
     'lines: for event in events {
-        push_event(event, &mut out)?;
-        out.push_str("\n")?;
+        push_line(event, &mut out)?;
     }
     Ok(out)
 }

@@ -1,13 +1,6 @@
-use Rattle.std.proofs.Common.{◌∙◌, arith}
-use Rattle.std.proofs.lemmas.Grind.{common_steps}
-use Rattle.yaml_canon.proofs.Streams.{appends_piece, count_kept}
+use Rattle.yaml_command.proofs.PageLaws.{unflushed}
 use Rattle.yaml_command.proofs.streams.write_out.Goals as goal
 
-pub write-preserved : goal.write-preserved
-write-preserved g c = (
-  record {
-    took = appends_piece _ _ _ _ _ _ c.write.invariant.0.took c.in-Ok.ensures.bytes;
-    counted = c.in-Ok.ensures.faults ∙ count_kept c.in-Ok.took _ _ (λ e. omega (arith, e)) ∙ c.write.invariant.0.counted;
-  },
-  grind (arith, common_steps),
-)
+pub returns-in-Err-clause-err : goal.returns-in-Err-clause-err
+returns-in-Err-clause-err g c =
+    unflushed g.W.Write.contents c.args.out.now c.write_whole.new.out c.flush.new.self c.args.text.now c.requires c.in_ok-write_whole.ensures.ok c.in-Err.ensures.bytes c.in-Err.ensures.faults

@@ -1,0 +1,27 @@
+use Rattle.std.proofs.Common.{map, sym, subst, rules}
+use Rattle.std.proofs.lemmas.Result.{on_ok_weaker}
+use Rattle.yaml_text.specs.EventModel.{event_of}
+use Rattle.yaml_text.specs.Source.{text_of}
+use Rattle.yaml_text.specs.grammar.Reading.{Reads}
+use Rattle.yaml_command.proofs.Answering.{if_refused}
+use Rattle.yaml_event_text.proofs.Reading.{unread}
+use Rattle.yaml_command.proofs.EventLaws.{unread_untouched, text_printed, text_failed}
+use Rattle.yaml_command.proofs.events.print_text.Goals as goal
+
+pub returns-in_err-events-clause-err : goal.returns-in_err-events-clause-err
+returns-in_err-events-clause-err g c =
+    let f = unread_untouched g.W.Write.contents c.args.bytes.now c.args.out.now c.in_err-events.field-0.0
+    (unread c.args.bytes.now _ c.in_err-events.field-0.0 c.in_ok-source.ensures.read c.in_err-events.ensures.err c.in_err-events.ensures.decides) in
+    search (rules, f)
+
+pub returns-clause-ok : goal.returns-clause-ok
+unfolding Reads
+returns-clause-ok g c =
+    let r : Reads c.args.bytes.now (map event_of c.as_slice.result.now) = subst (λ z. Reads c.args.bytes.now (map event_of z)) (sym c.as_slice.ensures.value) (text_of c.in_ok-source.source, c.in_ok-source.ensures.read, c.in_ok-events.ensures.ok) in
+    on_ok_weaker c.print_events.result (λ p. text_printed g.W.Write.contents c.args.bytes.now _ c.args.out.now c.print_events.new.out r p) c.print_events.ensures.ok
+
+pub returns-clause-err : goal.returns-clause-err
+unfolding Reads
+returns-clause-err g c =
+    let r : Reads c.args.bytes.now (map event_of c.as_slice.result.now) = subst (λ z. Reads c.args.bytes.now (map event_of z)) (sym c.as_slice.ensures.value) (text_of c.in_ok-source.source, c.in_ok-source.ensures.read, c.in_ok-events.ensures.ok) in
+    if_refused c.print_events.result c.print_events.ensures.err (λ fault h. text_failed g.W.Write.contents c.args.bytes.now _ c.args.out.now c.print_events.new.out fault r h)
