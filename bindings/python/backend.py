@@ -2,22 +2,25 @@
 import base64
 import hashlib
 import os
+import re
 import subprocess
 import sysconfig
 import tempfile
 import zipfile
 
 HERE = os.path.dirname(os.path.abspath(__file__))
-NAME = 'yamlcanon-1.0'
+with open(HERE + '/pyproject.toml', encoding='utf-8') as project:
+    TOLD = dict(re.findall(r'^([a-z-]+) = "(.*)"$', project.read(), re.M))
+NAME = 'yamlcanon-' + TOLD['version']
 INFO = NAME + '.dist-info/'
 TAG = 'py3-none-' + sysconfig.get_platform().replace('-', '_').replace('.', '_')
 METADATA = """\
 Metadata-Version: 2.1
 Name: yamlcanon
-Version: 1.0
-Summary: The proved canonical text of YAML 1.2 streams, and whether two streams mean the same
-Requires-Python: >=3.8
-"""
+Version: {version}
+Summary: {description}
+Requires-Python: {requires-python}
+""".format(**TOLD)
 
 
 def bytes_of(path):
