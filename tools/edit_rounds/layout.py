@@ -57,7 +57,7 @@ def function_at(text, path, crate, start, length):
     lines, owner = text.split("\n"), None
     for number, line in enumerate(lines):
         owner = None if line == "}" else owner_of(line) or owner
-        found = re.match(r"( *)(?:pub(?:\([^)]*\))? )?(?:const )?(?:unsafe )?fn (\w+)", line)
+        found = re.match(r'( *)(?:pub(?:\([^)]*\))? )?(?:const )?(?:unsafe )?(?:extern "C" )?fn (\w+)', line)
         if not found:
             continue
         top, cycle = first_line(lines, number)

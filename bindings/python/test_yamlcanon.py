@@ -1,0 +1,116 @@
+"""python3 -m unittest: the module over the library."""
+
+import pickle
+import sys
+import threading
+import unittest
+
+from yamlcanon import Refused, canonical, events, same
+
+
+def blocks(levels):
+    """Block mappings, each with a tag and an anchor on lines of their own: what takes the most stack."""
+    dents = (b" " * level for level in range(levels))
+    return b"".join(b"%sa:\n%s !x\n%s &y\n" % (dent, dent, dent) for dent in dents) + b" " * levels + b"x"
+
+
+def answer(data):
+    try:
+        return canonical(data)
+    except Refused as fault:
+        return str(fault)
+
+
+def on_thread(stack, work):
+    """What some work gives on a thread with so many bytes of stack."""
+    got = []
+    before = threading.stack_size(stack)
+    thread = threading.Thread(target=lambda: got.append(work()))
+    thread.start()
+    threading.stack_size(before)
+    thread.join()
+    return got[0]
+
+
+class Calls(unittest.TestCase):
+    def test_texts(self):
+        self.assertEqual(canonical(b"{b: 0x1, a: [~]}"), b'--- {"a" : [!!null "null"], "b" : !!int "1"}\n')
+        self.assertEqual(canonical(b""), b"")
+        self.assertEqual(events(b"a"), b"+STR\n+DOC\n=VAL :a\n-DOC\n-STR\n")
+
+    def test_whether_streams_are_the_same(self):
+        self.assertIs(same(b"a: 0x3", b"{a: 3}"), True)
+        self.assertIs(same(b"a: 0x3", b"{a: 4}"), False)
+
+    def test_a_text_longer_than_the_first_room(self):
+        many = b"- \n" * 100_000
+        text = canonical(many)
+        self.assertGreater(len(text), 2 * len(many) + 64)
+        self.assertEqual(canonical(text), text)
+        self.assertTrue(same(many, text))
+
+    def test_only_bytes_are_taken(self):
+        for data in (b"a", bytearray(b"a"), memoryview(b"a")):
+            self.assertEqual(canonical(data), b'--- "a"\n')
+        for data in ("a", 5, None, [97]):
+            for call in (canonical, events, lambda it: same(it, b"a"), lambda it: same(b"a", it)):
+                with self.assertRaises(TypeError):
+                    call(data)
+
+    def test_a_refusal_tells_its_place_and_side(self):
+        with self.assertRaises(Refused) as seen:
+            canonical(b"{1: a, 0x1: b}")
+        self.assertEqual(str(seen.exception), "19 EqualKeys in node 4, entries 0 and 1")
+        with self.assertRaises(Refused) as seen:
+            same(b"a", b"- a\n\t- b")
+        fault = seen.exception
+        self.assertEqual(str(fault), "right: 5 Tab at byte 4")
+        self.assertEqual((fault.number, fault.name, fault.place, fault.side), (5, "Tab", 4, "right"))
+
+    def test_a_refusal_comes_back_from_pickle(self):
+        with self.assertRaises(Refused) as seen:
+            same(b"a", b"{1: a, 0x1: b}")
+        again = pickle.loads(pickle.dumps(seen.exception))
+        self.assertEqual((str(again), vars(again)), (str(seen.exception), vars(seen.exception)))
+
+    def test_deep_inputs_on_threads_with_a_small_stack(self):
+        deep = [b"[" * 1000 + b"]" * 1000, blocks(1023), b"- " * 3000, b"{a: " * 2000]
+        want = [answer(data) for data in deep]
+        self.assertEqual(want[1][:4], b"--- ")
+        for stack in (64 << 10, 512 << 10, 2 << 20):
+            self.assertEqual(on_thread(stack, lambda: [answer(data) for data in deep]), want)
+            self.assertTrue(on_thread(stack, lambda: same(deep[1], deep[1])))
+
+    def test_many_threads_at_once(self):
+        texts = [b"{a: [%d, b], c: 0x%x}" % (number, number) for number in range(200)]
+        want = [answer(data) for data in texts]
+        got = []
+        threads = [threading.Thread(target=lambda: got.append([answer(data) for data in texts])) for _ in range(8)]
+        for thread in threads:
+            thread.start()
+        for thread in threads:
+            thread.join()
+        self.assertEqual(got, [want] * 8)
+
+    def test_a_call_in_the_midst_of_a_call(self):
+        # A finalizer, a signal's handler or a tracer may call while a text still stands in the thread's room.
+        want, inner, is_inside = canonical(b"outer: 1"), [], []
+
+        def tracer(frame, _event, _word):
+            if frame.f_code.co_name in ("_text_here", "keep_room", "take_room") and not is_inside:
+                is_inside.append(True)
+                inner.append(canonical(b"inner: 2"))
+                is_inside.pop()
+            return tracer
+
+        sys.settrace(tracer)
+        try:
+            got = canonical(b"outer: 1")
+        finally:
+            sys.settrace(None)
+        self.assertEqual(got, want)
+        self.assertTrue(inner)
+
+
+if __name__ == "__main__":
+    unittest.main()

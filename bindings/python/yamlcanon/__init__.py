@@ -1,0 +1,197 @@
+"""The canonical text of YAML 1.2 streams, and whether two streams mean the same (libyamlcanon by ctypes).
+
+    canonical(data) -> bytes    the canonical text
+    events(data) -> bytes       the events, in the notation of yaml-test-suite
+    same(left, right) -> bool   whether two streams mean the same
+
+`data` is bytes, a bytearray or a memoryview. What is refused raises Refused; what needs more memory than there is, MemoryError.
+Each call lets Python's lock go, holds no state, and may run on any number of threads, also on those with a small stack.
+"""
+
+import ctypes
+import os
+import threading
+from ctypes import POINTER, Structure, byref, c_char, c_size_t, c_uint32, c_uint64, c_void_p
+from typing import Any, Callable, List, Optional, Tuple, TypeVar, Union
+
+__all__ = ["Refused", "canonical", "events", "same"]
+
+Data = Union[bytes, bytearray, memoryview]
+_Answer = TypeVar("_Answer")
+
+_DONE, _DIFFERENT, _REFUSED, _SHORT = range(4)
+_OUT_OF_MEMORY = 21
+# What a call on n bytes takes of the stack at most: a level of nesting 5.7 KiB, of which a byte opens at most one, up to 1,024.
+_STACK_BASE, _STACK_LEVEL, _MOST_LEVELS = 512 << 10, 6 << 10, 1024
+# The stack of a thread to which a call is handed.
+_STACK_GIVEN = 8 << 20
+# A thread keeps its room between calls up to this many bytes.
+_ROOM_KEPT, _ROOM_LEAST = 1 << 20, 16384
+
+
+class Refused(ValueError):
+    """An input is refused: `number` 1 to 20, `name`, `place` and so on as in yamlcanon.h; `str` is the program's line.
+
+    `side` is 'left' or 'right' where it was `same`, else None. It can be pickled, so it comes whole out of a pool.
+    """
+
+    def __init__(
+        self, number: int, name: str, place: int = 0, first: int = 0, second: int = 0, side: Optional[str] = None
+    ) -> None:
+        super().__init__(number, name, place, first, second, side)
+        self.number, self.name, self.place = number, name, place
+        self.first, self.second, self.side = first, second, side
+
+    def __str__(self) -> str:
+        at = ""
+        if 2 <= self.number <= 11:
+            at = f" at byte {self.place}"
+        elif 12 <= self.number <= 17:
+            at = f" at event {self.place}"
+        elif self.number == 18:
+            at = f" in document {self.place}"
+        elif self.number == 19:
+            at = f" in node {self.place}, entries {self.first} and {self.second}"
+        return f"{self.side + ': ' if self.side else ''}{self.number} {self.name}{at}"
+
+
+class _Fault(Structure):
+    _fields_ = [
+        ("number", c_uint32),
+        ("side", c_uint32),
+        ("place", c_uint64),
+        ("first", c_uint64),
+        ("second", c_uint64),
+        ("name", c_char * 16),
+    ]
+
+    def raised(self, of_two: bool = False) -> Exception:
+        if self.number == _OUT_OF_MEMORY:
+            return MemoryError("yamlcanon: 21 OutOfMemory")
+        side = ("left", "right")[self.side] if of_two else None
+        return Refused(self.number, self.name.decode(), self.place, self.first, self.second, side)
+
+
+def _load() -> ctypes.CDLL:
+    beside = os.path.join(os.path.dirname(__file__), "libyamlcanon.so.1")
+    named = os.environ.get("YAMLCANON_LIBRARY")
+    lib = ctypes.CDLL(named or (beside if os.path.exists(beside) else "libyamlcanon.so.1"))
+    for call in (lib.yamlcanon_canonical, lib.yamlcanon_events):
+        call.restype = c_uint32
+        call.argtypes = [c_void_p, c_size_t, c_void_p, c_size_t, POINTER(c_size_t), POINTER(_Fault)]
+    lib.yamlcanon_same.restype = c_uint32
+    lib.yamlcanon_same.argtypes = [c_void_p, c_size_t, c_void_p, c_size_t, POINTER(_Fault)]
+    return lib
+
+
+_lib = _load()
+_libc = ctypes.CDLL(None)
+_starting = threading.Lock()
+
+
+def _stack_bytes() -> int:
+    """How large this thread's stack is, or 0 where the system does not tell."""
+    if not hasattr(_libc, "pthread_getattr_np"):
+        return 0
+    _libc.pthread_self.restype = c_void_p
+    attributes, at, size = ctypes.create_string_buffer(256), c_void_p(), c_size_t()
+    if _libc.pthread_getattr_np(c_void_p(_libc.pthread_self()), attributes):
+        return 0
+    _libc.pthread_attr_getstack(attributes, byref(at), byref(size))
+    _libc.pthread_attr_destroy(attributes)
+    return size.value
+
+
+class _Thread(threading.local):
+    def __init__(self) -> None:
+        self.stack = _stack_bytes()
+        self.room: Any = None
+
+    def has_stack_for(self, size: int) -> bool:
+        return _STACK_BASE + _STACK_LEVEL * min(size, _MOST_LEVELS) <= self.stack
+
+    def take_room(self, size: int) -> Any:
+        """A room that is this call's alone: a signal's handler or a finalizer may call in the midst of it."""
+        room, self.room = self.room, None
+        return room if room is not None and size <= len(room) else ctypes.create_string_buffer(max(size, _ROOM_LEAST))
+
+    def keep_room(self, room: Any) -> None:
+        if len(room) <= _ROOM_KEPT:
+            self.room = room
+
+
+_thread = _Thread()
+
+
+def _elsewhere(work: Callable[..., _Answer], *words: Any) -> _Answer:
+    """The same call on a thread of its own, with a stack that holds an input of the greatest depth."""
+    answers: List[Tuple[Any, Optional[BaseException]]] = []
+
+    def run() -> None:
+        try:
+            answers.append((work(*words), None))
+        except BaseException as fault:  # it is raised where the call was made
+            answers.append((None, fault))
+
+    with _starting:
+        before = threading.stack_size(_STACK_GIVEN)
+        try:
+            thread = threading.Thread(target=run)
+            thread.start()
+        finally:
+            threading.stack_size(before)
+    thread.join()
+    answer, fault = answers[0]
+    if fault is not None:
+        raise fault
+    return answer
+
+
+def _bytes(data: Data) -> bytes:
+    return data if type(data) is bytes else bytes(memoryview(data))
+
+
+def _text(call: Any, data: bytes) -> bytes:
+    if not _thread.has_stack_for(len(data)):
+        return _elsewhere(_text_here, call, data)
+    return _text_here(call, data)
+
+
+def _text_here(call: Any, data: bytes) -> bytes:
+    length, fault = c_size_t(), _Fault()
+    room = _thread.take_room(2 * len(data) + 64)
+    status = call(data, len(data), room, len(room), byref(length), byref(fault))
+    if status == _SHORT:
+        room = _thread.take_room(length.value)
+        status = call(data, len(data), room, len(room), byref(length), byref(fault))
+    if status != _DONE:
+        raise fault.raised()
+    text = bytes(memoryview(room)[: length.value])
+    _thread.keep_room(room)
+    return text
+
+
+def _same_here(left: bytes, right: bytes) -> bool:
+    fault = _Fault()
+    status = _lib.yamlcanon_same(left, len(left), right, len(right), byref(fault))
+    if status == _REFUSED:
+        raise fault.raised(of_two=True)
+    return bool(status == _DONE)
+
+
+def canonical(data: Data) -> bytes:
+    """The canonical text of a stream's bytes."""
+    return _text(_lib.yamlcanon_canonical, _bytes(data))
+
+
+def events(data: Data) -> bytes:
+    """The events of a stream's bytes, in the notation of yaml-test-suite."""
+    return _text(_lib.yamlcanon_events, _bytes(data))
+
+
+def same(left: Data, right: Data) -> bool:
+    """Whether two streams mean the same."""
+    left, right = _bytes(left), _bytes(right)
+    if not _thread.has_stack_for(max(len(left), len(right))):
+        return _elsewhere(_same_here, left, right)
+    return _same_here(left, right)

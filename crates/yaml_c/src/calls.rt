@@ -1,0 +1,91 @@
+//! The functions that are exported.
+ghost use Rattle.std.specs.Prelude.{◌≡◌, ◌≤◌, ◌⊎◌, List, true, false};
+ghost use Rattle.yaml_text.specs.Tree.{Tree};
+ghost use Rattle.yaml_text.specs.Proper.{Admitted};
+ghost use Rattle.yaml_text.specs.Means.{Means};
+ghost use Rattle.yaml_c.specs.Answers.{GivesCanonical, ShortCanonical, RefusesCanonical, OnlyMemory};
+ghost use Rattle.yaml_c.specs.Answers.{GivesEvents, ShortEvents, RefusesEvents, Answers, RefusesSame};
+
+use crate::fault::{YamlcanonFault, refuse};
+use crate::room::put_text;
+use crate::status::{DIFFERENT, DONE};
+use std::alloc::Global;
+use yaml_canon::{Side, canonical, same};
+use yaml_event_text::event_text;
+
+/// 100 times the number of the interface, with which the shared library's name ends, and the number of what was added.
+const VERSION: u32 = 100;
+
+/// The version of this library, which the header tells as `YAMLCANON_VERSION`.
+#[unsafe(no_mangle)]
+pub extern "C" fn yamlcanon_version() -> u32
+    ensures { result ≡ 100 }
+{
+    VERSION
+}
+
+/// Puts the canonical text of the stream that these bytes are at the start of `out`, and its length into `len`.
+///
+/// The status is 0, or 2 where the bytes are refused, of which `fault` tells, or 3 where `out` has too little room, and
+/// then `len` has the length. Nothing else is written.
+#[unsafe(no_mangle)]
+pub extern "C" fn yamlcanon_canonical(
+    alloc: Global,
+    input: &[u8],
+    out: &mut [u8],
+    len: &mut usize,
+    fault: &mut YamlcanonFault,
+) -> u32
+    ensures status { (result ≡ 0) ⊎ ((result ≡ 2) ⊎ (result ≡ 3)) }
+    ensures given { result ≡ 0 → GivesCanonical input.now out.old out.new len.new fault.old fault.new }
+    ensures short { result ≡ 3 → ShortCanonical input.now out.old out.new len.new fault.old fault.new }
+    ensures refused { result ≡ 2 → RefusesCanonical input.now out.old out.new len.old len.new fault.new }
+    ensures accepts { (f : List Tree) → Admitted f → Means input.now f → OnlyMemory f out.new len.new result fault.new }
+{
+    match canonical(alloc, input) {
+        Ok(text) => put_text(text.as_bytes(), out, len),
+        Err(refusal) => refuse(Side::Left, refusal, fault),
+    }
+}
+
+/// Puts the event text of the stream that these bytes are at the start of `out`, as `yamlcanon_canonical` does its
+/// canonical text.
+#[unsafe(no_mangle)]
+pub extern "C" fn yamlcanon_events(
+    alloc: Global,
+    input: &[u8],
+    out: &mut [u8],
+    len: &mut usize,
+    fault: &mut YamlcanonFault,
+) -> u32
+    ensures status { (result ≡ 0) ⊎ ((result ≡ 2) ⊎ (result ≡ 3)) }
+    ensures given { result ≡ 0 → GivesEvents input.now out.old out.new len.new fault.old fault.new }
+    ensures short { result ≡ 3 → ShortEvents input.now out.old out.new len.new fault.old fault.new }
+    ensures refused { result ≡ 2 → RefusesEvents input.now out.old out.new len.old len.new fault.new }
+{
+    match event_text(alloc, input) {
+        Ok(text) => put_text(text.as_bytes(), out, len),
+        Err(refusal) => refuse(Side::Left, refusal, fault),
+    }
+}
+
+/// Whether two streams mean the same: 0 where they do, 1 where they don't, 2 where one is refused, of which `fault`
+/// tells.
+#[unsafe(no_mangle)]
+pub extern "C" fn yamlcanon_same(
+    alloc: Global,
+    left: &[u8],
+    right: &[u8],
+    fault: &mut YamlcanonFault,
+) -> u32
+    ensures status { result ≤ 2 }
+    ensures same { result ≡ 0 → Answers left.now right.now true fault.old fault.new }
+    ensures different { result ≡ 1 → Answers left.now right.now false fault.old fault.new }
+    ensures refused { result ≡ 2 → RefusesSame left.now right.now fault.new }
+{
+    match same(alloc, left, right) {
+        Ok(true) => DONE,
+        Ok(false) => DIFFERENT,
+        Err((side, refusal)) => refuse(side, refusal, fault),
+    }
+}

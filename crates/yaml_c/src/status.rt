@@ -1,0 +1,13 @@
+//! What a call answers.
+
+/// The status of a call that did what it was asked; of two streams, that they mean the same.
+pub const DONE: u32 = 0;
+
+/// The status where two streams differ.
+pub const DIFFERENT: u32 = 1;
+
+/// The status where an input is refused.
+pub const REFUSED: u32 = 2;
+
+/// The status where the room for a text is too small.
+pub const SHORT: u32 = 3;
