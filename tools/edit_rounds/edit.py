@@ -41,9 +41,13 @@ class Edit:
         if place and place not in self.places:
             self.places.append(place)
 
-    def keys(self):
-        """What shares a proof with it: its functions, or their cycles of calls."""
-        return {place.key for place in self.places}
+    def functions(self):
+        """The functions that it changes."""
+        return {place.name for place in self.places}
+
+    def is_of_cycle(self):
+        """Whether its functions are of cycles of calls."""
+        return any(place.is_of_cycle() for place in self.places)
 
     def changes(self):
         """(file, old text, new text) of each pair."""

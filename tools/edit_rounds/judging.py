@@ -22,10 +22,10 @@ class Trial:
         return any(a[0] == b[0] and (b[1] in a[1] or a[1] in b[1]) for a in self.changes for b in other.changes)
 
     def fits(self, others):
-        """Whether it can be told in one check with these: no function and no cycle is theirs too. An edit outside functions is tried alone."""
+        """Whether it can be told in one check with these: no function is theirs too. An edit outside functions is tried alone."""
         if self.edit.is_outside or any(it.edit.is_outside for it in others):
             return False
-        return not any(it.edit.keys() & self.edit.keys() or it.overlaps(self) for it in others)
+        return not any(it.edit.functions() & self.edit.functions() or it.overlaps(self) for it in others)
 
 
 def rounds(trials, alone):

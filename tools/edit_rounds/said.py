@@ -23,6 +23,20 @@ class Refusal:
     def is_none(self):
         return not self.goals and not self.names
 
+    def of_cycle(self, edit):
+        """The same of an edit in a cycle of calls, whose functions share a proof and its files: what is said of goals that bear
+        the names of its own functions. Where those files name what another edit took away, nothing is told of this one."""
+        fronts = tuple(place.name.rsplit("::", 1)[-1] + "-" for place in edit.places)
+        own = Refusal()
+        own.is_proved = self.is_proved
+        if any(not goal.removeprefix("name:").startswith(fronts) for _, _, goal in self.names):
+            return own
+        own.goals = [goal for goal in self.goals if goal.startswith(fronts)]
+        own.false = [goal for goal in self.false if goal.startswith(fronts)]
+        own.names = self.names
+        own.answers = [it for it in self.answers if it[2].startswith(fronts)]
+        return own
+
 
 class Said:
     """The lines of one check."""
@@ -76,7 +90,7 @@ class Said:
                 sort_error(told, path, line, goal, text)
         told.goals = sorted({*told.goals, *within(edit, self.open)})
         told.false = sorted(within(edit, self.false))
-        return told
+        return told if edit.is_outside or not edit.is_of_cycle() else told.of_cycle(edit)
 
     @staticmethod
     def is_of(edit, path):
