@@ -2,7 +2,7 @@
 use std::borrow::CowStr;
 use std::process::Abort;
 use std::test::Fail;
-use yaml_events::{EventFault, read_event_text, write_events};
+use yaml_events::{EventFault, longest_line, push_line, read_event_text, write_events};
 use yaml_text::event::{Event, EventTag};
 
 /// Asserts that a text is read, and that what is read is written as it was.
@@ -78,6 +78,33 @@ const READ: [&str; 19] = [
 fn what_is_read_is_written_as_it_was(rt: HostRuntime) -> Result<(), Fail> {
     for text in &READ {
         is_read(&rt, text)?;
+    }
+    Ok(())
+}
+
+/// Asserts that each line of a text is written again into a text that has room for the longest, and
+/// none of them needs more.
+fn has_room<T: Abort + AllocGlobal>(rt: &T, text: &str) -> Result<(), Fail> {
+    let Ok(events) = read_event_text(rt.alloc(), text) else {
+        return Ok(());
+    };
+    let most = longest_line(events.as_slice())?;
+    let mut line = String::with_capacity(rt.alloc(), most)?;
+    let mut again = String::new(rt.alloc());
+    for event in events.as_slice() {
+        line.clear();
+        push_line(event, &mut line)?;
+        again.push_str(line.as_str())?;
+    }
+    assert_eq!(rt; line.capacity(), most, "{text:?}");
+    assert_eq!(rt; again.as_str(), text);
+    Ok(())
+}
+
+#[test]
+fn no_line_exceeds_the_longest(rt: HostRuntime) -> Result<(), Fail> {
+    for text in &READ {
+        has_room(&rt, text)?;
     }
     Ok(())
 }

@@ -6,6 +6,8 @@ mod failing;
 #[cfg(test)]
 mod fakes;
 #[cfg(test)]
+mod pages;
+#[cfg(test)]
 mod rows;
 #[cfg(test)]
 mod runs;
