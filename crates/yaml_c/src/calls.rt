@@ -82,6 +82,7 @@ pub extern "C" fn yamlcanon_same(
     ensures same { result ≡ 0 → Answers left.now right.now true fault.old fault.new }
     ensures different { result ≡ 1 → Answers left.now right.now false fault.old fault.new }
     ensures refused { result ≡ 2 → RefusesSame left.now right.now fault.new }
+    ensures accepts { (f g : List Tree) → Admitted f → Admitted g → Means left.now f → Means right.now g → result ≡ 2 → fault.new.number ≡ 21 }
 {
     match same(alloc, left, right) {
         Ok(true) => DONE,
