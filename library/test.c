@@ -3,6 +3,7 @@
  *     test threads N      the same on N threads at once
  *     test stack          on threads with no more stack than the header says that an input of its length takes
  *     test budget         under bounds of memory up to what a call needs
+ *     test share          under a bound of 64 times the input and 1 MB
  *     test refused        each request for memory refused in turn (built with -DREFUSE and --wrap for the heap's calls)
  */
 #include "yamlcanon.h"
@@ -13,7 +14,7 @@
 
 #define UNTOLD ((size_t)-7)
 #define ROOM_BYTE 0xa5
-#define MOST_THREADS 64
+#define MOST_THREADS 100
 #define MOST_LEVELS 1024
 
 typedef uint32_t text_call(const uint8_t *, size_t, uint8_t *, size_t, size_t *, yamlcanon_fault *);
@@ -119,15 +120,18 @@ static void rooms(text_call *call, const struct file *file)
     free(other.room);
 }
 
-static void *all_rooms(void *unused)
+/* All inputs, under this bound of memory for the thread. */
+static void *all_rooms(void *bound)
 {
+    yamlcanon_budget((uintptr_t)bound);
     for (size_t i = 0; i < count; i++) {
         rooms(yamlcanon_canonical, &files[i]);
         rooms(yamlcanon_events, &files[i]);
     }
-    return unused;
+    return NULL;
 }
 
+/* Each thread has a bound of its own, which its calls don't reach. */
 static void on_threads(int threads)
 {
     pthread_t ids[MOST_THREADS];
@@ -135,7 +139,7 @@ static void on_threads(int threads)
     pthread_attr_init(&large);
     pthread_attr_setstacksize(&large, 8 << 20);
     for (int i = 0; i < threads; i++)
-        if (pthread_create(&ids[i], &large, all_rooms, NULL)) exit(2);
+        if (pthread_create(&ids[i], &large, all_rooms, (void *)((uintptr_t)(i + 1) << 30))) exit(2);
     for (int i = 0; i < threads; i++) pthread_join(ids[i], NULL);
 }
 
@@ -268,6 +272,34 @@ static void all_refused(void)
 }
 #endif
 
+/* Under a bound of 64 times the input and 1 MB no more is held, and the answer is 21 or the one without a bound, which
+ * comes again afterwards. Whether it was 21. */
+static int is_over_share(text_call *call, const struct file *file)
+{
+    size_t most = 64 * file->n + (1 << 20);
+    struct answer first = answer_of(call, file, 0);
+    size_t cap = first.status == YAMLCANON_SHORT ? first.len : 0;
+    yamlcanon_budget(most);
+    struct answer a = answer_of(call, file, cap);
+    if (yamlcanon_peak() > most) wrong(file, "more than the bound is held");
+    yamlcanon_budget(0);
+    struct answer own = answer_of(call, file, cap);
+    without_memory(file, &own, &a);
+    int is_over = a.status == YAMLCANON_REFUSED && a.fault.number == 21;
+    if (own.status == YAMLCANON_REFUSED && own.fault.number == 21) wrong(file, "refused for memory without a bound");
+    free(first.room);
+    free(a.room);
+    free(own.room);
+    return is_over;
+}
+
+static void within_shares(void)
+{
+    size_t over = 0;
+    for (size_t i = 0; i < count; i++) over += is_over_share(yamlcanon_canonical, &files[i]) + is_over_share(yamlcanon_events, &files[i]);
+    printf("%zu of %zu calls need more, ", over, 2 * count);
+}
+
 static void read_file(const char *name)
 {
     FILE *stream = fopen(name, "rb");
@@ -294,6 +326,7 @@ int main(int n, char **words)
     if (!strcmp(what, "threads") && n == 3 && atoi(words[2]) <= MOST_THREADS) on_threads(atoi(words[2]));
     else if (!strcmp(what, "stack")) on_small_stacks();
     else if (!strcmp(what, "budget")) under_bounds();
+    else if (!strcmp(what, "share")) within_shares();
     else if (!strcmp(what, "refused")) all_refused();
     else if (n == 1) all_rooms(NULL);
     else return 2;
