@@ -4,7 +4,8 @@
 
 Counts the instructions at a size, at twice and at four times that size (valgrind's callgrind). What the second doubling adds is
 set against what the first added, and scaled to the bytes that each added, so that the start of the program and a head that does
-not grow count for nothing: 2 is linear, 4 quadratic. More than 2.3 fails. Needs valgrind and Python 3.
+not grow count for nothing: 2 is linear, 4 quadratic. More than 2.3 fails, unless it was one step, as where a buffer first grows:
+then the doubling behind it adds no more than 2.3 times what the doubling before it did. Needs valgrind and Python 3.
 """
 import concurrent.futures
 import os
@@ -55,10 +56,18 @@ def growth(command, name):
     size = size_of(make)
     texts = [make(times * size) for times in (1, 2, 4)]
     counts = [instructions(command, text) for text in texts]
-    bytes_added = [len(texts[k + 1]) - len(texts[k]) for k in (0, 1)]
-    added = [counts[k + 1][0] - counts[k][0] for k in (0, 1)]
-    grows = 2 * (added[1] / bytes_added[1]) / max(1, added[0] / bytes_added[0])
-    return grows, '%-26s %8d %8.0f %6.2f  %s' % (name, len(texts[2]), counts[2][0] / len(texts[2]), grows, counts[2][1])
+    grows = growths(texts, counts)[0]
+    if grows > MOST:
+        texts.append(make(8 * size))
+        counts.append(instructions(command, texts[3]))
+        grows = min(growths(texts, counts))
+    return grows, '%-26s %8d %8.0f %6.2f  %s' % (name, len(texts[-1]), counts[-1][0] / len(texts[-1]), grows, counts[-1][1])
+
+
+def growths(texts, counts):
+    """Of each doubling but the first, twice what it added for a byte by what the one before it added for a byte."""
+    added = [(counts[k + 1][0] - counts[k][0]) / (len(texts[k + 1]) - len(texts[k])) for k in range(len(texts) - 1)]
+    return [2 * more / max(1, less) for less, more in zip(added, added[1:])]
 
 
 def main(args):
