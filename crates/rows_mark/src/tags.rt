@@ -29,13 +29,15 @@ const TAGS: [Row; 18] = [
 ];
 
 /// Handles stand for their prefixes.
-const BOUND: [Row; 7] = [
+const BOUND: [Row; 9] = [
     (
         "%TAG !e! tag:example.com,2000:\n---\n!e!x%21 v",
         35,
         "tag:example.com,2000:x! ends at 42",
     ),
     ("%TAG !e! a%c3\n---\n!e!%a9 v", 18, "aé ends at 24"),
+    ("%TAG !e! %c3\n---\n!e!%a9 v", 17, "é ends at 23"),
+    ("%TAG !e! %41%e2%82\n---\n!e!%ac%42 v", 23, "A€B ends at 32"),
     ("%TAG ! !my-\n---\n!x v", 16, "!my-x ends at 18"),
     ("%TAG !! t:\n---\n!!x v", 15, "t:x ends at 18"),
     ("%TAG ! t:\n---\n! v", 14, "! ends at 15"),
@@ -52,7 +54,7 @@ const BOUND: [Row; 7] = [
 ];
 
 /// What is no tag is refused.
-const NO_TAGS: [Row; 23] = [
+const NO_TAGS: [Row; 25] = [
     ("!<a b> x", 0, "11 BadTag at byte 0"),
     ("!<>", 0, "11 BadTag at byte 0"),
     ("!<a", 0, "11 BadTag at byte 0"),
@@ -70,6 +72,8 @@ const NO_TAGS: [Row; 23] = [
     ("!é", 0, "11 BadTag at byte 0"),
     ("%TAG !e! a\n---\n!e! v", 15, "11 BadTag at byte 15"),
     ("%TAG !e! %c3\n---\n!e!x v", 17, "11 BadTag at byte 17"),
+    ("%TAG !e! %a9\n---\n!e!%c3 v", 17, "11 BadTag at byte 17"),
+    ("%TAG !e! %c3\n---\n!e!%c3 v", 17, "11 BadTag at byte 17"),
     ("!e!x v", 0, "10 UnknownHandle at byte 0"),
     ("!e!%zz x", 0, "10 UnknownHandle at byte 0"),
     ("%TAG !e! a\n---\n!f!x v", 15, "10 UnknownHandle at byte 15"),

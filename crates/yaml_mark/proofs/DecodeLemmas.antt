@@ -1,7 +1,7 @@
 -- Decoded tags.
-use Rattle.std.proofs.Common.{◌≡◌, ℕ, ◌+◌, ◌*◌, ◌≤◌, ◌<◌, List, [], ◌∷◌, length, Bool, true, false, not, Some, None, if◌then◌else◌, bytes_eq, refl, ap, arith}
-use Rattle.std.specs.Prelude.{◌&&◌, ◌==◌, nat_le}
-use Rattle.std.specs.Char.{is_digit, digit_value}
+use Rattle.std.proofs.Common.{◌≡◌, ◌≢◌, ℕ, ◌+◌, ◌*◌, ◌≤◌, ◌<◌, List, [], ◌∷◌, ◌++◌, length, Bool, true, false, not, Some, None, if◌then◌else◌, bytes_eq, refl, sym, ◌∙◌, ap, arith}
+use Rattle.std.specs.Prelude.{◌&&◌, ◌==◌, nat_le, Result, Ok, Err, IfOk}
+use Rattle.std.specs.Char.{is_digit, is_ascii_hexdigit, digit_value}
 use Rattle.std.specs.Str.{IsUtf8, is_utf8}
 use Rattle.std.proofs.lemmas.Str.{IsUtf8-from_is_utf8, is_utf8-from_IsUtf8}
 use Rattle.std.proofs.lemmas.Bool.Decides.{nat_tests}
@@ -10,6 +10,7 @@ use Rattle.yaml_text.specs.Limits.{tag_limit}
 use Rattle.yaml_text.specs.Tag.{is_full}
 use Rattle.yaml_text.specs.grammar.Tags.{percent_decode, decoded}
 use Rattle.percent_encoding.specs.Percent as crate_spec
+use Rattle.percent_encoding.proofs.PercentLemmas.{percent_decode_not_percent, percent_decode_escape}
 
 -- both definitions of decoding are one
 pub same_decode : (bs : List ℕ) → crate_spec.percent_decode bs ≡ percent_decode bs
@@ -22,6 +23,17 @@ same_decode (b ∷ c ∷ d ∷ bs) = both (b == 37 && is_digit c 16 && is_digit 
     both : (t : Bool) (x y z w : List ℕ) → x ≡ y → z ≡ w → (if t then x else z) ≡ (if t then y else w)
     both true x y z w e f = e
     both false x y z w e f = f
+
+-- what text that begins with no escape, and with one, is decoded to
+pub kept_first : (c : ℕ) (bs : List ℕ) → c ≢ 37 → percent_decode (c ∷ bs) ≡ c ∷ percent_decode bs
+kept_first c bs n = sym (same_decode (c ∷ bs)) ∙ percent_decode_not_percent c bs n ∙ ap (λ x. c ∷ x) (same_decode bs)
+
+hex_digit : (c : ℕ) → is_ascii_hexdigit c ≡ true → digit_value c < 16
+hex_digit c h = grind (arith, nat_tests, h)
+
+pub escape_first : (h l : ℕ) (bs : List ℕ) → is_ascii_hexdigit h ≡ true → is_ascii_hexdigit l ≡ true → percent_decode (37 ∷ h ∷ l ∷ bs) ≡ (16 * digit_value h + digit_value l) ∷ percent_decode bs
+escape_first h l bs a b =
+    sym (same_decode (37 ∷ h ∷ l ∷ bs)) ∙ percent_decode_escape 37 h l bs refl (hex_digit h a) (hex_digit l b) ∙ ap (λ x. (16 * digit_value h + digit_value l) ∷ x) (same_decode bs)
 
 pub decoded_yes : (t : List ℕ) → is_full (percent_decode t) ≡ true → decoded t ≡ Some (full (percent_decode t))
 unfolding decoded
@@ -51,3 +63,12 @@ empty_is_none bs e = grind (arith, nat_tests, e)
 pub long_is_none : (bs : List ℕ) → tag_limit < length bs → false ≡ is_full bs
 unfolding is_full
 long_is_none bs e = grind (arith, nat_tests, e)
+
+pub if_ok : {T E : Type 0} {P Q : T → Type 0} (r : Result T E) → ((x : T) → P x → Q x) → IfOk r P → IfOk r Q
+if_ok {T} {E} {P} {Q} (Ok x) f p = f x p
+if_ok {T} {E} {P} {Q} (Err e) f p = tt
+
+-- bytes to which a prefix was appended, and then what a suffix is decoded to
+pub both_appended : {a b f e d : List ℕ} (p s : List ℕ) → a ≡ b → b ≡ f ++ d → f ≡ e ++ p → e ≡ [] → d ≡ crate_spec.percent_decode s → a ≡ p ++ percent_decode s
+both_appended {a} {b} {f} {e} {d} p s g h i j k =
+    g ∙ h ∙ ap (λ z. z ++ d) (i ∙ ap (λ z. z ++ p) j) ∙ ap (λ z. p ++ z) (k ∙ same_decode s)

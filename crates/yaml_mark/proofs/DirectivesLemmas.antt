@@ -180,7 +180,7 @@ module _ (cs : List ℕ) where
   unfolding whole_directive
   whole_stuck i j v (k, r, (e, s)) = subst (Stuck cs) (sym e) s
 
-  whole_is : (i j : ℕ) (v : List Directive) → whole_directive cs i j v → directive cs i j v
+  pub whole_is : (i j : ℕ) (v : List Directive) → whole_directive cs i j v → directive cs i j v
   unfolding whole_directive
   whole_is i j v (k, r, (e, s)) = subst (λ z. directive cs i z v) (sym e) r
 

@@ -9,4 +9,5 @@ pub mod DirectiveLemmas
 pub mod LineEndLemmas
 pub mod BodyLemmas
 pub mod DirectivesLemmas
+pub mod PrefixLemmas
 pub mod RefusalLemmas

@@ -2,7 +2,7 @@
 use Rattle.std.proofs.Common.{◌≡◌, ◌≢◌, ℕ, ◌+◌, ◌<◌, ◌⊎◌, inl, inr, List, [], ◌∷◌, ◌++◌, Bool, true, false, Option, Some, None, refl, sym, ◌∙◌, ap, subst, arith}
 use Rattle.std.specs.Prelude.{slice_get, slice_range, codes, option_and_then}
 use Rattle.std.specs.Prelude.{bytes_eq}
-use Rattle.std.specs.Option.{option_or}
+use Rattle.std.specs.Option.{option_map, option_or}
 use Rattle.std.specs.Map.{lookup}
 use Rattle.std.proofs.Math.Nat.{eq-or-lt_of_le}
 use Rattle.yaml_text.specs.Answer.{Only}
@@ -17,6 +17,7 @@ use Rattle.yaml_text.proofs.Runs.{same_char, no_stand, run_none, run_same}
 use Rattle.yaml_mark.proofs.DecodeLemmas.{decoded_no, empty_is_none}
 use Rattle.yaml_mark.proofs.HandleLemmas.{prefix_or}
 use Rattle.yaml_mark.specs.Parts.{percent_escape, char_or_escape, handle_rest}
+use Rattle.yaml_mark.specs.Prefixes.{StandFor}
 
 -- ---- classes of characters
 
@@ -97,9 +98,14 @@ uri_greater : is_uri 62 ≡ false
 unfolding is_uri is_word
 uri_greater = refl
 
-pub joined_is : (hs : Handles) (h p x : List ℕ) → Some p ≡ prefix_of hs h → joined hs h x ≡ decoded (p ++ x)
+-- the bytes that stand for the prefix are decoded with the suffix
+pub joined_is : (hs : Handles) (h b x : List ℕ) (tag : Option WrittenTag) → StandFor (Some b) (prefix_of hs h) → ((text : List ℕ) → percent_decode text ≡ b ++ percent_decode x → tag ≡ decoded text) → joined hs h x ≡ tag
 unfolding joined
-joined_is hs h p x e = ap (option_and_then (λ q. decoded (q ++ x))) (sym e)
+joined_is hs h b x tag e f = go (prefix_of hs h) (e x)
+  where
+    go : (o : Option (List ℕ)) → Some (b ++ percent_decode x) ≡ option_map (λ p. percent_decode (p ++ x)) o → option_and_then (λ q. decoded (q ++ x)) o ≡ tag
+    go None g = let z : ◌≡◌ {A = Option (List ℕ)} (Some (b ++ percent_decode x)) None = g in cc
+    go (Some p) g = let z : ◌≡◌ {A = Option (List ℕ)} (Some (b ++ percent_decode x)) (Some (percent_decode (p ++ x))) = g in let y : percent_decode (p ++ x) ≡ b ++ percent_decode x = cc in sym (f (p ++ x) y)
 
 -- the handle `!` has always a prefix
 bang_bound : (hs : Handles) → prefix_of hs (33 ∷ []) ≡ None → ⊥

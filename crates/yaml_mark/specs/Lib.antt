@@ -3,3 +3,4 @@ pub mod HandlesModel
 pub mod Classes
 pub mod Parts
 pub mod DirectiveParts
+pub mod Prefixes

@@ -1,10 +1,10 @@
 //! Tags decoded (YAML 1.2.2, 5.6 and 6.9.1).
-ghost use Rattle.std.specs.Prelude.{◌≡◌, ◌++◌, IfOk, IfErr, string_bytes};
+ghost use Rattle.std.specs.Prelude.{◌≡◌, ◌++◌, ℕ, List, IfOk, IfErr, string_bytes};
 ghost use Rattle.std.specs.Option.{option_map};
 ghost use Rattle.std.specs.Cow.{cow_str_bytes};
 ghost use Rattle.yaml_text.specs.Event.{full};
 ghost use Rattle.yaml_text.specs.Tag.{is_full};
-ghost use Rattle.yaml_text.specs.grammar.Tags.{decoded};
+ghost use Rattle.yaml_text.specs.grammar.Tags.{decoded, percent_decode};
 ghost use Rattle.yaml_text.specs.declared.fault.Fault.TheVariants as fault;
 
 use percent_encoding::{DecodeError, percent_decode_str};
@@ -59,16 +59,31 @@ pub(crate) fn decode<'a>(alloc: Global, text: &'a str) -> Result<Option<CowStr<'
     }
 }
 
-/// The tag of a prefix and a suffix, decoded once they are joined.
-pub(crate) fn join(alloc: Global, prefix: &str, suffix: &str) -> Result<Option<String>, Fault>
-    ensures ok { IfOk result (λ tag. option_map (λ t. full (string_bytes t)) tag ≡ decoded (prefix.now ++ suffix.now)) }
+/// The tag of decoded bytes, with no room to spare.
+fn tag_of(alloc: Global, bytes: &[u8]) -> Result<Option<String>, Fault>
+    ensures ok { IfOk result (λ tag. (text : List ℕ) → percent_decode text ≡ bytes.now → option_map (λ t. full (string_bytes t)) tag ≡ decoded text) }
     ensures err { IfErr result (λ e. e ≡ fault.OutOfMemory) }
 {
-    let mut text = String::with_capacity(alloc, prefix.len() + suffix.len())?;
-    text.push_str(prefix)?;
-    text.push_str(suffix)?;
-    match decode(alloc, text.as_str())? {
-        None => Ok(None),
-        Some(tag) => Ok(Some(tag.into_owned(alloc)?)),
+    match simdutf8::basic::from_utf8(bytes) {
+        Ok(text) => {
+            if is_tag(text) {
+                Ok(Some(String::from_str(alloc, text)?))
+            } else {
+                Ok(None)
+            }
+        }
+        Err(_) => Ok(None),
     }
+}
+
+/// The tag of a decoded prefix and a suffix, which is decoded here. They are judged as one, since a character's escapes may
+/// stand in both.
+pub(crate) fn join(alloc: Global, prefix: &[u8], suffix: &str) -> Result<Option<String>, Fault>
+    ensures ok { IfOk result (λ tag. (text : List ℕ) → percent_decode text ≡ prefix.now ++ percent_decode suffix.now → option_map (λ t. full (string_bytes t)) tag ≡ decoded text) }
+    ensures err { IfErr result (λ e. e ≡ fault.OutOfMemory) }
+{
+    let mut bytes = Vec::with_capacity(alloc, prefix.len() + suffix.len())?;
+    bytes.extend_from_slice(prefix)?;
+    percent_decode_str(suffix).append_to(&mut bytes)?;
+    tag_of(alloc, bytes.as_slice())
 }

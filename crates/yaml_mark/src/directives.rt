@@ -54,7 +54,7 @@ pub fn read_directives<'a>(
                 if handles.get(handle).is_some() {
                     return Err(Fault::BadDirective(source.pos(line)));
                 }
-                handles = handles.bind(handle, prefix)?;
+                handles = handles.bind(alloc, handle, prefix)?;
             }
             Directive::Reserved => {}
         }

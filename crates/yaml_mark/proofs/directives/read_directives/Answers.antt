@@ -5,6 +5,7 @@ use Rattle.yaml_mark.specs.DirectiveParts.{directive_of}
 use Rattle.yaml_mark.proofs.HandleLemmas.{seen_some, seen_none}
 use Rattle.yaml_mark.proofs.RefusalLemmas.{malformed_refuses}
 use Rattle.yaml_mark.proofs.DirectivesLemmas.{Read, percent_stuck, only_stuck, only_of, starts, more_version, more_reserved, more_binding, ends_read, refused_read, version_again, handle_again, line_here}
+use Rattle.yaml_mark.proofs.PrefixLemmas.{bound_whole}
 use Rattle.yaml_mark.proofs.directives.read_directives.Goals as goal
 
 pub lines-init : goal.lines-init
@@ -45,6 +46,13 @@ returns-then-is_some-clause-refused c =
     handle_again cs _ _ _ _ _ _ _ (seen_some c.get.result _ c.get.ensures (sym c.is_some.ensures ∙ c.if-is_some.true)) c.lines.invariant.read c.in-Some.ensures.some.is
     (only_of cs _ _ _ _ (ap directive_of c.in-Binding.is) c.in_ok-directive.ensures.only)
 
+pub bind-requires-clause-free : goal.bind-requires-clause-free
+bind-requires-clause-free c = seen_none c.get.result _ c.get.ensures (sym c.is_some.ensures ∙ c.if-is_some.false)
+
+pub bind-requires-clause-whole : goal.bind-requires-clause-whole
+bind-requires-clause-whole c =
+    bound_whole (text_of c.args.source.now) _ _ _ _ (only_of (text_of c.args.source.now) _ _ _ _ (ap directive_of c.in-Binding.is) c.in_ok-directive.ensures.only)
+
 pub lines-preserved-else-has_version : goal.lines-preserved-else-has_version
 lines-preserved-else-has_version c =
     let cs = text_of c.args.source.now in
@@ -69,7 +77,7 @@ lines-preserved-in_ok-handles-in-Binding c =
       onward = omega (arith, v.onward, e.onward);
       start = e.after;
       stuck = only_stuck cs _ _ _ e.only;
-      read = more_binding cs _ _ _ _ _ _ _ _ (seen_none c.get.result _ c.get.ensures (sym c.is_some.ensures ∙ c.if-is_some.false)) c.in_ok-handles-in-Binding.ensures v.read c.in-Some.ensures.some.is
+      read = more_binding cs _ _ _ _ _ _ _ _ (seen_none c.get.result _ c.get.ensures (sym c.is_some.ensures ∙ c.if-is_some.false)) c.in_ok-handles-in-Binding.ensures.ok v.read c.in-Some.ensures.some.is
           (only_of cs _ _ _ _ (ap directive_of c.in-Binding.is) e.only);
     }
 

@@ -1,4 +1,4 @@
-use Rattle.std.proofs.Common.{◌≡◌, ◌<◌, ℕ, ◌++◌, ap, sym, ◌∙◌, subst, arith}
+use Rattle.std.proofs.Common.{◌≡◌, ◌<◌, ℕ, ◌++◌, Some, ap, sym, ◌∙◌, subst, arith}
 use Rattle.std.specs.Prelude.{slice_get}
 use Rattle.std.proofs.lemmas.Str.{IsUtf8-had}
 use Rattle.std.specs.Option.{option_map}
@@ -7,11 +7,13 @@ use Rattle.yaml_text.specs.Event.{full}
 use Rattle.yaml_text.specs.declared.chars.Chars.{Chars}
 use Rattle.yaml_text.specs.Source.{text_of, place_of, IsBorder}
 use Rattle.yaml_text.specs.grammar.Characters.{is_tag}
-use Rattle.yaml_text.specs.grammar.Tags.{decoded, prefix_of}
+use Rattle.yaml_text.specs.grammar.Tags.{percent_decode, prefix_of}
 use Rattle.yaml_text.proofs.PlaceLemmas.{place_less, place_same}
 use Rattle.yaml_text.proofs.Tests.{on_true_at, on_false_at}
 use Rattle.yaml_mark.specs.HandlesModel.{handles_of}
 use Rattle.yaml_mark.specs.Parts.{handle_rest}
+use Rattle.yaml_mark.specs.Prefixes.{StandFor}
+use Rattle.yaml_mark.proofs.HandleLemmas.{no_stand}
 use Rattle.yaml_mark.proofs.AsciiLemmas.{low_spans, low_handle, ascii_text, tag_low}
 use Rattle.yaml_mark.proofs.TagLemmas.{spans_map, tag_is, is_tag_char, joined_is, no_prefix, no_short_end, no_suffix, no_join, alone_only, short_only}
 use Rattle.yaml_mark.proofs.tag.read_shorthand.Goals as goal
@@ -27,7 +29,7 @@ returns-in-None-clause-refused c =
     let h = c.skip_handle-after.ensures.rest in
     let t = ascii_text cs c.text_between.result.now _ _ c.text_between.utf8 c.text_between.ensures (low_handle cs _ _ _ b.0 b.1 h) in
     no_prefix cs (handles_of c.args.handles) _ _ (λ g. c.requires.other (ap (slice_get cs) b.1 ∙ g)) (subst (λ z. handle_rest cs z (place_of c.args.source.now c.skip_handle-after.result)) b.1 h)
-    (ap (prefix_of (handles_of c.args.handles)) (sym t) ∙ sym c.in-None.ensures)
+    (ap (prefix_of (handles_of c.args.handles)) (sym t) ∙ no_stand _ c.in-None.ensures)
 
 pub returns-then-stands-clause-refused : goal.returns-then-stands-clause-refused
 returns-then-stands-clause-refused c =
@@ -68,7 +70,8 @@ returns-in-None-2-clause-refused c =
     no_join cs (handles_of c.args.handles) _ _ _ (λ g. c.requires.other (ap (slice_get cs) b.1 ∙ g))
     (subst (λ z. handle_rest cs z (place_of c.args.source.now c.skip_handle-after.result)) b.1 h)
     (spans_map (tag_is cs) e.spans) (λ m r. e.furthest m (is_tag_char cs _ m r))
-    (joined_is (handles_of c.args.handles) _ _ _ (c.in-Some.ensures ∙ ap (prefix_of (handles_of c.args.handles)) t) ∙ ap (λ z. decoded (c.in-Some.prefix.now ++ z)) (sym u) ∙ sym c.in_ok-join.ensures.ok ∙ ap (option_map (λ x. full (string_bytes x))) c.in-None-2.is)
+    (joined_is (handles_of c.args.handles) _ c.in-Some.prefix.now _ _ (subst (λ z. StandFor (Some c.in-Some.prefix.now) (prefix_of (handles_of c.args.handles) z)) t c.in-Some.ensures)
+    (λ text e. sym (ap (option_map (λ x. full (string_bytes x))) c.in-None-2.is) ∙ c.in_ok-join.ensures.ok text (e ∙ ap (λ z. c.in-Some.prefix.now ++ percent_decode z) (sym u))))
     (apart c.args.source.now _ _ _ e.border c.requires.first b.1 c.if-end-first.false)
 
 pub returns-in-Some-2-clause-only : goal.returns-in-Some-2-clause-only
@@ -84,5 +87,6 @@ returns-in-Some-2-clause-only c =
     short_only cs (handles_of c.args.handles) _ _ _ (λ g. c.requires.other (ap (slice_get cs) b.1 ∙ g))
     (subst (λ z. handle_rest cs z (place_of c.args.source.now c.skip_handle-after.result)) b.1 h)
     (spans_map (tag_is cs) e.spans) (λ m r. e.furthest m (is_tag_char cs _ m r)) _ b.0 l
-    (joined_is (handles_of c.args.handles) _ _ _ (c.in-Some.ensures ∙ ap (prefix_of (handles_of c.args.handles)) t) ∙ ap (λ z. decoded (c.in-Some.prefix.now ++ z)) (sym u) ∙ sym c.in_ok-join.ensures.ok ∙ ap (option_map (λ x. full (string_bytes x))) c.in-Some-2.is)
+    (joined_is (handles_of c.args.handles) _ c.in-Some.prefix.now _ _ (subst (λ z. StandFor (Some c.in-Some.prefix.now) (prefix_of (handles_of c.args.handles) z)) t c.in-Some.ensures)
+    (λ text e. sym (ap (option_map (λ x. full (string_bytes x))) c.in-Some-2.is) ∙ c.in_ok-join.ensures.ok text (e ∙ ap (λ z. c.in-Some.prefix.now ++ percent_decode z) (sym u))))
     (on_false_at c.stands.result c.if-stands.false c.stands.ensures.no)
