@@ -257,13 +257,13 @@ pub static PAIRS: [Pair; 6] = [
         shows: "mappings are sets",
         left: b"--- {\"a\":\"1\",\"b\":\"2\"}",
         right: b"--- {\"b\":\"2\",\"a\":\"1\"}",
-        answer: "the same",
+        answer: "same",
     },
     Pair {
         shows: "aliases are unfolded",
         left: b"--- [&a [\"x\"], *a]",
         right: b"--- [[\"x\"],[\"x\"]]",
-        answer: "the same",
+        answer: "same",
     },
     Pair {
         shows: "values count",

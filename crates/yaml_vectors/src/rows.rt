@@ -11,7 +11,7 @@ pub struct Row {
     pub answer: &'static str,
 }
 
-/// Two inputs, and whether they are `the same` or `different`, or the side and the message of the fault.
+/// Two inputs, and whether they are the `same` or `different`, or the side and the message of the fault.
 pub struct Pair {
     pub shows: &'static str,
     pub left: &'static [u8],
@@ -51,7 +51,7 @@ pub fn answers<T: Abort + AllocGlobal>(
 /// What `same` answers.
 fn compared(alloc: Global, left: &[u8], right: &[u8]) -> Result<String, Fail> {
     match same(alloc, left, right) {
-        Ok(true) => Ok("the same".to_string(alloc)?),
+        Ok(true) => Ok("same".to_string(alloc)?),
         Ok(false) => Ok("different".to_string(alloc)?),
         Err((Side::Left, fault)) => Ok(format!(in alloc; "left: {fault}")?),
         Err((Side::Right, fault)) => Ok(format!(in alloc; "right: {fault}")?),

@@ -412,13 +412,13 @@ pub static PAIRS: [Pair; 8] = [
         shows: "spellings of one document",
         left: b"--- [\"A\",[ ]]",
         right: b"---  [ \"\\x41\" , [], ]\n",
-        answer: "the same",
+        answer: "same",
     },
     Pair {
         shows: "a repeated node is no fault here",
         left: b"--- [[\"x\"], [\"x\"]]",
         right: b"--- [[\"x\"],[\"x\"]]",
-        answer: "the same",
+        answer: "same",
     },
     Pair {
         shows: "the order of items counts",
