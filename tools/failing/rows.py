@@ -1,7 +1,7 @@
 """rows.py: the worked examples of `crates/yaml_vectors` and `crates/rows_vectors`, read from the text of their tables.
 
-A table is `const NAME: [Type; N] = [`, rows, `];`. Each has to give N rows, so that none is lost. Those of the type `Built` are
-left out, since their inputs are made by a function, and tables of other tables. `python3 rows.py` counts the rows of each file.
+A table is `static NAME: [Type; N] = [`, rows, `];`. Each has to give N rows, so that none is lost. Those of the type `Built` are
+left out, since their inputs are made by a function. `python3 rows.py` counts the rows of each file.
 """
 import collections
 import glob
@@ -16,9 +16,9 @@ Row = collections.namedtuple('Row', 'place input canon events')
 # two inputs, and the word or the fault's line that `same` prints
 Pair = collections.namedtuple('Pair', 'place left right same')
 
-TABLE = re.compile(r'^(?:pub )?const (\w+): \[([^\n]+); (\d+)\] = \[\n(.*?)^\];', re.M | re.S)
+TABLE = re.compile(r'^(?:pub )?(?:static|const) (\w+): \[([^\n]+); (\d+)\] = \[\n(.*?)^\];', re.M | re.S)
 STRING = r'b?"((?:[^"\\]|\\.)*)"'
-FIELD = re.compile(r'\b(shows|input|events|canonical|message|answer|left|right):\s*(?:Ok\(\s*|Err\(\s*\(?\s*)?(?:Side::(\w+),\s*)?(?:%s|(true|false))' % STRING, re.S)
+FIELD = re.compile(r'\b(shows|input|events|canonical|message|answer|left|right):\s*%s' % STRING, re.S)
 ESCAPE = re.compile(r'\\(?:u\{([0-9A-Fa-f]+)\}|x([0-9A-Fa-f]{2})|\n\s*|(.))', re.S)
 SIMPLE = {'n': b'\n', 't': b'\t', 'r': b'\r', '0': b'\0', '\\': b'\\', '"': b'"', "'": b"'"}
 
@@ -44,7 +44,7 @@ def is_fault(text):
 
 
 def said(fields, name):
-    return unescaped(fields[name][1]) if name in fields else None
+    return unescaped(fields[name]) if name in fields else None
 
 
 def stream_of_node(lines):
@@ -54,8 +54,8 @@ def stream_of_node(lines):
 def row_of(kind, place, fields):
     """A row of a table of this type, by what its fields say."""
     if 'left' in fields:
-        side, text, word = fields['answer']
-        same = {'true': b'same\n', 'false': b'different\n'}[word] if word else side.lower().encode() + b': ' + unescaped(text)
+        same = said(fields, 'answer')
+        same += b'' if b': ' in same else b'\n'
         return Pair(place, said(fields, 'left'), said(fields, 'right'), same)
     canon = next(said(fields, name) for name in ('canonical', 'answer', 'message') if name in fields)
     events = said(fields, 'events')
@@ -72,9 +72,9 @@ def rows_of_table(kind, place, body):
     rows = []
     for piece in re.split(r'^    %s \{\n' % kind, body, flags=re.M)[1:]:
         fields = {}
-        for name, side, text, word in FIELD.findall(piece):
+        for name, text in FIELD.findall(piece):
             assert name not in fields, (place, name)
-            fields[name] = (side, text, word)
+            fields[name] = text
         shows = (said(fields, 'shows') or said(fields, 'input')).decode('utf-8', 'replace')
         rows.append(row_of(kind, place + ': ' + shows, fields))
     return rows

@@ -4,7 +4,7 @@ use std::test::Fail;
 use yaml_core::resolve;
 use yaml_text::event::{EventTag, Style};
 
-const LENT: [&str; 10] = [
+static LENT: [&str; 10] = [
     "abc", "", "1_000", "12", "+12", "0012", "-12", "null", "False", "-.inf",
 ];
 

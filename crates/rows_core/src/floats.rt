@@ -3,7 +3,7 @@ use crate::rows::{Given, Is, Row, check};
 use std::test::Fail;
 
 /// Each digit counts.
-const FLOATS: [Row; 22] = [
+static FLOATS: [Row; 22] = [
     Row {
         given: Given::Plain,
         text: "1e3",
@@ -139,7 +139,7 @@ const FLOATS: [Row; 22] = [
 ];
 
 /// Every zero is 0.
-const ZEROS: [Row; 9] = [
+static ZEROS: [Row; 9] = [
     Row {
         given: Given::Plain,
         text: "-0.0",
@@ -197,7 +197,7 @@ const ZEROS: [Row; 9] = [
 ];
 
 /// Exponents end at a million.
-const ENDS: [Row; 18] = [
+static ENDS: [Row; 18] = [
     Row {
         given: Given::Plain,
         text: "1e1000000",
@@ -309,7 +309,7 @@ const ENDS: [Row; 18] = [
 ];
 
 /// Infinities and not a number.
-const WORDS: [Row; 8] = [
+static WORDS: [Row; 8] = [
     Row {
         given: Given::Plain,
         text: ".inf",
@@ -360,12 +360,10 @@ const WORDS: [Row; 8] = [
     },
 ];
 
-/// All of them.
-const TABLES: [&[Row]; 4] = [&FLOATS, &ZEROS, &ENDS, &WORDS];
-
 #[test]
 fn floats_are_exact(rt: HostRuntime) -> Result<(), Fail> {
-    for table in &TABLES {
+    let tables: [&[Row]; 4] = [&FLOATS, &ZEROS, &ENDS, &WORDS];
+    for table in &tables {
         for row in *table {
             check(&rt, row)?;
         }

@@ -3,7 +3,7 @@ use crate::rows::{Given, Is, Row, check};
 use std::test::Fail;
 
 /// Each base gives decimal.
-const INTS: [Row; 18] = [
+static INTS: [Row; 18] = [
     Row {
         given: Given::Plain,
         text: "0",
@@ -115,7 +115,7 @@ const INTS: [Row; 18] = [
 ];
 
 /// Ranges end where 128 bits do.
-const RANGES: [Row; 20] = [
+static RANGES: [Row; 20] = [
     Row {
         given: Given::Plain,
         text: "170141183460469231731687303715884105727",
@@ -238,12 +238,10 @@ const RANGES: [Row; 20] = [
     },
 ];
 
-/// All of them.
-const TABLES: [&[Row]; 2] = [&INTS, &RANGES];
-
 #[test]
 fn ints_are_decimal_and_have_128_bits(rt: HostRuntime) -> Result<(), Fail> {
-    for table in &TABLES {
+    let tables: [&[Row]; 2] = [&INTS, &RANGES];
+    for table in &tables {
         for row in *table {
             check(&rt, row)?;
         }

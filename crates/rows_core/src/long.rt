@@ -23,7 +23,7 @@ struct LongText {
     content: &'static str,
 }
 
-const LONG_TEXTS: [LongText; 8] = [
+static LONG_TEXTS: [LongText; 8] = [
     // Exponent of a million nines.
     LongText {
         head: "1e",

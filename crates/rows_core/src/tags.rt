@@ -3,7 +3,7 @@ use crate::rows::{Given, Is, Row, check};
 use std::test::Fail;
 
 /// Written tags and quotes.
-const TAGS: [Row; 24] = [
+static TAGS: [Row; 24] = [
     Row {
         given: Given::Quoted,
         text: "1",
@@ -151,7 +151,7 @@ const TAGS: [Row; 24] = [
 ];
 
 /// Plain scalars.
-const PLAIN: [Row; 11] = [
+static PLAIN: [Row; 11] = [
     Row {
         given: Given::Plain,
         text: "",
@@ -220,12 +220,10 @@ const PLAIN: [Row; 11] = [
     },
 ];
 
-/// All of them.
-const TABLES: [&[Row]; 2] = [&TAGS, &PLAIN];
-
 #[test]
 fn tags_and_quotes_are_kept_to(rt: HostRuntime) -> Result<(), Fail> {
-    for table in &TABLES {
+    let tables: [&[Row]; 2] = [&TAGS, &PLAIN];
+    for table in &tables {
         for row in *table {
             check(&rt, row)?;
         }

@@ -33,7 +33,7 @@ fn is_refused<T: Abort + AllocGlobal>(rt: &T, row: &Bad) -> Result<(), Fail> {
     Ok(())
 }
 
-const READ: [&str; 19] = [
+static READ: [&str; 19] = [
     // no line
     "",
     // nesting is not judged
@@ -109,7 +109,7 @@ fn no_line_exceeds_the_longest(rt: HostRuntime) -> Result<(), Fail> {
     Ok(())
 }
 
-const BAD: [Bad; 47] = [
+static BAD: [Bad; 47] = [
     Bad {
         text: "+STR\n-STR",
         line: 2,

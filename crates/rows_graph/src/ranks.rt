@@ -95,7 +95,7 @@ fn check<T: Abort + AllocGlobal>(rt: &T, row: &Row) -> Result<(), Fail> {
 }
 
 /// Trees have their ranks.
-const RANKS: [Row; 12] = [
+static RANKS: [Row; 12] = [
     Row {
         shows: "a graph without nodes has no ranks",
         words: "",
@@ -159,7 +159,7 @@ const RANKS: [Row; 12] = [
 ];
 
 /// Equal keys are told.
-const EQUAL_KEYS: [Row; 9] = [
+static EQUAL_KEYS: [Row; 9] = [
     Row {
         shows: "one value in two spellings is one key",
         words: "--- { =1 a =0x1 b } ...",
@@ -207,12 +207,10 @@ const EQUAL_KEYS: [Row; 9] = [
     },
 ];
 
-/// All of them.
-const TABLES: [&[Row]; 2] = [&RANKS, &EQUAL_KEYS];
-
 #[test]
 fn trees_have_their_ranks_or_equal_keys(rt: HostRuntime) -> Result<(), Fail> {
-    for table in &TABLES {
+    let tables: [&[Row]; 2] = [&RANKS, &EQUAL_KEYS];
+    for table in &tables {
         for row in *table {
             check(&rt, row)?;
         }
@@ -221,7 +219,7 @@ fn trees_have_their_ranks_or_equal_keys(rt: HostRuntime) -> Result<(), Fail> {
 }
 
 /// What is shown of the ranks of both graphs as one.
-const PAIRS: [Pair; 3] = [
+static PAIRS: [Pair; 3] = [
     Pair {
         shows: "equal nodes of two graphs have one rank",
         left: "--- [ a [ b ] ] ...",

@@ -31,7 +31,7 @@ fn check<T: Abort + AllocGlobal>(rt: &T, row: &Row) -> Result<(), Fail> {
 }
 
 /// Events have their graph.
-const GRAPHS: [Row; 15] = [
+static GRAPHS: [Row; 15] = [
     Row {
         shows: "a stream without documents has no nodes",
         words: "",
@@ -110,7 +110,7 @@ const GRAPHS: [Row; 15] = [
 ];
 
 /// Scalars have their tag and content.
-const SCALARS: [Row; 6] = [
+static SCALARS: [Row; 6] = [
     Row {
         shows: "another tag stands on any kind",
         words: "--- [ !!x a !!x [ a ] ] ...",
@@ -144,7 +144,7 @@ const SCALARS: [Row; 6] = [
 ];
 
 /// The first fault is told.
-const REFUSED: [Row; 12] = [
+static REFUSED: [Row; 12] = [
     Row {
         shows: "an alias needs a node of its name",
         words: "--- [ *x ] ...",
@@ -208,7 +208,7 @@ const REFUSED: [Row; 12] = [
 ];
 
 /// Faults of scalars are told.
-const REFUSED_SCALARS: [Row; 5] = [
+static REFUSED_SCALARS: [Row; 5] = [
     Row {
         shows: "a collection's tag is none of a scalar",
         words: "--- !tag:yaml.org,2002:seq x ...",
@@ -237,7 +237,7 @@ const REFUSED_SCALARS: [Row; 5] = [
 ];
 
 /// Other events are no stream.
-const NO_STREAMS: [Row; 4] = [
+static NO_STREAMS: [Row; 4] = [
     Row {
         shows: "a document ends",
         words: "--- x",
@@ -260,12 +260,10 @@ const NO_STREAMS: [Row; 4] = [
     },
 ];
 
-/// All of them.
-const TABLES: [&[Row]; 5] = [&GRAPHS, &SCALARS, &REFUSED, &REFUSED_SCALARS, &NO_STREAMS];
-
 #[test]
 fn events_have_their_graph_or_fault(rt: HostRuntime) -> Result<(), Fail> {
-    for table in &TABLES {
+    let tables: [&[Row]; 5] = [&GRAPHS, &SCALARS, &REFUSED, &REFUSED_SCALARS, &NO_STREAMS];
+    for table in &tables {
         for row in *table {
             check(&rt, row)?;
         }
@@ -274,7 +272,7 @@ fn events_have_their_graph_or_fault(rt: HostRuntime) -> Result<(), Fail> {
 }
 
 /// What is shown of both graphs as one.
-const PAIRS: [Pair; 4] = [
+static PAIRS: [Pair; 4] = [
     Pair {
         shows: "the second graph's numbers and roots are moved up",
         left: "--- [ x ] ...",

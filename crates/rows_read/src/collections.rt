@@ -1,7 +1,7 @@
 //! Block and flow collections, and scalars in them.
 use crate::rows::Row;
 
-pub const BLOCK: [Row; 14] = [
+pub static BLOCK: [Row; 14] = [
     Row {
         input: "",
         answer: "",
@@ -60,7 +60,7 @@ pub const BLOCK: [Row; 14] = [
     },
 ];
 
-pub const FLOW: [Row; 10] = [
+pub static FLOW: [Row; 10] = [
     Row {
         input: "[\"c\":d, {e}]",
         answer: "|+DOC|+SEQ []|+MAP {}|=VAL \"c|=VAL :d|-MAP|+MAP {}|=VAL :e|=VAL :|-MAP|-SEQ|-DOC",

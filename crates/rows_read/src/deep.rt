@@ -29,7 +29,7 @@ fn nested<T: Abort + AllocGlobal>(
 }
 
 /// A head, how often a piece stands, the piece, a tail, and the answer.
-const NESTED: [(&str, usize, &str, &str, &str); 32] = [
+static NESTED: [(&str, usize, &str, &str, &str); 32] = [
     // Opens no 1025th collection.
     ("", 1025, "[", "", "7 TooDeep at byte 1024"),
     ("", 1025, "{", "", "7 TooDeep at byte 1024"),

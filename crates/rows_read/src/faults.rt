@@ -1,7 +1,7 @@
 //! Each fault of the reader, with its place.
 use crate::rows::Row;
 
-pub const SYNTAX: [Row; 21] = [
+pub static SYNTAX: [Row; 21] = [
     Row {
         input: "a: b: c",
         answer: "4 Syntax at byte 4",
@@ -88,7 +88,7 @@ pub const SYNTAX: [Row; 21] = [
     },
 ];
 
-pub const TABS: [Row; 8] = [
+pub static TABS: [Row; 8] = [
     Row {
         input: "a:\tb",
         answer: "5 Tab at byte 2",
@@ -123,7 +123,7 @@ pub const TABS: [Row; 8] = [
     },
 ];
 
-pub const TAGS: [Row; 8] = [
+pub static TAGS: [Row; 8] = [
     Row {
         input: "\"\\q\"",
         answer: "8 BadEscape at byte 1",

@@ -1,7 +1,7 @@
 //! The place of each fault counts the byte order mark that the stream begins with.
 use crate::rows::Row;
 
-pub const SYNTAX: [Row; 11] = [
+pub static SYNTAX: [Row; 11] = [
     Row {
         input: "\u{FEFF}a: b: c",
         answer: "4 Syntax at byte 7",
@@ -48,7 +48,7 @@ pub const SYNTAX: [Row; 11] = [
     },
 ];
 
-pub const TABS_AND_ESCAPES: [Row; 5] = [
+pub static TABS_AND_ESCAPES: [Row; 5] = [
     Row {
         input: "\u{FEFF}a:\tb",
         answer: "5 Tab at byte 5",
@@ -71,7 +71,7 @@ pub const TABS_AND_ESCAPES: [Row; 5] = [
     },
 ];
 
-pub const DIRECTIVES_AND_TAGS: [Row; 10] = [
+pub static DIRECTIVES_AND_TAGS: [Row; 10] = [
     Row {
         input: "\u{FEFF}%YAML 1.1\n---",
         answer: "9 BadDirective at byte 3",

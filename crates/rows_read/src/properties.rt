@@ -1,7 +1,7 @@
 //! Tags, anchors and aliases.
 use crate::rows::Row;
 
-pub const PROPERTIES: [Row; 22] = [
+pub static PROPERTIES: [Row; 22] = [
     Row {
         input: "&a x",
         answer: "|+DOC|=VAL &a :x|-DOC",
@@ -92,7 +92,7 @@ pub const PROPERTIES: [Row; 22] = [
     },
 ];
 
-pub const IN_FLOW: [Row; 8] = [
+pub static IN_FLOW: [Row; 8] = [
     Row {
         input: "[&a b, !!str \"c\", *a]",
         answer: "|+DOC|+SEQ []|=VAL &a :b|=VAL <tag:yaml.org,2002:str> \"c|=ALI *a|-SEQ|-DOC",

@@ -1,7 +1,7 @@
 //! A sample of random streams, with the events that the definitions give them (`tools/definitions/sample.py rows`).
 use crate::rows::Row;
 
-pub const SAMPLE_1: [Row; 40] = [
+pub static SAMPLE_1: [Row; 40] = [
     Row {
         input: "\t  --- ]a!!s%x y\n",
         answer: "refused",
@@ -164,7 +164,7 @@ pub const SAMPLE_1: [Row; 40] = [
     },
 ];
 
-pub const SAMPLE_2: [Row; 40] = [
+pub static SAMPLE_2: [Row; 40] = [
     Row {
         input: "%TAG !e! q\n&b? !t ",
         answer: "refused",
@@ -327,7 +327,7 @@ pub const SAMPLE_2: [Row; 40] = [
     },
 ];
 
-pub const SAMPLE_3: [Row; 40] = [
+pub static SAMPLE_3: [Row; 40] = [
     Row {
         input: ":\n, ",
         answer: "refused",

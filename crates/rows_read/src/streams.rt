@@ -1,7 +1,7 @@
 //! Documents, their marks and directives.
 use crate::rows::Row;
 
-pub const DOCUMENTS: [Row; 10] = [
+pub static DOCUMENTS: [Row; 10] = [
     Row {
         input: "a\n...\nb\n",
         answer: "|+DOC|=VAL :a|-DOC ...|+DOC|=VAL :b|-DOC",
@@ -44,7 +44,7 @@ pub const DOCUMENTS: [Row; 10] = [
     },
 ];
 
-pub const DIRECTIVES: [Row; 12] = [
+pub static DIRECTIVES: [Row; 12] = [
     Row {
         input: "%YAML 1.2\n---\na",
         answer: "|+DOC ---|=VAL :a|-DOC",

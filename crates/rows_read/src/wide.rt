@@ -1,7 +1,7 @@
 //! `?` keys and empty keys in flow collections.
 use crate::rows::Row;
 
-pub const WIDE: [Row; 13] = [
+pub static WIDE: [Row; 13] = [
     Row {
         input: "{? a : b, : d}",
         answer: "|+DOC|+MAP {}|=VAL :a|=VAL :b|=VAL :|=VAL :d|-MAP|-DOC",

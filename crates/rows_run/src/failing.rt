@@ -18,7 +18,7 @@ struct Row {
     faults: (u64, u64),
 }
 
-const ROWS: [Row; 8] = [
+static ROWS: [Row; 8] = [
     Row {
         shows: "the second read fails",
         bad_read: 2,
@@ -119,7 +119,7 @@ fn a_failed_call_is_told_and_counted(rt: HostRuntime) -> Result<(), Fail> {
 }
 
 /// Streams that are refused, one by each pass but the last.
-const REFUSED: [(&str, Fault); 7] = [
+static REFUSED: [(&str, Fault); 7] = [
     ("a\u{0}", Fault::NotPrintable(1)),
     ("a: b: c", Fault::Syntax(4)),
     ("a:\tb", Fault::Tab(2)),

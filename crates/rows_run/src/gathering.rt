@@ -19,7 +19,7 @@ fn an_input_of_the_limit_is_read(rt: HostRuntime) -> Result<(), Fail> {
 }
 
 /// Inputs by the limit 3, at two bytes a call: the call that fails, the fault and the count.
-const ROWS: [(&str, u32, Fault, u64); 4] = [
+static ROWS: [(&str, u32, Fault, u64); 4] = [
     ("abcd", 0, Fault::TooLong, 0),
     ("abcdefgh", 0, Fault::TooLong, 0),
     ("abc", 1, Fault::ReadFault, 1),

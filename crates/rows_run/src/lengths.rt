@@ -18,7 +18,7 @@ fn length(alloc: Global, bytes: &[u8]) -> Result<usize, Fault> {
 }
 
 /// Streams and their texts.
-const ROWS: [(&str, &str); 5] = [
+static ROWS: [(&str, &str); 5] = [
     ("# nothing", ""),
     ("a", "--- \"a\"\n"),
     ("[a, b]", "--- [\"a\", \"b\"]\n"),

@@ -10,7 +10,7 @@ struct Row {
     text: &'static str,
 }
 
-const ROWS: [Row; 4] = [
+static ROWS: [Row; 4] = [
     Row {
         input: "[a, b]",
         text: "--- [\"a\", \"b\"]\n",

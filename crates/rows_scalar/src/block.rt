@@ -7,7 +7,7 @@ use yaml_text::chars::Chars;
 use yaml_text::context::Ctx;
 
 /// Reads the rows of the profile.
-const READS_THE_ROWS_OF_THE_PROFILE: [Block; 8] = [
+static READS_THE_ROWS_OF_THE_PROFILE: [Block; 8] = [
     ("|2-\n   a\n", 0, 0, " a", 9),
     (">+\n a\n\n", 0, -1, "a\n\n", 7),
     ("x: |+\n  a\n\n", 3, 0, "a\n\n", 11),
@@ -19,7 +19,7 @@ const READS_THE_ROWS_OF_THE_PROFILE: [Block; 8] = [
 ];
 
 /// Reads a header in either order.
-const READS_A_HEADER_IN_EITHER_ORDER: [Block; 9] = [
+static READS_A_HEADER_IN_EITHER_ORDER: [Block; 9] = [
     ("|2-\n   a\n", 0, 0, " a", 9),
     ("|-2\n   a\n", 0, 0, " a", 9),
     ("|+1\n a\n\n", 0, 0, "a\n\n", 8),
@@ -32,7 +32,7 @@ const READS_A_HEADER_IN_EITHER_ORDER: [Block; 9] = [
 ];
 
 /// Finds the indentation.
-const FINDS_THE_INDENTATION: [Block; 13] = [
+static FINDS_THE_INDENTATION: [Block; 13] = [
     ("|\n  a\n b\n", 0, 0, "a\n", 6),
     ("|\n\n  \n   a\n", 0, 0, "\n\na\n", 11),
     ("|\n a\n  b\n", 0, 0, "a\n b\n", 9),
@@ -49,7 +49,7 @@ const FINDS_THE_INDENTATION: [Block; 13] = [
 ];
 
 /// Ends before a mark.
-const ENDS_BEFORE_A_MARK: [Block; 6] = [
+static ENDS_BEFORE_A_MARK: [Block; 6] = [
     ("|\n...\n", 0, -1, "", 2),
     ("|+\n\n--- a", 0, -1, "\n", 4),
     ("|\n a\n---\n", 0, -1, "a\n", 5),
@@ -59,7 +59,7 @@ const ENDS_BEFORE_A_MARK: [Block; 6] = [
 ];
 
 /// Chomps.
-const CHOMPS: [Block; 18] = [
+static CHOMPS: [Block; 18] = [
     ("|\n a\n", 0, 0, "a\n", 5),
     ("|-\n a\n", 0, 0, "a", 6),
     ("|+\n a\n", 0, 0, "a\n", 6),
@@ -81,7 +81,7 @@ const CHOMPS: [Block; 18] = [
 ];
 
 /// Reads a last line without a break.
-const READS_A_LAST_LINE_WITHOUT_A_BREAK: [Block; 10] = [
+static READS_A_LAST_LINE_WITHOUT_A_BREAK: [Block; 10] = [
     ("|\n a", 0, 0, "a", 4),
     ("|-\n a", 0, 0, "a", 5),
     ("|+\n a", 0, 0, "a", 5),
@@ -95,7 +95,7 @@ const READS_A_LAST_LINE_WITHOUT_A_BREAK: [Block; 10] = [
 ];
 
 /// Reads lines of spaces.
-const READS_LINES_OF_SPACES: [Block; 4] = [
+static READS_LINES_OF_SPACES: [Block; 4] = [
     ("|\n a\n   \n", 0, 0, "a\n  \n", 9),
     ("|1\n   \n", 0, 0, "  \n", 7),
     ("|2\n \n   a\n", 0, 0, "\n a\n", 10),
@@ -103,7 +103,7 @@ const READS_LINES_OF_SPACES: [Block; 4] = [
 ];
 
 /// Folds lines.
-const FOLDS_LINES: [Block; 9] = [
+static FOLDS_LINES: [Block; 9] = [
     (">\n a\n b\n", 0, 0, "a b\n", 8),
     (">\n a\n\n b\n", 0, 0, "a\nb\n", 9),
     (">\n a\n\n\n b\n", 0, 0, "a\n\nb\n", 10),
@@ -116,7 +116,7 @@ const FOLDS_LINES: [Block; 9] = [
 ];
 
 /// Reads each break as one line feed.
-const READS_EACH_BREAK_AS_ONE_LINE_FEED: [Block; 5] = [
+static READS_EACH_BREAK_AS_ONE_LINE_FEED: [Block; 5] = [
     ("|\r\n a\r\n b\r\n", 0, 0, "a\nb\n", 11),
     ("|\r a\r\r b", 0, 0, "a\n\nb", 8),
     (">\r\n a\r\n\r\n b\n", 0, 0, "a\nb\n", 12),
@@ -125,7 +125,7 @@ const READS_EACH_BREAK_AS_ONE_LINE_FEED: [Block; 5] = [
 ];
 
 /// Reads comment lines after it.
-const READS_COMMENT_LINES_AFTER_IT: [Block; 8] = [
+static READS_COMMENT_LINES_AFTER_IT: [Block; 8] = [
     ("|\n a\n# c\n  # d\n\n b: c", 0, 0, "a\n", 16),
     ("|\n a\n # c\n", 0, 0, "a\n# c\n", 10),
     ("|\n  a\n # c\n", 0, 0, "a\n", 11),
@@ -136,23 +136,21 @@ const READS_COMMENT_LINES_AFTER_IT: [Block; 8] = [
     ("|\n# c\n a\n", 0, 0, "", 6),
 ];
 
-/// All that are read.
-const TABLES: [&[Block]; 10] = [
-    &READS_THE_ROWS_OF_THE_PROFILE,
-    &READS_A_HEADER_IN_EITHER_ORDER,
-    &FINDS_THE_INDENTATION,
-    &ENDS_BEFORE_A_MARK,
-    &CHOMPS,
-    &READS_A_LAST_LINE_WITHOUT_A_BREAK,
-    &READS_LINES_OF_SPACES,
-    &FOLDS_LINES,
-    &READS_EACH_BREAK_AS_ONE_LINE_FEED,
-    &READS_COMMENT_LINES_AFTER_IT,
-];
-
 #[test]
 fn block_scalars_are_read(rt: HostRuntime) -> Result<(), Fail> {
-    for table in &TABLES {
+    let tables: [&[Block]; 10] = [
+        &READS_THE_ROWS_OF_THE_PROFILE,
+        &READS_A_HEADER_IN_EITHER_ORDER,
+        &FINDS_THE_INDENTATION,
+        &ENDS_BEFORE_A_MARK,
+        &CHOMPS,
+        &READS_A_LAST_LINE_WITHOUT_A_BREAK,
+        &READS_LINES_OF_SPACES,
+        &FOLDS_LINES,
+        &READS_EACH_BREAK_AS_ONE_LINE_FEED,
+        &READS_COMMENT_LINES_AFTER_IT,
+    ];
+    for table in &tables {
         for row in *table {
             is_block(&rt, row)?;
         }
@@ -160,7 +158,7 @@ fn block_scalars_are_read(rt: HostRuntime) -> Result<(), Fail> {
     Ok(())
 }
 
-const REFUSED: [NoBlock; 15] = [
+static REFUSED: [NoBlock; 15] = [
     ("a", 0, 0, "4 Syntax at byte 0"),
     ("", 0, 0, "4 Syntax at byte 0"),
     ("|#c", 0, 0, "4 Syntax at byte 1"),

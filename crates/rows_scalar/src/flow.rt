@@ -6,7 +6,7 @@ use std::test::Fail;
 use yaml_text::context::Ctx;
 
 /// Plain scalars end as far as they can.
-const PLAIN: [Flow; 23] = [
+static PLAIN: [Flow; 23] = [
     ("a b #c", 0, 0, Ctx::FlowOut, "a b", 3),
     ("a\nb", 0, 0, Ctx::FlowOut, "a b", 3),
     ("a\nb", 0, 1, Ctx::FlowOut, "a", 1),
@@ -33,7 +33,7 @@ const PLAIN: [Flow; 23] = [
 ];
 
 /// Single quoted scalars end at a lone quote.
-const SINGLE: [Flow; 11] = [
+static SINGLE: [Flow; 11] = [
     ("'a b' c", 0, 1, Ctx::FlowOut, "a b", 5),
     ("'it''s'", 0, 1, Ctx::FlowOut, "it's", 7),
     ("''", 0, 1, Ctx::FlowKey, "", 2),
@@ -48,7 +48,7 @@ const SINGLE: [Flow; 11] = [
 ];
 
 /// Double quoted scalars have escapes and escaped breaks.
-const DOUBLE: [Flow; 14] = [
+static DOUBLE: [Flow; 14] = [
     ("\"a\\\n  b\"", 0, 0, Ctx::FlowOut, "ab", 8),
     (
         "\"\\x41\\u00e9\\/\\e\" ",
@@ -93,16 +93,14 @@ const DOUBLE: [Flow; 14] = [
     ("\"a\n --- b\"", 0, 1, Ctx::FlowOut, "a --- b", 10),
 ];
 
-/// All that are read, with their calls.
-const READ: [(Call, &[Flow]); 3] = [
-    (Call::Plain, &PLAIN),
-    (Call::Single, &SINGLE),
-    (Call::Double, &DOUBLE),
-];
-
 #[test]
 fn flow_scalars_are_read(rt: HostRuntime) -> Result<(), Fail> {
-    for (call, table) in READ {
+    let tables: [(Call, &[Flow]); 3] = [
+        (Call::Plain, &PLAIN),
+        (Call::Single, &SINGLE),
+        (Call::Double, &DOUBLE),
+    ];
+    for (call, table) in tables {
         for row in table {
             is_read(&rt, call, row)?;
         }
@@ -112,7 +110,7 @@ fn flow_scalars_are_read(rt: HostRuntime) -> Result<(), Fail> {
 
 /// What begins no plain scalar is refused.
 /// What no plain scalar begins.
-const NO_PLAIN: [Refused; 10] = [
+static NO_PLAIN: [Refused; 10] = [
     ("", 0, 0, Ctx::FlowIn, "4 Syntax at byte 0"),
     ("... a", 0, 0, Ctx::FlowIn, "4 Syntax at byte 0"),
     ("---", 0, 0, Ctx::FlowIn, "4 Syntax at byte 0"),
@@ -127,7 +125,7 @@ const NO_PLAIN: [Refused; 10] = [
 
 /// Single quoted scalars are refused where they break off.
 /// The last breaks in a key.
-const NO_SINGLE: [Refused; 9] = [
+static NO_SINGLE: [Refused; 9] = [
     ("'a", 0, 1, Ctx::FlowOut, "4 Syntax at byte 2"),
     ("'a\n... b'", 0, 1, Ctx::FlowOut, "4 Syntax at byte 3"),
     ("'a''", 0, 1, Ctx::FlowOut, "4 Syntax at byte 4"),
@@ -141,7 +139,7 @@ const NO_SINGLE: [Refused; 9] = [
 
 /// Double quoted scalars are refused where they break off.
 /// The last two break in a key.
-const NO_DOUBLE: [Refused; 15] = [
+static NO_DOUBLE: [Refused; 15] = [
     ("\"abc", 0, 1, Ctx::FlowOut, "4 Syntax at byte 4"),
     ("\u{FEFF}a", 0, 1, Ctx::FlowOut, "4 Syntax at byte 3"),
     ("\"\\ud800\"", 0, 1, Ctx::FlowOut, "8 BadEscape at byte 1"),
@@ -167,7 +165,7 @@ const NO_DOUBLE: [Refused; 15] = [
 
 /// Escapes of no character are refused.
 /// Escapes of surrogates and of numbers past the last character.
-const NO_CHARACTER: [Refused; 4] = [
+static NO_CHARACTER: [Refused; 4] = [
     (
         "\"\\U00110000\"",
         0,
@@ -192,17 +190,15 @@ const NO_CHARACTER: [Refused; 4] = [
     ),
 ];
 
-/// All that are refused, with their calls.
-const REFUSED: [(Call, &[Refused]); 4] = [
-    (Call::Plain, &NO_PLAIN),
-    (Call::Single, &NO_SINGLE),
-    (Call::Double, &NO_DOUBLE),
-    (Call::Double, &NO_CHARACTER),
-];
-
 #[test]
 fn flow_scalars_are_refused(rt: HostRuntime) -> Result<(), Fail> {
-    for (call, table) in REFUSED {
+    let tables: [(Call, &[Refused]); 4] = [
+        (Call::Plain, &NO_PLAIN),
+        (Call::Single, &NO_SINGLE),
+        (Call::Double, &NO_DOUBLE),
+        (Call::Double, &NO_CHARACTER),
+    ];
+    for (call, table) in tables {
         for row in table {
             is_refused(&rt, call, row)?;
         }

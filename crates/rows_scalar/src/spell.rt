@@ -4,7 +4,7 @@ use std::test::Fail;
 use yaml_scalar::spell::{spell_into, spelled_len};
 
 /// A text, and how it is spelled.
-const SPELLINGS: [(&str, &str); 5] = [
+static SPELLINGS: [(&str, &str); 5] = [
     ("", "\"\""),
     ("a\u{85}", "\"a\\x85\""),
     ("\u{FEFF}", "\"\\uFEFF\""),

@@ -1,7 +1,7 @@
 //! Vectors: block mappings (8.2.2).
 use crate::rows::Node;
 
-pub const ROWS: [Node; 19] = [
+pub static ROWS: [Node; 19] = [
     Node {
         shows: "one entry",
         input: "a: b\n",

@@ -1,7 +1,7 @@
 //! Vectors: block scalars (8.1).
 use crate::rows::Node;
 
-pub const ROWS: [Node; 16] = [
+pub static ROWS: [Node; 16] = [
     Node {
         shows: "literal, clip",
         input: "k: |\n  a\n  b\n\nl: c\n",

@@ -1,7 +1,7 @@
 //! Vectors: block scalars (8.1).
 use crate::rows::Node;
 
-pub const ROWS: [Node; 16] = [
+pub static ROWS: [Node; 16] = [
     Node {
         shows: "folded, strip, the digit last",
         input: "k: >-2\n   a\n\n",

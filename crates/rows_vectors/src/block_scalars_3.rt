@@ -1,7 +1,7 @@
 //! Vectors: block scalars (8.1).
 use crate::rows::Node;
 
-pub const ROWS: [Node; 15] = [
+pub static ROWS: [Node; 15] = [
     Node {
         shows: "what looks like a comment is content",
         input: "|\n # a\n b\n",

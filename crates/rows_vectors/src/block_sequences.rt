@@ -1,7 +1,7 @@
 //! Vectors: block sequences (8.2.1).
 use crate::rows::Node;
 
-pub const ROWS: [Node; 15] = [
+pub static ROWS: [Node; 15] = [
     Node {
         shows: "one item",
         input: "- a\n",

@@ -1,7 +1,7 @@
 //! Vectors: nodes that are equal, and the spelling of tags and numbers.
 use crate::rows::Node;
 
-pub const ROWS: [Node; 19] = [
+pub static ROWS: [Node; 19] = [
     Node {
         shows: "equal collections are written once",
         input: "- &x [p, q]\n- [p, q]\n- *x\n",

@@ -1,7 +1,7 @@
 //! Vectors: characters (chapter 5).
 use crate::rows::Node;
 
-pub const ROWS: [Node; 12] = [
+pub static ROWS: [Node; 12] = [
     Node {
         shows: "a byte order mark at the start",
         input: "\u{FEFF}a",

@@ -1,7 +1,7 @@
 //! Vectors: double-quoted scalars (7.3.1).
 use crate::rows::Node;
 
-pub const ROWS: [Node; 18] = [
+pub static ROWS: [Node; 18] = [
     Node {
         shows: "nothing",
         input: "\"\"",

@@ -1,7 +1,7 @@
 //! Vectors: aliases that stand for no node, or for an open one. The events are read; the canonical text is refused.
 use crate::rows::Meaningless;
 
-pub const ROWS: [Meaningless; 7] = [
+pub static ROWS: [Meaningless; 7] = [
     Meaningless {
         input: "[*x]",
         events: "+STR\n+DOC\n+SEQ []\n=ALI *x\n-SEQ\n-DOC\n-STR\n",

@@ -1,7 +1,7 @@
 //! Vectors: tags of another kind, content that no pattern matches, and numbers out of range. The events are read; the canonical text is refused.
 use crate::rows::Meaningless;
 
-pub const ROWS: [Meaningless; 23] = [
+pub static ROWS: [Meaningless; 23] = [
     Meaningless {
         input: "!!seq x",
         events: "+STR\n+DOC\n=VAL <tag:yaml.org,2002:seq> :x\n-DOC\n-STR\n",

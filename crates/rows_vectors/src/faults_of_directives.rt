@@ -1,7 +1,7 @@
 //! Vectors: directives that are malformed, repeated or of another version.
 use crate::rows::Refused;
 
-pub const ROWS: [Refused; 10] = [
+pub static ROWS: [Refused; 10] = [
     Refused {
         input: "%YAML 1.3\n---\n",
         message: "9 BadDirective at byte 0",

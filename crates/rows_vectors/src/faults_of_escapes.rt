@@ -1,7 +1,7 @@
 //! Vectors: escapes that there are not.
 use crate::rows::Refused;
 
-pub const ROWS: [Refused; 7] = [
+pub static ROWS: [Refused; 7] = [
     Refused {
         input: "\"\\q\"",
         message: "8 BadEscape at byte 1",

@@ -1,7 +1,7 @@
 //! Vectors: equal keys. The events are read; the canonical text is refused.
 use crate::rows::Meaningless;
 
-pub const ROWS: [Meaningless; 14] = [
+pub static ROWS: [Meaningless; 14] = [
     Meaningless {
         input: "{1: a, 0x1: b}",
         events: "+STR\n+DOC\n+MAP {}\n=VAL :1\n=VAL :a\n=VAL :0x1\n=VAL :b\n-MAP\n-DOC\n-STR\n",

@@ -1,7 +1,7 @@
 //! Vectors: what the productions do not go on with.
 use crate::rows::Refused;
 
-pub const ROWS: [Refused; 33] = [
+pub static ROWS: [Refused; 33] = [
     Refused {
         input: "a: b: c",
         message: "4 Syntax at byte 4",

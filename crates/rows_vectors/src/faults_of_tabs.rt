@@ -1,7 +1,7 @@
 //! Vectors: tabs where spaces stand.
 use crate::rows::Refused;
 
-pub const ROWS: [Refused; 12] = [
+pub static ROWS: [Refused; 12] = [
     Refused {
         input: "a:\tb",
         message: "5 Tab at byte 2",

@@ -1,7 +1,7 @@
 //! Vectors: handles that are not bound, and malformed tags.
 use crate::rows::Refused;
 
-pub const ROWS: [Refused; 14] = [
+pub static ROWS: [Refused; 14] = [
     Refused {
         input: "!e!x v",
         message: "10 UnknownHandle at byte 0",

@@ -2,7 +2,7 @@
 use crate::rows::{Refused, answers};
 use std::test::Fail;
 
-pub const ROWS: [Refused; 5] = [
+pub static ROWS: [Refused; 5] = [
     Refused {
         input: "a\u{0}",
         message: "3 NotPrintable at byte 1",

@@ -1,7 +1,7 @@
 //! Vectors: flow mappings (7.4.2).
 use crate::rows::Node;
 
-pub const ROWS: [Node; 13] = [
+pub static ROWS: [Node; 13] = [
     Node {
         shows: "an explicit entry",
         input: "{? a : b}",

@@ -1,7 +1,7 @@
 //! Vectors: flow sequences and single pairs (7.4.1).
 use crate::rows::Node;
 
-pub const ROWS: [Node; 22] = [
+pub static ROWS: [Node; 22] = [
     Node {
         shows: "nothing",
         input: "[]",

@@ -1,6 +1,5 @@
 //! Every front of every vector's input has an answer: a canonical text, which is its own, or a numbered fault, which is that
 //! of reading where the front is not read. A front that cuts a character is no UTF-8 from that character on.
-use crate::limits::{DEPTHS, HEIGHTS, KEYS, build};
 use crate::rows::answers;
 use std::process::Abort;
 use std::test::Fail;
@@ -59,23 +58,6 @@ pub fn are_answered<T: Abort + AllocGlobal>(rt: &T, input: &str) -> Result<(), F
             let message = format!(in rt.alloc(); "2 NotUtf8 at byte {start}")?;
             answers(rt, &bytes[..cut], message.as_str())?;
         }
-    }
-    Ok(())
-}
-
-#[test]
-fn fronts_of_what_is_at_the_limits(rt: HostRuntime) -> Result<(), Fail> {
-    for row in &KEYS {
-        let text = build(rt.alloc(), row)?;
-        are_answered(&rt, text.as_str())?;
-    }
-    for row in &DEPTHS {
-        let text = build(rt.alloc(), row)?;
-        are_answered(&rt, text.as_str())?;
-    }
-    for row in &HEIGHTS {
-        let text = build(rt.alloc(), row)?;
-        are_answered(&rt, text.as_str())?;
     }
     Ok(())
 }

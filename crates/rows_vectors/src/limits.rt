@@ -1,12 +1,12 @@
 //! Vectors: keys that are too long and collections that are too deep, built of one piece many times.
+use crate::fronts::are_answered;
 use crate::rows::{answers, is_message};
 use std::alloc::{AllocError, Global};
-use std::process::Abort;
 use std::test::Fail;
 
 /// A text of a start, a piece so many times, a middle, another piece as often, and an end; and the message of its fault, or
 /// none.
-pub struct Built {
+struct Built {
     start: &'static str,
     piece: &'static str,
     times: usize,
@@ -23,7 +23,7 @@ fn repeat(text: &mut String, times: usize, piece: &str) -> Result<(), AllocError
     Ok(())
 }
 
-pub fn build(alloc: Global, row: &Built) -> Result<String, AllocError> {
+fn build(alloc: Global, row: &Built) -> Result<String, AllocError> {
     let mut text = String::new(alloc);
     text.push_str(row.start)?;
     repeat(&mut text, row.times, row.piece)?;
@@ -33,13 +33,7 @@ pub fn build(alloc: Global, row: &Built) -> Result<String, AllocError> {
     Ok(text)
 }
 
-/// Asserts that what is built is read, or refused with the message.
-fn is_built<T: Abort + AllocGlobal>(rt: &T, row: &Built) -> Result<(), Fail> {
-    let text = build(rt.alloc(), row)?;
-    is_message(rt, text.as_str(), row.message)
-}
-
-pub const KEYS: [Built; 7] = [
+static KEYS: [Built; 7] = [
     Built {
         start: "",
         piece: "k",
@@ -105,15 +99,7 @@ pub const KEYS: [Built; 7] = [
     },
 ];
 
-#[test]
-fn keys_have_1024_characters_at_most(rt: HostRuntime) -> Result<(), Fail> {
-    for row in &KEYS {
-        is_built(&rt, row)?;
-    }
-    Ok(())
-}
-
-pub const DEPTHS: [Built; 9] = [
+static DEPTHS: [Built; 9] = [
     Built {
         start: "",
         piece: "[",
@@ -197,15 +183,7 @@ pub const DEPTHS: [Built; 9] = [
     },
 ];
 
-#[test]
-fn collections_are_1024_deep_at_most(rt: HostRuntime) -> Result<(), Fail> {
-    for row in &DEPTHS {
-        is_built(&rt, row)?;
-    }
-    Ok(())
-}
-
-pub const HEIGHTS: [Built; 4] = [
+static HEIGHTS: [Built; 4] = [
     Built {
         start: "",
         piece: "[",
@@ -244,12 +222,27 @@ pub const HEIGHTS: [Built; 4] = [
     },
 ];
 
+/// Keys have 1,024 characters at most, and collections are 1,024 deep at most.
+#[test]
+fn what_is_at_the_limits_of_reading_is_read(rt: HostRuntime) -> Result<(), Fail> {
+    let tables: [&[Built]; 2] = [&KEYS, &DEPTHS];
+    for table in &tables {
+        for row in *table {
+            let text = build(rt.alloc(), row)?;
+            is_message(&rt, text.as_str(), row.message)?;
+            are_answered(&rt, text.as_str())?;
+        }
+    }
+    Ok(())
+}
+
 #[test]
 fn documents_are_1023_high_at_most(rt: HostRuntime) -> Result<(), Fail> {
     for row in &HEIGHTS {
         let text = build(rt.alloc(), row)?;
         is_message(&rt, text.as_str(), "")?;
         answers(&rt, text.as_bytes(), row.message)?;
+        are_answered(&rt, text.as_str())?;
     }
     Ok(())
 }

@@ -1,7 +1,7 @@
 //! Vectors: plain scalars (7.3.3).
 use crate::rows::Node;
 
-pub const ROWS: [Node; 15] = [
+pub static ROWS: [Node; 15] = [
     Node {
         shows: "one word",
         input: "a",

@@ -1,7 +1,7 @@
 //! Vectors: plain scalars (7.3.3).
 use crate::rows::Node;
 
-pub const ROWS: [Node; 14] = [
+pub static ROWS: [Node; 14] = [
     Node {
         shows: "quotes inside",
         input: "it's \"a\"",

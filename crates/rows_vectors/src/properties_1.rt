@@ -1,7 +1,7 @@
 //! Vectors: tags, anchors and aliases (6.8.2, 6.9, 7.1).
 use crate::rows::Node;
 
-pub const ROWS: [Node; 16] = [
+pub static ROWS: [Node; 16] = [
     Node {
         shows: "an anchor",
         input: "&a b",

@@ -1,7 +1,7 @@
 //! Vectors: tags, anchors and aliases (6.8.2, 6.9, 7.1).
 use crate::rows::Node;
 
-pub const ROWS: [Node; 15] = [
+pub static ROWS: [Node; 15] = [
     Node {
         shows: "properties of a block mapping",
         input: "!!map\n&a\nb: c\n",

@@ -1,7 +1,7 @@
 //! Vectors: separation and comments (chapter 6).
 use crate::rows::Node;
 
-pub const ROWS: [Node; 17] = [
+pub static ROWS: [Node; 17] = [
     Node {
         shows: "a comment after a node",
         input: "a # c\n",

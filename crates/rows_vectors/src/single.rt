@@ -1,7 +1,7 @@
 //! Vectors: single-quoted scalars (7.3.2).
 use crate::rows::Node;
 
-pub const ROWS: [Node; 14] = [
+pub static ROWS: [Node; 14] = [
     Node {
         shows: "nothing",
         input: "''",

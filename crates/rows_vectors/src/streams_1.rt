@@ -1,7 +1,7 @@
 //! Vectors: streams, documents and directives (6.8, chapter 9).
 use crate::rows::Stream;
 
-pub const ROWS: [Stream; 20] = [
+pub static ROWS: [Stream; 20] = [
     Stream {
         shows: "nothing",
         input: "",

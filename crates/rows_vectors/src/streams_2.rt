@@ -1,7 +1,7 @@
 //! Vectors: streams, documents and directives (6.8, chapter 9).
 use crate::rows::Stream;
 
-pub const ROWS: [Stream; 19] = [
+pub static ROWS: [Stream; 19] = [
     Stream {
         shows: "a quoted scalar on the line of a mark",
         input: "--- \"a\"\n...\n",
