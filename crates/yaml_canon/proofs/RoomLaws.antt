@@ -1,5 +1,5 @@
 -- What a room holds, step by step.
-use Rattle.std.proofs.Common.{◌≡◌, ℕ, ◌+◌, ◌-◌, ◌<◌, ◌≤◌, List, [], ◌∷◌, ◌++◌, length, take, drop, refl, sym, ◌∙◌, ap, subst, arith}
+use Rattle.std.proofs.Common.{◌≡◌, ℕ, ◌+◌, ◌≤◌, List, [], ◌++◌, length, take, drop, refl, sym, ◌∙◌, ap, arith}
 use Rattle.std.specs.Prelude.{Option, Some}
 use Rattle.std.proofs.lemmas.List.{append_assoc, append-nil, length-append}
 use Rattle.std.proofs.Math.Seq.{take-append_seam, drop-append-add, drop-drop}
@@ -9,8 +9,8 @@ use Rattle.yaml_text.specs.Spell.{spell_bytes}
 use Rattle.yaml_text.specs.declared.fault.Fault.{Fault}
 use Rattle.yaml_canon.specs.declared.room.Room.{Room}
 use Rattle.yaml_canon.specs.Documents.{spell_more}
-use Rattle.yaml_canon.specs.Pieces.{Began, TakesPiece, Puts, Fails}
-use Rattle.yaml_canon.specs.Rooms.{room_len, room_bytes, room_name, RoomHolds, RoomStops, Holds, Stops, RoomTakes}
+use Rattle.yaml_canon.specs.Pieces.{Began, Puts, Fails}
+use Rattle.yaml_canon.specs.Rooms.{room_len, room_bytes, room_name, RoomHolds, Holds, Stops, RoomTakes}
 use Rattle.yaml_canon.proofs.DocumentLaws.{spell_whole}
 
 -- one more piece behind the text so far

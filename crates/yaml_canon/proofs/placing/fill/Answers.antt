@@ -1,4 +1,4 @@
-use Rattle.std.proofs.Common.{◌≤◌, length, sym, ◌∙◌, ap, subst, rules}
+use Rattle.std.proofs.Common.{◌≤◌, length, sym, subst, rules}
 use Rattle.yaml_text.specs.Spell.{spell_bytes}
 use Rattle.yaml_graph.specs.GraphView.{forest}
 use Rattle.yaml_canon.proofs.PlaceLaws.{ok_unless, of_ok}
