@@ -7,10 +7,10 @@ ghost use Rattle.yaml_c.specs.Answers.{GivesCanonical, ShortCanonical, RefusesCa
 ghost use Rattle.yaml_c.specs.Answers.{GivesEvents, ShortEvents, RefusesEvents, Answers, RefusesSame};
 
 use crate::fault::{YamlcanonFault, refuse};
-use crate::room::put_text;
+use crate::room::{put_text, tell_length};
 use crate::status::{DIFFERENT, DONE};
 use std::alloc::Global;
-use yaml_canon::{Side, canonical, same};
+use yaml_canon::{Side, canonical_into, same};
 use yaml_event_text::event_text;
 
 /// 100 times the number of the interface, with which the shared library's name ends, and the number of what was added.
@@ -42,8 +42,8 @@ pub extern "C" fn yamlcanon_canonical(
     ensures refused { result ≡ 2 → RefusesCanonical input.now out.old out.new len.old len.new fault.new }
     ensures accepts { (f : List Tree) → Admitted f → Means input.now f → OnlyMemory f out.new len.new result fault.new }
 {
-    match canonical(alloc, input) {
-        Ok(text) => put_text(text.as_bytes(), out, len),
+    match canonical_into(alloc, input, out) {
+        Ok(needed) => tell_length(needed, out.len(), len),
         Err(refusal) => refuse(Side::Left, refusal, fault),
     }
 }

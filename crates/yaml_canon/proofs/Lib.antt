@@ -1,7 +1,9 @@
 pub mod Streams
 mod PieceLaws
 mod QuotedLaws
+mod SpelledLaws
 mod PageLaws
+mod RoomLaws
 mod PartLaws
 mod RankLaws
 mod WalkLaws
@@ -14,6 +16,7 @@ mod NamesLaws
 mod DocumentLaws
 mod ClaimLaws
 mod AcceptLaws
+mod PlaceLaws
 mod CompareLaws
 mod AcceptBoth
 mod RunLaws

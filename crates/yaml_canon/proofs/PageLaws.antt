@@ -3,12 +3,6 @@ use Rattle.std.proofs.Common.{◌≡◌, ℕ, ◌+◌, ◌-◌, min, List, [], �
 use Rattle.std.proofs.lemmas.List.{append_assoc, append-nil}
 use Rattle.std.proofs.lemmas.Grind.{common_steps}
 use Rattle.std.specs.Io.KnownBytes.{Appends}
-use Rattle.std.specs.Str.{encode_utf8_all}
-use Rattle.std.specs.Prelude.{flat_map}
-use Rattle.std.proofs.lemmas.Str.{chars-nil}
-use Rattle.yaml_text.specs.CharText.{spell_char}
-use Rattle.yaml_scalar.specs.Spelling.{quoted_bytes, spelled_chars}
-use Rattle.yaml_scalar.proofs.SpellingLemmas.{spelled_is}
 use Rattle.yaml_text.specs.declared.fault.Fault.{Fault}
 use Rattle.yaml_text.specs.declared.counted.Counted.{Counted}
 use Rattle.yaml_text.specs.Count.{one_more}
@@ -90,41 +84,3 @@ module _ {W : Type 0} (contents : W → Option (List ℕ)) where
   misses_piece p q o u w fault xs i h k =
       misses_more Holds Stops p o w fault (take i xs ++ []) (drop i xs) xs (misses_later Holds Stops p o q u w fault (take i xs) [] h k)
       (ap (λ z. z ++ drop i xs) (append-nil (take i xs)) ∙ take-append-drop i xs)
-
-  -- A content's spelling is taken but for that of the rest and the closing quote.
-  pub record Spelled (p : Page) (o : Counted W) (q : Page) (u : Counted W) (content rest : List ℕ) : Type 0 where
-    pub taken : List ℕ
-    pub adds : TakesPiece Holds p o q u taken
-    pub left : taken ++ (spelled_chars rest ++ (34 ∷ [])) ≡ quoted_bytes content
-
-  pub spelled_first : (p q : Page) (o u : Counted W) (content : List ℕ) → TakesPiece Holds p o q u (34 ∷ []) → Spelled p o q u content content
-  spelled_first p q o u content h = record { taken = 34 ∷ []; adds = h; left = sym (spelled_is content) }
-
-  pieced : (taken content rest after piece : List ℕ) → taken ++ (spelled_chars rest ++ (34 ∷ [])) ≡ quoted_bytes content → spelled_chars rest ≡ piece ++ spelled_chars after → (taken ++ piece) ++ (spelled_chars after ++ (34 ∷ [])) ≡ quoted_bytes content
-  pieced taken content rest after piece h f =
-      append_assoc taken piece (spelled_chars after ++ (34 ∷ [])) ∙ ap (λ z. taken ++ z) (sym (append_assoc piece (spelled_chars after) (34 ∷ [])) ∙ ap (λ z. z ++ (34 ∷ [])) (sym f)) ∙ h
-
-  pub spelled_next : (p q r : Page) (o u w : Counted W) (content rest after piece : List ℕ) → Spelled p o q u content rest → spelled_chars rest ≡ piece ++ spelled_chars after → TakesPiece Holds q u r w piece → Spelled p o r w content after
-  spelled_next p q r o u w content rest after piece s f h = record {
-    taken = s.taken ++ piece;
-    adds = adds_then Holds p o q u r w s.taken piece s.adds h;
-    left = pieced s.taken content rest after piece s.left f;
-  }
-
-  pub spelled_missed : (p q : Page) (o u w : Counted W) (fault : Fault) (content rest after piece : List ℕ) → Spelled p o q u content rest → spelled_chars rest ≡ piece ++ spelled_chars after → Misses Holds Stops q u w fault piece → Misses Holds Stops p o w fault (quoted_bytes content)
-  spelled_missed p q o u w fault content rest after piece s f h =
-      misses_more Holds Stops p o w fault (s.taken ++ piece) (spelled_chars after ++ (34 ∷ [])) (quoted_bytes content) (misses_later Holds Stops p o q u w fault s.taken piece s.adds h) (pieced s.taken content rest after piece s.left f)
-
-  -- the first quote, or the last one, is not taken
-  pub spelled_unopened : (p : Page) (o w : Counted W) (fault : Fault) (content : List ℕ) → Misses Holds Stops p o w fault (34 ∷ []) → Misses Holds Stops p o w fault (quoted_bytes content)
-  spelled_unopened p o w fault content h = misses_more Holds Stops p o w fault (34 ∷ []) (spelled_chars content ++ (34 ∷ [])) (quoted_bytes content) h (sym (spelled_is content))
-
-  all_spelled : (taken content rest : List ℕ) → taken ++ (spelled_chars rest ++ (34 ∷ [])) ≡ quoted_bytes content → rest ≡ [] → taken ++ (34 ∷ []) ≡ quoted_bytes content
-  all_spelled taken content rest h e = ap (λ z. taken ++ (z ++ (34 ∷ []))) (sym (ap spelled_chars e ∙ ap (λ z. encode_utf8_all (flat_map spell_char z)) chars-nil)) ∙ h
-
-  pub spelled_last : (p q r : Page) (o u w : Counted W) (content rest : List ℕ) → Spelled p o q u content rest → rest ≡ [] → TakesPiece Holds q u r w (34 ∷ []) → TakesPiece Holds p o r w (quoted_bytes content)
-  spelled_last p q r o u w content rest s e h = subst (TakesPiece Holds p o r w) (all_spelled s.taken content rest s.left e) (adds_then Holds p o q u r w s.taken (34 ∷ []) s.adds h)
-
-  pub spelled_unclosed : (p q : Page) (o u w : Counted W) (fault : Fault) (content rest : List ℕ) → Spelled p o q u content rest → rest ≡ [] → Misses Holds Stops q u w fault (34 ∷ []) → Misses Holds Stops p o w fault (quoted_bytes content)
-  spelled_unclosed p q o u w fault content rest s e h =
-      misses_more Holds Stops p o w fault (s.taken ++ (34 ∷ [])) [] (quoted_bytes content) (misses_later Holds Stops p o q u w fault s.taken (34 ∷ []) s.adds h) (append-nil (s.taken ++ (34 ∷ [])) ∙ all_spelled s.taken content rest s.left e)

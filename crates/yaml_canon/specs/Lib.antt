@@ -17,3 +17,4 @@ pub mod Comparing
 pub mod Accepting
 pub mod Gathering
 pub mod Runs
+pub mod Rooms

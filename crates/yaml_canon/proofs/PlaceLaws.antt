@@ -1,0 +1,45 @@
+-- From a room that was filled to what is promised of the bytes.
+use Rattle.std.proofs.Common.{◌≡◌, ℕ, ◌≤◌, List, refl, sym, ◌∙◌, ap, subst}
+use Rattle.std.specs.Prelude.{Result, Ok, Err, OnOk, IfOk, IfErr, IsOk, MatchResult}
+use Rattle.std.specs.Result.{IsErrAnd}
+use Rattle.std.proofs.lemmas.Result.{err_from_is_err_and}
+use Rattle.yaml_text.specs.Limits.{text_limit}
+use Rattle.yaml_text.specs.Tree.{Tree}
+use Rattle.yaml_text.specs.Spell.{spell_bytes}
+use Rattle.yaml_text.specs.Proper.{Admitted}
+use Rattle.yaml_text.specs.Means.{Means}
+use Rattle.yaml_text.specs.declared.fault.Fault.{Fault}
+use Rattle.yaml_canon.specs.Accepting.{IsSpelling, IsMemory}
+use Rattle.yaml_canon.specs.Claims.{Accepted, CanonicalRefuses}
+use Rattle.yaml_canon.specs.Rooms.{Places, PlacesCanonical}
+use Rattle.yaml_canon.proofs.ClaimLaws.{canonical_text}
+use Rattle.yaml_canon.proofs.AcceptLaws.{memory, text-is, spelling-means}
+
+pub ok_unless : {T E : Type 0} {P : E → Type 0} (r : Result T E) → IfErr r P → ((e : E) → P e → ⊥) → IsOk r
+ok_unless (Ok x) h never = refl
+ok_unless (Err e) h never = absurd (never e h)
+
+pub of_ok : {T E P : Type 0} (r : Result T E) → OnOk r P → IsOk r → P
+of_ok (Ok x) h o = h
+of_ok (Err e) h o = absurd (cc)
+
+pub placed : (bytes old new : List ℕ) (f : List Tree) (len : ℕ) → Accepted bytes f → Places (spell_bytes f) old new len → len ≤ text_limit → PlacesCanonical bytes old new len
+placed bytes old new f len a p l = record { text = spell_bytes f; canonical = canonical_text bytes (spell_bytes f) f a refl (subst (λ n. n ≤ text_limit) p.long l); placed = p }
+
+module _ (bytes old new : List ℕ) where
+  abbrev Gives : Result ℕ Fault → Type 0
+  Gives r = (f : List Tree) → Admitted f → Means bytes f → MatchResult r (Places (spell_bytes f) old new) IsMemory
+
+  pub placed-answer : (r : Result ℕ Fault) → IfOk r (PlacesCanonical bytes old new) → IfErr r (CanonicalRefuses bytes) → Gives r
+  placed-answer (Ok n) o e f a m = subst (λ z. Places z old new n) (text-is bytes f a m o.text o.canonical) o.placed
+  placed-answer (Err fault) o e f a m = memory bytes f a m fault e
+
+  pub placed-exit : (r : Result ℕ Fault) (fault : Fault) → IsErrAnd r (λ y. y ≡ fault) → CanonicalRefuses bytes fault → Gives r
+  placed-exit r fault was h =
+      let p = err_from_is_err_and r was in
+      subst Gives (sym (p.1 ∙ ap Err p.2)) (λ f a m. memory bytes f a m fault h)
+
+  pub placed-spelling : (r : Result ℕ Fault) → Gives r → (f : List Tree) → Admitted f → IsSpelling bytes f → MatchResult r (Places (spell_bytes f) old new) IsMemory
+  placed-spelling r h f a s =
+      let u = spelling-means bytes f a s in
+      subst (λ z. MatchResult r (Places z old new) IsMemory) u.text (h u.forest u.admitted u.means)
