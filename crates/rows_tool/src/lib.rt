@@ -6,7 +6,11 @@ mod failing;
 #[cfg(test)]
 mod fakes;
 #[cfg(test)]
+mod named;
+#[cfg(test)]
 mod pages;
+#[cfg(test)]
+mod pair;
 #[cfg(test)]
 mod rows;
 #[cfg(test)]

@@ -2,7 +2,8 @@
 use crate::fakes::{Shelf, Source};
 use std::alloc::Global;
 use std::test::Fail;
-use yaml_command::command::command;
+use yaml_command::command::{command, command_over};
+use yaml_command::shelf;
 
 /// What a run answered and wrote.
 #[derive(Drop)]
@@ -31,6 +32,24 @@ pub fn run(
     let mut out = Vec::new(alloc);
     let mut err = Vec::new(alloc);
     let status = command(shelf, alloc, words.as_slice(), input, &mut out, &mut err);
+    Ok(Ran {
+        status,
+        out: String::from_utf8(out)?,
+        err: String::from_utf8(err)?,
+    })
+}
+
+/// The same over a shelf of which it may be known what its files hold.
+pub fn run_over<S: shelf::Shelf>(
+    alloc: Global,
+    files: &S,
+    words: &[&str],
+    input: Source<'_>,
+) -> Result<Ran, Fail> {
+    let words = owned(alloc, words)?;
+    let mut out = Vec::new(alloc);
+    let mut err = Vec::new(alloc);
+    let status = command_over(files, alloc, words.as_slice(), input, &mut out, &mut err);
     Ok(Ran {
         status,
         out: String::from_utf8(out)?,

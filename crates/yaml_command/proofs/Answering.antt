@@ -1,10 +1,16 @@
 -- From the answers of calls to what a command promises.
 use Rattle.std.specs.Prelude.{Result, Ok, Err, IfOk, IfErr}
-use Rattle.std.proofs.Common.{◌≡◌, ◌⊎◌, ◌≤◌, ℕ, Bool, List, Option, Some, None, subst, refl, inl, inr, arith}
+use Rattle.std.specs.Io.KnownBytes.{Consumes}
+use Rattle.std.proofs.Common.{◌≡◌, ◌⊎◌, ◌≤◌, ◌<◌, ◌+◌, ℕ, Bool, List, [], length, length-append, Option, Some, None, IfSome, subst, ap, refl, inl, inr, arith}
+use Rattle.std.proofs.KnownBytes.{Consumes-all}
+use Rattle.yaml_text.specs.Limits.{text_limit}
 use Rattle.yaml_text.specs.declared.fault.Fault.{Fault}
 use Rattle.yaml_text.specs.declared.fault.Fault.TheVariants.{TooLong, OutOfMemory, ReadFault, WriteFault}
 use Rattle.yaml_text.specs.declared.counted.Counted.{Counted}
+use Rattle.yaml_text.specs.CountedModel.{inner_of}
+use Rattle.yaml_canon.specs.declared.side.Side.{Side}
 use Rattle.yaml_canon.specs.Comparing.{Compares}
+use Rattle.yaml_canon.specs.Gathering.{Gathers, GatherFails}
 use Rattle.yaml_canon.specs.Runs.{RunFails}
 use Rattle.yaml_canon.specs.Writers.{Broken}
 use Rattle.yaml_command.specs.declared.refusal.Refusal.{Refusal}
@@ -12,12 +18,14 @@ use Rattle.yaml_command.specs.declared.refusal.Refusal.TheVariants.{Words, Canno
 use Rattle.yaml_words.specs.declared.words.Asked.{Asked}
 use Rattle.yaml_words.specs.declared.words.Asked.TheVariants.{Canon, Same, Events, Check}
 use Rattle.yaml_words.specs.declared.words.WordsFault.{WordsFault}
+use Rattle.yaml_command.specs.EventRuns.{EventsFail}
 use Rattle.yaml_command.specs.Printing.{PrintFails}
-use Rattle.yaml_command.specs.Judged.{same_line, match_line, HasEvents, SameFails, MatchFails}
-use Rattle.yaml_command.specs.Refusals.{InputFails}
+use Rattle.yaml_command.specs.Judged.{same_line, match_line, HasEvents, SameFails, MatchFails, Silent}
+use Rattle.yaml_command.specs.Refusals.{events_limit, InputFails, SideFails, LinesFail}
+use Rattle.yaml_command.specs.Shelves.{IsOf, FileFails, InputUnread, SideUnread, LinesUnread}
 use Rattle.yaml_command.specs.Statuses.{answer_status, fault_status, refusal_status}
 use Rattle.yaml_words.specs.Words.{Asks}
-use Rattle.yaml_command.specs.Commands.{written_status, judged_status, FileNotCanonical, FilesNotMatched, DoesNot, WordsNotDone}
+use Rattle.yaml_command.specs.Commands.{judged_status, BytesFail, EventsOfFail, DoesNot, WordsNotDone}
 
 -- a fact of one arm of an answer
 pub if_one : {T E : Type 0} {P Q : T → Type 0} (r : Result T E) → IfOk r P → ((x : T) → P x → Q x) → IfOk r Q
@@ -27,6 +35,47 @@ if_one (Err e) h f = h
 pub if_refused : {T E : Type 0} {P Q : E → Type 0} (r : Result T E) → IfErr r P → ((e : E) → P e → Q e) → IfErr r Q
 if_refused (Ok x) h f = h
 if_refused (Err e) h f = f e h
+
+-- the status of an answer keeps its refusal
+pub judged_unmatched : (Q : Refusal → Type 0) (r : Result Bool Refusal) → IfErr r Q → IfErr (judged_status r) Q
+judged_unmatched Q (Ok answer) h = tt
+judged_unmatched Q (Err refusal) h = h
+
+-- of a file of which it is known what it holds, that was read
+module _ {F : Type 0} (remaining : F → Option (List ℕ)) where
+  pub gathered : (held : Option (List ℕ)) (i e : Counted F) (limit : ℕ) (bytes : List ℕ) → IfSome held (λ known. remaining (inner_of i) ≡ Some known) → Gathers remaining i e limit bytes → IsOf held bytes
+  gathered None i e limit bytes k h = tt
+  gathered (Some known) i e limit bytes k h =
+      subst (λ a. IfSome a (λ xs. bytes ≡ xs)) k (Consumes-all (remaining (inner_of i)) (remaining (inner_of e)) bytes [] bytes h.gave h.end refl)
+
+  long : (a b : Option (List ℕ)) (bytes : List ℕ) (limit : ℕ) → Consumes a b bytes → length bytes ≡ limit + 1 → IfSome a (λ xs. limit < length xs)
+  long None b bytes limit h e = tt
+  long (Some xs) None bytes limit h e = absurd h
+  long (Some xs) (Some ys) bytes limit h e =
+      let q = ap length h in
+      let r = length-append bytes ys in
+      omega (arith, e, q, r)
+
+  pub file_fails : (held : Option (List ℕ)) (i e : Counted F) (limit : ℕ) (fault : Fault) → IfSome held (λ known. remaining (inner_of i) ≡ Some known) → GatherFails remaining i e limit fault → FileFails held limit fault
+  file_fails None i e limit TooLong k h = tt
+  file_fails (Some known) i e limit TooLong k h =
+      subst (λ a. IfSome a (λ xs. limit < length xs)) k (long (remaining (inner_of i)) (remaining (inner_of e)) h.0.0 limit h.0.1 h.0.2)
+  file_fails held i e limit OutOfMemory k h = tt
+  file_fails held i e limit ReadFault k h = tt
+  file_fails held i e limit _ k h = absurd h
+
+  -- and what is told of it
+  pub side_unread : (held : Option (List ℕ)) (name : List ℕ) (i e : Counted F) (side : Side) (refusal : Refusal) → IfSome held (λ known. remaining (inner_of i) ≡ Some known) → SideFails remaining side i e refusal → SideUnread held name side refusal
+  side_unread held name i e side (OneSide told fault) k h = (h.0, file_fails held i e text_limit fault k h.1)
+  side_unread held name i e side _ k h = absurd h
+
+  pub input_unread : (held : Option (List ℕ)) (name : List ℕ) (i e : Counted F) (refusal : Refusal) → IfSome held (λ known. remaining (inner_of i) ≡ Some known) → InputFails remaining i e refusal → InputUnread held name refusal
+  input_unread held name i e (Input fault) k h = file_fails held i e text_limit fault k h
+  input_unread held name i e _ k h = absurd h
+
+  pub lines_unread : (held : Option (List ℕ)) (name : List ℕ) (i e : Counted F) (refusal : Refusal) → IfSome held (λ known. remaining (inner_of i) ≡ Some known) → LinesFail remaining i e refusal → LinesUnread held name refusal
+  lines_unread held name i e (EventText fault) k h = file_fails held i e events_limit fault k h
+  lines_unread held name i e _ k h = absurd h
 
 module _ {W : Type 0} (contents : W → Option (List ℕ)) where
   -- a line is not written whole
@@ -38,49 +87,83 @@ module _ {W : Type 0} (contents : W → Option (List ℕ)) where
   match_broken input lines o u alike text WriteFault a e h = record { answer = alike; has = a; broken = subst (Broken contents o u) e h }
   match_broken input lines o u alike text _ a e h = absurd h
 
-  -- what was read is refused
-  refused_unmatched : (first second input lines : List ℕ) (o u : Counted W) (refusal : Refusal) → MatchFails contents input lines o u refusal → FilesNotMatched contents first second o u refusal
-  refused_unmatched first second input lines o u (Input WriteFault) h = (input, lines, h)
-  refused_unmatched first second input lines o u (Input fault) h = (inr (input, h.0), h.1)
-  refused_unmatched first second input lines o u (EventText fault) h = (inr (lines, h.0.1), h.1)
-  refused_unmatched first second input lines o u (EventLines fault) h = ((lines, h.0.1), h.1)
-  refused_unmatched first second input lines o u _ h = absurd h.0
+  -- a refusal before a word was written
+  pub side_silent : (held : Option (List ℕ)) (name : List ℕ) (side : Side) (o : Counted W) (refusal : Refusal) → SideUnread held name side refusal → Silent contents o o refusal
+  side_silent held name side o (Input fault) h = absurd h
+  side_silent held name side o (Words fault) h = refl
+  side_silent held name side o (CannotOpen told) h = refl
+  side_silent held name side o (OneSide told fault) h = refl
+  side_silent held name side o (EventText fault) h = refl
+  side_silent held name side o (EventLines fault) h = refl
 
-  pub judged_unmatched : (first second input lines : List ℕ) (o u : Counted W) (r : Result Bool Refusal) → IfErr r (MatchFails contents input lines o u) → IfErr (judged_status r) (FilesNotMatched contents first second o u)
-  judged_unmatched first second input lines o u (Ok answer) h = tt
-  judged_unmatched first second input lines o u (Err refusal) h = refused_unmatched first second input lines o u refusal h
+  pub lines_silent : (held : Option (List ℕ)) (name : List ℕ) (o : Counted W) (refusal : Refusal) → LinesUnread held name refusal → Silent contents o o refusal
+  lines_silent held name o (Input fault) h = absurd h
+  lines_silent held name o (Words fault) h = refl
+  lines_silent held name o (CannotOpen told) h = refl
+  lines_silent held name o (OneSide told fault) h = refl
+  lines_silent held name o (EventText fault) h = refl
+  lines_silent held name o (EventLines fault) h = refl
+
+  pub input_silent : (held : Option (List ℕ)) (name : List ℕ) (o : Counted W) (refusal : Refusal) → InputUnread held name refusal → Silent contents o o refusal
+  input_silent held name o (Input WriteFault) h = absurd h
+  input_silent held name o (Input fault) h = refl
+  input_silent held name o (Words fault) h = refl
+  input_silent held name o (CannotOpen told) h = refl
+  input_silent held name o (OneSide told fault) h = refl
+  input_silent held name o (EventText fault) h = refl
+  input_silent held name o (EventLines fault) h = refl
+
+  pub same_silent : (left right : List ℕ) (o u : Counted W) (refusal : Refusal) → SameFails contents left right o u refusal → Silent contents o u refusal
+  same_silent left right o u (OneSide side fault) h = h.1
+  same_silent left right o u (Input WriteFault) h = (_, h.broken)
+  same_silent left right o u _ h = absurd h
+
+  pub match_silent : (input lines : List ℕ) (o u : Counted W) (refusal : Refusal) → MatchFails contents input lines o u refusal → Silent contents o u refusal
+  match_silent input lines o u (Input WriteFault) h = (_, h.broken)
+  match_silent input lines o u (Input fault) h = h.1
+  match_silent input lines o u (Words fault) h = h.1
+  match_silent input lines o u (CannotOpen told) h = h.1
+  match_silent input lines o u (OneSide told fault) h = h.1
+  match_silent input lines o u (EventText fault) h = h.1
+  match_silent input lines o u (EventLines fault) h = h.1
 
   module _ {F : Type 0} (remaining : F → Option (List ℕ)) where
-    -- a file is not read whole
-    pub ungathered_unmatched : (first second : List ℕ) (i e : Counted F) (o : Counted W) (refusal : Refusal) → InputFails remaining i e refusal → FilesNotMatched contents first second o o refusal
-    ungathered_unmatched first second i e o (Input TooLong) h = (inl tt, refl)
-    ungathered_unmatched first second i e o (Input OutOfMemory) h = (inl tt, refl)
-    ungathered_unmatched first second i e o (Input ReadFault) h = (inl tt, refl)
-    ungathered_unmatched first second i e o _ h = absurd h
+    -- a file that is not read whole, or of which the text is not written
+    pub canon_unread : (held : Option (List ℕ)) (name : List ℕ) (i e : Counted F) (o u : Counted W) (fault : Fault) → IfSome held (λ bytes. remaining (inner_of i) ≡ Some bytes) → RunFails contents remaining i e o u fault
+        → (InputUnread held name (Input fault) × (u ≡ o)) ⊎ ((bytes : List ℕ) × IsOf held bytes × BytesFail contents bytes o u (Input fault))
+    canon_unread held name i e o u TooLong k h = inl (file_fails remaining held i e text_limit TooLong k h.fails, h.untouched)
+    canon_unread held name i e o u OutOfMemory k h = inl (tt, h.untouched)
+    canon_unread held name i e o u ReadFault k h = inl (tt, h.untouched)
+    canon_unread held name i e o u fault k h = inr (h.bytes, gathered remaining held i e text_limit h.bytes k h.gathers, h.refuses)
 
-    pub run_uncanonical : (name : List ℕ) (i e : Counted F) (o u : Counted W) (fault : Fault) → RunFails contents remaining i e o u fault → FileNotCanonical contents name o u (Input fault)
-    run_uncanonical name i e o u TooLong h = h.untouched
-    run_uncanonical name i e o u OutOfMemory h = h.untouched
-    run_uncanonical name i e o u ReadFault h = h.untouched
-    run_uncanonical name i e o u fault h = (h.bytes, h.refuses)
-
-    pub file_uncanonical : {T : Type 0} (name : List ℕ) (i e : Counted F) (o u : Counted W) (r : Result T Fault) → IfErr r (RunFails contents remaining i e o u) → IfErr (written_status r) (FileNotCanonical contents name o u)
-    file_uncanonical name i e o u (Ok x) h = tt
-    file_uncanonical name i e o u (Err fault) h = run_uncanonical name i e o u fault h
+    pub events_unread : (held : Option (List ℕ)) (name : List ℕ) (i e : Counted F) (o u : Counted W) (fault : Fault) → IfSome held (λ bytes. remaining (inner_of i) ≡ Some bytes) → EventsFail remaining contents i e o u fault
+        → (InputUnread held name (Input fault) × (u ≡ o)) ⊎ ((bytes : List ℕ) × IsOf held bytes × EventsOfFail contents bytes o u (Input fault))
+    events_unread held name i e o u TooLong k h = inl (file_fails remaining held i e text_limit TooLong k h.fails, h.untouched)
+    events_unread held name i e o u OutOfMemory k h = inl (tt, h.untouched)
+    events_unread held name i e o u ReadFault k h = inl (tt, h.untouched)
+    events_unread held name i e o u WriteFault k h = inr (h.bytes, gathered remaining held i e text_limit h.bytes k h.gathers, (h.text, h.is_text, h.broken))
+    events_unread held name i e o u fault k h = inr (h.bytes, gathered remaining held i e text_limit h.bytes k h.gathers, (h.unread, h.untouched))
 
     -- ---- what words ask for
 
-    no_words : (i e : Counted F) (o u : Counted W) (fault : WordsFault) (asked : Asked) → DoesNot contents remaining i e o u (Words fault) asked → ⊥
-    no_words i e o u fault (Canon None) h = h
-    no_words i e o u fault (Canon (Some name)) h = h.0
-    no_words i e o u fault (Same left right) h = h.0
-    no_words i e o u fault (Events None) h = h
-    no_words i e o u fault (Events (Some name)) h = h.0
-    no_words i e o u fault (Check file lines) h = h.0
+    module _ (holds : List ℕ → Option (List ℕ)) where
+      no_words : (i e : Counted F) (o u : Counted W) (fault : WordsFault) (asked : Asked) → DoesNot holds contents remaining i e o u (Words fault) asked → ⊥
+      no_words i e o u fault (Canon None) h = h
+      no_words i e o u fault (Canon (Some name)) (inl a, b) = a.0
+      no_words i e o u fault (Canon (Some name)) (inr a, b) = a.2
+      no_words i e o u fault (Same left right) (inl (inl a, c), b) = a
+      no_words i e o u fault (Same left right) (inl (inr a, c), b) = a
+      no_words i e o u fault (Same left right) (inr a, b) = a.4
+      no_words i e o u fault (Events None) h = h
+      no_words i e o u fault (Events (Some name)) (inl a, b) = a.0
+      no_words i e o u fault (Events (Some name)) (inr a, b) = a.2
+      no_words i e o u fault (Check file lines) (inl (inl a, c), b) = a
+      no_words i e o u fault (Check file lines) (inl (inr a, c), b) = a
+      no_words i e o u fault (Check file lines) (inr a, b) = a.4.0
 
-    pub not_done : (words : List (List ℕ)) (i e : Counted F) (o u : Counted W) (asked : Asked) → Asks words asked → (refusal : Refusal) → DoesNot contents remaining i e o u refusal asked → WordsNotDone contents remaining words i e o u refusal
-    not_done words i e o u asked asks (Words fault) h = absurd (no_words i e o u fault asked h)
-    not_done words i e o u asked asks refusal h = (asked, asks, h)
+      pub not_done : (words : List (List ℕ)) (i e : Counted F) (o u : Counted W) (asked : Asked) → Asks words asked → (refusal : Refusal) → DoesNot holds contents remaining i e o u refusal asked → WordsNotDone holds contents remaining words i e o u refusal
+      not_done words i e o u asked asks (Words fault) h = absurd (no_words i e o u fault asked h)
+      not_done words i e o u asked asks refusal h = (asked, asks, h)
 
 -- what an answer's status tells
 pub status_tells : (P : ℕ → Type 0) (Q : Refusal → Type 0) (r : Result ℕ Refusal) → IfOk r P → IfErr r Q → P (answer_status r) ⊎ ((refusal : Refusal) × Q refusal × (answer_status r ≡ refusal_status refusal))

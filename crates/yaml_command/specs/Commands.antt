@@ -1,24 +1,22 @@
 -- What each command does where it answers, and why it does not.
 use Rattle.std.specs.Prelude.{◌≡◌, ◌⊎◌, ℕ, Bool, cond, List, Option, None, Some, Result, Ok, Err}
 use Rattle.yaml_text.specs.declared.fault.Fault.{Fault}
-use Rattle.yaml_text.specs.declared.fault.Fault.TheVariants.{TooLong, OutOfMemory, ReadFault, WriteFault}
+use Rattle.yaml_text.specs.declared.fault.Fault.TheVariants.{WriteFault}
 use Rattle.yaml_text.specs.declared.counted.Counted.{Counted}
 use Rattle.yaml_text.specs.CountedModel.{inner_of, faults_of}
-use Rattle.yaml_canon.specs.declared.side.Side.{Side}
-use Rattle.yaml_canon.specs.Comparing.{ComparerRefuses}
+use Rattle.yaml_canon.specs.declared.side.Side.TheVariants.{Left, Right}
 use Rattle.yaml_canon.specs.Runs.{WritesCanonical, WriteRefuses, RunsWhole, RunFails}
 use Rattle.yaml_canon.specs.Writers.{Printed, Broken}
-use Rattle.yaml_events.specs.Answer.{RefusesEventText}
-use Rattle.yaml_event_text.specs.Answer.{IsEventText, IsUnread}
 use Rattle.yaml_command.specs.EventRuns.{EventsPrinted, EventsFail}
-use Rattle.yaml_command.specs.Judged.{IsNotUtf8, PrintsSame, BreaksSame, PrintsMatch, BreaksMatch}
-use Rattle.yaml_command.specs.Refusals.{IsReadingFault}
+use Rattle.yaml_event_text.specs.Answer.{IsEventText, IsUnread}
+use Rattle.yaml_command.specs.Judged.{PrintsSame, SameFails, PrintsMatch, MatchFails}
+use Rattle.yaml_command.specs.Shelves.{IsOf, InputUnread, SideUnread, LinesUnread}
 use Rattle.yaml_command.specs.Statuses.{refusal_status}
 use Rattle.yaml_words.specs.Words.{Asks, RefusesWords}
 use Rattle.yaml_words.specs.declared.words.Asked.{Asked}
 use Rattle.yaml_words.specs.declared.words.Asked.TheVariants.{Canon, Same, Events, Check}
 use Rattle.yaml_command.specs.declared.refusal.Refusal.{Refusal}
-use Rattle.yaml_command.specs.declared.refusal.Refusal.TheVariants.{Words, CannotOpen, Input, OneSide, EventText, EventLines}
+use Rattle.yaml_command.specs.declared.refusal.Refusal.TheVariants.{Words, Input}
 
 -- the status of a command that writes a text
 abbrev pub written_status : {T : Type 0} → Result T Fault → Result ℕ Refusal
@@ -30,82 +28,78 @@ abbrev pub judged_status : Result Bool Refusal → Result ℕ Refusal
 judged_status (Ok alike) = Ok (cond alike 0 1)
 judged_status (Err refusal) = Err refusal
 
--- one of two files can't be opened
-abbrev pub IsNeitherOpened : List ℕ → List ℕ → List ℕ → Type 0
-IsNeitherOpened first second told = (told ≡ first) ⊎ (told ≡ second)
-
--- a file can't be read, or what was read of it is refused
-abbrev pub RefusesFile : (List ℕ → Fault → Type 0) → Fault → Type 0
-RefusesFile Refuses fault = IsReadingFault fault ⊎ ((bytes : List ℕ) × Refuses bytes fault)
-
-abbrev pub RefusesSide : Side → Fault → Type 0
-RefusesSide side fault = IsReadingFault fault ⊎ ((left : List ℕ) × (right : List ℕ) × ComparerRefuses left right side fault)
-
 module _ {W : Type 0} (contents : W → Option (List ℕ)) where
-  -- Of files it is not known what they hold: some bytes that were read, and what follows from them.
-  abbrev pub FileCanonical : Counted W → Counted W → Type 0
-  FileCanonical old new = (bytes : List ℕ) × WritesCanonical contents bytes old new
+  -- why the canonical text of some bytes was not written, or not whole
+  abbrev pub BytesFail : List ℕ → Counted W → Counted W → Refusal → Type 0
+  BytesFail bytes old new (Input fault) = WriteRefuses contents bytes old new fault
+  BytesFail bytes old new _ = ⊥
 
-  abbrev pub FileEvents : Counted W → Counted W → Type 0
-  FileEvents old new = (bytes : List ℕ) × (text : List ℕ) × IsEventText bytes text × Printed contents old new text
+  -- and the text of their events
+  abbrev pub EventsOfFail : List ℕ → Counted W → Counted W → Refusal → Type 0
+  EventsOfFail bytes old new (Input WriteFault) = (text : List ℕ) × IsEventText bytes text × Broken contents old new text
+  EventsOfFail bytes old new (Input fault) = IsUnread bytes fault × (new ≡ old)
+  EventsOfFail bytes old new _ = ⊥
 
-  abbrev pub FilesCompared : Counted W → Counted W → Bool → Type 0
-  FilesCompared old new answer = (left : List ℕ) × (right : List ℕ) × PrintsSame contents left right old new answer
+module _ {W : Type 0} (holds : List ℕ → Option (List ℕ)) (contents : W → Option (List ℕ)) where
+  -- Where it is known what a named file holds, what is printed is of those bytes.
+  abbrev pub FileCanonical : List ℕ → Counted W → Counted W → Type 0
+  FileCanonical name old new = (bytes : List ℕ) × IsOf (holds name) bytes × WritesCanonical contents bytes old new
 
-  abbrev pub FilesMatched : Counted W → Counted W → Bool → Type 0
-  FilesMatched old new answer = (input : List ℕ) × (lines : List ℕ) × PrintsMatch contents input lines old new answer
+  abbrev pub FileEvents : List ℕ → Counted W → Counted W → Type 0
+  FileEvents name old new = (bytes : List ℕ) × IsOf (holds name) bytes × ((text : List ℕ) × IsEventText bytes text × Printed contents old new text)
 
-  -- Why a file's canonical text was not written: reading it failed, or the text of some bytes is refused, or was cut off.
+  abbrev pub FilesCompared : List ℕ → List ℕ → Counted W → Counted W → Bool → Type 0
+  FilesCompared first second old new answer =
+      (left : List ℕ) × (right : List ℕ) × IsOf (holds first) left × IsOf (holds second) right × PrintsSame contents left right old new answer
+
+  abbrev pub FilesMatched : List ℕ → List ℕ → Counted W → Counted W → Bool → Type 0
+  FilesMatched first second old new answer =
+      (input : List ℕ) × (lines : List ℕ) × IsOf (holds first) input × IsOf (holds second) lines × PrintsMatch contents input lines old new answer
+
+  -- Why a file's text was not written: the file is not read, or what it holds is refused, or the text was cut off.
   abbrev pub FileNotCanonical : List ℕ → Counted W → Counted W → Refusal → Type 0
-  FileNotCanonical name old new (CannotOpen told) = (told.now ≡ name) × (new ≡ old)
-  FileNotCanonical name old new (Input TooLong) = new ≡ old
-  FileNotCanonical name old new (Input OutOfMemory) = new ≡ old
-  FileNotCanonical name old new (Input ReadFault) = new ≡ old
-  FileNotCanonical name old new (Input fault) = (bytes : List ℕ) × WriteRefuses contents bytes old new fault
-  FileNotCanonical name old new _ = ⊥
+  FileNotCanonical name old new refusal =
+      (InputUnread (holds name) name refusal × (new ≡ old)) ⊎ ((bytes : List ℕ) × IsOf (holds name) bytes × BytesFail contents bytes old new refusal)
 
   abbrev pub FileHasNoEvents : List ℕ → Counted W → Counted W → Refusal → Type 0
-  FileHasNoEvents name old new (CannotOpen told) = (told.now ≡ name) × (new ≡ old)
-  FileHasNoEvents name old new (Input TooLong) = new ≡ old
-  FileHasNoEvents name old new (Input OutOfMemory) = new ≡ old
-  FileHasNoEvents name old new (Input ReadFault) = new ≡ old
-  FileHasNoEvents name old new (Input WriteFault) = (bytes : List ℕ) × (text : List ℕ) × IsEventText bytes text × Broken contents old new text
-  FileHasNoEvents name old new (Input fault) = ((bytes : List ℕ) × IsUnread bytes fault) × (new ≡ old)
-  FileHasNoEvents name old new _ = ⊥
+  FileHasNoEvents name old new refusal =
+      (InputUnread (holds name) name refusal × (new ≡ old)) ⊎ ((bytes : List ℕ) × IsOf (holds name) bytes × EventsOfFail contents bytes old new refusal)
 
   -- why two files are not compared, or not held against each other
   abbrev pub FilesNotCompared : List ℕ → List ℕ → Counted W → Counted W → Refusal → Type 0
-  FilesNotCompared first second old new (CannotOpen told) = IsNeitherOpened first second told.now × (new ≡ old)
-  FilesNotCompared first second old new (OneSide side fault) = RefusesSide side fault × (new ≡ old)
-  FilesNotCompared first second old new (Input WriteFault) = (left : List ℕ) × (right : List ℕ) × BreaksSame contents left right old new
-  FilesNotCompared first second old new _ = ⊥
+  FilesNotCompared first second old new refusal =
+      ((SideUnread (holds first) first Left refusal ⊎ SideUnread (holds second) second Right refusal) × (new ≡ old))
+      ⊎ ((left : List ℕ) × (right : List ℕ) × IsOf (holds first) left × IsOf (holds second) right × SameFails contents left right old new refusal)
 
   abbrev pub FilesNotMatched : List ℕ → List ℕ → Counted W → Counted W → Refusal → Type 0
-  FilesNotMatched first second old new (CannotOpen told) = IsNeitherOpened first second told.now × (new ≡ old)
-  FilesNotMatched first second old new (Input WriteFault) = (input : List ℕ) × (lines : List ℕ) × BreaksMatch contents input lines old new
-  FilesNotMatched first second old new (Input fault) = RefusesFile IsUnread fault × (new ≡ old)
-  FilesNotMatched first second old new (EventText fault) = RefusesFile IsNotUtf8 fault × (new ≡ old)
-  FilesNotMatched first second old new (EventLines fault) = ((lines : List ℕ) × RefusesEventText lines fault) × (new ≡ old)
-  FilesNotMatched first second old new _ = ⊥
+  FilesNotMatched first second old new refusal =
+      ((InputUnread (holds first) first refusal ⊎ LinesUnread (holds second) second refusal) × (new ≡ old))
+      ⊎ ((input : List ℕ) × (lines : List ℕ) × IsOf (holds first) input × IsOf (holds second) lines × MatchFails contents input lines old new refusal)
 
   module _ {R : Type 0} (remaining : R → Option (List ℕ)) where
     -- The text or the word was written, and the status tells the answer. Standard input is not read where a file is named.
     abbrev pub Does : Asked → Counted R → Counted R → Counted W → Counted W → ℕ → Type 0
     Does (Canon None) input end old new status = RunsWhole contents remaining input end old new × (status ≡ 0)
-    Does (Canon (Some name)) input end old new status = FileCanonical old new × (end ≡ input) × (status ≡ 0)
-    Does (Same left right) input end old new status = (answer : Bool) × FilesCompared old new answer × (end ≡ input) × (status ≡ cond answer 0 1)
+    Does (Canon (Some name)) input end old new status = FileCanonical name.now old new × (end ≡ input) × (status ≡ 0)
+    Does (Same left right) input end old new status = (answer : Bool) × FilesCompared left.now right.now old new answer × (end ≡ input) × (status ≡ cond answer 0 1)
     Does (Events None) input end old new status = EventsPrinted remaining contents input end old new × (status ≡ 0)
-    Does (Events (Some name)) input end old new status = FileEvents old new × (end ≡ input) × (status ≡ 0)
-    Does (Check file lines) input end old new status = (answer : Bool) × FilesMatched old new answer × (end ≡ input) × (status ≡ cond answer 0 1)
+    Does (Events (Some name)) input end old new status = FileEvents name.now old new × (end ≡ input) × (status ≡ 0)
+    Does (Check file lines) input end old new status = (answer : Bool) × FilesMatched file.now lines.now old new answer × (end ≡ input) × (status ≡ cond answer 0 1)
 
-    -- Why it does not. Of files it is not known what they hold: a reading that failed, or some bytes that are refused.
+    -- why it does not
+    abbrev pub InputNotCanonical : Counted R → Counted R → Counted W → Counted W → Refusal → Type 0
+    InputNotCanonical input end old new (Input fault) = RunFails contents remaining input end old new fault
+    InputNotCanonical input end old new _ = ⊥
+
+    abbrev pub InputHasNoEvents : Counted R → Counted R → Counted W → Counted W → Refusal → Type 0
+    InputHasNoEvents input end old new (Input fault) = EventsFail remaining contents input end old new fault
+    InputHasNoEvents input end old new _ = ⊥
+
     abbrev pub DoesNot : Counted R → Counted R → Counted W → Counted W → Refusal → Asked → Type 0
-    DoesNot input end old new (Input fault) (Canon None) = RunFails contents remaining input end old new fault
-    DoesNot input end old new refusal (Canon None) = ⊥
+    DoesNot input end old new refusal (Canon None) = InputNotCanonical input end old new refusal
     DoesNot input end old new refusal (Canon (Some name)) = FileNotCanonical name.now old new refusal × (end ≡ input)
     DoesNot input end old new refusal (Same left right) = FilesNotCompared left.now right.now old new refusal × (end ≡ input)
-    DoesNot input end old new (Input fault) (Events None) = EventsFail remaining contents input end old new fault
-    DoesNot input end old new refusal (Events None) = ⊥
+    DoesNot input end old new refusal (Events None) = InputHasNoEvents input end old new refusal
     DoesNot input end old new refusal (Events (Some name)) = FileHasNoEvents name.now old new refusal × (end ≡ input)
     DoesNot input end old new refusal (Check file lines) = FilesNotMatched file.now lines.now old new refusal × (end ≡ input)
 

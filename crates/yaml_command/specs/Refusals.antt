@@ -1,7 +1,6 @@
--- Which refusals there are of opening and reading a file, and what they say.
+-- Which refusals there are of reading a file, and what they say.
 use Rattle.std.specs.Prelude.{◌≡◌, ◌++◌, ℕ, List, Option, Some, None, codes}
 use Rattle.yaml_text.specs.declared.fault.Fault.{Fault}
-use Rattle.yaml_text.specs.declared.fault.Fault.TheVariants.{TooLong, OutOfMemory, ReadFault}
 use Rattle.yaml_text.specs.declared.counted.Counted.{Counted}
 use Rattle.yaml_text.specs.Limits.{text_limit}
 use Rattle.yaml_canon.specs.Gathering.{GatherFails}
@@ -13,18 +12,6 @@ use Rattle.yaml_command.specs.declared.refusal.Refusal.TheVariants.{Words, Canno
 -- the greatest length of an event text, in bytes
 abbrev pub events_limit : ℕ
 events_limit = 1073741824
-
--- the file of this name can't be opened
-abbrev pub IsUnopened : List ℕ → Refusal → Type 0
-IsUnopened name (CannotOpen told) = told.now ≡ name
-IsUnopened name _ = ⊥
-
--- it is too long, memory was refused, or a read failed
-abbrev pub IsReadingFault : Fault → Type 0
-IsReadingFault TooLong = Unit {0}
-IsReadingFault OutOfMemory = Unit {0}
-IsReadingFault ReadFault = Unit {0}
-IsReadingFault _ = ⊥
 
 -- The text of a refusal, where no fault tells it. The texts of faults are derived.
 abbrev pub refusal_text : Refusal → Option (List ℕ)

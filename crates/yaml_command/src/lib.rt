@@ -5,6 +5,8 @@ mod check;
 pub mod command;
 mod compare;
 mod events;
+mod files;
 mod pages;
 pub mod refusal;
+pub mod shelf;
 mod streams;

@@ -1,23 +1,23 @@
 //! Opening a file, and writing an answer whole.
-ghost use Rattle.std.specs.Prelude.{◌≡◌, ◌<◌, ◌-◌, ◌^◌, IfOk, IfErr, OnOk};
-ghost use Rattle.yaml_text.specs.CountedModel.{faults_of};
+ghost use Rattle.std.specs.Prelude.{◌≡◌, ◌<◌, ◌-◌, ◌^◌, Some, IfSome, IfOk, IfErr, OnOk};
+ghost use Rattle.yaml_text.specs.CountedModel.{inner_of, faults_of};
 ghost use Rattle.yaml_canon.specs.Writers.{Sent, CutOff, Printed};
 ghost use Rattle.yaml_command.specs.Printing.{PrintFails};
-ghost use Rattle.yaml_command.specs.Refusals.{IsUnopened};
+ghost use Rattle.yaml_command.specs.Shelves.{CannotBeOpened};
 
 use crate::refusal::Refusal;
-use std::fs;
+use crate::shelf::Shelf;
 use std::io::Write;
-use std::rt::Files;
 use yaml_text::counted::Counted;
 use yaml_text::fault::Fault;
 
 /// The file of this name, of which no call has failed.
-pub fn open<'a, T: Files>(rt: &T, name: &'a str) -> Result<Counted<T::File>, Refusal<'a>>
-    ensures ok { IfOk result (λ file. faults_of file ≡ 0) }
-    ensures err { IfErr result (IsUnopened name.now) }
+pub fn open<'a, S: Shelf>(shelf: &S, name: &'a str) -> Result<Counted<S::File>, Refusal<'a>>
+    ensures fresh { IfOk result (λ file. faults_of file ≡ 0) }
+    ensures ok { IfOk result (λ file. IfSome (S.holds shelf.now name.now) (λ bytes. S.File.remaining (inner_of file) ≡ Some bytes)) }
+    ensures err { IfErr result (CannotBeOpened (S.holds shelf.now name.now) name.now) }
 {
-    match fs::open(rt, name) {
+    match shelf.open(name) {
         Ok(file) => Ok(Counted::new(file)),
         Err(_) => Err(Refusal::CannotOpen(name)),
     }

@@ -8,4 +8,4 @@ returns-clause-ok g c = if_one c.run.result c.run.ensures.ok (λ status h. (c.in
 pub returns-clause-refused : goal.returns-clause-refused
 returns-clause-refused g c =
     if_refused c.run.result c.run.ensures.refused
-    (not_done g.W.Write.contents g.R.Read.remaining (map string_bytes c.args.words.now) c.args.input.now c.run.new.input c.args.out.now c.run.new.out c.in_ok-asked.asked c.in_ok-asked.ensures.ok)
+    (not_done g.W.Write.contents g.R.Read.remaining (g.S.Shelf.holds c.args.shelf.now) (map string_bytes c.args.words.now) c.args.input.now c.run.new.input c.args.out.now c.run.new.out c.in_ok-asked.asked c.in_ok-asked.ensures.ok)

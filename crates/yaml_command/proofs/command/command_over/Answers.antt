@@ -1,4 +1,4 @@
-use Rattle.yaml_command.proofs.command.command.Goals as goal
+use Rattle.yaml_command.proofs.command.command_over.Goals as goal
 
 pub returns-clause-tells : goal.returns-clause-tells
 returns-clause-tells g c = record {
