@@ -19,6 +19,7 @@ Metadata-Version: 2.1
 Name: yamlcanon
 Version: {version}
 Summary: {description}
+License: {license}
 Requires-Python: {requires-python}
 """.format(**TOLD)
 
