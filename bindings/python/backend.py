@@ -38,10 +38,17 @@ def library():
         return bytes_of(folder + '/libyamlcanon.so.1')
 
 
+def licences():
+    """The repository's texts of licences; none where an older pip has copied this folder alone."""
+    top = HERE + '/../../'
+    return {INFO + name: bytes_of(top + name) for name in ('LICENSE-MIT', 'LICENSE-APACHE', 'NOTICE') if os.path.isfile(top + name)}
+
+
 def build_wheel(wheel_directory, config_settings=None, metadata_directory=None):
     parts = {'yamlcanon/' + name: bytes_of(HERE + '/yamlcanon/' + name) for name in ('__init__.py', 'py.typed')}
     parts['yamlcanon/libyamlcanon.so.1'] = library()
     parts[INFO + 'METADATA'] = METADATA.encode()
+    parts.update(licences())
     parts[INFO + 'WHEEL'] = ('Wheel-Version: 1.0\nGenerator: yamlcanon\nRoot-Is-Purelib: false\nTag: %s\n' % TAG).encode()
     sums = {name: base64.urlsafe_b64encode(hashlib.sha256(part).digest()).rstrip(b'=').decode() for name, part in parts.items()}
     record = ''.join('%s,sha256=%s,%d\n' % (name, sums[name], len(part)) for name, part in parts.items())
