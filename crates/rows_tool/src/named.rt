@@ -24,7 +24,7 @@ fn items(alloc: Global, last: &str) -> Result<String, Fail> {
 }
 
 /// Runs the words over the files `a`, `b` of these texts, and no standard input.
-fn ran(alloc: Global, a: &str, b: &str, words: &[&str]) -> Result<Ran, Fail> {
+fn ran<'a>(alloc: Global, a: &'a str, b: &'a str, words: &[&str]) -> Result<Ran, Fail> {
     let pair = Pair {
         first: ("a", a.as_bytes()),
         second: ("b", b.as_bytes()),
