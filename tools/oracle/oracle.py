@@ -102,12 +102,15 @@ def boolean(text):
 
 
 # `ints`
+INTS = ((re.compile('([-+]?[0-9]+)'), 10), (re.compile('0o([0-7]+)'), 8), (re.compile('0x([0-9a-fA-F]+)'), 16))
+
+
 def integer(text):
     """the content, or None; OverflowError out of range"""
-    for pattern, base in (('[-+]?[0-9]+', 10), ('0o([0-7]+)', 8), ('0x([0-9a-fA-F]+)', 16)):
-        found = re.fullmatch(pattern, text)
+    for pattern, base in INTS:
+        found = pattern.fullmatch(text)
         if found:
-            number = int(found.group(1) if base != 10 else text, base)
+            number = int(found.group(1), base)
             if not -INT_MOST <= number < INT_MOST:
                 raise OverflowError
             return str(number)
@@ -115,12 +118,13 @@ def integer(text):
 
 
 # `floats`
+INFINITY = re.compile(r'[-+]?(\.inf|\.Inf|\.INF)')
 FLOAT = re.compile(r'([-+]?)(\.[0-9]+|[0-9]+(?:\.[0-9]*)?)(?:[eE]([-+]?[0-9]+))?')
 
 
 def floating(text):
     """the content, or None; OverflowError out of range"""
-    if re.fullmatch(r'[-+]?(\.inf|\.Inf|\.INF)', text):
+    if INFINITY.fullmatch(text):
         return '-.inf' if text[0] == '-' else '.inf'
     if text in ('.nan', '.NaN', '.NAN'):
         return '.nan'
@@ -203,11 +207,10 @@ class Tree:
         # `height`
         self.height = 1 + max(part.height for part in parts) if parts else 0
         # `equality`
-        pairs = list(zip(parts[::2], parts[1::2]))
-        inside = frozenset((key.like, one.like) for key, one in pairs) if kind == MAPPING else tuple(part.like for part in parts)
-        self.ordered = parts
+        self.ordered, inside = parts, tuple(part.like for part in parts)
         if kind == MAPPING:
-            self.ordered = [part for pair in sorted(pairs, key=lambda pair: pair[0].rank) for part in pair]
+            pairs = sorted(zip(parts[::2], parts[1::2]), key=lambda pair: pair[0].rank)
+            self.ordered, inside = [part for pair in pairs for part in pair], frozenset((key.like, one.like) for key, one in pairs)
         # `order`: tuples stand as their first parts that differ do, and one that begins another comes first; of equal trees
         # the rank is one object, so that no comparison looks into it
         self.like, self.rank = kept.setdefault((kind, tag, content, inside), (
