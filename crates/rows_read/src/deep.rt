@@ -13,23 +13,25 @@ fn times(alloc: Global, count: usize, piece: &str) -> Result<String, Fail> {
     Ok(text)
 }
 
-/// Asserts what `head`, so many times `piece`, and `tail` are read to, where `shown` stands for the many.
-fn nested<T: Abort + AllocGlobal>(
-    rt: &T,
-    head: &str,
-    count: usize,
-    piece: &str,
-    tail: &str,
-    answer: &str,
-) -> Result<(), Fail> {
+/// A head, how often a piece stands, the piece, a tail, and the answer.
+type Nested = (
+    &'static str,
+    usize,
+    &'static str,
+    &'static str,
+    &'static str,
+);
+
+/// Asserts what the head, so many times the piece, and the tail are read to.
+fn nested<T: Abort + AllocGlobal>(rt: &T, row: &Nested) -> Result<(), Fail> {
+    let (head, count, piece, tail, answer) = row;
     let alloc = rt.alloc();
-    let many = times(alloc, count, piece)?;
+    let many = times(alloc, *count, piece)?;
     let input = format!(in alloc; "{head}{many}{tail}")?;
     reads(rt, input.as_str(), answer)
 }
 
-/// A head, how often a piece stands, the piece, a tail, and the answer.
-static NESTED: [(&str, usize, &str, &str, &str); 32] = [
+static NESTED: [Nested; 32] = [
     // Opens no 1025th collection.
     ("", 1025, "[", "", "7 TooDeep at byte 1024"),
     ("", 1025, "{", "", "7 TooDeep at byte 1024"),
@@ -72,8 +74,8 @@ static NESTED: [(&str, usize, &str, &str, &str); 32] = [
 
 #[test]
 fn collections_and_keys_end_at_their_limits(rt: HostRuntime) -> Result<(), Fail> {
-    for (head, count, piece, tail, answer) in NESTED {
-        nested(&rt, head, count, piece, tail, answer)?;
+    for row in &NESTED {
+        nested(&rt, row)?;
     }
     Ok(())
 }

@@ -1,11 +1,12 @@
-//! Every table of streams, held against the reader. A test is proved and a row is not, so few tests go over all of them.
-use crate::rows::{Row, agree, check};
+//! Every table of streams, held against the reader. A test is proved and a row is not, so one test goes over all of them.
+use crate::rows::{Row, reads};
 use crate::{collections, faults, marked, properties, sample, streams, wide};
 use std::test::Fail;
 
+/// Those of `sample` are read as the definitions of the grammar read them.
 #[test]
 fn streams_have_their_events_or_their_fault(rt: HostRuntime) -> Result<(), Fail> {
-    let tables: [&[Row]; 13] = [
+    let tables: [&[Row]; 16] = [
         &collections::BLOCK,
         &collections::FLOW,
         &faults::SYNTAX,
@@ -19,18 +20,14 @@ fn streams_have_their_events_or_their_fault(rt: HostRuntime) -> Result<(), Fail>
         &streams::DOCUMENTS,
         &streams::DIRECTIVES,
         &wide::WIDE,
+        &sample::SAMPLE_1,
+        &sample::SAMPLE_2,
+        &sample::SAMPLE_3,
     ];
     for table in tables {
-        check(&rt, table)?;
-    }
-    Ok(())
-}
-
-#[test]
-fn streams_are_read_as_the_definitions_read_them(rt: HostRuntime) -> Result<(), Fail> {
-    let tables: [&[Row]; 3] = [&sample::SAMPLE_1, &sample::SAMPLE_2, &sample::SAMPLE_3];
-    for table in tables {
-        agree(&rt, table)?;
+        for row in table {
+            reads(&rt, row.input, row.answer)?;
+        }
     }
     Ok(())
 }
