@@ -11,7 +11,7 @@ import sys
 import tempfile
 
 HERE = os.path.dirname(os.path.abspath(__file__))
-SPECS = os.path.join(HERE, '..', '..', 'crates', 'yaml_text', 'specs')
+SPECS = os.path.join(HERE, '..', '..', 'crates', 'yaml_definitions', 'specs')
 
 # the sentence, the definition where it stands, the edits that drop it (file, old, new), texts that are then read twice
 Condition = collections.namedtuple('Condition', 'sentence place edits texts wide', defaults=(False,))
@@ -114,12 +114,13 @@ def numbers_of_readings(condition):
 
 def without(condition, folder):
     """A copy of the definitions without the condition."""
+    import shadow
     copy = os.path.join(folder, 'specs')
     shutil.copytree(SPECS, copy)
     for name, old, new in condition.edits:
         path = os.path.join(copy, 'grammar', name + '.antt')
         with open(path, encoding='utf-8') as f:
-            text = f.read()
+            text = shadow.shortened(f.read())
         assert text.count(old) == 1, (condition.sentence, name, old, text.count(old))
         with open(path, 'w', encoding='utf-8') as f:
             f.write(text.replace(old, new))

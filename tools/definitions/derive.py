@@ -1,5 +1,5 @@
 #!/usr/bin/env python3
-"""derive.py: writes the example readings of crates/yaml_text/proofs/grammar, each a proof that a text has these events.
+"""derive.py: writes the example readings of crates/yaml_definitions/proofs/grammar, each a proof that a text has these events.
 
 shadow.py finds the reading. Each combinator says how its proof is made of those of its parts, and each condition how it is
 proved or refuted. Run `rt fmt` in the crate afterwards.
@@ -510,17 +510,24 @@ USES = [
     ('Rattle.std.specs.Str', 'is_utf8 chars'),
     ('Rattle.std.proofs.lemmas.List.Sums', 'AllPass-from_list_all'),
     ('Rattle.std.proofs.Math.Utf8', 'encode'),
-    ('Rattle.yaml_text.specs.Limits', 'open_limit'),
-    ('Rattle.yaml_text.specs.Event', 'stream_start stream_end document_start document_end sequence_start sequence_end mapping_start mapping_end '
+    ('Rattle.yaml_definitions.specs.model.Limits', 'open_limit'),
+    ('Rattle.yaml_definitions.specs.model.Event', 'stream_start stream_end document_start document_end sequence_start sequence_end mapping_start mapping_end '
      'scalar_event alias_event plain single double literal folded untagged non_specific full'),
-    ('Rattle.yaml_text.specs.Text', 'is_text'),
-    ('Rattle.yaml_text.specs.grammar.Rules', 'done then Spans'),
-    ('Rattle.yaml_text.specs.grammar.Streams', 'ReadsText'),
-    ('Rattle.yaml_text.specs.grammar.Reading', 'Reads ReadsWide'),
-    ('Rattle.yaml_text.proofs.grammar.Derive', 'not_here not_behind not_behind_start neither none_between next_between stands_each unbroken '
+    ('Rattle.yaml_definitions.specs.model.Text', 'is_text'),
+    ('Rattle.yaml_definitions.specs.grammar.Rules', 'done then Spans'),
+    ('Rattle.yaml_definitions.specs.grammar.Streams', 'ReadsText'),
+    ('Rattle.yaml_definitions.specs.grammar.Reading', 'Reads ReadsWide'),
+    ('Rattle.yaml_definitions.proofs.grammar.Derive', 'not_here not_behind not_behind_start neither none_between next_between stands_each unbroken '
      'no_mark unmarked'),
 ]
 OPERATORS = {'◌≡◌': ' ≡ ', '◌∷◌': ' ∷ ', '[]': '[]', '⊥': '⊥', 'ℕ': 'ℕ'}
+
+
+def standard(body):
+    """The text with the standard's names of productions behind the names of their files."""
+    long_names = {short: long for long, short in shadow.SHORT_NAMES.items()}
+    short = re.compile(r"\b(%s)\.(%s)(?![\w'+-])" % ('|'.join(ALIAS.values()), '|'.join(sorted(map(re.escape, long_names), key=len, reverse=True))))
+    return short.sub(lambda at: at[1] + '.' + long_names[at[2]], body)
 
 
 def uses(body):
@@ -533,14 +540,14 @@ def uses(body):
             lines.append('use %s.{%s}' % (module, ', '.join(wanted)))
     for mod, alias in ALIAS.items():
         if alias + '.' in body:
-            folder = '' if mod == 'Tag' else 'grammar.'
-            lines.append('use Rattle.yaml_text.specs.%s%s as %s' % (folder, mod, alias))
+            folder = 'model.' if mod == 'Tag' else 'grammar.'
+            lines.append('use Rattle.yaml_definitions.specs.%s%s as %s' % (folder, mod, alias))
     return lines
 
 
 def main(folder):
     for family in FAMILIES:
-        body = '\n\n'.join([theorem(r) for r in family.readings] + family.more)
+        body = standard('\n\n'.join([theorem(r) for r in family.readings] + family.more))
         head = '-- %s Written by tools/definitions/derive.py.' % family.about
         with open(os.path.join(folder, family.file + '.antt'), 'w', encoding='utf-8') as f:
             f.write('\n'.join([head] + uses(body)) + '\n\n' + body + '\n')

@@ -5,8 +5,8 @@ The core schema, unfolding, the order, canonical text and the block spelling are
 from the antt text, in Python's own means: regular expressions, tuples that compare, sets. Each row is a theorem by
 computation, so a definition that says something else is refused.
 
-    python3 tools/definitions/model_rows.py SEED > crates/yaml_text/proofs/examples/Random.antt
-    # add `pub mod Random` to proofs/examples.antt, run `rt check` in crates/yaml_text, and take both away again
+    python3 tools/definitions/model_rows.py SEED > crates/yaml_definitions/proofs/examples/Random.antt
+    # add `pub mod Random` to proofs/examples.antt, run `rt check` in crates/yaml_definitions, and take both away again
 """
 import random, re, sys
 
@@ -284,23 +284,23 @@ use Rattle.std.specs.Prelude.{codes}
 use Rattle.std.specs.Str.{chars}
 use Rattle.std.specs.Char.{encode_utf8}
 use Rattle.std.specs.declared.option.Option.TheVariants.{None, Some}
-use Rattle.yaml_text.specs.Tag.{core_tag}
-use Rattle.yaml_text.specs.Tree.{Tree, scalar, sequence, mapping}
-use Rattle.yaml_text.specs.Order.{tree_cmp, arranged}
-use Rattle.yaml_text.specs.Same.{same}
-use Rattle.yaml_text.specs.Walk.{walk}
-use Rattle.yaml_text.specs.Event.{Style, plain, single, double, literal, folded, WrittenTag, untagged, non_specific, full}
+use Rattle.yaml_definitions.specs.model.Tag.{core_tag}
+use Rattle.yaml_definitions.specs.model.Tree.{Tree, scalar, sequence, mapping}
+use Rattle.yaml_definitions.specs.model.Order.{tree_cmp, arranged}
+use Rattle.yaml_definitions.specs.model.Same.{same}
+use Rattle.yaml_definitions.specs.canonical.Walk.{walk}
+use Rattle.yaml_definitions.specs.model.Event.{Style, plain, single, double, literal, folded, WrittenTag, untagged, non_specific, full}
 use Rattle.yaml_text.specs.Marked.{Marked, alias, scalar_at, sequence_at, mapping_at, flat}
-use Rattle.yaml_text.specs.CharText.{spell_char}
-use Rattle.yaml_text.specs.grammar.Characters.{is_uri, is_word}
-use Rattle.yaml_text.specs.TagText.{spell_byte, full_text, written_tag}
+use Rattle.yaml_definitions.specs.canonical.CharText.{spell_char}
+use Rattle.yaml_definitions.specs.grammar.Characters.{is_uri, is_word}
+use Rattle.yaml_definitions.specs.canonical.TagText.{spell_byte, full_text, written_tag}
 use Rattle.yaml_text.specs.Mark.{name_of, mark}
-use Rattle.yaml_text.specs.NodeText.{text}
-use Rattle.yaml_text.specs.Spell.{text_len, short, marks_of, spell}
-use Rattle.yaml_text.specs.Block.{in_block, line, block}
-use Rattle.yaml_text.specs.Core.{Resolved, undefined_alias, cyclic_alias, wrong_kind, bad_content, int_range, float_range, resolve, collection_tag, by_table, by_tag, null_of, bool_of, int_of, float_of, decimal_of, split_at, is_null, content_of, natural_text, int_text, decimal_text, trimmed, exponent}
-use Rattle.yaml_text.specs.Unfold.{Outcome, last_named, unfold_node, trees_from, trees_of}
-use Rattle.yaml_text.proofs.examples.Build.{trees, pairs, marks, entries, bare}
+use Rattle.yaml_definitions.specs.canonical.NodeText.{text}
+use Rattle.yaml_definitions.specs.canonical.Spell.{text_len, short, marks_of, spell}
+use Rattle.yaml_definitions.specs.canonical.Block.{in_block, line, block}
+use Rattle.yaml_definitions.specs.model.Core.{Resolved, undefined_alias, cyclic_alias, wrong_kind, bad_content, int_range, float_range, resolve, collection_tag, by_table, by_tag, null_of, bool_of, int_of, float_of, decimal_of, split_at, is_null, content_of, natural_text, int_text, decimal_text, trimmed, exponent}
+use Rattle.yaml_definitions.specs.model.Unfold.{Outcome, last_named, unfold_node, trees_from, trees_of}
+use Rattle.yaml_definitions.proofs.examples.Build.{trees, pairs, marks, entries, bare}
 
 taken : WrittenTag → Style → List ℕ → Resolved
 unfolding resolve by_table by_tag null_of bool_of int_of float_of decimal_of split_at is_null content_of natural_text int_text decimal_text trimmed exponent core_tag

@@ -1,5 +1,5 @@
 #!/usr/bin/env python3
-"""shadow.py: the grammar of crates/yaml_text/specs/grammar, run as it stands.
+"""shadow.py: the grammar of crates/yaml_definitions/specs/grammar, run as it stands.
 
 The definitions are read from the .antt files by a small translator for the language of combinators in which they are
 written, and are run over finite texts: a Span is a function from a place to the set of its ends, a Rule one to the set
@@ -21,7 +21,7 @@ import sys
 
 sys.setrecursionlimit(100000)
 HERE = os.path.dirname(os.path.abspath(__file__))
-SPECS = os.environ.get('SPECS', os.path.join(HERE, '..', '..', 'crates', 'yaml_text', 'specs', 'grammar'))
+SPECS = os.environ.get('SPECS', os.path.join(HERE, '..', '..', 'crates', 'yaml_definitions', 'specs', 'grammar'))
 
 # ------------------------------------------------------------------ values
 
@@ -639,6 +639,22 @@ class Expr:
                 return 'rec(%s)' % ', '.join(fields)
 
 
+def read_short_names():
+    """The productions by the standard's names, each with the short name by which it is known here."""
+    with open(os.path.join(os.path.dirname(os.path.abspath(__file__)), 'short_names'), encoding='utf-8') as table:
+        return dict(line.split() for line in table if not line.startswith('#'))
+
+
+SHORT_NAMES = read_short_names()
+STANDARD_NAME = re.compile(r"(?<![\w+'-])(%s)(?![\w+'-])" % '|'.join(sorted(map(re.escape, SHORT_NAMES), key=len, reverse=True)))
+
+
+def shortened(text):
+    """A file with the short names of productions."""
+    text = STANDARD_NAME.sub(lambda at: SHORT_NAMES[at[1]], text)
+    return re.sub(r'\b(\w+) as \1\b', r'\1', text)
+
+
 def result_head(signature):
     """The first word of a signature's result."""
     last, depth = 0, 0
@@ -658,7 +674,7 @@ class File:
         self.open = []                         # the open modules: their indentation and parameters
         self.used = None                       # the definitions named in the clause in hand
         with open(path_of(mod), encoding='utf-8') as f:
-            lines = [l for l in f.read().split('\n') if l.strip() and not l.strip().startswith('--')]
+            lines = [l for l in shortened(f.read()).split('\n') if l.strip() and not l.strip().startswith('--')]
         self.items = []                        # an item is a line with those that continue it
         for l in lines:
             depth = len(l) - len(l.lstrip())
@@ -699,11 +715,11 @@ class File:
                 self.world.defs[f.name] = f
 
     def declare_use(self, s):
-        m = re.match(r'use Rattle\.yaml_text\.specs\.(?:grammar\.)?(\w+)\.\{(.*)\}$', s)
+        m = re.match(r'use Rattle\.yaml_(?:definitions|text)\.specs\.(?:grammar\.|model\.)?(\w+)\.\{(.*)\}$', s)
         if m:
             for n in m.group(2).split(','):
                 self.uses[n.strip()] = m.group(1)
-        m = re.match(r'use Rattle\.yaml_text\.specs\.(?:grammar\.)?(\w+) as (\w+)$', s)
+        m = re.match(r'use Rattle\.yaml_(?:definitions|text)\.specs\.(?:grammar\.|model\.)?(\w+) as (\w+)$', s)
         if m:
             self.aliases[m.group(2)] = m.group(1)
 
@@ -819,9 +835,9 @@ class File:
 
 
 def path_of(mod):
-    """A module's file: the grammar's own folder, or the one above it."""
-    own = os.path.join(SPECS, mod + '.antt')
-    return own if os.path.exists(own) else os.path.join(SPECS, '..', mod + '.antt')
+    """A module's file: in the grammar's folder, in the model's, or beside the code."""
+    folders = (SPECS, os.path.join(SPECS, '..', 'model'), os.path.join(HERE, '..', '..', 'crates', 'yaml_text', 'specs'))
+    return next(path for path in (os.path.join(folder, mod + '.antt') for folder in folders) if os.path.exists(path))
 
 
 class World:

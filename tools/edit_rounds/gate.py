@@ -6,7 +6,7 @@ import threading
 
 
 class Gate:
-    """A run of `rt ci`: its lines are passed on, and the crates that it has proved are noted. `status` is None until it ends."""
+    """A run of `rt ci`: its lines are passed on, and the crates that it has proved, now or before, are noted. `status` is None until it ends."""
 
     def __init__(self, root):
         self.proved, self.status = set(), None
@@ -19,7 +19,7 @@ class Gate:
         """Passes its lines on until it ends."""
         for line in self.process.stdout:
             print(line, end="", flush=True)
-            found = re.fullmatch(r"rt: (\S+) proved\n", line)
+            found = re.match(r"rt: (\S+) (?:proved$|is kept:)", line)
             if found:
                 with self.changed:
                     self.proved.add(found[1])

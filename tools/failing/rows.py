@@ -1,4 +1,4 @@
-"""rows.py: the worked examples of `crates/yaml_vectors` and `crates/rows_vectors`, read from the text of their tables.
+"""rows.py: the worked examples of `crates/yaml_vectors` and `crates/rows_streams`, read from the text of their tables.
 
 A table is `static NAME: [Type; N] = [`, rows, `];`. Each has to give N rows, so that none is lost. Those of the type `Built` are
 left out, since their inputs are made by a function. `python3 rows.py` counts the rows of each file.
@@ -9,7 +9,7 @@ import os
 import re
 
 TOP = os.path.dirname(os.path.dirname(os.path.dirname(os.path.abspath(__file__))))
-FILES = sorted(glob.glob(TOP + '/crates/yaml_vectors/src/*.rt') + glob.glob(TOP + '/crates/rows_vectors/src/*.rt'))
+FILES = sorted(glob.glob(TOP + '/crates/yaml_vectors/src/*.rt') + glob.glob(TOP + '/crates/rows_streams/src/*.rt'))
 
 # where a row stands; its input; what its table says of `canon` and of `events` (None: nothing): a text, or a fault's line
 Row = collections.namedtuple('Row', 'place input canon events')

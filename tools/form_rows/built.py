@@ -1,4 +1,4 @@
-"""built.py: the rows of `crates/rows_vectors` whose inputs are made by a function: at the limits, and long.
+"""built.py: the rows of `crates/rows_streams` whose inputs are made by a function: at the limits, and long.
 
 Those at the limits (limits.rt) are given whole. The long ones (many.rt) are given as pieces, a list in which a string stands for
 itself, and `[piece, between, count]` for the piece so many times, with `between` between two of them, where in the piece the
@@ -14,7 +14,7 @@ from form_rows.page import TOP
 sys.path.insert(0, os.path.join(TOP, 'tools/failing'))
 import rows                         # noqa: E402
 
-FOLDER = os.path.join(TOP, 'crates/rows_vectors/src')
+FOLDER = os.path.join(TOP, 'crates/rows_streams/src')
 FIRST_NUMBER, COUNT = 100000, 100000
 
 # a row at the limits: what its table says of reading it (a fault's line, or nothing), and of its text (None: nothing)

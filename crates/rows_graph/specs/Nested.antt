@@ -1,7 +1,7 @@
 -- Nodes and documents among events.
 use Rattle.std.specs.Prelude.{◌≡◌, ◌<◌, ◌≤◌, ℕ, Bool, true, not, List, [], ◌∷◌, length, map, drop}
-use Rattle.yaml_text.specs.Event.{Event}
-use Rattle.yaml_text.specs.Serial.{SerialNode, flat, Document, documents_events}
+use Rattle.yaml_definitions.specs.model.Event.{Event}
+use Rattle.yaml_definitions.specs.model.Serial.{SerialNode, flat, Document, documents_events}
 use Rattle.yaml_text.specs.EventModel.{event_of}
 use Rattle.yaml_text.specs.declared.event.Event as code
 

@@ -1,14 +1,14 @@
 -- From where a reader of block nodes stands to the productions.
 use Rattle.std.proofs.Common.{◌≡◌, ℕ, suc, false, ◌+◌, ◌<◌, ◌≤◌, List, [], ◌++◌, Some, None, refl, sym, ◌∙◌, ap, subst, arith, inl, inr, ◌⊎◌, append_assoc}
 use Rattle.std.proofs.lemmas.List.{append-nil}
-use Rattle.yaml_text.specs.Event.{Event, sequence_end, mapping_end}
-use Rattle.yaml_text.specs.grammar.Rules.{Rule, ◌▸◌, ◌⨾◌, any, chr, done, Stands}
-use Rattle.yaml_text.specs.grammar.Characters.{is_ns}
-use Rattle.yaml_text.specs.grammar.Separation.{Ctx, block_in, block_out, flow_out, block_key, indent, separate, separate_lines, s_l_comments}
-use Rattle.yaml_text.specs.grammar.Tags.{Handles, properties}
-use Rattle.yaml_text.specs.grammar.Events.{Props, no_props, seq_start, map_start, wrapped}
-use Rattle.yaml_text.specs.grammar.Nodes as nodes
-use Rattle.yaml_text.specs.grammar.Nodes.{yaml_part, json_part, block_part, compact_part, reads, seq_entry, map_entry, indented, block_node}
+use Rattle.yaml_definitions.specs.model.Event.{Event, sequence_end, mapping_end}
+use Rattle.yaml_definitions.specs.grammar.Rules.{Rule, ◌▸◌, ◌⨾◌, any, chr, done, Stands}
+use Rattle.yaml_definitions.specs.grammar.Characters.{is_ns}
+use Rattle.yaml_definitions.specs.grammar.Separation.{Ctx, block_in, block_out, flow_out, block_key, s-indent as indent, s-separate as separate, s-separate-lines as separate_lines, s-l-comments as s_l_comments}
+use Rattle.yaml_definitions.specs.grammar.Tags.{Handles, c-ns-properties as properties}
+use Rattle.yaml_definitions.specs.grammar.Events.{Props, no_props, seq_start, map_start, wrapped}
+use Rattle.yaml_definitions.specs.grammar.Nodes as nodes
+use Rattle.yaml_definitions.specs.grammar.Nodes.{yaml_part, json_part, block_part, compact_part, reads, c-l-block-seq-entry as seq_entry, ns-l-block-map-entry as map_entry, s-l+block-indented as indented, s-l+block-node as block_node}
 use Rattle.yaml_text.proofs.Repeats.{any_push}
 use Rattle.yaml_text.proofs.LineRuns.{indent_run, indent_place}
 use Rattle.yaml_flow.specs.Keys.{ColonAfter}
@@ -49,7 +49,7 @@ module _ (cs : List ℕ) (Wide : Type 0) (handles : Handles) where
   -- a node after its separation
   pub node_value : (room col : ℕ) (c : Ctx) (i q j : ℕ) (es : List Event) → IsBlock c → separate_lines cs col i q →
       node_rest cs Wide handles room col c None q j es → reads cs Wide handles room (block_part col c) i j es
-  unfolding block_node nodes.flow_node
+  unfolding block_node nodes.ns-flow-node
   node_value room col c i q j es b s (inl (m, inl y, t)) =
       to_reads cs Wide handles room (block_part col c) i j es (inl (q, flow_separate cs col i q s, (m, inl (from_reads cs Wide handles room (yaml_part col flow_out) q m es y), t)))
   node_value room col c i q j es b s (inl (m, inr y, t)) =
@@ -67,8 +67,8 @@ module _ (cs : List ℕ) (Wide : Type 0) (handles : Handles) where
       props : (c : Ctx) → IsBlock c → (separate cs col c ▸ properties cs handles col c) i m p
       props c b = (q, block_separate cs col c i q b s, block_properties cs handles col c q m p b r)
 
-      collection : (c : Ctx) (b : IsBlock c) → (nodes.block_map cs Wide handles (opens cs Wide handles room) (below cs Wide handles room) p col k j es
-          ⊎ nodes.block_seq cs Wide handles (opens cs Wide handles room) (below cs Wide handles room) p (least_dash col c) k j es) → reads cs Wide handles room (block_part col c) i j es
+      collection : (c : Ctx) (b : IsBlock c) → (nodes.l+block-mapping cs Wide handles (opens cs Wide handles room) (below cs Wide handles room) p col k j es
+          ⊎ nodes.l+block-sequence cs Wide handles (opens cs Wide handles room) (below cs Wide handles room) p (least_dash col c) k j es) → reads cs Wide handles room (block_part col c) i j es
       collection block_in b t = to_reads cs Wide handles room (block_part col block_in) i j es (inr (inr (k, p, (m, inr (props block_in b), d), t)))
       collection block_out b t = to_reads cs Wide handles room (block_part col block_out) i j es (inr (inr (k, p, (m, inr (props block_out b), d), t)))
       collection _ b t = absurd b
@@ -77,13 +77,13 @@ module _ (cs : List ℕ) (Wide : Type 0) (handles : Handles) where
   -- a mapping on a line of its own
   pub mapping_value : (room col k : ℕ) (c : Ctx) (i p q j : ℕ) (es : List Event) → s_l_comments cs i p → col ≤ k → indent cs k p q →
       mapping_with cs Wide handles no_props room k q j es → reads cs Wide handles room (block_part col c) i j es
-  unfolding block_node nodes.block_map
+  unfolding block_node nodes.l+block-mapping
   mapping_value room col k c i p q j es comments le ind (o, (xs, (m, ys, zs, entry, more, e), f)) =
       to_reads cs Wide handles room (block_part col c) i j es (inr (inr (p, no_props, (i, inl (refl, refl), comments), inl (o, (xs, (k, (le, (m, ys, zs, (q, ind, entry), more, e))), f)))))
 
   pub sequence_value : (room col k : ℕ) (c : Ctx) (i p q j : ℕ) (es : List Event) → IsBlock c → s_l_comments cs i p → least_dash col c ≤ k → indent cs k p q →
       sequence_with cs Wide handles no_props room k q j es → reads cs Wide handles room (block_part col c) i j es
-  unfolding block_node nodes.block_seq
+  unfolding block_node nodes.l+block-sequence
   sequence_value room col k block_in i p q j es b comments le ind (o, (xs, (m, ys, zs, entry, more, e), f)) =
       to_reads cs Wide handles room (block_part col block_in) i j es (inr (inr (p, no_props, (i, inl (refl, refl), comments), inr (o, (xs, (k, (le, (m, ys, zs, (q, ind, entry), more, e))), f)))))
   sequence_value room col k block_out i p q j es b comments le ind (o, (xs, (m, ys, zs, entry, more, e), f)) =
@@ -119,12 +119,12 @@ module _ (cs : List ℕ) (Wide : Type 0) (handles : Handles) where
   line_entry room k i p j es comments t = inr (line_value room (k + 1) block_in i p j es tt comments t)
 
   pub sequence_entry : (room k m i q j : ℕ) (es : List Event) → indent cs m i q → 0 < m → sequence_with cs Wide handles no_props room (k + 1 + m) q j es → entry_rest cs Wide handles room k i j es
-  unfolding indented nodes.compact_seq
+  unfolding indented nodes.ns-l-compact-sequence
   sequence_entry room k m i q j es ind some t =
       inl (m, (omega (arith, some), (q, ind, to_reads cs Wide handles room (compact_part (k + 1 + m)) q j es (inl t))))
 
   pub node_entry : (room k m i q j : ℕ) (es : List Event) → indent cs m i q → 0 < m → node_rest cs Wide handles room (k + 1) block_in (Some (k + 1 + m)) q j es → entry_rest cs Wide handles room k i j es
-  unfolding indented nodes.compact_map
+  unfolding indented nodes.ns-l-compact-mapping
   node_entry room k m i q j es ind some (inl t) = inr (same_value room (k + 1) block_in m i q j es tt ind some (inl t))
   node_entry room k m i q j es ind some (inr (inl t)) = inr (same_value room (k + 1) block_in m i q j es tt ind some (inr (inl t)))
   node_entry room k m i q j es ind some (inr (inr (inl t))) = inr (same_value room (k + 1) block_in m i q j es tt ind some (inr (inr (inl t))))
@@ -156,7 +156,7 @@ module _ (cs : List ℕ) (Wide : Type 0) (handles : Handles) where
   key_entry room k i m j ks vs key v = (m, ks, vs, key, v, refl)
 
   pub colon_key : (room : ℕ) (kind : Kind) (i e k : ℕ) (ks : List Event) → reads cs Wide handles room (part_of kind 0 block_key) i e ks → ColonAfter cs i e k → key_rest cs Wide handles room i k ks
-  unfolding nodes.implicit_yaml_key nodes.implicit_json_key
+  unfolding nodes.ns-s-implicit-yaml-key nodes.c-s-implicit-json-key
   colon_key room Yaml i e k ks r (m, s, colon, fits) = (m, inl (fits, (e, r, maybe_sep cs e m s)), colon)
   colon_key room Json i e k ks r (m, s, colon, fits) = (m, inr (fits, (e, r, maybe_sep cs e m s)), colon)
 

@@ -1,12 +1,12 @@
 -- From the nodes of documents to the productions (YAML 1.2.2, 9.1).
 use Rattle.std.proofs.Common.{ℕ, List, ◌⊎◌, inl, inr, arith}
-use Rattle.yaml_text.specs.Event.{Event}
-use Rattle.yaml_text.specs.grammar.Rules.{◌◂◌, gives}
-use Rattle.yaml_text.specs.grammar.Separation.{block_in, StartsLine, s_l_comments}
-use Rattle.yaml_text.specs.grammar.Events.{no_props, empty}
-use Rattle.yaml_text.specs.grammar.Tags.{Handles}
-use Rattle.yaml_text.specs.grammar.Nodes.{block_part, reads}
-use Rattle.yaml_text.specs.grammar.Streams.{bare_document}
+use Rattle.yaml_definitions.specs.model.Event.{Event}
+use Rattle.yaml_definitions.specs.grammar.Rules.{◌◂◌, gives}
+use Rattle.yaml_definitions.specs.grammar.Separation.{block_in, StartsLine, s-l-comments as s_l_comments}
+use Rattle.yaml_definitions.specs.grammar.Events.{no_props, e-scalar as empty}
+use Rattle.yaml_definitions.specs.grammar.Tags.{Handles}
+use Rattle.yaml_definitions.specs.grammar.Nodes.{block_part, reads}
+use Rattle.yaml_definitions.specs.grammar.Streams.{l-bare-document as bare_document}
 use Rattle.yaml_flow.proofs.LineLemmas.{no_lines}
 use Rattle.yaml_flow.proofs.SpaceLemmas.{lines_separate}
 use Rattle.yaml_block.specs.BlockRules.{root_rest, value_rest}

@@ -1,30 +1,29 @@
 -- Keys: whether a flow node that was read is one, and whether it fits into its mapping.
-use Rattle.std.proofs.Common.{◌≡◌, ℕ, zero, suc, ◌+◌, ◌≤◌, inl, inr, List, [], ◌∷◌, ◌++◌, length, map, take, refl, sym, ◌∙◌, ap, subst, arith}
-use Rattle.std.proofs.Math.Seq.{take-append_seam}
-use Rattle.yaml_text.specs.Event.{Event}
-use Rattle.yaml_text.specs.EventModel.{event_of, Adds}
-use Rattle.yaml_text.specs.declared.event.Event as code
-use Rattle.yaml_text.specs.grammar.Rules.{Rule, ◌∪◌}
-use Rattle.yaml_text.specs.grammar.Separation.{flow_out, block_key, s_l_comments}
-use Rattle.yaml_text.specs.grammar.Tags.{Handles}
-use Rattle.yaml_text.specs.grammar.Events.{Props}
-use Rattle.yaml_text.specs.grammar.Nodes.{yaml_part, json_part, reads}
-use Rattle.yaml_text.proofs.grammar.Forward.{fwd_reads}
-use Rattle.yaml_text.proofs.grammar.Widening.{in_reads}
-use Rattle.yaml_unique.specs.Readings.{At}
-use Rattle.yaml_unique.specs.Follows.{F}
-use Rattle.yaml_unique.proofs.FlowNodes.{prop_kind}
-use Rattle.yaml_unique.proofs.FlowLevels.{reads_facts}
-use Rattle.yaml_unique.proofs.KeyContexts.{reads_eased, at_block}
-use Rattle.yaml_unique.proofs.BlockLevels.{one_more, reads_blocks}
-use Rattle.yaml_unique.proofs.Properties.{props_here, props_two}
-use Rattle.yaml_unique.proofs.TagEnds.{prop_same, prop_here, prop_inside}
-use Rattle.yaml_complete.specs.Decisions.{Refused, Goes, Here}
-use Rattle.yaml_complete.proofs.KeyOrScalar.{key_goes, no_colon, no_node}
-use Rattle.yaml_complete.proofs.KeyChoices.{keys_refused}
-use Rattle.yaml_complete.proofs.BlockProperties.{no_key_over}
-use Rattle.yaml_complete.proofs.PropertyLines.{no_flow_barred}
+use Rattle.std.proofs.Common.{◌≡◌, ℕ, suc, ◌+◌, ◌≤◌, inl, inr, List, [], refl, sym, ◌∙◌, subst, arith}
+use Rattle.std.proofs.lemmas.List.{append-nil}
+use Rattle.yaml_definitions.specs.model.Event.{Event}
+use Rattle.yaml_definitions.specs.grammar.Rules.{Rule, ◌∪◌}
+use Rattle.yaml_definitions.specs.grammar.Separation.{flow_out, block_key, s-l-comments as s_l_comments}
+use Rattle.yaml_definitions.specs.grammar.Tags.{Handles}
+use Rattle.yaml_definitions.specs.grammar.Events.{Props}
+use Rattle.yaml_definitions.specs.grammar.Nodes.{yaml_part, json_part, reads}
+use Rattle.yaml_definitions.proofs.grammar.Forward.{fwd_reads}
+use Rattle.yaml_definitions.proofs.grammar.Widening.{in_reads}
+use Rattle.law_one_reading.specs.Readings.{At}
+use Rattle.law_one_reading.specs.Follows.{EndsNode as F}
+use Rattle.law_one_reading.proofs.FlowNodes.{prop_kind}
+use Rattle.law_one_reading.proofs.FlowLevels.{reads_facts}
+use Rattle.law_one_reading.proofs.KeyContexts.{reads_eased, at_block}
+use Rattle.law_one_reading.proofs.BlockLevels.{one_more, reads_blocks}
+use Rattle.law_one_reading.proofs.Properties.{props_here, props_two}
+use Rattle.law_one_reading.proofs.TagEnds.{prop_same, prop_here, prop_inside}
+use Rattle.law_going_on.specs.Decisions.{Refused, Goes, Here}
+use Rattle.law_going_on.proofs.KeyOrScalar.{key_goes, no_colon, no_node}
+use Rattle.law_going_on.proofs.KeyChoices.{keys_refused}
+use Rattle.law_going_on.proofs.BlockProperties.{no_key_over}
+use Rattle.law_going_on.proofs.PropertyLines.{no_flow_barred}
 use Rattle.yaml_flow.specs.Decisions.{Barred, IsOnly, IsRefused}
+use Rattle.yaml_flow.specs.Held.{Counts, Keeps, Puts, Alters}
 use Rattle.yaml_flow.specs.Keys.{ColonAfter}
 use Rattle.yaml_flow.specs.PropertyRules.{SomeProperties}
 use Rattle.yaml_flow.specs.declared.flow.Kind.{Kind}
@@ -33,25 +32,15 @@ use Rattle.yaml_flow.proofs.PropertyDecisions.{barred_line}
 use Rattle.yaml_flow.proofs.PropertyLemmas.{marks_props}
 use Rattle.yaml_block.specs.BlockEnds.{AfterColon, IsNoKey}
 use Rattle.yaml_block.specs.BlockRules.{key_rest}
-use Rattle.yaml_block.specs.KeyFits.{NoneBelow}
+use Rattle.yaml_block.specs.KeyFits.{NoneBelow, Becomes}
 
--- events that are cut off again
-map_take : (xs : List code.Event) (k : ℕ) → map event_of (take k xs) ≡ take k (map event_of xs)
-map_take xs zero = refl
-map_take [] (suc k) = refl
-map_take (x ∷ xs) (suc k) = ap (λ v. event_of x ∷ v) (map_take xs k)
+-- events that were put down since a mark, and again
+module _ {S : Type 0} {holds : S → List Event → Type 0} where
+  pub puts_become : (a b c : S) (start : ℕ) (es fs : List Event) → Counts holds a start → Puts holds a es b → Becomes holds start es fs b c → Puts holds a fs c
+  puts_become a b c start es fs m p q = record { is = λ log h. q.is log (m.is log h) (p.is log h) }
 
-map_length : (xs : List code.Event) → length xs ≡ length (map event_of xs)
-map_length [] = refl
-map_length (x ∷ xs) = ap suc (map_length xs)
-
-append_none : (xs : List Event) → xs ++ [] ≡ xs
-append_none [] = refl
-append_none (x ∷ xs) = ap (λ v. x ∷ v) (append_none xs)
-
-pub adds_cut : (old mid new : List code.Event) (es : List Event) (start : ℕ) → start ≡ length old → Adds old es mid → new ≡ take start mid → Adds old [] new
-adds_cut old mid new es start e a h =
-    ap (map event_of) h ∙ map_take mid start ∙ ap (take start) a ∙ ap (λ n. take n (map event_of old ++ es)) (e ∙ map_length old) ∙ take-append_seam (map event_of old) es ∙ sym (append_none (map event_of old))
+  pub puts_again : (a b c d : S) (start : ℕ) (es fs : List Event) → Alters holds start (λ _. []) a b → Keeps holds b c → Puts holds c fs d → Becomes holds start es fs a d
+  puts_again a b c d start es fs q k p = record { is = λ log s h. p.is log (k.is log (subst (holds b) (append-nil log) (q.is log es s h))) }
 
 module _ (cs : List ℕ) (handles : Handles) (room : ℕ) where
   -- flow nodes of either kind

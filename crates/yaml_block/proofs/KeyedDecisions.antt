@@ -1,30 +1,30 @@
 -- A flow node that was read where a node of block level begins, and what follows properties on a line below, by the reader's rules.
 use Rattle.std.proofs.Common.{◌≡◌, ℕ, suc, ◌+◌, ◌<◌, ◌≤◌, ◌⊎◌, List, Option, Some, None, inl, inr, refl, sym, subst}
-use Rattle.yaml_text.specs.Event.{Event}
+use Rattle.yaml_definitions.specs.model.Event.{Event}
 use Rattle.yaml_text.specs.Lines.{Inside}
-use Rattle.yaml_text.specs.grammar.Rules.{Rule, ◌∪◌, ◌◂◌, Stands}
-use Rattle.yaml_text.specs.grammar.Characters.{is_space}
-use Rattle.yaml_text.specs.grammar.Separation.{Ctx, flow_out, indent, s_l_comments}
-use Rattle.yaml_text.specs.grammar.FlowScalars.{PlainFirst}
-use Rattle.yaml_text.specs.grammar.Tags.{Handles}
-use Rattle.yaml_text.specs.grammar.Events.{Props, empty}
-use Rattle.yaml_text.specs.grammar.Nodes.{yaml_part, json_part, flow_node, reads}
-use Rattle.yaml_unique.specs.Readings.{End, At}
-use Rattle.yaml_unique.specs.Follows.{Fresh, Stuck, DashHere, KeyHere, F}
-use Rattle.yaml_unique.proofs.Lines.{less_more}
-use Rattle.yaml_unique.proofs.FlowNodes.{Kind as Begins, kind_fresh, prop_kind}
-use Rattle.yaml_unique.proofs.BlockNodes.{dash_no_kind, dash_no_plain}
-use Rattle.yaml_unique.proofs.BlockLevels.{flow_inside}
-use Rattle.yaml_unique.proofs.Properties.{PropHere, prop_solid}
-use Rattle.yaml_complete.specs.Decisions.{Refused, Goes, Rest, Here}
-use Rattle.yaml_complete.proofs.Decisions.{rest_rest, rest_goes, rest_refused, goes_within, refused_within}
-use Rattle.yaml_complete.proofs.BlockStarts.{ScalarOf, scalar_kind}
-use Rattle.yaml_complete.proofs.BlockProperties.{Contents, contents_fresh}
-use Rattle.yaml_complete.proofs.PropertyChoices.{Second}
-use Rattle.yaml_complete.proofs.LineChoices.{LineRest, line_over, dash_short, line_short, dash_left}
-use Rattle.yaml_complete.proofs.BlockLines.{under_line}
-use Rattle.yaml_complete.proofs.BlockLoops.{MappingFrom}
-use Rattle.yaml_complete.proofs.KeyChoices.{NoKey, no_flow, no_key_left, no_key_mapping, line_goes, line_not_over, neither, key_left, keyed_left}
+use Rattle.yaml_definitions.specs.grammar.Rules.{Rule, ◌∪◌, ◌◂◌, Stands}
+use Rattle.yaml_definitions.specs.grammar.Characters.{is_space}
+use Rattle.yaml_definitions.specs.grammar.Separation.{Ctx, flow_out, s-indent as indent, s-l-comments as s_l_comments}
+use Rattle.yaml_definitions.specs.grammar.FlowScalars.{PlainFirst}
+use Rattle.yaml_definitions.specs.grammar.Tags.{Handles}
+use Rattle.yaml_definitions.specs.grammar.Events.{Props, e-scalar as empty}
+use Rattle.yaml_definitions.specs.grammar.Nodes.{yaml_part, json_part, ns-flow-node as flow_node, reads}
+use Rattle.law_one_reading.specs.Readings.{End, At}
+use Rattle.law_one_reading.specs.Follows.{Fresh, Stuck, DashHere, KeyHere, EndsNode as F}
+use Rattle.law_one_reading.proofs.Lines.{less_more}
+use Rattle.law_one_reading.proofs.FlowNodes.{Kind as Begins, kind_fresh, prop_kind}
+use Rattle.law_one_reading.proofs.BlockNodes.{dash_no_kind, dash_no_plain}
+use Rattle.law_one_reading.proofs.BlockLevels.{flow_inside}
+use Rattle.law_one_reading.proofs.Properties.{PropHere, prop_solid}
+use Rattle.law_going_on.specs.Decisions.{Refused, Goes, Rest, Here}
+use Rattle.law_going_on.proofs.Decisions.{rest_rest, rest_goes, rest_refused, goes_within, refused_within}
+use Rattle.law_going_on.proofs.BlockStarts.{ScalarOf, scalar_kind}
+use Rattle.law_going_on.proofs.BlockProperties.{Contents, contents_fresh}
+use Rattle.law_going_on.proofs.PropertyChoices.{Second}
+use Rattle.law_going_on.proofs.LineChoices.{LineRest, line_over, dash_short, line_short, dash_left}
+use Rattle.law_going_on.proofs.BlockLines.{under_line}
+use Rattle.law_going_on.proofs.BlockLoops.{MappingFrom}
+use Rattle.law_going_on.proofs.KeyChoices.{NoKey, no_flow, no_key_left, no_key_mapping, line_goes, line_not_over, neither, key_left, keyed_left}
 use Rattle.yaml_flow.specs.Decisions.{IsOnly, IsRefused}
 use Rattle.yaml_flow.specs.FlowRules.{opens, below, flow_from, part_of}
 use Rattle.yaml_flow.specs.Keys.{ColonAfter}

@@ -1,13 +1,13 @@
 -- What is known of the nodes at each room, in the form in which the lemmas on one level ask for it, by the definitions of the reader.
 use Rattle.std.proofs.Common.{ℕ, zero, suc, List}
-use Rattle.yaml_text.specs.grammar.Tags.{Handles}
-use Rattle.yaml_text.specs.grammar.Nodes.{Part, part}
-use Rattle.yaml_text.proofs.grammar.Forward.{Forward, fwd_reads}
-use Rattle.yaml_text.proofs.grammar.Widening.{Within}
-use Rattle.yaml_unique.proofs.FlowEntries.{Facts}
-use Rattle.yaml_unique.proofs.FlowLevels.{no_facts, reads_facts}
-use Rattle.yaml_unique.proofs.KeyContexts.{Eased, no_eased, reads_eased}
-use Rattle.yaml_unique.proofs.BlockLevels.{Blocks, no_blocks, one_more, reads_blocks}
+use Rattle.yaml_definitions.specs.grammar.Tags.{Handles}
+use Rattle.yaml_definitions.specs.grammar.Nodes.{Part, part}
+use Rattle.yaml_definitions.proofs.grammar.Forward.{Forward, fwd_reads}
+use Rattle.yaml_definitions.proofs.grammar.Widening.{Within}
+use Rattle.law_one_reading.proofs.FlowEntries.{Facts}
+use Rattle.law_one_reading.proofs.FlowLevels.{no_facts, reads_facts}
+use Rattle.law_one_reading.proofs.KeyContexts.{Eased, no_eased, reads_eased}
+use Rattle.law_one_reading.proofs.BlockLevels.{Blocks, no_blocks, one_more, reads_blocks}
 use Rattle.yaml_flow.specs.FlowRules.{opens, below}
 
 module _ (cs : List ℕ) (Wide : Type 0) (handles : Handles) where

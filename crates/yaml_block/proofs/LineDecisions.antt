@@ -5,18 +5,18 @@ use Rattle.std.proofs.Math.Nat.{eq-or-lt_of_le}
 use Rattle.std.proofs.lemmas.Option.{slice_get_within}
 use Rattle.yaml_text.specs.Source.{text_of, place_of}
 use Rattle.yaml_text.specs.declared.chars.Chars.{Chars}
-use Rattle.yaml_text.specs.Lines.{AfterLine, Inside, Dashes}
-use Rattle.yaml_text.specs.grammar.Rules.{run, Stands}
-use Rattle.yaml_text.specs.grammar.Characters.{is_ns, is_space, is_nb, is_break}
-use Rattle.yaml_text.specs.grammar.Separation.{indent, AtEnd, DocumentMark, StartsLine, s_l_comments}
+use Rattle.yaml_text.specs.Lines.{AfterLine, Inside, LooksLikeMarker as Dashes}
+use Rattle.yaml_definitions.specs.grammar.Rules.{run, Stands}
+use Rattle.yaml_definitions.specs.grammar.Characters.{is_ns, is_space, is_nb, is_break}
+use Rattle.yaml_definitions.specs.grammar.Separation.{s-indent as indent, AtEnd, DocumentMark, StartsLine, s-l-comments as s_l_comments}
 use Rattle.yaml_text.proofs.Breaks.{mark_dashes, mark_is}
 use Rattle.yaml_text.proofs.Runs.{run_same, same_char}
 use Rattle.yaml_text.proofs.LineRuns.{indent_run, indent_place, end_stops}
-use Rattle.yaml_unique.specs.Follows.{Fresh, DashHere, Dash}
+use Rattle.law_one_reading.specs.Follows.{Fresh, DashHere, Dash}
 use Rattle.yaml_text.proofs.RestLemmas.{from_s_b, blank_after}
-use Rattle.yaml_unique.proofs.Documents.{after_comments}
-use Rattle.yaml_unique.proofs.Lines.{solid_no_space, dash_fresh}
-use Rattle.yaml_unique.proofs.BlockNodes.{colon_solid}
+use Rattle.law_one_reading.proofs.Documents.{after_comments}
+use Rattle.law_one_reading.proofs.Lines.{solid_no_space, dash_fresh}
+use Rattle.law_one_reading.proofs.BlockNodes.{colon_solid}
 use Rattle.yaml_flow.specs.Keys.{IsKeySized}
 use Rattle.yaml_flow.specs.Lines.{IsLine, IsDash}
 use Rattle.yaml_flow.specs.declared.line.Line.{Line}

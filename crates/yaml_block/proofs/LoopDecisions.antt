@@ -1,25 +1,25 @@
 -- The loops over the entries of block sequences and block mappings, by the reader's rules.
 use Rattle.std.proofs.Common.{◌≡◌, ℕ, suc, ◌+◌, ◌-◌, List, sym, subst, arith}
-use Rattle.yaml_text.specs.Event.{Event}
+use Rattle.yaml_definitions.specs.model.Event.{Event}
 use Rattle.yaml_text.specs.Source.{text_of, place_of}
 use Rattle.yaml_text.specs.declared.chars.Chars.{Chars}
 use Rattle.yaml_text.specs.Lines.{Inside}
-use Rattle.yaml_text.specs.grammar.Rules.{Rule, ◌▸◌, any, Stands}
-use Rattle.yaml_text.specs.grammar.Characters.{is_ns}
-use Rattle.yaml_text.specs.grammar.Separation.{block_out, indent, AtEnd, DocumentMark}
-use Rattle.yaml_text.specs.grammar.Tags.{Handles}
-use Rattle.yaml_text.specs.grammar.Events.{Props}
-use Rattle.yaml_text.specs.grammar.Nodes.{reads}
-use Rattle.yaml_text.proofs.grammar.Forward.{fwd_reads}
-use Rattle.yaml_unique.specs.Readings.{End}
-use Rattle.yaml_unique.specs.Follows.{Fresh, Stuck, DashHere, Dash, Less, KeyHere}
-use Rattle.yaml_unique.proofs.FlowLevels.{reads_facts}
-use Rattle.yaml_unique.proofs.KeyContexts.{reads_eased}
-use Rattle.yaml_unique.proofs.BlockLevels.{one_more, reads_blocks}
-use Rattle.yaml_complete.specs.Decisions.{Refused, Goes, Rest, Here}
-use Rattle.yaml_complete.proofs.Decisions.{goes_at, goes_until, refused_until}
-use Rattle.yaml_complete.proofs.BlockLoops.{Right, line_less, sequence_first, sequence_no_first, sequence_more, sequence_no_more, sequence_done, sequence_further, values_first, values_refused, mapping_more, mapping_no_more, mapping_no_value, mapping_done, mapping_further, Colon}
-use Rattle.yaml_complete.proofs.KeyChoices.{value_starts, key_starts}
+use Rattle.yaml_definitions.specs.grammar.Rules.{Rule, ◌▸◌, any, Stands}
+use Rattle.yaml_definitions.specs.grammar.Characters.{is_ns}
+use Rattle.yaml_definitions.specs.grammar.Separation.{block_out, s-indent as indent, AtEnd, DocumentMark}
+use Rattle.yaml_definitions.specs.grammar.Tags.{Handles}
+use Rattle.yaml_definitions.specs.grammar.Events.{Props}
+use Rattle.yaml_definitions.specs.grammar.Nodes.{reads}
+use Rattle.yaml_definitions.proofs.grammar.Forward.{fwd_reads}
+use Rattle.law_one_reading.specs.Readings.{End}
+use Rattle.law_one_reading.specs.Follows.{Fresh, Stuck, DashHere, Dash, Less, KeyHere}
+use Rattle.law_one_reading.proofs.FlowLevels.{reads_facts}
+use Rattle.law_one_reading.proofs.KeyContexts.{reads_eased}
+use Rattle.law_one_reading.proofs.BlockLevels.{one_more, reads_blocks}
+use Rattle.law_going_on.specs.Decisions.{Refused, Goes, Rest, Here}
+use Rattle.law_going_on.proofs.Decisions.{goes_at, goes_until, refused_until}
+use Rattle.law_going_on.proofs.BlockLoops.{Right, line_less, sequence_first, sequence_no_first, sequence_more, sequence_no_more, sequence_done, sequence_further, values_first, values_refused, mapping_more, mapping_no_more, mapping_no_value, mapping_done, mapping_further, Colon}
+use Rattle.law_going_on.proofs.KeyChoices.{value_starts, key_starts}
 use Rattle.yaml_flow.specs.Lines.{IsLine}
 use Rattle.yaml_flow.specs.declared.line.Line.{Line}
 use Rattle.yaml_block.specs.BlockEnds.{AfterNode, AfterEntry, AfterSequence, AfterMapping, AfterColon, IsFurther}

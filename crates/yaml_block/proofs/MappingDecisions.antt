@@ -1,12 +1,12 @@
 -- A flow node that was read where a node of block level begins: what is left where it is no key, and where a mapping begins with it.
 use Rattle.std.proofs.Common.{◌≡◌, ℕ, suc, ◌≤◌, ◌⊎◌, List, Option, Some, None, inl, inr, sym, subst}
-use Rattle.yaml_text.specs.Event.{Event}
+use Rattle.yaml_definitions.specs.model.Event.{Event}
 use Rattle.yaml_text.specs.Lines.{Inside}
-use Rattle.yaml_text.specs.grammar.Separation.{Ctx, block_key, flow_out, s_l_comments}
-use Rattle.yaml_text.specs.grammar.Tags.{Handles}
-use Rattle.yaml_text.specs.grammar.Events.{Props}
-use Rattle.yaml_complete.specs.Decisions.{Refused, Rest}
-use Rattle.yaml_complete.proofs.Decisions.{rest_rest, rest_refused}
+use Rattle.yaml_definitions.specs.grammar.Separation.{Ctx, block_key, flow_out, s-l-comments as s_l_comments}
+use Rattle.yaml_definitions.specs.grammar.Tags.{Handles}
+use Rattle.yaml_definitions.specs.grammar.Events.{Props}
+use Rattle.law_going_on.specs.Decisions.{Refused, Rest}
+use Rattle.law_going_on.proofs.Decisions.{rest_rest, rest_refused}
 use Rattle.yaml_flow.specs.Decisions.{AllProperties, LineGoesOn, IsOnly}
 use Rattle.yaml_flow.specs.FlowRules.{flow_from}
 use Rattle.yaml_flow.specs.Keys.{ColonAfter}

@@ -2,30 +2,30 @@
 use Rattle.std.proofs.Common.{◌≡◌, ◌≢◌, ℕ, ◌+◌, ◌<◌, ◌≤◌, ◌⊎◌, List, Option, Some, None, inl, inr, refl, sym, ◌∙◌, ap, subst, arith}
 use Rattle.std.specs.Prelude.{slice_get}
 use Rattle.std.proofs.lemmas.Bool.{cases_eq}
-use Rattle.yaml_text.specs.Event.{Event, WrittenTag, Anchor, untagged, non_specific, full}
+use Rattle.yaml_definitions.specs.model.Event.{Event, WrittenTag, Anchor, untagged, non_specific, full}
 use Rattle.yaml_text.specs.Lines.{Inside}
-use Rattle.yaml_text.specs.grammar.Rules.{Rule, Stands}
-use Rattle.yaml_text.specs.grammar.Characters.{is_space}
-use Rattle.yaml_text.specs.grammar.Separation.{Ctx, block_key, flow_out, indent, separate, separate_lines, s_l_comments, AtEnd, DocumentMark}
-use Rattle.yaml_text.specs.grammar.Tags.{Handles}
-use Rattle.yaml_text.specs.grammar.Events.{Props, no_props}
+use Rattle.yaml_definitions.specs.grammar.Rules.{Rule, Stands}
+use Rattle.yaml_definitions.specs.grammar.Characters.{is_space}
+use Rattle.yaml_definitions.specs.grammar.Separation.{Ctx, block_key, flow_out, s-indent as indent, s-separate as separate, s-separate-lines as separate_lines, s-l-comments as s_l_comments, AtEnd, DocumentMark}
+use Rattle.yaml_definitions.specs.grammar.Tags.{Handles}
+use Rattle.yaml_definitions.specs.grammar.Events.{Props, no_props}
 use Rattle.yaml_text.proofs.LineRuns.{indent_run, indent_place}
 use Rattle.yaml_text.proofs.Runs.{same_char}
-use Rattle.yaml_unique.specs.Readings.{End}
-use Rattle.yaml_unique.specs.Follows.{Stuck, Follow, DashHere}
-use Rattle.yaml_unique.proofs.FlowNodes.{Kind, Sign}
-use Rattle.yaml_unique.proofs.Properties.{PropHere, prop, prop_solid, both, props_two, props_here, props_inside}
-use Rattle.yaml_unique.proofs.TagEnds.{prop_same, prop_here, prop_inside}
-use Rattle.yaml_complete.specs.Decisions.{Refused, Rest}
-use Rattle.yaml_complete.proofs.Decisions.{rest_rest, rest_refused, refused_either}
-use Rattle.yaml_complete.proofs.Separations.{separate_on_next, separate_short}
-use Rattle.yaml_complete.proofs.PropertyChoices.{Second, no_second}
-use Rattle.yaml_complete.proofs.BlockLoops.{line_less}
-use Rattle.yaml_complete.proofs.BlockStarts.{ScalarOf}
-use Rattle.yaml_complete.proofs.BlockProperties.{Under}
-use Rattle.yaml_complete.proofs.PropertyLines.{Upper, one_line_above, two_lines_above, upper_left, upper_clash, upper_barred, no_forms_barred, no_mapping_barred}
-use Rattle.yaml_complete.proofs.OwnLines as own
-use Rattle.yaml_complete.proofs.OwnLines.{MappingIn, FlowOrKey, mapping_refused, flow_or_key, scalar_here, own_flow_or_key, own_scalar, no_mapping_in, above_flow_or_key, above_scalar, above_alias, both_flow_or_key, both_scalar, no_key_signed}
+use Rattle.law_one_reading.specs.Readings.{End}
+use Rattle.law_one_reading.specs.Follows.{Stuck, Follow, DashHere}
+use Rattle.law_one_reading.proofs.FlowNodes.{Kind, Sign}
+use Rattle.law_one_reading.proofs.Properties.{PropHere, prop, prop_solid, both, props_two, props_here, props_inside}
+use Rattle.law_one_reading.proofs.TagEnds.{prop_same, prop_here, prop_inside}
+use Rattle.law_going_on.specs.Decisions.{Refused, Rest}
+use Rattle.law_going_on.proofs.Decisions.{rest_rest, rest_refused, refused_either}
+use Rattle.law_going_on.proofs.Separations.{separate_on_next, separate_short}
+use Rattle.law_going_on.proofs.PropertyChoices.{Second, no_second}
+use Rattle.law_going_on.proofs.BlockLoops.{line_less}
+use Rattle.law_going_on.proofs.BlockStarts.{ScalarOf}
+use Rattle.law_going_on.proofs.BlockProperties.{Under}
+use Rattle.law_going_on.proofs.PropertyLines.{Upper, one_line_above, two_lines_above, upper_left, upper_clash, upper_barred, no_forms_barred, no_mapping_barred}
+use Rattle.law_going_on.proofs.OwnLines as own
+use Rattle.law_going_on.proofs.OwnLines.{MappingIn, FlowOrKey, mapping_refused, flow_or_key, scalar_here, own_flow_or_key, own_scalar, no_mapping_in, above_flow_or_key, above_scalar, above_alias, both_flow_or_key, both_scalar, no_key_signed}
 use Rattle.yaml_flow.specs.Decisions.{AllProperties, Barred, IsProperty, LineGoesOn}
 use Rattle.yaml_flow.specs.FlowRules.{opens, below}
 use Rattle.yaml_flow.specs.Lines.{IsBlock}

@@ -1,20 +1,20 @@
 -- The reader's rules of block nodes are those forms of a node that the lemmas on one level speak of.
 use Rattle.std.proofs.Common.{◌≡◌, ℕ, ◌+◌, ◌≤◌, ◌⊎◌, List, Option, Some, None, inl, inr, refl, sym, subst, arith}
-use Rattle.yaml_text.specs.Event.{Event}
-use Rattle.yaml_text.specs.grammar.Rules.{Rule, ◌▸◌, ◌∪◌}
-use Rattle.yaml_text.specs.grammar.Separation.{Ctx, block_in, block_out, flow_out, separate, separate_lines, s_l_comments}
-use Rattle.yaml_text.specs.grammar.Tags.{Handles, properties}
-use Rattle.yaml_text.specs.grammar.Events.{Props, no_props}
-use Rattle.yaml_text.specs.grammar.Nodes as nodes
-use Rattle.yaml_text.specs.grammar.Nodes.{yaml_part, json_part, seq_column}
-use Rattle.yaml_unique.specs.Readings.{End}
-use Rattle.yaml_unique.specs.Follows.{DashHere, KeyHere}
-use Rattle.yaml_unique.proofs.FlowNodes.{Kind, kind_fresh}
-use Rattle.yaml_unique.proofs.BlockNodes.{dash_no_kind}
-use Rattle.yaml_complete.specs.Decisions.{Rest}
-use Rattle.yaml_complete.proofs.BlockLoops.{SequenceFrom, MappingFrom}
-use Rattle.yaml_complete.proofs.BlockStarts.{OnLine, FlowLine, ScalarOf, CollectionsOf, flow_key, scalar_kind, propped_kind, map_key, seq_dash}
-use Rattle.yaml_complete.proofs.OwnLines.{MappingIn}
+use Rattle.yaml_definitions.specs.model.Event.{Event}
+use Rattle.yaml_definitions.specs.grammar.Rules.{Rule, ◌▸◌, ◌∪◌}
+use Rattle.yaml_definitions.specs.grammar.Separation.{Ctx, block_in, block_out, flow_out, s-separate as separate, s-separate-lines as separate_lines, s-l-comments as s_l_comments}
+use Rattle.yaml_definitions.specs.grammar.Tags.{Handles, c-ns-properties as properties}
+use Rattle.yaml_definitions.specs.grammar.Events.{Props, no_props}
+use Rattle.yaml_definitions.specs.grammar.Nodes as nodes
+use Rattle.yaml_definitions.specs.grammar.Nodes.{yaml_part, json_part, seq-space as seq_column}
+use Rattle.law_one_reading.specs.Readings.{End}
+use Rattle.law_one_reading.specs.Follows.{DashHere, KeyHere}
+use Rattle.law_one_reading.proofs.FlowNodes.{Kind, kind_fresh}
+use Rattle.law_one_reading.proofs.BlockNodes.{dash_no_kind}
+use Rattle.law_going_on.specs.Decisions.{Rest}
+use Rattle.law_going_on.proofs.BlockLoops.{SequenceFrom, MappingFrom}
+use Rattle.law_going_on.proofs.BlockStarts.{OnLine, FlowLine, ScalarOf, CollectionsOf, flow_key, scalar_kind, propped_kind, map_key, seq_dash}
+use Rattle.law_going_on.proofs.OwnLines.{MappingIn}
 use Rattle.yaml_flow.specs.FlowRules.{opens, below}
 use Rattle.yaml_flow.specs.Lines.{IsBlock}
 use Rattle.yaml_flow.proofs.FlowLemmas.{to_reads, from_reads}
@@ -78,7 +78,7 @@ module _ (cs : List ℕ) (Wide : Type 0) (handles : Handles) (room : ℕ) (col :
   at_mapping (Some k) i j v r = r
 
   pub node_forms : IsBlock c → (column : Option ℕ) (i j : ℕ) (v : List Event) → node_rest cs Wide handles room col c column i j v → (Forms ∪ MappingAt no_props column) i j v
-  unfolding nodes.flow_node
+  unfolding nodes.ns-flow-node
   node_forms b column i j v (inl (k, inl y, t)) = inl (inl (k, inl (from_reads cs Wide handles room (yaml_part col flow_out) i k v y), t))
   node_forms b column i j v (inl (k, inr y, t)) = inl (inl (k, inr (from_reads cs Wide handles room (json_part col flow_out) i k v y), t))
   node_forms b column i j v (inr (inl (k, p, inl (e, f), t))) = inl (inr (inl (subst (λ x. Scalar x i j v) f (subst (λ x. Scalar p x j v) e t))))
@@ -86,22 +86,22 @@ module _ (cs : List ℕ) (Wide : Type 0) (handles : Handles) (room : ℕ) (col :
   node_forms b column i j v (inr (inr (inl (k, p, (m, r, d), t)))) =
       inl (inr (inr (inr (m, p, block_properties cs handles col c i m p b r, (k, d, collections t)))))
     where
-      collections : (nodes.block_map cs Wide handles (opens cs Wide handles room) (below cs Wide handles room) p col k j v ⊎ nodes.block_seq cs Wide handles (opens cs Wide handles room) (below cs Wide handles room) p (least_dash col c) k j v) → CollectionsOf cs Wide handles (opens cs Wide handles room) (below cs Wide handles room) (facts_at cs Wide handles room) (eased_at cs Wide handles room) (wider_at cs Wide handles room) (forward_at cs Wide handles room) (blocks_at cs Wide handles room) col c p k j v
+      collections : (nodes.l+block-mapping cs Wide handles (opens cs Wide handles room) (below cs Wide handles room) p col k j v ⊎ nodes.l+block-sequence cs Wide handles (opens cs Wide handles room) (below cs Wide handles room) p (least_dash col c) k j v) → CollectionsOf cs Wide handles (opens cs Wide handles room) (below cs Wide handles room) (facts_at cs Wide handles room) (eased_at cs Wide handles room) (wider_at cs Wide handles room) (forward_at cs Wide handles room) (blocks_at cs Wide handles room) col c p k j v
       collections (inl u) = inl u
-      collections (inr u) = inr (subst (λ x. nodes.block_seq cs Wide handles (opens cs Wide handles room) (below cs Wide handles room) p x k j v) (sym (least_column b)) u)
+      collections (inr u) = inr (subst (λ x. nodes.l+block-sequence cs Wide handles (opens cs Wide handles room) (below cs Wide handles room) p x k j v) (sym (least_column b)) u)
   node_forms b column i j v (inr (inr (inr t))) = inr (mapping_at no_props column i j v refl t)
 
   pub forms_node : IsBlock c → (column : Option ℕ) (i j : ℕ) (v : List Event) → (Forms ∪ MappingAt no_props column) i j v → node_rest cs Wide handles room col c column i j v
-  unfolding nodes.flow_node
+  unfolding nodes.ns-flow-node
   forms_node b column i j v (inl (inl (k, inl y, t))) = inl (k, inl (to_reads cs Wide handles room (yaml_part col flow_out) i k v y), t)
   forms_node b column i j v (inl (inl (k, inr y, t))) = inl (k, inr (to_reads cs Wide handles room (json_part col flow_out) i k v y), t)
   forms_node b column i j v (inl (inr (inl t))) = inr (inl (i, no_props, inl (refl, refl), t))
   forms_node b column i j v (inl (inr (inr (inl (m, p, r, (k, d, t)))))) = inr (inl (k, p, inr (m, flow_properties cs handles col c i m p b r, block_flow cs c b col m k d), t))
   forms_node b column i j v (inl (inr (inr (inr (m, p, r, (k, d, t)))))) = inr (inr (inl (k, p, (m, flow_properties cs handles col c i m p b r, d), collections t)))
     where
-      collections : CollectionsOf cs Wide handles (opens cs Wide handles room) (below cs Wide handles room) (facts_at cs Wide handles room) (eased_at cs Wide handles room) (wider_at cs Wide handles room) (forward_at cs Wide handles room) (blocks_at cs Wide handles room) col c p k j v → (nodes.block_map cs Wide handles (opens cs Wide handles room) (below cs Wide handles room) p col k j v ⊎ nodes.block_seq cs Wide handles (opens cs Wide handles room) (below cs Wide handles room) p (least_dash col c) k j v)
+      collections : CollectionsOf cs Wide handles (opens cs Wide handles room) (below cs Wide handles room) (facts_at cs Wide handles room) (eased_at cs Wide handles room) (wider_at cs Wide handles room) (forward_at cs Wide handles room) (blocks_at cs Wide handles room) col c p k j v → (nodes.l+block-mapping cs Wide handles (opens cs Wide handles room) (below cs Wide handles room) p col k j v ⊎ nodes.l+block-sequence cs Wide handles (opens cs Wide handles room) (below cs Wide handles room) p (least_dash col c) k j v)
       collections (inl u) = inl u
-      collections (inr u) = inr (subst (λ x. nodes.block_seq cs Wide handles (opens cs Wide handles room) (below cs Wide handles room) p x k j v) (least_column b) u)
+      collections (inr u) = inr (subst (λ x. nodes.l+block-sequence cs Wide handles (opens cs Wide handles room) (below cs Wide handles room) p x k j v) (least_column b) u)
   forms_node b column i j v (inr t) = inr (inr (inr (at_mapping column i j v t)))
 
   -- what is left of the forms is left of the reader's rule

@@ -1,14 +1,12 @@
 -- A node's properties on its own line and on the lines before it.
-use Rattle.std.proofs.Common.{◌≡◌, ℕ, ◌+◌, ◌<◌, ◌≤◌, ◌⊎◌, List, [], ◌∷◌, Option, Some, None, refl, sym, ◌∙◌, ap, subst, arith, inl, inr, encode_utf8_all, length, map, suc, length-append}
+use Rattle.std.proofs.Common.{◌≡◌, ℕ, ◌+◌, ◌<◌, ◌≤◌, ◌⊎◌, List, Option, Some, None, refl, sym, ◌∙◌, ap, subst, arith, inl, inr, encode_utf8_all}
 use Rattle.std.specs.Prelude.{slice_get}
-use Rattle.yaml_text.specs.Event.{Event, Anchor, WrittenTag, untagged, non_specific, full}
-use Rattle.yaml_text.specs.EventModel.{event_of, Adds}
-use Rattle.yaml_text.specs.declared.event.Event as code
-use Rattle.yaml_text.specs.grammar.Separation.{Ctx, flow_out, block_key, indent, separate, separate_lines, s_l_comments}
-use Rattle.yaml_text.specs.grammar.Tags.{Handles, tag, alias, properties}
-use Rattle.yaml_text.specs.grammar.Events.{Props, no_props, empty}
-use Rattle.yaml_text.specs.grammar.Nodes as nodes
-use Rattle.yaml_text.specs.grammar.Nodes.{yaml_part, reads}
+use Rattle.yaml_definitions.specs.model.Event.{Event, Anchor, WrittenTag, untagged, non_specific, full}
+use Rattle.yaml_definitions.specs.grammar.Separation.{Ctx, flow_out, block_key, s-indent as indent, s-separate as separate, s-separate-lines as separate_lines, s-l-comments as s_l_comments}
+use Rattle.yaml_definitions.specs.grammar.Tags.{Handles, c-ns-tag-property as tag, c-ns-alias-node as alias, c-ns-properties as properties}
+use Rattle.yaml_definitions.specs.grammar.Events.{Props, no_props, e-scalar as empty}
+use Rattle.yaml_definitions.specs.grammar.Nodes as nodes
+use Rattle.yaml_definitions.specs.grammar.Nodes.{yaml_part, reads}
 use Rattle.yaml_flow.specs.FlowRules.{Bare, aliased, plainly, with_properties, lone, part_of}
 use Rattle.yaml_flow.specs.PropertyRules.{SomeProperties, tag_alone, anchor_alone, both, Own, Disjoint, HasTag, HasAnchor, both_props, either_anchor, either_tag, tag_props, anchor_props, dressed}
 use Rattle.yaml_flow.specs.declared.flow.Kind.{Kind}
@@ -38,17 +36,6 @@ column_marked None untagged column h = absurd h
 column_marked None non_specific column h = refl
 column_marked None (full t) column h = refl
 column_marked (Some a) t column h = refl
-
--- ---- events put into a list
-
-events_length : (xs : List code.Event) → length xs ≡ length (map event_of xs)
-events_length [] = refl
-events_length (x ∷ xs) = ap suc (events_length xs)
-
-pub adds_longer : (old new : List code.Event) (es : List Event) → Adds old es new → length old ≤ length new
-adds_longer old new es a =
-    let e = ap length a ∙ length-append (map event_of old) es in
-    omega (arith, events_length old, events_length new, e)
 
 -- ---- two sets of properties
 
@@ -257,7 +244,7 @@ module _ (cs : List ℕ) (Wide : Type 0) (handles : Handles) where
   -- a mapping whose first key begins at m
   pub keyed : (room col k : ℕ) (c : Ctx) (column : Option ℕ) (i m j : ℕ) (p : Props) (es : List Event) → Outer cs handles col column i m p → column ≡ Some k →
       mapping_with cs Wide handles p room k m j es → node_rest cs Wide handles room col c (column_of p column) i j es
-  unfolding nodes.block_map
+  unfolding nodes.l+block-mapping
   keyed room col k c column i m j p es (nothing e h) f r =
       inr (inr (inr (subst (λ o. mapping_in cs Wide handles room o i j es) (sym (column_free p column h ∙ f))
       (subst (λ x. mapping_with cs Wide handles no_props room k x j es) e (subst (λ x. mapping_with cs Wide handles x room k m j es) h r)))))
@@ -273,7 +260,7 @@ module _ (cs : List ℕ) (Wide : Type 0) (handles : Handles) where
   -- properties, and a sequence on a later line
   pub marked_sequence : (room col k : ℕ) (c : Ctx) (other : Option ℕ) (i e l m j : ℕ) (p : Props) (es : List Event) → SomeProperties cs handles col flow_out i e p → s_l_comments cs e l → least_dash col c ≤ k → indent cs k l m →
       sequence_with cs Wide handles p room k m j es → node_rest cs Wide handles room col c other i j es
-  unfolding nodes.block_seq
+  unfolding nodes.l+block-sequence
   marked_sequence room col k c other i e l m j p es s comments le ind (o, (xs, (x, ys, zs, entry, more, h), w)) =
       inr (inr (inl (l, p, (e, marks_props cs handles col flow_out i e p s, comments), inr (o, (xs, (k, (le, (x, ys, zs, (m, ind, entry), more, h))), w)))))
 

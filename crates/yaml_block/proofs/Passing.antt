@@ -1,22 +1,22 @@
 -- What a call decides, passed on to the call that made it.
 use Rattle.std.proofs.Common.{ℕ, zero, suc, List, Result, Ok, Err, Option, Some, None, inl, inr}
-use Rattle.yaml_text.specs.Event.{Event}
-use Rattle.yaml_text.specs.grammar.Rules.{Rule}
-use Rattle.yaml_text.specs.grammar.Separation.{Ctx}
-use Rattle.yaml_text.specs.grammar.Tags.{Handles}
-use Rattle.yaml_text.specs.grammar.Events.{Props}
-use Rattle.yaml_text.specs.grammar.Nodes.{reads}
+use Rattle.yaml_definitions.specs.model.Event.{Event}
+use Rattle.yaml_definitions.specs.grammar.Rules.{Rule}
+use Rattle.yaml_definitions.specs.grammar.Separation.{Ctx}
+use Rattle.yaml_definitions.specs.grammar.Tags.{Handles}
+use Rattle.yaml_definitions.specs.grammar.Events.{Props}
+use Rattle.yaml_definitions.specs.grammar.Nodes.{reads}
 use Rattle.yaml_text.specs.declared.fault.Fault.{Fault}
-use Rattle.yaml_text.proofs.grammar.Forward.{fwd_reads}
-use Rattle.yaml_unique.specs.Readings.{End}
-use Rattle.yaml_unique.proofs.Lines.{less_stuck}
-use Rattle.yaml_unique.proofs.FlowLevels.{reads_facts}
-use Rattle.yaml_unique.proofs.KeyContexts.{reads_eased}
-use Rattle.yaml_unique.proofs.BlockLevels.{one_more, reads_blocks}
-use Rattle.yaml_complete.specs.Decisions.{Refused, Goes, Rest, Here}
-use Rattle.yaml_complete.proofs.Decisions.{rest_goes, rest_refused, goes_until, refused_until}
-use Rattle.yaml_complete.proofs.BlockLoops.{mapping_no_key}
-use Rattle.yaml_complete.proofs.KeyChoices.{value_starts, key_starts}
+use Rattle.yaml_definitions.proofs.grammar.Forward.{fwd_reads}
+use Rattle.law_one_reading.specs.Readings.{End}
+use Rattle.law_one_reading.proofs.Lines.{less_stuck}
+use Rattle.law_one_reading.proofs.FlowLevels.{reads_facts}
+use Rattle.law_one_reading.proofs.KeyContexts.{reads_eased}
+use Rattle.law_one_reading.proofs.BlockLevels.{one_more, reads_blocks}
+use Rattle.law_going_on.specs.Decisions.{Refused, Goes, Rest, Here}
+use Rattle.law_going_on.proofs.Decisions.{rest_goes, rest_refused, goes_until, refused_until}
+use Rattle.law_going_on.proofs.BlockLoops.{mapping_no_key}
+use Rattle.law_going_on.proofs.KeyChoices.{value_starts, key_starts}
 use Rattle.yaml_flow.specs.Answer.{Decides}
 use Rattle.yaml_flow.specs.Lines.{IsBlock}
 use Rattle.yaml_block.specs.BlockRules.{block_scalar_rest}

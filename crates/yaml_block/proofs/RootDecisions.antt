@@ -1,19 +1,19 @@
 -- Documents' nodes: what is left of them on their first line, and after their mark.
 use Rattle.std.proofs.Common.{◌≡◌, ℕ, ◌+◌, List, Some, inl, inr, subst, arith}
-use Rattle.yaml_text.specs.Event.{Event}
-use Rattle.yaml_text.specs.grammar.Rules.{Rule, ◌◂◌, ◌∪◌, gives, Stands}
-use Rattle.yaml_text.specs.grammar.Characters.{is_space}
-use Rattle.yaml_text.specs.grammar.Separation.{block_in, indent, s_l_comments, StartsLine}
-use Rattle.yaml_text.specs.grammar.Tags.{Handles}
-use Rattle.yaml_text.specs.grammar.Events.{no_props, empty}
-use Rattle.yaml_text.specs.grammar.Nodes.{block_part, block_node}
-use Rattle.yaml_text.specs.grammar.Streams.{bare_document}
+use Rattle.yaml_definitions.specs.model.Event.{Event}
+use Rattle.yaml_definitions.specs.grammar.Rules.{Rule, ◌◂◌, ◌∪◌, gives, Stands}
+use Rattle.yaml_definitions.specs.grammar.Characters.{is_space}
+use Rattle.yaml_definitions.specs.grammar.Separation.{block_in, s-indent as indent, s-l-comments as s_l_comments, StartsLine}
+use Rattle.yaml_definitions.specs.grammar.Tags.{Handles}
+use Rattle.yaml_definitions.specs.grammar.Events.{no_props, e-scalar as empty}
+use Rattle.yaml_definitions.specs.grammar.Nodes.{block_part, s-l+block-node as block_node}
+use Rattle.yaml_definitions.specs.grammar.Streams.{l-bare-document as bare_document}
 use Rattle.yaml_text.proofs.LineRuns.{indent_place}
-use Rattle.yaml_unique.specs.Readings.{End}
-use Rattle.yaml_unique.specs.Follows.{Stuck, DashHere}
-use Rattle.yaml_complete.specs.Decisions.{Rest}
-use Rattle.yaml_complete.proofs.Decisions.{rest_rest, rest_left, rest_right}
-use Rattle.yaml_complete.proofs.BlockStarts.{OnOwnLine, node_below}
+use Rattle.law_one_reading.specs.Readings.{End}
+use Rattle.law_one_reading.specs.Follows.{Stuck, DashHere}
+use Rattle.law_going_on.specs.Decisions.{Rest}
+use Rattle.law_going_on.proofs.Decisions.{rest_rest, rest_left, rest_right}
+use Rattle.law_going_on.proofs.BlockStarts.{OnOwnLine, node_below}
 use Rattle.yaml_flow.specs.FlowRules.{opens, below}
 use Rattle.yaml_flow.proofs.FlowLemmas.{from_reads}
 use Rattle.yaml_flow.proofs.LineLemmas.{no_lines}

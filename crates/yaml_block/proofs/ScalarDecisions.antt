@@ -2,19 +2,19 @@
 use Rattle.std.proofs.Common.{◌≡◌, ℕ, inl, inr, List, Bool, true, false, Some, refl, sym, ◌∙◌, subst, arith}
 use Rattle.std.specs.Prelude.{slice_get}
 use Rattle.yaml_text.specs.Answer.{Unread, FurthestAlone}
-use Rattle.yaml_text.specs.Event.{Event}
-use Rattle.yaml_text.specs.grammar.Rules.{Stands}
-use Rattle.yaml_text.specs.grammar.Characters.{is_space}
-use Rattle.yaml_text.specs.grammar.Events.{Props, no_props}
-use Rattle.yaml_text.specs.grammar.BlockScalars.{literal, folded}
+use Rattle.yaml_definitions.specs.model.Event.{Event}
+use Rattle.yaml_definitions.specs.grammar.Rules.{Stands}
+use Rattle.yaml_definitions.specs.grammar.Characters.{is_space}
+use Rattle.yaml_definitions.specs.grammar.Events.{Props, no_props}
+use Rattle.yaml_definitions.specs.grammar.BlockScalars.{c-l+literal as literal, c-l+folded as folded}
 use Rattle.yaml_text.proofs.Runs.{same_char, run_same}
 use Rattle.yaml_scalar.specs.BlockModel.{styled}
-use Rattle.yaml_unique.specs.Readings.{End}
-use Rattle.yaml_unique.specs.Follows.{Stuck}
-use Rattle.yaml_unique.proofs.FlowNodes.{Kind, Sign, kind_fresh}
-use Rattle.yaml_unique.proofs.Lines.{solid_no_space}
-use Rattle.yaml_complete.specs.Decisions.{Refused, Goes, Here}
-use Rattle.yaml_complete.proofs.BlockScalars.{furthest_stuck, block_scalar_goes}
+use Rattle.law_one_reading.specs.Readings.{End}
+use Rattle.law_one_reading.specs.Follows.{Stuck}
+use Rattle.law_one_reading.proofs.FlowNodes.{Kind, Sign, kind_fresh}
+use Rattle.law_one_reading.proofs.Lines.{solid_no_space}
+use Rattle.law_going_on.specs.Decisions.{Refused, Goes, Here}
+use Rattle.law_going_on.proofs.BlockScalars.{furthest_stuck, block_scalar_goes}
 use Rattle.yaml_block.specs.BlockRules.{block_scalar_rest}
 use Rattle.yaml_block.specs.BlockEnds.{AfterScalar, IsStyleSign}
 use Rattle.yaml_block.specs.OuterRules.{Follows}

@@ -1,28 +1,28 @@
 -- Values and the nodes of entries: what is left of them on their parent's line, and on a line below.
 use Rattle.std.proofs.Common.{◌≡◌, ℕ, ◌+◌, ◌<◌, ◌≤◌, ◌⊎◌, List, Option, Some, None, inl, inr, subst, arith}
-use Rattle.yaml_text.specs.Event.{Event}
+use Rattle.yaml_definitions.specs.model.Event.{Event}
 use Rattle.yaml_text.specs.Lines.{Inside}
-use Rattle.yaml_text.specs.grammar.Rules.{Rule, ◌▸◌, ◌◂◌, ◌∪◌, given, gives, Stands}
-use Rattle.yaml_text.specs.grammar.Characters.{is_space}
-use Rattle.yaml_text.specs.grammar.Separation.{Ctx, block_in, block_key, flow_out, indent, sep, separate, s_l_comments, StartsLine, AtEnd, DocumentMark}
-use Rattle.yaml_text.specs.grammar.Tags.{Handles}
-use Rattle.yaml_text.specs.grammar.Events.{no_props, empty}
-use Rattle.yaml_text.specs.grammar.Nodes.{block_part, compact_part, reads, block_node, compact_seq, compact_map}
+use Rattle.yaml_definitions.specs.grammar.Rules.{Rule, ◌▸◌, ◌◂◌, ◌∪◌, given, gives, Stands}
+use Rattle.yaml_definitions.specs.grammar.Characters.{is_space}
+use Rattle.yaml_definitions.specs.grammar.Separation.{Ctx, block_in, block_key, flow_out, s-indent as indent, s-separate-in-line as sep, s-separate as separate, s-l-comments as s_l_comments, StartsLine, AtEnd, DocumentMark}
+use Rattle.yaml_definitions.specs.grammar.Tags.{Handles}
+use Rattle.yaml_definitions.specs.grammar.Events.{no_props, e-scalar as empty}
+use Rattle.yaml_definitions.specs.grammar.Nodes.{block_part, compact_part, reads, s-l+block-node as block_node, ns-l-compact-sequence as compact_seq, ns-l-compact-mapping as compact_map}
 use Rattle.yaml_text.proofs.LineRuns.{indent_run, indent_place}
-use Rattle.yaml_unique.specs.Readings.{End}
-use Rattle.yaml_unique.specs.Follows.{Fresh, Stuck, DashHere, KeyHere}
-use Rattle.yaml_unique.proofs.BlockEntries.{follow_less, follow_seq, less_dash}
-use Rattle.yaml_unique.proofs.FlowNodes.{kind_fresh}
-use Rattle.yaml_unique.proofs.BlockLevels.{reads_blocks}
-use Rattle.yaml_complete.specs.Decisions.{Refused, Goes, Rest, Here}
-use Rattle.yaml_complete.proofs.Decisions.{rest_rest, rest_refused, rest_left, rest_right, refused_either}
-use Rattle.yaml_complete.proofs.Separations.{separate_on_line}
-use Rattle.yaml_complete.proofs.BlockLoops.{compact_sequence, compact_mapping}
-use Rattle.yaml_complete.proofs.LineChoices.{line_over, dash_short, line_short, dash_left, node_left as own_left}
-use Rattle.yaml_complete.proofs.BlockLines.{value_line}
-use Rattle.yaml_complete.proofs.BlockStarts.{Form, flow, scalar, propped, collection, named, form, flow_key, scalar_kind, propped_kind, ScalarOf, CollectionsOf, node_on_line}
-use Rattle.yaml_complete.proofs.BlockChoices.{entry_below, entry_on_line, nothing_on_line}
-use Rattle.yaml_complete.proofs.PropertyLines.{separate_line}
+use Rattle.law_one_reading.specs.Readings.{End}
+use Rattle.law_one_reading.specs.Follows.{Fresh, Stuck, DashHere, KeyHere}
+use Rattle.law_one_reading.proofs.BlockEntries.{follow_less, follow_seq, less_dash}
+use Rattle.law_one_reading.proofs.FlowNodes.{kind_fresh}
+use Rattle.law_one_reading.proofs.BlockLevels.{reads_blocks}
+use Rattle.law_going_on.specs.Decisions.{Refused, Goes, Rest, Here}
+use Rattle.law_going_on.proofs.Decisions.{rest_rest, rest_refused, rest_left, rest_right, refused_either}
+use Rattle.law_going_on.proofs.Separations.{separate_on_line}
+use Rattle.law_going_on.proofs.BlockLoops.{compact_sequence, compact_mapping}
+use Rattle.law_going_on.proofs.LineChoices.{line_over, dash_short, line_short, dash_left, node_left as own_left}
+use Rattle.law_going_on.proofs.BlockLines.{value_line}
+use Rattle.law_going_on.proofs.BlockStarts.{Form, flow, scalar, propped, collection, named, form, flow_key, scalar_kind, propped_kind, ScalarOf, CollectionsOf, node_on_line}
+use Rattle.law_going_on.proofs.BlockChoices.{entry_below, entry_on_line, nothing_on_line}
+use Rattle.law_going_on.proofs.PropertyLines.{separate_line}
 use Rattle.yaml_flow.specs.FlowRules.{opens, below}
 use Rattle.yaml_flow.specs.Lines.{IsBlock}
 use Rattle.yaml_flow.proofs.FlowLemmas.{from_reads}

@@ -2,11 +2,11 @@
 use Rattle.std.specs.Prelude.{◌≡◌, ◌⊎◌, ℕ, ◌+◌, ◌<◌, List, Some, slice_get}
 use Rattle.yaml_text.specs.Source.{text_of, place_of}
 use Rattle.yaml_text.specs.declared.chars.Chars.{Chars}
-use Rattle.yaml_text.specs.grammar.Rules.{run, Stands}
-use Rattle.yaml_text.specs.grammar.Characters.{is_ns, is_space}
-use Rattle.yaml_text.specs.grammar.Separation.{Ctx, indent, AtEnd, DocumentMark}
-use Rattle.yaml_unique.specs.Readings.{End, At}
-use Rattle.yaml_unique.specs.Follows.{Fresh, Stuck, Less, Over, Follow}
+use Rattle.yaml_definitions.specs.grammar.Rules.{run, Stands}
+use Rattle.yaml_definitions.specs.grammar.Characters.{is_ns, is_space}
+use Rattle.yaml_definitions.specs.grammar.Separation.{Ctx, s-indent as indent, AtEnd, DocumentMark}
+use Rattle.law_one_reading.specs.Readings.{End, At}
+use Rattle.law_one_reading.specs.Follows.{Fresh, Stuck, Less, Over, Follow}
 use Rattle.yaml_flow.specs.Keys.{ColonAfter}
 use Rattle.yaml_flow.specs.declared.line.Line.{Line}
 use Rattle.yaml_block.specs.BlockRules.{least_dash}

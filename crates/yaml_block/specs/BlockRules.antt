@@ -1,13 +1,13 @@
 -- Block nodes, from where a reader stands (YAML 1.2.2, 8.2).
 use Rattle.std.specs.Prelude.{ℕ, ◌+◌, ◌-◌, ◌≤◌, List, [], ◌∷◌, Option, Some, None, false}
-use Rattle.yaml_text.specs.Event.{Event, sequence_end, mapping_end}
-use Rattle.yaml_text.specs.Event as style
-use Rattle.yaml_text.specs.grammar.Rules.{Rule, ◌▸◌, ◌◂◌, ◌⨾◌, ◌∪◌, gives, given, never, some, any, seen, chr, with_value}
-use Rattle.yaml_text.specs.grammar.Separation.{Ctx, block_out, block_in, flow_out, flow_in, block_key, flow_key, indent, separate, s_l_comments}
-use Rattle.yaml_text.specs.grammar.Tags.{Handles, properties}
-use Rattle.yaml_text.specs.grammar.Events.{Props, no_props, scalar, empty, seq_start, map_start, wrapped}
-use Rattle.yaml_text.specs.grammar.BlockScalars.{literal, folded}
-use Rattle.yaml_text.specs.grammar.Nodes.{yaml_part, json_part, block_part, block_map, block_seq, implicit_yaml_key, implicit_json_key, seq_entry, map_entry, indented, reads}
+use Rattle.yaml_definitions.specs.model.Event.{Event, sequence_end, mapping_end}
+use Rattle.yaml_definitions.specs.model.Event as style
+use Rattle.yaml_definitions.specs.grammar.Rules.{Rule, ◌▸◌, ◌◂◌, ◌⨾◌, ◌∪◌, gives, given, never, some, any, seen, chr, with_value}
+use Rattle.yaml_definitions.specs.grammar.Separation.{Ctx, block_out, block_in, flow_out, flow_in, block_key, flow_key, s-indent as indent, s-separate as separate, s-l-comments as s_l_comments}
+use Rattle.yaml_definitions.specs.grammar.Tags.{Handles, c-ns-properties as properties}
+use Rattle.yaml_definitions.specs.grammar.Events.{Props, no_props, scalar, e-scalar as empty, seq_start, map_start, wrapped}
+use Rattle.yaml_definitions.specs.grammar.BlockScalars.{c-l+literal as literal, c-l+folded as folded}
+use Rattle.yaml_definitions.specs.grammar.Nodes.{yaml_part, json_part, block_part, l+block-mapping as block_map, l+block-sequence as block_seq, ns-s-implicit-yaml-key as implicit_yaml_key, c-s-implicit-json-key as implicit_json_key, c-l-block-seq-entry as seq_entry, ns-l-block-map-entry as map_entry, s-l+block-indented as indented, reads}
 use Rattle.yaml_flow.specs.FlowRules.{opens, below}
 
 -- 8.2.3: the column from which a sequence may stand below a parent

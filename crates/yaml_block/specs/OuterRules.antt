@@ -1,12 +1,12 @@
 -- Properties on the lines before a node (YAML 1.2.2, 8.2.3).
 use Rattle.std.specs.Prelude.{◌≡◌, ◌≢◌, ◌⊎◌, ℕ, ◌+◌, ◌<◌, ◌≤◌, List, Option, Some, None, slice_get}
-use Rattle.yaml_text.specs.Event.{Anchor, WrittenTag, untagged, non_specific, full}
-use Rattle.yaml_text.specs.grammar.Rules.{run, Stands}
-use Rattle.yaml_text.specs.grammar.Characters.{is_space}
-use Rattle.yaml_text.specs.grammar.Separation.{flow_out, block_key, indent, s_l_comments, AtEnd, DocumentMark}
-use Rattle.yaml_text.specs.grammar.Tags.{Handles}
-use Rattle.yaml_text.specs.grammar.Events.{Props, no_props}
-use Rattle.yaml_unique.specs.Follows.{Stuck, DashHere}
+use Rattle.yaml_definitions.specs.model.Event.{Anchor, WrittenTag, untagged, non_specific, full}
+use Rattle.yaml_definitions.specs.grammar.Rules.{run, Stands}
+use Rattle.yaml_definitions.specs.grammar.Characters.{is_space}
+use Rattle.yaml_definitions.specs.grammar.Separation.{flow_out, block_key, s-indent as indent, s-l-comments as s_l_comments, AtEnd, DocumentMark}
+use Rattle.yaml_definitions.specs.grammar.Tags.{Handles}
+use Rattle.yaml_definitions.specs.grammar.Events.{Props, no_props}
+use Rattle.law_one_reading.specs.Follows.{Stuck, DashHere}
 use Rattle.yaml_flow.specs.Decisions.{AllProperties}
 use Rattle.yaml_flow.specs.PropertyRules.{SomeProperties, Own, Disjoint, both_props}
 

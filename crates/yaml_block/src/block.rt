@@ -6,25 +6,27 @@
 //! before the key's events; else both sets are the node's.
 ghost use Rattle.std.specs.Prelude.{◌≡◌, ◌≢◌, ◌≤◌, ◌<◌, ◌⊎◌, ℕ, IfSome, IfNone, IfOk, IfErr, MatchOption, Some, None, ◌∷◌, [], length, slice_get};
 ghost use Rattle.std.specs.Bool.{OnTrue, OnFalse};
-ghost use Rattle.yaml_text.specs.Limits.{text_limit};
+ghost use Rattle.yaml_definitions.specs.model.Limits.{text_limit};
 ghost use Rattle.yaml_text.specs.Lines.{AfterLine, Inside};
 ghost use Rattle.yaml_text.specs.Source.{text_of, place_of, IsBorder};
-ghost use Rattle.yaml_text.specs.EventModel.{context_of, Adds};
-ghost use Rattle.yaml_text.specs.grammar.Rules.{Stands};
-ghost use Rattle.yaml_text.specs.grammar.Characters.{is_space};
-ghost use Rattle.yaml_text.specs.grammar.Separation.{block_in, flow_out, block_key, s_l_comments, StartsLine, AtEnd, DocumentMark};
-ghost use Rattle.yaml_text.specs.grammar.Events.{empty, no_props};
+ghost use Rattle.yaml_text.specs.EventModel.{context_of};
+ghost use Rattle.yaml_definitions.specs.grammar.Rules.{Stands};
+ghost use Rattle.yaml_definitions.specs.grammar.Characters.{is_space};
+ghost use Rattle.yaml_definitions.specs.grammar.Separation.{block_in, flow_out, block_key, s-l-comments as s_l_comments, StartsLine, AtEnd, DocumentMark};
+ghost use Rattle.yaml_definitions.specs.grammar.Events.{e-scalar as empty, no_props};
 ghost use Rattle.yaml_text.specs.declared.fault.Fault.TheVariants.{OutOfMemory};
 ghost use Rattle.yaml_scalar.specs.BlockModel.{column};
 ghost use Rattle.yaml_mark.specs.HandlesModel.{handles_of};
 ghost use Rattle.yaml_text.specs.Answer.{IsRefusal};
-ghost use Rattle.yaml_unique.specs.Follows.{DashHere, Dash};
-ghost use Rattle.yaml_complete.specs.Decisions.{Here};
+ghost use Rattle.law_one_reading.specs.Follows.{DashHere, Dash};
+ghost use Rattle.law_going_on.specs.Decisions.{Here};
 ghost use Rattle.yaml_flow.specs.Answer.{Appends, Decides};
+ghost use Rattle.yaml_flow.specs.Held.{Puts, Alters};
+ghost use Rattle.yaml_flow.specs.SinkModel.{holds_of};
 ghost use Rattle.yaml_flow.specs.Decisions.{AllProperties, LineGoesOn, IsOnly};
 ghost use Rattle.yaml_flow.specs.Lines.{IsLine, IsDash, IsBlock};
 ghost use Rattle.yaml_flow.specs.Keys.{ColonAfter};
-ghost use Rattle.yaml_flow.specs.PropertyRules.{props_of, both_props, Disjoint, Dresses, SomeProperties, Own};
+ghost use Rattle.yaml_flow.specs.PropertyRules.{props_of, both_props, dressed, Disjoint, SomeProperties, Own};
 ghost use Rattle.yaml_block.specs.BlockRules.{least_dash, block_scalar_rest, node_rest, line_rest, value_rest, entry_rest, sequence_with, key_rest, entries_rest, root_rest};
 ghost use Rattle.yaml_block.specs.OuterRules.{Outer, OnLine, Follows, MayBear, Above, column_of};
 ghost use Rattle.yaml_block.specs.BlockEnds.{AfterNode, AfterEntry, AfterSequence, AfterMapping, AfterColon, AfterScalar, SignIs, IsStyleSign, ColonStands, IsNoKey, NoneIn, IsFurther};
@@ -34,14 +36,18 @@ use std::alloc::Global;
 use yaml_flow::flow::{FlowNode, read_bare, read_flow_node};
 use yaml_flow::key::{Fit, key_fit};
 use yaml_flow::line::{Line, has_content, line_at, next_line, skip_comments};
-use yaml_flow::properties::{Properties, dress, read_properties};
-use yaml_flow::push::{block_mapping, block_sequence, push_empty, push_scalar};
+use yaml_flow::properties::{Properties, read_properties};
+use yaml_flow::push::{
+    insert_block_mapping, push_block_sequence, push_empty, push_mapping_end, push_scalar,
+    push_sequence_end,
+};
+use yaml_flow::sink::{Keeper, Sink, Unkept};
 use yaml_mark::handles::Handles;
 use yaml_scalar::block::{read_folded, read_literal};
 use yaml_text::chars::Chars;
 use yaml_text::class::is_ns;
 use yaml_text::context::Ctx;
-use yaml_text::event::{Event, Style};
+use yaml_text::event::Style;
 use yaml_text::fault::Fault;
 use yaml_text::lines::{skip_spaces, unusable};
 use yaml_text::places::{accept, next};
@@ -84,46 +90,48 @@ fn parent(col: usize) -> i32
 }
 
 /// A literal scalar (8.1.2) without its properties, and the line after it.
-fn read_literal_node<'a>(
+#[inline(never)]
+fn read_literal_node<'a, K: Keeper>(
     alloc: Global,
     source: &Chars<'a>,
     at: usize,
     col: usize,
-    out: &mut Vec<Event<'a>>,
+    out: &mut Sink<'a, K>,
 ) -> Result<Line, Fault>
     requires border { IsBorder source.now at }
     requires low { col ≤ at }
     requires sign { slice_get (text_of source.now) (place_of source.now at) ≡ Some 124 }
     ensures line { IfOk result (IsLine source.now) }
     ensures onward { IfOk result (λ line. at ≤ line.start) }
-    ensures reads { Appends (λ _. block_scalar_rest (text_of source.now) no_props col) (place_of source.now at) (λ line. place_of source.now line.start) out.old.items out.new.items result }
+    ensures reads { Appends (λ _. block_scalar_rest (text_of source.now) no_props col) (place_of source.now at) (λ line. place_of source.now line.start) (holds_of K.holds) out.old out.new result }
     ensures after { IfOk result (λ line. AfterLine (text_of source.now) (place_of source.now line.start)) }
     ensures decides { Decides (block_scalar_rest (text_of source.now) no_props col) (AfterScalar (text_of source.now)) (place_of source.now at) Here (λ line. place_of source.now line.start) result }
 {
     let (text, end) = read_literal(alloc, source, at, parent(col), Ctx::BlockIn)?;
-    push_scalar(out, Style::Literal, text)?;
+    push_scalar(out, Style::Literal, text, at)?;
     Ok(line_at(source, end))
 }
 
 /// A folded scalar (8.1.3) without its properties, and the line after it.
-fn read_folded_node<'a>(
+#[inline(never)]
+fn read_folded_node<'a, K: Keeper>(
     alloc: Global,
     source: &Chars<'a>,
     at: usize,
     col: usize,
-    out: &mut Vec<Event<'a>>,
+    out: &mut Sink<'a, K>,
 ) -> Result<Line, Fault>
     requires border { IsBorder source.now at }
     requires low { col ≤ at }
     requires sign { slice_get (text_of source.now) (place_of source.now at) ≡ Some 62 }
     ensures line { IfOk result (IsLine source.now) }
     ensures onward { IfOk result (λ line. at ≤ line.start) }
-    ensures reads { Appends (λ _. block_scalar_rest (text_of source.now) no_props col) (place_of source.now at) (λ line. place_of source.now line.start) out.old.items out.new.items result }
+    ensures reads { Appends (λ _. block_scalar_rest (text_of source.now) no_props col) (place_of source.now at) (λ line. place_of source.now line.start) (holds_of K.holds) out.old out.new result }
     ensures after { IfOk result (λ line. AfterLine (text_of source.now) (place_of source.now line.start)) }
     ensures decides { Decides (block_scalar_rest (text_of source.now) no_props col) (AfterScalar (text_of source.now)) (place_of source.now at) Here (λ line. place_of source.now line.start) result }
 {
     let (text, end) = read_folded(alloc, source, at, parent(col), Ctx::BlockIn)?;
-    push_scalar(out, Style::Folded, text)?;
+    push_scalar(out, Style::Folded, text, at)?;
     Ok(line_at(source, end))
 }
 
@@ -135,20 +143,20 @@ enum Block {
 }
 
 /// A block scalar without its properties, and the line after it.
-fn read_bare_scalar<'a>(
+fn read_bare_scalar<'a, K: Keeper>(
     alloc: Global,
     source: &Chars<'a>,
     at: usize,
     block: Block,
     col: usize,
-    out: &mut Vec<Event<'a>>,
+    out: &mut Sink<'a, K>,
 ) -> Result<Line, Fault>
     requires border { IsBorder source.now at }
     requires low { col ≤ at }
     requires sign { SignIs (text_of source.now) (place_of source.now at) block }
     ensures line { IfOk result (IsLine source.now) }
     ensures onward { IfOk result (λ line. at ≤ line.start) }
-    ensures reads { Appends (λ _. block_scalar_rest (text_of source.now) no_props col) (place_of source.now at) (λ line. place_of source.now line.start) out.old.items out.new.items result }
+    ensures reads { Appends (λ _. block_scalar_rest (text_of source.now) no_props col) (place_of source.now at) (λ line. place_of source.now line.start) (holds_of K.holds) out.old out.new result }
     ensures after { IfOk result (λ line. AfterLine (text_of source.now) (place_of source.now line.start)) }
     ensures decides { Decides (block_scalar_rest (text_of source.now) no_props col) (AfterScalar (text_of source.now)) (place_of source.now at) Here (λ line. place_of source.now line.start) result }
 {
@@ -159,27 +167,28 @@ fn read_bare_scalar<'a>(
 }
 
 /// A block scalar with its properties, and the line after it.
-fn read_block_scalar<'a>(
+fn read_block_scalar<'a, K: Keeper>(
     alloc: Global,
     source: &Chars<'a>,
     at: usize,
     block: Block,
     properties: Properties<'a>,
     col: usize,
-    out: &mut Vec<Event<'a>>,
+    out: &mut Sink<'a, K>,
 ) -> Result<Line, Fault>
     requires border { IsBorder source.now at }
     requires low { col ≤ at }
     requires sign { SignIs (text_of source.now) (place_of source.now at) block }
     ensures line { IfOk result (IsLine source.now) }
     ensures onward { IfOk result (λ line. at ≤ line.start) }
-    ensures reads { Appends (λ _. block_scalar_rest (text_of source.now) (props_of properties.entry) col) (place_of source.now at) (λ line. place_of source.now line.start) out.old.items out.new.items result }
+    ensures reads { Appends (λ _. block_scalar_rest (text_of source.now) (props_of properties.entry) col) (place_of source.now at) (λ line. place_of source.now line.start) (holds_of K.holds) out.old out.new result }
     ensures after { IfOk result (λ line. AfterLine (text_of source.now) (place_of source.now line.start)) }
     ensures decides { Decides (block_scalar_rest (text_of source.now) (props_of properties.entry) col) (AfterScalar (text_of source.now)) (place_of source.now at) Here (λ line. place_of source.now line.start) result }
 {
-    let start = out.len();
+    let start = out.mark();
+    out.announce(&properties);
     let line = read_bare_scalar(alloc, source, at, block, col, out)?;
-    dress(out, start, properties);
+    out.dress(start, properties);
     Ok(line)
 }
 
@@ -324,35 +333,36 @@ fn line_goes_on(source: &Chars<'_>, end: usize, own: &Properties<'_>) -> bool
 
 /// The key of an entry in this column, which has to stand at a border, and the border after its colon. It is read as the first
 /// key of a mapping is, as a node that is a key if a colon follows.
-fn read_entry_key<'a>(
+fn read_entry_key<'a, K: Keeper>(
     alloc: Global,
     source: &Chars<'a>,
     at: usize,
     column: usize,
     room: u32,
     handles: Option<&Handles<'a>>,
-    out: &mut Vec<Event<'a>>,
+    out: &mut Sink<'a, K>,
 ) -> Result<usize, Fault>
     requires border { IsBorder source.now at }
     requires low { column ≤ at }
     ensures border { IfOk result (λ to. IsBorder source.now to) }
     ensures onward { IfOk result (λ to. at < to) }
-    ensures reads { Appends (λ _. key_rest (text_of source.now) (Unit {0}) (handles_of handles.entry) room) (place_of source.now at) (place_of source.now) out.old.items out.new.items result }
+    ensures reads { Appends (λ _. key_rest (text_of source.now) (Unit {0}) (handles_of handles.entry) room) (place_of source.now at) (place_of source.now) (holds_of K.holds) out.old out.new result }
     ensures decides { Decides (key_rest (text_of source.now) (Unit {0}) (handles_of handles.entry) room) (AfterColon (text_of source.now)) (place_of source.now at) Here (place_of source.now) result }
 {
-    let begin = out.len();
+    let begin = out.mark();
     let (own, end) = read_properties(alloc, source, at, 0, Ctx::BlockKey, handles)?;
     if !line_goes_on(source, end, &own) {
         return Err(unusable(source, end));
     }
     let context = Ctx::FlowOut;
+    out.announce(&own);
     let key = read_bare(
         alloc, source, at, end, &own, column, context, room, handles, out,
     )?;
     match first_colon(source, at, key.end, Some(column))? {
         None => Err(unusable(source, key.end)),
         Some(colon) => {
-            dress(out, begin, own);
+            out.dress(begin, own);
             Ok(colon.1)
         }
     }
@@ -369,7 +379,7 @@ fn key_fault<'a>(
     requires { IsBorder source.now at }
     ensures { IsRefusal result }
 {
-    let mut events = Vec::new(alloc);
+    let mut events: Sink<'_, Unkept> = Sink::Listed(Vec::new(alloc));
     let context = Ctx::BlockKey;
     match read_flow_node(alloc, source, at, 0, context, room, handles, &mut events) {
         Err(fault) => fault,
@@ -387,20 +397,20 @@ fn key_fault<'a>(
 }
 
 /// A key in this column that has to stand at a border, and the border after its colon.
-fn read_key<'a>(
+fn read_key<'a, K: Keeper>(
     alloc: Global,
     source: &Chars<'a>,
     at: usize,
     column: usize,
     room: u32,
     handles: Option<&Handles<'a>>,
-    out: &mut Vec<Event<'a>>,
+    out: &mut Sink<'a, K>,
 ) -> Result<usize, Fault>
     requires border { IsBorder source.now at }
     requires low { column ≤ at }
     ensures border { IfOk result (λ to. IsBorder source.now to) }
     ensures onward { IfOk result (λ to. at < to) }
-    ensures reads { Appends (λ _. key_rest (text_of source.now) (Unit {0}) (handles_of handles.entry) room) (place_of source.now at) (place_of source.now) out.old.items out.new.items result }
+    ensures reads { Appends (λ _. key_rest (text_of source.now) (Unit {0}) (handles_of handles.entry) room) (place_of source.now at) (place_of source.now) (holds_of K.holds) out.old out.new result }
     ensures decides { Decides (key_rest (text_of source.now) (Unit {0}) (handles_of handles.entry) room) (AfterColon (text_of source.now)) (place_of source.now at) Here (place_of source.now) result }
 {
     match read_entry_key(alloc, source, at, column, room, handles, out) {
@@ -412,7 +422,7 @@ fn read_key<'a>(
 
 /// The first key of a mapping, which was read with as much room as the mapping itself has: read again where that was too much.
 /// Its events begin at `start`.
-fn fit_key<'a>(
+fn fit_key<'a, K: Keeper>(
     alloc: Global,
     source: &Chars<'a>,
     at: usize,
@@ -423,7 +433,7 @@ fn fit_key<'a>(
     start: usize,
     room: u32,
     handles: Option<&Handles<'a>>,
-    out: &mut Vec<Event<'a>>,
+    out: &mut Sink<'a, K>,
 ) -> Result<(), Fault>
     requires border { IsBorder source.now at }
     requires end { IsBorder source.now end }
@@ -434,7 +444,7 @@ fn fit_key<'a>(
     requires goes_on { LineGoesOn (text_of source.now) (place_of source.now end) (props_of own.now) }
     requires low { col ≤ at }
     requires key { IsOnly (text_of source.now) (handles_of handles) room col flow_out (place_of source.now at) key.kind (place_of source.now key.end) }
-    ensures reads { IfOk result (λ _. FitsAgain (text_of source.now) (handles_of handles.entry) col (props_of own.now) (place_of source.now end) (place_of source.now at) (place_of source.now key.end) key.deep key.kind room start out.old.items out.new.items) }
+    ensures reads { IfOk result (λ _. FitsAgain (text_of source.now) (handles_of handles.entry) col (props_of own.now) (place_of source.now end) (place_of source.now at) (place_of source.now key.end) key.deep key.kind room (holds_of K.holds) start out.old out.new) }
     ensures err { IfErr result IsRefusal }
     ensures decides { IfErr result (λ e. (e ≡ OutOfMemory) ⊎ NoneBelow (text_of source.now) (handles_of handles.entry) room col (place_of source.now at)) }
 {
@@ -444,7 +454,8 @@ fn fit_key<'a>(
     if room == 0 {
         return Err(Fault::TooDeep(source.pos(at)));
     }
-    out.truncate(start);
+    out.cut(start);
+    out.announce(own);
     let context = Ctx::FlowOut;
     let again = read_bare(
         alloc,
@@ -465,26 +476,32 @@ fn fit_key<'a>(
     }
 }
 
-/// The empty scalar with these properties.
-fn push_lone<'a>(properties: Properties<'a>, out: &mut Vec<Event<'a>>) -> Result<(), Fault>
-    ensures ok { IfOk result (λ _. Adds out.old.items (empty (props_of properties.entry)) out.new.items) }
+/// The empty scalar with these properties, at this offset.
+#[inline(never)]
+fn push_lone<'a, K: Keeper>(
+    properties: Properties<'a>,
+    at: usize,
+    out: &mut Sink<'a, K>,
+) -> Result<(), Fault>
+    ensures ok { IfOk result (λ _. Puts (holds_of K.holds) out.old (empty (props_of properties.entry)) out.new) }
     ensures err { IfErr result (λ e. e ≡ OutOfMemory) }
 {
-    let start = out.len();
-    push_empty(out)?;
-    dress(out, start, properties);
+    let start = out.mark();
+    out.announce(&properties);
+    push_empty(out, at)?;
+    out.dress(start, properties);
     Ok(())
 }
 
 /// Puts the outer and own properties on a node that is no key, whose events begin at `start`, and answers the line after it.
-fn finish_node<'a>(
+fn finish_node<'a, K: Keeper>(
     source: &Chars<'a>,
     at: usize,
     node: FlowNode,
     own: Properties<'a>,
     outer: Properties<'a>,
     start: usize,
-    out: &mut Vec<Event<'a>>,
+    out: &mut Sink<'a, K>,
 ) -> Result<Line, Fault>
     requires at { IsBorder source.now at }
     requires end { IsBorder source.now node.end }
@@ -494,7 +511,7 @@ fn finish_node<'a>(
     ensures after { IfOk result (λ line. AfterLine (text_of source.now) (place_of source.now line.start)) }
     ensures apart { IfOk result (λ _. Disjoint (props_of outer.entry) (props_of own.entry)) }
     ensures bears { IfOk result (λ _. MayBear (text_of source.now) (place_of source.now at) (props_of outer.entry)) }
-    ensures dressed { IfOk result (λ _. Dresses (both_props (props_of outer.entry) (props_of own.entry)) start out.old.items out.new.items) }
+    ensures dressed { IfOk result (λ _. Alters (holds_of K.holds) start (dressed (both_props (props_of outer.entry) (props_of own.entry))) out.old out.new) }
     ensures err { IfErr result IsRefusal }
     ensures unfit { IfErr result (λ _. ((j : ℕ) → s_l_comments (text_of source.now) (place_of source.now node.end) j → ⊥) ⊎ (Disjoint (props_of outer.entry) (props_of own.entry) → ⊥) ⊎ (MayBear (text_of source.now) (place_of source.now at) (props_of outer.entry) → ⊥)) }
 {
@@ -505,7 +522,7 @@ fn finish_node<'a>(
     if !may_bear(source, at, &outer) {
         return Err(unusable(source, node.end));
     }
-    dress(out, start, outer.and(own));
+    out.dress(start, outer.and(own));
     Ok(line)
 }
 
@@ -526,7 +543,7 @@ fn may_bear(source: &Chars<'_>, at: usize, outer: &Properties<'_>) -> bool
 
 /// The value after a key's colon, or a document's node after its mark: on the line of the sign, on later lines, or none.
 #[cycle(blocks)]
-pub(crate) fn read_value<'a>(
+pub(crate) fn read_value<'a, K: Keeper>(
     alloc: Global,
     source: &Chars<'a>,
     at: usize,
@@ -534,7 +551,7 @@ pub(crate) fn read_value<'a>(
     context: Ctx,
     room: u32,
     handles: Option<&Handles<'a>>,
-    out: &mut Vec<Event<'a>>,
+    out: &mut Sink<'a, K>,
 ) -> Result<Line, Fault>
     requires border { IsBorder source.now at }
     requires low { col ≤ at }
@@ -542,7 +559,7 @@ pub(crate) fn read_value<'a>(
     requires inside { Inside (text_of source.now) (place_of source.now at) ⊎ (col ≡ 0) }
     ensures line { IfOk result (IsLine source.now) }
     ensures onward { IfOk result (λ line. at ≤ line.start) }
-    ensures reads { Appends (λ _. value_rest (text_of source.now) (Unit {0}) (handles_of handles.entry) room col (context_of context)) (place_of source.now at) (λ line. place_of source.now line.start) out.old.items out.new.items result }
+    ensures reads { Appends (λ _. value_rest (text_of source.now) (Unit {0}) (handles_of handles.entry) room col (context_of context)) (place_of source.now at) (λ line. place_of source.now line.start) (holds_of K.holds) out.old out.new result }
     ensures after { IfOk result (λ line. AfterLine (text_of source.now) (place_of source.now line.start)) }
     ensures decides { Decides (value_rest (text_of source.now) (Unit {0}) (handles_of handles.entry) room col (context_of context)) (AfterNode (text_of source.now) col (context_of context)) (place_of source.now at) Here (λ line. place_of source.now line.start) result }
 {
@@ -566,21 +583,21 @@ pub(crate) fn read_value<'a>(
 
 /// What stands after a sequence entry's dash in this column (`s-l+block-indented`, 8.2.1).
 #[cycle(blocks)]
-fn read_indented<'a>(
+fn read_indented<'a, K: Keeper>(
     alloc: Global,
     source: &Chars<'a>,
     at: usize,
     column: usize,
     room: u32,
     handles: Option<&Handles<'a>>,
-    out: &mut Vec<Event<'a>>,
+    out: &mut Sink<'a, K>,
 ) -> Result<Line, Fault>
     requires border { IsBorder source.now at }
     requires low { column < at }
     requires inside { Inside (text_of source.now) (place_of source.now at) }
     ensures line { IfOk result (IsLine source.now) }
     ensures onward { IfOk result (λ line. at ≤ line.start) }
-    ensures reads { Appends (λ _. entry_rest (text_of source.now) (Unit {0}) (handles_of handles.entry) room column) (place_of source.now at) (λ line. place_of source.now line.start) out.old.items out.new.items result }
+    ensures reads { Appends (λ _. entry_rest (text_of source.now) (Unit {0}) (handles_of handles.entry) room column) (place_of source.now at) (λ line. place_of source.now line.start) (holds_of K.holds) out.old out.new result }
     ensures after { IfOk result (λ line. AfterLine (text_of source.now) (place_of source.now line.start)) }
     ensures decides { Decides (entry_rest (text_of source.now) (Unit {0}) (handles_of handles.entry) room column) (AfterEntry (text_of source.now) column) (place_of source.now at) Here (λ line. place_of source.now line.start) result }
 {
@@ -626,7 +643,7 @@ fn read_indented<'a>(
 
 /// A node on a line below its parent, or none where the line is not indented enough.
 #[cycle(blocks)]
-pub(crate) fn read_below<'a>(
+pub(crate) fn read_below<'a, K: Keeper>(
     alloc: Global,
     source: &Chars<'a>,
     line: Line,
@@ -634,7 +651,7 @@ pub(crate) fn read_below<'a>(
     context: Ctx,
     room: u32,
     handles: Option<&Handles<'a>>,
-    out: &mut Vec<Event<'a>>,
+    out: &mut Sink<'a, K>,
 ) -> Result<Line, Fault>
     requires line { IsLine source.now line }
     requires low { col ≤ line.start }
@@ -642,12 +659,12 @@ pub(crate) fn read_below<'a>(
     requires after { AfterLine (text_of source.now) (place_of source.now line.start) }
     ensures line { IfOk result (IsLine source.now) }
     ensures onward { IfOk result (λ next. line.start ≤ next.start) }
-    ensures reads { Appends (λ _. line_rest (text_of source.now) (Unit {0}) (handles_of handles.entry) room col (context_of context)) (place_of source.now line.start) (λ line. place_of source.now line.start) out.old.items out.new.items result }
+    ensures reads { Appends (λ _. line_rest (text_of source.now) (Unit {0}) (handles_of handles.entry) room col (context_of context)) (place_of source.now line.start) (λ line. place_of source.now line.start) (holds_of K.holds) out.old out.new result }
     ensures after { IfOk result (λ line. AfterLine (text_of source.now) (place_of source.now line.start)) }
     ensures decides { Decides (line_rest (text_of source.now) (Unit {0}) (handles_of handles.entry) room col (context_of context)) (AfterNode (text_of source.now) col (context_of context)) (place_of source.now line.start) Here (λ line. place_of source.now line.start) result }
 {
     if !has_content(source, line) {
-        push_empty(out)?;
+        push_empty(out, line.start)?;
         return Ok(line);
     }
     let first = line.first;
@@ -655,7 +672,7 @@ pub(crate) fn read_below<'a>(
     match dash(source, first) {
         Some(after) => {
             if line.column < sequence_column(col, context) {
-                push_empty(out)?;
+                push_empty(out, line.start)?;
                 return Ok(line);
             }
             read_sequence(
@@ -672,7 +689,7 @@ pub(crate) fn read_below<'a>(
         }
         None => {
             if line.column < col {
-                push_empty(out)?;
+                push_empty(out, line.start)?;
                 return Ok(line);
             }
             let column = Some(line.column);
@@ -685,7 +702,7 @@ pub(crate) fn read_below<'a>(
 
 /// A node on a line below its properties, which stand from `from` to `end`, or none where the line is not indented enough.
 #[cycle(blocks)]
-fn read_under<'a>(
+fn read_under<'a, K: Keeper>(
     alloc: Global,
     source: &Chars<'a>,
     line: Line,
@@ -696,7 +713,7 @@ fn read_under<'a>(
     context: Ctx,
     room: u32,
     handles: Option<&Handles<'a>>,
-    out: &mut Vec<Event<'a>>,
+    out: &mut Sink<'a, K>,
 ) -> Result<Line, Fault>
     requires line { IsLine source.now line }
     requires border { IsBorder source.now from }
@@ -709,19 +726,19 @@ fn read_under<'a>(
     requires above { Above (text_of source.now) (handles_of handles) col (place_of source.now from) (place_of source.now end) (props_of outer) }
     ensures line { IfOk result (IsLine source.now) }
     ensures onward { IfOk result (λ next. from ≤ next.start) }
-    ensures reads { Appends (λ _. node_rest (text_of source.now) (Unit {0}) (handles_of handles.entry) room col (context_of context) None) (place_of source.now from) (λ line. place_of source.now line.start) out.old.items out.new.items result }
+    ensures reads { Appends (λ _. node_rest (text_of source.now) (Unit {0}) (handles_of handles.entry) room col (context_of context) None) (place_of source.now from) (λ line. place_of source.now line.start) (holds_of K.holds) out.old out.new result }
     ensures after { IfOk result (λ line. AfterLine (text_of source.now) (place_of source.now line.start)) }
     ensures decides { Decides (node_rest (text_of source.now) (Unit {0}) (handles_of handles.entry) room col (context_of context) None) (AfterNode (text_of source.now) col (context_of context)) (place_of source.now from) Here (λ line. place_of source.now line.start) result }
 {
     if !has_content(source, line) {
-        push_lone(outer, out)?;
+        push_lone(outer, end, out)?;
         return Ok(line);
     }
     let first = line.first;
     match dash(source, first) {
         Some(after) => {
             if line.column < sequence_column(col, context) {
-                push_lone(outer, out)?;
+                push_lone(outer, end, out)?;
                 return Ok(line);
             }
             read_sequence(
@@ -738,7 +755,7 @@ fn read_under<'a>(
         }
         None => {
             if line.column < col {
-                push_lone(outer, out)?;
+                push_lone(outer, end, out)?;
                 return Ok(line);
             }
             let column = Some(line.column);
@@ -751,7 +768,7 @@ fn read_under<'a>(
 
 /// A block sequence in this column with its properties, from its first dash on (8.2.1).
 #[cycle(blocks)]
-fn read_sequence<'a>(
+fn read_sequence<'a, K: Keeper>(
     alloc: Global,
     source: &Chars<'a>,
     at: usize,
@@ -760,25 +777,25 @@ fn read_sequence<'a>(
     properties: Properties<'a>,
     room: u32,
     handles: Option<&Handles<'a>>,
-    out: &mut Vec<Event<'a>>,
+    out: &mut Sink<'a, K>,
 ) -> Result<Line, Fault>
     requires dash { IsDash source.now at after }
     requires low { column ≤ at }
     ensures line { IfOk result (IsLine source.now) }
     ensures onward { IfOk result (λ line. at ≤ line.start) }
-    ensures reads { Appends (λ _. sequence_with (text_of source.now) (Unit {0}) (handles_of handles.entry) (props_of properties.entry) room column) (place_of source.now at) (λ line. place_of source.now line.start) out.old.items out.new.items result }
+    ensures reads { Appends (λ _. sequence_with (text_of source.now) (Unit {0}) (handles_of handles.entry) (props_of properties.entry) room column) (place_of source.now at) (λ line. place_of source.now line.start) (holds_of K.holds) out.old out.new result }
     ensures after { IfOk result (λ line. AfterLine (text_of source.now) (place_of source.now line.start)) }
     ensures decides { Decides (sequence_with (text_of source.now) (Unit {0}) (handles_of handles.entry) (props_of properties.entry) room column) (AfterSequence (text_of source.now) column) (place_of source.now at) Here (λ line. place_of source.now line.start) result }
 {
     if room == 0 {
         return Err(Fault::TooDeep(source.pos(at)));
     }
-    out.push(block_sequence(properties))?;
+    push_block_sequence(out, properties, at)?;
     let mut line = read_indented(alloc, source, after, column, room - 1, handles, out)?;
     'entries: loop {
         match next_dash(source, line, column)? {
             None => {
-                out.push(Event::SequenceEnd)?;
+                push_sequence_end(out, line.start)?;
                 return Ok(line);
             }
             Some(after) => {
@@ -791,7 +808,7 @@ fn read_sequence<'a>(
 /// A node whose first character stands at `at`, with the outer properties that begin at `from`. A mapping may stand in this
 /// column, if in any.
 #[cycle(blocks)]
-fn read_node<'a>(
+fn read_node<'a, K: Keeper>(
     alloc: Global,
     source: &Chars<'a>,
     at: usize,
@@ -802,7 +819,7 @@ fn read_node<'a>(
     column: Option<usize>,
     room: u32,
     handles: Option<&Handles<'a>>,
-    out: &mut Vec<Event<'a>>,
+    out: &mut Sink<'a, K>,
 ) -> Result<Line, Fault>
     requires border { IsBorder source.now at }
     requires start { IsBorder source.now from }
@@ -814,7 +831,7 @@ fn read_node<'a>(
     requires outer { Outer (text_of source.now) (handles_of handles) col column (place_of source.now from) (place_of source.now at) (props_of outer) }
     ensures line { IfOk result (IsLine source.now) }
     ensures onward { IfOk result (λ line. from ≤ line.start) }
-    ensures reads { Appends (λ _. node_rest (text_of source.now) (Unit {0}) (handles_of handles.entry) room col (context_of context) (column_of (props_of outer.entry) column)) (place_of source.now from) (λ line. place_of source.now line.start) out.old.items out.new.items result }
+    ensures reads { Appends (λ _. node_rest (text_of source.now) (Unit {0}) (handles_of handles.entry) room col (context_of context) (column_of (props_of outer.entry) column)) (place_of source.now from) (λ line. place_of source.now line.start) (holds_of K.holds) out.old out.new result }
     ensures after { IfOk result (λ line. AfterLine (text_of source.now) (place_of source.now line.start)) }
     ensures decides { Decides (node_rest (text_of source.now) (Unit {0}) (handles_of handles.entry) room col (context_of context) (column_of (props_of outer.entry) column)) (AfterNode (text_of source.now) col (context_of context)) (place_of source.now from) Here (λ line. place_of source.now line.start) result }
 {
@@ -844,7 +861,7 @@ fn read_node<'a>(
 /// The same after the node's own properties, which stand from `at` to `end` and after which the line goes on: a block scalar,
 /// a flow node, or a mapping whose first key it is.
 #[cycle(blocks)]
-fn read_dressed<'a>(
+fn read_dressed<'a, K: Keeper>(
     alloc: Global,
     source: &Chars<'a>,
     at: usize,
@@ -857,7 +874,7 @@ fn read_dressed<'a>(
     column: Option<usize>,
     room: u32,
     handles: Option<&Handles<'a>>,
-    out: &mut Vec<Event<'a>>,
+    out: &mut Sink<'a, K>,
 ) -> Result<Line, Fault>
     requires border { IsBorder source.now at }
     requires end { IsBorder source.now end }
@@ -874,7 +891,7 @@ fn read_dressed<'a>(
     requires goes_on { LineGoesOn (text_of source.now) (place_of source.now end) (props_of own) }
     ensures line { IfOk result (IsLine source.now) }
     ensures onward { IfOk result (λ line. from ≤ line.start) }
-    ensures reads { Appends (λ _. node_rest (text_of source.now) (Unit {0}) (handles_of handles.entry) room col (context_of context) (column_of (props_of outer.entry) column)) (place_of source.now from) (λ line. place_of source.now line.start) out.old.items out.new.items result }
+    ensures reads { Appends (λ _. node_rest (text_of source.now) (Unit {0}) (handles_of handles.entry) room col (context_of context) (column_of (props_of outer.entry) column)) (place_of source.now from) (λ line. place_of source.now line.start) (holds_of K.holds) out.old out.new result }
     ensures after { IfOk result (λ line. AfterLine (text_of source.now) (place_of source.now line.start)) }
     ensures decides { Decides (node_rest (text_of source.now) (Unit {0}) (handles_of handles.entry) room col (context_of context) (column_of (props_of outer.entry) column)) (AfterNode (text_of source.now) col (context_of context)) (place_of source.now from) Here (λ line. place_of source.now line.start) result }
 {
@@ -895,7 +912,7 @@ fn read_dressed<'a>(
 
 /// A flow node, or a mapping in this column, if in any, whose first key it is.
 #[cycle(blocks)]
-fn read_keyed<'a>(
+fn read_keyed<'a, K: Keeper>(
     alloc: Global,
     source: &Chars<'a>,
     at: usize,
@@ -908,7 +925,7 @@ fn read_keyed<'a>(
     column: Option<usize>,
     room: u32,
     handles: Option<&Handles<'a>>,
-    out: &mut Vec<Event<'a>>,
+    out: &mut Sink<'a, K>,
 ) -> Result<Line, Fault>
     requires border { IsBorder source.now at }
     requires end { IsBorder source.now end }
@@ -926,11 +943,12 @@ fn read_keyed<'a>(
     requires no_scalar { (n : ℕ) → Follows (text_of source.now) (place_of source.now at) (place_of source.now end) n (props_of own) → IsStyleSign (text_of source.now) n → ⊥ }
     ensures line { IfOk result (IsLine source.now) }
     ensures onward { IfOk result (λ line. from ≤ line.start) }
-    ensures reads { Appends (λ _. node_rest (text_of source.now) (Unit {0}) (handles_of handles.entry) room col (context_of context) (column_of (props_of outer.entry) column)) (place_of source.now from) (λ line. place_of source.now line.start) out.old.items out.new.items result }
+    ensures reads { Appends (λ _. node_rest (text_of source.now) (Unit {0}) (handles_of handles.entry) room col (context_of context) (column_of (props_of outer.entry) column)) (place_of source.now from) (λ line. place_of source.now line.start) (holds_of K.holds) out.old out.new result }
     ensures after { IfOk result (λ line. AfterLine (text_of source.now) (place_of source.now line.start)) }
     ensures decides { Decides (node_rest (text_of source.now) (Unit {0}) (handles_of handles.entry) room col (context_of context) (column_of (props_of outer.entry) column)) (AfterNode (text_of source.now) col (context_of context)) (place_of source.now from) Here (λ line. place_of source.now line.start) result }
 {
-    let start = out.len();
+    let start = out.mark();
+    out.announce(&own);
     let node = read_bare(
         alloc,
         source,
@@ -952,10 +970,10 @@ fn read_keyed<'a>(
             fit_key(
                 alloc, source, at, end, &own, col, node, start, room, handles, out,
             )?;
-            dress(out, start, own);
-            out.insert(start, block_mapping(outer))?;
+            out.dress(start, own);
+            insert_block_mapping(out, start, outer, at)?;
             let line = read_entries(alloc, source, after, column, room - 1, handles, out)?;
-            out.push(Event::MappingEnd)?;
+            push_mapping_end(out, line.start)?;
             Ok(line)
         }
     }
@@ -963,21 +981,21 @@ fn read_keyed<'a>(
 
 /// The entries of a block mapping in this column, from its first key's colon on (8.2.2).
 #[cycle(blocks)]
-fn read_entries<'a>(
+fn read_entries<'a, K: Keeper>(
     alloc: Global,
     source: &Chars<'a>,
     after: usize,
     column: usize,
     room: u32,
     handles: Option<&Handles<'a>>,
-    out: &mut Vec<Event<'a>>,
+    out: &mut Sink<'a, K>,
 ) -> Result<Line, Fault>
     requires border { IsBorder source.now after }
     requires low { column < after }
     requires inside { Inside (text_of source.now) (place_of source.now after) }
     ensures line { IfOk result (IsLine source.now) }
     ensures onward { IfOk result (λ line. after ≤ line.start) }
-    ensures reads { Appends (λ _. entries_rest (text_of source.now) (Unit {0}) (handles_of handles.entry) room column) (place_of source.now after) (λ line. place_of source.now line.start) out.old.items out.new.items result }
+    ensures reads { Appends (λ _. entries_rest (text_of source.now) (Unit {0}) (handles_of handles.entry) room column) (place_of source.now after) (λ line. place_of source.now line.start) (holds_of K.holds) out.old out.new result }
     ensures after { IfOk result (λ line. AfterLine (text_of source.now) (place_of source.now line.start)) }
     ensures decides { Decides (entries_rest (text_of source.now) (Unit {0}) (handles_of handles.entry) room column) (AfterMapping (text_of source.now) column) (place_of source.now after) Here (λ line. place_of source.now line.start) result }
 {
@@ -1010,19 +1028,19 @@ fn read_entries<'a>(
 }
 
 /// A document's node on the line where it begins, with content on it.
-pub(crate) fn read_root<'a>(
+pub(crate) fn read_root<'a, K: Keeper>(
     alloc: Global,
     source: &Chars<'a>,
     line: Line,
     room: u32,
     handles: Option<&Handles<'a>>,
-    out: &mut Vec<Event<'a>>,
+    out: &mut Sink<'a, K>,
 ) -> Result<Line, Fault>
     requires line { IsLine source.now line }
     requires start { StartsLine (text_of source.now) (place_of source.now line.start) }
     ensures line { IfOk result (IsLine source.now) }
     ensures onward { IfOk result (λ next. line.start ≤ next.start) }
-    ensures reads { Appends (λ _. root_rest (text_of source.now) (Unit {0}) (handles_of handles.entry) room line.column) (place_of source.now line.start) (λ line. place_of source.now line.start) out.old.items out.new.items result }
+    ensures reads { Appends (λ _. root_rest (text_of source.now) (Unit {0}) (handles_of handles.entry) room line.column) (place_of source.now line.start) (λ line. place_of source.now line.start) (holds_of K.holds) out.old out.new result }
     ensures after { IfOk result (λ line. AfterLine (text_of source.now) (place_of source.now line.start)) }
     ensures decides { Decides (root_rest (text_of source.now) (Unit {0}) (handles_of handles.entry) room line.column) (AfterNode (text_of source.now) 0 block_in) (place_of source.now line.start) Here (λ line. place_of source.now line.start) result }
 {

@@ -1,8 +1,8 @@
 //! The functions that are exported.
 ghost use Rattle.std.specs.Prelude.{◌≡◌, ◌≤◌, ◌⊎◌, List, true, false};
-ghost use Rattle.yaml_text.specs.Tree.{Tree};
-ghost use Rattle.yaml_text.specs.Proper.{Admitted};
-ghost use Rattle.yaml_text.specs.Means.{Means};
+ghost use Rattle.yaml_definitions.specs.model.Tree.{Tree};
+ghost use Rattle.yaml_definitions.specs.model.Proper.{Admitted};
+ghost use Rattle.yaml_definitions.specs.model.Means.{Means};
 ghost use Rattle.yaml_c.specs.Answers.{GivesCanonical, ShortCanonical, RefusesCanonical, OnlyMemory};
 ghost use Rattle.yaml_c.specs.Answers.{GivesEvents, ShortEvents, RefusesEvents, Answers, RefusesSame};
 

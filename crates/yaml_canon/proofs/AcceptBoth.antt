@@ -3,14 +3,14 @@ use Rattle.std.proofs.Common.{◌≡◌, ℕ, Bool, true, List, length, sym, ◌
 use Rattle.std.specs.Prelude.{◌↔◌, Result, Ok, Err, IfOk, IfErr, MatchResult}
 use Rattle.std.specs.Result.{IsErrAnd}
 use Rattle.std.proofs.lemmas.Result.{err_from_is_err_and}
-use Rattle.yaml_text.specs.Tree.{Tree}
-use Rattle.yaml_text.specs.Same.{Keyed, Alike}
-use Rattle.yaml_text.specs.Proper.{Admitted}
-use Rattle.yaml_text.specs.Means.{Means}
-use Rattle.yaml_text.specs.Serial.{Document}
+use Rattle.yaml_definitions.specs.model.Tree.{Tree}
+use Rattle.yaml_definitions.specs.model.Same.{Keyed, Alike}
+use Rattle.yaml_definitions.specs.model.Proper.{Admitted}
+use Rattle.yaml_definitions.specs.model.Means.{Means}
+use Rattle.yaml_definitions.specs.model.Serial.{Document}
 use Rattle.yaml_text.specs.declared.fault.Fault.{Fault}
 use Rattle.yaml_text.specs.declared.fault.Fault.TheVariants as faults
-use Rattle.yaml_text.proofs.Law.{texts_tell}
+use Rattle.yaml_definitions.proofs.Law.{texts_tell}
 use Rattle.yaml_graph.specs.GraphView.{nodes_of, graph_trees}
 use Rattle.yaml_rank.specs.RanksView.{RefusesGraph}
 use Rattle.yaml_rank.proofs.Standing.{keyed-none}

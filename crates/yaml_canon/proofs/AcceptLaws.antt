@@ -4,25 +4,25 @@ use Rattle.std.specs.Prelude.{Result, Ok, Err, Some, IfOk, IfErr, MatchResult}
 use Rattle.std.specs.List.{slice_get}
 use Rattle.std.specs.Result.{IsErrAnd}
 use Rattle.std.proofs.lemmas.Result.{err_from_is_err_and}
-use Rattle.yaml_text.specs.Limits.{text_limit, height_limit}
-use Rattle.yaml_text.specs.Tree.{Tree, Trees, Pairs, scalar, sequence, mapping, end, item, done, entry, height}
-use Rattle.yaml_text.specs.Same.{Keyed, keyed, keyed_trees, keyed_pairs}
-use Rattle.yaml_text.specs.Spell.{spell_bytes}
-use Rattle.yaml_text.specs.Proper.{AreAdmitted, Admitted}
-use Rattle.yaml_text.specs.Text.{RefusesText}
-use Rattle.yaml_text.specs.Unfold.{trees_of}
-use Rattle.yaml_text.specs.Core.{Cause}
-use Rattle.yaml_text.specs.Means.{Means}
-use Rattle.yaml_text.specs.Serial.{SerialNode, SerialNodes, SerialPairs, alias_at, scalar_at, sequence_at, mapping_at, end_serial, item_serial, done_serial, entry_serial, Document}
-use Rattle.yaml_text.specs.grammar.Reading.{Reads}
+use Rattle.yaml_definitions.specs.model.Limits.{text_limit, height_limit}
+use Rattle.yaml_definitions.specs.model.Tree.{Tree, Trees, Pairs, scalar, sequence, mapping, end, item, done, entry, height}
+use Rattle.yaml_definitions.specs.model.Same.{Keyed, keyed, keyed_trees, keyed_pairs}
+use Rattle.yaml_definitions.specs.canonical.Spell.{spell_bytes}
+use Rattle.yaml_definitions.specs.model.Proper.{AreAdmitted, Admitted}
+use Rattle.yaml_text.specs.Refused.{RefusesText}
+use Rattle.yaml_definitions.specs.model.Unfold.{trees_of}
+use Rattle.yaml_definitions.specs.model.Core.{Cause}
+use Rattle.yaml_definitions.specs.model.Means.{Means}
+use Rattle.yaml_definitions.specs.model.Serial.{SerialNode, SerialNodes, SerialPairs, alias_at, scalar_at, sequence_at, mapping_at, end_serial, item_serial, done_serial, entry_serial, Document}
+use Rattle.yaml_definitions.specs.grammar.Reading.{Reads}
 use Rattle.yaml_text.specs.declared.fault.Fault.{Fault}
 use Rattle.yaml_text.specs.declared.fault.Fault.TheVariants as faults
 use Rattle.yaml_text.proofs.RefusedText.{refused_is_no_text}
-use Rattle.yaml_text.proofs.SameLaws.{keyed_parts}
-use Rattle.yaml_text.proofs.FlatLaws.{stream_once}
-use Rattle.yaml_unique.proofs.Documents.{one_reading}
-use Rattle.yaml_spelled.specs.Spellings.{MeansLike}
-use Rattle.yaml_spelled.proofs.Meanings.{spellings_mean, blocks_mean}
+use Rattle.yaml_definitions.proofs.SameLaws.{keyed_parts}
+use Rattle.yaml_definitions.proofs.FlatLaws.{stream_once}
+use Rattle.law_one_reading.proofs.Documents.{one_reading}
+use Rattle.law_read_back.specs.Spellings.{MeansLike}
+use Rattle.law_read_back.proofs.Meanings.{spellings_mean, blocks_mean}
 use Rattle.yaml_graph.specs.GraphModel.{tree_at}
 use Rattle.yaml_graph.specs.GraphView.{graph_trees}
 use Rattle.yaml_graph.specs.Closing.{trees_inside, trees_inside_all, trees_inside_pairs, stream_trees}

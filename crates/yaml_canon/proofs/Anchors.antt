@@ -3,14 +3,14 @@ use Rattle.std.proofs.Common.{◌≡◌, Bool, true, false, not, cond, ◌&&◌,
 use Rattle.std.proofs.lemmas.List.{append_assoc, append-nil}
 use Rattle.std.proofs.lemmas.List.Elements.{filter-append}
 use Rattle.std.specs.List.{filter, list_any}
-use Rattle.yaml_text.specs.Tree.{Tree, Trees, Pairs, scalar, sequence, mapping, end, item, done, entry}
-use Rattle.yaml_text.specs.Same.{same}
-use Rattle.yaml_text.specs.Walk.{Place, first, again, firsts, agains, is_again, walk, walk_trees, walk_pairs}
-use Rattle.yaml_text.specs.Spell.{short}
-use Rattle.yaml_text.proofs.Members.{and_both}
-use Rattle.yaml_text.proofs.UnfoldLaws.{firsts-append, agains-append}
+use Rattle.yaml_definitions.specs.model.Tree.{Tree, Trees, Pairs, scalar, sequence, mapping, end, item, done, entry}
+use Rattle.yaml_definitions.specs.model.Same.{same}
+use Rattle.yaml_definitions.specs.canonical.Walk.{Place, first, again, firsts, agains, is_again, walk, walk_trees, walk_pairs}
+use Rattle.yaml_definitions.specs.canonical.Spell.{short}
+use Rattle.yaml_definitions.proofs.Members.{and_both}
+use Rattle.yaml_definitions.proofs.UnfoldLaws.{firsts-append, agains-append}
 use Rattle.yaml_canon.specs.Anchored.{has}
-use Rattle.yaml_text.proofs.Equivalence.{same_refl, same_like, short_like}
+use Rattle.yaml_definitions.proofs.Equivalence.{same_refl, same_like, short_like}
 use Rattle.yaml_canon.specs.Repeats.{repeats_one, noticed, kept, kept_all, kept_pairs, repeats, repeats_all, repeats_pairs}
 
 -- ---- lists of trees

@@ -3,33 +3,34 @@ use Rattle.std.proofs.Common.{◌≡◌, ℕ, suc, ◌+◌, ◌*◌, ◌<◌, �
 use Rattle.std.specs.Prelude.{Result, Ok, Err, None, IfOk, IfErr, MatchResult}
 use Rattle.std.specs.List.{All}
 use Rattle.std.proofs.lemmas.List.{append-nil}
-use Rattle.yaml_text.specs.Event.{Event}
-use Rattle.yaml_text.specs.Limits.{text_limit, height_limit, open_limit}
-use Rattle.yaml_text.specs.Tree.{Tree, height}
-use Rattle.yaml_text.specs.Same.{Keyed}
-use Rattle.yaml_text.specs.Spell.{spell_bytes}
-use Rattle.yaml_text.specs.Proper.{AreAdmitted, Admitted}
-use Rattle.yaml_text.specs.Sound.{AllProper}
-use Rattle.yaml_text.specs.Means.{Means}
-use Rattle.yaml_text.specs.Serial.{Document, stream_events}
+use Rattle.yaml_definitions.specs.model.Event.{Event}
+use Rattle.yaml_definitions.specs.model.Limits.{text_limit, height_limit, open_limit}
+use Rattle.yaml_definitions.specs.model.Tree.{Tree, height}
+use Rattle.yaml_definitions.specs.model.Same.{Keyed}
+use Rattle.yaml_definitions.specs.canonical.Spell.{spell_bytes}
+use Rattle.yaml_definitions.specs.model.Proper.{AreAdmitted, Admitted}
+use Rattle.yaml_definitions.specs.model.Sound.{AllProper}
+use Rattle.yaml_definitions.specs.model.Means.{Means}
+use Rattle.yaml_definitions.specs.model.Serial.{Document, stream_events}
 use Rattle.yaml_text.specs.EventModel.{event_of}
-use Rattle.yaml_text.specs.Text.{Text, RefusesText}
-use Rattle.yaml_text.specs.grammar.Reading.{Reads}
-use Rattle.yaml_text.specs.grammar.Streams.{ReadsText}
+use Rattle.yaml_definitions.specs.model.Text.{Text}
+use Rattle.yaml_text.specs.Refused.{RefusesText}
+use Rattle.yaml_definitions.specs.grammar.Reading.{Reads}
+use Rattle.yaml_definitions.specs.grammar.Streams.{ReadsText}
 use Rattle.yaml_text.specs.Answer.{IsRefusal}
-use Rattle.yaml_text.proofs.grammar.OneText.{one-text}
-use Rattle.yaml_text.proofs.grammar.Documents.{readings_are_documents}
-use Rattle.yaml_text.proofs.MeaningLaws.{meaning_is_proper}
-use Rattle.yaml_text.proofs.Law.{texts_tell}
+use Rattle.yaml_definitions.proofs.grammar.OneText.{one-text}
+use Rattle.yaml_definitions.proofs.grammar.Documents.{readings_are_documents}
+use Rattle.yaml_definitions.proofs.MeaningLaws.{meaning_is_proper}
+use Rattle.yaml_definitions.proofs.Law.{texts_tell}
 use Rattle.yaml_text.specs.declared.event.Event as code
 use Rattle.yaml_text.specs.declared.fault.Fault.{Fault}
 use Rattle.yaml_text.specs.declared.fault.Fault.TheVariants as faults
-use Rattle.yaml_unique.proofs.Documents.{one_reading, one_meaning}
+use Rattle.law_one_reading.proofs.Documents.{one_reading, one_meaning}
 use Rattle.yaml_read.specs.Decided.{HasNoReading as NoReading}
-use Rattle.yaml_size.specs.Sizes.{texts_bytes}
-use Rattle.yaml_size.proofs.Contents.{tag_light}
-use Rattle.yaml_size.proofs.Numbers.{text_light}
-use Rattle.yaml_size.proofs.Forests.{meaning_bounded}
+use Rattle.law_length.specs.Sizes.{texts_bytes}
+use Rattle.law_length.proofs.Contents.{tag_light}
+use Rattle.law_length.proofs.Numbers.{text_light}
+use Rattle.law_length.proofs.Forests.{meaning_bounded}
 use Rattle.yaml_graph.specs.GraphModel.{tree_at}
 use Rattle.yaml_graph.specs.GraphView.{nodes_of, roots_of, graph_trees, tree, forest}
 use Rattle.yaml_graph.specs.Composed.{Composable, Composed, RefusesStream}
@@ -38,7 +39,7 @@ use Rattle.yaml_graph.specs.declared.graph.Graph.{Graph}
 use Rattle.yaml_rank.specs.RanksView.{RefusesGraph}
 use Rattle.yaml_canon.specs.Pieces.{Began, Puts, Fails}
 use Rattle.yaml_canon.specs.Documents.{spell_more, RefusesLength}
-use Rattle.yaml_canon.specs.Claims.{AllOf, Accepted, IsCanonicalText, IsRead, IsNoStream, CanonicalRefuses, HasGraph, GraphRefuses}
+use Rattle.yaml_canon.specs.Claims.{AllOf, MeansAlone as Accepted, IsCanonicalText, IsRead, IsNoStream, CanonicalRefuses, HasGraph, GraphRefuses}
 use Rattle.yaml_canon.proofs.DocumentLaws.{spell_whole}
 
 -- ---- the whole text

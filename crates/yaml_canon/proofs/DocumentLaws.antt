@@ -9,13 +9,13 @@ use Rattle.std.specs.Cow.{cow_str_bytes}
 use Rattle.std.specs.Char.{encode_utf8}
 use Rattle.std.specs.Str.{encode_utf8_all}
 use Rattle.yaml_text.specs.declared.fault.Fault.{Fault}
-use Rattle.yaml_text.specs.Tree.{Tree, Trees, Pairs, sequence, mapping}
-use Rattle.yaml_text.specs.Order.{arranged}
-use Rattle.yaml_text.specs.Same.{same}
-use Rattle.yaml_text.specs.Serial.{SerialNode}
-use Rattle.yaml_text.specs.NodeText.{node_text}
-use Rattle.yaml_text.specs.Spell.{serial_of, spell, spell_bytes}
-use Rattle.yaml_text.proofs.Equivalence.{same_refl}
+use Rattle.yaml_definitions.specs.model.Tree.{Tree, Trees, Pairs, sequence, mapping}
+use Rattle.yaml_definitions.specs.model.Order.{arranged}
+use Rattle.yaml_definitions.specs.model.Same.{same}
+use Rattle.yaml_definitions.specs.model.Serial.{SerialNode}
+use Rattle.yaml_definitions.specs.canonical.NodeText.{node_text}
+use Rattle.yaml_definitions.specs.canonical.Spell.{serial_of, spell, spell_bytes}
+use Rattle.yaml_definitions.proofs.Equivalence.{same_refl}
 use Rattle.yaml_graph.specs.TreeLists.{trees, pairs}
 use Rattle.yaml_graph.specs.GraphModel.{Entries, PartsBelow}
 use Rattle.yaml_graph.specs.GraphView.{nodes_of, tree}
@@ -32,7 +32,7 @@ use Rattle.yaml_canon.specs.NamesView.{Given}
 use Rattle.yaml_canon.specs.Pieces.{Began, TakesPiece, Puts, Misses, Fails}
 use Rattle.yaml_canon.specs.RankView.{rank_in}
 use Rattle.yaml_canon.specs.Walked.{noticed, written}
-use Rattle.yaml_text.specs.Limits.{text_limit}
+use Rattle.yaml_definitions.specs.model.Limits.{text_limit}
 use Rattle.yaml_canon.specs.declared.length.Length.{Length}
 use Rattle.yaml_canon.specs.SinkViews.{len_of, limit_of}
 use Rattle.yaml_canon.specs.Documents.{document_text, spell_more, RefusesLength}

@@ -3,14 +3,14 @@ use Rattle.std.proofs.Common.{◌≡◌, ℕ, suc, ◌+◌, Bool, true, false, n
 use Rattle.std.proofs.lemmas.List.{append_assoc, append-nil, length-append}
 use Rattle.std.specs.List.{position_or_len}
 use Rattle.std.specs.declared.option.Option.TheVariants.{None, Some}
-use Rattle.yaml_text.specs.Tree.{Tree, Trees, Pairs, scalar, sequence, mapping, end, item, done, entry}
-use Rattle.yaml_text.specs.Same.{same}
-use Rattle.yaml_text.specs.Spell.{short, serial_of_arranged}
-use Rattle.yaml_text.specs.Event.{Anchor, double}
-use Rattle.yaml_text.specs.Serialize.{anchor_name}
-use Rattle.yaml_text.specs.Serial.{SerialNode, scalar_at, sequence_at, mapping_at, item_serial, entry_serial}
-use Rattle.yaml_text.specs.TagText.{written_tag}
-use Rattle.yaml_text.proofs.Equivalence.{short_like}
+use Rattle.yaml_definitions.specs.model.Tree.{Tree, Trees, Pairs, scalar, sequence, mapping, end, item, done, entry}
+use Rattle.yaml_definitions.specs.model.Same.{same}
+use Rattle.yaml_definitions.specs.canonical.Spell.{short, serial_of_arranged}
+use Rattle.yaml_definitions.specs.model.Event.{Anchor, double}
+use Rattle.yaml_definitions.specs.canonical.Serialize.{anchor_name}
+use Rattle.yaml_definitions.specs.model.Serial.{SerialNode, scalar_at, sequence_at, mapping_at, item_serial, entry_serial}
+use Rattle.yaml_definitions.specs.canonical.TagText.{written_tag}
+use Rattle.yaml_definitions.proofs.Equivalence.{short_like}
 use Rattle.yaml_canon.specs.Anchored.{has, alias_to, anchor_at, enrolled, serialized, serialized_all, serialized_pairs}
 use Rattle.yaml_canon.specs.Anchored as twin
 use Rattle.yaml_canon.specs.Repeats.{repeats_one, kept, kept_all, kept_pairs, repeats, repeats_all, repeats_pairs}

@@ -3,17 +3,17 @@ use Rattle.std.proofs.Common.{◌≡◌, Bool, true, false, not, cond, ◌&&◌,
 use Rattle.std.proofs.lemmas.List.{append_assoc, append-nil}
 use Rattle.std.proofs.lemmas.List.Elements.{filter-append}
 use Rattle.std.specs.List.{filter}
-use Rattle.yaml_text.specs.Tree.{Tree, Trees, Pairs, scalar, sequence, mapping, end, item, done, entry}
-use Rattle.yaml_text.specs.Walk.{Place, first, again, firsts, agains, is_again, walk, walk_trees, walk_pairs}
-use Rattle.yaml_text.specs.Event.{double}
-use Rattle.yaml_text.specs.Serial.{alias_at, scalar_at, sequence_at, mapping_at, item_serial, entry_serial}
-use Rattle.yaml_text.specs.TagText.{written_tag}
-use Rattle.yaml_text.specs.Serialize.{is_anchored, anchored, anchor_of, alias_of, serialize, serialize_all, serialize_pairs}
-use Rattle.yaml_text.specs.Spell.{short, serial_of_arranged}
-use Rattle.yaml_text.proofs.UnfoldLaws.{firsts-append, agains-append}
+use Rattle.yaml_definitions.specs.model.Tree.{Tree, Trees, Pairs, scalar, sequence, mapping, end, item, done, entry}
+use Rattle.yaml_definitions.specs.canonical.Walk.{Place, first, again, firsts, agains, is_again, walk, walk_trees, walk_pairs}
+use Rattle.yaml_definitions.specs.model.Event.{double}
+use Rattle.yaml_definitions.specs.model.Serial.{alias_at, scalar_at, sequence_at, mapping_at, item_serial, entry_serial}
+use Rattle.yaml_definitions.specs.canonical.TagText.{written_tag}
+use Rattle.yaml_definitions.specs.canonical.Serialize.{is_anchored, anchored, anchor_of, alias_of, serialize, serialize_all, serialize_pairs}
+use Rattle.yaml_definitions.specs.canonical.Spell.{short, serial_of_arranged}
+use Rattle.yaml_definitions.proofs.UnfoldLaws.{firsts-append, agains-append}
 use Rattle.yaml_canon.specs.Anchored.{has, alias_to, anchor_at, enrolled, noted, noted_all, noted_pairs, serialized, serialized_all, serialized_pairs}
 use Rattle.yaml_canon.specs.Repeats.{repeats}
-use Rattle.yaml_text.proofs.Equivalence.{short_like}
+use Rattle.yaml_definitions.proofs.Equivalence.{short_like}
 use Rattle.yaml_canon.proofs.Anchors.{Every, every_parts, of_has, has_itself, has_filter, has_like, IsLong, agains_long, repeats_are}
 
 cond_both : {X : Type 0} (c : Bool) (x z y w : X) → (c ≡ true → x ≡ z) → (c ≡ false → y ≡ w) → cond c x y ≡ cond c z w

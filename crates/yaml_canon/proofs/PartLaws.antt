@@ -10,20 +10,20 @@ use Rattle.std.proofs.lemmas.Bool.Decides.{nat_tests}
 use Rattle.std.specs.Fmt.{decimal}
 use Rattle.std.specs.Prelude.{codes, bytes_eq, Some}
 use Rattle.std.specs.Str.{chars}
-use Rattle.yaml_text.specs.Event.{untagged, full}
-use Rattle.yaml_text.specs.Serialize.{anchor_name}
-use Rattle.yaml_text.specs.Serial.{alias_at}
-use Rattle.yaml_text.specs.NodeText.{node_text, anchor_text, quoted}
-use Rattle.yaml_text.specs.Tag.{default_tag}
-use Rattle.yaml_text.proofs.TextLaws.{name_chars}
+use Rattle.yaml_definitions.specs.model.Event.{untagged, full}
+use Rattle.yaml_definitions.specs.canonical.Serialize.{anchor_name}
+use Rattle.yaml_definitions.specs.model.Serial.{alias_at}
+use Rattle.yaml_definitions.specs.canonical.NodeText.{node_text, anchor_text, quoted}
+use Rattle.yaml_definitions.specs.model.Tag.{default_tag}
+use Rattle.yaml_definitions.proofs.TextLaws.{name_chars}
 use Rattle.yaml_scalar.specs.Spelling.{quoted_bytes}
 use Rattle.yaml_scalar.proofs.SpellingLemmas.{quoted_more}
 use Rattle.std.proofs.Math.Seq.{drop-cons}
-use Rattle.yaml_text.specs.grammar.Characters.{is_uri}
-use Rattle.yaml_text.specs.CharText.{hex_digit}
+use Rattle.yaml_definitions.specs.grammar.Characters.{is_uri}
+use Rattle.yaml_definitions.specs.canonical.CharText.{hex_digit}
 use Rattle.yaml_text.specs.declared.fault.Fault.{Fault}
 use Rattle.yaml_canon.proofs.PieceLaws.{adds_then, misses_more, misses_later, puts_as, puts_piece, puts_none, fails_as, fails_piece}
-use Rattle.yaml_text.specs.TagText.{spell_byte, encoded, full_text, tag_text, written_tag}
+use Rattle.yaml_definitions.specs.canonical.TagText.{spell_byte, encoded, full_text, tag_text, written_tag}
 use Rattle.yaml_canon.specs.Pieces.{Began, TakesPiece, Puts, Misses, Fails}
 
 -- The bytes of a tag before this place are taken.

@@ -3,14 +3,14 @@ use Rattle.std.proofs.Common.{◌≡◌, ℕ, ◌≤◌, List, refl, sym, ◌∙
 use Rattle.std.specs.Prelude.{Result, Ok, Err, OnOk, IfOk, IfErr, IsOk, MatchResult}
 use Rattle.std.specs.Result.{IsErrAnd}
 use Rattle.std.proofs.lemmas.Result.{err_from_is_err_and}
-use Rattle.yaml_text.specs.Limits.{text_limit}
-use Rattle.yaml_text.specs.Tree.{Tree}
-use Rattle.yaml_text.specs.Spell.{spell_bytes}
-use Rattle.yaml_text.specs.Proper.{Admitted}
-use Rattle.yaml_text.specs.Means.{Means}
+use Rattle.yaml_definitions.specs.model.Limits.{text_limit}
+use Rattle.yaml_definitions.specs.model.Tree.{Tree}
+use Rattle.yaml_definitions.specs.canonical.Spell.{spell_bytes}
+use Rattle.yaml_definitions.specs.model.Proper.{Admitted}
+use Rattle.yaml_definitions.specs.model.Means.{Means}
 use Rattle.yaml_text.specs.declared.fault.Fault.{Fault}
 use Rattle.yaml_canon.specs.Accepting.{IsSpelling, IsMemory}
-use Rattle.yaml_canon.specs.Claims.{Accepted, CanonicalRefuses}
+use Rattle.yaml_canon.specs.Claims.{MeansAlone as Accepted, CanonicalRefuses}
 use Rattle.yaml_canon.specs.Rooms.{Places, PlacesCanonical}
 use Rattle.yaml_canon.proofs.ClaimLaws.{canonical_text}
 use Rattle.yaml_canon.proofs.AcceptLaws.{memory, text-is, spelling-means}

@@ -7,7 +7,7 @@ use Rattle.std.proofs.lemmas.Str.{encode_ascii, chars-nil, IsUtf8-past_char, IsU
 use Rattle.std.specs.Prelude.{flat_map}
 use Rattle.std.specs.Char.{encode_utf8}
 use Rattle.std.specs.Str.{encode_utf8_all, IsUtf8, IsCharBoundary}
-use Rattle.yaml_text.specs.CharText.{spell_char}
+use Rattle.yaml_definitions.specs.canonical.CharText.{spell_char}
 use Rattle.yaml_scalar.specs.Spelling.{quoted_bytes, spelled_chars, is_verbatim}
 use Rattle.yaml_scalar.proofs.SpellingLemmas.{next_spelled, verbatim_bytes, spelled_is}
 use Rattle.yaml_canon.proofs.WalkLaws.{drop_next}

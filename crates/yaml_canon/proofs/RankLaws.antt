@@ -2,12 +2,12 @@
 use Rattle.std.proofs.Common.{◌≡◌, ℕ, zero, suc, ◌+◌, ◌<◌, Bool, true, false, not, cond, List, [], ◌∷◌, length, map, get_or, refl, sym, ◌∙◌, subst, arith}
 use Rattle.std.specs.List.{position_or_len}
 use Rattle.std.proofs.lemmas.List.{length-map}
-use Rattle.yaml_text.specs.Tree.{Tree, scalar}
-use Rattle.yaml_text.specs.Order.{arranged}
-use Rattle.yaml_text.specs.Same.{same}
-use Rattle.yaml_text.proofs.SameLaws.{same_to, same_from}
-use Rattle.yaml_text.proofs.Arranged.{IsArranged, neat_same, arranged_neat}
-use Rattle.yaml_text.proofs.Equivalence.{same_refl}
+use Rattle.yaml_definitions.specs.model.Tree.{Tree, scalar}
+use Rattle.yaml_definitions.specs.model.Order.{arranged}
+use Rattle.yaml_definitions.specs.model.Same.{same}
+use Rattle.yaml_definitions.proofs.SameLaws.{same_to, same_from}
+use Rattle.yaml_definitions.proofs.Arranged.{IsArranged, neat_same, arranged_neat}
+use Rattle.yaml_definitions.proofs.Equivalence.{same_refl}
 use Rattle.yaml_graph.specs.GraphView.{nodes_of, graph_trees, tree}
 use Rattle.yaml_graph.proofs.GraphLaws.{trees-length}
 use Rattle.yaml_graph.specs.declared.graph.Graph.{Graph}

@@ -3,9 +3,9 @@ use Rattle.std.proofs.Common.{◌≡◌, ℕ, ◌+◌, ◌-◌, ◌^◌, ◌<◌
 use Rattle.std.proofs.lemmas.List.{append-nil}
 use Rattle.std.proofs.Math.Seq.{take-length}
 use Rattle.std.specs.Io.KnownBytes.{Appends, Keeps}
-use Rattle.yaml_text.specs.Limits.{text_limit}
-use Rattle.yaml_text.specs.Tree.{Tree}
-use Rattle.yaml_text.specs.Spell.{spell_bytes}
+use Rattle.yaml_definitions.specs.model.Limits.{text_limit}
+use Rattle.yaml_definitions.specs.model.Tree.{Tree}
+use Rattle.yaml_definitions.specs.canonical.Spell.{spell_bytes}
 use Rattle.yaml_text.specs.declared.fault.Fault.{Fault}
 use Rattle.yaml_text.specs.declared.fault.Fault.TheVariants.{WriteFault}
 use Rattle.yaml_text.specs.declared.counted.Counted.{Counted}
@@ -16,7 +16,7 @@ use Rattle.yaml_canon.specs.Pieces.{Began, Puts, Fails}
 use Rattle.yaml_canon.specs.Pages.{page_bytes, page_len, PageHolds, PageStops}
 use Rattle.yaml_canon.specs.Writers.{Sent, CutOff, Printed, Broken}
 use Rattle.yaml_canon.specs.Documents.{spell_more}
-use Rattle.yaml_canon.specs.Claims.{Accepted, CanonicalRefuses}
+use Rattle.yaml_canon.specs.Claims.{MeansAlone as Accepted, CanonicalRefuses}
 use Rattle.yaml_canon.specs.Runs.{WritesCanonical, WriteRefuses}
 use Rattle.yaml_canon.proofs.ClaimLaws.{canonical_text}
 use Rattle.yaml_canon.proofs.Streams.{appends_none, appends_more, appends_kept}

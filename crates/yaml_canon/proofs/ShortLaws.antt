@@ -7,15 +7,15 @@ use Rattle.std.specs.Str.{encode_utf8_all}
 use Rattle.std.specs.Prelude.{bytes_eq, cond}
 use Rattle.std.specs.Str.{IsUtf8}
 use Rattle.std.proofs.lemmas.Str.{is_utf8-from_IsUtf8}
-use Rattle.yaml_text.specs.Event.{double, untagged, full}
-use Rattle.yaml_text.specs.Serial.{scalar_at}
-use Rattle.yaml_text.specs.NodeText.{node_text}
-use Rattle.yaml_text.specs.Spell.{text_len}
-use Rattle.yaml_text.specs.Tag.{default_tag}
-use Rattle.yaml_text.specs.TagText.{written_tag}
+use Rattle.yaml_definitions.specs.model.Event.{double, untagged, full}
+use Rattle.yaml_definitions.specs.model.Serial.{scalar_at}
+use Rattle.yaml_definitions.specs.canonical.NodeText.{node_text}
+use Rattle.yaml_definitions.specs.canonical.Spell.{text_len}
+use Rattle.yaml_definitions.specs.model.Tag.{default_tag}
+use Rattle.yaml_definitions.specs.canonical.TagText.{written_tag}
 use Rattle.yaml_text.specs.declared.fault.Fault.{Fault}
-use Rattle.yaml_size.proofs.Weights.{bytes, content_bytes}
-use Rattle.yaml_size.proofs.Contents.{content_light, content_heavy, tag_and_content}
+use Rattle.law_length.proofs.Weights.{bytes, content_bytes}
+use Rattle.law_length.proofs.Contents.{content_light, content_heavy, tag_and_content}
 use Rattle.yaml_canon.specs.ShortNodes.{short_scalar}
 use Rattle.yaml_canon.specs.declared.length.Length.{Length}
 use Rattle.yaml_canon.specs.Pieces.{Began, Writes, Puts, Fails}

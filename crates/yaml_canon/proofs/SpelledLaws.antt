@@ -4,7 +4,7 @@ use Rattle.std.proofs.lemmas.List.{append_assoc, append-nil}
 use Rattle.std.specs.Str.{encode_utf8_all}
 use Rattle.std.specs.Prelude.{flat_map}
 use Rattle.std.proofs.lemmas.Str.{chars-nil}
-use Rattle.yaml_text.specs.CharText.{spell_char}
+use Rattle.yaml_definitions.specs.canonical.CharText.{spell_char}
 use Rattle.yaml_text.specs.declared.fault.Fault.{Fault}
 use Rattle.yaml_scalar.specs.Spelling.{quoted_bytes, spelled_chars}
 use Rattle.yaml_scalar.proofs.SpellingLemmas.{spelled_is}

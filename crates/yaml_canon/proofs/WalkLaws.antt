@@ -10,12 +10,12 @@ use Rattle.std.proofs.Math.ListN.{drop_of_length-le}
 use Rattle.std.proofs.lemmas.List.{length-append}
 use Rattle.std.proofs.lemmas.Bool.Decides.{nat_tests}
 use Rattle.std.proofs.lemmas.Str.{encodes-append}
-use Rattle.yaml_text.specs.Limits.{short_limit}
-use Rattle.yaml_text.specs.Tree.{Tree, Trees, Pairs, scalar, sequence, mapping}
-use Rattle.yaml_text.specs.Order.{arranged}
-use Rattle.yaml_text.specs.NodeText.{node_text}
-use Rattle.yaml_text.specs.Spell.{short, text_len}
-use Rattle.yaml_text.specs.TagText.{tag_text, written_tag}
+use Rattle.yaml_definitions.specs.model.Limits.{short_limit}
+use Rattle.yaml_definitions.specs.model.Tree.{Tree, Trees, Pairs, scalar, sequence, mapping}
+use Rattle.yaml_definitions.specs.model.Order.{arranged}
+use Rattle.yaml_definitions.specs.canonical.NodeText.{node_text}
+use Rattle.yaml_definitions.specs.canonical.Spell.{short, text_len}
+use Rattle.yaml_definitions.specs.canonical.TagText.{tag_text, written_tag}
 use Rattle.yaml_graph.specs.TreeLists.{trees, pairs}
 use Rattle.yaml_graph.specs.GraphModel.{Entries, entries_of}
 use Rattle.yaml_graph.specs.GraphView.{nodes_of, tree}

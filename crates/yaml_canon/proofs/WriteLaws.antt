@@ -5,11 +5,11 @@ use Rattle.std.proofs.Math.ListN.{drop_of_length-le}
 use Rattle.std.specs.Char.{encode_utf8}
 use Rattle.std.specs.Str.{encode_utf8_all, chars}
 use Rattle.yaml_text.specs.declared.fault.Fault.{Fault}
-use Rattle.yaml_text.specs.Tree.{Tree, Trees, Pairs, scalar, sequence, mapping}
-use Rattle.yaml_text.specs.Serialize.{anchor_name}
-use Rattle.yaml_text.specs.Serial.{alias_at}
-use Rattle.yaml_text.specs.NodeText.{node_text, anchor_text, items_text, pairs_text, quoted}
-use Rattle.yaml_text.specs.TagText.{tag_text, written_tag}
+use Rattle.yaml_definitions.specs.model.Tree.{Tree, Trees, Pairs, scalar, sequence, mapping}
+use Rattle.yaml_definitions.specs.canonical.Serialize.{anchor_name}
+use Rattle.yaml_definitions.specs.model.Serial.{alias_at}
+use Rattle.yaml_definitions.specs.canonical.NodeText.{node_text, anchor_text, items_text, pairs_text, quoted}
+use Rattle.yaml_definitions.specs.canonical.TagText.{tag_text, written_tag}
 use Rattle.yaml_graph.specs.TreeLists.{trees, pairs}
 use Rattle.yaml_canon.specs.Pieces.{Began, TakesPiece, Puts, Misses, Fails}
 use Rattle.yaml_canon.specs.NamesView.{Given}
@@ -55,9 +55,9 @@ module _ (rank : Tree → ℕ) where
 
   pub text_alias : (t : Tree) (p : Given) (o : Opening) (k : ℕ) → o ≡ start rank t p → o ≡ Alias k → (more : List ℕ) → node_text (alias_at (anchor_name k)) more ≡ node_text (written rank t p) more
   unfolding written
-  text_alias (scalar g x) p o k e f more = ap (λ z. node_text (begun z (Rattle.yaml_text.specs.Serial.scalar_at (anchor_in z) (written_tag 0 g) Rattle.yaml_text.specs.Event.double x)) more) (sym f ∙ e)
-  text_alias (sequence g ts) p o k e f more = ap (λ z. node_text (begun z (Rattle.yaml_text.specs.Serial.sequence_at (anchor_in z) (written_tag 1 g) true (written_all rank ts (started rank (sequence g ts) p)))) more) (sym f ∙ e)
-  text_alias (mapping g ps) p o k e f more = ap (λ z. node_text (begun z (Rattle.yaml_text.specs.Serial.mapping_at (anchor_in z) (written_tag 2 g) true (written_pairs rank ps (started rank (mapping g ps) p)))) more) (sym f ∙ e)
+  text_alias (scalar g x) p o k e f more = ap (λ z. node_text (begun z (Rattle.yaml_definitions.specs.model.Serial.scalar_at (anchor_in z) (written_tag 0 g) Rattle.yaml_definitions.specs.model.Event.double x)) more) (sym f ∙ e)
+  text_alias (sequence g ts) p o k e f more = ap (λ z. node_text (begun z (Rattle.yaml_definitions.specs.model.Serial.sequence_at (anchor_in z) (written_tag 1 g) true (written_all rank ts (started rank (sequence g ts) p)))) more) (sym f ∙ e)
+  text_alias (mapping g ps) p o k e f more = ap (λ z. node_text (begun z (Rattle.yaml_definitions.specs.model.Serial.mapping_at (anchor_in z) (written_tag 2 g) true (written_pairs rank ps (started rank (mapping g ps) p)))) more) (sym f ∙ e)
 
   pub given_alias : (t : Tree) (p : Given) (o : Opening) (k : ℕ) → o ≡ start rank t p → o ≡ Alias k → started rank t p ≡ given rank t p
   unfolding given
@@ -67,15 +67,15 @@ module _ (rank : Tree → ℕ) where
 
   pub text_anchored : (t : Tree) (p : Given) (o : Opening) (k : ℕ) → o ≡ start rank t p → o ≡ Anchored k → (more : List ℕ) → anchor_text (Some (anchor_name k)) (behind_anchor rank t (started rank t p) more) ≡ node_text (written rank t p) more
   unfolding written node_text
-  text_anchored (scalar g x) p o k e f more = ap (λ z. node_text (begun z (Rattle.yaml_text.specs.Serial.scalar_at (anchor_in z) (written_tag 0 g) Rattle.yaml_text.specs.Event.double x)) more) (sym f ∙ e)
-  text_anchored (sequence g ts) p o k e f more = ap (λ z. node_text (begun z (Rattle.yaml_text.specs.Serial.sequence_at (anchor_in z) (written_tag 1 g) true (written_all rank ts (started rank (sequence g ts) p)))) more) (sym f ∙ e)
-  text_anchored (mapping g ps) p o k e f more = ap (λ z. node_text (begun z (Rattle.yaml_text.specs.Serial.mapping_at (anchor_in z) (written_tag 2 g) true (written_pairs rank ps (started rank (mapping g ps) p)))) more) (sym f ∙ e)
+  text_anchored (scalar g x) p o k e f more = ap (λ z. node_text (begun z (Rattle.yaml_definitions.specs.model.Serial.scalar_at (anchor_in z) (written_tag 0 g) Rattle.yaml_definitions.specs.model.Event.double x)) more) (sym f ∙ e)
+  text_anchored (sequence g ts) p o k e f more = ap (λ z. node_text (begun z (Rattle.yaml_definitions.specs.model.Serial.sequence_at (anchor_in z) (written_tag 1 g) true (written_all rank ts (started rank (sequence g ts) p)))) more) (sym f ∙ e)
+  text_anchored (mapping g ps) p o k e f more = ap (λ z. node_text (begun z (Rattle.yaml_definitions.specs.model.Serial.mapping_at (anchor_in z) (written_tag 2 g) true (written_pairs rank ps (started rank (mapping g ps) p)))) more) (sym f ∙ e)
 
   pub text_plain : (t : Tree) (p : Given) (o : Opening) → o ≡ start rank t p → o ≡ Plain → (more : List ℕ) → behind_anchor rank t (started rank t p) more ≡ node_text (written rank t p) more
   unfolding written node_text
-  text_plain (scalar g x) p o e f more = ap (λ z. node_text (begun z (Rattle.yaml_text.specs.Serial.scalar_at (anchor_in z) (written_tag 0 g) Rattle.yaml_text.specs.Event.double x)) more) (sym f ∙ e)
-  text_plain (sequence g ts) p o e f more = ap (λ z. node_text (begun z (Rattle.yaml_text.specs.Serial.sequence_at (anchor_in z) (written_tag 1 g) true (written_all rank ts (started rank (sequence g ts) p)))) more) (sym f ∙ e)
-  text_plain (mapping g ps) p o e f more = ap (λ z. node_text (begun z (Rattle.yaml_text.specs.Serial.mapping_at (anchor_in z) (written_tag 2 g) true (written_pairs rank ps (started rank (mapping g ps) p)))) more) (sym f ∙ e)
+  text_plain (scalar g x) p o e f more = ap (λ z. node_text (begun z (Rattle.yaml_definitions.specs.model.Serial.scalar_at (anchor_in z) (written_tag 0 g) Rattle.yaml_definitions.specs.model.Event.double x)) more) (sym f ∙ e)
+  text_plain (sequence g ts) p o e f more = ap (λ z. node_text (begun z (Rattle.yaml_definitions.specs.model.Serial.sequence_at (anchor_in z) (written_tag 1 g) true (written_all rank ts (started rank (sequence g ts) p)))) more) (sym f ∙ e)
+  text_plain (mapping g ps) p o e f more = ap (λ z. node_text (begun z (Rattle.yaml_definitions.specs.model.Serial.mapping_at (anchor_in z) (written_tag 2 g) true (written_pairs rank ps (started rank (mapping g ps) p)))) more) (sym f ∙ e)
 
   given_by : (t : Tree) (p : Given) (o : Opening) → o ≡ start rank t p → ((a b : Given) → after o a b ≡ b) → given_inside rank t (started rank t p) ≡ given rank t p
   unfolding given

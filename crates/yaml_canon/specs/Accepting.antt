@@ -1,11 +1,11 @@
 -- Which bytes are accepted.
 use Rattle.std.specs.Prelude.{◌≡◌, ◌⊎◌, ◌↔◌, ◌≤◌, ℕ, List, Bool, true, length}
-use Rattle.yaml_text.specs.Limits.{text_limit}
-use Rattle.yaml_text.specs.Tree.{Tree}
-use Rattle.yaml_text.specs.Spell.{spell_bytes}
-use Rattle.yaml_text.specs.Block.{block_bytes, AllKeysFit}
-use Rattle.yaml_text.specs.Proper.{Admitted}
-use Rattle.yaml_text.specs.Means.{Means}
+use Rattle.yaml_definitions.specs.model.Limits.{text_limit}
+use Rattle.yaml_definitions.specs.model.Tree.{Tree}
+use Rattle.yaml_definitions.specs.canonical.Spell.{spell_bytes}
+use Rattle.yaml_definitions.specs.canonical.Block.{block_bytes, AllKeysFit}
+use Rattle.yaml_definitions.specs.model.Proper.{Admitted}
+use Rattle.yaml_definitions.specs.model.Means.{Means}
 use Rattle.yaml_text.specs.declared.fault.Fault.{Fault}
 use Rattle.yaml_text.specs.declared.fault.Fault.TheVariants.{OutOfMemory}
 use Rattle.yaml_canon.specs.Claims.{IsCanonicalText, CanonicalRefuses}

@@ -2,13 +2,13 @@
 use Rattle.std.specs.Prelude.{suc, Bool, true, cond, List, [], ◌∷◌, ◌++◌, length}
 use Rattle.std.specs.declared.option.Option.TheVariants.{None, Some}
 use Rattle.std.specs.List.{list_any, position_or_len}
-use Rattle.yaml_text.specs.Tree.{Trees, Pairs, scalar, sequence, mapping, end, item, done, entry}
-use Rattle.yaml_text.specs.Tree as plain
-use Rattle.yaml_text.specs.Same.{same}
-use Rattle.yaml_text.specs.Event.{Anchor, double}
-use Rattle.yaml_text.specs.Serial.{SerialNode, SerialNodes, SerialPairs, alias_at, scalar_at, sequence_at, mapping_at, end_serial, item_serial, done_serial, entry_serial}
-use Rattle.yaml_text.specs.TagText.{written_tag}
-use Rattle.yaml_text.specs.Serialize.{anchor_name}
+use Rattle.yaml_definitions.specs.model.Tree.{Trees, Pairs, scalar, sequence, mapping, end, item, done, entry}
+use Rattle.yaml_definitions.specs.model.Tree as plain
+use Rattle.yaml_definitions.specs.model.Same.{same}
+use Rattle.yaml_definitions.specs.model.Event.{Anchor, double}
+use Rattle.yaml_definitions.specs.model.Serial.{SerialNode, SerialNodes, SerialPairs, alias_at, scalar_at, sequence_at, mapping_at, end_serial, item_serial, done_serial, entry_serial}
+use Rattle.yaml_definitions.specs.canonical.TagText.{written_tag}
+use Rattle.yaml_definitions.specs.canonical.Serialize.{anchor_name}
 
 -- one of the list is the same as this tree
 abbrev pub has : List plain.Tree → plain.Tree → Bool

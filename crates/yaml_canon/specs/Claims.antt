@@ -1,19 +1,20 @@
 -- What `canonical` promises.
 use Rattle.std.specs.Prelude.{◌≡◌, ◌↔◌, ◌<◌, ◌≤◌, ◌+◌, ◌*◌, ℕ, List, [], ◌∷◌, length}
-use Rattle.yaml_text.specs.Event.{Event}
-use Rattle.yaml_text.specs.Limits.{text_limit, height_limit}
-use Rattle.yaml_text.specs.Tree.{Tree, height}
-use Rattle.yaml_text.specs.Event.{Event}
-use Rattle.yaml_text.specs.Same.{Keyed, Alike}
-use Rattle.yaml_text.specs.Spell.{spell_bytes}
-use Rattle.yaml_text.specs.Proper.{Admitted}
-use Rattle.yaml_text.specs.Means.{Means}
-use Rattle.yaml_text.specs.Serial.{Document, stream_events}
-use Rattle.yaml_text.specs.grammar.Reading.{Reads}
-use Rattle.yaml_text.specs.Text.{Text, RefusesText}
+use Rattle.yaml_definitions.specs.model.Event.{Event}
+use Rattle.yaml_definitions.specs.model.Limits.{text_limit, height_limit}
+use Rattle.yaml_definitions.specs.model.Tree.{Tree, height}
+use Rattle.yaml_definitions.specs.model.Event.{Event}
+use Rattle.yaml_definitions.specs.model.Same.{Keyed, Alike}
+use Rattle.yaml_definitions.specs.canonical.Spell.{spell_bytes}
+use Rattle.yaml_definitions.specs.model.Proper.{Admitted}
+use Rattle.yaml_definitions.specs.model.Means.{Means}
+use Rattle.yaml_definitions.specs.model.Serial.{Document, stream_events}
+use Rattle.yaml_definitions.specs.grammar.Reading.{Reads}
+use Rattle.yaml_definitions.specs.model.Text.{Text}
+use Rattle.yaml_text.specs.Refused.{RefusesText}
 use Rattle.yaml_text.specs.declared.fault.Fault.{Fault}
 use Rattle.yaml_text.specs.declared.fault.Fault.TheVariants.{TooLong, NotUtf8, NotPrintable, Syntax, Tab, KeyTooLong, TooDeep, BadEscape, BadDirective, UnknownHandle, BadTag, UndefinedAlias, CyclicAlias, WrongKind, BadContent, IntRange, FloatRange, TooHigh, EqualKeys, TextTooLong, OutOfMemory}
-use Rattle.yaml_size.specs.Sizes.{texts_bytes}
+use Rattle.law_length.specs.Sizes.{texts_bytes}
 use Rattle.yaml_graph.specs.Composed.{Composed, RefusesStream}
 use Rattle.yaml_graph.specs.declared.graph.Graph.{Graph}
 use Rattle.yaml_rank.specs.RanksView.{RefusesGraph}
@@ -24,7 +25,7 @@ AllOf P [] = Unit {0}
 AllOf P (t ∷ f) = P t × AllOf P f
 
 -- The bytes mean these trees, and no others: none is too high, and no mapping has two keys that are the same.
-pub record Accepted (bytes : List ℕ) (f : List Tree) : Type 0 where
+pub record MeansAlone (bytes : List ℕ) (f : List Tree) : Type 0 where
   pub means : Means bytes f
   pub only : (g : List Tree) → Means bytes g → g ≡ f
   pub low : AllOf (λ t. height t ≤ height_limit) f
@@ -33,7 +34,7 @@ pub record Accepted (bytes : List ℕ) (f : List Tree) : Type 0 where
 -- The text is the canonical one of what the bytes mean: its spelling, which tells that forest from every other. It has at most 4 bytes for each byte of the scalars' texts and 4,096 for each event of the events that the bytes are read to.
 pub record IsCanonicalText (bytes text : List ℕ) : Type 0 where
   pub forest : List Tree
-  pub accepted : Accepted bytes forest
+  pub accepted : MeansAlone bytes forest
   pub admitted : Admitted forest
   pub spelled : text ≡ spell_bytes forest
   pub tells : (g : List Tree) → Admitted g → (spell_bytes g ≡ text) ↔ Alike forest g
@@ -77,7 +78,7 @@ CanonicalRefuses bytes (IntRange event) = RefusedComposing bytes (IntRange event
 CanonicalRefuses bytes (FloatRange event) = RefusedComposing bytes (FloatRange event)
 CanonicalRefuses bytes (TooHigh document) = RefusedComposing bytes (TooHigh document)
 CanonicalRefuses bytes (EqualKeys node first second) = (ds : List Document) × (g : Graph) × IsRead bytes ds × Composed ds g × RefusesGraph g (EqualKeys node first second)
-CanonicalRefuses bytes TextTooLong = (f : List Tree) × Accepted bytes f × (text_limit < length (spell_bytes f))
+CanonicalRefuses bytes TextTooLong = (f : List Tree) × MeansAlone bytes f × (text_limit < length (spell_bytes f))
 CanonicalRefuses bytes OutOfMemory = Unit {0}
 CanonicalRefuses bytes _ = ⊥
 

@@ -1,9 +1,9 @@
 -- What `same` promises.
 use Rattle.std.specs.Prelude.{◌≡◌, ◌↔◌, ◌<◌, ◌-◌, ℕ, Bool, true, cond, nat_le, List, length}
 use Rattle.std.specs.Cmp.Lexicographic.{pointwise}
-use Rattle.yaml_text.specs.Same.{Alike, same, Keyed}
-use Rattle.yaml_text.specs.Tree.{Tree}
-use Rattle.yaml_text.specs.Serial.{Document}
+use Rattle.yaml_definitions.specs.model.Same.{Alike, same, Keyed}
+use Rattle.yaml_definitions.specs.model.Tree.{Tree}
+use Rattle.yaml_definitions.specs.model.Serial.{Document}
 use Rattle.yaml_text.specs.declared.fault.Fault.{Fault}
 use Rattle.yaml_text.specs.declared.fault.Fault.TheVariants.{EqualKeys, TextTooLong}
 use Rattle.yaml_graph.specs.Composed.{Composed, RefusesStream}
@@ -13,14 +13,14 @@ use Rattle.yaml_graph.specs.declared.graph.Graph.{Graph}
 use Rattle.yaml_rank.specs.RanksView.{RefusesGraph}
 use Rattle.yaml_canon.specs.declared.side.Side.{Side}
 use Rattle.yaml_canon.specs.declared.side.Side.TheVariants.{Left, Right}
-use Rattle.yaml_canon.specs.Claims.{Accepted, IsRead, CanonicalRefuses}
+use Rattle.yaml_canon.specs.Claims.{MeansAlone, IsRead, CanonicalRefuses}
 
 -- The two streams are accepted, and the answer is whether they have equally many documents, pairwise the same.
 pub record Compares (left right : List ℕ) (answer : Bool) : Type 0 where
   pub first : List Tree
   pub second : List Tree
-  pub first_accepted : Accepted left first
-  pub second_accepted : Accepted right second
+  pub first_accepted : MeansAlone left first
+  pub second_accepted : MeansAlone right second
   pub tells : (answer ≡ true) ↔ Alike first second
 
 -- the side and the fault, where so many nodes are the left side's

@@ -1,9 +1,9 @@
 -- The text of documents, before more text.
 use Rattle.std.specs.Prelude.{◌<◌, List, [], ◌∷◌, ℕ, length}
-use Rattle.yaml_text.specs.Limits.{text_limit}
-use Rattle.yaml_text.specs.Tree.{Tree}
-use Rattle.yaml_text.specs.NodeText.{node_text}
-use Rattle.yaml_text.specs.Spell.{serial_of, spell_bytes}
+use Rattle.yaml_definitions.specs.model.Limits.{text_limit}
+use Rattle.yaml_definitions.specs.model.Tree.{Tree}
+use Rattle.yaml_definitions.specs.canonical.NodeText.{node_text}
+use Rattle.yaml_definitions.specs.canonical.Spell.{serial_of, spell_bytes}
 use Rattle.yaml_text.specs.declared.fault.Fault.{Fault}
 use Rattle.yaml_text.specs.declared.fault.Fault.TheVariants.{TextTooLong, OutOfMemory}
 

@@ -1,7 +1,7 @@
 -- The pieces of a content's spelling.
 use Rattle.std.specs.Prelude.{ℕ, List, [], ◌++◌, Option, None, Some}
 use Rattle.std.specs.Str.{encode_utf8_all}
-use Rattle.yaml_text.specs.CharText.{spell_char}
+use Rattle.yaml_definitions.specs.canonical.CharText.{spell_char}
 use Rattle.yaml_canon.specs.declared.quoted.Piece.{Piece}
 
 -- the spelling of a character, if there is one

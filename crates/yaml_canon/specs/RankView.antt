@@ -1,9 +1,9 @@
 -- The ranks of a graph's trees.
 use Rattle.std.specs.Prelude.{ℕ, map}
 use Rattle.std.specs.List.{position_or_len}
-use Rattle.yaml_text.specs.Tree.{Tree}
-use Rattle.yaml_text.specs.Order.{arranged}
-use Rattle.yaml_text.specs.Same.{same}
+use Rattle.yaml_definitions.specs.model.Tree.{Tree}
+use Rattle.yaml_definitions.specs.model.Order.{arranged}
+use Rattle.yaml_definitions.specs.model.Same.{same}
 use Rattle.yaml_graph.specs.GraphView.{graph_trees}
 use Rattle.yaml_graph.specs.declared.graph.Graph.{Graph}
 use Rattle.yaml_rank.specs.RanksView.{rank_of}

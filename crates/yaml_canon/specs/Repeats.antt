@@ -1,7 +1,7 @@
 -- The walk of an arranged tree, from the nodes before it that are written out and not short.
 use Rattle.std.specs.Prelude.{Bool, not, cond, ◌&&◌, ◌++◌, List, [], ◌∷◌}
-use Rattle.yaml_text.specs.Tree.{Tree, Trees, Pairs, scalar, sequence, mapping, end, item, done, entry}
-use Rattle.yaml_text.specs.Spell.{short}
+use Rattle.yaml_definitions.specs.model.Tree.{Tree, Trees, Pairs, scalar, sequence, mapping, end, item, done, entry}
+use Rattle.yaml_definitions.specs.canonical.Spell.{short}
 use Rattle.yaml_canon.specs.Anchored.{has}
 
 -- the node repeats one of those

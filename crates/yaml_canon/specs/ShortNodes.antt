@@ -3,11 +3,11 @@ use Rattle.std.specs.Prelude.{ℕ, ◌+◌, Bool, ◌&&◌, ◌==◌, nat_le, Li
 use Rattle.std.specs.Cow.{cow_str_bytes}
 use Rattle.std.specs.Str.{encode_utf8_all}
 use Rattle.std.specs.declared.option.Option.TheVariants.{None}
-use Rattle.yaml_text.specs.Event.{double}
-use Rattle.yaml_text.specs.Limits.{short_limit}
-use Rattle.yaml_text.specs.Serial.{scalar_at}
-use Rattle.yaml_text.specs.Spell.{text_len}
-use Rattle.yaml_text.specs.TagText.{tag_text, written_tag}
+use Rattle.yaml_definitions.specs.model.Event.{double}
+use Rattle.yaml_definitions.specs.model.Limits.{short_limit}
+use Rattle.yaml_definitions.specs.model.Serial.{scalar_at}
+use Rattle.yaml_definitions.specs.canonical.Spell.{text_len}
+use Rattle.yaml_definitions.specs.canonical.TagText.{tag_text, written_tag}
 use Rattle.yaml_graph.specs.declared.node.NodeKind.{NodeKind}
 use Rattle.yaml_graph.specs.declared.node.NodeKind.TheVariants as kinds
 

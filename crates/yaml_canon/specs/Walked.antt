@@ -1,14 +1,14 @@
 -- How a walk in writing order changes what is known of each rank, and the serialization tree that it writes.
 use Rattle.std.specs.Prelude.{ℕ, zero, suc, Bool, true, cond, ◌++◌, List, [], ◌∷◌}
 use Rattle.std.specs.Str.{chars}
-use Rattle.yaml_text.specs.NodeText.{quoted, items_text, pairs_text}
+use Rattle.yaml_definitions.specs.canonical.NodeText.{quoted, items_text, pairs_text}
 use Rattle.std.specs.declared.option.Option.TheVariants.{None, Some}
-use Rattle.yaml_text.specs.Tree.{Tree, Trees, Pairs, scalar, sequence, mapping, end, item, done, entry}
-use Rattle.yaml_text.specs.Spell.{short}
-use Rattle.yaml_text.specs.Event.{Anchor, double}
-use Rattle.yaml_text.specs.Serialize.{anchor_name}
-use Rattle.yaml_text.specs.Serial.{SerialNode, SerialNodes, SerialPairs, alias_at, scalar_at, sequence_at, mapping_at, end_serial, item_serial, done_serial, entry_serial}
-use Rattle.yaml_text.specs.TagText.{tag_text, written_tag}
+use Rattle.yaml_definitions.specs.model.Tree.{Tree, Trees, Pairs, scalar, sequence, mapping, end, item, done, entry}
+use Rattle.yaml_definitions.specs.canonical.Spell.{short}
+use Rattle.yaml_definitions.specs.model.Event.{Anchor, double}
+use Rattle.yaml_definitions.specs.canonical.Serialize.{anchor_name}
+use Rattle.yaml_definitions.specs.model.Serial.{SerialNode, SerialNodes, SerialPairs, alias_at, scalar_at, sequence_at, mapping_at, end_serial, item_serial, done_serial, entry_serial}
+use Rattle.yaml_definitions.specs.canonical.TagText.{tag_text, written_tag}
 use Rattle.yaml_canon.specs.declared.names.State.{State}
 use Rattle.yaml_canon.specs.declared.names.State.TheVariants.{Unseen}
 use Rattle.yaml_canon.specs.declared.names.Opening.{Opening}

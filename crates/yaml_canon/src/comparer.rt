@@ -2,17 +2,18 @@
 ghost use Rattle.std.specs.Prelude.{◌≡◌, ◌↔◌, ◌⊎◌, ◌≤◌, ◌<◌, ℕ, List, true, Ok, Err, map, take, drop, length, OnOk, IfOk, IfErr, MatchResult};
 ghost use Rattle.std.specs.Result.{IsErrAnd};
 ghost use Rattle.std.specs.Cmp.Lexicographic.{pointwise};
-ghost use Rattle.yaml_text.specs.Text.{Text, RefusesText};
-ghost use Rattle.yaml_text.specs.Same.{Alike, same};
-ghost use Rattle.yaml_text.specs.Tree.{Tree};
-ghost use Rattle.yaml_text.specs.Proper.{Admitted};
-ghost use Rattle.yaml_text.specs.Means.{Means};
+ghost use Rattle.yaml_definitions.specs.model.Text.{Text};
+ghost use Rattle.yaml_text.specs.Refused.{RefusesText};
+ghost use Rattle.yaml_definitions.specs.model.Same.{Alike, same};
+ghost use Rattle.yaml_definitions.specs.model.Tree.{Tree};
+ghost use Rattle.yaml_definitions.specs.model.Proper.{Admitted};
+ghost use Rattle.yaml_definitions.specs.model.Means.{Means};
 ghost use Rattle.yaml_graph.specs.GraphView.{nodes_of, roots_of, tree};
 ghost use Rattle.yaml_rank.specs.RanksView.{RanksAre};
 ghost use Rattle.yaml_canon.specs.declared.side.Side.TheVariants.{Left, Right};
 ghost use Rattle.yaml_canon.specs.Comparing.{Compares, ComparerRefuses, side_of_fault, ComparesDocuments, RefusesDocuments};
 ghost use Rattle.yaml_canon.specs.Accepting.{IsSpelling, IsMemory, TellsTexts};
-ghost use Rattle.yaml_text.specs.Serial.{Document};
+ghost use Rattle.yaml_definitions.specs.model.Serial.{Document};
 ghost use Rattle.yaml_graph.specs.Composed.{Composed};
 
 use crate::composed::graph_of;

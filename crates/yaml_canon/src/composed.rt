@@ -1,7 +1,8 @@
 //! The graph of a stream's bytes.
 ghost use Rattle.std.specs.Prelude.{ℕ, List, IfOk, IfErr};
 ghost use Rattle.std.specs.Result.{IsErrAnd};
-ghost use Rattle.yaml_text.specs.Text.{Text, RefusesText};
+ghost use Rattle.yaml_definitions.specs.model.Text.{Text};
+ghost use Rattle.yaml_text.specs.Refused.{RefusesText};
 ghost use Rattle.yaml_canon.specs.Claims.{HasGraph, GraphRefuses};
 
 use std::alloc::Global;

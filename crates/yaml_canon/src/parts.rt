@@ -2,12 +2,12 @@
 ghost use Rattle.std.specs.Prelude.{◌≡◌, ◌<◌, ◌/◌, ◌%◌, ◌++◌, ◌∷◌, [], OnOk, IfErr, IfSome, IfNone, codes, Some};
 ghost use Rattle.std.specs.Fmt.{decimal};
 ghost use Rattle.std.specs.Str.{encode_utf8_all, chars};
-ghost use Rattle.yaml_text.specs.CharText.{hex_digit};
-ghost use Rattle.yaml_text.specs.Serialize.{anchor_name};
-ghost use Rattle.yaml_text.specs.Serial.{alias_at};
-ghost use Rattle.yaml_text.specs.NodeText.{node_text, anchor_text, quoted};
-ghost use Rattle.yaml_text.specs.Tag.{default_tag};
-ghost use Rattle.yaml_text.specs.TagText.{spell_byte, encoded, full_text, tag_text, written_tag};
+ghost use Rattle.yaml_definitions.specs.canonical.CharText.{hex_digit};
+ghost use Rattle.yaml_definitions.specs.canonical.Serialize.{anchor_name};
+ghost use Rattle.yaml_definitions.specs.model.Serial.{alias_at};
+ghost use Rattle.yaml_definitions.specs.canonical.NodeText.{node_text, anchor_text, quoted};
+ghost use Rattle.yaml_definitions.specs.model.Tag.{default_tag};
+ghost use Rattle.yaml_definitions.specs.canonical.TagText.{spell_byte, encoded, full_text, tag_text, written_tag};
 ghost use Rattle.yaml_canon.specs.Pieces.{TakesPiece, Puts, Misses, Fails};
 ghost use Rattle.yaml_canon.specs.Kinds.{number_of_kind};
 
@@ -38,7 +38,7 @@ pub(crate) enum Kind {
 }
 
 /// The tag of a node of this kind that carries none.
-#[tactic(auto, unfolding(yaml_text::specs::Tag::core_tag))]
+#[tactic(auto, unfolding(yaml_definitions::specs::model::Tag::core_tag))]
 pub(crate) fn default_tag(kind: Kind) -> &'static str
     ensures { result.now ≡ default_tag (number_of_kind kind) }
 {
@@ -152,7 +152,7 @@ fn put_encoded<O, S: Sink<O>>(sink: &mut S, out: &mut O, tag: &str) -> Result<()
 }
 
 /// How a tag of the core schema is written, if this is one that is.
-#[tactic(auto, unfolding(yaml_text::specs::Tag::core_tag, yaml_text::specs::TagText::full_text))]
+#[tactic(auto, unfolding(yaml_definitions::specs::model::Tag::core_tag, yaml_definitions::specs::canonical::TagText::full_text))]
 fn core_text(tag: &str) -> Option<&'static str>
     ensures some { IfSome result (λ known. (full_text tag.now ≡ known.now) × (encode_utf8_all known.now ≡ known.now)) }
     ensures none { IfNone result (full_text tag.now ≡ codes "!<" ++ encoded tag.now (codes "> ")) }

@@ -1,12 +1,13 @@
 //! The canonical text of a stream, in the room that a caller gives for it.
 ghost use Rattle.std.specs.Prelude.{◌≡◌, ◌≤◌, ◌++◌, ℕ, List, length, drop, OnErr, IfOk, IfErr, IsOk, MatchResult};
 ghost use Rattle.std.specs.Result.{IsErrAnd};
-ghost use Rattle.yaml_text.specs.Text.{Text, RefusesText};
-ghost use Rattle.yaml_text.specs.Limits.{text_limit};
-ghost use Rattle.yaml_text.specs.Tree.{Tree};
-ghost use Rattle.yaml_text.specs.Spell.{spell_bytes};
-ghost use Rattle.yaml_text.specs.Proper.{Admitted};
-ghost use Rattle.yaml_text.specs.Means.{Means};
+ghost use Rattle.yaml_definitions.specs.model.Text.{Text};
+ghost use Rattle.yaml_text.specs.Refused.{RefusesText};
+ghost use Rattle.yaml_definitions.specs.model.Limits.{text_limit};
+ghost use Rattle.yaml_definitions.specs.model.Tree.{Tree};
+ghost use Rattle.yaml_definitions.specs.canonical.Spell.{spell_bytes};
+ghost use Rattle.yaml_definitions.specs.model.Proper.{Admitted};
+ghost use Rattle.yaml_definitions.specs.model.Means.{Means};
 ghost use Rattle.yaml_graph.specs.GraphView.{nodes_of, forest};
 ghost use Rattle.yaml_rank.specs.RanksView.{RanksAre};
 ghost use Rattle.yaml_canon.specs.NamesView.{ranks_in, document_number};

@@ -1,8 +1,8 @@
 //! The canonical text of a graph's documents.
 ghost use Rattle.std.specs.Prelude.{◌≡◌, ◌<◌, ◌≤◌, ◌^◌, ◌+◌, ◌∷◌, length, OnOk, IfErr, IfOk};
-ghost use Rattle.yaml_text.specs.Limits.{text_limit};
-ghost use Rattle.yaml_text.specs.NodeText.{node_text};
-ghost use Rattle.yaml_text.specs.Spell.{serial_of, spell_bytes};
+ghost use Rattle.yaml_definitions.specs.model.Limits.{text_limit};
+ghost use Rattle.yaml_definitions.specs.canonical.NodeText.{node_text};
+ghost use Rattle.yaml_definitions.specs.canonical.Spell.{serial_of, spell_bytes};
 ghost use Rattle.yaml_graph.specs.GraphView.{nodes_of, tree, forest};
 ghost use Rattle.yaml_rank.specs.RanksView.{RanksAre};
 ghost use Rattle.yaml_canon.specs.NamesView.{ranks_in, document_number};

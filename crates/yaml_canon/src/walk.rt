@@ -1,14 +1,14 @@
 //! The walk of a graph in writing order, by ranks.
 ghost use Rattle.std.specs.Prelude.{◌≡◌, ◌<◌, ◌++◌, ◌∷◌, [], length, map, OnOk, IfErr};
 ghost use Rattle.std.specs.List.{All};
-ghost use Rattle.yaml_text.specs.Order.{arranged};
+ghost use Rattle.yaml_definitions.specs.model.Order.{arranged};
 ghost use Rattle.yaml_graph.specs.GraphView.{nodes_of, tree};
 ghost use Rattle.yaml_graph.specs.TreeLists.{trees, pairs};
 ghost use Rattle.yaml_rank.specs.RankModel.{key_pair};
 ghost use Rattle.yaml_rank.specs.RanksView.{RanksAre};
 ghost use Rattle.yaml_canon.specs.NamesView.{ranks_in, document_number, count_of, table_of, given_of, opening_number};
 ghost use Rattle.yaml_canon.specs.Pieces.{Puts, Fails};
-ghost use Rattle.yaml_text.specs.NodeText.{node_text, items_text, pairs_text};
+ghost use Rattle.yaml_definitions.specs.canonical.NodeText.{node_text, items_text, pairs_text};
 ghost use Rattle.yaml_canon.specs.RankView.{rank_in};
 ghost use Rattle.yaml_canon.specs.Walked.{noticed, noticed_all, noticed_pairs, opening_of, begun_unless_short, separator, given, given_all, given_pairs, given_inside, written, written_all, written_pairs, behind_anchor};
 

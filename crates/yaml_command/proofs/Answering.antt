@@ -3,7 +3,7 @@ use Rattle.std.specs.Prelude.{Result, Ok, Err, IfOk, IfErr}
 use Rattle.std.specs.Io.KnownBytes.{Consumes}
 use Rattle.std.proofs.Common.{◌≡◌, ◌⊎◌, ◌≤◌, ◌<◌, ◌+◌, ℕ, Bool, List, [], length, length-append, Option, Some, None, IfSome, subst, ap, refl, inl, inr, arith}
 use Rattle.std.proofs.KnownBytes.{Consumes-all}
-use Rattle.yaml_text.specs.Limits.{text_limit}
+use Rattle.yaml_definitions.specs.model.Limits.{text_limit}
 use Rattle.yaml_text.specs.declared.fault.Fault.{Fault}
 use Rattle.yaml_text.specs.declared.fault.Fault.TheVariants.{TooLong, OutOfMemory, ReadFault, WriteFault}
 use Rattle.yaml_text.specs.declared.counted.Counted.{Counted}

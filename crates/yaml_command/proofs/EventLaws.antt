@@ -1,13 +1,13 @@
 -- From an event text that was printed, or not, to what `events` promises.
 use Rattle.std.proofs.Common.{ℕ, List, Option, refl, arith}
-use Rattle.yaml_text.specs.Limits.{text_limit}
-use Rattle.yaml_text.specs.Event.{Event}
-use Rattle.yaml_text.specs.EventText.{events_text}
-use Rattle.yaml_text.specs.grammar.Reading.{Reads}
+use Rattle.yaml_definitions.specs.model.Limits.{text_limit}
+use Rattle.yaml_definitions.specs.model.Event.{Event}
+use Rattle.yaml_definitions.specs.model.EventText.{events_text}
+use Rattle.yaml_definitions.specs.grammar.Reading.{Reads}
 use Rattle.yaml_text.specs.declared.fault.Fault.{Fault}
 use Rattle.yaml_text.specs.declared.fault.Fault.TheVariants.{TooLong, OutOfMemory, ReadFault, WriteFault}
 use Rattle.yaml_text.specs.declared.counted.Counted.{Counted}
-use Rattle.yaml_text.proofs.MeaningLaws.{readings_have_text}
+use Rattle.yaml_definitions.proofs.MeaningLaws.{readings_have_text}
 use Rattle.yaml_canon.specs.Gathering.{Gathers}
 use Rattle.yaml_canon.specs.Writers.{Printed}
 use Rattle.yaml_event_text.specs.Answer.{IsEventText, IsUnread}

@@ -1,9 +1,9 @@
 -- What `same` and `check` print of two inputs.
 use Rattle.std.specs.Prelude.{◌≡◌, ◌↔◌, ℕ, Bool, true, cond, List, Option, codes}
 use Rattle.std.specs.Str.{IsUtf8, IsValidUpTo}
-use Rattle.yaml_text.specs.Event.{Event}
-use Rattle.yaml_text.specs.EventText.{EventText}
-use Rattle.yaml_text.specs.grammar.Reading.{Reads}
+use Rattle.yaml_definitions.specs.model.Event.{Event}
+use Rattle.yaml_definitions.specs.model.EventText.{EventText}
+use Rattle.yaml_definitions.specs.grammar.Reading.{Reads}
 use Rattle.yaml_text.specs.declared.fault.Fault.{Fault}
 use Rattle.yaml_text.specs.declared.fault.Fault.TheVariants.{NotUtf8, WriteFault}
 use Rattle.yaml_text.specs.declared.counted.Counted.{Counted}

@@ -2,7 +2,7 @@
 use Rattle.std.specs.Prelude.{◌≡◌, ◌++◌, ℕ, List, Option, Some, None, codes}
 use Rattle.yaml_text.specs.declared.fault.Fault.{Fault}
 use Rattle.yaml_text.specs.declared.counted.Counted.{Counted}
-use Rattle.yaml_text.specs.Limits.{text_limit}
+use Rattle.yaml_definitions.specs.model.Limits.{text_limit}
 use Rattle.yaml_canon.specs.Gathering.{GatherFails}
 use Rattle.yaml_canon.specs.declared.side.Side.{Side}
 use Rattle.yaml_words.specs.declared.words.WordsFault.TheVariants.{Usage}

@@ -1,6 +1,6 @@
 -- What is known of the files that are named.
 use Rattle.std.specs.Prelude.{◌≡◌, ◌<◌, ℕ, List, length, Option, None, IfSome}
-use Rattle.yaml_text.specs.Limits.{text_limit}
+use Rattle.yaml_definitions.specs.model.Limits.{text_limit}
 use Rattle.yaml_text.specs.declared.fault.Fault.{Fault}
 use Rattle.yaml_text.specs.declared.fault.Fault.TheVariants.{TooLong, OutOfMemory, ReadFault}
 use Rattle.yaml_canon.specs.declared.side.Side.{Side}

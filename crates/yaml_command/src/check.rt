@@ -1,7 +1,7 @@
 //! `check`: whether an input's events are those of an event text.
 ghost use Rattle.std.specs.Prelude.{◌≡◌, ◌≤◌, ◌<◌, ◌-◌, ◌^◌, length, IfOk, IfErr};
 ghost use Rattle.yaml_text.specs.CountedModel.{faults_of};
-ghost use Rattle.yaml_text.specs.Limits.{text_limit};
+ghost use Rattle.yaml_definitions.specs.model.Limits.{text_limit};
 ghost use Rattle.yaml_canon.specs.Gathering.{Gathers};
 ghost use Rattle.yaml_command.specs.Judged.{match_line, HasEvents, MatchRefuses, PrintsMatch, MatchFails};
 ghost use Rattle.yaml_command.specs.Refusals.{events_limit, InputFails, LinesFail};

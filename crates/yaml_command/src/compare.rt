@@ -1,7 +1,7 @@
 //! `same`: whether two inputs have the same documents.
 ghost use Rattle.std.specs.Prelude.{◌≡◌, ◌≤◌, ◌<◌, ◌-◌, ◌^◌, length, IfOk, IfErr};
 ghost use Rattle.yaml_text.specs.CountedModel.{faults_of};
-ghost use Rattle.yaml_text.specs.Limits.{text_limit};
+ghost use Rattle.yaml_definitions.specs.model.Limits.{text_limit};
 ghost use Rattle.yaml_canon.specs.Gathering.{Gathers};
 ghost use Rattle.yaml_command.specs.Judged.{same_line, PrintsSame, SameFails};
 ghost use Rattle.yaml_command.specs.Refusals.{SideFails};

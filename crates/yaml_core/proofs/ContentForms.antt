@@ -6,12 +6,12 @@ use Rattle.std.specs.List.{list_all}
 use Rattle.std.specs.Char.{digit_value}
 use Rattle.std.specs.Int.Digits.{digits_of, number_from_digits, AllBelowBase}
 use Rattle.std.proofs.lemmas.Int.Digits.{all_below_base_digits_of, number_digits_of, first_digits_of}
-use Rattle.yaml_text.specs.Tag.{core_tag, null_tag, bool_tag, int_tag, float_tag}
-use Rattle.yaml_text.specs.Core.{Value, null_value, bool_value, int_value, decimal_value, infinity, not_a_number, number_in, is_empty, null_of, is_null, bool_of, int_of, float_of, decimal_of, as_int, split_at, natural_text, int_text, trimmed, point_text, exponent_text, exponent, digits_text, decimal_text, content_of, value_of}
-use Rattle.yaml_text.proofs.Members.{and_both, both_and}
-use Rattle.yaml_text.proofs.CoreLaws.{digit_back, digits_are, null_is, bool_is, int_is, int_back}
-use Rattle.yaml_text.proofs.FloatLaws.{sign_text, trimmed_first, decimal_back}
-use Rattle.yaml_text.proofs.ResolveLaws.{IsFloat, OnFloat, float_kind, float_is, number, exponent_is, content_is}
+use Rattle.yaml_definitions.specs.model.Tag.{core_tag, null_tag, bool_tag, int_tag, float_tag}
+use Rattle.yaml_definitions.specs.model.Core.{Value, null_value, bool_value, int_value, decimal_value, infinity, not_a_number, number_in, is_empty, null_of, is_null, bool_of, int_of, float_of, decimal_of, as_int, split_at, natural_text, int_text, trimmed, point_text, exponent_text, exponent, digits_text, decimal_text, content_of, value_of}
+use Rattle.yaml_definitions.proofs.Members.{and_both, both_and}
+use Rattle.yaml_definitions.proofs.CoreLaws.{digit_back, digits_are, null_is, bool_is, int_is, int_back}
+use Rattle.yaml_definitions.proofs.FloatLaws.{sign_text, trimmed_first, decimal_back}
+use Rattle.yaml_definitions.proofs.ResolveLaws.{IsFloat, OnFloat, float_kind, float_is, number, exponent_is, content_is}
 use Rattle.yaml_core.specs.State.{all_digits}
 use Rattle.yaml_core.proofs.StateLemmas.{and_false}
 use Rattle.yaml_core.proofs.IntLemmas.{digit_back as digit_is, digits_back, digits_low, natural_digits}

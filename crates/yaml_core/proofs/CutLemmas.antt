@@ -3,7 +3,7 @@ use Rattle.std.proofs.Common.{◌≡◌, ◌<◌, ◌≤◌, ℕ, ◌+◌, ◌-�
 use Rattle.std.specs.Prelude.{slice_range}
 use Rattle.std.proofs.lemmas.Bool.{ne_eqb}
 use Rattle.std.proofs.lemmas.List.{take_more, drop_all, take_all}
-use Rattle.yaml_text.specs.Core.{is_empty, split_at}
+use Rattle.yaml_definitions.specs.model.Core.{is_empty, split_at}
 use Rattle.yaml_core.proofs.StateLemmas.{and_false}
 use Rattle.yaml_core.specs.Digits.{without_last_zeros}
 

@@ -7,10 +7,10 @@ use Rattle.std.proofs.lemmas.Bool.Decides.{nat_tests}
 use Rattle.std.proofs.lemmas.Int.{ints}
 use Rattle.std.specs.Char.{is_digit, digit_value}
 use Rattle.std.specs.Int.Digits.{digits_of}
-use Rattle.yaml_text.specs.Core.{Value, decimal_value, float_range, are_digits, is_empty, number_in, unsigned, is_negative, signed, split_at, exponent_of, scaled, mantissa, decimal_of, trimmed, exponent_text, exponent, digits_text, decimal_text, content_of, refused}
-use Rattle.yaml_text.specs.Limits.{exponent_limit}
-use Rattle.yaml_text.proofs.FloatLaws.{digits_number}
-use Rattle.yaml_text.proofs.Members.{and_both, both_and}
+use Rattle.yaml_definitions.specs.model.Core.{Value, decimal_value, float_range, are_digits, is_empty, number_in, unsigned, is_negative, signed, split_at, exponent_of, scaled, mantissa, decimal_of, trimmed, exponent_text, exponent, digits_text, decimal_text, content_of, refused}
+use Rattle.yaml_definitions.specs.model.Limits.{exponent_limit}
+use Rattle.yaml_definitions.proofs.FloatLaws.{digits_number}
+use Rattle.yaml_definitions.proofs.Members.{and_both, both_and}
 use Rattle.yaml_core.specs.Answer.{IsContent, RefusesValue, IsDecimalContent, RefusesDecimal}
 use Rattle.yaml_core.specs.State.{is_e, is_point, all_digits}
 use Rattle.yaml_core.specs.Digits.{without_zeros, without_last_zeros}

@@ -6,8 +6,8 @@ use Rattle.std.specs.Char.{is_digit}
 use Rattle.std.proofs.lemmas.Bool.{cond_both, eqb-true}
 use Rattle.std.proofs.lemmas.Bool.Decides.{nat_tests}
 use lib.Pointwise.{bytes_decides}
-use Rattle.yaml_text.specs.Core.{not_a_number, one_of, are_digits, number_in, unsigned, after_prefix, digits_after, split_at, decimal_of, bool_of, int_of, float_of, is_null}
-use Rattle.yaml_text.proofs.Members.{and_both}
+use Rattle.yaml_definitions.specs.model.Core.{not_a_number, one_of, are_digits, number_in, unsigned, after_prefix, digits_after, split_at, decimal_of, bool_of, int_of, float_of, is_null}
+use Rattle.yaml_definitions.proofs.Members.{and_both}
 use Rattle.yaml_core.specs.Form.{table_kind, form_kind, form_of, by_bool, infinity_words, nan_words}
 use Rattle.yaml_core.specs.State.{is_e, is_point, all_digits, float_rest}
 use Rattle.yaml_core.specs.Values.{Values, HasValues}

@@ -6,9 +6,9 @@ use Rattle.std.proofs.lemmas.Bool.Decides.{nat_tests}
 use Rattle.std.specs.Char.{is_digit, digit_value}
 use Rattle.std.specs.Str.{IsAscii}
 use Rattle.std.specs.Int.Digits.{digits_of, AllBelowBase}
-use Rattle.yaml_text.specs.Core.{int_range, int_value, are_digits, number_in, unsigned, is_negative, signed, natural_text, int_text, content_of, Value, refused}
-use Rattle.yaml_text.proofs.FloatLaws.{digits_number}
-use Rattle.yaml_text.proofs.Members.{and_both}
+use Rattle.yaml_definitions.specs.model.Core.{int_range, int_value, are_digits, number_in, unsigned, is_negative, signed, natural_text, int_text, content_of, Value, refused}
+use Rattle.yaml_definitions.proofs.FloatLaws.{digits_number}
+use Rattle.yaml_definitions.proofs.Members.{and_both}
 use Rattle.yaml_core.specs.Answer.{IsContent, RefusesValue}
 use Rattle.yaml_core.specs.Values.{decimal_int}
 use Rattle.yaml_core.specs.declared.scalar.CoreFault.{CoreFault}

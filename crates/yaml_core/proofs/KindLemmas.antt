@@ -1,8 +1,8 @@
 -- What a text resolves to under the tag of a kind, by its form.
 use Rattle.std.proofs.Common.{◌≡◌, ℕ, true, ◌⊎◌, inl, inr, Option, Some, None, Result, Ok, Err, List, pos, drop, codes, refl, sym, ◌∙◌, ap, subst}
 use Rattle.std.specs.Prelude.{MatchResult, is_some}
-use Rattle.yaml_text.specs.Tag.{null_tag, bool_tag, int_tag, float_tag}
-use Rattle.yaml_text.specs.Core.{bad_content, Value, int_value, infinity, number_in, is_negative, decimal_of, null_of, content_of, refused, Resolved, accepted, by_range, by_pattern}
+use Rattle.yaml_definitions.specs.model.Tag.{null_tag, bool_tag, int_tag, float_tag}
+use Rattle.yaml_definitions.specs.model.Core.{bad_content, Value, int_value, infinity, number_in, is_negative, decimal_of, null_of, content_of, refused, Resolved, accepted, by_range, by_pattern}
 use Rattle.yaml_core.specs.Answer.{RefusesScalar, RefusesValue, IsContent, IsDecimalContent, RefusesDecimal}
 use Rattle.yaml_core.specs.Form.{form_of}
 use Rattle.yaml_core.specs.Kind.{of_kind, word_of}

@@ -7,8 +7,8 @@ use Rattle.std.proofs.lemmas.List.{take_more, take-append-drop, map-append}
 use Rattle.std.proofs.lemmas.Int.Digits.{number_push, number_after_append, number_after_ge, digits_of_step}
 use Rattle.std.specs.Char.{is_digit, digit_value}
 use Rattle.std.specs.Int.Digits.{digits_of, number_from_digits, number_from_digits_after}
-use Rattle.yaml_text.specs.Core.{number_in, natural_text}
-use Rattle.yaml_text.proofs.Members.{and_both}
+use Rattle.yaml_definitions.specs.model.Core.{number_in, natural_text}
+use Rattle.yaml_definitions.proofs.Members.{and_both}
 use Rattle.yaml_core.specs.State.{all_digits}
 use Rattle.yaml_core.specs.Digits.{without_zeros}
 

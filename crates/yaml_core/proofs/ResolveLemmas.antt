@@ -3,9 +3,9 @@ use Rattle.std.proofs.Common.{◌≡◌, ℕ, true, false, ◌||◌, inl, inr, O
 use Rattle.std.specs.Prelude.{bytes_eq, is_some}
 use Rattle.std.proofs.lemmas.Bool.{cond_both}
 use lib.Pointwise.{bytes_decides}
-use Rattle.yaml_text.specs.Tag.{core_tag, null_tag, bool_tag, int_tag, float_tag, seq_tag, map_tag}
-use Rattle.yaml_text.specs.Core.{wrong_kind, bad_content, Value, null_of, bool_of, int_of, float_of, as_bool, as_int, Resolved, by_pattern, by_table, by_tag}
-use Rattle.yaml_text.proofs.CoreLaws.{pattern_parts, wrong}
+use Rattle.yaml_definitions.specs.model.Tag.{core_tag, null_tag, bool_tag, int_tag, float_tag, seq_tag, map_tag}
+use Rattle.yaml_definitions.specs.model.Core.{wrong_kind, bad_content, Value, null_of, bool_of, int_of, float_of, as_bool, as_int, Resolved, by_pattern, by_table, by_tag}
+use Rattle.yaml_definitions.proofs.CoreLaws.{pattern_parts, wrong}
 use Rattle.yaml_core.specs.Form.{form_kind, form_of}
 use Rattle.yaml_core.specs.Kind.{kind_tag, of_kind, use_of, has_value}
 use Rattle.yaml_core.specs.Values.{HasValues}

@@ -1,13 +1,13 @@
 -- What resolving gives is of the one form of its tag, with a number in range, and each such text gives itself.
 use Rattle.std.proofs.Common.{◌≡◌, ◌<◌, ◌≤◌, ℕ, zero, suc, ◌-◌, ◌^◌, ◌==◌, nat_lt, nat_le, nat_abs, Bool, true, false, cond, ◌||◌, inl, inr, Option, Some, None, Ok, Err, List, ℤ, pos, negsuc, refl, sym, ◌∙◌, ap, subst, arith}
 use Rattle.std.proofs.lemmas.Bool.{ltb-true, leb-true, le-leb}
-use Rattle.yaml_text.specs.Limits.{int_bits, exponent_limit}
-use Rattle.yaml_text.specs.Tag.{core_tag, null_tag, bool_tag, int_tag, float_tag}
-use Rattle.yaml_text.specs.Event.{Style, full}
-use Rattle.yaml_text.specs.Core.{Cause, bad_content, int_range, float_range, Value, null_value, bool_value, int_value, decimal_value, infinity, not_a_number, number_in, null_of, bool_of, int_of, float_of, as_bool, as_int, natural_text, exponent, content_of, refused, accepted, by_pattern, by_tag, resolve, value_of}
-use Rattle.yaml_text.proofs.CoreLaws.{natural_digital, digital_number, pattern_parts, wrong, null_is, bool_is, int_is}
-use Rattle.yaml_text.proofs.ContentLaws.{tag_takes}
-use Rattle.yaml_text.proofs.ResolveLaws.{IsFloat, OnFloat, float_kind, resolved_again}
+use Rattle.yaml_definitions.specs.model.Limits.{int_bits, exponent_limit}
+use Rattle.yaml_definitions.specs.model.Tag.{core_tag, null_tag, bool_tag, int_tag, float_tag}
+use Rattle.yaml_definitions.specs.model.Event.{Style, full}
+use Rattle.yaml_definitions.specs.model.Core.{Cause, bad_content, int_range, float_range, Value, null_value, bool_value, int_value, decimal_value, infinity, not_a_number, number_in, null_of, bool_of, int_of, float_of, as_bool, as_int, natural_text, exponent, content_of, refused, accepted, by_pattern, by_tag, resolve, value_of}
+use Rattle.yaml_definitions.proofs.CoreLaws.{natural_digital, digital_number, pattern_parts, wrong, null_is, bool_is, int_is}
+use Rattle.yaml_definitions.proofs.ContentLaws.{tag_takes}
+use Rattle.yaml_definitions.proofs.ResolveLaws.{IsFloat, OnFloat, float_kind, resolved_again}
 use Rattle.yaml_core.specs.CanonicalForms.{Pattern, bool_form, up_to, int_form, float_form, Resolving, GivesNull, GivesBool, GivesInt, GivesFloat}
 use Rattle.yaml_core.proofs.IntLemmas.{in_range}
 use Rattle.yaml_core.proofs.ContentForms.{natural_counting, Numbered, Scaled, bool_has, int_has, float_has, null_own, bool_own, int_own, int_parts, float_parts}

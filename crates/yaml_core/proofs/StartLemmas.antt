@@ -2,7 +2,7 @@
 use Rattle.std.proofs.Common.{◌≡◌, ℕ, Bool, true, false, cond, not, ◌&&◌, ◌||◌, ◌==◌, if◌then◌else◌, Option, Some, None, List, [], ◌∷◌, codes, refl, sym, ◌∙◌, ap}
 use Rattle.std.specs.Prelude.{bytes_eq, is_some}
 use Rattle.std.specs.Char.{is_digit}
-use Rattle.yaml_text.specs.Core.{one_of, are_digits, is_empty, unsigned, is_negative, after_prefix, digits_after, split_at, exponent_of, scaled, mantissa, decimal_of, bool_of, is_null}
+use Rattle.yaml_definitions.specs.model.Core.{one_of, are_digits, is_empty, unsigned, is_negative, after_prefix, digits_after, split_at, exponent_of, scaled, mantissa, decimal_of, bool_of, is_null}
 use Rattle.yaml_core.specs.Form.{form_of, by_bool, infinity_words, nan_words}
 use Rattle.yaml_core.specs.State.{is_e, is_point, all_digits, exponent_fits, number_fits, float_rest, fraction_rest, prefixed, by_test}
 use Rattle.yaml_core.specs.declared.form.Form.{Form}

@@ -2,7 +2,7 @@
 use Rattle.std.proofs.Common.{◌≡◌, ℕ, Bool, true, false, ◌&&◌, ◌||◌, ◌==◌, if◌then◌else◌, Option, Some, None, List, ◌∷◌, codes, refl, ◌∙◌, ap}
 use Rattle.std.specs.Prelude.{bytes_eq}
 use Rattle.std.specs.Char.{is_digit}
-use Rattle.yaml_text.specs.Core.{one_of, are_digits, unsigned, split_at}
+use Rattle.yaml_definitions.specs.model.Core.{one_of, are_digits, unsigned, split_at}
 use Rattle.yaml_core.specs.Form.{infinity_words, nan_words}
 use Rattle.yaml_core.specs.State.{is_e, is_point, all_digits, exponent_fits, number_fits, float_rest, fraction_rest, prefixed, by_test}
 use Rattle.yaml_core.specs.declared.form.Form.{Form}

@@ -2,10 +2,10 @@
 use Rattle.std.specs.Prelude.{◌≡◌, ◌⊎◌, ◌≤◌, ℕ, ◌==◌, ◌-◌, ◌^◌, Bool, true, not, ◌&&◌, List, [], ◌∷◌, ◌++◌, codes, Some, Ok}
 use Rattle.std.specs.List.{list_all}
 use Rattle.std.specs.Char.{is_digit}
-use Rattle.yaml_text.specs.Limits.{int_bits, exponent_limit}
-use Rattle.yaml_text.specs.Event.{Style, WrittenTag, full}
-use Rattle.yaml_text.specs.Tag.{null_tag, bool_tag, int_tag, float_tag}
-use Rattle.yaml_text.specs.Core.{Value, number_in, value_of, content_of, resolve}
+use Rattle.yaml_definitions.specs.model.Limits.{int_bits, exponent_limit}
+use Rattle.yaml_definitions.specs.model.Event.{Style, WrittenTag, full}
+use Rattle.yaml_definitions.specs.model.Tag.{null_tag, bool_tag, int_tag, float_tag}
+use Rattle.yaml_definitions.specs.model.Core.{Value, number_in, value_of, content_of, resolve}
 
 abbrev pub Pattern : Type 1
 Pattern = List ℕ → Type 0

@@ -1,6 +1,6 @@
 -- A finite float by the parts of its text.
 use Rattle.std.specs.Prelude.{◌≡◌, ℕ, Bool, cond, List, [], ◌∷◌, ◌++◌, ℤ, pos, ◌+ℤ◌, ◌-ℤ◌, Option, Some, None}
-use Rattle.yaml_text.specs.Core.{unsigned, split_at, exponent_text}
+use Rattle.yaml_definitions.specs.model.Core.{unsigned, split_at, exponent_text}
 use Rattle.yaml_core.specs.State.{is_e, is_point}
 use Rattle.yaml_core.specs.Digits.{without_zeros, without_last_zeros}
 

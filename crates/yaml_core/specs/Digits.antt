@@ -1,7 +1,7 @@
 -- Digits of a number's text.
 use Rattle.std.specs.Prelude.{ℕ, Bool, ◌==◌, ◌&&◌, ◌-◌, ◌^◌, cond, if◌then◌else◌, List, [], ◌∷◌}
-use Rattle.yaml_text.specs.Core.{is_empty}
-use Rattle.yaml_text.specs.Limits.{int_bits}
+use Rattle.yaml_definitions.specs.model.Core.{is_empty}
+use Rattle.yaml_definitions.specs.model.Limits.{int_bits}
 
 -- without the zeros at the beginning
 unfoldable pub without_zeros : List ℕ → List ℕ

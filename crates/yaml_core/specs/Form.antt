@@ -1,6 +1,6 @@
 -- What a text is by the patterns of the core schema.
 use Rattle.std.specs.Prelude.{ℕ, Bool, true, false, if◌then◌else◌, List, [], ◌∷◌, codes, Option, Some, None, is_some}
-use Rattle.yaml_text.specs.Core.{one_of, are_digits, unsigned, after_prefix, digits_after, decimal_of, bool_of, int_of, float_of, is_null}
+use Rattle.yaml_definitions.specs.model.Core.{one_of, are_digits, unsigned, after_prefix, digits_after, decimal_of, bool_of, int_of, float_of, is_null}
 use Rattle.yaml_core.specs.declared.kind.PlainKind.{PlainKind}
 use Rattle.yaml_core.specs.declared.kind.PlainKind.TheVariants as kinds
 use Rattle.yaml_core.specs.declared.form.Form.{Form}

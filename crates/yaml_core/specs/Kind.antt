@@ -1,7 +1,7 @@
 -- What a scalar of a kind resolves to.
 use Rattle.std.specs.Prelude.{◌≡◌, Bool, List, ℕ, ◌||◌, if◌then◌else◌, Option, Some, None, Ok, Err, bytes_eq, codes}
-use Rattle.yaml_text.specs.Tag.{null_tag, bool_tag, int_tag, float_tag, str_tag, seq_tag, map_tag}
-use Rattle.yaml_text.specs.Core.{bad_content, null_of, bool_of, int_of, float_of, as_bool, as_int, Resolved, by_pattern}
+use Rattle.yaml_definitions.specs.model.Tag.{null_tag, bool_tag, int_tag, float_tag, str_tag, seq_tag, map_tag}
+use Rattle.yaml_definitions.specs.model.Core.{bad_content, null_of, bool_of, int_of, float_of, as_bool, as_int, Resolved, by_pattern}
 use Rattle.yaml_core.specs.declared.kind.PlainKind.{PlainKind}
 use Rattle.yaml_core.specs.declared.kind.PlainKind.TheVariants as kinds
 use Rattle.yaml_core.specs.declared.form.Form.{Form}

@@ -2,7 +2,7 @@
 use Rattle.std.specs.Prelude.{ℕ, Bool, true, false, not, ◌&&◌, ◌||◌, ◌==◌, if◌then◌else◌, List, [], ◌∷◌, Option, Some, None, bytes_eq}
 use Rattle.std.specs.List.{list_all}
 use Rattle.std.specs.Char.{is_digit}
-use Rattle.yaml_text.specs.Core.{one_of, are_digits, is_empty, unsigned, split_at}
+use Rattle.yaml_definitions.specs.model.Core.{one_of, are_digits, is_empty, unsigned, split_at}
 use Rattle.yaml_core.specs.Form.{form_of, infinity_words, nan_words}
 use Rattle.yaml_core.specs.declared.form.Form.{Form}
 use Rattle.yaml_core.specs.declared.form.Form.TheVariants as forms

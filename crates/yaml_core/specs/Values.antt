@@ -1,6 +1,6 @@
 -- What a text denotes under each tag of the core schema, by its form.
 use Rattle.std.specs.Prelude.{◌≡◌, ℕ, Bool, true, false, List, drop, ℤ, pos, Option, Some, None, is_some}
-use Rattle.yaml_text.specs.Core.{Value, infinity, not_a_number, signed, are_digits, number_in, unsigned, is_negative, decimal_of, bool_of, int_of, float_of, is_null}
+use Rattle.yaml_definitions.specs.model.Core.{Value, infinity, not_a_number, signed, are_digits, number_in, unsigned, is_negative, decimal_of, bool_of, int_of, float_of, is_null}
 use Rattle.yaml_core.specs.declared.form.Form.{Form}
 use Rattle.yaml_core.specs.declared.form.Form.TheVariants as forms
 

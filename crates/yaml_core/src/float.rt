@@ -4,8 +4,8 @@ ghost use Rattle.std.specs.Cow.{cow_str_bytes};
 ghost use Rattle.std.specs.Option.{option_map};
 ghost use Rattle.std.specs.Str.{IsAscii};
 ghost use Rattle.std.specs.String.{string_bytes};
-ghost use Rattle.yaml_text.specs.Core.{infinity, is_negative, decimal_of, content_of, signed, exponent_of, exponent_text};
-ghost use Rattle.yaml_text.specs.Limits.{exponent_limit};
+ghost use Rattle.yaml_definitions.specs.model.Core.{infinity, is_negative, decimal_of, content_of, signed, exponent_of, exponent_text};
+ghost use Rattle.yaml_definitions.specs.model.Limits.{exponent_limit};
 ghost use Rattle.yaml_core.specs.Answer.{RefusesDecimal, IsDecimalContent};
 ghost use Rattle.yaml_core.specs.Decimal.{AreParts, With, scale_of, significant, float_text, mantissa_text, pointed_text};
 ghost use Rattle.yaml_core.specs.Digits.{without_zeros, without_last_zeros};
@@ -267,7 +267,7 @@ fn push_exponent(out: &mut String, exponent: Exponent) -> Result<(), AllocError>
 }
 
 /// The canonical content of an infinity.
-#[tactic(auto, unfolding(yaml_text::specs::Core::content_of))]
+#[tactic(auto, unfolding(yaml_definitions::specs::model::Core::content_of))]
 pub(crate) fn infinity(text: &str) -> &'static str
     ensures { result.now ≡ content_of (infinity (is_negative text.now)) }
 {

@@ -102,7 +102,7 @@ impl State {
     }
 
     /// What a text is that ends here.
-    #[tactic(auto, unfolding(crate::specs::State::meaning, crate::specs::Form::form_of, yaml_text::specs::Core::is_null, crate::specs::State::float_rest, crate::specs::State::fraction_rest, yaml_text::specs::Core::split_at))]
+    #[tactic(auto, unfolding(crate::specs::State::meaning, crate::specs::Form::form_of, yaml_definitions::specs::model::Core::is_null, crate::specs::State::float_rest, crate::specs::State::fraction_rest, yaml_definitions::specs::model::Core::split_at))]
     fn end(self) -> Form
         ensures { result ≡ meaning self [] }
     {

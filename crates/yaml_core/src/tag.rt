@@ -30,7 +30,7 @@ pub(crate) enum TagUse {
 }
 
 /// What this tag makes of a scalar.
-#[tactic(auto, unfolding(yaml_text::specs::Tag::core_tag))]
+#[tactic(auto, unfolding(yaml_definitions::specs::model::Tag::core_tag))]
 pub(crate) fn tag_use(tag: &str) -> TagUse
     ensures { result ≡ use_of tag.now }
 {
@@ -51,7 +51,7 @@ pub(crate) fn tag_use(tag: &str) -> TagUse
 
 impl PlainKind {
     /// The tag of this kind.
-    #[tactic(auto, unfolding(yaml_text::specs::Tag::core_tag))]
+    #[tactic(auto, unfolding(yaml_definitions::specs::model::Tag::core_tag))]
     pub(crate) fn tag(self) -> &'static str
         ensures { result.now ≡ kind_tag self }
     {

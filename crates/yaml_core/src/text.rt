@@ -3,7 +3,7 @@ ghost use Rattle.std.specs.Prelude.{◌≡◌, ◌+◌, ◌<◌, [], ◌∷◌, 
 ghost use Rattle.std.specs.Option.{option_map};
 ghost use Rattle.std.specs.Str.{IsAscii};
 ghost use Rattle.std.specs.String.{string_bytes};
-ghost use Rattle.yaml_text.specs.Core.{is_negative, unsigned, split_at, natural_text};
+ghost use Rattle.yaml_definitions.specs.model.Core.{is_negative, unsigned, split_at, natural_text};
 ghost use Rattle.yaml_core.specs.Digits.{without_zeros, without_last_zeros};
 ghost use Rattle.yaml_core.specs.Delimiter.{is_delimiter};
 

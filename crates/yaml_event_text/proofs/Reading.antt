@@ -1,13 +1,14 @@
 -- What a refusal to read says of the bytes.
 use Rattle.std.proofs.Common.{◌≡◌, ◌⊎◌, inl, inr, ℕ, List, subst}
 use Rattle.yaml_text.specs.Answer.{IsRefusal}
-use Rattle.yaml_text.specs.Limits.{open_limit}
-use Rattle.yaml_text.specs.Text.{Text, RefusesText}
-use Rattle.yaml_text.specs.grammar.Reading.{Reads}
-use Rattle.yaml_text.specs.grammar.Streams.{ReadsText}
+use Rattle.yaml_definitions.specs.model.Limits.{open_limit}
+use Rattle.yaml_definitions.specs.model.Text.{Text}
+use Rattle.yaml_text.specs.Refused.{RefusesText}
+use Rattle.yaml_definitions.specs.grammar.Reading.{Reads}
+use Rattle.yaml_definitions.specs.grammar.Streams.{ReadsText}
 use Rattle.yaml_text.specs.declared.fault.Fault.{Fault}
 use Rattle.yaml_text.specs.declared.fault.Fault.TheVariants as faults
-use Rattle.yaml_text.proofs.grammar.OneText.{one-text}
+use Rattle.yaml_definitions.proofs.grammar.OneText.{one-text}
 use Rattle.yaml_read.specs.Decided.{HasNoReading as NoReading}
 use Rattle.yaml_canon.specs.Claims.{IsNoStream}
 use Rattle.yaml_event_text.specs.Answer.{IsUnread}

@@ -1,9 +1,9 @@
 -- What a text of events, and a refusal to read, say of the bytes.
 use Rattle.std.specs.Prelude.{ℕ, List}
-use Rattle.yaml_text.specs.Event.{Event}
-use Rattle.yaml_text.specs.EventText.{EventText}
-use Rattle.yaml_text.specs.Text.{RefusesText}
-use Rattle.yaml_text.specs.grammar.Reading.{Reads}
+use Rattle.yaml_definitions.specs.model.Event.{Event}
+use Rattle.yaml_definitions.specs.model.EventText.{EventText}
+use Rattle.yaml_text.specs.Refused.{RefusesText}
+use Rattle.yaml_definitions.specs.grammar.Reading.{Reads}
 use Rattle.yaml_text.specs.declared.fault.Fault.{Fault}
 use Rattle.yaml_text.specs.declared.fault.Fault.TheVariants.{TooLong, NotUtf8, NotPrintable, Syntax, Tab, KeyTooLong, TooDeep, BadEscape, BadDirective, UnknownHandle, BadTag, OutOfMemory}
 use Rattle.yaml_canon.specs.Claims.{IsNoStream}

@@ -5,8 +5,8 @@ use Rattle.std.specs.Str.{IsUtf8}
 use Rattle.std.proofs.lemmas.Bool.Decides.{nat_tests}
 use Rattle.std.proofs.lemmas.List.{append-nil, length-append, map-append}
 use Rattle.std.proofs.lemmas.List.Elements.{All-nil, All-cons, All-head, All-tail, All-append}
-use Rattle.yaml_text.specs.Event.{Event}
-use Rattle.yaml_text.specs.EventText.{IsSound, event_line, events_text}
+use Rattle.yaml_definitions.specs.model.Event.{Event}
+use Rattle.yaml_definitions.specs.model.EventText.{IsSound, event_line, events_text}
 use Rattle.yaml_events.specs.Lines.{IsEventLine, IsOneLine, lines_text, IsBadBefore, IsFirstBadLine}
 use Rattle.yaml_events.specs.Parts.{IsLineOf}
 use Rattle.yaml_events.specs.Answer.{RefusesEventText, RefusesPart, fault_of}

@@ -3,8 +3,8 @@ use Rattle.std.proofs.Common.{◌≡◌, ◌≢◌, ◌+◌, ◌==◌, Bool, tru
 use Rattle.std.specs.Str.{IsUtf8}
 use Rattle.std.proofs.lemmas.List.{append-nil, length-append, append_cancel_left}
 use Rattle.std.proofs.lemmas.Bool.Decides.{nat_tests}
-use Rattle.yaml_text.specs.Event.{Event}
-use Rattle.yaml_text.specs.EventText.{EventText, events_text}
+use Rattle.yaml_definitions.specs.model.Event.{Event}
+use Rattle.yaml_definitions.specs.model.EventText.{EventText, events_text}
 use Rattle.yaml_events.specs.Answer.{TellsEventText, StillBehind}
 use Rattle.yaml_events.specs.Lines.{IsOneLine}
 use Rattle.yaml_events.specs.Parts.{IsLineOf}

@@ -1,10 +1,10 @@
 -- How long lines, and their parts, are at most.
 use Rattle.std.proofs.Common.{◌≡◌, ◌≤◌, ℕ, ◌+◌, ◌*◌, ◌==◌, Bool, true, false, List, [], ◌∷◌, ◌++◌, length, refl, arith, cond, length-append}
 use Rattle.std.specs.Prelude.{codes}
-use Rattle.yaml_text.specs.grammar.Characters.{is_uri}
-use Rattle.yaml_text.specs.TagText.{spell_byte, encoded}
-use Rattle.yaml_text.specs.Event.{Style, plain, single, double, literal, folded, WrittenTag, Anchor, sequence_start, mapping_start, scalar_event, alias_event}
-use Rattle.yaml_text.specs.EventText.{value_byte, value_text, style_text, anchor_part, tag_part, flag_text, event_line}
+use Rattle.yaml_definitions.specs.grammar.Characters.{is_uri}
+use Rattle.yaml_definitions.specs.canonical.TagText.{spell_byte, encoded}
+use Rattle.yaml_definitions.specs.model.Event.{Style, plain, single, double, literal, folded, WrittenTag, Anchor, sequence_start, mapping_start, scalar_event, alias_event}
+use Rattle.yaml_definitions.specs.model.EventText.{value_byte, value_text, style_text, anchor_part, tag_part, flag_text, event_line}
 
 both_short : (b : Bool) (xs ys : List ℕ) (n : ℕ) → length xs ≤ n → length ys ≤ n → length (cond b xs ys) ≤ n
 both_short true xs ys n h k = h

@@ -1,7 +1,7 @@
 -- The lines of events, one event after the other.
 use Rattle.std.proofs.Common.{◌≡◌, List, [], ◌∷◌, ◌++◌, refl, sym, ap, ◌∙◌, append_assoc}
-use Rattle.yaml_text.specs.Event.{Event}
-use Rattle.yaml_text.specs.EventText.{event_line, events_text}
+use Rattle.yaml_definitions.specs.model.Event.{Event}
+use Rattle.yaml_definitions.specs.model.EventText.{event_line, events_text}
 
 pub events_append : (es fs : List Event) → events_text (es ++ fs) ≡ events_text es ++ events_text fs
 unfolding events_text

@@ -11,11 +11,11 @@ use Rattle.yaml_text.specs.declared.event.EventTag.{EventTag}
 use Rattle.yaml_text.specs.declared.event.Style as code
 use Rattle.yaml_text.specs.EventModel.{written_of, style_of}
 use Rattle.std.proofs.lemmas.List.{append-nil}
-use Rattle.yaml_text.specs.Event.{Event, Style, plain, single, double, literal, folded, WrittenTag, untagged, non_specific, full, Anchor, stream_start, stream_end, document_start, document_end, sequence_start, sequence_end, mapping_start, mapping_end, scalar_event, alias_event}
-use Rattle.yaml_text.specs.Sound.{IsAnchor}
-use Rattle.yaml_text.specs.EventText.{anchor_part, tag_part, style_text, value_text, flag_text, event_line, IsSound}
-use Rattle.yaml_text.proofs.CharLaws.{heads, tails}
-use Rattle.yaml_text.proofs.EventTextLaws.{line_once, seen}
+use Rattle.yaml_definitions.specs.model.Event.{Event, Style, plain, single, double, literal, folded, WrittenTag, untagged, non_specific, full, Anchor, stream_start, stream_end, document_start, document_end, sequence_start, sequence_end, mapping_start, mapping_end, scalar_event, alias_event}
+use Rattle.yaml_definitions.specs.model.Sound.{IsAnchor}
+use Rattle.yaml_definitions.specs.model.EventText.{anchor_part, tag_part, style_text, value_text, flag_text, event_line, IsSound}
+use Rattle.yaml_definitions.proofs.CharLaws.{heads, tails}
+use Rattle.yaml_definitions.proofs.EventTextLaws.{line_once, seen}
 use Rattle.yaml_events.specs.Parts.{StartsWithout, IsAnchored, EndsAnchor, IsTagged, EndsTag, IsProps, EndsProps, IsMark, IsCut, EndsMark, IsCollection, IsSigned, IsScalarLine, IsBare, IsLineOf}
 
 abbrev pub Props : Type 0

@@ -7,11 +7,11 @@ use Rattle.std.proofs.lemmas.Bool.Decides.{nat_tests}
 use Rattle.std.proofs.lemmas.List.{take-append-drop, drop_more, length-take-le, get_or-take}
 use Rattle.std.proofs.lemmas.List.Elements.{All-from_get_or, All-head, All-tail}
 use Rattle.std.proofs.lemmas.Str.{is_utf8-from_IsUtf8, chars_past_char}
-use Rattle.yaml_text.specs.Sound.{is_anchor, is_anchor_char, IsAnchor, SoundAnchor}
-use Rattle.yaml_text.proofs.CharLaws.{heads, tails}
-use Rattle.yaml_text.proofs.EventTextLaws.{Inner, inner_name}
-use Rattle.yaml_text.specs.Event.{Anchor}
-use Rattle.yaml_text.specs.EventText.{anchor_part}
+use Rattle.yaml_definitions.specs.model.Sound.{is_anchor, is_anchor_char, IsAnchor, SoundAnchor}
+use Rattle.yaml_definitions.proofs.CharLaws.{heads, tails}
+use Rattle.yaml_definitions.proofs.EventTextLaws.{Inner, inner_name}
+use Rattle.yaml_definitions.specs.model.Event.{Anchor}
+use Rattle.yaml_definitions.specs.model.EventText.{anchor_part}
 use Rattle.yaml_events.specs.Parts.{StartsApart, StartsWithout, IsCutAtSpace, IsAnchored, EndsAnchor}
 use Rattle.std.specs.Prelude.{Some, None}
 

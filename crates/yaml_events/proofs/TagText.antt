@@ -6,10 +6,10 @@ use Rattle.std.proofs.lemmas.Bool.Decides.{nat_tests}
 use lib.Pointwise.{bytes_decides}
 use Rattle.percent_encoding.specs.Percent.{percent_encode, percent_encode_byte, encode_byte}
 use Rattle.percent_encoding.specs.AsciiSet.{should_percent_encode}
-use Rattle.yaml_text.specs.grammar.Characters.{is_uri, is_word}
-use Rattle.yaml_text.specs.TagText.{spell_byte, encoded}
-use Rattle.yaml_text.proofs.Members.{and_both}
-use Rattle.yaml_text.proofs.TagLaws.{AreBytes}
+use Rattle.yaml_definitions.specs.grammar.Characters.{is_uri, is_word}
+use Rattle.yaml_definitions.specs.canonical.TagText.{spell_byte, encoded}
+use Rattle.yaml_definitions.proofs.Members.{and_both}
+use Rattle.yaml_definitions.proofs.TagLaws.{AreBytes}
 use Rattle.yaml_events.specs.declared.tag.TheConstants.{ESCAPED}
 
 -- a test of all numbers below one

@@ -19,23 +19,23 @@ use lib.Pointwise.{bytes_decides}
 use Rattle.percent_encoding.specs.Percent.{percent_encode, percent_decode}
 use Rattle.percent_encoding.specs.AsciiSet.{contains}
 use Rattle.percent_encoding.proofs.PercentLemmas.{round_trip, IsByte}
-use Rattle.yaml_text.specs.grammar.Characters.{is_uri, is_word}
-use Rattle.yaml_text.specs.CharText.{hex_digit}
-use Rattle.yaml_text.specs.Event.{WrittenTag, untagged, non_specific, full}
-use Rattle.yaml_text.specs.EventText.{tag_part}
-use Rattle.yaml_text.specs.Sound.{SoundTag}
-use Rattle.yaml_text.specs.TagText.{spell_byte, encoded}
-use Rattle.yaml_text.proofs.CharLaws.{heads, tails}
-use Rattle.yaml_text.proofs.Members.{and_both}
-use Rattle.yaml_text.proofs.TagLaws.{AreBytes, encoded_more}
-use Rattle.yaml_text.proofs.EventTextLaws.{bytes_of_tag, full_mark}
+use Rattle.yaml_definitions.specs.grammar.Characters.{is_uri, is_word}
+use Rattle.yaml_definitions.specs.canonical.CharText.{hex_digit}
+use Rattle.yaml_definitions.specs.model.Event.{WrittenTag, untagged, non_specific, full}
+use Rattle.yaml_definitions.specs.model.EventText.{tag_part}
+use Rattle.yaml_definitions.specs.model.Sound.{SoundTag}
+use Rattle.yaml_definitions.specs.canonical.TagText.{spell_byte, encoded}
+use Rattle.yaml_definitions.proofs.CharLaws.{heads, tails}
+use Rattle.yaml_definitions.proofs.Members.{and_both}
+use Rattle.yaml_definitions.proofs.TagLaws.{AreBytes, encoded_more}
+use Rattle.yaml_definitions.proofs.EventTextLaws.{bytes_of_tag, full_mark}
 use Rattle.yaml_events.specs.Parts.{IsEncoded, IsTagged, EndsTag, StartsWithout}
 use Rattle.yaml_events.specs.declared.tag.TheConstants.{ESCAPED}
 use Rattle.yaml_events.proofs.TagText.{encoded_is}
 use Rattle.std.proofs.lemmas.Bool.Decides.{nat_tests}
 use Rattle.std.proofs.lemmas.Str.{is_utf8-from_IsUtf8, IsUtf8-from_is_utf8}
-use Rattle.yaml_text.specs.Limits.{tag_limit}
-use Rattle.yaml_text.specs.Tag.{is_full, IsTag}
+use Rattle.yaml_definitions.specs.model.Limits.{tag_limit}
+use Rattle.yaml_definitions.specs.model.Tag.{is_full, IsTag}
 
 some_byte : (text : List ℕ) → false ≡ (length text == 0) → true ≡ nat_le 1 (length text)
 some_byte text e = grind (arith, nat_tests)

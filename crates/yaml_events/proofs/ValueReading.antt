@@ -5,9 +5,9 @@ use Rattle.std.proofs.lemmas.List.{append-nil, take_all, take_more, drop_more, t
 use Rattle.std.specs.Prelude.{MatchOption, Option, Some, None, is_some, String}
 use Rattle.std.proofs.Common.{Global}
 use Rattle.std.specs.String.{string_bytes}
-use Rattle.yaml_text.specs.EventText.{value_byte, value_text}
-use Rattle.yaml_text.proofs.CharLaws.{heads, tails}
-use Rattle.yaml_text.proofs.EventTextLaws.{read_value, read_spelled}
+use Rattle.yaml_definitions.specs.model.EventText.{value_byte, value_text}
+use Rattle.yaml_definitions.proofs.CharLaws.{heads, tails}
+use Rattle.yaml_definitions.proofs.EventTextLaws.{read_value, read_spelled}
 use Rattle.yaml_events.proofs.ValueText.{value_append, run_more}
 
 -- a value begins with one byte's text alone

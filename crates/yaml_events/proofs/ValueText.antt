@@ -3,7 +3,7 @@ use Rattle.std.proofs.Common.{◌≡◌, ◌<◌, ◌≤◌, ◌-◌, ◌+◌, �
 use Rattle.std.proofs.lemmas.List.{append-nil, take_more, length-drop, get_or-drop}
 use Rattle.std.proofs.lemmas.Grind.{common_steps}
 use Rattle.std.proofs.Math.Seq.{take-length}
-use Rattle.yaml_text.specs.EventText.{value_byte, value_text}
+use Rattle.yaml_definitions.specs.model.EventText.{value_byte, value_text}
 
 pub value_append : (xs ys : List ℕ) → value_text (xs ++ ys) ≡ value_text xs ++ value_text ys
 value_append [] ys = refl

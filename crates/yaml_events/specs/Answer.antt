@@ -6,8 +6,8 @@ use Rattle.yaml_events.specs.declared.fault.EventFault.{EventFault}
 use Rattle.yaml_events.specs.declared.fault.EventFault.TheVariants as text_faults
 use Rattle.yaml_events.specs.declared.fault.LineFault.{LineFault}
 use Rattle.yaml_events.specs.declared.fault.LineFault.TheVariants.{NoEvent, OutOfMemory}
-use Rattle.yaml_text.specs.Event.{Event}
-use Rattle.yaml_text.specs.EventText.{EventText}
+use Rattle.yaml_definitions.specs.model.Event.{Event}
+use Rattle.yaml_definitions.specs.model.EventText.{EventText}
 use Rattle.yaml_events.specs.Lines.{IsFirstBadLine}
 
 -- the fault of a line, as that of the text

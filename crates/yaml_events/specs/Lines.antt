@@ -1,7 +1,7 @@
 -- Event texts by their lines.
 use Rattle.std.specs.Prelude.{◌≡◌, ◌≢◌, ◌<◌, ◌+◌, ℕ, List, [], ◌∷◌, ◌++◌, length, All}
-use Rattle.yaml_text.specs.Event.{Event}
-use Rattle.yaml_text.specs.EventText.{IsSound, event_line}
+use Rattle.yaml_definitions.specs.model.Event.{Event}
+use Rattle.yaml_definitions.specs.model.EventText.{IsSound, event_line}
 
 -- The bytes are the line of an event, without its LF.
 abbrev pub IsEventLine : List ℕ → Type 0

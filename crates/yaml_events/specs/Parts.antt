@@ -1,10 +1,10 @@
 -- The parts of an event line: what each is, and what may be expected after it.
 use Rattle.std.specs.Prelude.{◌≡◌, ◌≢◌, ◌⊎◌, ℕ, Bool, All, List, [], ◌∷◌, ◌++◌, codes}
-use Rattle.yaml_text.specs.Event.{Event, Style, WrittenTag, Anchor, sequence_start, mapping_start, scalar_event, alias_event}
-use Rattle.yaml_text.specs.Sound.{SoundTag, SoundAnchor}
-use Rattle.yaml_text.specs.Tag.{IsTag}
-use Rattle.yaml_text.specs.TagText.{encoded}
-use Rattle.yaml_text.specs.EventText.{anchor_part, tag_part, style_text, value_text, flag_text, event_line, IsSound}
+use Rattle.yaml_definitions.specs.model.Event.{Event, Style, WrittenTag, Anchor, sequence_start, mapping_start, scalar_event, alias_event}
+use Rattle.yaml_definitions.specs.model.Sound.{SoundTag, SoundAnchor}
+use Rattle.yaml_definitions.specs.model.Tag.{IsTag}
+use Rattle.yaml_definitions.specs.canonical.TagText.{encoded}
+use Rattle.yaml_definitions.specs.model.EventText.{anchor_part, tag_part, style_text, value_text, flag_text, event_line, IsSound}
 
 -- it is empty, or begins with a space
 abbrev pub StartsApart : List ℕ → Type 0

@@ -3,7 +3,7 @@ ghost use Rattle.std.specs.Prelude.{◌≡◌, ◌<◌, ◌≤◌, ◌+◌, ◌*
 ghost use Rattle.std.specs.Option.{option_map};
 ghost use Rattle.std.specs.Cow.{cow_str_bytes};
 ghost use Rattle.yaml_text.specs.EventModel.{event_of, written_of};
-ghost use Rattle.yaml_text.specs.EventText.{event_line, anchor_part, tag_part};
+ghost use Rattle.yaml_definitions.specs.model.EventText.{event_line, anchor_part, tag_part};
 
 use std::borrow::CowStr;
 use yaml_text::event::{Event, EventTag};

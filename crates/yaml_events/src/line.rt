@@ -4,8 +4,8 @@ ghost use Rattle.std.specs.Str.{IsUtf8};
 ghost use Rattle.std.specs.Option.{option_map};
 ghost use Rattle.std.specs.Cow.{cow_str_bytes};
 ghost use Rattle.yaml_text.specs.EventModel.{event_of, style_of, written_of};
-ghost use Rattle.yaml_text.specs.EventText.{event_line, style_text};
-ghost use Rattle.yaml_text.specs.Event as plain;
+ghost use Rattle.yaml_definitions.specs.model.EventText.{event_line, style_text};
+ghost use Rattle.yaml_definitions.specs.model.Event as plain;
 ghost use Rattle.yaml_events.specs.Answer.{Parses};
 ghost use Rattle.yaml_events.specs.Parts.{IsProps, EndsProps, IsCut, EndsMark, IsMark, IsCollection, IsScalarLine, IsLineOf, IsBare, IsSigned};
 
@@ -97,7 +97,7 @@ fn read_scalar<'a>(
 }
 
 /// The event of a line that is the same wherever it stands.
-#[tactic(auto, unfolding(yaml_text::specs::EventText::event_line))]
+#[tactic(auto, unfolding(yaml_definitions::specs::model::EventText::event_line))]
 fn bare_event<'a>(line: &str) -> Option<Event<'a>>
     ensures { MatchOption result ((e : plain.Event) → IsBare e → line.now ≢ event_line e)
         (λ e. IsBare (event_of e) × (line.now ≡ event_line (event_of e))) }

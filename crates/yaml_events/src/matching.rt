@@ -1,6 +1,6 @@
 //! Events, held against the lines of a text.
 ghost use Rattle.std.specs.Prelude.{IfOk, IfErr, map};
-ghost use Rattle.yaml_text.specs.Event as plain;
+ghost use Rattle.yaml_definitions.specs.model.Event as plain;
 ghost use Rattle.yaml_text.specs.EventModel.{event_of};
 ghost use Rattle.yaml_events.specs.Answer.{RefusesEventText, RefusesPart, StillBehind, TellsEventText};
 ghost use Rattle.yaml_events.specs.Parts.{IsLineOf};

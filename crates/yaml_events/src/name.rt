@@ -3,8 +3,8 @@ ghost use Rattle.std.specs.Prelude.{◌≡◌, ◌<◌, ◌≤◌, ◌+◌, ◌+
 ghost use Rattle.std.specs.Option.{option_map};
 ghost use Rattle.std.specs.Cow.{cow_str_bytes};
 ghost use Rattle.std.specs.String.{string_bytes, string_len, string_capacity};
-ghost use Rattle.yaml_text.specs.EventText.{anchor_part};
-ghost use Rattle.yaml_text.specs.Sound.{is_anchor, is_anchor_char};
+ghost use Rattle.yaml_definitions.specs.model.EventText.{anchor_part};
+ghost use Rattle.yaml_definitions.specs.model.Sound.{is_anchor, is_anchor_char};
 ghost use Rattle.yaml_events.specs.Answer.{Parses};
 ghost use Rattle.yaml_events.specs.Parts.{IsCutAtSpace, IsAnchored, EndsAnchor};
 
@@ -29,7 +29,7 @@ pub fn push_anchor(anchor: &Option<CowStr<'_>>, out: &mut String) -> Result<(), 
 }
 
 /// Whether `c` is a character of names (YAML 1.2.2, 6.9.2); U+FEFF is none, as no text holds it.
-#[tactic(auto, unfolding(yaml_text::specs::grammar::Tags::is_name, yaml_text::specs::grammar::Characters::is_ns, yaml_text::specs::grammar::Characters::is_nb))]
+#[tactic(auto, unfolding(yaml_definitions::specs::grammar::Tags::is_name, yaml_definitions::specs::grammar::Characters::is_ns, yaml_definitions::specs::grammar::Characters::is_nb))]
 fn is_name_char(c: char) -> bool
     ensures { result ≡ is_anchor_char c }
 {

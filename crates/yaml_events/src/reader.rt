@@ -1,7 +1,7 @@
 //! Events, read from their lines.
 ghost use Rattle.std.specs.Prelude.{◌≡◌, IfOk, IfErr, map};
 ghost use Rattle.yaml_text.specs.EventModel.{event_of};
-ghost use Rattle.yaml_text.specs.EventText.{EventText};
+ghost use Rattle.yaml_definitions.specs.model.EventText.{EventText};
 ghost use Rattle.yaml_events.specs.Answer.{RefusesEventText};
 
 use crate::fault::EventFault;

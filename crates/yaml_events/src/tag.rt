@@ -2,10 +2,10 @@
 ghost use Rattle.std.specs.Prelude.{◌≡◌, ◌<◌, ◌≤◌, ◌+◌, ◌++◌, [], length, OnOk, OnErr, IfOk, IsTrue, ◌↔◌};
 ghost use Rattle.std.specs.String.{string_bytes, string_len, string_capacity};
 ghost use Rattle.yaml_text.specs.EventModel.{written_of};
-ghost use Rattle.yaml_text.specs.EventText.{tag_part};
-ghost use Rattle.yaml_text.specs.TagText.{encoded};
+ghost use Rattle.yaml_definitions.specs.model.EventText.{tag_part};
+ghost use Rattle.yaml_definitions.specs.canonical.TagText.{encoded};
 ghost use Rattle.std.specs.Cow.{cow_str_bytes};
-ghost use Rattle.yaml_text.specs.Tag.{is_full};
+ghost use Rattle.yaml_definitions.specs.model.Tag.{is_full};
 ghost use Rattle.yaml_events.specs.Answer.{Parses};
 ghost use Rattle.yaml_events.specs.Parts.{IsEncoded, IsTagged, EndsTag};
 
@@ -73,7 +73,7 @@ pub fn push_tag(tag: &EventTag<'_>, out: &mut String) -> Result<(), AllocError>
 }
 
 /// Whether a text may be a full tag.
-#[tactic(auto, unfolding(yaml_text::specs::Tag::is_full))]
+#[tactic(auto, unfolding(yaml_definitions::specs::model::Tag::is_full))]
 fn is_full(text: &str) -> bool
     ensures { result ≡ is_full text.now }
 {

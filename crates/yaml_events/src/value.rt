@@ -3,7 +3,7 @@ ghost use Rattle.std.specs.Prelude.{◌≡◌, ◌<◌, ◌≤◌, ◌+◌, ◌+
 ghost use Rattle.std.specs.Str.{IsUtf8};
 ghost use Rattle.std.specs.String.{string_bytes, string_len, string_capacity};
 ghost use Rattle.std.specs.Cow.{cow_str_bytes};
-ghost use Rattle.yaml_text.specs.EventText.{value_byte, value_text};
+ghost use Rattle.yaml_definitions.specs.model.EventText.{value_byte, value_text};
 ghost use Rattle.yaml_events.specs.Answer.{Parses};
 
 use crate::fault::LineFault;
@@ -11,7 +11,7 @@ use std::alloc::{AllocError, Global};
 use std::borrow::CowStr;
 
 /// The escape of a byte that no value has as itself.
-#[tactic(auto, unfolding(yaml_text::specs::EventText::value_byte))]
+#[tactic(auto, unfolding(yaml_definitions::specs::model::EventText::value_byte))]
 fn escape_of(byte: u8) -> Option<&'static str>
     ensures { MatchOption result (value_byte byte ≡ byte ∷ []) (λ text. (text.now ≡ value_byte byte) × (byte < 128) × (value_byte byte ≢ byte ∷ [])) }
 {
@@ -43,7 +43,7 @@ pub fn push_value(text: &str, out: &mut String) -> Result<(), AllocError>
 }
 
 /// What a backslash and this byte stand for in a value.
-#[tactic(auto, unfolding(yaml_text::specs::EventText::value_byte))]
+#[tactic(auto, unfolding(yaml_definitions::specs::model::EventText::value_byte))]
 fn unescape(byte: u8) -> Option<char>
     ensures { MatchOption result ((b : ℕ) → value_byte b ≢ 92 ∷ byte ∷ []) (λ c. (value_byte c ≡ 92 ∷ byte ∷ []) × (byte < 128) × (c < 128)) }
 {

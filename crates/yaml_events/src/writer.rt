@@ -4,7 +4,7 @@ ghost use Rattle.std.specs.Option.{option_map};
 ghost use Rattle.std.specs.Cow.{cow_str_bytes};
 ghost use Rattle.std.specs.String.{string_bytes, string_len, string_capacity};
 ghost use Rattle.yaml_text.specs.EventModel.{event_of, style_of, written_of};
-ghost use Rattle.yaml_text.specs.EventText.{EventText, IsSound, event_line, anchor_part, tag_part, style_text, flag_text, value_text};
+ghost use Rattle.yaml_definitions.specs.model.EventText.{EventText, IsSound, event_line, anchor_part, tag_part, style_text, flag_text, value_text};
 
 use crate::name::push_anchor;
 use crate::tag::push_tag;
@@ -76,7 +76,7 @@ fn push_scalar(
 }
 
 /// Appends an event's line without its LF.
-#[tactic(auto, unfolding(yaml_text::specs::EventText::event_line))]
+#[tactic(auto, unfolding(yaml_definitions::specs::model::EventText::event_line))]
 fn push_event(event: &Event<'_>, out: &mut String) -> Result<(), AllocError>
     ensures ok { OnOk result (string_bytes out.new ≡ string_bytes out.old ++ event_line (event_of event.now)) }
     ensures keeps { string_capacity out.old ≤ string_capacity out.new }

@@ -3,33 +3,33 @@ use Rattle.std.proofs.Common.{◌≡◌, ◌≢◌, ℕ, zero, suc, ◌⊎◌, i
 use Rattle.std.specs.Prelude.{slice_get}
 use Rattle.std.specs.Result.{IsErrAnd}
 use Rattle.std.proofs.Math.Nat.{eq-or-lt_of_le}
-use Rattle.yaml_text.specs.Event.{Event}
+use Rattle.yaml_definitions.specs.model.Event.{Event}
 use Rattle.yaml_text.specs.Lines.{Inside}
 use Rattle.yaml_text.specs.declared.fault.Fault.{Fault}
 use Rattle.yaml_text.specs.declared.fault.Fault.TheVariants.{OutOfMemory}
-use Rattle.yaml_text.specs.grammar.Rules.{Rule, ◌▸◌, ◌∪◌, gives, maybe, with_value}
-use Rattle.yaml_text.specs.grammar.Separation.{Ctx, block_out, block_in, flow_out, flow_in, block_key, flow_key, separate, s_l_comments}
-use Rattle.yaml_text.specs.grammar.Tags.{Handles, properties}
-use Rattle.yaml_text.specs.grammar.Tags as tags
-use Rattle.yaml_text.specs.grammar.Events.{Props, no_props, alias_node, empty}
-use Rattle.yaml_text.specs.grammar.Nodes.{Part, yaml_part, json_part, yaml_node, json_node, reads}
-use Rattle.yaml_unique.specs.Readings.{End, At, Starts}
-use Rattle.yaml_unique.specs.Follows.{Solid, Fresh, Closes, Colon, Fy, Fj, F}
-use Rattle.yaml_unique.proofs.Lines.{way_maybe}
-use Rattle.yaml_unique.proofs.Properties.{NoMore, props_two, props_here, props_inside}
-use Rattle.yaml_unique.proofs.TagEnds.{prop_same, prop_here, prop_inside, alias_same}
-use Rattle.yaml_unique.proofs.FlowNodes.{Kind, Sign, kind_three, kind_same, plain_start, jsons_start, prop_kind, ContentHere, Plains, Jsons, YamlRest, JsonRest, yaml_next, json_next, json_parts}
-use Rattle.yaml_unique.proofs.FlowEntries.{Facts, closes_solid, colon_solid, colon_part}
-use Rattle.yaml_unique.proofs.FlowLevels.{inner_in, inner_out, no_facts, reads_facts, jsons_unique, plain_flow_unique, next_flow, content_flow, end_solid}
-use Rattle.yaml_unique.proofs.PlainEnds.{plain_block_unique}
-use Rattle.yaml_unique.proofs.BlockNodes.{next_here, content_here}
-use Rattle.yaml_complete.specs.Decisions.{Refused, Goes, Rest, Here}
-use Rattle.yaml_complete.specs.FlowEnds.{EndsYaml, EndsJson}
-use Rattle.yaml_complete.proofs.Decisions.{rest_goes, rest_refused, rest_rest, rest_right, rest_seen, refused_either}
-use Rattle.yaml_complete.proofs.FlowStarts.{plain_left, alias_left, no_json, yaml_propped, json_propped, propped_begin}
-use Rattle.yaml_complete.proofs.PropertyChoices.{Second, rest_propped, plain_after, json_after, goes_gives, refused_gives}
-use Rattle.yaml_complete.proofs.Separations.{rest_separate, refused_separate, lines_of}
-use Rattle.yaml_complete.proofs.FlowLoops.{closes_fresh}
+use Rattle.yaml_definitions.specs.grammar.Rules.{Rule, ◌▸◌, ◌∪◌, gives, maybe, with_value}
+use Rattle.yaml_definitions.specs.grammar.Separation.{Ctx, block_out, block_in, flow_out, flow_in, block_key, flow_key, s-separate as separate, s-l-comments as s_l_comments}
+use Rattle.yaml_definitions.specs.grammar.Tags.{Handles, c-ns-properties as properties}
+use Rattle.yaml_definitions.specs.grammar.Tags as tags
+use Rattle.yaml_definitions.specs.grammar.Events.{Props, no_props, alias_node, e-scalar as empty}
+use Rattle.yaml_definitions.specs.grammar.Nodes.{Part, yaml_part, json_part, ns-flow-yaml-node as yaml_node, c-flow-json-node as json_node, reads}
+use Rattle.law_one_reading.specs.Readings.{End, At, Starts}
+use Rattle.law_one_reading.specs.Follows.{Solid, Fresh, Closes, Colon, EndsYamlNode as Fy, EndsJsonNode as Fj, EndsNode as F}
+use Rattle.law_one_reading.proofs.Lines.{way_maybe}
+use Rattle.law_one_reading.proofs.Properties.{NoMore, props_two, props_here, props_inside}
+use Rattle.law_one_reading.proofs.TagEnds.{prop_same, prop_here, prop_inside, alias_same}
+use Rattle.law_one_reading.proofs.FlowNodes.{Kind, Sign, kind_three, kind_same, plain_start, jsons_start, prop_kind, ContentHere, Plains, Jsons, YamlRest, JsonRest, yaml_next, json_next, json_parts}
+use Rattle.law_one_reading.proofs.FlowEntries.{Facts, closes_solid, colon_solid, colon_part}
+use Rattle.law_one_reading.proofs.FlowLevels.{inner_in, inner_out, no_facts, reads_facts, jsons_unique, plain_flow_unique, next_flow, content_flow, end_solid}
+use Rattle.law_one_reading.proofs.PlainEnds.{plain_block_unique}
+use Rattle.law_one_reading.proofs.BlockNodes.{next_here, content_here}
+use Rattle.law_going_on.specs.Decisions.{Refused, Goes, Rest, Here}
+use Rattle.law_going_on.specs.FlowEnds.{EndsYaml, EndsJson}
+use Rattle.law_going_on.proofs.Decisions.{rest_goes, rest_refused, rest_rest, rest_right, rest_seen, refused_either}
+use Rattle.law_going_on.proofs.FlowStarts.{plain_left, alias_left, no_json, yaml_propped, json_propped, propped_begin}
+use Rattle.law_going_on.proofs.PropertyChoices.{Second, rest_propped, plain_after, json_after, goes_gives, refused_gives}
+use Rattle.law_going_on.proofs.Separations.{rest_separate, refused_separate, lines_of}
+use Rattle.law_going_on.proofs.FlowLoops.{closes_fresh}
 use Rattle.yaml_flow.specs.Decisions.{IsProperty, AllProperties, Barred, Stops, another, nothing, EndOf, LineGoesOn, IsRefused, IsOnly, DecidesNode}
 use Rattle.yaml_flow.specs.FlowDecisions.{IsOpening, ContentOnly, ContentRefused}
 use Rattle.yaml_flow.specs.FlowRules.{opens, below, content_at, content_from}
@@ -39,7 +39,7 @@ use Rattle.yaml_flow.specs.declared.flow.FlowNode.{FlowNode}
 use Rattle.yaml_flow.proofs.Deciding.{at_err, one_end, no_end}
 use Rattle.yaml_flow.proofs.FlowLemmas.{from_reads}
 use Rattle.yaml_flow.proofs.LineLemmas.{spaces_apart}
-use Rattle.yaml_complete.proofs.PropertyLines.{no_gap}
+use Rattle.law_going_on.proofs.PropertyLines.{no_gap}
 use Rattle.yaml_flow.proofs.PropertyDecisions.{no_more}
 use Rattle.yaml_flow.proofs.ContentDecisions.{opening_kind}
 
@@ -108,14 +108,14 @@ module _ (cs : List ℕ) (handles : Handles) (room n : ℕ) (c : Ctx) where
   star_no_json : (E : End) (i : ℕ) → slice_get cs i ≡ Some 42 → Refused JsonNode E i
   star_no_json E i h = rest_refused (json_level E i) (no_json cs Wide handles Open Inner n c E i (star_kind 1 i h (λ e. omega (arith, e))) (star_kind 3 i h (λ e. omega (arith, e))))
 
-  star_left : (E : End) (i : ℕ) → slice_get cs i ≡ Some 42 → Rest YamlNode E i (tags.alias cs) E i
-  star_left E i h = rest_rest (yaml_level E i) (rest_rest (alias_left cs Wide handles Open Inner n c E i (42, h, Sign.star 42 refl)) (rest_seen (λ x. alias_node x ∷ []) (tags.alias cs) E i))
+  star_left : (E : End) (i : ℕ) → slice_get cs i ≡ Some 42 → Rest YamlNode E i (tags.c-ns-alias-node cs) E i
+  star_left E i h = rest_rest (yaml_level E i) (rest_rest (alias_left cs Wide handles Open Inner n c E i (42, h, Sign.star 42 refl)) (rest_seen (λ x. alias_node x ∷ []) (tags.c-ns-alias-node cs) E i))
 
-  pub alias_only : (i x : ℕ) → slice_get cs i ≡ Some 42 → Goes (tags.alias cs) Here i Here x → IsOnly cs handles room n c i Yaml x
-  alias_only i x h g = ((λ d. let E = EndOf cs Yaml n c d in rest_goes (star_left E i h) (one_end (tags.alias cs) E i x g)), λ d. star_no_json (EndOf cs Json n c d) i h)
+  pub alias_only : (i x : ℕ) → slice_get cs i ≡ Some 42 → Goes (tags.c-ns-alias-node cs) Here i Here x → IsOnly cs handles room n c i Yaml x
+  alias_only i x h g = ((λ d. let E = EndOf cs Yaml n c d in rest_goes (star_left E i h) (one_end (tags.c-ns-alias-node cs) E i x g)), λ d. star_no_json (EndOf cs Json n c d) i h)
 
-  pub alias_refused : (i : ℕ) → slice_get cs i ≡ Some 42 → Refused (tags.alias cs) Here i → IsRefused cs handles room n c i Yaml × IsRefused cs handles room n c i Json
-  alias_refused i h f = ((λ d. let E = EndOf cs Yaml n c d in rest_refused (star_left E i h) (no_end (tags.alias cs) E i f)), λ d. star_no_json (EndOf cs Json n c d) i h)
+  pub alias_refused : (i : ℕ) → slice_get cs i ≡ Some 42 → Refused (tags.c-ns-alias-node cs) Here i → IsRefused cs handles room n c i Yaml × IsRefused cs handles room n c i Json
+  alias_refused i h f = ((λ d. let E = EndOf cs Yaml n c d in rest_refused (star_left E i h) (no_end (tags.c-ns-alias-node cs) E i f)), λ d. star_no_json (EndOf cs Json n c d) i h)
 
   -- ---- after properties
 

@@ -2,27 +2,27 @@
 use Rattle.std.proofs.Common.{◌≡◌, ℕ, ◌⊎◌, inl, inr, List, [], ◌∷◌, Result, Ok, Err, Option, Some, None, refl, sym, ◌∙◌, subst}
 use Rattle.std.specs.Prelude.{slice_get}
 use Rattle.std.specs.Result.{IsErrAnd}
-use Rattle.yaml_text.specs.Event.{Event}
-use Rattle.yaml_text.specs.Event as style
+use Rattle.yaml_definitions.specs.model.Event.{Event}
+use Rattle.yaml_definitions.specs.model.Event as style
 use Rattle.yaml_text.specs.declared.fault.Fault.{Fault}
 use Rattle.yaml_text.specs.declared.fault.Fault.TheVariants.{OutOfMemory}
-use Rattle.yaml_text.specs.grammar.Events.{Props, scalar}
-use Rattle.yaml_text.specs.grammar.Nodes.{Part, flow_seq, flow_map}
-use Rattle.yaml_text.specs.grammar.Tags.{Handles}
-use Rattle.yaml_text.specs.grammar.FlowScalars.{single, double}
+use Rattle.yaml_definitions.specs.grammar.Events.{Props, scalar}
+use Rattle.yaml_definitions.specs.grammar.Nodes.{Part, c-flow-sequence as flow_seq, c-flow-mapping as flow_map}
+use Rattle.yaml_definitions.specs.grammar.Tags.{Handles}
+use Rattle.yaml_definitions.specs.grammar.FlowScalars.{c-single-quoted as single, c-double-quoted as double}
 use Rattle.yaml_text.specs.Answer.{Unread, Only, Furthest}
-use Rattle.yaml_text.specs.grammar.Calls as calls
-use Rattle.yaml_text.specs.grammar.Rules.{Rule}
-use Rattle.yaml_text.specs.grammar.Separation.{Ctx, block_out, block_in, flow_out, flow_in, block_key, flow_key, inner}
-use Rattle.yaml_text.specs.grammar.Tags as tags
-use Rattle.yaml_text.specs.grammar.FlowScalars.{plain}
-use Rattle.yaml_unique.proofs.FlowNodes.{Kind, Sign, plain_no_kind, plain_start, jsons_start}
-use Rattle.yaml_unique.proofs.FlowLevels.{inner_in, inner_out}
-use Rattle.yaml_complete.proofs.Decisions.{rest_goes, rest_refused, rest_seen}
-use Rattle.yaml_complete.proofs.FlowStarts.{single_left, double_left, sequence_left, mapping_left}
-use Rattle.yaml_complete.specs.Decisions.{Refused, Goes, Here}
-use Rattle.yaml_complete.proofs.PlainScalars.{plain_block_goes}
-use Rattle.yaml_complete.proofs.FlowChoices.{plain_in_flow}
+use Rattle.yaml_text.specs.Calls as calls
+use Rattle.yaml_definitions.specs.grammar.Rules.{Rule}
+use Rattle.yaml_definitions.specs.grammar.Separation.{Ctx, block_out, block_in, flow_out, flow_in, block_key, flow_key, inner}
+use Rattle.yaml_definitions.specs.grammar.Tags as tags
+use Rattle.yaml_definitions.specs.grammar.FlowScalars.{ns-plain as plain}
+use Rattle.law_one_reading.proofs.FlowNodes.{Kind, Sign, plain_no_kind, plain_start, jsons_start}
+use Rattle.law_one_reading.proofs.FlowLevels.{inner_in, inner_out}
+use Rattle.law_going_on.proofs.Decisions.{rest_goes, rest_refused, rest_seen}
+use Rattle.law_going_on.proofs.FlowStarts.{single_left, double_left, sequence_left, mapping_left}
+use Rattle.law_going_on.specs.Decisions.{Refused, Goes, Here}
+use Rattle.law_going_on.proofs.PlainScalars.{plain_block_goes}
+use Rattle.law_going_on.proofs.FlowChoices.{plain_in_flow}
 use Rattle.yaml_flow.specs.Decisions.{EndOf}
 use Rattle.yaml_flow.specs.FlowDecisions.{IsOpening, DecidesPlain, ContentTaken, ContentRefused, ContentOnly, DecidesContent}
 use Rattle.yaml_flow.specs.FlowRules.{opens, below, content_at, NoOpening}
@@ -34,11 +34,11 @@ use Rattle.yaml_flow.specs.declared.flow.Kind.TheVariants.{Yaml, Json}
 module _ (cs : List ℕ) where
   -- ---- aliases
 
-  pub alias_goes : (i x : ℕ) (w : List ℕ) → Only (calls.read_name cs) i x w → Goes (tags.alias cs) Here i Here x
+  pub alias_goes : (i x : ℕ) (w : List ℕ) → Only (calls.read_name cs) i x w → Goes (tags.c-ns-alias-node cs) Here i Here x
   unfolding calls.read_name
   alias_goes i x w o = record { goes = λ j m v r e. e ∙ (o.only j v (inr r)).0 }
 
-  pub no_alias : (i : ℕ) → Unread (calls.read_name cs) i → Refused (tags.alias cs) Here i
+  pub no_alias : (i : ℕ) → Unread (calls.read_name cs) i → Refused (tags.c-ns-alias-node cs) Here i
   unfolding calls.read_name
   no_alias i none = record { none = λ j m v r e. none j v (inr r) }
 

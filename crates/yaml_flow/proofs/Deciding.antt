@@ -3,11 +3,11 @@ use Rattle.std.proofs.Common.{◌≡◌, ℕ, ◌⊎◌, inl, inr, Result, Ok, E
 use Rattle.std.specs.Result.{IsErrAnd}
 use Rattle.std.proofs.lemmas.Result.{err_from_is_err_and}
 use Rattle.yaml_text.specs.Answer.{Unread, Only, ScalarFaultMeans}
-use Rattle.yaml_text.specs.grammar.Rules.{Rule}
+use Rattle.yaml_definitions.specs.grammar.Rules.{Rule}
 use Rattle.yaml_text.specs.declared.fault.Fault.{Fault}
 use Rattle.yaml_text.specs.declared.fault.Fault.TheVariants as fault
-use Rattle.yaml_unique.specs.Readings.{End}
-use Rattle.yaml_complete.specs.Decisions.{Refused, Goes, Here}
+use Rattle.law_one_reading.specs.Readings.{End}
+use Rattle.law_going_on.specs.Decisions.{Refused, Goes, Here}
 use Rattle.yaml_flow.specs.Answer.{Decides}
 
 -- at the exit of a `?`

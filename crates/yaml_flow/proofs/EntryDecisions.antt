@@ -1,28 +1,28 @@
 -- Entries of a flow mapping and values: what each decides, by what separation leads to.
 use Rattle.std.proofs.Common.{◌≡◌, ℕ, ◌+◌, inl, inr, List, true, Some, refl, sym, ◌∙◌, subst, arith}
 use Rattle.std.specs.Prelude.{slice_get}
-use Rattle.yaml_text.specs.Event.{Event}
+use Rattle.yaml_definitions.specs.model.Event.{Event}
 use Rattle.yaml_text.specs.Lines.{Inside}
-use Rattle.yaml_text.specs.grammar.Rules.{Rule, ◌▸◌, ◌∪◌, gives, maybe, with_value}
-use Rattle.yaml_text.specs.grammar.Characters.{is_nb, is_break}
-use Rattle.yaml_text.specs.grammar.Separation.{Ctx, flow_in, separate}
-use Rattle.yaml_text.specs.grammar.Tags.{Handles, properties}
-use Rattle.yaml_text.specs.grammar.FlowScalars.{single, double}
-use Rattle.yaml_text.specs.grammar.Events.{Props, no_props, empty}
-use Rattle.yaml_text.specs.grammar.Nodes.{Part, yaml_part, json_part, yaml_node, implicit_entry, explicit, flow_seq, flow_map, reads}
+use Rattle.yaml_definitions.specs.grammar.Rules.{Rule, ◌▸◌, ◌∪◌, gives, maybe, with_value}
+use Rattle.yaml_definitions.specs.grammar.Characters.{is_nb, is_break}
+use Rattle.yaml_definitions.specs.grammar.Separation.{Ctx, flow_in, s-separate as separate}
+use Rattle.yaml_definitions.specs.grammar.Tags.{Handles, c-ns-properties as properties}
+use Rattle.yaml_definitions.specs.grammar.FlowScalars.{c-single-quoted as single, c-double-quoted as double}
+use Rattle.yaml_definitions.specs.grammar.Events.{Props, no_props, e-scalar as empty}
+use Rattle.yaml_definitions.specs.grammar.Nodes.{Part, yaml_part, json_part, ns-flow-yaml-node as yaml_node, ns-flow-map-implicit-entry as implicit_entry, ns-flow-map-explicit-entry as explicit, c-flow-sequence as flow_seq, c-flow-mapping as flow_map, reads}
 use Rattle.yaml_text.proofs.Runs.{same_char}
-use Rattle.yaml_unique.specs.Readings.{End, At}
-use Rattle.yaml_unique.specs.Follows.{Solid, Fresh, Way, Closes, ColonY}
-use Rattle.yaml_unique.proofs.Properties.{props_two, props_inside}
-use Rattle.yaml_unique.proofs.TagEnds.{prop_same, prop_here, prop_inside, alias_inside}
-use Rattle.yaml_unique.proofs.PlainEnds.{plain_inside}
-use Rattle.yaml_unique.proofs.FlowNodes.{Jsons, JsonRest, json_parts}
-use Rattle.yaml_unique.proofs.FlowEntries.{Facts}
-use Rattle.yaml_unique.proofs.FlowLevels.{reads_facts}
-use Rattle.yaml_complete.specs.Decisions.{Refused, Goes, Rest}
-use Rattle.yaml_complete.specs.FlowEnds.{InFlow, EndsYaml, EndsJson}
-use Rattle.yaml_complete.proofs.Decisions.{rest_goes, rest_refused, rest_rest}
-use Rattle.yaml_complete.proofs.FlowChoices as left
+use Rattle.law_one_reading.specs.Readings.{End, At}
+use Rattle.law_one_reading.specs.Follows.{Solid, Fresh, Way, Closes, EndsYamlKey as ColonY}
+use Rattle.law_one_reading.proofs.Properties.{props_two, props_inside}
+use Rattle.law_one_reading.proofs.TagEnds.{prop_same, prop_here, prop_inside, alias_inside}
+use Rattle.law_one_reading.proofs.PlainEnds.{plain_inside}
+use Rattle.law_one_reading.proofs.FlowNodes.{Jsons, JsonRest, json_parts}
+use Rattle.law_one_reading.proofs.FlowEntries.{Facts}
+use Rattle.law_one_reading.proofs.FlowLevels.{reads_facts}
+use Rattle.law_going_on.specs.Decisions.{Refused, Goes, Rest}
+use Rattle.law_going_on.specs.FlowEnds.{InFlow, EndsYaml, EndsJson}
+use Rattle.law_going_on.proofs.Decisions.{rest_goes, rest_refused, rest_rest}
+use Rattle.law_going_on.proofs.FlowChoices as left
 use Rattle.yaml_flow.specs.FlowRules.{part_of, opens, below, entry_at, keyed_at, asked_at, value_at, SignAt, AskedAt, IsParted}
 use Rattle.yaml_flow.specs.declared.flow.Kind as kinds
 use Rattle.yaml_flow.specs.declared.flow.Kind.TheVariants.{Yaml, Json}

@@ -2,17 +2,17 @@
 use Rattle.std.proofs.Common.{◌≡◌, ℕ, ◌+◌, ◌≤◌, ◌⊎◌, inl, inr, List, Result, Ok, Err, Option, Some, None, IfOk, IfErr, IfSome, IfNone, refl, sym, subst, arith}
 use Rattle.std.specs.Prelude.{slice_get}
 use Rattle.std.specs.Result.{IsErrAnd}
-use Rattle.yaml_text.specs.Event.{Event}
+use Rattle.yaml_definitions.specs.model.Event.{Event}
 use Rattle.yaml_text.specs.Lines.{Inside}
 use Rattle.yaml_text.specs.declared.fault.Fault.{Fault}
 use Rattle.yaml_text.specs.declared.fault.Fault.TheVariants.{OutOfMemory}
-use Rattle.yaml_text.specs.grammar.Rules.{Rule, maybe}
-use Rattle.yaml_text.specs.grammar.Separation.{Ctx, block_out, block_in, flow_out, flow_in, block_key, flow_key, inner, separate}
-use Rattle.yaml_text.specs.grammar.Tags.{Handles}
-use Rattle.yaml_text.specs.grammar.Tags as tags
-use Rattle.yaml_text.specs.grammar.Events.{Props}
-use Rattle.yaml_unique.specs.Follows.{Solid}
-use Rattle.yaml_complete.specs.Decisions.{Refused, Here}
+use Rattle.yaml_definitions.specs.grammar.Rules.{Rule, maybe}
+use Rattle.yaml_definitions.specs.grammar.Separation.{Ctx, block_out, block_in, flow_out, flow_in, block_key, flow_key, inner, s-separate as separate}
+use Rattle.yaml_definitions.specs.grammar.Tags.{Handles}
+use Rattle.yaml_definitions.specs.grammar.Tags as tags
+use Rattle.yaml_definitions.specs.grammar.Events.{Props}
+use Rattle.law_one_reading.specs.Follows.{Solid}
+use Rattle.law_going_on.specs.Decisions.{Refused, Here}
 use Rattle.yaml_flow.specs.Answer.{Decides}
 use Rattle.yaml_flow.specs.Decisions.{IsOnly, DecidesNode}
 use Rattle.yaml_flow.specs.FlowDecisions.{ContentOnly, ContentRefused, DecidesContent, DecidesEach}
@@ -47,7 +47,7 @@ module _ (cs : List ℕ) (handles : Handles) (room n : ℕ) (c : Ctx) (i : ℕ) 
   only_kind : (kind : kinds.Kind) (x y : ℕ) → kind ≡ Yaml → x ≡ y → IsOnly cs handles room n c i Yaml y → IsOnly cs handles room n c i kind x
   only_kind kind x y e f o = subst (λ k. IsOnly cs handles room n c i k x) (sym e) (subst (λ z. IsOnly cs handles room n c i Yaml z) (sym f) o)
 
-  pub alias_decides : slice_get cs i ≡ Some 42 → (end : FlowNode → ℕ) (r : Result FlowNode Fault) → IfOk r (λ node. node.kind ≡ Yaml) → Decides (tags.alias cs) Here i Here end r → DecidesNode cs handles room n c i end r
+  pub alias_decides : slice_get cs i ≡ Some 42 → (end : FlowNode → ℕ) (r : Result FlowNode Fault) → IfOk r (λ node. node.kind ≡ Yaml) → Decides (tags.c-ns-alias-node cs) Here i Here end r → DecidesNode cs handles room n c i end r
   alias_decides h end (Ok node) k d = only_kind node.kind (end node) (end node) k refl (alias_only cs handles room n c i (end node) h d)
   alias_decides h end (Err e) k d = or_else (alias_refused cs handles room n c i h) d
 

@@ -1,15 +1,15 @@
 -- From what a reader of flow nodes has read to the productions, at each room that holds it.
 use Rattle.std.proofs.Common.{◌≡◌, ℕ, zero, suc, true, ◌+◌, ◌<◌, List, [], ◌∷◌, ◌++◌, refl, sym, ap, subst, arith, inl, inr, max}
-use Rattle.yaml_text.specs.Event.{Event, sequence_end, mapping_end}
-use Rattle.yaml_text.specs.Event as style
-use Rattle.yaml_text.specs.grammar.Rules.{Rule, ◌◂◌, any, optional, chr, maybe, done}
-use Rattle.yaml_text.specs.grammar.Separation.{Ctx, block_in, block_out, flow_out, flow_in, block_key, flow_key, inner, separate}
-use Rattle.yaml_text.specs.grammar.Tags.{Handles, properties}
-use Rattle.yaml_text.specs.grammar.Tags as tags
-use Rattle.yaml_text.specs.grammar.Events.{Props, no_props, seq_start, map_start, scalar, alias_node, wrapped, empty}
-use Rattle.yaml_text.specs.grammar.FlowScalars as flow
-use Rattle.yaml_text.specs.grammar.Nodes as nodes
-use Rattle.yaml_text.specs.grammar.Nodes.{Part, yaml_part, json_part, pair_part, part, reads}
+use Rattle.yaml_definitions.specs.model.Event.{Event, sequence_end, mapping_end}
+use Rattle.yaml_definitions.specs.model.Event as style
+use Rattle.yaml_definitions.specs.grammar.Rules.{Rule, ◌◂◌, any, optional, chr, maybe, done}
+use Rattle.yaml_definitions.specs.grammar.Separation.{Ctx, block_in, block_out, flow_out, flow_in, block_key, flow_key, inner, s-separate as separate}
+use Rattle.yaml_definitions.specs.grammar.Tags.{Handles, c-ns-properties as properties}
+use Rattle.yaml_definitions.specs.grammar.Tags as tags
+use Rattle.yaml_definitions.specs.grammar.Events.{Props, no_props, seq_start, map_start, scalar, alias_node, wrapped, e-scalar as empty}
+use Rattle.yaml_definitions.specs.grammar.FlowScalars as flow
+use Rattle.yaml_definitions.specs.grammar.Nodes as nodes
+use Rattle.yaml_definitions.specs.grammar.Nodes.{Part, yaml_part, json_part, pair_part, part, reads}
 use Rattle.yaml_text.proofs.Repeats.{any_push, any_by}
 use Rattle.yaml_flow.specs.Keys.{ColonAfter}
 use Rattle.yaml_flow.specs.FlowRules.{part_of, opens, below, flow_from, content_at, content_from, Bare, aliased, plainly, with_properties, lone, from_room, item_at, entry_at, keyed_at, asked_at, value_at, spaced, comma, parts, MayFollowColon, IsInner, IsParted}
@@ -76,7 +76,7 @@ module _ (cs : List ℕ) (Wide : Type 0) (handles : Handles) where
   pub sequence_is : (n : ℕ) (c : Ctx) (deep i k l j : ℕ) (es : List Event) → chr cs 91 i k → maybe (separate cs n c) k l →
       from_room deep (λ room. parts cs n (inner c) 93 (item_at cs Wide handles room n (inner c))) l j es →
       content_from cs Wide handles (deep + 1) Json n c i j (wrapped (seq_start true no_props) sequence_end es)
-  unfolding nodes.flow_seq separate inner
+  unfolding nodes.c-flow-sequence separate inner
   sequence_is n c deep i k l j es h s p zero le = absurd (omega (arith, le))
   sequence_is n block_out deep i k l j es h s p (suc r) le = inr (inr (inl (tt, (es, (l, (k, h, s), p r (omega (arith, le))), refl))))
   sequence_is n block_in deep i k l j es h s p (suc r) le = inr (inr (inl (tt, (es, (l, (k, h, s), p r (omega (arith, le))), refl))))
@@ -88,7 +88,7 @@ module _ (cs : List ℕ) (Wide : Type 0) (handles : Handles) where
   pub mapping_is : (n : ℕ) (c : Ctx) (deep i k l j : ℕ) (es : List Event) → chr cs 123 i k → maybe (separate cs n c) k l →
       from_room deep (λ room. parts cs n (inner c) 125 (entry_at cs Wide handles room n (inner c))) l j es →
       content_from cs Wide handles (deep + 1) Json n c i j (wrapped (map_start true no_props) mapping_end es)
-  unfolding nodes.flow_map separate inner
+  unfolding nodes.c-flow-mapping separate inner
   mapping_is n c deep i k l j es h s p zero le = absurd (omega (arith, le))
   mapping_is n block_out deep i k l j es h s p (suc r) le = inr (inr (inr (tt, (es, (l, (k, h, s), p r (omega (arith, le))), refl))))
   mapping_is n block_in deep i k l j es h s p (suc r) le = inr (inr (inr (tt, (es, (l, (k, h, s), p r (omega (arith, le))), refl))))
@@ -97,18 +97,18 @@ module _ (cs : List ℕ) (Wide : Type 0) (handles : Handles) where
   mapping_is n block_key deep i k l j es h s p (suc r) le = inr (inr (inr (tt, (es, (l, (k, h, s), p r (omega (arith, le))), refl))))
   mapping_is n flow_key deep i k l j es h s p (suc r) le = inr (inr (inr (tt, (es, (l, (k, h, s), p r (omega (arith, le))), refl))))
 
-  pub plain_is : (n : ℕ) (c : Ctx) (i j : ℕ) (text : List ℕ) → flow.plain cs n c i j text → content_from cs Wide handles 0 Yaml n c i j (scalar no_props style.plain text ∷ [])
+  pub plain_is : (n : ℕ) (c : Ctx) (i j : ℕ) (text : List ℕ) → flow.ns-plain cs n c i j text → content_from cs Wide handles 0 Yaml n c i j (scalar no_props style.plain text ∷ [])
   plain_is n c i j text p room le = (text, p, refl)
 
-  pub single_is : (n : ℕ) (c : Ctx) (i j : ℕ) (text : List ℕ) → flow.single cs n c i j text → content_from cs Wide handles 0 Json n c i j (scalar no_props style.single text ∷ [])
+  pub single_is : (n : ℕ) (c : Ctx) (i j : ℕ) (text : List ℕ) → flow.c-single-quoted cs n c i j text → content_from cs Wide handles 0 Json n c i j (scalar no_props style.single text ∷ [])
   single_is n c i j text p room le = inl (text, p, refl)
 
-  pub double_is : (n : ℕ) (c : Ctx) (i j : ℕ) (text : List ℕ) → flow.double cs n c i j text → content_from cs Wide handles 0 Json n c i j (scalar no_props style.double text ∷ [])
+  pub double_is : (n : ℕ) (c : Ctx) (i j : ℕ) (text : List ℕ) → flow.c-double-quoted cs n c i j text → content_from cs Wide handles 0 Json n c i j (scalar no_props style.double text ∷ [])
   double_is n c i j text p room le = inr (inl (text, p, refl))
 
   -- with properties on its first event
   pub dressed_at : (p : Props) (kind : Kind) (room n : ℕ) (c : Ctx) (i j : ℕ) (es : List Event) → content_at cs Wide handles no_props kind room n c i j es → content_at cs Wide handles p kind room n c i j (dressed p es)
-  unfolding nodes.flow_seq nodes.flow_map
+  unfolding nodes.c-flow-sequence nodes.c-flow-mapping
   dressed_at p Yaml room n c i j es (t, r, e) = (t, r, ap (dressed p) e)
   dressed_at p Json room n c i j es (inl (t, r, e)) = inl (t, r, ap (dressed p) e)
   dressed_at p Json room n c i j es (inr (inl (t, r, e))) = inr (inl (t, r, ap (dressed p) e))
@@ -118,22 +118,22 @@ module _ (cs : List ℕ) (Wide : Type 0) (handles : Handles) where
   -- ---- nodes
 
   pub unmarked_node : (kind : Kind) (room n : ℕ) (c : Ctx) (i j : ℕ) (es : List Event) → content_at cs Wide handles no_props kind room n c i j es → reads cs Wide handles room (part_of kind n c) i j es
-  unfolding nodes.yaml_node nodes.json_node
+  unfolding nodes.ns-flow-yaml-node nodes.c-flow-json-node
   unmarked_node Yaml room n c i j es r = to_reads room (yaml_part n c) i j es (inr (inl r))
   unmarked_node Json room n c i j es r = to_reads room (json_part n c) i j es (i, no_props, inl (refl, refl), r)
 
   pub marked_node : (kind : Kind) (room n : ℕ) (c : Ctx) (p : Props) (i e k j : ℕ) (es : List Event) → properties cs handles n c i e p → separate cs n c e k →
       content_at cs Wide handles p kind room n c k j es → reads cs Wide handles room (part_of kind n c) i j es
-  unfolding nodes.yaml_node nodes.json_node
+  unfolding nodes.ns-flow-yaml-node nodes.c-flow-json-node
   marked_node Yaml room n c p i e k j es m s r = to_reads room (yaml_part n c) i j es (inr (inr (e, p, m, inl (k, s, r))))
   marked_node Json room n c p i e k j es m s r = to_reads room (json_part n c) i j es (k, p, inr (e, m, s), r)
 
   pub lone_node : (room n : ℕ) (c : Ctx) (p : Props) (i j : ℕ) (es : List Event) → properties cs handles n c i j p → es ≡ empty p → reads cs Wide handles room (yaml_part n c) i j es
-  unfolding nodes.yaml_node
+  unfolding nodes.ns-flow-yaml-node
   lone_node room n c p i j es m e = to_reads room (yaml_part n c) i j es (inr (inr (j, p, m, inr (refl, e))))
 
-  pub alias_reading : (room n : ℕ) (c : Ctx) (i j : ℕ) (x : List ℕ) (es : List Event) → tags.alias cs i j x → es ≡ alias_node x ∷ [] → reads cs Wide handles room (yaml_part n c) i j es
-  unfolding nodes.yaml_node
+  pub alias_reading : (room n : ℕ) (c : Ctx) (i j : ℕ) (x : List ℕ) (es : List Event) → tags.c-ns-alias-node cs i j x → es ≡ alias_node x ∷ [] → reads cs Wide handles room (yaml_part n c) i j es
+  unfolding nodes.ns-flow-yaml-node
   alias_reading room n c i j x es a e = to_reads room (yaml_part n c) i j es (inl (x, a, e))
 
   -- a node with its own properties put on its first event
@@ -157,7 +157,7 @@ module _ (cs : List ℕ) (Wide : Type 0) (handles : Handles) where
   pub pair_item : (d e : ℕ) (kind : Kind) (n : ℕ) (c : Ctx) (i k m o j : ℕ) (ks vs : List Event) → IsInner c → flow_from cs Wide handles d kind n c i k ks →
       ColonAfter cs i k o → chr cs 58 m o → from_room e (λ room. value_at cs Wide handles kind room n c) m j vs →
       from_room (max d e + 1) (λ room. item_at cs Wide handles room n c) i j (wrapped (map_start true no_props) mapping_end (ks ++ vs))
-  unfolding reads nodes.pair nodes.implicit_yaml_key nodes.implicit_json_key
+  unfolding reads nodes.ns-flow-pair nodes.ns-s-implicit-yaml-key nodes.c-s-implicit-json-key
   pair_item d e kind n c i k m o j ks vs b p (x, s, colon, fits) here v zero le = absurd (omega (arith, le))
   pair_item d e Yaml n c i k m o j ks vs b p (x, s, colon, fits) here v (suc r) le =
       let same : m ≡ x = omega (arith, here.1, colon.1) in
@@ -195,19 +195,19 @@ module _ (cs : List ℕ) (Wide : Type 0) (handles : Handles) where
       )
 
   pub no_value : (kind : Kind) (n : ℕ) (c : Ctx) (i j : ℕ) → chr cs 58 i j → MayFollowColon kind c cs j → from_room 0 (λ room. value_at cs Wide handles kind room n c) i j (empty no_props)
-  unfolding nodes.value nodes.adjacent
+  unfolding nodes.c-ns-flow-map-separate-value nodes.c-ns-flow-map-adjacent-value
   no_value Yaml n c i j h s room le = (j, (j, h, (refl, s)), inr (refl, refl))
   no_value Json n c i j h s room le = (j, h, inr (refl, refl))
 
   pub yaml_value : (deep : ℕ) (kind : Kind) (n : ℕ) (c : Ctx) (i j k l : ℕ) (es : List Event) → chr cs 58 i j → MayFollowColon Yaml c cs j → separate cs n c j k → flow_from cs Wide handles deep kind n c k l es →
       from_room deep (λ room. value_at cs Wide handles Yaml room n c) i l es
-  unfolding nodes.value
+  unfolding nodes.c-ns-flow-map-separate-value
   yaml_value deep Yaml n c i j k l es h s a p room le = (j, (j, h, (refl, s)), inl (k, a, inl (p room le)))
   yaml_value deep Json n c i j k l es h s a p room le = (j, (j, h, (refl, s)), inl (k, a, inr (p room le)))
 
   pub json_value : (deep : ℕ) (kind : Kind) (n : ℕ) (c : Ctx) (i j k l : ℕ) (es : List Event) → chr cs 58 i j → maybe (separate cs n c) j k → flow_from cs Wide handles deep kind n c k l es →
       from_room deep (λ room. value_at cs Wide handles Json room n c) i l es
-  unfolding nodes.adjacent
+  unfolding nodes.c-ns-flow-map-adjacent-value
   json_value deep Yaml n c i j k l es h a p room le = (j, h, inl (k, a, inl (p room le)))
   json_value deep Json n c i j k l es h a p room le = (j, h, inl (k, a, inr (p room le)))
 
@@ -218,19 +218,19 @@ module _ (cs : List ℕ) (Wide : Type 0) (handles : Handles) where
 
   pub key_entry : (d e : ℕ) (kind : Kind) (n : ℕ) (c : Ctx) (i k m j : ℕ) (ks vs : List Event) → flow_from cs Wide handles d kind n c i k ks → maybe (separate cs n c) k m →
       from_room e (λ room. value_at cs Wide handles kind room n c) m j vs → from_room (max d e) (λ room. keyed_at cs Wide handles room n c) i j (ks ++ vs)
-  unfolding nodes.implicit_entry nodes.yaml_key_entry nodes.json_key_entry
+  unfolding nodes.ns-flow-map-implicit-entry nodes.ns-flow-map-yaml-key-entry nodes.c-ns-flow-map-json-key-entry
   key_entry d e Yaml n c i k m j ks vs p s v room le = inl (inl (k, ks, vs, p room (omega (arith, le)), inl (m, s, v room (omega (arith, le))), refl))
   key_entry d e Json n c i k m j ks vs p s v room le = inl (inr (k, ks, vs, p room (omega (arith, le)), inl (m, s, v room (omega (arith, le))), refl))
 
   pub lone_entry : (d : ℕ) (kind : Kind) (n : ℕ) (c : Ctx) (i k : ℕ) (ks : List Event) → flow_from cs Wide handles d kind n c i k ks → from_room d (λ room. keyed_at cs Wide handles room n c) i k (ks ++ empty no_props)
-  unfolding nodes.implicit_entry nodes.yaml_key_entry nodes.json_key_entry
+  unfolding nodes.ns-flow-map-implicit-entry nodes.ns-flow-map-yaml-key-entry nodes.c-ns-flow-map-json-key-entry
   lone_entry d Yaml n c i k ks p room le = inl (inl (k, ks, empty no_props, p room le, inr (refl, refl), refl))
   lone_entry d Json n c i k ks p room le = inl (inr (k, ks, empty no_props, p room le, inr (refl, refl), refl))
 
   -- ---- empty keys, and what follows a `?`
 
   pub empty_entry : (e : ℕ) (n : ℕ) (c : Ctx) (i j : ℕ) (vs : List Event) → from_room e (λ room. value_at cs Wide handles Yaml room n c) i j vs → from_room e (λ room. keyed_at cs Wide handles room n c) i j (empty no_props ++ vs)
-  unfolding nodes.empty_key
+  unfolding nodes.c-ns-flow-map-empty-key-entry
   empty_entry e n c i j vs v room le = inr (i, empty no_props, vs, (refl, refl), v room le, refl)
 
   pub asked_keyed : (d n : ℕ) (c : Ctx) (i k j : ℕ) (es : List Event) → separate cs n c i k → from_room d (λ room. keyed_at cs Wide handles room n c) k j es → from_room d (λ room. asked_at cs Wide handles room n c) i j es
@@ -240,30 +240,30 @@ module _ (cs : List ℕ) (Wide : Type 0) (handles : Handles) where
   asked_nothing n c i j s room le = (j, s, inr (j, empty no_props, empty no_props, (refl, refl), (refl, refl), refl))
 
   -- an entry, and a pair
-  explicit_is : (room n : ℕ) (c : Ctx) (i k j : ℕ) (es : List Event) → chr cs 63 i k → asked_at cs Wide handles room n c k j es → nodes.explicit cs Wide handles (Unit {0}) (reads cs Wide handles room) n c i j es
-  unfolding nodes.explicit
+  explicit_is : (room n : ℕ) (c : Ctx) (i k j : ℕ) (es : List Event) → chr cs 63 i k → asked_at cs Wide handles room n c k j es → nodes.ns-flow-map-explicit-entry cs Wide handles (Unit {0}) (reads cs Wide handles room) n c i j es
+  unfolding nodes.ns-flow-map-explicit-entry
   explicit_is room n c i k j es h (m, s, inl (inl r)) = (m, (k, h, s), inl r)
   explicit_is room n c i k j es h (m, s, inl (inr r)) = (m, (k, h, s), inr (inl r))
   explicit_is room n c i k j es h (m, s, inr r) = (m, (k, h, s), inr (inr r))
 
 module _ (cs : List ℕ) (handles : Handles) where
   pub keyed_entry : (room n : ℕ) (c : Ctx) (i j : ℕ) (es : List Event) → keyed_at cs (Unit {0}) handles room n c i j es → entry_at cs (Unit {0}) handles room n c i j es
-  unfolding nodes.entry
+  unfolding nodes.ns-flow-map-entry
   keyed_entry room n c i j es (inl r) = inl r
   keyed_entry room n c i j es (inr r) = inr (tt, inl r)
 
   pub asked_entry : (d n : ℕ) (c : Ctx) (i k j : ℕ) (es : List Event) → chr cs 63 i k → from_room d (λ room. asked_at cs (Unit {0}) handles room n c) k j es → from_room d (λ room. entry_at cs (Unit {0}) handles room n c) i j es
-  unfolding nodes.entry
+  unfolding nodes.ns-flow-map-entry
   asked_entry d n c i k j es h p room le = inr (tt, inr (explicit_is cs (Unit {0}) handles room n c i k j es h (p room le)))
 
   pub asked_pair : (d n : ℕ) (c : Ctx) (i k j : ℕ) (es : List Event) → chr cs 63 i k → from_room d (λ room. asked_at cs (Unit {0}) handles room n c) k j es →
       from_room (d + 1) (λ room. item_at cs (Unit {0}) handles room n c) i j (wrapped (map_start true no_props) mapping_end es)
-  unfolding reads nodes.pair
+  unfolding reads nodes.ns-flow-pair
   asked_pair d n c i k j es h p zero le = absurd (omega (arith, le))
   asked_pair d n c i k j es h p (suc r) le = inl (tt, (es, inr (inr (tt, inr (explicit_is cs (Unit {0}) handles r n c i k j es h (p r (omega (arith, le)))))), refl))
 
   pub empty_pair : (d n : ℕ) (c : Ctx) (i j : ℕ) (vs : List Event) → from_room d (λ room. value_at cs (Unit {0}) handles Yaml room n c) i j vs →
       from_room (d + 1) (λ room. item_at cs (Unit {0}) handles room n c) i j (wrapped (map_start true no_props) mapping_end (empty no_props ++ vs))
-  unfolding reads nodes.pair nodes.empty_key
+  unfolding reads nodes.ns-flow-pair nodes.c-ns-flow-map-empty-key-entry
   empty_pair d n c i j vs v zero le = absurd (omega (arith, le))
   empty_pair d n c i j vs v (suc r) le = inl (tt, (empty no_props ++ vs, inr (inr (tt, inl (i, empty no_props, vs, (refl, refl), v r (omega (arith, le)), refl))), refl))

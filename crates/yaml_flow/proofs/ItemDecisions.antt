@@ -1,21 +1,21 @@
 -- Items of a flow sequence at the room that they have: a node, a pair that begins with its key, with a `?` or with a colon.
 use Rattle.std.proofs.Common.{◌≡◌, ℕ, zero, suc, ◌+◌, inl, inr, List, Some, refl, sym, subst, arith}
 use Rattle.std.specs.Prelude.{slice_get}
-use Rattle.yaml_text.specs.Event.{Event}
-use Rattle.yaml_text.specs.grammar.Rules.{Rule, ◌∪◌}
-use Rattle.yaml_text.specs.grammar.Separation.{flow_in, flow_key, separate}
-use Rattle.yaml_text.specs.grammar.Tags.{Handles}
-use Rattle.yaml_text.specs.grammar.Nodes.{Part, yaml_part, json_part, pair_part, explicit, pair, reads}
+use Rattle.yaml_definitions.specs.model.Event.{Event}
+use Rattle.yaml_definitions.specs.grammar.Rules.{Rule, ◌∪◌}
+use Rattle.yaml_definitions.specs.grammar.Separation.{flow_in, flow_key, s-separate as separate}
+use Rattle.yaml_definitions.specs.grammar.Tags.{Handles}
+use Rattle.yaml_definitions.specs.grammar.Nodes.{Part, yaml_part, json_part, pair_part, ns-flow-map-explicit-entry as explicit, ns-flow-pair as pair, reads}
 use Rattle.yaml_text.proofs.Runs.{same_char}
-use Rattle.yaml_unique.specs.Readings.{End, At}
-use Rattle.yaml_unique.specs.Follows.{ColonY, MarkHere}
-use Rattle.yaml_unique.proofs.FlowLevels.{reads_facts}
-use Rattle.yaml_unique.proofs.KeyContexts.{at_flow, reads_eased}
-use Rattle.yaml_unique.proofs.BlockLevels.{one_more}
-use Rattle.yaml_complete.specs.Decisions.{Refused, Goes, Rest}
-use Rattle.yaml_complete.specs.FlowEnds.{InFlow, EndsYaml, EndsJson}
-use Rattle.yaml_complete.proofs.Decisions.{rest_goes, rest_refused, rest_rest, refused_either}
-use Rattle.yaml_complete.proofs.FlowChoices as left
+use Rattle.law_one_reading.specs.Readings.{End, At}
+use Rattle.law_one_reading.specs.Follows.{EndsYamlKey as ColonY, MarkHere}
+use Rattle.law_one_reading.proofs.FlowLevels.{reads_facts}
+use Rattle.law_one_reading.proofs.KeyContexts.{at_flow, reads_eased}
+use Rattle.law_one_reading.proofs.BlockLevels.{one_more}
+use Rattle.law_going_on.specs.Decisions.{Refused, Goes, Rest}
+use Rattle.law_going_on.specs.FlowEnds.{InFlow, EndsYaml, EndsJson}
+use Rattle.law_going_on.proofs.Decisions.{rest_goes, rest_refused, rest_rest, refused_either}
+use Rattle.law_going_on.proofs.FlowChoices as left
 use Rattle.yaml_flow.specs.FlowDecisions.{NoKey, LongKey}
 use Rattle.yaml_flow.specs.Keys.{Spaced, IsKeySized}
 use Rattle.yaml_flow.specs.FlowRules.{opens, below, item_at, asked_at, value_at, SignAt, AskedAt}

@@ -4,18 +4,18 @@ use Rattle.std.proofs.Common.{◌≡◌, ℕ, zero, suc, ◌<◌, ◌≤◌, Lis
 use Rattle.std.specs.Prelude.{length}
 use Rattle.std.proofs.lemmas.Bool.{cases_lt}
 use Rattle.std.proofs.Math.Nat.{eq-or-lt_of_le}
-use Rattle.yaml_text.specs.Event.{Event}
-use Rattle.yaml_text.specs.grammar.Rules.{Span, Rule, ◌◆◌, ◌▸◌, ◌◂◌, ◌⨾◌, ◌∪◌, gives, given, never, maybe, optional, any, any_span, Any, done, then, Spans, chr, times, with_value, seen, where_both, Stands, run, some_run, ahead}
-use Rattle.yaml_text.specs.grammar.Characters.{is_break, is_space, is_white, brk, numbered, escape}
-use Rattle.yaml_text.specs.grammar.Separation.{Ctx, block_out, block_in, flow_out, flow_in, block_key, flow_key, inner, OneLine, StartsLine, indent, less, sep, separate, separate_lines, s_l_comments, s_b_comment, l_comment, line_end, comment, Unmarked}
-use Rattle.yaml_text.specs.grammar.Tags.{Handles}
-use Rattle.yaml_text.specs.grammar.Tags as tags
-use Rattle.yaml_text.specs.grammar.FlowScalars as flow
-use Rattle.yaml_text.specs.grammar.Nodes as nodes
-use Rattle.yaml_text.specs.grammar.Events.{Props, no_props}
-use Rattle.yaml_text.specs.grammar.Nodes.{Part, yaml_part, json_part, pair_part, part, reads}
-use Rattle.yaml_text.specs.grammar.Laws.{Onward, Forward}
-use Rattle.yaml_text.proofs.grammar.Forward.{on_separate, fwd_tag, fwd_anchor, fwd_alias}
+use Rattle.yaml_definitions.specs.model.Event.{Event}
+use Rattle.yaml_definitions.specs.grammar.Rules.{Span, Rule, ◌◆◌, ◌▸◌, ◌◂◌, ◌⨾◌, ◌∪◌, gives, given, never, maybe, optional, any, any_span, Any, done, then, Spans, chr, times, with_value, seen, where_both, Stands, run, some_run, ahead}
+use Rattle.yaml_definitions.specs.grammar.Characters.{is_break, is_space, is_white, b-break as brk, numbered, c-ns-esc-char as escape}
+use Rattle.yaml_definitions.specs.grammar.Separation.{Ctx, block_out, block_in, flow_out, flow_in, block_key, flow_key, inner, OneLine, StartsLine, s-indent as indent, s-indent-less-than as less, s-separate-in-line as sep, s-separate as separate, s-separate-lines as separate_lines, s-l-comments as s_l_comments, s-b-comment as s_b_comment, l-comment as l_comment, b-comment as line_end, c-nb-comment-text as comment, Unmarked}
+use Rattle.yaml_definitions.specs.grammar.Tags.{Handles}
+use Rattle.yaml_definitions.specs.grammar.Tags as tags
+use Rattle.yaml_definitions.specs.grammar.FlowScalars as flow
+use Rattle.yaml_definitions.specs.grammar.Nodes as nodes
+use Rattle.yaml_definitions.specs.grammar.Events.{Props, no_props}
+use Rattle.yaml_definitions.specs.grammar.Nodes.{Part, yaml_part, json_part, pair_part, part, reads}
+use Rattle.yaml_definitions.specs.grammar.Laws.{Onward, Forward}
+use Rattle.yaml_definitions.proofs.grammar.Forward.{on_separate, fwd_tag, fwd_anchor, fwd_alias}
 use Rattle.yaml_text.proofs.LineRuns.{brk_onward, indent_run}
 use Rattle.yaml_text.specs.Lines.{line_brk}
 use Rattle.yaml_text.proofs.Repeats.{spans_onward}
@@ -209,11 +209,11 @@ module _ (cs : List ℕ) where
   k_separate n flow_out i j r = (on_separate cs n flow_out i j r, λ w. k_lines n i j r w)
   k_separate n flow_in i j r = (on_separate cs n flow_in i j r, λ w. k_lines n i j r w)
 
-  k_properties : (handles : Handles) (n : ℕ) (c : Ctx) → To (tags.properties cs handles n c) (tags.properties cs handles 0 (key_of c))
-  unfolding tags.properties
+  k_properties : (handles : Handles) (n : ℕ) (c : Ctx) → To (tags.c-ns-properties cs handles n c) (tags.c-ns-properties cs handles 0 (key_of c))
+  unfolding tags.c-ns-properties
   k_properties handles n c = k_either
-      (k_taking (same (tags.tag cs handles) (fwd_tag cs handles)) (λ t. k_either (k_gives _) (k_before (k_separate n c) (k_seen _ (same (tags.anchor cs) (fwd_anchor cs))))))
-      (k_taking (same (tags.anchor cs) (fwd_anchor cs)) (λ a. k_either (k_gives _) (k_before (k_separate n c) (k_seen _ (same (tags.tag cs handles) (fwd_tag cs handles))))))
+      (k_taking (same (tags.c-ns-tag-property cs handles) (fwd_tag cs handles)) (λ t. k_either (k_gives _) (k_before (k_separate n c) (k_seen _ (same (tags.c-ns-anchor-property cs) (fwd_anchor cs))))))
+      (k_taking (same (tags.c-ns-anchor-property cs) (fwd_anchor cs)) (λ a. k_either (k_gives _) (k_before (k_separate n c) (k_seen _ (same (tags.c-ns-tag-property cs handles) (fwd_tag cs handles))))))
 
   -- ---- characters
 
@@ -262,14 +262,14 @@ module _ (cs : List ℕ) where
   empties_on n zero i j e = omega (arith, e)
   empties_on n (suc a) i j (k, r, more) = let x : i ≤ k = empty_on n i k r in let y : k ≤ j = empties_on n a k j more in omega (arith, x, y)
 
-  fold_break : (n : ℕ) → HasBreak (flow.fold cs n)
-  unfolding flow.fold
+  fold_break : (n : ℕ) → HasBreak (flow.s-flow-folded cs n)
+  unfolding flow.s-flow-folded
   fold_break n i j v (k, (m, ws, b), (l, (a, e, q), mar)) =
       let x : k ≤ l = empties_on n a k l e in let y : l ≤ j = margin_on n l j mar in
       (m, k, ws.0, b, omega (arith, x, y))
 
-  escape_break : (n : ℕ) → HasBreak (flow.escaped_break cs n)
-  unfolding flow.escaped_break
+  escape_break : (n : ℕ) → HasBreak (flow.s-double-escaped cs n)
+  unfolding flow.s-double-escaped
   escape_break n i j v (k, (m, (h, f), b), (l, (a, e, q), mar)) =
       let x : k ≤ l = empties_on n a k l e in let y : l ≤ j = margin_on n l j mar in
       (m, k, omega (arith, f), b, omega (arith, x, y))
@@ -314,18 +314,18 @@ module _ (cs : List ℕ) where
   char_to block_key i p = p
   char_to flow_key i p = p
 
-  k_plain : (n : ℕ) (c : Ctx) → To (flow.plain cs n c) (flow.plain cs 0 (key_of c))
-  unfolding flow.plain
+  k_plain : (n : ℕ) (c : Ctx) → To (flow.ns-plain cs n c) (flow.ns-plain cs 0 (key_of c))
+  unfolding flow.ns-plain
   k_plain n c = k_where (Unmarked cs) (k_joined (line_to _ _ c (key_of c) (first_to c) (char_to c)) more)
     where
-      lines : To (flow.several cs c (flow.fold cs n) ⨾ flow.plain_line cs (flow.PlainChar cs c) c) (flow.several cs (key_of c) (flow.fold cs 0) ⨾ flow.plain_line cs (flow.PlainChar cs (key_of c)) (key_of c))
+      lines : To (flow.several cs c (flow.s-flow-folded cs n) ⨾ flow.plain_line cs (flow.PlainChar cs c) c) (flow.several cs (key_of c) (flow.s-flow-folded cs 0) ⨾ flow.plain_line cs (flow.PlainChar cs (key_of c)) (key_of c))
       lines i j v (k, ys, zs, r, p, e) =
-          let b = several_break c (flow.fold cs n) (fold_break n) i k ys r in
+          let b = several_break c (flow.s-flow-folded cs n) (fold_break n) i k ys r in
           let l : b.0 < b.1 = brk_onward cs b.0 b.1 b.3 in
           let q : k ≤ j = (line_to _ (flow.PlainChar cs c) c c (λ i x. x) (λ i x. x) k j zs p).0 in
           (omega (arith, b.2, b.4, l, q), λ w. absurd (no_break i b.0 b.1 j b.3 b.2 (omega (arith, b.4, q)) w.0))
 
-      more : To (any (flow.several cs c (flow.fold cs n) ⨾ flow.plain_line cs (flow.PlainChar cs c) c)) (any (flow.several cs (key_of c) (flow.fold cs 0) ⨾ flow.plain_line cs (flow.PlainChar cs (key_of c)) (key_of c)))
+      more : To (any (flow.several cs c (flow.s-flow-folded cs n) ⨾ flow.plain_line cs (flow.PlainChar cs c) c)) (any (flow.several cs (key_of c) (flow.s-flow-folded cs 0) ⨾ flow.plain_line cs (flow.PlainChar cs (key_of c)) (key_of c)))
       more = k_any lines
 
   -- ---- quoted
@@ -357,34 +357,34 @@ module _ (cs : List ℕ) where
   white_on : Forward (flow.white_text cs)
   white_on i j v (a, (h, t, e), q) = omega (arith, e)
 
-  single_on : Forward (flow.single_char cs)
-  unfolding flow.single_char
+  single_on : Forward (flow.ns-single-char cs)
+  unfolding flow.ns-single-char
   single_on i j v (a, inl (h, t, e), q) = omega (arith, e)
   single_on i j v (a, inr (k, (m, (h, e), (g, f)), (d, x)), q) = omega (arith, e, f, d)
 
-  k_single : (n : ℕ) (c : Ctx) → To (flow.single cs n c) (flow.single cs 0 (key_of c))
-  unfolding flow.single
+  k_single : (n : ℕ) (c : Ctx) → To (flow.c-single-quoted cs n c) (flow.c-single-quoted cs 0 (key_of c))
+  unfolding flow.c-single-quoted
   k_single n c = k_where (Unmarked cs) (k_before (k_chr 39)
-      (k_after (k_lines_of (flow.single_char cs) (flow.white_text cs) (flow.several cs c (flow.fold cs n)) never single_on white_on (several_break c (flow.fold cs n) (fold_break n)) none_of _ _)
+      (k_after (k_lines_of (flow.ns-single-char cs) (flow.white_text cs) (flow.several cs c (flow.s-flow-folded cs n)) never single_on white_on (several_break c (flow.s-flow-folded cs n) (fold_break n)) none_of _ _)
       (k_then (k_chr 39) (k_ahead _ _ (λ i x. x)))))
 
   numbered_on : (count : ℕ) → Forward (numbered cs count)
   unfolding numbered
   numbered_on count i j v (p, (a, (r, e), q)) = r.0.0
 
-  double_on : Forward (flow.double_char cs)
-  unfolding flow.double_char escape
+  double_on : Forward (flow.ns-double-char cs)
+  unfolding flow.ns-double-char escape
   double_on i j v (a, inl (h, t, e), q) = omega (arith, e)
   double_on i j v (a, inr (k, (h, e), inl (b, (g, t, f), x)), q) = omega (arith, e, f)
   double_on i j v (a, inr (k, (h, e), inr (inl (m, (g, f), r))), q) = let x : m ≤ j = numbered_on 2 m j a r in omega (arith, e, f, x)
   double_on i j v (a, inr (k, (h, e), inr (inr (inl (m, (g, f), r)))), q) = let x : m ≤ j = numbered_on 4 m j a r in omega (arith, e, f, x)
   double_on i j v (a, inr (k, (h, e), inr (inr (inr (m, (g, f), r)))), q) = let x : m ≤ j = numbered_on 8 m j a r in omega (arith, e, f, x)
 
-  k_double : (n : ℕ) (c : Ctx) → To (flow.double cs n c) (flow.double cs 0 (key_of c))
-  unfolding flow.double
+  k_double : (n : ℕ) (c : Ctx) → To (flow.c-double-quoted cs n c) (flow.c-double-quoted cs 0 (key_of c))
+  unfolding flow.c-double-quoted
   k_double n c = k_where (Unmarked cs) (k_before (k_chr 34)
-      (k_after (k_lines_of (flow.double_char cs) (flow.white_text cs) (flow.several cs c (flow.fold cs n)) (flow.several cs c (flow.escaped_break cs n)) double_on white_on
-      (several_break c (flow.fold cs n) (fold_break n)) (several_break c (flow.escaped_break cs n) (escape_break n)) _ _)
+      (k_after (k_lines_of (flow.ns-double-char cs) (flow.white_text cs) (flow.several cs c (flow.s-flow-folded cs n)) (flow.several cs c (flow.s-double-escaped cs n)) double_on white_on
+      (several_break c (flow.s-flow-folded cs n) (fold_break n)) (several_break c (flow.s-double-escaped cs n) (escape_break n)) _ _)
       (k_chr 34)))
 
   -- ---- nodes
@@ -399,46 +399,46 @@ module _ (cs : List ℕ) where
       k_flow : Inside → (n : ℕ) (c : Ctx) → To (nodes.inside_flow cs Wide handles Open inside n c) (nodes.inside_flow cs Wide handles Open inside 0 (key_of c))
       k_flow h n c = k_either (h n c).0 (h n c).1
 
-      k_yaml : (n : ℕ) (c : Ctx) → To (nodes.yaml_node cs Wide handles Open inside n c) (nodes.yaml_node cs Wide handles Open inside 0 (key_of c))
-      unfolding nodes.yaml_node
-      k_yaml n c = k_either (k_seen _ (same (tags.alias cs) (fwd_alias cs))) (k_either (k_seen _ (k_plain n c))
+      k_yaml : (n : ℕ) (c : Ctx) → To (nodes.ns-flow-yaml-node cs Wide handles Open inside n c) (nodes.ns-flow-yaml-node cs Wide handles Open inside 0 (key_of c))
+      unfolding nodes.ns-flow-yaml-node
+      k_yaml n c = k_either (k_seen _ (same (tags.c-ns-alias-node cs) (fwd_alias cs))) (k_either (k_seen _ (k_plain n c))
           (k_taking (k_properties handles n c) (λ p. k_either (k_before (k_separate n c) (k_seen _ (k_plain n c))) (k_gives _))))
 
       k_parted : (n : ℕ) (c : Ctx) (R S : Rule (List Event)) → To R S → To (nodes.parted cs Wide handles Open inside n c R) (nodes.parted cs Wide handles Open inside 0 (key_of c) S)
       k_parted n c R S f = k_joined (k_any (k_after f (k_then (k_chr 44) (k_maybe (k_separate n c))))) (k_optional f)
 
-      k_value : Inside → (n : ℕ) (c : Ctx) → To (nodes.value cs Wide handles Open inside n c) (nodes.value cs Wide handles Open inside 0 (key_of c))
-      unfolding nodes.value
+      k_value : Inside → (n : ℕ) (c : Ctx) → To (nodes.c-ns-flow-map-separate-value cs Wide handles Open inside n c) (nodes.c-ns-flow-map-separate-value cs Wide handles Open inside 0 (key_of c))
+      unfolding nodes.c-ns-flow-map-separate-value
       k_value h n c = k_before (k_then (k_chr 58) (k_ahead _ _ (k_unsafe c))) (k_either (k_before (k_separate n c) (k_flow h n c)) (k_gives _))
 
-      k_adjacent : Inside → (n : ℕ) (c : Ctx) → To (nodes.adjacent cs Wide handles Open inside n c) (nodes.adjacent cs Wide handles Open inside 0 (key_of c))
-      unfolding nodes.adjacent
+      k_adjacent : Inside → (n : ℕ) (c : Ctx) → To (nodes.c-ns-flow-map-adjacent-value cs Wide handles Open inside n c) (nodes.c-ns-flow-map-adjacent-value cs Wide handles Open inside 0 (key_of c))
+      unfolding nodes.c-ns-flow-map-adjacent-value
       k_adjacent h n c = k_before (k_chr 58) (k_either (k_before (k_maybe (k_separate n c)) (k_flow h n c)) (k_gives _))
 
-      k_implicit : Inside → (n : ℕ) (c : Ctx) → To (nodes.implicit_entry cs Wide handles Open inside n c) (nodes.implicit_entry cs Wide handles Open inside 0 (key_of c))
-      unfolding nodes.implicit_entry nodes.yaml_key_entry nodes.json_key_entry
+      k_implicit : Inside → (n : ℕ) (c : Ctx) → To (nodes.ns-flow-map-implicit-entry cs Wide handles Open inside n c) (nodes.ns-flow-map-implicit-entry cs Wide handles Open inside 0 (key_of c))
+      unfolding nodes.ns-flow-map-implicit-entry nodes.ns-flow-map-yaml-key-entry nodes.c-ns-flow-map-json-key-entry
       k_implicit h n c = k_either
           (k_joined (h n c).0 (k_either (k_before (k_maybe (k_separate n c)) (k_value h n c)) (k_gives _)))
           (k_joined (h n c).1 (k_either (k_before (k_maybe (k_separate n c)) (k_adjacent h n c)) (k_gives _)))
 
-      k_empty_key : Inside → (n : ℕ) (c : Ctx) → To (nodes.empty_key cs Wide handles Open inside n c) (nodes.empty_key cs Wide handles Open inside 0 (key_of c))
-      unfolding nodes.empty_key
+      k_empty_key : Inside → (n : ℕ) (c : Ctx) → To (nodes.c-ns-flow-map-empty-key-entry cs Wide handles Open inside n c) (nodes.c-ns-flow-map-empty-key-entry cs Wide handles Open inside 0 (key_of c))
+      unfolding nodes.c-ns-flow-map-empty-key-entry
       k_empty_key h n c = k_joined (k_gives _) (k_value h n c)
 
-      k_explicit : Inside → (n : ℕ) (c : Ctx) → To (nodes.explicit cs Wide handles Open inside n c) (nodes.explicit cs Wide handles Open inside 0 (key_of c))
-      unfolding nodes.explicit
+      k_explicit : Inside → (n : ℕ) (c : Ctx) → To (nodes.ns-flow-map-explicit-entry cs Wide handles Open inside n c) (nodes.ns-flow-map-explicit-entry cs Wide handles Open inside 0 (key_of c))
+      unfolding nodes.ns-flow-map-explicit-entry
       k_explicit h n c = k_before (k_then (k_chr 63) (k_separate n c)) (k_either (k_implicit h n c) (k_either (k_empty_key h n c) (k_joined (k_gives _) (k_gives _))))
 
-      k_entry : Inside → (n : ℕ) (c : Ctx) → To (nodes.entry cs Wide handles Open inside n c) (nodes.entry cs Wide handles Open inside 0 (key_of c))
-      unfolding nodes.entry
+      k_entry : Inside → (n : ℕ) (c : Ctx) → To (nodes.ns-flow-map-entry cs Wide handles Open inside n c) (nodes.ns-flow-map-entry cs Wide handles Open inside 0 (key_of c))
+      unfolding nodes.ns-flow-map-entry
       k_entry h n c = k_either (k_implicit h n c) (k_given Wide (k_either (k_empty_key h n c) (k_explicit h n c)))
 
       k_key : (c : Ctx) → ToSpan (sep cs) (sep cs)
       unfolding separate key_of
       k_key c = k_separate 0 flow_key
 
-      k_pair : Inside → (n : ℕ) (c : Ctx) → To (nodes.pair cs Wide handles Open inside n c) (nodes.pair cs Wide handles Open inside 0 (key_of c))
-      unfolding nodes.pair nodes.implicit_yaml_key nodes.implicit_json_key key_of
+      k_pair : Inside → (n : ℕ) (c : Ctx) → To (nodes.ns-flow-pair cs Wide handles Open inside n c) (nodes.ns-flow-pair cs Wide handles Open inside 0 (key_of c))
+      unfolding nodes.ns-flow-pair nodes.ns-s-implicit-yaml-key nodes.c-s-implicit-json-key key_of
       k_pair h n c = k_given Open (k_seen _ (k_either (k_joined (k_where _ (k_after (h 0 flow_key).0 (k_maybe (k_key c)))) (k_value h n c))
           (k_either (k_joined (k_where _ (k_after (h 0 flow_key).1 (k_maybe (k_key c)))) (k_adjacent h n c))
           (k_given Wide (k_either (k_empty_key h n c) (k_explicit h n c))))))
@@ -448,21 +448,21 @@ module _ (cs : List ℕ) where
       k_items h n c = subst (λ x. To (inside (pair_part n (inner c)) ∪ nodes.inside_flow cs Wide handles Open inside n (inner c)) (inside (pair_part 0 x) ∪ nodes.inside_flow cs Wide handles Open inside 0 x))
           (inner_key c) (k_either (h n (inner c)).2 (k_flow h n (inner c)))
 
-      k_entries : Inside → (n : ℕ) (c : Ctx) → To (nodes.entry cs Wide handles Open inside n (inner c)) (nodes.entry cs Wide handles Open inside 0 (inner (key_of c)))
-      k_entries h n c = subst (λ x. To (nodes.entry cs Wide handles Open inside n (inner c)) (nodes.entry cs Wide handles Open inside 0 x)) (inner_key c) (k_entry h n (inner c))
+      k_entries : Inside → (n : ℕ) (c : Ctx) → To (nodes.ns-flow-map-entry cs Wide handles Open inside n (inner c)) (nodes.ns-flow-map-entry cs Wide handles Open inside 0 (inner (key_of c)))
+      k_entries h n c = subst (λ x. To (nodes.ns-flow-map-entry cs Wide handles Open inside n (inner c)) (nodes.ns-flow-map-entry cs Wide handles Open inside 0 x)) (inner_key c) (k_entry h n (inner c))
 
-      k_seq : Inside → (p : Props) (n : ℕ) (c : Ctx) → To (nodes.flow_seq cs Wide handles Open inside p n c) (nodes.flow_seq cs Wide handles Open inside p 0 (key_of c))
-      unfolding nodes.flow_seq
+      k_seq : Inside → (p : Props) (n : ℕ) (c : Ctx) → To (nodes.c-flow-sequence cs Wide handles Open inside p n c) (nodes.c-flow-sequence cs Wide handles Open inside p 0 (key_of c))
+      unfolding nodes.c-flow-sequence
       k_seq h p n c = k_given Open (k_seen _ (k_before (k_then (k_chr 91) (k_maybe (k_separate n c)))
           (k_after (k_parted n c _ _ (k_after (k_items h n c) (k_maybe (k_separate n c)))) (k_chr 93))))
 
-      k_map : Inside → (p : Props) (n : ℕ) (c : Ctx) → To (nodes.flow_map cs Wide handles Open inside p n c) (nodes.flow_map cs Wide handles Open inside p 0 (key_of c))
-      unfolding nodes.flow_map
+      k_map : Inside → (p : Props) (n : ℕ) (c : Ctx) → To (nodes.c-flow-mapping cs Wide handles Open inside p n c) (nodes.c-flow-mapping cs Wide handles Open inside p 0 (key_of c))
+      unfolding nodes.c-flow-mapping
       k_map h p n c = k_given Open (k_seen _ (k_before (k_then (k_chr 123) (k_maybe (k_separate n c)))
           (k_after (k_parted n c _ _ (k_after (k_entries h n c) (k_maybe (k_separate n c)))) (k_chr 125))))
 
-      k_json : Inside → (n : ℕ) (c : Ctx) → To (nodes.json_node cs Wide handles Open inside n c) (nodes.json_node cs Wide handles Open inside 0 (key_of c))
-      unfolding nodes.json_node
+      k_json : Inside → (n : ℕ) (c : Ctx) → To (nodes.c-flow-json-node cs Wide handles Open inside n c) (nodes.c-flow-json-node cs Wide handles Open inside 0 (key_of c))
+      unfolding nodes.c-flow-json-node
       k_json h n c = k_taking (k_either (k_gives no_props) (k_after (k_properties handles n c) (k_separate n c)))
           (λ p. k_either (k_seen _ (k_single n c)) (k_either (k_seen _ (k_double n c)) (k_either (k_seq h p n c) (k_map h p n c))))
 

@@ -1,21 +1,21 @@
 -- A flow collection from its bracket on: what is left of its parts after each, and where it closes.
 use Rattle.std.proofs.Common.{◌≡◌, ◌≢◌, ℕ, suc, ◌+◌, inl, inr, List, Some, refl, sym, ◌∙◌, ap, subst, arith}
 use Rattle.std.specs.Prelude.{slice_get}
-use Rattle.yaml_text.specs.Event.{Event}
-use Rattle.yaml_text.specs.grammar.Rules.{Rule, ◌◂◌, ◌⨾◌, any, optional, maybe}
-use Rattle.yaml_text.specs.grammar.Separation.{Ctx, block_out, block_in, flow_out, flow_in, block_key, flow_key, inner, separate}
-use Rattle.yaml_text.specs.grammar.Tags.{Handles}
-use Rattle.yaml_text.specs.grammar.Events.{Props}
-use Rattle.yaml_text.specs.grammar.Nodes.{reads, flow_seq, flow_map}
-use Rattle.yaml_unique.specs.Readings.{End, At}
-use Rattle.yaml_unique.specs.Follows.{Solid, Fresh, Closes}
-use Rattle.yaml_unique.proofs.FlowEntries.{PartHere, item_part, entry_start}
-use Rattle.yaml_unique.proofs.FlowLevels.{reads_facts}
-use Rattle.yaml_complete.specs.Decisions.{Refused, Goes, Rest, Here}
-use Rattle.yaml_complete.specs.FlowEnds.{InFlow}
-use Rattle.yaml_complete.proofs.Decisions.{rest_goes, rest_refused, rest_rest}
-use Rattle.yaml_complete.proofs.FlowLoops.{parts_closed, parts_last, parts_more, parts_no_more, parts_refused, parts_unclosed, parts_no_way}
-use Rattle.yaml_complete.proofs.FlowCollections.{Bracketed, Items, Entries, sequence_opens, sequence_no_gap, mapping_opens, mapping_no_gap}
+use Rattle.yaml_definitions.specs.model.Event.{Event}
+use Rattle.yaml_definitions.specs.grammar.Rules.{Rule, ◌◂◌, ◌⨾◌, any, optional, maybe}
+use Rattle.yaml_definitions.specs.grammar.Separation.{Ctx, block_out, block_in, flow_out, flow_in, block_key, flow_key, inner, s-separate as separate}
+use Rattle.yaml_definitions.specs.grammar.Tags.{Handles}
+use Rattle.yaml_definitions.specs.grammar.Events.{Props}
+use Rattle.yaml_definitions.specs.grammar.Nodes.{reads, c-flow-sequence as flow_seq, c-flow-mapping as flow_map}
+use Rattle.law_one_reading.specs.Readings.{End, At}
+use Rattle.law_one_reading.specs.Follows.{Solid, Fresh, Closes}
+use Rattle.law_one_reading.proofs.FlowEntries.{PartHere, item_part, entry_start}
+use Rattle.law_one_reading.proofs.FlowLevels.{reads_facts}
+use Rattle.law_going_on.specs.Decisions.{Refused, Goes, Rest, Here}
+use Rattle.law_going_on.specs.FlowEnds.{InFlow}
+use Rattle.law_going_on.proofs.Decisions.{rest_goes, rest_refused, rest_rest}
+use Rattle.law_going_on.proofs.FlowLoops.{parts_closed, parts_last, parts_more, parts_no_more, parts_refused, parts_unclosed, parts_no_way}
+use Rattle.law_going_on.proofs.FlowCollections.{Bracketed, Items, Entries, sequence_opens, sequence_no_gap, mapping_opens, mapping_no_gap}
 use Rattle.yaml_flow.specs.FlowRules.{opens, below, spaced, comma, parts, item_at, entry_at}
 
 abbrev Wide : Type 0

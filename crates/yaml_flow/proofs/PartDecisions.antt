@@ -1,24 +1,24 @@
 -- Items, entries and values between brackets: what each decides, by what stands after its nodes.
 use Rattle.std.proofs.Common.{◌≡◌, ◌≢◌, ℕ, ◌+◌, ◌⊎◌, inl, inr, List, true, Some, refl, subst, arith}
 use Rattle.std.specs.Prelude.{slice_get}
-use Rattle.yaml_text.specs.Event.{Event}
-use Rattle.yaml_text.specs.grammar.Rules.{Rule, ◌∪◌}
-use Rattle.yaml_text.specs.grammar.Separation.{Ctx, flow_in, flow_key}
-use Rattle.yaml_text.specs.grammar.Tags.{Handles}
-use Rattle.yaml_text.specs.grammar.Events.{no_props}
-use Rattle.yaml_text.specs.grammar.Nodes.{Part, yaml_part, json_part, value, adjacent, pair, reads}
+use Rattle.yaml_definitions.specs.model.Event.{Event}
+use Rattle.yaml_definitions.specs.grammar.Rules.{Rule, ◌∪◌}
+use Rattle.yaml_definitions.specs.grammar.Separation.{Ctx, flow_in, flow_key}
+use Rattle.yaml_definitions.specs.grammar.Tags.{Handles}
+use Rattle.yaml_definitions.specs.grammar.Events.{no_props}
+use Rattle.yaml_definitions.specs.grammar.Nodes.{Part, yaml_part, json_part, c-ns-flow-map-separate-value as value, c-ns-flow-map-adjacent-value as adjacent, ns-flow-pair as pair, reads}
 use Rattle.yaml_text.proofs.Runs.{same_char}
 use Rattle.yaml_scalar.specs.Chains.{plain_sign}
 use Rattle.yaml_scalar.proofs.PlainLemmas.{no_first_sign}
-use Rattle.yaml_unique.specs.Readings.{End, At}
-use Rattle.yaml_unique.specs.Follows.{Colon, ColonY, MarkHere}
-use Rattle.yaml_unique.proofs.FlowNodes.{Kind, sign_not, kind, plain_start, jsons_start, safe_ns}
-use Rattle.yaml_unique.proofs.FlowEntries.{Facts, ItemHere}
-use Rattle.yaml_unique.proofs.FlowLevels.{reads_facts}
-use Rattle.yaml_complete.specs.Decisions.{Refused, Goes, Rest}
-use Rattle.yaml_complete.specs.FlowEnds.{InFlow, EndsYaml, EndsJson}
-use Rattle.yaml_complete.proofs.Decisions.{rest_refused, refused_within}
-use Rattle.yaml_complete.proofs.FlowChoices as left
+use Rattle.law_one_reading.specs.Readings.{End, At}
+use Rattle.law_one_reading.specs.Follows.{Colon, EndsYamlKey as ColonY, MarkHere}
+use Rattle.law_one_reading.proofs.FlowNodes.{Kind, sign_not, kind, plain_start, jsons_start, safe_ns}
+use Rattle.law_one_reading.proofs.FlowEntries.{Facts, ItemHere}
+use Rattle.law_one_reading.proofs.FlowLevels.{reads_facts}
+use Rattle.law_going_on.specs.Decisions.{Refused, Goes, Rest}
+use Rattle.law_going_on.specs.FlowEnds.{InFlow, EndsYaml, EndsJson}
+use Rattle.law_going_on.proofs.Decisions.{rest_refused, refused_within}
+use Rattle.law_going_on.proofs.FlowChoices as left
 use Rattle.yaml_flow.specs.Decisions.{IsOnly, IsRefused}
 use Rattle.yaml_flow.specs.Keys.{Spaced, IsKeySized}
 use Rattle.yaml_flow.specs.FlowRules.{opens, below, SignAt, AskedAt}

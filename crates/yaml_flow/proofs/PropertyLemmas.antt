@@ -3,16 +3,16 @@ use Rattle.std.proofs.Common.{◌≡◌, ℕ, zero, suc, ◌+◌, ◌<◌, List,
 use Rattle.std.specs.Prelude.{slice_get, slice_index_or, slice_set, encode_utf8_all, if◌then◌else◌, option_and_then}
 use Rattle.std.specs.Str.{chars, IsUtf8}
 use Rattle.std.proofs.lemmas.Str.{encodes-chars}
-use Rattle.yaml_text.specs.Tag.{is_full}
-use Rattle.yaml_text.specs.Event.{Event, WrittenTag, full}
+use Rattle.yaml_definitions.specs.model.Tag.{is_full}
+use Rattle.yaml_definitions.specs.model.Event.{Event, WrittenTag, full}
 use Rattle.yaml_text.specs.EventModel.{event_of, Adds}
 use Rattle.yaml_text.specs.declared.event.Event as code
-use Rattle.yaml_text.specs.grammar.Rules.{◌∪◌}
-use Rattle.yaml_text.specs.grammar.Separation.{Ctx, separate}
-use Rattle.yaml_text.specs.grammar.Tags as tags
-use Rattle.yaml_text.specs.grammar.Calls as calls
-use Rattle.yaml_text.specs.grammar.Tags.{Handles, tag, anchor, properties, decoded, percent_decode, prefix_of}
-use Rattle.yaml_text.specs.grammar.Events.{Props, no_props}
+use Rattle.yaml_definitions.specs.grammar.Rules.{◌∪◌}
+use Rattle.yaml_definitions.specs.grammar.Separation.{Ctx, s-separate as separate}
+use Rattle.yaml_definitions.specs.grammar.Tags as tags
+use Rattle.yaml_text.specs.Calls as calls
+use Rattle.yaml_definitions.specs.grammar.Tags.{Handles, c-ns-tag-property as tag, c-ns-anchor-property as anchor, c-ns-properties as properties, decoded, percent_decode, prefix_of}
+use Rattle.yaml_definitions.specs.grammar.Events.{Props, no_props}
 use Rattle.yaml_text.proofs.Runs.{same_char}
 use Rattle.yaml_flow.specs.PropertyRules.{HasTag, HasAnchor, with_props, dressed, SomeProperties, tag_alone, anchor_alone, both, Own}
 
@@ -31,7 +31,7 @@ decoded_tag text t e = pick (is_full (percent_decode text)) e
 
 module _ (cs : List ℕ) (handles : Handles) where
   pub tag_is : (i j : ℕ) (t : WrittenTag) → tag cs handles i j t → HasTag t
-  unfolding tag tags.verbatim_tag tags.shorthand_tag tags.non_specific_tag tags.joined
+  unfolding tag tags.c-verbatim-tag tags.c-ns-shorthand-tag tags.c-non-specific-tag tags.joined
   tag_is i j t (k, inl (m, w, (l, (x, r, e), h)), n) = decoded_tag x t e
   tag_is i j t (k, inr (inl (m, a, r, (x, s, e))), n) = pick (prefix_of handles a) e
     where
@@ -68,13 +68,13 @@ module _ (cs : List ℕ) (handles : Handles) where
 -- ---- names
 
 module _ (cs : List ℕ) where
-  pub name_anchor : (i j : ℕ) (v : List ℕ) → slice_get cs i ≡ Some 38 → (anchor cs ∪ tags.alias cs) i j v → anchor cs i j v
-  unfolding anchor tags.alias
+  pub name_anchor : (i j : ℕ) (v : List ℕ) → slice_get cs i ≡ Some 38 → (anchor cs ∪ tags.c-ns-alias-node cs) i j v → anchor cs i j v
+  unfolding anchor tags.c-ns-alias-node
   name_anchor i j v h (inl r) = r
   name_anchor i j v h (inr (k, (e, f), r)) = let x : 38 ≡ 42 = same_char cs i 38 42 h e in absurd (omega (arith, x))
 
-  pub name_alias : (i j : ℕ) (v : List ℕ) → slice_get cs i ≡ Some 42 → (anchor cs ∪ tags.alias cs) i j v → tags.alias cs i j v
-  unfolding anchor tags.alias
+  pub name_alias : (i j : ℕ) (v : List ℕ) → slice_get cs i ≡ Some 42 → (anchor cs ∪ tags.c-ns-alias-node cs) i j v → tags.c-ns-alias-node cs i j v
+  unfolding anchor tags.c-ns-alias-node
   name_alias i j v h (inr r) = r
   name_alias i j v h (inl (k, (e, f), r)) = let x : 42 ≡ 38 = same_char cs i 42 38 h e in absurd (omega (arith, x))
 
@@ -89,7 +89,7 @@ module _ (cs : List ℕ) (handles : Handles) where
   unfolding calls.read_name
   anchor_read i j v h r = name_anchor cs i j v h r
 
-  pub alias_read : (i j : ℕ) (v : List ℕ) → slice_get cs i ≡ Some 42 → calls.read_name cs i j v → tags.alias cs i j v
+  pub alias_read : (i j : ℕ) (v : List ℕ) → slice_get cs i ≡ Some 42 → calls.read_name cs i j v → tags.c-ns-alias-node cs i j v
   unfolding calls.read_name
   alias_read i j v h r = name_alias cs i j v h r
 

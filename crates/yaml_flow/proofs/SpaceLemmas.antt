@@ -3,9 +3,9 @@ use Rattle.std.proofs.Common.{◌≡◌, ℕ, ◌+◌, ◌<◌, ◌≤◌, List,
 use Rattle.std.specs.Prelude.{slice_get, length}
 use Rattle.std.proofs.lemmas.Option.{slice_get_within}
 use Rattle.std.proofs.Math.Nat.{eq-or-lt_of_le}
-use Rattle.yaml_text.specs.grammar.Rules.{◌◆◌, run, maybe}
-use Rattle.yaml_text.specs.grammar.Characters.{is_space}
-use Rattle.yaml_text.specs.grammar.Separation.{Ctx, block_in, block_out, flow_out, indent, sep, separate, separate_lines, s_l_comments}
+use Rattle.yaml_definitions.specs.grammar.Rules.{◌◆◌, run, maybe}
+use Rattle.yaml_definitions.specs.grammar.Characters.{is_space}
+use Rattle.yaml_definitions.specs.grammar.Separation.{Ctx, block_in, block_out, flow_out, s-indent as indent, s-separate-in-line as sep, s-separate as separate, s-separate-lines as separate_lines, s-l-comments as s_l_comments}
 use Rattle.yaml_flow.specs.Lines.{IsBlock}
 
 module _ (cs : List ℕ) where

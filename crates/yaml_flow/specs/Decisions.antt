@@ -1,18 +1,18 @@
 -- What calls that read properties and flow nodes decide: which readings a text could go on with (YAML 1.2.2, 6.9 and 7.5).
 use Rattle.std.specs.Prelude.{◌≡◌, ◌⊎◌, ℕ, List, Result, Ok, Err, Some, None, slice_get, false}
-use Rattle.yaml_text.specs.Event.{Event, untagged}
-use Rattle.yaml_text.specs.grammar.Rules.{Rule, maybe}
-use Rattle.yaml_text.specs.grammar.Separation.{Ctx, block_out, block_in, flow_out, flow_in, block_key, flow_key, separate, s_l_comments}
-use Rattle.yaml_text.specs.grammar.Tags.{Handles, properties}
-use Rattle.yaml_text.specs.grammar.Events.{Props, no_props}
-use Rattle.yaml_text.specs.grammar.Nodes.{reads}
+use Rattle.yaml_definitions.specs.model.Event.{Event, untagged}
+use Rattle.yaml_definitions.specs.grammar.Rules.{Rule, maybe}
+use Rattle.yaml_definitions.specs.grammar.Separation.{Ctx, block_out, block_in, flow_out, flow_in, block_key, flow_key, s-separate as separate, s-l-comments as s_l_comments}
+use Rattle.yaml_definitions.specs.grammar.Tags.{Handles, c-ns-properties as properties}
+use Rattle.yaml_definitions.specs.grammar.Events.{Props, no_props}
+use Rattle.yaml_definitions.specs.grammar.Nodes.{reads}
 use Rattle.yaml_text.specs.Lines.{is_key}
 use Rattle.yaml_text.specs.declared.fault.Fault.{Fault}
 use Rattle.yaml_text.specs.declared.fault.Fault.TheVariants.{OutOfMemory}
-use Rattle.yaml_unique.specs.Readings.{End, At}
-use Rattle.yaml_unique.specs.Follows.{Fresh, F}
-use Rattle.yaml_complete.specs.Decisions.{Refused, Goes}
-use Rattle.yaml_complete.specs.FlowEnds.{EndsYaml, EndsJson}
+use Rattle.law_one_reading.specs.Readings.{End, At}
+use Rattle.law_one_reading.specs.Follows.{Fresh, EndsNode}
+use Rattle.law_going_on.specs.Decisions.{Refused, Goes}
+use Rattle.law_going_on.specs.FlowEnds.{EndsYaml, EndsJson}
 use Rattle.yaml_flow.specs.FlowRules.{part_of}
 use Rattle.yaml_flow.specs.declared.flow.Kind.{Kind}
 use Rattle.yaml_flow.specs.declared.flow.Kind.TheVariants.{Yaml, Json}
@@ -54,7 +54,7 @@ Nowhere j m = ⊥
 
 -- at block level, where entries of column d would be the node's own, and between brackets; of keys that are read by themselves nothing is said
 abbrev pub EndOf : List ℕ → Kind → ℕ → Ctx → ℕ → End
-EndOf cs kind n flow_out d = At (F cs n d)
+EndOf cs kind n flow_out d = At (EndsNode cs n d)
 EndOf cs kind n flow_in d = At (BracketEnd cs kind n)
 EndOf cs kind n block_out d = Nowhere
 EndOf cs kind n block_in d = Nowhere

@@ -1,16 +1,16 @@
 -- What the parts of a flow node decide (YAML 1.2.2, 7.3, 7.4).
 use Rattle.std.specs.Prelude.{◌≡◌, ◌⊎◌, ℕ, List, Result, Ok, Err, Option, Some, None, slice_get}
-use Rattle.yaml_text.specs.Event.{Event}
+use Rattle.yaml_definitions.specs.model.Event.{Event}
 use Rattle.yaml_text.specs.Answer.{Unread}
-use Rattle.yaml_text.specs.grammar.Rules.{Rule}
-use Rattle.yaml_text.specs.grammar.Separation.{Ctx}
-use Rattle.yaml_text.specs.grammar.Tags.{Handles}
-use Rattle.yaml_text.specs.grammar.Events.{Props}
-use Rattle.yaml_text.specs.grammar.FlowScalars.{plain}
+use Rattle.yaml_definitions.specs.grammar.Rules.{Rule}
+use Rattle.yaml_definitions.specs.grammar.Separation.{Ctx}
+use Rattle.yaml_definitions.specs.grammar.Tags.{Handles}
+use Rattle.yaml_definitions.specs.grammar.Events.{Props}
+use Rattle.yaml_definitions.specs.grammar.FlowScalars.{ns-plain as plain}
 use Rattle.yaml_text.specs.declared.fault.Fault.{Fault}
 use Rattle.yaml_text.specs.declared.fault.Fault.TheVariants.{OutOfMemory}
-use Rattle.yaml_complete.specs.Decisions.{Refused, Goes, Here}
-use Rattle.yaml_complete.specs.FlowEnds.{InFlow}
+use Rattle.law_going_on.specs.Decisions.{Refused, Goes, Here}
+use Rattle.law_going_on.specs.FlowEnds.{InFlow}
 use Rattle.yaml_flow.specs.Answer.{Decides}
 use Rattle.yaml_flow.specs.Decisions.{EndOf}
 use Rattle.yaml_flow.specs.FlowRules.{content_at, SignAt}

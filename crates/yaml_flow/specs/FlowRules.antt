@@ -1,14 +1,14 @@
 -- Flow nodes by the number of collections that are open in them at once (YAML 1.2.2, 7.4 and 7.5).
 use Rattle.std.specs.Prelude.{◌≡◌, ◌≢◌, ℕ, zero, suc, ◌≤◌, ◌<◌, ◌+◌, List, [], ◌∷◌, Some, slice_get}
-use Rattle.yaml_text.specs.Event.{Event}
-use Rattle.yaml_text.specs.Event as style
-use Rattle.yaml_text.specs.grammar.Rules.{Span, Rule, ◌◆◌, ◌▸◌, ◌◂◌, ◌⨾◌, ◌∪◌, any, optional, maybe, gives, never, chr, Stands}
-use Rattle.yaml_text.specs.grammar.Separation.{Ctx, separate, block_out, block_in, flow_out, flow_in, block_key, flow_key}
-use Rattle.yaml_text.specs.grammar.Tags.{Handles, alias}
-use Rattle.yaml_text.specs.grammar.FlowScalars.{plain, single, double, plain_safe}
-use Rattle.yaml_text.specs.grammar.Events.{Props, no_props, empty}
-use Rattle.yaml_text.specs.grammar.Events as events
-use Rattle.yaml_text.specs.grammar.Nodes.{Part, yaml_part, json_part, pair_part, scalar_of, flow_seq, flow_map, implicit_entry, empty_key, entry, value, adjacent, reads}
+use Rattle.yaml_definitions.specs.model.Event.{Event}
+use Rattle.yaml_definitions.specs.model.Event as style
+use Rattle.yaml_definitions.specs.grammar.Rules.{Span, Rule, ◌◆◌, ◌▸◌, ◌◂◌, ◌⨾◌, ◌∪◌, any, optional, maybe, gives, never, chr, Stands}
+use Rattle.yaml_definitions.specs.grammar.Separation.{Ctx, s-separate as separate, block_out, block_in, flow_out, flow_in, block_key, flow_key}
+use Rattle.yaml_definitions.specs.grammar.Tags.{Handles, c-ns-alias-node as alias}
+use Rattle.yaml_definitions.specs.grammar.FlowScalars.{ns-plain as plain, c-single-quoted as single, c-double-quoted as double, plain_safe}
+use Rattle.yaml_definitions.specs.grammar.Events.{Props, no_props, e-scalar as empty}
+use Rattle.yaml_definitions.specs.grammar.Events as events
+use Rattle.yaml_definitions.specs.grammar.Nodes.{Part, yaml_part, json_part, pair_part, scalar_of, c-flow-sequence as flow_seq, c-flow-mapping as flow_map, ns-flow-map-implicit-entry as implicit_entry, c-ns-flow-map-empty-key-entry as empty_key, ns-flow-map-entry as entry, c-ns-flow-map-separate-value as value, c-ns-flow-map-adjacent-value as adjacent, reads}
 use Rattle.yaml_text.specs.Place.{Steps}
 use Rattle.yaml_text.specs.Source.{bytes_of, text_of, place_of}
 use Rattle.yaml_text.specs.declared.chars.Chars.{Chars}

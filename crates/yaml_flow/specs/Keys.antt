@@ -1,9 +1,9 @@
 -- Implicit keys (YAML 1.2.2, 7.4.2).
 use Rattle.std.specs.Prelude.{ℕ, ◌+◌, ◌≤◌, ◌<◌, List}
-use Rattle.yaml_text.specs.Limits.{key_limit}
-use Rattle.yaml_text.specs.grammar.Rules.{run, chr, Stands}
-use Rattle.yaml_text.specs.grammar.Characters.{is_space}
-use Rattle.yaml_text.specs.grammar.Separation.{OneLine}
+use Rattle.yaml_definitions.specs.model.Limits.{key_limit}
+use Rattle.yaml_definitions.specs.grammar.Rules.{run, chr, Stands}
+use Rattle.yaml_definitions.specs.grammar.Characters.{is_space}
+use Rattle.yaml_definitions.specs.grammar.Separation.{OneLine}
 use Rattle.yaml_flow.specs.declared.key.Fit.{Fit}
 use Rattle.yaml_flow.specs.declared.key.Fit.TheVariants.{Fits, Long, Broken}
 

@@ -2,12 +2,12 @@
 use Rattle.std.specs.Prelude.{◌≡◌, ◌⊎◌, ℕ, List, [], ◌∷◌, Some, None, encode_utf8_all, length}
 use Rattle.std.specs.Option.{option_map}
 use Rattle.std.specs.Cow.{cow_str_bytes}
-use Rattle.yaml_text.specs.Event.{Event, WrittenTag, untagged, non_specific, full, Anchor, stream_start, stream_end, document_start, document_end, sequence_start, sequence_end, mapping_start, mapping_end, scalar_event, alias_event}
+use Rattle.yaml_definitions.specs.model.Event.{Event, WrittenTag, untagged, non_specific, full, Anchor, stream_start, stream_end, document_start, document_end, sequence_start, sequence_end, mapping_start, mapping_end, scalar_event, alias_event}
 use Rattle.yaml_text.specs.EventModel.{written_of, Adds}
 use Rattle.yaml_text.specs.declared.event.Event as code
-use Rattle.yaml_text.specs.grammar.Separation.{Ctx}
-use Rattle.yaml_text.specs.grammar.Tags.{Handles, tag, anchor, properties}
-use Rattle.yaml_text.specs.grammar.Events.{Props, no_props}
+use Rattle.yaml_definitions.specs.grammar.Separation.{Ctx}
+use Rattle.yaml_definitions.specs.grammar.Tags.{Handles, c-ns-tag-property as tag, c-ns-anchor-property as anchor, c-ns-properties as properties}
+use Rattle.yaml_definitions.specs.grammar.Events.{Props, no_props}
 use Rattle.yaml_flow.specs.declared.properties.Properties.{Properties}
 
 abbrev pub props_of : Properties → Props

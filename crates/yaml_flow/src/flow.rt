@@ -1,24 +1,25 @@
 //! Flow nodes (YAML 1.2.2, 7.4 and 7.5).
 ghost use Rattle.std.specs.Prelude.{◌≡◌, ◌≤◌, ◌<◌, ◌+◌, ◌⊎◌, ℕ, IfSome, IfNone, IfOk, IfErr, Some, pos, slice_get, [], ◌∷◌};
 ghost use Rattle.std.specs.Bool.{OnTrue, OnFalse};
-ghost use Rattle.yaml_text.specs.Limits.{text_limit};
+ghost use Rattle.yaml_definitions.specs.model.Limits.{text_limit};
 ghost use Rattle.yaml_text.specs.Place.{Steps};
 ghost use Rattle.yaml_text.specs.Source.{bytes_of, text_of, place_of, IsBorder};
 ghost use Rattle.yaml_text.specs.EventModel.{context_of};
-ghost use Rattle.yaml_text.specs.grammar.Separation.{inner, flow_in, flow_out, separate};
-ghost use Rattle.yaml_text.specs.grammar.Rules.{given, gives, seen, maybe};
-ghost use Rattle.yaml_text.specs.grammar.Tags as tags;
-ghost use Rattle.yaml_text.specs.grammar.Events.{alias_node, empty, no_props};
-ghost use Rattle.yaml_text.specs.grammar.FlowScalars.{single, double};
-ghost use Rattle.yaml_text.specs.grammar.Nodes.{flow_seq, flow_map, pair};
+ghost use Rattle.yaml_definitions.specs.grammar.Separation.{inner, flow_in, flow_out, s-separate as separate};
+ghost use Rattle.yaml_definitions.specs.grammar.Rules.{given, gives, seen, maybe};
+ghost use Rattle.yaml_definitions.specs.grammar.Tags as tags;
+ghost use Rattle.yaml_definitions.specs.grammar.Events.{alias_node, e-scalar as empty, no_props};
+ghost use Rattle.yaml_definitions.specs.grammar.FlowScalars.{c-single-quoted as single, c-double-quoted as double};
+ghost use Rattle.yaml_definitions.specs.grammar.Nodes.{c-flow-sequence as flow_seq, c-flow-mapping as flow_map, ns-flow-pair as pair};
 ghost use Rattle.yaml_text.specs.Lines.{Inside};
 ghost use Rattle.yaml_text.specs.declared.fault.Fault.TheVariants.{OutOfMemory};
-ghost use Rattle.yaml_unique.specs.Follows.{Closes, Solid, Fresh};
-ghost use Rattle.yaml_complete.specs.Decisions.{Here};
+ghost use Rattle.law_one_reading.specs.Follows.{Closes, Solid, Fresh};
+ghost use Rattle.law_going_on.specs.Decisions.{Here};
 ghost use Rattle.yaml_mark.specs.HandlesModel.{handles_of};
 ghost use Rattle.yaml_flow.specs.declared.flow.Kind.TheVariants.{Yaml, Json};
 ghost use Rattle.yaml_text.specs.Answer.{IsRefusal};
 ghost use Rattle.yaml_flow.specs.Answer.{Appends, Perhaps, Decides};
+ghost use Rattle.yaml_flow.specs.SinkModel.{holds_of};
 ghost use Rattle.yaml_flow.specs.Decisions.{AllProperties, LineGoesOn, DecidesNode};
 ghost use Rattle.yaml_flow.specs.FlowDecisions.{DecidesPlain, DecidesContent, DecidesPart, DecidesEach, NoKey, LongKey};
 ghost use Rattle.yaml_flow.specs.Keys.{IsKeySized, Spaced};
@@ -27,8 +28,12 @@ ghost use Rattle.yaml_flow.specs.FlowRules.{flow_from, content_from, Bare, from_
 
 use crate::key::{Fit, key_fit};
 use crate::line::separation;
-use crate::properties::{Properties, dress, read_properties};
-use crate::push::{flow_mapping, flow_sequence, push_empty, push_scalar};
+use crate::properties::{Properties, read_properties};
+use crate::push::{
+    insert_flow_mapping, push_empty, push_flow_mapping, push_flow_sequence, push_mapping_end,
+    push_scalar, push_sequence_end,
+};
+use crate::sink::{Keeper, Sink};
 use std::alloc::Global;
 use yaml_mark::handles::Handles;
 use yaml_mark::name::read_name;
@@ -86,7 +91,7 @@ fn first_of(source: &Chars<'_>, at: usize) -> First
 }
 
 /// The context inside a flow collection (`in-flow`, 7.4).
-#[tactic(auto, unfolding(yaml_text::specs::grammar::Separation::inner))]
+#[tactic(auto, unfolding(yaml_definitions::specs::grammar::Separation::inner))]
 fn inner(context: Ctx) -> Ctx
     ensures context { context_of result ≡ inner (context_of context) }
     ensures within { IsInner (context_of result) }
@@ -110,11 +115,12 @@ fn indentation(least: usize) -> i32
 }
 
 /// An alias.
-fn read_alias<'a>(
+#[inline(never)]
+fn read_alias<'a, K: Keeper>(
     alloc: Global,
     source: &Chars<'a>,
     at: usize,
-    out: &mut Vec<Event<'a>>,
+    out: &mut Sink<'a, K>,
 ) -> Result<FlowNode, Fault>
     requires border { IsBorder source.now at }
     requires sign { slice_get (text_of source.now) (place_of source.now at) ≡ Some 42 }
@@ -122,11 +128,11 @@ fn read_alias<'a>(
     ensures onward { IfOk result (λ node. at < node.end) }
     ensures within { IfOk result (λ node. node.deep ≡ 0) }
     ensures kind { IfOk result (λ node. node.kind ≡ Yaml) }
-    ensures reads { Appends (λ node. given (node.kind ≡ Yaml) (seen (λ x. alias_node x ∷ []) (tags.alias (text_of source.now)))) (place_of source.now at) (λ node. place_of source.now node.end) out.old.items out.new.items result }
-    ensures decides { Decides (tags.alias (text_of source.now)) Here (place_of source.now at) Here (λ node. place_of source.now node.end) result }
+    ensures reads { Appends (λ node. given (node.kind ≡ Yaml) (seen (λ x. alias_node x ∷ []) (tags.c-ns-alias-node (text_of source.now)))) (place_of source.now at) (λ node. place_of source.now node.end) (holds_of K.holds) out.old out.new result }
+    ensures decides { Decides (tags.c-ns-alias-node (text_of source.now)) Here (place_of source.now at) Here (λ node. place_of source.now node.end) result }
 {
     let (name, end) = read_name(alloc, source, at)?;
-    out.push(Event::Alias { name })?;
+    out.push(Event::Alias { name }, at)?;
     Ok(FlowNode {
         end,
         deep: 0,
@@ -135,26 +141,27 @@ fn read_alias<'a>(
 }
 
 /// A plain scalar, if one begins here.
-fn read_plain_node<'a>(
+#[inline(never)]
+fn read_plain_node<'a, K: Keeper>(
     alloc: Global,
     source: &Chars<'a>,
     at: usize,
     least: usize,
     context: Ctx,
     handles: Option<&Handles<'a>>,
-    out: &mut Vec<Event<'a>>,
+    out: &mut Sink<'a, K>,
 ) -> Result<Option<FlowNode>, Fault>
     requires border { IsBorder source.now at }
     requires low { least ≤ at }
     ensures border { IfOk result (λ found. IfSome found (λ node. IsBorder source.now node.end)) }
     ensures onward { IfOk result (λ found. IfSome found (λ node. at < node.end)) }
     ensures within { IfOk result (λ found. IfSome found (λ node. node.deep ≡ 0)) }
-    ensures reads { Perhaps (λ node. content_from (text_of source.now) (Unit {0}) (handles_of handles.entry) node.deep node.kind least (context_of context)) (place_of source.now at) (λ node. place_of source.now node.end) out.old.items out.new.items result }
+    ensures reads { Perhaps (λ node. content_from (text_of source.now) (Unit {0}) (handles_of handles.entry) node.deep node.kind least (context_of context)) (place_of source.now at) (λ node. place_of source.now node.end) (holds_of K.holds) out.old out.new result }
     ensures decides { DecidesPlain (text_of source.now) least (context_of context) (place_of source.now at) (λ node. place_of source.now node.end) result }
 {
     match read_plain(alloc, source, at, indentation(least), context) {
         Ok((text, end)) => {
-            push_scalar(out, Style::Plain, text)?;
+            push_scalar(out, Style::Plain, text, at)?;
             Ok(Some(FlowNode {
                 end,
                 deep: 0,
@@ -169,26 +176,27 @@ fn read_plain_node<'a>(
 }
 
 /// A single-quoted scalar.
-fn read_single_node<'a>(
+#[inline(never)]
+fn read_single_node<'a, K: Keeper>(
     alloc: Global,
     source: &Chars<'a>,
     at: usize,
     least: usize,
     context: Ctx,
     handles: Option<&Handles<'a>>,
-    out: &mut Vec<Event<'a>>,
+    out: &mut Sink<'a, K>,
 ) -> Result<FlowNode, Fault>
     requires border { IsBorder source.now at }
     requires low { least ≤ at }
     ensures border { IfOk result (λ node. IsBorder source.now node.end) }
     ensures onward { IfOk result (λ node. at < node.end) }
     ensures within { IfOk result (λ node. node.deep ≡ 0) }
-    ensures reads { Appends (λ node. content_from (text_of source.now) (Unit {0}) (handles_of handles.entry) node.deep node.kind least (context_of context)) (place_of source.now at) (λ node. place_of source.now node.end) out.old.items out.new.items result }
+    ensures reads { Appends (λ node. content_from (text_of source.now) (Unit {0}) (handles_of handles.entry) node.deep node.kind least (context_of context)) (place_of source.now at) (λ node. place_of source.now node.end) (holds_of K.holds) out.old out.new result }
     ensures kind { IfOk result (λ node. node.kind ≡ Json) }
     ensures decides { Decides (single (text_of source.now) least (context_of context)) Here (place_of source.now at) Here (λ node. place_of source.now node.end) result }
 {
     let (text, end) = read_single(alloc, source, at, indentation(least), context)?;
-    push_scalar(out, Style::Single, text)?;
+    push_scalar(out, Style::Single, text, at)?;
     Ok(FlowNode {
         end,
         deep: 0,
@@ -197,26 +205,27 @@ fn read_single_node<'a>(
 }
 
 /// A double-quoted scalar.
-fn read_double_node<'a>(
+#[inline(never)]
+fn read_double_node<'a, K: Keeper>(
     alloc: Global,
     source: &Chars<'a>,
     at: usize,
     least: usize,
     context: Ctx,
     handles: Option<&Handles<'a>>,
-    out: &mut Vec<Event<'a>>,
+    out: &mut Sink<'a, K>,
 ) -> Result<FlowNode, Fault>
     requires border { IsBorder source.now at }
     requires low { least ≤ at }
     ensures border { IfOk result (λ node. IsBorder source.now node.end) }
     ensures onward { IfOk result (λ node. at < node.end) }
     ensures within { IfOk result (λ node. node.deep ≡ 0) }
-    ensures reads { Appends (λ node. content_from (text_of source.now) (Unit {0}) (handles_of handles.entry) node.deep node.kind least (context_of context)) (place_of source.now at) (λ node. place_of source.now node.end) out.old.items out.new.items result }
+    ensures reads { Appends (λ node. content_from (text_of source.now) (Unit {0}) (handles_of handles.entry) node.deep node.kind least (context_of context)) (place_of source.now at) (λ node. place_of source.now node.end) (holds_of K.holds) out.old out.new result }
     ensures kind { IfOk result (λ node. node.kind ≡ Json) }
     ensures decides { Decides (double (text_of source.now) least (context_of context)) Here (place_of source.now at) Here (λ node. place_of source.now node.end) result }
 {
     let (text, end) = read_double(alloc, source, at, indentation(least), context)?;
-    push_scalar(out, Style::Double, text)?;
+    push_scalar(out, Style::Double, text, at)?;
     Ok(FlowNode {
         end,
         deep: 0,
@@ -225,19 +234,19 @@ fn read_double_node<'a>(
 }
 
 /// The empty scalar of a node of properties alone, which end at `end`.
-fn push_lone<'a>(
+fn push_lone<'a, K: Keeper>(
     source: &Chars<'a>,
     end: usize,
-    out: &mut Vec<Event<'a>>,
+    out: &mut Sink<'a, K>,
 ) -> Result<FlowNode, Fault>
     requires { IsBorder source.now end }
     ensures end { IfOk result (λ node. node.end ≡ end) }
     ensures within { IfOk result (λ node. node.deep ≡ 0) }
     ensures kind { IfOk result (λ node. node.kind ≡ Yaml) }
-    ensures reads { Appends (λ node. given (node.kind ≡ Yaml) (gives (empty no_props))) (place_of source.now end) (λ node. place_of source.now node.end) out.old.items out.new.items result }
+    ensures reads { Appends (λ node. given (node.kind ≡ Yaml) (gives (empty no_props))) (place_of source.now end) (λ node. place_of source.now node.end) (holds_of K.holds) out.old out.new result }
     ensures memory { IfErr result (λ e. e ≡ OutOfMemory) }
 {
-    push_empty(out)?;
+    push_empty(out, end)?;
     Ok(FlowNode {
         end,
         deep: 0,
@@ -247,7 +256,7 @@ fn push_lone<'a>(
 
 /// A flow node in which `room` collections may be open, one inside another.
 #[cycle(nodes)]
-pub fn read_flow_node<'a>(
+pub fn read_flow_node<'a, K: Keeper>(
     alloc: Global,
     source: &Chars<'a>,
     at: usize,
@@ -255,29 +264,30 @@ pub fn read_flow_node<'a>(
     context: Ctx,
     room: u32,
     handles: Option<&Handles<'a>>,
-    out: &mut Vec<Event<'a>>,
+    out: &mut Sink<'a, K>,
 ) -> Result<FlowNode, Fault>
     requires border { IsBorder source.now at }
     requires low { least ≤ at }
     ensures border { IfOk result (λ node. IsBorder source.now node.end) }
     ensures onward { IfOk result (λ node. at ≤ node.end) }
     ensures within { IfOk result (λ node. node.deep ≤ room) }
-    ensures reads { Appends (λ node. flow_from (text_of source.now) (Unit {0}) (handles_of handles.entry) node.deep node.kind least (context_of context)) (place_of source.now at) (λ node. place_of source.now node.end) out.old.items out.new.items result }
+    ensures reads { Appends (λ node. flow_from (text_of source.now) (Unit {0}) (handles_of handles.entry) node.deep node.kind least (context_of context)) (place_of source.now at) (λ node. place_of source.now node.end) (holds_of K.holds) out.old out.new result }
     ensures decides { context_of context ≡ flow_in → DecidesNode (text_of source.now) (handles_of handles.entry) room least (context_of context) (place_of source.now at) (λ node. place_of source.now node.end) result }
 {
-    let start = out.len();
+    let start = out.mark();
     let (own, end) = read_properties(alloc, source, at, least, context, handles)?;
+    out.announce(&own);
     let node = read_bare(
         alloc, source, at, end, &own, least, context, room, handles, out,
     )?;
-    dress(out, start, own);
+    out.dress(start, own);
     Ok(node)
 }
 
 /// A flow node after its own properties, which end at `end`: an alias, its content, or nothing. The properties are not in
 /// its events yet.
 #[cycle(nodes)]
-pub fn read_bare<'a>(
+pub fn read_bare<'a, K: Keeper>(
     alloc: Global,
     source: &Chars<'a>,
     at: usize,
@@ -287,7 +297,7 @@ pub fn read_bare<'a>(
     context: Ctx,
     room: u32,
     handles: Option<&Handles<'a>>,
-    out: &mut Vec<Event<'a>>,
+    out: &mut Sink<'a, K>,
 ) -> Result<FlowNode, Fault>
     requires border { IsBorder source.now at }
     requires end { IsBorder source.now end }
@@ -298,7 +308,7 @@ pub fn read_bare<'a>(
     ensures border { IfOk result (λ node. IsBorder source.now node.end) }
     ensures onward { IfOk result (λ node. at ≤ node.end) }
     ensures within { IfOk result (λ node. node.deep ≤ room) }
-    ensures reads { Appends (λ node. Bare (text_of source.now) (Unit {0}) (handles_of handles.entry) node.deep node.kind least (context_of context) (props_of own.now) (place_of source.now end)) (place_of source.now at) (λ node. place_of source.now node.end) out.old.items out.new.items result }
+    ensures reads { Appends (λ node. Bare (text_of source.now) (Unit {0}) (handles_of handles.entry) node.deep node.kind least (context_of context) (props_of own.now) (place_of source.now end)) (place_of source.now at) (λ node. place_of source.now node.end) (holds_of K.holds) out.old out.new result }
     ensures decides { (context_of context ≡ flow_out → LineGoesOn (text_of source.now) (place_of source.now end) (props_of own.now)) → DecidesNode (text_of source.now) (handles_of handles.entry) room least (context_of context) (place_of source.now at) (λ node. place_of source.now node.end) result }
 {
     if own.is_none() {
@@ -322,7 +332,7 @@ pub fn read_bare<'a>(
 
 /// A node's content, if any begins here.
 #[cycle(nodes)]
-fn read_content<'a>(
+fn read_content<'a, K: Keeper>(
     alloc: Global,
     source: &Chars<'a>,
     at: usize,
@@ -330,14 +340,14 @@ fn read_content<'a>(
     context: Ctx,
     room: u32,
     handles: Option<&Handles<'a>>,
-    out: &mut Vec<Event<'a>>,
+    out: &mut Sink<'a, K>,
 ) -> Result<Option<FlowNode>, Fault>
     requires border { IsBorder source.now at }
     requires low { least ≤ at }
     ensures border { IfOk result (λ found. IfSome found (λ node. IsBorder source.now node.end)) }
     ensures onward { IfOk result (λ found. IfSome found (λ node. at < node.end)) }
     ensures within { IfOk result (λ found. IfSome found (λ node. node.deep ≤ room)) }
-    ensures reads { Perhaps (λ node. content_from (text_of source.now) (Unit {0}) (handles_of handles.entry) node.deep node.kind least (context_of context)) (place_of source.now at) (λ node. place_of source.now node.end) out.old.items out.new.items result }
+    ensures reads { Perhaps (λ node. content_from (text_of source.now) (Unit {0}) (handles_of handles.entry) node.deep node.kind least (context_of context)) (place_of source.now at) (λ node. place_of source.now node.end) (holds_of K.holds) out.old out.new result }
     ensures decides { DecidesContent (text_of source.now) (handles_of handles.entry) room least (context_of context) (place_of source.now at) (λ node. place_of source.now node.end) result }
 {
     match first_of(source, at) {
@@ -373,7 +383,7 @@ fn read_content<'a>(
 
 /// A flow sequence, after its bracket.
 #[cycle(nodes)]
-fn read_sequence<'a>(
+fn read_sequence<'a, K: Keeper>(
     alloc: Global,
     source: &Chars<'a>,
     at: usize,
@@ -382,7 +392,7 @@ fn read_sequence<'a>(
     context: Ctx,
     room: u32,
     handles: Option<&Handles<'a>>,
-    out: &mut Vec<Event<'a>>,
+    out: &mut Sink<'a, K>,
 ) -> Result<FlowNode, Fault>
     requires bracket { Steps (bytes_of source.now) at 91 inside }
     requires border { IsBorder source.now at }
@@ -391,11 +401,11 @@ fn read_sequence<'a>(
     ensures border { IfOk result (λ node. IsBorder source.now node.end) }
     ensures onward { IfOk result (λ node. at < node.end) }
     ensures within { IfOk result (λ node. node.deep ≤ room) }
-    ensures reads { Appends (λ node. content_from (text_of source.now) (Unit {0}) (handles_of handles.entry) node.deep node.kind least (context_of context)) (place_of source.now at) (λ node. place_of source.now node.end) out.old.items out.new.items result }
+    ensures reads { Appends (λ node. content_from (text_of source.now) (Unit {0}) (handles_of handles.entry) node.deep node.kind least (context_of context)) (place_of source.now at) (λ node. place_of source.now node.end) (holds_of K.holds) out.old out.new result }
     ensures kind { IfOk result (λ node. node.kind ≡ Json) }
     ensures decides { inner (context_of context) ≡ flow_in → DecidesEach (λ p. flow_seq (text_of source.now) (Unit {0}) (handles_of handles.entry) (opens (text_of source.now) (Unit {0}) (handles_of handles.entry) room) (below (text_of source.now) (Unit {0}) (handles_of handles.entry) room) p least (context_of context)) (place_of source.now at) (λ node. place_of source.now node.end) result }
 {
-    out.push(flow_sequence())?;
+    push_flow_sequence(out, at)?;
     let first = separation(source, inside, least, context)?;
     let (end, deep) = read_items(
         alloc,
@@ -407,7 +417,7 @@ fn read_sequence<'a>(
         handles,
         out,
     )?;
-    out.push(Event::SequenceEnd)?;
+    push_sequence_end(out, end - 1)?;
     Ok(FlowNode {
         end,
         deep: deep + 1,
@@ -417,7 +427,7 @@ fn read_sequence<'a>(
 
 /// The items of a flow sequence, up to its closing bracket: the border after it, and how many collections are open at once.
 #[cycle(nodes)]
-fn read_items<'a>(
+fn read_items<'a, K: Keeper>(
     alloc: Global,
     source: &Chars<'a>,
     first: usize,
@@ -425,7 +435,7 @@ fn read_items<'a>(
     context: Ctx,
     room: u32,
     handles: Option<&Handles<'a>>,
-    out: &mut Vec<Event<'a>>,
+    out: &mut Sink<'a, K>,
 ) -> Result<(usize, u32), Fault>
     requires border { IsBorder source.now first }
     requires low { least ≤ first }
@@ -433,7 +443,7 @@ fn read_items<'a>(
     ensures border { IfOk result (λ r. IsBorder source.now r.0) }
     ensures onward { IfOk result (λ r. first < r.0) }
     ensures within { IfOk result (λ r. r.1 ≤ room) }
-    ensures reads { Appends (λ r. from_room r.1 (λ room. parts (text_of source.now) least (context_of context) 93 (item_at (text_of source.now) (Unit {0}) (handles_of handles.entry) room least (context_of context)))) (place_of source.now first) (λ r. place_of source.now r.0) out.old.items out.new.items result }
+    ensures reads { Appends (λ r. from_room r.1 (λ room. parts (text_of source.now) least (context_of context) 93 (item_at (text_of source.now) (Unit {0}) (handles_of handles.entry) room least (context_of context)))) (place_of source.now first) (λ r. place_of source.now r.0) (holds_of K.holds) out.old out.new result }
     ensures decides { context_of context ≡ flow_in → Decides (parts (text_of source.now) least flow_in 93 (item_at (text_of source.now) (Unit {0}) (handles_of handles.entry) room least flow_in)) Here (place_of source.now first) Here (λ r. place_of source.now r.0) result }
 {
     let mut here = first;
@@ -513,7 +523,7 @@ fn question_sign(source: &Chars<'_>, at: usize, context: Ctx) -> Option<usize>
 
 /// An item of a flow sequence: a node, or a key and its value (7.4.1).
 #[cycle(nodes)]
-fn read_item<'a>(
+fn read_item<'a, K: Keeper>(
     alloc: Global,
     source: &Chars<'a>,
     at: usize,
@@ -521,7 +531,7 @@ fn read_item<'a>(
     context: Ctx,
     room: u32,
     handles: Option<&Handles<'a>>,
-    out: &mut Vec<Event<'a>>,
+    out: &mut Sink<'a, K>,
 ) -> Result<(usize, u32), Fault>
     requires border { IsBorder source.now at }
     requires low { least ≤ at }
@@ -529,7 +539,7 @@ fn read_item<'a>(
     ensures border { IfOk result (λ r. IsBorder source.now r.0) }
     ensures onward { IfOk result (λ r. at ≤ r.0) }
     ensures within { IfOk result (λ r. r.1 ≤ room) }
-    ensures reads { Appends (λ r. from_room r.1 (λ room. item_at (text_of source.now) (Unit {0}) (handles_of handles.entry) room least (context_of context))) (place_of source.now at) (λ r. place_of source.now r.0) out.old.items out.new.items result }
+    ensures reads { Appends (λ r. from_room r.1 (λ room. item_at (text_of source.now) (Unit {0}) (handles_of handles.entry) room least (context_of context))) (place_of source.now at) (λ r. place_of source.now r.0) (holds_of K.holds) out.old out.new result }
     ensures ends { IfOk result (λ r. Inside (text_of source.now) (place_of source.now r.0) ⊎ Closes (text_of source.now) (place_of source.now r.0)) }
     ensures decides { context_of context ≡ flow_in → DecidesPart (text_of source.now) least (item_at (text_of source.now) (Unit {0}) (handles_of handles.entry) room least flow_in) (place_of source.now at) (λ r. place_of source.now r.0) result }
 {
@@ -546,7 +556,7 @@ fn read_item<'a>(
 
 /// A pair whose key follows a `?` (7.4.2).
 #[cycle(nodes)]
-fn read_asked_pair<'a>(
+fn read_asked_pair<'a, K: Keeper>(
     alloc: Global,
     source: &Chars<'a>,
     at: usize,
@@ -555,7 +565,7 @@ fn read_asked_pair<'a>(
     context: Ctx,
     room: u32,
     handles: Option<&Handles<'a>>,
-    out: &mut Vec<Event<'a>>,
+    out: &mut Sink<'a, K>,
 ) -> Result<(usize, u32), Fault>
     requires border { IsBorder source.now at }
     requires sign { Steps (bytes_of source.now) at 63 after }
@@ -565,22 +575,22 @@ fn read_asked_pair<'a>(
     ensures border { IfOk result (λ r. IsBorder source.now r.0) }
     ensures onward { IfOk result (λ r. at ≤ r.0) }
     ensures within { IfOk result (λ r. r.1 ≤ room) }
-    ensures reads { Appends (λ r. from_room r.1 (λ room. item_at (text_of source.now) (Unit {0}) (handles_of handles.entry) room least (context_of context))) (place_of source.now at) (λ r. place_of source.now r.0) out.old.items out.new.items result }
+    ensures reads { Appends (λ r. from_room r.1 (λ room. item_at (text_of source.now) (Unit {0}) (handles_of handles.entry) room least (context_of context))) (place_of source.now at) (λ r. place_of source.now r.0) (holds_of K.holds) out.old out.new result }
     ensures ends { IfOk result (λ r. Inside (text_of source.now) (place_of source.now r.0) ⊎ Closes (text_of source.now) (place_of source.now r.0)) }
     ensures decides { context_of context ≡ flow_in → DecidesPart (text_of source.now) least (item_at (text_of source.now) (Unit {0}) (handles_of handles.entry) room least flow_in) (place_of source.now at) (λ r. place_of source.now r.0) result }
 {
     if room == 0 {
         return Err(Fault::TooDeep(source.pos(at)));
     }
-    out.push(flow_mapping())?;
+    push_flow_mapping(out, at)?;
     let (end, deep) = read_asked(alloc, source, after, least, context, room - 1, handles, out)?;
-    out.push(Event::MappingEnd)?;
+    push_mapping_end(out, end)?;
     Ok((end, deep + 1))
 }
 
 /// A pair without a key, from its colon on (7.4.2).
 #[cycle(nodes)]
-fn read_empty_pair<'a>(
+fn read_empty_pair<'a, K: Keeper>(
     alloc: Global,
     source: &Chars<'a>,
     at: usize,
@@ -589,7 +599,7 @@ fn read_empty_pair<'a>(
     context: Ctx,
     room: u32,
     handles: Option<&Handles<'a>>,
-    out: &mut Vec<Event<'a>>,
+    out: &mut Sink<'a, K>,
 ) -> Result<(usize, u32), Fault>
     requires border { IsBorder source.now at }
     requires colon { Steps (bytes_of source.now) at 58 after }
@@ -599,15 +609,15 @@ fn read_empty_pair<'a>(
     ensures border { IfOk result (λ r. IsBorder source.now r.0) }
     ensures onward { IfOk result (λ r. at ≤ r.0) }
     ensures within { IfOk result (λ r. r.1 ≤ room) }
-    ensures reads { Appends (λ r. from_room r.1 (λ room. item_at (text_of source.now) (Unit {0}) (handles_of handles.entry) room least (context_of context))) (place_of source.now at) (λ r. place_of source.now r.0) out.old.items out.new.items result }
+    ensures reads { Appends (λ r. from_room r.1 (λ room. item_at (text_of source.now) (Unit {0}) (handles_of handles.entry) room least (context_of context))) (place_of source.now at) (λ r. place_of source.now r.0) (holds_of K.holds) out.old out.new result }
     ensures ends { IfOk result (λ r. Inside (text_of source.now) (place_of source.now r.0) ⊎ Closes (text_of source.now) (place_of source.now r.0)) }
     ensures decides { context_of context ≡ flow_in → DecidesPart (text_of source.now) least (item_at (text_of source.now) (Unit {0}) (handles_of handles.entry) room least flow_in) (place_of source.now at) (λ r. place_of source.now r.0) result }
 {
     if room == 0 {
         return Err(Fault::TooDeep(source.pos(at)));
     }
-    out.push(flow_mapping())?;
-    push_empty(out)?;
+    push_flow_mapping(out, at)?;
+    push_empty(out, at)?;
     let (end, deep) = read_value(
         alloc,
         source,
@@ -620,13 +630,13 @@ fn read_empty_pair<'a>(
         handles,
         out,
     )?;
-    out.push(Event::MappingEnd)?;
+    push_mapping_end(out, end)?;
     Ok((end, deep + 1))
 }
 
 /// An item of a flow sequence that begins with a node, which may be a key (7.4.1).
 #[cycle(nodes)]
-fn read_node_item<'a>(
+fn read_node_item<'a, K: Keeper>(
     alloc: Global,
     source: &Chars<'a>,
     at: usize,
@@ -634,7 +644,7 @@ fn read_node_item<'a>(
     context: Ctx,
     room: u32,
     handles: Option<&Handles<'a>>,
-    out: &mut Vec<Event<'a>>,
+    out: &mut Sink<'a, K>,
 ) -> Result<(usize, u32), Fault>
     requires border { IsBorder source.now at }
     requires low { least ≤ at }
@@ -644,11 +654,11 @@ fn read_node_item<'a>(
     ensures border { IfOk result (λ r. IsBorder source.now r.0) }
     ensures onward { IfOk result (λ r. at ≤ r.0) }
     ensures within { IfOk result (λ r. r.1 ≤ room) }
-    ensures reads { Appends (λ r. from_room r.1 (λ room. item_at (text_of source.now) (Unit {0}) (handles_of handles.entry) room least (context_of context))) (place_of source.now at) (λ r. place_of source.now r.0) out.old.items out.new.items result }
+    ensures reads { Appends (λ r. from_room r.1 (λ room. item_at (text_of source.now) (Unit {0}) (handles_of handles.entry) room least (context_of context))) (place_of source.now at) (λ r. place_of source.now r.0) (holds_of K.holds) out.old out.new result }
     ensures ends { IfOk result (λ r. Inside (text_of source.now) (place_of source.now r.0) ⊎ Closes (text_of source.now) (place_of source.now r.0)) }
     ensures decides { context_of context ≡ flow_in → DecidesPart (text_of source.now) least (item_at (text_of source.now) (Unit {0}) (handles_of handles.entry) room least flow_in) (place_of source.now at) (λ r. place_of source.now r.0) result }
 {
-    let start = out.len();
+    let start = out.mark();
     let key = read_flow_node(alloc, source, at, least, context, room, handles, out)?;
     match key_colon(source, at, key.end, key.kind, context)? {
         None => Ok((key.end, key.deep)),
@@ -658,10 +668,10 @@ fn read_node_item<'a>(
             }
             if key.deep >= room {
                 // the fault to tell is in the key, where its last collection opens
-                out.truncate(start);
+                out.cut(start);
                 return read_pair(alloc, source, at, least, context, room, handles, out);
             }
-            out.insert(start, flow_mapping())?;
+            insert_flow_mapping(out, start, at)?;
             let (end, deep) = read_value(
                 alloc,
                 source,
@@ -674,7 +684,7 @@ fn read_node_item<'a>(
                 handles,
                 out,
             )?;
-            out.push(Event::MappingEnd)?;
+            push_mapping_end(out, end)?;
             Ok((end, key.deep.max(deep) + 1))
         }
     }
@@ -713,7 +723,7 @@ fn key_colon(
 
 /// A pair that begins with its key (7.4.2).
 #[cycle(nodes)]
-fn read_pair<'a>(
+fn read_pair<'a, K: Keeper>(
     alloc: Global,
     source: &Chars<'a>,
     at: usize,
@@ -721,7 +731,7 @@ fn read_pair<'a>(
     context: Ctx,
     room: u32,
     handles: Option<&Handles<'a>>,
-    out: &mut Vec<Event<'a>>,
+    out: &mut Sink<'a, K>,
 ) -> Result<(usize, u32), Fault>
     requires border { IsBorder source.now at }
     requires low { least ≤ at }
@@ -732,11 +742,11 @@ fn read_pair<'a>(
     ensures border { IfOk result (λ r. IsBorder source.now r.0) }
     ensures onward { IfOk result (λ r. at ≤ r.0) }
     ensures within { IfOk result (λ r. r.1 ≤ room) }
-    ensures reads { Appends (λ r. from_room r.1 (λ room. item_at (text_of source.now) (Unit {0}) (handles_of handles.entry) room least (context_of context))) (place_of source.now at) (λ r. place_of source.now r.0) out.old.items out.new.items result }
+    ensures reads { Appends (λ r. from_room r.1 (λ room. item_at (text_of source.now) (Unit {0}) (handles_of handles.entry) room least (context_of context))) (place_of source.now at) (λ r. place_of source.now r.0) (holds_of K.holds) out.old out.new result }
     ensures ends { IfOk result (λ r. Inside (text_of source.now) (place_of source.now r.0) ⊎ Closes (text_of source.now) (place_of source.now r.0)) }
     ensures decides { context_of context ≡ flow_in → DecidesPart (text_of source.now) least (pair (text_of source.now) (Unit {0}) (handles_of handles.entry) (opens (text_of source.now) (Unit {0}) (handles_of handles.entry) room) (below (text_of source.now) (Unit {0}) (handles_of handles.entry) room) least flow_in) (place_of source.now at) (λ r. place_of source.now r.0) result }
 {
-    out.push(flow_mapping())?;
+    push_flow_mapping(out, at)?;
     let key = read_flow_node(alloc, source, at, least, context, room - 1, handles, out)?;
     match key_colon(source, at, key.end, key.kind, context)? {
         None => Err(unusable(source, key.end)),
@@ -753,7 +763,7 @@ fn read_pair<'a>(
                 handles,
                 out,
             )?;
-            out.push(Event::MappingEnd)?;
+            push_mapping_end(out, end)?;
             let most = key.deep.max(deep);
             Ok((end, most + 1))
         }
@@ -786,7 +796,7 @@ fn ends_value(source: &Chars<'_>, at: usize) -> bool
 
 /// The value after a key's colon (7.4.2).
 #[cycle(nodes)]
-fn read_value<'a>(
+fn read_value<'a, K: Keeper>(
     alloc: Global,
     source: &Chars<'a>,
     colon: usize,
@@ -796,7 +806,7 @@ fn read_value<'a>(
     context: Ctx,
     room: u32,
     handles: Option<&Handles<'a>>,
-    out: &mut Vec<Event<'a>>,
+    out: &mut Sink<'a, K>,
 ) -> Result<(usize, u32), Fault>
     requires colon { Steps (bytes_of source.now) colon 58 after }
     requires sign { MayFollowColon kind (context_of context) (text_of source.now) (place_of source.now after) }
@@ -804,17 +814,17 @@ fn read_value<'a>(
     ensures border { IfOk result (λ r. IsBorder source.now r.0) }
     ensures onward { IfOk result (λ r. after ≤ r.0) }
     ensures within { IfOk result (λ r. r.1 ≤ room) }
-    ensures reads { Appends (λ r. from_room r.1 (λ room. value_at (text_of source.now) (Unit {0}) (handles_of handles.entry) kind room least (context_of context))) (place_of source.now colon) (λ r. place_of source.now r.0) out.old.items out.new.items result }
+    ensures reads { Appends (λ r. from_room r.1 (λ room. value_at (text_of source.now) (Unit {0}) (handles_of handles.entry) kind room least (context_of context))) (place_of source.now colon) (λ r. place_of source.now r.0) (holds_of K.holds) out.old out.new result }
     ensures ends { IfOk result (λ r. Inside (text_of source.now) (place_of source.now r.0) ⊎ Closes (text_of source.now) (place_of source.now r.0)) }
     ensures decides { context_of context ≡ flow_in → DecidesPart (text_of source.now) least (value_at (text_of source.now) (Unit {0}) (handles_of handles.entry) kind room least flow_in) (place_of source.now colon) (λ r. place_of source.now r.0) result }
 {
     let start = separation(source, after, least, context)?;
     if !is_parted(kind, after, start) {
-        push_empty(out)?;
+        push_empty(out, after)?;
         return Ok((after, 0));
     }
     if ends_value(source, start) {
-        push_empty(out)?;
+        push_empty(out, after)?;
         return Ok((after, 0));
     }
     let value = read_flow_node(alloc, source, start, least, context, room, handles, out)?;
@@ -823,7 +833,7 @@ fn read_value<'a>(
 
 /// A flow mapping, after its brace.
 #[cycle(nodes)]
-fn read_mapping<'a>(
+fn read_mapping<'a, K: Keeper>(
     alloc: Global,
     source: &Chars<'a>,
     at: usize,
@@ -832,7 +842,7 @@ fn read_mapping<'a>(
     context: Ctx,
     room: u32,
     handles: Option<&Handles<'a>>,
-    out: &mut Vec<Event<'a>>,
+    out: &mut Sink<'a, K>,
 ) -> Result<FlowNode, Fault>
     requires bracket { Steps (bytes_of source.now) at 123 inside }
     requires border { IsBorder source.now at }
@@ -841,11 +851,11 @@ fn read_mapping<'a>(
     ensures border { IfOk result (λ node. IsBorder source.now node.end) }
     ensures onward { IfOk result (λ node. at < node.end) }
     ensures within { IfOk result (λ node. node.deep ≤ room) }
-    ensures reads { Appends (λ node. content_from (text_of source.now) (Unit {0}) (handles_of handles.entry) node.deep node.kind least (context_of context)) (place_of source.now at) (λ node. place_of source.now node.end) out.old.items out.new.items result }
+    ensures reads { Appends (λ node. content_from (text_of source.now) (Unit {0}) (handles_of handles.entry) node.deep node.kind least (context_of context)) (place_of source.now at) (λ node. place_of source.now node.end) (holds_of K.holds) out.old out.new result }
     ensures kind { IfOk result (λ node. node.kind ≡ Json) }
     ensures decides { inner (context_of context) ≡ flow_in → DecidesEach (λ p. flow_map (text_of source.now) (Unit {0}) (handles_of handles.entry) (opens (text_of source.now) (Unit {0}) (handles_of handles.entry) room) (below (text_of source.now) (Unit {0}) (handles_of handles.entry) room) p least (context_of context)) (place_of source.now at) (λ node. place_of source.now node.end) result }
 {
-    out.push(flow_mapping())?;
+    push_flow_mapping(out, at)?;
     let first = separation(source, inside, least, context)?;
     let (end, deep) = read_entries(
         alloc,
@@ -857,7 +867,7 @@ fn read_mapping<'a>(
         handles,
         out,
     )?;
-    out.push(Event::MappingEnd)?;
+    push_mapping_end(out, end - 1)?;
     Ok(FlowNode {
         end,
         deep: deep + 1,
@@ -867,7 +877,7 @@ fn read_mapping<'a>(
 
 /// The entries of a flow mapping, up to its closing brace: the border after it, and how many collections are open at once.
 #[cycle(nodes)]
-fn read_entries<'a>(
+fn read_entries<'a, K: Keeper>(
     alloc: Global,
     source: &Chars<'a>,
     first: usize,
@@ -875,7 +885,7 @@ fn read_entries<'a>(
     context: Ctx,
     room: u32,
     handles: Option<&Handles<'a>>,
-    out: &mut Vec<Event<'a>>,
+    out: &mut Sink<'a, K>,
 ) -> Result<(usize, u32), Fault>
     requires border { IsBorder source.now first }
     requires low { least ≤ first }
@@ -883,7 +893,7 @@ fn read_entries<'a>(
     ensures border { IfOk result (λ r. IsBorder source.now r.0) }
     ensures onward { IfOk result (λ r. first < r.0) }
     ensures within { IfOk result (λ r. r.1 ≤ room) }
-    ensures reads { Appends (λ r. from_room r.1 (λ room. parts (text_of source.now) least (context_of context) 125 (entry_at (text_of source.now) (Unit {0}) (handles_of handles.entry) room least (context_of context)))) (place_of source.now first) (λ r. place_of source.now r.0) out.old.items out.new.items result }
+    ensures reads { Appends (λ r. from_room r.1 (λ room. parts (text_of source.now) least (context_of context) 125 (entry_at (text_of source.now) (Unit {0}) (handles_of handles.entry) room least (context_of context)))) (place_of source.now first) (λ r. place_of source.now r.0) (holds_of K.holds) out.old out.new result }
     ensures decides { context_of context ≡ flow_in → Decides (parts (text_of source.now) least flow_in 125 (entry_at (text_of source.now) (Unit {0}) (handles_of handles.entry) room least flow_in)) Here (place_of source.now first) Here (λ r. place_of source.now r.0) result }
 {
     let mut here = first;
@@ -911,7 +921,7 @@ fn read_entries<'a>(
 
 /// An entry of a flow mapping (7.4.2).
 #[cycle(nodes)]
-fn read_entry<'a>(
+fn read_entry<'a, K: Keeper>(
     alloc: Global,
     source: &Chars<'a>,
     at: usize,
@@ -919,7 +929,7 @@ fn read_entry<'a>(
     context: Ctx,
     room: u32,
     handles: Option<&Handles<'a>>,
-    out: &mut Vec<Event<'a>>,
+    out: &mut Sink<'a, K>,
 ) -> Result<(usize, u32), Fault>
     requires border { IsBorder source.now at }
     requires low { least ≤ at }
@@ -927,7 +937,7 @@ fn read_entry<'a>(
     ensures border { IfOk result (λ r. IsBorder source.now r.0) }
     ensures onward { IfOk result (λ r. at ≤ r.0) }
     ensures within { IfOk result (λ r. r.1 ≤ room) }
-    ensures reads { Appends (λ r. from_room r.1 (λ room. entry_at (text_of source.now) (Unit {0}) (handles_of handles.entry) room least (context_of context))) (place_of source.now at) (λ r. place_of source.now r.0) out.old.items out.new.items result }
+    ensures reads { Appends (λ r. from_room r.1 (λ room. entry_at (text_of source.now) (Unit {0}) (handles_of handles.entry) room least (context_of context))) (place_of source.now at) (λ r. place_of source.now r.0) (holds_of K.holds) out.old out.new result }
     ensures ends { IfOk result (λ r. Inside (text_of source.now) (place_of source.now r.0) ⊎ Closes (text_of source.now) (place_of source.now r.0)) }
     ensures decides { context_of context ≡ flow_in → DecidesPart (text_of source.now) least (entry_at (text_of source.now) (Unit {0}) (handles_of handles.entry) room least flow_in) (place_of source.now at) (λ r. place_of source.now r.0) result }
 {
@@ -939,7 +949,7 @@ fn read_entry<'a>(
 
 /// A key and its value after a `?`, either of which may be empty (7.4.2).
 #[cycle(nodes)]
-fn read_asked<'a>(
+fn read_asked<'a, K: Keeper>(
     alloc: Global,
     source: &Chars<'a>,
     after: usize,
@@ -947,7 +957,7 @@ fn read_asked<'a>(
     context: Ctx,
     room: u32,
     handles: Option<&Handles<'a>>,
-    out: &mut Vec<Event<'a>>,
+    out: &mut Sink<'a, K>,
 ) -> Result<(usize, u32), Fault>
     requires border { IsBorder source.now after }
     requires low { least ≤ after }
@@ -956,7 +966,7 @@ fn read_asked<'a>(
     ensures border { IfOk result (λ r. IsBorder source.now r.0) }
     ensures onward { IfOk result (λ r. after ≤ r.0) }
     ensures within { IfOk result (λ r. r.1 ≤ room) }
-    ensures reads { Appends (λ r. from_room r.1 (λ room. asked_at (text_of source.now) (Unit {0}) (handles_of handles.entry) room least (context_of context))) (place_of source.now after) (λ r. place_of source.now r.0) out.old.items out.new.items result }
+    ensures reads { Appends (λ r. from_room r.1 (λ room. asked_at (text_of source.now) (Unit {0}) (handles_of handles.entry) room least (context_of context))) (place_of source.now after) (λ r. place_of source.now r.0) (holds_of K.holds) out.old out.new result }
     ensures ends { IfOk result (λ r. Inside (text_of source.now) (place_of source.now r.0) ⊎ Closes (text_of source.now) (place_of source.now r.0)) }
     ensures decides { context_of context ≡ flow_in → DecidesPart (text_of source.now) least (asked_at (text_of source.now) (Unit {0}) (handles_of handles.entry) room least flow_in) (place_of source.now after) (λ r. place_of source.now r.0) result }
 {
@@ -965,8 +975,8 @@ fn read_asked<'a>(
         return Err(unusable(source, after));
     }
     if ends_value(source, start) {
-        push_empty(out)?;
-        push_empty(out)?;
+        push_empty(out, start)?;
+        push_empty(out, start)?;
         return Ok((start, 0));
     }
     read_keyed(alloc, source, start, least, context, room, handles, out)
@@ -974,7 +984,7 @@ fn read_asked<'a>(
 
 /// An entry of a flow mapping without `?`: a key, perhaps an empty one, and its value or none (7.4.2).
 #[cycle(nodes)]
-fn read_keyed<'a>(
+fn read_keyed<'a, K: Keeper>(
     alloc: Global,
     source: &Chars<'a>,
     at: usize,
@@ -982,7 +992,7 @@ fn read_keyed<'a>(
     context: Ctx,
     room: u32,
     handles: Option<&Handles<'a>>,
-    out: &mut Vec<Event<'a>>,
+    out: &mut Sink<'a, K>,
 ) -> Result<(usize, u32), Fault>
     requires border { IsBorder source.now at }
     requires low { least ≤ at }
@@ -990,14 +1000,14 @@ fn read_keyed<'a>(
     ensures border { IfOk result (λ r. IsBorder source.now r.0) }
     ensures onward { IfOk result (λ r. at ≤ r.0) }
     ensures within { IfOk result (λ r. r.1 ≤ room) }
-    ensures reads { Appends (λ r. from_room r.1 (λ room. keyed_at (text_of source.now) (Unit {0}) (handles_of handles.entry) room least (context_of context))) (place_of source.now at) (λ r. place_of source.now r.0) out.old.items out.new.items result }
+    ensures reads { Appends (λ r. from_room r.1 (λ room. keyed_at (text_of source.now) (Unit {0}) (handles_of handles.entry) room least (context_of context))) (place_of source.now at) (λ r. place_of source.now r.0) (holds_of K.holds) out.old out.new result }
     ensures ends { IfOk result (λ r. Inside (text_of source.now) (place_of source.now r.0) ⊎ Closes (text_of source.now) (place_of source.now r.0)) }
     ensures decides { context_of context ≡ flow_in → DecidesPart (text_of source.now) least (keyed_at (text_of source.now) (Unit {0}) (handles_of handles.entry) room least flow_in) (place_of source.now at) (λ r. place_of source.now r.0) result }
 {
     match value_sign(source, at, Kind::Yaml, context) {
         None => read_key_entry(alloc, source, at, least, context, room, handles, out),
         Some(after) => {
-            push_empty(out)?;
+            push_empty(out, at)?;
             read_value(
                 alloc,
                 source,
@@ -1016,7 +1026,7 @@ fn read_keyed<'a>(
 
 /// An entry of a flow mapping that begins with a key.
 #[cycle(nodes)]
-fn read_key_entry<'a>(
+fn read_key_entry<'a, K: Keeper>(
     alloc: Global,
     source: &Chars<'a>,
     at: usize,
@@ -1024,7 +1034,7 @@ fn read_key_entry<'a>(
     context: Ctx,
     room: u32,
     handles: Option<&Handles<'a>>,
-    out: &mut Vec<Event<'a>>,
+    out: &mut Sink<'a, K>,
 ) -> Result<(usize, u32), Fault>
     requires border { IsBorder source.now at }
     requires low { least ≤ at }
@@ -1033,7 +1043,7 @@ fn read_key_entry<'a>(
     ensures border { IfOk result (λ r. IsBorder source.now r.0) }
     ensures onward { IfOk result (λ r. at ≤ r.0) }
     ensures within { IfOk result (λ r. r.1 ≤ room) }
-    ensures reads { Appends (λ r. from_room r.1 (λ room. keyed_at (text_of source.now) (Unit {0}) (handles_of handles.entry) room least (context_of context))) (place_of source.now at) (λ r. place_of source.now r.0) out.old.items out.new.items result }
+    ensures reads { Appends (λ r. from_room r.1 (λ room. keyed_at (text_of source.now) (Unit {0}) (handles_of handles.entry) room least (context_of context))) (place_of source.now at) (λ r. place_of source.now r.0) (holds_of K.holds) out.old out.new result }
     ensures ends { IfOk result (λ r. Inside (text_of source.now) (place_of source.now r.0) ⊎ Closes (text_of source.now) (place_of source.now r.0)) }
     ensures decides { context_of context ≡ flow_in → DecidesPart (text_of source.now) least (keyed_at (text_of source.now) (Unit {0}) (handles_of handles.entry) room least flow_in) (place_of source.now at) (λ r. place_of source.now r.0) result }
 {
@@ -1041,7 +1051,7 @@ fn read_key_entry<'a>(
     let colon = separation(source, key.end, least, context)?;
     match value_sign(source, colon, key.kind, context) {
         None => {
-            push_empty(out)?;
+            push_empty(out, key.end)?;
             Ok((key.end, key.deep))
         }
         Some(after) => {

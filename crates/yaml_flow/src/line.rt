@@ -3,12 +3,12 @@ ghost use Rattle.std.specs.Prelude.{◌≡◌, ◌≢◌, ◌≤◌, ◌<◌, �
 ghost use Rattle.std.specs.Bool.{OnTrue, OnFalse};
 ghost use Rattle.yaml_text.specs.Source.{text_of, place_of, IsBorder};
 ghost use Rattle.yaml_text.specs.EventModel.{context_of};
-ghost use Rattle.yaml_text.specs.grammar.Rules.{any_span, maybe};
-ghost use Rattle.yaml_text.specs.grammar.Separation.{s_l_comments, l_comment, separate, flow_in};
+ghost use Rattle.yaml_definitions.specs.grammar.Rules.{any_span, maybe};
+ghost use Rattle.yaml_definitions.specs.grammar.Separation.{s-l-comments as s_l_comments, l-comment as l_comment, s-separate as separate, flow_in};
 ghost use Rattle.yaml_text.specs.Lines.{AfterLine, Inside, is_key};
-ghost use Rattle.yaml_text.specs.Lines.{Dashes};
+ghost use Rattle.yaml_text.specs.Lines.{LooksLikeMarker};
 ghost use Rattle.yaml_text.specs.Answer.{IsRefusal};
-ghost use Rattle.yaml_unique.specs.Follows.{Solid, Fresh, Way};
+ghost use Rattle.law_one_reading.specs.Follows.{Solid, Fresh, Way};
 ghost use Rattle.yaml_flow.specs.Lines.{IsLine};
 
 use yaml_mark::comments;
@@ -55,8 +55,8 @@ pub fn first_line(source: &Chars<'_>) -> Line
 /// Whether a line has content: it is no document mark and not the end.
 pub fn has_content(source: &Chars<'_>, line: Line) -> bool
     requires { IsLine source.now line }
-    ensures yes { OnTrue result ((place_of source.now line.first ≢ length (text_of source.now)) × (Dashes (text_of source.now) (place_of source.now line.start) → ⊥)) }
-    ensures no { OnFalse result ((place_of source.now line.first ≡ length (text_of source.now)) ⊎ Dashes (text_of source.now) (place_of source.now line.start)) }
+    ensures yes { OnTrue result ((place_of source.now line.first ≢ length (text_of source.now)) × (LooksLikeMarker (text_of source.now) (place_of source.now line.start) → ⊥)) }
+    ensures no { OnFalse result ((place_of source.now line.first ≡ length (text_of source.now)) ⊎ LooksLikeMarker (text_of source.now) (place_of source.now line.start)) }
 {
     if is_end(source, line.first) {
         return false;
@@ -65,7 +65,7 @@ pub fn has_content(source: &Chars<'_>, line: Line) -> bool
 }
 
 /// The start of the line after the rest of a line and any comment lines (`s-l-comments`, 6.6), the furthest that there is.
-#[tactic(auto, unfolding(yaml_text::specs::grammar::Calls::skip_comments))]
+#[tactic(auto, unfolding(yaml_text::specs::Calls::skip_comments))]
 pub fn skip_comments(source: &Chars<'_>, at: usize) -> Option<usize>
     requires { IsBorder source.now at }
     ensures border { IfSome result (λ to. IsBorder source.now to) }

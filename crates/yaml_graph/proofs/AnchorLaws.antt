@@ -13,9 +13,9 @@ use Rattle.std.specs.Ordering.{nat_cmp, is_eq, eq_by_cmp}
 use Rattle.std.proofs.lemmas.List.{map-append, length-map}
 use Rattle.std.proofs.lemmas.Map.Text.{is_eq-slice_cmp}
 use Rattle.std.proofs.lemmas.Bool.{cases_Bool, cond-true, cond-false}
-use Rattle.yaml_text.specs.Tree.{Tree}
-use Rattle.yaml_text.specs.Event.{Anchor}
-use Rattle.yaml_text.specs.Unfold.{Table, or_else, closed, last_named}
+use Rattle.yaml_definitions.specs.model.Tree.{Tree}
+use Rattle.yaml_definitions.specs.model.Event.{Anchor}
+use Rattle.yaml_definitions.specs.model.Unfold.{Table, or_else, closed, last_named}
 use Rattle.yaml_graph.proofs.GraphLaws.{get-more, get-end}
 use Rattle.yaml_graph.specs.ComposerModel.{Names, place_named, last_place, names_of, Placed}
 

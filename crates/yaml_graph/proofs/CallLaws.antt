@@ -4,8 +4,8 @@ use Rattle.std.specs.Prelude.{Option, Some, IfOk, IfErr, MatchResult}
 use Rattle.std.specs.List.{All}
 use Rattle.std.proofs.lemmas.List.Elements.{All-nil, All-cons}
 use Rattle.std.specs.Cow.{cow_str_bytes}
-use Rattle.yaml_text.specs.Unfold.{Outcome, and_then}
-use Rattle.yaml_text.specs.Tree.{Tree, mapping}
+use Rattle.yaml_definitions.specs.model.Unfold.{Outcome, and_then}
+use Rattle.yaml_definitions.specs.model.Tree.{Tree, mapping}
 use Rattle.yaml_text.specs.declared.fault.Fault.{Fault}
 use Rattle.yaml_text.specs.declared.fault.Fault.TheVariants as faults
 use Rattle.yaml_graph.specs.TreeLists.{pairs}

@@ -10,10 +10,10 @@ use Rattle.std.specs.Ordering.{nat_cmp, is_eq}
 use Rattle.std.proofs.lemmas.Option.{slice_get_within, get_or_from_slice_get, slice_get_read}
 use Rattle.std.proofs.lemmas.List.Elements.{All-nil, All-cons}
 use Rattle.std.proofs.lemmas.List.{reverse-append, map-append, length-map}
-use Rattle.yaml_text.specs.Tree.{Tree, scalar}
-use Rattle.yaml_text.specs.Event.{Anchor}
-use Rattle.yaml_text.specs.Unfold.{Table, closed, last_named, tree_named, and_then, placed}
-use Rattle.yaml_text.specs.Core.{undefined_alias, cyclic_alias}
+use Rattle.yaml_definitions.specs.model.Tree.{Tree, scalar}
+use Rattle.yaml_definitions.specs.model.Event.{Anchor}
+use Rattle.yaml_definitions.specs.model.Unfold.{Table, closed, last_named, tree_named, and_then, placed}
+use Rattle.yaml_definitions.specs.model.Core.{undefined_alias, cyclic_alias}
 use Rattle.yaml_graph.specs.ComposerSteps.{State, initial_state, node_begun, whole, added}
 use Rattle.yaml_graph.specs.ComposerSteps as machine
 use Rattle.yaml_graph.specs.GraphModel.{trees_at, node_tree, trees_in, PartsBelow}

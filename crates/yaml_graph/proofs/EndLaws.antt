@@ -2,10 +2,10 @@
 use Rattle.std.proofs.Common.{◌≡◌, ◌<◌, ◌≤◌, ℕ, zero, suc, min, List, [], ◌∷◌, map, get_or, refl, sym, ◌∙◌, ap, subst, arith, Ok}
 use Rattle.std.specs.Prelude.{Some}
 use Rattle.std.specs.List.{All, slice_get}
-use Rattle.yaml_text.specs.Limits.{height_limit}
-use Rattle.yaml_text.specs.Tree.{Tree, height}
-use Rattle.yaml_text.specs.Serial.{Document}
-use Rattle.yaml_text.specs.Unfold.{trees_of}
+use Rattle.yaml_definitions.specs.model.Limits.{height_limit}
+use Rattle.yaml_definitions.specs.model.Tree.{Tree, height}
+use Rattle.yaml_definitions.specs.model.Serial.{Document}
+use Rattle.yaml_definitions.specs.model.Unfold.{trees_of}
 use Rattle.yaml_graph.specs.Closing.{stream_trees}
 use Rattle.yaml_graph.specs.Composed.{IsFirstHigh}
 use Rattle.yaml_graph.specs.ComposerSteps.{State}

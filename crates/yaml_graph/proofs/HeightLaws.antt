@@ -2,8 +2,8 @@
 use Rattle.std.proofs.Common.{◌≡◌, ℕ, zero, suc, ◌+◌, ◌<◌, ◌≤◌, min, max, List, [], ◌∷◌, ◌++◌, length, map, take, get_or, refl, sym, ◌∙◌, ap, subst, arith, add-one}
 use Rattle.std.proofs.Math.Seq.{take-suc}
 use Rattle.std.proofs.lemmas.List.{take_all, map-append, length-map}
-use Rattle.yaml_text.specs.Limits.{height_limit}
-use Rattle.yaml_text.specs.Tree.{Tree, sequence, mapping, height, heights, heights_of_pairs}
+use Rattle.yaml_definitions.specs.model.Limits.{height_limit}
+use Rattle.yaml_definitions.specs.model.Tree.{Tree, sequence, mapping, height, heights, heights_of_pairs}
 use Rattle.yaml_graph.specs.TreeLists.{trees, pairs}
 use Rattle.yaml_graph.specs.GraphModel.{Entries, tree_at, trees_at, entries_at}
 use Rattle.yaml_graph.specs.ComposerModel.{cut}

@@ -1,9 +1,9 @@
 -- No node stands for a tree that is higher than the tree of its document.
 use Rattle.std.proofs.Common.{◌≡◌, ◌<◌, ◌≤◌, ℕ, zero, suc, List, [], ◌∷◌, ◌++◌, length, map, get_or, refl, arith}
 use Rattle.std.specs.List.{All}
-use Rattle.yaml_text.specs.Limits.{height_limit}
-use Rattle.yaml_text.specs.Tree.{Tree, Trees, Pairs, scalar, sequence, mapping, end, item, done, entry, height, heights, heights_of_pairs}
-use Rattle.yaml_text.specs.Serial.{SerialNode, SerialNodes, SerialPairs, alias_at, scalar_at, sequence_at, mapping_at, end_serial, item_serial, done_serial, entry_serial, Document}
+use Rattle.yaml_definitions.specs.model.Limits.{height_limit}
+use Rattle.yaml_definitions.specs.model.Tree.{Tree, Trees, Pairs, scalar, sequence, mapping, end, item, done, entry, height, heights, heights_of_pairs}
+use Rattle.yaml_definitions.specs.model.Serial.{SerialNode, SerialNodes, SerialPairs, alias_at, scalar_at, sequence_at, mapping_at, end_serial, item_serial, done_serial, entry_serial, Document}
 use Rattle.yaml_graph.specs.Closing.{trees_inside, trees_inside_all, trees_inside_pairs, stream_trees}
 use Rattle.yaml_graph.specs.ComposerModel.{cut}
 

@@ -1,11 +1,11 @@
 -- The composer's steps over a stream's events come to the trees of its documents and of all their nodes.
 use Rattle.std.proofs.Common.{◌≡◌, ℕ, suc, ◌+◌, List, [], ◌∷◌, ◌++◌, length, refl, sym, ◌∙◌, ap, arith, append_assoc, append-nil, Result, Ok, Err, add-zero, add-one}
 use Rattle.std.specs.Prelude.{Bool, Option, None, Some}
-use Rattle.yaml_text.specs.Tree.{Tree, Trees, Pairs, scalar, sequence, mapping, end, item, done, entry}
-use Rattle.yaml_text.specs.Event.{Event, Anchor, WrittenTag, Style, document_end, stream_end, sequence_end, mapping_end}
-use Rattle.yaml_text.specs.Serial.{SerialNode, SerialNodes, SerialPairs, alias_at, scalar_at, sequence_at, mapping_at, end_serial, item_serial, done_serial, entry_serial, flat, flat_all, flat_pairs, Document, documents_events, stream_events}
-use Rattle.yaml_text.specs.Core.{Cause, Resolved, resolve, collection_tag}
-use Rattle.yaml_text.specs.Unfold.{Outcome, Table, and_then, placed, opened, closed, last_named, tree_named, event_count, unfold_node, unfold_all, unfold_pairs, trees_from, trees_of}
+use Rattle.yaml_definitions.specs.model.Tree.{Tree, Trees, Pairs, scalar, sequence, mapping, end, item, done, entry}
+use Rattle.yaml_definitions.specs.model.Event.{Event, Anchor, WrittenTag, Style, document_end, stream_end, sequence_end, mapping_end}
+use Rattle.yaml_definitions.specs.model.Serial.{SerialNode, SerialNodes, SerialPairs, alias_at, scalar_at, sequence_at, mapping_at, end_serial, item_serial, done_serial, entry_serial, flat, flat_all, flat_pairs, Document, documents_events, stream_events}
+use Rattle.yaml_definitions.specs.model.Core.{Cause, Resolved, resolve, collection_tag}
+use Rattle.yaml_definitions.specs.model.Unfold.{Outcome, Table, and_then, placed, opened, closed, last_named, tree_named, event_count, unfold_node, unfold_all, unfold_pairs, trees_from, trees_of}
 use Rattle.yaml_graph.specs.TreeLists.{trees, pairs}
 use Rattle.yaml_graph.specs.Closing.{trees_inside, trees_inside_all, trees_inside_pairs, stream_trees}
 use Rattle.yaml_graph.specs.ComposerSteps.{State, initial_state, paired, scalar_added, collection_begun, added, step, on_outcome, steps}

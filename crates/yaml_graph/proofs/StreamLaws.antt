@@ -1,10 +1,10 @@
 -- The composer over a whole stream.
 use Rattle.std.proofs.Common.{◌⊎◌, inl, inr, ◌≡◌, ◌+◌, ℕ, suc, Bool, List, [], ◌∷◌, length, map, refl, sym, ◌∙◌, ap, subst, add-one, Ok, Err}
 use Rattle.std.specs.Prelude.{Option, None, Some}
-use Rattle.yaml_text.specs.Tree.{Tree}
-use Rattle.yaml_text.specs.Core.{Cause, undefined_alias, cyclic_alias, wrong_kind, bad_content, int_range, float_range}
-use Rattle.yaml_text.specs.Unfold.{Outcome, and_then, trees_of}
-use Rattle.yaml_text.specs.Serial.{Document, stream_events}
+use Rattle.yaml_definitions.specs.model.Tree.{Tree}
+use Rattle.yaml_definitions.specs.model.Core.{Cause, undefined_alias, cyclic_alias, wrong_kind, bad_content, int_range, float_range}
+use Rattle.yaml_definitions.specs.model.Unfold.{Outcome, and_then, trees_of}
+use Rattle.yaml_definitions.specs.model.Serial.{Document, stream_events}
 use Rattle.yaml_text.specs.EventModel.{event_of}
 use Rattle.yaml_text.specs.declared.fault.Fault.{Fault}
 use Rattle.yaml_text.specs.declared.fault.Fault.TheVariants as faults

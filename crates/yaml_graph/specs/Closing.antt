@@ -1,7 +1,7 @@
 -- The trees that the nodes of a stream stand for, in the order in which the nodes close.
 use Rattle.std.specs.Prelude.{List, [], ◌∷◌, ◌++◌}
-use Rattle.yaml_text.specs.Tree.{Tree, Trees, Pairs, sequence, mapping, item, entry}
-use Rattle.yaml_text.specs.Serial.{SerialNode, SerialNodes, SerialPairs, alias_at, scalar_at, sequence_at, mapping_at, item_serial, entry_serial, Document}
+use Rattle.yaml_definitions.specs.model.Tree.{Tree, Trees, Pairs, sequence, mapping, item, entry}
+use Rattle.yaml_definitions.specs.model.Serial.{SerialNode, SerialNodes, SerialPairs, alias_at, scalar_at, sequence_at, mapping_at, item_serial, entry_serial, Document}
 
 -- The unfolded trees of a node's own nodes, itself last, where the node's own tree is known. A node closes after its parts; an alias is no node of its own.
 unfoldable mutual

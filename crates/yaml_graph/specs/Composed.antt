@@ -1,11 +1,11 @@
 -- What the composer takes and answers.
 use Rattle.std.specs.Prelude.{◌≡◌, ℕ, ◌<◌, ◌≤◌, List, map, Some, Ok, Err}
 use Rattle.std.specs.List.{slice_get, All}
-use Rattle.yaml_text.specs.Limits.{height_limit}
-use Rattle.yaml_text.specs.Tree.{Tree, height}
-use Rattle.yaml_text.specs.Serial.{Document, stream_events}
-use Rattle.yaml_text.specs.Core.{undefined_alias, cyclic_alias, wrong_kind, bad_content, int_range, float_range}
-use Rattle.yaml_text.specs.Unfold.{Outcome, trees_of}
+use Rattle.yaml_definitions.specs.model.Limits.{height_limit}
+use Rattle.yaml_definitions.specs.model.Tree.{Tree, height}
+use Rattle.yaml_definitions.specs.model.Serial.{Document, stream_events}
+use Rattle.yaml_definitions.specs.model.Core.{undefined_alias, cyclic_alias, wrong_kind, bad_content, int_range, float_range}
+use Rattle.yaml_definitions.specs.model.Unfold.{Outcome, trees_of}
 use Rattle.yaml_text.specs.EventModel.{event_of}
 use Rattle.yaml_text.specs.declared.event.Event as code
 use Rattle.yaml_text.specs.declared.fault.Fault.{Fault}

@@ -8,10 +8,10 @@ use Rattle.std.specs.Option.{option_map}
 use Rattle.std.specs.BTreeMap.{BTreeMap, get_by}
 use Rattle.std.specs.Cmp.Lexicographic.{slice_cmp}
 use Rattle.std.specs.Ordering.{nat_cmp}
-use Rattle.yaml_text.specs.Limits.{height_limit}
-use Rattle.yaml_text.specs.Tree.{Tree, height}
-use Rattle.yaml_text.specs.Event.{Anchor}
-use Rattle.yaml_text.specs.Unfold.{Outcome, Table, or_else}
+use Rattle.yaml_definitions.specs.model.Limits.{height_limit}
+use Rattle.yaml_definitions.specs.model.Tree.{Tree, height}
+use Rattle.yaml_definitions.specs.model.Event.{Anchor}
+use Rattle.yaml_definitions.specs.model.Unfold.{Outcome, Table, or_else}
 use Rattle.yaml_graph.specs.ComposerSteps as machine
 use Rattle.yaml_graph.specs.GraphModel.{kind_tree, trees_in, trees_at, PartsBelow, Grounded}
 use Rattle.yaml_graph.specs.declared.composer.Composer.{Composer}

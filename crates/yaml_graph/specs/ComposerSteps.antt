@@ -1,9 +1,9 @@
 -- What the composer does, event by event, on plain values.
 use Rattle.std.specs.Prelude.{ℕ, suc, Bool, true, false, cond, List, [], ◌∷◌, ◌++◌, length, Ok, Err, Option, None, Some}
-use Rattle.yaml_text.specs.Tree.{Tree, scalar, sequence, mapping}
-use Rattle.yaml_text.specs.Event.{Anchor, Event, document_start, sequence_start, sequence_end, mapping_start, mapping_end, scalar_event, alias_event}
-use Rattle.yaml_text.specs.Core.{resolve, collection_tag}
-use Rattle.yaml_text.specs.Unfold.{Outcome, Table, and_then, placed, opened, closed, last_named, tree_named}
+use Rattle.yaml_definitions.specs.model.Tree.{Tree, scalar, sequence, mapping}
+use Rattle.yaml_definitions.specs.model.Event.{Anchor, Event, document_start, sequence_start, sequence_end, mapping_start, mapping_end, scalar_event, alias_event}
+use Rattle.yaml_definitions.specs.model.Core.{resolve, collection_tag}
+use Rattle.yaml_definitions.specs.model.Unfold.{Outcome, Table, and_then, placed, opened, closed, last_named, tree_named}
 use Rattle.yaml_graph.specs.TreeLists.{trees, pairs}
 
 -- A collection that is open: its anchor, the anchor's place in the table, its tag, and the whole nodes before it in its parent.

@@ -1,7 +1,7 @@
 //! From the events of a stream to its graph.
 ghost use Rattle.std.specs.Prelude.{◌≡◌, ◌<◌, List, length, map, MatchOption, MatchResult};
 ghost use Rattle.std.specs.List.{All};
-ghost use Rattle.yaml_text.specs.Serial.{Document, stream_events};
+ghost use Rattle.yaml_definitions.specs.model.Serial.{Document, stream_events};
 ghost use Rattle.yaml_text.specs.EventModel.{event_of};
 ghost use Rattle.yaml_graph.specs.Composed.{Composable, Composed, RefusesStream};
 ghost use Rattle.yaml_graph.specs.ComposerModel.{AllBelow, IsFirstAbove};

@@ -1,8 +1,8 @@
 //! Heights of nodes, from those of their parts.
 ghost use Rattle.std.specs.Prelude.{◌≡◌, ◌<◌, ℕ, suc, min, max, List, map, length};
 ghost use Rattle.std.specs.List.{All};
-ghost use Rattle.yaml_text.specs.Limits as limit;
-ghost use Rattle.yaml_text.specs.Tree.{Tree, sequence, mapping};
+ghost use Rattle.yaml_definitions.specs.model.Limits as limit;
+ghost use Rattle.yaml_definitions.specs.model.Tree.{Tree, sequence, mapping};
 ghost use Rattle.yaml_graph.specs.TreeLists.{trees, pairs};
 ghost use Rattle.yaml_graph.specs.GraphModel.{trees_at, entries_at, kind_tree, PartsBelow};
 ghost use Rattle.yaml_graph.specs.ComposerModel.{cut};

@@ -1,8 +1,8 @@
 //! What a graph keeps of a scalar: the tag and the text of its event, moved, or what the core schema makes of them.
 ghost use Rattle.std.specs.Prelude.{◌≡◌, Ok, MatchOption, MatchResult, IfOk, IfErr, IfSome, string_bytes};
 ghost use Rattle.std.specs.Cow.{cow_str_bytes};
-ghost use Rattle.yaml_text.specs.Tag.{str_tag};
-ghost use Rattle.yaml_text.specs.Core.{resolve, by_table, by_tag};
+ghost use Rattle.yaml_definitions.specs.model.Tag.{str_tag};
+ghost use Rattle.yaml_definitions.specs.model.Core.{resolve, by_table, by_tag};
 ghost use Rattle.yaml_text.specs.EventModel.{written_of, style_of};
 ghost use Rattle.yaml_core.specs.Answer.{RefusesScalar};
 
@@ -72,7 +72,7 @@ fn text_or<'s>(other: Option<String>, text: CowStr<'s>) -> CowStr<'s>
 }
 
 /// A text that stands for itself.
-#[tactic(auto, unfolding(yaml_text::specs::Tag::core_tag))]
+#[tactic(auto, unfolding(yaml_definitions::specs::model::Tag::core_tag))]
 fn string<'s>(text: CowStr<'s>) -> Scalar<'s>
     ensures tag { cow_str_bytes result.tag ≡ str_tag }
     ensures content { cow_str_bytes result.content ≡ cow_str_bytes text.entry }
@@ -102,7 +102,7 @@ fn plain<'s>(alloc: Global, text: CowStr<'s>) -> Result<Scalar<'s>, CoreFault>
 }
 
 /// The content of a text under a written tag, where it is another text.
-#[tactic(auto, unfolding(yaml_text::specs::Core::resolve))]
+#[tactic(auto, unfolding(yaml_definitions::specs::model::Core::resolve))]
 fn content_under(
     alloc: Global,
     tag: &str,
@@ -133,7 +133,7 @@ fn tagged<'s>(
 }
 
 /// The scalar of an event's tag, style and text, which are moved into it where it has them.
-#[tactic(auto, unfolding(yaml_text::specs::Core::resolve))]
+#[tactic(auto, unfolding(yaml_definitions::specs::model::Core::resolve))]
 pub(crate) fn scalar_of<'s>(
     alloc: Global,
     tag: EventTag<'s>,

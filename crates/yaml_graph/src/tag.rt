@@ -1,9 +1,9 @@
 //! Tags of collections.
 ghost use Rattle.std.specs.Prelude.{MatchResult, Ok, Err, ◌≡◌, true, length};
 ghost use Rattle.std.specs.Cow.{cow_str_bytes};
-ghost use Rattle.yaml_text.specs.Tag.{default_tag, is_core};
-ghost use Rattle.yaml_text.specs.Core.{collection_tag};
-ghost use Rattle.yaml_text.specs.Unfold.{placed};
+ghost use Rattle.yaml_definitions.specs.model.Tag.{default_tag, is_core};
+ghost use Rattle.yaml_definitions.specs.model.Core.{collection_tag};
+ghost use Rattle.yaml_definitions.specs.model.Unfold.{placed};
 ghost use Rattle.yaml_text.specs.EventModel.{written_of};
 ghost use Rattle.yaml_graph.specs.Composed.{RefusesUnfolding};
 ghost use Rattle.yaml_graph.specs.ComposerModel.{kind_number};
@@ -20,7 +20,7 @@ pub(crate) enum Collection {
 }
 
 /// Whether this is a tag of the core schema.
-#[tactic(auto, unfolding(yaml_text::specs::Tag::core_tag))]
+#[tactic(auto, unfolding(yaml_definitions::specs::model::Tag::core_tag))]
 fn is_core(tag: &str) -> bool
     ensures { result ≡ is_core tag.now }
 {
@@ -38,7 +38,7 @@ fn is_core(tag: &str) -> bool
 
 impl Collection {
     /// The tag of a collection that carries none.
-    #[tactic(auto, unfolding(yaml_text::specs::Tag::core_tag))]
+    #[tactic(auto, unfolding(yaml_definitions::specs::model::Tag::core_tag))]
     fn default_tag(self) -> &'static str
         ensures { result.now ≡ default_tag (kind_number self) }
     {
@@ -49,7 +49,7 @@ impl Collection {
     }
 
     /// The tag of the collection that begins at the event at `at`.
-    #[tactic(auto, unfolding(yaml_text::specs::Core::collection_tag))]
+    #[tactic(auto, unfolding(yaml_definitions::specs::model::Core::collection_tag))]
     pub(crate) fn tag<'s>(self, at: usize, tag: EventTag<'s>) -> Result<CowStr<'s>, Fault>
         ensures { MatchResult result (λ text. collection_tag (kind_number self) (written_of tag.entry) ≡ Ok (cow_str_bytes text)) (RefusesUnfolding (placed at (collection_tag (kind_number self) (written_of tag.entry)))) }
     {

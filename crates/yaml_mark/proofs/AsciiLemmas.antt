@@ -8,8 +8,8 @@ use Rattle.std.proofs.lemmas.Bool.Decides.{nat_tests}
 use Rattle.std.proofs.lemmas.Str.{encodes-chars, encodes-IsAscii, IsAscii-append}
 use Rattle.std.proofs.lemmas.Str.Ascii.{IsAscii-nil}
 use lib.Utf8.{encodes}
-use Rattle.yaml_text.specs.grammar.Rules.{Spans, run, Stands}
-use Rattle.yaml_text.specs.grammar.Characters.{is_word, is_uri, is_tag}
+use Rattle.yaml_definitions.specs.grammar.Rules.{Spans, run, Stands}
+use Rattle.yaml_definitions.specs.grammar.Characters.{is_word, is_uri, is_tag}
 use Rattle.yaml_text.proofs.PlaceLemmas.{slice_none, slice_snoc}
 use Rattle.yaml_text.proofs.Runs.{run_none, run_more}
 use Rattle.yaml_text.proofs.Breaks.{run_join}

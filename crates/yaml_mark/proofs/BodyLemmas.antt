@@ -9,10 +9,10 @@ use Rattle.std.proofs.lemmas.Str.{encodes-chars, encodes-IsAscii, chars-IsAscii}
 use lib.Utf8.{encodes}
 use Rattle.yaml_text.specs.Answer.{Only}
 use Rattle.yaml_text.specs.Answer.{Unread}
-use Rattle.yaml_text.specs.grammar.Rules.{◌◆◌, Spans, run, some_run, Stands, word, chr}
-use Rattle.yaml_text.specs.grammar.Characters.{is_ns, is_nb, is_break, is_white, is_space}
-use Rattle.yaml_text.specs.grammar.Separation.{StartsLine, s_l_comments, line_end, comment}
-use Rattle.yaml_text.specs.grammar.Directives.{Directive, version, reserved, is_known, yaml_directive, tag_directive, reserved_directive, directive}
+use Rattle.yaml_definitions.specs.grammar.Rules.{◌◆◌, Spans, run, some_run, Stands, word, chr}
+use Rattle.yaml_definitions.specs.grammar.Characters.{is_ns, is_nb, is_break, is_white, is_space}
+use Rattle.yaml_definitions.specs.grammar.Separation.{StartsLine, s-l-comments as s_l_comments, b-comment as line_end, c-nb-comment-text as comment}
+use Rattle.yaml_definitions.specs.grammar.Directives.{Directive, version, reserved, is_known, ns-yaml-directive as yaml_directive, ns-tag-directive as tag_directive, ns-reserved-directive as reserved_directive, l-directive as directive}
 use Rattle.yaml_text.proofs.PlaceLemmas.{slice_none, slice_one, slice_join}
 use Rattle.yaml_text.specs.Lines.{Inside, blank_rest}
 use Rattle.yaml_text.proofs.Runs.{same_char, run_same, run_none, run_more}
@@ -21,8 +21,8 @@ use Rattle.yaml_text.proofs.LineRuns.{inside_no_line, line_end_same, line_end_st
 use Rattle.yaml_text.proofs.RestLemmas.{from_s_b, no_blank, is_the_space, nb_feed, nb_return}
 use Rattle.yaml_mark.specs.DirectiveParts.{version_rest, binding_rest, parameter, prefix_run, prefix_start, body, whole_directive, Settles, Unsettled}
 use Rattle.yaml_mark.proofs.AsciiLemmas.{AllLow, all_ascii}
-use Rattle.yaml_text.specs.grammar.Characters.{is_word}
-use Rattle.yaml_text.specs.grammar.Tags.{tag_prefix}
+use Rattle.yaml_definitions.specs.grammar.Characters.{is_word}
+use Rattle.yaml_definitions.specs.grammar.Tags.{ns-tag-prefix as tag_prefix}
 use Rattle.yaml_mark.proofs.TagLemmas.{Handle, named as named_handle, double, single, handle_of, word_name, name_is_ns}
 use Rattle.yaml_mark.proofs.CommentLemmas.{Stuck, Lines, lines_same}
 use Rattle.yaml_mark.proofs.LineEndLemmas.{comment_begins, whole_run_is}

@@ -7,9 +7,9 @@ use Rattle.yaml_text.specs.declared.chars.Chars.{Chars}
 use Rattle.yaml_text.specs.Place.{Steps}
 use Rattle.yaml_text.specs.Source.{bytes_of, text_of, place_of, IsBorder}
 use Rattle.yaml_text.proofs.PlaceLemmas.{before_ascii, place_less}
-use Rattle.yaml_text.specs.grammar.Rules.{Spans, Behind, Stands}
-use Rattle.yaml_text.specs.grammar.Characters.{is_space, brk}
-use Rattle.yaml_text.specs.grammar.Separation.{StartsLine, s_b_comment, s_l_comments, l_comment, sep, comment, line_end}
+use Rattle.yaml_definitions.specs.grammar.Rules.{Spans, Behind, Stands}
+use Rattle.yaml_definitions.specs.grammar.Characters.{is_space, b-break as brk}
+use Rattle.yaml_definitions.specs.grammar.Separation.{StartsLine, s-b-comment as s_b_comment, s-l-comments as s_l_comments, l-comment as l_comment, s-separate-in-line as sep, c-nb-comment-text as comment, b-comment as line_end}
 use Rattle.yaml_text.specs.Lines.{Uncut, AfterLine, blank_rest}
 use Rattle.yaml_text.proofs.Runs.{same_char, no_stand}
 use Rattle.yaml_text.proofs.LineRuns.{line_end_stops, line_uncut, line_end_onward, end_stops}

@@ -5,10 +5,10 @@ use Rattle.std.specs.Char.{is_digit, is_ascii_hexdigit, digit_value}
 use Rattle.std.specs.Str.{IsUtf8, is_utf8}
 use Rattle.std.proofs.lemmas.Str.{IsUtf8-from_is_utf8, is_utf8-from_IsUtf8}
 use Rattle.std.proofs.lemmas.Bool.Decides.{nat_tests}
-use Rattle.yaml_text.specs.Event.{full}
-use Rattle.yaml_text.specs.Limits.{tag_limit}
-use Rattle.yaml_text.specs.Tag.{is_full}
-use Rattle.yaml_text.specs.grammar.Tags.{percent_decode, decoded}
+use Rattle.yaml_definitions.specs.model.Event.{full}
+use Rattle.yaml_definitions.specs.model.Limits.{tag_limit}
+use Rattle.yaml_definitions.specs.model.Tag.{is_full}
+use Rattle.yaml_definitions.specs.grammar.Tags.{percent_decode, decoded}
 use Rattle.percent_encoding.specs.Percent as crate_spec
 use Rattle.percent_encoding.proofs.PercentLemmas.{percent_decode_not_percent, percent_decode_escape}
 

@@ -3,11 +3,11 @@ use Rattle.std.proofs.Common.{◌≡◌, ◌≢◌, ℕ, ◌+◌, ◌-◌, ◌<�
 use Rattle.std.specs.Prelude.{slice_get, slice_range, ◌==◌}
 use Rattle.std.specs.Char.{is_ascii_hexdigit}
 use Rattle.std.proofs.Math.Nat.{eq-or-lt_of_le}
-use Rattle.yaml_text.specs.grammar.Rules.{◌◆◌, Spans, run, some_run, Stands, one, chr}
-use Rattle.yaml_text.specs.grammar.Characters.{is_ns, is_nb, is_break, is_white, is_space, is_word, is_uri, is_tag}
-use Rattle.yaml_text.specs.grammar.Separation.{s_l_comments}
-use Rattle.yaml_text.specs.grammar.Tags.{tag_prefix, tag_char, uri_char, tag_handle}
-use Rattle.yaml_text.specs.grammar.Directives as grammar
+use Rattle.yaml_definitions.specs.grammar.Rules.{◌◆◌, Spans, run, some_run, Stands, one, chr}
+use Rattle.yaml_definitions.specs.grammar.Characters.{is_ns, is_nb, is_break, is_white, is_space, is_word, is_uri, is_tag}
+use Rattle.yaml_definitions.specs.grammar.Separation.{s-l-comments as s_l_comments}
+use Rattle.yaml_definitions.specs.grammar.Tags.{ns-tag-prefix as tag_prefix, tag_char, uri_char, c-tag-handle as tag_handle}
+use Rattle.yaml_definitions.specs.grammar.Directives as grammar
 use Rattle.yaml_text.specs.Lines.{Inside}
 use Rattle.yaml_text.proofs.Runs.{same_char, no_stand, run_same, run_none, run_more}
 use Rattle.yaml_text.proofs.Breaks.{run_join}

@@ -6,13 +6,13 @@ use Rattle.std.specs.Map.{lookup}
 use Rattle.std.specs.Cmp.Lexicographic.{nat_list_eq_equiv}
 use Rattle.std.proofs.lemmas.List.{append-nil}
 use Rattle.yaml_text.specs.Answer.{Only}
-use Rattle.yaml_text.specs.grammar.Calls.{read_directives}
+use Rattle.yaml_text.specs.Calls.{read_directives}
 use Rattle.yaml_text.specs.Answer.{Unread}
-use Rattle.yaml_text.specs.grammar.Rules.{Rule, Any, ◌⊔◌, Begins, chr}
-use Rattle.yaml_text.specs.grammar.Characters.{is_space}
-use Rattle.yaml_text.specs.grammar.Separation.{StartsLine, AtEnd, l_comment}
-use Rattle.yaml_text.specs.grammar.Tags.{Handles}
-use Rattle.yaml_text.specs.grammar.Directives.{Directive, version, reserved, binding, bindings, excludes, is_consistent, directive, directives, yaml_directive, tag_directive, reserved_directive}
+use Rattle.yaml_definitions.specs.grammar.Rules.{Rule, Any, ◌⊔◌, Begins, chr}
+use Rattle.yaml_definitions.specs.grammar.Characters.{is_space}
+use Rattle.yaml_definitions.specs.grammar.Separation.{StartsLine, AtEnd, l-comment as l_comment}
+use Rattle.yaml_definitions.specs.grammar.Tags.{Handles}
+use Rattle.yaml_definitions.specs.grammar.Directives.{Directive, version, reserved, binding, bindings, excludes, is_consistent, l-directive as directive, directives, ns-yaml-directive as yaml_directive, ns-tag-directive as tag_directive, ns-reserved-directive as reserved_directive}
 use Rattle.yaml_text.proofs.Runs.{same_char, run_none}
 use Rattle.yaml_text.proofs.LineRuns.{end_stops}
 use Rattle.yaml_text.proofs.RestLemmas.{from_l, no_blank}

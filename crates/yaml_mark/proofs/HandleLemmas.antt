@@ -5,7 +5,7 @@ use Rattle.std.specs.List.{list_any}
 use Rattle.std.specs.Option.{option_map, option_or}
 use Rattle.std.specs.Map.{lookup, update}
 use Rattle.std.specs.Cmp.Lexicographic.{bytes_decides, nat_list_eq_equiv}
-use Rattle.yaml_text.specs.grammar.Tags.{Handles, default_handles, prefix_of, percent_decode}
+use Rattle.yaml_definitions.specs.grammar.Tags.{Handles, default_handles, prefix_of, percent_decode}
 use Rattle.yaml_mark.specs.Prefixes.{IsWhole, StandFor}
 use Rattle.yaml_mark.proofs.DecodeLemmas.{kept_first}
 

@@ -3,9 +3,9 @@ use Rattle.std.proofs.Common.{◌≡◌, ℕ, zero, suc, ◌+◌, ◌-◌, ◌<�
 use Rattle.std.specs.Prelude.{slice_get, ◌==◌}
 use Rattle.std.proofs.Math.Nat.{eq-or-lt_of_le}
 use Rattle.std.proofs.lemmas.Option.{slice_get_cases, slice_get_past, slice_get_within}
-use Rattle.yaml_text.specs.grammar.Rules.{Spans, run, Stands}
-use Rattle.yaml_text.specs.grammar.Characters.{is_nb, is_break, is_space}
-use Rattle.yaml_text.specs.grammar.Separation.{line_end, comment, sep, s_b_comment, s_l_comments}
+use Rattle.yaml_definitions.specs.grammar.Rules.{Spans, run, Stands}
+use Rattle.yaml_definitions.specs.grammar.Characters.{is_nb, is_break, is_space}
+use Rattle.yaml_definitions.specs.grammar.Separation.{b-comment as line_end, c-nb-comment-text as comment, s-separate-in-line as sep, s-b-comment as s_b_comment, s-l-comments as s_l_comments}
 use Rattle.yaml_text.specs.Lines.{line_brk}
 use Rattle.yaml_text.specs.Lines.{Inside}
 use Rattle.yaml_text.proofs.Runs.{run_none, run_more, no_stand, no_stand_end}

@@ -3,10 +3,10 @@ use Rattle.std.proofs.Common.{◌≡◌, ◌≢◌, ℕ, ◌+◌, ◌≤◌, inl
 use Rattle.std.specs.Prelude.{slice_get, slice_range}
 use Rattle.std.specs.Char.{is_ascii_hexdigit}
 use Rattle.yaml_text.specs.Answer.{Only}
-use Rattle.yaml_text.specs.grammar.Rules.{Spans}
-use Rattle.yaml_text.specs.grammar.Characters.{is_uri, is_tag, is_word}
-use Rattle.yaml_text.specs.grammar.Tags.{percent_decode, tag_prefix}
-use Rattle.yaml_text.specs.grammar.Directives.{Directive, version, reserved, binding, yaml_directive, tag_directive, reserved_directive}
+use Rattle.yaml_definitions.specs.grammar.Rules.{Spans}
+use Rattle.yaml_definitions.specs.grammar.Characters.{is_uri, is_tag, is_word}
+use Rattle.yaml_definitions.specs.grammar.Tags.{percent_decode, ns-tag-prefix as tag_prefix}
+use Rattle.yaml_definitions.specs.grammar.Directives.{Directive, version, reserved, binding, ns-yaml-directive as yaml_directive, ns-tag-directive as tag_directive, ns-reserved-directive as reserved_directive}
 use Rattle.yaml_text.proofs.PlaceLemmas.{slice_none, slice_one, slice_join}
 use Rattle.yaml_mark.specs.Prefixes.{IsWhole}
 use Rattle.yaml_mark.specs.Parts.{percent_escape, char_or_escape}

@@ -2,7 +2,7 @@
 use Rattle.std.proofs.Common.{◌≡◌, ◌≢◌, ℕ, ◌+◌, inl, inr, List, Bool, true, false, Some, None, sym, ◌∙◌, ap, subst}
 use Rattle.std.specs.Prelude.{slice_get}
 use Rattle.std.specs.Char.{is_ascii_hexdigit}
-use Rattle.yaml_text.specs.grammar.Rules.{Stands, one}
+use Rattle.yaml_definitions.specs.grammar.Rules.{Stands, one}
 use Rattle.yaml_mark.specs.Parts.{percent_escape, char_or_escape}
 use Rattle.yaml_text.proofs.Runs.{no_stand, no_stand_end, nothing_there}
 

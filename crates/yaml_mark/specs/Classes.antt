@@ -1,7 +1,7 @@
 -- What the code's classes of characters are.
 use Rattle.std.specs.Prelude.{ℕ, Bool}
-use Rattle.yaml_text.specs.grammar.Characters.{is_ns, is_word, is_uri, is_tag}
-use Rattle.yaml_text.specs.grammar.Tags.{is_name}
+use Rattle.yaml_definitions.specs.grammar.Characters.{is_ns, is_word, is_uri, is_tag}
+use Rattle.yaml_definitions.specs.grammar.Tags.{is_name}
 use Rattle.yaml_mark.specs.declared.runs.Class.{Class}
 use Rattle.yaml_mark.specs.declared.runs.Class.TheVariants as code
 

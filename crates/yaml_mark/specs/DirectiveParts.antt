@@ -1,10 +1,10 @@
 -- The parts of directives that functions of the code read, and what these answer.
 use Rattle.std.specs.Prelude.{◌≡◌, ◌≢◌, ℕ, List, Some, codes, slice_get}
-use Rattle.yaml_text.specs.grammar.Rules.{Span, Rule, ◌◆◌, ◌⊔◌, ◌▸◌, ◌◂◌, ◌∪◌, limited, chr, word, some_run, whole_run, any_span, ahead, with_value, seen}
-use Rattle.yaml_text.specs.grammar.Characters.{is_ns, is_space}
-use Rattle.yaml_text.specs.grammar.Separation.{s_l_comments, l_comment}
-use Rattle.yaml_text.specs.grammar.Tags.{tag_handle, tag_prefix, tag_char, uri_char}
-use Rattle.yaml_text.specs.grammar.Directives as grammar
+use Rattle.yaml_definitions.specs.grammar.Rules.{Span, Rule, ◌◆◌, ◌⊔◌, ◌▸◌, ◌◂◌, ◌∪◌, limited, chr, word, some_run, whole_run, any_span, ahead, with_value, seen}
+use Rattle.yaml_definitions.specs.grammar.Characters.{is_ns, is_space}
+use Rattle.yaml_definitions.specs.grammar.Separation.{s-l-comments as s_l_comments, l-comment as l_comment}
+use Rattle.yaml_definitions.specs.grammar.Tags.{c-tag-handle as tag_handle, ns-tag-prefix as tag_prefix, tag_char, uri_char}
+use Rattle.yaml_definitions.specs.grammar.Directives as grammar
 use Rattle.yaml_text.specs.declared.fault.Fault.{Fault}
 use Rattle.yaml_text.specs.declared.fault.Fault.TheVariants as fault
 use Rattle.yaml_mark.specs.declared.directive.Directive.{Directive}
@@ -44,7 +44,7 @@ module _ (cs : List ℕ) where
   -- ---- answers
 
   unfoldable pub body : Rule grammar.Directive
-  body = grammar.yaml_directive cs ∪ grammar.tag_directive cs ∪ grammar.reserved_directive cs
+  body = grammar.ns-yaml-directive cs ∪ grammar.ns-tag-directive cs ∪ grammar.ns-reserved-directive cs
 
   -- the reading from i to j; each other that comments follow has its value, and comments follow this one
   pub record Settles {V : Type 0} (R : Rule V) (i j : ℕ) (v : V) : Type 0 where
@@ -57,4 +57,4 @@ module _ (cs : List ℕ) where
 
   -- a directive with all of its comment lines
   unfoldable pub whole_directive : Rule (List grammar.Directive)
-  whole_directive = grammar.directive cs ◂ ahead (λ j. (k : ℕ) → l_comment cs j k → ⊥)
+  whole_directive = grammar.l-directive cs ◂ ahead (λ j. (k : ℕ) → l_comment cs j k → ⊥)

@@ -1,7 +1,7 @@
 -- What the handles of a document are as plain values.
 use Rattle.std.specs.Prelude.{[], map, Option, Some, None}
 use Rattle.std.specs.Borrow.{Bor}
-use Rattle.yaml_text.specs.grammar.Tags as grammar
+use Rattle.yaml_definitions.specs.grammar.Tags as grammar
 use Rattle.yaml_mark.specs.declared.handles.Handles.{Handles}
 
 -- each handle with its prefix, in the order of their directives

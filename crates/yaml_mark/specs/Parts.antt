@@ -1,8 +1,8 @@
 -- Parts of the productions that a function of the code reads.
 use Rattle.std.specs.Prelude.{◌≡◌, ℕ, ◌⊎◌, Bool, List}
 use Rattle.std.specs.Char.{is_ascii_hexdigit}
-use Rattle.yaml_text.specs.grammar.Rules.{Span, ◌◆◌, ◌⊔◌, chr, one, run}
-use Rattle.yaml_text.specs.grammar.Characters.{is_word}
+use Rattle.yaml_definitions.specs.grammar.Rules.{Span, ◌◆◌, ◌⊔◌, chr, one, run}
+use Rattle.yaml_definitions.specs.grammar.Characters.{is_word}
 
 module _ (cs : List ℕ) where
   -- what an anchor or an alias begins with

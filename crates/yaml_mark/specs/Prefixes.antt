@@ -1,7 +1,7 @@
 -- What the decoded prefixes of handles are.
 use Rattle.std.specs.Prelude.{◌≡◌, ℕ, List, ◌++◌, Option}
 use Rattle.std.specs.Option.{option_map}
-use Rattle.yaml_text.specs.grammar.Tags.{percent_decode}
+use Rattle.yaml_definitions.specs.grammar.Tags.{percent_decode}
 
 -- a prefix that is decoded alike whatever follows: none of its escapes ends behind it (5.6)
 abbrev pub IsWhole : List ℕ → Type 0

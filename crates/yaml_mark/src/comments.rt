@@ -2,8 +2,8 @@
 ghost use Rattle.std.specs.Prelude.{◌≡◌, ◌≤◌, ◌⊎◌, IfSome, IfNone, Some, slice_get, ℕ};
 ghost use Rattle.std.specs.Bool.{OnTrue, OnFalse};
 ghost use Rattle.yaml_text.specs.Source.{text_of, place_of, IsBorder};
-ghost use Rattle.yaml_text.specs.grammar.Calls as calls;
-ghost use Rattle.yaml_text.specs.grammar.Separation.{s_l_comments, l_comment, StartsLine, AtEnd};
+ghost use Rattle.yaml_text.specs.Calls as calls;
+ghost use Rattle.yaml_definitions.specs.grammar.Separation.{s-l-comments as s_l_comments, l-comment as l_comment, StartsLine, AtEnd};
 ghost use Rattle.yaml_text.specs.Lines.{Uncut};
 
 use yaml_text::chars::Chars;

@@ -2,9 +2,9 @@
 ghost use Rattle.std.specs.Prelude.{◌≡◌, ◌++◌, ℕ, List, IfOk, IfErr, string_bytes};
 ghost use Rattle.std.specs.Option.{option_map};
 ghost use Rattle.std.specs.Cow.{cow_str_bytes};
-ghost use Rattle.yaml_text.specs.Event.{full};
-ghost use Rattle.yaml_text.specs.Tag.{is_full};
-ghost use Rattle.yaml_text.specs.grammar.Tags.{decoded, percent_decode};
+ghost use Rattle.yaml_definitions.specs.model.Event.{full};
+ghost use Rattle.yaml_definitions.specs.model.Tag.{is_full};
+ghost use Rattle.yaml_definitions.specs.grammar.Tags.{decoded, percent_decode};
 ghost use Rattle.yaml_text.specs.declared.fault.Fault.TheVariants as fault;
 
 use percent_encoding::{DecodeError, percent_decode_str};
@@ -14,7 +14,7 @@ use yaml_text::fault::Fault;
 use yaml_text::limits::tag_limit;
 
 /// Whether a decoded text is a tag: neither empty nor too long nor `!`.
-#[tactic(auto, unfolding(yaml_text::specs::Tag::is_full))]
+#[tactic(auto, unfolding(yaml_definitions::specs::model::Tag::is_full))]
 fn is_tag(text: &str) -> bool
     ensures { result ≡ is_full text.now }
 {

@@ -1,13 +1,14 @@
 //! One directive (YAML 1.2.2, 6.8).
-ghost use Rattle.std.specs.Prelude.{◌≡◌, ◌≤◌, ◌<◌, ◌⊎◌, IfOk, IfErr, IfSome, IfNone, [], ◌∷◌, ℕ};
+ghost use Rattle.std.specs.Prelude.{◌≡◌, ◌≤◌, ◌<◌, ◌⊎◌, IfOk, IfErr, IfSome, IfNone, [], ◌∷◌, ℕ, Some, slice_get};
 ghost use Rattle.yaml_text.specs.Answer.{Only};
+ghost use Rattle.yaml_text.specs.Placed.{IsPlaced};
 ghost use Rattle.yaml_text.specs.Source.{text_of, place_of, IsBorder};
 ghost use Rattle.yaml_text.specs.Answer.{Unread};
-ghost use Rattle.yaml_text.specs.grammar.Directives as grammar;
-ghost use Rattle.yaml_text.specs.grammar.Rules.{any_span, some_run, Stands, chr};
-ghost use Rattle.yaml_text.specs.grammar.Characters.{is_space};
-ghost use Rattle.yaml_text.specs.grammar.Tags.{uri_char};
-ghost use Rattle.yaml_text.specs.grammar.Separation.{StartsLine, AtEnd, l_comment};
+ghost use Rattle.yaml_definitions.specs.grammar.Directives as grammar;
+ghost use Rattle.yaml_definitions.specs.grammar.Rules.{any_span, some_run, Stands, chr};
+ghost use Rattle.yaml_definitions.specs.grammar.Characters.{is_space};
+ghost use Rattle.yaml_definitions.specs.grammar.Tags.{uri_char};
+ghost use Rattle.yaml_definitions.specs.grammar.Separation.{StartsLine, AtEnd, l-comment as l_comment};
 ghost use Rattle.yaml_mark.specs.DirectiveParts.{IsMalformed, Settles, Unsettled, parameter, prefix_start, prefix_run, version_rest, binding_rest, body, whole_directive, directive_of};
 
 use crate::comments::skip_comments;
@@ -32,8 +33,10 @@ pub(crate) enum Directive<'a> {
 /// The fault of the directive at `at`, which can't be read on at `here`: a tab is one where a space may stand.
 fn malformed(source: &Chars<'_>, at: usize, here: usize) -> Fault
     requires at { IsBorder source.now at }
+    requires percent { slice_get (text_of source.now) (place_of source.now at) ≡ Some 37 }
     requires here { IsBorder source.now here }
-    ensures { IsMalformed result }
+    ensures malformed { IsMalformed result }
+    ensures placed { IsPlaced source.now result }
 {
     match accept(source, here, '\t') {
         Some(_) => Fault::Tab(source.pos(here)),
@@ -44,6 +47,7 @@ fn malformed(source: &Chars<'_>, at: usize, here: usize) -> Fault
 /// The border after the spaces that stand at a border, one at least. Without one there is the place of the fault.
 fn skip_gap(source: &Chars<'_>, at: usize, from: usize) -> Result<usize, Fault>
     requires at { IsBorder source.now at }
+    requires percent { slice_get (text_of source.now) (place_of source.now at) ≡ Some 37 }
     requires from { IsBorder source.now from }
     ensures border { IfOk result (λ to. IsBorder source.now to) }
     ensures onward { IfOk result (λ to. from < to) }
@@ -51,6 +55,7 @@ fn skip_gap(source: &Chars<'_>, at: usize, from: usize) -> Result<usize, Fault>
     ensures furthest { IfOk result (λ to. Stands (text_of source.now) is_space (place_of source.now to) → ⊥) }
     ensures none { IfErr result (λ _. Stands (text_of source.now) is_space (place_of source.now from) → ⊥) }
     ensures malformed { IfErr result IsMalformed }
+    ensures placed { IfErr result (IsPlaced source.now) }
 {
     let (_, to) = skip_spaces(source, from);
     if to == from {
@@ -62,12 +67,14 @@ fn skip_gap(source: &Chars<'_>, at: usize, from: usize) -> Result<usize, Fault>
 /// The border after the version of the directive at `at`, whose name ends at `from`.
 fn read_version(source: &Chars<'_>, at: usize, from: usize) -> Result<usize, Fault>
     requires at { IsBorder source.now at }
+    requires percent { slice_get (text_of source.now) (place_of source.now at) ≡ Some 37 }
     requires from { IsBorder source.now from }
     ensures border { IfOk result (λ to. IsBorder source.now to) }
     ensures onward { IfOk result (λ to. from < to) }
     ensures is { IfOk result (λ to. version_rest (text_of source.now) (place_of source.now from) (place_of source.now to)) }
     ensures none { IfErr result (λ _. (j : ℕ) → version_rest (text_of source.now) (place_of source.now from) j → ⊥) }
     ensures malformed { IfErr result IsMalformed }
+    ensures placed { IfErr result (IsPlaced source.now) }
 {
     let digit = skip_gap(source, at, from)?;
     match accept(source, digit, '1') {
@@ -107,12 +114,14 @@ fn read_binding<'a>(
     from: usize,
 ) -> Result<((&'a str, &'a str), usize), Fault>
     requires at { IsBorder source.now at }
+    requires percent { slice_get (text_of source.now) (place_of source.now at) ≡ Some 37 }
     requires from { IsBorder source.now from }
     ensures border { IfOk result (λ r. IsBorder source.now r.1) }
     ensures onward { IfOk result (λ r. from < r.1) }
     ensures settles { IfOk result (λ r. Settles (text_of source.now) (binding_rest (text_of source.now)) (place_of source.now from) (place_of source.now r.1) (grammar.binding r.0.0.now r.0.1.now)) }
     ensures none { IfErr result (λ _. Unsettled (text_of source.now) (binding_rest (text_of source.now)) (place_of source.now from)) }
     ensures malformed { IfErr result IsMalformed }
+    ensures placed { IfErr result (IsPlaced source.now) }
 {
     let handle = skip_gap(source, at, from)?;
     let first = match accept(source, handle, '!') {
@@ -190,6 +199,7 @@ fn read_body<'a>(
     ensures settles { IfOk result (λ r. Settles (text_of source.now) (body (text_of source.now)) (place_of source.now at) (place_of source.now r.1) (directive_of r.0)) }
     ensures none { IfErr result (λ _. Unsettled (text_of source.now) (body (text_of source.now)) (place_of source.now at)) }
     ensures malformed { IfErr result IsMalformed }
+    ensures placed { IfErr result (IsPlaced source.now) }
 {
     let end = skip_run(source, start, Class::Solid);
     let name = text_between(source, start, end);
@@ -224,6 +234,7 @@ pub(crate) fn read_directive<'a>(
     ensures only { IfOk result (λ r. Only (whole_directive (text_of source.now)) (place_of source.now at) (place_of source.now r.1) (directive_of r.0 ∷ [])) }
     ensures none { IfErr result (λ _. Unread (whole_directive (text_of source.now)) (place_of source.now at)) }
     ensures malformed { IfErr result IsMalformed }
+    ensures placed { IfErr result (IsPlaced source.now) }
 {
     let (directive, end) = read_body(source, at, start)?;
     match skip_comments(source, end) {

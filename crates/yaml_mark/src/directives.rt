@@ -1,10 +1,11 @@
 //! Directives (YAML 1.2.2, 6.8).
 ghost use Rattle.std.specs.Prelude.{◌≡◌, ◌<◌, ◌⊎◌, IfOk, IfErr, Some, slice_get};
 ghost use Rattle.yaml_text.specs.Answer.{Only};
+ghost use Rattle.yaml_text.specs.Placed.{IsPlaced};
 ghost use Rattle.yaml_text.specs.Source.{text_of, place_of, IsBorder};
-ghost use Rattle.yaml_text.specs.grammar.Calls as calls;
+ghost use Rattle.yaml_text.specs.Calls as calls;
 ghost use Rattle.yaml_text.specs.Answer.{Unread};
-ghost use Rattle.yaml_text.specs.grammar.Separation.{StartsLine, AtEnd};
+ghost use Rattle.yaml_definitions.specs.grammar.Separation.{StartsLine, AtEnd};
 ghost use Rattle.yaml_mark.specs.Answer.{DirectivesRefuse};
 ghost use Rattle.yaml_mark.specs.HandlesModel.{bindings_of};
 
@@ -33,6 +34,7 @@ pub fn read_directives<'a>(
     ensures line { IfOk result (λ r. StartsLine (text_of source.now) (place_of source.now r.1) ⊎ AtEnd (text_of source.now) (place_of source.now r.1)) }
     ensures only { IfOk result (λ r. Only (calls.read_directives (text_of source.now)) (place_of source.now at) (place_of source.now r.1) (bindings_of r.0)) }
     ensures refused { IfErr result (λ e. DirectivesRefuse e (Unread (calls.read_directives (text_of source.now)) (place_of source.now at))) }
+    ensures placed { IfErr result (IsPlaced source.now) }
 {
     let mut handles = Handles::new(alloc);
     let mut has_version = false;

@@ -3,8 +3,9 @@ ghost use Rattle.std.specs.Prelude.{◌<◌, IfOk, IfErr, IfSome, IfNone, ℕ};
 ghost use Rattle.std.specs.Str.{chars, IsUtf8};
 ghost use Rattle.std.specs.Cow.{cow_str_bytes};
 ghost use Rattle.yaml_text.specs.Answer.{Only};
+ghost use Rattle.yaml_text.specs.Placed.{IsPlaced};
 ghost use Rattle.yaml_text.specs.Source.{text_of, place_of, IsBorder};
-ghost use Rattle.yaml_text.specs.grammar.Calls as calls;
+ghost use Rattle.yaml_text.specs.Calls as calls;
 ghost use Rattle.yaml_text.specs.Answer.{Unread};
 ghost use Rattle.yaml_mark.specs.Answer.{NameRefuses};
 ghost use Rattle.yaml_mark.specs.Parts.{sign};
@@ -48,6 +49,7 @@ pub fn read_name<'a>(
     ensures utf8 { IfOk result (λ r. IsUtf8 (cow_str_bytes r.0)) }
     ensures only { IfOk result (λ r. Only (calls.read_name (text_of source.now)) (place_of source.now at) (place_of source.now r.1) (chars (cow_str_bytes r.0))) }
     ensures refused { IfErr result (λ e. NameRefuses e (Unread (calls.read_name (text_of source.now)) (place_of source.now at))) }
+    ensures placed { IfErr result (IsPlaced source.now) }
 {
     let start = match read_sign(source, at) {
         Some(to) => to,

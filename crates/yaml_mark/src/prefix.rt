@@ -2,14 +2,14 @@
 ghost use Rattle.std.specs.Prelude.{bytes_eq};
 ghost use Rattle.std.specs.Option.{option_map};
 ghost use Rattle.std.specs.Map.{lookup};
-ghost use Rattle.yaml_text.specs.grammar.Tags.{default_handles, prefix_of};
+ghost use Rattle.yaml_definitions.specs.grammar.Tags.{default_handles, prefix_of};
 ghost use Rattle.yaml_mark.specs.HandlesModel.{handles_of};
 ghost use Rattle.yaml_mark.specs.Prefixes.{StandFor};
 
 use crate::handles::Handles;
 
 /// The decoded prefix of a handle that no directive binds.
-#[tactic(auto, unfolding(yaml_text::specs::grammar::Tags::default_handles))]
+#[tactic(auto, unfolding(yaml_definitions::specs::grammar::Tags::default_handles))]
 fn default_prefix(handle: &str) -> Option<&'static [u8]>
     ensures { StandFor (option_map (λ b. b.now) result) (lookup (bytes_eq handle.now) default_handles) }
 {

@@ -2,7 +2,7 @@
 ghost use Rattle.std.specs.Prelude.{◌≡◌, ◌≤◌, ◌<◌, IfSome, IfNone, ℕ};
 ghost use Rattle.std.specs.Bool.{OnTrue, OnFalse};
 ghost use Rattle.yaml_text.specs.Source.{text_of, place_of, IsBorder};
-ghost use Rattle.yaml_text.specs.grammar.Rules.{run, Stands, one, any_span};
+ghost use Rattle.yaml_definitions.specs.grammar.Rules.{run, Stands, one, any_span};
 ghost use Rattle.std.specs.Char.{is_ascii_hexdigit};
 ghost use Rattle.yaml_mark.specs.Classes.{class_of};
 ghost use Rattle.yaml_mark.specs.Parts.{percent_escape, char_or_escape};
@@ -27,7 +27,7 @@ pub(crate) enum Class {
 }
 
 impl Class {
-    #[tactic(auto, unfolding(yaml_text::specs::grammar::Tags::is_name, yaml_text::specs::grammar::Characters::is_tag))]
+    #[tactic(auto, unfolding(yaml_definitions::specs::grammar::Tags::is_name, yaml_definitions::specs::grammar::Characters::is_tag))]
     fn has(self, c: char) -> bool
         ensures { result ≡ class_of self c }
     {

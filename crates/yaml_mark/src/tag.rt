@@ -3,11 +3,12 @@ ghost use Rattle.std.specs.Prelude.{◌≡◌, ◌≢◌, ◌+◌, ◌≤◌, �
 ghost use Rattle.std.specs.Option.{option_map};
 ghost use Rattle.yaml_text.specs.Answer.{Only};
 ghost use Rattle.yaml_text.specs.EventModel.{written_of};
+ghost use Rattle.yaml_text.specs.Placed.{IsPlaced};
 ghost use Rattle.yaml_text.specs.Source.{text_of, place_of, IsBorder};
-ghost use Rattle.yaml_text.specs.grammar.Calls as calls;
+ghost use Rattle.yaml_text.specs.Calls as calls;
 ghost use Rattle.yaml_text.specs.Answer.{Unread};
-ghost use Rattle.yaml_text.specs.grammar.Rules.{chr};
-ghost use Rattle.yaml_text.specs.grammar.Tags as grammar;
+ghost use Rattle.yaml_definitions.specs.grammar.Rules.{chr};
+ghost use Rattle.yaml_definitions.specs.grammar.Tags as grammar;
 ghost use Rattle.yaml_mark.specs.Answer.{TagRefuses};
 ghost use Rattle.yaml_mark.specs.HandlesModel.{handles_of};
 ghost use Rattle.yaml_mark.specs.Parts.{handle_rest};
@@ -54,6 +55,7 @@ fn read_verbatim<'a>(
     ensures onward { IfOk result (λ r. at < r.1) }
     ensures only { IfOk result (λ r. (handles : grammar.Handles) → Only (calls.read_tag (text_of source.now) handles) (place_of source.now at) (place_of source.now r.1) (written_of r.0)) }
     ensures refused { IfErr result (λ e. TagRefuses e ((handles : grammar.Handles) → Unread (calls.read_tag (text_of source.now) handles) (place_of source.now at))) }
+    ensures placed { IfErr result (IsPlaced source.now) }
 {
     let end = skip_escaped(source, from, Class::Uri);
     match accept(source, end, '>') {
@@ -87,6 +89,7 @@ fn read_shorthand<'a>(
     ensures onward { IfOk result (λ r. at < r.1) }
     ensures only { IfOk result (λ r. Only (calls.read_tag (text_of source.now) (handles_of handles.entry)) (place_of source.now at) (place_of source.now r.1) (written_of r.0)) }
     ensures refused { IfErr result (λ e. TagRefuses e (Unread (calls.read_tag (text_of source.now) (handles_of handles.entry)) (place_of source.now at))) }
+    ensures placed { IfErr result (IsPlaced source.now) }
 {
     let after = skip_handle(source, first);
     let prefix = match prefix_of(handles, text_between(source, at, after)) {
@@ -126,6 +129,7 @@ pub fn read_tag<'a>(
     ensures onward { IfOk result (λ r. at < r.1) }
     ensures only { IfOk result (λ r. Only (calls.read_tag (text_of source.now) (handles_of handles.entry)) (place_of source.now at) (place_of source.now r.1) (written_of r.0)) }
     ensures refused { IfErr result (λ e. TagRefuses e (Unread (calls.read_tag (text_of source.now) (handles_of handles.entry)) (place_of source.now at))) }
+    ensures placed { IfErr result (IsPlaced source.now) }
 {
     let first = match accept(source, at, '!') {
         None => return Err(Fault::Syntax(source.pos(at))),

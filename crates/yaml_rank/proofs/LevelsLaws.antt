@@ -5,7 +5,7 @@ use Rattle.std.specs.List.{slice_get}
 use Rattle.std.specs.declared.cmp.Ordering.{Ordering}
 use Rattle.std.specs.declared.cmp.Ordering.TheVariants.{Less, Equal, Greater}
 use Rattle.std.specs.Ordering.{nat_cmp}
-use Rattle.yaml_text.specs.Tree.{height}
+use Rattle.yaml_definitions.specs.model.Tree.{height}
 use Rattle.yaml_graph.specs.GraphView.{tree}
 use Rattle.yaml_graph.specs.declared.graph.Graph.{Graph}
 use Rattle.yaml_rank.specs.LevelsModel.{Levels, level_of, total, Reaches, LevelsTo}

@@ -4,7 +4,7 @@ use Rattle.std.specs.declared.cmp.Ordering.{Ordering}
 use Rattle.std.specs.declared.cmp.Ordering.TheVariants.{Less, Equal, Greater}
 use Rattle.std.specs.Ordering.{nat_cmp, ordering_then, ordering_reverse}
 use Rattle.std.proofs.lemmas.Cmp.{nat_list_cmp_total, tied_itself, nat_cmp_total}
-use Rattle.yaml_text.specs.Order.{bytes_cmp}
+use Rattle.yaml_definitions.specs.model.Order.{bytes_cmp}
 use Rattle.yaml_rank.specs.PrefixModel.{front, IsPrefix, IsRest}
 use Rattle.yaml_rank.proofs.Numbers.{cmp-less, cmp-greater, less-cmp, equal-cmp, greater-cmp, below_or}
 

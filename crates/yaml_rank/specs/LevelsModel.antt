@@ -2,7 +2,7 @@
 use Rattle.std.specs.Prelude.{◌≡◌, ℕ, zero, suc, ◌+◌, ◌<◌, List, [], ◌∷◌, Vec, length, Some}
 use Rattle.std.specs.List.{slice_get}
 use Rattle.std.proofs.Common.{Global}
-use Rattle.yaml_text.specs.Tree.{height}
+use Rattle.yaml_definitions.specs.model.Tree.{height}
 use Rattle.yaml_graph.specs.GraphView.{nodes_of, tree}
 use Rattle.yaml_graph.specs.declared.graph.Graph.{Graph}
 

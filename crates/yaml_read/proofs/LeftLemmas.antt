@@ -1,16 +1,16 @@
 -- What is left of a stream after each step of its reader, and that a refused step leaves no reading of the text.
 use Rattle.std.proofs.Common.{ℕ, ◌⊎◌, inl, inr, List, [], ◌∷◌, Bool, true, false, sym, subst}
-use Rattle.yaml_text.specs.Limits.{open_limit}
-use Rattle.yaml_text.specs.Event.{Event, document_start}
-use Rattle.yaml_text.specs.grammar.Rules.{◌∪◌}
-use Rattle.yaml_text.specs.grammar.Separation.{AtEnd, DocumentMark, s_l_comments}
-use Rattle.yaml_text.specs.grammar.Streams.{document_mark, bare_document, directive_document, ReadsText}
-use Rattle.yaml_unique.specs.Follows.{Stuck, Comments}
-use Rattle.yaml_unique.proofs.Lines.{ns_dash}
-use Rattle.yaml_unique.proofs.Documents.{ns_dot, mark_inside}
-use Rattle.yaml_complete.specs.Decisions.{Refused, Goes, Rest, Here}
-use Rattle.yaml_complete.proofs.Decisions.{rest_goes, rest_refused, rest_both}
-use Rattle.yaml_complete.proofs.StreamRests.{Left, stream_left, left_suffix, no_suffix, left_marked, no_marked, left_unparted, no_unparted, no_second}
+use Rattle.yaml_definitions.specs.model.Limits.{open_limit}
+use Rattle.yaml_definitions.specs.model.Event.{Event, document_start}
+use Rattle.yaml_definitions.specs.grammar.Rules.{◌∪◌}
+use Rattle.yaml_definitions.specs.grammar.Separation.{AtEnd, DocumentMark, s-l-comments as s_l_comments}
+use Rattle.yaml_definitions.specs.grammar.Streams.{document_mark, l-bare-document as bare_document, l-directive-document as directive_document, ReadsText}
+use Rattle.law_one_reading.specs.Follows.{Stuck, Comments}
+use Rattle.law_one_reading.proofs.Lines.{ns_dash}
+use Rattle.law_one_reading.proofs.Documents.{ns_dot, mark_inside}
+use Rattle.law_going_on.specs.Decisions.{Refused, Goes, Rest, Here}
+use Rattle.law_going_on.proofs.Decisions.{rest_goes, rest_refused, rest_both}
+use Rattle.law_going_on.proofs.StreamRests.{Left, stream_left, left_suffix, no_suffix, left_marked, no_marked, left_unparted, no_unparted, no_second}
 use Rattle.yaml_read.specs.Decided.{DocumentEnd, HasNoReading}
 use Rattle.yaml_read.specs.StreamRules.{after_mark, opened_by_mark, opened_bare, opened_by_directives}
 use Rattle.yaml_read.proofs.DecidedLemmas.{rest_shown}

@@ -2,12 +2,12 @@
 use Rattle.std.proofs.Common.{◌≡◌, ℕ, inl, inr, true, false, Bool, List, [], ◌∷◌, ◌++◌, length, refl, sym, ◌∙◌, ap, subst, append_assoc}
 use Rattle.std.proofs.lemmas.Bool.{false≢true}
 use Rattle.std.proofs.lemmas.List.{append-nil}
-use Rattle.yaml_text.specs.Limits.{open_limit}
-use Rattle.yaml_text.specs.Event.{Event, stream_start, stream_end, document_start, document_end}
-use Rattle.yaml_text.specs.grammar.Rules.{Rule, ◌▸◌, ◌∪◌, ◌⨾◌, optional, gives, any_one, any_span, Any, Spans, done, then}
-use Rattle.yaml_text.specs.grammar.Separation.{l_comment}
-use Rattle.yaml_text.specs.grammar.Streams as streams
-use Rattle.yaml_text.specs.grammar.Streams.{Piece, document_piece, suffix_piece, stream, suffix, any_document, explicit_document, bare_document, directive_document, explicit_piece, piece_events, ends_explicitly, ReadsText}
+use Rattle.yaml_definitions.specs.model.Limits.{open_limit}
+use Rattle.yaml_definitions.specs.model.Event.{Event, stream_start, stream_end, document_start, document_end}
+use Rattle.yaml_definitions.specs.grammar.Rules.{Rule, ◌▸◌, ◌∪◌, ◌⨾◌, optional, gives, any_one, any_span, Any, Spans, done, then}
+use Rattle.yaml_definitions.specs.grammar.Separation.{l-comment as l_comment}
+use Rattle.yaml_definitions.specs.grammar.Streams as streams
+use Rattle.yaml_definitions.specs.grammar.Streams.{Piece, document_piece, suffix_piece, l-yaml-stream as stream, l-document-suffix as suffix, l-any-document as any_document, l-explicit-document as explicit_document, l-bare-document as bare_document, l-directive-document as directive_document, explicit_piece, piece_events, ends_explicitly, ReadsText}
 use Rattle.yaml_read.specs.Sofar.{ends_so, events_so, document_closing, Pieces, MayBeBare, IsSofar}
 
 -- ---- events

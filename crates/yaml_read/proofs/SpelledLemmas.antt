@@ -3,20 +3,20 @@ use Rattle.std.proofs.Common.{◌≡◌, ℕ, ◌≤◌, ◌⊎◌, inl, inr, Li
 use Rattle.std.specs.Prelude.{Result, Err, MatchResult}
 use Rattle.std.specs.Result.{IsErrAnd}
 use Rattle.std.proofs.lemmas.Result.{err_from_is_err_and}
-use Rattle.yaml_text.specs.Limits.{open_limit, text_limit}
-use Rattle.yaml_text.specs.Event.{Event}
-use Rattle.yaml_text.specs.Tree.{Tree}
-use Rattle.yaml_text.specs.Text.{Text}
-use Rattle.yaml_text.specs.Proper.{Admitted}
-use Rattle.yaml_text.specs.Spell.{spell_bytes, spelled}
-use Rattle.yaml_text.specs.Block.{block_bytes, blocked, AllKeysFit}
-use Rattle.yaml_text.specs.grammar.Reading.{Reads}
-use Rattle.yaml_text.specs.grammar.Streams.{ReadsText}
+use Rattle.yaml_definitions.specs.model.Limits.{open_limit, text_limit}
+use Rattle.yaml_definitions.specs.model.Event.{Event}
+use Rattle.yaml_definitions.specs.model.Tree.{Tree}
+use Rattle.yaml_definitions.specs.model.Text.{Text}
+use Rattle.yaml_definitions.specs.model.Proper.{Admitted}
+use Rattle.yaml_definitions.specs.canonical.Spell.{spell_bytes, spelled}
+use Rattle.yaml_definitions.specs.canonical.Block.{block_bytes, blocked, AllKeysFit}
+use Rattle.yaml_definitions.specs.grammar.Reading.{Reads}
+use Rattle.yaml_definitions.specs.grammar.Streams.{ReadsText}
 use Rattle.yaml_text.specs.declared.fault.Fault.{Fault}
 use Rattle.yaml_text.specs.declared.fault.Fault.TheVariants.{OutOfMemory}
-use Rattle.yaml_text.proofs.grammar.OneText.{one-text}
-use Rattle.yaml_spelled.proofs.StreamReadings.{spellings_are_read}
-use Rattle.yaml_spelled.proofs.BlockReadings.{blocks_are_read}
+use Rattle.yaml_definitions.proofs.grammar.OneText.{one-text}
+use Rattle.law_read_back.proofs.StreamReadings.{spellings_are_read}
+use Rattle.law_read_back.proofs.BlockReadings.{blocks_are_read}
 use Rattle.yaml_read.specs.Decided.{HasNoReading}
 
 module _ (cs : List ℕ) where

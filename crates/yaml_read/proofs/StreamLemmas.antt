@@ -1,14 +1,14 @@
 -- From where a reader stands to documents and streams.
-use Rattle.std.proofs.Common.{◌≡◌, ℕ, ◌+◌, inl, inr, Some, List, [], ◌∷◌, true, refl, sym, subst}
+use Rattle.std.proofs.Common.{◌≡◌, ℕ, ◌+◌, inl, inr, Some, List, [], ◌∷◌, true, map, refl, sym, ap, subst, Vec, Global}
 use Rattle.std.specs.Prelude.{slice_get}
-use Rattle.yaml_text.specs.Limits.{open_limit}
-use Rattle.yaml_text.specs.Event.{Event, document_start}
-use Rattle.yaml_text.specs.grammar.Rules.{any_span, Spans, Rule, seen}
-use Rattle.yaml_text.specs.grammar.Separation.{StartsLine, AtEnd, DocumentMarkOf, DocumentMark, l_comment, s_l_comments, s_b_comment}
-use Rattle.yaml_text.specs.grammar.Tags.{Handles}
-use Rattle.yaml_text.specs.grammar.Directives.{directives}
-use Rattle.yaml_text.specs.grammar.Calls.{read_directives}
-use Rattle.yaml_text.specs.grammar.Streams.{document_mark, explicit_document, directive_document, suffix, suffix_piece}
+use Rattle.yaml_definitions.specs.model.Limits.{open_limit}
+use Rattle.yaml_definitions.specs.model.Event.{Event, document_start}
+use Rattle.yaml_definitions.specs.grammar.Rules.{any_span, Spans, Rule, seen}
+use Rattle.yaml_definitions.specs.grammar.Separation.{StartsLine, AtEnd, DocumentMarkOf, DocumentMark, l-comment as l_comment, s-l-comments as s_l_comments, s-b-comment as s_b_comment}
+use Rattle.yaml_definitions.specs.grammar.Tags.{Handles}
+use Rattle.yaml_definitions.specs.grammar.Directives.{directives}
+use Rattle.yaml_text.specs.Calls.{read_directives}
+use Rattle.yaml_definitions.specs.grammar.Streams.{document_mark, l-explicit-document as explicit_document, l-directive-document as directive_document, l-document-suffix as suffix, suffix_piece}
 use Rattle.yaml_text.specs.Lines.{AfterLine}
 use Rattle.yaml_text.proofs.LineRuns.{line_end_after}
 use Rattle.yaml_text.specs.declared.fault.Fault.{Fault}
@@ -16,17 +16,28 @@ use Rattle.yaml_text.specs.declared.fault.Fault.TheVariants as fault
 use Rattle.yaml_mark.specs.Answer.{DirectivesRefuse}
 use Rattle.yaml_text.specs.Answer.{IsRefusal}
 use Rattle.yaml_flow.specs.Answer.{Appends}
-use Rattle.yaml_flow.proofs.AnswerLemmas.{adds_on}
-use Rattle.yaml_text.specs.EventModel.{Adds}
+use Rattle.yaml_text.specs.EventModel.{event_of}
 use Rattle.yaml_text.specs.declared.event.Event as code
+use Rattle.yaml_flow.specs.Held.{Puts}
+use Rattle.yaml_flow.specs.SinkModel.{holds_of}
+use Rattle.yaml_flow.specs.declared.sink.Sink.{Sink}
+use Rattle.yaml_flow.specs.declared.sink.Sink.TheVariants.{Listed}
+use Rattle.yaml_flow.proofs.AnswerLemmas.{puts_on}
 use Rattle.std.specs.Prelude.{Result, Ok, Err}
 use Rattle.yaml_read.specs.StreamRules.{opened_by_mark, opened_by_directives}
 
 -- an event that was put down before what a call puts down
-pub appends_after : {X : Type 0} (R : X → Rule (List Event)) (v : Event) (i : ℕ) (end : X → ℕ) (old mid new : List code.Event) (r : Result X Fault) → Adds old (v ∷ []) mid →
-    Appends R i end mid new r → Appends (λ x. seen (λ es. v ∷ es) (R x)) i end old new r
-appends_after R v i end old mid new (Ok x) first (es, a, p) = (v ∷ es, adds_on old mid new (v ∷ []) es first a, (es, p, refl))
+pub appends_after : {X S : Type 0} {holds : S → List Event → Type 0} (R : X → Rule (List Event)) (v : Event) (i : ℕ) (end : X → ℕ) (old mid new : S) (r : Result X Fault) → Puts holds old (v ∷ []) mid →
+    Appends R i end holds mid new r → Appends (λ x. seen (λ es. v ∷ es) (R x)) i end holds old new r
+appends_after R v i end old mid new (Ok x) first (es, a, p) = (v ∷ es, puts_on old mid new (v ∷ []) es first a, (es, p, refl))
 appends_after R v i end old mid new (Err e) first a = a
+
+-- all that a list holds that was empty
+pub all_listed : {K : Type 0} {holds : K → List Event → Type 0} (first last : Vec code.Event Global) (out : Sink K) (es : List Event) → first.items ≡ [] → out ≡ Listed last → Puts (holds_of holds) (Listed first) es out →
+    map event_of last.items ≡ es
+all_listed {K} {holds} first last out es e is p =
+    let held : holds_of holds (Listed last) es = subst (λ v. holds_of holds v es) is (p.is [] (ap (map event_of) e)) in
+    held
 
 -- the faults of directives are faults of the reader
 pub directives_refusal : (P : Type 0) (e : Fault) → DirectivesRefuse e P → IsRefusal e

@@ -1,10 +1,11 @@
 -- What a reader of a whole text decides (YAML 1.2.2, chapter 9).
 use Rattle.std.specs.Prelude.{◌≡◌, ℕ, List}
-use Rattle.yaml_text.specs.Limits.{open_limit}
-use Rattle.yaml_text.specs.Event.{Event}
-use Rattle.yaml_text.specs.grammar.Streams.{ReadsText}
-use Rattle.yaml_unique.specs.Readings.{End}
-use Rattle.yaml_unique.specs.Follows.{Over, Follow}
+use Rattle.yaml_definitions.specs.model.Limits.{open_limit}
+use Rattle.yaml_definitions.specs.model.Event.{Event}
+use Rattle.yaml_definitions.specs.grammar.Streams.{ReadsText}
+use Rattle.law_one_reading.specs.Readings.{End}
+use Rattle.law_one_reading.specs.Follows.{Over, Follow}
+use Rattle.yaml_flow.specs.Held.{Puts}
 
 module _ (cs : List ℕ) where
   -- how the text goes on after a document: comment lines, and then a mark or the end
@@ -18,3 +19,7 @@ module _ (cs : List ℕ) where
   -- none is
   abbrev pub HasNoReading : Type 0
   HasNoReading = (es : List Event) → ReadsText cs (Unit {0}) open_limit es → ⊥
+
+  -- the events of a reading of the whole text were put down, and no other list is one
+  abbrev pub PutsReading : {S : Type 0} → (S → List Event → Type 0) → S → S → Type 0
+  PutsReading holds before after = (es : List Event) × Puts holds before es after × ReadsText cs (Unit {0}) open_limit es × IsAlone es

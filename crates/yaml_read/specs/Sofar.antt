@@ -1,10 +1,10 @@
 -- A stream as far as it was read: its pieces, and the events that were written of them (YAML 1.2.2, chapter 9).
 use Rattle.std.specs.Prelude.{◌≡◌, ◌⊎◌, ℕ, List, [], ◌∷◌, ◌++◌, Bool, true, false}
-use Rattle.yaml_text.specs.Limits.{open_limit}
-use Rattle.yaml_text.specs.Event.{Event, stream_start, document_start, document_end}
-use Rattle.yaml_text.specs.grammar.Rules.{◌◂◌, any_one, any_span}
-use Rattle.yaml_text.specs.grammar.Separation.{l_comment}
-use Rattle.yaml_text.specs.grammar.Streams.{Piece, document_piece, suffix_piece, stream, suffix}
+use Rattle.yaml_definitions.specs.model.Limits.{open_limit}
+use Rattle.yaml_definitions.specs.model.Event.{Event, stream_start, document_start, document_end}
+use Rattle.yaml_definitions.specs.grammar.Rules.{◌◂◌, any_one, any_span}
+use Rattle.yaml_definitions.specs.grammar.Separation.{l-comment as l_comment}
+use Rattle.yaml_definitions.specs.grammar.Streams.{Piece, document_piece, suffix_piece, l-yaml-stream as stream, l-document-suffix as suffix}
 
 -- whether the document before these pieces ends explicitly, where the Bool says whether a suffix comes after them
 unfoldable pub ends_so : List Piece → Bool → Bool

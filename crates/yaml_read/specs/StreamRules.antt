@@ -1,14 +1,14 @@
 -- Documents and streams, from where a reader stands (YAML 1.2.2, chapter 9).
 use Rattle.std.specs.Prelude.{ℕ, ◌<◌, List, [], ◌∷◌, true, false}
-use Rattle.yaml_text.specs.Limits.{open_limit}
+use Rattle.yaml_definitions.specs.model.Limits.{open_limit}
 use Rattle.yaml_text.specs.Source.{text_of, place_of, IsBorder}
-use Rattle.yaml_text.specs.Event.{Event, document_start}
+use Rattle.yaml_definitions.specs.model.Event.{Event, document_start}
 use Rattle.yaml_text.specs.declared.chars.Chars.{Chars}
-use Rattle.yaml_text.specs.grammar.Rules.{Rule, ◌◂◌, ◌∪◌, gives, seen}
-use Rattle.yaml_text.specs.grammar.Separation.{AtEnd, DocumentMark, s_l_comments}
-use Rattle.yaml_text.specs.grammar.Tags.{Handles}
-use Rattle.yaml_text.specs.grammar.Events.{no_props, empty}
-use Rattle.yaml_text.specs.grammar.Streams.{document_mark, bare_document, directive_document}
+use Rattle.yaml_definitions.specs.grammar.Rules.{Rule, ◌◂◌, ◌∪◌, gives, seen}
+use Rattle.yaml_definitions.specs.grammar.Separation.{AtEnd, DocumentMark, s-l-comments as s_l_comments}
+use Rattle.yaml_definitions.specs.grammar.Tags.{Handles}
+use Rattle.yaml_definitions.specs.grammar.Events.{no_props, e-scalar as empty}
+use Rattle.yaml_definitions.specs.grammar.Streams.{document_mark, l-bare-document as bare_document, l-directive-document as directive_document}
 use Rattle.yaml_flow.specs.declared.line.Line.{Line}
 use Rattle.yaml_read.specs.declared.stream.Next.{Next}
 use Rattle.yaml_read.specs.declared.stream.Next.TheVariants.{End, Suffix, Explicit, Content}

@@ -1,29 +1,32 @@
 //! Documents, suffixes and streams (YAML 1.2.2, chapter 9).
 ghost use Rattle.std.specs.Prelude.{◌≡◌, ◌≤◌, ◌<◌, ◌⊎◌, IfSome, IfNone, IfOk, IfErr, MatchResult, List, map, length, Some, slice_get, [], ◌∷◌, ◌++◌};
-ghost use Rattle.yaml_text.specs.Limits.{open_limit, text_limit};
-ghost use Rattle.yaml_text.specs.Event.{stream_start, stream_end};
-ghost use Rattle.yaml_text.specs.Tree.{Tree};
-ghost use Rattle.yaml_text.specs.Text.{Text};
-ghost use Rattle.yaml_text.specs.Proper.{Admitted};
-ghost use Rattle.yaml_text.specs.Spell.{spell_bytes, spelled};
-ghost use Rattle.yaml_text.specs.Block.{block_bytes, blocked, AllKeysFit};
-ghost use Rattle.yaml_text.specs.EventModel.{event_of, Adds};
+ghost use Rattle.yaml_definitions.specs.model.Limits.{open_limit, text_limit};
+ghost use Rattle.yaml_definitions.specs.model.Event.{Event as PlainEvent, stream_start, stream_end};
+ghost use Rattle.yaml_definitions.specs.model.Tree.{Tree};
+ghost use Rattle.yaml_definitions.specs.model.Text.{Text};
+ghost use Rattle.yaml_definitions.specs.model.Proper.{Admitted};
+ghost use Rattle.yaml_definitions.specs.canonical.Spell.{spell_bytes, spelled};
+ghost use Rattle.yaml_definitions.specs.canonical.Block.{block_bytes, blocked, AllKeysFit};
+ghost use Rattle.yaml_text.specs.EventModel.{event_of};
 ghost use Rattle.yaml_text.specs.Source.{text_of, place_of, IsBorder};
-ghost use Rattle.yaml_text.specs.grammar.Rules.{◌∪◌};
-ghost use Rattle.yaml_text.specs.grammar.Separation.{StartsLine, DocumentMarkOf};
-ghost use Rattle.yaml_text.specs.grammar.Streams.{ReadsText};
+ghost use Rattle.yaml_definitions.specs.grammar.Rules.{◌∪◌};
+ghost use Rattle.yaml_definitions.specs.grammar.Separation.{StartsLine, DocumentMarkOf};
+ghost use Rattle.yaml_definitions.specs.grammar.Streams.{ReadsText};
 ghost use Rattle.yaml_text.specs.Answer.{IsRefusal};
-ghost use Rattle.yaml_complete.specs.Decisions.{Here};
+ghost use Rattle.law_going_on.specs.Decisions.{Here};
 ghost use Rattle.yaml_flow.specs.Answer.{Appends, Decides};
+ghost use Rattle.yaml_flow.specs.Held.{Puts};
+ghost use Rattle.yaml_flow.specs.SinkModel.{holds_of};
 ghost use Rattle.yaml_flow.specs.Lines.{IsLine};
 ghost use Rattle.yaml_mark.specs.HandlesModel.{handles_of};
-ghost use Rattle.yaml_read.specs.Decided.{DocumentEnd, IsAlone, HasNoReading};
+ghost use Rattle.yaml_read.specs.Decided.{DocumentEnd, IsAlone, HasNoReading, PutsReading};
 ghost use Rattle.yaml_read.specs.Sofar.{document_closing};
 ghost use Rattle.yaml_read.specs.StreamRules.{IsMarkOf, NextIs, opened_by_mark, opened_bare, opened_by_directives};
 
 use std::alloc::Global;
 use yaml_block::document::{read_bare, read_marked};
 use yaml_flow::line::{Line, first_line, next_line};
+use yaml_flow::sink::{Keeper, Sink, Unkept};
 use yaml_mark::directives::read_directives;
 use yaml_mark::handles::Handles;
 use yaml_text::chars::Chars;
@@ -86,90 +89,96 @@ fn next_piece(source: &Chars<'_>, line: Line) -> Next
 }
 
 /// Writes the end of the last document, where it is still to be written.
-fn close(is_open: bool, explicit: bool, out: &mut Vec<Event<'_>>) -> Result<(), Fault>
-    ensures ok { IfOk result (λ _. Adds out.old.items (document_closing is_open explicit) out.new.items) }
+fn close<'a, K: Keeper>(
+    is_open: bool,
+    explicit: bool,
+    at: usize,
+    out: &mut Sink<'a, K>,
+) -> Result<(), Fault>
+    ensures ok { IfOk result (λ _. Puts (holds_of K.holds) out.old (document_closing is_open explicit) out.new) }
     ensures err { IfErr result (λ e. e ≡ Fault.OutOfMemory) }
 {
     if !is_open {
         return Ok(());
     }
-    out.push(Event::DocumentEnd { explicit })?;
+    out.push(Event::DocumentEnd { explicit }, at)?;
     Ok(())
 }
 
-/// A document from the border after its mark on (9.1.4), and the line after it.
-fn read_explicit<'a>(
+/// A document whose mark stands here, from the border after its mark on (9.1.4), and the line after it.
+fn read_explicit<'a, K: Keeper>(
     alloc: Global,
     source: &Chars<'a>,
+    mark: usize,
     after: usize,
     handles: Option<&Handles<'a>>,
-    out: &mut Vec<Event<'a>>,
+    out: &mut Sink<'a, K>,
 ) -> Result<Line, Fault>
     requires { IsBorder source.now after }
     ensures line { IfOk result (IsLine source.now) }
     ensures onward { IfOk result (λ line. after ≤ line.start) }
-    ensures reads { Appends (λ _. opened_by_mark (text_of source.now) (handles_of handles.entry)) (place_of source.now after) (λ line. place_of source.now line.start) out.old.items out.new.items result }
+    ensures reads { Appends (λ _. opened_by_mark (text_of source.now) (handles_of handles.entry)) (place_of source.now after) (λ line. place_of source.now line.start) (holds_of K.holds) out.old out.new result }
     ensures decides { Decides (opened_by_mark (text_of source.now) (handles_of handles.entry)) (DocumentEnd (text_of source.now)) (place_of source.now after) Here (λ line. place_of source.now line.start) result }
 {
-    out.push(Event::DocumentStart { explicit: true })?;
+    out.push(Event::DocumentStart { explicit: true }, mark)?;
     read_marked(alloc, source, after, handles, out)
 }
 
 /// Directives and the document that they stand before (9.1.5), and the line after it.
-fn read_directed<'a>(
+fn read_directed<'a, K: Keeper>(
     alloc: Global,
     source: &Chars<'a>,
     at: usize,
-    out: &mut Vec<Event<'a>>,
+    out: &mut Sink<'a, K>,
 ) -> Result<Line, Fault>
     requires border { IsBorder source.now at }
     requires percent { slice_get (text_of source.now) (place_of source.now at) ≡ Some 37 }
     requires start { StartsLine (text_of source.now) (place_of source.now at) }
     ensures line { IfOk result (IsLine source.now) }
     ensures onward { IfOk result (λ line. at ≤ line.start) }
-    ensures reads { Appends (λ _. opened_by_directives (text_of source.now)) (place_of source.now at) (λ line. place_of source.now line.start) out.old.items out.new.items result }
+    ensures reads { Appends (λ _. opened_by_directives (text_of source.now)) (place_of source.now at) (λ line. place_of source.now line.start) (holds_of K.holds) out.old out.new result }
     ensures decides { Decides (opened_by_directives (text_of source.now)) (DocumentEnd (text_of source.now)) (place_of source.now at) Here (λ line. place_of source.now line.start) result }
 {
     let (handles, end) = read_directives(alloc, source, at)?;
     match document_mark(source, end, '-') {
         None => Err(unusable(source, end)),
         Some(after) => {
-            let line = read_explicit(alloc, source, after, Some(&handles), out)?;
+            let line = read_explicit(alloc, source, end, after, Some(&handles), out)?;
             Ok(line)
         }
     }
 }
 
 /// A document without directives and without a mark (9.1.3), and the line after it.
-fn read_unmarked<'a>(
+fn read_unmarked<'a, K: Keeper>(
     alloc: Global,
     source: &Chars<'a>,
     line: Line,
-    out: &mut Vec<Event<'a>>,
+    out: &mut Sink<'a, K>,
 ) -> Result<Line, Fault>
     requires line { IsLine source.now line }
     requires start { StartsLine (text_of source.now) (place_of source.now line.start) }
     ensures line { IfOk result (IsLine source.now) }
     ensures onward { IfOk result (λ next. line.start ≤ next.start) }
-    ensures reads { Appends (λ _. opened_bare (text_of source.now)) (place_of source.now line.start) (λ line. place_of source.now line.start) out.old.items out.new.items result }
+    ensures reads { Appends (λ _. opened_bare (text_of source.now)) (place_of source.now line.start) (λ line. place_of source.now line.start) (holds_of K.holds) out.old out.new result }
     ensures decides { Decides (opened_bare (text_of source.now)) (DocumentEnd (text_of source.now)) (place_of source.now line.start) Here (λ next. place_of source.now next.start) result }
 {
-    out.push(Event::DocumentStart { explicit: false })?;
+    out.push(Event::DocumentStart { explicit: false }, line.start)?;
     read_bare(alloc, source, line, None, out)
 }
 
 /// A document that no mark parts from what stands before it: with directives or without a mark.
-fn read_first<'a>(
+fn read_first<'a, K: Keeper>(
     alloc: Global,
     source: &Chars<'a>,
     line: Line,
-    out: &mut Vec<Event<'a>>,
+    out: &mut Sink<'a, K>,
 ) -> Result<Line, Fault>
     requires line { IsLine source.now line }
     requires start { StartsLine (text_of source.now) (place_of source.now line.start) }
     ensures line { IfOk result (IsLine source.now) }
     ensures onward { IfOk result (λ next. line.start ≤ next.start) }
-    ensures reads { Appends (λ _. opened_bare (text_of source.now) ∪ opened_by_directives (text_of source.now)) (place_of source.now line.start) (λ line. place_of source.now line.start) out.old.items out.new.items result }
+    ensures reads { Appends (λ _. opened_bare (text_of source.now) ∪ opened_by_directives (text_of source.now)) (place_of source.now line.start) (λ line. place_of source.now line.start) (holds_of K.holds) out.old out.new result }
     ensures decides { Decides (opened_bare (text_of source.now) ∪ opened_by_directives (text_of source.now)) (DocumentEnd (text_of source.now)) (place_of source.now line.start) Here (λ next. place_of source.now next.start) result }
 {
     match accept(source, line.start, '%') {
@@ -178,10 +187,13 @@ fn read_first<'a>(
     }
 }
 
-/// Reads a stream's documents and suffixes to its end, and puts down their events after the stream's start.
-fn read_pieces<'a>(alloc: Global, source: &Chars<'a>, out: &mut Vec<Event<'a>>) -> Result<(), Fault>
-    requires { map event_of out.old.items ≡ stream_start ∷ [] }
-    ensures ok { IfOk result (λ _. ReadsText (text_of source.now) (Unit {0}) open_limit (map event_of out.new.items ++ (stream_end ∷ []))) }
+/// Reads a stream's documents and suffixes to its end, and puts down their events, which stand between the stream's start and its end.
+fn read_pieces<'a, K: Keeper>(
+    alloc: Global,
+    source: &Chars<'a>,
+    out: &mut Sink<'a, K>,
+) -> Result<(), Fault>
+    ensures ok { IfOk result (λ _. (es : List PlainEvent) × Puts (holds_of K.holds) out.old es out.new × ReadsText (text_of source.now) (Unit {0}) open_limit (stream_start ∷ (es ++ (stream_end ∷ [])))) }
     ensures err { IfErr result IsRefusal }
     ensures decides { IfErr result (λ e. (e ≡ Fault.OutOfMemory) ⊎ HasNoReading (text_of source.now)) }
 {
@@ -190,17 +202,17 @@ fn read_pieces<'a>(alloc: Global, source: &Chars<'a>, out: &mut Vec<Event<'a>>) 
     'pieces: loop {
         match next_piece(source, line) {
             Next::End => {
-                close(is_open, false, out)?;
+                close(is_open, false, line.start, out)?;
                 return Ok(());
             }
             Next::Suffix(after) => {
-                close(is_open, true, out)?;
+                close(is_open, true, line.start, out)?;
                 line = next_line(source, after)?;
                 is_open = false;
             }
             Next::Explicit(after) => {
-                close(is_open, false, out)?;
-                line = read_explicit(alloc, source, after, None, out)?;
+                close(is_open, false, line.start, out)?;
+                line = read_explicit(alloc, source, line.start, after, None, out)?;
                 is_open = true;
             }
             Next::Content => {
@@ -212,6 +224,23 @@ fn read_pieces<'a>(alloc: Global, source: &Chars<'a>, out: &mut Vec<Event<'a>>) 
             }
         }
     }
+}
+
+/// Puts down the events of a stream (9.2), from its start to its end, where the reader's events are to go: the one list that the
+/// productions give the text. After a refusal nothing is said of what was put down.
+pub fn read_into<'a, K: Keeper>(
+    alloc: Global,
+    source: &Chars<'a>,
+    out: &mut Sink<'a, K>,
+) -> Result<(), Fault>
+    ensures ok { IfOk result (λ _. PutsReading (text_of source.now) (holds_of K.holds) out.old out.new) }
+    ensures err { IfErr result IsRefusal }
+    ensures decides { IfErr result (λ e. (e ≡ Fault.OutOfMemory) ⊎ HasNoReading (text_of source.now)) }
+{
+    out.push(Event::StreamStart, 0)?;
+    read_pieces(alloc, source, out)?;
+    out.push(Event::StreamEnd, source.end())?;
+    Ok(())
 }
 
 /// The events of a stream (9.2), from its start to its end: the one list that the productions give the text, and a refusal for want
@@ -229,9 +258,10 @@ pub fn read_events<'a>(alloc: Global, source: &Chars<'a>) -> Result<Vec<Event<'a
     ensures spelling { (f : List Tree) → Admitted f → Text (spell_bytes f) (text_of source.now) → MatchResult result (λ events. map event_of events.items ≡ spelled f) (λ e. e ≡ Fault.OutOfMemory) }
     ensures block { (f : List Tree) → Admitted f → AllKeysFit f → length (block_bytes f) ≤ text_limit → Text (block_bytes f) (text_of source.now) → MatchResult result (λ events. map event_of events.items ≡ blocked f) (λ e. e ≡ Fault.OutOfMemory) }
 {
-    let mut out = Vec::new(alloc);
-    out.push(Event::StreamStart)?;
-    read_pieces(alloc, source, &mut out)?;
-    out.push(Event::StreamEnd)?;
-    Ok(out)
+    let mut out: Sink<'a, Unkept> = Sink::Listed(Vec::new(alloc));
+    read_into(alloc, source, &mut out)?;
+    match out {
+        Sink::Listed(events) => Ok(events),
+        Sink::Kept(_) => Err(Fault::OutOfMemory),
+    }
 }

@@ -1,7 +1,7 @@
 -- Rules with one reading at each place, and what they give any number of times.
 use Rattle.std.proofs.Common.{◌≡◌, ℕ, ◌≤◌, ◌<◌, ◌⊎◌, inl, inr, List, [], ◌++◌, refl, sym, ◌∙◌, ap, subst, arith, append_assoc}
 use Rattle.std.proofs.lemmas.List.{append-nil}
-use Rattle.yaml_text.specs.grammar.Rules.{Span, ◌◂◌, ◌⨾◌, Any, done, then, any, where_both}
+use Rattle.yaml_definitions.specs.grammar.Rules.{Span, ◌◂◌, ◌⨾◌, Any, done, then, any, where_both}
 use Rattle.yaml_text.proofs.Repeats.{SameEnd}
 use Rattle.yaml_scalar.specs.Chains.{TextRule}
 use Rattle.yaml_text.specs.Answer.{Unread}

@@ -1,14 +1,14 @@
 -- A whole block scalar: its content is one, and it ends furthest with all its comment lines.
 use Rattle.std.proofs.Common.{◌≡◌, ◌≢◌, ℕ, ◌+◌, List, Some, Bool, true, false, refl, sym, ◌∙◌, ap, subst}
 use Rattle.std.specs.Prelude.{slice_get}
-use Rattle.yaml_text.specs.grammar.Rules.{maybe, furthest_span}
-use Rattle.yaml_text.specs.grammar.BlockScalars.{Line, Header, is_given, content, header, indentation, lines, LinesEnd, comment_lines, block_content, block_scalar, literal, folded}
+use Rattle.yaml_definitions.specs.grammar.Rules.{maybe, furthest_span}
+use Rattle.yaml_definitions.specs.grammar.BlockScalars.{Line, Header, is_given, content, c-b-block-header as header, indentation, lines, LinesEnd, l-trail-comments as comment_lines, block_content, block_scalar, c-l+literal as literal, c-l+folded as folded}
 use Rattle.yaml_text.specs.Answer.{Unread}
 use Rattle.yaml_scalar.specs.BlockRules.{block_lines}
 use Rattle.yaml_text.specs.Answer.{FurthestAlone}
 use Rattle.yaml_text.specs.Lines.{Inside}
 use Rattle.yaml_scalar.specs.BlockModel.{sign_of, styled}
-use Rattle.yaml_text.specs.grammar.Characters.{is_nb, is_break}
+use Rattle.yaml_definitions.specs.grammar.Characters.{is_nb, is_break}
 use Rattle.yaml_scalar.proofs.HeaderLemmas.{header_same}
 use Rattle.yaml_scalar.proofs.IndentationLemmas.{indentation_same, indentation_here}
 use Rattle.yaml_scalar.proofs.LineLemmas.{lines_same}

@@ -3,12 +3,12 @@ use Rattle.std.proofs.Common.{◌≡◌, ℕ, zero, suc, ◌+◌, ◌<◌, ◌�
 use Rattle.std.specs.Prelude.{◌==◌, slice_range}
 use Rattle.std.specs.Bool.{OnTrue, OnFalse}
 use Rattle.std.proofs.lemmas.List.{append-nil}
-use Rattle.yaml_text.specs.grammar.Rules.{any, maybe, Stands}
-use Rattle.yaml_text.specs.grammar.Characters.{is_white, is_nb}
-use Rattle.yaml_text.specs.grammar.Separation.{AtEnd}
-use Rattle.yaml_text.specs.grammar.FlowScalars.{line_feeds}
-use Rattle.yaml_text.specs.grammar.BlockScalars as grammar
-use Rattle.yaml_text.specs.grammar.BlockScalars.{Line, blank, content_line, is_spaced, joint, chomped, after_line, kept_breaks, content_after, content, blank_line, text_line, is_given, lines, last_spaces, LinesEnd}
+use Rattle.yaml_definitions.specs.grammar.Rules.{any, maybe, Stands}
+use Rattle.yaml_definitions.specs.grammar.Characters.{is_white, is_nb}
+use Rattle.yaml_definitions.specs.grammar.Separation.{AtEnd}
+use Rattle.yaml_definitions.specs.grammar.FlowScalars.{line_feeds}
+use Rattle.yaml_definitions.specs.grammar.BlockScalars as grammar
+use Rattle.yaml_definitions.specs.grammar.BlockScalars.{Line, blank, content_line, is_spaced, joint, chomped, after_line, kept_breaks, content_after, content, blank_line, text_line, is_given, lines, last_spaces, LinesEnd}
 use Rattle.yaml_scalar.specs.BlockRules.{any_line, Ready, block_lines, lines_over}
 use Rattle.yaml_scalar.specs.BlockModel.{chomp_of, glue, last_breaks, shape, are_folded, breaks_of}
 use Rattle.yaml_scalar.specs.declared.block.header.Chomp.{Chomp}

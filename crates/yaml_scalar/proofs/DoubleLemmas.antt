@@ -4,10 +4,10 @@ use Rattle.std.specs.Prelude.{slice_get, slice_range, not, ◌&&◌, ◌==◌}
 use Rattle.std.proofs.lemmas.Bool.{cases_eq}
 use Rattle.yaml_text.specs.Answer.{Only}
 use Rattle.yaml_text.specs.Answer.{Unread}
-use Rattle.yaml_text.specs.grammar.Rules.{chr, any, Stands, run}
-use Rattle.yaml_text.specs.grammar.Characters.{is_white, is_ns, is_nb, is_break, escape}
-use Rattle.yaml_text.specs.grammar.Separation.{Ctx, DocumentMark, Unmarked}
-use Rattle.yaml_text.specs.grammar.FlowScalars.{double_char}
+use Rattle.yaml_definitions.specs.grammar.Rules.{chr, any, Stands, run}
+use Rattle.yaml_definitions.specs.grammar.Characters.{is_white, is_ns, is_nb, is_break, c-ns-esc-char as escape}
+use Rattle.yaml_definitions.specs.grammar.Separation.{Ctx, DocumentMark, Unmarked}
+use Rattle.yaml_definitions.specs.grammar.FlowScalars.{ns-double-char as double_char}
 use Rattle.yaml_scalar.specs.Chains.{breaks, folds, gap, verbatim, quoted_more, SolidStart, NoSolidBreaks, escaped_end, double_gap, double_rest, double_chain}
 use Rattle.yaml_text.specs.Lines.{line_brk}
 use Rattle.yaml_scalar.proofs.AnyLemmas.{Same, Onward}

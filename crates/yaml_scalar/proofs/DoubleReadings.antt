@@ -3,8 +3,8 @@ use Rattle.std.proofs.Common.{ℕ, ◌+◌, ◌-◌, ◌≤◌, inl, inr, List, 
 use Rattle.std.specs.Prelude.{slice_range}
 use Rattle.yaml_text.specs.Answer.{Only}
 use Rattle.yaml_text.specs.Answer.{Unread}
-use Rattle.yaml_text.specs.grammar.Separation.{Ctx}
-use Rattle.yaml_text.specs.grammar.FlowScalars.{several, fold, escaped_break, double_char, double}
+use Rattle.yaml_definitions.specs.grammar.Separation.{Ctx}
+use Rattle.yaml_definitions.specs.grammar.FlowScalars.{several, s-flow-folded as fold, s-double-escaped as escaped_break, ns-double-char as double_char, c-double-quoted as double}
 use Rattle.yaml_scalar.specs.Chains.{gap, escaped_end, double_gap, double_rest, double_chain}
 use Rattle.yaml_text.proofs.Breaks.{ns_no_return, thirteen}
 use Rattle.yaml_scalar.proofs.Readings.{Clear, clear_after, fold_chain, fold_grammar, escaped_chain, escaped_grammar}

@@ -8,8 +8,8 @@ use Rattle.std.proofs.lemmas.Int.Digits.{digits_value_push}
 use Rattle.std.proofs.Math.Nat.{pow-suc}
 use Rattle.std.proofs.lemmas.Bool.{cases_eq}
 use Rattle.yaml_text.specs.Answer.{Unread}
-use Rattle.yaml_text.specs.grammar.Rules.{exactly, Stands}
-use Rattle.yaml_text.specs.grammar.Characters.{is_nb, is_break, short_escape, numbered, escape}
+use Rattle.yaml_definitions.specs.grammar.Rules.{exactly, Stands}
+use Rattle.yaml_definitions.specs.grammar.Characters.{is_nb, is_break, short_escape, numbered, c-ns-esc-char as escape}
 use Rattle.yaml_text.proofs.PlaceLemmas.{slice_none, slice_snoc}
 use Rattle.yaml_scalar.specs.Chains.{digit_count}
 use Rattle.yaml_text.proofs.Runs.{same_char, run_none, run_more}

@@ -1,14 +1,14 @@
 -- Breaks, empty lines, folds and gaps: one reading at most before a character that is no white and no break.
 use Rattle.std.proofs.Common.{◌≡◌, ◌≢◌, ℕ, ◌<◌, ◌≤◌, inl, inr, List, [], ◌∷◌, ◌++◌, Some, true, false, refl, sym, ◌∙◌, ap, subst, arith}
 use Rattle.std.specs.Prelude.{slice_get, slice_range}
-use Rattle.yaml_text.specs.grammar.Rules.{Span, ◌⊔◌, ◌▸◌, ◌◂◌, ◌⨾◌, gives, any, Any, done, then, Stands, run}
+use Rattle.yaml_definitions.specs.grammar.Rules.{Span, ◌⊔◌, ◌▸◌, ◌◂◌, ◌⨾◌, gives, any, Any, done, then, Stands, run}
 use Rattle.yaml_scalar.specs.Chains.{TextRule}
-use Rattle.yaml_text.specs.grammar.Characters.{is_white, is_space}
+use Rattle.yaml_definitions.specs.grammar.Characters.{is_white, is_space}
 use Rattle.yaml_scalar.specs.Chains.{margin, skipped_line, lead, breaks, folded_breaks, folds, NoLead, NoBreaks, NoFold, gap}
 use Rattle.yaml_text.specs.Lines.{line_brk, is_key}
-use Rattle.yaml_text.specs.grammar.Separation.{DocumentMark, Unmarked, indent, less}
+use Rattle.yaml_definitions.specs.grammar.Separation.{DocumentMark, Unmarked, s-indent as indent, s-indent-less-than as less}
 use Rattle.yaml_text.specs.Answer.{Unread}
-use Rattle.yaml_text.specs.grammar.Separation.{Ctx}
+use Rattle.yaml_definitions.specs.grammar.Separation.{Ctx}
 use Rattle.yaml_scalar.proofs.AnyLemmas.{Same, Onward, Cuts, any_span_same, any_span_none, any_onward}
 use Rattle.yaml_text.proofs.Repeats.{SameEnd}
 use Rattle.yaml_text.proofs.Breaks.{Blank, NoWhite, Ns, blank_brk, blank_join, blank_white_run, brk_no_ns, brk_onward, brk_same, brk_stops, ns_stops, run_join, space_is, space_white, spaces_white}

@@ -2,10 +2,10 @@
 use Rattle.std.proofs.Common.{◌≡◌, ◌≢◌, ℕ, ◌+◌, ◌-◌, ◌⊎◌, inl, inr, List, Option, Some, None, Bool, true, false, ◌||◌, refl, sym, ◌∙◌, ap, subst, arith}
 use Rattle.std.specs.Prelude.{slice_get, ◌==◌}
 use Rattle.std.specs.Int.{is_in_range}
-use Rattle.yaml_text.specs.grammar.Rules.{Stands}
-use Rattle.yaml_text.specs.grammar.Characters.{is_space, is_nb, is_break}
-use Rattle.yaml_text.specs.grammar.Separation.{sep, s_b_comment}
-use Rattle.yaml_text.specs.grammar.BlockScalars.{Chomp, strip, clip, keep, Header, indentation_indicator, chomping_indicator, header}
+use Rattle.yaml_definitions.specs.grammar.Rules.{Stands}
+use Rattle.yaml_definitions.specs.grammar.Characters.{is_space, is_nb, is_break}
+use Rattle.yaml_definitions.specs.grammar.Separation.{s-separate-in-line as sep, s-b-comment as s_b_comment}
+use Rattle.yaml_definitions.specs.grammar.BlockScalars.{Chomp, strip, clip, keep, Header, c-indentation-indicator as indentation_indicator, c-chomping-indicator as chomping_indicator, c-b-block-header as header}
 use Rattle.yaml_scalar.specs.BlockRules.{is_sign, indicators, EndIndicators}
 use Rattle.yaml_text.specs.Lines.{Inside, blank_rest}
 use Rattle.yaml_text.proofs.Runs.{same_char, no_stand}

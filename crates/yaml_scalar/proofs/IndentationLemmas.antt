@@ -1,10 +1,10 @@
 -- The indentation of a block scalar's content: one at most.
 use Rattle.std.proofs.Common.{◌≡◌, ◌≢◌, ℕ, ◌+◌, ◌-◌, ◌<◌, ◌≤◌, ◌⊎◌, inl, inr, List, [], ◌∷◌, ◌++◌, max, Option, Some, None, true, false, not, ◌&&◌, refl, sym, ◌∙◌, ap, subst, arith}
 use Rattle.std.proofs.lemmas.List.{append-nil}
-use Rattle.yaml_text.specs.grammar.Rules.{Rule, ◌◂◌, run, Stands, how_many, seen}
-use Rattle.yaml_text.specs.grammar.Characters.{is_space, is_nb, is_break, brk}
-use Rattle.yaml_text.specs.grammar.Separation.{AtEnd, DocumentMark, DocumentMarkOf, less}
-use Rattle.yaml_text.specs.grammar.BlockScalars.{space_lines, NoSpace, LessIndented, greatest, found_indentation, longest_indentation, indentation}
+use Rattle.yaml_definitions.specs.grammar.Rules.{Rule, ◌◂◌, run, Stands, how_many, seen}
+use Rattle.yaml_definitions.specs.grammar.Characters.{is_space, is_nb, is_break, b-break as brk}
+use Rattle.yaml_definitions.specs.grammar.Separation.{AtEnd, DocumentMark, DocumentMarkOf, s-indent-less-than as less}
+use Rattle.yaml_definitions.specs.grammar.BlockScalars.{space_lines, NoSpace, LessIndented, greatest, found_indentation, longest_indentation, indentation}
 use Rattle.yaml_text.specs.Answer.{Unread}
 use Rattle.yaml_text.proofs.Runs.{same_char, run_none, run_same}
 use Rattle.yaml_text.proofs.LineRuns.{end_stops, brk_same, brk_stops, brk_no_end}

@@ -3,10 +3,10 @@ use Rattle.std.proofs.Common.{◌≡◌, ℕ, ◌+◌, ◌<◌, ◌≤◌, ◌�
 use Rattle.std.specs.Prelude.{slice_range}
 use Rattle.std.proofs.Math.Nat.{eq-or-lt_of_le}
 use Rattle.std.proofs.lemmas.List.{append-nil}
-use Rattle.yaml_text.specs.grammar.Rules.{run, Stands, maybe, Any, then}
-use Rattle.yaml_text.specs.grammar.Characters.{is_space, is_nb, is_break, brk}
-use Rattle.yaml_text.specs.grammar.Separation.{AtEnd, DocumentMark, indent}
-use Rattle.yaml_text.specs.grammar.BlockScalars.{Line, blank, content_line, NoSpace, LessIndented, LinesEnd, blank_line, text_line, last_spaces, lines}
+use Rattle.yaml_definitions.specs.grammar.Rules.{run, Stands, maybe, Any, then}
+use Rattle.yaml_definitions.specs.grammar.Characters.{is_space, is_nb, is_break, b-break as brk}
+use Rattle.yaml_definitions.specs.grammar.Separation.{AtEnd, DocumentMark, s-indent as indent}
+use Rattle.yaml_definitions.specs.grammar.BlockScalars.{Line, blank, content_line, NoSpace, LessIndented, LinesEnd, blank_line, text_line, last_spaces, lines}
 use Rattle.yaml_scalar.specs.BlockRules.{any_line}
 use Rattle.yaml_text.proofs.Runs.{run_none, run_same}
 use Rattle.yaml_text.proofs.LineRuns.{end_stops, brk_same, brk_stops, brk_no_end, brk_onward}

@@ -1,17 +1,17 @@
 -- Plain scalars.
-use Rattle.std.proofs.Common.{◌≡◌, ◌≢◌, ℕ, ◌+◌, ◌<◌, ◌≤◌, ◌⊎◌, inl, inr, List, [], ◌∷◌, ◌++◌, Some, None, true, false, refl, sym, ◌∙◌, ap, subst, arith, append_assoc}
+use Rattle.std.proofs.Common.{◌≡◌, ◌≢◌, ℕ, zero, suc, ◌+◌, ◌-◌, ◌<◌, ◌≤◌, ◌⊎◌, inl, inr, List, [], ◌∷◌, ◌++◌, Some, None, true, false, refl, sym, ◌∙◌, ap, subst, arith, append_assoc}
 use Rattle.std.specs.Prelude.{slice_get, slice_range}
-use Rattle.yaml_text.specs.grammar.Rules.{◌⨾◌, any, Any, done, then, Stands, run, where_both}
+use Rattle.yaml_definitions.specs.grammar.Rules.{◌⨾◌, any, Any, done, then, Stands, run, where_both}
 use Rattle.yaml_scalar.specs.Chains.{taken_at, folds, NoBreaks, NoPlainLine, breaks, gap, plain_inner, plain_head, plain_sign, Later, line_more, fold_more, plain_more, plain_chain, GoesOnBelow}
-use Rattle.yaml_text.specs.grammar.Characters.{is_white, is_ns, is_nb, is_break, is_indicator}
-use Rattle.yaml_text.specs.grammar.Separation.{DocumentMark, Unmarked}
-use Rattle.yaml_text.specs.grammar.FlowScalars.{plain_safe, PlainFirst}
+use Rattle.yaml_definitions.specs.grammar.Characters.{is_white, is_ns, is_nb, is_break, is_indicator}
+use Rattle.yaml_definitions.specs.grammar.Separation.{DocumentMark, Unmarked}
+use Rattle.yaml_definitions.specs.grammar.FlowScalars.{is_flow, plain_safe, PlainFirst}
 use Rattle.yaml_text.specs.Answer.{Unread}
 use Rattle.yaml_text.specs.Answer.{Furthest}
-use Rattle.yaml_text.specs.grammar.Separation.{Ctx}
-use Rattle.yaml_text.proofs.PlaceLemmas.{slice_one, slice_snoc, slice_join}
+use Rattle.yaml_definitions.specs.grammar.Separation.{Ctx, flow_in}
+use Rattle.yaml_text.proofs.PlaceLemmas.{slice_none, slice_one, slice_snoc, slice_join}
 use Rattle.std.proofs.lemmas.Bool.{cases_eq}
-use Rattle.yaml_scalar.proofs.AnyLemmas.{Same, Onward, any_onward, any_append, any_weaker, chain_furthest}
+use Rattle.yaml_scalar.proofs.AnyLemmas.{Same, Onward, any_none, any_snoc, any_onward, any_append, any_weaker, chain_furthest}
 use Rattle.yaml_text.proofs.Runs.{same_char, run_same, no_stand, no_stand_end, run_none}
 use Rattle.yaml_scalar.proofs.GapLemmas.{gap_then_same, folds_onward, folds_through, breaks_same, folds_is, gap_onward, blank_gap, unmarked_cuts, BeginsNs}
 use Rattle.yaml_text.proofs.Breaks.{Ns, NoWhite, ns_stops, blank_white_run, unmarked_one, unmarked_join, unmarked_blank, AfterNs, after_ns, after_white, mark_starts}
@@ -52,6 +52,11 @@ sign_ns x p = grind (arith, p)
 head_no_sign : (x : ℕ) → plain_head x ≡ true → plain_sign x ≡ true → ⊥
 unfolding plain_sign plain_head is_indicator
 head_no_sign x p q = grind (arith, p, q)
+
+-- what is plain in a flow collection is plain
+pub inner_any : (c : Ctx) (x : ℕ) → plain_inner flow_in x ≡ true → plain_inner c x ≡ true
+unfolding plain_inner plain_safe is_flow
+inner_any c x p = grind (arith, p)
 
 module _ (cs : List ℕ) where
   pub later_colon : (c : Ctx) (i j : ℕ) → slice_get cs i ≡ Some 58 → j ≡ i + 1 → Stands cs (plain_safe c) j → Later cs c i
@@ -116,6 +121,20 @@ module _ (cs : List ℕ) where
   pub line_later : (c : Ctx) (k i j x : ℕ) → run cs is_white k i → slice_get cs i ≡ Some x → Later cs c i → j ≡ i + 1 → line_more cs c k j (slice_range cs k j)
   unfolding line_more
   line_later c k i j x r h l e = inr (i, slice_range cs k i, x ∷ [], (r, refl), (l, x, h, e, refl), slice_snoc cs k i j x r.0 h e)
+
+  inner_steps : (c : Ctx) (n k j : ℕ) → j ≡ k + n → run cs (plain_inner c) k j → any (line_more cs c) k j (slice_range cs k j)
+  inner_steps c zero k j e r =
+      subst (λ m. any (line_more cs c) k m (slice_range cs k m)) (let z : k ≡ j = omega (arith, e) in z)
+      (subst (any (line_more cs c) k k) (sym (slice_none cs k)) any_none)
+  inner_steps c (suc n) k j e r =
+      let s = r.1 (k + n) (omega arith) (omega (arith, e)) in
+      let before = inner_steps c n k (k + n) refl (omega arith, λ x a b. r.1 x a (omega (arith, b, e))) in
+      let one = line_later c (k + n) (k + n) j s.0 (run_none cs is_white (k + n)) s.1 (later_inner c (k + n) s.0 s.1 s.2) (omega (arith, e)) in
+      subst (any (line_more cs c) k j) (sym (slice_join cs k (k + n) j (omega arith) (omega (arith, e)))) (any_snoc before one)
+
+  -- characters that need no look at their neighbours
+  pub line_inner : (c : Ctx) (k j : ℕ) → run cs (plain_inner c) k j → any (line_more cs c) k j (slice_range cs k j)
+  line_inner c k j r = inner_steps c (j - k) k j (let h : k ≤ j = r.0 in omega (arith, h)) r
 
   -- nothing of the scalar stands after the whites, and a # only after taken
   pub line_stop : (c : Ctx) (k i : ℕ) → run cs is_white k i → NoWhite cs i → (Later cs c i → ⊥) → (k ≡ i → slice_get cs i ≡ Some 35 → ⊥) → Unread (line_more cs c) k

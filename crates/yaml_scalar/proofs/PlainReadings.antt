@@ -4,10 +4,10 @@ use Rattle.std.specs.Prelude.{slice_get, slice_range, ◌==◌}
 use Rattle.std.proofs.lemmas.Bool.{cases_eq, cases_lt}
 use Rattle.yaml_text.specs.Answer.{Furthest}
 use Rattle.yaml_text.specs.Answer.{Unread}
-use Rattle.yaml_text.specs.grammar.Rules.{◌⨾◌, any, Any, done, then, Throughout, Stands, Behind, run}
-use Rattle.yaml_text.specs.grammar.Characters.{is_white, is_ns}
-use Rattle.yaml_text.specs.grammar.Separation.{Ctx}
-use Rattle.yaml_text.specs.grammar.FlowScalars.{several, fold, PlainFirst, PlainChar, plain_line, plain}
+use Rattle.yaml_definitions.specs.grammar.Rules.{◌⨾◌, any, Any, done, then, Throughout, Stands, Behind, run}
+use Rattle.yaml_definitions.specs.grammar.Characters.{is_white, is_ns}
+use Rattle.yaml_definitions.specs.grammar.Separation.{Ctx}
+use Rattle.yaml_definitions.specs.grammar.FlowScalars.{several, s-flow-folded as fold, PlainFirst, PlainChar, plain_line, ns-plain as plain}
 use Rattle.yaml_text.proofs.PlaceLemmas.{slice_none, slice_one, slice_join, slice_snoc}
 use Rattle.yaml_scalar.specs.Chains.{folds, gap, plain_inner, Later, taken_at, plain_more, line_more, plain_chain}
 use Rattle.yaml_scalar.proofs.AnyLemmas.{any_none, any_snoc, any_append, any_weaker, any_onward}

@@ -1,19 +1,19 @@
 -- Quoted scalars.
-use Rattle.std.proofs.Common.{◌≡◌, ◌≢◌, ℕ, ◌+◌, ◌<◌, ◌≤◌, ◌⊎◌, inl, inr, List, [], ◌∷◌, ◌++◌, Some, true, refl, sym, ◌∙◌, ap, subst, arith, append_assoc}
+use Rattle.std.proofs.Common.{◌≡◌, ◌≢◌, ℕ, zero, suc, ◌+◌, ◌-◌, ◌<◌, ◌≤◌, ◌⊎◌, inl, inr, List, [], ◌∷◌, ◌++◌, Some, true, refl, sym, ◌∙◌, ap, subst, arith, append_assoc}
 use Rattle.std.proofs.lemmas.List.{append-nil}
 use Rattle.std.specs.Prelude.{slice_get, slice_range, not, ◌&&◌, ◌==◌}
 use Rattle.std.proofs.lemmas.Bool.{cases_eq}
-use Rattle.yaml_text.specs.grammar.Rules.{Span, ◌◂◌, ◌⨾◌, any, Any, done, then, Stands, run, where_both}
+use Rattle.yaml_definitions.specs.grammar.Rules.{Span, ◌◂◌, ◌⨾◌, any, Any, done, then, Stands, run, where_both}
 use Rattle.yaml_scalar.specs.Chains.{TextRule}
-use Rattle.yaml_text.specs.grammar.Characters.{is_white, is_ns, is_nb, is_break}
-use Rattle.yaml_text.specs.grammar.Separation.{DocumentMark, Unmarked}
+use Rattle.yaml_definitions.specs.grammar.Characters.{is_white, is_ns, is_nb, is_break}
+use Rattle.yaml_definitions.specs.grammar.Separation.{DocumentMark, Unmarked}
 use Rattle.yaml_scalar.specs.Chains.{folds, NoFold, gap, verbatim, quoted_more, closing_quote, single_rest, single_chain}
-use Rattle.yaml_text.specs.Lines.{Dashes}
-use Rattle.yaml_text.specs.grammar.FlowScalars.{single_char}
+use Rattle.yaml_text.specs.Lines.{LooksLikeMarker as Dashes}
+use Rattle.yaml_definitions.specs.grammar.FlowScalars.{ns-single-char as single_char}
 use Rattle.yaml_text.specs.Answer.{Unread}
 use Rattle.yaml_text.specs.Answer.{Only}
-use Rattle.yaml_text.specs.grammar.Separation.{Ctx}
-use Rattle.yaml_text.proofs.PlaceLemmas.{slice_snoc, slice_none}
+use Rattle.yaml_definitions.specs.grammar.Separation.{Ctx}
+use Rattle.yaml_text.proofs.PlaceLemmas.{slice_snoc, slice_none, slice_join}
 use Rattle.yaml_scalar.proofs.AnyLemmas.{Same, Onward, any_onward, any_none, any_snoc, any_then_same, any_then_none}
 use Rattle.yaml_text.proofs.Repeats.{SameEnd}
 use Rattle.yaml_text.proofs.Runs.{same_char, run_same, run_none}
@@ -46,6 +46,20 @@ module _ (cs : List ℕ) where
   pub quoted_is : (q k i j x : ℕ) → run cs is_white k i → slice_get cs i ≡ Some x → verbatim q x ≡ true → j ≡ i + 1 → quoted_more cs q k j (slice_range cs k j)
   unfolding quoted_more
   quoted_is q k i j x r h v e = (i, slice_range cs k i, x ∷ [], (r, refl), ((x, h, v), x, h, e, refl), slice_snoc cs k i j x r.0 h e)
+
+  quoted_steps : (q n k j : ℕ) → j ≡ k + n → run cs (verbatim q) k j → any (quoted_more cs q) k j (slice_range cs k j)
+  quoted_steps q zero k j e r =
+      subst (λ m. any (quoted_more cs q) k m (slice_range cs k m)) (let z : k ≡ j = omega (arith, e) in z)
+      (subst (any (quoted_more cs q) k k) (sym (slice_none cs k)) any_none)
+  quoted_steps q (suc n) k j e r =
+      let s = r.1 (k + n) (omega arith) (omega (arith, e)) in
+      let before = quoted_steps q n k (k + n) refl (omega arith, λ x a b. r.1 x a (omega (arith, b, e))) in
+      let one = quoted_is q (k + n) (k + n) j s.0 (run_none cs is_white (k + n)) s.1 s.2 (omega (arith, e)) in
+      subst (any (quoted_more cs q) k j) (sym (slice_join cs k (k + n) j (omega arith) (omega (arith, e)))) (any_snoc before one)
+
+  -- characters that stand for themselves
+  pub line_quoted : (q k j : ℕ) → run cs (verbatim q) k j → any (quoted_more cs q) k j (slice_range cs k j)
+  line_quoted q k j r = quoted_steps q (j - k) k j (let h : k ≤ j = r.0 in omega (arith, h)) r
 
   pub quoted_onward : (q : ℕ) → Onward (quoted_more cs q)
   unfolding quoted_more

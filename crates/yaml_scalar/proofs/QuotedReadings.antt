@@ -5,10 +5,10 @@ use Rattle.std.specs.Prelude.{slice_get, slice_range, ◌==◌}
 use Rattle.std.proofs.lemmas.Bool.{cases_eq}
 use Rattle.yaml_text.specs.Answer.{Only}
 use Rattle.yaml_text.specs.Answer.{Unread}
-use Rattle.yaml_text.specs.grammar.Rules.{◌⨾◌, never, ◌∪◌, any, Any, done, then, Stands, run, copied}
-use Rattle.yaml_text.specs.grammar.Characters.{is_white}
-use Rattle.yaml_text.specs.grammar.Separation.{Ctx}
-use Rattle.yaml_text.specs.grammar.FlowScalars.{several, fold, white_text, quoted_line, broken_line, quoted_lines, single_char, single}
+use Rattle.yaml_definitions.specs.grammar.Rules.{◌⨾◌, never, ◌∪◌, any, Any, done, then, Stands, run, copied}
+use Rattle.yaml_definitions.specs.grammar.Characters.{is_white}
+use Rattle.yaml_definitions.specs.grammar.Separation.{Ctx}
+use Rattle.yaml_definitions.specs.grammar.FlowScalars.{several, s-flow-folded as fold, white_text, quoted_line, broken_line, quoted_lines, ns-single-char as single_char, c-single-quoted as single}
 use Rattle.yaml_text.proofs.PlaceLemmas.{slice_none, slice_one, slice_join, slice_snoc}
 use Rattle.yaml_scalar.specs.Chains.{TextRule}
 use Rattle.yaml_scalar.specs.Chains.{gap, closing_quote, single_rest, single_chain}

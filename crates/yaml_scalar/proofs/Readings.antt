@@ -2,10 +2,10 @@
 use Rattle.std.proofs.Common.{◌≡◌, ◌≢◌, ℕ, zero, suc, ◌+◌, ◌-◌, inl, inr, List, [], ◌∷◌, ◌++◌, Some, true, false, replicate, refl, sym, ◌∙◌, ap, subst, arith}
 use Rattle.std.specs.Prelude.{slice_get, ◌==◌}
 use Rattle.std.proofs.lemmas.Bool.{cases_eq}
-use Rattle.yaml_text.specs.grammar.Rules.{Span, ◌◆◌, ◌▸◌, gives, Any, done, then, times, Stands, Behind, run}
-use Rattle.yaml_text.specs.grammar.Characters.{is_white, brk}
-use Rattle.yaml_text.specs.grammar.Separation.{Ctx, block_out, block_in, flow_out, flow_in, block_key, flow_key, indent}
-use Rattle.yaml_text.specs.grammar.FlowScalars.{fold_text, empty_line, fold, escaped_break, several}
+use Rattle.yaml_definitions.specs.grammar.Rules.{Span, ◌◆◌, ◌▸◌, gives, Any, done, then, times, Stands, Behind, run}
+use Rattle.yaml_definitions.specs.grammar.Characters.{is_white, b-break as brk}
+use Rattle.yaml_definitions.specs.grammar.Separation.{Ctx, block_out, block_in, flow_out, flow_in, block_key, flow_key, s-indent as indent}
+use Rattle.yaml_definitions.specs.grammar.FlowScalars.{fold_text, empty_line, s-flow-folded as fold, s-double-escaped as escaped_break, several}
 use Rattle.yaml_scalar.specs.Chains.{TextRule}
 use Rattle.yaml_scalar.specs.Chains.{margin, lead, breaks, folds, escaped_end}
 use Rattle.yaml_text.specs.Lines.{is_key, line_brk}

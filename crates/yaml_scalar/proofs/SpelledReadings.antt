@@ -8,13 +8,13 @@ use Rattle.std.specs.Str.{all_scalars}
 use Rattle.std.specs.Str.Parse.{digits_value}
 use lib.Utf8.{scalar}
 use Rattle.yaml_text.specs.Answer.{Only}
-use Rattle.yaml_text.specs.CharText.{is_plain, hex_digit, spell_char}
-use Rattle.yaml_text.specs.NodeText.{quoted}
-use Rattle.yaml_text.specs.grammar.Rules.{◌∪◌, done, then, any, exactly}
-use Rattle.yaml_text.specs.grammar.Characters.{is_ns, is_nb, is_break, is_white, short_escape, escape}
-use Rattle.yaml_text.specs.grammar.Separation.{Ctx, Unmarked}
-use Rattle.yaml_text.specs.grammar.FlowScalars.{double_char, white_text, double}
-use Rattle.yaml_text.proofs.CharLaws.{heads, tails, low}
+use Rattle.yaml_definitions.specs.canonical.CharText.{is_plain, hex_digit, spell_char}
+use Rattle.yaml_definitions.specs.canonical.NodeText.{quoted}
+use Rattle.yaml_definitions.specs.grammar.Rules.{◌∪◌, done, then, any, exactly}
+use Rattle.yaml_definitions.specs.grammar.Characters.{is_ns, is_nb, is_break, is_white, short_escape, c-ns-esc-char as escape}
+use Rattle.yaml_definitions.specs.grammar.Separation.{Ctx, Unmarked}
+use Rattle.yaml_definitions.specs.grammar.FlowScalars.{ns-double-char as double_char, white_text, c-double-quoted as double}
+use Rattle.yaml_definitions.proofs.CharLaws.{heads, tails, low}
 use Rattle.yaml_scalar.specs.Spelling.{ReadsBack}
 use Rattle.yaml_scalar.specs.Chains.{digit_count}
 use Rattle.yaml_scalar.proofs.EscapeLemmas.{digits_none, digits_more, numbered_is, escape_short, escape_long, escape_characters}

@@ -8,9 +8,9 @@ use Rattle.std.specs.Str.{encode_utf8_all, IsUtf8, IsCharBoundary, chars}
 use Rattle.std.specs.Prelude.{flat_map, Result, Ok, Err, is_ok, if◌then◌else◌}
 use Rattle.std.proofs.lemmas.Str.{encodes-append, chars_past_char, IsUtf8-past_char, IsCharBoundary-at_seam, IsCharBoundary-from_take, len_utf8_bounds, length-encode, chars-nil}
 use lib.Utf8.{scalar}
-use Rattle.yaml_text.specs.CharText.{is_plain, spell_char}
-use Rattle.yaml_text.specs.NodeText.{quoted}
-use Rattle.yaml_text.proofs.CharLaws.{low}
+use Rattle.yaml_definitions.specs.canonical.CharText.{is_plain, spell_char}
+use Rattle.yaml_definitions.specs.canonical.NodeText.{quoted}
+use Rattle.yaml_definitions.proofs.CharLaws.{low}
 use Rattle.yaml_scalar.specs.Spelling.{Grows, is_verbatim, code_text, quoted_bytes, spelled_chars}
 
 -- ---- one character

@@ -1,10 +1,10 @@
 -- The comment lines after a block scalar.
 use Rattle.std.proofs.Common.{◌≡◌, ◌≢◌, ℕ, ◌+◌, ◌<◌, ◌≤◌, inl, inr, List, Some, refl, sym, ◌∙◌, ap, subst, arith}
 use Rattle.std.specs.Prelude.{slice_get}
-use Rattle.yaml_text.specs.grammar.Rules.{◌◆◌, run, Stands, maybe, any_span, furthest_span, Spans}
-use Rattle.yaml_text.specs.grammar.Characters.{is_space}
-use Rattle.yaml_text.specs.grammar.Separation.{indent, less, line_end, comment, l_comment}
-use Rattle.yaml_text.specs.grammar.BlockScalars.{comment_lines}
+use Rattle.yaml_definitions.specs.grammar.Rules.{◌◆◌, run, Stands, maybe, any_span, furthest_span, Spans}
+use Rattle.yaml_definitions.specs.grammar.Characters.{is_space}
+use Rattle.yaml_definitions.specs.grammar.Separation.{s-indent as indent, s-indent-less-than as less, b-comment as line_end, c-nb-comment-text as comment, l-comment as l_comment}
+use Rattle.yaml_definitions.specs.grammar.BlockScalars.{l-trail-comments as comment_lines}
 use Rattle.yaml_text.specs.Lines.{AfterLine}
 use Rattle.yaml_text.proofs.Runs.{no_stand, run_same}
 use Rattle.yaml_text.proofs.LineRuns.{line_end_same, line_end_onward, line_end_after, indent_run, indent_place}

@@ -2,11 +2,11 @@
 use Rattle.std.specs.Prelude.{◌≡◌, ℕ, zero, suc, ◌+◌, ◌≤◌, ◌<◌, min, ℤ, pos, negsuc, List, [], ◌∷◌, Bool, true, false, not, ◌&&◌, slice_range}
 use Rattle.yaml_text.specs.Source.{text_of, place_of, IsBorder}
 use Rattle.yaml_text.specs.declared.chars.Chars.{Chars}
-use Rattle.yaml_text.specs.grammar.Rules.{Rule, Stands}
-use Rattle.yaml_text.specs.grammar.Characters.{is_nb}
-use Rattle.yaml_text.specs.grammar.Separation.{AtEnd}
-use Rattle.yaml_text.specs.grammar.FlowScalars.{line_feeds}
-use Rattle.yaml_text.specs.grammar.BlockScalars as grammar
+use Rattle.yaml_definitions.specs.grammar.Rules.{Rule, Stands}
+use Rattle.yaml_definitions.specs.grammar.Characters.{is_nb}
+use Rattle.yaml_definitions.specs.grammar.Separation.{AtEnd}
+use Rattle.yaml_definitions.specs.grammar.FlowScalars.{line_feeds}
+use Rattle.yaml_definitions.specs.grammar.BlockScalars as grammar
 use Rattle.yaml_scalar.specs.Chains.{folded_breaks}
 use Rattle.yaml_scalar.specs.BlockRules.{lines_over}
 use Rattle.yaml_text.specs.Lines.{AfterLine}
@@ -30,8 +30,8 @@ sign_of true = 62
 
 -- a block scalar of either style
 abbrev pub styled : List ℕ → Bool → ℕ → Rule (List ℕ)
-styled cs false = grammar.literal cs
-styled cs true = grammar.folded cs
+styled cs false = grammar.c-l+literal cs
+styled cs true = grammar.c-l+folded cs
 
 abbrev pub chomp_of : Chomp → grammar.Chomp
 chomp_of Strip = grammar.strip

@@ -1,8 +1,8 @@
 -- What the parts of a block scalar's reader say of a place.
 use Rattle.std.specs.Prelude.{◌≡◌, ℕ, ◌⊎◌, List, Bool, true, false, ◌==◌, ◌||◌}
 use Rattle.std.specs.Int.{is_in_range}
-use Rattle.yaml_text.specs.grammar.Rules.{Span, Rule, ◌◆◌, ◌◂◌, ◌∪◌, maybe, ahead, seen, with_value, Stands}
-use Rattle.yaml_text.specs.grammar.BlockScalars.{Line, Header, is_given, content, indentation_indicator, chomping_indicator, blank_line, text_line, lines, last_spaces, LinesEnd}
+use Rattle.yaml_definitions.specs.grammar.Rules.{Span, Rule, ◌◆◌, ◌◂◌, ◌∪◌, maybe, ahead, seen, with_value, Stands}
+use Rattle.yaml_definitions.specs.grammar.BlockScalars.{Line, Header, is_given, content, c-indentation-indicator as indentation_indicator, c-chomping-indicator as chomping_indicator, blank_line, text_line, lines, last_spaces, LinesEnd}
 
 abbrev pub is_sign : ℕ → Bool
 is_sign c = c == 45 || c == 43

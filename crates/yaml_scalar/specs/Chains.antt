@@ -1,10 +1,10 @@
 -- The flow scalars again, in the form that the proofs go through: gaps and characters in turn, where a gap is a perhaps
 -- empty run of whites or a fold. That these are the readings of the grammar is proved, and contracts cite the grammar.
 use Rattle.std.specs.Prelude.{◌≡◌, ◌≢◌, ℕ, ◌+◌, ◌⊎◌, List, [], ◌∷◌, Bool, false, not, ◌&&◌, ◌==◌, if◌then◌else◌, Option, Some, None, slice_get}
-use Rattle.yaml_text.specs.grammar.Rules.{Span, Rule, ◌◆◌, ◌⊔◌, ◌▸◌, ◌◂◌, ◌⨾◌, ◌∪◌, gives, seen, any, chr, run, copied, Stands, where_both}
-use Rattle.yaml_text.specs.grammar.Characters.{is_in, is_white, is_ns, is_indicator}
-use Rattle.yaml_text.specs.grammar.Separation.{Ctx, indent, less, DocumentMark, Unmarked}
-use Rattle.yaml_text.specs.grammar.FlowScalars.{plain_safe, PlainFirst, single_char, double_char}
+use Rattle.yaml_definitions.specs.grammar.Rules.{Span, Rule, ◌◆◌, ◌⊔◌, ◌▸◌, ◌◂◌, ◌⨾◌, ◌∪◌, gives, seen, any, chr, run, copied, Stands, where_both}
+use Rattle.yaml_definitions.specs.grammar.Characters.{is_in, is_white, is_ns, is_indicator}
+use Rattle.yaml_definitions.specs.grammar.Separation.{Ctx, s-indent as indent, s-indent-less-than as less, DocumentMark, Unmarked}
+use Rattle.yaml_definitions.specs.grammar.FlowScalars.{plain_safe, PlainFirst, ns-single-char as single_char, ns-double-char as double_char}
 use Rattle.yaml_text.specs.Lines.{is_key, line_brk}
 
 -- a rule that reads a text

@@ -2,10 +2,10 @@
 use Rattle.std.specs.Prelude.{◌≡◌, ℕ, Bool, true, drop, not, cond, ◌/◌, ◌%◌, ◌&&◌, ◌==◌, nat_lt, List, [], ◌∷◌, ◌++◌, flat_map}
 use Rattle.std.specs.Str.{encode_utf8_all, all_scalars, chars}
 use Rattle.yaml_text.specs.Answer.{Only}
-use Rattle.yaml_text.specs.CharText.{is_plain, hex_digit, spell_char}
-use Rattle.yaml_text.specs.NodeText.{quoted}
-use Rattle.yaml_text.specs.grammar.FlowScalars.{double}
-use Rattle.yaml_text.specs.grammar.Separation.{Ctx}
+use Rattle.yaml_definitions.specs.canonical.CharText.{is_plain, hex_digit, spell_char}
+use Rattle.yaml_definitions.specs.canonical.NodeText.{quoted}
+use Rattle.yaml_definitions.specs.grammar.FlowScalars.{c-double-quoted as double}
+use Rattle.yaml_definitions.specs.grammar.Separation.{Ctx}
 
 -- the bytes of a content's spelling, quotes included
 abbrev pub quoted_bytes : List ℕ → List ℕ

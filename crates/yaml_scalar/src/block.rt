@@ -1,9 +1,10 @@
 //! Block scalars (YAML 1.2.2, 8.1).
-ghost use Rattle.std.specs.Prelude.{◌≡◌, ◌<◌, IfOk, IsUtf8};
+ghost use Rattle.std.specs.Prelude.{◌≡◌, ◌<◌, IfOk, IsUtf8, IfErr};
 ghost use Rattle.std.specs.Str.{chars};
 ghost use Rattle.std.specs.Cow.{cow_str_bytes};
+ghost use Rattle.yaml_text.specs.Placed.{IsPlaced};
 ghost use Rattle.yaml_text.specs.Source.{text_of, place_of, IsBorder};
-ghost use Rattle.yaml_text.specs.grammar.BlockScalars.{literal, folded};
+ghost use Rattle.yaml_definitions.specs.grammar.BlockScalars.{c-l+literal as literal, c-l+folded as folded};
 ghost use Rattle.yaml_text.specs.Answer.{Answers};
 ghost use Rattle.yaml_text.specs.Answer.{FurthestAlone};
 ghost use Rattle.yaml_scalar.specs.BlockModel.{column, sign_of, styled};
@@ -52,6 +53,7 @@ fn read_block<'a>(
     ensures utf8 { IfOk result (λ r. IsUtf8 (cow_str_bytes r.0)) }
     ensures reads { Answers FurthestAlone (styled (text_of source.now) is_folded (column n)) (place_of source.now at)
         (λ r. place_of source.now r.1) (λ r. chars (cow_str_bytes r.0)) result }
+    ensures placed { IfErr result (IsPlaced source.now) }
 {
     let Some(start) = accept(source, at, sign_of(is_folded)) else {
         return Err(unusable(source, at));
@@ -80,6 +82,7 @@ pub fn read_literal<'a>(
     ensures utf8 { IfOk result (λ r. IsUtf8 (cow_str_bytes r.0)) }
     ensures reads { Answers FurthestAlone (literal (text_of source.now) (column n)) (place_of source.now at)
         (λ r. place_of source.now r.1) (λ r. chars (cow_str_bytes r.0)) result }
+    ensures placed { IfErr result (IsPlaced source.now) }
 {
     read_block(alloc, source, at, n, false)
 }
@@ -102,6 +105,7 @@ pub fn read_folded<'a>(
     ensures utf8 { IfOk result (λ r. IsUtf8 (cow_str_bytes r.0)) }
     ensures reads { Answers FurthestAlone (folded (text_of source.now) (column n)) (place_of source.now at)
         (λ r. place_of source.now r.1) (λ r. chars (cow_str_bytes r.0)) result }
+    ensures placed { IfErr result (IsPlaced source.now) }
 {
     read_block(alloc, source, at, n, true)
 }

@@ -1,5 +1,6 @@
 //! The classes of characters that a scalar asks for.
-ghost use Rattle.std.specs.Prelude.{◌≡◌};
+ghost use Rattle.std.specs.Prelude.{◌≡◌, ◌<◌, true};
+ghost use Rattle.yaml_definitions.specs.grammar.Separation.{flow_in};
 ghost use Rattle.yaml_text.specs.EventModel.{context_of};
 ghost use Rattle.yaml_scalar.specs.Chains.{plain_inner, plain_head, plain_sign, verbatim};
 
@@ -12,6 +13,16 @@ pub fn is_plain_inner(context: Ctx, c: char) -> bool
     ensures { result ≡ plain_inner (context_of context) c }
 {
     is_plain_safe(context, c) && c != ':' && c != '#'
+}
+
+/// Whether a byte is an ASCII character that is plain in every context, whatever its neighbours are.
+#[tactic(auto, unfolding(crate::specs::Chains::plain_inner, yaml_definitions::specs::grammar::FlowScalars::plain_safe, yaml_definitions::specs::grammar::FlowScalars::is_flow, yaml_definitions::specs::grammar::Characters::is_ns, yaml_definitions::specs::grammar::Characters::is_nb, yaml_definitions::specs::grammar::Characters::is_break, yaml_definitions::specs::grammar::Characters::is_white, yaml_definitions::specs::grammar::Characters::is_flow_indicator))]
+#[inline]
+pub fn is_plain_byte(byte: u8) -> bool
+    ensures ascii { result ≡ true → byte < 128 }
+    ensures inner { result ≡ true → plain_inner flow_in byte ≡ true }
+{
+    byte > b' ' && byte < 127 && !matches!(byte, b'#' | b',' | b':' | b'[' | b']' | b'{' | b'}')
 }
 
 /// Whether a character may begin a plain scalar whatever follows.
@@ -36,4 +47,15 @@ pub fn is_verbatim(quote: char, c: char) -> bool
     ensures { result ≡ verbatim quote c }
 {
     is_ns(c) && c != quote && !(quote == '"' && c == '\\')
+}
+
+/// Whether a byte is an ASCII character that stands for itself between both kinds of quotes.
+#[tactic(auto, unfolding(crate::specs::Chains::verbatim, yaml_definitions::specs::grammar::Characters::is_ns, yaml_definitions::specs::grammar::Characters::is_nb, yaml_definitions::specs::grammar::Characters::is_break, yaml_definitions::specs::grammar::Characters::is_white))]
+#[inline]
+pub fn is_quoted_byte(byte: u8) -> bool
+    ensures ascii { result ≡ true → byte < 128 }
+    ensures single { result ≡ true → verbatim 39 byte ≡ true }
+    ensures double { result ≡ true → verbatim 34 byte ≡ true }
+{
+    byte > b' ' && byte < 127 && !matches!(byte, b'"' | b'\'' | b'\\')
 }

@@ -4,9 +4,10 @@ ghost use Rattle.std.specs.Str.{chars};
 ghost use Rattle.std.specs.Cow.{cow_str_bytes};
 ghost use Rattle.yaml_text.specs.Answer.{Only};
 ghost use Rattle.yaml_text.specs.EventModel.{context_of};
+ghost use Rattle.yaml_text.specs.Placed.{IsPlaced};
 ghost use Rattle.yaml_text.specs.Source.{text_of, place_of, IsBorder};
-ghost use Rattle.yaml_text.specs.grammar.FlowScalars.{double};
-ghost use Rattle.yaml_text.specs.grammar.Separation.{DocumentMark};
+ghost use Rattle.yaml_definitions.specs.grammar.FlowScalars.{c-double-quoted as double};
+ghost use Rattle.yaml_definitions.specs.grammar.Separation.{DocumentMark};
 ghost use Rattle.yaml_scalar.specs.Chains.{breaks, SolidStart, NoSolidBreaks};
 ghost use Rattle.yaml_text.specs.Lines.{line_brk};
 ghost use Rattle.yaml_text.specs.Answer.{Answers};
@@ -59,6 +60,7 @@ fn read_solid_break(
     ensures unmarked { IfOk result (λ r. DocumentMark (text_of source.now) (place_of source.now r.1) → ⊥) }
     ensures none { IfErr result (λ _. NoSolidBreaks (text_of source.now) least (context_of context) (place_of source.now at)) }
     ensures fault { IfErr result IsSyntaxFault }
+    ensures placed { IfErr result (IsPlaced source.now) }
 {
     match read_break(source, at, least, context) {
         Err(barred) => Err(unusable(source, barred)),
@@ -83,6 +85,7 @@ fn double_from<'a>(
     ensures utf8 { IfOk result (λ r. IsUtf8 (cow_str_bytes r.0)) }
     ensures reads { Answers Only (double (text_of source.now) least (context_of context)) (place_of source.now at)
         (λ r. place_of source.now r.1) (λ r. chars (cow_str_bytes r.0)) result }
+    ensures placed { IfErr result (IsPlaced source.now) }
 {
     let Some(start) = accept(source, at, '"') else {
         return Err(Fault::Syntax(source.pos(at)));
@@ -138,6 +141,7 @@ pub fn read_double<'a>(
     ensures utf8 { IfOk result (λ r. IsUtf8 (cow_str_bytes r.0)) }
     ensures reads { Answers Only (double (text_of source.now) (nat_abs n) (context_of context)) (place_of source.now at)
         (λ r. place_of source.now r.1) (λ r. chars (cow_str_bytes r.0)) result }
+    ensures placed { IfErr result (IsPlaced source.now) }
 {
     double_from(alloc, source, at, columns(n), context)
 }

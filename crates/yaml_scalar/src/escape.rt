@@ -2,14 +2,14 @@
 ghost use Rattle.std.specs.Prelude.{◌≡◌, ◌≤◌, ◌<◌, IfSome, IfNone};
 ghost use Rattle.yaml_text.specs.Source.{text_of, place_of, IsBorder};
 ghost use Rattle.yaml_text.specs.Answer.{Unread};
-ghost use Rattle.yaml_text.specs.grammar.Characters.{short_escape, numbered, escape};
+ghost use Rattle.yaml_definitions.specs.grammar.Characters.{short_escape, numbered, c-ns-esc-char as escape};
 ghost use Rattle.yaml_scalar.specs.Chains.{digit_count};
 
 use yaml_text::chars::Chars;
 use yaml_text::places::{accept, next};
 
 /// What a backslash and this one character stand for.
-#[tactic(auto, unfolding(yaml_text::specs::grammar::Characters::short_escape))]
+#[tactic(auto, unfolding(yaml_definitions::specs::grammar::Characters::short_escape))]
 fn short_escape(c: char) -> Option<char>
     ensures { result ≡ short_escape c }
 {

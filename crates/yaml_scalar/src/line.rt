@@ -3,9 +3,9 @@ ghost use Rattle.std.specs.Prelude.{◌≡◌, ◌≢◌, ◌≤◌, ◌<◌, If
 ghost use Rattle.std.specs.Bool.{OnTrue, OnFalse};
 ghost use Rattle.yaml_text.specs.Source.{text_of, place_of, IsBorder};
 ghost use Rattle.yaml_text.specs.EventModel.{context_of};
-ghost use Rattle.yaml_text.specs.grammar.Rules.{Stands};
-ghost use Rattle.yaml_text.specs.grammar.Characters.{is_white, is_ns};
-ghost use Rattle.yaml_text.specs.grammar.Separation.{StartsLine, DocumentMark, less};
+ghost use Rattle.yaml_definitions.specs.grammar.Rules.{Stands};
+ghost use Rattle.yaml_definitions.specs.grammar.Characters.{is_white, is_ns};
+ghost use Rattle.yaml_definitions.specs.grammar.Separation.{StartsLine, DocumentMark, s-indent-less-than as less};
 ghost use Rattle.yaml_scalar.specs.Chains.{margin, lead, breaks, NoLead, NoBreaks};
 
 use yaml_text::chars::Chars;

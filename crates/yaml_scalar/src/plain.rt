@@ -6,16 +6,17 @@ ghost use Rattle.std.specs.Cow.{cow_str_bytes};
 ghost use Rattle.yaml_text.specs.Answer.{Furthest};
 ghost use Rattle.yaml_text.specs.EventModel.{context_of};
 ghost use Rattle.yaml_text.specs.Place.{Steps};
+ghost use Rattle.yaml_text.specs.Placed.{IsPlaced};
 ghost use Rattle.yaml_text.specs.Source.{bytes_of, text_of, place_of, IsBorder};
 ghost use Rattle.yaml_text.specs.Answer.{Unread};
-ghost use Rattle.yaml_text.specs.grammar.Characters.{is_white};
-ghost use Rattle.yaml_text.specs.grammar.FlowScalars.{plain_safe, PlainFirst, plain};
-ghost use Rattle.yaml_text.specs.grammar.Rules.{run, Stands, any};
-ghost use Rattle.yaml_text.specs.grammar.Separation.{DocumentMark};
-ghost use Rattle.yaml_scalar.specs.Chains.{breaks, GoesOnBelow, Later, NoPlainLine, line_more};
+ghost use Rattle.yaml_definitions.specs.grammar.Characters.{is_white};
+ghost use Rattle.yaml_definitions.specs.grammar.FlowScalars.{plain_safe, PlainFirst, ns-plain as plain};
+ghost use Rattle.yaml_definitions.specs.grammar.Rules.{run, Stands, any};
+ghost use Rattle.yaml_definitions.specs.grammar.Separation.{DocumentMark};
+ghost use Rattle.yaml_scalar.specs.Chains.{breaks, GoesOnBelow, Later, NoPlainLine, line_more, plain_inner};
 ghost use Rattle.yaml_text.specs.Answer.{Answers};
 
-use crate::class::{is_plain_head, is_plain_inner, is_plain_sign};
+use crate::class::{is_plain_byte, is_plain_head, is_plain_inner, is_plain_sign};
 use crate::line::{columns, read_break};
 use crate::text::{push_between, push_fold};
 use std::alloc::Global;
@@ -24,6 +25,7 @@ use yaml_text::chars::Chars;
 use yaml_text::class::{is_plain_safe, is_white};
 use yaml_text::context::Ctx;
 use yaml_text::fault::Fault;
+use yaml_text::front::len_by_one;
 use yaml_text::lines::stands_mark;
 use yaml_text::places::{next, text_between};
 
@@ -84,6 +86,16 @@ fn goes_on(source: &Chars<'_>, end: usize, at: usize, c: char, to: usize, contex
     }
 }
 
+/// The border after the ASCII characters from a border on that are plain whatever their neighbours are, which are not decoded.
+fn skip_plain(source: &Chars<'_>, at: usize, context: Ctx) -> usize
+    requires { IsBorder source.now at }
+    ensures border { IsBorder source.now result }
+    ensures onward { at ≤ result }
+    ensures plain { run (text_of source.now) (plain_inner (context_of context)) (place_of source.now at) (place_of source.now result) }
+{
+    at + len_by_one(source.rest(at).as_bytes(), &is_plain_byte)
+}
+
 /// How far a plain scalar that has come to `from` goes on its line: its furthest end, and the end of the whites after it.
 fn line_end(source: &Chars<'_>, from: usize, context: Ctx) -> (usize, usize)
     requires { IsBorder source.now from }
@@ -97,8 +109,8 @@ fn line_end(source: &Chars<'_>, from: usize, context: Ctx) -> (usize, usize)
     ensures whites { run (text_of source.now) is_white (place_of source.now result.0) (place_of source.now result.1) }
     ensures no_white { Stands (text_of source.now) is_white (place_of source.now result.1) → ⊥ }
 {
-    let mut end = from;
-    let mut here = from;
+    let mut end = skip_plain(source, from, context);
+    let mut here = end;
     'line: loop {
         match next(source, here) {
             None => return (end, here),
@@ -106,8 +118,8 @@ fn line_end(source: &Chars<'_>, from: usize, context: Ctx) -> (usize, usize)
                 if is_white(c) {
                     here = to;
                 } else if goes_on(source, end, here, c, to, context) {
-                    end = to;
-                    here = to;
+                    end = skip_plain(source, to, context);
+                    here = end;
                 } else {
                     return (end, here);
                 }
@@ -163,6 +175,7 @@ fn plain_from<'a>(
     ensures reads { Answers Furthest (plain (text_of source.now) least (context_of context)) (place_of source.now at)
         (λ r. place_of source.now r.1) (λ r. chars (cow_str_bytes r.0)) result }
     ensures memory { IfErr result (λ fault. fault ≡ Fault.OutOfMemory → GoesOnBelow (text_of source.now) least (context_of context) (place_of source.now at)) }
+    ensures placed { IfErr result (IsPlaced source.now) }
 {
     let Some((c, first)) = next(source, at) else {
         return Err(Fault::Syntax(source.pos(at)));
@@ -220,6 +233,7 @@ pub fn read_plain<'a>(
     ensures reads { Answers Furthest (plain (text_of source.now) (nat_abs n) (context_of context)) (place_of source.now at)
         (λ r. place_of source.now r.1) (λ r. chars (cow_str_bytes r.0)) result }
     ensures memory { IfErr result (λ fault. fault ≡ Fault.OutOfMemory → GoesOnBelow (text_of source.now) (nat_abs n) (context_of context) (place_of source.now at)) }
+    ensures placed { IfErr result (IsPlaced source.now) }
 {
     plain_from(alloc, source, at, columns(n), context)
 }

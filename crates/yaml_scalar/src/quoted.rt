@@ -1,14 +1,31 @@
 //! What single- and double-quoted scalars share.
 ghost use Rattle.std.specs.Prelude.{◌≡◌, ◌≤◌, slice_range};
 ghost use Rattle.yaml_text.specs.Source.{text_of, place_of, IsBorder};
-ghost use Rattle.yaml_text.specs.grammar.Characters.{is_white};
-ghost use Rattle.yaml_text.specs.grammar.Rules.{run, Stands, any};
+ghost use Rattle.yaml_definitions.specs.grammar.Characters.{is_white};
+ghost use Rattle.yaml_definitions.specs.grammar.Rules.{run, Stands, any};
 ghost use Rattle.yaml_scalar.specs.Chains.{verbatim, quoted_more};
 
-use crate::class::is_verbatim;
+use crate::class::{is_quoted_byte, is_verbatim};
 use yaml_text::chars::Chars;
 use yaml_text::class::is_white;
+use yaml_text::front::len_by_one;
 use yaml_text::places::next;
+
+/// The border after the ASCII characters from a border on that stand for themselves between these quotes, which are not decoded.
+fn skip_quoted(source: &Chars<'_>, at: usize, quote: char) -> usize
+    requires { IsBorder source.now at }
+    ensures border { IsBorder source.now result }
+    ensures onward { at ≤ result }
+    ensures text { run (text_of source.now) (verbatim quote) (place_of source.now at) (place_of source.now result) }
+{
+    if quote == '"' {
+        at + len_by_one(source.rest(at).as_bytes(), &is_quoted_byte)
+    } else if quote == '\'' {
+        at + len_by_one(source.rest(at).as_bytes(), &is_quoted_byte)
+    } else {
+        at
+    }
+}
 
 /// How far a quoted text goes on its line with characters that stand for themselves: the end of the last that is no white,
 /// and the end of the whites after it.
@@ -24,8 +41,8 @@ pub fn quoted_run(source: &Chars<'_>, from: usize, quote: char) -> (usize, usize
     ensures no_white { Stands (text_of source.now) is_white (place_of source.now result.1) → ⊥ }
     ensures no_text { Stands (text_of source.now) (verbatim quote) (place_of source.now result.1) → ⊥ }
 {
-    let mut end = from;
-    let mut here = from;
+    let mut end = skip_quoted(source, from, quote);
+    let mut here = end;
     'line: loop {
         match next(source, here) {
             None => return (end, here),
@@ -33,8 +50,8 @@ pub fn quoted_run(source: &Chars<'_>, from: usize, quote: char) -> (usize, usize
                 if is_white(c) {
                     here = to;
                 } else if is_verbatim(quote, c) {
-                    end = to;
-                    here = to;
+                    end = skip_quoted(source, to, quote);
+                    here = end;
                 } else {
                     return (end, here);
                 }

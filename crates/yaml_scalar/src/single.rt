@@ -1,11 +1,12 @@
 //! Single-quoted scalars (YAML 1.2.2, 7.3.2).
-ghost use Rattle.std.specs.Prelude.{◌≡◌, ◌<◌, IfOk, IsUtf8, ℤ, pos, ◌≤ℤ◌, nat_abs};
+ghost use Rattle.std.specs.Prelude.{◌≡◌, ◌<◌, IfOk, IsUtf8, ℤ, pos, ◌≤ℤ◌, nat_abs, IfErr};
 ghost use Rattle.std.specs.Str.{chars};
 ghost use Rattle.std.specs.Cow.{cow_str_bytes};
 ghost use Rattle.yaml_text.specs.Answer.{Only};
 ghost use Rattle.yaml_text.specs.EventModel.{context_of};
+ghost use Rattle.yaml_text.specs.Placed.{IsPlaced};
 ghost use Rattle.yaml_text.specs.Source.{text_of, place_of, IsBorder};
-ghost use Rattle.yaml_text.specs.grammar.FlowScalars.{single};
+ghost use Rattle.yaml_definitions.specs.grammar.FlowScalars.{c-single-quoted as single};
 ghost use Rattle.yaml_text.specs.Answer.{Answers};
 
 use crate::line::{columns, read_break};
@@ -33,6 +34,7 @@ fn single_from<'a>(
     ensures utf8 { IfOk result (λ r. IsUtf8 (cow_str_bytes r.0)) }
     ensures reads { Answers Only (single (text_of source.now) least (context_of context)) (place_of source.now at)
         (λ r. place_of source.now r.1) (λ r. chars (cow_str_bytes r.0)) result }
+    ensures placed { IfErr result (IsPlaced source.now) }
 {
     let Some(start) = accept(source, at, '\'') else {
         return Err(Fault::Syntax(source.pos(at)));
@@ -87,6 +89,7 @@ pub fn read_single<'a>(
     ensures utf8 { IfOk result (λ r. IsUtf8 (cow_str_bytes r.0)) }
     ensures reads { Answers Only (single (text_of source.now) (nat_abs n) (context_of context)) (place_of source.now at)
         (λ r. place_of source.now r.1) (λ r. chars (cow_str_bytes r.0)) result }
+    ensures placed { IfErr result (IsPlaced source.now) }
 {
     single_from(alloc, source, at, columns(n), context)
 }

@@ -4,7 +4,7 @@ ghost use Rattle.std.specs.Char.{encode_utf8};
 ghost use Rattle.std.specs.List.{All};
 ghost use Rattle.std.specs.Str.{encode_utf8_all};
 ghost use Rattle.std.specs.String.{string_bytes};
-ghost use Rattle.yaml_text.specs.CharText.{hex_digit, spell_char};
+ghost use Rattle.yaml_definitions.specs.canonical.CharText.{hex_digit, spell_char};
 ghost use Rattle.yaml_scalar.specs.Spelling.{Grows, quoted_bytes, spelled_chars, is_verbatim, code_text, byte_text};
 
 use std::alloc::AllocError;
@@ -40,7 +40,7 @@ pub fn spelled_len(text: &str) -> u128
 
 /// A character's spelling between double quotes, and how many bytes it has; the rest of the array is
 /// zero. A content's spelling is a quote, these texts in order, and a quote.
-#[tactic(auto, unfolding(yaml_text::specs::CharText::spell_char))]
+#[tactic(auto, unfolding(yaml_definitions::specs::canonical::CharText::spell_char))]
 pub fn spelled_char(c: char) -> ([u8; 6], usize)
     ensures text { take result.1 result.0 ≡ encode_utf8_all (spell_char c) }
     ensures len { result.1 ≡ length (encode_utf8_all (spell_char c)) }
@@ -92,7 +92,7 @@ fn escape(code: u32) -> ([u8; 6], usize)
 }
 
 /// How many bytes a character takes between double quotes.
-#[tactic(auto, unfolding(crate::specs::Spelling::is_verbatim, yaml_text::specs::CharText::spell_char))]
+#[tactic(auto, unfolding(crate::specs::Spelling::is_verbatim, yaml_definitions::specs::canonical::CharText::spell_char))]
 fn char_len(c: char) -> usize
     ensures len { result ≡ length (encode_utf8_all (spell_char c)) }
     ensures bound { result ≤ 6 }

@@ -3,10 +3,10 @@ use Rattle.std.proofs.Common.{◌≡◌, ◌≢◌, ℕ, zero, suc, ◌+◌, ◌
 use Rattle.std.specs.Prelude.{slice_get, ◌==◌, ◌&&◌}
 use Rattle.std.proofs.lemmas.Option.{slice_get_past}
 use Rattle.std.proofs.lemmas.Bool.{cases_lt, cases_eq}
-use Rattle.yaml_text.specs.grammar.Rules.{Span, Stands, Behind, run}
-use Rattle.yaml_text.specs.grammar.Characters.{is_white, is_ns, is_nb, is_break, is_space, brk}
-use Rattle.yaml_text.specs.grammar.Separation.{StartsLine, DocumentMarkOf, DocumentMark, Unmarked, AtEnd, indent}
-use Rattle.yaml_text.specs.Lines.{line_brk, Dashes, DashesOf}
+use Rattle.yaml_definitions.specs.grammar.Rules.{Span, Stands, Behind, run}
+use Rattle.yaml_definitions.specs.grammar.Characters.{is_white, is_ns, is_nb, is_break, is_space, b-break as brk}
+use Rattle.yaml_definitions.specs.grammar.Separation.{StartsLine, DocumentMarkOf, DocumentMark, Unmarked, AtEnd, s-indent as indent}
+use Rattle.yaml_text.specs.Lines.{line_brk, LooksLikeMarker as Dashes, DashesOf}
 use Rattle.yaml_text.proofs.Repeats.{SameEnd}
 use Rattle.yaml_text.proofs.Runs.{same_char, run_none, run_more, no_stand, no_stand_end}
 

@@ -3,9 +3,9 @@ use Rattle.std.proofs.Common.{◌≡◌, ◌≢◌, ℕ, ◌+◌, ◌-◌, ◌<�
 use Rattle.std.specs.Prelude.{slice_get, ◌==◌}
 use Rattle.std.proofs.lemmas.Option.{slice_get_past}
 use Rattle.std.proofs.Math.Nat.{eq-or-lt_of_le}
-use Rattle.yaml_text.specs.grammar.Rules.{run, Stands}
-use Rattle.yaml_text.specs.grammar.Characters.{is_space, is_nb, is_break, brk}
-use Rattle.yaml_text.specs.grammar.Separation.{AtEnd, StartsLine, line_end, indent}
+use Rattle.yaml_definitions.specs.grammar.Rules.{run, Stands}
+use Rattle.yaml_definitions.specs.grammar.Characters.{is_space, is_white, is_nb, is_break, b-break as brk}
+use Rattle.yaml_definitions.specs.grammar.Separation.{AtEnd, StartsLine, b-comment as line_end, s-indent as indent}
 use Rattle.yaml_text.specs.Lines.{line_brk}
 use Rattle.yaml_text.specs.Lines.{AfterLine, Inside, Uncut}
 use Rattle.yaml_text.proofs.Repeats.{SameEnd}
@@ -21,6 +21,10 @@ code_of c d t = grind (arith, t)
 the_space : (c : ℕ) → is_space c ≡ true → c ≡ 32
 unfolding is_space
 the_space c t = grind (arith, t)
+
+white_code : (c : ℕ) → is_white c ≡ true → (c ≡ 32) ⊎ (c ≡ 9)
+unfolding is_white
+white_code c t = grind (arith, t)
 
 no_break_nb : (c : ℕ) → c ≢ 10 → c ≢ 13 → is_nb c ≡ true
 unfolding is_nb is_break
@@ -168,6 +172,13 @@ module _ (cs : List ℕ) where
   -- no space where this character does not stand
   pub no_char_space : (i : ℕ) → slice_get cs i ≢ Some 32 → Stands cs is_space i → ⊥
   no_char_space i n (c, h, t) = n (h ∙ ap Some (the_space c t))
+
+  -- no white where neither of the two stands
+  pub no_code_white : (i : ℕ) → slice_get cs i ≢ Some 32 → slice_get cs i ≢ Some 9 → Stands cs is_white i → ⊥
+  no_code_white i a b (c, h, t) = elim (white_code c t) [
+    | inl e ↦ a (h ∙ ap Some e)
+    | inr e ↦ b (h ∙ ap Some e)
+  ]
 
   -- ---- runs of places
 

@@ -9,7 +9,8 @@ use Rattle.std.proofs.lemmas.Str.{IsUtf8-append, IsUtf8-past_char, chars_past_ch
 use Rattle.std.specs.Char.{encode_utf8}
 use Rattle.std.specs.List.{All, starts_with}
 use Rattle.std.specs.Str.{encode_utf8_all, chars, IsUtf8}
-use Rattle.yaml_text.specs.Text.{is_text, byte_order_mark, mark_len, Text, IsFirstRefused, RefusesText}
+use Rattle.yaml_definitions.specs.model.Text.{is_text, byte_order_mark, mark_len, Text}
+use Rattle.yaml_text.specs.Refused.{IsFirstRefused, RefusesText}
 use Rattle.yaml_text.specs.declared.fault.Fault.{Fault}
 use Rattle.yaml_text.specs.declared.fault.Fault.TheVariants as fault
 

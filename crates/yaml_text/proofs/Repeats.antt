@@ -1,7 +1,7 @@
 -- Rules with one reading at each place, any number of times, up to a place where no more stands.
 use Rattle.std.proofs.Common.{◌≡◌, ℕ, ◌≤◌, List, [], ◌++◌, refl, sym, ◌∙◌, ap, subst, arith, append_assoc}
 use Rattle.std.proofs.lemmas.List.{append-nil}
-use Rattle.yaml_text.specs.grammar.Rules.{Span, Rule, Any, done, then, Spans}
+use Rattle.yaml_definitions.specs.grammar.Rules.{Span, Rule, Any, done, then, Spans}
 
 -- from a place the span has one end at most
 abbrev pub SameEnd : Span → Type 0

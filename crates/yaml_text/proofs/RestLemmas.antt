@@ -2,9 +2,9 @@
 use Rattle.std.proofs.Common.{◌≡◌, ◌≢◌, ℕ, ◌+◌, ◌<◌, ◌≤◌, ◌⊎◌, inl, inr, List, Some, Bool, true, false, refl, sym, ◌∙◌, ap, subst, arith}
 use Rattle.std.specs.Prelude.{slice_get, ◌==◌}
 use Rattle.std.proofs.Math.Nat.{eq-or-lt_of_le}
-use Rattle.yaml_text.specs.grammar.Rules.{◌◆◌, run, Stands, maybe}
-use Rattle.yaml_text.specs.grammar.Characters.{is_space, is_nb, is_break}
-use Rattle.yaml_text.specs.grammar.Separation.{StartsLine, line_end, comment, sep, s_b_comment, l_comment}
+use Rattle.yaml_definitions.specs.grammar.Rules.{◌◆◌, run, Stands, maybe}
+use Rattle.yaml_definitions.specs.grammar.Characters.{is_space, is_nb, is_break}
+use Rattle.yaml_definitions.specs.grammar.Separation.{StartsLine, b-comment as line_end, c-nb-comment-text as comment, s-separate-in-line as sep, s-b-comment as s_b_comment, l-comment as l_comment}
 use Rattle.yaml_text.specs.Lines.{AfterLine, blank_rest}
 use Rattle.yaml_text.proofs.Repeats.{SameEnd}
 use Rattle.yaml_text.proofs.Runs.{no_stand, run_none, run_same}

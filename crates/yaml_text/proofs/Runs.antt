@@ -1,7 +1,7 @@
 -- Runs of characters.
 use Rattle.std.proofs.Common.{◌≡◌, ℕ, ◌+◌, ◌<◌, ◌≤◌, List, Option, Some, None, Bool, true, false, sym, ◌∙◌, ap, arith}
 use Rattle.std.specs.Prelude.{slice_get}
-use Rattle.yaml_text.specs.grammar.Rules.{Stands, run}
+use Rattle.yaml_definitions.specs.grammar.Rules.{Stands, run}
 
 module _ (cs : List ℕ) where
   -- a character stands once

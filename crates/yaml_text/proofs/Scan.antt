@@ -7,8 +7,9 @@ use Rattle.std.specs.List.{All}
 use Rattle.std.specs.Char.{encode_utf8}
 use Rattle.std.specs.Str.{encode_utf8_all, all_scalars, IsUtf8, IsCharBoundary, chars}
 use Rattle.std.proofs.lemmas.Str.{encodes-append, encodes_same, chars_from_encodes, encode_ascii, IsUtf8-past_char, IsCharBoundary-from_drop}
-use Rattle.yaml_text.specs.Limits.{text_limit}
-use Rattle.yaml_text.specs.Text.{is_text, AllText, IsFirstRefused, IsScanned, Text, mark_len}
+use Rattle.yaml_definitions.specs.model.Limits.{text_limit}
+use Rattle.yaml_definitions.specs.model.Text.{is_text, Text, mark_len}
+use Rattle.yaml_text.specs.Refused.{AllText, IsFirstRefused, IsScanned}
 
 pub scanned_none : (text : List ℕ) → IsScanned text text
 scanned_none text = record { before = []; split = refl; permitted = search rules }

@@ -1,6 +1,6 @@
 -- What a call that reads says of its production.
 use Rattle.std.specs.Prelude.{◌≡◌, ℕ, ◌≤◌, Result, Ok, Err}
-use Rattle.yaml_text.specs.grammar.Rules.{Rule}
+use Rattle.yaml_definitions.specs.grammar.Rules.{Rule}
 use Rattle.yaml_text.specs.declared.fault.Fault.{Fault}
 use Rattle.yaml_text.specs.declared.fault.Fault.TheVariants as fault
 

@@ -2,9 +2,9 @@
 use Rattle.std.specs.Prelude.{◌≡◌, ◌++◌, List, map}
 use Rattle.std.specs.Option.{option_map}
 use Rattle.std.specs.Cow.{cow_str_bytes}
-use Rattle.yaml_text.specs.Event.{Event, Style, WrittenTag, untagged, non_specific, full, stream_start, stream_end, document_start, document_end, sequence_start, sequence_end, mapping_start, mapping_end, scalar_event, alias_event}
-use Rattle.yaml_text.specs.Event as plain
-use Rattle.yaml_text.specs.grammar.Separation.{Ctx, block_out, block_in, flow_out, flow_in, block_key, flow_key}
+use Rattle.yaml_definitions.specs.model.Event.{Event, Style, WrittenTag, untagged, non_specific, full, stream_start, stream_end, document_start, document_end, sequence_start, sequence_end, mapping_start, mapping_end, scalar_event, alias_event}
+use Rattle.yaml_definitions.specs.model.Event as plain
+use Rattle.yaml_definitions.specs.grammar.Separation.{Ctx, block_out, block_in, flow_out, flow_in, block_key, flow_key}
 use Rattle.yaml_text.specs.declared.event.Event as code
 use Rattle.yaml_text.specs.declared.event.Event.TheVariants as events
 use Rattle.yaml_text.specs.declared.event.EventTag as code_tag

@@ -1,8 +1,8 @@
 -- What stands on a line, as the calls on lines say it.
 use Rattle.std.specs.Prelude.{◌≡◌, ◌≢◌, ℕ, ◌+◌, ◌⊎◌, List, Bool, true, false, ◌==◌, Some, slice_get}
-use Rattle.yaml_text.specs.grammar.Rules.{Span, ◌◆◌, run, maybe, Stands, Behind}
-use Rattle.yaml_text.specs.grammar.Characters.{is_space, is_ns, is_nb}
-use Rattle.yaml_text.specs.grammar.Separation.{Ctx, block_out, block_in, flow_out, flow_in, block_key, flow_key, StartsLine, AtEnd, comment, line_end}
+use Rattle.yaml_definitions.specs.grammar.Rules.{Span, ◌◆◌, run, maybe, Stands, Behind}
+use Rattle.yaml_definitions.specs.grammar.Characters.{is_space, is_ns, is_nb}
+use Rattle.yaml_definitions.specs.grammar.Separation.{Ctx, block_out, block_in, flow_out, flow_in, block_key, flow_key, StartsLine, AtEnd, c-nb-comment-text as comment, b-comment as line_end}
 
 -- a key's context, which has one line
 abbrev pub is_key : Ctx → Bool
@@ -26,8 +26,8 @@ module _ (cs : List ℕ) where
   DashesOf c i = (slice_get cs i ≡ Some c) × (slice_get cs (i + 1) ≡ Some c) × (slice_get cs (i + 2) ≡ Some c)
       × (Stands cs is_ns (i + 3) → ⊥)
 
-  abbrev pub Dashes : ℕ → Type 0
-  Dashes i = DashesOf 45 i ⊎ DashesOf 46 i
+  abbrev pub LooksLikeMarker : ℕ → Type 0
+  LooksLikeMarker i = DashesOf 45 i ⊎ DashesOf 46 i
 
   -- a line starts here, or the text ends
   abbrev pub AfterLine : ℕ → Type 0

@@ -1,8 +1,9 @@
 //! A checked text.
 ghost use Rattle.std.specs.Prelude.{◌≡◌, ◌+◌, ◌≤◌, ◌<◌, true, false, length, drop, slice_index, IfOk, IfErr, MatchOption};
 ghost use Rattle.std.specs.Str.{IsCharBoundary, IsUtf8, chars};
-ghost use Rattle.yaml_text.specs.Text.{is_text, Text, RefusesText, IsFirstRefused, AllText, IsScanned, mark_len};
-ghost use Rattle.yaml_text.specs.Limits.{text_limit};
+ghost use Rattle.yaml_definitions.specs.model.Text.{is_text, Text, mark_len};
+ghost use Rattle.yaml_text.specs.Refused.{RefusesText, IsFirstRefused, AllText, IsScanned};
+ghost use Rattle.yaml_definitions.specs.model.Limits.{text_limit};
 
 use crate::class::is_text;
 use crate::fault::Fault;
@@ -36,7 +37,7 @@ fn skip_mark(text: &str) -> (&str, usize)
 }
 
 /// Whether a byte is an ASCII character that a text may hold. It has no branch, for `front_len`.
-#[tactic(auto, unfolding(crate::specs::grammar::Characters::is_printable))]
+#[tactic(auto, unfolding(yaml_definitions::specs::grammar::Characters::is_printable))]
 fn is_ascii_text(byte: u8) -> bool
     ensures ascii { result ≡ true → byte < 128 }
     ensures text { result ≡ true → is_text byte ≡ true }

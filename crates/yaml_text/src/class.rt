@@ -1,15 +1,15 @@
 //! The classes of characters (YAML 1.2.2, chapter 5).
 ghost use Rattle.std.specs.Prelude.{◌≡◌};
-ghost use Rattle.yaml_text.specs.Text.{is_text};
+ghost use Rattle.yaml_definitions.specs.model.Text.{is_text};
 ghost use Rattle.yaml_text.specs.EventModel.{context_of};
 ghost use Rattle.yaml_text.specs.Lines.{is_key};
-ghost use Rattle.yaml_text.specs.grammar.Characters.{is_printable, is_white, is_break, is_ns, is_word, is_uri, is_indicator, is_flow_indicator};
-ghost use Rattle.yaml_text.specs.grammar.FlowScalars.{is_flow, plain_safe};
+ghost use Rattle.yaml_definitions.specs.grammar.Characters.{is_printable, is_white, is_break, is_ns, is_word, is_uri, is_indicator, is_flow_indicator};
+ghost use Rattle.yaml_definitions.specs.grammar.FlowScalars.{is_flow, plain_safe};
 
 use crate::context::Ctx;
 
 /// Whether `c` is printable (5.1). U+FEFF is.
-#[tactic(auto, unfolding(crate::specs::grammar::Characters::is_printable))]
+#[tactic(auto, unfolding(yaml_definitions::specs::grammar::Characters::is_printable))]
 pub fn is_printable(c: char) -> bool
     ensures { result ≡ is_printable c }
 {
@@ -20,7 +20,7 @@ pub fn is_printable(c: char) -> bool
 }
 
 /// Whether `c` is a space or a tab (5.5).
-#[tactic(auto, unfolding(crate::specs::grammar::Characters::is_white))]
+#[tactic(auto, unfolding(yaml_definitions::specs::grammar::Characters::is_white))]
 pub fn is_white(c: char) -> bool
     ensures { result ≡ is_white c }
 {
@@ -28,7 +28,7 @@ pub fn is_white(c: char) -> bool
 }
 
 /// Whether `c` is a line feed or a carriage return (5.4).
-#[tactic(auto, unfolding(crate::specs::grammar::Characters::is_break))]
+#[tactic(auto, unfolding(yaml_definitions::specs::grammar::Characters::is_break))]
 pub fn is_break(c: char) -> bool
     ensures { result ≡ is_break c }
 {
@@ -36,7 +36,7 @@ pub fn is_break(c: char) -> bool
 }
 
 /// Whether `c` is an ASCII letter, a digit or `-` (5.6).
-#[tactic(auto, unfolding(crate::specs::grammar::Characters::is_word))]
+#[tactic(auto, unfolding(yaml_definitions::specs::grammar::Characters::is_word))]
 pub fn is_word(c: char) -> bool
     ensures { result ≡ is_word c }
 {
@@ -44,7 +44,7 @@ pub fn is_word(c: char) -> bool
 }
 
 /// Whether `c` stands for itself in a URI (5.6). `%` does not.
-#[tactic(auto, unfolding(crate::specs::grammar::Characters::is_uri))]
+#[tactic(auto, unfolding(yaml_definitions::specs::grammar::Characters::is_uri))]
 pub fn is_uri(c: char) -> bool
     ensures { result ≡ is_uri c }
 {
@@ -75,7 +75,7 @@ pub fn is_uri(c: char) -> bool
 }
 
 /// Whether `c` is a bracket, a brace or a comma (5.3).
-#[tactic(auto, unfolding(crate::specs::grammar::Characters::is_flow_indicator))]
+#[tactic(auto, unfolding(yaml_definitions::specs::grammar::Characters::is_flow_indicator))]
 pub fn is_flow_indicator(c: char) -> bool
     ensures { result ≡ is_flow_indicator c }
 {
@@ -83,7 +83,7 @@ pub fn is_flow_indicator(c: char) -> bool
 }
 
 /// Whether a character is no white and no break (YAML 1.2.2, 5.5).
-#[tactic(auto, unfolding(crate::specs::grammar::Characters::is_ns, crate::specs::grammar::Characters::is_nb))]
+#[tactic(auto, unfolding(yaml_definitions::specs::grammar::Characters::is_ns, yaml_definitions::specs::grammar::Characters::is_nb))]
 pub fn is_ns(c: char) -> bool
     ensures { result ≡ is_ns c }
 {
@@ -91,7 +91,7 @@ pub fn is_ns(c: char) -> bool
 }
 
 /// Whether a character has a meaning of its own where a node begins (5.3).
-#[tactic(auto, unfolding(crate::specs::grammar::Characters::is_indicator))]
+#[tactic(auto, unfolding(yaml_definitions::specs::grammar::Characters::is_indicator))]
 pub fn is_indicator(c: char) -> bool
     ensures { result ≡ is_indicator c }
 {
@@ -119,7 +119,7 @@ pub fn is_indicator(c: char) -> bool
 }
 
 /// Whether a context is inside a flow collection.
-#[tactic(auto, unfolding(crate::specs::grammar::FlowScalars::is_flow))]
+#[tactic(auto, unfolding(yaml_definitions::specs::grammar::FlowScalars::is_flow))]
 pub fn is_flow(context: Ctx) -> bool
     ensures { result ≡ is_flow (context_of context) }
 {
@@ -148,7 +148,7 @@ pub fn is_key(context: Ctx) -> bool
 }
 
 /// Whether a character is safe in a plain scalar (7.3.3).
-#[tactic(auto, unfolding(crate::specs::grammar::FlowScalars::plain_safe))]
+#[tactic(auto, unfolding(yaml_definitions::specs::grammar::FlowScalars::plain_safe))]
 pub fn is_plain_safe(context: Ctx, c: char) -> bool
     ensures { result ≡ plain_safe (context_of context) c }
 {

@@ -8,8 +8,6 @@ pub mod counted;
 pub mod event;
 pub mod fault;
 pub mod front;
-pub mod grammar_laws;
-pub mod laws;
 pub mod limits;
 pub mod lines;
 pub mod places;

@@ -1,6 +1,6 @@
 //! The limits of the profile, each tied to its definition.
 ghost use Rattle.std.specs.Prelude.{◌≡◌};
-ghost use Rattle.yaml_text.specs.Limits as limit;
+ghost use Rattle.yaml_definitions.specs.model.Limits as limit;
 
 /// The greatest length of an input and of a canonical text, in bytes.
 pub fn text_limit() -> usize

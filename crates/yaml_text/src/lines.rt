@@ -3,19 +3,21 @@
 ghost use Rattle.std.specs.Prelude.{◌≡◌, ◌≢◌, ◌≤◌, ◌<◌, ◌+◌, IfSome, IfNone, Some, slice_get, slice_index, length, ℕ, true, false};
 ghost use Rattle.std.specs.Bool.{OnTrue, OnFalse};
 ghost use Rattle.yaml_text.specs.Answer.{IsSyntaxFault, IsRefusal};
-ghost use Rattle.yaml_text.specs.Lines.{line_brk, DashesOf, Dashes, AfterLine, Uncut, blank_rest};
+ghost use Rattle.yaml_text.specs.Placed.{IsPlaced};
+ghost use Rattle.yaml_text.specs.Lines.{line_brk, DashesOf, LooksLikeMarker, AfterLine, Uncut, blank_rest};
 ghost use Rattle.yaml_text.specs.Source.{bytes_of, mark_of, text_of, place_of, IsBorder};
-ghost use Rattle.yaml_text.specs.grammar.Characters.{is_space, is_white, is_nb};
-ghost use Rattle.yaml_text.specs.grammar.Rules.{run, Stands, any_span, ◌◆◌};
-ghost use Rattle.yaml_text.specs.grammar.Separation.{StartsLine, DocumentMark, indent, line_end, comment, l_comment};
+ghost use Rattle.yaml_definitions.specs.grammar.Characters.{is_space, is_white, is_nb};
+ghost use Rattle.yaml_definitions.specs.grammar.Rules.{run, Stands, any_span, ◌◆◌};
+ghost use Rattle.yaml_definitions.specs.grammar.Separation.{StartsLine, DocumentMark, s-indent as indent, b-comment as line_end, c-nb-comment-text as comment, l-comment as l_comment};
 
 use crate::chars::Chars;
-use crate::class::{is_break, is_ns, is_white};
+use crate::class::{is_break, is_ns};
 use crate::fault::Fault;
-use crate::front::front_len;
+use crate::front::{front_len, len_by_one};
 use crate::places::{accept, is_border, next};
 
 /// How many spaces stand at a border, and the border after them.
+#[inline]
 pub fn skip_spaces(source: &Chars<'_>, at: usize) -> (usize, usize)
     requires { IsBorder source.now at }
     ensures border { IsBorder source.now result.1 }
@@ -38,6 +40,7 @@ pub fn skip_spaces(source: &Chars<'_>, at: usize) -> (usize, usize)
 }
 
 /// The border after the whites that stand at a border.
+#[inline]
 pub fn skip_whites(source: &Chars<'_>, at: usize) -> usize
     requires { IsBorder source.now at }
     ensures border { IsBorder source.now result }
@@ -47,20 +50,18 @@ pub fn skip_whites(source: &Chars<'_>, at: usize) -> usize
 {
     let mut here = at;
     'whites: loop {
-        match next(source, here) {
-            None => return here,
-            Some((c, to)) => {
-                if is_white(c) {
-                    here = to;
-                } else {
-                    return here;
-                }
-            }
+        match accept(source, here, ' ') {
+            Some(to) => here = to,
+            None => match accept(source, here, '\t') {
+                Some(to) => here = to,
+                None => return here,
+            },
         }
     }
 }
 
 /// The border after the break that stands at a border.
+#[inline]
 pub fn line_break(source: &Chars<'_>, at: usize) -> Option<usize>
     requires { IsBorder source.now at }
     ensures border { IfSome result (λ to. IsBorder source.now to) }
@@ -81,6 +82,7 @@ pub fn line_break(source: &Chars<'_>, at: usize) -> Option<usize>
 }
 
 /// The border after the end of a line that stands at a border: after a break, or at the end of the text.
+#[inline]
 pub fn end_line(source: &Chars<'_>, at: usize) -> Option<usize>
     requires border { IsBorder source.now at }
     requires uncut { Uncut (text_of source.now) (place_of source.now at) }
@@ -99,7 +101,7 @@ pub fn end_line(source: &Chars<'_>, at: usize) -> Option<usize>
 }
 
 /// Whether a byte is an ASCII character of a line, which is no break. It has no branch, for `front_len`.
-#[tactic(auto, unfolding(crate::specs::grammar::Characters::is_nb, crate::specs::grammar::Characters::is_break))]
+#[tactic(auto, unfolding(yaml_definitions::specs::grammar::Characters::is_nb, yaml_definitions::specs::grammar::Characters::is_break))]
 fn is_ascii_nb(byte: u8) -> bool
     ensures ascii { result ≡ true → byte < 128 }
     ensures line { result ≡ true → is_nb byte ≡ true }
@@ -117,6 +119,17 @@ fn skip_ascii(source: &Chars<'_>, at: usize) -> usize
     ensures furthest { result < length (bytes_of source.now) → slice_index (bytes_of source.now) result < 128 → is_nb (slice_index (bytes_of source.now) result) ≡ false }
 {
     at + front_len(source.rest(at).as_bytes(), is_ascii_nb)
+}
+
+/// Whether all that stands between two borders is ASCII characters of a line, so that it has as many characters as bytes.
+pub fn is_ascii_line(source: &Chars<'_>, from: usize, to: usize) -> bool
+    requires from { IsBorder source.now from }
+    requires to { IsBorder source.now to }
+    requires order { from ≤ to }
+    ensures { OnTrue result (run (text_of source.now) is_nb (place_of source.now from) (place_of source.now to) × (place_of source.now to + from ≡ place_of source.now from + to)) }
+{
+    let bytes = &source.rest(from).as_bytes()[..to - from];
+    len_by_one(bytes, &is_ascii_nb) == bytes.len()
 }
 
 /// The end of a line's characters from a border on, and the border after their line.
@@ -208,6 +221,7 @@ pub fn skip_comments(source: &Chars<'_>, at: usize) -> usize
 }
 
 /// Whether three of a character, and then no character of a line but a white, stand at a border.
+#[inline]
 pub fn is_mark_of(source: &Chars<'_>, at: usize, c: char) -> bool
     requires { IsBorder source.now at }
     ensures yes { OnTrue result (DashesOf (text_of source.now) c (place_of source.now at)) }
@@ -231,8 +245,8 @@ pub fn is_mark_of(source: &Chars<'_>, at: usize, c: char) -> bool
 /// Whether what stands at a border is a document mark, if it begins a line.
 pub fn is_mark(source: &Chars<'_>, at: usize) -> bool
     requires { IsBorder source.now at }
-    ensures yes { OnTrue result (Dashes (text_of source.now) (place_of source.now at)) }
-    ensures no { OnFalse result (Dashes (text_of source.now) (place_of source.now at) → ⊥) }
+    ensures yes { OnTrue result (LooksLikeMarker (text_of source.now) (place_of source.now at)) }
+    ensures no { OnFalse result (LooksLikeMarker (text_of source.now) (place_of source.now at) → ⊥) }
 {
     is_mark_of(source, at, '-') || is_mark_of(source, at, '.')
 }
@@ -245,6 +259,10 @@ pub fn starts_line(source: &Chars<'_>, at: usize) -> bool
 {
     if at == 0 {
         return true;
+    }
+    let before = source.rest(0).as_bytes()[at - 1];
+    if before != b'\n' && before != b'\r' {
+        return false;
     }
     if !is_border(source, at - 1) {
         return false;
@@ -274,6 +292,7 @@ pub fn unusable(source: &Chars<'_>, at: usize) -> Fault
     requires { IsBorder source.now at }
     ensures unread { IsSyntaxFault result }
     ensures refusal { IsRefusal result }
+    ensures placed { IsPlaced source.now result }
     ensures tab { slice_get (text_of source.now) (place_of source.now at) ≡ Some 9 → result ≡ Fault.Tab (mark_of source.now + at) }
     ensures other { slice_get (text_of source.now) (place_of source.now at) ≢ Some 9 → result ≡ Fault.Syntax (mark_of source.now + at) }
 {

@@ -3,10 +3,10 @@ use Rattle.yaml_text.specs.EventModel.{event_of}
 use Rattle.std.proofs.lemmas.Result.{IfOk-weaker}
 use Rattle.std.specs.List.{All}
 use Rattle.std.specs.String.{string_bytes}
-use Rattle.yaml_text.specs.EventText.{IsSound, EventText}
+use Rattle.yaml_definitions.specs.model.EventText.{IsSound, EventText}
 use Rattle.yaml_text.specs.Source.{text_of}
-use Rattle.yaml_text.specs.grammar.Reading.{Reads}
-use Rattle.yaml_text.proofs.MeaningLaws.{readings_have_text}
+use Rattle.yaml_definitions.specs.grammar.Reading.{Reads}
+use Rattle.yaml_definitions.proofs.MeaningLaws.{readings_have_text}
 use Rattle.yaml_event_text.proofs.Reading.{unread}
 use Rattle.yaml_event_text.proofs.event_text.Goals as goal
 

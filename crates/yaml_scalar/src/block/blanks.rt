@@ -1,10 +1,10 @@
 //! Spaces up to an indentation, and the comment lines after a block scalar.
 ghost use Rattle.std.specs.Prelude.{◌≤◌, ◌<◌};
 ghost use Rattle.yaml_text.specs.Source.{text_of, place_of, IsBorder};
-ghost use Rattle.yaml_text.specs.grammar.Rules.{Stands, maybe, furthest_span};
-ghost use Rattle.yaml_text.specs.grammar.Characters.{is_space};
-ghost use Rattle.yaml_text.specs.grammar.Separation.{indent};
-ghost use Rattle.yaml_text.specs.grammar.BlockScalars.{comment_lines};
+ghost use Rattle.yaml_definitions.specs.grammar.Rules.{Stands, maybe, furthest_span};
+ghost use Rattle.yaml_definitions.specs.grammar.Characters.{is_space};
+ghost use Rattle.yaml_definitions.specs.grammar.Separation.{s-indent as indent};
+ghost use Rattle.yaml_definitions.specs.grammar.BlockScalars.{l-trail-comments as comment_lines};
 
 use yaml_text::chars::Chars;
 use yaml_text::lines::{read_comment, skip_comments};

@@ -2,12 +2,13 @@
 ghost use Rattle.std.specs.Prelude.{◌≡◌, ◌≤◌, ◌++◌, IfOk, IfErr, IfSome};
 ghost use Rattle.std.specs.Str.{chars};
 ghost use Rattle.std.specs.String.{string_bytes};
+ghost use Rattle.yaml_text.specs.Placed.{IsPlaced};
 ghost use Rattle.yaml_text.specs.Source.{text_of, place_of, IsBorder};
 ghost use Rattle.std.specs.Bool.{OnTrue, OnFalse};
-ghost use Rattle.yaml_text.specs.grammar.Rules.{Stands};
-ghost use Rattle.yaml_text.specs.grammar.Characters.{is_white};
+ghost use Rattle.yaml_definitions.specs.grammar.Rules.{Stands};
+ghost use Rattle.yaml_definitions.specs.grammar.Characters.{is_white};
 ghost use Rattle.yaml_text.specs.Answer.{Unread};
-ghost use Rattle.yaml_text.specs.grammar.BlockScalars.{indentation};
+ghost use Rattle.yaml_definitions.specs.grammar.BlockScalars.{indentation};
 ghost use Rattle.yaml_text.specs.Answer.{ScalarFaultMeans};
 ghost use Rattle.yaml_scalar.specs.BlockRules.{block_lines};
 ghost use Rattle.yaml_text.specs.Lines.{AfterLine};
@@ -117,6 +118,7 @@ pub fn read_content(
     ensures lines { IfOk result (λ r. block_lines (text_of source.now) is_folded (header_of header) r.2
         (place_of source.now at) (place_of source.now r.1) (chars (string_bytes r.0))) }
     ensures none { IfErr result (λ e. ScalarFaultMeans e (Unread (indentation (text_of source.now) col header.digit) (place_of source.now at))) }
+    ensures placed { IfErr result (IsPlaced source.now) }
 {
     let start = match read_start(source, at, col, header) {
         Ok(start) => start,

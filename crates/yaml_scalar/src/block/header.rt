@@ -1,10 +1,11 @@
 //! The header of a block scalar (8.1.1).
 ghost use Rattle.std.specs.Prelude.{◌≡◌, ◌≤◌, IfOk, IfErr, IfSome};
 ghost use Rattle.std.specs.Int.{is_in_range};
+ghost use Rattle.yaml_text.specs.Placed.{IsPlaced};
 ghost use Rattle.yaml_text.specs.Source.{text_of, place_of, IsBorder};
-ghost use Rattle.yaml_text.specs.grammar.Rules.{Stands};
+ghost use Rattle.yaml_definitions.specs.grammar.Rules.{Stands};
 ghost use Rattle.yaml_text.specs.Answer.{Unread};
-ghost use Rattle.yaml_text.specs.grammar.BlockScalars.{indentation_indicator, chomping_indicator, header};
+ghost use Rattle.yaml_definitions.specs.grammar.BlockScalars.{c-indentation-indicator as indentation_indicator, c-chomping-indicator as chomping_indicator, c-b-block-header as header};
 ghost use Rattle.yaml_text.specs.Answer.{ScalarFaultMeans};
 ghost use Rattle.yaml_scalar.specs.BlockRules.{is_sign, EndIndicators, indicators};
 ghost use Rattle.yaml_text.specs.Lines.{AfterLine, Inside};
@@ -115,6 +116,7 @@ pub fn read_header(source: &Chars<'_>, at: usize) -> Result<(Header, usize), Fau
     ensures after { IfOk result (λ r. AfterLine (text_of source.now) (place_of source.now r.1)) }
     ensures header { IfOk result (λ r. header (text_of source.now) (place_of source.now at) (place_of source.now r.1) (header_of r.0)) }
     ensures none { IfErr result (λ e. ScalarFaultMeans e (Unread (header (text_of source.now)) (place_of source.now at))) }
+    ensures placed { IfErr result (IsPlaced source.now) }
 {
     let (header, end) = read_indicators(source, at);
     match accept(source, end, '#') {

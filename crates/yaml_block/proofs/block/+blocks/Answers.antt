@@ -1,26 +1,27 @@
-use Rattle.std.proofs.Common.{◌≡◌, ◌⊎◌, ℕ, suc, false, ◌+◌, ◌-◌, ◌<◌, ◌≤◌, List, [], ◌∷◌, ◌++◌, Some, None, refl, sym, ◌∙◌, ap, subst, arith, inl, inr, length}
-use Rattle.std.specs.Prelude.{IfOk, insert, Result, Ok, Err}
+use Rattle.std.proofs.Common.{◌≡◌, ◌⊎◌, ℕ, suc, false, ◌+◌, ◌-◌, ◌<◌, ◌≤◌, List, [], ◌∷◌, ◌++◌, Some, None, refl, sym, ap, subst, arith, inl, inr}
+use Rattle.std.specs.Prelude.{IfOk, Result, Ok, Err}
 use Rattle.std.proofs.lemmas.Option.{MatchOption-at_some}
 use Rattle.yaml_text.specs.declared.fault.Fault.{Fault}
-use Rattle.yaml_text.specs.Event.{Event, sequence_end, mapping_end}
+use Rattle.yaml_definitions.specs.model.Event.{Event, sequence_end, mapping_end}
 use Rattle.yaml_text.specs.EventModel.{context_of}
 use Rattle.yaml_text.specs.Source.{text_of, place_of, IsBorder}
 use Rattle.yaml_text.specs.declared.chars.Chars.{Chars}
-use Rattle.yaml_text.specs.grammar.Rules.{◌▸◌}
-use Rattle.yaml_text.specs.grammar.Separation.{s_l_comments, flow_out, block_key, block_in, block_out, indent}
-use Rattle.yaml_text.specs.grammar.Tags.{Handles}
-use Rattle.yaml_text.specs.grammar.Events.{no_props, empty, seq_start, map_start}
+use Rattle.yaml_definitions.specs.grammar.Rules.{◌▸◌}
+use Rattle.yaml_definitions.specs.grammar.Separation.{s-l-comments as s_l_comments, flow_out, block_key, block_in, block_out, s-indent as indent}
+use Rattle.yaml_definitions.specs.grammar.Tags.{Handles}
+use Rattle.yaml_definitions.specs.grammar.Events.{no_props, e-scalar as empty, seq_start, map_start}
 use Rattle.yaml_text.proofs.Tests.{on_true_at, on_false_at}
 use Rattle.yaml_mark.specs.HandlesModel.{handles_of}
-use Rattle.yaml_unique.specs.Follows.{Dash}
-use Rattle.yaml_complete.specs.Decisions.{Here}
-use Rattle.yaml_complete.proofs.Decisions.{rest_rest, rest_goes, rest_refused}
+use Rattle.law_one_reading.specs.Follows.{Dash}
+use Rattle.law_going_on.specs.Decisions.{Here}
+use Rattle.law_going_on.proofs.Decisions.{rest_rest, rest_goes, rest_refused}
 use Rattle.yaml_flow.specs.Answer.{Decides}
 use Rattle.yaml_flow.specs.Lines.{IsLine, IsDash}
 use Rattle.yaml_flow.specs.Keys.{ColonAfter}
 use Rattle.yaml_flow.specs.PropertyRules.{props_of, both_props, dressed, SomeProperties}
 use Rattle.yaml_flow.specs.declared.line.Line.{Line}
-use Rattle.yaml_flow.proofs.AnswerLemmas.{appends_by, adds_one, adds_on, adds_before}
+use Rattle.yaml_flow.specs.SinkModel.{holds_of}
+use Rattle.yaml_flow.proofs.AnswerLemmas.{appends_by, puts_on, puts_after, puts_altered}
 use Rattle.yaml_flow.proofs.PropertyLemmas.{own_marks}
 use Rattle.yaml_flow.proofs.FlowLemmas.{bare_flow}
 use Rattle.yaml_flow.proofs.PropertyDecisions.{or_else, line_all}
@@ -29,7 +30,8 @@ use Rattle.yaml_block.specs.BlockRules.{block_scalar_rest, node_rest, line_rest,
 use Rattle.yaml_block.specs.BlockEnds.{AfterNode, AfterEntry, AfterSequence, AfterMapping, IsNoKey}
 use Rattle.yaml_block.specs.OuterRules.{above, Above, column_of, properties_left}
 use Rattle.yaml_block.proofs.BlockLemmas.{line_value, same_value, line_entry, sequence_entry, node_entry, dash_entry, seq_entry_at, map_entry_at, sequence_done, value_key, mapping_done, key_entry, joined_more, joined_start}
-use Rattle.yaml_block.proofs.OuterLemmas.{column_none, column_free, marked_column, any_column, above_own, line_own, follows_before, block_scalar, no_key, keyed, marked_nothing, marked_sequence, fewer_left, adds_longer}
+use Rattle.yaml_block.proofs.OuterLemmas.{column_none, column_free, marked_column, any_column, above_own, line_own, follows_before, block_scalar, no_key, keyed, marked_nothing, marked_sequence, fewer_left}
+use Rattle.yaml_block.proofs.KeyDecisions.{puts_become}
 use Rattle.yaml_block.proofs.Found.{found_is, none_is}
 use Rattle.yaml_block.proofs.Places.{places_up}
 use Rattle.yaml_block.proofs.Passing.{decides_rest, sign_of, scalar_done, scalar_none, keyed_none_below}
@@ -59,68 +61,68 @@ next_entry s handles line room k i after j es fs is e d body entry =
 -- ---- values
 
 pub read_value-returns-in-Some-clause-reads : goal.read_value-returns-in-Some-clause-reads
-read_value-returns-in-Some-clause-reads t c =
+read_value-returns-in-Some-clause-reads g t c =
     let cs = text_of c.args.source.now in
     let h = handles_of c.args.handles in
     appends_by (λ _. line_rest cs (Unit {0}) h c.args.room c.args.col (context_of c.args.context)) (λ _. value_rest cs (Unit {0}) h c.args.room c.args.col (context_of c.args.context))
-    (place_of c.args.source.now c.line_at-line.result.start) (place_of c.args.source.now c.args.at) (λ line. place_of c.args.source.now line.start) _ _ c.read_below.result
+    (place_of c.args.source.now c.line_at-line.result.start) (place_of c.args.source.now c.args.at) (λ line. place_of c.args.source.now line.start) (holds_of g.K.Keeper.holds) _ _ c.read_below.result
     (λ x es r. line_value cs (Unit {0}) h c.args.room c.args.col (context_of c.args.context) _ _ _ es c.requires.block
     (moved c.args.source.now _ _ _ c.line_at-line.ensures.start c.in-Some.ensures.some) r) c.read_below.ensures.reads
 
 pub read_value-returns-else-count-eq0-clause-reads : goal.read_value-returns-else-count-eq0-clause-reads
-read_value-returns-else-count-eq0-clause-reads t c =
+read_value-returns-else-count-eq0-clause-reads g t c =
     let s = c.args.source.now in
     let cs = text_of s in
     let h = handles_of c.args.handles in
     let p = props_of c.none-outer.result in
     appends_by (λ _. node_rest cs (Unit {0}) h c.args.room c.args.col (context_of c.args.context) (column_of p None)) (λ _. value_rest cs (Unit {0}) h c.args.room c.args.col (context_of c.args.context))
-    (place_of s c.skip_spaces-count.result.1) (place_of s c.args.at) (λ line. place_of s line.start) _ _ c.read_node.result
+    (place_of s c.skip_spaces-count.result.1) (place_of s c.args.at) (λ line. place_of s line.start) (holds_of g.K.Keeper.holds) _ _ c.read_node.result
     (λ x es r. same_value cs (Unit {0}) h c.args.room c.args.col (context_of c.args.context) _ _ _ _ es c.requires.block
     c.skip_spaces-count.ensures.spaces (omega (arith, c.if-count-eq0.false))
     (subst (λ o. node_rest cs (Unit {0}) h c.args.room c.args.col (context_of c.args.context) o (place_of s c.skip_spaces-count.result.1) (place_of s x.start) es) (column_none p) r)) c.read_node.ensures.reads
 
 pub read_value-returns-in-Some-clause-onward : goal.read_value-returns-in-Some-clause-onward
-read_value-returns-in-Some-clause-onward t c =
+read_value-returns-in-Some-clause-onward g t c =
     if_ok (λ line. c.line_at-line.result.start ≤ line.start) (λ line. c.args.at ≤ line.start) c.read_below.result
     (λ x h. omega (arith, h, c.in-Some.ensures.onward, c.line_at-line.ensures.start)) c.read_below.ensures.onward
 
 -- ---- entries of a sequence
 
 pub read_indented-returns-in-Some-clause-onward : goal.read_indented-returns-in-Some-clause-onward
-read_indented-returns-in-Some-clause-onward t c =
+read_indented-returns-in-Some-clause-onward g t c =
     if_ok (λ line. c.line_at-line.result.start ≤ line.start) (λ line. c.args.at ≤ line.start) c.read_below.result
     (λ x h. omega (arith, h, c.in-Some.ensures.onward, c.line_at-line.ensures.start)) c.read_below.ensures.onward
 
 pub read_indented-returns-in-Some-clause-reads : goal.read_indented-returns-in-Some-clause-reads
-read_indented-returns-in-Some-clause-reads t c =
+read_indented-returns-in-Some-clause-reads g t c =
     let cs = text_of c.args.source.now in
     let h = handles_of c.args.handles in
     appends_by (λ _. line_rest cs (Unit {0}) h c.args.room (c.args.column + 1) block_in) (λ _. entry_rest cs (Unit {0}) h c.args.room c.args.column)
-    (place_of c.args.source.now c.line_at-line.result.start) (place_of c.args.source.now c.args.at) (λ line. place_of c.args.source.now line.start) _ _ c.read_below.result
+    (place_of c.args.source.now c.line_at-line.result.start) (place_of c.args.source.now c.args.at) (λ line. place_of c.args.source.now line.start) (holds_of g.K.Keeper.holds) _ _ c.read_below.result
     (λ x es r. line_entry cs (Unit {0}) h c.args.room c.args.column _ _ _ es
     (moved c.args.source.now _ _ _ c.line_at-line.ensures.start c.in-Some.ensures.some) r) c.read_below.ensures.reads
 
 pub read_indented-returns-in-Some-dash-clause-reads : goal.read_indented-returns-in-Some-dash-clause-reads
-read_indented-returns-in-Some-dash-clause-reads t c =
+read_indented-returns-in-Some-dash-clause-reads g t c =
     let s = c.args.source.now in
     let cs = text_of s in
     let h = handles_of c.args.handles in
     let k = c.args.column + 1 + c.skip_spaces-count.result.0 in
     appends_by (λ _. sequence_with cs (Unit {0}) h (props_of c.none-outer.result) c.args.room k) (λ _. entry_rest cs (Unit {0}) h c.args.room c.args.column)
-    (place_of s c.skip_spaces-count.result.1) (place_of s c.args.at) (λ line. place_of s line.start) _ _ c.read_sequence.result
+    (place_of s c.skip_spaces-count.result.1) (place_of s c.args.at) (λ line. place_of s line.start) (holds_of g.K.Keeper.holds) _ _ c.read_sequence.result
     (λ x es r. sequence_entry cs (Unit {0}) h c.args.room c.args.column _ _ _ _ es
     c.skip_spaces-count.ensures.spaces (omega (arith, c.if-count-eq0.false))
     (subst (λ p. sequence_with cs (Unit {0}) h p c.args.room k (place_of s c.skip_spaces-count.result.1) (place_of s x.start) es) c.none-outer.ensures r)) c.read_sequence.ensures.reads
 
 pub read_indented-returns-in-None-dash-clause-reads : goal.read_indented-returns-in-None-dash-clause-reads
-read_indented-returns-in-None-dash-clause-reads t c =
+read_indented-returns-in-None-dash-clause-reads g t c =
     let s = c.args.source.now in
     let cs = text_of s in
     let h = handles_of c.args.handles in
     let p = props_of c.none-outer.result in
     let k = c.args.column + 1 + c.skip_spaces-count.result.0 in
     appends_by (λ _. node_rest cs (Unit {0}) h c.args.room (c.args.column + 1) block_in (column_of p (Some k))) (λ _. entry_rest cs (Unit {0}) h c.args.room c.args.column)
-    (place_of s c.skip_spaces-count.result.1) (place_of s c.args.at) (λ line. place_of s line.start) _ _ c.read_node.result
+    (place_of s c.skip_spaces-count.result.1) (place_of s c.args.at) (λ line. place_of s line.start) (holds_of g.K.Keeper.holds) _ _ c.read_node.result
     (λ x es r. node_entry cs (Unit {0}) h c.args.room c.args.column _ _ _ _ es
     c.skip_spaces-count.ensures.spaces (omega (arith, c.if-count-eq0.false))
     (subst (λ o. node_rest cs (Unit {0}) h c.args.room (c.args.column + 1) block_in o (place_of s c.skip_spaces-count.result.1) (place_of s x.start) es) (column_free p (Some k) c.none-outer.ensures) r)) c.read_node.ensures.reads
@@ -128,12 +130,12 @@ read_indented-returns-in-None-dash-clause-reads t c =
 -- ---- lines below
 
 pub read_below-returns-else-line-sequence_column-clause-reads : goal.read_below-returns-else-line-sequence_column-clause-reads
-read_below-returns-else-line-sequence_column-clause-reads t c =
+read_below-returns-else-line-sequence_column-clause-reads g t c =
     let s = c.args.source.now in
     let cs = text_of s in
     let h = handles_of c.args.handles in
     appends_by (λ _. sequence_with cs (Unit {0}) h (props_of c.none-outer.result) c.args.room c.args.line.column) (λ _. line_rest cs (Unit {0}) h c.args.room c.args.col (context_of c.args.context))
-    (place_of s c.args.line.first) (place_of s c.args.line.start) (λ line. place_of s line.start) _ _ c.read_sequence.result
+    (place_of s c.args.line.first) (place_of s c.args.line.start) (λ line. place_of s line.start) (holds_of g.K.Keeper.holds) _ _ c.read_sequence.result
     (λ x es r. inr (inl (
       c.args.line.column,
       (
@@ -147,13 +149,13 @@ read_below-returns-else-line-sequence_column-clause-reads t c =
     ))) c.read_sequence.ensures.reads
 
 pub read_below-returns-else-line-col-clause-reads : goal.read_below-returns-else-line-col-clause-reads
-read_below-returns-else-line-col-clause-reads t c =
+read_below-returns-else-line-col-clause-reads g t c =
     let s = c.args.source.now in
     let cs = text_of s in
     let h = handles_of c.args.handles in
     let p = props_of c.none-outer.result in
     appends_by (λ _. node_rest cs (Unit {0}) h c.args.room c.args.col (context_of c.args.context) (column_of p (Some c.args.line.column))) (λ _. line_rest cs (Unit {0}) h c.args.room c.args.col (context_of c.args.context))
-    (place_of s c.args.line.first) (place_of s c.args.line.start) (λ line. place_of s line.start) _ _ c.read_node.result
+    (place_of s c.args.line.first) (place_of s c.args.line.start) (λ line. place_of s line.start) (holds_of g.K.Keeper.holds) _ _ c.read_node.result
     (λ x es r. inl (
       c.args.line.column,
       (
@@ -166,49 +168,61 @@ read_below-returns-else-line-col-clause-reads t c =
       ),
     )) c.read_node.ensures.reads
 
+pub read_below-returns-then-not-has_content-clause-reads : goal.read_below-returns-then-not-has_content-clause-reads
+read_below-returns-then-not-has_content-clause-reads g t c = (empty no_props, c.in_ok-push_empty.ensures.ok, inr (inr (refl, refl)))
+
+pub read_below-returns-then-line-sequence_column-clause-reads : goal.read_below-returns-then-line-sequence_column-clause-reads
+read_below-returns-then-line-sequence_column-clause-reads g t c = (empty no_props, c.in_ok-push_empty-in-Some.ensures.ok, inr (inr (refl, refl)))
+
+pub read_below-returns-then-line-col-clause-reads : goal.read_below-returns-then-line-col-clause-reads
+read_below-returns-then-line-col-clause-reads g t c = (empty no_props, c.in_ok-push_empty-in-None.ensures.ok, inr (inr (refl, refl)))
+
 -- ---- lines below properties
 
 pub read_under-returns-then-not-has_content-clause-reads : goal.read_under-returns-then-not-has_content-clause-reads
-read_under-returns-then-not-has_content-clause-reads t c = (
+read_under-returns-then-not-has_content-clause-reads g t c = (
   empty (props_of c.args.outer),
   c.in_ok-push_lone.ensures.ok,
   marked_nothing (text_of c.args.source.now) (Unit {0}) (handles_of c.args.handles) c.args.room c.args.col (context_of c.args.context) None _ _ _ (props_of c.args.outer) _ c.requires.marks c.requires.comments refl,
 )
 
 pub read_under-returns-then-line-sequence_column-clause-reads : goal.read_under-returns-then-line-sequence_column-clause-reads
-read_under-returns-then-line-sequence_column-clause-reads t c = (
+read_under-returns-then-line-sequence_column-clause-reads g t c = (
   empty (props_of c.args.outer),
   c.in_ok-push_lone-in-Some.ensures.ok,
   marked_nothing (text_of c.args.source.now) (Unit {0}) (handles_of c.args.handles) c.args.room c.args.col (context_of c.args.context) None _ _ _ (props_of c.args.outer) _ c.requires.marks c.requires.comments refl,
 )
 
 pub read_under-returns-then-line-col-clause-reads : goal.read_under-returns-then-line-col-clause-reads
-read_under-returns-then-line-col-clause-reads t c = (
+read_under-returns-then-line-col-clause-reads g t c = (
   empty (props_of c.args.outer),
   c.in_ok-push_lone-in-None.ensures.ok,
   marked_nothing (text_of c.args.source.now) (Unit {0}) (handles_of c.args.handles) c.args.room c.args.col (context_of c.args.context) None _ _ _ (props_of c.args.outer) _ c.requires.marks c.requires.comments refl,
 )
 
 pub read_under-read_node-requires : goal.read_under-read_node-requires
-read_under-read_node-requires t c = (
+read_under-read_node-requires g t c = λ κs l. (
   omega arith,
   (
-    c.requires.line.first,
+    l,
     (
-      c.requires.border,
+      c.requires.line.first,
       (
-        omega (arith, c.requires.order, c.requires.line.wide),
+        c.requires.border,
         (
-          c.requires.low,
+          omega (arith, c.requires.order, c.requires.line.wide),
           (
-            c.requires.block,
+            c.requires.low,
             (
-              omega (arith, c.requires.line.wide),
+              c.requires.block,
               (
-                omega (arith, c.if-line-col.false),
-                let yes = on_true_at c.has_content.result c.if-not-has_content.false c.has_content.ensures.yes in
-                    above _ _ c.args.line.column c.requires.marks c.requires.comments c.requires.line.spaces (omega (arith, c.if-line-col.false)) refl c.requires.above c.requires.line.stuck c.requires.line.all c.in-None.ensures.none
-                    (no_end c.args.source.now c.args.line c.requires.line yes.0) (no_mark c.args.source.now c.args.line c.requires.line yes.1),
+                omega (arith, c.requires.line.wide),
+                (
+                  omega (arith, c.if-line-col.false),
+                  let yes = on_true_at c.has_content.result c.if-not-has_content.false c.has_content.ensures.yes in
+                      above _ _ c.args.line.column c.requires.marks c.requires.comments c.requires.line.spaces (omega (arith, c.if-line-col.false)) refl c.requires.above c.requires.line.stuck c.requires.line.all c.in-None.ensures.none
+                      (no_end c.args.source.now c.args.line c.requires.line yes.0) (no_mark c.args.source.now c.args.line c.requires.line yes.1),
+                ),
               ),
             ),
           ),
@@ -219,29 +233,29 @@ read_under-read_node-requires t c = (
 )
 
 pub read_under-returns-else-line-sequence_column-clause-reads : goal.read_under-returns-else-line-sequence_column-clause-reads
-read_under-returns-else-line-sequence_column-clause-reads t c =
+read_under-returns-else-line-sequence_column-clause-reads g t c =
     let s = c.args.source.now in
     let cs = text_of s in
     let h = handles_of c.args.handles in
     appends_by (λ _. sequence_with cs (Unit {0}) h (props_of c.args.outer) c.args.room c.args.line.column) (λ _. node_rest cs (Unit {0}) h c.args.room c.args.col (context_of c.args.context) None)
-    (place_of s c.args.line.first) (place_of s c.args.from) (λ line. place_of s line.start) _ _ c.read_sequence.result
+    (place_of s c.args.line.first) (place_of s c.args.from) (λ line. place_of s line.start) (holds_of g.K.Keeper.holds) _ _ c.read_sequence.result
     (λ x es r. marked_sequence cs (Unit {0}) h c.args.room c.args.col c.args.line.column (context_of c.args.context) None _ _ _ _ _ (props_of c.args.outer) es c.requires.marks c.requires.comments
     (subst (λ n. n ≤ c.args.line.column) c.sequence_column.ensures c.if-line-sequence_column.false) c.requires.line.spaces r) c.read_sequence.ensures.reads
 
 pub read_under-returns-else-line-col-clause-reads : goal.read_under-returns-else-line-col-clause-reads
-read_under-returns-else-line-col-clause-reads t c =
+read_under-returns-else-line-col-clause-reads g t c =
     let s = c.args.source.now in
     let cs = text_of s in
     let h = handles_of c.args.handles in
     let p = props_of c.args.outer in
     appends_by (λ _. node_rest cs (Unit {0}) h c.args.room c.args.col (context_of c.args.context) (column_of p (Some c.args.line.column))) (λ _. node_rest cs (Unit {0}) h c.args.room c.args.col (context_of c.args.context) None)
-    (place_of s c.args.from) (place_of s c.args.from) (λ line. place_of s line.start) _ _ c.read_node.result
+    (place_of s c.args.from) (place_of s c.args.from) (λ line. place_of s line.start) (holds_of g.K.Keeper.holds) _ _ c.read_node.result
     (λ x es r. subst (λ o. node_rest cs (Unit {0}) h c.args.room c.args.col (context_of c.args.context) o (place_of s c.args.from) (place_of s x.start) es) (marked_column cs (Unit {0}) h c.args.col _ _ p (Some c.args.line.column) c.requires.marks) r) c.read_node.ensures.reads
 
 -- ---- sequences
 
 pub read_sequence-entries-init : goal.read_sequence-entries-init
-read_sequence-entries-init t c =
+read_sequence-entries-init g t c =
     let s = c.args.source.now in
     let cs = text_of s in
     let h = handles_of c.args.handles in
@@ -253,7 +267,7 @@ read_sequence-entries-init t c =
       onward = omega (arith, c.requires.dash.dash.forward, c.in_ok-line.ensures.onward);
       reads = (
         n.0,
-        adds_on c.args.out.now.items c.push.new.self.items _ (first ∷ []) n.0 (adds_one _ _ _ _ c.block_sequence.ensures c.in_ok-push.ensures.items) n.1,
+        puts_on c.args.out.now c.push_block_sequence.new.out _ (first ∷ []) n.0 c.in_ok-push_block_sequence.ensures.ok n.1,
         joined_start (seq_entry_at cs (Unit {0}) h r c.args.column) (indent cs c.args.column ▸ seq_entry_at cs (Unit {0}) h r c.args.column)
             (dash_entry cs (Unit {0}) h r c.args.column _ _ _ n.0 (c.requires.dash.dash.is, c.requires.dash.dash.next) c.requires.dash.apart n.2),
       );
@@ -262,17 +276,17 @@ read_sequence-entries-init t c =
     }
 
 pub read_sequence-returns-in-None-clause-reads : goal.read_sequence-returns-in-None-clause-reads
-read_sequence-returns-in-None-clause-reads t c =
+read_sequence-returns-in-None-clause-reads g t c =
     let v = c.entries.invariant.reads in
     let p = props_of c.args.properties in
     let e : c.args.room ≡ suc (c.args.room - 1) = omega (arith, c.if-room-eq0.false) in (
       seq_start false p ∷ (v.0 ++ (sequence_end ∷ [])),
-      adds_on c.args.out.now.items c.entries.out.items _ (seq_start false p ∷ v.0) (sequence_end ∷ []) v.1 (adds_one _ _ _ _ refl c.in_ok-push-in-None.ensures.items),
+      puts_on c.args.out.now c.entries.out _ (seq_start false p ∷ v.0) (sequence_end ∷ []) v.1 c.in_ok-push_sequence_end-in-None.ensures.ok,
       sequence_done (text_of c.args.source.now) (Unit {0}) (handles_of c.args.handles) p (c.args.room - 1) c.args.room c.args.column _ _ v.0 e v.2,
     )
 
 pub read_sequence-entries-preserved : goal.read_sequence-entries-preserved
-read_sequence-entries-preserved t c =
+read_sequence-entries-preserved g t c =
     let s = c.args.source.now in
     let v = c.entries.invariant in
     let n = c.in_ok-line-in-Some.ensures.reads in
@@ -284,7 +298,7 @@ read_sequence-entries-preserved t c =
       onward = omega (arith, v.onward, v.line.wide, d.dash.forward, c.in_ok-line-in-Some.ensures.onward);
       reads = (
         v.reads.0 ++ n.0,
-        adds_on c.args.out.now.items c.entries.out.items _ (first ∷ v.reads.0) n.0 v.reads.1 n.1,
+        puts_on c.args.out.now c.entries.out _ (first ∷ v.reads.0) n.0 v.reads.1 n.1,
         next_entry s (handles_of c.args.handles) c.entries.line (c.args.room - 1) c.args.column _ c.in-Some.after _ v.reads.0 n.0 v.line e d v.reads.2 n.2,
       );
       after = c.in_ok-line-in-Some.ensures.after;
@@ -295,7 +309,7 @@ read_sequence-entries-preserved t c =
 -- ---- mappings
 
 pub read_entries-entries-init : goal.read_entries-entries-init
-read_entries-entries-init t c =
+read_entries-entries-init g t c =
     let cs = text_of c.args.source.now in
     let h = handles_of c.args.handles in
     let n = c.in_ok-line.ensures.reads in
@@ -308,7 +322,7 @@ read_entries-entries-init t c =
     }
 
 pub read_entries-entries-preserved : goal.read_entries-entries-preserved
-read_entries-entries-preserved t c =
+read_entries-entries-preserved g t c =
     let s = c.args.source.now in
     let cs = text_of s in
     let h = handles_of c.args.handles in
@@ -321,7 +335,7 @@ read_entries-entries-preserved t c =
       onward = omega (arith, v.onward, v.line.wide, c.in_ok-colon.ensures.onward, c.in_ok-line-2.ensures.onward);
       reads = (
         v.reads.0 ++ (k.0 ++ n.0),
-        adds_on c.args.out.now.items c.entries.out.items _ v.reads.0 (k.0 ++ n.0) v.reads.1 (adds_on _ c.read_key.new.out.items _ k.0 n.0 k.1 n.1),
+        puts_on c.args.out.now c.entries.out _ v.reads.0 (k.0 ++ n.0) v.reads.1 (puts_on _ c.read_key.new.out _ k.0 n.0 k.1 n.1),
         joined_more (value_rest cs (Unit {0}) h c.args.room (c.args.column + 1) block_out) (indent cs c.args.column ▸ map_entry_at cs (Unit {0}) h c.args.room c.args.column) v.reads.2 (
           place_of s c.entries.line.first,
           subst (λ x. indent cs x (place_of s c.entries.line.start) (place_of s c.entries.line.first)) e v.line.spaces,
@@ -337,23 +351,26 @@ read_entries-entries-preserved t c =
 -- ---- nodes
 
 pub read_node-read_dressed-requires : goal.read_node-read_dressed-requires
-read_node-read_dressed-requires t c = (
+read_node-read_dressed-requires g t c = λ κs l. (
   omega arith,
   (
-    c.requires.border,
+    l,
     (
-      c.in_ok-own.ensures.border,
+      c.requires.border,
       (
-        c.requires.start,
+        c.in_ok-own.ensures.border,
         (
-          c.requires.order,
+          c.requires.start,
           (
-            c.in_ok-own.ensures.onward,
+            c.requires.order,
             (
-              c.requires.low,
+              c.in_ok-own.ensures.onward,
               (
-                c.requires.block,
-                (c.requires.column, (c.requires.wide, (c.requires.outer, (c.in_ok-own.ensures.own, (c.in_ok-own.ensures.all, inl (on_true_at c.is_none.result c.if-is_none.true c.is_none.ensures.yes)))))),
+                c.requires.low,
+                (
+                  c.requires.block,
+                  (c.requires.column, (c.requires.wide, (c.requires.outer, (c.in_ok-own.ensures.own, (c.in_ok-own.ensures.all, inl (on_true_at c.is_none.result c.if-is_none.true c.is_none.ensures.yes)))))),
+                ),
               ),
             ),
           ),
@@ -364,23 +381,26 @@ read_node-read_dressed-requires t c = (
 )
 
 pub read_node-read_dressed-requires-in-None : goal.read_node-read_dressed-requires-in-None
-read_node-read_dressed-requires-in-None t c = (
+read_node-read_dressed-requires-in-None g t c = λ κs l. (
   omega arith,
   (
-    c.requires.border,
+    l,
     (
-      c.in_ok-own.ensures.border,
+      c.requires.border,
       (
-        c.requires.start,
+        c.in_ok-own.ensures.border,
         (
-          c.requires.order,
+          c.requires.start,
           (
-            c.in_ok-own.ensures.onward,
+            c.requires.order,
             (
-              c.requires.low,
+              c.in_ok-own.ensures.onward,
               (
-                c.requires.block,
-                (c.requires.column, (c.requires.wide, (c.requires.outer, (c.in_ok-own.ensures.own, (c.in_ok-own.ensures.all, inr c.in-None.ensures.none))))),
+                c.requires.low,
+                (
+                  c.requires.block,
+                  (c.requires.column, (c.requires.wide, (c.requires.outer, (c.in_ok-own.ensures.own, (c.in_ok-own.ensures.all, inr c.in-None.ensures.none))))),
+                ),
               ),
             ),
           ),
@@ -391,7 +411,7 @@ read_node-read_dressed-requires-in-None t c = (
 )
 
 pub read_node-read_under-requires : goal.read_node-read_under-requires
-read_node-read_under-requires t c =
+read_node-read_under-requires g t c =
     let s = c.args.source.now in
     let cs = text_of s in
     let h = handles_of c.args.handles in
@@ -399,28 +419,31 @@ read_node-read_under-requires t c =
     let apart = on_false_at c.overlaps.result c.if-overlaps.false c.overlaps.ensures.no in
     let fewer = fewer_left (props_of c.args.outer) (props_of c.in_ok-own.own) apart some in
     let marks = above_own cs h c.args.col c.args.column _ _ _ (props_of c.args.outer) (props_of c.in_ok-own.own) c.requires.outer
-    (own_marks cs h 0 block_key _ _ (props_of c.in_ok-own.own) c.in_ok-own.ensures.own some) apart in (
+    (own_marks cs h 0 block_key _ _ (props_of c.in_ok-own.own) c.in_ok-own.ensures.own some) apart in λ κs l. (
       omega (arith, fewer, ap properties_left c.and-outer.ensures),
       (
-        c.line_at-line.ensures.line,
+        l,
         (
-          c.requires.start,
+          c.line_at-line.ensures.line,
           (
-            c.requires.low,
+            c.requires.start,
             (
-              omega (arith, c.requires.order, c.in_ok-own.ensures.onward, c.in-Some.ensures.onward, c.line_at-line.ensures.start),
+              c.requires.low,
               (
-                c.requires.block,
+                omega (arith, c.requires.order, c.in_ok-own.ensures.onward, c.in-Some.ensures.onward, c.line_at-line.ensures.start),
                 (
-                  subst (SomeProperties cs h c.args.col flow_out (place_of s c.args.from) (place_of s c.in_ok-own.end)) (sym c.and-outer.ensures) marks,
+                  c.requires.block,
                   (
-                    moved s _ _ _ c.line_at-line.ensures.start c.in-Some.ensures.some,
+                    subst (SomeProperties cs h c.args.col flow_out (place_of s c.args.from) (place_of s c.in_ok-own.end)) (sym c.and-outer.ensures) marks,
                     (
-                      comments_after cs _ _ (moved s _ _ _ c.line_at-line.ensures.start c.in-Some.ensures.some),
-                      subst (Above cs h c.args.col (place_of s c.args.from) (place_of s c.in_ok-own.end)) (sym c.and-outer.ensures)
-                          (over_above cs h c.args.room c.args.col (context_of c.args.context) c.requires.block c.args.column _ _ (props_of c.args.outer) _ _ (props_of c.in_ok-own.own)
-                          (places_up s _ _ c.requires.border c.in_ok-own.ensures.border c.in_ok-own.ensures.onward) (own_marks cs h 0 block_key _ _ (props_of c.in_ok-own.own) c.in_ok-own.ensures.own some) c.in_ok-own.ensures.all
-                          c.in-Some.ensures.some c.requires.outer apart),
+                      moved s _ _ _ c.line_at-line.ensures.start c.in-Some.ensures.some,
+                      (
+                        comments_after cs _ _ (moved s _ _ _ c.line_at-line.ensures.start c.in-Some.ensures.some),
+                        subst (Above cs h c.args.col (place_of s c.args.from) (place_of s c.in_ok-own.end)) (sym c.and-outer.ensures)
+                            (over_above cs h c.args.room c.args.col (context_of c.args.context) c.requires.block c.args.column _ _ (props_of c.args.outer) _ _ (props_of c.in_ok-own.own)
+                            (places_up s _ _ c.requires.border c.in_ok-own.ensures.border c.in_ok-own.ensures.onward) (own_marks cs h 0 block_key _ _ (props_of c.in_ok-own.own) c.in_ok-own.ensures.own some) c.in_ok-own.ensures.all
+                            c.in-Some.ensures.some c.requires.outer apart),
+                      ),
                     ),
                   ),
                 ),
@@ -432,17 +455,17 @@ read_node-read_under-requires t c =
     )
 
 pub read_node-returns-else-overlaps-clause-reads : goal.read_node-returns-else-overlaps-clause-reads
-read_node-returns-else-overlaps-clause-reads t c =
+read_node-returns-else-overlaps-clause-reads g t c =
     let s = c.args.source.now in
     let cs = text_of s in
     let h = handles_of c.args.handles in
     let o = column_of (props_of c.args.outer) c.args.column in
     appends_by (λ _. node_rest cs (Unit {0}) h c.args.room c.args.col (context_of c.args.context) None) (λ _. node_rest cs (Unit {0}) h c.args.room c.args.col (context_of c.args.context) o)
-    (place_of s c.args.from) (place_of s c.args.from) (λ line. place_of s line.start) _ _ c.read_under.result
+    (place_of s c.args.from) (place_of s c.args.from) (λ line. place_of s line.start) (holds_of g.K.Keeper.holds) _ _ c.read_under.result
     (λ x es r. any_column cs (Unit {0}) h c.args.room c.args.col (context_of c.args.context) o _ _ es r) c.read_under.ensures.reads
 
 pub read_dressed-returns-in_ok-line-in-Some-clause-reads : goal.read_dressed-returns-in_ok-line-in-Some-clause-reads
-read_dressed-returns-in_ok-line-in-Some-clause-reads t c =
+read_dressed-returns-in_ok-line-in-Some-clause-reads g t c =
     let s = c.args.source.now in
     let cs = text_of s in
     let h = handles_of c.args.handles in
@@ -458,35 +481,26 @@ read_dressed-returns-in_ok-line-in-Some-clause-reads t c =
     )
 
 pub read_keyed-read_bare-requires-clause-own : goal.read_keyed-read_bare-requires-clause-own
-read_keyed-read_bare-requires-clause-own t c =
+read_keyed-read_bare-requires-clause-own g t c =
     line_own (text_of c.args.source.now) (handles_of c.args.handles) c.args.col _ _ _ c.requires.own
 
-pub read_keyed-insert-requires : goal.read_keyed-insert-requires
-read_keyed-insert-requires t c =
-    let k = c.in_ok-node.ensures.reads in
-    let length_is : c.len-start.result ≡ length c.args.out.now.items = omega (arith, c.len-start.ensures, c.args.out.now.ok.0) in
-    let fit = c.in_ok-fit_key-in-Some.ensures.reads c.args.out.now.items k.0 length_is k.1 k.2 in
-    let longer = adds_longer c.args.out.now.items c.dress.new.out.items _ (c.dress.ensures c.args.out.now.items fit.2 length_is fit.4) in
-    omega (arith, longer, length_is, c.dress.new.out.ok.0)
-
 pub read_keyed-returns-in_ok-line-in-None-clause-reads : goal.read_keyed-returns-in_ok-line-in-None-clause-reads
-read_keyed-returns-in_ok-line-in-None-clause-reads t c =
+read_keyed-returns-in_ok-line-in-None-clause-reads g t c =
     let s = c.args.source.now in
     let cs = text_of s in
     let h = handles_of c.args.handles in
     let k = c.in_ok-node.ensures.reads in
     let n = c.in_ok-line-in-None.ensures in
     let p = props_of c.args.outer in
-    let q = props_of c.args.own in
-    let length_is : c.len-start.result ≡ length c.args.out.now.items = omega (arith, c.len-start.ensures, c.args.out.now.ok.0) in (
+    let q = props_of c.args.own in (
       dressed (both_props p q) k.0,
-      n.dressed c.args.out.now.items k.0 length_is k.1,
+      puts_altered c.args.out.now c.read_bare.new.out c.finish_node.new.out c.mark-start.result (dressed (both_props p q)) k.0 c.mark-start.ensures (puts_after c.args.out.now c.announce.new.self c.read_bare.new.out k.0 c.announce.ensures k.1) n.dressed,
       no_key cs (Unit {0}) h c.args.room c.in_ok-node.node.deep c.args.col (context_of c.args.context) c.in_ok-node.node.kind c.args.column (column_of p c.args.column) _ _ _ _ _ p q k.0
           c.requires.outer c.requires.own k.2 c.in_ok-node.ensures.within n.apart n.bears n.comments,
     )
 
-pub read_keyed-returns-in_ok-push-in-Some-clause-reads : goal.read_keyed-returns-in_ok-push-in-Some-clause-reads
-read_keyed-returns-in_ok-push-in-Some-clause-reads t c =
+pub read_keyed-returns-in_ok-push_mapping_end-in-Some-clause-reads : goal.read_keyed-returns-in_ok-push_mapping_end-in-Some-clause-reads
+read_keyed-returns-in_ok-push_mapping_end-in-Some-clause-reads g t c =
     let s = c.args.source.now in
     let cs = text_of s in
     let h = handles_of c.args.handles in
@@ -496,48 +510,51 @@ read_keyed-returns-in_ok-push-in-Some-clause-reads t c =
     let n = c.in_ok-line-in-Some.ensures.reads in
     let r = c.args.room - 1 in
     let first = map_start false p in
-    let length_is : c.len-start.result ≡ length c.args.out.now.items = omega (arith, c.len-start.ensures, c.args.out.now.ok.0) in
-    let k = c.in_ok-fit_key-in-Some.ensures.reads c.args.out.now.items first_read.0 length_is first_read.1 first_read.2 in
+    let k = c.in_ok-fit_key-in-Some.ensures.reads first_read.0 first_read.2 in
     let ks = dressed q k.2 in
     let e : c.args.room ≡ suc r = omega (arith, k.3) in
     let column = found_is (λ x. c.args.column ≡ Some x.0) c.in_ok-first_colon.field-0 _ c.in-Some.is c.in_ok-first_colon.ensures.some in
     let colon = found_is (λ x. ColonAfter cs (place_of s c.args.at) (place_of s c.in_ok-node.node.end) (place_of s x.1)) c.in_ok-first_colon.field-0 _ c.in-Some.is c.in_ok-first_colon.ensures.colon in
-    let own = c.dress.ensures c.args.out.now.items k.2 length_is k.4 in
-    let start : c.insert.new.self.items ≡ insert c.dress.new.out.items (length c.args.out.now.items) c.block_mapping.result = c.in_ok-insert-in-Some.ensures.items ∙ ap (λ n. insert c.dress.new.out.items n c.block_mapping.result) length_is in
+    let put = puts_after c.args.out.now c.announce.new.self c.read_bare.new.out first_read.0 c.announce.ensures first_read.1 in
+    let again = puts_become c.args.out.now c.read_bare.new.out c.fit_key.new.out c.mark-start.result first_read.0 k.2 c.mark-start.ensures put k.4 in
+    let own = puts_altered c.args.out.now c.fit_key.new.out c.dress.new.self c.mark-start.result (dressed q) k.2 c.mark-start.ensures again c.dress.ensures in
+    let begun = puts_altered c.args.out.now c.dress.new.self c.insert_block_mapping.new.out c.mark-start.result (λ es. first ∷ es) ks c.mark-start.ensures own c.in_ok-insert_block_mapping-in-Some.ensures.ok in
     let flow = bare_flow cs (Unit {0}) h k.0 k.1 c.args.col flow_out q _ _ _ k.2 k.5 in
     let key = value_key cs (Unit {0}) h r c.args.col k.0 k.1 _ _ _ ks flow (omega (arith, k.3)) colon in
     let whole = mapping_done cs (Unit {0}) h p r c.args.room c.in-Some.column _ _ _ ks n.0 e key n.2 in (
       first ∷ ((ks ++ n.0) ++ (mapping_end ∷ [])),
-      adds_on c.args.out.now.items c.read_entries.new.out.items _ (first ∷ (ks ++ n.0)) (mapping_end ∷ [])
-          (adds_on c.args.out.now.items c.insert.new.self.items _ (first ∷ ks) n.0
-          (adds_before c.args.out.now.items c.dress.new.out.items c.insert.new.self.items ks c.block_mapping.result first c.block_mapping.ensures own start) n.1)
-          (adds_one _ _ _ _ refl c.in_ok-push-in-Some.ensures.items),
+      puts_on c.args.out.now c.read_entries.new.out _ (first ∷ (ks ++ n.0)) (mapping_end ∷ [])
+          (puts_on c.args.out.now c.insert_block_mapping.new.out _ (first ∷ ks) n.0 begun n.1)
+          c.in_ok-push_mapping_end-in-Some.ensures.ok,
       keyed cs (Unit {0}) h c.args.room c.args.col c.in-Some.column (context_of c.args.context) c.args.column _ _ _ p _ c.requires.outer column whole,
     )
 
 -- ---- what the calls decide
 
 pub read_value-read_below-requires : goal.read_value-read_below-requires
-read_value-read_below-requires t c =
-    let s = c.args.source.now in (
+read_value-read_below-requires g t c =
+    let s = c.args.source.now in λ κs l. (
       omega arith,
       (
-        c.line_at-line.ensures.line,
+        l,
         (
-          omega (arith, c.requires.low, c.in-Some.ensures.onward, c.line_at-line.ensures.start),
-          (c.requires.block, comments_after (text_of s) _ _ (moved s _ _ _ c.line_at-line.ensures.start c.in-Some.ensures.some)),
+          c.line_at-line.ensures.line,
+          (
+            omega (arith, c.requires.low, c.in-Some.ensures.onward, c.line_at-line.ensures.start),
+            (c.requires.block, comments_after (text_of s) _ _ (moved s _ _ _ c.line_at-line.ensures.start c.in-Some.ensures.some)),
+          ),
         ),
       ),
     )
 
 pub read_value-returns-then-count-eq0-clause-decides : goal.read_value-returns-then-count-eq0-clause-decides
-read_value-returns-then-count-eq0-clause-decides t c =
+read_value-returns-then-count-eq0-clause-decides g t c =
     let s = c.args.source.now in
     inr (value_gap (text_of s) (handles_of c.args.handles) c.args.room c.args.col (context_of c.args.context) c.requires.block (place_of s c.args.at) c.skip_spaces-count.result.0 (place_of s c.skip_spaces-count.result.1)
     c.in-None.ensures.none c.skip_spaces-count.ensures.spaces c.skip_spaces-count.ensures.furthest c.if-count-eq0.true)
 
 pub read_value-returns-in-Some-clause-decides : goal.read_value-returns-in-Some-clause-decides
-read_value-returns-in-Some-clause-decides t c =
+read_value-returns-in-Some-clause-decides g t c =
     let s = c.args.source.now in
     let cs = text_of s in
     let h = handles_of c.args.handles in
@@ -548,7 +565,7 @@ read_value-returns-in-Some-clause-decides t c =
     (value_below cs h c.args.room c.args.col x c.requires.block _ _ c.line_at-line.result.column _ (moved s _ _ _ c.line_at-line.ensures.start c.in-Some.ensures.some) line.stuck line.spaces line.all c.requires.inside) c.read_below.ensures.decides
 
 pub read_value-returns-else-count-eq0-clause-decides : goal.read_value-returns-else-count-eq0-clause-decides
-read_value-returns-else-count-eq0-clause-decides t c =
+read_value-returns-else-count-eq0-clause-decides g t c =
     let s = c.args.source.now in
     let cs = text_of s in
     let h = handles_of c.args.handles in
@@ -560,25 +577,28 @@ read_value-returns-else-count-eq0-clause-decides t c =
     (subst (λ o. Decides (node_rest cs (Unit {0}) h c.args.room c.args.col x o) (AfterNode cs c.args.col x) (place_of s c.skip_spaces-count.result.1) Here (λ line. place_of s line.start) c.read_node.result) (column_none p) c.read_node.ensures.decides)
 
 pub read_indented-read_below-requires : goal.read_indented-read_below-requires
-read_indented-read_below-requires t c =
-    let s = c.args.source.now in (
+read_indented-read_below-requires g t c =
+    let s = c.args.source.now in λ κs l. (
       omega arith,
       (
-        c.line_at-line.ensures.line,
+        l,
         (
-          omega (arith, c.requires.low, c.in-Some.ensures.onward, c.line_at-line.ensures.start),
-          (tt, comments_after (text_of s) _ _ (moved s _ _ _ c.line_at-line.ensures.start c.in-Some.ensures.some)),
+          c.line_at-line.ensures.line,
+          (
+            omega (arith, c.requires.low, c.in-Some.ensures.onward, c.line_at-line.ensures.start),
+            (tt, comments_after (text_of s) _ _ (moved s _ _ _ c.line_at-line.ensures.start c.in-Some.ensures.some)),
+          ),
         ),
       ),
     )
 
 pub read_indented-returns-then-count-eq0-clause-decides : goal.read_indented-returns-then-count-eq0-clause-decides
-read_indented-returns-then-count-eq0-clause-decides t c =
+read_indented-returns-then-count-eq0-clause-decides g t c =
     let s = c.args.source.now in
     inr (entry_gap (text_of s) (handles_of c.args.handles) c.args.room c.args.column _ c.skip_spaces-count.result.0 _ c.in-None.ensures.none c.skip_spaces-count.ensures.spaces c.skip_spaces-count.ensures.furthest c.if-count-eq0.true)
 
 pub read_indented-returns-in-Some-clause-decides : goal.read_indented-returns-in-Some-clause-decides
-read_indented-returns-in-Some-clause-decides t c =
+read_indented-returns-in-Some-clause-decides g t c =
     let s = c.args.source.now in
     let cs = text_of s in
     let h = handles_of c.args.handles in
@@ -590,7 +610,7 @@ read_indented-returns-in-Some-clause-decides t c =
     (rest_rest (entry_value cs h c.args.room k _ _ c.requires.inside over) (value_below cs h c.args.room (k + 1) block_in tt _ _ c.line_at-line.result.column _ over line.stuck line.spaces line.all (inl c.requires.inside))) c.read_below.ensures.decides
 
 pub read_indented-returns-in-Some-dash-clause-decides : goal.read_indented-returns-in-Some-dash-clause-decides
-read_indented-returns-in-Some-dash-clause-decides t c =
+read_indented-returns-in-Some-dash-clause-decides g t c =
     let s = c.args.source.now in
     let cs = text_of s in
     let h = handles_of c.args.handles in
@@ -602,7 +622,7 @@ read_indented-returns-in-Some-dash-clause-decides t c =
     (subst (λ p. Decides (sequence_with cs (Unit {0}) h p c.args.room (k + 1 + n)) (AfterSequence cs (k + 1 + n)) i Here (λ line. place_of s line.start) c.read_sequence.result) c.none-outer.ensures c.read_sequence.ensures.decides)
 
 pub read_indented-returns-in-None-dash-clause-decides : goal.read_indented-returns-in-None-dash-clause-decides
-read_indented-returns-in-None-dash-clause-decides t c =
+read_indented-returns-in-None-dash-clause-decides g t c =
     let s = c.args.source.now in
     let cs = text_of s in
     let h = handles_of c.args.handles in
@@ -617,27 +637,27 @@ read_indented-returns-in-None-dash-clause-decides t c =
 -- ---- lines below
 
 pub read_below-returns-then-not-has_content-clause-decides : goal.read_below-returns-then-not-has_content-clause-decides
-read_below-returns-then-not-has_content-clause-decides t c =
+read_below-returns-then-not-has_content-clause-decides g t c =
     let s = c.args.source.now in
     let line = c.requires.line in
     lines_over (text_of s) (handles_of c.args.handles) c.args.room c.args.col (context_of c.args.context) c.requires.block _ c.args.line.column _ line.spaces line.all line.stuck
     (no_content s c.args.line line c.requires.after (on_false_at c.has_content.result c.if-not-has_content.true c.has_content.ensures.no))
 
 pub read_below-returns-then-line-sequence_column-clause-decides : goal.read_below-returns-then-line-sequence_column-clause-decides
-read_below-returns-then-line-sequence_column-clause-decides t c =
+read_below-returns-then-line-sequence_column-clause-decides g t c =
     let s = c.args.source.now in
     let line = c.requires.line in
     lines_dash_short (text_of s) (handles_of c.args.handles) c.args.room c.args.col (context_of c.args.context) c.requires.block _ c.args.line.column _ line.spaces line.all line.stuck
     (dash_here s _ _ c.in-Some.ensures.some) (subst (λ n. c.args.line.column < n) c.sequence_column.ensures c.if-line-sequence_column.true)
 
 pub read_below-returns-then-line-col-clause-decides : goal.read_below-returns-then-line-col-clause-decides
-read_below-returns-then-line-col-clause-decides t c =
+read_below-returns-then-line-col-clause-decides g t c =
     let s = c.args.source.now in
     let line = c.requires.line in
     lines_short (text_of s) (handles_of c.args.handles) c.args.room c.args.col (context_of c.args.context) c.requires.block _ c.args.line.column _ line.spaces line.all line.stuck c.in-None.ensures.none c.if-line-col.true
 
 pub read_below-returns-else-line-sequence_column-clause-decides : goal.read_below-returns-else-line-sequence_column-clause-decides
-read_below-returns-else-line-sequence_column-clause-decides t c =
+read_below-returns-else-line-sequence_column-clause-decides g t c =
     let s = c.args.source.now in
     let cs = text_of s in
     let h = handles_of c.args.handles in
@@ -650,7 +670,7 @@ read_below-returns-else-line-sequence_column-clause-decides t c =
     (subst (λ p. Decides (sequence_with cs (Unit {0}) h p c.args.room k) (AfterSequence cs k) i Here (λ line. place_of s line.start) c.read_sequence.result) c.none-outer.ensures c.read_sequence.ensures.decides)
 
 pub read_below-returns-else-line-col-clause-decides : goal.read_below-returns-else-line-col-clause-decides
-read_below-returns-else-line-col-clause-decides t c =
+read_below-returns-else-line-col-clause-decides g t c =
     let s = c.args.source.now in
     let cs = text_of s in
     let h = handles_of c.args.handles in
@@ -667,28 +687,28 @@ read_below-returns-else-line-col-clause-decides t c =
 -- ---- lines below properties
 
 pub read_under-returns-then-not-has_content-clause-decides : goal.read_under-returns-then-not-has_content-clause-decides
-read_under-returns-then-not-has_content-clause-decides t c =
+read_under-returns-then-not-has_content-clause-decides g t c =
     let s = c.args.source.now in
     let line = c.requires.line in
     under_over (text_of s) (handles_of c.args.handles) c.args.room c.args.col (context_of c.args.context) c.requires.block (props_of c.args.outer) _ _ _ c.args.line.column _ c.requires.above c.requires.comments line.stuck line.spaces line.all
     (no_content s c.args.line line c.requires.after (on_false_at c.has_content.result c.if-not-has_content.true c.has_content.ensures.no))
 
 pub read_under-returns-then-line-sequence_column-clause-decides : goal.read_under-returns-then-line-sequence_column-clause-decides
-read_under-returns-then-line-sequence_column-clause-decides t c =
+read_under-returns-then-line-sequence_column-clause-decides g t c =
     let s = c.args.source.now in
     let line = c.requires.line in
     under_dash_short (text_of s) (handles_of c.args.handles) c.args.room c.args.col (context_of c.args.context) c.requires.block (props_of c.args.outer) _ _ _ c.args.line.column _ c.requires.above c.requires.comments line.stuck line.spaces line.all
     (dash_here s _ _ c.in-Some.ensures.some) (subst (λ n. c.args.line.column < n) c.sequence_column.ensures c.if-line-sequence_column.true)
 
 pub read_under-returns-then-line-col-clause-decides : goal.read_under-returns-then-line-col-clause-decides
-read_under-returns-then-line-col-clause-decides t c =
+read_under-returns-then-line-col-clause-decides g t c =
     let s = c.args.source.now in
     let line = c.requires.line in
     under_short (text_of s) (handles_of c.args.handles) c.args.room c.args.col (context_of c.args.context) c.requires.block (props_of c.args.outer) _ _ _ c.args.line.column _ c.requires.above c.requires.comments line.stuck line.spaces line.all
     c.in-None.ensures.none c.if-line-col.true
 
 pub read_under-returns-else-line-sequence_column-clause-decides : goal.read_under-returns-else-line-sequence_column-clause-decides
-read_under-returns-else-line-sequence_column-clause-decides t c =
+read_under-returns-else-line-sequence_column-clause-decides g t c =
     let s = c.args.source.now in
     let cs = text_of s in
     let h = handles_of c.args.handles in
@@ -701,7 +721,7 @@ read_under-returns-else-line-sequence_column-clause-decides t c =
     (subst (λ n. n ≤ k) c.sequence_column.ensures c.if-line-sequence_column.false)) c.read_sequence.ensures.decides
 
 pub read_under-returns-else-line-col-clause-decides : goal.read_under-returns-else-line-col-clause-decides
-read_under-returns-else-line-col-clause-decides t c =
+read_under-returns-else-line-col-clause-decides g t c =
     let s = c.args.source.now in
     let cs = text_of s in
     let h = handles_of c.args.handles in
@@ -712,13 +732,16 @@ read_under-returns-else-line-col-clause-decides t c =
 -- ---- sequences
 
 pub read_sequence-read_indented-requires : goal.read_sequence-read_indented-requires
-read_sequence-read_indented-requires t c = (
+read_sequence-read_indented-requires g t c = λ κs l. (
   omega (arith, c.if-room-eq0.false),
-  (c.requires.dash.dash.border, (omega (arith, c.requires.low, c.requires.dash.dash.forward), dash_inside c.args.source.now _ _ c.requires.dash)),
+  (
+    l,
+    (c.requires.dash.dash.border, (omega (arith, c.requires.low, c.requires.dash.dash.forward), dash_inside c.args.source.now _ _ c.requires.dash)),
+  ),
 )
 
 pub read_sequence-returns-in_err-line-clause-decides : goal.read_sequence-returns-in_err-line-clause-decides
-read_sequence-returns-in_err-line-clause-decides t c =
+read_sequence-returns-in_err-line-clause-decides g t c =
     let s = c.args.source.now in
     let cs = text_of s in
     let h = handles_of c.args.handles in
@@ -728,10 +751,10 @@ read_sequence-returns-in_err-line-clause-decides t c =
     (or_else (seq_no_first cs h (c.args.room - 1) k c.args.room p _ _ (omega (arith, c.if-room-eq0.false)) c.requires.dash.dash.next) c.in_err-line.ensures.decides)
 
 pub read_sequence-next_dash-requires-clause-after : goal.read_sequence-next_dash-requires-clause-after
-read_sequence-next_dash-requires-clause-after t c = c.entries.invariant.after
+read_sequence-next_dash-requires-clause-after g t c = c.entries.invariant.after
 
 pub read_sequence-returns-in_err-next_dash-clause-decides : goal.read_sequence-returns-in_err-next_dash-clause-decides
-read_sequence-returns-in_err-next_dash-clause-decides t c =
+read_sequence-returns-in_err-next_dash-clause-decides g t c =
     let s = c.args.source.now in
     let cs = text_of s in
     let h = handles_of c.args.handles in
@@ -741,10 +764,10 @@ read_sequence-returns-in_err-next_dash-clause-decides t c =
     (inr (rest_refused v.rest (seq_further s h (c.args.room - 1) c.entries.line k v.line c.in_err-next_dash.ensures.further)))
 
 pub read_sequence-returns-in-None-clause-after : goal.read_sequence-returns-in-None-clause-after
-read_sequence-returns-in-None-clause-after t c = c.entries.invariant.after
+read_sequence-returns-in-None-clause-after g t c = c.entries.invariant.after
 
 pub read_sequence-returns-in-None-clause-decides : goal.read_sequence-returns-in-None-clause-decides
-read_sequence-returns-in-None-clause-decides t c =
+read_sequence-returns-in-None-clause-decides g t c =
     let s = c.args.source.now in
     let cs = text_of s in
     let k = c.args.column in
@@ -753,16 +776,19 @@ read_sequence-returns-in-None-clause-decides t c =
     rest_goes v.rest (seq_done cs (handles_of c.args.handles) (c.args.room - 1) k _ v.line.stuck none)
 
 pub read_sequence-read_indented-requires-in-Some : goal.read_sequence-read_indented-requires-in-Some
-read_sequence-read_indented-requires-in-Some t c =
+read_sequence-read_indented-requires-in-Some g t c =
     let s = c.args.source.now in
     let v = c.entries.invariant in
-    let d = found_is (IsDash s c.entries.line.first) c.in_ok-next_dash.field-0 c.in-Some.after c.in-Some.is c.in_ok-next_dash.ensures.dash in (
+    let d = found_is (IsDash s c.entries.line.first) c.in_ok-next_dash.field-0 c.in-Some.after c.in-Some.is c.in_ok-next_dash.ensures.dash in λ κs l. (
       omega (arith, c.if-room-eq0.false),
-      (d.dash.border, (omega (arith, c.requires.low, v.onward, v.line.wide, d.dash.forward), dash_inside s _ _ d)),
+      (
+        l,
+        (d.dash.border, (omega (arith, c.requires.low, v.onward, v.line.wide, d.dash.forward), dash_inside s _ _ d)),
+      ),
     )
 
 pub read_sequence-returns-in_err-line-in-Some-clause-decides : goal.read_sequence-returns-in_err-line-in-Some-clause-decides
-read_sequence-returns-in_err-line-in-Some-clause-decides t c =
+read_sequence-returns-in_err-line-in-Some-clause-decides g t c =
     let s = c.args.source.now in
     let cs = text_of s in
     let h = handles_of c.args.handles in
@@ -777,7 +803,7 @@ read_sequence-returns-in_err-line-in-Some-clause-decides t c =
 -- ---- mappings
 
 pub read_entries-returns-in_err-line-clause-decides : goal.read_entries-returns-in_err-line-clause-decides
-read_entries-returns-in_err-line-clause-decides t c =
+read_entries-returns-in_err-line-clause-decides g t c =
     let s = c.args.source.now in
     let cs = text_of s in
     let h = handles_of c.args.handles in
@@ -786,10 +812,10 @@ read_entries-returns-in_err-line-clause-decides t c =
     (or_else (map_no_first cs h c.args.room k _) c.in_err-line.ensures.decides)
 
 pub read_entries-goes_on-requires-clause-after : goal.read_entries-goes_on-requires-clause-after
-read_entries-goes_on-requires-clause-after t c = c.entries.invariant.after
+read_entries-goes_on-requires-clause-after g t c = c.entries.invariant.after
 
 pub read_entries-returns-in_err-goes_on-clause-decides : goal.read_entries-returns-in_err-goes_on-clause-decides
-read_entries-returns-in_err-goes_on-clause-decides t c =
+read_entries-returns-in_err-goes_on-clause-decides g t c =
     let s = c.args.source.now in
     let cs = text_of s in
     let h = handles_of c.args.handles in
@@ -799,16 +825,16 @@ read_entries-returns-in_err-goes_on-clause-decides t c =
     (inr (rest_refused v.rest (map_further s h c.args.room c.entries.line k v.line c.in_err-goes_on.ensures.further)))
 
 pub read_entries-returns-then-not-branch-clause-after : goal.read_entries-returns-then-not-branch-clause-after
-read_entries-returns-then-not-branch-clause-after t c = c.entries.invariant.after
+read_entries-returns-then-not-branch-clause-after g t c = c.entries.invariant.after
 
 pub read_entries-returns-then-not-branch-clause-decides : goal.read_entries-returns-then-not-branch-clause-decides
-read_entries-returns-then-not-branch-clause-decides t c =
+read_entries-returns-then-not-branch-clause-decides g t c =
     let s = c.args.source.now in
     let v = c.entries.invariant in
     rest_goes v.rest (map_done (text_of s) (handles_of c.args.handles) c.args.room c.args.column _ v.line.stuck (on_false_at c.in_ok-goes_on.field-0 c.if-not-branch.true c.in_ok-goes_on.ensures.over))
 
 pub read_entries-returns-in_err-colon-clause-decides : goal.read_entries-returns-in_err-colon-clause-decides
-read_entries-returns-in_err-colon-clause-decides t c =
+read_entries-returns-in_err-colon-clause-decides g t c =
     let s = c.args.source.now in
     let cs = text_of s in
     let h = handles_of c.args.handles in
@@ -820,23 +846,26 @@ read_entries-returns-in_err-colon-clause-decides t c =
     (or_else (λ n. rest_refused v.rest (map_no_key cs h c.args.room k _ _ (same_line s h c.args.room c.entries.line k v.line e) v.line.stuck (not_less s h c.args.room c.entries.line k v.line e some.0 some.1) n)) c.in_err-colon.ensures.decides)
 
 pub read_entries-read_value-requires-in-entries : goal.read_entries-read_value-requires-in-entries
-read_entries-read_value-requires-in-entries t c =
+read_entries-read_value-requires-in-entries g t c =
     let s = c.args.source.now in
     let v = c.entries.invariant in
     let k = c.in_ok-colon.ensures.reads in
-    let colon = k.2 in (
+    let colon = k.2 in λ κs l. (
       omega arith,
       (
-        c.in_ok-colon.ensures.border,
+        l,
         (
-          omega (arith, c.requires.low, v.onward, v.line.wide, c.in_ok-colon.ensures.onward),
-          (tt, inl (colon_inside (text_of s) colon.0 _ colon.2.0 colon.2.1)),
+          c.in_ok-colon.ensures.border,
+          (
+            omega (arith, c.requires.low, v.onward, v.line.wide, c.in_ok-colon.ensures.onward),
+            (tt, inl (colon_inside (text_of s) colon.0 _ colon.2.0 colon.2.1)),
+          ),
         ),
       ),
     )
 
 pub read_entries-returns-in_err-line-2-clause-decides : goal.read_entries-returns-in_err-line-2-clause-decides
-read_entries-returns-in_err-line-2-clause-decides t c =
+read_entries-returns-in_err-line-2-clause-decides g t c =
     let s = c.args.source.now in
     let cs = text_of s in
     let h = handles_of c.args.handles in
@@ -850,7 +879,7 @@ read_entries-returns-in_err-line-2-clause-decides t c =
 -- ---- nodes
 
 pub read_node-returns-in_err-own-clause-decides : goal.read_node-returns-in_err-own-clause-decides
-read_node-returns-in_err-own-clause-decides t c =
+read_node-returns-in_err-own-clause-decides g t c =
     let s = c.args.source.now in
     let cs = text_of s in
     let h = handles_of c.args.handles in
@@ -860,7 +889,7 @@ read_node-returns-in_err-own-clause-decides t c =
     (or_else (barred cs h c.args.room c.args.col x c.requires.block c.args.column _ _ p c.requires.outer) c.in_err-own.ensures.barred)
 
 pub read_node-returns-then-overlaps-clause-decides : goal.read_node-returns-then-overlaps-clause-decides
-read_node-returns-then-overlaps-clause-decides t c =
+read_node-returns-then-overlaps-clause-decides g t c =
     let s = c.args.source.now in
     let cs = text_of s in
     let h = handles_of c.args.handles in
@@ -870,7 +899,7 @@ read_node-returns-then-overlaps-clause-decides t c =
     (own_marks cs h 0 block_key _ _ q c.in_ok-own.ensures.own some) c.in_ok-own.ensures.all c.in-Some.ensures.some c.requires.outer (on_true_at c.overlaps.result c.if-overlaps.true c.overlaps.ensures.yes))
 
 pub read_node-returns-else-overlaps-clause-decides : goal.read_node-returns-else-overlaps-clause-decides
-read_node-returns-else-overlaps-clause-decides t c =
+read_node-returns-else-overlaps-clause-decides g t c =
     let s = c.args.source.now in
     let cs = text_of s in
     let h = handles_of c.args.handles in
@@ -884,21 +913,24 @@ read_node-returns-else-overlaps-clause-decides t c =
     (own_marks cs h 0 block_key _ _ q c.in_ok-own.ensures.own some) c.in_ok-own.ensures.all c.in-Some.ensures.some c.requires.outer) c.read_under.ensures.decides
 
 pub read_dressed-read_keyed-requires : goal.read_dressed-read_keyed-requires
-read_dressed-read_keyed-requires t c = (
+read_dressed-read_keyed-requires g t c = λ κs l. (
   omega arith,
   (
-    c.requires.border,
+    l,
     (
-      c.requires.end,
+      c.requires.border,
       (
-        c.requires.start,
+        c.requires.end,
         (
-          c.requires.order,
+          c.requires.start,
           (
-            c.requires.own_order,
+            c.requires.order,
             (
-              c.requires.low,
-              (c.requires.block, (c.requires.column, (c.requires.wide, (c.requires.outer, (c.requires.own, (c.requires.all, (c.requires.goes_on, c.in-None.ensures.none))))))),
+              c.requires.own_order,
+              (
+                c.requires.low,
+                (c.requires.block, (c.requires.column, (c.requires.wide, (c.requires.outer, (c.requires.own, (c.requires.all, (c.requires.goes_on, c.in-None.ensures.none))))))),
+              ),
             ),
           ),
         ),
@@ -908,14 +940,14 @@ read_dressed-read_keyed-requires t c = (
 )
 
 pub read_dressed-returns-then-overlaps-clause-decides : goal.read_dressed-returns-then-overlaps-clause-decides
-read_dressed-returns-then-overlaps-clause-decides t c =
+read_dressed-returns-then-overlaps-clause-decides g t c =
     let s = c.args.source.now in
     let cs = text_of s in
     inr (signed_clash cs (handles_of c.args.handles) c.args.room c.args.col (context_of c.args.context) c.requires.block c.args.column _ _ (props_of c.args.outer) _ (props_of c.args.own) c.requires.all c.requires.goes_on c.requires.own _
     c.requires.outer c.in-Some.ensures.follows (sign_of cs _ _ c.in-Some.ensures.sign) (on_true_at c.overlaps.result c.if-overlaps.true c.overlaps.ensures.yes))
 
 pub read_dressed-returns-in_err-line-in-Some-clause-decides : goal.read_dressed-returns-in_err-line-in-Some-clause-decides
-read_dressed-returns-in_err-line-in-Some-clause-decides t c =
+read_dressed-returns-in_err-line-in-Some-clause-decides g t c =
     let s = c.args.source.now in
     let cs = text_of s in
     let h = handles_of c.args.handles in
@@ -927,7 +959,7 @@ read_dressed-returns-in_err-line-in-Some-clause-decides t c =
     (or_else (scalar_none cs c.args.col x _ _ _ properties_left.0 (props_of c.and-both.result) properties_left.1) c.in_err-line-in-Some.ensures.decides)
 
 pub read_dressed-returns-in_ok-line-in-Some-clause-decides : goal.read_dressed-returns-in_ok-line-in-Some-clause-decides
-read_dressed-returns-in_ok-line-in-Some-clause-decides t c =
+read_dressed-returns-in_ok-line-in-Some-clause-decides g t c =
     let s = c.args.source.now in
     let cs = text_of s in
     let h = handles_of c.args.handles in
@@ -940,16 +972,16 @@ read_dressed-returns-in_ok-line-in-Some-clause-decides t c =
 -- ---- keys and flow nodes
 
 pub read_keyed-read_bare-requires-clause-all : goal.read_keyed-read_bare-requires-clause-all
-read_keyed-read_bare-requires-clause-all t c = line_all (text_of c.args.source.now) (handles_of c.args.handles) c.args.col flow_out _ _ _ c.requires.goes_on c.requires.all
+read_keyed-read_bare-requires-clause-all g t c = line_all (text_of c.args.source.now) (handles_of c.args.handles) c.args.col flow_out _ _ _ c.requires.goes_on c.requires.all
 
 pub read_keyed-fit_key-requires-clause-own : goal.read_keyed-fit_key-requires-clause-own
-read_keyed-fit_key-requires-clause-own t c = line_own (text_of c.args.source.now) (handles_of c.args.handles) c.args.col _ _ _ c.requires.own
+read_keyed-fit_key-requires-clause-own g t c = line_own (text_of c.args.source.now) (handles_of c.args.handles) c.args.col _ _ _ c.requires.own
 
 pub read_keyed-fit_key-requires-clause-all : goal.read_keyed-fit_key-requires-clause-all
-read_keyed-fit_key-requires-clause-all t c = line_all (text_of c.args.source.now) (handles_of c.args.handles) c.args.col flow_out _ _ _ c.requires.goes_on c.requires.all
+read_keyed-fit_key-requires-clause-all g t c = line_all (text_of c.args.source.now) (handles_of c.args.handles) c.args.col flow_out _ _ _ c.requires.goes_on c.requires.all
 
 pub read_keyed-returns-in_err-node-clause-decides : goal.read_keyed-returns-in_err-node-clause-decides
-read_keyed-returns-in_err-node-clause-decides t c =
+read_keyed-returns-in_err-node-clause-decides g t c =
     let s = c.args.source.now in
     let cs = text_of s in
     let h = handles_of c.args.handles in
@@ -960,7 +992,7 @@ read_keyed-returns-in_err-node-clause-decides t c =
     (or_else (λ n. rest_refused whole (kept_refused cs h c.args.room c.args.col x c.requires.block _ p c.args.column n)) (c.in_err-node.ensures.decides (λ _. c.requires.goes_on)))
 
 pub read_keyed-returns-in_err-first_colon-clause-decides : goal.read_keyed-returns-in_err-first_colon-clause-decides
-read_keyed-returns-in_err-first_colon-clause-decides t c =
+read_keyed-returns-in_err-first_colon-clause-decides g t c =
     let s = c.args.source.now in
     let cs = text_of s in
     let h = handles_of c.args.handles in
@@ -977,7 +1009,7 @@ read_keyed-returns-in_err-first_colon-clause-decides t c =
     (inr (rest_refused whole (kept_neither cs h c.args.room c.args.col x c.requires.block _ _ node.kind (c.in_ok-node.ensures.decides (λ _. c.requires.goes_on)) p c.args.column inside long.0 long.1)))
 
 pub read_keyed-returns-in_err-line-in-None-clause-decides : goal.read_keyed-returns-in_err-line-in-None-clause-decides
-read_keyed-returns-in_err-line-in-None-clause-decides t c =
+read_keyed-returns-in_err-line-in-None-clause-decides g t c =
     let s = c.args.source.now in
     let cs = text_of s in
     let h = handles_of c.args.handles in
@@ -990,7 +1022,7 @@ read_keyed-returns-in_err-line-in-None-clause-decides t c =
     (inr (unfit_none cs h c.args.room c.args.col x c.requires.block c.args.column _ _ p _ q c.requires.all c.requires.goes_on c.requires.own c.requires.outer c.requires.no_scalar _ node.kind (c.in_ok-node.ensures.decides (λ _. c.requires.goes_on)) no_key c.in_err-line-in-None.ensures.unfit))
 
 pub read_keyed-returns-in_ok-line-in-None-clause-decides : goal.read_keyed-returns-in_ok-line-in-None-clause-decides
-read_keyed-returns-in_ok-line-in-None-clause-decides t c =
+read_keyed-returns-in_ok-line-in-None-clause-decides g t c =
     let s = c.args.source.now in
     let cs = text_of s in
     let h = handles_of c.args.handles in
@@ -1003,14 +1035,13 @@ read_keyed-returns-in_ok-line-in-None-clause-decides t c =
     rest_goes whole (kept_line cs h c.args.room c.args.col x c.requires.block _ _ node.kind (c.in_ok-node.ensures.decides (λ _. c.requires.goes_on)) p c.args.column _ no_key n.comments n.line.stuck)
 
 pub read_keyed-overflow_sub-room : goal.read_keyed-overflow_sub-room
-read_keyed-overflow_sub-room t c =
+read_keyed-overflow_sub-room g t c =
     let k = c.in_ok-node.ensures.reads in
-    let length_is : c.len-start.result ≡ length c.args.out.now.items = omega (arith, c.len-start.ensures, c.args.out.now.ok.0) in
-    let fit = c.in_ok-fit_key-in-Some.ensures.reads c.args.out.now.items k.0 length_is k.1 k.2 in
+    let fit = c.in_ok-fit_key-in-Some.ensures.reads k.0 k.2 in
     omega (arith, fit.3)
 
 pub read_keyed-returns-in_err-fit_key-in-Some-clause-decides : goal.read_keyed-returns-in_err-fit_key-in-Some-clause-decides
-read_keyed-returns-in_err-fit_key-in-Some-clause-decides t c =
+read_keyed-returns-in_err-fit_key-in-Some-clause-decides g t c =
     let s = c.args.source.now in
     let cs = text_of s in
     let h = handles_of c.args.handles in
@@ -1028,24 +1059,26 @@ read_keyed-returns-in_err-fit_key-in-Some-clause-decides t c =
     (keyed_none_below cs h c.args.room c.args.col x c.requires.block p c.args.column _ (AfterNode cs c.args.col x) n)) c.in_err-fit_key-in-Some.ensures.decides)
 
 pub read_keyed-read_entries-requires : goal.read_keyed-read_entries-requires
-read_keyed-read_entries-requires t c =
+read_keyed-read_entries-requires g t c =
     let s = c.args.source.now in
     let cs = text_of s in
     let k = c.in_ok-node.ensures.reads in
     let node = c.in_ok-node.node in
-    let length_is : c.len-start.result ≡ length c.args.out.now.items = omega (arith, c.len-start.ensures, c.args.out.now.ok.0) in
-    let fit = c.in_ok-fit_key-in-Some.ensures.reads c.args.out.now.items k.0 length_is k.1 k.2 in
+    let fit = c.in_ok-fit_key-in-Some.ensures.reads k.0 k.2 in
     let column = found_is (λ z. c.args.column ≡ Some z.0) c.in_ok-first_colon.field-0 _ c.in-Some.is c.in_ok-first_colon.ensures.some in
     let border = found_is (λ z. IsBorder s z.1) c.in_ok-first_colon.field-0 _ c.in-Some.is c.in_ok-first_colon.ensures.border in
     let further = found_is (λ z. node.end < z.1) c.in_ok-first_colon.field-0 _ c.in-Some.is c.in_ok-first_colon.ensures.further in
     let colon = found_is (λ z. ColonAfter cs (place_of s c.args.at) (place_of s node.end) (place_of s z.1)) c.in_ok-first_colon.field-0 _ c.in-Some.is c.in_ok-first_colon.ensures.colon in
-    let low = MatchOption-at_some (Unit {0}) (λ k. k ≤ c.args.at) _ column c.requires.column in (
+    let low = MatchOption-at_some (Unit {0}) (λ k. k ≤ c.args.at) _ column c.requires.column in λ κs l. (
       omega (arith, fit.3),
-      (border, (omega (arith, low, further, c.in_ok-node.ensures.onward), colon_after_inside cs _ _ _ colon)),
+      (
+        l,
+        (border, (omega (arith, low, further, c.in_ok-node.ensures.onward), colon_after_inside cs _ _ _ colon)),
+      ),
     )
 
 pub read_keyed-returns-in_err-line-in-Some-clause-decides : goal.read_keyed-returns-in_err-line-in-Some-clause-decides
-read_keyed-returns-in_err-line-in-Some-clause-decides t c =
+read_keyed-returns-in_err-line-in-Some-clause-decides g t c =
     let s = c.args.source.now in
     let cs = text_of s in
     let h = handles_of c.args.handles in
@@ -1054,8 +1087,7 @@ read_keyed-returns-in_err-line-in-Some-clause-decides t c =
     let q = props_of c.args.own in
     let k = c.in_ok-node.ensures.reads in
     let node = c.in_ok-node.node in
-    let length_is : c.len-start.result ≡ length c.args.out.now.items = omega (arith, c.len-start.ensures, c.args.out.now.ok.0) in
-    let fit = c.in_ok-fit_key-in-Some.ensures.reads c.args.out.now.items k.0 length_is k.1 k.2 in
+    let fit = c.in_ok-fit_key-in-Some.ensures.reads k.0 k.2 in
     let flow = bare_flow cs (Unit {0}) h node.deep node.kind c.args.col flow_out q _ _ _ k.0 k.2 in
     let column = found_is (λ z. c.args.column ≡ Some z.0) c.in_ok-first_colon.field-0 _ c.in-Some.is c.in_ok-first_colon.ensures.some in
     let colon = found_is (λ z. ColonAfter cs (place_of s c.args.at) (place_of s node.end) (place_of s z.1)) c.in_ok-first_colon.field-0 _ c.in-Some.is c.in_ok-first_colon.ensures.colon in
@@ -1065,8 +1097,8 @@ read_keyed-returns-in_err-line-in-Some-clause-decides t c =
     decides_err (node_rest cs (Unit {0}) h c.args.room c.args.col x (column_of p c.args.column)) (AfterNode cs c.args.col x) (place_of s c.args.from) Here (λ line. place_of s line.start) c.from_residual-in_err-line-in-Some.result _ c.from_residual-in_err-line-in-Some.ensures.1
     (or_else (rest_refused rest) c.in_err-line-in-Some.ensures.decides)
 
-pub read_keyed-returns-in_ok-push-in-Some-clause-decides : goal.read_keyed-returns-in_ok-push-in-Some-clause-decides
-read_keyed-returns-in_ok-push-in-Some-clause-decides t c =
+pub read_keyed-returns-in_ok-push_mapping_end-in-Some-clause-decides : goal.read_keyed-returns-in_ok-push_mapping_end-in-Some-clause-decides
+read_keyed-returns-in_ok-push_mapping_end-in-Some-clause-decides g t c =
     let s = c.args.source.now in
     let cs = text_of s in
     let h = handles_of c.args.handles in
@@ -1075,8 +1107,7 @@ read_keyed-returns-in_ok-push-in-Some-clause-decides t c =
     let q = props_of c.args.own in
     let k = c.in_ok-node.ensures.reads in
     let node = c.in_ok-node.node in
-    let length_is : c.len-start.result ≡ length c.args.out.now.items = omega (arith, c.len-start.ensures, c.args.out.now.ok.0) in
-    let fit = c.in_ok-fit_key-in-Some.ensures.reads c.args.out.now.items k.0 length_is k.1 k.2 in
+    let fit = c.in_ok-fit_key-in-Some.ensures.reads k.0 k.2 in
     let flow = bare_flow cs (Unit {0}) h node.deep node.kind c.args.col flow_out q _ _ _ k.0 k.2 in
     let column = found_is (λ z. c.args.column ≡ Some z.0) c.in_ok-first_colon.field-0 _ c.in-Some.is c.in_ok-first_colon.ensures.some in
     let colon = found_is (λ z. ColonAfter cs (place_of s c.args.at) (place_of s node.end) (place_of s z.1)) c.in_ok-first_colon.field-0 _ c.in-Some.is c.in_ok-first_colon.ensures.colon in

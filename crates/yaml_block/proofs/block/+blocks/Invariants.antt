@@ -1,15 +1,16 @@
 use Rattle.std.proofs.Common.{◌+◌, ◌*◌, ◌-◌, ◌<◌, ◌≤◌, List, ◌∷◌, length, false}
-use Rattle.yaml_text.specs.Event.{Event}
-use Rattle.yaml_text.specs.EventModel.{Adds}
+use Rattle.yaml_definitions.specs.model.Event.{Event}
 use Rattle.yaml_text.specs.Source.{bytes_of, text_of, place_of}
-use Rattle.yaml_text.specs.grammar.Events.{seq_start}
+use Rattle.yaml_definitions.specs.grammar.Events.{seq_start}
 use Rattle.yaml_mark.specs.HandlesModel.{handles_of}
+use Rattle.yaml_flow.specs.Held.{Puts}
+use Rattle.yaml_flow.specs.SinkModel.{holds_of}
 use Rattle.yaml_flow.specs.Lines.{IsLine}
 use Rattle.yaml_flow.specs.PropertyRules.{props_of}
 use Rattle.yaml_text.specs.Lines.{AfterLine}
-use Rattle.yaml_text.specs.grammar.Rules.{◌▸◌, any}
-use Rattle.yaml_text.specs.grammar.Separation.{indent}
-use Rattle.yaml_complete.specs.Decisions.{Rest}
+use Rattle.yaml_definitions.specs.grammar.Rules.{◌▸◌, any}
+use Rattle.yaml_definitions.specs.grammar.Separation.{s-indent as indent}
+use Rattle.law_going_on.specs.Decisions.{Rest}
 use Rattle.yaml_block.specs.BlockEnds.{AfterSequence, AfterMapping}
 use Rattle.yaml_block.specs.BlockRules.{entries_rest, sequence_with, seq_body}
 use Rattle.yaml_block.proofs.BlockLemmas.{seq_entry_at, map_entry_at}
@@ -17,38 +18,38 @@ use Rattle.yaml_block.specs.OuterRules.{properties_left}
 use Rattle.yaml_block.proofs.block.+blocks.Given as goal
 
 abbrev pub decreases-read_sequence : goal.decreases-read_sequence
-decreases-read_sequence l = 16 * l.room
+decreases-read_sequence g l = 16 * l.room
 
 abbrev pub decreases-read_keyed : goal.decreases-read_keyed
-decreases-read_keyed l = 16 * l.room
+decreases-read_keyed g l = 16 * l.room
 
 abbrev pub decreases-read_dressed : goal.decreases-read_dressed
-decreases-read_dressed l = 16 * l.room + 1
+decreases-read_dressed g l = 16 * l.room + 1
 
 abbrev pub decreases-read_node : goal.decreases-read_node
-decreases-read_node l = 16 * l.room + (4 * properties_left (props_of l.outer) + 2)
+decreases-read_node g l = 16 * l.room + (4 * properties_left (props_of l.outer) + 2)
 
 abbrev pub decreases-read_under : goal.decreases-read_under
-decreases-read_under l = 16 * l.room + (4 * properties_left (props_of l.outer) + 3)
+decreases-read_under g l = 16 * l.room + (4 * properties_left (props_of l.outer) + 3)
 
 abbrev pub decreases-read_below : goal.decreases-read_below
-decreases-read_below l = 16 * l.room + 12
+decreases-read_below g l = 16 * l.room + 12
 
 abbrev pub decreases-read_value : goal.decreases-read_value
-decreases-read_value l = 16 * l.room + 13
+decreases-read_value g l = 16 * l.room + 13
 
 abbrev pub decreases-read_indented : goal.decreases-read_indented
-decreases-read_indented l = 16 * l.room + 13
+decreases-read_indented g l = 16 * l.room + 13
 
 abbrev pub decreases-read_entries : goal.decreases-read_entries
-decreases-read_entries l = 16 * l.room + 14
+decreases-read_entries g l = 16 * l.room + 14
 
 abbrev pub invariant-read_sequence-entries : goal.invariant-read_sequence-entries
-invariant-read_sequence-entries l =
+invariant-read_sequence-entries g l =
     record {
       line : IsLine l.source l.line;
       onward : l.at < l.line.start;
-      reads : (es : List Event) × Adds l.fn.out.items (seq_start false (props_of l.fn.properties) ∷ es) l.out.items
+      reads : (es : List Event) × Puts (holds_of g.K.Keeper.holds) l.fn.out (seq_start false (props_of l.fn.properties) ∷ es) l.out
           × seq_body (text_of l.source) (Unit {0}) (handles_of l.handles) (l.room - 1) l.column (place_of l.source l.at) (place_of l.source l.line.start) es;
       after : AfterLine (text_of l.source) (place_of l.source l.line.start);
       rest : Rest (sequence_with (text_of l.source) (Unit {0}) (handles_of l.handles) (props_of l.fn.properties) l.room l.column) (AfterSequence (text_of l.source) l.column) (place_of l.source l.at)
@@ -56,14 +57,14 @@ invariant-read_sequence-entries l =
     }
 
 abbrev pub decreases-read_sequence-entries : goal.decreases-read_sequence-entries
-decreases-read_sequence-entries l = length (bytes_of l.source) - l.line.start
+decreases-read_sequence-entries g l = length (bytes_of l.source) - l.line.start
 
 abbrev pub invariant-read_entries-entries : goal.invariant-read_entries-entries
-invariant-read_entries-entries l =
+invariant-read_entries-entries g l =
     record {
       line : IsLine l.source l.line;
       onward : l.after ≤ l.line.start;
-      reads : (es : List Event) × Adds l.fn.out.items es l.out.items
+      reads : (es : List Event) × Puts (holds_of g.K.Keeper.holds) l.fn.out es l.out
           × entries_rest (text_of l.source) (Unit {0}) (handles_of l.handles) l.room l.column (place_of l.source l.after) (place_of l.source l.line.start) es;
       after : AfterLine (text_of l.source) (place_of l.source l.line.start);
       rest : Rest (entries_rest (text_of l.source) (Unit {0}) (handles_of l.handles) l.room l.column) (AfterMapping (text_of l.source) l.column) (place_of l.source l.after)
@@ -71,4 +72,4 @@ invariant-read_entries-entries l =
     }
 
 abbrev pub decreases-read_entries-entries : goal.decreases-read_entries-entries
-decreases-read_entries-entries l = length (bytes_of l.source) - l.line.start
+decreases-read_entries-entries g l = length (bytes_of l.source) - l.line.start

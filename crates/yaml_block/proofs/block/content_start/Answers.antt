@@ -1,7 +1,7 @@
 use Rattle.std.proofs.Common.{◌≡◌, inr, arith, subst}
 use Rattle.yaml_text.specs.Source.{text_of, place_of}
-use Rattle.yaml_text.specs.grammar.Rules.{Stands}
-use Rattle.yaml_text.specs.grammar.Characters.{is_space}
+use Rattle.yaml_definitions.specs.grammar.Rules.{Stands}
+use Rattle.yaml_definitions.specs.grammar.Characters.{is_space}
 use Rattle.yaml_text.proofs.LineRuns.{indent_run, indent_place}
 use Rattle.yaml_text.proofs.Tests.{on_false_at}
 use Rattle.yaml_block.proofs.block.content_start.Goals as goal

@@ -1,18 +1,17 @@
-use Rattle.std.proofs.Common.{◌≡◌, suc, inr, arith, subst, sym, ◌-◌, []}
+use Rattle.std.proofs.Common.{◌≡◌, suc, inr, arith, subst, sym, ◌-◌}
 use Rattle.yaml_text.specs.Source.{text_of, place_of}
-use Rattle.yaml_text.specs.grammar.Separation.{flow_out}
+use Rattle.yaml_definitions.specs.grammar.Separation.{flow_out}
 use Rattle.yaml_mark.specs.HandlesModel.{handles_of}
 use Rattle.yaml_flow.specs.Decisions.{IsOnly}
 use Rattle.yaml_flow.specs.FlowRules.{Bare}
 use Rattle.yaml_flow.specs.PropertyRules.{props_of}
-use Rattle.yaml_flow.proofs.AnswerLemmas.{adds_on}
 use Rattle.yaml_block.specs.KeyFits.{NoneBelow}
-use Rattle.yaml_block.proofs.KeyDecisions.{adds_cut, none_below}
+use Rattle.yaml_block.proofs.KeyDecisions.{puts_again, none_below}
 use Rattle.yaml_block.proofs.Places.{borders_same}
 use Rattle.yaml_block.proofs.block.fit_key.Goals as goal
 
 pub returns-then-again-key-clause-reads : goal.returns-then-again-key-clause-reads
-returns-then-again-key-clause-reads c = λ old es e a b.
+returns-then-again-key-clause-reads g c = λ es b.
     let r = c.in_ok-again.ensures.reads in
     let s = c.args.source.now in
     let cs = text_of s in (
@@ -20,12 +19,12 @@ returns-then-again-key-clause-reads c = λ old es e a b.
       c.in_ok-again.again.kind,
       r.0,
       omega (arith, c.in_ok-again.ensures.within, c.if-room-eq0.false),
-      adds_on old c.truncate.new.self.items _ [] r.0 (adds_cut old _ _ es c.args.start e a c.truncate.ensures.items) r.1,
+      puts_again c.args.out.now c.cut.new.self c.announce.new.self _ c.args.start es r.0 c.cut.ensures c.announce.ensures r.1,
       subst (λ x. Bare cs (Unit {0}) (handles_of c.args.handles) c.in_ok-again.again.deep c.in_ok-again.again.kind c.args.col flow_out (props_of c.args.own.now) (place_of s c.args.end) (place_of s c.args.at) (place_of s x) r.0) c.if-again-key.true r.2,
     )
 
 pub returns-else-again-key-clause-decides : goal.returns-else-again-key-clause-decides
-returns-else-again-key-clause-decides c =
+returns-else-again-key-clause-decides g c =
     let cs = text_of c.args.source.now in
     let h = handles_of c.args.handles in
     let i = place_of c.args.source.now c.args.at in

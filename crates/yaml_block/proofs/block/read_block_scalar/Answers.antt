@@ -1,8 +1,8 @@
-use Rattle.std.proofs.Common.{◌≡◌, arith, length}
 use Rattle.yaml_text.specs.Source.{text_of, place_of}
-use Rattle.yaml_text.specs.grammar.Events.{no_props}
-use Rattle.yaml_complete.specs.Decisions.{Here}
+use Rattle.yaml_definitions.specs.grammar.Events.{no_props}
+use Rattle.law_going_on.specs.Decisions.{Here}
 use Rattle.yaml_flow.specs.PropertyRules.{props_of, dressed}
+use Rattle.yaml_flow.proofs.AnswerLemmas.{puts_after, puts_altered}
 use Rattle.yaml_flow.proofs.PropertyDecisions.{or_else}
 use Rattle.yaml_flow.proofs.Deciding.{decides_err}
 use Rattle.yaml_block.specs.BlockRules.{block_scalar_rest}
@@ -12,14 +12,13 @@ use Rattle.yaml_block.proofs.ScalarDecisions.{props_goes, props_refused}
 use Rattle.yaml_block.proofs.block.read_block_scalar.Goals as goal
 
 pub returns-clause-reads : goal.returns-clause-reads
-returns-clause-reads c =
+returns-clause-reads g c =
     let n = c.in_ok-line.ensures.reads in
     let p = props_of c.args.properties in
-    let length_is : c.len-start.result ≡ length c.args.out.now.items = omega (arith, c.len-start.ensures, c.args.out.now.ok.0) in
-    (dressed p n.0, c.dress.ensures c.args.out.now.items n.0 length_is n.1, scalar_dressed (text_of c.args.source.now) p c.args.col _ _ n.0 n.2)
+    (dressed p n.0, puts_altered c.args.out.now c.read_bare_scalar.new.out c.dress.new.self c.mark-start.result (dressed p) n.0 c.mark-start.ensures (puts_after c.args.out.now c.announce.new.self c.read_bare_scalar.new.out n.0 c.announce.ensures n.1) c.dress.ensures, scalar_dressed (text_of c.args.source.now) p c.args.col _ _ n.0 n.2)
 
 pub returns-in_err-line-clause-decides : goal.returns-in_err-line-clause-decides
-returns-in_err-line-clause-decides c =
+returns-in_err-line-clause-decides g c =
     let s = c.args.source.now in
     let cs = text_of s in
     let i = place_of s c.args.at in
@@ -28,7 +27,7 @@ returns-in_err-line-clause-decides c =
     (or_else (props_refused cs p no_props c.args.col i (AfterScalar cs)) c.in_err-line.ensures.decides)
 
 pub returns-clause-decides : goal.returns-clause-decides
-returns-clause-decides c =
+returns-clause-decides g c =
     let s = c.args.source.now in
     let cs = text_of s in
     props_goes cs (props_of c.args.properties) no_props c.args.col (place_of s c.args.at) (AfterScalar cs) Here (place_of s c.in_ok-line.line.start) c.in_ok-line.ensures.decides

@@ -1,13 +1,14 @@
 use Rattle.std.proofs.Common.{subst}
-use Rattle.yaml_text.specs.Limits.{open_limit}
+use Rattle.yaml_definitions.specs.model.Limits.{open_limit}
 use Rattle.yaml_text.specs.Source.{text_of, place_of}
-use Rattle.yaml_text.specs.grammar.Rules.{◌◂◌, ◌∪◌, gives}
-use Rattle.yaml_text.specs.grammar.Events.{no_props, empty}
-use Rattle.yaml_text.specs.grammar.Separation.{block_in, s_l_comments}
-use Rattle.yaml_text.specs.grammar.Streams.{bare_document}
+use Rattle.yaml_definitions.specs.grammar.Rules.{◌◂◌, ◌∪◌, gives}
+use Rattle.yaml_definitions.specs.grammar.Events.{no_props, e-scalar as empty}
+use Rattle.yaml_definitions.specs.grammar.Separation.{block_in, s-l-comments as s_l_comments}
+use Rattle.yaml_definitions.specs.grammar.Streams.{l-bare-document as bare_document}
 use Rattle.yaml_mark.specs.HandlesModel.{handles_of}
-use Rattle.yaml_complete.specs.Decisions.{Here}
+use Rattle.law_going_on.specs.Decisions.{Here}
 use Rattle.yaml_flow.specs.Answer.{Decides}
+use Rattle.yaml_flow.specs.SinkModel.{holds_of}
 use Rattle.yaml_flow.proofs.AnswerLemmas.{appends_by}
 use Rattle.yaml_block.specs.BlockEnds.{AfterNode}
 use Rattle.yaml_block.proofs.Passing.{decides_rest}
@@ -17,16 +18,16 @@ use Rattle.yaml_block.proofs.DocumentLemmas.{marked_document}
 use Rattle.yaml_block.proofs.document.read_marked.Goals as goal
 
 pub returns-clause-reads : goal.returns-clause-reads
-returns-clause-reads c =
+returns-clause-reads g c =
     let s = c.args.source.now in
     let cs = text_of s in
     let h = handles_of c.args.handles in
     appends_by (λ _. value_rest cs (Unit {0}) h c.room.result 0 block_in) (λ _. bare_document cs (Unit {0}) open_limit h ∪ (gives (empty no_props) ◂ s_l_comments cs))
-    (place_of s c.args.at) (place_of s c.args.at) (λ line. place_of s line.start) _ _ c.read_value.result
+    (place_of s c.args.at) (place_of s c.args.at) (λ line. place_of s line.start) (holds_of g.K.Keeper.holds) _ _ c.read_value.result
     (λ x es r. marked_document cs h open_limit _ _ es (subst (λ n. value_rest cs (Unit {0}) h n 0 block_in (place_of s c.args.at) (place_of s x.start) es) c.room.ensures r)) c.read_value.ensures.reads
 
 pub returns-clause-decides : goal.returns-clause-decides
-returns-clause-decides c =
+returns-clause-decides g c =
     let s = c.args.source.now in
     let cs = text_of s in
     let h = handles_of c.args.handles in

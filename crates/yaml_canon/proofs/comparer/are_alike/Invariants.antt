@@ -1,6 +1,6 @@
 use Rattle.std.proofs.Common.{◌≡◌, map, drop}
 use Rattle.std.specs.Cmp.Lexicographic.{pointwise}
-use Rattle.yaml_text.specs.Same.{same}
+use Rattle.yaml_definitions.specs.model.Same.{same}
 use Rattle.yaml_graph.specs.GraphView.{tree}
 use Rattle.yaml_canon.proofs.comparer.are_alike.Given as goal
 

@@ -1,7 +1,7 @@
 use Rattle.std.proofs.Common.{◌∙◌, sym, ap}
 use Rattle.std.specs.Prelude.{bytes_eq}
-use Rattle.yaml_text.specs.NodeText.{node_text}
-use Rattle.yaml_text.specs.Spell.{text_len}
+use Rattle.yaml_definitions.specs.canonical.NodeText.{node_text}
+use Rattle.yaml_definitions.specs.canonical.Spell.{text_len}
 use Rattle.yaml_canon.proofs.ShortLaws.{fits_text, small_scalar, long_scalar}
 use Rattle.yaml_canon.proofs.node.is_short_scalar.Goals as goal
 

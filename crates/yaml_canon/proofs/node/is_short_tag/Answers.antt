@@ -1,7 +1,7 @@
 use Rattle.std.proofs.Common.{◌∙◌, sym, ap, ◌∷◌, [], ◌++◌}
 use Rattle.std.specs.Prelude.{nat_le}
-use Rattle.yaml_text.specs.Limits.{short_limit}
-use Rattle.yaml_text.specs.TagText.{tag_text, written_tag}
+use Rattle.yaml_definitions.specs.model.Limits.{short_limit}
+use Rattle.yaml_definitions.specs.canonical.TagText.{tag_text, written_tag}
 use Rattle.yaml_canon.specs.Kinds.{number_of_kind}
 use Rattle.yaml_canon.proofs.PieceLaws.{on_ok, if_err, puts_then, puts_piece, fails_later, fails_piece}
 use Rattle.yaml_canon.proofs.ShortLaws.{Holds, Stops, fits_text, long_front, was_ok}

@@ -1,5 +1,5 @@
 use Rattle.std.proofs.Common.{rules, refl, [], ◌∷◌, ◌/◌, ◌%◌}
-use Rattle.yaml_text.specs.CharText.{hex_digit}
+use Rattle.yaml_definitions.specs.canonical.CharText.{hex_digit}
 use Rattle.yaml_canon.proofs.PieceLaws.{adds_then, misses_more, misses_later, if_err}
 use Rattle.yaml_canon.proofs.parts.put_escape.Goals as goal
 

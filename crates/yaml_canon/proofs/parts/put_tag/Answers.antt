@@ -1,6 +1,6 @@
 use Rattle.std.proofs.Common.{◌≡◌, false, rules, sym, ◌∙◌, ap}
 use Rattle.std.specs.Prelude.{bytes_eq}
-use Rattle.yaml_text.specs.Tag.{default_tag}
+use Rattle.yaml_definitions.specs.model.Tag.{default_tag}
 use Rattle.yaml_canon.specs.Kinds.{number_of_kind}
 use Rattle.yaml_canon.proofs.PieceLaws.{on_ok, if_err}
 use Rattle.yaml_canon.proofs.PartLaws.{tag_left_out, tag_put, tag_cut, tag_spelled, tag_unopened, tag_broken, tag_unclosed}

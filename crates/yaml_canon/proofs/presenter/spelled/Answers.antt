@@ -1,6 +1,6 @@
 use Rattle.std.proofs.Common.{◌≤◌, sym, subst, rules, length}
 use Rattle.std.specs.String.{string_bytes}
-use Rattle.yaml_text.specs.Limits.{text_limit}
+use Rattle.yaml_definitions.specs.model.Limits.{text_limit}
 use Rattle.yaml_graph.specs.GraphView.{forest}
 use Rattle.yaml_canon.proofs.ClaimLaws.{whole_text, text_refused}
 use Rattle.yaml_canon.proofs.presenter.spelled.Goals as goal

@@ -1,5 +1,5 @@
 use Rattle.std.proofs.Common.{◌≡◌, ◌∙◌, ap, rules}
-use Rattle.yaml_text.specs.Order.{arranged}
+use Rattle.yaml_definitions.specs.model.Order.{arranged}
 use Rattle.yaml_graph.specs.GraphView.{tree}
 use Rattle.yaml_canon.specs.NamesView.{given_of}
 use Rattle.yaml_canon.specs.RankView.{rank_in}

@@ -1,6 +1,6 @@
 use Rattle.std.proofs.Common.{◌≡◌, false, true, sym, ◌∙◌, ap, rules, arith}
-use Rattle.yaml_text.specs.Order.{arranged}
-use Rattle.yaml_text.specs.Spell.{short}
+use Rattle.yaml_definitions.specs.model.Order.{arranged}
+use Rattle.yaml_definitions.specs.canonical.Spell.{short}
 use Rattle.yaml_graph.specs.GraphView.{tree}
 use Rattle.yaml_rank.specs.RankModel.{key_pair}
 use Rattle.yaml_canon.specs.RankView.{rank_in}

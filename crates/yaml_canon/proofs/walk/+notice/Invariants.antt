@@ -1,5 +1,5 @@
 use Rattle.std.proofs.Common.{◌≡◌, ◌+◌, ◌*◌, map, drop}
-use Rattle.yaml_text.specs.Order.{arranged}
+use Rattle.yaml_definitions.specs.model.Order.{arranged}
 use Rattle.yaml_graph.specs.GraphView.{tree}
 use Rattle.yaml_graph.specs.TreeLists.{trees, pairs}
 use Rattle.yaml_rank.specs.RankModel.{key_pair}

@@ -2,9 +2,9 @@ use Rattle.std.proofs.Common.{◌≡◌, ◌∙◌, true, sym, subst, map, rules
 use Rattle.std.specs.Prelude.{◌↔◌}
 use Rattle.std.specs.Str.{IsValidUpTo}
 use Rattle.yaml_text.specs.EventModel.{event_of}
-use Rattle.yaml_text.specs.EventText.{EventText}
+use Rattle.yaml_definitions.specs.model.EventText.{EventText}
 use Rattle.yaml_text.specs.Source.{text_of}
-use Rattle.yaml_text.specs.grammar.Reading.{Reads}
+use Rattle.yaml_definitions.specs.grammar.Reading.{Reads}
 use Rattle.yaml_command.specs.Judged.{IsReadable}
 use Rattle.yaml_event_text.proofs.Reading.{unread}
 use Rattle.yaml_command.proofs.check.has_events.Goals as goal

@@ -1,5 +1,5 @@
 use Rattle.std.proofs.Common.{sym, subst}
-use Rattle.yaml_text.specs.Limits.{text_limit}
+use Rattle.yaml_definitions.specs.model.Limits.{text_limit}
 use Rattle.yaml_canon.specs.Gathering.{Gathers}
 use Rattle.yaml_command.proofs.Answering.{if_refused}
 use Rattle.yaml_command.proofs.EventLaws.{events_failed}

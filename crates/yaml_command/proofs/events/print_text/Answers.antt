@@ -2,7 +2,7 @@ use Rattle.std.proofs.Common.{map, sym, subst, rules}
 use Rattle.std.proofs.lemmas.Result.{on_ok_weaker}
 use Rattle.yaml_text.specs.EventModel.{event_of}
 use Rattle.yaml_text.specs.Source.{text_of}
-use Rattle.yaml_text.specs.grammar.Reading.{Reads}
+use Rattle.yaml_definitions.specs.grammar.Reading.{Reads}
 use Rattle.yaml_command.proofs.Answering.{if_refused}
 use Rattle.yaml_event_text.proofs.Reading.{unread}
 use Rattle.yaml_command.proofs.EventLaws.{unread_untouched, text_printed, text_failed}

@@ -1,7 +1,7 @@
 use Rattle.std.proofs.Common.{◌≡◌, ◌+◌, ℕ, List, [], ◌∷◌, ◌++◌, length, take, drop, map, sym, ap, ◌∙◌, subst, arith, rules}
 use Rattle.std.proofs.lemmas.Result.{on_ok_weaker}
 use Rattle.yaml_text.specs.EventModel.{event_of}
-use Rattle.yaml_text.specs.EventText.{event_line, events_text}
+use Rattle.yaml_definitions.specs.model.EventText.{event_line, events_text}
 use Rattle.yaml_command.proofs.Answering.{if_refused}
 use Rattle.yaml_canon.specs.Writers.{Printed}
 use Rattle.yaml_events.proofs.LineText.{events_none}

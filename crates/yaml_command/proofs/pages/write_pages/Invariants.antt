@@ -1,6 +1,6 @@
 use Rattle.std.proofs.Common.{◌≤◌, ◌<◌, take, map, string_len, string_capacity}
 use Rattle.yaml_text.specs.EventModel.{event_of}
-use Rattle.yaml_text.specs.EventText.{events_text}
+use Rattle.yaml_definitions.specs.model.EventText.{events_text}
 use Rattle.yaml_command.specs.Pages.{PageHas}
 use Rattle.yaml_command.proofs.pages.write_pages.Given as goal
 

@@ -1,6 +1,6 @@
 use Rattle.std.specs.Cow.{cow_str_bytes}
-use Rattle.yaml_text.specs.Tag.{float_tag}
-use Rattle.yaml_text.specs.Core.{decimal_of}
+use Rattle.yaml_definitions.specs.model.Tag.{float_tag}
+use Rattle.yaml_definitions.specs.model.Core.{decimal_of}
 use Rattle.yaml_core.proofs.KindLemmas.{decimal_resolved, float_decimal, float_some, float_infinity, float_nan, float_none}
 use Rattle.yaml_core.proofs.content.float_content.Goals as goal
 

@@ -1,7 +1,7 @@
 use Rattle.std.proofs.Common.{sym, ◌∙◌, pos, drop}
 use Rattle.std.specs.Cow.{cow_str_bytes}
-use Rattle.yaml_text.specs.Tag.{int_tag}
-use Rattle.yaml_text.specs.Core.{int_value, number_in}
+use Rattle.yaml_definitions.specs.model.Tag.{int_tag}
+use Rattle.yaml_definitions.specs.model.Core.{int_value, number_in}
 use Rattle.yaml_core.specs.Values.{decimal_int}
 use Rattle.yaml_core.specs.declared.form.Form.TheVariants as forms
 use Rattle.yaml_core.proofs.KindLemmas.{has, taken_resolved, int_decimal, int_octal, int_hexadecimal, int_none}

@@ -1,6 +1,6 @@
 use Rattle.std.proofs.Common.{List, ℕ, Bor}
 use Rattle.std.specs.Option.{option_map}
-use Rattle.yaml_text.specs.Core.{exponent_of}
+use Rattle.yaml_definitions.specs.model.Core.{exponent_of}
 use Rattle.yaml_core.proofs.DecimalLemmas.{scale_fits, scale_past, scale_far}
 use Rattle.yaml_core.proofs.float.scale.Goals as goal
 

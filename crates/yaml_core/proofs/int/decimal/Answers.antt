@@ -1,7 +1,7 @@
 use Rattle.std.proofs.Common.{refl, not, sym, ◌∙◌, ap, subst}
 use Rattle.std.specs.Cow.{cow_str_bytes}
 use Rattle.std.specs.Str.{IsAscii}
-use Rattle.yaml_text.specs.Core.{unsigned, int_value}
+use Rattle.yaml_definitions.specs.model.Core.{unsigned, int_value}
 use Rattle.yaml_core.specs.State.{all_digits}
 use Rattle.yaml_core.specs.Digits.{without_zeros}
 use Rattle.yaml_core.specs.Values.{decimal_int}

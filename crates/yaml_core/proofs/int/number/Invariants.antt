@@ -1,5 +1,5 @@
 use Rattle.std.proofs.Common.{◌≡◌, ◌≤◌, take}
-use Rattle.yaml_text.specs.Core.{number_in}
+use Rattle.yaml_definitions.specs.model.Core.{number_in}
 use Rattle.yaml_core.proofs.int.number.Given as goal
 
 abbrev pub invariant-loop-byte : goal.invariant-loop-byte

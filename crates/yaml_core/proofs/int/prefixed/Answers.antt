@@ -1,7 +1,7 @@
 use Rattle.std.proofs.Common.{◌-◌, List, ℕ, length, pos, drop, take, arith, ◌∙◌, ap, ◌≡◌}
 use Rattle.std.proofs.lemmas.List.{take_all, length-drop}
 use Rattle.std.specs.Cow.{cow_str_bytes}
-use Rattle.yaml_text.specs.Core.{int_value, number_in, natural_text}
+use Rattle.yaml_definitions.specs.model.Core.{int_value, number_in, natural_text}
 use Rattle.yaml_core.proofs.IntLemmas.{content_result, marked_content}
 use Rattle.yaml_core.proofs.int.prefixed.Goals as goal
 

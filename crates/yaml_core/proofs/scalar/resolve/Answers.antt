@@ -1,10 +1,10 @@
 use Rattle.std.proofs.Common.{◌≡◌, Ok, refl, sym, ◌∙◌, ap, subst, inl, inr}
 use Rattle.std.specs.Prelude.{MatchResult}
 use Rattle.std.specs.Cow.{cow_str_bytes}
-use Rattle.yaml_text.specs.Tag.{str_tag}
-use Rattle.yaml_text.specs.Event.{untagged}
+use Rattle.yaml_definitions.specs.model.Tag.{str_tag}
+use Rattle.yaml_definitions.specs.model.Event.{untagged}
 use Rattle.yaml_text.specs.EventModel.{written_of, style_of}
-use Rattle.yaml_text.specs.Core.{Resolved, resolve, by_table, by_tag}
+use Rattle.yaml_definitions.specs.model.Core.{Resolved, resolve, by_table, by_tag}
 use Rattle.yaml_core.specs.Answer.{RefusesScalar}
 use Rattle.yaml_core.proofs.scalar.resolve.Goals as goal
 

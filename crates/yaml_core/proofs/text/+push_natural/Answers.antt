@@ -1,6 +1,6 @@
 use Rattle.std.proofs.Common.{◌+◌, ◌/◌, ◌%◌, [], ◌∷◌, ◌++◌, sym, ◌∙◌, ap, append_assoc}
 use Rattle.std.specs.String.{string_bytes}
-use Rattle.yaml_text.specs.Core.{natural_text}
+use Rattle.yaml_definitions.specs.model.Core.{natural_text}
 use Rattle.yaml_core.proofs.NumberLemmas.{natural_digit, natural_more}
 use Rattle.yaml_core.proofs.TextLemmas.{if_ok_to}
 use Rattle.yaml_core.proofs.text.+push_natural.Goals as goal

@@ -1,7 +1,7 @@
 use Rattle.std.proofs.Common.{◌≡◌, ◌<◌, ◌+◌, ℕ, List, Option, Some, None, true, length, take, drop, sym, ◌∙◌, ap, subst, arith, get_or}
 use Rattle.std.proofs.lemmas.Str.{IsCharBoundary-after_ascii}
 use Rattle.std.proofs.lemmas.Bool.Decides.{nat_tests}
-use Rattle.yaml_text.specs.Core.{split_at}
+use Rattle.yaml_definitions.specs.model.Core.{split_at}
 use Rattle.yaml_core.specs.Delimiter.{is_delimiter}
 use Rattle.yaml_core.specs.declared.text.Delimiter.{Delimiter}
 use Rattle.yaml_core.specs.declared.text.Delimiter.TheVariants as marks

@@ -1,5 +1,5 @@
 use Rattle.std.proofs.Common.{◌≡◌, take, drop}
-use Rattle.yaml_text.specs.Core.{split_at}
+use Rattle.yaml_definitions.specs.model.Core.{split_at}
 use Rattle.yaml_core.specs.Delimiter.{is_delimiter}
 use Rattle.yaml_core.proofs.CutLemmas.{after_front}
 use Rattle.yaml_core.proofs.text.cut.Given as goal

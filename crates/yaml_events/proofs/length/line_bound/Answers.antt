@@ -1,6 +1,6 @@
 use Rattle.std.proofs.Common.{Global, ◌≡◌, ◌≤◌, ◌⊎◌, inl, inr, ℕ, ◌+◌, ◌*◌, Bool, true, false, [], ◌∷◌, ◌++◌, Option, arith, ap, refl, sym, subst, length}
 use Rattle.std.specs.declared.borrow.CowStr.{CowStr}
-use Rattle.yaml_text.specs.EventText.{anchor_part, tag_part, event_line}
+use Rattle.yaml_definitions.specs.model.EventText.{anchor_part, tag_part, event_line}
 use Rattle.yaml_text.specs.declared.event.Event as code
 use Rattle.yaml_text.specs.declared.event.Event.TheVariants as events
 use Rattle.yaml_text.specs.declared.event.EventTag as code_tag

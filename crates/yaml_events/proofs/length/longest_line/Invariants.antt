@@ -1,6 +1,6 @@
 use Rattle.std.proofs.Common.{◌≤◌, ◌++◌, ◌∷◌, [], All, length, map, take}
 use Rattle.yaml_text.specs.EventModel.{event_of}
-use Rattle.yaml_text.specs.EventText.{event_line}
+use Rattle.yaml_definitions.specs.model.EventText.{event_line}
 use Rattle.yaml_events.proofs.length.longest_line.Given as goal
 
 abbrev pub invariant-lines : goal.invariant-lines

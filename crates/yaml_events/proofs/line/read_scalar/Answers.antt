@@ -2,7 +2,7 @@ use Rattle.std.proofs.Common.{Global, ◌≡◌, List, ℕ}
 use Rattle.std.specs.Option.{option_map}
 use Rattle.std.specs.Cow.{cow_str_bytes}
 use Rattle.yaml_text.specs.EventModel.{written_of, style_of}
-use Rattle.yaml_text.specs.EventText.{value_text}
+use Rattle.yaml_definitions.specs.model.EventText.{value_text}
 use Rattle.yaml_events.specs.Parts.{IsProps, EndsProps, IsSigned, IsScalarLine}
 use Rattle.yaml_events.proofs.Lines.{props_seen, sign_seen, scalar_seen, scalar_props, scalar_sign, scalar_value, scalar_only, scalar_is}
 use Rattle.yaml_events.proofs.Reading.{passed_on}

@@ -3,7 +3,7 @@ use Rattle.std.specs.List.{list_all}
 use Rattle.std.specs.Str.{chars}
 use Rattle.std.proofs.lemmas.List.{nil_from_length}
 use Rattle.std.proofs.lemmas.Str.{IsUtf8-past_char, chars-nil}
-use Rattle.yaml_text.specs.Sound.{is_anchor_char}
+use Rattle.yaml_definitions.specs.model.Sound.{is_anchor_char}
 use Rattle.yaml_events.proofs.Names.{names_past, no_name, is_a_name}
 use Rattle.yaml_events.proofs.name.is_name.Goals as goal
 

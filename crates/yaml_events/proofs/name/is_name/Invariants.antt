@@ -1,7 +1,7 @@
 use Rattle.std.proofs.Common.{◌≡◌}
 use Rattle.std.specs.List.{list_all}
 use Rattle.std.specs.Str.{IsUtf8, chars}
-use Rattle.yaml_text.specs.Sound.{is_anchor_char}
+use Rattle.yaml_definitions.specs.model.Sound.{is_anchor_char}
 use Rattle.yaml_events.proofs.name.is_name.Given as goal
 
 abbrev pub invariant-chars : goal.invariant-chars

@@ -1,8 +1,8 @@
 use Rattle.std.proofs.Common.{◌≡◌, [], true, false, sym, ap, ◌∙◌}
 use Rattle.std.specs.Cow.{cow_str_bytes}
 use Rattle.percent_encoding.specs.Percent.{percent_decode}
-use Rattle.yaml_text.specs.Tag.{is_full}
-use Rattle.yaml_text.specs.TagText.{encoded}
+use Rattle.yaml_definitions.specs.model.Tag.{is_full}
+use Rattle.yaml_definitions.specs.canonical.TagText.{encoded}
 use Rattle.yaml_events.proofs.Tags.{decoded_is, undecoded}
 use Rattle.yaml_events.proofs.tag.decode.Goals as goal
 

@@ -1,7 +1,7 @@
 use Rattle.std.proofs.Common.{List, [], ℕ, ap, ◌∙◌}
 use Rattle.std.proofs.lemmas.Str.{is_utf8-from_IsUtf8}
-use Rattle.yaml_text.specs.TagText.{encoded}
-use Rattle.yaml_text.proofs.ProperLaws.{utf8_bytes}
+use Rattle.yaml_definitions.specs.canonical.TagText.{encoded}
+use Rattle.yaml_definitions.proofs.ProperLaws.{utf8_bytes}
 use Rattle.yaml_events.proofs.Tags.{encoded_whole, encoding_tells}
 use Rattle.yaml_events.proofs.tag.is_encoding.Goals as goal
 

@@ -1,8 +1,8 @@
 use Rattle.std.proofs.Common.{◌≡◌, ◌<◌, ◌+◌, ℕ, List, [], length, ap, arith, length-append, string_len, string_capacity}
 use Rattle.std.proofs.lemmas.Str.{is_utf8-from_IsUtf8}
 use Rattle.percent_encoding.specs.Percent.{percent_encode}
-use Rattle.yaml_text.specs.TagText.{encoded}
-use Rattle.yaml_text.proofs.ProperLaws.{utf8_bytes}
+use Rattle.yaml_definitions.specs.canonical.TagText.{encoded}
+use Rattle.yaml_definitions.proofs.ProperLaws.{utf8_bytes}
 use Rattle.yaml_events.specs.declared.tag.TheConstants.{ESCAPED}
 use Rattle.yaml_events.proofs.Pushes.{at_error}
 use Rattle.yaml_events.proofs.TagText.{encoded_whole}

@@ -1,6 +1,6 @@
 use Rattle.std.proofs.Common.{◌≡◌, ◌≤◌, ◌++◌, [], string_bytes, string_capacity}
 use Rattle.percent_encoding.specs.Iter.{encoded_text}
-use Rattle.yaml_text.specs.TagText.{encoded}
+use Rattle.yaml_definitions.specs.canonical.TagText.{encoded}
 use Rattle.yaml_events.proofs.tag.push_encoded.Given as goal
 
 abbrev pub invariant-encode : goal.invariant-encode

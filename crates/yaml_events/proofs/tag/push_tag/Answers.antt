@@ -1,9 +1,9 @@
 use Rattle.std.proofs.Common.{◌≡◌, ◌<◌, ◌≤◌, ◌+◌, List, [], ℕ, ◌++◌, sym, ap, ◌∙◌, subst, length, append_assoc, String, string_bytes, string_len, string_capacity}
 use Rattle.std.proofs.lemmas.Result.{on_err_weaker}
 use Rattle.std.specs.Prelude.{codes}
-use Rattle.yaml_text.specs.TagText.{encoded}
+use Rattle.yaml_definitions.specs.canonical.TagText.{encoded}
 use Rattle.yaml_text.specs.EventModel.{written_of}
-use Rattle.yaml_text.specs.EventText.{tag_part}
+use Rattle.yaml_definitions.specs.model.EventText.{tag_part}
 use Rattle.yaml_events.proofs.Pushes.{pushed, at_error}
 use Rattle.yaml_events.proofs.Room.{full_first, full_next}
 use Rattle.yaml_events.proofs.TagText.{encoded_then}

@@ -2,7 +2,7 @@ use Rattle.std.proofs.Common.{◌≡◌, ◌<◌, ◌≤◌, ◌++◌, ℕ, ◌+
 use Rattle.std.specs.Str.{IsCharBoundary}
 use Rattle.std.specs.String.{string_bytes, string_len, string_capacity}
 use Rattle.std.proofs.lemmas.Str.{IsCharBoundary-start, IsCharBoundary-after_ascii}
-use Rattle.yaml_text.specs.EventText.{value_byte, value_text}
+use Rattle.yaml_definitions.specs.model.EventText.{value_byte, value_text}
 use Rattle.std.proofs.lemmas.Result.{on_err_weaker}
 use Rattle.yaml_events.proofs.Pushes.{at_error}
 use Rattle.yaml_events.proofs.Room.{full_within}

@@ -1,7 +1,7 @@
 use Rattle.std.proofs.Common.{◌≡◌, ◌≤◌, ◌-◌, ◌++◌, take, drop}
 use Rattle.std.specs.Str.{IsCharBoundary}
 use Rattle.std.specs.String.{string_bytes, string_capacity}
-use Rattle.yaml_text.specs.EventText.{value_text}
+use Rattle.yaml_definitions.specs.model.EventText.{value_text}
 use Rattle.yaml_events.proofs.value.push_value.Given as goal
 
 abbrev pub invariant-spell : goal.invariant-spell

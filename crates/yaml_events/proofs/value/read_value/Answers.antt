@@ -3,7 +3,7 @@ use Rattle.std.specs.Str.{IsCharBoundary}
 use Rattle.std.specs.String.{string_bytes}
 use Rattle.std.proofs.lemmas.List.{append-nil}
 use Rattle.std.proofs.lemmas.Str.{IsCharBoundary-start, IsCharBoundary-after_ascii, IsUtf8-string_bytes}
-use Rattle.yaml_text.specs.EventText.{value_text}
+use Rattle.yaml_definitions.specs.model.EventText.{value_text}
 use Rattle.yaml_events.proofs.ValueReading.{IsReading, some_case, none_case, reading_same, refused_escape, refused_byte, refused_end, reading_escape, reading_mark, reading_on, read_whole, read_parts}
 use Rattle.yaml_events.proofs.value.read_value.Goals as goal
 use Rattle.yaml_events.proofs.value.read_value.Goals.{then-escaped+in-Some+in_ok-push, else-escaped+then-byte-eq92+in_ok-push_str, else-escaped+else-byte-eq92+else-is_some}

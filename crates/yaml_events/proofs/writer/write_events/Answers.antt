@@ -1,7 +1,7 @@
 use Rattle.std.proofs.Common.{◌++◌, ◌∷◌, [], ℕ, sym, ap, ◌∙◌, take, map}
 use Rattle.std.proofs.lemmas.List.{map_more}
 use Rattle.yaml_text.specs.EventModel.{event_of}
-use Rattle.yaml_text.specs.EventText.{events_text, event_line}
+use Rattle.yaml_definitions.specs.model.EventText.{events_text, event_line}
 use Rattle.yaml_events.proofs.LineText.{events_none, events_line_more}
 use Rattle.yaml_events.proofs.writer.write_events.Goals as goal
 

@@ -1,28 +1,26 @@
-use Rattle.std.proofs.Common.{◌≡◌, ℕ, ◌-◌, inl, inr, true, ◌+◌, ◌≤◌, List, [], ◌∷◌, ◌++◌, None, refl, sym, ◌∙◌, ap, subst, arith, length, max}
-use Rattle.std.specs.Prelude.{insert}
-use Rattle.std.proofs.lemmas.List.{append-nil}
-use Rattle.yaml_text.specs.Event.{Event, untagged, sequence_start, mapping_start, sequence_end, mapping_end}
+use Rattle.std.proofs.Common.{◌≡◌, ℕ, ◌-◌, inl, inr, true, ◌+◌, ◌≤◌, List, [], ◌∷◌, ◌++◌, None, ◌∙◌, ap, subst, arith, max}
+use Rattle.yaml_definitions.specs.model.Event.{Event, untagged, sequence_start, mapping_start, sequence_end, mapping_end}
 use Rattle.yaml_text.specs.EventModel.{context_of}
 use Rattle.yaml_text.specs.Source.{text_of, place_of}
-use Rattle.yaml_text.specs.grammar.Events.{no_props, empty, alias_node}
-use Rattle.yaml_text.specs.grammar.Tags as tags
-use Rattle.yaml_text.specs.grammar.Rules.{any, ◌◂◌, given, gives, seen}
+use Rattle.yaml_definitions.specs.grammar.Events.{no_props, e-scalar as empty, alias_node}
+use Rattle.yaml_definitions.specs.grammar.Tags as tags
+use Rattle.yaml_definitions.specs.grammar.Rules.{any, ◌◂◌, given, gives, seen}
 use Rattle.yaml_text.proofs.Tests.{on_true_at, on_false_at}
 use Rattle.yaml_flow.specs.FlowRules.{opens, below, MayFollowColon, SignAt, AskedAt, spaced, comma, from_room, item_at, entry_at, keyed_at, asked_at, value_at, parts, content_from, Bare, aliased, plainly, with_properties, lone}
 use Rattle.yaml_mark.specs.HandlesModel.{handles_of}
 use Rattle.yaml_flow.specs.PropertyRules.{props_of, dressed}
 use Rattle.yaml_flow.specs.declared.flow.Kind.TheVariants.{Yaml}
+use Rattle.yaml_flow.specs.SinkModel.{holds_of}
 use Rattle.yaml_flow.proofs.PropertyLemmas.{own_marks}
-use Rattle.yaml_flow.proofs.AnswerLemmas.{adds_one, adds_on, adds_before, adds_back, appends_by, appends_after, appends_same, perhaps_some, perhaps_none}
+use Rattle.yaml_flow.proofs.AnswerLemmas.{puts_on, puts_none, puts_after, puts_altered, appends_by, appends_after, appends_same, perhaps_some, perhaps_none}
 use Rattle.yaml_flow.proofs.FlowLemmas.{no_parts, one_part, parts_end, part_end, sequence_is, mapping_is, pair_item, no_value, key_entry, lone_entry, value_is, bare_flow, empty_entry, asked_keyed, asked_nothing, keyed_entry, asked_entry, asked_pair, empty_pair}
-use Rattle.yaml_text.specs.grammar.Separation.{flow_in}
+use Rattle.yaml_definitions.specs.grammar.Separation.{flow_in}
 use Rattle.yaml_flow.proofs.LoopDecisions.{all_left, left_closed, left_refused, left_no_way, left_last, left_unclosed, left_more, left_no_more, to_in, none_in, item_begins, entry_begins, bracket_shut, bracket_other, brace_shut, brace_other, sequence_nowhere, sequence_goes, sequence_refused, mapping_nowhere, mapping_goes, mapping_refused}
-use Rattle.yaml_text.specs.grammar.Nodes.{flow_seq, flow_map}
-use Rattle.yaml_complete.specs.Decisions.{Here}
-use Rattle.yaml_complete.specs.FlowEnds.{InFlow}
+use Rattle.yaml_definitions.specs.grammar.Nodes.{c-flow-sequence as flow_seq, c-flow-mapping as flow_map}
+use Rattle.law_going_on.specs.Decisions.{Here}
+use Rattle.law_going_on.specs.FlowEnds.{InFlow}
 use Rattle.yaml_text.specs.Place.{Steps}
 use Rattle.yaml_text.specs.Source.{bytes_of}
-use Rattle.yaml_text.specs.EventModel.{Adds}
 use Rattle.yaml_flow.specs.Keys.{Spaced, IsKeySized}
 use Rattle.yaml_flow.specs.FlowDecisions.{NoKey, LongKey}
 use Rattle.yaml_flow.proofs.PropertyLemmas.{marks_props}
@@ -43,37 +41,37 @@ from_same a b R i j es e p room le = p room (subst (λ x. x ≤ room) e le)
 -- ---- items
 
 pub read_items-items-init : goal.read_items-items-init
-read_items-items-init t c =
+read_items-items-init g t c =
     let cs = text_of c.args.source.now in
     record {
       border = c.requires.border;
       onward = omega arith;
       within = omega arith;
-      reads = ([], sym (append-nil _), no_parts cs c.args.least (context_of c.args.context) (λ room. item_at cs (Unit {0}) (handles_of c.args.handles) room c.args.least (context_of c.args.context)) _);
+      reads = ([], puts_none _, no_parts cs c.args.least (context_of c.args.context) (λ room. item_at cs (Unit {0}) (handles_of c.args.handles) room c.args.least (context_of c.args.context)) _);
       left = λ e. all_left cs c.args.least _ 93 _;
     }
 
 pub read_items-returns-in-Some-clause-reads : goal.read_items-returns-in-Some-clause-reads
-read_items-returns-in-Some-clause-reads t c =
+read_items-returns-in-Some-clause-reads g t c =
     let cs = text_of c.args.source.now in
     let v = c.items.invariant.reads in
     let s = c.in-Some.ensures.some in
     (v.0, v.1, parts_end cs c.args.least (context_of c.args.context) (λ room. item_at cs (Unit {0}) (handles_of c.args.handles) room c.args.least (context_of c.args.context)) c.items.most _ _ 93 _ v.0 v.2 (s.is, s.next))
 
 pub read_items-returns-in-Some-accept-clause-reads : goal.read_items-returns-in-Some-accept-clause-reads
-read_items-returns-in-Some-accept-clause-reads t c =
+read_items-returns-in-Some-accept-clause-reads g t c =
     let cs = text_of c.args.source.now in
     let v = c.items.invariant.reads in
     let n = c.in_ok-item-in-None.ensures.reads in
     let s = c.in-Some-accept.ensures.some in (
       v.0 ++ n.0,
-      adds_on c.args.out.now.items c.items.out.items _ v.0 n.0 v.1 n.1,
+      puts_on c.args.out.now c.items.out _ v.0 n.0 v.1 n.1,
       from_same c.max-most.result (max c.items.most c.in_ok-item-in-None.deep) (λ room. parts cs c.args.least (context_of c.args.context) 93 (item_at cs (Unit {0}) (handles_of c.args.handles) room c.args.least (context_of c.args.context))) _ _ _ c.max-most.ensures
           (part_end cs c.args.least (context_of c.args.context) (λ room. item_at cs (Unit {0}) (handles_of c.args.handles) room c.args.least (context_of c.args.context)) c.items.most c.in_ok-item-in-None.deep _ _ _ _ 93 _ v.0 n.0 v.2 n.2 c.in_ok-after-in-None.ensures.separate (s.is, s.next)),
     )
 
 pub read_items-items-preserved : goal.read_items-items-preserved
-read_items-items-preserved t c =
+read_items-items-preserved g t c =
     let cs = text_of c.args.source.now in
     let v = c.items.invariant in
     let n = c.in_ok-item-in-None.ensures.reads in
@@ -85,7 +83,7 @@ read_items-items-preserved t c =
       within = omega (arith, c.max-most.ensures, v.within, c.in_ok-item-in-None.ensures.within);
       reads = (
         v.reads.0 ++ n.0,
-        adds_on c.args.out.now.items c.items.out.items _ v.reads.0 n.0 v.reads.1 n.1,
+        puts_on c.args.out.now c.items.out _ v.reads.0 n.0 v.reads.1 n.1,
         from_same c.max-most.result (max c.items.most c.in_ok-item-in-None.deep) (λ room. any (spaced cs c.args.least (context_of c.args.context) (item_at cs (Unit {0}) (handles_of c.args.handles) room c.args.least (context_of c.args.context)) ◂ comma cs c.args.least (context_of c.args.context))) _ _ _ c.max-most.ensures
             (one_part cs c.args.least (context_of c.args.context) (λ room. item_at cs (Unit {0}) (handles_of c.args.handles) room c.args.least (context_of c.args.context)) c.items.most c.in_ok-item-in-None.deep _ _ _ _ _ _ v.reads.0 n.0 v.reads.2 n.2
             c.in_ok-after-in-None.ensures.separate (s.is, s.next) h.separate),
@@ -98,37 +96,37 @@ read_items-items-preserved t c =
 -- ---- entries
 
 pub read_entries-entries-init : goal.read_entries-entries-init
-read_entries-entries-init t c =
+read_entries-entries-init g t c =
     let cs = text_of c.args.source.now in
     record {
       border = c.requires.border;
       onward = omega arith;
       within = omega arith;
-      reads = ([], sym (append-nil _), no_parts cs c.args.least (context_of c.args.context) (λ room. entry_at cs (Unit {0}) (handles_of c.args.handles) room c.args.least (context_of c.args.context)) _);
+      reads = ([], puts_none _, no_parts cs c.args.least (context_of c.args.context) (λ room. entry_at cs (Unit {0}) (handles_of c.args.handles) room c.args.least (context_of c.args.context)) _);
       left = λ e. all_left cs c.args.least _ 125 _;
     }
 
 pub read_entries-returns-in-Some-clause-reads : goal.read_entries-returns-in-Some-clause-reads
-read_entries-returns-in-Some-clause-reads t c =
+read_entries-returns-in-Some-clause-reads g t c =
     let cs = text_of c.args.source.now in
     let v = c.entries.invariant.reads in
     let s = c.in-Some.ensures.some in
     (v.0, v.1, parts_end cs c.args.least (context_of c.args.context) (λ room. entry_at cs (Unit {0}) (handles_of c.args.handles) room c.args.least (context_of c.args.context)) c.entries.most _ _ 125 _ v.0 v.2 (s.is, s.next))
 
 pub read_entries-returns-in-Some-accept-clause-reads : goal.read_entries-returns-in-Some-accept-clause-reads
-read_entries-returns-in-Some-accept-clause-reads t c =
+read_entries-returns-in-Some-accept-clause-reads g t c =
     let cs = text_of c.args.source.now in
     let v = c.entries.invariant.reads in
     let n = c.in_ok-entry-in-None.ensures.reads in
     let s = c.in-Some-accept.ensures.some in (
       v.0 ++ n.0,
-      adds_on c.args.out.now.items c.entries.out.items _ v.0 n.0 v.1 n.1,
+      puts_on c.args.out.now c.entries.out _ v.0 n.0 v.1 n.1,
       from_same c.max-most.result (max c.entries.most c.in_ok-entry-in-None.deep) (λ room. parts cs c.args.least (context_of c.args.context) 125 (entry_at cs (Unit {0}) (handles_of c.args.handles) room c.args.least (context_of c.args.context))) _ _ _ c.max-most.ensures
           (part_end cs c.args.least (context_of c.args.context) (λ room. entry_at cs (Unit {0}) (handles_of c.args.handles) room c.args.least (context_of c.args.context)) c.entries.most c.in_ok-entry-in-None.deep _ _ _ _ 125 _ v.0 n.0 v.2 n.2 c.in_ok-after-in-None.ensures.separate (s.is, s.next)),
     )
 
 pub read_entries-entries-preserved : goal.read_entries-entries-preserved
-read_entries-entries-preserved t c =
+read_entries-entries-preserved g t c =
     let cs = text_of c.args.source.now in
     let v = c.entries.invariant in
     let n = c.in_ok-entry-in-None.ensures.reads in
@@ -140,7 +138,7 @@ read_entries-entries-preserved t c =
       within = omega (arith, c.max-most.ensures, v.within, c.in_ok-entry-in-None.ensures.within);
       reads = (
         v.reads.0 ++ n.0,
-        adds_on c.args.out.now.items c.entries.out.items _ v.reads.0 n.0 v.reads.1 n.1,
+        puts_on c.args.out.now c.entries.out _ v.reads.0 n.0 v.reads.1 n.1,
         from_same c.max-most.result (max c.entries.most c.in_ok-entry-in-None.deep) (λ room. any (spaced cs c.args.least (context_of c.args.context) (entry_at cs (Unit {0}) (handles_of c.args.handles) room c.args.least (context_of c.args.context)) ◂ comma cs c.args.least (context_of c.args.context))) _ _ _ c.max-most.ensures
             (one_part cs c.args.least (context_of c.args.context) (λ room. entry_at cs (Unit {0}) (handles_of c.args.handles) room c.args.least (context_of c.args.context)) c.entries.most c.in_ok-entry-in-None.deep _ _ _ _ _ _ v.reads.0 n.0 v.reads.2 n.2
             c.in_ok-after-in-None.ensures.separate (s.is, s.next) h.separate),
@@ -151,21 +149,21 @@ read_entries-entries-preserved t c =
     }
 
 pub read_key_entry-returns-in_ok-push_empty-in-None-clause-reads : goal.read_key_entry-returns-in_ok-push_empty-in-None-clause-reads
-read_key_entry-returns-in_ok-push_empty-in-None-clause-reads t c =
+read_key_entry-returns-in_ok-push_empty-in-None-clause-reads g t c =
     let cs = text_of c.args.source.now in
     let k = c.in_ok-key.ensures.reads in (
       k.0 ++ empty no_props,
-      adds_on c.args.out.now.items c.read_flow_node.new.out.items _ k.0 (empty no_props) k.1 c.in_ok-push_empty-in-None.ensures.ok,
+      puts_on c.args.out.now c.read_flow_node.new.out _ k.0 (empty no_props) k.1 c.in_ok-push_empty-in-None.ensures.ok,
       lone_entry cs (Unit {0}) (handles_of c.args.handles) c.in_ok-key.key.deep c.in_ok-key.key.kind c.args.least (context_of c.args.context) _ _ k.0 k.2,
     )
 
 pub read_key_entry-returns-in_ok-end-in-Some-clause-reads : goal.read_key_entry-returns-in_ok-end-in-Some-clause-reads
-read_key_entry-returns-in_ok-end-in-Some-clause-reads t c =
+read_key_entry-returns-in_ok-end-in-Some-clause-reads g t c =
     let cs = text_of c.args.source.now in
     let k = c.in_ok-key.ensures.reads in
     let v = c.in_ok-end-in-Some.ensures.reads in (
       k.0 ++ v.0,
-      adds_on c.args.out.now.items c.read_flow_node.new.out.items _ k.0 v.0 k.1 v.1,
+      puts_on c.args.out.now c.read_flow_node.new.out _ k.0 v.0 k.1 v.1,
       from_same c.max.result (max c.in_ok-key.key.deep c.in_ok-end-in-Some.deep) (λ room. keyed_at cs (Unit {0}) (handles_of c.args.handles) room c.args.least (context_of c.args.context)) _ _ _ c.max.ensures
           (key_entry cs (Unit {0}) (handles_of c.args.handles) c.in_ok-key.key.deep c.in_ok-end-in-Some.deep c.in_ok-key.key.kind c.args.least (context_of c.args.context) _ _ _ _ k.0 v.0 k.2 c.in_ok-colon.ensures.separate v.2),
     )
@@ -175,27 +173,27 @@ read_key_entry-returns-in_ok-end-in-Some-clause-reads t c =
 -- ---- collections
 
 pub read_sequence-returns-clause-reads : goal.read_sequence-returns-clause-reads
-read_sequence-returns-clause-reads t c =
+read_sequence-returns-clause-reads g t c =
     let cs = text_of c.args.source.now in
     let n = c.in_ok-end.ensures.reads in
     let b = c.requires.bracket in (
       sequence_start true None untagged ∷ (n.0 ++ (sequence_end ∷ [])),
-      adds_on c.args.out.now.items c.read_items.new.out.items _ (sequence_start true None untagged ∷ n.0) (sequence_end ∷ [])
-          (adds_on c.args.out.now.items c.push.new.self.items _ (sequence_start true None untagged ∷ []) n.0 (adds_one _ _ _ _ c.flow_sequence.ensures c.in_ok-push.ensures.items) n.1)
-          (adds_one _ _ _ _ refl c.in_ok-push-2.ensures.items),
+      puts_on c.args.out.now c.read_items.new.out _ (sequence_start true None untagged ∷ n.0) (sequence_end ∷ [])
+          (puts_on c.args.out.now c.push_flow_sequence.new.out _ (sequence_start true None untagged ∷ []) n.0 c.in_ok-push_flow_sequence.ensures.ok n.1)
+          c.in_ok-push_sequence_end.ensures.ok,
       sequence_is cs (Unit {0}) (handles_of c.args.handles) c.args.least (context_of c.args.context) c.in_ok-end.deep _ _ _ _ n.0 (b.is, b.next) c.in_ok-first.ensures.separate
           (subst (λ x. from_room c.in_ok-end.deep (λ room. parts cs c.args.least x 93 (item_at cs (Unit {0}) (handles_of c.args.handles) room c.args.least x)) (place_of c.args.source.now c.in_ok-first.first) (place_of c.args.source.now c.in_ok-end.end) n.0) c.inner.ensures.context n.2),
     )
 
 pub read_mapping-returns-clause-reads : goal.read_mapping-returns-clause-reads
-read_mapping-returns-clause-reads t c =
+read_mapping-returns-clause-reads g t c =
     let cs = text_of c.args.source.now in
     let n = c.in_ok-end.ensures.reads in
     let b = c.requires.bracket in (
       mapping_start true None untagged ∷ (n.0 ++ (mapping_end ∷ [])),
-      adds_on c.args.out.now.items c.read_entries.new.out.items _ (mapping_start true None untagged ∷ n.0) (mapping_end ∷ [])
-          (adds_on c.args.out.now.items c.push.new.self.items _ (mapping_start true None untagged ∷ []) n.0 (adds_one _ _ _ _ c.flow_mapping.ensures c.in_ok-push.ensures.items) n.1)
-          (adds_one _ _ _ _ refl c.in_ok-push-2.ensures.items),
+      puts_on c.args.out.now c.read_entries.new.out _ (mapping_start true None untagged ∷ n.0) (mapping_end ∷ [])
+          (puts_on c.args.out.now c.push_flow_mapping.new.out _ (mapping_start true None untagged ∷ []) n.0 c.in_ok-push_flow_mapping.ensures.ok n.1)
+          c.in_ok-push_mapping_end.ensures.ok,
       mapping_is cs (Unit {0}) (handles_of c.args.handles) c.args.least (context_of c.args.context) c.in_ok-end.deep _ _ _ _ n.0 (b.is, b.next) c.in_ok-first.ensures.separate
           (subst (λ x. from_room c.in_ok-end.deep (λ room. parts cs c.args.least x 125 (entry_at cs (Unit {0}) (handles_of c.args.handles) room c.args.least x)) (place_of c.args.source.now c.in_ok-first.first) (place_of c.args.source.now c.in_ok-end.end) n.0) c.inner.ensures.context n.2),
     )
@@ -203,12 +201,12 @@ read_mapping-returns-clause-reads t c =
 -- ---- values
 
 pub read_value-returns-then-not-is_parted-clause-reads : goal.read_value-returns-then-not-is_parted-clause-reads
-read_value-returns-then-not-is_parted-clause-reads t c =
+read_value-returns-then-not-is_parted-clause-reads g t c =
     let s = c.requires.colon in
     (empty no_props, c.in_ok-push_empty.ensures.ok, no_value (text_of c.args.source.now) (Unit {0}) (handles_of c.args.handles) c.args.kind c.args.least (context_of c.args.context) _ _ (s.is, s.next) c.requires.sign)
 
 pub read_value-returns-clause-reads : goal.read_value-returns-clause-reads
-read_value-returns-clause-reads t c =
+read_value-returns-clause-reads g t c =
     let s = c.requires.colon in
     let n = c.in_ok-value.ensures.reads in (
       n.0,
@@ -218,46 +216,46 @@ read_value-returns-clause-reads t c =
     )
 
 pub read_value-returns-then-ends_value-clause-reads : goal.read_value-returns-then-ends_value-clause-reads
-read_value-returns-then-ends_value-clause-reads t c =
+read_value-returns-then-ends_value-clause-reads g t c =
     let s = c.requires.colon in
     (empty no_props, c.in_ok-push_empty-2.ensures.ok, no_value (text_of c.args.source.now) (Unit {0}) (handles_of c.args.handles) c.args.kind c.args.least (context_of c.args.context) _ _ (s.is, s.next) c.requires.sign)
 
 -- ---- nodes
 
 pub read_flow_node-returns-clause-reads : goal.read_flow_node-returns-clause-reads
-read_flow_node-returns-clause-reads t c =
+read_flow_node-returns-clause-reads g t c =
     let cs = text_of c.args.source.now in
     let h = handles_of c.args.handles in
     let n = c.in_ok-node.ensures.reads in
     let p = props_of c.in_ok-own.own in
-    let start : c.len-start.result ≡ length c.args.out.now.items = omega (arith, c.len-start.ensures, c.args.out.now.ok.0) in (
+    let altered = puts_altered c.args.out.now c.read_bare.new.out c.dress.new.self c.mark-start.result (dressed p) n.0 c.mark-start.ensures (puts_after c.args.out.now c.announce.new.self c.read_bare.new.out n.0 c.announce.ensures n.1) c.dress.ensures in (
       dressed p n.0,
-      c.dress.ensures c.args.out.now.items n.0 start n.1,
+      altered,
       bare_flow cs (Unit {0}) h c.in_ok-node.node.deep c.in_ok-node.node.kind c.args.least (context_of c.args.context) p _ _ _ n.0 n.2,
     )
 
 pub read_flow_node-read_bare-requires : goal.read_flow_node-read_bare-requires
-read_flow_node-read_bare-requires t c = (omega arith, (c.requires.border, (c.in_ok-own.ensures.border, (c.in_ok-own.ensures.onward, (c.in_ok-own.ensures.own, (c.in_ok-own.ensures.all, c.requires.low))))))
+read_flow_node-read_bare-requires g t c = λ κs l. (omega arith, (l, (c.requires.border, (c.in_ok-own.ensures.border, (c.in_ok-own.ensures.onward, (c.in_ok-own.ensures.own, (c.in_ok-own.ensures.all, c.requires.low)))))))
 
 -- an alias
 pub read_bare-returns-in-Some-clause-reads : goal.read_bare-returns-in-Some-clause-reads
-read_bare-returns-in-Some-clause-reads t c =
+read_bare-returns-in-Some-clause-reads g t c =
     let cs = text_of c.args.source.now in
     let h = handles_of c.args.handles in
     let p = props_of c.args.own.now in
     let none = on_true_at c.is_none.result c.if-is_none.true c.is_none.ensures.yes in
-    appends_by (λ node. given (node.kind ≡ Yaml) (seen (λ x. alias_node x ∷ []) (tags.alias cs))) (λ node. Bare cs (Unit {0}) h node.deep node.kind c.args.least (context_of c.args.context) p (place_of c.args.source.now c.args.end))
-    (place_of c.args.source.now c.args.at) (place_of c.args.source.now c.args.at) (λ node. place_of c.args.source.now node.end) _ _ c.read_alias.result
+    appends_by (λ node. given (node.kind ≡ Yaml) (seen (λ x. alias_node x ∷ []) (tags.c-ns-alias-node cs))) (λ node. Bare cs (Unit {0}) h node.deep node.kind c.args.least (context_of c.args.context) p (place_of c.args.source.now c.args.end))
+    (place_of c.args.source.now c.args.at) (place_of c.args.source.now c.args.at) (λ node. place_of c.args.source.now node.end) (holds_of g.K.Keeper.holds) _ _ c.read_alias.result
     (λ node es (k, (x, a, e)). aliased x a e none k) c.read_alias.ensures.reads
 
 pub read_bare-returns-in-Some-2-clause-reads : goal.read_bare-returns-in-Some-2-clause-reads
-read_bare-returns-in-Some-2-clause-reads t c =
+read_bare-returns-in-Some-2-clause-reads g t c =
     let none = on_true_at c.is_none.result c.if-is_none.true c.is_none.ensures.yes in
     let n = perhaps_some (λ node. content_from (text_of c.args.source.now) (Unit {0}) (handles_of c.args.handles) node.deep node.kind c.args.least (context_of c.args.context)) _ (λ node. place_of c.args.source.now node.end) _ _ _ _ c.in-Some-2.is c.in_ok-node.ensures.reads in
     (n.0, n.1, plainly none n.2)
 
 pub read_bare-returns-in-Some-3-clause-reads : goal.read_bare-returns-in-Some-3-clause-reads
-read_bare-returns-in-Some-3-clause-reads t c =
+read_bare-returns-in-Some-3-clause-reads g t c =
     let cs = text_of c.args.source.now in
     let h = handles_of c.args.handles in
     let some = on_false_at c.is_none.result c.if-is_none.false c.is_none.ensures.no in
@@ -266,17 +264,17 @@ read_bare-returns-in-Some-3-clause-reads t c =
 
 -- properties alone
 pub read_bare-returns-then-start-end-clause-reads : goal.read_bare-returns-then-start-end-clause-reads
-read_bare-returns-then-start-end-clause-reads t c =
+read_bare-returns-then-start-end-clause-reads g t c =
     let cs = text_of c.args.source.now in
     let h = handles_of c.args.handles in
     let s = c.args.source.now in
     let some = on_false_at c.is_none.result c.if-is_none.false c.is_none.ensures.no in
     appends_by (λ node. given (node.kind ≡ Yaml) (gives (empty no_props))) (λ node. Bare cs (Unit {0}) h node.deep node.kind c.args.least (context_of c.args.context) (props_of c.args.own.now) (place_of s c.args.end))
-    (place_of s c.args.end) (place_of s c.args.at) (λ node. place_of s node.end) _ _ c.push_lone.result
+    (place_of s c.args.end) (place_of s c.args.at) (λ node. place_of s node.end) (holds_of g.K.Keeper.holds) _ _ c.push_lone.result
     (λ node es (k, (f, g)). lone (own_marks cs h c.args.least (context_of c.args.context) _ _ _ c.requires.own some) f g k) c.push_lone.ensures.reads
 
 pub read_bare-returns-in-None-2-clause-reads : goal.read_bare-returns-in-None-2-clause-reads
-read_bare-returns-in-None-2-clause-reads t c =
+read_bare-returns-in-None-2-clause-reads g t c =
     let cs = text_of c.args.source.now in
     let h = handles_of c.args.handles in
     let s = c.args.source.now in
@@ -289,42 +287,42 @@ read_bare-returns-in-None-2-clause-reads t c =
 -- ---- items and entries with `?`, and empty keys
 
 pub read_asked_pair-returns-clause-reads : goal.read_asked_pair-returns-clause-reads
-read_asked_pair-returns-clause-reads t c =
+read_asked_pair-returns-clause-reads g t c =
     let cs = text_of c.args.source.now in
     let n = c.in_ok-end.ensures.reads in
     let b = c.requires.sign in (
       mapping_start true None untagged ∷ (n.0 ++ (mapping_end ∷ [])),
-      adds_on c.args.out.now.items c.read_asked.new.out.items _ (mapping_start true None untagged ∷ n.0) (mapping_end ∷ [])
-          (adds_on c.args.out.now.items c.push.new.self.items _ (mapping_start true None untagged ∷ []) n.0 (adds_one _ _ _ _ c.flow_mapping.ensures c.in_ok-push.ensures.items) n.1)
-          (adds_one _ _ _ _ refl c.in_ok-push-2.ensures.items),
+      puts_on c.args.out.now c.read_asked.new.out _ (mapping_start true None untagged ∷ n.0) (mapping_end ∷ [])
+          (puts_on c.args.out.now c.push_flow_mapping.new.out _ (mapping_start true None untagged ∷ []) n.0 c.in_ok-push_flow_mapping.ensures.ok n.1)
+          c.in_ok-push_mapping_end.ensures.ok,
       asked_pair cs (handles_of c.args.handles) c.in_ok-end.deep c.args.least (context_of c.args.context) _ _ _ n.0 (b.is, b.next) n.2,
     )
 
 pub read_empty_pair-returns-clause-reads : goal.read_empty_pair-returns-clause-reads
-read_empty_pair-returns-clause-reads t c =
+read_empty_pair-returns-clause-reads g t c =
     let cs = text_of c.args.source.now in
     let n = c.in_ok-end.ensures.reads in (
       mapping_start true None untagged ∷ ((empty no_props ++ n.0) ++ (mapping_end ∷ [])),
-      adds_on c.args.out.now.items c.read_value.new.out.items _ (mapping_start true None untagged ∷ (empty no_props ++ n.0)) (mapping_end ∷ [])
-          (adds_on c.args.out.now.items c.push_empty.new.out.items _ (mapping_start true None untagged ∷ empty no_props) n.0
-          (adds_on c.args.out.now.items c.push.new.self.items _ (mapping_start true None untagged ∷ []) (empty no_props) (adds_one _ _ _ _ c.flow_mapping.ensures c.in_ok-push.ensures.items) c.in_ok-push_empty.ensures.ok) n.1)
-          (adds_one _ _ _ _ refl c.in_ok-push-2.ensures.items),
+      puts_on c.args.out.now c.read_value.new.out _ (mapping_start true None untagged ∷ (empty no_props ++ n.0)) (mapping_end ∷ [])
+          (puts_on c.args.out.now c.push_empty.new.out _ (mapping_start true None untagged ∷ empty no_props) n.0
+          (puts_on c.args.out.now c.push_flow_mapping.new.out _ (mapping_start true None untagged ∷ []) (empty no_props) c.in_ok-push_flow_mapping.ensures.ok c.in_ok-push_empty.ensures.ok) n.1)
+          c.in_ok-push_mapping_end.ensures.ok,
       empty_pair cs (handles_of c.args.handles) c.in_ok-end.deep c.args.least (context_of c.args.context) _ _ n.0 n.2,
     )
 
 pub read_entry-returns-in-None-clause-reads : goal.read_entry-returns-in-None-clause-reads
-read_entry-returns-in-None-clause-reads t c =
+read_entry-returns-in-None-clause-reads g t c =
     let cs = text_of c.args.source.now in
     let h = handles_of c.args.handles in
     let n = c.args.least in
     let x = context_of c.args.context in
     let s = c.args.source.now in
     appends_by (λ r. from_room r.1 (λ room. keyed_at cs (Unit {0}) h room n x)) (λ r. from_room r.1 (λ room. entry_at cs (Unit {0}) h room n x))
-    (place_of s c.args.at) (place_of s c.args.at) (λ r. place_of s r.0) _ _ c.read_keyed.result
+    (place_of s c.args.at) (place_of s c.args.at) (λ r. place_of s r.0) (holds_of g.K.Keeper.holds) _ _ c.read_keyed.result
     (λ r es p room le. keyed_entry cs h room n x _ _ es (p room le)) c.read_keyed.ensures.reads
 
 pub read_entry-returns-in-Some-clause-reads : goal.read_entry-returns-in-Some-clause-reads
-read_entry-returns-in-Some-clause-reads t c =
+read_entry-returns-in-Some-clause-reads g t c =
     let cs = text_of c.args.source.now in
     let h = handles_of c.args.handles in
     let n = c.args.least in
@@ -332,30 +330,30 @@ read_entry-returns-in-Some-clause-reads t c =
     let s = c.args.source.now in
     let q = c.in-Some.ensures.sign in
     appends_by (λ r. from_room r.1 (λ room. asked_at cs (Unit {0}) h room n x)) (λ r. from_room r.1 (λ room. entry_at cs (Unit {0}) h room n x))
-    (place_of s c.in-Some.after) (place_of s c.args.at) (λ r. place_of s r.0) _ _ c.read_asked.result
+    (place_of s c.in-Some.after) (place_of s c.args.at) (λ r. place_of s r.0) (holds_of g.K.Keeper.holds) _ _ c.read_asked.result
     (λ r es p. asked_entry cs h r.1 n x _ _ _ es (q.is, q.next) p) c.read_asked.ensures.reads
 
 pub read_asked-returns-clause-reads : goal.read_asked-returns-clause-reads
-read_asked-returns-clause-reads t c =
+read_asked-returns-clause-reads g t c =
     let cs = text_of c.args.source.now in
     let h = handles_of c.args.handles in
     let n = c.args.least in
     let x = context_of c.args.context in
     let s = c.args.source.now in
     appends_by (λ r. from_room r.1 (λ room. keyed_at cs (Unit {0}) h room n x)) (λ r. from_room r.1 (λ room. asked_at cs (Unit {0}) h room n x))
-    (place_of s c.in_ok-start.start) (place_of s c.args.after) (λ r. place_of s r.0) _ _ c.read_keyed.result
+    (place_of s c.in_ok-start.start) (place_of s c.args.after) (λ r. place_of s r.0) (holds_of g.K.Keeper.holds) _ _ c.read_keyed.result
     (λ r es p. asked_keyed cs (Unit {0}) h r.1 n x _ _ _ es (c.in_ok-start.ensures.apart (omega (arith, c.in_ok-start.ensures.onward, c.if-start-after.false))) p) c.read_keyed.ensures.reads
 
 pub read_asked-returns-then-ends_value-clause-reads : goal.read_asked-returns-then-ends_value-clause-reads
-read_asked-returns-then-ends_value-clause-reads t c =
+read_asked-returns-then-ends_value-clause-reads g t c =
     let cs = text_of c.args.source.now in (
       empty no_props ++ empty no_props,
-      adds_on c.args.out.now.items c.push_empty.new.out.items _ (empty no_props) (empty no_props) c.in_ok-push_empty.ensures.ok c.in_ok-push_empty-2.ensures.ok,
+      puts_on c.args.out.now c.push_empty.new.out _ (empty no_props) (empty no_props) c.in_ok-push_empty.ensures.ok c.in_ok-push_empty-2.ensures.ok,
       asked_nothing cs (Unit {0}) (handles_of c.args.handles) c.args.least (context_of c.args.context) _ _ (c.in_ok-start.ensures.apart (omega (arith, c.in_ok-start.ensures.onward, c.if-start-after.false))),
     )
 
 pub read_keyed-returns-in_ok-push_empty-in-Some-clause-reads : goal.read_keyed-returns-in_ok-push_empty-in-Some-clause-reads
-read_keyed-returns-in_ok-push_empty-in-Some-clause-reads t c =
+read_keyed-returns-in_ok-push_empty-in-Some-clause-reads g t c =
     let cs = text_of c.args.source.now in
     let h = handles_of c.args.handles in
     let n = c.args.least in
@@ -368,7 +366,7 @@ read_keyed-returns-in_ok-push_empty-in-Some-clause-reads t c =
 -- ---- what is decided
 
 pub read_asked-returns-clause-decides : goal.read_asked-returns-clause-decides
-read_asked-returns-clause-decides t c =
+read_asked-returns-clause-decides g t c =
     let cs = text_of c.args.source.now in
     let h = handles_of c.args.handles in
     let n = c.args.least in
@@ -378,7 +376,7 @@ read_asked-returns-clause-decides t c =
     (λ z g. asked_keyed_goes cs h c.args.room n c.requires.mark.0 (place_of s c.args.after) c.requires.mark.1 c.requires.mark.2 (place_of s c.in_ok-start.start) (c.in_ok-start.ensures.way e) z (on_false_at c.ends_value.result c.if-ends_value.false c.ends_value.ensures.no) g) (asked_keyed_refused cs h c.args.room n c.requires.mark.0 (place_of s c.args.after) c.requires.mark.1 c.requires.mark.2 (place_of s c.in_ok-start.start) (c.in_ok-start.ensures.way e) (on_false_at c.ends_value.result c.if-ends_value.false c.ends_value.ensures.no)) (c.read_keyed.ensures.decides e)
 
 pub read_asked-returns-in_err-start-clause-decides : goal.read_asked-returns-in_err-start-clause-decides
-read_asked-returns-in_err-start-clause-decides t c =
+read_asked-returns-in_err-start-clause-decides g t c =
     let cs = text_of c.args.source.now in
     let h = handles_of c.args.handles in
     let n = c.args.least in
@@ -387,7 +385,7 @@ read_asked-returns-in_err-start-clause-decides t c =
     λ e. decides_err (asked_at cs (Unit {0}) h c.args.room n flow_in) (InFlow cs n) (place_of s c.args.after) (InFlow cs n) (λ r. place_of s r.0) c.from_residual.result c.in_err-start.field-0.0 c.from_residual.ensures.1 (inr (asked_nowhere cs h c.args.room n c.requires.mark.0 (place_of s c.args.after) c.requires.mark.1 c.requires.mark.2 (none_in cs n x _ e (c.in_err-start.ensures.none (mark_inside cs (place_of s c.args.after) c.requires.mark)))))
 
 pub read_asked-returns-then-ends_value-clause-decides : goal.read_asked-returns-then-ends_value-clause-decides
-read_asked-returns-then-ends_value-clause-decides t c =
+read_asked-returns-then-ends_value-clause-decides g t c =
     let cs = text_of c.args.source.now in
     let h = handles_of c.args.handles in
     let n = c.args.least in
@@ -396,7 +394,7 @@ read_asked-returns-then-ends_value-clause-decides t c =
     λ e. asked_closed cs h c.args.room n c.requires.mark.0 (place_of s c.args.after) c.requires.mark.1 c.requires.mark.2 (place_of s c.in_ok-start.start) (c.in_ok-start.ensures.way e) (on_true_at c.ends_value.result c.if-ends_value.true c.ends_value.ensures.yes)
 
 pub read_asked-returns-then-start-after-clause-decides : goal.read_asked-returns-then-start-after-clause-decides
-read_asked-returns-then-start-after-clause-decides t c =
+read_asked-returns-then-start-after-clause-decides g t c =
     let cs = text_of c.args.source.now in
     let h = handles_of c.args.handles in
     let n = c.args.least in
@@ -405,11 +403,11 @@ read_asked-returns-then-start-after-clause-decides t c =
     λ e. inr (asked_alone cs h c.args.room n c.requires.mark.0 (place_of s c.args.after) c.requires.mark.1 c.requires.mark.2 (λ q w. c.in_ok-start.ensures.way e q w ∙ ap (place_of s) c.if-start-after.true))
 
 pub read_asked_pair-read_asked-requires : goal.read_asked_pair-read_asked-requires
-read_asked_pair-read_asked-requires t c =
-    (omega arith, (c.requires.sign.border, (omega (arith, c.requires.low, c.requires.sign.forward), (c.requires.inner, (_, c.requires.sign.next, c.requires.sign.is)))))
+read_asked_pair-read_asked-requires g t c =
+    λ κs l. (omega arith, (l, (c.requires.sign.border, (omega (arith, c.requires.low, c.requires.sign.forward), (c.requires.inner, (_, c.requires.sign.next, c.requires.sign.is))))))
 
 pub read_asked_pair-returns-clause-decides : goal.read_asked_pair-returns-clause-decides
-read_asked_pair-returns-clause-decides t c =
+read_asked_pair-returns-clause-decides g t c =
     let cs = text_of c.args.source.now in
     let h = handles_of c.args.handles in
     let n = c.args.least in
@@ -418,7 +416,7 @@ read_asked_pair-returns-clause-decides t c =
     λ e. asked_goes cs h n c.args.room (c.args.room - 1) (omega arith) (place_of s c.args.at) (place_of s c.args.after) (place_of s c.in_ok-end.end) (subst (λ y. AskedAt y cs (place_of s c.args.at)) e c.requires.asked) c.requires.sign.next (c.in_ok-end.ensures.decides e)
 
 pub read_asked_pair-returns-in_err-end-clause-decides : goal.read_asked_pair-returns-in_err-end-clause-decides
-read_asked_pair-returns-in_err-end-clause-decides t c =
+read_asked_pair-returns-in_err-end-clause-decides g t c =
     let cs = text_of c.args.source.now in
     let h = handles_of c.args.handles in
     let n = c.args.least in
@@ -427,7 +425,7 @@ read_asked_pair-returns-in_err-end-clause-decides t c =
     λ e. decides_err (item_at cs (Unit {0}) h c.args.room n flow_in) (InFlow cs n) (place_of s c.args.at) (InFlow cs n) (λ r. place_of s r.0) c.from_residual-in_err-end.result c.in_err-end.field-0.0 c.from_residual-in_err-end.ensures.1 (or_else (asked_refused cs h n c.args.room (c.args.room - 1) (omega arith) (place_of s c.args.at) (place_of s c.args.after) (subst (λ y. AskedAt y cs (place_of s c.args.at)) e c.requires.asked) c.requires.sign.next) (c.in_err-end.ensures.decides e))
 
 pub read_asked_pair-returns-then-room-eq0-clause-decides : goal.read_asked_pair-returns-then-room-eq0-clause-decides
-read_asked_pair-returns-then-room-eq0-clause-decides t c =
+read_asked_pair-returns-then-room-eq0-clause-decides g t c =
     let cs = text_of c.args.source.now in
     let h = handles_of c.args.handles in
     let n = c.args.least in
@@ -436,7 +434,7 @@ read_asked_pair-returns-then-room-eq0-clause-decides t c =
     λ e. inr (asked_full cs h n c.args.room c.if-room-eq0.true (place_of s c.args.at) (subst (λ y. AskedAt y cs (place_of s c.args.at)) e c.requires.asked))
 
 pub read_bare-returns-in-None-2-clause-decides : goal.read_bare-returns-in-None-2-clause-decides
-read_bare-returns-in-None-2-clause-decides t c =
+read_bare-returns-in-None-2-clause-decides g t c =
     let cs = text_of c.args.source.now in
     let h = handles_of c.args.handles in
     let n = c.args.least in
@@ -449,7 +447,7 @@ read_bare-returns-in-None-2-clause-decides t c =
     (props_none cs h c.args.room n x (place_of s c.args.at) (place_of s c.args.end) own read c.requires.all (place_of s c.in_ok-start.start) c.in_ok-start.ensures.to (content_none cs h c.args.room n x (place_of s c.in_ok-start.start) (λ node. place_of s node.end) c.in_ok-node-2.field-0 c.in-None-2.is c.in_ok-node-2.ensures.decides))
 
 pub read_bare-returns-in-None-clause-decides : goal.read_bare-returns-in-None-clause-decides
-read_bare-returns-in-None-clause-decides t c =
+read_bare-returns-in-None-clause-decides g t c =
     let cs = text_of c.args.source.now in
     let h = handles_of c.args.handles in
     let n = c.args.least in
@@ -461,7 +459,7 @@ read_bare-returns-in-None-clause-decides t c =
     λ on. inr (bare_refused cs h c.args.room n x (place_of s c.args.at) bare c.in_default.ensures.none (content_none cs h c.args.room n x (place_of s c.args.at) (λ node. place_of s node.end) c.in_ok-node.field-0 c.in-None.is c.in_ok-node.ensures.decides))
 
 pub read_bare-returns-in-Some-2-clause-decides : goal.read_bare-returns-in-Some-2-clause-decides
-read_bare-returns-in-Some-2-clause-decides t c =
+read_bare-returns-in-Some-2-clause-decides g t c =
     let cs = text_of c.args.source.now in
     let h = handles_of c.args.handles in
     let n = c.args.least in
@@ -473,7 +471,7 @@ read_bare-returns-in-Some-2-clause-decides t c =
     λ on. bare_only cs h c.args.room n x (place_of s c.args.at) (place_of s c.in-Some-2.node.end) c.in-Some-2.node.kind bare c.in_default.ensures.none (content_some cs h c.args.room n x (place_of s c.args.at) (λ node. place_of s node.end) c.in_ok-node.field-0 c.in-Some-2.node c.in-Some-2.is c.in_ok-node.ensures.decides)
 
 pub read_bare-returns-in-Some-3-clause-decides : goal.read_bare-returns-in-Some-3-clause-decides
-read_bare-returns-in-Some-3-clause-decides t c =
+read_bare-returns-in-Some-3-clause-decides g t c =
     let cs = text_of c.args.source.now in
     let h = handles_of c.args.handles in
     let n = c.args.least in
@@ -487,7 +485,7 @@ read_bare-returns-in-Some-3-clause-decides t c =
     (content_some cs h c.args.room n x (place_of s c.in_ok-start.start) (λ node. place_of s node.end) c.in_ok-node-2.field-0 c.in-Some-3.node c.in-Some-3.is c.in_ok-node-2.ensures.decides)
 
 pub read_bare-returns-in-Some-clause-decides : goal.read_bare-returns-in-Some-clause-decides
-read_bare-returns-in-Some-clause-decides t c =
+read_bare-returns-in-Some-clause-decides g t c =
     let cs = text_of c.args.source.now in
     let h = handles_of c.args.handles in
     let n = c.args.least in
@@ -499,7 +497,7 @@ read_bare-returns-in-Some-clause-decides t c =
     λ on. alias_decides cs h c.args.room n x (place_of s c.args.at) c.in-Some.ensures.some.is (λ node. place_of s node.end) c.read_alias.result c.read_alias.ensures.kind c.read_alias.ensures.decides
 
 pub read_bare-returns-in_err-node-2-clause-decides : goal.read_bare-returns-in_err-node-2-clause-decides
-read_bare-returns-in_err-node-2-clause-decides t c =
+read_bare-returns-in_err-node-2-clause-decides g t c =
     let cs = text_of c.args.source.now in
     let h = handles_of c.args.handles in
     let n = c.args.least in
@@ -512,7 +510,7 @@ read_bare-returns-in_err-node-2-clause-decides t c =
     (or_else (λ f. props_refused cs h c.args.room n x (place_of s c.args.at) (place_of s c.args.end) own read c.requires.all (place_of s c.in_ok-start.start) c.in_ok-start.ensures.to (c.in_ok-start.ensures.apart (omega (arith, c.in_ok-start.ensures.onward, c.if-start-end.false))) f.0 (f.1, f.2)) c.in_err-node-2.ensures.decides)
 
 pub read_bare-returns-in_err-node-clause-decides : goal.read_bare-returns-in_err-node-clause-decides
-read_bare-returns-in_err-node-clause-decides t c =
+read_bare-returns-in_err-node-clause-decides g t c =
     let cs = text_of c.args.source.now in
     let h = handles_of c.args.handles in
     let n = c.args.least in
@@ -524,7 +522,7 @@ read_bare-returns-in_err-node-clause-decides t c =
     λ on. node_err cs h c.args.room n x (place_of s c.args.at) (λ node. place_of s node.end) c.from_residual.result c.in_err-node.field-0.0 c.from_residual.ensures.1 (or_else (λ f. bare_refused cs h c.args.room n x (place_of s c.args.at) bare c.in_default.ensures.none (f.1, f.2)) c.in_err-node.ensures.decides)
 
 pub read_bare-returns-in_err-start-clause-decides : goal.read_bare-returns-in_err-start-clause-decides
-read_bare-returns-in_err-start-clause-decides t c =
+read_bare-returns-in_err-start-clause-decides g t c =
     let cs = text_of c.args.source.now in
     let h = handles_of c.args.handles in
     let n = c.args.least in
@@ -536,7 +534,7 @@ read_bare-returns-in_err-start-clause-decides t c =
     λ on. node_err cs h c.args.room n x (place_of s c.args.at) (λ node. place_of s node.end) c.from_residual-in_err-start.result c.in_err-start.field-0.0 c.from_residual-in_err-start.ensures.1 (inr (props_nowhere cs h c.args.room n x (place_of s c.args.at) (place_of s c.args.end) own read c.requires.all on some c.in_err-start.ensures.none))
 
 pub read_bare-returns-then-start-end-clause-decides : goal.read_bare-returns-then-start-end-clause-decides
-read_bare-returns-then-start-end-clause-decides t c =
+read_bare-returns-then-start-end-clause-decides g t c =
     let cs = text_of c.args.source.now in
     let h = handles_of c.args.handles in
     let n = c.args.least in
@@ -549,7 +547,7 @@ read_bare-returns-then-start-end-clause-decides t c =
     (props_lone cs h c.args.room n x (place_of s c.args.at) (place_of s c.args.end) own read c.requires.all (λ q t u. c.in_ok-start.ensures.to q t u ∙ ap (place_of s) c.if-start-end.true))
 
 pub read_content-returns-in-Other-clause-decides : goal.read_content-returns-in-Other-clause-decides
-read_content-returns-in-Other-clause-decides t c =
+read_content-returns-in-Other-clause-decides g t c =
     let cs = text_of c.args.source.now in
     let h = handles_of c.args.handles in
     let n = c.args.least in
@@ -558,7 +556,7 @@ read_content-returns-in-Other-clause-decides t c =
     plain_content cs h c.args.room n x (place_of s c.args.at) (λ node. place_of s node.end) c.read_plain_node.result c.in-Other.ensures c.read_plain_node.ensures.decides
 
 pub read_content-returns-in_err-node-in-Double-clause-decides : goal.read_content-returns-in_err-node-in-Double-clause-decides
-read_content-returns-in_err-node-in-Double-clause-decides t c =
+read_content-returns-in_err-node-in-Double-clause-decides g t c =
     let cs = text_of c.args.source.now in
     let h = handles_of c.args.handles in
     let n = c.args.least in
@@ -568,7 +566,7 @@ read_content-returns-in_err-node-in-Double-clause-decides t c =
     (or_else (no_double cs h c.args.room n x (place_of s c.args.at) c.in-Double.ensures) c.in_err-node-in-Double.ensures.decides)
 
 pub read_content-returns-in_err-node-in-Mapping-clause-decides : goal.read_content-returns-in_err-node-in-Mapping-clause-decides
-read_content-returns-in_err-node-in-Mapping-clause-decides t c =
+read_content-returns-in_err-node-in-Mapping-clause-decides g t c =
     let cs = text_of c.args.source.now in
     let h = handles_of c.args.handles in
     let n = c.args.least in
@@ -578,7 +576,7 @@ read_content-returns-in_err-node-in-Mapping-clause-decides t c =
     (collection_err x (no_mapping cs h c.args.room n x (place_of s c.args.at) c.in-Mapping.ensures.is) c.in_err-node-in-Mapping.ensures.decides)
 
 pub read_content-returns-in_err-node-in-Sequence-clause-decides : goal.read_content-returns-in_err-node-in-Sequence-clause-decides
-read_content-returns-in_err-node-in-Sequence-clause-decides t c =
+read_content-returns-in_err-node-in-Sequence-clause-decides g t c =
     let cs = text_of c.args.source.now in
     let h = handles_of c.args.handles in
     let n = c.args.least in
@@ -588,7 +586,7 @@ read_content-returns-in_err-node-in-Sequence-clause-decides t c =
     (collection_err x (no_sequence cs h c.args.room n x (place_of s c.args.at) c.in-Sequence.ensures.is) c.in_err-node-in-Sequence.ensures.decides)
 
 pub read_content-returns-in_err-node-in-Single-clause-decides : goal.read_content-returns-in_err-node-in-Single-clause-decides
-read_content-returns-in_err-node-in-Single-clause-decides t c =
+read_content-returns-in_err-node-in-Single-clause-decides g t c =
     let cs = text_of c.args.source.now in
     let h = handles_of c.args.handles in
     let n = c.args.least in
@@ -598,7 +596,7 @@ read_content-returns-in_err-node-in-Single-clause-decides t c =
     (or_else (no_single cs h c.args.room n x (place_of s c.args.at) c.in-Single.ensures) c.in_err-node-in-Single.ensures.decides)
 
 pub read_content-returns-in_ok-node-in-Double-clause-decides : goal.read_content-returns-in_ok-node-in-Double-clause-decides
-read_content-returns-in_ok-node-in-Double-clause-decides t c =
+read_content-returns-in_ok-node-in-Double-clause-decides g t c =
     let cs = text_of c.args.source.now in
     let h = handles_of c.args.handles in
     let n = c.args.least in
@@ -607,7 +605,7 @@ read_content-returns-in_ok-node-in-Double-clause-decides t c =
     double_only cs h c.args.room n x (place_of s c.args.at) (place_of s c.in_ok-node-in-Double.node.end) c.in-Double.ensures c.in_ok-node-in-Double.ensures.decides c.in_ok-node-in-Double.node.kind c.in_ok-node-in-Double.ensures.kind
 
 pub read_content-returns-in_ok-node-in-Mapping-clause-decides : goal.read_content-returns-in_ok-node-in-Mapping-clause-decides
-read_content-returns-in_ok-node-in-Mapping-clause-decides t c =
+read_content-returns-in_ok-node-in-Mapping-clause-decides g t c =
     let cs = text_of c.args.source.now in
     let h = handles_of c.args.handles in
     let n = c.args.least in
@@ -616,7 +614,7 @@ read_content-returns-in_ok-node-in-Mapping-clause-decides t c =
     mapping_only cs h c.args.room n x (place_of s c.args.at) (place_of s c.in_ok-node-in-Mapping.node.end) c.in-Mapping.ensures.is c.in_ok-node-in-Mapping.ensures.decides c.in_ok-node-in-Mapping.node.kind c.in_ok-node-in-Mapping.ensures.kind
 
 pub read_content-returns-in_ok-node-in-Sequence-clause-decides : goal.read_content-returns-in_ok-node-in-Sequence-clause-decides
-read_content-returns-in_ok-node-in-Sequence-clause-decides t c =
+read_content-returns-in_ok-node-in-Sequence-clause-decides g t c =
     let cs = text_of c.args.source.now in
     let h = handles_of c.args.handles in
     let n = c.args.least in
@@ -625,7 +623,7 @@ read_content-returns-in_ok-node-in-Sequence-clause-decides t c =
     sequence_only cs h c.args.room n x (place_of s c.args.at) (place_of s c.in_ok-node-in-Sequence.node.end) c.in-Sequence.ensures.is c.in_ok-node-in-Sequence.ensures.decides c.in_ok-node-in-Sequence.node.kind c.in_ok-node-in-Sequence.ensures.kind
 
 pub read_content-returns-in_ok-node-in-Single-clause-decides : goal.read_content-returns-in_ok-node-in-Single-clause-decides
-read_content-returns-in_ok-node-in-Single-clause-decides t c =
+read_content-returns-in_ok-node-in-Single-clause-decides g t c =
     let cs = text_of c.args.source.now in
     let h = handles_of c.args.handles in
     let n = c.args.least in
@@ -634,7 +632,7 @@ read_content-returns-in_ok-node-in-Single-clause-decides t c =
     single_only cs h c.args.room n x (place_of s c.args.at) (place_of s c.in_ok-node-in-Single.node.end) c.in-Single.ensures c.in_ok-node-in-Single.ensures.decides c.in_ok-node-in-Single.node.kind c.in_ok-node-in-Single.ensures.kind
 
 pub read_content-returns-then-room-eq0-2-clause-decides : goal.read_content-returns-then-room-eq0-2-clause-decides
-read_content-returns-then-room-eq0-2-clause-decides t c =
+read_content-returns-then-room-eq0-2-clause-decides g t c =
     let cs = text_of c.args.source.now in
     let h = handles_of c.args.handles in
     let n = c.args.least in
@@ -643,7 +641,7 @@ read_content-returns-then-room-eq0-2-clause-decides t c =
     inr (no_mapping cs h c.args.room n x (place_of s c.args.at) c.in-Mapping.ensures.is (λ w p. no_mapping_left cs h c.args.room n x (place_of s c.args.at) c.if-room-eq0-2.true p))
 
 pub read_content-returns-then-room-eq0-clause-decides : goal.read_content-returns-then-room-eq0-clause-decides
-read_content-returns-then-room-eq0-clause-decides t c =
+read_content-returns-then-room-eq0-clause-decides g t c =
     let cs = text_of c.args.source.now in
     let h = handles_of c.args.handles in
     let n = c.args.least in
@@ -652,7 +650,7 @@ read_content-returns-then-room-eq0-clause-decides t c =
     inr (no_sequence cs h c.args.room n x (place_of s c.args.at) c.in-Sequence.ensures.is (λ w p. no_sequence_left cs h c.args.room n x (place_of s c.args.at) c.if-room-eq0.true p))
 
 pub read_empty_pair-returns-clause-decides : goal.read_empty_pair-returns-clause-decides
-read_empty_pair-returns-clause-decides t c =
+read_empty_pair-returns-clause-decides g t c =
     let cs = text_of c.args.source.now in
     let h = handles_of c.args.handles in
     let n = c.args.least in
@@ -661,7 +659,7 @@ read_empty_pair-returns-clause-decides t c =
     λ e. empty_goes cs h n c.args.room (c.args.room - 1) (omega arith) (place_of s c.args.at) (place_of s c.in_ok-end.end) (sign_in cs Yaml x (place_of s c.args.at) (place_of s c.args.after) e c.requires.colon.is c.requires.colon.next c.requires.sign) (c.in_ok-end.ensures.decides e)
 
 pub read_empty_pair-returns-in_err-end-clause-decides : goal.read_empty_pair-returns-in_err-end-clause-decides
-read_empty_pair-returns-in_err-end-clause-decides t c =
+read_empty_pair-returns-in_err-end-clause-decides g t c =
     let cs = text_of c.args.source.now in
     let h = handles_of c.args.handles in
     let n = c.args.least in
@@ -670,7 +668,7 @@ read_empty_pair-returns-in_err-end-clause-decides t c =
     λ e. decides_err (item_at cs (Unit {0}) h c.args.room n flow_in) (InFlow cs n) (place_of s c.args.at) (InFlow cs n) (λ r. place_of s r.0) c.from_residual-in_err-end.result c.in_err-end.field-0.0 c.from_residual-in_err-end.ensures.1 (or_else (empty_refused cs h n c.args.room (c.args.room - 1) (omega arith) (place_of s c.args.at) (sign_in cs Yaml x (place_of s c.args.at) (place_of s c.args.after) e c.requires.colon.is c.requires.colon.next c.requires.sign)) (c.in_err-end.ensures.decides e))
 
 pub read_empty_pair-returns-then-room-eq0-clause-decides : goal.read_empty_pair-returns-then-room-eq0-clause-decides
-read_empty_pair-returns-then-room-eq0-clause-decides t c =
+read_empty_pair-returns-then-room-eq0-clause-decides g t c =
     let cs = text_of c.args.source.now in
     let h = handles_of c.args.handles in
     let n = c.args.least in
@@ -679,7 +677,7 @@ read_empty_pair-returns-then-room-eq0-clause-decides t c =
     λ e. inr (empty_full cs h n c.args.room c.if-room-eq0.true (place_of s c.args.at) (sign_in cs Yaml x (place_of s c.args.at) (place_of s c.args.after) e c.requires.colon.is c.requires.colon.next c.requires.sign))
 
 pub read_entries-returns-in-None-accept-2-clause-decides : goal.read_entries-returns-in-None-accept-2-clause-decides
-read_entries-returns-in-None-accept-2-clause-decides t c =
+read_entries-returns-in-None-accept-2-clause-decides g t c =
     let cs = text_of c.args.source.now in
     let h = handles_of c.args.handles in
     let n = c.args.least in
@@ -688,7 +686,7 @@ read_entries-returns-in-None-accept-2-clause-decides t c =
     λ e. inr (left_unclosed cs n (entry_at cs (Unit {0}) h c.args.room n flow_in) (entry_begins cs h c.args.room n) 125 (brace_shut cs) brace_other (place_of s c.args.first) (place_of s c.entries.here) (c.entries.invariant.left e) c.in-None.ensures.none (place_of s c.in_ok-entry-in-None.entry) (c.in_ok-entry-in-None.ensures.decides e) (place_of s c.in_ok-after-in-None.after) (to_in cs n x _ _ e c.in_ok-after-in-None.ensures.to) c.in-None-accept.ensures.none c.in-None-accept-2.ensures.none)
 
 pub read_entries-returns-in-Some-accept-clause-decides : goal.read_entries-returns-in-Some-accept-clause-decides
-read_entries-returns-in-Some-accept-clause-decides t c =
+read_entries-returns-in-Some-accept-clause-decides g t c =
     let cs = text_of c.args.source.now in
     let h = handles_of c.args.handles in
     let n = c.args.least in
@@ -697,7 +695,7 @@ read_entries-returns-in-Some-accept-clause-decides t c =
     λ e. left_last cs n (entry_at cs (Unit {0}) h c.args.room n flow_in) (entry_begins cs h c.args.room n) 125 (brace_shut cs) brace_other (place_of s c.args.first) (place_of s c.entries.here) (c.entries.invariant.left e) c.in-None.ensures.none (place_of s c.in_ok-entry-in-None.entry) (c.in_ok-entry-in-None.ensures.decides e) (place_of s c.in_ok-after-in-None.after) (to_in cs n x _ _ e c.in_ok-after-in-None.ensures.to) _ c.in-Some-accept.ensures.some.is c.in-Some-accept.ensures.some.next
 
 pub read_entries-returns-in-Some-clause-decides : goal.read_entries-returns-in-Some-clause-decides
-read_entries-returns-in-Some-clause-decides t c =
+read_entries-returns-in-Some-clause-decides g t c =
     let cs = text_of c.args.source.now in
     let h = handles_of c.args.handles in
     let n = c.args.least in
@@ -706,7 +704,7 @@ read_entries-returns-in-Some-clause-decides t c =
     λ e. left_closed cs n (entry_at cs (Unit {0}) h c.args.room n flow_in) (entry_begins cs h c.args.room n) 125 (brace_shut cs) brace_other (place_of s c.args.first) (place_of s c.entries.here) _ (c.entries.invariant.left e) c.in-Some.ensures.some.is c.in-Some.ensures.some.next
 
 pub read_entries-returns-in_err-after-in-None-clause-decides : goal.read_entries-returns-in_err-after-in-None-clause-decides
-read_entries-returns-in_err-after-in-None-clause-decides t c =
+read_entries-returns-in_err-after-in-None-clause-decides g t c =
     let cs = text_of c.args.source.now in
     let h = handles_of c.args.handles in
     let n = c.args.least in
@@ -715,7 +713,7 @@ read_entries-returns-in_err-after-in-None-clause-decides t c =
     λ e. decides_err (parts cs n flow_in 125 (entry_at cs (Unit {0}) h c.args.room n flow_in)) Here (place_of s c.args.first) Here (λ r. place_of s r.0) c.from_residual-in_err-after-in-None.result c.in_err-after-in-None.field-0.0 c.from_residual-in_err-after-in-None.ensures.1 (inr (left_no_way cs n (entry_at cs (Unit {0}) h c.args.room n flow_in) (entry_begins cs h c.args.room n) 125 (brace_shut cs) brace_other (place_of s c.args.first) (place_of s c.entries.here) (c.entries.invariant.left e) c.in-None.ensures.none (place_of s c.in_ok-entry-in-None.entry) (c.in_ok-entry-in-None.ensures.decides e) (none_in cs n x _ e (c.in_err-after-in-None.ensures.none c.in_ok-entry-in-None.ensures.ends))))
 
 pub read_entries-returns-in_err-entry-in-None-clause-decides : goal.read_entries-returns-in_err-entry-in-None-clause-decides
-read_entries-returns-in_err-entry-in-None-clause-decides t c =
+read_entries-returns-in_err-entry-in-None-clause-decides g t c =
     let cs = text_of c.args.source.now in
     let h = handles_of c.args.handles in
     let n = c.args.least in
@@ -724,7 +722,7 @@ read_entries-returns-in_err-entry-in-None-clause-decides t c =
     λ e. decides_err (parts cs n flow_in 125 (entry_at cs (Unit {0}) h c.args.room n flow_in)) Here (place_of s c.args.first) Here (λ r. place_of s r.0) c.from_residual.result c.in_err-entry-in-None.field-0.0 c.from_residual.ensures.1 (or_else (left_refused cs n (entry_at cs (Unit {0}) h c.args.room n flow_in) (entry_begins cs h c.args.room n) 125 (brace_shut cs) brace_other (place_of s c.args.first) (place_of s c.entries.here) (c.entries.invariant.left e) c.in-None.ensures.none) (c.in_err-entry-in-None.ensures.decides e))
 
 pub read_entries-returns-in_err-here-in-Some-accept-2-clause-decides : goal.read_entries-returns-in_err-here-in-Some-accept-2-clause-decides
-read_entries-returns-in_err-here-in-Some-accept-2-clause-decides t c =
+read_entries-returns-in_err-here-in-Some-accept-2-clause-decides g t c =
     let cs = text_of c.args.source.now in
     let h = handles_of c.args.handles in
     let n = c.args.least in
@@ -733,11 +731,11 @@ read_entries-returns-in_err-here-in-Some-accept-2-clause-decides t c =
     λ e. decides_err (parts cs n flow_in 125 (entry_at cs (Unit {0}) h c.args.room n flow_in)) Here (place_of s c.args.first) Here (λ r. place_of s r.0) c.from_residual-in_err-here-in-Some-accept-2.result c.in_err-here-in-Some-accept-2.field-0.0 c.from_residual-in_err-here-in-Some-accept-2.ensures.1 (inr (left_no_more cs n (entry_at cs (Unit {0}) h c.args.room n flow_in) (entry_begins cs h c.args.room n) 125 (brace_shut cs) brace_other (place_of s c.args.first) (place_of s c.entries.here) (c.entries.invariant.left e) c.in-None.ensures.none (place_of s c.in_ok-entry-in-None.entry) (c.in_ok-entry-in-None.ensures.decides e) (place_of s c.in_ok-after-in-None.after) (to_in cs n x _ _ e c.in_ok-after-in-None.ensures.to) c.in-Some-accept-2.ensures.some.is (place_of s c.in-Some-accept-2.to) c.in-Some-accept-2.ensures.some.next (none_in cs n x _ e (c.in_err-here-in-Some-accept-2.ensures.none (char_inside cs _ _ 44 c.in-Some-accept-2.ensures.some.is c.in-Some-accept-2.ensures.some.next nb_comma)))))
 
 pub read_entry-read_asked-requires : goal.read_entry-read_asked-requires
-read_entry-read_asked-requires t c =
-    (omega arith, (c.in-Some.ensures.sign.border, (omega (arith, c.requires.low, c.in-Some.ensures.sign.forward), (c.requires.inner, (_, c.in-Some.ensures.sign.next, c.in-Some.ensures.sign.is)))))
+read_entry-read_asked-requires g t c =
+    λ κs l. (omega arith, (l, (c.in-Some.ensures.sign.border, (omega (arith, c.requires.low, c.in-Some.ensures.sign.forward), (c.requires.inner, (_, c.in-Some.ensures.sign.next, c.in-Some.ensures.sign.is))))))
 
 pub read_entry-returns-in-None-clause-decides : goal.read_entry-returns-in-None-clause-decides
-read_entry-returns-in-None-clause-decides t c =
+read_entry-returns-in-None-clause-decides g t c =
     let cs = text_of c.args.source.now in
     let h = handles_of c.args.handles in
     let n = c.args.least in
@@ -747,7 +745,7 @@ read_entry-returns-in-None-clause-decides t c =
     (λ z g. entry_goes cs h c.args.room n (place_of s c.args.at) z (subst (λ y. AskedAt y cs (place_of s c.args.at) → ⊥) e c.in-None.ensures.none) g) (entry_refused cs h c.args.room n (place_of s c.args.at) (subst (λ y. AskedAt y cs (place_of s c.args.at) → ⊥) e c.in-None.ensures.none)) (c.read_keyed.ensures.decides e)
 
 pub read_entry-returns-in-Some-clause-decides : goal.read_entry-returns-in-Some-clause-decides
-read_entry-returns-in-Some-clause-decides t c =
+read_entry-returns-in-Some-clause-decides g t c =
     let cs = text_of c.args.source.now in
     let h = handles_of c.args.handles in
     let n = c.args.least in
@@ -757,7 +755,7 @@ read_entry-returns-in-Some-clause-decides t c =
     (λ z g. asked_entry_goes cs h c.args.room n (place_of s c.args.at) (place_of s c.in-Some.after) c.in-Some.ensures.sign.next z (subst (λ y. AskedAt y cs (place_of s c.args.at)) e c.in-Some.ensures.asked) g) (asked_entry_refused cs h c.args.room n (place_of s c.args.at) (place_of s c.in-Some.after) c.in-Some.ensures.sign.next (subst (λ y. AskedAt y cs (place_of s c.args.at)) e c.in-Some.ensures.asked)) (c.read_asked.ensures.decides e)
 
 pub read_flow_node-returns-in_err-own-clause-decides : goal.read_flow_node-returns-in_err-own-clause-decides
-read_flow_node-returns-in_err-own-clause-decides t c =
+read_flow_node-returns-in_err-own-clause-decides g t c =
     let cs = text_of c.args.source.now in
     let h = handles_of c.args.handles in
     let n = c.args.least in
@@ -766,7 +764,7 @@ read_flow_node-returns-in_err-own-clause-decides t c =
     λ e. node_err cs h c.args.room n x (place_of s c.args.at) (λ node. place_of s node.end) c.from_residual.result c.in_err-own.field-0.0 c.from_residual.ensures.1 (or_else (barred_refused cs h c.args.room n x (place_of s c.args.at) e) c.in_err-own.ensures.barred)
 
 pub read_items-returns-in-None-accept-2-clause-decides : goal.read_items-returns-in-None-accept-2-clause-decides
-read_items-returns-in-None-accept-2-clause-decides t c =
+read_items-returns-in-None-accept-2-clause-decides g t c =
     let cs = text_of c.args.source.now in
     let h = handles_of c.args.handles in
     let n = c.args.least in
@@ -775,7 +773,7 @@ read_items-returns-in-None-accept-2-clause-decides t c =
     λ e. inr (left_unclosed cs n (item_at cs (Unit {0}) h c.args.room n flow_in) (item_begins cs h c.args.room n) 93 (bracket_shut cs) bracket_other (place_of s c.args.first) (place_of s c.items.here) (c.items.invariant.left e) c.in-None.ensures.none (place_of s c.in_ok-item-in-None.item) (c.in_ok-item-in-None.ensures.decides e) (place_of s c.in_ok-after-in-None.after) (to_in cs n x _ _ e c.in_ok-after-in-None.ensures.to) c.in-None-accept.ensures.none c.in-None-accept-2.ensures.none)
 
 pub read_items-returns-in-Some-accept-clause-decides : goal.read_items-returns-in-Some-accept-clause-decides
-read_items-returns-in-Some-accept-clause-decides t c =
+read_items-returns-in-Some-accept-clause-decides g t c =
     let cs = text_of c.args.source.now in
     let h = handles_of c.args.handles in
     let n = c.args.least in
@@ -784,7 +782,7 @@ read_items-returns-in-Some-accept-clause-decides t c =
     λ e. left_last cs n (item_at cs (Unit {0}) h c.args.room n flow_in) (item_begins cs h c.args.room n) 93 (bracket_shut cs) bracket_other (place_of s c.args.first) (place_of s c.items.here) (c.items.invariant.left e) c.in-None.ensures.none (place_of s c.in_ok-item-in-None.item) (c.in_ok-item-in-None.ensures.decides e) (place_of s c.in_ok-after-in-None.after) (to_in cs n x _ _ e c.in_ok-after-in-None.ensures.to) _ c.in-Some-accept.ensures.some.is c.in-Some-accept.ensures.some.next
 
 pub read_items-returns-in-Some-clause-decides : goal.read_items-returns-in-Some-clause-decides
-read_items-returns-in-Some-clause-decides t c =
+read_items-returns-in-Some-clause-decides g t c =
     let cs = text_of c.args.source.now in
     let h = handles_of c.args.handles in
     let n = c.args.least in
@@ -793,7 +791,7 @@ read_items-returns-in-Some-clause-decides t c =
     λ e. left_closed cs n (item_at cs (Unit {0}) h c.args.room n flow_in) (item_begins cs h c.args.room n) 93 (bracket_shut cs) bracket_other (place_of s c.args.first) (place_of s c.items.here) _ (c.items.invariant.left e) c.in-Some.ensures.some.is c.in-Some.ensures.some.next
 
 pub read_items-returns-in_err-after-in-None-clause-decides : goal.read_items-returns-in_err-after-in-None-clause-decides
-read_items-returns-in_err-after-in-None-clause-decides t c =
+read_items-returns-in_err-after-in-None-clause-decides g t c =
     let cs = text_of c.args.source.now in
     let h = handles_of c.args.handles in
     let n = c.args.least in
@@ -802,7 +800,7 @@ read_items-returns-in_err-after-in-None-clause-decides t c =
     λ e. decides_err (parts cs n flow_in 93 (item_at cs (Unit {0}) h c.args.room n flow_in)) Here (place_of s c.args.first) Here (λ r. place_of s r.0) c.from_residual-in_err-after-in-None.result c.in_err-after-in-None.field-0.0 c.from_residual-in_err-after-in-None.ensures.1 (inr (left_no_way cs n (item_at cs (Unit {0}) h c.args.room n flow_in) (item_begins cs h c.args.room n) 93 (bracket_shut cs) bracket_other (place_of s c.args.first) (place_of s c.items.here) (c.items.invariant.left e) c.in-None.ensures.none (place_of s c.in_ok-item-in-None.item) (c.in_ok-item-in-None.ensures.decides e) (none_in cs n x _ e (c.in_err-after-in-None.ensures.none c.in_ok-item-in-None.ensures.ends))))
 
 pub read_items-returns-in_err-here-in-Some-accept-2-clause-decides : goal.read_items-returns-in_err-here-in-Some-accept-2-clause-decides
-read_items-returns-in_err-here-in-Some-accept-2-clause-decides t c =
+read_items-returns-in_err-here-in-Some-accept-2-clause-decides g t c =
     let cs = text_of c.args.source.now in
     let h = handles_of c.args.handles in
     let n = c.args.least in
@@ -811,7 +809,7 @@ read_items-returns-in_err-here-in-Some-accept-2-clause-decides t c =
     λ e. decides_err (parts cs n flow_in 93 (item_at cs (Unit {0}) h c.args.room n flow_in)) Here (place_of s c.args.first) Here (λ r. place_of s r.0) c.from_residual-in_err-here-in-Some-accept-2.result c.in_err-here-in-Some-accept-2.field-0.0 c.from_residual-in_err-here-in-Some-accept-2.ensures.1 (inr (left_no_more cs n (item_at cs (Unit {0}) h c.args.room n flow_in) (item_begins cs h c.args.room n) 93 (bracket_shut cs) bracket_other (place_of s c.args.first) (place_of s c.items.here) (c.items.invariant.left e) c.in-None.ensures.none (place_of s c.in_ok-item-in-None.item) (c.in_ok-item-in-None.ensures.decides e) (place_of s c.in_ok-after-in-None.after) (to_in cs n x _ _ e c.in_ok-after-in-None.ensures.to) c.in-Some-accept-2.ensures.some.is (place_of s c.in-Some-accept-2.to) c.in-Some-accept-2.ensures.some.next (none_in cs n x _ e (c.in_err-here-in-Some-accept-2.ensures.none (char_inside cs _ _ 44 c.in-Some-accept-2.ensures.some.is c.in-Some-accept-2.ensures.some.next nb_comma)))))
 
 pub read_items-returns-in_err-item-in-None-clause-decides : goal.read_items-returns-in_err-item-in-None-clause-decides
-read_items-returns-in_err-item-in-None-clause-decides t c =
+read_items-returns-in_err-item-in-None-clause-decides g t c =
     let cs = text_of c.args.source.now in
     let h = handles_of c.args.handles in
     let n = c.args.least in
@@ -820,7 +818,7 @@ read_items-returns-in_err-item-in-None-clause-decides t c =
     λ e. decides_err (parts cs n flow_in 93 (item_at cs (Unit {0}) h c.args.room n flow_in)) Here (place_of s c.args.first) Here (λ r. place_of s r.0) c.from_residual.result c.in_err-item-in-None.field-0.0 c.from_residual.ensures.1 (or_else (left_refused cs n (item_at cs (Unit {0}) h c.args.room n flow_in) (item_begins cs h c.args.room n) 93 (bracket_shut cs) bracket_other (place_of s c.args.first) (place_of s c.items.here) (c.items.invariant.left e) c.in-None.ensures.none) (c.in_err-item-in-None.ensures.decides e))
 
 pub read_key_entry-returns-in_err-colon-clause-decides : goal.read_key_entry-returns-in_err-colon-clause-decides
-read_key_entry-returns-in_err-colon-clause-decides t c =
+read_key_entry-returns-in_err-colon-clause-decides g t c =
     let cs = text_of c.args.source.now in
     let h = handles_of c.args.handles in
     let n = c.args.least in
@@ -829,7 +827,7 @@ read_key_entry-returns-in_err-colon-clause-decides t c =
     λ e. decides_err (keyed_at cs (Unit {0}) h c.args.room n flow_in) (InFlow cs n) (place_of s c.args.at) (InFlow cs n) (λ r. place_of s r.0) c.from_residual-in_err-colon.result c.in_err-colon.field-0.0 c.from_residual-in_err-colon.ensures.1 (inr (key_nowhere cs h c.args.room n (place_of s c.args.at) (subst (λ y. SignAt Yaml y cs (place_of s c.args.at) → ⊥) e c.requires.no_colon) c.in_ok-key.key.kind (place_of s c.in_ok-key.key.end) (only_in cs h c.args.room n x c.in_ok-key.key.kind _ _ e (c.in_ok-key.ensures.decides e)) (none_in cs n x _ e (c.in_err-colon.ensures.none (node_inside cs h c.in_ok-key.key.deep n x c.in_ok-key.key.kind _ _ c.in_ok-key.ensures.reads.0 (c.in_ok-key.ensures.reads.2 c.in_ok-key.key.deep (omega arith)))))))
 
 pub read_key_entry-returns-in_err-end-in-Some-clause-decides : goal.read_key_entry-returns-in_err-end-in-Some-clause-decides
-read_key_entry-returns-in_err-end-in-Some-clause-decides t c =
+read_key_entry-returns-in_err-end-in-Some-clause-decides g t c =
     let cs = text_of c.args.source.now in
     let h = handles_of c.args.handles in
     let n = c.args.least in
@@ -838,7 +836,7 @@ read_key_entry-returns-in_err-end-in-Some-clause-decides t c =
     λ e. decides_err (keyed_at cs (Unit {0}) h c.args.room n flow_in) (InFlow cs n) (place_of s c.args.at) (InFlow cs n) (λ r. place_of s r.0) c.from_residual-in_err-end-in-Some.result c.in_err-end-in-Some.field-0.0 c.from_residual-in_err-end-in-Some.ensures.1 (or_else (key_refused cs h c.args.room n (place_of s c.args.at) (subst (λ y. SignAt Yaml y cs (place_of s c.args.at) → ⊥) e c.requires.no_colon) c.in_ok-key.key.kind (place_of s c.in_ok-key.key.end) (only_in cs h c.args.room n x c.in_ok-key.key.kind _ _ e (c.in_ok-key.ensures.decides e)) (place_of s c.in_ok-colon.colon) (to_in cs n x _ _ e c.in_ok-colon.ensures.to) (sign_in cs c.in_ok-key.key.kind x (place_of s c.in_ok-colon.colon) (place_of s c.in-Some.after) e c.in-Some.ensures.colon.is c.in-Some.ensures.colon.next c.in-Some.ensures.sign)) (c.in_err-end-in-Some.ensures.decides e))
 
 pub read_key_entry-returns-in_err-key-clause-decides : goal.read_key_entry-returns-in_err-key-clause-decides
-read_key_entry-returns-in_err-key-clause-decides t c =
+read_key_entry-returns-in_err-key-clause-decides g t c =
     let cs = text_of c.args.source.now in
     let h = handles_of c.args.handles in
     let n = c.args.least in
@@ -847,7 +845,7 @@ read_key_entry-returns-in_err-key-clause-decides t c =
     λ e. decides_err (keyed_at cs (Unit {0}) h c.args.room n flow_in) (InFlow cs n) (place_of s c.args.at) (InFlow cs n) (λ r. place_of s r.0) c.from_residual.result c.in_err-key.field-0.0 c.from_residual.ensures.1 (or_else (λ f. key_nothing cs h c.args.room n (place_of s c.args.at) (subst (λ y. SignAt Yaml y cs (place_of s c.args.at) → ⊥) e c.requires.no_colon) (refused_in cs h c.args.room n x _ e f)) (c.in_err-key.ensures.decides e))
 
 pub read_key_entry-returns-in_ok-end-in-Some-clause-decides : goal.read_key_entry-returns-in_ok-end-in-Some-clause-decides
-read_key_entry-returns-in_ok-end-in-Some-clause-decides t c =
+read_key_entry-returns-in_ok-end-in-Some-clause-decides g t c =
     let cs = text_of c.args.source.now in
     let h = handles_of c.args.handles in
     let n = c.args.least in
@@ -856,7 +854,7 @@ read_key_entry-returns-in_ok-end-in-Some-clause-decides t c =
     λ e. key_goes cs h c.args.room n (place_of s c.args.at) (subst (λ y. SignAt Yaml y cs (place_of s c.args.at) → ⊥) e c.requires.no_colon) c.in_ok-key.key.kind (place_of s c.in_ok-key.key.end) (only_in cs h c.args.room n x c.in_ok-key.key.kind _ _ e (c.in_ok-key.ensures.decides e)) (place_of s c.in_ok-colon.colon) (to_in cs n x _ _ e c.in_ok-colon.ensures.to) (place_of s c.in_ok-end-in-Some.end) (sign_in cs c.in_ok-key.key.kind x (place_of s c.in_ok-colon.colon) (place_of s c.in-Some.after) e c.in-Some.ensures.colon.is c.in-Some.ensures.colon.next c.in-Some.ensures.sign) (c.in_ok-end-in-Some.ensures.decides e)
 
 pub read_key_entry-returns-in_ok-push_empty-in-None-clause-decides : goal.read_key_entry-returns-in_ok-push_empty-in-None-clause-decides
-read_key_entry-returns-in_ok-push_empty-in-None-clause-decides t c =
+read_key_entry-returns-in_ok-push_empty-in-None-clause-decides g t c =
     let cs = text_of c.args.source.now in
     let h = handles_of c.args.handles in
     let n = c.args.least in
@@ -865,7 +863,7 @@ read_key_entry-returns-in_ok-push_empty-in-None-clause-decides t c =
     λ e. key_lone cs h c.args.room n (place_of s c.args.at) (subst (λ y. SignAt Yaml y cs (place_of s c.args.at) → ⊥) e c.requires.no_colon) c.in_ok-key.key.kind (place_of s c.in_ok-key.key.end) (only_in cs h c.args.room n x c.in_ok-key.key.kind _ _ e (c.in_ok-key.ensures.decides e)) (place_of s c.in_ok-colon.colon) (to_in cs n x _ _ e c.in_ok-colon.ensures.to) (subst (λ y. SignAt c.in_ok-key.key.kind y cs (place_of s c.in_ok-colon.colon) → ⊥) e c.in-None.ensures.none)
 
 pub read_key_entry-returns-in_ok-push_empty-in-None-clause-ends : goal.read_key_entry-returns-in_ok-push_empty-in-None-clause-ends
-read_key_entry-returns-in_ok-push_empty-in-None-clause-ends t c =
+read_key_entry-returns-in_ok-push_empty-in-None-clause-ends g t c =
     let cs = text_of c.args.source.now in
     let h = handles_of c.args.handles in
     let n = c.args.least in
@@ -874,7 +872,7 @@ read_key_entry-returns-in_ok-push_empty-in-None-clause-ends t c =
     inl (node_inside cs h c.in_ok-key.key.deep n x c.in_ok-key.key.kind _ _ c.in_ok-key.ensures.reads.0 (c.in_ok-key.ensures.reads.2 c.in_ok-key.key.deep (omega arith)))
 
 pub read_keyed-returns-in_ok-push_empty-in-Some-clause-decides : goal.read_keyed-returns-in_ok-push_empty-in-Some-clause-decides
-read_keyed-returns-in_ok-push_empty-in-Some-clause-decides t c =
+read_keyed-returns-in_ok-push_empty-in-Some-clause-decides g t c =
     let cs = text_of c.args.source.now in
     let h = handles_of c.args.handles in
     let n = c.args.least in
@@ -884,7 +882,7 @@ read_keyed-returns-in_ok-push_empty-in-Some-clause-decides t c =
     (λ z g. empty_key_goes cs h c.args.room n (place_of s c.args.at) z (sign_in cs Yaml x (place_of s c.args.at) (place_of s c.in-Some.after) e c.in-Some.ensures.colon.is c.in-Some.ensures.colon.next c.in-Some.ensures.sign) g) (empty_key_refused cs h c.args.room n (place_of s c.args.at) (sign_in cs Yaml x (place_of s c.args.at) (place_of s c.in-Some.after) e c.in-Some.ensures.colon.is c.in-Some.ensures.colon.next c.in-Some.ensures.sign)) (c.read_value.ensures.decides e)
 
 pub read_mapping-returns-clause-decides : goal.read_mapping-returns-clause-decides
-read_mapping-returns-clause-decides t c =
+read_mapping-returns-clause-decides g t c =
     let cs = text_of c.args.source.now in
     let h = handles_of c.args.handles in
     let n = c.args.least in
@@ -893,7 +891,7 @@ read_mapping-returns-clause-decides t c =
     λ w p. mapping_goes cs h c.args.room (c.args.room - 1) n (omega arith) x w p (place_of s c.args.at) (place_of s c.args.inside) c.requires.bracket.next (place_of s c.in_ok-first.first) c.in_ok-first.ensures.to _ (c.in_ok-end.ensures.decides (c.inner.ensures.context ∙ w))
 
 pub read_mapping-returns-in_err-end-clause-decides : goal.read_mapping-returns-in_err-end-clause-decides
-read_mapping-returns-in_err-end-clause-decides t c =
+read_mapping-returns-in_err-end-clause-decides g t c =
     let cs = text_of c.args.source.now in
     let h = handles_of c.args.handles in
     let n = c.args.least in
@@ -903,7 +901,7 @@ read_mapping-returns-in_err-end-clause-decides t c =
     (or_else (λ f p. mapping_refused cs h c.args.room (c.args.room - 1) n (omega arith) x w p (place_of s c.args.at) (place_of s c.args.inside) c.requires.bracket.next (place_of s c.in_ok-first.first) c.in_ok-first.ensures.to f) (c.in_err-end.ensures.decides (c.inner.ensures.context ∙ w)))
 
 pub read_mapping-returns-in_err-first-clause-decides : goal.read_mapping-returns-in_err-first-clause-decides
-read_mapping-returns-in_err-first-clause-decides t c =
+read_mapping-returns-in_err-first-clause-decides g t c =
     let cs = text_of c.args.source.now in
     let h = handles_of c.args.handles in
     let n = c.args.least in
@@ -913,7 +911,7 @@ read_mapping-returns-in_err-first-clause-decides t c =
     (inr (λ p. mapping_nowhere cs h c.args.room (c.args.room - 1) n (omega arith) x w p (place_of s c.args.at) (place_of s c.args.inside) c.requires.bracket.next (c.in_err-first.ensures.none (char_inside cs (place_of s c.args.at) (place_of s c.args.inside) 123 c.requires.bracket.is c.requires.bracket.next nb_brace))))
 
 pub read_node_item-returns-in-None-clause-decides : goal.read_node_item-returns-in-None-clause-decides
-read_node_item-returns-in-None-clause-decides t c =
+read_node_item-returns-in-None-clause-decides g t c =
     let cs = text_of c.args.source.now in
     let h = handles_of c.args.handles in
     let n = c.args.least in
@@ -922,7 +920,7 @@ read_node_item-returns-in-None-clause-decides t c =
     λ e. item_lone cs h n c.args.room (place_of s c.args.at) (subst (λ y. SignAt Yaml y cs (place_of s c.args.at) → ⊥) e c.requires.no_colon) (no_mark cs (place_of s c.args.at) (subst (λ y. AskedAt y cs (place_of s c.args.at) → ⊥) e c.requires.no_mark)) c.in_ok-key.key.kind (place_of s c.in_ok-key.key.end) (only_in cs h c.args.room n x c.in_ok-key.key.kind _ _ e (c.in_ok-key.ensures.decides e)) (subst (λ y. NoKey cs c.in_ok-key.key.kind y (place_of s c.args.at) (place_of s c.in_ok-key.key.end)) e (if_none _ c.in_ok-key_colon.field-0 c.in-None.is c.in_ok-key_colon.ensures.none))
 
 pub read_node_item-returns-in-None-clause-ends : goal.read_node_item-returns-in-None-clause-ends
-read_node_item-returns-in-None-clause-ends t c =
+read_node_item-returns-in-None-clause-ends g t c =
     let cs = text_of c.args.source.now in
     let h = handles_of c.args.handles in
     let n = c.args.least in
@@ -931,7 +929,7 @@ read_node_item-returns-in-None-clause-ends t c =
     inl (node_inside cs h c.in_ok-key.key.deep n x c.in_ok-key.key.kind _ _ c.in_ok-key.ensures.reads.0 (c.in_ok-key.ensures.reads.2 c.in_ok-key.key.deep (omega arith)))
 
 pub read_node_item-returns-in_err-end-in-Some-clause-decides : goal.read_node_item-returns-in_err-end-in-Some-clause-decides
-read_node_item-returns-in_err-end-in-Some-clause-decides t c =
+read_node_item-returns-in_err-end-in-Some-clause-decides g t c =
     let cs = text_of c.args.source.now in
     let h = handles_of c.args.handles in
     let n = c.args.least in
@@ -944,7 +942,7 @@ read_node_item-returns-in_err-end-in-Some-clause-decides t c =
     λ e. decides_err (item_at cs (Unit {0}) h c.args.room n flow_in) (InFlow cs n) (place_of s c.args.at) (InFlow cs n) (λ r. place_of s r.0) c.from_residual-in_err-end-in-Some.result c.in_err-end-in-Some.field-0.0 c.from_residual-in_err-end-in-Some.ensures.1 (or_else (λ f. item_no_pair cs h n c.args.room (place_of s c.args.at) (subst (λ y. SignAt Yaml y cs (place_of s c.args.at) → ⊥) e c.requires.no_colon) (no_mark cs (place_of s c.args.at) (subst (λ y. AskedAt y cs (place_of s c.args.at) → ⊥) e c.requires.no_mark)) c.in_ok-key.key.kind (place_of s c.in_ok-key.key.end) (only_in cs h c.args.room n x c.in_ok-key.key.kind _ _ e (c.in_ok-key.ensures.decides e)) q apart (sign_in cs c.in_ok-key.key.kind x q (place_of s c.in-Some.after) e colon.is colon.next sign) (own_refused cs h n c.args.room (c.args.room - 1) (omega arith) (place_of s c.args.at) (subst (λ y. SignAt Yaml y cs (place_of s c.args.at) → ⊥) e c.requires.no_colon) (no_mark cs (place_of s c.args.at) (subst (λ y. AskedAt y cs (place_of s c.args.at) → ⊥) e c.requires.no_mark)) c.in_ok-key.key.kind (place_of s c.in_ok-key.key.end) q (only_in cs h c.args.room n x c.in_ok-key.key.kind _ _ e (c.in_ok-key.ensures.decides e)) apart f)) (c.in_err-end-in-Some.ensures.decides e))
 
 pub read_node_item-returns-in_err-key-clause-decides : goal.read_node_item-returns-in_err-key-clause-decides
-read_node_item-returns-in_err-key-clause-decides t c =
+read_node_item-returns-in_err-key-clause-decides g t c =
     let cs = text_of c.args.source.now in
     let h = handles_of c.args.handles in
     let n = c.args.least in
@@ -953,7 +951,7 @@ read_node_item-returns-in_err-key-clause-decides t c =
     λ e. decides_err (item_at cs (Unit {0}) h c.args.room n flow_in) (InFlow cs n) (place_of s c.args.at) (InFlow cs n) (λ r. place_of s r.0) c.from_residual.result c.in_err-key.field-0.0 c.from_residual.ensures.1 (or_else (λ f. item_nothing cs h n c.args.room (place_of s c.args.at) (subst (λ y. SignAt Yaml y cs (place_of s c.args.at) → ⊥) e c.requires.no_colon) (no_mark cs (place_of s c.args.at) (subst (λ y. AskedAt y cs (place_of s c.args.at) → ⊥) e c.requires.no_mark)) (refused_in cs h c.args.room n x _ e f)) (c.in_err-key.ensures.decides e))
 
 pub read_node_item-returns-in_err-key_colon-clause-decides : goal.read_node_item-returns-in_err-key_colon-clause-decides
-read_node_item-returns-in_err-key_colon-clause-decides t c =
+read_node_item-returns-in_err-key_colon-clause-decides g t c =
     let cs = text_of c.args.source.now in
     let h = handles_of c.args.handles in
     let n = c.args.least in
@@ -961,8 +959,8 @@ read_node_item-returns-in_err-key_colon-clause-decides t c =
     let s = c.args.source.now in
     λ e. decides_err (item_at cs (Unit {0}) h c.args.room n flow_in) (InFlow cs n) (place_of s c.args.at) (InFlow cs n) (λ r. place_of s r.0) c.from_residual-in_err-key_colon.result c.in_err-key_colon.field-0.0 c.from_residual-in_err-key_colon.ensures.1 (inr (item_long cs h n c.args.room (place_of s c.args.at) (subst (λ y. SignAt Yaml y cs (place_of s c.args.at) → ⊥) e c.requires.no_colon) (no_mark cs (place_of s c.args.at) (subst (λ y. AskedAt y cs (place_of s c.args.at) → ⊥) e c.requires.no_mark)) c.in_ok-key.key.kind (place_of s c.in_ok-key.key.end) (only_in cs h c.args.room n x c.in_ok-key.key.kind _ _ e (c.in_ok-key.ensures.decides e)) (subst (λ y. LongKey cs c.in_ok-key.key.kind y (place_of s c.args.at) (place_of s c.in_ok-key.key.end)) e c.in_err-key_colon.ensures.long)))
 
-pub read_node_item-returns-in_ok-push-in-Some-clause-decides : goal.read_node_item-returns-in_ok-push-in-Some-clause-decides
-read_node_item-returns-in_ok-push-in-Some-clause-decides t c =
+pub read_node_item-returns-in_ok-push_mapping_end-in-Some-clause-decides : goal.read_node_item-returns-in_ok-push_mapping_end-in-Some-clause-decides
+read_node_item-returns-in_ok-push_mapping_end-in-Some-clause-decides g t c =
     let cs = text_of c.args.source.now in
     let h = handles_of c.args.handles in
     let n = c.args.least in
@@ -974,8 +972,8 @@ read_node_item-returns-in_ok-push-in-Some-clause-decides t c =
     let sign = if_some (λ r. MayFollowColon c.in_ok-key.key.kind x cs (place_of s r.1)) c.in_ok-key_colon.field-0 (c.in-Some.colon, c.in-Some.after) c.in-Some.is c.in_ok-key_colon.ensures.sign in
     λ e. item_of_pair cs h n c.args.room (place_of s c.args.at) (subst (λ y. SignAt Yaml y cs (place_of s c.args.at) → ⊥) e c.requires.no_colon) (no_mark cs (place_of s c.args.at) (subst (λ y. AskedAt y cs (place_of s c.args.at) → ⊥) e c.requires.no_mark)) c.in_ok-key.key.kind (place_of s c.in_ok-key.key.end) (only_in cs h c.args.room n x c.in_ok-key.key.kind _ _ e (c.in_ok-key.ensures.decides e)) q apart (sign_in cs c.in_ok-key.key.kind x q (place_of s c.in-Some.after) e colon.is colon.next sign) (place_of s c.in_ok-end-in-Some.end) (own_goes cs h n c.args.room (c.args.room - 1) (omega arith) (place_of s c.args.at) (subst (λ y. SignAt Yaml y cs (place_of s c.args.at) → ⊥) e c.requires.no_colon) (no_mark cs (place_of s c.args.at) (subst (λ y. AskedAt y cs (place_of s c.args.at) → ⊥) e c.requires.no_mark)) c.in_ok-key.key.kind (place_of s c.in_ok-key.key.end) q (place_of s c.in_ok-end-in-Some.end) (only_in cs h c.args.room n x c.in_ok-key.key.kind _ _ e (c.in_ok-key.ensures.decides e)) apart (c.in_ok-end-in-Some.ensures.decides e))
 
-pub read_node_item-returns-in_ok-push-in-Some-clause-reads : goal.read_node_item-returns-in_ok-push-in-Some-clause-reads
-read_node_item-returns-in_ok-push-in-Some-clause-reads t c =
+pub read_node_item-returns-in_ok-push_mapping_end-in-Some-clause-reads : goal.read_node_item-returns-in_ok-push_mapping_end-in-Some-clause-reads
+read_node_item-returns-in_ok-push_mapping_end-in-Some-clause-reads g t c =
     let cs = text_of c.args.source.now in
     let h = handles_of c.args.handles in
     let n = c.args.least in
@@ -988,20 +986,18 @@ read_node_item-returns-in_ok-push-in-Some-clause-reads t c =
     let fits = if_some (λ r. IsKeySized cs (place_of s c.args.at) (place_of s r.0)) c.in_ok-key_colon.field-0 (c.in-Some.colon, c.in-Some.after) c.in-Some.is c.in_ok-key_colon.ensures.fits in
     let k = c.in_ok-key.ensures.reads in
     let v = c.in_ok-end-in-Some.ensures.reads in
-    let length_is : c.len-start.result ≡ length c.args.out.now.items = omega (arith, c.len-start.ensures, c.args.out.now.ok.0) in
-    let start : c.insert.new.self.items ≡ insert c.read_flow_node.new.out.items (length c.args.out.now.items) c.flow_mapping.result = c.in_ok-insert-in-Some.ensures.items ∙ ap (λ n. insert c.read_flow_node.new.out.items n c.flow_mapping.result) length_is in (
+    let begun = puts_altered c.args.out.now c.read_flow_node.new.out c.insert_flow_mapping.new.out c.mark-start.result (λ es. mapping_start true None untagged ∷ es) k.0 c.mark-start.ensures k.1 c.in_ok-insert_flow_mapping-in-Some.ensures.ok in (
       mapping_start true None untagged ∷ ((k.0 ++ v.0) ++ (mapping_end ∷ [])),
-      adds_on c.args.out.now.items c.read_value.new.out.items _ (mapping_start true None untagged ∷ (k.0 ++ v.0)) (mapping_end ∷ [])
-          (adds_on c.args.out.now.items c.insert.new.self.items _ (mapping_start true None untagged ∷ k.0) v.0
-          (adds_before c.args.out.now.items c.read_flow_node.new.out.items c.insert.new.self.items k.0 c.flow_mapping.result (mapping_start true None untagged) c.flow_mapping.ensures k.1 start) v.1)
-          (adds_one _ _ _ _ refl c.in_ok-push-in-Some.ensures.items),
+      puts_on c.args.out.now c.read_value.new.out _ (mapping_start true None untagged ∷ (k.0 ++ v.0)) (mapping_end ∷ [])
+          (puts_on c.args.out.now c.insert_flow_mapping.new.out _ (mapping_start true None untagged ∷ k.0) v.0 begun v.1)
+          c.in_ok-push_mapping_end-in-Some.ensures.ok,
       from_same (c.max.result + 1) (max c.in_ok-key.key.deep c.in_ok-end-in-Some.deep + 1) (λ room. item_at cs (Unit {0}) h room n x) _ _ _ (ap (λ x. x + 1) c.max.ensures)
           (pair_item cs (Unit {0}) h c.in_ok-key.key.deep c.in_ok-end-in-Some.deep c.in_ok-key.key.kind n x _ _ _ _ _ k.0 v.0 c.requires.inner k.2
           (_, apart.0, (colon.is, colon.next), fits) (colon.is, colon.next) v.2),
     )
 
 pub read_node_item-returns-then-key-room-clause-decides : goal.read_node_item-returns-then-key-room-clause-decides
-read_node_item-returns-then-key-room-clause-decides t c =
+read_node_item-returns-then-key-room-clause-decides g t c =
     let cs = text_of c.args.source.now in
     let h = handles_of c.args.handles in
     let n = c.args.least in
@@ -1015,20 +1011,19 @@ read_node_item-returns-then-key-room-clause-decides t c =
     (item_of_pair cs h n c.args.room (place_of s c.args.at) (subst (λ y. SignAt Yaml y cs (place_of s c.args.at) → ⊥) e c.requires.no_colon) (no_mark cs (place_of s c.args.at) (subst (λ y. AskedAt y cs (place_of s c.args.at) → ⊥) e c.requires.no_mark)) c.in_ok-key.key.kind (place_of s c.in_ok-key.key.end) (only_in cs h c.args.room n x c.in_ok-key.key.kind _ _ e (c.in_ok-key.ensures.decides e)) q apart (sign_in cs c.in_ok-key.key.kind x q (place_of s c.in-Some.after) e colon.is colon.next sign)) (item_no_pair cs h n c.args.room (place_of s c.args.at) (subst (λ y. SignAt Yaml y cs (place_of s c.args.at) → ⊥) e c.requires.no_colon) (no_mark cs (place_of s c.args.at) (subst (λ y. AskedAt y cs (place_of s c.args.at) → ⊥) e c.requires.no_mark)) c.in_ok-key.key.kind (place_of s c.in_ok-key.key.end) (only_in cs h c.args.room n x c.in_ok-key.key.kind _ _ e (c.in_ok-key.ensures.decides e)) q apart (sign_in cs c.in_ok-key.key.kind x q (place_of s c.in-Some.after) e colon.is colon.next sign)) (c.read_pair.ensures.decides e)
 
 pub read_node_item-returns-then-key-room-clause-reads : goal.read_node_item-returns-then-key-room-clause-reads
-read_node_item-returns-then-key-room-clause-reads t c =
+read_node_item-returns-then-key-room-clause-reads g t c =
     let cs = text_of c.args.source.now in
     let h = handles_of c.args.handles in
     let n = c.args.least in
     let x = context_of c.args.context in
     let s = c.args.source.now in
     let k = c.in_ok-key.ensures.reads in
-    let length_is : c.len-start.result ≡ length c.args.out.now.items = omega (arith, c.len-start.ensures, c.args.out.now.ok.0) in
-    let cut : Adds c.args.out.now.items [] c.truncate.new.self.items = subst (Adds c.args.out.now.items []) (sym c.truncate.ensures.items) (adds_back c.args.out.now.items c.read_flow_node.new.out.items c.len-start.result k.0 length_is k.1) in
+    let cut = puts_altered c.args.out.now c.read_flow_node.new.out c.cut.new.self c.mark-start.result (λ _. []) k.0 c.mark-start.ensures k.1 c.cut.ensures in
     appends_after (λ r. from_room r.1 (λ room. item_at cs (Unit {0}) h room n x)) (λ r. from_room r.1 (λ room. item_at cs (Unit {0}) h room n x))
-    (place_of s c.args.at) (place_of s c.args.at) (λ r. place_of s r.0) c.args.out.now.items c.truncate.new.self.items c.read_pair.new.out.items c.read_pair.result [] cut (λ r vs p. p) c.read_pair.ensures.reads
+    (place_of s c.args.at) (place_of s c.args.at) (λ r. place_of s r.0) c.args.out.now c.cut.new.self c.read_pair.new.out c.read_pair.result [] cut (λ r vs p. p) c.read_pair.ensures.reads
 
 pub read_node_item-returns-then-room-eq0-clause-decides : goal.read_node_item-returns-then-room-eq0-clause-decides
-read_node_item-returns-then-room-eq0-clause-decides t c =
+read_node_item-returns-then-room-eq0-clause-decides g t c =
     let cs = text_of c.args.source.now in
     let h = handles_of c.args.handles in
     let n = c.args.least in
@@ -1041,7 +1036,7 @@ read_node_item-returns-then-room-eq0-clause-decides t c =
     λ e. inr (item_full cs h n c.args.room (place_of s c.args.at) (subst (λ y. SignAt Yaml y cs (place_of s c.args.at) → ⊥) e c.requires.no_colon) (no_mark cs (place_of s c.args.at) (subst (λ y. AskedAt y cs (place_of s c.args.at) → ⊥) e c.requires.no_mark)) c.in_ok-key.key.kind (place_of s c.in_ok-key.key.end) (only_in cs h c.args.room n x c.in_ok-key.key.kind _ _ e (c.in_ok-key.ensures.decides e)) q apart (sign_in cs c.in_ok-key.key.kind x q (place_of s c.in-Some.after) e colon.is colon.next sign) c.if-room-eq0.true)
 
 pub read_pair-returns-in-None-clause-decides : goal.read_pair-returns-in-None-clause-decides
-read_pair-returns-in-None-clause-decides t c =
+read_pair-returns-in-None-clause-decides g t c =
     let cs = text_of c.args.source.now in
     let h = handles_of c.args.handles in
     let n = c.args.least in
@@ -1050,7 +1045,7 @@ read_pair-returns-in-None-clause-decides t c =
     λ e. inr (pair_lone cs h n c.args.room (c.args.room - 1) (omega arith) (place_of s c.args.at) (subst (λ y. SignAt Yaml y cs (place_of s c.args.at) → ⊥) e c.requires.no_colon) (no_mark cs (place_of s c.args.at) (subst (λ y. AskedAt y cs (place_of s c.args.at) → ⊥) e c.requires.no_mark)) c.in_ok-key.key.kind (place_of s c.in_ok-key.key.end) (only_in cs h (c.args.room - 1) n x c.in_ok-key.key.kind _ _ e (c.in_ok-key.ensures.decides e)) (subst (λ y. NoKey cs c.in_ok-key.key.kind y (place_of s c.args.at) (place_of s c.in_ok-key.key.end)) e (if_none _ c.in_ok-key_colon.field-0 c.in-None.is c.in_ok-key_colon.ensures.none)))
 
 pub read_pair-returns-in_err-end-in-Some-clause-decides : goal.read_pair-returns-in_err-end-in-Some-clause-decides
-read_pair-returns-in_err-end-in-Some-clause-decides t c =
+read_pair-returns-in_err-end-in-Some-clause-decides g t c =
     let cs = text_of c.args.source.now in
     let h = handles_of c.args.handles in
     let n = c.args.least in
@@ -1063,7 +1058,7 @@ read_pair-returns-in_err-end-in-Some-clause-decides t c =
     λ e. decides_err (PairAt cs h n c.args.room) (InFlow cs n) (place_of s c.args.at) (InFlow cs n) (λ r. place_of s r.0) c.from_residual-in_err-end-in-Some.result c.in_err-end-in-Some.field-0.0 c.from_residual-in_err-end-in-Some.ensures.1 (or_else (pair_refused cs h n c.args.room (c.args.room - 1) (omega arith) (place_of s c.args.at) (subst (λ y. SignAt Yaml y cs (place_of s c.args.at) → ⊥) e c.requires.no_colon) (no_mark cs (place_of s c.args.at) (subst (λ y. AskedAt y cs (place_of s c.args.at) → ⊥) e c.requires.no_mark)) c.in_ok-key.key.kind (place_of s c.in_ok-key.key.end) (only_in cs h (c.args.room - 1) n x c.in_ok-key.key.kind _ _ e (c.in_ok-key.ensures.decides e)) q apart) (c.in_err-end-in-Some.ensures.decides e))
 
 pub read_pair-returns-in_err-key-clause-decides : goal.read_pair-returns-in_err-key-clause-decides
-read_pair-returns-in_err-key-clause-decides t c =
+read_pair-returns-in_err-key-clause-decides g t c =
     let cs = text_of c.args.source.now in
     let h = handles_of c.args.handles in
     let n = c.args.least in
@@ -1072,7 +1067,7 @@ read_pair-returns-in_err-key-clause-decides t c =
     λ e. decides_err (PairAt cs h n c.args.room) (InFlow cs n) (place_of s c.args.at) (InFlow cs n) (λ r. place_of s r.0) c.from_residual-in_err-key.result c.in_err-key.field-0.0 c.from_residual-in_err-key.ensures.1 (or_else (λ f. pair_nothing cs h n c.args.room (c.args.room - 1) (omega arith) (place_of s c.args.at) (subst (λ y. SignAt Yaml y cs (place_of s c.args.at) → ⊥) e c.requires.no_colon) (no_mark cs (place_of s c.args.at) (subst (λ y. AskedAt y cs (place_of s c.args.at) → ⊥) e c.requires.no_mark)) (refused_in cs h (c.args.room - 1) n x _ e f)) (c.in_err-key.ensures.decides e))
 
 pub read_pair-returns-in_err-key_colon-clause-decides : goal.read_pair-returns-in_err-key_colon-clause-decides
-read_pair-returns-in_err-key_colon-clause-decides t c =
+read_pair-returns-in_err-key_colon-clause-decides g t c =
     let cs = text_of c.args.source.now in
     let h = handles_of c.args.handles in
     let n = c.args.least in
@@ -1080,8 +1075,8 @@ read_pair-returns-in_err-key_colon-clause-decides t c =
     let s = c.args.source.now in
     λ e. decides_err (PairAt cs h n c.args.room) (InFlow cs n) (place_of s c.args.at) (InFlow cs n) (λ r. place_of s r.0) c.from_residual-in_err-key_colon.result c.in_err-key_colon.field-0.0 c.from_residual-in_err-key_colon.ensures.1 (inr (pair_long cs h n c.args.room (c.args.room - 1) (omega arith) (place_of s c.args.at) (subst (λ y. SignAt Yaml y cs (place_of s c.args.at) → ⊥) e c.requires.no_colon) (no_mark cs (place_of s c.args.at) (subst (λ y. AskedAt y cs (place_of s c.args.at) → ⊥) e c.requires.no_mark)) c.in_ok-key.key.kind (place_of s c.in_ok-key.key.end) (only_in cs h (c.args.room - 1) n x c.in_ok-key.key.kind _ _ e (c.in_ok-key.ensures.decides e)) (subst (λ y. LongKey cs c.in_ok-key.key.kind y (place_of s c.args.at) (place_of s c.in_ok-key.key.end)) e c.in_err-key_colon.ensures.long)))
 
-pub read_pair-returns-in_ok-push-in-Some-clause-decides : goal.read_pair-returns-in_ok-push-in-Some-clause-decides
-read_pair-returns-in_ok-push-in-Some-clause-decides t c =
+pub read_pair-returns-in_ok-push_mapping_end-in-Some-clause-decides : goal.read_pair-returns-in_ok-push_mapping_end-in-Some-clause-decides
+read_pair-returns-in_ok-push_mapping_end-in-Some-clause-decides g t c =
     let cs = text_of c.args.source.now in
     let h = handles_of c.args.handles in
     let n = c.args.least in
@@ -1093,8 +1088,8 @@ read_pair-returns-in_ok-push-in-Some-clause-decides t c =
     let sign = if_some (λ r. MayFollowColon c.in_ok-key.key.kind x cs (place_of s r.1)) c.in_ok-key_colon.field-0 (c.in-Some.colon, c.in-Some.after) c.in-Some.is c.in_ok-key_colon.ensures.sign in
     λ e. pair_goes cs h n c.args.room (c.args.room - 1) (omega arith) (place_of s c.args.at) (subst (λ y. SignAt Yaml y cs (place_of s c.args.at) → ⊥) e c.requires.no_colon) (no_mark cs (place_of s c.args.at) (subst (λ y. AskedAt y cs (place_of s c.args.at) → ⊥) e c.requires.no_mark)) c.in_ok-key.key.kind (place_of s c.in_ok-key.key.end) (only_in cs h (c.args.room - 1) n x c.in_ok-key.key.kind _ _ e (c.in_ok-key.ensures.decides e)) q (place_of s c.in_ok-end-in-Some.end) apart (c.in_ok-end-in-Some.ensures.decides e)
 
-pub read_pair-returns-in_ok-push-in-Some-clause-reads : goal.read_pair-returns-in_ok-push-in-Some-clause-reads
-read_pair-returns-in_ok-push-in-Some-clause-reads t c =
+pub read_pair-returns-in_ok-push_mapping_end-in-Some-clause-reads : goal.read_pair-returns-in_ok-push_mapping_end-in-Some-clause-reads
+read_pair-returns-in_ok-push_mapping_end-in-Some-clause-reads g t c =
     let cs = text_of c.args.source.now in
     let h = handles_of c.args.handles in
     let n = c.args.least in
@@ -1108,17 +1103,17 @@ read_pair-returns-in_ok-push-in-Some-clause-reads t c =
     let k = c.in_ok-key.ensures.reads in
     let v = c.in_ok-end-in-Some.ensures.reads in (
       mapping_start true None untagged ∷ ((k.0 ++ v.0) ++ (mapping_end ∷ [])),
-      adds_on c.args.out.now.items c.read_value.new.out.items _ (mapping_start true None untagged ∷ (k.0 ++ v.0)) (mapping_end ∷ [])
-          (adds_on c.args.out.now.items c.read_flow_node.new.out.items _ (mapping_start true None untagged ∷ k.0) v.0
-          (adds_on c.args.out.now.items c.push.new.self.items _ (mapping_start true None untagged ∷ []) k.0 (adds_one _ _ _ _ c.flow_mapping.ensures c.in_ok-push.ensures.items) k.1) v.1)
-          (adds_one _ _ _ _ refl c.in_ok-push-in-Some.ensures.items),
+      puts_on c.args.out.now c.read_value.new.out _ (mapping_start true None untagged ∷ (k.0 ++ v.0)) (mapping_end ∷ [])
+          (puts_on c.args.out.now c.read_flow_node.new.out _ (mapping_start true None untagged ∷ k.0) v.0
+          (puts_on c.args.out.now c.push_flow_mapping.new.out _ (mapping_start true None untagged ∷ []) k.0 c.in_ok-push_flow_mapping.ensures.ok k.1) v.1)
+          c.in_ok-push_mapping_end-in-Some.ensures.ok,
       from_same (c.max-most.result + 1) (max c.in_ok-key.key.deep c.in_ok-end-in-Some.deep + 1) (λ room. item_at cs (Unit {0}) h room n x) _ _ _ (ap (λ x. x + 1) c.max-most.ensures)
           (pair_item cs (Unit {0}) h c.in_ok-key.key.deep c.in_ok-end-in-Some.deep c.in_ok-key.key.kind n x _ _ _ _ _ k.0 v.0 c.requires.inner k.2
           (_, apart.0, (colon.is, colon.next), fits) (colon.is, colon.next) v.2),
     )
 
 pub read_sequence-returns-clause-decides : goal.read_sequence-returns-clause-decides
-read_sequence-returns-clause-decides t c =
+read_sequence-returns-clause-decides g t c =
     let cs = text_of c.args.source.now in
     let h = handles_of c.args.handles in
     let n = c.args.least in
@@ -1127,7 +1122,7 @@ read_sequence-returns-clause-decides t c =
     λ w p. sequence_goes cs h c.args.room (c.args.room - 1) n (omega arith) x w p (place_of s c.args.at) (place_of s c.args.inside) c.requires.bracket.next (place_of s c.in_ok-first.first) c.in_ok-first.ensures.to _ (c.in_ok-end.ensures.decides (c.inner.ensures.context ∙ w))
 
 pub read_sequence-returns-in_err-end-clause-decides : goal.read_sequence-returns-in_err-end-clause-decides
-read_sequence-returns-in_err-end-clause-decides t c =
+read_sequence-returns-in_err-end-clause-decides g t c =
     let cs = text_of c.args.source.now in
     let h = handles_of c.args.handles in
     let n = c.args.least in
@@ -1137,7 +1132,7 @@ read_sequence-returns-in_err-end-clause-decides t c =
     (or_else (λ f p. sequence_refused cs h c.args.room (c.args.room - 1) n (omega arith) x w p (place_of s c.args.at) (place_of s c.args.inside) c.requires.bracket.next (place_of s c.in_ok-first.first) c.in_ok-first.ensures.to f) (c.in_err-end.ensures.decides (c.inner.ensures.context ∙ w)))
 
 pub read_sequence-returns-in_err-first-clause-decides : goal.read_sequence-returns-in_err-first-clause-decides
-read_sequence-returns-in_err-first-clause-decides t c =
+read_sequence-returns-in_err-first-clause-decides g t c =
     let cs = text_of c.args.source.now in
     let h = handles_of c.args.handles in
     let n = c.args.least in
@@ -1147,7 +1142,7 @@ read_sequence-returns-in_err-first-clause-decides t c =
     (inr (λ p. sequence_nowhere cs h c.args.room (c.args.room - 1) n (omega arith) x w p (place_of s c.args.at) (place_of s c.args.inside) c.requires.bracket.next (c.in_err-first.ensures.none (char_inside cs (place_of s c.args.at) (place_of s c.args.inside) 91 c.requires.bracket.is c.requires.bracket.next nb_bracket))))
 
 pub read_value-returns-clause-decides : goal.read_value-returns-clause-decides
-read_value-returns-clause-decides t c =
+read_value-returns-clause-decides g t c =
     let cs = text_of c.args.source.now in
     let h = handles_of c.args.handles in
     let n = c.args.least in
@@ -1156,7 +1151,7 @@ read_value-returns-clause-decides t c =
     λ e. value_goes cs h c.args.room n c.args.kind (place_of s c.args.colon) (place_of s c.args.after) c.requires.colon.next (place_of s c.in_ok-start.start) (to_in cs n x _ _ e c.in_ok-start.ensures.to) (on_false_at c.ends_value.result c.if-ends_value.false c.ends_value.ensures.no) c.in_ok-value.value.kind (place_of s c.in_ok-value.value.end) (only_in cs h c.args.room n x c.in_ok-value.value.kind _ _ e (c.in_ok-value.ensures.decides e))
 
 pub read_value-returns-clause-ends : goal.read_value-returns-clause-ends
-read_value-returns-clause-ends t c =
+read_value-returns-clause-ends g t c =
     let cs = text_of c.args.source.now in
     let h = handles_of c.args.handles in
     let n = c.args.least in
@@ -1165,7 +1160,7 @@ read_value-returns-clause-ends t c =
     inl (node_inside cs h c.in_ok-value.value.deep n x c.in_ok-value.value.kind _ _ c.in_ok-value.ensures.reads.0 (c.in_ok-value.ensures.reads.2 c.in_ok-value.value.deep (omega arith)))
 
 pub read_value-returns-in_err-start-clause-decides : goal.read_value-returns-in_err-start-clause-decides
-read_value-returns-in_err-start-clause-decides t c =
+read_value-returns-in_err-start-clause-decides g t c =
     let cs = text_of c.args.source.now in
     let h = handles_of c.args.handles in
     let n = c.args.least in
@@ -1174,7 +1169,7 @@ read_value-returns-in_err-start-clause-decides t c =
     λ e. decides_err (value_at cs (Unit {0}) h c.args.kind c.args.room n flow_in) (InFlow cs n) (place_of s c.args.colon) (InFlow cs n) (λ r. place_of s r.0) c.from_residual.result c.in_err-start.field-0.0 c.from_residual.ensures.1 (inr (value_nowhere cs h c.args.room n c.args.kind (place_of s c.args.colon) (place_of s c.args.after) c.requires.colon.next (none_in cs n x _ e (c.in_err-start.ensures.none (char_inside cs (place_of s c.args.colon) (place_of s c.args.after) 58 c.requires.colon.is c.requires.colon.next nb_colon)))))
 
 pub read_value-returns-in_err-value-clause-decides : goal.read_value-returns-in_err-value-clause-decides
-read_value-returns-in_err-value-clause-decides t c =
+read_value-returns-in_err-value-clause-decides g t c =
     let cs = text_of c.args.source.now in
     let h = handles_of c.args.handles in
     let n = c.args.least in
@@ -1183,7 +1178,7 @@ read_value-returns-in_err-value-clause-decides t c =
     λ e. decides_err (value_at cs (Unit {0}) h c.args.kind c.args.room n flow_in) (InFlow cs n) (place_of s c.args.colon) (InFlow cs n) (λ r. place_of s r.0) c.from_residual-in_err-value.result c.in_err-value.field-0.0 c.from_residual-in_err-value.ensures.1 (or_else (λ f. value_refused cs h c.args.room n c.args.kind (place_of s c.args.colon) (place_of s c.args.after) c.requires.colon.next (place_of s c.in_ok-start.start) (to_in cs n x _ _ e c.in_ok-start.ensures.to) (on_false_at c.ends_value.result c.if-ends_value.false c.ends_value.ensures.no) (refused_in cs h c.args.room n x _ e f)) (c.in_err-value.ensures.decides e))
 
 pub read_value-returns-then-ends_value-clause-decides : goal.read_value-returns-then-ends_value-clause-decides
-read_value-returns-then-ends_value-clause-decides t c =
+read_value-returns-then-ends_value-clause-decides g t c =
     let cs = text_of c.args.source.now in
     let h = handles_of c.args.handles in
     let n = c.args.least in
@@ -1192,7 +1187,7 @@ read_value-returns-then-ends_value-clause-decides t c =
     λ e. value_closed cs h c.args.room n c.args.kind (place_of s c.args.colon) (place_of s c.args.after) c.requires.colon.next (place_of s c.in_ok-start.start) (to_in cs n x _ _ e c.in_ok-start.ensures.to) (on_true_at c.ends_value.result c.if-ends_value.true c.ends_value.ensures.yes)
 
 pub read_value-returns-then-ends_value-clause-ends : goal.read_value-returns-then-ends_value-clause-ends
-read_value-returns-then-ends_value-clause-ends t c =
+read_value-returns-then-ends_value-clause-ends g t c =
     let cs = text_of c.args.source.now in
     let h = handles_of c.args.handles in
     let n = c.args.least in
@@ -1201,7 +1196,7 @@ read_value-returns-then-ends_value-clause-ends t c =
     inl (char_inside cs (place_of s c.args.colon) (place_of s c.args.after) 58 c.requires.colon.is c.requires.colon.next nb_colon)
 
 pub read_value-returns-then-not-is_parted-clause-decides : goal.read_value-returns-then-not-is_parted-clause-decides
-read_value-returns-then-not-is_parted-clause-decides t c =
+read_value-returns-then-not-is_parted-clause-decides g t c =
     let cs = text_of c.args.source.now in
     let h = handles_of c.args.handles in
     let n = c.args.least in
@@ -1211,7 +1206,7 @@ read_value-returns-then-not-is_parted-clause-decides t c =
     λ e. value_alone cs h c.args.room n c.args.kind (place_of s c.args.colon) (place_of s c.args.after) c.requires.colon.next c.args.after c.in_ok-start.start apart (char_inside cs (place_of s c.args.colon) (place_of s c.args.after) 58 c.requires.colon.is c.requires.colon.next nb_colon) (alone_to cs n c.args.kind c.args.after c.in_ok-start.start (place_of s) apart c.in_ok-start.ensures.onward (to_in cs n x _ _ e c.in_ok-start.ensures.to))
 
 pub read_value-returns-then-not-is_parted-clause-ends : goal.read_value-returns-then-not-is_parted-clause-ends
-read_value-returns-then-not-is_parted-clause-ends t c =
+read_value-returns-then-not-is_parted-clause-ends g t c =
     let cs = text_of c.args.source.now in
     let h = handles_of c.args.handles in
     let n = c.args.least in

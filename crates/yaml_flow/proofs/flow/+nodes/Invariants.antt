@@ -1,93 +1,95 @@
 use Rattle.std.proofs.Common.{◌≡◌, ◌+◌, ◌*◌, ◌-◌, ◌≤◌, List, length}
-use Rattle.yaml_text.specs.Event.{Event}
-use Rattle.yaml_text.specs.EventModel.{Adds, context_of}
+use Rattle.yaml_definitions.specs.model.Event.{Event}
+use Rattle.yaml_text.specs.EventModel.{context_of}
 use Rattle.yaml_text.specs.Source.{bytes_of, text_of, place_of, IsBorder}
-use Rattle.yaml_text.specs.grammar.Rules.{any, ◌◂◌}
-use Rattle.yaml_text.specs.grammar.Separation.{flow_in}
+use Rattle.yaml_definitions.specs.grammar.Rules.{any, ◌◂◌}
+use Rattle.yaml_definitions.specs.grammar.Separation.{flow_in}
 use Rattle.yaml_mark.specs.HandlesModel.{handles_of}
 use Rattle.yaml_flow.specs.FlowRules.{from_room, item_at, entry_at, spaced, comma}
+use Rattle.yaml_flow.specs.Held.{Puts}
+use Rattle.yaml_flow.specs.SinkModel.{holds_of}
 use Rattle.yaml_flow.proofs.LoopDecisions.{PartsLeft}
 use Rattle.yaml_flow.proofs.flow.+nodes.Given as goal
 
 abbrev pub decreases-read_sequence : goal.decreases-read_sequence
-decreases-read_sequence l = 12 * l.room
+decreases-read_sequence g l = 12 * l.room
 
 abbrev pub decreases-read_mapping : goal.decreases-read_mapping
-decreases-read_mapping l = 12 * l.room
+decreases-read_mapping g l = 12 * l.room
 
 abbrev pub decreases-read_content : goal.decreases-read_content
-decreases-read_content l = 12 * l.room + 1
+decreases-read_content g l = 12 * l.room + 1
 
 abbrev pub decreases-read_bare : goal.decreases-read_bare
-decreases-read_bare l = 12 * l.room + 2
+decreases-read_bare g l = 12 * l.room + 2
 
 abbrev pub decreases-read_flow_node : goal.decreases-read_flow_node
-decreases-read_flow_node l = 12 * l.room + 3
+decreases-read_flow_node g l = 12 * l.room + 3
 
 abbrev pub decreases-read_pair : goal.decreases-read_pair
-decreases-read_pair l = 12 * l.room + 4
+decreases-read_pair g l = 12 * l.room + 4
 
 abbrev pub decreases-read_value : goal.decreases-read_value
-decreases-read_value l = 12 * l.room + 4
+decreases-read_value g l = 12 * l.room + 4
 
 abbrev pub decreases-read_node_item : goal.decreases-read_node_item
-decreases-read_node_item l = 12 * l.room + 5
+decreases-read_node_item g l = 12 * l.room + 5
 
 abbrev pub decreases-read_key_entry : goal.decreases-read_key_entry
-decreases-read_key_entry l = 12 * l.room + 5
+decreases-read_key_entry g l = 12 * l.room + 5
 
 abbrev pub decreases-read_asked_pair : goal.decreases-read_asked_pair
-decreases-read_asked_pair l = 12 * l.room + 5
+decreases-read_asked_pair g l = 12 * l.room + 5
 
 abbrev pub decreases-read_empty_pair : goal.decreases-read_empty_pair
-decreases-read_empty_pair l = 12 * l.room + 5
+decreases-read_empty_pair g l = 12 * l.room + 5
 
 abbrev pub decreases-read_keyed : goal.decreases-read_keyed
-decreases-read_keyed l = 12 * l.room + 6
+decreases-read_keyed g l = 12 * l.room + 6
 
 abbrev pub decreases-read_item : goal.decreases-read_item
-decreases-read_item l = 12 * l.room + 6
+decreases-read_item g l = 12 * l.room + 6
 
 abbrev pub decreases-read_asked : goal.decreases-read_asked
-decreases-read_asked l = 12 * l.room + 7
+decreases-read_asked g l = 12 * l.room + 7
 
 abbrev pub decreases-read_entry : goal.decreases-read_entry
-decreases-read_entry l = 12 * l.room + 8
+decreases-read_entry g l = 12 * l.room + 8
 
 abbrev pub decreases-read_items : goal.decreases-read_items
-decreases-read_items l = 12 * l.room + 9
+decreases-read_items g l = 12 * l.room + 9
 
 abbrev pub decreases-read_entries : goal.decreases-read_entries
-decreases-read_entries l = 12 * l.room + 9
+decreases-read_entries g l = 12 * l.room + 9
 
 abbrev pub invariant-read_items-items : goal.invariant-read_items-items
-invariant-read_items-items l =
+invariant-read_items-items g l =
     let cs = text_of l.source in
     let c = context_of l.context in
     record {
       border : IsBorder l.source l.here;
       onward : l.first ≤ l.here;
       within : l.most ≤ l.room;
-      reads : (es : List Event) × Adds l.fn.out.items es l.out.items
+      reads : (es : List Event) × Puts (holds_of g.K.Keeper.holds) l.fn.out es l.out
           × from_room l.most (λ room. any (spaced cs l.least c (item_at cs (Unit {0}) (handles_of l.handles) room l.least c) ◂ comma cs l.least c)) (place_of l.source l.first) (place_of l.source l.here) es;
       left : context_of l.context ≡ flow_in → PartsLeft cs l.least (item_at cs (Unit {0}) (handles_of l.handles) l.room l.least flow_in) 93 (place_of l.source l.first) (place_of l.source l.here);
     }
 
 abbrev pub decreases-read_items-items : goal.decreases-read_items-items
-decreases-read_items-items l = length (bytes_of l.source) - l.here
+decreases-read_items-items g l = length (bytes_of l.source) - l.here
 
 abbrev pub invariant-read_entries-entries : goal.invariant-read_entries-entries
-invariant-read_entries-entries l =
+invariant-read_entries-entries g l =
     let cs = text_of l.source in
     let c = context_of l.context in
     record {
       border : IsBorder l.source l.here;
       onward : l.first ≤ l.here;
       within : l.most ≤ l.room;
-      reads : (es : List Event) × Adds l.fn.out.items es l.out.items
+      reads : (es : List Event) × Puts (holds_of g.K.Keeper.holds) l.fn.out es l.out
           × from_room l.most (λ room. any (spaced cs l.least c (entry_at cs (Unit {0}) (handles_of l.handles) room l.least c) ◂ comma cs l.least c)) (place_of l.source l.first) (place_of l.source l.here) es;
       left : context_of l.context ≡ flow_in → PartsLeft cs l.least (entry_at cs (Unit {0}) (handles_of l.handles) l.room l.least flow_in) 125 (place_of l.source l.first) (place_of l.source l.here);
     }
 
 abbrev pub decreases-read_entries-entries : goal.decreases-read_entries-entries
-decreases-read_entries-entries l = length (bytes_of l.source) - l.here
+decreases-read_entries-entries g l = length (bytes_of l.source) - l.here

@@ -1,8 +1,8 @@
 use Rattle.yaml_text.specs.Source.{text_of, place_of}
 use Rattle.yaml_text.specs.EventModel.{context_of}
 use Rattle.yaml_text.proofs.Tests.{on_true_at}
-use Rattle.yaml_unique.proofs.Lines.{way_same, way_maybe, way_here}
-use Rattle.yaml_unique.proofs.FlowEntries.{closes_solid}
+use Rattle.law_one_reading.proofs.Lines.{way_same, way_maybe, way_here}
+use Rattle.law_one_reading.proofs.FlowEntries.{closes_solid}
 use Rattle.yaml_flow.proofs.flow.part_gap.Goals as goal
 
 pub returns-then-ends_value-clause-to : goal.returns-then-ends_value-clause-to

@@ -7,9 +7,9 @@ use Rattle.std.specs.Str.{chars}
 use Rattle.std.specs.Cow.{cow_str_bytes}
 use Rattle.yaml_text.specs.Source.{text_of, place_of}
 use Rattle.yaml_text.specs.EventModel.{context_of}
-use Rattle.yaml_text.specs.grammar.FlowScalars.{double}
+use Rattle.yaml_definitions.specs.grammar.FlowScalars.{c-double-quoted as double}
 use Rattle.yaml_text.specs.Answer.{Unread}
-use Rattle.yaml_complete.specs.Decisions.{Goes, Here}
+use Rattle.law_going_on.specs.Decisions.{Goes, Here}
 use Rattle.yaml_flow.proofs.Deciding.{decides_err, refusal, unread_refused, only_goes}
 use Rattle.yaml_flow.proofs.PropertyDecisions.{or_else}
 use Rattle.yaml_mark.specs.HandlesModel.{handles_of}
@@ -20,7 +20,7 @@ least_is : (r : ℤ) (least : ℕ) → SFits w32 r → r ≡ pos least → nat_a
 least_is r least fits e = ap nat_abs (to_z-of_z w32 r fits ∙ e)
 
 pub returns-clause-reads : goal.returns-clause-reads
-returns-clause-reads c =
+returns-clause-reads g c =
     let cs = text_of c.args.source.now in
     let n = least_is c.indentation.result c.args.least (search rules) c.indentation.ensures in
     let text = chars (cow_str_bytes c.in_ok-text.text) in (
@@ -31,13 +31,13 @@ returns-clause-reads c =
     )
 
 pub returns-clause-decides : goal.returns-clause-decides
-returns-clause-decides c =
+returns-clause-decides g c =
     let cs = text_of c.args.source.now in
     let n = least_is c.indentation.result c.args.least (search rules) c.indentation.ensures in
     subst (λ m. Goes (double cs m (context_of c.args.context)) Here (place_of c.args.source.now c.args.at) Here (place_of c.args.source.now c.in_ok-text.end)) n (only_goes _ _ _ _ c.in_ok-text.ensures.reads)
 
 pub returns-in_err-text-clause-decides : goal.returns-in_err-text-clause-decides
-returns-in_err-text-clause-decides c =
+returns-in_err-text-clause-decides g c =
     let cs = text_of c.args.source.now in
     let i = place_of c.args.source.now c.args.at in
     let n = least_is c.indentation.result c.args.least (search rules) c.indentation.ensures in

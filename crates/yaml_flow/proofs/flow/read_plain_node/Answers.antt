@@ -7,7 +7,7 @@ use Rattle.std.specs.Str.{chars}
 use Rattle.std.specs.Cow.{cow_str_bytes}
 use Rattle.yaml_text.specs.Source.{text_of, place_of}
 use Rattle.yaml_text.specs.EventModel.{context_of}
-use Rattle.yaml_text.specs.grammar.FlowScalars.{plain}
+use Rattle.yaml_definitions.specs.grammar.FlowScalars.{ns-plain as plain}
 use Rattle.yaml_text.specs.Answer.{Furthest, Unread}
 use Rattle.yaml_flow.proofs.Deciding.{refusal, one_left}
 use Rattle.yaml_flow.proofs.ContentDecisions.{plain_taken}
@@ -19,7 +19,7 @@ least_is : (r : ℤ) (least : ℕ) → SFits w32 r → r ≡ pos least → nat_a
 least_is r least fits e = ap nat_abs (to_z-of_z w32 r fits ∙ e)
 
 pub returns-in_ok-push_scalar-in-Ok-clause-reads : goal.returns-in_ok-push_scalar-in-Ok-clause-reads
-returns-in_ok-push_scalar-in-Ok-clause-reads c =
+returns-in_ok-push_scalar-in-Ok-clause-reads g c =
     let cs = text_of c.args.source.now in
     let n = least_is c.indentation.result c.args.least (search rules) c.indentation.ensures in
     let text = chars (cow_str_bytes c.in-Ok.text) in (
@@ -30,7 +30,7 @@ returns-in_ok-push_scalar-in-Ok-clause-reads c =
     )
 
 pub returns-in_ok-push_scalar-in-Ok-clause-decides : goal.returns-in_ok-push_scalar-in-Ok-clause-decides
-returns-in_ok-push_scalar-in-Ok-clause-decides c =
+returns-in_ok-push_scalar-in-Ok-clause-decides g c =
     let cs = text_of c.args.source.now in
     let x = context_of c.args.context in
     let i = place_of c.args.source.now c.args.at in
@@ -39,7 +39,7 @@ returns-in_ok-push_scalar-in-Ok-clause-decides c =
     (refl, λ d. plain_taken cs c.args.least x i j _ (subst (λ m. Furthest (plain cs m x) i j (chars (cow_str_bytes c.in-Ok.text))) n c.in-Ok.ensures.reads) d)
 
 pub returns-in_default-clause-decides : goal.returns-in_default-clause-decides
-returns-in_default-clause-decides c =
+returns-in_default-clause-decides g c =
     let cs = text_of c.args.source.now in
     let x = context_of c.args.context in
     let i = place_of c.args.source.now c.args.at in

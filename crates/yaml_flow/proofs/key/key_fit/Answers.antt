@@ -1,4 +1,4 @@
-use Rattle.std.proofs.Common.{◌≡◌, ℕ, ◌+◌, ◌<◌, ◌≤◌, ◌⊎◌, ap, sym, ◌∙◌, arith, inl, inr, length, take, drop, length-append}
+use Rattle.std.proofs.Common.{◌≡◌, ℕ, true, false, ◌+◌, ◌<◌, ◌≤◌, ◌⊎◌, ap, sym, ◌∙◌, arith, inl, inr, length, take, drop, length-append}
 use Rattle.std.proofs.lemmas.Bool.{cases_lt}
 use Rattle.std.specs.Str.{chars}
 use Rattle.yaml_text.specs.Place.{place}
@@ -6,8 +6,9 @@ use Rattle.std.proofs.Math.Nat.{eq-or-lt_of_le}
 use Rattle.std.proofs.lemmas.Str.{IsUtf8-had}
 use Rattle.yaml_text.specs.declared.chars.Chars.{Chars}
 use Rattle.yaml_text.specs.Source.{text_of, place_of, IsBorder}
-use Rattle.yaml_text.specs.grammar.Rules.{Stands}
-use Rattle.yaml_text.specs.grammar.Characters.{is_break}
+use Rattle.yaml_definitions.specs.grammar.Rules.{Stands}
+use Rattle.yaml_definitions.specs.grammar.Characters.{is_break, is_nb}
+use Rattle.yaml_text.proofs.Tests.{on_true_at}
 use Rattle.yaml_text.proofs.PlaceLemmas.{place_less, chars_cut}
 use Rattle.yaml_text.proofs.Runs.{all_more, no_stand}
 use Rattle.yaml_flow.proofs.key.key_fit.Goals as goal
@@ -35,6 +36,16 @@ step_within s here after to p q r l e = pick (cases_lt to after)
         let x : place_of s here < place_of s to = place_less s.text.now here to (IsUtf8-had s.text.now s.utf8) p r l in
         let y : place_of s to < place_of s after = place_less s.text.now to after (IsUtf8-had s.text.now s.utf8) r q h in
         absurd (omega (arith, x, y, e))
+
+no_break : (c : ℕ) → is_nb c ≡ true → is_break c ≡ false
+unfolding is_nb
+no_break c t = grind (arith, t)
+
+pub returns-then-is_ascii_line : goal.returns-then-is_ascii_line
+returns-then-is_ascii_line c =
+    let cs = text_of c.args.source.now in
+    let a = on_true_at c.is_ascii_line.result c.if-is_ascii_line.true c.is_ascii_line.ensures in
+    (λ k x y. (let s = a.0.1 k x y in no_stand cs is_break k s.0 s.1 (no_break s.0 s.2)), omega (arith, a.1, c.if-to-from.true, c.requires.order, c.key_limit-limit.ensures))
 
 pub chars-init : goal.chars-init
 chars-init c = record {

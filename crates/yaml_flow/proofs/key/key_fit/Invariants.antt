@@ -1,6 +1,6 @@
 use Rattle.std.proofs.Common.{◌≡◌, ◌+◌, ◌-◌, ◌≤◌, length}
 use Rattle.yaml_text.specs.Source.{bytes_of, text_of, place_of, IsBorder}
-use Rattle.yaml_text.specs.grammar.Separation.{OneLine}
+use Rattle.yaml_definitions.specs.grammar.Separation.{OneLine}
 use Rattle.yaml_flow.proofs.key.key_fit.Given as goal
 
 abbrev pub invariant-chars : goal.invariant-chars

@@ -1,8 +1,8 @@
 use Rattle.std.proofs.Common.{sym, subst, inl}
 use Rattle.std.proofs.lemmas.Str.{IsUtf8-had, IsCharBoundary-start}
 use Rattle.yaml_text.specs.Source.{text_of, place_of}
-use Rattle.yaml_text.specs.grammar.Rules.{any_span}
-use Rattle.yaml_text.specs.grammar.Separation.{l_comment}
+use Rattle.yaml_definitions.specs.grammar.Rules.{any_span}
+use Rattle.yaml_definitions.specs.grammar.Separation.{l-comment as l_comment}
 use Rattle.yaml_text.proofs.PlaceLemmas.{starts_at}
 use Rattle.yaml_text.specs.Lines.{AfterLine}
 use Rattle.yaml_text.proofs.Breaks.{line_zero}

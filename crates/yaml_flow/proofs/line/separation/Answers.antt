@@ -5,11 +5,11 @@ use Rattle.yaml_text.specs.Source.{text_of, place_of, IsBorder}
 use Rattle.yaml_text.specs.EventModel.{context_of}
 use Rattle.yaml_text.proofs.PlaceLemmas.{place_less}
 use Rattle.yaml_text.proofs.LineRuns.{indent_run, indent_place}
-use Rattle.yaml_text.specs.grammar.Separation.{Ctx, block_out, block_in, flow_out, flow_in, block_key, flow_key, separate, s_l_comments}
+use Rattle.yaml_definitions.specs.grammar.Separation.{Ctx, block_out, block_in, flow_out, flow_in, block_key, flow_key, s-separate as separate, s-l-comments as s_l_comments}
 use Rattle.yaml_text.specs.Lines.{is_key}
 use Rattle.yaml_flow.specs.Lines.{IsLine}
 use Rattle.yaml_flow.specs.declared.line.Line.{Line}
-use Rattle.yaml_complete.proofs.Separations.{IsKey, Spaces, separate_in_key, separate_on_line, separate_on_next, separate_short, separate_no_mark, separate_no_end, way_on_line, way_on_next}
+use Rattle.law_going_on.proofs.Separations.{IsKey, Spaces, separate_in_key, separate_on_line, separate_on_next, separate_short, separate_no_mark, separate_no_end, way_on_line, way_on_next}
 use Rattle.yaml_flow.proofs.LineLemmas.{lines_apart, spaces_apart, spaces_maybe, comments_after, dashes_mark}
 use Rattle.yaml_flow.proofs.SpaceLemmas.{lines_separate}
 use Rattle.yaml_flow.proofs.line.separation.Goals as goal

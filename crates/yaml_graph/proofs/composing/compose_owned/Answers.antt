@@ -4,7 +4,7 @@ use Rattle.std.specs.Iterator.Adapters.{enumerate_source, enumerate_count}
 use Rattle.yaml_text.specs.EventModel.{event_of}
 use Rattle.yaml_graph.specs.ComposerSteps.{steps}
 use Rattle.std.specs.List.{All}
-use Rattle.yaml_text.specs.Limits.{height_limit}
+use Rattle.yaml_definitions.specs.model.Limits.{height_limit}
 use Rattle.yaml_graph.specs.GraphModel.{trees_in}
 use Rattle.yaml_graph.specs.Composed.{RefusesStream}
 use Rattle.yaml_graph.specs.ComposerModel.{Reached, AllBelow, IsFirstAbove}

@@ -1,5 +1,5 @@
 use Rattle.std.proofs.Common.{◌≡◌, ℕ, List, map, take}
-use Rattle.yaml_text.specs.Tree.{Tree, mapping}
+use Rattle.yaml_definitions.specs.model.Tree.{Tree, mapping}
 use Rattle.yaml_graph.specs.TreeLists.{pairs}
 use Rattle.yaml_graph.specs.GraphModel.{entries_at}
 use Rattle.yaml_graph.specs.ComposerModel.{cut}

@@ -1,5 +1,5 @@
 use Rattle.std.proofs.Common.{◌≡◌, ℕ, List, map, take}
-use Rattle.yaml_text.specs.Tree.{Tree, sequence}
+use Rattle.yaml_definitions.specs.model.Tree.{Tree, sequence}
 use Rattle.yaml_graph.specs.TreeLists.{trees}
 use Rattle.yaml_graph.specs.GraphModel.{trees_at}
 use Rattle.yaml_graph.specs.ComposerModel.{cut}

@@ -1,5 +1,5 @@
 use Rattle.std.proofs.Common.{◌∙◌, ap, sym}
-use Rattle.yaml_text.specs.Tree.{sequence, mapping}
+use Rattle.yaml_definitions.specs.model.Tree.{sequence, mapping}
 use Rattle.yaml_graph.specs.TreeLists.{trees, pairs}
 use Rattle.yaml_graph.specs.GraphModel.{trees_at, entries_at, kind_tree}
 use Rattle.yaml_graph.specs.ComposerModel.{cut}

@@ -4,8 +4,8 @@ use Rattle.std.specs.Vec.Iter.{into_iter_items}
 use Rattle.yaml_graph.specs.JoinModel.{raised}
 use Rattle.yaml_graph.proofs.JoinLaws.{AllMoved, AllAdded, all-added, added-length, moved-more, there-next, trees-joined, grounded-both, all-both, measured-both, rooted-both}
 use Rattle.std.specs.List.{All}
-use Rattle.yaml_text.specs.Limits.{height_limit}
-use Rattle.yaml_text.specs.Tree.{height}
+use Rattle.yaml_definitions.specs.model.Limits.{height_limit}
+use Rattle.yaml_definitions.specs.model.Tree.{height}
 use Rattle.yaml_graph.specs.GraphModel.{trees_in, Grounded}
 use Rattle.yaml_graph.proofs.GraphLaws.{trees-length}
 use Rattle.yaml_graph.proofs.joining.join.Goals as goal

@@ -1,5 +1,5 @@
 use Rattle.std.specs.Cow.{cow_str_bytes}
-use Rattle.yaml_text.specs.Core.{resolve}
+use Rattle.yaml_definitions.specs.model.Core.{resolve}
 use Rattle.yaml_graph.proofs.TagLaws.{content-made}
 use Rattle.yaml_graph.proofs.kept.content_under.Goals as goal
 

@@ -3,7 +3,7 @@ use Rattle.yaml_text.specs.Source.{text_of}
 use Rattle.yaml_text.proofs.Tests.{on_true_at, on_false_at}
 use Rattle.yaml_text.proofs.RestLemmas.{blank_after}
 use Rattle.yaml_mark.proofs.CommentLemmas.{lines_after, line_comments, line_furthest, rest_comments, rest_furthest, no_rest, hash_no_comments, cut_no_comments}
-use Rattle.yaml_text.specs.grammar.Calls as calls
+use Rattle.yaml_text.specs.Calls as calls
 use Rattle.yaml_mark.proofs.comments.skip_comments.Goals as goal
 
 pub returns-then-starts_line-clause-line : goal.returns-then-starts_line-clause-line

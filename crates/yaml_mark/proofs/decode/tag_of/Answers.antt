@@ -1,8 +1,8 @@
 use Rattle.std.proofs.Common.{Some, ap, sym, subst, ◌∙◌}
 use Rattle.std.specs.Str.{IsUtf8}
-use Rattle.yaml_text.specs.Event.{full}
-use Rattle.yaml_text.specs.Tag.{is_full}
-use Rattle.yaml_text.specs.grammar.Tags.{percent_decode}
+use Rattle.yaml_definitions.specs.model.Event.{full}
+use Rattle.yaml_definitions.specs.model.Tag.{is_full}
+use Rattle.yaml_definitions.specs.grammar.Tags.{percent_decode}
 use Rattle.yaml_mark.proofs.DecodeLemmas.{decoded_yes, decoded_no, no_utf8}
 use Rattle.yaml_mark.proofs.decode.tag_of.Goals as goal
 

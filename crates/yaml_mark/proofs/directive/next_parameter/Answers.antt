@@ -2,8 +2,8 @@ use Rattle.std.proofs.Common.{◌<◌, ℕ, subst, arith}
 use Rattle.std.proofs.lemmas.Str.{IsUtf8-had}
 use Rattle.yaml_text.specs.declared.chars.Chars.{Chars}
 use Rattle.yaml_text.specs.Source.{text_of, place_of, IsBorder}
-use Rattle.yaml_text.specs.grammar.Rules.{Stands}
-use Rattle.yaml_text.specs.grammar.Characters.{is_space, is_ns}
+use Rattle.yaml_definitions.specs.grammar.Rules.{Stands}
+use Rattle.yaml_definitions.specs.grammar.Characters.{is_space, is_ns}
 use Rattle.yaml_text.proofs.PlaceLemmas.{place_less}
 use Rattle.yaml_text.proofs.LineRuns.{indent_run}
 use Rattle.yaml_mark.proofs.DirectiveLemmas.{no_gap_parameter, no_solid_parameter, no_hash_parameter, parameter_is}

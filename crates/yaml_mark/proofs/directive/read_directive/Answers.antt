@@ -1,5 +1,5 @@
 use Rattle.yaml_text.specs.Source.{text_of}
-use Rattle.yaml_text.specs.grammar.Calls as calls
+use Rattle.yaml_text.specs.Calls as calls
 use Rattle.yaml_mark.proofs.BodyLemmas.{any_err, no_directive, no_comments_after, directive_only}
 use Rattle.yaml_mark.proofs.directive.read_directive.Goals as goal
 

@@ -1,5 +1,5 @@
 use Rattle.std.proofs.Common.{refl, arith}
-use Rattle.yaml_text.specs.grammar.Rules.{Spans}
+use Rattle.yaml_definitions.specs.grammar.Rules.{Spans}
 use Rattle.yaml_text.proofs.Repeats.{spans_push}
 use Rattle.yaml_mark.proofs.directive.skip_parameters.Goals as goal
 

@@ -1,6 +1,6 @@
 use Rattle.std.proofs.Common.{◌-◌, ◌≤◌, length}
 use Rattle.yaml_text.specs.Source.{text_of, place_of, IsBorder}
-use Rattle.yaml_text.specs.grammar.Rules.{any_span}
+use Rattle.yaml_definitions.specs.grammar.Rules.{any_span}
 use Rattle.yaml_mark.specs.DirectiveParts.{parameter}
 use Rattle.yaml_mark.proofs.directive.skip_parameters.Given as goal
 

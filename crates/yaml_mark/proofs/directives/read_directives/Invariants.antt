@@ -1,6 +1,6 @@
 use Rattle.std.proofs.Common.{◌-◌, ◌≤◌, ◌⊎◌, length}
 use Rattle.yaml_text.specs.Source.{text_of, place_of, IsBorder}
-use Rattle.yaml_text.specs.grammar.Separation.{StartsLine, AtEnd}
+use Rattle.yaml_definitions.specs.grammar.Separation.{StartsLine, AtEnd}
 use Rattle.yaml_mark.specs.HandlesModel.{bindings_of}
 use Rattle.yaml_mark.proofs.CommentLemmas.{Stuck}
 use Rattle.yaml_mark.proofs.DirectivesLemmas.{Read}

@@ -1,8 +1,8 @@
 use Rattle.std.proofs.Common.{◌<◌, subst, arith}
 use Rattle.std.proofs.lemmas.Str.{IsUtf8-had}
 use Rattle.yaml_text.specs.Source.{text_of, place_of}
-use Rattle.yaml_text.specs.grammar.Rules.{Stands}
-use Rattle.yaml_text.specs.grammar.Tags.{is_name}
+use Rattle.yaml_definitions.specs.grammar.Rules.{Stands}
+use Rattle.yaml_definitions.specs.grammar.Tags.{is_name}
 use Rattle.yaml_text.proofs.PlaceLemmas.{place_less}
 use Rattle.yaml_mark.proofs.NameLemmas.{name_only, no_name_here, no_name_after}
 use Rattle.yaml_mark.proofs.name.read_name.Goals as goal

@@ -1,6 +1,6 @@
 use Rattle.std.proofs.Common.{◌-◌, ◌≤◌, length}
 use Rattle.yaml_text.specs.Source.{text_of, place_of, IsBorder}
-use Rattle.yaml_text.specs.grammar.Rules.{any_span}
+use Rattle.yaml_definitions.specs.grammar.Rules.{any_span}
 use Rattle.yaml_mark.specs.Classes.{class_of}
 use Rattle.yaml_mark.specs.Parts.{char_or_escape}
 use Rattle.yaml_mark.proofs.runs.skip_escaped.Given as goal

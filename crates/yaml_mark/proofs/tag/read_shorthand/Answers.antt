@@ -3,11 +3,11 @@ use Rattle.std.specs.Prelude.{slice_get}
 use Rattle.std.proofs.lemmas.Str.{IsUtf8-had}
 use Rattle.std.specs.Option.{option_map}
 use Rattle.std.specs.String.{string_bytes}
-use Rattle.yaml_text.specs.Event.{full}
+use Rattle.yaml_definitions.specs.model.Event.{full}
 use Rattle.yaml_text.specs.declared.chars.Chars.{Chars}
 use Rattle.yaml_text.specs.Source.{text_of, place_of, IsBorder}
-use Rattle.yaml_text.specs.grammar.Characters.{is_tag}
-use Rattle.yaml_text.specs.grammar.Tags.{percent_decode, prefix_of}
+use Rattle.yaml_definitions.specs.grammar.Characters.{is_tag}
+use Rattle.yaml_definitions.specs.grammar.Tags.{percent_decode, prefix_of}
 use Rattle.yaml_text.proofs.PlaceLemmas.{place_less, place_same}
 use Rattle.yaml_text.proofs.Tests.{on_true_at, on_false_at}
 use Rattle.yaml_mark.specs.HandlesModel.{handles_of}

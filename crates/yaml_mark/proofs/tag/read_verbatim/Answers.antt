@@ -1,10 +1,10 @@
 use Rattle.std.proofs.Common.{ap, sym, ◌∙◌}
 use Rattle.std.specs.Option.{option_map}
 use Rattle.std.specs.Cow.{cow_str_bytes}
-use Rattle.yaml_text.specs.Event.{full}
+use Rattle.yaml_definitions.specs.model.Event.{full}
 use Rattle.yaml_text.specs.Source.{text_of}
-use Rattle.yaml_text.specs.grammar.Characters.{is_uri}
-use Rattle.yaml_text.specs.grammar.Tags.{decoded}
+use Rattle.yaml_definitions.specs.grammar.Characters.{is_uri}
+use Rattle.yaml_definitions.specs.grammar.Tags.{decoded}
 use Rattle.yaml_text.proofs.Tests.{on_true_at, on_false_at}
 use Rattle.yaml_mark.proofs.AsciiLemmas.{low_spans, ascii_text, uri_low}
 use Rattle.yaml_mark.proofs.TagLemmas.{spans_map, uri_is, is_uri_char, verbatim_only, no_greater, no_verbatim_value, no_verbatim_end}

@@ -1,25 +1,24 @@
-use Rattle.yaml_complete.specs.Decisions.{Here}
-use Rattle.std.proofs.Common.{false, refl, [], ◌∷◌}
-use Rattle.yaml_text.specs.Limits.{open_limit}
-use Rattle.yaml_text.specs.Event.{document_start}
+use Rattle.law_going_on.specs.Decisions.{Here}
+use Rattle.std.proofs.Common.{false, [], ◌∷◌}
+use Rattle.yaml_definitions.specs.model.Limits.{open_limit}
+use Rattle.yaml_definitions.specs.model.Event.{document_start}
 use Rattle.yaml_text.specs.Source.{text_of, place_of}
-use Rattle.yaml_text.specs.grammar.Streams.{bare_document}
-use Rattle.yaml_flow.proofs.AnswerLemmas.{adds_one}
+use Rattle.yaml_definitions.specs.grammar.Streams.{l-bare-document as bare_document}
 use Rattle.yaml_read.proofs.StreamLemmas.{appends_after}
-use Rattle.yaml_complete.proofs.Decisions.{rest_seen}
+use Rattle.law_going_on.proofs.Decisions.{rest_seen}
 use Rattle.yaml_read.specs.Decided.{DocumentEnd}
 use Rattle.yaml_read.proofs.DecidedLemmas.{decides_rest}
 use Rattle.yaml_read.proofs.stream.read_unmarked.Goals as goal
 
 pub returns-clause-reads : goal.returns-clause-reads
-returns-clause-reads c =
+returns-clause-reads g c =
     let s = c.args.source.now in
     let cs = text_of s in
     appends_after (λ _. bare_document cs (Unit {0}) open_limit []) (document_start false) (place_of s c.args.line.start) (λ line. place_of s line.start)
-    c.args.out.now.items _ _ c.read_bare.result (adds_one _ _ _ _ refl c.in_ok-push.ensures.items) c.read_bare.ensures.reads
+    c.args.out.now _ _ c.read_bare.result c.in_ok-push.ensures.ok c.read_bare.ensures.reads
 
 pub returns-clause-decides : goal.returns-clause-decides
-returns-clause-decides c =
+returns-clause-decides g c =
     let s = c.args.source.now in
     let cs = text_of s in
     decides_rest Here (λ line. place_of s line.start) c.read_bare.result

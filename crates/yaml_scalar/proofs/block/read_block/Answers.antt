@@ -5,7 +5,7 @@ use Rattle.std.specs.Str.{chars}
 use Rattle.std.specs.Cow.{cow_str_bytes}
 use Rattle.std.proofs.lemmas.Str.{IsUtf8-string_bytes}
 use Rattle.yaml_text.specs.Source.{text_of, place_of}
-use Rattle.yaml_text.specs.grammar.BlockScalars.{indentation}
+use Rattle.yaml_definitions.specs.grammar.BlockScalars.{indentation}
 use Rattle.yaml_text.specs.Answer.{Unread}
 use Rattle.yaml_text.specs.Answer.{FurthestAlone}
 use Rattle.yaml_scalar.specs.BlockModel.{column, styled, header_of}

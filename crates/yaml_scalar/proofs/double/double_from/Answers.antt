@@ -8,8 +8,8 @@ use Rattle.yaml_text.proofs.PlaceLemmas.{slice_join, chars_pushed}
 use Rattle.yaml_text.specs.Answer.{Only}
 use Rattle.yaml_text.specs.EventModel.{context_of}
 use Rattle.yaml_text.specs.Source.{text_of, place_of}
-use Rattle.yaml_text.specs.grammar.FlowScalars.{double}
-use Rattle.yaml_text.specs.grammar.Rules.{any}
+use Rattle.yaml_definitions.specs.grammar.FlowScalars.{c-double-quoted as double}
+use Rattle.yaml_definitions.specs.grammar.Rules.{any}
 use Rattle.yaml_scalar.specs.Chains.{NoSolidBreaks, quoted_more, folded_breaks}
 use Rattle.yaml_scalar.proofs.AnyLemmas.{any_onward}
 use Rattle.yaml_scalar.proofs.GapLemmas.{folds_is}

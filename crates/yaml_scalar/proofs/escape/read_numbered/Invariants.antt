@@ -3,7 +3,7 @@ use Rattle.std.specs.Prelude.{slice_range}
 use Rattle.std.specs.Char.{is_ascii_hexdigit}
 use Rattle.std.specs.Str.Parse.{digits_value}
 use Rattle.yaml_text.specs.Source.{text_of, place_of, IsBorder}
-use Rattle.yaml_text.specs.grammar.Rules.{exactly}
+use Rattle.yaml_definitions.specs.grammar.Rules.{exactly}
 use Rattle.yaml_scalar.proofs.escape.read_numbered.Given as goal
 
 abbrev pub invariant-digits : goal.invariant-digits

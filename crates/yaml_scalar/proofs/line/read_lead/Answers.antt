@@ -1,9 +1,9 @@
 use Rattle.std.proofs.Common.{◌<◌, arith, sym, subst, inl, inr}
-use Rattle.yaml_text.specs.grammar.Rules.{◌⊔◌, any}
+use Rattle.yaml_definitions.specs.grammar.Rules.{◌⊔◌, any}
 use Rattle.yaml_text.specs.Source.{text_of, place_of}
 use Rattle.yaml_scalar.specs.Chains.{margin}
-use Rattle.yaml_text.specs.Lines.{Dashes}
-use Rattle.yaml_text.specs.grammar.Separation.{less, DocumentMark}
+use Rattle.yaml_text.specs.Lines.{LooksLikeMarker as Dashes}
+use Rattle.yaml_definitions.specs.grammar.Separation.{s-indent-less-than as less, DocumentMark}
 use Rattle.yaml_scalar.proofs.AnyLemmas.{any_none, any_snoc}
 use Rattle.yaml_scalar.proofs.OutcomeLemmas.{replicate_snoc}
 use Rattle.yaml_text.proofs.Tests.{on_true_at, on_false_at, on_either}

@@ -1,7 +1,7 @@
 use Rattle.std.proofs.Common.{◌-◌, ◌≤◌, length, replicate}
 use Rattle.yaml_text.specs.Source.{text_of, place_of, IsBorder}
-use Rattle.yaml_text.specs.grammar.Rules.{any}
-use Rattle.yaml_text.specs.grammar.Separation.{StartsLine}
+use Rattle.yaml_definitions.specs.grammar.Rules.{any}
+use Rattle.yaml_definitions.specs.grammar.Separation.{StartsLine}
 use Rattle.yaml_scalar.proofs.GapLemmas.{empty}
 use Rattle.yaml_scalar.proofs.line.read_lead.Given as goal
 

@@ -1,7 +1,7 @@
 use Rattle.std.proofs.Common.{◌≡◌, ℕ, nat_eq, ◌≤◌, ◌<◌, ◌∙◌, ap, Some, arith, true, false}
 use Rattle.std.proofs.lemmas.Str.{IsUtf8-had}
 use Rattle.yaml_text.specs.Source.{text_of, place_of}
-use Rattle.yaml_text.specs.grammar.Characters.{is_white}
+use Rattle.yaml_definitions.specs.grammar.Characters.{is_white}
 use Rattle.yaml_text.proofs.Tests.{on_true, on_false, on_true_weaker, on_false_weaker}
 use Rattle.yaml_text.proofs.PlaceLemmas.{place_less}
 use Rattle.yaml_text.proofs.Runs.{no_stand, same_char}

@@ -1,8 +1,8 @@
 use Rattle.std.proofs.Common.{◌-◌, ◌≤◌, length}
 use Rattle.std.specs.Prelude.{slice_range}
 use Rattle.yaml_text.specs.Source.{text_of, place_of, IsBorder}
-use Rattle.yaml_text.specs.grammar.Rules.{any, run}
-use Rattle.yaml_text.specs.grammar.Characters.{is_white}
+use Rattle.yaml_definitions.specs.grammar.Rules.{any, run}
+use Rattle.yaml_definitions.specs.grammar.Characters.{is_white}
 use Rattle.yaml_text.specs.EventModel.{context_of}
 use Rattle.yaml_scalar.specs.Chains.{line_more}
 use Rattle.yaml_scalar.proofs.plain.line_end.Given as goal

@@ -6,7 +6,7 @@ use Rattle.std.proofs.lemmas.Str.{IsUtf8-string_bytes}
 use Rattle.yaml_text.specs.Answer.{Furthest}
 use Rattle.yaml_text.specs.EventModel.{context_of}
 use Rattle.yaml_text.specs.Source.{text_of, place_of}
-use Rattle.yaml_text.specs.grammar.FlowScalars.{plain}
+use Rattle.yaml_definitions.specs.grammar.FlowScalars.{ns-plain as plain}
 use Rattle.yaml_scalar.proofs.GapLemmas.{folds_is}
 use Rattle.yaml_text.proofs.Tests.{on_true_at, on_false_at}
 use Rattle.yaml_scalar.proofs.PlainLemmas.{Sofar, sofar_start, sofar_line, sofar_end, no_plain_first, no_plain_end, no_plain_mark, no_more_line, goes_below}

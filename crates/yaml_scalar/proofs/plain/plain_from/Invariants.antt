@@ -5,7 +5,7 @@ use Rattle.yaml_text.specs.Place.{Steps}
 use Rattle.yaml_text.specs.Source.{text_of, place_of, IsBorder}
 use Rattle.yaml_text.specs.EventModel.{context_of}
 use Rattle.yaml_scalar.specs.Chains.{folds, folded_breaks, Later}
-use Rattle.yaml_text.specs.grammar.Separation.{DocumentMark}
+use Rattle.yaml_definitions.specs.grammar.Separation.{DocumentMark}
 use Rattle.yaml_scalar.proofs.PlainLemmas.{Sofar}
 use Rattle.yaml_scalar.proofs.plain.plain_from.Given as goal
 

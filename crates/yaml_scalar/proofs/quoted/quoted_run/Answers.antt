@@ -1,25 +1,26 @@
-use Rattle.std.proofs.Common.{◌<◌, sym, ◌∙◌, subst, arith}
+use Rattle.std.proofs.Common.{◌<◌, ◌≤◌, ◌++◌, sym, ◌∙◌, ap, subst, arith}
+use Rattle.std.specs.Prelude.{slice_range}
 use Rattle.yaml_text.specs.Source.{text_of, place_of}
-use Rattle.yaml_text.specs.grammar.Rules.{any}
+use Rattle.yaml_definitions.specs.grammar.Rules.{any}
 use Rattle.yaml_scalar.specs.Chains.{quoted_more, verbatim}
-use Rattle.yaml_text.specs.grammar.Characters.{is_white}
-use Rattle.yaml_text.proofs.PlaceLemmas.{slice_none, slice_join}
+use Rattle.yaml_definitions.specs.grammar.Characters.{is_white}
+use Rattle.yaml_text.proofs.PlaceLemmas.{slice_join}
 use Rattle.yaml_text.proofs.Runs.{run_none, run_more, no_stand_end}
-use Rattle.yaml_scalar.proofs.AnyLemmas.{any_none, any_snoc, any_onward}
-use Rattle.yaml_scalar.proofs.QuotedLemmas.{quoted_is, quoted_onward}
+use Rattle.yaml_scalar.proofs.AnyLemmas.{any_snoc, any_append, any_onward}
+use Rattle.yaml_scalar.proofs.QuotedLemmas.{quoted_is, quoted_onward, line_quoted}
 use Rattle.yaml_scalar.proofs.quoted.quoted_run.Goals as goal
 
 pub line-init : goal.line-init
 line-init c =
     let cs = text_of c.args.source.now in
-    let i = place_of c.args.source.now c.args.from in
+    let p = c.skip_quoted-end.ensures in
     record {
-      border = c.requires;
-      ends = c.requires;
-      onward = omega arith;
+      border = p.border;
+      ends = p.border;
+      onward = p.onward;
       further = omega arith;
-      whites = run_none cs is_white i;
-      line = subst (any (quoted_more cs c.args.quote) i i) (sym (slice_none cs i)) any_none;
+      whites = run_none cs is_white (place_of c.args.source.now c.skip_quoted-end.result);
+      line = line_quoted cs c.args.quote _ _ p.text;
     }
 
 pub returns-in-None-clause-no_white : goal.returns-in-None-clause-no_white
@@ -45,19 +46,25 @@ line-preserved-then-is_white c =
 pub line-preserved : goal.line-preserved
 line-preserved c =
     let cs = text_of c.args.source.now in
+    let q = c.args.quote in
     let s = c.in-Some.ensures.some in
     let v = c.line.invariant in
+    let p = c.skip_quoted-end-then-is_verbatim.ensures in
     let i = place_of c.args.source.now c.args.from in
     let k = place_of c.args.source.now c.line.end in
     let j = place_of c.args.source.now c.in-Some.to in
-    let more = quoted_is cs c.args.quote k _ j _ v.whites s.is (sym c.is_verbatim.ensures ∙ c.if-is_verbatim.true) s.next in
+    let m = place_of c.args.source.now c.skip_quoted-end-then-is_verbatim.result in
+    let more = quoted_is cs q k _ j _ v.whites s.is (sym c.is_verbatim.ensures ∙ c.if-is_verbatim.true) s.next in
+    let first : i ≤ k = any_onward (quoted_onward cs q) v.line in
+    let second : k < j = quoted_onward cs q k j _ more in
+    let third : j ≤ m = p.text.0 in
     record {
-      border = s.border;
-      ends = s.border;
-      onward = omega (arith, v.onward, v.further, s.forward);
+      border = p.border;
+      ends = p.border;
+      onward = omega (arith, v.onward, v.further, s.forward, p.onward);
       further = omega arith;
-      whites = run_none cs is_white j;
-      line = subst (any (quoted_more cs c.args.quote) i j)
-          (sym (slice_join cs i k j (any_onward (quoted_onward cs c.args.quote) v.line) (let h : k < j = quoted_onward cs c.args.quote k j _ more in omega (arith, h))))
-          (any_snoc v.line more);
+      whites = run_none cs is_white m;
+      line = subst (any (quoted_more cs q) i m)
+          (sym (slice_join cs i j m (omega (arith, first, second)) third ∙ ap (λ z. z ++ slice_range cs j m) (slice_join cs i k j first (omega (arith, second)))))
+          (any_append (any_snoc v.line more) (line_quoted cs q j m p.text));
     }

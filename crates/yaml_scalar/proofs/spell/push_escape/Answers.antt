@@ -1,6 +1,6 @@
 use Rattle.std.proofs.Common.{arith}
 use Rattle.std.specs.Char.{encode_utf8}
-use Rattle.yaml_text.specs.CharText.{spell_char}
+use Rattle.yaml_definitions.specs.canonical.CharText.{spell_char}
 use Rattle.yaml_scalar.proofs.OutcomeLemmas.{if_ok}
 use Rattle.yaml_scalar.proofs.SpellingLemmas.{code_low, code_spells}
 use Rattle.yaml_scalar.proofs.spell.push_escape.Goals as goal

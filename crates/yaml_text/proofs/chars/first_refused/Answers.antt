@@ -1,7 +1,7 @@
 use Rattle.std.proofs.Common.{◌++◌, sym, ap, subst, ◌∙◌}
 use Rattle.std.specs.Char.{encode_utf8}
 use Rattle.std.proofs.lemmas.List.{nil_from_length}
-use Rattle.yaml_text.specs.Text.{IsScanned}
+use Rattle.yaml_text.specs.Refused.{IsScanned}
 use Rattle.yaml_text.proofs.Scan.{scanned_on, scanned_more, scanned_refused, scanned_all}
 use Rattle.yaml_text.proofs.chars.first_refused.Goals as goal
 

@@ -1,6 +1,6 @@
 use Rattle.std.proofs.Common.{arith, sym, ◌∙◌}
 use Rattle.yaml_text.specs.Source.{text_of, place_of}
-use Rattle.yaml_text.specs.grammar.Characters.{is_nb}
+use Rattle.yaml_definitions.specs.grammar.Characters.{is_nb}
 use Rattle.yaml_text.proofs.Runs.{run_none}
 use Rattle.yaml_text.proofs.Breaks.{run_join}
 use Rattle.yaml_text.proofs.LineRuns.{run_nb, inside_next, inside_uncut, nb_uncut, end_line_end, brk_line_end, to_brk, nb_char, break_breaks}

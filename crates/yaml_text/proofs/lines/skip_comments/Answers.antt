@@ -1,7 +1,7 @@
 use Rattle.std.proofs.Common.{◌<◌, ap, refl, arith}
 use Rattle.std.proofs.lemmas.Str.{IsUtf8-had}
 use Rattle.yaml_text.specs.Source.{text_of, place_of}
-use Rattle.yaml_text.specs.grammar.Rules.{Spans}
+use Rattle.yaml_definitions.specs.grammar.Rules.{Spans}
 use Rattle.yaml_text.proofs.PlaceLemmas.{place_less}
 use Rattle.yaml_text.proofs.LineRuns.{after_uncut}
 use Rattle.yaml_text.proofs.Repeats.{spans_push}

@@ -1,7 +1,7 @@
 use Rattle.std.proofs.Common.{◌-◌, ◌≤◌, length}
 use Rattle.yaml_text.specs.Source.{text_of, place_of, IsBorder}
-use Rattle.yaml_text.specs.grammar.Rules.{any_span}
-use Rattle.yaml_text.specs.grammar.Separation.{l_comment}
+use Rattle.yaml_definitions.specs.grammar.Rules.{any_span}
+use Rattle.yaml_definitions.specs.grammar.Separation.{l-comment as l_comment}
 use Rattle.yaml_text.specs.Lines.{AfterLine}
 use Rattle.yaml_text.proofs.lines.skip_comments.Given as goal
 

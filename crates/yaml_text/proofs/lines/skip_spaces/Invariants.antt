@@ -1,6 +1,6 @@
 use Rattle.std.proofs.Common.{◌+◌, ◌-◌, ◌≤◌, length}
 use Rattle.yaml_text.specs.Source.{text_of, place_of, IsBorder}
-use Rattle.yaml_text.specs.grammar.Separation.{indent}
+use Rattle.yaml_definitions.specs.grammar.Separation.{s-indent as indent}
 use Rattle.yaml_text.proofs.lines.skip_spaces.Given as goal
 
 abbrev pub invariant-spaces : goal.invariant-spaces

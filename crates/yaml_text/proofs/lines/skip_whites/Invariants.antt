@@ -1,7 +1,7 @@
 use Rattle.std.proofs.Common.{◌-◌, ◌≤◌, length}
 use Rattle.yaml_text.specs.Source.{text_of, place_of, IsBorder}
-use Rattle.yaml_text.specs.grammar.Rules.{run}
-use Rattle.yaml_text.specs.grammar.Characters.{is_white}
+use Rattle.yaml_definitions.specs.grammar.Rules.{run}
+use Rattle.yaml_definitions.specs.grammar.Characters.{is_white}
 use Rattle.yaml_text.proofs.lines.skip_whites.Given as goal
 
 abbrev pub invariant-whites : goal.invariant-whites

@@ -1,8 +1,8 @@
 use Rattle.std.proofs.Common.{ap}
 use Rattle.std.specs.Cow.{cow_str_bytes}
-use Rattle.yaml_text.specs.Core.{resolve}
+use Rattle.yaml_definitions.specs.model.Core.{resolve}
 use Rattle.yaml_text.specs.EventModel.{written_of, style_of}
-use Rattle.yaml_text.specs.Unfold.{and_then, placed}
+use Rattle.yaml_definitions.specs.model.Unfold.{and_then, placed}
 use Rattle.yaml_graph.specs.ComposerSteps.{node_begun, scalar_added}
 use Rattle.yaml_graph.specs.ComposerModel.{anchor_view}
 use Rattle.yaml_graph.proofs.ComposerLaws.{placed-within}

@@ -1,7 +1,7 @@
 use Rattle.std.proofs.Common.{◌++◌, Some, ap, ◌∙◌}
 use Rattle.std.specs.Option.{option_map}
 use Rattle.std.specs.Cow.{cow_slice_items}
-use Rattle.yaml_text.specs.grammar.Tags.{percent_decode}
+use Rattle.yaml_definitions.specs.grammar.Tags.{percent_decode}
 use Rattle.yaml_mark.proofs.handles.Handles.get.Goals as goal
 
 pub returns-in-Some : goal.returns-in-Some

@@ -4,7 +4,7 @@ use Rattle.std.specs.Str.{chars}
 use Rattle.std.specs.String.{string_bytes}
 use Rattle.std.proofs.lemmas.Str.{chars-nil}
 use Rattle.yaml_text.specs.Source.{text_of, place_of}
-use Rattle.yaml_text.specs.grammar.BlockScalars.{is_given, is_spaced}
+use Rattle.yaml_definitions.specs.grammar.BlockScalars.{is_given, is_spaced}
 use Rattle.yaml_scalar.specs.BlockRules.{block_lines}
 use Rattle.yaml_scalar.specs.BlockModel.{chomp_of, header_of, glue, shape, are_folded}
 use Rattle.yaml_scalar.specs.declared.block.content.Before.TheVariants.{Nothing}

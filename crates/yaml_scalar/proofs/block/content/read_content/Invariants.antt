@@ -2,7 +2,7 @@ use Rattle.std.proofs.Common.{◌-◌, ◌≤◌, length}
 use Rattle.std.specs.Str.{chars}
 use Rattle.std.specs.String.{string_bytes}
 use Rattle.yaml_text.specs.Source.{text_of, place_of, IsBorder}
-use Rattle.yaml_text.specs.grammar.BlockScalars.{is_given}
+use Rattle.yaml_definitions.specs.grammar.BlockScalars.{is_given}
 use Rattle.yaml_text.specs.Lines.{AfterLine}
 use Rattle.yaml_scalar.specs.BlockModel.{chomp_of}
 use Rattle.yaml_scalar.proofs.ContentLemmas.{Sofar}

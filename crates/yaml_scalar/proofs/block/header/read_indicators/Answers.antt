@@ -1,6 +1,6 @@
 use Rattle.std.proofs.Common.{subst}
 use Rattle.yaml_text.specs.Source.{text_of, place_of}
-use Rattle.yaml_text.specs.grammar.BlockScalars.{indentation_indicator}
+use Rattle.yaml_definitions.specs.grammar.BlockScalars.{c-indentation-indicator as indentation_indicator}
 use Rattle.yaml_scalar.proofs.HeaderLemmas.{digit_first_is, sign_first_from, digit_only, sign_only, no_digit_first}
 use Rattle.yaml_scalar.proofs.block.header.read_indicators.Goals as goal
 

@@ -1,6 +1,6 @@
 use Rattle.std.proofs.Common.{◌≡◌, ◌<◌, ◌≤◌, ℕ, Bool, true, false, nat_lt, [], ◌∷◌, ap, arith, inl, refl, ◌∙◌, subst}
 use Rattle.std.specs.Prelude.{slice_range}
-use Rattle.yaml_text.specs.grammar.BlockScalars.{content_line, text_line}
+use Rattle.yaml_definitions.specs.grammar.BlockScalars.{content_line, text_line}
 use Rattle.std.proofs.lemmas.Str.{IsUtf8-had}
 use Rattle.yaml_text.specs.Source.{text_of, place_of}
 use Rattle.yaml_text.proofs.PlaceLemmas.{place_same}

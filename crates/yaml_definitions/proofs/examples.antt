@@ -1,0 +1,9 @@
+pub mod Blocks
+pub mod Build
+pub mod Escapes
+pub mod Notation
+pub mod Orders
+pub mod Ranges
+pub mod Scalars
+pub mod Spellings
+pub mod Unfolding

@@ -1,0 +1,10 @@
+pub mod BlockReadings
+pub mod Derive
+pub mod Documents
+pub mod FlowReadings
+pub mod Forward
+pub mod OneText
+pub mod ScalarReadings
+pub mod StreamReadings
+pub mod Values
+pub mod Widening

@@ -1,0 +1,4 @@
+pub mod Laws
+pub mod canonical
+pub mod grammar
+pub mod model

@@ -1,0 +1,12 @@
+pub mod BlockScalars
+pub mod Characters
+pub mod Directives
+pub mod Events
+pub mod FlowScalars
+pub mod Laws
+pub mod Nodes
+pub mod Reading
+pub mod Rules
+pub mod Separation
+pub mod Streams
+pub mod Tags

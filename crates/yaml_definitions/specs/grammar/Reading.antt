@@ -1,0 +1,11 @@
+-- What a stream's bytes are read as (YAML 1.2.2, chapter 9).
+use Rattle.std.specs.Prelude.{ℕ, List}
+use Rattle.yaml_definitions.specs.model.Limits.{open_limit}
+use Rattle.yaml_definitions.specs.model.Event.{Event}
+use Rattle.yaml_definitions.specs.model.Text.{Text}
+use Rattle.yaml_definitions.specs.grammar.Streams.{ReadsText}
+
+-- the bytes are a stream with these events, in which at no place more than `open_limit` collections are open; `?` keys and
+-- empty keys are read in flow collections
+unfoldable pub Reads : List ℕ → List Event → Type 0
+Reads bytes es = (cs : List ℕ) × Text bytes cs × ReadsText cs (Unit {0}) open_limit es

@@ -1,0 +1,15 @@
+pub mod Core
+pub mod Event
+pub mod EventText
+pub mod Limits
+pub mod Means
+pub mod Number
+pub mod Order
+pub mod Proper
+pub mod Same
+pub mod Serial
+pub mod Sound
+pub mod Tag
+pub mod Text
+pub mod Tree
+pub mod Unfold

@@ -1,9 +1,0 @@
-pub mod Build
-pub mod Scalars
-pub mod Ranges
-pub mod Unfolding
-pub mod Orders
-pub mod Escapes
-pub mod Spellings
-pub mod Blocks
-pub mod Notation

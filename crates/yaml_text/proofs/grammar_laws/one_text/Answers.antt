@@ -1,5 +1,0 @@
-use Rattle.yaml_text.proofs.grammar.OneText.{one-text}
-use Rattle.yaml_text.proofs.grammar_laws.one_text.Goals as goal
-
-pub returns : goal.returns
-returns c = one-text

@@ -1,5 +1,0 @@
-use Rattle.yaml_text.proofs.grammar.Widening.{readings_stay}
-use Rattle.yaml_text.proofs.grammar_laws.readings_stay.Goals as goal
-
-pub returns : goal.returns
-returns c = readings_stay

@@ -1,8 +1,0 @@
-use Rattle.yaml_text.proofs.ContentLaws as laws
-use Rattle.yaml_text.proofs.laws.contents_tell.Goals as goal
-
-pub returns-clause-content : goal.returns-clause-content
-returns-clause-content c = laws.contents_tell
-
-pub returns-clause-one : goal.returns-clause-one
-returns-clause-one c = laws.one_canonical_text

@@ -1,5 +1,0 @@
-use Rattle.yaml_text.proofs.MeaningLaws.{readings_have_text}
-use Rattle.yaml_text.proofs.laws.readings_have_text.Goals as goal
-
-pub returns : goal.returns
-returns c = readings_have_text
