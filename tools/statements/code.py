@@ -59,7 +59,7 @@ class Declared:
         uses = dict(re.findall(r"^use crate::([\w:]+)::\{?([^}\n]*)\}?;", text, re.M))
         self.others = {}
         for path, names in uses.items():
-            for it in re.split(r",\s*", names):
+            for it in (it for it in re.split(r",\s*", names) if it[:1].isupper()):
                 self.others[it] = f"Rattle.{parts[1]}.specs.declared.{path.replace('::', '.')}.{it}"
         for it in re.findall(r"^pub (?:enum|struct) (\w+)", text, re.M):
             self.others.setdefault(it, ".".join([*parts[:-1], it]))

@@ -62,16 +62,16 @@ class File:
                 self.by_name.setdefault(name, block)
 
     def read(self, lines):
-        comment, around, block, section = [], [], None, []
+        comment, around, block, gap = [], [], None, False
         for place, line in enumerate(lines):
             text, indent = line.strip(), len(line) - len(line.lstrip())
             if block and text and indent > block.indent:
                 block.lines.append(line)
                 continue
             if not text:
-                block = None
-                comment = []
+                comment, gap = [], True
                 continue
+            block, gap = (None, False) if gap else (block, False)
             while around and indent <= around[-1][0]:
                 around.pop()
             if text.startswith("--"):
