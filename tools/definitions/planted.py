@@ -1,0 +1,161 @@
+#!/usr/bin/env python3
+"""planted.py: a hundred wrong definitions, each put alone into a copy, and what tells it.
+
+    python3 planted.py [--lanes N] [--suite PLACE] [--only WORD] [--out FILE]
+
+The list is planted.list. What is asked, the cheapest first, until something tells:
+
+- of a definition of the grammar: the rows of `yaml_vectors` and `rows_streams`, the cases of yaml-test-suite (PLACE: see
+  tools/suite) and the short readings that are stored, as the wrong definitions read them (planted_texts.py);
+- `rt check` of yaml_definitions, over what an earlier check kept: an example that is computed or derived, or a law;
+- `rt check` of the law crates that stand on yaml_definitions alone or nearly so (`law_length`, `law_read_back`, `yaml_core`).
+
+A line for each: the definition, right ⇒ wrong, and what told it. A planting with which the definitions themselves no longer
+check is no wrong definition and counts as bad. The unchanged definitions are tried first, and nothing may tell them. Needs
+`rt`; takes about half a minute of processor for each that no text tells.
+"""
+import argparse
+import os
+import re
+import shutil
+import subprocess
+import sys
+import tempfile
+from concurrent.futures import ThreadPoolExecutor
+import queue
+
+HERE = os.path.dirname(os.path.abspath(__file__))
+TOP = os.path.dirname(os.path.dirname(HERE))
+sys.path.insert(0, os.path.join(TOP, 'tools'))
+sys.dont_write_bytecode = True
+from statements.definitions import File            # noqa: E402
+
+LAWS = {'law_length': [], 'law_read_back': ['yaml_text'], 'yaml_core': ['yaml_text']}
+UNSHADOWED = ('Rules',)     # which shadow.py has by hand
+
+
+class Planting:
+    """A wrong definition: the file, the definition, the right and the wrong text."""
+
+    def __init__(self, line):
+        head, change = line.split(': ', 1)
+        self.file, self.name = head.split(' ')
+        self.right, self.wrong = change.split(' ⇒ ')
+
+    def said(self):
+        return '%s %s: %s ⇒ %s' % (self.file, self.name, self.right, self.wrong)
+
+    def put(self, specs):
+        """Puts it into a copy of the definitions."""
+        path = '%s/%s.antt' % (specs, self.file)
+        with open(path, encoding='utf-8') as file:
+            lines = file.read().split('\n')
+        block = File(path, lines).by_name[self.name]
+        text = block.text()
+        assert text.count(self.right) == 1, (self.said(), text.count(self.right))
+        lines[block.place:block.place + len(block.lines)] = text.replace(self.right, self.wrong).split('\n')
+        with open(path, 'w', encoding='utf-8') as file:
+            file.write('\n'.join(lines))
+
+
+class Room:
+    """A copy of yaml_definitions and the law crates, with what was kept of them."""
+
+    def __init__(self):
+        self.folder = tempfile.mkdtemp(prefix='planted-')
+        os.mkdir(self.folder + '/.git')
+        shutil.copy(TOP + '/HANDLES', self.folder)
+        names = {'yaml_definitions', *LAWS, *sum(LAWS.values(), [])}
+        with open(TOP + '/crates.txt', encoding='utf-8') as file:
+            lines = [line for line in file if line.split(':')[0] in names]
+        with open(self.folder + '/crates.txt', 'w', encoding='utf-8') as file:
+            file.writelines(lines)
+        for name in names:
+            for part in ('src', 'specs', 'proofs', 'out'):
+                if os.path.isdir('%s/crates/%s/%s' % (TOP, name, part)):
+                    shutil.copytree('%s/crates/%s/%s' % (TOP, name, part), '%s/crates/%s/%s' % (self.folder, name, part))
+        self.specs = self.folder + '/crates/yaml_definitions/specs'
+
+    def plant(self, planting):
+        shutil.rmtree(self.specs)
+        shutil.copytree(TOP + '/crates/yaml_definitions/specs', self.specs)
+        if planting:
+            planting.put(self.specs)
+
+    def text(self, suite):
+        """What planted_texts.py says of the copy."""
+        done = subprocess.run([sys.executable, HERE + '/planted_texts.py', *([suite] if suite else [])], capture_output=True, text=True,
+                              env=dict(os.environ, SPECS=self.specs + '/grammar'), check=False)
+        if done.returncode:
+            return 'text: the definitions no longer run: ' + done.stderr.strip().split('\n')[-1][:100]
+        return ': '.join(done.stdout.strip().split('\t'))
+
+    def check(self, crate):
+        """What of a crate is no longer proved, or nothing."""
+        done = subprocess.run(['rt', 'check', '--jobs', '1'], cwd='%s/crates/%s' % (self.folder, crate), capture_output=True, text=True,
+                              errors='replace', stdin=subprocess.DEVNULL, check=False)
+        said = done.stdout + done.stderr
+        if not done.returncode:
+            return ''
+        places = re.findall(r'(?:\./)?((?:\.\./\w+/)?(?:specs|proofs)/\S+?)\.antt:\d+:\d+: error: `?([\w\-+\']*)', said)
+        wrong = [place for place, _ in places if place.startswith('specs/')]
+        if wrong and crate == 'yaml_definitions':
+            return 'BAD: ' + wrong[0]
+        functions = re.findall(r'^fn (\S+?): (?!proved)', said, re.M)
+        told = [('example' if '/examples/' in place or 'Readings' in place else 'law') + ' %s, %s' % (place, name) for place, name in places]
+        told.sort(key=lambda it: not it.startswith('example'))
+        return (told or ['law %s' % it for it in functions] or ['%s: %s' % (crate, said.strip().split('\n')[-1][:120])])[0]
+
+    def told(self, planting, suite):
+        """What tells a planting, or nothing."""
+        self.plant(planting)
+        if planting is None or planting.file.startswith('grammar/') and not planting.file.endswith(UNSHADOWED):
+            text = self.text(suite)
+            if text:
+                return text
+        told = self.check('yaml_definitions')
+        for crate in LAWS if not told and planting else ():
+            told = told or self.check(crate)
+        return told
+
+    def close(self):
+        shutil.rmtree(self.folder, ignore_errors=True)
+
+
+def main():
+    given = argparse.ArgumentParser(description=__doc__, formatter_class=argparse.RawDescriptionHelpFormatter)
+    given.add_argument('--lanes', type=int, default=1)
+    given.add_argument('--suite', default=os.environ.get('YAML_TEST_SUITE'))
+    given.add_argument('--only', default='')
+    given.add_argument('--out')
+    options = given.parse_args()
+    with open(HERE + '/planted.list', encoding='utf-8') as file:
+        plantings = [Planting(line) for line in file.read().split('\n') if line and not line.startswith('#')]
+    rooms = queue.Queue()
+    for _ in range(options.lanes):
+        rooms.put(Room())
+    out = open(options.out, 'w', encoding='utf-8') if options.out else sys.stdout
+
+    def work(planting):
+        room = rooms.get()
+        try:
+            told = room.told(planting, options.suite)
+        finally:
+            rooms.put(room)
+        print('%s | %s' % (planting.said() if planting else 'unchanged', told or 'NOT TOLD'), file=out, flush=True)
+        return told
+
+    plain = work(None)
+    if plain:
+        sys.exit('planted: the unchanged definitions are told by %s' % plain)
+    with ThreadPoolExecutor(options.lanes) as pool:
+        results = list(pool.map(work, [it for it in plantings if options.only in it.said()]))
+    bad = sum(it.startswith('BAD') for it in results)
+    print('%d of %d are told by something, %d are bad' % (sum(bool(it) for it in results) - bad, len(results), bad), file=out, flush=True)
+    while not rooms.empty():
+        rooms.get().close()
+    return 0
+
+
+if __name__ == '__main__':
+    sys.exit(main())
