@@ -2,6 +2,7 @@
 """Tests of tools/statement. What a page prints and what it cites is found here from the page and from the `use` lines alone,
 by other means than the tool's own."""
 import functools
+import glob
 import os
 import re
 import sys
@@ -12,7 +13,7 @@ TOP = os.path.dirname(os.path.dirname(os.path.dirname(os.path.realpath(__file__)
 sys.path.insert(0, f"{TOP}/tools")
 
 from statements.definitions import File  # noqa: E402
-from statements.markdown import page_of  # noqa: E402
+from statements.markdown import page_of, untied  # noqa: E402
 from statements.page import Chapters, Statement  # noqa: E402
 
 CALLS = ("canonical", "same", "run_canonical", "read_events")
@@ -203,6 +204,15 @@ class OfThePages(unittest.TestCase):
                     at = [place for (where, _), place in places.items() if where == user]
                     if (there, original) in places and has(shown.text(user), name):
                         self.assertLess(places[there, original], max(at), (user, there, original))
+
+    def test_what_no_law_ties_down_is_named_as_it_is_defined(self):
+        names = untied(f"{TOP}/docs/DEFINITIONS.md")
+        known = set()
+        for path in glob.glob(f"{TOP}/crates/*/specs/**/*.antt", recursive=True):
+            if "/out/" not in path and not path.endswith("/Lib.antt"):
+                known |= {os.path.basename(path).removesuffix(".antt"), *(name for name, _ in names_in(source(os.path.relpath(path, f"{TOP}/crates")).split("\n")))}
+        self.assertTrue(names)
+        self.assertLessEqual(names, known)
 
     def test_a_statement_is_short(self):
         self.assertLessEqual(page("canonical").count("\n"), 1700)
