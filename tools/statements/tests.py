@@ -205,6 +205,15 @@ class OfThePages(unittest.TestCase):
                     if (there, original) in places and has(shown.text(user), name):
                         self.assertLess(places[there, original], max(at), (user, there, original))
 
+    def test_each_type_stands_once_and_behind_what_it_is_made_of(self):
+        for call in CALLS:
+            text = page(call)
+            types = re.findall(r"^pub (?:enum|struct) (\w+)", text, re.M)
+            self.assertEqual(len(types), len(set(types)), types)
+            for at, name in enumerate(types):
+                body = re.search(rf"^pub (?:enum|struct) {name}\b(?:[^\n{{]*;$|.*?^}}$)", text, re.M | re.S)[0]
+                self.assertFalse(words_of(re.sub(r"[<>&]", " ", body)) & set(types[at + 1 :]), (call, name))
+
     def test_what_no_law_ties_down_is_named_as_it_is_defined(self):
         names = untied(f"{TOP}/docs/DEFINITIONS.md")
         known = set()
