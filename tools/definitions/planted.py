@@ -2,6 +2,7 @@
 """planted.py: a hundred wrong definitions, each put alone into a copy, and what tells it.
 
     python3 planted.py [--lanes N] [--suite PLACE] [--only WORD] [--out FILE]
+    python3 planted.py --table FILE         what a run wrote there, as the table of docs/DEFINITIONS.md
 
 The list is planted.list. What is asked, the cheapest first, until something tells:
 
@@ -122,13 +123,30 @@ class Room:
         shutil.rmtree(self.folder, ignore_errors=True)
 
 
+def table_of(lines):
+    """The result a definition, as rows of a table."""
+    rows = ['| definition | in its place | told by |', '|---|---|---|']
+    for line in lines:
+        change, found, told = line.rstrip('\n').rpartition(' | ')
+        if found and ': ' in change:
+            head, words = change.split(': ', 1)
+            file, name = head.split(' ')
+            rows.append('| `%s` (`%s`) | `%s` | %s |' % (name, file.rsplit('/', 1)[1], words.replace('|', '\\|'), told.replace('|', '\\|')))
+    return '\n'.join(rows)
+
+
 def main():
     given = argparse.ArgumentParser(description=__doc__, formatter_class=argparse.RawDescriptionHelpFormatter)
     given.add_argument('--lanes', type=int, default=1)
     given.add_argument('--suite', default=os.environ.get('YAML_TEST_SUITE'))
     given.add_argument('--only', default='')
     given.add_argument('--out')
+    given.add_argument('--table')
     options = given.parse_args()
+    if options.table:
+        with open(options.table, encoding='utf-8') as file:
+            print(table_of(file))
+        return 0
     with open(HERE + '/planted.list', encoding='utf-8') as file:
         plantings = [Planting(line) for line in file.read().split('\n') if line and not line.startswith('#')]
     rooms = queue.Queue()
