@@ -68,3 +68,15 @@ def words_of(statement):
     for module in sorted(modules):
         lines.append(f"- `{module}`: {' '.join(f'`{name}`' for name in sorted(modules[module]))}")
     return lines
+
+
+def first_difference(stored, made):
+    """The file under whose name two pages differ first, or nothing."""
+    path = "the head of the page"
+    lines, others = stored.split("\n"), made.split("\n")
+    for line, other in zip(lines, others):
+        named = re.match(r"-- (\S+\.(?:antt|rt))$", other)
+        path = named[1] if named else path
+        if line != other:
+            return path
+    return path if len(lines) != len(others) else ""
