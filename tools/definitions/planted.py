@@ -2,6 +2,7 @@
 """planted.py: a hundred wrong definitions, each put alone into a copy, and what tells it.
 
     python3 planted.py [--lanes N] [--suite PLACE] [--only WORD] [--out FILE]
+    python3 planted.py --listed             whether each can still be put into its definition, as the gate asks
     python3 planted.py --table FILE         what a run wrote there, as the table of docs/DEFINITIONS.md
 
 The list is planted.list. What is asked, the cheapest first, until something tells:
@@ -17,13 +18,13 @@ check is no wrong definition and counts as bad. The unchanged definitions are tr
 """
 import argparse
 import os
+import queue
 import re
 import shutil
 import subprocess
 import sys
 import tempfile
 from concurrent.futures import ThreadPoolExecutor
-import queue
 
 HERE = os.path.dirname(os.path.abspath(__file__))
 TOP = os.path.dirname(os.path.dirname(HERE))
@@ -46,17 +47,24 @@ class Planting:
     def said(self):
         return '%s %s: %s ⇒ %s' % (self.file, self.name, self.right, self.wrong)
 
-    def put(self, specs):
-        """Puts it into a copy of the definitions."""
+    def changed(self, specs):
+        """The file with it in its place, or nothing where the right text does not stand once in the definition."""
         path = '%s/%s.antt' % (specs, self.file)
+        if not os.path.isfile(path):
+            return None
         with open(path, encoding='utf-8') as file:
             lines = file.read().split('\n')
-        block = File(path, lines).by_name[self.name]
-        text = block.text()
-        assert text.count(self.right) == 1, (self.said(), text.count(self.right))
-        lines[block.place:block.place + len(block.lines)] = text.replace(self.right, self.wrong).split('\n')
-        with open(path, 'w', encoding='utf-8') as file:
-            file.write('\n'.join(lines))
+        block = File(path, lines).by_name.get(self.name)
+        if not block or block.text().count(self.right) != 1:
+            return None
+        lines[block.place:block.place + len(block.lines)] = block.text().replace(self.right, self.wrong).split('\n')
+        return '\n'.join(lines)
+
+    def put(self, specs):
+        """Puts it into a copy of the definitions."""
+        text = self.changed(specs)
+        with open('%s/%s.antt' % (specs, self.file), 'w', encoding='utf-8') as file:
+            file.write(text)
 
 
 class Room:
@@ -135,6 +143,15 @@ def table_of(lines):
     return '\n'.join(rows)
 
 
+def listed(plantings):
+    """Whether each planting can be put into the definitions as they stand."""
+    lost = [it.said() for it in plantings if it.changed(TOP + '/crates/yaml_definitions/specs') is None]
+    for said in lost:
+        print('planted: its right text does not stand once in its definition: ' + said)
+    print('%d of %d can be planted' % (len(plantings) - len(lost), len(plantings)))
+    return 1 if lost else 0
+
+
 def main():
     given = argparse.ArgumentParser(description=__doc__, formatter_class=argparse.RawDescriptionHelpFormatter)
     given.add_argument('--lanes', type=int, default=1)
@@ -142,6 +159,7 @@ def main():
     given.add_argument('--only', default='')
     given.add_argument('--out')
     given.add_argument('--table')
+    given.add_argument('--listed', action='store_true')
     options = given.parse_args()
     if options.table:
         with open(options.table, encoding='utf-8') as file:
@@ -149,6 +167,10 @@ def main():
         return 0
     with open(HERE + '/planted.list', encoding='utf-8') as file:
         plantings = [Planting(line) for line in file.read().split('\n') if line and not line.startswith('#')]
+    if options.listed:
+        return listed(plantings)
+    if any(it.changed(TOP + '/crates/yaml_definitions/specs') is None for it in plantings):
+        return listed(plantings)
     rooms = queue.Queue()
     for _ in range(options.lanes):
         rooms.put(Room())

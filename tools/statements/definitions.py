@@ -14,7 +14,7 @@ class Block:
 
     def __init__(self, path, place, indent, comment, around):
         self.path, self.place, self.indent, self.comment, self.around = path, place, indent, comment, around
-        self.lines, self.names, self.keyword = [], [], ""
+        self.lines, self.names = [], []
 
     def text(self):
         return "\n".join(self.lines)
