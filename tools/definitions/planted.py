@@ -17,6 +17,7 @@ check is no wrong definition and counts as bad. The unchanged definitions are tr
 `rt`; takes about half a minute of processor for each that no text tells.
 """
 import argparse
+import contextlib
 import os
 import queue
 import re
@@ -32,6 +33,7 @@ sys.path.insert(0, os.path.join(TOP, 'tools'))
 sys.dont_write_bytecode = True
 from statements.definitions import File            # noqa: E402
 
+SPECS = TOP + '/crates/yaml_definitions/specs'
 LAWS = {'law_length': [], 'law_read_back': ['yaml_text'], 'yaml_core': ['yaml_text']}
 UNSHADOWED = ('Rules',)     # which shadow.py has by hand
 
@@ -145,14 +147,14 @@ def table_of(lines):
 
 def listed(plantings):
     """Whether each planting can be put into the definitions as they stand."""
-    lost = [it.said() for it in plantings if it.changed(TOP + '/crates/yaml_definitions/specs') is None]
+    lost = [it.said() for it in plantings if it.changed(SPECS) is None]
     for said in lost:
         print('planted: its right text does not stand once in its definition: ' + said)
     print('%d of %d can be planted' % (len(plantings) - len(lost), len(plantings)))
     return 1 if lost else 0
 
 
-def main():
+def options_given():
     given = argparse.ArgumentParser(description=__doc__, formatter_class=argparse.RawDescriptionHelpFormatter)
     given.add_argument('--lanes', type=int, default=1)
     given.add_argument('--suite', default=os.environ.get('YAML_TEST_SUITE'))
@@ -160,21 +162,14 @@ def main():
     given.add_argument('--out')
     given.add_argument('--table')
     given.add_argument('--listed', action='store_true')
-    options = given.parse_args()
-    if options.table:
-        with open(options.table, encoding='utf-8') as file:
-            print(table_of(file))
-        return 0
-    with open(HERE + '/planted.list', encoding='utf-8') as file:
-        plantings = [Planting(line) for line in file.read().split('\n') if line and not line.startswith('#')]
-    if options.listed:
-        return listed(plantings)
-    if any(it.changed(TOP + '/crates/yaml_definitions/specs') is None for it in plantings):
-        return listed(plantings)
+    return given.parse_args()
+
+
+def tried(plantings, options, out):
+    """What tells each, the unchanged definitions first, so many at a time as there are lanes."""
     rooms = queue.Queue()
     for _ in range(options.lanes):
         rooms.put(Room())
-    out = open(options.out, 'w', encoding='utf-8') if options.out else sys.stdout
 
     def work(planting):
         room = rooms.get()
@@ -185,15 +180,31 @@ def main():
         print('%s | %s' % (planting.said() if planting else 'unchanged', told or 'NOT TOLD'), file=out, flush=True)
         return told
 
-    plain = work(None)
-    if plain:
-        sys.exit('planted: the unchanged definitions are told by %s' % plain)
-    with ThreadPoolExecutor(options.lanes) as pool:
-        results = list(pool.map(work, [it for it in plantings if options.only in it.said()]))
-    bad = sum(it.startswith('BAD') for it in results)
-    print('%d of %d are told by something, %d are bad' % (sum(bool(it) for it in results) - bad, len(results), bad), file=out, flush=True)
-    while not rooms.empty():
-        rooms.get().close()
+    try:
+        plain = work(None)
+        if plain:
+            sys.exit('planted: the unchanged definitions are told by %s' % plain)
+        with ThreadPoolExecutor(options.lanes) as pool:
+            return list(pool.map(work, plantings))
+    finally:
+        while not rooms.empty():
+            rooms.get().close()
+
+
+def main():
+    options = options_given()
+    if options.table:
+        with open(options.table, encoding='utf-8') as file:
+            print(table_of(file))
+        return 0
+    with open(HERE + '/planted.list', encoding='utf-8') as file:
+        plantings = [Planting(line) for line in file.read().split('\n') if line and not line.startswith('#')]
+    if options.listed or any(it.changed(SPECS) is None for it in plantings):
+        return listed(plantings)
+    with open(options.out, 'w', encoding='utf-8') if options.out else contextlib.nullcontext(sys.stdout) as out:
+        results = tried([it for it in plantings if options.only in it.said()], options, out)
+        bad = sum(it.startswith('BAD') for it in results)
+        print('%d of %d are told by something, %d are bad' % (sum(bool(it) for it in results) - bad, len(results), bad), file=out)
     return 0
 
 
