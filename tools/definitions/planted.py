@@ -1,0 +1,212 @@
+#!/usr/bin/env python3
+"""planted.py: a hundred wrong definitions, each put alone into a copy, and what tells it.
+
+    python3 planted.py [--lanes N] [--suite PLACE] [--only WORD] [--out FILE]
+    python3 planted.py --listed             whether each can still be put into its definition, as the gate asks
+    python3 planted.py --table FILE         what a run wrote there, as the table of docs/DEFINITIONS.md
+
+The list is planted.list. What is asked, the cheapest first, until something tells:
+
+- of a definition of the grammar: the rows of `yaml_vectors` and `rows_streams`, the cases of yaml-test-suite (PLACE: see
+  tools/suite) and the short readings that are stored, as the wrong definitions read them (planted_texts.py);
+- `rt check` of yaml_definitions, over what an earlier check kept: an example that is computed or derived, or a law;
+- `rt check` of the law crates that stand on yaml_definitions alone or nearly so (`law_length`, `law_read_back`, `yaml_core`).
+
+A line for each: the definition, right ⇒ wrong, and what told it. A planting with which the definitions themselves no longer
+check is no wrong definition and counts as bad. The unchanged definitions are tried first, and nothing may tell them. Needs
+`rt`; takes about half a minute of processor for each that no text tells.
+"""
+import argparse
+import contextlib
+import os
+import queue
+import re
+import shutil
+import subprocess
+import sys
+import tempfile
+from concurrent.futures import ThreadPoolExecutor
+
+HERE = os.path.dirname(os.path.abspath(__file__))
+TOP = os.path.dirname(os.path.dirname(HERE))
+sys.path.insert(0, os.path.join(TOP, 'tools'))
+sys.dont_write_bytecode = True
+from statements.definitions import File            # noqa: E402
+
+SPECS = TOP + '/crates/yaml_definitions/specs'
+LAWS = {'law_length': [], 'law_read_back': ['yaml_text'], 'yaml_core': ['yaml_text']}
+UNSHADOWED = ('Rules',)     # which shadow.py has by hand
+
+
+class Planting:
+    """A wrong definition: the file, the definition, the right and the wrong text."""
+
+    def __init__(self, line):
+        head, change = line.split(': ', 1)
+        self.file, self.name = head.split(' ')
+        self.right, self.wrong = change.split(' ⇒ ')
+
+    def said(self):
+        return '%s %s: %s ⇒ %s' % (self.file, self.name, self.right, self.wrong)
+
+    def changed(self, specs):
+        """The file with it in its place, or nothing where the right text does not stand once in the definition."""
+        path = '%s/%s.antt' % (specs, self.file)
+        if not os.path.isfile(path):
+            return None
+        with open(path, encoding='utf-8') as file:
+            lines = file.read().split('\n')
+        block = File(path, lines).by_name.get(self.name)
+        if not block or block.text().count(self.right) != 1:
+            return None
+        lines[block.place:block.place + len(block.lines)] = block.text().replace(self.right, self.wrong).split('\n')
+        return '\n'.join(lines)
+
+    def put(self, specs):
+        """Puts it into a copy of the definitions."""
+        text = self.changed(specs)
+        with open('%s/%s.antt' % (specs, self.file), 'w', encoding='utf-8') as file:
+            file.write(text)
+
+
+class Room:
+    """A copy of yaml_definitions and the law crates, with what was kept of them."""
+
+    def __init__(self):
+        self.folder = tempfile.mkdtemp(prefix='planted-')
+        os.mkdir(self.folder + '/.git')
+        shutil.copy(TOP + '/HANDLES', self.folder)
+        names = {'yaml_definitions', *LAWS, *sum(LAWS.values(), [])}
+        with open(TOP + '/crates.txt', encoding='utf-8') as file:
+            lines = [line for line in file if line.split(':')[0] in names]
+        with open(self.folder + '/crates.txt', 'w', encoding='utf-8') as file:
+            file.writelines(lines)
+        for name in names:
+            for part in ('src', 'specs', 'proofs', 'out'):
+                if os.path.isdir('%s/crates/%s/%s' % (TOP, name, part)):
+                    shutil.copytree('%s/crates/%s/%s' % (TOP, name, part), '%s/crates/%s/%s' % (self.folder, name, part))
+        self.specs = self.folder + '/crates/yaml_definitions/specs'
+
+    def plant(self, planting):
+        shutil.rmtree(self.specs)
+        shutil.copytree(TOP + '/crates/yaml_definitions/specs', self.specs)
+        if planting:
+            planting.put(self.specs)
+
+    def text(self, suite):
+        """What planted_texts.py says of the copy."""
+        done = subprocess.run([sys.executable, HERE + '/planted_texts.py', *([suite] if suite else [])], capture_output=True, text=True,
+                              env=dict(os.environ, SPECS=self.specs + '/grammar'), check=False)
+        if done.returncode:
+            return 'text: the definitions no longer run: ' + done.stderr.strip().split('\n')[-1][:100]
+        return ': '.join(done.stdout.strip().split('\t'))
+
+    def check(self, crate):
+        """What of a crate is no longer proved, or nothing."""
+        done = subprocess.run(['rt', 'check', '--jobs', '1'], cwd='%s/crates/%s' % (self.folder, crate), capture_output=True, text=True,
+                              errors='replace', stdin=subprocess.DEVNULL, check=False)
+        said = done.stdout + done.stderr
+        if not done.returncode:
+            return ''
+        places = re.findall(r'(?:\./)?((?:\.\./\w+/)?(?:specs|proofs)/\S+?)\.antt:\d+:\d+: error: `?([\w\-+\']*)', said)
+        wrong = [place for place, _ in places if place.startswith('specs/')]
+        if wrong and crate == 'yaml_definitions':
+            return 'BAD: ' + wrong[0]
+        functions = re.findall(r'^fn (\S+?): (?!proved)', said, re.M)
+        told = [('example' if '/examples/' in place or 'Readings' in place else 'law') + ' %s, %s' % (place, name) for place, name in places]
+        told.sort(key=lambda it: not it.startswith('example'))
+        return (told or ['law %s' % it for it in functions] or ['%s: %s' % (crate, said.strip().split('\n')[-1][:120])])[0]
+
+    def told(self, planting, suite):
+        """What tells a planting, or nothing."""
+        self.plant(planting)
+        if planting is None or planting.file.startswith('grammar/') and not planting.file.endswith(UNSHADOWED):
+            text = self.text(suite)
+            if text:
+                return text
+        told = self.check('yaml_definitions')
+        for crate in LAWS if not told and planting else ():
+            told = told or self.check(crate)
+        return told
+
+    def close(self):
+        shutil.rmtree(self.folder, ignore_errors=True)
+
+
+def table_of(lines):
+    """The result a definition, as rows of a table."""
+    rows = ['| definition | in its place | told by |', '|---|---|---|']
+    for line in lines:
+        change, found, told = line.rstrip('\n').rpartition(' | ')
+        if found and ': ' in change:
+            head, words = change.split(': ', 1)
+            file, name = head.split(' ')
+            rows.append('| `%s` (`%s`) | `%s` | %s |' % (name, file.rsplit('/', 1)[1], words.replace('|', '\\|'), told.replace('|', '\\|')))
+    return '\n'.join(rows)
+
+
+def listed(plantings):
+    """Whether each planting can be put into the definitions as they stand."""
+    lost = [it.said() for it in plantings if it.changed(SPECS) is None]
+    for said in lost:
+        print('planted: its right text does not stand once in its definition: ' + said)
+    print('%d of %d can be planted' % (len(plantings) - len(lost), len(plantings)))
+    return 1 if lost else 0
+
+
+def options_given():
+    given = argparse.ArgumentParser(description=__doc__, formatter_class=argparse.RawDescriptionHelpFormatter)
+    given.add_argument('--lanes', type=int, default=1)
+    given.add_argument('--suite', default=os.environ.get('YAML_TEST_SUITE'))
+    given.add_argument('--only', default='')
+    given.add_argument('--out')
+    given.add_argument('--table')
+    given.add_argument('--listed', action='store_true')
+    return given.parse_args()
+
+
+def tried(plantings, options, out):
+    """What tells each, the unchanged definitions first, so many at a time as there are lanes."""
+    rooms = queue.Queue()
+    for _ in range(options.lanes):
+        rooms.put(Room())
+
+    def work(planting):
+        room = rooms.get()
+        try:
+            told = room.told(planting, options.suite)
+        finally:
+            rooms.put(room)
+        print('%s | %s' % (planting.said() if planting else 'unchanged', told or 'NOT TOLD'), file=out, flush=True)
+        return told
+
+    try:
+        plain = work(None)
+        if plain:
+            sys.exit('planted: the unchanged definitions are told by %s' % plain)
+        with ThreadPoolExecutor(options.lanes) as pool:
+            return list(pool.map(work, plantings))
+    finally:
+        while not rooms.empty():
+            rooms.get().close()
+
+
+def main():
+    options = options_given()
+    if options.table:
+        with open(options.table, encoding='utf-8') as file:
+            print(table_of(file))
+        return 0
+    with open(HERE + '/planted.list', encoding='utf-8') as file:
+        plantings = [Planting(line) for line in file.read().split('\n') if line and not line.startswith('#')]
+    if options.listed or any(it.changed(SPECS) is None for it in plantings):
+        return listed(plantings)
+    with open(options.out, 'w', encoding='utf-8') if options.out else contextlib.nullcontext(sys.stdout) as out:
+        results = tried([it for it in plantings if options.only in it.said()], options, out)
+        bad = sum(it.startswith('BAD') for it in results)
+        print('%d of %d are told by something, %d are bad' % (sum(bool(it) for it in results) - bad, len(results), bad), file=out)
+    return 0
+
+
+if __name__ == '__main__':
+    sys.exit(main())
