@@ -1,19 +1,28 @@
-"""Makes the wheel: the module, and the shared library beside it, which YAMLCANON_LIBRARY names or tools/library builds."""
+"""Makes the wheel: the module, and the shared library beside it, which YAMLCANON_LIBRARY names or tools/library builds.
+
+Its tag is by what that library asks for (tag.py). The same files and the same SOURCE_DATE_EPOCH give the same bytes.
+"""
 import base64
+import glob
 import hashlib
 import os
 import re
 import subprocess
-import sysconfig
+import sys
 import tempfile
+import time
 import zipfile
 
 HERE = os.path.dirname(os.path.abspath(__file__))
 with open(HERE + '/pyproject.toml', encoding='utf-8') as project:
     TOLD = dict(re.findall(r'^([a-z-]+) = "(.*)"$', project.read(), re.M))
+sys.path.insert(0, HERE)
+from tag import tag  # noqa: E402
+
 NAME = 'yamlcanon-' + TOLD['version']
 INFO = NAME + '.dist-info/'
-TAG = 'py3-none-' + sysconfig.get_platform().replace('-', '_').replace('.', '_')
+# The first time that a zip file can tell.
+LEAST_TIME = 315532800
 METADATA = """\
 Metadata-Version: 2.1
 Name: yamlcanon
@@ -29,32 +38,45 @@ def bytes_of(path):
         return file.read()
 
 
-def library():
-    named = os.environ.get('YAMLCANON_LIBRARY')
-    if named:
-        return bytes_of(named)
-    with tempfile.TemporaryDirectory() as folder:
-        subprocess.check_call([HERE + '/../../tools/library', folder])
-        return bytes_of(folder + '/libyamlcanon.so.1')
+def library(room):
+    """The path of the shared library; one that is not there ends this: no wheel is made without it."""
+    path = os.environ.get('YAMLCANON_LIBRARY')
+    if not path:
+        subprocess.check_call([HERE + '/../../tools/library', room])
+        path = room + '/libyamlcanon.so.1'
+    if bytes_of(path)[:4] != b'\x7fELF':
+        raise SystemExit('%s is no shared library: a wheel has it inside' % path)
+    return path
 
 
-def licences():
-    """The repository's texts of licences; none where an older pip has copied this folder alone."""
-    top = HERE + '/../../'
-    return {INFO + name: bytes_of(top + name) for name in ('LICENSE-MIT', 'LICENSE-APACHE', 'NOTICE') if os.path.isfile(top + name)}
+def texts():
+    """The repository's texts of licences, and of a release what it rests on; none where an older pip has copied this folder alone."""
+    top, names = HERE + '/../../', ('LICENSE-MIT', 'LICENSE-APACHE', 'NOTICE', 'BUILD')
+    return {INFO + name: bytes_of(top + name) for name in names if os.path.isfile(top + name)}
+
+
+def write_zip(path, parts):
+    """The parts in their order, each with one time and one mode."""
+    made = max(LEAST_TIME, int(os.environ.get('SOURCE_DATE_EPOCH') or time.time()))
+    with zipfile.ZipFile(path, 'w', zipfile.ZIP_DEFLATED) as file:
+        for name, part in parts.items():
+            info = zipfile.ZipInfo(name, time.gmtime(made)[:6])
+            info.compress_type, info.external_attr, info.create_system = zipfile.ZIP_DEFLATED, 0o100644 << 16, 3
+            file.writestr(info, part)
 
 
 def build_wheel(wheel_directory, config_settings=None, metadata_directory=None):
-    parts = {'yamlcanon/' + name: bytes_of(HERE + '/yamlcanon/' + name) for name in ('__init__.py', 'py.typed')}
-    parts['yamlcanon/libyamlcanon.so.1'] = library()
+    names = sorted(os.path.basename(path) for path in glob.glob(HERE + '/yamlcanon/*.py')) + ['py.typed']
+    parts = {'yamlcanon/' + name: bytes_of(HERE + '/yamlcanon/' + name) for name in names}
+    with tempfile.TemporaryDirectory() as room:
+        path = library(room)
+        parts['yamlcanon/libyamlcanon.so.1'], tagged = bytes_of(path), tag(path)
     parts[INFO + 'METADATA'] = METADATA.encode()
-    parts.update(licences())
-    parts[INFO + 'WHEEL'] = ('Wheel-Version: 1.0\nGenerator: yamlcanon\nRoot-Is-Purelib: false\nTag: %s\n' % TAG).encode()
+    parts.update(texts())
+    parts[INFO + 'WHEEL'] = ('Wheel-Version: 1.0\nGenerator: yamlcanon\nRoot-Is-Purelib: false\nTag: %s\n' % tagged).encode()
     sums = {name: base64.urlsafe_b64encode(hashlib.sha256(part).digest()).rstrip(b'=').decode() for name, part in parts.items()}
     record = ''.join('%s,sha256=%s,%d\n' % (name, sums[name], len(part)) for name, part in parts.items())
     parts[INFO + 'RECORD'] = (record + INFO + 'RECORD,,\n').encode()
-    wheel = '%s-%s.whl' % (NAME, TAG)
-    with zipfile.ZipFile(os.path.join(wheel_directory, wheel), 'w', zipfile.ZIP_DEFLATED) as file:
-        for name, part in parts.items():
-            file.writestr(name, part)
+    wheel = '%s-%s.whl' % (NAME, tagged)
+    write_zip(os.path.join(wheel_directory, wheel), parts)
     return wheel

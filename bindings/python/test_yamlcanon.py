@@ -111,6 +111,19 @@ class Calls(unittest.TestCase):
         self.assertEqual(got, want)
         self.assertTrue(inner)
 
+    def test_what_a_processor_lacks_is_told(self):
+        import tempfile
+
+        from yamlcanon import _lacking
+
+        level = "pni ssse3 cx16 sse4_1 sse4_2 popcnt lahf_lm"
+        for flags, lacking in ((level, []), (level.replace("sse4_1 ", ""), ["sse4_1"]), ("fpu", sorted(level.split()))):
+            with tempfile.NamedTemporaryFile("w") as told:
+                told.write("processor\t: 0\nflags\t\t: fpu sse2 %s\nbugs\t\t:\n" % flags)
+                told.flush()
+                self.assertEqual(sorted(_lacking(told.name)), lacking)
+        self.assertEqual(_lacking("/nowhere/cpuinfo"), [])
+
 
 if __name__ == "__main__":
     unittest.main()

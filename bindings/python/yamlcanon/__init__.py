@@ -25,6 +25,8 @@ _OUT_OF_MEMORY = 21
 _STACK_BASE, _STACK_LEVEL, _MOST_LEVELS = 512 << 10, 6 << 10, 1024
 # The stack of a thread to which a call is handed.
 _STACK_GIVEN = 8 << 20
+# The parts of x86-64-v2, as the kernel names them.
+_LEVEL = ("cx16", "lahf_lm", "popcnt", "pni", "sse4_1", "sse4_2", "ssse3")
 # A thread keeps its room between calls up to this many bytes.
 _ROOM_KEPT, _ROOM_LEAST = 1 << 20, 16384
 
@@ -72,7 +74,23 @@ class _Fault(Structure):
         return Refused(self.number, self.name.decode(), self.place, self.first, self.second, side)
 
 
+def _lacking(told: str = "/proc/cpuinfo") -> List[str]:
+    """What the processor lacks of x86-64-v2, for which the library is built; nothing where the system does not tell.
+
+    From glibc 2.33 on the loader refuses the library there too, in words of its own.
+    """
+    try:
+        with open(told, encoding="ascii", errors="replace") as file:
+            flags = next((line.partition(":")[2].split() for line in file if line.startswith("flags")), None)
+    except OSError:
+        return []
+    return [] if flags is None else [flag for flag in _LEVEL if flag not in flags]
+
+
 def _load() -> ctypes.CDLL:
+    lacking = _lacking()
+    if lacking:
+        raise ImportError("yamlcanon: this processor lacks %s: x86-64-v2 is needed" % ", ".join(lacking))
     beside = os.path.join(os.path.dirname(__file__), "libyamlcanon.so.1")
     named = os.environ.get("YAMLCANON_LIBRARY")
     lib = ctypes.CDLL(named or (beside if os.path.exists(beside) else "libyamlcanon.so.1"))

@@ -1,7 +1,8 @@
 //! The canonical text of YAML 1.2 streams, and whether two streams mean the same: safe calls over libyamlcanon.
 //!
 //! A call may be made on any thread. A level of nesting takes up to 5.7 KiB of stack and std's threads have 2 MiB, so where
-//! less is left than an input of this length may take, the call is made on a thread of its own that has 8 MiB.
+//! less is left than an input of this length may take, the call is made on a thread of its own that has 8 MiB. The library is
+//! built for x86-64-v2, and a call on a lesser processor panics before anything of it runs.
 #![warn(missing_docs)]
 
 use std::{error, fmt, thread};
@@ -129,8 +130,18 @@ fn stack_left() -> usize {
     0
 }
 
+/// Ends the call where the processor is less than x86-64-v2, for which the library is built. std keeps what it has found out.
+fn look_at_processor() {
+    #[cfg(target_arch = "x86_64")]
+    {
+        let is_enough = is_x86_feature_detected!("sse4.2") && is_x86_feature_detected!("popcnt") && is_x86_feature_detected!("cmpxchg16b");
+        assert!(is_enough, "yamlcanon: this processor is less than x86-64-v2, which is needed");
+    }
+}
+
 /// Does some work on inputs of at most so many bytes where there is stack enough for it.
 fn with_stack<T: Send>(size: usize, work: impl FnOnce() -> T + Send) -> T {
+    look_at_processor();
     if stack_left() >= STACK_BASE + STACK_LEVEL * size.min(MOST_LEVELS) {
         return work();
     }
