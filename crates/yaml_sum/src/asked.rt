@@ -1,0 +1,12 @@
+//! What is asked of `sum`.
+
+/// Which files, and what of them.
+#[derive(Clone, Copy, Debug, PartialEq, Eq)]
+pub enum Asked<'a> {
+    /// The sum of each of these files; `-` is standard input.
+    Files(&'a [&'a str]),
+    /// The sum of each file that this list names; `-` is standard input.
+    FilesFrom(&'a str),
+    /// Whether the files have the sums that this list tells; `-` is standard input.
+    Check(&'a str),
+}

@@ -1,0 +1,153 @@
+//! Whether files have the sums that a list tells.
+use crate::line::{is_escaped, push, push_name};
+use crate::listed::{Listed, read_listed};
+use crate::stop::Stop;
+use crate::sum::{Buffers, digest_file, tell};
+use hex::decode_to_slice;
+use std::alloc::Global;
+use std::io::{Read, Write};
+use yaml_command::shelf::Shelf;
+use yaml_command::streams::{write_out, write_whole};
+use yaml_text::counted::Counted;
+use yaml_text::fault::Fault;
+
+/// The status of a file that has another sum.
+const DIFFERENT: u8 = 1;
+
+/// The status of a list in which no line is one of a sum.
+const UNUSABLE: u8 = 3;
+
+/// What is told of the lines of a list.
+#[derive(Clone, Copy)]
+struct Told {
+    worst: u8,
+    proper: usize,
+    improper: usize,
+}
+
+/// What `push_name` made of a name, undone. No answer where there is an escape that it does not make.
+fn unescape(name: &[u8], plain: &mut Vec<u8>) -> Result<bool, Fault> {
+    plain.clear();
+    let mut at = 0;
+    'bytes: while at < name.len() {
+        let byte = name[at];
+        at += 1;
+        if byte != b'\\' {
+            plain.push(byte)?;
+            continue;
+        }
+        match name.get(at) {
+            Some(b'\\') => plain.push(b'\\')?,
+            Some(b'n') => plain.push(b'\n')?,
+            Some(b'r') => plain.push(b'\r')?,
+            _ => return Ok(false),
+        }
+        at += 1;
+    }
+    Ok(true)
+}
+
+/// The name of a line as it is, or none where it is not written properly.
+fn name_of(listed: &Listed<'_>, plain: &mut Vec<u8>) -> Result<bool, Fault> {
+    if listed.is_escaped {
+        return unescape(listed.name, plain);
+    }
+    plain.clear();
+    push(plain, listed.name)?;
+    Ok(true)
+}
+
+/// Makes the line that tells what is found of a file.
+fn make_verdict(line: &mut Vec<u8>, name: &[u8], verdict: &str) -> Result<(), Fault> {
+    line.clear();
+    if is_escaped(name) {
+        push(line, b"\\")?;
+    }
+    push_name(line, name)?;
+    push(line, verdict.as_bytes())
+}
+
+/// Whether a digest is the one that a line tells.
+fn is_listed(digest: &[u8; 32], listed: &Listed<'_>) -> bool {
+    let mut wanted = [0u8; 32];
+    decode_to_slice(listed.digits, &mut wanted).is_ok() && wanted == *digest
+}
+
+/// Looks at the file of one line, and answers the status of what is found.
+fn check_file<S: Shelf, R: Read, E: Write>(
+    shelf: &S,
+    alloc: Global,
+    listed: &Listed<'_>,
+    name: &[u8],
+    input: &mut R,
+    buffers: &mut Buffers,
+    err: &mut E,
+) -> Result<u8, Fault> {
+    let (status, verdict) = match digest_file(shelf, alloc, name, input, buffers) {
+        Ok(digest) if is_listed(&digest, listed) => (0, ": OK\n"),
+        Ok(_) => (DIFFERENT, ": FAILED\n"),
+        Err(stop) => {
+            tell(alloc, &mut buffers.line, name, stop, err);
+            (stop.status(), ": FAILED open or read\n")
+        }
+    };
+    make_verdict(&mut buffers.line, name, verdict)?;
+    Ok(status)
+}
+
+/// Looks at each line of a list.
+fn check_lines<S: Shelf, R: Read, W: Write, E: Write>(
+    shelf: &S,
+    alloc: Global,
+    list: &[u8],
+    input: &mut R,
+    out: &mut Counted<W>,
+    err: &mut E,
+) -> Result<Told, Fault> {
+    let mut buffers = Buffers::new(alloc);
+    let mut name = Vec::new(alloc);
+    let mut told = Told {
+        worst: 0,
+        proper: 0,
+        improper: 0,
+    };
+    'lines: for line in list.split(|byte| *byte == b'\n') {
+        if line.is_empty() || line[0] == b'#' {
+            continue;
+        }
+        let Some(listed) = read_listed(line) else {
+            told.improper += 1;
+            continue;
+        };
+        if !name_of(&listed, &mut name)? {
+            told.improper += 1;
+            continue;
+        }
+        let status = check_file(shelf, alloc, &listed, &name, input, &mut buffers, err)?;
+        write_whole(out, &buffers.line)?;
+        told.worst = told.worst.max(status);
+        told.proper += 1;
+    }
+    write_out(out, b"")?;
+    Ok(told)
+}
+
+/// Looks at each file of a list of sums, and tells on `out` whether it has the sum of its line. Lines that
+/// are none of a sum are counted on `err`; where no other is there the list can't be used.
+pub(crate) fn check_list<S: Shelf, R: Read, W: Write, E: Write>(
+    shelf: &S,
+    alloc: Global,
+    list: &[u8],
+    input: &mut R,
+    out: &mut Counted<W>,
+    err: &mut E,
+) -> Result<u8, Stop> {
+    let told = check_lines(shelf, alloc, list, input, out, err)?;
+    if told.improper > 0 {
+        let _ = writeln!(err, "yaml: {} lines are no sums", told.improper);
+    }
+    if told.proper == 0 {
+        return Ok(UNUSABLE);
+    }
+    Ok(told.worst)
+}

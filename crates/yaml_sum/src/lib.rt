@@ -1,0 +1,13 @@
+//! Sums of meanings: the SHA-256 of each file's canonical text, in the lines of `sha256sum`.
+#![tactic(auto)]
+
+pub mod asked;
+mod check;
+mod digest;
+mod line;
+mod listed;
+mod names;
+mod reading;
+pub mod regular;
+mod stop;
+pub mod sum;

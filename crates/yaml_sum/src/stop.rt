@@ -1,0 +1,44 @@
+//! Why a file has no sum.
+use std::fmt;
+use std::fmt::Display;
+use yaml_text::fault::Fault;
+
+/// The status of a file that is refused.
+const REFUSED: u8 = 2;
+
+/// The status of a file that can't be read.
+const UNUSABLE: u8 = 3;
+
+/// Why a file has no sum.
+#[derive(Clone, Copy)]
+pub(crate) enum Stop {
+    /// It can't be opened, or is no regular file.
+    CannotOpen,
+    /// It can't be read, or what it holds is refused.
+    Refused(Fault),
+}
+
+impl Stop {
+    /// The exit status: 2 where what a file holds is refused, 3 where it can't be opened or read.
+    pub(crate) fn status(self) -> u8 {
+        match self {
+            Stop::CannotOpen | Stop::Refused(Fault::ReadFault) => UNUSABLE,
+            Stop::Refused(_) => REFUSED,
+        }
+    }
+}
+
+impl From<Fault> for Stop {
+    fn from(fault: Fault) -> Stop {
+        Stop::Refused(fault)
+    }
+}
+
+impl Display for Stop {
+    fn fmt<W: fmt::Write>(&self, f: &mut fmt::Formatter<W>) -> fmt::Result {
+        match self {
+            Stop::CannotOpen => write!(f, "cannot open"),
+            Stop::Refused(fault) => write!(f, "{fault}"),
+        }
+    }
+}
