@@ -1,9 +1,14 @@
 //! The lines of `sha256sum`.
+ghost use Rattle.std.specs.Prelude.{◌≡◌, ◌++◌, List, ℕ, Option, option_map, OnOk, IfErr};
+ghost use Rattle.yaml_sum.specs.Lines.{escape_of, is_special, name_text, sum_line};
+
 use hex::encode_to_slice;
 use yaml_text::fault::Fault;
 
 /// What stands in a line for this byte of a name, if it is not itself: a backslash, and the ends of lines.
-fn escape_of(byte: u8) -> Option<&'static [u8]> {
+fn escape_of(byte: u8) -> Option<&'static [u8]>
+    ensures { option_map (λ s. s.now) result ≡ escape_of byte }
+{
     match byte {
         b'\\' => Some(b"\\\\"),
         b'\n' => Some(b"\\n"),
@@ -13,38 +18,45 @@ fn escape_of(byte: u8) -> Option<&'static [u8]> {
 }
 
 /// Whether a name has a byte that does not stand for itself.
-pub(crate) fn is_escaped(name: &[u8]) -> bool {
-    let mut at = 0;
-    'bytes: while at < name.len() {
-        if escape_of(name[at]).is_some() {
+pub(crate) fn is_escaped(name: &[u8]) -> bool
+    ensures { result ≡ is_special name.now }
+{
+    'bytes: for byte in name {
+        if escape_of(*byte).is_some() {
             return true;
         }
-        at += 1;
     }
     false
 }
 
 /// Puts some bytes behind a line.
-pub(crate) fn push(line: &mut Vec<u8>, piece: &[u8]) -> Result<(), Fault> {
+pub(crate) fn push(line: &mut Vec<u8>, piece: &[u8]) -> Result<(), Fault>
+    ensures ok { OnOk result (line.new.items ≡ line.old.items ++ piece.now) }
+    ensures only { IfErr result (λ fault. fault ≡ Fault.OutOfMemory) }
+{
     line.extend_from_slice(piece).map_err(|_| Fault::OutOfMemory)
 }
 
 /// Puts a name behind a line, so that the line stays one.
-pub(crate) fn push_name(line: &mut Vec<u8>, name: &[u8]) -> Result<(), Fault> {
-    let mut at = 0;
-    'bytes: while at < name.len() {
-        match escape_of(name[at]) {
+pub(crate) fn push_name(line: &mut Vec<u8>, name: &[u8]) -> Result<(), Fault>
+    ensures ok { OnOk result (line.new.items ≡ line.old.items ++ name_text name.now) }
+    ensures only { IfErr result (λ fault. fault ≡ Fault.OutOfMemory) }
+{
+    'bytes: for byte in name {
+        match escape_of(*byte) {
             Some(escape) => push(line, escape)?,
-            None => line.push(name[at])?,
+            None => push(line, &[*byte])?,
         }
-        at += 1;
     }
     Ok(())
 }
 
 /// Makes the line of a sum: a backslash where the name is not written as it is, the digest in hex, two
 /// spaces, the name, and a line feed.
-pub(crate) fn make_line(line: &mut Vec<u8>, digest: &[u8; 32], name: &[u8]) -> Result<(), Fault> {
+pub(crate) fn make_line(line: &mut Vec<u8>, digest: &[u8; 32], name: &[u8]) -> Result<(), Fault>
+    ensures ok { OnOk result (line.new.items ≡ sum_line digest.now name.now) }
+    ensures only { IfErr result (λ fault. fault ≡ Fault.OutOfMemory) }
+{
     let mut digits = [0u8; 64];
     let _ = encode_to_slice(digest, &mut digits);
     line.clear();
