@@ -121,6 +121,11 @@ def run(name: str, data: bytes, jobs: int, batch: int, cache: Optional[str]) -> 
     except MemoryError:
         say("a worker wanted more memory than there is: the same command goes on from here, with fewer --jobs")
         return _FAILED
+    return finish(table)
+
+
+def finish(table: Table) -> int:
+    """Tells how many files were done, and gives the status."""
     done, refused, unread, contents, meanings = table.summary()
     say(f"{done:,} done, {refused:,} refused, {unread:,} unread; {contents:,} contents, {meanings:,} meanings")
     return 1 if refused or unread else 0
