@@ -1,1 +1,7 @@
+pub mod Asks
+pub mod Digests
 pub mod Lines
+pub mod Names
+pub mod Reading
+pub mod Stops
+pub mod Sums

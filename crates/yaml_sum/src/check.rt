@@ -1,8 +1,10 @@
 //! Whether files have the sums that a list tells.
+use crate::buffers::Buffers;
+use crate::file::{digest_file, read_file};
 use crate::line::{is_escaped, push, push_name};
 use crate::listed::{Listed, read_listed};
 use crate::stop::Stop;
-use crate::sum::{Buffers, digest_file, tell};
+use crate::telling::tell;
 use hex::decode_to_slice;
 use std::alloc::Global;
 use std::io::{Read, Write};
@@ -10,6 +12,9 @@ use yaml_command::shelf::Shelf;
 use yaml_command::streams::{write_out, write_whole};
 use yaml_text::counted::Counted;
 use yaml_text::fault::Fault;
+
+/// The greatest length of a list, in bytes.
+const LIST_LIMIT: usize = 1_073_741_824;
 
 /// The status of a file that has another sum.
 const DIFFERENT: u8 = 1;
@@ -83,7 +88,7 @@ fn check_file<S: Shelf, R: Read, E: Write>(
     buffers: &mut Buffers,
     err: &mut E,
 ) -> Result<u8, Fault> {
-    let (status, verdict) = match digest_file(shelf, alloc, name, input, buffers) {
+    let (status, verdict) = match digest_file(shelf, alloc, name, input, &mut buffers.bytes, &mut buffers.text) {
         Ok(digest) if is_listed(&digest, listed) => (0, ": OK\n"),
         Ok(_) => (DIFFERENT, ": FAILED\n"),
         Err(stop) => {
@@ -133,16 +138,18 @@ fn check_lines<S: Shelf, R: Read, W: Write, E: Write>(
 }
 
 /// Looks at each file of a list of sums, and tells on `out` whether it has the sum of its line. Lines that
-/// are none of a sum are counted on `err`; where no other is there the list can't be used.
+/// are none of a sum are counted on `err`; where there is no other the list can't be used.
 pub(crate) fn check_list<S: Shelf, R: Read, W: Write, E: Write>(
     shelf: &S,
     alloc: Global,
-    list: &[u8],
+    list: &str,
     input: &mut R,
     out: &mut Counted<W>,
     err: &mut E,
 ) -> Result<u8, Stop> {
-    let told = check_lines(shelf, alloc, list, input, out, err)?;
+    let mut bytes = Vec::new(alloc);
+    read_file(shelf, list.as_bytes(), input, &mut bytes, LIST_LIMIT)?;
+    let told = check_lines(shelf, alloc, bytes.as_slice(), input, out, err)?;
     if told.improper > 0 {
         let _ = writeln!(err, "yaml: {} lines are no sums", told.improper);
     }

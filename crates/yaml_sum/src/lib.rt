@@ -2,8 +2,10 @@
 #![tactic(auto)]
 
 pub mod asked;
+mod buffers;
 mod check;
 mod digest;
+mod file;
 mod line;
 mod listed;
 mod names;
@@ -11,3 +13,4 @@ mod reading;
 pub mod regular;
 mod stop;
 pub mod sum;
+mod telling;

@@ -1,4 +1,7 @@
 //! Reading a file whole into a buffer that is kept.
+ghost use Rattle.std.specs.Prelude.{◌<◌, ◌-◌, ◌^◌, OnOk, IfErr};
+ghost use Rattle.yaml_sum.specs.Reading.{GivesAll, GivesNotAll};
+
 use std::io::Read;
 use yaml_text::fault::Fault;
 
@@ -14,7 +17,11 @@ pub(crate) fn refill<R: Read>(
     bytes: &mut Vec<u8>,
     input: &mut R,
     limit: usize,
-) -> Result<(), Fault> {
+) -> Result<(), Fault>
+    requires { limit < 2 ^ 64 - 1 }
+    ensures ok { OnOk result (GivesAll R.remaining input.old input.new limit bytes.new.items) }
+    ensures err { IfErr result (GivesNotAll R.remaining input.old input.new limit) }
+{
     let mut piece = [0u8; PIECE];
     bytes.clear();
     'read: loop {

@@ -6,7 +6,7 @@ use yaml_text::fault::Fault;
 /// The status of a file that is refused.
 const REFUSED: u8 = 2;
 
-/// The status of a file that can't be read.
+/// The status of a file that can't be opened or read.
 const UNUSABLE: u8 = 3;
 
 /// Why a file has no sum.
@@ -19,8 +19,13 @@ pub(crate) enum Stop {
 }
 
 impl Stop {
+    ghost use Rattle.std.specs.Prelude.{◌≡◌};
+    ghost use Rattle.yaml_sum.specs.Stops.{stop_status};
+
     /// The exit status: 2 where what a file holds is refused, 3 where it can't be opened or read.
-    pub(crate) fn status(self) -> u8 {
+    pub(crate) fn status(self) -> u8
+        ensures { result ≡ stop_status self }
+    {
         match self {
             Stop::CannotOpen | Stop::Refused(Fault::ReadFault) => UNUSABLE,
             Stop::Refused(_) => REFUSED,
@@ -29,12 +34,21 @@ impl Stop {
 }
 
 impl From<Fault> for Stop {
+    ghost use Rattle.std.specs.Prelude.{◌≡◌};
+    ghost use Rattle.yaml_sum.specs.declared.stop.Stop.TheVariants.{Refused};
+
+    ghost from_gives = { λ fault stop. stop ≡ Refused fault };
+
     fn from(fault: Fault) -> Stop {
         Stop::Refused(fault)
     }
 }
 
 impl Display for Stop {
+    ghost use Rattle.yaml_sum.specs.Stops.{stop_text};
+
+    ghost output = { stop_text };
+
     fn fmt<W: fmt::Write>(&self, f: &mut fmt::Formatter<W>) -> fmt::Result {
         match self {
             Stop::CannotOpen => write!(f, "cannot open"),

@@ -1,111 +1,27 @@
 //! The command `sum`.
+ghost use Rattle.std.specs.Prelude.{◌≡◌, ◌≤◌, ◌<◌, ◌-◌, ◌^◌, map, IfOk, IfErr};
+ghost use Rattle.yaml_text.specs.CountedModel.{faults_of};
+ghost use Rattle.yaml_sum.specs.Sums.{SumsAll, SumsCut};
+ghost use Rattle.yaml_sum.specs.Asks.{WordsSummed, WordsNotSummed, ListSummed, ListNotSummed, Done, NotDone, SumTells};
+
 use crate::asked::Asked;
+use crate::buffers::Buffers;
 use crate::check::check_list;
-use crate::digest::digest_of;
-use crate::line::{make_line, push, push_name};
+use crate::file::{read_file, sum_file};
 use crate::names::{names_in, names_of};
-use crate::reading::refill;
 use crate::stop::Stop;
 use std::alloc::Global;
 use std::io::{Read, Write};
-use std::str;
 use yaml_command::shelf::Shelf;
-use yaml_command::streams::{write_out, write_whole};
+use yaml_command::streams::write_out;
 use yaml_text::counted::Counted;
 use yaml_text::fault::Fault;
-use yaml_text::limits::text_limit;
-
-/// The name of standard input.
-const INPUT: &[u8] = b"-";
 
 /// The greatest length of a list, in bytes.
 const LIST_LIMIT: usize = 1_073_741_824;
 
-/// The status where writing fails.
+/// The status where the list can't be used or writing fails.
 const UNUSABLE: u8 = 3;
-
-/// The buffers that are kept from file to file.
-#[derive(Drop)]
-pub(crate) struct Buffers {
-    pub(crate) bytes: Vec<u8>,
-    pub(crate) text: Vec<u8>,
-    pub(crate) line: Vec<u8>,
-}
-
-impl Buffers {
-    pub(crate) fn new(alloc: Global) -> Buffers {
-        Buffers {
-            bytes: Vec::new(alloc),
-            text: Vec::new(alloc),
-            line: Vec::new(alloc),
-        }
-    }
-}
-
-/// Reads the file of a name, or standard input, into the buffer.
-pub(crate) fn read_file<S: Shelf, R: Read>(
-    shelf: &S,
-    name: &[u8],
-    input: &mut R,
-    bytes: &mut Vec<u8>,
-    limit: usize,
-) -> Result<(), Stop> {
-    if name == INPUT {
-        refill(bytes, input, limit)?;
-        return Ok(());
-    }
-    let Ok(text) = str::from_utf8(name) else {
-        return Err(Stop::CannotOpen);
-    };
-    let Ok(mut file) = shelf.open(text) else {
-        return Err(Stop::CannotOpen);
-    };
-    refill(bytes, &mut file, limit)?;
-    Ok(())
-}
-
-/// The digest of the canonical text of the file of a name, or of standard input.
-pub(crate) fn digest_file<S: Shelf, R: Read>(
-    shelf: &S,
-    alloc: Global,
-    name: &[u8],
-    input: &mut R,
-    buffers: &mut Buffers,
-) -> Result<[u8; 32], Stop> {
-    read_file(shelf, name, input, &mut buffers.bytes, text_limit())?;
-    let digest = digest_of(alloc, &buffers.bytes, &mut buffers.text)?;
-    Ok(digest)
-}
-
-/// Makes the line of a file.
-fn line_of<S: Shelf, R: Read>(
-    shelf: &S,
-    alloc: Global,
-    name: &[u8],
-    input: &mut R,
-    buffers: &mut Buffers,
-) -> Result<(), Stop> {
-    let digest = digest_file(shelf, alloc, name, input, buffers)?;
-    make_line(&mut buffers.line, &digest, name)?;
-    Ok(())
-}
-
-/// The line that tells why a file has no sum.
-fn telling(alloc: Global, line: &mut Vec<u8>, name: &[u8], stop: Stop) -> Result<(), Fault> {
-    let why = format!(in alloc; ": {stop}\n")?;
-    line.clear();
-    push(line, b"yaml: ")?;
-    push_name(line, name)?;
-    push(line, why.as_bytes())
-}
-
-/// Tells why a file has no sum, in one line.
-pub(crate) fn tell<E: Write>(alloc: Global, line: &mut Vec<u8>, name: &[u8], stop: Stop, err: &mut E) {
-    if telling(alloc, line, name, stop).is_ok() {
-        // Where standard error fails too, the status alone is left to tell it.
-        let _ = err.write_all(line);
-    }
-}
 
 /// Writes a line for each file, and answers the greatest status.
 fn sum_each<S: Shelf, R: Read, W: Write, E: Write>(
@@ -115,20 +31,67 @@ fn sum_each<S: Shelf, R: Read, W: Write, E: Write>(
     input: &mut R,
     out: &mut Counted<W>,
     err: &mut E,
-) -> Result<u8, Fault> {
+) -> Result<u8, Fault>
+    requires { faults_of out.old < 2 ^ 64 - 1 }
+    ensures ok { IfOk result (SumsAll (S.holds shelf.now) R.remaining W.contents (map (λ s. s.now) names.now) input.old input.new out.old out.new) }
+    ensures cut { IfErr result (SumsCut (S.holds shelf.now) R.remaining W.contents (map (λ s. s.now) names.now) input.old input.new out.old out.new) }
+{
     let mut buffers = Buffers::new(alloc);
     let mut worst = 0;
     'names: for name in names {
-        match line_of(shelf, alloc, name, input, &mut buffers) {
-            Ok(()) => write_whole(out, &buffers.line)?,
-            Err(stop) => {
-                worst = worst.max(stop.status());
-                tell(alloc, &mut buffers.line, name, stop, err);
-            }
-        }
+        let status = sum_file(shelf, alloc, name, input, &mut buffers, out, err)?;
+        worst = worst.max(status);
     }
     write_out(out, b"")?;
     Ok(worst)
+}
+
+/// Sums the files of these names.
+fn sum_words<S: Shelf, R: Read, W: Write, E: Write>(
+    shelf: &S,
+    alloc: Global,
+    words: &[&str],
+    input: &mut R,
+    out: &mut Counted<W>,
+    err: &mut E,
+) -> Result<u8, Stop>
+    requires { faults_of out.old < 2 ^ 64 - 1 }
+    ensures ok { IfOk result (WordsSummed (S.holds shelf.now) R.remaining W.contents (map (λ s. s.now) words.now) input.old input.new out.old out.new) }
+    ensures err { IfErr result (WordsNotSummed (S.holds shelf.now) R.remaining W.contents (map (λ s. s.now) words.now) input.old input.new out.old out.new) }
+{
+    let names = match names_of(alloc, words) {
+        Ok(names) => names,
+        Err(fault) => return Err(Stop::Refused(fault)),
+    };
+    match sum_each(shelf, alloc, names.as_slice(), input, out, err) {
+        Ok(status) => Ok(status),
+        Err(fault) => Err(Stop::Refused(fault)),
+    }
+}
+
+/// Sums the files that a list names.
+fn sum_listed<S: Shelf, R: Read, W: Write, E: Write>(
+    shelf: &S,
+    alloc: Global,
+    list: &str,
+    input: &mut R,
+    out: &mut Counted<W>,
+    err: &mut E,
+) -> Result<u8, Stop>
+    requires { faults_of out.old < 2 ^ 64 - 1 }
+    ensures ok { IfOk result (ListSummed (S.holds shelf.now) R.remaining W.contents list.now input.old input.new out.old out.new) }
+    ensures err { IfErr result (ListNotSummed (S.holds shelf.now) R.remaining W.contents list.now input.old input.new out.old out.new) }
+{
+    let mut bytes = Vec::new(alloc);
+    read_file(shelf, list.as_bytes(), input, &mut bytes, LIST_LIMIT)?;
+    let names = match names_in(alloc, bytes.as_slice()) {
+        Ok(names) => names,
+        Err(fault) => return Err(Stop::Refused(fault)),
+    };
+    match sum_each(shelf, alloc, names.as_slice(), input, out, err) {
+        Ok(status) => Ok(status),
+        Err(fault) => Err(Stop::Refused(fault)),
+    }
 }
 
 /// Does what is asked, and answers the greatest status, or why the whole of it failed.
@@ -139,22 +102,15 @@ fn run<S: Shelf, R: Read, W: Write, E: Write>(
     input: &mut R,
     out: &mut Counted<W>,
     err: &mut E,
-) -> Result<u8, Stop> {
-    let mut list = Vec::new(alloc);
+) -> Result<u8, Stop>
+    requires { faults_of out.old < 2 ^ 64 - 1 }
+    ensures ok { IfOk result (Done (S.holds shelf.now) R.remaining W.contents asked.entry input.old input.new out.old out.new) }
+    ensures err { IfErr result (NotDone (S.holds shelf.now) R.remaining W.contents asked.entry input.old input.new out.old out.new) }
+{
     match asked {
-        Asked::Files(words) => {
-            let names = names_of(alloc, words)?;
-            Ok(sum_each(shelf, alloc, &names, input, out, err)?)
-        }
-        Asked::FilesFrom(name) => {
-            read_file(shelf, name.as_bytes(), input, &mut list, LIST_LIMIT)?;
-            let names = names_in(alloc, &list)?;
-            Ok(sum_each(shelf, alloc, &names, input, out, err)?)
-        }
-        Asked::Check(name) => {
-            read_file(shelf, name.as_bytes(), input, &mut list, LIST_LIMIT)?;
-            check_list(shelf, alloc, &list, input, out, err)
-        }
+        Asked::Files(words) => sum_words(shelf, alloc, words, input, out, err),
+        Asked::FilesFrom(list) => sum_listed(shelf, alloc, list, input, out, err),
+        Asked::Check(list) => check_list(shelf, alloc, list, input, out, err),
     }
 }
 
@@ -172,11 +128,14 @@ pub fn sum<S: Shelf, R: Read + Drop, W: Write + Drop, E: Write + Drop>(
     mut input: R,
     out: W,
     mut err: E,
-) -> u8 {
+) -> u8
+    ensures tells { SumTells (S.holds shelf.now) R.remaining W.contents asked.entry input out result }
+{
     let mut out = Counted::new(out);
     match run(shelf, alloc, asked, &mut input, &mut out, &mut err) {
         Ok(status) => status,
         Err(stop) => {
+            // Where standard error fails too, the status alone is left to tell it.
             let _ = writeln!(err, "yaml: {stop}");
             UNUSABLE
         }

@@ -1,0 +1,4 @@
+mod DigestLaws
+mod LineLaws
+mod NameLaws
+mod SumLaws

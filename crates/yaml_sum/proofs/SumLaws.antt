@@ -1,0 +1,147 @@
+-- What becomes of files, one file more at a time.
+use Rattle.std.proofs.Common.{◌≡◌, ◌⊎◌, ◌++◌, ℕ, ◌+◌, ◌-◌, ◌^◌, ◌<◌, max, List, [], ◌∷◌, Option, None, Some, IfSome, length, take, get_or, refl, sym, ◌∙◌, ap, subst, arith, append_assoc, append-nil, length-append, inl, inr}
+use Rattle.std.specs.Io.KnownBytes.{Consumes, Appends}
+use Rattle.std.proofs.KnownBytes.{Consumes-all}
+use Rattle.std.proofs.lemmas.List.{take_more}
+use Rattle.std.proofs.Math.Seq.{take-append-add, take-length}
+use Rattle.yaml_text.specs.Count.{one_more}
+use Rattle.yaml_text.specs.CountedModel.{inner_of, faults_of}
+use Rattle.yaml_text.specs.declared.fault.Fault.{Fault}
+use Rattle.yaml_text.specs.declared.fault.Fault.TheVariants.{TooLong, OutOfMemory, ReadFault, WriteFault}
+use Rattle.yaml_text.specs.declared.counted.Counted.{Counted}
+use Rattle.yaml_canon.specs.Writers.{Sent, CutOff, Printed, Broken}
+use Rattle.yaml_canon.proofs.Streams.{appends_none, appends_more}
+use Rattle.yaml_command.specs.Printing.{PrintFails}
+use Rattle.yaml_command.specs.Shelves.{IsOf, FileFails}
+use Rattle.yaml_sum.specs.Reading.{GivesAll, GivesNotAll}
+use Rattle.yaml_sum.specs.Sums.{Outcome, summed, stopped, outcome_line, outcome_status, lines, worst, Becomes, Become, Sums, Cuts, SumsSome, SumsAll, SumsCut}
+
+-- of a file of which it is known what it holds, that was read
+module _ {F : Type 0} (remaining : F → Option (List ℕ)) where
+  pub held_is_read : (held : Option (List ℕ)) (i e : F) (limit : ℕ) (bytes : List ℕ) → IfSome held (λ known. remaining i ≡ Some known) → GivesAll remaining i e limit bytes → IsOf held bytes
+  held_is_read None i e limit bytes k h = tt
+  held_is_read (Some known) i e limit bytes k h =
+      subst (λ a. IfSome a (λ xs. bytes ≡ xs)) k (Consumes-all (remaining i) (remaining e) bytes [] bytes h.gave h.end refl)
+
+  long : (a b : Option (List ℕ)) (bytes : List ℕ) (limit : ℕ) → Consumes a b bytes → length bytes ≡ limit + 1 → IfSome a (λ xs. limit < length xs)
+  long None b bytes limit h e = tt
+  long (Some xs) None bytes limit h e = absurd h
+  long (Some xs) (Some ys) bytes limit h e =
+      let q = ap length h in
+      let r = length-append bytes ys in
+      omega (arith, e, q, r)
+
+  pub held_fails : (held : Option (List ℕ)) (i e : F) (limit : ℕ) (fault : Fault) → IfSome held (λ known. remaining i ≡ Some known) → GivesNotAll remaining i e limit fault → FileFails held limit fault
+  held_fails None i e limit TooLong k h = tt
+  held_fails (Some known) i e limit TooLong k h =
+      subst (λ a. IfSome a (λ xs. limit < length xs)) k (long (remaining i) (remaining e) h.0 limit h.1 h.2)
+  held_fails held i e limit OutOfMemory k h = tt
+  held_fails held i e limit ReadFault k h = tt
+  held_fails held i e limit _ k h = absurd h
+
+worst_more : (os : List Outcome) (o : Outcome) → worst (os ++ (o ∷ [])) ≡ max (worst os) (outcome_status o)
+worst_more [] o = omega arith
+worst_more (p ∷ os) o = let more = worst_more os o in omega (arith, more)
+
+module _ {R : Type 0} (holds : List ℕ → Option (List ℕ)) (remaining : R → Option (List ℕ)) where
+  become_more : (names : List (List ℕ)) (name : List ℕ) (old mid new : R) (os : List Outcome) (o : Outcome) → Become holds remaining names old mid os → Becomes holds remaining name mid new o
+      → Become holds remaining (names ++ (name ∷ [])) old new (os ++ (o ∷ []))
+  become_more [] name old mid new os o (e, f) b = (new, o, [], subst (λ z. Becomes holds remaining name z new o) e b, (refl, refl), ap (λ z. z ++ (o ∷ [])) f)
+  become_more (n ∷ names) name old mid new os o (u, p, more, first, rest, e) b =
+      (u, p, more ++ (o ∷ []), first, become_more names name u mid new more o rest b, ap (λ z. z ++ (o ∷ [])) e)
+
+  lines_more : (names : List (List ℕ)) (name : List ℕ) (old mid : R) (os : List Outcome) (o : Outcome) → Become holds remaining names old mid os
+      → lines (names ++ (name ∷ [])) (os ++ (o ∷ [])) ≡ lines names os ++ outcome_line name o
+  lines_more [] name old mid os o (e, f) = ap (λ z. lines (name ∷ []) (z ++ (o ∷ []))) f ∙ append-nil (outcome_line name o)
+  lines_more (n ∷ names) name old mid os o (u, p, more, first, rest, e) =
+      ap (λ z. lines (n ∷ (names ++ (name ∷ []))) (z ++ (o ∷ []))) e
+      ∙ ap (λ z. outcome_line n p ++ z) (lines_more names name u mid more o rest)
+      ∙ sym (append_assoc (outcome_line n p) (lines names more) (outcome_line name o))
+      ∙ ap (λ z. lines (n ∷ names) z ++ outcome_line name o) (sym e)
+
+  module _ {W : Type 0} (contents : W → Option (List ℕ)) where
+    -- nothing yet
+    pub sums_none : (old : R) (o : Counted W) → SumsSome holds remaining contents [] old old o o 0
+    sums_none old o = record { outcomes = []; become = (refl, refl); sent = record { took = appends_none (contents (inner_of o)); counted = refl }; status_is = refl }
+
+    -- a file more
+    some_more : (names : List (List ℕ)) (name : List ℕ) (old mid new : R) (o u v : Counted W) (status more : ℕ) → SumsSome holds remaining contents names old mid o u status → Sums holds remaining contents name mid new u v more
+        → SumsSome holds remaining contents (names ++ (name ∷ [])) old new o v (max status more)
+    some_more names name old mid new o u v status more h k = record {
+      outcomes = h.outcomes ++ (k.outcome ∷ []);
+      become = become_more names name old mid new h.outcomes k.outcome h.become k.becomes;
+      sent = record {
+        took = subst (Appends (contents (inner_of o)) (contents (inner_of v))) (sym (lines_more names name old mid h.outcomes k.outcome h.become))
+            (appends_more _ _ _ (lines names h.outcomes) (outcome_line name k.outcome) h.sent.took k.sent.took);
+        counted = k.sent.counted ∙ h.sent.counted;
+      };
+      status_is = ap (λ z. max z more) h.status_is ∙ ap (λ z. max (worst h.outcomes) z) k.status_is ∙ sym (worst_more h.outcomes k.outcome);
+    }
+
+    -- the same of the next of some names
+    pub sums_more : (names : List (List ℕ)) (i : ℕ) (d : List ℕ) (old mid new : R) (o u v : Counted W) (status more : ℕ) → i < length names → SumsSome holds remaining contents (take i names) old mid o u status
+        → Sums holds remaining contents (get_or names i d) mid new u v more → SumsSome holds remaining contents (take (i + 1) names) old new o v (max status more)
+    sums_more names i d old mid new o u v status more within h k =
+        subst (λ z. SumsSome holds remaining contents z old new o v (max status more)) (sym (take_more names i d within)) (some_more (take i names) (get_or names i d) old mid new o u v status more h k)
+
+    one_higher : (n m k : ℕ) → n < 2 ^ 64 - 1 → m ≡ n → k ≡ one_more m → k ≡ n + 1
+    one_higher n m k h e f = omega (arith, h, e, f)
+
+    -- a beginning of a piece goes out behind a text
+    begun : (o u v : Counted W) (front piece : List ℕ) (fault : Fault) → faults_of o < 2 ^ 64 - 1 → Sent contents o u front → CutOff contents u v piece fault → Broken contents o v (front ++ piece)
+    begun o u v front piece fault few s k = record {
+      count = length front + k.count;
+      took = subst (Appends (contents (inner_of o)) (contents (inner_of v))) (sym (take-append-add front piece k.count)) (appends_more _ _ _ front (take k.count piece) s.took k.took);
+      counted = one_higher (faults_of o) (faults_of u) (faults_of v) few s.counted k.counted;
+    }
+
+    -- the writer fails within the line of the next
+    pub sums_cut : (names : List (List ℕ)) (i : ℕ) (d : List ℕ) (old mid new : R) (o u v : Counted W) (status : ℕ) (fault : Fault) → faults_of o < 2 ^ 64 - 1 → i < length names
+        → SumsSome holds remaining contents (take i names) old mid o u status → Cuts holds remaining contents (get_or names i d) mid new u v fault → SumsCut holds remaining contents names old new o v fault
+    sums_cut names i d old mid new o u v status fault few within h k =
+        let e = sym (take_more names i d within) in
+        let os = h.outcomes ++ (k.outcome ∷ []) in
+        record {
+          is = k.cut.is;
+          count = i + 1;
+          outcomes = os;
+          become = subst (λ z. Become holds remaining z old new os) e (become_more (take i names) (get_or names i d) old mid new h.outcomes k.outcome h.become k.becomes);
+          broken = subst (λ z. Broken contents o v (lines z os)) e
+              (subst (Broken contents o v) (sym (lines_more (take i names) (get_or names i d) old mid h.outcomes k.outcome h.become)) (begun o u v _ _ fault few h.sent k.cut));
+        }
+
+    -- all lines are written, and the writer is flushed
+    pub sums_all : (names : List (List ℕ)) (i : ℕ) (old new : R) (o u v : Counted W) (status : ℕ) → i ≡ length names → SumsSome holds remaining contents (take i names) old new o u status → Printed contents u v []
+        → SumsAll holds remaining contents names old new o v status
+    sums_all names i old new o u v status e h k =
+        let whole : take i names ≡ names = ap (λ m. take m names) e ∙ take-length names in
+        subst (λ z. SumsAll holds remaining contents z old new o v status) whole (record {
+          outcomes = h.outcomes;
+          become = h.become;
+          printed = record {
+            took = subst (Appends (contents (inner_of o)) (contents (inner_of v))) (append-nil (lines (take i names) h.outcomes)) (appends_more _ _ _ (lines (take i names) h.outcomes) [] h.sent.took k.took);
+            flushed = k.flushed;
+            counted = k.counted ∙ h.sent.counted;
+          };
+          status_is = h.status_is;
+        })
+
+    nothing : (n : ℕ) → take n {A = ℕ} [] ≡ []
+    nothing n = grind arith
+
+    -- or it is not
+    pub sums_unflushed : (names : List (List ℕ)) (i : ℕ) (old new : R) (o u v : Counted W) (status : ℕ) (fault : Fault) → i ≡ length names → SumsSome holds remaining contents (take i names) old new o u status → PrintFails contents u v [] fault
+        → SumsCut holds remaining contents names old new o v fault
+    sums_unflushed names i old new o u v status WriteFault e h k = record {
+      is = refl;
+      count = i;
+      outcomes = h.outcomes;
+      become = h.become;
+      broken = record {
+        count = length (lines (take i names) h.outcomes);
+        took = subst (Appends (contents (inner_of o)) (contents (inner_of v))) (append-nil (lines (take i names) h.outcomes) ∙ sym (take-length (lines (take i names) h.outcomes)))
+            (appends_more _ _ _ (lines (take i names) h.outcomes) [] h.sent.took (subst (Appends (contents (inner_of u)) (contents (inner_of v))) (nothing k.count) k.took));
+        counted = k.counted ∙ ap (λ n. n + 1) h.sent.counted;
+      };
+    }
+    sums_unflushed names i old new o u v status _ e h k = absurd k
