@@ -10,8 +10,8 @@ is looked up in the cache first, and kept there at the end. Status: 0; 1 if a fi
 worker was killed or wanted memory, or the table is of another version of the library.
 
 --duplicates tells the files that mean the same, a group at a time and the largest first: `=` stands before those that have
-the bytes of the group's first file, `~` before those that are alike in meaning alone. Files that hold no document, or one
-null, are the last group.
+the bytes of the group's first file, `~` before those that are alike in meaning alone. Files that hold no document, as those
+with nothing but comments, and files that hold one null are the last groups.
 
 --drift tells what became of each file between two tables: `spelling` where its bytes changed and its meaning did not,
 `meaning` where that changed, `new`, `gone`, `refused` where it is refused now, `accepted` where it was, and `unread`. Files
@@ -34,6 +34,8 @@ from yamlcanon.table import DONE, REFUSED, UNREAD, OtherVersion, Row, Table, kee
 
 _FAILED = 3
 _BATCH = 256
+# What is mostly found by the thousand, and means nothing.
+_HOLD_NOTHING = ((b"", "hold no document"), (b"~", "hold one null"))
 # How often progress is told, in seconds: on a terminal, and elsewhere.
 _ON_TERMINAL, _ELSEWHERE = 0.5, 10.0
 
@@ -133,15 +135,16 @@ def finish(table: Table) -> int:
 
 def tell_duplicates(name: str, out: BinaryIO) -> int:
     """Tells the groups of files that mean the same."""
-    nothing = {hashlib.sha256(yamlcanon.canonical(data)).hexdigest() for data in (b"", b"~")}
-    last: List[Tuple[str, str]] = []
+    heads = {hashlib.sha256(yamlcanon.canonical(data)).hexdigest(): head for data, head in _HOLD_NOTHING}
+    apart: List[Tuple[str, List[Tuple[str, str]]]] = []
     for digest, group in Table(name).duplicates():
-        if digest in nothing:
-            last += group
+        spellings = f"in {len({raw for _, raw in group})} spellings"
+        if digest in heads:
+            apart.append((f"{len(group)} files {heads[digest]}, {spellings}", group))
         else:
-            tell_group(f"{len(group)} files mean the same, in {len({raw for _, raw in group})} spellings", group, out)
-    if last:
-        tell_group(f"{len(last)} files hold no document, or one null", last, out)
+            tell_group(f"{len(group)} files mean the same, {spellings}", group, out)
+    for head, group in apart:
+        tell_group(head, group, out)
     out.flush()
     return 0
 
