@@ -221,7 +221,7 @@ class Questions(Folder):
         self.assertEqual(
             got.stdout.replace(at, b""),
             b"# 3 files mean the same, in 2 spellings\n=\ta\n=\tb\n~\tc\n"
-            b"# 2 files hold no document, in 2 spellings\n=\te\n~\tf\n# 2 files hold one null, in 2 spellings\n=\tg\n~\th\n",
+            b"# 2 files hold one null, in 2 spellings\n=\tg\n~\th\n# 2 files hold no document, in 2 spellings\n=\te\n~\tf\n",
         )
 
     def test_drift_tells_what_became_of_each_file(self):
