@@ -45,7 +45,7 @@ def licences():
 
 
 def build_wheel(wheel_directory, config_settings=None, metadata_directory=None):
-    parts = {'yamlcanon/' + name: bytes_of(HERE + '/yamlcanon/' + name) for name in ('__init__.py', 'py.typed')}
+    parts = {'yamlcanon/' + name: bytes_of(HERE + '/yamlcanon/' + name) for name in ('__init__.py', 'many.py', 'py.typed', 'table.py')}
     parts['yamlcanon/libyamlcanon.so.1'] = library()
     parts[INFO + 'METADATA'] = METADATA.encode()
     parts.update(licences())
