@@ -1,5 +1,5 @@
 -- A room that begins with the canonical text.
-use Rattle.std.proofs.Common.{◌≡◌, ◌≤◌, ◌++◌, ℕ, List, length, take, drop, sym, ◌∙◌, ap, arith, length-append}
+use Rattle.std.proofs.Common.{◌≡◌, ◌≤◌, ◌++◌, ℕ, List, length, take, drop, sym, ◌∙◌, ap, subst, arith, length-append}
 use Rattle.std.proofs.Math.Seq.{take-append_seam}
 use Rattle.yaml_definitions.specs.canonical.Spell.{spell_bytes}
 use Rattle.yaml_canon.specs.Claims.{IsCanonicalText}
@@ -28,3 +28,7 @@ pub placed_again : (bytes old kept mid new : List ℕ) (len again : ℕ) → Pla
 placed_again bytes old kept mid new len again h e k =
     let same = ap length (one_text bytes h.text k.text h.canonical k.canonical) in
     placed_fits bytes mid new again k (omega (arith, same, e, h.placed.long, k.placed.long))
+
+-- the same of a longer list that begins with the room
+pub holds_front : (bytes room rest : List ℕ) (n len : ℕ) → length room ≡ n → HoldsText bytes room len → HoldsText bytes (take n (room ++ rest)) len
+holds_front bytes room rest n len e h = subst (λ z. HoldsText bytes z len) (sym (ap (λ m. take m (room ++ rest)) (sym e) ∙ take-append_seam room rest)) h

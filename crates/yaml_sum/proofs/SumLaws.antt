@@ -1,8 +1,9 @@
 -- What becomes of files, one file more at a time.
-use Rattle.std.proofs.Common.{◌≡◌, ◌⊎◌, ◌++◌, ℕ, ◌+◌, ◌-◌, ◌^◌, ◌<◌, max, List, [], ◌∷◌, Option, None, Some, IfSome, length, take, get_or, refl, sym, ◌∙◌, ap, subst, arith, append_assoc, append-nil, length-append, inl, inr}
+use Rattle.std.proofs.Common.{◌≡◌, ◌⊎◌, ◌++◌, ℕ, ◌+◌, ◌-◌, ◌^◌, ◌<◌, max, List, [], ◌∷◌, Option, None, Some, IfSome, length, map, take, get_or, refl, sym, ◌∙◌, ap, subst, arith, append_assoc, append-nil, length-append, inl, inr}
+use Rattle.std.specs.Prelude.{Result, Ok, Err, IfOk}
 use Rattle.std.specs.Io.KnownBytes.{Consumes, Appends}
 use Rattle.std.proofs.KnownBytes.{Consumes-all}
-use Rattle.std.proofs.lemmas.List.{take_more}
+use Rattle.std.proofs.lemmas.List.{take_more, get_or-map, length-map}
 use Rattle.std.proofs.Math.Seq.{take-append-add, take-length}
 use Rattle.yaml_text.specs.Count.{one_more}
 use Rattle.yaml_text.specs.CountedModel.{inner_of, faults_of}
@@ -14,7 +15,9 @@ use Rattle.yaml_canon.proofs.Streams.{appends_none, appends_more}
 use Rattle.yaml_command.specs.Printing.{PrintFails}
 use Rattle.yaml_command.specs.Shelves.{IsOf, FileFails}
 use Rattle.yaml_sum.specs.Reading.{GivesAll, GivesNotAll}
-use Rattle.yaml_sum.specs.Sums.{Outcome, summed, stopped, outcome_line, outcome_status, lines, worst, Becomes, Become, Sums, Cuts, SumsSome, SumsAll, SumsCut}
+use Rattle.yaml_sum.specs.Stops.{stop_status}
+use Rattle.yaml_sum.specs.declared.stop.Stop.{Stop}
+use Rattle.yaml_sum.specs.Sums.{HasLine, HasNone, Outcome, summed, stopped, outcome_line, outcome_status, lines, worst, Becomes, Become, Sums, Cuts, SumsSome, SumsAll, SumsCut}
 
 -- of a file of which it is known what it holds, that was read
 module _ {F : Type 0} (remaining : F → Option (List ℕ)) where
@@ -43,6 +46,16 @@ worst_more : (os : List Outcome) (o : Outcome) → worst (os ++ (o ∷ [])) ≡ 
 worst_more [] o = omega arith
 worst_more (p ∷ os) o = let more = worst_more os o in omega (arith, more)
 
+map_front : {X : Type 0} (f : X → List ℕ) (xs : List X) (i : ℕ) (d : X) → i < length xs → take (i + 1) (map f xs) ≡ take i (map f xs) ++ (f (get_or xs i d) ∷ [])
+map_front f xs i d within =
+    let k : i < length (map f xs) = omega (arith, length-map xs f, within) in
+    take_more (map f xs) i (f d) k ∙ ap (λ z. take i (map f xs) ++ (z ∷ [])) (get_or-map f xs i d (f d) within)
+
+-- a fact of one arm of an answer
+pub if_one : {T E : Type 0} {P Q : T → Type 0} (r : Result T E) → IfOk r P → ((x : T) → P x → Q x) → IfOk r Q
+if_one (Ok x) h f = f x h
+if_one (Err e) h f = h
+
 module _ {R : Type 0} (holds : List ℕ → Option (List ℕ)) (remaining : R → Option (List ℕ)) where
   become_more : (names : List (List ℕ)) (name : List ℕ) (old mid new : R) (os : List Outcome) (o : Outcome) → Become holds remaining names old mid os → Becomes holds remaining name mid new o
       → Become holds remaining (names ++ (name ∷ [])) old new (os ++ (o ∷ []))
@@ -60,6 +73,17 @@ module _ {R : Type 0} (holds : List ℕ → Option (List ℕ)) (remaining : R �
       ∙ ap (λ z. lines (n ∷ names) z ++ outcome_line name o) (sym e)
 
   module _ {W : Type 0} (contents : W → Option (List ℕ)) where
+    -- a file's line goes out, or is cut off
+    pub line_sent : (name : List ℕ) (old new : R) (o u : Counted W) (line piece : List ℕ) → HasLine holds remaining name old new line → piece ≡ line → Sent contents o u piece → Sums holds remaining contents name old new o u 0
+    line_sent name old new o u line piece (digest, has, e) f s = record { outcome = summed digest; becomes = has; sent = subst (Sent contents o u) (f ∙ e) s; status_is = refl }
+
+    pub line_cut : (name : List ℕ) (old new : R) (o u : Counted W) (line piece : List ℕ) (fault : Fault) → HasLine holds remaining name old new line → piece ≡ line → CutOff contents o u piece fault → Cuts holds remaining contents name old new o u fault
+    line_cut name old new o u line piece fault (digest, has, e) f k = record { outcome = summed digest; becomes = has; cut = subst (λ z. CutOff contents o u z fault) (f ∙ e) k }
+
+    -- or it has none
+    pub line_none : (name : List ℕ) (old new : R) (o : Counted W) (stop : Stop) (status : ℕ) → HasNone holds remaining name old new stop → status ≡ stop_status stop → Sums holds remaining contents name old new o o status
+    line_none name old new o stop status has e = record { outcome = stopped stop; becomes = has; sent = record { took = appends_none (contents (inner_of o)); counted = refl }; status_is = e }
+
     -- nothing yet
     pub sums_none : (old : R) (o : Counted W) → SumsSome holds remaining contents [] old old o o 0
     sums_none old o = record { outcomes = []; become = (refl, refl); sent = record { took = appends_none (contents (inner_of o)); counted = refl }; status_is = refl }
@@ -79,10 +103,12 @@ module _ {R : Type 0} (holds : List ℕ → Option (List ℕ)) (remaining : R �
     }
 
     -- the same of the next of some names
-    pub sums_more : (names : List (List ℕ)) (i : ℕ) (d : List ℕ) (old mid new : R) (o u v : Counted W) (status more : ℕ) → i < length names → SumsSome holds remaining contents (take i names) old mid o u status
-        → Sums holds remaining contents (get_or names i d) mid new u v more → SumsSome holds remaining contents (take (i + 1) names) old new o v (max status more)
-    sums_more names i d old mid new o u v status more within h k =
-        subst (λ z. SumsSome holds remaining contents z old new o v (max status more)) (sym (take_more names i d within)) (some_more (take i names) (get_or names i d) old mid new o u v status more h k)
+    pub sums_more : {X : Type 0} (f : X → List ℕ) (xs : List X) (i : ℕ) (d : X) (old mid new : R) (o u v : Counted W) (status more next : ℕ) → i < length xs → SumsSome holds remaining contents (take i (map f xs)) old mid o u status
+        → Sums holds remaining contents (f (get_or xs i d)) mid new u v more → next ≡ max status more → SumsSome holds remaining contents (take (i + 1) (map f xs)) old new o v next
+    sums_more f xs i d old mid new o u v status more next within h k e =
+        let front : take (i + 1) (map f xs) ≡ take i (map f xs) ++ (f (get_or xs i d) ∷ []) = map_front f xs i d within in
+        subst (SumsSome holds remaining contents (take (i + 1) (map f xs)) old new o v) (sym e)
+            (subst (λ z. SumsSome holds remaining contents z old new o v (max status more)) (sym front) (some_more (take i (map f xs)) (f (get_or xs i d)) old mid new o u v status more h k))
 
     one_higher : (n m k : ℕ) → n < 2 ^ 64 - 1 → m ≡ n → k ≡ one_more m → k ≡ n + 1
     one_higher n m k h e f = omega (arith, h, e, f)
@@ -96,18 +122,20 @@ module _ {R : Type 0} (holds : List ℕ → Option (List ℕ)) (remaining : R �
     }
 
     -- the writer fails within the line of the next
-    pub sums_cut : (names : List (List ℕ)) (i : ℕ) (d : List ℕ) (old mid new : R) (o u v : Counted W) (status : ℕ) (fault : Fault) → faults_of o < 2 ^ 64 - 1 → i < length names
-        → SumsSome holds remaining contents (take i names) old mid o u status → Cuts holds remaining contents (get_or names i d) mid new u v fault → SumsCut holds remaining contents names old new o v fault
-    sums_cut names i d old mid new o u v status fault few within h k =
-        let e = sym (take_more names i d within) in
+    pub sums_cut : {X : Type 0} (f : X → List ℕ) (xs : List X) (i : ℕ) (d : X) (old mid new : R) (o u v : Counted W) (status : ℕ) (fault : Fault) → faults_of o < 2 ^ 64 - 1 → i < length xs
+        → SumsSome holds remaining contents (take i (map f xs)) old mid o u status → Cuts holds remaining contents (f (get_or xs i d)) mid new u v fault → SumsCut holds remaining contents (map f xs) old new o v fault
+    sums_cut f xs i d old mid new o u v status fault few within h k =
+        let names = take i (map f xs) in
+        let name = f (get_or xs i d) in
+        let e : names ++ (name ∷ []) ≡ take (i + 1) (map f xs) = sym (map_front f xs i d within) in
         let os = h.outcomes ++ (k.outcome ∷ []) in
         record {
           is = k.cut.is;
           count = i + 1;
           outcomes = os;
-          become = subst (λ z. Become holds remaining z old new os) e (become_more (take i names) (get_or names i d) old mid new h.outcomes k.outcome h.become k.becomes);
+          become = subst (λ z. Become holds remaining z old new os) e (become_more names name old mid new h.outcomes k.outcome h.become k.becomes);
           broken = subst (λ z. Broken contents o v (lines z os)) e
-              (subst (Broken contents o v) (sym (lines_more (take i names) (get_or names i d) old mid h.outcomes k.outcome h.become)) (begun o u v _ _ fault few h.sent k.cut));
+              (subst (Broken contents o v) (sym (lines_more names name old mid h.outcomes k.outcome h.become)) (begun o u v (lines names h.outcomes) (outcome_line name k.outcome) fault few h.sent k.cut));
         }
 
     -- all lines are written, and the writer is flushed
@@ -126,8 +154,9 @@ module _ {R : Type 0} (holds : List ℕ → Option (List ℕ)) (remaining : R �
           status_is = h.status_is;
         })
 
-    nothing : (n : ℕ) → take n {A = ℕ} [] ≡ []
-    nothing n = grind arith
+    nothing : (n : ℕ) (xs : List ℕ) → xs ≡ [] → take n xs ≡ []
+    nothing zero xs e = refl
+    nothing (suc n) xs e = ap (take (suc n)) e
 
     -- or it is not
     pub sums_unflushed : (names : List (List ℕ)) (i : ℕ) (old new : R) (o u v : Counted W) (status : ℕ) (fault : Fault) → i ≡ length names → SumsSome holds remaining contents (take i names) old new o u status → PrintFails contents u v [] fault
@@ -140,7 +169,7 @@ module _ {R : Type 0} (holds : List ℕ → Option (List ℕ)) (remaining : R �
       broken = record {
         count = length (lines (take i names) h.outcomes);
         took = subst (Appends (contents (inner_of o)) (contents (inner_of v))) (append-nil (lines (take i names) h.outcomes) ∙ sym (take-length (lines (take i names) h.outcomes)))
-            (appends_more _ _ _ (lines (take i names) h.outcomes) [] h.sent.took (subst (Appends (contents (inner_of u)) (contents (inner_of v))) (nothing k.count) k.took));
+            (appends_more _ _ _ (lines (take i names) h.outcomes) [] h.sent.took (subst (Appends (contents (inner_of u)) (contents (inner_of v))) (nothing k.count [] refl) k.took));
         counted = k.counted ∙ ap (λ n. n + 1) h.sent.counted;
       };
     }

@@ -1,5 +1,5 @@
 //! The digest of a canonical text.
-ghost use Rattle.std.specs.Prelude.{IfOk, IfErr};
+ghost use Rattle.std.specs.Prelude.{◌≡◌, length, OnOk, IfOk, IfErr};
 ghost use Rattle.yaml_canon.specs.Claims.{CanonicalRefuses};
 ghost use Rattle.yaml_sum.specs.Digests.{IsDigest, HoldsText};
 
@@ -7,6 +7,14 @@ use sha2::{Digest, Sha256};
 use std::alloc::Global;
 use yaml_canon::canonical_into;
 use yaml_text::fault::Fault;
+
+/// Makes a room this long.
+fn lengthen(room: &mut Vec<u8>, len: usize) -> Result<(), Fault>
+    ensures ok { OnOk result (length room.new.items ≡ len) }
+    ensures only { IfErr result (λ fault. fault ≡ Fault.OutOfMemory) }
+{
+    room.resize(len, 0).map_err(|_| Fault::OutOfMemory)
+}
 
 /// Puts the canonical text of the stream that these bytes are at the start of the room, which is made
 /// longer where it is too short, and stays so. The answer is the text's length.
@@ -18,7 +26,7 @@ fn place(alloc: Global, bytes: &[u8], room: &mut Vec<u8>) -> Result<usize, Fault
     if len <= room.len() {
         return Ok(len);
     }
-    room.resize(len, 0).map_err(|_| Fault::OutOfMemory)?;
+    lengthen(room, len)?;
     canonical_into(alloc, bytes, room.as_mut_slice())
 }
 

@@ -1,5 +1,5 @@
 //! The command `sum`.
-ghost use Rattle.std.specs.Prelude.{◌≡◌, ◌≤◌, ◌<◌, ◌-◌, ◌^◌, map, IfOk, IfErr};
+ghost use Rattle.std.specs.Prelude.{◌≡◌, ◌≤◌, ◌<◌, ◌-◌, ◌^◌, max, map, IfOk, IfErr};
 ghost use Rattle.yaml_text.specs.CountedModel.{faults_of};
 ghost use Rattle.yaml_sum.specs.Sums.{SumsAll, SumsCut};
 ghost use Rattle.yaml_sum.specs.Asks.{WordsSummed, WordsNotSummed, ListSummed, ListNotSummed, Done, NotDone, SumTells};
@@ -23,6 +23,13 @@ const LIST_LIMIT: usize = 1_073_741_824;
 /// The status where the list can't be used or writing fails.
 const UNUSABLE: u8 = 3;
 
+/// The greater of two statuses.
+fn greater(left: u8, right: u8) -> u8
+    ensures { result ≡ max left right }
+{
+    if left < right { right } else { left }
+}
+
 /// Writes a line for each file, and answers the greatest status.
 fn sum_each<S: Shelf, R: Read, W: Write, E: Write>(
     shelf: &S,
@@ -40,7 +47,7 @@ fn sum_each<S: Shelf, R: Read, W: Write, E: Write>(
     let mut worst = 0;
     'names: for name in names {
         let status = sum_file(shelf, alloc, name, input, &mut buffers, out, err)?;
-        worst = worst.max(status);
+        worst = greater(worst, status);
     }
     write_out(out, b"")?;
     Ok(worst)
