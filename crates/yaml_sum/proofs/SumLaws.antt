@@ -108,7 +108,7 @@ module _ {R : Type 0} (holds : List ℕ → Option (List ℕ)) (remaining : R �
     sums_more f xs i d old mid new o u v status more next within h k e =
         let front : take (i + 1) (map f xs) ≡ take i (map f xs) ++ (f (get_or xs i d) ∷ []) = map_front f xs i d within in
         subst (SumsSome holds remaining contents (take (i + 1) (map f xs)) old new o v) (sym e)
-            (subst (λ z. SumsSome holds remaining contents z old new o v (max status more)) (sym front) (some_more (take i (map f xs)) (f (get_or xs i d)) old mid new o u v status more h k))
+        (subst (λ z. SumsSome holds remaining contents z old new o v (max status more)) (sym front) (some_more (take i (map f xs)) (f (get_or xs i d)) old mid new o u v status more h k))
 
     one_higher : (n m k : ℕ) → n < 2 ^ 64 - 1 → m ≡ n → k ≡ one_more m → k ≡ n + 1
     one_higher n m k h e f = omega (arith, h, e, f)

@@ -88,7 +88,14 @@ fn check_file<S: Shelf, R: Read, E: Write>(
     buffers: &mut Buffers,
     err: &mut E,
 ) -> Result<u8, Fault> {
-    let (status, verdict) = match digest_file(shelf, alloc, name, input, &mut buffers.bytes, &mut buffers.text) {
+    let (status, verdict) = match digest_file(
+        shelf,
+        alloc,
+        name,
+        input,
+        &mut buffers.bytes,
+        &mut buffers.text,
+    ) {
         Ok(digest) if is_listed(&digest, listed) => (0, ": OK\n"),
         Ok(_) => (DIFFERENT, ": FAILED\n"),
         Err(stop) => {

@@ -32,11 +32,7 @@ fn place(alloc: Global, bytes: &[u8], room: &mut Vec<u8>) -> Result<usize, Fault
 
 /// The SHA-256 of the canonical text of the stream that these bytes are. Refused is what `canonical`
 /// refuses.
-pub(crate) fn digest_of(
-    alloc: Global,
-    bytes: &[u8],
-    room: &mut Vec<u8>,
-) -> Result<[u8; 32], Fault>
+pub(crate) fn digest_of(alloc: Global, bytes: &[u8], room: &mut Vec<u8>) -> Result<[u8; 32], Fault>
     ensures ok { IfOk result (IsDigest bytes.now) }
     ensures err { IfErr result (CanonicalRefuses bytes.now) }
 {

@@ -104,7 +104,14 @@ fn line_of<S: Shelf, R: Read>(
     ensures ok { OnOk result (HasLine (S.holds shelf.now) R.remaining name.now input.old input.new (kept_line buffers.new)) }
     ensures err { IfErr result (HasNone (S.holds shelf.now) R.remaining name.now input.old input.new) }
 {
-    let digest = digest_file(shelf, alloc, name, input, &mut buffers.bytes, &mut buffers.text)?;
+    let digest = digest_file(
+        shelf,
+        alloc,
+        name,
+        input,
+        &mut buffers.bytes,
+        &mut buffers.text,
+    )?;
     match make_line(&mut buffers.line, &digest, name) {
         Ok(()) => Ok(()),
         Err(fault) => Err(Stop::Refused(fault)),

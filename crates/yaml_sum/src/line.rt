@@ -34,7 +34,8 @@ pub(crate) fn push(line: &mut Vec<u8>, piece: &[u8]) -> Result<(), Fault>
     ensures ok { OnOk result (line.new.items ≡ line.old.items ++ piece.now) }
     ensures only { IfErr result (λ fault. fault ≡ Fault.OutOfMemory) }
 {
-    line.extend_from_slice(piece).map_err(|_| Fault::OutOfMemory)
+    line.extend_from_slice(piece)
+        .map_err(|_| Fault::OutOfMemory)
 }
 
 /// Puts a name behind a line, so that the line stays one.

@@ -13,11 +13,7 @@ const PIECE: usize = 16_384;
 ///
 /// Of a longer input it reads `limit + 1` bytes and answers `TooLong`. Any error of the reader, an
 /// interrupted call too, is `ReadFault`.
-pub(crate) fn refill<R: Read>(
-    bytes: &mut Vec<u8>,
-    input: &mut R,
-    limit: usize,
-) -> Result<(), Fault>
+pub(crate) fn refill<R: Read>(bytes: &mut Vec<u8>, input: &mut R, limit: usize) -> Result<(), Fault>
     requires { limit < 2 ^ 64 - 1 }
     ensures ok { OnOk result (GivesAll R.remaining input.old input.new limit bytes.new.items) }
     ensures err { IfErr result (GivesNotAll R.remaining input.old input.new limit) }

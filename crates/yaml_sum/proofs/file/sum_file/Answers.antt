@@ -5,7 +5,7 @@ use Rattle.yaml_sum.proofs.file.sum_file.Goals as goal
 pub returns-in_err-write_whole-in-Ok-clause-cut : goal.returns-in_err-write_whole-in-Ok-clause-cut
 returns-in_err-write_whole-in-Ok-clause-cut g c =
     let b = line_cut (g.S.Shelf.holds c.args.shelf.now) g.R.Read.remaining g.W.Write.contents c.args.name.now c.args.input.now c.line_of.new.input c.args.out.now c.write_whole.new.out _ _ c.in_err-write_whole-in-Ok.field-0.0
-        c.in-Ok.ensures.ok c.as_slice.ensures.value c.in_err-write_whole-in-Ok.ensures.err in
+    c.in-Ok.ensures.ok c.as_slice.ensures.value c.in_err-write_whole-in-Ok.ensures.err in
     search (rules, b)
 
 pub returns-in_ok-write_whole-in-Ok-clause-ok : goal.returns-in_ok-write_whole-in-Ok-clause-ok
