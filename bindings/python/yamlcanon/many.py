@@ -138,7 +138,8 @@ def tell_duplicates(name: str, out: BinaryIO) -> int:
     heads = {hashlib.sha256(yamlcanon.canonical(data)).hexdigest(): head for data, head in _HOLD_NOTHING}
     apart: List[Tuple[str, List[Tuple[str, str]]]] = []
     for digest, group in Table(name).duplicates():
-        spellings = f"in {len({raw for _, raw in group})} spellings"
+        count = len({raw for _, raw in group})
+        spellings = f"in {count} spelling{'s' if count > 1 else ''}"
         if digest in heads:
             apart.append((f"{len(group)} files {heads[digest]}, {spellings}", group))
         else:

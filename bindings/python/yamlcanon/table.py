@@ -1,6 +1,5 @@
 """What files mean, as rows of a table: a file's row is the same wherever, and however often, it is computed.
 
-    row(name, known) -> Row         reads a file and judges it; `known` has the meanings of bytes that were met before
     rows(names, cache) -> [Row]     the rows of a batch, bytes that are met again judged once
     Table(path)                     rows in an SQLite file
     keep(cache, table)              adds a table's meanings to a cache, which later runs look into
@@ -8,21 +7,22 @@
 
 import errno
 import hashlib
-import io
 import os
 import sqlite3
 import stat
-from typing import Dict, Iterable, Iterator, List, NamedTuple, Optional, Sequence, Tuple, Union
+from typing import Collection, Dict, Iterable, Iterator, List, NamedTuple, Optional, Sequence, Tuple, Union
 
 import yamlcanon
 
-__all__ = ["DONE", "REFUSED", "UNREAD", "VERSION", "Meaning", "OtherVersion", "Row", "Table", "keep", "row", "rows"]
+__all__ = ["DONE", "REFUSED", "UNREAD", "VERSION", "Meaning", "OtherVersion", "Row", "Table", "keep", "rows"]
 
 DONE, REFUSED, UNREAD = 0, 2, 3
 # The library's version: what another one answered is not taken for its answer.
 VERSION = yamlcanon.library_version()
 # No input that is accepted has more bytes, so no more are read.
 _LONGEST = 67_108_864
+# How many files, and how many bytes, are held at most before the cache is asked for them, but for one file more.
+_MOST_HELD, _BYTES_HELD = 256, 1 << 20
 
 
 class Meaning(NamedTuple):
@@ -58,66 +58,100 @@ def meaning(data: bytes) -> Meaning:
         return Meaning(REFUSED, None, fault.number, str(fault))
 
 
-def _without_waiting(path: str, flags: int) -> int:
-    return os.open(path, flags | os.O_NONBLOCK | os.O_CLOEXEC)
-
-
 def _read(path: str) -> bytes:
     """The bytes of a regular file: all of them, or one more than may be read. A pipe would be waited for for ever."""
-    with io.FileIO(path, "rb", opener=_without_waiting) as file:
-        about = os.fstat(file.fileno())
+    file = os.open(path, os.O_RDONLY | os.O_NONBLOCK | os.O_CLOEXEC)
+    try:
+        about = os.fstat(file)
+        if stat.S_ISDIR(about.st_mode):
+            raise IsADirectoryError(errno.EISDIR, os.strerror(errno.EISDIR))
         if not stat.S_ISREG(about.st_mode):
             raise OSError(errno.EINVAL, "Not a regular file")
-        # Not read(_LONGEST) of each: that makes room for 64 MiB first, which takes longer than a small file's answer.
-        return file.readall() if about.st_size <= _LONGEST else file.read(_LONGEST + 1)
+        data = b""
+        # One byte more than the file has, so that the first read tells its end; it is read on where it has grown.
+        while len(data) <= _LONGEST:
+            wanted = min(max(about.st_size, len(data)), _LONGEST) + 1 - len(data)
+            piece = os.read(file, wanted)
+            data = data + piece if data else piece
+            if len(piece) < wanted:
+                break
+        return data
+    finally:
+        os.close(file)
 
 
-class Known:
-    """The meanings of bytes that were met before, by their SHA-256: in this batch, or in a cache."""
+class _Known:
+    """The meanings of bytes by their SHA-256: those that were met in this batch, and those of a cache."""
 
-    def __init__(self, cache: Optional[str] = None) -> None:
+    def __init__(self, cache: Optional[str]) -> None:
         self.met: Dict[str, Meaning] = {}
-        self.base = _opened_cache(cache) if cache is not None else None
+        self.base = sqlite3.connect(cache) if cache is not None and os.path.exists(cache) else None
+
+    def look_up(self, raws: Collection[str]) -> None:
+        """Meets what the cache has of these."""
+        if self.base is None or not raws:
+            return
+        found = self.base.execute(
+            "SELECT raw, status, digest, number, message FROM meaning WHERE version = ? AND raw IN (%s)" % ",".join("?" * len(raws)),
+            (VERSION, *raws),
+        )
+        for raw, *words in found:
+            self.met[raw] = Meaning(*words)
 
     def meaning(self, raw: str, data: bytes) -> Meaning:
-        found = self.met.get(raw) or self._cached(raw)
+        found = self.met.get(raw)
         if found is None:
-            found = meaning(data)
-        self.met[raw] = found
+            found = self.met[raw] = meaning(data)
         return found
-
-    def _cached(self, raw: str) -> Optional[Meaning]:
-        if self.base is None:
-            return None
-        found = self.base.execute(
-            "SELECT status, digest, number, message FROM meaning WHERE version = ? AND raw = ?", (VERSION, raw)
-        ).fetchone()
-        return Meaning(*found) if found else None
 
     def close(self) -> None:
         if self.base is not None:
             self.base.close()
 
 
-def row(path: str, known: Known) -> Row:
-    """The row of a file."""
-    try:
-        data = _read(path)
-    except (OSError, ValueError) as fault:
-        return Row(path, UNREAD, None, None, getattr(fault, "strerror", None) or str(fault), None, None)
-    if len(data) > _LONGEST:
-        return Row(path, *meaning(data), None, None)
-    raw = hashlib.sha256(data).hexdigest()
-    return Row(path, *known.meaning(raw, data), len(data), raw)
+class _Read(NamedTuple):
+    """A file that was read, and has no row yet."""
+
+    place: int
+    path: str
+    raw: str
+    data: bytes
+
+
+def _settle(waiting: Sequence[_Read], known: _Known, found: List[Optional[Row]]) -> None:
+    """Puts the rows of files that were read into their places."""
+    known.look_up({one.raw for one in waiting if one.raw not in known.met})
+    for place, path, raw, data in waiting:
+        found[place] = Row(path, *known.meaning(raw, data), len(data), raw)
+
+
+def _unread(path: str, fault: Exception) -> Row:
+    return Row(path, UNREAD, None, None, getattr(fault, "strerror", None) or str(fault), None, None)
 
 
 def rows(paths: Sequence[str], cache: Optional[str] = None) -> List[Row]:
-    """The rows of a batch."""
-    known = Known(cache)
+    """The rows of a batch. The cache is asked for many files at once, and these held until then have few bytes."""
+    known, waiting, held = _Known(cache), [], 0
+    found: List[Optional[Row]] = [None] * len(paths)
     try:
-        return [row(path, known) for path in paths]
+        for place, path in enumerate(paths):
+            try:
+                data = _read(path)
+            except (OSError, ValueError) as fault:
+                found[place] = _unread(path, fault)
+                continue
+            if len(data) > _LONGEST:
+                found[place] = Row(path, *meaning(data), None, None)
+                continue
+            waiting.append(_Read(place, path, hashlib.sha256(data).hexdigest(), data))
+            held += len(data)
+            if len(waiting) >= _MOST_HELD or held > _BYTES_HELD:
+                _settle(waiting, known, found)
+                waiting, held = [], 0
+        _settle(waiting, known, found)
     finally:
         known.close()
+    return [one for one in found if one is not None]
 
 
 _Stored = Union[str, bytes]
@@ -211,25 +245,17 @@ class Table:
 
 
 _CACHE = (
-    "CREATE TABLE IF NOT EXISTS {0}meaning (version INTEGER, raw TEXT, status INTEGER NOT NULL, digest TEXT, number INTEGER,"
+    "CREATE TABLE IF NOT EXISTS cache.meaning (version INTEGER, raw TEXT, status INTEGER NOT NULL, digest TEXT, number INTEGER,"
     " message TEXT, PRIMARY KEY (version, raw)) WITHOUT ROWID"
 )
 
 
-def _opened_cache(name: str) -> sqlite3.Connection:
-    base = sqlite3.connect(name)
-    base.execute("PRAGMA journal_mode = WAL")
-    with base:
-        base.execute(_CACHE.format(""))
-    return base
-
-
 def keep(cache: str, table: Table) -> None:
     """Adds the meanings of a table to a cache, in the order of its key, in which it grows quickest."""
-    _opened_cache(cache).close()
     table.base.execute("ATTACH ? AS cache", (cache,))
     try:
         with table.base:
+            table.base.execute(_CACHE)
             table.base.execute(
                 "INSERT OR IGNORE INTO cache.meaning SELECT DISTINCT ?, raw, status, digest, number, message FROM file"
                 " WHERE raw IS NOT NULL AND raw NOT IN (SELECT raw FROM cache.meaning WHERE version = ?) ORDER BY raw",
