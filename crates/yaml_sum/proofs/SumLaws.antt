@@ -51,6 +51,10 @@ map_front f xs i d within =
     let k : i < length (map f xs) = omega (arith, length-map xs f, within) in
     take_more (map f xs) i (f d) k ∙ ap (λ z. take i (map f xs) ++ (z ∷ [])) (get_or-map f xs i d (f d) within)
 
+-- all of the list, once the loop has been at each
+pub mapped : {X : Type 0} (f : X → List ℕ) (xs : List X) (i : ℕ) → i ≡ length xs → i ≡ length (map f xs)
+mapped f xs i e = let l = length-map xs f in omega (arith, e, l)
+
 -- a fact of one arm of an answer
 pub if_one : {T E : Type 0} {P Q : T → Type 0} (r : Result T E) → IfOk r P → ((x : T) → P x → Q x) → IfOk r Q
 if_one (Ok x) h f = f x h

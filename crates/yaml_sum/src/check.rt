@@ -128,17 +128,17 @@ fn check_lines<S: Shelf, R: Read, W: Write, E: Write>(
             continue;
         }
         let Some(listed) = read_listed(line) else {
-            told.improper += 1;
+            told.improper = told.improper.saturating_add(1);
             continue;
         };
         if !name_of(&listed, &mut name)? {
-            told.improper += 1;
+            told.improper = told.improper.saturating_add(1);
             continue;
         }
         let status = check_file(shelf, alloc, &listed, &name, input, &mut buffers, err)?;
         write_whole(out, &buffers.line)?;
         told.worst = told.worst.max(status);
-        told.proper += 1;
+        told.proper = told.proper.saturating_add(1);
     }
     write_out(out, b"")?;
     Ok(told)
