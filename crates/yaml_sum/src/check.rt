@@ -1,4 +1,6 @@
 //! Whether files have the sums that a list tells.
+ghost use Rattle.std.specs.Prelude.{◌<◌, length, IfSome};
+
 use crate::buffers::Buffers;
 use crate::file::{digest_file, read_file};
 use crate::line::{is_escaped, push, push_name};
@@ -30,24 +32,34 @@ struct Told {
     improper: usize,
 }
 
-/// What `push_name` made of a name, undone. No answer where there is an escape that it does not make.
+/// The byte that stands for an escape, of which the second byte is at this place. No answer where
+/// `push_name` makes none such.
+fn escaped_byte(name: &[u8], at: usize) -> Option<u8>
+    ensures { IfSome result (λ _. at < length name.now) }
+{
+    match *name.get(at)? {
+        b'\\' => Some(b'\\'),
+        b'n' => Some(b'\n'),
+        b'r' => Some(b'\r'),
+        _ => None,
+    }
+}
+
+/// What `push_name` made of a name, undone. Whether it could have made it.
 fn unescape(name: &[u8], plain: &mut Vec<u8>) -> Result<bool, Fault> {
     plain.clear();
     let mut at = 0;
     'bytes: while at < name.len() {
-        let byte = name[at];
-        at += 1;
-        if byte != b'\\' {
-            plain.push(byte)?;
+        if name[at] != b'\\' {
+            plain.push(name[at])?;
+            at += 1;
             continue;
         }
-        match name.get(at) {
-            Some(b'\\') => plain.push(b'\\')?,
-            Some(b'n') => plain.push(b'\n')?,
-            Some(b'r') => plain.push(b'\r')?,
-            _ => return Ok(false),
-        }
-        at += 1;
+        let Some(byte) = escaped_byte(name, at + 1) else {
+            return Ok(false);
+        };
+        plain.push(byte)?;
+        at += 2;
     }
     Ok(true)
 }
