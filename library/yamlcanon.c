@@ -37,6 +37,10 @@ static int read_file(const char *name, struct bytes *b)
         return 0;
     }
     is_read = read_stream(file, b);
+    if (ferror(file)) {
+        fprintf(stderr, "yaml: 22 ReadFault\n");
+        is_read = 0;
+    }
     if (name) fclose(file);
     return is_read;
 }

@@ -1,11 +1,13 @@
 """python3 -m unittest: the module over the library."""
 
+import concurrent.futures
+import multiprocessing
 import pickle
 import sys
 import threading
 import unittest
 
-from yamlcanon import Refused, canonical, events, same
+from yamlcanon import Refused, canonical, events, library_version, same
 
 
 def blocks(levels):
@@ -73,11 +75,25 @@ class Calls(unittest.TestCase):
         again = pickle.loads(pickle.dumps(seen.exception))
         self.assertEqual((str(again), vars(again)), (str(seen.exception), vars(seen.exception)))
 
+    def test_a_refusal_comes_back_from_a_pool(self):
+        # What can't be unpickled ends the one, and the other waits for ever.
+        with concurrent.futures.ProcessPoolExecutor(1) as executor:
+            with self.assertRaises(Refused) as seen:
+                executor.submit(canonical, b"{1: a, 0x1: b}").result(60)
+        self.assertEqual((str(seen.exception), seen.exception.number), ("19 EqualKeys in node 4, entries 0 and 1", 19))
+        with multiprocessing.Pool(1) as pool:
+            with self.assertRaises(Refused) as seen:
+                pool.apply_async(same, (b"a", b"- a\n\t- b")).get(60)
+        self.assertEqual((str(seen.exception), seen.exception.side), ("right: 5 Tab at byte 4", "right"))
+
+    def test_the_version_of_the_library(self):
+        self.assertEqual(library_version(), 100)
+
     def test_deep_inputs_on_threads_with_a_small_stack(self):
         deep = [b"[" * 1000 + b"]" * 1000, blocks(1023), b"- " * 3000, b"{a: " * 2000]
         want = [answer(data) for data in deep]
         self.assertEqual(want[1][:4], b"--- ")
-        for stack in (64 << 10, 512 << 10, 2 << 20):
+        for stack in (64 << 10, 512 << 10, 2 << 20, 0):  # 0 is the default
             self.assertEqual(on_thread(stack, lambda: [answer(data) for data in deep]), want)
             self.assertTrue(on_thread(stack, lambda: same(deep[1], deep[1])))
 

@@ -3,6 +3,7 @@
     canonical(data) -> bytes    the canonical text
     events(data) -> bytes       the events, in the notation of yaml-test-suite
     same(left, right) -> bool   whether two streams mean the same
+    library_version() -> int    the version of the library that answers, 100 for 1.0
 
 `data` is bytes, a bytearray or a memoryview. What is refused raises Refused; what needs more memory than there is, MemoryError.
 Each call lets Python's lock go, holds no state, and may run on any number of threads, also on those with a small stack.
@@ -14,7 +15,7 @@ import threading
 from ctypes import POINTER, Structure, byref, c_char, c_size_t, c_uint32, c_uint64, c_void_p
 from typing import Any, Callable, List, Optional, Tuple, TypeVar, Union
 
-__all__ = ["Refused", "canonical", "events", "same"]
+__all__ = ["Refused", "canonical", "events", "library_version", "same"]
 
 Data = Union[bytes, bytearray, memoryview]
 _Answer = TypeVar("_Answer")
@@ -99,6 +100,8 @@ def _load() -> ctypes.CDLL:
         call.argtypes = [c_void_p, c_size_t, c_void_p, c_size_t, POINTER(c_size_t), POINTER(_Fault)]
     lib.yamlcanon_same.restype = c_uint32
     lib.yamlcanon_same.argtypes = [c_void_p, c_size_t, c_void_p, c_size_t, POINTER(_Fault)]
+    lib.yamlcanon_version.restype = c_uint32
+    lib.yamlcanon_version.argtypes = []
     return lib
 
 
@@ -213,3 +216,8 @@ def same(left: Data, right: Data) -> bool:
     if not _thread.has_stack_for(max(len(left), len(right))):
         return _elsewhere(_same_here, left, right)
     return _same_here(left, right)
+
+
+def library_version() -> int:
+    """The version of the library that answers, as YAMLCANON_VERSION in yamlcanon.h: 100 for 1.0."""
+    return int(_lib.yamlcanon_version())

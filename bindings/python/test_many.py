@@ -1,0 +1,254 @@
+"""python3 -m unittest: the tables of what files mean, and the command that fills them."""
+
+import hashlib
+import os
+import signal
+import sqlite3
+import subprocess
+import sys
+import tempfile
+import time
+import unittest
+
+import yamlcanon
+from yamlcanon import table
+from yamlcanon.many import change, names, shown
+from yamlcanon.table import OtherVersion, Row, Table, keep, rows
+
+ODD = b"a \\ b\nc\xff.yaml"
+# A command finds the module where these tests have found it.
+ENVIRONMENT = {**os.environ, "PYTHONPATH": os.path.dirname(os.path.dirname(os.path.realpath(yamlcanon.__file__)))}
+
+
+def digest(text):
+    return hashlib.sha256(text).hexdigest()
+
+
+class Folder(unittest.TestCase):
+    def setUp(self):
+        room = tempfile.TemporaryDirectory()
+        self.addCleanup(room.cleanup)
+        self.room = os.path.realpath(room.name)
+
+    def write(self, name, data):
+        path = os.path.join(os.fsencode(self.room), os.fsencode(name))
+        with open(path, "wb") as file:
+            file.write(data)
+        return os.fsdecode(path)
+
+    def command(self, *words, given=b""):
+        return subprocess.run(
+            [sys.executable, "-m", "yamlcanon.many", *words], input=given, capture_output=True, cwd=self.room, env=ENVIRONMENT, timeout=120
+        )
+
+    def filled(self, table_name, paths, *words):
+        return self.command(table_name, "--jobs", "2", *words, given=b"".join(os.fsencode(path) + b"\0" for path in paths))
+
+    def table(self, name):
+        opened = Table(os.path.join(self.room, name))
+        self.addCleanup(opened.close)
+        return opened
+
+
+class Rows(Folder):
+    def test_a_row_is_what_a_file_means(self):
+        good, bad = self.write("good.yaml", b"b: 0x1\n"), self.write("bad.yaml", b"{1: a, 0x1: b}")
+        text = yamlcanon.canonical(b"b: 0x1\n")
+        self.assertEqual(
+            rows([good, bad]),
+            [
+                Row(good, 0, digest(text), None, None, 7, digest(b"b: 0x1\n")),
+                Row(bad, 2, None, 19, "19 EqualKeys in node 4, entries 0 and 1", 14, digest(b"{1: a, 0x1: b}")),
+            ],
+        )
+
+    def test_what_is_no_regular_file_is_told_and_not_waited_for(self):
+        fifo = os.path.join(self.room, "fifo")
+        os.mkfifo(fifo)
+        none = os.path.join(self.room, "none")
+        told = [(one.status, one.message) for one in rows([fifo, self.room, none, "a\0b"])]
+        self.assertEqual(
+            told,
+            [(3, "Not a regular file"), (3, "Is a directory"), (3, "No such file or directory"), (3, "embedded null byte")],
+        )
+
+    def test_more_bytes_than_are_accepted_are_not_read(self):
+        long = self.write("long.yaml", b"")
+        os.truncate(long, 1 << 34)
+        self.assertEqual(rows([long]), [Row(long, 2, None, 1, "1 TooLong", None, None)])
+
+    def test_a_name_that_is_no_text_is_kept(self):
+        path = self.write(ODD, b"a: 1")
+        filled = self.table("table.db")
+        filled.add(rows([path]))
+        self.assertEqual([one.path for one in filled.rows()], [path])
+        self.assertEqual(filled.missing([path, "other"]), ["other"])
+        self.assertEqual(shown(os.fsdecode(ODD)), b"a \\\\ b\\nc\xff.yaml")
+
+    def test_bytes_that_are_met_again_are_judged_once(self):
+        paths = [self.write(f"{number}.yaml", b"a: 1") for number in range(3)]
+        judged, meaning = [], table.meaning
+        table.meaning = lambda data: judged.append(data) or meaning(data)
+        self.addCleanup(setattr, table, "meaning", meaning)
+        self.assertEqual(len({one.digest for one in rows(paths)}), 1)
+        self.assertEqual(judged, [b"a: 1"])
+
+
+class Caches(Folder):
+    def judged(self, path, cache):
+        """How many times the library is asked for a row."""
+        asked, meaning = [], table.meaning
+        table.meaning = lambda data: asked.append(data) or meaning(data)
+        try:
+            rows([path], cache)
+        finally:
+            table.meaning = meaning
+        return len(asked)
+
+    def test_a_later_run_only_reads_and_hashes(self):
+        path, cache = self.write("a.yaml", b"a: 1"), os.path.join(self.room, "cache.db")
+        self.assertEqual(self.judged(path, cache), 1)
+        filled = self.table("table.db")
+        filled.add(rows([path], cache))
+        keep(cache, filled)
+        self.assertEqual(self.judged(path, cache), 0)
+        self.assertEqual(rows([path], cache), rows([path]))
+
+    def test_what_another_version_answered_is_not_taken(self):
+        path, cache = self.write("a.yaml", b"a: 1"), os.path.join(self.room, "cache.db")
+        filled = self.table("table.db")
+        filled.add(rows([path]))
+        filled.version += 1
+        keep(cache, filled)
+        self.assertEqual(self.judged(path, cache), 1)
+        with self.assertRaises(OtherVersion):
+            filled.missing([path])
+
+
+class Runs(Folder):
+    def setUp(self):
+        super().setUp()
+        self.paths = [self.write(f"{number}.yaml", b"a: %d" % (number % 7)) for number in range(40)]
+        self.paths.append(self.write(ODD, b"a:  6"))
+
+    def test_names_end_in_null_bytes_or_line_feeds(self):
+        self.assertEqual(names(b"a\nb\n\nc"), ["a", "b", "c"])
+        self.assertEqual(names(b"a\nb\0c\0"), ["a\nb", "c"])
+
+    def test_one_job_and_four_give_one_table(self):
+        for jobs in ("1", "4"):
+            got = self.command(jobs + ".db", "--jobs", jobs, "--batch", "3", given="\0".join(self.paths).encode("utf-8", "surrogateescape"))
+            self.assertEqual((got.returncode, got.stdout), (0, b""), got.stderr)
+        self.assertEqual(self.table("1.db").checksum(), self.table("4.db").checksum())
+        self.assertEqual(self.table("1.db").summary(), (41, 0, 0, 8, 7))
+
+    def test_the_same_command_goes_on(self):
+        self.filled("table.db", self.paths[:10])
+        base = sqlite3.connect(os.path.join(self.room, "table.db"))
+        base.execute("UPDATE file SET message = 'kept'")
+        base.commit()
+        base.close()
+        unread = os.path.join(self.room, "late.yaml")
+        got = self.filled("table.db", [*self.paths, unread])
+        self.assertEqual(got.returncode, 1, got.stderr)
+        self.assertIn(b"41 done, 0 refused, 1 unread", got.stderr)
+        self.assertIn(b"32 of 32 files", got.stderr)
+        self.assertEqual(sum(one.message == "kept" for one in self.table("table.db").rows()), 10)
+        self.write("late.yaml", b"late")
+        got = self.filled("table.db", [*self.paths, unread])
+        self.assertEqual(got.returncode, 0, got.stderr)
+        self.assertIn(b"1 of 1 files", got.stderr)
+
+    def test_a_worker_that_is_killed_ends_the_command(self):
+        fifo = b"".join(os.fsencode(path) + b"\0" for path in self.paths * 2000)
+        going = subprocess.Popen(
+            [sys.executable, "-c", SLOW, "table.db", "--jobs", "2", "--batch", "2"],
+            stdin=subprocess.PIPE, stderr=subprocess.PIPE, cwd=self.room, env=ENVIRONMENT,
+        )  # fmt: skip
+        going.stdin.write(fifo)
+        going.stdin.close()
+        going.stdin = None
+        workers = []
+        while len(workers) < 2:
+            time.sleep(0.05)
+            self.assertIsNone(going.poll())
+            workers = children(going.pid)
+        os.kill(workers[0], signal.SIGKILL)
+        told = going.communicate(timeout=60)[1]
+        self.assertEqual(going.returncode, 3, told)
+        self.assertIn(b"a worker was killed: the same command goes on from here", told)
+        got = self.filled("table.db", self.paths)
+        self.assertEqual((got.returncode, self.table("table.db").summary()), (0, (41, 0, 0, 8, 7)), got.stderr)
+
+    def test_a_cache_serves_a_second_table(self):
+        for name in ("1.db", "2.db"):
+            self.assertEqual(self.filled(name, self.paths, "--cache", "cache.db").returncode, 0)
+        self.assertEqual(self.table("1.db").checksum(), self.table("2.db").checksum())
+        held = sqlite3.connect(os.path.join(self.room, "cache.db")).execute("SELECT count(*), min(version) FROM meaning").fetchone()
+        self.assertEqual(held, (8, yamlcanon.library_version()))
+
+
+# The command, with a library that takes its time.
+SLOW = """
+import sys, time
+from yamlcanon import many, table
+meaning = table.meaning
+def slowly(data):
+    time.sleep(0.2)
+    return meaning(data)
+table.meaning = slowly
+sys.exit(many.main(sys.argv[1:]))
+"""
+
+
+def children(process):
+    with open(f"/proc/{process}/task/{process}/children", encoding="ascii") as file:
+        return [int(number) for number in file.read().split()]
+
+
+class Questions(Folder):
+    def test_duplicates_are_told_by_groups(self):
+        paths = [
+            self.write(name, data)
+            for name, data in (
+                ("a", b"x: 1"), ("b", b"x: 1"), ("c", b"{x: 0x1}"), ("d", b"x: 2"), ("e", b"# none"), ("f", b""), ("g", b"~"), ("h", b"null"), ("i", b"{"),
+            )
+        ]  # fmt: skip
+        self.filled("table.db", paths)
+        got = self.command("--duplicates", "table.db")
+        at = self.room.encode() + b"/"
+        self.assertEqual(got.returncode, 0, got.stderr)
+        self.assertEqual(
+            got.stdout.replace(at, b""),
+            b"# 3 files mean the same, in 2 spellings\n=\ta\n=\tb\n~\tc\n"
+            b"# 2 files hold one null, in 2 spellings\n=\tg\n~\th\n# 2 files hold no document, in 2 spellings\n=\te\n~\tf\n",
+        )
+
+    def test_drift_tells_what_became_of_each_file(self):
+        before = {"same": b"a: 1", "spelled": b"a: 1", "meant": b"a: 1", "gone": b"a", "broken": b"a", "mended": b"{", "bad": b"{"}
+        after = {"same": b"a: 1", "spelled": b"{a: 1}", "meant": b"a: 2", "new": b"a", "broken": b"{", "mended": b"a", "bad": b"{"}
+        for name, files in (("old.db", before), ("new.db", after)):
+            for path, data in files.items():
+                self.write(path, data)
+            self.filled(name, files)
+        got = self.command("--drift", "old.db", "new.db")
+        self.assertEqual(
+            sorted(got.stdout.splitlines()),
+            [b"accepted\tmended", b"gone\tgone", b"meaning\tmeant", b"new\tnew", b"refused\tbroken", b"spelling\tspelled"],
+        )
+        self.assertEqual((got.returncode, got.stderr), (1, b"1 accepted, 1 gone, 1 meaning, 1 new, 1 refused, 2 same, 1 spelling\n"))
+        got = self.command("--drift", "old.db", "old.db")
+        self.assertEqual((got.returncode, got.stdout, got.stderr), (0, b"", b"7 same\n"))
+
+    def test_an_unread_file_is_no_change_of_meaning(self):
+        done, unread = Row("a", 0, "d", None, None, 1, "r"), Row("a", 3, None, None, "No", None, None)
+        self.assertEqual([change(done, unread), change(unread, done), change(unread, unread)], ["unread"] * 3)
+
+    def test_words_that_ask_for_nothing(self):
+        for words in ((), ("--duplicates", "none.db"), ("a.db", "--jobs", "0"), ("a.db", "--drift", "a.db", "b.db")):
+            self.assertEqual(self.command(*words).returncode, 2)
+        self.assertEqual(os.listdir(self.room), [])
+
+
+if __name__ == "__main__":
+    unittest.main()

@@ -1,0 +1,229 @@
+"""A row for each file that is named on standard input, by as many processes as there are processors.
+
+    find . -name '*.yaml' -print0 | python3 -m yamlcanon.many TABLE [--cache FILE] [--jobs N] [--batch N]
+    python3 -m yamlcanon.many --duplicates TABLE
+    python3 -m yamlcanon.many --drift OLD NEW
+
+Names end in a null byte if there is one, else in a line feed. TABLE is an SQLite file. What it has already is left out, and
+what could not be read is tried again: a run that was ended is gone on with by the same command. What the bytes of a file mean
+is looked up in the cache first, and kept there at the end. Status: 0; 1 if a file was refused or could not be read; 3 if a
+worker was killed or wanted memory, or the table is of another version of the library.
+
+--duplicates tells the files that mean the same, a group at a time and the largest first: `=` stands before those that have
+the bytes of the group's first file, `~` before those that are alike in meaning alone. Files that hold no document, as those
+with nothing but comments, and files that hold one null are the last groups.
+
+--drift tells what became of each file between two tables: `spelling` where its bytes changed and its meaning did not,
+`meaning` where that changed, `new`, `gone`, `refused` where it is refused now, `accepted` where it was, and `unread`. Files
+that are the same are only counted. Status: 0 if no meaning changed and no file is new, gone, refused or unread now, else 1.
+
+A name is told on one line: `\\\\` stands for a backslash in it, `\\n`, `\\r` and `\\t` for the ends of lines and a tab.
+"""
+
+import argparse
+import hashlib
+import os
+import sys
+import time
+from concurrent.futures import Future, ProcessPoolExecutor, as_completed
+from concurrent.futures.process import BrokenProcessPool
+from typing import BinaryIO, Dict, Iterator, List, Optional, Sequence, Tuple
+
+import yamlcanon
+from yamlcanon.table import DONE, REFUSED, UNREAD, OtherVersion, Row, Table, keep, rows
+
+_FAILED = 3
+_BATCH = 256
+# What is mostly found by the thousand, and means nothing.
+_HOLD_NOTHING = ((b"", "hold no document"), (b"~", "hold one null"))
+# How often progress is told, in seconds: on a terminal, and elsewhere.
+_ON_TERMINAL, _ELSEWHERE = 0.5, 10.0
+
+
+def names(data: bytes) -> List[str]:
+    """The names of a list."""
+    return [os.fsdecode(name) for name in data.split(b"\0" if b"\0" in data else b"\n") if name]
+
+
+def batches(paths: Sequence[str], size: int) -> Iterator[Sequence[str]]:
+    return (paths[at : at + size] for at in range(0, len(paths), size))
+
+
+def shown(path: str) -> bytes:
+    """A name on one line."""
+    name = os.fsencode(path).replace(b"\\", b"\\\\")
+    return name.replace(b"\n", b"\\n").replace(b"\r", b"\\r").replace(b"\t", b"\\t")
+
+
+def say(words: str) -> None:
+    print(words, file=sys.stderr, flush=True)
+
+
+class Progress:
+    """Tells how many of the files are done, how many a second, and the time that is left."""
+
+    def __init__(self, whole: int) -> None:
+        self.whole, self.done = whole, 0
+        self.since = self.shown = time.monotonic()
+        self.is_terminal = sys.stderr.isatty()
+
+    def add(self, count: int) -> None:
+        self.done += count
+        now = time.monotonic()
+        if now - self.shown >= (_ON_TERMINAL if self.is_terminal else _ELSEWHERE):
+            self.shown = now
+            self.tell()
+
+    def tell(self) -> None:
+        spent = time.monotonic() - self.since
+        rate = self.done / spent if spent else 0.0
+        left = (self.whole - self.done) / rate if rate else 0.0
+        line = f"{self.done:,} of {self.whole:,} files, {rate:,.0f} a second, {left:,.0f} s left"
+        print(f"\r{line}  " if self.is_terminal else line, end="" if self.is_terminal else "\n", file=sys.stderr, flush=True)
+
+    def end(self) -> None:
+        self.tell()
+        if self.is_terminal:
+            say("")
+
+
+def fill(table: Table, paths: Sequence[str], jobs: int, batch: int, cache: Optional[str]) -> None:
+    """Adds a row for each path, by so many processes. Not by multiprocessing.Pool, which waits for ever for one that is killed."""
+    progress = Progress(len(paths))
+    with ProcessPoolExecutor(jobs) as pool:
+        waiting: List["Future[List[Row]]"] = [pool.submit(rows, some, cache) for some in batches(paths, batch)]
+        try:
+            for future in as_completed(waiting):
+                some = future.result()
+                table.add(some)
+                progress.add(len(some))
+        except BaseException:
+            for future in waiting:
+                future.cancel()
+            raise
+    progress.end()
+
+
+def run(name: str, data: bytes, jobs: int, batch: int, cache: Optional[str]) -> int:
+    """Fills the table with the files of a list."""
+    table = Table(name)
+    try:
+        paths = table.missing(names(data))
+        if cache is not None:
+            keep(cache, table)
+        fill(table, paths, jobs, batch, cache)
+        if cache is not None:
+            keep(cache, table)
+    except OtherVersion as fault:
+        say(f"{fault}: begin another table")
+        return _FAILED
+    except BrokenProcessPool:
+        say("a worker was killed: the same command goes on from here")
+        return _FAILED
+    except MemoryError:
+        say("a worker wanted more memory than there is: the same command goes on from here, with fewer --jobs")
+        return _FAILED
+    return finish(table)
+
+
+def finish(table: Table) -> int:
+    """Tells how many files were done, and gives the status."""
+    done, refused, unread, contents, meanings = table.summary()
+    say(f"{done:,} done, {refused:,} refused, {unread:,} unread; {contents:,} contents, {meanings:,} meanings")
+    return 1 if refused or unread else 0
+
+
+def tell_duplicates(name: str, out: BinaryIO) -> int:
+    """Tells the groups of files that mean the same."""
+    heads = {hashlib.sha256(yamlcanon.canonical(data)).hexdigest(): head for data, head in _HOLD_NOTHING}
+    apart: List[Tuple[str, List[Tuple[str, str]]]] = []
+    for digest, group in Table(name).duplicates():
+        count = len({raw for _, raw in group})
+        spellings = f"in {count} spelling{'s' if count > 1 else ''}"
+        if digest in heads:
+            apart.append((f"{len(group)} files {heads[digest]}, {spellings}", group))
+        else:
+            tell_group(f"{len(group)} files mean the same, {spellings}", group, out)
+    for head, group in apart:
+        tell_group(head, group, out)
+    out.flush()
+    return 0
+
+
+def tell_group(head: str, group: Sequence[Tuple[str, str]], out: BinaryIO) -> None:
+    out.write(b"# %s\n" % head.encode())
+    first = group[0][1]
+    for path, raw in group:
+        out.write(b"%s\t%s\n" % (b"=" if raw == first else b"~", shown(path)))
+
+
+def change(old: Optional[Row], new: Optional[Row]) -> str:
+    """What became of a file."""
+    if old is None:
+        return "new"
+    if new is None:
+        return "gone"
+    if UNREAD in (old.status, new.status):
+        return "unread"
+    if old.raw is not None and old.raw == new.raw:
+        return "same"
+    if new.status == REFUSED:
+        return "refused"
+    if old.status == REFUSED:
+        return "accepted"
+    return "spelling" if old.digest == new.digest else "meaning"
+
+
+def both(old: Table, new: Table) -> Iterator[Tuple[str, Optional[Row], Optional[Row]]]:
+    """The rows of two tables, path by path."""
+    before: Dict[str, Row] = {one.path: one for one in old.rows()}
+    for one in new.rows():
+        yield one.path, before.pop(one.path, None), one
+    for path, gone in before.items():
+        yield path, gone, None
+
+
+def tell_drift(old_name: str, new_name: str, out: BinaryIO) -> int:
+    """Tells what became of each file between two tables."""
+    old, new = Table(old_name), Table(new_name)
+    if old.version != new.version:
+        say(f"{old_name} is of version {old.version} of the library, {new_name} of {new.version}")
+        return _FAILED
+    counts: Dict[str, int] = {}
+    for path, before, after in both(old, new):
+        became = change(before, after)
+        counts[became] = counts.get(became, 0) + 1
+        if became != "same":
+            out.write(b"%s\t%s\n" % (became.encode(), shown(path)))
+    out.flush()
+    say(", ".join(f"{count:,} {became}" for became, count in sorted(counts.items())) or "no files")
+    return 0 if counts.keys() <= {"same", "spelling"} else 1
+
+
+def main(words: Optional[Sequence[str]] = None) -> int:
+    parser = argparse.ArgumentParser(
+        prog="python3 -m yamlcanon.many", description=__doc__, formatter_class=argparse.RawDescriptionHelpFormatter
+    )
+    parser.add_argument("table", nargs="?", metavar="TABLE")
+    parser.add_argument("--cache", metavar="FILE")
+    parser.add_argument("--jobs", type=int, default=len(os.sched_getaffinity(0)), metavar="N")
+    parser.add_argument("--batch", type=int, default=_BATCH, metavar="N")
+    what = parser.add_mutually_exclusive_group()
+    what.add_argument("--duplicates", metavar="TABLE")
+    what.add_argument("--drift", nargs=2, metavar=("OLD", "NEW"))
+    given = parser.parse_args(words)
+    asked = [given.table, given.duplicates, given.drift]
+    if sum(one is not None for one in asked) != 1 or given.jobs < 1 or given.batch < 1:
+        parser.error("one TABLE, --duplicates TABLE or --drift OLD NEW; at least one job and one file a batch")
+    for name in [given.duplicates] if given.duplicates else given.drift or []:
+        if not os.path.isfile(name):
+            parser.error(f"there is no table {name}")
+    if given.duplicates:
+        return tell_duplicates(given.duplicates, sys.stdout.buffer)
+    if given.drift:
+        return tell_drift(*given.drift, sys.stdout.buffer)
+    return run(given.table, sys.stdin.buffer.read(), given.jobs, given.batch, given.cache)
+
+
+if __name__ == "__main__":
+    sys.exit(main())
