@@ -9,4 +9,4 @@ mod files;
 mod pages;
 pub mod refusal;
 pub mod shelf;
-pub mod streams;
+mod streams;
