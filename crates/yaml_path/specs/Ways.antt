@@ -1,7 +1,7 @@
 -- Ways that lead through two trees at once, where items of sequences may have other places on one side than on the other.
-use Rattle.std.specs.Prelude.{◌≡◌, ◌≢◌, ◌⊎◌, ℕ, zero, suc, ◌+◌, ◌<◌, ◌≤◌, Bool, true, false, cond, ◌&&◌, ◌==◌, IsTrue, List, [], ◌∷◌, ◌++◌, Option, Some, None}
+use Rattle.std.specs.Prelude.{◌≡◌, ◌≢◌, ◌⊎◌, ℕ, zero, suc, ◌+◌, ◌<◌, ◌≤◌, Bool, true, false, cond, ◌&&◌, ◌==◌, List, [], ◌∷◌, Option, Some, None}
 use Rattle.std.specs.List.{slice_get}
-use Rattle.yaml_definitions.specs.model.Tree.{Tree, Trees, Pairs, scalar, sequence, mapping, end, item, done, entry}
+use Rattle.yaml_definitions.specs.model.Tree.{Tree, Trees, Pairs, sequence, mapping, end, item, done, entry}
 use Rattle.yaml_definitions.specs.model.Same.{Same, same}
 use Rattle.yaml_path.specs.Path.{item_in, value_in, part_of, head_of}
 use Rattle.yaml_path.specs.Path as plain
