@@ -1,0 +1,8 @@
+use Rattle.std.proofs.Common.{◌-◌, ◌≤◌, length}
+use Rattle.yaml_diff.proofs.anchors.piles_before.Given as goal
+
+abbrev pub invariant-loop-low : goal.invariant-loop-low
+invariant-loop-low l = record { order : l.low ≤ l.high; within : l.high ≤ length l.tops }
+
+abbrev pub decreases-loop-low : goal.decreases-loop-low
+decreases-loop-low l = l.high - l.low

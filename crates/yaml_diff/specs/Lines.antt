@@ -1,0 +1,114 @@
+-- The differences of two trees of a graph as they are listed.
+use Rattle.std.specs.Prelude.{◌≡◌, ◌⊎◌, ℕ, ◌<◌, ◌≤◌, Bool, true, false, List, [], ◌∷◌, ◌++◌, map, reverse, length, Option, Some}
+use Rattle.std.specs.Option.{option_map}
+use Rattle.std.specs.List.{slice_get}
+use Rattle.yaml_definitions.specs.model.Tree.{Tree, sequence}
+use Rattle.yaml_definitions.specs.model.Same.{Same}
+use Rattle.yaml_graph.specs.TreeLists.{trees}
+use Rattle.yaml_graph.specs.GraphModel.{Entries}
+use Rattle.yaml_graph.specs.GraphView.{tree}
+use Rattle.yaml_graph.specs.declared.node.NodeId.{NodeId}
+use Rattle.yaml_graph.specs.declared.graph.Graph.{Graph}
+use Rattle.yaml_path.specs.Path.{part}
+use Rattle.yaml_path.specs.Path as plain
+use Rattle.yaml_path.specs.Ways.{Way, Pairing, PairsAll, EndsAlong, Differs, AlikeWay, WayBefore, left_end, right_end, at_places, at_key}
+use Rattle.yaml_path.specs.Ways as ways
+use Rattle.yaml_path.specs.declared.places.Places.{Places}
+use Rattle.yaml_diff.specs.declared.difference.Step as code
+use Rattle.yaml_diff.specs.declared.difference.Step.TheVariants.{Item, Value}
+use Rattle.yaml_diff.specs.declared.difference.Difference.{Difference}
+
+abbrev pub tree_of : Graph → NodeId → Tree
+tree_of g i = tree g i.0
+
+abbrev pub trees_of : Graph → Option NodeId → Option Tree
+trees_of g i = option_map (tree_of g) i
+
+-- the sequence of this tag and these items, and so the documents of a stream
+abbrev pub sequence_of : Graph → List ℕ → List NodeId → Option Tree
+sequence_of g tag items = Some (sequence tag (trees (map (tree_of g) items)))
+
+abbrev pub step_of : Graph → code.Step → ways.Step
+step_of g (Item places) = at_places places
+step_of g (Value key) = at_key (tree_of g key)
+
+-- Steps, the last one first, and what stands behind them on either side.
+abbrev pub Line : Type 0
+Line = List code.Step × (Option NodeId × Option NodeId)
+
+abbrev pub line_of : Difference → Line
+line_of d = (d.path.items, (d.left, d.right))
+
+abbrev pub way_of : Graph → List code.Step → Way
+way_of g steps = reverse (map (step_of g) steps)
+
+-- the same line of a tree above, from which this step leads here
+abbrev pub under : code.Step → Line → Line
+under s d = (d.0 ++ (s ∷ []), d.1)
+
+-- The way is one at which the two differ first, and leads to these nodes' trees, or to none; equal ends of the sequences above are paired.
+pub record IsTold (g : Graph) (P : Pairing) (t u : Option Tree) (d : Line) : Type 0 where
+  pub differs : Differs P (way_of g d.0) t u
+  pub left : left_end t (way_of g d.0) ≡ trees_of g d.1.0
+  pub right : right_end u (way_of g d.0) ≡ trees_of g d.1.1
+  pub ends : EndsAlong P (way_of g d.0) t u
+
+-- a line has this way
+abbrev pub Listed : Graph → Way → List Line → Type 0
+Listed g q lines = (k : ℕ) × (d : Line) × (slice_get lines k ≡ Some d) × AlikeWay (way_of g d.0) q
+
+-- no way stands in two lines
+abbrev pub Apart : Graph → List Line → Type 0
+Apart g lines = (j k : ℕ) (d e : Line) → slice_get lines j ≡ Some d → slice_get lines k ≡ Some e → AlikeWay (way_of g d.0) (way_of g e.0) → j ≡ k
+
+-- the lines stand in order
+abbrev pub Ordered : Graph → Pairing → Option Tree → Option Tree → List Line → Type 0
+Ordered g P t u lines = (j k : ℕ) (d e : Line) → j < k → slice_get lines j ≡ Some d → slice_get lines k ≡ Some e → WayBefore P t u (way_of g d.0) (way_of g e.0)
+
+-- the way begins with one of these steps
+abbrev pub Begins : (ways.Step → Type 0) → Way → Type 0
+Begins covers p = (s : ways.Step) × (q : Way) × (p ≡ s ∷ q) × covers s
+
+-- Under a pairing, at most so many differences in their order, and all of them if they are told to be whole.
+pub record Lists (g : Graph) (P : Pairing) (t u : Option Tree) (room : ℕ) (lines : List Line) (is_whole : Bool) : Type 0 where
+  pub pairs : PairsAll P t u
+  pub each : (k : ℕ) (d : Line) → slice_get lines k ≡ Some d → IsTold g P t u d
+  pub few : length lines ≤ room
+  pub whole : is_whole ≡ true → (q : Way) → Differs P q t u → Listed g q lines
+  pub cut : is_whole ≡ false → length lines ≡ room
+  pub apart : Apart g lines
+  pub ordered : Ordered g P t u lines
+
+-- the same, as far as such first steps go
+pub record ListsSome (g : Graph) (P : Pairing) (t u : Option Tree) (room : ℕ) (covers : ways.Step → Type 0) (lines : List Line) (is_whole : Bool) : Type 0 where
+  pub pairs : PairsAll P t u
+  pub each : (k : ℕ) (d : Line) → slice_get lines k ≡ Some d → IsTold g P t u d
+  pub few : length lines ≤ room
+  pub whole : is_whole ≡ true → (s : ways.Step) (q : Way) → covers s → Differs P (s ∷ q) t u → Listed g (s ∷ q) lines
+  pub cut : is_whole ≡ false → length lines ≡ room
+  pub apart : Apart g lines
+  pub ordered : Ordered g P t u lines
+  pub covered : (k : ℕ) (d : Line) → slice_get lines k ≡ Some d → Begins covers (way_of g d.0)
+
+-- the value of a left key, or its want on the right
+abbrev pub LeftCovers : Graph → ℕ → ways.Step → Type 0
+LeftCovers g left (at_places p) = ⊥
+LeftCovers g left (at_key x) = (v : Tree) × (part (tree g left) (plain.at_key x) ≡ Some v)
+
+-- the differences of two trees but for parts that only the right one has
+abbrev pub LeftEntries : Graph → ℕ → ℕ → ℕ → List Line → Bool → Type 0
+LeftEntries g left right room lines is_whole = (P : Pairing) × ListsSome g P (Some (tree g left)) (Some (tree g right)) room (LeftCovers g left) lines is_whole
+
+-- the first so many steps of a pairing
+abbrev pub PlacesBelow : ℕ → List Places → ways.Step → Type 0
+PlacesBelow n ps (at_places p) = (k : ℕ) × (k < n) × (slice_get ps k ≡ Some p)
+PlacesBelow n ps (at_key x) = ⊥
+
+-- the keys of the entries before a place
+abbrev pub EntriesBelow : Graph → ℕ → Entries → ways.Step → Type 0
+EntriesBelow g n entries (at_places p) = ⊥
+EntriesBelow g n entries (at_key x) = (k : ℕ) × (p : NodeId × NodeId) × (k < n) × (slice_get entries k ≡ Some p) × Same (tree_of g p.0) x
+
+-- the parts that the left tree has, and those of the keys of the entries before a place
+abbrev pub RightCovers : Graph → ℕ → ℕ → Entries → ways.Step → Type 0
+RightCovers g left n entries s = LeftCovers g left s ⊎ EntriesBelow g n entries s

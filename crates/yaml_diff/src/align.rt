@@ -1,0 +1,123 @@
+//! Which items of two sequences are taken for each other.
+ghost use Rattle.std.specs.Prelude.{◌≡◌, ◌≤◌, ◌-◌, ◌++◌, IfOk, IfErr, OnOk};
+ghost use Rattle.yaml_path.specs.Ways.{turns};
+ghost use Rattle.yaml_rank.specs.RanksView.{numbers_of};
+ghost use Rattle.yaml_diff.specs.Found.{Aligns};
+ghost use Rattle.yaml_diff.specs.Aligning.{AllRanked, IsFront, IsBack, AlignsFrom};
+
+use crate::anchors::anchors;
+use std::alloc::Global;
+use yaml_graph::node::NodeId;
+use yaml_path::places::Places;
+use yaml_rank::ranks::Ranks;
+use yaml_text::fault::Fault;
+
+/// How many items are the same from the front on.
+fn equal_front(ranks: &Ranks, lefts: &[NodeId], rights: &[NodeId]) -> usize
+    requires left { AllRanked ranks.now lefts.now }
+    requires right { AllRanked ranks.now rights.now }
+    ensures { IsFront ranks.now lefts.now rights.now result }
+{
+    let mut front = 0;
+    while front < lefts.len()
+        && front < rights.len()
+        && ranks.of(lefts[front]) == ranks.of(rights[front])
+    {
+        front += 1;
+    }
+    front
+}
+
+/// How many items behind that front are the same from the back on.
+fn equal_back(ranks: &Ranks, lefts: &[NodeId], rights: &[NodeId], front: usize) -> usize
+    requires left { AllRanked ranks.now lefts.now }
+    requires right { AllRanked ranks.now rights.now }
+    requires front { IsFront ranks.now lefts.now rights.now front }
+    ensures { IsBack ranks.now lefts.now rights.now front result }
+{
+    let mut left = lefts.len();
+    let mut right = rights.len();
+    while left > front
+        && right > front
+        && ranks.of(lefts[left - 1]) == ranks.of(rights[right - 1])
+    {
+        left -= 1;
+        right -= 1;
+    }
+    lefts.len() - left
+}
+
+/// Takes the items from these places up to those in turn, and behind them those of the longer side alone.
+#[tactic(auto, using(crate::proofs::AlignLaws::step_both, crate::proofs::AlignLaws::step_left, crate::proofs::AlignLaws::step_right, crate::proofs::AlignLaws::turns_done))]
+fn take_turns(list: &mut Vec<Places>, from: (usize, usize), to: (usize, usize)) -> Result<(), Fault>
+    requires left { from.0 ≤ to.0 }
+    requires right { from.1 ≤ to.1 }
+    ensures ok { OnOk result (list.new.items ≡ list.old.items ++ turns from.0 from.1 (to.0 - from.0) (to.1 - from.1)) }
+    ensures err { IfErr result (λ fault. fault ≡ Fault.OutOfMemory) }
+{
+    let (mut left, mut right) = from;
+    while left < to.0 && right < to.1 {
+        list.push(Places::Both(left, right))?;
+        left += 1;
+        right += 1;
+    }
+    while left < to.0 {
+        list.push(Places::Left(left))?;
+        left += 1;
+    }
+    while right < to.1 {
+        list.push(Places::Right(right))?;
+        right += 1;
+    }
+    Ok(())
+}
+
+/// Takes the items up to these places: those of the anchors for each other, and those between two anchors in turn.
+#[tactic(auto, using(crate::proofs::AlignLaws::from_anchor, crate::proofs::AlignLaws::from_turns, crate::proofs::AlignLaws::from_on, crate::proofs::AlignLaws::from_here))]
+fn take_anchors(
+    list: &mut Vec<Places>,
+    anchors: &[(usize, usize)],
+    from: (usize, usize),
+    to: (usize, usize),
+) -> Result<(), Fault>
+    requires left { from.0 ≤ to.0 }
+    requires right { from.1 ≤ to.1 }
+    ensures ok { OnOk result (AlignsFrom list.old.items from.0 from.1 to.0 to.1 list.new.items) }
+    ensures err { IfErr result (λ fault. fault ≡ Fault.OutOfMemory) }
+{
+    let mut at = from;
+    for anchor in anchors {
+        let (left, right) = *anchor;
+        if at.0 <= left && left < to.0 && at.1 <= right && right < to.1 {
+            take_turns(list, at, (left, right))?;
+            take_turns(list, (left, right), (left + 1, right + 1))?;
+            at = (left + 1, right + 1);
+        }
+    }
+    take_turns(list, at, to)
+}
+
+/// Takes the items of two sequences for each other: equal ends, between them the items that stand once on either side as far
+/// as their places rise on both, and the rest in turn.
+#[tactic(auto, using(crate::proofs::AlignLaws::aligned))]
+pub(crate) fn align(
+    alloc: Global,
+    ranks: &Ranks,
+    lefts: &[NodeId],
+    rights: &[NodeId],
+) -> Result<Vec<Places>, Fault>
+    requires left { AllRanked ranks.now lefts.now }
+    requires right { AllRanked ranks.now rights.now }
+    ensures ok { IfOk result (λ list. Aligns ranks.now lefts.now rights.now list.items) }
+    ensures err { IfErr result (λ fault. fault ≡ Fault.OutOfMemory) }
+{
+    let front = equal_front(ranks, lefts, rights);
+    let back = equal_back(ranks, lefts, rights, front);
+    let ends = (lefts.len() - back, rights.len() - back);
+    let anchors = anchors(alloc, ranks, lefts, rights, front, back)?;
+    let mut list = Vec::new(alloc);
+    take_turns(&mut list, (0, 0), (front, front))?;
+    take_anchors(&mut list, &anchors, (front, front), ends)?;
+    take_turns(&mut list, ends, (lefts.len(), rights.len()))?;
+    Ok(list)
+}
