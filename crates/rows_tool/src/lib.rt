@@ -15,3 +15,5 @@ mod pair;
 mod rows;
 #[cfg(test)]
 mod runs;
+#[cfg(test)]
+mod told;

@@ -170,6 +170,12 @@ pub status_tells : (P : ℕ → Type 0) (Q : Refusal → Type 0) (r : Result ℕ
 status_tells P Q (Ok status) p q = inl p
 status_tells P Q (Err refusal) p q = inr (refusal, q, refl)
 
+-- what it tells, and what is told of a refusal
+pub status_told : {X : Type 0} (P : ℕ → Type 0) (Q T : Refusal → Type 0) (r : Result ℕ Refusal) → IfOk r P → IfErr r Q → IfOk r (λ _. X) → IfErr r T
+    → (P (answer_status r) × X) ⊎ ((refusal : Refusal) × (Q refusal × T refusal) × (answer_status r ≡ refusal_status refusal))
+status_told P Q T (Ok status) p q x t = inl (p, x)
+status_told P Q T (Err refusal) p q x t = inr (refusal, (q, t), refl)
+
 fault_above : (fault : Fault) → 2 ≤ fault_status fault
 fault_above ReadFault = omega arith
 fault_above WriteFault = omega arith

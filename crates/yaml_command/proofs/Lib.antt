@@ -1,3 +1,4 @@
 mod Answering
 mod EventLaws
 mod PageLaws
+mod LineLaws

@@ -18,15 +18,15 @@ use Rattle.yaml_command.specs.Pages.{PageHas}
 use Rattle.yaml_command.specs.Printing.{PrintFails}
 use Rattle.yaml_events.proofs.LineText.{events_append, events_line_more}
 
-take_within : (xs ys : List ℕ) (k : ℕ) → (n : ℕ) × (take n (xs ++ ys) ≡ take k xs)
+pub take_within : (xs ys : List ℕ) (k : ℕ) → (n : ℕ) × (take n (xs ++ ys) ≡ take k xs)
 take_within xs ys k = (min k (length xs), grind (arith, common_steps))
 
-one_higher : (n m : ℕ) → n < 2 ^ 64 - 1 → m ≡ n → one_more m ≡ n + 1
+pub one_higher : (n m : ℕ) → n < 2 ^ 64 - 1 → m ≡ n → one_more m ≡ n + 1
 one_higher n m h e = omega (arith, h, e)
 
 module _ {W : Type 0} (contents : W → Option (List ℕ)) where
   -- a beginning of the page goes out, and the writer then has one of the text
-  begins : (o u v : Counted W) (front xs more text : List ℕ) (count : ℕ) → Sent contents o u front → Appends (contents (inner_of u)) (contents (inner_of v)) (take count xs) → text ≡ front ++ (xs ++ more)
+  pub begins : (o u v : Counted W) (front xs more text : List ℕ) (count : ℕ) → Sent contents o u front → Appends (contents (inner_of u)) (contents (inner_of v)) (take count xs) → text ≡ front ++ (xs ++ more)
       → (n : ℕ) × Appends (contents (inner_of o)) (contents (inner_of v)) (take n text)
   begins o u v front xs more text count s a e =
       let w = take_within xs more count in

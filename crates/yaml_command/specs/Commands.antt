@@ -10,6 +10,7 @@ use Rattle.yaml_canon.specs.Writers.{Printed, Broken}
 use Rattle.yaml_command.specs.EventRuns.{EventsPrinted, EventsFail}
 use Rattle.yaml_event_text.specs.Answer.{IsEventText, IsUnread}
 use Rattle.yaml_command.specs.Judged.{PrintsSame, SameFails, PrintsMatch, MatchFails}
+use Rattle.yaml_command.specs.Refusals.{Told}
 use Rattle.yaml_command.specs.Shelves.{IsOf, InputUnread, SideUnread, LinesUnread}
 use Rattle.yaml_command.specs.Statuses.{refusal_status}
 use Rattle.yaml_words.specs.Words.{Asks, RefusesWords}
@@ -112,19 +113,25 @@ module _ {W : Type 0} (holds : List ℕ → Option (List ℕ)) (contents : W →
     WordsNotDone words input end old new (Words fault) = RefusesWords words fault × (end ≡ input) × (new ≡ old)
     WordsNotDone words input end old new refusal = (asked : Asked) × Asks words asked × DoesNot input end old new refusal asked
 
-    -- what a status tells of words
-    abbrev pub Tells : List (List ℕ) → Counted R → Counted R → Counted W → Counted W → ℕ → Type 0
-    Tells words input end old new status =
-        WordsDone words input end old new status ⊎ ((refusal : Refusal) × WordsNotDone words input end old new refusal × (status ≡ refusal_status refusal))
+    module _ {E : Type 0} (lines : E → Option (List ℕ)) where
+      -- what a status tells of words, and standard error of a refusal
+      abbrev pub Tells : List (List ℕ) → Counted R → Counted R → Counted W → Counted W → Counted E → Counted E → ℕ → Type 0
+      Tells words input end old new before after status =
+          (WordsDone words input end old new status × (after ≡ before))
+          ⊎ ((refusal : Refusal) × (WordsNotDone words input end old new refusal × Told lines before after refusal) × (status ≡ refusal_status refusal))
 
-    -- the same of a reader and a writer that were given away, where no call of theirs had failed
-    pub record RunTells (words : List (List ℕ)) (input : R) (out : W) (status : ℕ) : Type 0 where
-      pub start : Counted R
-      pub end : Counted R
-      pub old : Counted W
-      pub new : Counted W
-      pub reader : inner_of start ≡ input
-      pub no_read : faults_of start ≡ 0
-      pub writer : inner_of old ≡ out
-      pub no_write : faults_of old ≡ 0
-      pub tells : Tells words start end old new status
+      -- the same of a reader and of writers that were given away, where no call of theirs had failed
+      pub record RunTells (words : List (List ℕ)) (input : R) (out : W) (err : E) (status : ℕ) : Type 0 where
+        pub start : Counted R
+        pub end : Counted R
+        pub old : Counted W
+        pub new : Counted W
+        pub before : Counted E
+        pub after : Counted E
+        pub reader : inner_of start ≡ input
+        pub no_read : faults_of start ≡ 0
+        pub writer : inner_of old ≡ out
+        pub no_write : faults_of old ≡ 0
+        pub teller : inner_of before ≡ err
+        pub no_line : faults_of before ≡ 0
+        pub tells : Tells words start end old new before after status

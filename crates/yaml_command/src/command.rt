@@ -4,10 +4,12 @@ ghost use Rattle.yaml_text.specs.CountedModel.{faults_of};
 ghost use Rattle.yaml_canon.specs.Writers.{Broken};
 ghost use Rattle.yaml_command.specs.Commands.{written_status, judged_status, Does, DoesNot, WordsDone, WordsNotDone, Tells, RunTells};
 ghost use Rattle.yaml_command.specs.Judged.{Silent};
+ghost use Rattle.yaml_command.specs.Refusals.{Told};
 ghost use Rattle.yaml_command.specs.Statuses.{answer_status};
 
 use crate::events::events;
 use crate::files::{canon_file, compare_files, events_of_file, match_files};
+use crate::line::tell;
 use crate::refusal::Refusal;
 use crate::shelf::{Host, Shelf};
 use std::alloc::Global;
@@ -94,16 +96,18 @@ fn run_words<'a, S: Shelf, R: Read, W: Write>(
     run(shelf, alloc, asked, input, out)
 }
 
-/// The status of an answer. A refusal is told as a line.
-pub fn report<E: Write>(answer: Result<u8, Refusal<'_>>, err: &mut E) -> u8
+/// The status of an answer. A refusal is told as a line, unless a call of `err` fails.
+pub fn report<E: Write>(answer: Result<u8, Refusal<'_>>, err: &mut Counted<E>) -> u8
+    requires { faults_of err.old < 2 ^ 64 - 1 }
     ensures status { result ≡ answer_status answer.entry }
     ensures quiet { IfOk answer.entry (λ _. err.new ≡ err.old) }
+    ensures told { IfErr answer.entry (Told E.contents err.old err.new) }
 {
     match answer {
         Ok(status) => status,
         Err(refusal) => {
             // Where standard error fails too, the status alone is left to tell it.
-            let _ = writeln!(err, "yaml: {refusal}");
+            let _ = tell(refusal, err);
             refusal.status()
         }
     }
@@ -116,12 +120,13 @@ fn answer<S: Shelf, R: Read, W: Write, E: Write>(
     words: &[String],
     input: &mut Counted<R>,
     out: &mut Counted<W>,
-    err: &mut E,
+    err: &mut Counted<E>,
 ) -> u8
     requires few_reads { faults_of input.old < 2 ^ 64 - 1 }
     requires few_writes { faults_of out.old < 2 ^ 64 - 1 }
+    requires few_lines { faults_of err.old < 2 ^ 64 - 1 }
     ensures status { result ≤ 3 }
-    ensures tells { Tells (S.holds shelf.now) W.contents R.remaining (map string_bytes words.now) input.old input.new out.old out.new result }
+    ensures tells { Tells (S.holds shelf.now) W.contents R.remaining E.contents (map string_bytes words.now) input.old input.new out.old out.new err.old err.new result }
     ensures done { result ≤ 1 → WordsDone (S.holds shelf.now) W.contents R.remaining (map string_bytes words.now) input.old input.new out.old out.new result }
     ensures quiet { result ≤ 1 → err.new ≡ err.old }
     ensures refused { result ≡ 2 → out.new ≡ out.old }
@@ -135,21 +140,22 @@ fn answer<S: Shelf, R: Read, W: Write, E: Write>(
 /// answers the exit status: 0, 1 where two files differ, 2 where an input is refused, 3 where the words,
 /// a file or a stream can't be used.
 ///
-/// A refusal is one line on `err`, and then nothing was written on `out` unless writing itself
-/// failed. `input` is read where no file is named.
+/// A refusal is one line on `err`, or a beginning of it where `err` fails, and then nothing was written
+/// on `out` unless writing itself failed. `input` is read where no file is named.
 pub fn command_over<S: Shelf, R: Read + Drop, W: Write + Drop, E: Write + Drop>(
     shelf: &S,
     alloc: Global,
     words: &[String],
     input: R,
     out: W,
-    mut err: E,
+    err: E,
 ) -> u8
     ensures status { result ≤ 3 }
-    ensures tells { RunTells (S.holds shelf.now) W.contents R.remaining (map string_bytes words.now) input out result }
+    ensures tells { RunTells (S.holds shelf.now) W.contents R.remaining E.contents (map string_bytes words.now) input out err result }
 {
     let mut input = Counted::new(input);
     let mut out = Counted::new(out);
+    let mut err = Counted::new(err);
     answer(shelf, alloc, words, &mut input, &mut out, &mut err)
 }
 
@@ -163,7 +169,7 @@ pub fn command<T: Files, R: Read + Drop, W: Write + Drop, E: Write + Drop>(
     err: E,
 ) -> u8
     ensures status { result ≤ 3 }
-    ensures tells { RunTells (λ _. None) W.contents R.remaining (map string_bytes words.now) input out result }
+    ensures tells { RunTells (λ _. None) W.contents R.remaining E.contents (map string_bytes words.now) input out err result }
 {
     command_over(&Host::new(rt), alloc, words, input, out, err)
 }

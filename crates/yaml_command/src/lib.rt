@@ -6,6 +6,7 @@ pub mod command;
 mod compare;
 mod events;
 mod files;
+pub mod line;
 mod pages;
 pub mod refusal;
 pub mod shelf;

@@ -2,8 +2,6 @@
 ghost use Rattle.std.specs.Prelude.{◌≡◌};
 ghost use Rattle.yaml_command.specs.Statuses.{fault_status};
 
-use std::fmt;
-use std::fmt::Display;
 use yaml_canon::Side;
 use yaml_events::EventFault;
 use yaml_text::fault::Fault;
@@ -15,8 +13,7 @@ const REFUSED: u8 = 2;
 /// The status where the words, a file or a stream can't be used.
 const UNUSABLE: u8 = 3;
 
-/// Why the program ends without an answer. Its text is what the line of standard error says after
-/// `yaml: `.
+/// Why the program ends without an answer. `line::tell` writes the line of standard error that tells it.
 #[derive(Clone, Copy, Debug, PartialEq, Eq)]
 pub enum Refusal<'a> {
     /// The words can't be read.
@@ -102,24 +99,5 @@ impl From<EventFault> for Refusal<'_> {
 
     fn from(fault: EventFault) -> Self {
         Refusal::EventLines(fault)
-    }
-}
-
-impl Display for Refusal<'_> {
-    ghost use Rattle.yaml_command.specs.Refusals.{refusal_text};
-
-    ghost output = { refusal_text };
-
-    fn fmt<W: fmt::Write>(&self, f: &mut fmt::Formatter<W>) -> fmt::Result {
-        match self {
-            Refusal::Words(WordsFault::Usage) => write!(f, "usage"),
-            Refusal::Words(WordsFault::OutOfMemory) => write!(f, "{}", Fault::OutOfMemory),
-            Refusal::CannotOpen(name) => write!(f, "cannot open {name}"),
-            Refusal::Input(fault) => write!(f, "{fault}"),
-            Refusal::OneSide(Side::Left, fault) => write!(f, "left: {fault}"),
-            Refusal::OneSide(Side::Right, fault) => write!(f, "right: {fault}"),
-            Refusal::EventText(fault) => write!(f, "events: {fault}"),
-            Refusal::EventLines(fault) => write!(f, "events: {fault}"),
-        }
     }
 }

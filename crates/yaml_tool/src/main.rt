@@ -5,6 +5,7 @@ use std::env;
 use std::process::ExitCode;
 use yaml_command::command::{command, report};
 use yaml_command::refusal::Refusal;
+use yaml_text::counted::Counted;
 use yaml_words::{WordsFault, behind_name};
 
 fn main(rt: HostRuntime) -> ExitCode {
@@ -22,7 +23,7 @@ fn main(rt: HostRuntime) -> ExitCode {
             rt.stdout(),
             rt.stderr(),
         ),
-        Err(fault) => report(Err(Refusal::Words(fault)), &mut rt.stderr()),
+        Err(fault) => report(Err(Refusal::Words(fault)), &mut Counted::new(rt.stderr())),
     };
     ExitCode::from(status)
 }

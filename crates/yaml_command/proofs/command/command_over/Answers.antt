@@ -10,5 +10,9 @@ returns-clause-tells g c = record {
   no_read = c.new-input.ensures.faults;
   writer = c.new-out.ensures.inner;
   no_write = c.new-out.ensures.faults;
+  before = c.new-err.result;
+  after = c.answer.new.err;
+  teller = c.new-err.ensures.inner;
+  no_line = c.new-err.ensures.faults;
   tells = c.answer.ensures.tells;
 }
