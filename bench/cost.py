@@ -5,7 +5,8 @@
 Runs each command of the built program on each shape, and `canon` once more with a refusal behind it (`later`): a last document of
 an alias without an anchor. Prints the shapes that cost the most of each. Seconds are of the processor, memory is the peak; of both
 what the program takes for the empty input is taken off. Bytes are those of one file. A run that ends by a signal is named and
-fails. `--space` bounds the address space, as `ulimit -v` does, so that memory is refused; each such refusal is counted.
+fails. `--space` bounds the address space, as `ulimit -v` does, so that memory is refused, also where the events of `check` are made;
+each such refusal is counted.
 Needs Python 3, and without a bound about 3 kB for each byte.
 """
 import argparse
@@ -32,7 +33,7 @@ def bounded(space):
 def measured(command, text, space):
     """Seconds, peak memory and output of a run, and how it ended."""
     with tempfile.TemporaryDirectory(dir='/dev/shm') as room:
-        words = words_of(command, text, room)
+        words = words_of(command, text, room, bounded(space))
         with open(os.path.join(room, 'out'), 'wb') as out, open(os.path.join(room, 'err'), 'w+b') as err:
             process = subprocess.Popen([PROGRAM] + words, stdout=out, stderr=err, preexec_fn=bounded(space))
             _, status, used = os.wait4(process.pid, 0)

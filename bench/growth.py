@@ -28,13 +28,14 @@ def size_of(make):
     return size
 
 
-def words_of(command, text, room):
+def words_of(command, text, room, prepare=None):
+    """What the program is given; `prepare` is called in the process that makes the events of `check`."""
     path, events = os.path.join(room, 'text'), os.path.join(room, 'events')
     with open(path, 'wb') as file:
         file.write(text)
     if command == 'check':
         with open(events, 'wb') as file:
-            subprocess.run([PROGRAM, 'events', path], stdout=file, stderr=subprocess.DEVNULL)
+            subprocess.run([PROGRAM, 'events', path], stdout=file, stderr=subprocess.DEVNULL, preexec_fn=prepare)
     return [command, path] + {'same': [path], 'check': [events]}.get(command, [])
 
 
