@@ -200,6 +200,19 @@ static void bounds(text_call *call, const struct file *file)
     free(own.room);
 }
 
+/* An event text stands in the room and nowhere else, so a call takes no more memory where it gives the text. */
+static void held_once(const struct file *file)
+{
+    yamlcanon_budget(0);
+    struct answer none = answer_of(yamlcanon_events, file, 0);
+    size_t peak = yamlcanon_peak();
+    yamlcanon_budget(0);
+    struct answer own = answer_of(yamlcanon_events, file, none.status == YAMLCANON_SHORT ? none.len : 0);
+    if (yamlcanon_peak() != peak) wrong(file, "an event text takes memory beside its room");
+    free(none.room);
+    free(own.room);
+}
+
 static void *has_no_bound(void *unused)
 {
     struct file text = {"a thread beside one with a bound", (uint8_t *)"{a: [b, c], d: e}", 17};
@@ -218,6 +231,7 @@ static void under_bounds(void)
     for (size_t i = 0; i < count; i++) {
         bounds(yamlcanon_canonical, &files[i]);
         bounds(yamlcanon_events, &files[i]);
+        held_once(&files[i]);
     }
 }
 

@@ -47,11 +47,11 @@ CONDITIONS = [
         ['"\n\n"', '"\\\n\n"']),
     Condition(
         '# in a plain scalar only just after an ns-char', 'PlainChar',
-        [('FlowScalars', '(Stands cs (λ x. x == 35) i × Behind cs is_ns i)', '(Stands cs (λ x. x == 35) i)')],
+        [('FlowScalars', '(Stands cs (λ x. x == c_comment) i × Behind cs is_ns i)', '(Stands cs (λ x. x == c_comment) i)')],
         ['a #']),
     Condition(
         ': in a plain scalar only before a plain-safe character', 'PlainChar',
-        [('FlowScalars', '(Stands cs (λ x. x == 58) i × Stands cs (plain_safe c) (i + 1))', '(Stands cs (λ x. x == 58) i)')],
+        [('FlowScalars', '(Stands cs (λ x. x == c_mapping_value) i × Stands cs (plain_safe c) (i + 1))', '(Stands cs (λ x. x == c_mapping_value) i)')],
         ['a:']),
     Condition(
         'a first - ? : only before a plain-safe character', 'PlainFirst',
@@ -77,7 +77,7 @@ CONDITIONS = [
         ['']),
     Condition(
         'in the wide profile ? is followed by separate', 'explicit',
-        [('Nodes', '(chr cs 63 ◆ separate cs n c)', '(chr cs 63 ◆ maybe (separate cs n c))')],
+        [('Nodes', '(chr cs c_mapping_key ◆ separate cs n c)', '(chr cs c_mapping_key ◆ maybe (separate cs n c))')],
         ['{?a}'], True),
     Condition(
         'the first alternative of a block node at n + 1', 'flow_in_block',

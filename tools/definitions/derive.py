@@ -485,7 +485,7 @@ def theorem(reading):
     VISITED.clear()
     VISITED.update(W[d] for d in ('Streams.stream', 'Streams.stream_of_pieces'))
     cs = shadow.new_text(tuple(map(ord, reading.text)))
-    stream = ap(W['Streams.stream'], cs, reading.wide, ROOM)
+    stream = ap(W['Streams.stream'], cs, True, ROOM)
     found = [x for x in stream.at(0) if x[0] == len(cs)]
     events = {ap(W['Streams.stream_of_pieces'], pieces) for (_, pieces) in found}
     assert len(events) == 1, (reading.name, events)
@@ -497,7 +497,7 @@ def theorem(reading):
         '%s = %s' % (TEXT, quoted(cs)),
         '',
         '-- ' + reading.clause,
-        'pub %s : ReadsText %s %s open_limit (' % (reading.name, TEXT, '(Unit {0})' if reading.wide else '⊥'),
+        'pub %s : ReadsText %s (Unit {0}) open_limit (' % (reading.name, TEXT),
         '    ' + '\n    ∷ '.join([bare(show(e)) for e in events.pop()] + ['[])']),
         'unfolding %s' % ' '.join(names),
         '%s = (%s, %s, refl)' % (reading.name, show(pieces), proof),

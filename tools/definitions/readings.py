@@ -1,7 +1,7 @@
 """readings.py: the texts whose readings derive.py writes, with the clause of YAML 1.2.2 that each shows."""
 import collections
 
-Reading = collections.namedtuple('Reading', 'name clause text wide', defaults=(False,))
+Reading = collections.namedtuple('Reading', 'name clause text')
 # a file's name, what it is about, its readings, and theorems that are written by hand
 Family = collections.namedtuple('Family', 'file about readings more', defaults=([],))
 
@@ -25,10 +25,11 @@ FLOW = [
     Reading('flow_mapping', '7.4.2: a key without a value has an empty one', '{a: b, c}'),
     Reading('single_pair', '7.4.2: a pair in a sequence is a mapping of one entry', '[a: b]'),
     Reading('adjacent_value', '7.4.2: a value may stand right after the `:` of a JSON-like key', '{"a":b}'),
+    Reading('sequence_in_flow_mapping', '7.4: a sequence in a mapping', '{a: [1, 0x1]}'),
     Reading('nested_lines', '7.4: flow collections over lines, with a comment', '{k: [a, # c\n  b ]}'),
     Reading('empty_values', '7.2: nodes of properties alone, and a value that is empty', '[!!str , &a : ]'),
-    Reading('explicit_key', '7.4.2, in the wide profile: a key after `?`', '{? a : b}', True),
-    Reading('empty_keys', '7.4.2, in the wide profile: an empty key', '[: a]', True),
+    Reading('explicit_key', '7.4.2, in the wide profile: a key after `?`', '{? a : b}'),
+    Reading('empty_keys', '7.4.2, in the wide profile: an empty key', '[: a]'),
 ]
 
 BLOCK = [

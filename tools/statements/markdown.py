@@ -63,7 +63,8 @@ def words_of(statement):
     """The words of the kit's library, by module."""
     modules = {}
     for module, name in statement.words:
-        modules.setdefault(module.removeprefix("Rattle."), set()).add(name)
+        # a type of the library and its variants stand together
+        modules.setdefault(module.removeprefix("Rattle.").removesuffix(".TheVariants"), set()).add(name)
     lines = ["## Words of the kit's library", "Lists, numbers, options and characters are the library's own; `rt lemma WORD` and its folder say what each is."]
     for module in sorted(modules):
         lines.append(f"- `{module}`: {' '.join(f'`{name}`' for name in sorted(modules[module]))}")

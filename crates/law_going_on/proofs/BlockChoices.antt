@@ -19,7 +19,7 @@ use Rattle.law_one_reading.proofs.BlockEntries.{NodeStart, start_no_empty}
 use Rattle.law_one_reading.proofs.FlowEntries.{Facts}
 use Rattle.law_one_reading.proofs.KeyContexts.{Eased}
 use Rattle.law_one_reading.proofs.BlockLevels.{Blocks}
-use Rattle.law_going_on.specs.Decisions.{Refused, Goes, Rest, Here}
+use Rattle.law_going_on.specs.GoingOn.{Refused, Goes, Rest, Here}
 use Rattle.law_going_on.proofs.BlockLoops.{SequenceFrom, MappingFrom}
 use Rattle.law_going_on.proofs.BlockStarts.{OnLine, Form}
 

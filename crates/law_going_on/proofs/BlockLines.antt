@@ -18,7 +18,7 @@ use Rattle.law_one_reading.proofs.FlowNodes.{kind_fresh}
 use Rattle.law_one_reading.proofs.FlowEntries.{Facts}
 use Rattle.law_one_reading.proofs.KeyContexts.{Eased}
 use Rattle.law_one_reading.proofs.BlockLevels.{Blocks}
-use Rattle.law_going_on.specs.Decisions.{Rest}
+use Rattle.law_going_on.specs.GoingOn.{Rest}
 use Rattle.law_going_on.proofs.Separations.{separate_on_next, separate_short}
 use Rattle.law_going_on.proofs.BlockLoops.{SequenceFrom, MappingFrom}
 use Rattle.law_going_on.proofs.LineChoices.{LineRest}

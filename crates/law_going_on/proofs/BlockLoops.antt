@@ -11,8 +11,8 @@ use Rattle.yaml_text.specs.Lines.{Inside}
 use Rattle.yaml_text.proofs.LineRuns.{indent_place, indent_run}
 use Rattle.yaml_text.proofs.Runs.{run_same}
 use Rattle.law_one_reading.specs.Readings.{End, At, More, Starts}
-use Rattle.law_going_on.specs.Decisions.{Refused, Goes, Rest, Here}
-use Rattle.law_going_on.proofs.Decisions.{rest_refused, rest_goes, rest_rest, goes_refused, refused_until, rest_seen, rest_given, refused_given, rest_before, rest_first, refused_first, rest_more, refused_more, rest_next, refused_next, goes_done}
+use Rattle.law_going_on.specs.GoingOn.{Refused, Goes, Rest, Here}
+use Rattle.law_going_on.proofs.GoingOn.{rest_refused, rest_goes, rest_rest, goes_refused, refused_until, rest_seen, rest_given, refused_given, rest_before, rest_first, refused_first, rest_more, refused_more, rest_next, refused_next, goes_done}
 use Rattle.law_one_reading.proofs.Lines.{solid_no_space, dash_fresh, comments_none, less_stuck}
 use Rattle.law_one_reading.specs.Follows.{Solid, Stuck, Less, DashHere, Dash, Over, Follow, KeyHere, KeyAt}
 use Rattle.law_one_reading.proofs.BlockEntries.{dash_less, key_dash, follow_less, less_key}
@@ -102,8 +102,8 @@ module _ (cs : List ℕ) where
     abbrev pub Indented : Rule (List Event)
     Indented = indented cs Wide handles Open inside k
 
-    abbrev pub Dashes : Rule (List Event)
-    Dashes = indent cs k ▸ seq_entry cs Wide handles Open inside k
+    abbrev pub DashEntries : Rule (List Event)
+    DashEntries = indent cs k ▸ seq_entry cs Wide handles Open inside k
 
     -- after an entry; after the sequence
     abbrev pub InEntry : End
@@ -116,7 +116,7 @@ module _ (cs : List ℕ) where
     unfolding seq_entry
     entry_dash i j es (a, (b, (h, e), (f, n)), r) = (h, subst (λ x. Stands cs is_ns x → ⊥) e n)
 
-    dash_starts : Starts Dashes (More (Dash cs k) InDashes) (Dash cs k)
+    dash_starts : Starts DashEntries (More (Dash cs k) InDashes) (Dash cs k)
     dash_starts i j m v (a, r, s) e = (a, r, entry_dash a j v s)
 
     dash_there : (j m : ℕ) → Dash cs k m → InDashes j m → ⊥
@@ -136,12 +136,12 @@ module _ (cs : List ℕ) where
     entry_refused : (p : ℕ) → Refused Indented InEntry (p + 1) → Refused (seq_entry cs Wide handles Open inside k) (More (Dash cs k) InDashes) p
     entry_refused p n = rest_refused (entry_rest _ p) (refused_until _ (more_less k) n)
 
-    line_rest : (E : End) (x p : ℕ) → indent cs k x p → Rest Dashes E x (seq_entry cs Wide handles Open inside k) E p
+    line_rest : (E : End) (x p : ℕ) → indent cs k x p → Rest DashEntries E x (seq_entry cs Wide handles Open inside k) E p
     line_rest E x p r = rest_before (indent cs k) _ E (λ i. Unit {0}) x p (λ i j m v r e. tt)
         (λ l s d. let a : l ≡ x + k = indent_place cs k x l s in let b : p ≡ x + k = indent_place cs k x p r in omega (arith, a, b))
 
     -- the first dash; what follows is as wide as both compact sequences and those of block nodes need it (`follow_less`, `follow_seq`)
-    pub sequence_first : (o : Props) (p x : ℕ) → Goes Indented InEntry (p + 1) Here x → Rest (SequenceFrom o) InDashes p (any Dashes) InDashes x
+    pub sequence_first : (o : Props) (p x : ℕ) → Goes Indented InEntry (p + 1) Here x → Rest (SequenceFrom o) InDashes p (any DashEntries) InDashes x
     sequence_first o p x g = rest_rest (rest_given _ _ _ p) (rest_rest (rest_seen _ _ _ p) (rest_first (Dash cs k) dash_starts dash_there (entry_goes p x g)))
 
     pub sequence_no_first : (o : Props) (p : ℕ) → Refused Indented InEntry (p + 1) → Refused (SequenceFrom o) InDashes p
@@ -152,17 +152,17 @@ module _ (cs : List ℕ) where
     sequence_no_room o p E n = refused_given _ _ _ p n
 
     -- a further dash
-    pub sequence_more : (x p y : ℕ) → indent cs k x p → DashHere cs p → Goes Indented InEntry (p + 1) Here y → Rest (any Dashes) InDashes x (any Dashes) InDashes y
+    pub sequence_more : (x p y : ℕ) → indent cs k x p → DashHere cs p → Goes Indented InEntry (p + 1) Here y → Rest (any DashEntries) InDashes x (any DashEntries) InDashes y
     sequence_more x p y r d g = rest_more (Dash cs k) dash_starts dash_there (p, r, d) (dash_here x) (rest_goes (line_rest _ x p r) (entry_goes p y g))
 
-    pub sequence_no_more : (x p : ℕ) → indent cs k x p → DashHere cs p → Refused Indented InEntry (p + 1) → Refused (any Dashes) InDashes x
+    pub sequence_no_more : (x p : ℕ) → indent cs k x p → DashHere cs p → Refused Indented InEntry (p + 1) → Refused (any DashEntries) InDashes x
     sequence_no_more x p r d n = refused_more (Dash cs k) dash_starts dash_there (p, r, d) (dash_here x) (rest_refused (line_rest _ x p r) (entry_refused p n))
 
     -- a line without one; a line further right
-    pub sequence_done : (x : ℕ) → Stuck cs x → (Dash cs k x → ⊥) → Goes (any Dashes) InDashes x Here x
+    pub sequence_done : (x : ℕ) → Stuck cs x → (Dash cs k x → ⊥) → Goes (any DashEntries) InDashes x Here x
     sequence_done x s n = to_here (Follow cs (k + 1) k) s (goes_done (Dash cs k) dash_starts dash_there n)
 
-    pub sequence_further : (s x p : ℕ) → Right k s x p → Stuck cs x → Refused (any Dashes) InDashes x
+    pub sequence_further : (s x p : ℕ) → Right k s x p → Stuck cs x → Refused (any DashEntries) InDashes x
     sequence_further s x p o st = goes_refused (goes_done (Dash cs k) dash_starts dash_there (right_dash k s x p o))
         (λ m (c, (l, n)). right_less (k + 1) k s x p (omega arith) o (subst (Less cs (k + 1)) (comments_none cs x m st c) l))
 

@@ -24,8 +24,8 @@ use Rattle.law_one_reading.proofs.PlainEnds.{plain_block_unique}
 use Rattle.law_one_reading.proofs.BlockNodes.{next_here, content_here, past_crosses, colon_solid, KeyRead, dash_no_kind}
 use Rattle.law_one_reading.proofs.KeyContexts.{Eased}
 use Rattle.law_one_reading.proofs.BlockLevels.{Blocks, entry_key}
-use Rattle.law_going_on.specs.Decisions.{Refused, Rest}
-use Rattle.law_going_on.proofs.Decisions.{rest_rest}
+use Rattle.law_going_on.specs.GoingOn.{Refused, Rest}
+use Rattle.law_going_on.proofs.GoingOn.{rest_rest}
 use Rattle.law_going_on.proofs.FlowStarts.{yaml_propped, json_propped, no_node_at_bar}
 use Rattle.law_going_on.proofs.PropertyChoices.{Second, Kinds, one_prop, two_props, kinds, rest_propped}
 use Rattle.law_going_on.proofs.Separations.{separate_on_next}

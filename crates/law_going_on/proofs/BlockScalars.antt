@@ -14,8 +14,8 @@ use Rattle.law_one_reading.specs.Follows.{Stuck, Over}
 use Rattle.law_one_reading.proofs.BlockScalarEnds.{block_scalar_unique, comments_of, after_end}
 use Rattle.law_one_reading.proofs.Documents.{after_comments}
 use Rattle.yaml_scalar.proofs.BlockLemmas.{parts_of}
-use Rattle.law_going_on.specs.Decisions.{Goes, Here}
-use Rattle.law_going_on.proofs.Decisions.{goes_seen, goes_until}
+use Rattle.law_going_on.specs.GoingOn.{Goes, Here}
+use Rattle.law_going_on.proofs.GoingOn.{goes_seen, goes_until}
 
 false_true : (b : Bool) → b ≡ false → b ≡ true → ⊥
 false_true b e f = grind (arith, e, f)

@@ -23,7 +23,7 @@ use Rattle.law_one_reading.proofs.FlowEntries.{Facts}
 use Rattle.law_one_reading.proofs.BlockNodes.{dash_no_kind}
 use Rattle.law_one_reading.proofs.KeyContexts.{Eased}
 use Rattle.law_one_reading.proofs.BlockLevels.{Blocks, flow_start, key_start}
-use Rattle.law_going_on.specs.Decisions.{Refused, Rest}
+use Rattle.law_going_on.specs.GoingOn.{Refused, Rest}
 use Rattle.law_going_on.proofs.Separations.{Spaces, separate_on_line, separate_on_next}
 use Rattle.law_going_on.proofs.BlockLoops.{SequenceFrom, MappingFrom}
 
@@ -156,18 +156,6 @@ module _ (cs : List ℕ) (Wide : Type 0) (handles : Handles) (Open : Type 0) (in
           held h (inr u) = (j, v, inr (inr (sequence_from no_props (seq_column cs Wide handles Open inside col c) k s x j v ind n (subst (λ z. block_seq cs Wide handles Open inside no_props (seq_column cs Wide handles Open inside col c) z j v) h u)).1), e)
 
   -- ---- by the first character
-
-  pub no_line_at_dash : (E : End) (x : ℕ) → DashHere cs x → Refused OnLine E x
-  no_line_at_dash E x d = record { none = go }
-    where
-      go : (j m : ℕ) (v : List Event) → OnLine x j v → E j m → ⊥
-      go j m v (inl r) e = (flow_key x j v r).1 d
-      go j m v (inr (inl r)) e = dash_no_kind cs 4 x d (scalar_kind no_props x j v r)
-      go j m v (inr (inr (inl r))) e = dash_no_kind cs 1 x d (propped_kind (λ p. separate cs col c ▸ ScalarOf p) x j v r)
-      go j m v (inr (inr (inr r))) e = dash_no_kind cs 1 x d (propped_kind (λ p. s_l_comments cs ▸ CollectionsOf p) x j v r)
-
-  pub no_mapping_at_dash : (p : Props) (E : End) (k x : ℕ) → DashHere cs x → Refused (MappingFrom cs Wide handles Open inside k p) E x
-  no_mapping_at_dash p E k x d = record { none = λ j m v (o, (t, (a, us, vs, u, rest, y), f)) e. (map_key k x a us u).1 d }
 
   pub no_sequence : (p : Props) (E : End) (k x : ℕ) → (DashHere cs x → ⊥) → Refused (SequenceFrom cs Wide handles Open inside k p) E x
   no_sequence p E k x n = record { none = λ j m v (o, (t, (a, us, vs, u, rest, y), f)) e. n (seq_dash k x a us u) }

@@ -12,7 +12,7 @@ use Rattle.yaml_definitions.specs.grammar.Nodes.{Part, yaml_part, json_part, pai
 use Rattle.yaml_definitions.proofs.grammar.Widening.{in_reads}
 use Rattle.law_one_reading.specs.Readings.{End, Unique}
 use Rattle.law_going_on.specs.Depth.{peak}
-use Rattle.law_going_on.specs.Decisions.{Refused}
+use Rattle.law_going_on.specs.GoingOn.{Refused}
 
 -- at most r of them are opened by these events, and all are closed
 abbrev pub Level : ℕ → List Event → Type 0
@@ -263,14 +263,3 @@ module _ (cs : List ℕ) (Wide : Type 0) (handles : Handles) where
   -- no more collections are open than there was room for
   pub reads_peak : (room : ℕ) (p : Part) (i j : ℕ) (es : List Event) → reads cs Wide handles room p i j es → peak 0 es ≤ room
   reads_peak room p i j es r = level_peak room es (each_reads room p i j es r)
-
-  -- where the reading with more room opens more than there is, there is none
-  pub no_room : (less most : ℕ) → less ≤ most → (p : Part) (E : End) → Unique (reads cs Wide handles most p) E → (i x n : ℕ) (es : List Event) → reads cs Wide handles most p i x es → E x n → less < peak 0 es
-      → Refused (reads cs Wide handles less p) E i
-  no_room less most le p E one i x n es r e lt = record {
-    none = λ j m v s d.
-        let h = one i x j n m es v r e (in_reads cs Wide Wide (λ w. w) handles less most le p i j v s) d in
-        let a : peak 0 v ≤ less = reads_peak less p i j v s in
-        let b : peak 0 es ≤ less = subst (λ z. peak 0 z ≤ less) (sym h.1) a in
-        omega (arith, b, lt);
-  }

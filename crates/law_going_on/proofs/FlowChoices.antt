@@ -21,8 +21,8 @@ use Rattle.law_one_reading.proofs.PlainEnds.{stop_way}
 use Rattle.law_one_reading.proofs.FlowLevels.{closes_no_later}
 use Rattle.law_one_reading.proofs.FlowEntries.{ItemHere, PartHere, Facts, closes_solid, colon_solid, closes_colon, colon_part, value_colon, adjacent_colon, empty_key_colon, explicit_mark, implicit_start}
 use Rattle.law_going_on.specs.FlowEnds as ends
-use Rattle.law_going_on.specs.Decisions.{Refused, Goes, Rest}
-use Rattle.law_going_on.proofs.Decisions.{rest_goes, rest_refused, rest_rest, rest_left, rest_right, rest_before, rest_joined, refused_joined, refused_before, refused_either}
+use Rattle.law_going_on.specs.GoingOn.{Refused, Goes, Rest}
+use Rattle.law_going_on.proofs.GoingOn.{rest_goes, rest_refused, rest_rest, rest_left, rest_right, rest_before, rest_joined, refused_joined, refused_before, refused_either}
 use Rattle.law_going_on.proofs.Separations.{Spaces, spaces_to, separate_twice}
 use Rattle.law_going_on.proofs.PropertyChoices.{goes_gives, refused_gives}
 use Rattle.law_going_on.proofs.FlowLoops.{closes_fresh}

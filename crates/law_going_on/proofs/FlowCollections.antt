@@ -10,7 +10,7 @@ use Rattle.yaml_definitions.specs.grammar.Nodes.{Part, yaml_part, json_part, pai
 use Rattle.law_one_reading.specs.Readings.{End}
 use Rattle.law_one_reading.specs.Follows.{Solid, Fresh, Closes}
 use Rattle.law_one_reading.proofs.FlowEntries.{PartHere, Facts, item_part, entry_start}
-use Rattle.law_going_on.specs.Decisions.{Refused, Rest}
+use Rattle.law_going_on.specs.GoingOn.{Refused, Rest}
 use Rattle.law_going_on.proofs.FlowLoops.{parts_start, closes_fresh}
 use Rattle.law_one_reading.proofs.FlowNodes.{Jsons}
 

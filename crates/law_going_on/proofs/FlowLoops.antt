@@ -7,8 +7,8 @@ use Rattle.yaml_definitions.specs.grammar.Separation.{Ctx, s-separate as separat
 use Rattle.yaml_definitions.specs.model.Event.{Event}
 use Rattle.yaml_text.proofs.Runs.{same_char}
 use Rattle.law_one_reading.specs.Readings.{End, At}
-use Rattle.law_going_on.specs.Decisions.{Refused, Goes, Rest, Here}
-use Rattle.law_going_on.proofs.Decisions.{goes_refused}
+use Rattle.law_going_on.specs.GoingOn.{Refused, Goes, Rest, Here}
+use Rattle.law_going_on.proofs.GoingOn.{goes_refused}
 use Rattle.law_one_reading.proofs.Lines.{char_fresh}
 use Rattle.law_one_reading.specs.Follows.{Solid, Fresh, Closes}
 use Rattle.law_one_reading.proofs.FlowEntries.{PartHere, closes_solid}

@@ -15,8 +15,8 @@ use Rattle.law_one_reading.specs.Readings.{End}
 use Rattle.law_one_reading.proofs.TagEnds.{prop_same, prop_here, prop_inside}
 use Rattle.law_one_reading.proofs.Properties.{props_here, props_two}
 use Rattle.law_one_reading.proofs.FlowNodes.{Kind, Sign, kind_same, plain_no_kind, prop_kind, plain_start, Jsons, Plains, Aliases, YamlRest, JsonRest, jsons_start, json_parts}
-use Rattle.law_going_on.specs.Decisions.{Refused, Rest}
-use Rattle.law_going_on.proofs.Decisions.{rest_refused, refused_either}
+use Rattle.law_going_on.specs.GoingOn.{Refused, Rest}
+use Rattle.law_going_on.proofs.GoingOn.{rest_refused, refused_either}
 
 module _ (cs : List ℕ) (Wide : Type 0) (handles : Handles) (Open : Type 0) (inside : Part → Rule (List Event)) (n : ℕ) (c : Ctx) where
   abbrev Yaml : Rule (List Event)
@@ -66,13 +66,6 @@ module _ (cs : List ℕ) (Wide : Type 0) (handles : Handles) (Open : Type 0) (in
   json_kind p i j v r = jsons_start cs Wide handles Open inside n c p i j v r
 
   -- ---- a quote or an opening bracket: content of a json node
-
-  pub content_left : (E : End) (i : ℕ) → Kind cs 3 i → Rest Json E i (JsonContent no_props) E i
-  content_left E i h = record { rest = λ j m v r e. go j m v e (json_forms i j v r) }
-    where
-      go : (j m : ℕ) (v : List Event) → E j m → JsonContent no_props i j v ⊎ PropJson i j v → (k : ℕ) × (w : List Event) × JsonContent no_props i k w × E k m
-      go j m v e (inl r) = (j, v, r, e)
-      go j m v e (inr r) = absurd (two_kinds 1 3 i (λ z. omega (arith, z)) (propped_begin (JsonRest cs Wide handles Open inside n c) i j v r) h)
 
   abbrev SingleNode : Props → Rule (List Event)
   SingleNode p = scalar_of cs Wide handles Open inside p style.single (single cs n c)

@@ -20,8 +20,8 @@ use Rattle.law_one_reading.proofs.KeyContexts.{Eased}
 use Rattle.yaml_text.proofs.Runs.{run_none}
 use Rattle.law_one_reading.proofs.BlockNodes.{KeyRead}
 use Rattle.law_one_reading.proofs.BlockLevels.{Blocks, key_flow, key_parts, value_no_ns}
-use Rattle.law_going_on.specs.Decisions.{Refused, Goes, Rest, Here}
-use Rattle.law_going_on.proofs.Decisions.{rest_refused, rest_left, rest_right, goes_at, refused_either}
+use Rattle.law_going_on.specs.GoingOn.{Refused, Goes, Rest, Here}
+use Rattle.law_going_on.proofs.GoingOn.{rest_refused, rest_left, rest_right, goes_at, refused_either}
 use Rattle.law_going_on.proofs.KeyOrScalar.{node_line, node_no_line, node_no_rest, key_goes, no_colon}
 use Rattle.law_going_on.proofs.BlockLoops.{MappingFrom, Keys, Values, Pairs, Colon, mapping_keyed, mapping_no_key}
 use Rattle.law_going_on.proofs.BlockStarts.{FlowLine, map_key}

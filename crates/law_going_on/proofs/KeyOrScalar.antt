@@ -12,7 +12,7 @@ use Rattle.yaml_text.specs.Lines.{Inside}
 use Rattle.yaml_text.proofs.Runs.{run_none, run_same}
 use Rattle.yaml_text.proofs.LineRuns.{inside_no_line}
 use Rattle.law_one_reading.specs.Readings.{At, Then}
-use Rattle.law_going_on.specs.Decisions.{Refused, Goes, Here}
+use Rattle.law_going_on.specs.GoingOn.{Refused, Goes, Here}
 use Rattle.law_one_reading.proofs.Lines.{solid_no_space, past_of, past_same, past_no_run, less_stuck, sep_run, run_solid}
 use Rattle.law_one_reading.specs.Follows.{Stuck, Over, Follow, EndsNode as F, FollowRest}
 use Rattle.law_one_reading.proofs.BlockNodes.{colon_solid}
@@ -110,15 +110,6 @@ module _ (cs : List ℕ) where
       no_colon i y g x = record {
         none = λ j m v k (e, n).
             let (p, s, f, o, l, t) = key_colon i y j g (key_is i j v k) n in x p s f o l;
-      }
-
-      -- a colon, but on another line or too far off
-      pub no_fit : (i y q : ℕ) → Goes R (At (F cs col d)) i (At (F cs col d)) y → run cs is_space y q → slice_get cs q ≡ Some 58 → (OneLine cs i q × (q ≤ i + key_limit) → ⊥) → Refused Keys (At Colon) i
-      no_fit i y q g r h x = record {
-        none = λ j m v k (e, n).
-            let (p, s, f, o, l, t) = key_colon i y j g (key_is i j v k) n in
-            let u : p ≡ q = run_solid cs y p q s (colon_solid cs p f).0 r (colon_solid cs q h).0 in
-            x (subst (OneLine cs i) u o, subst (λ z. z ≤ i + key_limit) u l);
       }
 
       key_none : (i j : ℕ) → Refused R (At (F cs col d)) i → Key i j → Colon j → ⊥

@@ -1,4 +1,3 @@
-pub mod Decisions
 pub mod BlockLoops
 pub mod LineChoices
 pub mod FlowLoops
@@ -10,7 +9,6 @@ pub mod PropertyChoices
 pub mod BlockStarts
 pub mod BlockChoices
 pub mod BlockScalars
-pub mod BlockCalls
 pub mod Rooms
 pub mod NodesAgain
 pub mod FlowChoices
@@ -22,3 +20,4 @@ pub mod Depths
 pub mod PropertyLines
 pub mod OwnLines
 pub mod KeyChoices
+pub mod GoingOn

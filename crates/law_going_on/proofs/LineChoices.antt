@@ -10,7 +10,7 @@ use Rattle.law_one_reading.specs.Readings.{End}
 use Rattle.law_one_reading.specs.Follows.{Fresh, Stuck, DashHere, Over, Follow, KeyHere}
 use Rattle.law_one_reading.proofs.Lines.{solid_no_space, comments_none, dash_fresh}
 use Rattle.law_one_reading.proofs.BlockEntries.{follow_seq}
-use Rattle.law_going_on.specs.Decisions.{Goes, Rest, Here}
+use Rattle.law_going_on.specs.GoingOn.{Goes, Rest, Here}
 use Rattle.law_going_on.proofs.BlockLoops.{line_less}
 
 -- X is a node that begins in column k, S a sequence

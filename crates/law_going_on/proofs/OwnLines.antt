@@ -23,8 +23,8 @@ use Rattle.law_one_reading.proofs.KeyContexts.{Eased}
 use Rattle.law_one_reading.proofs.BlockLevels.{Blocks, entry_key}
 use Rattle.law_one_reading.proofs.Properties.{PropHere, prop, both, props_two, props_here, props_inside}
 use Rattle.law_one_reading.proofs.TagEnds.{prop_same, prop_here, prop_inside}
-use Rattle.law_going_on.specs.Decisions.{Refused, Rest}
-use Rattle.law_going_on.proofs.Decisions.{rest_rest, rest_left, rest_both}
+use Rattle.law_going_on.specs.GoingOn.{Refused, Rest}
+use Rattle.law_going_on.proofs.GoingOn.{rest_rest, rest_left, rest_both}
 use Rattle.law_going_on.proofs.PropertyChoices.{Differ, Second}
 use Rattle.law_going_on.proofs.BlockLoops.{MappingFrom}
 use Rattle.law_going_on.proofs.BlockStarts.{FlowLine, ScalarOf, OnLine, scalar_kind, flow_left, scalar_left}

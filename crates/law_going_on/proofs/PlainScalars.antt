@@ -13,7 +13,7 @@ use Rattle.law_one_reading.specs.Readings.{At}
 use Rattle.law_one_reading.proofs.BlockNodes.{colon_solid}
 use Rattle.law_one_reading.specs.Follows.{EndsNode as F}
 use Rattle.law_one_reading.proofs.PlainEnds.{stop_way, stop_rest, any_unmarked, any_after, after_inside, colon_no_later}
-use Rattle.law_going_on.specs.Decisions.{Goes}
+use Rattle.law_going_on.specs.GoingOn.{Goes}
 
 module _ (cs : List ℕ) where
   module _ (n : ℕ) (c : Ctx) (Stop : ℕ → Type 0) (none : (j o : ℕ) (xs : List ℕ) → Inside cs j → Stop j → plain_more cs n c j o xs → Unmarked cs j o → ⊥) where

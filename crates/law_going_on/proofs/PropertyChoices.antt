@@ -14,7 +14,7 @@ use Rattle.law_one_reading.specs.Follows.{Solid, Fresh, Way}
 use Rattle.law_one_reading.proofs.Properties.{NoMore, prop, prop_solid, Two, alone, pair, both, props_two, tag_props, anchor_props}
 use Rattle.law_one_reading.proofs.TagEnds.{prop_same, prop_here, prop_inside, tag_here}
 use Rattle.law_one_reading.proofs.FlowNodes.{kind_three, plain_start, jsons_start, Plains, Jsons, YamlRest, JsonRest}
-use Rattle.law_going_on.specs.Decisions.{Refused, Goes, Rest}
+use Rattle.law_going_on.specs.GoingOn.{Refused, Goes, Rest}
 use Rattle.law_going_on.proofs.Separations.{rest_separate}
 
 -- a value and nothing more goes on as it stands

@@ -23,8 +23,8 @@ use Rattle.law_one_reading.proofs.KeyContexts.{Eased}
 use Rattle.law_one_reading.proofs.BlockLevels.{Blocks, entry_key}
 use Rattle.law_one_reading.proofs.Properties.{PropHere, prop, prop_solid, Two, alone, pair, both, props_two, props_here, props_inside, props_alone, tag_props, anchor_props}
 use Rattle.law_one_reading.proofs.TagEnds.{prop_same, prop_here, prop_inside, tag_here}
-use Rattle.law_going_on.specs.Decisions.{Refused, Rest}
-use Rattle.law_going_on.proofs.Decisions.{rest_refused}
+use Rattle.law_going_on.specs.GoingOn.{Refused, Rest}
+use Rattle.law_going_on.proofs.GoingOn.{rest_refused}
 use Rattle.law_going_on.proofs.PropertyChoices.{Differ, Second, Kinds, one_prop, two_props, kinds}
 use Rattle.law_going_on.proofs.BlockLoops.{SequenceFrom, MappingFrom}
 use Rattle.law_going_on.proofs.BlockStarts.{FlowLine, ScalarOf, ProppedScalar, ProppedCollection, CollectionsOf, OnLine, scalar_kind, mapping_from, sequence_from, seq_dash}

@@ -10,8 +10,8 @@ use Rattle.yaml_text.proofs.LineRuns.{inside_no_line, end_stops}
 use Rattle.law_one_reading.specs.Readings.{End, Starts}
 use Rattle.law_one_reading.proofs.Lines.{solid_no_space, past_of, past_same, past_no_run, stuck_run, stuck_mark, sep_run, way_any, way_maybe, past_then}
 use Rattle.law_one_reading.specs.Follows.{Solid, Fresh, Stuck, Past, Way}
-use Rattle.law_going_on.specs.Decisions.{Refused, Rest}
-use Rattle.law_going_on.proofs.Decisions.{rest_before, refused_before}
+use Rattle.law_going_on.specs.GoingOn.{Refused, Rest}
+use Rattle.law_going_on.proofs.GoingOn.{rest_before, refused_before}
 
 -- the contexts in which separation is spaces alone (7.4)
 abbrev pub IsKey : Ctx → Type 0

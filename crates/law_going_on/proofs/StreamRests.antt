@@ -16,7 +16,7 @@ use Rattle.law_one_reading.specs.Follows.{Comments, Stuck, Less, Follow}
 use Rattle.law_one_reading.proofs.Directives.{Percent, directives_unique, directives_start}
 use Rattle.law_one_reading.proofs.Documents.{Tail, View, v_over, v_dots, v_shown, v_bare, v_directed, E0, stream_tail, view, lands, lands_false, line_of, mark_inside, suffix_mark, suffix_past, shown_mark, directive_percent, after_comments, marks_apart, mark_end, mark_percent, bare_no_mark, bare_no_end, bare_no_percent, dots_mark_is, dashes_mark_is, percent_end}
 use Rattle.law_one_reading.proofs.Documents as documents
-use Rattle.law_going_on.specs.Decisions.{Refused, Goes, Rest, Here}
+use Rattle.law_going_on.specs.GoingOn.{Refused, Goes, Rest, Here}
 use Rattle.law_going_on.proofs.NodesAgain.{root_again}
 
 module _ (cs : List ℕ) (Wide : Type 0) (room : ℕ) where

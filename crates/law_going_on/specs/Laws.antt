@@ -10,7 +10,7 @@ use Rattle.yaml_definitions.specs.grammar.Tags.{Handles}
 use Rattle.yaml_definitions.specs.grammar.Nodes.{Part, reads}
 use Rattle.law_one_reading.specs.Readings.{At}
 use Rattle.law_one_reading.specs.Follows.{Stuck, Over, EndsNode}
-use Rattle.law_going_on.specs.Decisions.{Goes, Here}
+use Rattle.law_going_on.specs.GoingOn.{Goes, Here}
 use Rattle.law_going_on.specs.FlowEnds.{EndsYaml}
 use Rattle.law_going_on.specs.Depth.{peak}
 

@@ -1,4 +1,4 @@
-pub mod Decisions
 pub mod FlowEnds
 pub mod Depth
 pub mod Laws
+pub mod GoingOn

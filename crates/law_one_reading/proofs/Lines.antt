@@ -7,7 +7,7 @@ use Rattle.yaml_definitions.specs.grammar.Rules.{Span, maybe, Spans, Stands, run
 use Rattle.yaml_definitions.specs.grammar.Characters.{is_space, is_ns, is_nb, is_break, is_white}
 use Rattle.yaml_definitions.specs.grammar.Separation.{Ctx, block_out, block_in, flow_out, flow_in, block_key, flow_key, StartsLine, AtEnd, DocumentMark, s-indent as indent, s-separate-in-line as sep, s-b-comment as s_b_comment, b-comment as line_end, l-comment as l_comment, s-l-comments as s_l_comments, s-separate-lines as separate_lines, s-separate as separate}
 use Rattle.yaml_definitions.proofs.grammar.Forward.{on_s_l_comments}
-use Rattle.yaml_text.specs.Lines.{LooksLikeMarker as Dashes, AfterLine, Inside, blank_rest}
+use Rattle.yaml_text.specs.Lines.{LooksLikeMarker, AfterLine, Inside, blank_rest}
 use Rattle.yaml_text.proofs.Runs.{same_char, no_stand, run_none, run_same}
 use Rattle.yaml_text.proofs.Breaks.{run_join, mark_dashes, mark_ns}
 use Rattle.yaml_text.proofs.LineRuns.{inside_no_line, end_stops, indent_run, indent_place}
@@ -61,7 +61,7 @@ module _ (cs : List ℕ) where
   pub dash_fresh : (p : ℕ) → DashHere p → Fresh p
   dash_fresh p (h, n) = (((45, h, ns_dash), λ g. let e : 45 ≡ 35 = same_char cs p 45 35 h g in omega (arith, e)), λ m. go (mark_dashes cs p m))
     where
-      go : Dashes cs p → ⊥
+      go : LooksLikeMarker cs p → ⊥
       go (inl (a, b, c, d)) = n (45, b, ns_dash)
       go (inr (a, b, c, d)) = let e : 45 ≡ 46 = same_char cs p 45 46 h a in omega (arith, e)
 
@@ -69,7 +69,7 @@ module _ (cs : List ℕ) where
   pub char_fresh : (i c : ℕ) → slice_get cs i ≡ Some c → is_ns c ≡ true → (c ≡ 35 → ⊥) → (c ≡ 45 → ⊥) → (c ≡ 46 → ⊥) → Fresh i
   char_fresh i c h s a b d = ((((c, h, s), λ g. a (same_char cs i c 35 h g)), λ m. go (mark_dashes cs i m)))
     where
-      go : Dashes cs i → ⊥
+      go : LooksLikeMarker cs i → ⊥
       go (inl (x, y, z, w)) = b (same_char cs i c 45 h x)
       go (inr (x, y, z, w)) = d (same_char cs i c 46 h x)
 
@@ -96,7 +96,7 @@ module _ (cs : List ℕ) where
   mark_solid : (i : ℕ) → DocumentMark cs i → Solid i
   mark_solid i m = (mark_ns cs i m, λ g. go g (mark_dashes cs i m))
     where
-      go : slice_get cs i ≡ Some 35 → Dashes cs i → ⊥
+      go : slice_get cs i ≡ Some 35 → LooksLikeMarker cs i → ⊥
       go g (inl (a, b, c, d)) = let e : 35 ≡ 45 = same_char cs i 35 45 g a in omega (arith, e)
       go g (inr (a, b, c, d)) = let e : 35 ≡ 46 = same_char cs i 35 46 g a in omega (arith, e)
 

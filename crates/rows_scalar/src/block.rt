@@ -158,7 +158,7 @@ fn block_scalars_are_read(rt: HostRuntime) -> Result<(), Fail> {
     Ok(())
 }
 
-static REFUSED: [NoBlock; 15] = [
+static REFUSED: [NoBlock; 20] = [
     ("a", 0, 0, "4 Syntax at byte 0"),
     ("", 0, 0, "4 Syntax at byte 0"),
     ("|#c", 0, 0, "4 Syntax at byte 1"),
@@ -171,6 +171,11 @@ static REFUSED: [NoBlock; 15] = [
     ("|- \t# c", 0, 0, "5 Tab at byte 3"),
     ("|1\n a", 0, -1, "4 Syntax at byte 1"),
     ("|-1\n a", 0, -1, "4 Syntax at byte 2"),
+    ("|2a", 0, -1, "4 Syntax at byte 1"),
+    ("|2\t", 0, -1, "4 Syntax at byte 1"),
+    ("|+2a", 0, -1, "4 Syntax at byte 2"),
+    ("|2a", 0, 0, "4 Syntax at byte 2"),
+    ("|2\t", 0, 0, "5 Tab at byte 2"),
     ("x: |\n   \n a", 3, 0, "4 Syntax at byte 10"),
     ("x: |\n   \n \ta", 3, 0, "5 Tab at byte 10"),
     ("\u{FEFF}|x", 0, 0, "4 Syntax at byte 4"),

@@ -1,7 +1,7 @@
 //! Vectors: what the productions do not go on with.
 use crate::rows::Refused;
 
-pub static ROWS: [Refused; 33] = [
+pub static ROWS: [Refused; 36] = [
     Refused {
         input: "a: b: c",
         message: "4 Syntax at byte 4",
@@ -133,5 +133,17 @@ pub static ROWS: [Refused; 33] = [
     Refused {
         input: "*",
         message: "4 Syntax at byte 1",
+    },
+    Refused {
+        input: "|2a",
+        message: "4 Syntax at byte 1",
+    },
+    Refused {
+        input: "|2\t",
+        message: "4 Syntax at byte 1",
+    },
+    Refused {
+        input: "%x\n a",
+        message: "4 Syntax at byte 4",
     },
 ];

@@ -1,7 +1,7 @@
 //! Vectors: tabs where spaces stand.
 use crate::rows::Refused;
 
-pub static ROWS: [Refused; 12] = [
+pub static ROWS: [Refused; 14] = [
     Refused {
         input: "a:\tb",
         message: "5 Tab at byte 2",
@@ -49,5 +49,13 @@ pub static ROWS: [Refused; 12] = [
     Refused {
         input: "---\ta",
         message: "5 Tab at byte 3",
+    },
+    Refused {
+        input: "%x\n\ta",
+        message: "5 Tab at byte 3",
+    },
+    Refused {
+        input: "%x\n \ta",
+        message: "5 Tab at byte 4",
     },
 ];

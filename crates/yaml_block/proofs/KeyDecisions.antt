@@ -17,12 +17,12 @@ use Rattle.law_one_reading.proofs.KeyContexts.{reads_eased, at_block}
 use Rattle.law_one_reading.proofs.BlockLevels.{one_more, reads_blocks}
 use Rattle.law_one_reading.proofs.Properties.{props_here, props_two}
 use Rattle.law_one_reading.proofs.TagEnds.{prop_same, prop_here, prop_inside}
-use Rattle.law_going_on.specs.Decisions.{Refused, Goes, Here}
+use Rattle.law_going_on.specs.GoingOn.{Refused, Goes, Here}
 use Rattle.law_going_on.proofs.KeyOrScalar.{key_goes, no_colon, no_node}
 use Rattle.law_going_on.proofs.KeyChoices.{keys_refused}
 use Rattle.law_going_on.proofs.BlockProperties.{no_key_over}
 use Rattle.law_going_on.proofs.PropertyLines.{no_flow_barred}
-use Rattle.yaml_flow.specs.Decisions.{Barred, IsOnly, IsRefused}
+use Rattle.yaml_flow.specs.PropertyDecisions.{Barred, IsOnly, IsRefused}
 use Rattle.yaml_flow.specs.Held.{Counts, Keeps, Puts, Alters}
 use Rattle.yaml_flow.specs.Keys.{ColonAfter}
 use Rattle.yaml_flow.specs.PropertyRules.{SomeProperties}

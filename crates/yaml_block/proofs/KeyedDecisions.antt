@@ -16,8 +16,8 @@ use Rattle.law_one_reading.proofs.FlowNodes.{Kind as Begins, kind_fresh, prop_ki
 use Rattle.law_one_reading.proofs.BlockNodes.{dash_no_kind, dash_no_plain}
 use Rattle.law_one_reading.proofs.BlockLevels.{flow_inside}
 use Rattle.law_one_reading.proofs.Properties.{PropHere, prop_solid}
-use Rattle.law_going_on.specs.Decisions.{Refused, Goes, Rest, Here}
-use Rattle.law_going_on.proofs.Decisions.{rest_rest, rest_goes, rest_refused, goes_within, refused_within}
+use Rattle.law_going_on.specs.GoingOn.{Refused, Goes, Rest, Here}
+use Rattle.law_going_on.proofs.GoingOn.{rest_rest, rest_goes, rest_refused, goes_within, refused_within}
 use Rattle.law_going_on.proofs.BlockStarts.{ScalarOf, scalar_kind}
 use Rattle.law_going_on.proofs.BlockProperties.{Contents, contents_fresh}
 use Rattle.law_going_on.proofs.PropertyChoices.{Second}
@@ -25,7 +25,7 @@ use Rattle.law_going_on.proofs.LineChoices.{LineRest, line_over, dash_short, lin
 use Rattle.law_going_on.proofs.BlockLines.{under_line}
 use Rattle.law_going_on.proofs.BlockLoops.{MappingFrom}
 use Rattle.law_going_on.proofs.KeyChoices.{NoKey, no_flow, no_key_left, no_key_mapping, line_goes, line_not_over, neither, key_left, keyed_left}
-use Rattle.yaml_flow.specs.Decisions.{IsOnly, IsRefused}
+use Rattle.yaml_flow.specs.PropertyDecisions.{IsOnly, IsRefused}
 use Rattle.yaml_flow.specs.FlowRules.{opens, below, flow_from, part_of}
 use Rattle.yaml_flow.specs.Keys.{ColonAfter}
 use Rattle.yaml_flow.specs.Lines.{IsBlock}

@@ -5,7 +5,7 @@ use Rattle.std.proofs.Math.Nat.{eq-or-lt_of_le}
 use Rattle.std.proofs.lemmas.Option.{slice_get_within}
 use Rattle.yaml_text.specs.Source.{text_of, place_of}
 use Rattle.yaml_text.specs.declared.chars.Chars.{Chars}
-use Rattle.yaml_text.specs.Lines.{AfterLine, Inside, LooksLikeMarker as Dashes}
+use Rattle.yaml_text.specs.Lines.{AfterLine, Inside, LooksLikeMarker}
 use Rattle.yaml_definitions.specs.grammar.Rules.{run, Stands}
 use Rattle.yaml_definitions.specs.grammar.Characters.{is_ns, is_space, is_nb, is_break}
 use Rattle.yaml_definitions.specs.grammar.Separation.{s-indent as indent, AtEnd, DocumentMark, StartsLine, s-l-comments as s_l_comments}
@@ -75,11 +75,11 @@ module _ (s : Chars) (line : Line) (is : IsLine s line) where
 
   -- ---- no content
 
-  dashes_char : (i : ℕ) → Dashes Cs i → (c : ℕ) × (slice_get Cs i ≡ Some c) × (c ≡ 32 → ⊥)
+  dashes_char : (i : ℕ) → LooksLikeMarker Cs i → (c : ℕ) × (slice_get Cs i ≡ Some c) × (c ≡ 32 → ⊥)
   dashes_char i (inl (h, r, t, n)) = (45, h, λ e. omega (arith, e))
   dashes_char i (inr (h, r, t, n)) = (46, h, λ e. omega (arith, e))
 
-  dashes_first : Dashes Cs Start → First ≡ Start
+  dashes_first : LooksLikeMarker Cs Start → First ≡ Start
   unfolding is_space
   dashes_first d = go (eq-or-lt_of_le (indent_run Cs line.column Start First is.spaces).0)
     where
@@ -90,7 +90,7 @@ module _ (s : Chars) (line : Line) (is : IsLine s line) where
           no_space : Stands Cs is_space Start → (c : ℕ) × (slice_get Cs Start ≡ Some c) × (c ≡ 32 → ⊥) → First ≡ Start
           no_space (x, h, t) (c, g, n) = let e : c ≡ x = same_char Cs Start c x g h in let y : x ≡ 32 = grind (arith, t) in absurd (n (e ∙ y))
 
-  pub no_content : AfterLine Cs Start → (First ≡ length Cs) ⊎ Dashes Cs Start → Fresh Cs First → ⊥
+  pub no_content : AfterLine Cs Start → (First ≡ length Cs) ⊎ LooksLikeMarker Cs Start → Fresh Cs First → ⊥
   no_content a (inl e) f = end_stops Cs is_ns First e f.0.0
   no_content (inl st) (inr d) f = f.1 (subst (DocumentMark Cs) (sym (dashes_first d)) (mark_is Cs Start st d))
   no_content (inr e) (inr d) f = let (c, h, n) = dashes_char Start d in let l : Start < length Cs = slice_get_within Cs Start c h in omega (arith, e, l)
@@ -104,7 +104,7 @@ module _ (s : Chars) (line : Line) (is : IsLine s line) where
       go (inl f) = n (sym f ∙ e)
       go (inr lt) = end_stops Cs is_space Start e ((indent_run Cs line.column Start First is.spaces).1 Start (omega arith) lt)
 
-  pub no_mark : (Dashes Cs Start → ⊥) → DocumentMark Cs Start → ⊥
+  pub no_mark : (LooksLikeMarker Cs Start → ⊥) → DocumentMark Cs Start → ⊥
   no_mark n m = n (mark_dashes Cs Start m)
 
   -- ---- dashes

@@ -16,8 +16,8 @@ use Rattle.law_one_reading.specs.Follows.{Fresh, Stuck, DashHere, Dash, Less, Ke
 use Rattle.law_one_reading.proofs.FlowLevels.{reads_facts}
 use Rattle.law_one_reading.proofs.KeyContexts.{reads_eased}
 use Rattle.law_one_reading.proofs.BlockLevels.{one_more, reads_blocks}
-use Rattle.law_going_on.specs.Decisions.{Refused, Goes, Rest, Here}
-use Rattle.law_going_on.proofs.Decisions.{goes_at, goes_until, refused_until}
+use Rattle.law_going_on.specs.GoingOn.{Refused, Goes, Rest, Here}
+use Rattle.law_going_on.proofs.GoingOn.{goes_at, goes_until, refused_until}
 use Rattle.law_going_on.proofs.BlockLoops.{Right, line_less, sequence_first, sequence_no_first, sequence_more, sequence_no_more, sequence_done, sequence_further, values_first, values_refused, mapping_more, mapping_no_more, mapping_no_value, mapping_done, mapping_further, Colon}
 use Rattle.law_going_on.proofs.KeyChoices.{value_starts, key_starts}
 use Rattle.yaml_flow.specs.Lines.{IsLine}
@@ -113,6 +113,3 @@ module _ (s : Chars) (handles : Handles) (r : ℕ) (line : Line) (k : ℕ) (is :
 
   pub not_less : line.column ≡ k → (AtEnd (text_of s) (place_of s line.start) → ⊥) → (DocumentMark (text_of s) (place_of s line.start) → ⊥) → Less (text_of s) k (place_of s line.start) → ⊥
   not_less e n m = line_less (text_of s) k line.column (place_of s line.start) (place_of s line.first) is.spaces is.all (omega (arith, e)) n m
-
-pub seq_no_room : (cs : List ℕ) (handles : Handles) (room k : ℕ) (p : Props) (E : End) (i : ℕ) → room ≡ 0 → Refused (sequence_with cs (Unit {0}) handles p room k) E i
-seq_no_room cs handles room k p E i e = subst (λ n. Refused (sequence_with cs (Unit {0}) handles p n k) E i) (sym e) (record { none = λ j m v (o, t) f. o })

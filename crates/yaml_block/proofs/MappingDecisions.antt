@@ -5,9 +5,9 @@ use Rattle.yaml_text.specs.Lines.{Inside}
 use Rattle.yaml_definitions.specs.grammar.Separation.{Ctx, block_key, flow_out, s-l-comments as s_l_comments}
 use Rattle.yaml_definitions.specs.grammar.Tags.{Handles}
 use Rattle.yaml_definitions.specs.grammar.Events.{Props}
-use Rattle.law_going_on.specs.Decisions.{Refused, Rest}
-use Rattle.law_going_on.proofs.Decisions.{rest_rest, rest_refused}
-use Rattle.yaml_flow.specs.Decisions.{AllProperties, LineGoesOn, IsOnly}
+use Rattle.law_going_on.specs.GoingOn.{Refused, Rest}
+use Rattle.law_going_on.proofs.GoingOn.{rest_rest, rest_refused}
+use Rattle.yaml_flow.specs.PropertyDecisions.{AllProperties, LineGoesOn, IsOnly}
 use Rattle.yaml_flow.specs.FlowRules.{flow_from}
 use Rattle.yaml_flow.specs.Keys.{ColonAfter}
 use Rattle.yaml_flow.specs.Lines.{IsBlock}

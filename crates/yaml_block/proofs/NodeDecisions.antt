@@ -16,8 +16,8 @@ use Rattle.law_one_reading.specs.Follows.{Stuck, Follow, DashHere}
 use Rattle.law_one_reading.proofs.FlowNodes.{Kind, Sign}
 use Rattle.law_one_reading.proofs.Properties.{PropHere, prop, prop_solid, both, props_two, props_here, props_inside}
 use Rattle.law_one_reading.proofs.TagEnds.{prop_same, prop_here, prop_inside}
-use Rattle.law_going_on.specs.Decisions.{Refused, Rest}
-use Rattle.law_going_on.proofs.Decisions.{rest_rest, rest_refused, refused_either}
+use Rattle.law_going_on.specs.GoingOn.{Refused, Rest}
+use Rattle.law_going_on.proofs.GoingOn.{rest_rest, rest_refused, refused_either}
 use Rattle.law_going_on.proofs.Separations.{separate_on_next, separate_short}
 use Rattle.law_going_on.proofs.PropertyChoices.{Second, no_second}
 use Rattle.law_going_on.proofs.BlockLoops.{line_less}
@@ -26,7 +26,7 @@ use Rattle.law_going_on.proofs.BlockProperties.{Under}
 use Rattle.law_going_on.proofs.PropertyLines.{Upper, one_line_above, two_lines_above, upper_left, upper_clash, upper_barred, no_forms_barred, no_mapping_barred}
 use Rattle.law_going_on.proofs.OwnLines as own
 use Rattle.law_going_on.proofs.OwnLines.{MappingIn, FlowOrKey, mapping_refused, flow_or_key, scalar_here, own_flow_or_key, own_scalar, no_mapping_in, above_flow_or_key, above_scalar, above_alias, both_flow_or_key, both_scalar, no_key_signed}
-use Rattle.yaml_flow.specs.Decisions.{AllProperties, Barred, IsProperty, LineGoesOn}
+use Rattle.yaml_flow.specs.PropertyDecisions.{AllProperties, Barred, IsProperty, LineGoesOn}
 use Rattle.yaml_flow.specs.FlowRules.{opens, below}
 use Rattle.yaml_flow.specs.Lines.{IsBlock}
 use Rattle.yaml_flow.specs.PropertyRules.{SomeProperties, Disjoint, both_props}

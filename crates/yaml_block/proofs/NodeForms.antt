@@ -11,7 +11,7 @@ use Rattle.law_one_reading.specs.Readings.{End}
 use Rattle.law_one_reading.specs.Follows.{DashHere, KeyHere}
 use Rattle.law_one_reading.proofs.FlowNodes.{Kind, kind_fresh}
 use Rattle.law_one_reading.proofs.BlockNodes.{dash_no_kind}
-use Rattle.law_going_on.specs.Decisions.{Rest}
+use Rattle.law_going_on.specs.GoingOn.{Rest}
 use Rattle.law_going_on.proofs.BlockLoops.{SequenceFrom, MappingFrom}
 use Rattle.law_going_on.proofs.BlockStarts.{OnLine, FlowLine, ScalarOf, CollectionsOf, flow_key, scalar_kind, propped_kind, map_key, seq_dash}
 use Rattle.law_going_on.proofs.OwnLines.{MappingIn}

@@ -51,9 +51,6 @@ none_both q = λ z. record { anchor = anchor_none q.anchor z; tag = tag_none q.t
     tag_none non_specific = refl
     tag_none (full t) = refl
 
-pub both_none : (p : Props) → both_props p no_props ≡ p
-both_none p = refl
-
 -- an own property takes one of those that were left
 pub fewer_left : (p q : Props) → Disjoint p q → (q ≡ no_props → ⊥) → properties_left (both_props p q) < properties_left p
 fewer_left p q apart some = go p.anchor q.anchor p.tag q.tag apart.0 apart.1 (λ a t. some (λ z. record { anchor = a z; tag = t z }))

@@ -13,11 +13,11 @@ use Rattle.law_one_reading.proofs.Lines.{less_stuck}
 use Rattle.law_one_reading.proofs.FlowLevels.{reads_facts}
 use Rattle.law_one_reading.proofs.KeyContexts.{reads_eased}
 use Rattle.law_one_reading.proofs.BlockLevels.{one_more, reads_blocks}
-use Rattle.law_going_on.specs.Decisions.{Refused, Goes, Rest, Here}
-use Rattle.law_going_on.proofs.Decisions.{rest_goes, rest_refused, goes_until, refused_until}
+use Rattle.law_going_on.specs.GoingOn.{Refused, Goes, Rest, Here}
+use Rattle.law_going_on.proofs.GoingOn.{rest_goes, rest_refused, goes_until, refused_until}
 use Rattle.law_going_on.proofs.BlockLoops.{mapping_no_key}
 use Rattle.law_going_on.proofs.KeyChoices.{value_starts, key_starts}
-use Rattle.yaml_flow.specs.Answer.{Decides}
+use Rattle.yaml_flow.specs.NodeAnswer.{Decides}
 use Rattle.yaml_flow.specs.Lines.{IsBlock}
 use Rattle.yaml_block.specs.BlockRules.{block_scalar_rest}
 use Rattle.yaml_block.specs.BlockEnds.{AfterNode, AfterScalar, SignIs, IsStyleSign}

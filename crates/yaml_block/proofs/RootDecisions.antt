@@ -11,8 +11,8 @@ use Rattle.yaml_definitions.specs.grammar.Streams.{l-bare-document as bare_docum
 use Rattle.yaml_text.proofs.LineRuns.{indent_place}
 use Rattle.law_one_reading.specs.Readings.{End}
 use Rattle.law_one_reading.specs.Follows.{Stuck, DashHere}
-use Rattle.law_going_on.specs.Decisions.{Rest}
-use Rattle.law_going_on.proofs.Decisions.{rest_rest, rest_left, rest_right}
+use Rattle.law_going_on.specs.GoingOn.{Rest}
+use Rattle.law_going_on.proofs.GoingOn.{rest_rest, rest_left, rest_right}
 use Rattle.law_going_on.proofs.BlockStarts.{OnOwnLine, node_below}
 use Rattle.yaml_flow.specs.FlowRules.{opens, below}
 use Rattle.yaml_flow.proofs.FlowLemmas.{from_reads}

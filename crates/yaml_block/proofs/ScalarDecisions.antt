@@ -1,7 +1,7 @@
 -- Block scalars: by the sign that they begin with one of the two kinds is left, whatever their properties.
 use Rattle.std.proofs.Common.{◌≡◌, ℕ, inl, inr, List, Bool, true, false, Some, refl, sym, ◌∙◌, subst, arith}
 use Rattle.std.specs.Prelude.{slice_get}
-use Rattle.yaml_text.specs.Answer.{Unread, FurthestAlone}
+use Rattle.yaml_text.specs.LeafAnswer.{Unread, FurthestAlone}
 use Rattle.yaml_definitions.specs.model.Event.{Event}
 use Rattle.yaml_definitions.specs.grammar.Rules.{Stands}
 use Rattle.yaml_definitions.specs.grammar.Characters.{is_space}
@@ -13,7 +13,7 @@ use Rattle.law_one_reading.specs.Readings.{End}
 use Rattle.law_one_reading.specs.Follows.{Stuck}
 use Rattle.law_one_reading.proofs.FlowNodes.{Kind, Sign, kind_fresh}
 use Rattle.law_one_reading.proofs.Lines.{solid_no_space}
-use Rattle.law_going_on.specs.Decisions.{Refused, Goes, Here}
+use Rattle.law_going_on.specs.GoingOn.{Refused, Goes, Here}
 use Rattle.law_going_on.proofs.BlockScalars.{furthest_stuck, block_scalar_goes}
 use Rattle.yaml_block.specs.BlockRules.{block_scalar_rest}
 use Rattle.yaml_block.specs.BlockEnds.{AfterScalar, IsStyleSign}

@@ -14,8 +14,8 @@ use Rattle.law_one_reading.specs.Follows.{Fresh, Stuck, DashHere, KeyHere}
 use Rattle.law_one_reading.proofs.BlockEntries.{follow_less, follow_seq, less_dash}
 use Rattle.law_one_reading.proofs.FlowNodes.{kind_fresh}
 use Rattle.law_one_reading.proofs.BlockLevels.{reads_blocks}
-use Rattle.law_going_on.specs.Decisions.{Refused, Goes, Rest, Here}
-use Rattle.law_going_on.proofs.Decisions.{rest_rest, rest_refused, rest_left, rest_right, refused_either}
+use Rattle.law_going_on.specs.GoingOn.{Refused, Goes, Rest, Here}
+use Rattle.law_going_on.proofs.GoingOn.{rest_rest, rest_refused, rest_left, rest_right, refused_either}
 use Rattle.law_going_on.proofs.Separations.{separate_on_line}
 use Rattle.law_going_on.proofs.BlockLoops.{compact_sequence, compact_mapping}
 use Rattle.law_going_on.proofs.LineChoices.{line_over, dash_short, line_short, dash_left, node_left as own_left}

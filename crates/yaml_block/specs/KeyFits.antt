@@ -4,7 +4,7 @@ use Rattle.yaml_definitions.specs.model.Event.{Event}
 use Rattle.yaml_definitions.specs.grammar.Separation.{flow_out}
 use Rattle.yaml_definitions.specs.grammar.Tags.{Handles}
 use Rattle.yaml_definitions.specs.grammar.Events.{Props}
-use Rattle.yaml_flow.specs.Decisions.{IsRefused}
+use Rattle.yaml_flow.specs.PropertyDecisions.{IsRefused}
 use Rattle.yaml_flow.specs.FlowRules.{Bare}
 use Rattle.yaml_flow.specs.declared.flow.Kind.{Kind}
 use Rattle.yaml_flow.specs.declared.flow.Kind.TheVariants.{Yaml, Json}

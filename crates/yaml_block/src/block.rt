@@ -17,13 +17,14 @@ ghost use Rattle.yaml_definitions.specs.grammar.Events.{e-scalar as empty, no_pr
 ghost use Rattle.yaml_text.specs.declared.fault.Fault.TheVariants.{OutOfMemory};
 ghost use Rattle.yaml_scalar.specs.BlockModel.{column};
 ghost use Rattle.yaml_mark.specs.HandlesModel.{handles_of};
-ghost use Rattle.yaml_text.specs.Answer.{IsRefusal};
+ghost use Rattle.yaml_text.specs.LeafAnswer.{IsRefusal};
+ghost use Rattle.yaml_text.specs.Placed.{IsPlaced};
 ghost use Rattle.law_one_reading.specs.Follows.{DashHere, Dash};
-ghost use Rattle.law_going_on.specs.Decisions.{Here};
-ghost use Rattle.yaml_flow.specs.Answer.{Appends, Decides};
+ghost use Rattle.law_going_on.specs.GoingOn.{Here};
+ghost use Rattle.yaml_flow.specs.NodeAnswer.{Appends, Decides};
 ghost use Rattle.yaml_flow.specs.Held.{Puts, Alters};
 ghost use Rattle.yaml_flow.specs.SinkModel.{holds_of};
-ghost use Rattle.yaml_flow.specs.Decisions.{AllProperties, LineGoesOn, IsOnly};
+ghost use Rattle.yaml_flow.specs.PropertyDecisions.{AllProperties, LineGoesOn, IsOnly};
 ghost use Rattle.yaml_flow.specs.Lines.{IsLine, IsDash, IsBlock};
 ghost use Rattle.yaml_flow.specs.Keys.{ColonAfter};
 ghost use Rattle.yaml_flow.specs.PropertyRules.{props_of, both_props, dressed, Disjoint, SomeProperties, Own};
@@ -35,7 +36,7 @@ ghost use Rattle.yaml_block.specs.KeyFits.{FitsAgain, NoneBelow};
 use std::alloc::Global;
 use yaml_flow::flow::{FlowNode, read_bare, read_flow_node};
 use yaml_flow::key::{Fit, key_fit};
-use yaml_flow::line::{Line, has_content, line_at, next_line, skip_comments};
+use yaml_flow::line::{Line, has_content, line_at, next_line, skip_line_rest};
 use yaml_flow::properties::{Properties, read_properties};
 use yaml_flow::push::{
     insert_block_mapping, push_block_sequence, push_empty, push_mapping_end, push_scalar,
@@ -106,6 +107,7 @@ fn read_literal_node<'a, K: Keeper>(
     ensures reads { Appends (λ _. block_scalar_rest (text_of source.now) no_props col) (place_of source.now at) (λ line. place_of source.now line.start) (holds_of K.holds) out.old out.new result }
     ensures after { IfOk result (λ line. AfterLine (text_of source.now) (place_of source.now line.start)) }
     ensures decides { Decides (block_scalar_rest (text_of source.now) no_props col) (AfterScalar (text_of source.now)) (place_of source.now at) Here (λ line. place_of source.now line.start) result }
+    ensures placed { IfErr result (IsPlaced source.now) }
 {
     let (text, end) = read_literal(alloc, source, at, parent(col), Ctx::BlockIn)?;
     push_scalar(out, Style::Literal, text, at)?;
@@ -129,6 +131,7 @@ fn read_folded_node<'a, K: Keeper>(
     ensures reads { Appends (λ _. block_scalar_rest (text_of source.now) no_props col) (place_of source.now at) (λ line. place_of source.now line.start) (holds_of K.holds) out.old out.new result }
     ensures after { IfOk result (λ line. AfterLine (text_of source.now) (place_of source.now line.start)) }
     ensures decides { Decides (block_scalar_rest (text_of source.now) no_props col) (AfterScalar (text_of source.now)) (place_of source.now at) Here (λ line. place_of source.now line.start) result }
+    ensures placed { IfErr result (IsPlaced source.now) }
 {
     let (text, end) = read_folded(alloc, source, at, parent(col), Ctx::BlockIn)?;
     push_scalar(out, Style::Folded, text, at)?;
@@ -159,6 +162,7 @@ fn read_bare_scalar<'a, K: Keeper>(
     ensures reads { Appends (λ _. block_scalar_rest (text_of source.now) no_props col) (place_of source.now at) (λ line. place_of source.now line.start) (holds_of K.holds) out.old out.new result }
     ensures after { IfOk result (λ line. AfterLine (text_of source.now) (place_of source.now line.start)) }
     ensures decides { Decides (block_scalar_rest (text_of source.now) no_props col) (AfterScalar (text_of source.now)) (place_of source.now at) Here (λ line. place_of source.now line.start) result }
+    ensures placed { IfErr result (IsPlaced source.now) }
 {
     match block {
         Block::Literal => read_literal_node(alloc, source, at, col, out),
@@ -184,6 +188,7 @@ fn read_block_scalar<'a, K: Keeper>(
     ensures reads { Appends (λ _. block_scalar_rest (text_of source.now) (props_of properties.entry) col) (place_of source.now at) (λ line. place_of source.now line.start) (holds_of K.holds) out.old out.new result }
     ensures after { IfOk result (λ line. AfterLine (text_of source.now) (place_of source.now line.start)) }
     ensures decides { Decides (block_scalar_rest (text_of source.now) (props_of properties.entry) col) (AfterScalar (text_of source.now)) (place_of source.now at) Here (λ line. place_of source.now line.start) result }
+    ensures placed { IfErr result (IsPlaced source.now) }
 {
     let start = out.mark();
     out.announce(&properties);
@@ -250,6 +255,7 @@ fn goes_on(source: &Chars<'_>, line: Line, column: usize) -> Result<bool, Fault>
     ensures over { IfOk result (λ is_next. OnFalse is_next (NoneIn source.now line column)) }
     ensures err { IfErr result IsRefusal }
     ensures further { IfErr result (λ _. IsFurther source.now line column) }
+    ensures placed { IfErr result (IsPlaced source.now) }
 {
     if !has_content(source, line) {
         return Ok(false);
@@ -272,6 +278,7 @@ fn next_dash(source: &Chars<'_>, line: Line, column: usize) -> Result<Option<usi
     ensures none { IfOk result (λ found. IfNone found (Dash (text_of source.now) column (place_of source.now line.start) → ⊥)) }
     ensures err { IfErr result IsRefusal }
     ensures further { IfErr result (λ _. IsFurther source.now line column) }
+    ensures placed { IfErr result (IsPlaced source.now) }
 {
     if !goes_on(source, line, column)? {
         return Ok(None);
@@ -299,6 +306,7 @@ fn first_colon(
     ensures none { IfOk result (λ found. IfNone found ((column ≡ None) ⊎ IsNoKey (text_of source.now) (place_of source.now at) (place_of source.now end))) }
     ensures err { IfErr result IsRefusal }
     ensures long { IfErr result (λ _. ColonStands (text_of source.now) (place_of source.now end) × IsNoKey (text_of source.now) (place_of source.now at) (place_of source.now end)) }
+    ensures placed { IfErr result (IsPlaced source.now) }
 {
     match column {
         None => Ok(None),
@@ -325,7 +333,7 @@ fn line_goes_on(source: &Chars<'_>, end: usize, own: &Properties<'_>) -> bool
     if own.is_none() {
         return true;
     }
-    match skip_comments(source, end) {
+    match skip_line_rest(source, end) {
         None => true,
         Some(_) => false,
     }
@@ -348,6 +356,7 @@ fn read_entry_key<'a, K: Keeper>(
     ensures onward { IfOk result (λ to. at < to) }
     ensures reads { Appends (λ _. key_rest (text_of source.now) (Unit {0}) (handles_of handles.entry) room) (place_of source.now at) (place_of source.now) (holds_of K.holds) out.old out.new result }
     ensures decides { Decides (key_rest (text_of source.now) (Unit {0}) (handles_of handles.entry) room) (AfterColon (text_of source.now)) (place_of source.now at) Here (place_of source.now) result }
+    ensures placed { IfErr result (IsPlaced source.now) }
 {
     let begin = out.mark();
     let (own, end) = read_properties(alloc, source, at, 0, Ctx::BlockKey, handles)?;
@@ -377,7 +386,8 @@ fn key_fault<'a>(
     handles: Option<&Handles<'a>>,
 ) -> Fault
     requires { IsBorder source.now at }
-    ensures { IsRefusal result }
+    ensures refusal { IsRefusal result }
+    ensures placed { IsPlaced source.now result }
 {
     let mut events: Sink<'_, Unkept> = Sink::Listed(Vec::new(alloc));
     let context = Ctx::BlockKey;
@@ -412,6 +422,7 @@ fn read_key<'a, K: Keeper>(
     ensures onward { IfOk result (λ to. at < to) }
     ensures reads { Appends (λ _. key_rest (text_of source.now) (Unit {0}) (handles_of handles.entry) room) (place_of source.now at) (place_of source.now) (holds_of K.holds) out.old out.new result }
     ensures decides { Decides (key_rest (text_of source.now) (Unit {0}) (handles_of handles.entry) room) (AfterColon (text_of source.now)) (place_of source.now at) Here (place_of source.now) result }
+    ensures placed { IfErr result (IsPlaced source.now) }
 {
     match read_entry_key(alloc, source, at, column, room, handles, out) {
         Ok(after) => Ok(after),
@@ -447,6 +458,7 @@ fn fit_key<'a, K: Keeper>(
     ensures reads { IfOk result (λ _. FitsAgain (text_of source.now) (handles_of handles.entry) col (props_of own.now) (place_of source.now end) (place_of source.now at) (place_of source.now key.end) key.deep key.kind room (holds_of K.holds) start out.old out.new) }
     ensures err { IfErr result IsRefusal }
     ensures decides { IfErr result (λ e. (e ≡ OutOfMemory) ⊎ NoneBelow (text_of source.now) (handles_of handles.entry) room col (place_of source.now at)) }
+    ensures placed { IfErr result (IsPlaced source.now) }
 {
     if key.deep < room {
         return Ok(());
@@ -514,6 +526,7 @@ fn finish_node<'a, K: Keeper>(
     ensures dressed { IfOk result (λ _. Alters (holds_of K.holds) start (dressed (both_props (props_of outer.entry) (props_of own.entry))) out.old out.new) }
     ensures err { IfErr result IsRefusal }
     ensures unfit { IfErr result (λ _. ((j : ℕ) → s_l_comments (text_of source.now) (place_of source.now node.end) j → ⊥) ⊎ (Disjoint (props_of outer.entry) (props_of own.entry) → ⊥) ⊎ (MayBear (text_of source.now) (place_of source.now at) (props_of outer.entry) → ⊥)) }
+    ensures placed { IfErr result (IsPlaced source.now) }
 {
     let line = next_line(source, node.end)?;
     if outer.overlaps(&own) {
@@ -562,8 +575,9 @@ pub(crate) fn read_value<'a, K: Keeper>(
     ensures reads { Appends (λ _. value_rest (text_of source.now) (Unit {0}) (handles_of handles.entry) room col (context_of context)) (place_of source.now at) (λ line. place_of source.now line.start) (holds_of K.holds) out.old out.new result }
     ensures after { IfOk result (λ line. AfterLine (text_of source.now) (place_of source.now line.start)) }
     ensures decides { Decides (value_rest (text_of source.now) (Unit {0}) (handles_of handles.entry) room col (context_of context)) (AfterNode (text_of source.now) col (context_of context)) (place_of source.now at) Here (λ line. place_of source.now line.start) result }
+    ensures placed { IfErr result (IsPlaced source.now) }
 {
-    match skip_comments(source, at) {
+    match skip_line_rest(source, at) {
         Some(start) => {
             let line = line_at(source, start);
             read_below(alloc, source, line, col, context, room, handles, out)
@@ -600,8 +614,9 @@ fn read_indented<'a, K: Keeper>(
     ensures reads { Appends (λ _. entry_rest (text_of source.now) (Unit {0}) (handles_of handles.entry) room column) (place_of source.now at) (λ line. place_of source.now line.start) (holds_of K.holds) out.old out.new result }
     ensures after { IfOk result (λ line. AfterLine (text_of source.now) (place_of source.now line.start)) }
     ensures decides { Decides (entry_rest (text_of source.now) (Unit {0}) (handles_of handles.entry) room column) (AfterEntry (text_of source.now) column) (place_of source.now at) Here (λ line. place_of source.now line.start) result }
+    ensures placed { IfErr result (IsPlaced source.now) }
 {
-    match skip_comments(source, at) {
+    match skip_line_rest(source, at) {
         Some(start) => {
             let line = line_at(source, start);
             read_below(
@@ -662,6 +677,7 @@ pub(crate) fn read_below<'a, K: Keeper>(
     ensures reads { Appends (λ _. line_rest (text_of source.now) (Unit {0}) (handles_of handles.entry) room col (context_of context)) (place_of source.now line.start) (λ line. place_of source.now line.start) (holds_of K.holds) out.old out.new result }
     ensures after { IfOk result (λ line. AfterLine (text_of source.now) (place_of source.now line.start)) }
     ensures decides { Decides (line_rest (text_of source.now) (Unit {0}) (handles_of handles.entry) room col (context_of context)) (AfterNode (text_of source.now) col (context_of context)) (place_of source.now line.start) Here (λ line. place_of source.now line.start) result }
+    ensures placed { IfErr result (IsPlaced source.now) }
 {
     if !has_content(source, line) {
         push_empty(out, line.start)?;
@@ -729,6 +745,7 @@ fn read_under<'a, K: Keeper>(
     ensures reads { Appends (λ _. node_rest (text_of source.now) (Unit {0}) (handles_of handles.entry) room col (context_of context) None) (place_of source.now from) (λ line. place_of source.now line.start) (holds_of K.holds) out.old out.new result }
     ensures after { IfOk result (λ line. AfterLine (text_of source.now) (place_of source.now line.start)) }
     ensures decides { Decides (node_rest (text_of source.now) (Unit {0}) (handles_of handles.entry) room col (context_of context) None) (AfterNode (text_of source.now) col (context_of context)) (place_of source.now from) Here (λ line. place_of source.now line.start) result }
+    ensures placed { IfErr result (IsPlaced source.now) }
 {
     if !has_content(source, line) {
         push_lone(outer, end, out)?;
@@ -779,6 +796,7 @@ fn read_sequence<'a, K: Keeper>(
     handles: Option<&Handles<'a>>,
     out: &mut Sink<'a, K>,
 ) -> Result<Line, Fault>
+    requires border { IsBorder source.now at }
     requires dash { IsDash source.now at after }
     requires low { column ≤ at }
     ensures line { IfOk result (IsLine source.now) }
@@ -786,6 +804,7 @@ fn read_sequence<'a, K: Keeper>(
     ensures reads { Appends (λ _. sequence_with (text_of source.now) (Unit {0}) (handles_of handles.entry) (props_of properties.entry) room column) (place_of source.now at) (λ line. place_of source.now line.start) (holds_of K.holds) out.old out.new result }
     ensures after { IfOk result (λ line. AfterLine (text_of source.now) (place_of source.now line.start)) }
     ensures decides { Decides (sequence_with (text_of source.now) (Unit {0}) (handles_of handles.entry) (props_of properties.entry) room column) (AfterSequence (text_of source.now) column) (place_of source.now at) Here (λ line. place_of source.now line.start) result }
+    ensures placed { IfErr result (IsPlaced source.now) }
 {
     if room == 0 {
         return Err(Fault::TooDeep(source.pos(at)));
@@ -834,6 +853,7 @@ fn read_node<'a, K: Keeper>(
     ensures reads { Appends (λ _. node_rest (text_of source.now) (Unit {0}) (handles_of handles.entry) room col (context_of context) (column_of (props_of outer.entry) column)) (place_of source.now from) (λ line. place_of source.now line.start) (holds_of K.holds) out.old out.new result }
     ensures after { IfOk result (λ line. AfterLine (text_of source.now) (place_of source.now line.start)) }
     ensures decides { Decides (node_rest (text_of source.now) (Unit {0}) (handles_of handles.entry) room col (context_of context) (column_of (props_of outer.entry) column)) (AfterNode (text_of source.now) col (context_of context)) (place_of source.now from) Here (λ line. place_of source.now line.start) result }
+    ensures placed { IfErr result (IsPlaced source.now) }
 {
     let (own, end) = read_properties(alloc, source, at, 0, Ctx::BlockKey, handles)?;
     if own.is_none() {
@@ -841,7 +861,7 @@ fn read_node<'a, K: Keeper>(
             alloc, source, at, end, own, from, outer, col, context, column, room, handles, out,
         );
     }
-    match skip_comments(source, end) {
+    match skip_line_rest(source, end) {
         None => read_dressed(
             alloc, source, at, end, own, from, outer, col, context, column, room, handles, out,
         ),
@@ -894,6 +914,7 @@ fn read_dressed<'a, K: Keeper>(
     ensures reads { Appends (λ _. node_rest (text_of source.now) (Unit {0}) (handles_of handles.entry) room col (context_of context) (column_of (props_of outer.entry) column)) (place_of source.now from) (λ line. place_of source.now line.start) (holds_of K.holds) out.old out.new result }
     ensures after { IfOk result (λ line. AfterLine (text_of source.now) (place_of source.now line.start)) }
     ensures decides { Decides (node_rest (text_of source.now) (Unit {0}) (handles_of handles.entry) room col (context_of context) (column_of (props_of outer.entry) column)) (AfterNode (text_of source.now) col (context_of context)) (place_of source.now from) Here (λ line. place_of source.now line.start) result }
+    ensures placed { IfErr result (IsPlaced source.now) }
 {
     match block_sign(source, at, end, &own) {
         None => read_keyed(
@@ -946,6 +967,7 @@ fn read_keyed<'a, K: Keeper>(
     ensures reads { Appends (λ _. node_rest (text_of source.now) (Unit {0}) (handles_of handles.entry) room col (context_of context) (column_of (props_of outer.entry) column)) (place_of source.now from) (λ line. place_of source.now line.start) (holds_of K.holds) out.old out.new result }
     ensures after { IfOk result (λ line. AfterLine (text_of source.now) (place_of source.now line.start)) }
     ensures decides { Decides (node_rest (text_of source.now) (Unit {0}) (handles_of handles.entry) room col (context_of context) (column_of (props_of outer.entry) column)) (AfterNode (text_of source.now) col (context_of context)) (place_of source.now from) Here (λ line. place_of source.now line.start) result }
+    ensures placed { IfErr result (IsPlaced source.now) }
 {
     let start = out.mark();
     out.announce(&own);
@@ -998,6 +1020,7 @@ fn read_entries<'a, K: Keeper>(
     ensures reads { Appends (λ _. entries_rest (text_of source.now) (Unit {0}) (handles_of handles.entry) room column) (place_of source.now after) (λ line. place_of source.now line.start) (holds_of K.holds) out.old out.new result }
     ensures after { IfOk result (λ line. AfterLine (text_of source.now) (place_of source.now line.start)) }
     ensures decides { Decides (entries_rest (text_of source.now) (Unit {0}) (handles_of handles.entry) room column) (AfterMapping (text_of source.now) column) (place_of source.now after) Here (λ line. place_of source.now line.start) result }
+    ensures placed { IfErr result (IsPlaced source.now) }
 {
     let mut line = read_value(
         alloc,
@@ -1043,6 +1066,7 @@ pub(crate) fn read_root<'a, K: Keeper>(
     ensures reads { Appends (λ _. root_rest (text_of source.now) (Unit {0}) (handles_of handles.entry) room line.column) (place_of source.now line.start) (λ line. place_of source.now line.start) (holds_of K.holds) out.old out.new result }
     ensures after { IfOk result (λ line. AfterLine (text_of source.now) (place_of source.now line.start)) }
     ensures decides { Decides (root_rest (text_of source.now) (Unit {0}) (handles_of handles.entry) room line.column) (AfterNode (text_of source.now) 0 block_in) (place_of source.now line.start) Here (λ line. place_of source.now line.start) result }
+    ensures placed { IfErr result (IsPlaced source.now) }
 {
     let first = line.first;
     let outer = Properties::none();

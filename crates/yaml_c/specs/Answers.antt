@@ -8,7 +8,7 @@ use Rattle.yaml_canon.specs.declared.side.Side.TheVariants.{Left}
 use Rattle.yaml_canon.specs.Claims.{IsCanonicalText, CanonicalRefuses}
 use Rattle.yaml_canon.specs.Comparing.{Compares, ComparerRefuses}
 use Rattle.yaml_canon.specs.Accepting.{TellsTexts}
-use Rattle.yaml_event_text.specs.Answer.{IsEventText, IsUnread}
+use Rattle.yaml_event_text.specs.EventTextAnswer.{IsEventText, IsUnread}
 use Rattle.yaml_c.specs.declared.fault.YamlcanonFault.{YamlcanonFault}
 use Rattle.yaml_c.specs.Told.{told}
 use Rattle.yaml_c.specs.Room.{IsGiven, IsShort}

@@ -7,11 +7,11 @@ ghost use Rattle.yaml_c.specs.Answers.{GivesCanonical, ShortCanonical, RefusesCa
 ghost use Rattle.yaml_c.specs.Answers.{GivesEvents, ShortEvents, RefusesEvents, Answers, RefusesSame};
 
 use crate::fault::{YamlcanonFault, refuse};
-use crate::room::{put_text, tell_length};
+use crate::room::tell_length;
 use crate::status::{DIFFERENT, DONE};
 use std::alloc::Global;
 use yaml_canon::{Side, canonical_into, same};
-use yaml_event_text::event_text;
+use yaml_event_text::event_text_into;
 
 /// 100 times the number of the interface, with which the shared library's name ends, and the number of what was added.
 const VERSION: u32 = 100;
@@ -63,8 +63,8 @@ pub extern "C" fn yamlcanon_events(
     ensures short { result ≡ 3 → ShortEvents input.now out.old out.new len.new fault.old fault.new }
     ensures refused { result ≡ 2 → RefusesEvents input.now out.old out.new len.old len.new fault.new }
 {
-    match event_text(alloc, input) {
-        Ok(text) => put_text(text.as_bytes(), out, len),
+    match event_text_into(alloc, input, out) {
+        Ok(length) => tell_length(length, out.len(), len),
         Err(refusal) => refuse(Side::Left, refusal, fault),
     }
 }

@@ -73,11 +73,6 @@ module _ (left right : List ℕ) where
   compared (Ok answer) o e f g a b m n = both-tell left right f g a b m n answer o
   compared (Err refusal) o e f g a b m n = both-memory left right f g a b m n refusal.0 refusal.1 e
 
-  pub compared-exit : (r : Answer) (refusal : Side × Fault) → IsErrAnd r (λ y. y ≡ refusal) → ComparerRefuses left right refusal.0 refusal.1 → Compared r
-  compared-exit r refusal was h =
-      let p = err_from_is_err_and r was in
-      subst Compared (sym (p.1 ∙ ap Err p.2)) (λ f g a b m n. both-memory left right f g a b m n refusal.0 refusal.1 h)
-
   pub compared-refused : (r : Answer) (refusal : Side × Fault) → IsErrAnd r (λ y. y ≡ refusal) → IfErr r (λ x. ComparerRefuses left right x.0 x.1) → Compared r
   compared-refused (Ok answer) refusal was e = absurd (was)
   compared-refused (Err x) refusal was e = compared (Err x) tt e

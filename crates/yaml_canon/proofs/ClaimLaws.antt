@@ -17,7 +17,7 @@ use Rattle.yaml_definitions.specs.model.Text.{Text}
 use Rattle.yaml_text.specs.Refused.{RefusesText}
 use Rattle.yaml_definitions.specs.grammar.Reading.{Reads}
 use Rattle.yaml_definitions.specs.grammar.Streams.{ReadsText}
-use Rattle.yaml_text.specs.Answer.{IsRefusal}
+use Rattle.yaml_text.specs.LeafAnswer.{IsRefusal}
 use Rattle.yaml_definitions.proofs.grammar.OneText.{one-text}
 use Rattle.yaml_definitions.proofs.grammar.Documents.{readings_are_documents}
 use Rattle.yaml_definitions.proofs.MeaningLaws.{meaning_is_proper}
@@ -39,7 +39,7 @@ use Rattle.yaml_graph.specs.declared.graph.Graph.{Graph}
 use Rattle.yaml_rank.specs.RanksView.{RefusesGraph}
 use Rattle.yaml_canon.specs.Pieces.{Began, Puts, Fails}
 use Rattle.yaml_canon.specs.Documents.{spell_more, RefusesLength}
-use Rattle.yaml_canon.specs.Claims.{AllOf, MeansAlone as Accepted, IsCanonicalText, IsRead, IsNoStream, CanonicalRefuses, HasGraph, GraphRefuses}
+use Rattle.yaml_canon.specs.Claims.{AllOf, MeansAlone, IsCanonicalText, IsRead, IsNoStream, CanonicalRefuses, HasGraph, GraphRefuses}
 use Rattle.yaml_canon.proofs.DocumentLaws.{spell_whole}
 
 -- ---- the whole text
@@ -82,7 +82,7 @@ all_roots : (P : Tree → Type 0) (ts : List Tree) (roots : List NodeId) (n : �
 all_roots P ts [] n h w = tt
 all_roots P ts (r ∷ roots) n h w = (h r.0 (w 0 r (omega arith)), all_roots P ts roots n h (λ k d l. w (suc k) d (omega arith)))
 
-pub accepted : (bytes : List ℕ) (ds : List Document) (g : Graph) → IsRead bytes ds → Composed ds g → ((i : ℕ) → i < length (nodes_of g) → Keyed (tree g i)) → Accepted bytes (forest g)
+pub accepted : (bytes : List ℕ) (ds : List Document) (g : Graph) → IsRead bytes ds → Composed ds g → ((i : ℕ) → i < length (nodes_of g) → Keyed (tree g i)) → MeansAlone bytes (forest g)
 accepted bytes ds g r c k =
     let m = means bytes ds g r c in
     record {
@@ -99,7 +99,7 @@ are_admitted (t ∷ f) p k l = (record { proper = p.0; keyed = k.0; low = l.0 },
 abbrev IsWithin : List ℕ → List Event → Type 0
 IsWithin text events = length text ≤ 4 * texts_bytes events + 4096 * length events
 
-pub canonical_text : (bytes text : List ℕ) (f : List Tree) → Accepted bytes f → text ≡ spell_bytes f → length text ≤ text_limit → IsCanonicalText bytes text
+pub canonical_text : (bytes text : List ℕ) (f : List Tree) → MeansAlone bytes f → text ≡ spell_bytes f → length text ≤ text_limit → IsCanonicalText bytes text
 canonical_text bytes text f a e l =
     let admitted : Admitted f = record { trees = are_admitted f (meaning_is_proper bytes f a.means) a.keyed a.low; fits = subst (λ z. length z ≤ text_limit) e l } in
     record {
@@ -173,7 +173,7 @@ refused_ranking bytes ds g (faults.EqualKeys n i j) r c h = (ds, g, r, c, h)
 refused_ranking bytes ds g faults.OutOfMemory r c h = tt
 refused_ranking bytes ds g _ r c h = absurd h
 
-pub refused_spelling : (bytes : List ℕ) (f : List Tree) (fault : Fault) → Accepted bytes f → RefusesLength f fault → CanonicalRefuses bytes fault
+pub refused_spelling : (bytes : List ℕ) (f : List Tree) (fault : Fault) → MeansAlone bytes f → RefusesLength f fault → CanonicalRefuses bytes fault
 refused_spelling bytes f faults.TextTooLong a h = (f, a, h)
 refused_spelling bytes f faults.OutOfMemory a h = tt
 refused_spelling bytes f _ a h = absurd h

@@ -137,10 +137,6 @@ module _ {S O : Type 0} (holds : S → O → Began → List ℕ → Type 0) (sto
       puts_as holds s o x y (λ more. opened m ((10 ∷ []) ++ more)) (document_text t) (puts_then holds s o u q x y (opened m) (λ more. (10 ∷ []) ++ more) (begun m s o v p u q a h) (puts_piece holds u q x y (10 ∷ []) (10 ∷ []) b end_bytes))
       (λ more. ap (λ z. 45 ∷ 45 ∷ 45 ∷ 32 ∷ node_text z (10 ∷ more)) e)
 
-  pub document_unstarted : (t : Tree) (s : S) (o q : O) (fault : Fault) → Misses holds stops s o q fault (45 ∷ 45 ∷ 45 ∷ 32 ∷ []) → Fails holds stops s o q fault (document_text t)
-  document_unstarted t s o q fault a =
-      fails_more holds stops s o q fault (λ more. (45 ∷ 45 ∷ 45 ∷ 32 ∷ []) ++ more) (λ more. node_text (serial_of t) (10 ∷ more)) (fails_piece holds stops s o q fault (45 ∷ 45 ∷ 45 ∷ 32 ∷ []) (45 ∷ 45 ∷ 45 ∷ 32 ∷ []) a start_bytes)
-
   pub document_broken : (t : Tree) (m : SerialNode) (s : S) (o : O) (v : S) (p q : O) (fault : Fault) → m ≡ serial_of t → TakesPiece holds s o v p (45 ∷ 45 ∷ 45 ∷ 32 ∷ []) → Fails holds stops v p q fault (node_text m) → Fails holds stops s o q fault (document_text t)
   document_broken t m s o v p q fault e a h =
       fails_as holds stops s o q fault (λ more. opened m (10 ∷ more)) (document_text t)
@@ -160,12 +156,6 @@ module _ {S O : Type 0} (holds : S → O → Began → List ℕ → Type 0) (sto
 
     pub next_document : (whole : List ℕ → List ℕ) (i : ℕ) (d : NodeId) (s : S) (o : O) (t : S) (p : O) (u : S) (q : O) → i < length xs → Left holds s o t p (spell_more (map f (drop i xs))) whole → Puts holds t p u q (document_text (f (get_or xs i d))) → Left holds s o u q (spell_more (map f (drop (i + 1) xs))) whole
     next_document whole i d s o t p u q l h k = left_next holds s o t p u q (spell_more (map f (drop i xs))) whole (document_text (f (get_or xs i d))) (spell_more (map f (drop (i + 1) xs))) h k (split i d l)
-
-    pub document_fails : (whole : List ℕ → List ℕ) (i : ℕ) (d : NodeId) (s : S) (o : O) (t : S) (p q : O) (fault : Fault) → i < length xs → Left holds s o t p (spell_more (map f (drop i xs))) whole → Fails holds stops t p q fault (document_text (f (get_or xs i d))) → Fails holds stops s o q fault whole
-    document_fails whole i d s o t p q fault l h k = left_fails holds stops s o t p q fault (spell_more (map f (drop i xs))) whole (document_text (f (get_or xs i d))) (spell_more (map f (drop (i + 1) xs))) h k (split i d l)
-
-    pub last_document : (whole : List ℕ → List ℕ) (i : ℕ) (s : S) (o : O) (t : S) (p : O) → length xs ≤ i → Left holds s o t p (spell_more (map f (drop i xs))) whole → Puts holds s o t p whole
-    last_document whole i s o t p l h = left_last holds s o t p t p (spell_more (map f (drop i xs))) whole (λ more. more) h (puts_none holds t p) (λ more. ap (λ z. spell_more (map f z) more) (sym (drop_of_length-le xs l)))
 
 pub spell_whole : (f : List Tree) → encode_utf8_all (spell_more f []) ≡ spell_bytes f
 unfolding spell_bytes spell

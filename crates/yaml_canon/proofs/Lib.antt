@@ -15,6 +15,7 @@ mod Linking
 mod NamesLaws
 mod DocumentLaws
 mod ClaimLaws
+mod PlacedLaws
 mod AcceptLaws
 mod PlaceLaws
 mod CompareLaws

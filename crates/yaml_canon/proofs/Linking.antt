@@ -75,9 +75,6 @@ module _ (rank : Tree → ℕ) (Of : Tree → Type 0) (tell : (t u : Tree) → O
     pub is : (t : Tree) → Of t → m (rank t) ≡ state_for k r [] t
     pub within : (t : Tree) → has r t ≡ true → has k t ≡ true
 
-  same_state : (k r w : List Tree) (t u : Tree) → has k u ≡ has k t → has r u ≡ has r t → has w u ≡ false → has w t ≡ false → state_for k r w u ≡ cond (has r t) Repeated (cond (has k t) Seen Unseen)
-  same_state k r w t u e f g h = (λ z. cond (g z) (Named (suc (position_or_len (same u) w))) (cond (f z) Repeated (cond (e z) Seen Unseen)))
-
   -- a node that was kept comes again
   again : (t : Tree) (m : RankStates) (k r : List Tree) → Of t → has k t ≡ true → Knows m k r → Knows (met_at (rank t) m) k (r ++ (t ∷ []))
   again t m k r o h n = record {

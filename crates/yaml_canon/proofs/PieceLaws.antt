@@ -29,9 +29,6 @@ writes_text old bytes cs u = record {
 }
 
 module _ {S O : Type 0} (holds : S → O → Began → List ℕ → Type 0) where
-  pub adds_none : (s : S) (o : O) → TakesPiece holds s o s o []
-  adds_none s o = record { is = λ b xs h. subst (holds s o b) (sym (append-nil xs)) h }
-
   pub adds_then : (s : S) (o : O) (t : S) (p : O) (u : S) (q : O) (x y : List ℕ) → TakesPiece holds s o t p x → TakesPiece holds t p u q y → TakesPiece holds s o u q (x ++ y)
   adds_then s o t p u q x y h k = record { is = λ b xs i. subst (holds u q b) (append_assoc xs x y) (k.is b (xs ++ x) (h.is b xs i)) }
 

@@ -10,7 +10,7 @@ use Rattle.yaml_definitions.specs.model.Proper.{Admitted}
 use Rattle.yaml_definitions.specs.model.Means.{Means}
 use Rattle.yaml_text.specs.declared.fault.Fault.{Fault}
 use Rattle.yaml_canon.specs.Accepting.{IsSpelling, IsMemory}
-use Rattle.yaml_canon.specs.Claims.{MeansAlone as Accepted, CanonicalRefuses}
+use Rattle.yaml_canon.specs.Claims.{MeansAlone, CanonicalRefuses}
 use Rattle.yaml_canon.specs.Rooms.{Places, PlacesCanonical}
 use Rattle.yaml_canon.proofs.ClaimLaws.{canonical_text}
 use Rattle.yaml_canon.proofs.AcceptLaws.{memory, text-is, spelling-means}
@@ -23,7 +23,7 @@ pub of_ok : {T E P : Type 0} (r : Result T E) → OnOk r P → IsOk r → P
 of_ok (Ok x) h o = h
 of_ok (Err e) h o = absurd (cc)
 
-pub placed : (bytes old new : List ℕ) (f : List Tree) (len : ℕ) → Accepted bytes f → Places (spell_bytes f) old new len → len ≤ text_limit → PlacesCanonical bytes old new len
+pub placed : (bytes old new : List ℕ) (f : List Tree) (len : ℕ) → MeansAlone bytes f → Places (spell_bytes f) old new len → len ≤ text_limit → PlacesCanonical bytes old new len
 placed bytes old new f len a p l = record { text = spell_bytes f; canonical = canonical_text bytes (spell_bytes f) f a refl (subst (λ n. n ≤ text_limit) p.long l); placed = p }
 
 module _ (bytes old new : List ℕ) where

@@ -79,13 +79,6 @@ measured_last first len content rest m e =
     let h = m.is in
     omega (arith, k, h)
 
--- a front that is too long
-pub measured_past : (limit first len : ℕ) (content rest after piece : List ℕ) → Measured first len content rest → spelled_chars rest ≡ piece ++ spelled_chars after → limit < len + length piece → limit < first + length (quoted_bytes content)
-measured_past limit first len content rest after piece m f l =
-    let k : length (spelled_chars rest) ≡ length piece + length (spelled_chars after) = ap length f ∙ length-append piece (spelled_chars after) in
-    let h = m.is in
-    omega (arith, k, h, l)
-
 pub quotes_past : (limit first : ℕ) (content : List ℕ) → limit < first + 2 → limit < first + length (quoted_bytes content)
 quotes_past limit first content l =
     let f : length (quoted_bytes content) ≡ suc (length (spelled_chars content) + 1) = ap length (spelled_is content) ∙ ap suc (length-append (spelled_chars content) (34 ∷ [])) in

@@ -16,7 +16,7 @@ use Rattle.yaml_canon.specs.Pieces.{Began, Puts, Fails}
 use Rattle.yaml_canon.specs.Pages.{page_bytes, page_len, PageHolds, PageStops}
 use Rattle.yaml_canon.specs.Writers.{Sent, CutOff, Printed, Broken}
 use Rattle.yaml_canon.specs.Documents.{spell_more}
-use Rattle.yaml_canon.specs.Claims.{MeansAlone as Accepted, CanonicalRefuses}
+use Rattle.yaml_canon.specs.Claims.{MeansAlone, CanonicalRefuses}
 use Rattle.yaml_canon.specs.Runs.{WritesCanonical, WriteRefuses}
 use Rattle.yaml_canon.proofs.ClaimLaws.{canonical_text}
 use Rattle.yaml_canon.proofs.Streams.{appends_none, appends_more, appends_kept}
@@ -73,9 +73,9 @@ module _ {W : Type 0} (contents : W → Option (List ℕ)) where
   refused_unwritten bytes o WriteFault h = absurd h
   refused_unwritten bytes o _ h = record { refused = h; untouched = refl }
 
-  pub canonical_written : (bytes : List ℕ) (f : List Tree) (o u : Counted W) → Accepted bytes f → length (spell_bytes f) ≤ text_limit → Printed contents o u (spell_bytes f) → WritesCanonical contents bytes o u
+  pub canonical_written : (bytes : List ℕ) (f : List Tree) (o u : Counted W) → MeansAlone bytes f → length (spell_bytes f) ≤ text_limit → Printed contents o u (spell_bytes f) → WritesCanonical contents bytes o u
   canonical_written bytes f o u a l p = record { text = spell_bytes f; canonical = canonical_text bytes (spell_bytes f) f a refl l; printed = p }
 
-  pub canonical_broken : (bytes : List ℕ) (f : List Tree) (o u : Counted W) (fault : Fault) → Accepted bytes f → length (spell_bytes f) ≤ text_limit → Broken contents o u (spell_bytes f) → fault ≡ WriteFault → WriteRefuses contents bytes o u fault
+  pub canonical_broken : (bytes : List ℕ) (f : List Tree) (o u : Counted W) (fault : Fault) → MeansAlone bytes f → length (spell_bytes f) ≤ text_limit → Broken contents o u (spell_bytes f) → fault ≡ WriteFault → WriteRefuses contents bytes o u fault
   canonical_broken bytes f o u fault a l b e =
       subst (WriteRefuses contents bytes o u) (sym e) (record { text = spell_bytes f; canonical = canonical_text bytes (spell_bytes f) f a refl l; broken = b })

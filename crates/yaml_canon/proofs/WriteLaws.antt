@@ -42,10 +42,6 @@ pub opening_brace : encode_utf8_all (123 ∷ []) ≡ 123 ∷ []
 unfolding encode_utf8
 opening_brace = refl
 
-pub comma_bytes : encode_utf8_all (44 ∷ 32 ∷ []) ≡ 44 ∷ 32 ∷ []
-unfolding encode_utf8
-comma_bytes = refl
-
 pub colon_bytes : encode_utf8_all (32 ∷ 58 ∷ 32 ∷ []) ≡ 32 ∷ 58 ∷ 32 ∷ []
 unfolding encode_utf8
 colon_bytes = refl

@@ -13,6 +13,7 @@ pub mod Anchored
 pub mod Repeats
 pub mod Documents
 pub mod Claims
+pub mod FaultPlaces
 pub mod Comparing
 pub mod Accepting
 pub mod Gathering

@@ -1,8 +1,9 @@
 //! The canonical text of a YAML stream, and whether two streams are the same.
 #![tactic(auto)]
 
-pub mod comparer;
-mod composed;
+pub mod canonical_text;
+pub mod gathering;
+mod graph_of;
 pub mod laws;
 mod length;
 mod names;
@@ -10,21 +11,20 @@ mod node;
 mod page;
 mod parts;
 pub mod placing;
-pub mod presenter;
 mod quoted;
-pub mod reading;
 mod room;
 pub mod run;
+pub mod same_streams;
 pub mod side;
 mod sink;
 pub mod spell;
-mod text;
 mod walk;
+mod whole;
 
-pub use comparer::same;
+pub use canonical_text::canonical;
+pub use gathering::gather;
 pub use placing::canonical_into;
-pub use presenter::canonical;
-pub use reading::gather;
 pub use run::run_canonical;
+pub use same_streams::same;
 pub use side::Side;
 pub use spell::canonical_len;

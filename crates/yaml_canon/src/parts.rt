@@ -13,21 +13,8 @@ ghost use Rattle.yaml_canon.specs.Kinds.{number_of_kind};
 
 use crate::sink::Sink;
 use yaml_text::class::is_uri;
+use yaml_text::core_tag;
 use yaml_text::fault::Fault;
-
-const NULL_TAG: &str = "tag:yaml.org,2002:null";
-
-const BOOL_TAG: &str = "tag:yaml.org,2002:bool";
-
-const INT_TAG: &str = "tag:yaml.org,2002:int";
-
-const FLOAT_TAG: &str = "tag:yaml.org,2002:float";
-
-const STR_TAG: &str = "tag:yaml.org,2002:str";
-
-const SEQ_TAG: &str = "tag:yaml.org,2002:seq";
-
-const MAP_TAG: &str = "tag:yaml.org,2002:map";
 
 /// The kinds of nodes.
 #[derive(Clone, Copy)]
@@ -43,9 +30,9 @@ pub(crate) fn default_tag(kind: Kind) -> &'static str
     ensures { result.now ≡ default_tag (number_of_kind kind) }
 {
     match kind {
-        Kind::Scalar => STR_TAG,
-        Kind::Sequence => SEQ_TAG,
-        Kind::Mapping => MAP_TAG,
+        Kind::Scalar => core_tag::STR,
+        Kind::Sequence => core_tag::SEQ,
+        Kind::Mapping => core_tag::MAP,
     }
 }
 
@@ -157,13 +144,13 @@ fn core_text(tag: &str) -> Option<&'static str>
     ensures some { IfSome result (λ known. (full_text tag.now ≡ known.now) × (encode_utf8_all known.now ≡ known.now)) }
     ensures none { IfNone result (full_text tag.now ≡ codes "!<" ++ encoded tag.now (codes "> ")) }
 {
-    if tag == NULL_TAG {
+    if tag == core_tag::NULL {
         Some("!!null ")
-    } else if tag == BOOL_TAG {
+    } else if tag == core_tag::BOOL {
         Some("!!bool ")
-    } else if tag == INT_TAG {
+    } else if tag == core_tag::INT {
         Some("!!int ")
-    } else if tag == FLOAT_TAG {
+    } else if tag == core_tag::FLOAT {
         Some("!!float ")
     } else {
         None

@@ -13,10 +13,11 @@ ghost use Rattle.yaml_rank.specs.RanksView.{RanksAre};
 ghost use Rattle.yaml_canon.specs.NamesView.{ranks_in, document_number};
 ghost use Rattle.yaml_canon.specs.Documents.{RefusesLength};
 ghost use Rattle.yaml_canon.specs.Claims.{CanonicalRefuses};
+ghost use Rattle.yaml_canon.specs.FaultPlaces.{TellsPlace};
 ghost use Rattle.yaml_canon.specs.Accepting.{IsSpelling, IsMemory};
 ghost use Rattle.yaml_canon.specs.Rooms.{Places, PlacesCanonical};
 
-use crate::composed::graph_of;
+use crate::graph_of::graph_of;
 use crate::names::Names;
 use crate::room::Room;
 use crate::spell::{canonical_len, write_documents};
@@ -70,6 +71,7 @@ pub fn canonical_into(alloc: Global, bytes: &[u8], room: &mut [u8]) -> Result<us
     ensures no_text { ((cs : List ℕ) → Text bytes.now cs → ⊥) → IsErrAnd result (RefusesText bytes.now) }
     ensures accepts { (f : List Tree) → Admitted f → Means bytes.now f → MatchResult result (Places (spell_bytes f) room.old room.new) IsMemory }
     ensures spelling { (f : List Tree) → Admitted f → IsSpelling bytes.now f → MatchResult result (Places (spell_bytes f) room.old room.new) IsMemory }
+    ensures placed { IfErr result (TellsPlace bytes.now) }
 {
     let graph = graph_of(alloc, bytes)?;
     let ranks = rank(alloc, &graph)?;

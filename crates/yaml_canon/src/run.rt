@@ -6,12 +6,13 @@ ghost use Rattle.yaml_graph.specs.GraphView.{nodes_of, forest};
 ghost use Rattle.yaml_rank.specs.RanksView.{RanksAre};
 ghost use Rattle.yaml_canon.specs.NamesView.{ranks_in, document_number};
 ghost use Rattle.yaml_canon.specs.Writers.{Printed, Broken};
+ghost use Rattle.yaml_canon.specs.FaultPlaces.{TellsPlace, TellsReadPlace};
 ghost use Rattle.yaml_canon.specs.Runs.{WritesCanonical, WriteRefuses, RunsWhole, RunFails};
 
-use crate::composed::graph_of;
+use crate::gathering::gather;
+use crate::graph_of::graph_of;
 use crate::names::Names;
 use crate::page::Page;
-use crate::reading::gather;
 use crate::spell::{canonical_len, write_documents};
 use std::alloc::Global;
 use std::io::{Read, Write};
@@ -53,6 +54,7 @@ fn write_canonical<W: Write>(alloc: Global, bytes: &[u8], out: &mut Counted<W>) 
     requires few { faults_of out.old < 2 ^ 64 - 1 }
     ensures ok { OnOk result (WritesCanonical W.contents bytes.now out.old out.new) }
     ensures err { IfErr result (WriteRefuses W.contents bytes.now out.old out.new) }
+    ensures placed { IfErr result (TellsPlace bytes.now) }
 {
     let graph = graph_of(alloc, bytes)?;
     let ranks = rank(alloc, &graph)?;
@@ -80,6 +82,7 @@ pub fn run_canonical<R: Read, W: Write>(
     requires few_writes { faults_of out.old < 2 ^ 64 - 1 }
     ensures ok { OnOk result (RunsWhole W.contents R.remaining input.old input.new out.old out.new) }
     ensures err { IfErr result (RunFails W.contents R.remaining input.old input.new out.old out.new) }
+    ensures placed { IfErr result (TellsReadPlace R.remaining input.old input.new) }
 {
     let bytes = gather(alloc, input, text_limit())?;
     write_canonical(alloc, &bytes, out)

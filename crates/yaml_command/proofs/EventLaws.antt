@@ -10,7 +10,7 @@ use Rattle.yaml_text.specs.declared.counted.Counted.{Counted}
 use Rattle.yaml_definitions.proofs.MeaningLaws.{readings_have_text}
 use Rattle.yaml_canon.specs.Gathering.{Gathers}
 use Rattle.yaml_canon.specs.Writers.{Printed}
-use Rattle.yaml_event_text.specs.Answer.{IsEventText, IsUnread}
+use Rattle.yaml_event_text.specs.EventTextAnswer.{IsEventText, IsUnread}
 use Rattle.yaml_command.specs.Pages.{PagesFail}
 use Rattle.yaml_command.specs.EventRuns.{TextPrinted, TextFails, EventsPrinted, EventsFail}
 

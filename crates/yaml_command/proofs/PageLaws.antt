@@ -1,11 +1,11 @@
 -- What a writer and a page have of a text, step by step.
-use Rattle.std.proofs.Common.{◌≡◌, ℕ, ◌+◌, ◌-◌, ◌^◌, ◌<◌, ◌≤◌, min, List, [], ◌∷◌, ◌++◌, Option, String, string_bytes, length, take, drop, get_or, map, All, refl, sym, ◌∙◌, ap, subst, arith, append_assoc, take-append-drop}
-use Rattle.std.proofs.lemmas.List.{append-nil, map-append, map_more, get_or-map, length-map}
+use Rattle.std.proofs.Common.{◌≡◌, ℕ, ◌+◌, ◌-◌, ◌^◌, ◌<◌, ◌≤◌, min, List, [], ◌∷◌, ◌++◌, Option, String, string_bytes, length, take, get_or, map, All, refl, sym, ◌∙◌, ap, subst, arith, append_assoc}
+use Rattle.std.proofs.lemmas.List.{append-nil, get_or-map, length-map}
 use Rattle.std.proofs.lemmas.List.Elements.{All-get_or}
 use Rattle.std.proofs.lemmas.Grind.{common_steps}
 use Rattle.std.proofs.Math.Seq.{take-append-add, take-length}
 use Rattle.yaml_definitions.specs.model.Event.{Event}
-use Rattle.yaml_definitions.specs.model.EventText.{event_line, events_text}
+use Rattle.yaml_definitions.specs.model.EventText.{event_line}
 use Rattle.yaml_text.specs.Count.{one_more}
 use Rattle.yaml_text.specs.CountedModel.{inner_of, faults_of}
 use Rattle.yaml_text.specs.declared.fault.Fault.{Fault}
@@ -16,7 +16,6 @@ use Rattle.yaml_canon.specs.Writers.{Sent, CutOff, Printed, Broken}
 use Rattle.yaml_canon.proofs.Streams.{appends_none, appends_more, appends_kept}
 use Rattle.yaml_command.specs.Pages.{PageHas}
 use Rattle.yaml_command.specs.Printing.{PrintFails}
-use Rattle.yaml_events.proofs.LineText.{events_append, events_line_more}
 
 pub take_within : (xs ys : List ℕ) (k : ℕ) → (n : ℕ) × (take n (xs ++ ys) ≡ take k xs)
 take_within xs ys k = (min k (length xs), grind (arith, common_steps))
@@ -81,21 +80,9 @@ module _ {W : Type 0} (contents : W → Option (List ℕ)) where
         let b = begins o u v h.front (string_bytes q) more all k.count h.sent k.took f in
         subst (PrintFails contents o v all) (sym k.is) (record { count = b.0; took = b.1; counted = k.counted ∙ one_higher (faults_of o) (faults_of u) few h.sent.counted })
 
--- the text of events, cut behind some of them
-pub events_cut : {X : Type 0} (f : X → Event) (xs : List X) (n : ℕ) → events_text (map f xs) ≡ events_text (map f (take n xs)) ++ events_text (map f (drop n xs))
-events_cut f xs n = ap (λ z. events_text (map f z)) (sym (take-append-drop n xs)) ∙ ap events_text (map-append f (take n xs) (drop n xs)) ∙ events_append (map f (take n xs)) (map f (drop n xs))
-
+-- the room that each line has
 module _ {X : Type 0} (f : X → Event) (xs : List X) (i : ℕ) (d : X) where
-  -- a line more
-  pub line_more : i < length xs → d ≡ get_or xs i d → events_text (map f (take (i + 1) xs)) ≡ events_text (map f (take i xs)) ++ (event_line (f d) ++ (10 ∷ []))
-  line_more h e = ap events_text (map_more f xs i d h ∙ ap (λ z. map f (take i xs) ++ (f z ∷ [])) (sym e)) ∙ events_line_more (map f (take i xs)) (f d)
-
-  -- the room that each line has
   pub room_at : (room : ℕ) → i < length xs → d ≡ get_or xs i d → All (λ e. 4096 + length (event_line e ++ (10 ∷ [])) ≤ room) (map f xs) → 4096 + length (event_line (f d) ++ (10 ∷ [])) ≤ room
   room_at room h e a =
       let k : i < length (map f xs) = omega (arith, length-map xs f) in
       subst (λ z. 4096 + length (event_line z ++ (10 ∷ [])) ≤ room) (get_or-map f xs i d (f d) h ∙ ap f (sym e)) (All-get_or (λ z. 4096 + length (event_line z ++ (10 ∷ [])) ≤ room) (map f xs) i (f d) k a)
-
--- the text of all events, once the loop has been at each
-pub all_lines : {X : Type 0} (f : X → Event) (xs : List X) (n : ℕ) → n ≡ length xs → events_text (map f (take n xs)) ≡ events_text (map f xs)
-all_lines f xs n e = ap (λ z. events_text (map f z)) (ap (λ m. take m xs) e ∙ take-length xs)

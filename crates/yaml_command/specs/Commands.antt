@@ -8,7 +8,7 @@ use Rattle.yaml_canon.specs.declared.side.Side.TheVariants.{Left, Right}
 use Rattle.yaml_canon.specs.Runs.{WritesCanonical, WriteRefuses, RunsWhole, RunFails}
 use Rattle.yaml_canon.specs.Writers.{Printed, Broken}
 use Rattle.yaml_command.specs.EventRuns.{EventsPrinted, EventsFail}
-use Rattle.yaml_event_text.specs.Answer.{IsEventText, IsUnread}
+use Rattle.yaml_event_text.specs.EventTextAnswer.{IsEventText, IsUnread}
 use Rattle.yaml_command.specs.Judged.{PrintsSame, SameFails, PrintsMatch, MatchFails}
 use Rattle.yaml_command.specs.Refusals.{Told}
 use Rattle.yaml_command.specs.Shelves.{IsOf, InputUnread, SideUnread, LinesUnread}

@@ -7,7 +7,7 @@ use Rattle.yaml_text.specs.declared.counted.Counted.{Counted}
 use Rattle.yaml_canon.specs.Gathering.{Gathers}
 use Rattle.yaml_canon.specs.Runs.{FailsReading}
 use Rattle.yaml_canon.specs.Writers.{Printed, Broken}
-use Rattle.yaml_event_text.specs.Answer.{IsEventText, IsUnread}
+use Rattle.yaml_event_text.specs.EventTextAnswer.{IsEventText, IsUnread}
 
 module _ {W : Type 0} (contents : W → Option (List ℕ)) where
   -- the event text of the bytes was written

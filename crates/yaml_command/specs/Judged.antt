@@ -7,10 +7,10 @@ use Rattle.yaml_definitions.specs.grammar.Reading.{Reads}
 use Rattle.yaml_text.specs.declared.fault.Fault.{Fault}
 use Rattle.yaml_text.specs.declared.fault.Fault.TheVariants.{NotUtf8, WriteFault}
 use Rattle.yaml_text.specs.declared.counted.Counted.{Counted}
-use Rattle.yaml_events.specs.Answer.{RefusesEventText}
+use Rattle.yaml_events.specs.LineAnswer.{RefusesEventText}
 use Rattle.yaml_canon.specs.Comparing.{Compares, ComparerRefuses}
 use Rattle.yaml_canon.specs.Writers.{Printed, Broken}
-use Rattle.yaml_event_text.specs.Answer.{IsUnread}
+use Rattle.yaml_event_text.specs.EventTextAnswer.{IsUnread}
 use Rattle.yaml_command.specs.declared.refusal.Refusal.{Refusal}
 use Rattle.yaml_command.specs.declared.refusal.Refusal.TheVariants.{Input, OneSide, EventText as EventTextFault, EventLines}
 

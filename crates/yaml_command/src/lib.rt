@@ -10,4 +10,4 @@ pub mod line;
 mod pages;
 pub mod refusal;
 pub mod shelf;
-mod streams;
+pub mod streams;

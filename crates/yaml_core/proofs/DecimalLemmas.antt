@@ -11,7 +11,7 @@ use Rattle.yaml_definitions.specs.model.Core.{Value, decimal_value, float_range,
 use Rattle.yaml_definitions.specs.model.Limits.{exponent_limit}
 use Rattle.yaml_definitions.proofs.FloatLaws.{digits_number}
 use Rattle.yaml_definitions.proofs.Members.{and_both, both_and}
-use Rattle.yaml_core.specs.Answer.{IsContent, RefusesValue, IsDecimalContent, RefusesDecimal}
+use Rattle.yaml_core.specs.CoreAnswer.{IsContent, RefusesValue, IsDecimalContent, RefusesDecimal}
 use Rattle.yaml_core.specs.State.{is_e, is_point, all_digits}
 use Rattle.yaml_core.specs.Digits.{without_zeros, without_last_zeros}
 use Rattle.yaml_core.specs.Decimal.{or_nothing, AreParts, With, scale_of, significant, mantissa_text, float_text}

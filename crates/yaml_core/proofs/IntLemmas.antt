@@ -9,7 +9,7 @@ use Rattle.std.specs.Int.Digits.{digits_of, AllBelowBase}
 use Rattle.yaml_definitions.specs.model.Core.{int_range, int_value, are_digits, number_in, unsigned, is_negative, signed, natural_text, int_text, content_of, Value, refused}
 use Rattle.yaml_definitions.proofs.FloatLaws.{digits_number}
 use Rattle.yaml_definitions.proofs.Members.{and_both}
-use Rattle.yaml_core.specs.Answer.{IsContent, RefusesValue}
+use Rattle.yaml_core.specs.CoreAnswer.{IsContent, RefusesValue}
 use Rattle.yaml_core.specs.Values.{decimal_int}
 use Rattle.yaml_core.specs.declared.scalar.CoreFault.{CoreFault}
 use Rattle.yaml_core.specs.declared.scalar.CoreFault.TheVariants as faults
@@ -91,10 +91,6 @@ pub stripped_all : (x : List ℕ) → length (without_zeros x) ≡ length x → 
 unfolding without_zeros
 stripped_all [] h = refl
 stripped_all (c ∷ x) h = let i = stripped_short x in cond_both (c == 48) (without_zeros x) (c ∷ x) (λ z. length z ≡ suc (length x) → z ≡ c ∷ x) (λ e g. absurd (omega arith)) (λ e g. refl) h
-
-pub zero_natural : (x : List ℕ) → without_zeros x ≡ [] → natural_text (number_in 10 x) ≡ 48 ∷ []
-unfolding natural_text
-zero_natural x e = ap natural_text (sym (stripped_number x) ∙ ap (number_in 10) e)
 
 pub stripped_natural : (x : List ℕ) → all_digits 10 x ≡ true → (without_zeros x ≡ [] → ⊥) → natural_text (number_in 10 x) ≡ without_zeros x
 stripped_natural x h n = ap natural_text (sym (stripped_number x)) ∙ natural_digits (without_zeros x) (stripped_digits x h) (stripped_leads x) n

@@ -3,7 +3,7 @@ use Rattle.std.proofs.Common.{◌≡◌, ℕ, true, ◌⊎◌, inl, inr, Option,
 use Rattle.std.specs.Prelude.{MatchResult, is_some}
 use Rattle.yaml_definitions.specs.model.Tag.{null_tag, bool_tag, int_tag, float_tag}
 use Rattle.yaml_definitions.specs.model.Core.{bad_content, Value, int_value, infinity, number_in, is_negative, decimal_of, null_of, content_of, refused, Resolved, accepted, by_range, by_pattern}
-use Rattle.yaml_core.specs.Answer.{RefusesScalar, RefusesValue, IsContent, IsDecimalContent, RefusesDecimal}
+use Rattle.yaml_core.specs.CoreAnswer.{RefusesScalar, RefusesValue, IsContent, IsDecimalContent, RefusesDecimal}
 use Rattle.yaml_core.specs.Form.{form_of}
 use Rattle.yaml_core.specs.Kind.{of_kind, word_of}
 use Rattle.yaml_core.specs.Values.{HasValues, decimal_int}

@@ -36,12 +36,6 @@ digit_at base (c ∷ xs) (suc i) h l = digit_at base xs i (and_both (is_digit c 
 pub digit_below : (c base : ℕ) → is_digit c base ≡ true → digit_value c < base
 digit_below c base h = ltb-true (digit_value c) base h
 
-pub digit_wider : (c base : ℕ) → is_digit c base ≡ true → base ≤ 16 → is_digit c 16 ≡ true
-digit_wider c base h l = let p = digit_below c base h in below (digit_value c) (omega arith)
-  where
-    below : (d : ℕ) → d < 16 → nat_lt d 16 ≡ true
-    below d p = grind (arith, nat_tests)
-
 -- ---- past the greatest
 
 pub past_before : (base i most n : ℕ) (xs : List ℕ) → 0 < base → i < length xs → n ≡ number_in base (take i xs) → most / base < n → most < number_in base xs
@@ -58,14 +52,6 @@ past_after base i most n xs p l e h =
     let g = number_part base (i + 1) xs p in
     let k : number_in base (take i xs) * base ≡ n * base = ap (λ z. z * base) (sym e) in
     omega (arith, f, g, k)
-
--- a number that may take one more digit
-pub may_grow : (base most n : ℕ) → 0 < base → n ≤ most / base → n * base ≤ most
-may_grow base most n p h = by (nat_le (n * base) most) refl
-  where
-    by : (b : Bool) → nat_le (n * base) most ≡ b → n * base ≤ most
-    by true e = grind (arith, nat_tests)
-    by false e = let l : most < n * base = grind (arith, nat_tests) in let k = (div-lt_iff_lt-mul {k = base} {x = most} {y = n} p).1 l in absurd (omega arith)
 
 -- ---- zeros at the beginning
 

@@ -1,7 +1,7 @@
 //! The canonical content of a text under the tag of each kind.
 ghost use Rattle.std.specs.Prelude.{◌≡◌, Ok, MatchResult, IsOk};
 ghost use Rattle.std.specs.Cow.{cow_str_bytes};
-ghost use Rattle.yaml_core.specs.Answer.{RefusesScalar};
+ghost use Rattle.yaml_core.specs.CoreAnswer.{RefusesScalar};
 ghost use Rattle.yaml_core.specs.Form.{form_of};
 ghost use Rattle.yaml_core.specs.Kind.{kind_tag, of_kind, IsWord, HasNoWord};
 

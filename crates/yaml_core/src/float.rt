@@ -6,7 +6,7 @@ ghost use Rattle.std.specs.Str.{IsAscii};
 ghost use Rattle.std.specs.String.{string_bytes};
 ghost use Rattle.yaml_definitions.specs.model.Core.{infinity, is_negative, decimal_of, content_of, signed, exponent_of, exponent_text};
 ghost use Rattle.yaml_definitions.specs.model.Limits.{exponent_limit};
-ghost use Rattle.yaml_core.specs.Answer.{RefusesDecimal, IsDecimalContent};
+ghost use Rattle.yaml_core.specs.CoreAnswer.{RefusesDecimal, IsDecimalContent};
 ghost use Rattle.yaml_core.specs.Decimal.{AreParts, With, scale_of, significant, float_text, mantissa_text, pointed_text};
 ghost use Rattle.yaml_core.specs.Digits.{without_zeros, without_last_zeros};
 

@@ -3,7 +3,7 @@ ghost use Rattle.std.specs.Prelude.{◌≡◌, ◌<◌, ◌≤◌, ◌^◌, ◌�
 ghost use Rattle.std.specs.Char.{is_digit, digit_value};
 ghost use Rattle.std.specs.Cow.{cow_str_bytes};
 ghost use Rattle.yaml_definitions.specs.model.Core.{are_digits, number_in, unsigned, int_value, natural_text, refused};
-ghost use Rattle.yaml_core.specs.Answer.{IsContent, RefusesValue};
+ghost use Rattle.yaml_core.specs.CoreAnswer.{IsContent, RefusesValue};
 ghost use Rattle.yaml_core.specs.State.{all_digits};
 ghost use Rattle.yaml_core.specs.Digits.{most_of};
 ghost use Rattle.yaml_core.specs.Values.{decimal_int};

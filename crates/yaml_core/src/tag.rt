@@ -3,20 +3,7 @@ ghost use Rattle.std.specs.Prelude.{◌≡◌};
 ghost use Rattle.yaml_core.specs.Kind.{kind_tag, use_of};
 
 use crate::kind::PlainKind;
-
-const NULL: &str = "tag:yaml.org,2002:null";
-
-const BOOL: &str = "tag:yaml.org,2002:bool";
-
-const INT: &str = "tag:yaml.org,2002:int";
-
-const FLOAT: &str = "tag:yaml.org,2002:float";
-
-const STR: &str = "tag:yaml.org,2002:str";
-
-const SEQ: &str = "tag:yaml.org,2002:seq";
-
-const MAP: &str = "tag:yaml.org,2002:map";
+use yaml_text::core_tag;
 
 /// What a tag makes of a scalar.
 #[derive(Clone, Copy)]
@@ -34,15 +21,15 @@ pub(crate) enum TagUse {
 pub(crate) fn tag_use(tag: &str) -> TagUse
     ensures { result ≡ use_of tag.now }
 {
-    if tag == NULL {
+    if tag == core_tag::NULL {
         TagUse::Judged(PlainKind::Null)
-    } else if tag == BOOL {
+    } else if tag == core_tag::BOOL {
         TagUse::Judged(PlainKind::Bool)
-    } else if tag == INT {
+    } else if tag == core_tag::INT {
         TagUse::Judged(PlainKind::Int)
-    } else if tag == FLOAT {
+    } else if tag == core_tag::FLOAT {
         TagUse::Judged(PlainKind::Float)
-    } else if tag == SEQ || tag == MAP {
+    } else if tag == core_tag::SEQ || tag == core_tag::MAP {
         TagUse::Collection
     } else {
         TagUse::Kept
@@ -56,11 +43,11 @@ impl PlainKind {
         ensures { result.now ≡ kind_tag self }
     {
         match self {
-            PlainKind::Null => NULL,
-            PlainKind::Bool => BOOL,
-            PlainKind::Int => INT,
-            PlainKind::Float => FLOAT,
-            PlainKind::Str => STR,
+            PlainKind::Null => core_tag::NULL,
+            PlainKind::Bool => core_tag::BOOL,
+            PlainKind::Int => core_tag::INT,
+            PlainKind::Float => core_tag::FLOAT,
+            PlainKind::Str => core_tag::STR,
         }
     }
 }

@@ -222,10 +222,3 @@ mutual
         | inl e ↦ or_left (same k x && same v y) (one_is ps x y) (both_and (same k x) (same v y) (ap (same k) e.0 ∙ first) (ap (same v) e.1 ∙ second))
         | inr m ↦ or_right (same k x && same v y) (one_is ps x y) (rest m)
       ]
-
--- so whether two trees are the same is seen in either form
-pub same_when_arranged : (t u : Tree) → same (arranged t) (arranged u) ≡ same t u
-same_when_arranged t u = sym (same_like t (arranged t) (arranged u) (same_arranged t)) ∙ turned
-  where
-    turned : same t (arranged u) ≡ same t u
-    turned = bool_same (same t (arranged u)) (same t u) (λ h. same_trans t (arranged u) u h (same_sym u (arranged u) (same_arranged u))) (λ h. same_trans t u (arranged u) h (same_arranged u))

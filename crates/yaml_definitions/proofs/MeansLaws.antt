@@ -4,7 +4,7 @@ use Rattle.std.specs.Prelude.{encode_utf8_all}
 use Rattle.std.specs.Cmp.Lexicographic.{pointwise}
 use Rattle.std.specs.Ordering.{is_gt}
 use Rattle.yaml_definitions.specs.model.Limits.{text_limit, height_limit}
-use Rattle.yaml_definitions.specs.model.Tree.{Tree, Trees, Pairs, scalar, sequence, mapping, end, item, done, entry, height, heights, heights_of_pairs, nodes, nodes_of, nodes_of_pairs}
+use Rattle.yaml_definitions.specs.model.Tree.{Tree, Trees, Pairs, scalar, sequence, mapping, end, item, done, entry, height, heights, heights_of_pairs}
 use Rattle.yaml_definitions.specs.model.Order.{tree_cmp, enter, arranged, arranged_trees, arranged_pairs}
 use Rattle.yaml_definitions.specs.model.Same.{same, Keyed}
 use Rattle.yaml_definitions.specs.model.Event.{Event}
@@ -23,7 +23,7 @@ use Rattle.yaml_definitions.proofs.ProperLaws.{proper_arranged}
 use Rattle.yaml_definitions.proofs.BlockLaws.{block_count, block_unfold}
 use Rattle.yaml_definitions.proofs.Law.{spelled_stands, unfold_from}
 
--- ---- arranging keeps height and size
+-- ---- arranging keeps height
 
 height_enter : (k v : Tree) (ps : Pairs) → heights_of_pairs (enter k v ps) ≡ heights_of_pairs (entry k v ps)
 height_enter k v done = refl
@@ -31,13 +31,6 @@ height_enter k v (entry j w ps) =
     let i = height_enter k v ps in
     let l : heights_of_pairs (entry j w (enter k v ps)) ≡ heights_of_pairs (entry k v (entry j w ps)) = omega arith in
     elim (is_gt (tree_cmp k j)) as (λ b. heights_of_pairs (cond b (entry j w (enter k v ps)) (entry k v (entry j w ps))) ≡ heights_of_pairs (entry k v (entry j w ps))) [ true ↦ l | false ↦ refl ]
-
-nodes_enter : (k v : Tree) (ps : Pairs) → nodes_of_pairs (enter k v ps) ≡ nodes_of_pairs (entry k v ps)
-nodes_enter k v done = refl
-nodes_enter k v (entry j w ps) =
-    let i = nodes_enter k v ps in
-    let l : nodes_of_pairs (entry j w (enter k v ps)) ≡ nodes_of_pairs (entry k v (entry j w ps)) = omega arith in
-    elim (is_gt (tree_cmp k j)) as (λ b. nodes_of_pairs (cond b (entry j w (enter k v ps)) (entry k v (entry j w ps))) ≡ nodes_of_pairs (entry k v (entry j w ps))) [ true ↦ l | false ↦ refl ]
 
 mutual
   unfolding arranged
@@ -58,26 +51,6 @@ mutual
       let q = height_arranged v in
       let r = pairs_height ps in
       height_enter (arranged k) (arranged v) (arranged_pairs ps) ∙ (λ z. max (suc (max (p z) (q z))) (r z))
-
-mutual
-  unfolding arranged
-
-  pub nodes_arranged : (t : Tree) → nodes (arranged t) ≡ nodes t
-  nodes_arranged (scalar g x) = refl
-  nodes_arranged (sequence g ts) = ap suc (trees_nodes ts)
-  nodes_arranged (mapping g ps) = ap suc (pairs_nodes ps)
-
-  trees_nodes : (ts : Trees) → nodes_of (arranged_trees ts) ≡ nodes_of ts
-  trees_nodes end = refl
-  trees_nodes (item t ts) = let p = nodes_arranged t in let q = trees_nodes ts in λ z. p z + q z
-
-  pairs_nodes : (ps : Pairs) → nodes_of_pairs (arranged_pairs ps) ≡ nodes_of_pairs ps
-  pairs_nodes done = refl
-  pairs_nodes (entry k v ps) =
-      let p = nodes_arranged k in
-      let q = nodes_arranged v in
-      let r = pairs_nodes ps in
-      nodes_enter (arranged k) (arranged v) (arranged_pairs ps) ∙ (λ z. p z + q z + r z)
 
 -- ---- the forest arranged
 

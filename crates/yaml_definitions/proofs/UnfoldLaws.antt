@@ -214,9 +214,6 @@ module _ (short : Tree → Bool) (repeated : List Tree) where
           let i = h e (subst (λ z. Known (height (make x)) 0 z e) (sym c) l) in
           rw (i, c)
 
-  news : Tree → List Tree → List Tree
-  news t w = firsts (walk short t w)
-
   after : (h : ℕ) (w : List Tree) (e : Table) (xs : List Tree) → Known h 0 (anchored repeated w) e → Known h 0 (anchored repeated (w ++ xs)) (e ++ table_of w xs)
   after h w e xs k =
       subst (λ z. Known h 0 z (e ++ table_of w xs)) (sym (filter-append (is_anchored repeated) w xs))

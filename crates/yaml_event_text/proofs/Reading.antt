@@ -1,6 +1,6 @@
 -- What a refusal to read says of the bytes.
 use Rattle.std.proofs.Common.{◌≡◌, ◌⊎◌, inl, inr, ℕ, List, subst}
-use Rattle.yaml_text.specs.Answer.{IsRefusal}
+use Rattle.yaml_text.specs.LeafAnswer.{IsRefusal}
 use Rattle.yaml_definitions.specs.model.Limits.{open_limit}
 use Rattle.yaml_definitions.specs.model.Text.{Text}
 use Rattle.yaml_text.specs.Refused.{RefusesText}
@@ -11,7 +11,7 @@ use Rattle.yaml_text.specs.declared.fault.Fault.TheVariants as faults
 use Rattle.yaml_definitions.proofs.grammar.OneText.{one-text}
 use Rattle.yaml_read.specs.Decided.{HasNoReading as NoReading}
 use Rattle.yaml_canon.specs.Claims.{IsNoStream}
-use Rattle.yaml_event_text.specs.Answer.{IsUnread}
+use Rattle.yaml_event_text.specs.EventTextAnswer.{IsUnread}
 
 -- a refusal that is not want of memory means that the bytes are no stream
 no_stream : (bytes text : List ℕ) (fault : Fault) → Text bytes text → (fault ≡ faults.OutOfMemory) ⊎ NoReading text → (fault ≡ faults.OutOfMemory → ⊥) → IsNoStream bytes

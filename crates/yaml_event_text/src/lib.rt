@@ -1,14 +1,21 @@
 //! The event text of bytes.
 #![tactic(auto)]
 
-ghost use Rattle.std.specs.Prelude.{IfOk, IfErr};
+ghost use Rattle.std.specs.Prelude.{◌≡◌, ℕ, List, map, IfOk, IfErr, OnErr};
+ghost use Rattle.std.specs.Result.{IsErrAnd};
 ghost use Rattle.std.specs.String.{string_bytes};
-ghost use Rattle.yaml_event_text.specs.Answer.{IsEventText, IsUnread};
+ghost use Rattle.yaml_definitions.specs.model.EventText.{events_text};
+ghost use Rattle.yaml_definitions.specs.model.Text.{Text};
+ghost use Rattle.yaml_text.specs.EventModel.{event_of};
+ghost use Rattle.yaml_text.specs.Refused.{RefusesText};
+ghost use Rattle.yaml_canon.specs.Rooms.{Places};
+ghost use Rattle.yaml_event_text.specs.EventTextAnswer.{IsEventText, IsUnread, PlacesEvents};
 
 use std::alloc::Global;
-use yaml_events::write_events;
+use yaml_events::{fill_events, text_len, write_events};
 use yaml_read::read_events;
 use yaml_text::chars::Chars;
+use yaml_text::event::Event;
 use yaml_text::fault::Fault;
 
 /// The event text of an input's bytes: the events that they are read to, a line for each, in the
@@ -20,4 +27,33 @@ pub fn event_text(alloc: Global, bytes: &[u8]) -> Result<String, Fault>
     let source = Chars::read(bytes)?;
     let events = read_events(alloc, &source)?;
     write_events(alloc, events.as_slice())
+}
+
+/// Puts the text of events at the start of the room, if that is long enough. The answer is the text's length.
+fn place(events: &[Event<'_>], room: &mut [u8]) -> Result<usize, Fault>
+    ensures ok { IfOk result (Places (events_text (map event_of events.now)) room.old room.new) }
+    ensures only { IfErr result (λ fault. fault ≡ Fault.OutOfMemory) }
+    ensures kept { OnErr result (room.new ≡ room.old) }
+{
+    let len = text_len(events)?;
+    if len > room.len() {
+        return Ok(len);
+    }
+    fill_events(events, &mut room[..len])?;
+    Ok(len)
+}
+
+/// Puts the event text of an input's bytes at the start of the room, and answers the text's length in bytes. Where the room is
+/// too small nothing of it is changed; behind the text it is as it was. The text is held nowhere else.
+///
+/// Refused is what `event_text` refuses, and the room is then as it was.
+pub fn event_text_into(alloc: Global, bytes: &[u8], room: &mut [u8]) -> Result<usize, Fault>
+    ensures text { IfOk result (PlacesEvents bytes.now room.old room.new) }
+    ensures refused { IfErr result (IsUnread bytes.now) }
+    ensures kept { OnErr result (room.new ≡ room.old) }
+    ensures no_text { ((cs : List ℕ) → Text bytes.now cs → ⊥) → IsErrAnd result (RefusesText bytes.now) }
+{
+    let chars = Chars::read(bytes)?;
+    let events = read_events(alloc, &chars)?;
+    place(events.as_slice(), room)
 }

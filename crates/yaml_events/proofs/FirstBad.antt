@@ -9,7 +9,7 @@ use Rattle.yaml_definitions.specs.model.Event.{Event}
 use Rattle.yaml_definitions.specs.model.EventText.{IsSound, event_line, events_text}
 use Rattle.yaml_events.specs.Lines.{IsEventLine, IsOneLine, lines_text, IsBadBefore, IsFirstBadLine}
 use Rattle.yaml_events.specs.Parts.{IsLineOf}
-use Rattle.yaml_events.specs.Answer.{RefusesEventText, RefusesPart, fault_of}
+use Rattle.yaml_events.specs.LineAnswer.{RefusesEventText, RefusesPart, fault_of}
 use Rattle.yaml_events.specs.declared.fault.LineFault.{LineFault}
 use Rattle.yaml_events.specs.declared.fault.LineFault.TheVariants.{NoEvent, OutOfMemory}
 use Rattle.yaml_events.proofs.LineText.{events_none, events_one_more}

@@ -5,7 +5,7 @@ use Rattle.std.proofs.lemmas.List.{append-nil, length-append, append_cancel_left
 use Rattle.std.proofs.lemmas.Bool.Decides.{nat_tests}
 use Rattle.yaml_definitions.specs.model.Event.{Event}
 use Rattle.yaml_definitions.specs.model.EventText.{EventText, events_text}
-use Rattle.yaml_events.specs.Answer.{TellsEventText, StillBehind}
+use Rattle.yaml_events.specs.LineAnswer.{TellsEventText, StillBehind}
 use Rattle.yaml_events.specs.Lines.{IsOneLine}
 use Rattle.yaml_events.specs.Parts.{IsLineOf}
 use Rattle.yaml_text.specs.EventModel.{event_of}

@@ -1,6 +1,7 @@
 pub mod Pushes
 pub mod Room
 pub mod LineLengths
+pub mod Lengths
 pub mod TagText
 pub mod ValueText
 pub mod ValueReading

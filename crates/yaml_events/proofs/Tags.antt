@@ -9,7 +9,7 @@ use Rattle.std.proofs.lemmas.Result.{err_from_is_err_and}
 use Rattle.percent_encoding.specs.declared.DecodeError.{DecodeError}
 use Rattle.percent_encoding.specs.declared.DecodeError.TheVariants as decoding
 use Rattle.yaml_events.specs.declared.fault.LineFault.{LineFault}
-use Rattle.yaml_events.specs.Answer.{Parses, decoding_fault}
+use Rattle.yaml_events.specs.LineAnswer.{Parses, decoding_fault}
 use Rattle.std.specs.Str.{IsUtf8, is_utf8}
 use Rattle.std.specs.List.{All}
 use Rattle.std.proofs.lemmas.List.{append-nil}
@@ -163,10 +163,6 @@ pub encoding_of : (g : WrittenTag) (inner : List ℕ) → false ≡ bytes_eq inn
 encoding_of untagged inner e h = absurd h
 encoding_of non_specific inner e h = let q : false ≡ true = e ∙ (bytes_decides inner (33 ∷ [])).1 h in absurd (cc)
 encoding_of (full g) inner e h = (g, h)
-
--- an encoding is that of one tag
-pub encoding_once : (text g h : List ℕ) → IsEncoded text g → IsEncoded text h → g ≡ h
-encoding_once text g h m n = sym (decoded_is text g m) ∙ decoded_is text h n
 
 pub tag_text : (text after inner rest g : List ℕ) → text ≡ 32 ∷ 60 ∷ after → after ≡ inner ++ (62 ∷ rest) → IsEncoded inner g → text ≡ tag_part (full g) ++ rest
 tag_text text after inner rest g e f h = e ∙ ap (λ z. 32 ∷ 60 ∷ z) (f ∙ ap (λ z. z ++ (62 ∷ rest)) h.1 ∙ sym (closed g rest))

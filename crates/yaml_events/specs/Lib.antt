@@ -1,3 +1,4 @@
 pub mod Lines
-pub mod Answer
 pub mod Parts
+pub mod LineAnswer
+pub mod Rooms

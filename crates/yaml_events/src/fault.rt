@@ -1,6 +1,6 @@
 //! Why a text is no event text.
 ghost use Rattle.std.specs.Prelude.{◌≡◌};
-ghost use Rattle.yaml_events.specs.Answer.{fault_of};
+ghost use Rattle.yaml_events.specs.LineAnswer.{fault_of};
 
 use percent_encoding::DecodeError;
 use std::alloc::{AllocError, AllocFailed};
@@ -48,7 +48,7 @@ impl From<AllocError> for LineFault {
 }
 
 impl From<DecodeError> for LineFault {
-    ghost use Rattle.yaml_events.specs.Answer.{decoding_fault};
+    ghost use Rattle.yaml_events.specs.LineAnswer.{decoding_fault};
 
     ghost from_gives = { λ d e. e ≡ decoding_fault d };
 

@@ -2,17 +2,22 @@
 #![tactic(auto)]
 
 mod fault;
+mod fill;
 mod length;
 mod line;
 mod matching;
+mod measure;
 mod name;
 mod reader;
+mod sink;
 mod tag;
 mod value;
 mod writer;
 
 pub use fault::EventFault;
+pub use fill::fill_events;
 pub use length::longest_line;
 pub use matching::is_event_text;
+pub use measure::text_len;
 pub use reader::read_event_text;
 pub use writer::{push_line, write_events};

@@ -6,7 +6,7 @@ ghost use Rattle.std.specs.Cow.{cow_str_bytes};
 ghost use Rattle.yaml_text.specs.EventModel.{event_of, style_of, written_of};
 ghost use Rattle.yaml_definitions.specs.model.EventText.{event_line, style_text};
 ghost use Rattle.yaml_definitions.specs.model.Event as plain;
-ghost use Rattle.yaml_events.specs.Answer.{Parses};
+ghost use Rattle.yaml_events.specs.LineAnswer.{Parses};
 ghost use Rattle.yaml_events.specs.Parts.{IsProps, EndsProps, IsCut, EndsMark, IsMark, IsCollection, IsScalarLine, IsLineOf, IsBare, IsSigned};
 
 use crate::fault::LineFault;

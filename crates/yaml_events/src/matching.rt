@@ -2,7 +2,7 @@
 ghost use Rattle.std.specs.Prelude.{IfOk, IfErr, map};
 ghost use Rattle.yaml_definitions.specs.model.Event as plain;
 ghost use Rattle.yaml_text.specs.EventModel.{event_of};
-ghost use Rattle.yaml_events.specs.Answer.{RefusesEventText, RefusesPart, StillBehind, TellsEventText};
+ghost use Rattle.yaml_events.specs.LineAnswer.{RefusesEventText, RefusesPart, StillBehind, TellsEventText};
 ghost use Rattle.yaml_events.specs.Parts.{IsLineOf};
 ghost use Rattle.std.specs.Option.{option_map};
 

@@ -2,28 +2,29 @@
 ghost use Rattle.std.specs.Prelude.{◌≡◌, ◌<◌, ◌≤◌, ◌+◌, ◌++◌, length, OnOk, OnErr};
 ghost use Rattle.std.specs.Option.{option_map};
 ghost use Rattle.std.specs.Cow.{cow_str_bytes};
-ghost use Rattle.std.specs.String.{string_bytes, string_len, string_capacity};
 ghost use Rattle.yaml_definitions.specs.model.EventText.{anchor_part};
 ghost use Rattle.yaml_definitions.specs.model.Sound.{is_anchor, is_anchor_char};
-ghost use Rattle.yaml_events.specs.Answer.{Parses};
+ghost use Rattle.yaml_events.specs.LineAnswer.{Parses};
 ghost use Rattle.yaml_events.specs.Parts.{IsCutAtSpace, IsAnchored, EndsAnchor};
 
 use crate::fault::LineFault;
+use crate::sink::Sink;
 use std::alloc::AllocError;
 use std::borrow::CowStr;
 use yaml_text::class::{is_break, is_flow_indicator, is_printable, is_white};
 
 /// Appends an anchor, where there is one, after a space.
-pub fn push_anchor(anchor: &Option<CowStr<'_>>, out: &mut String) -> Result<(), AllocError>
-    ensures ok { OnOk result (string_bytes out.new ≡ string_bytes out.old ++ anchor_part (option_map cow_str_bytes anchor.now)) }
-    ensures keeps { string_capacity out.old ≤ string_capacity out.new }
-    ensures full { OnErr result (string_capacity out.old < string_len out.old + length (anchor_part (option_map cow_str_bytes anchor.now))) }
+pub fn push_anchor<S: Sink>(anchor: &Option<CowStr<'_>>, out: &mut S) -> Result<(), AllocError>
+    ensures ok { OnOk result (S.bytes out.new ≡ S.bytes out.old ++ anchor_part (option_map cow_str_bytes anchor.now)) }
+    ensures keeps { S.room out.old ≤ S.room out.new }
+    ensures lent { S.lent out.new ≡ S.lent out.old }
+    ensures full { OnErr result (S.room out.old < length (S.bytes out.old) + length (anchor_part (option_map cow_str_bytes anchor.now))) }
 {
     match anchor {
         None => Ok(()),
         Some(name) => {
-            out.push_str(" &")?;
-            out.push_str(name.as_str())
+            out.put(" &")?;
+            out.put(name.as_str())
         }
     }
 }

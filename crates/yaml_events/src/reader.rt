@@ -2,7 +2,7 @@
 ghost use Rattle.std.specs.Prelude.{◌≡◌, IfOk, IfErr, map};
 ghost use Rattle.yaml_text.specs.EventModel.{event_of};
 ghost use Rattle.yaml_definitions.specs.model.EventText.{EventText};
-ghost use Rattle.yaml_events.specs.Answer.{RefusesEventText};
+ghost use Rattle.yaml_events.specs.LineAnswer.{RefusesEventText};
 
 use crate::fault::EventFault;
 use crate::line::read_line;

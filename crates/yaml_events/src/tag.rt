@@ -1,15 +1,15 @@
 //! The tags of event lines, percent-encoded between angle brackets.
 ghost use Rattle.std.specs.Prelude.{◌≡◌, ◌<◌, ◌≤◌, ◌+◌, ◌++◌, [], length, OnOk, OnErr, IfOk, IsTrue, ◌↔◌};
-ghost use Rattle.std.specs.String.{string_bytes, string_len, string_capacity};
 ghost use Rattle.yaml_text.specs.EventModel.{written_of};
 ghost use Rattle.yaml_definitions.specs.model.EventText.{tag_part};
 ghost use Rattle.yaml_definitions.specs.canonical.TagText.{encoded};
 ghost use Rattle.std.specs.Cow.{cow_str_bytes};
 ghost use Rattle.yaml_definitions.specs.model.Tag.{is_full};
-ghost use Rattle.yaml_events.specs.Answer.{Parses};
+ghost use Rattle.yaml_events.specs.LineAnswer.{Parses};
 ghost use Rattle.yaml_events.specs.Parts.{IsEncoded, IsTagged, EndsTag};
 
 use crate::fault::LineFault;
+use crate::sink::Sink;
 use percent_encoding::{AsciiSet, NON_ALPHANUMERIC, ascii_set, percent_decode, percent_encode};
 use std::alloc::{AllocError, Global};
 use std::borrow::CowStr;
@@ -44,30 +44,32 @@ const ESCAPED: AsciiSet = ascii_set!(
 );
 
 /// Appends a tag's percent-encoding.
-fn push_encoded(tag: &str, out: &mut String) -> Result<(), AllocError>
-    ensures ok { OnOk result (string_bytes out.new ≡ string_bytes out.old ++ encoded tag.now []) }
-    ensures keeps { string_capacity out.old ≤ string_capacity out.new }
-    ensures full { OnErr result (string_capacity out.old < string_len out.old + length (encoded tag.now [])) }
+fn push_encoded<S: Sink>(tag: &str, out: &mut S) -> Result<(), AllocError>
+    ensures ok { OnOk result (S.bytes out.new ≡ S.bytes out.old ++ encoded tag.now []) }
+    ensures keeps { S.room out.old ≤ S.room out.new }
+    ensures lent { S.lent out.new ≡ S.lent out.old }
+    ensures full { OnErr result (S.room out.old < length (S.bytes out.old) + length (encoded tag.now [])) }
 {
     'encode: for piece in percent_encode(tag.as_bytes(), ESCAPED) {
-        out.push_str(piece)?;
+        out.put(piece)?;
     }
     Ok(())
 }
 
 /// Appends a tag, where there is one, after a space.
-pub fn push_tag(tag: &EventTag<'_>, out: &mut String) -> Result<(), AllocError>
-    ensures ok { OnOk result (string_bytes out.new ≡ string_bytes out.old ++ tag_part (written_of tag.now)) }
-    ensures keeps { string_capacity out.old ≤ string_capacity out.new }
-    ensures full { OnErr result (string_capacity out.old < string_len out.old + length (tag_part (written_of tag.now))) }
+pub fn push_tag<S: Sink>(tag: &EventTag<'_>, out: &mut S) -> Result<(), AllocError>
+    ensures ok { OnOk result (S.bytes out.new ≡ S.bytes out.old ++ tag_part (written_of tag.now)) }
+    ensures keeps { S.room out.old ≤ S.room out.new }
+    ensures lent { S.lent out.new ≡ S.lent out.old }
+    ensures full { OnErr result (S.room out.old < length (S.bytes out.old) + length (tag_part (written_of tag.now))) }
 {
     match tag {
         EventTag::None => Ok(()),
-        EventTag::NonSpecific => out.push_str(" <!>"),
+        EventTag::NonSpecific => out.put(" <!>"),
         EventTag::Full(full) => {
-            out.push_str(" <")?;
+            out.put(" <")?;
             push_encoded(full.as_str(), out)?;
-            out.push_str(">")
+            out.put(">")
         }
     }
 }

@@ -1,18 +1,18 @@
 //! The values of event lines: a scalar's text, in which five characters are escaped.
 ghost use Rattle.std.specs.Prelude.{◌≡◌, ◌<◌, ◌≤◌, ◌+◌, ◌++◌, [], ◌∷◌, length, MatchOption, OnOk, OnErr, IfOk, ◌≢◌, ℕ};
 ghost use Rattle.std.specs.Str.{IsUtf8};
-ghost use Rattle.std.specs.String.{string_bytes, string_len, string_capacity};
 ghost use Rattle.std.specs.Cow.{cow_str_bytes};
 ghost use Rattle.yaml_definitions.specs.model.EventText.{value_byte, value_text};
-ghost use Rattle.yaml_events.specs.Answer.{Parses};
+ghost use Rattle.yaml_events.specs.LineAnswer.{Parses};
 
 use crate::fault::LineFault;
+use crate::sink::Sink;
 use std::alloc::{AllocError, Global};
 use std::borrow::CowStr;
 
 /// The escape of a byte that no value has as itself.
 #[tactic(auto, unfolding(yaml_definitions::specs::model::EventText::value_byte))]
-fn escape_of(byte: u8) -> Option<&'static str>
+pub fn escape_of(byte: u8) -> Option<&'static str>
     ensures { MatchOption result (value_byte byte ≡ byte ∷ []) (λ text. (text.now ≡ value_byte byte) × (byte < 128) × (value_byte byte ≢ byte ∷ [])) }
 {
     match byte {
@@ -26,20 +26,21 @@ fn escape_of(byte: u8) -> Option<&'static str>
 }
 
 /// Appends a text as a value, by runs of what stands for itself.
-pub fn push_value(text: &str, out: &mut String) -> Result<(), AllocError>
-    ensures ok { OnOk result (string_bytes out.new ≡ string_bytes out.old ++ value_text text.now) }
-    ensures keeps { string_capacity out.old ≤ string_capacity out.new }
-    ensures full { OnErr result (string_capacity out.old < string_len out.old + length (value_text text.now)) }
+pub fn push_value<S: Sink>(text: &str, out: &mut S) -> Result<(), AllocError>
+    ensures ok { OnOk result (S.bytes out.new ≡ S.bytes out.old ++ value_text text.now) }
+    ensures keeps { S.room out.old ≤ S.room out.new }
+    ensures lent { S.lent out.new ≡ S.lent out.old }
+    ensures full { OnErr result (S.room out.old < length (S.bytes out.old) + length (value_text text.now)) }
 {
     let mut run = 0;
     'spell: for (at, byte) in text.as_bytes().iter().enumerate() {
         if let Some(escape) = escape_of(*byte) {
-            out.push_str(&text[run..at])?;
-            out.push_str(escape)?;
+            out.put(&text[run..at])?;
+            out.put(escape)?;
             run = at + 1;
         }
     }
-    out.push_str(&text[run..])
+    out.put(&text[run..])
 }
 
 /// What a backslash and this byte stand for in a value.

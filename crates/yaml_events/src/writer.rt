@@ -7,6 +7,7 @@ ghost use Rattle.yaml_text.specs.EventModel.{event_of, style_of, written_of};
 ghost use Rattle.yaml_definitions.specs.model.EventText.{EventText, IsSound, event_line, anchor_part, tag_part, style_text, flag_text, value_text};
 
 use crate::name::push_anchor;
+use crate::sink::Sink;
 use crate::tag::push_tag;
 use crate::value::push_value;
 use std::alloc::{AllocError, Global};
@@ -28,26 +29,28 @@ fn style_text(style: Style) -> &'static str
 }
 
 /// Appends a flow mark, if there is to be one.
-fn push_mark(mark: &str, flow: bool, out: &mut String) -> Result<(), AllocError>
-    ensures ok { OnOk result (string_bytes out.new ≡ string_bytes out.old ++ flag_text flow mark.now) }
-    ensures keeps { string_capacity out.old ≤ string_capacity out.new }
-    ensures full { OnErr result (string_capacity out.old < string_len out.old + length (flag_text flow mark.now)) }
+fn push_mark<S: Sink>(mark: &str, flow: bool, out: &mut S) -> Result<(), AllocError>
+    ensures ok { OnOk result (S.bytes out.new ≡ S.bytes out.old ++ flag_text flow mark.now) }
+    ensures keeps { S.room out.old ≤ S.room out.new }
+    ensures lent { S.lent out.new ≡ S.lent out.old }
+    ensures full { OnErr result (S.room out.old < length (S.bytes out.old) + length (flag_text flow mark.now)) }
 {
-    if flow { out.push_str(mark) } else { Ok(()) }
+    if flow { out.put(mark) } else { Ok(()) }
 }
 
 /// Appends a collection's start from its flow mark on.
-fn push_collection(
+fn push_collection<S: Sink>(
     mark: &str,
     flow: bool,
     anchor: &Option<CowStr<'_>>,
     tag: &EventTag<'_>,
-    out: &mut String,
+    out: &mut S,
 ) -> Result<(), AllocError>
-    ensures ok { OnOk result (string_bytes out.new ≡ string_bytes out.old
+    ensures ok { OnOk result (S.bytes out.new ≡ S.bytes out.old
         ++ (flag_text flow mark.now ++ (anchor_part (option_map cow_str_bytes anchor.now) ++ tag_part (written_of tag.now)))) }
-    ensures keeps { string_capacity out.old ≤ string_capacity out.new }
-    ensures full { OnErr result (string_capacity out.old < string_len out.old
+    ensures keeps { S.room out.old ≤ S.room out.new }
+    ensures lent { S.lent out.new ≡ S.lent out.old }
+    ensures full { OnErr result (S.room out.old < length (S.bytes out.old)
         + length (flag_text flow mark.now ++ (anchor_part (option_map cow_str_bytes anchor.now) ++ tag_part (written_of tag.now)))) }
 {
     push_mark(mark, flow, out)?;
@@ -56,63 +59,77 @@ fn push_collection(
 }
 
 /// Appends a scalar's line from its properties on.
-fn push_scalar(
+fn push_scalar<S: Sink>(
     anchor: &Option<CowStr<'_>>,
     tag: &EventTag<'_>,
     style: Style,
     text: &str,
-    out: &mut String,
+    out: &mut S,
 ) -> Result<(), AllocError>
-    ensures ok { OnOk result (string_bytes out.new ≡ string_bytes out.old
+    ensures ok { OnOk result (S.bytes out.new ≡ S.bytes out.old
         ++ (anchor_part (option_map cow_str_bytes anchor.now) ++ (tag_part (written_of tag.now) ++ (style_text (style_of style) ++ value_text text.now)))) }
-    ensures keeps { string_capacity out.old ≤ string_capacity out.new }
-    ensures full { OnErr result (string_capacity out.old < string_len out.old
+    ensures keeps { S.room out.old ≤ S.room out.new }
+    ensures lent { S.lent out.new ≡ S.lent out.old }
+    ensures full { OnErr result (S.room out.old < length (S.bytes out.old)
         + length (anchor_part (option_map cow_str_bytes anchor.now) ++ (tag_part (written_of tag.now) ++ (style_text (style_of style) ++ value_text text.now)))) }
 {
     push_anchor(anchor, out)?;
     push_tag(tag, out)?;
-    out.push_str(style_text(style))?;
+    out.put(style_text(style))?;
     push_value(text, out)
 }
 
 /// Appends an event's line without its LF.
 #[tactic(auto, unfolding(yaml_definitions::specs::model::EventText::event_line))]
-fn push_event(event: &Event<'_>, out: &mut String) -> Result<(), AllocError>
-    ensures ok { OnOk result (string_bytes out.new ≡ string_bytes out.old ++ event_line (event_of event.now)) }
-    ensures keeps { string_capacity out.old ≤ string_capacity out.new }
-    ensures full { OnErr result (string_capacity out.old < string_len out.old + length (event_line (event_of event.now))) }
+fn push_event<S: Sink>(event: &Event<'_>, out: &mut S) -> Result<(), AllocError>
+    ensures ok { OnOk result (S.bytes out.new ≡ S.bytes out.old ++ event_line (event_of event.now)) }
+    ensures keeps { S.room out.old ≤ S.room out.new }
+    ensures lent { S.lent out.new ≡ S.lent out.old }
+    ensures full { OnErr result (S.room out.old < length (S.bytes out.old) + length (event_line (event_of event.now))) }
 {
     match event {
-        Event::StreamStart => out.push_str("+STR"),
-        Event::StreamEnd => out.push_str("-STR"),
-        Event::DocumentStart { explicit: false } => out.push_str("+DOC"),
-        Event::DocumentStart { explicit: true } => out.push_str("+DOC ---"),
-        Event::DocumentEnd { explicit: false } => out.push_str("-DOC"),
-        Event::DocumentEnd { explicit: true } => out.push_str("-DOC ..."),
+        Event::StreamStart => out.put("+STR"),
+        Event::StreamEnd => out.put("-STR"),
+        Event::DocumentStart { explicit: false } => out.put("+DOC"),
+        Event::DocumentStart { explicit: true } => out.put("+DOC ---"),
+        Event::DocumentEnd { explicit: false } => out.put("-DOC"),
+        Event::DocumentEnd { explicit: true } => out.put("-DOC ..."),
         Event::SequenceStart { flow, anchor, tag } => {
-            out.push_str("+SEQ")?;
+            out.put("+SEQ")?;
             push_collection(" []", *flow, anchor, tag, out)
         }
-        Event::SequenceEnd => out.push_str("-SEQ"),
+        Event::SequenceEnd => out.put("-SEQ"),
         Event::MappingStart { flow, anchor, tag } => {
-            out.push_str("+MAP")?;
+            out.put("+MAP")?;
             push_collection(" {}", *flow, anchor, tag, out)
         }
-        Event::MappingEnd => out.push_str("-MAP"),
+        Event::MappingEnd => out.put("-MAP"),
         Event::Scalar {
             anchor,
             tag,
             style,
             text,
         } => {
-            out.push_str("=VAL")?;
+            out.put("=VAL")?;
             push_scalar(anchor, tag, *style, text.as_str(), out)
         }
         Event::Alias { name } => {
-            out.push_str("=ALI *")?;
-            out.push_str(name.as_str())
+            out.put("=ALI *")?;
+            out.put(name.as_str())
         }
     }
+}
+
+/// Appends an event's line with its LF, which is refused only where there was no room for it; a part of the line may then
+/// stand there.
+pub fn put_line<S: Sink>(event: &Event<'_>, out: &mut S) -> Result<(), AllocError>
+    ensures ok { OnOk result (S.bytes out.new ≡ S.bytes out.old ++ (event_line (event_of event.now) ++ (10 ∷ []))) }
+    ensures keeps { S.room out.old ≤ S.room out.new }
+    ensures lent { S.lent out.new ≡ S.lent out.old }
+    ensures full { OnErr result (S.room out.old < length (S.bytes out.old) + length (event_line (event_of event.now) ++ (10 ∷ []))) }
+{
+    push_event(event, out)?;
+    out.put("\n")
 }
 
 /// Appends an event's line with its LF, as `write_events` writes it. The only fault is `OutOfMemory`,
@@ -123,8 +140,7 @@ pub fn push_line(event: &Event<'_>, out: &mut String) -> Result<(), Fault>
     ensures full { OnErr result (string_capacity out.old < string_len out.old + length (event_line (event_of event.now) ++ (10 ∷ []))) }
     ensures only { IfErr result (λ fault. fault ≡ Fault.OutOfMemory) }
 {
-    push_event(event, out)?;
-    out.push_str("\n")?;
+    put_line(event, out)?;
     Ok(())
 }
 

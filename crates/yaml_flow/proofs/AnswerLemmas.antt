@@ -7,10 +7,10 @@ use Rattle.yaml_definitions.specs.model.Event.{Event}
 use Rattle.yaml_definitions.specs.grammar.Rules.{Rule}
 use Rattle.yaml_text.specs.declared.fault.Fault.{Fault}
 use Rattle.yaml_text.specs.declared.fault.Fault.TheVariants as fault
-use Rattle.yaml_text.specs.Answer as scalar
-use Rattle.yaml_text.specs.Answer.{IsRefusal}
+use Rattle.yaml_text.specs.LeafAnswer as scalar
+use Rattle.yaml_text.specs.LeafAnswer.{IsRefusal}
 use Rattle.yaml_flow.specs.Held.{Counts, Keeps, Puts, Alters}
-use Rattle.yaml_flow.specs.Answer.{Appends, Perhaps}
+use Rattle.yaml_flow.specs.NodeAnswer.{Appends, Perhaps}
 
 -- at the exit of a `?`
 pub appends_err : {X S : Type 0} (R : X → Rule (List Event)) (i : ℕ) (end : X → ℕ) (holds : S → List Event → Type 0) (old new : S) (r : Result X Fault) (e : Fault) →

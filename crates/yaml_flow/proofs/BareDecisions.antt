@@ -23,14 +23,14 @@ use Rattle.law_one_reading.proofs.FlowEntries.{Facts, closes_solid, colon_solid,
 use Rattle.law_one_reading.proofs.FlowLevels.{inner_in, inner_out, no_facts, reads_facts, jsons_unique, plain_flow_unique, next_flow, content_flow, end_solid}
 use Rattle.law_one_reading.proofs.PlainEnds.{plain_block_unique}
 use Rattle.law_one_reading.proofs.BlockNodes.{next_here, content_here}
-use Rattle.law_going_on.specs.Decisions.{Refused, Goes, Rest, Here}
+use Rattle.law_going_on.specs.GoingOn.{Refused, Goes, Rest, Here}
 use Rattle.law_going_on.specs.FlowEnds.{EndsYaml, EndsJson}
-use Rattle.law_going_on.proofs.Decisions.{rest_goes, rest_refused, rest_rest, rest_right, rest_seen, refused_either}
+use Rattle.law_going_on.proofs.GoingOn.{rest_goes, rest_refused, rest_rest, rest_right, rest_seen, refused_either}
 use Rattle.law_going_on.proofs.FlowStarts.{plain_left, alias_left, no_json, yaml_propped, json_propped, propped_begin}
 use Rattle.law_going_on.proofs.PropertyChoices.{Second, rest_propped, plain_after, json_after, goes_gives, refused_gives}
 use Rattle.law_going_on.proofs.Separations.{rest_separate, refused_separate, lines_of}
 use Rattle.law_going_on.proofs.FlowLoops.{closes_fresh}
-use Rattle.yaml_flow.specs.Decisions.{IsProperty, AllProperties, Barred, Stops, another, nothing, EndOf, LineGoesOn, IsRefused, IsOnly, DecidesNode}
+use Rattle.yaml_flow.specs.PropertyDecisions.{IsProperty, AllProperties, Barred, Stops, another, nothing, EndOf, LineGoesOn, IsRefused, IsOnly, DecidesNode}
 use Rattle.yaml_flow.specs.FlowDecisions.{IsOpening, ContentOnly, ContentRefused}
 use Rattle.yaml_flow.specs.FlowRules.{opens, below, content_at, content_from}
 use Rattle.yaml_flow.specs.declared.flow.Kind as kinds

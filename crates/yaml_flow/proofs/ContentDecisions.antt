@@ -10,7 +10,7 @@ use Rattle.yaml_definitions.specs.grammar.Events.{Props, scalar}
 use Rattle.yaml_definitions.specs.grammar.Nodes.{Part, c-flow-sequence as flow_seq, c-flow-mapping as flow_map}
 use Rattle.yaml_definitions.specs.grammar.Tags.{Handles}
 use Rattle.yaml_definitions.specs.grammar.FlowScalars.{c-single-quoted as single, c-double-quoted as double}
-use Rattle.yaml_text.specs.Answer.{Unread, Only, Furthest}
+use Rattle.yaml_text.specs.LeafAnswer.{Unread, Only, Furthest}
 use Rattle.yaml_text.specs.Calls as calls
 use Rattle.yaml_definitions.specs.grammar.Rules.{Rule}
 use Rattle.yaml_definitions.specs.grammar.Separation.{Ctx, block_out, block_in, flow_out, flow_in, block_key, flow_key, inner}
@@ -18,12 +18,12 @@ use Rattle.yaml_definitions.specs.grammar.Tags as tags
 use Rattle.yaml_definitions.specs.grammar.FlowScalars.{ns-plain as plain}
 use Rattle.law_one_reading.proofs.FlowNodes.{Kind, Sign, plain_no_kind, plain_start, jsons_start}
 use Rattle.law_one_reading.proofs.FlowLevels.{inner_in, inner_out}
-use Rattle.law_going_on.proofs.Decisions.{rest_goes, rest_refused, rest_seen}
+use Rattle.law_going_on.proofs.GoingOn.{rest_goes, rest_refused, rest_seen}
 use Rattle.law_going_on.proofs.FlowStarts.{single_left, double_left, sequence_left, mapping_left}
-use Rattle.law_going_on.specs.Decisions.{Refused, Goes, Here}
+use Rattle.law_going_on.specs.GoingOn.{Refused, Goes, Here}
 use Rattle.law_going_on.proofs.PlainScalars.{plain_block_goes}
 use Rattle.law_going_on.proofs.FlowChoices.{plain_in_flow}
-use Rattle.yaml_flow.specs.Decisions.{EndOf}
+use Rattle.yaml_flow.specs.PropertyDecisions.{EndOf}
 use Rattle.yaml_flow.specs.FlowDecisions.{IsOpening, DecidesPlain, ContentTaken, ContentRefused, ContentOnly, DecidesContent}
 use Rattle.yaml_flow.specs.FlowRules.{opens, below, content_at, NoOpening}
 use Rattle.yaml_flow.specs.declared.flow.Kind as kinds

@@ -2,13 +2,13 @@
 use Rattle.std.proofs.Common.{◌≡◌, ℕ, ◌⊎◌, inl, inr, Result, Ok, Err, refl, sym, ◌∙◌, ap, subst}
 use Rattle.std.specs.Result.{IsErrAnd}
 use Rattle.std.proofs.lemmas.Result.{err_from_is_err_and}
-use Rattle.yaml_text.specs.Answer.{Unread, Only, ScalarFaultMeans}
+use Rattle.yaml_text.specs.LeafAnswer.{Unread, Only, ScalarFaultMeans}
 use Rattle.yaml_definitions.specs.grammar.Rules.{Rule}
 use Rattle.yaml_text.specs.declared.fault.Fault.{Fault}
 use Rattle.yaml_text.specs.declared.fault.Fault.TheVariants as fault
 use Rattle.law_one_reading.specs.Readings.{End}
-use Rattle.law_going_on.specs.Decisions.{Refused, Goes, Here}
-use Rattle.yaml_flow.specs.Answer.{Decides}
+use Rattle.law_going_on.specs.GoingOn.{Refused, Goes, Here}
+use Rattle.yaml_flow.specs.NodeAnswer.{Decides}
 
 -- at the exit of a `?`
 pub at_err : {X : Type 0} (P : Result X Fault → Type 0) (r : Result X Fault) (e : Fault) → IsErrAnd r (λ y. y ≡ e) → P (Err e) → P r

@@ -19,9 +19,9 @@ use Rattle.law_one_reading.proofs.PlainEnds.{plain_inside}
 use Rattle.law_one_reading.proofs.FlowNodes.{Jsons, JsonRest, json_parts}
 use Rattle.law_one_reading.proofs.FlowEntries.{Facts}
 use Rattle.law_one_reading.proofs.FlowLevels.{reads_facts}
-use Rattle.law_going_on.specs.Decisions.{Refused, Goes, Rest}
+use Rattle.law_going_on.specs.GoingOn.{Refused, Goes, Rest}
 use Rattle.law_going_on.specs.FlowEnds.{InFlow, EndsYaml, EndsJson}
-use Rattle.law_going_on.proofs.Decisions.{rest_goes, rest_refused, rest_rest}
+use Rattle.law_going_on.proofs.GoingOn.{rest_goes, rest_refused, rest_rest}
 use Rattle.law_going_on.proofs.FlowChoices as left
 use Rattle.yaml_flow.specs.FlowRules.{part_of, opens, below, entry_at, keyed_at, asked_at, value_at, SignAt, AskedAt, IsParted}
 use Rattle.yaml_flow.specs.declared.flow.Kind as kinds

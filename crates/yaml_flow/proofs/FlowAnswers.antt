@@ -12,9 +12,9 @@ use Rattle.yaml_definitions.specs.grammar.Tags.{Handles}
 use Rattle.yaml_definitions.specs.grammar.Tags as tags
 use Rattle.yaml_definitions.specs.grammar.Events.{Props}
 use Rattle.law_one_reading.specs.Follows.{Solid}
-use Rattle.law_going_on.specs.Decisions.{Refused, Here}
-use Rattle.yaml_flow.specs.Answer.{Decides}
-use Rattle.yaml_flow.specs.Decisions.{IsOnly, DecidesNode}
+use Rattle.law_going_on.specs.GoingOn.{Refused, Here}
+use Rattle.yaml_flow.specs.NodeAnswer.{Decides}
+use Rattle.yaml_flow.specs.PropertyDecisions.{IsOnly, DecidesNode}
 use Rattle.yaml_flow.specs.FlowDecisions.{ContentOnly, ContentRefused, DecidesContent, DecidesEach}
 use Rattle.yaml_flow.specs.FlowRules.{MayFollowColon, SignAt, IsParted}
 use Rattle.yaml_flow.specs.declared.flow.Kind as kinds

@@ -55,9 +55,6 @@ module _ (cs : List ℕ) (n : ℕ) (c : Ctx) (R S : Rule (List Event)) (f : (i j
   last_by i j es (inl e) = inl e
   last_by i j es (inr r) = inr (spaced_by i j es r)
 
-  pub parts_by : (close i j : ℕ) (es : List Event) → parts cs n c close R i j es → parts cs n c close S i j es
-  parts_by close i j es (k, (m, xs, ys, a, o, e), h) = (k, (m, xs, ys, any_by part_by a, last_by m k ys o, e), h)
-
 module _ (cs : List ℕ) (Wide : Type 0) (handles : Handles) where
   -- ---- rooms
 

@@ -12,9 +12,9 @@ use Rattle.law_one_reading.specs.Follows.{EndsYamlKey as ColonY, MarkHere}
 use Rattle.law_one_reading.proofs.FlowLevels.{reads_facts}
 use Rattle.law_one_reading.proofs.KeyContexts.{at_flow, reads_eased}
 use Rattle.law_one_reading.proofs.BlockLevels.{one_more}
-use Rattle.law_going_on.specs.Decisions.{Refused, Goes, Rest}
+use Rattle.law_going_on.specs.GoingOn.{Refused, Goes, Rest}
 use Rattle.law_going_on.specs.FlowEnds.{InFlow, EndsYaml, EndsJson}
-use Rattle.law_going_on.proofs.Decisions.{rest_goes, rest_refused, rest_rest, refused_either}
+use Rattle.law_going_on.proofs.GoingOn.{rest_goes, rest_refused, rest_rest, refused_either}
 use Rattle.law_going_on.proofs.FlowChoices as left
 use Rattle.yaml_flow.specs.FlowDecisions.{NoKey, LongKey}
 use Rattle.yaml_flow.specs.Keys.{Spaced, IsKeySized}

@@ -54,9 +54,6 @@ module _ (cs : List ℕ) where
   same : {V : Type 0} (R : Rule V) → Forward R → To R R
   same R f i j v r = (f i j v r, λ w. r)
 
-  same_span : (R : Span) → Onward R → ToSpan R R
-  same_span R f i j r = (f i j r, λ w. r)
-
   k_before : {V : Type 0} {R R' : Span} {S S' : Rule V} → ToSpan R R' → To S S' → To (R ▸ S) (R' ▸ S')
   k_before f g i j v (k, r, s) =
       let x = f i k r in let y = g k j v s in
@@ -122,10 +119,6 @@ module _ (cs : List ℕ) where
 
   k_optional : {A : Type 0} {R R' : Rule (List A)} → To R R' → To (optional R) (optional R')
   k_optional {A} f = k_either (k_gives []) f
-
-  -- a rule whose readings have a break is of no key
-  k_broken : {V : Type 0} {R : Rule V} (S : Rule V) → Forward R → ((i j : ℕ) (v : V) → R i j v → OneLine cs i j → ⊥) → To R S
-  k_broken S f broken i j v r = (f i j v r, λ w. absurd (broken i j v r w.0))
 
   -- ---- breaks
 
@@ -246,9 +239,6 @@ module _ (cs : List ℕ) where
   -- a break stands inside
   abbrev HasBreak : Rule (List ℕ) → Type 0
   HasBreak R = (i j : ℕ) (v : List ℕ) → R i j v → (x : ℕ) × (y : ℕ) × (i ≤ x) × brk cs x y × (y ≤ j)
-
-  broken_on : (R : Rule (List ℕ)) → HasBreak R → Forward R
-  broken_on R h i j v r = let b = h i j v r in let l : b.0 < b.1 = brk_onward cs b.0 b.1 b.3 in omega (arith, b.2, b.4, l)
 
   margin_on : (n i j : ℕ) → (indent cs n ◆ run cs is_white) i j → i ≤ j
   margin_on n i j (k, a, b) = let x : i ≤ k = (indent_run cs n i k a).0 in let y : k ≤ j = b.0 in omega (arith, x, y)

@@ -10,7 +10,7 @@ use Rattle.yaml_text.proofs.PlaceLemmas.{before_ascii}
 use Rattle.yaml_definitions.specs.grammar.Rules.{◌◆◌, Spans, any_span, Behind, run, maybe}
 use Rattle.yaml_definitions.specs.grammar.Characters.{is_space}
 use Rattle.yaml_definitions.specs.grammar.Separation.{Ctx, block_out, block_in, flow_out, flow_in, block_key, flow_key, s-separate as separate, s-separate-lines as separate_lines, StartsLine, DocumentMark, c-nb-comment-text as comment, b-comment as line_end, s-b-comment as s_b_comment, s-l-comments as s_l_comments, l-comment as l_comment, s-separate-in-line as sep}
-use Rattle.yaml_text.specs.Lines.{Uncut, AfterLine, LooksLikeMarker as Dashes}
+use Rattle.yaml_text.specs.Lines.{Uncut, AfterLine, LooksLikeMarker}
 use Rattle.std.proofs.lemmas.Option.{slice_get_within}
 use Rattle.yaml_text.proofs.Breaks.{mark_is}
 use Rattle.yaml_text.proofs.LineRuns.{line_end_after}
@@ -32,14 +32,6 @@ module _ (cs : List ℕ) where
   pub uncut : (i : ℕ) → (Behind cs (λ c. c == 13) i → slice_get cs i ≡ Some 10 → ⊥) → Uncut cs i
   unfolding Uncut
   uncut i f b (c, is, t) = f b (is ∙ ap Some (equal c 10 t))
-
-  pub comment_rest : (i j : ℕ) → StartsLine cs i → (comment cs ◆ line_end cs) i j → s_b_comment cs i j
-  unfolding s_b_comment sep
-  comment_rest i j s (k, c, e) = (k, inr (i, inr (refl, s), inr c), e)
-
-  pub rest_lines : (i k j : ℕ) → s_b_comment cs i k → any_span (l_comment cs) k j → s_l_comments cs i j
-  unfolding s_l_comments
-  rest_lines i k j b lines = (k, inl b, lines)
 
   pub no_lines : (i : ℕ) → StartsLine cs i → s_l_comments cs i i
   unfolding s_l_comments
@@ -98,9 +90,9 @@ module _ (cs : List ℕ) where
   comments_after i j (a, inr (e, s), lines) = after_lines j a (inl (subst (StartsLine cs) (sym e) s)) lines
 
   -- after a line's end three dashes, or dots, are a document mark
-  pub dashes_mark : (i : ℕ) → AfterLine cs i → Dashes cs i → DocumentMark cs i
+  pub dashes_mark : (i : ℕ) → AfterLine cs i → LooksLikeMarker cs i → DocumentMark cs i
   dashes_mark i a d = mark_is cs i (starts_line i a (within d)) d
     where
-      within : Dashes cs i → i ≡ length cs → ⊥
+      within : LooksLikeMarker cs i → i ≡ length cs → ⊥
       within (inl h) e = let l : i < length cs = slice_get_within cs i 45 h.0 in omega (arith, l, e)
       within (inr h) e = let l : i < length cs = slice_get_within cs i 46 h.0 in omega (arith, l, e)

@@ -11,9 +11,9 @@ use Rattle.law_one_reading.specs.Readings.{End, At}
 use Rattle.law_one_reading.specs.Follows.{Solid, Fresh, Closes}
 use Rattle.law_one_reading.proofs.FlowEntries.{PartHere, item_part, entry_start}
 use Rattle.law_one_reading.proofs.FlowLevels.{reads_facts}
-use Rattle.law_going_on.specs.Decisions.{Refused, Goes, Rest, Here}
+use Rattle.law_going_on.specs.GoingOn.{Refused, Goes, Rest, Here}
 use Rattle.law_going_on.specs.FlowEnds.{InFlow}
-use Rattle.law_going_on.proofs.Decisions.{rest_goes, rest_refused, rest_rest}
+use Rattle.law_going_on.proofs.GoingOn.{rest_goes, rest_refused, rest_rest}
 use Rattle.law_going_on.proofs.FlowLoops.{parts_closed, parts_last, parts_more, parts_no_more, parts_refused, parts_unclosed, parts_no_way}
 use Rattle.law_going_on.proofs.FlowCollections.{Bracketed, Items, Entries, sequence_opens, sequence_no_gap, mapping_opens, mapping_no_gap}
 use Rattle.yaml_flow.specs.FlowRules.{opens, below, spaced, comma, parts, item_at, entry_at}

@@ -15,11 +15,11 @@ use Rattle.law_one_reading.specs.Follows.{Colon, EndsYamlKey as ColonY, MarkHere
 use Rattle.law_one_reading.proofs.FlowNodes.{Kind, sign_not, kind, plain_start, jsons_start, safe_ns}
 use Rattle.law_one_reading.proofs.FlowEntries.{Facts, ItemHere}
 use Rattle.law_one_reading.proofs.FlowLevels.{reads_facts}
-use Rattle.law_going_on.specs.Decisions.{Refused, Goes, Rest}
+use Rattle.law_going_on.specs.GoingOn.{Refused, Goes, Rest}
 use Rattle.law_going_on.specs.FlowEnds.{InFlow, EndsYaml, EndsJson}
-use Rattle.law_going_on.proofs.Decisions.{rest_refused, refused_within}
+use Rattle.law_going_on.proofs.GoingOn.{rest_refused, refused_within}
 use Rattle.law_going_on.proofs.FlowChoices as left
-use Rattle.yaml_flow.specs.Decisions.{IsOnly, IsRefused}
+use Rattle.yaml_flow.specs.PropertyDecisions.{IsOnly, IsRefused}
 use Rattle.yaml_flow.specs.Keys.{Spaced, IsKeySized}
 use Rattle.yaml_flow.specs.FlowRules.{opens, below, SignAt, AskedAt}
 use Rattle.yaml_flow.specs.declared.flow.Kind as kinds

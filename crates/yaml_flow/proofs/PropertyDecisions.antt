@@ -3,7 +3,7 @@ use Rattle.std.proofs.Common.{◌≡◌, ◌≢◌, true, false, ℕ, ◌⊎◌,
 use Rattle.std.specs.Prelude.{slice_get}
 use Rattle.std.specs.Result.{IsErrAnd}
 use Rattle.std.proofs.lemmas.Result.{err_from_is_err_and}
-use Rattle.yaml_text.specs.Answer.{Unread}
+use Rattle.yaml_text.specs.LeafAnswer.{Unread}
 use Rattle.yaml_definitions.specs.model.Event.{WrittenTag, untagged, non_specific, full, Anchor}
 use Rattle.yaml_text.specs.Lines.{Inside, is_key}
 use Rattle.yaml_text.specs.declared.fault.Fault.{Fault}
@@ -14,14 +14,14 @@ use Rattle.yaml_text.specs.Calls as calls
 use Rattle.yaml_definitions.specs.grammar.Tags.{Handles, c-ns-anchor-property as anchor}
 use Rattle.yaml_definitions.specs.grammar.Events.{Props, no_props}
 use Rattle.yaml_text.proofs.Runs.{same_char}
-use Rattle.yaml_mark.specs.Answer.{NameRefuses, TagRefuses}
+use Rattle.yaml_mark.specs.MarkFaults.{NameRefuses, TagRefuses}
 use Rattle.law_one_reading.specs.Follows.{Solid, Fresh}
 use Rattle.law_one_reading.proofs.Properties as pair
 use Rattle.law_one_reading.proofs.Properties.{prop, prop_solid}
 use Rattle.law_one_reading.proofs.TagEnds.{prop_same, prop_here, prop_inside, tag_here}
 use Rattle.law_going_on.proofs.PropertyChoices.{Second, Kinds, one_prop, two_props, kinds}
 use Rattle.law_going_on.proofs.PropertyLines.{no_gap, separate_line, line_properties, BarredLine}
-use Rattle.yaml_flow.specs.Decisions.{IsProperty, Differ, IsSingle, Stops, another, nothing, Barred, AllProperties, LineGoesOn}
+use Rattle.yaml_flow.specs.PropertyDecisions.{IsProperty, Differ, IsSingle, Stops, another, nothing, Barred, AllProperties, LineGoesOn}
 use Rattle.yaml_flow.specs.PropertyRules.{HasTag, HasAnchor, SomeProperties, tag_alone, anchor_alone, both, Own, Disjoint, either_anchor, either_tag, both_props}
 
 -- ---- what refusals say

@@ -1,7 +1,7 @@
 -- What the parts of a flow node decide (YAML 1.2.2, 7.3, 7.4).
 use Rattle.std.specs.Prelude.{◌≡◌, ◌⊎◌, ℕ, List, Result, Ok, Err, Option, Some, None, slice_get}
 use Rattle.yaml_definitions.specs.model.Event.{Event}
-use Rattle.yaml_text.specs.Answer.{Unread}
+use Rattle.yaml_text.specs.LeafAnswer.{Unread}
 use Rattle.yaml_definitions.specs.grammar.Rules.{Rule}
 use Rattle.yaml_definitions.specs.grammar.Separation.{Ctx}
 use Rattle.yaml_definitions.specs.grammar.Tags.{Handles}
@@ -9,10 +9,10 @@ use Rattle.yaml_definitions.specs.grammar.Events.{Props}
 use Rattle.yaml_definitions.specs.grammar.FlowScalars.{ns-plain as plain}
 use Rattle.yaml_text.specs.declared.fault.Fault.{Fault}
 use Rattle.yaml_text.specs.declared.fault.Fault.TheVariants.{OutOfMemory}
-use Rattle.law_going_on.specs.Decisions.{Refused, Goes, Here}
+use Rattle.law_going_on.specs.GoingOn.{Refused, Goes, Here}
 use Rattle.law_going_on.specs.FlowEnds.{InFlow}
-use Rattle.yaml_flow.specs.Answer.{Decides}
-use Rattle.yaml_flow.specs.Decisions.{EndOf}
+use Rattle.yaml_flow.specs.NodeAnswer.{Decides}
+use Rattle.yaml_flow.specs.PropertyDecisions.{EndOf}
 use Rattle.yaml_flow.specs.FlowRules.{content_at, SignAt}
 use Rattle.yaml_flow.specs.Keys.{Spaced, IsKeySized}
 use Rattle.yaml_flow.specs.declared.flow.Kind.{Kind}

@@ -1,5 +1,5 @@
 -- Node properties (YAML 1.2.2, 6.9), and how they are put on the first event of a node.
-use Rattle.std.specs.Prelude.{◌≡◌, ◌⊎◌, ℕ, List, [], ◌∷◌, Some, None, encode_utf8_all, length}
+use Rattle.std.specs.Prelude.{◌≡◌, ◌⊎◌, ℕ, List, [], ◌∷◌, Option, Some, None, encode_utf8_all, length}
 use Rattle.std.specs.Option.{option_map}
 use Rattle.std.specs.Cow.{cow_str_bytes}
 use Rattle.yaml_definitions.specs.model.Event.{Event, WrittenTag, untagged, non_specific, full, Anchor, stream_start, stream_end, document_start, document_end, sequence_start, sequence_end, mapping_start, mapping_end, scalar_event, alias_event}
@@ -8,10 +8,20 @@ use Rattle.yaml_text.specs.declared.event.Event as code
 use Rattle.yaml_definitions.specs.grammar.Separation.{Ctx}
 use Rattle.yaml_definitions.specs.grammar.Tags.{Handles, c-ns-tag-property as tag, c-ns-anchor-property as anchor, c-ns-properties as properties}
 use Rattle.yaml_definitions.specs.grammar.Events.{Props, no_props}
+use Rattle.std.specs.Box.{box_value}
+use Rattle.std.specs.Global.{Box}
+use Rattle.yaml_flow.specs.declared.properties.Given.{Given}
 use Rattle.yaml_flow.specs.declared.properties.Properties.{Properties}
 
+abbrev pub props_in : Given → Props
+props_in g = record { anchor = option_map cow_str_bytes g.anchor; tag = written_of g.tag }
+
+abbrev pub props_given : Option (Box Given) → Props
+props_given None = no_props
+props_given (Some given) = props_in (box_value given)
+
 abbrev pub props_of : Properties → Props
-props_of p = record { anchor = option_map cow_str_bytes p.anchor; tag = written_of p.tag }
+props_of p = props_given p.given
 
 -- a tag, an anchor
 abbrev pub HasTag : WrittenTag → Type 0

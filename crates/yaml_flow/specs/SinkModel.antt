@@ -1,10 +1,27 @@
 -- The events that a reader's sink holds.
-use Rattle.std.specs.Prelude.{◌≡◌, List, map}
-use Rattle.yaml_definitions.specs.model.Event.{Event}
+use Rattle.std.specs.Prelude.{◌≡◌, Bool, List, None, map}
+use Rattle.yaml_definitions.specs.model.Event.{Event, untagged, sequence_start, mapping_start, sequence_end, mapping_end}
 use Rattle.yaml_text.specs.EventModel.{event_of}
+use Rattle.yaml_text.specs.declared.event.Event as code
+use Rattle.std.specs.Global.{Vec}
+use Rattle.yaml_flow.specs.declared.sink.Collection.{Collection}
+use Rattle.yaml_flow.specs.declared.sink.Collection.TheVariants.{Sequence, Mapping}
 use Rattle.yaml_flow.specs.declared.sink.Sink.{Sink}
 use Rattle.yaml_flow.specs.declared.sink.Sink.TheVariants.{Listed, Kept}
 
+-- the events that a list holds
+abbrev pub listed : Vec code.Event → List Event → Type 0
+listed list log = map event_of list.items ≡ log
+
 abbrev pub holds_of : {K : Type 0} → (K → List Event → Type 0) → Sink K → List Event → Type 0
-holds_of holds (Listed list) log = map event_of list.items ≡ log
+holds_of holds (Listed list) log = listed list log
 holds_of holds (Kept keeper) log = holds keeper log
+
+-- the start of a collection without properties, and its end
+abbrev pub start_of : Collection → Bool → Event
+start_of Sequence flow = sequence_start flow None untagged
+start_of Mapping flow = mapping_start flow None untagged
+
+abbrev pub end_of : Collection → Event
+end_of Sequence = sequence_end
+end_of Mapping = mapping_end

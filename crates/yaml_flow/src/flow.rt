@@ -14,13 +14,14 @@ ghost use Rattle.yaml_definitions.specs.grammar.Nodes.{c-flow-sequence as flow_s
 ghost use Rattle.yaml_text.specs.Lines.{Inside};
 ghost use Rattle.yaml_text.specs.declared.fault.Fault.TheVariants.{OutOfMemory};
 ghost use Rattle.law_one_reading.specs.Follows.{Closes, Solid, Fresh};
-ghost use Rattle.law_going_on.specs.Decisions.{Here};
+ghost use Rattle.law_going_on.specs.GoingOn.{Here};
 ghost use Rattle.yaml_mark.specs.HandlesModel.{handles_of};
 ghost use Rattle.yaml_flow.specs.declared.flow.Kind.TheVariants.{Yaml, Json};
-ghost use Rattle.yaml_text.specs.Answer.{IsRefusal};
-ghost use Rattle.yaml_flow.specs.Answer.{Appends, Perhaps, Decides};
+ghost use Rattle.yaml_text.specs.LeafAnswer.{IsRefusal};
+ghost use Rattle.yaml_flow.specs.NodeAnswer.{Appends, Perhaps, Decides};
+ghost use Rattle.yaml_text.specs.Placed.{IsPlaced};
 ghost use Rattle.yaml_flow.specs.SinkModel.{holds_of};
-ghost use Rattle.yaml_flow.specs.Decisions.{AllProperties, LineGoesOn, DecidesNode};
+ghost use Rattle.yaml_flow.specs.PropertyDecisions.{AllProperties, LineGoesOn, DecidesNode};
 ghost use Rattle.yaml_flow.specs.FlowDecisions.{DecidesPlain, DecidesContent, DecidesPart, DecidesEach, NoKey, LongKey};
 ghost use Rattle.yaml_flow.specs.Keys.{IsKeySized, Spaced};
 ghost use Rattle.yaml_flow.specs.PropertyRules.{props_of, Own};
@@ -130,6 +131,7 @@ fn read_alias<'a, K: Keeper>(
     ensures kind { IfOk result (λ node. node.kind ≡ Yaml) }
     ensures reads { Appends (λ node. given (node.kind ≡ Yaml) (seen (λ x. alias_node x ∷ []) (tags.c-ns-alias-node (text_of source.now)))) (place_of source.now at) (λ node. place_of source.now node.end) (holds_of K.holds) out.old out.new result }
     ensures decides { Decides (tags.c-ns-alias-node (text_of source.now)) Here (place_of source.now at) Here (λ node. place_of source.now node.end) result }
+    ensures placed { IfErr result (IsPlaced source.now) }
 {
     let (name, end) = read_name(alloc, source, at)?;
     out.push(Event::Alias { name }, at)?;
@@ -158,6 +160,7 @@ fn read_plain_node<'a, K: Keeper>(
     ensures within { IfOk result (λ found. IfSome found (λ node. node.deep ≡ 0)) }
     ensures reads { Perhaps (λ node. content_from (text_of source.now) (Unit {0}) (handles_of handles.entry) node.deep node.kind least (context_of context)) (place_of source.now at) (λ node. place_of source.now node.end) (holds_of K.holds) out.old out.new result }
     ensures decides { DecidesPlain (text_of source.now) least (context_of context) (place_of source.now at) (λ node. place_of source.now node.end) result }
+    ensures placed { IfErr result (IsPlaced source.now) }
 {
     match read_plain(alloc, source, at, indentation(least), context) {
         Ok((text, end)) => {
@@ -194,6 +197,7 @@ fn read_single_node<'a, K: Keeper>(
     ensures reads { Appends (λ node. content_from (text_of source.now) (Unit {0}) (handles_of handles.entry) node.deep node.kind least (context_of context)) (place_of source.now at) (λ node. place_of source.now node.end) (holds_of K.holds) out.old out.new result }
     ensures kind { IfOk result (λ node. node.kind ≡ Json) }
     ensures decides { Decides (single (text_of source.now) least (context_of context)) Here (place_of source.now at) Here (λ node. place_of source.now node.end) result }
+    ensures placed { IfErr result (IsPlaced source.now) }
 {
     let (text, end) = read_single(alloc, source, at, indentation(least), context)?;
     push_scalar(out, Style::Single, text, at)?;
@@ -223,6 +227,7 @@ fn read_double_node<'a, K: Keeper>(
     ensures reads { Appends (λ node. content_from (text_of source.now) (Unit {0}) (handles_of handles.entry) node.deep node.kind least (context_of context)) (place_of source.now at) (λ node. place_of source.now node.end) (holds_of K.holds) out.old out.new result }
     ensures kind { IfOk result (λ node. node.kind ≡ Json) }
     ensures decides { Decides (double (text_of source.now) least (context_of context)) Here (place_of source.now at) Here (λ node. place_of source.now node.end) result }
+    ensures placed { IfErr result (IsPlaced source.now) }
 {
     let (text, end) = read_double(alloc, source, at, indentation(least), context)?;
     push_scalar(out, Style::Double, text, at)?;
@@ -245,6 +250,7 @@ fn push_lone<'a, K: Keeper>(
     ensures kind { IfOk result (λ node. node.kind ≡ Yaml) }
     ensures reads { Appends (λ node. given (node.kind ≡ Yaml) (gives (empty no_props))) (place_of source.now end) (λ node. place_of source.now node.end) (holds_of K.holds) out.old out.new result }
     ensures memory { IfErr result (λ e. e ≡ OutOfMemory) }
+    ensures placed { IfErr result (IsPlaced source.now) }
 {
     push_empty(out, end)?;
     Ok(FlowNode {
@@ -273,6 +279,7 @@ pub fn read_flow_node<'a, K: Keeper>(
     ensures within { IfOk result (λ node. node.deep ≤ room) }
     ensures reads { Appends (λ node. flow_from (text_of source.now) (Unit {0}) (handles_of handles.entry) node.deep node.kind least (context_of context)) (place_of source.now at) (λ node. place_of source.now node.end) (holds_of K.holds) out.old out.new result }
     ensures decides { context_of context ≡ flow_in → DecidesNode (text_of source.now) (handles_of handles.entry) room least (context_of context) (place_of source.now at) (λ node. place_of source.now node.end) result }
+    ensures placed { IfErr result (IsPlaced source.now) }
 {
     let start = out.mark();
     let (own, end) = read_properties(alloc, source, at, least, context, handles)?;
@@ -310,6 +317,7 @@ pub fn read_bare<'a, K: Keeper>(
     ensures within { IfOk result (λ node. node.deep ≤ room) }
     ensures reads { Appends (λ node. Bare (text_of source.now) (Unit {0}) (handles_of handles.entry) node.deep node.kind least (context_of context) (props_of own.now) (place_of source.now end)) (place_of source.now at) (λ node. place_of source.now node.end) (holds_of K.holds) out.old out.new result }
     ensures decides { (context_of context ≡ flow_out → LineGoesOn (text_of source.now) (place_of source.now end) (props_of own.now)) → DecidesNode (text_of source.now) (handles_of handles.entry) room least (context_of context) (place_of source.now at) (λ node. place_of source.now node.end) result }
+    ensures placed { IfErr result (IsPlaced source.now) }
 {
     if own.is_none() {
         if let Some(_) = accept(source, at, '*') {
@@ -349,6 +357,7 @@ fn read_content<'a, K: Keeper>(
     ensures within { IfOk result (λ found. IfSome found (λ node. node.deep ≤ room)) }
     ensures reads { Perhaps (λ node. content_from (text_of source.now) (Unit {0}) (handles_of handles.entry) node.deep node.kind least (context_of context)) (place_of source.now at) (λ node. place_of source.now node.end) (holds_of K.holds) out.old out.new result }
     ensures decides { DecidesContent (text_of source.now) (handles_of handles.entry) room least (context_of context) (place_of source.now at) (λ node. place_of source.now node.end) result }
+    ensures placed { IfErr result (IsPlaced source.now) }
 {
     match first_of(source, at) {
         First::Sequence(inside) => {
@@ -404,6 +413,7 @@ fn read_sequence<'a, K: Keeper>(
     ensures reads { Appends (λ node. content_from (text_of source.now) (Unit {0}) (handles_of handles.entry) node.deep node.kind least (context_of context)) (place_of source.now at) (λ node. place_of source.now node.end) (holds_of K.holds) out.old out.new result }
     ensures kind { IfOk result (λ node. node.kind ≡ Json) }
     ensures decides { inner (context_of context) ≡ flow_in → DecidesEach (λ p. flow_seq (text_of source.now) (Unit {0}) (handles_of handles.entry) (opens (text_of source.now) (Unit {0}) (handles_of handles.entry) room) (below (text_of source.now) (Unit {0}) (handles_of handles.entry) room) p least (context_of context)) (place_of source.now at) (λ node. place_of source.now node.end) result }
+    ensures placed { IfErr result (IsPlaced source.now) }
 {
     push_flow_sequence(out, at)?;
     let first = separation(source, inside, least, context)?;
@@ -445,6 +455,7 @@ fn read_items<'a, K: Keeper>(
     ensures within { IfOk result (λ r. r.1 ≤ room) }
     ensures reads { Appends (λ r. from_room r.1 (λ room. parts (text_of source.now) least (context_of context) 93 (item_at (text_of source.now) (Unit {0}) (handles_of handles.entry) room least (context_of context)))) (place_of source.now first) (λ r. place_of source.now r.0) (holds_of K.holds) out.old out.new result }
     ensures decides { context_of context ≡ flow_in → Decides (parts (text_of source.now) least flow_in 93 (item_at (text_of source.now) (Unit {0}) (handles_of handles.entry) room least flow_in)) Here (place_of source.now first) Here (λ r. place_of source.now r.0) result }
+    ensures placed { IfErr result (IsPlaced source.now) }
 {
     let mut here = first;
     let mut most: u32 = 0;
@@ -478,6 +489,7 @@ fn part_gap(source: &Chars<'_>, at: usize, least: usize, context: Ctx) -> Result
     ensures to { IfOk result (λ to. (q : ℕ) → maybe (separate (text_of source.now) least (context_of context)) (place_of source.now at) q → Solid (text_of source.now) q → q ≡ place_of source.now to) }
     ensures err { IfErr result IsRefusal }
     ensures none { IfErr result (λ _. Inside (text_of source.now) (place_of source.now at) ⊎ Closes (text_of source.now) (place_of source.now at) → (q : ℕ) → maybe (separate (text_of source.now) least (context_of context)) (place_of source.now at) q → Fresh (text_of source.now) q → ⊥) }
+    ensures placed { IfErr result (IsPlaced source.now) }
 {
     if ends_value(source, at) {
         // what closes it may begin a line
@@ -542,6 +554,7 @@ fn read_item<'a, K: Keeper>(
     ensures reads { Appends (λ r. from_room r.1 (λ room. item_at (text_of source.now) (Unit {0}) (handles_of handles.entry) room least (context_of context))) (place_of source.now at) (λ r. place_of source.now r.0) (holds_of K.holds) out.old out.new result }
     ensures ends { IfOk result (λ r. Inside (text_of source.now) (place_of source.now r.0) ⊎ Closes (text_of source.now) (place_of source.now r.0)) }
     ensures decides { context_of context ≡ flow_in → DecidesPart (text_of source.now) least (item_at (text_of source.now) (Unit {0}) (handles_of handles.entry) room least flow_in) (place_of source.now at) (λ r. place_of source.now r.0) result }
+    ensures placed { IfErr result (IsPlaced source.now) }
 {
     if let Some(after) = question_sign(source, at, context) {
         return read_asked_pair(alloc, source, at, after, least, context, room, handles, out);
@@ -578,6 +591,7 @@ fn read_asked_pair<'a, K: Keeper>(
     ensures reads { Appends (λ r. from_room r.1 (λ room. item_at (text_of source.now) (Unit {0}) (handles_of handles.entry) room least (context_of context))) (place_of source.now at) (λ r. place_of source.now r.0) (holds_of K.holds) out.old out.new result }
     ensures ends { IfOk result (λ r. Inside (text_of source.now) (place_of source.now r.0) ⊎ Closes (text_of source.now) (place_of source.now r.0)) }
     ensures decides { context_of context ≡ flow_in → DecidesPart (text_of source.now) least (item_at (text_of source.now) (Unit {0}) (handles_of handles.entry) room least flow_in) (place_of source.now at) (λ r. place_of source.now r.0) result }
+    ensures placed { IfErr result (IsPlaced source.now) }
 {
     if room == 0 {
         return Err(Fault::TooDeep(source.pos(at)));
@@ -612,6 +626,7 @@ fn read_empty_pair<'a, K: Keeper>(
     ensures reads { Appends (λ r. from_room r.1 (λ room. item_at (text_of source.now) (Unit {0}) (handles_of handles.entry) room least (context_of context))) (place_of source.now at) (λ r. place_of source.now r.0) (holds_of K.holds) out.old out.new result }
     ensures ends { IfOk result (λ r. Inside (text_of source.now) (place_of source.now r.0) ⊎ Closes (text_of source.now) (place_of source.now r.0)) }
     ensures decides { context_of context ≡ flow_in → DecidesPart (text_of source.now) least (item_at (text_of source.now) (Unit {0}) (handles_of handles.entry) room least flow_in) (place_of source.now at) (λ r. place_of source.now r.0) result }
+    ensures placed { IfErr result (IsPlaced source.now) }
 {
     if room == 0 {
         return Err(Fault::TooDeep(source.pos(at)));
@@ -657,6 +672,7 @@ fn read_node_item<'a, K: Keeper>(
     ensures reads { Appends (λ r. from_room r.1 (λ room. item_at (text_of source.now) (Unit {0}) (handles_of handles.entry) room least (context_of context))) (place_of source.now at) (λ r. place_of source.now r.0) (holds_of K.holds) out.old out.new result }
     ensures ends { IfOk result (λ r. Inside (text_of source.now) (place_of source.now r.0) ⊎ Closes (text_of source.now) (place_of source.now r.0)) }
     ensures decides { context_of context ≡ flow_in → DecidesPart (text_of source.now) least (item_at (text_of source.now) (Unit {0}) (handles_of handles.entry) room least flow_in) (place_of source.now at) (λ r. place_of source.now r.0) result }
+    ensures placed { IfErr result (IsPlaced source.now) }
 {
     let start = out.mark();
     let key = read_flow_node(alloc, source, at, least, context, room, handles, out)?;
@@ -709,6 +725,7 @@ fn key_colon(
     ensures none { IfOk result (λ found. IfNone found (NoKey (text_of source.now) kind (context_of context) (place_of source.now at) (place_of source.now end))) }
     ensures err { IfErr result IsRefusal }
     ensures long { IfErr result (λ _. LongKey (text_of source.now) kind (context_of context) (place_of source.now at) (place_of source.now end)) }
+    ensures placed { IfErr result (IsPlaced source.now) }
 {
     let (_, colon) = skip_spaces(source, end);
     match value_sign(source, colon, kind, context) {
@@ -745,6 +762,7 @@ fn read_pair<'a, K: Keeper>(
     ensures reads { Appends (λ r. from_room r.1 (λ room. item_at (text_of source.now) (Unit {0}) (handles_of handles.entry) room least (context_of context))) (place_of source.now at) (λ r. place_of source.now r.0) (holds_of K.holds) out.old out.new result }
     ensures ends { IfOk result (λ r. Inside (text_of source.now) (place_of source.now r.0) ⊎ Closes (text_of source.now) (place_of source.now r.0)) }
     ensures decides { context_of context ≡ flow_in → DecidesPart (text_of source.now) least (pair (text_of source.now) (Unit {0}) (handles_of handles.entry) (opens (text_of source.now) (Unit {0}) (handles_of handles.entry) room) (below (text_of source.now) (Unit {0}) (handles_of handles.entry) room) least flow_in) (place_of source.now at) (λ r. place_of source.now r.0) result }
+    ensures placed { IfErr result (IsPlaced source.now) }
 {
     push_flow_mapping(out, at)?;
     let key = read_flow_node(alloc, source, at, least, context, room - 1, handles, out)?;
@@ -817,6 +835,7 @@ fn read_value<'a, K: Keeper>(
     ensures reads { Appends (λ r. from_room r.1 (λ room. value_at (text_of source.now) (Unit {0}) (handles_of handles.entry) kind room least (context_of context))) (place_of source.now colon) (λ r. place_of source.now r.0) (holds_of K.holds) out.old out.new result }
     ensures ends { IfOk result (λ r. Inside (text_of source.now) (place_of source.now r.0) ⊎ Closes (text_of source.now) (place_of source.now r.0)) }
     ensures decides { context_of context ≡ flow_in → DecidesPart (text_of source.now) least (value_at (text_of source.now) (Unit {0}) (handles_of handles.entry) kind room least flow_in) (place_of source.now colon) (λ r. place_of source.now r.0) result }
+    ensures placed { IfErr result (IsPlaced source.now) }
 {
     let start = separation(source, after, least, context)?;
     if !is_parted(kind, after, start) {
@@ -854,6 +873,7 @@ fn read_mapping<'a, K: Keeper>(
     ensures reads { Appends (λ node. content_from (text_of source.now) (Unit {0}) (handles_of handles.entry) node.deep node.kind least (context_of context)) (place_of source.now at) (λ node. place_of source.now node.end) (holds_of K.holds) out.old out.new result }
     ensures kind { IfOk result (λ node. node.kind ≡ Json) }
     ensures decides { inner (context_of context) ≡ flow_in → DecidesEach (λ p. flow_map (text_of source.now) (Unit {0}) (handles_of handles.entry) (opens (text_of source.now) (Unit {0}) (handles_of handles.entry) room) (below (text_of source.now) (Unit {0}) (handles_of handles.entry) room) p least (context_of context)) (place_of source.now at) (λ node. place_of source.now node.end) result }
+    ensures placed { IfErr result (IsPlaced source.now) }
 {
     push_flow_mapping(out, at)?;
     let first = separation(source, inside, least, context)?;
@@ -895,6 +915,7 @@ fn read_entries<'a, K: Keeper>(
     ensures within { IfOk result (λ r. r.1 ≤ room) }
     ensures reads { Appends (λ r. from_room r.1 (λ room. parts (text_of source.now) least (context_of context) 125 (entry_at (text_of source.now) (Unit {0}) (handles_of handles.entry) room least (context_of context)))) (place_of source.now first) (λ r. place_of source.now r.0) (holds_of K.holds) out.old out.new result }
     ensures decides { context_of context ≡ flow_in → Decides (parts (text_of source.now) least flow_in 125 (entry_at (text_of source.now) (Unit {0}) (handles_of handles.entry) room least flow_in)) Here (place_of source.now first) Here (λ r. place_of source.now r.0) result }
+    ensures placed { IfErr result (IsPlaced source.now) }
 {
     let mut here = first;
     let mut most: u32 = 0;
@@ -940,6 +961,7 @@ fn read_entry<'a, K: Keeper>(
     ensures reads { Appends (λ r. from_room r.1 (λ room. entry_at (text_of source.now) (Unit {0}) (handles_of handles.entry) room least (context_of context))) (place_of source.now at) (λ r. place_of source.now r.0) (holds_of K.holds) out.old out.new result }
     ensures ends { IfOk result (λ r. Inside (text_of source.now) (place_of source.now r.0) ⊎ Closes (text_of source.now) (place_of source.now r.0)) }
     ensures decides { context_of context ≡ flow_in → DecidesPart (text_of source.now) least (entry_at (text_of source.now) (Unit {0}) (handles_of handles.entry) room least flow_in) (place_of source.now at) (λ r. place_of source.now r.0) result }
+    ensures placed { IfErr result (IsPlaced source.now) }
 {
     match question_sign(source, at, context) {
         None => read_keyed(alloc, source, at, least, context, room, handles, out),
@@ -969,6 +991,7 @@ fn read_asked<'a, K: Keeper>(
     ensures reads { Appends (λ r. from_room r.1 (λ room. asked_at (text_of source.now) (Unit {0}) (handles_of handles.entry) room least (context_of context))) (place_of source.now after) (λ r. place_of source.now r.0) (holds_of K.holds) out.old out.new result }
     ensures ends { IfOk result (λ r. Inside (text_of source.now) (place_of source.now r.0) ⊎ Closes (text_of source.now) (place_of source.now r.0)) }
     ensures decides { context_of context ≡ flow_in → DecidesPart (text_of source.now) least (asked_at (text_of source.now) (Unit {0}) (handles_of handles.entry) room least flow_in) (place_of source.now after) (λ r. place_of source.now r.0) result }
+    ensures placed { IfErr result (IsPlaced source.now) }
 {
     let start = separation(source, after, least, context)?;
     if start == after {
@@ -1003,6 +1026,7 @@ fn read_keyed<'a, K: Keeper>(
     ensures reads { Appends (λ r. from_room r.1 (λ room. keyed_at (text_of source.now) (Unit {0}) (handles_of handles.entry) room least (context_of context))) (place_of source.now at) (λ r. place_of source.now r.0) (holds_of K.holds) out.old out.new result }
     ensures ends { IfOk result (λ r. Inside (text_of source.now) (place_of source.now r.0) ⊎ Closes (text_of source.now) (place_of source.now r.0)) }
     ensures decides { context_of context ≡ flow_in → DecidesPart (text_of source.now) least (keyed_at (text_of source.now) (Unit {0}) (handles_of handles.entry) room least flow_in) (place_of source.now at) (λ r. place_of source.now r.0) result }
+    ensures placed { IfErr result (IsPlaced source.now) }
 {
     match value_sign(source, at, Kind::Yaml, context) {
         None => read_key_entry(alloc, source, at, least, context, room, handles, out),
@@ -1046,6 +1070,7 @@ fn read_key_entry<'a, K: Keeper>(
     ensures reads { Appends (λ r. from_room r.1 (λ room. keyed_at (text_of source.now) (Unit {0}) (handles_of handles.entry) room least (context_of context))) (place_of source.now at) (λ r. place_of source.now r.0) (holds_of K.holds) out.old out.new result }
     ensures ends { IfOk result (λ r. Inside (text_of source.now) (place_of source.now r.0) ⊎ Closes (text_of source.now) (place_of source.now r.0)) }
     ensures decides { context_of context ≡ flow_in → DecidesPart (text_of source.now) least (keyed_at (text_of source.now) (Unit {0}) (handles_of handles.entry) room least flow_in) (place_of source.now at) (λ r. place_of source.now r.0) result }
+    ensures placed { IfErr result (IsPlaced source.now) }
 {
     let key = read_flow_node(alloc, source, at, least, context, room, handles, out)?;
     let colon = separation(source, key.end, least, context)?;

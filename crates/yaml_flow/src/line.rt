@@ -7,7 +7,8 @@ ghost use Rattle.yaml_definitions.specs.grammar.Rules.{any_span, maybe};
 ghost use Rattle.yaml_definitions.specs.grammar.Separation.{s-l-comments as s_l_comments, l-comment as l_comment, s-separate as separate, flow_in};
 ghost use Rattle.yaml_text.specs.Lines.{AfterLine, Inside, is_key};
 ghost use Rattle.yaml_text.specs.Lines.{LooksLikeMarker};
-ghost use Rattle.yaml_text.specs.Answer.{IsRefusal};
+ghost use Rattle.yaml_text.specs.LeafAnswer.{IsRefusal};
+ghost use Rattle.yaml_text.specs.Placed.{IsPlaced};
 ghost use Rattle.law_one_reading.specs.Follows.{Solid, Fresh, Way};
 ghost use Rattle.yaml_flow.specs.Lines.{IsLine};
 
@@ -16,7 +17,7 @@ use yaml_text::chars::Chars;
 use yaml_text::class::is_key;
 use yaml_text::context::Ctx;
 use yaml_text::fault::Fault;
-use yaml_text::lines::{is_mark, skip_comments as skip_lines, skip_spaces, unusable};
+use yaml_text::lines::{is_mark, skip_comment_lines, skip_spaces, unusable};
 use yaml_text::places::is_end;
 
 /// A line that is no comment, or the end of the text: its start, how many spaces it begins with, and the border after them.
@@ -48,7 +49,7 @@ pub fn first_line(source: &Chars<'_>) -> Line
     ensures comments { any_span (l_comment (text_of source.now)) 0 (place_of source.now result.start) }
     ensures after { AfterLine (text_of source.now) (place_of source.now result.start) }
 {
-    let start = skip_lines(source, 0);
+    let start = skip_comment_lines(source, 0);
     line_at(source, start)
 }
 
@@ -66,7 +67,7 @@ pub fn has_content(source: &Chars<'_>, line: Line) -> bool
 
 /// The start of the line after the rest of a line and any comment lines (`s-l-comments`, 6.6), the furthest that there is.
 #[tactic(auto, unfolding(yaml_text::specs::Calls::skip_comments))]
-pub fn skip_comments(source: &Chars<'_>, at: usize) -> Option<usize>
+pub fn skip_line_rest(source: &Chars<'_>, at: usize) -> Option<usize>
     requires { IsBorder source.now at }
     ensures border { IfSome result (λ to. IsBorder source.now to) }
     ensures onward { IfSome result (λ to. at ≤ to) }
@@ -85,8 +86,9 @@ pub fn next_line(source: &Chars<'_>, at: usize) -> Result<Line, Fault>
     ensures comments { IfOk result (λ line. s_l_comments (text_of source.now) (place_of source.now at) (place_of source.now line.start)) }
     ensures err { IfErr result IsRefusal }
     ensures none { IfErr result (λ _. (j : ℕ) → s_l_comments (text_of source.now) (place_of source.now at) j → ⊥) }
+    ensures placed { IfErr result (IsPlaced source.now) }
 {
-    match skip_comments(source, at) {
+    match skip_line_rest(source, at) {
         Some(start) => Ok(line_at(source, start)),
         None => {
             let (_, first) = skip_spaces(source, at);
@@ -107,12 +109,13 @@ pub fn separation(source: &Chars<'_>, at: usize, least: usize, context: Ctx) -> 
     ensures err { IfErr result IsRefusal }
     ensures lines { IfErr result (λ _. is_key (context_of context) ≡ false) }
     ensures none { IfErr result (λ _. Inside (text_of source.now) (place_of source.now at) → (q : ℕ) → maybe (separate (text_of source.now) least (context_of context)) (place_of source.now at) q → Fresh (text_of source.now) q → ⊥) }
+    ensures placed { IfErr result (IsPlaced source.now) }
 {
     if is_key(context) {
         let (_, end) = skip_spaces(source, at);
         return Ok(end);
     }
-    match skip_comments(source, at) {
+    match skip_line_rest(source, at) {
         None => {
             let (_, end) = skip_spaces(source, at);
             Ok(end)

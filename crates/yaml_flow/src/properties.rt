@@ -8,10 +8,12 @@ ghost use Rattle.yaml_definitions.specs.model.Event.{untagged};
 ghost use Rattle.yaml_text.specs.EventModel.{context_of, event_of, written_of};
 ghost use Rattle.yaml_definitions.specs.grammar.Events.{no_props};
 ghost use Rattle.yaml_mark.specs.HandlesModel.{handles_of};
-ghost use Rattle.yaml_text.specs.Answer.{IsRefusal};
+ghost use Rattle.yaml_text.specs.LeafAnswer.{IsRefusal};
+ghost use Rattle.yaml_text.specs.Placed.{IsPlaced};
 ghost use Rattle.yaml_text.specs.declared.fault.Fault.TheVariants.{OutOfMemory};
-ghost use Rattle.yaml_flow.specs.Decisions.{AllProperties, Barred};
-ghost use Rattle.yaml_flow.specs.PropertyRules.{props_of, both_props, either_anchor, either_tag, with_props, Dresses, Disjoint, Own};
+ghost use Rattle.yaml_flow.specs.PropertyDecisions.{AllProperties, Barred};
+ghost use Rattle.std.specs.Box.{box_value};
+ghost use Rattle.yaml_flow.specs.PropertyRules.{props_of, props_in, both_props, either_anchor, either_tag, with_props, Dresses, Disjoint, Own};
 
 use crate::line::separation;
 use std::alloc::Global;
@@ -37,11 +39,17 @@ fn is_absent(anchor: &Option<CowStr<'_>>, tag: &EventTag<'_>) -> bool
     }
 }
 
-/// A node's anchor and tag.
+/// An anchor and a tag, of which one may be absent.
 #[derive(Drop)]
-pub struct Properties<'a> {
+pub struct Given<'a> {
     pub anchor: Option<CowStr<'a>>,
     pub tag: EventTag<'a>,
+}
+
+/// A node's anchor and tag. Most nodes have neither, so they stand behind a pointer where there are any.
+#[derive(Drop)]
+pub struct Properties<'a> {
+    pub given: Option<Box<Given<'a>>>,
 }
 
 impl<'a> Properties<'a> {
@@ -49,10 +57,7 @@ impl<'a> Properties<'a> {
     pub fn none() -> Properties<'a>
         ensures { props_of result ≡ no_props }
     {
-        Properties {
-            anchor: None,
-            tag: EventTag::None,
-        }
+        Properties { given: None }
     }
 
     /// Whether there is neither an anchor nor a tag.
@@ -60,7 +65,10 @@ impl<'a> Properties<'a> {
         ensures yes { OnTrue result (props_of self.now ≡ no_props) }
         ensures no { OnFalse result (props_of self.now ≢ no_props) }
     {
-        is_absent(&self.anchor, &self.tag)
+        match &self.given {
+            None => true,
+            Some(given) => is_absent(&given.anchor, &given.tag),
+        }
     }
 
     /// Whether both have an anchor or both have a tag.
@@ -68,13 +76,9 @@ impl<'a> Properties<'a> {
         ensures yes { OnTrue result (Disjoint (props_of self.now) (props_of other.now) → ⊥) }
         ensures no { OnFalse result (Disjoint (props_of self.now) (props_of other.now)) }
     {
-        match (&self.anchor, &other.anchor) {
-            (Some(_), Some(_)) => true,
-            _ => match (&self.tag, &other.tag) {
-                (EventTag::None, _) => false,
-                (_, EventTag::None) => false,
-                _ => true,
-            },
+        match (&self.given, &other.given) {
+            (Some(one), Some(two)) => share(one, two),
+            _ => false,
         }
     }
 
@@ -82,12 +86,71 @@ impl<'a> Properties<'a> {
     pub fn and(self, own: Properties<'a>) -> Properties<'a>
         ensures { props_of result ≡ both_props (props_of self.entry) (props_of own.entry) }
     {
-        let Properties { anchor, tag } = own;
-        Properties {
-            anchor: first_anchor(anchor, self.anchor),
-            tag: first_tag(tag, self.tag),
+        match (self.given, own.given) {
+            (None, given) => Properties { given },
+            (given, None) => Properties { given },
+            (Some(one), Some(two)) => Properties {
+                given: Some(join(one, two)),
+            },
         }
     }
+
+    /// The anchor and the tag.
+    pub fn parts(self) -> (Option<CowStr<'a>>, EventTag<'a>)
+        ensures anchor { option_map cow_str_bytes result.0 ≡ (props_of self.entry).anchor }
+        ensures tag { written_of result.1 ≡ (props_of self.entry).tag }
+    {
+        match self.given {
+            None => (None, EventTag::None),
+            Some(given) => {
+                let Given { anchor, tag } = Box::into_inner(given);
+                (anchor, tag)
+            }
+        }
+    }
+}
+
+/// Whether both have an anchor or both have a tag.
+fn share(one: &Given<'_>, two: &Given<'_>) -> bool
+    ensures yes { OnTrue result (Disjoint (props_in one.now) (props_in two.now) → ⊥) }
+    ensures no { OnFalse result (Disjoint (props_in one.now) (props_in two.now)) }
+{
+    match (&one.anchor, &two.anchor) {
+        (Some(_), Some(_)) => true,
+        _ => match (&one.tag, &two.tag) {
+            (EventTag::None, _) => false,
+            (_, EventTag::None) => false,
+            _ => true,
+        },
+    }
+}
+
+/// Both together, in the place of the node's own.
+#[inline(never)]
+fn join<'a>(outer: Box<Given<'a>>, own: Box<Given<'a>>) -> Box<Given<'a>>
+    ensures { props_in (box_value result) ≡ both_props (props_in (box_value outer.entry)) (props_in (box_value own.entry)) }
+{
+    let mut both = own;
+    let Given { anchor, tag } = Box::into_inner(outer);
+    let own_anchor = mem::replace(&mut both.anchor, None);
+    let own_tag = mem::replace(&mut both.tag, EventTag::None);
+    both.anchor = first_anchor(own_anchor, anchor);
+    both.tag = first_tag(own_tag, tag);
+    both
+}
+
+/// An anchor and a tag that were read.
+#[inline(never)]
+fn hold<'a>(
+    alloc: Global,
+    anchor: Option<CowStr<'a>>,
+    tag: EventTag<'a>,
+) -> Result<Properties<'a>, Fault>
+    ensures ok { IfOk result (λ p. props_of p ≡ record { anchor = option_map cow_str_bytes anchor.entry; tag = written_of tag.entry }) }
+    ensures err { IfErr result (λ e. e ≡ OutOfMemory) }
+{
+    let held = Box::new(alloc, Given { anchor, tag })?;
+    Ok(Properties { given: Some(held) })
 }
 
 /// An anchor, or else another.
@@ -127,6 +190,7 @@ pub fn read_properties<'a>(
     ensures err { IfErr result IsRefusal }
     ensures all { IfOk result (λ r. AllProperties (text_of source.now) (handles_of handles.entry) least (context_of context) (place_of source.now at) (place_of source.now r.1) (props_of r.0)) }
     ensures barred { IfErr result (λ e. (e ≡ OutOfMemory) ⊎ Barred (text_of source.now) (handles_of handles.entry) least (context_of context) (place_of source.now at)) }
+    ensures placed { IfErr result (IsPlaced source.now) }
 {
     if let Some(_) = accept(source, at, '!') {
         return read_tagged(alloc, source, at, least, context, handles);
@@ -138,6 +202,7 @@ pub fn read_properties<'a>(
 }
 
 /// A tag, and an anchor that may follow it.
+#[inline(never)]
 fn read_tagged<'a>(
     alloc: Global,
     source: &Chars<'a>,
@@ -154,6 +219,7 @@ fn read_tagged<'a>(
     ensures err { IfErr result IsRefusal }
     ensures all { IfOk result (λ r. AllProperties (text_of source.now) (handles_of handles.entry) least (context_of context) (place_of source.now at) (place_of source.now r.1) (props_of r.0)) }
     ensures barred { IfErr result (λ e. (e ≡ OutOfMemory) ⊎ Barred (text_of source.now) (handles_of handles.entry) least (context_of context) (place_of source.now at)) }
+    ensures placed { IfErr result (IsPlaced source.now) }
 {
     let (tag, end) = read_tag(alloc, source, at, handles)?;
     let next = separation(source, end, least, context)?;
@@ -161,13 +227,14 @@ fn read_tagged<'a>(
         if let Some(_) = accept(source, next, '&') {
             let (name, after) = read_name(alloc, source, next)?;
             let anchor = Some(name);
-            return Ok((Properties { anchor, tag }, after));
+            return Ok((hold(alloc, anchor, tag)?, after));
         }
     }
-    Ok((Properties { anchor: None, tag }, end))
+    Ok((hold(alloc, None, tag)?, end))
 }
 
 /// An anchor, and a tag that may follow it.
+#[inline(never)]
 fn read_anchored<'a>(
     alloc: Global,
     source: &Chars<'a>,
@@ -184,6 +251,7 @@ fn read_anchored<'a>(
     ensures err { IfErr result IsRefusal }
     ensures all { IfOk result (λ r. AllProperties (text_of source.now) (handles_of handles.entry) least (context_of context) (place_of source.now at) (place_of source.now r.1) (props_of r.0)) }
     ensures barred { IfErr result (λ e. (e ≡ OutOfMemory) ⊎ Barred (text_of source.now) (handles_of handles.entry) least (context_of context) (place_of source.now at)) }
+    ensures placed { IfErr result (IsPlaced source.now) }
 {
     let (name, end) = read_name(alloc, source, at)?;
     let anchor = Some(name);
@@ -191,18 +259,18 @@ fn read_anchored<'a>(
     if next > end {
         if let Some(_) = accept(source, next, '!') {
             let (tag, after) = read_tag(alloc, source, next, handles)?;
-            return Ok((Properties { anchor, tag }, after));
+            return Ok((hold(alloc, anchor, tag)?, after));
         }
     }
     let tag = EventTag::None;
-    Ok((Properties { anchor, tag }, end))
+    Ok((hold(alloc, anchor, tag)?, end))
 }
 
 /// An event with these properties in place of its own.
 fn with_properties<'a>(event: Event<'a>, properties: Properties<'a>) -> Event<'a>
     ensures { event_of result ≡ with_props (props_of properties.entry) (event_of event.entry) }
 {
-    let Properties { anchor, tag } = properties;
+    let (anchor, tag) = properties.parts();
     match event {
         Event::Scalar { style, text, .. } => Event::Scalar {
             anchor,

@@ -11,54 +11,10 @@ ghost use Rattle.yaml_flow.specs.SinkModel.{holds_of};
 ghost use Rattle.yaml_flow.specs.PropertyRules.{props_of};
 
 use crate::properties::Properties;
-use crate::sink::{Keeper, Sink};
+use crate::sink::{Collection, Keeper, Sink};
 use std::borrow::CowStr;
-use yaml_text::event::{Event, EventTag, Style};
+use yaml_text::event::Style;
 use yaml_text::fault::Fault;
-
-/// The start of a flow sequence.
-fn flow_sequence<'a>() -> Event<'a>
-    ensures { event_of result ≡ sequence_start true None untagged }
-{
-    Event::SequenceStart {
-        flow: true,
-        anchor: None,
-        tag: EventTag::None,
-    }
-}
-
-/// The start of a flow mapping.
-fn flow_mapping<'a>() -> Event<'a>
-    ensures { event_of result ≡ mapping_start true None untagged }
-{
-    Event::MappingStart {
-        flow: true,
-        anchor: None,
-        tag: EventTag::None,
-    }
-}
-
-/// The start of a block sequence with its properties.
-fn block_sequence<'a>(properties: Properties<'a>) -> Event<'a>
-    ensures { event_of result ≡ seq_start false (props_of properties.entry) }
-{
-    Event::SequenceStart {
-        flow: false,
-        anchor: properties.anchor,
-        tag: properties.tag,
-    }
-}
-
-/// The start of a block mapping with its properties.
-fn block_mapping<'a>(properties: Properties<'a>) -> Event<'a>
-    ensures { event_of result ≡ map_start false (props_of properties.entry) }
-{
-    Event::MappingStart {
-        flow: false,
-        anchor: properties.anchor,
-        tag: properties.tag,
-    }
-}
 
 /// Puts down the start of a flow sequence.
 #[inline(never)]
@@ -66,7 +22,7 @@ pub fn push_flow_sequence<'a, K: Keeper>(out: &mut Sink<'a, K>, at: usize) -> Re
     ensures ok { IfOk result (λ _. Puts (holds_of K.holds) out.old (sequence_start true None untagged ∷ []) out.new) }
     ensures err { IfErr result (λ e. e ≡ OutOfMemory) }
 {
-    out.push(flow_sequence(), at)
+    out.begin(Collection::Sequence, true, at)
 }
 
 /// Puts down the start of a flow mapping.
@@ -75,7 +31,7 @@ pub fn push_flow_mapping<'a, K: Keeper>(out: &mut Sink<'a, K>, at: usize) -> Res
     ensures ok { IfOk result (λ _. Puts (holds_of K.holds) out.old (mapping_start true None untagged ∷ []) out.new) }
     ensures err { IfErr result (λ e. e ≡ OutOfMemory) }
 {
-    out.push(flow_mapping(), at)
+    out.begin(Collection::Mapping, true, at)
 }
 
 /// Puts down the end of a sequence.
@@ -84,7 +40,7 @@ pub fn push_sequence_end<'a, K: Keeper>(out: &mut Sink<'a, K>, at: usize) -> Res
     ensures ok { IfOk result (λ _. Puts (holds_of K.holds) out.old (sequence_end ∷ []) out.new) }
     ensures err { IfErr result (λ e. e ≡ OutOfMemory) }
 {
-    out.push(Event::SequenceEnd, at)
+    out.end(Collection::Sequence, at)
 }
 
 /// Puts down the end of a mapping.
@@ -93,7 +49,7 @@ pub fn push_mapping_end<'a, K: Keeper>(out: &mut Sink<'a, K>, at: usize) -> Resu
     ensures ok { IfOk result (λ _. Puts (holds_of K.holds) out.old (mapping_end ∷ []) out.new) }
     ensures err { IfErr result (λ e. e ≡ OutOfMemory) }
 {
-    out.push(Event::MappingEnd, at)
+    out.end(Collection::Mapping, at)
 }
 
 /// Puts down the start of a block sequence with its properties.
@@ -106,7 +62,10 @@ pub fn push_block_sequence<'a, K: Keeper>(
     ensures ok { IfOk result (λ _. Puts (holds_of K.holds) out.old (seq_start false (props_of properties.entry) ∷ []) out.new) }
     ensures err { IfErr result (λ e. e ≡ OutOfMemory) }
 {
-    out.push(block_sequence(properties), at)
+    let start = out.mark();
+    out.begin(Collection::Sequence, false, at)?;
+    out.dress(start, properties);
+    Ok(())
 }
 
 /// Puts the start of a flow mapping before what was put down since a mark.
@@ -119,7 +78,7 @@ pub fn insert_flow_mapping<'a, K: Keeper>(
     ensures ok { IfOk result (λ _. Alters (holds_of K.holds) start (λ es. mapping_start true None untagged ∷ es) out.old out.new) }
     ensures err { IfErr result (λ e. e ≡ OutOfMemory) }
 {
-    out.insert(start, flow_mapping(), at)
+    out.insert(start, true, at)
 }
 
 /// Puts the start of a block mapping with its properties before what was put down since a mark.
@@ -133,7 +92,9 @@ pub fn insert_block_mapping<'a, K: Keeper>(
     ensures ok { IfOk result (λ _. Alters (holds_of K.holds) start (λ es. map_start false (props_of properties.entry) ∷ es) out.old out.new) }
     ensures err { IfErr result (λ e. e ≡ OutOfMemory) }
 {
-    out.insert(start, block_mapping(properties), at)
+    out.insert(start, false, at)?;
+    out.dress(start, properties);
+    Ok(())
 }
 
 /// Puts down a scalar.
@@ -149,13 +110,7 @@ pub fn push_scalar<'a, K: Keeper>(
 {
     // a text that is seen is known to be UTF-8
     let _ = text.as_str();
-    let event = Event::Scalar {
-        anchor: None,
-        tag: EventTag::None,
-        style,
-        text,
-    };
-    out.push(event, at)
+    out.scalar(style, text, at)
 }
 
 /// Puts down the empty scalar, which takes no characters (YAML 1.2.2, 7.2).

@@ -1,15 +1,24 @@
 //! What a reader puts its events into.
-ghost use Rattle.std.specs.Prelude.{◌≡◌, ◌∷◌, [], ℕ, List, IfOk, IfErr};
-ghost use Rattle.yaml_definitions.specs.model.Event.{Event as PlainEvent};
-ghost use Rattle.yaml_text.specs.EventModel.{event_of};
+ghost use Rattle.std.specs.Prelude.{◌≡◌, ◌∷◌, [], ℕ, List, None, IfOk, IfErr};
+ghost use Rattle.std.specs.Cow.{cow_str_bytes};
+ghost use Rattle.yaml_definitions.specs.model.Event.{Event as PlainEvent, untagged, scalar_event, mapping_start};
+ghost use Rattle.yaml_text.specs.EventModel.{event_of, style_of};
 ghost use Rattle.yaml_text.specs.declared.fault.Fault.TheVariants.{OutOfMemory};
 ghost use Rattle.yaml_flow.specs.PropertyRules.{props_of, dressed};
 ghost use Rattle.yaml_flow.specs.Held.{Counts, Keeps, Puts, Alters};
-ghost use Rattle.yaml_flow.specs.SinkModel.{holds_of};
+ghost use Rattle.yaml_flow.specs.SinkModel.{holds_of, listed, start_of, end_of};
 
 use crate::properties::{Properties, dress};
-use yaml_text::event::Event;
+use std::borrow::CowStr;
+use yaml_text::event::{Event, EventTag, Style};
 use yaml_text::fault::Fault;
+
+/// Which kind of collection.
+#[derive(Clone, Copy)]
+pub enum Collection {
+    Sequence,
+    Mapping,
+}
 
 /// What keeps events in a form of its own. It names no lifetime, so it copies what it keeps of a text, or keeps the places.
 ///
@@ -29,9 +38,24 @@ pub trait Keeper {
         ensures ok { IfOk result (λ _. Puts holds self.old (event_of event.entry ∷ []) self.new) }
         ensures err { IfErr result (λ e. e ≡ OutOfMemory) };
 
-    /// Puts an event before those that were put down since a mark.
-    fn insert(&mut self, start: usize, event: Event<'_>, at: usize) -> Result<(), Fault>
-        ensures ok { IfOk result (λ _. Alters holds start (λ es. event_of event.entry ∷ es) self.old self.new) }
+    /// Puts down a scalar without properties.
+    fn scalar(&mut self, style: Style, text: &str, at: usize) -> Result<(), Fault>
+        ensures ok { IfOk result (λ _. Puts holds self.old (scalar_event None untagged (style_of style) text.now ∷ []) self.new) }
+        ensures err { IfErr result (λ e. e ≡ OutOfMemory) };
+
+    /// Puts down the start of a collection without properties.
+    fn begin(&mut self, collection: Collection, flow: bool, at: usize) -> Result<(), Fault>
+        ensures ok { IfOk result (λ _. Puts holds self.old (start_of collection flow ∷ []) self.new) }
+        ensures err { IfErr result (λ e. e ≡ OutOfMemory) };
+
+    /// Puts down the end of a collection.
+    fn end(&mut self, collection: Collection, at: usize) -> Result<(), Fault>
+        ensures ok { IfOk result (λ _. Puts holds self.old (end_of collection ∷ []) self.new) }
+        ensures err { IfErr result (λ e. e ≡ OutOfMemory) };
+
+    /// Puts the start of a mapping without properties before what was put down since a mark.
+    fn insert(&mut self, start: usize, flow: bool, at: usize) -> Result<(), Fault>
+        ensures ok { IfOk result (λ _. Alters holds start (λ es. mapping_start flow None untagged ∷ es) self.old self.new) }
         ensures err { IfErr result (λ e. e ≡ OutOfMemory) };
 
     /// A node follows that has these properties on its line. They are put on it, alone or with others, by `dress`.
@@ -54,6 +78,87 @@ pub enum Sink<'a, K: Keeper> {
     Kept(K),
 }
 
+/// Puts an event at a list's end. Out of line, as the others, so that no event stands in the frame of a call that nests.
+#[inline(never)]
+fn list_event<'a>(list: &mut Vec<Event<'a>>, event: Event<'a>) -> Result<(), Fault>
+    ensures ok { IfOk result (λ _. Puts listed list.old (event_of event.entry ∷ []) list.new) }
+    ensures err { IfErr result (λ e. e ≡ OutOfMemory) }
+{
+    list.push(event)?;
+    Ok(())
+}
+
+/// Puts a scalar without properties at a list's end.
+#[inline(never)]
+fn list_scalar<'a>(list: &mut Vec<Event<'a>>, style: Style, text: CowStr<'a>) -> Result<(), Fault>
+    ensures ok { IfOk result (λ _. Puts listed list.old (scalar_event None untagged (style_of style) (cow_str_bytes text.entry) ∷ []) list.new) }
+    ensures err { IfErr result (λ e. e ≡ OutOfMemory) }
+{
+    list.push(Event::Scalar {
+        anchor: None,
+        tag: EventTag::None,
+        style,
+        text,
+    })?;
+    Ok(())
+}
+
+/// The start of a collection without properties.
+fn start_event<'a>(collection: Collection, flow: bool) -> Event<'a>
+    ensures { event_of result ≡ start_of collection flow }
+{
+    match collection {
+        Collection::Sequence => Event::SequenceStart {
+            flow,
+            anchor: None,
+            tag: EventTag::None,
+        },
+        Collection::Mapping => Event::MappingStart {
+            flow,
+            anchor: None,
+            tag: EventTag::None,
+        },
+    }
+}
+
+/// Puts the start of a collection without properties at a list's end.
+#[inline(never)]
+fn list_begin<'a>(
+    list: &mut Vec<Event<'a>>,
+    collection: Collection,
+    flow: bool,
+) -> Result<(), Fault>
+    ensures ok { IfOk result (λ _. Puts listed list.old (start_of collection flow ∷ []) list.new) }
+    ensures err { IfErr result (λ e. e ≡ OutOfMemory) }
+{
+    list.push(start_event(collection, flow))?;
+    Ok(())
+}
+
+/// Puts the end of a collection at a list's end.
+#[inline(never)]
+fn list_end<'a>(list: &mut Vec<Event<'a>>, collection: Collection) -> Result<(), Fault>
+    ensures ok { IfOk result (λ _. Puts listed list.old (end_of collection ∷ []) list.new) }
+    ensures err { IfErr result (λ e. e ≡ OutOfMemory) }
+{
+    match collection {
+        Collection::Sequence => list.push(Event::SequenceEnd)?,
+        Collection::Mapping => list.push(Event::MappingEnd)?,
+    }
+    Ok(())
+}
+
+/// Puts the start of a mapping without properties into a list, before what was put down since a mark.
+#[inline(never)]
+fn list_insert<'a>(list: &mut Vec<Event<'a>>, start: usize, flow: bool) -> Result<(), Fault>
+    ensures ok { IfOk result (λ _. Alters listed start (λ es. mapping_start flow None untagged ∷ es) list.old list.new) }
+    ensures err { IfErr result (λ e. e ≡ OutOfMemory) }
+{
+    let place = start.min(list.len());
+    list.insert(place, start_event(Collection::Mapping, flow))?;
+    Ok(())
+}
+
 impl<'a, K: Keeper> Sink<'a, K> {
     /// How many events are held: the mark behind the last.
     pub fn mark(&self) -> usize
@@ -71,26 +176,52 @@ impl<'a, K: Keeper> Sink<'a, K> {
         ensures err { IfErr result (λ e. e ≡ OutOfMemory) }
     {
         match self {
-            Sink::Listed(list) => {
-                list.push(event)?;
-                Ok(())
-            }
+            Sink::Listed(list) => list_event(list, event),
             Sink::Kept(keeper) => keeper.push(event, at),
         }
     }
 
-    /// Puts an event before those that were put down since a mark.
-    pub fn insert(&mut self, start: usize, event: Event<'a>, at: usize) -> Result<(), Fault>
-        ensures ok { IfOk result (λ _. Alters (holds_of K.holds) start (λ es. event_of event.entry ∷ es) self.old self.new) }
+    /// Puts down a scalar without properties.
+    pub fn scalar(&mut self, style: Style, text: CowStr<'a>, at: usize) -> Result<(), Fault>
+        ensures ok { IfOk result (λ _. Puts (holds_of K.holds) self.old (scalar_event None untagged (style_of style) (cow_str_bytes text.entry) ∷ []) self.new) }
         ensures err { IfErr result (λ e. e ≡ OutOfMemory) }
     {
         match self {
-            Sink::Listed(list) => {
-                let place = start.min(list.len());
-                list.insert(place, event)?;
-                Ok(())
-            }
-            Sink::Kept(keeper) => keeper.insert(start, event, at),
+            Sink::Listed(list) => list_scalar(list, style, text),
+            Sink::Kept(keeper) => keeper.scalar(style, text.as_str(), at),
+        }
+    }
+
+    /// Puts down the start of a collection without properties.
+    pub fn begin(&mut self, collection: Collection, flow: bool, at: usize) -> Result<(), Fault>
+        ensures ok { IfOk result (λ _. Puts (holds_of K.holds) self.old (start_of collection flow ∷ []) self.new) }
+        ensures err { IfErr result (λ e. e ≡ OutOfMemory) }
+    {
+        match self {
+            Sink::Listed(list) => list_begin(list, collection, flow),
+            Sink::Kept(keeper) => keeper.begin(collection, flow, at),
+        }
+    }
+
+    /// Puts down the end of a collection.
+    pub fn end(&mut self, collection: Collection, at: usize) -> Result<(), Fault>
+        ensures ok { IfOk result (λ _. Puts (holds_of K.holds) self.old (end_of collection ∷ []) self.new) }
+        ensures err { IfErr result (λ e. e ≡ OutOfMemory) }
+    {
+        match self {
+            Sink::Listed(list) => list_end(list, collection),
+            Sink::Kept(keeper) => keeper.end(collection, at),
+        }
+    }
+
+    /// Puts the start of a mapping without properties before what was put down since a mark.
+    pub fn insert(&mut self, start: usize, flow: bool, at: usize) -> Result<(), Fault>
+        ensures ok { IfOk result (λ _. Alters (holds_of K.holds) start (λ es. mapping_start flow None untagged ∷ es) self.old self.new) }
+        ensures err { IfErr result (λ e. e ≡ OutOfMemory) }
+    {
+        match self {
+            Sink::Listed(list) => list_insert(list, start, flow),
+            Sink::Kept(keeper) => keeper.insert(start, flow, at),
         }
     }
 
@@ -142,7 +273,19 @@ impl Keeper for Unkept {
         Err(Fault::OutOfMemory)
     }
 
-    fn insert(&mut self, _start: usize, _event: Event<'_>, _at: usize) -> Result<(), Fault> {
+    fn scalar(&mut self, _style: Style, _text: &str, _at: usize) -> Result<(), Fault> {
+        Err(Fault::OutOfMemory)
+    }
+
+    fn begin(&mut self, _collection: Collection, _flow: bool, _at: usize) -> Result<(), Fault> {
+        Err(Fault::OutOfMemory)
+    }
+
+    fn end(&mut self, _collection: Collection, _at: usize) -> Result<(), Fault> {
+        Err(Fault::OutOfMemory)
+    }
+
+    fn insert(&mut self, _start: usize, _flow: bool, _at: usize) -> Result<(), Fault> {
         Err(Fault::OutOfMemory)
     }
 

@@ -121,10 +121,6 @@ slot-at ts (b ∷ anchored) [] i a x o h e q = absurd h
 -- ---- the composer's lists after each of its calls
 
 module _ (ns : List Node) (hs : List ℕ) (m : Names) (anchored : List (Option NodeId)) (os : List Open) (places : List NodeId) (s : State) (h : Held ns hs m anchored os places s) where
-  -- no anchor
-  pub held-plain : (a : Anchor) → a ≡ None → Held ns hs m anchored os places (node_begun a s)
-  held-plain a e = rw e h
-
   -- an anchor
   pub held-begun : (a : Anchor) (name : List ℕ) (new : Names) (place : ℕ) → a ≡ Some name → place ≡ length anchored
       → UpdatesBy (λ x y. slice_cmp nat_cmp (cow_str_bytes x) (cow_str_bytes y)) (λ k. slice_cmp nat_cmp name (cow_str_bytes k)) m new (Some place) → Held ns hs new (anchored ++ (None ∷ [])) os places (node_begun a s)
@@ -168,19 +164,6 @@ module _ (ns : List Node) (hs : List ℕ) (m : Names) (anchored : List (Option N
     outside = opens-none (trees_in ns) (names_of s.table) [] (reverse os) (subst (OpensStand (trees_in ns) (names_of s.table) (reverse os)) q h.outside);
     anchors = tt;
     named = λ name. ap (λ es. lookup (λ k. is_eq (slice_cmp nat_cmp name (cow_str_bytes k))) es) e;
-    done = h.done;
-  }
-
-  -- a collection begins
-  pub held-entered : (o : Open) (p : machine.Open) → OpenStands (trees_in ns) (names_of s.table) o p → o.before.items ≡ places → p.before ≡ s.inner
-      → Held ns hs m anchored (os ++ (o ∷ [])) [] (record { inner = []; outer = p ∷ s.outer; table = s.table; done = s.done })
-  held-entered o p w e q = record {
-    grounded = h.grounded;
-    measured = h.measured;
-    inside = tt;
-    outside = subst (λ z. OpensStand (trees_in ns) (names_of s.table) z (p ∷ s.outer)) (sym (reverse-append os (o ∷ []))) (w, h.outside);
-    anchors = h.anchors;
-    named = h.named;
     done = h.done;
   }
 

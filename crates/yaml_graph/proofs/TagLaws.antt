@@ -2,7 +2,7 @@
 use Rattle.std.proofs.Common.{Global, ◌≡◌, ◌∙◌, Bool, true, false, List, ℕ, refl, sym, subst, Ok, Err}
 use Rattle.std.specs.Prelude.{Option, None, Some, Result, MatchOption, MatchResult, IfOk, IfErr, String, string_bytes, if◌then◌else◌, ◌||◌, bytes_eq}
 use Rattle.yaml_definitions.specs.model.Tag.{null_tag, bool_tag, int_tag, float_tag, seq_tag, map_tag}
-use Rattle.yaml_core.specs.Answer.{RefusesScalar}
+use Rattle.yaml_core.specs.CoreAnswer.{RefusesScalar}
 use Rattle.yaml_core.specs.declared.scalar.CoreFault.{CoreFault}
 use Rattle.yaml_core.specs.declared.scalar.CoreFault.TheVariants as faults
 use Rattle.yaml_definitions.specs.model.Core.{Cause, Value, Resolved, refused, accepted, by_pattern, bad_content, wrong_kind, by_tag, null_of, bool_of, int_of, float_of, as_bool, as_int}

@@ -3,7 +3,7 @@ ghost use Rattle.std.specs.Prelude.{◌≡◌, ◌<◌, ℕ, List, length, map, 
 ghost use Rattle.std.specs.List.{All};
 ghost use Rattle.std.specs.Cow.{cow_str_bytes};
 ghost use Rattle.std.specs.Option.{IfSome};
-ghost use Rattle.yaml_core.specs.Answer.{RefusesScalar};
+ghost use Rattle.yaml_core.specs.CoreAnswer.{RefusesScalar};
 ghost use Rattle.yaml_definitions.specs.model.Event.{Anchor};
 ghost use Rattle.yaml_definitions.specs.model.Core.{Resolved, resolve, collection_tag};
 ghost use Rattle.yaml_definitions.specs.model.Unfold.{Outcome, and_then, placed, tree_named, last_named};

@@ -4,25 +4,24 @@ ghost use Rattle.std.specs.Cow.{cow_str_bytes};
 ghost use Rattle.yaml_definitions.specs.model.Tag.{str_tag};
 ghost use Rattle.yaml_definitions.specs.model.Core.{resolve, by_table, by_tag};
 ghost use Rattle.yaml_text.specs.EventModel.{written_of, style_of};
-ghost use Rattle.yaml_core.specs.Answer.{RefusesScalar};
+ghost use Rattle.yaml_core.specs.CoreAnswer.{RefusesScalar};
 
 use std::alloc::{AllocError, Global};
 use std::borrow::CowStr;
 use yaml_core::scalar::{CoreFault, Scalar, by_table, resolve};
+use yaml_text::core_tag;
 use yaml_text::event::{EventTag, Style};
-
-const STR_TAG: &str = "tag:yaml.org,2002:str";
 
 /// A tag of the core schema that an untagged scalar may have.
 fn known_tag(tag: &str) -> Option<&'static str>
     ensures { IfSome result (λ known. known.now ≡ tag.now) }
 {
     match tag {
-        "tag:yaml.org,2002:str" => Some("tag:yaml.org,2002:str"),
-        "tag:yaml.org,2002:int" => Some("tag:yaml.org,2002:int"),
-        "tag:yaml.org,2002:bool" => Some("tag:yaml.org,2002:bool"),
-        "tag:yaml.org,2002:null" => Some("tag:yaml.org,2002:null"),
-        "tag:yaml.org,2002:float" => Some("tag:yaml.org,2002:float"),
+        core_tag::STR => Some(core_tag::STR),
+        core_tag::INT => Some(core_tag::INT),
+        core_tag::BOOL => Some(core_tag::BOOL),
+        core_tag::NULL => Some(core_tag::NULL),
+        core_tag::FLOAT => Some(core_tag::FLOAT),
         _ => None,
     }
 }
@@ -78,7 +77,7 @@ fn string<'s>(text: CowStr<'s>) -> Scalar<'s>
     ensures content { cow_str_bytes result.content ≡ cow_str_bytes text.entry }
 {
     Scalar {
-        tag: CowStr::Borrowed(STR_TAG),
+        tag: CowStr::Borrowed(core_tag::STR),
         content: text,
     }
 }

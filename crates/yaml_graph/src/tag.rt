@@ -9,6 +9,7 @@ ghost use Rattle.yaml_graph.specs.Composed.{RefusesUnfolding};
 ghost use Rattle.yaml_graph.specs.ComposerModel.{kind_number};
 
 use std::borrow::CowStr;
+use yaml_text::core_tag;
 use yaml_text::event::EventTag;
 use yaml_text::fault::Fault;
 
@@ -26,13 +27,13 @@ fn is_core(tag: &str) -> bool
 {
     matches!(
         tag,
-        "tag:yaml.org,2002:null"
-            | "tag:yaml.org,2002:bool"
-            | "tag:yaml.org,2002:int"
-            | "tag:yaml.org,2002:float"
-            | "tag:yaml.org,2002:str"
-            | "tag:yaml.org,2002:seq"
-            | "tag:yaml.org,2002:map"
+        core_tag::NULL
+            | core_tag::BOOL
+            | core_tag::INT
+            | core_tag::FLOAT
+            | core_tag::STR
+            | core_tag::SEQ
+            | core_tag::MAP
     )
 }
 
@@ -43,8 +44,8 @@ impl Collection {
         ensures { result.now ≡ default_tag (kind_number self) }
     {
         match self {
-            Collection::Sequence => "tag:yaml.org,2002:seq",
-            Collection::Mapping => "tag:yaml.org,2002:map",
+            Collection::Sequence => core_tag::SEQ,
+            Collection::Mapping => core_tag::MAP,
         }
     }
 

@@ -60,10 +60,6 @@ pub empty_is_none : (bs : List ℕ) → length bs ≡ 0 → false ≡ is_full bs
 unfolding is_full
 empty_is_none bs e = grind (arith, nat_tests, e)
 
-pub long_is_none : (bs : List ℕ) → tag_limit < length bs → false ≡ is_full bs
-unfolding is_full
-long_is_none bs e = grind (arith, nat_tests, e)
-
 pub if_ok : {T E : Type 0} {P Q : T → Type 0} (r : Result T E) → ((x : T) → P x → Q x) → IfOk r P → IfOk r Q
 if_ok {T} {E} {P} {Q} (Ok x) f p = f x p
 if_ok {T} {E} {P} {Q} (Err e) f p = tt

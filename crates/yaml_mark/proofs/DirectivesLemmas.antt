@@ -5,9 +5,9 @@ use Rattle.std.specs.List.{list_any}
 use Rattle.std.specs.Map.{lookup}
 use Rattle.std.specs.Cmp.Lexicographic.{nat_list_eq_equiv}
 use Rattle.std.proofs.lemmas.List.{append-nil}
-use Rattle.yaml_text.specs.Answer.{Only}
+use Rattle.yaml_text.specs.LeafAnswer.{Only}
 use Rattle.yaml_text.specs.Calls.{read_directives}
-use Rattle.yaml_text.specs.Answer.{Unread}
+use Rattle.yaml_text.specs.LeafAnswer.{Unread}
 use Rattle.yaml_definitions.specs.grammar.Rules.{Rule, Any, ◌⊔◌, Begins, chr}
 use Rattle.yaml_definitions.specs.grammar.Characters.{is_space}
 use Rattle.yaml_definitions.specs.grammar.Separation.{StartsLine, AtEnd, l-comment as l_comment}
@@ -109,9 +109,6 @@ reserved_bindings = refl
 binding_bindings : (h p : List ℕ) → bindings (binding h p ∷ []) ≡ (h, p) ∷ []
 unfolding bindings
 binding_bindings h p = refl
-
-any_nil : {A : Type 0} (p : A → Bool) → list_any p [] ≡ false
-any_nil {A} p = refl
 
 no_bindings : bindings [] ≡ []
 unfolding bindings

@@ -1,11 +1,11 @@
 -- Names: from a place one at most.
 use Rattle.std.proofs.Common.{◌≡◌, ◌≢◌, ℕ, ◌+◌, ◌<◌, ◌⊎◌, inl, inr, List, Some, sym, ◌∙◌, ap, subst, arith}
 use Rattle.std.specs.Prelude.{slice_get, slice_range}
-use Rattle.yaml_text.specs.Answer.{Only}
+use Rattle.yaml_text.specs.LeafAnswer.{Only}
 use Rattle.yaml_definitions.specs.grammar.Rules.{run, Stands}
 use Rattle.yaml_definitions.specs.grammar.Tags.{ns-anchor-name as name, c-ns-anchor-property as anchor, c-ns-alias-node as alias, is_name}
 use Rattle.yaml_text.specs.Calls.{read_name}
-use Rattle.yaml_text.specs.Answer.{Unread}
+use Rattle.yaml_text.specs.LeafAnswer.{Unread}
 use Rattle.yaml_mark.specs.Parts.{sign}
 use Rattle.yaml_text.proofs.Runs.{run_same}
 

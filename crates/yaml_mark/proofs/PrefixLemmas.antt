@@ -2,7 +2,7 @@
 use Rattle.std.proofs.Common.{◌≡◌, ◌≢◌, ℕ, ◌+◌, ◌≤◌, inl, inr, List, [], ◌∷◌, ◌++◌, Bool, true, false, Some, refl, sym, ◌∙◌, ap, subst, arith, append_assoc}
 use Rattle.std.specs.Prelude.{slice_get, slice_range}
 use Rattle.std.specs.Char.{is_ascii_hexdigit}
-use Rattle.yaml_text.specs.Answer.{Only}
+use Rattle.yaml_text.specs.LeafAnswer.{Only}
 use Rattle.yaml_definitions.specs.grammar.Rules.{Spans}
 use Rattle.yaml_definitions.specs.grammar.Characters.{is_uri, is_tag, is_word}
 use Rattle.yaml_definitions.specs.grammar.Tags.{percent_decode, ns-tag-prefix as tag_prefix}

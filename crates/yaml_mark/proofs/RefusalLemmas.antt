@@ -1,7 +1,7 @@
 -- The faults of directives.
 use Rattle.yaml_text.specs.declared.fault.Fault.{Fault}
 use Rattle.yaml_text.specs.declared.fault.Fault.TheVariants as fault
-use Rattle.yaml_mark.specs.Answer.{DirectivesRefuse}
+use Rattle.yaml_mark.specs.MarkFaults.{DirectivesRefuse}
 use Rattle.yaml_mark.specs.DirectiveParts.{IsMalformed}
 
 pub malformed_refuses : {P : Type 0} (e : Fault) → IsMalformed e → P → DirectivesRefuse e P

@@ -5,13 +5,13 @@ use Rattle.std.specs.Prelude.{bytes_eq}
 use Rattle.std.specs.Option.{option_map, option_or}
 use Rattle.std.specs.Map.{lookup}
 use Rattle.std.proofs.Math.Nat.{eq-or-lt_of_le}
-use Rattle.yaml_text.specs.Answer.{Only}
+use Rattle.yaml_text.specs.LeafAnswer.{Only}
 use Rattle.yaml_definitions.specs.model.Event.{WrittenTag, non_specific}
 use Rattle.yaml_definitions.specs.grammar.Rules.{any_one_span, Span, Spans, run, Stands}
 use Rattle.yaml_definitions.specs.grammar.Characters.{is_ns, is_nb, is_break, is_white, is_word, is_uri, is_tag, is_flow_indicator}
 use Rattle.yaml_definitions.specs.grammar.Tags.{Handles, c-ns-tag-property as tag, is_name, uri_char, tag_char, c-tag-handle as tag_handle, c-verbatim-tag as verbatim_tag, c-ns-shorthand-tag as shorthand_tag, c-non-specific-tag as non_specific_tag, joined, decoded, prefix_of, default_handles, percent_decode, NameEnds}
 use Rattle.yaml_text.specs.Calls.{read_tag}
-use Rattle.yaml_text.specs.Answer.{Unread}
+use Rattle.yaml_text.specs.LeafAnswer.{Unread}
 use Rattle.yaml_text.proofs.PlaceLemmas.{slice_none, slice_one}
 use Rattle.yaml_text.proofs.Runs.{same_char, no_stand, run_none, run_same}
 use Rattle.yaml_mark.proofs.DecodeLemmas.{decoded_no, empty_is_none}

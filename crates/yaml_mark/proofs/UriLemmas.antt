@@ -10,9 +10,6 @@ module _ (cs : List ℕ) where
   one_end : (p : ℕ → Bool) (i j : ℕ) → one cs p i j → j ≡ i + 1
   one_end p i j (s, e) = e
 
-  one_stands : (p : ℕ → Bool) (i j : ℕ) → one cs p i j → Stands cs p i
-  one_stands p i j (s, e) = s
-
   pub escape_is : (i j k m : ℕ) → slice_get cs i ≡ Some 37 → j ≡ i + 1 → one cs is_ascii_hexdigit j k → one cs is_ascii_hexdigit k m → percent_escape cs i m
   unfolding percent_escape
   escape_is i j k m h e r s = (j, (h, e), (k, r, s))

@@ -7,7 +7,7 @@ ghost use Rattle.yaml_definitions.specs.grammar.Separation.{s-l-comments as s_l_
 ghost use Rattle.yaml_text.specs.Lines.{Uncut};
 
 use yaml_text::chars::Chars;
-use yaml_text::lines::{skip_blank, skip_comments as skip_lines, starts_line};
+use yaml_text::lines::{skip_blank, skip_comment_lines, starts_line};
 use yaml_text::places::{accept, is_border};
 
 /// Whether a border cuts a CR LF in two.
@@ -48,7 +48,7 @@ pub fn skip_comments(source: &Chars<'_>, at: usize) -> Option<usize>
     ensures none { IfNone result ((j : ℕ) → s_l_comments (text_of source.now) (place_of source.now at) j → ⊥) }
 {
     if starts_line(source, at) {
-        return Some(skip_lines(source, at));
+        return Some(skip_comment_lines(source, at));
     }
     match accept(source, at, '#') {
         Some(_) => None,
@@ -58,7 +58,7 @@ pub fn skip_comments(source: &Chars<'_>, at: usize) -> Option<usize>
             }
             match skip_blank(source, at) {
                 None => None,
-                Some(line) => Some(skip_lines(source, line)),
+                Some(line) => Some(skip_comment_lines(source, line)),
             }
         }
     }

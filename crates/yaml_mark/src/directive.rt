@@ -1,9 +1,9 @@
 //! One directive (YAML 1.2.2, 6.8).
 ghost use Rattle.std.specs.Prelude.{◌≡◌, ◌≤◌, ◌<◌, ◌⊎◌, IfOk, IfErr, IfSome, IfNone, [], ◌∷◌, ℕ, Some, slice_get};
-ghost use Rattle.yaml_text.specs.Answer.{Only};
+ghost use Rattle.yaml_text.specs.LeafAnswer.{Only};
 ghost use Rattle.yaml_text.specs.Placed.{IsPlaced};
 ghost use Rattle.yaml_text.specs.Source.{text_of, place_of, IsBorder};
-ghost use Rattle.yaml_text.specs.Answer.{Unread};
+ghost use Rattle.yaml_text.specs.LeafAnswer.{Unread};
 ghost use Rattle.yaml_definitions.specs.grammar.Directives as grammar;
 ghost use Rattle.yaml_definitions.specs.grammar.Rules.{any_span, some_run, Stands, chr};
 ghost use Rattle.yaml_definitions.specs.grammar.Characters.{is_space};

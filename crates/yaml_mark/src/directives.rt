@@ -1,12 +1,12 @@
 //! Directives (YAML 1.2.2, 6.8).
 ghost use Rattle.std.specs.Prelude.{◌≡◌, ◌<◌, ◌⊎◌, IfOk, IfErr, Some, slice_get};
-ghost use Rattle.yaml_text.specs.Answer.{Only};
+ghost use Rattle.yaml_text.specs.LeafAnswer.{Only};
 ghost use Rattle.yaml_text.specs.Placed.{IsPlaced};
 ghost use Rattle.yaml_text.specs.Source.{text_of, place_of, IsBorder};
 ghost use Rattle.yaml_text.specs.Calls as calls;
-ghost use Rattle.yaml_text.specs.Answer.{Unread};
+ghost use Rattle.yaml_text.specs.LeafAnswer.{Unread};
 ghost use Rattle.yaml_definitions.specs.grammar.Separation.{StartsLine, AtEnd};
-ghost use Rattle.yaml_mark.specs.Answer.{DirectivesRefuse};
+ghost use Rattle.yaml_mark.specs.MarkFaults.{DirectivesRefuse};
 ghost use Rattle.yaml_mark.specs.HandlesModel.{bindings_of};
 
 use crate::directive::{Directive, read_directive};

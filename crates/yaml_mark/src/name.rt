@@ -2,12 +2,12 @@
 ghost use Rattle.std.specs.Prelude.{◌<◌, IfOk, IfErr, IfSome, IfNone, ℕ};
 ghost use Rattle.std.specs.Str.{chars, IsUtf8};
 ghost use Rattle.std.specs.Cow.{cow_str_bytes};
-ghost use Rattle.yaml_text.specs.Answer.{Only};
+ghost use Rattle.yaml_text.specs.LeafAnswer.{Only};
 ghost use Rattle.yaml_text.specs.Placed.{IsPlaced};
 ghost use Rattle.yaml_text.specs.Source.{text_of, place_of, IsBorder};
 ghost use Rattle.yaml_text.specs.Calls as calls;
-ghost use Rattle.yaml_text.specs.Answer.{Unread};
-ghost use Rattle.yaml_mark.specs.Answer.{NameRefuses};
+ghost use Rattle.yaml_text.specs.LeafAnswer.{Unread};
+ghost use Rattle.yaml_mark.specs.MarkFaults.{NameRefuses};
 ghost use Rattle.yaml_mark.specs.Parts.{sign};
 
 use crate::runs::{Class, skip_run};

@@ -7,6 +7,7 @@ ghost use Rattle.yaml_mark.specs.HandlesModel.{handles_of};
 ghost use Rattle.yaml_mark.specs.Prefixes.{StandFor};
 
 use crate::handles::Handles;
+use yaml_text::core_tag;
 
 /// The decoded prefix of a handle that no directive binds.
 #[tactic(auto, unfolding(yaml_definitions::specs::grammar::Tags::default_handles))]
@@ -17,7 +18,7 @@ fn default_prefix(handle: &str) -> Option<&'static [u8]>
         return Some("!".as_bytes());
     }
     if handle == "!!" {
-        return Some("tag:yaml.org,2002:".as_bytes());
+        return Some(core_tag::PREFIX.as_bytes());
     }
     None
 }

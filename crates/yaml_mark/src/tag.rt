@@ -1,15 +1,15 @@
 //! Tags (YAML 1.2.2, 6.9.1).
 ghost use Rattle.std.specs.Prelude.{◌≡◌, ◌≢◌, ◌+◌, ◌≤◌, ◌<◌, IfOk, IfErr, Some, slice_get};
 ghost use Rattle.std.specs.Option.{option_map};
-ghost use Rattle.yaml_text.specs.Answer.{Only};
+ghost use Rattle.yaml_text.specs.LeafAnswer.{Only};
 ghost use Rattle.yaml_text.specs.EventModel.{written_of};
 ghost use Rattle.yaml_text.specs.Placed.{IsPlaced};
 ghost use Rattle.yaml_text.specs.Source.{text_of, place_of, IsBorder};
 ghost use Rattle.yaml_text.specs.Calls as calls;
-ghost use Rattle.yaml_text.specs.Answer.{Unread};
+ghost use Rattle.yaml_text.specs.LeafAnswer.{Unread};
 ghost use Rattle.yaml_definitions.specs.grammar.Rules.{chr};
 ghost use Rattle.yaml_definitions.specs.grammar.Tags as grammar;
-ghost use Rattle.yaml_mark.specs.Answer.{TagRefuses};
+ghost use Rattle.yaml_mark.specs.MarkFaults.{TagRefuses};
 ghost use Rattle.yaml_mark.specs.HandlesModel.{handles_of};
 ghost use Rattle.yaml_mark.specs.Parts.{handle_rest};
 

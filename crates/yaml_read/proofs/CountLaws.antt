@@ -1,11 +1,13 @@
 -- What a counter of events has counted, as events are put down.
-use Rattle.std.proofs.Common.{◌≡◌, ℕ, ◌+◌, List, [], ◌∷◌, ◌++◌, Result, Ok, Err, Option, Some, None, IfOk, length, refl, sym, ◌∙◌, ap, subst, arith}
+use Rattle.std.proofs.Common.{◌≡◌, ℕ, ◌+◌, List, [], ◌∷◌, ◌++◌, Result, Ok, Err, Bool, Option, Some, None, IfOk, length, refl, sym, ◌∙◌, ap, subst, arith}
 use Rattle.std.specs.Prelude.{MatchOption}
 use Rattle.yaml_definitions.specs.model.Event.{Event, stream_start, stream_end, document_start, document_end, sequence_start, sequence_end, mapping_start, mapping_end, scalar_event, alias_event}
 use Rattle.yaml_definitions.specs.grammar.Events.{Props}
 use Rattle.yaml_flow.specs.PropertyRules.{with_props, dressed}
 use Rattle.yaml_flow.specs.Held.{Puts, Alters}
-use Rattle.yaml_flow.specs.SinkModel.{holds_of}
+use Rattle.yaml_flow.specs.SinkModel.{holds_of, start_of, end_of}
+use Rattle.yaml_flow.specs.declared.sink.Collection.{Collection}
+use Rattle.yaml_flow.specs.declared.sink.Collection.TheVariants.{Sequence, Mapping}
 use Rattle.yaml_flow.specs.declared.sink.Sink.{Sink}
 use Rattle.yaml_flow.specs.declared.sink.Sink.TheVariants.{Kept}
 use Rattle.yaml_read.specs.Counts.{content_of, contents_of, CountHolds, Grows}
@@ -55,6 +57,15 @@ pub counts_put : (a b : Counter) (len : ℕ) (e : Event) → len ≡ content_of 
 counts_put a b len e l g = record {
   is = λ log h. (counts_inserted a b (length log) len e l g).is log [] refl (subst (CountHolds a) (sym (nothing_behind log)) h);
 }
+
+-- the start and the end of a collection have none
+pub start_content : (k : Collection) (flow : Bool) → 0 ≡ content_of (start_of k flow)
+start_content Sequence flow = refl
+start_content Mapping flow = refl
+
+pub end_content : (k : Collection) → 0 ≡ content_of (end_of k)
+end_content Sequence = refl
+end_content Mapping = refl
 
 -- properties are no content
 same_content : (p : Props) (e : Event) → content_of (with_props p e) ≡ content_of e

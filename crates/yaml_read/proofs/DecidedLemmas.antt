@@ -5,7 +5,7 @@ use Rattle.std.specs.Result.{IsErrAnd}
 use Rattle.std.proofs.lemmas.Result.{err_from_is_err_and}
 use Rattle.yaml_definitions.specs.model.Limits.{open_limit}
 use Rattle.yaml_definitions.specs.model.Event.{document_start}
-use Rattle.yaml_text.specs.Answer.{Unread, Only}
+use Rattle.yaml_text.specs.LeafAnswer.{Unread, Only}
 use Rattle.yaml_definitions.specs.grammar.Rules.{Rule, ◌⊔◌, ◌∪◌, Begins, chr, seen}
 use Rattle.yaml_definitions.specs.grammar.Separation.{StartsLine, DocumentMarkOf, l-comment as l_comment}
 use Rattle.yaml_definitions.specs.grammar.Tags.{Handles}
@@ -15,15 +15,15 @@ use Rattle.yaml_definitions.specs.grammar.Streams.{l-bare-document as bare_docum
 use Rattle.yaml_text.specs.declared.fault.Fault.{Fault}
 use Rattle.yaml_text.specs.declared.fault.Fault.TheVariants as fault
 use Rattle.yaml_text.proofs.Runs.{same_char}
-use Rattle.yaml_mark.specs.Answer.{DirectivesRefuse}
+use Rattle.yaml_mark.specs.MarkFaults.{DirectivesRefuse}
 use Rattle.law_one_reading.specs.Readings.{End, At}
 use Rattle.law_one_reading.specs.Follows.{Stuck}
 use Rattle.law_one_reading.proofs.Lines.{ns_dash, stuck_mark}
 use Rattle.law_one_reading.proofs.Documents.{mark_inside, dashes_mark_is}
-use Rattle.law_going_on.specs.Decisions.{Refused, Rest}
-use Rattle.law_going_on.proofs.Decisions.{rest_goes, rest_refused, rest_rest, rest_seen, rest_left, rest_right}
+use Rattle.law_going_on.specs.GoingOn.{Refused, Rest}
+use Rattle.law_going_on.proofs.GoingOn.{rest_goes, rest_refused, rest_rest, rest_seen, rest_left, rest_right}
 use Rattle.law_going_on.proofs.StreamRests.{directed_marked, no_directives, no_percent, no_bare}
-use Rattle.yaml_flow.specs.Answer.{Decides}
+use Rattle.yaml_flow.specs.NodeAnswer.{Decides}
 use Rattle.yaml_read.specs.Decided.{DocumentEnd}
 use Rattle.yaml_read.specs.StreamRules.{after_mark, opened_by_mark, opened_bare, opened_by_directives}
 

@@ -8,8 +8,8 @@ use Rattle.yaml_definitions.specs.grammar.Streams.{document_mark, l-bare-documen
 use Rattle.law_one_reading.specs.Follows.{Stuck, Comments}
 use Rattle.law_one_reading.proofs.Lines.{ns_dash}
 use Rattle.law_one_reading.proofs.Documents.{ns_dot, mark_inside}
-use Rattle.law_going_on.specs.Decisions.{Refused, Goes, Rest, Here}
-use Rattle.law_going_on.proofs.Decisions.{rest_goes, rest_refused, rest_both}
+use Rattle.law_going_on.specs.GoingOn.{Refused, Goes, Rest, Here}
+use Rattle.law_going_on.proofs.GoingOn.{rest_goes, rest_refused, rest_both}
 use Rattle.law_going_on.proofs.StreamRests.{Left, stream_left, left_suffix, no_suffix, left_marked, no_marked, left_unparted, no_unparted, no_second}
 use Rattle.yaml_read.specs.Decided.{DocumentEnd, HasNoReading}
 use Rattle.yaml_read.specs.StreamRules.{after_mark, opened_by_mark, opened_bare, opened_by_directives}

@@ -13,9 +13,9 @@ use Rattle.yaml_text.specs.Lines.{AfterLine}
 use Rattle.yaml_text.proofs.LineRuns.{line_end_after}
 use Rattle.yaml_text.specs.declared.fault.Fault.{Fault}
 use Rattle.yaml_text.specs.declared.fault.Fault.TheVariants as fault
-use Rattle.yaml_mark.specs.Answer.{DirectivesRefuse}
-use Rattle.yaml_text.specs.Answer.{IsRefusal}
-use Rattle.yaml_flow.specs.Answer.{Appends}
+use Rattle.yaml_mark.specs.MarkFaults.{DirectivesRefuse}
+use Rattle.yaml_text.specs.LeafAnswer.{IsRefusal}
+use Rattle.yaml_flow.specs.NodeAnswer.{Appends}
 use Rattle.yaml_text.specs.EventModel.{event_of}
 use Rattle.yaml_text.specs.declared.event.Event as code
 use Rattle.yaml_flow.specs.Held.{Puts}

@@ -4,7 +4,8 @@ ghost use Rattle.yaml_definitions.specs.model.Limits.{open_limit};
 ghost use Rattle.yaml_definitions.specs.model.Event.{Event as PlainEvent};
 ghost use Rattle.yaml_text.specs.EventModel.{event_of};
 ghost use Rattle.yaml_text.specs.Source.{text_of};
-ghost use Rattle.yaml_text.specs.Answer.{IsRefusal};
+ghost use Rattle.yaml_text.specs.LeafAnswer.{IsRefusal};
+ghost use Rattle.yaml_text.specs.Placed.{IsPlaced};
 ghost use Rattle.yaml_definitions.specs.grammar.Streams.{ReadsText};
 ghost use Rattle.yaml_read.specs.Decided.{IsAlone, HasNoReading};
 ghost use Rattle.yaml_read.specs.Counts.{content_of, CountHolds, Grows};
@@ -12,9 +13,9 @@ ghost use Rattle.yaml_read.specs.Counts.{content_of, CountHolds, Grows};
 use crate::stream::read_into;
 use std::alloc::Global;
 use yaml_flow::properties::Properties;
-use yaml_flow::sink::{Keeper, Sink};
+use yaml_flow::sink::{Collection, Keeper, Sink};
 use yaml_text::chars::Chars;
-use yaml_text::event::Event;
+use yaml_text::event::{Event, Style};
 use yaml_text::fault::Fault;
 
 /// How many events a stream has, and how many bytes the contents of its scalars have, together. The bytes are not known where
@@ -76,8 +77,20 @@ impl Keeper for Counter {
         self.grow(content_len(&event))
     }
 
-    fn insert(&mut self, _start: usize, event: Event<'_>, _at: usize) -> Result<(), Fault> {
-        self.grow(content_len(&event))
+    fn scalar(&mut self, _style: Style, text: &str, _at: usize) -> Result<(), Fault> {
+        self.grow(text.len())
+    }
+
+    fn begin(&mut self, _collection: Collection, _flow: bool, _at: usize) -> Result<(), Fault> {
+        self.grow(0)
+    }
+
+    fn end(&mut self, _collection: Collection, _at: usize) -> Result<(), Fault> {
+        self.grow(0)
+    }
+
+    fn insert(&mut self, _start: usize, _flow: bool, _at: usize) -> Result<(), Fault> {
+        self.grow(0)
     }
 
     fn announce(&mut self, _own: &Properties<'_>) {}
@@ -95,6 +108,7 @@ pub fn count_events(alloc: Global, source: &Chars<'_>) -> Result<Counter, Fault>
     ensures ok { IfOk result (λ count. (es : List PlainEvent) × ReadsText (text_of source.now) (Unit {0}) open_limit es × IsAlone (text_of source.now) es × CountHolds count es) }
     ensures err { IfErr result IsRefusal }
     ensures decides { IfErr result (λ e. (e ≡ Fault.OutOfMemory) ⊎ HasNoReading (text_of source.now)) }
+    ensures placed { IfErr result (IsPlaced source.now) }
 {
     let mut out: Sink<'_, Counter> = Sink::Kept(Counter {
         events: 0,

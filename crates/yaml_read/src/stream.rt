@@ -12,9 +12,10 @@ ghost use Rattle.yaml_text.specs.Source.{text_of, place_of, IsBorder};
 ghost use Rattle.yaml_definitions.specs.grammar.Rules.{◌∪◌};
 ghost use Rattle.yaml_definitions.specs.grammar.Separation.{StartsLine, DocumentMarkOf};
 ghost use Rattle.yaml_definitions.specs.grammar.Streams.{ReadsText};
-ghost use Rattle.yaml_text.specs.Answer.{IsRefusal};
-ghost use Rattle.law_going_on.specs.Decisions.{Here};
-ghost use Rattle.yaml_flow.specs.Answer.{Appends, Decides};
+ghost use Rattle.yaml_text.specs.LeafAnswer.{IsRefusal};
+ghost use Rattle.law_going_on.specs.GoingOn.{Here};
+ghost use Rattle.yaml_flow.specs.NodeAnswer.{Appends, Decides};
+ghost use Rattle.yaml_text.specs.Placed.{IsPlaced};
 ghost use Rattle.yaml_flow.specs.Held.{Puts};
 ghost use Rattle.yaml_flow.specs.SinkModel.{holds_of};
 ghost use Rattle.yaml_flow.specs.Lines.{IsLine};
@@ -32,7 +33,7 @@ use yaml_mark::handles::Handles;
 use yaml_text::chars::Chars;
 use yaml_text::event::Event;
 use yaml_text::fault::Fault;
-use yaml_text::lines::{is_mark_of, starts_line, unusable};
+use yaml_text::lines::{is_mark_of, skip_spaces, starts_line, unusable};
 use yaml_text::places::{accept, is_end};
 
 /// How a stream goes on at a line that is no comment.
@@ -119,6 +120,7 @@ fn read_explicit<'a, K: Keeper>(
     ensures onward { IfOk result (λ line. after ≤ line.start) }
     ensures reads { Appends (λ _. opened_by_mark (text_of source.now) (handles_of handles.entry)) (place_of source.now after) (λ line. place_of source.now line.start) (holds_of K.holds) out.old out.new result }
     ensures decides { Decides (opened_by_mark (text_of source.now) (handles_of handles.entry)) (DocumentEnd (text_of source.now)) (place_of source.now after) Here (λ line. place_of source.now line.start) result }
+    ensures placed { IfErr result (IsPlaced source.now) }
 {
     out.push(Event::DocumentStart { explicit: true }, mark)?;
     read_marked(alloc, source, after, handles, out)
@@ -138,10 +140,14 @@ fn read_directed<'a, K: Keeper>(
     ensures onward { IfOk result (λ line. at ≤ line.start) }
     ensures reads { Appends (λ _. opened_by_directives (text_of source.now)) (place_of source.now at) (λ line. place_of source.now line.start) (holds_of K.holds) out.old out.new result }
     ensures decides { Decides (opened_by_directives (text_of source.now)) (DocumentEnd (text_of source.now)) (place_of source.now at) Here (λ line. place_of source.now line.start) result }
+    ensures placed { IfErr result (IsPlaced source.now) }
 {
     let (handles, end) = read_directives(alloc, source, at)?;
     match document_mark(source, end, '-') {
-        None => Err(unusable(source, end)),
+        None => {
+            let (_, first) = skip_spaces(source, end);
+            Err(unusable(source, first))
+        }
         Some(after) => {
             let line = read_explicit(alloc, source, end, after, Some(&handles), out)?;
             Ok(line)
@@ -162,6 +168,7 @@ fn read_unmarked<'a, K: Keeper>(
     ensures onward { IfOk result (λ next. line.start ≤ next.start) }
     ensures reads { Appends (λ _. opened_bare (text_of source.now)) (place_of source.now line.start) (λ line. place_of source.now line.start) (holds_of K.holds) out.old out.new result }
     ensures decides { Decides (opened_bare (text_of source.now)) (DocumentEnd (text_of source.now)) (place_of source.now line.start) Here (λ next. place_of source.now next.start) result }
+    ensures placed { IfErr result (IsPlaced source.now) }
 {
     out.push(Event::DocumentStart { explicit: false }, line.start)?;
     read_bare(alloc, source, line, None, out)
@@ -180,6 +187,7 @@ fn read_first<'a, K: Keeper>(
     ensures onward { IfOk result (λ next. line.start ≤ next.start) }
     ensures reads { Appends (λ _. opened_bare (text_of source.now) ∪ opened_by_directives (text_of source.now)) (place_of source.now line.start) (λ line. place_of source.now line.start) (holds_of K.holds) out.old out.new result }
     ensures decides { Decides (opened_bare (text_of source.now) ∪ opened_by_directives (text_of source.now)) (DocumentEnd (text_of source.now)) (place_of source.now line.start) Here (λ next. place_of source.now next.start) result }
+    ensures placed { IfErr result (IsPlaced source.now) }
 {
     match accept(source, line.start, '%') {
         Some(_) => read_directed(alloc, source, line.start, out),
@@ -196,6 +204,7 @@ fn read_pieces<'a, K: Keeper>(
     ensures ok { IfOk result (λ _. (es : List PlainEvent) × Puts (holds_of K.holds) out.old es out.new × ReadsText (text_of source.now) (Unit {0}) open_limit (stream_start ∷ (es ++ (stream_end ∷ [])))) }
     ensures err { IfErr result IsRefusal }
     ensures decides { IfErr result (λ e. (e ≡ Fault.OutOfMemory) ⊎ HasNoReading (text_of source.now)) }
+    ensures placed { IfErr result (IsPlaced source.now) }
 {
     let mut line = first_line(source);
     let mut is_open = false;
@@ -236,6 +245,7 @@ pub fn read_into<'a, K: Keeper>(
     ensures ok { IfOk result (λ _. PutsReading (text_of source.now) (holds_of K.holds) out.old out.new) }
     ensures err { IfErr result IsRefusal }
     ensures decides { IfErr result (λ e. (e ≡ Fault.OutOfMemory) ⊎ HasNoReading (text_of source.now)) }
+    ensures placed { IfErr result (IsPlaced source.now) }
 {
     out.push(Event::StreamStart, 0)?;
     read_pieces(alloc, source, out)?;
@@ -257,6 +267,7 @@ pub fn read_events<'a>(alloc: Global, source: &Chars<'a>) -> Result<Vec<Event<'a
     ensures decides { IfErr result (λ e. (e ≡ Fault.OutOfMemory) ⊎ HasNoReading (text_of source.now)) }
     ensures spelling { (f : List Tree) → Admitted f → Text (spell_bytes f) (text_of source.now) → MatchResult result (λ events. map event_of events.items ≡ spelled f) (λ e. e ≡ Fault.OutOfMemory) }
     ensures block { (f : List Tree) → Admitted f → AllKeysFit f → length (block_bytes f) ≤ text_limit → Text (block_bytes f) (text_of source.now) → MatchResult result (λ events. map event_of events.items ≡ blocked f) (λ e. e ≡ Fault.OutOfMemory) }
+    ensures placed { IfErr result (IsPlaced source.now) }
 {
     let mut out: Sink<'a, Unkept> = Sink::Listed(Vec::new(alloc));
     read_into(alloc, source, &mut out)?;

@@ -4,7 +4,7 @@ use Rattle.std.proofs.lemmas.List.{append-nil}
 use Rattle.yaml_definitions.specs.grammar.Rules.{Span, ◌◂◌, ◌⨾◌, Any, done, then, any, where_both}
 use Rattle.yaml_text.proofs.Repeats.{SameEnd}
 use Rattle.yaml_scalar.specs.Chains.{TextRule}
-use Rattle.yaml_text.specs.Answer.{Unread}
+use Rattle.yaml_text.specs.LeafAnswer.{Unread}
 
 -- from a place the rule has one reading at most
 abbrev pub Same : TextRule → Type 0

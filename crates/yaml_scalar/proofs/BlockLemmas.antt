@@ -3,9 +3,9 @@ use Rattle.std.proofs.Common.{◌≡◌, ◌≢◌, ℕ, ◌+◌, List, Some, Bo
 use Rattle.std.specs.Prelude.{slice_get}
 use Rattle.yaml_definitions.specs.grammar.Rules.{maybe, furthest_span}
 use Rattle.yaml_definitions.specs.grammar.BlockScalars.{Line, Header, is_given, content, c-b-block-header as header, indentation, lines, LinesEnd, l-trail-comments as comment_lines, block_content, block_scalar, c-l+literal as literal, c-l+folded as folded}
-use Rattle.yaml_text.specs.Answer.{Unread}
+use Rattle.yaml_text.specs.LeafAnswer.{Unread}
 use Rattle.yaml_scalar.specs.BlockRules.{block_lines}
-use Rattle.yaml_text.specs.Answer.{FurthestAlone}
+use Rattle.yaml_text.specs.LeafAnswer.{FurthestAlone}
 use Rattle.yaml_text.specs.Lines.{Inside}
 use Rattle.yaml_scalar.specs.BlockModel.{sign_of, styled}
 use Rattle.yaml_definitions.specs.grammar.Characters.{is_nb, is_break}

@@ -1,8 +1,8 @@
 -- Double-quoted scalars: the chain form has the readings of the grammar.
 use Rattle.std.proofs.Common.{ℕ, ◌+◌, ◌-◌, ◌≤◌, inl, inr, List, refl, arith}
 use Rattle.std.specs.Prelude.{slice_range}
-use Rattle.yaml_text.specs.Answer.{Only}
-use Rattle.yaml_text.specs.Answer.{Unread}
+use Rattle.yaml_text.specs.LeafAnswer.{Only}
+use Rattle.yaml_text.specs.LeafAnswer.{Unread}
 use Rattle.yaml_definitions.specs.grammar.Separation.{Ctx}
 use Rattle.yaml_definitions.specs.grammar.FlowScalars.{several, s-flow-folded as fold, s-double-escaped as escaped_break, ns-double-char as double_char, c-double-quoted as double}
 use Rattle.yaml_scalar.specs.Chains.{gap, escaped_end, double_gap, double_rest, double_chain}

@@ -7,7 +7,7 @@ use Rattle.std.specs.Str.Parse.{digits_value}
 use Rattle.std.proofs.lemmas.Int.Digits.{digits_value_push}
 use Rattle.std.proofs.Math.Nat.{pow-suc}
 use Rattle.std.proofs.lemmas.Bool.{cases_eq}
-use Rattle.yaml_text.specs.Answer.{Unread}
+use Rattle.yaml_text.specs.LeafAnswer.{Unread}
 use Rattle.yaml_definitions.specs.grammar.Rules.{exactly, Stands}
 use Rattle.yaml_definitions.specs.grammar.Characters.{is_nb, is_break, short_escape, numbered, c-ns-esc-char as escape}
 use Rattle.yaml_text.proofs.PlaceLemmas.{slice_none, slice_snoc}

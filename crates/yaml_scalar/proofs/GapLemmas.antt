@@ -7,7 +7,7 @@ use Rattle.yaml_definitions.specs.grammar.Characters.{is_white, is_space}
 use Rattle.yaml_scalar.specs.Chains.{margin, skipped_line, lead, breaks, folded_breaks, folds, NoLead, NoBreaks, NoFold, gap}
 use Rattle.yaml_text.specs.Lines.{line_brk, is_key}
 use Rattle.yaml_definitions.specs.grammar.Separation.{DocumentMark, Unmarked, s-indent as indent, s-indent-less-than as less}
-use Rattle.yaml_text.specs.Answer.{Unread}
+use Rattle.yaml_text.specs.LeafAnswer.{Unread}
 use Rattle.yaml_definitions.specs.grammar.Separation.{Ctx}
 use Rattle.yaml_scalar.proofs.AnyLemmas.{Same, Onward, Cuts, any_span_same, any_span_none, any_onward}
 use Rattle.yaml_text.proofs.Repeats.{SameEnd}

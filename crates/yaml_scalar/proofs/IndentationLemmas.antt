@@ -5,7 +5,7 @@ use Rattle.yaml_definitions.specs.grammar.Rules.{Rule, ◌◂◌, run, Stands, h
 use Rattle.yaml_definitions.specs.grammar.Characters.{is_space, is_nb, is_break, b-break as brk}
 use Rattle.yaml_definitions.specs.grammar.Separation.{AtEnd, DocumentMark, DocumentMarkOf, s-indent-less-than as less}
 use Rattle.yaml_definitions.specs.grammar.BlockScalars.{space_lines, NoSpace, LessIndented, greatest, found_indentation, longest_indentation, indentation}
-use Rattle.yaml_text.specs.Answer.{Unread}
+use Rattle.yaml_text.specs.LeafAnswer.{Unread}
 use Rattle.yaml_text.proofs.Runs.{same_char, run_none, run_same}
 use Rattle.yaml_text.proofs.LineRuns.{end_stops, brk_same, brk_stops, brk_no_end}
 use Rattle.yaml_text.proofs.RestLemmas.{space_feed, space_return}

@@ -4,9 +4,9 @@ use Rattle.std.specs.Prelude.{Ok, IfOk, is_ok, if◌then◌else◌}
 use Rattle.std.specs.Result.{IsErrAnd}
 use Rattle.std.proofs.lemmas.Result.{err_from_is_err_and}
 use Rattle.yaml_scalar.specs.Chains.{TextRule}
-use Rattle.yaml_text.specs.Answer.{Answers, ScalarFaultMeans}
-use Rattle.yaml_text.specs.Answer.{IsSyntaxFault}
-use Rattle.yaml_text.specs.Answer.{Unread}
+use Rattle.yaml_text.specs.LeafAnswer.{Answers, ScalarFaultMeans}
+use Rattle.yaml_text.specs.LeafAnswer.{IsSyntaxFault}
+use Rattle.yaml_text.specs.LeafAnswer.{Unread}
 use Rattle.yaml_text.specs.declared.fault.Fault.{Fault}
 use Rattle.yaml_text.specs.declared.fault.Fault.TheVariants as fault
 

@@ -6,8 +6,8 @@ use Rattle.yaml_scalar.specs.Chains.{taken_at, folds, NoBreaks, NoPlainLine, bre
 use Rattle.yaml_definitions.specs.grammar.Characters.{is_white, is_ns, is_nb, is_break, is_indicator}
 use Rattle.yaml_definitions.specs.grammar.Separation.{DocumentMark, Unmarked}
 use Rattle.yaml_definitions.specs.grammar.FlowScalars.{is_flow, plain_safe, PlainFirst}
-use Rattle.yaml_text.specs.Answer.{Unread}
-use Rattle.yaml_text.specs.Answer.{Furthest}
+use Rattle.yaml_text.specs.LeafAnswer.{Unread}
+use Rattle.yaml_text.specs.LeafAnswer.{Furthest}
 use Rattle.yaml_definitions.specs.grammar.Separation.{Ctx, flow_in}
 use Rattle.yaml_text.proofs.PlaceLemmas.{slice_none, slice_one, slice_snoc, slice_join}
 use Rattle.std.proofs.lemmas.Bool.{cases_eq}

@@ -8,10 +8,10 @@ use Rattle.yaml_scalar.specs.Chains.{TextRule}
 use Rattle.yaml_definitions.specs.grammar.Characters.{is_white, is_ns, is_nb, is_break}
 use Rattle.yaml_definitions.specs.grammar.Separation.{DocumentMark, Unmarked}
 use Rattle.yaml_scalar.specs.Chains.{folds, NoFold, gap, verbatim, quoted_more, closing_quote, single_rest, single_chain}
-use Rattle.yaml_text.specs.Lines.{LooksLikeMarker as Dashes}
+use Rattle.yaml_text.specs.Lines.{LooksLikeMarker}
 use Rattle.yaml_definitions.specs.grammar.FlowScalars.{ns-single-char as single_char}
-use Rattle.yaml_text.specs.Answer.{Unread}
-use Rattle.yaml_text.specs.Answer.{Only}
+use Rattle.yaml_text.specs.LeafAnswer.{Unread}
+use Rattle.yaml_text.specs.LeafAnswer.{Only}
 use Rattle.yaml_definitions.specs.grammar.Separation.{Ctx}
 use Rattle.yaml_text.proofs.PlaceLemmas.{slice_snoc, slice_none, slice_join}
 use Rattle.yaml_scalar.proofs.AnyLemmas.{Same, Onward, any_onward, any_none, any_snoc, any_then_same, any_then_none}
@@ -313,7 +313,7 @@ module _ (cs : List ℕ) where
   quote_unmarked : (i : ℕ) → slice_get cs i ≡ Some 39 → DocumentMark cs i → ⊥
   quote_unmarked i h m = go (mark_dashes cs i m)
     where
-      go : Dashes cs i → ⊥
+      go : LooksLikeMarker cs i → ⊥
       go (inl d) = let e : 39 ≡ 45 = same_char cs i 39 45 h d.0 in omega (arith, e)
       go (inr d) = let e : 39 ≡ 46 = same_char cs i 39 46 h d.0 in omega (arith, e)
 

@@ -7,7 +7,7 @@ use Rattle.std.specs.Char.{digit_value, is_ascii_hexdigit}
 use Rattle.std.specs.Str.{all_scalars}
 use Rattle.std.specs.Str.Parse.{digits_value}
 use lib.Utf8.{scalar}
-use Rattle.yaml_text.specs.Answer.{Only}
+use Rattle.yaml_text.specs.LeafAnswer.{Only}
 use Rattle.yaml_definitions.specs.canonical.CharText.{is_plain, hex_digit, spell_char}
 use Rattle.yaml_definitions.specs.canonical.NodeText.{quoted}
 use Rattle.yaml_definitions.specs.grammar.Rules.{◌∪◌, done, then, any, exactly}

@@ -6,7 +6,7 @@ use Rattle.yaml_definitions.specs.grammar.Rules.{run, Stands, Any, done, then}
 use Rattle.yaml_definitions.specs.grammar.Characters.{is_space, is_nb, b-break as brk}
 use Rattle.yaml_definitions.specs.grammar.Separation.{AtEnd, DocumentMark, s-indent as indent, b-comment as line_end}
 use Rattle.yaml_definitions.specs.grammar.BlockScalars.{Line, blank, content_line, NoSpace, LessIndented, space_lines, greatest, found_indentation, longest_indentation, indentation, blank_line, text_line}
-use Rattle.yaml_text.specs.Answer.{Unread}
+use Rattle.yaml_text.specs.LeafAnswer.{Unread}
 use Rattle.yaml_text.specs.Lines.{line_brk}
 use Rattle.yaml_scalar.specs.BlockRules.{NoSpaceLine, lines_over}
 use Rattle.yaml_text.specs.Lines.{Uncut}

@@ -1,7 +1,7 @@
 -- A content's spelling between double quotes, by runs of characters that stand for themselves.
 use Rattle.std.specs.Prelude.{◌≡◌, ℕ, Bool, true, drop, not, cond, ◌/◌, ◌%◌, ◌&&◌, ◌==◌, nat_lt, List, [], ◌∷◌, ◌++◌, flat_map}
 use Rattle.std.specs.Str.{encode_utf8_all, all_scalars, chars}
-use Rattle.yaml_text.specs.Answer.{Only}
+use Rattle.yaml_text.specs.LeafAnswer.{Only}
 use Rattle.yaml_definitions.specs.canonical.CharText.{is_plain, hex_digit, spell_char}
 use Rattle.yaml_definitions.specs.canonical.NodeText.{quoted}
 use Rattle.yaml_definitions.specs.grammar.FlowScalars.{c-double-quoted as double}

@@ -5,8 +5,8 @@ ghost use Rattle.std.specs.Cow.{cow_str_bytes};
 ghost use Rattle.yaml_text.specs.Placed.{IsPlaced};
 ghost use Rattle.yaml_text.specs.Source.{text_of, place_of, IsBorder};
 ghost use Rattle.yaml_definitions.specs.grammar.BlockScalars.{c-l+literal as literal, c-l+folded as folded};
-ghost use Rattle.yaml_text.specs.Answer.{Answers};
-ghost use Rattle.yaml_text.specs.Answer.{FurthestAlone};
+ghost use Rattle.yaml_text.specs.LeafAnswer.{Answers};
+ghost use Rattle.yaml_text.specs.LeafAnswer.{FurthestAlone};
 ghost use Rattle.yaml_scalar.specs.BlockModel.{column, sign_of, styled};
 
 use crate::block::blanks::trailing_comments;
@@ -58,7 +58,7 @@ fn read_block<'a>(
     let Some(start) = accept(source, at, sign_of(is_folded)) else {
         return Err(unusable(source, at));
     };
-    let (header, first) = read_header(source, start)?;
+    let (header, first) = read_header(source, start, n < 0)?;
     let (mut text, end, indent) = read_content(alloc, source, first, column(n), header, is_folded)?;
     text.shrink_to_fit();
     Ok((CowStr::Owned(text), trailing_comments(source, end, indent)))

@@ -2,7 +2,7 @@
 ghost use Rattle.std.specs.Prelude.{◌≡◌, ◌<◌, ◌+◌, ℕ, IfSome, IfNone, IfOk, IsUtf8, IfErr, Some, slice_get, replicate, ℤ, pos, ◌≤ℤ◌, nat_abs};
 ghost use Rattle.std.specs.Str.{chars};
 ghost use Rattle.std.specs.Cow.{cow_str_bytes};
-ghost use Rattle.yaml_text.specs.Answer.{Only};
+ghost use Rattle.yaml_text.specs.LeafAnswer.{Only};
 ghost use Rattle.yaml_text.specs.EventModel.{context_of};
 ghost use Rattle.yaml_text.specs.Placed.{IsPlaced};
 ghost use Rattle.yaml_text.specs.Source.{text_of, place_of, IsBorder};
@@ -10,8 +10,8 @@ ghost use Rattle.yaml_definitions.specs.grammar.FlowScalars.{c-double-quoted as 
 ghost use Rattle.yaml_definitions.specs.grammar.Separation.{DocumentMark};
 ghost use Rattle.yaml_scalar.specs.Chains.{breaks, SolidStart, NoSolidBreaks};
 ghost use Rattle.yaml_text.specs.Lines.{line_brk};
-ghost use Rattle.yaml_text.specs.Answer.{Answers};
-ghost use Rattle.yaml_text.specs.Answer.{IsSyntaxFault};
+ghost use Rattle.yaml_text.specs.LeafAnswer.{Answers};
+ghost use Rattle.yaml_text.specs.LeafAnswer.{IsSyntaxFault};
 
 use crate::escape::read_escape;
 use crate::line::{columns, read_break};

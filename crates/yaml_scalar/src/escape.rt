@@ -1,7 +1,7 @@
 //! The escapes of double-quoted scalars (YAML 1.2.2, 5.7).
 ghost use Rattle.std.specs.Prelude.{◌≡◌, ◌≤◌, ◌<◌, IfSome, IfNone};
 ghost use Rattle.yaml_text.specs.Source.{text_of, place_of, IsBorder};
-ghost use Rattle.yaml_text.specs.Answer.{Unread};
+ghost use Rattle.yaml_text.specs.LeafAnswer.{Unread};
 ghost use Rattle.yaml_definitions.specs.grammar.Characters.{short_escape, numbered, c-ns-esc-char as escape};
 ghost use Rattle.yaml_scalar.specs.Chains.{digit_count};
 

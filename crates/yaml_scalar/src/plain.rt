@@ -3,18 +3,18 @@ ghost use Rattle.std.specs.Prelude.{◌≡◌, ◌≤◌, ◌<◌, IfSome, IfNon
 ghost use Rattle.std.specs.Bool.{OnTrue, OnFalse};
 ghost use Rattle.std.specs.Str.{chars};
 ghost use Rattle.std.specs.Cow.{cow_str_bytes};
-ghost use Rattle.yaml_text.specs.Answer.{Furthest};
+ghost use Rattle.yaml_text.specs.LeafAnswer.{Furthest};
 ghost use Rattle.yaml_text.specs.EventModel.{context_of};
 ghost use Rattle.yaml_text.specs.Place.{Steps};
 ghost use Rattle.yaml_text.specs.Placed.{IsPlaced};
 ghost use Rattle.yaml_text.specs.Source.{bytes_of, text_of, place_of, IsBorder};
-ghost use Rattle.yaml_text.specs.Answer.{Unread};
+ghost use Rattle.yaml_text.specs.LeafAnswer.{Unread};
 ghost use Rattle.yaml_definitions.specs.grammar.Characters.{is_white};
 ghost use Rattle.yaml_definitions.specs.grammar.FlowScalars.{plain_safe, PlainFirst, ns-plain as plain};
 ghost use Rattle.yaml_definitions.specs.grammar.Rules.{run, Stands, any};
 ghost use Rattle.yaml_definitions.specs.grammar.Separation.{DocumentMark};
 ghost use Rattle.yaml_scalar.specs.Chains.{breaks, GoesOnBelow, Later, NoPlainLine, line_more, plain_inner};
-ghost use Rattle.yaml_text.specs.Answer.{Answers};
+ghost use Rattle.yaml_text.specs.LeafAnswer.{Answers};
 
 use crate::class::{is_plain_byte, is_plain_head, is_plain_inner, is_plain_sign};
 use crate::line::{columns, read_break};

@@ -2,12 +2,12 @@
 ghost use Rattle.std.specs.Prelude.{◌≡◌, ◌<◌, IfOk, IsUtf8, ℤ, pos, ◌≤ℤ◌, nat_abs, IfErr};
 ghost use Rattle.std.specs.Str.{chars};
 ghost use Rattle.std.specs.Cow.{cow_str_bytes};
-ghost use Rattle.yaml_text.specs.Answer.{Only};
+ghost use Rattle.yaml_text.specs.LeafAnswer.{Only};
 ghost use Rattle.yaml_text.specs.EventModel.{context_of};
 ghost use Rattle.yaml_text.specs.Placed.{IsPlaced};
 ghost use Rattle.yaml_text.specs.Source.{text_of, place_of, IsBorder};
 ghost use Rattle.yaml_definitions.specs.grammar.FlowScalars.{c-single-quoted as single};
-ghost use Rattle.yaml_text.specs.Answer.{Answers};
+ghost use Rattle.yaml_text.specs.LeafAnswer.{Answers};
 
 use crate::line::{columns, read_break};
 use crate::quoted::quoted_run;

@@ -6,7 +6,7 @@ use Rattle.std.proofs.lemmas.Bool.{cases_lt, cases_eq}
 use Rattle.yaml_definitions.specs.grammar.Rules.{Span, Stands, Behind, run}
 use Rattle.yaml_definitions.specs.grammar.Characters.{is_white, is_ns, is_nb, is_break, is_space, b-break as brk}
 use Rattle.yaml_definitions.specs.grammar.Separation.{StartsLine, DocumentMarkOf, DocumentMark, Unmarked, AtEnd, s-indent as indent}
-use Rattle.yaml_text.specs.Lines.{line_brk, LooksLikeMarker as Dashes, DashesOf}
+use Rattle.yaml_text.specs.Lines.{line_brk, LooksLikeMarker, DashesOf}
 use Rattle.yaml_text.proofs.Repeats.{SameEnd}
 use Rattle.yaml_text.proofs.Runs.{same_char, run_none, run_more, no_stand, no_stand_end}
 
@@ -250,12 +250,12 @@ module _ (cs : List ℕ) where
   mark_is_of c i s (h, g, d, none) =
       (s, (i + 3, (i + 1, (h, refl), (i + 2, (g, omega arith), (i + 3, (d, omega arith), refl)))), after_is (i + 3) (let l = slice_get_within cs (i + 2) c d in omega (arith, l)) none)
 
-  pub mark_dashes : (i : ℕ) → DocumentMark cs i → Dashes cs i
+  pub mark_dashes : (i : ℕ) → DocumentMark cs i → LooksLikeMarker cs i
   unfolding DocumentMark
   mark_dashes i (inl m) = inl (mark_dashes_of 45 i m)
   mark_dashes i (inr m) = inr (mark_dashes_of 46 i m)
 
-  pub mark_is : (i : ℕ) → StartsLine cs i → Dashes cs i → DocumentMark cs i
+  pub mark_is : (i : ℕ) → StartsLine cs i → LooksLikeMarker cs i → DocumentMark cs i
   unfolding DocumentMark
   mark_is i s (inl d) = inl (mark_is_of 45 i s d)
   mark_is i s (inr d) = inr (mark_is_of 46 i s d)
@@ -303,7 +303,7 @@ module _ (cs : List ℕ) where
   pub mark_ns : (i : ℕ) → DocumentMark cs i → Ns i
   mark_ns i m = go (mark_dashes i m)
     where
-      go : Dashes cs i → Ns i
+      go : LooksLikeMarker cs i → Ns i
       go (inl d) = (45, d.0, dash_ns)
       go (inr d) = (46, d.0, dot_ns)
 

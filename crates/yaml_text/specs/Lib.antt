@@ -2,7 +2,6 @@ pub mod Refused
 pub mod Place
 pub mod Source
 pub mod EventModel
-pub mod Answer
 pub mod Placed
 pub mod Fault
 pub mod TextLaws
@@ -10,3 +9,4 @@ pub mod Lines
 pub mod Count
 pub mod CountedModel
 pub mod Calls
+pub mod LeafAnswer

@@ -1,9 +1,10 @@
-//! Checked texts, characters, events and faults, and the definitions of what YAML means.
+//! Checked texts and their characters, events and faults.
 #![tactic(auto)]
 
 pub mod chars;
 pub mod class;
 pub mod context;
+pub mod core_tag;
 pub mod counted;
 pub mod event;
 pub mod fault;

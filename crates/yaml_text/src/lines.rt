@@ -2,7 +2,7 @@
 //! Offsets count bytes of the text.
 ghost use Rattle.std.specs.Prelude.{◌≡◌, ◌≢◌, ◌≤◌, ◌<◌, ◌+◌, IfSome, IfNone, Some, slice_get, slice_index, length, ℕ, true, false};
 ghost use Rattle.std.specs.Bool.{OnTrue, OnFalse};
-ghost use Rattle.yaml_text.specs.Answer.{IsSyntaxFault, IsRefusal};
+ghost use Rattle.yaml_text.specs.LeafAnswer.{IsSyntaxFault, IsRefusal};
 ghost use Rattle.yaml_text.specs.Placed.{IsPlaced};
 ghost use Rattle.yaml_text.specs.Lines.{line_brk, DashesOf, LooksLikeMarker, AfterLine, Uncut, blank_rest};
 ghost use Rattle.yaml_text.specs.Source.{bytes_of, mark_of, text_of, place_of, IsBorder};
@@ -198,7 +198,7 @@ pub fn skip_blank(source: &Chars<'_>, at: usize) -> Option<usize>
 }
 
 /// The border after the comment lines (6.6) that stand at a border.
-pub fn skip_comments(source: &Chars<'_>, at: usize) -> usize
+pub fn skip_comment_lines(source: &Chars<'_>, at: usize) -> usize
     requires border { IsBorder source.now at }
     requires after { AfterLine (text_of source.now) (place_of source.now at) }
     ensures border { IsBorder source.now result }

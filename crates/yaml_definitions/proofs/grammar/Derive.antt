@@ -28,6 +28,7 @@ stands cs p i (Some c) e h = (c, e, h)
 pub not_behind : (cs : List ℕ) (p : ℕ → Bool) (i : ℕ) → misses p (slice_get cs i) ≡ true → Behind cs p (i + 1) → ⊥
 not_behind cs p i m (lt, s) = not_here cs p i m (subst (λ k. Stands cs p k) (let e : i + 1 - 1 ≡ i = omega arith in e) s)
 
+-- for readings that tools/definitions/derive.py writes
 pub not_behind_start : (cs : List ℕ) (p : ℕ → Bool) → Behind cs p 0 → ⊥
 not_behind_start cs p (lt, s) = omega (arith, lt)
 

@@ -7,7 +7,7 @@ use Rattle.yaml_definitions.specs.model.Limits.{open_limit}
 use Rattle.yaml_definitions.specs.model.Event.{stream_start, stream_end, document_start, document_end, sequence_start, sequence_end, mapping_start, mapping_end, scalar_event, plain, double, untagged, full}
 use Rattle.yaml_definitions.specs.grammar.Rules.{done, then, Spans}
 use Rattle.yaml_definitions.specs.grammar.Streams.{ReadsText}
-use Rattle.yaml_definitions.proofs.grammar.Derive.{not_here, not_behind, none_between, stands_each, unbroken, unmarked}
+use Rattle.yaml_definitions.proofs.grammar.Derive.{not_here, not_behind, none_between, next_between, stands_each, unbroken, unmarked}
 use Rattle.yaml_definitions.specs.grammar.Characters as characters
 use Rattle.yaml_definitions.specs.grammar.Separation as separation
 use Rattle.yaml_definitions.specs.grammar.Tags as tags
@@ -87,6 +87,26 @@ pub adjacent_value : ReadsText adjacent_value_text (Unit {0}) open_limit (
     ∷ [])
 unfolding characters.is_indicator characters.is_flow_indicator characters.is_break characters.is_nb characters.is_space characters.is_white characters.is_ns separation.inner separation.StartsLine separation.s-indent separation.b-comment separation.s-b-comment separation.s-l-comments separation.s-separate-lines separation.s-separate separation.DocumentMarkOf separation.DocumentMark flow.is_flow flow.plain_safe flow.ns-double-char flow.c-double-quoted flow.PlainFirst flow.PlainChar flow.plain_line flow.ns-plain nodes.ns-flow-yaml-node nodes.c-ns-flow-map-adjacent-value nodes.c-ns-flow-map-json-key-entry nodes.ns-flow-map-implicit-entry nodes.ns-flow-map-entry nodes.c-flow-mapping nodes.c-flow-json-node nodes.ns-flow-node nodes.s-l+block-node nodes.reads streams.ends_explicitly streams.piece_events streams.stream_of_pieces streams.l-bare-document streams.l-any-document streams.l-yaml-stream streams.ReadsText encode
 adjacent_value = (((streams.document_piece false ((mapping_start true None untagged) ∷ (scalar_event None untagged double (codes "a")) ∷ (scalar_event None untagged plain (codes "b")) ∷ mapping_end ∷ [])) ∷ []), (7, ((streams.document_piece false ((mapping_start true None untagged) ∷ (scalar_event None untagged double (codes "a")) ∷ (scalar_event None untagged plain (codes "b")) ∷ mapping_end ∷ [])) ∷ []), [], (0, (Spans.done refl), (inr (inl (((mapping_start true None untagged) ∷ (scalar_event None untagged double (codes "a")) ∷ (scalar_event None untagged plain (codes "b")) ∷ mapping_end ∷ []), ((unmarked adjacent_value_text 0 7 refl), (inl (0, (inl (0, (0, (inr (refl, (inl refl))), (Spans.done refl)), (0, ((stands_each adjacent_value_text _ 0 0 refl), refl), (stands_each adjacent_value_text _ 0 0 refl)))), (7, (inr (0, (record { anchor = None; tag = untagged }), (inl (refl, refl)), (inr (inr (inr (tt, (((scalar_event None untagged double (codes "a")) ∷ (scalar_event None untagged plain (codes "b")) ∷ []), (1, (1, (refl, refl), (inl refl)), (6, (1, [], ((scalar_event None untagged double (codes "a")) ∷ (scalar_event None untagged plain (codes "b")) ∷ []), (done refl refl), (inr (6, (inl (inr (4, ((scalar_event None untagged double (codes "a")) ∷ []), ((scalar_event None untagged plain (codes "b")) ∷ []), (1, (record { anchor = None; tag = untagged }), (inl (refl, refl)), (inr (inl ((codes "a"), ((unmarked adjacent_value_text 1 3 refl), (2, (refl, refl), (3, (inl (then 3 (codes "a") [] (inl (97, (inl (refl, refl, refl)), refl)) (done refl refl) refl)), (refl, refl)))), refl)))), (inl (4, (inl refl), (5, (refl, refl), (inl (5, (inl refl), (inl (inr (inl ((codes "b"), ((unmarked adjacent_value_text 5 1 refl), (6, (codes "b"), [], (((λ h. (not_behind adjacent_value_text _ 5 refl h)), (6, ((inl (98, refl, refl)), refl), ((omega arith), (none_between _ 6)))), refl), (done refl refl), refl)), refl))))))))), refl))), (inl refl))), refl), (refl, refl))), refl))))))), (7, (inl (7, (inl refl), (inr (refl, refl)))), (Spans.done refl)))))), refl)))), (done refl refl), refl), refl)
+
+abbrev sequence_in_flow_mapping_text : List ℕ
+sequence_in_flow_mapping_text = codes "{a: [1, 0x1]}"
+
+-- 7.4: a sequence in a mapping
+pub sequence_in_flow_mapping : ReadsText sequence_in_flow_mapping_text (Unit {0}) open_limit (
+    stream_start
+    ∷ document_start false
+    ∷ mapping_start true None untagged
+    ∷ scalar_event None untagged plain (codes "a")
+    ∷ sequence_start true None untagged
+    ∷ scalar_event None untagged plain (codes "1")
+    ∷ scalar_event None untagged plain (codes "0x1")
+    ∷ sequence_end
+    ∷ mapping_end
+    ∷ document_end false
+    ∷ stream_end
+    ∷ [])
+unfolding characters.is_indicator characters.is_flow_indicator characters.is_break characters.is_nb characters.is_space characters.is_white characters.is_ns separation.inner separation.StartsLine separation.s-indent separation.s-separate-in-line separation.b-comment separation.s-b-comment separation.s-l-comments separation.s-separate-lines separation.s-separate separation.DocumentMarkOf separation.DocumentMark flow.is_flow flow.plain_safe flow.PlainFirst flow.PlainChar flow.plain_line flow.ns-plain nodes.ns-flow-yaml-node nodes.c-ns-flow-map-separate-value nodes.ns-flow-map-yaml-key-entry nodes.ns-flow-map-implicit-entry nodes.ns-flow-map-entry nodes.c-flow-sequence nodes.c-flow-mapping nodes.c-flow-json-node nodes.ns-flow-node nodes.s-l+block-node nodes.reads streams.ends_explicitly streams.piece_events streams.stream_of_pieces streams.l-bare-document streams.l-any-document streams.l-yaml-stream streams.ReadsText encode
+sequence_in_flow_mapping = (((streams.document_piece false ((mapping_start true None untagged) ∷ (scalar_event None untagged plain (codes "a")) ∷ (sequence_start true None untagged) ∷ (scalar_event None untagged plain (codes "1")) ∷ (scalar_event None untagged plain (codes "0x1")) ∷ sequence_end ∷ mapping_end ∷ [])) ∷ []), (13, ((streams.document_piece false ((mapping_start true None untagged) ∷ (scalar_event None untagged plain (codes "a")) ∷ (sequence_start true None untagged) ∷ (scalar_event None untagged plain (codes "1")) ∷ (scalar_event None untagged plain (codes "0x1")) ∷ sequence_end ∷ mapping_end ∷ [])) ∷ []), [], (0, (Spans.done refl), (inr (inl (((mapping_start true None untagged) ∷ (scalar_event None untagged plain (codes "a")) ∷ (sequence_start true None untagged) ∷ (scalar_event None untagged plain (codes "1")) ∷ (scalar_event None untagged plain (codes "0x1")) ∷ sequence_end ∷ mapping_end ∷ []), ((unmarked sequence_in_flow_mapping_text 0 13 refl), (inl (0, (inl (0, (0, (inr (refl, (inl refl))), (Spans.done refl)), (0, ((stands_each sequence_in_flow_mapping_text _ 0 0 refl), refl), (stands_each sequence_in_flow_mapping_text _ 0 0 refl)))), (13, (inr (0, (record { anchor = None; tag = untagged }), (inl (refl, refl)), (inr (inr (inr (tt, (((scalar_event None untagged plain (codes "a")) ∷ (sequence_start true None untagged) ∷ (scalar_event None untagged plain (codes "1")) ∷ (scalar_event None untagged plain (codes "0x1")) ∷ sequence_end ∷ []), (1, (1, (refl, refl), (inl refl)), (12, (1, [], ((scalar_event None untagged plain (codes "a")) ∷ (sequence_start true None untagged) ∷ (scalar_event None untagged plain (codes "1")) ∷ (scalar_event None untagged plain (codes "0x1")) ∷ sequence_end ∷ []), (done refl refl), (inr (12, (inl (inl (2, ((scalar_event None untagged plain (codes "a")) ∷ []), ((sequence_start true None untagged) ∷ (scalar_event None untagged plain (codes "1")) ∷ (scalar_event None untagged plain (codes "0x1")) ∷ sequence_end ∷ []), (inr (inl ((codes "a"), ((unmarked sequence_in_flow_mapping_text 1 1 refl), (2, (codes "a"), [], (((λ h. (not_behind sequence_in_flow_mapping_text _ 1 refl h)), (2, ((inl (97, refl, refl)), refl), ((omega arith), (none_between _ 2)))), refl), (done refl refl), refl)), refl))), (inl (2, (inl refl), (3, (3, (refl, refl), (refl, (λ h. (not_here sequence_in_flow_mapping_text _ 3 refl h)))), (inl (4, (inr (inl ((stands_each sequence_in_flow_mapping_text _ 3 1 refl), (omega arith)))), (inr (4, (record { anchor = None; tag = untagged }), (inl (refl, refl)), (inr (inr (inl (tt, (((scalar_event None untagged plain (codes "1")) ∷ (scalar_event None untagged plain (codes "0x1")) ∷ []), (5, (5, (refl, refl), (inl refl)), (11, (8, ((scalar_event None untagged plain (codes "1")) ∷ []), ((scalar_event None untagged plain (codes "0x1")) ∷ []), (then 8 ((scalar_event None untagged plain (codes "1")) ∷ []) [] (6, (6, (inr (inl (inr (inl ((codes "1"), ((unmarked sequence_in_flow_mapping_text 5 1 refl), (6, (codes "1"), [], (((λ h. (not_behind sequence_in_flow_mapping_text _ 5 refl h)), (6, ((inl (49, refl, refl)), refl), ((omega arith), (none_between _ 6)))), refl), (done refl refl), refl)), refl))))), (inl refl)), (7, (refl, refl), (inr (inr (inl ((stands_each sequence_in_flow_mapping_text _ 7 1 refl), (omega arith))))))) (done refl refl) refl), (inr (11, (inr (inl (inr (inl ((codes "0x1"), ((unmarked sequence_in_flow_mapping_text 8 3 refl), (11, (codes "0x1"), [], (((λ h. (not_behind sequence_in_flow_mapping_text _ 10 refl h)), (9, ((inl (48, refl, refl)), refl), ((omega arith), (next_between _ 9 11 (inl (inl (120, refl, refl))) (next_between _ 10 11 (inl (inl (49, refl, refl))) (none_between _ 11)))))), refl), (done refl refl), refl)), refl))))), (inl refl))), refl), (refl, refl))), refl)))))))))))), refl))), (inl refl))), refl), (refl, refl))), refl))))))), (13, (inl (13, (inl refl), (inr (refl, refl)))), (Spans.done refl)))))), refl)))), (done refl refl), refl), refl)
 
 abbrev nested_lines_text : List ℕ
 nested_lines_text = codes "{k: [a, # c\n  b ]}"

@@ -138,9 +138,6 @@ module _ (cs : List ℕ) where
   pub on_exactly : (n : ℕ) (p : ℕ → Bool) → Onward (exactly cs n p)
   on_exactly n p i j ((le, h), e) = le
 
-  pub on_how_many : (p : ℕ → Bool) → Forward (how_many cs p)
-  on_how_many p i j n ((le, h), e) = le
-
   -- ---- characters and separation
 
   pub on_brk : Onward (brk cs)

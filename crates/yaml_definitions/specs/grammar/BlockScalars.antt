@@ -2,7 +2,7 @@
 use Rattle.std.specs.Prelude.{◌≡◌, ℕ, suc, ◌+◌, ◌-◌, ◌<◌, ◌≤◌, ◌⊎◌, List, [], ◌∷◌, ◌++◌, Bool, true, false, if◌then◌else◌, not, ◌&&◌, ◌||◌, ◌==◌, max, Some, None, Option}
 use Rattle.std.specs.Int.{is_in_range}
 use Rattle.yaml_definitions.specs.grammar.Rules.{Span, Rule, ◌◆◌, ◌▸◌, ◌◂◌, ◌⨾◌, ◌∪◌, gives, maybe, optional, any, any_span, chr, letter, run, some_run, how_many, copied, Stands, ahead, limited, looking, with_value, where_value, seen, Begins}
-use Rattle.yaml_definitions.specs.grammar.Characters.{is_space, is_white, is_nb, b-break}
+use Rattle.yaml_definitions.specs.grammar.Characters.{is_space, is_white, is_nb, b-break, c-literal, c-folded}
 use Rattle.yaml_definitions.specs.grammar.Separation.{s-indent, s-indent-less-than, DocumentMark, AtEnd, s-b-comment, l-comment, c-nb-comment-text, b-comment}
 use Rattle.yaml_definitions.specs.grammar.FlowScalars.{line_feeds}
 
@@ -166,8 +166,8 @@ module _ (cs : List ℕ) where
 
   -- [170] c-l+literal(n) (8.1.2)
   unfoldable pub c-l+literal : ℕ → Rule (List ℕ)
-  c-l+literal col = chr cs 124 ▸ block_scalar false col
+  c-l+literal col = chr cs c-literal ▸ block_scalar false col
 
   -- [174] c-l+folded(n) (8.1.3)
   unfoldable pub c-l+folded : ℕ → Rule (List ℕ)
-  c-l+folded col = chr cs 62 ▸ block_scalar true col
+  c-l+folded col = chr cs c-folded ▸ block_scalar true col

@@ -16,6 +16,80 @@ is_printable c =
     c == 9 || c == 10 || c == 13 || is_in_range 32 126 c || c == 133 || is_in_range 160 55295 c
     || is_in_range 57344 65533 c || is_in_range 65536 1114111 c
 
+-- ---- indicators (5.3) and the escape (5.7), by their code points
+
+-- [4] c-sequence-entry: `-`
+abbrev pub c-sequence-entry : ℕ
+c-sequence-entry = 45
+
+-- [5] c-mapping-key: `?`
+abbrev pub c-mapping-key : ℕ
+c-mapping-key = 63
+
+-- [6] c-mapping-value: `:`
+abbrev pub c-mapping-value : ℕ
+c-mapping-value = 58
+
+-- [7] c-collect-entry: `,`
+abbrev pub c-collect-entry : ℕ
+c-collect-entry = 44
+
+-- [8] c-sequence-start: `[`
+abbrev pub c-sequence-start : ℕ
+c-sequence-start = 91
+
+-- [9] c-sequence-end: `]`
+abbrev pub c-sequence-end : ℕ
+c-sequence-end = 93
+
+-- [10] c-mapping-start: `{`
+abbrev pub c-mapping-start : ℕ
+c-mapping-start = 123
+
+-- [11] c-mapping-end: `}`
+abbrev pub c-mapping-end : ℕ
+c-mapping-end = 125
+
+-- [12] c-comment: `#`
+abbrev pub c-comment : ℕ
+c-comment = 35
+
+-- [13] c-anchor: `&`
+abbrev pub c-anchor : ℕ
+c-anchor = 38
+
+-- [14] c-alias: `*`
+abbrev pub c-alias : ℕ
+c-alias = 42
+
+-- [15] c-tag: `!`
+abbrev pub c-tag : ℕ
+c-tag = 33
+
+-- [16] c-literal: `|`
+abbrev pub c-literal : ℕ
+c-literal = 124
+
+-- [17] c-folded: `>`
+abbrev pub c-folded : ℕ
+c-folded = 62
+
+-- [18] c-single-quote: `'`
+abbrev pub c-single-quote : ℕ
+c-single-quote = 39
+
+-- [19] c-double-quote: `"`
+abbrev pub c-double-quote : ℕ
+c-double-quote = 34
+
+-- [20] c-directive: `%`
+abbrev pub c-directive : ℕ
+c-directive = 37
+
+-- [41] c-escape: `\`
+abbrev pub c-escape : ℕ
+c-escape = 92
+
 -- [22] c-indicator (5.3), with those of [21] c-reserved
 unfoldable pub is_indicator : ℕ → Bool
 is_indicator c = is_in c "-?:,[]{}#&*!|>'\"%@`"
@@ -54,7 +128,7 @@ is_uri c = is_word c || is_in c "#;/?:@&=+$,_.!~*'()[]"
 
 -- [40] ns-tag-char (5.6); `%` and its digits are in `tag_char`
 unfoldable pub is_tag : ℕ → Bool
-is_tag c = is_uri c && not (c == 33) && not (is_flow_indicator c)
+is_tag c = is_uri c && not (c == c-tag) && not (is_flow_indicator c)
 
 -- [42] ns-esc-null to [58] ns-esc-paragraph-separator (5.7): what a backslash and the character c give
 unfoldable pub short_escape : ℕ → Option ℕ
@@ -80,6 +154,6 @@ module _ (cs : List ℕ) where
 
   -- [62] c-ns-esc-char (5.7)
   unfoldable pub c-ns-esc-char : Rule ℕ
-  c-ns-esc-char = chr cs 92 ▸ (
+  c-ns-esc-char = chr cs c-escape ▸ (
       mapped short_escape (letter cs is_nb)
       ∪ (chr cs 120 ▸ numbered 2) ∪ (chr cs 117 ▸ numbered 4) ∪ (chr cs 85 ▸ numbered 8))

@@ -2,7 +2,7 @@
 use Rattle.std.specs.Prelude.{◌≡◌, ℕ, List, [], ◌∷◌, Bool, true, false, not, ◌&&◌, ◌||◌, codes, bytes_eq}
 use Rattle.std.specs.List.{list_any}
 use Rattle.yaml_definitions.specs.grammar.Rules.{Rule, ◌◆◌, ◌▸◌, ◌◂◌, ◌∪◌, gives, any_one, any_span, chr, word, some_run, whole_run, copied, ahead, with_value, seen, where_value}
-use Rattle.yaml_definitions.specs.grammar.Characters.{is_ns, is_space}
+use Rattle.yaml_definitions.specs.grammar.Characters.{is_ns, is_space, c-directive}
 use Rattle.yaml_definitions.specs.grammar.Separation.{s-l-comments, StartsLine}
 use Rattle.yaml_definitions.specs.grammar.Tags.{Handles, c-tag-handle, ns-tag-prefix}
 
@@ -45,7 +45,7 @@ module _ (cs : List ℕ) where
 
   -- [83] ns-reserved-directive (6.8), with its `%`: [84] ns-directive-name, and [85] ns-directive-parameter any number of times
   unfoldable pub ns-reserved-directive : Rule Directive
-  ns-reserved-directive = chr cs 37 ▸ seen (λ name. reserved) (where_value (λ name. is_known name ≡ false) (copied cs (whole_run cs is_ns)))
+  ns-reserved-directive = chr cs c-directive ▸ seen (λ name. reserved) (where_value (λ name. is_known name ≡ false) (copied cs (whole_run cs is_ns)))
       ◂ any_span (some_run cs is_space ◆ some_run cs is_ns)
 
   -- [82] l-directive (6.8)

@@ -1,7 +1,7 @@
 -- Flow scalars (YAML 1.2.2, 7.3).
 use Rattle.std.specs.Prelude.{ℕ, zero, suc, ◌+◌, ◌⊎◌, List, [], ◌∷◌, Bool, true, false, not, ◌&&◌, ◌==◌, replicate}
 use Rattle.yaml_definitions.specs.grammar.Rules.{Span, Rule, ◌◆◌, ◌⊔◌, ◌▸◌, ◌◂◌, ◌⨾◌, ◌∪◌, gives, never, optional, any, counted, chr, at, letter, run, stretch, copied, Stands, Behind, where_both, limited, ahead, seen}
-use Rattle.yaml_definitions.specs.grammar.Characters.{is_in, is_white, is_ns, is_indicator, is_flow_indicator, b-break, c-ns-esc-char}
+use Rattle.yaml_definitions.specs.grammar.Characters.{is_in, is_white, is_ns, is_indicator, is_flow_indicator, b-break, c-ns-esc-char, c-mapping-value, c-comment, c-single-quote, c-double-quote, c-escape}
 use Rattle.yaml_definitions.specs.grammar.Separation.{Ctx, block_out, block_in, flow_out, flow_in, block_key, flow_key, s-indent, s-indent-less-than, Unmarked}
 
 -- no production: so many breaks, as content
@@ -34,7 +34,7 @@ module _ (cs : List ℕ) where
 
   -- [112] s-double-escaped(n) (7.3.1), after its whites, which are content
   unfoldable pub s-double-escaped : ℕ → Rule (List ℕ)
-  s-double-escaped n = (chr cs 92 ◆ b-break cs) ▸ seen line_feeds (counted (empty_line n)) ◂ (s-indent cs n ◆ run cs is_white)
+  s-double-escaped n = (chr cs c-escape ◆ b-break cs) ▸ seen line_feeds (counted (empty_line n)) ◂ (s-indent cs n ◆ run cs is_white)
 
   -- no production: where several lines are allowed, that is in no key
   abbrev pub several : Ctx → Rule (List ℕ) → Rule (List ℕ)
@@ -68,23 +68,23 @@ module _ (cs : List ℕ) where
 
   -- [108] ns-double-char (7.3.1)
   unfoldable pub ns-double-char : Rule (List ℕ)
-  ns-double-char = seen (λ c. c ∷ []) (letter cs (λ c. is_ns c && not (c == 34) && not (c == 92)) ∪ c-ns-esc-char cs)
+  ns-double-char = seen (λ c. c ∷ []) (letter cs (λ c. is_ns c && not (c == c-double-quote) && not (c == c-escape)) ∪ c-ns-esc-char cs)
 
   -- [109] c-double-quoted(n,c) (7.3.1), of [110] nb-double-text(n,c)
   unfoldable pub c-double-quoted : ℕ → Ctx → Rule (List ℕ)
-  c-double-quoted n c = where_both (Unmarked cs) (chr cs 34
+  c-double-quoted n c = where_both (Unmarked cs) (chr cs c-double-quote
       ▸ quoted_lines ns-double-char white_text (several c (s-flow-folded n)) (several c (s-double-escaped n))
-      ◂ chr cs 34)
+      ◂ chr cs c-double-quote)
 
   -- [119] ns-single-char (7.3.2), with [117] c-quoted-quote
   unfoldable pub ns-single-char : Rule (List ℕ)
-  ns-single-char = seen (λ c. c ∷ []) (letter cs (λ c. is_ns c && not (c == 39)) ∪ ((chr cs 39 ◆ chr cs 39) ▸ gives 39))
+  ns-single-char = seen (λ c. c ∷ []) (letter cs (λ c. is_ns c && not (c == c-single-quote)) ∪ ((chr cs c-single-quote ◆ chr cs c-single-quote) ▸ gives c-single-quote))
 
   -- [120] c-single-quoted(n,c) (7.3.2), of [121] nb-single-text(n,c)
   unfoldable pub c-single-quoted : ℕ → Ctx → Rule (List ℕ)
-  c-single-quoted n c = where_both (Unmarked cs) (chr cs 39
+  c-single-quoted n c = where_both (Unmarked cs) (chr cs c-single-quote
       ▸ quoted_lines ns-single-char white_text (several c (s-flow-folded n)) never
-      ◂ (chr cs 39 ◆ ahead (λ i. Stands cs (λ x. x == 39) i → ⊥)))
+      ◂ (chr cs c-single-quote ◆ ahead (λ i. Stands cs (λ x. x == c-single-quote) i → ⊥)))
 
   -- ---- plain (7.3.3)
 
@@ -97,9 +97,9 @@ module _ (cs : List ℕ) where
   -- [130] ns-plain-char(c) (7.3.3)
   unfoldable pub PlainChar : Ctx → ℕ → Type 0
   PlainChar c i =
-      Stands cs (λ x. plain_safe c x && not (x == 58) && not (x == 35)) i
-      ⊎ (Stands cs (λ x. x == 35) i × Behind cs is_ns i)
-      ⊎ (Stands cs (λ x. x == 58) i × Stands cs (plain_safe c) (i + 1))
+      Stands cs (λ x. plain_safe c x && not (x == c-mapping-value) && not (x == c-comment)) i
+      ⊎ (Stands cs (λ x. x == c-comment) i × Behind cs is_ns i)
+      ⊎ (Stands cs (λ x. x == c-mapping-value) i × Stands cs (plain_safe c) (i + 1))
 
   -- [133] ns-plain-one-line(c) (7.3.3), and a line of [134] s-ns-plain-next-line(n,c), with [132] nb-ns-plain-in-line(c): its
   -- first character is by P, and its last is no white

@@ -1,7 +1,7 @@
 -- Flow nodes (YAML 1.2.2, 7.4 and 7.5) and block nodes (8.2). `inside` reads what stands in a collection that is opened here.
 use Rattle.std.specs.Prelude.{ℕ, zero, suc, ◌+◌, ◌-◌, ◌≤◌, List, [], ◌∷◌, true, false}
 use Rattle.yaml_definitions.specs.grammar.Rules.{Rule, ◌◆◌, ◌▸◌, ◌◂◌, ◌⨾◌, ◌∪◌, gives, given, never, maybe, optional, some, any, any_one, chr, Stands, where_both, ahead, with_value, seen}
-use Rattle.yaml_definitions.specs.grammar.Characters.{is_ns}
+use Rattle.yaml_definitions.specs.grammar.Characters.{is_ns, c-sequence-entry, c-mapping-key, c-mapping-value, c-collect-entry, c-sequence-start, c-sequence-end, c-mapping-start, c-mapping-end}
 use Rattle.yaml_definitions.specs.grammar.Separation.{Ctx, block_out, block_in, flow_out, flow_in, block_key, flow_key, inner, s-indent, s-separate-in-line, s-separate, s-l-comments, OneLine}
 use Rattle.yaml_definitions.specs.grammar.Tags.{Handles, c-ns-properties}
 use Rattle.yaml_definitions.specs.grammar.Tags as tags
@@ -45,15 +45,15 @@ module _ (cs : List ℕ) (Wide : Type 0) (handles : Handles) where
     -- [138] ns-s-flow-seq-entries(n,c) (7.4.1), [141] ns-s-flow-map-entries(n,c) (7.4.2), or none: parts by commas, after the last of
     -- which one more may stand
     abbrev pub parted : ℕ → Ctx → Rule (List Event) → Rule (List Event)
-    parted n c R = any (R ◂ (chr cs 44 ◆ maybe (s-separate cs n c))) ⨾ optional R
+    parted n c R = any (R ◂ (chr cs c-collect-entry ◆ maybe (s-separate cs n c))) ⨾ optional R
 
     -- [147] c-ns-flow-map-separate-value(n,c) (7.4.2)
     unfoldable pub c-ns-flow-map-separate-value : ℕ → Ctx → Rule (List Event)
-    c-ns-flow-map-separate-value n c = (chr cs 58 ◆ ahead (λ i. Stands cs (plain_safe c) i → ⊥)) ▸ ((s-separate cs n c ▸ inside_flow n c) ∪ e-node)
+    c-ns-flow-map-separate-value n c = (chr cs c-mapping-value ◆ ahead (λ i. Stands cs (plain_safe c) i → ⊥)) ▸ ((s-separate cs n c ▸ inside_flow n c) ∪ e-node)
 
     -- [149] c-ns-flow-map-adjacent-value(n,c) (7.4.2)
     unfoldable pub c-ns-flow-map-adjacent-value : ℕ → Ctx → Rule (List Event)
-    c-ns-flow-map-adjacent-value n c = chr cs 58 ▸ ((maybe (s-separate cs n c) ▸ inside_flow n c) ∪ e-node)
+    c-ns-flow-map-adjacent-value n c = chr cs c-mapping-value ▸ ((maybe (s-separate cs n c) ▸ inside_flow n c) ∪ e-node)
 
     -- [145] ns-flow-map-yaml-key-entry(n,c) (7.4.2)
     unfoldable pub ns-flow-map-yaml-key-entry : ℕ → Ctx → Rule (List Event)
@@ -73,7 +73,7 @@ module _ (cs : List ℕ) (Wide : Type 0) (handles : Handles) where
 
     -- [143] ns-flow-map-explicit-entry(n,c) (7.4.2) after its `?`, in the wide profile
     unfoldable pub ns-flow-map-explicit-entry : ℕ → Ctx → Rule (List Event)
-    ns-flow-map-explicit-entry n c = (chr cs 63 ◆ s-separate cs n c) ▸ (ns-flow-map-implicit-entry n c ∪ c-ns-flow-map-empty-key-entry n c ∪ (e-node ⨾ e-node))
+    ns-flow-map-explicit-entry n c = (chr cs c-mapping-key ◆ s-separate cs n c) ▸ (ns-flow-map-implicit-entry n c ∪ c-ns-flow-map-empty-key-entry n c ∪ (e-node ⨾ e-node))
 
     -- [142] ns-flow-map-entry(n,c) (7.4.2)
     unfoldable pub ns-flow-map-entry : ℕ → Ctx → Rule (List Event)
@@ -102,16 +102,16 @@ module _ (cs : List ℕ) (Wide : Type 0) (handles : Handles) where
     -- [137] c-flow-sequence(n,c) (7.4.1), of [139] ns-flow-seq-entry(n,c)
     unfoldable pub c-flow-sequence : Props → ℕ → Ctx → Rule (List Event)
     c-flow-sequence p n c = given Open (seen (wrapped (seq_start true p) sequence_end) (
-        (chr cs 91 ◆ maybe (s-separate cs n c))
+        (chr cs c-sequence-start ◆ maybe (s-separate cs n c))
         ▸ parted n c ((inside (pair_part n (inner c)) ∪ inside_flow n (inner c)) ◂ maybe (s-separate cs n c))
-        ◂ chr cs 93))
+        ◂ chr cs c-sequence-end))
 
     -- [140] c-flow-mapping(n,c) (7.4.2)
     unfoldable pub c-flow-mapping : Props → ℕ → Ctx → Rule (List Event)
     c-flow-mapping p n c = given Open (seen (wrapped (map_start true p) mapping_end) (
-        (chr cs 123 ◆ maybe (s-separate cs n c))
+        (chr cs c-mapping-start ◆ maybe (s-separate cs n c))
         ▸ parted n c (ns-flow-map-entry n (inner c) ◂ maybe (s-separate cs n c))
-        ◂ chr cs 125))
+        ◂ chr cs c-mapping-end))
 
     -- [160] c-flow-json-node(n,c) (7.5), of [157] c-flow-json-content(n,c)
     unfoldable pub c-flow-json-node : ℕ → Ctx → Rule (List Event)
@@ -140,12 +140,12 @@ module _ (cs : List ℕ) (Wide : Type 0) (handles : Handles) where
 
     -- [184] c-l-block-seq-entry(n) (8.2.1)
     unfoldable pub c-l-block-seq-entry : ℕ → Rule (List Event)
-    c-l-block-seq-entry k = (chr cs 45 ◆ ahead (λ i. Stands cs is_ns i → ⊥)) ▸ s-l+block-indented k
+    c-l-block-seq-entry k = (chr cs c-sequence-entry ◆ ahead (λ i. Stands cs is_ns i → ⊥)) ▸ s-l+block-indented k
 
     -- [188] ns-l-block-map-entry(n) (8.2.2), of [192] ns-l-block-map-implicit-entry(n) alone: [193] ns-s-block-map-implicit-key, not
     -- wholly empty, and [194] c-l-block-map-implicit-value(n)
     unfoldable pub ns-l-block-map-entry : ℕ → Rule (List Event)
-    ns-l-block-map-entry k = ((ns-s-implicit-yaml-key block_key ∪ c-s-implicit-json-key block_key) ◂ chr cs 58)
+    ns-l-block-map-entry k = ((ns-s-implicit-yaml-key block_key ∪ c-s-implicit-json-key block_key) ◂ chr cs c-mapping-value)
         ⨾ (inside (block_part (k + 1) block_out) ∪ empty_rest)
 
     -- [183] l+block-sequence(n) (8.2.1): n + m for some m of at least 1 is some k with col ≤ k

@@ -1,4 +1,6 @@
 -- How productions are put together. A span lies between two places of a text; a rule also has a value. Place i stands before the ith character.
+-- Read `R ◆ S` and `R ▸ S` as "R, then S", `R ◂ S` as "R, and S behind it" (the value is that of the rule), `R ⨾ S` as "R, then
+-- S, with both lists of events", `R ⊔ S` and `R ∪ S` as "R or S"; `seen f R` is R with its value put through f.
 -- Nothing in this file is a production. In the other files of this folder the comment before a definition gives its production by
 -- the number that YAML 1.2.2 gives it, with the section in parentheses, or says that it is none.
 use Rattle.std.specs.Prelude.{◌≡◌, ℕ, zero, suc, ◌+◌, ◌-◌, ◌<◌, ◌≤◌, ◌⊎◌, Bool, true, Option, Some, List, [], ◌∷◌, ◌++◌, slice_get, slice_range}
@@ -16,21 +18,21 @@ infixr 11 ◌⨾◌
 infixr 10 ◌∪◌ ◌⊔◌
 -- ---- one after another, and either of two
 
--- two spans
+-- one span and then another; either of two
 abbrev pub ◌◆◌ : Span → Span → Span
 (R ◆ S) i j = (k : ℕ) × R i k × S k j
 
 abbrev pub ◌⊔◌ : Span → Span → Span
 (R ⊔ S) i j = R i j ⊎ S i j
 
--- a span before a rule, and after it
+-- a span and then a rule; a rule and then a span. The value is the rule's
 abbrev pub ◌▸◌ : {V : Type 0} → Span → Rule V → Rule V
 (R ▸ S) i j v = (k : ℕ) × R i k × S k j v
 
 abbrev pub ◌◂◌ : {V : Type 0} → Rule V → Span → Rule V
 (R ◂ S) i j v = (k : ℕ) × R i k v × S k j
 
--- two rules, with their lists joined
+-- one rule and then another, with their lists joined; either of two
 abbrev pub ◌⨾◌ : {A : Type 0} → Rule (List A) → Rule (List A) → Rule (List A)
 ◌⨾◌ {A} R S i j xs = (k : ℕ) × (ys : List A) × (zs : List A) × R i k ys × S k j zs × (xs ≡ ys ++ zs)
 
@@ -66,7 +68,7 @@ never i j v = ⊥
 
 -- ---- values
 
--- the value, seen by f
+-- with what f makes of the value
 abbrev pub seen : {A V : Type 0} → (A → V) → Rule A → Rule V
 seen {A} f R i j v = (a : A) × R i j a × (v ≡ f a)
 

@@ -1,7 +1,7 @@
 -- Indentation, separation and comments (YAML 1.2.2, chapter 6), document marks and contexts.
 use Rattle.std.specs.Prelude.{◌≡◌, ℕ, ◌+◌, ◌<◌, ◌⊎◌, List, [], ◌∷◌, length}
 use Rattle.yaml_definitions.specs.grammar.Rules.{Span, ◌◆◌, ◌⊔◌, maybe, any_span, chr, run, some_run, exactly, word, Stands, ahead, limited, Throughout, Begins, Ends}
-use Rattle.yaml_definitions.specs.grammar.Characters.{is_space, is_white, is_break, is_nb, b-break}
+use Rattle.yaml_definitions.specs.grammar.Characters.{is_space, is_white, is_break, is_nb, b-break, c-comment}
 
 -- no production: the contexts, the standard's parameter c
 pub data Ctx : Type 0 where
@@ -43,7 +43,7 @@ module _ (cs : List ℕ) where
 
   -- [75] c-nb-comment-text (6.6)
   unfoldable pub c-nb-comment-text : Span
-  c-nb-comment-text = chr cs 35 ◆ run cs is_nb
+  c-nb-comment-text = chr cs c-comment ◆ run cs is_nb
 
   -- [76] b-comment (6.6)
   unfoldable pub b-comment : Span

@@ -3,7 +3,7 @@ use Rattle.std.specs.Prelude.{ℕ, ◌+◌, ◌*◌, List, [], ◌∷◌, ◌++�
 use Rattle.std.specs.Char.{is_digit, digit_value, is_ascii_hexdigit}
 use Rattle.std.specs.Map.{lookup}
 use Rattle.yaml_definitions.specs.grammar.Rules.{Span, Rule, ◌◆◌, ◌⊔◌, ◌▸◌, ◌◂◌, ◌∪◌, gives, any_span, any_one_span, chr, word, one, some_run, whole_run, copied, Stands, ahead, with_value, seen, mapped}
-use Rattle.yaml_definitions.specs.grammar.Characters.{is_ns, is_flow_indicator, is_word, is_uri, is_tag}
+use Rattle.yaml_definitions.specs.grammar.Characters.{is_ns, is_flow_indicator, is_word, is_uri, is_tag, c-anchor, c-alias, c-tag}
 use Rattle.yaml_definitions.specs.grammar.Separation.{Ctx, s-separate}
 use Rattle.yaml_definitions.specs.model.Event.{WrittenTag, untagged, non_specific, full}
 use Rattle.yaml_definitions.specs.grammar.Events.{Props}
@@ -58,11 +58,11 @@ module _ (cs : List ℕ) where
 
   -- [89] c-tag-handle (6.8.2.1): [92] c-named-tag-handle, [91] c-secondary-tag-handle, [90] c-primary-tag-handle
   unfoldable pub c-tag-handle : Rule (List ℕ)
-  c-tag-handle = copied cs ((chr cs 33 ◆ some_run cs is_word ◆ chr cs 33) ⊔ (chr cs 33 ◆ chr cs 33) ⊔ chr cs 33)
+  c-tag-handle = copied cs ((chr cs c-tag ◆ some_run cs is_word ◆ chr cs c-tag) ⊔ (chr cs c-tag ◆ chr cs c-tag) ⊔ chr cs c-tag)
 
   -- [93] ns-tag-prefix (6.8.2.2): [94] c-ns-local-tag-prefix, [95] ns-global-tag-prefix
   unfoldable pub ns-tag-prefix : Rule (List ℕ)
-  ns-tag-prefix = copied cs ((chr cs 33 ⊔ tag_char) ◆ any_span uri_char)
+  ns-tag-prefix = copied cs ((chr cs c-tag ⊔ tag_char) ◆ any_span uri_char)
 
   -- ---- properties
 
@@ -80,7 +80,7 @@ module _ (cs : List ℕ) where
 
   -- [100] c-non-specific-tag (6.9.1)
   unfoldable pub c-non-specific-tag : Rule WrittenTag
-  c-non-specific-tag = chr cs 33 ▸ gives non_specific
+  c-non-specific-tag = chr cs c-tag ▸ gives non_specific
 
   -- [97] c-ns-tag-property (6.9.1)
   unfoldable pub c-ns-tag-property : Handles → Rule WrittenTag
@@ -92,11 +92,11 @@ module _ (cs : List ℕ) where
 
   -- [101] c-ns-anchor-property (6.9.2)
   unfoldable pub c-ns-anchor-property : Rule (List ℕ)
-  c-ns-anchor-property = chr cs 38 ▸ ns-anchor-name
+  c-ns-anchor-property = chr cs c-anchor ▸ ns-anchor-name
 
   -- [104] c-ns-alias-node (7.1)
   unfoldable pub c-ns-alias-node : Rule (List ℕ)
-  c-ns-alias-node = chr cs 42 ▸ ns-anchor-name
+  c-ns-alias-node = chr cs c-alias ▸ ns-anchor-name
 
   -- [96] c-ns-properties(n,c) (6.9)
   unfoldable pub c-ns-properties : Handles → ℕ → Ctx → Rule Props

@@ -7,7 +7,7 @@ ghost use Rattle.yaml_definitions.specs.grammar.Separation.{s-indent as indent};
 ghost use Rattle.yaml_definitions.specs.grammar.BlockScalars.{l-trail-comments as comment_lines};
 
 use yaml_text::chars::Chars;
-use yaml_text::lines::{read_comment, skip_comments};
+use yaml_text::lines::{read_comment, skip_comment_lines};
 use yaml_text::places::accept;
 
 /// How many spaces stand at a border, but at most `most`, and the border after them.
@@ -48,6 +48,6 @@ pub fn trailing_comments(source: &Chars<'_>, at: usize, indent: usize) -> usize
     }
     match read_comment(source, from) {
         None => at,
-        Some(after) => skip_comments(source, after),
+        Some(after) => skip_comment_lines(source, after),
     }
 }

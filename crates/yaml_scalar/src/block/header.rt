@@ -4,9 +4,10 @@ ghost use Rattle.std.specs.Int.{is_in_range};
 ghost use Rattle.yaml_text.specs.Placed.{IsPlaced};
 ghost use Rattle.yaml_text.specs.Source.{text_of, place_of, IsBorder};
 ghost use Rattle.yaml_definitions.specs.grammar.Rules.{Stands};
-ghost use Rattle.yaml_text.specs.Answer.{Unread};
+ghost use Rattle.yaml_text.specs.LeafAnswer.{Unread};
 ghost use Rattle.yaml_definitions.specs.grammar.BlockScalars.{c-indentation-indicator as indentation_indicator, c-chomping-indicator as chomping_indicator, c-b-block-header as header};
-ghost use Rattle.yaml_text.specs.Answer.{ScalarFaultMeans};
+ghost use Rattle.yaml_text.specs.LeafAnswer.{ScalarFaultMeans};
+ghost use Rattle.yaml_text.specs.LeafAnswer.{ScalarFaultMeans, IsSyntaxFault};
 ghost use Rattle.yaml_scalar.specs.BlockRules.{is_sign, EndIndicators, indicators};
 ghost use Rattle.yaml_text.specs.Lines.{AfterLine, Inside};
 ghost use Rattle.yaml_scalar.specs.BlockModel.{chomp_of, header_of};
@@ -105,8 +106,23 @@ fn read_indicators(source: &Chars<'_>, at: usize) -> (Header, usize)
     }
 }
 
-/// The header that stands after `|` or `>`, and the border after its line.
-pub fn read_header(source: &Chars<'_>, at: usize) -> Result<(Header, usize), Fault>
+/// The fault of a header that does not go on at `stop`. A scalar at the root has no digit, so one that stands there is the
+/// first character that can't be used.
+fn header_fault(source: &Chars<'_>, header: Header, stop: usize, is_root: bool) -> Fault
+    requires digit_at { IsBorder source.now header.digit_at }
+    requires stop { IsBorder source.now stop }
+    ensures unread { IsSyntaxFault result }
+    ensures placed { IsPlaced source.now result }
+{
+    if is_root && header.digit.is_some() {
+        return Fault::Syntax(source.pos(header.digit_at));
+    }
+    unusable(source, stop)
+}
+
+/// The header that stands after `|` or `>`, and the border after its line. Whether the scalar is at the root, where no digit
+/// may stand, tells the place of a fault alone.
+pub fn read_header(source: &Chars<'_>, at: usize, is_root: bool) -> Result<(Header, usize), Fault>
     requires border { IsBorder source.now at }
     requires inside { Inside (text_of source.now) (place_of source.now at) }
     ensures border { IfOk result (λ r. IsBorder source.now r.1) }
@@ -120,12 +136,12 @@ pub fn read_header(source: &Chars<'_>, at: usize) -> Result<(Header, usize), Fau
 {
     let (header, end) = read_indicators(source, at);
     match accept(source, end, '#') {
-        Some(_) => Err(unusable(source, end)),
+        Some(_) => Err(header_fault(source, header, end, is_root)),
         None => match skip_blank(source, end) {
             Some(after) => Ok((header, after)),
             None => {
                 let (_, stop) = skip_spaces(source, end);
-                Err(unusable(source, stop))
+                Err(header_fault(source, header, stop, is_root))
             }
         },
     }

@@ -2,7 +2,7 @@
 ghost use Rattle.std.specs.Prelude.{◌≤◌, ◌+◌, ◌-◌, ◌<◌, IfOk, IfErr, IfSome, None, replicate};
 ghost use Rattle.yaml_text.specs.Source.{text_of, place_of, IsBorder};
 ghost use Rattle.yaml_definitions.specs.grammar.Rules.{any};
-ghost use Rattle.yaml_text.specs.Answer.{Unread};
+ghost use Rattle.yaml_text.specs.LeafAnswer.{Unread};
 ghost use Rattle.yaml_definitions.specs.grammar.BlockScalars.{indentation, blank_line, blank, is_given};
 ghost use Rattle.yaml_scalar.specs.BlockRules.{NoSpaceLine, Ready};
 ghost use Rattle.yaml_text.specs.Lines.{AfterLine};

@@ -13,9 +13,9 @@ use Rattle.yaml_definitions.specs.grammar.Events.{no_props, e-scalar as empty, s
 use Rattle.yaml_text.proofs.Tests.{on_true_at, on_false_at}
 use Rattle.yaml_mark.specs.HandlesModel.{handles_of}
 use Rattle.law_one_reading.specs.Follows.{Dash}
-use Rattle.law_going_on.specs.Decisions.{Here}
-use Rattle.law_going_on.proofs.Decisions.{rest_rest, rest_goes, rest_refused}
-use Rattle.yaml_flow.specs.Answer.{Decides}
+use Rattle.law_going_on.specs.GoingOn.{Here}
+use Rattle.law_going_on.proofs.GoingOn.{rest_rest, rest_goes, rest_refused}
+use Rattle.yaml_flow.specs.NodeAnswer.{Decides}
 use Rattle.yaml_flow.specs.Lines.{IsLine, IsDash}
 use Rattle.yaml_flow.specs.Keys.{ColonAfter}
 use Rattle.yaml_flow.specs.PropertyRules.{props_of, both_props, dressed, SomeProperties}

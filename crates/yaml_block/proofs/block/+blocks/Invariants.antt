@@ -10,7 +10,7 @@ use Rattle.yaml_flow.specs.PropertyRules.{props_of}
 use Rattle.yaml_text.specs.Lines.{AfterLine}
 use Rattle.yaml_definitions.specs.grammar.Rules.{◌▸◌, any}
 use Rattle.yaml_definitions.specs.grammar.Separation.{s-indent as indent}
-use Rattle.law_going_on.specs.Decisions.{Rest}
+use Rattle.law_going_on.specs.GoingOn.{Rest}
 use Rattle.yaml_block.specs.BlockEnds.{AfterSequence, AfterMapping}
 use Rattle.yaml_block.specs.BlockRules.{entries_rest, sequence_with, seq_body}
 use Rattle.yaml_block.proofs.BlockLemmas.{seq_entry_at, map_entry_at}

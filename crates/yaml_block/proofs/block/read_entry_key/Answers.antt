@@ -3,7 +3,7 @@ use Rattle.yaml_text.specs.Source.{text_of, place_of}
 use Rattle.yaml_definitions.specs.grammar.Separation.{flow_out, block_key}
 use Rattle.yaml_text.proofs.Tests.{on_true_at, on_false_at}
 use Rattle.yaml_mark.specs.HandlesModel.{handles_of}
-use Rattle.law_going_on.specs.Decisions.{Here}
+use Rattle.law_going_on.specs.GoingOn.{Here}
 use Rattle.yaml_flow.specs.PropertyRules.{props_of, dressed}
 use Rattle.yaml_flow.proofs.AnswerLemmas.{puts_after, puts_altered}
 use Rattle.yaml_flow.proofs.FlowLemmas.{bare_flow}

@@ -9,9 +9,9 @@ use Rattle.yaml_definitions.specs.grammar.Events.{no_props, scalar}
 use Rattle.yaml_definitions.specs.grammar.BlockScalars.{c-l+literal as literal}
 use Rattle.yaml_scalar.specs.BlockModel.{column}
 use Rattle.yaml_block.specs.BlockRules.{block_scalar_rest}
-use Rattle.yaml_text.specs.Answer.{Unread, FurthestAlone}
+use Rattle.yaml_text.specs.LeafAnswer.{Unread, FurthestAlone}
 use Rattle.yaml_text.specs.Lines.{AfterLine}
-use Rattle.law_going_on.specs.Decisions.{Goes, Here}
+use Rattle.law_going_on.specs.GoingOn.{Goes, Here}
 use Rattle.law_going_on.proofs.BlockScalars.{scalar_after}
 use Rattle.yaml_flow.proofs.PropertyDecisions.{or_else}
 use Rattle.yaml_flow.proofs.Deciding.{decides_err, refusal}

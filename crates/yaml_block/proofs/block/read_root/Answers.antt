@@ -8,8 +8,8 @@ use Rattle.yaml_flow.proofs.AnswerLemmas.{appends_by}
 use Rattle.yaml_block.specs.BlockRules.{root_rest, node_rest, sequence_with}
 use Rattle.yaml_block.specs.OuterRules.{column_of}
 use Rattle.yaml_definitions.specs.grammar.Events.{no_props}
-use Rattle.law_going_on.specs.Decisions.{Here}
-use Rattle.yaml_flow.specs.Answer.{Decides}
+use Rattle.law_going_on.specs.GoingOn.{Here}
+use Rattle.yaml_flow.specs.NodeAnswer.{Decides}
 use Rattle.yaml_block.specs.BlockEnds.{AfterNode, AfterSequence}
 use Rattle.yaml_block.proofs.OuterLemmas.{column_free}
 use Rattle.yaml_block.proofs.Passing.{decides_rest}

@@ -4,8 +4,8 @@ use Rattle.yaml_text.specs.Source.{text_of, place_of}
 use Rattle.yaml_definitions.specs.grammar.Streams.{l-bare-document as bare_document}
 use Rattle.yaml_mark.specs.HandlesModel.{handles_of}
 use Rattle.yaml_definitions.specs.grammar.Separation.{block_in}
-use Rattle.law_going_on.specs.Decisions.{Here}
-use Rattle.yaml_flow.specs.Answer.{Decides}
+use Rattle.law_going_on.specs.GoingOn.{Here}
+use Rattle.yaml_flow.specs.NodeAnswer.{Decides}
 use Rattle.yaml_flow.specs.SinkModel.{holds_of}
 use Rattle.yaml_flow.proofs.AnswerLemmas.{appends_by}
 use Rattle.yaml_block.specs.BlockEnds.{AfterNode}

@@ -3,6 +3,7 @@ use Rattle.yaml_graph.specs.GraphView.{forest}
 use Rattle.yaml_canon.proofs.PieceLaws.{if_ok, if_err}
 use Rattle.yaml_canon.proofs.ClaimLaws.{accepted, refused_graph, refused_ranking, refused_spelling}
 use Rattle.yaml_canon.proofs.PlaceLaws.{placed, placed-answer, placed-exit, placed-spelling}
+use Rattle.yaml_canon.proofs.PlacedLaws.{graph_elsewhere, length_elsewhere}
 use Rattle.yaml_canon.proofs.placing.canonical_into.Goals as goal
 
 pub returns-in_err-ranks-clause-refused : goal.returns-in_err-ranks-clause-refused
@@ -50,3 +51,13 @@ returns-clause-accepts c =
 pub returns-clause-spelling : goal.returns-clause-spelling
 returns-clause-spelling c =
     placed-spelling c.args.bytes.now c.args.room.now c.place.new.room c.place.result (returns-clause-accepts c)
+
+-- ---- places
+
+pub returns-in_err-ranks-clause-placed : goal.returns-in_err-ranks-clause-placed
+returns-in_err-ranks-clause-placed c =
+    let f = graph_elsewhere c.args.bytes.now c.in_ok-graph.graph c.in_err-ranks.field-0.0 c.in_err-ranks.ensures.err in
+    search (rules, f)
+
+pub returns-clause-placed : goal.returns-clause-placed
+returns-clause-placed c = if_err c.place.result c.place.ensures.err (λ fault h. length_elsewhere c.args.bytes.now (forest c.in_ok-graph.graph) fault h)

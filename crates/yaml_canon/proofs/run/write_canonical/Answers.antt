@@ -1,9 +1,10 @@
 use Rattle.std.proofs.Common.{◌≤◌, subst, rules}
 use Rattle.yaml_definitions.specs.model.Limits.{text_limit}
 use Rattle.yaml_graph.specs.GraphView.{forest}
-use Rattle.yaml_canon.proofs.PieceLaws.{on_ok, if_both}
+use Rattle.yaml_canon.proofs.PieceLaws.{on_ok, if_both, if_err}
 use Rattle.yaml_canon.proofs.ClaimLaws.{accepted, refused_graph, refused_ranking, refused_spelling}
 use Rattle.yaml_canon.proofs.RunLaws.{refused_unwritten, canonical_written, canonical_broken}
+use Rattle.yaml_canon.proofs.PlacedLaws.{graph_elsewhere, length_elsewhere, write_elsewhere}
 use Rattle.yaml_canon.proofs.run.write_canonical.Goals as goal
 
 pub returns-in_err-graph-clause-err : goal.returns-in_err-graph-clause-err
@@ -37,3 +38,18 @@ returns-clause-err g c =
     let a = accepted c.args.bytes.now k.documents c.in_ok-graph.graph k.read k.composed c.in_ok-ranks.ensures.ok.keyed in
     let l = subst (λ n. n ≤ text_limit) c.in_ok-canonical_len.ensures.ok c.in_ok-canonical_len.ensures.fits in
     if_both c.write_pages.result c.write_pages.ensures.broken c.write_pages.ensures.err (λ fault b e. canonical_broken g.W.Write.contents c.args.bytes.now (forest c.in_ok-graph.graph) c.args.out.now c.write_pages.new.out fault a l b e)
+
+-- ---- places
+
+pub returns-in_err-ranks-clause-placed : goal.returns-in_err-ranks-clause-placed
+returns-in_err-ranks-clause-placed g c =
+    let f = graph_elsewhere c.args.bytes.now c.in_ok-graph.graph c.in_err-ranks.field-0.0 c.in_err-ranks.ensures.err in
+    search (rules, f)
+
+pub returns-in_err-canonical_len-clause-placed : goal.returns-in_err-canonical_len-clause-placed
+returns-in_err-canonical_len-clause-placed g c =
+    let f = length_elsewhere c.args.bytes.now (forest c.in_ok-graph.graph) c.in_err-canonical_len.field-0.0 c.in_err-canonical_len.ensures.err in
+    search (rules, f)
+
+pub returns-clause-placed : goal.returns-clause-placed
+returns-clause-placed g c = if_err c.write_pages.result c.write_pages.ensures.err (λ fault e. write_elsewhere c.args.bytes.now fault e)

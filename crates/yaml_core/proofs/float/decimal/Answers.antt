@@ -2,7 +2,7 @@ use Rattle.std.proofs.Common.{ℕ, List, ◌++◌, Bor, refl, sym, subst, length
 use Rattle.std.specs.Option.{option_map}
 use Rattle.std.specs.Cow.{cow_str_bytes}
 use Rattle.yaml_definitions.specs.model.Core.{is_negative, exponent_of, decimal_of, signed}
-use Rattle.yaml_core.specs.Answer.{IsDecimalContent}
+use Rattle.yaml_core.specs.CoreAnswer.{IsDecimalContent}
 use Rattle.yaml_core.specs.Decimal.{float_text}
 use Rattle.yaml_core.proofs.IntLemmas.{digits_ascii}
 use Rattle.yaml_core.proofs.DecimalLemmas.{decimal_reads, decimal_nothing, decimal_some, decimal_far, decimal_result}

@@ -7,7 +7,7 @@ use Rattle.std.proofs.lemmas.List.Elements.{All-from_get_or}
 use Rattle.std.proofs.lemmas.Str.{IsUtf8-drop}
 use Rattle.std.proofs.lemmas.Str.Pattern.{split_parts}
 use Rattle.yaml_text.specs.EventModel.{event_of}
-use Rattle.yaml_events.specs.Answer.{RefusesEventText}
+use Rattle.yaml_events.specs.LineAnswer.{RefusesEventText}
 use Rattle.yaml_events.proofs.FirstBad.{no_feed_left, bad_line}
 use Rattle.yaml_events.proofs.Holding.{NoneLeft, held_first, held_more, held_last, empty_length}
 use Rattle.yaml_events.proofs.matching.is_event_text.Goals as goal

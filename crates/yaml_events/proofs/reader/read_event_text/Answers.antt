@@ -6,7 +6,7 @@ use Rattle.std.proofs.lemmas.List.Elements.{All-from_get_or}
 use Rattle.std.proofs.lemmas.Str.{IsUtf8-drop}
 use Rattle.std.proofs.lemmas.Str.Pattern.{split_parts}
 use Rattle.yaml_text.specs.EventModel.{event_of}
-use Rattle.yaml_events.specs.Answer.{RefusesEventText}
+use Rattle.yaml_events.specs.LineAnswer.{RefusesEventText}
 use Rattle.yaml_events.proofs.FirstBad.{read_none, read_more, no_feed_left, bad_line}
 use Rattle.yaml_events.proofs.Reading.{refusal}
 use Rattle.yaml_events.specs.Parts.{IsLineOf}

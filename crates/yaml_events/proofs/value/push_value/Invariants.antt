@@ -1,13 +1,13 @@
 use Rattle.std.proofs.Common.{◌≡◌, ◌≤◌, ◌-◌, ◌++◌, take, drop}
 use Rattle.std.specs.Str.{IsCharBoundary}
-use Rattle.std.specs.String.{string_bytes, string_capacity}
 use Rattle.yaml_definitions.specs.model.EventText.{value_text}
 use Rattle.yaml_events.proofs.value.push_value.Given as goal
 
 abbrev pub invariant-spell : goal.invariant-spell
-invariant-spell l = record {
+invariant-spell g l = record {
   run : l.run ≤ l.at;
   border : IsCharBoundary l.text l.run;
-  spells : string_bytes l.out ++ take (l.at - l.run) (drop l.run l.text) ≡ string_bytes l.initial.out ++ value_text (take l.at l.text);
-  kept : string_capacity l.initial.out ≤ string_capacity l.out;
+  spells : g.S.Sink.bytes l.out ++ take (l.at - l.run) (drop l.run l.text) ≡ g.S.Sink.bytes l.initial.out ++ value_text (take l.at l.text);
+  kept : g.S.Sink.room l.initial.out ≤ g.S.Sink.room l.out;
+  lent : g.S.Sink.lent l.out ≡ g.S.Sink.lent l.initial.out;
 }

@@ -17,7 +17,7 @@ use Rattle.yaml_flow.proofs.FlowLemmas.{no_parts, one_part, parts_end, part_end,
 use Rattle.yaml_definitions.specs.grammar.Separation.{flow_in}
 use Rattle.yaml_flow.proofs.LoopDecisions.{all_left, left_closed, left_refused, left_no_way, left_last, left_unclosed, left_more, left_no_more, to_in, none_in, item_begins, entry_begins, bracket_shut, bracket_other, brace_shut, brace_other, sequence_nowhere, sequence_goes, sequence_refused, mapping_nowhere, mapping_goes, mapping_refused}
 use Rattle.yaml_definitions.specs.grammar.Nodes.{c-flow-sequence as flow_seq, c-flow-mapping as flow_map}
-use Rattle.law_going_on.specs.Decisions.{Here}
+use Rattle.law_going_on.specs.GoingOn.{Here}
 use Rattle.law_going_on.specs.FlowEnds.{InFlow}
 use Rattle.yaml_text.specs.Place.{Steps}
 use Rattle.yaml_text.specs.Source.{bytes_of}

@@ -5,7 +5,7 @@ use Rattle.std.proofs.lemmas.Str.{encodes-chars}
 use Rattle.yaml_definitions.specs.model.Event.{alias_event}
 use Rattle.yaml_text.specs.Source.{text_of, place_of}
 use Rattle.yaml_definitions.specs.grammar.Tags as tags
-use Rattle.law_going_on.specs.Decisions.{Here}
+use Rattle.law_going_on.specs.GoingOn.{Here}
 use Rattle.yaml_flow.proofs.Deciding.{decides_err}
 use Rattle.yaml_flow.proofs.PropertyDecisions.{name_refused, or_else}
 use Rattle.yaml_flow.proofs.ContentDecisions.{alias_goes, no_alias}

@@ -8,8 +8,8 @@ use Rattle.std.specs.Cow.{cow_str_bytes}
 use Rattle.yaml_text.specs.Source.{text_of, place_of}
 use Rattle.yaml_text.specs.EventModel.{context_of}
 use Rattle.yaml_definitions.specs.grammar.FlowScalars.{c-single-quoted as single}
-use Rattle.yaml_text.specs.Answer.{Unread}
-use Rattle.law_going_on.specs.Decisions.{Goes, Here}
+use Rattle.yaml_text.specs.LeafAnswer.{Unread}
+use Rattle.law_going_on.specs.GoingOn.{Goes, Here}
 use Rattle.yaml_flow.proofs.Deciding.{decides_err, refusal, unread_refused, only_goes}
 use Rattle.yaml_flow.proofs.PropertyDecisions.{or_else}
 use Rattle.yaml_mark.specs.HandlesModel.{handles_of}

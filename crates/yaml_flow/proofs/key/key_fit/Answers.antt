@@ -1,4 +1,4 @@
-use Rattle.std.proofs.Common.{◌≡◌, ℕ, true, false, ◌+◌, ◌<◌, ◌≤◌, ◌⊎◌, ap, sym, ◌∙◌, arith, inl, inr, length, take, drop, length-append}
+use Rattle.std.proofs.Common.{◌≡◌, ℕ, List, Bool, true, false, ◌+◌, ◌<◌, ◌≤◌, ◌⊎◌, ap, sym, ◌∙◌, arith, inl, inr, length, take, drop, length-append}
 use Rattle.std.proofs.lemmas.Bool.{cases_lt}
 use Rattle.std.specs.Str.{chars}
 use Rattle.yaml_text.specs.Place.{place}
@@ -7,8 +7,7 @@ use Rattle.std.proofs.lemmas.Str.{IsUtf8-had}
 use Rattle.yaml_text.specs.declared.chars.Chars.{Chars}
 use Rattle.yaml_text.specs.Source.{text_of, place_of, IsBorder}
 use Rattle.yaml_definitions.specs.grammar.Rules.{Stands}
-use Rattle.yaml_definitions.specs.grammar.Characters.{is_break, is_nb}
-use Rattle.yaml_text.proofs.Tests.{on_true_at}
+use Rattle.yaml_definitions.specs.grammar.Characters.{is_break}
 use Rattle.yaml_text.proofs.PlaceLemmas.{place_less, chars_cut}
 use Rattle.yaml_text.proofs.Runs.{all_more, no_stand}
 use Rattle.yaml_flow.proofs.key.key_fit.Goals as goal
@@ -37,15 +36,13 @@ step_within s here after to p q r l e = pick (cases_lt to after)
         let y : place_of s to < place_of s after = place_less s.text.now to after (IsUtf8-had s.text.now s.utf8) r q h in
         absurd (omega (arith, x, y, e))
 
-no_break : (c : ℕ) → is_nb c ≡ true → is_break c ≡ false
-unfolding is_nb
-no_break c t = grind (arith, t)
-
-pub returns-then-is_ascii_line : goal.returns-then-is_ascii_line
-returns-then-is_ascii_line c =
-    let cs = text_of c.args.source.now in
-    let a = on_true_at c.is_ascii_line.result c.if-is_ascii_line.true c.is_ascii_line.ensures in
-    (λ k x y. (let s = a.0.1 k x y in no_stand cs is_break k s.0 s.1 (no_break s.0 s.2)), omega (arith, a.1, c.if-to-from.true, c.requires.order, c.key_limit-limit.ensures))
+-- what stands nowhere in two parts that follow each other
+all_then : (cs : List ℕ) (p : ℕ → Bool) (i j k : ℕ) → ((m : ℕ) → i ≤ m → m < j → Stands cs p m → ⊥) → ((m : ℕ) → j ≤ m → m < k → Stands cs p m → ⊥) → (m : ℕ) → i ≤ m → m < k → Stands cs p m → ⊥
+all_then cs p i j k h g m a b = pick (cases_lt m j)
+  where
+    pick : (m < j) ⊎ (j ≤ m) → Stands cs p m → ⊥
+    pick (inl l) = h m a l
+    pick (inr l) = g m l b
 
 pub chars-init : goal.chars-init
 chars-init c = record {
@@ -55,6 +52,18 @@ chars-init c = record {
   counted = omega arith;
   line = λ k a b. absurd (omega (arith, a, b));
 }
+
+pub chars-preserved-then-run-here : goal.chars-preserved-then-run-here
+chars-preserved-then-run-here c =
+    let v = c.chars.invariant in
+    let r = c.skip_run-run.ensures in
+    record {
+      border = r.border;
+      within = r.within;
+      few = omega (arith, v.few, r.onward);
+      counted = omega (arith, v.counted, r.counted, r.onward);
+      line = all_then (text_of c.args.source.now) is_break _ _ _ v.line r.line;
+    }
 
 pub chars-preserved : goal.chars-preserved
 chars-preserved c =

@@ -1,4 +1,4 @@
-use Rattle.std.proofs.Common.{◌≡◌, ap, refl, inl, inr, arith, Some, None}
+use Rattle.std.proofs.Common.{◌≡◌, ap, refl, sym, subst, inl, inr, arith, Some, None}
 use Rattle.std.specs.Str.{chars}
 use Rattle.std.specs.Cow.{cow_str_bytes}
 use Rattle.yaml_text.specs.EventModel.{context_of, written_of}
@@ -7,7 +7,8 @@ use Rattle.yaml_text.specs.Source.{text_of, place_of}
 use Rattle.yaml_definitions.specs.grammar.Events.{Props}
 use Rattle.yaml_mark.specs.HandlesModel.{handles_of}
 use Rattle.law_one_reading.proofs.Properties.{anchor_props}
-use Rattle.yaml_flow.specs.PropertyRules.{anchor_alone}
+use Rattle.yaml_flow.specs.PropertyRules.{SomeProperties, anchor_alone}
+use Rattle.yaml_flow.specs.PropertyDecisions.{AllProperties}
 use Rattle.yaml_flow.proofs.PropertyLemmas.{tag_is, tag_read, anchor_read, named, anchor_then}
 use Rattle.yaml_flow.proofs.PropertyDecisions.{failed, name_refused, tag_refused, or_else, no_anchor, no_tag, barred_none, barred_first, barred_second, all_one, all_both, anchor_alike}
 use Rattle.yaml_flow.proofs.properties.read_anchored.Goals.{then-next-end+in_default, else-next-end}
@@ -18,17 +19,19 @@ returns-in-Some-clause-own c =
     let cs = text_of c.args.source.now in
     let handles = handles_of c.args.handles in
     let name = cow_str_bytes c.in_ok-name.name in
-    inr (named cs handles c.args.least (context_of c.args.context) _ _ name (written_of c.in_ok-tag.tag) c.in_ok-name.ensures.utf8
+    inr (subst (SomeProperties cs handles c.args.least (context_of c.args.context) _ _) (sym c.in_ok-hold.ensures.ok)
+    (named cs handles c.args.least (context_of c.args.context) _ _ name (written_of c.in_ok-tag.tag) c.in_ok-name.ensures.utf8
     (anchor_then cs handles c.args.least (context_of c.args.context) _ _ _ _ (written_of c.in_ok-tag.tag) (chars name)
-    (anchor_read cs handles _ _ _ c.requires.sign c.in_ok-name.ensures.only.is) (c.in_ok-next.ensures.apart c.if-next-end.true) (tag_read cs handles _ _ _ c.in_ok-tag.ensures.only.is)))
+    (anchor_read cs handles _ _ _ c.requires.sign c.in_ok-name.ensures.only.is) (c.in_ok-next.ensures.apart c.if-next-end.true) (tag_read cs handles _ _ _ c.in_ok-tag.ensures.only.is))))
 
 pub returns-clause-own : goal.returns-clause-own
 returns-clause-own c =
     let cs = text_of c.args.source.now in
     let handles = handles_of c.args.handles in
     let name = cow_str_bytes c.in_ok-name.name in
-    inr (named cs handles c.args.least (context_of c.args.context) _ _ name untagged c.in_ok-name.ensures.utf8
-    (anchor_alone (chars name) (anchor_read cs handles _ _ _ c.requires.sign c.in_ok-name.ensures.only.is) refl))
+    inr (subst (SomeProperties cs handles c.args.least (context_of c.args.context) _ _) (sym c.in_ok-hold-2.ensures.ok)
+    (named cs handles c.args.least (context_of c.args.context) _ _ name untagged c.in_ok-name.ensures.utf8
+    (anchor_alone (chars name) (anchor_read cs handles _ _ _ c.requires.sign c.in_ok-name.ensures.only.is) refl)))
 
 -- ---- what it decides
 
@@ -63,7 +66,7 @@ pub returns-in-Some-clause-all : goal.returns-in-Some-clause-all
 returns-in-Some-clause-all c =
     let cs = text_of c.args.source.now in
     let handles = handles_of c.args.handles in
-    all_both cs handles c.args.least (context_of c.args.context) _ _ _ _ (tag_is cs handles _ _ _ (tag_read cs handles _ _ _ c.in_ok-tag.ensures.only.is))
+    subst (AllProperties cs handles c.args.least (context_of c.args.context) _ _) (sym c.in_ok-hold.ensures.ok) (all_both cs handles c.args.least (context_of c.args.context) _ _ _ _ (tag_is cs handles _ _ _ (tag_read cs handles _ _ _ c.in_ok-tag.ensures.only.is)))
 
 pub returns-clause-all : goal.returns-clause-all
 returns-clause-all c =
@@ -72,9 +75,9 @@ returns-clause-all c =
     let handles = handles_of c.args.handles in
     let bytes = cow_str_bytes c.in_ok-name.name in
     let anchor = anchor_read cs handles _ _ _ c.requires.sign c.in_ok-name.ensures.only.is in
-    all_one cs handles c.args.least (context_of c.args.context) _ _ (place_of s c.in_ok-next.next) (anchor_props (chars bytes)) _ (inr (_, anchor, refl))
+    subst (AllProperties cs handles c.args.least (context_of c.args.context) _ _) (sym c.in_ok-hold-2.ensures.ok) (all_one cs handles c.args.least (context_of c.args.context) _ _ (place_of s c.in_ok-next.next) (anchor_props (chars bytes)) _ (inr (_, anchor, refl))
     (λ h. let x : Some bytes ≡ None = ap Props.anchor h in cc) c.in_ok-next.ensures.to
     (elim c.if-next-end.branch [
       | then-next-end+in_default w ↦ inr (anchor_alike cs _ _ c.requires.sign w.in_default.ensures.none)
       | else-next-end w ↦ inl (let e : c.in_ok-next.next ≡ c.in_ok-name.end = omega (arith, w.if-next-end.false, c.in_ok-next.ensures.onward) in ap (place_of s) e)
-    ])
+    ]))

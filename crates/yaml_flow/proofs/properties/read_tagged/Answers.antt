@@ -1,11 +1,12 @@
-use Rattle.std.proofs.Common.{◌≡◌, ap, refl, inl, inr, arith, subst}
+use Rattle.std.proofs.Common.{◌≡◌, ap, refl, sym, inl, inr, arith, subst}
 use Rattle.std.specs.Str.{chars}
 use Rattle.std.specs.Cow.{cow_str_bytes}
 use Rattle.yaml_text.specs.EventModel.{context_of, written_of}
 use Rattle.yaml_text.specs.Source.{text_of, place_of}
 use Rattle.yaml_mark.specs.HandlesModel.{handles_of}
 use Rattle.law_one_reading.proofs.Properties.{tag_props}
-use Rattle.yaml_flow.specs.PropertyRules.{HasTag, tag_alone}
+use Rattle.yaml_flow.specs.PropertyRules.{HasTag, SomeProperties, tag_alone}
+use Rattle.yaml_flow.specs.PropertyDecisions.{AllProperties}
 use Rattle.yaml_flow.proofs.PropertyLemmas.{tag_is, tag_read, anchor_read, named, tag_then}
 use Rattle.yaml_flow.proofs.PropertyDecisions.{failed, name_refused, tag_refused, or_else, no_anchor, no_tag, barred_none, barred_first, barred_second, all_one, all_both, tag_alike}
 use Rattle.yaml_definitions.specs.grammar.Events.{Props}
@@ -17,16 +18,17 @@ returns-in-Some-clause-own c =
     let cs = text_of c.args.source.now in
     let handles = handles_of c.args.handles in
     let name = cow_str_bytes c.in_ok-name.name in
-    inr (named cs handles c.args.least (context_of c.args.context) _ _ name (written_of c.in_ok-tag.tag) c.in_ok-name.ensures.utf8
+    inr (subst (SomeProperties cs handles c.args.least (context_of c.args.context) _ _) (sym c.in_ok-hold.ensures.ok)
+    (named cs handles c.args.least (context_of c.args.context) _ _ name (written_of c.in_ok-tag.tag) c.in_ok-name.ensures.utf8
     (tag_then cs handles c.args.least (context_of c.args.context) _ _ _ _ (written_of c.in_ok-tag.tag) (chars name)
-    (tag_read cs handles _ _ _ c.in_ok-tag.ensures.only.is) (c.in_ok-next.ensures.apart c.if-next-end.true) (anchor_read cs handles _ _ _ c.in-Some.ensures.some.is c.in_ok-name.ensures.only.is)))
+    (tag_read cs handles _ _ _ c.in_ok-tag.ensures.only.is) (c.in_ok-next.ensures.apart c.if-next-end.true) (anchor_read cs handles _ _ _ c.in-Some.ensures.some.is c.in_ok-name.ensures.only.is))))
 
 pub returns-clause-own : goal.returns-clause-own
 returns-clause-own c =
     let cs = text_of c.args.source.now in
     let handles = handles_of c.args.handles in
     let tag = tag_read cs handles _ _ _ c.in_ok-tag.ensures.only.is in
-    inr (tag_alone (written_of c.in_ok-tag.tag) tag (tag_is cs handles _ _ _ tag) refl)
+    inr (subst (SomeProperties cs handles c.args.least (context_of c.args.context) _ _) (sym c.in_ok-hold-2.ensures.ok) (tag_alone (written_of c.in_ok-tag.tag) tag (tag_is cs handles _ _ _ tag) refl))
 
 -- ---- what it decides
 
@@ -59,7 +61,7 @@ pub returns-in-Some-clause-all : goal.returns-in-Some-clause-all
 returns-in-Some-clause-all c =
     let cs = text_of c.args.source.now in
     let handles = handles_of c.args.handles in
-    all_both cs handles c.args.least (context_of c.args.context) _ _ _ _ (tag_is cs handles _ _ _ (tag_read cs handles _ _ _ c.in_ok-tag.ensures.only.is))
+    subst (AllProperties cs handles c.args.least (context_of c.args.context) _ _) (sym c.in_ok-hold.ensures.ok) (all_both cs handles c.args.least (context_of c.args.context) _ _ _ _ (tag_is cs handles _ _ _ (tag_read cs handles _ _ _ c.in_ok-tag.ensures.only.is)))
 
 pub returns-clause-all : goal.returns-clause-all
 returns-clause-all c =
@@ -67,9 +69,9 @@ returns-clause-all c =
     let cs = text_of s in
     let handles = handles_of c.args.handles in
     let tag = tag_read cs handles _ _ _ c.in_ok-tag.ensures.only.is in
-    all_one cs handles c.args.least (context_of c.args.context) _ _ (place_of s c.in_ok-next.next) (tag_props (written_of c.in_ok-tag.tag)) _ (inl (_, tag, refl))
+    subst (AllProperties cs handles c.args.least (context_of c.args.context) _ _) (sym c.in_ok-hold-2.ensures.ok) (all_one cs handles c.args.least (context_of c.args.context) _ _ (place_of s c.in_ok-next.next) (tag_props (written_of c.in_ok-tag.tag)) _ (inl (_, tag, refl))
     (λ h. subst HasTag (ap Props.tag h) (tag_is cs handles _ _ _ tag)) c.in_ok-next.ensures.to
     (elim c.if-next-end.branch [
       | then-next-end+in_default w ↦ inr (tag_alike cs _ _ c.requires.sign w.in_default.ensures.none)
       | else-next-end w ↦ inl (let e : c.in_ok-next.next ≡ c.in_ok-tag.end = omega (arith, w.if-next-end.false, c.in_ok-next.ensures.onward) in ap (place_of s) e)
-    ])
+    ]))

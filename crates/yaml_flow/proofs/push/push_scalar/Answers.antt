@@ -11,4 +11,4 @@ use Rattle.yaml_flow.proofs.push.push_scalar.Goals as goal
 pub returns-clause-ok : goal.returns-clause-ok
 returns-clause-ok g c =
     let is = ap (scalar_event None untagged (style_of c.args.style)) (sym (encodes-chars (cow_str_bytes c.args.text) (subst IsUtf8 c.as_str.ensures.value c.as_str.utf8))) in
-    subst (λ v. IfOk c.push.result (λ _. Puts (holds_of g.K.Keeper.holds) c.args.out.now (v ∷ []) c.push.new.self)) is c.push.ensures.ok
+    subst (λ v. IfOk c.scalar.result (λ _. Puts (holds_of g.K.Keeper.holds) c.args.out.now (v ∷ []) c.scalar.new.self)) is c.scalar.ensures.ok

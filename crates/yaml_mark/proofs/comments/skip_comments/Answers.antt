@@ -8,22 +8,22 @@ use Rattle.yaml_mark.proofs.comments.skip_comments.Goals as goal
 
 pub returns-then-starts_line-clause-line : goal.returns-then-starts_line-clause-line
 returns-then-starts_line-clause-line c =
-    lines_after (text_of c.args.source.now) (inl (on_true_at c.starts_line.result c.if-starts_line.true c.starts_line.ensures.yes)) c.skip_comments.ensures.lines
+    lines_after (text_of c.args.source.now) (inl (on_true_at c.starts_line.result c.if-starts_line.true c.starts_line.ensures.yes)) c.skip_comment_lines.ensures.lines
 
 pub returns-then-starts_line-clause-some : goal.returns-then-starts_line-clause-some
 unfolding calls.skip_comments
 returns-then-starts_line-clause-some c =
     let cs = text_of c.args.source.now in
     let s = on_true_at c.starts_line.result c.if-starts_line.true c.starts_line.ensures.yes in
-    let e = c.skip_comments.ensures in
+    let e = c.skip_comment_lines.ensures in
     (line_comments cs _ _ s e.lines, line_furthest cs _ _ s e.lines e.furthest)
 
 pub returns-then-is_cut-clause-none : goal.returns-then-is_cut-clause-none
 returns-then-is_cut-clause-none c =
     cut_no_comments (text_of c.args.source.now) _ (on_true_at c.is_cut.result c.if-is_cut.true c.is_cut.ensures.yes) (on_true_at c.is_cut.result c.if-is_cut.true c.is_cut.ensures.feed)
 
-pub skip_comments-requires-in-Some-skip_blank-clause-after : goal.skip_comments-requires-in-Some-skip_blank-clause-after
-skip_comments-requires-in-Some-skip_blank-clause-after c = blank_after (text_of c.args.source.now) _ _ c.in-Some-skip_blank.ensures.some
+pub skip_comment_lines-requires-in-Some-skip_blank-clause-after : goal.skip_comment_lines-requires-in-Some-skip_blank-clause-after
+skip_comment_lines-requires-in-Some-skip_blank-clause-after c = blank_after (text_of c.args.source.now) _ _ c.in-Some-skip_blank.ensures.some
 
 pub returns-in-Some-clause-none : goal.returns-in-Some-clause-none
 returns-in-Some-clause-none c =
@@ -36,7 +36,7 @@ returns-in-None-skip_blank-clause-none c =
 pub returns-in-Some-skip_blank-clause-line : goal.returns-in-Some-skip_blank-clause-line
 returns-in-Some-skip_blank-clause-line c =
     let cs = text_of c.args.source.now in
-    lines_after cs (blank_after cs _ _ c.in-Some-skip_blank.ensures.some) c.skip_comments-in-Some-skip_blank.ensures.lines
+    lines_after cs (blank_after cs _ _ c.in-Some-skip_blank.ensures.some) c.skip_comment_lines-in-Some-skip_blank.ensures.lines
 
 pub returns-in-Some-skip_blank-clause-some : goal.returns-in-Some-skip_blank-clause-some
 unfolding calls.skip_comments
@@ -44,5 +44,5 @@ returns-in-Some-skip_blank-clause-some c =
     let cs = text_of c.args.source.now in
     let out = on_false_at c.starts_line.result c.if-starts_line.false c.starts_line.ensures.no in
     let b = c.in-Some-skip_blank.ensures.some in
-    let e = c.skip_comments-in-Some-skip_blank.ensures in
+    let e = c.skip_comment_lines-in-Some-skip_blank.ensures in
     (rest_comments cs _ _ _ b c.in-None.ensures.none e.lines, rest_furthest cs _ _ _ out b e.lines e.furthest)

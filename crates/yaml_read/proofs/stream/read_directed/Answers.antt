@@ -6,8 +6,8 @@ use Rattle.yaml_flow.proofs.AnswerLemmas.{appends_err}
 use Rattle.yaml_mark.specs.HandlesModel.{bindings_of}
 use Rattle.yaml_read.proofs.StreamLemmas.{directed, directives_refusal}
 use Rattle.std.proofs.Common.{inr}
-use Rattle.law_going_on.specs.Decisions.{Here}
-use Rattle.law_going_on.proofs.Decisions.{rest_goes, rest_refused}
+use Rattle.law_going_on.specs.GoingOn.{Here}
+use Rattle.law_going_on.proofs.GoingOn.{rest_goes, rest_refused}
 use Rattle.yaml_read.specs.Decided.{DocumentEnd}
 use Rattle.yaml_read.proofs.DecidedLemmas.{decides_err, directed_fault, directed_unmarked, directed_rest}
 use Rattle.yaml_read.proofs.LeftLemmas.{either}

@@ -1,4 +1,4 @@
-use Rattle.law_going_on.specs.Decisions.{Here}
+use Rattle.law_going_on.specs.GoingOn.{Here}
 use Rattle.std.proofs.Common.{true}
 use Rattle.yaml_definitions.specs.model.Limits.{open_limit}
 use Rattle.yaml_definitions.specs.model.Event.{document_start}

@@ -3,7 +3,7 @@ use Rattle.yaml_definitions.specs.grammar.Rules.{◌∪◌}
 use Rattle.yaml_flow.specs.SinkModel.{holds_of}
 use Rattle.yaml_flow.proofs.AnswerLemmas.{appends_by}
 use Rattle.yaml_read.specs.StreamRules.{opened_bare, opened_by_directives}
-use Rattle.law_going_on.specs.Decisions.{Here}
+use Rattle.law_going_on.specs.GoingOn.{Here}
 use Rattle.yaml_text.specs.Source.{text_of, place_of}
 use Rattle.yaml_read.proofs.DecidedLemmas.{decides_rest, first_directed, first_bare}
 use Rattle.yaml_read.proofs.stream.read_first.Goals as goal

@@ -1,11 +1,11 @@
-use Rattle.law_going_on.specs.Decisions.{Here}
+use Rattle.law_going_on.specs.GoingOn.{Here}
 use Rattle.std.proofs.Common.{false, [], ◌∷◌}
 use Rattle.yaml_definitions.specs.model.Limits.{open_limit}
 use Rattle.yaml_definitions.specs.model.Event.{document_start}
 use Rattle.yaml_text.specs.Source.{text_of, place_of}
 use Rattle.yaml_definitions.specs.grammar.Streams.{l-bare-document as bare_document}
 use Rattle.yaml_read.proofs.StreamLemmas.{appends_after}
-use Rattle.law_going_on.proofs.Decisions.{rest_seen}
+use Rattle.law_going_on.proofs.GoingOn.{rest_seen}
 use Rattle.yaml_read.specs.Decided.{DocumentEnd}
 use Rattle.yaml_read.proofs.DecidedLemmas.{decides_rest}
 use Rattle.yaml_read.proofs.stream.read_unmarked.Goals as goal

@@ -6,8 +6,8 @@ use Rattle.std.specs.Cow.{cow_str_bytes}
 use Rattle.std.proofs.lemmas.Str.{IsUtf8-string_bytes}
 use Rattle.yaml_text.specs.Source.{text_of, place_of}
 use Rattle.yaml_definitions.specs.grammar.BlockScalars.{indentation}
-use Rattle.yaml_text.specs.Answer.{Unread}
-use Rattle.yaml_text.specs.Answer.{FurthestAlone}
+use Rattle.yaml_text.specs.LeafAnswer.{Unread}
+use Rattle.yaml_text.specs.LeafAnswer.{FurthestAlone}
 use Rattle.yaml_scalar.specs.BlockModel.{column, styled, header_of}
 use Rattle.yaml_scalar.proofs.OutcomeLemmas.{answers_err, refuses_unread, refuses_weaker}
 use Rattle.yaml_scalar.proofs.BlockLemmas.{block_is, no_mark, no_head, no_indent, sign_inside}

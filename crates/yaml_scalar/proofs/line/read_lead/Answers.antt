@@ -2,7 +2,7 @@ use Rattle.std.proofs.Common.{◌<◌, arith, sym, subst, inl, inr}
 use Rattle.yaml_definitions.specs.grammar.Rules.{◌⊔◌, any}
 use Rattle.yaml_text.specs.Source.{text_of, place_of}
 use Rattle.yaml_scalar.specs.Chains.{margin}
-use Rattle.yaml_text.specs.Lines.{LooksLikeMarker as Dashes}
+use Rattle.yaml_text.specs.Lines.{LooksLikeMarker}
 use Rattle.yaml_definitions.specs.grammar.Separation.{s-indent-less-than as less, DocumentMark}
 use Rattle.yaml_scalar.proofs.AnyLemmas.{any_none, any_snoc}
 use Rattle.yaml_scalar.proofs.OutcomeLemmas.{replicate_snoc}
@@ -69,7 +69,7 @@ returns-in-Some-next-clause-unmarked c =
     elim c.else-after-line.branch [
       | else-after-line-via-then-after-line+else-is_mark w ↦
           λ m. on_false_at w.is_mark.result w.if-is_mark.false w.is_mark.ensures.no
-          (subst (λ x. Dashes cs (place_of c.args.source.now x)) w.if-after-line.true (mark_dashes cs _ m))
+          (subst (λ x. LooksLikeMarker cs (place_of c.args.source.now x)) w.if-after-line.true (mark_dashes cs _ m))
       | else-after-line-via-else-after-line w ↦
           (let further : c.lines.line < c.read_margin-after.result.0 = omega (arith, w.if-after-line.false, c.read_margin-after.ensures.onward) in
           λ m. after_white cs _ _ (margin_white cs _ _ _ s.0)

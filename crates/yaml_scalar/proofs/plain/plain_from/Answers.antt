@@ -3,7 +3,7 @@ use Rattle.std.specs.Prelude.{slice_range}
 use Rattle.std.specs.Str.{chars}
 use Rattle.std.proofs.lemmas.Str.{chars-nil}
 use Rattle.std.proofs.lemmas.Str.{IsUtf8-string_bytes}
-use Rattle.yaml_text.specs.Answer.{Furthest}
+use Rattle.yaml_text.specs.LeafAnswer.{Furthest}
 use Rattle.yaml_text.specs.EventModel.{context_of}
 use Rattle.yaml_text.specs.Source.{text_of, place_of}
 use Rattle.yaml_definitions.specs.grammar.FlowScalars.{ns-plain as plain}

@@ -7,8 +7,8 @@ pub returns-then-count-indent-clause-lines : goal.returns-then-count-indent-clau
 returns-then-count-indent-clause-lines c =
     full_indent (text_of c.args.source.now) _ _ _ _ c.if-count-indent.true c.read_spaces-count.ensures.spaces
 
-pub skip_comments-requires : goal.skip_comments-requires
-skip_comments-requires c =
+pub skip_comment_lines-requires : goal.skip_comment_lines-requires
+skip_comment_lines-requires c =
     record { border = c.in-Some.ensures.border; after = comment_after (text_of c.args.source.now) _ _ c.in-Some.ensures.some }
 
 pub returns-in-None-clause-lines : goal.returns-in-None-clause-lines
@@ -20,4 +20,4 @@ pub returns-in-Some-clause-lines : goal.returns-in-Some-clause-lines
 returns-in-Some-clause-lines c =
     let s = c.read_spaces-count.ensures in
     let less : c.read_spaces-count.result.0 < c.args.indent = omega (arith, s.within, c.if-count-indent.false) in
-    comments_end (text_of c.args.source.now) _ _ _ _ _ _ s.spaces less c.in-Some.ensures.some c.skip_comments.ensures.lines c.skip_comments.ensures.furthest
+    comments_end (text_of c.args.source.now) _ _ _ _ _ _ s.spaces less c.in-Some.ensures.some c.skip_comment_lines.ensures.lines c.skip_comment_lines.ensures.furthest

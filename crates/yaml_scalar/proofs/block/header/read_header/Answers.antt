@@ -14,7 +14,7 @@ pub returns-in-Some-clause-none : goal.returns-in-Some-clause-none
 returns-in-Some-clause-none c =
     let cs = text_of c.args.source.now in
     let n = c.read_indicators-end.ensures in
-    refuses_unread c.unusable.result c.unusable.ensures.unread
+    refuses_unread c.header_fault.result c.header_fault.ensures.unread
     (no_header cs _ _ n.only (hash_no_rest cs _ (indicators_inside cs _ _ _ n.indicators c.requires.inside) c.in-Some.ensures.some.is))
 
 pub returns-in-Some-skip_blank-clause-after : goal.returns-in-Some-skip_blank-clause-after
@@ -28,5 +28,5 @@ returns-in-Some-skip_blank-clause-header c =
 pub returns-in-None-skip_blank-clause-none : goal.returns-in-None-skip_blank-clause-none
 returns-in-None-skip_blank-clause-none c =
     let cs = text_of c.args.source.now in
-    refuses_unread c.unusable-in-None-skip_blank.result c.unusable-in-None-skip_blank.ensures.unread
+    refuses_unread c.header_fault-in-None-skip_blank.result c.header_fault-in-None-skip_blank.ensures.unread
     (no_header cs _ _ c.read_indicators-end.ensures.only (λ j r. c.in-None-skip_blank.ensures.none j (from_s_b cs _ j r)))

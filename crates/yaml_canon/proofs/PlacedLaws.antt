@@ -1,0 +1,138 @@
+-- From the places that a reader tells to places of the bytes.
+use Rattle.std.proofs.Common.{◌≡◌, ◌+◌, ℕ, List, drop, ◌∙◌, ap, subst}
+use Rattle.std.specs.Prelude.{Result, Ok, Err, Option, Some, None, IfErr, MatchResult, slice_get}
+use Rattle.std.specs.Str.{chars, IsCharBoundary}
+use Rattle.yaml_definitions.specs.model.Limits.{text_limit}
+use Rattle.yaml_definitions.specs.model.Serial.{Document}
+use Rattle.yaml_definitions.specs.model.Text.{mark_len}
+use Rattle.yaml_definitions.specs.model.Tree.{Tree}
+use Rattle.yaml_text.specs.Place.{place}
+use Rattle.yaml_text.specs.Placed.{IsPlaced, IsOffset, IsOffsetOf}
+use Rattle.yaml_text.specs.Refused.{RefusesText}
+use Rattle.yaml_text.specs.Source.{bytes_of, mark_of}
+use Rattle.yaml_text.specs.declared.chars.Chars.{Chars}
+use Rattle.yaml_text.specs.declared.counted.Counted.{Counted}
+use Rattle.yaml_text.specs.declared.fault.Fault.{Fault}
+use Rattle.yaml_text.specs.declared.fault.Fault.TheVariants as faults
+use Rattle.yaml_graph.specs.Composed.{Composed, RefusesStream}
+use Rattle.yaml_graph.specs.declared.graph.Graph.{Graph}
+use Rattle.yaml_rank.specs.RanksView.{RefusesGraph}
+use Rattle.yaml_canon.specs.Comparing.{RefusesDocuments}
+use Rattle.yaml_canon.specs.Documents.{RefusesLength}
+use Rattle.yaml_canon.specs.Gathering.{Gathers, GatherFails}
+use Rattle.yaml_canon.specs.FaultPlaces.{IsPlaceIn, TellsPlace, TellsSidesPlace, TellsReadPlace}
+use Rattle.yaml_canon.specs.declared.side.Side.{Side}
+use Rattle.yaml_canon.specs.declared.side.Side.TheVariants.{Left, Right}
+
+-- ---- the reader's places
+
+module _ (bytes : List ℕ) (source : Chars) (e : bytes_of source ≡ drop (mark_len bytes) bytes) (m : mark_of source ≡ mark_len bytes) where
+  offset_in : (at : ℕ) → IsOffset source at → IsPlaceIn bytes (at, None)
+  offset_in at (border, is_border, offset) = record {
+    border = border;
+    is_border = subst (λ z. IsCharBoundary z border) e is_border;
+    offset = offset ∙ ap (λ n. n + border) m;
+    stands = tt;
+  }
+
+  offset_of_in : (c at : ℕ) → IsOffsetOf source c at → IsPlaceIn bytes (at, Some c)
+  offset_of_in c at (border, is_border, stands, offset) = record {
+    border = border;
+    is_border = subst (λ z. IsCharBoundary z border) e is_border;
+    offset = offset ∙ ap (λ n. n + border) m;
+    stands = subst (λ z. slice_get (chars z) (place z border) ≡ Some c) e stands;
+  }
+
+  pub placed_in : (fault : Fault) → IsPlaced source fault → TellsPlace bytes fault
+  placed_in (faults.Syntax at) h = offset_in at h
+  placed_in (faults.Tab at) h = offset_of_in 9 at h
+  placed_in (faults.KeyTooLong at) h = offset_in at h
+  placed_in (faults.TooDeep at) h = offset_in at h
+  placed_in (faults.BadEscape at) h = offset_of_in 92 at h
+  placed_in (faults.BadDirective at) h = offset_of_in 37 at h
+  placed_in (faults.UnknownHandle at) h = offset_of_in 33 at h
+  placed_in (faults.BadTag at) h = offset_of_in 33 at h
+  placed_in _ h = tt
+
+-- ---- the faults that are none of the reader's
+
+pub text_elsewhere : (bytes : List ℕ) (fault : Fault) → RefusesText bytes fault → TellsPlace bytes fault
+text_elsewhere bytes faults.TooLong h = tt
+text_elsewhere bytes (faults.NotUtf8 at) h = tt
+text_elsewhere bytes (faults.NotPrintable at) h = tt
+text_elsewhere bytes _ h = absurd h
+
+pub stream_elsewhere : (bytes : List ℕ) (ds : List Document) (fault : Fault) → RefusesStream ds fault → TellsPlace bytes fault
+stream_elsewhere bytes ds (faults.UndefinedAlias e) h = tt
+stream_elsewhere bytes ds (faults.CyclicAlias e) h = tt
+stream_elsewhere bytes ds (faults.WrongKind e) h = tt
+stream_elsewhere bytes ds (faults.BadContent e) h = tt
+stream_elsewhere bytes ds (faults.IntRange e) h = tt
+stream_elsewhere bytes ds (faults.FloatRange e) h = tt
+stream_elsewhere bytes ds (faults.TooHigh e) h = tt
+stream_elsewhere bytes ds faults.OutOfMemory h = tt
+stream_elsewhere bytes ds _ h = absurd h
+
+pub graph_elsewhere : (bytes : List ℕ) (g : Graph) (fault : Fault) → RefusesGraph g fault → TellsPlace bytes fault
+graph_elsewhere bytes g (faults.EqualKeys n i j) h = tt
+graph_elsewhere bytes g faults.OutOfMemory h = tt
+graph_elsewhere bytes g _ h = absurd h
+
+pub length_elsewhere : (bytes : List ℕ) (f : List Tree) (fault : Fault) → RefusesLength f fault → TellsPlace bytes fault
+length_elsewhere bytes f faults.TextTooLong h = tt
+length_elsewhere bytes f faults.OutOfMemory h = tt
+length_elsewhere bytes f _ h = absurd h
+
+pub write_elsewhere : (bytes : List ℕ) (fault : Fault) → fault ≡ faults.WriteFault → TellsPlace bytes fault
+write_elsewhere bytes faults.WriteFault h = tt
+write_elsewhere bytes _ h = absurd (cc)
+
+-- what composing answers
+pub composed_elsewhere : (bytes : List ℕ) (ds : List Document) (r : Result Graph Fault) → MatchResult r (Composed ds) (RefusesStream ds) → IfErr r (TellsPlace bytes)
+composed_elsewhere bytes ds (Ok g) h = tt
+composed_elsewhere bytes ds (Err fault) h = stream_elsewhere bytes ds fault h
+
+-- ---- sides, and what a reader gave
+
+pub of_answer : {T : Type 0} (bytes : List ℕ) (r : Result T Fault) (fault : Fault) → r ≡ Err fault → IfErr r (TellsPlace bytes) → TellsPlace bytes fault
+of_answer bytes r fault e h = subst (λ z. IfErr z (TellsPlace bytes)) e h
+
+pub documents_elsewhere : (left right : List ℕ) (ds es : List Document) (side : Side) (fault : Fault) → RefusesDocuments ds es side fault → TellsSidesPlace left right side fault
+documents_elsewhere left right ds es Left (faults.EqualKeys n i j) h = tt
+documents_elsewhere left right ds es Left (faults.UndefinedAlias e) h = tt
+documents_elsewhere left right ds es Left (faults.CyclicAlias e) h = tt
+documents_elsewhere left right ds es Left (faults.WrongKind e) h = tt
+documents_elsewhere left right ds es Left (faults.BadContent e) h = tt
+documents_elsewhere left right ds es Left (faults.IntRange e) h = tt
+documents_elsewhere left right ds es Left (faults.FloatRange e) h = tt
+documents_elsewhere left right ds es Left (faults.TooHigh e) h = tt
+documents_elsewhere left right ds es Left faults.OutOfMemory h = tt
+documents_elsewhere left right ds es Left _ h = absurd h
+documents_elsewhere left right ds es Right (faults.EqualKeys n i j) h = tt
+documents_elsewhere left right ds es Right (faults.UndefinedAlias e) h = tt
+documents_elsewhere left right ds es Right (faults.CyclicAlias e) h = tt
+documents_elsewhere left right ds es Right (faults.WrongKind e) h = tt
+documents_elsewhere left right ds es Right (faults.BadContent e) h = tt
+documents_elsewhere left right ds es Right (faults.IntRange e) h = tt
+documents_elsewhere left right ds es Right (faults.FloatRange e) h = tt
+documents_elsewhere left right ds es Right (faults.TooHigh e) h = tt
+documents_elsewhere left right ds es Right faults.OutOfMemory h = tt
+documents_elsewhere left right ds es Right _ h = absurd h
+
+module _ {R : Type 0} (remaining : R → Option (List ℕ)) (input end : Counted R) where
+  pub gather_elsewhere : (fault : Fault) → GatherFails remaining input end text_limit fault → TellsReadPlace remaining input end fault
+  gather_elsewhere faults.TooLong h = tt
+  gather_elsewhere faults.OutOfMemory h = tt
+  gather_elsewhere faults.ReadFault h = tt
+  gather_elsewhere _ h = absurd h
+
+  pub read_place : (bytes : List ℕ) (fault : Fault) → Gathers remaining input end text_limit bytes → TellsPlace bytes fault → TellsReadPlace remaining input end fault
+  read_place bytes (faults.Syntax at) g h = (bytes, g, h)
+  read_place bytes (faults.Tab at) g h = (bytes, g, h)
+  read_place bytes (faults.KeyTooLong at) g h = (bytes, g, h)
+  read_place bytes (faults.TooDeep at) g h = (bytes, g, h)
+  read_place bytes (faults.BadEscape at) g h = (bytes, g, h)
+  read_place bytes (faults.BadDirective at) g h = (bytes, g, h)
+  read_place bytes (faults.UnknownHandle at) g h = (bytes, g, h)
+  read_place bytes (faults.BadTag at) g h = (bytes, g, h)
+  read_place bytes _ g h = tt

@@ -1,0 +1,61 @@
+//! The canonical text of a stream.
+ghost use Rattle.std.specs.Prelude.{◌≡◌, ◌≤◌, ℕ, List, length, IfOk, IfErr, MatchResult};
+ghost use Rattle.std.specs.Result.{IsErrAnd};
+ghost use Rattle.std.specs.String.{string_bytes};
+ghost use Rattle.yaml_definitions.specs.model.Text.{Text};
+ghost use Rattle.yaml_text.specs.Refused.{RefusesText};
+ghost use Rattle.yaml_definitions.specs.model.Limits.{text_limit};
+ghost use Rattle.yaml_definitions.specs.model.Tree.{Tree};
+ghost use Rattle.yaml_definitions.specs.canonical.Spell.{spell_bytes};
+ghost use Rattle.yaml_definitions.specs.model.Proper.{Admitted};
+ghost use Rattle.yaml_definitions.specs.model.Means.{Means};
+ghost use Rattle.yaml_graph.specs.GraphView.{forest};
+ghost use Rattle.yaml_rank.specs.RanksView.{RanksAre};
+ghost use Rattle.yaml_canon.specs.Documents.{RefusesLength};
+ghost use Rattle.yaml_canon.specs.Claims.{IsCanonicalText, CanonicalRefuses};
+ghost use Rattle.yaml_canon.specs.FaultPlaces.{TellsPlace};
+ghost use Rattle.yaml_canon.specs.Accepting.{IsSpelling, IsMemory};
+
+use crate::graph_of::graph_of;
+use crate::names::Names;
+use crate::spell::{canonical_len, write_documents};
+use crate::whole::Whole;
+use std::alloc::Global;
+use yaml_graph::graph::Graph;
+use yaml_rank::rank;
+use yaml_rank::ranks::Ranks;
+use yaml_text::fault::Fault;
+
+/// The canonical text of a graph's documents, for which room is taken once.
+fn spelled(alloc: Global, graph: &Graph<'_>, ranks: &Ranks) -> Result<String, Fault>
+    requires { RanksAre graph.now ranks.now }
+    ensures ok { IfOk result (λ text. string_bytes text ≡ spell_bytes (forest graph.now)) }
+    ensures fits { IfOk result (λ text. length (string_bytes text) ≤ text_limit) }
+    ensures err { IfErr result (RefusesLength (forest graph.now)) }
+{
+    let len = canonical_len(alloc, graph, ranks)?;
+    let mut names = Names::new(alloc, graph.len())?;
+    let mut text = String::with_capacity(alloc, len)?;
+    write_documents(graph, ranks, &mut names, &mut Whole, &mut text)?;
+    Ok(text)
+}
+
+/// The canonical text of the stream that these bytes are.
+///
+/// Refused are bytes that are no text (1 to 3), a text that is no stream of the profile (4 to 11),
+/// the first event with an alias or a tag that stands for nothing (12 to 17), a document that is too
+/// high (18), two equal keys of a mapping (19), a text that would be too long (20), and want of
+/// memory (21). Nothing else is: each stream that means an admitted forest is given its text, the
+/// canonical text itself and the block spelling among them, or memory is refused.
+pub fn canonical(alloc: Global, bytes: &[u8]) -> Result<String, Fault>
+    ensures text { IfOk result (λ text. IsCanonicalText bytes.now (string_bytes text)) }
+    ensures refused { IfErr result (CanonicalRefuses bytes.now) }
+    ensures no_text { ((cs : List ℕ) → Text bytes.now cs → ⊥) → IsErrAnd result (RefusesText bytes.now) }
+    ensures accepts { (f : List Tree) → Admitted f → Means bytes.now f → MatchResult result (λ text. string_bytes text ≡ spell_bytes f) IsMemory }
+    ensures spelling { (f : List Tree) → Admitted f → IsSpelling bytes.now f → MatchResult result (λ text. string_bytes text ≡ spell_bytes f) IsMemory }
+    ensures placed { IfErr result (TellsPlace bytes.now) }
+{
+    let graph = graph_of(alloc, bytes)?;
+    let ranks = rank(alloc, &graph)?;
+    spelled(alloc, &graph, &ranks)
+}

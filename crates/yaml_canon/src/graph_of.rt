@@ -1,0 +1,31 @@
+//! The graph of a stream's bytes.
+ghost use Rattle.std.specs.Prelude.{ℕ, List, IfOk, IfErr};
+ghost use Rattle.std.specs.Result.{IsErrAnd};
+ghost use Rattle.yaml_definitions.specs.model.Text.{Text};
+ghost use Rattle.yaml_text.specs.Refused.{RefusesText};
+ghost use Rattle.yaml_canon.specs.Claims.{HasGraph, GraphRefuses};
+ghost use Rattle.yaml_canon.specs.FaultPlaces.{TellsPlace};
+
+use std::alloc::Global;
+use yaml_graph::compose_owned;
+use yaml_graph::graph::Graph;
+use yaml_read::read_events;
+use yaml_text::chars::Chars;
+use yaml_text::fault::Fault;
+
+/// The graph of the stream that these bytes are, which takes the texts of its events. What it does not
+/// have of its own the bytes lend.
+///
+/// Refused are bytes that are no text (1 to 3), a text that is no stream of the profile (4 to 11),
+/// the first event with an alias or a tag that stands for nothing (12 to 17), a document that is too
+/// high (18), and want of memory (21).
+pub(crate) fn graph_of<'a>(alloc: Global, bytes: &'a [u8]) -> Result<Graph<'a>, Fault>
+    ensures graph { IfOk result (HasGraph bytes.now) }
+    ensures refused { IfErr result (GraphRefuses bytes.now) }
+    ensures no_text { ((cs : List ℕ) → Text bytes.now cs → ⊥) → IsErrAnd result (RefusesText bytes.now) }
+    ensures placed { IfErr result (TellsPlace bytes.now) }
+{
+    let source = Chars::read(bytes)?;
+    let events = read_events(alloc, &source)?;
+    compose_owned(alloc, events)
+}

@@ -1,0 +1,25 @@
+//! The tags of the core schema (YAML 1.2.2, 10.1 to 10.3), decoded.
+
+/// What each of them begins with, and what `!!` stands for (6.8.2.1).
+pub const PREFIX: &str = "tag:yaml.org,2002:";
+
+/// The tag of null (10.2.1.1).
+pub const NULL: &str = "tag:yaml.org,2002:null";
+
+/// The tag of Booleans (10.2.1.2).
+pub const BOOL: &str = "tag:yaml.org,2002:bool";
+
+/// The tag of integers (10.2.1.3).
+pub const INT: &str = "tag:yaml.org,2002:int";
+
+/// The tag of floating point numbers (10.2.1.4).
+pub const FLOAT: &str = "tag:yaml.org,2002:float";
+
+/// The tag of strings (10.1.1.3).
+pub const STR: &str = "tag:yaml.org,2002:str";
+
+/// The tag of sequences (10.1.1.2).
+pub const SEQ: &str = "tag:yaml.org,2002:seq";
+
+/// The tag of mappings (10.1.1.1).
+pub const MAP: &str = "tag:yaml.org,2002:map";
