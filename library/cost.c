@@ -1,5 +1,6 @@
 /* What one call costs, and what a process holds at most:
- *     cost FILE CAP          one call of yamlcanon_canonical on the file, into a room of so many bytes, whose text it writes
+ *     cost FILE CAP CALL     one call of yamlcanon_canonical or yamlcanon_events (CALL: canonical, events) on the file, into a room of
+ *                            so many bytes, whose text it writes
  *     cost -- PROGRAM WORD.. the program, its memory at most being told
  * Says on standard error the most bytes that the call held, and the most memory that the process had, in kB (0: not told).
  */
@@ -22,7 +23,7 @@ static long most_of_own(void)
     return most;
 }
 
-static int one_call(const char *name, size_t cap)
+static int one_call(const char *name, size_t cap, const char *call)
 {
     FILE *file = fopen(name, "rb");
     if (!file || fseek(file, 0, SEEK_END)) return 3;
@@ -32,7 +33,8 @@ static int one_call(const char *name, size_t cap)
     rewind(file);
     if (!input || !room || fread(input, 1, n, file) != n) return 3;
     fclose(file);
-    uint32_t status = yamlcanon_canonical(input, n, room, cap, &len, &fault);
+    uint32_t status = strcmp(call, "events") ? yamlcanon_canonical(input, n, room, cap, &len, &fault)
+                                              : yamlcanon_events(input, n, room, cap, &len, &fault);
     if (status == YAMLCANON_DONE) fwrite(room, 1, len, stdout);
     fprintf(stderr, "%zu %ld\n", yamlcanon_peak(), most_of_own());
     free(input);
@@ -59,5 +61,5 @@ static int of_program(char **words)
 int main(int n, char **words)
 {
     if (n >= 3 && !strcmp(words[1], "--")) return of_program(words + 2);
-    return n == 3 ? one_call(words[1], strtoull(words[2], NULL, 10)) : 3;
+    return n == 4 ? one_call(words[1], strtoull(words[2], NULL, 10), words[3]) : 3;
 }

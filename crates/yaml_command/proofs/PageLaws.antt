@@ -79,10 +79,3 @@ module _ {W : Type 0} (contents : W → Option (List ℕ)) where
         a ∙ ap (λ z. (z ++ line) ++ more) h.is ∙ ap (λ z. z ++ more) (append_assoc h.front (string_bytes p) line ∙ ap (λ z. h.front ++ z) (sym e)) ∙ append_assoc h.front (string_bytes q) more in
         let b = begins o u v h.front (string_bytes q) more all k.count h.sent k.took f in
         subst (PrintFails contents o v all) (sym k.is) (record { count = b.0; took = b.1; counted = k.counted ∙ one_higher (faults_of o) (faults_of u) few h.sent.counted })
-
--- the room that each line has
-module _ {X : Type 0} (f : X → Event) (xs : List X) (i : ℕ) (d : X) where
-  pub room_at : (room : ℕ) → i < length xs → d ≡ get_or xs i d → All (λ e. 4096 + length (event_line e ++ (10 ∷ [])) ≤ room) (map f xs) → 4096 + length (event_line (f d) ++ (10 ∷ [])) ≤ room
-  room_at room h e a =
-      let k : i < length (map f xs) = omega (arith, length-map xs f) in
-      subst (λ z. 4096 + length (event_line z ++ (10 ∷ [])) ≤ room) (get_or-map f xs i d (f d) h ∙ ap f (sym e)) (All-get_or (λ z. 4096 + length (event_line z ++ (10 ∷ [])) ≤ room) (map f xs) i (f d) k a)

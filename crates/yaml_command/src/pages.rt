@@ -11,27 +11,10 @@ ghost use Rattle.yaml_command.specs.Printing.{PrintFails};
 use crate::streams::{write_out, write_whole};
 use std::alloc::Global;
 use std::io::Write;
-use yaml_events::{longest_line, push_line};
+use yaml_events::{PAGE, page_for, push_line};
 use yaml_text::counted::Counted;
 use yaml_text::event::Event;
 use yaml_text::fault::Fault;
-
-/// A page that has as many bytes or more is written.
-const PAGE: usize = 4096;
-
-/// An empty page, which has room for any one of the events' lines behind what is not yet written.
-fn page_for(alloc: Global, events: &[Event<'_>]) -> Result<String, Fault>
-    ensures empty { IfOk result (λ page. string_bytes page ≡ []) }
-    ensures room { IfOk result (λ page. All (λ e. 4096 + length (event_line e ++ (10 ∷ [])) ≤ string_capacity page) (map event_of events.now)) }
-    ensures only { IfErr result (λ fault. fault ≡ Fault.OutOfMemory) }
-{
-    let most = longest_line(events)?;
-    let Some(room) = most.checked_add(PAGE) else {
-        return Err(Fault::OutOfMemory);
-    };
-    let page = String::with_capacity(alloc, room)?;
-    Ok(page)
-}
 
 /// Writes and empties the page if it is full.
 fn make_room<W: Write>(page: &mut String, out: &mut Counted<W>) -> Result<(), Fault>

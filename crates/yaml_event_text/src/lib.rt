@@ -12,7 +12,7 @@ ghost use Rattle.yaml_canon.specs.Rooms.{Places};
 ghost use Rattle.yaml_event_text.specs.EventTextAnswer.{IsEventText, IsUnread, PlacesEvents};
 
 use std::alloc::Global;
-use yaml_events::{fill_events, text_len, write_events};
+use yaml_events::{fill_by_pages, fill_events, surely_fits, text_len, write_events};
 use yaml_read::read_events;
 use yaml_text::chars::Chars;
 use yaml_text::event::Event;
@@ -30,11 +30,14 @@ pub fn event_text(alloc: Global, bytes: &[u8]) -> Result<String, Fault>
 }
 
 /// Puts the text of events at the start of the room, if that is long enough. The answer is the text's length.
-fn place(events: &[Event<'_>], room: &mut [u8]) -> Result<usize, Fault>
+fn place(alloc: Global, events: &[Event<'_>], room: &mut [u8]) -> Result<usize, Fault>
     ensures ok { IfOk result (Places (events_text (map event_of events.now)) room.old room.new) }
     ensures only { IfErr result (λ fault. fault ≡ Fault.OutOfMemory) }
     ensures kept { OnErr result (room.new ≡ room.old) }
 {
+    if surely_fits(events, room.len()) {
+        return fill_by_pages(alloc, events, room);
+    }
     let len = text_len(events)?;
     if len > room.len() {
         return Ok(len);
@@ -44,7 +47,8 @@ fn place(events: &[Event<'_>], room: &mut [u8]) -> Result<usize, Fault>
 }
 
 /// Puts the event text of an input's bytes at the start of the room, and answers the text's length in bytes. Where the room is
-/// too small nothing of it is changed; behind the text it is as it was. The text is held nowhere else.
+/// too small nothing of it is changed; behind the text it is as it was. The text is held nowhere else, but for a page of it where
+/// the room is long enough even if every byte of it were escaped: then the text is not measured before.
 ///
 /// Refused is what `event_text` refuses, and the room is then as it was.
 pub fn event_text_into(alloc: Global, bytes: &[u8], room: &mut [u8]) -> Result<usize, Fault>
@@ -55,5 +59,5 @@ pub fn event_text_into(alloc: Global, bytes: &[u8], room: &mut [u8]) -> Result<u
 {
     let chars = Chars::read(bytes)?;
     let events = read_events(alloc, &chars)?;
-    place(events.as_slice(), room)
+    place(alloc, events.as_slice(), room)
 }

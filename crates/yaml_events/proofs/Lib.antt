@@ -13,3 +13,4 @@ pub mod Lines
 pub mod FirstBad
 pub mod SameEvents
 pub mod Holding
+pub mod Pages

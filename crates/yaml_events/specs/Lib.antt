@@ -2,3 +2,4 @@ pub mod Lines
 pub mod Parts
 pub mod LineAnswer
 pub mod Rooms
+pub mod Overwriting

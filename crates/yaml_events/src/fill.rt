@@ -1,11 +1,14 @@
 //! A text in the room that a caller gives for it.
-ghost use Rattle.std.specs.Prelude.{◌≡◌, ◌≤◌, length, map, IsOk};
+ghost use Rattle.std.specs.Prelude.{◌≡◌, ◌<◌, ◌≤◌, ◌+◌, ◌∷◌, ◌++◌, [], length, map, All, IsOk, IfOk, IfErr, OnErr};
+ghost use Rattle.std.specs.String.{string_bytes, string_len, string_capacity};
 ghost use Rattle.yaml_text.specs.EventModel.{event_of};
-ghost use Rattle.yaml_definitions.specs.model.EventText.{events_text};
+ghost use Rattle.yaml_definitions.specs.model.EventText.{event_line, events_text};
+ghost use Rattle.yaml_events.specs.Overwriting.{Overwrites, Turns, Fills};
 
+use crate::page::{PAGE, page_for};
 use crate::sink::Sink;
-use crate::writer::put_line;
-use std::alloc::AllocError;
+use crate::writer::{push_line, put_line};
+use std::alloc::{AllocError, Global};
 use yaml_text::event::Event;
 use yaml_text::fault::Fault;
 
@@ -72,4 +75,59 @@ pub fn fill_events(events: &[Event<'_>], room: &mut [u8]) -> Result<(), Fault>
         put_line(event, &mut text)?;
     }
     Ok(())
+}
+
+/// Puts a page over the room, from this offset on.
+fn put_page(page: &str, room: &mut [u8], at: usize)
+    requires { at + length page.now ≤ length room.old }
+    ensures { Overwrites page.now at room.old room.new }
+{
+    room[at..at + page.len()].copy_from_slice(page.as_bytes());
+}
+
+/// Puts a full page over the room, from this offset on, and empties it. The answer is the offset behind what was put there.
+fn turn(page: &mut String, room: &mut [u8], at: usize) -> usize
+    requires { at + string_len page.old ≤ length room.old }
+    ensures turns { Turns (string_bytes page.old) (string_bytes page.new) at result room.old room.new }
+    ensures short { string_len page.new < 4096 }
+    ensures keeps { string_capacity page.new ≡ string_capacity page.old }
+{
+    if page.len() < PAGE {
+        return at;
+    }
+    let behind = at + page.len();
+    put_page(page.as_str(), room, at);
+    page.clear();
+    behind
+}
+
+/// Puts the text of events at the start of a room that is long enough, by way of an empty page with room for each line. It
+/// takes no memory, and is always done. The answer is the text's length.
+fn turn_pages(events: &[Event<'_>], page: &mut String, room: &mut [u8]) -> Result<usize, Fault>
+    requires empty { string_bytes page.old ≡ [] }
+    requires lines { All (λ e. 4096 + length (event_line e ++ (10 ∷ [])) ≤ string_capacity page.old) (map event_of events.now) }
+    requires long { length (events_text (map event_of events.now)) ≤ length room.old }
+    ensures done { IsOk result }
+    ensures fills { IfOk result (Fills (events_text (map event_of events.now)) room.old room.new) }
+{
+    let mut at = 0;
+    'lines: for event in events {
+        push_line(event, page)?;
+        at = turn(page, room, at);
+    }
+    put_page(page.as_str(), room, at);
+    Ok(at + page.len())
+}
+
+/// Puts the text of events at the start of a room that is long enough, and answers its length; behind it the room is as it was.
+/// A page is all the memory that is taken, before the first byte is put there: `OutOfMemory`, the only fault, leaves the room
+/// as it was.
+pub fn fill_by_pages(alloc: Global, events: &[Event<'_>], room: &mut [u8]) -> Result<usize, Fault>
+    requires { length (events_text (map event_of events.now)) ≤ length room.old }
+    ensures fills { IfOk result (Fills (events_text (map event_of events.now)) room.old room.new) }
+    ensures only { IfErr result (λ fault. fault ≡ Fault.OutOfMemory) }
+    ensures kept { OnErr result (room.new ≡ room.old) }
+{
+    let mut page = page_for(alloc, events)?;
+    turn_pages(events, &mut page, room)
 }

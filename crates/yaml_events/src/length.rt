@@ -1,9 +1,9 @@
 //! How long the lines of events can be.
-ghost use Rattle.std.specs.Prelude.{◌≡◌, ◌<◌, ◌≤◌, ◌+◌, ◌*◌, ◌++◌, ◌∷◌, [], length, map, All, IfOk, IfErr};
+ghost use Rattle.std.specs.Prelude.{◌≡◌, ◌<◌, ◌≤◌, ◌+◌, ◌*◌, ◌++◌, ◌∷◌, [], length, map, true, All, IfOk, IfErr};
 ghost use Rattle.std.specs.Option.{option_map};
 ghost use Rattle.std.specs.Cow.{cow_str_bytes};
 ghost use Rattle.yaml_text.specs.EventModel.{event_of, written_of};
-ghost use Rattle.yaml_definitions.specs.model.EventText.{event_line, anchor_part, tag_part};
+ghost use Rattle.yaml_definitions.specs.model.EventText.{event_line, events_text, anchor_part, tag_part};
 
 use std::borrow::CowStr;
 use yaml_text::event::{Event, EventTag};
@@ -69,4 +69,20 @@ pub fn longest_line(events: &[Event<'_>]) -> Result<usize, Fault>
         return Err(Fault::OutOfMemory);
     }
     Ok(most as usize)
+}
+
+/// Whether the text of events is not longer than this many bytes even where each byte of a tag takes three, and each of a
+/// value two. No text is looked at; a text that is shorter than that may fit where this says no.
+pub fn surely_fits(events: &[Event<'_>], room: usize) -> bool
+    ensures { result ≡ true → length (events_text (map event_of events.now)) ≤ room }
+{
+    let mut left = room;
+    'lines: for event in events {
+        let most = line_bound(event);
+        if most > left as u128 {
+            return false;
+        }
+        left -= most as usize;
+    }
+    true
 }

@@ -5,9 +5,10 @@ use Rattle.yaml_definitions.specs.model.EventText.{event_line, events_text}
 use Rattle.yaml_command.proofs.Answering.{if_refused}
 use Rattle.yaml_canon.specs.Writers.{Printed}
 use Rattle.yaml_events.proofs.LineText.{events_none, events_cut, line_more, all_lines}
+use Rattle.yaml_events.proofs.Pages.{room_at}
 use Rattle.yaml_command.specs.Pages.{PageHas}
 use Rattle.yaml_command.specs.Printing.{PrintFails}
-use Rattle.yaml_command.proofs.PageLaws.{has_none, has_more, printed_whole, fails_last, fails_before, room_at}
+use Rattle.yaml_command.proofs.PageLaws.{has_none, has_more, printed_whole, fails_last, fails_before}
 use Rattle.yaml_command.proofs.pages.write_pages.Goals as goal
 
 pub lines-init : goal.lines-init
