@@ -3,6 +3,7 @@
 
     python3 planted.py [--lanes N] [--suite PLACE] [--only WORD] [--out FILE]
     python3 planted.py --listed             whether each can still be put into its definition, as the gate asks
+    python3 planted.py --checked            whether the definitions still check with each in its place: else it is no definition
     python3 planted.py --table FILE         what a run wrote there, as the table of docs/DEFINITIONS.md
 
 The list is planted.list. What is asked, the cheapest first, until something tells:
@@ -12,9 +13,10 @@ The list is planted.list. What is asked, the cheapest first, until something tel
 - `rt check` of yaml_definitions, over what an earlier check kept: an example that is computed or derived, or a law;
 - `rt check` of the law crates that stand on yaml_definitions alone or nearly so (`law_length`, `law_read_back`, `yaml_core`).
 
-A line for each: the definition, right ⇒ wrong, and what told it. A planting with which the definitions themselves no longer
-check is no wrong definition and counts as bad. The unchanged definitions are tried first, and nothing may tell them. Needs
-`rt`; takes about half a minute of processor for each that no text tells.
+A line for each: the definition, right ⇒ wrong, and what told it. Before that all are put into copies without proofs, as many
+into one as are of different definitions: one with which the definitions themselves no longer check is no wrong definition, and
+nothing is tried. The unchanged definitions are tried first, and nothing may tell them. Needs `rt`; takes about half a minute of
+processor for each that no text tells.
 """
 import argparse
 import contextlib
@@ -59,7 +61,11 @@ class Planting:
         block = File(path, lines).by_name.get(self.name)
         if not block or block.text().count(self.right) != 1:
             return None
-        lines[block.place:block.place + len(block.lines)] = block.text().replace(self.right, self.wrong).split('\n')
+        end, count = block.place, 0
+        while count < len(block.lines):     # which leave out the empty lines between definitions that need each other
+            count += bool(lines[end].strip())
+            end += 1
+        lines[block.place:end] = '\n'.join(lines[block.place:end]).replace(self.right, self.wrong).split('\n')
         return '\n'.join(lines)
 
     def put(self, specs):
@@ -87,10 +93,10 @@ class Room:
                     shutil.copytree('%s/crates/%s/%s' % (TOP, name, part), '%s/crates/%s/%s' % (self.folder, name, part))
         self.specs = self.folder + '/crates/yaml_definitions/specs'
 
-    def plant(self, planting):
+    def plant(self, plantings):
         shutil.rmtree(self.specs)
         shutil.copytree(TOP + '/crates/yaml_definitions/specs', self.specs)
-        if planting:
+        for planting in plantings:
             planting.put(self.specs)
 
     def text(self, suite):
@@ -98,20 +104,26 @@ class Room:
         done = subprocess.run([sys.executable, HERE + '/planted_texts.py', *([suite] if suite else [])], capture_output=True, text=True,
                               env=dict(os.environ, SPECS=self.specs + '/grammar'), check=False)
         if done.returncode:
-            return 'text: the definitions no longer run: ' + done.stderr.strip().split('\n')[-1][:100]
+            sys.exit('planted: the definitions do not run: ' + done.stderr.strip().split('\n')[-1][:200])
         return ': '.join(done.stdout.strip().split('\t'))
+
+    def rt_check(self, crate):
+        """What `rt check` says of a crate that is not proved, or nothing."""
+        done = subprocess.run(['rt', 'check', '--jobs', '1'], cwd='%s/crates/%s' % (self.folder, crate), capture_output=True, text=True,
+                              errors='replace', stdin=subprocess.DEVNULL, check=False)
+        return done.stdout + done.stderr if done.returncode else ''
+
+    def wrong(self):
+        """What of the definitions themselves does not check, in a copy without proofs."""
+        shutil.rmtree(self.folder + '/crates/yaml_definitions/proofs', ignore_errors=True)
+        return re.findall(r'(?:\./)?(specs/\S+: error: .*)', self.rt_check('yaml_definitions'))
 
     def check(self, crate):
         """What of a crate is no longer proved, or nothing."""
-        done = subprocess.run(['rt', 'check', '--jobs', '1'], cwd='%s/crates/%s' % (self.folder, crate), capture_output=True, text=True,
-                              errors='replace', stdin=subprocess.DEVNULL, check=False)
-        said = done.stdout + done.stderr
-        if not done.returncode:
+        said = self.rt_check(crate)
+        if not said:
             return ''
         places = re.findall(r'(?:\./)?((?:\.\./\w+/)?(?:specs|proofs)/\S+?)\.antt:\d+:\d+: error: `?([\w\-+\']*)', said)
-        wrong = [place for place, _ in places if place.startswith('specs/')]
-        if wrong and crate == 'yaml_definitions':
-            return 'BAD: ' + wrong[0]
         functions = re.findall(r'^fn (\S+?): (?!proved)', said, re.M)
         told = [('example' if '/examples/' in place or 'Readings' in place else 'law') + ' %s, %s' % (place, name) for place, name in places]
         told.sort(key=lambda it: not it.startswith('example'))
@@ -119,7 +131,7 @@ class Room:
 
     def told(self, planting, suite):
         """What tells a planting, or nothing."""
-        self.plant(planting)
+        self.plant([planting] if planting else [])
         if planting is None or planting.file.startswith('grammar/') and not planting.file.endswith(UNSHADOWED):
             text = self.text(suite)
             if text:
@@ -154,6 +166,33 @@ def listed(plantings):
     return 1 if lost else 0
 
 
+def batches(plantings):
+    """The plantings in lists, those of one definition apart."""
+    lists = []
+    for it in plantings:
+        free = [batch for batch in lists if all((it.file, it.name) != (other.file, other.name) for other in batch)]
+        if not free:
+            lists.append([])
+        (free or lists[-1:])[0].append(it)
+    return lists
+
+
+def checked(plantings):
+    """Whether the definitions check with the plantings in their places, each list of them in one copy."""
+    room, count = Room(), 0
+    try:
+        for batch in batches(plantings):
+            room.plant(batch)
+            wrong = room.wrong()
+            count += len(wrong)
+            for said in wrong:
+                print('planted: no definition: ' + said)
+    finally:
+        room.close()
+    print('the definitions check with each of %d in its place' % len(plantings) if not count else '%d errors' % count)
+    return 1 if count else 0
+
+
 def options_given():
     given = argparse.ArgumentParser(description=__doc__, formatter_class=argparse.RawDescriptionHelpFormatter)
     given.add_argument('--lanes', type=int, default=1)
@@ -162,6 +201,7 @@ def options_given():
     given.add_argument('--out')
     given.add_argument('--table')
     given.add_argument('--listed', action='store_true')
+    given.add_argument('--checked', action='store_true')
     return given.parse_args()
 
 
@@ -201,10 +241,13 @@ def main():
         plantings = [Planting(line) for line in file.read().split('\n') if line and not line.startswith('#')]
     if options.listed or any(it.changed(SPECS) is None for it in plantings):
         return listed(plantings)
+    plantings = [it for it in plantings if options.only in it.said()]
+    status = checked(plantings)
+    if status or options.checked:
+        return status
     with open(options.out, 'w', encoding='utf-8') if options.out else contextlib.nullcontext(sys.stdout) as out:
-        results = tried([it for it in plantings if options.only in it.said()], options, out)
-        bad = sum(it.startswith('BAD') for it in results)
-        print('%d of %d are told by something, %d are bad' % (sum(bool(it) for it in results) - bad, len(results), bad), file=out)
+        results = tried(plantings, options, out)
+        print('%d of %d are told by something' % (sum(bool(it) for it in results), len(results)), file=out)
     return 0
 
 

@@ -1,7 +1,7 @@
 //! Vectors: what the productions do not go on with.
 use crate::rows::Refused;
 
-pub static ROWS: [Refused; 36] = [
+pub static ROWS: [Refused; 38] = [
     Refused {
         input: "a: b: c",
         message: "4 Syntax at byte 4",
@@ -99,8 +99,16 @@ pub static ROWS: [Refused; 36] = [
         message: "4 Syntax at byte 3",
     },
     Refused {
+        input: "x: |\n   \n # a",
+        message: "4 Syntax at byte 10",
+    },
+    Refused {
         input: "|1\n a",
         message: "4 Syntax at byte 1",
+    },
+    Refused {
+        input: "- |0\n a",
+        message: "4 Syntax at byte 3",
     },
     Refused {
         input: "[a]b",

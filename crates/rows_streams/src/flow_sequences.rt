@@ -1,7 +1,7 @@
 //! Vectors: flow sequences and single pairs (7.4.1).
 use crate::rows::Node;
 
-pub static ROWS: [Node; 22] = [
+pub static ROWS: [Node; 23] = [
     Node {
         shows: "nothing",
         input: "[]",
@@ -127,6 +127,12 @@ pub static ROWS: [Node; 22] = [
         input: "[?a: b]",
         events: "+SEQ []\n+MAP {}\n=VAL :?a\n=VAL :b\n-MAP\n-SEQ\n",
         canonical: "--- [{\"?a\" : \"b\"}]\n",
+    },
+    Node {
+        shows: "a plain item of an inner sequence over lines",
+        input: "[[a\n b]]",
+        events: "+SEQ []\n+SEQ []\n=VAL :a b\n-SEQ\n-SEQ\n",
+        canonical: "--- [[\"a b\"]]\n",
     },
     Node {
         shows: "in a block value",
