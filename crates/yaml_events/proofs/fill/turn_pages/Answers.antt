@@ -51,6 +51,6 @@ returns-clause-fills c =
     let put : Overwrites page c.lines.at c.lines.room c.put_page.new.room = subst (λ z. Overwrites z c.lines.at c.lines.room c.put_page.new.room) c.as_str.ensures.value c.put_page.ensures in
     let long : length page ≡ c.len.result = omega (arith, c.len.ensures, c.lines.page.bytes.ok.0) in
     let fills : Fills (events_text (map event_of (take c.lines.event-index c.args.events.now))) c.args.room.now c.put_page.new.room (c.lines.at + length page) =
-        fills_last _ page c.args.room.now c.lines.room c.put_page.new.room c.lines.at c.lines.invariant.has put in
+    fills_last _ page c.args.room.now c.lines.room c.put_page.new.room c.lines.at c.lines.invariant.has put in
     subst (λ z. Fills z c.args.room.now c.put_page.new.room (c.lines.at + c.len.result)) (all_lines event_of c.args.events.now c.lines.event-index end)
-        (subst (λ n. Fills (events_text (map event_of (take c.lines.event-index c.args.events.now))) c.args.room.now c.put_page.new.room (c.lines.at + n)) long fills)
+    (subst (λ n. Fills (events_text (map event_of (take c.lines.event-index c.args.events.now))) c.args.room.now c.put_page.new.room (c.lines.at + n)) long fills)
