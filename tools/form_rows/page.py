@@ -37,5 +37,7 @@ def examples(text):
 
 def answer(program, command, source):
     """What the program prints for bytes: (standard output, standard error), without the `yaml: ` of a refusal."""
+    if not os.access(program, os.X_OK):
+        raise SystemExit('%s is not built' % program)
     done = subprocess.run([program, command], input=source, capture_output=True)
     return done.stdout.decode(), done.stderr.decode().removeprefix('yaml: ')
