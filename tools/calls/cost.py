@@ -5,9 +5,9 @@ Instructions by valgrind's callgrind: those of the call alone, and those of the 
 the most that either process has, and the most that the call holds by its own count. A call may take 1.05 times the program's
 instructions, and its process the program's memory with the input and the room.
 
-The room of `canonical` is as long as the text. That of `events` is eight times the input: where a room surely holds the text the
-call does not take its length first, and where it is only just long enough the call looks at each value once more, which is told
-too and may cost what it costs.
+The room of `canonical` is as long as the text. That of `events` is eight times the input, and then as long as the text: where a
+room surely holds the text the call does not take its length first, and where it is only just long enough the call looks at each
+value once more. Both may take that much.
 """
 import concurrent.futures
 import os
@@ -57,7 +57,7 @@ def counted(made, room, shape, size, call):
     line = '%s on %d bytes of %s: %d instructions, %.4f of the %d of %s' % (call, bytes_in, shape, taken[0], taken[0] / program, program, command)
     if roomy:
         line += '; into a room of just the text\'s length %d, %.4f' % (taken[1], taken[1] / program)
-    return taken[0] / program, line
+    return max(taken) / program, line
 
 
 def try_memory(made, room, shape):

@@ -76,6 +76,9 @@ pub fn longest_line(events: &[Event<'_>]) -> Result<usize, Fault>
 pub fn surely_fits(events: &[Event<'_>], room: usize) -> bool
     ensures { result ≡ true → length (events_text (map event_of events.now)) ≤ room }
 {
+    if events.len() as u128 * FRAME > room as u128 {
+        return false;
+    }
     let mut left = room;
     'lines: for event in events {
         let most = line_bound(event);

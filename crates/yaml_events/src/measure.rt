@@ -6,7 +6,6 @@ ghost use Rattle.yaml_text.specs.EventModel.{event_of, written_of};
 ghost use Rattle.yaml_definitions.specs.canonical.TagText.{encoded, spell_byte};
 ghost use Rattle.yaml_definitions.specs.model.EventText.{event_line, events_text, anchor_part, tag_part, flag_text, value_byte, value_text};
 
-use crate::value::escape_of;
 use std::borrow::CowStr;
 use yaml_text::class::is_uri;
 use yaml_text::event::{Event, EventTag};
@@ -17,6 +16,9 @@ const BARE: u128 = 5;
 
 /// The bytes of a space and a style's or an alias's sign.
 const SIGN: u128 = 2;
+
+/// The greatest length of a piece of a value in which what more it takes is counted in one byte.
+const PIECE: usize = 224;
 
 /// How many bytes a flow mark takes, if there is to be one.
 fn mark_len(mark: &str, flow: bool) -> u128
@@ -71,14 +73,28 @@ fn tag_len(tag: &EventTag<'_>) -> u128
 }
 
 /// How many bytes more than one a byte of a value takes.
-fn more_in_value(byte: u8) -> u128
+#[tactic(auto, unfolding(yaml_definitions::specs::model::EventText::value_byte))]
+fn more_in_value(byte: u8) -> u8
     ensures more { result + 1 ≡ length (value_byte byte) }
     ensures few { result ≤ 1 }
 {
-    match escape_of(byte) {
-        Some(_) => 1,
-        None => 0,
+    match byte {
+        b'\\' | b'\n' | b'\t' | b'\r' | 0x08 => 1,
+        _ => 0,
     }
+}
+
+/// How many bytes more than it has a piece of a value takes. Counted in one byte, sixteen at a time can be added up.
+fn more_in_piece(piece: &[u8]) -> u8
+    requires { length piece.now < 256 }
+    ensures more { result + length piece.now ≡ length (value_text piece.now) }
+    ensures few { result ≤ length piece.now }
+{
+    let mut more: u8 = 0;
+    'measure: for byte in piece {
+        more += more_in_value(*byte);
+    }
+    more
 }
 
 /// How many bytes a text has as a value.
@@ -87,10 +103,13 @@ fn value_len(text: &str) -> u128
     ensures small { result < 2 ^ 66 }
 {
     let mut len = text.len() as u128;
-    'measure: for byte in text.as_bytes() {
-        len += more_in_value(*byte);
+    let mut rest = text.as_bytes();
+    'pieces: while rest.len() > PIECE {
+        let (piece, behind) = rest.split_at(PIECE);
+        len += more_in_piece(piece) as u128;
+        rest = behind;
     }
-    len
+    len + more_in_piece(rest) as u128
 }
 
 /// How many bytes an event's line has with its LF.
@@ -123,13 +142,13 @@ pub fn text_len(events: &[Event<'_>]) -> Result<usize, Fault>
     ensures ok { IfOk result (λ len. len ≡ length (events_text (map event_of events.now))) }
     ensures only { IfErr result (λ fault. fault ≡ Fault.OutOfMemory) }
 {
-    let mut len: usize = 0;
+    let mut left = usize::MAX;
     'lines: for event in events {
         let more = line_len(event);
-        if more > (usize::MAX - len) as u128 {
+        if more > left as u128 {
             return Err(Fault::OutOfMemory);
         }
-        len += more as usize;
+        left -= more as usize;
     }
-    Ok(len)
+    Ok(usize::MAX - left)
 }

@@ -1,4 +1,4 @@
-use Rattle.std.proofs.Common.{◌≡◌, ◌+◌, ◌≤◌, length, take, map}
+use Rattle.std.proofs.Common.{◌+◌, ◌≤◌, length, take, map}
 use Rattle.yaml_text.specs.EventModel.{event_of}
 use Rattle.yaml_definitions.specs.model.EventText.{events_text}
 use Rattle.yaml_events.proofs.length.surely_fits.Given as goal

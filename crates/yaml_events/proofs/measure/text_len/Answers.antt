@@ -1,11 +1,11 @@
-use Rattle.std.proofs.Common.{◌++◌, ◌∷◌, [], ap, sym, take, map, length, length-append, arith}
+use Rattle.std.proofs.Common.{◌++◌, ◌∷◌, [], ap, take, map, length, length-append, arith}
 use Rattle.yaml_text.specs.EventModel.{event_of}
 use Rattle.yaml_definitions.specs.model.EventText.{event_line, events_text}
 use Rattle.yaml_events.proofs.LineText.{events_none, line_more}
 use Rattle.yaml_events.proofs.measure.text_len.Goals as goal
 
 pub lines-init : goal.lines-init
-lines-init c = sym (ap length events_none)
+lines-init c = omega (arith, ap length events_none)
 
 pub lines-preserved : goal.lines-preserved
 lines-preserved c =
