@@ -4,6 +4,7 @@ use Rattle.yaml_definitions.specs.model.Event.{Event}
 use Rattle.yaml_definitions.specs.grammar.Separation.{flow_out}
 use Rattle.yaml_definitions.specs.grammar.Tags.{Handles}
 use Rattle.yaml_definitions.specs.grammar.Events.{Props}
+use Rattle.yaml_definitions.specs.grammar.Nodes.{wide}
 use Rattle.yaml_flow.specs.PropertyDecisions.{IsRefused}
 use Rattle.yaml_flow.specs.FlowRules.{Bare}
 use Rattle.yaml_flow.specs.declared.flow.Kind.{Kind}
@@ -21,5 +22,5 @@ module _ (cs : List ℕ) (handles : Handles) where
 
   -- a node that was put down since a mark was put down again, and opens fewer than room
   abbrev pub FitsAgain : {S : Type 0} → ℕ → Props → ℕ → ℕ → ℕ → ℕ → Kind → ℕ → (S → List Event → Type 0) → ℕ → S → S → Type 0
-  FitsAgain col p e i j deep kind room holds start mid new = (es : List Event) → Bare cs (Unit {0}) handles deep kind col flow_out p e i j es
-      → (d : ℕ) × (k : Kind) × (fs : List Event) × (d < room) × Becomes holds start es fs mid new × Bare cs (Unit {0}) handles d k col flow_out p e i j fs
+  FitsAgain col p e i j deep kind room holds start mid new = (es : List Event) → Bare cs wide handles deep kind col flow_out p e i j es
+      → (d : ℕ) × (k : Kind) × (fs : List Event) × (d < room) × Becomes holds start es fs mid new × Bare cs wide handles d k col flow_out p e i j fs

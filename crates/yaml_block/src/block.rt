@@ -14,6 +14,7 @@ ghost use Rattle.yaml_definitions.specs.grammar.Rules.{Stands};
 ghost use Rattle.yaml_definitions.specs.grammar.Characters.{is_space};
 ghost use Rattle.yaml_definitions.specs.grammar.Separation.{block_in, flow_out, block_key, s-l-comments as s_l_comments, StartsLine, AtEnd, DocumentMark};
 ghost use Rattle.yaml_definitions.specs.grammar.Events.{e-scalar as empty, no_props};
+ghost use Rattle.yaml_definitions.specs.grammar.Nodes.{wide};
 ghost use Rattle.yaml_text.specs.declared.fault.Fault.TheVariants.{OutOfMemory};
 ghost use Rattle.yaml_scalar.specs.BlockModel.{column};
 ghost use Rattle.yaml_mark.specs.HandlesModel.{handles_of};
@@ -354,8 +355,8 @@ fn read_entry_key<'a, K: Keeper>(
     requires low { column ≤ at }
     ensures border { IfOk result (λ to. IsBorder source.now to) }
     ensures onward { IfOk result (λ to. at < to) }
-    ensures reads { Appends (λ _. key_rest (text_of source.now) (Unit {0}) (handles_of handles.entry) room) (place_of source.now at) (place_of source.now) (holds_of K.holds) out.old out.new result }
-    ensures decides { Decides (key_rest (text_of source.now) (Unit {0}) (handles_of handles.entry) room) (AfterColon (text_of source.now)) (place_of source.now at) Here (place_of source.now) result }
+    ensures reads { Appends (λ _. key_rest (text_of source.now) wide (handles_of handles.entry) room) (place_of source.now at) (place_of source.now) (holds_of K.holds) out.old out.new result }
+    ensures decides { Decides (key_rest (text_of source.now) wide (handles_of handles.entry) room) (AfterColon (text_of source.now)) (place_of source.now at) Here (place_of source.now) result }
     ensures placed { IfErr result (IsPlaced source.now) }
 {
     let begin = out.mark();
@@ -420,8 +421,8 @@ fn read_key<'a, K: Keeper>(
     requires low { column ≤ at }
     ensures border { IfOk result (λ to. IsBorder source.now to) }
     ensures onward { IfOk result (λ to. at < to) }
-    ensures reads { Appends (λ _. key_rest (text_of source.now) (Unit {0}) (handles_of handles.entry) room) (place_of source.now at) (place_of source.now) (holds_of K.holds) out.old out.new result }
-    ensures decides { Decides (key_rest (text_of source.now) (Unit {0}) (handles_of handles.entry) room) (AfterColon (text_of source.now)) (place_of source.now at) Here (place_of source.now) result }
+    ensures reads { Appends (λ _. key_rest (text_of source.now) wide (handles_of handles.entry) room) (place_of source.now at) (place_of source.now) (holds_of K.holds) out.old out.new result }
+    ensures decides { Decides (key_rest (text_of source.now) wide (handles_of handles.entry) room) (AfterColon (text_of source.now)) (place_of source.now at) Here (place_of source.now) result }
     ensures placed { IfErr result (IsPlaced source.now) }
 {
     match read_entry_key(alloc, source, at, column, room, handles, out) {
@@ -572,9 +573,9 @@ pub(crate) fn read_value<'a, K: Keeper>(
     requires inside { Inside (text_of source.now) (place_of source.now at) ⊎ (col ≡ 0) }
     ensures line { IfOk result (IsLine source.now) }
     ensures onward { IfOk result (λ line. at ≤ line.start) }
-    ensures reads { Appends (λ _. value_rest (text_of source.now) (Unit {0}) (handles_of handles.entry) room col (context_of context)) (place_of source.now at) (λ line. place_of source.now line.start) (holds_of K.holds) out.old out.new result }
+    ensures reads { Appends (λ _. value_rest (text_of source.now) wide (handles_of handles.entry) room col (context_of context)) (place_of source.now at) (λ line. place_of source.now line.start) (holds_of K.holds) out.old out.new result }
     ensures after { IfOk result (λ line. AfterLine (text_of source.now) (place_of source.now line.start)) }
-    ensures decides { Decides (value_rest (text_of source.now) (Unit {0}) (handles_of handles.entry) room col (context_of context)) (AfterNode (text_of source.now) col (context_of context)) (place_of source.now at) Here (λ line. place_of source.now line.start) result }
+    ensures decides { Decides (value_rest (text_of source.now) wide (handles_of handles.entry) room col (context_of context)) (AfterNode (text_of source.now) col (context_of context)) (place_of source.now at) Here (λ line. place_of source.now line.start) result }
     ensures placed { IfErr result (IsPlaced source.now) }
 {
     match skip_line_rest(source, at) {
@@ -611,9 +612,9 @@ fn read_indented<'a, K: Keeper>(
     requires inside { Inside (text_of source.now) (place_of source.now at) }
     ensures line { IfOk result (IsLine source.now) }
     ensures onward { IfOk result (λ line. at ≤ line.start) }
-    ensures reads { Appends (λ _. entry_rest (text_of source.now) (Unit {0}) (handles_of handles.entry) room column) (place_of source.now at) (λ line. place_of source.now line.start) (holds_of K.holds) out.old out.new result }
+    ensures reads { Appends (λ _. entry_rest (text_of source.now) wide (handles_of handles.entry) room column) (place_of source.now at) (λ line. place_of source.now line.start) (holds_of K.holds) out.old out.new result }
     ensures after { IfOk result (λ line. AfterLine (text_of source.now) (place_of source.now line.start)) }
-    ensures decides { Decides (entry_rest (text_of source.now) (Unit {0}) (handles_of handles.entry) room column) (AfterEntry (text_of source.now) column) (place_of source.now at) Here (λ line. place_of source.now line.start) result }
+    ensures decides { Decides (entry_rest (text_of source.now) wide (handles_of handles.entry) room column) (AfterEntry (text_of source.now) column) (place_of source.now at) Here (λ line. place_of source.now line.start) result }
     ensures placed { IfErr result (IsPlaced source.now) }
 {
     match skip_line_rest(source, at) {
@@ -674,9 +675,9 @@ pub(crate) fn read_below<'a, K: Keeper>(
     requires after { AfterLine (text_of source.now) (place_of source.now line.start) }
     ensures line { IfOk result (IsLine source.now) }
     ensures onward { IfOk result (λ next. line.start ≤ next.start) }
-    ensures reads { Appends (λ _. line_rest (text_of source.now) (Unit {0}) (handles_of handles.entry) room col (context_of context)) (place_of source.now line.start) (λ line. place_of source.now line.start) (holds_of K.holds) out.old out.new result }
+    ensures reads { Appends (λ _. line_rest (text_of source.now) wide (handles_of handles.entry) room col (context_of context)) (place_of source.now line.start) (λ line. place_of source.now line.start) (holds_of K.holds) out.old out.new result }
     ensures after { IfOk result (λ line. AfterLine (text_of source.now) (place_of source.now line.start)) }
-    ensures decides { Decides (line_rest (text_of source.now) (Unit {0}) (handles_of handles.entry) room col (context_of context)) (AfterNode (text_of source.now) col (context_of context)) (place_of source.now line.start) Here (λ line. place_of source.now line.start) result }
+    ensures decides { Decides (line_rest (text_of source.now) wide (handles_of handles.entry) room col (context_of context)) (AfterNode (text_of source.now) col (context_of context)) (place_of source.now line.start) Here (λ line. place_of source.now line.start) result }
     ensures placed { IfErr result (IsPlaced source.now) }
 {
     if !has_content(source, line) {
@@ -742,9 +743,9 @@ fn read_under<'a, K: Keeper>(
     requires above { Above (text_of source.now) (handles_of handles) col (place_of source.now from) (place_of source.now end) (props_of outer) }
     ensures line { IfOk result (IsLine source.now) }
     ensures onward { IfOk result (λ next. from ≤ next.start) }
-    ensures reads { Appends (λ _. node_rest (text_of source.now) (Unit {0}) (handles_of handles.entry) room col (context_of context) None) (place_of source.now from) (λ line. place_of source.now line.start) (holds_of K.holds) out.old out.new result }
+    ensures reads { Appends (λ _. node_rest (text_of source.now) wide (handles_of handles.entry) room col (context_of context) None) (place_of source.now from) (λ line. place_of source.now line.start) (holds_of K.holds) out.old out.new result }
     ensures after { IfOk result (λ line. AfterLine (text_of source.now) (place_of source.now line.start)) }
-    ensures decides { Decides (node_rest (text_of source.now) (Unit {0}) (handles_of handles.entry) room col (context_of context) None) (AfterNode (text_of source.now) col (context_of context)) (place_of source.now from) Here (λ line. place_of source.now line.start) result }
+    ensures decides { Decides (node_rest (text_of source.now) wide (handles_of handles.entry) room col (context_of context) None) (AfterNode (text_of source.now) col (context_of context)) (place_of source.now from) Here (λ line. place_of source.now line.start) result }
     ensures placed { IfErr result (IsPlaced source.now) }
 {
     if !has_content(source, line) {
@@ -801,9 +802,9 @@ fn read_sequence<'a, K: Keeper>(
     requires low { column ≤ at }
     ensures line { IfOk result (IsLine source.now) }
     ensures onward { IfOk result (λ line. at ≤ line.start) }
-    ensures reads { Appends (λ _. sequence_with (text_of source.now) (Unit {0}) (handles_of handles.entry) (props_of properties.entry) room column) (place_of source.now at) (λ line. place_of source.now line.start) (holds_of K.holds) out.old out.new result }
+    ensures reads { Appends (λ _. sequence_with (text_of source.now) wide (handles_of handles.entry) (props_of properties.entry) room column) (place_of source.now at) (λ line. place_of source.now line.start) (holds_of K.holds) out.old out.new result }
     ensures after { IfOk result (λ line. AfterLine (text_of source.now) (place_of source.now line.start)) }
-    ensures decides { Decides (sequence_with (text_of source.now) (Unit {0}) (handles_of handles.entry) (props_of properties.entry) room column) (AfterSequence (text_of source.now) column) (place_of source.now at) Here (λ line. place_of source.now line.start) result }
+    ensures decides { Decides (sequence_with (text_of source.now) wide (handles_of handles.entry) (props_of properties.entry) room column) (AfterSequence (text_of source.now) column) (place_of source.now at) Here (λ line. place_of source.now line.start) result }
     ensures placed { IfErr result (IsPlaced source.now) }
 {
     if room == 0 {
@@ -850,9 +851,9 @@ fn read_node<'a, K: Keeper>(
     requires outer { Outer (text_of source.now) (handles_of handles) col column (place_of source.now from) (place_of source.now at) (props_of outer) }
     ensures line { IfOk result (IsLine source.now) }
     ensures onward { IfOk result (λ line. from ≤ line.start) }
-    ensures reads { Appends (λ _. node_rest (text_of source.now) (Unit {0}) (handles_of handles.entry) room col (context_of context) (column_of (props_of outer.entry) column)) (place_of source.now from) (λ line. place_of source.now line.start) (holds_of K.holds) out.old out.new result }
+    ensures reads { Appends (λ _. node_rest (text_of source.now) wide (handles_of handles.entry) room col (context_of context) (column_of (props_of outer.entry) column)) (place_of source.now from) (λ line. place_of source.now line.start) (holds_of K.holds) out.old out.new result }
     ensures after { IfOk result (λ line. AfterLine (text_of source.now) (place_of source.now line.start)) }
-    ensures decides { Decides (node_rest (text_of source.now) (Unit {0}) (handles_of handles.entry) room col (context_of context) (column_of (props_of outer.entry) column)) (AfterNode (text_of source.now) col (context_of context)) (place_of source.now from) Here (λ line. place_of source.now line.start) result }
+    ensures decides { Decides (node_rest (text_of source.now) wide (handles_of handles.entry) room col (context_of context) (column_of (props_of outer.entry) column)) (AfterNode (text_of source.now) col (context_of context)) (place_of source.now from) Here (λ line. place_of source.now line.start) result }
     ensures placed { IfErr result (IsPlaced source.now) }
 {
     let (own, end) = read_properties(alloc, source, at, 0, Ctx::BlockKey, handles)?;
@@ -911,9 +912,9 @@ fn read_dressed<'a, K: Keeper>(
     requires goes_on { LineGoesOn (text_of source.now) (place_of source.now end) (props_of own) }
     ensures line { IfOk result (IsLine source.now) }
     ensures onward { IfOk result (λ line. from ≤ line.start) }
-    ensures reads { Appends (λ _. node_rest (text_of source.now) (Unit {0}) (handles_of handles.entry) room col (context_of context) (column_of (props_of outer.entry) column)) (place_of source.now from) (λ line. place_of source.now line.start) (holds_of K.holds) out.old out.new result }
+    ensures reads { Appends (λ _. node_rest (text_of source.now) wide (handles_of handles.entry) room col (context_of context) (column_of (props_of outer.entry) column)) (place_of source.now from) (λ line. place_of source.now line.start) (holds_of K.holds) out.old out.new result }
     ensures after { IfOk result (λ line. AfterLine (text_of source.now) (place_of source.now line.start)) }
-    ensures decides { Decides (node_rest (text_of source.now) (Unit {0}) (handles_of handles.entry) room col (context_of context) (column_of (props_of outer.entry) column)) (AfterNode (text_of source.now) col (context_of context)) (place_of source.now from) Here (λ line. place_of source.now line.start) result }
+    ensures decides { Decides (node_rest (text_of source.now) wide (handles_of handles.entry) room col (context_of context) (column_of (props_of outer.entry) column)) (AfterNode (text_of source.now) col (context_of context)) (place_of source.now from) Here (λ line. place_of source.now line.start) result }
     ensures placed { IfErr result (IsPlaced source.now) }
 {
     match block_sign(source, at, end, &own) {
@@ -964,9 +965,9 @@ fn read_keyed<'a, K: Keeper>(
     requires no_scalar { (n : ℕ) → Follows (text_of source.now) (place_of source.now at) (place_of source.now end) n (props_of own) → IsStyleSign (text_of source.now) n → ⊥ }
     ensures line { IfOk result (IsLine source.now) }
     ensures onward { IfOk result (λ line. from ≤ line.start) }
-    ensures reads { Appends (λ _. node_rest (text_of source.now) (Unit {0}) (handles_of handles.entry) room col (context_of context) (column_of (props_of outer.entry) column)) (place_of source.now from) (λ line. place_of source.now line.start) (holds_of K.holds) out.old out.new result }
+    ensures reads { Appends (λ _. node_rest (text_of source.now) wide (handles_of handles.entry) room col (context_of context) (column_of (props_of outer.entry) column)) (place_of source.now from) (λ line. place_of source.now line.start) (holds_of K.holds) out.old out.new result }
     ensures after { IfOk result (λ line. AfterLine (text_of source.now) (place_of source.now line.start)) }
-    ensures decides { Decides (node_rest (text_of source.now) (Unit {0}) (handles_of handles.entry) room col (context_of context) (column_of (props_of outer.entry) column)) (AfterNode (text_of source.now) col (context_of context)) (place_of source.now from) Here (λ line. place_of source.now line.start) result }
+    ensures decides { Decides (node_rest (text_of source.now) wide (handles_of handles.entry) room col (context_of context) (column_of (props_of outer.entry) column)) (AfterNode (text_of source.now) col (context_of context)) (place_of source.now from) Here (λ line. place_of source.now line.start) result }
     ensures placed { IfErr result (IsPlaced source.now) }
 {
     let start = out.mark();
@@ -1017,9 +1018,9 @@ fn read_entries<'a, K: Keeper>(
     requires inside { Inside (text_of source.now) (place_of source.now after) }
     ensures line { IfOk result (IsLine source.now) }
     ensures onward { IfOk result (λ line. after ≤ line.start) }
-    ensures reads { Appends (λ _. entries_rest (text_of source.now) (Unit {0}) (handles_of handles.entry) room column) (place_of source.now after) (λ line. place_of source.now line.start) (holds_of K.holds) out.old out.new result }
+    ensures reads { Appends (λ _. entries_rest (text_of source.now) wide (handles_of handles.entry) room column) (place_of source.now after) (λ line. place_of source.now line.start) (holds_of K.holds) out.old out.new result }
     ensures after { IfOk result (λ line. AfterLine (text_of source.now) (place_of source.now line.start)) }
-    ensures decides { Decides (entries_rest (text_of source.now) (Unit {0}) (handles_of handles.entry) room column) (AfterMapping (text_of source.now) column) (place_of source.now after) Here (λ line. place_of source.now line.start) result }
+    ensures decides { Decides (entries_rest (text_of source.now) wide (handles_of handles.entry) room column) (AfterMapping (text_of source.now) column) (place_of source.now after) Here (λ line. place_of source.now line.start) result }
     ensures placed { IfErr result (IsPlaced source.now) }
 {
     let mut line = read_value(
@@ -1063,9 +1064,9 @@ pub(crate) fn read_root<'a, K: Keeper>(
     requires start { StartsLine (text_of source.now) (place_of source.now line.start) }
     ensures line { IfOk result (IsLine source.now) }
     ensures onward { IfOk result (λ next. line.start ≤ next.start) }
-    ensures reads { Appends (λ _. root_rest (text_of source.now) (Unit {0}) (handles_of handles.entry) room line.column) (place_of source.now line.start) (λ line. place_of source.now line.start) (holds_of K.holds) out.old out.new result }
+    ensures reads { Appends (λ _. root_rest (text_of source.now) wide (handles_of handles.entry) room line.column) (place_of source.now line.start) (λ line. place_of source.now line.start) (holds_of K.holds) out.old out.new result }
     ensures after { IfOk result (λ line. AfterLine (text_of source.now) (place_of source.now line.start)) }
-    ensures decides { Decides (root_rest (text_of source.now) (Unit {0}) (handles_of handles.entry) room line.column) (AfterNode (text_of source.now) 0 block_in) (place_of source.now line.start) Here (λ line. place_of source.now line.start) result }
+    ensures decides { Decides (root_rest (text_of source.now) wide (handles_of handles.entry) room line.column) (AfterNode (text_of source.now) 0 block_in) (place_of source.now line.start) Here (λ line. place_of source.now line.start) result }
     ensures placed { IfErr result (IsPlaced source.now) }
 {
     let first = line.first;

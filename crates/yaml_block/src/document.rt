@@ -7,6 +7,7 @@ ghost use Rattle.yaml_definitions.specs.grammar.Rules.{◌◂◌, ◌∪◌, giv
 ghost use Rattle.yaml_definitions.specs.grammar.Events.{no_props, e-scalar as empty};
 ghost use Rattle.yaml_definitions.specs.grammar.Separation.{StartsLine, s-l-comments as s_l_comments};
 ghost use Rattle.yaml_definitions.specs.grammar.Streams.{l-bare-document as bare_document};
+ghost use Rattle.yaml_definitions.specs.grammar.Nodes.{wide};
 ghost use Rattle.yaml_mark.specs.HandlesModel.{handles_of};
 ghost use Rattle.law_one_reading.specs.Follows.{Over, Follow};
 ghost use Rattle.law_going_on.specs.GoingOn.{Here};
@@ -43,8 +44,8 @@ pub fn read_bare<'a, K: Keeper>(
     requires start { StartsLine (text_of source.now) (place_of source.now line.start) }
     ensures line { IfOk result (IsLine source.now) }
     ensures onward { IfOk result (λ next. line.start ≤ next.start) }
-    ensures reads { Appends (λ _. bare_document (text_of source.now) (Unit {0}) open_limit (handles_of handles.entry)) (place_of source.now line.start) (λ next. place_of source.now next.start) (holds_of K.holds) out.old out.new result }
-    ensures decides { Decides (bare_document (text_of source.now) (Unit {0}) open_limit (handles_of handles.entry)) (Over (text_of source.now) (Follow (text_of source.now) 0 0)) (place_of source.now line.start) Here (λ next. place_of source.now next.start) result }
+    ensures reads { Appends (λ _. bare_document (text_of source.now) wide open_limit (handles_of handles.entry)) (place_of source.now line.start) (λ next. place_of source.now next.start) (holds_of K.holds) out.old out.new result }
+    ensures decides { Decides (bare_document (text_of source.now) wide open_limit (handles_of handles.entry)) (Over (text_of source.now) (Follow (text_of source.now) 0 0)) (place_of source.now line.start) Here (λ next. place_of source.now next.start) result }
     ensures placed { IfErr result (IsPlaced source.now) }
 {
     read_root(alloc, source, line, room(), handles, out)
@@ -61,8 +62,8 @@ pub fn read_marked<'a, K: Keeper>(
     requires { IsBorder source.now at }
     ensures line { IfOk result (IsLine source.now) }
     ensures onward { IfOk result (λ next. at ≤ next.start) }
-    ensures reads { Appends (λ _. bare_document (text_of source.now) (Unit {0}) open_limit (handles_of handles.entry) ∪ (gives (empty no_props) ◂ s_l_comments (text_of source.now))) (place_of source.now at) (λ next. place_of source.now next.start) (holds_of K.holds) out.old out.new result }
-    ensures decides { Decides (bare_document (text_of source.now) (Unit {0}) open_limit (handles_of handles.entry) ∪ (gives (empty no_props) ◂ s_l_comments (text_of source.now))) (Over (text_of source.now) (Follow (text_of source.now) 0 0)) (place_of source.now at) Here (λ next. place_of source.now next.start) result }
+    ensures reads { Appends (λ _. bare_document (text_of source.now) wide open_limit (handles_of handles.entry) ∪ (gives (empty no_props) ◂ s_l_comments (text_of source.now))) (place_of source.now at) (λ next. place_of source.now next.start) (holds_of K.holds) out.old out.new result }
+    ensures decides { Decides (bare_document (text_of source.now) wide open_limit (handles_of handles.entry) ∪ (gives (empty no_props) ◂ s_l_comments (text_of source.now))) (Over (text_of source.now) (Follow (text_of source.now) 0 0)) (place_of source.now at) Here (λ next. place_of source.now next.start) result }
     ensures placed { IfErr result (IsPlaced source.now) }
 {
     read_value(alloc, source, at, 0, Ctx::BlockIn, room(), handles, out)

@@ -2,9 +2,10 @@
 use Rattle.std.specs.Prelude.{ℕ}
 use Rattle.yaml_canon.specs.declared.parts.Kind.{Kind}
 use Rattle.yaml_canon.specs.declared.parts.Kind.TheVariants.{Scalar, Sequence, Mapping}
+use Rattle.yaml_definitions.specs.model.Tree.{a_scalar, a_sequence, a_mapping}
 
 -- its place in the order of kinds
 abbrev pub number_of_kind : Kind → ℕ
-number_of_kind Scalar = 0
-number_of_kind Sequence = 1
-number_of_kind Mapping = 2
+number_of_kind Scalar = a_scalar
+number_of_kind Sequence = a_sequence
+number_of_kind Mapping = a_mapping

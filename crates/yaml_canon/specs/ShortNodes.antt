@@ -8,12 +8,13 @@ use Rattle.yaml_definitions.specs.model.Limits.{short_limit}
 use Rattle.yaml_definitions.specs.model.Serial.{scalar_at}
 use Rattle.yaml_definitions.specs.canonical.Spell.{text_len}
 use Rattle.yaml_definitions.specs.canonical.TagText.{tag_text, written_tag}
+use Rattle.yaml_definitions.specs.model.Tree.{a_scalar, a_sequence, a_mapping}
 use Rattle.yaml_graph.specs.declared.node.NodeKind.{NodeKind}
 use Rattle.yaml_graph.specs.declared.node.NodeKind.TheVariants as kinds
 
 -- a scalar's tag and content
 abbrev pub short_scalar : List ℕ → List ℕ → Bool
-short_scalar tag content = nat_le (text_len (scalar_at None (written_tag 0 tag) double content)) short_limit
+short_scalar tag content = nat_le (text_len (scalar_at None (written_tag a_scalar tag) double content)) short_limit
 
 -- a tag and two brackets
 abbrev pub short_tag : ℕ → List ℕ → Bool
@@ -21,5 +22,5 @@ short_tag kind tag = nat_le (length (encode_utf8_all (tag_text (written_tag kind
 
 abbrev pub short_kind : List ℕ → NodeKind → Bool
 short_kind tag (kinds.Scalar content) = short_scalar tag (cow_str_bytes content)
-short_kind tag (kinds.Sequence items) = (length items.items == 0) && short_tag 1 tag
-short_kind tag (kinds.Mapping entries) = (length entries.items == 0) && short_tag 2 tag
+short_kind tag (kinds.Sequence items) = (length items.items == 0) && short_tag a_sequence tag
+short_kind tag (kinds.Mapping entries) = (length entries.items == 0) && short_tag a_mapping tag

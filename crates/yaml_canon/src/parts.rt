@@ -8,6 +8,7 @@ ghost use Rattle.yaml_definitions.specs.model.Serial.{alias_at};
 ghost use Rattle.yaml_definitions.specs.canonical.NodeText.{node_text, anchor_text, quoted};
 ghost use Rattle.yaml_definitions.specs.model.Tag.{default_tag};
 ghost use Rattle.yaml_definitions.specs.canonical.TagText.{spell_byte, encoded, full_text, tag_text, written_tag};
+ghost use Rattle.yaml_definitions.specs.model.Tree.{a_scalar};
 ghost use Rattle.yaml_canon.specs.Pieces.{TakesPiece, Puts, Misses, Fails};
 ghost use Rattle.yaml_canon.specs.Kinds.{number_of_kind};
 
@@ -185,8 +186,8 @@ pub(crate) fn put_scalar<O, S: Sink<O>>(
     tag: &str,
     content: &str,
 ) -> Result<(), Fault>
-    ensures ok { OnOk result (Puts S.holds sink.old out.old sink.new out.new (λ more. tag_text (written_tag 0 tag.now) ++ (34 ∷ quoted (chars content.now) more))) }
-    ensures err { IfErr result (λ fault. Fails S.holds S.stops sink.old out.old out.new fault (λ more. tag_text (written_tag 0 tag.now) ++ (34 ∷ quoted (chars content.now) more))) }
+    ensures ok { OnOk result (Puts S.holds sink.old out.old sink.new out.new (λ more. tag_text (written_tag a_scalar tag.now) ++ (34 ∷ quoted (chars content.now) more))) }
+    ensures err { IfErr result (λ fault. Fails S.holds S.stops sink.old out.old out.new fault (λ more. tag_text (written_tag a_scalar tag.now) ++ (34 ∷ quoted (chars content.now) more))) }
 {
     put_tag(sink, out, tag, Kind::Scalar)?;
     sink.put_spelled(out, content)

@@ -10,7 +10,7 @@ ghost use Rattle.yaml_definitions.specs.grammar.Rules.{given, gives, seen, maybe
 ghost use Rattle.yaml_definitions.specs.grammar.Tags as tags;
 ghost use Rattle.yaml_definitions.specs.grammar.Events.{alias_node, e-scalar as empty, no_props};
 ghost use Rattle.yaml_definitions.specs.grammar.FlowScalars.{c-single-quoted as single, c-double-quoted as double};
-ghost use Rattle.yaml_definitions.specs.grammar.Nodes.{c-flow-sequence as flow_seq, c-flow-mapping as flow_map, ns-flow-pair as pair};
+ghost use Rattle.yaml_definitions.specs.grammar.Nodes.{c-flow-sequence as flow_seq, c-flow-mapping as flow_map, ns-flow-pair as pair, wide};
 ghost use Rattle.yaml_text.specs.Lines.{Inside};
 ghost use Rattle.yaml_text.specs.declared.fault.Fault.TheVariants.{OutOfMemory};
 ghost use Rattle.law_one_reading.specs.Follows.{Closes, Solid, Fresh};
@@ -158,7 +158,7 @@ fn read_plain_node<'a, K: Keeper>(
     ensures border { IfOk result (λ found. IfSome found (λ node. IsBorder source.now node.end)) }
     ensures onward { IfOk result (λ found. IfSome found (λ node. at < node.end)) }
     ensures within { IfOk result (λ found. IfSome found (λ node. node.deep ≡ 0)) }
-    ensures reads { Perhaps (λ node. content_from (text_of source.now) (Unit {0}) (handles_of handles.entry) node.deep node.kind least (context_of context)) (place_of source.now at) (λ node. place_of source.now node.end) (holds_of K.holds) out.old out.new result }
+    ensures reads { Perhaps (λ node. content_from (text_of source.now) wide (handles_of handles.entry) node.deep node.kind least (context_of context)) (place_of source.now at) (λ node. place_of source.now node.end) (holds_of K.holds) out.old out.new result }
     ensures decides { DecidesPlain (text_of source.now) least (context_of context) (place_of source.now at) (λ node. place_of source.now node.end) result }
     ensures placed { IfErr result (IsPlaced source.now) }
 {
@@ -194,7 +194,7 @@ fn read_single_node<'a, K: Keeper>(
     ensures border { IfOk result (λ node. IsBorder source.now node.end) }
     ensures onward { IfOk result (λ node. at < node.end) }
     ensures within { IfOk result (λ node. node.deep ≡ 0) }
-    ensures reads { Appends (λ node. content_from (text_of source.now) (Unit {0}) (handles_of handles.entry) node.deep node.kind least (context_of context)) (place_of source.now at) (λ node. place_of source.now node.end) (holds_of K.holds) out.old out.new result }
+    ensures reads { Appends (λ node. content_from (text_of source.now) wide (handles_of handles.entry) node.deep node.kind least (context_of context)) (place_of source.now at) (λ node. place_of source.now node.end) (holds_of K.holds) out.old out.new result }
     ensures kind { IfOk result (λ node. node.kind ≡ Json) }
     ensures decides { Decides (single (text_of source.now) least (context_of context)) Here (place_of source.now at) Here (λ node. place_of source.now node.end) result }
     ensures placed { IfErr result (IsPlaced source.now) }
@@ -224,7 +224,7 @@ fn read_double_node<'a, K: Keeper>(
     ensures border { IfOk result (λ node. IsBorder source.now node.end) }
     ensures onward { IfOk result (λ node. at < node.end) }
     ensures within { IfOk result (λ node. node.deep ≡ 0) }
-    ensures reads { Appends (λ node. content_from (text_of source.now) (Unit {0}) (handles_of handles.entry) node.deep node.kind least (context_of context)) (place_of source.now at) (λ node. place_of source.now node.end) (holds_of K.holds) out.old out.new result }
+    ensures reads { Appends (λ node. content_from (text_of source.now) wide (handles_of handles.entry) node.deep node.kind least (context_of context)) (place_of source.now at) (λ node. place_of source.now node.end) (holds_of K.holds) out.old out.new result }
     ensures kind { IfOk result (λ node. node.kind ≡ Json) }
     ensures decides { Decides (double (text_of source.now) least (context_of context)) Here (place_of source.now at) Here (λ node. place_of source.now node.end) result }
     ensures placed { IfErr result (IsPlaced source.now) }
@@ -277,7 +277,7 @@ pub fn read_flow_node<'a, K: Keeper>(
     ensures border { IfOk result (λ node. IsBorder source.now node.end) }
     ensures onward { IfOk result (λ node. at ≤ node.end) }
     ensures within { IfOk result (λ node. node.deep ≤ room) }
-    ensures reads { Appends (λ node. flow_from (text_of source.now) (Unit {0}) (handles_of handles.entry) node.deep node.kind least (context_of context)) (place_of source.now at) (λ node. place_of source.now node.end) (holds_of K.holds) out.old out.new result }
+    ensures reads { Appends (λ node. flow_from (text_of source.now) wide (handles_of handles.entry) node.deep node.kind least (context_of context)) (place_of source.now at) (λ node. place_of source.now node.end) (holds_of K.holds) out.old out.new result }
     ensures decides { context_of context ≡ flow_in → DecidesNode (text_of source.now) (handles_of handles.entry) room least (context_of context) (place_of source.now at) (λ node. place_of source.now node.end) result }
     ensures placed { IfErr result (IsPlaced source.now) }
 {
@@ -315,7 +315,7 @@ pub fn read_bare<'a, K: Keeper>(
     ensures border { IfOk result (λ node. IsBorder source.now node.end) }
     ensures onward { IfOk result (λ node. at ≤ node.end) }
     ensures within { IfOk result (λ node. node.deep ≤ room) }
-    ensures reads { Appends (λ node. Bare (text_of source.now) (Unit {0}) (handles_of handles.entry) node.deep node.kind least (context_of context) (props_of own.now) (place_of source.now end)) (place_of source.now at) (λ node. place_of source.now node.end) (holds_of K.holds) out.old out.new result }
+    ensures reads { Appends (λ node. Bare (text_of source.now) wide (handles_of handles.entry) node.deep node.kind least (context_of context) (props_of own.now) (place_of source.now end)) (place_of source.now at) (λ node. place_of source.now node.end) (holds_of K.holds) out.old out.new result }
     ensures decides { (context_of context ≡ flow_out → LineGoesOn (text_of source.now) (place_of source.now end) (props_of own.now)) → DecidesNode (text_of source.now) (handles_of handles.entry) room least (context_of context) (place_of source.now at) (λ node. place_of source.now node.end) result }
     ensures placed { IfErr result (IsPlaced source.now) }
 {
@@ -355,7 +355,7 @@ fn read_content<'a, K: Keeper>(
     ensures border { IfOk result (λ found. IfSome found (λ node. IsBorder source.now node.end)) }
     ensures onward { IfOk result (λ found. IfSome found (λ node. at < node.end)) }
     ensures within { IfOk result (λ found. IfSome found (λ node. node.deep ≤ room)) }
-    ensures reads { Perhaps (λ node. content_from (text_of source.now) (Unit {0}) (handles_of handles.entry) node.deep node.kind least (context_of context)) (place_of source.now at) (λ node. place_of source.now node.end) (holds_of K.holds) out.old out.new result }
+    ensures reads { Perhaps (λ node. content_from (text_of source.now) wide (handles_of handles.entry) node.deep node.kind least (context_of context)) (place_of source.now at) (λ node. place_of source.now node.end) (holds_of K.holds) out.old out.new result }
     ensures decides { DecidesContent (text_of source.now) (handles_of handles.entry) room least (context_of context) (place_of source.now at) (λ node. place_of source.now node.end) result }
     ensures placed { IfErr result (IsPlaced source.now) }
 {
@@ -410,9 +410,9 @@ fn read_sequence<'a, K: Keeper>(
     ensures border { IfOk result (λ node. IsBorder source.now node.end) }
     ensures onward { IfOk result (λ node. at < node.end) }
     ensures within { IfOk result (λ node. node.deep ≤ room) }
-    ensures reads { Appends (λ node. content_from (text_of source.now) (Unit {0}) (handles_of handles.entry) node.deep node.kind least (context_of context)) (place_of source.now at) (λ node. place_of source.now node.end) (holds_of K.holds) out.old out.new result }
+    ensures reads { Appends (λ node. content_from (text_of source.now) wide (handles_of handles.entry) node.deep node.kind least (context_of context)) (place_of source.now at) (λ node. place_of source.now node.end) (holds_of K.holds) out.old out.new result }
     ensures kind { IfOk result (λ node. node.kind ≡ Json) }
-    ensures decides { inner (context_of context) ≡ flow_in → DecidesEach (λ p. flow_seq (text_of source.now) (Unit {0}) (handles_of handles.entry) (opens (text_of source.now) (Unit {0}) (handles_of handles.entry) room) (below (text_of source.now) (Unit {0}) (handles_of handles.entry) room) p least (context_of context)) (place_of source.now at) (λ node. place_of source.now node.end) result }
+    ensures decides { inner (context_of context) ≡ flow_in → DecidesEach (λ p. flow_seq (text_of source.now) wide (handles_of handles.entry) (opens (text_of source.now) wide (handles_of handles.entry) room) (below (text_of source.now) wide (handles_of handles.entry) room) p least (context_of context)) (place_of source.now at) (λ node. place_of source.now node.end) result }
     ensures placed { IfErr result (IsPlaced source.now) }
 {
     push_flow_sequence(out, at)?;
@@ -453,8 +453,8 @@ fn read_items<'a, K: Keeper>(
     ensures border { IfOk result (λ r. IsBorder source.now r.0) }
     ensures onward { IfOk result (λ r. first < r.0) }
     ensures within { IfOk result (λ r. r.1 ≤ room) }
-    ensures reads { Appends (λ r. from_room r.1 (λ room. parts (text_of source.now) least (context_of context) 93 (item_at (text_of source.now) (Unit {0}) (handles_of handles.entry) room least (context_of context)))) (place_of source.now first) (λ r. place_of source.now r.0) (holds_of K.holds) out.old out.new result }
-    ensures decides { context_of context ≡ flow_in → Decides (parts (text_of source.now) least flow_in 93 (item_at (text_of source.now) (Unit {0}) (handles_of handles.entry) room least flow_in)) Here (place_of source.now first) Here (λ r. place_of source.now r.0) result }
+    ensures reads { Appends (λ r. from_room r.1 (λ room. parts (text_of source.now) least (context_of context) 93 (item_at (text_of source.now) wide (handles_of handles.entry) room least (context_of context)))) (place_of source.now first) (λ r. place_of source.now r.0) (holds_of K.holds) out.old out.new result }
+    ensures decides { context_of context ≡ flow_in → Decides (parts (text_of source.now) least flow_in 93 (item_at (text_of source.now) wide (handles_of handles.entry) room least flow_in)) Here (place_of source.now first) Here (λ r. place_of source.now r.0) result }
     ensures placed { IfErr result (IsPlaced source.now) }
 {
     let mut here = first;
@@ -551,9 +551,9 @@ fn read_item<'a, K: Keeper>(
     ensures border { IfOk result (λ r. IsBorder source.now r.0) }
     ensures onward { IfOk result (λ r. at ≤ r.0) }
     ensures within { IfOk result (λ r. r.1 ≤ room) }
-    ensures reads { Appends (λ r. from_room r.1 (λ room. item_at (text_of source.now) (Unit {0}) (handles_of handles.entry) room least (context_of context))) (place_of source.now at) (λ r. place_of source.now r.0) (holds_of K.holds) out.old out.new result }
+    ensures reads { Appends (λ r. from_room r.1 (λ room. item_at (text_of source.now) wide (handles_of handles.entry) room least (context_of context))) (place_of source.now at) (λ r. place_of source.now r.0) (holds_of K.holds) out.old out.new result }
     ensures ends { IfOk result (λ r. Inside (text_of source.now) (place_of source.now r.0) ⊎ Closes (text_of source.now) (place_of source.now r.0)) }
-    ensures decides { context_of context ≡ flow_in → DecidesPart (text_of source.now) least (item_at (text_of source.now) (Unit {0}) (handles_of handles.entry) room least flow_in) (place_of source.now at) (λ r. place_of source.now r.0) result }
+    ensures decides { context_of context ≡ flow_in → DecidesPart (text_of source.now) least (item_at (text_of source.now) wide (handles_of handles.entry) room least flow_in) (place_of source.now at) (λ r. place_of source.now r.0) result }
     ensures placed { IfErr result (IsPlaced source.now) }
 {
     if let Some(after) = question_sign(source, at, context) {
@@ -588,9 +588,9 @@ fn read_asked_pair<'a, K: Keeper>(
     ensures border { IfOk result (λ r. IsBorder source.now r.0) }
     ensures onward { IfOk result (λ r. at ≤ r.0) }
     ensures within { IfOk result (λ r. r.1 ≤ room) }
-    ensures reads { Appends (λ r. from_room r.1 (λ room. item_at (text_of source.now) (Unit {0}) (handles_of handles.entry) room least (context_of context))) (place_of source.now at) (λ r. place_of source.now r.0) (holds_of K.holds) out.old out.new result }
+    ensures reads { Appends (λ r. from_room r.1 (λ room. item_at (text_of source.now) wide (handles_of handles.entry) room least (context_of context))) (place_of source.now at) (λ r. place_of source.now r.0) (holds_of K.holds) out.old out.new result }
     ensures ends { IfOk result (λ r. Inside (text_of source.now) (place_of source.now r.0) ⊎ Closes (text_of source.now) (place_of source.now r.0)) }
-    ensures decides { context_of context ≡ flow_in → DecidesPart (text_of source.now) least (item_at (text_of source.now) (Unit {0}) (handles_of handles.entry) room least flow_in) (place_of source.now at) (λ r. place_of source.now r.0) result }
+    ensures decides { context_of context ≡ flow_in → DecidesPart (text_of source.now) least (item_at (text_of source.now) wide (handles_of handles.entry) room least flow_in) (place_of source.now at) (λ r. place_of source.now r.0) result }
     ensures placed { IfErr result (IsPlaced source.now) }
 {
     if room == 0 {
@@ -623,9 +623,9 @@ fn read_empty_pair<'a, K: Keeper>(
     ensures border { IfOk result (λ r. IsBorder source.now r.0) }
     ensures onward { IfOk result (λ r. at ≤ r.0) }
     ensures within { IfOk result (λ r. r.1 ≤ room) }
-    ensures reads { Appends (λ r. from_room r.1 (λ room. item_at (text_of source.now) (Unit {0}) (handles_of handles.entry) room least (context_of context))) (place_of source.now at) (λ r. place_of source.now r.0) (holds_of K.holds) out.old out.new result }
+    ensures reads { Appends (λ r. from_room r.1 (λ room. item_at (text_of source.now) wide (handles_of handles.entry) room least (context_of context))) (place_of source.now at) (λ r. place_of source.now r.0) (holds_of K.holds) out.old out.new result }
     ensures ends { IfOk result (λ r. Inside (text_of source.now) (place_of source.now r.0) ⊎ Closes (text_of source.now) (place_of source.now r.0)) }
-    ensures decides { context_of context ≡ flow_in → DecidesPart (text_of source.now) least (item_at (text_of source.now) (Unit {0}) (handles_of handles.entry) room least flow_in) (place_of source.now at) (λ r. place_of source.now r.0) result }
+    ensures decides { context_of context ≡ flow_in → DecidesPart (text_of source.now) least (item_at (text_of source.now) wide (handles_of handles.entry) room least flow_in) (place_of source.now at) (λ r. place_of source.now r.0) result }
     ensures placed { IfErr result (IsPlaced source.now) }
 {
     if room == 0 {
@@ -669,9 +669,9 @@ fn read_node_item<'a, K: Keeper>(
     ensures border { IfOk result (λ r. IsBorder source.now r.0) }
     ensures onward { IfOk result (λ r. at ≤ r.0) }
     ensures within { IfOk result (λ r. r.1 ≤ room) }
-    ensures reads { Appends (λ r. from_room r.1 (λ room. item_at (text_of source.now) (Unit {0}) (handles_of handles.entry) room least (context_of context))) (place_of source.now at) (λ r. place_of source.now r.0) (holds_of K.holds) out.old out.new result }
+    ensures reads { Appends (λ r. from_room r.1 (λ room. item_at (text_of source.now) wide (handles_of handles.entry) room least (context_of context))) (place_of source.now at) (λ r. place_of source.now r.0) (holds_of K.holds) out.old out.new result }
     ensures ends { IfOk result (λ r. Inside (text_of source.now) (place_of source.now r.0) ⊎ Closes (text_of source.now) (place_of source.now r.0)) }
-    ensures decides { context_of context ≡ flow_in → DecidesPart (text_of source.now) least (item_at (text_of source.now) (Unit {0}) (handles_of handles.entry) room least flow_in) (place_of source.now at) (λ r. place_of source.now r.0) result }
+    ensures decides { context_of context ≡ flow_in → DecidesPart (text_of source.now) least (item_at (text_of source.now) wide (handles_of handles.entry) room least flow_in) (place_of source.now at) (λ r. place_of source.now r.0) result }
     ensures placed { IfErr result (IsPlaced source.now) }
 {
     let start = out.mark();
@@ -759,9 +759,9 @@ fn read_pair<'a, K: Keeper>(
     ensures border { IfOk result (λ r. IsBorder source.now r.0) }
     ensures onward { IfOk result (λ r. at ≤ r.0) }
     ensures within { IfOk result (λ r. r.1 ≤ room) }
-    ensures reads { Appends (λ r. from_room r.1 (λ room. item_at (text_of source.now) (Unit {0}) (handles_of handles.entry) room least (context_of context))) (place_of source.now at) (λ r. place_of source.now r.0) (holds_of K.holds) out.old out.new result }
+    ensures reads { Appends (λ r. from_room r.1 (λ room. item_at (text_of source.now) wide (handles_of handles.entry) room least (context_of context))) (place_of source.now at) (λ r. place_of source.now r.0) (holds_of K.holds) out.old out.new result }
     ensures ends { IfOk result (λ r. Inside (text_of source.now) (place_of source.now r.0) ⊎ Closes (text_of source.now) (place_of source.now r.0)) }
-    ensures decides { context_of context ≡ flow_in → DecidesPart (text_of source.now) least (pair (text_of source.now) (Unit {0}) (handles_of handles.entry) (opens (text_of source.now) (Unit {0}) (handles_of handles.entry) room) (below (text_of source.now) (Unit {0}) (handles_of handles.entry) room) least flow_in) (place_of source.now at) (λ r. place_of source.now r.0) result }
+    ensures decides { context_of context ≡ flow_in → DecidesPart (text_of source.now) least (pair (text_of source.now) wide (handles_of handles.entry) (opens (text_of source.now) wide (handles_of handles.entry) room) (below (text_of source.now) wide (handles_of handles.entry) room) least flow_in) (place_of source.now at) (λ r. place_of source.now r.0) result }
     ensures placed { IfErr result (IsPlaced source.now) }
 {
     push_flow_mapping(out, at)?;
@@ -832,9 +832,9 @@ fn read_value<'a, K: Keeper>(
     ensures border { IfOk result (λ r. IsBorder source.now r.0) }
     ensures onward { IfOk result (λ r. after ≤ r.0) }
     ensures within { IfOk result (λ r. r.1 ≤ room) }
-    ensures reads { Appends (λ r. from_room r.1 (λ room. value_at (text_of source.now) (Unit {0}) (handles_of handles.entry) kind room least (context_of context))) (place_of source.now colon) (λ r. place_of source.now r.0) (holds_of K.holds) out.old out.new result }
+    ensures reads { Appends (λ r. from_room r.1 (λ room. value_at (text_of source.now) wide (handles_of handles.entry) kind room least (context_of context))) (place_of source.now colon) (λ r. place_of source.now r.0) (holds_of K.holds) out.old out.new result }
     ensures ends { IfOk result (λ r. Inside (text_of source.now) (place_of source.now r.0) ⊎ Closes (text_of source.now) (place_of source.now r.0)) }
-    ensures decides { context_of context ≡ flow_in → DecidesPart (text_of source.now) least (value_at (text_of source.now) (Unit {0}) (handles_of handles.entry) kind room least flow_in) (place_of source.now colon) (λ r. place_of source.now r.0) result }
+    ensures decides { context_of context ≡ flow_in → DecidesPart (text_of source.now) least (value_at (text_of source.now) wide (handles_of handles.entry) kind room least flow_in) (place_of source.now colon) (λ r. place_of source.now r.0) result }
     ensures placed { IfErr result (IsPlaced source.now) }
 {
     let start = separation(source, after, least, context)?;
@@ -870,9 +870,9 @@ fn read_mapping<'a, K: Keeper>(
     ensures border { IfOk result (λ node. IsBorder source.now node.end) }
     ensures onward { IfOk result (λ node. at < node.end) }
     ensures within { IfOk result (λ node. node.deep ≤ room) }
-    ensures reads { Appends (λ node. content_from (text_of source.now) (Unit {0}) (handles_of handles.entry) node.deep node.kind least (context_of context)) (place_of source.now at) (λ node. place_of source.now node.end) (holds_of K.holds) out.old out.new result }
+    ensures reads { Appends (λ node. content_from (text_of source.now) wide (handles_of handles.entry) node.deep node.kind least (context_of context)) (place_of source.now at) (λ node. place_of source.now node.end) (holds_of K.holds) out.old out.new result }
     ensures kind { IfOk result (λ node. node.kind ≡ Json) }
-    ensures decides { inner (context_of context) ≡ flow_in → DecidesEach (λ p. flow_map (text_of source.now) (Unit {0}) (handles_of handles.entry) (opens (text_of source.now) (Unit {0}) (handles_of handles.entry) room) (below (text_of source.now) (Unit {0}) (handles_of handles.entry) room) p least (context_of context)) (place_of source.now at) (λ node. place_of source.now node.end) result }
+    ensures decides { inner (context_of context) ≡ flow_in → DecidesEach (λ p. flow_map (text_of source.now) wide (handles_of handles.entry) (opens (text_of source.now) wide (handles_of handles.entry) room) (below (text_of source.now) wide (handles_of handles.entry) room) p least (context_of context)) (place_of source.now at) (λ node. place_of source.now node.end) result }
     ensures placed { IfErr result (IsPlaced source.now) }
 {
     push_flow_mapping(out, at)?;
@@ -913,8 +913,8 @@ fn read_entries<'a, K: Keeper>(
     ensures border { IfOk result (λ r. IsBorder source.now r.0) }
     ensures onward { IfOk result (λ r. first < r.0) }
     ensures within { IfOk result (λ r. r.1 ≤ room) }
-    ensures reads { Appends (λ r. from_room r.1 (λ room. parts (text_of source.now) least (context_of context) 125 (entry_at (text_of source.now) (Unit {0}) (handles_of handles.entry) room least (context_of context)))) (place_of source.now first) (λ r. place_of source.now r.0) (holds_of K.holds) out.old out.new result }
-    ensures decides { context_of context ≡ flow_in → Decides (parts (text_of source.now) least flow_in 125 (entry_at (text_of source.now) (Unit {0}) (handles_of handles.entry) room least flow_in)) Here (place_of source.now first) Here (λ r. place_of source.now r.0) result }
+    ensures reads { Appends (λ r. from_room r.1 (λ room. parts (text_of source.now) least (context_of context) 125 (entry_at (text_of source.now) wide (handles_of handles.entry) room least (context_of context)))) (place_of source.now first) (λ r. place_of source.now r.0) (holds_of K.holds) out.old out.new result }
+    ensures decides { context_of context ≡ flow_in → Decides (parts (text_of source.now) least flow_in 125 (entry_at (text_of source.now) wide (handles_of handles.entry) room least flow_in)) Here (place_of source.now first) Here (λ r. place_of source.now r.0) result }
     ensures placed { IfErr result (IsPlaced source.now) }
 {
     let mut here = first;
@@ -958,9 +958,9 @@ fn read_entry<'a, K: Keeper>(
     ensures border { IfOk result (λ r. IsBorder source.now r.0) }
     ensures onward { IfOk result (λ r. at ≤ r.0) }
     ensures within { IfOk result (λ r. r.1 ≤ room) }
-    ensures reads { Appends (λ r. from_room r.1 (λ room. entry_at (text_of source.now) (Unit {0}) (handles_of handles.entry) room least (context_of context))) (place_of source.now at) (λ r. place_of source.now r.0) (holds_of K.holds) out.old out.new result }
+    ensures reads { Appends (λ r. from_room r.1 (λ room. entry_at (text_of source.now) wide (handles_of handles.entry) room least (context_of context))) (place_of source.now at) (λ r. place_of source.now r.0) (holds_of K.holds) out.old out.new result }
     ensures ends { IfOk result (λ r. Inside (text_of source.now) (place_of source.now r.0) ⊎ Closes (text_of source.now) (place_of source.now r.0)) }
-    ensures decides { context_of context ≡ flow_in → DecidesPart (text_of source.now) least (entry_at (text_of source.now) (Unit {0}) (handles_of handles.entry) room least flow_in) (place_of source.now at) (λ r. place_of source.now r.0) result }
+    ensures decides { context_of context ≡ flow_in → DecidesPart (text_of source.now) least (entry_at (text_of source.now) wide (handles_of handles.entry) room least flow_in) (place_of source.now at) (λ r. place_of source.now r.0) result }
     ensures placed { IfErr result (IsPlaced source.now) }
 {
     match question_sign(source, at, context) {
@@ -988,9 +988,9 @@ fn read_asked<'a, K: Keeper>(
     ensures border { IfOk result (λ r. IsBorder source.now r.0) }
     ensures onward { IfOk result (λ r. after ≤ r.0) }
     ensures within { IfOk result (λ r. r.1 ≤ room) }
-    ensures reads { Appends (λ r. from_room r.1 (λ room. asked_at (text_of source.now) (Unit {0}) (handles_of handles.entry) room least (context_of context))) (place_of source.now after) (λ r. place_of source.now r.0) (holds_of K.holds) out.old out.new result }
+    ensures reads { Appends (λ r. from_room r.1 (λ room. asked_at (text_of source.now) wide (handles_of handles.entry) room least (context_of context))) (place_of source.now after) (λ r. place_of source.now r.0) (holds_of K.holds) out.old out.new result }
     ensures ends { IfOk result (λ r. Inside (text_of source.now) (place_of source.now r.0) ⊎ Closes (text_of source.now) (place_of source.now r.0)) }
-    ensures decides { context_of context ≡ flow_in → DecidesPart (text_of source.now) least (asked_at (text_of source.now) (Unit {0}) (handles_of handles.entry) room least flow_in) (place_of source.now after) (λ r. place_of source.now r.0) result }
+    ensures decides { context_of context ≡ flow_in → DecidesPart (text_of source.now) least (asked_at (text_of source.now) wide (handles_of handles.entry) room least flow_in) (place_of source.now after) (λ r. place_of source.now r.0) result }
     ensures placed { IfErr result (IsPlaced source.now) }
 {
     let start = separation(source, after, least, context)?;
@@ -1023,9 +1023,9 @@ fn read_keyed<'a, K: Keeper>(
     ensures border { IfOk result (λ r. IsBorder source.now r.0) }
     ensures onward { IfOk result (λ r. at ≤ r.0) }
     ensures within { IfOk result (λ r. r.1 ≤ room) }
-    ensures reads { Appends (λ r. from_room r.1 (λ room. keyed_at (text_of source.now) (Unit {0}) (handles_of handles.entry) room least (context_of context))) (place_of source.now at) (λ r. place_of source.now r.0) (holds_of K.holds) out.old out.new result }
+    ensures reads { Appends (λ r. from_room r.1 (λ room. keyed_at (text_of source.now) wide (handles_of handles.entry) room least (context_of context))) (place_of source.now at) (λ r. place_of source.now r.0) (holds_of K.holds) out.old out.new result }
     ensures ends { IfOk result (λ r. Inside (text_of source.now) (place_of source.now r.0) ⊎ Closes (text_of source.now) (place_of source.now r.0)) }
-    ensures decides { context_of context ≡ flow_in → DecidesPart (text_of source.now) least (keyed_at (text_of source.now) (Unit {0}) (handles_of handles.entry) room least flow_in) (place_of source.now at) (λ r. place_of source.now r.0) result }
+    ensures decides { context_of context ≡ flow_in → DecidesPart (text_of source.now) least (keyed_at (text_of source.now) wide (handles_of handles.entry) room least flow_in) (place_of source.now at) (λ r. place_of source.now r.0) result }
     ensures placed { IfErr result (IsPlaced source.now) }
 {
     match value_sign(source, at, Kind::Yaml, context) {
@@ -1067,9 +1067,9 @@ fn read_key_entry<'a, K: Keeper>(
     ensures border { IfOk result (λ r. IsBorder source.now r.0) }
     ensures onward { IfOk result (λ r. at ≤ r.0) }
     ensures within { IfOk result (λ r. r.1 ≤ room) }
-    ensures reads { Appends (λ r. from_room r.1 (λ room. keyed_at (text_of source.now) (Unit {0}) (handles_of handles.entry) room least (context_of context))) (place_of source.now at) (λ r. place_of source.now r.0) (holds_of K.holds) out.old out.new result }
+    ensures reads { Appends (λ r. from_room r.1 (λ room. keyed_at (text_of source.now) wide (handles_of handles.entry) room least (context_of context))) (place_of source.now at) (λ r. place_of source.now r.0) (holds_of K.holds) out.old out.new result }
     ensures ends { IfOk result (λ r. Inside (text_of source.now) (place_of source.now r.0) ⊎ Closes (text_of source.now) (place_of source.now r.0)) }
-    ensures decides { context_of context ≡ flow_in → DecidesPart (text_of source.now) least (keyed_at (text_of source.now) (Unit {0}) (handles_of handles.entry) room least flow_in) (place_of source.now at) (λ r. place_of source.now r.0) result }
+    ensures decides { context_of context ≡ flow_in → DecidesPart (text_of source.now) least (keyed_at (text_of source.now) wide (handles_of handles.entry) room least flow_in) (place_of source.now at) (λ r. place_of source.now r.0) result }
     ensures placed { IfErr result (IsPlaced source.now) }
 {
     let key = read_flow_node(alloc, source, at, least, context, room, handles, out)?;

@@ -9,7 +9,7 @@ use Rattle.std.specs.BTreeMap.{BTreeMap, get_by}
 use Rattle.std.specs.Cmp.Lexicographic.{slice_cmp}
 use Rattle.std.specs.Ordering.{nat_cmp}
 use Rattle.yaml_definitions.specs.model.Limits.{height_limit}
-use Rattle.yaml_definitions.specs.model.Tree.{Tree, height}
+use Rattle.yaml_definitions.specs.model.Tree.{Tree, height, a_sequence, a_mapping}
 use Rattle.yaml_definitions.specs.model.Event.{Anchor}
 use Rattle.yaml_definitions.specs.model.Unfold.{Outcome, Table, or_else}
 use Rattle.yaml_graph.specs.ComposerSteps as machine
@@ -28,8 +28,8 @@ is_mapping collections.Mapping = true
 
 -- the place of the kind
 abbrev pub kind_number : Collection → ℕ
-kind_number collections.Sequence = 1
-kind_number collections.Mapping = 2
+kind_number collections.Sequence = a_sequence
+kind_number collections.Mapping = a_mapping
 
 abbrev pub anchor_view : Option (CowStr Global) → Anchor
 anchor_view anchor = option_map cow_str_bytes anchor

@@ -1,6 +1,6 @@
 -- What the composer does, event by event, on plain values.
 use Rattle.std.specs.Prelude.{ℕ, suc, Bool, true, false, cond, List, [], ◌∷◌, ◌++◌, length, Ok, Err, Option, None, Some}
-use Rattle.yaml_definitions.specs.model.Tree.{Tree, scalar, sequence, mapping}
+use Rattle.yaml_definitions.specs.model.Tree.{Tree, scalar, sequence, mapping, a_sequence, a_mapping}
 use Rattle.yaml_definitions.specs.model.Event.{Anchor, Event, document_start, sequence_start, sequence_end, mapping_start, mapping_end, scalar_event, alias_event}
 use Rattle.yaml_definitions.specs.model.Core.{resolve, collection_tag}
 use Rattle.yaml_definitions.specs.model.Unfold.{Outcome, Table, and_then, placed, opened, closed, last_named, tree_named}
@@ -66,8 +66,8 @@ added s t = Ok (record { inner = s.inner ++ (t ∷ []); outer = s.outer; table =
 unfoldable pub step : ℕ → Event → State → Option (Outcome State)
 step at (scalar_event a g y x) s = Some (and_then (placed at (resolve g y x)) (scalar_added a s))
 step at (alias_event name) s = Some (and_then (placed at (tree_named (last_named name s.table))) (added s))
-step at (sequence_start b a g) s = Some (and_then (placed at (collection_tag 1 g)) (λ h. Ok (collection_begun a s h)))
-step at (mapping_start b a g) s = Some (and_then (placed at (collection_tag 2 g)) (λ h. Ok (collection_begun a s h)))
+step at (sequence_start b a g) s = Some (and_then (placed at (collection_tag a_sequence g)) (λ h. Ok (collection_begun a s h)))
+step at (mapping_start b a g) s = Some (and_then (placed at (collection_tag a_mapping g)) (λ h. Ok (collection_begun a s h)))
 step at sequence_end s = collection_ended false s s.outer
 step at mapping_end s = collection_ended true s s.outer
 step at (document_start b) s = cleared s s.outer

@@ -3,6 +3,7 @@ use Rattle.std.specs.Prelude.{◌≡◌, ℕ, List}
 use Rattle.yaml_definitions.specs.model.Limits.{open_limit}
 use Rattle.yaml_definitions.specs.model.Event.{Event}
 use Rattle.yaml_definitions.specs.grammar.Streams.{ReadsText}
+use Rattle.yaml_definitions.specs.grammar.Nodes.{wide}
 use Rattle.law_one_reading.specs.Readings.{End}
 use Rattle.law_one_reading.specs.Follows.{Over, Follow}
 use Rattle.yaml_flow.specs.Held.{Puts}
@@ -14,12 +15,12 @@ module _ (cs : List ℕ) where
 
   -- no other list of events is a reading of the whole text
   abbrev pub IsAlone : List Event → Type 0
-  IsAlone es = (fs : List Event) → ReadsText cs (Unit {0}) open_limit fs → fs ≡ es
+  IsAlone es = (fs : List Event) → ReadsText cs wide open_limit fs → fs ≡ es
 
   -- none is
   abbrev pub HasNoReading : Type 0
-  HasNoReading = (es : List Event) → ReadsText cs (Unit {0}) open_limit es → ⊥
+  HasNoReading = (es : List Event) → ReadsText cs wide open_limit es → ⊥
 
   -- the events of a reading of the whole text were put down, and no other list is one
   abbrev pub PutsReading : {S : Type 0} → (S → List Event → Type 0) → S → S → Type 0
-  PutsReading holds before after = (es : List Event) × Puts holds before es after × ReadsText cs (Unit {0}) open_limit es × IsAlone es
+  PutsReading holds before after = (es : List Event) × Puts holds before es after × ReadsText cs wide open_limit es × IsAlone es

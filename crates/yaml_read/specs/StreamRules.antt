@@ -9,6 +9,7 @@ use Rattle.yaml_definitions.specs.grammar.Separation.{AtEnd, DocumentMark, s-l-c
 use Rattle.yaml_definitions.specs.grammar.Tags.{Handles}
 use Rattle.yaml_definitions.specs.grammar.Events.{no_props, e-scalar as empty}
 use Rattle.yaml_definitions.specs.grammar.Streams.{document_mark, l-bare-document as bare_document, l-directive-document as directive_document}
+use Rattle.yaml_definitions.specs.grammar.Nodes.{wide}
 use Rattle.yaml_flow.specs.declared.line.Line.{Line}
 use Rattle.yaml_read.specs.declared.stream.Next.{Next}
 use Rattle.yaml_read.specs.declared.stream.Next.TheVariants.{End, Suffix, Explicit, Content}
@@ -17,7 +18,7 @@ use Rattle.yaml_read.specs.declared.stream.Next.TheVariants.{End, Suffix, Explic
 pub record IsMarkOf (source : Chars) (c at to : ℕ) : Type 0 where
   pub border : IsBorder source to
   pub onward : at < to
-  pub mark : document_mark (text_of source) (Unit {0}) open_limit c (place_of source at) (place_of source to)
+  pub mark : document_mark (text_of source) wide open_limit c (place_of source at) (place_of source to)
 
 -- how a stream goes on at a line that is no comment
 abbrev pub NextIs : Chars → Line → Next → Type 0
@@ -29,14 +30,14 @@ NextIs source line Content = (AtEnd (text_of source) (place_of source line.start
 module _ (cs : List ℕ) where
   -- what stands after a document's mark
   abbrev pub after_mark : Handles → Rule (List Event)
-  after_mark handles = bare_document cs (Unit {0}) open_limit handles ∪ (gives (empty no_props) ◂ s_l_comments cs)
+  after_mark handles = bare_document cs wide open_limit handles ∪ (gives (empty no_props) ◂ s_l_comments cs)
 
   -- a document's events with its start, as it opens
   abbrev pub opened_by_mark : Handles → Rule (List Event)
   opened_by_mark handles = seen (λ es. document_start true ∷ es) (after_mark handles)
 
   abbrev pub opened_bare : Rule (List Event)
-  opened_bare = seen (λ es. document_start false ∷ es) (bare_document cs (Unit {0}) open_limit [])
+  opened_bare = seen (λ es. document_start false ∷ es) (bare_document cs wide open_limit [])
 
   abbrev pub opened_by_directives : Rule (List Event)
-  opened_by_directives = seen (λ es. document_start true ∷ es) (directive_document cs (Unit {0}) open_limit)
+  opened_by_directives = seen (λ es. document_start true ∷ es) (directive_document cs wide open_limit)

@@ -7,6 +7,7 @@ ghost use Rattle.yaml_text.specs.Source.{text_of};
 ghost use Rattle.yaml_text.specs.LeafAnswer.{IsRefusal};
 ghost use Rattle.yaml_text.specs.Placed.{IsPlaced};
 ghost use Rattle.yaml_definitions.specs.grammar.Streams.{ReadsText};
+ghost use Rattle.yaml_definitions.specs.grammar.Nodes.{wide};
 ghost use Rattle.yaml_read.specs.Decided.{IsAlone, HasNoReading};
 ghost use Rattle.yaml_read.specs.Counts.{content_of, CountHolds, Grows};
 
@@ -105,7 +106,7 @@ impl Keeper for Counter {
 
 /// Counts the events of a stream (9.2) and their contents' bytes, with no list of them.
 pub fn count_events(alloc: Global, source: &Chars<'_>) -> Result<Counter, Fault>
-    ensures ok { IfOk result (λ count. (es : List PlainEvent) × ReadsText (text_of source.now) (Unit {0}) open_limit es × IsAlone (text_of source.now) es × CountHolds count es) }
+    ensures ok { IfOk result (λ count. (es : List PlainEvent) × ReadsText (text_of source.now) wide open_limit es × IsAlone (text_of source.now) es × CountHolds count es) }
     ensures err { IfErr result IsRefusal }
     ensures decides { IfErr result (λ e. (e ≡ Fault.OutOfMemory) ⊎ HasNoReading (text_of source.now)) }
     ensures placed { IfErr result (IsPlaced source.now) }

@@ -12,6 +12,7 @@ ghost use Rattle.yaml_text.specs.Source.{text_of, place_of, IsBorder};
 ghost use Rattle.yaml_definitions.specs.grammar.Rules.{◌∪◌};
 ghost use Rattle.yaml_definitions.specs.grammar.Separation.{StartsLine, DocumentMarkOf};
 ghost use Rattle.yaml_definitions.specs.grammar.Streams.{ReadsText};
+ghost use Rattle.yaml_definitions.specs.grammar.Nodes.{wide};
 ghost use Rattle.yaml_text.specs.LeafAnswer.{IsRefusal};
 ghost use Rattle.law_going_on.specs.GoingOn.{Here};
 ghost use Rattle.yaml_flow.specs.NodeAnswer.{Appends, Decides};
@@ -201,7 +202,7 @@ fn read_pieces<'a, K: Keeper>(
     source: &Chars<'a>,
     out: &mut Sink<'a, K>,
 ) -> Result<(), Fault>
-    ensures ok { IfOk result (λ _. (es : List PlainEvent) × Puts (holds_of K.holds) out.old es out.new × ReadsText (text_of source.now) (Unit {0}) open_limit (stream_start ∷ (es ++ (stream_end ∷ [])))) }
+    ensures ok { IfOk result (λ _. (es : List PlainEvent) × Puts (holds_of K.holds) out.old es out.new × ReadsText (text_of source.now) wide open_limit (stream_start ∷ (es ++ (stream_end ∷ [])))) }
     ensures err { IfErr result IsRefusal }
     ensures decides { IfErr result (λ e. (e ≡ Fault.OutOfMemory) ⊎ HasNoReading (text_of source.now)) }
     ensures placed { IfErr result (IsPlaced source.now) }
@@ -261,7 +262,7 @@ pub fn read_into<'a, K: Keeper>(
 /// that is malformed, repeated or of another version (9), a handle that is not bound (10), a malformed tag (11), and anything
 /// else that the productions do not go on with (4).
 pub fn read_events<'a>(alloc: Global, source: &Chars<'a>) -> Result<Vec<Event<'a>>, Fault>
-    ensures ok { IfOk result (λ events. ReadsText (text_of source.now) (Unit {0}) open_limit (map event_of events.items)) }
+    ensures ok { IfOk result (λ events. ReadsText (text_of source.now) wide open_limit (map event_of events.items)) }
     ensures err { IfErr result IsRefusal }
     ensures only { IfOk result (λ events. IsAlone (text_of source.now) (map event_of events.items)) }
     ensures decides { IfErr result (λ e. (e ≡ Fault.OutOfMemory) ⊎ HasNoReading (text_of source.now)) }

@@ -3,7 +3,7 @@ use Rattle.std.specs.Prelude.{ℕ, suc, Bool, true, cond, ◌+◌, ◌++◌, Lis
 use Rattle.std.specs.declared.option.Option.TheVariants.{None, Some}
 use Rattle.std.specs.List.{filter, list_any, position_or_len}
 use Rattle.std.specs.Int.Digits.{digits_of}
-use Rattle.yaml_definitions.specs.model.Tree.{Tree, Trees, Pairs, scalar, sequence, mapping, end, item, done, entry}
+use Rattle.yaml_definitions.specs.model.Tree.{Tree, Trees, Pairs, scalar, sequence, mapping, end, item, done, entry, a_scalar, a_sequence, a_mapping}
 use Rattle.yaml_definitions.specs.model.Same.{same}
 use Rattle.yaml_definitions.specs.model.Event.{Anchor, double}
 use Rattle.yaml_definitions.specs.model.Serial.{SerialNode, SerialNodes, SerialPairs, alias_at, scalar_at, sequence_at, mapping_at, end_serial, item_serial, done_serial, entry_serial}
@@ -35,13 +35,13 @@ module _ (short : Tree → Bool) (repeated : List Tree) where
   -- a tree whose pairs stand in order, with the nodes written out before it
   unfoldable mutual
     pub serialize : Tree → List Tree → SerialNode
-    serialize (scalar a x) before = cond (is_again short (scalar a x) before) (alias_at (alias_of repeated (scalar a x) before)) (scalar_at (anchor_of repeated (scalar a x) before) (written_tag 0 a) double x)
+    serialize (scalar a x) before = cond (is_again short (scalar a x) before) (alias_at (alias_of repeated (scalar a x) before)) (scalar_at (anchor_of repeated (scalar a x) before) (written_tag a_scalar a) double x)
     serialize (sequence a ts) before =
         cond (is_again short (sequence a ts) before) (alias_at (alias_of repeated (sequence a ts) before))
-        (sequence_at (anchor_of repeated (sequence a ts) before) (written_tag 1 a) true (serialize_all ts (before ++ (sequence a ts ∷ []))))
+        (sequence_at (anchor_of repeated (sequence a ts) before) (written_tag a_sequence a) true (serialize_all ts (before ++ (sequence a ts ∷ []))))
     serialize (mapping a ps) before =
         cond (is_again short (mapping a ps) before) (alias_at (alias_of repeated (mapping a ps) before))
-        (mapping_at (anchor_of repeated (mapping a ps) before) (written_tag 2 a) true (serialize_pairs ps (before ++ (mapping a ps ∷ []))))
+        (mapping_at (anchor_of repeated (mapping a ps) before) (written_tag a_mapping a) true (serialize_pairs ps (before ++ (mapping a ps ∷ []))))
 
     pub serialize_all : Trees → List Tree → SerialNodes
     serialize_all end before = end_serial

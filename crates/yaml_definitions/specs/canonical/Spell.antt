@@ -2,7 +2,7 @@
 use Rattle.std.specs.Prelude.{ℕ, Bool, true, false, nat_le, List, [], ◌∷◌, map, length, encode_utf8_all}
 use Rattle.std.specs.declared.option.Option.TheVariants.{None}
 use Rattle.yaml_definitions.specs.model.Limits.{short_limit}
-use Rattle.yaml_definitions.specs.model.Tree.{Tree, scalar, sequence, mapping, end, done}
+use Rattle.yaml_definitions.specs.model.Tree.{Tree, scalar, sequence, mapping, end, done, a_scalar, a_sequence, a_mapping}
 use Rattle.yaml_definitions.specs.model.Order.{arranged}
 use Rattle.yaml_definitions.specs.canonical.Walk.{walk, agains}
 use Rattle.yaml_definitions.specs.model.Event.{Event, double}
@@ -17,9 +17,9 @@ text_len m = length (encode_utf8_all (node_text m []))
 
 -- a scalar or an empty collection of at most `short_limit` bytes
 unfoldable pub short : Tree → Bool
-short (scalar g x) = nat_le (text_len (scalar_at None (written_tag 0 g) double x)) short_limit
-short (sequence g end) = nat_le (text_len (sequence_at None (written_tag 1 g) true end_serial)) short_limit
-short (mapping g done) = nat_le (text_len (mapping_at None (written_tag 2 g) true done_serial)) short_limit
+short (scalar g x) = nat_le (text_len (scalar_at None (written_tag a_scalar g) double x)) short_limit
+short (sequence g end) = nat_le (text_len (sequence_at None (written_tag a_sequence g) true end_serial)) short_limit
+short (mapping g done) = nat_le (text_len (mapping_at None (written_tag a_mapping g) true done_serial)) short_limit
 short _ = false
 
 -- the serialization tree of a tree whose pairs stand in order

@@ -15,7 +15,7 @@ pub record Header : Type 0 where
   pub digit : Option ℕ
   pub chomp : Chomp
 
--- no production: an empty line with its break, or a content line and whether its break stands there
+-- no production: an empty line with its break, or a content line and whether its break is there
 pub data Line : Type 0 where
   blank : Line
   content_line : Bool → List ℕ → Line

@@ -10,14 +10,14 @@ use Rattle.yaml_definitions.specs.grammar.Tags as tags
 use Rattle.yaml_definitions.specs.grammar.FlowScalars as flow
 use Rattle.yaml_definitions.specs.grammar.BlockScalars as block
 use Rattle.yaml_definitions.specs.grammar.Directives as directives
-use Rattle.yaml_definitions.specs.grammar.Nodes.{Part, reads}
+use Rattle.yaml_definitions.specs.grammar.Nodes.{Part, reads, wide}
 use Rattle.yaml_definitions.specs.grammar.Streams.{l-bare-document, l-yaml-stream, ReadsText}
 use Rattle.yaml_definitions.specs.grammar.Reading.{Reads}
 
 -- whether `?` keys and empty keys are read in flow collections
 abbrev pub Profile : Bool → Type 0
 Profile false = ⊥
-Profile true = Unit {0}
+Profile true = wide
 
 -- each reading ends at or after its start
 abbrev pub Onward : Span → Type 0
@@ -40,16 +40,16 @@ pub record GoesOn (cs : List ℕ) : Type 0 where
   pub literal : (col : ℕ) → Forward (block.c-l+literal cs col)
   pub folded : (col : ℕ) → Forward (block.c-l+folded cs col)
   pub directives : Forward (directives.directives cs)
-  pub node : (wide : Bool) (handles : tags.Handles) (room : ℕ) (p : Part) → Forward (reads cs (Profile wide) handles room p)
-  pub stream : (wide : Bool) (room : ℕ) → Forward (l-yaml-stream cs (Profile wide) room)
+  pub node : (is_wide : Bool) (handles : tags.Handles) (room : ℕ) (p : Part) → Forward (reads cs (Profile is_wide) handles room p)
+  pub stream : (is_wide : Bool) (room : ℕ) → Forward (l-yaml-stream cs (Profile is_wide) room)
 
 abbrev pub ReadingsGoOn : Type 0
 ReadingsGoOn = (cs : List ℕ) → GoesOn cs
 
 -- No line of a bare document begins with a document mark.
 abbrev pub DocumentsUnmarked : Type 0
-DocumentsUnmarked = (cs : List ℕ) (wide : Bool) (room : ℕ) (handles : tags.Handles) (i j : ℕ) (es : List Event)
-    → l-bare-document cs (Profile wide) room handles i j es → Unmarked cs i j
+DocumentsUnmarked = (cs : List ℕ) (is_wide : Bool) (room : ℕ) (handles : tags.Handles) (i j : ℕ) (es : List Event)
+    → l-bare-document cs (Profile is_wide) room handles i j es → Unmarked cs i j
 
 -- Bytes are one text at most.
 abbrev pub OneText : Type 0

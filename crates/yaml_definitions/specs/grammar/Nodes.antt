@@ -17,7 +17,11 @@ pub data Part : Type 0 where
   yaml_part json_part pair_part block_part : ℕ → Ctx → Part
   compact_part : ℕ → Part
 
--- Wide says whether `?` keys and empty keys are read in flow collections.
+-- no production: the wide profile, in which `?` keys and empty keys are read in flow collections
+abbrev pub wide : Type 0
+wide = Unit {0}
+
+-- Wide says whether the profile is the wide one.
 module _ (cs : List ℕ) (Wide : Type 0) (handles : Handles) where
   -- Open says whether one more collection may be opened.
   module _ (Open : Type 0) (inside : Part → Rule (List Event)) where
@@ -166,7 +170,7 @@ module _ (cs : List ℕ) (Wide : Type 0) (handles : Handles) where
     unfoldable pub ns-l-compact-mapping : ℕ → Rule (List Event)
     ns-l-compact-mapping k = given Open (seen (wrapped (map_start false no_props) mapping_end) (ns-l-block-map-entry k ⨾ any (s-indent cs k ▸ ns-l-block-map-entry k)))
 
-    -- [201] seq-space(n,c) (8.2.3): in block-out a sequence may stand one column further left
+    -- [201] seq-space(n,c) (8.2.3): in block-out a sequence may stand a column further left
     abbrev pub seq-space : ℕ → Ctx → ℕ
     seq-space col block_in = col
     seq-space col block_out = col - 1

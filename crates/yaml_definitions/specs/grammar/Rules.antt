@@ -25,7 +25,7 @@ abbrev pub ◌◆◌ : Span → Span → Span
 abbrev pub ◌⊔◌ : Span → Span → Span
 (R ⊔ S) i j = R i j ⊎ S i j
 
--- a span and then a rule; a rule and then a span. The value is the rule's
+-- a span, then a rule; a rule, then a span. The value is the rule's
 abbrev pub ◌▸◌ : {V : Type 0} → Span → Rule V → Rule V
 (R ▸ S) i j v = (k : ℕ) × R i k × S k j v
 

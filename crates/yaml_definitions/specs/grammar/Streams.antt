@@ -29,7 +29,7 @@ piece_events (document_piece explicit es ∷ ps) = document_start explicit ∷ (
 unfoldable pub stream_of_pieces : List Piece → List Event
 stream_of_pieces ps = stream_start ∷ (piece_events ps ++ (stream_end ∷ []))
 
--- Wide says whether `?` keys and empty keys are read in flow collections, room how many collections may be open.
+-- Wide is as in `Nodes`; room says how many collections may be open.
 module _ (cs : List ℕ) (Wide : Type 0) (room : ℕ) where
   -- [203] c-directives-end, [204] c-document-end (9.1.2): three of these characters, at column 0
   unfoldable pub document_mark : ℕ → Span

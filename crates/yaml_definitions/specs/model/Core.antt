@@ -77,7 +77,7 @@ abbrev pub exponent_of : Option (List ℕ) → Option ℤ
 exponent_of None = Some (pos 0)
 exponent_of (Some x) = cond (are_digits 10 (unsigned x)) (Some (signed (is_negative x) (number_in 10 (unsigned x)))) None
 
--- the digits before the point, those after it, and the exponent
+-- digits before the point, digits after it, and the exponent
 abbrev pub scaled : Bool → List ℕ → List ℕ → Option ℤ → Option Value
 scaled negative whole part None = None
 scaled negative whole part (Some e) = Some (decimal_value negative (number_in 10 (whole ++ part)) (e -ℤ pos (length part)))
@@ -226,7 +226,7 @@ resolve untagged _ x = Ok (str_tag, x)
 resolve non_specific y x = Ok (str_tag, x)
 resolve (full g) y x = by_tag g x
 
--- the tag of a sequence or a mapping, by the place of the kind
+-- the tag of a sequence or a mapping, by its kind
 unfoldable pub collection_tag : ℕ → WrittenTag → Result (List ℕ) Cause
 collection_tag kind untagged = Ok (default_tag kind)
 collection_tag kind non_specific = Ok (default_tag kind)

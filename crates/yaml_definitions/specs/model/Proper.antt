@@ -3,7 +3,7 @@ use Rattle.std.specs.Prelude.{◌≡◌, ◌≤◌, true, List, [], ◌∷◌, l
 use Rattle.std.specs.Str.{is_utf8}
 use Rattle.yaml_definitions.specs.model.Limits.{text_limit, height_limit}
 use Rattle.yaml_definitions.specs.model.Tag.{IsTag}
-use Rattle.yaml_definitions.specs.model.Tree.{Tree, Trees, Pairs, scalar, sequence, mapping, end, item, done, entry, height}
+use Rattle.yaml_definitions.specs.model.Tree.{Tree, Trees, Pairs, scalar, sequence, mapping, end, item, done, entry, height, a_sequence, a_mapping}
 use Rattle.yaml_definitions.specs.model.Same.{Keyed}
 use Rattle.yaml_definitions.specs.model.Event.{full, double}
 use Rattle.yaml_definitions.specs.model.Core.{resolve, collection_tag}
@@ -14,8 +14,8 @@ use Rattle.yaml_definitions.specs.canonical.Spell.{spell_bytes}
 unfoldable mutual
   pub IsProper : Tree → Type 0
   IsProper (scalar g x) = IsTag g × (is_utf8 x ≡ true) × (resolve (full g) double x ≡ Ok (g, x))
-  IsProper (sequence g ts) = IsTag g × (collection_tag 1 (full g) ≡ Ok g) × AreProper ts
-  IsProper (mapping g ps) = IsTag g × (collection_tag 2 (full g) ≡ Ok g) × ArePairsProper ps
+  IsProper (sequence g ts) = IsTag g × (collection_tag a_sequence (full g) ≡ Ok g) × AreProper ts
+  IsProper (mapping g ps) = IsTag g × (collection_tag a_mapping (full g) ≡ Ok g) × ArePairsProper ps
 
   pub AreProper : Trees → Type 0
   AreProper end = Unit {0}

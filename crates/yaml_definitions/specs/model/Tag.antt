@@ -34,7 +34,7 @@ seq_tag = core_tag (codes "seq")
 abbrev pub map_tag : List ℕ
 map_tag = core_tag (codes "map")
 
--- the tag of a scalar, a sequence and a mapping that carry none, by the place of the kind
+-- the tag of a scalar, a sequence and a mapping that carry none, by the kind
 abbrev pub default_tag : ℕ → List ℕ
 default_tag zero = str_tag
 default_tag (suc zero) = seq_tag

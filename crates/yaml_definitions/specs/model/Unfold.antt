@@ -2,7 +2,7 @@
 use Rattle.std.specs.Prelude.{ℕ, suc, ◌+◌, cond, ◌++◌, List, [], ◌∷◌, length, set, Result, Ok, Err}
 use Rattle.std.specs.declared.option.Option.{Option}
 use Rattle.std.specs.declared.option.Option.TheVariants.{None, Some}
-use Rattle.yaml_definitions.specs.model.Tree.{Tree, Trees, Pairs, scalar, sequence, mapping, end, item, done, entry}
+use Rattle.yaml_definitions.specs.model.Tree.{Tree, Trees, Pairs, scalar, sequence, mapping, end, item, done, entry, a_sequence, a_mapping}
 use Rattle.std.specs.Prelude.{bytes_eq}
 use Rattle.yaml_definitions.specs.model.Event.{Anchor}
 use Rattle.yaml_definitions.specs.model.Serial.{SerialNode, SerialNodes, SerialPairs, alias_at, scalar_at, sequence_at, mapping_at, end_serial, item_serial, done_serial, entry_serial, flat, Document}
@@ -58,9 +58,9 @@ unfoldable mutual
   unfold_node (scalar_at a g y x) e at =
       and_then (placed at (resolve g y x)) (λ r. Ok (scalar r.0 r.1, closed a (length e) (scalar r.0 r.1) (opened a e)))
   unfold_node (sequence_at a g b ts) e at =
-      and_then (placed at (collection_tag 1 g)) (λ h. and_then (unfold_all ts (opened a e) (suc at)) (λ r. Ok (sequence h r.0, closed a (length e) (sequence h r.0) r.1)))
+      and_then (placed at (collection_tag a_sequence g)) (λ h. and_then (unfold_all ts (opened a e) (suc at)) (λ r. Ok (sequence h r.0, closed a (length e) (sequence h r.0) r.1)))
   unfold_node (mapping_at a g b ps) e at =
-      and_then (placed at (collection_tag 2 g)) (λ h. and_then (unfold_pairs ps (opened a e) (suc at)) (λ r. Ok (mapping h r.0, closed a (length e) (mapping h r.0) r.1)))
+      and_then (placed at (collection_tag a_mapping g)) (λ h. and_then (unfold_pairs ps (opened a e) (suc at)) (λ r. Ok (mapping h r.0, closed a (length e) (mapping h r.0) r.1)))
 
   pub unfold_all : SerialNodes → Table → ℕ → Outcome (Trees × Table)
   unfold_all end_serial e at = Ok (end, e)
