@@ -13,7 +13,7 @@ import unittest
 import yamlcanon
 from yamlcanon import table
 from yamlcanon.many import change, names, shown
-from yamlcanon.table import OtherVersion, Row, Table, keep, rows
+from yamlcanon.table import Judge, OtherVersion, Row, Table, keep, rows
 
 ODD = b"a \\ b\nc\xff.yaml"
 # A command finds the module where these tests have found it.
@@ -77,12 +77,18 @@ class Rows(Folder):
         os.truncate(long, 1 << 34)
         self.assertEqual(rows([long]), [Row(long, 2, None, 1, "1 TooLong", None, None)])
 
+    def test_a_file_that_tells_fewer_bytes_than_it_has_is_read_to_its_end(self):
+        with open("/proc/version", "rb") as file:
+            data = file.read()
+        self.assertEqual(os.stat("/proc/version").st_size, 0)
+        self.assertEqual([(one.size, one.raw) for one in rows(["/proc/version"])], [(len(data), digest(data))])
+
     def test_a_name_that_is_no_text_is_kept(self):
-        path = self.write(ODD, b"a: 1")
+        path, plain = self.write(ODD, b"a: 1"), self.write("plain", b"a: 2")
         filled = self.table("table.db")
-        filled.add(rows([path]))
-        self.assertEqual([one.path for one in filled.rows()], [path])
-        self.assertEqual(filled.missing([path, "other"]), ["other"])
+        filled.add(rows([path, plain]))
+        self.assertEqual([one.path for one in filled.rows()], [path, plain])
+        self.assertEqual(filled.missing([path, plain, "other"]), ["other"])
         self.assertEqual(shown(os.fsdecode(ODD)), b"a \\\\ b\\nc\xff.yaml")
 
     def test_bytes_that_are_met_again_are_judged_once(self):
@@ -94,16 +100,44 @@ class Rows(Folder):
         self.assertEqual(judged, [b"a: 1"])
 
 
+class Counts(Folder):
+    def test_what_was_added_is_counted_as_the_table_counts_it(self):
+        paths = [self.write(name, data) for name, data in (("a", b"x: 1"), ("b", b"{x: 1}"), ("c", b"{"), ("d", b"{"))]
+        filled = self.table("table.db")
+        filled.add(rows([*paths, "none"]))
+        self.assertTrue(filled.counts.are_of(5))
+        self.assertEqual(filled.summary(), (2, 2, 1, 3, 1))
+        again = self.table("table.db")
+        self.assertFalse(again.counts.are_of(5))
+        self.assertEqual(again.summary(), (2, 2, 1, 3, 1))
+        again.add(rows([self.write("e", b"x: 2")]))
+        self.assertEqual([one.summary() for one in (filled, again)], [(3, 2, 1, 4, 2)] * 2)
+
+    def test_no_more_than_so_many_are_counted(self):
+        before, table._MOST_COUNTED = table._MOST_COUNTED, 2
+        self.addCleanup(setattr, table, "_MOST_COUNTED", before)
+        filled = self.table("table.db")
+        for number in range(3):
+            filled.add(rows([self.write(str(number), b"x: 1")]))
+        self.assertEqual((filled.summary(), filled.counts.raws), ((3, 0, 0, 1, 1), set()))
+
+
 class Caches(Folder):
     def judged(self, path, cache):
         """How many times the library is asked for a row."""
         asked, meaning = [], table.meaning
         table.meaning = lambda data: asked.append(data) or meaning(data)
         try:
-            rows([path], cache)
+            for taken in (False, True):
+                judge = Judge(cache)
+                if taken:
+                    judge.take(1 << 30)
+                judge.batch([path])
+                judge.close()
         finally:
             table.meaning = meaning
-        return len(asked)
+        self.assertEqual(len(asked) % 2, 0)
+        return len(asked) // 2
 
     def test_a_later_run_only_reads_and_hashes(self):
         path, cache = self.write("a.yaml", b"a: 1"), os.path.join(self.room, "cache.db")
@@ -123,6 +157,51 @@ class Caches(Folder):
         self.assertEqual(self.judged(path, cache), 1)
         with self.assertRaises(OtherVersion):
             filled.missing([path])
+
+    def test_contents_that_the_cache_has_are_not_asked_for(self):
+        paths, cache = [self.write(str(number), b"a: %d" % (number % 3)) for number in range(9)], os.path.join(self.room, "cache.db")
+        filled = self.table("table.db")
+        filled.add(rows(paths[:2]))
+        keep(cache, filled)
+        for most in (0, 1 << 30):
+            judge = Judge(cache)
+            self.addCleanup(judge.close)
+            judge.take(most)
+            self.assertEqual([len(judge.taken), judge.is_whole], [2, True] if most else [0, False])
+            self.assertEqual([Row(*one) for one in judge.batch(paths)], rows(paths))
+            self.assertEqual(judge.asked, 1)
+
+
+class Processes(unittest.TestCase):
+    def test_none_stays_behind_the_process_that_asks(self):
+        going = subprocess.Popen([sys.executable, "-c", ASLEEP], stdout=subprocess.PIPE, env=ENVIRONMENT)
+        started = [int(word) for word in going.stdout.readline().split()]
+        going.kill()
+        going.wait()
+        going.stdout.close()
+        self.assertEqual(len(started), 2)
+        wait_until(lambda: not any(os.path.exists(f"/proc/{process}/fd/0") for process in started))
+
+
+# A process that waits with a pool of two.
+ASLEEP = """
+import os, time
+from concurrent.futures import ProcessPoolExecutor
+from multiprocessing import get_context
+from yamlcanon.many import begin
+from yamlcanon.table import Judge
+with ProcessPoolExecutor(2, get_context("fork"), begin, (Judge(), ())) as pool:
+    list(pool.map(time.sleep, [0.2, 0.2]))
+    print(*pool._processes, flush=True)
+    time.sleep(60)
+"""
+
+
+def wait_until(what):
+    end = time.monotonic() + 30
+    while not what():
+        assert time.monotonic() < end
+        time.sleep(0.02)
 
 
 class Runs(Folder):
@@ -180,7 +259,26 @@ class Runs(Folder):
         got = self.filled("table.db", self.paths)
         self.assertEqual((got.returncode, self.table("table.db").summary()), (0, (41, 0, 0, 8, 7)), got.stderr)
 
+    def test_an_interrupt_of_all_its_processes_ends_the_command(self):
+        given = b"".join(os.fsencode(path) + b"\0" for path in self.paths * 2000)
+        going = subprocess.Popen(
+            [sys.executable, "-c", SLOW, "table.db", "--jobs", "4", "--batch", "2"],
+            stdin=subprocess.PIPE, stderr=subprocess.PIPE, cwd=self.room, env=ENVIRONMENT, start_new_session=True,
+        )  # fmt: skip
+        self.addCleanup(going.kill)
+        going.stdin.write(given)
+        going.stdin.close()
+        going.stdin = None
+        wait_until(lambda: len(children(going.pid)) == 4)
+        time.sleep(0.3)
+        os.killpg(going.pid, signal.SIGINT)
+        told = going.communicate(timeout=60)[1]
+        self.assertEqual((going.returncode, told), (3, b"ended: the same command goes on from here\n"))
+        got = self.filled("table.db", self.paths)
+        self.assertEqual((got.returncode, self.table("table.db").summary()), (0, (41, 0, 0, 8, 7)), got.stderr)
+
     def test_a_cache_serves_a_second_table(self):
+        self.write("cache.db", b"")
         for name in ("1.db", "2.db"):
             self.assertEqual(self.filled(name, self.paths, "--cache", "cache.db").returncode, 0)
         self.assertEqual(self.table("1.db").checksum(), self.table("2.db").checksum())
@@ -243,6 +341,27 @@ class Questions(Folder):
     def test_an_unread_file_is_no_change_of_meaning(self):
         done, unread = Row("a", 0, "d", None, None, 1, "r"), Row("a", 3, None, None, "No", None, None)
         self.assertEqual([change(done, unread), change(unread, done), change(unread, unread)], ["unread"] * 3)
+
+    def test_a_table_that_is_none_is_told(self):
+        for name in ("none.db", "cache.db"):
+            self.write(name, b"no table\n" * 1000)
+        for words in (("none.db",), ("--duplicates", "none.db"), ("--drift", "none.db", "none.db"), ("no/folder.db",)):
+            got = self.command(*words)
+            self.assertEqual((got.returncode, got.stderr.count(b"\n")), (3, 1), got.stderr)
+        got = self.filled("a.db", [self.write("a", b"a")], "--cache", "cache.db")
+        self.assertEqual((got.returncode, b"Traceback" in got.stderr), (3, False), got.stderr)
+
+    def test_an_output_that_is_closed_ends_the_command(self):
+        self.filled("table.db", [self.write(name, b"a: 1") for name in "abc"])
+        open_end, closed = os.pipe()
+        os.close(open_end)
+        for words in (("--duplicates", "table.db"), ("--drift", "empty.db", "table.db")):
+            self.filled("empty.db", [])
+            got = subprocess.run(
+                [sys.executable, "-m", "yamlcanon.many", *words], stdout=closed, stderr=subprocess.PIPE, cwd=self.room, env=ENVIRONMENT, timeout=120
+            )  # fmt: skip
+            self.assertEqual((got.returncode, got.stderr), (3, b""))
+        os.close(closed)
 
     def test_words_that_ask_for_nothing(self):
         for words in ((), ("--duplicates", "none.db"), ("a.db", "--jobs", "0"), ("a.db", "--drift", "a.db", "b.db")):

@@ -6,8 +6,9 @@
 
 Names end in a null byte if there is one, else in a line feed. TABLE is an SQLite file. What it has already is left out, and
 what could not be read is tried again: a run that was ended is gone on with by the same command. What the bytes of a file mean
-is looked up in the cache first, and kept there at the end. Status: 0; 1 if a file was refused or could not be read; 3 if a
-worker was killed or wanted memory, or the table is of another version of the library.
+is looked up in the cache first, and kept there at the end. Status: 0; 1 if a file was refused or could not be read; 2 for
+wrong words; 3 if the run was ended from outside (Ctrl-C too), a worker was killed or wanted memory, the table is of another
+version of the library, or a table, the cache or the output can't be used.
 
 --duplicates tells the files that mean the same, a group at a time and the largest first: `=` stands before those that have
 the bytes of the group's first file, `~` before those that are alike in meaning alone. Files that hold no document, as those
@@ -21,19 +22,27 @@ A name is told on one line: `\\\\` stands for a backslash in it, `\\n`, `\\r` an
 """
 
 import argparse
+import ctypes
 import hashlib
 import os
+import signal
+import sqlite3
 import sys
 import time
 from concurrent.futures import Future, ProcessPoolExecutor, as_completed
 from concurrent.futures.process import BrokenProcessPool
-from typing import BinaryIO, Dict, Iterator, List, Optional, Sequence, Tuple
+from multiprocessing import get_context
+from typing import Any, BinaryIO, Dict, Iterator, List, Optional, Sequence, Tuple
 
 import yamlcanon
-from yamlcanon.table import DONE, REFUSED, UNREAD, OtherVersion, Row, Table, keep, rows
+from yamlcanon.table import REFUSED, UNREAD, Judge, OtherVersion, Row, Table, keep
 
 _FAILED = 3
+# PR_SET_PDEATHSIG of Linux's prctl
+_END_WITH_PARENT = 1
 _BATCH = 256
+# A cache is taken whole that has no more bytes than this for each file, some three meanings, and no more than this at all.
+_TAKEN_A_FILE, _TAKEN = 500, 64 << 20
 # What is mostly found by the thousand, and means nothing.
 _HOLD_NOTHING = ((b"", "hold no document"), (b"~", "hold one null"))
 # How often progress is told, in seconds: on a terminal, and elsewhere.
@@ -42,7 +51,7 @@ _ON_TERMINAL, _ELSEWHERE = 0.5, 10.0
 
 def names(data: bytes) -> List[str]:
     """The names of a list."""
-    return [os.fsdecode(name) for name in data.split(b"\0" if b"\0" in data else b"\n") if name]
+    return [name for name in os.fsdecode(data).split("\0" if b"\0" in data else "\n") if name]
 
 
 def batches(paths: Sequence[str], size: int) -> Iterator[Sequence[str]]:
@@ -87,21 +96,53 @@ class Progress:
             say("")
 
 
-def fill(table: Table, paths: Sequence[str], jobs: int, batch: int, cache: Optional[str]) -> None:
-    """Adds a row for each path, by so many processes. Not by multiprocessing.Pool, which waits for ever for one that is killed."""
-    progress = Progress(len(paths))
-    with ProcessPoolExecutor(jobs) as pool:
-        waiting: List["Future[List[Row]]"] = [pool.submit(rows, some, cache) for some in batches(paths, batch)]
+class Worker:
+    """What a process of the pool works on. It is forked, so it has the names and what was taken of the cache already."""
+
+    judge = Judge()
+    some: Sequence[Sequence[str]] = ()
+
+
+def begin(judge: Judge, some: Sequence[Sequence[str]]) -> None:
+    """Begins a process of the pool, which ends with the process that asks, also where that one is killed. Ctrl-C reaches every
+    process, and one that it ends inside a queue's lock would be waited for by the others for ever: here only the one that asks
+    takes it."""
+    signal.signal(signal.SIGINT, signal.SIG_IGN)
+    ctypes.CDLL(None).prctl(_END_WITH_PARENT, signal.SIGKILL)
+    Worker.judge, Worker.some = judge, some
+
+
+def answer(number: int) -> Tuple[List[Tuple[Any, ...]], int]:
+    """The rows of a batch, and for how many contents the library was asked."""
+    before = Worker.judge.asked
+    return Worker.judge.batch(Worker.some[number]), Worker.judge.asked - before
+
+
+def fill(table: Table, paths: Sequence[str], jobs: int, batch: int, cache: Optional[str]) -> int:
+    """Adds a row for each path, by so many processes, and tells for how many contents the library was asked. Not by
+    multiprocessing.Pool, which waits for ever for one that is killed."""
+    progress, some, judge, asked = Progress(len(paths)), list(batches(paths, batch)), Judge(cache), 0
+    judge.take(min(_TAKEN_A_FILE * len(paths), _TAKEN))
+    with ProcessPoolExecutor(max(1, min(jobs, len(some))), get_context("fork"), begin, (judge, some)) as pool:
+        waiting: List[Future[Tuple[List[Tuple[Any, ...]], int]]] = []
         try:
+            # The processes, and the thread that feeds them, begin with the first batch: Ctrl-C waits until all are begun.
+            signal.pthread_sigmask(signal.SIG_BLOCK, {signal.SIGINT})
+            try:
+                waiting += [pool.submit(answer, number) for number in range(len(some))]
+            finally:
+                signal.pthread_sigmask(signal.SIG_UNBLOCK, {signal.SIGINT})
             for future in as_completed(waiting):
-                some = future.result()
-                table.add(some)
-                progress.add(len(some))
+                rows, new = future.result()
+                table.add(rows)
+                progress.add(len(rows))
+                asked += new
         except BaseException:
             for future in waiting:
                 future.cancel()
             raise
     progress.end()
+    return asked
 
 
 def run(name: str, data: bytes, jobs: int, batch: int, cache: Optional[str]) -> int:
@@ -110,9 +151,10 @@ def run(name: str, data: bytes, jobs: int, batch: int, cache: Optional[str]) -> 
     try:
         paths = table.missing(names(data))
         if cache is not None:
+            # What an earlier run has found, which was ended before it kept that; it takes no time where the table is empty.
             keep(cache, table)
-        fill(table, paths, jobs, batch, cache)
-        if cache is not None:
+        asked = fill(table, paths, jobs, batch, cache)
+        if cache is not None and asked:
             keep(cache, table)
     except OtherVersion as fault:
         say(f"{fault}: begin another table")
@@ -200,6 +242,15 @@ def tell_drift(old_name: str, new_name: str, out: BinaryIO) -> int:
     return 0 if counts.keys() <= {"same", "spelling"} else 1
 
 
+def do(given: argparse.Namespace) -> int:
+    """What the words ask for."""
+    if given.duplicates:
+        return tell_duplicates(given.duplicates, sys.stdout.buffer)
+    if given.drift:
+        return tell_drift(*given.drift, sys.stdout.buffer)
+    return run(given.table, sys.stdin.buffer.read(), given.jobs, given.batch, given.cache)
+
+
 def main(words: Optional[Sequence[str]] = None) -> int:
     parser = argparse.ArgumentParser(
         prog="python3 -m yamlcanon.many", description=__doc__, formatter_class=argparse.RawDescriptionHelpFormatter
@@ -218,11 +269,19 @@ def main(words: Optional[Sequence[str]] = None) -> int:
     for name in [given.duplicates] if given.duplicates else given.drift or []:
         if not os.path.isfile(name):
             parser.error(f"there is no table {name}")
-    if given.duplicates:
-        return tell_duplicates(given.duplicates, sys.stdout.buffer)
-    if given.drift:
-        return tell_drift(*given.drift, sys.stdout.buffer)
-    return run(given.table, sys.stdin.buffer.read(), given.jobs, given.batch, given.cache)
+    try:
+        return do(given)
+    except sqlite3.DatabaseError as fault:
+        used = [given.table, given.cache, given.duplicates, *(given.drift or [])]
+        say(f"{' or '.join(name for name in used if name is not None)}: {fault}")
+        return _FAILED
+    except KeyboardInterrupt:
+        say("ended: the same command goes on from here" if given.table else "ended")
+        return _FAILED
+    except BrokenPipeError:
+        # What is still to be written when Python ends goes nowhere.
+        os.dup2(os.open(os.devnull, os.O_WRONLY), sys.stdout.fileno())
+        return _FAILED
 
 
 if __name__ == "__main__":

@@ -1,6 +1,7 @@
 """What files mean, as rows of a table: a file's row is the same wherever, and however often, it is computed.
 
     rows(names, cache) -> [Row]     the rows of a batch, bytes that are met again judged once
+    Judge(cache)                    the same batch after batch, with how many contents the library was asked for
     Table(path)                     rows in an SQLite file
     keep(cache, table)              adds a table's meanings to a cache, which later runs look into
 """
@@ -10,11 +11,12 @@ import hashlib
 import os
 import sqlite3
 import stat
-from typing import Collection, Dict, Iterable, Iterator, List, NamedTuple, Optional, Sequence, Tuple, Union
+from itertools import chain
+from typing import Any, Collection, Dict, Iterable, Iterator, List, NamedTuple, Optional, Sequence, Set, Tuple, Union
 
 import yamlcanon
 
-__all__ = ["DONE", "REFUSED", "UNREAD", "VERSION", "Meaning", "OtherVersion", "Row", "Table", "keep", "rows"]
+__all__ = ["DONE", "REFUSED", "UNREAD", "VERSION", "Judge", "Meaning", "OtherVersion", "Row", "Table", "keep", "rows"]
 
 DONE, REFUSED, UNREAD = 0, 2, 3
 # The library's version: what another one answered is not taken for its answer.
@@ -23,6 +25,14 @@ VERSION = yamlcanon.library_version()
 _LONGEST = 67_108_864
 # How many files, and how many bytes, are held at most before the cache is asked for them, but for one file more.
 _MOST_HELD, _BYTES_HELD = 256, 1 << 20
+# How many rows a table counts by itself, which takes memory: beyond them SQLite counts, which takes time.
+_MOST_COUNTED = 1 << 20
+_OPENED = os.O_RDONLY | os.O_NONBLOCK | os.O_CLOEXEC
+# How many rows are added by one statement: each takes some time by itself. SQLite may take no more than 999 values.
+_ADDED = 128
+
+# A row without the names of its parts, as marshal writes it.
+_Plain = Tuple[Any, ...]
 
 
 class Meaning(NamedTuple):
@@ -60,98 +70,124 @@ def meaning(data: bytes) -> Meaning:
 
 def _read(path: str) -> bytes:
     """The bytes of a regular file: all of them, or one more than may be read. A pipe would be waited for for ever."""
-    file = os.open(path, os.O_RDONLY | os.O_NONBLOCK | os.O_CLOEXEC)
+    file = os.open(path, _OPENED)
     try:
         about = os.fstat(file)
-        if stat.S_ISDIR(about.st_mode):
-            raise IsADirectoryError(errno.EISDIR, os.strerror(errno.EISDIR))
         if not stat.S_ISREG(about.st_mode):
+            if stat.S_ISDIR(about.st_mode):
+                raise IsADirectoryError(errno.EISDIR, os.strerror(errno.EISDIR))
             raise OSError(errno.EINVAL, "Not a regular file")
-        data = b""
         # One byte more than the file has, so that the first read tells its end; it is read on where it has grown.
-        while len(data) <= _LONGEST:
-            wanted = min(max(about.st_size, len(data)), _LONGEST) + 1 - len(data)
-            piece = os.read(file, wanted)
-            data = data + piece if data else piece
-            if len(piece) < wanted:
-                break
-        return data
+        wanted = min(about.st_size, _LONGEST) + 1
+        data = os.read(file, wanted)
+        return data if len(data) < wanted else _read_on(file, data)
     finally:
         os.close(file)
 
 
-class _Known:
-    """The meanings of bytes by their SHA-256: those that were met in this batch, and those of a cache."""
+def _read_on(file: int, data: bytes) -> bytes:
+    """The bytes of a file that has more than it told, behind those that were read."""
+    piece = data
+    while piece and len(data) <= _LONGEST:
+        piece = os.read(file, min(2 * len(data), _LONGEST + 1) - len(data))
+        data += piece
+    return data
 
-    def __init__(self, cache: Optional[str]) -> None:
-        self.met: Dict[str, Meaning] = {}
-        self.base = sqlite3.connect(cache) if cache is not None and os.path.exists(cache) else None
 
-    def look_up(self, raws: Collection[str]) -> None:
-        """Meets what the cache has of these."""
-        if self.base is None or not raws:
+# What the library answers to some bytes, as a Meaning or a tuple of the same.
+_Known = Tuple[int, Optional[str], Optional[int], Optional[str]]
+
+
+class Judge:
+    """Gives the rows of batches. It looks up what it reads in the cache, which it opens when it first does."""
+
+    def __init__(self, cache: Optional[str] = None) -> None:
+        self.cache = cache
+        self.base: Optional[sqlite3.Connection] = None
+        self.is_whole = cache is None  # whether nothing is to be looked up that was not taken
+        self.taken: Dict[str, _Known] = {}
+        self.met: Dict[str, _Known] = {}  # in this batch
+        self.asked = 0  # for how many contents the library was asked
+
+    def take(self, most: int) -> None:
+        """Takes the cache whole, where its file has no more than so many bytes: to look up one by one takes thrice as long."""
+        if self.cache is None or not os.path.exists(self.cache) or os.path.getsize(self.cache) > most:
             return
-        found = self.base.execute(
-            "SELECT raw, status, digest, number, message FROM meaning WHERE version = ? AND raw IN (%s)" % ",".join("?" * len(raws)),
-            (VERSION, *raws),
-        )
-        for raw, *words in found:
-            self.met[raw] = Meaning(*words)
+        base = sqlite3.connect(self.cache)
+        found = base.execute("SELECT raw, status, digest, number, message FROM meaning WHERE version = ?", (VERSION,))
+        self.taken = {one[0]: one[1:] for one in found}
+        self.is_whole = True
+        base.close()
 
-    def meaning(self, raw: str, data: bytes) -> Meaning:
-        found = self.met.get(raw)
-        if found is None:
-            found = self.met[raw] = meaning(data)
+    def batch(self, paths: Sequence[str]) -> List[_Plain]:
+        """The rows of a batch. The cache is asked for many files at once, and these held until then have few bytes."""
+        found: List[_Plain] = [()] * len(paths)
+        waiting, held, sha256, taken, met = [], 0, hashlib.sha256, self.taken, self.met
+        met.clear()
+        for place, path in enumerate(paths):
+            try:
+                data = _read(path)
+            except (OSError, ValueError) as fault:
+                # Python's words for a null byte inside a name changed, and a row does not.
+                why = "embedded null byte" if "\0" in path else getattr(fault, "strerror", None) or str(fault)
+                found[place] = (path, UNREAD, None, None, why, None, None)
+                continue
+            if len(data) > _LONGEST:
+                found[place] = (path, *meaning(data), None, None)
+                continue
+            raw = sha256(data).hexdigest()
+            known = taken.get(raw) or met.get(raw)
+            if known is not None or self.is_whole:
+                found[place] = (path, *(known or self._meaning(raw, data)), len(data), raw)
+                continue
+            waiting.append((place, path, raw, data))
+            held += len(data)
+            if held > _BYTES_HELD or len(waiting) >= _MOST_HELD:
+                self._settle(waiting, found)
+                waiting, held = [], 0
+        self._settle(waiting, found)
         return found
+
+    def _settle(self, waiting: Sequence[Tuple[int, str, str, bytes]], found: List[_Plain]) -> None:
+        """Puts the rows of files that were read into their places."""
+        self._look_up({one[2] for one in waiting})
+        for place, path, raw, data in waiting:
+            found[place] = (path, *(self.met.get(raw) or self._meaning(raw, data)), len(data), raw)
+
+    def _meaning(self, raw: str, data: bytes) -> _Known:
+        self.asked += 1
+        self.met[raw] = known = meaning(data)
+        return known
+
+    def _look_up(self, raws: Collection[str]) -> None:
+        """Meets what the cache has of these."""
+        if not raws or self.cache is None or not (self.base or os.path.exists(self.cache)):
+            return
+        if self.base is None:
+            self.base = sqlite3.connect(self.cache)
+            # It is looked into at random, so a page of it is not copied for one row.
+            self.base.execute("PRAGMA mmap_size = 1073741824")
+        # Not `raw IN (?, ..)`, which sorts them first and takes half as long again.
+        found = self.base.execute(
+            "SELECT raw, status, digest, number, message FROM (VALUES %s) CROSS JOIN meaning ON version = ? AND raw = column1"
+            % ",".join(["(?)"] * len(raws)),
+            (*raws, VERSION),
+        )
+        for one in found:
+            self.met[one[0]] = one[1:]
 
     def close(self) -> None:
         if self.base is not None:
             self.base.close()
 
 
-class _Read(NamedTuple):
-    """A file that was read, and has no row yet."""
-
-    place: int
-    path: str
-    raw: str
-    data: bytes
-
-
-def _settle(waiting: Sequence[_Read], known: _Known, found: List[Optional[Row]]) -> None:
-    """Puts the rows of files that were read into their places."""
-    known.look_up({one.raw for one in waiting if one.raw not in known.met})
-    for place, path, raw, data in waiting:
-        found[place] = Row(path, *known.meaning(raw, data), len(data), raw)
-
-
-def _unread(path: str, fault: Exception) -> Row:
-    return Row(path, UNREAD, None, None, getattr(fault, "strerror", None) or str(fault), None, None)
-
-
 def rows(paths: Sequence[str], cache: Optional[str] = None) -> List[Row]:
-    """The rows of a batch. The cache is asked for many files at once, and these held until then have few bytes."""
-    known, waiting, held = _Known(cache), [], 0
-    found: List[Optional[Row]] = [None] * len(paths)
+    """The rows of a batch."""
+    judge = Judge(cache)
     try:
-        for place, path in enumerate(paths):
-            try:
-                data = _read(path)
-            except (OSError, ValueError) as fault:
-                found[place] = _unread(path, fault)
-                continue
-            if len(data) > _LONGEST:
-                found[place] = Row(path, *meaning(data), None, None)
-                continue
-            waiting.append(_Read(place, path, hashlib.sha256(data).hexdigest(), data))
-            held += len(data)
-            if len(waiting) >= _MOST_HELD or held > _BYTES_HELD:
-                _settle(waiting, known, found)
-                waiting, held = [], 0
-        _settle(waiting, known, found)
+        return [Row(*one) for one in judge.batch(paths)]
     finally:
-        known.close()
-    return [one for one in found if one is not None]
+        judge.close()
 
 
 _Stored = Union[str, bytes]
@@ -166,8 +202,46 @@ def _stored(path: str) -> _Stored:
         return os.fsencode(path)
 
 
+def _storable(some: Sequence[_Plain]) -> Sequence[_Plain]:
+    """Rows as SQLite takes them: these themselves where all paths are UTF-8, which is told at once."""
+    try:
+        "".join([one[0] for one in some]).encode()
+        return some
+    except UnicodeEncodeError:
+        return [(_stored(one[0]), *one[1:]) for one in some]
+
+
 def _path(stored: _Stored) -> str:
     return os.fsdecode(stored) if isinstance(stored, bytes) else stored
+
+
+class _Counts:
+    """What the rows that were added come to."""
+
+    def __init__(self) -> None:
+        self.rows, self.statuses = 0, {DONE: 0, REFUSED: 0, UNREAD: 0}
+        self.raws: Set[Optional[str]] = set()
+        self.digests: Set[Optional[str]] = set()
+
+    def add(self, some: Sequence[_Plain]) -> None:
+        self.rows += len(some)
+        if self.rows > _MOST_COUNTED:
+            self.raws, self.digests = set(), set()
+        if not some or self.rows > _MOST_COUNTED:
+            return
+        _, statuses, digests, _, _, _, raws = zip(*some)
+        for status in self.statuses:
+            self.statuses[status] += statuses.count(status)
+        self.raws.update(raws)
+        self.digests.update(digests)
+
+    def are_of(self, count: int) -> bool:
+        """Whether these are all rows of a table that has so many."""
+        return self.rows == count <= _MOST_COUNTED
+
+    def summary(self) -> Tuple[int, int, int, int, int]:
+        contents, meanings = len(self.raws - {None}), len(self.digests - {None})
+        return self.statuses[DONE], self.statuses[REFUSED], self.statuses[UNREAD], contents, meanings
 
 
 class Table:
@@ -177,10 +251,14 @@ class Table:
     """
 
     def __init__(self, name: str) -> None:
-        self.name = name
+        is_new = not os.path.exists(name)
+        self.name, self.counts = name, _Counts()
         self.base = sqlite3.connect(name)
-        self.base.execute("PRAGMA journal_mode = WAL")
+        if is_new:
+            # Its first page is written with no journal beside it, for which the disk would be waited for once more.
+            self.base.execute("PRAGMA journal_mode = MEMORY")
         self.base.execute("PRAGMA synchronous = NORMAL")
+        self.base.execute("PRAGMA journal_mode = WAL")
         with self.base:
             self.base.execute(
                 "CREATE TABLE IF NOT EXISTS file (path NOT NULL, status INTEGER NOT NULL, digest TEXT, number INTEGER,"
@@ -199,13 +277,19 @@ class Table:
         with self.base:
             self.base.execute("DELETE FROM file WHERE status = ?", (UNREAD,))
         has = {path for (path,) in self.base.execute("SELECT path FROM file")}
-        return [path for path in dict.fromkeys(paths) if _stored(path) not in has]
+        each = dict.fromkeys(paths)
+        return [path for path in each if _stored(path) not in has] if has else list(each)
 
-    def add(self, some: Iterable[Row]) -> None:
+    def add(self, some: Sequence[_Plain]) -> None:
+        """Adds rows, each a Row or what it is a tuple of."""
         with self.base:
-            self.base.executemany(
-                "INSERT INTO file VALUES (?, ?, ?, ?, ?, ?, ?)", [(_stored(one.path), *one[1:]) for one in some]
-            )
+            for at in range(0, len(some), _ADDED):
+                self._insert(_storable(some[at : at + _ADDED]))
+        self.counts.add(some)
+
+    def _insert(self, some: Sequence[_Plain]) -> None:
+        values = ",".join(["(?, ?, ?, ?, ?, ?, ?)"] * len(some))
+        self.base.execute("INSERT INTO file VALUES " + values, [*chain.from_iterable(some)])
 
     def rows(self) -> Iterator[Row]:
         """All rows, by path."""
@@ -227,6 +311,8 @@ class Table:
 
     def summary(self) -> Tuple[int, int, int, int, int]:
         """How many files: done, refused, unread; how many contents and meanings they have."""
+        if self.counts.are_of(self.base.execute("SELECT count(*) FROM file").fetchone()[0]):
+            return self.counts.summary()
         found = self.base.execute(
             "SELECT sum(status = 0), sum(status = 2), sum(status = 3), count(DISTINCT raw), count(DISTINCT digest) FROM file"
         ).fetchone()
