@@ -34,6 +34,9 @@ extern "C" {
 #define YAMLCANON_VERSION 100
 #define YAMLCANON_VERSION_TEXT "1.0"
 
+/* The form of the texts that yamlcanon_canonical gives: yamlcanon-form-1. Another form has another soname. */
+#define YAMLCANON_FORM 1
+
 /* What a call answers, as the program yamlcanon does by its exit status. */
 enum {
     YAMLCANON_DONE = 0,      /* done; of two streams: the same */

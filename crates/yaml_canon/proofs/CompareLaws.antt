@@ -114,13 +114,22 @@ module _ (a b both : Graph) (j : Joined a b both) where
   pub right-keyed : ((i : ℕ) → i < length (nodes_of both) → Keyed (tree both i)) → (i : ℕ) → i < length (nodes_of b) → Keyed (tree b i)
   right-keyed h i l = let c = j.count in subst Keyed (right-tree i (i + length (nodes_of a)) refl) (h (i + length (nodes_of a)) (omega arith))
 
+  -- the documents of either side
+  pub lefts : (m : ℕ) → m ≡ length (roots_of a) → map (λ i. tree both i.0) (take m (roots_of both)) ≡ forest a
+  lefts m e =
+      let front : take m (roots_of both) ≡ roots_of a = (λ z. take (e z) (j.roots z)) ∙ take-append_seam (roots_of a) (map (raised (length (nodes_of a))) (roots_of b)) in
+      ap (map (λ i. tree both i.0)) front ∙ map-same (λ i. tree both i.0) (λ i. tree a i.0) (roots_of a) (length (nodes_of a)) a.rooted (λ i l. left-tree i.0 l)
+
+  pub rights : (m : ℕ) → m ≡ length (roots_of a) → map (λ i. tree both i.0) (drop m (roots_of both)) ≡ forest b
+  rights m e =
+      let back : drop m (roots_of both) ≡ map (raised (length (nodes_of a))) (roots_of b) = (λ z. drop (e z) (j.roots z)) ∙ drop-append_seam (roots_of a) (map (raised (length (nodes_of a))) (roots_of b)) in
+      ap (map (λ i. tree both i.0)) back ∙ map-raised (λ i. tree both i.0) (λ i. tree b i.0) (length (nodes_of a)) (roots_of b) (λ i. right-tree i.0 (i.0 + length (nodes_of a)) refl)
+
   pub joined-alike : (m : ℕ) → m ≡ length (roots_of a) → pointwise same (map (λ i. tree both i.0) (take m (roots_of both))) (map (λ i. tree both i.0) (drop m (roots_of both))) ≡ pointwise same (forest a) (forest b)
   joined-alike m e =
-      let front : take m (roots_of both) ≡ roots_of a = (λ z. take (e z) (j.roots z)) ∙ take-append_seam (roots_of a) (map (raised (length (nodes_of a))) (roots_of b)) in
-      let back : drop m (roots_of both) ≡ map (raised (length (nodes_of a))) (roots_of b) = (λ z. drop (e z) (j.roots z)) ∙ drop-append_seam (roots_of a) (map (raised (length (nodes_of a))) (roots_of b)) in
-      let lefts : map (λ i. tree both i.0) (take m (roots_of both)) ≡ forest a = ap (map (λ i. tree both i.0)) front ∙ map-same (λ i. tree both i.0) (λ i. tree a i.0) (roots_of a) (length (nodes_of a)) a.rooted (λ i l. left-tree i.0 l) in
-      let rights : map (λ i. tree both i.0) (drop m (roots_of both)) ≡ forest b = ap (map (λ i. tree both i.0)) back ∙ map-raised (λ i. tree both i.0) (λ i. tree b i.0) (length (nodes_of a)) (roots_of b) (λ i. right-tree i.0 (i.0 + length (nodes_of a)) refl) in
-      λ z. pointwise same (lefts z) (rights z)
+      let l = lefts m e in
+      let r = rights m e in
+      λ z. pointwise same (l z) (r z)
 
   pub joined-refused : (ds es : List Document) (fault : Fault) (told : Side × Fault) → Composed ds a → Composed es b → RefusesGraph both fault → told ≡ side_of_fault (length (nodes_of a)) fault → RefusesDocuments ds es told.0 told.1
   joined-refused ds es fault told c d h e = subst (λ z. RefusesDocuments ds es z.0 z.1) (sym e) (by fault h)

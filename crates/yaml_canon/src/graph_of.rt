@@ -19,7 +19,7 @@ use yaml_text::fault::Fault;
 /// Refused are bytes that are no text (1 to 3), a text that is no stream of the profile (4 to 11),
 /// the first event with an alias or a tag that stands for nothing (12 to 17), a document that is too
 /// high (18), and want of memory (21).
-pub(crate) fn graph_of<'a>(alloc: Global, bytes: &'a [u8]) -> Result<Graph<'a>, Fault>
+pub fn graph_of<'a>(alloc: Global, bytes: &'a [u8]) -> Result<Graph<'a>, Fault>
     ensures graph { IfOk result (HasGraph bytes.now) }
     ensures refused { IfErr result (GraphRefuses bytes.now) }
     ensures no_text { ((cs : List ℕ) → Text bytes.now cs → ⊥) → IsErrAnd result (RefusesText bytes.now) }

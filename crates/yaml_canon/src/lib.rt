@@ -3,7 +3,7 @@
 
 pub mod canonical_text;
 pub mod gathering;
-mod graph_of;
+pub mod graph_of;
 pub mod laws;
 mod length;
 mod names;

@@ -26,8 +26,8 @@ use yaml_rank::rank;
 use yaml_rank::ranks::Ranks;
 use yaml_text::fault::Fault;
 
-/// The answer for one side.
-fn on<T>(side: Side, answer: Result<T, Fault>) -> Result<T, (Side, Fault)>
+/// The answer for one side: what is refused is told with it.
+pub fn on<T>(side: Side, answer: Result<T, Fault>) -> Result<T, (Side, Fault)>
     ensures ok { IfOk result (λ value. answer ≡ Ok value) }
     ensures err { IfErr result (λ refusal. (answer ≡ Err refusal.1) × (refusal.0 ≡ side)) }
 {
@@ -39,7 +39,7 @@ fn on<T>(side: Side, answer: Result<T, Fault>) -> Result<T, (Side, Fault)>
 
 /// The side of a fault of the joined graph, of which so many nodes are the left side's. A mapping
 /// with equal keys has its number in its own side's graph.
-fn with_side(nodes: usize, fault: Fault) -> (Side, Fault)
+pub fn with_side(nodes: usize, fault: Fault) -> (Side, Fault)
     ensures { result ≡ side_of_fault nodes fault }
 {
     if let Fault::EqualKeys(node, first, second) = fault {

@@ -120,7 +120,7 @@ own-place ps t u p k m a n e = by p e
         let b = all i (omega (arith, w.1, count-same t u m)) in
         (i, one b.0 (Right i) (Both i i) e b.1 (places-once right_place ps 0 (count u) b.0 k (Both i i) (Right i) i a.rights b.1 e refl refl))
 
-match-ends : (P : Pairing) (q : Way) (t u : Option Tree) → Match t u → PairsAll P t u → EndsAlong P q t u → Differs P q t u → ⊥
+pub match-ends : (P : Pairing) (q : Way) (t u : Option Tree) → Match t u → PairsAll P t u → EndsAlong P q t u → Differs P q t u → ⊥
 match-ends P [] t u m a n d = d (match-head t u m)
 match-ends P (at_key x ∷ q) t u m a n d = match-ends (below P (at_key x)) q (part_of t (plain.at_key x)) (part_of u (plain.at_key x)) (match-part t u (plain.at_key x) m) (λ w. a (at_key x ∷ w)) n.1 d.2
 match-ends P (at_places p ∷ q) t u m a n d =

@@ -1,0 +1,21 @@
+use Rattle.std.proofs.Common.{ap, length}
+use Rattle.yaml_graph.specs.JoinModel.{Joined}
+use Rattle.yaml_canon.specs.Claims.{HasGraph}
+use Rattle.yaml_review_command.proofs.SideLaws.{answer_ok}
+use Rattle.yaml_review_command.proofs.both.both_of.Goals as goal
+
+pub returns-in-Ok : goal.returns-in-Ok
+returns-in-Ok c =
+    let a = c.in_ok-first.first in
+    let b = c.in_ok-second.second in
+    record {
+      both = record {
+        first = a;
+        second = b;
+        first_graph = answer_ok (HasGraph c.args.left.now) c.graph_of.result a c.in_ok-first.ensures.ok c.graph_of.ensures.graph;
+        second_graph = answer_ok (HasGraph c.args.right.now) c.graph_of-2.result b c.in_ok-second.ensures.ok c.graph_of-2.ensures.graph;
+        joined = answer_ok (Joined a b) c.join.result c.in_ok-graph.graph c.in_ok-graph.ensures.ok c.join.ensures.ok;
+        middle = ap length c.roots-documents.ensures;
+        ranked = c.in-Ok.ensures.ok;
+      };
+    }

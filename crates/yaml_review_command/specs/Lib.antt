@@ -1,0 +1,3 @@
+pub mod Diffs
+pub mod Named
+pub mod Sides

@@ -1,0 +1,8 @@
+//! The commands of the program `yamlreview`, over streams and files that are given.
+#![tactic(auto)]
+
+mod both;
+pub mod command;
+pub mod diff;
+mod files;
+mod git;

@@ -1,0 +1,2 @@
+mod SameLaws
+mod SideLaws

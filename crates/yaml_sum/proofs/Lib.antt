@@ -1,0 +1,5 @@
+mod AskLaws
+mod DigestLaws
+mod LineLaws
+mod NameLaws
+mod SumLaws

@@ -1,0 +1,24 @@
+-- The lines that tell why a file has no sum.
+use Rattle.std.specs.Prelude.{◌⊎◌, ◌++◌, ℕ, List, Option, codes}
+use Rattle.std.specs.Fmt.{decimal}
+use Rattle.yaml_text.specs.Fault.{fault_number, fault_name}
+use Rattle.yaml_text.specs.declared.fault.Fault.{Fault}
+use Rattle.yaml_text.specs.declared.counted.Counted.{Counted}
+use Rattle.yaml_canon.specs.Writers.{Sent, CutOff}
+use Rattle.yaml_command.specs.Refusals.{place_end}
+use Rattle.yaml_sum.specs.Lines.{name_text}
+use Rattle.yaml_sum.specs.declared.stop.Stop.{Stop}
+use Rattle.yaml_sum.specs.declared.stop.Stop.TheVariants.{CannotOpen, Refused}
+
+-- what stands behind the file's name: that it can't be opened, or the fault's number, name and place
+abbrev pub reason : Stop → List ℕ
+reason CannotOpen = codes "cannot open\n"
+reason (Refused fault) = decimal (fault_number fault) ++ codes " " ++ fault_name fault ++ place_end fault
+
+-- the line of a file, whose name is written as in a line of sums
+abbrev pub complaint : List ℕ → Stop → List ℕ
+complaint name stop = codes "yaml: " ++ (name_text name ++ (codes ": " ++ reason stop))
+
+-- the writer took a line whole, or a beginning of it and then a call failed
+abbrev pub IsTold : {E : Type 0} → (E → Option (List ℕ)) → Counted E → Counted E → List ℕ → Type 0
+IsTold told old new line = Sent told old new line ⊎ ((fault : Fault) × CutOff told old new line fault)

@@ -1,0 +1,17 @@
+//! Sums of meanings: the SHA-256 of each file's canonical text, in the lines of `sha256sum`.
+#![tactic(auto)]
+
+pub mod asked;
+mod buffers;
+mod check;
+mod digest;
+mod file;
+mod line;
+mod list;
+mod listed;
+mod names;
+mod reading;
+pub mod regular;
+mod stop;
+pub mod sum;
+mod telling;

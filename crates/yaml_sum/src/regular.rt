@@ -1,0 +1,39 @@
+//! The files that sums are made of, as a runtime opens them.
+use std::rt::Files;
+use std::{fs, io};
+use yaml_command::shelf::Shelf;
+
+/// The regular files that a runtime opens, and the list that names them, of which nothing is known.
+///
+/// What is no regular file is not opened: a pipe without a writer would be waited for for ever, and a
+/// folder can't be read. The list may be a pipe, since a shell passes what a command writes as one.
+#[derive(Drop)]
+pub struct Regular<'a, 'b, T> {
+    rt: &'a T,
+    list: Option<&'b str>,
+}
+
+impl<'a, 'b, T> Regular<'a, 'b, T> {
+    pub fn new(rt: &'a T, list: Option<&'b str>) -> Regular<'a, 'b, T> {
+        Regular { rt, list }
+    }
+
+    /// Whether a name is that of the list.
+    fn is_list(&self, name: &str) -> bool {
+        match self.list {
+            Some(list) => list == name,
+            None => false,
+        }
+    }
+}
+
+impl<T: Files> Shelf for Regular<'_, '_, T> {
+    type File = T::File;
+
+    fn open(&self, name: &str) -> io::Result<T::File> {
+        if !self.is_list(name) && !fs::metadata(self.rt, name)?.is_file() {
+            return Err(io::Error::from(io::ErrorKind::InvalidInput));
+        }
+        fs::open(self.rt, name)
+    }
+}

@@ -1,0 +1,75 @@
+//! The lines that tell why a file has no sum.
+ghost use Rattle.std.specs.Prelude.{◌≡◌, ◌++◌, [], OnOk, OnErr, IfOk, IfErr};
+ghost use Rattle.yaml_command.specs.Refusals.{fault_line};
+ghost use Rattle.yaml_sum.specs.Complaints.{reason, complaint, IsTold};
+
+use crate::line::{push, push_name};
+use crate::stop::Stop;
+use std::alloc::Global;
+use std::io::Write;
+use yaml_command::line;
+use yaml_command::refusal::Refusal;
+use yaml_command::streams::write_whole;
+use yaml_text::counted::Counted;
+use yaml_text::fault::Fault;
+
+/// What a line that tells a fault begins with.
+const FRONT: &[u8] = b"yaml: ";
+
+/// The line that tells a fault where no file has a name.
+fn fault_line(alloc: Global, fault: Fault) -> Result<Vec<u8>, Fault>
+    ensures ok { IfOk result (λ line. line.items ≡ fault_line [] fault) }
+    ensures only { IfErr result (λ fault. fault ≡ Fault.OutOfMemory) }
+{
+    let mut text = Counted::new(Vec::new(alloc));
+    match line::tell(Refusal::Input(fault), &mut text) {
+        Ok(()) => Ok(text.into_inner()),
+        Err(_) => Err(Fault::OutOfMemory),
+    }
+}
+
+/// Puts behind a line why a file has no sum.
+fn push_reason(alloc: Global, line: &mut Vec<u8>, stop: Stop) -> Result<(), Fault>
+    ensures ok { OnOk result (line.new.items ≡ line.old.items ++ reason stop) }
+    ensures only { IfErr result (λ fault. fault ≡ Fault.OutOfMemory) }
+{
+    match stop {
+        Stop::CannotOpen => push(line, b"cannot open\n"),
+        Stop::Refused(fault) => {
+            let text = fault_line(alloc, fault)?;
+            push(line, &text[FRONT.len()..])
+        }
+    }
+}
+
+/// Makes the line that tells why a file has no sum.
+fn make_complaint(alloc: Global, line: &mut Vec<u8>, name: &[u8], stop: Stop) -> Result<(), Fault>
+    ensures ok { OnOk result (line.new.items ≡ complaint name.now stop) }
+    ensures only { IfErr result (λ fault. fault ≡ Fault.OutOfMemory) }
+{
+    line.clear();
+    push(line, FRONT)?;
+    push_name(line, name)?;
+    push(line, b": ")?;
+    push_reason(alloc, line, stop)
+}
+
+/// Tells why a file has no sum, in one line and one piece, or a beginning of it where `err` fails.
+/// Refused is want of memory alone.
+pub(crate) fn tell<E: Write>(
+    alloc: Global,
+    line: &mut Vec<u8>,
+    name: &[u8],
+    stop: Stop,
+    err: &mut Counted<E>,
+) -> Result<(), Fault>
+    ensures ok { OnOk result (IsTold E.contents err.old err.new (complaint name.now stop)) }
+    ensures only { IfErr result (λ fault. fault ≡ Fault.OutOfMemory) }
+    ensures quiet { OnErr result (err.new ≡ err.old) }
+{
+    make_complaint(alloc, line, name, stop)?;
+    match write_whole(err, line.as_slice()) {
+        // Where standard error fails too, the status alone is left to tell it.
+        Ok(()) | Err(_) => Ok(()),
+    }
+}
