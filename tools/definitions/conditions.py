@@ -140,9 +140,10 @@ def main():
         print('%-4s %s | %s | %s | readings %s %s' % (
             'ok' if is_good else 'NOT', condition.sentence, condition.place, condition.texts, ' '.join(numbers), out.stderr[-300:]))
     print('%d of %d' % (good, len(CONDITIONS)))
+    return 0 if good == len(CONDITIONS) else 1
 
 
 if len(sys.argv) > 1:                # in the changed copy
     print(*numbers_of_readings(CONDITIONS[int(sys.argv[1])]))
 else:
-    main()
+    sys.exit(main())

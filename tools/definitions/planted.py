@@ -121,13 +121,7 @@ class Room:
     def check(self, crate):
         """What of a crate is no longer proved, or nothing."""
         said = self.rt_check(crate)
-        if not said:
-            return ''
-        places = re.findall(r'(?:\./)?((?:\.\./\w+/)?(?:specs|proofs)/\S+?)\.antt:\d+:\d+: error: `?([\w\-+\']*)', said)
-        functions = re.findall(r'^fn (\S+?): (?!proved)', said, re.M)
-        told = [('example' if '/examples/' in place or 'Readings' in place else 'law') + ' %s, %s' % (place, name) for place, name in places]
-        told.sort(key=lambda it: not it.startswith('example'))
-        return (told or ['law %s' % it for it in functions] or ['%s: %s' % (crate, said.strip().split('\n')[-1][:120])])[0]
+        return refused_in(crate, said) if said else ''
 
     def told(self, planting, suite):
         """What tells a planting, or nothing."""
@@ -143,6 +137,18 @@ class Room:
 
     def close(self):
         shutil.rmtree(self.folder, ignore_errors=True)
+
+
+def refused_in(crate, said):
+    """The first that rt says is not proved: examples are those of yaml_definitions, computed and derived; before others its crate."""
+    places = re.findall(r'(?:\./)?((?:\.\./\w+/)?(?:specs|proofs)/\S+?)\.antt:\d+:\d+: error: `?([\w\-+\']*)', said)
+    functions = re.findall(r'^fn (\S+?): (?!proved)', said, re.M)
+    own = crate == 'yaml_definitions'
+    is_example = re.compile(r'proofs/(?:examples/|grammar/\w+Readings$)')
+    told = ['%s %s%s, %s' % ('example' if own and is_example.match(place) else 'law', '' if own or place.startswith('..') else crate + '/', place, name)
+            for place, name in places]
+    told.sort(key=lambda it: not it.startswith('example'))
+    return (told or ['law %s' % it for it in functions] or ['%s: %s' % (crate, said.strip().split('\n')[-1][:120])])[0]
 
 
 def table_of(lines):

@@ -57,4 +57,6 @@ def compare(alphabet):
     return different
 
 
+if not os.access(PROGRAM, os.X_OK):
+    sys.exit('%s is not built' % PROGRAM)
 sys.exit(any([compare(alphabet) for alphabet in sys.argv[1:] or ALPHABETS]))

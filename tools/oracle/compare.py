@@ -9,7 +9,8 @@ built (`./yamlcanon canon examples/sharing.yaml`).
 
     find / -name '*.yaml' | python3 tools/oracle/compare.py [CHANGED [SEED]]
 
-CHANGED is how often each file is run with a few characters changed (0). Ends with the counts; each difference is a line.
+CHANGED is how often each file is run with a few characters changed (0). Ends with the counts, and with status 1 where a
+meaning differs or a canonical text is not its own; each difference is a line.
 """
 import collections, os, random, subprocess, sys
 
@@ -86,6 +87,8 @@ def changed(text, rng):
 
 
 def main():
+    if not os.access(PROGRAM, os.X_OK):
+        sys.exit('%s is not built' % PROGRAM)
     times, rng = int(sys.argv[1]) if len(sys.argv) > 1 else 0, random.Random(sys.argv[2] if len(sys.argv) > 2 else 1)
     whole, fuzzed = collections.Counter(), collections.Counter()
     for name in sys.stdin.read().split('\n')[:-1]:
@@ -97,6 +100,7 @@ def main():
     for title, counts in (('files', whole), ('changed', fuzzed)):
         for what, count in sorted(counts.items()):
             print('%s, %s: %d' % (title, what, count))
+    return 1 if any(counts['meaning: ' + what] for counts in (whole, fuzzed) for what in ('DIFFERENT', 'NOT ITS OWN')) else 0
 
 
-main()
+sys.exit(main())
