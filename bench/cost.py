@@ -6,7 +6,7 @@ Runs each command of the built program on each shape, and `canon` once more with
 an alias without an anchor. Prints the shapes that cost the most of each. Seconds are of the processor, memory is the peak; of both
 what the program takes for the empty input is taken off. Bytes are those of one file. A run that ends by a signal is named and
 fails. `--space` bounds the address space, as `ulimit -v` does, so that memory is refused, also where the events of `check` are made;
-each such refusal is counted.
+each such refusal is counted. Each run's end is told on standard error.
 Needs Python 3, and without a bound about 3 kB for each byte.
 """
 import argparse
@@ -53,6 +53,18 @@ def cost(kind, name, asked):
     return Cost((seconds - free[0]) * 1e6 / each, max(0, memory - free[1]) / each, output / each, ended)
 
 
+def costs_of(kind, names, asked):
+    """The cost of each shape, which is told on standard error as it is known."""
+    costs = {}
+    with concurrent.futures.ThreadPoolExecutor(max(1, len(os.sched_getaffinity(0)) // 2)) as pool:
+        running = {pool.submit(cost, kind, name, asked): name for name in names}
+        for done in concurrent.futures.as_completed(running):
+            name = running[done]
+            costs[name] = done.result()
+            print('%s: %d of %d, %s: %s' % (kind, len(costs), len(names), name, costs[name].ended), file=sys.stderr, flush=True)
+    return costs
+
+
 def tell(kind, costs):
     """The counts and the worst shapes of a kind; whether none ended by a signal."""
     signals = [name for name in costs if costs[name].ended.startswith('signal')]
@@ -75,9 +87,7 @@ def main(args):
     asked = parser.parse_args(args)
     names, fine = asked.shapes or list(SHAPES), True
     for kind in asked.runs.split(','):
-        with concurrent.futures.ThreadPoolExecutor(max(1, len(os.sched_getaffinity(0)) // 2)) as pool:
-            costs = dict(zip(names, pool.map(lambda name: cost(kind, name, asked), names)))
-        fine = tell(kind, costs) and fine
+        fine = tell(kind, costs_of(kind, names, asked)) and fine
     return 0 if fine else 1
 
 
