@@ -20,7 +20,8 @@ class Edit:
     def __init__(self, crate, path, folder):
         self.crate = crate
         self.name = os.path.basename(path)[: -len(".edit")]
-        self.pairs = pairs_of(read(path))
+        self.text = read(path)
+        self.pairs = pairs_of(self.text)
         self.places = []
         self.is_outside = False
         self.set_aside = {}

@@ -19,7 +19,8 @@ class Trial:
         self.edit, self.changes, self.aside = edit, changes, aside
 
     def overlaps(self, other):
-        return any(a[0] == b[0] and (b[1] in a[1] or a[1] in b[1]) for a in self.changes for b in other.changes)
+        """Whether a change of one takes or makes a text that one of the other's stands for."""
+        return any(a[0] == b[0] and (b[1] in a[1] + "\n" + a[2] or a[1] in b[1] + "\n" + b[2]) for a in self.changes for b in other.changes)
 
     def fits(self, others):
         """Whether it can be told in one check with these: no function is theirs too. An edit outside functions is tried alone."""

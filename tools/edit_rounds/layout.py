@@ -3,18 +3,17 @@ import re
 
 
 class Place:
-    """A function: its name as the check prints it, the folders of its proof files, and its lines, counted from 1.
+    """A function: its name as the check prints it, the cycle of calls that it shares a proof with, or None, the folders of its
+    proof files, and its lines, counted from 1."""
 
-    `key` is what it shares a proof with: itself, or the cycle of calls that it is of."""
-
-    def __init__(self, name, key, folders, path, first, last):
-        self.name, self.key, self.folders, self.path, self.first, self.last = name, key, folders, path, first, last
+    def __init__(self, name, cycle, folders, path, first, last):
+        self.name, self.cycle, self.folders, self.path, self.first, self.last = name, cycle, folders, path, first, last
 
     def __eq__(self, other):
         return self.name == other.name
 
     def is_of_cycle(self):
-        return len(self.key) > 1
+        return self.cycle is not None
 
 
 def owner_of(line):
@@ -28,11 +27,13 @@ def owner_of(line):
 
 
 def last_line(lines, number, indent):
-    """The last line of the function that begins in this line."""
+    """The last line of the function that begins in this line. One that a trait only declares has no body, and ends at its `;`."""
     line = lines[number]
     if line.endswith("}") and line.count("{") == line.count("}"):
         return number
-    while number < len(lines) - 1 and lines[number] != indent + "}":
+    has_body = False
+    while number < len(lines) - 1 and lines[number] != indent + "}" and (has_body or not lines[number].endswith(";")):
+        has_body |= lines[number].endswith("{")
         number += 1
     return number
 
@@ -72,7 +73,8 @@ def place_of(crate, module, room, function, cycle, path, first, last):
     """The place of a function of a module and an impl, if it stands in one."""
     name = "::".join([crate, *room, function])
     if cycle:
-        folders = {f"proofs/{'/'.join(it + ['+' + cycle])}/" for it in (room, module)}
-        return Place(name, ("/".join(module), "+" + cycle), sorted(folders), path, first, last)
-    own = "/".join(room + [function])
-    return Place(name, (own,), [f"proofs/{own}/"], path, first, last)
+        # a cycle's proof stands at the module that holds all of its functions: this one, or one above it
+        above = [room, *(module[:length] for length in range(len(module), -1, -1))]
+        folders = {f"proofs/{'/'.join(it + ['+' + cycle])}/" for it in above}
+        return Place(name, cycle, sorted(folders), path, first, last)
+    return Place(name, None, [f"proofs/{'/'.join(room + [function])}/"], path, first, last)

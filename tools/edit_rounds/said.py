@@ -26,7 +26,8 @@ class Refusal:
     def of_cycle(self, edit):
         """The same of an edit in a cycle of calls, whose functions share a proof and its files: what is said of goals that bear
         the names of its own functions. Where those files name what another edit took away, nothing is told of this one."""
-        fronts = tuple(place.name.rsplit("::", 1)[-1] + "-" for place in edit.places)
+        # (a goal has a function's name from below the modules that all of the cycle share)
+        fronts = tuple(place.name.split("::", count)[-1] + "-" for place in edit.places for count in range(1, place.name.count("::") + 1))
         own = Refusal()
         own.is_proved = self.is_proved
         if any(not goal.removeprefix("name:").startswith(fronts) for _, _, goal in self.names):

@@ -1,0 +1,68 @@
+"""What an earlier run on this machine found of a crate's edits, kept by the checksum of all that it rests on."""
+import hashlib
+import json
+import os
+import subprocess
+
+from .edit import read
+from .room import PARTS, crates_below, crates_of
+
+HERE = os.path.dirname(os.path.realpath(__file__))
+STORE = os.path.join(os.environ.get("XDG_CACHE_HOME") or os.path.expanduser("~/.cache"), "yamlcanon-edits")
+TOLD = ("verdict", "goals", "control")
+
+
+def files_below(folder):
+    """The files of a folder with their contents, in one order."""
+    for at, folders, names in os.walk(folder):
+        folders.sort()
+        for name in sorted(names):
+            with open(f"{at}/{name}", "rb") as file:
+                yield f"{at}/{name}", file.read()
+
+
+def key_of(root, crate, edits, listed):
+    """A sum of the kit, of these tools, of the crate and all crates below it, and of the edits with how they are tried."""
+    total = hashlib.sha256()
+
+    def add(name, content):
+        total.update(f"{name} {len(content)}\n".encode() + content)
+
+    add("kit", subprocess.run(["rt", "version"], capture_output=True, check=False).stdout)
+    for path in sorted(it for it in os.listdir(HERE) if it.endswith(".py")):
+        add(path, read(f"{HERE}/{path}").encode())
+    below = crates_below(crates_of(root), crate)
+    for line in read(f"{root}/crates.txt").split("\n"):
+        if line.partition(":")[0].split()[:1] in [[name] for name in (*below, crate)]:
+            add("uses", line.encode())
+    for name in (*sorted(below), crate):
+        for part in PARTS:
+            for path, content in files_below(f"{root}/crates/{name}/{part}"):
+                add(os.path.relpath(path, root), content)
+    for edit in edits:
+        add(edit.name, edit.text.encode())
+    add("listed", " ".join(sorted(listed)).encode())
+    return total.hexdigest()
+
+
+def take(key, edits):
+    """Gives each edit what was found of it, if that is kept; whether it is."""
+    try:
+        with open(f"{STORE}/{key}", encoding="utf-8") as file:
+            kept = json.load(file)
+        for edit in edits:
+            edit.verdict, edit.goals, edit.control = (kept[edit.name][it] for it in TOLD)
+    except (OSError, ValueError, KeyError):
+        return False
+    return True
+
+
+def keep(key, edits):
+    """Keeps what was found. Where that can't be written nothing is kept."""
+    try:
+        os.makedirs(STORE, exist_ok=True)
+        with open(f"{STORE}/{key}.{os.getpid()}", "w", encoding="utf-8") as file:
+            json.dump({edit.name: {it: getattr(edit, it) for it in TOLD} for edit in edits}, file)
+        os.replace(f"{STORE}/{key}.{os.getpid()}", f"{STORE}/{key}")
+    except OSError:
+        pass
