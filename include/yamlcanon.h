@@ -11,9 +11,9 @@
  *   - no pointer is null, also where its length is 0;
  *   - malloc, realloc and free of one allocator; no call from a signal handler, or from the forked child of a process
  *     with threads;
- *   - 8 MiB of stack. The deepest input takes 2.8 MB, and where the stack is smaller, as on threads that have
- *     128 KiB to 2 MiB by default, such an input ends the process by a fault. An input of n bytes, up to 1,024,
- *     takes no more than 512 + 6 * n KiB.
+ *   - 1,792 KiB of stack. The deepest input takes 1.5 MB, and where the stack is smaller, as on threads that have
+ *     128 KiB by default, such an input ends the process by a fault. An input of n bytes, up to 1,024, takes no
+ *     more than 256 + 1.5 * n KiB.
  *
  * The calls print nothing, open nothing, never end the process, hold no state but the bound of memory, keep no memory
  * and no pointer after they return, and may run on any number of threads at once. An input has at most 67,108,864

@@ -157,7 +157,7 @@ static void on_small_stacks(void)
         pthread_t id;
         pthread_attr_t small;
         pthread_attr_init(&small);
-        pthread_attr_setstacksize(&small, (512 + 6 * (files[i].n < MOST_LEVELS ? files[i].n : MOST_LEVELS)) << 10);
+        pthread_attr_setstacksize(&small, (256 << 10) + 1536 * (files[i].n < MOST_LEVELS ? files[i].n : MOST_LEVELS));
         if (pthread_create(&id, &small, on_its_stack, &files[i])) exit(2);
         pthread_join(id, NULL);
     }

@@ -13,7 +13,8 @@ import unittest
 import yamlcanon
 from yamlcanon import table
 from yamlcanon.many import change, names, shown
-from yamlcanon.table import Judge, OtherVersion, Row, Table, keep, rows
+from yamlcanon.table import Judge, OtherVersion, Row, Table, keep, packed, rows
+from yamlcanon.workers import Killed, Workers
 
 ODD = b"a \\ b\nc\xff.yaml"
 # A command finds the module where these tests have found it.
@@ -105,12 +106,13 @@ class Counts(Folder):
         paths = [self.write(name, data) for name, data in (("a", b"x: 1"), ("b", b"{x: 1}"), ("c", b"{"), ("d", b"{"))]
         filled = self.table("table.db")
         filled.add(rows([*paths, "none"]))
-        self.assertTrue(filled.counts.are_of(5))
+        self.assertTrue(filled.has_counted_all())
         self.assertEqual(filled.summary(), (2, 2, 1, 3, 1))
         again = self.table("table.db")
-        self.assertFalse(again.counts.are_of(5))
+        self.assertFalse(again.has_counted_all())
         self.assertEqual(again.summary(), (2, 2, 1, 3, 1))
         again.add(rows([self.write("e", b"x: 2")]))
+        self.assertFalse(filled.has_counted_all())
         self.assertEqual([one.summary() for one in (filled, again)], [(3, 2, 1, 4, 2)] * 2)
 
     def test_no_more_than_so_many_are_counted(self):
@@ -120,6 +122,29 @@ class Counts(Folder):
         for number in range(3):
             filled.add(rows([self.write(str(number), b"x: 1")]))
         self.assertEqual((filled.summary(), filled.counts.raws), ((3, 0, 0, 1, 1), set()))
+
+
+class Packed(Folder):
+    def test_rows_are_added_as_they_are_however_many(self):
+        for count in (0, 1, 5, 127, 128, 129, 300):
+            some = [Row(f"{number}", 0, f"d{number}", None, None, number, f"r{number}") for number in range(count)]
+            some[2:2] = [Row(os.fsdecode(ODD), 0, "d", None, None, 1, "r"), Row("b", 2, None, 2, "2 No", 1, "s"), Row("u", 3, None, None, "No", None, None)]
+            filled = self.table(f"{count}.db")
+            filled.add_packed([packed(some), packed([]), packed([Row("last", 0, "d", None, None, 1, "r")])])
+            self.assertEqual(filled.summary(), (count + 2, 1, 1, count + 2, count + 1))
+            wanted = [*some, Row("last", 0, "d", None, None, 1, "r")]
+            self.assertEqual([*filled.rows()], sorted(wanted, key=lambda one: os.fsencode(one.path)))
+
+    def test_a_table_waits_for_the_disk_behind_its_first_seconds(self):
+        def level(of):
+            return of.base.execute("PRAGMA synchronous").fetchone()[0]
+
+        filled = self.table("table.db")
+        filled.add([Row("a", 0, "d", None, None, 1, "r")])
+        self.assertEqual(level(filled), 0)
+        filled.since -= table._UNWAITED
+        filled.add([Row("b", 0, "d", None, None, 1, "r")])
+        self.assertEqual([level(filled), level(self.table("table.db"))], [1, 1])
 
 
 class Caches(Folder):
@@ -173,6 +198,34 @@ class Caches(Folder):
 
 
 class Processes(unittest.TestCase):
+    def answers(self, jobs, count, work):
+        with Workers(jobs, work) as workers:
+            for some in workers.answers(count):
+                yield from some
+
+    def test_each_number_is_answered_once(self):
+        for jobs, count in ((1, 0), (1, 1), (1, 9), (3, 2), (4, 100)):
+            self.assertEqual(sorted(self.answers(jobs, count, lambda number: [number, b"x" * 100_000])), [[number, b"x" * 100_000] for number in range(count)])
+
+    def test_what_the_work_raises_is_raised(self):
+        def work(number):
+            if number == 3:
+                raise fault
+            return number
+
+        for fault, kind in ((sqlite3.DatabaseError("no"), sqlite3.DatabaseError), (MemoryError(), MemoryError), (Unpicklable(lambda: 0), RuntimeError)):
+            with self.assertRaises(kind):
+                list(self.answers(2, 9, work))
+        with self.assertRaises(ValueError):
+            list(self.answers(2, 9, lambda number: object()))
+
+    def test_one_that_is_killed_is_told(self):
+        with self.assertRaises(Killed):
+            list(self.answers(2, 9, lambda number: os.kill(os.getpid(), signal.SIGKILL) if number == 3 else number))
+        with self.assertRaises(Killed), Workers(2, lambda number: number) as workers:
+            for _ in workers.answers(1000):
+                os.kill(workers.all[0].process, signal.SIGKILL)
+
     def test_none_stays_behind_the_process_that_asks(self):
         going = subprocess.Popen([sys.executable, "-c", ASLEEP], stdout=subprocess.PIPE, env=ENVIRONMENT)
         started = [int(word) for word in going.stdout.readline().split()]
@@ -183,17 +236,18 @@ class Processes(unittest.TestCase):
         wait_until(lambda: not any(os.path.exists(f"/proc/{process}/fd/0") for process in started))
 
 
-# A process that waits with a pool of two.
+class Unpicklable(Exception):
+    pass
+
+
+# A process that waits with two workers, of which one waits too.
 ASLEEP = """
-import os, time
-from concurrent.futures import ProcessPoolExecutor
-from multiprocessing import get_context
-from yamlcanon.many import begin
-from yamlcanon.table import Judge
-with ProcessPoolExecutor(2, get_context("fork"), begin, (Judge(), ())) as pool:
-    list(pool.map(time.sleep, [0.2, 0.2]))
-    print(*pool._processes, flush=True)
-    time.sleep(60)
+import time
+from yamlcanon.workers import Workers
+with Workers(2, lambda number: time.sleep(60 if number else 0)) as workers:
+    for _ in workers.answers(2):
+        print(*(worker.process for worker in workers.all), flush=True)
+        time.sleep(60)
 """
 
 

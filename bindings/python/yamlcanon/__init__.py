@@ -22,8 +22,8 @@ _Answer = TypeVar("_Answer")
 
 _DONE, _DIFFERENT, _REFUSED, _SHORT = range(4)
 _OUT_OF_MEMORY = 21
-# What a call on n bytes takes of the stack at most: a level of nesting 5.7 KiB, of which a byte opens at most one, up to 1,024.
-_STACK_BASE, _STACK_LEVEL, _MOST_LEVELS = 512 << 10, 6 << 10, 1024
+# What a call on n bytes takes of the stack at most: a level of nesting 1.5 KiB, of which a byte opens at most one, up to 1,024.
+_STACK_BASE, _STACK_LEVEL, _MOST_LEVELS = 256 << 10, 1536, 1024
 # The stack of a thread to which a call is handed.
 _STACK_GIVEN = 8 << 20
 # The parts of x86-64-v2, as the kernel names them.

@@ -22,24 +22,18 @@ A name is told on one line: `\\\\` stands for a backslash in it, `\\n`, `\\r` an
 """
 
 import argparse
-import ctypes
 import hashlib
 import os
-import signal
 import sqlite3
 import sys
 import time
-from concurrent.futures import Future, ProcessPoolExecutor, as_completed
-from concurrent.futures.process import BrokenProcessPool
-from multiprocessing import get_context
 from typing import Any, BinaryIO, Dict, Iterator, List, Optional, Sequence, Tuple
 
 import yamlcanon
-from yamlcanon.table import REFUSED, UNREAD, Judge, OtherVersion, Row, Table, keep
+from yamlcanon.table import REFUSED, UNREAD, Judge, OtherVersion, Row, Table, keep, packed
+from yamlcanon.workers import Killed, Workers
 
 _FAILED = 3
-# PR_SET_PDEATHSIG of Linux's prctl
-_END_WITH_PARENT = 1
 _BATCH = 256
 # A cache is taken whole that has no more bytes than this for each file, some three meanings, and no more than this at all.
 _TAKEN_A_FILE, _TAKEN = 500, 64 << 20
@@ -96,51 +90,22 @@ class Progress:
             say("")
 
 
-class Worker:
-    """What a process of the pool works on. It is forked, so it has the names and what was taken of the cache already."""
-
-    judge = Judge()
-    some: Sequence[Sequence[str]] = ()
-
-
-def begin(judge: Judge, some: Sequence[Sequence[str]]) -> None:
-    """Begins a process of the pool, which ends with the process that asks, also where that one is killed. Ctrl-C reaches every
-    process, and one that it ends inside a queue's lock would be waited for by the others for ever: here only the one that asks
-    takes it."""
-    signal.signal(signal.SIGINT, signal.SIG_IGN)
-    ctypes.CDLL(None).prctl(_END_WITH_PARENT, signal.SIGKILL)
-    Worker.judge, Worker.some = judge, some
-
-
-def answer(number: int) -> Tuple[List[Tuple[Any, ...]], int]:
-    """The rows of a batch, and for how many contents the library was asked."""
-    before = Worker.judge.asked
-    return Worker.judge.batch(Worker.some[number]), Worker.judge.asked - before
-
-
 def fill(table: Table, paths: Sequence[str], jobs: int, batch: int, cache: Optional[str]) -> int:
-    """Adds a row for each path, by so many processes, and tells for how many contents the library was asked. Not by
-    multiprocessing.Pool, which waits for ever for one that is killed."""
+    """Adds a row for each path, by so many processes, and tells for how many contents the library was asked. The processes are
+    forked, so each has the names and what was taken of the cache already."""
     progress, some, judge, asked = Progress(len(paths)), list(batches(paths, batch)), Judge(cache), 0
     judge.take(min(_TAKEN_A_FILE * len(paths), _TAKEN))
-    with ProcessPoolExecutor(max(1, min(jobs, len(some))), get_context("fork"), begin, (judge, some)) as pool:
-        waiting: List[Future[Tuple[List[Tuple[Any, ...]], int]]] = []
-        try:
-            # The processes, and the thread that feeds them, begin with the first batch: Ctrl-C waits until all are begun.
-            signal.pthread_sigmask(signal.SIG_BLOCK, {signal.SIGINT})
-            try:
-                waiting += [pool.submit(answer, number) for number in range(len(some))]
-            finally:
-                signal.pthread_sigmask(signal.SIG_UNBLOCK, {signal.SIGINT})
-            for future in as_completed(waiting):
-                rows, new = future.result()
-                table.add(rows)
-                progress.add(len(rows))
-                asked += new
-        except BaseException:
-            for future in waiting:
-                future.cancel()
-            raise
+
+    def answer(number: int) -> Tuple[Any, int, int]:
+        """The rows of a batch, how many they are, and for how many contents the library was asked."""
+        before = judge.asked
+        return packed(judge.batch(some[number])), len(some[number]), judge.asked - before
+
+    with Workers(jobs, answer) as workers:
+        for answers in workers.answers(len(some)):
+            table.add_packed([rows for rows, _, _ in answers])
+            progress.add(sum(count for _, count, _ in answers))
+            asked += sum(new for _, _, new in answers)
     progress.end()
     return asked
 
@@ -159,7 +124,7 @@ def run(name: str, data: bytes, jobs: int, batch: int, cache: Optional[str]) -> 
     except OtherVersion as fault:
         say(f"{fault}: begin another table")
         return _FAILED
-    except BrokenProcessPool:
+    except Killed:
         say("a worker was killed: the same command goes on from here")
         return _FAILED
     except MemoryError:

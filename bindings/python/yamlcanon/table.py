@@ -2,6 +2,7 @@
 
     rows(names, cache) -> [Row]     the rows of a batch, bytes that are met again judged once
     Judge(cache)                    the same batch after batch, with how many contents the library was asked for
+    packed(rows)                    the same rows in fewer values, which a process sends and a table takes in less time
     Table(path)                     rows in an SQLite file
     keep(cache, table)              adds a table's meanings to a cache, which later runs look into
 """
@@ -11,12 +12,14 @@ import hashlib
 import os
 import sqlite3
 import stat
+import time
+from functools import lru_cache
 from itertools import chain
 from typing import Any, Collection, Dict, Iterable, Iterator, List, NamedTuple, Optional, Sequence, Set, Tuple, Union
 
 import yamlcanon
 
-__all__ = ["DONE", "REFUSED", "UNREAD", "VERSION", "Judge", "Meaning", "OtherVersion", "Row", "Table", "keep", "rows"]
+__all__ = ["DONE", "REFUSED", "UNREAD", "VERSION", "Judge", "Meaning", "OtherVersion", "Row", "Table", "keep", "packed", "rows"]
 
 DONE, REFUSED, UNREAD = 0, 2, 3
 # The library's version: what another one answered is not taken for its answer.
@@ -28,11 +31,16 @@ _MOST_HELD, _BYTES_HELD = 256, 1 << 20
 # How many rows a table counts by itself, which takes memory: beyond them SQLite counts, which takes time.
 _MOST_COUNTED = 1 << 20
 _OPENED = os.O_RDONLY | os.O_NONBLOCK | os.O_CLOEXEC
-# How many rows are added by one statement: each takes some time by itself. SQLite may take no more than 999 values.
+# How many rows of accepted files are added by one statement, of four values each: each statement takes some time by itself.
+# SQLite may take no more than 999 values.
 _ADDED = 128
+# For how many seconds a new table does not wait for the disk.
+_UNWAITED = 5.0
 
 # A row without the names of its parts, as marshal writes it.
 _Plain = Tuple[Any, ...]
+# Rows of accepted files as path, digest, size and raw, one after another, and all other rows; paths as SQLite takes them.
+_Packed = Tuple[List[Any], List[_Plain]]
 
 
 class Meaning(NamedTuple):
@@ -94,6 +102,13 @@ def _read_on(file: int, data: bytes) -> bytes:
     return data
 
 
+def _opened(cache: str) -> sqlite3.Connection:
+    """A cache that is looked into, where a page is not copied for its rows."""
+    base = sqlite3.connect(cache)
+    base.execute("PRAGMA mmap_size = 1073741824")
+    return base
+
+
 # What the library answers to some bytes, as a Meaning or a tuple of the same.
 _Known = Tuple[int, Optional[str], Optional[int], Optional[str]]
 
@@ -105,7 +120,8 @@ class Judge:
         self.cache = cache
         self.base: Optional[sqlite3.Connection] = None
         self.is_whole = cache is None  # whether nothing is to be looked up that was not taken
-        self.taken: Dict[str, _Known] = {}
+        self.taken: Dict[str, str] = {}  # the digests of what is accepted
+        self.refused: Dict[str, _Known] = {}
         self.met: Dict[str, _Known] = {}  # in this batch
         self.asked = 0  # for how many contents the library was asked
 
@@ -113,16 +129,20 @@ class Judge:
         """Takes the cache whole, where its file has no more than so many bytes: to look up one by one takes thrice as long."""
         if self.cache is None or not os.path.exists(self.cache) or os.path.getsize(self.cache) > most:
             return
-        base = sqlite3.connect(self.cache)
-        found = base.execute("SELECT raw, status, digest, number, message FROM meaning WHERE version = ?", (VERSION,))
-        self.taken = {one[0]: one[1:] for one in found}
+        base = _opened(self.cache)
+        # Two values a row, of which SQLite's rows are made into a dictionary as they are, take half the time of five.
+        self.taken = dict(base.execute("SELECT raw, digest FROM meaning WHERE version = ? AND status = 0", (VERSION,)))
+        others = base.execute(
+            "SELECT raw, status, digest, number, message FROM meaning WHERE version = ? AND status <> 0", (VERSION,)
+        )
+        self.refused = {one[0]: one[1:] for one in others}
         self.is_whole = True
         base.close()
 
     def batch(self, paths: Sequence[str]) -> List[_Plain]:
         """The rows of a batch. The cache is asked for many files at once, and these held until then have few bytes."""
         found: List[_Plain] = [()] * len(paths)
-        waiting, held, sha256, taken, met = [], 0, hashlib.sha256, self.taken, self.met
+        waiting, held, sha256, taken, refused, met = [], 0, hashlib.sha256, self.taken, self.refused, self.met
         met.clear()
         for place, path in enumerate(paths):
             try:
@@ -136,7 +156,11 @@ class Judge:
                 found[place] = (path, *meaning(data), None, None)
                 continue
             raw = sha256(data).hexdigest()
-            known = taken.get(raw) or met.get(raw)
+            digest = taken.get(raw)
+            if digest is not None:
+                found[place] = (path, DONE, digest, None, None, len(data), raw)
+                continue
+            known = refused.get(raw) or met.get(raw)
             if known is not None or self.is_whole:
                 found[place] = (path, *(known or self._meaning(raw, data)), len(data), raw)
                 continue
@@ -164,9 +188,7 @@ class Judge:
         if not raws or self.cache is None or not (self.base or os.path.exists(self.cache)):
             return
         if self.base is None:
-            self.base = sqlite3.connect(self.cache)
-            # It is looked into at random, so a page of it is not copied for one row.
-            self.base.execute("PRAGMA mmap_size = 1073741824")
+            self.base = _opened(self.cache)
         # Not `raw IN (?, ..)`, which sorts them first and takes half as long again.
         found = self.base.execute(
             "SELECT raw, status, digest, number, message FROM (VALUES %s) CROSS JOIN meaning ON version = ? AND raw = column1"
@@ -211,6 +233,20 @@ def _storable(some: Sequence[_Plain]) -> Sequence[_Plain]:
         return [(_stored(one[0]), *one[1:]) for one in some]
 
 
+def packed(some: Sequence[_Plain]) -> _Packed:
+    """Rows, each a Row or what it is a tuple of, in fewer values: those of accepted files have no number and no message."""
+    some = _storable(some)
+    done = [(path, digest, size, raw) for path, status, digest, _, _, size, raw in some if status == DONE]
+    others = [tuple(one) for one in some if one[1] != DONE] if len(done) < len(some) else []
+    return [*chain.from_iterable(done)], others
+
+
+@lru_cache(maxsize=None)
+def _adding(count: int) -> str:
+    """The statement that adds so many rows of accepted files."""
+    return "INSERT INTO file VALUES " + ",".join(["(?, 0, ?, NULL, NULL, ?, ?)"] * count)
+
+
 def _path(stored: _Stored) -> str:
     return os.fsdecode(stored) if isinstance(stored, bytes) else stored
 
@@ -223,21 +259,18 @@ class _Counts:
         self.raws: Set[Optional[str]] = set()
         self.digests: Set[Optional[str]] = set()
 
-    def add(self, some: Sequence[_Plain]) -> None:
-        self.rows += len(some)
+    def add(self, done: Sequence[Any], others: Sequence[_Plain]) -> None:
+        self.rows += len(done) // 4 + len(others)
         if self.rows > _MOST_COUNTED:
             self.raws, self.digests = set(), set()
-        if not some or self.rows > _MOST_COUNTED:
             return
-        _, statuses, digests, _, _, _, raws = zip(*some)
-        for status in self.statuses:
-            self.statuses[status] += statuses.count(status)
-        self.raws.update(raws)
-        self.digests.update(digests)
-
-    def are_of(self, count: int) -> bool:
-        """Whether these are all rows of a table that has so many."""
-        return self.rows == count <= _MOST_COUNTED
+        self.statuses[DONE] += len(done) // 4
+        self.digests.update(done[1::4])
+        self.raws.update(done[3::4])
+        for _, status, digest, _, _, _, raw in others:
+            self.statuses[status] += 1
+            self.digests.add(digest)
+            self.raws.add(raw)
 
     def summary(self) -> Tuple[int, int, int, int, int]:
         contents, meanings = len(self.raws - {None}), len(self.digests - {None})
@@ -247,17 +280,19 @@ class _Counts:
 class Table:
     """The rows in an SQLite file. What it has is not computed again, so a run that was ended goes on.
 
-    No index is kept while rows come: they come in any order, and by an index on paths each takes ten times as long.
+    No index is kept while rows come: they come in any order, and by an index on paths each takes ten times as long. What was
+    added stays where the process is killed. Where the machine itself ends, a table that waits for the disk loses its last rows,
+    and one that does not yet wait may be lost: that is a new one, which has not more than some seconds of work.
     """
 
     def __init__(self, name: str) -> None:
-        is_new = not os.path.exists(name)
+        self.waits, self.since = os.path.exists(name), time.monotonic()
         self.name, self.counts = name, _Counts()
         self.base = sqlite3.connect(name)
-        if is_new:
-            # Its first page is written with no journal beside it, for which the disk would be waited for once more.
+        if not self.waits:
+            # Its first page is written with no journal beside it.
             self.base.execute("PRAGMA journal_mode = MEMORY")
-        self.base.execute("PRAGMA synchronous = NORMAL")
+        self.base.execute(f"PRAGMA synchronous = {'NORMAL' if self.waits else 'OFF'}")
         self.base.execute("PRAGMA journal_mode = WAL")
         with self.base:
             self.base.execute(
@@ -269,6 +304,8 @@ class Table:
             if has is None:
                 self.base.execute("INSERT INTO library VALUES (?)", (VERSION,))
         self.version = has[0] if has else VERSION
+        self.others = self._changed_by_others()
+        self.was_empty = self.base.execute("SELECT 1 FROM file LIMIT 1").fetchone() is None
 
     def missing(self, paths: Iterable[str]) -> List[str]:
         """Those of the paths that have no row, each once. What could not be read is tried again."""
@@ -282,14 +319,34 @@ class Table:
 
     def add(self, some: Sequence[_Plain]) -> None:
         """Adds rows, each a Row or what it is a tuple of."""
-        with self.base:
-            for at in range(0, len(some), _ADDED):
-                self._insert(_storable(some[at : at + _ADDED]))
-        self.counts.add(some)
+        self.add_packed([packed(some)])
 
-    def _insert(self, some: Sequence[_Plain]) -> None:
-        values = ",".join(["(?, ?, ?, ?, ?, ?, ?)"] * len(some))
-        self.base.execute("INSERT INTO file VALUES " + values, [*chain.from_iterable(some)])
+    def add_packed(self, some: Sequence[_Packed]) -> None:
+        """Adds the rows of batches, all or none."""
+        if not self.waits and time.monotonic() - self.since > _UNWAITED:
+            self._wait()
+        done = some[0][0] if len(some) == 1 else [*chain.from_iterable(batch[0] for batch in some)]
+        others = [*chain.from_iterable(batch[1] for batch in some)]
+        with self.base:
+            self._insert_done(done)
+            self.base.executemany("INSERT INTO file VALUES (?, ?, ?, ?, ?, ?, ?)", others)
+        self.counts.add(done, others)
+
+    def _wait(self) -> None:
+        """Waits for the disk from here on, and for what it has not yet."""
+        self.waits = True
+        self.base.execute("PRAGMA synchronous = NORMAL")
+        self.base.execute("PRAGMA wal_checkpoint").fetchall()
+
+    def _insert_done(self, values: List[Any]) -> None:
+        """Adds rows of accepted files: as many as may be by one statement, and the rest by those of 64, 32 and so on, so that few
+        statements are made."""
+        at, count = 0, _ADDED
+        while at < len(values):
+            while 4 * count > len(values) - at:
+                count //= 2
+            self.base.execute(_adding(count), values[at : at + 4 * count])
+            at += 4 * count
 
     def rows(self) -> Iterator[Row]:
         """All rows, by path."""
@@ -309,9 +366,17 @@ class Table:
             )
             yield digest, [(_path(stored), raw) for stored, raw in found]
 
+    def _changed_by_others(self) -> int:
+        """A number that changes where another connection changes the table."""
+        return int(self.base.execute("PRAGMA data_version").fetchone()[0])
+
+    def has_counted_all(self) -> bool:
+        """Whether its rows are those that were added and counted here."""
+        return self.was_empty and self.counts.rows <= _MOST_COUNTED and self._changed_by_others() == self.others
+
     def summary(self) -> Tuple[int, int, int, int, int]:
         """How many files: done, refused, unread; how many contents and meanings they have."""
-        if self.counts.are_of(self.base.execute("SELECT count(*) FROM file").fetchone()[0]):
+        if self.has_counted_all():
             return self.counts.summary()
         found = self.base.execute(
             "SELECT sum(status = 0), sum(status = 2), sum(status = 3), count(DISTINCT raw), count(DISTINCT digest) FROM file"

@@ -1,15 +1,15 @@
 //! The canonical text of YAML 1.2 streams, and whether two streams mean the same: safe calls over libyamlcanon.
 //!
-//! A call may be made on any thread. A level of nesting takes up to 5.7 KiB of stack and std's threads have 2 MiB, so where
-//! less is left than an input of this length may take, the call is made on a thread of its own that has 8 MiB. The library is
+//! A call may be made on any thread. A level of nesting takes up to 1.5 KiB of stack, 1,024 of them 1.5 MiB, and where less is
+//! left than an input of this length may take, the call is made on a thread of its own that has 8 MiB. The library is
 //! built for x86-64-v2, and a call on a lesser processor panics before anything of it runs.
 #![warn(missing_docs)]
 
 use std::{error, fmt, thread};
 
 // What a call on n bytes takes of the stack at most: a byte opens one level of nesting at most, up to 1,024.
-const STACK_BASE: usize = 512 << 10;
-const STACK_LEVEL: usize = 6 << 10;
+const STACK_BASE: usize = 256 << 10;
+const STACK_LEVEL: usize = 1536;
 const MOST_LEVELS: usize = 1024;
 const STACK_GIVEN: usize = 8 << 20;
 
