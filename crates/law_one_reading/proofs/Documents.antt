@@ -12,6 +12,7 @@ use Rattle.yaml_text.specs.Lines.{Inside, AfterLine}
 use Rattle.yaml_text.proofs.Runs.{same_char, run_none}
 use Rattle.yaml_text.proofs.LineRuns.{end_stops, indent_place, indent_run}
 use Rattle.yaml_text.proofs.RestLemmas.{from_s_b, from_l, blank_after, l_comment_same}
+use Rattle.yaml_text.proofs.Classes.{ns_percent}
 use Rattle.law_one_reading.proofs.Unique.{unique_seen, unique_bounded, unique_gives, unique_after, unique_before, unique_taking, unique_within, unique_from, unique_from_either, from_before}
 use Rattle.law_one_reading.specs.Readings.{End, Unique}
 use Rattle.law_one_reading.proofs.Lines.{blank_at_end, run_solid, past_of, past_same, comments_none, stuck_run, stuck_end, stuck_mark, less_stuck, end_no_run, dash_fresh, solid_nb, lines_on, ns_dash}
@@ -34,10 +35,6 @@ use Rattle.law_one_reading.proofs.Directives.{Percent, directives_unique, direct
 pub ns_dot : is_ns 46 ≡ true
 unfolding is_ns is_nb is_break is_white
 ns_dot = refl
-
-ns_percent : is_ns 37 ≡ true
-unfolding is_ns is_nb is_break is_white
-ns_percent = refl
 
 kind_percent : kind 37 ≡ 0
 unfolding kind

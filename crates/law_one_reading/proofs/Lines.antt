@@ -1,5 +1,5 @@
 -- Where a line of block content begins, and comment lines before it: the place that a text goes on at is the only one.
-use Rattle.std.proofs.Common.{◌≡◌, ◌≢◌, ℕ, ◌+◌, ◌-◌, ◌≤◌, ◌<◌, ◌⊎◌, inl, inr, List, Some, true, false, refl, sym, ◌∙◌, ap, subst, arith}
+use Rattle.std.proofs.Common.{◌≡◌, ◌≢◌, ℕ, ◌+◌, ◌-◌, ◌≤◌, ◌<◌, ◌⊎◌, inl, inr, List, Some, true, refl, sym, ◌∙◌, ap, subst, arith}
 use Rattle.std.specs.Prelude.{slice_get}
 use Rattle.std.proofs.Math.Nat.{eq-or-lt_of_le}
 use Rattle.law_one_reading.specs.Follows as follows
@@ -8,27 +8,16 @@ use Rattle.yaml_definitions.specs.grammar.Characters.{is_space, is_ns, is_nb, is
 use Rattle.yaml_definitions.specs.grammar.Separation.{Ctx, block_out, block_in, flow_out, flow_in, block_key, flow_key, StartsLine, AtEnd, DocumentMark, s-indent as indent, s-separate-in-line as sep, s-b-comment as s_b_comment, b-comment as line_end, l-comment as l_comment, s-l-comments as s_l_comments, s-separate-lines as separate_lines, s-separate as separate}
 use Rattle.yaml_definitions.proofs.grammar.Forward.{on_s_l_comments}
 use Rattle.yaml_text.specs.Lines.{LooksLikeMarker, AfterLine, Inside, blank_rest}
-use Rattle.yaml_text.proofs.Runs.{same_char, no_stand, run_none, run_same}
+use Rattle.yaml_text.proofs.Runs.{same_char, run_none, run_same}
+use Rattle.yaml_text.proofs.Classes as classes
+use Rattle.yaml_text.proofs.DirectiveRuns as runs
 use Rattle.yaml_text.proofs.Breaks.{run_join, mark_dashes, mark_ns}
 use Rattle.yaml_text.proofs.LineRuns.{inside_no_line, end_stops, indent_run, indent_place}
-use Rattle.yaml_text.proofs.RestLemmas.{blank_after, to_s_b, is_the_space, blank_rest_same, from_s_b, from_l, to_l, l_comment_onward, l_comment_same, no_blank}
-use Rattle.yaml_text.proofs.Repeats.{spans_furthest}
-
-ns_space : is_ns 32 ≡ false
-unfolding is_ns is_nb is_break is_white
-ns_space = refl
+use Rattle.yaml_text.proofs.RestLemmas.{blank_after, to_s_b, is_the_space, blank_rest_same, from_s_b, from_l, to_l, l_comment_onward, no_blank}
 
 pub ns_dash : is_ns 45 ≡ true
 unfolding is_ns is_nb is_break is_white
 ns_dash = refl
-
-nb_space : is_nb 32 ≡ true
-unfolding is_nb is_break
-nb_space = refl
-
-ns_nb : (c : ℕ) → is_ns c ≡ true → is_nb c ≡ true
-unfolding is_ns
-ns_nb c h = grind (arith, h)
 
 module _ (cs : List ℕ) where
   abbrev Solid : ℕ → Type 0
@@ -53,10 +42,10 @@ module _ (cs : List ℕ) where
   Dash = follows.Dash cs
 
   pub solid_no_space : (i : ℕ) → Stands cs is_ns i → Stands cs is_space i → ⊥
-  solid_no_space i s (d, h, u) = no_stand cs is_ns i d h (ap is_ns (is_the_space d u) ∙ ns_space) s
+  solid_no_space = classes.solid_no_space cs
 
   pub solid_nb : (i : ℕ) → Stands cs is_ns i → Stands cs is_nb i
-  solid_nb i (c, h, t) = (c, h, ns_nb c t)
+  solid_nb = classes.solid_nb cs
 
   pub dash_fresh : (p : ℕ) → DashHere p → Fresh p
   dash_fresh p (h, n) = (((45, h, ns_dash), λ g. let e : 45 ≡ 35 = same_char cs p 45 35 h g in omega (arith, e)), λ m. go (mark_dashes cs p m))
@@ -108,14 +97,8 @@ module _ (cs : List ℕ) where
   less_stuck col m (inr (inl e)) = stuck_mark m e
   less_stuck col m (inr (inr (s, p, l, r, h))) = stuck_line s m p r h
 
-  on_l : (i j : ℕ) → l_comment cs i j → i ≤ j
-  on_l i j c = let l : i < j = l_comment_onward cs i j c in omega (arith, l)
-
   pub comments_same : (i m n : ℕ) → Comments i m → Stuck m → Comments i n → Stuck n → m ≡ n
-  comments_same i m n r s t u =
-      let a : n ≤ m = spans_furthest (l_comment_same cs) on_l r s t in
-      let b : m ≤ n = spans_furthest (l_comment_same cs) on_l t u r in
-      omega (arith, a, b)
+  comments_same = runs.lines_same cs
 
   pub comments_none : (i m : ℕ) → Stuck i → Comments i m → m ≡ i
   comments_none i m s (Spans.done e) = e
@@ -305,7 +288,7 @@ module _ (cs : List ℕ) where
   spaces_inside : (a k : ℕ) → run cs is_space a k → a < k → Inside cs k
   spaces_inside a k (le, r) l =
       let (d, h, u) = r (k - 1) (omega (arith, l)) (omega (arith, l)) in
-      (k - 1, omega (arith, l), (d, h, ap is_nb (is_the_space d u) ∙ nb_space))
+      (k - 1, omega (arith, l), (d, h, ap is_nb (is_the_space d u) ∙ classes.nb_space))
 
   rest_spaces : (a k x : ℕ) → run cs is_space a k → blank_rest cs k x → blank_rest cs a x
   unfolding blank_rest

@@ -8,14 +8,11 @@ use Rattle.yaml_definitions.specs.grammar.Tags.{Handles, c-ns-tag-property as ta
 use Rattle.yaml_definitions.specs.model.Event.{WrittenTag, untagged, non_specific, full, Anchor}
 use Rattle.yaml_definitions.specs.grammar.Events.{Props}
 use Rattle.yaml_text.specs.Lines.{Inside}
+use Rattle.yaml_text.proofs.Classes.{ns_bang}
 use Rattle.law_one_reading.proofs.Unique.{from}
 use Rattle.law_one_reading.specs.Readings.{End, Unique, Apart}
 use Rattle.law_one_reading.proofs.Lines.{char_fresh, way_of, way_same}
 use Rattle.law_one_reading.specs.Follows.{Fresh, Way}
-
-ns_bang : is_ns 33 ≡ true
-unfolding is_ns is_nb is_break is_white
-ns_bang = refl
 
 ns_and : is_ns 38 ≡ true
 unfolding is_ns is_nb is_break is_white

@@ -9,11 +9,26 @@ struct Row {
     lines: &'static str,
 }
 
-const ROWS: [Row; 19] = [
+const ROWS: [Row; 22] = [
     Row {
         name: "a colon in a value",
         text: "a: 1\r\nb: c: d\r\n",
         lines: "left:2:5: 4 Syntax at byte 10: a value that holds `: ` stands between quotes\nb: c: d\n    ^\n",
+    },
+    Row {
+        name: "an entry that stands too deep",
+        text: "a: 1\n\n  b: 2\n",
+        lines: "left:3:4: 4 Syntax at byte 9: this line stands deeper than the one above, and is read as more of its value: an entry stands right below its siblings\n  b: 2\n   ^\n",
+    },
+    Row {
+        name: "one of an item",
+        text: "- a: x\n   b: 2\n",
+        lines: "left:2:5: 4 Syntax at byte 11: this line stands deeper than the one above, and is read as more of its value: an entry stands right below its siblings\n   b: 2\n    ^\n",
+    },
+    Row {
+        name: "a colon in an item's value",
+        text: "- a: x\n  b: c: d\n",
+        lines: "left:2:7: 4 Syntax at byte 13: a value that holds `: ` stands between quotes\n  b: c: d\n      ^\n",
     },
     Row {
         name: "a flow line at its parent",
@@ -150,11 +165,16 @@ fn goes_on_behind_a_file_that_is_not_there(rt: HostRuntime) -> Result<(), Fail> 
         left: b"a: [",
         right: b"a",
     };
-    let ran = run(rt.alloc(), files, &["faults", "nothing", "left", "right"])?;
+    let ran = run(
+        rt.alloc(),
+        files,
+        &["faults", "no\nyaml: \u{1B}[2K", "left", "right"],
+    )?;
     let out = ran.out.as_str();
     let err = ran.err.as_str();
     assert!(rt; ran.status == 3);
-    assert!(rt; err == "yaml: cannot open nothing\n", "{err}");
+    // What a terminal would not print is told as `?`, so that a name makes no line of its own.
+    assert!(rt; err == "yaml: cannot open no?yaml: ?[2K\n", "{err}");
     assert!(rt;
         out.starts_with("left:1:5: 4 Syntax at byte 4: the text ends"),
         "{out}"

@@ -194,12 +194,28 @@ fn lines_for_git(rt: HostRuntime) -> Result<(), Fail> {
     Ok(())
 }
 
-/// Words that git does not pass are refused.
+/// Words that git does not pass are refused, and told why.
 #[test]
 fn two_words_are_none_of_git(rt: HostRuntime) -> Result<(), Fail> {
     let ran = run(rt.alloc(), DEPLOYMENT, &["git", "a.yaml", "left"])?;
     assert_eq!(rt; ran.out.as_str(), "");
-    assert!(rt; !ran.err.is_empty());
+    assert_eq!(rt;
+        ran.err.as_str(),
+        "yaml: usage: git passes 1, 7 or 9 words\n"
+    );
+    assert_eq!(rt; ran.status, 3);
+    Ok(())
+}
+
+/// So is standard input on both sides.
+#[test]
+fn standard_input_is_one_side(rt: HostRuntime) -> Result<(), Fail> {
+    let ran = run(rt.alloc(), DEPLOYMENT, &["diff", "-", "-"])?;
+    assert_eq!(rt; ran.out.as_str(), "");
+    assert_eq!(rt;
+        ran.err.as_str(),
+        "yaml: usage: `-` is standard input, which is read once\n"
+    );
     assert_eq!(rt; ran.status, 3);
     Ok(())
 }

@@ -21,7 +21,10 @@ impl Shelf for Folder {
             "one.yaml" => Ok(b"- x\n"),
             "refused.yaml" => Ok(b"a: [1,\n2\n"),
             "lines" => Ok(b"flow.yaml\n\none.yaml"),
+            "empty\nlist" => Ok(b""),
             "nulls" => Ok(b"line\nfeed\0one.yaml\0"),
+            // As the files of a runtime answer what is no regular file.
+            "folder" => Err(io::Error::from(io::ErrorKind::Unsupported)),
             _ => Err(io::Error::from(io::ErrorKind::NotFound)),
         }
     }
@@ -59,7 +62,7 @@ struct Row {
 
 /// The digests are those of `--- ["a", "b"]` and `--- ["x"]`, each with a line feed, and the lines of
 /// names with escapes were told by `sha256sum` of coreutils 9.1.
-const SUMS: [Row; 10] = [
+const SUMS: [Row; 11] = [
     Row {
         shows: "spellings of one stream have one sum",
         asked: Asked::Files(&["flow.yaml", "block.yaml"]),
@@ -98,6 +101,14 @@ const SUMS: [Row; 10] = [
         input: b"",
         out: "",
         err: "yaml: ab\\nsent: cannot open\n",
+        status: 3,
+    },
+    Row {
+        shows: "what is no regular file is told so",
+        asked: Asked::Files(&["folder", "one.yaml"]),
+        input: b"",
+        out: "10fefbc4a80af0c4ff6ee9763b1d134ced76a83604f31803c082d5bfcc96318a  one.yaml\n",
+        err: "yaml: folder: is no regular file\n",
         status: 3,
     },
     Row {
@@ -143,8 +154,8 @@ const SUMS: [Row; 10] = [
 ];
 
 /// What `sha256sum --check` of coreutils 9.1 tells of these lines on standard output, where the files hold
-/// their canonical texts.
-const CHECKS: [Row; 5] = [
+/// their canonical texts. Of a list with no line of a sum it tells that and no number of lines.
+const CHECKS: [Row; 6] = [
     Row {
         shows: "a list that was written is found right",
         asked: Asked::Check("-"),
@@ -182,7 +193,15 @@ const CHECKS: [Row; 5] = [
         asked: Asked::Check("-"),
         input: b"\\82ae564fde271dd8a546cae079eba99e0c49b73b9e767ef20f8bbea26c2ae94d  a\\x\n82ae564fde271dd8a546cae079eba99e0c49b73b9e767ef20f8bbea26c2ae94d flow.yaml\n82ae564fde271dd8a546cae079eba99e0c49b73b9e767ef20f8bbea26c2ae94d  \n",
         out: "",
-        err: "yaml: lines that are no sums: 3\n",
+        err: "yaml: -: no line is one of a sum\n",
+        status: 3,
+    },
+    Row {
+        shows: "nor can an empty one, which is told by its name",
+        asked: Asked::Check("empty\nlist"),
+        input: b"",
+        out: "",
+        err: "yaml: empty\\nlist: no line is one of a sum\n",
         status: 3,
     },
 ];

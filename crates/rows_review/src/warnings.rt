@@ -57,7 +57,7 @@ const ROWS: [Row; 12] = [
     },
     Row {
         name: "groups",
-        text: "- 1_000\n",
+        text: "- 1_000\n- 0_9\n",
         lines: "left:1:3: warning: 1_000: a str, and an int in YAML 1.1\n",
     },
     Row {

@@ -4,6 +4,7 @@ use std::alloc::Global;
 use std::process::Abort;
 use std::test::Fail;
 use yaml_canon::canonical;
+use yaml_event_lines::event_lines;
 use yaml_events::{read_event_text, write_events};
 use yaml_read::read_events;
 use yaml_text::chars::Chars;
@@ -37,7 +38,8 @@ pub struct Meaningless {
     pub message: &'static str,
 }
 
-/// Asserts that an input's events are those of an event text, which is written as it was.
+/// Asserts that an input's events are those of an event text, which is written as it was, from a list of the events and, if it
+/// is not too long, without one.
 pub fn has_events<T: Abort + AllocGlobal>(
     rt: &T,
     shows: &str,
@@ -48,6 +50,9 @@ pub fn has_events<T: Abort + AllocGlobal>(
     let wanted = read_event_text(rt.alloc(), text)?;
     let written = write_events(rt.alloc(), wanted.as_slice())?;
     assert_eq!(rt; written.as_str(), text, "{shows}: {input:?}");
+    if let Some(lines) = event_lines(rt.alloc(), &source)? {
+        assert_eq!(rt; lines.as_str(), text, "{shows}: {input:?}");
+    }
     match read_events(rt.alloc(), &source) {
         Ok(events) => {
             assert_eq!(rt; events, wanted, "{shows}: {input:?}");

@@ -1,34 +1,56 @@
-//! Event texts of more pages than one.
+//! Event texts that are held whole, and longer ones that are written page by page.
 use crate::fakes::{Broken, Narrow, Shelf, Source};
 use crate::runs::{owned, run};
 use std::alloc::Global;
 use std::test::Fail;
 use yaml_command::command::command;
 
-/// A text 3,000 times between two others.
-fn many(alloc: Global, front: &str, text: &str, back: &str) -> Result<String, Fail> {
+/// A text so many times between two others.
+fn many(alloc: Global, count: usize, front: &str, text: &str, back: &str) -> Result<String, Fail> {
     let mut all = String::new(alloc);
     all.push_str(front)?;
-    for _ in 0..3_000 {
+    for _ in 0..count {
         all.push_str(text)?;
     }
     all.push_str(back)?;
     Ok(all)
 }
 
-/// A sequence of 3,000 items.
-fn input(alloc: Global) -> Result<String, Fail> {
-    many(alloc, "", "- a\n", "")
+/// A tag's prefix of 244 bytes.
+fn prefix(alloc: Global) -> Result<String, Fail> {
+    many(alloc, 40, "tag:", "prefix", "")
 }
 
-/// Its event text, of six pages.
+/// A sequence of 3,000 items with tags of two bytes, which stand for 245 each.
+fn input(alloc: Global) -> Result<String, Fail> {
+    let front = format!(in alloc; "%TAG ! {}\n---\n", prefix(alloc)?)?;
+    many(alloc, 3_000, front.as_str(), "- !a b\n", "")
+}
+
+/// Its event text, of some 188 pages.
 fn event_text(alloc: Global) -> Result<String, Fail> {
-    many(
+    let line = format!(in alloc; "=VAL <{}a> :b\n", prefix(alloc)?)?;
+    let front = "+STR\n+DOC ---\n+SEQ\n";
+    many(alloc, 3_000, front, line.as_str(), "-SEQ\n-DOC\n-STR\n")
+}
+
+#[test]
+fn an_event_text_that_is_held_is_written_whole(rt: HostRuntime) -> Result<(), Fail> {
+    let alloc = rt.alloc();
+    let input = many(alloc, 3_000, "", "- a\n", "")?;
+    let front = "+STR\n+DOC\n+SEQ\n";
+    let back = "-SEQ\n-DOC\n-STR\n";
+    let text = many(alloc, 3_000, front, "=VAL :a\n", back)?;
+    let ran = run(
         alloc,
-        "+STR\n+DOC\n+SEQ\n",
-        "=VAL :a\n",
-        "-SEQ\n-DOC\n-STR\n",
-    )
+        &Shelf::new(),
+        &["events"],
+        Source::of(input.as_str()),
+    )?;
+    assert_eq!(rt; ran.out.as_str(), text.as_str());
+    assert_eq!(rt; ran.err.as_str(), "");
+    assert_eq!(rt; ran.status, 0);
+    Ok(())
 }
 
 #[test]

@@ -11,7 +11,6 @@ use Rattle.yaml_definitions.specs.grammar.Tags.{Handles}
 use Rattle.yaml_definitions.specs.grammar.Events.{Props}
 use Rattle.yaml_definitions.specs.grammar.Nodes.{reads}
 use Rattle.yaml_definitions.proofs.grammar.Forward.{fwd_reads}
-use Rattle.law_one_reading.specs.Readings.{End}
 use Rattle.law_one_reading.specs.Follows.{Fresh, Stuck, DashHere, Dash, Less, KeyHere}
 use Rattle.law_one_reading.proofs.FlowLevels.{reads_facts}
 use Rattle.law_one_reading.proofs.KeyContexts.{reads_eased}

@@ -22,8 +22,8 @@ use Rattle.yaml_flow.specs.Lines.{IsBlock}
 use Rattle.yaml_block.specs.BlockRules.{block_scalar_rest}
 use Rattle.yaml_block.specs.BlockEnds.{AfterNode, AfterScalar, SignIs, IsStyleSign}
 use Rattle.yaml_block.specs.KeyFits.{NoneBelow}
-use Rattle.yaml_block.specs.declared.block.Block.{Block}
-use Rattle.yaml_block.specs.declared.block.Block.TheVariants.{Literal, Folded}
+use Rattle.yaml_block.specs.declared.block.signs.Block.{Block}
+use Rattle.yaml_block.specs.declared.block.signs.Block.TheVariants.{Literal, Folded}
 use Rattle.yaml_block.proofs.KeyDecisions.{key_no_node}
 use Rattle.yaml_block.proofs.NodeDecisions.{Keyed}
 use Rattle.yaml_block.proofs.ScalarDecisions.{props_goes, props_refused}

@@ -10,8 +10,8 @@ use Rattle.law_one_reading.specs.Follows.{Fresh, Stuck, Less, Over, Follow}
 use Rattle.yaml_flow.specs.Keys.{ColonAfter}
 use Rattle.yaml_flow.specs.declared.line.Line.{Line}
 use Rattle.yaml_block.specs.BlockRules.{least_dash}
-use Rattle.yaml_block.specs.declared.block.Block.{Block}
-use Rattle.yaml_block.specs.declared.block.Block.TheVariants.{Literal, Folded}
+use Rattle.yaml_block.specs.declared.block.signs.Block.{Block}
+use Rattle.yaml_block.specs.declared.block.signs.Block.TheVariants.{Literal, Folded}
 
 -- ---- after a node, an entry's node, a sequence in column k, a mapping in column k, a key's colon
 

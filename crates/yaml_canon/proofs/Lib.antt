@@ -14,10 +14,10 @@ mod Markings
 mod Linking
 mod NamesLaws
 mod DocumentLaws
-mod ClaimLaws
+pub mod ClaimLaws
 mod PlacedLaws
 mod AcceptLaws
 mod PlaceLaws
-mod CompareLaws
+pub mod CompareLaws
 mod AcceptBoth
 mod RunLaws

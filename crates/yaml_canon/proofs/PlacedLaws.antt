@@ -99,25 +99,9 @@ of_answer bytes r fault e h = subst (λ z. IfErr z (TellsPlace bytes)) e h
 
 pub documents_elsewhere : (left right : List ℕ) (ds es : List Document) (side : Side) (fault : Fault) → RefusesDocuments ds es side fault → TellsSidesPlace left right side fault
 documents_elsewhere left right ds es Left (faults.EqualKeys n i j) h = tt
-documents_elsewhere left right ds es Left (faults.UndefinedAlias e) h = tt
-documents_elsewhere left right ds es Left (faults.CyclicAlias e) h = tt
-documents_elsewhere left right ds es Left (faults.WrongKind e) h = tt
-documents_elsewhere left right ds es Left (faults.BadContent e) h = tt
-documents_elsewhere left right ds es Left (faults.IntRange e) h = tt
-documents_elsewhere left right ds es Left (faults.FloatRange e) h = tt
-documents_elsewhere left right ds es Left (faults.TooHigh e) h = tt
-documents_elsewhere left right ds es Left faults.OutOfMemory h = tt
-documents_elsewhere left right ds es Left _ h = absurd h
 documents_elsewhere left right ds es Right (faults.EqualKeys n i j) h = tt
-documents_elsewhere left right ds es Right (faults.UndefinedAlias e) h = tt
-documents_elsewhere left right ds es Right (faults.CyclicAlias e) h = tt
-documents_elsewhere left right ds es Right (faults.WrongKind e) h = tt
-documents_elsewhere left right ds es Right (faults.BadContent e) h = tt
-documents_elsewhere left right ds es Right (faults.IntRange e) h = tt
-documents_elsewhere left right ds es Right (faults.FloatRange e) h = tt
-documents_elsewhere left right ds es Right (faults.TooHigh e) h = tt
-documents_elsewhere left right ds es Right faults.OutOfMemory h = tt
-documents_elsewhere left right ds es Right _ h = absurd h
+documents_elsewhere left right ds es Left fault h = stream_elsewhere left ds fault h
+documents_elsewhere left right ds es Right fault h = stream_elsewhere right es fault h
 
 module _ {R : Type 0} (remaining : R → Option (List ℕ)) (input end : Counted R) where
   pub gather_elsewhere : (fault : Fault) → GatherFails remaining input end text_limit fault → TellsReadPlace remaining input end fault

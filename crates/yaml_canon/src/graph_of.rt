@@ -1,15 +1,18 @@
 //! The graph of a stream's bytes.
-ghost use Rattle.std.specs.Prelude.{ℕ, List, IfOk, IfErr};
+ghost use Rattle.std.specs.Prelude.{ℕ, List, [], IfOk, IfErr};
 ghost use Rattle.std.specs.Result.{IsErrAnd};
+ghost use Rattle.yaml_definitions.specs.grammar.Reading.{Reads};
+ghost use Rattle.yaml_definitions.specs.model.Event.{Event};
 ghost use Rattle.yaml_definitions.specs.model.Text.{Text};
 ghost use Rattle.yaml_text.specs.Refused.{RefusesText};
 ghost use Rattle.yaml_canon.specs.Claims.{HasGraph, GraphRefuses};
 ghost use Rattle.yaml_canon.specs.FaultPlaces.{TellsPlace};
 
 use std::alloc::Global;
+use yaml_flow::sink::Keeper;
 use yaml_graph::compose_owned;
 use yaml_graph::graph::Graph;
-use yaml_read::read_events;
+use yaml_read::{read_events, read_events_with};
 use yaml_text::chars::Chars;
 use yaml_text::fault::Fault;
 
@@ -28,4 +31,24 @@ pub fn graph_of<'a>(alloc: Global, bytes: &'a [u8]) -> Result<Graph<'a>, Fault>
     let source = Chars::read(bytes)?;
     let events = read_events(alloc, &source)?;
     compose_owned(alloc, events)
+}
+
+/// The same graph, and a keeper that held nothing and now holds the events that the bytes are read to: for what has to be known of
+/// these beside their graph, as where in the text each stands, without a second reading.
+pub fn graph_with<'a, K: Keeper + Drop>(
+    alloc: Global,
+    bytes: &'a [u8],
+    keeper: K,
+) -> Result<(Graph<'a>, K), Fault>
+    requires { K.holds keeper [] }
+    ensures graph { IfOk result (λ made. HasGraph bytes.now made.0) }
+    ensures refused { IfErr result (GraphRefuses bytes.now) }
+    ensures no_text { ((cs : List ℕ) → Text bytes.now cs → ⊥) → IsErrAnd result (RefusesText bytes.now) }
+    ensures placed { IfErr result (TellsPlace bytes.now) }
+    ensures kept { IfOk result (λ made. (events : List Event) × Reads bytes.now events × K.holds made.1 events) }
+{
+    let text = Chars::read(bytes)?;
+    let (events, keeper) = read_events_with(alloc, &text, keeper)?;
+    let graph = compose_owned(alloc, events)?;
+    Ok((graph, keeper))
 }

@@ -12,6 +12,7 @@ use Rattle.yaml_canon.specs.Gathering.{Gathers}
 use Rattle.yaml_canon.specs.Writers.{Printed}
 use Rattle.yaml_event_text.specs.EventTextAnswer.{IsEventText, IsUnread}
 use Rattle.yaml_command.specs.Pages.{PagesFail}
+use Rattle.yaml_command.specs.Printing.{PrintFails}
 use Rattle.yaml_command.specs.EventRuns.{TextPrinted, TextFails, EventsPrinted, EventsFail}
 
 text_of : (bytes : List ℕ) (es : List Event) → Reads bytes es → IsEventText bytes (events_text es)
@@ -21,6 +22,13 @@ module _ {W : Type 0} (contents : W → Option (List ℕ)) where
   pub unread_untouched : (bytes : List ℕ) (o : Counted W) (fault : Fault) → IsUnread bytes fault → TextFails contents bytes o o fault
   unread_untouched bytes o WriteFault h = absurd h
   unread_untouched bytes o _ h = (h, refl)
+
+  pub whole_printed : (bytes text : List ℕ) (o u : Counted W) → IsEventText bytes text → Printed contents o u text → TextPrinted contents bytes o u
+  whole_printed bytes text o u t p = record { text = text; is_text = t; printed = p }
+
+  pub whole_failed : (bytes text : List ℕ) (o u : Counted W) (fault : Fault) → IsEventText bytes text → PrintFails contents o u text fault → TextFails contents bytes o u fault
+  whole_failed bytes text o u WriteFault t h = (text, t, h)
+  whole_failed bytes text o u _ t h = absurd h
 
   pub text_printed : (bytes : List ℕ) (es : List Event) (o u : Counted W) → Reads bytes es → Printed contents o u (events_text es) → TextPrinted contents bytes o u
   text_printed bytes es o u r p = record { text = events_text es; is_text = text_of bytes es r; printed = p }

@@ -12,6 +12,7 @@ ghost use Rattle.yaml_canon.specs.Rooms.{Places};
 ghost use Rattle.yaml_event_text.specs.EventTextAnswer.{IsEventText, IsUnread, PlacesEvents};
 
 use std::alloc::Global;
+use yaml_event_lines::event_lines;
 use yaml_events::{fill_by_pages, fill_events, surely_fits, text_len, write_events};
 use yaml_read::read_events;
 use yaml_text::chars::Chars;
@@ -19,12 +20,16 @@ use yaml_text::event::Event;
 use yaml_text::fault::Fault;
 
 /// The event text of an input's bytes: the events that they are read to, a line for each, in the
-/// notation of yaml-test-suite. A refusal is that of the reading.
+/// notation of yaml-test-suite. A refusal is that of the reading. No list of the events is made, but where
+/// properties are much more than the input, as tags under a long prefix may be, or flow collections nest that have some.
 pub fn event_text(alloc: Global, bytes: &[u8]) -> Result<String, Fault>
     ensures ok { IfOk result (λ text. IsEventText bytes.now (string_bytes text)) }
     ensures err { IfErr result (IsUnread bytes.now) }
 {
     let source = Chars::read(bytes)?;
+    if let Some(text) = event_lines(alloc, &source)? {
+        return Ok(text);
+    }
     let events = read_events(alloc, &source)?;
     write_events(alloc, events.as_slice())
 }

@@ -15,6 +15,10 @@ use std::borrow::CowStr;
 pub fn escape_of(byte: u8) -> Option<&'static str>
     ensures { MatchOption result (value_byte byte ≡ byte ∷ []) (λ text. (text.now ≡ value_byte byte) × (byte < 128) × (value_byte byte ≢ byte ∷ [])) }
 {
+    // most bytes are told by two comparisons
+    if byte >= b' ' && byte != b'\\' {
+        return None;
+    }
     match byte {
         b'\\' => Some("\\\\"),
         b'\n' => Some("\\n"),

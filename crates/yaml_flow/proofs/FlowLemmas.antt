@@ -10,11 +10,13 @@ use Rattle.yaml_definitions.specs.grammar.Events.{Props, no_props, seq_start, ma
 use Rattle.yaml_definitions.specs.grammar.FlowScalars as flow
 use Rattle.yaml_definitions.specs.grammar.Nodes as nodes
 use Rattle.yaml_definitions.specs.grammar.Nodes.{Part, yaml_part, json_part, pair_part, part, reads}
-use Rattle.yaml_text.proofs.Repeats.{any_push, any_by}
+use Rattle.yaml_text.proofs.Repeats.{any_push}
 use Rattle.yaml_flow.specs.Keys.{ColonAfter}
-use Rattle.yaml_flow.specs.FlowRules.{part_of, opens, below, flow_from, content_at, content_from, Bare, aliased, plainly, with_properties, lone, from_room, item_at, entry_at, keyed_at, asked_at, value_at, spaced, comma, parts, MayFollowColon, IsInner, IsParted}
+use Rattle.yaml_flow.specs.FlowRules.{part_of, opens, below, flow_from, content_at, content_from, Bare, aliased, plainly, with_properties, lone, from_room, item_at, entry_at, keyed_at, asked_at, value_at, spaced, comma, parts, MayFollowColon, IsInner, IsParted, quoted, quoted_style}
 use Rattle.yaml_flow.specs.PropertyRules.{dressed}
 use Rattle.yaml_flow.proofs.PropertyLemmas.{marks_props}
+use Rattle.yaml_flow.specs.declared.flow.scalars.Quote.{Quote}
+use Rattle.yaml_flow.specs.declared.flow.scalars.Quote.TheVariants as quotes
 use Rattle.yaml_flow.specs.declared.flow.Kind.{Kind}
 use Rattle.yaml_flow.specs.declared.flow.Kind.TheVariants.{Yaml, Json}
 use Rattle.yaml_flow.proofs.KeyLaws.{flow_key_too}
@@ -97,11 +99,9 @@ module _ (cs : List ℕ) (Wide : Type 0) (handles : Handles) where
   pub plain_is : (n : ℕ) (c : Ctx) (i j : ℕ) (text : List ℕ) → flow.ns-plain cs n c i j text → content_from cs Wide handles 0 Yaml n c i j (scalar no_props style.plain text ∷ [])
   plain_is n c i j text p room le = (text, p, refl)
 
-  pub single_is : (n : ℕ) (c : Ctx) (i j : ℕ) (text : List ℕ) → flow.c-single-quoted cs n c i j text → content_from cs Wide handles 0 Json n c i j (scalar no_props style.single text ∷ [])
-  single_is n c i j text p room le = inl (text, p, refl)
-
-  pub double_is : (n : ℕ) (c : Ctx) (i j : ℕ) (text : List ℕ) → flow.c-double-quoted cs n c i j text → content_from cs Wide handles 0 Json n c i j (scalar no_props style.double text ∷ [])
-  double_is n c i j text p room le = inr (inl (text, p, refl))
+  pub quoted_is : (q : Quote) (n : ℕ) (c : Ctx) (i j : ℕ) (text : List ℕ) → quoted q cs n c i j text → content_from cs Wide handles 0 Json n c i j (scalar no_props (quoted_style q) text ∷ [])
+  quoted_is quotes.Single n c i j text p room le = inl (text, p, refl)
+  quoted_is quotes.Double n c i j text p room le = inr (inl (text, p, refl))
 
   -- with properties on its first event
   pub dressed_at : (p : Props) (kind : Kind) (room n : ℕ) (c : Ctx) (i j : ℕ) (es : List Event) → content_at cs Wide handles no_props kind room n c i j es → content_at cs Wide handles p kind room n c i j (dressed p es)

@@ -14,7 +14,7 @@ use Rattle.yaml_definitions.specs.grammar.FlowScalars as flow
 use Rattle.yaml_definitions.specs.grammar.Nodes as nodes
 use Rattle.yaml_definitions.specs.grammar.Events.{Props, no_props}
 use Rattle.yaml_definitions.specs.grammar.Nodes.{Part, yaml_part, json_part, pair_part, part, reads}
-use Rattle.yaml_definitions.specs.grammar.Laws.{Onward, Forward}
+use Rattle.yaml_definitions.specs.grammar.Laws.{Forward}
 use Rattle.yaml_definitions.proofs.grammar.Forward.{on_separate, fwd_tag, fwd_anchor, fwd_alias}
 use Rattle.yaml_text.proofs.LineRuns.{brk_onward, indent_run}
 use Rattle.yaml_text.specs.Lines.{line_brk}

@@ -7,9 +7,9 @@ use Rattle.std.proofs.lemmas.Str.{IsUtf8-had}
 use Rattle.yaml_text.specs.declared.chars.Chars.{Chars}
 use Rattle.yaml_text.specs.Source.{text_of, place_of, IsBorder}
 use Rattle.yaml_text.proofs.PlaceLemmas.{before_ascii}
-use Rattle.yaml_definitions.specs.grammar.Rules.{◌◆◌, Spans, any_span, Behind, run, maybe}
+use Rattle.yaml_definitions.specs.grammar.Rules.{Spans, any_span, Behind, run, maybe}
 use Rattle.yaml_definitions.specs.grammar.Characters.{is_space}
-use Rattle.yaml_definitions.specs.grammar.Separation.{Ctx, block_out, block_in, flow_out, flow_in, block_key, flow_key, s-separate as separate, s-separate-lines as separate_lines, StartsLine, DocumentMark, c-nb-comment-text as comment, b-comment as line_end, s-b-comment as s_b_comment, s-l-comments as s_l_comments, l-comment as l_comment, s-separate-in-line as sep}
+use Rattle.yaml_definitions.specs.grammar.Separation.{Ctx, block_out, block_in, flow_out, flow_in, block_key, flow_key, s-separate as separate, s-separate-lines as separate_lines, StartsLine, DocumentMark, s-l-comments as s_l_comments, l-comment as l_comment, s-separate-in-line as sep}
 use Rattle.yaml_text.specs.Lines.{Uncut, AfterLine, LooksLikeMarker}
 use Rattle.std.proofs.lemmas.Option.{slice_get_within}
 use Rattle.yaml_text.proofs.Breaks.{mark_is}

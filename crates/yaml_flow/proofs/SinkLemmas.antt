@@ -8,6 +8,9 @@ use Rattle.yaml_text.specs.EventModel.{event_of}
 use Rattle.yaml_text.specs.declared.event.Event as code
 use Rattle.yaml_definitions.specs.grammar.Events.{Props}
 use Rattle.yaml_flow.specs.PropertyRules.{Dresses, dressed}
+use Rattle.yaml_flow.specs.Held.{Keeps, Puts, Alters}
+use Rattle.yaml_flow.specs.SinkModel.{listed, HeldBeside}
+use Rattle.yaml_flow.specs.declared.sink.Beside.{Beside}
 
 map_take : (xs : List code.Event) (k : ℕ) → map event_of (take k xs) ≡ take k (map event_of xs)
 map_take xs zero = refl
@@ -60,3 +63,14 @@ list_dressed p xs ys start log es d s h =
     let front = take start xs in
     let is : map event_of front ≡ log = list_cut xs front start log es refl s h in
     d front es (front_length xs start (within xs log es start s h)) (h ∙ ap (λ v. v ++ es) (sym is)) ∙ ap (λ v. v ++ dressed p es) is
+
+-- ---- a list, and a keeper beside it
+
+pub both_put : {K : Type 0} (holds : K → List Event → Type 0) (a b : Beside K) (es : List Event) → Puts holds a.keeper es b.keeper → Puts listed a.list es b.list → Puts (HeldBeside holds) a es b
+both_put holds a b es k l = record { is = λ log h. record { list = l.is log h.list; keeper = k.is log h.keeper } }
+
+pub both_altered : {K : Type 0} (holds : K → List Event → Type 0) (a b : Beside K) (start : ℕ) (f : List Event → List Event) → Alters holds start f a.keeper b.keeper → Alters listed start f a.list b.list → Alters (HeldBeside holds) start f a b
+both_altered holds a b start f k l = record { is = λ log es s h. record { list = l.is log es s h.list; keeper = k.is log es s h.keeper } }
+
+pub both_kept : {K : Type 0} (holds : K → List Event → Type 0) (a b : Beside K) → Keeps holds a.keeper b.keeper → b.list ≡ a.list → Keeps (HeldBeside holds) a b
+both_kept holds a b k e = record { is = λ log h. record { list = ap (λ l. map event_of l.items) e ∙ h.list; keeper = k.is log h.keeper } }

@@ -13,8 +13,10 @@ use Rattle.yaml_text.specs.Place.{Steps}
 use Rattle.yaml_text.specs.Source.{bytes_of, text_of, place_of}
 use Rattle.yaml_text.specs.declared.chars.Chars.{Chars}
 use Rattle.yaml_flow.specs.PropertyRules.{SomeProperties}
-use Rattle.yaml_flow.specs.declared.flow.First.{First}
-use Rattle.yaml_flow.specs.declared.flow.First.TheVariants.{Sequence, Mapping, Single, Double, Other}
+use Rattle.yaml_flow.specs.declared.flow.signs.First.{First}
+use Rattle.yaml_flow.specs.declared.flow.signs.First.TheVariants.{Sequence, Mapping, Single, Double, Other}
+use Rattle.yaml_flow.specs.declared.flow.scalars.Quote.{Quote}
+use Rattle.yaml_flow.specs.declared.flow.scalars.Quote.TheVariants as quotes
 use Rattle.yaml_flow.specs.declared.flow.Kind.{Kind}
 use Rattle.yaml_flow.specs.declared.flow.Kind.TheVariants.{Yaml, Json}
 
@@ -93,6 +95,15 @@ module _ (cs : List ℕ) (n : ℕ) (c : Ctx) where
 abbrev pub MayFollowColon : Kind → Ctx → List ℕ → ℕ → Type 0
 MayFollowColon Yaml c cs i = Stands cs (plain_safe c) i → ⊥
 MayFollowColon Json c cs i = Unit {0}
+
+-- a quoted scalar of either kind, and its style
+abbrev pub quoted : Quote → List ℕ → ℕ → Ctx → Rule (List ℕ)
+quoted quotes.Double = double
+quoted quotes.Single = single
+
+abbrev pub quoted_style : Quote → style.Style
+quoted_style quotes.Double = style.double
+quoted_style quotes.Single = style.single
 
 -- neither a bracket nor a brace nor a quote stands here
 abbrev pub NoOpening : List ℕ → ℕ → Type 0

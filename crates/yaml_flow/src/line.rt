@@ -29,6 +29,7 @@ pub struct Line {
 }
 
 /// The line that starts at a border, and is no comment.
+#[inline(never)]
 pub fn line_at(source: &Chars<'_>, start: usize) -> Line
     requires border { IsBorder source.now start }
     requires stuck { (j : ℕ) → l_comment (text_of source.now) (place_of source.now start) j → ⊥ }
@@ -54,6 +55,7 @@ pub fn first_line(source: &Chars<'_>) -> Line
 }
 
 /// Whether a line has content: it is no document mark and not the end.
+#[inline(never)]
 pub fn has_content(source: &Chars<'_>, line: Line) -> bool
     requires { IsLine source.now line }
     ensures yes { OnTrue result ((place_of source.now line.first ≢ length (text_of source.now)) × (LooksLikeMarker (text_of source.now) (place_of source.now line.start) → ⊥)) }
@@ -66,6 +68,7 @@ pub fn has_content(source: &Chars<'_>, line: Line) -> bool
 }
 
 /// The start of the line after the rest of a line and any comment lines (`s-l-comments`, 6.6), the furthest that there is.
+#[inline(never)]
 #[tactic(auto, unfolding(yaml_text::specs::Calls::skip_comments))]
 pub fn skip_line_rest(source: &Chars<'_>, at: usize) -> Option<usize>
     requires { IsBorder source.now at }
@@ -79,6 +82,7 @@ pub fn skip_line_rest(source: &Chars<'_>, at: usize) -> Option<usize>
 }
 
 /// The line after a block node's last character.
+#[inline(never)]
 pub fn next_line(source: &Chars<'_>, at: usize) -> Result<Line, Fault>
     requires { IsBorder source.now at }
     ensures line { IfOk result (IsLine source.now) }
@@ -98,6 +102,7 @@ pub fn next_line(source: &Chars<'_>, at: usize) -> Result<Line, Fault>
 }
 
 /// The border after the separation inside a flow collection (6.7), as much as there is: where content goes on, if it does.
+#[inline(always)]
 pub fn separation(source: &Chars<'_>, at: usize, least: usize, context: Ctx) -> Result<usize, Fault>
     requires { IsBorder source.now at }
     ensures border { IfOk result (λ to. IsBorder source.now to) }

@@ -175,6 +175,7 @@ fn first_tag<'a>(tag: EventTag<'a>, other: EventTag<'a>) -> EventTag<'a>
 }
 
 /// The properties that stand at a border, if any, and the border after them.
+#[inline(always)]
 pub fn read_properties<'a>(
     alloc: Global,
     source: &Chars<'a>,

@@ -6,7 +6,7 @@ ghost use Rattle.yaml_text.specs.EventModel.{event_of, style_of};
 ghost use Rattle.yaml_text.specs.declared.fault.Fault.TheVariants.{OutOfMemory};
 ghost use Rattle.yaml_flow.specs.PropertyRules.{props_of, dressed};
 ghost use Rattle.yaml_flow.specs.Held.{Counts, Keeps, Puts, Alters};
-ghost use Rattle.yaml_flow.specs.SinkModel.{holds_of, listed, start_of, end_of};
+ghost use Rattle.yaml_flow.specs.SinkModel.{holds_of, HeldBeside, listed, start_of, end_of};
 
 use crate::properties::{Properties, dress};
 use std::borrow::CowStr;
@@ -34,8 +34,8 @@ pub trait Keeper {
         ensures { Counts holds self.now result };
 
     /// Puts down an event, whose own text begins at this offset.
-    fn push(&mut self, event: Event<'_>, at: usize) -> Result<(), Fault>
-        ensures ok { IfOk result (λ _. Puts holds self.old (event_of event.entry ∷ []) self.new) }
+    fn push(&mut self, event: &Event<'_>, at: usize) -> Result<(), Fault>
+        ensures ok { IfOk result (λ _. Puts holds self.old (event_of event.now ∷ []) self.new) }
         ensures err { IfErr result (λ e. e ≡ OutOfMemory) };
 
     /// Puts down a scalar without properties.
@@ -63,19 +63,27 @@ pub trait Keeper {
         ensures { Keeps holds self.old self.new };
 
     /// Puts properties on the first event since a mark, if there is one.
-    fn dress(&mut self, start: usize, properties: Properties<'_>)
-        ensures { Alters holds start (dressed (props_of properties.entry)) self.old self.new };
+    fn dress(&mut self, start: usize, properties: &Properties<'_>)
+        ensures { Alters holds start (dressed (props_of properties.now)) self.old self.new };
 
     /// Takes back what was put down since a mark.
     fn cut(&mut self, start: usize)
         ensures { Alters holds start (λ _. []) self.old self.new };
 }
 
-/// Where a reader's events go: a list, or what keeps them in a form of its own.
+/// Where a reader's events go: a list, or what keeps them in a form of its own, or both.
 #[derive(Drop)]
 pub enum Sink<'a, K: Keeper> {
     Listed(Vec<Event<'a>>),
     Kept(K),
+    Both(Beside<'a, K>),
+}
+
+/// A list of events, and beside it what keeps the same in a form of its own.
+#[derive(Drop)]
+pub struct Beside<'a, K: Keeper> {
+    pub list: Vec<Event<'a>>,
+    pub keeper: K,
 }
 
 /// Puts an event at a list's end. Out of line, as the others, so that no event stands in the frame of a call that nests.
@@ -159,6 +167,90 @@ fn list_insert<'a>(list: &mut Vec<Event<'a>>, start: usize, flow: bool) -> Resul
     Ok(())
 }
 
+/// Puts properties on the first event of a list since a mark, if there is one.
+fn list_dress<'a>(list: &mut Vec<Event<'a>>, start: usize, properties: Properties<'a>)
+    ensures { Alters listed start (dressed (props_of properties.entry)) list.old list.new }
+{
+    dress(list, start, properties);
+}
+
+/// Takes back the events of a list since a mark.
+fn list_cut(list: &mut Vec<Event<'_>>, start: usize)
+    ensures { Alters listed start (λ _. []) list.old list.new }
+{
+    list.truncate(start);
+}
+
+impl<'a, K: Keeper> Beside<'a, K> {
+    #[tactic(auto, using(crate::proofs::SinkLemmas::both_put))]
+    fn push(&mut self, event: Event<'a>, at: usize) -> Result<(), Fault>
+        ensures ok { IfOk result (λ _. Puts (HeldBeside K.holds) self.old (event_of event.entry ∷ []) self.new) }
+        ensures err { IfErr result (λ e. e ≡ OutOfMemory) }
+    {
+        self.keeper.push(&event, at)?;
+        list_event(&mut self.list, event)
+    }
+
+    #[tactic(auto, using(crate::proofs::SinkLemmas::both_put))]
+    fn scalar(&mut self, style: Style, text: CowStr<'a>, at: usize) -> Result<(), Fault>
+        ensures ok { IfOk result (λ _. Puts (HeldBeside K.holds) self.old (scalar_event None untagged (style_of style) (cow_str_bytes text.entry) ∷ []) self.new) }
+        ensures err { IfErr result (λ e. e ≡ OutOfMemory) }
+    {
+        self.keeper.scalar(style, text.as_str(), at)?;
+        list_scalar(&mut self.list, style, text)
+    }
+
+    #[tactic(auto, using(crate::proofs::SinkLemmas::both_put))]
+    fn begin(&mut self, collection: Collection, flow: bool, at: usize) -> Result<(), Fault>
+        ensures ok { IfOk result (λ _. Puts (HeldBeside K.holds) self.old (start_of collection flow ∷ []) self.new) }
+        ensures err { IfErr result (λ e. e ≡ OutOfMemory) }
+    {
+        self.keeper.begin(collection, flow, at)?;
+        list_begin(&mut self.list, collection, flow)
+    }
+
+    #[tactic(auto, using(crate::proofs::SinkLemmas::both_put))]
+    fn end(&mut self, collection: Collection, at: usize) -> Result<(), Fault>
+        ensures ok { IfOk result (λ _. Puts (HeldBeside K.holds) self.old (end_of collection ∷ []) self.new) }
+        ensures err { IfErr result (λ e. e ≡ OutOfMemory) }
+    {
+        self.keeper.end(collection, at)?;
+        list_end(&mut self.list, collection)
+    }
+
+    #[tactic(auto, using(crate::proofs::SinkLemmas::both_altered))]
+    fn insert(&mut self, start: usize, flow: bool, at: usize) -> Result<(), Fault>
+        ensures ok { IfOk result (λ _. Alters (HeldBeside K.holds) start (λ es. mapping_start flow None untagged ∷ es) self.old self.new) }
+        ensures err { IfErr result (λ e. e ≡ OutOfMemory) }
+    {
+        self.keeper.insert(start, flow, at)?;
+        list_insert(&mut self.list, start, flow)
+    }
+
+    #[tactic(auto, using(crate::proofs::SinkLemmas::both_kept))]
+    fn announce(&mut self, own: &Properties<'a>)
+        ensures { Keeps (HeldBeside K.holds) self.old self.new }
+    {
+        self.keeper.announce(own);
+    }
+
+    #[tactic(auto, using(crate::proofs::SinkLemmas::both_altered))]
+    fn dress(&mut self, start: usize, properties: Properties<'a>)
+        ensures { Alters (HeldBeside K.holds) start (dressed (props_of properties.entry)) self.old self.new }
+    {
+        self.keeper.dress(start, &properties);
+        list_dress(&mut self.list, start, properties);
+    }
+
+    #[tactic(auto, using(crate::proofs::SinkLemmas::both_altered))]
+    fn cut(&mut self, start: usize)
+        ensures { Alters (HeldBeside K.holds) start (λ _. []) self.old self.new }
+    {
+        self.keeper.cut(start);
+        list_cut(&mut self.list, start);
+    }
+}
+
 impl<'a, K: Keeper> Sink<'a, K> {
     /// How many events are held: the mark behind the last.
     pub fn mark(&self) -> usize
@@ -167,6 +259,7 @@ impl<'a, K: Keeper> Sink<'a, K> {
         match self {
             Sink::Listed(list) => list.len(),
             Sink::Kept(keeper) => keeper.mark(),
+            Sink::Both(both) => both.list.len(),
         }
     }
 
@@ -177,7 +270,8 @@ impl<'a, K: Keeper> Sink<'a, K> {
     {
         match self {
             Sink::Listed(list) => list_event(list, event),
-            Sink::Kept(keeper) => keeper.push(event, at),
+            Sink::Kept(keeper) => keeper.push(&event, at),
+            Sink::Both(both) => both.push(event, at),
         }
     }
 
@@ -189,6 +283,7 @@ impl<'a, K: Keeper> Sink<'a, K> {
         match self {
             Sink::Listed(list) => list_scalar(list, style, text),
             Sink::Kept(keeper) => keeper.scalar(style, text.as_str(), at),
+            Sink::Both(both) => both.scalar(style, text, at),
         }
     }
 
@@ -200,6 +295,7 @@ impl<'a, K: Keeper> Sink<'a, K> {
         match self {
             Sink::Listed(list) => list_begin(list, collection, flow),
             Sink::Kept(keeper) => keeper.begin(collection, flow, at),
+            Sink::Both(both) => both.begin(collection, flow, at),
         }
     }
 
@@ -211,6 +307,7 @@ impl<'a, K: Keeper> Sink<'a, K> {
         match self {
             Sink::Listed(list) => list_end(list, collection),
             Sink::Kept(keeper) => keeper.end(collection, at),
+            Sink::Both(both) => both.end(collection, at),
         }
     }
 
@@ -222,6 +319,7 @@ impl<'a, K: Keeper> Sink<'a, K> {
         match self {
             Sink::Listed(list) => list_insert(list, start, flow),
             Sink::Kept(keeper) => keeper.insert(start, flow, at),
+            Sink::Both(both) => both.insert(start, flow, at),
         }
     }
 
@@ -232,6 +330,7 @@ impl<'a, K: Keeper> Sink<'a, K> {
         match self {
             Sink::Listed(_) => {}
             Sink::Kept(keeper) => keeper.announce(own),
+            Sink::Both(both) => both.announce(own),
         }
     }
 
@@ -240,8 +339,9 @@ impl<'a, K: Keeper> Sink<'a, K> {
         ensures { Alters (holds_of K.holds) start (dressed (props_of properties.entry)) self.old self.new }
     {
         match self {
-            Sink::Listed(list) => dress(list, start, properties),
-            Sink::Kept(keeper) => keeper.dress(start, properties),
+            Sink::Listed(list) => list_dress(list, start, properties),
+            Sink::Kept(keeper) => keeper.dress(start, &properties),
+            Sink::Both(both) => both.dress(start, properties),
         }
     }
 
@@ -250,8 +350,9 @@ impl<'a, K: Keeper> Sink<'a, K> {
         ensures { Alters (holds_of K.holds) start (λ _. []) self.old self.new }
     {
         match self {
-            Sink::Listed(list) => list.truncate(start),
+            Sink::Listed(list) => list_cut(list, start),
             Sink::Kept(keeper) => keeper.cut(start),
+            Sink::Both(both) => both.cut(start),
         }
     }
 }
@@ -269,7 +370,7 @@ impl Keeper for Unkept {
         0
     }
 
-    fn push(&mut self, _event: Event<'_>, _at: usize) -> Result<(), Fault> {
+    fn push(&mut self, _event: &Event<'_>, _at: usize) -> Result<(), Fault> {
         Err(Fault::OutOfMemory)
     }
 
@@ -291,7 +392,7 @@ impl Keeper for Unkept {
 
     fn announce(&mut self, _own: &Properties<'_>) {}
 
-    fn dress(&mut self, _start: usize, _properties: Properties<'_>) {}
+    fn dress(&mut self, _start: usize, _properties: &Properties<'_>) {}
 
     fn cut(&mut self, _start: usize) {}
 }

@@ -1,5 +1,5 @@
 -- A directive, by its name.
-use Rattle.std.proofs.Common.{◌≡◌, ◌≢◌, ℕ, ◌+◌, ◌<◌, ◌≤◌, ◌⊎◌, inl, inr, List, [], ◌∷◌, ◌++◌, length, Bool, true, false, Some, refl, sym, ◌∙◌, ap, subst, arith}
+use Rattle.std.proofs.Common.{◌≡◌, ◌≢◌, ℕ, ◌+◌, ◌<◌, ◌≤◌, ◌⊎◌, inl, inr, List, [], ◌∷◌, ◌++◌, Bool, true, false, Some, refl, sym, ◌∙◌, ap, subst, arith}
 use Rattle.std.specs.Prelude.{slice_get, slice_range, codes, bytes_eq, Result, Ok, Err, IfErr}
 use Rattle.std.specs.Str.{chars, IsUtf8}
 use Rattle.std.specs.Cmp.Lexicographic.{bytes_decides}
@@ -10,35 +10,24 @@ use lib.Utf8.{encodes}
 use Rattle.yaml_text.specs.LeafAnswer.{Only}
 use Rattle.yaml_text.specs.LeafAnswer.{Unread}
 use Rattle.yaml_definitions.specs.grammar.Rules.{◌◆◌, Spans, run, some_run, Stands, word, chr}
-use Rattle.yaml_definitions.specs.grammar.Characters.{is_ns, is_nb, is_break, is_white, is_space}
-use Rattle.yaml_definitions.specs.grammar.Separation.{StartsLine, s-l-comments as s_l_comments, b-comment as line_end, c-nb-comment-text as comment}
+use Rattle.yaml_definitions.specs.grammar.Characters.{is_ns, is_nb, is_break, is_space}
+use Rattle.yaml_definitions.specs.grammar.Separation.{StartsLine, s-l-comments as s_l_comments}
 use Rattle.yaml_definitions.specs.grammar.Directives.{Directive, version, reserved, is_known, ns-yaml-directive as yaml_directive, ns-tag-directive as tag_directive, ns-reserved-directive as reserved_directive, l-directive as directive}
 use Rattle.yaml_text.proofs.PlaceLemmas.{slice_none, slice_one, slice_join}
-use Rattle.yaml_text.specs.Lines.{Inside, blank_rest}
-use Rattle.yaml_text.proofs.Runs.{same_char, run_same, run_none, run_more}
+use Rattle.yaml_text.specs.Lines.{Inside}
+use Rattle.yaml_text.proofs.Runs.{same_char, run_same}
 use Rattle.yaml_text.proofs.Breaks.{run_join}
-use Rattle.yaml_text.proofs.LineRuns.{inside_no_line, line_end_same, line_end_stops}
-use Rattle.yaml_text.proofs.RestLemmas.{from_s_b, no_blank, is_the_space, nb_feed, nb_return}
+use Rattle.yaml_text.proofs.LineRuns.{inside_no_line}
+use Rattle.yaml_text.proofs.RestLemmas.{from_s_b, no_blank}
 use Rattle.yaml_mark.specs.DirectiveParts.{version_rest, binding_rest, parameter, prefix_run, prefix_start, body, whole_directive, Settles, Unsettled}
 use Rattle.yaml_mark.proofs.AsciiLemmas.{AllLow, all_ascii}
-use Rattle.yaml_definitions.specs.grammar.Characters.{is_word}
 use Rattle.yaml_definitions.specs.grammar.Tags.{ns-tag-prefix as tag_prefix}
-use Rattle.yaml_mark.proofs.TagLemmas.{Handle, named as named_handle, double, single, handle_of, word_name, name_is_ns}
-use Rattle.yaml_mark.proofs.CommentLemmas.{Stuck, Lines, lines_same}
+use Rattle.yaml_text.proofs.Classes.{ns_two, ns_percent, solid_nb, solid_no_space}
+use Rattle.yaml_text.proofs.TagRuns.{handle_of}
+use Rattle.yaml_text.proofs.DirectiveRuns.{AllOf, yaml_all, tag_all, yaml_known, tag_known, known_no, word_run, word_text, spaces_nb, ns_nb_run, handle_nb, params_nb, prefix_nb, char_inside, run_inside, one_nb, Rest, blank_then, rest_same}
+use Rattle.yaml_mark.proofs.CommentLemmas.{Stuck}
 use Rattle.yaml_mark.proofs.LineEndLemmas.{comment_begins, whole_run_is}
-use Rattle.yaml_mark.proofs.DirectiveLemmas.{ns_bang, ns_percent, nb_space, solid_nb, solid_no_space, past_no_ns, run_inside, prefix_nb, version_same, hash_or, char_inside, one_nb}
-
-AllOf : (ℕ → Bool) → List ℕ → Type 0
-AllOf p [] = Unit {0}
-AllOf p (c ∷ s) = (p c ≡ true) × AllOf p s
-
-yaml_all : AllOf is_ns (codes "YAML")
-unfolding AllOf is_ns is_nb is_break is_white
-yaml_all = (refl, (refl, (refl, (refl, tt))))
-
-tag_all : AllOf is_ns (codes "TAG")
-unfolding AllOf is_ns is_nb is_break is_white
-tag_all = (refl, (refl, (refl, tt)))
+use Rattle.yaml_mark.proofs.DirectiveLemmas.{past_no_ns, version_same, hash_or}
 
 yaml_low : AllLow (codes "YAML")
 unfolding AllLow
@@ -47,10 +36,6 @@ yaml_low = (refl, (refl, (refl, (refl, tt))))
 tag_low : AllLow (codes "TAG")
 unfolding AllLow
 tag_low = (refl, (refl, (refl, tt)))
-
-ns_two : is_ns 50 ≡ true
-unfolding is_ns is_nb is_break is_white
-ns_two = refl
 
 version_nb : AllOf is_nb (codes "1.2")
 unfolding AllOf is_nb is_break
@@ -76,17 +61,6 @@ no_yaml s n u e f h = name_no s n (codes "YAML") u e yaml_low f h
 
 pub no_tag : (s n : List ℕ) → IsUtf8 s → chars s ≡ n → bytes_eq s (codes "TAG") ≡ false → n ≡ codes "TAG" → ⊥
 no_tag s n u e f h = name_no s n (codes "TAG") u e tag_low f h
-
-yaml_known : is_known (codes "YAML") ≡ true
-unfolding is_known
-yaml_known = refl
-
-tag_known : is_known (codes "TAG") ≡ true
-unfolding is_known
-tag_known = refl
-
-known_no : (n s : List ℕ) → is_known s ≡ true → n ≡ s → is_known n ≡ false → ⊥
-known_no n s t e f = let z : true ≡ false = sym t ∙ ap is_known (sym e) ∙ f in cc
 
 unknown : (n : List ℕ) → (n ≡ codes "YAML" → ⊥) → (n ≡ codes "TAG" → ⊥) → is_known n ≡ false
 unfolding is_known
@@ -128,26 +102,11 @@ any_err {T} {E} {P} (Err e) p = p
 module _ (cs : List ℕ) where
   -- ---- words
 
-  word_run : (p : ℕ → Bool) (s : List ℕ) (i j : ℕ) → AllOf p s → word cs s i j → run cs p i j
-  unfolding AllOf
-  word_run p [] i j a e = subst (run cs p i) (sym e) (run_none cs p i)
-  word_run p (c ∷ s) i j (t, a) (k, (h, e), r) = run_join cs p i k j (run_more cs p i i k c (run_none cs p i) h t e) (word_run p s k j a r)
-
-  word_end : (s : List ℕ) (i j : ℕ) → word cs s i j → j ≡ i + length s
-  word_end [] i j e = omega (arith, e)
-  word_end (c ∷ s) i j (k, (h, e), r) = let f : j ≡ k + length s = word_end s k j r in omega (arith, e, f)
-
-  word_text : (s : List ℕ) (i j : ℕ) → word cs s i j → slice_range cs i j ≡ s
-  word_text [] i j e = ap (slice_range cs i) e ∙ slice_none cs i
-  word_text (c ∷ s) i j (k, (h, e), r) =
-      let f : j ≡ k + length s = word_end s k j r in
-      slice_join cs i k j (omega (arith, e)) (omega (arith, f)) ∙ ap (λ v. v ++ slice_range cs k j) (slice_one cs i k c h e) ∙ ap (λ v. c ∷ v) (word_text s k j r)
-
   -- a word before a space is the name that the code reads
   named : (s : List ℕ) (i x a : ℕ) → word cs s i x → AllOf is_ns s → Stands cs is_space x → run cs is_ns i a → (Stands cs is_ns a → ⊥) → (x ≡ a) × (slice_range cs i a ≡ s)
   named s i x a w all sp r stop =
-      let e : x ≡ a = run_same cs is_ns i x a (word_run is_ns s i x all w) r (λ t. solid_no_space cs x t sp) stop in
-      (e, ap (slice_range cs i) (sym e) ∙ word_text s i x w)
+      let e : x ≡ a = run_same cs is_ns i x a (word_run cs is_ns s i x all w) r (λ t. solid_no_space cs x t sp) stop in
+      (e, ap (slice_range cs i) (sym e) ∙ word_text cs s i x w)
 
   abbrev Parameters : ℕ → ℕ → Type 0
   Parameters i j = Spans (some_run cs is_space ◆ some_run cs is_ns) j i
@@ -176,36 +135,16 @@ module _ (cs : List ℕ) where
 
   -- ---- a directive's line
 
-  spaces_nb : (i j : ℕ) → run cs is_space i j → run cs is_nb i j
-  spaces_nb i j (le, r) = (le, λ k a b. let (c, h, t) = r k a b in (c, h, ap is_nb (is_the_space c t) ∙ nb_space))
-
-  ns_nb_run : (i j : ℕ) → run cs is_ns i j → run cs is_nb i j
-  ns_nb_run i j (le, r) = (le, λ k a b. solid_nb cs k (r k a b))
-
   version_line : (i j : ℕ) → version_rest cs i j → run cs is_nb i j × Inside cs j
   unfolding version_rest
   version_line i j (k, (r, l), (a, b, (c, d, (e, (h, f), g)))) =
-      (run_join cs is_nb i k j (spaces_nb i k r) (word_run is_nb (codes "1.2") k j version_nb (a, b, (c, d, (e, (h, f), g)))), char_inside cs c j 50 h ns_two (g ∙ f))
-
-  handle_nb : (i j : ℕ) → Handle cs i j → run cs is_nb i j
-  handle_nb i j (named_handle x g r l k f) = run_join cs is_nb i (i + 1) j (one_nb cs i (i + 1) 33 g ns_bang refl) (run_join cs is_nb (i + 1) x j (ns_nb_run (i + 1) x (words_ns (i + 1) x r)) (one_nb cs x j 33 k ns_bang f))
-    where
-      words_ns : (a b : ℕ) → run cs is_word a b → run cs is_ns a b
-      words_ns a b (le, r) = (le, λ m u v. let (c, h, t) = r m u v in (c, h, name_is_ns c (word_name c t)))
-  handle_nb i j (double g k f) = run_join cs is_nb i (i + 1) j (one_nb cs i (i + 1) 33 g ns_bang refl) (one_nb cs (i + 1) j 33 k ns_bang (omega (arith, f)))
-  handle_nb i j (single g e) = one_nb cs i j 33 g ns_bang e
+      (run_join cs is_nb i k j (spaces_nb cs i k r) (word_run cs is_nb (codes "1.2") k j version_nb (a, b, (c, d, (e, (h, f), g)))), char_inside cs c j 50 h ns_two (g ∙ f))
 
   binding_line : (i j : ℕ) (w : Directive) → binding_rest cs i j w → run cs is_nb i j × Inside cs j
   unfolding binding_rest tag_prefix prefix_run prefix_start
   binding_line i j w (x, (r, l), (a, h, t, (y, (s, m), (pre, (p, e), f)))) =
       let (c, d) = prefix_nb cs y j p in
-      (run_join cs is_nb i x j (spaces_nb i x r) (run_join cs is_nb x a j (handle_nb x a (handle_of cs x a h t).0) (run_join cs is_nb a y j (spaces_nb a y s) c)), d)
-
-  params_line : {j i : ℕ} → Spans (some_run cs is_space ◆ some_run cs is_ns) j i → Inside cs i → run cs is_nb i j × Inside cs j
-  params_line {j} {i} (Spans.done e) o = (subst (run cs is_nb i) (sym e) (run_none cs is_nb i), subst (Inside cs) (sym e) o)
-  params_line {j} {i} (Spans.then k (a, (r, l), (s, m)) more) o =
-      let (c, d) = params_line more (run_inside cs a k s m) in
-      (run_join cs is_nb i k j (run_join cs is_nb i a k (spaces_nb i a r) (ns_nb_run a k s)) c, d)
+      (run_join cs is_nb i x j (spaces_nb cs i x r) (run_join cs is_nb x a j (handle_nb cs x a (handle_of cs x a h t).0) (run_join cs is_nb a y j (spaces_nb cs a y s) c)), d)
 
   body_line : (i start f : ℕ) (w : Directive) → chr cs 37 i start → body cs i f w → run cs is_nb i f × Inside cs f
   body_line i start f w p q =
@@ -213,35 +152,17 @@ module _ (cs : List ℕ) where
       go end r (view_of i start end f w p r stop q)
     where
       before : (end : ℕ) → run cs is_ns start end → run cs is_nb i end
-      before end r = run_join cs is_nb i start end (one_nb cs i start 37 p.0 ns_percent p.1) (ns_nb_run start end r)
+      before end r = run_join cs is_nb i start end (one_nb cs i start 37 p.0 ns_percent p.1) (ns_nb_run cs start end r)
 
       go : (end : ℕ) → run cs is_ns start end → View start end f w → run cs is_nb i f × Inside cs f
       go end r (of_version n v e) = let (a, b) = version_line end f v in (run_join cs is_nb i end f (before end r) a, b)
       go end r (of_binding n v) = let (a, b) = binding_line end f w v in (run_join cs is_nb i end f (before end r) a, b)
-      go end r (of_reserved l n v e) = let (a, b) = params_line v (run_inside cs start end r l) in (run_join cs is_nb i end f (before end r) a, b)
+      go end r (of_reserved l n v e) = let (a, b) = params_nb cs v (run_inside cs start end r l) in (run_join cs is_nb i end f (before end r) a, b)
 
-  -- the rest of a line is of no breaks, wherever it is parted
-  data Rest (i m : ℕ) : Type 0 where
-    rest : (e y : ℕ) → run cs is_nb i e → line_end cs e y → Lines cs y m → Rest i m
-
-  comment_nb : (i j : ℕ) → (j ≡ i) ⊎ comment cs i j → run cs is_nb i j
-  unfolding comment is_nb is_break
-  comment_nb i j (inl e) = subst (run cs is_nb i) (sym e) (run_none cs is_nb i)
-  comment_nb i j (inr (k, (h, e), r)) = run_join cs is_nb i k j (run_more cs is_nb i i k 35 (run_none cs is_nb i) h refl e) r
-
-  rest_of : (i a m : ℕ) → run cs is_nb i a → Inside cs a → s_l_comments cs a m → Rest i m
-  unfolding s_l_comments blank_rest
+  rest_of : (i a m : ℕ) → run cs is_nb i a → Inside cs a → s_l_comments cs a m → Rest cs i m
+  unfolding s_l_comments
   rest_of i a m r o (y, inr (e, s), c) = absurd (inside_no_line cs a o s)
-  rest_of i a m r o (y, inl b, c) = go (from_s_b cs a y b)
-    where
-      go : blank_rest cs a y → Rest i m
-      go (x, s, (e, t, l)) = rest e y (run_join cs is_nb i a e r (run_join cs is_nb a x e (spaces_nb a x s) (comment_nb x e t))) l c
-
-  rest_same : (i m n : ℕ) → Rest i m → Stuck cs m → Rest i n → Stuck cs n → m ≡ n
-  rest_same i m n (rest e y r l c) s (rest f z t u d) x =
-      let a : e ≡ f = run_same cs is_nb i e f r t (line_end_stops cs is_nb nb_feed nb_return e y l) (line_end_stops cs is_nb nb_feed nb_return f z u) in
-      let b : y ≡ z = line_end_same cs f y z (subst (λ w. line_end cs w y) a l) u in
-      lines_same cs z m n (subst (λ w. Lines cs w m) b c) s d x
+  rest_of i a m r o (y, inl b, c) = blank_then cs i a y m r (from_s_b cs a y b) c
 
   -- ---- parameters that the code takes, and others
 
@@ -400,6 +321,6 @@ module _ (cs : List ℕ) where
         let (u, more) = s.only f j g b t in
         let (x, y) = body_line i start f g p b in
         let (z, w) = body_line i start e d p s.is in
-        let same : j ≡ to = rest_same i j to (rest_of i f j x y t) halt (rest_of i e to z w c) stuck in
+        let same : j ≡ to = rest_same cs i j to (rest_of i f j x y t) halt (rest_of i e to z w c) stuck in
         (q ∙ same, h ∙ ap (λ o. o ∷ []) u);
   }

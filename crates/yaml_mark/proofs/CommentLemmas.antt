@@ -67,9 +67,6 @@ module _ (cs : List ℕ) where
   furthest : (i j k : ℕ) → Lines i j → Stuck j → Lines i k → k ≤ j
   furthest i j k l stop m = spans_furthest (l_comment_same cs) l_on l stop m
 
-  pub lines_same : (i j k : ℕ) → Lines i j → Stuck j → Lines i k → Stuck k → j ≡ k
-  lines_same i j k l stop m halt = let a = furthest i j k l stop m in let b = furthest i k j m halt l in omega (arith, a, b)
-
   -- ---- where a line starts
 
   blank_onward : (i j : ℕ) → blank_rest cs i j → i ≤ j

@@ -1,58 +1,23 @@
 -- The parts of directives.
-use Rattle.std.proofs.Common.{◌≡◌, ◌≢◌, ℕ, ◌+◌, ◌-◌, ◌<◌, ◌⊎◌, inl, inr, List, Bool, true, false, Some, refl, sym, ◌∙◌, ap, subst, arith}
+use Rattle.std.proofs.Common.{◌≡◌, ◌≢◌, ℕ, ◌+◌, ◌<◌, ◌⊎◌, inl, inr, List, Bool, true, false, Some, refl, sym, ◌∙◌, ap, subst, arith}
 use Rattle.std.specs.Prelude.{slice_get, slice_range, ◌==◌}
-use Rattle.std.specs.Char.{is_ascii_hexdigit}
 use Rattle.std.proofs.Math.Nat.{eq-or-lt_of_le}
-use Rattle.yaml_definitions.specs.grammar.Rules.{◌◆◌, Spans, run, some_run, Stands, one, chr}
-use Rattle.yaml_definitions.specs.grammar.Characters.{is_ns, is_nb, is_break, is_white, is_space, is_word, is_uri, is_tag}
+use Rattle.yaml_definitions.specs.grammar.Rules.{Spans, run, some_run, Stands}
+use Rattle.yaml_definitions.specs.grammar.Characters.{is_ns, is_space, is_word, is_uri, is_tag}
 use Rattle.yaml_definitions.specs.grammar.Separation.{s-l-comments as s_l_comments}
-use Rattle.yaml_definitions.specs.grammar.Tags.{ns-tag-prefix as tag_prefix, tag_char, uri_char, c-tag-handle as tag_handle}
+use Rattle.yaml_definitions.specs.grammar.Tags.{ns-tag-prefix as tag_prefix, uri_char, c-tag-handle as tag_handle}
 use Rattle.yaml_definitions.specs.grammar.Directives as grammar
 use Rattle.yaml_text.specs.Lines.{Inside}
-use Rattle.yaml_text.proofs.Runs.{same_char, no_stand, run_same, run_none, run_more}
-use Rattle.yaml_text.proofs.Breaks.{run_join}
+use Rattle.yaml_text.proofs.Runs.{same_char, no_stand, run_same, run_none}
 use Rattle.yaml_text.proofs.LineRuns.{inside_no_line}
-use Rattle.yaml_text.proofs.RestLemmas.{from_s_b, no_blank, is_the_space}
+use Rattle.yaml_text.proofs.RestLemmas.{from_s_b, no_blank}
 use Rattle.yaml_mark.specs.Parts.{char_or_escape, handle_rest}
 use Rattle.yaml_mark.specs.DirectiveParts.{version_rest, binding_rest, parameter, prefix_start, prefix_run, Settles, Unsettled}
 use Rattle.yaml_mark.proofs.CommentLemmas.{hash_rest}
-use Rattle.yaml_mark.proofs.TagLemmas.{spans_same, spans_map, uri_is, tag_is, is_tag_char, uri_same, tag_char_same, tag_char_name, no_tag_char, Handle, named, double, single, handle_of, handle_is, name_is_ns, ns_by, tag_is_name, tag_bang, word_bang}
-
-pub ns_space : is_ns 32 ≡ false
-unfolding is_ns is_nb is_break is_white
-ns_space = refl
-
-pub ns_bang : is_ns 33 ≡ true
-unfolding is_ns is_nb is_break is_white
-ns_bang = refl
-
-pub ns_percent : is_ns 37 ≡ true
-unfolding is_ns is_nb is_break is_white
-ns_percent = refl
-
-pub nb_space : is_nb 32 ≡ true
-unfolding is_nb is_break
-nb_space = refl
-
-space_bang : is_space 33 ≡ false
-unfolding is_space
-space_bang = refl
-
-space_one : is_space 49 ≡ false
-unfolding is_space
-space_one = refl
-
-word_space : is_word 32 ≡ false
-unfolding is_word
-word_space = refl
-
-pub uri_ns : (c : ℕ) → is_uri c ≡ true → is_ns c ≡ true
-unfolding is_uri is_word
-uri_ns c h = ns_by is_uri refl refl refl refl c h
-
-pub ns_nb : (c : ℕ) → is_ns c ≡ true → is_nb c ≡ true
-unfolding is_ns
-ns_nb c h = grind (arith, h)
+use Rattle.yaml_text.proofs.Classes.{space_bang, space_one, word_bang, solid_nb, solid_no_space, space_no_word}
+use Rattle.yaml_text.proofs.TagRuns.{spans_same, uri_same, Handle, named, double, single, handle_of, handle_first}
+use Rattle.yaml_text.proofs.DirectiveRuns.{prefix_nb, prefix_ns, start_same, uri_stands}
+use Rattle.yaml_mark.proofs.TagLemmas.{spans_map, uri_is, tag_is, is_tag_char, handle_is}
 
 not_both : (c : ℕ) → (c == 35) ≡ true → c ≡ 35
 not_both c h = grind (arith, h)
@@ -65,12 +30,6 @@ hash_or c = pick (c == 35) refl
     pick false e = inr (λ f. grind (arith, e, f))
 
 module _ (cs : List ℕ) where
-  pub solid_nb : (i : ℕ) → Stands cs is_ns i → Stands cs is_nb i
-  solid_nb i (c, h, t) = (c, h, ns_nb c t)
-
-  pub solid_no_space : (i : ℕ) → Stands cs is_ns i → Stands cs is_space i → ⊥
-  solid_no_space i s (d, h, u) = no_stand cs is_ns i d h (ap is_ns (is_the_space d u) ∙ ns_space) s
-
   -- no comments follow right before text
   pub past_no_ns : (i m : ℕ) → Inside cs i → s_l_comments cs i m → Stands cs is_ns i → ⊥
   unfolding s_l_comments
@@ -79,7 +38,7 @@ module _ (cs : List ℕ) where
     where
       pick : (x ≡ 35) ⊎ (x ≢ 35) → ⊥
       pick (inl e) = hash_rest cs i (inside_no_line cs i o) (h ∙ ap Some e) k b
-      pick (inr n) = no_blank cs i i (run_none cs is_space i) (solid_no_space i (x, h, t)) (λ g. n (same_char cs i x 35 h g)) (solid_nb i (x, h, t)) k (from_s_b cs i k b)
+      pick (inr n) = no_blank cs i i (run_none cs is_space i) (solid_no_space cs i (x, h, t)) (λ g. n (same_char cs i x 35 h g)) (solid_nb cs i (x, h, t)) k (from_s_b cs i k b)
 
   -- ---- the version
 
@@ -137,43 +96,23 @@ module _ (cs : List ℕ) where
   unfolding tag_prefix prefix_run prefix_start
   prefix_parts i j x r = r
 
+  -- it begins with text
+  starts_solid : (i j : ℕ) → prefix_run cs i j → Stands cs is_ns i
+  unfolding prefix_run prefix_start
+  starts_solid i j r = prefix_ns cs i j r
+
   prefix_whole : (i j : ℕ) → prefix_run cs i j → tag_prefix cs i j (slice_range cs i j)
   unfolding tag_prefix prefix_run prefix_start
   prefix_whole i j r = (r, refl)
 
-  start_same : (i a b : ℕ) → prefix_start cs i a → prefix_start cs i b → a ≡ b
-  unfolding prefix_start
-  start_same i a b (inl (h, e)) (inl (g, f)) = e ∙ sym f
-  start_same i a b (inr r) (inr s) = tag_char_same cs i a b r s
-  start_same i a b (inl (h, e)) (inr s) = absurd (no_tag_char cs i b 33 h tag_bang (λ z. omega (arith, z)) s)
-  start_same i a b (inr s) (inl (h, e)) = absurd (no_tag_char cs i a 33 h tag_bang (λ z. omega (arith, z)) s)
-
-  prefix_ns : (i j : ℕ) → prefix_run cs i j → Stands cs is_ns i
-  unfolding prefix_run prefix_start
-  prefix_ns i j (k, inl (h, e), s) = (33, h, ns_bang)
-  prefix_ns i j (k, inr r, s) = let (c, h, t) = tag_char_name cs i k r in (c, h, name_is_ns c t)
-
-  uri_stands : (i j : ℕ) → uri_char cs i j → Stands cs is_ns i
-  unfolding uri_char
-  uri_stands i j (inl ((c, h, t), e)) = (c, h, uri_ns c t)
-  uri_stands i j (inr (a, (h, e), r)) = (37, h, ns_percent)
-
   -- a prefix that comments follow takes all that it can
   prefix_to : (i j k m : ℕ) → prefix_run cs i j → ((n : ℕ) → uri_char cs j n → ⊥) → prefix_run cs i k → Inside cs k → s_l_comments cs k m → k ≡ j
-  unfolding prefix_run
+  unfolding prefix_run prefix_start
   prefix_to i j k m (a, r, s) stop (b, t, u) o c =
-      let h : b ≡ a = start_same i b a t r in
-      spans_same (uri_same cs) (subst (λ z. Spans (uri_char cs) k z) h u) (λ n w. past_no_ns k m o c (uri_stands k n w)) s stop
+      let h : b ≡ a = start_same cs i b a t r in
+      spans_same (uri_same cs) (subst (λ z. Spans (uri_char cs) k z) h u) (λ n w. past_no_ns k m o c (uri_stands cs k n w)) s stop
 
   -- ---- handles and prefixes
-
-  pub handle_first : (i a : ℕ) → Handle cs i a → slice_get cs i ≡ Some 33
-  handle_first i a (named x g r l k f) = g
-  handle_first i a (double g k f) = g
-  handle_first i a (single g e) = g
-
-  space_no_word : (i : ℕ) → Stands cs is_space i → Stands cs is_word i → ⊥
-  space_no_word i (d, h, u) s = no_stand cs is_word i d h (ap is_word (is_the_space d u) ∙ word_space) s
 
   -- the handle that spaces follow is the one that the code takes
   handle_gap : (i b a : ℕ) → Handle cs i b → Stands cs is_space b → handle_rest cs (i + 1) a → b ≡ a
@@ -188,7 +127,7 @@ module _ (cs : List ℕ) where
     where
       go : (i + 1 ≡ z) ⊎ (i + 1 < z) → ⊥
       go (inl t) = no_stand cs is_space (i + 1) 33 (ap (slice_get cs) t ∙ h) space_bang (subst (Stands cs is_space) e s)
-      go (inr l) = space_no_word (i + 1) (subst (Stands cs is_space) e s) (q.1 (i + 1) (omega arith) l)
+      go (inr l) = space_no_word cs (i + 1) (subst (Stands cs is_space) e s) (q.1 (i + 1) (omega arith) l)
   handle_gap i b a (single g e) s (inr (f, none)) = e ∙ sym f
 
   gap_first : (i k : ℕ) → some_run cs is_space i k → Stands cs is_space i
@@ -201,12 +140,12 @@ module _ (cs : List ℕ) where
   -- spaces up to the handle
   handle_start : (i d x a : ℕ) (h : List ℕ) → some_run cs is_space i d → (Stands cs is_space d → ⊥) → some_run cs is_space i x → tag_handle cs x a h → x ≡ d
   handle_start i d x a h (r, l) stop (s, m) t =
-      run_same cs is_space i x d s r (no_stand cs is_space x 33 (handle_first x a (handle_of cs x a h t).0) space_bang) stop
+      run_same cs is_space i x d s r (no_stand cs is_space x 33 (handle_first cs x a (handle_of cs x a h t).0) space_bang) stop
 
   pub no_binding_bang : (i d : ℕ) → some_run cs is_space i d → (Stands cs is_space d → ⊥) → slice_get cs d ≢ Some 33 → Unsettled cs (binding_rest cs) i
   unfolding binding_rest
   no_binding_bang i d r stop n k m w (x, s, (a, h, t, q)) c =
-      n (ap (slice_get cs) (sym (handle_start i d x a h r stop s t)) ∙ handle_first x a (handle_of cs x a h t).0)
+      n (ap (slice_get cs) (sym (handle_start i d x a h r stop s t)) ∙ handle_first cs x a (handle_of cs x a h t).0)
 
   pub no_handle_gap : (i d f a : ℕ) → some_run cs is_space i d → (Stands cs is_space d → ⊥) → f ≡ d + 1 → handle_rest cs f a → (Stands cs is_space a → ⊥) → Unsettled cs (binding_rest cs) i
   unfolding binding_rest
@@ -222,7 +161,7 @@ module _ (cs : List ℕ) where
       let at = handle_start i d x b h r stop s u in
       let b_is = handle_gap d b a (subst (λ z. Handle cs z b) at (handle_of cs x b h u).0) (gap_first b y v) (subst (λ z. handle_rest cs z a) e t) in
       let (run_is, eq) = prefix_parts y k pre q in
-      let y_is = run_same cs is_space a y p (subst (λ z. run cs is_space z y) b_is v.0) g.0 (λ o. solid_no_space y (prefix_ns y k run_is) o) halt in
+      let y_is = run_same cs is_space a y p (subst (λ z. run cs is_space z y) b_is v.0) g.0 (λ o. solid_no_space cs y (starts_solid y k run_is) o) halt in
       n run_is.0 (subst (λ z. prefix_start cs z run_is.0) y_is run_is.1)
 
   pub binding_settles : (i d f a p e : ℕ) → some_run cs is_space i d → (Stands cs is_space d → ⊥) → slice_get cs d ≡ Some 33 → f ≡ d + 1 → handle_rest cs f a → some_run cs is_space a p → (Stands cs is_space p → ⊥) →
@@ -236,7 +175,7 @@ module _ (cs : List ℕ) where
         let (hd, h_is) = handle_of cs x b h u in
         let b_is = handle_gap d b a (subst (λ z. Handle cs z b) at hd) (gap_first b y v) (subst (λ z. handle_rest cs z a) ef t) in
         let (run_is, eq) = prefix_parts y k pre q in
-        let y_is = run_same cs is_space a y p (subst (λ z. run cs is_space z y) b_is v.0) g.0 (λ o. solid_no_space y (prefix_ns y k run_is) o) halt in
+        let y_is = run_same cs is_space a y p (subst (λ z. run cs is_space z y) b_is v.0) g.0 (λ o. solid_no_space cs y (starts_solid y k run_is) o) halt in
         let run_at = subst (λ z. prefix_run cs z k) y_is run_is in
         let k_is = prefix_to p e k m pr furthest run_at (inside k run_at) c in (
           z ∙ ap (λ o. grammar.binding o pre) (h_is ∙ ap (λ o. slice_range cs o b) at ∙ ap (slice_range cs d) b_is)
@@ -256,7 +195,7 @@ module _ (cs : List ℕ) where
   no_gap_parameter i n j (k, r, w) = gap_none i k n r
 
   parameter_at : (i d k j : ℕ) → run cs is_space i d → (Stands cs is_space d → ⊥) → some_run cs is_space i k → some_run cs is_ns k j → k ≡ d
-  parameter_at i d k j r stop (s, l) (t, m) = run_same cs is_space i k d s r (solid_no_space k (t.1 k (omega arith) m)) stop
+  parameter_at i d k j r stop (s, l) (t, m) = run_same cs is_space i k d s r (solid_no_space cs k (t.1 k (omega arith) m)) stop
 
   pub no_solid_parameter : (i d : ℕ) → run cs is_space i d → (Stands cs is_space d → ⊥) → (Stands cs is_ns d → ⊥) → (j : ℕ) → parameter cs i j → ⊥
   unfolding parameter
@@ -271,41 +210,6 @@ module _ (cs : List ℕ) where
   unfolding parameter
   parameter_is i d j r l n t m o = (d, (r, l), (n, (t, m, o)))
 
-  -- ---- characters of a line
-
-  pub char_inside : (i j c : ℕ) → slice_get cs i ≡ Some c → is_ns c ≡ true → j ≡ i + 1 → Inside cs j
-  char_inside i j c h t e = (i, e, solid_nb i (c, h, t))
-
-  pub run_inside : (i j : ℕ) → run cs is_ns i j → i < j → Inside cs j
-  run_inside i j (le, r) l = (j - 1, omega (arith, l), solid_nb (j - 1) (r (j - 1) (omega (arith, l)) (omega (arith, l))))
-
-  pub one_nb : (i j c : ℕ) → slice_get cs i ≡ Some c → is_ns c ≡ true → j ≡ i + 1 → run cs is_nb i j
-  one_nb i j c h t e = let (d, g, u) = solid_nb i (c, h, t) in run_more cs is_nb i i j d (run_none cs is_nb i) g u e
-
-  hex_ns : (c : ℕ) → is_ascii_hexdigit c ≡ true → is_ns c ≡ true
-  hex_ns c h = ns_by is_ascii_hexdigit refl refl refl refl c h
-
-  escaped_nb : (p : ℕ → Bool) → ((c : ℕ) → p c ≡ true → is_ns c ≡ true) → (i j : ℕ) → (one cs p i j ⊎ (chr cs 37 ◆ one cs is_ascii_hexdigit ◆ one cs is_ascii_hexdigit) i j) → run cs is_nb i j × Inside cs j
-  escaped_nb p f i j (inl ((c, h, t), e)) = (one_nb i j c h (f c t) e, char_inside i j c h (f c t) e)
-  escaped_nb p f i j (inr (a, (h, e), (b, ((c, g, t), k), ((d, l, u), m)))) =
-      (run_join cs is_nb i a j (one_nb i a 37 h ns_percent e) (run_join cs is_nb a b j (one_nb a b c g (hex_ns c t) k) (one_nb b j d l (hex_ns d u) m)), char_inside b j d l (hex_ns d u) m)
-
-  uri_nb : (i j : ℕ) → uri_char cs i j → run cs is_nb i j × Inside cs j
-  unfolding uri_char
-  uri_nb i j r = escaped_nb is_uri uri_ns i j r
-
-  tag_nb : (i j : ℕ) → tag_char cs i j → run cs is_nb i j × Inside cs j
-  unfolding tag_char
-  tag_nb i j r = escaped_nb is_tag (λ c t. name_is_ns c (tag_is_name c t)) i j r
-
-  uris_nb : {j i : ℕ} → Spans (uri_char cs) j i → Inside cs i → run cs is_nb i j × Inside cs j
-  uris_nb {j} {i} (Spans.done e) o = (subst (run cs is_nb i) (sym e) (run_none cs is_nb i), subst (Inside cs) (sym e) o)
-  uris_nb {j} {i} (Spans.then k r more) o = let (a, b) = uri_nb i k r in let (c, d) = uris_nb more b in (run_join cs is_nb i k j a c, d)
-
-  pub prefix_nb : (i j : ℕ) → prefix_run cs i j → run cs is_nb i j × Inside cs j
-  unfolding prefix_run prefix_start
-  prefix_nb i j (k, inl (h, e), s) = let (a, b) = uris_nb s (char_inside i k 33 h ns_bang e) in (run_join cs is_nb i k j (one_nb i k 33 h ns_bang e) a, b)
-  prefix_nb i j (k, inr r, s) = let (c, d) = tag_nb i k r in let (a, b) = uris_nb s d in (run_join cs is_nb i k j c a, b)
-
   pub prefix_inside : (i j : ℕ) → prefix_run cs i j → Inside cs j
-  prefix_inside i j r = (prefix_nb i j r).1
+  unfolding prefix_run prefix_start
+  prefix_inside i j r = (prefix_nb cs i j r).1

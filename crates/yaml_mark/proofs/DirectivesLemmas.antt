@@ -18,7 +18,7 @@ use Rattle.yaml_text.proofs.LineRuns.{end_stops}
 use Rattle.yaml_text.proofs.RestLemmas.{from_l, no_blank}
 use Rattle.yaml_mark.specs.DirectiveParts.{body, whole_directive}
 use Rattle.yaml_mark.proofs.CommentLemmas.{Stuck}
-use Rattle.yaml_mark.proofs.DirectiveLemmas.{ns_percent, solid_nb, solid_no_space}
+use Rattle.yaml_text.proofs.Classes.{ns_percent, solid_nb, solid_no_space}
 use Rattle.yaml_mark.proofs.BodyLemmas.{directive_parts}
 
 -- ---- no two alike

@@ -7,7 +7,7 @@ use Rattle.yaml_definitions.specs.grammar.Tags.{ns-anchor-name as name, c-ns-anc
 use Rattle.yaml_text.specs.Calls.{read_name}
 use Rattle.yaml_text.specs.LeafAnswer.{Unread}
 use Rattle.yaml_mark.specs.Parts.{sign}
-use Rattle.yaml_text.proofs.Runs.{run_same}
+use Rattle.yaml_text.proofs.TagRuns.{name_same}
 
 module _ (cs : List ℕ) where
   pub sign_char : (i j c : ℕ) → (c ≡ 38) ⊎ (c ≡ 42) → slice_get cs i ≡ Some c → j ≡ i + 1 → sign cs i j
@@ -36,12 +36,6 @@ module _ (cs : List ℕ) where
   sign_next i k (inl (h, e)) = e
   sign_next i k (inr (h, e)) = e
 
-  name_same : (i j k : ℕ) (x y : List ℕ) → name cs i j x → name cs i k y → (j ≡ k) × (x ≡ y)
-  unfolding name
-  name_same i j k x y ((r, l, n), e) ((s, m, o), f) =
-      let h : j ≡ k = run_same cs is_name i j k r s n o in
-      (h, e ∙ ap (λ z. slice_range cs i z) h ∙ sym f)
-
   name_some : (k j : ℕ) (x : List ℕ) → name cs k j x → (k < j) × Stands cs is_name k
   unfolding name
   name_some k j x ((r, l, n), e) = (l, r.1 k (omega arith) l)
@@ -54,7 +48,7 @@ module _ (cs : List ℕ) where
   name_only i k j x s r l n e = record {
     is = whole i k j x s (name_is k j x r l n e);
     only = λ m y q. let (o, t, u) = parts i m y q in
-        name_same k m j y x (subst (λ z. name cs z m y) (sign_next i o t ∙ sym (sign_next i k s)) u) (name_is k j x r l n e);
+        name_same cs k m j y x (subst (λ z. name cs z m y) (sign_next i o t ∙ sym (sign_next i k s)) u) (name_is k j x r l n e);
   }
 
   pub no_name_here : (i : ℕ) → ((j : ℕ) → sign cs i j → ⊥) → Unread (read_name cs) i

@@ -4,10 +4,11 @@ use Rattle.std.specs.Prelude.{slice_get, slice_range}
 use Rattle.std.specs.Char.{is_ascii_hexdigit}
 use Rattle.yaml_text.specs.LeafAnswer.{Only}
 use Rattle.yaml_definitions.specs.grammar.Rules.{Spans}
-use Rattle.yaml_definitions.specs.grammar.Characters.{is_uri, is_tag, is_word}
+use Rattle.yaml_definitions.specs.grammar.Characters.{is_uri, is_tag}
 use Rattle.yaml_definitions.specs.grammar.Tags.{percent_decode, ns-tag-prefix as tag_prefix}
 use Rattle.yaml_definitions.specs.grammar.Directives.{Directive, version, reserved, binding, ns-yaml-directive as yaml_directive, ns-tag-directive as tag_directive, ns-reserved-directive as reserved_directive}
 use Rattle.yaml_text.proofs.PlaceLemmas.{slice_none, slice_one, slice_join}
+use Rattle.yaml_text.proofs.Classes.{uri_percent, tag_percent}
 use Rattle.yaml_mark.specs.Prefixes.{IsWhole}
 use Rattle.yaml_mark.specs.Parts.{percent_escape, char_or_escape}
 use Rattle.yaml_mark.specs.DirectiveParts.{body, whole_directive}
@@ -32,14 +33,6 @@ whole_join : (p q : List ℕ) → IsWhole p → IsWhole q → IsWhole (p ++ q)
 whole_join p q a b = λ s.
     ap percent_decode (append_assoc p q s) ∙ a (q ++ s) ∙ ap (λ z. percent_decode p ++ z) (b s) ∙ sym (append_assoc (percent_decode p) (percent_decode q) (percent_decode s))
     ∙ sym (ap (λ z. z ++ percent_decode s) (a q))
-
-uri_percent : is_uri 37 ≡ false
-unfolding is_uri is_word
-uri_percent = refl
-
-tag_percent : is_tag 37 ≡ false
-unfolding is_tag is_uri is_word
-tag_percent = refl
 
 no_percent : (p : ℕ → Bool) (c : ℕ) → p 37 ≡ false → p c ≡ true → c ≢ 37
 no_percent p c f h e = let z : false ≡ true = sym f ∙ ap p (sym e) ∙ h in cc

@@ -33,18 +33,26 @@ pub(crate) fn key_of<'g>(
     match &graph.node(NodeId(number)).kind {
         NodeKind::Scalar(content) => {
             let content = content.as_str();
-            Ok((
-                Key::Scalar(tag, prefix(content), rest(content)),
-                Vec::new(alloc),
-            ))
+            let key = Key::Scalar {
+                tag,
+                prefix: prefix(content),
+                rest: rest(content),
+            };
+            Ok((key, Vec::new(alloc)))
         }
         NodeKind::Sequence(items) => {
             let items = item_ranks(alloc, ranks, items)?;
-            Ok((Key::Sequence(tag, items), Vec::new(alloc)))
+            Ok((Key::Sequence { tag, items }, Vec::new(alloc)))
         }
         NodeKind::Mapping(entries) => {
             let (sorted, pairs) = entries_of(alloc, ranks, number, entries)?;
-            Ok((Key::Mapping(tag, pairs), sorted))
+            Ok((
+                Key::Mapping {
+                    tag,
+                    entries: pairs,
+                },
+                sorted,
+            ))
         }
     }
 }

@@ -19,9 +19,10 @@ use Rattle.yaml_flow.specs.NodeAnswer.{Appends}
 use Rattle.yaml_text.specs.EventModel.{event_of}
 use Rattle.yaml_text.specs.declared.event.Event as code
 use Rattle.yaml_flow.specs.Held.{Puts}
-use Rattle.yaml_flow.specs.SinkModel.{holds_of}
+use Rattle.yaml_flow.specs.SinkModel.{holds_of, HeldBeside}
 use Rattle.yaml_flow.specs.declared.sink.Sink.{Sink}
-use Rattle.yaml_flow.specs.declared.sink.Sink.TheVariants.{Listed}
+use Rattle.yaml_flow.specs.declared.sink.Sink.TheVariants.{Listed, Both}
+use Rattle.yaml_flow.specs.declared.sink.Beside.{Beside}
 use Rattle.yaml_flow.proofs.AnswerLemmas.{puts_on}
 use Rattle.std.specs.Prelude.{Result, Ok, Err}
 use Rattle.yaml_read.specs.StreamRules.{opened_by_mark, opened_by_directives}
@@ -37,6 +38,12 @@ pub all_listed : {K : Type 0} {holds : K → List Event → Type 0} (first last 
     map event_of last.items ≡ es
 all_listed {K} {holds} first last out es e is p =
     let held : holds_of holds (Listed last) es = subst (λ v. holds_of holds v es) is (p.is [] (ap (map event_of) e)) in
+    held
+
+-- all that a list and a keeper beside it hold that held nothing
+pub all_beside : {K : Type 0} (holds : K → List Event → Type 0) (first last : Beside K) (out : Sink K) (es : List Event) → first.list.items ≡ [] → holds first.keeper [] → out ≡ Both last → Puts (holds_of holds) (Both first) es out → HeldBeside holds last es
+all_beside holds first last out es e h is p =
+    let held : holds_of holds (Both last) es = subst (λ v. holds_of holds v es) is (p.is [] (record { list = ap (map event_of) e; keeper = h })) in
     held
 
 -- the faults of directives are faults of the reader

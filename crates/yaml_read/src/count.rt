@@ -74,8 +74,8 @@ impl Keeper for Counter {
         self.events
     }
 
-    fn push(&mut self, event: Event<'_>, _at: usize) -> Result<(), Fault> {
-        self.grow(content_len(&event))
+    fn push(&mut self, event: &Event<'_>, _at: usize) -> Result<(), Fault> {
+        self.grow(content_len(event))
     }
 
     fn scalar(&mut self, _style: Style, text: &str, _at: usize) -> Result<(), Fault> {
@@ -96,7 +96,7 @@ impl Keeper for Counter {
 
     fn announce(&mut self, _own: &Properties<'_>) {}
 
-    fn dress(&mut self, _start: usize, _properties: Properties<'_>) {}
+    fn dress(&mut self, _start: usize, _properties: &Properties<'_>) {}
 
     fn cut(&mut self, start: usize) {
         self.events = start;
@@ -118,6 +118,6 @@ pub fn count_events(alloc: Global, source: &Chars<'_>) -> Result<Counter, Fault>
     read_into(alloc, source, &mut out)?;
     match out {
         Sink::Kept(counter) => Ok(counter),
-        Sink::Listed(_) => Err(Fault::OutOfMemory),
+        Sink::Listed(_) | Sink::Both(_) => Err(Fault::OutOfMemory),
     }
 }

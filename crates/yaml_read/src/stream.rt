@@ -28,7 +28,7 @@ ghost use Rattle.yaml_read.specs.StreamRules.{IsMarkOf, NextIs, opened_by_mark, 
 use std::alloc::Global;
 use yaml_block::document::{read_bare, read_marked};
 use yaml_flow::line::{Line, first_line, next_line};
-use yaml_flow::sink::{Keeper, Sink, Unkept};
+use yaml_flow::sink::{Beside, Keeper, Sink, Unkept};
 use yaml_mark::directives::read_directives;
 use yaml_mark::handles::Handles;
 use yaml_text::chars::Chars;
@@ -275,5 +275,41 @@ pub fn read_events<'a>(alloc: Global, source: &Chars<'a>) -> Result<Vec<Event<'a
     match out {
         Sink::Listed(events) => Ok(events),
         Sink::Kept(_) => Err(Fault::OutOfMemory),
+        Sink::Both(both) => {
+            drop(both);
+            Err(Fault::OutOfMemory)
+        }
+    }
+}
+
+/// The events of a stream as `read_events` lists them, and a keeper that held nothing and now holds the same.
+pub fn read_events_with<'a, K: Keeper + Drop>(
+    alloc: Global,
+    source: &Chars<'a>,
+    keeper: K,
+) -> Result<(Vec<Event<'a>>, K), Fault>
+    requires { K.holds keeper [] }
+    ensures ok { IfOk result (λ read. ReadsText (text_of source.now) wide open_limit (map event_of read.0.items)) }
+    ensures err { IfErr result IsRefusal }
+    ensures only { IfOk result (λ read. IsAlone (text_of source.now) (map event_of read.0.items)) }
+    ensures decides { IfErr result (λ e. (e ≡ Fault.OutOfMemory) ⊎ HasNoReading (text_of source.now)) }
+    ensures placed { IfErr result (IsPlaced source.now) }
+    ensures kept { IfOk result (λ read. K.holds read.1 (map event_of read.0.items)) }
+{
+    let mut out: Sink<'a, K> = Sink::Both(Beside {
+        list: Vec::new(alloc),
+        keeper,
+    });
+    read_into(alloc, source, &mut out)?;
+    match out {
+        Sink::Both(both) => Ok((both.list, both.keeper)),
+        Sink::Listed(list) => {
+            drop(list);
+            Err(Fault::OutOfMemory)
+        }
+        Sink::Kept(keeper) => {
+            drop(keeper);
+            Err(Fault::OutOfMemory)
+        }
     }
 }

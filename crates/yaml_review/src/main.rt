@@ -3,10 +3,8 @@
 
 use std::env;
 use std::process::ExitCode;
-use yaml_command::command::report;
-use yaml_command::refusal::Refusal;
 use yaml_review_command::command::command;
-use yaml_text::counted::Counted;
+use yaml_review_command::telling::tell_no_words;
 use yaml_words::{WordsFault, behind_name};
 
 fn main(rt: HostRuntime) -> ExitCode {
@@ -24,7 +22,7 @@ fn main(rt: HostRuntime) -> ExitCode {
             rt.stdout(),
             rt.stderr(),
         ),
-        Err(fault) => report(Err(Refusal::Words(fault)), &mut Counted::new(rt.stderr())),
+        Err(fault) => tell_no_words(alloc, fault, rt.stderr()),
     };
     ExitCode::from(status)
 }

@@ -2,7 +2,8 @@
 use crate::both::fault_of;
 use crate::diff::diff;
 use crate::files::read_named;
-use crate::git::{git_asked, git_text};
+use crate::git::{git_asked, git_text, put_page};
+use crate::telling::{GIT_WORDS, ONE_INPUT, tell_of_file, told_status};
 use clap::Error;
 use std::alloc::Global;
 use std::io::{Read, Write};
@@ -10,7 +11,7 @@ use std::rt::Files;
 use yaml_command::command::report;
 use yaml_command::refusal::Refusal;
 use yaml_command::shelf::{Host, Shelf};
-use yaml_command::streams::{write_out, write_whole};
+use yaml_command::streams::write_out;
 use yaml_review_lines::{put_fault, put_warnings};
 use yaml_review_words::{Asked, Report, Sum, read_words};
 use yaml_sum::asked::Asked as SumAsked;
@@ -33,7 +34,8 @@ const GIT_LINES: usize = 1_000;
 #[derive(Clone, Copy, Debug, PartialEq, Eq)]
 enum Kind {
     Faults,
-    Warnings,
+    /// And of one that is read, at most so many warnings.
+    Warnings(usize),
 }
 
 /// What is told of a file that was read, and the status.
@@ -51,8 +53,8 @@ fn file_text(
             Ok((text, REFUSED))
         }
         None => {
-            if kind == Kind::Warnings {
-                put_warnings(alloc, &mut text, name, bytes, asked.form, asked.lines)?;
+            if let Kind::Warnings(room) = kind {
+                put_warnings(alloc, &mut text, name, bytes, asked.form, room)?;
             }
             Ok((text, DONE))
         }
@@ -82,19 +84,6 @@ fn file<'a, S: Shelf, R: Read, W: Write>(
     Ok(status)
 }
 
-/// Tells why a file can't be told of, and answers the status. Where standard error fails too, the status alone is left to tell it.
-fn tell_of_file<E: Write>(alloc: Global, name: &str, fault: Fault, err: &mut E) -> u8 {
-    if let Ok(line) = format!(in alloc; "yaml: {name}: {fault}\n") {
-        let _ = write_whole(&mut Counted::new(err), line.as_bytes());
-    }
-    Refusal::Input(fault).status()
-}
-
-/// The status of an answer, of which a refusal is told.
-fn told_status<E: Write>(answer: Result<u8, Refusal<'_>>, err: &mut E) -> u8 {
-    report(answer, &mut Counted::new(err))
-}
-
 /// Tells of each file, and goes on to the next in any case but where the output fails. The status is the greatest of all.
 fn files<S: Shelf, R: Read, W: Write, E: Write>(
     shelf: &S,
@@ -111,7 +100,7 @@ fn files<S: Shelf, R: Read, W: Write, E: Write>(
         let failed = matches!(&answer, Err(Refusal::Input(Fault::WriteFault)));
         let answer = match answer {
             Err(Refusal::Input(fault)) => tell_of_file(alloc, *name, fault, err),
-            answer => told_status(answer, err),
+            answer => told_status(alloc, answer, ONE_INPUT, err),
         };
         status = status.max(answer);
         if failed {
@@ -133,7 +122,7 @@ fn git<'a, S: Shelf, R: Read, W: Write>(
         return Err(Refusal::Words(WordsFault::Usage));
     };
     let text = git_text(shelf, alloc, asked, GIT_LINES, input)?;
-    write_out(&mut Counted::new(out), text.as_bytes())?;
+    put_page(out, text.as_bytes())?;
     Ok(DONE)
 }
 
@@ -149,7 +138,7 @@ fn run<S: Shelf, R: Read + Drop, W: Write + Drop, E: Write + Drop>(
     match asked {
         Asked::Diff(asked) => {
             let answer = diff(shelf, alloc, &asked, &mut input, &mut out);
-            told_status(answer, &mut err)
+            told_status(alloc, answer, ONE_INPUT, &mut err)
         }
         Asked::Faults(asked) => files(
             shelf,
@@ -160,10 +149,10 @@ fn run<S: Shelf, R: Read + Drop, W: Write + Drop, E: Write + Drop>(
             &mut out,
             &mut err,
         ),
-        Asked::Warn(asked) => files(
+        Asked::Warn(asked, room) => files(
             shelf,
             alloc,
-            Kind::Warnings,
+            Kind::Warnings(room),
             &asked,
             &mut input,
             &mut out,
@@ -171,7 +160,7 @@ fn run<S: Shelf, R: Read + Drop, W: Write + Drop, E: Write + Drop>(
         ),
         Asked::Git(words) => {
             let answer = git(shelf, alloc, &words, &mut input, &mut out);
-            told_status(answer, &mut err)
+            told_status(alloc, answer, GIT_WORDS, &mut err)
         }
         Asked::Sum(asked) => sum_files(shelf, alloc, sum_asked(&asked), input, out, err),
     }
@@ -189,7 +178,10 @@ fn sum_asked<'b, 'a: 'b>(asked: &'b Sum<'a>) -> SumAsked<'b> {
 /// Tells why words ask for no command: the help and the version on the output, what is wrong with them on standard error.
 fn told<W: Write, E: Write>(alloc: Global, error: Error, out: &mut W, err: &mut E) -> u8 {
     let Ok(text) = format!(in alloc; "{error}") else {
-        return told_status(Err(Refusal::Input(Fault::OutOfMemory)), err);
+        return report(
+            Err(Refusal::Input(Fault::OutOfMemory)),
+            &mut Counted::new(err),
+        );
     };
     if error.use_stderr() {
         // Where standard error fails too, the status alone is left to tell it.
@@ -198,7 +190,7 @@ fn told<W: Write, E: Write>(alloc: Global, error: Error, out: &mut W, err: &mut 
     }
     match write_out(&mut Counted::new(out), text.as_bytes()) {
         Ok(()) => DONE,
-        Err(fault) => told_status(Err(Refusal::Input(fault)), err),
+        Err(fault) => report(Err(Refusal::Input(fault)), &mut Counted::new(err)),
     }
 }
 

@@ -1,15 +1,13 @@
 //! What git passes to an external diff.
 use crate::both::compare_sides;
 use crate::files::read_named;
+use crate::telling::put_refusal;
 use std::alloc::Global;
-use std::io::Read;
-use std::str;
-use yaml_command::line::tell;
+use std::io::{ErrorKind, Read, Write};
 use yaml_command::refusal::Refusal;
 use yaml_command::shelf::Shelf;
 use yaml_review_text::put_shown;
 use yaml_review_words::{Diff, Form};
-use yaml_text::counted::Counted;
 use yaml_text::fault::Fault;
 
 /// The words of one file: its path, the two files to compare, and the path that it has now if it was renamed.
@@ -78,14 +76,6 @@ fn pair_text<'a, S: Shelf, R: Read>(
     Ok(compare_sides(alloc, &asked, &left, &right)?.text)
 }
 
-/// Writes the line of a refusal.
-fn put_refusal(alloc: Global, out: &mut String, refusal: Refusal<'_>) -> Result<(), Fault> {
-    let mut line = Vec::new(alloc);
-    tell(refusal, &mut Counted::new(&mut line))?;
-    out.push_str(str::from_utf8(&line).unwrap_or(""))?;
-    Ok(())
-}
-
 /// What is told of what git asks for. A side that cannot be read or is refused is told in a line.
 pub(crate) fn git_text<S: Shelf, R: Read>(
     shelf: &S,
@@ -111,4 +101,17 @@ pub(crate) fn git_text<S: Shelf, R: Read>(
         }
     }
     Ok(out)
+}
+
+/// Writes what is told and flushes. Where whoever reads it has gone, as `head` and a pager do, nothing is left to be told.
+pub(crate) fn put_page<W: Write>(out: &mut W, text: &[u8]) -> Result<(), Fault> {
+    let written = match out.write_all(text) {
+        Ok(()) => out.flush(),
+        Err(error) => Err(error),
+    };
+    match written {
+        Ok(()) => Ok(()),
+        Err(error) if error.kind() == ErrorKind::BrokenPipe => Ok(()),
+        Err(_) => Err(Fault::WriteFault),
+    }
 }

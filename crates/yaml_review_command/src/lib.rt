@@ -6,3 +6,4 @@ pub mod command;
 pub mod diff;
 mod files;
 mod git;
+pub mod telling;

@@ -10,14 +10,13 @@ use yaml_diff::{Difference, Found, stream_differences};
 use yaml_graph::node::NodeId;
 use yaml_place::Place;
 use yaml_review_text::both::Both;
-use yaml_review_text::layout::{Layout, lay_out};
+use yaml_review_text::layout::lay_out;
 use yaml_review_text::lines::{Line, put_more};
 use yaml_review_text::path::{Hand, Stream, offset_of, path_text};
 use yaml_review_text::places::{places, unmarked};
 use yaml_review_text::text::{CUT, WHOLE, node_text};
-use yaml_review_text::trace::trace_of;
+use yaml_review_text::trace::Traced;
 use yaml_review_words::Diff;
-use yaml_text::chars::Chars;
 use yaml_text::fault::Fault;
 
 /// The differences of two streams, at most so many.
@@ -63,13 +62,6 @@ fn lines_of(
     Ok(lines)
 }
 
-/// The layout of the stream that these bytes are.
-fn layout_of(alloc: Global, bytes: &[u8]) -> Result<Layout, Fault> {
-    let source = Chars::read(bytes)?;
-    let events = trace_of(alloc, &source)?;
-    lay_out(alloc, &events)
-}
-
 /// One of two streams.
 fn stream_of<'g>(both: &'g Both<'_>, hand: Hand) -> Stream<'g> {
     let (lefts, rights) = both.sides();
@@ -101,9 +93,9 @@ fn side_places(
     both: &Both<'_>,
     list: &[Difference],
     hand: Hand,
-    bytes: &[u8],
+    side: Traced<'_>,
 ) -> Result<Vec<(usize, Place)>, Fault> {
-    let layout = layout_of(alloc, bytes)?;
+    let layout = lay_out(alloc, side.trace)?;
     let stream = stream_of(both, hand);
     let mut offsets = Vec::new(alloc);
     for (number, difference) in list.iter().enumerate() {
@@ -115,7 +107,7 @@ fn side_places(
             offsets.push((offset, number))?;
         }
     }
-    places(alloc, unmarked(bytes), offsets)
+    places(alloc, unmarked(side.bytes), offsets)
 }
 
 /// Puts both sides' places into lines.
@@ -123,7 +115,7 @@ fn put_places(
     alloc: Global,
     both: &Both<'_>,
     list: &[Difference],
-    sides: (&[u8], &[u8]),
+    sides: (Traced<'_>, Traced<'_>),
     lines: &mut Vec<Line>,
 ) -> Result<(), Fault> {
     for (number, place) in &side_places(alloc, both, list, Hand::Left, sides.0)? {
@@ -144,12 +136,14 @@ fn text_of(
     alloc: Global,
     both: &Both<'_>,
     asked: &Diff<'_>,
-    sides: (&[u8], &[u8]),
+    sides: Option<(Traced<'_>, Traced<'_>)>,
     found: &Found,
 ) -> Result<String, Fault> {
     let room = if asked.whole { WHOLE } else { CUT };
     let mut lines = lines_of(alloc, both, &found.list, room)?;
-    if asked.places && !found.list.is_empty() {
+    if let Some(sides) = sides
+        && !found.list.is_empty()
+    {
         put_places(alloc, both, &found.list, sides, &mut lines)?;
     }
     let mut text = String::new(alloc);
@@ -183,13 +177,13 @@ pub struct Compared {
     pub same: bool,
 }
 
-/// The lines of the differences of two streams, of whose bytes these are the graph, and whether they have equally many documents,
-/// pairwise the same.
+/// The lines of the differences of two streams, whose graph this is, and whether they have equally many documents, pairwise the same.
+/// Places are told where both sides are given with their traces.
 pub fn compare(
     alloc: Global,
     both: &Both<'_>,
     asked: &Diff<'_>,
-    sides: (&[u8], &[u8]),
+    sides: Option<(Traced<'_>, Traced<'_>)>,
 ) -> Result<Compared, Fault>
     requires ranked { RanksAre both.now.graph both.now.ranks }
     ensures same { IfOk result (λ told. (told.same ≡ true) ↔ Alike (map (λ i. tree both.now.graph i.0) (take both.now.documents (roots_of both.now.graph))) (map (λ i. tree both.now.graph i.0) (drop both.now.documents (roots_of both.now.graph)))) }

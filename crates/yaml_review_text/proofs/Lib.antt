@@ -1,1 +1,2 @@
 mod TraceLaws
+pub mod OctalLaws

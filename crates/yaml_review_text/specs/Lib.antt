@@ -1,1 +1,3 @@
 pub mod Trace
+pub mod Told
+pub mod Yaml11

@@ -7,7 +7,7 @@ use yaml_text::fault::Fault;
 #[derive(Drop)]
 pub struct Layout {
     /// The offset of each event's own text.
-    offsets: Vec<usize>,
+    offsets: Vec<u32>,
     /// The events of the documents' roots.
     roots: Vec<usize>,
     /// Where each node's parts begin in the list of all parts.
@@ -30,7 +30,7 @@ impl Layout {
 
     /// The offset of an event's own text.
     pub fn offset(&self, event: usize) -> Option<usize> {
-        self.offsets.get(event).copied()
+        self.offsets.get(event).map(|offset| *offset as usize)
     }
 }
 

@@ -1,6 +1,11 @@
 //! Lines and columns of many offsets, in one pass over a text.
+ghost use Rattle.std.specs.Prelude.{◌≤◌, length, IfOk};
+ghost use Rattle.std.specs.List.{All};
+ghost use Rattle.yaml_place.specs.LineModel.{IsPlace};
+ghost use Rattle.yaml_review_text.specs.Told.{IsTold};
+
 use std::alloc::Global;
-use yaml_place::Place;
+use yaml_place::{Place, place_after, place_at};
 use yaml_text::fault::Fault;
 
 /// The bytes of the byte order mark (YAML 1.2.2, 5.2), which has no column.
@@ -11,44 +16,36 @@ pub fn unmarked(bytes: &[u8]) -> &[u8] {
     bytes.strip_prefix(MARK.as_slice()).unwrap_or(bytes)
 }
 
-/// Whether the byte at this offset is the last one of a line break.
-fn is_break_end(text: &[u8], at: usize, byte: u8) -> bool {
-    match byte {
-        b'\n' => true,
-        b'\r' => text.get(at.saturating_add(1)).copied() != Some(b'\n'),
-        _ => false,
+/// The place of an offset, from that of another one. It costs more where it lies before that.
+fn go_on(text: &[u8], from: usize, place: Place, to: usize) -> Place
+    requires at { IsPlace text.now from place.line place.column }
+    requires within { to ≤ length text.now }
+    ensures { IsPlace text.now to result.line result.column }
+{
+    if from <= to {
+        place_after(text, from, place, to)
+    } else {
+        place_at(text, to)
     }
 }
 
-/// The place of an offset, from that of an earlier one on.
-fn go_on(text: &[u8], from: usize, place: Place, to: usize) -> Place {
-    let mut line = place.line;
-    let mut column = place.column;
-    for at in from..to {
-        let byte = text.get(at).copied().unwrap_or(b' ');
-        if is_break_end(text, at, byte) {
-            line = line.saturating_add(1);
-            column = 1;
-        } else if byte < 128 || byte >= 192 {
-            column = column.saturating_add(1);
-        }
-    }
-    Place { line, column }
-}
-
-/// The places of these offsets, each of which has a number, in the order of the offsets. One pass over the text.
+/// The places of these offsets, each of which has a number, in the order of the numbers. One pass over the text. What lies behind
+/// the text's end is told as the end.
 pub fn places(
     alloc: Global,
     text: &[u8],
     mut offsets: Vec<(usize, usize)>,
-) -> Result<Vec<(usize, Place)>, Fault> {
+) -> Result<Vec<(usize, Place)>, Fault>
+    ensures { IfOk result (λ list. All (IsTold text.now offsets.items) list.items) }
+{
     offsets.sort_unstable();
     let mut list = Vec::with_capacity(alloc, offsets.len())?;
     let mut at = 0;
     let mut place = Place { line: 1, column: 1 };
-    for (offset, number) in &offsets {
-        place = go_on(text, at, place, *offset);
-        at = *offset;
+    'offsets: for (offset, number) in &offsets {
+        let to = (*offset).min(text.len());
+        place = go_on(text, at, place, to);
+        at = to;
         list.push((*number, place))?;
     }
     list.sort_unstable_by_key(|entry| entry.0);

@@ -1,4 +1,6 @@
 //! A stream's events, each with the offset of its own text.
+ghost use Rattle.std.specs.Prelude.{◌≡◌, IfOk, IfErr};
+
 use std::alloc::Global;
 use yaml_flow::properties::Properties;
 use yaml_flow::sink::{Collection, Keeper, Sink};
@@ -20,21 +22,40 @@ pub enum Shape {
     Other,
 }
 
-/// The events of a stream in order, each with the offset at which its own text begins.
+/// The events of a stream in order, each with the offset at which its own text begins, which four bytes hold: a text has at most
+/// 64 MiB.
 #[derive(Drop)]
 pub struct Trace {
-    pub events: Vec<(Shape, usize)>,
+    pub events: Vec<(Shape, u32)>,
+}
+
+/// The bytes of a stream, and the trace of its events.
+#[derive(Clone, Copy)]
+pub struct Traced<'t> {
+    pub bytes: &'t [u8],
+    pub trace: &'t Trace,
 }
 
 impl Trace {
-    ghost use Rattle.std.specs.Prelude.{◌≡◌, ◌≤◌, ◌+◌, length, IfOk, IfErr};
+    ghost use Rattle.std.specs.Prelude.{◌≤◌, ◌+◌, length, []};
+    ghost use Rattle.yaml_review_text.specs.Trace.{TraceHolds};
     ghost use Rattle.yaml_text.specs.declared.fault.Fault.TheVariants.{OutOfMemory};
+
+    /// No event yet.
+    pub fn new(alloc: Global) -> Trace
+        ensures { TraceHolds result [] }
+    {
+        Trace {
+            events: Vec::new(alloc),
+        }
+    }
 
     /// Puts an event before that of a place, or at the end.
     fn grow(&mut self, place: usize, shape: Shape, at: usize) -> Result<(), Fault>
         ensures ok { IfOk result (λ _. length self.new.events.items ≡ length self.old.events.items + 1) }
         ensures err { IfErr result (λ e. e ≡ OutOfMemory) }
     {
+        let at = short(at)?;
         let place = place.min(self.events.len());
         self.events.insert(place, (shape, at))?;
         Ok(())
@@ -45,6 +66,7 @@ impl Trace {
         ensures ok { IfOk result (λ _. length self.new.events.items ≡ length self.old.events.items + 1) }
         ensures err { IfErr result (λ e. e ≡ OutOfMemory) }
     {
+        let at = short(at)?;
         self.events.push((shape, at))?;
         Ok(())
     }
@@ -58,7 +80,18 @@ impl Trace {
 
     /// The offset of an event's own text.
     pub fn offset(&self, event: usize) -> Option<usize> {
-        self.events.get(event).map(|entry| entry.1)
+        self.events.get(event).map(|entry| entry.1 as usize)
+    }
+}
+
+/// An offset in four bytes. One past them, which no text has, is a want of room.
+fn short(at: usize) -> Result<u32, Fault>
+    ensures ok { IfOk result (λ n. n ≡ at) }
+    ensures err { IfErr result (λ e. e ≡ Fault.OutOfMemory) }
+{
+    match u32::try_from(at) {
+        Ok(at) => Ok(at),
+        Err(_) => Err(Fault::OutOfMemory),
     }
 }
 
@@ -87,8 +120,8 @@ impl Keeper for Trace {
         self.events.len()
     }
 
-    fn push(&mut self, event: Event<'_>, at: usize) -> Result<(), Fault> {
-        self.put(shape_of(&event), at)
+    fn push(&mut self, event: &Event<'_>, at: usize) -> Result<(), Fault> {
+        self.put(shape_of(event), at)
     }
 
     fn scalar(&mut self, _style: Style, _text: &str, at: usize) -> Result<(), Fault> {
@@ -109,7 +142,7 @@ impl Keeper for Trace {
 
     fn announce(&mut self, _own: &Properties<'_>) {}
 
-    fn dress(&mut self, _start: usize, _properties: Properties<'_>) {}
+    fn dress(&mut self, _start: usize, _properties: &Properties<'_>) {}
 
     fn cut(&mut self, start: usize) {
         self.shorten(start);
@@ -118,14 +151,16 @@ impl Keeper for Trace {
 
 /// Reads a text once more for the places of its events.
 pub fn trace_of(alloc: Global, source: &Chars<'_>) -> Result<Trace, Fault> {
-    let mut out: Sink<'_, Trace> = Sink::Kept(Trace {
-        events: Vec::new(alloc),
-    });
+    let mut out: Sink<'_, Trace> = Sink::Kept(Trace::new(alloc));
     read_into(alloc, source, &mut out)?;
     match out {
         Sink::Kept(trace) => Ok(trace),
         Sink::Listed(list) => {
             drop(list);
+            Err(Fault::OutOfMemory)
+        }
+        Sink::Both(both) => {
+            drop(both);
             Err(Fault::OutOfMemory)
         }
     }

@@ -7,10 +7,7 @@ fn syntax_words(text: &str, at: usize) -> &'static str {
         Some(before) => (before, text.get(at..).unwrap_or("")),
         None => ("", ""),
     };
-    let line = match before.rfind('\n') {
-        Some(end) => before.get(end..).unwrap_or(""),
-        None => before,
-    };
+    let line = before.rsplit('\n').next().unwrap_or("");
     let is_first = line.trim().is_empty();
     let mut chars = behind.chars();
     let here = chars.next();
@@ -30,6 +27,8 @@ fn syntax_words(text: &str, at: usize) -> &'static str {
         Some(_) if is_first && is_in_flow(before) => {
             "a line of a flow collection stands deeper than its parent"
         }
+        Some(':') if is_too_deep(line, before) =>
+            "this line stands deeper than the one above, and is read as more of its value: an entry stands right below its siblings",
         Some(':') => "a value that holds `: ` stands between quotes",
         Some('%') if is_first =>
             "a directive stands before `---` alone, and no plain scalar begins with `%`",
@@ -61,6 +60,25 @@ fn is_in_flow(before: &str) -> bool {
         }
     }
     false
+}
+
+/// How deep the first node of a line stands, behind the indicators of items.
+fn depth(line: &str) -> usize {
+    line.chars().take_while(|c| *c == ' ' || *c == '-').count()
+}
+
+/// Whether a line of one key up to its `:` stands deeper than the line above, which has a value.
+fn is_too_deep(line: &str, before: &str) -> bool {
+    let above = before
+        .rsplit('\n')
+        .skip(1)
+        .find(|above| !above.trim().is_empty());
+    match above {
+        Some(above) => {
+            above.contains(": ") && !line.contains(": ") && depth(above) < depth(line)
+        }
+        None => false,
+    }
 }
 
 /// What a fault is, for one who mends the file. Of a syntax fault it is what is commonly meant.

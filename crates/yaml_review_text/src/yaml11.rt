@@ -1,5 +1,8 @@
 //! Plain texts that YAML 1.1 reads otherwise (its types bool, int, float, merge and timestamp).
 
+ghost use Rattle.std.specs.Prelude.{◌≡◌, None, option_map};
+ghost use Rattle.yaml_review_text.specs.Yaml11.{after_one, all_of, some_of, unsigned, behind_zeros, octal, prefixed, spaced, grouped, is_word, older_of, IsOlder};
+
 /// What YAML 1.1 makes of a plain text that the core schema of YAML 1.2 reads otherwise.
 #[derive(Clone, Copy, Debug, PartialEq, Eq)]
 pub enum Older {
@@ -28,6 +31,117 @@ impl Older {
             Older::Merge => "a key like others, and in YAML 1.1 a merge of the value's entries",
         }
     }
+}
+
+/// What stands behind a first byte of a set.
+fn behind_one<'a>(text: &'a [u8], set: &[u8]) -> Option<&'a [u8]>
+    ensures { option_map (λ rest. rest.now) result ≡ after_one set.now text.now }
+{
+    match text.split_first() {
+        Some((first, rest)) if set.contains(first) => Some(rest),
+        _ => None,
+    }
+}
+
+/// Whether all bytes are of a set.
+fn all_of(text: &[u8], set: &[u8]) -> bool
+    ensures { result ≡ all_of set.now text.now }
+{
+    text.iter().all(|byte| set.contains(byte))
+}
+
+/// The same of a text that is not empty.
+fn some_of(text: &[u8], set: &[u8]) -> bool
+    ensures { result ≡ some_of set.now text.now }
+{
+    !text.is_empty() && all_of(text, set)
+}
+
+/// A text without the sign with which it may begin.
+fn unsigned(text: &[u8]) -> &[u8]
+    ensures { result.now ≡ unsigned text.now }
+{
+    match behind_one(text, b"+-") {
+        Some(rest) => rest,
+        None => text,
+    }
+}
+
+/// A text without the zeros with which it may begin.
+fn behind_zeros(text: &[u8]) -> &[u8]
+    ensures { result.now ≡ behind_zeros text.now }
+{
+    let mut rest = text;
+    'zeros: while let Some(more) = behind_one(rest, b"0") {
+        rest = more;
+    }
+    rest
+}
+
+/// Whether digits behind a zero are another number in base 8 than in base 10: two are left behind all zeros.
+fn is_octal(text: &[u8]) -> bool
+    ensures { result ≡ octal text.now }
+{
+    match behind_one(text, b"0") {
+        Some(rest) => all_of(rest, b"01234567") && behind_zeros(rest).len() > 1,
+        None => false,
+    }
+}
+
+/// A zero, a letter and some bytes of a set.
+fn is_prefixed(text: &[u8], letter: &[u8], set: &[u8]) -> bool
+    ensures { result ≡ prefixed letter.now set.now text.now }
+{
+    match behind_one(text, b"0") {
+        Some(rest) => match behind_one(rest, letter) {
+            Some(rest) => some_of(rest, set),
+            None => false,
+        },
+        None => false,
+    }
+}
+
+/// An int of base 10 or 8 by the bytes that it may have, `_` among them.
+fn is_spaced(text: &[u8]) -> bool
+    ensures { result ≡ spaced text.now }
+{
+    match behind_one(text, b"0") {
+        Some(rest) => some_of(rest, b"01234567_"),
+        None => match behind_one(text, b"123456789") {
+            Some(rest) => all_of(rest, b"0123456789_"),
+            None => false,
+        },
+    }
+}
+
+/// The same with a `_`.
+fn is_grouped(text: &[u8]) -> bool
+    ensures { result ≡ grouped text.now }
+{
+    is_spaced(text) && text.contains(&b'_')
+}
+
+fn is_bool(text: &str) -> bool
+    ensures { result ≡ is_word text.now }
+{
+    matches!(
+        text,
+        "y" | "Y"
+            | "yes"
+            | "Yes"
+            | "YES"
+            | "n"
+            | "N"
+            | "no"
+            | "No"
+            | "NO"
+            | "on"
+            | "On"
+            | "ON"
+            | "off"
+            | "Off"
+            | "OFF"
+    )
 }
 
 /// What is left of a text that is read piece by piece.
@@ -69,70 +183,6 @@ impl<'a> Rest<'a> {
     fn is_empty(&self) -> bool {
         self.bytes.is_empty()
     }
-}
-
-fn is_bool(text: &str) -> bool {
-    matches!(
-        text,
-        "y" | "Y"
-            | "yes"
-            | "Yes"
-            | "YES"
-            | "n"
-            | "N"
-            | "no"
-            | "No"
-            | "NO"
-            | "on"
-            | "On"
-            | "ON"
-            | "off"
-            | "Off"
-            | "OFF"
-    )
-}
-
-/// `[-+]?0[0-7]+` of a value that base 10 and base 8 do not share.
-fn is_octal(mut rest: Rest<'_>) -> bool {
-    rest.one(b"+-");
-    if !rest.one(b"0") {
-        return false;
-    }
-    let zeros = rest.count(b"0");
-    rest.skip(zeros);
-    let count = rest.count(b"01234567");
-    rest.skip(count);
-    count > 1 && rest.is_empty()
-}
-
-/// `0o[0-7]+`
-fn is_new_octal(mut rest: Rest<'_>) -> bool {
-    if !(rest.one(b"0") && rest.one(b"o")) {
-        return false;
-    }
-    let count = rest.count(b"01234567");
-    rest.skip(count);
-    count > 0 && rest.is_empty()
-}
-
-/// `[-+]?0b[01_]+`
-fn is_binary(mut rest: Rest<'_>) -> bool {
-    rest.one(b"+-");
-    if !(rest.one(b"0") && rest.one(b"b")) {
-        return false;
-    }
-    let count = rest.count(b"01_");
-    rest.skip(count);
-    count > 0 && rest.is_empty()
-}
-
-/// `[-+]?[0-9][0-9_]*`, with a `_`
-fn is_grouped(mut rest: Rest<'_>) -> bool {
-    rest.one(b"+-");
-    let digits = rest.count(b"0123456789");
-    let count = rest.count(b"0123456789_");
-    rest.skip(count);
-    digits > 0 && count > digits && rest.is_empty()
 }
 
 /// `[-+]?[0-9][0-9_]*(:[0-5]?[0-9])+(\.[0-9_]*)?`, which without a fraction begins with no 0
@@ -219,37 +269,39 @@ fn is_time(mut rest: Rest<'_>) -> bool {
     is_zone(rest)
 }
 
-/// What YAML 1.1 makes of an untagged plain scalar, where the core schema of YAML 1.2 reads it otherwise.
-pub fn read_older(text: &str, is_key: bool) -> Option<Older> {
-    let rest = Rest {
-        bytes: text.as_bytes(),
-    };
-    if is_bool(text) {
-        return Some(Older::Bool);
-    }
-    if is_key && text == "<<" {
-        return Some(Older::Merge);
-    }
-    if !rest
-        .bytes
-        .first()
-        .is_some_and(|byte| b"+-0123456789".contains(byte))
-    {
-        return None;
-    }
-    if is_octal(rest) {
-        Some(Older::Octal)
-    } else if is_new_octal(rest) {
-        Some(Older::Text)
-    } else if is_binary(rest) {
-        Some(Older::Binary)
-    } else if is_grouped(rest) {
-        Some(Older::Grouped)
-    } else if is_sexagesimal(rest) {
+/// A number of base 60 or a timestamp.
+fn read_timed(text: &[u8]) -> Option<Older>
+    ensures { IsOlder None result }
+{
+    let rest = Rest { bytes: text };
+    if is_sexagesimal(rest) {
         Some(Older::Sexagesimal)
     } else if is_day(rest) || is_time(rest) {
         Some(Older::Timestamp)
     } else {
         None
+    }
+}
+
+/// What YAML 1.1 makes of an untagged plain scalar, where the core schema of YAML 1.2 reads it otherwise.
+pub fn read_older(text: &str, is_key: bool) -> Option<Older>
+    ensures { IsOlder (older_of text.now is_key) result }
+{
+    let bytes = text.as_bytes();
+    let number = unsigned(bytes);
+    if is_bool(text) {
+        Some(Older::Bool)
+    } else if is_key && text == "<<" {
+        Some(Older::Merge)
+    } else if is_octal(number) {
+        Some(Older::Octal)
+    } else if is_prefixed(bytes, b"o", b"01234567") {
+        Some(Older::Text)
+    } else if is_prefixed(number, b"b", b"01_") {
+        Some(Older::Binary)
+    } else if is_grouped(number) {
+        Some(Older::Grouped)
+    } else {
+        read_timed(bytes)
     }
 }

@@ -35,8 +35,6 @@ pub struct Diff<'a> {
 pub struct Report<'a> {
     /// Their names, of which `-` is standard input.
     pub files: Vec<&'a str>,
-    /// The greatest number of lines a file.
-    pub lines: usize,
     pub form: Form,
 }
 
@@ -55,19 +53,20 @@ pub struct Sum<'a> {
 pub enum Asked<'a> {
     Diff(Diff<'a>),
     Faults(Report<'a>),
-    Warn(Report<'a>),
+    /// With the greatest number of lines a file.
+    Warn(Report<'a>, usize),
     Sum(Sum<'a>),
     /// What `GIT_EXTERNAL_DIFF` passes.
     Git(Vec<&'a str>),
 }
 
-fn lines_option<'a>(alloc: Global) -> Arg<'a> {
+fn lines_option<'a>(alloc: Global, help: &'a str) -> Arg<'a> {
     Arg::new(alloc, "lines")
         .long("lines")
         .value_name("N")
         .value_parser(ValueParser::unsigned(0, 1_000_000))
         .default_value("1000")
-        .help("Tell at most N lines, then `...`")
+        .help(help)
 }
 
 const FORMS: [&str; 2] = ["line", "json"];
@@ -109,19 +108,22 @@ fn diff_command<'a>(alloc: Global) -> Result<Command<'a>, AllocError> {
                 .action(ArgAction::SetTrue)
                 .help("Show texts of more than 60 bytes whole"),
         )?
-        .arg(lines_option(alloc))?
+        .arg(lines_option(alloc, "Tell at most N lines, then `...`"))?
         .arg(form_option(alloc))
 }
 
-fn report_command<'a>(
-    alloc: Global,
-    name: &'a str,
-    about: &'a str,
-) -> Result<Command<'a>, AllocError> {
-    Command::new(alloc, name)
-        .about(about)
+fn faults_command<'a>(alloc: Global) -> Result<Command<'a>, AllocError> {
+    Command::new(alloc, "faults")
+        .about("Tells where files are refused: 0 none, 2 some, 3 some unusable")
         .arg(files(alloc))?
-        .arg(lines_option(alloc))?
+        .arg(form_option(alloc))
+}
+
+fn warn_command<'a>(alloc: Global) -> Result<Command<'a>, AllocError> {
+    Command::new(alloc, "warn")
+        .about("Tells what tools of YAML 1.1 read otherwise")
+        .arg(files(alloc))?
+        .arg(lines_option(alloc, "Tell at most N lines of each file, then `...`"))?
         .arg(form_option(alloc))
 }
 
@@ -169,12 +171,8 @@ fn grammar<'a>(alloc: Global) -> Result<Command<'a>, AllocError> {
         .no_binary_name(true)
         .subcommand_required(true)
         .subcommand(diff_command(alloc)?)?
-        .subcommand(report_command(
-            alloc,
-            "faults",
-            "Tells where files are refused: 0 none, 2 some, 3 some unusable",
-        )?)?
-        .subcommand(report_command(alloc, "warn", "Tells what tools of YAML 1.1 read otherwise")?)?
+        .subcommand(faults_command(alloc)?)?
+        .subcommand(warn_command(alloc)?)?
         .subcommand(sum_command(alloc)?)?
         .subcommand(git_command(alloc)?)
 }
@@ -216,7 +214,6 @@ fn files_of<'a>(alloc: Global, matches: &ArgMatches<'a>) -> Result<Vec<&'a str>,
 fn report_of<'a>(alloc: Global, matches: &ArgMatches<'a>) -> Result<Report<'a>, AllocError> {
     Ok(Report {
         files: files_of(alloc, matches)?,
-        lines: lines_of(matches),
         form: form_of(matches),
     })
 }
@@ -240,7 +237,7 @@ fn asked_of<'a>(
 ) -> Result<Asked<'a>, AllocError> {
     match name {
         "faults" => Ok(Asked::Faults(report_of(alloc, inner)?)),
-        "warn" => Ok(Asked::Warn(report_of(alloc, inner)?)),
+        "warn" => Ok(Asked::Warn(report_of(alloc, inner)?, lines_of(inner))),
         "sum" => Ok(Asked::Sum(Sum {
             files: files_of(alloc, inner)?,
             files_from: inner.get_str("files-from"),

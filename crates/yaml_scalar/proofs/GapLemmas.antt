@@ -25,6 +25,10 @@ module _ (cs : List ℕ) where
   unfolding indent less
   spaces_less n m i j (r, e) a b = (omega (arith, e, a, b), r)
 
+  pub no_space_code : (i : ℕ) → (Stands cs is_space i → ⊥) → slice_get cs i ≢ Some 32
+  unfolding is_space
+  no_space_code i n h = n (32, h, refl)
+
   pub margin_is : (n m i j k : ℕ) → n ≡ m → indent cs n i j → run cs is_white j k → margin cs m i k
   unfolding margin
   margin_is n m i j k e s r = subst (λ x. margin cs x i k) e (j, s, r)

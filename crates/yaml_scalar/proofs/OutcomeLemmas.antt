@@ -15,51 +15,13 @@ refuses_weaker (fault.Syntax at) f p = f p
 refuses_weaker (fault.Tab at) f p = f p
 refuses_weaker (fault.BadEscape at) f p = f p
 refuses_weaker fault.OutOfMemory f p = tt
-refuses_weaker (fault.NotUtf8 at) f p = p
-refuses_weaker (fault.NotPrintable at) f p = p
-refuses_weaker (fault.KeyTooLong at) f p = p
-refuses_weaker (fault.TooDeep at) f p = p
-refuses_weaker (fault.BadDirective at) f p = p
-refuses_weaker (fault.UnknownHandle at) f p = p
-refuses_weaker (fault.BadTag at) f p = p
-refuses_weaker (fault.UndefinedAlias at) f p = p
-refuses_weaker (fault.CyclicAlias at) f p = p
-refuses_weaker (fault.WrongKind at) f p = p
-refuses_weaker (fault.BadContent at) f p = p
-refuses_weaker (fault.IntRange at) f p = p
-refuses_weaker (fault.FloatRange at) f p = p
-refuses_weaker (fault.TooHigh at) f p = p
-refuses_weaker (fault.EqualKeys a b d) f p = p
-refuses_weaker fault.TooLong f p = p
-refuses_weaker fault.TextTooLong f p = p
-refuses_weaker fault.ReadFault f p = p
-refuses_weaker fault.WriteFault f p = p
+refuses_weaker _ f p = p
 
 -- at a place where the text can't be read on
 pub refuses_unread : (e : Fault) {P : Type 0} → IsSyntaxFault e → P → ScalarFaultMeans e P
 refuses_unread (fault.Syntax at) u p = p
 refuses_unread (fault.Tab at) u p = p
-refuses_unread (fault.BadEscape at) u p = p
-refuses_unread fault.OutOfMemory u p = tt
-refuses_unread (fault.NotUtf8 at) u p = u
-refuses_unread (fault.NotPrintable at) u p = u
-refuses_unread (fault.KeyTooLong at) u p = u
-refuses_unread (fault.TooDeep at) u p = u
-refuses_unread (fault.BadDirective at) u p = u
-refuses_unread (fault.UnknownHandle at) u p = u
-refuses_unread (fault.BadTag at) u p = u
-refuses_unread (fault.UndefinedAlias at) u p = u
-refuses_unread (fault.CyclicAlias at) u p = u
-refuses_unread (fault.WrongKind at) u p = u
-refuses_unread (fault.BadContent at) u p = u
-refuses_unread (fault.IntRange at) u p = u
-refuses_unread (fault.FloatRange at) u p = u
-refuses_unread (fault.TooHigh at) u p = u
-refuses_unread (fault.EqualKeys a b d) u p = u
-refuses_unread fault.TooLong u p = u
-refuses_unread fault.TextTooLong u p = u
-refuses_unread fault.ReadFault u p = u
-refuses_unread fault.WriteFault u p = u
+refuses_unread _ u p = absurd u
 
 -- at the exit of a `?`
 pub answers_err : {X : Type 0} (Best : TextRule → TextRule) (R : TextRule) (i : ℕ) (end : X → ℕ) (value : X → List ℕ) (r : Result X Fault) (e : Fault) →

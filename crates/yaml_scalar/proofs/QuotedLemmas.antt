@@ -65,6 +65,11 @@ module _ (cs : List ℕ) where
   unfolding quoted_more
   quoted_onward q i j xs (m, us, vs, ((a, r), y), (l, x, g, e, f), z) = omega (arith, a, e)
 
+  -- a text and then two stretches side by side
+  pub two_slices : (xs : List ℕ) (q i k j : ℕ) → any (quoted_more cs q) i k (slice_range cs i k) → k ≤ j → (xs ++ slice_range cs i k) ++ slice_range cs k j ≡ xs ++ slice_range cs i j
+  two_slices xs q i k j p h =
+      append_assoc xs (slice_range cs i k) (slice_range cs k j) ∙ ap (λ v. xs ++ v) (sym (slice_join cs i k j (any_onward (quoted_onward q) p) h))
+
   -- ---- a quoted text made of gaps and solid characters, and its end
 
   -- F holds where a solid character or the end begins

@@ -4,8 +4,8 @@ ghost use Rattle.std.specs.Bool.{OnTrue, OnFalse};
 ghost use Rattle.yaml_text.specs.Source.{text_of, place_of, IsBorder};
 ghost use Rattle.yaml_text.specs.EventModel.{context_of};
 ghost use Rattle.yaml_definitions.specs.grammar.Rules.{Stands};
-ghost use Rattle.yaml_definitions.specs.grammar.Characters.{is_white, is_ns};
-ghost use Rattle.yaml_definitions.specs.grammar.Separation.{StartsLine, DocumentMark, s-indent-less-than as less};
+ghost use Rattle.yaml_definitions.specs.grammar.Characters.{is_space, is_white, is_ns};
+ghost use Rattle.yaml_definitions.specs.grammar.Separation.{StartsLine, DocumentMark, s-indent as indent, s-indent-less-than as less};
 ghost use Rattle.yaml_scalar.specs.Chains.{margin, lead, breaks, NoLead, NoBreaks};
 
 use yaml_text::chars::Chars;
@@ -22,6 +22,31 @@ pub fn columns(n: i32) -> usize
     n as usize
 }
 
+/// How many spaces stand at a border, but at most `most`, and the border after them.
+pub fn read_spaces(source: &Chars<'_>, at: usize, most: usize) -> (usize, usize)
+    requires { IsBorder source.now at }
+    ensures border { IsBorder source.now result.1 }
+    ensures onward { at ≤ result.1 }
+    ensures spaces { indent (text_of source.now) result.0 (place_of source.now at) (place_of source.now result.1) }
+    ensures within { result.0 ≤ most }
+    ensures furthest { result.0 < most → Stands (text_of source.now) is_space (place_of source.now result.1) → ⊥ }
+{
+    let mut count = 0;
+    let mut here = at;
+    'spaces: loop {
+        if count == most {
+            return (count, here);
+        }
+        match accept(source, here, ' ') {
+            None => return (count, here),
+            Some(to) => {
+                count += 1;
+                here = to;
+            }
+        }
+    }
+}
+
 /// Up to `most` spaces, and the whites after them where there are so many.
 pub fn read_margin(source: &Chars<'_>, at: usize, most: usize) -> (usize, bool)
     requires { IsBorder source.now at }
@@ -32,20 +57,11 @@ pub fn read_margin(source: &Chars<'_>, at: usize, most: usize) -> (usize, bool)
     ensures short { OnFalse result.1 (less (text_of source.now) most (place_of source.now at) (place_of source.now result.0)
         × (slice_get (text_of source.now) (place_of source.now result.0) ≢ Some 32)) }
 {
-    let mut here = at;
-    let mut count = 0;
-    'spaces: loop {
-        if count == most {
-            return (skip_whites(source, here), true);
-        }
-        match accept(source, here, ' ') {
-            None => return (here, false),
-            Some(to) => {
-                here = to;
-                count += 1;
-            }
-        }
+    let (count, here) = read_spaces(source, at, most);
+    if count == most {
+        return (skip_whites(source, here), true);
     }
+    (here, false)
 }
 
 /// After a break: how many empty lines stand there, and the border where the next line's text begins. Where no text may

@@ -1,5 +1,5 @@
 -- What becomes of files, one file more at a time.
-use Rattle.std.proofs.Common.{◌≡◌, ◌++◌, ℕ, zero, suc, ◌+◌, ◌-◌, ◌^◌, ◌<◌, max, List, [], ◌∷◌, Option, None, Some, IfSome, length, map, take, get_or, refl, sym, ◌∙◌, ap, subst, arith, append_assoc, append-nil, length-append, inl, inr}
+use Rattle.std.proofs.Common.{◌≡◌, ◌++◌, ℕ, Bool, true, false, zero, suc, ◌+◌, ◌-◌, ◌^◌, ◌<◌, max, List, [], ◌∷◌, Option, None, Some, IfSome, length, map, take, get_or, refl, sym, ◌∙◌, ap, subst, arith, append_assoc, append-nil, length-append, inl, inr}
 use Rattle.std.specs.Prelude.{Result, Ok, Err, IfOk}
 use Rattle.std.specs.Io.KnownBytes.{Consumes, Appends}
 use Rattle.std.proofs.KnownBytes.{Consumes-all}
@@ -19,7 +19,8 @@ use Rattle.yaml_sum.specs.Lines.{sum_line}
 use Rattle.yaml_sum.specs.Reading.{GivesAll, GivesNotAll}
 use Rattle.yaml_sum.specs.Stops.{stop_status}
 use Rattle.yaml_sum.specs.declared.stop.Stop.{Stop}
-use Rattle.yaml_sum.specs.Sums.{HasDigest, HasLine, HasNone, Outcome, summed, stopped, outcome_line, outcome_status, lines, worst, Becomes, Become, Tells, TellAll, Sums, Cuts, SumsSome, SumsAll, Halts, SumsCut}
+use Rattle.yaml_sum.specs.declared.stop.Stop.TheVariants.{CannotOpen, NotRegular}
+use Rattle.yaml_sum.specs.Sums.{is_input, NotReadFrom, IsNotRead, HasDigest, HasLine, HasNone, Outcome, summed, stopped, outcome_line, outcome_status, lines, worst, Becomes, Become, Tells, TellAll, Sums, Cuts, SumsSome, SumsAll, Halts, SumsCut}
 
 -- of a file of which it is known what it holds, that was read
 module _ {F : Type 0} (remaining : F → Option (List ℕ)) where
@@ -43,6 +44,15 @@ module _ {F : Type 0} (remaining : F → Option (List ℕ)) where
   held_fails held i e limit OutOfMemory k h = tt
   held_fails held i e limit ReadFault k h = tt
   held_fails held i e limit _ k h = absurd h
+
+-- a list that is no regular file would be told as one that can't be opened
+module _ {R : Type 0} (holds : List ℕ → Option (List ℕ)) (remaining : R → Option (List ℕ)) where
+  not_opened_from : (input : Bool) (name : List ℕ) (limit : ℕ) (old new : R) → NotReadFrom holds remaining input name limit old new NotRegular → NotReadFrom holds remaining input name limit old new CannotOpen
+  not_opened_from true name limit old new h = absurd h
+  not_opened_from false name limit old new h = (inr h.0, h.1)
+
+  pub not_opened : (name : List ℕ) (limit : ℕ) (old new : R) → IsNotRead holds remaining name limit old new NotRegular → IsNotRead holds remaining name limit old new CannotOpen
+  not_opened name limit old new h = not_opened_from (is_input name) name limit old new h
 
 worst_more : (os : List Outcome) (o : Outcome) → worst (os ++ (o ∷ [])) ≡ max (worst os) (outcome_status o)
 worst_more [] o = omega arith

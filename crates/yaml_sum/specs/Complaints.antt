@@ -8,11 +8,12 @@ use Rattle.yaml_canon.specs.Writers.{Sent, CutOff}
 use Rattle.yaml_command.specs.Refusals.{place_end}
 use Rattle.yaml_sum.specs.Lines.{name_text}
 use Rattle.yaml_sum.specs.declared.stop.Stop.{Stop}
-use Rattle.yaml_sum.specs.declared.stop.Stop.TheVariants.{CannotOpen, Refused}
+use Rattle.yaml_sum.specs.declared.stop.Stop.TheVariants.{CannotOpen, NotRegular, Refused}
 
--- what stands behind the file's name: that it can't be opened, or the fault's number, name and place
+-- what stands behind the file's name: that it can't be opened, or is no regular file, or the fault's number, name and place
 abbrev pub reason : Stop → List ℕ
 reason CannotOpen = codes "cannot open\n"
+reason NotRegular = codes "is no regular file\n"
 reason (Refused fault) = decimal (fault_number fault) ++ codes " " ++ fault_name fault ++ place_end fault
 
 -- the line of a file, whose name is written as in a line of sums

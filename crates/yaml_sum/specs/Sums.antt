@@ -14,7 +14,7 @@ use Rattle.yaml_sum.specs.Lines.{sum_line}
 use Rattle.yaml_sum.specs.Reading.{GivesAll, GivesNotAll}
 use Rattle.yaml_sum.specs.Stops.{stop_status}
 use Rattle.yaml_sum.specs.declared.stop.Stop.{Stop}
-use Rattle.yaml_sum.specs.declared.stop.Stop.TheVariants.{CannotOpen, Refused}
+use Rattle.yaml_sum.specs.declared.stop.Stop.TheVariants.{CannotOpen, NotRegular, Refused}
 use Rattle.yaml_sum.specs.declared.buffers.Buffers.{Buffers}
 
 -- the line that is kept
@@ -63,20 +63,23 @@ module _ {E : Type 0} (told : E → Option (List ℕ)) where
   TellAll (name ∷ names) [] before after = ⊥
   TellAll (name ∷ names) (outcome ∷ outcomes) before after = (next : Counted E) × Tells name outcome before next × TellAll names outcomes next after
 
--- why a file by its name is not read: it can't be opened, of which it is not known what it holds, or not read to its end
+-- why a file by its name is not read: it can't be opened or is no regular file, of which it is not known what it holds, or is not read to its end
 abbrev pub NotReadAs : Option (List ℕ) → List ℕ → ℕ → Stop → Type 0
 NotReadAs held name limit CannotOpen = (¬ (IsUtf8 name)) ⊎ (held ≡ None)
+NotReadAs held name limit NotRegular = held ≡ None
 NotReadAs held name limit (Refused fault) = FileFails held limit fault
 
 -- and standard input
 module _ {R : Type 0} (remaining : R → Option (List ℕ)) where
   abbrev pub InputNotRead : R → R → ℕ → Stop → Type 0
   InputNotRead old new limit CannotOpen = ⊥
+  InputNotRead old new limit NotRegular = ⊥
   InputNotRead old new limit (Refused fault) = GivesNotAll remaining old new limit fault
 
 -- what the bytes hold is refused
 abbrev pub IsRefused : List ℕ → Stop → Type 0
 IsRefused bytes CannotOpen = ⊥
+IsRefused bytes NotRegular = ⊥
 IsRefused bytes (Refused fault) = CanonicalRefuses bytes fault
 
 module _ {R : Type 0} (holds : List ℕ → Option (List ℕ)) (remaining : R → Option (List ℕ)) where

@@ -213,8 +213,23 @@ fn check_lines<S: Shelf, R: Read, W: Write, E: Write>(
     Ok(told)
 }
 
+/// Tells that no line of a list is one of a sum, in place of the bytes that are given, and answers the status.
+fn tell_none<'a, E: Write>(
+    list: &str,
+    mut line: Vec<u8>,
+    err: &mut Counted<E>,
+) -> Result<u8, Refusal<'a>> {
+    line.clear();
+    push(&mut line, b"yaml: ")?;
+    push_name(&mut line, list.as_bytes())?;
+    push(&mut line, b": no line is one of a sum\n")?;
+    // Where standard error fails too, the status alone is left to tell it.
+    let _ = write_whole(err, &line);
+    Ok(UNUSABLE)
+}
+
 /// Looks at each file of a list of sums, and tells on `out` whether it has the sum of its line. Lines that
-/// are none of a sum are counted on `err`; where there is no other the list can't be used.
+/// are none of a sum are counted on `err`; where there is no other, that is told, and the list can't be used.
 pub(crate) fn check_list<'a, S: Shelf, R: Read, W: Write, E: Write>(
     shelf: &S,
     alloc: Global,
@@ -231,11 +246,11 @@ pub(crate) fn check_list<'a, S: Shelf, R: Read, W: Write, E: Write>(
         Ok(told) => told,
         Err(fault) => return Err(Refusal::Input(fault)),
     };
+    if told.proper == 0 {
+        return tell_none(list, bytes, err);
+    }
     if told.improper > 0 {
         let _ = writeln!(err, "yaml: lines that are no sums: {}", told.improper);
-    }
-    if told.proper == 0 {
-        return Ok(UNUSABLE);
     }
     Ok(told.worst)
 }

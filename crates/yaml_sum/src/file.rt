@@ -7,6 +7,7 @@ use crate::buffers::Buffers;
 use crate::digest::digest_of;
 use crate::line::make_line;
 use crate::reading::refill;
+use crate::regular::NOT_REGULAR;
 use crate::stop::Stop;
 use crate::telling::tell;
 use std::alloc::Global;
@@ -45,6 +46,7 @@ fn read_named<S: Shelf>(
     };
     let mut file = match shelf.open(text) {
         Ok(file) => file,
+        Err(error) if error.kind() == NOT_REGULAR => return Err(Stop::NotRegular),
         Err(_) => return Err(Stop::CannotOpen),
     };
     match refill(bytes, &mut file, limit) {

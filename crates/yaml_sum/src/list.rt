@@ -13,6 +13,7 @@ use yaml_command::shelf::Shelf;
 const LIST_LIMIT: usize = 1_073_741_824;
 
 /// Reads the list of a name, or standard input for `-`, into the buffer.
+#[tactic(auto, using(crate::proofs::SumLaws::not_opened))]
 pub(crate) fn read_list<'a, S: Shelf, R: Read>(
     shelf: &S,
     list: &'a str,
@@ -25,6 +26,8 @@ pub(crate) fn read_list<'a, S: Shelf, R: Read>(
     match read_file(shelf, list.as_bytes(), input, bytes, LIST_LIMIT) {
         Ok(()) => Ok(()),
         Err(Stop::CannotOpen) => Err(Refusal::CannotOpen(list)),
+        // A list is opened whatever it is.
+        Err(Stop::NotRegular) => Err(Refusal::CannotOpen(list)),
         Err(Stop::Refused(fault)) => Err(Refusal::Input(fault)),
     }
 }

@@ -3,6 +3,9 @@ use std::rt::Files;
 use std::{fs, io};
 use yaml_command::shelf::Shelf;
 
+/// The kind of the error of a file that is no regular file, by which it is told of. No call that opens a file answers it.
+pub(crate) const NOT_REGULAR: io::ErrorKind = io::ErrorKind::Unsupported;
+
 /// The regular files that a runtime opens, and the list that names them, of which nothing is known.
 ///
 /// What is no regular file is not opened: a pipe without a writer would be waited for for ever, and a
@@ -32,7 +35,7 @@ impl<T: Files> Shelf for Regular<'_, '_, T> {
 
     fn open(&self, name: &str) -> io::Result<T::File> {
         if !self.is_list(name) && !fs::metadata(self.rt, name)?.is_file() {
-            return Err(io::Error::from(io::ErrorKind::InvalidInput));
+            return Err(io::Error::from(NOT_REGULAR));
         }
         fs::open(self.rt, name)
     }

@@ -10,8 +10,10 @@ const UNUSABLE: u8 = 3;
 /// Why a file has no sum.
 #[derive(Clone, Copy)]
 pub(crate) enum Stop {
-    /// It can't be opened, or is no regular file.
+    /// It can't be opened.
     CannotOpen,
+    /// It is no regular file, and not opened.
+    NotRegular,
     /// It can't be read, or what it holds is refused.
     Refused(Fault),
 }
@@ -25,7 +27,7 @@ impl Stop {
         ensures { result ≡ stop_status self }
     {
         match self {
-            Stop::CannotOpen | Stop::Refused(Fault::ReadFault) => UNUSABLE,
+            Stop::CannotOpen | Stop::NotRegular | Stop::Refused(Fault::ReadFault) => UNUSABLE,
             Stop::Refused(_) => REFUSED,
         }
     }

@@ -35,6 +35,7 @@ fn push_reason(alloc: Global, line: &mut Vec<u8>, stop: Stop) -> Result<(), Faul
 {
     match stop {
         Stop::CannotOpen => push(line, b"cannot open\n"),
+        Stop::NotRegular => push(line, b"is no regular file\n"),
         Stop::Refused(fault) => {
             let text = fault_line(alloc, fault)?;
             push(line, &text[FRONT.len()..])

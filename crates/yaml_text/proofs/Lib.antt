@@ -9,3 +9,6 @@ pub mod LineRuns
 pub mod RestLemmas
 pub mod FrontLemmas
 pub mod AsciiRuns
+pub mod Classes
+pub mod TagRuns
+pub mod DirectiveRuns

@@ -7,8 +7,19 @@ use Rattle.yaml_definitions.specs.model.EventText.{IsSound, EventText}
 use Rattle.yaml_text.specs.Source.{text_of}
 use Rattle.yaml_definitions.specs.grammar.Reading.{Reads}
 use Rattle.yaml_definitions.proofs.MeaningLaws.{readings_have_text}
-use Rattle.yaml_event_text.proofs.Reading.{unread}
+use Rattle.yaml_event_text.proofs.Reading.{unread, some_is, lines_text}
 use Rattle.yaml_event_text.proofs.event_text.Goals as goal
+
+-- the lines that were written as the text was read
+pub returns-in-Some-clause-ok : goal.returns-in-Some-clause-ok
+returns-in-Some-clause-ok c =
+    let n = some_is _ c.in_ok-text.field-0 c.in-Some.text c.in-Some.is c.in_ok-text.ensures.ok in
+    lines_text c.args.bytes.now _ _ n.0 c.in_ok-source.ensures.read n.1 n.3
+
+pub returns-in_err-text-clause-err : goal.returns-in_err-text-clause-err
+returns-in_err-text-clause-err c =
+    let f = unread c.args.bytes.now _ c.in_err-text.field-0.0 c.in_ok-source.ensures.read c.in_err-text.ensures.err c.in_err-text.ensures.decides in
+    search (rules, f)
 
 -- what is read has an event text
 pub write_events-requires : goal.write_events-requires

@@ -8,8 +8,8 @@ ghost use Rattle.yaml_scalar.specs.BlockRules.{NoSpaceLine, Ready};
 ghost use Rattle.yaml_text.specs.Lines.{AfterLine};
 ghost use Rattle.yaml_scalar.specs.BlockModel.{LineIs};
 
-use crate::block::blanks::read_spaces;
 use crate::block::header::Header;
+use crate::line::read_spaces;
 use yaml_text::chars::Chars;
 use yaml_text::lines::{line_break, rest_of_line, skip_spaces, stands_mark};
 use yaml_text::places::next;

@@ -60,8 +60,8 @@ next_entry s handles line room k i after j es fs is e d body entry =
 
 -- ---- values
 
-pub read_value-returns-in-Some-clause-reads : goal.read_value-returns-in-Some-clause-reads
-read_value-returns-in-Some-clause-reads g t c =
+pub values::read_value-returns-in-Some-clause-reads : goal.values::read_value-returns-in-Some-clause-reads
+values::read_value-returns-in-Some-clause-reads g t c =
     let cs = text_of c.args.source.now in
     let h = handles_of c.args.handles in
     appends_by (λ _. line_rest cs (Unit {0}) h c.args.room c.args.col (context_of c.args.context)) (λ _. value_rest cs (Unit {0}) h c.args.room c.args.col (context_of c.args.context))
@@ -69,8 +69,8 @@ read_value-returns-in-Some-clause-reads g t c =
     (λ x es r. line_value cs (Unit {0}) h c.args.room c.args.col (context_of c.args.context) _ _ _ es c.requires.block
     (moved c.args.source.now _ _ _ c.line_at-line.ensures.start c.in-Some.ensures.some) r) c.read_below.ensures.reads
 
-pub read_value-returns-else-count-eq0-clause-reads : goal.read_value-returns-else-count-eq0-clause-reads
-read_value-returns-else-count-eq0-clause-reads g t c =
+pub values::read_value-returns-else-count-eq0-clause-reads : goal.values::read_value-returns-else-count-eq0-clause-reads
+values::read_value-returns-else-count-eq0-clause-reads g t c =
     let s = c.args.source.now in
     let cs = text_of s in
     let h = handles_of c.args.handles in
@@ -81,20 +81,20 @@ read_value-returns-else-count-eq0-clause-reads g t c =
     c.skip_spaces-count.ensures.spaces (omega (arith, c.if-count-eq0.false))
     (subst (λ o. node_rest cs (Unit {0}) h c.args.room c.args.col (context_of c.args.context) o (place_of s c.skip_spaces-count.result.1) (place_of s x.start) es) (column_none p) r)) c.read_node.ensures.reads
 
-pub read_value-returns-in-Some-clause-onward : goal.read_value-returns-in-Some-clause-onward
-read_value-returns-in-Some-clause-onward g t c =
+pub values::read_value-returns-in-Some-clause-onward : goal.values::read_value-returns-in-Some-clause-onward
+values::read_value-returns-in-Some-clause-onward g t c =
     if_ok (λ line. c.line_at-line.result.start ≤ line.start) (λ line. c.args.at ≤ line.start) c.read_below.result
     (λ x h. omega (arith, h, c.in-Some.ensures.onward, c.line_at-line.ensures.start)) c.read_below.ensures.onward
 
 -- ---- entries of a sequence
 
-pub read_indented-returns-in-Some-clause-onward : goal.read_indented-returns-in-Some-clause-onward
-read_indented-returns-in-Some-clause-onward g t c =
+pub values::read_indented-returns-in-Some-clause-onward : goal.values::read_indented-returns-in-Some-clause-onward
+values::read_indented-returns-in-Some-clause-onward g t c =
     if_ok (λ line. c.line_at-line.result.start ≤ line.start) (λ line. c.args.at ≤ line.start) c.read_below.result
     (λ x h. omega (arith, h, c.in-Some.ensures.onward, c.line_at-line.ensures.start)) c.read_below.ensures.onward
 
-pub read_indented-returns-in-Some-clause-reads : goal.read_indented-returns-in-Some-clause-reads
-read_indented-returns-in-Some-clause-reads g t c =
+pub values::read_indented-returns-in-Some-clause-reads : goal.values::read_indented-returns-in-Some-clause-reads
+values::read_indented-returns-in-Some-clause-reads g t c =
     let cs = text_of c.args.source.now in
     let h = handles_of c.args.handles in
     appends_by (λ _. line_rest cs (Unit {0}) h c.args.room (c.args.column + 1) block_in) (λ _. entry_rest cs (Unit {0}) h c.args.room c.args.column)
@@ -102,8 +102,8 @@ read_indented-returns-in-Some-clause-reads g t c =
     (λ x es r. line_entry cs (Unit {0}) h c.args.room c.args.column _ _ _ es
     (moved c.args.source.now _ _ _ c.line_at-line.ensures.start c.in-Some.ensures.some) r) c.read_below.ensures.reads
 
-pub read_indented-returns-in-Some-dash-clause-reads : goal.read_indented-returns-in-Some-dash-clause-reads
-read_indented-returns-in-Some-dash-clause-reads g t c =
+pub values::read_indented-returns-in-Some-dash-clause-reads : goal.values::read_indented-returns-in-Some-dash-clause-reads
+values::read_indented-returns-in-Some-dash-clause-reads g t c =
     let s = c.args.source.now in
     let cs = text_of s in
     let h = handles_of c.args.handles in
@@ -114,8 +114,8 @@ read_indented-returns-in-Some-dash-clause-reads g t c =
     c.skip_spaces-count.ensures.spaces (omega (arith, c.if-count-eq0.false))
     (subst (λ p. sequence_with cs (Unit {0}) h p c.args.room k (place_of s c.skip_spaces-count.result.1) (place_of s x.start) es) c.none-outer.ensures r)) c.read_sequence.ensures.reads
 
-pub read_indented-returns-in-None-dash-clause-reads : goal.read_indented-returns-in-None-dash-clause-reads
-read_indented-returns-in-None-dash-clause-reads g t c =
+pub values::read_indented-returns-in-None-dash-clause-reads : goal.values::read_indented-returns-in-None-dash-clause-reads
+values::read_indented-returns-in-None-dash-clause-reads g t c =
     let s = c.args.source.now in
     let cs = text_of s in
     let h = handles_of c.args.handles in
@@ -129,8 +129,8 @@ read_indented-returns-in-None-dash-clause-reads g t c =
 
 -- ---- lines below
 
-pub read_below-returns-else-line-sequence_column-clause-reads : goal.read_below-returns-else-line-sequence_column-clause-reads
-read_below-returns-else-line-sequence_column-clause-reads g t c =
+pub values::read_below-returns-else-line-sequence_column-clause-reads : goal.values::read_below-returns-else-line-sequence_column-clause-reads
+values::read_below-returns-else-line-sequence_column-clause-reads g t c =
     let s = c.args.source.now in
     let cs = text_of s in
     let h = handles_of c.args.handles in
@@ -148,8 +148,8 @@ read_below-returns-else-line-sequence_column-clause-reads g t c =
       ),
     ))) c.read_sequence.ensures.reads
 
-pub read_below-returns-else-line-col-clause-reads : goal.read_below-returns-else-line-col-clause-reads
-read_below-returns-else-line-col-clause-reads g t c =
+pub values::read_below-returns-else-line-col-clause-reads : goal.values::read_below-returns-else-line-col-clause-reads
+values::read_below-returns-else-line-col-clause-reads g t c =
     let s = c.args.source.now in
     let cs = text_of s in
     let h = handles_of c.args.handles in
@@ -168,40 +168,40 @@ read_below-returns-else-line-col-clause-reads g t c =
       ),
     )) c.read_node.ensures.reads
 
-pub read_below-returns-then-not-has_content-clause-reads : goal.read_below-returns-then-not-has_content-clause-reads
-read_below-returns-then-not-has_content-clause-reads g t c = (empty no_props, c.in_ok-push_empty.ensures.ok, inr (inr (refl, refl)))
+pub values::read_below-returns-then-not-has_content-clause-reads : goal.values::read_below-returns-then-not-has_content-clause-reads
+values::read_below-returns-then-not-has_content-clause-reads g t c = (empty no_props, c.in_ok-push_nothing.ensures.ok, inr (inr (refl, refl)))
 
-pub read_below-returns-then-line-sequence_column-clause-reads : goal.read_below-returns-then-line-sequence_column-clause-reads
-read_below-returns-then-line-sequence_column-clause-reads g t c = (empty no_props, c.in_ok-push_empty-in-Some.ensures.ok, inr (inr (refl, refl)))
+pub values::read_below-returns-then-line-sequence_column-clause-reads : goal.values::read_below-returns-then-line-sequence_column-clause-reads
+values::read_below-returns-then-line-sequence_column-clause-reads g t c = (empty no_props, c.in_ok-push_nothing-in-Some.ensures.ok, inr (inr (refl, refl)))
 
-pub read_below-returns-then-line-col-clause-reads : goal.read_below-returns-then-line-col-clause-reads
-read_below-returns-then-line-col-clause-reads g t c = (empty no_props, c.in_ok-push_empty-in-None.ensures.ok, inr (inr (refl, refl)))
+pub values::read_below-returns-then-line-col-clause-reads : goal.values::read_below-returns-then-line-col-clause-reads
+values::read_below-returns-then-line-col-clause-reads g t c = (empty no_props, c.in_ok-push_nothing-in-None.ensures.ok, inr (inr (refl, refl)))
 
 -- ---- lines below properties
 
-pub read_under-returns-then-not-has_content-clause-reads : goal.read_under-returns-then-not-has_content-clause-reads
-read_under-returns-then-not-has_content-clause-reads g t c = (
+pub values::read_under-returns-then-not-has_content-clause-reads : goal.values::read_under-returns-then-not-has_content-clause-reads
+values::read_under-returns-then-not-has_content-clause-reads g t c = (
   empty (props_of c.args.outer),
   c.in_ok-push_lone.ensures.ok,
   marked_nothing (text_of c.args.source.now) (Unit {0}) (handles_of c.args.handles) c.args.room c.args.col (context_of c.args.context) None _ _ _ (props_of c.args.outer) _ c.requires.marks c.requires.comments refl,
 )
 
-pub read_under-returns-then-line-sequence_column-clause-reads : goal.read_under-returns-then-line-sequence_column-clause-reads
-read_under-returns-then-line-sequence_column-clause-reads g t c = (
+pub values::read_under-returns-then-line-sequence_column-clause-reads : goal.values::read_under-returns-then-line-sequence_column-clause-reads
+values::read_under-returns-then-line-sequence_column-clause-reads g t c = (
   empty (props_of c.args.outer),
   c.in_ok-push_lone-in-Some.ensures.ok,
   marked_nothing (text_of c.args.source.now) (Unit {0}) (handles_of c.args.handles) c.args.room c.args.col (context_of c.args.context) None _ _ _ (props_of c.args.outer) _ c.requires.marks c.requires.comments refl,
 )
 
-pub read_under-returns-then-line-col-clause-reads : goal.read_under-returns-then-line-col-clause-reads
-read_under-returns-then-line-col-clause-reads g t c = (
+pub values::read_under-returns-then-line-col-clause-reads : goal.values::read_under-returns-then-line-col-clause-reads
+values::read_under-returns-then-line-col-clause-reads g t c = (
   empty (props_of c.args.outer),
   c.in_ok-push_lone-in-None.ensures.ok,
   marked_nothing (text_of c.args.source.now) (Unit {0}) (handles_of c.args.handles) c.args.room c.args.col (context_of c.args.context) None _ _ _ (props_of c.args.outer) _ c.requires.marks c.requires.comments refl,
 )
 
-pub read_under-read_node-requires : goal.read_under-read_node-requires
-read_under-read_node-requires g t c = λ κs l. (
+pub values::read_under-read_node-requires : goal.values::read_under-read_node-requires
+values::read_under-read_node-requires g t c = λ κs l. (
   omega arith,
   (
     l,
@@ -232,8 +232,8 @@ read_under-read_node-requires g t c = λ κs l. (
   ),
 )
 
-pub read_under-returns-else-line-sequence_column-clause-reads : goal.read_under-returns-else-line-sequence_column-clause-reads
-read_under-returns-else-line-sequence_column-clause-reads g t c =
+pub values::read_under-returns-else-line-sequence_column-clause-reads : goal.values::read_under-returns-else-line-sequence_column-clause-reads
+values::read_under-returns-else-line-sequence_column-clause-reads g t c =
     let s = c.args.source.now in
     let cs = text_of s in
     let h = handles_of c.args.handles in
@@ -242,8 +242,8 @@ read_under-returns-else-line-sequence_column-clause-reads g t c =
     (λ x es r. marked_sequence cs (Unit {0}) h c.args.room c.args.col c.args.line.column (context_of c.args.context) None _ _ _ _ _ (props_of c.args.outer) es c.requires.marks c.requires.comments
     (subst (λ n. n ≤ c.args.line.column) c.sequence_column.ensures c.if-line-sequence_column.false) c.requires.line.spaces r) c.read_sequence.ensures.reads
 
-pub read_under-returns-else-line-col-clause-reads : goal.read_under-returns-else-line-col-clause-reads
-read_under-returns-else-line-col-clause-reads g t c =
+pub values::read_under-returns-else-line-col-clause-reads : goal.values::read_under-returns-else-line-col-clause-reads
+values::read_under-returns-else-line-col-clause-reads g t c =
     let s = c.args.source.now in
     let cs = text_of s in
     let h = handles_of c.args.handles in
@@ -254,8 +254,8 @@ read_under-returns-else-line-col-clause-reads g t c =
 
 -- ---- sequences
 
-pub read_sequence-entries-init : goal.read_sequence-entries-init
-read_sequence-entries-init g t c =
+pub collections::read_sequence-entries-init : goal.collections::read_sequence-entries-init
+collections::read_sequence-entries-init g t c =
     let s = c.args.source.now in
     let cs = text_of s in
     let h = handles_of c.args.handles in
@@ -275,8 +275,8 @@ read_sequence-entries-init g t c =
       rest = seq_first cs h r c.args.column c.args.room (props_of c.args.properties) _ _ _ (omega (arith, c.if-room-eq0.false)) c.requires.dash.dash.next c.in_ok-line.ensures.decides;
     }
 
-pub read_sequence-returns-in-None-clause-reads : goal.read_sequence-returns-in-None-clause-reads
-read_sequence-returns-in-None-clause-reads g t c =
+pub collections::read_sequence-returns-in-None-clause-reads : goal.collections::read_sequence-returns-in-None-clause-reads
+collections::read_sequence-returns-in-None-clause-reads g t c =
     let v = c.entries.invariant.reads in
     let p = props_of c.args.properties in
     let e : c.args.room ≡ suc (c.args.room - 1) = omega (arith, c.if-room-eq0.false) in (
@@ -285,8 +285,8 @@ read_sequence-returns-in-None-clause-reads g t c =
       sequence_done (text_of c.args.source.now) (Unit {0}) (handles_of c.args.handles) p (c.args.room - 1) c.args.room c.args.column _ _ v.0 e v.2,
     )
 
-pub read_sequence-entries-preserved : goal.read_sequence-entries-preserved
-read_sequence-entries-preserved g t c =
+pub collections::read_sequence-entries-preserved : goal.collections::read_sequence-entries-preserved
+collections::read_sequence-entries-preserved g t c =
     let s = c.args.source.now in
     let v = c.entries.invariant in
     let n = c.in_ok-line-in-Some.ensures.reads in
@@ -308,8 +308,8 @@ read_sequence-entries-preserved g t c =
 
 -- ---- mappings
 
-pub read_entries-entries-init : goal.read_entries-entries-init
-read_entries-entries-init g t c =
+pub collections::read_entries-entries-init : goal.collections::read_entries-entries-init
+collections::read_entries-entries-init g t c =
     let cs = text_of c.args.source.now in
     let h = handles_of c.args.handles in
     let n = c.in_ok-line.ensures.reads in
@@ -321,8 +321,8 @@ read_entries-entries-init g t c =
       rest = map_first cs h c.args.room c.args.column _ _ c.in_ok-line.ensures.decides;
     }
 
-pub read_entries-entries-preserved : goal.read_entries-entries-preserved
-read_entries-entries-preserved g t c =
+pub collections::read_entries-entries-preserved : goal.collections::read_entries-entries-preserved
+collections::read_entries-entries-preserved g t c =
     let s = c.args.source.now in
     let cs = text_of s in
     let h = handles_of c.args.handles in
@@ -350,8 +350,8 @@ read_entries-entries-preserved g t c =
 
 -- ---- nodes
 
-pub read_node-read_dressed-requires : goal.read_node-read_dressed-requires
-read_node-read_dressed-requires g t c = λ κs l. (
+pub nodes::read_node-read_dressed-requires : goal.nodes::read_node-read_dressed-requires
+nodes::read_node-read_dressed-requires g t c = λ κs l. (
   omega arith,
   (
     l,
@@ -380,8 +380,8 @@ read_node-read_dressed-requires g t c = λ κs l. (
   ),
 )
 
-pub read_node-read_dressed-requires-in-None : goal.read_node-read_dressed-requires-in-None
-read_node-read_dressed-requires-in-None g t c = λ κs l. (
+pub nodes::read_node-read_dressed-requires-in-None : goal.nodes::read_node-read_dressed-requires-in-None
+nodes::read_node-read_dressed-requires-in-None g t c = λ κs l. (
   omega arith,
   (
     l,
@@ -410,8 +410,8 @@ read_node-read_dressed-requires-in-None g t c = λ κs l. (
   ),
 )
 
-pub read_node-read_under-requires : goal.read_node-read_under-requires
-read_node-read_under-requires g t c =
+pub nodes::read_node-read_under-requires : goal.nodes::read_node-read_under-requires
+nodes::read_node-read_under-requires g t c =
     let s = c.args.source.now in
     let cs = text_of s in
     let h = handles_of c.args.handles in
@@ -454,8 +454,8 @@ read_node-read_under-requires g t c =
       ),
     )
 
-pub read_node-returns-else-overlaps-clause-reads : goal.read_node-returns-else-overlaps-clause-reads
-read_node-returns-else-overlaps-clause-reads g t c =
+pub nodes::read_node-returns-else-overlaps-clause-reads : goal.nodes::read_node-returns-else-overlaps-clause-reads
+nodes::read_node-returns-else-overlaps-clause-reads g t c =
     let s = c.args.source.now in
     let cs = text_of s in
     let h = handles_of c.args.handles in
@@ -464,8 +464,8 @@ read_node-returns-else-overlaps-clause-reads g t c =
     (place_of s c.args.from) (place_of s c.args.from) (λ line. place_of s line.start) (holds_of g.K.Keeper.holds) _ _ c.read_under.result
     (λ x es r. any_column cs (Unit {0}) h c.args.room c.args.col (context_of c.args.context) o _ _ es r) c.read_under.ensures.reads
 
-pub read_dressed-returns-in_ok-line-in-Some-clause-reads : goal.read_dressed-returns-in_ok-line-in-Some-clause-reads
-read_dressed-returns-in_ok-line-in-Some-clause-reads g t c =
+pub nodes::read_dressed-returns-in_ok-line-in-Some-clause-reads : goal.nodes::read_dressed-returns-in_ok-line-in-Some-clause-reads
+nodes::read_dressed-returns-in_ok-line-in-Some-clause-reads g t c =
     let s = c.args.source.now in
     let cs = text_of s in
     let h = handles_of c.args.handles in
@@ -480,12 +480,12 @@ read_dressed-returns-in_ok-line-in-Some-clause-reads g t c =
           (subst (λ x. block_scalar_rest cs x c.args.col (place_of s c.in-Some.first) (place_of s c.in_ok-line-in-Some.line.start) n.0) c.and-both.ensures n.2),
     )
 
-pub read_keyed-read_bare-requires-clause-own : goal.read_keyed-read_bare-requires-clause-own
-read_keyed-read_bare-requires-clause-own g t c =
+pub nodes::read_keyed-read_bare-requires-clause-own : goal.nodes::read_keyed-read_bare-requires-clause-own
+nodes::read_keyed-read_bare-requires-clause-own g t c =
     line_own (text_of c.args.source.now) (handles_of c.args.handles) c.args.col _ _ _ c.requires.own
 
-pub read_keyed-returns-in_ok-line-in-None-clause-reads : goal.read_keyed-returns-in_ok-line-in-None-clause-reads
-read_keyed-returns-in_ok-line-in-None-clause-reads g t c =
+pub nodes::read_keyed-returns-in_ok-line-in-None-clause-reads : goal.nodes::read_keyed-returns-in_ok-line-in-None-clause-reads
+nodes::read_keyed-returns-in_ok-line-in-None-clause-reads g t c =
     let s = c.args.source.now in
     let cs = text_of s in
     let h = handles_of c.args.handles in
@@ -499,8 +499,8 @@ read_keyed-returns-in_ok-line-in-None-clause-reads g t c =
           c.requires.outer c.requires.own k.2 c.in_ok-node.ensures.within n.apart n.bears n.comments,
     )
 
-pub read_keyed-returns-in_ok-push_mapping_end-in-Some-clause-reads : goal.read_keyed-returns-in_ok-push_mapping_end-in-Some-clause-reads
-read_keyed-returns-in_ok-push_mapping_end-in-Some-clause-reads g t c =
+pub nodes::read_keyed-returns-in_ok-push_mapping_end-in-Some-clause-reads : goal.nodes::read_keyed-returns-in_ok-push_mapping_end-in-Some-clause-reads
+nodes::read_keyed-returns-in_ok-push_mapping_end-in-Some-clause-reads g t c =
     let s = c.args.source.now in
     let cs = text_of s in
     let h = handles_of c.args.handles in
@@ -531,8 +531,8 @@ read_keyed-returns-in_ok-push_mapping_end-in-Some-clause-reads g t c =
 
 -- ---- what the calls decide
 
-pub read_value-read_below-requires : goal.read_value-read_below-requires
-read_value-read_below-requires g t c =
+pub values::read_value-read_below-requires : goal.values::read_value-read_below-requires
+values::read_value-read_below-requires g t c =
     let s = c.args.source.now in λ κs l. (
       omega arith,
       (
@@ -547,14 +547,14 @@ read_value-read_below-requires g t c =
       ),
     )
 
-pub read_value-returns-then-count-eq0-clause-decides : goal.read_value-returns-then-count-eq0-clause-decides
-read_value-returns-then-count-eq0-clause-decides g t c =
+pub values::read_value-returns-then-count-eq0-clause-decides : goal.values::read_value-returns-then-count-eq0-clause-decides
+values::read_value-returns-then-count-eq0-clause-decides g t c =
     let s = c.args.source.now in
     inr (value_gap (text_of s) (handles_of c.args.handles) c.args.room c.args.col (context_of c.args.context) c.requires.block (place_of s c.args.at) c.skip_spaces-count.result.0 (place_of s c.skip_spaces-count.result.1)
     c.in-None.ensures.none c.skip_spaces-count.ensures.spaces c.skip_spaces-count.ensures.furthest c.if-count-eq0.true)
 
-pub read_value-returns-in-Some-clause-decides : goal.read_value-returns-in-Some-clause-decides
-read_value-returns-in-Some-clause-decides g t c =
+pub values::read_value-returns-in-Some-clause-decides : goal.values::read_value-returns-in-Some-clause-decides
+values::read_value-returns-in-Some-clause-decides g t c =
     let s = c.args.source.now in
     let cs = text_of s in
     let h = handles_of c.args.handles in
@@ -564,8 +564,8 @@ read_value-returns-in-Some-clause-decides g t c =
     Here (λ line. place_of s line.start) c.read_below.result
     (value_below cs h c.args.room c.args.col x c.requires.block _ _ c.line_at-line.result.column _ (moved s _ _ _ c.line_at-line.ensures.start c.in-Some.ensures.some) line.stuck line.spaces line.all c.requires.inside) c.read_below.ensures.decides
 
-pub read_value-returns-else-count-eq0-clause-decides : goal.read_value-returns-else-count-eq0-clause-decides
-read_value-returns-else-count-eq0-clause-decides g t c =
+pub values::read_value-returns-else-count-eq0-clause-decides : goal.values::read_value-returns-else-count-eq0-clause-decides
+values::read_value-returns-else-count-eq0-clause-decides g t c =
     let s = c.args.source.now in
     let cs = text_of s in
     let h = handles_of c.args.handles in
@@ -576,8 +576,8 @@ read_value-returns-else-count-eq0-clause-decides g t c =
     (value_beside cs h c.args.room c.args.col x c.requires.block _ c.skip_spaces-count.result.0 _ c.in-None.ensures.none c.skip_spaces-count.ensures.spaces c.skip_spaces-count.ensures.furthest)
     (subst (λ o. Decides (node_rest cs (Unit {0}) h c.args.room c.args.col x o) (AfterNode cs c.args.col x) (place_of s c.skip_spaces-count.result.1) Here (λ line. place_of s line.start) c.read_node.result) (column_none p) c.read_node.ensures.decides)
 
-pub read_indented-read_below-requires : goal.read_indented-read_below-requires
-read_indented-read_below-requires g t c =
+pub values::read_indented-read_below-requires : goal.values::read_indented-read_below-requires
+values::read_indented-read_below-requires g t c =
     let s = c.args.source.now in λ κs l. (
       omega arith,
       (
@@ -592,13 +592,13 @@ read_indented-read_below-requires g t c =
       ),
     )
 
-pub read_indented-returns-then-count-eq0-clause-decides : goal.read_indented-returns-then-count-eq0-clause-decides
-read_indented-returns-then-count-eq0-clause-decides g t c =
+pub values::read_indented-returns-then-count-eq0-clause-decides : goal.values::read_indented-returns-then-count-eq0-clause-decides
+values::read_indented-returns-then-count-eq0-clause-decides g t c =
     let s = c.args.source.now in
     inr (entry_gap (text_of s) (handles_of c.args.handles) c.args.room c.args.column _ c.skip_spaces-count.result.0 _ c.in-None.ensures.none c.skip_spaces-count.ensures.spaces c.skip_spaces-count.ensures.furthest c.if-count-eq0.true)
 
-pub read_indented-returns-in-Some-clause-decides : goal.read_indented-returns-in-Some-clause-decides
-read_indented-returns-in-Some-clause-decides g t c =
+pub values::read_indented-returns-in-Some-clause-decides : goal.values::read_indented-returns-in-Some-clause-decides
+values::read_indented-returns-in-Some-clause-decides g t c =
     let s = c.args.source.now in
     let cs = text_of s in
     let h = handles_of c.args.handles in
@@ -609,8 +609,8 @@ read_indented-returns-in-Some-clause-decides g t c =
     Here (λ line. place_of s line.start) c.read_below.result
     (rest_rest (entry_value cs h c.args.room k _ _ c.requires.inside over) (value_below cs h c.args.room (k + 1) block_in tt _ _ c.line_at-line.result.column _ over line.stuck line.spaces line.all (inl c.requires.inside))) c.read_below.ensures.decides
 
-pub read_indented-returns-in-Some-dash-clause-decides : goal.read_indented-returns-in-Some-dash-clause-decides
-read_indented-returns-in-Some-dash-clause-decides g t c =
+pub values::read_indented-returns-in-Some-dash-clause-decides : goal.values::read_indented-returns-in-Some-dash-clause-decides
+values::read_indented-returns-in-Some-dash-clause-decides g t c =
     let s = c.args.source.now in
     let cs = text_of s in
     let h = handles_of c.args.handles in
@@ -621,8 +621,8 @@ read_indented-returns-in-Some-dash-clause-decides g t c =
     (entry_dash cs h c.args.room k _ n _ c.in-None.ensures.none c.skip_spaces-count.ensures.spaces c.skip_spaces-count.ensures.furthest (dash_here s _ _ c.in-Some-dash.ensures.some))
     (subst (λ p. Decides (sequence_with cs (Unit {0}) h p c.args.room (k + 1 + n)) (AfterSequence cs (k + 1 + n)) i Here (λ line. place_of s line.start) c.read_sequence.result) c.none-outer.ensures c.read_sequence.ensures.decides)
 
-pub read_indented-returns-in-None-dash-clause-decides : goal.read_indented-returns-in-None-dash-clause-decides
-read_indented-returns-in-None-dash-clause-decides g t c =
+pub values::read_indented-returns-in-None-dash-clause-decides : goal.values::read_indented-returns-in-None-dash-clause-decides
+values::read_indented-returns-in-None-dash-clause-decides g t c =
     let s = c.args.source.now in
     let cs = text_of s in
     let h = handles_of c.args.handles in
@@ -636,28 +636,28 @@ read_indented-returns-in-None-dash-clause-decides g t c =
 
 -- ---- lines below
 
-pub read_below-returns-then-not-has_content-clause-decides : goal.read_below-returns-then-not-has_content-clause-decides
-read_below-returns-then-not-has_content-clause-decides g t c =
+pub values::read_below-returns-then-not-has_content-clause-decides : goal.values::read_below-returns-then-not-has_content-clause-decides
+values::read_below-returns-then-not-has_content-clause-decides g t c =
     let s = c.args.source.now in
     let line = c.requires.line in
     lines_over (text_of s) (handles_of c.args.handles) c.args.room c.args.col (context_of c.args.context) c.requires.block _ c.args.line.column _ line.spaces line.all line.stuck
     (no_content s c.args.line line c.requires.after (on_false_at c.has_content.result c.if-not-has_content.true c.has_content.ensures.no))
 
-pub read_below-returns-then-line-sequence_column-clause-decides : goal.read_below-returns-then-line-sequence_column-clause-decides
-read_below-returns-then-line-sequence_column-clause-decides g t c =
+pub values::read_below-returns-then-line-sequence_column-clause-decides : goal.values::read_below-returns-then-line-sequence_column-clause-decides
+values::read_below-returns-then-line-sequence_column-clause-decides g t c =
     let s = c.args.source.now in
     let line = c.requires.line in
     lines_dash_short (text_of s) (handles_of c.args.handles) c.args.room c.args.col (context_of c.args.context) c.requires.block _ c.args.line.column _ line.spaces line.all line.stuck
     (dash_here s _ _ c.in-Some.ensures.some) (subst (λ n. c.args.line.column < n) c.sequence_column.ensures c.if-line-sequence_column.true)
 
-pub read_below-returns-then-line-col-clause-decides : goal.read_below-returns-then-line-col-clause-decides
-read_below-returns-then-line-col-clause-decides g t c =
+pub values::read_below-returns-then-line-col-clause-decides : goal.values::read_below-returns-then-line-col-clause-decides
+values::read_below-returns-then-line-col-clause-decides g t c =
     let s = c.args.source.now in
     let line = c.requires.line in
     lines_short (text_of s) (handles_of c.args.handles) c.args.room c.args.col (context_of c.args.context) c.requires.block _ c.args.line.column _ line.spaces line.all line.stuck c.in-None.ensures.none c.if-line-col.true
 
-pub read_below-returns-else-line-sequence_column-clause-decides : goal.read_below-returns-else-line-sequence_column-clause-decides
-read_below-returns-else-line-sequence_column-clause-decides g t c =
+pub values::read_below-returns-else-line-sequence_column-clause-decides : goal.values::read_below-returns-else-line-sequence_column-clause-decides
+values::read_below-returns-else-line-sequence_column-clause-decides g t c =
     let s = c.args.source.now in
     let cs = text_of s in
     let h = handles_of c.args.handles in
@@ -669,8 +669,8 @@ read_below-returns-else-line-sequence_column-clause-decides g t c =
     (lines_dash cs h c.args.room c.args.col x c.requires.block _ k _ line.spaces line.all line.stuck (dash_here s _ _ c.in-Some.ensures.some) (subst (λ n. n ≤ k) c.sequence_column.ensures c.if-line-sequence_column.false))
     (subst (λ p. Decides (sequence_with cs (Unit {0}) h p c.args.room k) (AfterSequence cs k) i Here (λ line. place_of s line.start) c.read_sequence.result) c.none-outer.ensures c.read_sequence.ensures.decides)
 
-pub read_below-returns-else-line-col-clause-decides : goal.read_below-returns-else-line-col-clause-decides
-read_below-returns-else-line-col-clause-decides g t c =
+pub values::read_below-returns-else-line-col-clause-decides : goal.values::read_below-returns-else-line-col-clause-decides
+values::read_below-returns-else-line-col-clause-decides g t c =
     let s = c.args.source.now in
     let cs = text_of s in
     let h = handles_of c.args.handles in
@@ -686,29 +686,29 @@ read_below-returns-else-line-col-clause-decides g t c =
 
 -- ---- lines below properties
 
-pub read_under-returns-then-not-has_content-clause-decides : goal.read_under-returns-then-not-has_content-clause-decides
-read_under-returns-then-not-has_content-clause-decides g t c =
+pub values::read_under-returns-then-not-has_content-clause-decides : goal.values::read_under-returns-then-not-has_content-clause-decides
+values::read_under-returns-then-not-has_content-clause-decides g t c =
     let s = c.args.source.now in
     let line = c.requires.line in
     under_over (text_of s) (handles_of c.args.handles) c.args.room c.args.col (context_of c.args.context) c.requires.block (props_of c.args.outer) _ _ _ c.args.line.column _ c.requires.above c.requires.comments line.stuck line.spaces line.all
     (no_content s c.args.line line c.requires.after (on_false_at c.has_content.result c.if-not-has_content.true c.has_content.ensures.no))
 
-pub read_under-returns-then-line-sequence_column-clause-decides : goal.read_under-returns-then-line-sequence_column-clause-decides
-read_under-returns-then-line-sequence_column-clause-decides g t c =
+pub values::read_under-returns-then-line-sequence_column-clause-decides : goal.values::read_under-returns-then-line-sequence_column-clause-decides
+values::read_under-returns-then-line-sequence_column-clause-decides g t c =
     let s = c.args.source.now in
     let line = c.requires.line in
     under_dash_short (text_of s) (handles_of c.args.handles) c.args.room c.args.col (context_of c.args.context) c.requires.block (props_of c.args.outer) _ _ _ c.args.line.column _ c.requires.above c.requires.comments line.stuck line.spaces line.all
     (dash_here s _ _ c.in-Some.ensures.some) (subst (λ n. c.args.line.column < n) c.sequence_column.ensures c.if-line-sequence_column.true)
 
-pub read_under-returns-then-line-col-clause-decides : goal.read_under-returns-then-line-col-clause-decides
-read_under-returns-then-line-col-clause-decides g t c =
+pub values::read_under-returns-then-line-col-clause-decides : goal.values::read_under-returns-then-line-col-clause-decides
+values::read_under-returns-then-line-col-clause-decides g t c =
     let s = c.args.source.now in
     let line = c.requires.line in
     under_short (text_of s) (handles_of c.args.handles) c.args.room c.args.col (context_of c.args.context) c.requires.block (props_of c.args.outer) _ _ _ c.args.line.column _ c.requires.above c.requires.comments line.stuck line.spaces line.all
     c.in-None.ensures.none c.if-line-col.true
 
-pub read_under-returns-else-line-sequence_column-clause-decides : goal.read_under-returns-else-line-sequence_column-clause-decides
-read_under-returns-else-line-sequence_column-clause-decides g t c =
+pub values::read_under-returns-else-line-sequence_column-clause-decides : goal.values::read_under-returns-else-line-sequence_column-clause-decides
+values::read_under-returns-else-line-sequence_column-clause-decides g t c =
     let s = c.args.source.now in
     let cs = text_of s in
     let h = handles_of c.args.handles in
@@ -720,8 +720,8 @@ read_under-returns-else-line-sequence_column-clause-decides g t c =
     (under_dash cs h c.args.room c.args.col x c.requires.block (props_of c.args.outer) _ _ _ k _ c.requires.above c.requires.comments line.stuck line.spaces line.all (dash_here s _ _ c.in-Some.ensures.some)
     (subst (λ n. n ≤ k) c.sequence_column.ensures c.if-line-sequence_column.false)) c.read_sequence.ensures.decides
 
-pub read_under-returns-else-line-col-clause-decides : goal.read_under-returns-else-line-col-clause-decides
-read_under-returns-else-line-col-clause-decides g t c =
+pub values::read_under-returns-else-line-col-clause-decides : goal.values::read_under-returns-else-line-col-clause-decides
+values::read_under-returns-else-line-col-clause-decides g t c =
     let s = c.args.source.now in
     let cs = text_of s in
     let h = handles_of c.args.handles in
@@ -731,8 +731,8 @@ read_under-returns-else-line-col-clause-decides g t c =
 
 -- ---- sequences
 
-pub read_sequence-read_indented-requires : goal.read_sequence-read_indented-requires
-read_sequence-read_indented-requires g t c = λ κs l. (
+pub collections::read_sequence-read_indented-requires : goal.collections::read_sequence-read_indented-requires
+collections::read_sequence-read_indented-requires g t c = λ κs l. (
   omega (arith, c.if-room-eq0.false),
   (
     l,
@@ -740,8 +740,8 @@ read_sequence-read_indented-requires g t c = λ κs l. (
   ),
 )
 
-pub read_sequence-returns-in_err-line-clause-decides : goal.read_sequence-returns-in_err-line-clause-decides
-read_sequence-returns-in_err-line-clause-decides g t c =
+pub collections::read_sequence-returns-in_err-line-clause-decides : goal.collections::read_sequence-returns-in_err-line-clause-decides
+collections::read_sequence-returns-in_err-line-clause-decides g t c =
     let s = c.args.source.now in
     let cs = text_of s in
     let h = handles_of c.args.handles in
@@ -750,11 +750,11 @@ read_sequence-returns-in_err-line-clause-decides g t c =
     decides_err (sequence_with cs (Unit {0}) h p c.args.room k) (AfterSequence cs k) (place_of s c.args.at) Here (λ line. place_of s line.start) c.from_residual-in_err-line.result _ c.from_residual-in_err-line.ensures.1
     (or_else (seq_no_first cs h (c.args.room - 1) k c.args.room p _ _ (omega (arith, c.if-room-eq0.false)) c.requires.dash.dash.next) c.in_err-line.ensures.decides)
 
-pub read_sequence-next_dash-requires-clause-after : goal.read_sequence-next_dash-requires-clause-after
-read_sequence-next_dash-requires-clause-after g t c = c.entries.invariant.after
+pub collections::read_sequence-next_dash-requires-clause-after : goal.collections::read_sequence-next_dash-requires-clause-after
+collections::read_sequence-next_dash-requires-clause-after g t c = c.entries.invariant.after
 
-pub read_sequence-returns-in_err-next_dash-clause-decides : goal.read_sequence-returns-in_err-next_dash-clause-decides
-read_sequence-returns-in_err-next_dash-clause-decides g t c =
+pub collections::read_sequence-returns-in_err-next_dash-clause-decides : goal.collections::read_sequence-returns-in_err-next_dash-clause-decides
+collections::read_sequence-returns-in_err-next_dash-clause-decides g t c =
     let s = c.args.source.now in
     let cs = text_of s in
     let h = handles_of c.args.handles in
@@ -763,11 +763,11 @@ read_sequence-returns-in_err-next_dash-clause-decides g t c =
     decides_err (sequence_with cs (Unit {0}) h (props_of c.args.properties) c.args.room k) (AfterSequence cs k) (place_of s c.args.at) Here (λ line. place_of s line.start) c.from_residual-in_err-next_dash.result _ c.from_residual-in_err-next_dash.ensures.1
     (inr (rest_refused v.rest (seq_further s h (c.args.room - 1) c.entries.line k v.line c.in_err-next_dash.ensures.further)))
 
-pub read_sequence-returns-in-None-clause-after : goal.read_sequence-returns-in-None-clause-after
-read_sequence-returns-in-None-clause-after g t c = c.entries.invariant.after
+pub collections::read_sequence-returns-in-None-clause-after : goal.collections::read_sequence-returns-in-None-clause-after
+collections::read_sequence-returns-in-None-clause-after g t c = c.entries.invariant.after
 
-pub read_sequence-returns-in-None-clause-decides : goal.read_sequence-returns-in-None-clause-decides
-read_sequence-returns-in-None-clause-decides g t c =
+pub collections::read_sequence-returns-in-None-clause-decides : goal.collections::read_sequence-returns-in-None-clause-decides
+collections::read_sequence-returns-in-None-clause-decides g t c =
     let s = c.args.source.now in
     let cs = text_of s in
     let k = c.args.column in
@@ -775,8 +775,8 @@ read_sequence-returns-in-None-clause-decides g t c =
     let none = none_is (Dash cs k (place_of s c.entries.line.start) → ⊥) c.in_ok-next_dash.field-0 c.in-None.is c.in_ok-next_dash.ensures.none in
     rest_goes v.rest (seq_done cs (handles_of c.args.handles) (c.args.room - 1) k _ v.line.stuck none)
 
-pub read_sequence-read_indented-requires-in-Some : goal.read_sequence-read_indented-requires-in-Some
-read_sequence-read_indented-requires-in-Some g t c =
+pub collections::read_sequence-read_indented-requires-in-Some : goal.collections::read_sequence-read_indented-requires-in-Some
+collections::read_sequence-read_indented-requires-in-Some g t c =
     let s = c.args.source.now in
     let v = c.entries.invariant in
     let d = found_is (IsDash s c.entries.line.first) c.in_ok-next_dash.field-0 c.in-Some.after c.in-Some.is c.in_ok-next_dash.ensures.dash in λ κs l. (
@@ -787,8 +787,8 @@ read_sequence-read_indented-requires-in-Some g t c =
       ),
     )
 
-pub read_sequence-returns-in_err-line-in-Some-clause-decides : goal.read_sequence-returns-in_err-line-in-Some-clause-decides
-read_sequence-returns-in_err-line-in-Some-clause-decides g t c =
+pub collections::read_sequence-returns-in_err-line-in-Some-clause-decides : goal.collections::read_sequence-returns-in_err-line-in-Some-clause-decides
+collections::read_sequence-returns-in_err-line-in-Some-clause-decides g t c =
     let s = c.args.source.now in
     let cs = text_of s in
     let h = handles_of c.args.handles in
@@ -802,8 +802,8 @@ read_sequence-returns-in_err-line-in-Some-clause-decides g t c =
 
 -- ---- mappings
 
-pub read_entries-returns-in_err-line-clause-decides : goal.read_entries-returns-in_err-line-clause-decides
-read_entries-returns-in_err-line-clause-decides g t c =
+pub collections::read_entries-returns-in_err-line-clause-decides : goal.collections::read_entries-returns-in_err-line-clause-decides
+collections::read_entries-returns-in_err-line-clause-decides g t c =
     let s = c.args.source.now in
     let cs = text_of s in
     let h = handles_of c.args.handles in
@@ -811,11 +811,11 @@ read_entries-returns-in_err-line-clause-decides g t c =
     decides_err (entries_rest cs (Unit {0}) h c.args.room k) (AfterMapping cs k) (place_of s c.args.after) Here (λ line. place_of s line.start) c.from_residual.result _ c.from_residual.ensures.1
     (or_else (map_no_first cs h c.args.room k _) c.in_err-line.ensures.decides)
 
-pub read_entries-goes_on-requires-clause-after : goal.read_entries-goes_on-requires-clause-after
-read_entries-goes_on-requires-clause-after g t c = c.entries.invariant.after
+pub collections::read_entries-goes_on-requires-clause-after : goal.collections::read_entries-goes_on-requires-clause-after
+collections::read_entries-goes_on-requires-clause-after g t c = c.entries.invariant.after
 
-pub read_entries-returns-in_err-goes_on-clause-decides : goal.read_entries-returns-in_err-goes_on-clause-decides
-read_entries-returns-in_err-goes_on-clause-decides g t c =
+pub collections::read_entries-returns-in_err-goes_on-clause-decides : goal.collections::read_entries-returns-in_err-goes_on-clause-decides
+collections::read_entries-returns-in_err-goes_on-clause-decides g t c =
     let s = c.args.source.now in
     let cs = text_of s in
     let h = handles_of c.args.handles in
@@ -824,17 +824,17 @@ read_entries-returns-in_err-goes_on-clause-decides g t c =
     decides_err (entries_rest cs (Unit {0}) h c.args.room k) (AfterMapping cs k) (place_of s c.args.after) Here (λ line. place_of s line.start) c.from_residual-in_err-goes_on.result _ c.from_residual-in_err-goes_on.ensures.1
     (inr (rest_refused v.rest (map_further s h c.args.room c.entries.line k v.line c.in_err-goes_on.ensures.further)))
 
-pub read_entries-returns-then-not-branch-clause-after : goal.read_entries-returns-then-not-branch-clause-after
-read_entries-returns-then-not-branch-clause-after g t c = c.entries.invariant.after
+pub collections::read_entries-returns-then-not-branch-clause-after : goal.collections::read_entries-returns-then-not-branch-clause-after
+collections::read_entries-returns-then-not-branch-clause-after g t c = c.entries.invariant.after
 
-pub read_entries-returns-then-not-branch-clause-decides : goal.read_entries-returns-then-not-branch-clause-decides
-read_entries-returns-then-not-branch-clause-decides g t c =
+pub collections::read_entries-returns-then-not-branch-clause-decides : goal.collections::read_entries-returns-then-not-branch-clause-decides
+collections::read_entries-returns-then-not-branch-clause-decides g t c =
     let s = c.args.source.now in
     let v = c.entries.invariant in
     rest_goes v.rest (map_done (text_of s) (handles_of c.args.handles) c.args.room c.args.column _ v.line.stuck (on_false_at c.in_ok-goes_on.field-0 c.if-not-branch.true c.in_ok-goes_on.ensures.over))
 
-pub read_entries-returns-in_err-colon-clause-decides : goal.read_entries-returns-in_err-colon-clause-decides
-read_entries-returns-in_err-colon-clause-decides g t c =
+pub collections::read_entries-returns-in_err-colon-clause-decides : goal.collections::read_entries-returns-in_err-colon-clause-decides
+collections::read_entries-returns-in_err-colon-clause-decides g t c =
     let s = c.args.source.now in
     let cs = text_of s in
     let h = handles_of c.args.handles in
@@ -845,8 +845,8 @@ read_entries-returns-in_err-colon-clause-decides g t c =
     decides_err (entries_rest cs (Unit {0}) h c.args.room k) (AfterMapping cs k) (place_of s c.args.after) Here (λ line. place_of s line.start) c.from_residual-in_err-colon.result _ c.from_residual-in_err-colon.ensures.1
     (or_else (λ n. rest_refused v.rest (map_no_key cs h c.args.room k _ _ (same_line s h c.args.room c.entries.line k v.line e) v.line.stuck (not_less s h c.args.room c.entries.line k v.line e some.0 some.1) n)) c.in_err-colon.ensures.decides)
 
-pub read_entries-read_value-requires-in-entries : goal.read_entries-read_value-requires-in-entries
-read_entries-read_value-requires-in-entries g t c =
+pub collections::read_entries-read_value-requires-in-entries : goal.collections::read_entries-read_value-requires-in-entries
+collections::read_entries-read_value-requires-in-entries g t c =
     let s = c.args.source.now in
     let v = c.entries.invariant in
     let k = c.in_ok-colon.ensures.reads in
@@ -864,8 +864,8 @@ read_entries-read_value-requires-in-entries g t c =
       ),
     )
 
-pub read_entries-returns-in_err-line-2-clause-decides : goal.read_entries-returns-in_err-line-2-clause-decides
-read_entries-returns-in_err-line-2-clause-decides g t c =
+pub collections::read_entries-returns-in_err-line-2-clause-decides : goal.collections::read_entries-returns-in_err-line-2-clause-decides
+collections::read_entries-returns-in_err-line-2-clause-decides g t c =
     let s = c.args.source.now in
     let cs = text_of s in
     let h = handles_of c.args.handles in
@@ -878,8 +878,8 @@ read_entries-returns-in_err-line-2-clause-decides g t c =
 
 -- ---- nodes
 
-pub read_node-returns-in_err-own-clause-decides : goal.read_node-returns-in_err-own-clause-decides
-read_node-returns-in_err-own-clause-decides g t c =
+pub nodes::read_node-returns-in_err-own-clause-decides : goal.nodes::read_node-returns-in_err-own-clause-decides
+nodes::read_node-returns-in_err-own-clause-decides g t c =
     let s = c.args.source.now in
     let cs = text_of s in
     let h = handles_of c.args.handles in
@@ -888,8 +888,8 @@ read_node-returns-in_err-own-clause-decides g t c =
     decides_err (node_rest cs (Unit {0}) h c.args.room c.args.col x (column_of p c.args.column)) (AfterNode cs c.args.col x) (place_of s c.args.from) Here (λ line. place_of s line.start) c.from_residual.result _ c.from_residual.ensures.1
     (or_else (barred cs h c.args.room c.args.col x c.requires.block c.args.column _ _ p c.requires.outer) c.in_err-own.ensures.barred)
 
-pub read_node-returns-then-overlaps-clause-decides : goal.read_node-returns-then-overlaps-clause-decides
-read_node-returns-then-overlaps-clause-decides g t c =
+pub nodes::read_node-returns-then-overlaps-clause-decides : goal.nodes::read_node-returns-then-overlaps-clause-decides
+nodes::read_node-returns-then-overlaps-clause-decides g t c =
     let s = c.args.source.now in
     let cs = text_of s in
     let h = handles_of c.args.handles in
@@ -898,8 +898,8 @@ read_node-returns-then-overlaps-clause-decides g t c =
     inr (over_clash cs h c.args.room c.args.col (context_of c.args.context) c.requires.block c.args.column _ _ (props_of c.args.outer) _ _ q (places_up s _ _ c.requires.border c.in_ok-own.ensures.border c.in_ok-own.ensures.onward)
     (own_marks cs h 0 block_key _ _ q c.in_ok-own.ensures.own some) c.in_ok-own.ensures.all c.in-Some.ensures.some c.requires.outer (on_true_at c.overlaps.result c.if-overlaps.true c.overlaps.ensures.yes))
 
-pub read_node-returns-else-overlaps-clause-decides : goal.read_node-returns-else-overlaps-clause-decides
-read_node-returns-else-overlaps-clause-decides g t c =
+pub nodes::read_node-returns-else-overlaps-clause-decides : goal.nodes::read_node-returns-else-overlaps-clause-decides
+nodes::read_node-returns-else-overlaps-clause-decides g t c =
     let s = c.args.source.now in
     let cs = text_of s in
     let h = handles_of c.args.handles in
@@ -912,8 +912,8 @@ read_node-returns-else-overlaps-clause-decides g t c =
     (over_left cs h c.args.room c.args.col x c.requires.block c.args.column _ _ p _ _ q (places_up s _ _ c.requires.border c.in_ok-own.ensures.border c.in_ok-own.ensures.onward)
     (own_marks cs h 0 block_key _ _ q c.in_ok-own.ensures.own some) c.in_ok-own.ensures.all c.in-Some.ensures.some c.requires.outer) c.read_under.ensures.decides
 
-pub read_dressed-read_keyed-requires : goal.read_dressed-read_keyed-requires
-read_dressed-read_keyed-requires g t c = λ κs l. (
+pub nodes::read_dressed-read_keyed-requires : goal.nodes::read_dressed-read_keyed-requires
+nodes::read_dressed-read_keyed-requires g t c = λ κs l. (
   omega arith,
   (
     l,
@@ -939,15 +939,15 @@ read_dressed-read_keyed-requires g t c = λ κs l. (
   ),
 )
 
-pub read_dressed-returns-then-overlaps-clause-decides : goal.read_dressed-returns-then-overlaps-clause-decides
-read_dressed-returns-then-overlaps-clause-decides g t c =
+pub nodes::read_dressed-returns-then-overlaps-clause-decides : goal.nodes::read_dressed-returns-then-overlaps-clause-decides
+nodes::read_dressed-returns-then-overlaps-clause-decides g t c =
     let s = c.args.source.now in
     let cs = text_of s in
     inr (signed_clash cs (handles_of c.args.handles) c.args.room c.args.col (context_of c.args.context) c.requires.block c.args.column _ _ (props_of c.args.outer) _ (props_of c.args.own) c.requires.all c.requires.goes_on c.requires.own _
     c.requires.outer c.in-Some.ensures.follows (sign_of cs _ _ c.in-Some.ensures.sign) (on_true_at c.overlaps.result c.if-overlaps.true c.overlaps.ensures.yes))
 
-pub read_dressed-returns-in_err-line-in-Some-clause-decides : goal.read_dressed-returns-in_err-line-in-Some-clause-decides
-read_dressed-returns-in_err-line-in-Some-clause-decides g t c =
+pub nodes::read_dressed-returns-in_err-line-in-Some-clause-decides : goal.nodes::read_dressed-returns-in_err-line-in-Some-clause-decides
+nodes::read_dressed-returns-in_err-line-in-Some-clause-decides g t c =
     let s = c.args.source.now in
     let cs = text_of s in
     let h = handles_of c.args.handles in
@@ -958,8 +958,8 @@ read_dressed-returns-in_err-line-in-Some-clause-decides g t c =
     decides_err (node_rest cs (Unit {0}) h c.args.room c.args.col x (column_of p c.args.column)) (AfterNode cs c.args.col x) (place_of s c.args.from) Here (λ line. place_of s line.start) c.from_residual.result _ c.from_residual.ensures.1
     (or_else (scalar_none cs c.args.col x _ _ _ properties_left.0 (props_of c.and-both.result) properties_left.1) c.in_err-line-in-Some.ensures.decides)
 
-pub read_dressed-returns-in_ok-line-in-Some-clause-decides : goal.read_dressed-returns-in_ok-line-in-Some-clause-decides
-read_dressed-returns-in_ok-line-in-Some-clause-decides g t c =
+pub nodes::read_dressed-returns-in_ok-line-in-Some-clause-decides : goal.nodes::read_dressed-returns-in_ok-line-in-Some-clause-decides
+nodes::read_dressed-returns-in_ok-line-in-Some-clause-decides g t c =
     let s = c.args.source.now in
     let cs = text_of s in
     let h = handles_of c.args.handles in
@@ -971,17 +971,17 @@ read_dressed-returns-in_ok-line-in-Some-clause-decides g t c =
 
 -- ---- keys and flow nodes
 
-pub read_keyed-read_bare-requires-clause-all : goal.read_keyed-read_bare-requires-clause-all
-read_keyed-read_bare-requires-clause-all g t c = line_all (text_of c.args.source.now) (handles_of c.args.handles) c.args.col flow_out _ _ _ c.requires.goes_on c.requires.all
+pub nodes::read_keyed-read_bare-requires-clause-all : goal.nodes::read_keyed-read_bare-requires-clause-all
+nodes::read_keyed-read_bare-requires-clause-all g t c = line_all (text_of c.args.source.now) (handles_of c.args.handles) c.args.col flow_out _ _ _ c.requires.goes_on c.requires.all
 
-pub read_keyed-fit_key-requires-clause-own : goal.read_keyed-fit_key-requires-clause-own
-read_keyed-fit_key-requires-clause-own g t c = line_own (text_of c.args.source.now) (handles_of c.args.handles) c.args.col _ _ _ c.requires.own
+pub nodes::read_keyed-fit_key-requires-clause-own : goal.nodes::read_keyed-fit_key-requires-clause-own
+nodes::read_keyed-fit_key-requires-clause-own g t c = line_own (text_of c.args.source.now) (handles_of c.args.handles) c.args.col _ _ _ c.requires.own
 
-pub read_keyed-fit_key-requires-clause-all : goal.read_keyed-fit_key-requires-clause-all
-read_keyed-fit_key-requires-clause-all g t c = line_all (text_of c.args.source.now) (handles_of c.args.handles) c.args.col flow_out _ _ _ c.requires.goes_on c.requires.all
+pub nodes::read_keyed-fit_key-requires-clause-all : goal.nodes::read_keyed-fit_key-requires-clause-all
+nodes::read_keyed-fit_key-requires-clause-all g t c = line_all (text_of c.args.source.now) (handles_of c.args.handles) c.args.col flow_out _ _ _ c.requires.goes_on c.requires.all
 
-pub read_keyed-returns-in_err-node-clause-decides : goal.read_keyed-returns-in_err-node-clause-decides
-read_keyed-returns-in_err-node-clause-decides g t c =
+pub nodes::read_keyed-returns-in_err-node-clause-decides : goal.nodes::read_keyed-returns-in_err-node-clause-decides
+nodes::read_keyed-returns-in_err-node-clause-decides g t c =
     let s = c.args.source.now in
     let cs = text_of s in
     let h = handles_of c.args.handles in
@@ -991,8 +991,8 @@ read_keyed-returns-in_err-node-clause-decides g t c =
     decides_err (node_rest cs (Unit {0}) h c.args.room c.args.col x (column_of p c.args.column)) (AfterNode cs c.args.col x) (place_of s c.args.from) Here (λ line. place_of s line.start) c.from_residual.result _ c.from_residual.ensures.1
     (or_else (λ n. rest_refused whole (kept_refused cs h c.args.room c.args.col x c.requires.block _ p c.args.column n)) (c.in_err-node.ensures.decides (λ _. c.requires.goes_on)))
 
-pub read_keyed-returns-in_err-first_colon-clause-decides : goal.read_keyed-returns-in_err-first_colon-clause-decides
-read_keyed-returns-in_err-first_colon-clause-decides g t c =
+pub nodes::read_keyed-returns-in_err-first_colon-clause-decides : goal.nodes::read_keyed-returns-in_err-first_colon-clause-decides
+nodes::read_keyed-returns-in_err-first_colon-clause-decides g t c =
     let s = c.args.source.now in
     let cs = text_of s in
     let h = handles_of c.args.handles in
@@ -1008,8 +1008,8 @@ read_keyed-returns-in_err-first_colon-clause-decides g t c =
     decides_err (node_rest cs (Unit {0}) h c.args.room c.args.col x (column_of p c.args.column)) (AfterNode cs c.args.col x) (place_of s c.args.from) Here (λ line. place_of s line.start) c.from_residual-in_err-first_colon.result _ c.from_residual-in_err-first_colon.ensures.1
     (inr (rest_refused whole (kept_neither cs h c.args.room c.args.col x c.requires.block _ _ node.kind (c.in_ok-node.ensures.decides (λ _. c.requires.goes_on)) p c.args.column inside long.0 long.1)))
 
-pub read_keyed-returns-in_err-line-in-None-clause-decides : goal.read_keyed-returns-in_err-line-in-None-clause-decides
-read_keyed-returns-in_err-line-in-None-clause-decides g t c =
+pub nodes::read_keyed-returns-in_err-line-in-None-clause-decides : goal.nodes::read_keyed-returns-in_err-line-in-None-clause-decides
+nodes::read_keyed-returns-in_err-line-in-None-clause-decides g t c =
     let s = c.args.source.now in
     let cs = text_of s in
     let h = handles_of c.args.handles in
@@ -1021,8 +1021,8 @@ read_keyed-returns-in_err-line-in-None-clause-decides g t c =
     decides_err (node_rest cs (Unit {0}) h c.args.room c.args.col x (column_of p c.args.column)) (AfterNode cs c.args.col x) (place_of s c.args.from) Here (λ line. place_of s line.start) c.from_residual-in_err-line-in-None.result _ c.from_residual-in_err-line-in-None.ensures.1
     (inr (unfit_none cs h c.args.room c.args.col x c.requires.block c.args.column _ _ p _ q c.requires.all c.requires.goes_on c.requires.own c.requires.outer c.requires.no_scalar _ node.kind (c.in_ok-node.ensures.decides (λ _. c.requires.goes_on)) no_key c.in_err-line-in-None.ensures.unfit))
 
-pub read_keyed-returns-in_ok-line-in-None-clause-decides : goal.read_keyed-returns-in_ok-line-in-None-clause-decides
-read_keyed-returns-in_ok-line-in-None-clause-decides g t c =
+pub nodes::read_keyed-returns-in_ok-line-in-None-clause-decides : goal.nodes::read_keyed-returns-in_ok-line-in-None-clause-decides
+nodes::read_keyed-returns-in_ok-line-in-None-clause-decides g t c =
     let s = c.args.source.now in
     let cs = text_of s in
     let h = handles_of c.args.handles in
@@ -1034,14 +1034,14 @@ read_keyed-returns-in_ok-line-in-None-clause-decides g t c =
     let whole = kept cs h c.args.room c.args.col x c.requires.block c.args.column _ _ p _ (props_of c.args.own) c.requires.all c.requires.goes_on c.requires.own c.requires.outer c.requires.no_scalar in
     rest_goes whole (kept_line cs h c.args.room c.args.col x c.requires.block _ _ node.kind (c.in_ok-node.ensures.decides (λ _. c.requires.goes_on)) p c.args.column _ no_key n.comments n.line.stuck)
 
-pub read_keyed-overflow_sub-room : goal.read_keyed-overflow_sub-room
-read_keyed-overflow_sub-room g t c =
+pub nodes::read_keyed-overflow_sub-room : goal.nodes::read_keyed-overflow_sub-room
+nodes::read_keyed-overflow_sub-room g t c =
     let k = c.in_ok-node.ensures.reads in
     let fit = c.in_ok-fit_key-in-Some.ensures.reads k.0 k.2 in
     omega (arith, fit.3)
 
-pub read_keyed-returns-in_err-fit_key-in-Some-clause-decides : goal.read_keyed-returns-in_err-fit_key-in-Some-clause-decides
-read_keyed-returns-in_err-fit_key-in-Some-clause-decides g t c =
+pub nodes::read_keyed-returns-in_err-fit_key-in-Some-clause-decides : goal.nodes::read_keyed-returns-in_err-fit_key-in-Some-clause-decides
+nodes::read_keyed-returns-in_err-fit_key-in-Some-clause-decides g t c =
     let s = c.args.source.now in
     let cs = text_of s in
     let h = handles_of c.args.handles in
@@ -1058,8 +1058,8 @@ read_keyed-returns-in_err-fit_key-in-Some-clause-decides g t c =
     (or_else (λ n. rest_refused (rest_rest whole (kept_keyed cs h c.args.room c.args.col x c.requires.block _ _ node.kind (c.in_ok-node.ensures.decides (λ _. c.requires.goes_on)) p c.args.column inside (colon_stands cs _ _ _ colon)))
     (keyed_none_below cs h c.args.room c.args.col x c.requires.block p c.args.column _ (AfterNode cs c.args.col x) n)) c.in_err-fit_key-in-Some.ensures.decides)
 
-pub read_keyed-read_entries-requires : goal.read_keyed-read_entries-requires
-read_keyed-read_entries-requires g t c =
+pub nodes::read_keyed-read_entries-requires : goal.nodes::read_keyed-read_entries-requires
+nodes::read_keyed-read_entries-requires g t c =
     let s = c.args.source.now in
     let cs = text_of s in
     let k = c.in_ok-node.ensures.reads in
@@ -1077,8 +1077,8 @@ read_keyed-read_entries-requires g t c =
       ),
     )
 
-pub read_keyed-returns-in_err-line-in-Some-clause-decides : goal.read_keyed-returns-in_err-line-in-Some-clause-decides
-read_keyed-returns-in_err-line-in-Some-clause-decides g t c =
+pub nodes::read_keyed-returns-in_err-line-in-Some-clause-decides : goal.nodes::read_keyed-returns-in_err-line-in-Some-clause-decides
+nodes::read_keyed-returns-in_err-line-in-Some-clause-decides g t c =
     let s = c.args.source.now in
     let cs = text_of s in
     let h = handles_of c.args.handles in
@@ -1097,8 +1097,8 @@ read_keyed-returns-in_err-line-in-Some-clause-decides g t c =
     decides_err (node_rest cs (Unit {0}) h c.args.room c.args.col x (column_of p c.args.column)) (AfterNode cs c.args.col x) (place_of s c.args.from) Here (λ line. place_of s line.start) c.from_residual-in_err-line-in-Some.result _ c.from_residual-in_err-line-in-Some.ensures.1
     (or_else (rest_refused rest) c.in_err-line-in-Some.ensures.decides)
 
-pub read_keyed-returns-in_ok-push_mapping_end-in-Some-clause-decides : goal.read_keyed-returns-in_ok-push_mapping_end-in-Some-clause-decides
-read_keyed-returns-in_ok-push_mapping_end-in-Some-clause-decides g t c =
+pub nodes::read_keyed-returns-in_ok-push_mapping_end-in-Some-clause-decides : goal.nodes::read_keyed-returns-in_ok-push_mapping_end-in-Some-clause-decides
+nodes::read_keyed-returns-in_ok-push_mapping_end-in-Some-clause-decides g t c =
     let s = c.args.source.now in
     let cs = text_of s in
     let h = handles_of c.args.handles in

@@ -17,35 +17,35 @@ use Rattle.yaml_block.proofs.BlockLemmas.{seq_entry_at, map_entry_at}
 use Rattle.yaml_block.specs.OuterRules.{properties_left}
 use Rattle.yaml_block.proofs.block.+blocks.Given as goal
 
-abbrev pub decreases-read_sequence : goal.decreases-read_sequence
-decreases-read_sequence g l = 16 * l.room
+abbrev pub decreases-collections::read_sequence : goal.decreases-collections::read_sequence
+decreases-collections::read_sequence g l = 16 * l.room
 
-abbrev pub decreases-read_keyed : goal.decreases-read_keyed
-decreases-read_keyed g l = 16 * l.room
+abbrev pub decreases-nodes::read_keyed : goal.decreases-nodes::read_keyed
+decreases-nodes::read_keyed g l = 16 * l.room
 
-abbrev pub decreases-read_dressed : goal.decreases-read_dressed
-decreases-read_dressed g l = 16 * l.room + 1
+abbrev pub decreases-nodes::read_dressed : goal.decreases-nodes::read_dressed
+decreases-nodes::read_dressed g l = 16 * l.room + 1
 
-abbrev pub decreases-read_node : goal.decreases-read_node
-decreases-read_node g l = 16 * l.room + (4 * properties_left (props_of l.outer) + 2)
+abbrev pub decreases-nodes::read_node : goal.decreases-nodes::read_node
+decreases-nodes::read_node g l = 16 * l.room + (4 * properties_left (props_of l.outer) + 2)
 
-abbrev pub decreases-read_under : goal.decreases-read_under
-decreases-read_under g l = 16 * l.room + (4 * properties_left (props_of l.outer) + 3)
+abbrev pub decreases-values::read_under : goal.decreases-values::read_under
+decreases-values::read_under g l = 16 * l.room + (4 * properties_left (props_of l.outer) + 3)
 
-abbrev pub decreases-read_below : goal.decreases-read_below
-decreases-read_below g l = 16 * l.room + 12
+abbrev pub decreases-values::read_below : goal.decreases-values::read_below
+decreases-values::read_below g l = 16 * l.room + 12
 
-abbrev pub decreases-read_value : goal.decreases-read_value
-decreases-read_value g l = 16 * l.room + 13
+abbrev pub decreases-values::read_value : goal.decreases-values::read_value
+decreases-values::read_value g l = 16 * l.room + 13
 
-abbrev pub decreases-read_indented : goal.decreases-read_indented
-decreases-read_indented g l = 16 * l.room + 13
+abbrev pub decreases-values::read_indented : goal.decreases-values::read_indented
+decreases-values::read_indented g l = 16 * l.room + 13
 
-abbrev pub decreases-read_entries : goal.decreases-read_entries
-decreases-read_entries g l = 16 * l.room + 14
+abbrev pub decreases-collections::read_entries : goal.decreases-collections::read_entries
+decreases-collections::read_entries g l = 16 * l.room + 14
 
-abbrev pub invariant-read_sequence-entries : goal.invariant-read_sequence-entries
-invariant-read_sequence-entries g l =
+abbrev pub invariant-collections::read_sequence-entries : goal.invariant-collections::read_sequence-entries
+invariant-collections::read_sequence-entries g l =
     record {
       line : IsLine l.source l.line;
       onward : l.at < l.line.start;
@@ -56,11 +56,11 @@ invariant-read_sequence-entries g l =
           (any (indent (text_of l.source) l.column ▸ seq_entry_at (text_of l.source) (Unit {0}) (handles_of l.handles) (l.room - 1) l.column)) (AfterSequence (text_of l.source) l.column) (place_of l.source l.line.start);
     }
 
-abbrev pub decreases-read_sequence-entries : goal.decreases-read_sequence-entries
-decreases-read_sequence-entries g l = length (bytes_of l.source) - l.line.start
+abbrev pub decreases-collections::read_sequence-entries : goal.decreases-collections::read_sequence-entries
+decreases-collections::read_sequence-entries g l = length (bytes_of l.source) - l.line.start
 
-abbrev pub invariant-read_entries-entries : goal.invariant-read_entries-entries
-invariant-read_entries-entries g l =
+abbrev pub invariant-collections::read_entries-entries : goal.invariant-collections::read_entries-entries
+invariant-collections::read_entries-entries g l =
     record {
       line : IsLine l.source l.line;
       onward : l.after ≤ l.line.start;
@@ -71,5 +71,5 @@ invariant-read_entries-entries g l =
           (any (indent (text_of l.source) l.column ▸ map_entry_at (text_of l.source) (Unit {0}) (handles_of l.handles) l.room l.column)) (AfterMapping (text_of l.source) l.column) (place_of l.source l.line.start);
     }
 
-abbrev pub decreases-read_entries-entries : goal.decreases-read_entries-entries
-decreases-read_entries-entries g l = length (bytes_of l.source) - l.line.start
+abbrev pub decreases-collections::read_entries-entries : goal.decreases-collections::read_entries-entries
+decreases-collections::read_entries-entries g l = length (bytes_of l.source) - l.line.start

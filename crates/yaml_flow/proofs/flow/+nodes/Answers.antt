@@ -40,8 +40,8 @@ from_same a b R i j es e p room le = p room (subst (λ x. x ≤ room) e le)
 
 -- ---- items
 
-pub read_items-items-init : goal.read_items-items-init
-read_items-items-init g t c =
+pub sequence::read_items-items-init : goal.sequence::read_items-items-init
+sequence::read_items-items-init g t c =
     let cs = text_of c.args.source.now in
     record {
       border = c.requires.border;
@@ -51,15 +51,15 @@ read_items-items-init g t c =
       left = λ e. all_left cs c.args.least _ 93 _;
     }
 
-pub read_items-returns-in-Some-clause-reads : goal.read_items-returns-in-Some-clause-reads
-read_items-returns-in-Some-clause-reads g t c =
+pub sequence::read_items-returns-in-Some-clause-reads : goal.sequence::read_items-returns-in-Some-clause-reads
+sequence::read_items-returns-in-Some-clause-reads g t c =
     let cs = text_of c.args.source.now in
     let v = c.items.invariant.reads in
     let s = c.in-Some.ensures.some in
     (v.0, v.1, parts_end cs c.args.least (context_of c.args.context) (λ room. item_at cs (Unit {0}) (handles_of c.args.handles) room c.args.least (context_of c.args.context)) c.items.most _ _ 93 _ v.0 v.2 (s.is, s.next))
 
-pub read_items-returns-in-Some-accept-clause-reads : goal.read_items-returns-in-Some-accept-clause-reads
-read_items-returns-in-Some-accept-clause-reads g t c =
+pub sequence::read_items-returns-in-Some-accept-clause-reads : goal.sequence::read_items-returns-in-Some-accept-clause-reads
+sequence::read_items-returns-in-Some-accept-clause-reads g t c =
     let cs = text_of c.args.source.now in
     let v = c.items.invariant.reads in
     let n = c.in_ok-item-in-None.ensures.reads in
@@ -70,8 +70,8 @@ read_items-returns-in-Some-accept-clause-reads g t c =
           (part_end cs c.args.least (context_of c.args.context) (λ room. item_at cs (Unit {0}) (handles_of c.args.handles) room c.args.least (context_of c.args.context)) c.items.most c.in_ok-item-in-None.deep _ _ _ _ 93 _ v.0 n.0 v.2 n.2 c.in_ok-after-in-None.ensures.separate (s.is, s.next)),
     )
 
-pub read_items-items-preserved : goal.read_items-items-preserved
-read_items-items-preserved g t c =
+pub sequence::read_items-items-preserved : goal.sequence::read_items-items-preserved
+sequence::read_items-items-preserved g t c =
     let cs = text_of c.args.source.now in
     let v = c.items.invariant in
     let n = c.in_ok-item-in-None.ensures.reads in
@@ -95,8 +95,8 @@ read_items-items-preserved g t c =
 
 -- ---- entries
 
-pub read_entries-entries-init : goal.read_entries-entries-init
-read_entries-entries-init g t c =
+pub mapping::read_entries-entries-init : goal.mapping::read_entries-entries-init
+mapping::read_entries-entries-init g t c =
     let cs = text_of c.args.source.now in
     record {
       border = c.requires.border;
@@ -106,15 +106,15 @@ read_entries-entries-init g t c =
       left = λ e. all_left cs c.args.least _ 125 _;
     }
 
-pub read_entries-returns-in-Some-clause-reads : goal.read_entries-returns-in-Some-clause-reads
-read_entries-returns-in-Some-clause-reads g t c =
+pub mapping::read_entries-returns-in-Some-clause-reads : goal.mapping::read_entries-returns-in-Some-clause-reads
+mapping::read_entries-returns-in-Some-clause-reads g t c =
     let cs = text_of c.args.source.now in
     let v = c.entries.invariant.reads in
     let s = c.in-Some.ensures.some in
     (v.0, v.1, parts_end cs c.args.least (context_of c.args.context) (λ room. entry_at cs (Unit {0}) (handles_of c.args.handles) room c.args.least (context_of c.args.context)) c.entries.most _ _ 125 _ v.0 v.2 (s.is, s.next))
 
-pub read_entries-returns-in-Some-accept-clause-reads : goal.read_entries-returns-in-Some-accept-clause-reads
-read_entries-returns-in-Some-accept-clause-reads g t c =
+pub mapping::read_entries-returns-in-Some-accept-clause-reads : goal.mapping::read_entries-returns-in-Some-accept-clause-reads
+mapping::read_entries-returns-in-Some-accept-clause-reads g t c =
     let cs = text_of c.args.source.now in
     let v = c.entries.invariant.reads in
     let n = c.in_ok-entry-in-None.ensures.reads in
@@ -125,8 +125,8 @@ read_entries-returns-in-Some-accept-clause-reads g t c =
           (part_end cs c.args.least (context_of c.args.context) (λ room. entry_at cs (Unit {0}) (handles_of c.args.handles) room c.args.least (context_of c.args.context)) c.entries.most c.in_ok-entry-in-None.deep _ _ _ _ 125 _ v.0 n.0 v.2 n.2 c.in_ok-after-in-None.ensures.separate (s.is, s.next)),
     )
 
-pub read_entries-entries-preserved : goal.read_entries-entries-preserved
-read_entries-entries-preserved g t c =
+pub mapping::read_entries-entries-preserved : goal.mapping::read_entries-entries-preserved
+mapping::read_entries-entries-preserved g t c =
     let cs = text_of c.args.source.now in
     let v = c.entries.invariant in
     let n = c.in_ok-entry-in-None.ensures.reads in
@@ -148,8 +148,8 @@ read_entries-entries-preserved g t c =
           _ _ (v.left e) c.in-None.ensures.none _ (c.in_ok-entry-in-None.ensures.decides e) _ (to_in cs c.args.least _ _ _ e c.in_ok-after-in-None.ensures.to) s.is _ s.next _ (to_in cs c.args.least _ _ _ e h.to);
     }
 
-pub read_key_entry-returns-in_ok-push_empty-in-None-clause-reads : goal.read_key_entry-returns-in_ok-push_empty-in-None-clause-reads
-read_key_entry-returns-in_ok-push_empty-in-None-clause-reads g t c =
+pub entries::read_key_entry-returns-in_ok-push_empty-in-None-clause-reads : goal.entries::read_key_entry-returns-in_ok-push_empty-in-None-clause-reads
+entries::read_key_entry-returns-in_ok-push_empty-in-None-clause-reads g t c =
     let cs = text_of c.args.source.now in
     let k = c.in_ok-key.ensures.reads in (
       k.0 ++ empty no_props,
@@ -157,8 +157,8 @@ read_key_entry-returns-in_ok-push_empty-in-None-clause-reads g t c =
       lone_entry cs (Unit {0}) (handles_of c.args.handles) c.in_ok-key.key.deep c.in_ok-key.key.kind c.args.least (context_of c.args.context) _ _ k.0 k.2,
     )
 
-pub read_key_entry-returns-in_ok-end-in-Some-clause-reads : goal.read_key_entry-returns-in_ok-end-in-Some-clause-reads
-read_key_entry-returns-in_ok-end-in-Some-clause-reads g t c =
+pub entries::read_key_entry-returns-in_ok-end-in-Some-clause-reads : goal.entries::read_key_entry-returns-in_ok-end-in-Some-clause-reads
+entries::read_key_entry-returns-in_ok-end-in-Some-clause-reads g t c =
     let cs = text_of c.args.source.now in
     let k = c.in_ok-key.ensures.reads in
     let v = c.in_ok-end-in-Some.ensures.reads in (
@@ -172,8 +172,8 @@ read_key_entry-returns-in_ok-end-in-Some-clause-reads g t c =
 
 -- ---- collections
 
-pub read_sequence-returns-clause-reads : goal.read_sequence-returns-clause-reads
-read_sequence-returns-clause-reads g t c =
+pub sequence::read_sequence-returns-clause-reads : goal.sequence::read_sequence-returns-clause-reads
+sequence::read_sequence-returns-clause-reads g t c =
     let cs = text_of c.args.source.now in
     let n = c.in_ok-end.ensures.reads in
     let b = c.requires.bracket in (
@@ -185,8 +185,8 @@ read_sequence-returns-clause-reads g t c =
           (subst (λ x. from_room c.in_ok-end.deep (λ room. parts cs c.args.least x 93 (item_at cs (Unit {0}) (handles_of c.args.handles) room c.args.least x)) (place_of c.args.source.now c.in_ok-first.first) (place_of c.args.source.now c.in_ok-end.end) n.0) c.inner.ensures.context n.2),
     )
 
-pub read_mapping-returns-clause-reads : goal.read_mapping-returns-clause-reads
-read_mapping-returns-clause-reads g t c =
+pub mapping::read_mapping-returns-clause-reads : goal.mapping::read_mapping-returns-clause-reads
+mapping::read_mapping-returns-clause-reads g t c =
     let cs = text_of c.args.source.now in
     let n = c.in_ok-end.ensures.reads in
     let b = c.requires.bracket in (
@@ -200,13 +200,13 @@ read_mapping-returns-clause-reads g t c =
 
 -- ---- values
 
-pub read_value-returns-then-not-is_parted-clause-reads : goal.read_value-returns-then-not-is_parted-clause-reads
-read_value-returns-then-not-is_parted-clause-reads g t c =
+pub entries::read_value-returns-then-not-is_parted-clause-reads : goal.entries::read_value-returns-then-not-is_parted-clause-reads
+entries::read_value-returns-then-not-is_parted-clause-reads g t c =
     let s = c.requires.colon in
     (empty no_props, c.in_ok-push_empty.ensures.ok, no_value (text_of c.args.source.now) (Unit {0}) (handles_of c.args.handles) c.args.kind c.args.least (context_of c.args.context) _ _ (s.is, s.next) c.requires.sign)
 
-pub read_value-returns-clause-reads : goal.read_value-returns-clause-reads
-read_value-returns-clause-reads g t c =
+pub entries::read_value-returns-clause-reads : goal.entries::read_value-returns-clause-reads
+entries::read_value-returns-clause-reads g t c =
     let s = c.requires.colon in
     let n = c.in_ok-value.ensures.reads in (
       n.0,
@@ -215,15 +215,15 @@ read_value-returns-clause-reads g t c =
           (on_true_at c.is_parted.result c.if-not-is_parted.false c.is_parted.ensures.yes) c.in_ok-start.ensures.separate c.in_ok-start.ensures.apart n.2,
     )
 
-pub read_value-returns-then-ends_value-clause-reads : goal.read_value-returns-then-ends_value-clause-reads
-read_value-returns-then-ends_value-clause-reads g t c =
+pub entries::read_value-returns-then-ends_value-clause-reads : goal.entries::read_value-returns-then-ends_value-clause-reads
+entries::read_value-returns-then-ends_value-clause-reads g t c =
     let s = c.requires.colon in
     (empty no_props, c.in_ok-push_empty-2.ensures.ok, no_value (text_of c.args.source.now) (Unit {0}) (handles_of c.args.handles) c.args.kind c.args.least (context_of c.args.context) _ _ (s.is, s.next) c.requires.sign)
 
 -- ---- nodes
 
-pub read_flow_node-returns-clause-reads : goal.read_flow_node-returns-clause-reads
-read_flow_node-returns-clause-reads g t c =
+pub nodes::read_flow_node-returns-clause-reads : goal.nodes::read_flow_node-returns-clause-reads
+nodes::read_flow_node-returns-clause-reads g t c =
     let cs = text_of c.args.source.now in
     let h = handles_of c.args.handles in
     let n = c.in_ok-node.ensures.reads in
@@ -234,12 +234,12 @@ read_flow_node-returns-clause-reads g t c =
       bare_flow cs (Unit {0}) h c.in_ok-node.node.deep c.in_ok-node.node.kind c.args.least (context_of c.args.context) p _ _ _ n.0 n.2,
     )
 
-pub read_flow_node-read_bare-requires : goal.read_flow_node-read_bare-requires
-read_flow_node-read_bare-requires g t c = λ κs l. (omega arith, (l, (c.requires.border, (c.in_ok-own.ensures.border, (c.in_ok-own.ensures.onward, (c.in_ok-own.ensures.own, (c.in_ok-own.ensures.all, c.requires.low)))))))
+pub nodes::read_flow_node-read_bare-requires : goal.nodes::read_flow_node-read_bare-requires
+nodes::read_flow_node-read_bare-requires g t c = λ κs l. (omega arith, (l, (c.requires.border, (c.in_ok-own.ensures.border, (c.in_ok-own.ensures.onward, (c.in_ok-own.ensures.own, (c.in_ok-own.ensures.all, c.requires.low)))))))
 
 -- an alias
-pub read_bare-returns-in-Some-clause-reads : goal.read_bare-returns-in-Some-clause-reads
-read_bare-returns-in-Some-clause-reads g t c =
+pub nodes::read_bare-returns-in-Some-clause-reads : goal.nodes::read_bare-returns-in-Some-clause-reads
+nodes::read_bare-returns-in-Some-clause-reads g t c =
     let cs = text_of c.args.source.now in
     let h = handles_of c.args.handles in
     let p = props_of c.args.own.now in
@@ -248,14 +248,14 @@ read_bare-returns-in-Some-clause-reads g t c =
     (place_of c.args.source.now c.args.at) (place_of c.args.source.now c.args.at) (λ node. place_of c.args.source.now node.end) (holds_of g.K.Keeper.holds) _ _ c.read_alias.result
     (λ node es (k, (x, a, e)). aliased x a e none k) c.read_alias.ensures.reads
 
-pub read_bare-returns-in-Some-2-clause-reads : goal.read_bare-returns-in-Some-2-clause-reads
-read_bare-returns-in-Some-2-clause-reads g t c =
+pub nodes::read_bare-returns-in-Some-2-clause-reads : goal.nodes::read_bare-returns-in-Some-2-clause-reads
+nodes::read_bare-returns-in-Some-2-clause-reads g t c =
     let none = on_true_at c.is_none.result c.if-is_none.true c.is_none.ensures.yes in
     let n = perhaps_some (λ node. content_from (text_of c.args.source.now) (Unit {0}) (handles_of c.args.handles) node.deep node.kind c.args.least (context_of c.args.context)) _ (λ node. place_of c.args.source.now node.end) _ _ _ _ c.in-Some-2.is c.in_ok-node.ensures.reads in
     (n.0, n.1, plainly none n.2)
 
-pub read_bare-returns-in-Some-3-clause-reads : goal.read_bare-returns-in-Some-3-clause-reads
-read_bare-returns-in-Some-3-clause-reads g t c =
+pub nodes::read_bare-returns-in-Some-3-clause-reads : goal.nodes::read_bare-returns-in-Some-3-clause-reads
+nodes::read_bare-returns-in-Some-3-clause-reads g t c =
     let cs = text_of c.args.source.now in
     let h = handles_of c.args.handles in
     let some = on_false_at c.is_none.result c.if-is_none.false c.is_none.ensures.no in
@@ -263,8 +263,8 @@ read_bare-returns-in-Some-3-clause-reads g t c =
     (n.0, n.1, with_properties _ (own_marks cs h c.args.least (context_of c.args.context) _ _ _ c.requires.own some) (c.in_ok-start.ensures.apart (omega (arith, c.in_ok-start.ensures.onward, c.if-start-end.false))) n.2)
 
 -- properties alone
-pub read_bare-returns-then-start-end-clause-reads : goal.read_bare-returns-then-start-end-clause-reads
-read_bare-returns-then-start-end-clause-reads g t c =
+pub nodes::read_bare-returns-then-start-end-clause-reads : goal.nodes::read_bare-returns-then-start-end-clause-reads
+nodes::read_bare-returns-then-start-end-clause-reads g t c =
     let cs = text_of c.args.source.now in
     let h = handles_of c.args.handles in
     let s = c.args.source.now in
@@ -273,8 +273,8 @@ read_bare-returns-then-start-end-clause-reads g t c =
     (place_of s c.args.end) (place_of s c.args.at) (λ node. place_of s node.end) (holds_of g.K.Keeper.holds) _ _ c.push_lone.result
     (λ node es (k, (f, g)). lone (own_marks cs h c.args.least (context_of c.args.context) _ _ _ c.requires.own some) f g k) c.push_lone.ensures.reads
 
-pub read_bare-returns-in-None-2-clause-reads : goal.read_bare-returns-in-None-2-clause-reads
-read_bare-returns-in-None-2-clause-reads g t c =
+pub nodes::read_bare-returns-in-None-2-clause-reads : goal.nodes::read_bare-returns-in-None-2-clause-reads
+nodes::read_bare-returns-in-None-2-clause-reads g t c =
     let cs = text_of c.args.source.now in
     let h = handles_of c.args.handles in
     let s = c.args.source.now in
@@ -286,8 +286,8 @@ read_bare-returns-in-None-2-clause-reads g t c =
 
 -- ---- items and entries with `?`, and empty keys
 
-pub read_asked_pair-returns-clause-reads : goal.read_asked_pair-returns-clause-reads
-read_asked_pair-returns-clause-reads g t c =
+pub pairs::read_asked_pair-returns-clause-reads : goal.pairs::read_asked_pair-returns-clause-reads
+pairs::read_asked_pair-returns-clause-reads g t c =
     let cs = text_of c.args.source.now in
     let n = c.in_ok-end.ensures.reads in
     let b = c.requires.sign in (
@@ -298,8 +298,8 @@ read_asked_pair-returns-clause-reads g t c =
       asked_pair cs (handles_of c.args.handles) c.in_ok-end.deep c.args.least (context_of c.args.context) _ _ _ n.0 (b.is, b.next) n.2,
     )
 
-pub read_empty_pair-returns-clause-reads : goal.read_empty_pair-returns-clause-reads
-read_empty_pair-returns-clause-reads g t c =
+pub pairs::read_empty_pair-returns-clause-reads : goal.pairs::read_empty_pair-returns-clause-reads
+pairs::read_empty_pair-returns-clause-reads g t c =
     let cs = text_of c.args.source.now in
     let n = c.in_ok-end.ensures.reads in (
       mapping_start true None untagged ∷ ((empty no_props ++ n.0) ++ (mapping_end ∷ [])),
@@ -310,8 +310,8 @@ read_empty_pair-returns-clause-reads g t c =
       empty_pair cs (handles_of c.args.handles) c.in_ok-end.deep c.args.least (context_of c.args.context) _ _ n.0 n.2,
     )
 
-pub read_entry-returns-in-None-clause-reads : goal.read_entry-returns-in-None-clause-reads
-read_entry-returns-in-None-clause-reads g t c =
+pub entries::read_entry-returns-in-None-clause-reads : goal.entries::read_entry-returns-in-None-clause-reads
+entries::read_entry-returns-in-None-clause-reads g t c =
     let cs = text_of c.args.source.now in
     let h = handles_of c.args.handles in
     let n = c.args.least in
@@ -321,8 +321,8 @@ read_entry-returns-in-None-clause-reads g t c =
     (place_of s c.args.at) (place_of s c.args.at) (λ r. place_of s r.0) (holds_of g.K.Keeper.holds) _ _ c.read_keyed.result
     (λ r es p room le. keyed_entry cs h room n x _ _ es (p room le)) c.read_keyed.ensures.reads
 
-pub read_entry-returns-in-Some-clause-reads : goal.read_entry-returns-in-Some-clause-reads
-read_entry-returns-in-Some-clause-reads g t c =
+pub entries::read_entry-returns-in-Some-clause-reads : goal.entries::read_entry-returns-in-Some-clause-reads
+entries::read_entry-returns-in-Some-clause-reads g t c =
     let cs = text_of c.args.source.now in
     let h = handles_of c.args.handles in
     let n = c.args.least in
@@ -333,8 +333,8 @@ read_entry-returns-in-Some-clause-reads g t c =
     (place_of s c.in-Some.after) (place_of s c.args.at) (λ r. place_of s r.0) (holds_of g.K.Keeper.holds) _ _ c.read_asked.result
     (λ r es p. asked_entry cs h r.1 n x _ _ _ es (q.is, q.next) p) c.read_asked.ensures.reads
 
-pub read_asked-returns-clause-reads : goal.read_asked-returns-clause-reads
-read_asked-returns-clause-reads g t c =
+pub entries::read_asked-returns-clause-reads : goal.entries::read_asked-returns-clause-reads
+entries::read_asked-returns-clause-reads g t c =
     let cs = text_of c.args.source.now in
     let h = handles_of c.args.handles in
     let n = c.args.least in
@@ -344,16 +344,16 @@ read_asked-returns-clause-reads g t c =
     (place_of s c.in_ok-start.start) (place_of s c.args.after) (λ r. place_of s r.0) (holds_of g.K.Keeper.holds) _ _ c.read_keyed.result
     (λ r es p. asked_keyed cs (Unit {0}) h r.1 n x _ _ _ es (c.in_ok-start.ensures.apart (omega (arith, c.in_ok-start.ensures.onward, c.if-start-after.false))) p) c.read_keyed.ensures.reads
 
-pub read_asked-returns-then-ends_value-clause-reads : goal.read_asked-returns-then-ends_value-clause-reads
-read_asked-returns-then-ends_value-clause-reads g t c =
+pub entries::read_asked-returns-then-ends_value-clause-reads : goal.entries::read_asked-returns-then-ends_value-clause-reads
+entries::read_asked-returns-then-ends_value-clause-reads g t c =
     let cs = text_of c.args.source.now in (
       empty no_props ++ empty no_props,
       puts_on c.args.out.now c.push_empty.new.out _ (empty no_props) (empty no_props) c.in_ok-push_empty.ensures.ok c.in_ok-push_empty-2.ensures.ok,
       asked_nothing cs (Unit {0}) (handles_of c.args.handles) c.args.least (context_of c.args.context) _ _ (c.in_ok-start.ensures.apart (omega (arith, c.in_ok-start.ensures.onward, c.if-start-after.false))),
     )
 
-pub read_keyed-returns-in_ok-push_empty-in-Some-clause-reads : goal.read_keyed-returns-in_ok-push_empty-in-Some-clause-reads
-read_keyed-returns-in_ok-push_empty-in-Some-clause-reads g t c =
+pub entries::read_keyed-returns-in_ok-push_empty-in-Some-clause-reads : goal.entries::read_keyed-returns-in_ok-push_empty-in-Some-clause-reads
+entries::read_keyed-returns-in_ok-push_empty-in-Some-clause-reads g t c =
     let cs = text_of c.args.source.now in
     let h = handles_of c.args.handles in
     let n = c.args.least in
@@ -365,8 +365,8 @@ read_keyed-returns-in_ok-push_empty-in-Some-clause-reads g t c =
 
 -- ---- what is decided
 
-pub read_asked-returns-clause-decides : goal.read_asked-returns-clause-decides
-read_asked-returns-clause-decides g t c =
+pub entries::read_asked-returns-clause-decides : goal.entries::read_asked-returns-clause-decides
+entries::read_asked-returns-clause-decides g t c =
     let cs = text_of c.args.source.now in
     let h = handles_of c.args.handles in
     let n = c.args.least in
@@ -375,8 +375,8 @@ read_asked-returns-clause-decides g t c =
     λ e. decides_by (keyed_at cs (Unit {0}) h c.args.room n flow_in) (InFlow cs n) (place_of s c.in_ok-start.start) (InFlow cs n) (asked_at cs (Unit {0}) h c.args.room n flow_in) (InFlow cs n) (place_of s c.args.after) (InFlow cs n) (λ r. place_of s r.0) c.read_keyed.result
     (λ z g. asked_keyed_goes cs h c.args.room n c.requires.mark.0 (place_of s c.args.after) c.requires.mark.1 c.requires.mark.2 (place_of s c.in_ok-start.start) (c.in_ok-start.ensures.way e) z (on_false_at c.ends_value.result c.if-ends_value.false c.ends_value.ensures.no) g) (asked_keyed_refused cs h c.args.room n c.requires.mark.0 (place_of s c.args.after) c.requires.mark.1 c.requires.mark.2 (place_of s c.in_ok-start.start) (c.in_ok-start.ensures.way e) (on_false_at c.ends_value.result c.if-ends_value.false c.ends_value.ensures.no)) (c.read_keyed.ensures.decides e)
 
-pub read_asked-returns-in_err-start-clause-decides : goal.read_asked-returns-in_err-start-clause-decides
-read_asked-returns-in_err-start-clause-decides g t c =
+pub entries::read_asked-returns-in_err-start-clause-decides : goal.entries::read_asked-returns-in_err-start-clause-decides
+entries::read_asked-returns-in_err-start-clause-decides g t c =
     let cs = text_of c.args.source.now in
     let h = handles_of c.args.handles in
     let n = c.args.least in
@@ -384,8 +384,8 @@ read_asked-returns-in_err-start-clause-decides g t c =
     let s = c.args.source.now in
     λ e. decides_err (asked_at cs (Unit {0}) h c.args.room n flow_in) (InFlow cs n) (place_of s c.args.after) (InFlow cs n) (λ r. place_of s r.0) c.from_residual.result c.in_err-start.field-0.0 c.from_residual.ensures.1 (inr (asked_nowhere cs h c.args.room n c.requires.mark.0 (place_of s c.args.after) c.requires.mark.1 c.requires.mark.2 (none_in cs n x _ e (c.in_err-start.ensures.none (mark_inside cs (place_of s c.args.after) c.requires.mark)))))
 
-pub read_asked-returns-then-ends_value-clause-decides : goal.read_asked-returns-then-ends_value-clause-decides
-read_asked-returns-then-ends_value-clause-decides g t c =
+pub entries::read_asked-returns-then-ends_value-clause-decides : goal.entries::read_asked-returns-then-ends_value-clause-decides
+entries::read_asked-returns-then-ends_value-clause-decides g t c =
     let cs = text_of c.args.source.now in
     let h = handles_of c.args.handles in
     let n = c.args.least in
@@ -393,8 +393,8 @@ read_asked-returns-then-ends_value-clause-decides g t c =
     let s = c.args.source.now in
     λ e. asked_closed cs h c.args.room n c.requires.mark.0 (place_of s c.args.after) c.requires.mark.1 c.requires.mark.2 (place_of s c.in_ok-start.start) (c.in_ok-start.ensures.way e) (on_true_at c.ends_value.result c.if-ends_value.true c.ends_value.ensures.yes)
 
-pub read_asked-returns-then-start-after-clause-decides : goal.read_asked-returns-then-start-after-clause-decides
-read_asked-returns-then-start-after-clause-decides g t c =
+pub entries::read_asked-returns-then-start-after-clause-decides : goal.entries::read_asked-returns-then-start-after-clause-decides
+entries::read_asked-returns-then-start-after-clause-decides g t c =
     let cs = text_of c.args.source.now in
     let h = handles_of c.args.handles in
     let n = c.args.least in
@@ -402,12 +402,12 @@ read_asked-returns-then-start-after-clause-decides g t c =
     let s = c.args.source.now in
     λ e. inr (asked_alone cs h c.args.room n c.requires.mark.0 (place_of s c.args.after) c.requires.mark.1 c.requires.mark.2 (λ q w. c.in_ok-start.ensures.way e q w ∙ ap (place_of s) c.if-start-after.true))
 
-pub read_asked_pair-read_asked-requires : goal.read_asked_pair-read_asked-requires
-read_asked_pair-read_asked-requires g t c =
+pub pairs::read_asked_pair-read_asked-requires : goal.pairs::read_asked_pair-read_asked-requires
+pairs::read_asked_pair-read_asked-requires g t c =
     λ κs l. (omega arith, (l, (c.requires.sign.border, (omega (arith, c.requires.low, c.requires.sign.forward), (c.requires.inner, (_, c.requires.sign.next, c.requires.sign.is))))))
 
-pub read_asked_pair-returns-clause-decides : goal.read_asked_pair-returns-clause-decides
-read_asked_pair-returns-clause-decides g t c =
+pub pairs::read_asked_pair-returns-clause-decides : goal.pairs::read_asked_pair-returns-clause-decides
+pairs::read_asked_pair-returns-clause-decides g t c =
     let cs = text_of c.args.source.now in
     let h = handles_of c.args.handles in
     let n = c.args.least in
@@ -415,8 +415,8 @@ read_asked_pair-returns-clause-decides g t c =
     let s = c.args.source.now in
     λ e. asked_goes cs h n c.args.room (c.args.room - 1) (omega arith) (place_of s c.args.at) (place_of s c.args.after) (place_of s c.in_ok-end.end) (subst (λ y. AskedAt y cs (place_of s c.args.at)) e c.requires.asked) c.requires.sign.next (c.in_ok-end.ensures.decides e)
 
-pub read_asked_pair-returns-in_err-end-clause-decides : goal.read_asked_pair-returns-in_err-end-clause-decides
-read_asked_pair-returns-in_err-end-clause-decides g t c =
+pub pairs::read_asked_pair-returns-in_err-end-clause-decides : goal.pairs::read_asked_pair-returns-in_err-end-clause-decides
+pairs::read_asked_pair-returns-in_err-end-clause-decides g t c =
     let cs = text_of c.args.source.now in
     let h = handles_of c.args.handles in
     let n = c.args.least in
@@ -424,8 +424,8 @@ read_asked_pair-returns-in_err-end-clause-decides g t c =
     let s = c.args.source.now in
     λ e. decides_err (item_at cs (Unit {0}) h c.args.room n flow_in) (InFlow cs n) (place_of s c.args.at) (InFlow cs n) (λ r. place_of s r.0) c.from_residual-in_err-end.result c.in_err-end.field-0.0 c.from_residual-in_err-end.ensures.1 (or_else (asked_refused cs h n c.args.room (c.args.room - 1) (omega arith) (place_of s c.args.at) (place_of s c.args.after) (subst (λ y. AskedAt y cs (place_of s c.args.at)) e c.requires.asked) c.requires.sign.next) (c.in_err-end.ensures.decides e))
 
-pub read_asked_pair-returns-then-room-eq0-clause-decides : goal.read_asked_pair-returns-then-room-eq0-clause-decides
-read_asked_pair-returns-then-room-eq0-clause-decides g t c =
+pub pairs::read_asked_pair-returns-then-room-eq0-clause-decides : goal.pairs::read_asked_pair-returns-then-room-eq0-clause-decides
+pairs::read_asked_pair-returns-then-room-eq0-clause-decides g t c =
     let cs = text_of c.args.source.now in
     let h = handles_of c.args.handles in
     let n = c.args.least in
@@ -433,8 +433,8 @@ read_asked_pair-returns-then-room-eq0-clause-decides g t c =
     let s = c.args.source.now in
     λ e. inr (asked_full cs h n c.args.room c.if-room-eq0.true (place_of s c.args.at) (subst (λ y. AskedAt y cs (place_of s c.args.at)) e c.requires.asked))
 
-pub read_bare-returns-in-None-2-clause-decides : goal.read_bare-returns-in-None-2-clause-decides
-read_bare-returns-in-None-2-clause-decides g t c =
+pub nodes::read_bare-returns-in-None-2-clause-decides : goal.nodes::read_bare-returns-in-None-2-clause-decides
+nodes::read_bare-returns-in-None-2-clause-decides g t c =
     let cs = text_of c.args.source.now in
     let h = handles_of c.args.handles in
     let n = c.args.least in
@@ -446,8 +446,8 @@ read_bare-returns-in-None-2-clause-decides g t c =
     λ on. lone_decides cs h c.args.room n x (place_of s c.args.at) (place_of s c.args.end) (λ node. place_of s node.end) c.push_lone-in-None-2.result c.args.end c.push_lone-in-None-2.ensures.kind (λ node e. ap (place_of s) e) c.push_lone-in-None-2.ensures.end c.push_lone-in-None-2.ensures.memory
     (props_none cs h c.args.room n x (place_of s c.args.at) (place_of s c.args.end) own read c.requires.all (place_of s c.in_ok-start.start) c.in_ok-start.ensures.to (content_none cs h c.args.room n x (place_of s c.in_ok-start.start) (λ node. place_of s node.end) c.in_ok-node-2.field-0 c.in-None-2.is c.in_ok-node-2.ensures.decides))
 
-pub read_bare-returns-in-None-clause-decides : goal.read_bare-returns-in-None-clause-decides
-read_bare-returns-in-None-clause-decides g t c =
+pub nodes::read_bare-returns-in-None-clause-decides : goal.nodes::read_bare-returns-in-None-clause-decides
+nodes::read_bare-returns-in-None-clause-decides g t c =
     let cs = text_of c.args.source.now in
     let h = handles_of c.args.handles in
     let n = c.args.least in
@@ -458,8 +458,8 @@ read_bare-returns-in-None-clause-decides g t c =
     let bare = c.requires.all.none none in
     λ on. inr (bare_refused cs h c.args.room n x (place_of s c.args.at) bare c.in_default.ensures.none (content_none cs h c.args.room n x (place_of s c.args.at) (λ node. place_of s node.end) c.in_ok-node.field-0 c.in-None.is c.in_ok-node.ensures.decides))
 
-pub read_bare-returns-in-Some-2-clause-decides : goal.read_bare-returns-in-Some-2-clause-decides
-read_bare-returns-in-Some-2-clause-decides g t c =
+pub nodes::read_bare-returns-in-Some-2-clause-decides : goal.nodes::read_bare-returns-in-Some-2-clause-decides
+nodes::read_bare-returns-in-Some-2-clause-decides g t c =
     let cs = text_of c.args.source.now in
     let h = handles_of c.args.handles in
     let n = c.args.least in
@@ -470,8 +470,8 @@ read_bare-returns-in-Some-2-clause-decides g t c =
     let bare = c.requires.all.none none in
     λ on. bare_only cs h c.args.room n x (place_of s c.args.at) (place_of s c.in-Some-2.node.end) c.in-Some-2.node.kind bare c.in_default.ensures.none (content_some cs h c.args.room n x (place_of s c.args.at) (λ node. place_of s node.end) c.in_ok-node.field-0 c.in-Some-2.node c.in-Some-2.is c.in_ok-node.ensures.decides)
 
-pub read_bare-returns-in-Some-3-clause-decides : goal.read_bare-returns-in-Some-3-clause-decides
-read_bare-returns-in-Some-3-clause-decides g t c =
+pub nodes::read_bare-returns-in-Some-3-clause-decides : goal.nodes::read_bare-returns-in-Some-3-clause-decides
+nodes::read_bare-returns-in-Some-3-clause-decides g t c =
     let cs = text_of c.args.source.now in
     let h = handles_of c.args.handles in
     let n = c.args.least in
@@ -484,8 +484,8 @@ read_bare-returns-in-Some-3-clause-decides g t c =
     λ on. props_only cs h c.args.room n x (place_of s c.args.at) (place_of s c.args.end) own read c.requires.all (place_of s c.in_ok-start.start) c.in_ok-start.ensures.to (c.in_ok-start.ensures.apart (omega (arith, c.in_ok-start.ensures.onward, c.if-start-end.false))) (content_begins cs h c.args.room n c.in-Some-3.node.deep c.in-Some-3.node.kind x (place_of s c.in_ok-start.start) (place_of s c.in-Some-3.node.end) r.0 r.2) c.in-Some-3.node.kind (place_of s c.in-Some-3.node.end)
     (content_some cs h c.args.room n x (place_of s c.in_ok-start.start) (λ node. place_of s node.end) c.in_ok-node-2.field-0 c.in-Some-3.node c.in-Some-3.is c.in_ok-node-2.ensures.decides)
 
-pub read_bare-returns-in-Some-clause-decides : goal.read_bare-returns-in-Some-clause-decides
-read_bare-returns-in-Some-clause-decides g t c =
+pub nodes::read_bare-returns-in-Some-clause-decides : goal.nodes::read_bare-returns-in-Some-clause-decides
+nodes::read_bare-returns-in-Some-clause-decides g t c =
     let cs = text_of c.args.source.now in
     let h = handles_of c.args.handles in
     let n = c.args.least in
@@ -496,8 +496,8 @@ read_bare-returns-in-Some-clause-decides g t c =
     let bare = c.requires.all.none none in
     λ on. alias_decides cs h c.args.room n x (place_of s c.args.at) c.in-Some.ensures.some.is (λ node. place_of s node.end) c.read_alias.result c.read_alias.ensures.kind c.read_alias.ensures.decides
 
-pub read_bare-returns-in_err-node-2-clause-decides : goal.read_bare-returns-in_err-node-2-clause-decides
-read_bare-returns-in_err-node-2-clause-decides g t c =
+pub nodes::read_bare-returns-in_err-node-2-clause-decides : goal.nodes::read_bare-returns-in_err-node-2-clause-decides
+nodes::read_bare-returns-in_err-node-2-clause-decides g t c =
     let cs = text_of c.args.source.now in
     let h = handles_of c.args.handles in
     let n = c.args.least in
@@ -509,8 +509,8 @@ read_bare-returns-in_err-node-2-clause-decides g t c =
     λ on. node_err cs h c.args.room n x (place_of s c.args.at) (λ node. place_of s node.end) c.from_residual-in_err-node-2.result c.in_err-node-2.field-0.0 c.from_residual-in_err-node-2.ensures.1
     (or_else (λ f. props_refused cs h c.args.room n x (place_of s c.args.at) (place_of s c.args.end) own read c.requires.all (place_of s c.in_ok-start.start) c.in_ok-start.ensures.to (c.in_ok-start.ensures.apart (omega (arith, c.in_ok-start.ensures.onward, c.if-start-end.false))) f.0 (f.1, f.2)) c.in_err-node-2.ensures.decides)
 
-pub read_bare-returns-in_err-node-clause-decides : goal.read_bare-returns-in_err-node-clause-decides
-read_bare-returns-in_err-node-clause-decides g t c =
+pub nodes::read_bare-returns-in_err-node-clause-decides : goal.nodes::read_bare-returns-in_err-node-clause-decides
+nodes::read_bare-returns-in_err-node-clause-decides g t c =
     let cs = text_of c.args.source.now in
     let h = handles_of c.args.handles in
     let n = c.args.least in
@@ -521,8 +521,8 @@ read_bare-returns-in_err-node-clause-decides g t c =
     let bare = c.requires.all.none none in
     λ on. node_err cs h c.args.room n x (place_of s c.args.at) (λ node. place_of s node.end) c.from_residual.result c.in_err-node.field-0.0 c.from_residual.ensures.1 (or_else (λ f. bare_refused cs h c.args.room n x (place_of s c.args.at) bare c.in_default.ensures.none (f.1, f.2)) c.in_err-node.ensures.decides)
 
-pub read_bare-returns-in_err-start-clause-decides : goal.read_bare-returns-in_err-start-clause-decides
-read_bare-returns-in_err-start-clause-decides g t c =
+pub nodes::read_bare-returns-in_err-start-clause-decides : goal.nodes::read_bare-returns-in_err-start-clause-decides
+nodes::read_bare-returns-in_err-start-clause-decides g t c =
     let cs = text_of c.args.source.now in
     let h = handles_of c.args.handles in
     let n = c.args.least in
@@ -533,8 +533,8 @@ read_bare-returns-in_err-start-clause-decides g t c =
     let read = marks_props cs h n x (place_of s c.args.at) (place_of s c.args.end) own (own_marks cs h n x _ _ _ c.requires.own some) in
     λ on. node_err cs h c.args.room n x (place_of s c.args.at) (λ node. place_of s node.end) c.from_residual-in_err-start.result c.in_err-start.field-0.0 c.from_residual-in_err-start.ensures.1 (inr (props_nowhere cs h c.args.room n x (place_of s c.args.at) (place_of s c.args.end) own read c.requires.all on some c.in_err-start.ensures.none))
 
-pub read_bare-returns-then-start-end-clause-decides : goal.read_bare-returns-then-start-end-clause-decides
-read_bare-returns-then-start-end-clause-decides g t c =
+pub nodes::read_bare-returns-then-start-end-clause-decides : goal.nodes::read_bare-returns-then-start-end-clause-decides
+nodes::read_bare-returns-then-start-end-clause-decides g t c =
     let cs = text_of c.args.source.now in
     let h = handles_of c.args.handles in
     let n = c.args.least in
@@ -546,8 +546,8 @@ read_bare-returns-then-start-end-clause-decides g t c =
     λ on. lone_decides cs h c.args.room n x (place_of s c.args.at) (place_of s c.args.end) (λ node. place_of s node.end) c.push_lone.result c.args.end c.push_lone.ensures.kind (λ node e. ap (place_of s) e) c.push_lone.ensures.end c.push_lone.ensures.memory
     (props_lone cs h c.args.room n x (place_of s c.args.at) (place_of s c.args.end) own read c.requires.all (λ q t u. c.in_ok-start.ensures.to q t u ∙ ap (place_of s) c.if-start-end.true))
 
-pub read_content-returns-in-Other-clause-decides : goal.read_content-returns-in-Other-clause-decides
-read_content-returns-in-Other-clause-decides g t c =
+pub nodes::read_content-returns-in-Other-clause-decides : goal.nodes::read_content-returns-in-Other-clause-decides
+nodes::read_content-returns-in-Other-clause-decides g t c =
     let cs = text_of c.args.source.now in
     let h = handles_of c.args.handles in
     let n = c.args.least in
@@ -555,8 +555,8 @@ read_content-returns-in-Other-clause-decides g t c =
     let s = c.args.source.now in
     plain_content cs h c.args.room n x (place_of s c.args.at) (λ node. place_of s node.end) c.read_plain_node.result c.in-Other.ensures c.read_plain_node.ensures.decides
 
-pub read_content-returns-in_err-node-in-Double-clause-decides : goal.read_content-returns-in_err-node-in-Double-clause-decides
-read_content-returns-in_err-node-in-Double-clause-decides g t c =
+pub nodes::read_content-returns-in_err-node-in-Double-clause-decides : goal.nodes::read_content-returns-in_err-node-in-Double-clause-decides
+nodes::read_content-returns-in_err-node-in-Double-clause-decides g t c =
     let cs = text_of c.args.source.now in
     let h = handles_of c.args.handles in
     let n = c.args.least in
@@ -565,8 +565,8 @@ read_content-returns-in_err-node-in-Double-clause-decides g t c =
     content_err cs h c.args.room n x (place_of s c.args.at) (λ node. place_of s node.end) c.from_residual-in_err-node-in-Double.result c.in_err-node-in-Double.field-0.0 c.from_residual-in_err-node-in-Double.ensures.1
     (or_else (no_double cs h c.args.room n x (place_of s c.args.at) c.in-Double.ensures) c.in_err-node-in-Double.ensures.decides)
 
-pub read_content-returns-in_err-node-in-Mapping-clause-decides : goal.read_content-returns-in_err-node-in-Mapping-clause-decides
-read_content-returns-in_err-node-in-Mapping-clause-decides g t c =
+pub nodes::read_content-returns-in_err-node-in-Mapping-clause-decides : goal.nodes::read_content-returns-in_err-node-in-Mapping-clause-decides
+nodes::read_content-returns-in_err-node-in-Mapping-clause-decides g t c =
     let cs = text_of c.args.source.now in
     let h = handles_of c.args.handles in
     let n = c.args.least in
@@ -575,8 +575,8 @@ read_content-returns-in_err-node-in-Mapping-clause-decides g t c =
     content_err cs h c.args.room n x (place_of s c.args.at) (λ node. place_of s node.end) c.from_residual-in_err-node-in-Mapping.result c.in_err-node-in-Mapping.field-0.0 c.from_residual-in_err-node-in-Mapping.ensures.1
     (collection_err x (no_mapping cs h c.args.room n x (place_of s c.args.at) c.in-Mapping.ensures.is) c.in_err-node-in-Mapping.ensures.decides)
 
-pub read_content-returns-in_err-node-in-Sequence-clause-decides : goal.read_content-returns-in_err-node-in-Sequence-clause-decides
-read_content-returns-in_err-node-in-Sequence-clause-decides g t c =
+pub nodes::read_content-returns-in_err-node-in-Sequence-clause-decides : goal.nodes::read_content-returns-in_err-node-in-Sequence-clause-decides
+nodes::read_content-returns-in_err-node-in-Sequence-clause-decides g t c =
     let cs = text_of c.args.source.now in
     let h = handles_of c.args.handles in
     let n = c.args.least in
@@ -585,8 +585,8 @@ read_content-returns-in_err-node-in-Sequence-clause-decides g t c =
     content_err cs h c.args.room n x (place_of s c.args.at) (λ node. place_of s node.end) c.from_residual.result c.in_err-node-in-Sequence.field-0.0 c.from_residual.ensures.1
     (collection_err x (no_sequence cs h c.args.room n x (place_of s c.args.at) c.in-Sequence.ensures.is) c.in_err-node-in-Sequence.ensures.decides)
 
-pub read_content-returns-in_err-node-in-Single-clause-decides : goal.read_content-returns-in_err-node-in-Single-clause-decides
-read_content-returns-in_err-node-in-Single-clause-decides g t c =
+pub nodes::read_content-returns-in_err-node-in-Single-clause-decides : goal.nodes::read_content-returns-in_err-node-in-Single-clause-decides
+nodes::read_content-returns-in_err-node-in-Single-clause-decides g t c =
     let cs = text_of c.args.source.now in
     let h = handles_of c.args.handles in
     let n = c.args.least in
@@ -595,8 +595,8 @@ read_content-returns-in_err-node-in-Single-clause-decides g t c =
     content_err cs h c.args.room n x (place_of s c.args.at) (λ node. place_of s node.end) c.from_residual-in_err-node-in-Single.result c.in_err-node-in-Single.field-0.0 c.from_residual-in_err-node-in-Single.ensures.1
     (or_else (no_single cs h c.args.room n x (place_of s c.args.at) c.in-Single.ensures) c.in_err-node-in-Single.ensures.decides)
 
-pub read_content-returns-in_ok-node-in-Double-clause-decides : goal.read_content-returns-in_ok-node-in-Double-clause-decides
-read_content-returns-in_ok-node-in-Double-clause-decides g t c =
+pub nodes::read_content-returns-in_ok-node-in-Double-clause-decides : goal.nodes::read_content-returns-in_ok-node-in-Double-clause-decides
+nodes::read_content-returns-in_ok-node-in-Double-clause-decides g t c =
     let cs = text_of c.args.source.now in
     let h = handles_of c.args.handles in
     let n = c.args.least in
@@ -604,8 +604,8 @@ read_content-returns-in_ok-node-in-Double-clause-decides g t c =
     let s = c.args.source.now in
     double_only cs h c.args.room n x (place_of s c.args.at) (place_of s c.in_ok-node-in-Double.node.end) c.in-Double.ensures c.in_ok-node-in-Double.ensures.decides c.in_ok-node-in-Double.node.kind c.in_ok-node-in-Double.ensures.kind
 
-pub read_content-returns-in_ok-node-in-Mapping-clause-decides : goal.read_content-returns-in_ok-node-in-Mapping-clause-decides
-read_content-returns-in_ok-node-in-Mapping-clause-decides g t c =
+pub nodes::read_content-returns-in_ok-node-in-Mapping-clause-decides : goal.nodes::read_content-returns-in_ok-node-in-Mapping-clause-decides
+nodes::read_content-returns-in_ok-node-in-Mapping-clause-decides g t c =
     let cs = text_of c.args.source.now in
     let h = handles_of c.args.handles in
     let n = c.args.least in
@@ -613,8 +613,8 @@ read_content-returns-in_ok-node-in-Mapping-clause-decides g t c =
     let s = c.args.source.now in
     mapping_only cs h c.args.room n x (place_of s c.args.at) (place_of s c.in_ok-node-in-Mapping.node.end) c.in-Mapping.ensures.is c.in_ok-node-in-Mapping.ensures.decides c.in_ok-node-in-Mapping.node.kind c.in_ok-node-in-Mapping.ensures.kind
 
-pub read_content-returns-in_ok-node-in-Sequence-clause-decides : goal.read_content-returns-in_ok-node-in-Sequence-clause-decides
-read_content-returns-in_ok-node-in-Sequence-clause-decides g t c =
+pub nodes::read_content-returns-in_ok-node-in-Sequence-clause-decides : goal.nodes::read_content-returns-in_ok-node-in-Sequence-clause-decides
+nodes::read_content-returns-in_ok-node-in-Sequence-clause-decides g t c =
     let cs = text_of c.args.source.now in
     let h = handles_of c.args.handles in
     let n = c.args.least in
@@ -622,8 +622,8 @@ read_content-returns-in_ok-node-in-Sequence-clause-decides g t c =
     let s = c.args.source.now in
     sequence_only cs h c.args.room n x (place_of s c.args.at) (place_of s c.in_ok-node-in-Sequence.node.end) c.in-Sequence.ensures.is c.in_ok-node-in-Sequence.ensures.decides c.in_ok-node-in-Sequence.node.kind c.in_ok-node-in-Sequence.ensures.kind
 
-pub read_content-returns-in_ok-node-in-Single-clause-decides : goal.read_content-returns-in_ok-node-in-Single-clause-decides
-read_content-returns-in_ok-node-in-Single-clause-decides g t c =
+pub nodes::read_content-returns-in_ok-node-in-Single-clause-decides : goal.nodes::read_content-returns-in_ok-node-in-Single-clause-decides
+nodes::read_content-returns-in_ok-node-in-Single-clause-decides g t c =
     let cs = text_of c.args.source.now in
     let h = handles_of c.args.handles in
     let n = c.args.least in
@@ -631,8 +631,8 @@ read_content-returns-in_ok-node-in-Single-clause-decides g t c =
     let s = c.args.source.now in
     single_only cs h c.args.room n x (place_of s c.args.at) (place_of s c.in_ok-node-in-Single.node.end) c.in-Single.ensures c.in_ok-node-in-Single.ensures.decides c.in_ok-node-in-Single.node.kind c.in_ok-node-in-Single.ensures.kind
 
-pub read_content-returns-then-room-eq0-2-clause-decides : goal.read_content-returns-then-room-eq0-2-clause-decides
-read_content-returns-then-room-eq0-2-clause-decides g t c =
+pub nodes::read_content-returns-then-room-eq0-2-clause-decides : goal.nodes::read_content-returns-then-room-eq0-2-clause-decides
+nodes::read_content-returns-then-room-eq0-2-clause-decides g t c =
     let cs = text_of c.args.source.now in
     let h = handles_of c.args.handles in
     let n = c.args.least in
@@ -640,8 +640,8 @@ read_content-returns-then-room-eq0-2-clause-decides g t c =
     let s = c.args.source.now in
     inr (no_mapping cs h c.args.room n x (place_of s c.args.at) c.in-Mapping.ensures.is (λ w p. no_mapping_left cs h c.args.room n x (place_of s c.args.at) c.if-room-eq0-2.true p))
 
-pub read_content-returns-then-room-eq0-clause-decides : goal.read_content-returns-then-room-eq0-clause-decides
-read_content-returns-then-room-eq0-clause-decides g t c =
+pub nodes::read_content-returns-then-room-eq0-clause-decides : goal.nodes::read_content-returns-then-room-eq0-clause-decides
+nodes::read_content-returns-then-room-eq0-clause-decides g t c =
     let cs = text_of c.args.source.now in
     let h = handles_of c.args.handles in
     let n = c.args.least in
@@ -649,8 +649,8 @@ read_content-returns-then-room-eq0-clause-decides g t c =
     let s = c.args.source.now in
     inr (no_sequence cs h c.args.room n x (place_of s c.args.at) c.in-Sequence.ensures.is (λ w p. no_sequence_left cs h c.args.room n x (place_of s c.args.at) c.if-room-eq0.true p))
 
-pub read_empty_pair-returns-clause-decides : goal.read_empty_pair-returns-clause-decides
-read_empty_pair-returns-clause-decides g t c =
+pub pairs::read_empty_pair-returns-clause-decides : goal.pairs::read_empty_pair-returns-clause-decides
+pairs::read_empty_pair-returns-clause-decides g t c =
     let cs = text_of c.args.source.now in
     let h = handles_of c.args.handles in
     let n = c.args.least in
@@ -658,8 +658,8 @@ read_empty_pair-returns-clause-decides g t c =
     let s = c.args.source.now in
     λ e. empty_goes cs h n c.args.room (c.args.room - 1) (omega arith) (place_of s c.args.at) (place_of s c.in_ok-end.end) (sign_in cs Yaml x (place_of s c.args.at) (place_of s c.args.after) e c.requires.colon.is c.requires.colon.next c.requires.sign) (c.in_ok-end.ensures.decides e)
 
-pub read_empty_pair-returns-in_err-end-clause-decides : goal.read_empty_pair-returns-in_err-end-clause-decides
-read_empty_pair-returns-in_err-end-clause-decides g t c =
+pub pairs::read_empty_pair-returns-in_err-end-clause-decides : goal.pairs::read_empty_pair-returns-in_err-end-clause-decides
+pairs::read_empty_pair-returns-in_err-end-clause-decides g t c =
     let cs = text_of c.args.source.now in
     let h = handles_of c.args.handles in
     let n = c.args.least in
@@ -667,8 +667,8 @@ read_empty_pair-returns-in_err-end-clause-decides g t c =
     let s = c.args.source.now in
     λ e. decides_err (item_at cs (Unit {0}) h c.args.room n flow_in) (InFlow cs n) (place_of s c.args.at) (InFlow cs n) (λ r. place_of s r.0) c.from_residual-in_err-end.result c.in_err-end.field-0.0 c.from_residual-in_err-end.ensures.1 (or_else (empty_refused cs h n c.args.room (c.args.room - 1) (omega arith) (place_of s c.args.at) (sign_in cs Yaml x (place_of s c.args.at) (place_of s c.args.after) e c.requires.colon.is c.requires.colon.next c.requires.sign)) (c.in_err-end.ensures.decides e))
 
-pub read_empty_pair-returns-then-room-eq0-clause-decides : goal.read_empty_pair-returns-then-room-eq0-clause-decides
-read_empty_pair-returns-then-room-eq0-clause-decides g t c =
+pub pairs::read_empty_pair-returns-then-room-eq0-clause-decides : goal.pairs::read_empty_pair-returns-then-room-eq0-clause-decides
+pairs::read_empty_pair-returns-then-room-eq0-clause-decides g t c =
     let cs = text_of c.args.source.now in
     let h = handles_of c.args.handles in
     let n = c.args.least in
@@ -676,8 +676,8 @@ read_empty_pair-returns-then-room-eq0-clause-decides g t c =
     let s = c.args.source.now in
     λ e. inr (empty_full cs h n c.args.room c.if-room-eq0.true (place_of s c.args.at) (sign_in cs Yaml x (place_of s c.args.at) (place_of s c.args.after) e c.requires.colon.is c.requires.colon.next c.requires.sign))
 
-pub read_entries-returns-in-None-accept-2-clause-decides : goal.read_entries-returns-in-None-accept-2-clause-decides
-read_entries-returns-in-None-accept-2-clause-decides g t c =
+pub mapping::read_entries-returns-in-None-accept-2-clause-decides : goal.mapping::read_entries-returns-in-None-accept-2-clause-decides
+mapping::read_entries-returns-in-None-accept-2-clause-decides g t c =
     let cs = text_of c.args.source.now in
     let h = handles_of c.args.handles in
     let n = c.args.least in
@@ -685,8 +685,8 @@ read_entries-returns-in-None-accept-2-clause-decides g t c =
     let s = c.args.source.now in
     λ e. inr (left_unclosed cs n (entry_at cs (Unit {0}) h c.args.room n flow_in) (entry_begins cs h c.args.room n) 125 (brace_shut cs) brace_other (place_of s c.args.first) (place_of s c.entries.here) (c.entries.invariant.left e) c.in-None.ensures.none (place_of s c.in_ok-entry-in-None.entry) (c.in_ok-entry-in-None.ensures.decides e) (place_of s c.in_ok-after-in-None.after) (to_in cs n x _ _ e c.in_ok-after-in-None.ensures.to) c.in-None-accept.ensures.none c.in-None-accept-2.ensures.none)
 
-pub read_entries-returns-in-Some-accept-clause-decides : goal.read_entries-returns-in-Some-accept-clause-decides
-read_entries-returns-in-Some-accept-clause-decides g t c =
+pub mapping::read_entries-returns-in-Some-accept-clause-decides : goal.mapping::read_entries-returns-in-Some-accept-clause-decides
+mapping::read_entries-returns-in-Some-accept-clause-decides g t c =
     let cs = text_of c.args.source.now in
     let h = handles_of c.args.handles in
     let n = c.args.least in
@@ -694,8 +694,8 @@ read_entries-returns-in-Some-accept-clause-decides g t c =
     let s = c.args.source.now in
     λ e. left_last cs n (entry_at cs (Unit {0}) h c.args.room n flow_in) (entry_begins cs h c.args.room n) 125 (brace_shut cs) brace_other (place_of s c.args.first) (place_of s c.entries.here) (c.entries.invariant.left e) c.in-None.ensures.none (place_of s c.in_ok-entry-in-None.entry) (c.in_ok-entry-in-None.ensures.decides e) (place_of s c.in_ok-after-in-None.after) (to_in cs n x _ _ e c.in_ok-after-in-None.ensures.to) _ c.in-Some-accept.ensures.some.is c.in-Some-accept.ensures.some.next
 
-pub read_entries-returns-in-Some-clause-decides : goal.read_entries-returns-in-Some-clause-decides
-read_entries-returns-in-Some-clause-decides g t c =
+pub mapping::read_entries-returns-in-Some-clause-decides : goal.mapping::read_entries-returns-in-Some-clause-decides
+mapping::read_entries-returns-in-Some-clause-decides g t c =
     let cs = text_of c.args.source.now in
     let h = handles_of c.args.handles in
     let n = c.args.least in
@@ -703,8 +703,8 @@ read_entries-returns-in-Some-clause-decides g t c =
     let s = c.args.source.now in
     λ e. left_closed cs n (entry_at cs (Unit {0}) h c.args.room n flow_in) (entry_begins cs h c.args.room n) 125 (brace_shut cs) brace_other (place_of s c.args.first) (place_of s c.entries.here) _ (c.entries.invariant.left e) c.in-Some.ensures.some.is c.in-Some.ensures.some.next
 
-pub read_entries-returns-in_err-after-in-None-clause-decides : goal.read_entries-returns-in_err-after-in-None-clause-decides
-read_entries-returns-in_err-after-in-None-clause-decides g t c =
+pub mapping::read_entries-returns-in_err-after-in-None-clause-decides : goal.mapping::read_entries-returns-in_err-after-in-None-clause-decides
+mapping::read_entries-returns-in_err-after-in-None-clause-decides g t c =
     let cs = text_of c.args.source.now in
     let h = handles_of c.args.handles in
     let n = c.args.least in
@@ -712,8 +712,8 @@ read_entries-returns-in_err-after-in-None-clause-decides g t c =
     let s = c.args.source.now in
     λ e. decides_err (parts cs n flow_in 125 (entry_at cs (Unit {0}) h c.args.room n flow_in)) Here (place_of s c.args.first) Here (λ r. place_of s r.0) c.from_residual-in_err-after-in-None.result c.in_err-after-in-None.field-0.0 c.from_residual-in_err-after-in-None.ensures.1 (inr (left_no_way cs n (entry_at cs (Unit {0}) h c.args.room n flow_in) (entry_begins cs h c.args.room n) 125 (brace_shut cs) brace_other (place_of s c.args.first) (place_of s c.entries.here) (c.entries.invariant.left e) c.in-None.ensures.none (place_of s c.in_ok-entry-in-None.entry) (c.in_ok-entry-in-None.ensures.decides e) (none_in cs n x _ e (c.in_err-after-in-None.ensures.none c.in_ok-entry-in-None.ensures.ends))))
 
-pub read_entries-returns-in_err-entry-in-None-clause-decides : goal.read_entries-returns-in_err-entry-in-None-clause-decides
-read_entries-returns-in_err-entry-in-None-clause-decides g t c =
+pub mapping::read_entries-returns-in_err-entry-in-None-clause-decides : goal.mapping::read_entries-returns-in_err-entry-in-None-clause-decides
+mapping::read_entries-returns-in_err-entry-in-None-clause-decides g t c =
     let cs = text_of c.args.source.now in
     let h = handles_of c.args.handles in
     let n = c.args.least in
@@ -721,8 +721,8 @@ read_entries-returns-in_err-entry-in-None-clause-decides g t c =
     let s = c.args.source.now in
     λ e. decides_err (parts cs n flow_in 125 (entry_at cs (Unit {0}) h c.args.room n flow_in)) Here (place_of s c.args.first) Here (λ r. place_of s r.0) c.from_residual.result c.in_err-entry-in-None.field-0.0 c.from_residual.ensures.1 (or_else (left_refused cs n (entry_at cs (Unit {0}) h c.args.room n flow_in) (entry_begins cs h c.args.room n) 125 (brace_shut cs) brace_other (place_of s c.args.first) (place_of s c.entries.here) (c.entries.invariant.left e) c.in-None.ensures.none) (c.in_err-entry-in-None.ensures.decides e))
 
-pub read_entries-returns-in_err-here-in-Some-accept-2-clause-decides : goal.read_entries-returns-in_err-here-in-Some-accept-2-clause-decides
-read_entries-returns-in_err-here-in-Some-accept-2-clause-decides g t c =
+pub mapping::read_entries-returns-in_err-here-in-Some-accept-2-clause-decides : goal.mapping::read_entries-returns-in_err-here-in-Some-accept-2-clause-decides
+mapping::read_entries-returns-in_err-here-in-Some-accept-2-clause-decides g t c =
     let cs = text_of c.args.source.now in
     let h = handles_of c.args.handles in
     let n = c.args.least in
@@ -730,12 +730,12 @@ read_entries-returns-in_err-here-in-Some-accept-2-clause-decides g t c =
     let s = c.args.source.now in
     λ e. decides_err (parts cs n flow_in 125 (entry_at cs (Unit {0}) h c.args.room n flow_in)) Here (place_of s c.args.first) Here (λ r. place_of s r.0) c.from_residual-in_err-here-in-Some-accept-2.result c.in_err-here-in-Some-accept-2.field-0.0 c.from_residual-in_err-here-in-Some-accept-2.ensures.1 (inr (left_no_more cs n (entry_at cs (Unit {0}) h c.args.room n flow_in) (entry_begins cs h c.args.room n) 125 (brace_shut cs) brace_other (place_of s c.args.first) (place_of s c.entries.here) (c.entries.invariant.left e) c.in-None.ensures.none (place_of s c.in_ok-entry-in-None.entry) (c.in_ok-entry-in-None.ensures.decides e) (place_of s c.in_ok-after-in-None.after) (to_in cs n x _ _ e c.in_ok-after-in-None.ensures.to) c.in-Some-accept-2.ensures.some.is (place_of s c.in-Some-accept-2.to) c.in-Some-accept-2.ensures.some.next (none_in cs n x _ e (c.in_err-here-in-Some-accept-2.ensures.none (char_inside cs _ _ 44 c.in-Some-accept-2.ensures.some.is c.in-Some-accept-2.ensures.some.next nb_comma)))))
 
-pub read_entry-read_asked-requires : goal.read_entry-read_asked-requires
-read_entry-read_asked-requires g t c =
+pub entries::read_entry-read_asked-requires : goal.entries::read_entry-read_asked-requires
+entries::read_entry-read_asked-requires g t c =
     λ κs l. (omega arith, (l, (c.in-Some.ensures.sign.border, (omega (arith, c.requires.low, c.in-Some.ensures.sign.forward), (c.requires.inner, (_, c.in-Some.ensures.sign.next, c.in-Some.ensures.sign.is))))))
 
-pub read_entry-returns-in-None-clause-decides : goal.read_entry-returns-in-None-clause-decides
-read_entry-returns-in-None-clause-decides g t c =
+pub entries::read_entry-returns-in-None-clause-decides : goal.entries::read_entry-returns-in-None-clause-decides
+entries::read_entry-returns-in-None-clause-decides g t c =
     let cs = text_of c.args.source.now in
     let h = handles_of c.args.handles in
     let n = c.args.least in
@@ -744,8 +744,8 @@ read_entry-returns-in-None-clause-decides g t c =
     λ e. decides_by (keyed_at cs (Unit {0}) h c.args.room n flow_in) (InFlow cs n) (place_of s c.args.at) (InFlow cs n) (entry_at cs (Unit {0}) h c.args.room n flow_in) (InFlow cs n) (place_of s c.args.at) (InFlow cs n) (λ r. place_of s r.0) c.read_keyed.result
     (λ z g. entry_goes cs h c.args.room n (place_of s c.args.at) z (subst (λ y. AskedAt y cs (place_of s c.args.at) → ⊥) e c.in-None.ensures.none) g) (entry_refused cs h c.args.room n (place_of s c.args.at) (subst (λ y. AskedAt y cs (place_of s c.args.at) → ⊥) e c.in-None.ensures.none)) (c.read_keyed.ensures.decides e)
 
-pub read_entry-returns-in-Some-clause-decides : goal.read_entry-returns-in-Some-clause-decides
-read_entry-returns-in-Some-clause-decides g t c =
+pub entries::read_entry-returns-in-Some-clause-decides : goal.entries::read_entry-returns-in-Some-clause-decides
+entries::read_entry-returns-in-Some-clause-decides g t c =
     let cs = text_of c.args.source.now in
     let h = handles_of c.args.handles in
     let n = c.args.least in
@@ -754,8 +754,8 @@ read_entry-returns-in-Some-clause-decides g t c =
     λ e. decides_by (asked_at cs (Unit {0}) h c.args.room n flow_in) (InFlow cs n) (place_of s c.in-Some.after) (InFlow cs n) (entry_at cs (Unit {0}) h c.args.room n flow_in) (InFlow cs n) (place_of s c.args.at) (InFlow cs n) (λ r. place_of s r.0) c.read_asked.result
     (λ z g. asked_entry_goes cs h c.args.room n (place_of s c.args.at) (place_of s c.in-Some.after) c.in-Some.ensures.sign.next z (subst (λ y. AskedAt y cs (place_of s c.args.at)) e c.in-Some.ensures.asked) g) (asked_entry_refused cs h c.args.room n (place_of s c.args.at) (place_of s c.in-Some.after) c.in-Some.ensures.sign.next (subst (λ y. AskedAt y cs (place_of s c.args.at)) e c.in-Some.ensures.asked)) (c.read_asked.ensures.decides e)
 
-pub read_flow_node-returns-in_err-own-clause-decides : goal.read_flow_node-returns-in_err-own-clause-decides
-read_flow_node-returns-in_err-own-clause-decides g t c =
+pub nodes::read_flow_node-returns-in_err-own-clause-decides : goal.nodes::read_flow_node-returns-in_err-own-clause-decides
+nodes::read_flow_node-returns-in_err-own-clause-decides g t c =
     let cs = text_of c.args.source.now in
     let h = handles_of c.args.handles in
     let n = c.args.least in
@@ -763,8 +763,8 @@ read_flow_node-returns-in_err-own-clause-decides g t c =
     let s = c.args.source.now in
     λ e. node_err cs h c.args.room n x (place_of s c.args.at) (λ node. place_of s node.end) c.from_residual.result c.in_err-own.field-0.0 c.from_residual.ensures.1 (or_else (barred_refused cs h c.args.room n x (place_of s c.args.at) e) c.in_err-own.ensures.barred)
 
-pub read_items-returns-in-None-accept-2-clause-decides : goal.read_items-returns-in-None-accept-2-clause-decides
-read_items-returns-in-None-accept-2-clause-decides g t c =
+pub sequence::read_items-returns-in-None-accept-2-clause-decides : goal.sequence::read_items-returns-in-None-accept-2-clause-decides
+sequence::read_items-returns-in-None-accept-2-clause-decides g t c =
     let cs = text_of c.args.source.now in
     let h = handles_of c.args.handles in
     let n = c.args.least in
@@ -772,8 +772,8 @@ read_items-returns-in-None-accept-2-clause-decides g t c =
     let s = c.args.source.now in
     λ e. inr (left_unclosed cs n (item_at cs (Unit {0}) h c.args.room n flow_in) (item_begins cs h c.args.room n) 93 (bracket_shut cs) bracket_other (place_of s c.args.first) (place_of s c.items.here) (c.items.invariant.left e) c.in-None.ensures.none (place_of s c.in_ok-item-in-None.item) (c.in_ok-item-in-None.ensures.decides e) (place_of s c.in_ok-after-in-None.after) (to_in cs n x _ _ e c.in_ok-after-in-None.ensures.to) c.in-None-accept.ensures.none c.in-None-accept-2.ensures.none)
 
-pub read_items-returns-in-Some-accept-clause-decides : goal.read_items-returns-in-Some-accept-clause-decides
-read_items-returns-in-Some-accept-clause-decides g t c =
+pub sequence::read_items-returns-in-Some-accept-clause-decides : goal.sequence::read_items-returns-in-Some-accept-clause-decides
+sequence::read_items-returns-in-Some-accept-clause-decides g t c =
     let cs = text_of c.args.source.now in
     let h = handles_of c.args.handles in
     let n = c.args.least in
@@ -781,8 +781,8 @@ read_items-returns-in-Some-accept-clause-decides g t c =
     let s = c.args.source.now in
     λ e. left_last cs n (item_at cs (Unit {0}) h c.args.room n flow_in) (item_begins cs h c.args.room n) 93 (bracket_shut cs) bracket_other (place_of s c.args.first) (place_of s c.items.here) (c.items.invariant.left e) c.in-None.ensures.none (place_of s c.in_ok-item-in-None.item) (c.in_ok-item-in-None.ensures.decides e) (place_of s c.in_ok-after-in-None.after) (to_in cs n x _ _ e c.in_ok-after-in-None.ensures.to) _ c.in-Some-accept.ensures.some.is c.in-Some-accept.ensures.some.next
 
-pub read_items-returns-in-Some-clause-decides : goal.read_items-returns-in-Some-clause-decides
-read_items-returns-in-Some-clause-decides g t c =
+pub sequence::read_items-returns-in-Some-clause-decides : goal.sequence::read_items-returns-in-Some-clause-decides
+sequence::read_items-returns-in-Some-clause-decides g t c =
     let cs = text_of c.args.source.now in
     let h = handles_of c.args.handles in
     let n = c.args.least in
@@ -790,8 +790,8 @@ read_items-returns-in-Some-clause-decides g t c =
     let s = c.args.source.now in
     λ e. left_closed cs n (item_at cs (Unit {0}) h c.args.room n flow_in) (item_begins cs h c.args.room n) 93 (bracket_shut cs) bracket_other (place_of s c.args.first) (place_of s c.items.here) _ (c.items.invariant.left e) c.in-Some.ensures.some.is c.in-Some.ensures.some.next
 
-pub read_items-returns-in_err-after-in-None-clause-decides : goal.read_items-returns-in_err-after-in-None-clause-decides
-read_items-returns-in_err-after-in-None-clause-decides g t c =
+pub sequence::read_items-returns-in_err-after-in-None-clause-decides : goal.sequence::read_items-returns-in_err-after-in-None-clause-decides
+sequence::read_items-returns-in_err-after-in-None-clause-decides g t c =
     let cs = text_of c.args.source.now in
     let h = handles_of c.args.handles in
     let n = c.args.least in
@@ -799,8 +799,8 @@ read_items-returns-in_err-after-in-None-clause-decides g t c =
     let s = c.args.source.now in
     λ e. decides_err (parts cs n flow_in 93 (item_at cs (Unit {0}) h c.args.room n flow_in)) Here (place_of s c.args.first) Here (λ r. place_of s r.0) c.from_residual-in_err-after-in-None.result c.in_err-after-in-None.field-0.0 c.from_residual-in_err-after-in-None.ensures.1 (inr (left_no_way cs n (item_at cs (Unit {0}) h c.args.room n flow_in) (item_begins cs h c.args.room n) 93 (bracket_shut cs) bracket_other (place_of s c.args.first) (place_of s c.items.here) (c.items.invariant.left e) c.in-None.ensures.none (place_of s c.in_ok-item-in-None.item) (c.in_ok-item-in-None.ensures.decides e) (none_in cs n x _ e (c.in_err-after-in-None.ensures.none c.in_ok-item-in-None.ensures.ends))))
 
-pub read_items-returns-in_err-here-in-Some-accept-2-clause-decides : goal.read_items-returns-in_err-here-in-Some-accept-2-clause-decides
-read_items-returns-in_err-here-in-Some-accept-2-clause-decides g t c =
+pub sequence::read_items-returns-in_err-here-in-Some-accept-2-clause-decides : goal.sequence::read_items-returns-in_err-here-in-Some-accept-2-clause-decides
+sequence::read_items-returns-in_err-here-in-Some-accept-2-clause-decides g t c =
     let cs = text_of c.args.source.now in
     let h = handles_of c.args.handles in
     let n = c.args.least in
@@ -808,8 +808,8 @@ read_items-returns-in_err-here-in-Some-accept-2-clause-decides g t c =
     let s = c.args.source.now in
     λ e. decides_err (parts cs n flow_in 93 (item_at cs (Unit {0}) h c.args.room n flow_in)) Here (place_of s c.args.first) Here (λ r. place_of s r.0) c.from_residual-in_err-here-in-Some-accept-2.result c.in_err-here-in-Some-accept-2.field-0.0 c.from_residual-in_err-here-in-Some-accept-2.ensures.1 (inr (left_no_more cs n (item_at cs (Unit {0}) h c.args.room n flow_in) (item_begins cs h c.args.room n) 93 (bracket_shut cs) bracket_other (place_of s c.args.first) (place_of s c.items.here) (c.items.invariant.left e) c.in-None.ensures.none (place_of s c.in_ok-item-in-None.item) (c.in_ok-item-in-None.ensures.decides e) (place_of s c.in_ok-after-in-None.after) (to_in cs n x _ _ e c.in_ok-after-in-None.ensures.to) c.in-Some-accept-2.ensures.some.is (place_of s c.in-Some-accept-2.to) c.in-Some-accept-2.ensures.some.next (none_in cs n x _ e (c.in_err-here-in-Some-accept-2.ensures.none (char_inside cs _ _ 44 c.in-Some-accept-2.ensures.some.is c.in-Some-accept-2.ensures.some.next nb_comma)))))
 
-pub read_items-returns-in_err-item-in-None-clause-decides : goal.read_items-returns-in_err-item-in-None-clause-decides
-read_items-returns-in_err-item-in-None-clause-decides g t c =
+pub sequence::read_items-returns-in_err-item-in-None-clause-decides : goal.sequence::read_items-returns-in_err-item-in-None-clause-decides
+sequence::read_items-returns-in_err-item-in-None-clause-decides g t c =
     let cs = text_of c.args.source.now in
     let h = handles_of c.args.handles in
     let n = c.args.least in
@@ -817,8 +817,8 @@ read_items-returns-in_err-item-in-None-clause-decides g t c =
     let s = c.args.source.now in
     λ e. decides_err (parts cs n flow_in 93 (item_at cs (Unit {0}) h c.args.room n flow_in)) Here (place_of s c.args.first) Here (λ r. place_of s r.0) c.from_residual.result c.in_err-item-in-None.field-0.0 c.from_residual.ensures.1 (or_else (left_refused cs n (item_at cs (Unit {0}) h c.args.room n flow_in) (item_begins cs h c.args.room n) 93 (bracket_shut cs) bracket_other (place_of s c.args.first) (place_of s c.items.here) (c.items.invariant.left e) c.in-None.ensures.none) (c.in_err-item-in-None.ensures.decides e))
 
-pub read_key_entry-returns-in_err-colon-clause-decides : goal.read_key_entry-returns-in_err-colon-clause-decides
-read_key_entry-returns-in_err-colon-clause-decides g t c =
+pub entries::read_key_entry-returns-in_err-colon-clause-decides : goal.entries::read_key_entry-returns-in_err-colon-clause-decides
+entries::read_key_entry-returns-in_err-colon-clause-decides g t c =
     let cs = text_of c.args.source.now in
     let h = handles_of c.args.handles in
     let n = c.args.least in
@@ -826,8 +826,8 @@ read_key_entry-returns-in_err-colon-clause-decides g t c =
     let s = c.args.source.now in
     λ e. decides_err (keyed_at cs (Unit {0}) h c.args.room n flow_in) (InFlow cs n) (place_of s c.args.at) (InFlow cs n) (λ r. place_of s r.0) c.from_residual-in_err-colon.result c.in_err-colon.field-0.0 c.from_residual-in_err-colon.ensures.1 (inr (key_nowhere cs h c.args.room n (place_of s c.args.at) (subst (λ y. SignAt Yaml y cs (place_of s c.args.at) → ⊥) e c.requires.no_colon) c.in_ok-key.key.kind (place_of s c.in_ok-key.key.end) (only_in cs h c.args.room n x c.in_ok-key.key.kind _ _ e (c.in_ok-key.ensures.decides e)) (none_in cs n x _ e (c.in_err-colon.ensures.none (node_inside cs h c.in_ok-key.key.deep n x c.in_ok-key.key.kind _ _ c.in_ok-key.ensures.reads.0 (c.in_ok-key.ensures.reads.2 c.in_ok-key.key.deep (omega arith)))))))
 
-pub read_key_entry-returns-in_err-end-in-Some-clause-decides : goal.read_key_entry-returns-in_err-end-in-Some-clause-decides
-read_key_entry-returns-in_err-end-in-Some-clause-decides g t c =
+pub entries::read_key_entry-returns-in_err-end-in-Some-clause-decides : goal.entries::read_key_entry-returns-in_err-end-in-Some-clause-decides
+entries::read_key_entry-returns-in_err-end-in-Some-clause-decides g t c =
     let cs = text_of c.args.source.now in
     let h = handles_of c.args.handles in
     let n = c.args.least in
@@ -835,8 +835,8 @@ read_key_entry-returns-in_err-end-in-Some-clause-decides g t c =
     let s = c.args.source.now in
     λ e. decides_err (keyed_at cs (Unit {0}) h c.args.room n flow_in) (InFlow cs n) (place_of s c.args.at) (InFlow cs n) (λ r. place_of s r.0) c.from_residual-in_err-end-in-Some.result c.in_err-end-in-Some.field-0.0 c.from_residual-in_err-end-in-Some.ensures.1 (or_else (key_refused cs h c.args.room n (place_of s c.args.at) (subst (λ y. SignAt Yaml y cs (place_of s c.args.at) → ⊥) e c.requires.no_colon) c.in_ok-key.key.kind (place_of s c.in_ok-key.key.end) (only_in cs h c.args.room n x c.in_ok-key.key.kind _ _ e (c.in_ok-key.ensures.decides e)) (place_of s c.in_ok-colon.colon) (to_in cs n x _ _ e c.in_ok-colon.ensures.to) (sign_in cs c.in_ok-key.key.kind x (place_of s c.in_ok-colon.colon) (place_of s c.in-Some.after) e c.in-Some.ensures.colon.is c.in-Some.ensures.colon.next c.in-Some.ensures.sign)) (c.in_err-end-in-Some.ensures.decides e))
 
-pub read_key_entry-returns-in_err-key-clause-decides : goal.read_key_entry-returns-in_err-key-clause-decides
-read_key_entry-returns-in_err-key-clause-decides g t c =
+pub entries::read_key_entry-returns-in_err-key-clause-decides : goal.entries::read_key_entry-returns-in_err-key-clause-decides
+entries::read_key_entry-returns-in_err-key-clause-decides g t c =
     let cs = text_of c.args.source.now in
     let h = handles_of c.args.handles in
     let n = c.args.least in
@@ -844,8 +844,8 @@ read_key_entry-returns-in_err-key-clause-decides g t c =
     let s = c.args.source.now in
     λ e. decides_err (keyed_at cs (Unit {0}) h c.args.room n flow_in) (InFlow cs n) (place_of s c.args.at) (InFlow cs n) (λ r. place_of s r.0) c.from_residual.result c.in_err-key.field-0.0 c.from_residual.ensures.1 (or_else (λ f. key_nothing cs h c.args.room n (place_of s c.args.at) (subst (λ y. SignAt Yaml y cs (place_of s c.args.at) → ⊥) e c.requires.no_colon) (refused_in cs h c.args.room n x _ e f)) (c.in_err-key.ensures.decides e))
 
-pub read_key_entry-returns-in_ok-end-in-Some-clause-decides : goal.read_key_entry-returns-in_ok-end-in-Some-clause-decides
-read_key_entry-returns-in_ok-end-in-Some-clause-decides g t c =
+pub entries::read_key_entry-returns-in_ok-end-in-Some-clause-decides : goal.entries::read_key_entry-returns-in_ok-end-in-Some-clause-decides
+entries::read_key_entry-returns-in_ok-end-in-Some-clause-decides g t c =
     let cs = text_of c.args.source.now in
     let h = handles_of c.args.handles in
     let n = c.args.least in
@@ -853,8 +853,8 @@ read_key_entry-returns-in_ok-end-in-Some-clause-decides g t c =
     let s = c.args.source.now in
     λ e. key_goes cs h c.args.room n (place_of s c.args.at) (subst (λ y. SignAt Yaml y cs (place_of s c.args.at) → ⊥) e c.requires.no_colon) c.in_ok-key.key.kind (place_of s c.in_ok-key.key.end) (only_in cs h c.args.room n x c.in_ok-key.key.kind _ _ e (c.in_ok-key.ensures.decides e)) (place_of s c.in_ok-colon.colon) (to_in cs n x _ _ e c.in_ok-colon.ensures.to) (place_of s c.in_ok-end-in-Some.end) (sign_in cs c.in_ok-key.key.kind x (place_of s c.in_ok-colon.colon) (place_of s c.in-Some.after) e c.in-Some.ensures.colon.is c.in-Some.ensures.colon.next c.in-Some.ensures.sign) (c.in_ok-end-in-Some.ensures.decides e)
 
-pub read_key_entry-returns-in_ok-push_empty-in-None-clause-decides : goal.read_key_entry-returns-in_ok-push_empty-in-None-clause-decides
-read_key_entry-returns-in_ok-push_empty-in-None-clause-decides g t c =
+pub entries::read_key_entry-returns-in_ok-push_empty-in-None-clause-decides : goal.entries::read_key_entry-returns-in_ok-push_empty-in-None-clause-decides
+entries::read_key_entry-returns-in_ok-push_empty-in-None-clause-decides g t c =
     let cs = text_of c.args.source.now in
     let h = handles_of c.args.handles in
     let n = c.args.least in
@@ -862,8 +862,8 @@ read_key_entry-returns-in_ok-push_empty-in-None-clause-decides g t c =
     let s = c.args.source.now in
     λ e. key_lone cs h c.args.room n (place_of s c.args.at) (subst (λ y. SignAt Yaml y cs (place_of s c.args.at) → ⊥) e c.requires.no_colon) c.in_ok-key.key.kind (place_of s c.in_ok-key.key.end) (only_in cs h c.args.room n x c.in_ok-key.key.kind _ _ e (c.in_ok-key.ensures.decides e)) (place_of s c.in_ok-colon.colon) (to_in cs n x _ _ e c.in_ok-colon.ensures.to) (subst (λ y. SignAt c.in_ok-key.key.kind y cs (place_of s c.in_ok-colon.colon) → ⊥) e c.in-None.ensures.none)
 
-pub read_key_entry-returns-in_ok-push_empty-in-None-clause-ends : goal.read_key_entry-returns-in_ok-push_empty-in-None-clause-ends
-read_key_entry-returns-in_ok-push_empty-in-None-clause-ends g t c =
+pub entries::read_key_entry-returns-in_ok-push_empty-in-None-clause-ends : goal.entries::read_key_entry-returns-in_ok-push_empty-in-None-clause-ends
+entries::read_key_entry-returns-in_ok-push_empty-in-None-clause-ends g t c =
     let cs = text_of c.args.source.now in
     let h = handles_of c.args.handles in
     let n = c.args.least in
@@ -871,8 +871,8 @@ read_key_entry-returns-in_ok-push_empty-in-None-clause-ends g t c =
     let s = c.args.source.now in
     inl (node_inside cs h c.in_ok-key.key.deep n x c.in_ok-key.key.kind _ _ c.in_ok-key.ensures.reads.0 (c.in_ok-key.ensures.reads.2 c.in_ok-key.key.deep (omega arith)))
 
-pub read_keyed-returns-in_ok-push_empty-in-Some-clause-decides : goal.read_keyed-returns-in_ok-push_empty-in-Some-clause-decides
-read_keyed-returns-in_ok-push_empty-in-Some-clause-decides g t c =
+pub entries::read_keyed-returns-in_ok-push_empty-in-Some-clause-decides : goal.entries::read_keyed-returns-in_ok-push_empty-in-Some-clause-decides
+entries::read_keyed-returns-in_ok-push_empty-in-Some-clause-decides g t c =
     let cs = text_of c.args.source.now in
     let h = handles_of c.args.handles in
     let n = c.args.least in
@@ -881,8 +881,8 @@ read_keyed-returns-in_ok-push_empty-in-Some-clause-decides g t c =
     λ e. decides_by (value_at cs (Unit {0}) h Yaml c.args.room n flow_in) (InFlow cs n) (place_of s c.args.at) (InFlow cs n) (keyed_at cs (Unit {0}) h c.args.room n flow_in) (InFlow cs n) (place_of s c.args.at) (InFlow cs n) (λ r. place_of s r.0) c.read_value.result
     (λ z g. empty_key_goes cs h c.args.room n (place_of s c.args.at) z (sign_in cs Yaml x (place_of s c.args.at) (place_of s c.in-Some.after) e c.in-Some.ensures.colon.is c.in-Some.ensures.colon.next c.in-Some.ensures.sign) g) (empty_key_refused cs h c.args.room n (place_of s c.args.at) (sign_in cs Yaml x (place_of s c.args.at) (place_of s c.in-Some.after) e c.in-Some.ensures.colon.is c.in-Some.ensures.colon.next c.in-Some.ensures.sign)) (c.read_value.ensures.decides e)
 
-pub read_mapping-returns-clause-decides : goal.read_mapping-returns-clause-decides
-read_mapping-returns-clause-decides g t c =
+pub mapping::read_mapping-returns-clause-decides : goal.mapping::read_mapping-returns-clause-decides
+mapping::read_mapping-returns-clause-decides g t c =
     let cs = text_of c.args.source.now in
     let h = handles_of c.args.handles in
     let n = c.args.least in
@@ -890,8 +890,8 @@ read_mapping-returns-clause-decides g t c =
     let s = c.args.source.now in
     λ w p. mapping_goes cs h c.args.room (c.args.room - 1) n (omega arith) x w p (place_of s c.args.at) (place_of s c.args.inside) c.requires.bracket.next (place_of s c.in_ok-first.first) c.in_ok-first.ensures.to _ (c.in_ok-end.ensures.decides (c.inner.ensures.context ∙ w))
 
-pub read_mapping-returns-in_err-end-clause-decides : goal.read_mapping-returns-in_err-end-clause-decides
-read_mapping-returns-in_err-end-clause-decides g t c =
+pub mapping::read_mapping-returns-in_err-end-clause-decides : goal.mapping::read_mapping-returns-in_err-end-clause-decides
+mapping::read_mapping-returns-in_err-end-clause-decides g t c =
     let cs = text_of c.args.source.now in
     let h = handles_of c.args.handles in
     let n = c.args.least in
@@ -900,8 +900,8 @@ read_mapping-returns-in_err-end-clause-decides g t c =
     λ w. each_err (λ p. flow_map cs (Unit {0}) h (opens cs (Unit {0}) h c.args.room) (below cs (Unit {0}) h c.args.room) p n x) (place_of s c.args.at) (λ node. place_of s node.end) c.from_residual-in_err-end.result c.in_err-end.field-0.0 c.from_residual-in_err-end.ensures.1
     (or_else (λ f p. mapping_refused cs h c.args.room (c.args.room - 1) n (omega arith) x w p (place_of s c.args.at) (place_of s c.args.inside) c.requires.bracket.next (place_of s c.in_ok-first.first) c.in_ok-first.ensures.to f) (c.in_err-end.ensures.decides (c.inner.ensures.context ∙ w)))
 
-pub read_mapping-returns-in_err-first-clause-decides : goal.read_mapping-returns-in_err-first-clause-decides
-read_mapping-returns-in_err-first-clause-decides g t c =
+pub mapping::read_mapping-returns-in_err-first-clause-decides : goal.mapping::read_mapping-returns-in_err-first-clause-decides
+mapping::read_mapping-returns-in_err-first-clause-decides g t c =
     let cs = text_of c.args.source.now in
     let h = handles_of c.args.handles in
     let n = c.args.least in
@@ -910,8 +910,8 @@ read_mapping-returns-in_err-first-clause-decides g t c =
     λ w. each_err (λ p. flow_map cs (Unit {0}) h (opens cs (Unit {0}) h c.args.room) (below cs (Unit {0}) h c.args.room) p n x) (place_of s c.args.at) (λ node. place_of s node.end) c.from_residual-in_err-first.result c.in_err-first.field-0.0 c.from_residual-in_err-first.ensures.1
     (inr (λ p. mapping_nowhere cs h c.args.room (c.args.room - 1) n (omega arith) x w p (place_of s c.args.at) (place_of s c.args.inside) c.requires.bracket.next (c.in_err-first.ensures.none (char_inside cs (place_of s c.args.at) (place_of s c.args.inside) 123 c.requires.bracket.is c.requires.bracket.next nb_brace))))
 
-pub read_node_item-returns-in-None-clause-decides : goal.read_node_item-returns-in-None-clause-decides
-read_node_item-returns-in-None-clause-decides g t c =
+pub sequence::read_node_item-returns-in-None-clause-decides : goal.sequence::read_node_item-returns-in-None-clause-decides
+sequence::read_node_item-returns-in-None-clause-decides g t c =
     let cs = text_of c.args.source.now in
     let h = handles_of c.args.handles in
     let n = c.args.least in
@@ -919,8 +919,8 @@ read_node_item-returns-in-None-clause-decides g t c =
     let s = c.args.source.now in
     λ e. item_lone cs h n c.args.room (place_of s c.args.at) (subst (λ y. SignAt Yaml y cs (place_of s c.args.at) → ⊥) e c.requires.no_colon) (no_mark cs (place_of s c.args.at) (subst (λ y. AskedAt y cs (place_of s c.args.at) → ⊥) e c.requires.no_mark)) c.in_ok-key.key.kind (place_of s c.in_ok-key.key.end) (only_in cs h c.args.room n x c.in_ok-key.key.kind _ _ e (c.in_ok-key.ensures.decides e)) (subst (λ y. NoKey cs c.in_ok-key.key.kind y (place_of s c.args.at) (place_of s c.in_ok-key.key.end)) e (if_none _ c.in_ok-key_colon.field-0 c.in-None.is c.in_ok-key_colon.ensures.none))
 
-pub read_node_item-returns-in-None-clause-ends : goal.read_node_item-returns-in-None-clause-ends
-read_node_item-returns-in-None-clause-ends g t c =
+pub sequence::read_node_item-returns-in-None-clause-ends : goal.sequence::read_node_item-returns-in-None-clause-ends
+sequence::read_node_item-returns-in-None-clause-ends g t c =
     let cs = text_of c.args.source.now in
     let h = handles_of c.args.handles in
     let n = c.args.least in
@@ -928,8 +928,8 @@ read_node_item-returns-in-None-clause-ends g t c =
     let s = c.args.source.now in
     inl (node_inside cs h c.in_ok-key.key.deep n x c.in_ok-key.key.kind _ _ c.in_ok-key.ensures.reads.0 (c.in_ok-key.ensures.reads.2 c.in_ok-key.key.deep (omega arith)))
 
-pub read_node_item-returns-in_err-end-in-Some-clause-decides : goal.read_node_item-returns-in_err-end-in-Some-clause-decides
-read_node_item-returns-in_err-end-in-Some-clause-decides g t c =
+pub sequence::read_node_item-returns-in_err-end-in-Some-clause-decides : goal.sequence::read_node_item-returns-in_err-end-in-Some-clause-decides
+sequence::read_node_item-returns-in_err-end-in-Some-clause-decides g t c =
     let cs = text_of c.args.source.now in
     let h = handles_of c.args.handles in
     let n = c.args.least in
@@ -941,8 +941,8 @@ read_node_item-returns-in_err-end-in-Some-clause-decides g t c =
     let sign = if_some (λ r. MayFollowColon c.in_ok-key.key.kind x cs (place_of s r.1)) c.in_ok-key_colon.field-0 (c.in-Some.colon, c.in-Some.after) c.in-Some.is c.in_ok-key_colon.ensures.sign in
     λ e. decides_err (item_at cs (Unit {0}) h c.args.room n flow_in) (InFlow cs n) (place_of s c.args.at) (InFlow cs n) (λ r. place_of s r.0) c.from_residual-in_err-end-in-Some.result c.in_err-end-in-Some.field-0.0 c.from_residual-in_err-end-in-Some.ensures.1 (or_else (λ f. item_no_pair cs h n c.args.room (place_of s c.args.at) (subst (λ y. SignAt Yaml y cs (place_of s c.args.at) → ⊥) e c.requires.no_colon) (no_mark cs (place_of s c.args.at) (subst (λ y. AskedAt y cs (place_of s c.args.at) → ⊥) e c.requires.no_mark)) c.in_ok-key.key.kind (place_of s c.in_ok-key.key.end) (only_in cs h c.args.room n x c.in_ok-key.key.kind _ _ e (c.in_ok-key.ensures.decides e)) q apart (sign_in cs c.in_ok-key.key.kind x q (place_of s c.in-Some.after) e colon.is colon.next sign) (own_refused cs h n c.args.room (c.args.room - 1) (omega arith) (place_of s c.args.at) (subst (λ y. SignAt Yaml y cs (place_of s c.args.at) → ⊥) e c.requires.no_colon) (no_mark cs (place_of s c.args.at) (subst (λ y. AskedAt y cs (place_of s c.args.at) → ⊥) e c.requires.no_mark)) c.in_ok-key.key.kind (place_of s c.in_ok-key.key.end) q (only_in cs h c.args.room n x c.in_ok-key.key.kind _ _ e (c.in_ok-key.ensures.decides e)) apart f)) (c.in_err-end-in-Some.ensures.decides e))
 
-pub read_node_item-returns-in_err-key-clause-decides : goal.read_node_item-returns-in_err-key-clause-decides
-read_node_item-returns-in_err-key-clause-decides g t c =
+pub sequence::read_node_item-returns-in_err-key-clause-decides : goal.sequence::read_node_item-returns-in_err-key-clause-decides
+sequence::read_node_item-returns-in_err-key-clause-decides g t c =
     let cs = text_of c.args.source.now in
     let h = handles_of c.args.handles in
     let n = c.args.least in
@@ -950,8 +950,8 @@ read_node_item-returns-in_err-key-clause-decides g t c =
     let s = c.args.source.now in
     λ e. decides_err (item_at cs (Unit {0}) h c.args.room n flow_in) (InFlow cs n) (place_of s c.args.at) (InFlow cs n) (λ r. place_of s r.0) c.from_residual.result c.in_err-key.field-0.0 c.from_residual.ensures.1 (or_else (λ f. item_nothing cs h n c.args.room (place_of s c.args.at) (subst (λ y. SignAt Yaml y cs (place_of s c.args.at) → ⊥) e c.requires.no_colon) (no_mark cs (place_of s c.args.at) (subst (λ y. AskedAt y cs (place_of s c.args.at) → ⊥) e c.requires.no_mark)) (refused_in cs h c.args.room n x _ e f)) (c.in_err-key.ensures.decides e))
 
-pub read_node_item-returns-in_err-key_colon-clause-decides : goal.read_node_item-returns-in_err-key_colon-clause-decides
-read_node_item-returns-in_err-key_colon-clause-decides g t c =
+pub sequence::read_node_item-returns-in_err-key_colon-clause-decides : goal.sequence::read_node_item-returns-in_err-key_colon-clause-decides
+sequence::read_node_item-returns-in_err-key_colon-clause-decides g t c =
     let cs = text_of c.args.source.now in
     let h = handles_of c.args.handles in
     let n = c.args.least in
@@ -959,8 +959,8 @@ read_node_item-returns-in_err-key_colon-clause-decides g t c =
     let s = c.args.source.now in
     λ e. decides_err (item_at cs (Unit {0}) h c.args.room n flow_in) (InFlow cs n) (place_of s c.args.at) (InFlow cs n) (λ r. place_of s r.0) c.from_residual-in_err-key_colon.result c.in_err-key_colon.field-0.0 c.from_residual-in_err-key_colon.ensures.1 (inr (item_long cs h n c.args.room (place_of s c.args.at) (subst (λ y. SignAt Yaml y cs (place_of s c.args.at) → ⊥) e c.requires.no_colon) (no_mark cs (place_of s c.args.at) (subst (λ y. AskedAt y cs (place_of s c.args.at) → ⊥) e c.requires.no_mark)) c.in_ok-key.key.kind (place_of s c.in_ok-key.key.end) (only_in cs h c.args.room n x c.in_ok-key.key.kind _ _ e (c.in_ok-key.ensures.decides e)) (subst (λ y. LongKey cs c.in_ok-key.key.kind y (place_of s c.args.at) (place_of s c.in_ok-key.key.end)) e c.in_err-key_colon.ensures.long)))
 
-pub read_node_item-returns-in_ok-push_mapping_end-in-Some-clause-decides : goal.read_node_item-returns-in_ok-push_mapping_end-in-Some-clause-decides
-read_node_item-returns-in_ok-push_mapping_end-in-Some-clause-decides g t c =
+pub sequence::read_node_item-returns-in_ok-push_mapping_end-in-Some-clause-decides : goal.sequence::read_node_item-returns-in_ok-push_mapping_end-in-Some-clause-decides
+sequence::read_node_item-returns-in_ok-push_mapping_end-in-Some-clause-decides g t c =
     let cs = text_of c.args.source.now in
     let h = handles_of c.args.handles in
     let n = c.args.least in
@@ -972,8 +972,8 @@ read_node_item-returns-in_ok-push_mapping_end-in-Some-clause-decides g t c =
     let sign = if_some (λ r. MayFollowColon c.in_ok-key.key.kind x cs (place_of s r.1)) c.in_ok-key_colon.field-0 (c.in-Some.colon, c.in-Some.after) c.in-Some.is c.in_ok-key_colon.ensures.sign in
     λ e. item_of_pair cs h n c.args.room (place_of s c.args.at) (subst (λ y. SignAt Yaml y cs (place_of s c.args.at) → ⊥) e c.requires.no_colon) (no_mark cs (place_of s c.args.at) (subst (λ y. AskedAt y cs (place_of s c.args.at) → ⊥) e c.requires.no_mark)) c.in_ok-key.key.kind (place_of s c.in_ok-key.key.end) (only_in cs h c.args.room n x c.in_ok-key.key.kind _ _ e (c.in_ok-key.ensures.decides e)) q apart (sign_in cs c.in_ok-key.key.kind x q (place_of s c.in-Some.after) e colon.is colon.next sign) (place_of s c.in_ok-end-in-Some.end) (own_goes cs h n c.args.room (c.args.room - 1) (omega arith) (place_of s c.args.at) (subst (λ y. SignAt Yaml y cs (place_of s c.args.at) → ⊥) e c.requires.no_colon) (no_mark cs (place_of s c.args.at) (subst (λ y. AskedAt y cs (place_of s c.args.at) → ⊥) e c.requires.no_mark)) c.in_ok-key.key.kind (place_of s c.in_ok-key.key.end) q (place_of s c.in_ok-end-in-Some.end) (only_in cs h c.args.room n x c.in_ok-key.key.kind _ _ e (c.in_ok-key.ensures.decides e)) apart (c.in_ok-end-in-Some.ensures.decides e))
 
-pub read_node_item-returns-in_ok-push_mapping_end-in-Some-clause-reads : goal.read_node_item-returns-in_ok-push_mapping_end-in-Some-clause-reads
-read_node_item-returns-in_ok-push_mapping_end-in-Some-clause-reads g t c =
+pub sequence::read_node_item-returns-in_ok-push_mapping_end-in-Some-clause-reads : goal.sequence::read_node_item-returns-in_ok-push_mapping_end-in-Some-clause-reads
+sequence::read_node_item-returns-in_ok-push_mapping_end-in-Some-clause-reads g t c =
     let cs = text_of c.args.source.now in
     let h = handles_of c.args.handles in
     let n = c.args.least in
@@ -996,8 +996,8 @@ read_node_item-returns-in_ok-push_mapping_end-in-Some-clause-reads g t c =
           (_, apart.0, (colon.is, colon.next), fits) (colon.is, colon.next) v.2),
     )
 
-pub read_node_item-returns-then-key-room-clause-decides : goal.read_node_item-returns-then-key-room-clause-decides
-read_node_item-returns-then-key-room-clause-decides g t c =
+pub sequence::read_node_item-returns-then-key-room-clause-decides : goal.sequence::read_node_item-returns-then-key-room-clause-decides
+sequence::read_node_item-returns-then-key-room-clause-decides g t c =
     let cs = text_of c.args.source.now in
     let h = handles_of c.args.handles in
     let n = c.args.least in
@@ -1010,8 +1010,8 @@ read_node_item-returns-then-key-room-clause-decides g t c =
     λ e. decides_by (PairAt cs h n c.args.room) (InFlow cs n) (place_of s c.args.at) (InFlow cs n) (item_at cs (Unit {0}) h c.args.room n flow_in) (InFlow cs n) (place_of s c.args.at) (InFlow cs n) (λ r. place_of s r.0) c.read_pair.result
     (item_of_pair cs h n c.args.room (place_of s c.args.at) (subst (λ y. SignAt Yaml y cs (place_of s c.args.at) → ⊥) e c.requires.no_colon) (no_mark cs (place_of s c.args.at) (subst (λ y. AskedAt y cs (place_of s c.args.at) → ⊥) e c.requires.no_mark)) c.in_ok-key.key.kind (place_of s c.in_ok-key.key.end) (only_in cs h c.args.room n x c.in_ok-key.key.kind _ _ e (c.in_ok-key.ensures.decides e)) q apart (sign_in cs c.in_ok-key.key.kind x q (place_of s c.in-Some.after) e colon.is colon.next sign)) (item_no_pair cs h n c.args.room (place_of s c.args.at) (subst (λ y. SignAt Yaml y cs (place_of s c.args.at) → ⊥) e c.requires.no_colon) (no_mark cs (place_of s c.args.at) (subst (λ y. AskedAt y cs (place_of s c.args.at) → ⊥) e c.requires.no_mark)) c.in_ok-key.key.kind (place_of s c.in_ok-key.key.end) (only_in cs h c.args.room n x c.in_ok-key.key.kind _ _ e (c.in_ok-key.ensures.decides e)) q apart (sign_in cs c.in_ok-key.key.kind x q (place_of s c.in-Some.after) e colon.is colon.next sign)) (c.read_pair.ensures.decides e)
 
-pub read_node_item-returns-then-key-room-clause-reads : goal.read_node_item-returns-then-key-room-clause-reads
-read_node_item-returns-then-key-room-clause-reads g t c =
+pub sequence::read_node_item-returns-then-key-room-clause-reads : goal.sequence::read_node_item-returns-then-key-room-clause-reads
+sequence::read_node_item-returns-then-key-room-clause-reads g t c =
     let cs = text_of c.args.source.now in
     let h = handles_of c.args.handles in
     let n = c.args.least in
@@ -1022,8 +1022,8 @@ read_node_item-returns-then-key-room-clause-reads g t c =
     appends_after (λ r. from_room r.1 (λ room. item_at cs (Unit {0}) h room n x)) (λ r. from_room r.1 (λ room. item_at cs (Unit {0}) h room n x))
     (place_of s c.args.at) (place_of s c.args.at) (λ r. place_of s r.0) c.args.out.now c.cut.new.self c.read_pair.new.out c.read_pair.result [] cut (λ r vs p. p) c.read_pair.ensures.reads
 
-pub read_node_item-returns-then-room-eq0-clause-decides : goal.read_node_item-returns-then-room-eq0-clause-decides
-read_node_item-returns-then-room-eq0-clause-decides g t c =
+pub sequence::read_node_item-returns-then-room-eq0-clause-decides : goal.sequence::read_node_item-returns-then-room-eq0-clause-decides
+sequence::read_node_item-returns-then-room-eq0-clause-decides g t c =
     let cs = text_of c.args.source.now in
     let h = handles_of c.args.handles in
     let n = c.args.least in
@@ -1035,8 +1035,8 @@ read_node_item-returns-then-room-eq0-clause-decides g t c =
     let sign = if_some (λ r. MayFollowColon c.in_ok-key.key.kind x cs (place_of s r.1)) c.in_ok-key_colon.field-0 (c.in-Some.colon, c.in-Some.after) c.in-Some.is c.in_ok-key_colon.ensures.sign in
     λ e. inr (item_full cs h n c.args.room (place_of s c.args.at) (subst (λ y. SignAt Yaml y cs (place_of s c.args.at) → ⊥) e c.requires.no_colon) (no_mark cs (place_of s c.args.at) (subst (λ y. AskedAt y cs (place_of s c.args.at) → ⊥) e c.requires.no_mark)) c.in_ok-key.key.kind (place_of s c.in_ok-key.key.end) (only_in cs h c.args.room n x c.in_ok-key.key.kind _ _ e (c.in_ok-key.ensures.decides e)) q apart (sign_in cs c.in_ok-key.key.kind x q (place_of s c.in-Some.after) e colon.is colon.next sign) c.if-room-eq0.true)
 
-pub read_pair-returns-in-None-clause-decides : goal.read_pair-returns-in-None-clause-decides
-read_pair-returns-in-None-clause-decides g t c =
+pub pairs::read_pair-returns-in-None-clause-decides : goal.pairs::read_pair-returns-in-None-clause-decides
+pairs::read_pair-returns-in-None-clause-decides g t c =
     let cs = text_of c.args.source.now in
     let h = handles_of c.args.handles in
     let n = c.args.least in
@@ -1044,8 +1044,8 @@ read_pair-returns-in-None-clause-decides g t c =
     let s = c.args.source.now in
     λ e. inr (pair_lone cs h n c.args.room (c.args.room - 1) (omega arith) (place_of s c.args.at) (subst (λ y. SignAt Yaml y cs (place_of s c.args.at) → ⊥) e c.requires.no_colon) (no_mark cs (place_of s c.args.at) (subst (λ y. AskedAt y cs (place_of s c.args.at) → ⊥) e c.requires.no_mark)) c.in_ok-key.key.kind (place_of s c.in_ok-key.key.end) (only_in cs h (c.args.room - 1) n x c.in_ok-key.key.kind _ _ e (c.in_ok-key.ensures.decides e)) (subst (λ y. NoKey cs c.in_ok-key.key.kind y (place_of s c.args.at) (place_of s c.in_ok-key.key.end)) e (if_none _ c.in_ok-key_colon.field-0 c.in-None.is c.in_ok-key_colon.ensures.none)))
 
-pub read_pair-returns-in_err-end-in-Some-clause-decides : goal.read_pair-returns-in_err-end-in-Some-clause-decides
-read_pair-returns-in_err-end-in-Some-clause-decides g t c =
+pub pairs::read_pair-returns-in_err-end-in-Some-clause-decides : goal.pairs::read_pair-returns-in_err-end-in-Some-clause-decides
+pairs::read_pair-returns-in_err-end-in-Some-clause-decides g t c =
     let cs = text_of c.args.source.now in
     let h = handles_of c.args.handles in
     let n = c.args.least in
@@ -1057,8 +1057,8 @@ read_pair-returns-in_err-end-in-Some-clause-decides g t c =
     let sign = if_some (λ r. MayFollowColon c.in_ok-key.key.kind x cs (place_of s r.1)) c.in_ok-key_colon.field-0 (c.in-Some.colon, c.in-Some.after) c.in-Some.is c.in_ok-key_colon.ensures.sign in
     λ e. decides_err (PairAt cs h n c.args.room) (InFlow cs n) (place_of s c.args.at) (InFlow cs n) (λ r. place_of s r.0) c.from_residual-in_err-end-in-Some.result c.in_err-end-in-Some.field-0.0 c.from_residual-in_err-end-in-Some.ensures.1 (or_else (pair_refused cs h n c.args.room (c.args.room - 1) (omega arith) (place_of s c.args.at) (subst (λ y. SignAt Yaml y cs (place_of s c.args.at) → ⊥) e c.requires.no_colon) (no_mark cs (place_of s c.args.at) (subst (λ y. AskedAt y cs (place_of s c.args.at) → ⊥) e c.requires.no_mark)) c.in_ok-key.key.kind (place_of s c.in_ok-key.key.end) (only_in cs h (c.args.room - 1) n x c.in_ok-key.key.kind _ _ e (c.in_ok-key.ensures.decides e)) q apart) (c.in_err-end-in-Some.ensures.decides e))
 
-pub read_pair-returns-in_err-key-clause-decides : goal.read_pair-returns-in_err-key-clause-decides
-read_pair-returns-in_err-key-clause-decides g t c =
+pub pairs::read_pair-returns-in_err-key-clause-decides : goal.pairs::read_pair-returns-in_err-key-clause-decides
+pairs::read_pair-returns-in_err-key-clause-decides g t c =
     let cs = text_of c.args.source.now in
     let h = handles_of c.args.handles in
     let n = c.args.least in
@@ -1066,8 +1066,8 @@ read_pair-returns-in_err-key-clause-decides g t c =
     let s = c.args.source.now in
     λ e. decides_err (PairAt cs h n c.args.room) (InFlow cs n) (place_of s c.args.at) (InFlow cs n) (λ r. place_of s r.0) c.from_residual-in_err-key.result c.in_err-key.field-0.0 c.from_residual-in_err-key.ensures.1 (or_else (λ f. pair_nothing cs h n c.args.room (c.args.room - 1) (omega arith) (place_of s c.args.at) (subst (λ y. SignAt Yaml y cs (place_of s c.args.at) → ⊥) e c.requires.no_colon) (no_mark cs (place_of s c.args.at) (subst (λ y. AskedAt y cs (place_of s c.args.at) → ⊥) e c.requires.no_mark)) (refused_in cs h (c.args.room - 1) n x _ e f)) (c.in_err-key.ensures.decides e))
 
-pub read_pair-returns-in_err-key_colon-clause-decides : goal.read_pair-returns-in_err-key_colon-clause-decides
-read_pair-returns-in_err-key_colon-clause-decides g t c =
+pub pairs::read_pair-returns-in_err-key_colon-clause-decides : goal.pairs::read_pair-returns-in_err-key_colon-clause-decides
+pairs::read_pair-returns-in_err-key_colon-clause-decides g t c =
     let cs = text_of c.args.source.now in
     let h = handles_of c.args.handles in
     let n = c.args.least in
@@ -1075,8 +1075,8 @@ read_pair-returns-in_err-key_colon-clause-decides g t c =
     let s = c.args.source.now in
     λ e. decides_err (PairAt cs h n c.args.room) (InFlow cs n) (place_of s c.args.at) (InFlow cs n) (λ r. place_of s r.0) c.from_residual-in_err-key_colon.result c.in_err-key_colon.field-0.0 c.from_residual-in_err-key_colon.ensures.1 (inr (pair_long cs h n c.args.room (c.args.room - 1) (omega arith) (place_of s c.args.at) (subst (λ y. SignAt Yaml y cs (place_of s c.args.at) → ⊥) e c.requires.no_colon) (no_mark cs (place_of s c.args.at) (subst (λ y. AskedAt y cs (place_of s c.args.at) → ⊥) e c.requires.no_mark)) c.in_ok-key.key.kind (place_of s c.in_ok-key.key.end) (only_in cs h (c.args.room - 1) n x c.in_ok-key.key.kind _ _ e (c.in_ok-key.ensures.decides e)) (subst (λ y. LongKey cs c.in_ok-key.key.kind y (place_of s c.args.at) (place_of s c.in_ok-key.key.end)) e c.in_err-key_colon.ensures.long)))
 
-pub read_pair-returns-in_ok-push_mapping_end-in-Some-clause-decides : goal.read_pair-returns-in_ok-push_mapping_end-in-Some-clause-decides
-read_pair-returns-in_ok-push_mapping_end-in-Some-clause-decides g t c =
+pub pairs::read_pair-returns-in_ok-push_mapping_end-in-Some-clause-decides : goal.pairs::read_pair-returns-in_ok-push_mapping_end-in-Some-clause-decides
+pairs::read_pair-returns-in_ok-push_mapping_end-in-Some-clause-decides g t c =
     let cs = text_of c.args.source.now in
     let h = handles_of c.args.handles in
     let n = c.args.least in
@@ -1088,8 +1088,8 @@ read_pair-returns-in_ok-push_mapping_end-in-Some-clause-decides g t c =
     let sign = if_some (λ r. MayFollowColon c.in_ok-key.key.kind x cs (place_of s r.1)) c.in_ok-key_colon.field-0 (c.in-Some.colon, c.in-Some.after) c.in-Some.is c.in_ok-key_colon.ensures.sign in
     λ e. pair_goes cs h n c.args.room (c.args.room - 1) (omega arith) (place_of s c.args.at) (subst (λ y. SignAt Yaml y cs (place_of s c.args.at) → ⊥) e c.requires.no_colon) (no_mark cs (place_of s c.args.at) (subst (λ y. AskedAt y cs (place_of s c.args.at) → ⊥) e c.requires.no_mark)) c.in_ok-key.key.kind (place_of s c.in_ok-key.key.end) (only_in cs h (c.args.room - 1) n x c.in_ok-key.key.kind _ _ e (c.in_ok-key.ensures.decides e)) q (place_of s c.in_ok-end-in-Some.end) apart (c.in_ok-end-in-Some.ensures.decides e)
 
-pub read_pair-returns-in_ok-push_mapping_end-in-Some-clause-reads : goal.read_pair-returns-in_ok-push_mapping_end-in-Some-clause-reads
-read_pair-returns-in_ok-push_mapping_end-in-Some-clause-reads g t c =
+pub pairs::read_pair-returns-in_ok-push_mapping_end-in-Some-clause-reads : goal.pairs::read_pair-returns-in_ok-push_mapping_end-in-Some-clause-reads
+pairs::read_pair-returns-in_ok-push_mapping_end-in-Some-clause-reads g t c =
     let cs = text_of c.args.source.now in
     let h = handles_of c.args.handles in
     let n = c.args.least in
@@ -1112,8 +1112,8 @@ read_pair-returns-in_ok-push_mapping_end-in-Some-clause-reads g t c =
           (_, apart.0, (colon.is, colon.next), fits) (colon.is, colon.next) v.2),
     )
 
-pub read_sequence-returns-clause-decides : goal.read_sequence-returns-clause-decides
-read_sequence-returns-clause-decides g t c =
+pub sequence::read_sequence-returns-clause-decides : goal.sequence::read_sequence-returns-clause-decides
+sequence::read_sequence-returns-clause-decides g t c =
     let cs = text_of c.args.source.now in
     let h = handles_of c.args.handles in
     let n = c.args.least in
@@ -1121,8 +1121,8 @@ read_sequence-returns-clause-decides g t c =
     let s = c.args.source.now in
     λ w p. sequence_goes cs h c.args.room (c.args.room - 1) n (omega arith) x w p (place_of s c.args.at) (place_of s c.args.inside) c.requires.bracket.next (place_of s c.in_ok-first.first) c.in_ok-first.ensures.to _ (c.in_ok-end.ensures.decides (c.inner.ensures.context ∙ w))
 
-pub read_sequence-returns-in_err-end-clause-decides : goal.read_sequence-returns-in_err-end-clause-decides
-read_sequence-returns-in_err-end-clause-decides g t c =
+pub sequence::read_sequence-returns-in_err-end-clause-decides : goal.sequence::read_sequence-returns-in_err-end-clause-decides
+sequence::read_sequence-returns-in_err-end-clause-decides g t c =
     let cs = text_of c.args.source.now in
     let h = handles_of c.args.handles in
     let n = c.args.least in
@@ -1131,8 +1131,8 @@ read_sequence-returns-in_err-end-clause-decides g t c =
     λ w. each_err (λ p. flow_seq cs (Unit {0}) h (opens cs (Unit {0}) h c.args.room) (below cs (Unit {0}) h c.args.room) p n x) (place_of s c.args.at) (λ node. place_of s node.end) c.from_residual-in_err-end.result c.in_err-end.field-0.0 c.from_residual-in_err-end.ensures.1
     (or_else (λ f p. sequence_refused cs h c.args.room (c.args.room - 1) n (omega arith) x w p (place_of s c.args.at) (place_of s c.args.inside) c.requires.bracket.next (place_of s c.in_ok-first.first) c.in_ok-first.ensures.to f) (c.in_err-end.ensures.decides (c.inner.ensures.context ∙ w)))
 
-pub read_sequence-returns-in_err-first-clause-decides : goal.read_sequence-returns-in_err-first-clause-decides
-read_sequence-returns-in_err-first-clause-decides g t c =
+pub sequence::read_sequence-returns-in_err-first-clause-decides : goal.sequence::read_sequence-returns-in_err-first-clause-decides
+sequence::read_sequence-returns-in_err-first-clause-decides g t c =
     let cs = text_of c.args.source.now in
     let h = handles_of c.args.handles in
     let n = c.args.least in
@@ -1141,8 +1141,8 @@ read_sequence-returns-in_err-first-clause-decides g t c =
     λ w. each_err (λ p. flow_seq cs (Unit {0}) h (opens cs (Unit {0}) h c.args.room) (below cs (Unit {0}) h c.args.room) p n x) (place_of s c.args.at) (λ node. place_of s node.end) c.from_residual-in_err-first.result c.in_err-first.field-0.0 c.from_residual-in_err-first.ensures.1
     (inr (λ p. sequence_nowhere cs h c.args.room (c.args.room - 1) n (omega arith) x w p (place_of s c.args.at) (place_of s c.args.inside) c.requires.bracket.next (c.in_err-first.ensures.none (char_inside cs (place_of s c.args.at) (place_of s c.args.inside) 91 c.requires.bracket.is c.requires.bracket.next nb_bracket))))
 
-pub read_value-returns-clause-decides : goal.read_value-returns-clause-decides
-read_value-returns-clause-decides g t c =
+pub entries::read_value-returns-clause-decides : goal.entries::read_value-returns-clause-decides
+entries::read_value-returns-clause-decides g t c =
     let cs = text_of c.args.source.now in
     let h = handles_of c.args.handles in
     let n = c.args.least in
@@ -1150,8 +1150,8 @@ read_value-returns-clause-decides g t c =
     let s = c.args.source.now in
     λ e. value_goes cs h c.args.room n c.args.kind (place_of s c.args.colon) (place_of s c.args.after) c.requires.colon.next (place_of s c.in_ok-start.start) (to_in cs n x _ _ e c.in_ok-start.ensures.to) (on_false_at c.ends_value.result c.if-ends_value.false c.ends_value.ensures.no) c.in_ok-value.value.kind (place_of s c.in_ok-value.value.end) (only_in cs h c.args.room n x c.in_ok-value.value.kind _ _ e (c.in_ok-value.ensures.decides e))
 
-pub read_value-returns-clause-ends : goal.read_value-returns-clause-ends
-read_value-returns-clause-ends g t c =
+pub entries::read_value-returns-clause-ends : goal.entries::read_value-returns-clause-ends
+entries::read_value-returns-clause-ends g t c =
     let cs = text_of c.args.source.now in
     let h = handles_of c.args.handles in
     let n = c.args.least in
@@ -1159,8 +1159,8 @@ read_value-returns-clause-ends g t c =
     let s = c.args.source.now in
     inl (node_inside cs h c.in_ok-value.value.deep n x c.in_ok-value.value.kind _ _ c.in_ok-value.ensures.reads.0 (c.in_ok-value.ensures.reads.2 c.in_ok-value.value.deep (omega arith)))
 
-pub read_value-returns-in_err-start-clause-decides : goal.read_value-returns-in_err-start-clause-decides
-read_value-returns-in_err-start-clause-decides g t c =
+pub entries::read_value-returns-in_err-start-clause-decides : goal.entries::read_value-returns-in_err-start-clause-decides
+entries::read_value-returns-in_err-start-clause-decides g t c =
     let cs = text_of c.args.source.now in
     let h = handles_of c.args.handles in
     let n = c.args.least in
@@ -1168,8 +1168,8 @@ read_value-returns-in_err-start-clause-decides g t c =
     let s = c.args.source.now in
     λ e. decides_err (value_at cs (Unit {0}) h c.args.kind c.args.room n flow_in) (InFlow cs n) (place_of s c.args.colon) (InFlow cs n) (λ r. place_of s r.0) c.from_residual.result c.in_err-start.field-0.0 c.from_residual.ensures.1 (inr (value_nowhere cs h c.args.room n c.args.kind (place_of s c.args.colon) (place_of s c.args.after) c.requires.colon.next (none_in cs n x _ e (c.in_err-start.ensures.none (char_inside cs (place_of s c.args.colon) (place_of s c.args.after) 58 c.requires.colon.is c.requires.colon.next nb_colon)))))
 
-pub read_value-returns-in_err-value-clause-decides : goal.read_value-returns-in_err-value-clause-decides
-read_value-returns-in_err-value-clause-decides g t c =
+pub entries::read_value-returns-in_err-value-clause-decides : goal.entries::read_value-returns-in_err-value-clause-decides
+entries::read_value-returns-in_err-value-clause-decides g t c =
     let cs = text_of c.args.source.now in
     let h = handles_of c.args.handles in
     let n = c.args.least in
@@ -1177,8 +1177,8 @@ read_value-returns-in_err-value-clause-decides g t c =
     let s = c.args.source.now in
     λ e. decides_err (value_at cs (Unit {0}) h c.args.kind c.args.room n flow_in) (InFlow cs n) (place_of s c.args.colon) (InFlow cs n) (λ r. place_of s r.0) c.from_residual-in_err-value.result c.in_err-value.field-0.0 c.from_residual-in_err-value.ensures.1 (or_else (λ f. value_refused cs h c.args.room n c.args.kind (place_of s c.args.colon) (place_of s c.args.after) c.requires.colon.next (place_of s c.in_ok-start.start) (to_in cs n x _ _ e c.in_ok-start.ensures.to) (on_false_at c.ends_value.result c.if-ends_value.false c.ends_value.ensures.no) (refused_in cs h c.args.room n x _ e f)) (c.in_err-value.ensures.decides e))
 
-pub read_value-returns-then-ends_value-clause-decides : goal.read_value-returns-then-ends_value-clause-decides
-read_value-returns-then-ends_value-clause-decides g t c =
+pub entries::read_value-returns-then-ends_value-clause-decides : goal.entries::read_value-returns-then-ends_value-clause-decides
+entries::read_value-returns-then-ends_value-clause-decides g t c =
     let cs = text_of c.args.source.now in
     let h = handles_of c.args.handles in
     let n = c.args.least in
@@ -1186,8 +1186,8 @@ read_value-returns-then-ends_value-clause-decides g t c =
     let s = c.args.source.now in
     λ e. value_closed cs h c.args.room n c.args.kind (place_of s c.args.colon) (place_of s c.args.after) c.requires.colon.next (place_of s c.in_ok-start.start) (to_in cs n x _ _ e c.in_ok-start.ensures.to) (on_true_at c.ends_value.result c.if-ends_value.true c.ends_value.ensures.yes)
 
-pub read_value-returns-then-ends_value-clause-ends : goal.read_value-returns-then-ends_value-clause-ends
-read_value-returns-then-ends_value-clause-ends g t c =
+pub entries::read_value-returns-then-ends_value-clause-ends : goal.entries::read_value-returns-then-ends_value-clause-ends
+entries::read_value-returns-then-ends_value-clause-ends g t c =
     let cs = text_of c.args.source.now in
     let h = handles_of c.args.handles in
     let n = c.args.least in
@@ -1195,8 +1195,8 @@ read_value-returns-then-ends_value-clause-ends g t c =
     let s = c.args.source.now in
     inl (char_inside cs (place_of s c.args.colon) (place_of s c.args.after) 58 c.requires.colon.is c.requires.colon.next nb_colon)
 
-pub read_value-returns-then-not-is_parted-clause-decides : goal.read_value-returns-then-not-is_parted-clause-decides
-read_value-returns-then-not-is_parted-clause-decides g t c =
+pub entries::read_value-returns-then-not-is_parted-clause-decides : goal.entries::read_value-returns-then-not-is_parted-clause-decides
+entries::read_value-returns-then-not-is_parted-clause-decides g t c =
     let cs = text_of c.args.source.now in
     let h = handles_of c.args.handles in
     let n = c.args.least in
@@ -1205,8 +1205,8 @@ read_value-returns-then-not-is_parted-clause-decides g t c =
     let apart = on_false_at c.is_parted.result c.if-not-is_parted.true c.is_parted.ensures.no in
     λ e. value_alone cs h c.args.room n c.args.kind (place_of s c.args.colon) (place_of s c.args.after) c.requires.colon.next c.args.after c.in_ok-start.start apart (char_inside cs (place_of s c.args.colon) (place_of s c.args.after) 58 c.requires.colon.is c.requires.colon.next nb_colon) (alone_to cs n c.args.kind c.args.after c.in_ok-start.start (place_of s) apart c.in_ok-start.ensures.onward (to_in cs n x _ _ e c.in_ok-start.ensures.to))
 
-pub read_value-returns-then-not-is_parted-clause-ends : goal.read_value-returns-then-not-is_parted-clause-ends
-read_value-returns-then-not-is_parted-clause-ends g t c =
+pub entries::read_value-returns-then-not-is_parted-clause-ends : goal.entries::read_value-returns-then-not-is_parted-clause-ends
+entries::read_value-returns-then-not-is_parted-clause-ends g t c =
     let cs = text_of c.args.source.now in
     let h = handles_of c.args.handles in
     let n = c.args.least in

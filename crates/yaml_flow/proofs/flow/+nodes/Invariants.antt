@@ -11,59 +11,59 @@ use Rattle.yaml_flow.specs.SinkModel.{holds_of}
 use Rattle.yaml_flow.proofs.LoopDecisions.{PartsLeft}
 use Rattle.yaml_flow.proofs.flow.+nodes.Given as goal
 
-abbrev pub decreases-read_sequence : goal.decreases-read_sequence
-decreases-read_sequence g l = 12 * l.room
+abbrev pub decreases-sequence::read_sequence : goal.decreases-sequence::read_sequence
+decreases-sequence::read_sequence g l = 12 * l.room
 
-abbrev pub decreases-read_mapping : goal.decreases-read_mapping
-decreases-read_mapping g l = 12 * l.room
+abbrev pub decreases-mapping::read_mapping : goal.decreases-mapping::read_mapping
+decreases-mapping::read_mapping g l = 12 * l.room
 
-abbrev pub decreases-read_content : goal.decreases-read_content
-decreases-read_content g l = 12 * l.room + 1
+abbrev pub decreases-nodes::read_content : goal.decreases-nodes::read_content
+decreases-nodes::read_content g l = 12 * l.room + 1
 
-abbrev pub decreases-read_bare : goal.decreases-read_bare
-decreases-read_bare g l = 12 * l.room + 2
+abbrev pub decreases-nodes::read_bare : goal.decreases-nodes::read_bare
+decreases-nodes::read_bare g l = 12 * l.room + 2
 
-abbrev pub decreases-read_flow_node : goal.decreases-read_flow_node
-decreases-read_flow_node g l = 12 * l.room + 3
+abbrev pub decreases-nodes::read_flow_node : goal.decreases-nodes::read_flow_node
+decreases-nodes::read_flow_node g l = 12 * l.room + 3
 
-abbrev pub decreases-read_pair : goal.decreases-read_pair
-decreases-read_pair g l = 12 * l.room + 4
+abbrev pub decreases-pairs::read_pair : goal.decreases-pairs::read_pair
+decreases-pairs::read_pair g l = 12 * l.room + 4
 
-abbrev pub decreases-read_value : goal.decreases-read_value
-decreases-read_value g l = 12 * l.room + 4
+abbrev pub decreases-entries::read_value : goal.decreases-entries::read_value
+decreases-entries::read_value g l = 12 * l.room + 4
 
-abbrev pub decreases-read_node_item : goal.decreases-read_node_item
-decreases-read_node_item g l = 12 * l.room + 5
+abbrev pub decreases-sequence::read_node_item : goal.decreases-sequence::read_node_item
+decreases-sequence::read_node_item g l = 12 * l.room + 5
 
-abbrev pub decreases-read_key_entry : goal.decreases-read_key_entry
-decreases-read_key_entry g l = 12 * l.room + 5
+abbrev pub decreases-entries::read_key_entry : goal.decreases-entries::read_key_entry
+decreases-entries::read_key_entry g l = 12 * l.room + 5
 
-abbrev pub decreases-read_asked_pair : goal.decreases-read_asked_pair
-decreases-read_asked_pair g l = 12 * l.room + 5
+abbrev pub decreases-pairs::read_asked_pair : goal.decreases-pairs::read_asked_pair
+decreases-pairs::read_asked_pair g l = 12 * l.room + 5
 
-abbrev pub decreases-read_empty_pair : goal.decreases-read_empty_pair
-decreases-read_empty_pair g l = 12 * l.room + 5
+abbrev pub decreases-pairs::read_empty_pair : goal.decreases-pairs::read_empty_pair
+decreases-pairs::read_empty_pair g l = 12 * l.room + 5
 
-abbrev pub decreases-read_keyed : goal.decreases-read_keyed
-decreases-read_keyed g l = 12 * l.room + 6
+abbrev pub decreases-entries::read_keyed : goal.decreases-entries::read_keyed
+decreases-entries::read_keyed g l = 12 * l.room + 6
 
-abbrev pub decreases-read_item : goal.decreases-read_item
-decreases-read_item g l = 12 * l.room + 6
+abbrev pub decreases-sequence::read_item : goal.decreases-sequence::read_item
+decreases-sequence::read_item g l = 12 * l.room + 6
 
-abbrev pub decreases-read_asked : goal.decreases-read_asked
-decreases-read_asked g l = 12 * l.room + 7
+abbrev pub decreases-entries::read_asked : goal.decreases-entries::read_asked
+decreases-entries::read_asked g l = 12 * l.room + 7
 
-abbrev pub decreases-read_entry : goal.decreases-read_entry
-decreases-read_entry g l = 12 * l.room + 8
+abbrev pub decreases-entries::read_entry : goal.decreases-entries::read_entry
+decreases-entries::read_entry g l = 12 * l.room + 8
 
-abbrev pub decreases-read_items : goal.decreases-read_items
-decreases-read_items g l = 12 * l.room + 9
+abbrev pub decreases-sequence::read_items : goal.decreases-sequence::read_items
+decreases-sequence::read_items g l = 12 * l.room + 9
 
-abbrev pub decreases-read_entries : goal.decreases-read_entries
-decreases-read_entries g l = 12 * l.room + 9
+abbrev pub decreases-mapping::read_entries : goal.decreases-mapping::read_entries
+decreases-mapping::read_entries g l = 12 * l.room + 9
 
-abbrev pub invariant-read_items-items : goal.invariant-read_items-items
-invariant-read_items-items g l =
+abbrev pub invariant-sequence::read_items-items : goal.invariant-sequence::read_items-items
+invariant-sequence::read_items-items g l =
     let cs = text_of l.source in
     let c = context_of l.context in
     record {
@@ -75,11 +75,11 @@ invariant-read_items-items g l =
       left : context_of l.context ≡ flow_in → PartsLeft cs l.least (item_at cs (Unit {0}) (handles_of l.handles) l.room l.least flow_in) 93 (place_of l.source l.first) (place_of l.source l.here);
     }
 
-abbrev pub decreases-read_items-items : goal.decreases-read_items-items
-decreases-read_items-items g l = length (bytes_of l.source) - l.here
+abbrev pub decreases-sequence::read_items-items : goal.decreases-sequence::read_items-items
+decreases-sequence::read_items-items g l = length (bytes_of l.source) - l.here
 
-abbrev pub invariant-read_entries-entries : goal.invariant-read_entries-entries
-invariant-read_entries-entries g l =
+abbrev pub invariant-mapping::read_entries-entries : goal.invariant-mapping::read_entries-entries
+invariant-mapping::read_entries-entries g l =
     let cs = text_of l.source in
     let c = context_of l.context in
     record {
@@ -91,5 +91,5 @@ invariant-read_entries-entries g l =
       left : context_of l.context ≡ flow_in → PartsLeft cs l.least (entry_at cs (Unit {0}) (handles_of l.handles) l.room l.least flow_in) 125 (place_of l.source l.first) (place_of l.source l.here);
     }
 
-abbrev pub decreases-read_entries-entries : goal.decreases-read_entries-entries
-decreases-read_entries-entries g l = length (bytes_of l.source) - l.here
+abbrev pub decreases-mapping::read_entries-entries : goal.decreases-mapping::read_entries-entries
+decreases-mapping::read_entries-entries g l = length (bytes_of l.source) - l.here

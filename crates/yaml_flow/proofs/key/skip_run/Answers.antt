@@ -1,4 +1,4 @@
-use Rattle.std.proofs.Common.{◌≡◌, ◌≤◌, ◌<◌, ◌+◌, ◌-◌, ◌∙◌, ℕ, Bool, true, false, not, ap, refl, subst, get_or, length, take, arith}
+use Rattle.std.proofs.Common.{◌≡◌, ◌≤◌, ◌<◌, ◌+◌, ◌-◌, ◌∙◌, ℕ, Bool, true, false, not, ap, refl, subst, length, take, arith}
 use Rattle.std.proofs.lemmas.List.{get_or-take, length-take-le, length-drop}
 use Rattle.yaml_text.specs.Source.{text_of}
 use Rattle.yaml_definitions.specs.grammar.Characters.{is_break}

@@ -2,7 +2,7 @@ use Rattle.yaml_review_command.proofs.SideLaws.{compares}
 use Rattle.yaml_review_command.proofs.both.compare_sides.Goals as goal
 
 pub compare-requires : goal.compare-requires
-compare-requires c = record { ranked = c.in_ok-both.ensures.both.ranked }
+compare-requires c = record { ranked = c.in_ok-sides.ensures.both.ranked }
 
 pub returns-in-Ok : goal.returns-in-Ok
-returns-in-Ok c = record { same = compares c.args.left.now c.args.right.now c.in_ok-both.both c.in-Ok.told.same c.in_ok-both.ensures.both c.in-Ok.ensures.same }
+returns-in-Ok c = record { same = compares c.args.left.now c.args.right.now c.in_ok-sides.sides.both c.in-Ok.told.same c.in_ok-sides.ensures.both c.in-Ok.ensures.same }

@@ -1,28 +1,21 @@
-use Rattle.std.proofs.Common.{◌≡◌, ◌≤◌, replicate, ℕ, List, [], ◌∷◌, ◌++◌, sym, ◌∙◌, ap, subst, arith, append_assoc, rules}
+use Rattle.std.proofs.Common.{◌≡◌, replicate, [], ◌∷◌, ◌++◌, sym, ◌∙◌, ap, subst, arith, rules}
 use Rattle.std.specs.Prelude.{slice_range}
 use Rattle.std.specs.Str.{chars}
 use Rattle.std.specs.String.{string_bytes}
 use Rattle.std.proofs.lemmas.Str.{chars-nil, IsUtf8-string_bytes}
 use Rattle.std.proofs.lemmas.Str.{IsUtf8-string_bytes}
-use Rattle.yaml_text.proofs.PlaceLemmas.{slice_join, chars_pushed}
+use Rattle.yaml_text.proofs.PlaceLemmas.{chars_pushed}
 use Rattle.yaml_text.specs.LeafAnswer.{Only}
 use Rattle.yaml_text.specs.EventModel.{context_of}
 use Rattle.yaml_text.specs.Source.{text_of, place_of}
 use Rattle.yaml_definitions.specs.grammar.FlowScalars.{c-double-quoted as double}
-use Rattle.yaml_definitions.specs.grammar.Rules.{any}
-use Rattle.yaml_scalar.specs.Chains.{NoSolidBreaks, quoted_more, folded_breaks}
-use Rattle.yaml_scalar.proofs.AnyLemmas.{any_onward}
+use Rattle.yaml_scalar.specs.Chains.{NoSolidBreaks, folded_breaks}
 use Rattle.yaml_scalar.proofs.GapLemmas.{folds_is}
 use Rattle.yaml_scalar.proofs.OutcomeLemmas.{answers_err, refuses_unread}
-use Rattle.yaml_scalar.proofs.QuotedLemmas.{quoted_onward}
+use Rattle.yaml_scalar.proofs.QuotedLemmas.{two_slices}
 use Rattle.yaml_scalar.proofs.DoubleLemmas.{DoubleState, double_start, double_line, double_escape, double_fold, double_break, double_end, double_none, no_double, no_break_mark, no_break_here}
 use Rattle.yaml_scalar.proofs.DoubleReadings.{double_only, double_unread}
 use Rattle.yaml_scalar.proofs.double.double_from.Goals as goal
-
--- a text and then two stretches side by side
-two_slices : (cs xs : List ℕ) (q i k j : ℕ) → any (quoted_more cs q) i k (slice_range cs i k) → k ≤ j → (xs ++ slice_range cs i k) ++ slice_range cs k j ≡ xs ++ slice_range cs i j
-two_slices cs xs q i k j p h =
-    append_assoc xs (slice_range cs i k) (slice_range cs k j) ∙ ap (λ v. xs ++ v) (sym (slice_join cs i k j (any_onward (quoted_onward cs q) p) h))
 
 pub returns-in_default-clause-reads : goal.returns-in_default-clause-reads
 returns-in_default-clause-reads c =

@@ -1,33 +1,15 @@
-use Rattle.std.proofs.Common.{arith}
-use Rattle.yaml_text.specs.Source.{text_of, place_of}
-use Rattle.yaml_scalar.proofs.GapLemmas.{spaces_less, margin_is}
-use Rattle.yaml_text.proofs.Breaks.{spaces_none, spaces_more}
+use Rattle.std.proofs.Common.{◌<◌, arith}
+use Rattle.yaml_text.specs.Source.{text_of}
+use Rattle.yaml_scalar.proofs.GapLemmas.{spaces_less, margin_is, no_space_code}
 use Rattle.yaml_scalar.proofs.line.read_margin.Goals as goal
-
-pub spaces-init : goal.spaces-init
-spaces-init c = record {
-  border = c.requires;
-  onward = omega arith;
-  within = omega arith;
-  spaces = spaces_none (text_of c.args.source.now) (place_of c.args.source.now c.args.at);
-}
-
-pub spaces-preserved : goal.spaces-preserved
-spaces-preserved c =
-    let s = c.in-Some.ensures.some in
-    let v = c.spaces.invariant in
-    record {
-      border = s.border;
-      onward = omega (arith, v.onward, s.forward);
-      within = omega (arith, v.within, c.if-count-most.false);
-      spaces = spaces_more (text_of c.args.source.now) _ _ _ _ v.spaces s.is s.next;
-    }
-
-pub returns-in-None-clause-short : goal.returns-in-None-clause-short
-returns-in-None-clause-short c =
-    (spaces_less (text_of c.args.source.now) _ _ _ _ c.spaces.invariant.spaces c.spaces.invariant.within c.if-count-most.false, c.in-None.ensures.none)
 
 pub returns-then-count-most-clause-whole : goal.returns-then-count-most-clause-whole
 returns-then-count-most-clause-whole c =
     let s = c.skip_whites.ensures in
-    (margin_is (text_of c.args.source.now) _ _ _ _ _ c.if-count-most.true c.spaces.invariant.spaces s.whites, s.furthest)
+    (margin_is (text_of c.args.source.now) _ _ _ _ _ c.if-count-most.true c.read_spaces-count.ensures.spaces s.whites, s.furthest)
+
+pub returns-clause-short : goal.returns-clause-short
+returns-clause-short c =
+    let s = c.read_spaces-count.ensures in
+    let less : c.read_spaces-count.result.0 < c.args.most = omega (arith, s.within, c.if-count-most.false) in
+    (spaces_less (text_of c.args.source.now) _ _ _ _ s.spaces s.within c.if-count-most.false, no_space_code (text_of c.args.source.now) _ (s.furthest less))

@@ -1,27 +1,19 @@
-use Rattle.std.proofs.Common.{◌≡◌, ◌≤◌, replicate, ℕ, List, [], ◌++◌, sym, ◌∙◌, ap, subst, arith, append_assoc}
+use Rattle.std.proofs.Common.{◌≡◌, ◌≤◌, replicate, [], ◌++◌, sym, ◌∙◌, ap, subst, arith}
 use Rattle.std.specs.Prelude.{slice_range}
 use Rattle.std.specs.Str.{chars}
 use Rattle.std.specs.String.{string_bytes}
 use Rattle.std.proofs.lemmas.Str.{chars-nil}
 use Rattle.std.proofs.lemmas.Str.{IsUtf8-string_bytes}
-use Rattle.yaml_text.proofs.PlaceLemmas.{slice_join}
 use Rattle.yaml_text.specs.LeafAnswer.{Only}
 use Rattle.yaml_text.specs.EventModel.{context_of}
 use Rattle.yaml_text.specs.Source.{text_of, place_of}
-use Rattle.yaml_definitions.specs.grammar.Rules.{any}
 use Rattle.yaml_definitions.specs.grammar.FlowScalars.{c-single-quoted as single}
-use Rattle.yaml_scalar.specs.Chains.{quoted_more, folded_breaks}
-use Rattle.yaml_scalar.proofs.AnyLemmas.{any_onward}
+use Rattle.yaml_scalar.specs.Chains.{folded_breaks}
 use Rattle.yaml_scalar.proofs.GapLemmas.{folds_is, no_fold}
 use Rattle.yaml_scalar.proofs.OutcomeLemmas.{refuses_unread}
-use Rattle.yaml_scalar.proofs.QuotedLemmas.{SingleState, single_start, single_line, single_pair, single_fold, single_end, single_none, no_single, quoted_onward, close_here}
+use Rattle.yaml_scalar.proofs.QuotedLemmas.{SingleState, single_start, single_line, single_pair, single_fold, single_end, single_none, no_single, two_slices, close_here}
 use Rattle.yaml_scalar.proofs.QuotedReadings.{single_only, single_unread}
 use Rattle.yaml_scalar.proofs.single.single_from.Goals as goal
-
--- a text and then two stretches side by side
-two_slices : (cs xs : List ℕ) (q i k j : ℕ) → any (quoted_more cs q) i k (slice_range cs i k) → k ≤ j → (xs ++ slice_range cs i k) ++ slice_range cs k j ≡ xs ++ slice_range cs i j
-two_slices cs xs q i k j p h =
-    append_assoc xs (slice_range cs i k) (slice_range cs k j) ∙ ap (λ v. xs ++ v) (sym (slice_join cs i k j (any_onward (quoted_onward cs q) p) h))
 
 pub returns-in_default-clause-reads : goal.returns-in_default-clause-reads
 returns-in_default-clause-reads c =

@@ -1,7 +1,5 @@
-use Rattle.std.proofs.Common.{◌≡◌, ◌≤◌, ◌<◌, ◌+◌, ◌-◌, ◌∙◌, ℕ, true, nat_eq, ap, refl, subst, get_or, length, take, arith}
+use Rattle.std.proofs.Common.{◌≡◌, ◌≤◌, ◌<◌, ◌+◌, ◌-◌, ◌∙◌, ℕ, true, nat_eq, ap, refl, subst, length, take, arith}
 use Rattle.std.proofs.lemmas.List.{get_or-take, length-take-le, length-drop}
-use Rattle.yaml_text.specs.Source.{text_of, place_of}
-use Rattle.yaml_definitions.specs.grammar.Rules.{run}
 use Rattle.yaml_definitions.specs.grammar.Characters.{is_nb}
 use Rattle.yaml_text.proofs.Tests.{on_true}
 use Rattle.yaml_text.proofs.AsciiRuns.{CrossedOf, crossed_front_of}

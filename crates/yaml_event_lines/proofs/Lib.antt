@@ -1,0 +1,3 @@
+mod LineLaws
+mod SlotLaws
+mod StartLaws

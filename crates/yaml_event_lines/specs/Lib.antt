@@ -1,0 +1,2 @@
+pub mod LinesHeld
+pub mod Slots
