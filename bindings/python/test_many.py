@@ -340,10 +340,11 @@ class Runs(Folder):
         self.assertEqual(held, (8, yamlcanon.library_version()))
 
 
-# The command, with a library that takes its time.
+# The command, with a library that takes its time. It heeds an interrupt also where this test was begun by who ignores them.
 SLOW = """
-import sys, time
+import signal, sys, time
 from yamlcanon import many, table
+signal.signal(signal.SIGINT, signal.default_int_handler)
 meaning = table.meaning
 def slowly(data):
     time.sleep(0.2)
