@@ -41,6 +41,16 @@ def rounds(trials, alone):
     return laid
 
 
+def one_each(edits):
+    """One edit for each function that has any, and those that can't be tried, so that they are told."""
+    covered, chosen = set(), []
+    for edit in edits:
+        if edit.why or not edit.functions() <= covered:
+            chosen.append(edit)
+            covered |= edit.functions()
+    return chosen
+
+
 def functions_of(trials):
     """The functions that a round changes, or none where it changes more: what only calls them is judged by their contracts, which no edit changes."""
     if any(it.edit.is_outside for it in trials):
