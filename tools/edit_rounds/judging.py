@@ -51,6 +51,19 @@ def one_each(edits):
     return chosen
 
 
+def of_the_gate(edits):
+    """One edit for each public function that has any, one for each file that has none of these, and those that can't be tried."""
+    first = one_each(edits)
+    chosen = [it for it in first if it.why or any(place.is_public for place in it.places)]
+    files = {place.path for it in chosen for place in it.places}
+    for edit in first:
+        paths = {place.path for place in edit.places}
+        if edit not in chosen and not paths <= files:
+            chosen.append(edit)
+            files |= paths
+    return chosen
+
+
 def functions_of(trials):
     """The functions that a round changes, or none where it changes more: what only calls them is judged by their contracts, which no edit changes."""
     if any(it.edit.is_outside for it in trials):

@@ -4,10 +4,11 @@ import re
 
 class Place:
     """A function: its name as the check prints it, the cycle of calls that it shares a proof with, or None, the folders of its
-    proof files, and its lines, counted from 1."""
+    proof files, its lines, counted from 1, and whether it is public."""
 
     def __init__(self, name, cycle, folders, path, first, last):
         self.name, self.cycle, self.folders, self.path, self.first, self.last = name, cycle, folders, path, first, last
+        self.is_public = False
 
     def __eq__(self, other):
         return self.name == other.name
@@ -65,7 +66,9 @@ def function_at(text, path, crate, start, length):
         end = last_line(lines, number, found[1])
         if top <= first and last <= end:
             room = module + ([owner] if found[1] and owner else [])
-            return place_of(crate, module, room, found[2], cycle, path, top + 1, end + 1)
+            place = place_of(crate, module, room, found[2], cycle, path, top + 1, end + 1)
+            place.is_public = line.lstrip().startswith("pub ")
+            return place
     return None
 
 
