@@ -11,7 +11,7 @@ struct Row {
     lines: &'static str,
 }
 
-const ROWS: [Row; 6] = [
+const ROWS: [Row; 7] = [
     Row {
         name: "a deployment in two spellings",
         left: "apiVersion: apps/v1\nkind: Deployment\nmetadata:\n  name: web\nspec:\n  replicas: 2\n  template:\n    image: shop/web:1.4\n    ports: [80, 443]\n",
@@ -48,6 +48,12 @@ const ROWS: [Row; 6] = [
         right: "--- a\n--- c\n--- [d, e]\n",
         lines: "~\t1\t\"b\"\t\"c\"\n+\t2\t\t[\"d\", \"e\"]\n",
     },
+    Row {
+        name: "a text that is cut inside its last character",
+        left: "a日日日日日日日日日日日日日日日日日日日日",
+        right: "a日日日日日日日日日日日日日日日日日日日月",
+        lines: "~\t0\t\"a日日日日日日日日日日日日日日日日日日日...\t\"a日日日日日日日日日日日日日日日日日日日...\n",
+    },
 ];
 
 #[test]
@@ -67,6 +73,33 @@ fn lines_without_places(rt: HostRuntime) -> Result<(), Fail> {
         );
         assert!(rt; ran.err.is_empty(), "{name}");
     }
+    Ok(())
+}
+
+/// A key is cut so too, in the paths of differences and of faults.
+#[test]
+fn a_long_key_is_told_as_cut(rt: HostRuntime) -> Result<(), Fail> {
+    let alloc = rt.alloc();
+    let mut key = "a ".to_string(alloc)?;
+    for _ in 0..65_532_usize {
+        key.push('x')?;
+    }
+    let left = format!(in alloc; "{{? \"{key}日日\": !!int x}}\n")?;
+    let right = format!(in alloc; "{{? \"{key}日月\": 1}}\n")?;
+    let files = Pair {
+        left: left.as_bytes(),
+        right: right.as_bytes(),
+    };
+    let ran = run(alloc, files, &["faults", "left"])?;
+    assert!(rt; ran.out.contains(": 0[\"a xx"));
+    assert!(rt; ran.out.contains("xx...]: this text is none of its tag\n"));
+    let files = Pair {
+        left: b"{}",
+        right: right.as_bytes(),
+    };
+    let ran = run(alloc, files, &["diff", "--no-places", "left", "right"])?;
+    assert!(rt; ran.out.starts_with("+\t0[\"a xx"));
+    assert!(rt; ran.out.ends_with("xx...]\t\t!!int \"1\"\n"));
     Ok(())
 }
 

@@ -100,10 +100,13 @@ pub fn front(text: &str, room: usize) -> &str {
     text.get(..end).unwrap_or(text)
 }
 
-/// A scalar of this tag and content, of which no more is spelled than may be shown.
+/// A scalar of this tag and content, of which little more is spelled than may be shown.
+///
+/// A character has at most four bytes: of a content that does not fit, more bytes are spelled than there is room for, so that it is
+/// seen that it is cut.
 pub fn put_scalar(out: &mut String, tag: &str, content: &str, room: usize) -> Result<(), Fault> {
     put_tag(out, tag, STR_TAG)?;
-    spell_into(front(content, room), out)?;
+    spell_into(front(content, room.saturating_add(4)), out)?;
     Ok(())
 }
 
@@ -196,6 +199,17 @@ fn put_entries(
     Ok(())
 }
 
+/// What is shown of a text: one of more bytes than there is room for is cut at the end of a character, and ends with `...`.
+fn cut(alloc: Global, text: String, room: usize) -> Result<String, Fault> {
+    if text.len() <= room {
+        return Ok(text);
+    }
+    let mut short = String::new(alloc);
+    short.push_str(front(&text, room))?;
+    short.push_str(MORE)?;
+    Ok(short)
+}
+
 /// The text of a node. One of more bytes than there is room for is cut at the end of a character, and ends with `...`.
 ///
 /// A whole text ends with `"`, `]` or `}`, so a `.` at the end tells a cut.
@@ -213,24 +227,25 @@ pub fn node_text(alloc: Global, both: &Both<'_>, id: NodeId, room: usize) -> Res
         };
         put_part(both, part, &mut rest, &mut text, room)?;
     }
-    if text.len() <= room {
-        return Ok(text);
-    }
-    let mut cut = String::new(alloc);
-    cut.push_str(front(&text, room))?;
-    cut.push_str(MORE)?;
-    Ok(cut)
+    cut(alloc, text, room)
 }
 
 /// The text of a step to the value of a key of this tag and content.
-pub fn put_scalar_key(out: &mut String, tag: &str, content: &str) -> Result<(), Fault> {
+pub fn put_scalar_key(
+    alloc: Global,
+    out: &mut String,
+    tag: &str,
+    content: &str,
+) -> Result<(), Fault> {
     if tag == STR_TAG && is_name(content) {
         out.push('.')?;
         out.push_str(content)?;
         return Ok(());
     }
+    let mut text = String::new(alloc);
+    put_scalar(&mut text, tag, content, WHOLE)?;
     out.push('[')?;
-    put_scalar(out, tag, content, WHOLE)?;
+    out.push_str(&cut(alloc, text, WHOLE)?)?;
     out.push(']')?;
     Ok(())
 }

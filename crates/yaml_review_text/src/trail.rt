@@ -135,7 +135,7 @@ fn put_scalar_step(
     text: &str,
 ) -> Result<(), Fault> {
     match resolve(alloc, tag, style, text) {
-        Ok(scalar) => put_scalar_key(out, scalar.tag.as_str(), scalar.content.as_str()),
+        Ok(scalar) => put_scalar_key(alloc, out, scalar.tag.as_str(), scalar.content.as_str()),
         Err(_) => {
             out.push_str("[?]")?;
             Ok(())
