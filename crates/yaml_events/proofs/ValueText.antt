@@ -1,5 +1,5 @@
 -- A value, byte by byte.
-use Rattle.std.proofs.Common.{◌≡◌, ◌<◌, ◌≤◌, ◌-◌, ◌+◌, ℕ, List, [], ◌∷◌, ◌++◌, length, take, drop, get_or, refl, sym, ap, ◌∙◌, arith, append_assoc, length-append, take-append-drop}
+use Rattle.std.proofs.Common.{◌≡◌, ◌<◌, ◌≤◌, ◌-◌, ◌+◌, ℕ, zero, suc, List, [], ◌∷◌, ◌++◌, length, subst, take, drop, get_or, refl, sym, ap, ◌∙◌, arith, append_assoc, length-append, take-append-drop}
 use Rattle.std.proofs.lemmas.List.{append-nil, take_more, length-drop, get_or-drop}
 use Rattle.std.proofs.lemmas.Grind.{common_steps}
 use Rattle.std.proofs.Math.Seq.{take-length}
@@ -30,6 +30,34 @@ spelled_on text old out start i h k v e =
     ∙ ap (λ z. z ++ (get_or text i 0 ∷ [])) e ∙ append_assoc old (value_text (take i text)) (get_or text i 0 ∷ [])
     ∙ ap (λ z. old ++ z) (ap (λ z. value_text (take i text) ++ z) (sym v) ∙ sym (value_more text i k))
 
+-- the same, so many bytes further
+pub spelled_run : (text old out : List ℕ) (start at n : ℕ) → start ≤ at → at + n ≤ length text → ((k : ℕ) → k < n → value_byte (get_or text (at + k) 0) ≡ get_or text (at + k) 0 ∷ [])
+    → out ++ take (at - start) (drop start text) ≡ old ++ value_text (take at text) → out ++ take (at + n - start) (drop start text) ≡ old ++ value_text (take (at + n) text)
+spelled_run text old out start at zero h l v e = subst (λ i. out ++ take (i - start) (drop start text) ≡ old ++ value_text (take i text)) (let here : at ≡ at + zero = omega arith in here) e
+spelled_run text old out start at (suc n) h l v e =
+    subst (λ i. out ++ take (i - start) (drop start text) ≡ old ++ value_text (take i text)) (let here : at + n + 1 ≡ at + suc n = omega arith in here)
+    (spelled_on text old out start (at + n) (omega (arith, h)) (omega (arith, l)) (v n (omega arith)) (spelled_run text old out start at n h (omega (arith, l)) (λ k f. v k (omega (arith, f))) e))
+
+whole_rest : (i : ℕ) (xs : List ℕ) → take (length xs - i) (drop i xs) ≡ drop i xs
+whole_rest i xs = grind (arith, common_steps)
+
+-- the rest of the bytes of a text
+abbrev pub rest_of : List ℕ → ℕ → List ℕ
+rest_of bytes at = take (length bytes - at) (drop at bytes)
+
+pub front_ends : (text bytes : List ℕ) (at n : ℕ) → bytes ≡ text → at ≤ length text → n ≤ length (rest_of bytes at) → at + n ≤ length text
+front_ends text bytes at n b w l =
+    let len : length (rest_of bytes at) ≡ length text - at = ap length (whole_rest at bytes) ∙ length-drop at bytes ∙ ap (λ xs. length xs - at) b in
+    omega (arith, w, l, len)
+
+-- the same, where the bytes that stand for themselves are the front of the rest
+pub spelled_front : (text bytes old out : List ℕ) (start at n : ℕ) → bytes ≡ text → start ≤ at → at ≤ length text → n ≤ length (rest_of bytes at)
+    → ((k : ℕ) → k < n → value_byte (get_or (rest_of bytes at) k 0) ≡ get_or (rest_of bytes at) k 0 ∷ [])
+    → out ++ take (at - start) (drop start text) ≡ old ++ value_text (take at text) → out ++ take (at + n - start) (drop start text) ≡ old ++ value_text (take (at + n) text)
+spelled_front text bytes old out start at n b h w l v e =
+    spelled_run text old out start at n h (front_ends text bytes at n b w l)
+    (λ k f. subst (λ x. value_byte x ≡ x ∷ []) (ap (λ xs. get_or xs k 0) (whole_rest at bytes) ∙ get_or-drop at bytes k 0 ∙ ap (λ xs. get_or xs (at + k) 0) b) (v k f)) e
+
 pub spelled_escape : (text old out run escape pushed new : List ℕ) (start i : ℕ) → i < length text → escape ≡ value_byte (get_or text i 0) → run ≡ take (i - start) (drop start text)
     → out ++ take (i - start) (drop start text) ≡ old ++ value_text (take i text) → pushed ≡ out ++ run → new ≡ pushed ++ escape
     → new ++ take (i + 1 - (i + 1)) (drop (i + 1) text) ≡ old ++ value_text (take (i + 1) text)
@@ -47,9 +75,6 @@ front_within text i =
 pub escape_joined : (text old out run escape pushed : List ℕ) (i : ℕ) → i < length text → escape ≡ value_byte (get_or text i 0) → out ++ run ≡ old ++ value_text (take i text) → pushed ≡ out ++ run → pushed ++ escape ≡ old ++ value_text (take (i + 1) text)
 escape_joined text old out run escape pushed i k v e p =
     ap (λ x. x ++ escape) (p ∙ e) ∙ append_assoc old (value_text (take i text)) escape ∙ ap (λ x. old ++ x) (ap (λ x. value_text (take i text) ++ x) v ∙ sym (value_more text i k))
-
-whole_rest : (i : ℕ) (xs : List ℕ) → take (length xs - i) (drop i xs) ≡ drop i xs
-whole_rest i xs = grind (arith, common_steps)
 
 pub rest_joined : (text old out : List ℕ) (start i : ℕ) → i ≡ length text → out ++ take (i - start) (drop start text) ≡ old ++ value_text (take i text) → out ++ drop start text ≡ old ++ value_text text
 rest_joined text old out start i n e =

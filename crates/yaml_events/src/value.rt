@@ -1,5 +1,5 @@
 //! The values of event lines: a scalar's text, in which five characters are escaped.
-ghost use Rattle.std.specs.Prelude.{◌≡◌, ◌<◌, ◌≤◌, ◌+◌, ◌++◌, [], ◌∷◌, length, MatchOption, OnOk, OnErr, IfOk, ◌≢◌, ℕ};
+ghost use Rattle.std.specs.Prelude.{◌≡◌, ◌<◌, ◌≤◌, ◌+◌, ◌++◌, [], ◌∷◌, true, length, MatchOption, OnOk, OnErr, IfOk, ◌≢◌, ℕ};
 ghost use Rattle.std.specs.Str.{IsUtf8};
 ghost use Rattle.std.specs.Cow.{cow_str_bytes};
 ghost use Rattle.yaml_definitions.specs.model.EventText.{value_byte, value_text};
@@ -9,6 +9,7 @@ use crate::fault::LineFault;
 use crate::sink::Sink;
 use std::alloc::{AllocError, Global};
 use std::borrow::CowStr;
+use yaml_text::front::front_len;
 
 /// The escape of a byte that no value has as itself.
 #[tactic(auto, unfolding(yaml_definitions::specs::model::EventText::value_byte))]
@@ -29,6 +30,14 @@ pub fn escape_of(byte: u8) -> Option<&'static str>
     }
 }
 
+/// Whether a byte surely stands for itself in a value. It has no branch, for `front_len`.
+#[tactic(auto, unfolding(yaml_definitions::specs::model::EventText::value_byte))]
+fn is_kept(byte: u8) -> bool
+    ensures { result ≡ true → value_byte byte ≡ byte ∷ [] }
+{
+    (byte >= b' ') & (byte != b'\\')
+}
+
 /// Appends a text as a value, by runs of what stands for itself.
 pub fn push_value<S: Sink>(text: &str, out: &mut S) -> Result<(), AllocError>
     ensures ok { OnOk result (S.bytes out.new ≡ S.bytes out.old ++ value_text text.now) }
@@ -36,15 +45,21 @@ pub fn push_value<S: Sink>(text: &str, out: &mut S) -> Result<(), AllocError>
     ensures lent { S.lent out.new ≡ S.lent out.old }
     ensures full { OnErr result (S.room out.old < length (S.bytes out.old) + length (value_text text.now)) }
 {
+    let bytes = text.as_bytes();
     let mut run = 0;
-    'spell: for (at, byte) in text.as_bytes().iter().enumerate() {
-        if let Some(escape) = escape_of(*byte) {
-            out.put(&text[run..at])?;
-            out.put(escape)?;
-            run = at + 1;
+    let mut at = 0;
+    'spell: loop {
+        let here = at + front_len(&bytes[at..], is_kept);
+        if here == bytes.len() {
+            return out.put(&text[run..]);
         }
+        if let Some(escape) = escape_of(bytes[here]) {
+            out.put(&text[run..here])?;
+            out.put(escape)?;
+            run = here + 1;
+        }
+        at = here + 1;
     }
-    out.put(&text[run..])
 }
 
 /// What a backslash and this byte stand for in a value.

@@ -97,9 +97,9 @@ pub fn insert_block_mapping<'a, K: Keeper>(
     Ok(())
 }
 
-/// Puts down a scalar.
-#[inline(never)]
-pub fn push_scalar<'a, K: Keeper>(
+/// Puts down a scalar, in the caller's own frame: for calls in which none nests.
+#[inline(always)]
+pub fn put_scalar<'a, K: Keeper>(
     out: &mut Sink<'a, K>,
     style: Style,
     text: CowStr<'a>,
@@ -111,6 +111,20 @@ pub fn push_scalar<'a, K: Keeper>(
     // a text that is seen is known to be UTF-8
     let _ = text.as_str();
     out.scalar(style, text, at)
+}
+
+/// Puts down a scalar.
+#[inline(never)]
+pub fn push_scalar<'a, K: Keeper>(
+    out: &mut Sink<'a, K>,
+    style: Style,
+    text: CowStr<'a>,
+    at: usize,
+) -> Result<(), Fault>
+    ensures ok { IfOk result (λ _. Puts (holds_of K.holds) out.old (scalar no_props (style_of style) (chars (cow_str_bytes text.entry)) ∷ []) out.new) }
+    ensures err { IfErr result (λ e. e ≡ OutOfMemory) }
+{
+    put_scalar(out, style, text, at)
 }
 
 /// Puts down the empty scalar, which takes no characters (YAML 1.2.2, 7.2).

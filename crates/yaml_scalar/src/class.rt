@@ -22,7 +22,11 @@ pub fn is_plain_byte(byte: u8) -> bool
     ensures ascii { result ≡ true → byte < 128 }
     ensures inner { result ≡ true → plain_inner flow_in byte ≡ true }
 {
-    byte > b' ' && byte < 127 && !matches!(byte, b'#' | b',' | b':' | b'[' | b']' | b'{' | b'}')
+    // most are told by one comparison
+    (byte >= b'a' && byte <= b'z')
+        || (byte > b' '
+            && byte < 127
+            && !matches!(byte, b'#' | b',' | b':' | b'[' | b']' | b'{' | b'}'))
 }
 
 /// Whether a character may begin a plain scalar whatever follows.
@@ -57,5 +61,7 @@ pub fn is_quoted_byte(byte: u8) -> bool
     ensures single { result ≡ true → verbatim 39 byte ≡ true }
     ensures double { result ≡ true → verbatim 34 byte ≡ true }
 {
-    byte > b' ' && byte < 127 && !matches!(byte, b'"' | b'\'' | b'\\')
+    // most are told by one comparison
+    (byte >= b'a' && byte <= b'z')
+        || (byte > b' ' && byte < 127 && !matches!(byte, b'"' | b'\'' | b'\\'))
 }

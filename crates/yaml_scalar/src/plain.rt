@@ -26,7 +26,7 @@ use yaml_text::class::{is_plain_safe, is_white};
 use yaml_text::context::Ctx;
 use yaml_text::fault::Fault;
 use yaml_text::front::len_by_one;
-use yaml_text::lines::stands_mark;
+use yaml_text::lines::{line_break, stands_mark};
 use yaml_text::places::{next, text_between};
 
 /// Whether a plain-safe character stands at a border.
@@ -128,9 +128,9 @@ fn line_end(source: &Chars<'_>, from: usize, context: Ctx) -> (usize, usize)
     }
 }
 
-/// Where a plain scalar goes on after the break at `stop`: how many empty lines follow, and the borders round the character
-/// that it goes on with.
-fn next_line(
+/// The same as `next_line`. Out of line, since at most scalars' ends no break stands.
+#[inline(never)]
+fn line_below(
     source: &Chars<'_>,
     stop: usize,
     least: usize,
@@ -160,7 +160,32 @@ fn next_line(
     }
 }
 
+/// Where a plain scalar goes on after the break at `stop`: how many empty lines follow, and the borders round the character
+/// that it goes on with.
+#[inline(always)]
+fn next_line(
+    source: &Chars<'_>,
+    stop: usize,
+    least: usize,
+    context: Ctx,
+) -> Option<(usize, usize, usize)>
+    requires { IsBorder source.now stop }
+    ensures breaks { IfSome result (λ r. breaks (text_of source.now) least (context_of context) (place_of source.now stop) (place_of source.now r.1) (replicate r.0 10)) }
+    ensures onward { IfSome result (λ r. stop < r.1) }
+    ensures border { IfSome result (λ r. IsBorder source.now r.1) }
+    ensures steps { IfSome result (λ r. (c : ℕ) × Steps (bytes_of source.now) r.1 c r.2) }
+    ensures later { IfSome result (λ r. Later (text_of source.now) (context_of context) (place_of source.now r.1)) }
+    ensures unmarked { IfSome result (λ r. DocumentMark (text_of source.now) (place_of source.now r.1) → ⊥) }
+    ensures none { IfNone result (NoPlainLine (text_of source.now) least (context_of context) (place_of source.now stop)) }
+{
+    match line_break(source, stop) {
+        None => None,
+        Some(_) => line_below(source, stop, least, context),
+    }
+}
+
 /// The same as `read_plain`, with the indentation as a count.
+#[inline(always)]
 fn plain_from<'a>(
     alloc: Global,
     source: &Chars<'a>,
@@ -218,6 +243,7 @@ fn plain_from<'a>(
 ///
 /// Offsets count bytes of the text. The following lines are indented by at least `n` spaces. Where no plain scalar begins
 /// at `at` the answer is `Syntax`, and `OutOfMemory` where the content of several lines finds no room.
+#[inline(always)]
 pub fn read_plain<'a>(
     alloc: Global,
     source: &Chars<'a>,

@@ -21,7 +21,7 @@ ghost use Rattle.yaml_flow.specs.FlowDecisions.{DecidesPlain};
 ghost use Rattle.yaml_flow.specs.FlowRules.{content_from, quoted, quoted_style};
 
 use crate::flow::{FlowNode, Kind};
-use crate::push::{push_empty, push_scalar};
+use crate::push::{push_empty, push_scalar, put_scalar};
 use crate::sink::{Keeper, Sink};
 use std::alloc::Global;
 use std::borrow::CowStr;
@@ -92,7 +92,7 @@ pub fn read_plain_node<'a, K: Keeper>(
 {
     match read_plain(alloc, source, at, indentation(least), context) {
         Ok((text, end)) => {
-            push_scalar(out, Style::Plain, text, at)?;
+            put_scalar(out, Style::Plain, text, at)?;
             Ok(Some(FlowNode {
                 end,
                 deep: 0,

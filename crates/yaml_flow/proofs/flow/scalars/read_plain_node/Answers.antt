@@ -18,19 +18,19 @@ use Rattle.yaml_flow.proofs.flow.scalars.read_plain_node.Goals as goal
 least_is : (r : ℤ) (least : ℕ) → SFits w32 r → r ≡ pos least → nat_abs (to_z w32 (of_z w32 r)) ≡ least
 least_is r least fits e = ap nat_abs (to_z-of_z w32 r fits ∙ e)
 
-pub returns-in_ok-push_scalar-in-Ok-clause-reads : goal.returns-in_ok-push_scalar-in-Ok-clause-reads
-returns-in_ok-push_scalar-in-Ok-clause-reads g c =
+pub returns-in_ok-put_scalar-in-Ok-clause-reads : goal.returns-in_ok-put_scalar-in-Ok-clause-reads
+returns-in_ok-put_scalar-in-Ok-clause-reads g c =
     let cs = text_of c.args.source.now in
     let n = least_is c.indentation.result c.args.least (search rules) c.indentation.ensures in
     let text = chars (cow_str_bytes c.in-Ok.text) in (
       _,
-      c.in_ok-push_scalar-in-Ok.ensures.ok,
+      c.in_ok-put_scalar-in-Ok.ensures.ok,
       plain_is cs (Unit {0}) (handles_of c.args.handles) c.args.least (context_of c.args.context) _ _ text
           (subst (λ m. plain cs m (context_of c.args.context) (place_of c.args.source.now c.args.at) (place_of c.args.source.now c.in-Ok.end) text) n c.in-Ok.ensures.reads.is),
     )
 
-pub returns-in_ok-push_scalar-in-Ok-clause-decides : goal.returns-in_ok-push_scalar-in-Ok-clause-decides
-returns-in_ok-push_scalar-in-Ok-clause-decides g c =
+pub returns-in_ok-put_scalar-in-Ok-clause-decides : goal.returns-in_ok-put_scalar-in-Ok-clause-decides
+returns-in_ok-put_scalar-in-Ok-clause-decides g c =
     let cs = text_of c.args.source.now in
     let x = context_of c.args.context in
     let i = place_of c.args.source.now c.args.at in

@@ -6,7 +6,7 @@ use Rattle.yaml_definitions.specs.model.Event.{scalar_event, untagged}
 use Rattle.yaml_text.specs.EventModel.{style_of}
 use Rattle.yaml_flow.specs.Held.{Puts}
 use Rattle.yaml_flow.specs.SinkModel.{holds_of}
-use Rattle.yaml_flow.proofs.push.push_scalar.Goals as goal
+use Rattle.yaml_flow.proofs.push.put_scalar.Goals as goal
 
 pub returns-clause-ok : goal.returns-clause-ok
 returns-clause-ok g c =
