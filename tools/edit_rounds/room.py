@@ -16,7 +16,16 @@ def kit():
     """The kit's own module, which knows when a built library is that of its sources."""
     sys.path.insert(0, os.path.dirname(os.path.realpath(shutil.which("rt"))))
     import rtlib  # pylint: disable=import-outside-toplevel,import-error
+    if rtlib.Crate.stamp is not stamp_once:
+        rtlib.Crate.stamp_anew, rtlib.Crate.stamp = rtlib.Crate.stamp, stamp_once
     return rtlib
+
+
+def stamp_once(crate):
+    """A crate's stamp, which has those of all that it uses in it: taken anew for each use, those of 20 crates take a minute."""
+    if not hasattr(crate, "stamp_taken"):
+        crate.stamp_taken = crate.stamp_anew()
+    return crate.stamp_taken
 
 
 def crates_of(root):
