@@ -1,4 +1,4 @@
-//! What the program prints and answers, through `command`: tests alone.
+//! What the program prints and answers, through `command` and `command_over`: tests alone.
 #![tactic(auto)]
 
 #[cfg(test)]
@@ -6,7 +6,11 @@ mod failing;
 #[cfg(test)]
 mod fakes;
 #[cfg(test)]
+mod files;
+#[cfg(test)]
 mod named;
+#[cfg(test)]
+mod opened;
 #[cfg(test)]
 mod pages;
 #[cfg(test)]
@@ -15,5 +19,7 @@ mod pair;
 mod rows;
 #[cfg(test)]
 mod runs;
+#[cfg(test)]
+mod texts;
 #[cfg(test)]
 mod told;

@@ -1,27 +1,123 @@
 //! Named files of more bytes than one read gives, which differ in their last byte alone.
-use crate::fakes::Source;
+use crate::fakes::NONE;
 use crate::pair::Pair;
-use crate::runs::{Ran, run_over};
+use crate::runs::{Ran, run};
+use crate::texts::many;
 use std::alloc::Global;
+use std::process::Abort;
 use std::test::Fail;
 
-/// A text 25,000 times between two others.
-fn many(alloc: Global, front: &str, text: &str, back: &str) -> Result<String, Fail> {
-    let mut all = String::new(alloc);
-    all.push_str(front)?;
-    for _ in 0..25_000 {
-        all.push_str(text)?;
-    }
-    all.push_str(back)?;
-    Ok(all)
+/// Texts of 25,001 items: with an `a` as the last one, with a `b`, and the event text of the first.
+#[derive(Clone, Copy)]
+enum Text {
+    One,
+    Other,
+    Events,
 }
 
-/// A sequence of 25,001 items, of which the last is this one: 100,003 bytes.
-fn items(alloc: Global, last: &str) -> Result<String, Fail> {
-    let mut all = many(alloc, "", "- a\n", "- ")?;
-    all.push_str(last)?;
-    Ok(all)
+fn written(alloc: Global, text: Text) -> Result<String, Fail> {
+    match text {
+        Text::One => many(alloc, "", 25_000, "- a\n", "- a"),
+        Text::Other => many(alloc, "", 25_000, "- a\n", "- b"),
+        Text::Events => {
+            let back = "-SEQ\n-DOC\n-STR\n";
+            many(alloc, "+STR\n+DOC\n+SEQ\n", 25_001, "=VAL :a\n", back)
+        }
+    }
 }
+
+/// The texts of the files `a` and `b`, the words, the status, and the length and the end of what is written.
+struct Row {
+    a: Text,
+    b: Text,
+    words: &'static [&'static str],
+    status: u8,
+    len: usize,
+    end: &'static str,
+}
+
+static ROWS: [Row; 10] = [
+    Row {
+        a: Text::One,
+        b: Text::Other,
+        words: &["same", "a", "b"],
+        status: 1,
+        len: 10,
+        end: "different\n",
+    },
+    Row {
+        a: Text::Other,
+        b: Text::One,
+        words: &["same", "a", "b"],
+        status: 1,
+        len: 10,
+        end: "different\n",
+    },
+    Row {
+        a: Text::One,
+        b: Text::One,
+        words: &["same", "a", "b"],
+        status: 0,
+        len: 5,
+        end: "same\n",
+    },
+    Row {
+        a: Text::Other,
+        b: Text::Other,
+        words: &["same", "a", "b"],
+        status: 0,
+        len: 5,
+        end: "same\n",
+    },
+    Row {
+        a: Text::One,
+        b: Text::Events,
+        words: &["check", "a", "b"],
+        status: 0,
+        len: 6,
+        end: "match\n",
+    },
+    Row {
+        a: Text::Other,
+        b: Text::Events,
+        words: &["check", "a", "b"],
+        status: 1,
+        len: 7,
+        end: "differ\n",
+    },
+    Row {
+        a: Text::One,
+        b: Text::Other,
+        words: &["canon", "a"],
+        status: 0,
+        len: 125_010,
+        end: "\"a\"]\n",
+    },
+    Row {
+        a: Text::One,
+        b: Text::Other,
+        words: &["canon", "b"],
+        status: 0,
+        len: 125_010,
+        end: "\"b\"]\n",
+    },
+    Row {
+        a: Text::One,
+        b: Text::Other,
+        words: &["events", "a"],
+        status: 0,
+        len: 200_038,
+        end: "=VAL :a\n-SEQ\n-DOC\n-STR\n",
+    },
+    Row {
+        a: Text::One,
+        b: Text::Other,
+        words: &["events", "b"],
+        status: 0,
+        len: 200_038,
+        end: "=VAL :b\n-SEQ\n-DOC\n-STR\n",
+    },
+];
 
 /// Runs the words over the files `a`, `b` of these texts, and no standard input.
 fn ran<'a>(alloc: Global, a: &'a str, b: &'a str, words: &[&str]) -> Result<Ran, Fail> {
@@ -29,70 +125,29 @@ fn ran<'a>(alloc: Global, a: &'a str, b: &'a str, words: &[&str]) -> Result<Ran,
         first: ("a", a.as_bytes()),
         second: ("b", b.as_bytes()),
     };
-    run_over(alloc, &pair, words, Source::of(""))
+    run(alloc, &pair, words, NONE)
 }
 
-#[test]
-fn same_sees_the_last_byte_of_each_file(rt: HostRuntime) -> Result<(), Fail> {
+fn is_told<T: Abort + AllocGlobal>(rt: &T, row: &Row) -> Result<(), Fail> {
     let alloc = rt.alloc();
-    let one = items(alloc, "a")?;
-    let other = items(alloc, "b")?;
-    for (a, b, status, out) in [
-        (&one, &other, 1, "different\n"),
-        (&other, &one, 1, "different\n"),
-        (&one, &one, 0, "same\n"),
-        (&other, &other, 0, "same\n"),
-    ] {
-        let ran = ran(alloc, a.as_str(), b.as_str(), &["same", "a", "b"])?;
-        assert_eq!(rt;
-            (ran.status, ran.out.as_str(), ran.err.as_str()),
-            (status, out, "")
-        );
-    }
+    let a = written(alloc, row.a)?;
+    let b = written(alloc, row.b)?;
+    let ran = ran(alloc, a.as_str(), b.as_str(), row.words)?;
+    let (out, err) = (ran.out.as_str(), ran.err.as_str());
+    assert!(rt;
+        ran.status == row.status && out.len() == row.len && out.ends_with(row.end) && err == "",
+        "{:?}: {} {} {err}",
+        row.words,
+        ran.status,
+        out.len()
+    );
     Ok(())
 }
 
 #[test]
-fn check_sees_the_last_byte_of_each_file(rt: HostRuntime) -> Result<(), Fail> {
-    let alloc = rt.alloc();
-    let one = items(alloc, "a")?;
-    let other = items(alloc, "b")?;
-    let events = many(
-        alloc,
-        "+STR\n+DOC\n+SEQ\n",
-        "=VAL :a\n",
-        "=VAL :a\n-SEQ\n-DOC\n-STR\n",
-    )?;
-    for (a, status, out) in [(&one, 0, "match\n"), (&other, 1, "differ\n")] {
-        let ran = ran(alloc, a.as_str(), events.as_str(), &["check", "a", "b"])?;
-        assert_eq!(rt;
-            (ran.status, ran.out.as_str(), ran.err.as_str()),
-            (status, out, "")
-        );
-    }
-    Ok(())
-}
-
-#[test]
-fn canon_and_events_see_the_last_byte_of_the_file_named(rt: HostRuntime) -> Result<(), Fail> {
-    let alloc = rt.alloc();
-    let one = items(alloc, "a")?;
-    let other = items(alloc, "b")?;
-    for (words, end) in [
-        (["canon", "a"], "\"a\"]\n"),
-        (["canon", "b"], "\"b\"]\n"),
-        (["events", "a"], "=VAL :a\n-SEQ\n-DOC\n-STR\n"),
-        (["events", "b"], "=VAL :b\n-SEQ\n-DOC\n-STR\n"),
-    ] {
-        let ran = ran(alloc, one.as_str(), other.as_str(), &words)?;
-        assert_eq!(rt;
-            (
-                ran.status,
-                ran.out.as_str().ends_with(end),
-                ran.err.as_str()
-            ),
-            (0, true, "")
-        );
+fn each_command_sees_the_last_byte_of_each_file(rt: HostRuntime) -> Result<(), Fail> {
+    for row in &ROWS {
+        is_told(&rt, row)?;
     }
     Ok(())
 }

@@ -1,42 +1,28 @@
 //! Each line that the program prints, and each status, over streams and files of the tests' own.
-use crate::fakes::{Shelf, Source};
-use crate::runs::{owned, run};
+use crate::fakes::{NONE, Source};
+use crate::files::Listed;
+use crate::runs::run;
 use std::process::Abort;
 use std::test::Fail;
-use yaml_command::command::command;
 
 /// Words, a standard input, and what the run answers and writes.
-struct Row {
-    words: &'static [&'static str],
-    input: &'static str,
-    status: u8,
-    out: &'static str,
-    err: &'static str,
+pub struct Row {
+    pub words: &'static [&'static str],
+    pub input: &'static str,
+    pub status: u8,
+    pub out: &'static str,
+    pub err: &'static str,
 }
 
-fn check<T: Abort + AllocGlobal>(rt: &T, shelf: &Shelf<'_>, rows: &[Row]) -> Result<(), Fail> {
-    for row in rows {
-        let ran = run(rt.alloc(), shelf, row.words, Source::of(row.input))?;
-        assert_eq!(rt;
-            ran.err.as_str(),
-            row.err,
-            "{:?} {:?}",
-            row.words,
-            row.input
-        );
-        assert_eq!(rt;
-            ran.out.as_str(),
-            row.out,
-            "{:?} {:?}",
-            row.words,
-            row.input
-        );
-        assert_eq!(rt; ran.status, row.status, "{:?} {:?}", row.words, row.input);
-    }
+fn is_told<T: Abort + AllocGlobal>(rt: &T, row: &Row) -> Result<(), Fail> {
+    let input = Source::over(row.input.as_bytes());
+    let ran = run(rt.alloc(), &Listed, row.words, input)?;
+    ran.gave(rt, row.words, row.status, row.out, row.err);
     Ok(())
 }
 
-const CANON: [Row; 13] = [
+/// `canon` writes the text or one line.
+pub static CANON: [Row; 13] = [
     Row {
         words: &["canon"],
         input: "--- [\"x\",[ \"y\" ],[]]\n",
@@ -130,40 +116,27 @@ const CANON: [Row; 13] = [
     },
 ];
 
-#[test]
-fn canon_writes_the_text_or_one_line(rt: HostRuntime) -> Result<(), Fail> {
-    check(&rt, &Shelf::new(), &CANON)
-}
+/// Other words are a fault of usage.
+static USAGE: [&[&str]; 15] = [
+    &[],
+    &[""],
+    &["help"],
+    &["--help"],
+    &["--", "canon"],
+    &["canon", "a.yaml", "b.yaml"],
+    &["canon", "--help"],
+    &["canon", "-V"],
+    &["canon", "-5"],
+    &["canon", "---"],
+    &["same"],
+    &["same", "a.yaml"],
+    &["same", "a.yaml", "b.yaml", "b.yaml"],
+    &["same", "a.yaml", "-V"],
+    &["Canon"],
+];
 
-#[test]
-fn other_words_are_a_fault_of_usage(rt: HostRuntime) -> Result<(), Fail> {
-    let lists: [&[&str]; 15] = [
-        &[],
-        &[""],
-        &["help"],
-        &["--help"],
-        &["--", "canon"],
-        &["canon", "a.yaml", "b.yaml"],
-        &["canon", "--help"],
-        &["canon", "-V"],
-        &["canon", "-5"],
-        &["canon", "---"],
-        &["same"],
-        &["same", "a.yaml"],
-        &["same", "a.yaml", "b.yaml", "b.yaml"],
-        &["same", "a.yaml", "-V"],
-        &["Canon"],
-    ];
-    for words in lists {
-        let ran = run(rt.alloc(), &Shelf::new(), words, Source::of(""))?;
-        assert_eq!(rt; ran.err.as_str(), "yaml: usage\n", "{words:?}");
-        assert_eq!(rt; ran.out.as_str(), "", "{words:?}");
-        assert_eq!(rt; ran.status, 3, "{words:?}");
-    }
-    Ok(())
-}
-
-const SAME: [Row; 12] = [
+/// `same` reads both files before it judges either.
+static SAME: [Row; 12] = [
     Row {
         words: &["same", "a.yaml", "b.yaml"],
         input: "",
@@ -250,12 +223,8 @@ const SAME: [Row; 12] = [
     },
 ];
 
-#[test]
-fn same_reads_both_files_before_it_judges_either(rt: HostRuntime) -> Result<(), Fail> {
-    check(&rt, &Shelf::new(), &SAME)
-}
-
-const EVENTS: [Row; 7] = [
+/// Events are written as they are read.
+static EVENTS: [Row; 7] = [
     Row {
         words: &["events"],
         input: "a: 1\nb: 0x1\n",
@@ -307,12 +276,8 @@ const EVENTS: [Row; 7] = [
     },
 ];
 
-#[test]
-fn events_are_written_as_they_are_read(rt: HostRuntime) -> Result<(), Fail> {
-    check(&rt, &Shelf::new(), &EVENTS)
-}
-
-const CHECK: [Row; 12] = [
+/// `check` reads both files before it judges either.
+static CHECK: [Row; 12] = [
     Row {
         words: &["check", "a.yaml", "a.events"],
         input: "",
@@ -399,34 +364,8 @@ const CHECK: [Row; 12] = [
     },
 ];
 
-#[test]
-fn check_reads_both_files_before_it_judges_either(rt: HostRuntime) -> Result<(), Fail> {
-    check(&rt, &Shelf::new(), &CHECK)
-}
-
-/// Words that name their files, and what is written.
-const NAMED: [(&[&str], &str); 4] = [
-    (&["canon", "a.yaml"], "--- [\"a\", \"b\"]\n"),
-    (
-        &["events", "a.yaml"],
-        "+STR\n+DOC ---\n+SEQ []\n=VAL \"a\n=VAL \"b\n-SEQ\n-DOC\n-STR\n",
-    ),
-    (&["same", "a.yaml", "b.yaml"], "same\n"),
-    (&["check", "a.yaml", "a.events"], "match\n"),
-];
-
-#[test]
-fn standard_input_is_not_read_where_a_file_is_named(rt: HostRuntime) -> Result<(), Fail> {
-    for (words, out) in &NAMED {
-        let input = Source::of("x").failing_at(1);
-        let ran = run(rt.alloc(), &Shelf::new(), words, input)?;
-        assert_eq!(rt; ran.out.as_str(), *out, "{words:?}");
-        assert_eq!(rt; ran.status, 0, "{words:?}");
-    }
-    Ok(())
-}
-
-const KEYS: [Row; 2] = [
+/// Equal keys are told.
+pub static KEYS: [Row; 2] = [
     Row {
         words: &["canon"],
         input: "--- {\"a\" : \"1\", \"\\x61\" : \"2\"}",
@@ -443,12 +382,8 @@ const KEYS: [Row; 2] = [
     },
 ];
 
-#[test]
-fn equal_keys_are_told(rt: HostRuntime) -> Result<(), Fail> {
-    check(&rt, &Shelf::new(), &KEYS)
-}
-
-const REFUSED: [Row; 9] = [
+/// A refusal is one line and status 2.
+static REFUSED: [Row; 9] = [
     Row {
         words: &["canon"],
         input: "a:\tb",
@@ -515,28 +450,21 @@ const REFUSED: [Row; 9] = [
 ];
 
 #[test]
-fn a_refusal_is_one_line_and_status_2(rt: HostRuntime) -> Result<(), Fail> {
-    check(&rt, &Shelf::new(), &REFUSED)
+fn words_have_their_lines_and_their_status(rt: HostRuntime) -> Result<(), Fail> {
+    let tables: [&[Row]; 6] = [&CANON, &SAME, &EVENTS, &CHECK, &KEYS, &REFUSED];
+    for table in &tables {
+        for row in *table {
+            is_told(&rt, row)?;
+        }
+    }
+    Ok(())
 }
 
 #[test]
-fn files_are_opened_through_the_runtime(rt: HostRuntime) -> Result<(), Fail> {
-    let alloc = rt.alloc();
-    let words = owned(alloc, &["canon", "no/such/file"])?;
-    let mut out = Vec::new(alloc);
-    let mut err = Vec::new(alloc);
-    let status = command(
-        &rt,
-        alloc,
-        words.as_slice(),
-        Source::of(""),
-        &mut out,
-        &mut err,
-    );
-    assert_eq!(rt;
-        String::from_utf8(err)?.as_str(),
-        "yaml: cannot open no/such/file\n"
-    );
-    assert_eq!(rt; status, 3);
+fn other_words_are_a_fault_of_usage(rt: HostRuntime) -> Result<(), Fail> {
+    for words in &USAGE {
+        let ran = run(rt.alloc(), &Listed, words, NONE)?;
+        ran.gave(&rt, words, 3, "", "yaml: usage\n");
+    }
     Ok(())
 }

@@ -1,9 +1,10 @@
 //! Runs of words over the tests' own streams and files.
-use crate::fakes::{Shelf, Source};
+use crate::fakes::Source;
 use std::alloc::Global;
+use std::process::Abort;
 use std::test::Fail;
-use yaml_command::command::{command, command_over};
-use yaml_command::shelf;
+use yaml_command::command::command_over;
+use yaml_command::shelf::Shelf;
 
 /// What a run answered and wrote.
 #[derive(Drop)]
@@ -11,6 +12,26 @@ pub struct Ran {
     pub status: u8,
     pub out: String,
     pub err: String,
+}
+
+impl Ran {
+    pub fn new(status: u8, out: Vec<u8>, err: Vec<u8>) -> Result<Ran, Fail> {
+        Ok(Ran {
+            status,
+            out: String::from_utf8(out)?,
+            err: String::from_utf8(err)?,
+        })
+    }
+
+    /// Asserts what a run answered and wrote. The first words say which run it was.
+    pub fn gave<T: Abort>(&self, rt: &T, shows: &[&str], status: u8, out: &str, err: &str) {
+        let (got_out, got_err) = (self.out.as_str(), self.err.as_str());
+        assert!(rt;
+            self.status == status && got_out == out && got_err == err,
+            "{shows:?}: {} {got_out:?} {got_err:?}",
+            self.status
+        );
+    }
 }
 
 pub fn owned(alloc: Global, words: &[&str]) -> Result<Vec<String>, Fail> {
@@ -21,26 +42,8 @@ pub fn owned(alloc: Global, words: &[&str]) -> Result<Vec<String>, Fail> {
     Ok(list)
 }
 
-/// Runs the words over a shelf of files and a standard input.
-pub fn run(
-    alloc: Global,
-    shelf: &Shelf<'_>,
-    words: &[&str],
-    input: Source<'_>,
-) -> Result<Ran, Fail> {
-    let words = owned(alloc, words)?;
-    let mut out = Vec::new(alloc);
-    let mut err = Vec::new(alloc);
-    let status = command(shelf, alloc, words.as_slice(), input, &mut out, &mut err);
-    Ok(Ran {
-        status,
-        out: String::from_utf8(out)?,
-        err: String::from_utf8(err)?,
-    })
-}
-
-/// The same over a shelf of which it may be known what its files hold.
-pub fn run_over<S: shelf::Shelf>(
+/// Runs the words by `yaml_command` over a shelf of files and a standard input.
+pub fn run<S: Shelf>(
     alloc: Global,
     files: &S,
     words: &[&str],
@@ -50,9 +53,5 @@ pub fn run_over<S: shelf::Shelf>(
     let mut out = Vec::new(alloc);
     let mut err = Vec::new(alloc);
     let status = command_over(files, alloc, words.as_slice(), input, &mut out, &mut err);
-    Ok(Ran {
-        status,
-        out: String::from_utf8(out)?,
-        err: String::from_utf8(err)?,
-    })
+    Ran::new(status, out, err)
 }

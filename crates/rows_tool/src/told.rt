@@ -1,5 +1,5 @@
 //! The line of each fault, which the program makes of its number, its name and its place, beside the message that is derived.
-use std::alloc::Global;
+use std::process::Abort;
 use std::test::Fail;
 use yaml_command::command::report;
 use yaml_command::refusal::Refusal;
@@ -33,31 +33,31 @@ static FAULTS: [Fault; 23] = [
     Fault::WriteFault,
 ];
 
-/// What standard error has of a refusal.
-fn line(alloc: Global, refusal: Refusal<'_>) -> Result<String, Fail> {
-    let mut held = Vec::new(alloc);
+static LINE_FAULTS: [EventFault; 2] = [EventFault::BadLine(12), EventFault::OutOfMemory];
+
+/// Asserts the line that standard error has of a refusal.
+fn is_told<T: Abort + AllocGlobal>(
+    rt: &T,
+    refusal: Refusal<'_>,
+    message: String,
+) -> Result<(), Fail> {
+    let mut held = Vec::new(rt.alloc());
     let _ = report(Err(refusal), &mut Counted::new(&mut held));
-    Ok(String::from_utf8(held)?)
+    let got = String::from_utf8(held)?;
+    assert!(rt; got.as_str() == message.as_str(), "{got} {message}");
+    Ok(())
 }
 
 #[test]
 fn a_fault_is_told_by_its_message(rt: HostRuntime) -> Result<(), Fail> {
     let alloc = rt.alloc();
     for fault in &FAULTS {
-        let got = line(alloc, Refusal::Input(*fault))?;
-        let want = format!(in alloc; "yaml: {fault}\n")?;
-        assert_eq!(rt; got.as_str(), want.as_str());
+        let message = format!(in alloc; "yaml: {fault}\n")?;
+        is_told(&rt, Refusal::Input(*fault), message)?;
     }
-    Ok(())
-}
-
-#[test]
-fn a_fault_of_event_lines_is_told_by_its_message(rt: HostRuntime) -> Result<(), Fail> {
-    let alloc = rt.alloc();
-    for fault in [EventFault::BadLine(12), EventFault::OutOfMemory] {
-        let got = line(alloc, Refusal::EventLines(fault))?;
-        let want = format!(in alloc; "yaml: events: {fault}\n")?;
-        assert_eq!(rt; got.as_str(), want.as_str());
+    for fault in &LINE_FAULTS {
+        let message = format!(in alloc; "yaml: events: {fault}\n")?;
+        is_told(&rt, Refusal::EventLines(*fault), message)?;
     }
     Ok(())
 }
