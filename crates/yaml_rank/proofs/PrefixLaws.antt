@@ -91,13 +91,13 @@ module _ (a b : List ℕ) (small : (k : ℕ) → slice_index a k < 256) (few : (
 
   -- so many first bytes and the length, and then what they leave to compare, stand as the texts do
   module _ (k : ℕ) (room : k < 255) (r s : List ℕ) (left : (length a ≤ k → r ≡ []) × (k < length a → r ≡ a)) (right : (length b ≤ k → s ≡ []) × (k < length b → s ≡ b)) where
-    abbrev m : ℕ
+    abbrev pub m : ℕ
     m = min (length a) (suc k)
 
-    abbrev n : ℕ
+    abbrev pub n : ℕ
     n = min (length b) (suc k)
 
-    abbrev Told : Type 0
+    abbrev pub Told : Type 0
     Told = ordering_then (nat_cmp (front k a * 256 + m) (front k b * 256 + n)) (bytes_cmp r s) ≡ bytes_cmp a b
 
     less : front k a * 256 + m < front k b * 256 + n → bytes_cmp a b ≡ Less → Told
@@ -127,7 +127,7 @@ module _ (a b : List ℕ) (small : (k : ℕ) → slice_index a k < 256) (few : (
     decided Equal e (inl d) = ends (equal-cmp (front k a) (front k b) e) (nat_cmp m n) refl
     decided Greater e (inl d) = let l = greater-cmp (front k a) (front k b) e in greater (omega arith) (sym d ∙ e)
 
-    told-cmp : Told
+    pub told-cmp : Told
     told-cmp = decided (nat_cmp (front k a) (front k b)) refl (front-decides k)
 
 -- the prefixes, and then the rests, stand as the texts do

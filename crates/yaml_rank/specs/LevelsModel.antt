@@ -27,12 +27,16 @@ pub record Reaches (h : ℕ) (old new : Levels) : Type 0 where
   pub same : (k : ℕ) → level_of new k ≡ level_of old k
   pub count : total new ≡ total old
 
--- The first nodes, so many, each once at its height, in rising order.
-pub record LevelsTo (g : Graph) (end : ℕ) (levels : Levels) : Type 0 where
-  pub sound : (h k i : ℕ) → slice_get (level_of levels h) k ≡ Some i → (i < end) × (height (tree g i) ≡ h)
-  pub whole : (i : ℕ) → i < end → (k : ℕ) × (slice_get (level_of levels (height (tree g i))) k ≡ Some i)
+-- The first numbers, so many, each once at its height, in rising order.
+pub record LevelsBy (high : ℕ → ℕ) (end : ℕ) (levels : Levels) : Type 0 where
+  pub sound : (h k i : ℕ) → slice_get (level_of levels h) k ≡ Some i → (i < end) × (high i ≡ h)
+  pub whole : (i : ℕ) → i < end → (k : ℕ) × (slice_get (level_of levels (high i)) k ≡ Some i)
   pub rises : (h j k x y : ℕ) → j < k → slice_get (level_of levels h) j ≡ Some x → slice_get (level_of levels h) k ≡ Some y → x < y
   pub count : total levels ≡ end
+
+-- the first nodes of a graph
+abbrev pub LevelsTo : Graph → ℕ → Levels → Type 0
+LevelsTo g end levels = LevelsBy (λ i. height (tree g i)) end levels
 
 abbrev pub LevelsAre : Graph → Levels → Type 0
 LevelsAre g levels = LevelsTo g (length (nodes_of g)) levels
