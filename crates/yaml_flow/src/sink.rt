@@ -6,11 +6,12 @@ ghost use Rattle.yaml_text.specs.EventModel.{event_of, style_of};
 ghost use Rattle.yaml_text.specs.declared.fault.Fault.TheVariants.{OutOfMemory};
 ghost use Rattle.yaml_flow.specs.PropertyRules.{props_of, dressed};
 ghost use Rattle.yaml_flow.specs.Held.{Counts, Keeps, Puts, Alters};
-ghost use Rattle.yaml_flow.specs.SinkModel.{holds_of, HeldBeside, listed, start_of, end_of};
+ghost use Rattle.yaml_flow.specs.SinkModel.{holds_of, HeldBeside, start_of, end_of};
 
-use crate::properties::{Properties, dress};
+use crate::list::EventList;
+use crate::properties::Properties;
 use std::borrow::CowStr;
-use yaml_text::event::{Event, EventTag, Style};
+use yaml_text::event::{Event, Style};
 use yaml_text::fault::Fault;
 
 /// Which kind of collection.
@@ -74,7 +75,7 @@ pub trait Keeper {
 /// Where a reader's events go: a list, or what keeps them in a form of its own, or both.
 #[derive(Drop)]
 pub enum Sink<'a, K: Keeper> {
-    Listed(Vec<Event<'a>>),
+    Listed(EventList<'a>),
     Kept(K),
     Both(Beside<'a, K>),
 }
@@ -82,103 +83,8 @@ pub enum Sink<'a, K: Keeper> {
 /// A list of events, and beside it what keeps the same in a form of its own.
 #[derive(Drop)]
 pub struct Beside<'a, K: Keeper> {
-    pub list: Vec<Event<'a>>,
+    pub list: EventList<'a>,
     pub keeper: K,
-}
-
-/// Puts an event at a list's end. Out of line, as the others, so that no event stands in the frame of a call that nests.
-#[inline(never)]
-fn list_event<'a>(list: &mut Vec<Event<'a>>, event: Event<'a>) -> Result<(), Fault>
-    ensures ok { IfOk result (λ _. Puts listed list.old (event_of event.entry ∷ []) list.new) }
-    ensures err { IfErr result (λ e. e ≡ OutOfMemory) }
-{
-    list.push(event)?;
-    Ok(())
-}
-
-/// Puts a scalar without properties at a list's end.
-#[inline(never)]
-fn list_scalar<'a>(list: &mut Vec<Event<'a>>, style: Style, text: CowStr<'a>) -> Result<(), Fault>
-    ensures ok { IfOk result (λ _. Puts listed list.old (scalar_event None untagged (style_of style) (cow_str_bytes text.entry) ∷ []) list.new) }
-    ensures err { IfErr result (λ e. e ≡ OutOfMemory) }
-{
-    list.push(Event::Scalar {
-        anchor: None,
-        tag: EventTag::None,
-        style,
-        text,
-    })?;
-    Ok(())
-}
-
-/// The start of a collection without properties.
-fn start_event<'a>(collection: Collection, flow: bool) -> Event<'a>
-    ensures { event_of result ≡ start_of collection flow }
-{
-    match collection {
-        Collection::Sequence => Event::SequenceStart {
-            flow,
-            anchor: None,
-            tag: EventTag::None,
-        },
-        Collection::Mapping => Event::MappingStart {
-            flow,
-            anchor: None,
-            tag: EventTag::None,
-        },
-    }
-}
-
-/// Puts the start of a collection without properties at a list's end.
-#[inline(never)]
-fn list_begin<'a>(
-    list: &mut Vec<Event<'a>>,
-    collection: Collection,
-    flow: bool,
-) -> Result<(), Fault>
-    ensures ok { IfOk result (λ _. Puts listed list.old (start_of collection flow ∷ []) list.new) }
-    ensures err { IfErr result (λ e. e ≡ OutOfMemory) }
-{
-    list.push(start_event(collection, flow))?;
-    Ok(())
-}
-
-/// Puts the end of a collection at a list's end.
-#[inline(never)]
-fn list_end<'a>(list: &mut Vec<Event<'a>>, collection: Collection) -> Result<(), Fault>
-    ensures ok { IfOk result (λ _. Puts listed list.old (end_of collection ∷ []) list.new) }
-    ensures err { IfErr result (λ e. e ≡ OutOfMemory) }
-{
-    match collection {
-        Collection::Sequence => list.push(Event::SequenceEnd)?,
-        Collection::Mapping => list.push(Event::MappingEnd)?,
-    }
-    Ok(())
-}
-
-/// Puts the start of a mapping without properties into a list, before what was put down since a mark.
-#[inline(never)]
-fn list_insert<'a>(list: &mut Vec<Event<'a>>, start: usize, flow: bool) -> Result<(), Fault>
-    ensures ok { IfOk result (λ _. Alters listed start (λ es. mapping_start flow None untagged ∷ es) list.old list.new) }
-    ensures err { IfErr result (λ e. e ≡ OutOfMemory) }
-{
-    let place = start.min(list.len());
-    list.insert(place, start_event(Collection::Mapping, flow))?;
-    Ok(())
-}
-
-/// Puts properties on the first event of a list since a mark, if there is one.
-fn list_dress<'a>(list: &mut Vec<Event<'a>>, start: usize, properties: Properties<'a>)
-    ensures { Alters listed start (dressed (props_of properties.entry)) list.old list.new }
-{
-    dress(list, start, properties);
-}
-
-/// Takes back the events of a list since a mark.
-fn list_cut(list: &mut Vec<Event<'_>>, start: usize)
-    ensures { Alters listed start (λ _. []) list.old list.new }
-{
-    list.truncate(start);
 }
 
 impl<'a, K: Keeper> Beside<'a, K> {
@@ -188,7 +94,7 @@ impl<'a, K: Keeper> Beside<'a, K> {
         ensures err { IfErr result (λ e. e ≡ OutOfMemory) }
     {
         self.keeper.push(&event, at)?;
-        list_event(&mut self.list, event)
+        self.list.push(event)
     }
 
     #[tactic(auto, using(crate::proofs::SinkLemmas::both_put))]
@@ -197,7 +103,7 @@ impl<'a, K: Keeper> Beside<'a, K> {
         ensures err { IfErr result (λ e. e ≡ OutOfMemory) }
     {
         self.keeper.scalar(style, text.as_str(), at)?;
-        list_scalar(&mut self.list, style, text)
+        self.list.scalar(style, text)
     }
 
     #[tactic(auto, using(crate::proofs::SinkLemmas::both_put))]
@@ -206,7 +112,7 @@ impl<'a, K: Keeper> Beside<'a, K> {
         ensures err { IfErr result (λ e. e ≡ OutOfMemory) }
     {
         self.keeper.begin(collection, flow, at)?;
-        list_begin(&mut self.list, collection, flow)
+        self.list.begin(collection, flow)
     }
 
     #[tactic(auto, using(crate::proofs::SinkLemmas::both_put))]
@@ -215,7 +121,7 @@ impl<'a, K: Keeper> Beside<'a, K> {
         ensures err { IfErr result (λ e. e ≡ OutOfMemory) }
     {
         self.keeper.end(collection, at)?;
-        list_end(&mut self.list, collection)
+        self.list.end(collection)
     }
 
     #[tactic(auto, using(crate::proofs::SinkLemmas::both_altered))]
@@ -224,7 +130,7 @@ impl<'a, K: Keeper> Beside<'a, K> {
         ensures err { IfErr result (λ e. e ≡ OutOfMemory) }
     {
         self.keeper.insert(start, flow, at)?;
-        list_insert(&mut self.list, start, flow)
+        self.list.insert(start, flow)
     }
 
     #[tactic(auto, using(crate::proofs::SinkLemmas::both_kept))]
@@ -239,7 +145,7 @@ impl<'a, K: Keeper> Beside<'a, K> {
         ensures { Alters (HeldBeside K.holds) start (dressed (props_of properties.entry)) self.old self.new }
     {
         self.keeper.dress(start, &properties);
-        list_dress(&mut self.list, start, properties);
+        self.list.dress(start, properties);
     }
 
     #[tactic(auto, using(crate::proofs::SinkLemmas::both_altered))]
@@ -247,7 +153,7 @@ impl<'a, K: Keeper> Beside<'a, K> {
         ensures { Alters (HeldBeside K.holds) start (λ _. []) self.old self.new }
     {
         self.keeper.cut(start);
-        list_cut(&mut self.list, start);
+        self.list.cut(start);
     }
 }
 
@@ -257,9 +163,9 @@ impl<'a, K: Keeper> Sink<'a, K> {
         ensures { Counts (holds_of K.holds) self.now result }
     {
         match self {
-            Sink::Listed(list) => list.len(),
+            Sink::Listed(list) => list.mark(),
             Sink::Kept(keeper) => keeper.mark(),
-            Sink::Both(both) => both.list.len(),
+            Sink::Both(both) => both.list.mark(),
         }
     }
 
@@ -269,7 +175,7 @@ impl<'a, K: Keeper> Sink<'a, K> {
         ensures err { IfErr result (λ e. e ≡ OutOfMemory) }
     {
         match self {
-            Sink::Listed(list) => list_event(list, event),
+            Sink::Listed(list) => list.push(event),
             Sink::Kept(keeper) => keeper.push(&event, at),
             Sink::Both(both) => both.push(event, at),
         }
@@ -281,7 +187,7 @@ impl<'a, K: Keeper> Sink<'a, K> {
         ensures err { IfErr result (λ e. e ≡ OutOfMemory) }
     {
         match self {
-            Sink::Listed(list) => list_scalar(list, style, text),
+            Sink::Listed(list) => list.scalar(style, text),
             Sink::Kept(keeper) => keeper.scalar(style, text.as_str(), at),
             Sink::Both(both) => both.scalar(style, text, at),
         }
@@ -293,7 +199,7 @@ impl<'a, K: Keeper> Sink<'a, K> {
         ensures err { IfErr result (λ e. e ≡ OutOfMemory) }
     {
         match self {
-            Sink::Listed(list) => list_begin(list, collection, flow),
+            Sink::Listed(list) => list.begin(collection, flow),
             Sink::Kept(keeper) => keeper.begin(collection, flow, at),
             Sink::Both(both) => both.begin(collection, flow, at),
         }
@@ -305,7 +211,7 @@ impl<'a, K: Keeper> Sink<'a, K> {
         ensures err { IfErr result (λ e. e ≡ OutOfMemory) }
     {
         match self {
-            Sink::Listed(list) => list_end(list, collection),
+            Sink::Listed(list) => list.end(collection),
             Sink::Kept(keeper) => keeper.end(collection, at),
             Sink::Both(both) => both.end(collection, at),
         }
@@ -317,7 +223,7 @@ impl<'a, K: Keeper> Sink<'a, K> {
         ensures err { IfErr result (λ e. e ≡ OutOfMemory) }
     {
         match self {
-            Sink::Listed(list) => list_insert(list, start, flow),
+            Sink::Listed(list) => list.insert(start, flow),
             Sink::Kept(keeper) => keeper.insert(start, flow, at),
             Sink::Both(both) => both.insert(start, flow, at),
         }
@@ -339,7 +245,7 @@ impl<'a, K: Keeper> Sink<'a, K> {
         ensures { Alters (holds_of K.holds) start (dressed (props_of properties.entry)) self.old self.new }
     {
         match self {
-            Sink::Listed(list) => list_dress(list, start, properties),
+            Sink::Listed(list) => list.dress(start, properties),
             Sink::Kept(keeper) => keeper.dress(start, &properties),
             Sink::Both(both) => both.dress(start, properties),
         }
@@ -350,7 +256,7 @@ impl<'a, K: Keeper> Sink<'a, K> {
         ensures { Alters (holds_of K.holds) start (λ _. []) self.old self.new }
     {
         match self {
-            Sink::Listed(list) => list_cut(list, start),
+            Sink::Listed(list) => list.cut(start),
             Sink::Kept(keeper) => keeper.cut(start),
             Sink::Both(both) => both.cut(start),
         }
