@@ -5,7 +5,7 @@ use std::process::Abort;
 use std::test::Fail;
 
 /// So many times a text.
-fn times(alloc: Global, count: usize, piece: &str) -> Result<String, Fail> {
+pub fn times(alloc: Global, count: usize, piece: &str) -> Result<String, Fail> {
     let mut text = String::new(alloc);
     for _ in 0..count {
         text.push_str(piece)?;

@@ -10,6 +10,8 @@ mod faults;
 #[cfg(test)]
 mod marked;
 #[cfg(test)]
+mod nested_keys;
+#[cfg(test)]
 mod properties;
 #[cfg(test)]
 mod rows;

@@ -1,5 +1,5 @@
 -- From where a reader stands to documents and streams.
-use Rattle.std.proofs.Common.{◌≡◌, ℕ, ◌+◌, inl, inr, Some, List, [], ◌∷◌, true, map, refl, sym, ap, subst, Vec, Global}
+use Rattle.std.proofs.Common.{◌≡◌, ℕ, ◌+◌, inl, inr, Some, List, [], ◌∷◌, true, map, refl, sym, ◌∙◌, ap, subst, Vec, Global}
 use Rattle.std.specs.Prelude.{slice_get}
 use Rattle.yaml_definitions.specs.model.Limits.{open_limit}
 use Rattle.yaml_definitions.specs.model.Event.{Event, document_start}
@@ -19,12 +19,14 @@ use Rattle.yaml_flow.specs.NodeAnswer.{Appends}
 use Rattle.yaml_text.specs.EventModel.{event_of}
 use Rattle.yaml_text.specs.declared.event.Event as code
 use Rattle.yaml_flow.specs.Held.{Puts}
+use Rattle.yaml_flow.specs.ListModel.{HeldList}
 use Rattle.yaml_flow.specs.SinkModel.{holds_of, HeldBeside}
+use Rattle.yaml_flow.specs.declared.list.EventList.{EventList}
 use Rattle.yaml_flow.specs.declared.sink.Sink.{Sink}
 use Rattle.yaml_flow.specs.declared.sink.Sink.TheVariants.{Listed, Both}
 use Rattle.yaml_flow.specs.declared.sink.Beside.{Beside}
 use Rattle.yaml_flow.proofs.AnswerLemmas.{puts_on}
-use Rattle.std.specs.Prelude.{Result, Ok, Err}
+use Rattle.std.specs.Prelude.{Result, Ok, Err, IfOk, IfErr, MatchResult}
 use Rattle.yaml_read.specs.StreamRules.{opened_by_mark, opened_by_directives}
 
 -- an event that was put down before what a call puts down
@@ -33,18 +35,30 @@ pub appends_after : {X S : Type 0} {holds : S → List Event → Type 0} (R : X 
 appends_after R v i end old mid new (Ok x) first (es, a, p) = (v ∷ es, puts_on old mid new (v ∷ []) es first a, (es, p, refl))
 appends_after R v i end old mid new (Err e) first a = a
 
--- all that a list holds that was empty
-pub all_listed : {K : Type 0} {holds : K → List Event → Type 0} (first last : Vec code.Event Global) (out : Sink K) (es : List Event) → first.items ≡ [] → out ≡ Listed last → Puts (holds_of holds) (Listed first) es out →
-    map event_of last.items ≡ es
-all_listed {K} {holds} first last out es e is p =
-    let held : holds_of holds (Listed last) es = subst (λ v. holds_of holds v es) is (p.is [] (ap (map event_of) e)) in
+-- all that a list holds that held nothing
+pub all_listed : {K : Type 0} {holds : K → List Event → Type 0} (first last : EventList) (out : Sink K) (es : List Event) → HeldList first [] → out ≡ Listed last → Puts (holds_of holds) (Listed first) es out → HeldList last es
+all_listed {K} {holds} first last out es h is p =
+    let held : holds_of holds (Listed last) es = subst (λ v. holds_of holds v es) is (p.is [] h) in
     held
 
 -- all that a list and a keeper beside it hold that held nothing
-pub all_beside : {K : Type 0} (holds : K → List Event → Type 0) (first last : Beside K) (out : Sink K) (es : List Event) → first.list.items ≡ [] → holds first.keeper [] → out ≡ Both last → Puts (holds_of holds) (Both first) es out → HeldBeside holds last es
-all_beside holds first last out es e h is p =
-    let held : holds_of holds (Both last) es = subst (λ v. holds_of holds v es) is (p.is [] (record { list = ap (map event_of) e; keeper = h })) in
+pub all_beside : {K : Type 0} (holds : K → List Event → Type 0) (first last : Beside K) (out : Sink K) (es : List Event) → HeldList first.list [] → holds first.keeper [] → out ≡ Both last → Puts (holds_of holds) (Both first) es out → HeldBeside holds last es
+all_beside holds first last out es l h is p =
+    let held : holds_of holds (Both last) es = subst (λ v. holds_of holds v es) is (p.is [] (record { list = l; keeper = h })) in
     held
+
+-- what is made of a list that holds these events, unless there is no memory for it
+module _ (list : EventList) (es : List Event) (held : HeldList list es) where
+  abbrev pub Makes : Vec code.Event Global → Type 0
+  Makes events = (log : List Event) → HeldList list log → map event_of events.items ≡ log
+
+  pub if_made : (Q : List Event → Type 0) (r : Result (Vec code.Event Global) Fault) → IfOk r Makes → Q es → IfOk r (λ events. Q (map event_of events.items))
+  if_made Q (Ok x) f q = subst Q (sym (f es held)) q
+  if_made Q (Err e) f q = tt
+
+  pub made_or_wanting : (fs : List Event) (r : Result (Vec code.Event Global) Fault) → IfOk r Makes → IfErr r (λ e. e ≡ fault.OutOfMemory) → es ≡ fs → MatchResult r (λ events. map event_of events.items ≡ fs) (λ e. e ≡ fault.OutOfMemory)
+  made_or_wanting fs (Ok x) f m e = f es held ∙ e
+  made_or_wanting fs (Err x) f m e = m
 
 -- the faults of directives are faults of the reader
 pub directives_refusal : (P : Type 0) (e : Fault) → DirectivesRefuse e P → IsRefusal e

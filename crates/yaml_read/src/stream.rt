@@ -28,6 +28,7 @@ ghost use Rattle.yaml_read.specs.StreamRules.{IsMarkOf, NextIs, opened_by_mark, 
 use std::alloc::Global;
 use yaml_block::document::{read_bare, read_marked};
 use yaml_flow::line::{Line, first_line, next_line};
+use yaml_flow::list::EventList;
 use yaml_flow::sink::{Beside, Keeper, Sink, Unkept};
 use yaml_mark::directives::read_directives;
 use yaml_mark::handles::Handles;
@@ -270,10 +271,10 @@ pub fn read_events<'a>(alloc: Global, source: &Chars<'a>) -> Result<Vec<Event<'a
     ensures block { (f : List Tree) → Admitted f → AllKeysFit f → length (block_bytes f) ≤ text_limit → Text (block_bytes f) (text_of source.now) → MatchResult result (λ events. map event_of events.items ≡ blocked f) (λ e. e ≡ Fault.OutOfMemory) }
     ensures placed { IfErr result (IsPlaced source.now) }
 {
-    let mut out: Sink<'a, Unkept> = Sink::Listed(Vec::new(alloc));
+    let mut out: Sink<'a, Unkept> = Sink::Listed(EventList::new(alloc));
     read_into(alloc, source, &mut out)?;
     match out {
-        Sink::Listed(events) => Ok(events),
+        Sink::Listed(list) => list.settle(),
         Sink::Kept(_) => Err(Fault::OutOfMemory),
         Sink::Both(both) => {
             drop(both);
@@ -297,12 +298,16 @@ pub fn read_events_with<'a, K: Keeper + Drop>(
     ensures kept { IfOk result (λ read. K.holds read.1 (map event_of read.0.items)) }
 {
     let mut out: Sink<'a, K> = Sink::Both(Beside {
-        list: Vec::new(alloc),
+        list: EventList::new(alloc),
         keeper,
     });
     read_into(alloc, source, &mut out)?;
     match out {
-        Sink::Both(both) => Ok((both.list, both.keeper)),
+        Sink::Both(both) => {
+            let Beside { list, keeper } = both;
+            let events = list.settle()?;
+            Ok((events, keeper))
+        }
         Sink::Listed(list) => {
             drop(list);
             Err(Fault::OutOfMemory)

@@ -21,6 +21,7 @@ use crate::block::signs::{first_colon, line_goes_on};
 use std::alloc::Global;
 use yaml_flow::flow::{FlowNode, read_bare, read_flow_node};
 use yaml_flow::key::{Fit, key_fit};
+use yaml_flow::list::EventList;
 use yaml_flow::properties::{Properties, read_properties};
 use yaml_flow::sink::{Keeper, Sink, Unkept};
 use yaml_mark::handles::Handles;
@@ -82,7 +83,7 @@ fn key_fault<'a>(
     ensures refusal { IsRefusal result }
     ensures placed { IsPlaced source.now result }
 {
-    let mut events: Sink<'_, Unkept> = Sink::Listed(Vec::new(alloc));
+    let mut events: Sink<'_, Unkept> = Sink::Listed(EventList::new(alloc));
     let context = Ctx::BlockKey;
     match read_flow_node(alloc, source, at, 0, context, room, handles, &mut events) {
         Err(fault) => fault,
