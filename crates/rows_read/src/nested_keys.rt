@@ -28,8 +28,9 @@ fn nested_keys_in_a_sequence_have_their_events(rt: HostRuntime) -> Result<(), Fa
     let more = nest_events(alloc)?;
     let input = format!(in alloc; "[{key}:,{key}: b,{key}]")?;
     let pair = format!(in alloc; "|+MAP {{}}|+SEQ []{more}")?;
-    let answer =
-        format!(in alloc; "|+DOC|+SEQ []{pair}|=VAL :|-MAP{pair}|=VAL :b|-MAP|+SEQ []{more}|-SEQ|-DOC")?;
+    let answer = format!(in alloc;
+        "|+DOC|+SEQ []{pair}|=VAL :|-MAP{pair}|=VAL :b|-MAP|+SEQ []{more}|-SEQ|-DOC"
+    )?;
     reads(&rt, input.as_str(), answer.as_str())
 }
 
