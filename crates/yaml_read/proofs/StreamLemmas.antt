@@ -1,5 +1,5 @@
 -- From where a reader stands to documents and streams.
-use Rattle.std.proofs.Common.{◌≡◌, ℕ, ◌+◌, inl, inr, Some, List, [], ◌∷◌, true, map, refl, sym, ◌∙◌, ap, subst, Vec, Global}
+use Rattle.std.proofs.Common.{◌≡◌, ℕ, ◌+◌, inl, inr, Some, List, [], ◌∷◌, true, map, refl, sym, ◌∙◌, subst, Vec, Global}
 use Rattle.std.specs.Prelude.{slice_get}
 use Rattle.yaml_definitions.specs.model.Limits.{open_limit}
 use Rattle.yaml_definitions.specs.model.Event.{Event, document_start}

@@ -1,4 +1,4 @@
-use Rattle.std.proofs.Common.{◌≡◌, map, sym, ◌∙◌, subst}
+use Rattle.std.proofs.Common.{◌≡◌, map, sym}
 use Rattle.yaml_definitions.specs.model.Limits.{open_limit}
 use Rattle.yaml_text.specs.EventModel.{event_of}
 use Rattle.yaml_text.specs.Source.{text_of}
