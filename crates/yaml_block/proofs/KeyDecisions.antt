@@ -23,9 +23,9 @@ use Rattle.law_going_on.proofs.KeyChoices.{keys_refused}
 use Rattle.law_going_on.proofs.BlockProperties.{no_key_over}
 use Rattle.law_going_on.proofs.PropertyLines.{no_flow_barred}
 use Rattle.yaml_flow.specs.PropertyDecisions.{Barred, IsOnly, IsRefused}
-use Rattle.yaml_flow.specs.Held.{Counts, Keeps, Puts, Alters}
+use Rattle.yaml_sink.specs.Held.{Counts, Keeps, Puts, Alters}
 use Rattle.yaml_flow.specs.Keys.{ColonAfter}
-use Rattle.yaml_flow.specs.PropertyRules.{SomeProperties}
+use Rattle.yaml_sink.specs.PropertyRules.{SomeProperties}
 use Rattle.yaml_flow.specs.declared.flow.Kind.{Kind}
 use Rattle.yaml_flow.specs.declared.flow.Kind.TheVariants.{Yaml, Json}
 use Rattle.yaml_flow.proofs.PropertyDecisions.{barred_line}

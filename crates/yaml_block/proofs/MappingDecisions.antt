@@ -11,7 +11,7 @@ use Rattle.yaml_flow.specs.PropertyDecisions.{AllProperties, LineGoesOn, IsOnly}
 use Rattle.yaml_flow.specs.FlowRules.{flow_from}
 use Rattle.yaml_flow.specs.Keys.{ColonAfter}
 use Rattle.yaml_flow.specs.Lines.{IsBlock}
-use Rattle.yaml_flow.specs.PropertyRules.{Disjoint}
+use Rattle.yaml_sink.specs.PropertyRules.{Disjoint}
 use Rattle.yaml_flow.specs.declared.flow.Kind.{Kind}
 use Rattle.yaml_block.specs.BlockRules.{node_rest, entries_rest}
 use Rattle.yaml_block.specs.BlockEnds.{AfterNode, AfterMapping, ColonStands, IsNoKey, IsStyleSign}

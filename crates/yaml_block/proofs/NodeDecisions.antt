@@ -29,7 +29,7 @@ use Rattle.law_going_on.proofs.OwnLines.{MappingIn, FlowOrKey, mapping_refused, 
 use Rattle.yaml_flow.specs.PropertyDecisions.{AllProperties, Barred, IsProperty, LineGoesOn}
 use Rattle.yaml_flow.specs.FlowRules.{opens, below}
 use Rattle.yaml_flow.specs.Lines.{IsBlock}
-use Rattle.yaml_flow.specs.PropertyRules.{SomeProperties, Disjoint, both_props}
+use Rattle.yaml_sink.specs.PropertyRules.{SomeProperties, Disjoint, both_props}
 use Rattle.yaml_flow.proofs.PropertyLemmas.{marks_props, marks_some}
 use Rattle.yaml_flow.proofs.PropertyDecisions.{both_is, apart_kinds, barred_line}
 use Rattle.yaml_flow.proofs.SpaceLemmas.{lines_separate, flow_separate, block_separate}

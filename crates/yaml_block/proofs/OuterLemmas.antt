@@ -8,7 +8,7 @@ use Rattle.yaml_definitions.specs.grammar.Events.{Props, no_props, e-scalar as e
 use Rattle.yaml_definitions.specs.grammar.Nodes as nodes
 use Rattle.yaml_definitions.specs.grammar.Nodes.{yaml_part, reads}
 use Rattle.yaml_flow.specs.FlowRules.{Bare, aliased, plainly, with_properties, lone, part_of}
-use Rattle.yaml_flow.specs.PropertyRules.{SomeProperties, tag_alone, anchor_alone, both, Own, Disjoint, HasTag, HasAnchor, both_props, either_anchor, either_tag, tag_props, anchor_props, dressed}
+use Rattle.yaml_sink.specs.PropertyRules.{SomeProperties, tag_alone, anchor_alone, both, Own, Disjoint, HasTag, HasAnchor, both_props, either_anchor, either_tag, tag_props, anchor_props, dressed}
 use Rattle.yaml_flow.specs.declared.flow.Kind.{Kind}
 use Rattle.yaml_flow.specs.declared.flow.Kind.TheVariants.{Yaml, Json}
 use Rattle.yaml_flow.proofs.PropertyLemmas.{marks_props, marks_some, tag_then, anchor_then}

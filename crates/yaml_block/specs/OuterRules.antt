@@ -8,7 +8,7 @@ use Rattle.yaml_definitions.specs.grammar.Tags.{Handles}
 use Rattle.yaml_definitions.specs.grammar.Events.{Props, no_props}
 use Rattle.law_one_reading.specs.Follows.{Stuck, DashHere}
 use Rattle.yaml_flow.specs.PropertyDecisions.{AllProperties}
-use Rattle.yaml_flow.specs.PropertyRules.{SomeProperties, Own, Disjoint, both_props}
+use Rattle.yaml_sink.specs.PropertyRules.{SomeProperties, Own, Disjoint, both_props}
 
 -- how many more properties a node may have
 abbrev pub anchors_left : Anchor → ℕ

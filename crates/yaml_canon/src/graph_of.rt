@@ -9,10 +9,10 @@ ghost use Rattle.yaml_canon.specs.Claims.{HasGraph, GraphRefuses};
 ghost use Rattle.yaml_canon.specs.FaultPlaces.{TellsPlace};
 
 use std::alloc::Global;
-use yaml_flow::sink::Keeper;
 use yaml_graph::compose_owned;
 use yaml_graph::graph::Graph;
 use yaml_read::{read_events, read_events_with};
+use yaml_sink::sink::Keeper;
 use yaml_text::chars::Chars;
 use yaml_text::fault::Fault;
 

@@ -9,8 +9,8 @@ use Rattle.yaml_definitions.specs.model.Event.{Event}
 use Rattle.yaml_definitions.specs.model.EventText.{event_line, events_text}
 use Rattle.yaml_definitions.specs.grammar.Events.{Props, no_props}
 use Rattle.yaml_events.proofs.LineText.{events_append, events_line_more}
-use Rattle.yaml_flow.specs.PropertyRules.{with_props, dressed}
-use Rattle.yaml_flow.specs.Held.{Puts, Alters}
+use Rattle.yaml_sink.specs.PropertyRules.{with_props, dressed}
+use Rattle.yaml_sink.specs.Held.{Puts, Alters}
 use Rattle.yaml_event_lines.specs.Slots.{props_text, IsClosed, HasRoom, HasRoomIn}
 use Rattle.yaml_event_lines.specs.LinesHeld.{starts_from, Written, LinesHold, Begins, Grows, Inserts, Gives, IsBeside, DressesLine}
 use Rattle.yaml_event_lines.specs.declared.lines.Lines.{Lines}

@@ -5,7 +5,7 @@ use Rattle.std.specs.List.{insert_slice}
 use Rattle.yaml_definitions.specs.model.Event.{Event, untagged, non_specific, full, stream_start, stream_end, document_start, document_end, sequence_start, sequence_end, mapping_start, mapping_end, scalar_event, alias_event}
 use Rattle.yaml_definitions.specs.model.EventText.{event_line, anchor_part, tag_part, style_text, value_text}
 use Rattle.yaml_definitions.specs.grammar.Events.{Props, no_props}
-use Rattle.yaml_flow.specs.PropertyRules.{with_props}
+use Rattle.yaml_sink.specs.PropertyRules.{with_props}
 use Rattle.yaml_event_lines.specs.Slots.{byte, props_text, IsScalarLine, IsStartLine, IsClosed, HasRoom}
 
 pub closed : (text : List ℕ) → (IsScalarLine text → ⊥) → (IsStartLine text → ⊥) → IsClosed text

@@ -5,7 +5,7 @@ use Rattle.std.specs.String.{string_bytes}
 use Rattle.yaml_definitions.specs.model.Event.{Event}
 use Rattle.yaml_definitions.specs.model.EventText.{event_line, events_text}
 use Rattle.yaml_definitions.specs.grammar.Events.{Props}
-use Rattle.yaml_flow.specs.PropertyRules.{dressed}
+use Rattle.yaml_sink.specs.PropertyRules.{dressed}
 use Rattle.yaml_event_lines.specs.declared.lines.Lines.{Lines}
 
 -- the offsets at which the lines of events begin, the first at this one

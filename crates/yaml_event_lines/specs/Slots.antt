@@ -4,7 +4,7 @@ use Rattle.std.specs.List.{insert_slice}
 use Rattle.yaml_definitions.specs.model.Event.{Event}
 use Rattle.yaml_definitions.specs.model.EventText.{event_line, anchor_part, tag_part}
 use Rattle.yaml_definitions.specs.grammar.Events.{Props, no_props}
-use Rattle.yaml_flow.specs.PropertyRules.{with_props}
+use Rattle.yaml_sink.specs.PropertyRules.{with_props}
 use Rattle.yaml_event_lines.specs.declared.slot.Slot.{Slot}
 use Rattle.yaml_event_lines.specs.declared.slot.Slot.TheVariants.{Closed, Behind, Taken}
 

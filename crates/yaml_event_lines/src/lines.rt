@@ -10,8 +10,8 @@ ghost use Rattle.yaml_text.specs.Source.{text_of};
 ghost use Rattle.yaml_text.specs.LeafAnswer.{IsRefusal};
 ghost use Rattle.yaml_text.specs.Placed.{IsPlaced};
 ghost use Rattle.yaml_text.specs.declared.fault.Fault.TheVariants.{OutOfMemory};
-ghost use Rattle.yaml_flow.specs.PropertyRules.{props_of};
-ghost use Rattle.yaml_flow.specs.SinkModel.{start_of, end_of};
+ghost use Rattle.yaml_sink.specs.PropertyRules.{props_of};
+ghost use Rattle.yaml_sink.specs.SinkModel.{start_of, end_of};
 ghost use Rattle.yaml_read.specs.Decided.{IsAlone, HasNoReading};
 ghost use Rattle.yaml_event_lines.specs.LinesHeld.{LinesHold, Begins, Grows, Inserts, Fills, Gives, IsBeside, DressesLine};
 ghost use Rattle.yaml_event_lines.specs.Slots.{props_text};
@@ -20,9 +20,9 @@ use crate::slot::{Slot, slot_in};
 use crate::starts::{move_behind, move_from};
 use std::alloc::Global;
 use yaml_events::{push_line, push_properties, push_scalar_line};
-use yaml_flow::properties::Properties;
-use yaml_flow::sink::{Collection, Keeper, Sink};
 use yaml_read::read_into;
+use yaml_sink::properties::Properties;
+use yaml_sink::sink::{Collection, Keeper, Sink};
 use yaml_text::chars::Chars;
 use yaml_text::event::{Event, Style};
 use yaml_text::fault::Fault;
@@ -229,8 +229,8 @@ impl Lines {
 }
 
 impl Keeper for Lines {
-    ghost use Rattle.yaml_flow.specs.Held.{Counts, Keeps, Puts, Alters};
-    ghost use Rattle.yaml_flow.specs.PropertyRules.{props_of, dressed};
+    ghost use Rattle.yaml_sink.specs.Held.{Counts, Keeps, Puts, Alters};
+    ghost use Rattle.yaml_sink.specs.PropertyRules.{props_of, dressed};
     ghost use Rattle.yaml_text.specs.EventModel.{event_of};
     ghost use Rattle.yaml_event_lines.specs.LinesHeld.{LinesHold};
 

@@ -9,7 +9,7 @@ use Rattle.yaml_text.specs.declared.fault.Fault.{Fault}
 use Rattle.yaml_text.specs.declared.fault.Fault.TheVariants as fault
 use Rattle.yaml_text.specs.LeafAnswer as scalar
 use Rattle.yaml_text.specs.LeafAnswer.{IsRefusal}
-use Rattle.yaml_flow.specs.Held.{Counts, Keeps, Puts, Alters}
+use Rattle.yaml_sink.specs.Held.{Counts, Keeps, Puts, Alters}
 use Rattle.yaml_flow.specs.NodeAnswer.{Appends, Perhaps}
 
 -- at the exit of a `?`

@@ -13,7 +13,7 @@ use Rattle.yaml_definitions.specs.grammar.Nodes.{Part, yaml_part, json_part, pai
 use Rattle.yaml_text.proofs.Repeats.{any_push}
 use Rattle.yaml_flow.specs.Keys.{ColonAfter}
 use Rattle.yaml_flow.specs.FlowRules.{part_of, opens, below, flow_from, content_at, content_from, Bare, aliased, plainly, with_properties, lone, from_room, item_at, entry_at, keyed_at, asked_at, value_at, spaced, comma, parts, MayFollowColon, IsInner, IsParted, quoted, quoted_style}
-use Rattle.yaml_flow.specs.PropertyRules.{dressed}
+use Rattle.yaml_sink.specs.PropertyRules.{dressed}
 use Rattle.yaml_flow.proofs.PropertyLemmas.{marks_props}
 use Rattle.yaml_flow.specs.declared.flow.scalars.Quote.{Quote}
 use Rattle.yaml_flow.specs.declared.flow.scalars.Quote.TheVariants as quotes

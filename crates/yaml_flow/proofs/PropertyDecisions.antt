@@ -22,7 +22,7 @@ use Rattle.law_one_reading.proofs.TagEnds.{prop_same, prop_here, prop_inside, ta
 use Rattle.law_going_on.proofs.PropertyChoices.{Second, Kinds, one_prop, two_props, kinds}
 use Rattle.law_going_on.proofs.PropertyLines.{no_gap, separate_line, line_properties, BarredLine}
 use Rattle.yaml_flow.specs.PropertyDecisions.{IsProperty, Differ, IsSingle, Stops, another, nothing, Barred, AllProperties, LineGoesOn}
-use Rattle.yaml_flow.specs.PropertyRules.{HasTag, HasAnchor, SomeProperties, tag_alone, anchor_alone, both, Own, Disjoint, either_anchor, either_tag, both_props}
+use Rattle.yaml_sink.specs.PropertyRules.{HasTag, HasAnchor, SomeProperties, tag_alone, anchor_alone, both, Own, Disjoint, either_anchor, either_tag, both_props}
 
 -- ---- what refusals say
 

@@ -12,7 +12,7 @@ use Rattle.yaml_definitions.specs.grammar.Nodes.{Part, yaml_part, json_part, pai
 use Rattle.yaml_text.specs.Place.{Steps}
 use Rattle.yaml_text.specs.Source.{bytes_of, text_of, place_of}
 use Rattle.yaml_text.specs.declared.chars.Chars.{Chars}
-use Rattle.yaml_flow.specs.PropertyRules.{SomeProperties}
+use Rattle.yaml_sink.specs.PropertyRules.{SomeProperties}
 use Rattle.yaml_flow.specs.declared.flow.signs.First.{First}
 use Rattle.yaml_flow.specs.declared.flow.signs.First.TheVariants.{Sequence, Mapping, Single, Double, Other}
 use Rattle.yaml_flow.specs.declared.flow.scalars.Quote.{Quote}

@@ -7,7 +7,7 @@ use Rattle.yaml_text.specs.declared.fault.Fault.{Fault}
 use Rattle.yaml_text.specs.declared.fault.Fault.TheVariants.{OutOfMemory}
 use Rattle.law_one_reading.specs.Readings.{End}
 use Rattle.law_going_on.specs.GoingOn.{Refused, Goes}
-use Rattle.yaml_flow.specs.Held.{Keeps, Puts}
+use Rattle.yaml_sink.specs.Held.{Keeps, Puts}
 
 -- the events of a reading by the answer's rule are put at the end
 abbrev pub Appends : {X S : Type 0} → (X → Rule (List Event)) → ℕ → (X → ℕ) → (S → List Event → Type 0) → S → S → Result X Fault → Type 0

@@ -3,13 +3,13 @@ use Rattle.std.proofs.Common.{◌≡◌, ℕ, ◌+◌, List, [], ◌∷◌, ◌+
 use Rattle.std.specs.Prelude.{MatchOption}
 use Rattle.yaml_definitions.specs.model.Event.{Event, stream_start, stream_end, document_start, document_end, sequence_start, sequence_end, mapping_start, mapping_end, scalar_event, alias_event}
 use Rattle.yaml_definitions.specs.grammar.Events.{Props}
-use Rattle.yaml_flow.specs.PropertyRules.{with_props, dressed}
-use Rattle.yaml_flow.specs.Held.{Puts, Alters}
-use Rattle.yaml_flow.specs.SinkModel.{holds_of, start_of, end_of}
-use Rattle.yaml_flow.specs.declared.sink.Collection.{Collection}
-use Rattle.yaml_flow.specs.declared.sink.Collection.TheVariants.{Sequence, Mapping}
-use Rattle.yaml_flow.specs.declared.sink.Sink.{Sink}
-use Rattle.yaml_flow.specs.declared.sink.Sink.TheVariants.{Kept}
+use Rattle.yaml_sink.specs.PropertyRules.{with_props, dressed}
+use Rattle.yaml_sink.specs.Held.{Puts, Alters}
+use Rattle.yaml_sink.specs.SinkModel.{holds_of, start_of, end_of}
+use Rattle.yaml_sink.specs.declared.sink.Collection.{Collection}
+use Rattle.yaml_sink.specs.declared.sink.Collection.TheVariants.{Sequence, Mapping}
+use Rattle.yaml_sink.specs.declared.sink.Sink.{Sink}
+use Rattle.yaml_sink.specs.declared.sink.Sink.TheVariants.{Kept}
 use Rattle.yaml_read.specs.Counts.{content_of, contents_of, CountHolds, Grows}
 use Rattle.yaml_read.specs.declared.count.Counter.{Counter}
 

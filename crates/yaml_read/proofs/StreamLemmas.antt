@@ -18,13 +18,13 @@ use Rattle.yaml_text.specs.LeafAnswer.{IsRefusal}
 use Rattle.yaml_flow.specs.NodeAnswer.{Appends}
 use Rattle.yaml_text.specs.EventModel.{event_of}
 use Rattle.yaml_text.specs.declared.event.Event as code
-use Rattle.yaml_flow.specs.Held.{Puts}
-use Rattle.yaml_flow.specs.ListModel.{HeldList}
-use Rattle.yaml_flow.specs.SinkModel.{holds_of, HeldBeside}
-use Rattle.yaml_flow.specs.declared.list.EventList.{EventList}
-use Rattle.yaml_flow.specs.declared.sink.Sink.{Sink}
-use Rattle.yaml_flow.specs.declared.sink.Sink.TheVariants.{Listed, Both}
-use Rattle.yaml_flow.specs.declared.sink.Beside.{Beside}
+use Rattle.yaml_sink.specs.Held.{Puts}
+use Rattle.yaml_sink.specs.ListModel.{HeldList}
+use Rattle.yaml_sink.specs.SinkModel.{holds_of, HeldBeside}
+use Rattle.yaml_sink.specs.declared.list.EventList.{EventList}
+use Rattle.yaml_sink.specs.declared.sink.Sink.{Sink}
+use Rattle.yaml_sink.specs.declared.sink.Sink.TheVariants.{Listed, Both}
+use Rattle.yaml_sink.specs.declared.sink.Beside.{Beside}
 use Rattle.yaml_flow.proofs.AnswerLemmas.{puts_on}
 use Rattle.std.specs.Prelude.{Result, Ok, Err, IfOk, IfErr, MatchResult}
 use Rattle.yaml_read.specs.StreamRules.{opened_by_mark, opened_by_directives}

@@ -6,7 +6,7 @@ use Rattle.yaml_definitions.specs.grammar.Streams.{ReadsText}
 use Rattle.yaml_definitions.specs.grammar.Nodes.{wide}
 use Rattle.law_one_reading.specs.Readings.{End}
 use Rattle.law_one_reading.specs.Follows.{Over, Follow}
-use Rattle.yaml_flow.specs.Held.{Puts}
+use Rattle.yaml_sink.specs.Held.{Puts}
 
 module _ (cs : List ℕ) where
   -- how the text goes on after a document: comment lines, and then a mark or the end

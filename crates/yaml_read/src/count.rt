@@ -13,8 +13,8 @@ ghost use Rattle.yaml_read.specs.Counts.{content_of, CountHolds, Grows};
 
 use crate::stream::read_into;
 use std::alloc::Global;
-use yaml_flow::properties::Properties;
-use yaml_flow::sink::{Collection, Keeper, Sink};
+use yaml_sink::properties::Properties;
+use yaml_sink::sink::{Collection, Keeper, Sink};
 use yaml_text::chars::Chars;
 use yaml_text::event::{Event, Style};
 use yaml_text::fault::Fault;
@@ -63,8 +63,8 @@ impl Counter {
 }
 
 impl Keeper for Counter {
-    ghost use Rattle.yaml_flow.specs.Held.{Counts, Keeps, Puts, Alters};
-    ghost use Rattle.yaml_flow.specs.PropertyRules.{props_of, dressed};
+    ghost use Rattle.yaml_sink.specs.Held.{Counts, Keeps, Puts, Alters};
+    ghost use Rattle.yaml_sink.specs.PropertyRules.{props_of, dressed};
     ghost use Rattle.yaml_text.specs.EventModel.{event_of};
     ghost use Rattle.yaml_read.specs.Counts.{CountHolds};
 

@@ -2,8 +2,8 @@
 use Rattle.std.proofs.Common.{◌≡◌, ℕ, ◌+◌, ◌≤◌, List, [], ◌∷◌, ◌++◌, Result, Ok, Err, IfOk, length, refl, sym, ◌∙◌, ap, subst, arith}
 use Rattle.yaml_definitions.specs.model.Event.{Event}
 use Rattle.yaml_definitions.specs.grammar.Events.{Props}
-use Rattle.yaml_flow.specs.PropertyRules.{with_props, dressed}
-use Rattle.yaml_flow.specs.Held.{Puts, Alters}
+use Rattle.yaml_sink.specs.PropertyRules.{with_props, dressed}
+use Rattle.yaml_sink.specs.Held.{Puts, Alters}
 use Rattle.yaml_review_text.specs.Trace.{TraceHolds}
 use Rattle.yaml_review_text.specs.declared.trace.Trace.{Trace}
 

@@ -2,9 +2,9 @@
 ghost use Rattle.std.specs.Prelude.{◌≡◌, IfOk, IfErr};
 
 use std::alloc::Global;
-use yaml_flow::properties::Properties;
-use yaml_flow::sink::{Collection, Keeper, Sink};
 use yaml_read::read_into;
+use yaml_sink::properties::Properties;
+use yaml_sink::sink::{Collection, Keeper, Sink};
 use yaml_text::chars::Chars;
 use yaml_text::event::{Event, Style};
 use yaml_text::fault::Fault;
@@ -109,8 +109,8 @@ fn shape_of(event: &Event<'_>) -> Shape {
 }
 
 impl Keeper for Trace {
-    ghost use Rattle.yaml_flow.specs.Held.{Counts, Keeps, Puts, Alters};
-    ghost use Rattle.yaml_flow.specs.PropertyRules.{props_of, dressed};
+    ghost use Rattle.yaml_sink.specs.Held.{Counts, Keeps, Puts, Alters};
+    ghost use Rattle.yaml_sink.specs.PropertyRules.{props_of, dressed};
     ghost use Rattle.yaml_text.specs.EventModel.{event_of};
     ghost use Rattle.yaml_review_text.specs.Trace.{TraceHolds};
 

@@ -14,14 +14,14 @@ ghost use Rattle.law_one_reading.specs.Follows.{DashHere};
 ghost use Rattle.yaml_flow.specs.PropertyDecisions.{LineGoesOn};
 ghost use Rattle.yaml_flow.specs.Lines.{IsDash};
 ghost use Rattle.yaml_flow.specs.Keys.{ColonAfter};
-ghost use Rattle.yaml_flow.specs.PropertyRules.{props_of};
+ghost use Rattle.yaml_sink.specs.PropertyRules.{props_of};
 ghost use Rattle.yaml_block.specs.BlockRules.{least_dash};
 ghost use Rattle.yaml_block.specs.OuterRules.{Follows, MayBear};
 ghost use Rattle.yaml_block.specs.BlockEnds.{SignIs, IsStyleSign, ColonStands, IsNoKey};
 
 use yaml_flow::key::{Fit, key_fit};
 use yaml_flow::line::skip_line_rest;
-use yaml_flow::properties::Properties;
+use yaml_sink::properties::Properties;
 use yaml_text::chars::Chars;
 use yaml_text::class::is_ns;
 use yaml_text::context::Ctx;

@@ -7,10 +7,10 @@ ghost use Rattle.yaml_definitions.specs.grammar.Nodes.{wide};
 ghost use Rattle.yaml_mark.specs.HandlesModel.{handles_of};
 ghost use Rattle.yaml_flow.specs.NodeAnswer.{Appends, Perhaps};
 ghost use Rattle.yaml_text.specs.Placed.{IsPlaced};
-ghost use Rattle.yaml_flow.specs.SinkModel.{holds_of};
+ghost use Rattle.yaml_sink.specs.SinkModel.{holds_of};
 ghost use Rattle.yaml_flow.specs.PropertyDecisions.{AllProperties, LineGoesOn, DecidesNode};
 ghost use Rattle.yaml_flow.specs.FlowDecisions.{DecidesContent};
-ghost use Rattle.yaml_flow.specs.PropertyRules.{props_of, Own};
+ghost use Rattle.yaml_sink.specs.PropertyRules.{props_of, Own};
 ghost use Rattle.yaml_flow.specs.FlowRules.{flow_from, content_from, Bare};
 
 use crate::flow::FlowNode;
@@ -19,10 +19,11 @@ use crate::flow::scalars::{Quote, push_lone, read_alias, read_plain_node, read_q
 use crate::flow::sequence::read_sequence;
 use crate::flow::signs::{First, first_of};
 use crate::line::separation;
-use crate::properties::{Properties, read_properties};
-use crate::sink::{Keeper, Sink};
+use crate::properties::read_properties;
 use std::alloc::Global;
 use yaml_mark::handles::Handles;
+use yaml_sink::properties::Properties;
+use yaml_sink::sink::{Keeper, Sink};
 use yaml_text::chars::Chars;
 use yaml_text::context::Ctx;
 use yaml_text::fault::Fault;

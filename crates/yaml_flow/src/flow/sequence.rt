@@ -12,7 +12,7 @@ ghost use Rattle.yaml_mark.specs.HandlesModel.{handles_of};
 ghost use Rattle.yaml_flow.specs.declared.flow.Kind.TheVariants.{Yaml, Json};
 ghost use Rattle.yaml_flow.specs.NodeAnswer.{Appends, Decides};
 ghost use Rattle.yaml_text.specs.Placed.{IsPlaced};
-ghost use Rattle.yaml_flow.specs.SinkModel.{holds_of};
+ghost use Rattle.yaml_sink.specs.SinkModel.{holds_of};
 ghost use Rattle.yaml_flow.specs.FlowDecisions.{DecidesPart, DecidesEach};
 ghost use Rattle.yaml_flow.specs.FlowRules.{content_from, from_room, item_at, parts, opens, below, SignAt, AskedAt, IsInner};
 
@@ -22,10 +22,12 @@ use crate::flow::pairs::{read_asked_pair, read_empty_pair, read_pair};
 use crate::flow::signs::{inner, key_colon, part_gap, question_sign, value_sign};
 use crate::flow::{FlowNode, Kind};
 use crate::line::separation;
-use crate::push::{insert_flow_mapping, push_flow_sequence, push_mapping_end, push_sequence_end};
-use crate::sink::{Keeper, Sink};
 use std::alloc::Global;
 use yaml_mark::handles::Handles;
+use yaml_sink::push::{
+    insert_flow_mapping, push_flow_sequence, push_mapping_end, push_sequence_end,
+};
+use yaml_sink::sink::{Keeper, Sink};
 use yaml_text::chars::Chars;
 use yaml_text::context::Ctx;
 use yaml_text::fault::Fault;

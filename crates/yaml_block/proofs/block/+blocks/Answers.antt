@@ -18,9 +18,9 @@ use Rattle.law_going_on.proofs.GoingOn.{rest_rest, rest_goes, rest_refused}
 use Rattle.yaml_flow.specs.NodeAnswer.{Decides}
 use Rattle.yaml_flow.specs.Lines.{IsLine, IsDash}
 use Rattle.yaml_flow.specs.Keys.{ColonAfter}
-use Rattle.yaml_flow.specs.PropertyRules.{props_of, both_props, dressed, SomeProperties}
+use Rattle.yaml_sink.specs.PropertyRules.{props_of, both_props, dressed, SomeProperties}
 use Rattle.yaml_flow.specs.declared.line.Line.{Line}
-use Rattle.yaml_flow.specs.SinkModel.{holds_of}
+use Rattle.yaml_sink.specs.SinkModel.{holds_of}
 use Rattle.yaml_flow.proofs.AnswerLemmas.{appends_by, puts_on, puts_after, puts_altered}
 use Rattle.yaml_flow.proofs.PropertyLemmas.{own_marks}
 use Rattle.yaml_flow.proofs.FlowLemmas.{bare_flow}

@@ -8,9 +8,9 @@ use Rattle.yaml_definitions.specs.grammar.Rules.{any, ◌◂◌, given, gives, s
 use Rattle.yaml_text.proofs.Tests.{on_true_at, on_false_at}
 use Rattle.yaml_flow.specs.FlowRules.{opens, below, MayFollowColon, SignAt, AskedAt, spaced, comma, from_room, item_at, entry_at, keyed_at, asked_at, value_at, parts, content_from, Bare, aliased, plainly, with_properties, lone}
 use Rattle.yaml_mark.specs.HandlesModel.{handles_of}
-use Rattle.yaml_flow.specs.PropertyRules.{props_of, dressed}
+use Rattle.yaml_sink.specs.PropertyRules.{props_of, dressed}
 use Rattle.yaml_flow.specs.declared.flow.Kind.TheVariants.{Yaml}
-use Rattle.yaml_flow.specs.SinkModel.{holds_of}
+use Rattle.yaml_sink.specs.SinkModel.{holds_of}
 use Rattle.yaml_flow.proofs.PropertyLemmas.{own_marks}
 use Rattle.yaml_flow.proofs.AnswerLemmas.{puts_on, puts_none, puts_after, puts_altered, appends_by, appends_after, appends_same, perhaps_some, perhaps_none}
 use Rattle.yaml_flow.proofs.FlowLemmas.{no_parts, one_part, parts_end, part_end, sequence_is, mapping_is, pair_item, no_value, key_entry, lone_entry, value_is, bare_flow, empty_entry, asked_keyed, asked_nothing, keyed_entry, asked_entry, asked_pair, empty_pair}

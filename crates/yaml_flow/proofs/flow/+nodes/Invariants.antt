@@ -6,8 +6,8 @@ use Rattle.yaml_definitions.specs.grammar.Rules.{any, ◌◂◌}
 use Rattle.yaml_definitions.specs.grammar.Separation.{flow_in}
 use Rattle.yaml_mark.specs.HandlesModel.{handles_of}
 use Rattle.yaml_flow.specs.FlowRules.{from_room, item_at, entry_at, spaced, comma}
-use Rattle.yaml_flow.specs.Held.{Puts}
-use Rattle.yaml_flow.specs.SinkModel.{holds_of}
+use Rattle.yaml_sink.specs.Held.{Puts}
+use Rattle.yaml_sink.specs.SinkModel.{holds_of}
 use Rattle.yaml_flow.proofs.LoopDecisions.{PartsLeft}
 use Rattle.yaml_flow.proofs.flow.+nodes.Given as goal
 

@@ -5,7 +5,7 @@ use Rattle.yaml_text.specs.EventModel.{context_of, written_of}
 use Rattle.yaml_text.specs.Source.{text_of, place_of}
 use Rattle.yaml_mark.specs.HandlesModel.{handles_of}
 use Rattle.law_one_reading.proofs.Properties.{tag_props}
-use Rattle.yaml_flow.specs.PropertyRules.{HasTag, SomeProperties, tag_alone}
+use Rattle.yaml_sink.specs.PropertyRules.{HasTag, SomeProperties, tag_alone}
 use Rattle.yaml_flow.specs.PropertyDecisions.{AllProperties}
 use Rattle.yaml_flow.proofs.PropertyLemmas.{tag_is, tag_read, anchor_read, named, tag_then}
 use Rattle.yaml_flow.proofs.PropertyDecisions.{failed, name_refused, tag_refused, or_else, no_anchor, no_tag, barred_none, barred_first, barred_second, all_one, all_both, tag_alike}

@@ -1,6 +1,6 @@
 use Rattle.std.proofs.Common.{inl, inr}
 use Rattle.yaml_definitions.specs.grammar.Rules.{◌∪◌}
-use Rattle.yaml_flow.specs.SinkModel.{holds_of}
+use Rattle.yaml_sink.specs.SinkModel.{holds_of}
 use Rattle.yaml_flow.proofs.AnswerLemmas.{appends_by}
 use Rattle.yaml_read.specs.StreamRules.{opened_bare, opened_by_directives}
 use Rattle.law_going_on.specs.GoingOn.{Here}

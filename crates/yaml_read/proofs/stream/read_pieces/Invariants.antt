@@ -2,8 +2,8 @@ use Rattle.std.proofs.Common.{◌≡◌, ◌+◌, ◌-◌, ◌*◌, List, ◌∷
 use Rattle.yaml_definitions.specs.model.Event.{Event, stream_start}
 use Rattle.yaml_text.specs.Source.{bytes_of, text_of, place_of}
 use Rattle.yaml_text.specs.Lines.{AfterLine}
-use Rattle.yaml_flow.specs.Held.{Puts}
-use Rattle.yaml_flow.specs.SinkModel.{holds_of}
+use Rattle.yaml_sink.specs.Held.{Puts}
+use Rattle.yaml_sink.specs.SinkModel.{holds_of}
 use Rattle.yaml_flow.specs.Lines.{IsLine}
 use Rattle.yaml_read.specs.Sofar.{IsSofar}
 use Rattle.yaml_read.proofs.LeftLemmas.{Leaves}

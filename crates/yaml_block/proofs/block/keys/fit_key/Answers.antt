@@ -4,7 +4,7 @@ use Rattle.yaml_definitions.specs.grammar.Separation.{flow_out}
 use Rattle.yaml_mark.specs.HandlesModel.{handles_of}
 use Rattle.yaml_flow.specs.PropertyDecisions.{IsOnly}
 use Rattle.yaml_flow.specs.FlowRules.{Bare}
-use Rattle.yaml_flow.specs.PropertyRules.{props_of}
+use Rattle.yaml_sink.specs.PropertyRules.{props_of}
 use Rattle.yaml_block.specs.KeyFits.{NoneBelow}
 use Rattle.yaml_block.proofs.KeyDecisions.{puts_again, none_below}
 use Rattle.yaml_block.proofs.Places.{borders_same}

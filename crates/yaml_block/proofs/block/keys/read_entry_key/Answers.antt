@@ -4,7 +4,7 @@ use Rattle.yaml_definitions.specs.grammar.Separation.{flow_out, block_key}
 use Rattle.yaml_text.proofs.Tests.{on_true_at, on_false_at}
 use Rattle.yaml_mark.specs.HandlesModel.{handles_of}
 use Rattle.law_going_on.specs.GoingOn.{Here}
-use Rattle.yaml_flow.specs.PropertyRules.{props_of, dressed}
+use Rattle.yaml_sink.specs.PropertyRules.{props_of, dressed}
 use Rattle.yaml_flow.proofs.AnswerLemmas.{puts_after, puts_altered}
 use Rattle.yaml_flow.proofs.FlowLemmas.{bare_flow}
 use Rattle.yaml_flow.proofs.PropertyLemmas.{own_marks}

@@ -2,8 +2,8 @@ use Rattle.std.proofs.Common.{Some, inl, inr, subst}
 use Rattle.yaml_text.specs.Source.{text_of, place_of}
 use Rattle.yaml_definitions.specs.grammar.Separation.{block_in}
 use Rattle.yaml_mark.specs.HandlesModel.{handles_of}
-use Rattle.yaml_flow.specs.PropertyRules.{props_of}
-use Rattle.yaml_flow.specs.SinkModel.{holds_of}
+use Rattle.yaml_sink.specs.PropertyRules.{props_of}
+use Rattle.yaml_sink.specs.SinkModel.{holds_of}
 use Rattle.yaml_flow.proofs.AnswerLemmas.{appends_by}
 use Rattle.yaml_block.specs.BlockRules.{root_rest, node_rest, sequence_with}
 use Rattle.yaml_block.specs.OuterRules.{column_of}

@@ -1,6 +1,6 @@
 use Rattle.std.proofs.Common.{◌≡◌, inl, inr, subst}
 use Rattle.yaml_text.specs.Source.{text_of, place_of}
-use Rattle.yaml_flow.specs.PropertyRules.{props_of}
+use Rattle.yaml_sink.specs.PropertyRules.{props_of}
 use Rattle.yaml_block.specs.BlockEnds.{IsStyleSign}
 use Rattle.yaml_block.proofs.ScalarDecisions.{follows_same}
 use Rattle.yaml_block.proofs.block.signs.block_sign.Goals as goal

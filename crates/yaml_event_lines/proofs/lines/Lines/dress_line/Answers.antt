@@ -1,6 +1,6 @@
 use Rattle.std.proofs.Common.{◌<◌, ◌≤◌, length, arith}
 use Rattle.std.proofs.lemmas.Result.{on_ok_weaker}
-use Rattle.yaml_flow.specs.PropertyRules.{props_of}
+use Rattle.yaml_sink.specs.PropertyRules.{props_of}
 use Rattle.yaml_event_lines.proofs.LineLaws.{beyond, dress_closed, dress_bare, dress_given}
 use Rattle.yaml_event_lines.proofs.lines.Lines.dress_line.Goals as goal
 

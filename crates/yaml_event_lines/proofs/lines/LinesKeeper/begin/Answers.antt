@@ -1,5 +1,5 @@
 use Rattle.std.proofs.Common.{subst}
-use Rattle.yaml_flow.specs.SinkModel.{start_of}
+use Rattle.yaml_sink.specs.SinkModel.{start_of}
 use Rattle.yaml_event_lines.specs.LinesHeld.{Grows}
 use Rattle.yaml_event_lines.proofs.LineLaws.{on_if, lines_put}
 use Rattle.yaml_event_lines.proofs.lines.LinesKeeper.begin.Goals as goal

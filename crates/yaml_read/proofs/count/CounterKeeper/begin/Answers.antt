@@ -1,4 +1,4 @@
-use Rattle.yaml_flow.specs.SinkModel.{start_of}
+use Rattle.yaml_sink.specs.SinkModel.{start_of}
 use Rattle.yaml_read.proofs.CountLaws.{if_ok, counts_put, start_content}
 use Rattle.yaml_read.proofs.count.CounterKeeper.begin.Goals as goal
 

@@ -1,4 +1,4 @@
-use Rattle.yaml_flow.specs.SinkModel.{end_of}
+use Rattle.yaml_sink.specs.SinkModel.{end_of}
 use Rattle.yaml_read.proofs.CountLaws.{if_ok, counts_put, end_content}
 use Rattle.yaml_read.proofs.count.CounterKeeper.end.Goals as goal
 

@@ -1,4 +1,4 @@
-use Rattle.yaml_flow.specs.SinkModel.{start_of}
+use Rattle.yaml_sink.specs.SinkModel.{start_of}
 use Rattle.yaml_review_text.proofs.TraceLaws.{if_ok, traced_put}
 use Rattle.yaml_review_text.proofs.trace.TraceKeeper.begin.Goals as goal
 

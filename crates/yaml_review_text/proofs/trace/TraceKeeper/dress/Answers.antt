@@ -1,4 +1,4 @@
-use Rattle.yaml_flow.specs.PropertyRules.{props_of}
+use Rattle.yaml_sink.specs.PropertyRules.{props_of}
 use Rattle.yaml_review_text.proofs.TraceLaws.{traced_dressed}
 use Rattle.yaml_review_text.proofs.trace.TraceKeeper.dress.Goals as goal
 

@@ -1,4 +1,4 @@
-use Rattle.yaml_flow.specs.SinkModel.{end_of}
+use Rattle.yaml_sink.specs.SinkModel.{end_of}
 use Rattle.yaml_review_text.proofs.TraceLaws.{if_ok, traced_put}
 use Rattle.yaml_review_text.proofs.trace.TraceKeeper.end.Goals as goal
 

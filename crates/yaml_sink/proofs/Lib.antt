@@ -1,0 +1,5 @@
+pub mod DressLemmas
+pub mod WeaveLemmas
+pub mod ListLemmas
+pub mod SettleLemmas
+pub mod SinkLemmas

@@ -1,0 +1,4 @@
+pub mod Held
+pub mod PropertyRules
+pub mod ListModel
+pub mod SinkModel
