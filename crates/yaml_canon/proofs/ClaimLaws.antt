@@ -37,10 +37,10 @@ use Rattle.yaml_graph.specs.Composed.{Composable, Composed, RefusesStream}
 use Rattle.yaml_graph.specs.declared.node.NodeId.{NodeId}
 use Rattle.yaml_graph.specs.declared.graph.Graph.{Graph}
 use Rattle.yaml_rank.specs.RanksView.{RefusesGraph}
-use Rattle.yaml_canon.specs.Pieces.{Began, Puts, Fails}
-use Rattle.yaml_canon.specs.Documents.{spell_more, RefusesLength}
+use Rattle.yaml_spell.specs.Pieces.{Began, Puts, Fails}
+use Rattle.yaml_spell.specs.Documents.{spell_more, RefusesLength}
 use Rattle.yaml_canon.specs.Claims.{AllOf, MeansAlone, IsCanonicalText, IsRead, IsNoStream, CanonicalRefuses, HasGraph, GraphRefuses}
-use Rattle.yaml_canon.proofs.DocumentLaws.{spell_whole}
+use Rattle.yaml_spell.proofs.DocumentLaws.{spell_whole}
 
 -- ---- the whole text
 

@@ -22,7 +22,7 @@ use Rattle.yaml_canon.specs.declared.side.Side.{Side}
 use Rattle.yaml_canon.specs.declared.side.Side.TheVariants.{Left, Right}
 use Rattle.yaml_canon.specs.Claims.{IsRead, HasGraph, GraphRefuses}
 use Rattle.yaml_canon.specs.Comparing.{Compares, side_of_fault, ComparesDocuments, RefusesDocuments, IsComposed, ComparerRefuses}
-use Rattle.yaml_canon.proofs.WalkLaws.{drop_next}
+use Rattle.yaml_spell.proofs.WalkLaws.{drop_next}
 use Rattle.yaml_canon.proofs.ClaimLaws.{accepted}
 
 -- ---- what an answer was

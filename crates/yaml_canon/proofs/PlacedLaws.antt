@@ -18,7 +18,7 @@ use Rattle.yaml_graph.specs.Composed.{Composed, RefusesStream}
 use Rattle.yaml_graph.specs.declared.graph.Graph.{Graph}
 use Rattle.yaml_rank.specs.RanksView.{RefusesGraph}
 use Rattle.yaml_canon.specs.Comparing.{RefusesDocuments}
-use Rattle.yaml_canon.specs.Documents.{RefusesLength}
+use Rattle.yaml_spell.specs.Documents.{RefusesLength}
 use Rattle.yaml_canon.specs.Gathering.{Gathers, GatherFails}
 use Rattle.yaml_canon.specs.FaultPlaces.{IsPlaceIn, TellsPlace, TellsSidesPlace, TellsReadPlace}
 use Rattle.yaml_canon.specs.declared.side.Side.{Side}

@@ -11,17 +11,18 @@ use Rattle.yaml_text.specs.declared.fault.Fault.TheVariants.{WriteFault}
 use Rattle.yaml_text.specs.declared.counted.Counted.{Counted}
 use Rattle.yaml_text.specs.Count.{one_more}
 use Rattle.yaml_text.specs.CountedModel.{inner_of, faults_of, flushed_of}
-use Rattle.yaml_canon.specs.declared.page.Page.{Page}
-use Rattle.yaml_canon.specs.Pieces.{Began, Puts, Fails}
-use Rattle.yaml_canon.specs.Pages.{page_bytes, page_len, PageHolds, PageStops}
-use Rattle.yaml_canon.specs.Writers.{Sent, CutOff, Printed, Broken}
-use Rattle.yaml_canon.specs.Documents.{spell_more}
+use Rattle.yaml_spell.specs.declared.page.Page.{Page}
+use Rattle.yaml_spell.specs.Pieces.{Began, Puts, Fails}
+use Rattle.yaml_spell.specs.Pages.{page_bytes, page_len, PageHolds, PageStops}
+use Rattle.yaml_spell.specs.Writers.{Sent, CutOff}
+use Rattle.yaml_canon.specs.Writers.{Printed, Broken}
+use Rattle.yaml_spell.specs.Documents.{spell_more}
 use Rattle.yaml_canon.specs.Claims.{MeansAlone, CanonicalRefuses}
 use Rattle.yaml_canon.specs.Runs.{WritesCanonical, WriteRefuses}
 use Rattle.yaml_canon.proofs.ClaimLaws.{canonical_text}
-use Rattle.yaml_canon.proofs.Streams.{appends_none, appends_more, appends_kept}
-use Rattle.yaml_canon.proofs.PageLaws.{held_cut}
-use Rattle.yaml_canon.proofs.DocumentLaws.{spell_whole}
+use Rattle.yaml_spell.proofs.Streams.{appends_none, appends_more, appends_kept}
+use Rattle.yaml_spell.proofs.PageLaws.{held_cut}
+use Rattle.yaml_spell.proofs.DocumentLaws.{spell_whole}
 
 one_higher : (n : ℕ) → n < 2 ^ 64 - 1 → one_more n ≡ n + 1
 one_higher n h = omega (arith, h)

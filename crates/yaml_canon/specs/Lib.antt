@@ -1,17 +1,4 @@
-pub mod Pieces
-pub mod SinkViews
 pub mod Writers
-pub mod Pages
-pub mod Quoted
-pub mod Known
-pub mod NamesView
-pub mod Kinds
-pub mod ShortNodes
-pub mod Walked
-pub mod RankView
-pub mod Anchored
-pub mod Repeats
-pub mod Documents
 pub mod Claims
 pub mod FaultPlaces
 pub mod Comparing

@@ -11,19 +11,19 @@ ghost use Rattle.yaml_definitions.specs.model.Proper.{Admitted};
 ghost use Rattle.yaml_definitions.specs.model.Means.{Means};
 ghost use Rattle.yaml_graph.specs.GraphView.{forest};
 ghost use Rattle.yaml_rank.specs.RanksView.{RanksAre};
-ghost use Rattle.yaml_canon.specs.Documents.{RefusesLength};
+ghost use Rattle.yaml_spell.specs.Documents.{RefusesLength};
 ghost use Rattle.yaml_canon.specs.Claims.{IsCanonicalText, CanonicalRefuses};
 ghost use Rattle.yaml_canon.specs.FaultPlaces.{TellsPlace};
 ghost use Rattle.yaml_canon.specs.Accepting.{IsSpelling, IsMemory};
 
 use crate::graph_of::graph_of;
-use crate::names::Names;
-use crate::spell::{canonical_len, write_documents};
-use crate::whole::Whole;
 use std::alloc::Global;
 use yaml_graph::graph::Graph;
 use yaml_rank::rank;
 use yaml_rank::ranks::Ranks;
+use yaml_spell::names::Names;
+use yaml_spell::spell::{canonical_len, write_documents};
+use yaml_spell::whole::Whole;
 use yaml_text::fault::Fault;
 
 /// The canonical text of a graph's documents, for which room is taken once.

@@ -10,21 +10,21 @@ ghost use Rattle.yaml_definitions.specs.model.Proper.{Admitted};
 ghost use Rattle.yaml_definitions.specs.model.Means.{Means};
 ghost use Rattle.yaml_graph.specs.GraphView.{nodes_of, forest};
 ghost use Rattle.yaml_rank.specs.RanksView.{RanksAre};
-ghost use Rattle.yaml_canon.specs.NamesView.{ranks_in, document_number};
-ghost use Rattle.yaml_canon.specs.Documents.{RefusesLength};
+ghost use Rattle.yaml_spell.specs.NamesView.{ranks_in, document_number};
+ghost use Rattle.yaml_spell.specs.Documents.{RefusesLength};
 ghost use Rattle.yaml_canon.specs.Claims.{CanonicalRefuses};
 ghost use Rattle.yaml_canon.specs.FaultPlaces.{TellsPlace};
 ghost use Rattle.yaml_canon.specs.Accepting.{IsSpelling, IsMemory};
 ghost use Rattle.yaml_canon.specs.Rooms.{Places, PlacesCanonical};
 
 use crate::graph_of::graph_of;
-use crate::names::Names;
-use crate::room::Room;
-use crate::spell::{canonical_len, write_documents};
 use std::alloc::Global;
 use yaml_graph::graph::Graph;
 use yaml_rank::rank;
 use yaml_rank::ranks::Ranks;
+use yaml_spell::names::Names;
+use yaml_spell::room::Room;
+use yaml_spell::spell::{canonical_len, write_documents};
 use yaml_text::fault::Fault;
 
 /// Puts the canonical text of a graph's documents at the start of the room, which is long enough. It

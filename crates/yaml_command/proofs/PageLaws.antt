@@ -12,8 +12,9 @@ use Rattle.yaml_text.specs.declared.fault.Fault.{Fault}
 use Rattle.yaml_text.specs.declared.fault.Fault.TheVariants.{WriteFault}
 use Rattle.yaml_text.specs.declared.counted.Counted.{Counted}
 use Rattle.std.specs.Io.KnownBytes.{Appends, Keeps}
-use Rattle.yaml_canon.specs.Writers.{Sent, CutOff, Printed, Broken}
-use Rattle.yaml_canon.proofs.Streams.{appends_none, appends_more, appends_kept}
+use Rattle.yaml_spell.specs.Writers.{Sent, CutOff}
+use Rattle.yaml_canon.specs.Writers.{Printed, Broken}
+use Rattle.yaml_spell.proofs.Streams.{appends_none, appends_more, appends_kept}
 use Rattle.yaml_command.specs.Pages.{PageHas}
 use Rattle.yaml_command.specs.Printing.{PrintFails}
 

@@ -4,7 +4,7 @@ use Rattle.std.specs.String.{string_bytes}
 use Rattle.yaml_text.specs.declared.fault.Fault.{Fault}
 use Rattle.yaml_text.specs.declared.fault.Fault.TheVariants.{OutOfMemory}
 use Rattle.yaml_text.specs.declared.counted.Counted.{Counted}
-use Rattle.yaml_canon.specs.Writers.{Sent}
+use Rattle.yaml_spell.specs.Writers.{Sent}
 use Rattle.yaml_command.specs.Printing.{PrintFails}
 
 module _ {W : Type 0} (contents : W → Option (List ℕ)) where

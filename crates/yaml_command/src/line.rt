@@ -1,7 +1,8 @@
 //! The line that tells a refusal on standard error. It is written in pieces and takes no memory.
 ghost use Rattle.std.specs.Prelude.{◌≡◌, ◌<◌, ◌-◌, ◌^◌, ◌++◌, codes, flat_map, IfErr, OnOk};
 ghost use Rattle.yaml_text.specs.CountedModel.{faults_of};
-ghost use Rattle.yaml_canon.specs.Writers.{Sent, Printed};
+ghost use Rattle.yaml_spell.specs.Writers.{Sent};
+ghost use Rattle.yaml_canon.specs.Writers.{Printed};
 ghost use Rattle.yaml_command.specs.Printing.{PrintFails};
 ghost use Rattle.yaml_command.specs.declared.refusal.Refusal.TheVariants.{Words, EventLines};
 ghost use Rattle.yaml_command.specs.Refusals.{side_text, place_text, place_end, fault_line, line_text};

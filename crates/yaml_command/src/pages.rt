@@ -4,7 +4,8 @@ ghost use Rattle.std.specs.String.{string_bytes, string_len, string_capacity};
 ghost use Rattle.yaml_text.specs.CountedModel.{faults_of};
 ghost use Rattle.yaml_text.specs.EventModel.{event_of};
 ghost use Rattle.yaml_definitions.specs.model.EventText.{event_line, events_text};
-ghost use Rattle.yaml_canon.specs.Writers.{CutOff, Printed};
+ghost use Rattle.yaml_spell.specs.Writers.{CutOff};
+ghost use Rattle.yaml_canon.specs.Writers.{Printed};
 ghost use Rattle.yaml_command.specs.Pages.{PageHas, PagesFail};
 ghost use Rattle.yaml_command.specs.Printing.{PrintFails};
 

@@ -1,7 +1,8 @@
 //! Opening a file, and writing an answer whole.
 ghost use Rattle.std.specs.Prelude.{◌≡◌, ◌<◌, ◌-◌, ◌^◌, Some, IfSome, IfOk, IfErr, OnOk};
 ghost use Rattle.yaml_text.specs.CountedModel.{inner_of, faults_of};
-ghost use Rattle.yaml_canon.specs.Writers.{Sent, CutOff, Printed};
+ghost use Rattle.yaml_spell.specs.Writers.{Sent, CutOff};
+ghost use Rattle.yaml_canon.specs.Writers.{Printed};
 ghost use Rattle.yaml_command.specs.Printing.{PrintFails};
 ghost use Rattle.yaml_command.specs.Shelves.{CannotBeOpened};
 

@@ -10,8 +10,9 @@ use Rattle.yaml_text.specs.CountedModel.{inner_of, faults_of}
 use Rattle.yaml_text.specs.declared.fault.Fault.{Fault}
 use Rattle.yaml_text.specs.declared.fault.Fault.TheVariants.{TooLong, OutOfMemory, ReadFault, WriteFault}
 use Rattle.yaml_text.specs.declared.counted.Counted.{Counted}
-use Rattle.yaml_canon.specs.Writers.{Sent, CutOff, Printed, Broken}
-use Rattle.yaml_canon.proofs.Streams.{appends_none, appends_more}
+use Rattle.yaml_spell.specs.Writers.{Sent, CutOff}
+use Rattle.yaml_canon.specs.Writers.{Printed, Broken}
+use Rattle.yaml_spell.proofs.Streams.{appends_none, appends_more}
 use Rattle.yaml_command.specs.Printing.{PrintFails}
 use Rattle.yaml_command.specs.Shelves.{IsOf, FileFails}
 use Rattle.yaml_sum.specs.Complaints.{complaint, IsTold}

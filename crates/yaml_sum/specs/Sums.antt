@@ -6,7 +6,8 @@ use Rattle.yaml_text.specs.declared.fault.Fault.{Fault}
 use Rattle.yaml_text.specs.declared.fault.Fault.TheVariants.{OutOfMemory, WriteFault}
 use Rattle.yaml_text.specs.declared.counted.Counted.{Counted}
 use Rattle.yaml_canon.specs.Claims.{CanonicalRefuses}
-use Rattle.yaml_canon.specs.Writers.{Sent, CutOff, Printed, Broken}
+use Rattle.yaml_spell.specs.Writers.{Sent, CutOff}
+use Rattle.yaml_canon.specs.Writers.{Printed, Broken}
 use Rattle.yaml_command.specs.Shelves.{IsOf, FileFails}
 use Rattle.yaml_sum.specs.Complaints.{complaint, IsTold}
 use Rattle.yaml_sum.specs.Digests.{IsDigest}

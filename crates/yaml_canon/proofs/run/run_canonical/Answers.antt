@@ -1,7 +1,7 @@
 use Rattle.std.proofs.Common.{◌≡◌, subst, rules}
 use Rattle.yaml_canon.specs.Gathering.{Gathers, GatherFails}
 use Rattle.yaml_canon.specs.FaultPlaces.{TellsPlace}
-use Rattle.yaml_canon.proofs.PieceLaws.{if_err}
+use Rattle.yaml_spell.proofs.PieceLaws.{if_err}
 use Rattle.yaml_canon.proofs.PlacedLaws.{gather_elsewhere, read_place}
 use Rattle.yaml_canon.proofs.run.run_canonical.Goals as goal
 

@@ -1,7 +1,7 @@
 use Rattle.std.proofs.Common.{sym, subst, rules}
 use Rattle.yaml_canon.specs.Comparing.{ComparerRefuses, IsComposed}
 use Rattle.yaml_canon.specs.FaultPlaces.{TellsSidesPlace}
-use Rattle.yaml_canon.proofs.PieceLaws.{if_err, if_one}
+use Rattle.yaml_spell.proofs.PieceLaws.{if_err, if_one}
 use Rattle.yaml_canon.proofs.CompareLaws.{graph_ok, graph_err, compares, refuses-first, refuses-second, refuses-both}
 use Rattle.yaml_canon.proofs.AcceptBoth.{tells-texts, compared, compared-refused, compared-spellings}
 use Rattle.yaml_canon.proofs.same_streams.same.Goals as goal

@@ -1,7 +1,7 @@
 use Rattle.std.proofs.Common.{◌≡◌, ◌∙◌, ℕ, take, length, ap, subst, arith, rules}
 use Rattle.std.proofs.Math.Seq.{take-length}
 use Rattle.std.specs.Prelude.{flat_map}
-use Rattle.yaml_canon.specs.Writers.{Sent, CutOff}
+use Rattle.yaml_spell.specs.Writers.{Sent, CutOff}
 use Rattle.yaml_command.proofs.LineLaws.{cut_at_piece}
 use Rattle.yaml_command.proofs.line.send_pieces.Goals as goal
 

@@ -1,6 +1,6 @@
 use Rattle.std.proofs.Common.{take}
 use Rattle.std.specs.Prelude.{flat_map}
-use Rattle.yaml_canon.specs.Writers.{Sent}
+use Rattle.yaml_spell.specs.Writers.{Sent}
 use Rattle.yaml_command.proofs.line.send_pieces.Given as goal
 
 abbrev pub invariant-pieces : goal.invariant-pieces

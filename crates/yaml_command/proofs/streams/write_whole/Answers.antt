@@ -1,6 +1,6 @@
 use Rattle.std.proofs.Common.{◌∙◌, arith}
 use Rattle.std.proofs.lemmas.Grind.{common_steps}
-use Rattle.yaml_canon.proofs.Streams.{appends_piece, count_kept}
+use Rattle.yaml_spell.proofs.Streams.{appends_piece, count_kept}
 use Rattle.yaml_command.proofs.streams.write_whole.Goals as goal
 
 pub write-preserved : goal.write-preserved

@@ -1,5 +1,5 @@
 use Rattle.std.proofs.Common.{◌-◌, ◌≤◌, length, take}
-use Rattle.yaml_canon.specs.Writers.{Sent}
+use Rattle.yaml_spell.specs.Writers.{Sent}
 use Rattle.yaml_command.proofs.streams.write_whole.Given as goal
 
 abbrev pub invariant-write : goal.invariant-write

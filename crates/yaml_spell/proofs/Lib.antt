@@ -1,0 +1,16 @@
+pub mod Streams
+pub mod PieceLaws
+mod QuotedLaws
+mod SpelledLaws
+pub mod PageLaws
+pub mod RoomLaws
+mod PartLaws
+mod RankLaws
+pub mod WalkLaws
+mod ShortLaws
+mod WriteLaws
+mod Anchors
+mod Markings
+mod Linking
+mod NamesLaws
+pub mod DocumentLaws

@@ -1,0 +1,24 @@
+-- What is known of ranks, as one of them changes.
+use Rattle.std.proofs.Common.{◌≡◌, ◌≢◌, ℕ, ◌<◌, Bool, true, false, cond, ◌==◌, List, length, refl, ◌∙◌, ap, arith, get_or-set_other, get_or-set_same}
+use Rattle.std.specs.Prelude.{slice_set}
+use Rattle.std.specs.List.{slice_index_or}
+use Rattle.std.proofs.lemmas.Bool.Decides.{nat_tests}
+use Rattle.std.proofs.lemmas.Bool.{eqb-true}
+use Rattle.yaml_spell.specs.declared.names.State.{State}
+use Rattle.yaml_spell.specs.declared.names.State.TheVariants.{Unseen}
+use Rattle.yaml_spell.specs.NamesView.{stamped_state, put}
+
+itself : (d : ℕ) → (d == d) ≡ true
+itself d = grind (arith, nat_tests)
+
+other : (q r : ℕ) → (q == r) ≡ false → q ≡ r → ⊥
+other q r e h = grind (arith, nat_tests)
+
+pub table_set : (xs : List (ℕ × State)) (d rank : ℕ) (s : State) → rank < length xs → (λ (q : ℕ). stamped_state d (slice_index_or (slice_set xs rank (d, s)) q (0, Unseen))) ≡ put rank s (λ q. stamped_state d (slice_index_or xs q (0, Unseen)))
+table_set xs d rank s l = λ z q. by q (q == rank) refl z
+  where
+    by : (q : ℕ) (b : Bool) → (q == rank) ≡ b → stamped_state d (slice_index_or (slice_set xs rank (d, s)) q (0, Unseen)) ≡ cond b s (stamped_state d (slice_index_or xs q (0, Unseen)))
+    by q true e =
+        let same : q ≡ rank = eqb-true q rank e in
+        ap (λ j. stamped_state d (slice_index_or (slice_set xs rank (d, s)) j (0, Unseen))) same ∙ ap (stamped_state d) (rw get_or-set_same refl) ∙ ap (λ b. cond b s Unseen) (itself d)
+    by q false e = let ne : q ≢ rank = other q rank e in ap (stamped_state d) (rw get_or-set_other refl)

@@ -1,0 +1,4 @@
+use Rattle.yaml_spell.proofs.parts.+put_number.Given as goal
+
+abbrev pub decreases-put_number : goal.decreases-put_number
+decreases-put_number g l = l.number

@@ -1,0 +1,149 @@
+//! A text that is written page by page.
+ghost use Rattle.std.specs.Prelude.{◌≤◌, OnOk, IfErr};
+ghost use Rattle.yaml_spell.specs.Writers.{Sent, CutOff};
+
+use crate::quoted::{Piece, cut};
+use crate::sink::Sink;
+use std::io::Write;
+use yaml_scalar::spell::spelled_char;
+use yaml_text::counted::Counted;
+use yaml_text::fault::Fault;
+
+/// How many bytes are written at most in one call.
+const PAGE: usize = 4096;
+
+/// The last part of a text, which is still to be written: at most a page. It takes no memory but its
+/// own.
+#[derive(Drop)]
+pub struct Page {
+    bytes: [u8; PAGE],
+    len: usize,
+    ghost within: { len ≤ 4096 },
+}
+
+/// Writes a piece whole. Any error of the writer, and a write that takes no byte, is `WriteFault`;
+/// the writer then has a beginning of the piece.
+fn write_whole<W: Write>(out: &mut Counted<W>, piece: &[u8]) -> Result<(), Fault>
+    ensures ok { OnOk result (Sent W.contents out.old out.new piece.now) }
+    ensures err { IfErr result (CutOff W.contents out.old out.new piece.now) }
+{
+    let mut at = 0;
+    'write: while at < piece.len() {
+        match out.write(&piece[at..]) {
+            Ok(0) | Err(_) => return Err(Fault::WriteFault),
+            Ok(took) => at += took,
+        }
+    }
+    Ok(())
+}
+
+impl Page {
+    ghost use Rattle.std.specs.Prelude.{◌≡◌, ◌<◌, ◌≤◌, ◌+◌, ◌++◌, length, [], OnOk, IfErr};
+    ghost use Rattle.yaml_scalar.specs.Spelling.{quoted_bytes};
+    ghost use Rattle.yaml_spell.specs.Pieces.{TakesPiece, Misses};
+    ghost use Rattle.yaml_spell.specs.Quoted.{piece_text};
+    ghost use Rattle.yaml_spell.specs.Writers.{Sent, CutOff};
+    ghost use Rattle.yaml_spell.specs.Pages.{page_bytes, page_len, PageHolds, PageStops};
+
+    /// Nothing yet.
+    pub fn new() -> Page
+        ensures { page_len result ≡ 0 }
+    {
+        Page {
+            bytes: [0; PAGE],
+            len: 0,
+        }
+    }
+
+    /// Writes what is still to be written. Fails as the writer does (23).
+    pub fn send<W: Write>(&mut self, out: &mut Counted<W>) -> Result<(), Fault>
+        ensures ok { OnOk result (Sent W.contents out.old out.new (page_bytes self.old)) }
+        ensures none { OnOk result (page_len self.new ≡ 0) }
+        ensures err { IfErr result (CutOff W.contents out.old out.new (page_bytes self.old)) }
+    {
+        write_whole(out, &self.bytes[..self.len])?;
+        self.len = 0;
+        Ok(())
+    }
+
+    /// Writes the page if it is full.
+    fn make_room<W: Write>(&mut self, out: &mut Counted<W>) -> Result<(), Fault>
+        ensures ok { OnOk result (TakesPiece (PageHolds W.contents) self.old out.old self.new out.new []) }
+        ensures room { OnOk result (page_len self.new < 4096) }
+        ensures err { IfErr result (λ fault. Misses (PageHolds W.contents) (PageStops W.contents) self.old out.old out.new fault []) }
+    {
+        if self.len == PAGE {
+            self.send(out)?;
+        }
+        Ok(())
+    }
+
+    /// Puts a piece into the page, which has room for it.
+    fn fill(&mut self, piece: &[u8])
+        requires { page_len self.old + length piece.now ≤ 4096 }
+        ensures { page_bytes self.new ≡ page_bytes self.old ++ piece.now }
+    {
+        let end = self.len + piece.len();
+        self.bytes[self.len..end].copy_from_slice(piece);
+        self.len = end;
+    }
+
+    /// Takes some bytes, and writes each page that is full.
+    fn add<W: Write>(&mut self, out: &mut Counted<W>, piece: &[u8]) -> Result<(), Fault>
+        ensures ok { OnOk result (TakesPiece (PageHolds W.contents) self.old out.old self.new out.new piece.now) }
+        ensures err { IfErr result (λ fault. Misses (PageHolds W.contents) (PageStops W.contents) self.old out.old out.new fault piece.now) }
+    {
+        let mut at = 0;
+        'add: while at < piece.len() {
+            self.make_room(out)?;
+            let took = (piece.len() - at).min(PAGE - self.len);
+            self.fill(&piece[at..at + took]);
+            at += took;
+        }
+        Ok(())
+    }
+
+    /// Takes a piece of a content's spelling.
+    fn add_piece<W: Write>(&mut self, out: &mut Counted<W>, piece: &Piece<'_>) -> Result<(), Fault>
+        ensures ok { OnOk result (TakesPiece (PageHolds W.contents) self.old out.old self.new out.new (piece_text piece.now)) }
+        ensures err { IfErr result (λ fault. Misses (PageHolds W.contents) (PageStops W.contents) self.old out.old out.new fault (piece_text piece.now)) }
+    {
+        self.add(out, piece.run.as_bytes())?;
+        let Some(c) = piece.next else {
+            return Ok(());
+        };
+        let (bytes, len) = spelled_char(c);
+        self.add(out, &bytes[..len])
+    }
+
+    /// Takes a content's spelling.
+    fn add_spelled<W: Write>(&mut self, out: &mut Counted<W>, content: &str) -> Result<(), Fault>
+        ensures ok { OnOk result (TakesPiece (PageHolds W.contents) self.old out.old self.new out.new (quoted_bytes content.now)) }
+        ensures err { IfErr result (λ fault. Misses (PageHolds W.contents) (PageStops W.contents) self.old out.old out.new fault (quoted_bytes content.now)) }
+    {
+        self.add(out, b"\"")?;
+        let mut rest = content;
+        'spell: while !rest.is_empty() {
+            let piece = cut(rest);
+            self.add_piece(out, &piece)?;
+            rest = piece.rest;
+        }
+        self.add(out, b"\"")
+    }
+}
+
+impl<W: Write> Sink<Counted<W>> for Page {
+    ghost use Rattle.yaml_spell.specs.Pages.{PageHolds, PageStops};
+
+    ghost holds = { PageHolds W.contents };
+
+    ghost stops = { PageStops W.contents };
+
+    fn put(&mut self, out: &mut Counted<W>, piece: &str) -> Result<(), Fault> {
+        self.add(out, piece.as_bytes())
+    }
+
+    fn put_spelled(&mut self, out: &mut Counted<W>, content: &str) -> Result<(), Fault> {
+        self.add_spelled(out, content)
+    }
+}

@@ -1,0 +1,194 @@
+//! The parts of a node's text: names, tags and contents.
+ghost use Rattle.std.specs.Prelude.{◌≡◌, ◌<◌, ◌/◌, ◌%◌, ◌++◌, ◌∷◌, [], OnOk, IfErr, IfSome, IfNone, codes, Some};
+ghost use Rattle.std.specs.Fmt.{decimal};
+ghost use Rattle.std.specs.Str.{encode_utf8_all, chars};
+ghost use Rattle.yaml_definitions.specs.canonical.CharText.{hex_digit};
+ghost use Rattle.yaml_definitions.specs.canonical.Serialize.{anchor_name};
+ghost use Rattle.yaml_definitions.specs.model.Serial.{alias_at};
+ghost use Rattle.yaml_definitions.specs.canonical.NodeText.{node_text, anchor_text, quoted};
+ghost use Rattle.yaml_definitions.specs.model.Tag.{default_tag};
+ghost use Rattle.yaml_definitions.specs.canonical.TagText.{spell_byte, encoded, full_text, tag_text, written_tag};
+ghost use Rattle.yaml_definitions.specs.model.Tree.{a_scalar};
+ghost use Rattle.yaml_spell.specs.Pieces.{TakesPiece, Puts, Misses, Fails};
+ghost use Rattle.yaml_spell.specs.Kinds.{number_of_kind};
+
+use crate::sink::Sink;
+use yaml_text::class::is_uri;
+use yaml_text::core_tag;
+use yaml_text::fault::Fault;
+
+/// The kinds of nodes.
+#[derive(Clone, Copy)]
+pub(crate) enum Kind {
+    Scalar,
+    Sequence,
+    Mapping,
+}
+
+/// The tag of a node of this kind that carries none.
+#[tactic(auto, unfolding(yaml_definitions::specs::model::Tag::core_tag))]
+pub(crate) fn default_tag(kind: Kind) -> &'static str
+    ensures { result.now ≡ default_tag (number_of_kind kind) }
+{
+    match kind {
+        Kind::Scalar => core_tag::STR,
+        Kind::Sequence => core_tag::SEQ,
+        Kind::Mapping => core_tag::MAP,
+    }
+}
+
+/// A digit of base 16, in upper case.
+fn digit(value: u8) -> &'static str
+    requires { value < 16 }
+    ensures { result.now ≡ hex_digit value ∷ [] }
+{
+    match value {
+        0 => "0",
+        1 => "1",
+        2 => "2",
+        3 => "3",
+        4 => "4",
+        5 => "5",
+        6 => "6",
+        7 => "7",
+        8 => "8",
+        9 => "9",
+        10 => "A",
+        11 => "B",
+        12 => "C",
+        13 => "D",
+        14 => "E",
+        _ => "F",
+    }
+}
+
+/// A number in decimal.
+fn put_number<O, S: Sink<O>>(sink: &mut S, out: &mut O, number: usize) -> Result<(), Fault>
+    ensures ok { OnOk result (TakesPiece S.holds sink.old out.old sink.new out.new (decimal number)) }
+    ensures err { IfErr result (λ fault. Misses S.holds S.stops sink.old out.old out.new fault (decimal number)) }
+{
+    let last = digit((number % 10) as u8);
+    if number < 10 {
+        return sink.put(out, last);
+    }
+    put_number(sink, out, number / 10)?;
+    sink.put(out, last)
+}
+
+/// An alias of this number.
+pub(crate) fn put_alias<O, S: Sink<O>>(
+    sink: &mut S,
+    out: &mut O,
+    number: usize,
+) -> Result<(), Fault>
+    requires { 0 < number }
+    ensures ok { OnOk result (Puts S.holds sink.old out.old sink.new out.new (node_text (alias_at (anchor_name number)))) }
+    ensures err { IfErr result (λ fault. Fails S.holds S.stops sink.old out.old out.new fault (node_text (alias_at (anchor_name number)))) }
+{
+    sink.put(out, "*a")?;
+    put_number(sink, out, number)
+}
+
+/// An anchor of this number, and a space.
+pub(crate) fn put_anchor<O, S: Sink<O>>(
+    sink: &mut S,
+    out: &mut O,
+    number: usize,
+) -> Result<(), Fault>
+    requires { 0 < number }
+    ensures ok { OnOk result (Puts S.holds sink.old out.old sink.new out.new (anchor_text (Some (anchor_name number)))) }
+    ensures err { IfErr result (λ fault. Fails S.holds S.stops sink.old out.old out.new fault (anchor_text (Some (anchor_name number)))) }
+{
+    sink.put(out, "&a")?;
+    put_number(sink, out, number)?;
+    sink.put(out, " ")
+}
+
+/// `%HH`, for a byte that is not written as itself.
+fn put_escape<O, S: Sink<O>>(sink: &mut S, out: &mut O, byte: u8) -> Result<(), Fault>
+    ensures ok { OnOk result (TakesPiece S.holds sink.old out.old sink.new out.new (37 ∷ hex_digit (byte / 16) ∷ hex_digit (byte % 16) ∷ [])) }
+    ensures err { IfErr result (λ fault. Misses S.holds S.stops sink.old out.old out.new fault (37 ∷ hex_digit (byte / 16) ∷ hex_digit (byte % 16) ∷ [])) }
+{
+    sink.put(out, "%")?;
+    sink.put(out, digit(byte / 16))?;
+    sink.put(out, digit(byte % 16))
+}
+
+/// A byte of a tag: as it is where it is a URI character, else percent-encoded.
+fn put_byte<O, S: Sink<O>>(sink: &mut S, out: &mut O, byte: u8) -> Result<(), Fault>
+    ensures ok { OnOk result (TakesPiece S.holds sink.old out.old sink.new out.new (encode_utf8_all (spell_byte byte))) }
+    ensures err { IfErr result (λ fault. Misses S.holds S.stops sink.old out.old out.new fault (encode_utf8_all (spell_byte byte))) }
+{
+    let c = char::from(byte);
+    if is_uri(c) {
+        let mut utf8 = [0u8; 4];
+        sink.put(out, c.encode_utf8(&mut utf8))
+    } else {
+        put_escape(sink, out, byte)
+    }
+}
+
+/// A tag's bytes, percent-encoded.
+fn put_encoded<O, S: Sink<O>>(sink: &mut S, out: &mut O, tag: &str) -> Result<(), Fault>
+    ensures ok { OnOk result (TakesPiece S.holds sink.old out.old sink.new out.new (encode_utf8_all (encoded tag.now []))) }
+    ensures err { IfErr result (λ fault. Misses S.holds S.stops sink.old out.old out.new fault (encode_utf8_all (encoded tag.now []))) }
+{
+    for byte in tag.as_bytes() {
+        put_byte(sink, out, *byte)?;
+    }
+    Ok(())
+}
+
+/// How a tag of the core schema is written, if this is one that is.
+#[tactic(auto, unfolding(yaml_definitions::specs::model::Tag::core_tag, yaml_definitions::specs::canonical::TagText::full_text))]
+fn core_text(tag: &str) -> Option<&'static str>
+    ensures some { IfSome result (λ known. (full_text tag.now ≡ known.now) × (encode_utf8_all known.now ≡ known.now)) }
+    ensures none { IfNone result (full_text tag.now ≡ codes "!<" ++ encoded tag.now (codes "> ")) }
+{
+    if tag == core_tag::NULL {
+        Some("!!null ")
+    } else if tag == core_tag::BOOL {
+        Some("!!bool ")
+    } else if tag == core_tag::INT {
+        Some("!!int ")
+    } else if tag == core_tag::FLOAT {
+        Some("!!float ")
+    } else {
+        None
+    }
+}
+
+/// A tag of a node of this kind, and a space. The kind's own tag is not written.
+pub(crate) fn put_tag<O, S: Sink<O>>(
+    sink: &mut S,
+    out: &mut O,
+    tag: &str,
+    kind: Kind,
+) -> Result<(), Fault>
+    ensures ok { OnOk result (Puts S.holds sink.old out.old sink.new out.new (λ more. tag_text (written_tag (number_of_kind kind) tag.now) ++ more)) }
+    ensures err { IfErr result (λ fault. Fails S.holds S.stops sink.old out.old out.new fault (λ more. tag_text (written_tag (number_of_kind kind) tag.now) ++ more)) }
+{
+    if tag == default_tag(kind) {
+        return Ok(());
+    }
+    if let Some(known) = core_text(tag) {
+        return sink.put(out, known);
+    }
+    sink.put(out, "!<")?;
+    put_encoded(sink, out, tag)?;
+    sink.put(out, "> ")
+}
+
+/// A scalar's tag and content.
+pub(crate) fn put_scalar<O, S: Sink<O>>(
+    sink: &mut S,
+    out: &mut O,
+    tag: &str,
+    content: &str,
+) -> Result<(), Fault>
+    ensures ok { OnOk result (Puts S.holds sink.old out.old sink.new out.new (λ more. tag_text (written_tag a_scalar tag.now) ++ (34 ∷ quoted (chars content.now) more))) }
+    ensures err { IfErr result (λ fault. Fails S.holds S.stops sink.old out.old out.new fault (λ more. tag_text (written_tag a_scalar tag.now) ++ (34 ∷ quoted (chars content.now) more))) }
+{
+    put_tag(sink, out, tag, Kind::Scalar)?;
+    sink.put_spelled(out, content)
+}

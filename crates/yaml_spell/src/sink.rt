@@ -1,0 +1,26 @@
+//! What takes a text piece by piece.
+ghost use Rattle.std.specs.Prelude.{List, ℕ, OnOk, IfErr};
+ghost use Rattle.yaml_text.specs.declared.fault.Fault.{Fault};
+ghost use Rattle.yaml_scalar.specs.Spelling.{quoted_bytes};
+ghost use Rattle.yaml_spell.specs.Pieces.{Began, TakesPiece, Misses};
+
+use yaml_text::fault::Fault;
+
+/// What takes a text piece by piece, on its way to an output.
+pub trait Sink<O> {
+    // The text that the sink and the output have so far.
+    ghost holds: { Self → O → Began → List ℕ → Type 0 };
+
+    // Why no more was taken of a text.
+    ghost stops: { O → Began → Fault → List ℕ → Type 0 };
+
+    /// Takes a piece as it is.
+    fn put(&mut self, out: &mut O, piece: &str) -> Result<(), Fault>
+        ensures ok { OnOk result (TakesPiece holds self.old out.old self.new out.new piece.now) }
+        ensures err { IfErr result (λ fault. Misses holds stops self.old out.old out.new fault piece.now) };
+
+    /// Takes a content's spelling, quotes included.
+    fn put_spelled(&mut self, out: &mut O, content: &str) -> Result<(), Fault>
+        ensures ok { OnOk result (TakesPiece holds self.old out.old self.new out.new (quoted_bytes content.now)) }
+        ensures err { IfErr result (λ fault. Misses holds stops self.old out.old out.new fault (quoted_bytes content.now)) };
+}
