@@ -133,6 +133,10 @@ module _ (cs : List ℕ) (Wide : Type 0) (handles : Handles) where
   unfolding nodes.ns-flow-yaml-node
   alias_reading room n c i j x es a e = to_reads room (yaml_part n c) i j es (inl (x, a, e))
 
+  -- a node without properties
+  pub content_flow : (deep : ℕ) (kind : Kind) (n : ℕ) (c : Ctx) (i j : ℕ) (es : List Event) → content_from cs Wide handles deep kind n c i j es → flow_from cs Wide handles deep kind n c i j es
+  content_flow deep kind n c i j es r = λ room le. unmarked_node kind room n c i j es (r room le)
+
   -- a node with its own properties put on its first event
   pub bare_flow : (deep : ℕ) (kind : Kind) (n : ℕ) (c : Ctx) (p : Props) (e i j : ℕ) (es : List Event) → Bare cs Wide handles deep kind n c p e i j es → flow_from cs Wide handles deep kind n c i j (dressed p es)
   bare_flow deep kind n c p e i j es (aliased x a f q g) =

@@ -7,13 +7,14 @@ use Rattle.std.proofs.lemmas.Str.{IsUtf8-had}
 use Rattle.yaml_text.specs.declared.chars.Chars.{Chars}
 use Rattle.yaml_text.specs.Source.{text_of, place_of, IsBorder}
 use Rattle.yaml_text.proofs.PlaceLemmas.{before_ascii}
-use Rattle.yaml_definitions.specs.grammar.Rules.{Spans, any_span, Behind, run, maybe}
+use Rattle.yaml_definitions.specs.grammar.Rules.{Spans, any_span, Behind, Stands, run, maybe}
 use Rattle.yaml_definitions.specs.grammar.Characters.{is_space}
-use Rattle.yaml_definitions.specs.grammar.Separation.{Ctx, block_out, block_in, flow_out, flow_in, block_key, flow_key, s-separate as separate, s-separate-lines as separate_lines, StartsLine, DocumentMark, s-l-comments as s_l_comments, l-comment as l_comment, s-separate-in-line as sep}
+use Rattle.yaml_definitions.specs.grammar.Separation.{Ctx, block_out, block_in, flow_out, flow_in, block_key, flow_key, s-separate as separate, s-separate-lines as separate_lines, StartsLine, DocumentMark, s-indent as indent, s-l-comments as s_l_comments, l-comment as l_comment, s-separate-in-line as sep}
 use Rattle.yaml_text.specs.Lines.{Uncut, AfterLine, LooksLikeMarker}
 use Rattle.std.proofs.lemmas.Option.{slice_get_within}
 use Rattle.yaml_text.proofs.Breaks.{mark_is}
-use Rattle.yaml_text.proofs.LineRuns.{line_end_after}
+use Rattle.yaml_text.proofs.Runs.{no_stand}
+use Rattle.yaml_text.proofs.LineRuns.{line_end_after, indent_run, indent_place}
 use Rattle.yaml_text.proofs.RestLemmas.{blank_after, from_s_b}
 use Rattle.yaml_text.specs.Lines.{is_key}
 
@@ -28,10 +29,29 @@ return_before s at p (some, (c, is, t)) =
     let q = before_ascii s.text.now at (place_of s at - 1) 13 (IsUtf8-had s.text.now s.utf8) p (omega (arith, some)) h (omega arith) in
     (q.0, ap (slice_get (text_of s)) q.1 ∙ h)
 
+dash_no_space : is_space 45 ≡ false
+unfolding is_space
+dash_no_space = refl
+
+dot_no_space : is_space 46 ≡ false
+unfolding is_space
+dot_no_space = refl
+
 module _ (cs : List ℕ) where
   pub uncut : (i : ℕ) → (Behind cs (λ c. c == 13) i → slice_get cs i ≡ Some 10 → ⊥) → Uncut cs i
   unfolding Uncut
   uncut i f b (c, is, t) = f b (is ∙ ap Some (equal c 10 t))
+
+  -- a line that is indented begins with no mark
+  pub indented_no_mark : (n i j : ℕ) → 0 < n → indent cs n i j → LooksLikeMarker cs i → ⊥
+  indented_no_mark n i j l s = go
+    where
+      space : Stands cs is_space i
+      space = (indent_run cs n i j s).1 i (omega arith) (let e = indent_place cs n i j s in omega (arith, e, l))
+
+      go : LooksLikeMarker cs i → ⊥
+      go (inl d) = no_stand cs is_space i 45 d.0 dash_no_space space
+      go (inr d) = no_stand cs is_space i 46 d.0 dot_no_space space
 
   pub no_lines : (i : ℕ) → StartsLine cs i → s_l_comments cs i i
   unfolding s_l_comments

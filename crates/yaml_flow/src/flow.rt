@@ -9,6 +9,7 @@ mod sequence;
 mod signs;
 
 pub use nodes::{read_bare, read_flow_node};
+pub use scalars::read_plain_node;
 
 /// Which of the two kinds of flow nodes (7.5): after a key that is like JSON no separation needs to follow the colon.
 #[derive(Clone, Copy)]

@@ -13,11 +13,12 @@ ghost use Rattle.law_one_reading.specs.Follows.{Solid, Fresh, Way};
 ghost use Rattle.yaml_flow.specs.Lines.{IsLine};
 
 use yaml_mark::comments;
+use yaml_mark::starts::begins_text;
 use yaml_text::chars::Chars;
 use yaml_text::class::is_key;
 use yaml_text::context::Ctx;
 use yaml_text::fault::Fault;
-use yaml_text::lines::{is_mark, skip_comment_lines, skip_spaces, unusable};
+use yaml_text::lines::{end_line, is_mark, skip_comment_lines, skip_spaces, unusable};
 use yaml_text::places::is_end;
 
 /// A line that is no comment, or the end of the text: its start, how many spaces it begins with, and the border after them.
@@ -55,7 +56,7 @@ pub fn first_line(source: &Chars<'_>) -> Line
 }
 
 /// Whether a line has content: it is no document mark and not the end.
-#[inline(never)]
+#[inline]
 pub fn has_content(source: &Chars<'_>, line: Line) -> bool
     requires { IsLine source.now line }
     ensures yes { OnTrue result ((place_of source.now line.first ≢ length (text_of source.now)) × (LooksLikeMarker (text_of source.now) (place_of source.now line.start) → ⊥)) }
@@ -64,13 +65,17 @@ pub fn has_content(source: &Chars<'_>, line: Line) -> bool
     if is_end(source, line.first) {
         return false;
     }
+    if line.column > 0 {
+        // a mark stands at the start of its line
+        return true;
+    }
     !is_mark(source, line.start)
 }
 
-/// The start of the line after the rest of a line and any comment lines (`s-l-comments`, 6.6), the furthest that there is.
+/// The same as `skip_line_rest`, out of line.
 #[inline(never)]
 #[tactic(auto, unfolding(yaml_text::specs::Calls::skip_comments))]
-pub fn skip_line_rest(source: &Chars<'_>, at: usize) -> Option<usize>
+fn skip_rest(source: &Chars<'_>, at: usize) -> Option<usize>
     requires { IsBorder source.now at }
     ensures border { IfSome result (λ to. IsBorder source.now to) }
     ensures onward { IfSome result (λ to. at ≤ to) }
@@ -79,6 +84,49 @@ pub fn skip_line_rest(source: &Chars<'_>, at: usize) -> Option<usize>
     ensures none { IfNone result ((j : ℕ) → s_l_comments (text_of source.now) (place_of source.now at) j → ⊥) }
 {
     comments::skip_comments(source, at)
+}
+
+/// The start of the line after the rest of a line and any comment lines (`s-l-comments`, 6.6), the furthest that there is.
+#[inline(always)]
+pub fn skip_line_rest(source: &Chars<'_>, at: usize) -> Option<usize>
+    requires { IsBorder source.now at }
+    ensures border { IfSome result (λ to. IsBorder source.now to) }
+    ensures onward { IfSome result (λ to. at ≤ to) }
+    ensures some { IfSome result (λ to. s_l_comments (text_of source.now) (place_of source.now at) (place_of source.now to)) }
+    ensures stuck { IfSome result (λ to. (j : ℕ) → l_comment (text_of source.now) (place_of source.now to) j → ⊥) }
+    ensures none { IfNone result ((j : ℕ) → s_l_comments (text_of source.now) (place_of source.now at) j → ⊥) }
+{
+    if comments::has_text(source, at) {
+        return None;
+    }
+    skip_rest(source, at)
+}
+
+/// The line right below a node's last character, if the line ends there and text stands on the one below, as most often.
+#[inline(always)]
+fn text_below(source: &Chars<'_>, at: usize) -> Option<Line>
+    requires { IsBorder source.now at }
+    ensures line { IfSome result (IsLine source.now) }
+    ensures onward { IfSome result (λ line. at ≤ line.start) }
+    ensures comments { IfSome result (λ line. s_l_comments (text_of source.now) (place_of source.now at) (place_of source.now line.start)) }
+{
+    if comments::is_cut(source, at) {
+        return None;
+    }
+    match end_line(source, at) {
+        None => None,
+        Some(start) => {
+            let (spaces, first) = skip_spaces(source, start);
+            if !begins_text(source, first) {
+                return None;
+            }
+            Some(Line {
+                start,
+                column: spaces,
+                first,
+            })
+        }
+    }
 }
 
 /// The line after a block node's last character.
@@ -92,7 +140,10 @@ pub fn next_line(source: &Chars<'_>, at: usize) -> Result<Line, Fault>
     ensures none { IfErr result (λ _. (j : ℕ) → s_l_comments (text_of source.now) (place_of source.now at) j → ⊥) }
     ensures placed { IfErr result (IsPlaced source.now) }
 {
-    match skip_line_rest(source, at) {
+    if let Some(line) = text_below(source, at) {
+        return Ok(line);
+    }
+    match skip_rest(source, at) {
         Some(start) => Ok(line_at(source, start)),
         None => {
             let (_, first) = skip_spaces(source, at);

@@ -1,6 +1,7 @@
 -- Comment lines: where the furthest of them end.
-use Rattle.std.proofs.Common.{◌≡◌, ◌≢◌, ℕ, ◌+◌, ◌-◌, ◌<◌, ◌≤◌, ◌⊎◌, inl, inr, List, Some, true, refl, sym, ◌∙◌, ap, subst, arith, nat_eq}
+use Rattle.std.proofs.Common.{◌≡◌, ◌≢◌, ℕ, ◌+◌, ◌-◌, ◌<◌, ◌≤◌, ◌⊎◌, inl, inr, List, Some, true, false, refl, sym, ◌∙◌, ap, subst, arith, nat_eq}
 use Rattle.std.specs.Prelude.{slice_get, ◌==◌}
+use Rattle.std.specs.Int.{is_in_range}
 use Rattle.std.proofs.Math.Nat.{eq-or-lt_of_le}
 use Rattle.std.proofs.lemmas.Str.{IsUtf8-had}
 use Rattle.yaml_text.specs.declared.chars.Chars.{Chars}
@@ -11,10 +12,11 @@ use Rattle.yaml_definitions.specs.grammar.Rules.{Spans, Behind, Stands}
 use Rattle.yaml_definitions.specs.grammar.Characters.{is_space, b-break as brk}
 use Rattle.yaml_definitions.specs.grammar.Separation.{StartsLine, s-b-comment as s_b_comment, s-l-comments as s_l_comments, l-comment as l_comment, s-separate-in-line as sep, c-nb-comment-text as comment, b-comment as line_end}
 use Rattle.yaml_text.specs.Lines.{Uncut, AfterLine, blank_rest}
-use Rattle.yaml_text.proofs.Runs.{same_char, no_stand}
+use Rattle.yaml_text.proofs.Runs.{same_char, no_stand, run_none, run_more}
 use Rattle.yaml_text.proofs.LineRuns.{line_end_stops, line_uncut, line_end_onward, end_stops}
 use Rattle.yaml_text.proofs.RestLemmas.{space_hash, space_feed, from_s_b, from_l, to_s_b, to_l, blank_after, blank_rest_same, l_comment_same, l_comment_onward}
 use Rattle.yaml_text.proofs.Repeats.{spans_furthest}
+use Rattle.yaml_mark.proofs.StartLemmas.{no_blank_text}
 
 equal : (a b : ℕ) → nat_eq a b ≡ true → a ≡ b
 equal a b t = grind (arith, t)
@@ -49,6 +51,14 @@ is_cut_here s at to p n h q step =
     let next : place_of s at ≡ place_of s (at - 1) + 1 = ap (place_of s) e ∙ step.next in
     let back : slice_get (text_of s) (place_of s at - 1) ≡ Some 13 = ap (slice_get (text_of s)) (let z : place_of s at - 1 ≡ place_of s (at - 1) = omega (arith, next) in z) ∙ step.is in
     cut (text_of s) (place_of s at) h (omega (arith, next), (13, back, same 13))
+
+space_is : is_space 32 ≡ true
+unfolding is_space
+space_is = refl
+
+text_no_space : (c : ℕ) → is_in_range 36 126 c ≡ true → is_space c ≡ false
+unfolding is_space
+text_no_space c t = grind (arith, t)
 
 module _ (cs : List ℕ) where
   l_on : (i j : ℕ) → l_comment cs i j → i ≤ j
@@ -103,6 +113,15 @@ module _ (cs : List ℕ) where
   unfolding s_l_comments
   no_rest i out none k (n, inr (e, t), more) = out t
   no_rest i out none k (n, inl c, more) = none n (from_s_b cs i n c)
+
+  -- where text stands
+  pub text_here : (i : ℕ) → (StartsLine cs i → ⊥) → Stands cs (is_in_range 36 126) i → (j : ℕ) → s_l_comments cs i j → ⊥
+  text_here i out (c, g, t) = no_rest i out (no_blank_text cs i i (run_none cs is_space i) (no_stand cs is_space i c g (text_no_space c t)) (c, g, t))
+
+  -- and after a space
+  pub text_no_rest : (i k : ℕ) → (StartsLine cs i → ⊥) → slice_get cs i ≡ Some 32 → k ≡ i + 1 → Stands cs (is_in_range 36 126) k → (j : ℕ) → s_l_comments cs i j → ⊥
+  text_no_rest i k out h e (c, g, t) =
+      no_rest i out (no_blank_text cs i k (run_more cs is_space i i k 32 (run_none cs is_space i) h space_is e) (no_stand cs is_space k c g (text_no_space c t)) (c, g, t))
 
   pub hash_rest : (i : ℕ) → (StartsLine cs i → ⊥) → slice_get cs i ≡ Some 35 → (j : ℕ) → s_b_comment cs i j → ⊥
   unfolding s_b_comment sep

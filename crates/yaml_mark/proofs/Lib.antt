@@ -11,3 +11,4 @@ pub mod BodyLemmas
 pub mod DirectivesLemmas
 pub mod PrefixLemmas
 pub mod RefusalLemmas
+pub mod StartLemmas

@@ -6,12 +6,14 @@ ghost use Rattle.yaml_text.specs.Calls as calls;
 ghost use Rattle.yaml_definitions.specs.grammar.Separation.{s-l-comments as s_l_comments, l-comment as l_comment, StartsLine, AtEnd};
 ghost use Rattle.yaml_text.specs.Lines.{Uncut};
 
+use crate::starts::begins_text;
 use yaml_text::chars::Chars;
 use yaml_text::lines::{skip_blank, skip_comment_lines, starts_line};
 use yaml_text::places::{accept, is_border};
 
 /// Whether a border cuts a CR LF in two.
-fn is_cut(source: &Chars<'_>, at: usize) -> bool
+#[inline]
+pub fn is_cut(source: &Chars<'_>, at: usize) -> bool
     requires { IsBorder source.now at }
     ensures yes { OnTrue result (Uncut (text_of source.now) (place_of source.now at) → ⊥) }
     ensures feed { OnTrue result (slice_get (text_of source.now) (place_of source.now at) ≡ Some 10) }
@@ -31,6 +33,25 @@ fn is_cut(source: &Chars<'_>, at: usize) -> bool
                 Some(_) => true,
             }
         }
+    }
+}
+
+/// Whether text surely stands on the rest of a line that has begun, at once or after a space, as most values do after their
+/// colons.
+#[inline(always)]
+pub fn has_text(source: &Chars<'_>, at: usize) -> bool
+    requires { IsBorder source.now at }
+    ensures { OnTrue result ((j : ℕ) → s_l_comments (text_of source.now) (place_of source.now at) j → ⊥) }
+{
+    if starts_line(source, at) {
+        return false;
+    }
+    if begins_text(source, at) {
+        return true;
+    }
+    match accept(source, at, ' ') {
+        None => false,
+        Some(to) => begins_text(source, to),
     }
 }
 

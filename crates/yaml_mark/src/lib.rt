@@ -9,6 +9,7 @@ pub mod handles;
 pub mod name;
 mod prefix;
 mod runs;
+pub mod starts;
 pub mod tag;
 
 pub use comments::skip_comments;
