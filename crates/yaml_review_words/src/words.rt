@@ -17,7 +17,7 @@ pub enum Form {
 }
 
 /// Where two files differ.
-#[derive(Clone, Copy, Debug)]
+#[derive(Clone, Copy)]
 pub struct Diff<'a> {
     pub left: &'a str,
     pub right: &'a str,
@@ -31,7 +31,7 @@ pub struct Diff<'a> {
 }
 
 /// What is told of files, one after another.
-#[derive(Debug, Drop)]
+#[derive(Drop)]
 pub struct Report<'a> {
     /// Their names, of which `-` is standard input.
     pub files: Vec<&'a str>,
@@ -39,7 +39,7 @@ pub struct Report<'a> {
 }
 
 /// Digests of files.
-#[derive(Debug, Drop)]
+#[derive(Drop)]
 pub struct Sum<'a> {
     pub files: Vec<&'a str>,
     /// The file with names of further files.
@@ -49,7 +49,7 @@ pub struct Sum<'a> {
 }
 
 /// A command.
-#[derive(Debug, Drop)]
+#[derive(Drop)]
 pub enum Asked<'a> {
     Diff(Diff<'a>),
     Faults(Report<'a>),
@@ -60,121 +60,203 @@ pub enum Asked<'a> {
     Git(Vec<&'a str>),
 }
 
-fn lines_option<'a>(alloc: Global, help: &'a str) -> Arg<'a> {
-    Arg::new(alloc, "lines")
-        .long("lines")
-        .value_name("N")
-        .value_parser(ValueParser::unsigned(0, 1_000_000))
-        .default_value("1000")
-        .help(help)
+/// How a command reads an argument.
+#[derive(Clone, Copy)]
+enum Takes {
+    /// A file, which has to be given.
+    File,
+    /// Any number of files.
+    Files,
+    /// Whether it is given.
+    Flag,
+    /// A number of lines.
+    Lines,
+    /// The form of lines.
+    Form,
+    /// A list of files, in place of files.
+    Names,
+    /// A list of digests, in place of files and of a list of them.
+    Digests,
+    /// All words, whatever they begin with.
+    Words,
 }
+
+/// An argument of a command.
+struct Row {
+    id: &'static str,
+    takes: Takes,
+    help: &'static str,
+}
+
+const DIFF: [Row; 6] = [
+    Row {
+        id: "A",
+        takes: Takes::File,
+        help: "The left file; `-` is standard input",
+    },
+    Row {
+        id: "B",
+        takes: Takes::File,
+        help: "The right file",
+    },
+    Row {
+        id: "no-places",
+        takes: Takes::Flag,
+        help: "Leave the lines and columns out",
+    },
+    Row {
+        id: "whole",
+        takes: Takes::Flag,
+        help: "Show texts of more than 60 bytes whole",
+    },
+    Row {
+        id: "lines",
+        takes: Takes::Lines,
+        help: "Tell at most N lines, then `...`",
+    },
+    FORM,
+];
+
+const FAULTS: [Row; 2] = [FILES, FORM];
+
+const WARN: [Row; 3] = [
+    FILES,
+    Row {
+        id: "lines",
+        takes: Takes::Lines,
+        help: "Tell at most N lines of each file, then `...`",
+    },
+    FORM,
+];
+
+const SUM: [Row; 3] = [
+    FILES,
+    Row {
+        id: "files-from",
+        takes: Takes::Names,
+        help: "Take names from LIST, each ended by NUL or a line feed; `-` is standard input",
+    },
+    Row {
+        id: "check",
+        takes: Takes::Digests,
+        help: "Check the digests of LIST, which `sum` wrote",
+    },
+];
+
+const GIT: [Row; 1] = [Row {
+    id: "WORD",
+    takes: Takes::Words,
+    help: "1, 7 or 9 words, as git passes them",
+}];
+
+const FILES: Row = Row {
+    id: "FILE",
+    takes: Takes::Files,
+    help: "A file; `-`, or none, is standard input",
+};
+
+const FORM: Row = Row {
+    id: "format",
+    takes: Takes::Form,
+    help: "Lines of text, or one JSON object a line",
+};
 
 const FORMS: [&str; 2] = ["line", "json"];
 
-fn form_option<'a>(alloc: Global) -> Arg<'a> {
-    Arg::new(alloc, "format")
-        .long("format")
-        .value_name("FORM")
-        .value_parser(FORMS.as_slice())
-        .default_value("line")
-        .help("Lines of text, or one JSON object a line")
-}
-
-fn files<'a>(alloc: Global) -> Arg<'a> {
-    Arg::new(alloc, "FILE")
-        .num_args(0..)
-        .action(ArgAction::Append)
-        .help("A file; `-`, or none, is standard input")
-}
-
-fn diff_command<'a>(alloc: Global) -> Result<Command<'a>, AllocError> {
-    Command::new(alloc, "diff")
-        .about("Tells where two streams differ: 0 same, 1 different, 2 refused, 3 unusable")
-        .arg(
-            Arg::new(alloc, "A")
-                .required(true)
-                .help("The left file; `-` is standard input"),
-        )?
-        .arg(Arg::new(alloc, "B").required(true).help("The right file"))?
-        .arg(
-            Arg::new(alloc, "no-places")
-                .long("no-places")
-                .action(ArgAction::SetTrue)
-                .help("Leave the lines and columns out"),
-        )?
-        .arg(
-            Arg::new(alloc, "whole")
-                .long("whole")
-                .action(ArgAction::SetTrue)
-                .help("Show texts of more than 60 bytes whole"),
-        )?
-        .arg(lines_option(alloc, "Tell at most N lines, then `...`"))?
-        .arg(form_option(alloc))
-}
-
-fn faults_command<'a>(alloc: Global) -> Result<Command<'a>, AllocError> {
-    Command::new(alloc, "faults")
-        .about("Tells where files are refused: 0 none, 2 some, 3 some unusable")
-        .arg(files(alloc))?
-        .arg(form_option(alloc))
-}
-
-fn warn_command<'a>(alloc: Global) -> Result<Command<'a>, AllocError> {
-    Command::new(alloc, "warn")
-        .about("Tells what tools of YAML 1.1 read otherwise")
-        .arg(files(alloc))?
-        .arg(lines_option(alloc, "Tell at most N lines of each file, then `...`"))?
-        .arg(form_option(alloc))
-}
-
-fn sum_command<'a>(alloc: Global) -> Result<Command<'a>, AllocError> {
-    Command::new(alloc, "sum")
-        .about("Prints the SHA-256 of each file's canonical text, as sha256sum does")
-        .arg(files(alloc))?
-        .arg(
-            Arg::new(alloc, "files-from")
-                .long("files-from")
-                .value_name("LIST")
-                .help(
-                    "Take names from LIST, each ended by NUL or a line feed; `-` is standard input",
-                )
-                .conflicts_with("FILE")?,
-        )?
-        .arg(
-            Arg::new(alloc, "check")
-                .long("check")
-                .value_name("LIST")
-                .help("Check the digests of LIST, which `sum` wrote")
-                .conflicts_with("FILE")?
-                .conflicts_with("files-from")?,
-        )
-}
-
-fn git_command<'a>(alloc: Global) -> Result<Command<'a>, AllocError> {
-    Command::new(alloc, "git")
-        .about("Tells what differs, called by git as GIT_EXTERNAL_DIFF or diff.NAME.command")
-        .arg(
-            Arg::new(alloc, "WORD")
-                .required(true)
+fn arg_of<'a>(alloc: Global, row: &Row) -> Result<Arg<'a>, AllocError> {
+    let arg = Arg::new(alloc, row.id).help(row.help);
+    match row.takes {
+        Takes::File => Ok(arg.required(true)),
+        Takes::Files => Ok(arg.num_args(0..).action(ArgAction::Append)),
+        Takes::Flag => Ok(arg.long(row.id).action(ArgAction::SetTrue)),
+        Takes::Lines => Ok(
+            arg.long(row.id)
+                .value_name("N")
+                .value_parser(ValueParser::unsigned(0, 1_000_000))
+                .default_value("1000"),
+        ),
+        Takes::Form => Ok(
+            arg.long(row.id)
+                .value_name("FORM")
+                .value_parser(FORMS.as_slice())
+                .default_value("line"),
+        ),
+        Takes::Names => arg.long(row.id).value_name("LIST").conflicts_with("FILE"),
+        Takes::Digests => arg
+            .long(row.id)
+            .value_name("LIST")
+            .conflicts_with_all(&["FILE", "files-from"]),
+        Takes::Words => Ok(
+            arg.required(true)
                 .num_args(1..)
                 .action(ArgAction::Append)
                 .trailing_var_arg(true)
-                .allow_hyphen_values(true)
-                .help("1, 7 or 9 words, as git passes them"),
-        )
+                .allow_hyphen_values(true),
+        ),
+    }
+}
+
+/// A command and its arguments.
+struct Entry {
+    name: &'static str,
+    about: &'static str,
+    rows: &'static [Row],
+}
+
+const COMMANDS: [Entry; 5] = [
+    Entry {
+        name: "diff",
+        about: "Tells where two streams differ: 0 same, 1 different, 2 refused, 3 unusable",
+        rows: &DIFF,
+    },
+    Entry {
+        name: "faults",
+        about: "Tells where files are refused: 0 none, 2 some, 3 some unusable",
+        rows: &FAULTS,
+    },
+    Entry {
+        name: "warn",
+        about: "Tells what tools of YAML 1.1 read otherwise",
+        rows: &WARN,
+    },
+    Entry {
+        name: "sum",
+        about: "Prints the SHA-256 of each file's canonical text, as sha256sum does",
+        rows: &SUM,
+    },
+    Entry {
+        name: "git",
+        about: "Tells what differs, called by git as GIT_EXTERNAL_DIFF or diff.NAME.command",
+        rows: &GIT,
+    },
+];
+
+fn command_of<'a>(alloc: Global, entry: &Entry) -> Result<Command<'a>, AllocError> {
+    let mut args = Vec::new(alloc);
+    for row in entry.rows {
+        args.push(arg_of(alloc, row)?)?;
+    }
+    Command::new(alloc, entry.name)
+        .about(entry.about)
+        .args(args)
+}
+
+fn commands<'a>(alloc: Global) -> Result<Vec<Command<'a>>, AllocError> {
+    let mut commands = Vec::new(alloc);
+    for entry in &COMMANDS {
+        commands.push(command_of(alloc, entry)?)?;
+    }
+    Ok(commands)
 }
 
 fn grammar<'a>(alloc: Global) -> Result<Command<'a>, AllocError> {
+    let commands = commands(alloc)?;
     Command::new(alloc, "yamlreview")
         .version("1.0.0 (yamlcanon-form-1)")
         .about("Tells where two YAML streams differ, and where in a file a fault is")
         .no_binary_name(true)
         .subcommand_required(true)
-        .subcommand(diff_command(alloc)?)?
-        .subcommand(faults_command(alloc)?)?
-        .subcommand(warn_command(alloc)?)?
-        .subcommand(sum_command(alloc)?)?
-        .subcommand(git_command(alloc)?)
+        .subcommands(commands)
 }
 
 fn form_of(matches: &ArgMatches<'_>) -> Form {

@@ -1,6 +1,6 @@
 //! What the program's words ask for.
-ghost use Rattle.std.specs.Prelude.{◌≡◌, false, IfOk, IfErr, drop, option_map, map, string_bytes};
-ghost use Rattle.clap.specs.Words.{app_of, found_of, rows_of, rule_of};
+ghost use Rattle.std.specs.Prelude.{◌≡◌, true, false, codes, IfOk, IfErr, drop, option_map, map, string_bytes};
+ghost use Rattle.clap.specs.Words.{app_of, found_of, new_app, rows_of, rule_of, with_rule};
 ghost use Rattle.yaml_words.specs.Words.{Asks, RefusesWords, call_of};
 ghost use Rattle.yaml_words.specs.declared.words.Asked.{Asked};
 ghost use Rattle.yaml_words.specs.Grammar.{file_rule, whole_app, call_in};
@@ -11,7 +11,7 @@ use std::alloc::{AllocError, Global};
 use std::io;
 
 /// A command and the names of its files.
-#[derive(Clone, Copy, Debug, PartialEq, Eq)]
+#[derive(Clone, Copy)]
 pub enum Asked<'a> {
     /// The canonical text of this file, or of the standard input.
     Canon(Option<&'a str>),
@@ -80,27 +80,44 @@ fn file(alloc: Global, name: &str, required: bool) -> Arg<'_>
     Arg::new(alloc, name).required(required)
 }
 
+/// A command with one file, that may be left out.
+fn one_file<'a>(alloc: Global, name: &'a str) -> Result<Command<'a>, AllocError>
+    ensures { IfOk result (λ command. app_of command ≡ with_rule (new_app name.now) (file_rule (codes "FILE") false)) }
+{
+    Command::new(alloc, name).arg(file(alloc, "FILE", false))
+}
+
+/// A command with two files, that have to be given.
+fn two_files<'a>(
+    alloc: Global,
+    name: &'a str,
+    first: &'a str,
+    second: &'a str,
+) -> Result<Command<'a>, AllocError>
+    ensures { IfOk result (λ command. app_of command ≡ with_rule (with_rule (new_app name.now) (file_rule first.now true)) (file_rule second.now true)) }
+{
+    Command::new(alloc, name)
+        .arg(file(alloc, first, true))?
+        .arg(file(alloc, second, true))
+}
+
 fn grammar<'a>(alloc: Global) -> Result<Command<'a>, AllocError>
     ensures { IfOk result (λ command. app_of command ≡ whole_app) }
 {
-    let canon = Command::new(alloc, "canon").arg(file(alloc, "FILE", false))?;
-    let same = Command::new(alloc, "same")
-        .arg(file(alloc, "A", true))?
-        .arg(file(alloc, "B", true))?;
-    let events = Command::new(alloc, "events").arg(file(alloc, "FILE", false))?;
-    let check = Command::new(alloc, "check")
-        .arg(file(alloc, "FILE", true))?
-        .arg(file(alloc, "EVENTS", true))?;
-    Command::new(alloc, "yamlcanon")
+    let canon = one_file(alloc, "canon")?;
+    let whole = Command::new(alloc, "yamlcanon")
         .no_binary_name(true)
         .subcommand_required(true)
         .disable_help_flag(true)
         .disable_version_flag(true)
         .disable_help_subcommand(true)
-        .subcommand(canon)?
-        .subcommand(same)?
-        .subcommand(events)?
-        .subcommand(check)
+        .subcommand(canon)?;
+    let same = two_files(alloc, "same", "A", "B")?;
+    let whole = whole.subcommand(same)?;
+    let events = one_file(alloc, "events")?;
+    let whole = whole.subcommand(events)?;
+    let check = two_files(alloc, "check", "FILE", "EVENTS")?;
+    whole.subcommand(check)
 }
 
 fn chosen<'a>(name: &str, files: &ArgMatches<'a>) -> Option<Asked<'a>>
