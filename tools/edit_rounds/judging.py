@@ -153,6 +153,11 @@ def try_twins(room, edits, told, listed):
     return control
 
 
+def passes(verdict, is_known):
+    """Whether a verdict is that of an edit which is refused as it should be."""
+    return verdict == OWN or (is_known and verdict in (NONE, SHAPE, UNTOLD))
+
+
 def clause(goal):
     return goal.split("-clause-")[-1]
 

@@ -1,4 +1,5 @@
 """What an earlier run on this machine found of a crate's edits, kept by the checksum of all that it rests on."""
+import functools
 import hashlib
 import json
 import os
@@ -21,27 +22,42 @@ def files_below(folder):
                 yield f"{at}/{name}", file.read()
 
 
-def key_of(root, crate, edits, listed):
-    """A sum of the kit, of these tools, of the crate and all crates below it, and of the edits with how they are tried."""
+def add(total, name, content):
+    """Adds a named content to a sum."""
+    total.update(f"{name} {len(content)}\n".encode() + content)
+
+
+@functools.lru_cache
+def kit_version():
+    """What the kit says that it is."""
+    return subprocess.run(["rt", "version"], capture_output=True, check=False).stdout
+
+
+def sum_of_files(root, crate, tools):
+    """A sum of the kit, of these tools, of the crate and all crates below it."""
     total = hashlib.sha256()
-
-    def add(name, content):
-        total.update(f"{name} {len(content)}\n".encode() + content)
-
-    add("kit", subprocess.run(["rt", "version"], capture_output=True, check=False).stdout)
-    for path in sorted(it for it in os.listdir(HERE) if it.endswith(".py")):
-        add(path, read(f"{HERE}/{path}").encode())
+    add(total, "kit", kit_version())
+    for path in tools:
+        add(total, path, read(f"{HERE}/{path}").encode())
     below = crates_below(crates_of(root), crate)
     for line in read(f"{root}/crates.txt").split("\n"):
         if line.partition(":")[0].split()[:1] in [[name] for name in (*below, crate)]:
-            add("uses", line.encode())
+            add(total, "uses", line.encode())
+    if os.path.isfile(f"{root}/HANDLES"):
+        add(total, "HANDLES", read(f"{root}/HANDLES").encode())
     for name in (*sorted(below), crate):
         for part in PARTS:
             for path, content in files_below(f"{root}/crates/{name}/{part}"):
-                add(os.path.relpath(path, root), content)
+                add(total, os.path.relpath(path, root), content)
+    return total
+
+
+def key_of(root, crate, edits, listed):
+    """A sum of the kit, of these tools, of the crate and all crates below it, and of the edits with how they are tried."""
+    total = sum_of_files(root, crate, sorted(it for it in os.listdir(HERE) if it.endswith(".py")))
     for edit in edits:
-        add(edit.name, edit.text.encode())
-    add("listed", " ".join(sorted(listed)).encode())
+        add(total, edit.name, edit.text.encode())
+    add(total, "listed", " ".join(sorted(listed)).encode())
     return total.hexdigest()
 
 
