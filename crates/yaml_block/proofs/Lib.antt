@@ -16,3 +16,4 @@ mod KeyedDecisions
 mod Passing
 mod MappingDecisions
 mod RootDecisions
+mod WordRests

@@ -195,7 +195,7 @@ module _ (cs : List ℕ) (Wide : Type 0) (handles : Handles) where
       pick (inl (e, f)) = inr (inl (n, both_props p q, inl (e, f), r))
       pick (inr (e, s, d)) = inr (inl (n, both_props p q, inr (e, marks_props cs handles col flow_out i e (both_props p q) s, d), r))
 
-  part_flow : (kind : Kind) (room n i j : ℕ) (es : List Event) → reads cs Wide handles room (part_of kind n flow_out) i j es
+  pub part_flow : (kind : Kind) (room n i j : ℕ) (es : List Event) → reads cs Wide handles room (part_of kind n flow_out) i j es
       → (reads cs Wide handles room (nodes.yaml_part n flow_out) i j es ⊎ reads cs Wide handles room (nodes.json_part n flow_out) i j es)
   part_flow Yaml room n i j es r = inl r
   part_flow Json room n i j es r = inr r

@@ -11,6 +11,7 @@ mod nodes;
 mod scalars;
 mod signs;
 mod values;
+mod words;
 
 pub(crate) use nodes::read_root;
 pub(crate) use signs::dash;

@@ -18,6 +18,7 @@ ghost use Rattle.yaml_block.specs.BlockEnds.{AfterColon};
 ghost use Rattle.yaml_block.specs.KeyFits.{FitsAgain, NoneBelow};
 
 use crate::block::signs::{first_colon, line_goes_on};
+use crate::block::words::read_word_key;
 use std::alloc::Global;
 use yaml_flow::flow::{FlowNode, read_bare, read_flow_node};
 use yaml_flow::key::{Fit, key_fit};
@@ -25,16 +26,16 @@ use yaml_flow::list::EventList;
 use yaml_flow::properties::{Properties, read_properties};
 use yaml_flow::sink::{Keeper, Sink, Unkept};
 use yaml_mark::handles::Handles;
+use yaml_mark::starts::begins_word;
 use yaml_text::chars::Chars;
 use yaml_text::context::Ctx;
 use yaml_text::fault::Fault;
 use yaml_text::lines::{skip_spaces, unusable};
 use yaml_text::places::accept;
 
-/// The key of an entry in this column, which has to stand at a border, and the border after its colon. It is read as the first
-/// key of a mapping is, as a node that is a key if a colon follows.
+/// The same, read as the first key of a mapping is, as a node that is a key if a colon follows.
 #[inline(never)]
-fn read_entry_key<'a, K: Keeper>(
+fn read_other_key<'a, K: Keeper>(
     alloc: Global,
     source: &Chars<'a>,
     at: usize,
@@ -68,6 +69,31 @@ fn read_entry_key<'a, K: Keeper>(
             Ok(colon.1)
         }
     }
+}
+
+/// The key of an entry in this column, which has to stand at a border, and the border after its colon.
+#[inline(always)]
+fn read_entry_key<'a, K: Keeper>(
+    alloc: Global,
+    source: &Chars<'a>,
+    at: usize,
+    column: usize,
+    room: u32,
+    handles: Option<&Handles<'a>>,
+    out: &mut Sink<'a, K>,
+) -> Result<usize, Fault>
+    requires border { IsBorder source.now at }
+    requires low { column ≤ at }
+    ensures border { IfOk result (λ to. IsBorder source.now to) }
+    ensures onward { IfOk result (λ to. at < to) }
+    ensures reads { Appends (λ _. key_rest (text_of source.now) wide (handles_of handles.entry) room) (place_of source.now at) (place_of source.now) (holds_of K.holds) out.old out.new result }
+    ensures decides { Decides (key_rest (text_of source.now) wide (handles_of handles.entry) room) (AfterColon (text_of source.now)) (place_of source.now at) Here (place_of source.now) result }
+    ensures placed { IfErr result (IsPlaced source.now) }
+{
+    if begins_word(source, at) {
+        return read_word_key(alloc, source, at, column, room, handles, out);
+    }
+    read_other_key(alloc, source, at, column, room, handles, out)
 }
 
 /// The fault of a line on which no key stands, at the place where a key that is read by itself ends.

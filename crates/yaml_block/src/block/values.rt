@@ -21,11 +21,13 @@ use crate::block::collections::read_sequence;
 use crate::block::nodes::read_node;
 use crate::block::scalars::{push_lone, push_nothing};
 use crate::block::signs::{dash, sequence_column};
+use crate::block::words::read_word;
 use std::alloc::Global;
 use yaml_flow::line::{Line, has_content, line_at, skip_line_rest};
 use yaml_flow::properties::Properties;
 use yaml_flow::sink::{Keeper, Sink};
 use yaml_mark::handles::Handles;
+use yaml_mark::starts::begins_word;
 use yaml_text::chars::Chars;
 use yaml_text::context::Ctx;
 use yaml_text::fault::Fault;
@@ -64,6 +66,9 @@ pub fn read_value<'a, K: Keeper>(
             let (count, first) = skip_spaces(source, at);
             if count == 0 {
                 return Err(unusable(source, first));
+            }
+            if begins_word(source, first) {
+                return read_word(alloc, source, first, col, context, room, handles, out);
             }
             let outer = Properties::none();
             read_node(

@@ -69,8 +69,18 @@ values::read_value-returns-in-Some-clause-reads g t c =
     (λ x es r. line_value cs (Unit {0}) h c.args.room c.args.col (context_of c.args.context) _ _ _ es c.requires.block
     (moved c.args.source.now _ _ _ c.line_at-line.ensures.start c.in-Some.ensures.some) r) c.read_below.ensures.reads
 
-pub values::read_value-returns-else-count-eq0-clause-reads : goal.values::read_value-returns-else-count-eq0-clause-reads
-values::read_value-returns-else-count-eq0-clause-reads g t c =
+pub values::read_value-returns-then-begins_word-clause-reads : goal.values::read_value-returns-then-begins_word-clause-reads
+values::read_value-returns-then-begins_word-clause-reads g t c =
+    let s = c.args.source.now in
+    let cs = text_of s in
+    let h = handles_of c.args.handles in
+    appends_by (λ _. node_rest cs (Unit {0}) h c.args.room c.args.col (context_of c.args.context) None) (λ _. value_rest cs (Unit {0}) h c.args.room c.args.col (context_of c.args.context))
+    (place_of s c.skip_spaces-count.result.1) (place_of s c.args.at) (λ line. place_of s line.start) (holds_of g.K.Keeper.holds) _ _ c.read_word.result
+    (λ x es r. same_value cs (Unit {0}) h c.args.room c.args.col (context_of c.args.context) _ _ _ _ es c.requires.block
+    c.skip_spaces-count.ensures.spaces (omega (arith, c.if-count-eq0.false)) r) c.read_word.ensures.reads
+
+pub values::read_value-returns-else-begins_word-clause-reads : goal.values::read_value-returns-else-begins_word-clause-reads
+values::read_value-returns-else-begins_word-clause-reads g t c =
     let s = c.args.source.now in
     let cs = text_of s in
     let h = handles_of c.args.handles in
@@ -564,8 +574,18 @@ values::read_value-returns-in-Some-clause-decides g t c =
     Here (λ line. place_of s line.start) c.read_below.result
     (value_below cs h c.args.room c.args.col x c.requires.block _ _ c.line_at-line.result.column _ (moved s _ _ _ c.line_at-line.ensures.start c.in-Some.ensures.some) line.stuck line.spaces line.all c.requires.inside) c.read_below.ensures.decides
 
-pub values::read_value-returns-else-count-eq0-clause-decides : goal.values::read_value-returns-else-count-eq0-clause-decides
-values::read_value-returns-else-count-eq0-clause-decides g t c =
+pub values::read_value-returns-then-begins_word-clause-decides : goal.values::read_value-returns-then-begins_word-clause-decides
+values::read_value-returns-then-begins_word-clause-decides g t c =
+    let s = c.args.source.now in
+    let cs = text_of s in
+    let h = handles_of c.args.handles in
+    let x = context_of c.args.context in
+    decides_rest (value_rest cs (Unit {0}) h c.args.room c.args.col x) (AfterNode cs c.args.col x) (place_of s c.args.at) (node_rest cs (Unit {0}) h c.args.room c.args.col x None) (AfterNode cs c.args.col x) (place_of s c.skip_spaces-count.result.1)
+    Here (λ line. place_of s line.start) c.read_word.result
+    (value_beside cs h c.args.room c.args.col x c.requires.block _ c.skip_spaces-count.result.0 _ c.in-None.ensures.none c.skip_spaces-count.ensures.spaces c.skip_spaces-count.ensures.furthest) c.read_word.ensures.decides
+
+pub values::read_value-returns-else-begins_word-clause-decides : goal.values::read_value-returns-else-begins_word-clause-decides
+values::read_value-returns-else-begins_word-clause-decides g t c =
     let s = c.args.source.now in
     let cs = text_of s in
     let h = handles_of c.args.handles in

@@ -17,7 +17,7 @@ use Rattle.yaml_block.proofs.BlockLemmas.{value_key}
 use Rattle.yaml_block.proofs.KeyDecisions.{key_ends, key_none, key_no_node, key_barred, key_over}
 use Rattle.yaml_block.proofs.Found.{found_is, none_is, is_some}
 use Rattle.yaml_block.proofs.Places.{places_up}
-use Rattle.yaml_block.proofs.block.keys.read_entry_key.Goals as goal
+use Rattle.yaml_block.proofs.block.keys.read_other_key.Goals as goal
 
 pub read_bare-requires-clause-own : goal.read_bare-requires-clause-own
 read_bare-requires-clause-own g c = line_own (text_of c.args.source.now) (handles_of c.args.handles) c.args.column flow_out _ _ _ c.in_ok-own.ensures.own
