@@ -27,7 +27,7 @@ import os
 import sqlite3
 import sys
 import time
-from typing import Any, BinaryIO, Dict, Iterator, List, Optional, Sequence, Tuple
+from typing import Any, BinaryIO, Dict, Iterator, List, NoReturn, Optional, Sequence, Tuple
 
 import yamlcanon
 from yamlcanon.table import REFUSED, UNREAD, Judge, OtherVersion, Row, Table, keep, packed
@@ -37,6 +37,8 @@ _FAILED = 3
 _BATCH = 256
 # A cache is taken whole that has no more bytes than this for each file, some three meanings, and no more than this at all.
 _TAKEN_A_FILE, _TAKEN = 500, 64 << 20
+# With more processes than this each looks into the cache by itself, in less time than they would wait for it to be taken.
+_TAKEN_JOBS = 2
 # What is mostly found by the thousand, and means nothing.
 _HOLD_NOTHING = ((b"", "hold no document"), (b"~", "hold one null"))
 # How often progress is told, in seconds: on a terminal, and elsewhere.
@@ -92,9 +94,10 @@ class Progress:
 
 def fill(table: Table, paths: Sequence[str], jobs: int, batch: int, cache: Optional[str]) -> int:
     """Adds a row for each path, by so many processes, and tells for how many contents the library was asked. The processes are
-    forked, so each has the names and what was taken of the cache already."""
+    forked, so each has the names and what was taken of the cache already, if they are few."""
     progress, some, judge, asked = Progress(len(paths)), list(batches(paths, batch)), Judge(cache), 0
-    judge.take(min(_TAKEN_A_FILE * len(paths), _TAKEN))
+    if jobs <= _TAKEN_JOBS:
+        judge.take(min(_TAKEN_A_FILE * len(paths), _TAKEN))
 
     def answer(number: int) -> Tuple[Any, int, int]:
         """The rows of a batch, how many they are, and for how many contents the library was asked."""
@@ -121,6 +124,7 @@ def run(name: str, data: bytes, jobs: int, batch: int, cache: Optional[str]) -> 
         asked = fill(table, paths, jobs, batch, cache)
         if cache is not None and asked:
             keep(cache, table)
+        return finish(table)
     except OtherVersion as fault:
         say(f"{fault}: begin another table")
         return _FAILED
@@ -130,7 +134,8 @@ def run(name: str, data: bytes, jobs: int, batch: int, cache: Optional[str]) -> 
     except MemoryError:
         say("a worker wanted more memory than there is: the same command goes on from here, with fewer --jobs")
         return _FAILED
-    return finish(table)
+    finally:
+        table.close()
 
 
 def finish(table: Table) -> int:
@@ -249,5 +254,13 @@ def main(words: Optional[Sequence[str]] = None) -> int:
         return _FAILED
 
 
+def end(status: int) -> NoReturn:
+    """Ends the process at once: Python would first free one by one what it has of each file, a sixth of a later run's time."""
+    for stream in (sys.stdout, sys.stderr):
+        if stream is not None:
+            stream.flush()
+    os._exit(status)
+
+
 if __name__ == "__main__":
-    sys.exit(main())
+    end(main())
