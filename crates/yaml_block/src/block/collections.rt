@@ -84,16 +84,15 @@ pub fn read_sequence<'a, K: Keeper>(
         return Err(Fault::TooDeep(source.pos(first.at)));
     }
     push_block_sequence(out, properties, first.at)?;
-    let column = first.column;
-    let mut line = read_indented(alloc, source, first.after, column, level, out)?;
+    let mut line = read_indented(alloc, source, first.after, first.column, level, out)?;
     'entries: loop {
-        match next_dash(source, line, column)? {
+        match next_dash(source, line, first.column)? {
             None => {
                 push_sequence_end(out, line.start)?;
                 return Ok(line);
             }
             Some(after) => {
-                line = read_indented(alloc, source, after, column, level, out)?;
+                line = read_indented(alloc, source, after, first.column, level, out)?;
             }
         }
     }

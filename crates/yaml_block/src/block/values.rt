@@ -157,10 +157,11 @@ pub fn read_below<'a, K: Keeper>(
                 push_nothing(line.start, out)?;
                 return Ok(line);
             }
+            let column = Some(line.column);
             let setting = Setting {
                 from: first,
                 outer,
-                column: Some(line.column),
+                column,
             };
             read_node(alloc, source, first, setting, level, out)
         }
