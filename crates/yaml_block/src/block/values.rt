@@ -184,15 +184,20 @@ pub fn read_under<'a, K: Keeper>(
     ensures decides { DecidesNode source.now level.now above.entry.at (node_rule None) result }
     ensures placed { IfErr result (IsPlaced source.now) }
 {
+    let Head {
+        at: from,
+        end,
+        own: outer,
+    } = above;
     if !has_content(source, line) {
-        push_lone(above.own, above.end, out)?;
+        push_lone(outer, end, out)?;
         return Ok(line);
     }
     let first = line.first;
     match dash(source, first) {
         Some(after) => {
             if line.column < sequence_column(level.least, level.context) {
-                push_lone(above.own, above.end, out)?;
+                push_lone(outer, end, out)?;
                 return Ok(line);
             }
             let indicator = Indicator {
@@ -200,16 +205,16 @@ pub fn read_under<'a, K: Keeper>(
                 after,
                 column: line.column,
             };
-            read_sequence(alloc, source, indicator, above.own, level, out)
+            read_sequence(alloc, source, indicator, outer, level, out)
         }
         None => {
             if line.column < level.least {
-                push_lone(above.own, above.end, out)?;
+                push_lone(outer, end, out)?;
                 return Ok(line);
             }
             let setting = Setting {
-                from: above.at,
-                outer: above.own,
+                from,
+                outer,
                 column: Some(line.column),
             };
             read_node(alloc, source, first, setting, level, out)

@@ -960,12 +960,6 @@ nodes::read_keyed-returns-in_ok-line-in-None-clause-decides g t c =
     let whole = kept cs h c.args.level.now.room c.args.level.now.least x c.requires.dressed.node.block c.args.setting.column _ _ p _ (props_of c.args.head.own) c.requires.dressed.own.all c.requires.dressed.goes_on c.requires.dressed.own.own c.requires.dressed.node.outer c.requires.no_scalar in
     rest_goes whole (kept_line cs h c.args.level.now.room c.args.level.now.least x c.requires.dressed.node.block _ _ node.kind (c.in_ok-node.ensures.decides (λ _. c.requires.dressed.goes_on)) p c.args.setting.column _ no_key n.ends.comments n.ends.line.stuck)
 
-pub nodes::read_keyed-overflow_sub-room : goal.nodes::read_keyed-overflow_sub-room
-nodes::read_keyed-overflow_sub-room g t c =
-    let k = c.in_ok-node.ensures.reads in
-    let fit = c.in_ok-fit_key-in-Some.ensures.reads k.0 k.2 in
-    omega (arith, fit.3)
-
 pub nodes::read_keyed-returns-in_err-fit_key-in-Some-clause-decides : goal.nodes::read_keyed-returns-in_err-fit_key-in-Some-clause-decides
 nodes::read_keyed-returns-in_err-fit_key-in-Some-clause-decides g t c =
     let s = c.args.source.now in
