@@ -1,5 +1,5 @@
 -- Flow nodes and the parts of flow collections at a level: where they begin and end, by which rule they are read, and what is decided of them (YAML 1.2.2, 7.4 and 7.5).
-use Rattle.std.specs.Prelude.{◌≡◌, ◌≤◌, ◌<◌, ◌+◌, ◌⊎◌, ℕ, List, Result, Option, Some, slice_get}
+use Rattle.std.specs.Prelude.{◌≡◌, ◌≤◌, ◌<◌, ◌+◌, ℕ, List, Result, Option, Some, slice_get}
 use Rattle.yaml_definitions.specs.model.Event.{Event}
 use Rattle.yaml_definitions.specs.grammar.Rules.{Rule}
 use Rattle.yaml_definitions.specs.grammar.Separation.{Ctx, flow_in}

@@ -41,14 +41,7 @@ pub fn read_flow_node<'a, K: Keeper>(
     ensures placed { IfErr result (IsPlaced source.now) }
 {
     let start = out.mark();
-    let (own, end) = read_properties(
-        alloc,
-        source,
-        at,
-        level.least,
-        level.context,
-        level.handles,
-    )?;
+    let (own, end) = read_properties(alloc, source, at, level.least, level.context, level.handles)?;
     out.announce(&own);
     let head = Head { at, end, own };
     let node = read_bare(alloc, source, &head, level, out)?;

@@ -19,9 +19,6 @@ use Rattle.yaml_flow.proofs.LoopDecisions.{all_left, left_closed, left_refused, 
 use Rattle.yaml_definitions.specs.grammar.Nodes.{c-flow-sequence as flow_seq, c-flow-mapping as flow_map}
 use Rattle.law_going_on.specs.GoingOn.{Here}
 use Rattle.law_going_on.specs.FlowEnds.{InFlow}
-use Rattle.yaml_text.specs.Place.{Steps}
-use Rattle.yaml_text.specs.Source.{bytes_of}
-use Rattle.yaml_flow.specs.Keys.{Spaced, IsKeySized}
 use Rattle.yaml_flow.specs.FlowDecisions.{NoKey, LongKey}
 use Rattle.yaml_flow.proofs.PropertyLemmas.{marks_props}
 use Rattle.yaml_flow.proofs.PropertyDecisions.{or_else}
@@ -238,14 +235,17 @@ pub nodes::read_flow_node-read_bare-requires : goal.nodes::read_flow_node-read_b
 nodes::read_flow_node-read_bare-requires g t c =
     λ κs l. (
       omega arith,
-      (l, record {
-        border = c.requires.border;
-        end = c.in_ok-own.ensures.stand.border;
-        order = c.in_ok-own.ensures.stand.onward;
-        own = c.in_ok-own.ensures.stand.own;
-        all = c.in_ok-own.ensures.stand.all;
-        low = c.requires.low;
-      }),
+      (
+        l,
+        record {
+          border = c.requires.border;
+          end = c.in_ok-own.ensures.stand.border;
+          order = c.in_ok-own.ensures.stand.onward;
+          own = c.in_ok-own.ensures.stand.own;
+          all = c.in_ok-own.ensures.stand.all;
+          low = c.requires.low;
+        },
+      ),
     )
 
 -- an alias
@@ -417,12 +417,15 @@ pub pairs::read_asked_pair-read_asked-requires : goal.pairs::read_asked_pair-rea
 pairs::read_asked_pair-read_asked-requires g t c =
     λ κs l. (
       omega arith,
-      (l, record {
-        border = c.requires.sign.border;
-        low = omega (arith, c.requires.low, c.requires.sign.forward);
-        inner = c.requires.inner;
-        mark = (_, c.requires.sign.next, c.requires.sign.is);
-      }),
+      (
+        l,
+        record {
+          border = c.requires.sign.border;
+          low = omega (arith, c.requires.low, c.requires.sign.forward);
+          inner = c.requires.inner;
+          mark = (_, c.requires.sign.next, c.requires.sign.is);
+        },
+      ),
     )
 
 pub pairs::read_asked_pair-returns-clause-decides : goal.pairs::read_asked_pair-returns-clause-decides
@@ -753,12 +756,15 @@ pub entries::read_entry-read_asked-requires : goal.entries::read_entry-read_aske
 entries::read_entry-read_asked-requires g t c =
     λ κs l. (
       omega arith,
-      (l, record {
-        border = c.in-Some.ensures.sign.border;
-        low = omega (arith, c.requires.low, c.in-Some.ensures.sign.forward);
-        inner = c.requires.inner;
-        mark = (_, c.in-Some.ensures.sign.next, c.in-Some.ensures.sign.is);
-      }),
+      (
+        l,
+        record {
+          border = c.in-Some.ensures.sign.border;
+          low = omega (arith, c.requires.low, c.in-Some.ensures.sign.forward);
+          inner = c.requires.inner;
+          mark = (_, c.in-Some.ensures.sign.next, c.in-Some.ensures.sign.is);
+        },
+      ),
     )
 
 pub entries::read_entry-returns-in-None-clause-decides : goal.entries::read_entry-returns-in-None-clause-decides
