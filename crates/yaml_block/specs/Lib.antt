@@ -2,3 +2,4 @@ pub mod BlockRules
 pub mod BlockEnds
 pub mod OuterRules
 pub mod KeyFits
+pub mod BlockCalls

@@ -17,6 +17,7 @@ ghost use Rattle.yaml_flow.specs.Lines.{IsLine};
 
 use crate::block::{read_root, read_value};
 use std::alloc::Global;
+use yaml_flow::level::Level;
 use yaml_flow::line::Line;
 use yaml_mark::handles::Handles;
 use yaml_sink::sink::{Keeper, Sink};
@@ -66,5 +67,11 @@ pub fn read_marked<'a, K: Keeper>(
     ensures decides { Decides (bare_document (text_of source.now) wide open_limit (handles_of handles.entry) ∪ (gives (empty no_props) ◂ s_l_comments (text_of source.now))) (Over (text_of source.now) (Follow (text_of source.now) 0 0)) (place_of source.now at) Here (λ next. place_of source.now next.start) result }
     ensures placed { IfErr result (IsPlaced source.now) }
 {
-    read_value(alloc, source, at, 0, Ctx::BlockIn, room(), handles, out)
+    let level = Level {
+        handles,
+        least: 0,
+        context: Ctx::BlockIn,
+        room: room(),
+    };
+    read_value(alloc, source, at, &level, out)
 }

@@ -1,10 +1,10 @@
 -- Node properties.
-use Rattle.std.proofs.Common.{◌≡◌, ℕ, zero, suc, ◌+◌, ◌<◌, List, [], ◌∷◌, ◌++◌, Bool, true, false, Option, Some, None, refl, sym, ◌∙◌, ap, subst, arith, inl, inr, length, map, length-append}
-use Rattle.std.specs.Prelude.{slice_get, slice_index_or, slice_set, encode_utf8_all, if◌then◌else◌, option_and_then}
+use Rattle.std.proofs.Common.{◌≡◌, ℕ, List, ◌++◌, Bool, true, false, Option, Some, None, refl, sym, ◌∙◌, ap, subst, arith, inl, inr}
+use Rattle.std.specs.Prelude.{slice_get, encode_utf8_all, if◌then◌else◌, option_and_then}
 use Rattle.std.specs.Str.{chars, IsUtf8}
 use Rattle.std.proofs.lemmas.Str.{encodes-chars}
 use Rattle.yaml_definitions.specs.model.Tag.{is_full}
-use Rattle.yaml_definitions.specs.model.Event.{Event, WrittenTag, full}
+use Rattle.yaml_definitions.specs.model.Event.{WrittenTag, full}
 use Rattle.yaml_definitions.specs.grammar.Rules.{◌∪◌}
 use Rattle.yaml_definitions.specs.grammar.Separation.{Ctx, s-separate as separate}
 use Rattle.yaml_definitions.specs.grammar.Tags as tags
@@ -12,7 +12,7 @@ use Rattle.yaml_text.specs.Calls as calls
 use Rattle.yaml_definitions.specs.grammar.Tags.{Handles, c-ns-tag-property as tag, c-ns-anchor-property as anchor, c-ns-properties as properties, decoded, percent_decode, prefix_of}
 use Rattle.yaml_definitions.specs.grammar.Events.{Props, no_props}
 use Rattle.yaml_text.proofs.Runs.{same_char}
-use Rattle.yaml_sink.specs.PropertyRules.{HasTag, HasAnchor, with_props, dressed, SomeProperties, tag_alone, anchor_alone, both, Own}
+use Rattle.yaml_sink.specs.PropertyRules.{HasTag, HasAnchor, SomeProperties, tag_alone, anchor_alone, both, Own}
 
 -- ---- tags
 

@@ -13,6 +13,7 @@ use Rattle.yaml_text.specs.Place.{Steps}
 use Rattle.yaml_text.specs.Source.{bytes_of, text_of, place_of}
 use Rattle.yaml_text.specs.declared.chars.Chars.{Chars}
 use Rattle.yaml_sink.specs.PropertyRules.{SomeProperties}
+use Rattle.yaml_flow.specs.Keys.{Spaced, IsKeySized}
 use Rattle.yaml_flow.specs.declared.flow.signs.First.{First}
 use Rattle.yaml_flow.specs.declared.flow.signs.First.TheVariants.{Sequence, Mapping, Single, Double, Other}
 use Rattle.yaml_flow.specs.declared.flow.scalars.Quote.{Quote}
@@ -137,3 +138,11 @@ IsInner block_key = ⊥
 abbrev pub IsParted : Kind → ℕ → ℕ → Type 0
 IsParted Yaml after start = after < start
 IsParted Json after start = Unit {0}
+
+-- the colon, from at on, that makes a node from i to j a key
+pub record IsKeyColon (source : Chars) (i j : ℕ) (kind : Kind) (c : Ctx) (at after : ℕ) : Type 0 where
+  pub onward : j ≤ at
+  pub spaced : Spaced (text_of source) (place_of source j) (place_of source at)
+  pub colon : Steps (bytes_of source) at 58 after
+  pub sign : MayFollowColon kind c (text_of source) (place_of source after)
+  pub fits : IsKeySized (text_of source) (place_of source i) (place_of source at)

@@ -1,16 +1,16 @@
 //! Comments, separation and the starts of lines (YAML 1.2.2, chapter 6).
-ghost use Rattle.std.specs.Prelude.{◌≡◌, ◌≢◌, ◌≤◌, ◌<◌, ◌⊎◌, IfSome, IfNone, IfOk, IfErr, ℕ, length, false};
+ghost use Rattle.std.specs.Prelude.{◌≡◌, ◌≢◌, ◌≤◌, ◌⊎◌, IfSome, IfNone, IfOk, IfErr, ℕ, length, false};
 ghost use Rattle.std.specs.Bool.{OnTrue, OnFalse};
 ghost use Rattle.yaml_text.specs.Source.{text_of, place_of, IsBorder};
 ghost use Rattle.yaml_text.specs.EventModel.{context_of};
 ghost use Rattle.yaml_definitions.specs.grammar.Rules.{any_span, maybe};
-ghost use Rattle.yaml_definitions.specs.grammar.Separation.{s-l-comments as s_l_comments, l-comment as l_comment, s-separate as separate, flow_in};
+ghost use Rattle.yaml_definitions.specs.grammar.Separation.{s-l-comments as s_l_comments, l-comment as l_comment, s-separate as separate};
 ghost use Rattle.yaml_text.specs.Lines.{AfterLine, Inside, is_key};
 ghost use Rattle.yaml_text.specs.Lines.{LooksLikeMarker};
 ghost use Rattle.yaml_text.specs.LeafAnswer.{IsRefusal};
 ghost use Rattle.yaml_text.specs.Placed.{IsPlaced};
-ghost use Rattle.law_one_reading.specs.Follows.{Solid, Fresh, Way};
-ghost use Rattle.yaml_flow.specs.Lines.{IsLine};
+ghost use Rattle.law_one_reading.specs.Follows.{Fresh};
+ghost use Rattle.yaml_flow.specs.Lines.{IsLine, LeadsTo};
 
 use yaml_mark::comments;
 use yaml_mark::starts::begins_text;
@@ -156,12 +156,7 @@ pub fn next_line(source: &Chars<'_>, at: usize) -> Result<Line, Fault>
 #[inline(always)]
 pub fn separation(source: &Chars<'_>, at: usize, least: usize, context: Ctx) -> Result<usize, Fault>
     requires { IsBorder source.now at }
-    ensures border { IfOk result (λ to. IsBorder source.now to) }
-    ensures onward { IfOk result (λ to. at ≤ to) }
-    ensures separate { IfOk result (λ to. maybe (separate (text_of source.now) least (context_of context)) (place_of source.now at) (place_of source.now to)) }
-    ensures apart { IfOk result (λ to. at < to → separate (text_of source.now) least (context_of context) (place_of source.now at) (place_of source.now to)) }
-    ensures to { IfOk result (λ to. (q : ℕ) → maybe (separate (text_of source.now) least (context_of context)) (place_of source.now at) q → Solid (text_of source.now) q → q ≡ place_of source.now to) }
-    ensures way { context_of context ≡ flow_in → IfOk result (λ to. (q : ℕ) → Way (text_of source.now) (place_of source.now at) q → q ≡ place_of source.now to) }
+    ensures leads { IfOk result (LeadsTo source.now at least (context_of context)) }
     ensures err { IfErr result IsRefusal }
     ensures lines { IfErr result (λ _. is_key (context_of context) ≡ false) }
     ensures none { IfErr result (λ _. Inside (text_of source.now) (place_of source.now at) → (q : ℕ) → maybe (separate (text_of source.now) least (context_of context)) (place_of source.now at) q → Fresh (text_of source.now) q → ⊥) }

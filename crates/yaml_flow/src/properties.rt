@@ -1,13 +1,13 @@
 //! Node properties, read (YAML 1.2.2, 6.9).
-ghost use Rattle.std.specs.Prelude.{◌≡◌, ◌≤◌, ◌⊎◌, IfOk, IfErr, Some, slice_get};
+ghost use Rattle.std.specs.Prelude.{◌≡◌, ◌⊎◌, IfOk, IfErr, Some, slice_get};
 ghost use Rattle.yaml_text.specs.Source.{text_of, place_of, IsBorder};
 ghost use Rattle.yaml_text.specs.EventModel.{context_of};
 ghost use Rattle.yaml_mark.specs.HandlesModel.{handles_of};
 ghost use Rattle.yaml_text.specs.LeafAnswer.{IsRefusal};
 ghost use Rattle.yaml_text.specs.Placed.{IsPlaced};
 ghost use Rattle.yaml_text.specs.declared.fault.Fault.TheVariants.{OutOfMemory};
-ghost use Rattle.yaml_flow.specs.PropertyDecisions.{AllProperties, Barred};
-ghost use Rattle.yaml_sink.specs.PropertyRules.{props_of, Own};
+ghost use Rattle.yaml_flow.specs.PropertyDecisions.{Barred};
+ghost use Rattle.yaml_flow.specs.PropertyPlaces.{StandFrom};
 
 use crate::line::separation;
 use std::alloc::Global;
@@ -21,6 +21,14 @@ use yaml_text::event::EventTag;
 use yaml_text::fault::Fault;
 use yaml_text::places::accept;
 
+/// How a node begins: the border where it does, its own properties, if it has any, and the border after them.
+#[derive(Drop)]
+pub struct Head<'a> {
+    pub at: usize,
+    pub end: usize,
+    pub own: Properties<'a>,
+}
+
 /// The properties that stand at a border, if any, and the border after them.
 #[inline(always)]
 pub fn read_properties<'a>(
@@ -32,11 +40,8 @@ pub fn read_properties<'a>(
     handles: Option<&Handles<'a>>,
 ) -> Result<(Properties<'a>, usize), Fault>
     requires { IsBorder source.now at }
-    ensures border { IfOk result (λ r. IsBorder source.now r.1) }
-    ensures onward { IfOk result (λ r. at ≤ r.1) }
-    ensures own { IfOk result (λ r. Own (text_of source.now) (handles_of handles.entry) least (context_of context) (place_of source.now at) (place_of source.now r.1) (props_of r.0)) }
+    ensures stand { IfOk result (λ r. StandFrom source.now handles.entry least (context_of context) at r.1 r.0) }
     ensures err { IfErr result IsRefusal }
-    ensures all { IfOk result (λ r. AllProperties (text_of source.now) (handles_of handles.entry) least (context_of context) (place_of source.now at) (place_of source.now r.1) (props_of r.0)) }
     ensures barred { IfErr result (λ e. (e ≡ OutOfMemory) ⊎ Barred (text_of source.now) (handles_of handles.entry) least (context_of context) (place_of source.now at)) }
     ensures placed { IfErr result (IsPlaced source.now) }
 {
@@ -61,11 +66,8 @@ fn read_tagged<'a>(
 ) -> Result<(Properties<'a>, usize), Fault>
     requires border { IsBorder source.now at }
     requires sign { slice_get (text_of source.now) (place_of source.now at) ≡ Some 33 }
-    ensures border { IfOk result (λ r. IsBorder source.now r.1) }
-    ensures onward { IfOk result (λ r. at ≤ r.1) }
-    ensures own { IfOk result (λ r. Own (text_of source.now) (handles_of handles.entry) least (context_of context) (place_of source.now at) (place_of source.now r.1) (props_of r.0)) }
+    ensures stand { IfOk result (λ r. StandFrom source.now handles.entry least (context_of context) at r.1 r.0) }
     ensures err { IfErr result IsRefusal }
-    ensures all { IfOk result (λ r. AllProperties (text_of source.now) (handles_of handles.entry) least (context_of context) (place_of source.now at) (place_of source.now r.1) (props_of r.0)) }
     ensures barred { IfErr result (λ e. (e ≡ OutOfMemory) ⊎ Barred (text_of source.now) (handles_of handles.entry) least (context_of context) (place_of source.now at)) }
     ensures placed { IfErr result (IsPlaced source.now) }
 {
@@ -93,11 +95,8 @@ fn read_anchored<'a>(
 ) -> Result<(Properties<'a>, usize), Fault>
     requires border { IsBorder source.now at }
     requires sign { slice_get (text_of source.now) (place_of source.now at) ≡ Some 38 }
-    ensures border { IfOk result (λ r. IsBorder source.now r.1) }
-    ensures onward { IfOk result (λ r. at ≤ r.1) }
-    ensures own { IfOk result (λ r. Own (text_of source.now) (handles_of handles.entry) least (context_of context) (place_of source.now at) (place_of source.now r.1) (props_of r.0)) }
+    ensures stand { IfOk result (λ r. StandFrom source.now handles.entry least (context_of context) at r.1 r.0) }
     ensures err { IfErr result IsRefusal }
-    ensures all { IfOk result (λ r. AllProperties (text_of source.now) (handles_of handles.entry) least (context_of context) (place_of source.now at) (place_of source.now r.1) (props_of r.0)) }
     ensures barred { IfErr result (λ e. (e ≡ OutOfMemory) ⊎ Barred (text_of source.now) (handles_of handles.entry) least (context_of context) (place_of source.now at)) }
     ensures placed { IfErr result (IsPlaced source.now) }
 {

@@ -1,29 +1,21 @@
 //! Block sequences and mappings, entry by entry (YAML 1.2.2, 8.2.1 and 8.2.2).
-ghost use Rattle.std.specs.Prelude.{◌≡◌, ◌≤◌, ◌<◌, IfSome, IfNone, IfOk, IfErr};
+ghost use Rattle.std.specs.Prelude.{IfSome, IfNone, IfOk, IfErr};
 ghost use Rattle.std.specs.Bool.{OnTrue, OnFalse};
-ghost use Rattle.yaml_text.specs.Lines.{AfterLine, Inside};
-ghost use Rattle.yaml_text.specs.Source.{text_of, place_of, IsBorder};
-ghost use Rattle.yaml_definitions.specs.grammar.Separation.{AtEnd, DocumentMark};
-ghost use Rattle.yaml_definitions.specs.grammar.Nodes.{wide};
-ghost use Rattle.yaml_scalar.specs.BlockModel.{column};
-ghost use Rattle.yaml_mark.specs.HandlesModel.{handles_of};
+ghost use Rattle.yaml_text.specs.Source.{text_of, place_of};
 ghost use Rattle.yaml_text.specs.LeafAnswer.{IsRefusal};
 ghost use Rattle.yaml_text.specs.Placed.{IsPlaced};
 ghost use Rattle.law_one_reading.specs.Follows.{Dash};
-ghost use Rattle.law_going_on.specs.GoingOn.{Here};
-ghost use Rattle.yaml_flow.specs.NodeAnswer.{Appends, Decides};
 ghost use Rattle.yaml_sink.specs.SinkModel.{holds_of};
-ghost use Rattle.yaml_flow.specs.Lines.{IsLine, IsDash};
 ghost use Rattle.yaml_sink.specs.PropertyRules.{props_of};
-ghost use Rattle.yaml_block.specs.BlockRules.{sequence_with, entries_rest};
-ghost use Rattle.yaml_block.specs.BlockEnds.{AfterSequence, AfterMapping, NoneIn, IsFurther};
+ghost use Rattle.yaml_block.specs.BlockEnds.{NoneIn, IsFurther};
+ghost use Rattle.yaml_block.specs.BlockCalls.{StartsLine, StartsSequence, StartsInside, EndsLine, IsNext, IsNextDash, sequence_rule, entries_rule, ReadsLine, DecidesSequence, DecidesEntries};
 
 use crate::block::keys::read_key;
-use crate::block::signs::dash;
+use crate::block::signs::{Indicator, dash};
 use crate::block::values::{read_indented, read_value};
 use std::alloc::Global;
+use yaml_flow::level::Level;
 use yaml_flow::line::{Line, has_content};
-use yaml_mark::handles::Handles;
 use yaml_sink::properties::Properties;
 use yaml_sink::push::{push_block_sequence, push_sequence_end};
 use yaml_sink::sink::{Keeper, Sink};
@@ -34,10 +26,8 @@ use yaml_text::lines::unusable;
 
 /// Whether a line at a collection's column or further left is its next entry's; one further right is none's.
 fn goes_on(source: &Chars<'_>, line: Line, column: usize) -> Result<bool, Fault>
-    requires line { IsLine source.now line }
-    requires after { AfterLine (text_of source.now) (place_of source.now line.start) }
-    ensures next { IfOk result (λ is_next. OnTrue is_next (line.column ≡ column)) }
-    ensures content { IfOk result (λ is_next. OnTrue is_next ((AtEnd (text_of source.now) (place_of source.now line.start) → ⊥) × (DocumentMark (text_of source.now) (place_of source.now line.start) → ⊥))) }
+    requires { StartsLine source.now line }
+    ensures next { IfOk result (λ is_next. OnTrue is_next (IsNext source.now line column)) }
     ensures over { IfOk result (λ is_next. OnFalse is_next (NoneIn source.now line column)) }
     ensures err { IfErr result IsRefusal }
     ensures further { IfErr result (λ _. IsFurther source.now line column) }
@@ -57,10 +47,8 @@ fn goes_on(source: &Chars<'_>, line: Line, column: usize) -> Result<bool, Fault>
 
 /// The border after the dash of a sequence's next entry, if a line at its column or further left begins with one.
 fn next_dash(source: &Chars<'_>, line: Line, column: usize) -> Result<Option<usize>, Fault>
-    requires line { IsLine source.now line }
-    requires after { AfterLine (text_of source.now) (place_of source.now line.start) }
-    ensures column { IfOk result (λ found. IfSome found (λ _. line.column ≡ column)) }
-    ensures dash { IfOk result (λ found. IfSome found (IsDash source.now line.first)) }
+    requires { StartsLine source.now line }
+    ensures found { IfOk result (λ found. IfSome found (IsNextDash source.now line column)) }
     ensures none { IfOk result (λ found. IfNone found (Dash (text_of source.now) column (place_of source.now line.start) → ⊥)) }
     ensures err { IfErr result IsRefusal }
     ensures further { IfErr result (λ _. IsFurther source.now line column) }
@@ -75,43 +63,36 @@ fn next_dash(source: &Chars<'_>, line: Line, column: usize) -> Result<Option<usi
     }
 }
 
-/// A block sequence in this column with its properties, from its first dash on (8.2.1).
+/// A block sequence with its properties, from its first dash on (8.2.1).
 #[inline(never)]
 #[cycle(blocks)]
 pub fn read_sequence<'a, K: Keeper>(
     alloc: Global,
     source: &Chars<'a>,
-    at: usize,
-    after: usize,
-    column: usize,
+    first: Indicator,
     properties: Properties<'a>,
-    room: u32,
-    handles: Option<&Handles<'a>>,
+    level: &Level<'_, 'a>,
     out: &mut Sink<'a, K>,
 ) -> Result<Line, Fault>
-    requires border { IsBorder source.now at }
-    requires dash { IsDash source.now at after }
-    requires low { column ≤ at }
-    ensures line { IfOk result (IsLine source.now) }
-    ensures onward { IfOk result (λ line. at ≤ line.start) }
-    ensures reads { Appends (λ _. sequence_with (text_of source.now) wide (handles_of handles.entry) (props_of properties.entry) room column) (place_of source.now at) (λ line. place_of source.now line.start) (holds_of K.holds) out.old out.new result }
-    ensures after { IfOk result (λ line. AfterLine (text_of source.now) (place_of source.now line.start)) }
-    ensures decides { Decides (sequence_with (text_of source.now) wide (handles_of handles.entry) (props_of properties.entry) room column) (AfterSequence (text_of source.now) column) (place_of source.now at) Here (λ line. place_of source.now line.start) result }
+    requires { StartsSequence source.now first }
+    ensures ends { IfOk result (EndsLine source.now first.at) }
+    ensures reads { ReadsLine (sequence_rule (props_of properties.entry) first.column) source.now level.now first.at (holds_of K.holds) out.old out.new result }
+    ensures decides { DecidesSequence source.now level.now first.at (props_of properties.entry) first.column result }
     ensures placed { IfErr result (IsPlaced source.now) }
 {
-    if room == 0 {
-        return Err(Fault::TooDeep(source.pos(at)));
+    if level.room == 0 {
+        return Err(Fault::TooDeep(source.pos(first.at)));
     }
-    push_block_sequence(out, properties, at)?;
-    let mut line = read_indented(alloc, source, after, column, room - 1, handles, out)?;
+    push_block_sequence(out, properties, first.at)?;
+    let mut line = read_indented(alloc, source, first.after, first.column, level, out)?;
     'entries: loop {
-        match next_dash(source, line, column)? {
+        match next_dash(source, line, first.column)? {
             None => {
                 push_sequence_end(out, line.start)?;
                 return Ok(line);
             }
             Some(after) => {
-                line = read_indented(alloc, source, after, column, room - 1, handles, out)?;
+                line = read_indented(alloc, source, after, first.column, level, out)?;
             }
         }
     }
@@ -125,44 +106,27 @@ pub fn read_entries<'a, K: Keeper>(
     source: &Chars<'a>,
     after: usize,
     column: usize,
-    room: u32,
-    handles: Option<&Handles<'a>>,
+    level: &Level<'_, 'a>,
     out: &mut Sink<'a, K>,
 ) -> Result<Line, Fault>
-    requires border { IsBorder source.now after }
-    requires low { column < after }
-    requires inside { Inside (text_of source.now) (place_of source.now after) }
-    ensures line { IfOk result (IsLine source.now) }
-    ensures onward { IfOk result (λ line. after ≤ line.start) }
-    ensures reads { Appends (λ _. entries_rest (text_of source.now) wide (handles_of handles.entry) room column) (place_of source.now after) (λ line. place_of source.now line.start) (holds_of K.holds) out.old out.new result }
-    ensures after { IfOk result (λ line. AfterLine (text_of source.now) (place_of source.now line.start)) }
-    ensures decides { Decides (entries_rest (text_of source.now) wide (handles_of handles.entry) room column) (AfterMapping (text_of source.now) column) (place_of source.now after) Here (λ line. place_of source.now line.start) result }
+    requires { StartsInside source.now level.now column after }
+    ensures ends { IfOk result (EndsLine source.now after) }
+    ensures reads { ReadsLine (entries_rule column) source.now level.now after (holds_of K.holds) out.old out.new result }
+    ensures decides { DecidesEntries source.now level.now after column result }
     ensures placed { IfErr result (IsPlaced source.now) }
 {
-    let mut line = read_value(
-        alloc,
-        source,
-        after,
-        column + 1,
-        Ctx::BlockOut,
-        room,
-        handles,
-        out,
-    )?;
+    let inside = Level {
+        least: column + 1,
+        context: Ctx::BlockOut,
+        room: level.room - 1,
+        ..*level
+    };
+    let mut line = read_value(alloc, source, after, &inside, out)?;
     'entries: loop {
         if !goes_on(source, line, column)? {
             return Ok(line);
         }
-        let colon = read_key(alloc, source, line.first, column, room, handles, out)?;
-        line = read_value(
-            alloc,
-            source,
-            colon,
-            column + 1,
-            Ctx::BlockOut,
-            room,
-            handles,
-            out,
-        )?;
+        let colon = read_key(alloc, source, line.first, column, &inside, out)?;
+        line = read_value(alloc, source, colon, &inside, out)?;
     }
 }

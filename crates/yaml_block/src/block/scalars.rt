@@ -1,8 +1,7 @@
 //! Block scalars (YAML 1.2.2, 8.1) and the empty node, with their properties.
-ghost use Rattle.std.specs.Prelude.{◌≡◌, ◌≤◌, IfOk, IfErr, Some, slice_get};
+ghost use Rattle.std.specs.Prelude.{◌≡◌, ◌≤◌, IfOk, IfErr};
 ghost use Rattle.yaml_definitions.specs.model.Limits.{text_limit};
-ghost use Rattle.yaml_text.specs.Lines.{AfterLine};
-ghost use Rattle.yaml_text.specs.Source.{text_of, place_of, IsBorder};
+ghost use Rattle.yaml_text.specs.Source.{text_of, place_of};
 ghost use Rattle.yaml_definitions.specs.grammar.Events.{e-scalar as empty, no_props};
 ghost use Rattle.yaml_text.specs.declared.fault.Fault.TheVariants.{OutOfMemory};
 ghost use Rattle.yaml_scalar.specs.BlockModel.{column};
@@ -11,12 +10,13 @@ ghost use Rattle.law_going_on.specs.GoingOn.{Here};
 ghost use Rattle.yaml_flow.specs.NodeAnswer.{Appends, Decides};
 ghost use Rattle.yaml_sink.specs.Held.{Puts};
 ghost use Rattle.yaml_sink.specs.SinkModel.{holds_of};
-ghost use Rattle.yaml_flow.specs.Lines.{IsLine};
 ghost use Rattle.yaml_sink.specs.PropertyRules.{props_of};
 ghost use Rattle.yaml_block.specs.BlockRules.{block_scalar_rest};
-ghost use Rattle.yaml_block.specs.BlockEnds.{AfterScalar, SignIs};
+ghost use Rattle.yaml_block.specs.BlockEnds.{AfterScalar};
+ghost use Rattle.yaml_block.specs.BlockCalls.{StartsScalar, EndsLine};
+ghost use Rattle.yaml_block.specs.declared.block.signs.Block.TheVariants.{Literal, Folded};
 
-use crate::block::signs::Block;
+use crate::block::signs::{Block, Sign};
 use std::alloc::Global;
 use yaml_flow::line::{Line, line_at};
 use yaml_scalar::block::{read_folded, read_literal};
@@ -45,13 +45,9 @@ fn read_literal_node<'a, K: Keeper>(
     col: usize,
     out: &mut Sink<'a, K>,
 ) -> Result<Line, Fault>
-    requires border { IsBorder source.now at }
-    requires low { col ≤ at }
-    requires sign { slice_get (text_of source.now) (place_of source.now at) ≡ Some 124 }
-    ensures line { IfOk result (IsLine source.now) }
-    ensures onward { IfOk result (λ line. at ≤ line.start) }
+    requires { StartsScalar source.now col at Literal }
+    ensures ends { IfOk result (EndsLine source.now at) }
     ensures reads { Appends (λ _. block_scalar_rest (text_of source.now) no_props col) (place_of source.now at) (λ line. place_of source.now line.start) (holds_of K.holds) out.old out.new result }
-    ensures after { IfOk result (λ line. AfterLine (text_of source.now) (place_of source.now line.start)) }
     ensures decides { Decides (block_scalar_rest (text_of source.now) no_props col) (AfterScalar (text_of source.now)) (place_of source.now at) Here (λ line. place_of source.now line.start) result }
     ensures placed { IfErr result (IsPlaced source.now) }
 {
@@ -69,13 +65,9 @@ fn read_folded_node<'a, K: Keeper>(
     col: usize,
     out: &mut Sink<'a, K>,
 ) -> Result<Line, Fault>
-    requires border { IsBorder source.now at }
-    requires low { col ≤ at }
-    requires sign { slice_get (text_of source.now) (place_of source.now at) ≡ Some 62 }
-    ensures line { IfOk result (IsLine source.now) }
-    ensures onward { IfOk result (λ line. at ≤ line.start) }
+    requires { StartsScalar source.now col at Folded }
+    ensures ends { IfOk result (EndsLine source.now at) }
     ensures reads { Appends (λ _. block_scalar_rest (text_of source.now) no_props col) (place_of source.now at) (λ line. place_of source.now line.start) (holds_of K.holds) out.old out.new result }
-    ensures after { IfOk result (λ line. AfterLine (text_of source.now) (place_of source.now line.start)) }
     ensures decides { Decides (block_scalar_rest (text_of source.now) no_props col) (AfterScalar (text_of source.now)) (place_of source.now at) Here (λ line. place_of source.now line.start) result }
     ensures placed { IfErr result (IsPlaced source.now) }
 {
@@ -88,24 +80,19 @@ fn read_folded_node<'a, K: Keeper>(
 fn read_bare_scalar<'a, K: Keeper>(
     alloc: Global,
     source: &Chars<'a>,
-    at: usize,
-    block: Block,
+    sign: Sign,
     col: usize,
     out: &mut Sink<'a, K>,
 ) -> Result<Line, Fault>
-    requires border { IsBorder source.now at }
-    requires low { col ≤ at }
-    requires sign { SignIs (text_of source.now) (place_of source.now at) block }
-    ensures line { IfOk result (IsLine source.now) }
-    ensures onward { IfOk result (λ line. at ≤ line.start) }
-    ensures reads { Appends (λ _. block_scalar_rest (text_of source.now) no_props col) (place_of source.now at) (λ line. place_of source.now line.start) (holds_of K.holds) out.old out.new result }
-    ensures after { IfOk result (λ line. AfterLine (text_of source.now) (place_of source.now line.start)) }
-    ensures decides { Decides (block_scalar_rest (text_of source.now) no_props col) (AfterScalar (text_of source.now)) (place_of source.now at) Here (λ line. place_of source.now line.start) result }
+    requires { StartsScalar source.now col sign.at sign.block }
+    ensures ends { IfOk result (EndsLine source.now sign.at) }
+    ensures reads { Appends (λ _. block_scalar_rest (text_of source.now) no_props col) (place_of source.now sign.at) (λ line. place_of source.now line.start) (holds_of K.holds) out.old out.new result }
+    ensures decides { Decides (block_scalar_rest (text_of source.now) no_props col) (AfterScalar (text_of source.now)) (place_of source.now sign.at) Here (λ line. place_of source.now line.start) result }
     ensures placed { IfErr result (IsPlaced source.now) }
 {
-    match block {
-        Block::Literal => read_literal_node(alloc, source, at, col, out),
-        Block::Folded => read_folded_node(alloc, source, at, col, out),
+    match sign.block {
+        Block::Literal => read_literal_node(alloc, source, sign.at, col, out),
+        Block::Folded => read_folded_node(alloc, source, sign.at, col, out),
     }
 }
 
@@ -113,25 +100,20 @@ fn read_bare_scalar<'a, K: Keeper>(
 pub fn read_block_scalar<'a, K: Keeper>(
     alloc: Global,
     source: &Chars<'a>,
-    at: usize,
-    block: Block,
+    sign: Sign,
     properties: Properties<'a>,
     col: usize,
     out: &mut Sink<'a, K>,
 ) -> Result<Line, Fault>
-    requires border { IsBorder source.now at }
-    requires low { col ≤ at }
-    requires sign { SignIs (text_of source.now) (place_of source.now at) block }
-    ensures line { IfOk result (IsLine source.now) }
-    ensures onward { IfOk result (λ line. at ≤ line.start) }
-    ensures reads { Appends (λ _. block_scalar_rest (text_of source.now) (props_of properties.entry) col) (place_of source.now at) (λ line. place_of source.now line.start) (holds_of K.holds) out.old out.new result }
-    ensures after { IfOk result (λ line. AfterLine (text_of source.now) (place_of source.now line.start)) }
-    ensures decides { Decides (block_scalar_rest (text_of source.now) (props_of properties.entry) col) (AfterScalar (text_of source.now)) (place_of source.now at) Here (λ line. place_of source.now line.start) result }
+    requires { StartsScalar source.now col sign.at sign.block }
+    ensures ends { IfOk result (EndsLine source.now sign.at) }
+    ensures reads { Appends (λ _. block_scalar_rest (text_of source.now) (props_of properties.entry) col) (place_of source.now sign.at) (λ line. place_of source.now line.start) (holds_of K.holds) out.old out.new result }
+    ensures decides { Decides (block_scalar_rest (text_of source.now) (props_of properties.entry) col) (AfterScalar (text_of source.now)) (place_of source.now sign.at) Here (λ line. place_of source.now line.start) result }
     ensures placed { IfErr result (IsPlaced source.now) }
 {
     let start = out.mark();
     out.announce(&properties);
-    let line = read_bare_scalar(alloc, source, at, block, col, out)?;
+    let line = read_bare_scalar(alloc, source, sign, col, out)?;
     out.dress(start, properties);
     Ok(line)
 }

@@ -1,5 +1,5 @@
 //! What block nodes begin with.
-ghost use Rattle.std.specs.Prelude.{◌≡◌, ◌≢◌, ◌≤◌, ◌<◌, ◌⊎◌, ℕ, IfSome, IfNone, IfOk, IfErr, Some, None};
+ghost use Rattle.std.specs.Prelude.{◌≡◌, ◌≢◌, ◌≤◌, ◌⊎◌, ℕ, IfSome, IfNone, IfOk, IfErr, None};
 ghost use Rattle.std.specs.Bool.{OnTrue, OnFalse};
 ghost use Rattle.yaml_text.specs.Source.{text_of, place_of, IsBorder};
 ghost use Rattle.yaml_text.specs.EventModel.{context_of};
@@ -12,15 +12,16 @@ ghost use Rattle.yaml_text.specs.LeafAnswer.{IsRefusal};
 ghost use Rattle.yaml_text.specs.Placed.{IsPlaced};
 ghost use Rattle.law_one_reading.specs.Follows.{DashHere};
 ghost use Rattle.yaml_flow.specs.PropertyDecisions.{LineGoesOn};
-ghost use Rattle.yaml_flow.specs.Lines.{IsDash};
-ghost use Rattle.yaml_flow.specs.Keys.{ColonAfter};
+ghost use Rattle.yaml_flow.specs.Lines.{IsDash, IsStretch};
 ghost use Rattle.yaml_sink.specs.PropertyRules.{props_of};
 ghost use Rattle.yaml_block.specs.BlockRules.{least_dash};
 ghost use Rattle.yaml_block.specs.OuterRules.{Follows, MayBear};
-ghost use Rattle.yaml_block.specs.BlockEnds.{SignIs, IsStyleSign, ColonStands, IsNoKey};
+ghost use Rattle.yaml_block.specs.BlockEnds.{ColonStands, IsNoKey};
+ghost use Rattle.yaml_block.specs.BlockCalls.{IsSign, NoSign, IsFirstColon};
 
 use yaml_flow::key::{Fit, key_fit};
 use yaml_flow::line::skip_line_rest;
+use yaml_flow::properties::Head;
 use yaml_sink::properties::Properties;
 use yaml_text::chars::Chars;
 use yaml_text::class::is_ns;
@@ -28,6 +29,14 @@ use yaml_text::context::Ctx;
 use yaml_text::fault::Fault;
 use yaml_text::lines::skip_spaces;
 use yaml_text::places::{accept, next};
+
+/// The first dash of a sequence: the border where it stands, the one after it, and the sequence's column.
+#[derive(Clone, Copy)]
+pub struct Indicator {
+    pub at: usize,
+    pub after: usize,
+    pub column: usize,
+}
 
 /// The border after a dash that begins an entry, if one stands at a border.
 #[inline(never)]
@@ -66,49 +75,50 @@ pub enum Block {
     Folded,
 }
 
-/// The border where content may begin after a node's own properties, from `at` to `end`.
-fn content_start(source: &Chars<'_>, at: usize, end: usize, own: &Properties<'_>) -> Option<usize>
-    requires at { IsBorder source.now at }
-    requires end { IsBorder source.now end }
-    requires order { at ≤ end }
+/// The indicator of a block scalar, and the border where it stands.
+#[derive(Clone, Copy)]
+pub struct Sign {
+    pub at: usize,
+    pub block: Block,
+}
+
+/// The border where content may begin after a node's own properties.
+fn content_start(source: &Chars<'_>, head: &Head<'_>) -> Option<usize>
+    requires { IsStretch source.now head.now.at head.now.end }
     ensures border { IfSome result (λ to. IsBorder source.now to) }
-    ensures onward { IfSome result (λ to. at ≤ to) }
-    ensures follows { IfSome result (λ to. Follows (text_of source.now) (place_of source.now at) (place_of source.now end) (place_of source.now to) (props_of own.now)) }
-    ensures none { IfNone result ((props_of own.now ≢ no_props) × (Stands (text_of source.now) is_space (place_of source.now end) → ⊥)) }
-    ensures furthest { IfSome result (λ to. (props_of own.now ≢ no_props) → Stands (text_of source.now) is_space (place_of source.now to) → ⊥) }
+    ensures onward { IfSome result (λ to. head.now.at ≤ to) }
+    ensures follows { IfSome result (λ to. Follows (text_of source.now) (place_of source.now head.now.at) (place_of source.now head.now.end) (place_of source.now to) (props_of head.now.own)) }
+    ensures none { IfNone result ((props_of head.now.own ≢ no_props) × (Stands (text_of source.now) is_space (place_of source.now head.now.end) → ⊥)) }
+    ensures furthest { IfSome result (λ to. (props_of head.now.own ≢ no_props) → Stands (text_of source.now) is_space (place_of source.now to) → ⊥) }
 {
-    if own.is_none() {
-        return Some(at);
+    if head.own.is_none() {
+        return Some(head.at);
     }
-    let (count, first) = skip_spaces(source, end);
+    let (count, first) = skip_spaces(source, head.end);
     if count == 0 {
         return None;
     }
     Some(first)
 }
 
-/// The block scalar that begins after a node's own properties, if one does, and the border where it begins.
-pub fn block_sign(
-    source: &Chars<'_>,
-    at: usize,
-    end: usize,
-    own: &Properties<'_>,
-) -> Option<(usize, Block)>
-    requires at { IsBorder source.now at }
-    requires end { IsBorder source.now end }
-    requires order { at ≤ end }
-    ensures border { IfSome result (λ r. IsBorder source.now r.0) }
-    ensures onward { IfSome result (λ r. at ≤ r.0) }
-    ensures follows { IfSome result (λ r. Follows (text_of source.now) (place_of source.now at) (place_of source.now end) (place_of source.now r.0) (props_of own.now)) }
-    ensures sign { IfSome result (λ r. SignIs (text_of source.now) (place_of source.now r.0) r.1) }
-    ensures none { IfNone result ((n : ℕ) → Follows (text_of source.now) (place_of source.now at) (place_of source.now end) n (props_of own.now) → IsStyleSign (text_of source.now) n → ⊥) }
+/// What the block scalar begins with that follows a node's own properties, if one does.
+pub fn block_sign(source: &Chars<'_>, head: &Head<'_>) -> Option<Sign>
+    requires { IsStretch source.now head.now.at head.now.end }
+    ensures sign { IfSome result (IsSign source.now head.now) }
+    ensures none { IfNone result (NoSign source.now head.now) }
 {
-    match content_start(source, at, end, own) {
+    match content_start(source, head) {
         None => None,
         Some(first) => match accept(source, first, '|') {
-            Some(_) => Some((first, Block::Literal)),
+            Some(_) => Some(Sign {
+                at: first,
+                block: Block::Literal,
+            }),
             None => match accept(source, first, '>') {
-                Some(_) => Some((first, Block::Folded)),
+                Some(_) => Some(Sign {
+                    at: first,
+                    block: Block::Folded,
+                }),
                 None => None,
             },
         },
@@ -123,13 +133,8 @@ pub fn first_colon(
     end: usize,
     column: Option<usize>,
 ) -> Result<Option<(usize, usize)>, Fault>
-    requires at { IsBorder source.now at }
-    requires end { IsBorder source.now end }
-    requires onward { at ≤ end }
-    ensures some { IfOk result (λ found. IfSome found (λ r. column ≡ Some r.0)) }
-    ensures border { IfOk result (λ found. IfSome found (λ r. IsBorder source.now r.1)) }
-    ensures further { IfOk result (λ found. IfSome found (λ r. end < r.1)) }
-    ensures colon { IfOk result (λ found. IfSome found (λ r. ColonAfter (text_of source.now) (place_of source.now at) (place_of source.now end) (place_of source.now r.1))) }
+    requires { IsStretch source.now at end }
+    ensures found { IfOk result (λ found. IfSome found (λ r. IsFirstColon source.now at end column r.0 r.1)) }
     ensures none { IfOk result (λ found. IfNone found ((column ≡ None) ⊎ IsNoKey (text_of source.now) (place_of source.now at) (place_of source.now end))) }
     ensures err { IfErr result IsRefusal }
     ensures long { IfErr result (λ _. ColonStands (text_of source.now) (place_of source.now end) × IsNoKey (text_of source.now) (place_of source.now at) (place_of source.now end)) }

@@ -1,30 +1,18 @@
 //! What stands after a colon or a dash, on its line or below (YAML 1.2.2, 8.2).
-ghost use Rattle.std.specs.Prelude.{◌≡◌, ◌≤◌, ◌<◌, ◌⊎◌, IfOk, IfErr, None};
-ghost use Rattle.yaml_text.specs.Lines.{AfterLine, Inside};
-ghost use Rattle.yaml_text.specs.Source.{text_of, place_of, IsBorder};
-ghost use Rattle.yaml_text.specs.EventModel.{context_of};
-ghost use Rattle.yaml_definitions.specs.grammar.Separation.{flow_out, s-l-comments as s_l_comments};
-ghost use Rattle.yaml_definitions.specs.grammar.Nodes.{wide};
-ghost use Rattle.yaml_scalar.specs.BlockModel.{column};
-ghost use Rattle.yaml_mark.specs.HandlesModel.{handles_of};
+ghost use Rattle.std.specs.Prelude.{IfOk, IfErr, None};
 ghost use Rattle.yaml_text.specs.Placed.{IsPlaced};
-ghost use Rattle.law_going_on.specs.GoingOn.{Here};
-ghost use Rattle.yaml_flow.specs.NodeAnswer.{Appends, Decides};
 ghost use Rattle.yaml_sink.specs.SinkModel.{holds_of};
-ghost use Rattle.yaml_flow.specs.Lines.{IsLine, IsBlock};
-ghost use Rattle.yaml_sink.specs.PropertyRules.{props_of, SomeProperties};
-ghost use Rattle.yaml_block.specs.BlockRules.{node_rest, line_rest, value_rest, entry_rest};
-ghost use Rattle.yaml_block.specs.OuterRules.{Above};
-ghost use Rattle.yaml_block.specs.BlockEnds.{AfterNode, AfterEntry};
+ghost use Rattle.yaml_block.specs.BlockCalls.{StartsValue, StartsInside, StartsBelow, StartsUnder, EndsLine, value_rule, entry_rule, line_rule, node_rule, ReadsLine, DecidesNode, DecidesEntry};
 
 use crate::block::collections::read_sequence;
-use crate::block::nodes::read_node;
+use crate::block::nodes::{Setting, read_node};
 use crate::block::scalars::{push_lone, push_nothing};
-use crate::block::signs::{dash, sequence_column};
+use crate::block::signs::{Indicator, dash, sequence_column};
 use crate::block::words::read_word;
 use std::alloc::Global;
+use yaml_flow::level::Level;
 use yaml_flow::line::{Line, has_content, line_at, skip_line_rest};
-use yaml_mark::handles::Handles;
+use yaml_flow::properties::Head;
 use yaml_mark::starts::begins_word;
 use yaml_sink::properties::Properties;
 use yaml_sink::sink::{Keeper, Sink};
@@ -40,27 +28,19 @@ pub fn read_value<'a, K: Keeper>(
     alloc: Global,
     source: &Chars<'a>,
     at: usize,
-    col: usize,
-    context: Ctx,
-    room: u32,
-    handles: Option<&Handles<'a>>,
+    level: &Level<'_, 'a>,
     out: &mut Sink<'a, K>,
 ) -> Result<Line, Fault>
-    requires border { IsBorder source.now at }
-    requires low { col ≤ at }
-    requires block { IsBlock (context_of context) }
-    requires inside { Inside (text_of source.now) (place_of source.now at) ⊎ (col ≡ 0) }
-    ensures line { IfOk result (IsLine source.now) }
-    ensures onward { IfOk result (λ line. at ≤ line.start) }
-    ensures reads { Appends (λ _. value_rest (text_of source.now) wide (handles_of handles.entry) room col (context_of context)) (place_of source.now at) (λ line. place_of source.now line.start) (holds_of K.holds) out.old out.new result }
-    ensures after { IfOk result (λ line. AfterLine (text_of source.now) (place_of source.now line.start)) }
-    ensures decides { Decides (value_rest (text_of source.now) wide (handles_of handles.entry) room col (context_of context)) (AfterNode (text_of source.now) col (context_of context)) (place_of source.now at) Here (λ line. place_of source.now line.start) result }
+    requires { StartsValue source.now level.now at }
+    ensures ends { IfOk result (EndsLine source.now at) }
+    ensures reads { ReadsLine value_rule source.now level.now at (holds_of K.holds) out.old out.new result }
+    ensures decides { DecidesNode source.now level.now at value_rule result }
     ensures placed { IfErr result (IsPlaced source.now) }
 {
     match skip_line_rest(source, at) {
         Some(start) => {
             let line = line_at(source, start);
-            read_below(alloc, source, line, col, context, room, handles, out)
+            read_below(alloc, source, line, level, out)
         }
         None => {
             let (count, first) = skip_spaces(source, at);
@@ -68,50 +48,45 @@ pub fn read_value<'a, K: Keeper>(
                 return Err(unusable(source, first));
             }
             if begins_word(source, first) {
-                return read_word(alloc, source, first, col, context, room, handles, out);
+                return read_word(alloc, source, first, level, out);
             }
             let outer = Properties::none();
-            read_node(
-                alloc, source, first, first, outer, col, context, None, room, handles, out,
-            )
+            let setting = Setting {
+                from: first,
+                outer,
+                column: None,
+            };
+            read_node(alloc, source, first, setting, level, out)
         }
     }
 }
 
-/// What stands after a sequence entry's dash in this column (`s-l+block-indented`, 8.2.1).
+/// What stands after the dash of an entry of a sequence in this column (`s-l+block-indented`, 8.2.1).
 #[cycle(blocks)]
 pub fn read_indented<'a, K: Keeper>(
     alloc: Global,
     source: &Chars<'a>,
     at: usize,
     column: usize,
-    room: u32,
-    handles: Option<&Handles<'a>>,
+    level: &Level<'_, 'a>,
     out: &mut Sink<'a, K>,
 ) -> Result<Line, Fault>
-    requires border { IsBorder source.now at }
-    requires low { column < at }
-    requires inside { Inside (text_of source.now) (place_of source.now at) }
-    ensures line { IfOk result (IsLine source.now) }
-    ensures onward { IfOk result (λ line. at ≤ line.start) }
-    ensures reads { Appends (λ _. entry_rest (text_of source.now) wide (handles_of handles.entry) room column) (place_of source.now at) (λ line. place_of source.now line.start) (holds_of K.holds) out.old out.new result }
-    ensures after { IfOk result (λ line. AfterLine (text_of source.now) (place_of source.now line.start)) }
-    ensures decides { Decides (entry_rest (text_of source.now) wide (handles_of handles.entry) room column) (AfterEntry (text_of source.now) column) (place_of source.now at) Here (λ line. place_of source.now line.start) result }
+    requires { StartsInside source.now level.now column at }
+    ensures ends { IfOk result (EndsLine source.now at) }
+    ensures reads { ReadsLine (entry_rule column) source.now level.now at (holds_of K.holds) out.old out.new result }
+    ensures decides { DecidesEntry source.now level.now at column result }
     ensures placed { IfErr result (IsPlaced source.now) }
 {
+    let inside = Level {
+        least: column + 1,
+        context: Ctx::BlockIn,
+        room: level.room - 1,
+        ..*level
+    };
     match skip_line_rest(source, at) {
         Some(start) => {
             let line = line_at(source, start);
-            read_below(
-                alloc,
-                source,
-                line,
-                column + 1,
-                Ctx::BlockIn,
-                room,
-                handles,
-                out,
-            )
+            read_below(alloc, source, line, &inside, out)
         }
         None => {
             let (count, first) = skip_spaces(source, at);
@@ -122,17 +97,20 @@ pub fn read_indented<'a, K: Keeper>(
             let outer = Properties::none();
             match dash(source, first) {
                 Some(after) => {
-                    read_sequence(
-                        alloc, source, first, after, inner, outer, room, handles, out,
-                    )
+                    let indicator = Indicator {
+                        at: first,
+                        after,
+                        column: inner,
+                    };
+                    read_sequence(alloc, source, indicator, outer, &inside, out)
                 }
                 None => {
-                    let context = Ctx::BlockIn;
-                    let col = column + 1;
-                    let inner = Some(inner);
-                    read_node(
-                        alloc, source, first, first, outer, col, context, inner, room, handles, out,
-                    )
+                    let setting = Setting {
+                        from: first,
+                        outer,
+                        column: Some(inner),
+                    };
+                    read_node(alloc, source, first, setting, &inside, out)
                 }
             }
         }
@@ -146,21 +124,13 @@ pub fn read_below<'a, K: Keeper>(
     alloc: Global,
     source: &Chars<'a>,
     line: Line,
-    col: usize,
-    context: Ctx,
-    room: u32,
-    handles: Option<&Handles<'a>>,
+    level: &Level<'_, 'a>,
     out: &mut Sink<'a, K>,
 ) -> Result<Line, Fault>
-    requires line { IsLine source.now line }
-    requires low { col ≤ line.start }
-    requires block { IsBlock (context_of context) }
-    requires after { AfterLine (text_of source.now) (place_of source.now line.start) }
-    ensures line { IfOk result (IsLine source.now) }
-    ensures onward { IfOk result (λ next. line.start ≤ next.start) }
-    ensures reads { Appends (λ _. line_rest (text_of source.now) wide (handles_of handles.entry) room col (context_of context)) (place_of source.now line.start) (λ line. place_of source.now line.start) (holds_of K.holds) out.old out.new result }
-    ensures after { IfOk result (λ line. AfterLine (text_of source.now) (place_of source.now line.start)) }
-    ensures decides { Decides (line_rest (text_of source.now) wide (handles_of handles.entry) room col (context_of context)) (AfterNode (text_of source.now) col (context_of context)) (place_of source.now line.start) Here (λ line. place_of source.now line.start) result }
+    requires { StartsBelow source.now level.now line }
+    ensures ends { IfOk result (EndsLine source.now line.start) }
+    ensures reads { ReadsLine line_rule source.now level.now line.start (holds_of K.holds) out.old out.new result }
+    ensures decides { DecidesNode source.now level.now line.start line_rule result }
     ensures placed { IfErr result (IsPlaced source.now) }
 {
     if !has_content(source, line) {
@@ -171,66 +141,54 @@ pub fn read_below<'a, K: Keeper>(
     let outer = Properties::none();
     match dash(source, first) {
         Some(after) => {
-            if line.column < sequence_column(col, context) {
+            if line.column < sequence_column(level.least, level.context) {
                 push_nothing(line.start, out)?;
                 return Ok(line);
             }
-            read_sequence(
-                alloc,
-                source,
-                first,
+            let indicator = Indicator {
+                at: first,
                 after,
-                line.column,
-                outer,
-                room,
-                handles,
-                out,
-            )
+                column: line.column,
+            };
+            read_sequence(alloc, source, indicator, outer, level, out)
         }
         None => {
-            if line.column < col {
+            if line.column < level.least {
                 push_nothing(line.start, out)?;
                 return Ok(line);
             }
             let column = Some(line.column);
-            read_node(
-                alloc, source, first, first, outer, col, context, column, room, handles, out,
-            )
+            let setting = Setting {
+                from: first,
+                outer,
+                column,
+            };
+            read_node(alloc, source, first, setting, level, out)
         }
     }
 }
 
-/// A node on a line below its properties, which stand from `from` to `end`, or none where the line is not indented enough.
+/// A node on a line below its properties, or none where the line is not indented enough.
 #[cycle(blocks)]
 pub fn read_under<'a, K: Keeper>(
     alloc: Global,
     source: &Chars<'a>,
     line: Line,
-    from: usize,
-    end: usize,
-    outer: Properties<'a>,
-    col: usize,
-    context: Ctx,
-    room: u32,
-    handles: Option<&Handles<'a>>,
+    above: Head<'a>,
+    level: &Level<'_, 'a>,
     out: &mut Sink<'a, K>,
 ) -> Result<Line, Fault>
-    requires line { IsLine source.now line }
-    requires border { IsBorder source.now from }
-    requires low { col ≤ from }
-    requires order { from ≤ line.start }
-    requires block { IsBlock (context_of context) }
-    requires marks { SomeProperties (text_of source.now) (handles_of handles) col flow_out (place_of source.now from) (place_of source.now end) (props_of outer) }
-    requires comments { s_l_comments (text_of source.now) (place_of source.now end) (place_of source.now line.start) }
-    requires after { AfterLine (text_of source.now) (place_of source.now line.start) }
-    requires above { Above (text_of source.now) (handles_of handles) col (place_of source.now from) (place_of source.now end) (props_of outer) }
-    ensures line { IfOk result (IsLine source.now) }
-    ensures onward { IfOk result (λ next. from ≤ next.start) }
-    ensures reads { Appends (λ _. node_rest (text_of source.now) wide (handles_of handles.entry) room col (context_of context) None) (place_of source.now from) (λ line. place_of source.now line.start) (holds_of K.holds) out.old out.new result }
-    ensures after { IfOk result (λ line. AfterLine (text_of source.now) (place_of source.now line.start)) }
-    ensures decides { Decides (node_rest (text_of source.now) wide (handles_of handles.entry) room col (context_of context) None) (AfterNode (text_of source.now) col (context_of context)) (place_of source.now from) Here (λ line. place_of source.now line.start) result }
+    requires { StartsUnder source.now level.now line above }
+    ensures ends { IfOk result (EndsLine source.now above.entry.at) }
+    ensures reads { ReadsLine (node_rule None) source.now level.now above.entry.at (holds_of K.holds) out.old out.new result }
+    ensures decides { DecidesNode source.now level.now above.entry.at (node_rule None) result }
     ensures placed { IfErr result (IsPlaced source.now) }
 {
+    let Head {
+        at: from,
+        end,
+        own: outer,
+    } = above;
     if !has_content(source, line) {
         push_lone(outer, end, out)?;
         return Ok(line);
@@ -238,31 +196,28 @@ pub fn read_under<'a, K: Keeper>(
     let first = line.first;
     match dash(source, first) {
         Some(after) => {
-            if line.column < sequence_column(col, context) {
+            if line.column < sequence_column(level.least, level.context) {
                 push_lone(outer, end, out)?;
                 return Ok(line);
             }
-            read_sequence(
-                alloc,
-                source,
-                first,
+            let indicator = Indicator {
+                at: first,
                 after,
-                line.column,
-                outer,
-                room,
-                handles,
-                out,
-            )
+                column: line.column,
+            };
+            read_sequence(alloc, source, indicator, outer, level, out)
         }
         None => {
-            if line.column < col {
+            if line.column < level.least {
                 push_lone(outer, end, out)?;
                 return Ok(line);
             }
-            let column = Some(line.column);
-            read_node(
-                alloc, source, first, from, outer, col, context, column, room, handles, out,
-            )
+            let setting = Setting {
+                from,
+                outer,
+                column: Some(line.column),
+            };
+            read_node(alloc, source, first, setting, level, out)
         }
     }
 }

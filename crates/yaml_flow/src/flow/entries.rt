@@ -1,32 +1,34 @@
 //! Entries of flow mappings (YAML 1.2.2, 7.4.2).
-ghost use Rattle.std.specs.Prelude.{◌≡◌, ◌≤◌, ◌+◌, ◌⊎◌, ℕ, IfOk, IfErr, Some, slice_get};
-ghost use Rattle.yaml_text.specs.Place.{Steps};
-ghost use Rattle.yaml_text.specs.Source.{bytes_of, text_of, place_of, IsBorder};
+ghost use Rattle.std.specs.Prelude.{◌⊎◌, IfOk, IfErr};
+ghost use Rattle.yaml_text.specs.Source.{text_of, place_of};
 ghost use Rattle.yaml_text.specs.EventModel.{context_of};
-ghost use Rattle.yaml_definitions.specs.grammar.Separation.{inner, flow_in};
-ghost use Rattle.yaml_definitions.specs.grammar.Nodes.{wide};
 ghost use Rattle.yaml_text.specs.Lines.{Inside};
 ghost use Rattle.law_one_reading.specs.Follows.{Closes};
-ghost use Rattle.yaml_mark.specs.HandlesModel.{handles_of};
 ghost use Rattle.yaml_flow.specs.declared.flow.Kind.TheVariants.{Yaml};
-ghost use Rattle.yaml_flow.specs.NodeAnswer.{Appends};
 ghost use Rattle.yaml_text.specs.Placed.{IsPlaced};
 ghost use Rattle.yaml_sink.specs.SinkModel.{holds_of};
-ghost use Rattle.yaml_flow.specs.FlowDecisions.{DecidesPart};
-ghost use Rattle.yaml_flow.specs.FlowRules.{from_room, entry_at, keyed_at, asked_at, value_at, MayFollowColon, SignAt, IsInner};
+ghost use Rattle.yaml_flow.specs.FlowRules.{SignAt};
+ghost use Rattle.yaml_flow.specs.Levels.{StartsPart, FollowsAsked, StartsValue, Ends, entry_rule, keyed_rule, asked_rule, value_rule, ReadsPart, DecidesPartAt};
 
 use crate::flow::Kind;
 use crate::flow::nodes::read_flow_node;
 use crate::flow::signs::{ends_value, is_parted, question_sign, value_sign};
+use crate::level::Level;
 use crate::line::separation;
 use std::alloc::Global;
-use yaml_mark::handles::Handles;
 use yaml_sink::push::push_empty;
 use yaml_sink::sink::{Keeper, Sink};
 use yaml_text::chars::Chars;
-use yaml_text::context::Ctx;
 use yaml_text::fault::Fault;
 use yaml_text::lines::unusable;
+
+/// The colon that makes a node a key: where it stands, the border after it, and the kind of the key.
+#[derive(Clone, Copy)]
+pub struct Colon {
+    pub at: usize,
+    pub after: usize,
+    pub kind: Kind,
+}
 
 /// The value after a key's colon (7.4.2).
 #[inline(always)]
@@ -34,36 +36,27 @@ use yaml_text::lines::unusable;
 pub fn read_value<'a, K: Keeper>(
     alloc: Global,
     source: &Chars<'a>,
-    colon: usize,
-    after: usize,
-    kind: Kind,
-    least: usize,
-    context: Ctx,
-    room: u32,
-    handles: Option<&Handles<'a>>,
+    colon: Colon,
+    level: &Level<'_, 'a>,
     out: &mut Sink<'a, K>,
 ) -> Result<(usize, u32), Fault>
-    requires colon { Steps (bytes_of source.now) colon 58 after }
-    requires sign { MayFollowColon kind (context_of context) (text_of source.now) (place_of source.now after) }
-    requires low { least ≤ after }
-    ensures border { IfOk result (λ r. IsBorder source.now r.0) }
-    ensures onward { IfOk result (λ r. after ≤ r.0) }
-    ensures within { IfOk result (λ r. r.1 ≤ room) }
-    ensures reads { Appends (λ r. from_room r.1 (λ room. value_at (text_of source.now) wide (handles_of handles.entry) kind room least (context_of context))) (place_of source.now colon) (λ r. place_of source.now r.0) (holds_of K.holds) out.old out.new result }
-    ensures ends { IfOk result (λ r. Inside (text_of source.now) (place_of source.now r.0) ⊎ Closes (text_of source.now) (place_of source.now r.0)) }
-    ensures decides { context_of context ≡ flow_in → DecidesPart (text_of source.now) least (value_at (text_of source.now) wide (handles_of handles.entry) kind room least flow_in) (place_of source.now colon) (λ r. place_of source.now r.0) result }
+    requires { StartsValue source.now level.now colon }
+    ensures ends { IfOk result (λ r. Ends source.now level.now colon.after r.0 r.1) }
+    ensures reads { ReadsPart (value_rule colon.kind) source.now level.now colon.at (holds_of K.holds) out.old out.new result }
+    ensures next { IfOk result (λ r. Inside (text_of source.now) (place_of source.now r.0) ⊎ Closes (text_of source.now) (place_of source.now r.0)) }
+    ensures decides { DecidesPartAt source.now level.now colon.at (value_rule colon.kind) result }
     ensures placed { IfErr result (IsPlaced source.now) }
 {
-    let start = separation(source, after, least, context)?;
-    if !is_parted(kind, after, start) {
-        push_empty(out, after)?;
-        return Ok((after, 0));
+    let start = separation(source, colon.after, level.least, level.context)?;
+    if !is_parted(colon.kind, colon.after, start) {
+        push_empty(out, colon.after)?;
+        return Ok((colon.after, 0));
     }
     if ends_value(source, start) {
-        push_empty(out, after)?;
-        return Ok((after, 0));
+        push_empty(out, colon.after)?;
+        return Ok((colon.after, 0));
     }
-    let value = read_flow_node(alloc, source, start, least, context, room, handles, out)?;
+    let value = read_flow_node(alloc, source, start, level, out)?;
     Ok((value.end, value.deep))
 }
 
@@ -73,26 +66,19 @@ pub fn read_entry<'a, K: Keeper>(
     alloc: Global,
     source: &Chars<'a>,
     at: usize,
-    least: usize,
-    context: Ctx,
-    room: u32,
-    handles: Option<&Handles<'a>>,
+    level: &Level<'_, 'a>,
     out: &mut Sink<'a, K>,
 ) -> Result<(usize, u32), Fault>
-    requires border { IsBorder source.now at }
-    requires low { least ≤ at }
-    requires inner { IsInner (context_of context) }
-    ensures border { IfOk result (λ r. IsBorder source.now r.0) }
-    ensures onward { IfOk result (λ r. at ≤ r.0) }
-    ensures within { IfOk result (λ r. r.1 ≤ room) }
-    ensures reads { Appends (λ r. from_room r.1 (λ room. entry_at (text_of source.now) wide (handles_of handles.entry) room least (context_of context))) (place_of source.now at) (λ r. place_of source.now r.0) (holds_of K.holds) out.old out.new result }
-    ensures ends { IfOk result (λ r. Inside (text_of source.now) (place_of source.now r.0) ⊎ Closes (text_of source.now) (place_of source.now r.0)) }
-    ensures decides { context_of context ≡ flow_in → DecidesPart (text_of source.now) least (entry_at (text_of source.now) wide (handles_of handles.entry) room least flow_in) (place_of source.now at) (λ r. place_of source.now r.0) result }
+    requires { StartsPart source.now level.now at }
+    ensures ends { IfOk result (λ r. Ends source.now level.now at r.0 r.1) }
+    ensures reads { ReadsPart entry_rule source.now level.now at (holds_of K.holds) out.old out.new result }
+    ensures next { IfOk result (λ r. Inside (text_of source.now) (place_of source.now r.0) ⊎ Closes (text_of source.now) (place_of source.now r.0)) }
+    ensures decides { DecidesPartAt source.now level.now at entry_rule result }
     ensures placed { IfErr result (IsPlaced source.now) }
 {
-    match question_sign(source, at, context) {
-        None => read_keyed(alloc, source, at, least, context, room, handles, out),
-        Some(after) => read_asked(alloc, source, after, least, context, room, handles, out),
+    match question_sign(source, at, level.context) {
+        None => read_keyed(alloc, source, at, level, out),
+        Some(after) => read_asked(alloc, source, after, level, out),
     }
 }
 
@@ -103,25 +89,17 @@ pub fn read_asked<'a, K: Keeper>(
     alloc: Global,
     source: &Chars<'a>,
     after: usize,
-    least: usize,
-    context: Ctx,
-    room: u32,
-    handles: Option<&Handles<'a>>,
+    level: &Level<'_, 'a>,
     out: &mut Sink<'a, K>,
 ) -> Result<(usize, u32), Fault>
-    requires border { IsBorder source.now after }
-    requires low { least ≤ after }
-    requires inner { IsInner (context_of context) }
-    requires mark { (i : ℕ) × (place_of source.now after ≡ i + 1) × (slice_get (text_of source.now) i ≡ Some 63) }
-    ensures border { IfOk result (λ r. IsBorder source.now r.0) }
-    ensures onward { IfOk result (λ r. after ≤ r.0) }
-    ensures within { IfOk result (λ r. r.1 ≤ room) }
-    ensures reads { Appends (λ r. from_room r.1 (λ room. asked_at (text_of source.now) wide (handles_of handles.entry) room least (context_of context))) (place_of source.now after) (λ r. place_of source.now r.0) (holds_of K.holds) out.old out.new result }
-    ensures ends { IfOk result (λ r. Inside (text_of source.now) (place_of source.now r.0) ⊎ Closes (text_of source.now) (place_of source.now r.0)) }
-    ensures decides { context_of context ≡ flow_in → DecidesPart (text_of source.now) least (asked_at (text_of source.now) wide (handles_of handles.entry) room least flow_in) (place_of source.now after) (λ r. place_of source.now r.0) result }
+    requires { FollowsAsked source.now level.now after }
+    ensures ends { IfOk result (λ r. Ends source.now level.now after r.0 r.1) }
+    ensures reads { ReadsPart asked_rule source.now level.now after (holds_of K.holds) out.old out.new result }
+    ensures next { IfOk result (λ r. Inside (text_of source.now) (place_of source.now r.0) ⊎ Closes (text_of source.now) (place_of source.now r.0)) }
+    ensures decides { DecidesPartAt source.now level.now after asked_rule result }
     ensures placed { IfErr result (IsPlaced source.now) }
 {
-    let start = separation(source, after, least, context)?;
+    let start = separation(source, after, level.least, level.context)?;
     if start == after {
         return Err(unusable(source, after));
     }
@@ -130,7 +108,7 @@ pub fn read_asked<'a, K: Keeper>(
         push_empty(out, start)?;
         return Ok((start, 0));
     }
-    read_keyed(alloc, source, start, least, context, room, handles, out)
+    read_keyed(alloc, source, start, level, out)
 }
 
 /// An entry of a flow mapping without `?`: a key, perhaps an empty one, and its value or none (7.4.2).
@@ -140,39 +118,22 @@ fn read_keyed<'a, K: Keeper>(
     alloc: Global,
     source: &Chars<'a>,
     at: usize,
-    least: usize,
-    context: Ctx,
-    room: u32,
-    handles: Option<&Handles<'a>>,
+    level: &Level<'_, 'a>,
     out: &mut Sink<'a, K>,
 ) -> Result<(usize, u32), Fault>
-    requires border { IsBorder source.now at }
-    requires low { least ≤ at }
-    requires inner { IsInner (context_of context) }
-    ensures border { IfOk result (λ r. IsBorder source.now r.0) }
-    ensures onward { IfOk result (λ r. at ≤ r.0) }
-    ensures within { IfOk result (λ r. r.1 ≤ room) }
-    ensures reads { Appends (λ r. from_room r.1 (λ room. keyed_at (text_of source.now) wide (handles_of handles.entry) room least (context_of context))) (place_of source.now at) (λ r. place_of source.now r.0) (holds_of K.holds) out.old out.new result }
-    ensures ends { IfOk result (λ r. Inside (text_of source.now) (place_of source.now r.0) ⊎ Closes (text_of source.now) (place_of source.now r.0)) }
-    ensures decides { context_of context ≡ flow_in → DecidesPart (text_of source.now) least (keyed_at (text_of source.now) wide (handles_of handles.entry) room least flow_in) (place_of source.now at) (λ r. place_of source.now r.0) result }
+    requires { StartsPart source.now level.now at }
+    ensures ends { IfOk result (λ r. Ends source.now level.now at r.0 r.1) }
+    ensures reads { ReadsPart keyed_rule source.now level.now at (holds_of K.holds) out.old out.new result }
+    ensures next { IfOk result (λ r. Inside (text_of source.now) (place_of source.now r.0) ⊎ Closes (text_of source.now) (place_of source.now r.0)) }
+    ensures decides { DecidesPartAt source.now level.now at keyed_rule result }
     ensures placed { IfErr result (IsPlaced source.now) }
 {
-    match value_sign(source, at, Kind::Yaml, context) {
-        None => read_key_entry(alloc, source, at, least, context, room, handles, out),
+    match value_sign(source, at, Kind::Yaml, level.context) {
+        None => read_key_entry(alloc, source, at, level, out),
         Some(after) => {
             push_empty(out, at)?;
-            read_value(
-                alloc,
-                source,
-                at,
-                after,
-                Kind::Yaml,
-                least,
-                context,
-                room,
-                handles,
-                out,
-            )
+            let kind = Kind::Yaml;
+            read_value(alloc, source, Colon { at, after, kind }, level, out)
         }
     }
 }
@@ -184,35 +145,31 @@ fn read_key_entry<'a, K: Keeper>(
     alloc: Global,
     source: &Chars<'a>,
     at: usize,
-    least: usize,
-    context: Ctx,
-    room: u32,
-    handles: Option<&Handles<'a>>,
+    level: &Level<'_, 'a>,
     out: &mut Sink<'a, K>,
 ) -> Result<(usize, u32), Fault>
-    requires border { IsBorder source.now at }
-    requires low { least ≤ at }
-    requires inner { IsInner (context_of context) }
-    requires no_colon { SignAt Yaml (context_of context) (text_of source.now) (place_of source.now at) → ⊥ }
-    ensures border { IfOk result (λ r. IsBorder source.now r.0) }
-    ensures onward { IfOk result (λ r. at ≤ r.0) }
-    ensures within { IfOk result (λ r. r.1 ≤ room) }
-    ensures reads { Appends (λ r. from_room r.1 (λ room. keyed_at (text_of source.now) wide (handles_of handles.entry) room least (context_of context))) (place_of source.now at) (λ r. place_of source.now r.0) (holds_of K.holds) out.old out.new result }
-    ensures ends { IfOk result (λ r. Inside (text_of source.now) (place_of source.now r.0) ⊎ Closes (text_of source.now) (place_of source.now r.0)) }
-    ensures decides { context_of context ≡ flow_in → DecidesPart (text_of source.now) least (keyed_at (text_of source.now) wide (handles_of handles.entry) room least flow_in) (place_of source.now at) (λ r. place_of source.now r.0) result }
+    requires starts { StartsPart source.now level.now at }
+    requires no_colon { SignAt Yaml (context_of level.now.context) (text_of source.now) (place_of source.now at) → ⊥ }
+    ensures ends { IfOk result (λ r. Ends source.now level.now at r.0 r.1) }
+    ensures reads { ReadsPart keyed_rule source.now level.now at (holds_of K.holds) out.old out.new result }
+    ensures next { IfOk result (λ r. Inside (text_of source.now) (place_of source.now r.0) ⊎ Closes (text_of source.now) (place_of source.now r.0)) }
+    ensures decides { DecidesPartAt source.now level.now at keyed_rule result }
     ensures placed { IfErr result (IsPlaced source.now) }
 {
-    let key = read_flow_node(alloc, source, at, least, context, room, handles, out)?;
-    let colon = separation(source, key.end, least, context)?;
-    match value_sign(source, colon, key.kind, context) {
+    let key = read_flow_node(alloc, source, at, level, out)?;
+    let colon = separation(source, key.end, level.least, level.context)?;
+    match value_sign(source, colon, key.kind, level.context) {
         None => {
             push_empty(out, key.end)?;
             Ok((key.end, key.deep))
         }
         Some(after) => {
-            let (end, deep) = read_value(
-                alloc, source, colon, after, key.kind, least, context, room, handles, out,
-            )?;
+            let sign = Colon {
+                at: colon,
+                after,
+                kind: key.kind,
+            };
+            let (end, deep) = read_value(alloc, source, sign, level, out)?;
             Ok((end, key.deep.max(deep)))
         }
     }

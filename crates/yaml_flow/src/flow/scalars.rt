@@ -8,22 +8,20 @@ ghost use Rattle.yaml_text.specs.EventModel.{context_of, style_of};
 ghost use Rattle.yaml_definitions.specs.grammar.Rules.{given, gives, seen};
 ghost use Rattle.yaml_definitions.specs.grammar.Tags as tags;
 ghost use Rattle.yaml_definitions.specs.grammar.Events.{alias_node, e-scalar as empty, no_props};
-ghost use Rattle.yaml_definitions.specs.grammar.Nodes.{wide};
 ghost use Rattle.yaml_text.specs.declared.fault.Fault.TheVariants.{OutOfMemory};
 ghost use Rattle.law_going_on.specs.GoingOn.{Here};
-ghost use Rattle.yaml_mark.specs.HandlesModel.{handles_of};
 ghost use Rattle.yaml_flow.specs.declared.flow.Kind.TheVariants.{Yaml, Json};
-ghost use Rattle.yaml_flow.specs.NodeAnswer.{Appends, Perhaps, Decides};
+ghost use Rattle.yaml_flow.specs.NodeAnswer.{Appends, Decides};
 ghost use Rattle.yaml_text.specs.LeafAnswer.{Answers, Only};
 ghost use Rattle.yaml_text.specs.Placed.{IsPlaced};
 ghost use Rattle.yaml_sink.specs.SinkModel.{holds_of};
-ghost use Rattle.yaml_flow.specs.FlowDecisions.{DecidesPlain};
-ghost use Rattle.yaml_flow.specs.FlowRules.{content_from, quoted, quoted_style};
+ghost use Rattle.yaml_flow.specs.FlowRules.{quoted, quoted_style};
+ghost use Rattle.yaml_flow.specs.Levels.{StartsNode, EndsAlone, content_rule, ReadsNode, FindsNode, DecidesPlainAt};
 
 use crate::flow::{FlowNode, Kind};
+use crate::level::Level;
 use std::alloc::Global;
 use std::borrow::CowStr;
-use yaml_mark::handles::Handles;
 use yaml_mark::name::read_name;
 use yaml_scalar::double::read_double;
 use yaml_scalar::plain::read_plain;
@@ -31,7 +29,6 @@ use yaml_scalar::single::read_single;
 use yaml_sink::push::{push_empty, push_scalar, put_scalar};
 use yaml_sink::sink::{Keeper, Sink};
 use yaml_text::chars::Chars;
-use yaml_text::context::Ctx;
 use yaml_text::event::{Event, Style};
 use yaml_text::fault::Fault;
 
@@ -53,9 +50,7 @@ pub fn read_alias<'a, K: Keeper>(
 ) -> Result<FlowNode, Fault>
     requires border { IsBorder source.now at }
     requires sign { slice_get (text_of source.now) (place_of source.now at) ≡ Some 42 }
-    ensures border { IfOk result (λ node. IsBorder source.now node.end) }
-    ensures onward { IfOk result (λ node. at < node.end) }
-    ensures within { IfOk result (λ node. node.deep ≡ 0) }
+    ensures ends { IfOk result (EndsAlone source.now at) }
     ensures kind { IfOk result (λ node. node.kind ≡ Yaml) }
     ensures reads { Appends (λ node. given (node.kind ≡ Yaml) (seen (λ x. alias_node x ∷ []) (tags.c-ns-alias-node (text_of source.now)))) (place_of source.now at) (λ node. place_of source.now node.end) (holds_of K.holds) out.old out.new result }
     ensures decides { Decides (tags.c-ns-alias-node (text_of source.now)) Here (place_of source.now at) Here (λ node. place_of source.now node.end) result }
@@ -76,21 +71,16 @@ pub fn read_plain_node<'a, K: Keeper>(
     alloc: Global,
     source: &Chars<'a>,
     at: usize,
-    least: usize,
-    context: Ctx,
-    handles: Option<&Handles<'a>>,
+    level: &Level<'_, 'a>,
     out: &mut Sink<'a, K>,
 ) -> Result<Option<FlowNode>, Fault>
-    requires border { IsBorder source.now at }
-    requires low { least ≤ at }
-    ensures border { IfOk result (λ found. IfSome found (λ node. IsBorder source.now node.end)) }
-    ensures onward { IfOk result (λ found. IfSome found (λ node. at < node.end)) }
-    ensures within { IfOk result (λ found. IfSome found (λ node. node.deep ≡ 0)) }
-    ensures reads { Perhaps (λ node. content_from (text_of source.now) wide (handles_of handles.entry) node.deep node.kind least (context_of context)) (place_of source.now at) (λ node. place_of source.now node.end) (holds_of K.holds) out.old out.new result }
-    ensures decides { DecidesPlain (text_of source.now) least (context_of context) (place_of source.now at) (λ node. place_of source.now node.end) result }
+    requires { StartsNode source.now level.now at }
+    ensures ends { IfOk result (λ found. IfSome found (EndsAlone source.now at)) }
+    ensures reads { FindsNode content_rule source.now level.now at (holds_of K.holds) out.old out.new result }
+    ensures decides { DecidesPlainAt source.now level.now at result }
     ensures placed { IfErr result (IsPlaced source.now) }
 {
-    match read_plain(alloc, source, at, indentation(least), context) {
+    match read_plain(alloc, source, at, indentation(level.least), level.context) {
         Ok((text, end)) => {
             put_scalar(out, Style::Plain, text, at)?;
             Ok(Some(FlowNode {
@@ -130,21 +120,19 @@ fn read_quoted<'a>(
     source: &Chars<'a>,
     at: usize,
     quote: Quote,
-    least: usize,
-    context: Ctx,
+    level: &Level<'_, 'a>,
 ) -> Result<(CowStr<'a>, usize), Fault>
-    requires border { IsBorder source.now at }
-    requires low { least ≤ at }
+    requires { StartsNode source.now level.now at }
     ensures border { IfOk result (λ r. IsBorder source.now r.1) }
     ensures onward { IfOk result (λ r. at < r.1) }
     ensures utf8 { IfOk result (λ r. IsUtf8 (cow_str_bytes r.0)) }
-    ensures reads { Answers Only (quoted quote (text_of source.now) least (context_of context)) (place_of source.now at) (λ r. place_of source.now r.1) (λ r. chars (cow_str_bytes r.0)) result }
+    ensures reads { Answers Only (quoted quote (text_of source.now) level.now.least (context_of level.now.context)) (place_of source.now at) (λ r. place_of source.now r.1) (λ r. chars (cow_str_bytes r.0)) result }
     ensures placed { IfErr result (IsPlaced source.now) }
 {
-    let n = indentation(least);
+    let n = indentation(level.least);
     match quote {
-        Quote::Double => read_double(alloc, source, at, n, context),
-        Quote::Single => read_single(alloc, source, at, n, context),
+        Quote::Double => read_double(alloc, source, at, n, level.context),
+        Quote::Single => read_single(alloc, source, at, n, level.context),
     }
 }
 
@@ -155,22 +143,17 @@ pub fn read_quoted_node<'a, K: Keeper>(
     source: &Chars<'a>,
     at: usize,
     quote: Quote,
-    least: usize,
-    context: Ctx,
-    handles: Option<&Handles<'a>>,
+    level: &Level<'_, 'a>,
     out: &mut Sink<'a, K>,
 ) -> Result<FlowNode, Fault>
-    requires border { IsBorder source.now at }
-    requires low { least ≤ at }
-    ensures border { IfOk result (λ node. IsBorder source.now node.end) }
-    ensures onward { IfOk result (λ node. at < node.end) }
-    ensures within { IfOk result (λ node. node.deep ≡ 0) }
-    ensures reads { Appends (λ node. content_from (text_of source.now) wide (handles_of handles.entry) node.deep node.kind least (context_of context)) (place_of source.now at) (λ node. place_of source.now node.end) (holds_of K.holds) out.old out.new result }
+    requires { StartsNode source.now level.now at }
+    ensures ends { IfOk result (EndsAlone source.now at) }
+    ensures reads { ReadsNode content_rule source.now level.now at (holds_of K.holds) out.old out.new result }
     ensures kind { IfOk result (λ node. node.kind ≡ Json) }
-    ensures decides { Decides (quoted quote (text_of source.now) least (context_of context)) Here (place_of source.now at) Here (λ node. place_of source.now node.end) result }
+    ensures decides { Decides (quoted quote (text_of source.now) level.now.least (context_of level.now.context)) Here (place_of source.now at) Here (λ node. place_of source.now node.end) result }
     ensures placed { IfErr result (IsPlaced source.now) }
 {
-    let (text, end) = read_quoted(alloc, source, at, quote, least, context)?;
+    let (text, end) = read_quoted(alloc, source, at, quote, level)?;
     let style = style_of(quote);
     push_scalar(out, style, text, at)?;
     Ok(FlowNode {

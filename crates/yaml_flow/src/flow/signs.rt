@@ -7,12 +7,12 @@ ghost use Rattle.yaml_text.specs.EventModel.{context_of};
 ghost use Rattle.yaml_definitions.specs.grammar.Separation.{inner, s-separate as separate};
 ghost use Rattle.yaml_definitions.specs.grammar.Rules.{maybe};
 ghost use Rattle.yaml_text.specs.Lines.{Inside};
-ghost use Rattle.law_one_reading.specs.Follows.{Closes, Solid, Fresh};
+ghost use Rattle.law_one_reading.specs.Follows.{Closes, Fresh};
 ghost use Rattle.yaml_text.specs.LeafAnswer.{IsRefusal};
 ghost use Rattle.yaml_text.specs.Placed.{IsPlaced};
 ghost use Rattle.yaml_flow.specs.FlowDecisions.{NoKey, LongKey};
-ghost use Rattle.yaml_flow.specs.Keys.{IsKeySized, Spaced};
-ghost use Rattle.yaml_flow.specs.FlowRules.{MayFollowColon, SignAt, AskedAt, IsInner, IsParted, FirstIs};
+ghost use Rattle.yaml_flow.specs.Lines.{IsStretch, LeadsFrom};
+ghost use Rattle.yaml_flow.specs.FlowRules.{MayFollowColon, SignAt, AskedAt, IsInner, IsParted, FirstIs, IsKeyColon};
 
 use crate::flow::Kind;
 use crate::key::{Fit, key_fit};
@@ -70,10 +70,7 @@ pub fn inner(context: Ctx) -> Ctx
 /// The border after the separation that follows a part, as much as there is.
 pub fn part_gap(source: &Chars<'_>, at: usize, least: usize, context: Ctx) -> Result<usize, Fault>
     requires { IsBorder source.now at }
-    ensures border { IfOk result (λ to. IsBorder source.now to) }
-    ensures onward { IfOk result (λ to. at ≤ to) }
-    ensures separate { IfOk result (λ to. maybe (separate (text_of source.now) least (context_of context)) (place_of source.now at) (place_of source.now to)) }
-    ensures to { IfOk result (λ to. (q : ℕ) → maybe (separate (text_of source.now) least (context_of context)) (place_of source.now at) q → Solid (text_of source.now) q → q ≡ place_of source.now to) }
+    ensures leads { IfOk result (LeadsFrom source.now at least (context_of context)) }
     ensures err { IfErr result IsRefusal }
     ensures none { IfErr result (λ _. Inside (text_of source.now) (place_of source.now at) ⊎ Closes (text_of source.now) (place_of source.now at) → (q : ℕ) → maybe (separate (text_of source.now) least (context_of context)) (place_of source.now at) q → Fresh (text_of source.now) q → ⊥) }
     ensures placed { IfErr result (IsPlaced source.now) }
@@ -129,14 +126,8 @@ pub fn key_colon(
     kind: Kind,
     context: Ctx,
 ) -> Result<Option<(usize, usize)>, Fault>
-    requires border { IsBorder source.now at }
-    requires end { IsBorder source.now end }
-    requires order { at ≤ end }
-    ensures onward { IfOk result (λ found. IfSome found (λ r. end ≤ r.0)) }
-    ensures spaced { IfOk result (λ found. IfSome found (λ r. Spaced (text_of source.now) (place_of source.now end) (place_of source.now r.0))) }
-    ensures colon { IfOk result (λ found. IfSome found (λ r. Steps (bytes_of source.now) r.0 58 r.1)) }
-    ensures sign { IfOk result (λ found. IfSome found (λ r. MayFollowColon kind (context_of context) (text_of source.now) (place_of source.now r.1))) }
-    ensures fits { IfOk result (λ found. IfSome found (λ r. IsKeySized (text_of source.now) (place_of source.now at) (place_of source.now r.0))) }
+    requires { IsStretch source.now at end }
+    ensures found { IfOk result (λ found. IfSome found (λ r. IsKeyColon source.now at end kind (context_of context) r.0 r.1)) }
     ensures none { IfOk result (λ found. IfNone found (NoKey (text_of source.now) kind (context_of context) (place_of source.now at) (place_of source.now end))) }
     ensures err { IfErr result IsRefusal }
     ensures long { IfErr result (λ _. LongKey (text_of source.now) kind (context_of context) (place_of source.now at) (place_of source.now end)) }

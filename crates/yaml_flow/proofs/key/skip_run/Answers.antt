@@ -26,7 +26,7 @@ run_on c =
     let within : n ≤ length bytes = omega (arith, len, c.requires.to.0) in
     let most : length (take n bytes) ≡ n = length-take-le n bytes within in
     let front : c.len_by_one.result ≤ n = omega (arith, most, c.len_by_one.ensures.len) in
-    crossed_front_of is_other source c.args.at c.len_by_one.result bytes c.requires.at same (omega (arith, front, within)) (λ k e.
+    crossed_front_of is_other source c.args.at c.len_by_one.result bytes c.requires.from same (omega (arith, front, within)) (λ k e.
     let f = c.len_by_one.ensures.front k e in
     let here = get_or-take n bytes k 0 (omega (arith, e, front)) in
     (subst (λ z. z < 128) here (f.0 refl), subst (λ z. is_other z ≡ true) here (other _ (f.1 refl))))

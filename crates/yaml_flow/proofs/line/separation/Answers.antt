@@ -17,42 +17,10 @@ use Rattle.yaml_flow.proofs.line.separation.Goals as goal
 less : (s : Chars) (a b : ℕ) → IsBorder s a → IsBorder s b → a < b → place_of s a < place_of s b
 less s a b p q l = place_less s.text.now a b (IsUtf8-had s.text.now s.utf8) p q l
 
-pub returns-then-is_key-clause-separate : goal.returns-then-is_key-clause-separate
-returns-then-is_key-clause-separate c =
-    let s = c.skip_spaces-end.ensures in
-    spaces_maybe (text_of c.args.source.now) c.args.least (context_of c.args.context) _ _ (indent_run (text_of c.args.source.now) _ _ _ s.spaces)
-
-pub returns-then-is_key-clause-apart : goal.returns-then-is_key-clause-apart
-returns-then-is_key-clause-apart c = λ l.
-    let s = c.skip_spaces-end.ensures in
-    spaces_apart (text_of c.args.source.now) c.args.least (context_of c.args.context) _ _ (indent_run (text_of c.args.source.now) _ _ _ s.spaces)
-    (less c.args.source.now _ _ c.requires s.border l)
-
-pub returns-in-None-clause-separate : goal.returns-in-None-clause-separate
-returns-in-None-clause-separate c =
-    let s = c.skip_spaces-end-in-None.ensures in
-    spaces_maybe (text_of c.args.source.now) c.args.least (context_of c.args.context) _ _ (indent_run (text_of c.args.source.now) _ _ _ s.spaces)
-
-pub returns-in-None-clause-apart : goal.returns-in-None-clause-apart
-returns-in-None-clause-apart c = λ l.
-    let s = c.skip_spaces-end-in-None.ensures in
-    spaces_apart (text_of c.args.source.now) c.args.least (context_of c.args.context) _ _ (indent_run (text_of c.args.source.now) _ _ _ s.spaces)
-    (less c.args.source.now _ _ c.requires s.border l)
-
 below_is : (s : Chars) (c0 : Ctx) (n at start : ℕ) (line : Line) → is_key c0 ≡ false → s_l_comments (text_of s) (place_of s at) (place_of s start) → line.start ≡ start → IsLine s line → n ≤ line.column →
     separate (text_of s) n c0 (place_of s at) (place_of s line.first)
 below_is s c0 n at start line k comments e is le =
     lines_apart (text_of s) n c0 _ _ k (lines_separate (text_of s) n line.column _ _ _ le (subst (λ x. s_l_comments (text_of s) (place_of s at) (place_of s x)) (sym e) comments) is.spaces)
-
-pub returns-else-is_end-clause-separate : goal.returns-else-is_end-clause-separate
-returns-else-is_end-clause-separate c =
-    inr (below_is c.args.source.now (context_of c.args.context) c.args.least c.args.at c.in-Some.start c.line_at-line.result (sym c.is_key.ensures ∙ c.if-is_key.false) c.in-Some.ensures.some c.line_at-line.ensures.start c.line_at-line.ensures.line c.if-line-least.false)
-
-pub returns-else-is_end-clause-apart : goal.returns-else-is_end-clause-apart
-returns-else-is_end-clause-apart c = λ l.
-    below_is c.args.source.now (context_of c.args.context) c.args.least c.args.at c.in-Some.start c.line_at-line.result (sym c.is_key.ensures ∙ c.if-is_key.false) c.in-Some.ensures.some c.line_at-line.ensures.start c.line_at-line.ensures.line c.if-line-least.false
-
--- ---- where else separation could lead
 
 key_is : (c0 : Ctx) → is_key c0 ≡ true → IsKey c0
 key_is block_key t = tt
@@ -68,17 +36,57 @@ line_spaces s line is = (indent_run (text_of s) line.column _ _ is.spaces, is.al
 comments_to : (s : Chars) (at start : ℕ) (line : Line) → line.start ≡ start → s_l_comments (text_of s) (place_of s at) (place_of s start) → s_l_comments (text_of s) (place_of s at) (place_of s line.start)
 comments_to s at start line e comments = subst (λ x. s_l_comments (text_of s) (place_of s at) (place_of s x)) (sym e) comments
 
-pub returns-then-is_key-clause-to : goal.returns-then-is_key-clause-to
-returns-then-is_key-clause-to c =
+pub returns-then-is_key-clause-leads : goal.returns-then-is_key-clause-leads
+returns-then-is_key-clause-leads c =
+    let cs = text_of c.args.source.now in
+    let n = c.args.least in
+    let x = context_of c.args.context in
     let s = c.skip_spaces-end.ensures in
-    let cs = text_of c.args.source.now in
-    separate_in_key cs c.args.least (context_of c.args.context) (key_is _ (sym c.is_key.ensures ∙ c.if-is_key.true)) _ _ (indent_run cs _ _ _ s.spaces, s.furthest)
+    let key = sym c.is_key.ensures ∙ c.if-is_key.true in
+    let spaces = indent_run cs _ _ _ s.spaces in
+    record {
+      border = s.border;
+      onward = s.onward;
+      separate = spaces_maybe cs n x _ _ spaces;
+      apart = λ l. spaces_apart cs n x _ _ spaces (less c.args.source.now _ _ c.requires s.border l);
+      to = separate_in_key cs n x (key_is _ key) _ _ (spaces, s.furthest);
+      way = λ h q w. let e : false ≡ true = sym (ap is_key h) ∙ key in cc;
+    }
 
-pub returns-in-None-clause-to : goal.returns-in-None-clause-to
-returns-in-None-clause-to c =
-    let s = c.skip_spaces-end-in-None.ensures in
+pub returns-in-None-clause-leads : goal.returns-in-None-clause-leads
+returns-in-None-clause-leads c =
     let cs = text_of c.args.source.now in
-    separate_on_line cs c.args.least (context_of c.args.context) _ _ c.in-None.ensures.none (indent_run cs _ _ _ s.spaces, s.furthest)
+    let n = c.args.least in
+    let x = context_of c.args.context in
+    let s = c.skip_spaces-end-in-None.ensures in
+    let spaces = indent_run cs _ _ _ s.spaces in
+    record {
+      border = s.border;
+      onward = s.onward;
+      separate = spaces_maybe cs n x _ _ spaces;
+      apart = λ l. spaces_apart cs n x _ _ spaces (less c.args.source.now _ _ c.requires s.border l);
+      to = separate_on_line cs n x _ _ c.in-None.ensures.none (spaces, s.furthest);
+      way = λ h. way_on_line cs _ _ c.in-None.ensures.none (spaces, s.furthest);
+    }
+
+pub returns-else-is_end-clause-leads : goal.returns-else-is_end-clause-leads
+returns-else-is_end-clause-leads c =
+    let s = c.args.source.now in
+    let n = c.args.least in
+    let x = context_of c.args.context in
+    let line = c.line_at-line.result in
+    let is = c.line_at-line.ensures.line in
+    let start = c.line_at-line.ensures.start in
+    let comments = comments_to s c.args.at c.in-Some.start line start c.in-Some.ensures.some in
+    let apart = below_is s x n c.args.at c.in-Some.start line (sym c.is_key.ensures ∙ c.if-is_key.false) c.in-Some.ensures.some start is c.if-line-least.false in
+    record {
+      border = is.first;
+      onward = omega (arith, c.in-Some.ensures.onward, start, is.wide);
+      separate = inr apart;
+      apart = λ l. apart;
+      to = separate_on_next (text_of s) n x _ _ _ comments is.stuck (line_spaces s line is);
+      way = λ h. way_on_next (text_of s) _ _ _ comments is.stuck (line_spaces s line is);
+    }
 
 pub returns-then-is_mark-clause-none : goal.returns-then-is_mark-clause-none
 returns-then-is_mark-clause-none c = λ o.
@@ -104,26 +112,3 @@ returns-then-is_end-clause-none c = λ o q r f.
     let is = c.line_at-line.ensures.line in
     separate_no_end cs c.args.least (context_of c.args.context) _ _ _ (comments_to s c.args.at c.in-Some.start line c.line_at-line.ensures.start c.in-Some.ensures.some) is.stuck (line_spaces s line is)
     c.if-is_end.ensures.yes q r f.0
-
-pub returns-else-is_end-clause-to : goal.returns-else-is_end-clause-to
-returns-else-is_end-clause-to c =
-    let s = c.args.source.now in
-    let line = c.line_at-line.result in
-    let is = c.line_at-line.ensures.line in
-    separate_on_next (text_of s) c.args.least (context_of c.args.context) _ _ _ (comments_to s c.args.at c.in-Some.start line c.line_at-line.ensures.start c.in-Some.ensures.some) is.stuck (line_spaces s line is)
-
-pub returns-then-is_key-clause-way : goal.returns-then-is_key-clause-way
-returns-then-is_key-clause-way c = λ h q w. let e : false ≡ true = sym (ap is_key h) ∙ sym c.is_key.ensures ∙ c.if-is_key.true in cc
-
-pub returns-in-None-clause-way : goal.returns-in-None-clause-way
-returns-in-None-clause-way c = λ h.
-    let s = c.skip_spaces-end-in-None.ensures in
-    let cs = text_of c.args.source.now in
-    way_on_line cs _ _ c.in-None.ensures.none (indent_run cs _ _ _ s.spaces, s.furthest)
-
-pub returns-else-is_end-clause-way : goal.returns-else-is_end-clause-way
-returns-else-is_end-clause-way c = λ h.
-    let s = c.args.source.now in
-    let line = c.line_at-line.result in
-    let is = c.line_at-line.ensures.line in
-    way_on_next (text_of s) _ _ _ (comments_to s c.args.at c.in-Some.start line c.line_at-line.ensures.start c.in-Some.ensures.some) is.stuck (line_spaces s line is)

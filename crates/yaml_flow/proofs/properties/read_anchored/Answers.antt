@@ -14,25 +14,6 @@ use Rattle.yaml_flow.proofs.PropertyDecisions.{failed, name_refused, tag_refused
 use Rattle.yaml_flow.proofs.properties.read_anchored.Goals.{then-next-end+in_default, else-next-end}
 use Rattle.yaml_flow.proofs.properties.read_anchored.Goals as goal
 
-pub returns-in-Some-clause-own : goal.returns-in-Some-clause-own
-returns-in-Some-clause-own c =
-    let cs = text_of c.args.source.now in
-    let handles = handles_of c.args.handles in
-    let name = cow_str_bytes c.in_ok-name.name in
-    inr (subst (SomeProperties cs handles c.args.least (context_of c.args.context) _ _) (sym c.in_ok-hold.ensures.ok)
-    (named cs handles c.args.least (context_of c.args.context) _ _ name (written_of c.in_ok-tag.tag) c.in_ok-name.ensures.utf8
-    (anchor_then cs handles c.args.least (context_of c.args.context) _ _ _ _ (written_of c.in_ok-tag.tag) (chars name)
-    (anchor_read cs handles _ _ _ c.requires.sign c.in_ok-name.ensures.only.is) (c.in_ok-next.ensures.apart c.if-next-end.true) (tag_read cs handles _ _ _ c.in_ok-tag.ensures.only.is))))
-
-pub returns-clause-own : goal.returns-clause-own
-returns-clause-own c =
-    let cs = text_of c.args.source.now in
-    let handles = handles_of c.args.handles in
-    let name = cow_str_bytes c.in_ok-name.name in
-    inr (subst (SomeProperties cs handles c.args.least (context_of c.args.context) _ _) (sym c.in_ok-hold-2.ensures.ok)
-    (named cs handles c.args.least (context_of c.args.context) _ _ name untagged c.in_ok-name.ensures.utf8
-    (anchor_alone (chars name) (anchor_read cs handles _ _ _ c.requires.sign c.in_ok-name.ensures.only.is) refl)))
-
 -- ---- what it decides
 
 pub returns-in_err-name-clause-barred : goal.returns-in_err-name-clause-barred
@@ -59,25 +40,42 @@ returns-in_err-tag-clause-barred c =
     let anchor = anchor_read cs handles _ _ _ c.requires.sign c.in_ok-name.ensures.only.is in
     let is = c.in-Some.ensures.some.is in
     failed _ c.from_residual-in_err-tag.result c.in_err-tag.field-0.0 c.from_residual-in_err-tag.ensures.1
-    (or_else (λ none. barred_second cs handles c.args.least (context_of c.args.context) _ _ _ (anchor_props name) (inr (_, anchor, refl)) (c.in_ok-next.ensures.apart c.if-next-end.true) (inl is)
-    c.in_ok-next.ensures.to (no_tag cs handles _ is none)) (tag_refused _ c.in_err-tag.ensures.refused))
+    (or_else (λ none. barred_second cs handles c.args.least (context_of c.args.context) _ _ _ (anchor_props name) (inr (_, anchor, refl)) (c.in_ok-next.ensures.leads.apart c.if-next-end.true) (inl is)
+    c.in_ok-next.ensures.leads.to (no_tag cs handles _ is none)) (tag_refused _ c.in_err-tag.ensures.refused))
 
-pub returns-in-Some-clause-all : goal.returns-in-Some-clause-all
-returns-in-Some-clause-all c =
+pub returns-in-Some-clause-stand : goal.returns-in-Some-clause-stand
+returns-in-Some-clause-stand c =
     let cs = text_of c.args.source.now in
     let handles = handles_of c.args.handles in
-    subst (AllProperties cs handles c.args.least (context_of c.args.context) _ _) (sym c.in_ok-hold.ensures.ok) (all_both cs handles c.args.least (context_of c.args.context) _ _ _ _ (tag_is cs handles _ _ _ (tag_read cs handles _ _ _ c.in_ok-tag.ensures.only.is)))
+    let name = cow_str_bytes c.in_ok-name.name in
+    record {
+      border = c.in_ok-tag.ensures.border;
+      onward = omega (arith, c.in_ok-name.ensures.onward, c.in_ok-next.ensures.leads.onward, c.in_ok-tag.ensures.onward);
+      own = inr (subst (SomeProperties cs handles c.args.least (context_of c.args.context) _ _) (sym c.in_ok-hold.ensures.ok)
+          (named cs handles c.args.least (context_of c.args.context) _ _ name (written_of c.in_ok-tag.tag) c.in_ok-name.ensures.utf8
+          (anchor_then cs handles c.args.least (context_of c.args.context) _ _ _ _ (written_of c.in_ok-tag.tag) (chars name)
+          (anchor_read cs handles _ _ _ c.requires.sign c.in_ok-name.ensures.only.is) (c.in_ok-next.ensures.leads.apart c.if-next-end.true) (tag_read cs handles _ _ _ c.in_ok-tag.ensures.only.is))));
+      all = subst (AllProperties cs handles c.args.least (context_of c.args.context) _ _) (sym c.in_ok-hold.ensures.ok) (all_both cs handles c.args.least (context_of c.args.context) _ _ _ _ (tag_is cs handles _ _ _ (tag_read cs handles _ _ _ c.in_ok-tag.ensures.only.is)));
+    }
 
-pub returns-clause-all : goal.returns-clause-all
-returns-clause-all c =
+pub returns-clause-stand : goal.returns-clause-stand
+returns-clause-stand c =
     let s = c.args.source.now in
-    let cs = text_of s in
+    let cs = text_of c.args.source.now in
     let handles = handles_of c.args.handles in
     let bytes = cow_str_bytes c.in_ok-name.name in
     let anchor = anchor_read cs handles _ _ _ c.requires.sign c.in_ok-name.ensures.only.is in
-    subst (AllProperties cs handles c.args.least (context_of c.args.context) _ _) (sym c.in_ok-hold-2.ensures.ok) (all_one cs handles c.args.least (context_of c.args.context) _ _ (place_of s c.in_ok-next.next) (anchor_props (chars bytes)) _ (inr (_, anchor, refl))
-    (λ h. let x : Some bytes ≡ None = ap Props.anchor h in cc) c.in_ok-next.ensures.to
-    (elim c.if-next-end.branch [
-      | then-next-end+in_default w ↦ inr (anchor_alike cs _ _ c.requires.sign w.in_default.ensures.none)
-      | else-next-end w ↦ inl (let e : c.in_ok-next.next ≡ c.in_ok-name.end = omega (arith, w.if-next-end.false, c.in_ok-next.ensures.onward) in ap (place_of s) e)
-    ]))
+    let name = cow_str_bytes c.in_ok-name.name in
+    record {
+      border = c.in_ok-name.ensures.border;
+      onward = omega (arith, c.in_ok-name.ensures.onward);
+      own = inr (subst (SomeProperties cs handles c.args.least (context_of c.args.context) _ _) (sym c.in_ok-hold-2.ensures.ok)
+          (named cs handles c.args.least (context_of c.args.context) _ _ name untagged c.in_ok-name.ensures.utf8
+          (anchor_alone (chars name) (anchor_read cs handles _ _ _ c.requires.sign c.in_ok-name.ensures.only.is) refl)));
+      all = subst (AllProperties cs handles c.args.least (context_of c.args.context) _ _) (sym c.in_ok-hold-2.ensures.ok) (all_one cs handles c.args.least (context_of c.args.context) _ _ (place_of s c.in_ok-next.next) (anchor_props (chars bytes)) _ (inr (_, anchor, refl))
+          (λ h. let x : Some bytes ≡ None = ap Props.anchor h in cc) c.in_ok-next.ensures.leads.to
+          (elim c.if-next-end.branch [
+            | then-next-end+in_default w ↦ inr (anchor_alike cs _ _ c.requires.sign w.in_default.ensures.none)
+            | else-next-end w ↦ inl (let e : c.in_ok-next.next ≡ c.in_ok-name.end = omega (arith, w.if-next-end.false, c.in_ok-next.ensures.leads.onward) in ap (place_of s) e)
+          ]));
+    }

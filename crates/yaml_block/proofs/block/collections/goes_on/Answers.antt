@@ -11,11 +11,11 @@ returns-then-not-has_content-clause-over c =
 pub returns-then-line-column-clause-over : goal.returns-then-line-column-clause-over
 returns-then-line-column-clause-over c = none_left c.args.source.now c.args.line c.requires.line c.args.column c.if-line-column.true
 
-pub returns-then-line-column-2-clause-content : goal.returns-then-line-column-2-clause-content
-returns-then-line-column-2-clause-content c =
+pub returns-then-line-column-2-clause-next : goal.returns-then-line-column-2-clause-next
+returns-then-line-column-2-clause-next c =
     let s = c.args.source.now in
     let yes = on_true_at c.has_content.result c.if-not-has_content.false c.has_content.ensures.yes in
-    (no_end s c.args.line c.requires.line yes.0, no_mark s c.args.line c.requires.line yes.1)
+    record { column = c.if-line-column-2.true; some = no_end s c.args.line c.requires.line yes.0; no_mark = no_mark s c.args.line c.requires.line yes.1 }
 
 pub returns-else-line-column-2-clause-further : goal.returns-else-line-column-2-clause-further
 returns-else-line-column-2-clause-further c =

@@ -10,5 +10,13 @@ returns-then-overlaps-clause-unfit g c = inr (inl (on_true_at c.overlaps.result 
 pub returns-then-not-may_bear-clause-unfit : goal.returns-then-not-may_bear-clause-unfit
 returns-then-not-may_bear-clause-unfit g c = inr (inr (on_false_at c.may_bear.result c.if-not-may_bear.true c.may_bear.ensures.no))
 
-pub returns-clause-after : goal.returns-clause-after
-returns-clause-after g c = comments_after (text_of c.args.source.now) _ _ c.in_ok-line.ensures.comments
+pub returns-clause-ends : goal.returns-clause-ends
+returns-clause-ends g c =
+    let n = c.in_ok-line.ensures in record {
+      line = n.line;
+      onward = n.onward;
+      comments = n.comments;
+      after = comments_after (text_of c.args.source.now) _ _ n.comments;
+      apart = on_false_at c.overlaps.result c.if-overlaps.false c.overlaps.ensures.no;
+      bears = on_true_at c.may_bear.result c.if-not-may_bear.false c.may_bear.ensures.yes;
+    }

@@ -21,7 +21,7 @@ pub returns-in_err-line-clause-decides : goal.returns-in_err-line-clause-decides
 returns-in_err-line-clause-decides g c =
     let s = c.args.source.now in
     let cs = text_of s in
-    let i = place_of s c.args.at in
+    let i = place_of s c.args.sign.at in
     let p = props_of c.args.properties in
     decides_err (block_scalar_rest cs p c.args.col) (AfterScalar cs) i Here (λ line. place_of s line.start) c.from_residual.result _ c.from_residual.ensures.1
     (or_else (props_refused cs p no_props c.args.col i (AfterScalar cs)) c.in_err-line.ensures.decides)
@@ -30,4 +30,4 @@ pub returns-clause-decides : goal.returns-clause-decides
 returns-clause-decides g c =
     let s = c.args.source.now in
     let cs = text_of s in
-    props_goes cs (props_of c.args.properties) no_props c.args.col (place_of s c.args.at) (AfterScalar cs) Here (place_of s c.in_ok-line.line.start) c.in_ok-line.ensures.decides
+    props_goes cs (props_of c.args.properties) no_props c.args.col (place_of s c.args.sign.at) (AfterScalar cs) Here (place_of s c.in_ok-line.line.start) c.in_ok-line.ensures.decides

@@ -1,4 +1,4 @@
-use Rattle.std.proofs.Common.{true, ℕ, ℤ, ◌≡◌, ap, subst, sym, ◌∙◌, rules, w32, inr, refl, [], ◌∷◌}
+use Rattle.std.proofs.Common.{true, ℕ, ℤ, ◌≡◌, ap, subst, sym, ◌∙◌, rules, w32, inr, refl, [], ◌∷◌, arith}
 use Rattle.std.proofs.lemmas.Int.{to_z-of_z}
 use mir.Val.{SFits, of_z, to_z}
 use Rattle.std.specs.Str.{chars}
@@ -46,11 +46,14 @@ line_at-requires-clause-stuck g c =
     let n = column_is c.parent.result c.args.col (search rules) c.parent.ensures in
     scalar_stuck cs true c.args.col _ _ _ (subst (λ m. FurthestAlone (folded cs m) (place_of s c.args.at) (place_of s c.in_ok-text.end) (chars (cow_str_bytes c.in_ok-text.text))) n c.in_ok-text.ensures.reads)
 
-pub returns-clause-after : goal.returns-clause-after
-returns-clause-after g c =
+pub returns-clause-ends : goal.returns-clause-ends
+returns-clause-ends g c =
     let s = c.args.source.now in
-    let cs = text_of s in
-    subst (λ x. AfterLine cs (place_of s x)) (sym c.line_at.ensures.start) (scalar_after cs true _ _ _ _ c.in_ok-text.ensures.reads.is)
+    let cs = text_of s in record {
+      line = c.line_at.ensures.line;
+      onward = omega (arith, c.in_ok-text.ensures.onward, c.line_at.ensures.start);
+      after = subst (λ x. AfterLine cs (place_of s x)) (sym c.line_at.ensures.start) (scalar_after cs true _ _ _ _ c.in_ok-text.ensures.reads.is);
+    }
 
 pub returns-clause-decides : goal.returns-clause-decides
 returns-clause-decides g c =

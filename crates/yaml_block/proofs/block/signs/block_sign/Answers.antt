@@ -9,7 +9,7 @@ pub returns-in-None-accept-2-clause-none : goal.returns-in-None-accept-2-clause-
 returns-in-None-accept-2-clause-none c = λ n f sign.
     let s = c.args.source.now in
     let cs = text_of s in
-    let same : n ≡ place_of s c.in-Some.first = follows_same cs _ _ n _ (props_of c.args.own.now) f c.in-Some.ensures.follows c.in-Some.ensures.furthest sign in
+    let same : n ≡ place_of s c.in-Some.first = follows_same cs _ _ n _ (props_of c.args.head.now.own) f c.in-Some.ensures.follows c.in-Some.ensures.furthest sign in
     one (subst (IsStyleSign cs) same sign)
   where
     one : IsStyleSign (text_of c.args.source.now) (place_of c.args.source.now c.in-Some.first) → ⊥

@@ -16,5 +16,5 @@ pub returns-then-count-eq0-clause-none : goal.returns-then-count-eq0-clause-none
 returns-then-count-eq0-clause-none c =
     let s = c.args.source.now in
     let cs = text_of s in
-    let e : place_of s c.skip_spaces-count.result.1 ≡ place_of s c.args.end = omega (arith, indent_place cs _ _ _ c.skip_spaces-count.ensures.spaces, c.if-count-eq0.true) in
+    let e : place_of s c.skip_spaces-count.result.1 ≡ place_of s c.args.head.now.end = omega (arith, indent_place cs _ _ _ c.skip_spaces-count.ensures.spaces, c.if-count-eq0.true) in
     (on_false_at c.is_none.result c.if-is_none.false c.is_none.ensures.no, subst (λ z. Stands cs is_space z → ⊥) e c.skip_spaces-count.ensures.furthest)

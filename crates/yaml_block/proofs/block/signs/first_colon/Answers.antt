@@ -4,10 +4,14 @@ use Rattle.yaml_text.proofs.LineRuns.{indent_run}
 use Rattle.yaml_block.proofs.LineDecisions.{no_colon_key, no_sized_key}
 use Rattle.yaml_block.proofs.block.signs.first_colon.Goals as goal
 
-pub returns-in-Fits-clause-colon : goal.returns-in-Fits-clause-colon
-returns-in-Fits-clause-colon c =
-    let s = c.in-Some-accept.ensures.some in
-    (_, indent_run (text_of c.args.source.now) _ _ _ c.skip_spaces-colon.ensures.spaces, (s.is, s.next), c.in-Fits.ensures)
+pub returns-in-Fits-clause-found : goal.returns-in-Fits-clause-found
+returns-in-Fits-clause-found c =
+    let s = c.in-Some-accept.ensures.some in record {
+      some = c.in-Some.is;
+      border = s.border;
+      further = omega (arith, c.skip_spaces-colon.ensures.onward, s.forward);
+      colon = (_, indent_run (text_of c.args.source.now) _ _ _ c.skip_spaces-colon.ensures.spaces, (s.is, s.next), c.in-Fits.ensures);
+    }
 
 pub returns-in-None-accept-clause-none : goal.returns-in-None-accept-clause-none
 returns-in-None-accept-clause-none c =

@@ -21,27 +21,27 @@ least_is r least fits e = ap nat_abs (to_z-of_z w32 r fits ∙ e)
 pub returns-in_ok-put_scalar-in-Ok-clause-reads : goal.returns-in_ok-put_scalar-in-Ok-clause-reads
 returns-in_ok-put_scalar-in-Ok-clause-reads g c =
     let cs = text_of c.args.source.now in
-    let n = least_is c.indentation.result c.args.least (search rules) c.indentation.ensures in
+    let n = least_is c.indentation.result c.args.level.now.least (search rules) c.indentation.ensures in
     let text = chars (cow_str_bytes c.in-Ok.text) in (
       _,
       c.in_ok-put_scalar-in-Ok.ensures.ok,
-      plain_is cs (Unit {0}) (handles_of c.args.handles) c.args.least (context_of c.args.context) _ _ text
-          (subst (λ m. plain cs m (context_of c.args.context) (place_of c.args.source.now c.args.at) (place_of c.args.source.now c.in-Ok.end) text) n c.in-Ok.ensures.reads.is),
+      plain_is cs (Unit {0}) (handles_of c.args.level.now.handles) c.args.level.now.least (context_of c.args.level.now.context) _ _ text
+          (subst (λ m. plain cs m (context_of c.args.level.now.context) (place_of c.args.source.now c.args.at) (place_of c.args.source.now c.in-Ok.end) text) n c.in-Ok.ensures.reads.is),
     )
 
 pub returns-in_ok-put_scalar-in-Ok-clause-decides : goal.returns-in_ok-put_scalar-in-Ok-clause-decides
 returns-in_ok-put_scalar-in-Ok-clause-decides g c =
     let cs = text_of c.args.source.now in
-    let x = context_of c.args.context in
+    let x = context_of c.args.level.now.context in
     let i = place_of c.args.source.now c.args.at in
     let j = place_of c.args.source.now c.in-Ok.end in
-    let n = least_is c.indentation.result c.args.least (search rules) c.indentation.ensures in
-    (refl, λ d. plain_taken cs c.args.least x i j _ (subst (λ m. Furthest (plain cs m x) i j (chars (cow_str_bytes c.in-Ok.text))) n c.in-Ok.ensures.reads) d)
+    let n = least_is c.indentation.result c.args.level.now.least (search rules) c.indentation.ensures in
+    (refl, λ d. plain_taken cs c.args.level.now.least x i j _ (subst (λ m. Furthest (plain cs m x) i j (chars (cow_str_bytes c.in-Ok.text))) n c.in-Ok.ensures.reads) d)
 
 pub returns-in_default-clause-decides : goal.returns-in_default-clause-decides
 returns-in_default-clause-decides g c =
     let cs = text_of c.args.source.now in
-    let x = context_of c.args.context in
+    let x = context_of c.args.level.now.context in
     let i = place_of c.args.source.now c.args.at in
-    let n = least_is c.indentation.result c.args.least (search rules) c.indentation.ensures in
+    let n = least_is c.indentation.result c.args.level.now.least (search rules) c.indentation.ensures in
     subst (λ m. Unread (plain cs m x) i) n (one_left (refusal c.in-Err.fault c.in-Err.ensures.reads) c.in_default.not-OutOfMemory)

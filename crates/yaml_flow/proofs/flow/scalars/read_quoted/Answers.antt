@@ -17,13 +17,13 @@ least_is r least fits e = ap nat_abs (to_z-of_z w32 r fits ∙ e)
 pub returns-in-Double-clause-reads : goal.returns-in-Double-clause-reads
 returns-in-Double-clause-reads c =
     let s = c.args.source.now in
-    let n = least_is c.indentation-n.result c.args.least (search rules) c.indentation-n.ensures in
-    subst (λ q. Answers Only (quoted q (text_of s) c.args.least (context_of c.args.context)) (place_of s c.args.at) (λ r. place_of s r.1) (λ r. chars (cow_str_bytes r.0)) c.read_double.result) (sym c.in-Double.is)
-    (subst (λ m. Answers Only (double (text_of s) m (context_of c.args.context)) (place_of s c.args.at) (λ r. place_of s r.1) (λ r. chars (cow_str_bytes r.0)) c.read_double.result) n c.read_double.ensures.reads)
+    let n = least_is c.indentation-n.result c.args.level.now.least (search rules) c.indentation-n.ensures in
+    subst (λ q. Answers Only (quoted q (text_of s) c.args.level.now.least (context_of c.args.level.now.context)) (place_of s c.args.at) (λ r. place_of s r.1) (λ r. chars (cow_str_bytes r.0)) c.read_double.result) (sym c.in-Double.is)
+    (subst (λ m. Answers Only (double (text_of s) m (context_of c.args.level.now.context)) (place_of s c.args.at) (λ r. place_of s r.1) (λ r. chars (cow_str_bytes r.0)) c.read_double.result) n c.read_double.ensures.reads)
 
 pub returns-in-Single-clause-reads : goal.returns-in-Single-clause-reads
 returns-in-Single-clause-reads c =
     let s = c.args.source.now in
-    let n = least_is c.indentation-n.result c.args.least (search rules) c.indentation-n.ensures in
-    subst (λ q. Answers Only (quoted q (text_of s) c.args.least (context_of c.args.context)) (place_of s c.args.at) (λ r. place_of s r.1) (λ r. chars (cow_str_bytes r.0)) c.read_single.result) (sym c.in-Single.is)
-    (subst (λ m. Answers Only (single (text_of s) m (context_of c.args.context)) (place_of s c.args.at) (λ r. place_of s r.1) (λ r. chars (cow_str_bytes r.0)) c.read_single.result) n c.read_single.ensures.reads)
+    let n = least_is c.indentation-n.result c.args.level.now.least (search rules) c.indentation-n.ensures in
+    subst (λ q. Answers Only (quoted q (text_of s) c.args.level.now.least (context_of c.args.level.now.context)) (place_of s c.args.at) (λ r. place_of s r.1) (λ r. chars (cow_str_bytes r.0)) c.read_single.result) (sym c.in-Single.is)
+    (subst (λ m. Answers Only (single (text_of s) m (context_of c.args.level.now.context)) (place_of s c.args.at) (λ r. place_of s r.1) (λ r. chars (cow_str_bytes r.0)) c.read_single.result) n c.read_single.ensures.reads)

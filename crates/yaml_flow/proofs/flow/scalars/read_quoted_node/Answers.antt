@@ -16,9 +16,9 @@ use Rattle.yaml_flow.proofs.flow.scalars.read_quoted_node.Goals as goal
 pub returns-clause-reads : goal.returns-clause-reads
 returns-clause-reads g c =
     let cs = text_of c.args.source.now in
-    let h = handles_of c.args.handles in
-    let n = c.args.least in
-    let x = context_of c.args.context in
+    let h = handles_of c.args.level.now.handles in
+    let n = c.args.level.now.least in
+    let x = context_of c.args.level.now.context in
     let i = place_of c.args.source.now c.args.at in
     let j = place_of c.args.source.now c.in_ok-text.end in
     let text = chars (cow_str_bytes c.in_ok-text.text) in (
@@ -34,5 +34,5 @@ pub returns-in_err-text-clause-decides : goal.returns-in_err-text-clause-decides
 returns-in_err-text-clause-decides g c =
     let cs = text_of c.args.source.now in
     let i = place_of c.args.source.now c.args.at in
-    decides_err (quoted c.args.quote cs c.args.least (context_of c.args.context)) Here i Here (λ node. place_of c.args.source.now node.end) c.from_residual.result _ c.from_residual.ensures.1
+    decides_err (quoted c.args.quote cs c.args.level.now.least (context_of c.args.level.now.context)) Here i Here (λ node. place_of c.args.source.now node.end) c.from_residual.result _ c.from_residual.ensures.1
     (or_else (unread_refused _ Here i) (refusal _ c.in_err-text.ensures.reads))

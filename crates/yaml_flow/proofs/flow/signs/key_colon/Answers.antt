@@ -25,7 +25,14 @@ returns-in-Long-clause-long c =
       λ fits. omega (arith, c.in-Long.ensures.1, fits.1),
     )
 
-pub returns-in-Fits-clause-spaced : goal.returns-in-Fits-clause-spaced
-returns-in-Fits-clause-spaced c =
+pub returns-in-Fits-clause-found : goal.returns-in-Fits-clause-found
+returns-in-Fits-clause-found c =
     let s = c.skip_spaces-colon.ensures in
-    (indent_run (text_of c.args.source.now) _ _ _ s.spaces, s.furthest)
+    let sign = c.in-Some.ensures in
+    record {
+      onward = s.onward;
+      spaced = (indent_run (text_of c.args.source.now) _ _ _ s.spaces, s.furthest);
+      colon = sign.colon;
+      sign = sign.sign;
+      fits = c.in-Fits.ensures;
+    }

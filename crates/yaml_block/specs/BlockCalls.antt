@@ -1,0 +1,247 @@
+-- Block nodes and their parts at a level: where they begin and end, by which rule they are read, and what is decided of them (YAML 1.2.2, 8.2).
+use Rattle.std.specs.Prelude.{◌≡◌, ◌⊎◌, ℕ, ◌-◌, ◌<◌, ◌≤◌, List, Result, Option, Some, None, MatchOption}
+use Rattle.std.specs.Char.{is_ascii_alphanumeric}
+use Rattle.yaml_definitions.specs.model.Event.{Event}
+use Rattle.yaml_definitions.specs.grammar.Rules.{Rule, Stands}
+use Rattle.yaml_definitions.specs.grammar.Separation.{flow_out, block_key, s-l-comments as s_l_comments, AtEnd, DocumentMark}
+use Rattle.yaml_definitions.specs.grammar.Events.{Props}
+use Rattle.yaml_definitions.specs.grammar.Nodes.{wide}
+use Rattle.yaml_text.specs.Lines.{AfterLine, Inside}
+use Rattle.yaml_text.specs.Source.{text_of, place_of, IsBorder}
+use Rattle.yaml_text.specs.EventModel.{context_of}
+use Rattle.yaml_text.specs.declared.chars.Chars.{Chars}
+use Rattle.yaml_text.specs.declared.context.Ctx.TheVariants.{FlowOut}
+use Rattle.yaml_text.specs.declared.fault.Fault.{Fault}
+use Rattle.yaml_mark.specs.HandlesModel.{handles_of}
+use Rattle.yaml_sink.specs.PropertyRules.{props_of, SomeProperties, Disjoint}
+use Rattle.yaml_sink.specs.declared.properties.Properties.{Properties}
+use Rattle.law_one_reading.specs.Readings.{End}
+use Rattle.law_going_on.specs.GoingOn.{Here}
+use Rattle.yaml_flow.specs.NodeAnswer.{Appends, Decides}
+use Rattle.yaml_flow.specs.PropertyDecisions.{LineGoesOn, IsOnly}
+use Rattle.yaml_flow.specs.PropertyPlaces.{StandFrom}
+use Rattle.yaml_flow.specs.Keys.{ColonAfter}
+use Rattle.yaml_flow.specs.Lines.{IsLine, IsDash, IsBlock}
+use Rattle.yaml_flow.specs.Levels.{StartsWith}
+use Rattle.yaml_flow.specs.declared.flow.FlowNode.{FlowNode}
+use Rattle.yaml_flow.specs.declared.level.Level.{Level}
+use Rattle.yaml_flow.specs.declared.line.Line.{Line}
+use Rattle.yaml_flow.specs.declared.properties.Head.{Head}
+use Rattle.yaml_block.specs.BlockRules.{node_rest, line_rest, value_rest, entry_rest, key_rest, entries_rest, sequence_with}
+use Rattle.yaml_block.specs.BlockEnds.{AfterNode, AfterEntry, AfterSequence, AfterMapping, AfterColon, SignIs, IsStyleSign}
+use Rattle.yaml_block.specs.OuterRules.{Outer, Above, Follows, MayBear, column_of}
+use Rattle.yaml_block.specs.declared.block.signs.Block.{Block}
+use Rattle.yaml_block.specs.declared.block.signs.Sign.{Sign}
+use Rattle.yaml_block.specs.declared.block.signs.Indicator.{Indicator}
+use Rattle.yaml_block.specs.declared.block.nodes.Setting.{Setting}
+use Rattle.yaml_block.specs.declared.block.keys.Begun.{Begun}
+
+-- the level of the flow nodes that stand at a block level
+abbrev pub flow_level : Level → Level
+flow_level level = record { handles = level.handles; least = level.least; context = FlowOut; room = level.room }
+
+-- ---- where they begin
+
+module _ (source : Chars) where
+  -- in this column or further right
+  pub record StartsIn (column at : ℕ) : Type 0 where
+    pub border : IsBorder source at
+    pub low : column ≤ at
+
+  -- a block scalar
+  pub record StartsScalar (col at : ℕ) (block : Block) : Type 0 where
+    pub border : IsBorder source at
+    pub low : col ≤ at
+    pub sign : SignIs (text_of source) (place_of source at) block
+
+  -- a sequence, with its first dash
+  pub record StartsSequence (first : Indicator) : Type 0 where
+    pub border : IsBorder source first.at
+    pub dash : IsDash source first.at first.after
+    pub low : first.column ≤ first.at
+
+  -- the line of a collection's next entry, if it has one
+  pub record StartsLine (next : Line) : Type 0 where
+    pub line : IsLine source next
+    pub after : AfterLine (text_of source) (place_of source next.start)
+
+module _ (source : Chars) (level : Level) where
+  -- what stands in a collection of this level and column, after the dash or the colon that ends at a border
+  pub record StartsInside (column at : ℕ) : Type 0 where
+    pub border : IsBorder source at
+    pub low : column < at
+    pub inside : Inside (text_of source) (place_of source at)
+    pub some : 0 < level.room
+
+  -- a value, after its colon or mark
+  pub record StartsValue (at : ℕ) : Type 0 where
+    pub border : IsBorder source at
+    pub low : level.least ≤ at
+    pub block : IsBlock (context_of level.context)
+    pub inside : Inside (text_of source) (place_of source at) ⊎ (level.least ≡ 0)
+
+  -- a value that begins with a letter or a digit
+  pub record StartsWord (at : ℕ) : Type 0 where
+    pub border : IsBorder source at
+    pub low : level.least ≤ at
+    pub block : IsBlock (context_of level.context)
+    pub word : Stands (text_of source) is_ascii_alphanumeric (place_of source at)
+
+  -- a line below a parent
+  pub record StartsBelow (next : Line) : Type 0 where
+    pub line : IsLine source next
+    pub low : level.least ≤ next.start
+    pub block : IsBlock (context_of level.context)
+    pub after : AfterLine (text_of source) (place_of source next.start)
+
+  -- a line below a node's properties
+  pub record StartsUnder (next : Line) (head : Head) : Type 0 where
+    pub line : IsLine source next
+    pub border : IsBorder source head.at
+    pub low : level.least ≤ head.at
+    pub order : head.at ≤ next.start
+    pub block : IsBlock (context_of level.context)
+    pub marks : SomeProperties (text_of source) (handles_of level.handles) level.least flow_out (place_of source head.at) (place_of source head.end) (props_of head.own)
+    pub comments : s_l_comments (text_of source) (place_of source head.end) (place_of source next.start)
+    pub after : AfterLine (text_of source) (place_of source next.start)
+    pub above : Above (text_of source) (handles_of level.handles) level.least (place_of source head.at) (place_of source head.end) (props_of head.own)
+
+  -- a node, whose first character stands at a border, in its setting
+  pub record StartsNode (setting : Setting) (at : ℕ) : Type 0 where
+    pub border : IsBorder source at
+    pub start : IsBorder source setting.from
+    pub order : setting.from ≤ at
+    pub low : level.least ≤ setting.from
+    pub block : IsBlock (context_of level.context)
+    pub column : MatchOption setting.column (Unit {0}) (λ k. k ≤ at)
+    pub wide : MatchOption setting.column (Unit {0}) (λ k. level.least ≤ k)
+    pub outer : Outer (text_of source) (handles_of level.handles) level.least setting.column (place_of source setting.from) (place_of source at) (props_of setting.outer)
+
+  -- one with its own properties, after which its line goes on
+  pub record StartsDressed (setting : Setting) (head : Head) : Type 0 where
+    pub node : StartsNode setting head.at
+    pub own : StandFrom source level.handles 0 block_key head.at head.end head.own
+    pub goes_on : LineGoesOn (text_of source) (place_of source head.end) (props_of head.own)
+
+  -- a flow node that was read and is a key
+  pub record IsFirstKey (head : Head) (begun : Begun) : Type 0 where
+    pub starts : StartsWith source (flow_level level) head
+    pub stop : IsBorder source begun.node.end
+    pub goes_on : LineGoesOn (text_of source) (place_of source head.end) (props_of head.own)
+    pub key : IsOnly (text_of source) (handles_of level.handles) level.room level.least flow_out (place_of source head.at) begun.node.kind (place_of source begun.node.end)
+
+-- ---- where they end
+
+module _ (source : Chars) where
+  -- at the start of a line, here or further on
+  pub record EndsLine (at : ℕ) (next : Line) : Type 0 where
+    pub line : IsLine source next
+    pub onward : at ≤ next.start
+    pub after : AfterLine (text_of source) (place_of source next.start)
+
+  -- a key, after its colon
+  pub record EndsKey (at after : ℕ) : Type 0 where
+    pub border : IsBorder source after
+    pub onward : at < after
+
+  -- a node that is no key, and may have the properties
+  pub record EndsNode (head : Head) (outer : Properties) (end : ℕ) (next : Line) : Type 0 where
+    pub line : IsLine source next
+    pub onward : end ≤ next.start
+    pub comments : s_l_comments (text_of source) (place_of source end) (place_of source next.start)
+    pub after : AfterLine (text_of source) (place_of source next.start)
+    pub apart : Disjoint (props_of outer) (props_of head.own)
+    pub bears : MayBear (text_of source) (place_of source head.at) (props_of outer)
+
+-- ---- what stands there
+
+module _ (source : Chars) where
+  -- a collection's next entry begins in this column of the line
+  pub record IsNext (line : Line) (k : ℕ) : Type 0 where
+    pub column : line.column ≡ k
+    pub some : AtEnd (text_of source) (place_of source line.start) → ⊥
+    pub no_mark : DocumentMark (text_of source) (place_of source line.start) → ⊥
+
+  -- with its dash
+  pub record IsNextDash (line : Line) (k after : ℕ) : Type 0 where
+    pub column : line.column ≡ k
+    pub dash : IsDash source line.first after
+
+  -- what a block scalar begins with, after the node's own properties
+  pub record IsSign (head : Head) (found : Sign) : Type 0 where
+    pub border : IsBorder source found.at
+    pub onward : head.at ≤ found.at
+    pub follows : Follows (text_of source) (place_of source head.at) (place_of source head.end) (place_of source found.at) (props_of head.own)
+    pub sign : SignIs (text_of source) (place_of source found.at) found.block
+
+  -- nothing that a block scalar begins with
+  abbrev pub NoSign : Head → Type 0
+  NoSign head = (n : ℕ) → Follows (text_of source) (place_of source head.at) (place_of source head.end) n (props_of head.own) → IsStyleSign (text_of source) n → ⊥
+
+  -- the colon, with the border after it, that makes a node a mapping's first key, and the mapping's column
+  pub record IsFirstColon (at end : ℕ) (column : Option ℕ) (k after : ℕ) : Type 0 where
+    pub some : column ≡ Some k
+    pub border : IsBorder source after
+    pub further : end < after
+    pub colon : ColonAfter (text_of source) (place_of source at) (place_of source end) (place_of source after)
+
+-- ---- by which rule they are read
+
+abbrev pub RuleAt : Type 1
+RuleAt = Chars → Level → Rule (List Event)
+
+abbrev pub value_rule : RuleAt
+value_rule source level = value_rest (text_of source) wide (handles_of level.handles) level.room level.least (context_of level.context)
+
+abbrev pub line_rule : RuleAt
+line_rule source level = line_rest (text_of source) wide (handles_of level.handles) level.room level.least (context_of level.context)
+
+abbrev pub key_rule : RuleAt
+key_rule source level = key_rest (text_of source) wide (handles_of level.handles) level.room
+
+-- a node whose mapping may stand in this column without properties, if in any
+abbrev pub node_rule : Option ℕ → RuleAt
+node_rule column source level = node_rest (text_of source) wide (handles_of level.handles) level.room level.least (context_of level.context) column
+
+abbrev pub set_rule : Setting → RuleAt
+set_rule setting = node_rule (column_of (props_of setting.outer) setting.column)
+
+abbrev pub sequence_rule : Props → ℕ → RuleAt
+sequence_rule p k source level = sequence_with (text_of source) wide (handles_of level.handles) p level.room k
+
+-- what stands in a sequence or a mapping of this column, in which one collection less may be opened
+abbrev pub entry_rule : ℕ → RuleAt
+entry_rule k source level = entry_rest (text_of source) wide (handles_of level.handles) (level.room - 1) k
+
+abbrev pub entries_rule : ℕ → RuleAt
+entries_rule k source level = entries_rest (text_of source) wide (handles_of level.handles) (level.room - 1) k
+
+-- ---- what is read, from `at` on, up to a line or a key's end
+
+abbrev pub ReadsLine : {S : Type 0} → RuleAt → Chars → Level → ℕ → (S → List Event → Type 0) → S → S → Result Line Fault → Type 0
+ReadsLine R source level at holds old new result = Appends (λ _. R source level) (place_of source at) (λ line. place_of source line.start) holds old new result
+
+abbrev pub ReadsKey : {S : Type 0} → Chars → Level → ℕ → (S → List Event → Type 0) → S → S → Result ℕ Fault → Type 0
+ReadsKey source level at holds old new result = Appends (λ _. key_rule source level) (place_of source at) (place_of source) holds old new result
+
+-- ---- what is decided, from `at` on
+
+module _ (source : Chars) (level : Level) (at : ℕ) where
+  abbrev pub DecidesLine : Rule (List Event) → End → Result Line Fault → Type 0
+  DecidesLine R E result = Decides R E (place_of source at) Here (λ line. place_of source line.start) result
+
+  -- a node, or what may stand in its place
+  abbrev pub DecidesNode : RuleAt → Result Line Fault → Type 0
+  DecidesNode R = DecidesLine (R source level) (AfterNode (text_of source) level.least (context_of level.context))
+
+  abbrev pub DecidesSequence : Props → ℕ → Result Line Fault → Type 0
+  DecidesSequence p k = DecidesLine (sequence_rule p k source level) (AfterSequence (text_of source) k)
+
+  abbrev pub DecidesEntry : ℕ → Result Line Fault → Type 0
+  DecidesEntry k = DecidesLine (entry_rule k source level) (AfterEntry (text_of source) k)
+
+  abbrev pub DecidesEntries : ℕ → Result Line Fault → Type 0
+  DecidesEntries k = DecidesLine (entries_rule k source level) (AfterMapping (text_of source) k)
+
+  abbrev pub DecidesKey : Result ℕ Fault → Type 0
+  DecidesKey result = Decides (key_rule source level) (AfterColon (text_of source)) (place_of source at) Here (place_of source) result
