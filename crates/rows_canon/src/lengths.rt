@@ -17,6 +17,23 @@ fn length(alloc: Global, bytes: &[u8]) -> Result<usize, Fault> {
     canonical_len(alloc, &graph, &ranks)
 }
 
+/// That length, or the message of the fault.
+fn told(alloc: Global, bytes: &[u8]) -> Result<String, Fail> {
+    match length(alloc, bytes) {
+        Ok(len) => Ok(format!(in alloc; "{len}")?),
+        Err(fault) => Ok(format!(in alloc; "{fault}")?),
+    }
+}
+
+/// A scalar of as many letters.
+pub fn letters(alloc: Global, count: usize) -> Result<Vec<u8>, Fail> {
+    let mut letters = Vec::with_capacity(alloc, count)?;
+    for _ in 0..count {
+        letters.push(b'a')?;
+    }
+    Ok(letters)
+}
+
 /// Streams and their texts.
 static ROWS: [(&str, &str); 5] = [
     ("# nothing", ""),
@@ -31,23 +48,26 @@ static ROWS: [(&str, &str); 5] = [
 
 #[test]
 fn the_length_is_that_of_the_text(rt: HostRuntime) -> Result<(), Fail> {
+    let alloc = rt.alloc();
     for (input, text) in &ROWS {
-        let answer = length(rt.alloc(), input.as_bytes());
-        assert_eq!(rt; answer, Ok(text.len()), "{input}");
+        let got = told(alloc, input.as_bytes())?;
+        let want = format!(in alloc; "{}", text.len())?;
+        assert!(rt; got.as_str() == want.as_str(), "{input}: {got}");
     }
     Ok(())
 }
 
-/// A scalar of as many letters gives 7 bytes more.
+/// How many letters a scalar has, and the length of its text, which is 7 bytes more, unless that is too
+/// long.
+static LETTERS: [(usize, &str); 2] = [(67_108_857, "67108864"), (67_108_858, "20 TextTooLong")];
+
 #[test]
 fn a_text_past_the_limit_is_refused(rt: HostRuntime) -> Result<(), Fail> {
     let alloc = rt.alloc();
-    let mut letters = Vec::with_capacity(alloc, 67_108_858)?;
-    for _ in 0..67_108_857 {
-        letters.push(b'a')?;
+    for (count, want) in &LETTERS {
+        let letters = letters(alloc, *count)?;
+        let got = told(alloc, letters.as_slice())?;
+        assert!(rt; got.as_str() == *want, "{count}: {got}");
     }
-    assert_eq!(rt; length(alloc, letters.as_slice()), Ok(67_108_864));
-    letters.push(b'a')?;
-    assert_eq!(rt; length(alloc, letters.as_slice()), Err(Fault::TextTooLong));
     Ok(())
 }

@@ -2,8 +2,6 @@
 #![tactic(auto)]
 
 #[cfg(test)]
-mod failing;
-#[cfg(test)]
 mod gathering;
 #[cfg(test)]
 mod lengths;

@@ -6,28 +6,13 @@ fn failure() -> io::Error {
     io::Error::from(io::ErrorKind::Other)
 }
 
-/// Gives its bytes, at most `step` a call. The call `bad`, counted from 1, fails.
+/// Gives its bytes, at most `step` a call. The call `bad`, counted from 1 by `calls`, fails.
 #[derive(Clone, Copy)]
 pub struct Source<'a> {
-    bytes: &'a [u8],
-    step: usize,
-    calls: u32,
-    bad: u32,
-}
-
-impl<'a> Source<'a> {
-    pub fn new(bytes: &'a [u8], step: usize) -> Source<'a> {
-        Source {
-            bytes,
-            step,
-            calls: 0,
-            bad: 0,
-        }
-    }
-
-    pub fn failing_at(self, bad: u32) -> Source<'a> {
-        Source { bad, ..self }
-    }
+    pub bytes: &'a [u8],
+    pub step: usize,
+    pub calls: u32,
+    pub bad: u32,
 }
 
 impl Read for Source<'_> {
@@ -60,21 +45,9 @@ pub enum Ending {
 pub struct Narrow {
     pub held: Vec<u8>,
     pub longest: usize,
-    step: usize,
-    room: usize,
-    ending: Ending,
-}
-
-impl Narrow {
-    pub fn new(held: Vec<u8>, step: usize, room: usize, ending: Ending) -> Narrow {
-        Narrow {
-            held,
-            longest: 0,
-            step,
-            room,
-            ending,
-        }
-    }
+    pub step: usize,
+    pub room: usize,
+    pub ending: Ending,
 }
 
 impl Write for Narrow {
@@ -97,24 +70,5 @@ impl Write for Narrow {
             Ending::DoesNotFlush => Err(failure()),
             _ => Ok(()),
         }
-    }
-}
-
-/// Takes all that it is given and counts it.
-#[derive(Clone, Copy)]
-pub struct Tally {
-    pub taken: usize,
-    pub longest: usize,
-}
-
-impl Write for Tally {
-    fn write(&mut self, buf: &[u8]) -> io::Result<usize> {
-        self.longest = self.longest.max(buf.len());
-        self.taken = self.taken.saturating_add(buf.len());
-        Ok(buf.len())
-    }
-
-    fn flush(&mut self) -> io::Result<()> {
-        Ok(())
     }
 }

@@ -3,7 +3,7 @@ use crate::rows::{Given, Is, Row, check};
 use std::test::Fail;
 
 /// Each digit counts.
-static FLOATS: [Row; 22] = [
+static FLOATS_1: [Row; 11] = [
     Row {
         given: Given::Plain,
         text: "1e3",
@@ -70,6 +70,9 @@ static FLOATS: [Row; 22] = [
         is: Is::Float,
         content: "1e-3",
     },
+];
+
+static FLOATS_2: [Row; 11] = [
     Row {
         given: Given::Plain,
         text: "120e-2",
@@ -197,7 +200,7 @@ static ZEROS: [Row; 9] = [
 ];
 
 /// Exponents end at a million.
-static ENDS: [Row; 18] = [
+static ENDS_1: [Row; 9] = [
     Row {
         given: Given::Plain,
         text: "1e1000000",
@@ -252,6 +255,9 @@ static ENDS: [Row; 18] = [
         is: Is::Float,
         content: "1e-1000000",
     },
+];
+
+static ENDS_2: [Row; 9] = [
     Row {
         given: Given::Plain,
         text: ".1e-999999",
@@ -362,7 +368,7 @@ static WORDS: [Row; 8] = [
 
 #[test]
 fn floats_are_exact(rt: HostRuntime) -> Result<(), Fail> {
-    let tables: [&[Row]; 4] = [&FLOATS, &ZEROS, &ENDS, &WORDS];
+    let tables: [&[Row]; 6] = [&FLOATS_1, &FLOATS_2, &ZEROS, &ENDS_1, &ENDS_2, &WORDS];
     for table in &tables {
         for row in *table {
             check(&rt, row)?;

@@ -3,7 +3,7 @@ use crate::rows::{Given, Is, Row, check};
 use std::test::Fail;
 
 /// Written tags and quotes.
-static TAGS: [Row; 24] = [
+static TAGS_1: [Row; 12] = [
     Row {
         given: Given::Quoted,
         text: "1",
@@ -76,6 +76,9 @@ static TAGS: [Row; 24] = [
         is: Is::BadContent,
         content: "",
     },
+];
+
+static TAGS_2: [Row; 12] = [
     Row {
         given: Given::Int,
         text: "0o8",
@@ -222,7 +225,7 @@ static PLAIN: [Row; 11] = [
 
 #[test]
 fn tags_and_quotes_are_kept_to(rt: HostRuntime) -> Result<(), Fail> {
-    let tables: [&[Row]; 2] = [&TAGS, &PLAIN];
+    let tables: [&[Row]; 3] = [&TAGS_1, &TAGS_2, &PLAIN];
     for table in &tables {
         for row in *table {
             check(&rt, row)?;

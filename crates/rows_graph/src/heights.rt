@@ -1,102 +1,131 @@
 //! Streams that are high or long.
-use crate::shown::composed;
-use crate::words::events;
-use std::alloc::{AllocError, Global};
+use crate::answers::{Shown, gives};
+use std::alloc::Global;
 use std::fmt::Write;
-use std::process::Abort;
 use std::test::Fail;
 
-/// Appends the words as many times.
-fn repeat(text: &mut String, count: usize, words: &str) -> Result<(), AllocError> {
-    for _ in 0..count {
-        text.push_str(words)?;
+/// Pieces of words, each so many times, in which `#` is the number of the piece, counted from 0; and what
+/// is shown.
+struct Row {
+    shows: &'static str,
+    pieces: &'static [(usize, &'static str)],
+    what: Shown,
+    gives: &'static str,
+}
+
+/// The beginning of a document, and two lines more, each of which holds the one before it twice.
+const DOUBLE: (usize, &str) = (1, "--- [ &a [ x x ] &b [ *a *a ]");
+
+const TWO_LINES: &str = " &a [ *b *b ] &b [ *a *a ]";
+
+static ROWS: [Row; 8] = [
+    Row {
+        shows: "a chain of 1,023 sequences around a scalar",
+        pieces: &[
+            (1, "---"),
+            (1_023, " ["),
+            (1, " x"),
+            (1_023, " ]"),
+            (1, " ..."),
+        ],
+        what: Shown::Count,
+        gives: "1024",
+    },
+    Row {
+        shows: "one of 1,024",
+        pieces: &[
+            (1, "---"),
+            (1_024, " ["),
+            (1, " x"),
+            (1_024, " ]"),
+            (1, " ..."),
+        ],
+        what: Shown::Count,
+        gives: "18 TooHigh in document 0",
+    },
+    Row {
+        shows: "1,022 lines that double",
+        pieces: &[DOUBLE, (510, TWO_LINES), (1, " ] ...")],
+        what: Shown::Count,
+        gives: "1025",
+    },
+    Row {
+        shows: "they are ranked with a visit a node",
+        pieces: &[DOUBLE, (510, TWO_LINES), (1, " ] ...")],
+        what: Shown::Visits,
+        gives: "1025 ranks at most, 1025 visits",
+    },
+    Row {
+        shows: "a line more",
+        pieces: &[DOUBLE, (510, TWO_LINES), (1, " &a [ *b *b ] ] ...")],
+        what: Shown::Count,
+        gives: "18 TooHigh in document 0",
+    },
+    Row {
+        shows: "the first of two documents that are too high",
+        pieces: &[
+            (1, "--- x ... ---"),
+            (1_024, " ["),
+            (1, " x"),
+            (1_024, " ]"),
+            (1, " ... ---"),
+            (1_024, " ["),
+            (1, " x"),
+            (1_024, " ]"),
+            (1, " ..."),
+        ],
+        what: Shown::Count,
+        gives: "18 TooHigh in document 1",
+    },
+    Row {
+        shows: "a document that is too high is told after all events",
+        pieces: &[
+            (1, "--- x ... ---"),
+            (1_024, " ["),
+            (1, " x"),
+            (1_024, " ]"),
+            (1, " ... ---"),
+            (1_024, " ["),
+            (1, " x"),
+            (1_024, " ]"),
+            (1, " ... --- *a ..."),
+        ],
+        what: Shown::Count,
+        gives: "12 UndefinedAlias at event 4107",
+    },
+    Row {
+        shows: "a hundred thousand anchors, and an alias to each",
+        pieces: &[
+            (1, "--- ["),
+            (100_000, " &# x"),
+            (100_000, " *#"),
+            (1, " ] ..."),
+        ],
+        what: Shown::Count,
+        gives: "100001",
+    },
+];
+
+fn built(alloc: Global, pieces: &[(usize, &str)]) -> Result<String, Fail> {
+    let mut text = String::new(alloc);
+    for (count, piece) in pieces {
+        for number in 0..*count {
+            for part in piece.chars() {
+                match part {
+                    '#' => write!(text, "{number}")?,
+                    _ => text.push(part)?,
+                }
+            }
+        }
+    }
+    Ok(text)
+}
+
+#[test]
+fn high_and_long_streams_are_composed_or_refused(rt: HostRuntime) -> Result<(), Fail> {
+    for row in &ROWS {
+        let words = built(rt.alloc(), row.pieces)?;
+        gives(&rt, row.shows, words.as_str(), row.what, row.gives)?;
     }
     Ok(())
-}
-
-/// A document of as many sequences in one another, and a scalar inside.
-fn chain(alloc: Global, depth: usize) -> Result<String, AllocError> {
-    let mut text = String::new(alloc);
-    text.push_str("---")?;
-    repeat(&mut text, depth, " [")?;
-    text.push_str(" x")?;
-    repeat(&mut text, depth, " ]")?;
-    text.push_str(" ...")?;
-    Ok(text)
-}
-
-/// The beginning of a document: twice as many lines and two more, each of which holds the one before
-/// it twice.
-pub fn doubling(alloc: Global, pairs: usize) -> Result<String, AllocError> {
-    let mut text = String::new(alloc);
-    text.push_str("--- [ &a [ x x ] &b [ *a *a ]")?;
-    repeat(&mut text, pairs, " &a [ *b *b ] &b [ *a *a ]")?;
-    Ok(text)
-}
-
-/// How many nodes the graph has, or the message of the fault.
-fn counted(alloc: Global, words: &str) -> Result<String, Fail> {
-    let events = events(alloc, words)?;
-    match composed(alloc, &events) {
-        Ok(Some(graph)) => Ok(format!(in alloc; "{}", graph.len())?),
-        Ok(None) => Ok(format!(in alloc; "no stream")?),
-        Err(fault) => Ok(format!(in alloc; "{fault}")?),
-    }
-}
-
-fn gives<T: Abort + AllocGlobal>(rt: &T, words: &str, want: &str) -> Result<(), Fail> {
-    let got = counted(rt.alloc(), words)?;
-    assert_eq!(rt; got.as_str(), want);
-    Ok(())
-}
-
-#[test]
-fn a_chain_is_1_023_high_at_most(rt: HostRuntime) -> Result<(), Fail> {
-    let highest = chain(rt.alloc(), 1_023)?;
-    gives(&rt, highest.as_str(), "1024")?;
-    let higher = chain(rt.alloc(), 1_024)?;
-    gives(&rt, higher.as_str(), "18 TooHigh in document 0")
-}
-
-#[test]
-fn lines_that_double_are_1_022_at_most(rt: HostRuntime) -> Result<(), Fail> {
-    let mut lines = doubling(rt.alloc(), 510)?;
-    lines.push_str(" ] ...")?;
-    gives(&rt, lines.as_str(), "1025")?;
-    let mut more = doubling(rt.alloc(), 510)?;
-    more.push_str(" &a [ *b *b ] ] ...")?;
-    gives(&rt, more.as_str(), "18 TooHigh in document 0")
-}
-
-#[test]
-fn a_document_that_is_too_high_is_told_after_all_events(rt: HostRuntime) -> Result<(), Fail> {
-    let high = chain(rt.alloc(), 1_024)?;
-    let mut words = String::new(rt.alloc());
-    words.push_str("--- x ... ")?;
-    words.push_str(high.as_str())?;
-    words.push_str(" ")?;
-    words.push_str(high.as_str())?;
-    gives(&rt, words.as_str(), "18 TooHigh in document 1")?;
-    words.push_str(" --- *a ...")?;
-    gives(&rt, words.as_str(), "12 UndefinedAlias at event 4107")
-}
-
-/// A sequence of as many nodes, each with an anchor of its own, and an alias to each.
-fn anchors(alloc: Global, count: usize) -> Result<String, AllocError> {
-    let mut text = String::new(alloc);
-    text.push_str("--- [")?;
-    for number in 0..count {
-        write!(text, " &{number} x")?;
-    }
-    for number in 0..count {
-        write!(text, " *{number}")?;
-    }
-    text.push_str(" ] ...")?;
-    Ok(text)
-}
-
-#[test]
-fn a_hundred_thousand_anchors_and_aliases_are_composed(rt: HostRuntime) -> Result<(), Fail> {
-    let words = anchors(rt.alloc(), 100_000)?;
-    gives(&rt, words.as_str(), "100001")
 }

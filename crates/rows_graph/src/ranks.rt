@@ -1,101 +1,10 @@
 //! Ranks of the nodes of streams. In what is shown the nodes of one rank stand together, `=` between
 //! them, and ranks in their order, `<` between them; then each nonempty mapping with its entries in the
 //! order of their keys, and the visits.
-ghost use Rattle.yaml_rank.specs.RanksView.{RanksAre};
-
-use crate::heights::doubling;
-use crate::pairs::{Pair, Shown, check_pair};
-use crate::shown::composed;
-use crate::words::events;
-use std::alloc::{AllocError, Global};
-use std::fmt::Write;
-use std::process::Abort;
-use std::test::Fail;
-use yaml_graph::{Graph, NodeId};
-use yaml_rank::{Ranks, rank};
-
-/// Appends the nodes of a rank, if there are any, behind those of the ranks before.
-fn show_rank(
-    text: &mut String,
-    graph: &Graph<'_>,
-    ranks: &Ranks,
-    rank: usize,
-) -> Result<(), AllocError>
-    requires { RanksAre graph.now ranks.now }
-{
-    let mut sign = if text.is_empty() { "" } else { " < " };
-    for number in 0..graph.len() {
-        if ranks.of(NodeId(number)) == rank {
-            text.push_str(sign)?;
-            write!(text, "{number}")?;
-            sign = "=";
-        }
-    }
-    Ok(())
-}
-
-/// Appends the entries of a mapping in the order of their keys; nothing for other nodes.
-fn show_entries(
-    text: &mut String,
-    number: usize,
-    entries: &[(NodeId, NodeId)],
-) -> Result<(), AllocError> {
-    if entries.is_empty() {
-        return Ok(());
-    }
-    write!(text, "; {number}")?;
-    for (key, value) in entries {
-        write!(text, " {}:{}", key.0, value.0)?;
-    }
-    Ok(())
-}
-
-fn shown(alloc: Global, graph: &Graph<'_>, ranks: &Ranks) -> Result<String, AllocError>
-    requires { RanksAre graph.now ranks.now }
-{
-    let mut text = String::new(alloc);
-    for rank in 0..graph.len() {
-        show_rank(&mut text, graph, ranks, rank)?;
-    }
-    for number in 0..graph.len() {
-        show_entries(&mut text, number, ranks.sorted(NodeId(number)))?;
-    }
-    write!(text, "; {} visits", ranks.visits())?;
-    Ok(text)
-}
-
-/// What is shown of a graph's ranks, or the message of the fault.
-pub fn told(alloc: Global, graph: &Graph<'_>) -> Result<String, Fail> {
-    match rank(alloc, graph) {
-        Ok(ranks) => Ok(shown(alloc, graph, &ranks)?),
-        Err(fault) => Ok(format!(in alloc; "{fault}")?),
-    }
-}
-
-/// The words of events, and what is shown of the ranks, or the message of the fault.
-struct Row {
-    shows: &'static str,
-    words: &'static str,
-    gives: &'static str,
-}
-
-fn answer(alloc: Global, words: &str) -> Result<String, Fail> {
-    let events = events(alloc, words)?;
-    match composed(alloc, &events) {
-        Ok(Some(graph)) => told(alloc, &graph),
-        Ok(None) => Ok(format!(in alloc; "no stream")?),
-        Err(fault) => Ok(format!(in alloc; "{fault}")?),
-    }
-}
-
-fn check<T: Abort + AllocGlobal>(rt: &T, row: &Row) -> Result<(), Fail> {
-    let got = answer(rt.alloc(), row.words)?;
-    assert_eq!(rt; got.as_str(), row.gives, "{}", row.shows);
-    Ok(())
-}
+use crate::answers::{Pair, Row};
 
 /// Trees have their ranks.
-static RANKS: [Row; 12] = [
+pub static RANKS: [Row; 12] = [
     Row {
         shows: "a graph without nodes has no ranks",
         words: "",
@@ -159,7 +68,7 @@ static RANKS: [Row; 12] = [
 ];
 
 /// Equal keys are told.
-static EQUAL_KEYS: [Row; 9] = [
+pub static EQUAL_KEYS: [Row; 9] = [
     Row {
         shows: "one value in two spellings is one key",
         words: "--- { =1 a =0x1 b } ...",
@@ -207,19 +116,8 @@ static EQUAL_KEYS: [Row; 9] = [
     },
 ];
 
-#[test]
-fn trees_have_their_ranks_or_equal_keys(rt: HostRuntime) -> Result<(), Fail> {
-    let tables: [&[Row]; 2] = [&RANKS, &EQUAL_KEYS];
-    for table in &tables {
-        for row in *table {
-            check(&rt, row)?;
-        }
-    }
-    Ok(())
-}
-
 /// What is shown of the ranks of both graphs as one.
-static PAIRS: [Pair; 3] = [
+pub static PAIRS: [Pair; 3] = [
     Pair {
         shows: "equal nodes of two graphs have one rank",
         left: "--- [ a [ b ] ] ...",
@@ -239,36 +137,3 @@ static PAIRS: [Pair; 3] = [
         gives: "19 EqualKeys in node 11, entries 0 and 1",
     },
 ];
-
-#[test]
-fn two_graphs_are_ranked_as_one(rt: HostRuntime) -> Result<(), Fail> {
-    for pair in &PAIRS {
-        check_pair(&rt, pair, Shown::Ranks)?;
-    }
-    Ok(())
-}
-
-/// How many ranks, one more than the greatest, the nodes have, and how often one was visited.
-fn counted(alloc: Global, words: &str) -> Result<String, Fail> {
-    let events = events(alloc, words)?;
-    let Ok(Some(graph)) = composed(alloc, &events) else {
-        return Ok(format!(in alloc; "no graph")?);
-    };
-    let Ok(ranks) = rank(alloc, &graph) else {
-        return Ok(format!(in alloc; "no ranks")?);
-    };
-    let mut most = 0;
-    for number in 0..graph.len() {
-        most = most.max(ranks.of(NodeId(number)) + 1);
-    }
-    Ok(format!(in alloc; "{most} ranks at most, {} visits", ranks.visits())?)
-}
-
-#[test]
-fn lines_that_double_are_ranked_with_a_visit_a_node(rt: HostRuntime) -> Result<(), Fail> {
-    let mut lines = doubling(rt.alloc(), 510)?;
-    lines.push_str(" ] ...")?;
-    let got = counted(rt.alloc(), lines.as_str())?;
-    assert_eq!(rt; got.as_str(), "1025 ranks at most, 1025 visits");
-    Ok(())
-}

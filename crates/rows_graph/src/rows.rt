@@ -1,37 +1,9 @@
 //! Streams of a few events. In what is shown each node stands as its tag, its content or the numbers
 //! of its parts, and its height behind `^`; then the roots.
-use crate::pairs::{Pair, Shown, check_pair};
-use crate::shown::{composed, shown};
-use crate::words::events;
-use std::alloc::Global;
-use std::process::Abort;
-use std::test::Fail;
-
-/// The words of events, and what is shown of their graph, or the message of the fault.
-struct Row {
-    shows: &'static str,
-    words: &'static str,
-    gives: &'static str,
-}
-
-/// What is shown of the graph, the message of the fault, or `no stream`.
-fn answer(alloc: Global, words: &str) -> Result<String, Fail> {
-    let events = events(alloc, words)?;
-    match composed(alloc, &events) {
-        Ok(Some(graph)) => Ok(shown(alloc, &graph)?),
-        Ok(None) => Ok(format!(in alloc; "no stream")?),
-        Err(fault) => Ok(format!(in alloc; "{fault}")?),
-    }
-}
-
-fn check<T: Abort + AllocGlobal>(rt: &T, row: &Row) -> Result<(), Fail> {
-    let got = answer(rt.alloc(), row.words)?;
-    assert_eq!(rt; got.as_str(), row.gives, "{}", row.shows);
-    Ok(())
-}
+use crate::answers::{Pair, Row};
 
 /// Events have their graph.
-static GRAPHS: [Row; 15] = [
+pub static GRAPHS: [Row; 15] = [
     Row {
         shows: "a stream without documents has no nodes",
         words: "",
@@ -110,7 +82,7 @@ static GRAPHS: [Row; 15] = [
 ];
 
 /// Scalars have their tag and content.
-static SCALARS: [Row; 6] = [
+pub static SCALARS: [Row; 6] = [
     Row {
         shows: "another tag stands on any kind",
         words: "--- [ !!x a !!x [ a ] ] ...",
@@ -144,7 +116,7 @@ static SCALARS: [Row; 6] = [
 ];
 
 /// The first fault is told.
-static REFUSED: [Row; 12] = [
+pub static REFUSED: [Row; 12] = [
     Row {
         shows: "an alias needs a node of its name",
         words: "--- [ *x ] ...",
@@ -208,7 +180,7 @@ static REFUSED: [Row; 12] = [
 ];
 
 /// Faults of scalars are told.
-static REFUSED_SCALARS: [Row; 5] = [
+pub static REFUSED_SCALARS: [Row; 5] = [
     Row {
         shows: "a collection's tag is none of a scalar",
         words: "--- !tag:yaml.org,2002:seq x ...",
@@ -237,7 +209,7 @@ static REFUSED_SCALARS: [Row; 5] = [
 ];
 
 /// Other events are no stream.
-static NO_STREAMS: [Row; 4] = [
+pub static NO_STREAMS: [Row; 4] = [
     Row {
         shows: "a document ends",
         words: "--- x",
@@ -260,19 +232,8 @@ static NO_STREAMS: [Row; 4] = [
     },
 ];
 
-#[test]
-fn events_have_their_graph_or_fault(rt: HostRuntime) -> Result<(), Fail> {
-    let tables: [&[Row]; 5] = [&GRAPHS, &SCALARS, &REFUSED, &REFUSED_SCALARS, &NO_STREAMS];
-    for table in &tables {
-        for row in *table {
-            check(&rt, row)?;
-        }
-    }
-    Ok(())
-}
-
 /// What is shown of both graphs as one.
-static PAIRS: [Pair; 4] = [
+pub static PAIRS: [Pair; 4] = [
     Pair {
         shows: "the second graph's numbers and roots are moved up",
         left: "--- [ x ] ...",
@@ -298,11 +259,3 @@ static PAIRS: [Pair; 4] = [
         gives: "str=x^0 seq,0^1 / 1",
     },
 ];
-
-#[test]
-fn two_graphs_are_one(rt: HostRuntime) -> Result<(), Fail> {
-    for pair in &PAIRS {
-        check_pair(&rt, pair, Shown::Nodes)?;
-    }
-    Ok(())
-}

@@ -3,7 +3,7 @@ use crate::rows::{Call, Row, answers};
 use std::test::Fail;
 
 /// Comments end as far as they can.
-const ENDS: [Row; 21] = [
+static ENDS: [Row; 21] = [
     ("", 0, "ends at 0"),
     ("a", 0, "ends at 0"),
     ("a", 1, "ends at 1"),
@@ -28,7 +28,7 @@ const ENDS: [Row; 21] = [
 ];
 
 /// Content and tabs are no comments.
-const NONE: [Row; 9] = [
+static NONE: [Row; 9] = [
     ("a b", 1, "none"),
     ("a  b", 1, "none"),
     ("a#b\nc", 1, "none"),
@@ -40,12 +40,10 @@ const NONE: [Row; 9] = [
     ("a\u{2028}", 1, "none"),
 ];
 
-/// All of them.
-const TABLES: [&[Row]; 2] = [&ENDS, &NONE];
-
 #[test]
 fn comments_end_as_far_as_they_can(rt: HostRuntime) -> Result<(), Fail> {
-    for table in &TABLES {
+    let tables: [&[Row]; 2] = [&ENDS, &NONE];
+    for table in &tables {
         for row in *table {
             answers(&rt, Call::Comments, row)?;
         }

@@ -3,7 +3,7 @@ use crate::rows::{Call, Row, answers};
 use std::test::Fail;
 
 /// Directives end before the first other line.
-const ENDS: [Row; 16] = [
+static ENDS: [Row; 16] = [
     ("%YAML 1.2\n---", 0, "ends at 10"),
     ("%YAML  1.2 # c\n\n#d\n---", 0, "ends at 19"),
     ("%YAML 1.2", 0, "ends at 9"),
@@ -23,7 +23,7 @@ const ENDS: [Row; 16] = [
 ];
 
 /// Malformed and repeated directives are refused.
-const MALFORMED: [Row; 18] = [
+static MALFORMED: [Row; 18] = [
     ("%YAML 1.3\n---", 0, "9 BadDirective at byte 0"),
     ("%YAML 1.1\n---", 0, "9 BadDirective at byte 0"),
     ("%YAML 1.2\n%YAML 1.2\n---", 0, "9 BadDirective at byte 10"),
@@ -45,7 +45,7 @@ const MALFORMED: [Row; 18] = [
 ];
 
 /// A tab is no separation.
-const TABS: [Row; 9] = [
+static TABS: [Row; 9] = [
     ("%YAML\t1.2", 0, "5 Tab at byte 5"),
     ("%YAML \t1.2", 0, "5 Tab at byte 6"),
     ("%YAML 1.2\t", 0, "5 Tab at byte 9"),
@@ -57,12 +57,10 @@ const TABS: [Row; 9] = [
     ("%x a\tb", 0, "5 Tab at byte 4"),
 ];
 
-/// All of them.
-const TABLES: [&[Row]; 3] = [&ENDS, &MALFORMED, &TABS];
-
 #[test]
 fn directives_end_or_are_refused(rt: HostRuntime) -> Result<(), Fail> {
-    for table in &TABLES {
+    let tables: [&[Row]; 3] = [&ENDS, &MALFORMED, &TABS];
+    for table in &tables {
         for row in *table {
             answers(&rt, Call::Directives, row)?;
         }

@@ -7,7 +7,7 @@ use yaml_mark::name::read_name;
 use yaml_text::chars::Chars;
 use yaml_text::places::is_border;
 
-const NAMES: [Row; 17] = [
+static NAMES: [Row; 17] = [
     ("&a b", 0, "a ends at 2"),
     ("*a b", 0, "a ends at 2"),
     ("*a", 0, "a ends at 2"),

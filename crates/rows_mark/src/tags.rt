@@ -7,7 +7,7 @@ use yaml_text::chars::Chars;
 use yaml_text::event::EventTag;
 
 /// Tags are decoded once.
-const TAGS: [Row; 18] = [
+static TAGS: [Row; 18] = [
     ("! a", 0, "! ends at 1"),
     ("!", 0, "! ends at 1"),
     ("!,a", 0, "! ends at 1"),
@@ -29,7 +29,7 @@ const TAGS: [Row; 18] = [
 ];
 
 /// Handles stand for their prefixes.
-const BOUND: [Row; 9] = [
+static BOUND: [Row; 9] = [
     (
         "%TAG !e! tag:example.com,2000:\n---\n!e!x%21 v",
         35,
@@ -54,7 +54,7 @@ const BOUND: [Row; 9] = [
 ];
 
 /// What is no tag is refused.
-const NO_TAGS: [Row; 25] = [
+static NO_TAGS: [Row; 25] = [
     ("!<a b> x", 0, "11 BadTag at byte 0"),
     ("!<>", 0, "11 BadTag at byte 0"),
     ("!<a", 0, "11 BadTag at byte 0"),
@@ -82,12 +82,10 @@ const NO_TAGS: [Row; 25] = [
     ("\u{FEFF}a", 0, "4 Syntax at byte 3"),
 ];
 
-/// All of them.
-const TABLES: [&[Row]; 3] = [&TAGS, &BOUND, &NO_TAGS];
-
 #[test]
 fn tags_are_read_or_refused(rt: HostRuntime) -> Result<(), Fail> {
-    for table in &TABLES {
+    let tables: [&[Row]; 3] = [&TAGS, &BOUND, &NO_TAGS];
+    for table in &tables {
         for row in *table {
             answers(&rt, Call::Tag, row)?;
         }

@@ -1,7 +1,7 @@
 //! A sample of random streams, with the events that the definitions give them (`tools/definitions/sample.py rows`).
 use crate::rows::Row;
 
-pub static SAMPLE_1: [Row; 40] = [
+pub static SAMPLE_1: [Row; 10] = [
     Row {
         input: "\t  --- ]a!!s%x y\n",
         answer: "refused",
@@ -42,6 +42,9 @@ pub static SAMPLE_1: [Row; 40] = [
         input: "\n !t \n\n  ",
         answer: "|+DOC|=VAL <!t> :|-DOC",
     },
+];
+
+pub static SAMPLE_2: [Row; 10] = [
     Row {
         input: "\n --- :- k: v\n]",
         answer: "refused",
@@ -82,6 +85,9 @@ pub static SAMPLE_1: [Row; 40] = [
         input: "  \n   k: v\n!e!z {[...\n'y'",
         answer: "refused",
     },
+];
+
+pub static SAMPLE_3: [Row; 10] = [
     Row {
         input: "  \n |\nk: v\n{?!e!z !e!z &b",
         answer: "|+DOC|=VAL |k: v\n{?!e!z !e!z &b|-DOC",
@@ -122,6 +128,9 @@ pub static SAMPLE_1: [Row; 40] = [
         input: " %x y\n",
         answer: "refused",
     },
+];
+
+pub static SAMPLE_4: [Row; 10] = [
     Row {
         input: " - #",
         answer: "|+DOC|+SEQ|=VAL :|-SEQ|-DOC",
@@ -164,7 +173,7 @@ pub static SAMPLE_1: [Row; 40] = [
     },
 ];
 
-pub static SAMPLE_2: [Row; 40] = [
+pub static SAMPLE_5: [Row; 10] = [
     Row {
         input: "%TAG !e! q\n&b? !t ",
         answer: "refused",
@@ -205,6 +214,9 @@ pub static SAMPLE_2: [Row; 40] = [
         input: "&b\"x\"b\"x\"k: v\n!t *a ",
         answer: "|+DOC|=VAL &b\"x\"b\"x\"k: :v !t *a|-DOC",
     },
+];
+
+pub static SAMPLE_6: [Row; 10] = [
     Row {
         input: "&b- k: v\n  --- ? [",
         answer: "|+DOC|+MAP|=VAL &b- :k|=VAL :v --- ? [|-MAP|-DOC",
@@ -245,6 +257,9 @@ pub static SAMPLE_2: [Row; 40] = [
         input: "-  \r\n >\n {  ",
         answer: "|+DOC|+SEQ|=VAL >{  |-SEQ|-DOC",
     },
+];
+
+pub static SAMPLE_7: [Row; 10] = [
     Row {
         input: "- # c\n",
         answer: "|+DOC|+SEQ|=VAL :|-SEQ|-DOC",
@@ -285,6 +300,9 @@ pub static SAMPLE_2: [Row; 40] = [
         input: "---\nb",
         answer: "|+DOC ---|=VAL :b|-DOC",
     },
+];
+
+pub static SAMPLE_8: [Row; 10] = [
     Row {
         input: "--- *a }: %TAG !e! q\n{",
         answer: "refused",
@@ -327,7 +345,7 @@ pub static SAMPLE_2: [Row; 40] = [
     },
 ];
 
-pub static SAMPLE_3: [Row; 40] = [
+pub static SAMPLE_9: [Row; 10] = [
     Row {
         input: ":\n, ",
         answer: "refused",
@@ -368,6 +386,9 @@ pub static SAMPLE_3: [Row; 40] = [
         input: ">\n- k: v\n",
         answer: "|+DOC|=VAL >- k: v\n|-DOC",
     },
+];
+
+pub static SAMPLE_10: [Row; 10] = [
     Row {
         input: ">\n- k: v\n\n!!s",
         answer: "|+DOC|=VAL >- k: v\n!!s|-DOC",
@@ -408,6 +429,9 @@ pub static SAMPLE_3: [Row; 40] = [
         input: "]?, [!e!z ",
         answer: "refused",
     },
+];
+
+pub static SAMPLE_11: [Row; 10] = [
     Row {
         input: "a!e!z k: v\n",
         answer: "|+DOC|+MAP|=VAL :a!e!z k|=VAL :v|-MAP|-DOC",
@@ -448,6 +472,9 @@ pub static SAMPLE_3: [Row; 40] = [
         input: "b*a - &b? %TAG !e! q\n!!s? ",
         answer: "|+DOC|=VAL :b*a - &b? %TAG !e! q !!s?|-DOC",
     },
+];
+
+pub static SAMPLE_12: [Row; 10] = [
     Row {
         input: "b--- ? ]?",
         answer: "|+DOC|=VAL :b--- ? ]?|-DOC",

@@ -1,28 +1,89 @@
-//! Runs of words over two files.
+//! Runs of words over files in memory.
 use std::alloc::Global;
 use std::io;
+use std::io::Write;
+use std::process::Abort;
 use std::test::Fail;
 use yaml_command::shelf::Shelf;
 use yaml_review_command::command::command_over;
 
-/// Two files, `left` and `right`.
+/// Files that are there in each run, by name.
+static FILES: [(&str, &[u8]); 10] = [
+    ("flow.yaml", b"[a, b]\n"),
+    ("back\\slash", b"[a, b]\n"),
+    ("line\nfeed", b"[a, b]\n"),
+    ("carriage\rreturn", b"[a, b]\n"),
+    ("block.yaml", b"# two items\n- 'a'\n- \"\\x62\"\n"),
+    ("one.yaml", b"- x\n"),
+    ("refused.yaml", b"a: [1,\n2\n"),
+    ("lines", b"flow.yaml\n\none.yaml"),
+    ("empty\nlist", b""),
+    ("nulls", b"line\nfeed\0one.yaml\0"),
+];
+
+/// These, a folder, and the files `left` and `right`.
 #[derive(Clone, Copy)]
-pub struct Pair<'a> {
-    pub left: &'a [u8],
-    pub right: &'a [u8],
+struct Files<'a> {
+    left: &'a [u8],
+    right: &'a [u8],
 }
 
-impl<'a> Shelf for Pair<'a> {
+impl<'a> Shelf for Files<'a> {
     type File = &'a [u8];
 
     fn open(&self, name: &str) -> io::Result<&'a [u8]> {
         match name {
-            "left" => Ok(self.left),
-            "right" => Ok(self.right),
-            _ => Err(io::Error::from(io::ErrorKind::NotFound)),
+            "left" => return Ok(self.left),
+            "right" => return Ok(self.right),
+            // As the files of a runtime answer what is no regular file.
+            "folder" => return Err(io::Error::from(io::ErrorKind::Unsupported)),
+            _ => {}
         }
+        for (file, bytes) in &FILES {
+            if *file == name {
+                return Ok(*bytes);
+            }
+        }
+        Err(io::Error::from(io::ErrorKind::NotFound))
     }
 }
+
+/// A writer that takes so many bytes, and then fails.
+#[derive(Drop)]
+struct Short<'a> {
+    held: &'a mut Vec<u8>,
+    room: usize,
+}
+
+impl Write for Short<'_> {
+    fn write(&mut self, buf: &[u8]) -> io::Result<usize> {
+        let count = buf.len().min(self.room);
+        if count == 0 {
+            return Err(io::Error::from(io::ErrorKind::Other));
+        }
+        self.held.extend_from_slice(&buf[..count])?;
+        self.room -= count;
+        Ok(count)
+    }
+
+    fn flush(&mut self) -> io::Result<()> {
+        Ok(())
+    }
+}
+
+/// What a run is given: words, the files `left` and `right`, a standard input, and how many bytes standard
+/// output and standard error take.
+#[derive(Clone, Copy)]
+pub struct Given<'a> {
+    pub words: &'a [&'a str],
+    pub left: &'a [u8],
+    pub right: &'a [u8],
+    pub input: &'a [u8],
+    pub rooms: (usize, usize),
+}
+
+/// Room for whatever is written.
+pub const ALL: (usize, usize) = (usize::MAX, usize::MAX);
 
 /// What a run answered and wrote.
 #[derive(Drop)]
@@ -32,25 +93,40 @@ pub struct Ran {
     pub err: String,
 }
 
-/// Runs the words over two files and no standard input.
-pub fn run(alloc: Global, files: Pair<'_>, words: &[&str]) -> Result<Ran, Fail> {
-    let mut list = Vec::new(alloc);
-    for word in words {
-        list.push(word.to_string(alloc)?)?;
+impl Ran {
+    /// Asserts what the run of this name answered and wrote.
+    pub fn gave<T: Abort>(&self, rt: &T, name: &str, status: u8, out: &str, err: &str) {
+        let (got_out, got_err) = (self.out.as_str(), self.err.as_str());
+        assert!(rt;
+            self.status == status && got_out == out && got_err == err,
+            "{name}: {} {got_out:?} {got_err:?}",
+            self.status
+        );
     }
-    let mut out = Vec::new(alloc);
-    let mut err = Vec::new(alloc);
-    let status = command_over(
-        &files,
-        alloc,
-        list.as_slice(),
-        "".as_bytes(),
-        &mut out,
-        &mut err,
-    );
+}
+
+pub fn run(alloc: Global, given: Given<'_>) -> Result<Ran, Fail> {
+    let mut words = Vec::new(alloc);
+    for word in given.words {
+        words.push(word.to_string(alloc)?)?;
+    }
+    let files = Files {
+        left: given.left,
+        right: given.right,
+    };
+    let (mut held, mut held_err) = (Vec::new(alloc), Vec::new(alloc));
+    let out = Short {
+        held: &mut held,
+        room: given.rooms.0,
+    };
+    let err = Short {
+        held: &mut held_err,
+        room: given.rooms.1,
+    };
+    let status = command_over(&files, alloc, words.as_slice(), given.input, out, err);
     Ok(Ran {
         status,
-        out: String::from_utf8(out)?,
-        err: String::from_utf8(err)?,
+        out: String::from_utf8(held)?,
+        err: String::from_utf8(held_err)?,
     })
 }

@@ -26,7 +26,7 @@ pub static ROWS: [Refused; 5] = [
 ];
 
 /// Bytes that are no UTF-8, or that no text may have, and the message of the fault.
-const BYTES: [(&[u8], &str); 8] = [
+static BYTES: [(&[u8], &str); 8] = [
     (b"\xFF", "2 NotUtf8 at byte 0"),
     (b"a: \x80", "2 NotUtf8 at byte 3"),
     (b"\xC0\x80", "2 NotUtf8 at byte 0"),

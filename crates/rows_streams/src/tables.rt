@@ -15,7 +15,7 @@ use std::test::Fail;
 
 #[test]
 fn nodes_are_read(rt: HostRuntime) -> Result<(), Fail> {
-    let tables: [&[Node]; 17] = [
+    let tables: [&[Node]; 18] = [
         &block_mappings::ROWS,
         &block_sequences::ROWS,
         &block_scalars_1::ROWS,
@@ -23,7 +23,8 @@ fn nodes_are_read(rt: HostRuntime) -> Result<(), Fail> {
         &block_scalars_3::ROWS,
         &flow_mappings_1::ROWS,
         &flow_mappings_2::ROWS,
-        &flow_sequences::ROWS,
+        &flow_sequences::ROWS_1,
+        &flow_sequences::ROWS_2,
         &separation::ROWS,
         &plain_1::ROWS,
         &plain_2::ROWS,
@@ -57,9 +58,10 @@ fn streams_are_read(rt: HostRuntime) -> Result<(), Fail> {
 
 #[test]
 fn what_has_no_canonical_text_is_refused(rt: HostRuntime) -> Result<(), Fail> {
-    let tables: [&[Meaningless]; 3] = [
+    let tables: [&[Meaningless]; 4] = [
         &faults_of_aliases::ROWS,
-        &faults_of_content::ROWS,
+        &faults_of_content::ROWS_1,
+        &faults_of_content::ROWS_2,
         &faults_of_keys::ROWS,
     ];
     for table in &tables {
@@ -73,12 +75,15 @@ fn what_has_no_canonical_text_is_refused(rt: HostRuntime) -> Result<(), Fail> {
 
 #[test]
 fn what_is_not_read_is_refused(rt: HostRuntime) -> Result<(), Fail> {
-    let tables: [&[Refused]; 6] = [
+    let tables: [&[Refused]; 9] = [
         &faults_of_directives::ROWS,
         &faults_of_escapes::ROWS,
         &faults_of_tabs::ROWS,
         &faults_of_text::ROWS,
-        &faults_of_syntax::ROWS,
+        &faults_of_syntax::ROWS_1,
+        &faults_of_syntax::ROWS_2,
+        &faults_of_syntax::ROWS_3,
+        &faults_of_syntax::ROWS_4,
         &faults_of_tags::ROWS,
     ];
     for table in &tables {

@@ -36,7 +36,7 @@ fn fault(number: u8) -> Option<Fault> {
 }
 
 /// A fault's number, its name and its message.
-const FAULTS: [(u8, &str, &str); 23] = [
+static FAULTS: [(u8, &str, &str); 23] = [
     (1, "TooLong", "1 TooLong"),
     (2, "NotUtf8", "2 NotUtf8 at byte 0"),
     (3, "NotPrintable", "3 NotPrintable at byte 1"),
@@ -95,7 +95,7 @@ fn read(alloc: Global, bytes: &[u8]) -> Result<String, Fail> {
 }
 
 /// An input, and what `read` answers.
-const INPUTS: [(&[u8], &str); 17] = [
+static INPUTS: [(&[u8], &str); 17] = [
     (b"", "0 to 0"),
     (b"a", "0 to 1"),
     (b"\t\n\r ~", "0 to 5"),

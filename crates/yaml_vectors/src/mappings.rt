@@ -1,7 +1,7 @@
 //! Flow mappings, anchors and aliases, and keys by their meaning.
 use crate::rows::{Pair, Row};
 
-pub static READ: [Row; 28] = [
+pub static READ_1: [Row; 9] = [
     Row {
         shows: "entries stand in the order of their keys",
         input: b"--- {\"b\" : \"1\", \"a\" : [\"x\"], \"c\":[\"x\"]}",
@@ -47,6 +47,9 @@ pub static READ: [Row; 28] = [
         input: b"--- {[\"a\"]:\"1\",{}:\"2\"}",
         answer: "--- {{} : \"2\", [\"a\"] : \"1\"}\n",
     },
+];
+
+pub static READ_2: [Row; 9] = [
     Row {
         shows: "lists are compared item by item",
         input: b"--- {[\"b\"]:\"1\",[\"a\",\"b\"]:\"2\",[\"a\"]:\"3\"}",
@@ -92,6 +95,9 @@ pub static READ: [Row; 28] = [
         input: b"--- {[\"a\"] : [\"a\"]}",
         answer: "--- {&a1 [\"a\"] : *a1}\n",
     },
+];
+
+pub static READ_3: [Row; 10] = [
     Row {
         shows: "a value and a later key",
         input: b"--- {\"k\" : [\"a\"], [\"a\"] : \"k\"}",
@@ -144,7 +150,7 @@ pub static READ: [Row; 28] = [
     },
 ];
 
-pub static REFUSED: [Row; 21] = [
+pub static REFUSED_1: [Row; 10] = [
     Row {
         shows: "an alias without a node",
         input: b"--- [*x]",
@@ -195,6 +201,9 @@ pub static REFUSED: [Row; 21] = [
         input: b"--- {\"a\":\"1\" \"b\":\"2\"}",
         answer: "4 Syntax at byte 13",
     },
+];
+
+pub static REFUSED_2: [Row; 11] = [
     Row {
         shows: "a brace that is not closed",
         input: b"--- {\"a\":\"1\"",

@@ -5,15 +5,27 @@ use std::test::Fail;
 
 #[test]
 fn inputs_have_their_answers(rt: HostRuntime) -> Result<(), Fail> {
-    let tables: [&[Row]; 8] = [
-        &sequences::READ,
-        &sequences::REFUSED,
-        &mappings::READ,
-        &mappings::REFUSED,
+    let tables: [&[Row]; 20] = [
+        &sequences::READ_1,
+        &sequences::READ_2,
+        &sequences::READ_3,
+        &sequences::REFUSED_1,
+        &sequences::REFUSED_2,
+        &sequences::REFUSED_3,
+        &sequences::REFUSED_4,
+        &sequences::REFUSED_5,
+        &mappings::READ_1,
+        &mappings::READ_2,
+        &mappings::READ_3,
+        &mappings::REFUSED_1,
+        &mappings::REFUSED_2,
         &mappings::KEYS,
-        &worked::FIRST,
-        &worked::SECOND,
-        &worked::REFUSED,
+        &worked::FIRST_1,
+        &worked::FIRST_2,
+        &worked::SECOND_1,
+        &worked::SECOND_2,
+        &worked::REFUSED_1,
+        &worked::REFUSED_2,
     ];
     for table in &tables {
         for row in *table {

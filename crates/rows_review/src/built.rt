@@ -1,0 +1,269 @@
+//! Files that are too long to be written out.
+use crate::runs::{ALL, Given, run};
+use std::alloc::Global;
+use std::process::Abort;
+use std::test::Fail;
+
+/// A front, and so many times a piece, in which `#` is the number of the piece, counted from 1, and `%`
+/// that of the one before it; and an end.
+#[derive(Clone, Copy)]
+struct Text {
+    front: &'static str,
+    count: usize,
+    piece: &'static str,
+    end: &'static str,
+}
+
+const NONE: Text = Text {
+    front: "",
+    count: 0,
+    piece: "",
+    end: "",
+};
+
+/// A text of 60 lines, each of which doubles the one before it.
+const DOUBLING: Text = Text {
+    count: 59,
+    piece: "- &a# [*a%, *a%]\n",
+    ..NONE
+};
+
+const ITEMS: Text = Text {
+    count: 200,
+    piece: "- item: %\n",
+    ..NONE
+};
+
+const DOCUMENTS: Text = Text {
+    count: 200,
+    piece: "--- {item: %}\n",
+    ..NONE
+};
+
+/// Of a key of which 65,534 bytes are letters and a space, and the rest two characters that are longer.
+const LONG_KEY: Text = Text {
+    count: 65_532,
+    piece: "x",
+    ..NONE
+};
+
+/// Words, the files `left` and `right`, the status, what is told, and whether that is all.
+struct Row {
+    name: &'static str,
+    words: &'static [&'static str],
+    left: Text,
+    right: Text,
+    status: u8,
+    told: Text,
+    is_all: bool,
+}
+
+static DIFFERENCES: [Row; 5] = [
+    Row {
+        name: "of 2^60 - 1 places the first four are told, and that there are more",
+        words: &["diff", "--no-places", "--lines", "4", "left", "right"],
+        left: Text {
+            front: "- &a0 [x, x]\n",
+            ..DOUBLING
+        },
+        right: Text {
+            front: "- &a0 [x, y]\n",
+            ..DOUBLING
+        },
+        status: 1,
+        told: Text {
+            front: "~\t0[0][1]\t\"x\"\t\"y\"\n~\t0[1][0][1]\t\"x\"\t\"y\"\n~\t0[1][1][1]\t\"x\"\t\"y\"\n~\t0[2][0][0][1]\t\"x\"\t\"y\"\n...\n",
+            ..NONE
+        },
+        is_all: true,
+    },
+    Row {
+        name: "an item put in front of 200 others is one line",
+        words: &["diff", "left", "right"],
+        left: ITEMS,
+        right: Text {
+            front: "- new\n",
+            ..ITEMS
+        },
+        status: 1,
+        told: Text {
+            front: "+\t0[0]\t\t\"new\"\t\t1:3\n",
+            ..NONE
+        },
+        is_all: true,
+    },
+    Row {
+        name: "and so is a document",
+        words: &["diff", "left", "right"],
+        left: DOCUMENTS,
+        right: Text {
+            front: "--- new\n",
+            ..DOCUMENTS
+        },
+        status: 1,
+        told: Text {
+            front: "+\t0\t\t\"new\"\t\t1:5\n",
+            ..NONE
+        },
+        is_all: true,
+    },
+    Row {
+        name: "a text that is cut inside its last character",
+        words: &["diff", "--no-places", "left", "right"],
+        left: Text {
+            front: "a日日日日日日日日日日日日日日日日日日日日",
+            ..NONE
+        },
+        right: Text {
+            front: "a日日日日日日日日日日日日日日日日日日日月",
+            ..NONE
+        },
+        status: 1,
+        told: Text {
+            front: "~\t0\t\"a日日日日日日日日日日日日日日日日日日日...\t\"a日日日日日日日日日日日日日日日日日日日...\n",
+            ..NONE
+        },
+        is_all: true,
+    },
+    Row {
+        name: "a key that is cut so, in the path of a difference",
+        words: &["diff", "--no-places", "left", "right"],
+        left: Text {
+            front: "{}",
+            ..NONE
+        },
+        right: Text {
+            front: "{? \"a ",
+            end: "日月\": 1}\n",
+            ..LONG_KEY
+        },
+        status: 1,
+        told: Text {
+            front: "+\t0[\"a ",
+            end: "...]\t\t!!int \"1\"\n",
+            ..LONG_KEY
+        },
+        is_all: true,
+    },
+];
+
+/// Of what is told of these, a line and a caret stand behind the message.
+static FAULTS: [Row; 4] = [
+    Row {
+        name: "a key that is cut so, in the path of a fault",
+        words: &["faults", "left"],
+        left: Text {
+            front: "{? \"a ",
+            end: "日日\": !!int x}\n",
+            ..LONG_KEY
+        },
+        right: NONE,
+        status: 2,
+        told: Text {
+            front: "left:1:65550: 15 BadContent at byte 65553: 0[\"a ",
+            end: "...]: this text is none of its tag\n",
+            ..LONG_KEY
+        },
+        is_all: false,
+    },
+    Row {
+        name: "a key that is too long",
+        words: &["faults", "left"],
+        left: Text {
+            front: "a: 1\n",
+            count: 1_025,
+            piece: "b",
+            end: ": 2\n",
+        },
+        right: NONE,
+        status: 2,
+        told: Text {
+            front: "left:2:1: 6 KeyTooLong at byte 5: a key on its value's line has at most 1,024 characters\n",
+            ..NONE
+        },
+        is_all: false,
+    },
+    Row {
+        name: "collections that nest too deep",
+        words: &["faults", "left"],
+        left: Text {
+            count: 1_025,
+            piece: "[",
+            ..NONE
+        },
+        right: NONE,
+        status: 2,
+        told: Text {
+            front: "left:1:1025: 7 TooDeep at byte 1024: collections nest at most 1,024 deep\n",
+            ..NONE
+        },
+        is_all: false,
+    },
+    Row {
+        name: "a chain of aliases that is too high",
+        words: &["faults", "left"],
+        left: Text {
+            front: "# chain\n- &a0 [x]\n",
+            count: 1_099,
+            piece: "- &a# [*a%]\n",
+            end: "",
+        },
+        right: NONE,
+        status: 2,
+        told: Text {
+            front: "left:2:1: 18 TooHigh at byte 8: 0: with its aliases in place the document is more than 1,023 levels high\n",
+            ..NONE
+        },
+        is_all: false,
+    },
+];
+
+fn built(alloc: Global, text: &Text) -> Result<String, Fail> {
+    let mut all = text.front.to_string(alloc)?;
+    for before in 0..text.count {
+        for part in text.piece.chars() {
+            match part {
+                '#' => all.push_str(&format!(in alloc; "{}", before.saturating_add(1))?)?,
+                '%' => all.push_str(&format!(in alloc; "{before}")?)?,
+                _ => all.push(part)?,
+            }
+        }
+    }
+    all.push_str(text.end)?;
+    Ok(all)
+}
+
+fn is_told<T: Abort + AllocGlobal>(rt: &T, row: &Row) -> Result<(), Fail> {
+    let alloc = rt.alloc();
+    let (left, right) = (built(alloc, &row.left)?, built(alloc, &row.right)?);
+    let told = built(alloc, &row.told)?;
+    let given = Given {
+        words: row.words,
+        left: left.as_bytes(),
+        right: right.as_bytes(),
+        input: b"",
+        rooms: ALL,
+    };
+    let ran = run(alloc, given)?;
+    let (out, err) = (ran.out.as_str(), ran.err.as_str());
+    let is_told = out.starts_with(told.as_str())
+        && (out.len() == told.as_str().len() || !row.is_all);
+    assert!(rt;
+        ran.status == row.status && is_told && err == "",
+        "{}: {} {out:?} {err:?}",
+        row.name,
+        ran.status
+    );
+    Ok(())
+}
+
+#[test]
+fn runs_over_long_files_are_told(rt: HostRuntime) -> Result<(), Fail> {
+    let tables: [&[Row]; 2] = [&DIFFERENCES, &FAULTS];
+    for table in &tables {
+        for row in *table {
+            is_told(&rt, row)?;
+        }
+    }
+    Ok(())
+}

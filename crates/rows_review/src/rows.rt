@@ -1,0 +1,49 @@
+//! Every table of runs over two files. A test is proved and paid for, a row is not, so one goes over all tables.
+use crate::runs::{ALL, Given, run};
+use crate::{differences, faults, places, warnings};
+use std::process::Abort;
+use std::test::Fail;
+
+/// Words, the files `left` and `right`, and what the run answers and writes.
+pub struct Row {
+    pub name: &'static str,
+    pub words: &'static [&'static str],
+    pub left: &'static [u8],
+    pub right: &'static [u8],
+    pub status: u8,
+    pub out: &'static str,
+    pub err: &'static str,
+}
+
+fn is_told<T: Abort + AllocGlobal>(rt: &T, row: &Row) -> Result<(), Fail> {
+    let given = Given {
+        words: row.words,
+        left: row.left,
+        right: row.right,
+        input: b"",
+        rooms: ALL,
+    };
+    let ran = run(rt.alloc(), given)?;
+    ran.gave(rt, row.name, row.status, row.out, row.err);
+    Ok(())
+}
+
+#[test]
+fn runs_over_two_files_are_told(rt: HostRuntime) -> Result<(), Fail> {
+    let tables: [&[Row]; 8] = [
+        &differences::ROWS,
+        &faults::SYNTAX,
+        &faults::MEANINGS,
+        &faults::OTHERS,
+        &warnings::ROWS,
+        &places::ROWS,
+        &places::GIT,
+        &places::REFUSED,
+    ];
+    for table in &tables {
+        for row in *table {
+            is_told(&rt, row)?;
+        }
+    }
+    Ok(())
+}
