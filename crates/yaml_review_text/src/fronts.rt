@@ -10,6 +10,9 @@ const SIDE: usize = 80;
 /// How many bytes these have at most.
 const SIDE_BYTES: usize = 4 * SIDE;
 
+/// More spaces than a character is wide.
+const SPACES: &str = "    ";
+
 /// Whether a terminal shows a character as itself: controls and what turns or hides text are not printed.
 fn is_shown(c: char) -> bool {
     !c.is_control()
@@ -31,27 +34,41 @@ pub fn put_shown(out: &mut String, text: &str) -> Result<(), Fault> {
     Ok(())
 }
 
-/// The last characters of a piece of a line.
-fn last(alloc: Global, piece: &[u8]) -> Result<String, Fault> {
-    let from = piece.len().saturating_sub(SIDE_BYTES);
-    let text = String::from_utf8_lossy(alloc, piece.get(from..).unwrap_or(piece))?;
-    let count = text.chars().count();
-    let mut out = String::new(alloc);
-    for c in text.chars().skip(count.saturating_sub(SIDE)) {
-        out.push(shown(c))?;
+/// The last characters of a text.
+fn last(text: &str) -> &str {
+    match text.char_indices().rev().nth(SIDE - 1) {
+        Some((at, _)) => text.get(at..).unwrap_or(text),
+        None => text,
     }
-    Ok(out)
 }
 
-/// The first characters of a piece of a line.
-fn first(alloc: Global, piece: &[u8]) -> Result<String, Fault> {
-    let to = piece.len().min(SIDE_BYTES);
-    let text = String::from_utf8_lossy(alloc, piece.get(..to).unwrap_or(piece))?;
-    let mut out = String::new(alloc);
-    for c in text.chars().take(SIDE) {
-        out.push(shown(c))?;
+/// The first characters of a text.
+fn first(text: &str) -> &str {
+    match text.char_indices().nth(SIDE) {
+        Some((at, _)) => text.get(..at).unwrap_or(text),
+        None => text,
     }
-    Ok(out)
+}
+
+/// What stands below a character that is shown: a tab, or as many spaces as it is wide.
+fn below(c: char) -> &'static str {
+    if c == '\t' {
+        "\t"
+    } else {
+        SPACES.get(..c.width().unwrap_or(0)).unwrap_or(SPACES)
+    }
+}
+
+/// Writes a line of these two pieces, and below it a caret between them.
+fn put_window(out: &mut String, before: &str, behind: &str) -> Result<(), Fault> {
+    put_shown(out, before)?;
+    put_shown(out, behind)?;
+    out.push('\n')?;
+    for c in before.chars() {
+        out.push_str(below(shown(c)))?;
+    }
+    out.push_str("^\n")?;
+    Ok(())
 }
 
 /// Writes the line on which an offset stands, and below it a caret under the character there. Of a long line a window round it is
@@ -64,20 +81,9 @@ pub fn put_source_line(
 ) -> Result<(), Fault> {
     let at = at.min(text.len());
     let (start, end) = source_line(text, at);
-    let before = last(alloc, text.get(start..at).unwrap_or(&[]))?;
-    let behind = first(alloc, text.get(at..end).unwrap_or(&[]))?;
-    out.push_str(&before)?;
-    out.push_str(&behind)?;
-    out.push('\n')?;
-    for c in before.chars() {
-        if c == '\t' {
-            out.push(c)?;
-        } else {
-            for _ in 0..c.width().unwrap_or(0) {
-                out.push(' ')?;
-            }
-        }
-    }
-    out.push_str("^\n")?;
-    Ok(())
+    let from = start.max(at.saturating_sub(SIDE_BYTES));
+    let to = end.min(at.saturating_add(SIDE_BYTES));
+    let before = String::from_utf8_lossy(alloc, text.get(from..at).unwrap_or(&[]))?;
+    let behind = String::from_utf8_lossy(alloc, text.get(at..to).unwrap_or(&[]))?;
+    put_window(out, last(&before), first(&behind))
 }

@@ -30,7 +30,8 @@ impl Layout {
 
     /// The offset of an event's own text.
     pub fn offset(&self, event: usize) -> Option<usize> {
-        self.offsets.get(event).map(|offset| *offset as usize)
+        let offset = self.offsets.get(event)?;
+        Some(*offset as usize)
     }
 }
 
@@ -44,8 +45,9 @@ struct Open {
 }
 
 impl Layout {
-    /// Takes the event of this number.
-    fn take(&mut self, open: &mut Open, at: usize, shape: Shape) -> Result<(), Fault> {
+    /// Takes the event of this number and offset.
+    fn take(&mut self, open: &mut Open, at: usize, shape: Shape, offset: u32) -> Result<(), Fault> {
+        self.offsets.push(offset)?;
         match shape {
             Shape::Scalar => {
                 self.firsts.push(self.parts.len())?;
@@ -86,8 +88,7 @@ pub fn lay_out(alloc: Global, trace: &Trace) -> Result<Layout, Fault> {
         nodes: Vec::new(alloc),
     };
     for (at, (shape, offset)) in trace.events.iter().enumerate() {
-        layout.offsets.push(*offset)?;
-        layout.take(&mut open, at, *shape)?;
+        layout.take(&mut open, at, *shape, *offset)?;
     }
     layout.roots = open.nodes;
     Ok(layout)

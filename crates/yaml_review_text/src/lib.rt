@@ -3,6 +3,7 @@
 
 pub mod both;
 pub mod fronts;
+pub mod json;
 pub mod layout;
 pub mod lines;
 pub mod path;

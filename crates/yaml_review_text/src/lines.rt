@@ -1,5 +1,5 @@
 //! The lines of a comparison.
-use serde_json::{Value, json};
+use crate::json::{Said, put_object, text_of};
 use std::alloc::Global;
 use yaml_place::Place;
 use yaml_review_words::Form;
@@ -39,19 +39,16 @@ impl Line {
     }
 
     /// Columns ended by tabs: sign, path, left and right, and behind these the places if they are told.
-    fn put_columns(&self, alloc: Global, out: &mut String, places: bool) -> Result<(), Fault> {
+    fn put_columns(&self, out: &mut String, places: bool) -> Result<(), Fault> {
         out.push_str(self.sign())?;
-        out.push('\t')?;
-        out.push_str(&self.path)?;
-        out.push('\t')?;
-        out.push_str(text_or_none(&self.left))?;
-        out.push('\t')?;
-        out.push_str(text_or_none(&self.right))?;
+        put_column(out, Some(self.path.as_str()))?;
+        put_column(out, text_of(&self.left))?;
+        put_column(out, text_of(&self.right))?;
         if places {
-            out.push('\t')?;
-            put_place(alloc, out, self.left_place)?;
-            out.push('\t')?;
-            put_place(alloc, out, self.right_place)?;
+            for place in &[self.left_place, self.right_place] {
+                out.push('\t')?;
+                put_place(out, *place)?;
+            }
         }
         out.push('\n')?;
         Ok(())
@@ -59,19 +56,15 @@ impl Line {
 
     /// One JSON object.
     fn put_json(&self, alloc: Global, out: &mut String) -> Result<(), Fault> {
-        let kind = self.kind();
-        let path = self.path.as_str();
-        let left = text_value(alloc, &self.left)?;
-        let right = text_value(alloc, &self.right)?;
-        let left_place = place_value(alloc, self.left_place)?;
-        let right_place = place_value(alloc, self.right_place)?;
-        let line = json!(in alloc; {
-            "kind": kind, "path": path, "left": left, "right": right,
-            "left_place": left_place, "right_place": right_place
-        })?;
-        out.push_str(&line.to_string(alloc)?)?;
-        out.push('\n')?;
-        Ok(())
+        let members = [
+            ("kind", Said::Text(Some(self.kind()))),
+            ("path", Said::Text(Some(self.path.as_str()))),
+            ("left", Said::Text(text_of(&self.left))),
+            ("right", Said::Text(text_of(&self.right))),
+            ("left_place", Said::Place(self.left_place)),
+            ("right_place", Said::Place(self.right_place)),
+        ];
+        put_object(alloc, out, &members)
     }
 
     /// Writes the line in the form that is asked for.
@@ -83,7 +76,7 @@ impl Line {
         places: bool,
     ) -> Result<(), Fault> {
         match form {
-            Form::Line => self.put_columns(alloc, out, places),
+            Form::Line => self.put_columns(out, places),
             Form::Json => self.put_json(alloc, out),
         }
     }
@@ -98,37 +91,20 @@ pub fn put_more(out: &mut String, form: Form) -> Result<(), Fault> {
     Ok(())
 }
 
-fn text_or_none(text: &Option<String>) -> &str {
-    match text {
-        Some(text) => text.as_str(),
-        None => "",
-    }
-}
-
-fn text_value(alloc: Global, text: &Option<String>) -> Result<Value, Fault> {
-    match text {
-        Some(text) => Ok(json!(in alloc; text.as_str())?),
-        None => Ok(Value::Null),
-    }
-}
-
-fn put_place(alloc: Global, out: &mut String, place: Option<Place>) -> Result<(), Fault> {
-    if let Some(place) = place {
-        let line = place.line;
-        let column = place.column;
-        out.push_str(&format!(in alloc; "{line}:{column}")?)?;
+/// A column behind another: the text, if there is one.
+fn put_column(out: &mut String, text: Option<&str>) -> Result<(), Fault> {
+    out.push('\t')?;
+    if let Some(text) = text {
+        out.push_str(text)?;
     }
     Ok(())
 }
 
-/// A place as JSON.
-pub fn place_value(alloc: Global, place: Option<Place>) -> Result<Value, Fault> {
-    match place {
-        Some(place) => {
-            let line = place.line as u64;
-            let column = place.column as u64;
-            Ok(json!(in alloc; {"line": line, "column": column})?)
-        }
-        None => Ok(Value::Null),
+fn put_place(out: &mut String, place: Option<Place>) -> Result<(), Fault> {
+    if let Some(place) = place {
+        let line = place.line;
+        let column = place.column;
+        write!(out, "{line}:{column}")?;
     }
+    Ok(())
 }

@@ -9,7 +9,7 @@ use yaml_path::places::Places;
 use yaml_text::fault::Fault;
 
 /// One of the two streams.
-#[derive(Clone, Copy, Debug, PartialEq, Eq)]
+#[derive(Clone, Copy)]
 pub enum Hand {
     Left,
     Right,
@@ -25,17 +25,14 @@ impl Hand {
     }
 }
 
-/// Writes where an item or a document stands: its place, or two places where it has another on the right.
-fn put_places(alloc: Global, out: &mut String, places: Places) -> Result<(), Fault> {
+/// Writes where an item or a document stands: its place, or two places where it has another on the right. Those of an item stand in
+/// brackets.
+fn put_places(out: &mut String, places: Places, is_item: bool) -> Result<(), Fault> {
+    let (open, close) = if is_item { ("[", "]") } else { ("", "") };
     match places {
-        Places::Both(left, right) => {
-            out.push_str(&format!(in alloc; "{left}")?)?;
-            if left != right {
-                out.push_str(&format!(in alloc; ":{right}")?)?;
-            }
-        }
-        Places::Left(place) | Places::Right(place) => {
-            out.push_str(&format!(in alloc; "{place}")?)?;
+        Places::Both(left, right) if left != right => write!(out, "{open}{left}:{right}{close}")?,
+        Places::Both(place, _) | Places::Left(place) | Places::Right(place) => {
+            write!(out, "{open}{place}{close}")?;
         }
     }
     Ok(())
@@ -46,61 +43,51 @@ pub fn path_text(alloc: Global, both: &Both<'_>, path: &[Step]) -> Result<String
     let mut out = String::new(alloc);
     for (depth, step) in path.iter().rev().enumerate() {
         match step {
-            Step::Item(places) if depth == 0 => put_places(alloc, &mut out, *places)?,
-            Step::Item(places) => {
-                out.push('[')?;
-                put_places(alloc, &mut out, *places)?;
-                out.push(']')?;
-            }
+            Step::Item(places) => put_places(&mut out, *places, depth > 0)?,
             Step::Value(key) => put_key(alloc, &mut out, both, *key)?,
         }
     }
     Ok(out)
 }
 
-/// The place of a key among the entries of a mapping in the order of its file, where keys that are no aliases have numbers that rise.
-fn risen(entries: &[(NodeId, NodeId)], key: NodeId) -> Option<usize> {
-    let mut low = 0;
-    let mut high = entries.len();
-    for _ in 0..usize::BITS {
-        if low >= high {
-            break;
-        }
-        let middle = low + (high - low) / 2;
-        let here = entries.get(middle)?.0;
-        if here == key {
-            return Some(middle);
-        }
-        if here.0 < key.0 {
-            low = middle.saturating_add(1);
-        } else {
-            high = middle;
-        }
-    }
-    None
+/// By what the keys of entries rise.
+#[derive(Clone, Copy)]
+enum Order {
+    /// Their numbers, in the order of the file, where they are no aliases.
+    Number,
+    /// Their ranks, in the order of the keys.
+    Rank,
 }
 
-/// The key of this rank, of entries in the order of their keys.
-fn key_of(both: &Both<'_>, sorted: &[(NodeId, NodeId)], rank: usize) -> Option<NodeId> {
-    let mut low = 0;
-    let mut high = sorted.len();
-    for _ in 0..usize::BITS {
-        if low >= high {
-            break;
-        }
-        let middle = low + (high - low) / 2;
-        let key = sorted.get(middle)?.0;
-        let here = both.rank(key)?;
-        if here == rank {
-            return Some(key);
-        }
-        if here < rank {
-            low = middle.saturating_add(1);
-        } else {
-            high = middle;
+impl Order {
+    fn number(self, both: &Both<'_>, key: NodeId) -> Option<usize> {
+        match self {
+            Order::Number => Some(key.0),
+            Order::Rank => both.rank(key),
         }
     }
-    None
+
+    /// The place of the key of this number, of entries whose keys rise.
+    fn find(self, both: &Both<'_>, entries: &[(NodeId, NodeId)], number: usize) -> Option<usize> {
+        let mut low = 0;
+        let mut high = entries.len();
+        for _ in 0..usize::BITS {
+            if low >= high {
+                break;
+            }
+            let middle = low + (high - low) / 2;
+            let here = self.number(both, entries.get(middle)?.0)?;
+            if here == number {
+                return Some(middle);
+            }
+            if here < number {
+                low = middle.saturating_add(1);
+            } else {
+                high = middle;
+            }
+        }
+        None
+    }
 }
 
 /// The place of the entry of a key in a mapping, of which the key may be another node of its rank.
@@ -110,31 +97,34 @@ fn entry_of(
     entries: &[(NodeId, NodeId)],
     key: NodeId,
 ) -> Option<usize> {
-    let own = key_of(both, both.sorted(mapping), both.rank(key)?)?;
-    match risen(entries, own) {
-        Some(place) => Some(place),
-        None => entries.iter().position(|entry| entry.0 == own),
+    let sorted = both.sorted(mapping);
+    let own = sorted
+        .get(Order::Rank.find(both, sorted, both.rank(key)?)?)?
+        .0;
+    if let Some(place) = Order::Number.find(both, entries, own.0) {
+        return Some(place);
     }
+    for (place, entry) in entries.iter().enumerate() {
+        if entry.0 == own {
+            return Some(place);
+        }
+    }
+    None
 }
 
 /// The part to which a step leads on one side, and its number among the parts of its node.
 fn step_down(both: &Both<'_>, hand: Hand, node: NodeId, step: Step) -> Option<(NodeId, usize)> {
-    match step {
-        Step::Item(places) => {
+    match (&both.node(node)?.kind, step) {
+        (NodeKind::Sequence(items), Step::Item(places)) => {
             let place = hand.place(places)?;
-            match &both.node(node)?.kind {
-                NodeKind::Sequence(items) => Some((items.get(place).copied()?, place)),
-                _ => None,
-            }
+            Some((*items.get(place)?, place))
         }
-        Step::Value(key) => match &both.node(node)?.kind {
-            NodeKind::Mapping(entries) => {
-                let place = entry_of(both, node, entries, key)?;
-                let value = entries.get(place)?.1;
-                Some((value, place.saturating_mul(2).saturating_add(1)))
-            }
-            _ => None,
-        },
+        (NodeKind::Mapping(entries), Step::Value(key)) => {
+            let place = entry_of(both, node, entries, key)?;
+            let value = entries.get(place)?.1;
+            Some((value, place.saturating_mul(2).saturating_add(1)))
+        }
+        _ => None,
     }
 }
 

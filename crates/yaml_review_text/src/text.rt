@@ -1,5 +1,6 @@
 //! The text of a node: that of the canonical text, with aliases in place.
 use crate::both::Both;
+use percent_encoding::percent_encode_byte;
 use std::alloc::Global;
 use yaml_graph::node::{NodeId, NodeKind};
 use yaml_scalar::spell::spell_into;
@@ -25,79 +26,62 @@ const MAP_TAG: &str = "tag:yaml.org,2002:map";
 #[derive(Clone, Copy)]
 enum Part {
     Node(NodeId),
-    /// The items of a sequence from this place on.
-    Items(NodeId, usize),
-    /// The entries of a mapping from this place on, in the order of their keys.
-    Entries(NodeId, usize),
-    /// A value behind its key.
-    Value(NodeId),
+    /// The items of a sequence, or the entries of a mapping in the order of their keys, from this place on.
+    Parts(NodeId, usize),
+    /// What stands between a key and its value.
+    Colon,
 }
 
 /// Whether a str is written in a path as it is.
 fn is_name(text: &str) -> bool {
-    let mut bytes = text.bytes();
-    match bytes.next() {
-        Some(first) => {
-            (first.is_ascii_alphabetic() || first == b'_')
-                && bytes.all(|byte| byte.is_ascii_alphanumeric() || byte == b'_' || byte == b'-')
+    for (at, byte) in text.bytes().enumerate() {
+        let is_letter = byte.is_ascii_alphabetic() || byte == b'_';
+        let is_behind = byte.is_ascii_digit() || byte == b'-';
+        if !is_letter && (at == 0 || !is_behind) {
+            return false;
         }
-        None => false,
     }
+    !text.is_empty()
 }
 
-/// A digit of base 16, in upper case.
-fn hex_digit(value: u8) -> char {
-    match char::from_digit((value % 16) as u32, 16) {
-        Some(digit) => digit.to_ascii_uppercase(),
-        None => '0',
+/// Writes texts one behind another.
+pub fn put_all(out: &mut String, texts: &[&str]) -> Result<(), Fault> {
+    for text in texts {
+        out.push_str(text)?;
     }
+    Ok(())
 }
 
-/// A tag's bytes: as they are where they are URI characters, else percent-encoded.
-fn put_encoded(out: &mut String, tag: &str) -> Result<(), Fault> {
+/// A tag in full: its bytes are as they are where they are URI characters, else percent-encoded.
+fn put_full_tag(out: &mut String, tag: &str) -> Result<(), Fault> {
+    out.push_str("!<")?;
     for byte in tag.as_bytes() {
         let c = char::from(*byte);
         if byte.is_ascii() && is_uri(c) {
             out.push(c)?;
         } else {
-            out.push('%')?;
-            out.push(hex_digit(*byte / 16))?;
-            out.push(hex_digit(*byte % 16))?;
+            out.push_str(percent_encode_byte(*byte))?;
         }
     }
-    Ok(())
+    Ok(out.push_str("> ")?)
 }
 
 /// A tag and a space. A kind's own tag is not written.
 fn put_tag(out: &mut String, tag: &str, own: &str) -> Result<(), Fault> {
-    if tag == own {
-        return Ok(());
-    }
-    match tag {
-        "tag:yaml.org,2002:int" => out.push_str("!!int ")?,
-        "tag:yaml.org,2002:null" => out.push_str("!!null ")?,
-        "tag:yaml.org,2002:bool" => out.push_str("!!bool ")?,
-        "tag:yaml.org,2002:float" => out.push_str("!!float ")?,
-        _ => {
-            out.push_str("!<")?;
-            put_encoded(out, tag)?;
-            out.push_str("> ")?;
-        }
-    }
-    Ok(())
+    let short = match tag {
+        _ if tag == own => "",
+        "tag:yaml.org,2002:int" => "!!int ",
+        "tag:yaml.org,2002:null" => "!!null ",
+        "tag:yaml.org,2002:bool" => "!!bool ",
+        "tag:yaml.org,2002:float" => "!!float ",
+        _ => return put_full_tag(out, tag),
+    };
+    Ok(out.push_str(short)?)
 }
 
 /// A text's start of at most so many bytes, up to the end of a character.
 pub fn front(text: &str, room: usize) -> &str {
-    let mut end = 0;
-    for (at, c) in text.char_indices() {
-        let next = at.saturating_add(c.len_utf8());
-        if next > room {
-            break;
-        }
-        end = next;
-    }
-    text.get(..end).unwrap_or(text)
+    text.get(..text.floor_char_boundary(room)).unwrap_or(text)
 }
 
 /// A scalar of this tag and content, of which little more is spelled than may be shown.
@@ -123,78 +107,51 @@ fn put_part(
             let Some(node) = both.node(id) else {
                 return Ok(());
             };
-            match &node.kind {
-                NodeKind::Scalar(content) => {
-                    put_scalar(out, node.tag.as_str(), content.as_str(), room)?;
-                }
-                NodeKind::Sequence(_) => {
-                    put_tag(out, node.tag.as_str(), SEQ_TAG)?;
-                    out.push('[')?;
-                    rest.push(Part::Items(id, 0))?;
-                }
-                NodeKind::Mapping(_) => {
-                    put_tag(out, node.tag.as_str(), MAP_TAG)?;
-                    out.push('{')?;
-                    rest.push(Part::Entries(id, 0))?;
-                }
-            }
+            let tag = node.tag.as_str();
+            let (own, bracket) = match &node.kind {
+                NodeKind::Scalar(content) => return put_scalar(out, tag, content.as_str(), room),
+                NodeKind::Sequence(_) => (SEQ_TAG, '['),
+                NodeKind::Mapping(_) => (MAP_TAG, '{'),
+            };
+            put_tag(out, tag, own)?;
+            out.push(bracket)?;
+            rest.push(Part::Parts(id, 0))?;
+            Ok(())
         }
-        Part::Items(id, place) => put_items(both, id, place, rest, out)?,
-        Part::Entries(id, place) => put_entries(both, id, place, rest, out)?,
-        Part::Value(id) => {
-            out.push_str(" : ")?;
-            rest.push(Part::Node(id))?;
-        }
-    }
-    Ok(())
-}
-
-/// The item at a place of a sequence, if there is one.
-fn item_at(both: &Both<'_>, id: NodeId, place: usize) -> Option<NodeId> {
-    match &both.node(id)?.kind {
-        NodeKind::Sequence(items) => items.get(place).copied(),
-        _ => None,
+        Part::Parts(id, place) => put_next(both, id, place, rest, out),
+        Part::Colon => Ok(out.push_str(" : ")?),
     }
 }
 
-fn put_items(
+/// Writes what stands before the item or the entry at a place, or what closes the collection, and notes what is still to be written.
+fn put_next(
     both: &Both<'_>,
     id: NodeId,
     place: usize,
     rest: &mut Vec<Part>,
     out: &mut String,
 ) -> Result<(), Fault> {
-    let item = item_at(both, id, place);
-    match item {
-        Some(item) => {
-            if place > 0 {
-                out.push_str(", ")?;
+    let Some(node) = both.node(id) else {
+        return Ok(());
+    };
+    let comma = if place > 0 { ", " } else { "" };
+    let next = Part::Parts(id, place.saturating_add(1));
+    match &node.kind {
+        NodeKind::Scalar(_) => {}
+        NodeKind::Sequence(items) => match items.get(place) {
+            Some(item) => {
+                out.push_str(comma)?;
+                rest.extend_from_slice(&[next, Part::Node(*item)])?;
             }
-            rest.push(Part::Items(id, place.saturating_add(1)))?;
-            rest.push(Part::Node(item))?;
-        }
-        None => out.push(']')?,
-    }
-    Ok(())
-}
-
-fn put_entries(
-    both: &Both<'_>,
-    id: NodeId,
-    place: usize,
-    rest: &mut Vec<Part>,
-    out: &mut String,
-) -> Result<(), Fault> {
-    match both.sorted(id).get(place).copied() {
-        Some((key, value)) => {
-            if place > 0 {
-                out.push_str(", ")?;
+            None => out.push(']')?,
+        },
+        NodeKind::Mapping(_) => match both.sorted(id).get(place) {
+            Some((key, value)) => {
+                out.push_str(comma)?;
+                rest.extend_from_slice(&[next, Part::Node(*value), Part::Colon, Part::Node(*key)])?;
             }
-            rest.push(Part::Entries(id, place.saturating_add(1)))?;
-            rest.push(Part::Value(value))?;
-            rest.push(Part::Node(key))?;
-        }
-        None => out.push('}')?,
+            None => out.push('}')?,
+        },
     }
     Ok(())
 }
@@ -205,8 +162,7 @@ fn cut(alloc: Global, text: String, room: usize) -> Result<String, Fault> {
         return Ok(text);
     }
     let mut short = String::new(alloc);
-    short.push_str(front(&text, room))?;
-    short.push_str(MORE)?;
+    put_all(&mut short, &[front(&text, room), MORE])?;
     Ok(short)
 }
 
@@ -230,6 +186,11 @@ pub fn node_text(alloc: Global, both: &Both<'_>, id: NodeId, room: usize) -> Res
     cut(alloc, text, room)
 }
 
+/// A step in brackets.
+fn put_bracketed(out: &mut String, text: &str) -> Result<(), Fault> {
+    put_all(out, &["[", text, "]"])
+}
+
 /// The text of a step to the value of a key of this tag and content.
 pub fn put_scalar_key(
     alloc: Global,
@@ -238,45 +199,19 @@ pub fn put_scalar_key(
     content: &str,
 ) -> Result<(), Fault> {
     if tag == STR_TAG && is_name(content) {
-        out.push('.')?;
-        out.push_str(content)?;
-        return Ok(());
+        return put_all(out, &[".", content]);
     }
     let mut text = String::new(alloc);
     put_scalar(&mut text, tag, content, WHOLE)?;
-    out.push('[')?;
-    out.push_str(&cut(alloc, text, WHOLE)?)?;
-    out.push(']')?;
-    Ok(())
-}
-
-/// The content of a key that is written as it is.
-fn name_of<'b>(both: &'b Both<'_>, key: NodeId) -> Option<&'b str> {
-    let node = both.node(key)?;
-    match &node.kind {
-        NodeKind::Scalar(content) => {
-            if node.tag.as_str() == STR_TAG && is_name(content.as_str()) {
-                Some(content.as_str())
-            } else {
-                None
-            }
-        }
-        _ => None,
-    }
+    put_bracketed(out, &cut(alloc, text, WHOLE)?)
 }
 
 /// The text of a step to the value of a key.
 pub fn put_key(alloc: Global, out: &mut String, both: &Both<'_>, key: NodeId) -> Result<(), Fault> {
-    match name_of(both, key) {
-        Some(name) => {
-            out.push('.')?;
-            out.push_str(name)?;
-        }
-        None => {
-            out.push('[')?;
-            out.push_str(&node_text(alloc, both, key, WHOLE)?)?;
-            out.push(']')?;
-        }
+    if let Some(node) = both.node(key)
+        && let NodeKind::Scalar(content) = &node.kind
+    {
+        return put_scalar_key(alloc, out, node.tag.as_str(), content.as_str());
     }
-    Ok(())
+    put_bracketed(out, &node_text(alloc, both, key, WHOLE)?)
 }

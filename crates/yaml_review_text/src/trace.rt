@@ -10,7 +10,7 @@ use yaml_text::event::{Event, Style};
 use yaml_text::fault::Fault;
 
 /// What an event does to the nodes that are open.
-#[derive(Clone, Copy, Debug, PartialEq, Eq)]
+#[derive(Clone, Copy)]
 pub enum Shape {
     Scalar,
     Alias,
@@ -80,7 +80,8 @@ impl Trace {
 
     /// The offset of an event's own text.
     pub fn offset(&self, event: usize) -> Option<usize> {
-        self.events.get(event).map(|entry| entry.1 as usize)
+        let (_, offset) = self.events.get(event)?;
+        Some(*offset as usize)
     }
 }
 

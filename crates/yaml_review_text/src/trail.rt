@@ -1,12 +1,15 @@
 //! Paths of events, where no graph is made.
-use crate::text::put_scalar_key;
+use crate::text::{put_all, put_scalar_key};
 use std::alloc::Global;
 use yaml_core::scalar::resolve;
 use yaml_text::event::{Event, EventTag, Style};
 use yaml_text::fault::Fault;
 
+/// The step of a key that is no scalar.
+const UNTOLD: &str = "[?]";
+
 /// A collection that is open.
-#[derive(Clone, Copy, Debug)]
+#[derive(Clone, Copy)]
 pub struct Frame {
     /// The number of its event.
     pub event: usize,
@@ -88,15 +91,12 @@ impl Trail {
                 continue;
             }
             if frame.is_mapping {
-                let key = if frame.parts % 2 == 1 {
-                    frame.last
-                } else {
-                    frame.key
-                };
+                let is_key = frame.parts % 2 == 1;
+                let key = if is_key { frame.last } else { frame.key };
                 put_key(alloc, &mut out, events.get(key))?;
             } else {
                 let place = frame.parts.saturating_sub(1);
-                out.push_str(&format!(in alloc; "[{place}]")?)?;
+                write!(out, "[{place}]")?;
             }
         }
         Ok(out)
@@ -114,16 +114,8 @@ fn put_key(alloc: Global, out: &mut String, event: Option<&Event<'_>>) -> Result
                 ..
             },
         ) => put_scalar_step(alloc, out, tag, *style, text.as_str()),
-        Some(Event::Alias { name }) => {
-            out.push_str("[*")?;
-            out.push_str(name.as_str())?;
-            out.push(']')?;
-            Ok(())
-        }
-        _ => {
-            out.push_str("[?]")?;
-            Ok(())
-        }
+        Some(Event::Alias { name }) => put_all(out, &["[*", name.as_str(), "]"]),
+        _ => Ok(out.push_str(UNTOLD)?),
     }
 }
 
@@ -136,9 +128,6 @@ fn put_scalar_step(
 ) -> Result<(), Fault> {
     match resolve(alloc, tag, style, text) {
         Ok(scalar) => put_scalar_key(alloc, out, scalar.tag.as_str(), scalar.content.as_str()),
-        Err(_) => {
-            out.push_str("[?]")?;
-            Ok(())
-        }
+        Err(_) => Ok(out.push_str(UNTOLD)?),
     }
 }

@@ -3,21 +3,16 @@ use yaml_text::fault::Fault;
 
 /// What a syntax fault commonly is, by the text round its place.
 fn syntax_words(text: &str, at: usize) -> &'static str {
-    let (before, behind) = match text.get(..at) {
-        Some(before) => (before, text.get(at..).unwrap_or("")),
-        None => ("", ""),
-    };
+    let before = text.get(..at).unwrap_or("");
+    let behind = text.get(at..).unwrap_or("");
     let line = before.rsplit('\n').next().unwrap_or("");
     let is_first = line.trim().is_empty();
-    let mut chars = behind.chars();
-    let here = chars.next();
-    let next = chars.next();
-    match here {
+    match behind.chars().next() {
         None =>
             "the text ends inside a node that is not closed: a quote, a bracket or a brace is missing",
         Some('\t') =>
             "a tab cannot stand here: indentation and separation are spaces, and no tab stands behind a key",
-        Some('{') if next == Some('{') || before.ends_with('{') => {
+        Some('{') if behind.starts_with("{{") || before.ends_with('{') => {
             "`{{` is a template's, which is filled in before the file is YAML; else the value stands between quotes"
         }
         Some('?') if is_first => {
@@ -50,13 +45,9 @@ fn syntax_words(text: &str, at: usize) -> &'static str {
 /// Whether the last sign before a line, comments left out, is one after which a flow collection goes on.
 fn is_in_flow(before: &str) -> bool {
     for line in before.rsplit('\n') {
-        let text = match line.find(" #") {
-            Some(at) => line.get(..at).unwrap_or(line),
-            None => line,
-        };
-        let text = text.trim();
+        let text = line.split(" #").next().unwrap_or(line).trim();
         if !text.is_empty() && !text.starts_with('#') {
-            return text.ends_with(',') || text.ends_with('[') || text.ends_with('{');
+            return text.ends_with([',', '[', '{']);
         }
     }
     false
@@ -64,21 +55,18 @@ fn is_in_flow(before: &str) -> bool {
 
 /// How deep the first node of a line stands, behind the indicators of items.
 fn depth(line: &str) -> usize {
-    line.chars().take_while(|c| *c == ' ' || *c == '-').count()
+    let node = line.trim_start_matches([' ', '-']);
+    line.len().saturating_sub(node.len())
 }
 
 /// Whether a line of one key up to its `:` stands deeper than the line above, which has a value.
 fn is_too_deep(line: &str, before: &str) -> bool {
-    let above = before
-        .rsplit('\n')
-        .skip(1)
-        .find(|above| !above.trim().is_empty());
-    match above {
-        Some(above) => {
-            above.contains(": ") && !line.contains(": ") && depth(above) < depth(line)
+    for above in before.rsplit('\n').skip(1) {
+        if !above.trim().is_empty() {
+            return above.contains(": ") && !line.contains(": ") && depth(above) < depth(line);
         }
-        None => false,
     }
+    false
 }
 
 /// What a fault is, for one who mends the file. Of a syntax fault it is what is commonly meant.

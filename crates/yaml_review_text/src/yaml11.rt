@@ -4,7 +4,7 @@ ghost use Rattle.std.specs.Prelude.{◌≡◌, None, option_map};
 ghost use Rattle.yaml_review_text.specs.Yaml11.{after_one, all_of, some_of, unsigned, behind_zeros, octal, prefixed, spaced, grouped, is_word, older_of, IsOlder};
 
 /// What YAML 1.1 makes of a plain text that the core schema of YAML 1.2 reads otherwise.
-#[derive(Clone, Copy, Debug, PartialEq, Eq)]
+#[derive(Clone, Copy)]
 pub enum Older {
     Bool,
     Octal,
@@ -144,6 +144,8 @@ fn is_bool(text: &str) -> bool
     )
 }
 
+const DIGITS: &[u8] = b"0123456789";
+
 /// What is left of a text that is read piece by piece.
 #[derive(Clone, Copy)]
 struct Rest<'a> {
@@ -153,10 +155,12 @@ struct Rest<'a> {
 impl<'a> Rest<'a> {
     /// How many bytes of a set stand first.
     fn count(&self, set: &[u8]) -> usize {
-        self.bytes
-            .iter()
-            .take_while(|&byte| set.contains(byte))
-            .count()
+        for (at, byte) in self.bytes.iter().enumerate() {
+            if !set.contains(byte) {
+                return at;
+            }
+        }
+        self.bytes.len()
     }
 
     /// Takes so many bytes.
@@ -166,18 +170,31 @@ impl<'a> Rest<'a> {
 
     /// Takes one byte of a set, if it stands first.
     fn one(&mut self, set: &[u8]) -> bool {
-        let found = self.bytes.first().is_some_and(|byte| set.contains(byte));
-        if found {
-            self.skip(1);
+        match behind_one(self.bytes, set) {
+            Some(rest) => {
+                self.bytes = rest;
+                true
+            }
+            None => false,
         }
-        found
     }
 
-    /// Takes digits, as many as there are, if there are so many.
-    fn digits(&mut self, least: usize, most: usize) -> bool {
-        let count = self.count(b"0123456789");
-        self.skip(count);
-        least <= count && count <= most
+    /// Takes bytes of a shape, if they stand first: `d` is a digit, `D` one that may be left out, and others are themselves.
+    fn shape(&mut self, shape: &[u8]) -> bool {
+        for byte in shape {
+            let found = match byte {
+                b'd' => self.one(DIGITS),
+                b'D' => {
+                    self.one(DIGITS);
+                    true
+                }
+                _ => self.one(&[*byte]),
+            };
+            if !found {
+                return false;
+            }
+        }
+        true
     }
 
     fn is_empty(&self) -> bool {
@@ -201,7 +218,7 @@ fn is_sexagesimal(mut rest: Rest<'_>) -> bool {
         if is_high && rest.count(b"012345") == 0 {
             return false;
         }
-        if !rest.digits(1, 2) {
+        if !rest.shape(b"dD") {
             return false;
         }
         groups = groups.saturating_add(1);
@@ -214,12 +231,7 @@ fn is_sexagesimal(mut rest: Rest<'_>) -> bool {
 
 /// A day, `[0-9]{4}-[0-9]{2}-[0-9]{2}`
 fn is_day(mut rest: Rest<'_>) -> bool {
-    rest.digits(4, 4)
-        && rest.one(b"-")
-        && rest.digits(2, 2)
-        && rest.one(b"-")
-        && rest.digits(2, 2)
-        && rest.is_empty()
+    rest.shape(b"dddd-dd-dd") && rest.is_empty()
 }
 
 /// Takes blanks.
@@ -238,32 +250,23 @@ fn is_zone(mut rest: Rest<'_>) -> bool {
     if rest.one(b"Z") {
         return rest.is_empty();
     }
-    if !rest.one(b"+-") || !rest.digits(1, 2) {
-        return false;
-    }
-    rest.is_empty() || (rest.one(b":") && rest.digits(2, 2) && rest.is_empty())
+    let is_hours = rest.one(b"+-") && rest.shape(b"dD");
+    is_hours && (rest.is_empty() || (rest.shape(b":dd") && rest.is_empty()))
 }
 
 /// A day and a time of day, with a fraction and a zone perhaps.
 fn is_time(mut rest: Rest<'_>) -> bool {
-    let is_day = rest.digits(4, 4)
-        && rest.one(b"-")
-        && rest.digits(1, 2)
-        && rest.one(b"-")
-        && rest.digits(1, 2);
-    if !is_day || !(rest.one(b"Tt") || blanks(&mut rest) > 0) {
+    if !rest.shape(b"dddd-dD-dD") {
         return false;
     }
-    let is_clock = rest.digits(1, 2)
-        && rest.one(b":")
-        && rest.digits(2, 2)
-        && rest.one(b":")
-        && rest.digits(2, 2);
-    if !is_clock {
+    if !rest.one(b"Tt") && blanks(&mut rest) == 0 {
+        return false;
+    }
+    if !rest.shape(b"dD:dd:dd") {
         return false;
     }
     if rest.one(b".") {
-        let count = rest.count(b"0123456789");
+        let count = rest.count(DIGITS);
         rest.skip(count);
     }
     is_zone(rest)
