@@ -1,5 +1,5 @@
 -- Block nodes and their parts at a level: where they begin and end, by which rule they are read, and what is decided of them (YAML 1.2.2, 8.2).
-use Rattle.std.specs.Prelude.{◌≡◌, ◌⊎◌, ℕ, ◌-◌, ◌<◌, ◌≤◌, List, Result, Option, Some, None, MatchOption}
+use Rattle.std.specs.Prelude.{◌≡◌, ◌⊎◌, ℕ, ◌-◌, ◌<◌, ◌≤◌, List, Result, Option, Some, MatchOption}
 use Rattle.std.specs.Char.{is_ascii_alphanumeric}
 use Rattle.yaml_definitions.specs.model.Event.{Event}
 use Rattle.yaml_definitions.specs.grammar.Rules.{Rule, Stands}
@@ -23,7 +23,6 @@ use Rattle.yaml_flow.specs.PropertyPlaces.{StandFrom}
 use Rattle.yaml_flow.specs.Keys.{ColonAfter}
 use Rattle.yaml_flow.specs.Lines.{IsLine, IsDash, IsBlock}
 use Rattle.yaml_flow.specs.Levels.{StartsWith}
-use Rattle.yaml_flow.specs.declared.flow.FlowNode.{FlowNode}
 use Rattle.yaml_flow.specs.declared.level.Level.{Level}
 use Rattle.yaml_flow.specs.declared.line.Line.{Line}
 use Rattle.yaml_flow.specs.declared.properties.Head.{Head}

@@ -4,7 +4,7 @@ use Rattle.std.proofs.lemmas.Option.{MatchOption-at_some}
 use Rattle.yaml_text.specs.declared.fault.Fault.{Fault}
 use Rattle.yaml_definitions.specs.model.Event.{Event, sequence_end, mapping_end}
 use Rattle.yaml_text.specs.EventModel.{context_of}
-use Rattle.yaml_text.specs.Source.{text_of, place_of, IsBorder}
+use Rattle.yaml_text.specs.Source.{text_of, place_of}
 use Rattle.yaml_text.specs.declared.chars.Chars.{Chars}
 use Rattle.yaml_definitions.specs.grammar.Rules.{◌▸◌}
 use Rattle.yaml_definitions.specs.grammar.Separation.{s-l-comments as s_l_comments, flow_out, block_key, block_in, block_out, s-indent as indent}
@@ -1076,17 +1076,17 @@ pub collections::read_entries-returns-then-not-branch-clause-ends : goal.collect
 collections::read_entries-returns-then-not-branch-clause-ends g t c = record { line = c.entries.invariant.line; onward = omega (arith, c.entries.invariant.onward); after = c.entries.invariant.after }
 
 pub nodes::read_dressed-returns-in_ok-line-in-Some-clause-ends : goal.nodes::read_dressed-returns-in_ok-line-in-Some-clause-ends
-nodes::read_dressed-returns-in_ok-line-in-Some-clause-ends g t c = 
+nodes::read_dressed-returns-in_ok-line-in-Some-clause-ends g t c =
     let n = c.in_ok-line-in-Some.ensures.ends in
     record { line = n.line; onward = omega (arith, c.requires.node.order, c.in-Some.ensures.sign.onward, n.onward); after = n.after }
 
 pub nodes::read_keyed-returns-in_ok-line-in-None-clause-ends : goal.nodes::read_keyed-returns-in_ok-line-in-None-clause-ends
-nodes::read_keyed-returns-in_ok-line-in-None-clause-ends g t c = 
+nodes::read_keyed-returns-in_ok-line-in-None-clause-ends g t c =
     let n = c.in_ok-line-in-None.ensures.ends in
     record { line = n.line; onward = omega (arith, c.requires.dressed.node.order, c.in_ok-node.ensures.ends.onward, n.onward); after = n.after }
 
 pub nodes::read_keyed-returns-in_ok-push_mapping_end-in-Some-clause-ends : goal.nodes::read_keyed-returns-in_ok-push_mapping_end-in-Some-clause-ends
-nodes::read_keyed-returns-in_ok-push_mapping_end-in-Some-clause-ends g t c = 
+nodes::read_keyed-returns-in_ok-push_mapping_end-in-Some-clause-ends g t c =
     let s = c.args.source.now in
     let n = c.in_ok-line-in-Some.ensures.ends in
     let found = found_is (λ z. IsFirstColon s c.args.head.at c.in_ok-node.node.end c.args.setting.column z.0 z.1) c.in_ok-first_colon.field-0 _ c.in-Some.is c.in_ok-first_colon.ensures.found in
