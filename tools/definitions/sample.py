@@ -70,15 +70,15 @@ def rows(count):
     none = [r for r in answers if r[1] == 'refused']
     chosen = sorted(random.sample(read, 2 * count // 3) + random.sample(none, count - 2 * count // 3))
     print('//! A sample of random streams, with the events that the definitions give them (`tools/definitions/sample.py rows`).')
-    print('use crate::rows::Row;')
-    size = 10
+    print('use crate::rows::{Row, agree};\nuse std::test::Fail;\n')
+    size = 40
     for k in range(0, len(chosen), size):
         part = chosen[k:k + size]
         name = 'SAMPLE_%d' % (k // size + 1)
-        print('\npub static %s: [Row; %d] = [' % (name, len(part)))
+        print('static %s: [Row; %d] = [' % (name, len(part)))
         for text, events in part:
             print('    Row { input: %s, answer: %s },' % (literal(text), literal(events)))
-        print('];')
+        print('];\n\n#[test]\nfn agrees_with_the_definitions_%d(rt: HostRuntime) -> Result<(), Fail> {\n    agree(&rt, &%s)\n}\n' % (k // size + 1, name))
 
 
 def compare(count):

@@ -1,7 +1,7 @@
 //! Block and flow collections, and scalars in them.
 use crate::rows::Row;
 
-pub static BLOCK_1: [Row; 7] = [
+pub static BLOCK: [Row; 14] = [
     Row {
         input: "",
         answer: "",
@@ -30,9 +30,6 @@ pub static BLOCK_1: [Row; 7] = [
         input: "k:\n- x\nl: y\n",
         answer: "|+DOC|+MAP|=VAL :k|+SEQ|=VAL :x|-SEQ|=VAL :l|=VAL :y|-MAP|-DOC",
     },
-];
-
-pub static BLOCK_2: [Row; 7] = [
     Row {
         input: "---\n- |\n a\n- >-\n b\n c\n- ",
         answer: "|+DOC ---|+SEQ|=VAL |a\n|=VAL >b c|=VAL :|-SEQ|-DOC",

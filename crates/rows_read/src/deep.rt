@@ -31,7 +31,7 @@ fn nested<T: Abort + AllocGlobal>(rt: &T, row: &Nested) -> Result<(), Fail> {
     reads(rt, input.as_str(), answer)
 }
 
-static TOO_DEEP: [Nested; 10] = [
+static NESTED: [Nested; 32] = [
     // Opens no 1025th collection.
     ("", 1025, "[", "", "7 TooDeep at byte 1024"),
     ("", 1025, "{", "", "7 TooDeep at byte 1024"),
@@ -44,9 +44,6 @@ static TOO_DEEP: [Nested; 10] = [
     ("", 1022, "[", "[[a]]: b]", "7 TooDeep at byte 1023"),
     ("", 1022, "- ", "[[a]]: b", "7 TooDeep at byte 2045"),
     ("a: b\n", 1024, "[", "", "7 TooDeep at byte 1028"),
-];
-
-static AT_THE_LIMITS: [Nested; 12] = [
     // Opens the 1024th collection.
     ("", 1024, "[", "", "4 Syntax at byte 1024"),
     ("", 1024, "{", "", "4 Syntax at byte 1024"),
@@ -61,9 +58,6 @@ static AT_THE_LIMITS: [Nested; 12] = [
     ("&k ", 1021, "k", ": @", "4 Syntax at byte 1026"),
     ("&k ", 1022, "k", ": b", "6 KeyTooLong at byte 0"),
     ("a: 1\n", 1025, "k", ": b", "6 KeyTooLong at byte 5"),
-];
-
-static BEHIND_A_MARK: [Nested; 10] = [
     // Collections too deep are told behind a mark.
     ("\u{FEFF}", 1025, "[", "", "7 TooDeep at byte 1027"),
     ("\u{FEFF}", 1024, "[", "{", "7 TooDeep at byte 1027"),
@@ -80,11 +74,8 @@ static BEHIND_A_MARK: [Nested; 10] = [
 
 #[test]
 fn collections_and_keys_end_at_their_limits(rt: HostRuntime) -> Result<(), Fail> {
-    let tables: [&[Nested]; 3] = [&TOO_DEEP, &AT_THE_LIMITS, &BEHIND_A_MARK];
-    for table in &tables {
-        for row in *table {
-            nested(&rt, row)?;
-        }
+    for row in &NESTED {
+        nested(&rt, row)?;
     }
     Ok(())
 }

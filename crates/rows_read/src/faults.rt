@@ -1,7 +1,7 @@
 //! Each fault of the reader, with its place.
 use crate::rows::Row;
 
-pub static SYNTAX_1: [Row; 10] = [
+pub static SYNTAX: [Row; 21] = [
     Row {
         input: "a: b: c",
         answer: "4 Syntax at byte 4",
@@ -42,9 +42,6 @@ pub static SYNTAX_1: [Row; 10] = [
         input: "&a\n*b",
         answer: "4 Syntax at byte 5",
     },
-];
-
-pub static SYNTAX_2: [Row; 11] = [
     Row {
         input: "&a\n&b",
         answer: "4 Syntax at byte 5",

@@ -1,7 +1,7 @@
 //! Tags, anchors and aliases.
 use crate::rows::Row;
 
-pub static PROPERTIES_1: [Row; 11] = [
+pub static PROPERTIES: [Row; 22] = [
     Row {
         input: "&a x",
         answer: "|+DOC|=VAL &a :x|-DOC",
@@ -46,9 +46,6 @@ pub static PROPERTIES_1: [Row; 11] = [
         input: "&a\nb: c",
         answer: "|+DOC|+MAP &a|=VAL :b|=VAL :c|-MAP|-DOC",
     },
-];
-
-pub static PROPERTIES_2: [Row; 11] = [
     Row {
         input: "&a: b",
         answer: "|+DOC|=VAL &a: :b|-DOC",

@@ -1,7 +1,7 @@
 //! A sample of random streams, with the events that the definitions give them (`tools/definitions/sample.py rows`).
 use crate::rows::Row;
 
-pub static SAMPLE_1: [Row; 10] = [
+pub static SAMPLE_1: [Row; 40] = [
     Row {
         input: "\t  --- ]a!!s%x y\n",
         answer: "refused",
@@ -42,9 +42,6 @@ pub static SAMPLE_1: [Row; 10] = [
         input: "\n !t \n\n  ",
         answer: "|+DOC|=VAL <!t> :|-DOC",
     },
-];
-
-pub static SAMPLE_2: [Row; 10] = [
     Row {
         input: "\n --- :- k: v\n]",
         answer: "refused",
@@ -85,9 +82,6 @@ pub static SAMPLE_2: [Row; 10] = [
         input: "  \n   k: v\n!e!z {[...\n'y'",
         answer: "refused",
     },
-];
-
-pub static SAMPLE_3: [Row; 10] = [
     Row {
         input: "  \n |\nk: v\n{?!e!z !e!z &b",
         answer: "|+DOC|=VAL |k: v\n{?!e!z !e!z &b|-DOC",
@@ -128,9 +122,6 @@ pub static SAMPLE_3: [Row; 10] = [
         input: " %x y\n",
         answer: "refused",
     },
-];
-
-pub static SAMPLE_4: [Row; 10] = [
     Row {
         input: " - #",
         answer: "|+DOC|+SEQ|=VAL :|-SEQ|-DOC",
@@ -173,7 +164,7 @@ pub static SAMPLE_4: [Row; 10] = [
     },
 ];
 
-pub static SAMPLE_5: [Row; 10] = [
+pub static SAMPLE_2: [Row; 40] = [
     Row {
         input: "%TAG !e! q\n&b? !t ",
         answer: "refused",
@@ -214,9 +205,6 @@ pub static SAMPLE_5: [Row; 10] = [
         input: "&b\"x\"b\"x\"k: v\n!t *a ",
         answer: "|+DOC|=VAL &b\"x\"b\"x\"k: :v !t *a|-DOC",
     },
-];
-
-pub static SAMPLE_6: [Row; 10] = [
     Row {
         input: "&b- k: v\n  --- ? [",
         answer: "|+DOC|+MAP|=VAL &b- :k|=VAL :v --- ? [|-MAP|-DOC",
@@ -257,9 +245,6 @@ pub static SAMPLE_6: [Row; 10] = [
         input: "-  \r\n >\n {  ",
         answer: "|+DOC|+SEQ|=VAL >{  |-SEQ|-DOC",
     },
-];
-
-pub static SAMPLE_7: [Row; 10] = [
     Row {
         input: "- # c\n",
         answer: "|+DOC|+SEQ|=VAL :|-SEQ|-DOC",
@@ -300,9 +285,6 @@ pub static SAMPLE_7: [Row; 10] = [
         input: "---\nb",
         answer: "|+DOC ---|=VAL :b|-DOC",
     },
-];
-
-pub static SAMPLE_8: [Row; 10] = [
     Row {
         input: "--- *a }: %TAG !e! q\n{",
         answer: "refused",
@@ -345,7 +327,7 @@ pub static SAMPLE_8: [Row; 10] = [
     },
 ];
 
-pub static SAMPLE_9: [Row; 10] = [
+pub static SAMPLE_3: [Row; 40] = [
     Row {
         input: ":\n, ",
         answer: "refused",
@@ -386,9 +368,6 @@ pub static SAMPLE_9: [Row; 10] = [
         input: ">\n- k: v\n",
         answer: "|+DOC|=VAL >- k: v\n|-DOC",
     },
-];
-
-pub static SAMPLE_10: [Row; 10] = [
     Row {
         input: ">\n- k: v\n\n!!s",
         answer: "|+DOC|=VAL >- k: v\n!!s|-DOC",
@@ -429,9 +408,6 @@ pub static SAMPLE_10: [Row; 10] = [
         input: "]?, [!e!z ",
         answer: "refused",
     },
-];
-
-pub static SAMPLE_11: [Row; 10] = [
     Row {
         input: "a!e!z k: v\n",
         answer: "|+DOC|+MAP|=VAL :a!e!z k|=VAL :v|-MAP|-DOC",
@@ -472,9 +448,6 @@ pub static SAMPLE_11: [Row; 10] = [
         input: "b*a - &b? %TAG !e! q\n!!s? ",
         answer: "|+DOC|=VAL :b*a - &b? %TAG !e! q !!s?|-DOC",
     },
-];
-
-pub static SAMPLE_12: [Row; 10] = [
     Row {
         input: "b--- ? ]?",
         answer: "|+DOC|=VAL :b--- ? ]?|-DOC",

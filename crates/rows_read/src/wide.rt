@@ -1,7 +1,7 @@
 //! `?` keys and empty keys in flow collections.
 use crate::rows::Row;
 
-pub static WIDE_1: [Row; 6] = [
+pub static WIDE: [Row; 13] = [
     Row {
         input: "{? a : b, : d}",
         answer: "|+DOC|+MAP {}|=VAL :a|=VAL :b|=VAL :|=VAL :d|-MAP|-DOC",
@@ -26,9 +26,6 @@ pub static WIDE_1: [Row; 6] = [
         input: "{:}",
         answer: "|+DOC|+MAP {}|=VAL :|=VAL :|-MAP|-DOC",
     },
-];
-
-pub static WIDE_2: [Row; 7] = [
     Row {
         input: "{?a: b}",
         answer: "|+DOC|+MAP {}|=VAL :?a|=VAL :b|-MAP|-DOC",
