@@ -32,7 +32,7 @@ use Rattle.yaml_block.specs.OuterRules.{Outer, Above, Follows, MayBear, column_o
 use Rattle.yaml_block.specs.declared.block.signs.Block.{Block}
 use Rattle.yaml_block.specs.declared.block.signs.Sign.{Sign}
 use Rattle.yaml_block.specs.declared.block.signs.Indicator.{Indicator}
-use Rattle.yaml_block.specs.declared.block.nodes.Setting.{Setting}
+use Rattle.yaml_block.specs.declared.block.nodes.Site.{Site}
 use Rattle.yaml_block.specs.declared.block.keys.Begun.{Begun}
 
 -- the level of the flow nodes that stand at a block level
@@ -105,29 +105,30 @@ module _ (source : Chars) (level : Level) where
     pub after : AfterLine (text_of source) (place_of source next.start)
     pub above : Above (text_of source) (handles_of level.handles) level.least (place_of source head.at) (place_of source head.end) (props_of head.own)
 
-  -- a node, whose first character stands at a border, in its setting
-  pub record StartsNode (setting : Setting) (at : ℕ) : Type 0 where
-    pub border : IsBorder source at
-    pub start : IsBorder source setting.from
-    pub order : setting.from ≤ at
-    pub low : level.least ≤ setting.from
-    pub block : IsBlock (context_of level.context)
-    pub column : MatchOption setting.column (Unit {0}) (λ k. k ≤ at)
-    pub wide : MatchOption setting.column (Unit {0}) (λ k. level.least ≤ k)
-    pub outer : Outer (text_of source) (handles_of level.handles) level.least setting.column (place_of source setting.from) (place_of source at) (props_of setting.outer)
-
-  -- one with its own properties, after which its line goes on
-  pub record StartsDressed (setting : Setting) (head : Head) : Type 0 where
-    pub node : StartsNode setting head.at
-    pub own : StandFrom source level.handles 0 block_key head.at head.end head.own
-    pub goes_on : LineGoesOn (text_of source) (place_of source head.end) (props_of head.own)
-
   -- a flow node that was read and is a key
   pub record IsFirstKey (head : Head) (begun : Begun) : Type 0 where
     pub starts : StartsWith source (flow_level level) head
     pub stop : IsBorder source begun.node.end
     pub goes_on : LineGoesOn (text_of source) (place_of source head.end) (props_of head.own)
     pub key : IsOnly (text_of source) (handles_of level.handles) level.room level.least flow_out (place_of source head.at) begun.node.kind (place_of source begun.node.end)
+
+-- a node, whose first character stands at a border, with its outer properties
+module _ (source : Chars) (site : Site) (outer : Properties) where
+  pub record StartsNode (at : ℕ) : Type 0 where
+    pub border : IsBorder source at
+    pub start : IsBorder source site.from
+    pub order : site.from ≤ at
+    pub low : site.level.now.least ≤ site.from
+    pub block : IsBlock (context_of site.level.now.context)
+    pub column : MatchOption site.column (Unit {0}) (λ k. k ≤ at)
+    pub wide : MatchOption site.column (Unit {0}) (λ k. site.level.now.least ≤ k)
+    pub above : Outer (text_of source) (handles_of site.level.now.handles) site.level.now.least site.column (place_of source site.from) (place_of source at) (props_of outer)
+
+  -- with its own properties too, after which its line goes on
+  pub record StartsDressed (head : Head) : Type 0 where
+    pub node : StartsNode head.at
+    pub own : StandFrom source site.level.now.handles 0 block_key head.at head.end head.own
+    pub goes_on : LineGoesOn (text_of source) (place_of source head.end) (props_of head.own)
 
 -- ---- where they end
 
@@ -202,8 +203,8 @@ key_rule source level = key_rest (text_of source) wide (handles_of level.handles
 abbrev pub node_rule : Option ℕ → RuleAt
 node_rule column source level = node_rest (text_of source) wide (handles_of level.handles) level.room level.least (context_of level.context) column
 
-abbrev pub set_rule : Setting → RuleAt
-set_rule setting = node_rule (column_of (props_of setting.outer) setting.column)
+abbrev pub site_rule : Site → Properties → RuleAt
+site_rule site outer = node_rule (column_of (props_of outer) site.column)
 
 abbrev pub sequence_rule : Props → ℕ → RuleAt
 sequence_rule p k source level = sequence_with (text_of source) wide (handles_of level.handles) p level.room k

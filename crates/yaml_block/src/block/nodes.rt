@@ -11,11 +11,13 @@ ghost use Rattle.yaml_flow.specs.NodeAnswer.{Appends, Decides};
 ghost use Rattle.yaml_sink.specs.Held.{Alters};
 ghost use Rattle.yaml_sink.specs.SinkModel.{holds_of};
 ghost use Rattle.yaml_flow.specs.Lines.{IsLine};
+ghost use Rattle.yaml_flow.specs.PropertyDecisions.{LineGoesOn};
+ghost use Rattle.yaml_flow.specs.Levels.{StartsWith, Ends, bare_rule, ReadsNode, DecidesNodeAt};
 ghost use Rattle.yaml_sink.specs.PropertyRules.{props_of, both_props, dressed, Disjoint};
 ghost use Rattle.yaml_block.specs.BlockRules.{root_rest};
 ghost use Rattle.yaml_block.specs.OuterRules.{MayBear};
 ghost use Rattle.yaml_block.specs.BlockEnds.{AfterNode};
-ghost use Rattle.yaml_block.specs.BlockCalls.{StartsNode, StartsDressed, NoSign, EndsLine, EndsNode, set_rule, ReadsLine, DecidesNode};
+ghost use Rattle.yaml_block.specs.BlockCalls.{flow_level, StartsNode, StartsDressed, NoSign, EndsLine, EndsNode, site_rule, ReadsLine, DecidesNode};
 
 use crate::block::collections::{read_entries, read_sequence};
 use crate::block::keys::{Begun, fit_key};
@@ -23,7 +25,7 @@ use crate::block::scalars::read_block_scalar;
 use crate::block::signs::{Indicator, block_sign, dash, first_colon, may_bear};
 use crate::block::values::read_under;
 use std::alloc::Global;
-use yaml_flow::flow::read_bare;
+use yaml_flow::flow::{FlowNode, read_bare};
 use yaml_flow::level::Level;
 use yaml_flow::line::{Line, line_at, next_line, skip_line_rest};
 use yaml_flow::properties::{Head, read_properties};
@@ -36,13 +38,13 @@ use yaml_text::context::Ctx;
 use yaml_text::fault::Fault;
 use yaml_text::lines::unusable;
 
-/// What stands around a node: where it begins, which is where its outer properties do if it has any, these properties, and the
-/// column in which a mapping may stand, if in any.
-#[derive(Drop)]
-pub struct Setting<'a> {
+/// Where a node stands: the border where it begins with its outer properties, if it has any, the column in which a mapping may
+/// stand, if in any, and its level.
+#[derive(Clone, Copy)]
+pub struct Site<'l, 'h, 'a> {
     pub from: usize,
-    pub outer: Properties<'a>,
     pub column: Option<usize>,
+    pub level: &'l Level<'h, 'a>,
 }
 
 /// Puts the outer and own properties on a node that is no key, and answers the line after it.
@@ -74,41 +76,44 @@ fn finish_node<'a, K: Keeper>(
     Ok(line)
 }
 
-/// A node whose first character stands at `at`, in its setting.
+/// A node whose first character stands at `at`, with its outer properties.
 #[inline(never)]
 #[cycle(blocks)]
 pub fn read_node<'a, K: Keeper>(
     alloc: Global,
     source: &Chars<'a>,
     at: usize,
-    setting: Setting<'a>,
-    level: &Level<'_, 'a>,
+    outer: Properties<'a>,
+    site: &Site<'_, '_, 'a>,
     out: &mut Sink<'a, K>,
 ) -> Result<Line, Fault>
-    requires { StartsNode source.now level.now setting at }
-    ensures ends { IfOk result (EndsLine source.now setting.entry.from) }
-    ensures reads { ReadsLine (set_rule setting.entry) source.now level.now setting.entry.from (holds_of K.holds) out.old out.new result }
-    ensures decides { DecidesNode source.now level.now setting.entry.from (set_rule setting.entry) result }
+    requires { StartsNode source.now site.now outer at }
+    ensures ends { IfOk result (EndsLine source.now site.now.from) }
+    ensures reads { ReadsLine (site_rule site.now outer.entry) source.now site.now.level.now site.now.from (holds_of K.holds) out.old out.new result }
+    ensures decides { DecidesNode source.now site.now.level.now site.now.from (site_rule site.now outer.entry) result }
     ensures placed { IfErr result (IsPlaced source.now) }
 {
-    let (own, end) = read_properties(alloc, source, at, 0, Ctx::BlockKey, level.handles)?;
-    let head = Head { at, end, own };
-    if head.own.is_none() {
-        return read_dressed(alloc, source, head, setting, level, out);
+    let (own, end) = read_properties(alloc, source, at, 0, Ctx::BlockKey, site.level.handles)?;
+    if own.is_none() {
+        let head = Head { at, end, own };
+        return read_dressed(alloc, source, head, outer, site, out);
     }
     match skip_line_rest(source, end) {
-        None => read_dressed(alloc, source, head, setting, level, out),
+        None => {
+            let head = Head { at, end, own };
+            read_dressed(alloc, source, head, outer, site, out)
+        }
         Some(start) => {
-            if setting.outer.overlaps(&head.own) {
+            if outer.overlaps(&own) {
                 return Err(unusable(source, end));
             }
             let line = line_at(source, start);
             let above = Head {
-                at: setting.from,
+                at: site.from,
                 end,
-                own: setting.outer.and(head.own),
+                own: outer.and(own),
             };
-            read_under(alloc, source, line, above, level, out)
+            read_under(alloc, source, line, above, site.level, out)
         }
     }
 }
@@ -121,27 +126,50 @@ fn read_dressed<'a, K: Keeper>(
     alloc: Global,
     source: &Chars<'a>,
     head: Head<'a>,
-    setting: Setting<'a>,
-    level: &Level<'_, 'a>,
+    outer: Properties<'a>,
+    site: &Site<'_, '_, 'a>,
     out: &mut Sink<'a, K>,
 ) -> Result<Line, Fault>
-    requires { StartsDressed source.now level.now setting head }
-    ensures ends { IfOk result (EndsLine source.now setting.entry.from) }
-    ensures reads { ReadsLine (set_rule setting.entry) source.now level.now setting.entry.from (holds_of K.holds) out.old out.new result }
-    ensures decides { DecidesNode source.now level.now setting.entry.from (set_rule setting.entry) result }
+    requires { StartsDressed source.now site.now outer head }
+    ensures ends { IfOk result (EndsLine source.now site.now.from) }
+    ensures reads { ReadsLine (site_rule site.now outer.entry) source.now site.now.level.now site.now.from (holds_of K.holds) out.old out.new result }
+    ensures decides { DecidesNode source.now site.now.level.now site.now.from (site_rule site.now outer.entry) result }
     ensures placed { IfErr result (IsPlaced source.now) }
 {
     match block_sign(source, &head) {
-        None => read_keyed(alloc, source, head, setting, level, out),
+        None => read_keyed(alloc, source, head, outer, site, out),
         Some(sign) => {
-            if setting.outer.overlaps(&head.own) {
+            if outer.overlaps(&head.own) {
                 return Err(unusable(source, sign.at));
             }
-            let both = setting.outer.and(head.own);
-            let line = read_block_scalar(alloc, source, sign, both, level.least, out)?;
+            let both = outer.and(head.own);
+            let line = read_block_scalar(alloc, source, sign, both, site.level.least, out)?;
             Ok(line)
         }
     }
+}
+
+/// A flow node of a block level, after its own properties. It is inlined, so that its level has no room of its own in the frame of
+/// a call that nests.
+#[inline(always)]
+fn read_in_block<'a, K: Keeper>(
+    alloc: Global,
+    source: &Chars<'a>,
+    head: &Head<'a>,
+    level: &Level<'_, 'a>,
+    out: &mut Sink<'a, K>,
+) -> Result<FlowNode, Fault>
+    requires { StartsWith source.now (flow_level level.now) head.now }
+    ensures ends { IfOk result (λ node. Ends source.now (flow_level level.now) head.now.at node.end node.deep) }
+    ensures reads { ReadsNode (bare_rule head.now) source.now (flow_level level.now) head.now.at (holds_of K.holds) out.old out.new result }
+    ensures decides { LineGoesOn (text_of source.now) (place_of source.now head.now.end) (props_of head.now.own) → DecidesNodeAt source.now (flow_level level.now) head.now.at result }
+    ensures placed { IfErr result (IsPlaced source.now) }
+{
+    let flow = Level {
+        context: Ctx::FlowOut,
+        ..*level
+    };
+    read_bare(alloc, source, head, &flow, out)
 }
 
 /// A flow node, or a mapping whose first key it is.
@@ -151,35 +179,31 @@ fn read_keyed<'a, K: Keeper>(
     alloc: Global,
     source: &Chars<'a>,
     head: Head<'a>,
-    setting: Setting<'a>,
-    level: &Level<'_, 'a>,
+    outer: Properties<'a>,
+    site: &Site<'_, '_, 'a>,
     out: &mut Sink<'a, K>,
 ) -> Result<Line, Fault>
-    requires dressed { StartsDressed source.now level.now setting head }
+    requires dressed { StartsDressed source.now site.now outer head }
     requires no_scalar { NoSign source.now head }
-    ensures ends { IfOk result (EndsLine source.now setting.entry.from) }
-    ensures reads { ReadsLine (set_rule setting.entry) source.now level.now setting.entry.from (holds_of K.holds) out.old out.new result }
-    ensures decides { DecidesNode source.now level.now setting.entry.from (set_rule setting.entry) result }
+    ensures ends { IfOk result (EndsLine source.now site.now.from) }
+    ensures reads { ReadsLine (site_rule site.now outer.entry) source.now site.now.level.now site.now.from (holds_of K.holds) out.old out.new result }
+    ensures decides { DecidesNode source.now site.now.level.now site.now.from (site_rule site.now outer.entry) result }
     ensures placed { IfErr result (IsPlaced source.now) }
 {
     let start = out.mark();
     out.announce(&head.own);
-    let flow = Level {
-        context: Ctx::FlowOut,
-        ..*level
-    };
-    let node = read_bare(alloc, source, &head, &flow, out)?;
+    let node = read_in_block(alloc, source, &head, site.level, out)?;
     let begun = Begun { node, start };
-    match first_colon(source, head.at, node.end, setting.column)? {
+    match first_colon(source, head.at, node.end, site.column)? {
         None => {
-            let line = finish_node(source, begun, head, setting.outer, out)?;
+            let line = finish_node(source, begun, head, outer, out)?;
             Ok(line)
         }
         Some((column, after)) => {
-            fit_key(alloc, source, &head, begun, level, out)?;
+            fit_key(alloc, source, &head, begun, site.level, out)?;
             out.dress(start, head.own);
-            insert_block_mapping(out, start, setting.outer, head.at)?;
-            let line = read_entries(alloc, source, after, column, level, out)?;
+            insert_block_mapping(out, start, outer, head.at)?;
+            let line = read_entries(alloc, source, after, column, site.level, out)?;
             push_mapping_end(out, line.start)?;
             Ok(line)
         }
@@ -220,12 +244,12 @@ pub fn read_root<'a, K: Keeper>(
             read_sequence(alloc, source, indicator, outer, &level, out)
         }
         None => {
-            let setting = Setting {
+            let site = Site {
                 from: first,
-                outer,
                 column: Some(line.column),
+                level: &level,
             };
-            read_node(alloc, source, first, setting, &level, out)
+            read_node(alloc, source, first, outer, &site, out)
         }
     }
 }

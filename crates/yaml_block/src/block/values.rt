@@ -5,7 +5,7 @@ ghost use Rattle.yaml_sink.specs.SinkModel.{holds_of};
 ghost use Rattle.yaml_block.specs.BlockCalls.{StartsValue, StartsInside, StartsBelow, StartsUnder, EndsLine, value_rule, entry_rule, line_rule, node_rule, ReadsLine, DecidesNode, DecidesEntry};
 
 use crate::block::collections::read_sequence;
-use crate::block::nodes::{Setting, read_node};
+use crate::block::nodes::{Site, read_node};
 use crate::block::scalars::{push_lone, push_nothing};
 use crate::block::signs::{Indicator, dash, sequence_column};
 use crate::block::words::read_word;
@@ -51,12 +51,12 @@ pub fn read_value<'a, K: Keeper>(
                 return read_word(alloc, source, first, level, out);
             }
             let outer = Properties::none();
-            let setting = Setting {
+            let site = Site {
                 from: first,
-                outer,
                 column: None,
+                level,
             };
-            read_node(alloc, source, first, setting, level, out)
+            read_node(alloc, source, first, outer, &site, out)
         }
     }
 }
@@ -105,12 +105,12 @@ pub fn read_indented<'a, K: Keeper>(
                     read_sequence(alloc, source, indicator, outer, &inside, out)
                 }
                 None => {
-                    let setting = Setting {
+                    let site = Site {
                         from: first,
-                        outer,
                         column: Some(inner),
+                        level: &inside,
                     };
-                    read_node(alloc, source, first, setting, &inside, out)
+                    read_node(alloc, source, first, outer, &site, out)
                 }
             }
         }
@@ -158,12 +158,12 @@ pub fn read_below<'a, K: Keeper>(
                 return Ok(line);
             }
             let column = Some(line.column);
-            let setting = Setting {
+            let site = Site {
                 from: first,
-                outer,
                 column,
+                level,
             };
-            read_node(alloc, source, first, setting, level, out)
+            read_node(alloc, source, first, outer, &site, out)
         }
     }
 }
@@ -212,12 +212,12 @@ pub fn read_under<'a, K: Keeper>(
                 push_lone(outer, end, out)?;
                 return Ok(line);
             }
-            let setting = Setting {
+            let site = Site {
                 from,
-                outer,
                 column: Some(line.column),
+                level,
             };
-            read_node(alloc, source, first, setting, level, out)
+            read_node(alloc, source, first, outer, &site, out)
         }
     }
 }

@@ -31,7 +31,8 @@ use Rattle.yaml_flow.proofs.Deciding.{decides_err}
 use Rattle.yaml_block.specs.BlockRules.{block_scalar_rest, node_rest, line_rest, value_rest, entry_rest, entries_rest, sequence_with, seq_body}
 use Rattle.yaml_block.specs.BlockEnds.{AfterNode, AfterEntry, AfterSequence, AfterMapping, IsNoKey}
 use Rattle.yaml_block.specs.BlockCalls.{flow_level, StartsDressed, EndsLine, IsNextDash, IsFirstColon}
-use Rattle.yaml_block.specs.declared.block.nodes.Setting.{Setting}
+use Rattle.yaml_sink.specs.declared.properties.Properties.{Properties}
+use Rattle.yaml_block.specs.declared.block.nodes.Site.{Site}
 use Rattle.yaml_block.specs.OuterRules.{above, Above, column_of, properties_left}
 use Rattle.yaml_block.proofs.BlockLemmas.{line_value, same_value, line_entry, sequence_entry, node_entry, dash_entry, seq_entry_at, map_entry_at, sequence_done, value_key, mapping_done, key_entry, joined_more, joined_start}
 use Rattle.yaml_block.proofs.OuterLemmas.{column_none, column_free, marked_column, any_column, above_own, line_own, follows_before, block_scalar, no_key, keyed, marked_nothing, marked_sequence, fewer_left}
@@ -57,9 +58,10 @@ ends_from s at further (Ok x) le h = record { line = h.line; onward = omega (ari
 ends_from s at further (Err e) le h = h
 
 -- the flow node with which a block node begins
-flow_starts : (s : Chars) (level : Level) (setting : Setting) (head : Head) → StartsDressed s level setting head → StartsWith s (flow_level level) head
-flow_starts s level setting head d =
+flow_starts : (s : Chars) (site : Site) (outer : Properties) (head : Head) → StartsDressed s site outer head → StartsWith s (flow_level site.level.now) head
+flow_starts s site outer head d =
     let cs = text_of s in
+    let level = site.level.now in
     let h = handles_of level.handles in record {
       border = d.node.border;
       end = d.own.border;
@@ -230,7 +232,7 @@ values::read_under-read_node-requires g t c = λ κs l.
           block = c.requires.block;
           column = omega (arith, c.requires.line.wide);
           wide = omega (arith, c.if-line-level.false);
-          outer = above _ _ c.args.line.column c.requires.marks c.requires.comments c.requires.line.spaces (omega (arith, c.if-line-level.false)) refl c.requires.above c.requires.line.stuck c.requires.line.all c.in-None.ensures.none
+          above = above _ _ c.args.line.column c.requires.marks c.requires.comments c.requires.line.spaces (omega (arith, c.if-line-level.false)) refl c.requires.above c.requires.line.stuck c.requires.line.all c.in-None.ensures.none
               (no_end c.args.source.now c.args.line c.requires.line yes.0) (no_mark c.args.source.now c.args.line c.requires.line yes.1);
         },
       ),
@@ -371,11 +373,11 @@ pub nodes::read_node-read_under-requires : goal.nodes::read_node-read_under-requ
 nodes::read_node-read_under-requires g t c =
     let s = c.args.source.now in
     let cs = text_of s in
-    let h = handles_of c.args.level.now.handles in
+    let h = handles_of c.args.site.now.level.now.handles in
     let some = on_false_at c.is_none.result c.if-is_none.false c.is_none.ensures.no in
     let apart = on_false_at c.overlaps.result c.if-overlaps.false c.overlaps.ensures.no in
-    let fewer = fewer_left (props_of c.args.setting.outer) (props_of c.in_ok-own.own) apart some in
-    let marks = above_own cs h c.args.level.now.least c.args.setting.column _ _ _ (props_of c.args.setting.outer) (props_of c.in_ok-own.own) c.requires.outer
+    let fewer = fewer_left (props_of c.args.outer) (props_of c.in_ok-own.own) apart some in
+    let marks = above_own cs h c.args.site.now.level.now.least c.args.site.now.column _ _ _ (props_of c.args.outer) (props_of c.in_ok-own.own) c.requires.above
     (own_marks cs h 0 block_key _ _ (props_of c.in_ok-own.own) c.in_ok-own.ensures.stand.own some) apart in
     let comments = moved s _ _ _ c.line_at-line.ensures.start c.in-Some.ensures.some in λ κs l. (
       omega (arith, fewer, ap properties_left c.and.ensures),
@@ -387,13 +389,13 @@ nodes::read_node-read_under-requires g t c =
           low = c.requires.low;
           order = omega (arith, c.requires.order, c.in_ok-own.ensures.stand.onward, c.in-Some.ensures.onward, c.line_at-line.ensures.start);
           block = c.requires.block;
-          marks = subst (SomeProperties cs h c.args.level.now.least flow_out (place_of s c.args.setting.from) (place_of s c.in_ok-own.end)) (sym c.and.ensures) marks;
+          marks = subst (SomeProperties cs h c.args.site.now.level.now.least flow_out (place_of s c.args.site.now.from) (place_of s c.in_ok-own.end)) (sym c.and.ensures) marks;
           comments = comments;
           after = comments_after cs _ _ comments;
-          above = subst (Above cs h c.args.level.now.least (place_of s c.args.setting.from) (place_of s c.in_ok-own.end)) (sym c.and.ensures)
-              (over_above cs h c.args.level.now.room c.args.level.now.least (context_of c.args.level.now.context) c.requires.block c.args.setting.column _ _ (props_of c.args.setting.outer) _ _ (props_of c.in_ok-own.own)
+          above = subst (Above cs h c.args.site.now.level.now.least (place_of s c.args.site.now.from) (place_of s c.in_ok-own.end)) (sym c.and.ensures)
+              (over_above cs h c.args.site.now.level.now.room c.args.site.now.level.now.least (context_of c.args.site.now.level.now.context) c.requires.block c.args.site.now.column _ _ (props_of c.args.outer) _ _ (props_of c.in_ok-own.own)
               (places_up s _ _ c.requires.border c.in_ok-own.ensures.stand.border c.in_ok-own.ensures.stand.onward) (own_marks cs h 0 block_key _ _ (props_of c.in_ok-own.own) c.in_ok-own.ensures.stand.own some) c.in_ok-own.ensures.stand.all
-              c.in-Some.ensures.some c.requires.outer apart);
+              c.in-Some.ensures.some c.requires.above apart);
         },
       ),
     )
@@ -402,72 +404,72 @@ pub nodes::read_node-returns-else-overlaps-clause-reads : goal.nodes::read_node-
 nodes::read_node-returns-else-overlaps-clause-reads g t c =
     let s = c.args.source.now in
     let cs = text_of s in
-    let h = handles_of c.args.level.now.handles in
-    let o = column_of (props_of c.args.setting.outer) c.args.setting.column in
-    appends_by (λ _. node_rest cs (Unit {0}) h c.args.level.now.room c.args.level.now.least (context_of c.args.level.now.context) None) (λ _. node_rest cs (Unit {0}) h c.args.level.now.room c.args.level.now.least (context_of c.args.level.now.context) o)
-    (place_of s c.args.setting.from) (place_of s c.args.setting.from) (λ line. place_of s line.start) (holds_of g.K.Keeper.holds) _ _ c.read_under.result
-    (λ x es r. any_column cs (Unit {0}) h c.args.level.now.room c.args.level.now.least (context_of c.args.level.now.context) o _ _ es r) c.read_under.ensures.reads
+    let h = handles_of c.args.site.now.level.now.handles in
+    let o = column_of (props_of c.args.outer) c.args.site.now.column in
+    appends_by (λ _. node_rest cs (Unit {0}) h c.args.site.now.level.now.room c.args.site.now.level.now.least (context_of c.args.site.now.level.now.context) None) (λ _. node_rest cs (Unit {0}) h c.args.site.now.level.now.room c.args.site.now.level.now.least (context_of c.args.site.now.level.now.context) o)
+    (place_of s c.args.site.now.from) (place_of s c.args.site.now.from) (λ line. place_of s line.start) (holds_of g.K.Keeper.holds) _ _ c.read_under.result
+    (λ x es r. any_column cs (Unit {0}) h c.args.site.now.level.now.room c.args.site.now.level.now.least (context_of c.args.site.now.level.now.context) o _ _ es r) c.read_under.ensures.reads
 
 pub nodes::read_dressed-returns-in_ok-line-in-Some-clause-reads : goal.nodes::read_dressed-returns-in_ok-line-in-Some-clause-reads
 nodes::read_dressed-returns-in_ok-line-in-Some-clause-reads g t c =
     let s = c.args.source.now in
     let cs = text_of s in
-    let h = handles_of c.args.level.now.handles in
+    let h = handles_of c.args.site.now.level.now.handles in
     let n = c.in_ok-line-in-Some.ensures.reads in
-    let p = props_of c.args.setting.outer in
+    let p = props_of c.args.outer in
     let q = props_of c.args.head.own in
     let apart = on_false_at c.overlaps.result c.if-overlaps.false c.overlaps.ensures.no in (
       n.0,
       n.1,
-      block_scalar cs (Unit {0}) h c.args.level.now.room c.args.level.now.least (context_of c.args.level.now.context) c.args.setting.column (column_of p c.args.setting.column) _ _ _ _ p q n.0 c.requires.node.outer
+      block_scalar cs (Unit {0}) h c.args.site.now.level.now.room c.args.site.now.level.now.least (context_of c.args.site.now.level.now.context) c.args.site.now.column (column_of p c.args.site.now.column) _ _ _ _ p q n.0 c.requires.node.above
           (follows_before cs h _ _ _ q c.requires.own.own c.in-Some.ensures.sign.follows) apart
-          (subst (λ x. block_scalar_rest cs x c.args.level.now.least (place_of s c.in-Some.sign.at) (place_of s c.in_ok-line-in-Some.line.start) n.0) c.and-both.ensures n.2),
+          (subst (λ x. block_scalar_rest cs x c.args.site.now.level.now.least (place_of s c.in-Some.sign.at) (place_of s c.in_ok-line-in-Some.line.start) n.0) c.and-both.ensures n.2),
     )
 
 pub nodes::read_keyed-returns-in_ok-line-in-None-clause-reads : goal.nodes::read_keyed-returns-in_ok-line-in-None-clause-reads
 nodes::read_keyed-returns-in_ok-line-in-None-clause-reads g t c =
     let s = c.args.source.now in
     let cs = text_of s in
-    let h = handles_of c.args.level.now.handles in
+    let h = handles_of c.args.site.now.level.now.handles in
     let k = c.in_ok-node.ensures.reads in
     let n = c.in_ok-line-in-None.ensures in
-    let p = props_of c.args.setting.outer in
+    let p = props_of c.args.outer in
     let q = props_of c.args.head.own in (
       dressed (both_props p q) k.0,
-      puts_altered c.args.out.now c.read_bare.new.out c.finish_node.new.out c.mark-start.result (dressed (both_props p q)) k.0 c.mark-start.ensures (puts_after c.args.out.now c.announce.new.self c.read_bare.new.out k.0 c.announce.ensures k.1) n.dressed,
-      no_key cs (Unit {0}) h c.args.level.now.room c.in_ok-node.node.deep c.args.level.now.least (context_of c.args.level.now.context) c.in_ok-node.node.kind c.args.setting.column (column_of p c.args.setting.column) _ _ _ _ _ p q k.0
-          c.requires.dressed.node.outer c.requires.dressed.own.own k.2 c.in_ok-node.ensures.ends.within n.ends.apart n.ends.bears n.ends.comments,
+      puts_altered c.args.out.now c.read_in_block.new.out c.finish_node.new.out c.mark-start.result (dressed (both_props p q)) k.0 c.mark-start.ensures (puts_after c.args.out.now c.announce.new.self c.read_in_block.new.out k.0 c.announce.ensures k.1) n.dressed,
+      no_key cs (Unit {0}) h c.args.site.now.level.now.room c.in_ok-node.node.deep c.args.site.now.level.now.least (context_of c.args.site.now.level.now.context) c.in_ok-node.node.kind c.args.site.now.column (column_of p c.args.site.now.column) _ _ _ _ _ p q k.0
+          c.requires.dressed.node.above c.requires.dressed.own.own k.2 c.in_ok-node.ensures.ends.within n.ends.apart n.ends.bears n.ends.comments,
     )
 
 pub nodes::read_keyed-returns-in_ok-push_mapping_end-in-Some-clause-reads : goal.nodes::read_keyed-returns-in_ok-push_mapping_end-in-Some-clause-reads
 nodes::read_keyed-returns-in_ok-push_mapping_end-in-Some-clause-reads g t c =
     let s = c.args.source.now in
     let cs = text_of s in
-    let h = handles_of c.args.level.now.handles in
-    let p = props_of c.args.setting.outer in
+    let h = handles_of c.args.site.now.level.now.handles in
+    let p = props_of c.args.outer in
     let q = props_of c.args.head.own in
     let first_read = c.in_ok-node.ensures.reads in
     let n = c.in_ok-line-in-Some.ensures.reads in
-    let r = c.args.level.now.room - 1 in
+    let r = c.args.site.now.level.now.room - 1 in
     let first = map_start false p in
     let k = c.in_ok-fit_key-in-Some.ensures.reads first_read.0 first_read.2 in
     let ks = dressed q k.2 in
-    let e : c.args.level.now.room ≡ suc r = omega (arith, k.3) in
-    let found = found_is (λ z. IsFirstColon s c.args.head.at c.in_ok-node.node.end c.args.setting.column z.0 z.1) c.in_ok-first_colon.field-0 _ c.in-Some.is c.in_ok-first_colon.ensures.found in
+    let e : c.args.site.now.level.now.room ≡ suc r = omega (arith, k.3) in
+    let found = found_is (λ z. IsFirstColon s c.args.head.at c.in_ok-node.node.end c.args.site.now.column z.0 z.1) c.in_ok-first_colon.field-0 _ c.in-Some.is c.in_ok-first_colon.ensures.found in
     let column = found.some in
     let colon = found.colon in
-    let put = puts_after c.args.out.now c.announce.new.self c.read_bare.new.out first_read.0 c.announce.ensures first_read.1 in
-    let again = puts_become c.args.out.now c.read_bare.new.out c.fit_key.new.out c.mark-start.result first_read.0 k.2 c.mark-start.ensures put k.4 in
+    let put = puts_after c.args.out.now c.announce.new.self c.read_in_block.new.out first_read.0 c.announce.ensures first_read.1 in
+    let again = puts_become c.args.out.now c.read_in_block.new.out c.fit_key.new.out c.mark-start.result first_read.0 k.2 c.mark-start.ensures put k.4 in
     let own = puts_altered c.args.out.now c.fit_key.new.out c.dress.new.self c.mark-start.result (dressed q) k.2 c.mark-start.ensures again c.dress.ensures in
     let begun = puts_altered c.args.out.now c.dress.new.self c.insert_block_mapping.new.out c.mark-start.result (λ es. first ∷ es) ks c.mark-start.ensures own c.in_ok-insert_block_mapping-in-Some.ensures.ok in
-    let flow = bare_flow cs (Unit {0}) h k.0 k.1 c.args.level.now.least flow_out q _ _ _ k.2 k.5 in
-    let key = value_key cs (Unit {0}) h r c.args.level.now.least k.0 k.1 _ _ _ ks flow (omega (arith, k.3)) colon in
-    let whole = mapping_done cs (Unit {0}) h p r c.args.level.now.room c.in-Some.column _ _ _ ks n.0 e key n.2 in (
+    let flow = bare_flow cs (Unit {0}) h k.0 k.1 c.args.site.now.level.now.least flow_out q _ _ _ k.2 k.5 in
+    let key = value_key cs (Unit {0}) h r c.args.site.now.level.now.least k.0 k.1 _ _ _ ks flow (omega (arith, k.3)) colon in
+    let whole = mapping_done cs (Unit {0}) h p r c.args.site.now.level.now.room c.in-Some.column _ _ _ ks n.0 e key n.2 in (
       first ∷ ((ks ++ n.0) ++ (mapping_end ∷ [])),
       puts_on c.args.out.now c.read_entries.new.out _ (first ∷ (ks ++ n.0)) (mapping_end ∷ [])
           (puts_on c.args.out.now c.insert_block_mapping.new.out _ (first ∷ ks) n.0 begun n.1)
           c.in_ok-push_mapping_end-in-Some.ensures.ok,
-      keyed cs (Unit {0}) h c.args.level.now.room c.args.level.now.least c.in-Some.column (context_of c.args.level.now.context) c.args.setting.column _ _ _ p _ c.requires.dressed.node.outer column whole,
+      keyed cs (Unit {0}) h c.args.site.now.level.now.room c.args.site.now.level.now.least c.in-Some.column (context_of c.args.site.now.level.now.context) c.args.site.now.column _ _ _ p _ c.requires.dressed.node.above column whole,
     )
 
 -- ---- what the calls decide
@@ -827,35 +829,35 @@ pub nodes::read_node-returns-in_err-own-clause-decides : goal.nodes::read_node-r
 nodes::read_node-returns-in_err-own-clause-decides g t c =
     let s = c.args.source.now in
     let cs = text_of s in
-    let h = handles_of c.args.level.now.handles in
-    let x = context_of c.args.level.now.context in
-    let p = props_of c.args.setting.outer in
-    decides_err (node_rest cs (Unit {0}) h c.args.level.now.room c.args.level.now.least x (column_of p c.args.setting.column)) (AfterNode cs c.args.level.now.least x) (place_of s c.args.setting.from) Here (λ line. place_of s line.start) c.from_residual.result _ c.from_residual.ensures.1
-    (or_else (barred cs h c.args.level.now.room c.args.level.now.least x c.requires.block c.args.setting.column _ _ p c.requires.outer) c.in_err-own.ensures.barred)
+    let h = handles_of c.args.site.now.level.now.handles in
+    let x = context_of c.args.site.now.level.now.context in
+    let p = props_of c.args.outer in
+    decides_err (node_rest cs (Unit {0}) h c.args.site.now.level.now.room c.args.site.now.level.now.least x (column_of p c.args.site.now.column)) (AfterNode cs c.args.site.now.level.now.least x) (place_of s c.args.site.now.from) Here (λ line. place_of s line.start) c.from_residual.result _ c.from_residual.ensures.1
+    (or_else (barred cs h c.args.site.now.level.now.room c.args.site.now.level.now.least x c.requires.block c.args.site.now.column _ _ p c.requires.above) c.in_err-own.ensures.barred)
 
 pub nodes::read_node-returns-then-overlaps-clause-decides : goal.nodes::read_node-returns-then-overlaps-clause-decides
 nodes::read_node-returns-then-overlaps-clause-decides g t c =
     let s = c.args.source.now in
     let cs = text_of s in
-    let h = handles_of c.args.level.now.handles in
+    let h = handles_of c.args.site.now.level.now.handles in
     let q = props_of c.in_ok-own.own in
     let some = on_false_at c.is_none.result c.if-is_none.false c.is_none.ensures.no in
-    inr (over_clash cs h c.args.level.now.room c.args.level.now.least (context_of c.args.level.now.context) c.requires.block c.args.setting.column _ _ (props_of c.args.setting.outer) _ _ q (places_up s _ _ c.requires.border c.in_ok-own.ensures.stand.border c.in_ok-own.ensures.stand.onward)
-    (own_marks cs h 0 block_key _ _ q c.in_ok-own.ensures.stand.own some) c.in_ok-own.ensures.stand.all c.in-Some.ensures.some c.requires.outer (on_true_at c.overlaps.result c.if-overlaps.true c.overlaps.ensures.yes))
+    inr (over_clash cs h c.args.site.now.level.now.room c.args.site.now.level.now.least (context_of c.args.site.now.level.now.context) c.requires.block c.args.site.now.column _ _ (props_of c.args.outer) _ _ q (places_up s _ _ c.requires.border c.in_ok-own.ensures.stand.border c.in_ok-own.ensures.stand.onward)
+    (own_marks cs h 0 block_key _ _ q c.in_ok-own.ensures.stand.own some) c.in_ok-own.ensures.stand.all c.in-Some.ensures.some c.requires.above (on_true_at c.overlaps.result c.if-overlaps.true c.overlaps.ensures.yes))
 
 pub nodes::read_node-returns-else-overlaps-clause-decides : goal.nodes::read_node-returns-else-overlaps-clause-decides
 nodes::read_node-returns-else-overlaps-clause-decides g t c =
     let s = c.args.source.now in
     let cs = text_of s in
-    let h = handles_of c.args.level.now.handles in
-    let x = context_of c.args.level.now.context in
-    let p = props_of c.args.setting.outer in
+    let h = handles_of c.args.site.now.level.now.handles in
+    let x = context_of c.args.site.now.level.now.context in
+    let p = props_of c.args.outer in
     let q = props_of c.in_ok-own.own in
     let some = on_false_at c.is_none.result c.if-is_none.false c.is_none.ensures.no in
-    decides_rest (node_rest cs (Unit {0}) h c.args.level.now.room c.args.level.now.least x (column_of p c.args.setting.column)) (AfterNode cs c.args.level.now.least x) (place_of s c.args.setting.from) (node_rest cs (Unit {0}) h c.args.level.now.room c.args.level.now.least x None) (AfterNode cs c.args.level.now.least x) (place_of s c.args.setting.from)
+    decides_rest (node_rest cs (Unit {0}) h c.args.site.now.level.now.room c.args.site.now.level.now.least x (column_of p c.args.site.now.column)) (AfterNode cs c.args.site.now.level.now.least x) (place_of s c.args.site.now.from) (node_rest cs (Unit {0}) h c.args.site.now.level.now.room c.args.site.now.level.now.least x None) (AfterNode cs c.args.site.now.level.now.least x) (place_of s c.args.site.now.from)
     Here (λ line. place_of s line.start) c.read_under.result
-    (over_left cs h c.args.level.now.room c.args.level.now.least x c.requires.block c.args.setting.column _ _ p _ _ q (places_up s _ _ c.requires.border c.in_ok-own.ensures.stand.border c.in_ok-own.ensures.stand.onward)
-    (own_marks cs h 0 block_key _ _ q c.in_ok-own.ensures.stand.own some) c.in_ok-own.ensures.stand.all c.in-Some.ensures.some c.requires.outer) c.read_under.ensures.decides
+    (over_left cs h c.args.site.now.level.now.room c.args.site.now.level.now.least x c.requires.block c.args.site.now.column _ _ p _ _ q (places_up s _ _ c.requires.border c.in_ok-own.ensures.stand.border c.in_ok-own.ensures.stand.onward)
+    (own_marks cs h 0 block_key _ _ q c.in_ok-own.ensures.stand.own some) c.in_ok-own.ensures.stand.all c.in-Some.ensures.some c.requires.above) c.read_under.ensures.decides
 
 pub nodes::read_dressed-read_keyed-requires : goal.nodes::read_dressed-read_keyed-requires
 nodes::read_dressed-read_keyed-requires g t c = λ κs l. (
@@ -867,117 +869,117 @@ pub nodes::read_dressed-returns-then-overlaps-clause-decides : goal.nodes::read_
 nodes::read_dressed-returns-then-overlaps-clause-decides g t c =
     let s = c.args.source.now in
     let cs = text_of s in
-    inr (signed_clash cs (handles_of c.args.level.now.handles) c.args.level.now.room c.args.level.now.least (context_of c.args.level.now.context) c.requires.node.block c.args.setting.column _ _ (props_of c.args.setting.outer) _ (props_of c.args.head.own) c.requires.own.all c.requires.goes_on c.requires.own.own _
-    c.requires.node.outer c.in-Some.ensures.sign.follows (sign_of cs _ _ c.in-Some.ensures.sign.sign) (on_true_at c.overlaps.result c.if-overlaps.true c.overlaps.ensures.yes))
+    inr (signed_clash cs (handles_of c.args.site.now.level.now.handles) c.args.site.now.level.now.room c.args.site.now.level.now.least (context_of c.args.site.now.level.now.context) c.requires.node.block c.args.site.now.column _ _ (props_of c.args.outer) _ (props_of c.args.head.own) c.requires.own.all c.requires.goes_on c.requires.own.own _
+    c.requires.node.above c.in-Some.ensures.sign.follows (sign_of cs _ _ c.in-Some.ensures.sign.sign) (on_true_at c.overlaps.result c.if-overlaps.true c.overlaps.ensures.yes))
 
 pub nodes::read_dressed-returns-in_err-line-in-Some-clause-decides : goal.nodes::read_dressed-returns-in_err-line-in-Some-clause-decides
 nodes::read_dressed-returns-in_err-line-in-Some-clause-decides g t c =
     let s = c.args.source.now in
     let cs = text_of s in
-    let h = handles_of c.args.level.now.handles in
-    let x = context_of c.args.level.now.context in
-    let p = props_of c.args.setting.outer in
+    let h = handles_of c.args.site.now.level.now.handles in
+    let x = context_of c.args.site.now.level.now.context in
+    let p = props_of c.args.outer in
     let apart = on_false_at c.overlaps.result c.if-overlaps.false c.overlaps.ensures.no in
-    let properties_left = signed cs h c.args.level.now.room c.args.level.now.least x c.requires.node.block c.args.setting.column _ _ p _ (props_of c.args.head.own) c.requires.own.all c.requires.goes_on c.requires.own.own _ c.requires.node.outer c.in-Some.ensures.sign.follows (sign_of cs _ _ c.in-Some.ensures.sign.sign) apart in
-    decides_err (node_rest cs (Unit {0}) h c.args.level.now.room c.args.level.now.least x (column_of p c.args.setting.column)) (AfterNode cs c.args.level.now.least x) (place_of s c.args.setting.from) Here (λ line. place_of s line.start) c.from_residual.result _ c.from_residual.ensures.1
-    (or_else (scalar_none cs c.args.level.now.least x _ _ _ properties_left.0 (props_of c.and-both.result) properties_left.1) c.in_err-line-in-Some.ensures.decides)
+    let properties_left = signed cs h c.args.site.now.level.now.room c.args.site.now.level.now.least x c.requires.node.block c.args.site.now.column _ _ p _ (props_of c.args.head.own) c.requires.own.all c.requires.goes_on c.requires.own.own _ c.requires.node.above c.in-Some.ensures.sign.follows (sign_of cs _ _ c.in-Some.ensures.sign.sign) apart in
+    decides_err (node_rest cs (Unit {0}) h c.args.site.now.level.now.room c.args.site.now.level.now.least x (column_of p c.args.site.now.column)) (AfterNode cs c.args.site.now.level.now.least x) (place_of s c.args.site.now.from) Here (λ line. place_of s line.start) c.from_residual.result _ c.from_residual.ensures.1
+    (or_else (scalar_none cs c.args.site.now.level.now.least x _ _ _ properties_left.0 (props_of c.and-both.result) properties_left.1) c.in_err-line-in-Some.ensures.decides)
 
 pub nodes::read_dressed-returns-in_ok-line-in-Some-clause-decides : goal.nodes::read_dressed-returns-in_ok-line-in-Some-clause-decides
 nodes::read_dressed-returns-in_ok-line-in-Some-clause-decides g t c =
     let s = c.args.source.now in
     let cs = text_of s in
-    let h = handles_of c.args.level.now.handles in
-    let x = context_of c.args.level.now.context in
-    let p = props_of c.args.setting.outer in
+    let h = handles_of c.args.site.now.level.now.handles in
+    let x = context_of c.args.site.now.level.now.context in
+    let p = props_of c.args.outer in
     let apart = on_false_at c.overlaps.result c.if-overlaps.false c.overlaps.ensures.no in
-    let properties_left = signed cs h c.args.level.now.room c.args.level.now.least x c.requires.node.block c.args.setting.column _ _ p _ (props_of c.args.head.own) c.requires.own.all c.requires.goes_on c.requires.own.own _ c.requires.node.outer c.in-Some.ensures.sign.follows (sign_of cs _ _ c.in-Some.ensures.sign.sign) apart in
-    scalar_done cs c.args.level.now.least x _ _ _ properties_left.0 (props_of c.and-both.result) properties_left.1 _ c.in_ok-line-in-Some.ensures.decides
+    let properties_left = signed cs h c.args.site.now.level.now.room c.args.site.now.level.now.least x c.requires.node.block c.args.site.now.column _ _ p _ (props_of c.args.head.own) c.requires.own.all c.requires.goes_on c.requires.own.own _ c.requires.node.above c.in-Some.ensures.sign.follows (sign_of cs _ _ c.in-Some.ensures.sign.sign) apart in
+    scalar_done cs c.args.site.now.level.now.least x _ _ _ properties_left.0 (props_of c.and-both.result) properties_left.1 _ c.in_ok-line-in-Some.ensures.decides
 
 -- ---- keys and flow nodes
 
-pub nodes::read_keyed-read_bare-requires : goal.nodes::read_keyed-read_bare-requires
-nodes::read_keyed-read_bare-requires g t c = flow_starts c.args.source.now c.args.level.now c.args.setting c.args.head c.requires.dressed
+pub nodes::read_keyed-read_in_block-requires : goal.nodes::read_keyed-read_in_block-requires
+nodes::read_keyed-read_in_block-requires g t c = flow_starts c.args.source.now c.args.site.now c.args.outer c.args.head c.requires.dressed
 
 pub nodes::read_keyed-fit_key-requires : goal.nodes::read_keyed-fit_key-requires
 nodes::read_keyed-fit_key-requires g t c = record {
-  starts = flow_starts c.args.source.now c.args.level.now c.args.setting c.args.head c.requires.dressed;
+  starts = flow_starts c.args.source.now c.args.site.now c.args.outer c.args.head c.requires.dressed;
   stop = c.in_ok-node.ensures.ends.border;
   goes_on = c.requires.dressed.goes_on;
-  key = c.in_ok-node.ensures.decides (λ _. c.requires.dressed.goes_on);
+  key = c.in_ok-node.ensures.decides c.requires.dressed.goes_on;
 }
 
 pub nodes::read_keyed-returns-in_err-node-clause-decides : goal.nodes::read_keyed-returns-in_err-node-clause-decides
 nodes::read_keyed-returns-in_err-node-clause-decides g t c =
     let s = c.args.source.now in
     let cs = text_of s in
-    let h = handles_of c.args.level.now.handles in
-    let x = context_of c.args.level.now.context in
-    let p = props_of c.args.setting.outer in
-    let whole = kept cs h c.args.level.now.room c.args.level.now.least x c.requires.dressed.node.block c.args.setting.column _ _ p _ (props_of c.args.head.own) c.requires.dressed.own.all c.requires.dressed.goes_on c.requires.dressed.own.own c.requires.dressed.node.outer c.requires.no_scalar in
-    decides_err (node_rest cs (Unit {0}) h c.args.level.now.room c.args.level.now.least x (column_of p c.args.setting.column)) (AfterNode cs c.args.level.now.least x) (place_of s c.args.setting.from) Here (λ line. place_of s line.start) c.from_residual.result _ c.from_residual.ensures.1
-    (or_else (λ n. rest_refused whole (kept_refused cs h c.args.level.now.room c.args.level.now.least x c.requires.dressed.node.block _ p c.args.setting.column n)) (c.in_err-node.ensures.decides (λ _. c.requires.dressed.goes_on)))
+    let h = handles_of c.args.site.now.level.now.handles in
+    let x = context_of c.args.site.now.level.now.context in
+    let p = props_of c.args.outer in
+    let whole = kept cs h c.args.site.now.level.now.room c.args.site.now.level.now.least x c.requires.dressed.node.block c.args.site.now.column _ _ p _ (props_of c.args.head.own) c.requires.dressed.own.all c.requires.dressed.goes_on c.requires.dressed.own.own c.requires.dressed.node.above c.requires.no_scalar in
+    decides_err (node_rest cs (Unit {0}) h c.args.site.now.level.now.room c.args.site.now.level.now.least x (column_of p c.args.site.now.column)) (AfterNode cs c.args.site.now.level.now.least x) (place_of s c.args.site.now.from) Here (λ line. place_of s line.start) c.from_residual.result _ c.from_residual.ensures.1
+    (or_else (λ n. rest_refused whole (kept_refused cs h c.args.site.now.level.now.room c.args.site.now.level.now.least x c.requires.dressed.node.block _ p c.args.site.now.column n)) (c.in_err-node.ensures.decides c.requires.dressed.goes_on))
 
 pub nodes::read_keyed-returns-in_err-first_colon-clause-decides : goal.nodes::read_keyed-returns-in_err-first_colon-clause-decides
 nodes::read_keyed-returns-in_err-first_colon-clause-decides g t c =
     let s = c.args.source.now in
     let cs = text_of s in
-    let h = handles_of c.args.level.now.handles in
-    let x = context_of c.args.level.now.context in
-    let p = props_of c.args.setting.outer in
+    let h = handles_of c.args.site.now.level.now.handles in
+    let x = context_of c.args.site.now.level.now.context in
+    let p = props_of c.args.outer in
     let q = props_of c.args.head.own in
     let k = c.in_ok-node.ensures.reads in
     let node = c.in_ok-node.node in
-    let flow = bare_flow cs (Unit {0}) h node.deep node.kind c.args.level.now.least flow_out q _ _ _ k.0 k.2 in
-    let inside = end_inside cs h c.args.level.now.room c.args.level.now.least x c.requires.dressed.node.block node.kind node.deep _ _ (dressed q k.0) flow c.in_ok-node.ensures.ends.within in
-    let whole = kept cs h c.args.level.now.room c.args.level.now.least x c.requires.dressed.node.block c.args.setting.column _ _ p _ q c.requires.dressed.own.all c.requires.dressed.goes_on c.requires.dressed.own.own c.requires.dressed.node.outer c.requires.no_scalar in
+    let flow = bare_flow cs (Unit {0}) h node.deep node.kind c.args.site.now.level.now.least flow_out q _ _ _ k.0 k.2 in
+    let inside = end_inside cs h c.args.site.now.level.now.room c.args.site.now.level.now.least x c.requires.dressed.node.block node.kind node.deep _ _ (dressed q k.0) flow c.in_ok-node.ensures.ends.within in
+    let whole = kept cs h c.args.site.now.level.now.room c.args.site.now.level.now.least x c.requires.dressed.node.block c.args.site.now.column _ _ p _ q c.requires.dressed.own.all c.requires.dressed.goes_on c.requires.dressed.own.own c.requires.dressed.node.above c.requires.no_scalar in
     let long = c.in_err-first_colon.ensures.long in
-    decides_err (node_rest cs (Unit {0}) h c.args.level.now.room c.args.level.now.least x (column_of p c.args.setting.column)) (AfterNode cs c.args.level.now.least x) (place_of s c.args.setting.from) Here (λ line. place_of s line.start) c.from_residual-in_err-first_colon.result _ c.from_residual-in_err-first_colon.ensures.1
-    (inr (rest_refused whole (kept_neither cs h c.args.level.now.room c.args.level.now.least x c.requires.dressed.node.block _ _ node.kind (c.in_ok-node.ensures.decides (λ _. c.requires.dressed.goes_on)) p c.args.setting.column inside long.0 long.1)))
+    decides_err (node_rest cs (Unit {0}) h c.args.site.now.level.now.room c.args.site.now.level.now.least x (column_of p c.args.site.now.column)) (AfterNode cs c.args.site.now.level.now.least x) (place_of s c.args.site.now.from) Here (λ line. place_of s line.start) c.from_residual-in_err-first_colon.result _ c.from_residual-in_err-first_colon.ensures.1
+    (inr (rest_refused whole (kept_neither cs h c.args.site.now.level.now.room c.args.site.now.level.now.least x c.requires.dressed.node.block _ _ node.kind (c.in_ok-node.ensures.decides c.requires.dressed.goes_on) p c.args.site.now.column inside long.0 long.1)))
 
 pub nodes::read_keyed-returns-in_err-line-in-None-clause-decides : goal.nodes::read_keyed-returns-in_err-line-in-None-clause-decides
 nodes::read_keyed-returns-in_err-line-in-None-clause-decides g t c =
     let s = c.args.source.now in
     let cs = text_of s in
-    let h = handles_of c.args.level.now.handles in
-    let x = context_of c.args.level.now.context in
-    let p = props_of c.args.setting.outer in
+    let h = handles_of c.args.site.now.level.now.handles in
+    let x = context_of c.args.site.now.level.now.context in
+    let p = props_of c.args.outer in
     let q = props_of c.args.head.own in
     let node = c.in_ok-node.node in
-    let no_key = none_is ((c.args.setting.column ≡ None) ⊎ IsNoKey cs (place_of s c.args.head.at) (place_of s node.end)) c.in_ok-first_colon.field-0 c.in-None.is c.in_ok-first_colon.ensures.none in
-    decides_err (node_rest cs (Unit {0}) h c.args.level.now.room c.args.level.now.least x (column_of p c.args.setting.column)) (AfterNode cs c.args.level.now.least x) (place_of s c.args.setting.from) Here (λ line. place_of s line.start) c.from_residual-in_err-line-in-None.result _ c.from_residual-in_err-line-in-None.ensures.1
-    (inr (unfit_none cs h c.args.level.now.room c.args.level.now.least x c.requires.dressed.node.block c.args.setting.column _ _ p _ q c.requires.dressed.own.all c.requires.dressed.goes_on c.requires.dressed.own.own c.requires.dressed.node.outer c.requires.no_scalar _ node.kind (c.in_ok-node.ensures.decides (λ _. c.requires.dressed.goes_on)) no_key c.in_err-line-in-None.ensures.unfit))
+    let no_key = none_is ((c.args.site.now.column ≡ None) ⊎ IsNoKey cs (place_of s c.args.head.at) (place_of s node.end)) c.in_ok-first_colon.field-0 c.in-None.is c.in_ok-first_colon.ensures.none in
+    decides_err (node_rest cs (Unit {0}) h c.args.site.now.level.now.room c.args.site.now.level.now.least x (column_of p c.args.site.now.column)) (AfterNode cs c.args.site.now.level.now.least x) (place_of s c.args.site.now.from) Here (λ line. place_of s line.start) c.from_residual-in_err-line-in-None.result _ c.from_residual-in_err-line-in-None.ensures.1
+    (inr (unfit_none cs h c.args.site.now.level.now.room c.args.site.now.level.now.least x c.requires.dressed.node.block c.args.site.now.column _ _ p _ q c.requires.dressed.own.all c.requires.dressed.goes_on c.requires.dressed.own.own c.requires.dressed.node.above c.requires.no_scalar _ node.kind (c.in_ok-node.ensures.decides c.requires.dressed.goes_on) no_key c.in_err-line-in-None.ensures.unfit))
 
 pub nodes::read_keyed-returns-in_ok-line-in-None-clause-decides : goal.nodes::read_keyed-returns-in_ok-line-in-None-clause-decides
 nodes::read_keyed-returns-in_ok-line-in-None-clause-decides g t c =
     let s = c.args.source.now in
     let cs = text_of s in
-    let h = handles_of c.args.level.now.handles in
-    let x = context_of c.args.level.now.context in
-    let p = props_of c.args.setting.outer in
+    let h = handles_of c.args.site.now.level.now.handles in
+    let x = context_of c.args.site.now.level.now.context in
+    let p = props_of c.args.outer in
     let n = c.in_ok-line-in-None.ensures in
     let node = c.in_ok-node.node in
-    let no_key = none_is ((c.args.setting.column ≡ None) ⊎ IsNoKey cs (place_of s c.args.head.at) (place_of s node.end)) c.in_ok-first_colon.field-0 c.in-None.is c.in_ok-first_colon.ensures.none in
-    let whole = kept cs h c.args.level.now.room c.args.level.now.least x c.requires.dressed.node.block c.args.setting.column _ _ p _ (props_of c.args.head.own) c.requires.dressed.own.all c.requires.dressed.goes_on c.requires.dressed.own.own c.requires.dressed.node.outer c.requires.no_scalar in
-    rest_goes whole (kept_line cs h c.args.level.now.room c.args.level.now.least x c.requires.dressed.node.block _ _ node.kind (c.in_ok-node.ensures.decides (λ _. c.requires.dressed.goes_on)) p c.args.setting.column _ no_key n.ends.comments n.ends.line.stuck)
+    let no_key = none_is ((c.args.site.now.column ≡ None) ⊎ IsNoKey cs (place_of s c.args.head.at) (place_of s node.end)) c.in_ok-first_colon.field-0 c.in-None.is c.in_ok-first_colon.ensures.none in
+    let whole = kept cs h c.args.site.now.level.now.room c.args.site.now.level.now.least x c.requires.dressed.node.block c.args.site.now.column _ _ p _ (props_of c.args.head.own) c.requires.dressed.own.all c.requires.dressed.goes_on c.requires.dressed.own.own c.requires.dressed.node.above c.requires.no_scalar in
+    rest_goes whole (kept_line cs h c.args.site.now.level.now.room c.args.site.now.level.now.least x c.requires.dressed.node.block _ _ node.kind (c.in_ok-node.ensures.decides c.requires.dressed.goes_on) p c.args.site.now.column _ no_key n.ends.comments n.ends.line.stuck)
 
 pub nodes::read_keyed-returns-in_err-fit_key-in-Some-clause-decides : goal.nodes::read_keyed-returns-in_err-fit_key-in-Some-clause-decides
 nodes::read_keyed-returns-in_err-fit_key-in-Some-clause-decides g t c =
     let s = c.args.source.now in
     let cs = text_of s in
-    let h = handles_of c.args.level.now.handles in
-    let x = context_of c.args.level.now.context in
-    let p = props_of c.args.setting.outer in
+    let h = handles_of c.args.site.now.level.now.handles in
+    let x = context_of c.args.site.now.level.now.context in
+    let p = props_of c.args.outer in
     let q = props_of c.args.head.own in
     let k = c.in_ok-node.ensures.reads in
     let node = c.in_ok-node.node in
-    let flow = bare_flow cs (Unit {0}) h node.deep node.kind c.args.level.now.least flow_out q _ _ _ k.0 k.2 in
-    let inside = end_inside cs h c.args.level.now.room c.args.level.now.least x c.requires.dressed.node.block node.kind node.deep _ _ (dressed q k.0) flow c.in_ok-node.ensures.ends.within in
-    let whole = kept cs h c.args.level.now.room c.args.level.now.least x c.requires.dressed.node.block c.args.setting.column _ _ p _ q c.requires.dressed.own.all c.requires.dressed.goes_on c.requires.dressed.own.own c.requires.dressed.node.outer c.requires.no_scalar in
-    let found = found_is (λ z. IsFirstColon s c.args.head.at c.in_ok-node.node.end c.args.setting.column z.0 z.1) c.in_ok-first_colon.field-0 _ c.in-Some.is c.in_ok-first_colon.ensures.found in
+    let flow = bare_flow cs (Unit {0}) h node.deep node.kind c.args.site.now.level.now.least flow_out q _ _ _ k.0 k.2 in
+    let inside = end_inside cs h c.args.site.now.level.now.room c.args.site.now.level.now.least x c.requires.dressed.node.block node.kind node.deep _ _ (dressed q k.0) flow c.in_ok-node.ensures.ends.within in
+    let whole = kept cs h c.args.site.now.level.now.room c.args.site.now.level.now.least x c.requires.dressed.node.block c.args.site.now.column _ _ p _ q c.requires.dressed.own.all c.requires.dressed.goes_on c.requires.dressed.own.own c.requires.dressed.node.above c.requires.no_scalar in
+    let found = found_is (λ z. IsFirstColon s c.args.head.at c.in_ok-node.node.end c.args.site.now.column z.0 z.1) c.in_ok-first_colon.field-0 _ c.in-Some.is c.in_ok-first_colon.ensures.found in
     let colon = found.colon in
-    decides_err (node_rest cs (Unit {0}) h c.args.level.now.room c.args.level.now.least x (column_of p c.args.setting.column)) (AfterNode cs c.args.level.now.least x) (place_of s c.args.setting.from) Here (λ line. place_of s line.start) c.from_residual-in_err-fit_key-in-Some.result _ c.from_residual-in_err-fit_key-in-Some.ensures.1
-    (or_else (λ n. rest_refused (rest_rest whole (kept_keyed cs h c.args.level.now.room c.args.level.now.least x c.requires.dressed.node.block _ _ node.kind (c.in_ok-node.ensures.decides (λ _. c.requires.dressed.goes_on)) p c.args.setting.column inside (colon_stands cs _ _ _ colon)))
-    (keyed_none_below cs h c.args.level.now.room c.args.level.now.least x c.requires.dressed.node.block p c.args.setting.column _ (AfterNode cs c.args.level.now.least x) n)) c.in_err-fit_key-in-Some.ensures.decides)
+    decides_err (node_rest cs (Unit {0}) h c.args.site.now.level.now.room c.args.site.now.level.now.least x (column_of p c.args.site.now.column)) (AfterNode cs c.args.site.now.level.now.least x) (place_of s c.args.site.now.from) Here (λ line. place_of s line.start) c.from_residual-in_err-fit_key-in-Some.result _ c.from_residual-in_err-fit_key-in-Some.ensures.1
+    (or_else (λ n. rest_refused (rest_rest whole (kept_keyed cs h c.args.site.now.level.now.room c.args.site.now.level.now.least x c.requires.dressed.node.block _ _ node.kind (c.in_ok-node.ensures.decides c.requires.dressed.goes_on) p c.args.site.now.column inside (colon_stands cs _ _ _ colon)))
+    (keyed_none_below cs h c.args.site.now.level.now.room c.args.site.now.level.now.least x c.requires.dressed.node.block p c.args.site.now.column _ (AfterNode cs c.args.site.now.level.now.least x) n)) c.in_err-fit_key-in-Some.ensures.decides)
 
 pub nodes::read_keyed-read_entries-requires : goal.nodes::read_keyed-read_entries-requires
 nodes::read_keyed-read_entries-requires g t c =
@@ -986,7 +988,7 @@ nodes::read_keyed-read_entries-requires g t c =
     let k = c.in_ok-node.ensures.reads in
     let node = c.in_ok-node.node in
     let fit = c.in_ok-fit_key-in-Some.ensures.reads k.0 k.2 in
-    let found = found_is (λ z. IsFirstColon s c.args.head.at c.in_ok-node.node.end c.args.setting.column z.0 z.1) c.in_ok-first_colon.field-0 _ c.in-Some.is c.in_ok-first_colon.ensures.found in
+    let found = found_is (λ z. IsFirstColon s c.args.head.at c.in_ok-node.node.end c.args.site.now.column z.0 z.1) c.in_ok-first_colon.field-0 _ c.in-Some.is c.in_ok-first_colon.ensures.found in
     let low = MatchOption-at_some (Unit {0}) (λ k. k ≤ c.args.head.at) _ found.some c.requires.dressed.node.column in λ κs l. (
       omega (arith, fit.3),
       (
@@ -1004,41 +1006,41 @@ pub nodes::read_keyed-returns-in_err-line-in-Some-clause-decides : goal.nodes::r
 nodes::read_keyed-returns-in_err-line-in-Some-clause-decides g t c =
     let s = c.args.source.now in
     let cs = text_of s in
-    let h = handles_of c.args.level.now.handles in
-    let x = context_of c.args.level.now.context in
-    let p = props_of c.args.setting.outer in
+    let h = handles_of c.args.site.now.level.now.handles in
+    let x = context_of c.args.site.now.level.now.context in
+    let p = props_of c.args.outer in
     let q = props_of c.args.head.own in
     let k = c.in_ok-node.ensures.reads in
     let node = c.in_ok-node.node in
     let fit = c.in_ok-fit_key-in-Some.ensures.reads k.0 k.2 in
-    let flow = bare_flow cs (Unit {0}) h node.deep node.kind c.args.level.now.least flow_out q _ _ _ k.0 k.2 in
-    let found = found_is (λ z. IsFirstColon s c.args.head.at c.in_ok-node.node.end c.args.setting.column z.0 z.1) c.in_ok-first_colon.field-0 _ c.in-Some.is c.in_ok-first_colon.ensures.found in
+    let flow = bare_flow cs (Unit {0}) h node.deep node.kind c.args.site.now.level.now.least flow_out q _ _ _ k.0 k.2 in
+    let found = found_is (λ z. IsFirstColon s c.args.head.at c.in_ok-node.node.end c.args.site.now.column z.0 z.1) c.in_ok-first_colon.field-0 _ c.in-Some.is c.in_ok-first_colon.ensures.found in
     let column = found.some in
     let colon = found.colon in
-    let wide = MatchOption-at_some (Unit {0}) (λ k. c.args.level.now.least ≤ k) _ column c.requires.dressed.node.wide in
-    let rest = mapping_left cs h (c.args.level.now.room - 1) c.args.level.now.room c.args.level.now.least x c.requires.dressed.node.block c.args.setting.column _ _ p _ q c.requires.dressed.own.all c.requires.dressed.goes_on c.requires.dressed.own.own c.requires.dressed.node.outer c.requires.no_scalar _ node.kind node.deep (dressed q k.0) flow c.in_ok-node.ensures.ends.within
-    (c.in_ok-node.ensures.decides (λ _. c.requires.dressed.goes_on)) (omega (arith, fit.3)) _ _ column wide colon in
-    decides_err (node_rest cs (Unit {0}) h c.args.level.now.room c.args.level.now.least x (column_of p c.args.setting.column)) (AfterNode cs c.args.level.now.least x) (place_of s c.args.setting.from) Here (λ line. place_of s line.start) c.from_residual-in_err-line-in-Some.result _ c.from_residual-in_err-line-in-Some.ensures.1
+    let wide = MatchOption-at_some (Unit {0}) (λ k. c.args.site.now.level.now.least ≤ k) _ column c.requires.dressed.node.wide in
+    let rest = mapping_left cs h (c.args.site.now.level.now.room - 1) c.args.site.now.level.now.room c.args.site.now.level.now.least x c.requires.dressed.node.block c.args.site.now.column _ _ p _ q c.requires.dressed.own.all c.requires.dressed.goes_on c.requires.dressed.own.own c.requires.dressed.node.above c.requires.no_scalar _ node.kind node.deep (dressed q k.0) flow c.in_ok-node.ensures.ends.within
+    (c.in_ok-node.ensures.decides c.requires.dressed.goes_on) (omega (arith, fit.3)) _ _ column wide colon in
+    decides_err (node_rest cs (Unit {0}) h c.args.site.now.level.now.room c.args.site.now.level.now.least x (column_of p c.args.site.now.column)) (AfterNode cs c.args.site.now.level.now.least x) (place_of s c.args.site.now.from) Here (λ line. place_of s line.start) c.from_residual-in_err-line-in-Some.result _ c.from_residual-in_err-line-in-Some.ensures.1
     (or_else (rest_refused rest) c.in_err-line-in-Some.ensures.decides)
 
 pub nodes::read_keyed-returns-in_ok-push_mapping_end-in-Some-clause-decides : goal.nodes::read_keyed-returns-in_ok-push_mapping_end-in-Some-clause-decides
 nodes::read_keyed-returns-in_ok-push_mapping_end-in-Some-clause-decides g t c =
     let s = c.args.source.now in
     let cs = text_of s in
-    let h = handles_of c.args.level.now.handles in
-    let x = context_of c.args.level.now.context in
-    let p = props_of c.args.setting.outer in
+    let h = handles_of c.args.site.now.level.now.handles in
+    let x = context_of c.args.site.now.level.now.context in
+    let p = props_of c.args.outer in
     let q = props_of c.args.head.own in
     let k = c.in_ok-node.ensures.reads in
     let node = c.in_ok-node.node in
     let fit = c.in_ok-fit_key-in-Some.ensures.reads k.0 k.2 in
-    let flow = bare_flow cs (Unit {0}) h node.deep node.kind c.args.level.now.least flow_out q _ _ _ k.0 k.2 in
-    let found = found_is (λ z. IsFirstColon s c.args.head.at c.in_ok-node.node.end c.args.setting.column z.0 z.1) c.in_ok-first_colon.field-0 _ c.in-Some.is c.in_ok-first_colon.ensures.found in
+    let flow = bare_flow cs (Unit {0}) h node.deep node.kind c.args.site.now.level.now.least flow_out q _ _ _ k.0 k.2 in
+    let found = found_is (λ z. IsFirstColon s c.args.head.at c.in_ok-node.node.end c.args.site.now.column z.0 z.1) c.in_ok-first_colon.field-0 _ c.in-Some.is c.in_ok-first_colon.ensures.found in
     let column = found.some in
     let colon = found.colon in
-    let wide = MatchOption-at_some (Unit {0}) (λ k. c.args.level.now.least ≤ k) _ column c.requires.dressed.node.wide in
-    rest_goes (mapping_left cs h (c.args.level.now.room - 1) c.args.level.now.room c.args.level.now.least x c.requires.dressed.node.block c.args.setting.column _ _ p _ q c.requires.dressed.own.all c.requires.dressed.goes_on c.requires.dressed.own.own c.requires.dressed.node.outer c.requires.no_scalar _ node.kind node.deep (dressed q k.0) flow c.in_ok-node.ensures.ends.within
-    (c.in_ok-node.ensures.decides (λ _. c.requires.dressed.goes_on)) (omega (arith, fit.3)) _ _ column wide colon) c.in_ok-line-in-Some.ensures.decides
+    let wide = MatchOption-at_some (Unit {0}) (λ k. c.args.site.now.level.now.least ≤ k) _ column c.requires.dressed.node.wide in
+    rest_goes (mapping_left cs h (c.args.site.now.level.now.room - 1) c.args.site.now.level.now.room c.args.site.now.level.now.least x c.requires.dressed.node.block c.args.site.now.column _ _ p _ q c.requires.dressed.own.all c.requires.dressed.goes_on c.requires.dressed.own.own c.requires.dressed.node.above c.requires.no_scalar _ node.kind node.deep (dressed q k.0) flow c.in_ok-node.ensures.ends.within
+    (c.in_ok-node.ensures.decides c.requires.dressed.goes_on) (omega (arith, fit.3)) _ _ column wide colon) c.in_ok-line-in-Some.ensures.decides
 
 -- ---- where the calls end
 
@@ -1089,5 +1091,5 @@ pub nodes::read_keyed-returns-in_ok-push_mapping_end-in-Some-clause-ends : goal.
 nodes::read_keyed-returns-in_ok-push_mapping_end-in-Some-clause-ends g t c =
     let s = c.args.source.now in
     let n = c.in_ok-line-in-Some.ensures.ends in
-    let found = found_is (λ z. IsFirstColon s c.args.head.at c.in_ok-node.node.end c.args.setting.column z.0 z.1) c.in_ok-first_colon.field-0 _ c.in-Some.is c.in_ok-first_colon.ensures.found in
+    let found = found_is (λ z. IsFirstColon s c.args.head.at c.in_ok-node.node.end c.args.site.now.column z.0 z.1) c.in_ok-first_colon.field-0 _ c.in-Some.is c.in_ok-first_colon.ensures.found in
     record { line = n.line; onward = omega (arith, c.requires.dressed.node.order, c.in_ok-node.ensures.ends.onward, found.further, n.onward); after = n.after }

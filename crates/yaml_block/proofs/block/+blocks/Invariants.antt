@@ -21,13 +21,13 @@ abbrev pub decreases-collections::read_sequence : goal.decreases-collections::re
 decreases-collections::read_sequence g l = 16 * l.level.now.room
 
 abbrev pub decreases-nodes::read_keyed : goal.decreases-nodes::read_keyed
-decreases-nodes::read_keyed g l = 16 * l.level.now.room
+decreases-nodes::read_keyed g l = 16 * l.site.now.level.now.room
 
 abbrev pub decreases-nodes::read_dressed : goal.decreases-nodes::read_dressed
-decreases-nodes::read_dressed g l = 16 * l.level.now.room + 1
+decreases-nodes::read_dressed g l = 16 * l.site.now.level.now.room + 1
 
 abbrev pub decreases-nodes::read_node : goal.decreases-nodes::read_node
-decreases-nodes::read_node g l = 16 * l.level.now.room + (4 * properties_left (props_of l.setting.outer) + 2)
+decreases-nodes::read_node g l = 16 * l.site.now.level.now.room + (4 * properties_left (props_of l.outer) + 2)
 
 abbrev pub decreases-values::read_under : goal.decreases-values::read_under
 decreases-values::read_under g l = 16 * l.level.now.room + (4 * properties_left (props_of l.above.own) + 3)
