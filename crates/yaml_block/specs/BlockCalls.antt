@@ -60,7 +60,7 @@ module _ (source : Chars) where
     pub low : first.column ≤ first.at
 
   -- the line of a collection's next entry, if it has one
-  pub record StartsLine (next : Line) : Type 0 where
+  pub record StartsEntryLine (next : Line) : Type 0 where
     pub line : IsLine source next
     pub after : AfterLine (text_of source) (place_of source next.start)
 
@@ -73,7 +73,7 @@ module _ (source : Chars) (level : Level) where
     pub some : 0 < level.room
 
   -- a value, after its colon or mark
-  pub record StartsValue (at : ℕ) : Type 0 where
+  pub record StartsBlockValue (at : ℕ) : Type 0 where
     pub border : IsBorder source at
     pub low : level.least ≤ at
     pub block : IsBlock (context_of level.context)
@@ -114,7 +114,7 @@ module _ (source : Chars) (level : Level) where
 
 -- a node, whose first character stands at a border, with its outer properties
 module _ (source : Chars) (site : Site) (outer : Properties) where
-  pub record StartsNode (at : ℕ) : Type 0 where
+  pub record StartsBlockNode (at : ℕ) : Type 0 where
     pub border : IsBorder source at
     pub start : IsBorder source site.from
     pub order : site.from ≤ at
@@ -126,7 +126,7 @@ module _ (source : Chars) (site : Site) (outer : Properties) where
 
   -- with its own properties too, after which its line goes on
   pub record StartsDressed (head : Head) : Type 0 where
-    pub node : StartsNode head.at
+    pub node : StartsBlockNode head.at
     pub own : StandFrom source site.level.now.handles 0 block_key head.at head.end head.own
     pub goes_on : LineGoesOn (text_of source) (place_of source head.end) (props_of head.own)
 
@@ -231,8 +231,8 @@ module _ (source : Chars) (level : Level) (at : ℕ) where
   DecidesLine R E result = Decides R E (place_of source at) Here (λ line. place_of source line.start) result
 
   -- a node, or what may stand in its place
-  abbrev pub DecidesNode : RuleAt → Result Line Fault → Type 0
-  DecidesNode R = DecidesLine (R source level) (AfterNode (text_of source) level.least (context_of level.context))
+  abbrev pub DecidesBlockNode : RuleAt → Result Line Fault → Type 0
+  DecidesBlockNode R = DecidesLine (R source level) (AfterNode (text_of source) level.least (context_of level.context))
 
   abbrev pub DecidesSequence : Props → ℕ → Result Line Fault → Type 0
   DecidesSequence p k = DecidesLine (sequence_rule p k source level) (AfterSequence (text_of source) k)

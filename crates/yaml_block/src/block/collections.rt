@@ -8,7 +8,7 @@ ghost use Rattle.law_one_reading.specs.Follows.{Dash};
 ghost use Rattle.yaml_sink.specs.SinkModel.{holds_of};
 ghost use Rattle.yaml_sink.specs.PropertyRules.{props_of};
 ghost use Rattle.yaml_block.specs.BlockEnds.{NoneIn, IsFurther};
-ghost use Rattle.yaml_block.specs.BlockCalls.{StartsLine, StartsSequence, StartsInside, EndsLine, IsNext, IsNextDash, sequence_rule, entries_rule, ReadsLine, DecidesSequence, DecidesEntries};
+ghost use Rattle.yaml_block.specs.BlockCalls.{StartsEntryLine, StartsSequence, StartsInside, EndsLine, IsNext, IsNextDash, sequence_rule, entries_rule, ReadsLine, DecidesSequence, DecidesEntries};
 
 use crate::block::keys::read_key;
 use crate::block::signs::{Indicator, dash};
@@ -26,7 +26,7 @@ use yaml_text::lines::unusable;
 
 /// Whether a line at a collection's column or further left is its next entry's; one further right is none's.
 fn goes_on(source: &Chars<'_>, line: Line, column: usize) -> Result<bool, Fault>
-    requires { StartsLine source.now line }
+    requires { StartsEntryLine source.now line }
     ensures next { IfOk result (λ is_next. OnTrue is_next (IsNext source.now line column)) }
     ensures over { IfOk result (λ is_next. OnFalse is_next (NoneIn source.now line column)) }
     ensures err { IfErr result IsRefusal }
@@ -47,7 +47,7 @@ fn goes_on(source: &Chars<'_>, line: Line, column: usize) -> Result<bool, Fault>
 
 /// The border after the dash of a sequence's next entry, if a line at its column or further left begins with one.
 fn next_dash(source: &Chars<'_>, line: Line, column: usize) -> Result<Option<usize>, Fault>
-    requires { StartsLine source.now line }
+    requires { StartsEntryLine source.now line }
     ensures found { IfOk result (λ found. IfSome found (IsNextDash source.now line column)) }
     ensures none { IfOk result (λ found. IfNone found (Dash (text_of source.now) column (place_of source.now line.start) → ⊥)) }
     ensures err { IfErr result IsRefusal }

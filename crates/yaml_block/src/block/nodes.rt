@@ -17,7 +17,7 @@ ghost use Rattle.yaml_sink.specs.PropertyRules.{props_of, both_props, dressed, D
 ghost use Rattle.yaml_block.specs.BlockRules.{root_rest};
 ghost use Rattle.yaml_block.specs.OuterRules.{MayBear};
 ghost use Rattle.yaml_block.specs.BlockEnds.{AfterNode};
-ghost use Rattle.yaml_block.specs.BlockCalls.{flow_level, StartsNode, StartsDressed, NoSign, EndsLine, EndsNode, site_rule, ReadsLine, DecidesNode};
+ghost use Rattle.yaml_block.specs.BlockCalls.{flow_level, StartsBlockNode, StartsDressed, NoSign, EndsLine, EndsNode, site_rule, ReadsLine, DecidesBlockNode};
 
 use crate::block::collections::{read_entries, read_sequence};
 use crate::block::keys::{Begun, fit_key};
@@ -87,10 +87,10 @@ pub fn read_node<'a, K: Keeper>(
     site: &Site<'_, '_, 'a>,
     out: &mut Sink<'a, K>,
 ) -> Result<Line, Fault>
-    requires { StartsNode source.now site.now outer at }
+    requires { StartsBlockNode source.now site.now outer at }
     ensures ends { IfOk result (EndsLine source.now site.now.from) }
     ensures reads { ReadsLine (site_rule site.now outer.entry) source.now site.now.level.now site.now.from (holds_of K.holds) out.old out.new result }
-    ensures decides { DecidesNode source.now site.now.level.now site.now.from (site_rule site.now outer.entry) result }
+    ensures decides { DecidesBlockNode source.now site.now.level.now site.now.from (site_rule site.now outer.entry) result }
     ensures placed { IfErr result (IsPlaced source.now) }
 {
     let (own, end) = read_properties(alloc, source, at, 0, Ctx::BlockKey, site.level.handles)?;
@@ -133,7 +133,7 @@ fn read_dressed<'a, K: Keeper>(
     requires { StartsDressed source.now site.now outer head }
     ensures ends { IfOk result (EndsLine source.now site.now.from) }
     ensures reads { ReadsLine (site_rule site.now outer.entry) source.now site.now.level.now site.now.from (holds_of K.holds) out.old out.new result }
-    ensures decides { DecidesNode source.now site.now.level.now site.now.from (site_rule site.now outer.entry) result }
+    ensures decides { DecidesBlockNode source.now site.now.level.now site.now.from (site_rule site.now outer.entry) result }
     ensures placed { IfErr result (IsPlaced source.now) }
 {
     match block_sign(source, &head) {
@@ -187,7 +187,7 @@ fn read_keyed<'a, K: Keeper>(
     requires no_scalar { NoSign source.now head }
     ensures ends { IfOk result (EndsLine source.now site.now.from) }
     ensures reads { ReadsLine (site_rule site.now outer.entry) source.now site.now.level.now site.now.from (holds_of K.holds) out.old out.new result }
-    ensures decides { DecidesNode source.now site.now.level.now site.now.from (site_rule site.now outer.entry) result }
+    ensures decides { DecidesBlockNode source.now site.now.level.now site.now.from (site_rule site.now outer.entry) result }
     ensures placed { IfErr result (IsPlaced source.now) }
 {
     let start = out.mark();

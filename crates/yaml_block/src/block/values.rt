@@ -2,7 +2,7 @@
 ghost use Rattle.std.specs.Prelude.{IfOk, IfErr, None};
 ghost use Rattle.yaml_text.specs.Placed.{IsPlaced};
 ghost use Rattle.yaml_sink.specs.SinkModel.{holds_of};
-ghost use Rattle.yaml_block.specs.BlockCalls.{StartsValue, StartsInside, StartsBelow, StartsUnder, EndsLine, value_rule, entry_rule, line_rule, node_rule, ReadsLine, DecidesNode, DecidesEntry};
+ghost use Rattle.yaml_block.specs.BlockCalls.{StartsBlockValue, StartsInside, StartsBelow, StartsUnder, EndsLine, value_rule, entry_rule, line_rule, node_rule, ReadsLine, DecidesBlockNode, DecidesEntry};
 
 use crate::block::collections::read_sequence;
 use crate::block::nodes::{Site, read_node};
@@ -31,10 +31,10 @@ pub fn read_value<'a, K: Keeper>(
     level: &Level<'_, 'a>,
     out: &mut Sink<'a, K>,
 ) -> Result<Line, Fault>
-    requires { StartsValue source.now level.now at }
+    requires { StartsBlockValue source.now level.now at }
     ensures ends { IfOk result (EndsLine source.now at) }
     ensures reads { ReadsLine value_rule source.now level.now at (holds_of K.holds) out.old out.new result }
-    ensures decides { DecidesNode source.now level.now at value_rule result }
+    ensures decides { DecidesBlockNode source.now level.now at value_rule result }
     ensures placed { IfErr result (IsPlaced source.now) }
 {
     match skip_line_rest(source, at) {
@@ -130,7 +130,7 @@ pub fn read_below<'a, K: Keeper>(
     requires { StartsBelow source.now level.now line }
     ensures ends { IfOk result (EndsLine source.now line.start) }
     ensures reads { ReadsLine line_rule source.now level.now line.start (holds_of K.holds) out.old out.new result }
-    ensures decides { DecidesNode source.now level.now line.start line_rule result }
+    ensures decides { DecidesBlockNode source.now level.now line.start line_rule result }
     ensures placed { IfErr result (IsPlaced source.now) }
 {
     if !has_content(source, line) {
@@ -181,7 +181,7 @@ pub fn read_under<'a, K: Keeper>(
     requires { StartsUnder source.now level.now line above }
     ensures ends { IfOk result (EndsLine source.now above.entry.at) }
     ensures reads { ReadsLine (node_rule None) source.now level.now above.entry.at (holds_of K.holds) out.old out.new result }
-    ensures decides { DecidesNode source.now level.now above.entry.at (node_rule None) result }
+    ensures decides { DecidesBlockNode source.now level.now above.entry.at (node_rule None) result }
     ensures placed { IfErr result (IsPlaced source.now) }
 {
     let Head {

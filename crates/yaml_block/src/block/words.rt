@@ -6,7 +6,7 @@ ghost use Rattle.yaml_text.specs.Source.{text_of, place_of};
 ghost use Rattle.yaml_definitions.specs.grammar.Rules.{Stands};
 ghost use Rattle.yaml_text.specs.Placed.{IsPlaced};
 ghost use Rattle.yaml_sink.specs.SinkModel.{holds_of};
-ghost use Rattle.yaml_block.specs.BlockCalls.{StartsIn, StartsWord, EndsLine, EndsKey, node_rule, ReadsLine, ReadsKey, DecidesNode, DecidesKey};
+ghost use Rattle.yaml_block.specs.BlockCalls.{StartsIn, StartsWord, EndsLine, EndsKey, node_rule, ReadsLine, ReadsKey, DecidesBlockNode, DecidesKey};
 
 use crate::block::signs::first_colon;
 use std::alloc::Global;
@@ -31,7 +31,7 @@ pub fn read_word<'a, K: Keeper>(
     requires { StartsWord source.now level.now at }
     ensures ends { IfOk result (EndsLine source.now at) }
     ensures reads { ReadsLine (node_rule None) source.now level.now at (holds_of K.holds) out.old out.new result }
-    ensures decides { DecidesNode source.now level.now at (node_rule None) result }
+    ensures decides { DecidesBlockNode source.now level.now at (node_rule None) result }
     ensures placed { IfErr result (IsPlaced source.now) }
 {
     let flow = Level {
