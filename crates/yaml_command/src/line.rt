@@ -8,11 +8,11 @@ ghost use Rattle.yaml_command.specs.declared.refusal.Refusal.TheVariants.{Words,
 ghost use Rattle.yaml_command.specs.Refusals.{side_text, place_text, place_end, fault_line, line_text};
 
 use crate::refusal::Refusal;
-use crate::streams::write_whole;
 use itoa::Buffer;
 use std::io::Write;
 use yaml_canon::Side;
 use yaml_events::EventFault;
+use yaml_spell::page::write_whole;
 use yaml_text::counted::Counted;
 use yaml_text::fault::Fault;
 use yaml_words::WordsFault;

@@ -9,10 +9,11 @@ ghost use Rattle.yaml_canon.specs.Writers.{Printed};
 ghost use Rattle.yaml_command.specs.Pages.{PageHas, PagesFail};
 ghost use Rattle.yaml_command.specs.Printing.{PrintFails};
 
-use crate::streams::{write_out, write_whole};
+use crate::streams::write_out;
 use std::alloc::Global;
 use std::io::Write;
 use yaml_events::{PAGE, page_for, push_line};
+use yaml_spell::page::write_whole;
 use yaml_text::counted::Counted;
 use yaml_text::event::Event;
 use yaml_text::fault::Fault;

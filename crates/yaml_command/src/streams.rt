@@ -1,7 +1,6 @@
 //! Opening a file, and writing an answer whole.
 ghost use Rattle.std.specs.Prelude.{◌≡◌, ◌<◌, ◌-◌, ◌^◌, Some, IfSome, IfOk, IfErr, OnOk};
 ghost use Rattle.yaml_text.specs.CountedModel.{inner_of, faults_of};
-ghost use Rattle.yaml_spell.specs.Writers.{Sent, CutOff};
 ghost use Rattle.yaml_canon.specs.Writers.{Printed};
 ghost use Rattle.yaml_command.specs.Printing.{PrintFails};
 ghost use Rattle.yaml_command.specs.Shelves.{CannotBeOpened};
@@ -9,6 +8,7 @@ ghost use Rattle.yaml_command.specs.Shelves.{CannotBeOpened};
 use crate::refusal::Refusal;
 use crate::shelf::Shelf;
 use std::io::Write;
+use yaml_spell::page::write_whole;
 use yaml_text::counted::Counted;
 use yaml_text::fault::Fault;
 
@@ -22,22 +22,6 @@ pub fn open<'a, S: Shelf>(shelf: &S, name: &'a str) -> Result<Counted<S::File>, 
         Ok(file) => Ok(Counted::new(file)),
         Err(_) => Err(Refusal::CannotOpen(name)),
     }
-}
-
-/// Writes a piece whole. Any error of the writer, and a write that takes no byte, is `WriteFault`;
-/// the writer then has a beginning of the piece.
-pub fn write_whole<W: Write>(out: &mut Counted<W>, piece: &[u8]) -> Result<(), Fault>
-    ensures ok { OnOk result (Sent W.contents out.old out.new piece.now) }
-    ensures err { IfErr result (CutOff W.contents out.old out.new piece.now) }
-{
-    let mut at = 0;
-    'write: while at < piece.len() {
-        match out.write(&piece[at..]) {
-            Ok(0) | Err(_) => return Err(Fault::WriteFault),
-            Ok(took) => at += took,
-        }
-    }
-    Ok(())
 }
 
 /// Writes the whole text and flushes. Any error of the writer, and a write that takes no byte, is

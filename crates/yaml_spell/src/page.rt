@@ -23,7 +23,7 @@ pub struct Page {
 
 /// Writes a piece whole. Any error of the writer, and a write that takes no byte, is `WriteFault`;
 /// the writer then has a beginning of the piece.
-fn write_whole<W: Write>(out: &mut Counted<W>, piece: &[u8]) -> Result<(), Fault>
+pub fn write_whole<W: Write>(out: &mut Counted<W>, piece: &[u8]) -> Result<(), Fault>
     ensures ok { OnOk result (Sent W.contents out.old out.new piece.now) }
     ensures err { IfErr result (CutOff W.contents out.old out.new piece.now) }
 {

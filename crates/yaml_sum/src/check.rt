@@ -14,7 +14,8 @@ use std::alloc::Global;
 use std::io::{Read, Write};
 use yaml_command::refusal::Refusal;
 use yaml_command::shelf::Shelf;
-use yaml_command::streams::{write_out, write_whole};
+use yaml_command::streams::write_out;
+use yaml_spell::page::write_whole;
 use yaml_text::counted::Counted;
 use yaml_text::fault::Fault;
 

@@ -9,7 +9,7 @@ use std::alloc::Global;
 use std::io::Write;
 use yaml_command::line;
 use yaml_command::refusal::Refusal;
-use yaml_command::streams::write_whole;
+use yaml_spell::page::write_whole;
 use yaml_text::counted::Counted;
 use yaml_text::fault::Fault;
 
