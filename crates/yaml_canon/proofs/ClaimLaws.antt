@@ -31,12 +31,12 @@ use Rattle.law_length.specs.Sizes.{texts_bytes}
 use Rattle.law_length.proofs.Contents.{tag_light}
 use Rattle.law_length.proofs.Numbers.{text_light}
 use Rattle.law_length.proofs.Forests.{meaning_bounded}
-use Rattle.yaml_graph.specs.GraphModel.{tree_at}
-use Rattle.yaml_graph.specs.GraphView.{nodes_of, roots_of, graph_trees, tree, forest}
+use Rattle.yaml_nodes.specs.GraphModel.{tree_at}
+use Rattle.yaml_nodes.specs.GraphView.{nodes_of, roots_of, graph_trees, tree, forest}
 use Rattle.yaml_graph.specs.Composed.{Composable, Composed, RefusesStream}
-use Rattle.yaml_graph.specs.declared.node.NodeId.{NodeId}
-use Rattle.yaml_graph.specs.declared.graph.Graph.{Graph}
-use Rattle.yaml_rank.specs.RanksView.{RefusesGraph}
+use Rattle.yaml_nodes.specs.declared.node.NodeId.{NodeId}
+use Rattle.yaml_nodes.specs.declared.graph.Graph.{Graph}
+use Rattle.yaml_levels.specs.RanksView.{RefusesGraph}
 use Rattle.yaml_spell.specs.Pieces.{Began, Puts, Fails}
 use Rattle.yaml_spell.specs.Documents.{spell_more, RefusesLength}
 use Rattle.yaml_canon.specs.Claims.{AllOf, MeansAlone, IsCanonicalText, IsRead, IsNoStream, CanonicalRefuses, HasGraph, GraphRefuses}

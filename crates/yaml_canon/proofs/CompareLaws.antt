@@ -9,15 +9,15 @@ use Rattle.yaml_definitions.specs.model.Same.{same, Keyed}
 use Rattle.yaml_definitions.specs.model.Serial.{Document}
 use Rattle.yaml_text.specs.declared.fault.Fault.{Fault}
 use Rattle.yaml_text.specs.declared.fault.Fault.TheVariants as faults
-use Rattle.yaml_graph.specs.GraphModel.{tree_at}
-use Rattle.yaml_graph.specs.GraphView.{nodes_of, roots_of, graph_trees, tree, forest}
-use Rattle.yaml_graph.specs.JoinModel.{raised, Joined}
-use Rattle.yaml_graph.proofs.GraphLaws.{trees-length}
+use Rattle.yaml_nodes.specs.GraphModel.{tree_at}
+use Rattle.yaml_nodes.specs.GraphView.{nodes_of, roots_of, graph_trees, tree, forest}
+use Rattle.yaml_nodes.specs.JoinModel.{raised, Joined}
+use Rattle.yaml_nodes.proofs.GraphLaws.{trees-length}
 use Rattle.yaml_graph.specs.Composed.{Composed, RefusesStream}
-use Rattle.yaml_graph.specs.declared.node.NodeId.{NodeId}
-use Rattle.yaml_graph.specs.declared.graph.Graph.{Graph}
-use Rattle.yaml_rank.specs.RanksView.{RanksAre, RefusesGraph, rank_of}
-use Rattle.yaml_rank.specs.declared.ranks.Ranks.{Ranks}
+use Rattle.yaml_nodes.specs.declared.node.NodeId.{NodeId}
+use Rattle.yaml_nodes.specs.declared.graph.Graph.{Graph}
+use Rattle.yaml_levels.specs.RanksView.{RanksAre, RefusesGraph, rank_of}
+use Rattle.yaml_levels.specs.declared.ranks.Ranks.{Ranks}
 use Rattle.yaml_canon.specs.declared.side.Side.{Side}
 use Rattle.yaml_canon.specs.declared.side.Side.TheVariants.{Left, Right}
 use Rattle.yaml_canon.specs.Claims.{IsRead, HasGraph, GraphRefuses}

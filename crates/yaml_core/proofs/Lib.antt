@@ -1,12 +1,1 @@
-mod StateLemmas
-mod StartLemmas
-mod FormLemmas
-mod KindLemmas
-mod NumberLemmas
-mod TextLemmas
-mod IntLemmas
 mod ResolveLemmas
-mod CutLemmas
-mod DecimalLemmas
-mod ContentForms
-mod ResolvedForms

@@ -4,11 +4,11 @@ use Rattle.std.specs.Option.{option_map}
 use Rattle.std.specs.List.{slice_get}
 use Rattle.yaml_definitions.specs.model.Tree.{Tree, sequence}
 use Rattle.yaml_definitions.specs.model.Same.{Same}
-use Rattle.yaml_graph.specs.TreeLists.{trees}
-use Rattle.yaml_graph.specs.GraphModel.{Entries}
-use Rattle.yaml_graph.specs.GraphView.{tree}
-use Rattle.yaml_graph.specs.declared.node.NodeId.{NodeId}
-use Rattle.yaml_graph.specs.declared.graph.Graph.{Graph}
+use Rattle.yaml_nodes.specs.TreeLists.{trees}
+use Rattle.yaml_nodes.specs.GraphModel.{Entries}
+use Rattle.yaml_nodes.specs.GraphView.{tree}
+use Rattle.yaml_nodes.specs.declared.node.NodeId.{NodeId}
+use Rattle.yaml_nodes.specs.declared.graph.Graph.{Graph}
 use Rattle.yaml_path.specs.Path.{part}
 use Rattle.yaml_path.specs.Path as plain
 use Rattle.yaml_path.specs.Ways.{Way, Pairing, PairsAll, EndsAlong, Differs, AlikeWay, WayBefore, left_end, right_end, at_places, at_key}

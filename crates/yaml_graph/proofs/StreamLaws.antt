@@ -1,5 +1,5 @@
 -- The composer over a whole stream.
-use Rattle.std.proofs.Common.{◌⊎◌, inl, inr, ◌≡◌, ◌+◌, ℕ, suc, Bool, List, [], ◌∷◌, length, map, refl, sym, ◌∙◌, ap, subst, add-one, Ok, Err}
+use Rattle.std.proofs.Common.{◌≡◌, ◌+◌, ℕ, suc, List, [], ◌∷◌, length, map, refl, sym, ◌∙◌, ap, add-one, Ok, Err}
 use Rattle.std.specs.Prelude.{Option, None, Some}
 use Rattle.yaml_definitions.specs.model.Tree.{Tree}
 use Rattle.yaml_definitions.specs.model.Core.{Cause, undefined_alias, cyclic_alias, wrong_kind, bad_content, int_range, float_range}
@@ -9,44 +9,13 @@ use Rattle.yaml_text.specs.EventModel.{event_of}
 use Rattle.yaml_text.specs.declared.fault.Fault.{Fault}
 use Rattle.yaml_text.specs.declared.fault.Fault.TheVariants as faults
 use Rattle.yaml_text.specs.declared.event.Event as code
-use Rattle.yaml_text.specs.declared.event.Event.TheVariants as events
 use Rattle.yaml_graph.specs.Closing.{stream_trees}
-use Rattle.yaml_graph.specs.Composed.{RefusesUnfolding, RefusesStream}
-use Rattle.yaml_graph.specs.ComposerSteps.{State, initial_state, cleared, step, on_outcome, next, steps}
-use Rattle.yaml_graph.specs.ComposerSteps as machine
-use Rattle.yaml_graph.specs.ComposerModel.{Holds, Reached}
-use Rattle.yaml_graph.specs.declared.composer.Composer.{Composer}
+use Rattle.yaml_graph.specs.Composed.{RefusesStream}
+use Rattle.yaml_nodes.specs.Refused.{RefusesUnfolding}
+use Rattle.yaml_nodes.specs.ComposerSteps.{State, initial_state, step, on_outcome, next, steps}
+use Rattle.yaml_nodes.specs.ComposerModel.{Reached}
+use Rattle.yaml_nodes.specs.declared.composer.Composer.{Composer}
 use Rattle.yaml_graph.proofs.StepLaws.{comes_to, with_all, run-stream}
-
--- ---- one event
-
-pub took : (at : ℕ) (given is : code.Event) (s : State) (found o : Outcome State) → given ≡ is → step at (event_of given) s ≡ Some found → step at (event_of is) s ≡ Some o → found ≡ o
-took at given is s found o q e f = let g : Some found ≡ Some o = sym e ∙ (ap (λ v. step at (event_of v) s) q ∙ f) in cc
-
-pub taken : (at : ℕ) (given is : code.Event) (s : State) (found : Outcome State) → given ≡ is → step at (event_of given) s ≡ Some found → step at (event_of is) s ≡ Some found
-taken at given is s found q e = subst (λ v. step at (event_of v) s ≡ Some found) q e
-
--- events that change nothing
-pub stays : (at : ℕ) (given : code.Event) (s : State) (found : Outcome State) (c : Composer) → ((x : Bool) × (given ≡ events.DocumentEnd x)) ⊎ ((given ≡ events.StreamStart) ⊎ (given ≡ events.StreamEnd))
-    → step at (event_of given) s ≡ Some found → Holds c s → Reached found c
-unfolding step
-stays at given s found c (inl w) e h = record { state = s; is = took at given (events.DocumentEnd w.0) s found (Ok s) w.1 e refl; holds = h }
-stays at given s found c (inr (inl q)) e h = record { state = s; is = took at given events.StreamStart s found (Ok s) q e refl; holds = h }
-stays at given s found c (inr (inr q)) e h = record { state = s; is = took at given events.StreamEnd s found (Ok s) q e refl; holds = h }
-
--- a document begins
-abbrev pub fresh : State → State
-fresh s = record { inner = s.inner; outer = []; table = []; done = s.done }
-
-cleared-found : (s : State) (os : List machine.Open) (found : Outcome State) → s.outer ≡ os → cleared s os ≡ Some found → (s.outer ≡ []) × (found ≡ Ok (fresh s))
-cleared-found s [] found q e = (q, cc)
-cleared-found s (o ∷ os) found q e = absurd (cc)
-
-pub document-found : (at : ℕ) (given : code.Event) (b : Bool) (s : State) (found : Outcome State) → given ≡ events.DocumentStart b → step at (event_of given) s ≡ Some found → (s.outer ≡ []) × (found ≡ Ok (fresh s))
-unfolding step
-document-found at given b s found q e = cleared-found s s.outer found refl (taken at given (events.DocumentStart b) s found q e)
-
--- ---- a whole stream
 
 -- what the steps come to tells the documents' trees: refused, or found with those of all nodes
 stream-refused : (ds : List Document) (o : Outcome (List Tree)) (x : Cause × ℕ) → Some (Err x) ≡ Some (and_then o (with_all [] [] ds)) → o ≡ Err x

@@ -1,27 +1,24 @@
 -- What the composer takes and answers.
-use Rattle.std.specs.Prelude.{◌≡◌, ℕ, ◌<◌, ◌≤◌, List, map, Some, Ok, Err}
-use Rattle.std.specs.List.{slice_get, All}
+use Rattle.std.specs.Prelude.{◌≡◌, ℕ, ◌<◌, ◌≤◌, List, map, Some, Ok}
+use Rattle.std.specs.List.{slice_get}
 use Rattle.yaml_definitions.specs.model.Limits.{height_limit}
 use Rattle.yaml_definitions.specs.model.Tree.{Tree, height}
 use Rattle.yaml_definitions.specs.model.Serial.{Document, stream_events}
-use Rattle.yaml_definitions.specs.model.Core.{undefined_alias, cyclic_alias, wrong_kind, bad_content, int_range, float_range}
-use Rattle.yaml_definitions.specs.model.Unfold.{Outcome, trees_of}
+use Rattle.yaml_definitions.specs.model.Unfold.{trees_of}
 use Rattle.yaml_text.specs.EventModel.{event_of}
 use Rattle.yaml_text.specs.declared.event.Event as code
 use Rattle.yaml_text.specs.declared.fault.Fault.{Fault}
-use Rattle.yaml_text.specs.declared.fault.Fault.TheVariants.{UndefinedAlias, CyclicAlias, WrongKind, BadContent, IntRange, FloatRange, TooHigh, OutOfMemory}
+use Rattle.yaml_text.specs.declared.fault.Fault.TheVariants.{TooHigh}
 use Rattle.yaml_graph.specs.Closing.{stream_trees}
-use Rattle.yaml_graph.specs.GraphView as graph
-use Rattle.yaml_graph.specs.declared.graph.Graph.{Graph}
+use Rattle.yaml_nodes.specs.GraphModel.{AreLow}
+use Rattle.yaml_nodes.specs.GraphView as graph
+use Rattle.yaml_nodes.specs.Refused.{RefusesUnfolding}
+use Rattle.yaml_nodes.specs.declared.graph.Graph.{Graph}
 
 -- the events are those of some documents
 pub record Composable (events : List code.Event) : Type 0 where
   pub documents : List Document
   pub cut : map event_of events ≡ stream_events documents
-
--- no tree is higher than the limit
-abbrev pub AreLow : List Tree → Type 0
-AreLow f = All (λ t. height t ≤ height_limit) f
 
 -- The documents unfold to these trees, for which the graph's roots stand; and its nodes, in order, stand for the trees of the documents' own nodes in the order in which they close.
 pub record Composed (ds : List Document) (g : Graph) : Type 0 where
@@ -39,17 +36,6 @@ pub record IsFirstHigh (ds : List Document) (number : ℕ) : Type 0 where
   pub is : slice_get trees number ≡ Some tree
   pub high : height_limit < height tree
   pub before : (k : ℕ) (t : Tree) → k < number → slice_get trees k ≡ Some t → height t ≤ height_limit
-
--- What was found is this fault, at the same event. Memory may be refused at any time.
-abbrev pub RefusesUnfolding : {X : Type 0} → Outcome X → Fault → Type 0
-RefusesUnfolding found (UndefinedAlias event) = found ≡ Err (undefined_alias, event)
-RefusesUnfolding found (CyclicAlias event) = found ≡ Err (cyclic_alias, event)
-RefusesUnfolding found (WrongKind event) = found ≡ Err (wrong_kind, event)
-RefusesUnfolding found (BadContent event) = found ≡ Err (bad_content, event)
-RefusesUnfolding found (IntRange event) = found ≡ Err (int_range, event)
-RefusesUnfolding found (FloatRange event) = found ≡ Err (float_range, event)
-RefusesUnfolding found OutOfMemory = Unit {0}
-RefusesUnfolding found _ = ⊥
 
 -- the documents do not unfold, or one of their trees is too high
 abbrev pub RefusesStream : List Document → Fault → Type 0

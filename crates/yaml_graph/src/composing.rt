@@ -1,32 +1,15 @@
 //! From the events of a stream to its graph.
-ghost use Rattle.std.specs.Prelude.{◌≡◌, ◌<◌, List, length, map, MatchOption, MatchResult};
-ghost use Rattle.std.specs.List.{All};
+ghost use Rattle.std.specs.Prelude.{◌≡◌, List, map, MatchResult};
 ghost use Rattle.yaml_definitions.specs.model.Serial.{Document, stream_events};
 ghost use Rattle.yaml_text.specs.EventModel.{event_of};
 ghost use Rattle.yaml_graph.specs.Composed.{Composable, Composed, RefusesStream};
-ghost use Rattle.yaml_graph.specs.ComposerModel.{AllBelow, IsFirstAbove};
 
-use crate::composer::Composer;
-use crate::copied::copies;
-use crate::graph::Graph;
-use crate::node::NodeId;
 use std::alloc::Global;
+use yaml_nodes::composer::Composer;
+use yaml_nodes::copied::copies;
+use yaml_nodes::graph::Graph;
 use yaml_text::event::Event;
 use yaml_text::fault::Fault;
-use yaml_text::limits::height_limit;
-
-/// The first of these nodes that is higher than the limit.
-fn first_too_high(heights: &[u32], roots: &[NodeId]) -> Option<usize>
-    requires { All (λ i. i.0 < length heights.now) roots.now }
-    ensures { MatchOption result (AllBelow heights.now roots.now) (IsFirstAbove heights.now roots.now) }
-{
-    for (document, root) in roots.iter().enumerate() {
-        if heights[root.0] as usize > height_limit() {
-            return Some(document);
-        }
-    }
-    None
-}
 
 /// The graph of a stream's events, which are those of some documents, well nested. Nodes are
 /// numbered in the order in which they close. Texts and tags move from the events to the nodes.
@@ -43,14 +26,7 @@ pub fn compose_owned<'s>(alloc: Global, events: Vec<Event<'s>>) -> Result<Graph<
     for (at, event) in events.into_iter().enumerate() {
         composer.take(alloc, at, event)?;
     }
-    if let Some(document) = first_too_high(&composer.heights, &composer.inner) {
-        return Err(Fault::TooHigh(document));
-    }
-    Ok(Graph {
-        nodes: composer.nodes,
-        heights: composer.heights,
-        roots: composer.inner,
-    })
+    composer.finish()
 }
 
 /// The graph of events that stay with the caller, as `compose_owned` gives it. Texts and tags that

@@ -1,17 +1,7 @@
-//! Graphs: the nodes of a stream, each of which stands for its unfolded tree.
+//! From the events of a stream to the graph of its nodes, each of which stands for its unfolded tree.
 #![tactic(auto)]
 
-mod composer;
 pub mod composing;
-mod copied;
-pub mod graph;
-mod height;
-pub mod joining;
-mod kept;
-pub mod node;
-mod tag;
 
 pub use composing::{compose, compose_owned};
-pub use graph::Graph;
-pub use joining::join;
-pub use node::{Node, NodeId, NodeKind};
+pub use yaml_nodes::{Graph, Node, NodeId, NodeKind, graph, join, joining, node};

@@ -3,8 +3,8 @@ use Rattle.std.proofs.Common.{◌≡◌, ℕ, ◌<◌, true, List, length, map, 
 use Rattle.std.specs.Prelude.{◌↔◌, Bool, Result, Ok, IfOk}
 use Rattle.yaml_definitions.specs.model.Same.{Keyed, Alike}
 use Rattle.yaml_text.specs.declared.fault.Fault.{Fault}
-use Rattle.yaml_graph.specs.GraphView.{nodes_of, roots_of, tree, forest}
-use Rattle.yaml_graph.specs.declared.graph.Graph.{Graph}
+use Rattle.yaml_nodes.specs.GraphView.{nodes_of, roots_of, tree, forest}
+use Rattle.yaml_nodes.specs.declared.graph.Graph.{Graph}
 use Rattle.yaml_canon.specs.Claims.{MeansAlone, HasGraph}
 use Rattle.yaml_canon.specs.Comparing.{Compares}
 use Rattle.yaml_canon.proofs.ClaimLaws as claims

@@ -1,9 +1,9 @@
 -- Two streams in one graph.
 use Rattle.std.specs.Prelude.{◌≡◌, ℕ, List, length}
-use Rattle.yaml_graph.specs.GraphView.{roots_of}
-use Rattle.yaml_graph.specs.JoinModel.{Joined}
-use Rattle.yaml_graph.specs.declared.graph.Graph.{Graph}
-use Rattle.yaml_rank.specs.RanksView.{RanksAre}
+use Rattle.yaml_nodes.specs.GraphView.{roots_of}
+use Rattle.yaml_nodes.specs.JoinModel.{Joined}
+use Rattle.yaml_nodes.specs.declared.graph.Graph.{Graph}
+use Rattle.yaml_levels.specs.RanksView.{RanksAre}
 use Rattle.yaml_canon.specs.Claims.{HasGraph}
 use Rattle.yaml_review_text.specs.declared.both.Both.{Both}
 

@@ -6,10 +6,10 @@ use Rattle.std.proofs.lemmas.Bool.{eqb-true}
 use Rattle.yaml_definitions.specs.model.Tree.{Tree, Trees, sequence, end, item}
 use Rattle.yaml_definitions.specs.model.Same.{Same, Keyed, keyed, keyed_trees, Alike}
 use Rattle.yaml_definitions.proofs.Members.{and_both, both_and}
-use Rattle.yaml_graph.specs.TreeLists.{trees}
-use Rattle.yaml_graph.specs.GraphView.{nodes_of, tree}
-use Rattle.yaml_graph.specs.declared.node.NodeId.{NodeId}
-use Rattle.yaml_graph.specs.declared.graph.Graph.{Graph}
+use Rattle.yaml_nodes.specs.TreeLists.{trees}
+use Rattle.yaml_nodes.specs.GraphView.{nodes_of, tree}
+use Rattle.yaml_nodes.specs.declared.node.NodeId.{NodeId}
+use Rattle.yaml_nodes.specs.declared.graph.Graph.{Graph}
 use Rattle.yaml_path.specs.Ways.{Pairing}
 use Rattle.yaml_diff.specs.Lines.{Line, Lists, line_of, way_of, tree_of, sequence_of}
 use Rattle.yaml_diff.specs.Found.{AllWithin, FindsItems, lines_of}

@@ -4,9 +4,9 @@ use Rattle.std.specs.Prelude.{Some}
 use Rattle.std.specs.List.{All, slice_get}
 use Rattle.std.proofs.lemmas.List.{length-take-le}
 use Rattle.std.proofs.lemmas.Option.{slice_get_within, get_or_from_slice_get}
-use Rattle.yaml_graph.specs.GraphView.{nodes_of, roots_of}
-use Rattle.yaml_graph.specs.declared.node.NodeId.{NodeId}
-use Rattle.yaml_graph.specs.declared.graph.Graph.{Graph}
+use Rattle.yaml_nodes.specs.GraphView.{nodes_of, roots_of}
+use Rattle.yaml_nodes.specs.declared.node.NodeId.{NodeId}
+use Rattle.yaml_nodes.specs.declared.graph.Graph.{Graph}
 use Rattle.yaml_diff.specs.Found.{AllWithin}
 
 all_take : {X : Type 0} (P : X → Type 0) (xs : List X) (m k : ℕ) (d : X) → All P xs → m ≤ length xs → k < m → P (get_or (take m xs) k d)

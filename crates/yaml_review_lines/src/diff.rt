@@ -1,8 +1,8 @@
 //! Where two streams differ, as lines.
 ghost use Rattle.std.specs.Prelude.{◌≡◌, ◌↔◌, ◌<◌, ◌&&◌, ◌==◌, true, length, map, take, drop, IfOk, IfErr};
 ghost use Rattle.yaml_definitions.specs.model.Same.{Alike};
-ghost use Rattle.yaml_graph.specs.GraphView.{roots_of, tree};
-ghost use Rattle.yaml_rank.specs.RanksView.{RanksAre};
+ghost use Rattle.yaml_nodes.specs.GraphView.{roots_of, tree};
+ghost use Rattle.yaml_levels.specs.RanksView.{RanksAre};
 ghost use Rattle.yaml_diff.specs.Found.{FindsItems};
 
 use std::alloc::Global;

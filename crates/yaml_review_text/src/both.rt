@@ -1,7 +1,7 @@
 //! Two streams in one graph, ranked.
 ghost use Rattle.std.specs.Prelude.{◌≡◌, ◌≤◌, length};
-ghost use Rattle.yaml_graph.specs.GraphView.{nodes_of, roots_of};
-ghost use Rattle.yaml_rank.specs.RanksView.{numbers_of, sorted_of};
+ghost use Rattle.yaml_nodes.specs.GraphView.{nodes_of, roots_of};
+ghost use Rattle.yaml_levels.specs.RanksView.{numbers_of, sorted_of};
 
 use yaml_graph::graph::Graph;
 use yaml_graph::node::{Node, NodeId};
@@ -23,7 +23,7 @@ pub struct Both<'a> {
 
 impl<'a> Both<'a> {
     ghost use Rattle.std.specs.Prelude.{◌≡◌, take, drop};
-    ghost use Rattle.yaml_graph.specs.GraphView.{roots_of};
+    ghost use Rattle.yaml_nodes.specs.GraphView.{roots_of};
 
     /// The node of this number, if there is one.
     pub fn node(&self, id: NodeId) -> Option<&Node<'a>> {

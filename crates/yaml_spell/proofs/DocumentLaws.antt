@@ -15,17 +15,17 @@ use Rattle.yaml_definitions.specs.model.Serial.{SerialNode}
 use Rattle.yaml_definitions.specs.canonical.NodeText.{node_text}
 use Rattle.yaml_definitions.specs.canonical.Spell.{serial_of, spell, spell_bytes}
 use Rattle.yaml_definitions.proofs.Equivalence.{same_refl}
-use Rattle.yaml_graph.specs.TreeLists.{trees, pairs}
-use Rattle.yaml_graph.specs.GraphModel.{Entries, PartsBelow}
-use Rattle.yaml_graph.specs.GraphView.{nodes_of, tree}
-use Rattle.yaml_graph.specs.declared.node.NodeId.{NodeId}
-use Rattle.yaml_graph.specs.declared.node.NodeKind.{NodeKind}
-use Rattle.yaml_graph.specs.declared.node.NodeKind.TheVariants as kinds
-use Rattle.yaml_graph.specs.declared.graph.Graph.{Graph}
-use Rattle.yaml_rank.specs.RankModel.{key_pair}
-use Rattle.yaml_rank.specs.RanksView.{RanksAre, rank_of, sorted_of}
-use Rattle.yaml_rank.specs.Laws.{arranged_kind}
-use Rattle.yaml_rank.specs.declared.ranks.Ranks.{Ranks}
+use Rattle.yaml_nodes.specs.TreeLists.{trees, pairs}
+use Rattle.yaml_nodes.specs.GraphModel.{Entries, PartsBelow}
+use Rattle.yaml_nodes.specs.GraphView.{nodes_of, tree}
+use Rattle.yaml_nodes.specs.declared.node.NodeId.{NodeId}
+use Rattle.yaml_nodes.specs.declared.node.NodeKind.{NodeKind}
+use Rattle.yaml_nodes.specs.declared.node.NodeKind.TheVariants as kinds
+use Rattle.yaml_nodes.specs.declared.graph.Graph.{Graph}
+use Rattle.yaml_levels.specs.RankModel.{key_pair}
+use Rattle.yaml_levels.specs.RanksView.{RanksAre, rank_of, sorted_of}
+use Rattle.yaml_levels.specs.Laws.{arranged_kind}
+use Rattle.yaml_levels.specs.declared.ranks.Ranks.{Ranks}
 use Rattle.yaml_spell.specs.declared.names.State.TheVariants.{Unseen}
 use Rattle.yaml_spell.specs.NamesView.{Given}
 use Rattle.yaml_spell.specs.Pieces.{Began, TakesPiece, Puts, Misses, Fails}

@@ -16,19 +16,19 @@ use Rattle.yaml_definitions.specs.model.Order.{arranged}
 use Rattle.yaml_definitions.specs.canonical.NodeText.{node_text}
 use Rattle.yaml_definitions.specs.canonical.Spell.{short, text_len}
 use Rattle.yaml_definitions.specs.canonical.TagText.{tag_text, written_tag}
-use Rattle.yaml_graph.specs.TreeLists.{trees, pairs}
-use Rattle.yaml_graph.specs.GraphModel.{Entries, entries_of}
-use Rattle.yaml_graph.specs.GraphView.{nodes_of, tree}
-use Rattle.yaml_graph.specs.declared.node.NodeId.{NodeId}
-use Rattle.yaml_graph.specs.declared.node.Node.{Node}
-use Rattle.yaml_graph.specs.declared.node.NodeKind.{NodeKind}
-use Rattle.yaml_graph.specs.declared.node.NodeKind.TheVariants as kinds
-use Rattle.yaml_graph.specs.declared.graph.Graph.{Graph}
-use Rattle.yaml_rank.specs.RankModel.{key_pair}
-use Rattle.yaml_rank.specs.RanksView.{RanksAre, sorted_of}
-use Rattle.yaml_rank.specs.Laws.{arranged_kind}
-use Rattle.yaml_rank.specs.declared.ranks.Ranks.{Ranks}
-use Rattle.yaml_rank.proofs.Shapes.{sorted-is-arranged}
+use Rattle.yaml_nodes.specs.TreeLists.{trees, pairs}
+use Rattle.yaml_nodes.specs.GraphModel.{Entries, entries_of}
+use Rattle.yaml_nodes.specs.GraphView.{nodes_of, tree}
+use Rattle.yaml_nodes.specs.declared.node.NodeId.{NodeId}
+use Rattle.yaml_nodes.specs.declared.node.Node.{Node}
+use Rattle.yaml_nodes.specs.declared.node.NodeKind.{NodeKind}
+use Rattle.yaml_nodes.specs.declared.node.NodeKind.TheVariants as kinds
+use Rattle.yaml_nodes.specs.declared.graph.Graph.{Graph}
+use Rattle.yaml_levels.specs.RankModel.{key_pair}
+use Rattle.yaml_levels.specs.RanksView.{RanksAre, sorted_of}
+use Rattle.yaml_levels.specs.Laws.{arranged_kind}
+use Rattle.yaml_levels.specs.declared.ranks.Ranks.{Ranks}
+use Rattle.yaml_levels.proofs.Shapes.{sorted-is-arranged}
 use Rattle.yaml_spell.specs.Known.{is_unseen}
 use Rattle.yaml_spell.specs.NamesView.{RankStates, met_at}
 use Rattle.yaml_spell.specs.ShortNodes.{short_kind, short_tag}

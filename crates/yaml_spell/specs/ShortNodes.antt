@@ -9,8 +9,8 @@ use Rattle.yaml_definitions.specs.model.Serial.{scalar_at}
 use Rattle.yaml_definitions.specs.canonical.Spell.{text_len}
 use Rattle.yaml_definitions.specs.canonical.TagText.{tag_text, written_tag}
 use Rattle.yaml_definitions.specs.model.Tree.{a_scalar, a_sequence, a_mapping}
-use Rattle.yaml_graph.specs.declared.node.NodeKind.{NodeKind}
-use Rattle.yaml_graph.specs.declared.node.NodeKind.TheVariants as kinds
+use Rattle.yaml_nodes.specs.declared.node.NodeKind.{NodeKind}
+use Rattle.yaml_nodes.specs.declared.node.NodeKind.TheVariants as kinds
 
 -- a scalar's tag and content
 abbrev pub short_scalar : List ℕ → List ℕ → Bool

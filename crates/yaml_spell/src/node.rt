@@ -7,7 +7,7 @@ ghost use Rattle.yaml_spell.specs.ShortNodes.{short_kind, short_scalar, short_ta
 use crate::length::Length;
 use crate::parts::{Kind, default_tag, put_scalar, put_tag};
 use crate::sink::Sink;
-use yaml_graph::node::{Node, NodeKind};
+use yaml_nodes::node::{Node, NodeKind};
 use yaml_text::limits::short_limit;
 
 /// A content of so many bytes or fewer is short where no tag is written: each byte takes four at most.

@@ -3,8 +3,8 @@ ghost use Rattle.std.specs.Prelude.{◌≡◌, ◌<◌, ◌≤◌, ◌^◌, ◌+
 ghost use Rattle.yaml_definitions.specs.model.Limits.{text_limit};
 ghost use Rattle.yaml_definitions.specs.canonical.NodeText.{node_text};
 ghost use Rattle.yaml_definitions.specs.canonical.Spell.{serial_of, spell_bytes};
-ghost use Rattle.yaml_graph.specs.GraphView.{nodes_of, tree, forest};
-ghost use Rattle.yaml_rank.specs.RanksView.{RanksAre};
+ghost use Rattle.yaml_nodes.specs.GraphView.{nodes_of, tree, forest};
+ghost use Rattle.yaml_levels.specs.RanksView.{RanksAre};
 ghost use Rattle.yaml_spell.specs.NamesView.{ranks_in, document_number};
 ghost use Rattle.yaml_spell.specs.Pieces.{Puts, Fails};
 ghost use Rattle.yaml_spell.specs.Documents.{spell_more, document_text, RefusesLength};
@@ -14,9 +14,9 @@ use crate::names::Names;
 use crate::sink::Sink;
 use crate::walk::{notice, write_node};
 use std::alloc::Global;
-use yaml_graph::graph::Graph;
-use yaml_graph::node::NodeId;
-use yaml_rank::ranks::Ranks;
+use yaml_levels::ranks::Ranks;
+use yaml_nodes::graph::Graph;
+use yaml_nodes::node::NodeId;
 use yaml_text::fault::Fault;
 use yaml_text::limits::text_limit;
 

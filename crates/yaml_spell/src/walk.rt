@@ -2,10 +2,10 @@
 ghost use Rattle.std.specs.Prelude.{◌≡◌, ◌<◌, ◌++◌, ◌∷◌, [], length, map, OnOk, IfErr};
 ghost use Rattle.std.specs.List.{All};
 ghost use Rattle.yaml_definitions.specs.model.Order.{arranged};
-ghost use Rattle.yaml_graph.specs.GraphView.{nodes_of, tree};
-ghost use Rattle.yaml_graph.specs.TreeLists.{trees, pairs};
-ghost use Rattle.yaml_rank.specs.RankModel.{key_pair};
-ghost use Rattle.yaml_rank.specs.RanksView.{RanksAre};
+ghost use Rattle.yaml_nodes.specs.GraphView.{nodes_of, tree};
+ghost use Rattle.yaml_nodes.specs.TreeLists.{trees, pairs};
+ghost use Rattle.yaml_levels.specs.RankModel.{key_pair};
+ghost use Rattle.yaml_levels.specs.RanksView.{RanksAre};
 ghost use Rattle.yaml_spell.specs.NamesView.{ranks_in, document_number, count_of, table_of, given_of, opening_number};
 ghost use Rattle.yaml_spell.specs.Pieces.{Puts, Fails};
 ghost use Rattle.yaml_definitions.specs.canonical.NodeText.{node_text, items_text, pairs_text};
@@ -16,9 +16,9 @@ use crate::names::{Names, Opening};
 use crate::node::is_short;
 use crate::parts::{Kind, put_alias, put_anchor, put_scalar, put_tag};
 use crate::sink::Sink;
-use yaml_graph::graph::Graph;
-use yaml_graph::node::{NodeId, NodeKind};
-use yaml_rank::ranks::Ranks;
+use yaml_levels::ranks::Ranks;
+use yaml_nodes::graph::Graph;
+use yaml_nodes::node::{NodeId, NodeKind};
 use yaml_text::fault::Fault;
 
 /// Notes which ranks are met in the tree of a node, and which come again. A node that comes again is

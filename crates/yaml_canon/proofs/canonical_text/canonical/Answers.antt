@@ -1,6 +1,6 @@
 use Rattle.std.proofs.Common.{rules}
 use Rattle.std.specs.String.{string_bytes}
-use Rattle.yaml_graph.specs.GraphView.{forest}
+use Rattle.yaml_nodes.specs.GraphView.{forest}
 use Rattle.yaml_spell.proofs.PieceLaws.{if_ok, if_err}
 use Rattle.yaml_canon.proofs.ClaimLaws.{accepted, canonical_text, refused_graph, refused_ranking, refused_spelling}
 use Rattle.yaml_canon.proofs.AcceptLaws.{accepted-answer, accepted-exit, accepted-spelling}

@@ -1,7 +1,7 @@
 use Rattle.std.proofs.Common.{◌≤◌, sym, subst, rules, length}
 use Rattle.std.specs.String.{string_bytes}
 use Rattle.yaml_definitions.specs.model.Limits.{text_limit}
-use Rattle.yaml_graph.specs.GraphView.{forest}
+use Rattle.yaml_nodes.specs.GraphView.{forest}
 use Rattle.yaml_canon.proofs.ClaimLaws.{whole_text, text_refused}
 use Rattle.yaml_canon.proofs.canonical_text.spelled.Goals as goal
 

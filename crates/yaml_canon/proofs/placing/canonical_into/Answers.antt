@@ -1,5 +1,5 @@
 use Rattle.std.proofs.Common.{rules}
-use Rattle.yaml_graph.specs.GraphView.{forest}
+use Rattle.yaml_nodes.specs.GraphView.{forest}
 use Rattle.yaml_spell.proofs.PieceLaws.{if_ok, if_err}
 use Rattle.yaml_canon.proofs.ClaimLaws.{accepted, refused_graph, refused_ranking, refused_spelling}
 use Rattle.yaml_canon.proofs.PlaceLaws.{placed, placed-answer, placed-exit, placed-spelling}

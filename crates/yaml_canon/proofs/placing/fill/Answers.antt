@@ -1,6 +1,6 @@
 use Rattle.std.proofs.Common.{◌≤◌, length, sym, subst, rules}
 use Rattle.yaml_definitions.specs.canonical.Spell.{spell_bytes}
-use Rattle.yaml_graph.specs.GraphView.{forest}
+use Rattle.yaml_nodes.specs.GraphView.{forest}
 use Rattle.yaml_canon.proofs.PlaceLaws.{ok_unless, of_ok}
 use Rattle.yaml_spell.proofs.RoomLaws.{all_filled, never_short}
 use Rattle.yaml_canon.proofs.placing.fill.Goals as goal

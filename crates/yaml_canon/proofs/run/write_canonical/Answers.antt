@@ -1,6 +1,6 @@
 use Rattle.std.proofs.Common.{◌≤◌, subst, rules}
 use Rattle.yaml_definitions.specs.model.Limits.{text_limit}
-use Rattle.yaml_graph.specs.GraphView.{forest}
+use Rattle.yaml_nodes.specs.GraphView.{forest}
 use Rattle.yaml_spell.proofs.PieceLaws.{on_ok, if_both, if_err}
 use Rattle.yaml_canon.proofs.ClaimLaws.{accepted, refused_graph, refused_ranking, refused_spelling}
 use Rattle.yaml_canon.proofs.RunLaws.{refused_unwritten, canonical_written, canonical_broken}

@@ -1,5 +1,5 @@
 use Rattle.std.proofs.Common.{rules}
-use Rattle.yaml_graph.specs.GraphView.{forest}
+use Rattle.yaml_nodes.specs.GraphView.{forest}
 use Rattle.yaml_definitions.specs.canonical.Spell.{spell_bytes}
 use Rattle.yaml_canon.proofs.RunLaws.{all_but_a_page, all_sent, printed, unflushed, broken_within, broken_at_the_end}
 use Rattle.yaml_canon.proofs.run.write_pages.Goals as goal

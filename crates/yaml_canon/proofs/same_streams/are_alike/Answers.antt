@@ -1,8 +1,8 @@
 use Rattle.std.proofs.Common.{◌≡◌, ◌<◌, ◌∙◌, sym, ap, arith, length, take, drop, map}
 use Rattle.std.specs.Cmp.Lexicographic.{pointwise}
 use Rattle.yaml_definitions.specs.model.Same.{same}
-use Rattle.yaml_graph.specs.GraphView.{tree, roots_of}
-use Rattle.yaml_graph.specs.declared.node.NodeId.{NodeId}
+use Rattle.yaml_nodes.specs.GraphView.{tree, roots_of}
+use Rattle.yaml_nodes.specs.declared.node.NodeId.{NodeId}
 use Rattle.yaml_canon.proofs.CompareLaws.{within-left, within-right, alike-next, alike-not}
 use Rattle.yaml_canon.proofs.same_streams.are_alike.Goals as goal
 

@@ -1,7 +1,7 @@
 use Rattle.std.proofs.Common.{◌≡◌, map, drop}
 use Rattle.std.specs.Cmp.Lexicographic.{pointwise}
 use Rattle.yaml_definitions.specs.model.Same.{same}
-use Rattle.yaml_graph.specs.GraphView.{tree}
+use Rattle.yaml_nodes.specs.GraphView.{tree}
 use Rattle.yaml_canon.proofs.same_streams.are_alike.Given as goal
 
 abbrev pub invariant-loop-place : goal.invariant-loop-place

@@ -1,5 +1,5 @@
 use Rattle.std.proofs.Common.{ap, length}
-use Rattle.yaml_graph.specs.JoinModel.{Joined}
+use Rattle.yaml_nodes.specs.JoinModel.{Joined}
 use Rattle.yaml_canon.specs.Claims.{HasGraph}
 use Rattle.yaml_review_command.proofs.SideLaws.{answer_ok}
 use Rattle.yaml_review_command.proofs.both.both_of.Goals as goal

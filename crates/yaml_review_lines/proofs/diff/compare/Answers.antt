@@ -1,5 +1,5 @@
 use Rattle.std.proofs.Common.{refl, take, drop}
-use Rattle.yaml_graph.specs.GraphView.{roots_of}
+use Rattle.yaml_nodes.specs.GraphView.{roots_of}
 use Rattle.yaml_review_lines.proofs.SideLaws.{left_within, right_within}
 use Rattle.yaml_review_lines.proofs.SameLaws.{alike_by_list}
 use Rattle.yaml_review_lines.proofs.diff.compare.Goals as goal

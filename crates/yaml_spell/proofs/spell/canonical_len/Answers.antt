@@ -1,5 +1,5 @@
 use Rattle.std.proofs.Common.{◌≤◌, ◌∙◌, ap, subst, rules, length}
-use Rattle.yaml_graph.specs.GraphView.{forest}
+use Rattle.yaml_nodes.specs.GraphView.{forest}
 use Rattle.yaml_spell.specs.Documents.{spell_more}
 use Rattle.yaml_spell.proofs.ShortLaws.{measured}
 use Rattle.yaml_spell.proofs.DocumentLaws.{spell_whole, length_refused}

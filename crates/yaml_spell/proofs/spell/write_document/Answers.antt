@@ -1,6 +1,6 @@
 use Rattle.std.proofs.Common.{◌≡◌, ◌∙◌, ap, rules}
 use Rattle.yaml_definitions.specs.model.Order.{arranged}
-use Rattle.yaml_graph.specs.GraphView.{tree}
+use Rattle.yaml_nodes.specs.GraphView.{tree}
 use Rattle.yaml_spell.specs.NamesView.{given_of}
 use Rattle.yaml_spell.specs.RankView.{rank_in}
 use Rattle.yaml_spell.specs.Walked.{noticed}

@@ -1,6 +1,6 @@
 use Rattle.std.proofs.Common.{◌+◌, ◌∙◌, ap, arith, refl}
-use Rattle.yaml_graph.specs.GraphView.{tree}
-use Rattle.yaml_graph.specs.declared.node.NodeId.{NodeId}
+use Rattle.yaml_nodes.specs.GraphView.{tree}
+use Rattle.yaml_nodes.specs.declared.node.NodeId.{NodeId}
 use Rattle.yaml_spell.specs.Documents.{spell_more}
 use Rattle.std.proofs.Common.{map}
 use Rattle.yaml_spell.proofs.PieceLaws.{puts_none}

@@ -1,5 +1,5 @@
 use Rattle.std.proofs.Common.{◌≡◌, map, drop}
-use Rattle.yaml_graph.specs.GraphView.{tree, forest}
+use Rattle.yaml_nodes.specs.GraphView.{tree, forest}
 use Rattle.yaml_spell.specs.NamesView.{ranks_in, document_number}
 use Rattle.yaml_spell.specs.Documents.{spell_more}
 use Rattle.yaml_spell.proofs.PieceLaws.{Left}

@@ -1,8 +1,8 @@
 use Rattle.std.proofs.Common.{◌≡◌, false, true, sym, ◌∙◌, ap, rules, arith}
 use Rattle.yaml_definitions.specs.model.Order.{arranged}
 use Rattle.yaml_definitions.specs.canonical.Spell.{short}
-use Rattle.yaml_graph.specs.GraphView.{tree}
-use Rattle.yaml_rank.specs.RankModel.{key_pair}
+use Rattle.yaml_nodes.specs.GraphView.{tree}
+use Rattle.yaml_levels.specs.RankModel.{key_pair}
 use Rattle.yaml_spell.specs.RankView.{rank_in}
 use Rattle.yaml_spell.specs.Known.{is_unseen}
 use Rattle.yaml_spell.specs.NamesView.{met_at, table_of}

@@ -1,9 +1,9 @@
 use Rattle.std.proofs.Common.{◌≡◌, sym, ◌∙◌, ap, refl, rules, arith, ◌++◌, ◌∷◌, []}
 use Rattle.yaml_definitions.specs.model.Order.{arranged}
 use Rattle.yaml_definitions.specs.canonical.Spell.{short}
-use Rattle.yaml_graph.specs.GraphView.{tree}
-use Rattle.yaml_rank.specs.RankModel.{key_pair}
-use Rattle.yaml_graph.specs.declared.node.NodeId.{NodeId}
+use Rattle.yaml_nodes.specs.GraphView.{tree}
+use Rattle.yaml_levels.specs.RankModel.{key_pair}
+use Rattle.yaml_nodes.specs.declared.node.NodeId.{NodeId}
 use Rattle.yaml_spell.specs.RankView.{rank_in}
 use Rattle.yaml_spell.specs.NamesView.{given_of}
 use Rattle.yaml_spell.specs.Walked.{opening_of, begun_unless_short, start, started, given_inside}

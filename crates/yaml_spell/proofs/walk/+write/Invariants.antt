@@ -1,9 +1,9 @@
 use Rattle.std.proofs.Common.{◌≡◌, ◌+◌, ◌*◌, ◌∷◌, [], map, drop}
 use Rattle.yaml_definitions.specs.model.Order.{arranged}
 use Rattle.yaml_definitions.specs.canonical.NodeText.{items_text, pairs_text}
-use Rattle.yaml_graph.specs.GraphView.{tree}
-use Rattle.yaml_graph.specs.TreeLists.{trees, pairs}
-use Rattle.yaml_rank.specs.RankModel.{key_pair}
+use Rattle.yaml_nodes.specs.GraphView.{tree}
+use Rattle.yaml_nodes.specs.TreeLists.{trees, pairs}
+use Rattle.yaml_levels.specs.RankModel.{key_pair}
 use Rattle.yaml_spell.specs.NamesView.{ranks_in, document_number, given_of}
 use Rattle.yaml_spell.specs.RankView.{rank_in}
 use Rattle.yaml_spell.specs.Walked.{separator, given_all, given_pairs, written_all, written_pairs}

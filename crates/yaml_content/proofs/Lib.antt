@@ -1,0 +1,11 @@
+mod StateLemmas
+mod StartLemmas
+pub mod FormLemmas
+mod KindLemmas
+mod NumberLemmas
+mod TextLemmas
+mod IntLemmas
+mod CutLemmas
+mod DecimalLemmas
+mod ContentForms
+mod ResolvedForms

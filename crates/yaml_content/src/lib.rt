@@ -1,0 +1,16 @@
+//! Values of the core schema (YAML 1.2.2, 10.3): what kind of value a plain text is, and the one content that stands for a
+//! text under the tag of each kind.
+#![tactic(auto)]
+
+pub mod content;
+pub mod fault;
+mod float;
+pub mod form;
+mod int;
+pub mod kind;
+pub mod laws;
+pub mod tag;
+mod text;
+
+pub use fault::CoreFault;
+pub use kind::{PlainKind, plain_kind};

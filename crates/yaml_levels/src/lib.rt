@@ -1,0 +1,17 @@
+//! The nodes of a graph by height, and the ranks of those of one height, by the ranks of their parts.
+#![tactic(auto)]
+
+mod entries;
+mod key;
+mod key_numbers;
+mod key_of;
+pub mod laws;
+mod level_keys;
+pub mod levels;
+mod order;
+mod prefix;
+pub mod ranks;
+pub mod tags;
+mod visits;
+
+pub use ranks::Ranks;

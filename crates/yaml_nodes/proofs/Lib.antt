@@ -1,0 +1,10 @@
+pub mod GraphLaws
+pub mod JoinLaws
+pub mod HeightLaws
+pub mod AnchorLaws
+pub mod ComposerLaws
+pub mod CallLaws
+pub mod EventLaws
+pub mod TagLaws
+pub mod LowLaws
+pub mod FinishLaws
