@@ -8,6 +8,8 @@ mod PartLaws
 mod RankLaws
 pub mod WalkLaws
 mod ShortLaws
+mod ShownLaws
+mod GraphNodes
 mod WriteLaws
 mod Anchors
 mod Markings

@@ -6,7 +6,9 @@ use Rattle.std.proofs.lemmas.Bool.Decides.{nat_tests}
 use Rattle.std.proofs.lemmas.Bool.{eqb-true}
 use Rattle.yaml_spell.specs.declared.names.State.{State}
 use Rattle.yaml_spell.specs.declared.names.State.TheVariants.{Unseen}
-use Rattle.yaml_spell.specs.NamesView.{stamped_state, put}
+use Rattle.yaml_spell.specs.declared.names.Names.{Names}
+use Rattle.yaml_spell.specs.NamesView.{ranks_in, stamped_state, put, SameDocument, NamesNone}
+use Rattle.yaml_spell.specs.RankedNodes.{Ready}
 
 itself : (d : ℕ) → (d == d) ≡ true
 itself d = grind (arith, nat_tests)
@@ -22,3 +24,14 @@ table_set xs d rank s l = λ z q. by q (q == rank) refl z
         let same : q ≡ rank = eqb-true q rank e in
         ap (λ j. stamped_state d (slice_index_or (slice_set xs rank (d, s)) j (0, Unseen))) same ∙ ap (stamped_state d) (rw get_or-set_same refl) ∙ ap (λ b. cond b s Unseen) (itself d)
     by q false e = let ne : q ≢ rank = other q rank e in ap (stamped_state d) (rw get_or-set_other refl)
+
+-- ---- what stays as it was
+
+pub same_then : {a b c : Names} → SameDocument b c → SameDocument a b → SameDocument a c
+same_then h k = record { long = h.long ∙ k.long; document = h.document ∙ k.document }
+
+pub none_then : {a b c : Names} → NamesNone b c → NamesNone a b → NamesNone a c
+none_then h k = record { long = h.long ∙ k.long; document = h.document ∙ k.document; count = h.count ∙ k.count }
+
+pub still : {V : Type 0} {stands : V → Type 0} {count : V → ℕ} {v : V} {m : Names} (n : Names) → Ready stands count v m → ranks_in n ≡ ranks_in m → Ready stands count v n
+still n h e = record { ranked = h.ranked; long = e ∙ h.long }

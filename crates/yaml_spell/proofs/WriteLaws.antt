@@ -1,6 +1,6 @@
 -- The second walk by ranks, step by step.
 use Rattle.std.specs.Prelude.{Result, Ok, Err, OnOk, Some}
-use Rattle.std.proofs.Common.{◌≡◌, ℕ, ◌+◌, ◌<◌, ◌≤◌, true, List, [], ◌∷◌, ◌++◌, length, map, drop, get_or, refl, sym, ◌∙◌, ap, subst, add-one}
+use Rattle.std.proofs.Common.{◌≡◌, ℕ, ◌+◌, ◌≤◌, true, List, [], ◌∷◌, ◌++◌, length, map, drop, refl, sym, ◌∙◌, ap, subst, add-one}
 use Rattle.std.proofs.Math.ListN.{drop_of_length-le}
 use Rattle.std.specs.Char.{encode_utf8}
 use Rattle.std.specs.Str.{encode_utf8_all, chars}
@@ -17,7 +17,6 @@ use Rattle.yaml_spell.specs.declared.names.Opening.{Opening}
 use Rattle.yaml_spell.specs.declared.names.Opening.TheVariants.{Plain, Anchored, Alias}
 use Rattle.yaml_spell.specs.Walked.{after, anchor_in, begun, separator, start, started, given, given_all, given_pairs, written, written_all, written_pairs, behind_anchor, given_inside}
 use Rattle.yaml_spell.proofs.PieceLaws.{Left, puts_as, puts_piece, puts_then, fails_as, fails_piece, fails_later, left_next, left_fails, fails_more}
-use Rattle.yaml_spell.proofs.WalkLaws.{drop_next}
 
 pub all_ok : {T E P : Type 0} (r : Result T E) → P → OnOk r P
 all_ok (Ok x) p = p
@@ -91,20 +90,20 @@ module _ (rank : Tree → ℕ) where
     abbrev pub rest : ℕ → Given → List ℕ → List ℕ
     rest i p more = items_text (separator i) (written_all rank (trees (map f (drop i xs))) p) more
 
-    pub items_split : (i : ℕ) (d : X) (p q : Given) → i < length xs → q ≡ given rank (f (get_or xs i d)) p → (more : List ℕ) → separator i ++ node_text (written rank (f (get_or xs i d)) p) (rest (i + 1) q more) ≡ rest i p more
+    pub items_split : (i : ℕ) (d : X) (p q : Given) → drop i xs ≡ d ∷ drop (i + 1) xs → q ≡ given rank (f d) p → (more : List ℕ) → separator i ++ node_text (written rank (f d) p) (rest (i + 1) q more) ≡ rest i p more
     unfolding node_text written given
     items_split i d p q l e more =
-        ap (λ z. separator i ++ node_text (written rank (f (get_or xs i d)) p) (items_text (separator z) (written_all rank (trees (map f (drop (i + 1) xs))) q) more)) (add-one i)
-        ∙ ap (λ z. separator i ++ node_text (written rank (f (get_or xs i d)) p) (items_text (44 ∷ 32 ∷ []) (written_all rank (trees (map f (drop (i + 1) xs))) z) more)) e
-        ∙ ap (λ z. items_text (separator i) (written_all rank (trees (map f z)) p) more) (sym (drop_next xs i d l))
+        ap (λ z. separator i ++ node_text (written rank (f d) p) (items_text (separator z) (written_all rank (trees (map f (drop (i + 1) xs))) q) more)) (add-one i)
+        ∙ ap (λ z. separator i ++ node_text (written rank (f d) p) (items_text (44 ∷ 32 ∷ []) (written_all rank (trees (map f (drop (i + 1) xs))) z) more)) e
+        ∙ ap (λ z. items_text (separator i) (written_all rank (trees (map f z)) p) more) (sym l)
 
     pub items_end : (i : ℕ) (p : Given) → length xs ≤ i → (more : List ℕ) → 93 ∷ more ≡ rest i p more
     unfolding node_text written
     items_end i p l more = ap (λ z. items_text (separator i) (written_all rank (trees (map f z)) p) more) (sym (drop_of_length-le xs l))
 
-    pub items_given : (i : ℕ) (d : X) (p q w : Given) → i < length xs → q ≡ given rank (f (get_or xs i d)) p → given_all rank (trees (map f (drop i xs))) p ≡ w → given_all rank (trees (map f (drop (i + 1) xs))) q ≡ w
+    pub items_given : (i : ℕ) (d : X) (p q w : Given) → drop i xs ≡ d ∷ drop (i + 1) xs → q ≡ given rank (f d) p → given_all rank (trees (map f (drop i xs))) p ≡ w → given_all rank (trees (map f (drop (i + 1) xs))) q ≡ w
     unfolding given
-    items_given i d p q w l e h = ap (given_all rank (trees (map f (drop (i + 1) xs)))) e ∙ ap (λ z. given_all rank (trees (map f z)) p) (sym (drop_next xs i d l)) ∙ h
+    items_given i d p q w l e h = ap (given_all rank (trees (map f (drop (i + 1) xs)))) e ∙ ap (λ z. given_all rank (trees (map f z)) p) (sym l) ∙ h
 
     pub items_known : (i : ℕ) (p w : Given) → length xs ≤ i → given_all rank (trees (map f (drop i xs))) p ≡ w → p ≡ w
     unfolding given
@@ -114,23 +113,23 @@ module _ (rank : Tree → ℕ) where
     abbrev pub rest_pairs : ℕ → Given → List ℕ → List ℕ
     rest_pairs i p more = pairs_text (separator i) (written_pairs rank (pairs (map f (drop i xs))) p) more
 
-    pub pairs_split : (i : ℕ) (d : X) (p q r : Given) → i < length xs → q ≡ given rank (f (get_or xs i d)).0 p → r ≡ given rank (f (get_or xs i d)).1 q → (more : List ℕ)
-        → separator i ++ node_text (written rank (f (get_or xs i d)).0 p) (32 ∷ 58 ∷ 32 ∷ node_text (written rank (f (get_or xs i d)).1 q) (rest_pairs (i + 1) r more)) ≡ rest_pairs i p more
+    pub pairs_split : (i : ℕ) (d : X) (p q r : Given) → drop i xs ≡ d ∷ drop (i + 1) xs → q ≡ given rank (f d).0 p → r ≡ given rank (f d).1 q → (more : List ℕ)
+        → separator i ++ node_text (written rank (f d).0 p) (32 ∷ 58 ∷ 32 ∷ node_text (written rank (f d).1 q) (rest_pairs (i + 1) r more)) ≡ rest_pairs i p more
     unfolding node_text written given
     pairs_split i d p q r l e h more =
-        ap (λ z. separator i ++ node_text (written rank (f (get_or xs i d)).0 p) (32 ∷ 58 ∷ 32 ∷ node_text (written rank (f (get_or xs i d)).1 q) (pairs_text (separator z) (written_pairs rank (pairs (map f (drop (i + 1) xs))) r) more))) (add-one i)
-        ∙ ap (λ z. separator i ++ node_text (written rank (f (get_or xs i d)).0 p) (32 ∷ 58 ∷ 32 ∷ node_text (written rank (f (get_or xs i d)).1 q) (pairs_text (44 ∷ 32 ∷ []) (written_pairs rank (pairs (map f (drop (i + 1) xs))) z) more))) h
-        ∙ ap (λ z. separator i ++ node_text (written rank (f (get_or xs i d)).0 p) (32 ∷ 58 ∷ 32 ∷ node_text (written rank (f (get_or xs i d)).1 z) (pairs_text (44 ∷ 32 ∷ []) (written_pairs rank (pairs (map f (drop (i + 1) xs))) (given rank (f (get_or xs i d)).1 z)) more))) e
-        ∙ ap (λ z. pairs_text (separator i) (written_pairs rank (pairs (map f z)) p) more) (sym (drop_next xs i d l))
+        ap (λ z. separator i ++ node_text (written rank (f d).0 p) (32 ∷ 58 ∷ 32 ∷ node_text (written rank (f d).1 q) (pairs_text (separator z) (written_pairs rank (pairs (map f (drop (i + 1) xs))) r) more))) (add-one i)
+        ∙ ap (λ z. separator i ++ node_text (written rank (f d).0 p) (32 ∷ 58 ∷ 32 ∷ node_text (written rank (f d).1 q) (pairs_text (44 ∷ 32 ∷ []) (written_pairs rank (pairs (map f (drop (i + 1) xs))) z) more))) h
+        ∙ ap (λ z. separator i ++ node_text (written rank (f d).0 p) (32 ∷ 58 ∷ 32 ∷ node_text (written rank (f d).1 z) (pairs_text (44 ∷ 32 ∷ []) (written_pairs rank (pairs (map f (drop (i + 1) xs))) (given rank (f d).1 z)) more))) e
+        ∙ ap (λ z. pairs_text (separator i) (written_pairs rank (pairs (map f z)) p) more) (sym l)
 
     pub pairs_end : (i : ℕ) (p : Given) → length xs ≤ i → (more : List ℕ) → 125 ∷ more ≡ rest_pairs i p more
     unfolding node_text written
     pairs_end i p l more = ap (λ z. pairs_text (separator i) (written_pairs rank (pairs (map f z)) p) more) (sym (drop_of_length-le xs l))
 
-    pub pairs_given : (i : ℕ) (d : X) (p q r w : Given) → i < length xs → q ≡ given rank (f (get_or xs i d)).0 p → r ≡ given rank (f (get_or xs i d)).1 q → given_pairs rank (pairs (map f (drop i xs))) p ≡ w → given_pairs rank (pairs (map f (drop (i + 1) xs))) r ≡ w
+    pub pairs_given : (i : ℕ) (d : X) (p q r w : Given) → drop i xs ≡ d ∷ drop (i + 1) xs → q ≡ given rank (f d).0 p → r ≡ given rank (f d).1 q → given_pairs rank (pairs (map f (drop i xs))) p ≡ w → given_pairs rank (pairs (map f (drop (i + 1) xs))) r ≡ w
     unfolding given
     pairs_given i d p q r w l e k h =
-        ap (given_pairs rank (pairs (map f (drop (i + 1) xs)))) (k ∙ ap (given rank (f (get_or xs i d)).1) e) ∙ ap (λ z. given_pairs rank (pairs (map f z)) p) (sym (drop_next xs i d l)) ∙ h
+        ap (given_pairs rank (pairs (map f (drop (i + 1) xs)))) (k ∙ ap (given rank (f d).1) e) ∙ ap (λ z. given_pairs rank (pairs (map f z)) p) (sym l) ∙ h
 
     pub pairs_known : (i : ℕ) (p w : Given) → length xs ≤ i → given_pairs rank (pairs (map f (drop i xs))) p ≡ w → p ≡ w
     unfolding given
@@ -139,76 +138,76 @@ module _ (rank : Tree → ℕ) where
 module _ {S O : Type 0} (holds : S → O → Began → List ℕ → Type 0) (stops : O → Began → Fault → List ℕ → Type 0) (rank : Tree → ℕ) where
   module _ {X : Type 0} (f : X → Tree) (xs : List X) (i : ℕ) (p : Given) (whole : List ℕ → List ℕ) where
     abbrev node : X → Given → List ℕ → List ℕ
-    node d q more = node_text (written rank (f (get_or xs i d)) p) (rest rank f xs (i + 1) q more)
+    node d q more = node_text (written rank (f d) p) (rest rank f xs (i + 1) q more)
 
-    behind : (d : X) (q : Given) (s : S) (o : O) (t : S) (u : O) (v : S) (w : O) → i < length xs → q ≡ given rank (f (get_or xs i d)) p → Left holds s o t u (rest rank f xs i p) whole → Puts holds t u v w (λ more. separator i ++ more) → Left holds s o v w (node d q) whole
+    behind : (d : X) (q : Given) (s : S) (o : O) (t : S) (u : O) (v : S) (w : O) → drop i xs ≡ d ∷ drop (i + 1) xs → q ≡ given rank (f d) p → Left holds s o t u (rest rank f xs i p) whole → Puts holds t u v w (λ more. separator i ++ more) → Left holds s o v w (node d q) whole
     behind d q s o t u v w l e h k = left_next holds s o t u v w (rest rank f xs i p) whole (λ more. separator i ++ more) (node d q) h k (items_split rank f xs i d p q l e)
 
-    pub items_separator_fails : (d : X) (s : S) (o : O) (t : S) (u w : O) (fault : Fault) → i < length xs → Left holds s o t u (rest rank f xs i p) whole → Fails holds stops t u w fault (λ more. separator i ++ more) → Fails holds stops s o w fault whole
+    pub items_separator_fails : (d : X) (s : S) (o : O) (t : S) (u w : O) (fault : Fault) → drop i xs ≡ d ∷ drop (i + 1) xs → Left holds s o t u (rest rank f xs i p) whole → Fails holds stops t u w fault (λ more. separator i ++ more) → Fails holds stops s o w fault whole
     items_separator_fails d s o t u w fault l h k =
-        left_fails holds stops s o t u w fault (rest rank f xs i p) whole (λ more. separator i ++ more) (node d (given rank (f (get_or xs i d)) p)) h k (items_split rank f xs i d p (given rank (f (get_or xs i d)) p) l refl)
+        left_fails holds stops s o t u w fault (rest rank f xs i p) whole (λ more. separator i ++ more) (node d (given rank (f d) p)) h k (items_split rank f xs i d p (given rank (f d) p) l refl)
 
-    pub items_node_fails : (d : X) (s : S) (o : O) (t : S) (u : O) (v : S) (w y : O) (fault : Fault) → i < length xs → Left holds s o t u (rest rank f xs i p) whole → Puts holds t u v w (λ more. separator i ++ more)
-        → Fails holds stops v w y fault (node_text (written rank (f (get_or xs i d)) p)) → Fails holds stops s o y fault whole
+    pub items_node_fails : (d : X) (s : S) (o : O) (t : S) (u : O) (v : S) (w y : O) (fault : Fault) → drop i xs ≡ d ∷ drop (i + 1) xs → Left holds s o t u (rest rank f xs i p) whole → Puts holds t u v w (λ more. separator i ++ more)
+        → Fails holds stops v w y fault (node_text (written rank (f d) p)) → Fails holds stops s o y fault whole
     items_node_fails d s o t u v w y fault l h k m =
-        let q = given rank (f (get_or xs i d)) p in
-        left_fails holds stops s o v w y fault (node d q) whole (node_text (written rank (f (get_or xs i d)) p)) (rest rank f xs (i + 1) q) (behind d q s o t u v w l refl h k) m (λ more. refl)
+        let q = given rank (f d) p in
+        left_fails holds stops s o v w y fault (node d q) whole (node_text (written rank (f d) p)) (rest rank f xs (i + 1) q) (behind d q s o t u v w l refl h k) m (λ more. refl)
 
-    pub items_step : (d : X) (q : Given) (s : S) (o : O) (t : S) (u : O) (v : S) (w : O) (x : S) (y : O) → i < length xs → q ≡ given rank (f (get_or xs i d)) p → Left holds s o t u (rest rank f xs i p) whole → Puts holds t u v w (λ more. separator i ++ more)
-        → Puts holds v w x y (node_text (written rank (f (get_or xs i d)) p)) → Left holds s o x y (rest rank f xs (i + 1) q) whole
-    items_step d q s o t u v w x y l e h k m = left_next holds s o v w x y (node d q) whole (node_text (written rank (f (get_or xs i d)) p)) (rest rank f xs (i + 1) q) (behind d q s o t u v w l e h k) m (λ more. refl)
+    pub items_step : (d : X) (q : Given) (s : S) (o : O) (t : S) (u : O) (v : S) (w : O) (x : S) (y : O) → drop i xs ≡ d ∷ drop (i + 1) xs → q ≡ given rank (f d) p → Left holds s o t u (rest rank f xs i p) whole → Puts holds t u v w (λ more. separator i ++ more)
+        → Puts holds v w x y (node_text (written rank (f d) p)) → Left holds s o x y (rest rank f xs (i + 1) q) whole
+    items_step d q s o t u v w x y l e h k m = left_next holds s o v w x y (node d q) whole (node_text (written rank (f d) p)) (rest rank f xs (i + 1) q) (behind d q s o t u v w l e h k) m (λ more. refl)
 
   module _ {X : Type 0} (f : X → Tree × Tree) (xs : List X) (i : ℕ) (p : Given) (whole : List ℕ → List ℕ) where
     abbrev value : X → Given → Given → List ℕ → List ℕ
-    value d q r more = node_text (written rank (f (get_or xs i d)).1 q) (rest_pairs rank f xs (i + 1) r more)
+    value d q r more = node_text (written rank (f d).1 q) (rest_pairs rank f xs (i + 1) r more)
 
     abbrev colon : X → Given → Given → List ℕ → List ℕ
     colon d q r more = 32 ∷ 58 ∷ 32 ∷ value d q r more
 
     abbrev key : X → Given → Given → List ℕ → List ℕ
-    key d q r more = node_text (written rank (f (get_or xs i d)).0 p) (colon d q r more)
+    key d q r more = node_text (written rank (f d).0 p) (colon d q r more)
 
-    at_key : (d : X) (q r : Given) (s : S) (o : O) (t : S) (u : O) (v : S) (w : O) → i < length xs → q ≡ given rank (f (get_or xs i d)).0 p → r ≡ given rank (f (get_or xs i d)).1 q → Left holds s o t u (rest_pairs rank f xs i p) whole → Puts holds t u v w (λ more. separator i ++ more) → Left holds s o v w (key d q r) whole
+    at_key : (d : X) (q r : Given) (s : S) (o : O) (t : S) (u : O) (v : S) (w : O) → drop i xs ≡ d ∷ drop (i + 1) xs → q ≡ given rank (f d).0 p → r ≡ given rank (f d).1 q → Left holds s o t u (rest_pairs rank f xs i p) whole → Puts holds t u v w (λ more. separator i ++ more) → Left holds s o v w (key d q r) whole
     at_key d q r s o t u v w l e g h k = left_next holds s o t u v w (rest_pairs rank f xs i p) whole (λ more. separator i ++ more) (key d q r) h k (pairs_split rank f xs i d p q r l e g)
 
-    pub pairs_separator_fails : (d : X) (s : S) (o : O) (t : S) (u w : O) (fault : Fault) → i < length xs → Left holds s o t u (rest_pairs rank f xs i p) whole → Fails holds stops t u w fault (λ more. separator i ++ more) → Fails holds stops s o w fault whole
+    pub pairs_separator_fails : (d : X) (s : S) (o : O) (t : S) (u w : O) (fault : Fault) → drop i xs ≡ d ∷ drop (i + 1) xs → Left holds s o t u (rest_pairs rank f xs i p) whole → Fails holds stops t u w fault (λ more. separator i ++ more) → Fails holds stops s o w fault whole
     pairs_separator_fails d s o t u w fault l h k =
-        let q = given rank (f (get_or xs i d)).0 p in
-        let r = given rank (f (get_or xs i d)).1 q in
+        let q = given rank (f d).0 p in
+        let r = given rank (f d).1 q in
         left_fails holds stops s o t u w fault (rest_pairs rank f xs i p) whole (λ more. separator i ++ more) (key d q r) h k (pairs_split rank f xs i d p q r l refl refl)
 
-    pub pairs_key_fails : (d : X) (s : S) (o : O) (t : S) (u : O) (v : S) (w y : O) (fault : Fault) → i < length xs → Left holds s o t u (rest_pairs rank f xs i p) whole → Puts holds t u v w (λ more. separator i ++ more)
-        → Fails holds stops v w y fault (node_text (written rank (f (get_or xs i d)).0 p)) → Fails holds stops s o y fault whole
+    pub pairs_key_fails : (d : X) (s : S) (o : O) (t : S) (u : O) (v : S) (w y : O) (fault : Fault) → drop i xs ≡ d ∷ drop (i + 1) xs → Left holds s o t u (rest_pairs rank f xs i p) whole → Puts holds t u v w (λ more. separator i ++ more)
+        → Fails holds stops v w y fault (node_text (written rank (f d).0 p)) → Fails holds stops s o y fault whole
     pairs_key_fails d s o t u v w y fault l h k m =
-        let q = given rank (f (get_or xs i d)).0 p in
-        let r = given rank (f (get_or xs i d)).1 q in
-        left_fails holds stops s o v w y fault (key d q r) whole (node_text (written rank (f (get_or xs i d)).0 p)) (colon d q r) (at_key d q r s o t u v w l refl refl h k) m (λ more. refl)
+        let q = given rank (f d).0 p in
+        let r = given rank (f d).1 q in
+        left_fails holds stops s o v w y fault (key d q r) whole (node_text (written rank (f d).0 p)) (colon d q r) (at_key d q r s o t u v w l refl refl h k) m (λ more. refl)
 
-    at_colon : (d : X) (q r : Given) (s : S) (o : O) (t : S) (u : O) (v : S) (w : O) (x : S) (y : O) → i < length xs → q ≡ given rank (f (get_or xs i d)).0 p → r ≡ given rank (f (get_or xs i d)).1 q → Left holds s o t u (rest_pairs rank f xs i p) whole → Puts holds t u v w (λ more. separator i ++ more)
-        → Puts holds v w x y (node_text (written rank (f (get_or xs i d)).0 p)) → Left holds s o x y (colon d q r) whole
-    at_colon d q r s o t u v w x y l e g h k m = left_next holds s o v w x y (key d q r) whole (node_text (written rank (f (get_or xs i d)).0 p)) (colon d q r) (at_key d q r s o t u v w l e g h k) m (λ more. refl)
+    at_colon : (d : X) (q r : Given) (s : S) (o : O) (t : S) (u : O) (v : S) (w : O) (x : S) (y : O) → drop i xs ≡ d ∷ drop (i + 1) xs → q ≡ given rank (f d).0 p → r ≡ given rank (f d).1 q → Left holds s o t u (rest_pairs rank f xs i p) whole → Puts holds t u v w (λ more. separator i ++ more)
+        → Puts holds v w x y (node_text (written rank (f d).0 p)) → Left holds s o x y (colon d q r) whole
+    at_colon d q r s o t u v w x y l e g h k m = left_next holds s o v w x y (key d q r) whole (node_text (written rank (f d).0 p)) (colon d q r) (at_key d q r s o t u v w l e g h k) m (λ more. refl)
 
-    pub pairs_colon_fails : (d : X) (q : Given) (s : S) (o : O) (t : S) (u : O) (v : S) (w : O) (x : S) (y z : O) (fault : Fault) → i < length xs → q ≡ given rank (f (get_or xs i d)).0 p → Left holds s o t u (rest_pairs rank f xs i p) whole → Puts holds t u v w (λ more. separator i ++ more)
-        → Puts holds v w x y (node_text (written rank (f (get_or xs i d)).0 p)) → Misses holds stops x y z fault (32 ∷ 58 ∷ 32 ∷ []) → Fails holds stops s o z fault whole
+    pub pairs_colon_fails : (d : X) (q : Given) (s : S) (o : O) (t : S) (u : O) (v : S) (w : O) (x : S) (y z : O) (fault : Fault) → drop i xs ≡ d ∷ drop (i + 1) xs → q ≡ given rank (f d).0 p → Left holds s o t u (rest_pairs rank f xs i p) whole → Puts holds t u v w (λ more. separator i ++ more)
+        → Puts holds v w x y (node_text (written rank (f d).0 p)) → Misses holds stops x y z fault (32 ∷ 58 ∷ 32 ∷ []) → Fails holds stops s o z fault whole
     pairs_colon_fails d q s o t u v w x y z fault l e h k m n =
-        let r = given rank (f (get_or xs i d)).1 q in
+        let r = given rank (f d).1 q in
         left_fails holds stops s o x y z fault (colon d q r) whole (λ more. (32 ∷ 58 ∷ 32 ∷ []) ++ more) (value d q r) (at_colon d q r s o t u v w x y l e refl h k m) (fails_piece holds stops x y z fault (32 ∷ 58 ∷ 32 ∷ []) (32 ∷ 58 ∷ 32 ∷ []) n colon_bytes) (λ more. refl)
 
-    at_value : (d : X) (q r : Given) (s : S) (o : O) (t : S) (u : O) (v : S) (w : O) (x : S) (y : O) (a : S) (b : O) → i < length xs → q ≡ given rank (f (get_or xs i d)).0 p → r ≡ given rank (f (get_or xs i d)).1 q → Left holds s o t u (rest_pairs rank f xs i p) whole → Puts holds t u v w (λ more. separator i ++ more)
-        → Puts holds v w x y (node_text (written rank (f (get_or xs i d)).0 p)) → TakesPiece holds x y a b (32 ∷ 58 ∷ 32 ∷ []) → Left holds s o a b (value d q r) whole
+    at_value : (d : X) (q r : Given) (s : S) (o : O) (t : S) (u : O) (v : S) (w : O) (x : S) (y : O) (a : S) (b : O) → drop i xs ≡ d ∷ drop (i + 1) xs → q ≡ given rank (f d).0 p → r ≡ given rank (f d).1 q → Left holds s o t u (rest_pairs rank f xs i p) whole → Puts holds t u v w (λ more. separator i ++ more)
+        → Puts holds v w x y (node_text (written rank (f d).0 p)) → TakesPiece holds x y a b (32 ∷ 58 ∷ 32 ∷ []) → Left holds s o a b (value d q r) whole
     at_value d q r s o t u v w x y a b l e g h k m n =
         left_next holds s o x y a b (colon d q r) whole (λ more. (32 ∷ 58 ∷ 32 ∷ []) ++ more) (value d q r) (at_colon d q r s o t u v w x y l e g h k m) (puts_piece holds x y a b (32 ∷ 58 ∷ 32 ∷ []) (32 ∷ 58 ∷ 32 ∷ []) n colon_bytes) (λ more. refl)
 
-    pub pairs_value_fails : (d : X) (q : Given) (s : S) (o : O) (t : S) (u : O) (v : S) (w : O) (x : S) (y : O) (a : S) (b z : O) (fault : Fault) → i < length xs → q ≡ given rank (f (get_or xs i d)).0 p → Left holds s o t u (rest_pairs rank f xs i p) whole → Puts holds t u v w (λ more. separator i ++ more)
-        → Puts holds v w x y (node_text (written rank (f (get_or xs i d)).0 p)) → TakesPiece holds x y a b (32 ∷ 58 ∷ 32 ∷ []) → Fails holds stops a b z fault (node_text (written rank (f (get_or xs i d)).1 q)) → Fails holds stops s o z fault whole
+    pub pairs_value_fails : (d : X) (q : Given) (s : S) (o : O) (t : S) (u : O) (v : S) (w : O) (x : S) (y : O) (a : S) (b z : O) (fault : Fault) → drop i xs ≡ d ∷ drop (i + 1) xs → q ≡ given rank (f d).0 p → Left holds s o t u (rest_pairs rank f xs i p) whole → Puts holds t u v w (λ more. separator i ++ more)
+        → Puts holds v w x y (node_text (written rank (f d).0 p)) → TakesPiece holds x y a b (32 ∷ 58 ∷ 32 ∷ []) → Fails holds stops a b z fault (node_text (written rank (f d).1 q)) → Fails holds stops s o z fault whole
     pairs_value_fails d q s o t u v w x y a b z fault l e h k m n j =
-        let r = given rank (f (get_or xs i d)).1 q in
-        left_fails holds stops s o a b z fault (value d q r) whole (node_text (written rank (f (get_or xs i d)).1 q)) (rest_pairs rank f xs (i + 1) r) (at_value d q r s o t u v w x y a b l e refl h k m n) j (λ more. refl)
+        let r = given rank (f d).1 q in
+        left_fails holds stops s o a b z fault (value d q r) whole (node_text (written rank (f d).1 q)) (rest_pairs rank f xs (i + 1) r) (at_value d q r s o t u v w x y a b l e refl h k m n) j (λ more. refl)
 
-    pub pairs_step : (d : X) (q r : Given) (s : S) (o : O) (t : S) (u : O) (v : S) (w : O) (x : S) (y : O) (a : S) (b : O) (c : S) (z : O) → i < length xs → q ≡ given rank (f (get_or xs i d)).0 p → r ≡ given rank (f (get_or xs i d)).1 q → Left holds s o t u (rest_pairs rank f xs i p) whole
-        → Puts holds t u v w (λ more. separator i ++ more) → Puts holds v w x y (node_text (written rank (f (get_or xs i d)).0 p)) → TakesPiece holds x y a b (32 ∷ 58 ∷ 32 ∷ []) → Puts holds a b c z (node_text (written rank (f (get_or xs i d)).1 q)) → Left holds s o c z (rest_pairs rank f xs (i + 1) r) whole
+    pub pairs_step : (d : X) (q r : Given) (s : S) (o : O) (t : S) (u : O) (v : S) (w : O) (x : S) (y : O) (a : S) (b : O) (c : S) (z : O) → drop i xs ≡ d ∷ drop (i + 1) xs → q ≡ given rank (f d).0 p → r ≡ given rank (f d).1 q → Left holds s o t u (rest_pairs rank f xs i p) whole
+        → Puts holds t u v w (λ more. separator i ++ more) → Puts holds v w x y (node_text (written rank (f d).0 p)) → TakesPiece holds x y a b (32 ∷ 58 ∷ 32 ∷ []) → Puts holds a b c z (node_text (written rank (f d).1 q)) → Left holds s o c z (rest_pairs rank f xs (i + 1) r) whole
     pairs_step d q r s o t u v w x y a b c z l e g h k m n j =
-        left_next holds s o a b c z (value d q r) whole (node_text (written rank (f (get_or xs i d)).1 q)) (rest_pairs rank f xs (i + 1) r) (at_value d q r s o t u v w x y a b l e g h k m n) j (λ more. refl)
+        left_next holds s o a b c z (value d q r) whole (node_text (written rank (f d).1 q)) (rest_pairs rank f xs (i + 1) r) (at_value d q r s o t u v w x y a b l e g h k m n) j (λ more. refl)
 
   -- ---- a node's tag and content
 

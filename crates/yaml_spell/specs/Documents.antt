@@ -3,7 +3,7 @@ use Rattle.std.specs.Prelude.{◌<◌, List, [], ◌∷◌, ℕ, length}
 use Rattle.yaml_definitions.specs.model.Limits.{text_limit}
 use Rattle.yaml_definitions.specs.model.Tree.{Tree}
 use Rattle.yaml_definitions.specs.canonical.NodeText.{node_text}
-use Rattle.yaml_definitions.specs.canonical.Spell.{serial_of, spell_bytes}
+use Rattle.yaml_definitions.specs.canonical.Spell.{serial_of, serial_of_arranged, spell_bytes}
 use Rattle.yaml_text.specs.declared.fault.Fault.{Fault}
 use Rattle.yaml_text.specs.declared.fault.Fault.TheVariants.{TextTooLong, OutOfMemory}
 
@@ -14,6 +14,14 @@ document_text t more = 45 ∷ 45 ∷ 45 ∷ 32 ∷ node_text (serial_of t) (10 �
 abbrev pub spell_more : List Tree → List ℕ → List ℕ
 spell_more [] more = more
 spell_more (t ∷ f) more = document_text t (spell_more f more)
+
+-- the same of trees that are arranged
+abbrev pub arranged_text : Tree → List ℕ → List ℕ
+arranged_text t more = 45 ∷ 45 ∷ 45 ∷ 32 ∷ node_text (serial_of_arranged t) (10 ∷ more)
+
+abbrev pub arranged_more : List Tree → List ℕ → List ℕ
+arranged_more [] more = more
+arranged_more (t ∷ f) more = arranged_text t (arranged_more f more)
 
 -- the text is too long, or memory was refused
 abbrev pub RefusesLength : List Tree → Fault → Type 0

@@ -8,6 +8,7 @@ pub mod Known
 pub mod NamesView
 pub mod Kinds
 pub mod ShortNodes
+pub mod RankedNodes
 pub mod Walked
 pub mod RankView
 pub mod Anchored

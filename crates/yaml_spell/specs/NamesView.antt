@@ -1,5 +1,5 @@
 -- What is known of each rank, as a table, and how nodes change it.
-use Rattle.std.specs.Prelude.{ℕ, suc, cond, ◌==◌, length}
+use Rattle.std.specs.Prelude.{◌≡◌, ℕ, suc, ◌+◌, cond, ◌==◌, length}
 use Rattle.std.specs.List.{slice_index_or}
 use Rattle.yaml_spell.specs.declared.names.State.{State}
 use Rattle.yaml_spell.specs.declared.names.State.TheVariants.{Unseen, Repeated, Named}
@@ -60,3 +60,19 @@ abbrev pub opening_number : Opening → ℕ
 opening_number (Alias number) = number
 opening_number (Anchored number) = number
 opening_number Plain = 1
+
+-- The document is the same, and so is how many ranks there are.
+pub record SameDocument (old new : Names) : Type 0 where
+  pub long : ranks_in new ≡ ranks_in old
+  pub document : document_number new ≡ document_number old
+
+-- The same, and no name is given.
+pub record NamesNone (old new : Names) : Type 0 where
+  pub long : ranks_in new ≡ ranks_in old
+  pub document : document_number new ≡ document_number old
+  pub count : count_of new ≡ count_of old
+
+-- The next document is begun, with as many ranks.
+pub record NextDocument (old new : Names) : Type 0 where
+  pub long : ranks_in new ≡ ranks_in old
+  pub document : document_number new ≡ document_number old + 1

@@ -1,13 +1,12 @@
 //! Which nodes are always written out.
 ghost use Rattle.std.specs.Prelude.{◌≡◌};
-ghost use Rattle.std.specs.Cow.{cow_str_bytes};
 ghost use Rattle.yaml_spell.specs.Kinds.{number_of_kind};
-ghost use Rattle.yaml_spell.specs.ShortNodes.{short_kind, short_scalar, short_tag};
+ghost use Rattle.yaml_spell.specs.ShortNodes.{short_shown, short_scalar, short_tag};
 
 use crate::length::Length;
 use crate::parts::{Kind, default_tag, put_scalar, put_tag};
+use crate::shown::{Inside, Shown};
 use crate::sink::Sink;
-use yaml_nodes::node::{Node, NodeKind};
 use yaml_text::limits::short_limit;
 
 /// A content of so many bytes or fewer is short where no tag is written: each byte takes four at most.
@@ -43,13 +42,12 @@ fn is_short_tag(tag: &str, kind: Kind) -> bool
 }
 
 /// Whether a node is a scalar or an empty collection of few bytes.
-pub(crate) fn is_short(node: &Node<'_>) -> bool
-    ensures { result ≡ short_kind (cow_str_bytes node.now.tag) node.now.kind }
+pub(crate) fn is_short<I: Copy>(node: &Shown<'_, I>) -> bool
+    ensures { result ≡ short_shown node.now.tag.now node.now.inside }
 {
-    let tag = node.tag.as_str();
-    match &node.kind {
-        NodeKind::Scalar(content) => is_short_scalar(tag, content.as_str()),
-        NodeKind::Sequence(items) => items.is_empty() && is_short_tag(tag, Kind::Sequence),
-        NodeKind::Mapping(entries) => entries.is_empty() && is_short_tag(tag, Kind::Mapping),
+    match node.inside {
+        Inside::Scalar(content) => is_short_scalar(node.tag, content),
+        Inside::Sequence(items) => items.is_empty() && is_short_tag(node.tag, Kind::Sequence),
+        Inside::Mapping(entries) => entries.is_empty() && is_short_tag(node.tag, Kind::Mapping),
     }
 }

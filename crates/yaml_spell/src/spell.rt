@@ -1,48 +1,69 @@
 //! The canonical text of a graph's documents.
-ghost use Rattle.std.specs.Prelude.{◌≡◌, ◌<◌, ◌≤◌, ◌^◌, ◌+◌, ◌∷◌, length, OnOk, IfErr, IfOk};
+ghost use Rattle.std.specs.Prelude.{◌≡◌, ◌<◌, ◌≤◌, ◌^◌, length, map, OnOk, IfErr, IfOk};
+ghost use Rattle.std.specs.List.{All};
 ghost use Rattle.yaml_definitions.specs.model.Limits.{text_limit};
-ghost use Rattle.yaml_definitions.specs.canonical.NodeText.{node_text};
-ghost use Rattle.yaml_definitions.specs.canonical.Spell.{serial_of, spell_bytes};
-ghost use Rattle.yaml_nodes.specs.GraphView.{nodes_of, tree, forest};
+ghost use Rattle.yaml_definitions.specs.canonical.Spell.{spell_bytes};
+ghost use Rattle.yaml_nodes.specs.GraphView.{nodes_of, forest};
 ghost use Rattle.yaml_levels.specs.RanksView.{RanksAre};
-ghost use Rattle.yaml_spell.specs.NamesView.{ranks_in, document_number};
+ghost use Rattle.yaml_spell.specs.NamesView.{ranks_in, document_number, NextDocument};
 ghost use Rattle.yaml_spell.specs.Pieces.{Puts, Fails};
-ghost use Rattle.yaml_spell.specs.Documents.{spell_more, document_text, RefusesLength};
+ghost use Rattle.yaml_spell.specs.Documents.{spell_more, arranged_text, arranged_more, RefusesLength};
+ghost use Rattle.yaml_spell.specs.RankedNodes.{Ready, tree_of};
 
 use crate::length::Length;
 use crate::names::Names;
+use crate::ranked::RankedNodes;
+use crate::ranked_graph::RankedGraph;
 use crate::sink::Sink;
 use crate::walk::{notice, write_node};
 use std::alloc::Global;
-use yaml_levels::ranks::Ranks;
 use yaml_nodes::graph::Graph;
-use yaml_nodes::node::NodeId;
+use yaml_levels::ranks::Ranks;
 use yaml_text::fault::Fault;
 use yaml_text::limits::text_limit;
 
 /// Writes a document: its start, the text of its root, and the end of the line.
-fn write_document<O, S: Sink<O>>(
-    graph: &Graph<'_>,
-    ranks: &Ranks,
+fn write_document<I: Copy, V: RankedNodes<I>, O, S: Sink<O>>(
+    view: &V,
     names: &mut Names,
-    root: NodeId,
+    root: I,
     sink: &mut S,
     out: &mut O,
 ) -> Result<(), Fault>
-    requires within { root.0 < length (nodes_of graph.now) }
-    requires ranked { RanksAre graph.now ranks.now }
-    requires long { ranks_in names.old ≡ length (nodes_of graph.now) }
+    requires ready { Ready V.stands V.count view.now names.old }
+    requires within { V.number root < V.count view.now }
     requires few { document_number names.old < 2 ^ 63 }
-    ensures long { ranks_in names.new ≡ ranks_in names.old }
-    ensures document { document_number names.new ≡ document_number names.old + 1 }
-    ensures ok { OnOk result (Puts S.holds sink.old out.old sink.new out.new (document_text (tree graph.now root.0))) }
-    ensures err { IfErr result (λ fault. Fails S.holds S.stops sink.old out.old out.new fault (document_text (tree graph.now root.0))) }
+    ensures next { NextDocument names.old names.new }
+    ensures ok { OnOk result (Puts S.holds sink.old out.old sink.new out.new (arranged_text (V.tree view.now (V.number root)))) }
+    ensures err { IfErr result (λ fault. Fails S.holds S.stops sink.old out.old out.new fault (arranged_text (V.tree view.now (V.number root)))) }
 {
+    view.tells();
     names.begin();
-    notice(graph, ranks, names, root);
+    notice(view, names, root);
     sink.put(out, "--- ")?;
-    write_node(graph, ranks, names, root, sink, out)?;
+    write_node(view, names, root, sink, out)?;
     sink.put(out, "\n")
+}
+
+/// Writes the documents of these roots, each from its own first node on. `names` has begun none.
+pub fn write_ranked<I: Copy, V: RankedNodes<I>, O, S: Sink<O>>(
+    view: &V,
+    names: &mut Names,
+    roots: &[I],
+    sink: &mut S,
+    out: &mut O,
+) -> Result<(), Fault>
+    requires ready { Ready V.stands V.count view.now names.old }
+    requires within { All (λ i. V.number i < V.count view.now) roots.now }
+    requires few { length roots.now < 2 ^ 63 }
+    requires fresh { document_number names.old ≡ 0 }
+    ensures ok { OnOk result (Puts S.holds sink.old out.old sink.new out.new (arranged_more (map (tree_of V.tree V.number view.now) roots.now))) }
+    ensures err { IfErr result (λ fault. Fails S.holds S.stops sink.old out.old out.new fault (arranged_more (map (tree_of V.tree V.number view.now) roots.now))) }
+{
+    for root in roots {
+        write_document(view, names, *root, sink, out)?;
+    }
+    Ok(())
 }
 
 /// Writes the documents of a graph, each from its own first node on. `names` has begun none.
@@ -59,10 +80,13 @@ pub fn write_documents<O, S: Sink<O>>(
     ensures ok { OnOk result (Puts S.holds sink.old out.old sink.new out.new (spell_more (forest graph.now))) }
     ensures err { IfErr result (λ fault. Fails S.holds S.stops sink.old out.old out.new fault (spell_more (forest graph.now))) }
 {
-    for root in graph.roots() {
-        write_document(graph, ranks, names, *root, sink, out)?;
-    }
-    Ok(())
+    write_ranked(
+        &RankedGraph { graph, ranks },
+        names,
+        graph.roots(),
+        sink,
+        out,
+    )
 }
 
 /// The length of the canonical text of a graph's documents, in bytes; no text is made. A text of

@@ -1,96 +1,67 @@
-//! The walk of a graph in writing order, by ranks.
-ghost use Rattle.std.specs.Prelude.{◌≡◌, ◌<◌, ◌++◌, ◌∷◌, [], length, map, OnOk, IfErr};
+//! The walk of ranked nodes in writing order.
+ghost use Rattle.std.specs.Prelude.{◌≡◌, ◌<◌, ◌++◌, ◌∷◌, [], OnOk, IfErr};
 ghost use Rattle.std.specs.List.{All};
-ghost use Rattle.yaml_definitions.specs.model.Order.{arranged};
-ghost use Rattle.yaml_nodes.specs.GraphView.{nodes_of, tree};
-ghost use Rattle.yaml_nodes.specs.TreeLists.{trees, pairs};
-ghost use Rattle.yaml_levels.specs.RankModel.{key_pair};
-ghost use Rattle.yaml_levels.specs.RanksView.{RanksAre};
-ghost use Rattle.yaml_spell.specs.NamesView.{ranks_in, document_number, count_of, table_of, given_of, opening_number};
+ghost use Rattle.yaml_spell.specs.NamesView.{ranks_in, document_number, table_of, given_of, opening_number, SameDocument, NamesNone};
 ghost use Rattle.yaml_spell.specs.Pieces.{Puts, Fails};
 ghost use Rattle.yaml_definitions.specs.canonical.NodeText.{node_text, items_text, pairs_text};
-ghost use Rattle.yaml_spell.specs.RankView.{rank_in};
+ghost use Rattle.yaml_spell.specs.RankedNodes.{Ready, trees_of, pairs_of};
 ghost use Rattle.yaml_spell.specs.Walked.{noticed, noticed_all, noticed_pairs, opening_of, begun_unless_short, separator, given, given_all, given_pairs, given_inside, written, written_all, written_pairs, behind_anchor};
 
 use crate::names::{Names, Opening};
 use crate::node::is_short;
 use crate::parts::{Kind, put_alias, put_anchor, put_scalar, put_tag};
+use crate::ranked::RankedNodes;
+use crate::shown::Inside;
 use crate::sink::Sink;
-use yaml_levels::ranks::Ranks;
-use yaml_nodes::graph::Graph;
-use yaml_nodes::node::{NodeId, NodeKind};
 use yaml_text::fault::Fault;
 
 /// Notes which ranks are met in the tree of a node, and which come again. A node that comes again is
 /// not entered.
 #[cycle(notice)]
-pub(crate) fn notice(graph: &Graph<'_>, ranks: &Ranks, names: &mut Names, id: NodeId)
-    requires within { id.0 < length (nodes_of graph.now) }
-    requires ranked { RanksAre graph.now ranks.now }
-    requires long { ranks_in names.old ≡ length (nodes_of graph.now) }
-    ensures table { table_of names.new ≡ noticed (rank_in graph.now ranks.now) (arranged (tree graph.now id.0)) (table_of names.old) }
-    ensures long { ranks_in names.new ≡ ranks_in names.old }
-    ensures document { document_number names.new ≡ document_number names.old }
-    ensures count { count_of names.new ≡ count_of names.old }
+pub(crate) fn notice<I: Copy, V: RankedNodes<I>>(view: &V, names: &mut Names, id: I)
+    requires ready { Ready V.stands V.count view.now names.old }
+    requires within { V.number id < V.count view.now }
+    ensures table { table_of names.new ≡ noticed (V.rank view.now) (V.tree view.now (V.number id)) (table_of names.old) }
+    ensures others { NamesNone names.old names.new }
 {
-    let node = graph.node(id);
-    if is_short(node) {
+    let node = view.node(id);
+    if is_short(&node) {
         return;
     }
-    if !names.meet(ranks.of(id)) {
+    if !names.meet(view.rank(id)) {
         return;
     }
-    match &node.kind {
-        NodeKind::Scalar(_) => {}
-        NodeKind::Sequence(items) => notice_items(graph, ranks, names, id, items),
-        NodeKind::Mapping(_) => notice_entries(graph, ranks, names, id, ranks.sorted(id)),
+    match node.inside {
+        Inside::Scalar(_) => {}
+        Inside::Sequence(items) => notice_items(view, names, items),
+        Inside::Mapping(entries) => notice_entries(view, names, entries),
     }
 }
 
-/// The same of the items of a node.
+/// The same of items.
 #[cycle(notice)]
-fn notice_items(
-    graph: &Graph<'_>,
-    ranks: &Ranks,
-    names: &mut Names,
-    owner: NodeId,
-    items: &[NodeId],
-)
-    requires within { owner.0 < length (nodes_of graph.now) }
-    requires below { All (λ i. i.0 < owner.0) items.now }
-    requires ranked { RanksAre graph.now ranks.now }
-    requires long { ranks_in names.old ≡ length (nodes_of graph.now) }
-    ensures table { table_of names.new ≡ noticed_all (rank_in graph.now ranks.now) (trees (map (λ i. arranged (tree graph.now i.0)) items.now)) (table_of names.old) }
-    ensures long { ranks_in names.new ≡ ranks_in names.old }
-    ensures document { document_number names.new ≡ document_number names.old }
-    ensures count { count_of names.new ≡ count_of names.old }
+fn notice_items<I: Copy, V: RankedNodes<I>>(view: &V, names: &mut Names, items: &[I])
+    requires ready { Ready V.stands V.count view.now names.old }
+    requires within { All (λ i. V.number i < V.count view.now) items.now }
+    ensures table { table_of names.new ≡ noticed_all (V.rank view.now) (trees_of V.tree V.number view.now items.now) (table_of names.old) }
+    ensures others { NamesNone names.old names.new }
 {
     for item in items {
-        notice(graph, ranks, names, *item);
+        notice(view, names, *item);
     }
 }
 
-/// The same of the entries of a node.
+/// The same of entries.
 #[cycle(notice)]
-fn notice_entries(
-    graph: &Graph<'_>,
-    ranks: &Ranks,
-    names: &mut Names,
-    owner: NodeId,
-    entries: &[(NodeId, NodeId)],
-)
-    requires within { owner.0 < length (nodes_of graph.now) }
-    requires below { All (λ p. (p.0.0 < owner.0) × (p.1.0 < owner.0)) entries.now }
-    requires ranked { RanksAre graph.now ranks.now }
-    requires long { ranks_in names.old ≡ length (nodes_of graph.now) }
-    ensures table { table_of names.new ≡ noticed_pairs (rank_in graph.now ranks.now) (pairs (map (key_pair graph.now) entries.now)) (table_of names.old) }
-    ensures long { ranks_in names.new ≡ ranks_in names.old }
-    ensures document { document_number names.new ≡ document_number names.old }
-    ensures count { count_of names.new ≡ count_of names.old }
+fn notice_entries<I: Copy, V: RankedNodes<I>>(view: &V, names: &mut Names, entries: &[(I, I)])
+    requires ready { Ready V.stands V.count view.now names.old }
+    requires within { All (λ p. (V.number p.0 < V.count view.now) × (V.number p.1 < V.count view.now)) entries.now }
+    ensures table { table_of names.new ≡ noticed_pairs (V.rank view.now) (pairs_of V.tree V.number view.now entries.now) (table_of names.old) }
+    ensures others { NamesNone names.old names.new }
 {
     for entry in entries {
-        notice(graph, ranks, names, entry.0);
-        notice(graph, ranks, names, entry.1);
+        notice(view, names, entry.0);
+        notice(view, names, entry.1);
     }
 }
 
@@ -123,124 +94,107 @@ fn put_separator<O, S: Sink<O>>(sink: &mut S, out: &mut O, place: usize) -> Resu
 /// Writes a node: an alias where its rank came before in its document and is not short, else its
 /// anchor, if its rank comes again, and what stands behind that.
 #[cycle(write)]
-pub(crate) fn write_node<O, S: Sink<O>>(
-    graph: &Graph<'_>,
-    ranks: &Ranks,
+pub(crate) fn write_node<I: Copy, V: RankedNodes<I>, O, S: Sink<O>>(
+    view: &V,
     names: &mut Names,
-    id: NodeId,
+    id: I,
     sink: &mut S,
     out: &mut O,
 ) -> Result<(), Fault>
-    requires within { id.0 < length (nodes_of graph.now) }
-    requires ranked { RanksAre graph.now ranks.now }
-    requires long { ranks_in names.old ≡ length (nodes_of graph.now) }
-    ensures long { ranks_in names.new ≡ ranks_in names.old }
-    ensures document { document_number names.new ≡ document_number names.old }
-    ensures known { OnOk result (given_of names.new ≡ given (rank_in graph.now ranks.now) (arranged (tree graph.now id.0)) (given_of names.old)) }
-    ensures ok { OnOk result (Puts S.holds sink.old out.old sink.new out.new (node_text (written (rank_in graph.now ranks.now) (arranged (tree graph.now id.0)) (given_of names.old)))) }
-    ensures err { IfErr result (λ fault. Fails S.holds S.stops sink.old out.old out.new fault (node_text (written (rank_in graph.now ranks.now) (arranged (tree graph.now id.0)) (given_of names.old)))) }
+    requires ready { Ready V.stands V.count view.now names.old }
+    requires within { V.number id < V.count view.now }
+    ensures same { SameDocument names.old names.new }
+    ensures known { OnOk result (given_of names.new ≡ given (V.rank view.now) (V.tree view.now (V.number id)) (given_of names.old)) }
+    ensures ok { OnOk result (Puts S.holds sink.old out.old sink.new out.new (node_text (written (V.rank view.now) (V.tree view.now (V.number id)) (given_of names.old)))) }
+    ensures err { IfErr result (λ fault. Fails S.holds S.stops sink.old out.old out.new fault (node_text (written (V.rank view.now) (V.tree view.now (V.number id)) (given_of names.old)))) }
 {
-    let opening = start(names, is_short(graph.node(id)), ranks.of(id));
+    let opening = start(names, is_short(&view.node(id)), view.rank(id));
     match opening {
         Opening::Alias(number) => put_alias(sink, out, number),
         Opening::Anchored(number) => {
             put_anchor(sink, out, number)?;
-            write_inside(graph, ranks, names, id, sink, out)
+            write_inside(view, names, id, sink, out)
         }
-        Opening::Plain => write_inside(graph, ranks, names, id, sink, out),
+        Opening::Plain => write_inside(view, names, id, sink, out),
     }
 }
 
 /// Writes a node's tag and content.
 #[cycle(write)]
-fn write_inside<O, S: Sink<O>>(
-    graph: &Graph<'_>,
-    ranks: &Ranks,
+fn write_inside<I: Copy, V: RankedNodes<I>, O, S: Sink<O>>(
+    view: &V,
     names: &mut Names,
-    id: NodeId,
+    id: I,
     sink: &mut S,
     out: &mut O,
 ) -> Result<(), Fault>
-    requires within { id.0 < length (nodes_of graph.now) }
-    requires ranked { RanksAre graph.now ranks.now }
-    requires long { ranks_in names.old ≡ length (nodes_of graph.now) }
-    ensures long { ranks_in names.new ≡ ranks_in names.old }
-    ensures document { document_number names.new ≡ document_number names.old }
-    ensures known { OnOk result (given_of names.new ≡ given_inside (rank_in graph.now ranks.now) (arranged (tree graph.now id.0)) (given_of names.old)) }
-    ensures ok { OnOk result (Puts S.holds sink.old out.old sink.new out.new (behind_anchor (rank_in graph.now ranks.now) (arranged (tree graph.now id.0)) (given_of names.old))) }
-    ensures err { IfErr result (λ fault. Fails S.holds S.stops sink.old out.old out.new fault (behind_anchor (rank_in graph.now ranks.now) (arranged (tree graph.now id.0)) (given_of names.old))) }
+    requires ready { Ready V.stands V.count view.now names.old }
+    requires within { V.number id < V.count view.now }
+    ensures same { SameDocument names.old names.new }
+    ensures known { OnOk result (given_of names.new ≡ given_inside (V.rank view.now) (V.tree view.now (V.number id)) (given_of names.old)) }
+    ensures ok { OnOk result (Puts S.holds sink.old out.old sink.new out.new (behind_anchor (V.rank view.now) (V.tree view.now (V.number id)) (given_of names.old))) }
+    ensures err { IfErr result (λ fault. Fails S.holds S.stops sink.old out.old out.new fault (behind_anchor (V.rank view.now) (V.tree view.now (V.number id)) (given_of names.old))) }
 {
-    let node = graph.node(id);
-    let tag = node.tag.as_str();
-    match &node.kind {
-        NodeKind::Scalar(content) => put_scalar(sink, out, tag, content.as_str()),
-        NodeKind::Sequence(items) => {
-            put_tag(sink, out, tag, Kind::Sequence)?;
-            write_items(graph, ranks, names, id, items, sink, out)
+    let node = view.node(id);
+    match node.inside {
+        Inside::Scalar(content) => put_scalar(sink, out, node.tag, content),
+        Inside::Sequence(items) => {
+            put_tag(sink, out, node.tag, Kind::Sequence)?;
+            write_items(view, names, items, sink, out)
         }
-        NodeKind::Mapping(_) => {
-            put_tag(sink, out, tag, Kind::Mapping)?;
-            write_entries(graph, ranks, names, id, ranks.sorted(id), sink, out)
+        Inside::Mapping(entries) => {
+            put_tag(sink, out, node.tag, Kind::Mapping)?;
+            write_entries(view, names, entries, sink, out)
         }
     }
 }
 
-/// Writes the items of a node between brackets.
+/// Writes items between brackets.
 #[cycle(write)]
-fn write_items<O, S: Sink<O>>(
-    graph: &Graph<'_>,
-    ranks: &Ranks,
+fn write_items<I: Copy, V: RankedNodes<I>, O, S: Sink<O>>(
+    view: &V,
     names: &mut Names,
-    owner: NodeId,
-    items: &[NodeId],
+    items: &[I],
     sink: &mut S,
     out: &mut O,
 ) -> Result<(), Fault>
-    requires within { owner.0 < length (nodes_of graph.now) }
-    requires below { All (λ i. i.0 < owner.0) items.now }
-    requires ranked { RanksAre graph.now ranks.now }
-    requires long { ranks_in names.old ≡ length (nodes_of graph.now) }
-    ensures long { ranks_in names.new ≡ ranks_in names.old }
-    ensures document { document_number names.new ≡ document_number names.old }
-    ensures known { OnOk result (given_of names.new ≡ given_all (rank_in graph.now ranks.now) (trees (map (λ i. arranged (tree graph.now i.0)) items.now)) (given_of names.old)) }
-    ensures ok { OnOk result (Puts S.holds sink.old out.old sink.new out.new (λ more. 91 ∷ items_text [] (written_all (rank_in graph.now ranks.now) (trees (map (λ i. arranged (tree graph.now i.0)) items.now)) (given_of names.old)) more)) }
-    ensures err { IfErr result (λ fault. Fails S.holds S.stops sink.old out.old out.new fault (λ more. 91 ∷ items_text [] (written_all (rank_in graph.now ranks.now) (trees (map (λ i. arranged (tree graph.now i.0)) items.now)) (given_of names.old)) more)) }
+    requires ready { Ready V.stands V.count view.now names.old }
+    requires within { All (λ i. V.number i < V.count view.now) items.now }
+    ensures same { SameDocument names.old names.new }
+    ensures known { OnOk result (given_of names.new ≡ given_all (V.rank view.now) (trees_of V.tree V.number view.now items.now) (given_of names.old)) }
+    ensures ok { OnOk result (Puts S.holds sink.old out.old sink.new out.new (λ more. 91 ∷ items_text [] (written_all (V.rank view.now) (trees_of V.tree V.number view.now items.now) (given_of names.old)) more)) }
+    ensures err { IfErr result (λ fault. Fails S.holds S.stops sink.old out.old out.new fault (λ more. 91 ∷ items_text [] (written_all (V.rank view.now) (trees_of V.tree V.number view.now items.now) (given_of names.old)) more)) }
 {
     sink.put(out, "[")?;
     for (place, item) in items.iter().enumerate() {
         put_separator(sink, out, place)?;
-        write_node(graph, ranks, names, *item, sink, out)?;
+        write_node(view, names, *item, sink, out)?;
     }
     sink.put(out, "]")
 }
 
-/// Writes the entries of a node between braces.
+/// Writes entries between braces.
 #[cycle(write)]
-fn write_entries<O, S: Sink<O>>(
-    graph: &Graph<'_>,
-    ranks: &Ranks,
+fn write_entries<I: Copy, V: RankedNodes<I>, O, S: Sink<O>>(
+    view: &V,
     names: &mut Names,
-    owner: NodeId,
-    entries: &[(NodeId, NodeId)],
+    entries: &[(I, I)],
     sink: &mut S,
     out: &mut O,
 ) -> Result<(), Fault>
-    requires within { owner.0 < length (nodes_of graph.now) }
-    requires below { All (λ p. (p.0.0 < owner.0) × (p.1.0 < owner.0)) entries.now }
-    requires ranked { RanksAre graph.now ranks.now }
-    requires long { ranks_in names.old ≡ length (nodes_of graph.now) }
-    ensures long { ranks_in names.new ≡ ranks_in names.old }
-    ensures document { document_number names.new ≡ document_number names.old }
-    ensures known { OnOk result (given_of names.new ≡ given_pairs (rank_in graph.now ranks.now) (pairs (map (key_pair graph.now) entries.now)) (given_of names.old)) }
-    ensures ok { OnOk result (Puts S.holds sink.old out.old sink.new out.new (λ more. 123 ∷ pairs_text [] (written_pairs (rank_in graph.now ranks.now) (pairs (map (key_pair graph.now) entries.now)) (given_of names.old)) more)) }
-    ensures err { IfErr result (λ fault. Fails S.holds S.stops sink.old out.old out.new fault (λ more. 123 ∷ pairs_text [] (written_pairs (rank_in graph.now ranks.now) (pairs (map (key_pair graph.now) entries.now)) (given_of names.old)) more)) }
+    requires ready { Ready V.stands V.count view.now names.old }
+    requires within { All (λ p. (V.number p.0 < V.count view.now) × (V.number p.1 < V.count view.now)) entries.now }
+    ensures same { SameDocument names.old names.new }
+    ensures known { OnOk result (given_of names.new ≡ given_pairs (V.rank view.now) (pairs_of V.tree V.number view.now entries.now) (given_of names.old)) }
+    ensures ok { OnOk result (Puts S.holds sink.old out.old sink.new out.new (λ more. 123 ∷ pairs_text [] (written_pairs (V.rank view.now) (pairs_of V.tree V.number view.now entries.now) (given_of names.old)) more)) }
+    ensures err { IfErr result (λ fault. Fails S.holds S.stops sink.old out.old out.new fault (λ more. 123 ∷ pairs_text [] (written_pairs (V.rank view.now) (pairs_of V.tree V.number view.now entries.now) (given_of names.old)) more)) }
 {
     sink.put(out, "{")?;
     for (place, entry) in entries.iter().enumerate() {
         put_separator(sink, out, place)?;
-        write_node(graph, ranks, names, entry.0, sink, out)?;
+        write_node(view, names, entry.0, sink, out)?;
         sink.put(out, " : ")?;
-        write_node(graph, ranks, names, entry.1, sink, out)?;
+        write_node(view, names, entry.1, sink, out)?;
     }
     sink.put(out, "}")
 }

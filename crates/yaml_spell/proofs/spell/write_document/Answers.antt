@@ -1,8 +1,5 @@
 use Rattle.std.proofs.Common.{◌≡◌, ◌∙◌, ap, rules}
-use Rattle.yaml_definitions.specs.model.Order.{arranged}
-use Rattle.yaml_nodes.specs.GraphView.{tree}
 use Rattle.yaml_spell.specs.NamesView.{given_of}
-use Rattle.yaml_spell.specs.RankView.{rank_in}
 use Rattle.yaml_spell.specs.Walked.{noticed}
 use Rattle.yaml_spell.specs.declared.names.State.TheVariants.{Unseen}
 use Rattle.yaml_spell.proofs.PieceLaws.{on_ok, if_err}
@@ -11,34 +8,37 @@ use Rattle.yaml_spell.proofs.spell.write_document.Goals as goal
 
 pub returns-in_err-write_node-clause-err : goal.returns-in_err-write_node-clause-err
 returns-in_err-write_node-clause-err g c =
-    let G = c.args.graph.now in
-    let K = c.args.ranks.now in
-    let i = c.args.root.0 in
-    let R = rank_in G K in
+    let N = g.V.RankedNodes.number in
+    let v = c.args.view.now in
+    let R = g.V.RankedNodes.rank v in
+    let T = g.V.RankedNodes.tree v in
+    let i = N c.args.root in
     let p = given_of c.notice.new.names in
-    let e : p ≡ (noticed R (arranged (tree G i)) (λ _. Unseen), 0) = (λ z. ((c.notice.ensures.table ∙ ap (noticed R (arranged (tree G i))) c.begin.ensures.table) z, (c.notice.ensures.count ∙ c.begin.ensures.count) z)) in
-    let m = marks-there G K c.requires.ranked i p c.requires.within e in
-    let f = document_broken g.S.Sink.holds g.S.Sink.stops (tree G i) _ c.args.sink.now c.args.out.now c.put.new.self c.put.new.out c.write_node.new.out c.in_err-write_node.field-0.0 m c.in_ok-put.ensures.ok c.in_err-write_node.ensures.err in
+    let e : p ≡ (noticed R (T i) (λ _. Unseen), 0) = (λ z. ((c.notice.ensures.table ∙ ap (noticed R (T i)) c.begin.ensures.table) z, (c.notice.ensures.others.count ∙ c.begin.ensures.count) z)) in
+    let m = marks-there (g.V.RankedNodes.count v) T R c.tells.ensures i p c.requires.within e in
+    let f = document_broken g.S.Sink.holds g.S.Sink.stops (T i) _ c.args.sink.now c.args.out.now c.put.new.self c.put.new.out c.write_node.new.out c.in_err-write_node.field-0.0 m c.in_ok-put.ensures.ok c.in_err-write_node.ensures.err in
     search (rules, f)
 
 pub returns-clause-ok : goal.returns-clause-ok
 returns-clause-ok g c =
-    let G = c.args.graph.now in
-    let K = c.args.ranks.now in
-    let i = c.args.root.0 in
-    let R = rank_in G K in
+    let N = g.V.RankedNodes.number in
+    let v = c.args.view.now in
+    let R = g.V.RankedNodes.rank v in
+    let T = g.V.RankedNodes.tree v in
+    let i = N c.args.root in
     let p = given_of c.notice.new.names in
-    let e : p ≡ (noticed R (arranged (tree G i)) (λ _. Unseen), 0) = (λ z. ((c.notice.ensures.table ∙ ap (noticed R (arranged (tree G i))) c.begin.ensures.table) z, (c.notice.ensures.count ∙ c.begin.ensures.count) z)) in
-    let m = marks-there G K c.requires.ranked i p c.requires.within e in
-    on_ok c.put-2.result c.put-2.ensures.ok (λ h. document_put g.S.Sink.holds g.S.Sink.stops (tree G i) _ c.args.sink.now c.args.out.now c.put.new.self c.put.new.out c.write_node.new.sink c.write_node.new.out c.put-2.new.self c.put-2.new.out m c.in_ok-put.ensures.ok c.in_ok-write_node.ensures.ok h)
+    let e : p ≡ (noticed R (T i) (λ _. Unseen), 0) = (λ z. ((c.notice.ensures.table ∙ ap (noticed R (T i)) c.begin.ensures.table) z, (c.notice.ensures.others.count ∙ c.begin.ensures.count) z)) in
+    let m = marks-there (g.V.RankedNodes.count v) T R c.tells.ensures i p c.requires.within e in
+    on_ok c.put-2.result c.put-2.ensures.ok (λ h. document_put g.S.Sink.holds g.S.Sink.stops (T i) _ c.args.sink.now c.args.out.now c.put.new.self c.put.new.out c.write_node.new.sink c.write_node.new.out c.put-2.new.self c.put-2.new.out m c.in_ok-put.ensures.ok c.in_ok-write_node.ensures.ok h)
 
 pub returns-clause-err : goal.returns-clause-err
 returns-clause-err g c =
-    let G = c.args.graph.now in
-    let K = c.args.ranks.now in
-    let i = c.args.root.0 in
-    let R = rank_in G K in
+    let N = g.V.RankedNodes.number in
+    let v = c.args.view.now in
+    let R = g.V.RankedNodes.rank v in
+    let T = g.V.RankedNodes.tree v in
+    let i = N c.args.root in
     let p = given_of c.notice.new.names in
-    let e : p ≡ (noticed R (arranged (tree G i)) (λ _. Unseen), 0) = (λ z. ((c.notice.ensures.table ∙ ap (noticed R (arranged (tree G i))) c.begin.ensures.table) z, (c.notice.ensures.count ∙ c.begin.ensures.count) z)) in
-    let m = marks-there G K c.requires.ranked i p c.requires.within e in
-    if_err c.put-2.result c.put-2.ensures.err (λ fault h. document_unended g.S.Sink.holds g.S.Sink.stops (tree G i) _ c.args.sink.now c.args.out.now c.put.new.self c.put.new.out c.write_node.new.sink c.write_node.new.out c.put-2.new.out fault m c.in_ok-put.ensures.ok c.in_ok-write_node.ensures.ok h)
+    let e : p ≡ (noticed R (T i) (λ _. Unseen), 0) = (λ z. ((c.notice.ensures.table ∙ ap (noticed R (T i)) c.begin.ensures.table) z, (c.notice.ensures.others.count ∙ c.begin.ensures.count) z)) in
+    let m = marks-there (g.V.RankedNodes.count v) T R c.tells.ensures i p c.requires.within e in
+    if_err c.put-2.result c.put-2.ensures.err (λ fault h. document_unended g.S.Sink.holds g.S.Sink.stops (T i) _ c.args.sink.now c.args.out.now c.put.new.self c.put.new.out c.write_node.new.sink c.write_node.new.out c.put-2.new.out fault m c.in_ok-put.ensures.ok c.in_ok-write_node.ensures.ok h)

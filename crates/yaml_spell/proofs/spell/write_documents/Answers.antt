@@ -1,22 +1,25 @@
-use Rattle.std.proofs.Common.{◌+◌, ◌∙◌, ap, arith, refl}
-use Rattle.yaml_nodes.specs.GraphView.{tree}
+use Rattle.std.proofs.Common.{◌<◌, ◌∙◌, map, length, ap, subst, sym, rules}
+use Rattle.std.specs.List.{All}
+use Rattle.yaml_definitions.specs.model.Order.{arranged}
+use Rattle.yaml_nodes.specs.GraphView.{nodes_of, roots_of, tree}
 use Rattle.yaml_nodes.specs.declared.node.NodeId.{NodeId}
-use Rattle.yaml_spell.specs.Documents.{spell_more}
-use Rattle.std.proofs.Common.{map}
-use Rattle.yaml_spell.proofs.PieceLaws.{puts_none}
-use Rattle.yaml_spell.proofs.DocumentLaws.{next_document}
+use Rattle.yaml_spell.specs.Documents.{arranged_more}
+use Rattle.yaml_spell.proofs.PieceLaws.{on_ok, if_err, puts_as, fails_as}
+use Rattle.yaml_spell.proofs.DocumentLaws.{arranged_same}
 use Rattle.yaml_spell.proofs.spell.write_documents.Goals as goal
 
-pub loop-root-init : goal.loop-root-init
-loop-root-init g c = record {
-  long = refl;
-  document = c.requires.fresh;
-  left = record { front = λ more. more; puts = puts_none g.S.Sink.holds c.args.sink.now c.args.out.now; is = λ more. ap (λ z. spell_more (map (λ (i : NodeId). tree c.args.graph.now i.0) z) more) c.roots-root-items.ensures };
-}
+pub returns-clause-ok : goal.returns-clause-ok
+returns-clause-ok g c =
+    let G = c.args.graph.now in
+    on_ok c.write_ranked.result c.write_ranked.ensures.ok (λ h. puts_as g.S.Sink.holds _ _ _ _ _ _ h (λ more. ap (λ z. arranged_more (map (λ (i : NodeId). arranged (tree G i.0)) z) more) c.roots.ensures ∙ arranged_same (λ (i : NodeId). tree G i.0) (roots_of G) more))
 
-pub loop-root-preserved : goal.loop-root-preserved
-loop-root-preserved g c = record {
-  long = c.write_document.ensures.long ∙ c.loop-root.invariant.long;
-  document = c.write_document.ensures.document ∙ ap (λ n. n + 1) c.loop-root.invariant.document;
-  left = next_document g.S.Sink.holds g.S.Sink.stops (λ (i : NodeId). tree c.args.graph.now i.0) c.roots-root-items.result.now _ c.loop-root.root-index _ c.args.sink.now c.args.out.now c.loop-root.sink c.loop-root.out c.write_document.new.sink c.write_document.new.out (omega arith) c.loop-root.invariant.left c.in_ok-write_document.ensures.ok;
-}
+pub returns-clause-err : goal.returns-clause-err
+returns-clause-err g c =
+    let G = c.args.graph.now in
+    if_err c.write_ranked.result c.write_ranked.ensures.err (λ fault h. fails_as g.S.Sink.holds g.S.Sink.stops _ _ _ fault _ _ h (λ more. ap (λ z. arranged_more (map (λ (i : NodeId). arranged (tree G i.0)) z) more) c.roots.ensures ∙ arranged_same (λ (i : NodeId). tree G i.0) (roots_of G) more))
+
+pub write_ranked-requires : goal.write_ranked-requires
+write_ranked-requires g c =
+    let G = c.args.graph.now in
+    let within : All (λ (i : NodeId). i.0 < length (nodes_of G)) c.roots.result.now = subst (All (λ (i : NodeId). i.0 < length (nodes_of G))) (sym c.roots.ensures) G.rooted in
+    search rules

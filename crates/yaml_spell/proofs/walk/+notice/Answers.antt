@@ -1,95 +1,159 @@
-use Rattle.std.proofs.Common.{◌≡◌, false, true, sym, ◌∙◌, ap, rules, arith}
-use Rattle.yaml_definitions.specs.model.Order.{arranged}
+use Rattle.std.proofs.Common.{◌≡◌, ◌+◌, ◌*◌, ◌<◌, false, true, sym, ◌∙◌, ap, rules, arith}
+use Rattle.yaml_definitions.specs.model.Tree.{height, heights, heights_of_pairs}
 use Rattle.yaml_definitions.specs.canonical.Spell.{short}
-use Rattle.yaml_nodes.specs.GraphView.{tree}
-use Rattle.yaml_levels.specs.RankModel.{key_pair}
-use Rattle.yaml_spell.specs.RankView.{rank_in}
 use Rattle.yaml_spell.specs.Known.{is_unseen}
 use Rattle.yaml_spell.specs.NamesView.{met_at, table_of}
+use Rattle.yaml_spell.specs.RankedNodes.{tree_of, pair_of, trees_of, pairs_of}
 use Rattle.yaml_spell.specs.Walked.{noticed_all, noticed_pairs}
-use Rattle.yaml_spell.proofs.WalkLaws.{noticed_short, noticed_again, noticed_scalar, noticed_sequence, noticed_mapping, items_noticed, items_done, entries_noticed, entries_done, short-there, scalar-there, sequence-there, mapping-there, sorted-below}
-use Rattle.yaml_spell.proofs.RankLaws.{rank-there}
+use Rattle.yaml_spell.proofs.NamesLaws.{none_then, still}
+use Rattle.yaml_spell.proofs.ShownLaws.{short-is, scalar-shown, sequence-shown, mapping-shown, items-within, entries-within, sequence-high, mapping-high, item-lower, key-lower, value-lower, item-in}
+use Rattle.yaml_spell.proofs.WalkLaws.{drop_item, noticed_short, noticed_again, noticed_scalar, noticed_sequence, noticed_mapping, items_noticed, items_done, entries_noticed, entries_done}
 use Rattle.yaml_spell.proofs.walk.+notice.Goals as goal
 
 pub notice-returns-then-is_short-clause-table : goal.notice-returns-then-is_short-clause-table
-notice-returns-then-is_short-clause-table t c =
-    let g = c.args.graph.now in
-    let r = c.args.ranks.now in
-    let q = c.requires in
-    noticed_short (rank_in g r) (arranged (tree g c.args.id.0)) _ (short-there g r q.ranked c.args.id.0 c.node-node.result.now q.within c.node-node.ensures ∙ sym c.if-is_short.ensures)
+notice-returns-then-is_short-clause-table g w c =
+    let N = g.V.RankedNodes.number in
+    let v = c.args.view.now in
+    let R = g.V.RankedNodes.rank v in
+    let T = g.V.RankedNodes.tree v in
+    noticed_short R (T (N c.args.id)) _ (short-is N T _ _ _ c.node-node.ensures.tree ∙ sym c.if-is_short.ensures)
 
 pub notice-returns-then-not-meet-clause-table : goal.notice-returns-then-not-meet-clause-table
-notice-returns-then-not-meet-clause-table w c =
-    let g = c.args.graph.now in
-    let r = c.args.ranks.now in
-    let q = c.requires in
+notice-returns-then-not-meet-clause-table g w c =
+    let N = g.V.RankedNodes.number in
+    let v = c.args.view.now in
+    let R = g.V.RankedNodes.rank v in
+    let T = g.V.RankedNodes.tree v in
     let m = table_of c.args.names.now in
-    let t = arranged (tree g c.args.id.0) in
-    let e : c.of.result ≡ rank_in g r t = c.of.ensures ∙ sym (rank-there g r q.ranked c.args.id.0 q.within) in
-    let l : short t ≡ false = short-there g r q.ranked c.args.id.0 c.node-node.result.now q.within c.node-node.ensures ∙ sym c.if-is_short.ensures in
-    c.meet.ensures.table ∙ ap (λ z. met_at z m) e ∙ noticed_again (rank_in g r) t m l (ap (λ z. is_unseen (m z)) (sym e) ∙ sym c.if-not-meet.ensures.first)
+    let t = T (N c.args.id) in
+    let l : short t ≡ false = short-is N T t _ _ c.node-node.ensures.tree ∙ sym c.if-is_short.ensures in
+    c.meet.ensures.table ∙ ap (λ z. met_at z m) c.rank.ensures.is ∙ noticed_again R t m l (ap (λ z. is_unseen (m z)) (sym c.rank.ensures.is) ∙ sym c.if-not-meet.ensures.first)
 
 pub notice-returns-in-Scalar-clause-table : goal.notice-returns-in-Scalar-clause-table
-notice-returns-in-Scalar-clause-table w c =
-    let g = c.args.graph.now in
-    let r = c.args.ranks.now in
-    let q = c.requires in
+notice-returns-in-Scalar-clause-table g w c =
+    let N = g.V.RankedNodes.number in
+    let v = c.args.view.now in
+    let R = g.V.RankedNodes.rank v in
+    let T = g.V.RankedNodes.tree v in
     let m = table_of c.args.names.now in
-    let t = arranged (tree g c.args.id.0) in
-    let e : c.of.result ≡ rank_in g r t = c.of.ensures ∙ sym (rank-there g r q.ranked c.args.id.0 q.within) in
-    let l : short t ≡ false = short-there g r q.ranked c.args.id.0 c.node-node.result.now q.within c.node-node.ensures ∙ sym c.if-is_short.ensures in
-    let u : is_unseen (m (rank_in g r t)) ≡ true = ap (λ z. is_unseen (m z)) (sym e) ∙ sym c.if-not-meet.ensures.first in
-    c.meet.ensures.table ∙ ap (λ z. met_at z m) e ∙ noticed_scalar (rank_in g r) t _ _ m (scalar-there g r q.ranked c.args.id.0 c.node-node.result.now _ q.within c.node-node.ensures c.in-Scalar.is) l u
+    let t = T (N c.args.id) in
+    let l : short t ≡ false = short-is N T t _ _ c.node-node.ensures.tree ∙ sym c.if-is_short.ensures in
+    let u : is_unseen (m (R t)) ≡ true = ap (λ z. is_unseen (m z)) (sym c.rank.ensures.is) ∙ sym c.if-not-meet.ensures.first in
+    c.meet.ensures.table ∙ ap (λ z. met_at z m) c.rank.ensures.is ∙ noticed_scalar R t _ _ m (scalar-shown N T t _ _ _ c.node-node.ensures.tree c.in-Scalar.is) l u
 
 pub notice-returns-in-Sequence-clause-table : goal.notice-returns-in-Sequence-clause-table
-notice-returns-in-Sequence-clause-table w c =
-    let g = c.args.graph.now in
-    let r = c.args.ranks.now in
-    let q = c.requires in
+notice-returns-in-Sequence-clause-table g w c =
+    let N = g.V.RankedNodes.number in
+    let v = c.args.view.now in
+    let R = g.V.RankedNodes.rank v in
+    let T = g.V.RankedNodes.tree v in
     let m = table_of c.args.names.now in
-    let t = arranged (tree g c.args.id.0) in
-    let e : c.of.result ≡ rank_in g r t = c.of.ensures ∙ sym (rank-there g r q.ranked c.args.id.0 q.within) in
-    let l : short t ≡ false = short-there g r q.ranked c.args.id.0 c.node-node.result.now q.within c.node-node.ensures ∙ sym c.if-is_short.ensures in
-    let u : is_unseen (m (rank_in g r t)) ≡ true = ap (λ z. is_unseen (m z)) (sym e) ∙ sym c.if-not-meet.ensures.first in
-    let s = sequence-there g r q.ranked c.args.id.0 c.node-node.result.now _ _ q.within c.node-node.ensures c.in-Sequence.is c.deref.ensures.value in
-    noticed_sequence (rank_in g r) t _ _ m _ s l u (c.notice_items.ensures.table ∙ ap (noticed_all (rank_in g r) _) (c.meet.ensures.table ∙ ap (λ z. met_at z m) e))
+    let t = T (N c.args.id) in
+    let l : short t ≡ false = short-is N T t _ _ c.node-node.ensures.tree ∙ sym c.if-is_short.ensures in
+    let u : is_unseen (m (R t)) ≡ true = ap (λ z. is_unseen (m z)) (sym c.rank.ensures.is) ∙ sym c.if-not-meet.ensures.first in
+    let s = sequence-shown N T t _ _ _ c.node-node.ensures.tree c.in-Sequence.is in
+    noticed_sequence R t _ _ m _ s l u (c.notice_items.ensures.table ∙ ap (noticed_all R _) (c.meet.ensures.table ∙ ap (λ z. met_at z m) c.rank.ensures.is))
 
 pub notice-returns-in-Mapping-clause-table : goal.notice-returns-in-Mapping-clause-table
-notice-returns-in-Mapping-clause-table w c =
-    let g = c.args.graph.now in
-    let r = c.args.ranks.now in
-    let q = c.requires in
+notice-returns-in-Mapping-clause-table g w c =
+    let N = g.V.RankedNodes.number in
+    let v = c.args.view.now in
+    let R = g.V.RankedNodes.rank v in
+    let T = g.V.RankedNodes.tree v in
     let m = table_of c.args.names.now in
-    let t = arranged (tree g c.args.id.0) in
-    let e : c.of.result ≡ rank_in g r t = c.of.ensures ∙ sym (rank-there g r q.ranked c.args.id.0 q.within) in
-    let l : short t ≡ false = short-there g r q.ranked c.args.id.0 c.node-node.result.now q.within c.node-node.ensures ∙ sym c.if-is_short.ensures in
-    let u : is_unseen (m (rank_in g r t)) ≡ true = ap (λ z. is_unseen (m z)) (sym e) ∙ sym c.if-not-meet.ensures.first in
-    let s = mapping-there g r q.ranked c.args.id.0 c.node-node.result.now _ _ q.within c.node-node.ensures c.in-Mapping.is c.sorted.ensures in
-    noticed_mapping (rank_in g r) t _ _ m _ s l u (c.notice_entries.ensures.table ∙ ap (noticed_pairs (rank_in g r) _) (c.meet.ensures.table ∙ ap (λ z. met_at z m) e))
-
-pub notice-notice_entries-requires : goal.notice-notice_entries-requires
-notice-notice_entries-requires w c =
-    let b = sorted-below c.args.graph.now c.args.ranks.now c.requires.ranked c.args.id.0 c.node-node.result.now _ c.requires.within c.node-node.ensures c.sorted.ensures in
-    search (rules, b)
+    let t = T (N c.args.id) in
+    let l : short t ≡ false = short-is N T t _ _ c.node-node.ensures.tree ∙ sym c.if-is_short.ensures in
+    let u : is_unseen (m (R t)) ≡ true = ap (λ z. is_unseen (m z)) (sym c.rank.ensures.is) ∙ sym c.if-not-meet.ensures.first in
+    let s = mapping-shown N T t _ _ _ c.node-node.ensures.tree c.in-Mapping.is in
+    noticed_mapping R t _ _ m _ s l u (c.notice_entries.ensures.table ∙ ap (noticed_pairs R _) (c.meet.ensures.table ∙ ap (λ z. met_at z m) c.rank.ensures.is))
 
 pub notice_items-loop-item-preserved : goal.notice_items-loop-item-preserved
-notice_items-loop-item-preserved w c = record {
-  table = items_noticed (rank_in c.args.graph.now c.args.ranks.now) (λ i. arranged (tree c.args.graph.now i.0)) c.args.items.now c.loop-item.item-index _ _ _ _ (omega arith) c.loop-item.invariant.table c.notice.ensures.table;
-  long = c.notice.ensures.long ∙ c.loop-item.invariant.long;
-  document = c.notice.ensures.document ∙ c.loop-item.invariant.document;
-  count = c.notice.ensures.count ∙ c.loop-item.invariant.count;
-}
+notice_items-loop-item-preserved g w c =
+    let N = g.V.RankedNodes.number in
+    let v = c.args.view.now in
+    record {
+      table = items_noticed (g.V.RankedNodes.rank v) (tree_of g.V.RankedNodes.tree N v) c.args.items.now c.loop-item.item-index c.item-item.result _ _ _ (drop_item c.args.items.now c.loop-item.item-index c.item-item.result (omega arith) c.item-item.is) c.loop-item.invariant.table c.notice.ensures.table;
+      others = none_then c.notice.ensures.others c.loop-item.invariant.others;
+    }
 
 pub notice_items-returns-clause-table : goal.notice_items-returns-clause-table
-notice_items-returns-clause-table w c = items_done (rank_in c.args.graph.now c.args.ranks.now) (λ i. arranged (tree c.args.graph.now i.0)) c.args.items.now c.loop-item.item-index _ _ (omega arith) c.loop-item.invariant.table
+notice_items-returns-clause-table g w c =
+    let N = g.V.RankedNodes.number in
+    let v = c.args.view.now in
+    items_done (g.V.RankedNodes.rank v) (tree_of g.V.RankedNodes.tree N v) c.args.items.now c.loop-item.item-index _ _ (omega arith) c.loop-item.invariant.table
 
 pub notice_entries-loop-entry-preserved : goal.notice_entries-loop-entry-preserved
-notice_entries-loop-entry-preserved w c = record {
-  table = entries_noticed (rank_in c.args.graph.now c.args.ranks.now) (key_pair c.args.graph.now) c.args.entries.now c.loop-entry.entry-index _ _ _ _ _ (omega arith) c.loop-entry.invariant.table c.notice.ensures.table c.notice-in-loop-entry.ensures.table;
-  long = c.notice-in-loop-entry.ensures.long ∙ c.notice.ensures.long ∙ c.loop-entry.invariant.long;
-  document = c.notice-in-loop-entry.ensures.document ∙ c.notice.ensures.document ∙ c.loop-entry.invariant.document;
-  count = c.notice-in-loop-entry.ensures.count ∙ c.notice.ensures.count ∙ c.loop-entry.invariant.count;
-}
+notice_entries-loop-entry-preserved g w c =
+    let N = g.V.RankedNodes.number in
+    let v = c.args.view.now in
+    record {
+      table = entries_noticed (g.V.RankedNodes.rank v) (pair_of g.V.RankedNodes.tree N v) c.args.entries.now c.loop-entry.entry-index c.entry-item.result _ _ _ _ (drop_item c.args.entries.now c.loop-entry.entry-index c.entry-item.result (omega arith) c.entry-item.is) c.loop-entry.invariant.table c.notice.ensures.table c.notice-in-loop-entry.ensures.table;
+      others = none_then c.notice-in-loop-entry.ensures.others (none_then c.notice.ensures.others c.loop-entry.invariant.others);
+    }
 
 pub notice_entries-returns-clause-table : goal.notice_entries-returns-clause-table
-notice_entries-returns-clause-table w c = entries_done (rank_in c.args.graph.now c.args.ranks.now) (key_pair c.args.graph.now) c.args.entries.now c.loop-entry.entry-index _ _ (omega arith) c.loop-entry.invariant.table
+notice_entries-returns-clause-table g w c =
+    let N = g.V.RankedNodes.number in
+    let v = c.args.view.now in
+    entries_done (g.V.RankedNodes.rank v) (pair_of g.V.RankedNodes.tree N v) c.args.entries.now c.loop-entry.entry-index _ _ (omega arith) c.loop-entry.invariant.table
+
+pub notice-notice_items-requires : goal.notice-notice_items-requires
+notice-notice_items-requires g w c =
+    let N = g.V.RankedNodes.number in
+    let v = c.args.view.now in
+    let T = g.V.RankedNodes.tree v in
+    let ready = still c.meet.new.self c.requires.ready c.meet.ensures.long in
+    let within = items-within N T _ _ _ c.node-node.ensures.within c.in-Sequence.is in
+    let high : height (T (N c.args.id)) ≡ heights (trees_of g.V.RankedNodes.tree N v c.in-Sequence.items.now) = sequence-high N T _ _ _ _ c.node-node.ensures.tree c.in-Sequence.is in
+    let lower : 2 * heights (trees_of g.V.RankedNodes.tree N v c.in-Sequence.items.now) < 2 * height (T (N c.args.id)) + 1 = omega (arith, high) in
+    search rules
+
+pub notice-notice_entries-requires : goal.notice-notice_entries-requires
+notice-notice_entries-requires g w c =
+    let N = g.V.RankedNodes.number in
+    let v = c.args.view.now in
+    let T = g.V.RankedNodes.tree v in
+    let ready = still c.meet.new.self c.requires.ready c.meet.ensures.long in
+    let within = entries-within N T _ _ _ c.node-node.ensures.within c.in-Mapping.is in
+    let high : height (T (N c.args.id)) ≡ heights_of_pairs (pairs_of g.V.RankedNodes.tree N v c.in-Mapping.entries.now) = mapping-high N T _ _ _ _ c.node-node.ensures.tree c.in-Mapping.is in
+    let lower : 2 * heights_of_pairs (pairs_of g.V.RankedNodes.tree N v c.in-Mapping.entries.now) < 2 * height (T (N c.args.id)) + 1 = omega (arith, high) in
+    search rules
+
+pub notice_items-notice-requires : goal.notice_items-notice-requires
+notice_items-notice-requires g w c =
+    let N = g.V.RankedNodes.number in
+    let v = c.args.view.now in
+    let T = g.V.RankedNodes.tree v in
+    let xs = c.args.items.now in
+    let x = c.item-item.result in
+    let ready = still c.loop-item.names c.requires.ready c.loop-item.invariant.others.long in
+    let within = item-in (λ i. N i < g.V.RankedNodes.count v) xs c.loop-item.item-index x c.requires.within (omega arith) c.item-item.is in
+    let low = item-lower N T xs c.loop-item.item-index x (omega arith) c.item-item.is in
+    let lower : 2 * height (T (N x)) + 1 < 2 * heights (trees_of g.V.RankedNodes.tree N v xs) = omega (arith, low) in
+    search rules
+
+pub notice_entries-notice-requires : goal.notice_entries-notice-requires
+notice_entries-notice-requires g w c =
+    let N = g.V.RankedNodes.number in
+    let v = c.args.view.now in
+    let T = g.V.RankedNodes.tree v in
+    let xs = c.args.entries.now in
+    let x = c.entry-item.result in
+    let ready = still c.loop-entry.names c.requires.ready c.loop-entry.invariant.others.long in
+    let within = (item-in (λ p. (N p.0 < g.V.RankedNodes.count v) × (N p.1 < g.V.RankedNodes.count v)) xs c.loop-entry.entry-index x c.requires.within (omega arith) c.entry-item.is).0 in
+    let low = key-lower N T xs c.loop-entry.entry-index x (omega arith) c.entry-item.is in
+    let lower : 2 * height (T (N x.0)) + 1 < 2 * heights_of_pairs (pairs_of g.V.RankedNodes.tree N v xs) = omega (arith, low) in
+    search rules
+
+pub notice_entries-notice-requires-in-loop-entry : goal.notice_entries-notice-requires-in-loop-entry
+notice_entries-notice-requires-in-loop-entry g w c =
+    let N = g.V.RankedNodes.number in
+    let v = c.args.view.now in
+    let T = g.V.RankedNodes.tree v in
+    let xs = c.args.entries.now in
+    let x = c.entry-item.result in
+    let ready = still c.notice.new.names c.requires.ready (c.notice.ensures.others.long ∙ c.loop-entry.invariant.others.long) in
+    let within = (item-in (λ p. (N p.0 < g.V.RankedNodes.count v) × (N p.1 < g.V.RankedNodes.count v)) xs c.loop-entry.entry-index x c.requires.within (omega arith) c.entry-item.is).1 in
+    let low = value-lower N T xs c.loop-entry.entry-index x (omega arith) c.entry-item.is in
+    let lower : 2 * height (T (N x.1)) + 1 < 2 * heights_of_pairs (pairs_of g.V.RankedNodes.tree N v xs) = omega (arith, low) in
+    search rules

@@ -1,38 +1,31 @@
-use Rattle.std.proofs.Common.{◌≡◌, ◌+◌, ◌*◌, map, drop}
-use Rattle.yaml_definitions.specs.model.Order.{arranged}
-use Rattle.yaml_nodes.specs.GraphView.{tree}
-use Rattle.yaml_nodes.specs.TreeLists.{trees, pairs}
-use Rattle.yaml_levels.specs.RankModel.{key_pair}
-use Rattle.yaml_spell.specs.NamesView.{ranks_in, document_number, count_of, table_of}
-use Rattle.yaml_spell.specs.RankView.{rank_in}
+use Rattle.std.proofs.Common.{◌≡◌, ◌+◌, ◌*◌, drop}
+use Rattle.yaml_definitions.specs.model.Tree.{height, heights, heights_of_pairs}
+use Rattle.yaml_spell.specs.NamesView.{table_of, NamesNone}
+use Rattle.yaml_spell.specs.RankedNodes.{tree_of, trees_of, pairs_of}
 use Rattle.yaml_spell.specs.Walked.{noticed_all, noticed_pairs}
 use Rattle.yaml_spell.proofs.walk.+notice.Given as goal
 
 abbrev pub decreases-notice : goal.decreases-notice
-decreases-notice l = 2 * l.id.0 + 1
+decreases-notice g l = 2 * height (tree_of g.V.RankedNodes.tree g.V.RankedNodes.number l.view.now l.id) + 1
 
 abbrev pub decreases-notice_items : goal.decreases-notice_items
-decreases-notice_items l = 2 * l.owner.0
+decreases-notice_items g l = 2 * heights (trees_of g.V.RankedNodes.tree g.V.RankedNodes.number l.view.now l.items.now)
 
 abbrev pub decreases-notice_entries : goal.decreases-notice_entries
-decreases-notice_entries l = 2 * l.owner.0
+decreases-notice_entries g l = 2 * heights_of_pairs (pairs_of g.V.RankedNodes.tree g.V.RankedNodes.number l.view.now l.entries.now)
 
 abbrev pub invariant-notice_items-loop-item : goal.invariant-notice_items-loop-item
-invariant-notice_items-loop-item l =
+invariant-notice_items-loop-item g l =
     record {
-      table : noticed_all (rank_in l.graph l.ranks) (trees (map (λ i. arranged (tree l.graph i.0)) (drop l.item-index l.items))) (table_of l.names)
-          ≡ noticed_all (rank_in l.graph l.ranks) (trees (map (λ i. arranged (tree l.graph i.0)) l.items)) (table_of l.initial.names);
-      long : ranks_in l.names ≡ ranks_in l.initial.names;
-      document : document_number l.names ≡ document_number l.initial.names;
-      count : count_of l.names ≡ count_of l.initial.names;
+      table : noticed_all (g.V.RankedNodes.rank l.view) (trees_of g.V.RankedNodes.tree g.V.RankedNodes.number l.view (drop l.item-index l.items)) (table_of l.names)
+          ≡ noticed_all (g.V.RankedNodes.rank l.view) (trees_of g.V.RankedNodes.tree g.V.RankedNodes.number l.view l.items) (table_of l.initial.names);
+      others : NamesNone l.initial.names l.names;
     }
 
 abbrev pub invariant-notice_entries-loop-entry : goal.invariant-notice_entries-loop-entry
-invariant-notice_entries-loop-entry l =
+invariant-notice_entries-loop-entry g l =
     record {
-      table : noticed_pairs (rank_in l.graph l.ranks) (pairs (map (key_pair l.graph) (drop l.entry-index l.entries))) (table_of l.names)
-          ≡ noticed_pairs (rank_in l.graph l.ranks) (pairs (map (key_pair l.graph) l.entries)) (table_of l.initial.names);
-      long : ranks_in l.names ≡ ranks_in l.initial.names;
-      document : document_number l.names ≡ document_number l.initial.names;
-      count : count_of l.names ≡ count_of l.initial.names;
+      table : noticed_pairs (g.V.RankedNodes.rank l.view) (pairs_of g.V.RankedNodes.tree g.V.RankedNodes.number l.view (drop l.entry-index l.entries)) (table_of l.names)
+          ≡ noticed_pairs (g.V.RankedNodes.rank l.view) (pairs_of g.V.RankedNodes.tree g.V.RankedNodes.number l.view l.entries) (table_of l.initial.names);
+      others : NamesNone l.initial.names l.names;
     }

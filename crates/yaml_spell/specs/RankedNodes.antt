@@ -1,0 +1,43 @@
+-- Nodes that are ranked, and what they show.
+use Rattle.std.specs.Prelude.{◌≡◌, ◌↔◌, ℕ, ◌<◌, List, map}
+use Rattle.yaml_definitions.specs.model.Tree.{Tree, Trees, Pairs}
+use Rattle.yaml_definitions.specs.model.Same.{Same}
+use Rattle.yaml_nodes.specs.TreeLists.{trees, pairs}
+use Rattle.yaml_levels.specs.View.{InsideBelow, inside_tree, content, items, entries}
+use Rattle.yaml_levels.specs.View as view
+use Rattle.yaml_levels.specs.Insides.{Held}
+use Rattle.yaml_spell.specs.declared.names.Names.{Names}
+use Rattle.yaml_spell.specs.declared.shown.Inside.{Inside}
+use Rattle.yaml_spell.specs.declared.shown.Inside.TheVariants as shown
+use Rattle.yaml_spell.specs.NamesView.{ranks_in}
+
+-- what is inside a node, with its parts by number
+abbrev pub inside_shown : {I : Type 0} → (I → ℕ) → Inside I → view.Inside
+inside_shown number (shown.Scalar x) = content x.now
+inside_shown number (shown.Sequence is) = items (map number is.now)
+inside_shown number (shown.Mapping es) = entries (map (λ p. (number p.0, number p.1)) es.now)
+
+-- The parts of each node are nodes, and two nodes have one rank exactly if their trees are the same.
+pub record RanksTell (count : ℕ) (tree : ℕ → Tree) (rank : Tree → ℕ) : Type 0 where
+  pub made : (i : ℕ) → i < count → (n : Held) × InsideBelow count n.1 × (tree i ≡ inside_tree tree n.0 n.1)
+  pub tell : (i j : ℕ) → i < count → j < count → (rank (tree i) ≡ rank (tree j)) ↔ Same (tree i) (tree j)
+
+-- The ranks stand, and there is a place for what is known of each.
+pub record Ready {V : Type 0} (stands : V → Type 0) (count : V → ℕ) (v : V) (n : Names) : Type 0 where
+  pub ranked : stands v
+  pub long : ranks_in n ≡ count v
+
+module _ {V I : Type 0} (tree : V → ℕ → Tree) (number : I → ℕ) (v : V) where
+  -- the tree of an id
+  abbrev pub tree_of : I → Tree
+  tree_of i = tree v (number i)
+
+  -- the trees of a key and its value
+  abbrev pub pair_of : I × I → Tree × Tree
+  pair_of p = (tree v (number p.0), tree v (number p.1))
+
+  abbrev pub trees_of : List I → Trees
+  trees_of is = trees (map tree_of is)
+
+  abbrev pub pairs_of : List (I × I) → Pairs
+  pairs_of es = pairs (map pair_of es)

@@ -1,0 +1,56 @@
+//! A graph with its ranks.
+use crate::ranked::RankedNodes;
+use crate::shown::{Inside, Shown};
+use yaml_nodes::graph::Graph;
+use yaml_nodes::node::{NodeId, NodeKind};
+use yaml_levels::ranks::Ranks;
+
+/// A graph with its ranks.
+#[derive(Clone, Copy)]
+pub(crate) struct RankedGraph<'g, 't> {
+    pub(crate) graph: &'g Graph<'t>,
+    pub(crate) ranks: &'g Ranks,
+}
+
+impl<'g, 't> RankedNodes<NodeId> for RankedGraph<'g, 't> {
+    ghost use Rattle.std.specs.Prelude.{length};
+    ghost use Rattle.yaml_definitions.specs.model.Order.{arranged};
+    ghost use Rattle.yaml_nodes.specs.GraphView.{nodes_of, tree};
+    ghost use Rattle.yaml_levels.specs.RanksView.{RanksAre};
+    ghost use Rattle.yaml_spell.specs.RankView.{rank_in};
+
+    ghost stands = { λ s. RanksAre s.graph.now s.ranks.now };
+
+    ghost count = { λ s. length (nodes_of s.graph.now) };
+
+    ghost number = { λ i. i.0 };
+
+    ghost tree = { λ s i. arranged (tree s.graph.now i) };
+
+    ghost rank = { λ s t. rank_in s.graph.now s.ranks.now t };
+
+    fn node(&self, id: NodeId) -> Shown<'_, NodeId> {
+        let node = self.graph.node(id);
+        let tag = node.tag.as_str();
+        match &node.kind {
+            NodeKind::Scalar(content) => Shown {
+                tag,
+                inside: Inside::Scalar(content.as_str()),
+            },
+            NodeKind::Sequence(items) => Shown {
+                tag,
+                inside: Inside::Sequence(items),
+            },
+            NodeKind::Mapping(_) => Shown {
+                tag,
+                inside: Inside::Mapping(self.ranks.sorted(id)),
+            },
+        }
+    }
+
+    fn rank(&self, id: NodeId) -> usize {
+        self.ranks.of(id)
+    }
+
+    fn tells(&self) {}
+}
