@@ -1,2 +1,3 @@
+mod CompareLaws
 mod SameLaws
 mod SideLaws

@@ -1,13 +1,15 @@
 //! Where two streams differ, as lines.
-ghost use Rattle.std.specs.Prelude.{◌≡◌, ◌↔◌, ◌<◌, ◌&&◌, ◌==◌, true, length, map, take, drop, IfOk, IfErr};
+ghost use Rattle.std.specs.Prelude.{◌≡◌, ◌↔◌, ◌<◌, ◌&&◌, ◌==◌, ◌++◌, true, length, map, take, drop, string_bytes, OnOk, IfOk, IfErr};
 ghost use Rattle.yaml_definitions.specs.model.Same.{Alike};
 ghost use Rattle.yaml_nodes.specs.GraphView.{roots_of, tree};
 ghost use Rattle.yaml_levels.specs.RanksView.{RanksAre};
 ghost use Rattle.yaml_diff.specs.Found.{FindsItems};
+ghost use Rattle.yaml_review_text.specs.Lines.{lines_text};
+ghost use Rattle.yaml_review_lines.specs.Compared.{room_of, room_for, ShowsNode, TellsOne, TellsEach, TellsFound, TellsStreams};
 
 use std::alloc::Global;
 use yaml_diff::{Difference, Found, stream_differences};
-use yaml_graph::node::NodeId;
+use yaml_nodes::node::NodeId;
 use yaml_place::Place;
 use yaml_review_text::both::Both;
 use yaml_review_text::layout::lay_out;
@@ -35,29 +37,69 @@ fn shown(
     both: &Both<'_>,
     id: Option<NodeId>,
     room: usize,
-) -> Result<Option<String>, Fault> {
+) -> Result<Option<String>, Fault>
+    requires ranked { RanksAre both.now.graph both.now.ranks }
+    ensures { IfOk result (ShowsNode both.now.graph room id) }
+{
     match id {
         Some(id) => Ok(Some(node_text(alloc, both, id, room)?)),
         None => Ok(None),
     }
 }
 
-/// The lines of differences, with no places yet.
+/// The places of the nodes of each difference, where they are told.
+#[derive(Drop)]
+struct Places {
+    left: Vec<Option<Place>>,
+    right: Vec<Option<Place>>,
+}
+
+/// The line of a difference, with these places of its nodes.
+fn line_of(
+    alloc: Global,
+    both: &Both<'_>,
+    difference: &Difference,
+    room: usize,
+    places: (Option<Place>, Option<Place>),
+) -> Result<Line, Fault>
+    requires ranked { RanksAre both.now.graph both.now.ranks }
+    ensures { IfOk result (TellsOne both.now.graph room difference.now) }
+{
+    Ok(Line {
+        path: path_text(alloc, both, &difference.path)?,
+        left: shown(alloc, both, difference.left, room)?,
+        right: shown(alloc, both, difference.right, room)?,
+        left_place: places.0,
+        right_place: places.1,
+    })
+}
+
+/// The place at a number, if one is told.
+fn place_at(places: &[Option<Place>], number: usize) -> Option<Place> {
+    match places.get(number) {
+        Some(place) => *place,
+        None => None,
+    }
+}
+
+/// The lines of differences.
 fn lines_of(
     alloc: Global,
     both: &Both<'_>,
     list: &[Difference],
     room: usize,
-) -> Result<Vec<Line>, Fault> {
+    places: &Places,
+) -> Result<Vec<Line>, Fault>
+    requires ranked { RanksAre both.now.graph both.now.ranks }
+    ensures { IfOk result (λ lines. TellsEach both.now.graph room list.now lines.items) }
+{
     let mut lines = Vec::new(alloc);
-    for difference in list {
-        lines.push(Line {
-            path: path_text(alloc, both, &difference.path)?,
-            left: shown(alloc, both, difference.left, room)?,
-            right: shown(alloc, both, difference.right, room)?,
-            left_place: None,
-            right_place: None,
-        })?;
+    for (number, difference) in list.iter().enumerate() {
+        let at = (
+            place_at(&places.left, number),
+            place_at(&places.right, number),
+        );
+        lines.push(line_of(alloc, both, difference, room, at)?)?;
     }
     Ok(lines)
 }
@@ -110,25 +152,59 @@ fn side_places(
     places(alloc, unmarked(side.bytes), offsets)
 }
 
-/// Puts both sides' places into lines.
-fn put_places(
+/// The places of one side by the numbers of their lines, of which there are so many.
+fn spread(
+    alloc: Global,
+    places: &[(usize, Place)],
+    len: usize,
+) -> Result<Vec<Option<Place>>, Fault> {
+    let mut list = vec![in alloc; None; len]?;
+    for (number, place) in places {
+        if let Some(slot) = list.get_mut(*number) {
+            *slot = Some(*place);
+        }
+    }
+    Ok(list)
+}
+
+/// The places of both sides' nodes; none where they are not asked for.
+fn find_places(
     alloc: Global,
     both: &Both<'_>,
     list: &[Difference],
-    sides: (Traced<'_>, Traced<'_>),
-    lines: &mut Vec<Line>,
-) -> Result<(), Fault> {
-    for (number, place) in &side_places(alloc, both, list, Hand::Left, sides.0)? {
-        if let Some(line) = lines.get_mut(*number) {
-            line.left_place = Some(*place);
+    sides: Option<(Traced<'_>, Traced<'_>)>,
+) -> Result<Places, Fault> {
+    match sides {
+        Some((left, right)) => {
+            let lefts = side_places(alloc, both, list, Hand::Left, left)?;
+            let rights = side_places(alloc, both, list, Hand::Right, right)?;
+            Ok(Places {
+                left: spread(alloc, &lefts, list.len())?,
+                right: spread(alloc, &rights, list.len())?,
+            })
         }
+        None => Ok(Places {
+            left: Vec::new(alloc),
+            right: Vec::new(alloc),
+        }),
     }
-    for (number, place) in &side_places(alloc, both, list, Hand::Right, sides.1)? {
-        if let Some(line) = lines.get_mut(*number) {
-            line.right_place = Some(*place);
-        }
+}
+
+/// Lines as text.
+fn put_each(alloc: Global, text: &mut String, lines: &[Line], asked: &Diff<'_>) -> Result<(), Fault>
+    ensures { OnOk result (string_bytes text.new ≡ string_bytes text.old ++ lines_text asked.now.form asked.now.places lines.now) }
+{
+    for line in lines {
+        line.put(alloc, text, asked.form, asked.places)?;
     }
     Ok(())
+}
+
+/// How many bytes of a node are shown.
+fn room_of(whole: bool) -> usize
+    ensures { result ≡ room_of whole }
+{
+    if whole { WHOLE } else { CUT }
 }
 
 /// The lines of listed differences as text.
@@ -138,21 +214,19 @@ fn text_of(
     asked: &Diff<'_>,
     sides: Option<(Traced<'_>, Traced<'_>)>,
     found: &Found,
-) -> Result<String, Fault> {
-    let room = if asked.whole { WHOLE } else { CUT };
-    let mut lines = lines_of(alloc, both, &found.list, room)?;
-    if let Some(sides) = sides
-        && !found.list.is_empty()
-    {
-        put_places(alloc, both, &found.list, sides, &mut lines)?;
-    }
+) -> Result<String, Fault>
+    requires ranked { RanksAre both.now.graph both.now.ranks }
+    ensures { IfOk result (λ text. TellsFound both.now.graph (room_of asked.now.whole) asked.now.form asked.now.places found.now (string_bytes text)) }
+{
+    let sides = if found.list.is_empty() { None } else { sides };
+    let places = find_places(alloc, both, &found.list, sides)?;
+    let lines = lines_of(alloc, both, &found.list, room_of(asked.whole), &places)?;
     let mut text = String::new(alloc);
-    for line in &lines {
-        line.put(alloc, &mut text, asked.form, asked.places)?;
+    put_each(alloc, &mut text, &lines, asked)?;
+    if found.whole {
+        return Ok(text);
     }
-    if !found.whole {
-        put_more(&mut text, asked.form)?;
-    }
+    put_more(&mut text, asked.form)?;
     Ok(text)
 }
 
@@ -165,7 +239,8 @@ fn lists_none(found: &Found) -> bool
 
 /// Room for so many lines, and for one at least, without which no list would tell whether there is a difference.
 fn room_for(lines: usize) -> usize
-    ensures { 0 < result }
+    ensures some { 0 < result }
+    ensures asked { result ≡ room_for lines }
 {
     if lines == 0 { 1 } else { lines }
 }
@@ -186,6 +261,7 @@ pub fn compare(
     sides: Option<(Traced<'_>, Traced<'_>)>,
 ) -> Result<Compared, Fault>
     requires ranked { RanksAre both.now.graph both.now.ranks }
+    ensures text { IfOk result (λ told. TellsStreams both.now asked.now (string_bytes told.text)) }
     ensures same { IfOk result (λ told. (told.same ≡ true) ↔ Alike (map (λ i. tree both.now.graph i.0) (take both.now.documents (roots_of both.now.graph))) (map (λ i. tree both.now.graph i.0) (drop both.now.documents (roots_of both.now.graph)))) }
 {
     let found = list_of(alloc, both, room_for(asked.lines))?;

@@ -1,2 +1,9 @@
-mod TraceLaws
+mod GraphShapes
+mod KeyLaws
+mod LineLaws
+mod NodeLaws
 pub mod OctalLaws
+mod PathLaws
+mod Pieces
+mod ShownLaws
+mod TraceLaws

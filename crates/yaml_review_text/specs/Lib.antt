@@ -1,3 +1,9 @@
+pub mod Fills
+pub mod Lines
+pub mod NodeText
+pub mod Objects
+pub mod PathText
+pub mod Shown
 pub mod Trace
 pub mod Told
 pub mod Yaml11

@@ -3,9 +3,9 @@ ghost use Rattle.std.specs.Prelude.{◌≡◌, ◌≤◌, length};
 ghost use Rattle.yaml_nodes.specs.GraphView.{nodes_of, roots_of};
 ghost use Rattle.yaml_levels.specs.RanksView.{numbers_of, sorted_of};
 
-use yaml_graph::graph::Graph;
-use yaml_graph::node::{Node, NodeId};
-use yaml_rank::ranks::Ranks;
+use yaml_nodes::graph::Graph;
+use yaml_nodes::node::{Node, NodeId};
+use yaml_levels::ranks::Ranks;
 
 /// Two streams in one graph: the nodes and the documents of the left one, then those of the right one.
 #[derive(Drop)]
@@ -22,11 +22,15 @@ pub struct Both<'a> {
 }
 
 impl<'a> Both<'a> {
-    ghost use Rattle.std.specs.Prelude.{◌≡◌, take, drop};
-    ghost use Rattle.yaml_nodes.specs.GraphView.{roots_of};
+    ghost use Rattle.std.specs.Prelude.{◌≡◌, [], take, drop, option_map, unwrap_or};
+    ghost use Rattle.std.specs.List.{slice_get};
+    ghost use Rattle.yaml_nodes.specs.GraphView.{nodes_of, roots_of};
+    ghost use Rattle.yaml_levels.specs.RanksView.{numbers_of, sorted_of};
 
     /// The node of this number, if there is one.
-    pub fn node(&self, id: NodeId) -> Option<&Node<'a>> {
+    pub fn node(&self, id: NodeId) -> Option<&Node<'a>>
+        ensures { option_map (λ node. node.now) result ≡ slice_get (nodes_of self.now.graph) id.0 }
+    {
         if id.0 < self.graph.len() {
             Some(self.graph.node(id))
         } else {
@@ -35,7 +39,9 @@ impl<'a> Both<'a> {
     }
 
     /// The rank of the node of this number, if there is one.
-    pub fn rank(&self, id: NodeId) -> Option<usize> {
+    pub fn rank(&self, id: NodeId) -> Option<usize>
+        ensures { result ≡ slice_get (numbers_of self.now.ranks) id.0 }
+    {
         if id.0 < self.graph.len() {
             Some(self.ranks.of(id))
         } else {
@@ -43,8 +49,10 @@ impl<'a> Both<'a> {
         }
     }
 
-    /// The entries of a mapping, in the order of their keys.
-    pub fn sorted(&self, id: NodeId) -> &[(NodeId, NodeId)] {
+    /// The entries of a mapping, in the order of their keys; none where no node has this number.
+    pub fn sorted(&self, id: NodeId) -> &[(NodeId, NodeId)]
+        ensures { result.now ≡ unwrap_or (option_map (λ entries. entries.items) (slice_get (sorted_of self.now.ranks) id.0)) [] }
+    {
         if id.0 < self.graph.len() {
             self.ranks.sorted(id)
         } else {

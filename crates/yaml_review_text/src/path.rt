@@ -1,10 +1,15 @@
 //! Paths of differences, as text and as places.
+ghost use Rattle.std.specs.Prelude.{◌≡◌, ◌++◌, string_bytes, OnOk, IfOk};
+ghost use Rattle.yaml_diff.specs.Lines.{step_of, way_of};
+ghost use Rattle.yaml_levels.specs.RanksView.{RanksAre};
+ghost use Rattle.yaml_review_text.specs.PathText.{place_text, first_text, step_text, path_text};
+
 use crate::both::Both;
 use crate::layout::Layout;
 use crate::text::put_key;
 use std::alloc::Global;
 use yaml_diff::Step;
-use yaml_graph::node::{NodeId, NodeKind};
+use yaml_nodes::node::{NodeId, NodeKind};
 use yaml_path::places::Places;
 use yaml_text::fault::Fault;
 
@@ -25,27 +30,58 @@ impl Hand {
     }
 }
 
-/// Writes where an item or a document stands: its place, or two places where it has another on the right. Those of an item stand in
-/// brackets.
-fn put_places(out: &mut String, places: Places, is_item: bool) -> Result<(), Fault> {
-    let (open, close) = if is_item { ("[", "]") } else { ("", "") };
+/// Writes where an item or a document stands: its place, or two places where it has another on the right.
+fn put_places(out: &mut String, places: Places) -> Result<(), Fault>
+    ensures { OnOk result (string_bytes out.new ≡ string_bytes out.old ++ place_text places) }
+{
     match places {
-        Places::Both(left, right) if left != right => write!(out, "{open}{left}:{right}{close}")?,
+        Places::Both(left, right) if left != right => write!(out, "{left}:{right}")?,
         Places::Both(place, _) | Places::Left(place) | Places::Right(place) => {
-            write!(out, "{open}{place}{close}")?;
+            write!(out, "{place}")?;
         }
     }
     Ok(())
 }
 
-/// A path of differences of two streams as text: where the document stands, then one step after another.
-pub fn path_text(alloc: Global, both: &Both<'_>, path: &[Step]) -> Result<String, Fault> {
-    let mut out = String::new(alloc);
-    for (depth, step) in path.iter().rev().enumerate() {
-        match step {
-            Step::Item(places) => put_places(&mut out, *places, depth > 0)?,
-            Step::Value(key) => put_key(alloc, &mut out, both, *key)?,
+/// Writes the step that leads to a document.
+fn put_first(alloc: Global, out: &mut String, both: &Both<'_>, step: Step) -> Result<(), Fault>
+    requires ranked { RanksAre both.now.graph both.now.ranks }
+    ensures { OnOk result (string_bytes out.new ≡ string_bytes out.old ++ first_text (step_of both.now.graph step)) }
+{
+    match step {
+        Step::Item(places) => put_places(out, places),
+        Step::Value(key) => put_key(alloc, out, both, key),
+    }
+}
+
+/// Writes a step that leads to a part of a node.
+fn put_step(alloc: Global, out: &mut String, both: &Both<'_>, step: Step) -> Result<(), Fault>
+    requires ranked { RanksAre both.now.graph both.now.ranks }
+    ensures { OnOk result (string_bytes out.new ≡ string_bytes out.old ++ step_text (step_of both.now.graph step)) }
+{
+    match step {
+        Step::Item(places) => {
+            out.push('[')?;
+            put_places(out, places)?;
+            out.push(']')?;
+            Ok(())
         }
+        Step::Value(key) => put_key(alloc, out, both, key),
+    }
+}
+
+/// A path of differences of two streams as text: where the document stands, then one step after another.
+pub fn path_text(alloc: Global, both: &Both<'_>, path: &[Step]) -> Result<String, Fault>
+    requires ranked { RanksAre both.now.graph both.now.ranks }
+    ensures { IfOk result (λ s. string_bytes s ≡ path_text (way_of both.now.graph path.now)) }
+{
+    let mut out = String::new(alloc);
+    let Some((document, steps)) = path.split_last() else {
+        return Ok(out);
+    };
+    put_first(alloc, &mut out, both, *document)?;
+    'steps: for step in steps.iter().rev() {
+        put_step(alloc, &mut out, both, *step)?;
     }
     Ok(out)
 }
