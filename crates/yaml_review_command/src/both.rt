@@ -1,7 +1,8 @@
 //! Two streams in one graph, ranked.
-ghost use Rattle.std.specs.Prelude.{IfOk};
+ghost use Rattle.std.specs.Prelude.{IfOk, string_bytes};
 ghost use Rattle.yaml_canon.specs.Claims.{HasGraph};
 ghost use Rattle.yaml_canon.specs.Comparing.{Compares};
+ghost use Rattle.yaml_review_command.specs.Diffs.{DiffLines};
 ghost use Rattle.yaml_review_command.specs.Sides.{BothAre};
 
 use std::alloc::Global;
@@ -107,6 +108,7 @@ pub(crate) fn compare_sides(
     right: &[u8],
 ) -> Result<Compared, (Side, Fault)>
     ensures same { IfOk result (λ told. Compares left.now right.now told.same) }
+    ensures lines { IfOk result (λ told. DiffLines left.now right.now asked.now (string_bytes told.text)) }
 {
     let sides = both_of(alloc, left, right, asked.places)?;
     let traced = sides.traced(left, right);

@@ -137,7 +137,13 @@ fn run<S: Shelf, R: Read + Drop, W: Write + Drop, E: Write + Drop>(
 ) -> u8 {
     match asked {
         Asked::Diff(asked) => {
-            let answer = diff(shelf, alloc, &asked, &mut input, &mut out);
+            let answer = diff(
+                shelf,
+                alloc,
+                &asked,
+                &mut input,
+                &mut Counted::new(&mut out),
+            );
             told_status(alloc, answer, ONE_INPUT, &mut err)
         }
         Asked::Faults(asked) => files(

@@ -1,5 +1,6 @@
 //! The command `diff`.
-ghost use Rattle.std.specs.Prelude.{◌≡◌, cond, IfOk};
+ghost use Rattle.std.specs.Prelude.{◌≡◌, ◌<◌, ◌-◌, ◌^◌, cond, IfOk};
+ghost use Rattle.yaml_text.specs.CountedModel.{faults_of};
 ghost use Rattle.yaml_review_command.specs.Diffs.{DiffTells};
 
 use crate::both::compare_sides;
@@ -19,19 +20,20 @@ fn status_of(same: bool) -> u8
     if same { 0 } else { 1 }
 }
 
-/// Tells where two streams differ, and answers 0 where they are the same and 1 where they differ: each is accepted, and they have
-/// equally many documents, pairwise the same, exactly if it is 0.
+/// Writes a line for each difference of two streams, and answers 0 where they are the same and 1 where they differ: each is accepted,
+/// and they have equally many documents, pairwise the same, exactly if it is 0.
 pub fn diff<'a, S: Shelf, R: Read, W: Write>(
     shelf: &S,
     alloc: Global,
     asked: &Diff<'a>,
     input: &mut R,
-    out: &mut W,
+    out: &mut Counted<W>,
 ) -> Result<u8, Refusal<'a>>
-    ensures tells { IfOk result (DiffTells (S.holds shelf.now) (R.remaining input.old) asked.now.left.now asked.now.right.now) }
+    requires { faults_of out.old < 2 ^ 64 - 1 }
+    ensures tells { IfOk result (DiffTells (S.holds shelf.now) (R.remaining input.old) W.contents asked.now out.old out.new) }
 {
     let (left, right) = read_both(shelf, alloc, asked.left, asked.right, input)?;
     let told = compare_sides(alloc, asked, &left, &right)?;
-    write_out(&mut Counted::new(out), told.text.as_bytes())?;
+    write_out(out, told.text.as_bytes())?;
     Ok(status_of(told.same))
 }

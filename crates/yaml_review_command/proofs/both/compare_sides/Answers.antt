@@ -5,4 +5,7 @@ pub compare-requires : goal.compare-requires
 compare-requires c = record { ranked = c.in_ok-sides.ensures.both.ranked }
 
 pub returns-in-Ok : goal.returns-in-Ok
-returns-in-Ok c = record { same = compares c.args.left.now c.args.right.now c.in_ok-sides.sides.both c.in-Ok.told.same c.in_ok-sides.ensures.both c.in-Ok.ensures.same }
+returns-in-Ok c = record {
+  same = compares c.args.left.now c.args.right.now c.in_ok-sides.sides.both c.in-Ok.told.same c.in_ok-sides.ensures.both c.in-Ok.ensures.same;
+  lines = record { both = c.in_ok-sides.sides.both; are = c.in_ok-sides.ensures.both; tells = c.in-Ok.ensures.text };
+}
