@@ -3,9 +3,9 @@ ghost use Rattle.std.specs.Prelude.{◌≡◌, ◌≤◌, length};
 ghost use Rattle.yaml_nodes.specs.GraphView.{nodes_of, roots_of};
 ghost use Rattle.yaml_levels.specs.RanksView.{numbers_of, sorted_of};
 
+use yaml_levels::ranks::Ranks;
 use yaml_nodes::graph::Graph;
 use yaml_nodes::node::{Node, NodeId};
-use yaml_levels::ranks::Ranks;
 
 /// Two streams in one graph: the nodes and the documents of the left one, then those of the right one.
 #[derive(Drop)]

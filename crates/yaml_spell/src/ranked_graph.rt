@@ -1,9 +1,9 @@
 //! A graph with its ranks.
 use crate::ranked::RankedNodes;
 use crate::shown::{Inside, Shown};
+use yaml_levels::ranks::Ranks;
 use yaml_nodes::graph::Graph;
 use yaml_nodes::node::{NodeId, NodeKind};
-use yaml_levels::ranks::Ranks;
 
 /// A graph with its ranks.
 #[derive(Clone, Copy)]

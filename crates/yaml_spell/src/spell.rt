@@ -17,8 +17,8 @@ use crate::ranked_graph::RankedGraph;
 use crate::sink::Sink;
 use crate::walk::{notice, write_node};
 use std::alloc::Global;
-use yaml_nodes::graph::Graph;
 use yaml_levels::ranks::Ranks;
+use yaml_nodes::graph::Graph;
 use yaml_text::fault::Fault;
 use yaml_text::limits::text_limit;
 
