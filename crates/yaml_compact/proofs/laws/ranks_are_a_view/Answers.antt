@@ -1,0 +1,20 @@
+use Rattle.std.proofs.Common.{length, ap, sym, refl}
+use Rattle.std.specs.String.{string_bytes}
+use Rattle.yaml_compact.specs.StoreView.{view_of}
+use Rattle.yaml_compact.proofs.RanksView.{ranks_view}
+use Rattle.yaml_compact.proofs.RanksOf.{rank-arranged, ranks-rise, first-tree}
+use Rattle.yaml_compact.proofs.laws.ranks_are_a_view.Goals as goal
+
+pub returns : goal.returns
+returns c = λ s good r are. (
+  ranks_view s good r are,
+  record {
+    count = refl;
+    tag = λ k. refl;
+    inside = λ k. refl;
+    tree = λ k. refl;
+    neat = rank-arranged (view_of s good) r.nodes.items (string_bytes r.text) r.items.items r.entries.items r.ranks.items r.first.items (sym (ap length are.nodes)) are.ranked;
+    rise = ranks-rise (view_of s good) r.nodes.items (string_bytes r.text) r.items.items r.entries.items r.ranks.items r.first.items (sym (ap length are.nodes)) are.ranked;
+    node = first-tree (view_of s good) r.nodes.items (string_bytes r.text) r.items.items r.entries.items r.ranks.items r.first.items (sym (ap length are.nodes)) are.ranked;
+  },
+)

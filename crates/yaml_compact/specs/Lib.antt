@@ -1,0 +1,11 @@
+pub mod NumberKeys
+pub mod StoreModel
+pub mod StoreGrows
+pub mod KeyModel
+pub mod PartsModel
+pub mod LevelModel
+pub mod Ranking
+pub mod TagPlaces
+pub mod StoreView
+pub mod RanksView
+pub mod Walked

@@ -1,0 +1,34 @@
+-- Ranks as ranked nodes: each number is its own rank.
+use Rattle.std.specs.Prelude.{ℕ, zero, suc, List, [], ◌∷◌, length, map}
+use Rattle.std.specs.List.{position_or_len}
+use Rattle.yaml_definitions.specs.model.Tree.{Tree}
+use Rattle.yaml_definitions.specs.model.Same.{same}
+use Rattle.yaml_nodes.specs.GraphModel.{tree_at}
+use Rattle.yaml_levels.specs.Insides.{Held, trees_held}
+use Rattle.yaml_compact.specs.declared.store.Store.{Store}
+use Rattle.yaml_compact.specs.declared.ranking.Ranked.{Ranked}
+use Rattle.yaml_compact.specs.StoreGrows.{Good}
+use Rattle.yaml_compact.specs.StoreView.{StoreRanked}
+use Rattle.yaml_compact.specs.RanksView.{rank_tag, rank_inside}
+
+-- the ranks are those of a store
+abbrev pub StandsFor : Ranked → Type 0
+StandsFor c = (s : Store) × (good : Good s) × StoreRanked s good c
+
+-- so many numbers from this one on
+abbrev pub count_from : ℕ → ℕ → List ℕ
+count_from k zero = []
+count_from k (suc n) = k ∷ count_from (suc k) n
+
+abbrev pub rank_held : Ranked → ℕ → Held
+rank_held c r = (rank_tag c r, rank_inside c r)
+
+-- each rank's tree, in order
+abbrev pub walked_trees : Ranked → List Tree
+walked_trees c = trees_held (map (rank_held c) (count_from 0 (length c.first.items)))
+
+abbrev pub walked_tree : Ranked → ℕ → Tree
+walked_tree c r = tree_at (walked_trees c) r
+
+abbrev pub walked_rank : Ranked → Tree → ℕ
+walked_rank c t = position_or_len (same t) (walked_trees c)

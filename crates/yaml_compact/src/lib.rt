@@ -1,0 +1,20 @@
+//! Nodes in twelve bytes each, equal ones mostly merged, and their ranks.
+#![tactic(auto)]
+
+pub mod gives_up;
+mod key;
+pub mod laws;
+mod level;
+mod levels;
+mod memo;
+pub mod nodes;
+mod number;
+mod places;
+pub mod ranking;
+mod settle;
+pub mod store;
+mod walked;
+
+pub use gives_up::GivesUp;
+pub use ranking::{Ranked, compact_rank};
+pub use store::Store;

@@ -1,0 +1,100 @@
+//! Ranking nodes by number.
+ghost use Rattle.std.specs.Prelude.{◌≡◌, length, IfOk};
+ghost use Rattle.yaml_levels.specs.View.{View};
+ghost use Rattle.yaml_compact.specs.Ranking.{Stored, AllRanked};
+ghost use Rattle.yaml_compact.specs.StoreGrows.{Good};
+ghost use Rattle.yaml_compact.specs.StoreView.{StoreRanked};
+
+use crate::gives_up::GivesUp;
+use crate::level::sorted_keys;
+use crate::levels::levels;
+use crate::nodes::Node;
+use crate::number::number;
+use crate::places::places;
+use crate::settle::settle;
+use crate::store::Store;
+use std::alloc::Global;
+
+/// The nodes of a store with their ranks. Parts are ranks, and the entries of a mapping stand in the order
+/// of their keys.
+#[derive(Drop)]
+pub struct Ranked {
+    pub(crate) tags: Vec<String>,
+    pub(crate) text: String,
+    pub(crate) items: Vec<u32>,
+    pub(crate) entries: Vec<(u32, u32)>,
+    pub(crate) nodes: Vec<Node>,
+    /// The rank of each node.
+    pub(crate) ranks: Vec<u32>,
+    /// The node that stands for each rank.
+    pub(crate) first: Vec<u32>,
+}
+
+/// No ranks yet, for so many nodes.
+pub(crate) fn zeros(alloc: Global, len: usize) -> Result<Vec<u32>, GivesUp>
+    ensures ok { IfOk result (λ ranks. length ranks.items ≡ len) }
+{
+    let mut ranks = Vec::with_capacity(alloc, len)?;
+    for _ in 0..len {
+        ranks.push(0)?;
+    }
+    Ok(ranks)
+}
+
+/// The rank of each node, and the first node of each rank. Nodes are taken by rising height, so that those
+/// of one height are compared by the ranks of their parts, which these ranks overwrite.
+fn rank_all(
+    alloc: Global,
+    nodes: &[Node],
+    text: &[u8],
+    items: &mut [u32],
+    entries: &mut [(u32, u32)],
+    places: &[u32],
+) -> Result<(Vec<u32>, Vec<u32>), GivesUp>
+    requires { (v : View) × Stored v nodes.now text.now items.old entries.old places.now }
+    ensures { (v : View) → Stored v nodes.now text.now items.old entries.old places.now → IfOk result (λ made. AllRanked v nodes.now text.now items.new entries.new made.0.items made.1.items) }
+{
+    let levels = levels(alloc, nodes)?;
+    let mut ranks = zeros(alloc, nodes.len())?;
+    let mut first = Vec::new(alloc);
+    for level in &levels {
+        settle(nodes, items, entries, &ranks, level)?;
+        let keys = sorted_keys(alloc, nodes, text, items, entries, places, level)?;
+        number(&mut ranks, &mut first, &keys)?;
+    }
+    Ok((ranks, first))
+}
+
+/// The ranks of all nodes of a store: equal exactly for equal trees, and in the order of trees. Gives up at
+/// a mapping with two equal keys.
+pub fn compact_rank(alloc: Global, store: Store) -> Result<Ranked, GivesUp>
+    requires { Good store }
+    ensures { (good : Good store) → IfOk result (StoreRanked store good) }
+{
+    let Store {
+        memo: _,
+        tags,
+        text,
+        mut items,
+        mut entries,
+        nodes,
+    } = store;
+    let places = places(alloc, &tags)?;
+    let (ranks, first) = rank_all(
+        alloc,
+        &nodes,
+        text.as_bytes(),
+        &mut items,
+        &mut entries,
+        &places,
+    )?;
+    Ok(Ranked {
+        tags,
+        text,
+        items,
+        entries,
+        nodes,
+        ranks,
+        first,
+    })
+}

@@ -1,0 +1,104 @@
+//! Parts overwritten by their ranks.
+ghost use Rattle.std.specs.Prelude.{◌≡◌, ℕ, [], ◌<◌, true, map, length, slice_index, Some, IfOk};
+ghost use Rattle.std.specs.List.{All, slice_get};
+ghost use Rattle.std.specs.List.Sorted.{IsPermutation};
+ghost use Rattle.yaml_levels.specs.View.{InsideBelow};
+ghost use Rattle.yaml_compact.specs.declared.nodes.Node.{Node};
+ghost use Rattle.yaml_compact.specs.StoreModel.{place_of, inside_of, PartsWithin, Apart};
+ghost use Rattle.yaml_compact.specs.PartsModel.{two_ranks, KeysRise, PlaceSettled, Rising, LevelBelow, LevelSettled};
+
+use crate::gives_up::GivesUp;
+use crate::nodes::{Node, Place};
+
+/// Puts the rank of each number in its place.
+fn overwrite(items: &mut [u32], ranks: &[u32])
+    requires { All (λ i. i < length ranks.now) items.old }
+    ensures { items.new ≡ map (slice_index ranks.now) items.old }
+{
+    for item in items.iter_mut() {
+        *item = ranks[*item as usize];
+    }
+}
+
+/// Puts the ranks of each key and value in their place.
+fn overwrite_entries(entries: &mut [(u32, u32)], ranks: &[u32])
+    requires { All (λ p. (p.0 < length ranks.now) × (p.1 < length ranks.now)) entries.old }
+    ensures { entries.new ≡ map (two_ranks (slice_index ranks.now)) entries.old }
+{
+    for entry in entries.iter_mut() {
+        *entry = (ranks[entry.0 as usize], ranks[entry.1 as usize]);
+    }
+}
+
+/// Whether each key is above the one before it.
+fn rises(entries: &[(u32, u32)]) -> bool
+    ensures { result ≡ true → KeysRise entries.now }
+{
+    for place in 1..entries.len() {
+        if entries[place].0 <= entries[place - 1].0 {
+            return false;
+        }
+    }
+    true
+}
+
+/// Puts entries in the order of their keys; two equal keys are refused.
+fn arrange(entries: &mut [(u32, u32)]) -> bool
+    ensures same { IsPermutation entries.old entries.new }
+    ensures order { result ≡ true → KeysRise entries.new }
+{
+    if rises(entries) {
+        return true;
+    }
+    entries.sort_unstable();
+    rises(entries)
+}
+
+/// Overwrites the parts of a node by their ranks, the entries of a mapping in the order of their keys; two
+/// equal keys are refused.
+fn settle_one(
+    place: Place,
+    items: &mut [u32],
+    entries: &mut [(u32, u32)],
+    ranks: &[u32],
+) -> Result<(), GivesUp>
+    requires within { PartsWithin (length items.old) (length entries.old) place }
+    requires parts { InsideBelow (length ranks.now) (inside_of [] items.old entries.old place) }
+    ensures { IfOk result (λ _. PlaceSettled (slice_index ranks.now) place items.old entries.old items.new entries.new) }
+{
+    match place {
+        Place::Scalar(_) => {}
+        Place::Sequence(span) => {
+            overwrite(&mut items[span.start as usize..span.end as usize], ranks);
+        }
+        Place::Mapping(span) => {
+            let part = &mut entries[span.start as usize..span.end as usize];
+            overwrite_entries(part, ranks);
+            if !arrange(part) {
+                return Err(GivesUp);
+            }
+        }
+    }
+    Ok(())
+}
+
+/// Overwrites the parts of the nodes of one height by their ranks.
+pub(crate) fn settle(
+    nodes: &[Node],
+    items: &mut [u32],
+    entries: &mut [(u32, u32)],
+    ranks: &[u32],
+    level: &[u32],
+) -> Result<(), GivesUp>
+    requires numbers { All (λ i. i < length nodes.now) level.now }
+    requires once { Rising level.now }
+    requires within { (i : ℕ) (s : Node) → slice_get nodes.now i ≡ Some s → PartsWithin (length items.old) (length entries.old) (place_of s) }
+    requires apart { Apart nodes.now }
+    requires below { LevelBelow (length ranks.now) nodes.now level.now items.old entries.old }
+    ensures { IfOk result (λ _. LevelSettled (slice_index ranks.now) nodes.now level.now items.old entries.old items.new entries.new) }
+{
+    for number in level {
+        settle_one(nodes[*number as usize].place(), items, entries, ranks)?;
+    }
+    Ok(())
+}

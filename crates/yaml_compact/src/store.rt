@@ -1,0 +1,344 @@
+//! Nodes by number, equal ones mostly merged.
+ghost use Rattle.std.specs.Prelude.{◌≡◌, ◌<◌, ◌≤◌, [], ◌∷◌, ◌++◌, true, false, List, length, Some, IfOk, IsTrue};
+ghost use Rattle.std.specs.Bool.{OnTrue};
+ghost use Rattle.std.specs.Option.{IfSome};
+ghost use Rattle.std.specs.List.{slice_get, slice_range, All};
+ghost use Rattle.yaml_definitions.specs.model.Tree.{Tree, scalar, heights};
+ghost use Rattle.yaml_definitions.specs.model.Limits as limit;
+ghost use Rattle.yaml_nodes.specs.TreeLists.{trees as part_list};
+ghost use Rattle.yaml_nodes.specs.ComposerSteps.{collection_from, paired};
+ghost use Rattle.yaml_compact.specs.StoreModel.{SpanWithin, AllMeasured, tag_at, parts_at, is_mapping};
+ghost use Rattle.yaml_compact.specs.StoreGrows.{Good, Fits, Keeps, tags_of, trees_of, Stands};
+
+use crate::gives_up::GivesUp;
+use crate::memo::{Memo, hash_parts, hash_text};
+use crate::nodes::{Collection, Kind, Node, Span};
+use std::alloc::Global;
+use yaml_text::limits::height_limit;
+
+/// The nodes, each after its parts: their tags, each once; all contents one after the other, all items and
+/// all entries, by number. Those that were met last are found again by a hash.
+#[derive(Drop)]
+pub struct Store {
+    pub(crate) memo: Memo,
+    pub(crate) tags: Vec<String>,
+    pub(crate) text: String,
+    pub(crate) items: Vec<u32>,
+    pub(crate) entries: Vec<(u32, u32)>,
+    pub(crate) nodes: Vec<Node>,
+}
+
+/// What every number of a node and every place is below.
+const ROOM: usize = 4_294_967_295;
+
+/// How many tags there may be. A tag is looked for among all of them.
+const TAGS: usize = 256;
+
+/// A tag's number, if there is room for it.
+fn tag_number(number: usize) -> Result<u8, GivesUp>
+    ensures { IfOk result (λ n. n ≡ number) }
+{
+    if number >= TAGS {
+        return Err(GivesUp);
+    }
+    Ok(number as u8)
+}
+
+/// A place, if it fits.
+fn place(at: usize) -> Result<u32, GivesUp>
+    ensures { IfOk result (λ n. n ≡ at) }
+{
+    if at >= ROOM {
+        return Err(GivesUp);
+    }
+    Ok(at as u32)
+}
+
+/// Whether these places are among so many.
+fn is_within(span: Span, len: usize) -> bool
+    ensures { OnTrue result (SpanWithin len span) }
+{
+    span.start <= span.end && span.end as usize <= len
+}
+
+/// Whether this is the content that stands there.
+fn has_text(all: &[u8], span: Span, content: &[u8]) -> bool
+    ensures { IsTrue result → slice_range all.now span.start span.end ≡ content.now }
+{
+    if !is_within(span, all.len()) {
+        return false;
+    }
+    &all[span.start as usize..span.end as usize] == content
+}
+
+/// Whether these are the items that stand there.
+fn has_items(all: &[u32], span: Span, parts: &[u32]) -> bool
+    ensures { IsTrue result → slice_range all.now span.start span.end ≡ parts.now }
+{
+    if !is_within(span, all.len()) {
+        return false;
+    }
+    &all[span.start as usize..span.end as usize] == parts
+}
+
+/// Whether these, a key and its value in turn, are the entries that stand there.
+fn has_entries(all: &[(u32, u32)], span: Span, parts: &[u32]) -> bool
+    ensures { IsTrue result → slice_range all.now span.start span.end ≡ paired parts.now }
+{
+    if !is_within(span, all.len()) {
+        return false;
+    }
+    let entries = &all[span.start as usize..span.end as usize];
+    if entries.len() != parts.len() / 2 {
+        return false;
+    }
+    for (place, (key, value)) in entries.iter().enumerate() {
+        if *key != parts[2 * place] || *value != parts[2 * place + 1] {
+            return false;
+        }
+    }
+    true
+}
+
+/// Puts these, a key and its value in turn, behind the entries.
+fn push_entries(entries: &mut Vec<(u32, u32)>, parts: &[u32]) -> Result<(), GivesUp>
+    ensures { IfOk result (λ _. entries.new.items ≡ entries.old.items ++ paired parts.now) }
+{
+    for place in 0..parts.len() / 2 {
+        entries.push((parts[2 * place], parts[2 * place + 1]))?;
+    }
+    Ok(())
+}
+
+/// Puts a node behind the others. Its number.
+fn push_node(nodes: &mut Vec<Node>, node: Node) -> Result<u32, GivesUp>
+    ensures number { IfOk result (λ n. n ≡ length nodes.old.items) }
+    ensures few { IfOk result (λ _. length nodes.new.items < 4294967296) }
+    ensures pushed { IfOk result (λ _. nodes.new.items ≡ nodes.old.items ++ (node ∷ [])) }
+{
+    let number = nodes.len();
+    if number >= ROOM {
+        return Err(GivesUp);
+    }
+    nodes.push(node)?;
+    Ok(number as u32)
+}
+
+/// The height of a collection of these parts, if it is not above the limit.
+fn height_over(nodes: &[Node], parts: &[u32]) -> Result<u16, GivesUp>
+    ensures low { IfOk result (λ h. h ≤ limit.height_limit) }
+    ensures is { IfOk result (λ h. (ts : List Tree) → AllMeasured nodes.now ts → h ≡ heights (part_list (parts_at ts parts.now))) }
+{
+    let mut height: usize = 0;
+    for part in parts {
+        let Some(node) = nodes.get(*part as usize) else {
+            return Err(GivesUp);
+        };
+        height = height.max(node.height as usize + 1);
+    }
+    if height > height_limit() {
+        return Err(GivesUp);
+    }
+    Ok(height as u16)
+}
+
+impl Store {
+    /// No node yet.
+    pub fn new(alloc: Global) -> Result<Store, GivesUp>
+        ensures good { IfOk result Good }
+        ensures empty { IfOk result (λ s. trees_of s ≡ []) }
+    {
+        let memo = Memo::new(alloc)?;
+        Ok(Store {
+            memo,
+            tags: Vec::new(alloc),
+            text: String::new(alloc),
+            items: Vec::new(alloc),
+            entries: Vec::new(alloc),
+            nodes: Vec::new(alloc),
+        })
+    }
+
+    /// The number of this tag, if it is there.
+    fn tag_of(&self, tag: &str) -> Option<usize>
+        ensures { IfSome result (λ i. slice_get (tags_of self.now) i ≡ Some tag.now) }
+    {
+        for (number, text) in self.tags.iter().enumerate() {
+            if text.as_str() == tag {
+                return Some(number);
+            }
+        }
+        None
+    }
+
+    /// The number of this tag, which is added if it is new.
+    pub fn tag(&mut self, alloc: Global, tag: &str) -> Result<u8, GivesUp>
+        ensures kept { Good self.old → IfOk result (λ _. Keeps self.old self.new) }
+        ensures is { IfOk result (λ i. slice_get (tags_of self.new) i ≡ Some tag.now) }
+    {
+        if let Some(found) = self.tag_of(tag) {
+            let number = tag_number(found)?;
+            return Ok(number);
+        }
+        let number = tag_number(self.tags.len())?;
+        let text = String::from_str(alloc, tag)?;
+        self.tags.push(text)?;
+        Ok(number)
+    }
+
+    /// Whether this node is a scalar of the same tag and content.
+    fn is_scalar(&self, seen: u32, tag: u8, content: &str) -> bool
+        ensures { Good self.now → IsTrue result → Stands self.now seen (scalar (tag_at (tags_of self.now) tag) content.now) }
+    {
+        let Some(node) = self.nodes.get(seen as usize) else {
+            return false;
+        };
+        if node.kind != Kind::Scalar || node.tag != tag {
+            return false;
+        }
+        has_text(self.text.as_bytes(), node.span, content.as_bytes())
+    }
+
+    /// Whether this node is a sequence of the same tag and items.
+    fn is_sequence(&self, seen: u32, tag: u8, items: &[u32]) -> bool
+        ensures { Good self.now → IsTrue result → Stands self.now seen (collection_from false (tag_at (tags_of self.now) tag) (parts_at (trees_of self.now) items.now)) }
+    {
+        let Some(node) = self.nodes.get(seen as usize) else {
+            return false;
+        };
+        if node.kind != Kind::Sequence || node.tag != tag {
+            return false;
+        }
+        has_items(&self.items, node.span, items)
+    }
+
+    /// Whether this node is a mapping of the same tag and parts, a key and its value in turn.
+    fn is_mapping(&self, seen: u32, tag: u8, parts: &[u32]) -> bool
+        ensures { Good self.now → IsTrue result → Stands self.now seen (collection_from true (tag_at (tags_of self.now) tag) (parts_at (trees_of self.now) parts.now)) }
+    {
+        let Some(node) = self.nodes.get(seen as usize) else {
+            return false;
+        };
+        if node.kind != Kind::Mapping || node.tag != tag {
+            return false;
+        }
+        has_entries(&self.entries, node.span, parts)
+    }
+
+    /// The number of a scalar: that of a node that was seen, if it is the same, else that of a new one.
+    fn add_scalar(&mut self, seen: u32, tag: u8, content: &str) -> Result<u32, GivesUp>
+        ensures kept { Good self.old → tag < length (tags_of self.old) → IfOk result (λ _. Keeps self.old self.new) }
+        ensures stands { Good self.old → tag < length (tags_of self.old) → IfOk result (λ i. Stands self.new i (scalar (tag_at (tags_of self.old) tag) content.now)) }
+    {
+        if self.is_scalar(seen, tag, content) {
+            return Ok(seen);
+        }
+        let start = place(self.text.len())?;
+        self.text.push_str(content)?;
+        let end = place(self.text.len())?;
+        let node = Node {
+            kind: Kind::Scalar,
+            tag,
+            height: 0,
+            span: Span { start, end },
+        };
+        let id = push_node(&mut self.nodes, node)?;
+        Ok(id)
+    }
+
+    /// The number of a sequence of these items: that of a node that was seen, if it is the same, else that
+    /// of a new one.
+    fn add_sequence(&mut self, seen: u32, tag: u8, items: &[u32]) -> Result<u32, GivesUp>
+        ensures kept { Fits self.old tag items.now → IfOk result (λ _. Keeps self.old self.new) }
+        ensures stands { Fits self.old tag items.now → IfOk result (λ i. Stands self.new i (collection_from false (tag_at (tags_of self.old) tag) (parts_at (trees_of self.old) items.now))) }
+    {
+        if self.is_sequence(seen, tag, items) {
+            return Ok(seen);
+        }
+        let height = height_over(&self.nodes, items)?;
+        let start = place(self.items.len())?;
+        self.items.extend_from_slice(items)?;
+        let end = place(self.items.len())?;
+        let node = Node {
+            kind: Kind::Sequence,
+            tag,
+            height,
+            span: Span { start, end },
+        };
+        let id = push_node(&mut self.nodes, node)?;
+        Ok(id)
+    }
+
+    /// The number of a mapping of these parts, a key and its value in turn: that of a node that was seen, if
+    /// it is the same, else that of a new one.
+    fn add_mapping(&mut self, seen: u32, tag: u8, parts: &[u32]) -> Result<u32, GivesUp>
+        ensures kept { Fits self.old tag parts.now → IfOk result (λ _. Keeps self.old self.new) }
+        ensures stands { Fits self.old tag parts.now → IfOk result (λ i. Stands self.new i (collection_from true (tag_at (tags_of self.old) tag) (parts_at (trees_of self.old) parts.now))) }
+    {
+        if self.is_mapping(seen, tag, parts) {
+            return Ok(seen);
+        }
+        if parts.len() % 2 != 0 {
+            return Err(GivesUp);
+        }
+        let height = height_over(&self.nodes, parts)?;
+        let start = place(self.entries.len())?;
+        push_entries(&mut self.entries, parts)?;
+        let end = place(self.entries.len())?;
+        let node = Node {
+            kind: Kind::Mapping,
+            tag,
+            height,
+            span: Span { start, end },
+        };
+        let id = push_node(&mut self.nodes, node)?;
+        Ok(id)
+    }
+
+    /// The number of a collection of these parts.
+    fn add_collection(
+        &mut self,
+        seen: u32,
+        collection: Collection,
+        tag: u8,
+        parts: &[u32],
+    ) -> Result<u32, GivesUp>
+        ensures kept { Fits self.old tag parts.now → IfOk result (λ _. Keeps self.old self.new) }
+        ensures stands { Fits self.old tag parts.now → IfOk result (λ i. Stands self.new i (collection_from (is_mapping collection) (tag_at (tags_of self.old) tag) (parts_at (trees_of self.old) parts.now))) }
+    {
+        match collection {
+            Collection::Sequence => self.add_sequence(seen, tag, parts),
+            Collection::Mapping => self.add_mapping(seen, tag, parts),
+        }
+    }
+
+    /// The number of a scalar with this tag and content.
+    pub fn scalar(&mut self, alloc: Global, tag: &str, content: &str) -> Result<u32, GivesUp>
+        ensures kept { Good self.old → IfOk result (λ _. Keeps self.old self.new) }
+        ensures stands { Good self.old → IfOk result (λ i. Stands self.new i (scalar tag.now content.now)) }
+    {
+        let tag = self.tag(alloc, tag)?;
+        let hash = hash_text(tag, content.as_bytes());
+        let seen = self.memo.seen(hash);
+        let id = self.add_scalar(seen, tag, content)?;
+        self.memo.keep(hash, id);
+        Ok(id)
+    }
+
+    /// The number of a collection of these parts. A mapping's are a key and its value in turn.
+    pub fn collection(
+        &mut self,
+        collection: Collection,
+        tag: u8,
+        parts: &[u32],
+    ) -> Result<u32, GivesUp>
+        ensures kept { Fits self.old tag parts.now → IfOk result (λ _. Keeps self.old self.new) }
+        ensures stands { Fits self.old tag parts.now → IfOk result (λ i. Stands self.new i (collection_from (is_mapping collection) (tag_at (tags_of self.old) tag) (parts_at (trees_of self.old) parts.now))) }
+    {
+        let hash = hash_parts(collection.kind(), tag, parts);
+        let seen = self.memo.seen(hash);
+        let id = self.add_collection(seen, collection, tag, parts)?;
+        self.memo.keep(hash, id);
+        Ok(id)
+    }
+}

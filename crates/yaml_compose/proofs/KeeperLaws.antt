@@ -1,0 +1,128 @@
+-- What a keeper that composes holds, after its calls.
+use Rattle.std.proofs.Common.{◌≡◌, ◌≤◌, ℕ, ◌+◌, ◌-◌, min, true, false, List, [], ◌∷◌, ◌++◌, length, refl, sym, ◌∙◌, ap, subst, arith, append-nil, length-append}
+use Rattle.std.specs.Prelude.{None, Bool}
+use Rattle.yaml_definitions.specs.model.Event.{Event, stream_start, stream_end, document_end, mapping_start, untagged}
+use Rattle.yaml_definitions.specs.grammar.Events.{Props}
+use Rattle.yaml_sink.specs.Held.{Puts, Alters}
+use Rattle.yaml_sink.specs.PropertyRules.{dressed}
+use Rattle.yaml_compose.specs.AheadModel.{Tells, all_dues}
+use Rattle.yaml_compose.specs.WaitingModel.{waits, Precedes, DressesWaits, ComposesWaits}
+use Rattle.yaml_compose.specs.KeeperModel.{ComposesBut, Composes, MakesRoom, DressesOne}
+use Rattle.yaml_compose.specs.declared.ahead.Ahead.{Ahead}
+use Rattle.yaml_compose.specs.declared.keeper.Composing.{Composing}
+use Rattle.yaml_compose.proofs.WaitingLaws.{split-ends}
+use Rattle.yaml_compose.proofs.DueLaws.{tells-rest}
+
+-- nothing was put down
+pub composes-start : (k : Composing) → k.count ≡ 0 → waits k.waiting ≡ [] → Tells k.ahead [] → Composes k []
+composes-start k n w t = record { count = n; is = λ g. record { front = []; split = sym w; tells = t } }
+
+-- what waited is composed
+pub all-composed : (k : Composing) (log : List Event) (ahead : Ahead) → Composes k log → k.gave_up ≡ false → ComposesWaits k.count (waits k.waiting) k.ahead ahead → Tells ahead log
+all-composed k log ahead h g c =
+    let b = h.is g in
+    subst (Tells ahead) (sym b.split) (c.is b.front (h.count ∙ ap length b.split) b.tells)
+
+pub makes-room : (k new : Composing) → k.gave_up ≡ false → new.gave_up ≡ false → ComposesWaits k.count (waits k.waiting) k.ahead new.ahead → waits new.waiting ≡ [] → new.count ≡ k.count + 1 → MakesRoom k new
+makes-room k new g f c w n = record { count = n; gave_up = f; none = w; tells = λ log h. all-composed k log new.ahead h g c }
+
+-- an event waits
+pub puts-waiting : (old room new : Composing) (e : Event) → MakesRoom old room → new.ahead ≡ room.ahead → new.count ≡ room.count → waits new.waiting ≡ e ∷ [] → Puts Composes old (e ∷ []) new
+puts-waiting old room new e r a n w = record {
+  is = λ log h. record {
+    count = omega (arith, n, r.count, h.count, length-append log (e ∷ []));
+    is = λ g. record { front = log; split = ap (λ z. log ++ z) (sym w); tells = subst (λ z. Tells z log) (sym a) (r.tells log h) };
+  };
+}
+
+-- an event is composed at once
+pub puts-told : (old room new : Composing) (e : Event) → MakesRoom old room → Puts Tells room.ahead (e ∷ []) new.ahead → new.count ≡ room.count → waits new.waiting ≡ [] → Puts Composes old (e ∷ []) new
+puts-told old room new e r p n w = record {
+  is = λ log h. record {
+    count = omega (arith, n, r.count, h.count, length-append log (e ∷ []));
+    is = λ g. record { front = log ++ (e ∷ []); split = sym (append-nil (log ++ (e ∷ []))) ∙ ap (λ z. (log ++ (e ∷ [])) ++ z) (sym w); tells = p.is log (r.tells log h) };
+  };
+}
+
+-- an event of which the composer is not told
+puts-rest : (old room : Composing) (e : Event) → MakesRoom old room → ((log : List Event) → Tells room.ahead log → Tells room.ahead (log ++ (e ∷ []))) → Puts Composes old (e ∷ []) room
+puts-rest old room e r t = puts-told old room room e r (record { is = t }) refl r.none
+
+pub puts-stream-start : (old room : Composing) → MakesRoom old room → Puts Composes old (stream_start ∷ []) room
+puts-stream-start old room r = puts-rest old room stream_start r (λ log t. (tells-rest room.ahead.composer (all_dues room.ahead) log t).0)
+
+pub puts-stream-end : (old room : Composing) → MakesRoom old room → Puts Composes old (stream_end ∷ []) room
+puts-stream-end old room r = puts-rest old room stream_end r (λ log t. (tells-rest room.ahead.composer (all_dues room.ahead) log t).1)
+
+pub puts-document-end : (old room : Composing) (explicit : Bool) → MakesRoom old room → Puts Composes old (document_end explicit ∷ []) room
+puts-document-end old room explicit r = puts-rest old room (document_end explicit) r (λ log t. (tells-rest room.ahead.composer (all_dues room.ahead) log t).2 explicit)
+
+-- a mapping's start waits, too
+pub inserts : (old new : Composing) (start : ℕ) (flow : Bool) → old.gave_up ≡ false → old.count - start ≡ 1 → new.count ≡ old.count + 1 → new.ahead ≡ old.ahead → Precedes flow (waits old.waiting) (waits new.waiting)
+    → Alters Composes start (λ es. mapping_start flow None untagged ∷ es) old new
+inserts old new start flow g d n a p = record {
+  is = λ log es s h.
+      let b = h.is g in
+      let size : length es ≡ length (waits old.waiting) = omega (arith, h.count, length-append log es, s, d, p.one) in
+      let r = split-ends log es b.front (waits old.waiting) b.split size in
+      let m = mapping_start flow None untagged in
+      record {
+        count = omega (arith, n, h.count, length-append log es, length-append log (m ∷ es));
+        is = λ f. record { front = b.front; split = (λ z. r.0 z ++ (m ∷ r.1 z)) ∙ ap (λ z. b.front ++ z) (sym p.is); tells = subst (λ z. Tells z b.front) (sym a) b.tells };
+      };
+}
+
+-- ---- properties
+
+no-more : (es : List Event) → length es ≤ 0 → es ≡ []
+no-more [] l = refl
+no-more (e ∷ es) l = absurd (omega arith)
+
+-- there is no event since the mark
+pub dresses-none : (k : Composing) (start : ℕ) (p : Props) → k.count ≤ start → DressesOne k start p k
+dresses-none k start p l = record {
+  is = λ log es s h g.
+      let none : es ≡ [] = no-more es (omega (arith, l, s, h.count, length-append log es)) in
+      subst (ComposesBut k.ahead (waits k.waiting)) (ap (λ z. log ++ z) none ∙ ap (λ z. log ++ dressed p z) (sym none)) (h.is g);
+}
+
+-- a collection that ended gets what was due
+pub dresses-ended : (old new : Composing) (start : ℕ) (p : Props) → new.gave_up ≡ old.gave_up → waits old.waiting ≡ [] → new.waiting ≡ old.waiting → Alters Tells start (dressed p) old.ahead new.ahead → DressesOne old start p new
+dresses-ended old new start p f w v a = record {
+  is = λ log es s h g.
+      let b = h.is (sym f ∙ g) in
+      let whole : log ++ es ≡ b.front = b.split ∙ (ap (λ z. b.front ++ z) w ∙ append-nil b.front) in
+      let told = a.is log es s (subst (Tells old.ahead) (sym whole) b.tells) in
+      record { front = log ++ dressed p es; split = sym (append-nil (log ++ dressed p es)) ∙ ap (λ z. (log ++ dressed p es) ++ z) (sym (ap waits v ∙ w)); tells = told };
+}
+
+-- an event that waits does
+pub dresses-waiting : (old new : Composing) (start count : ℕ) (p : Props) → new.gave_up ≡ old.gave_up → count ≡ old.count - start → new.ahead ≡ old.ahead → DressesWaits count p (waits old.waiting) (waits new.waiting) → DressesOne old start p new
+dresses-waiting old new start count p f n a d = record {
+  is = λ log es s h g.
+      let b = h.is (sym f ∙ g) in
+      record { front = b.front; split = d.is b.front log es b.split (omega (arith, n, s, h.count, length-append log es)); tells = subst (λ z. Tells z b.front) (sym a) b.tells };
+}
+
+dressed-length : (p : Props) (es : List Event) → length (dressed p es) ≡ length es
+dressed-length p [] = refl
+dressed-length p (e ∷ es) = refl
+
+-- how many events there are stays
+dressed-count : (k : Composing) (n : ℕ) (p : Props) (log es : List Event) → Composes k (log ++ es) → n ≡ k.count → n ≡ length (log ++ dressed p es)
+dressed-count k n p log es h e = omega (arith, e, h.count, length-append log es, length-append log (dressed p es), dressed-length p es)
+
+pub dresses : (old new : Composing) (start : ℕ) (p : Props) → new.count ≡ old.count → DressesOne old start p new → Alters Composes start (dressed p) old new
+dresses old new start p n d = record { is = λ log es s h. record { count = dressed-count old new.count p log es h n; is = d.is log es s h } }
+
+-- ---- giving up
+
+true-false : {X : Type 0} (b : Bool) → b ≡ true → b ≡ false → X
+true-false true e f = absurd (cc)
+true-false false e f = absurd (cc)
+
+pub gives-up-dressed : (old new : Composing) (start : ℕ) (p : Props) → new.count ≡ old.count → new.gave_up ≡ true → Alters Composes start (dressed p) old new
+gives-up-dressed old new start p n t = record { is = λ log es s h. record { count = dressed-count old new.count p log es h n; is = λ f. true-false new.gave_up t f } }
+
+pub gives-up-cut : (old new : Composing) (start : ℕ) → new.count ≡ min old.count start → new.gave_up ≡ true → Alters Composes start (λ _. []) old new
+gives-up-cut old new start n t = record { is = λ log es s h. record { count = omega (arith, n, s, h.count, length-append log es, ap length (append-nil log)); is = λ f. true-false new.gave_up t f } }

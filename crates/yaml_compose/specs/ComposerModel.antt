@@ -1,0 +1,89 @@
+-- What the composer holds, as plain values.
+use Rattle.std.specs.Prelude.{◌≡◌, ℕ, Bool, List, [], ◌∷◌, ◌++◌, length, reverse, Option, Some, None, Ok}
+use Rattle.std.specs.Borrow.{Bor}
+use Rattle.std.specs.List.{slice_get}
+use Rattle.std.specs.Option.{option_map}
+use Rattle.std.specs.BTreeMap.{get_by_text}
+use Rattle.yaml_definitions.specs.model.Tree.{Tree}
+use Rattle.yaml_definitions.specs.model.Event.{Anchor, Event, WrittenTag, sequence_start, sequence_end, mapping_start, mapping_end}
+use Rattle.yaml_definitions.specs.model.Serial.{Document}
+use Rattle.yaml_definitions.specs.model.Unfold.{Table, trees_of as trees_unfolded}
+use Rattle.yaml_nodes.specs.ComposerSteps as machine
+use Rattle.yaml_nodes.specs.ComposerModel.{last_place, names_of, Placed}
+use Rattle.yaml_nodes.specs.GraphModel.{AreLow}
+use Rattle.yaml_compact.specs.StoreGrows.{tags_of, Good, trees_of}
+use Rattle.yaml_compact.specs.declared.nodes.Collection.{Collection}
+use Rattle.yaml_compact.specs.declared.nodes.Collection.TheVariants.{Sequence, Mapping}
+use Rattle.yaml_compose.specs.declared.composer.Open.{Open}
+use Rattle.yaml_compose.specs.declared.composer.Composer.{Composer}
+use Rattle.yaml_compose.specs.declared.composer.Forest.{Forest}
+
+-- an anchor, from the name that is given
+abbrev pub anchor_text : Option (Bor (List ℕ)) → Anchor
+anchor_text anchor = option_map (λ name. name.now) anchor
+
+-- the nodes of these numbers stand for the trees
+abbrev pub AllAt : List Tree → List ℕ → List Tree → Type 0
+AllAt ts [] [] = Unit {0}
+AllAt ts (i ∷ stack) (u ∷ us) = (slice_get ts i ≡ Some u) × AllAt ts stack us
+AllAt ts _ _ = ⊥
+
+-- the same of nodes with anchors, each with its tree once it is whole
+abbrev pub SlotAt : List Tree → Option ℕ → Option Tree → Type 0
+SlotAt ts None None = Unit {0}
+SlotAt ts (Some i) (Some u) = slice_get ts i ≡ Some u
+SlotAt ts _ _ = ⊥
+
+abbrev pub TableAt : List Tree → List (Option ℕ) → Table → Type 0
+TableAt ts [] [] = Unit {0}
+TableAt ts (a ∷ anchored) (o ∷ table) = SlotAt ts a o.1 × TableAt ts anchored table
+TableAt ts _ _ = ⊥
+
+-- the whole nodes below the innermost collection's own, the outermost first
+abbrev pub below : List machine.Open → List Tree
+below [] = []
+below (p ∷ ps) = below ps ++ p.before
+
+pub record OpenHolds (tags : List (List ℕ)) (names : List (List ℕ)) (o : Open) (p : machine.Open) (under : List Tree) : Type 0 where
+  pub place : Placed names o.place p.anchor p.slot
+  pub mark : o.mark ≡ length under
+  pub tag : slice_get tags o.tag ≡ Some p.tag
+
+abbrev pub OpensHold : List (List ℕ) → List (List ℕ) → List Open → List machine.Open → Type 0
+OpensHold tags names [] [] = Unit {0}
+OpensHold tags names (o ∷ os) (p ∷ ps) = OpenHolds tags names o p (below (p ∷ ps)) × OpensHold tags names os ps
+OpensHold tags names _ _ = ⊥
+
+-- One stack has the whole nodes of all open collections; `named` is the place of a name.
+pub record Keeping (tags : List (List ℕ)) (ts : List Tree) (named : List ℕ → Option ℕ) (anchored : List (Option ℕ)) (stack : List ℕ) (opens : List Open) (inner : List Tree) (outer : List machine.Open) (table : Table) : Type 0 where
+  pub stacked : AllAt ts stack (below outer ++ inner)
+  pub opened : OpensHold tags (names_of table) (reverse opens) outer
+  pub anchors : TableAt ts anchored table
+  pub places : (name : List ℕ) → named name ≡ last_place name (names_of table)
+
+-- The store is good, and the numbers stand for the state's trees, which may be kept once where they are equal.
+pub record Holds (c : Composer) (s : machine.State) : Type 0 where
+  pub good : Good c.store
+  pub keeping : Keeping (tags_of c.store) (trees_of c.store) (get_by_text c.names) c.anchored.items c.stack.items c.opens.items s.inner s.outer s.table
+
+-- the event comes to a state that the composer holds
+pub record Stepped (e : Event) (s : machine.State) (c : Composer) : Type 0 where
+  pub state : machine.State
+  pub is : machine.step 0 e s ≡ Some (Ok state)
+  pub holds : Holds c state
+
+abbrev pub start_of : Collection → (flow : Bool) → Anchor → WrittenTag → Event
+start_of Sequence flow a g = sequence_start flow a g
+start_of Mapping flow a g = mapping_start flow a g
+
+abbrev pub end_of : Collection → Event
+end_of Sequence = sequence_end
+end_of Mapping = mapping_end
+
+-- the documents unfold, no tree is higher than the limit, and the roots stand for the trees
+pub record IsForest (ds : List Document) (f : Forest) : Type 0 where
+  pub trees_are : List Tree
+  pub unfolded : trees_unfolded ds ≡ Ok trees_are
+  pub low : AreLow trees_are
+  pub good : Good f.store
+  pub roots : AllAt (trees_of f.store) f.roots.items trees_are

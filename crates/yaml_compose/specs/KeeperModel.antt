@@ -1,0 +1,33 @@
+-- What a keeper that composes holds.
+use Rattle.std.specs.Prelude.{◌≡◌, ℕ, ◌+◌, false, List, [], ◌++◌, length}
+use Rattle.yaml_definitions.specs.model.Event.{Event}
+use Rattle.yaml_definitions.specs.grammar.Events.{Props}
+use Rattle.yaml_sink.specs.PropertyRules.{dressed}
+use Rattle.yaml_compose.specs.AheadModel.{Tells}
+use Rattle.yaml_compose.specs.WaitingModel.{waits}
+use Rattle.yaml_compose.specs.declared.ahead.Ahead.{Ahead}
+use Rattle.yaml_compose.specs.declared.keeper.Composing.{Composing}
+
+-- The composer was told of all events of a log but those at its end, which wait.
+pub record ComposesBut (ahead : Ahead) (waiting : List Event) (log : List Event) : Type 0 where
+  pub front : List Event
+  pub split : log ≡ front ++ waiting
+  pub tells : Tells ahead front
+
+-- These events are composed, or wait; nothing but how many they are, where the keeper gave up.
+pub record Composes (k : Composing) (log : List Event) : Type 0 where
+  pub count : k.count ≡ length log
+  pub is : k.gave_up ≡ false → ComposesBut k.ahead (waits k.waiting) log
+
+-- ---- what calls do
+
+-- One event more is counted, and nothing waits.
+pub record MakesRoom (before after : Composing) : Type 0 where
+  pub count : after.count ≡ before.count + 1
+  pub gave_up : after.gave_up ≡ false
+  pub none : waits after.waiting ≡ []
+  pub tells : (log : List Event) → Composes before log → Tells after.ahead log
+
+-- An event gets properties.
+pub record DressesOne (before : Composing) (start : ℕ) (p : Props) (after : Composing) : Type 0 where
+  pub is : (log es : List Event) → start ≡ length log → Composes before (log ++ es) → after.gave_up ≡ false → ComposesBut after.ahead (waits after.waiting) (log ++ dressed p es)

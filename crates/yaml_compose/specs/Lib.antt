@@ -1,0 +1,7 @@
+pub mod Reached
+pub mod TagModel
+pub mod ComposerModel
+pub mod ComposerLog
+pub mod AheadModel
+pub mod WaitingModel
+pub mod KeeperModel

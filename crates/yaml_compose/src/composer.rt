@@ -1,0 +1,271 @@
+//! From nodes, as they begin and end, to nodes of a store. It may give up.
+ghost use Rattle.std.specs.Prelude.{◌≡◌, ℕ, Bool, List, length, drop, IfOk};
+ghost use Rattle.std.specs.Option.{option_map};
+ghost use Rattle.std.specs.Cow.{cow_str_bytes};
+ghost use Rattle.yaml_definitions.specs.model.Tree.{Tree};
+ghost use Rattle.yaml_definitions.specs.model.Event.{Anchor, document_start, scalar_event, alias_event};
+ghost use Rattle.yaml_definitions.specs.model.Serial.{Document, stream_events};
+ghost use Rattle.yaml_text.specs.EventModel.{written_of, style_of};
+ghost use Rattle.yaml_sink.specs.PropertyRules.{props_of};
+ghost use Rattle.yaml_nodes.specs.ComposerModel.{names_of, Placed};
+ghost use Rattle.yaml_nodes.specs.ComposerSteps.{State, initial_state, node_begun, whole};
+ghost use Rattle.yaml_compact.specs.StoreGrows.{Stands};
+ghost use Rattle.yaml_compose.specs.Reached.{Reaches};
+ghost use Rattle.yaml_compose.specs.ComposerModel.{anchor_text, Holds, Stepped, IsForest, start_of, end_of};
+
+use crate::tag::tag_of;
+use std::alloc::Global;
+use std::borrow::CowStr;
+use std::collections::BTreeMap;
+use yaml_compact::gives_up::GivesUp;
+use yaml_compact::nodes::Collection;
+use yaml_compact::store::Store;
+use yaml_core::scalar::resolve;
+use yaml_sink::properties::Properties;
+use yaml_text::event::{EventTag, Style};
+
+/// A collection that is open.
+#[derive(Clone, Copy)]
+pub(crate) struct Open {
+    /// Its place among the anchored nodes, if it has an anchor.
+    place: Option<usize>,
+    collection: Collection,
+    /// The number of its tag.
+    tag: u8,
+    /// How many whole nodes stand before its own.
+    mark: usize,
+}
+
+/// What was composed of the events so far.
+#[derive(Drop)]
+pub(crate) struct Composer {
+    pub(crate) store: Store,
+    /// For each name of an anchor of this document, the place of the last node that has it.
+    pub(crate) names: BTreeMap<String, usize>,
+    /// The nodes of this document that have anchors, in the order in which they begin; none where
+    /// the node is still open.
+    pub(crate) anchored: Vec<Option<u32>>,
+    /// The whole nodes of the roots and of all open collections.
+    pub(crate) stack: Vec<u32>,
+    pub(crate) opens: Vec<Open>,
+}
+
+/// The nodes from this place on.
+fn parts_from(stack: &[u32], mark: usize) -> Result<&[u32], GivesUp>
+    ensures { IfOk result (λ parts. parts.now ≡ drop mark stack.now) }
+{
+    if mark > stack.len() {
+        return Err(GivesUp);
+    }
+    Ok(&stack[mark..])
+}
+
+/// The nodes of a stream, and the numbers of its documents' roots.
+#[derive(Drop)]
+pub struct Forest {
+    pub store: Store,
+    pub roots: Vec<u32>,
+}
+
+impl Composer {
+    /// Nothing is put down yet.
+    pub(crate) fn new(alloc: Global) -> Result<Composer, GivesUp>
+        ensures { IfOk result (λ c. Holds c initial_state) }
+    {
+        let store = Store::new(alloc)?;
+        Ok(Composer {
+            store,
+            names: BTreeMap::new(alloc),
+            anchored: Vec::new(alloc),
+            stack: Vec::new(alloc),
+            opens: Vec::new(alloc),
+        })
+    }
+
+    /// A document begins.
+    pub(crate) fn document(&mut self) -> Result<(), GivesUp>
+        ensures { (s : State) → Holds self.old s → (explicit : Bool) → IfOk result (λ _. Stepped (document_start explicit) s self.new) }
+    {
+        if self.opens.len() > 0 {
+            return Err(GivesUp);
+        }
+        self.names.clear();
+        self.anchored.clear();
+        Ok(())
+    }
+
+    /// The stream ends.
+    pub(crate) fn finish(self) -> Result<Forest, GivesUp>
+        ensures { (ds : List Document) (s : State) → Reaches (stream_events ds) initial_state s → Holds self s → IfOk result (IsForest ds) }
+    {
+        let Composer {
+            store,
+            names: _,
+            anchored: _,
+            stack,
+            opens,
+        } = self;
+        if opens.len() > 0 {
+            return Err(GivesUp);
+        }
+        Ok(Forest {
+            store,
+            roots: stack,
+        })
+    }
+
+    /// A node begins. Its place among the anchored ones, if it has an anchor.
+    fn begin_node(&mut self, alloc: Global, anchor: Option<&str>) -> Result<Option<usize>, GivesUp>
+        ensures { (s : State) → Holds self.old s →
+            let a = anchor_text anchor.entry in
+            IfOk result (λ place. Placed (names_of (node_begun a s).table) place a (length s.table) × Holds self.new (node_begun a s)) }
+    {
+        let Some(text) = anchor else {
+            return Ok(None);
+        };
+        let place = self.anchored.len();
+        let name = String::from_str(alloc, text)?;
+        self.anchored.push(None)?;
+        self.names.insert(name, place)?;
+        Ok(Some(place))
+    }
+
+    /// A whole node stands in the innermost collection, and at its place among the anchored ones.
+    fn put(&mut self, place: Option<usize>, id: u32) -> Result<(), GivesUp>
+        ensures { (s : State) → Holds self.old s → (a : Anchor) (slot : ℕ) (t : Tree) → Placed (names_of s.table) place a slot → Stands self.old.store id t → IfOk result (λ _. Holds self.new (whole a slot t s)) }
+    {
+        self.stack.push(id)?;
+        if let Some(place) = place {
+            if place >= self.anchored.len() {
+                return Err(GivesUp);
+            }
+            self.anchored[place] = Some(id);
+        }
+        Ok(())
+    }
+
+    /// A scalar with this anchor and tag.
+    fn put_scalar(
+        &mut self,
+        alloc: Global,
+        anchor: Option<&str>,
+        tag: &EventTag<'_>,
+        style: Style,
+        text: &str,
+    ) -> Result<(), GivesUp>
+        ensures { (s : State) → Holds self.old s → IfOk result (λ _. Stepped (scalar_event (anchor_text anchor.entry) (written_of tag.now) (style_of style) text.now) s self.new) }
+    {
+        let Ok(scalar) = resolve(alloc, tag, style, text) else {
+            return Err(GivesUp);
+        };
+        let place = self.begin_node(alloc, anchor)?;
+        let id = self
+            .store
+            .scalar(alloc, scalar.tag.as_str(), scalar.content.as_str())?;
+        self.put(place, id)?;
+        Ok(())
+    }
+
+    /// A scalar with these properties.
+    pub(crate) fn scalar(
+        &mut self,
+        alloc: Global,
+        properties: &Properties<'_>,
+        style: Style,
+        text: &str,
+    ) -> Result<(), GivesUp>
+        ensures { (s : State) → Holds self.old s → IfOk result (λ _. Stepped (scalar_event (props_of properties.now).anchor (props_of properties.now).tag (style_of style) text.now) s self.new) }
+    {
+        match &properties.given {
+            None => self.put_scalar(alloc, None, &EventTag::None, style, text),
+            Some(given) => self.put_scalar(alloc, name_of(&given.anchor), &given.tag, style, text),
+        }
+    }
+
+    /// An alias.
+    pub(crate) fn alias(&mut self, name: &str) -> Result<(), GivesUp>
+        ensures { (s : State) → Holds self.old s → IfOk result (λ _. Stepped (alias_event name.now) s self.new) }
+    {
+        let Some(place) = self.names.get(name).copied() else {
+            return Err(GivesUp);
+        };
+        if place >= self.anchored.len() {
+            return Err(GivesUp);
+        }
+        let Some(id) = self.anchored[place] else {
+            return Err(GivesUp);
+        };
+        self.stack.push(id)?;
+        Ok(())
+    }
+
+    /// A collection with this anchor and tag begins.
+    fn begin_collection(
+        &mut self,
+        alloc: Global,
+        collection: Collection,
+        anchor: Option<&str>,
+        tag: &EventTag<'_>,
+    ) -> Result<(), GivesUp>
+        ensures { (s : State) → Holds self.old s → (flow : Bool) → IfOk result (λ _. Stepped (start_of collection flow (anchor_text anchor.entry) (written_of tag.now)) s self.new) }
+    {
+        let text = tag_of(collection, tag)?;
+        let place = self.begin_node(alloc, anchor)?;
+        let number = self.store.tag(alloc, text)?;
+        let mark = self.stack.len();
+        self.opens.push(Open {
+            place,
+            collection,
+            tag: number,
+            mark,
+        })?;
+        Ok(())
+    }
+
+    /// A collection with these properties begins.
+    pub(crate) fn begin(
+        &mut self,
+        alloc: Global,
+        collection: Collection,
+        properties: &Properties<'_>,
+    ) -> Result<(), GivesUp>
+        ensures { (s : State) → Holds self.old s → (flow : Bool) → IfOk result (λ _. Stepped (start_of collection flow (props_of properties.now).anchor (props_of properties.now).tag) s self.new) }
+    {
+        match &properties.given {
+            None => self.begin_collection(alloc, collection, None, &EventTag::None),
+            Some(given) => self.begin_collection(
+                alloc,
+                collection,
+                name_of(&given.anchor),
+                &given.tag,
+            ),
+        }
+    }
+
+    /// The innermost collection ends.
+    pub(crate) fn end(&mut self, collection: Collection) -> Result<(), GivesUp>
+        ensures { (s : State) → Holds self.old s → IfOk result (λ _. Stepped (end_of collection) s self.new) }
+    {
+        let Some(open) = self.opens.pop() else {
+            return Err(GivesUp);
+        };
+        if open.collection != collection {
+            return Err(GivesUp);
+        }
+        let parts = parts_from(&self.stack, open.mark)?;
+        let id = self.store.collection(open.collection, open.tag, parts)?;
+        self.stack.truncate(open.mark);
+        self.put(open.place, id)?;
+        Ok(())
+    }
+}
+
+/// The name of an anchor, if there is one.
+fn name_of<'a>(anchor: &'a Option<CowStr<'_>>) -> Option<&'a str>
+    ensures { anchor_text result ≡ option_map cow_str_bytes anchor.now }
+{
+    match anchor {
+        None => None,
+        Some(name) => Some(name.as_str()),
+    }
+}

@@ -1,0 +1,258 @@
+//! A keeper of a reader's events that composes them.
+ghost use Rattle.std.specs.Prelude.{◌≡◌, Bool, List, [], ◌∷◌, None, IfOk, IfErr};
+ghost use Rattle.yaml_definitions.specs.model.Event.{Event as PlainEvent, untagged, scalar_event, alias_event, document_start, mapping_start};
+ghost use Rattle.yaml_definitions.specs.model.Serial.{Document, stream_events};
+ghost use Rattle.yaml_text.specs.EventModel.{event_of, style_of};
+ghost use Rattle.yaml_sink.specs.Held.{Puts, Alters};
+ghost use Rattle.yaml_sink.specs.PropertyRules.{props_of};
+ghost use Rattle.yaml_sink.specs.SinkModel.{start_of, end_of};
+ghost use Rattle.yaml_compose.specs.ComposerModel.{IsForest};
+ghost use Rattle.yaml_compose.specs.KeeperModel.{Composes, MakesRoom, DressesOne};
+
+use crate::ahead::Ahead;
+use crate::composer::Forest;
+use crate::copies::{Owned, copy_of};
+use crate::waiting::{Late, Waiting};
+use std::alloc::Global;
+use std::mem;
+use yaml_compact::gives_up::GivesUp;
+use yaml_sink::properties::Properties;
+use yaml_sink::sink::{Collection, Keeper};
+use yaml_text::event::{Event, Style};
+use yaml_text::fault::Fault;
+
+/// A reader's events, composed as they come. It gives up where a node has no tree, where a number does not fit, where a key is a
+/// collection, and where a collection gets properties that it did not know when it began; then it says that there is no memory.
+#[derive(Drop)]
+pub struct Composing {
+    alloc: Global,
+    ahead: Ahead,
+    waiting: Waiting,
+    /// The properties of the node that follows, if they are known.
+    announced: Option<Owned>,
+    /// How many events are held.
+    count: usize,
+    /// Whether what is composed is of no use.
+    gave_up: bool,
+}
+
+impl Composing {
+    /// No event yet.
+    pub fn new(alloc: Global) -> Result<Composing, GivesUp>
+        ensures { IfOk result (λ keeper. Composes keeper []) }
+    {
+        let ahead = Ahead::new(alloc)?;
+        Ok(Composing {
+            alloc,
+            ahead,
+            waiting: Waiting::new(alloc),
+            announced: None,
+            count: 0,
+            gave_up: false,
+        })
+    }
+
+    /// Composes what waits, and counts one event more.
+    fn make_room(&mut self) -> Result<(), GivesUp>
+        ensures { IfOk result (λ _. MakesRoom self.old self.new) }
+    {
+        if self.gave_up {
+            return Err(GivesUp);
+        }
+        self.waiting
+            .compose(self.alloc, &mut self.ahead, self.count)?;
+        let Some(count) = self.count.checked_add(1) else {
+            return Err(GivesUp);
+        };
+        self.count = count;
+        Ok(())
+    }
+
+    /// Puts down a scalar without properties.
+    fn put_scalar(&mut self, style: Style, text: &str) -> Result<(), GivesUp>
+        ensures { IfOk result (λ _. Puts Composes self.old (scalar_event None untagged (style_of style) text.now ∷ []) self.new) }
+    {
+        self.make_room()?;
+        self.waiting.put(Late::Scalar(style), text)?;
+        self.announced = None;
+        Ok(())
+    }
+
+    /// Puts down an alias.
+    fn put_alias(&mut self, name: &str) -> Result<(), GivesUp>
+        ensures { IfOk result (λ _. Puts Composes self.old (alias_event name.now ∷ []) self.new) }
+    {
+        self.make_room()?;
+        self.waiting.put(Late::Alias, name)?;
+        self.announced = None;
+        Ok(())
+    }
+
+    /// Puts down the start of a collection without properties.
+    fn put_start(&mut self, collection: Collection, flow: bool) -> Result<(), GivesUp>
+        ensures { IfOk result (λ _. Puts Composes self.old (start_of collection flow ∷ []) self.new) }
+    {
+        self.make_room()?;
+        self.waiting.put(Late::Start(collection, flow), "")?;
+        let given = mem::replace(&mut self.announced, None);
+        self.waiting.owe(given);
+        Ok(())
+    }
+
+    /// Puts down the end of a collection.
+    fn put_end(&mut self, collection: Collection) -> Result<(), GivesUp>
+        ensures { IfOk result (λ _. Puts Composes self.old (end_of collection ∷ []) self.new) }
+    {
+        self.make_room()?;
+        self.ahead.end(collection)?;
+        Ok(())
+    }
+
+    /// Puts down a document's start.
+    fn put_document(&mut self) -> Result<(), GivesUp>
+        ensures { IfOk result (λ _. (explicit : Bool) → Puts Composes self.old (document_start explicit ∷ []) self.new) }
+    {
+        self.make_room()?;
+        self.ahead.document()?;
+        Ok(())
+    }
+
+    /// Puts down an event of those that a reader gives as a whole.
+    fn put(&mut self, event: &Event<'_>) -> Result<(), GivesUp>
+        ensures { IfOk result (λ _. Puts Composes self.old (event_of event.now ∷ []) self.new) }
+    {
+        match event {
+            Event::Alias { name } => self.put_alias(name.as_str()),
+            Event::DocumentStart { .. } => {
+                self.put_document()?;
+                Ok(())
+            }
+            Event::DocumentEnd { .. } => {
+                self.make_room()?;
+                Ok(())
+            }
+            Event::StreamStart => {
+                self.make_room()?;
+                Ok(())
+            }
+            Event::StreamEnd => {
+                self.make_room()?;
+                Ok(())
+            }
+            _ => Err(GivesUp),
+        }
+    }
+
+    /// Puts a mapping's start before the event that waits, which was put down at this mark.
+    fn put_before(&mut self, start: usize, flow: bool) -> Result<(), GivesUp>
+        ensures { IfOk result (λ _. Alters Composes start (λ es. mapping_start flow None untagged ∷ es) self.old self.new) }
+    {
+        if self.gave_up {
+            return Err(GivesUp);
+        }
+        if self.count.saturating_sub(start) != 1 {
+            return Err(GivesUp);
+        }
+        let Some(count) = self.count.checked_add(1) else {
+            return Err(GivesUp);
+        };
+        self.waiting.precede(flow)?;
+        self.count = count;
+        Ok(())
+    }
+
+    /// Puts properties on the first event since a mark: on one that waits, or on that of the collection which ended last.
+    fn put_on(&mut self, start: usize, properties: &Properties<'_>) -> Result<(), GivesUp>
+        ensures ok { IfOk result (λ _. DressesOne self.old start (props_of properties.now) self.new) }
+        ensures count { self.new.count ≡ self.old.count }
+        ensures gave_up { self.new.gave_up ≡ self.old.gave_up }
+    {
+        if start >= self.count {
+            return Ok(());
+        }
+        if self.waiting.is_none() {
+            self.ahead.pay(start, properties)?;
+            return Ok(());
+        }
+        let copy = copy_of(self.alloc, properties)?;
+        self.waiting.dress(self.count - start, copy)?;
+        Ok(())
+    }
+
+    /// The nodes of a whole stream.
+    pub fn finish(self) -> Result<Forest, GivesUp>
+        ensures { (ds : List Document) → Composes self (stream_events ds) → IfOk result (IsForest ds) }
+    {
+        let Composing {
+            alloc,
+            mut ahead,
+            mut waiting,
+            announced: _,
+            count,
+            gave_up,
+        } = self;
+        if gave_up {
+            return Err(GivesUp);
+        }
+        waiting.compose(alloc, &mut ahead, count)?;
+        let forest = ahead.finish()?;
+        Ok(forest)
+    }
+}
+
+impl Keeper for Composing {
+    ghost use Rattle.yaml_sink.specs.Held.{Counts, Keeps, Puts, Alters};
+    ghost use Rattle.yaml_sink.specs.PropertyRules.{props_of, dressed};
+    ghost use Rattle.yaml_text.specs.EventModel.{event_of};
+    ghost use Rattle.yaml_compose.specs.KeeperModel.{Composes};
+
+    ghost holds = { Composes };
+
+    fn mark(&self) -> usize {
+        self.count
+    }
+
+    fn push(&mut self, event: &Event<'_>, _at: usize) -> Result<(), Fault> {
+        self.put(event)?;
+        Ok(())
+    }
+
+    fn scalar(&mut self, style: Style, text: &str, _at: usize) -> Result<(), Fault> {
+        self.put_scalar(style, text)?;
+        Ok(())
+    }
+
+    fn begin(&mut self, collection: Collection, flow: bool, _at: usize) -> Result<(), Fault> {
+        self.put_start(collection, flow)?;
+        Ok(())
+    }
+
+    fn end(&mut self, collection: Collection, _at: usize) -> Result<(), Fault> {
+        self.put_end(collection)?;
+        Ok(())
+    }
+
+    fn insert(&mut self, start: usize, flow: bool, _at: usize) -> Result<(), Fault> {
+        self.put_before(start, flow)?;
+        Ok(())
+    }
+
+    fn announce(&mut self, own: &Properties<'_>) {
+        match copy_of(self.alloc, own) {
+            Ok(copy) => self.announced = Some(Owned { properties: copy }),
+            Err(_) => self.gave_up = true,
+        }
+    }
+
+    fn dress(&mut self, start: usize, properties: &Properties<'_>) {
+        let Ok(_) = self.put_on(start, properties) else {
+            self.gave_up = true;
+            return;
+        };
+    }
+
+    fn cut(&mut self, start: usize) {
+        self.gave_up = true;
+        self.count = self.count.min(start);
+    }
+}

@@ -1,0 +1,15 @@
+//! Laws of what events come to. Each function has an empty body, and its contract is a law.
+ghost use Rattle.yaml_compose.specs.ComposerLog.{FollowsNone, FollowsStep, FollowsRest};
+ghost use Rattle.yaml_compose.specs.Reached.{StreamIsForest};
+
+/// The roots after a stream's events are its forest.
+pub fn stream_is_forest()
+    ensures { StreamIsForest }
+{}
+
+/// A composer whose calls are those of the events that were put down follows them.
+pub fn log_is_followed()
+    ensures none { FollowsNone }
+    ensures step { FollowsStep }
+    ensures rest { FollowsRest }
+{}

@@ -1,0 +1,13 @@
+//! From a reader's events to nodes of a store, by a keeper that may give up.
+#![tactic(auto)]
+
+mod ahead;
+mod composer;
+mod copies;
+pub mod keeper;
+pub mod laws;
+mod tag;
+mod waiting;
+
+pub use composer::Forest;
+pub use keeper::Composing;

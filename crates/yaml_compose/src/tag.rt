@@ -1,0 +1,53 @@
+//! Tags of collections.
+ghost use Rattle.std.specs.Prelude.{IfOk, Ok, ◌≡◌};
+ghost use Rattle.yaml_definitions.specs.model.Tag.{default_tag, is_core};
+ghost use Rattle.yaml_definitions.specs.model.Core.{collection_tag};
+ghost use Rattle.yaml_text.specs.EventModel.{written_of};
+ghost use Rattle.yaml_compose.specs.TagModel.{collection_number};
+
+use yaml_compact::gives_up::GivesUp;
+use yaml_compact::nodes::Collection;
+use yaml_text::event::EventTag;
+
+/// Whether this is a tag of the core schema.
+#[tactic(auto, unfolding(yaml_definitions::specs::model::Tag::core_tag))]
+fn is_core(tag: &str) -> bool
+    ensures { result ≡ is_core tag.now }
+{
+    matches!(
+        tag,
+        "tag:yaml.org,2002:null"
+            | "tag:yaml.org,2002:bool"
+            | "tag:yaml.org,2002:int"
+            | "tag:yaml.org,2002:float"
+            | "tag:yaml.org,2002:str"
+            | "tag:yaml.org,2002:seq"
+            | "tag:yaml.org,2002:map"
+    )
+}
+
+/// The tag of a collection that carries none.
+#[tactic(auto, unfolding(yaml_definitions::specs::model::Tag::core_tag))]
+fn default_tag(collection: Collection) -> &'static str
+    ensures { result.now ≡ default_tag (collection_number collection) }
+{
+    match collection {
+        Collection::Sequence => "tag:yaml.org,2002:seq",
+        Collection::Mapping => "tag:yaml.org,2002:map",
+    }
+}
+
+/// The tag of a collection, by what is written.
+#[tactic(auto, unfolding(yaml_definitions::specs::model::Core::collection_tag))]
+pub(crate) fn tag_of<'a>(collection: Collection, tag: &'a EventTag<'_>) -> Result<&'a str, GivesUp>
+    ensures { IfOk result (λ text. collection_tag (collection_number collection) (written_of tag.now) ≡ Ok text.now) }
+{
+    let EventTag::Full(full) = tag else {
+        return Ok(default_tag(collection));
+    };
+    let text = full.as_str();
+    if text != default_tag(collection) && is_core(text) {
+        return Err(GivesUp);
+    }
+    Ok(text)
+}

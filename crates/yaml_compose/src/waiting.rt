@@ -1,0 +1,194 @@
+//! What was put down last, while it is not known yet whose its properties are and whether a mapping begins before it.
+ghost use Rattle.std.specs.Prelude.{◌≡◌, [], IfOk};
+ghost use Rattle.std.specs.Bool.{OnTrue, OnFalse};
+ghost use Rattle.std.specs.String.{string_bytes};
+ghost use Rattle.yaml_definitions.specs.grammar.Events.{no_props};
+ghost use Rattle.yaml_sink.specs.Held.{Puts};
+ghost use Rattle.yaml_sink.specs.PropertyRules.{props_of};
+ghost use Rattle.yaml_compose.specs.AheadModel.{Tells};
+ghost use Rattle.yaml_compose.specs.WaitingModel.{late_event, start_before, waits, IsOne, PutsLate, ComposesWaits, Precedes, DressesWaits};
+
+use crate::ahead::Ahead;
+use crate::copies::Owned;
+use std::alloc::Global;
+use std::mem;
+use yaml_compact::gives_up::GivesUp;
+use yaml_sink::properties::Properties;
+use yaml_sink::sink::Collection;
+use yaml_text::event::Style;
+
+/// What an event is that waits.
+#[derive(Clone, Copy)]
+pub(crate) enum Late {
+    Nothing,
+    Scalar(Style),
+    Alias,
+    /// A collection's start, and whether it is a flow collection.
+    Start(Collection, bool),
+}
+
+/// An event that waits, perhaps with a mapping's start before it.
+#[derive(Drop)]
+pub(crate) struct Waiting {
+    late: Late,
+    /// The content of a scalar, the name of an alias.
+    text: String,
+    /// What the event has of properties.
+    own: Properties<'static>,
+    /// With which properties a collection is composed that has none yet.
+    due: Option<Owned>,
+    /// Of the mapping's start, whether it is a flow mapping, and its properties.
+    mapping: Option<bool>,
+    outer: Properties<'static>,
+}
+
+impl Waiting {
+    /// Nothing waits.
+    pub(crate) fn new(alloc: Global) -> Waiting
+        ensures { waits result ≡ [] }
+    {
+        Waiting {
+            late: Late::Nothing,
+            text: String::new(alloc),
+            own: Properties::none(),
+            due: None,
+            mapping: None,
+            outer: Properties::none(),
+        }
+    }
+
+    /// Whether nothing waits.
+    pub(crate) fn is_none(&self) -> bool
+        ensures yes { OnTrue result (waits self.now ≡ []) }
+        ensures no { OnFalse result (IsOne (late_event self.now.late (props_of self.now.own) (string_bytes self.now.text))) }
+    {
+        matches!(self.late, Late::Nothing)
+    }
+
+    /// This waits, without properties.
+    pub(crate) fn put(&mut self, late: Late, text: &str) -> Result<(), GivesUp>
+        ensures { IfOk result (λ _. waits self.new ≡ late_event late no_props text.now) }
+    {
+        self.text.clear();
+        self.text.push_str(text)?;
+        self.own = Properties::none();
+        self.due = None;
+        self.mapping = None;
+        self.late = late;
+        Ok(())
+    }
+
+    /// The collection that waits is composed with these properties, if there are any, unless it gets others before.
+    pub(crate) fn owe(&mut self, given: Option<Owned>)
+        ensures { waits self.new ≡ waits self.old }
+    {
+        self.due = given;
+    }
+
+    /// A mapping's start without properties waits before the event, where none does yet.
+    pub(crate) fn precede(&mut self, flow: bool) -> Result<(), GivesUp>
+        ensures { IfOk result (λ _. Precedes flow (waits self.old) (waits self.new)) }
+    {
+        if self.is_none() {
+            return Err(GivesUp);
+        }
+        let None = self.mapping else {
+            return Err(GivesUp);
+        };
+        self.mapping = Some(flow);
+        self.outer = Properties::none();
+        Ok(())
+    }
+
+    /// Puts properties on the first of the last so many events, which wait.
+    pub(crate) fn dress(
+        &mut self,
+        count: usize,
+        properties: Properties<'static>,
+    ) -> Result<(), GivesUp>
+        ensures { IfOk result (λ _. DressesWaits count (props_of properties.entry) (waits self.old) (waits self.new)) }
+    {
+        if self.is_none() {
+            return Err(GivesUp);
+        }
+        if count == 1 {
+            self.own = properties;
+            self.due = None;
+            return Ok(());
+        }
+        if count != 2 {
+            return Err(GivesUp);
+        }
+        let Some(_) = self.mapping else {
+            return Err(GivesUp);
+        };
+        self.outer = properties;
+        Ok(())
+    }
+
+    /// Composes the mapping's start, if there is one.
+    fn compose_start(&self, alloc: Global, ahead: &mut Ahead) -> Result<(), GivesUp>
+        ensures { IfOk result (λ _. Puts Tells ahead.old (start_before self.now.mapping (props_of self.now.outer)) ahead.new) }
+    {
+        let Some(_) = self.mapping else {
+            return Ok(());
+        };
+        ahead.begin(alloc, Collection::Mapping, &self.outer)?;
+        Ok(())
+    }
+
+    /// Composes the event, which has this number.
+    fn compose_late(
+        &mut self,
+        alloc: Global,
+        ahead: &mut Ahead,
+        number: usize,
+    ) -> Result<(), GivesUp>
+        ensures { IfOk result (λ _. PutsLate number (late_event self.old.late (props_of self.old.own) (string_bytes self.old.text)) ahead.old ahead.new) }
+    {
+        match self.late {
+            Late::Nothing => Ok(()),
+            Late::Scalar(style) => {
+                ahead.scalar(alloc, &self.own, style, self.text.as_str())?;
+                Ok(())
+            }
+            Late::Alias => {
+                ahead.alias(self.text.as_str())?;
+                Ok(())
+            }
+            Late::Start(collection, _) => match mem::replace(&mut self.due, None) {
+                None => {
+                    ahead.begin(alloc, collection, &self.own)?;
+                    Ok(())
+                }
+                Some(owned) => {
+                    let Owned { properties } = owned;
+                    ahead.begin_due(alloc, collection, number, properties)?;
+                    Ok(())
+                }
+            },
+        }
+    }
+
+    /// Composes what waits, the last of so many events.
+    pub(crate) fn compose(
+        &mut self,
+        alloc: Global,
+        ahead: &mut Ahead,
+        count: usize,
+    ) -> Result<(), GivesUp>
+        ensures composes { IfOk result (λ _. ComposesWaits count (waits self.old) ahead.old ahead.new) }
+        ensures none { IfOk result (λ _. waits self.new ≡ []) }
+    {
+        if self.is_none() {
+            return Ok(());
+        }
+        let Some(number) = count.checked_sub(1) else {
+            return Err(GivesUp);
+        };
+        self.compose_start(alloc, ahead)?;
+        self.compose_late(alloc, ahead, number)?;
+        self.late = Late::Nothing;
+        Ok(())
+    }
+}

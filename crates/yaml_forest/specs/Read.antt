@@ -1,0 +1,19 @@
+-- The forest that bytes are read as.
+use Rattle.std.specs.Prelude.{ℕ, List}
+use Rattle.yaml_definitions.specs.model.Tree.{Tree}
+use Rattle.yaml_definitions.specs.model.Serial.{Document, stream_events}
+use Rattle.yaml_definitions.specs.grammar.Reading.{Reads}
+use Rattle.yaml_compact.specs.StoreModel.{parts_at}
+use Rattle.yaml_compact.specs.StoreGrows.{trees_of}
+use Rattle.yaml_compose.specs.ComposerModel.{IsForest}
+use Rattle.yaml_compose.specs.declared.composer.Forest.{Forest}
+
+-- The bytes are read as these documents, which unfold, with no tree too high; and the roots stand for their trees.
+pub record HasForest (bytes : List ℕ) (f : Forest) : Type 0 where
+  pub documents : List Document
+  pub read : Reads bytes (stream_events documents)
+  pub forest : IsForest documents f
+
+-- the trees of the roots
+abbrev pub root_trees : Forest → List Tree
+root_trees f = parts_at (trees_of f.store) f.roots.items
