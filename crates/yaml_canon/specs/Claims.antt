@@ -18,6 +18,7 @@ use Rattle.law_length.specs.Sizes.{texts_bytes}
 use Rattle.yaml_graph.specs.Composed.{Composed, RefusesStream}
 use Rattle.yaml_nodes.specs.declared.graph.Graph.{Graph}
 use Rattle.yaml_levels.specs.RanksView.{RefusesGraph}
+use Rattle.yaml_spell.specs.Documents.{arranged_bytes}
 
 -- each of these trees
 abbrev pub AllOf : (Tree → Type 0) → List Tree → Type 0
@@ -30,6 +31,12 @@ pub record MeansAlone (bytes : List ℕ) (f : List Tree) : Type 0 where
   pub only : (g : List Tree) → Means bytes g → g ≡ f
   pub low : AllOf (λ t. height t ≤ height_limit) f
   pub keyed : AllOf Keyed f
+
+-- The bytes mean a forest alone, and the text of these trees, which are arranged, is its text.
+pub record IsArranged (bytes : List ℕ) (ts : List Tree) : Type 0 where
+  pub forest : List Tree
+  pub accepted : MeansAlone bytes forest
+  pub text : arranged_bytes ts ≡ spell_bytes forest
 
 -- The text is the canonical one of what the bytes mean: its spelling, which tells that forest from every other. It has at most 4 bytes for each byte of the scalars' texts and 4,096 for each event of the events that the bytes are read to.
 pub record IsCanonicalText (bytes text : List ℕ) : Type 0 where

@@ -1,5 +1,5 @@
 //! The canonical text of a stream.
-ghost use Rattle.std.specs.Prelude.{◌≡◌, ◌≤◌, ℕ, List, length, IfOk, IfErr, MatchResult};
+ghost use Rattle.std.specs.Prelude.{◌≡◌, ◌≤◌, ℕ, List, length, map, IfOk, IfErr, MatchResult};
 ghost use Rattle.std.specs.Result.{IsErrAnd};
 ghost use Rattle.std.specs.String.{string_bytes};
 ghost use Rattle.yaml_definitions.specs.model.Text.{Text};
@@ -9,35 +9,52 @@ ghost use Rattle.yaml_definitions.specs.model.Tree.{Tree};
 ghost use Rattle.yaml_definitions.specs.canonical.Spell.{spell_bytes};
 ghost use Rattle.yaml_definitions.specs.model.Proper.{Admitted};
 ghost use Rattle.yaml_definitions.specs.model.Means.{Means};
-ghost use Rattle.yaml_nodes.specs.GraphView.{forest};
-ghost use Rattle.yaml_levels.specs.RanksView.{RanksAre};
-ghost use Rattle.yaml_spell.specs.Documents.{RefusesLength};
+ghost use Rattle.yaml_spell.specs.Documents.{arranged_bytes, RefusesArranged};
+ghost use Rattle.yaml_spell.specs.RankedNodes.{Rooted, tree_of};
 ghost use Rattle.yaml_canon.specs.Claims.{IsCanonicalText, CanonicalRefuses};
 ghost use Rattle.yaml_canon.specs.FaultPlaces.{TellsPlace};
 ghost use Rattle.yaml_canon.specs.Accepting.{IsSpelling, IsMemory};
 
 use crate::graph_of::graph_of;
 use std::alloc::Global;
-use yaml_graph::graph::Graph;
+use yaml_compact::GivesUp;
+use yaml_forest::ranked_forest;
 use yaml_rank::rank;
-use yaml_rank::ranks::Ranks;
 use yaml_spell::names::Names;
-use yaml_spell::spell::{canonical_len, write_documents};
+use yaml_spell::ranked::RankedNodes;
+use yaml_spell::ranked_graph::RankedGraph;
+use yaml_spell::spell::{ranked_len, write_ranked};
 use yaml_spell::whole::Whole;
 use yaml_text::fault::Fault;
 
-/// The canonical text of a graph's documents, for which room is taken once.
-fn spelled(alloc: Global, graph: &Graph<'_>, ranks: &Ranks) -> Result<String, Fault>
-    requires { RanksAre graph.now ranks.now }
-    ensures ok { IfOk result (λ text. string_bytes text ≡ spell_bytes (forest graph.now)) }
+/// The text of the documents of these roots, for which room is taken once.
+fn spelled<I: Copy, V: RankedNodes<I>>(
+    alloc: Global,
+    view: &V,
+    roots: &[I],
+) -> Result<String, Fault>
+    requires { Rooted V.stands V.count V.number view.now roots.now }
+    ensures ok { IfOk result (λ text. string_bytes text ≡ arranged_bytes (map (tree_of V.tree V.number view.now) roots.now)) }
     ensures fits { IfOk result (λ text. length (string_bytes text) ≤ text_limit) }
-    ensures err { IfErr result (RefusesLength (forest graph.now)) }
+    ensures err { IfErr result (RefusesArranged (map (tree_of V.tree V.number view.now) roots.now)) }
 {
-    let len = canonical_len(alloc, graph, ranks)?;
-    let mut names = Names::new(alloc, graph.len())?;
+    let len = ranked_len(alloc, view, roots)?;
+    let mut names = Names::new(alloc, view.len())?;
     let mut text = String::with_capacity(alloc, len)?;
-    write_documents(graph, ranks, &mut names, &mut Whole, &mut text)?;
+    write_ranked(view, &mut names, roots, &mut Whole, &mut text)?;
     Ok(text)
+}
+
+/// The canonical text of the stream that these bytes are, or none where its nodes are not had in one
+/// pass over the bytes, or the text is too long, or memory is refused.
+pub(crate) fn text_of(alloc: Global, bytes: &[u8]) -> Result<String, GivesUp>
+    ensures { IfOk result (λ text. IsCanonicalText bytes.now (string_bytes text)) }
+{
+    let forest = ranked_forest(alloc, bytes)?;
+    match spelled(alloc, &forest.ranked, &forest.roots) {
+        Ok(text) => Ok(text),
+        Err(_) => Err(GivesUp),
+    }
 }
 
 /// The canonical text of the stream that these bytes are.
@@ -55,7 +72,14 @@ pub fn canonical(alloc: Global, bytes: &[u8]) -> Result<String, Fault>
     ensures spelling { (f : List Tree) → Admitted f → IsSpelling bytes.now f → MatchResult result (λ text. string_bytes text ≡ spell_bytes f) IsMemory }
     ensures placed { IfErr result (TellsPlace bytes.now) }
 {
+    if let Ok(forest) = ranked_forest(alloc, bytes) {
+        return spelled(alloc, &forest.ranked, &forest.roots);
+    }
     let graph = graph_of(alloc, bytes)?;
     let ranks = rank(alloc, &graph)?;
-    spelled(alloc, &graph, &ranks)
+    let view = RankedGraph {
+        graph: &graph,
+        ranks: &ranks,
+    };
+    spelled(alloc, &view, graph.roots())
 }

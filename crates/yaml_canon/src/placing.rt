@@ -1,5 +1,5 @@
 //! The canonical text of a stream, in the room that a caller gives for it.
-ghost use Rattle.std.specs.Prelude.{◌≡◌, ◌≤◌, ◌++◌, ℕ, List, length, drop, OnErr, IfOk, IfErr, IsOk, MatchResult};
+ghost use Rattle.std.specs.Prelude.{◌≡◌, ◌≤◌, ◌++◌, ℕ, List, length, map, drop, OnErr, IfOk, IfErr, IsOk, MatchResult};
 ghost use Rattle.std.specs.Result.{IsErrAnd};
 ghost use Rattle.yaml_definitions.specs.model.Text.{Text};
 ghost use Rattle.yaml_text.specs.Refused.{RefusesText};
@@ -8,10 +8,9 @@ ghost use Rattle.yaml_definitions.specs.model.Tree.{Tree};
 ghost use Rattle.yaml_definitions.specs.canonical.Spell.{spell_bytes};
 ghost use Rattle.yaml_definitions.specs.model.Proper.{Admitted};
 ghost use Rattle.yaml_definitions.specs.model.Means.{Means};
-ghost use Rattle.yaml_nodes.specs.GraphView.{nodes_of, forest};
-ghost use Rattle.yaml_levels.specs.RanksView.{RanksAre};
 ghost use Rattle.yaml_spell.specs.NamesView.{ranks_in, document_number};
-ghost use Rattle.yaml_spell.specs.Documents.{RefusesLength};
+ghost use Rattle.yaml_spell.specs.Documents.{arranged_bytes, RefusesArranged};
+ghost use Rattle.yaml_spell.specs.RankedNodes.{Rooted, tree_of};
 ghost use Rattle.yaml_canon.specs.Claims.{CanonicalRefuses};
 ghost use Rattle.yaml_canon.specs.FaultPlaces.{TellsPlace};
 ghost use Rattle.yaml_canon.specs.Accepting.{IsSpelling, IsMemory};
@@ -19,43 +18,54 @@ ghost use Rattle.yaml_canon.specs.Rooms.{Places, PlacesCanonical};
 
 use crate::graph_of::graph_of;
 use std::alloc::Global;
-use yaml_graph::graph::Graph;
+use yaml_forest::ranked_forest;
 use yaml_rank::rank;
-use yaml_rank::ranks::Ranks;
 use yaml_spell::names::Names;
+use yaml_spell::ranked::RankedNodes;
+use yaml_spell::ranked_graph::RankedGraph;
 use yaml_spell::room::Room;
-use yaml_spell::spell::{canonical_len, write_documents};
+use yaml_spell::spell::{ranked_len, write_ranked};
 use yaml_text::fault::Fault;
 
-/// Puts the canonical text of a graph's documents at the start of the room, which is long enough. It
+/// Puts the text of the documents of these roots at the start of the room, which is long enough. It
 /// takes no memory, and is always done.
-fn fill(graph: &Graph<'_>, ranks: &Ranks, names: &mut Names, room: &mut [u8]) -> Result<(), Fault>
-    requires ranked { RanksAre graph.now ranks.now }
-    requires long { ranks_in names.old ≡ length (nodes_of graph.now) }
+fn fill<I: Copy, V: RankedNodes<I>>(
+    view: &V,
+    names: &mut Names,
+    roots: &[I],
+    room: &mut [u8],
+) -> Result<(), Fault>
+    requires rooted { Rooted V.stands V.count V.number view.now roots.now }
+    requires long { ranks_in names.old ≡ V.count view.now }
     requires fresh { document_number names.old ≡ 0 }
-    requires fits { length (spell_bytes (forest graph.now)) ≤ length room.old }
+    requires fits { length (arranged_bytes (map (tree_of V.tree V.number view.now) roots.now)) ≤ length room.old }
     ensures done { IsOk result }
-    ensures text { room.new ≡ spell_bytes (forest graph.now) ++ drop (length (spell_bytes (forest graph.now))) room.old }
+    ensures text { room.new ≡ arranged_bytes (map (tree_of V.tree V.number view.now) roots.now) ++ drop (length (arranged_bytes (map (tree_of V.tree V.number view.now) roots.now))) room.old }
 {
     let mut text = Room::new(room);
-    write_documents(graph, ranks, names, &mut text, &mut ())
+    write_ranked(view, names, roots, &mut text, &mut ())
 }
 
-/// Puts the canonical text of a graph's documents into the room, if that is long enough. The answer
+/// Puts the text of the documents of these roots into the room, if that is long enough. The answer
 /// is the text's length.
-fn place(alloc: Global, graph: &Graph<'_>, ranks: &Ranks, room: &mut [u8]) -> Result<usize, Fault>
-    requires { RanksAre graph.now ranks.now }
-    ensures ok { IfOk result (Places (spell_bytes (forest graph.now)) room.old room.new) }
+fn place<I: Copy, V: RankedNodes<I>>(
+    alloc: Global,
+    view: &V,
+    roots: &[I],
+    room: &mut [u8],
+) -> Result<usize, Fault>
+    requires { Rooted V.stands V.count V.number view.now roots.now }
+    ensures ok { IfOk result (Places (arranged_bytes (map (tree_of V.tree V.number view.now) roots.now)) room.old room.new) }
     ensures fits { IfOk result (λ len. len ≤ text_limit) }
-    ensures err { IfErr result (RefusesLength (forest graph.now)) }
+    ensures err { IfErr result (RefusesArranged (map (tree_of V.tree V.number view.now) roots.now)) }
     ensures kept { OnErr result (room.new ≡ room.old) }
 {
-    let len = canonical_len(alloc, graph, ranks)?;
+    let len = ranked_len(alloc, view, roots)?;
     if len > room.len() {
         return Ok(len);
     }
-    let mut names = Names::new(alloc, graph.len())?;
-    fill(graph, ranks, &mut names, room)?;
+    let mut names = Names::new(alloc, view.len())?;
+    fill(view, &mut names, roots, room)?;
     Ok(len)
 }
 
@@ -73,7 +83,14 @@ pub fn canonical_into(alloc: Global, bytes: &[u8], room: &mut [u8]) -> Result<us
     ensures spelling { (f : List Tree) → Admitted f → IsSpelling bytes.now f → MatchResult result (Places (spell_bytes f) room.old room.new) IsMemory }
     ensures placed { IfErr result (TellsPlace bytes.now) }
 {
+    if let Ok(forest) = ranked_forest(alloc, bytes) {
+        return place(alloc, &forest.ranked, &forest.roots, room);
+    }
     let graph = graph_of(alloc, bytes)?;
     let ranks = rank(alloc, &graph)?;
-    place(alloc, &graph, &ranks, room)
+    let view = RankedGraph {
+        graph: &graph,
+        ranks: &ranks,
+    };
+    place(alloc, &view, graph.roots(), room)
 }

@@ -1,51 +1,69 @@
 //! Reading a stream and writing its canonical text page by page.
-ghost use Rattle.std.specs.Prelude.{◌≡◌, ◌<◌, ◌-◌, ◌^◌, length, OnOk, IfErr};
+ghost use Rattle.std.specs.Prelude.{◌≡◌, ◌<◌, ◌-◌, ◌^◌, map, OnOk, IfErr};
 ghost use Rattle.yaml_text.specs.CountedModel.{faults_of};
-ghost use Rattle.yaml_definitions.specs.canonical.Spell.{spell_bytes};
-ghost use Rattle.yaml_nodes.specs.GraphView.{nodes_of, forest};
-ghost use Rattle.yaml_levels.specs.RanksView.{RanksAre};
+ghost use Rattle.yaml_spell.specs.Documents.{arranged_bytes};
+ghost use Rattle.yaml_spell.specs.RankedNodes.{Rooted, tree_of};
 ghost use Rattle.yaml_spell.specs.NamesView.{ranks_in, document_number};
 ghost use Rattle.yaml_canon.specs.Writers.{Printed, Broken};
 ghost use Rattle.yaml_canon.specs.FaultPlaces.{TellsPlace, TellsReadPlace};
-ghost use Rattle.yaml_canon.specs.Runs.{WritesCanonical, WriteRefuses, RunsWhole, RunFails};
+ghost use Rattle.yaml_canon.specs.Runs.{WritesArranged, ArrangedFails, WritesCanonical, WriteRefuses, RunsWhole, RunFails};
 
 use crate::gathering::gather;
 use crate::graph_of::graph_of;
 use std::alloc::Global;
 use std::io::{Read, Write};
-use yaml_graph::graph::Graph;
+use yaml_forest::ranked_forest;
 use yaml_rank::rank;
-use yaml_rank::ranks::Ranks;
 use yaml_spell::names::Names;
 use yaml_spell::page::Page;
-use yaml_spell::spell::{canonical_len, write_documents};
+use yaml_spell::ranked::RankedNodes;
+use yaml_spell::ranked_graph::RankedGraph;
+use yaml_spell::spell::{ranked_len, write_ranked};
 use yaml_text::counted::Counted;
 use yaml_text::fault::Fault;
 use yaml_text::limits::text_limit;
 
-/// Writes the canonical text of a graph's documents page by page, and flushes. It takes no memory,
+/// Writes the text of the documents of these roots page by page, and flushes. It takes no memory,
 /// and fails as the writer does (23).
-fn write_pages<W: Write>(
-    graph: &Graph<'_>,
-    ranks: &Ranks,
+fn write_pages<I: Copy, V: RankedNodes<I>, W: Write>(
+    view: &V,
     names: &mut Names,
+    roots: &[I],
     out: &mut Counted<W>,
 ) -> Result<(), Fault>
-    requires ranked { RanksAre graph.now ranks.now }
-    requires long { ranks_in names.old ≡ length (nodes_of graph.now) }
+    requires rooted { Rooted V.stands V.count V.number view.now roots.now }
+    requires long { ranks_in names.old ≡ V.count view.now }
     requires fresh { document_number names.old ≡ 0 }
     requires few { faults_of out.old < 2 ^ 64 - 1 }
-    ensures ok { OnOk result (Printed W.contents out.old out.new (spell_bytes (forest graph.now))) }
-    ensures broken { IfErr result (λ _. Broken W.contents out.old out.new (spell_bytes (forest graph.now))) }
+    ensures ok { OnOk result (Printed W.contents out.old out.new (arranged_bytes (map (tree_of V.tree V.number view.now) roots.now))) }
+    ensures broken { IfErr result (λ _. Broken W.contents out.old out.new (arranged_bytes (map (tree_of V.tree V.number view.now) roots.now))) }
     ensures err { IfErr result (λ fault. fault ≡ Fault.WriteFault) }
 {
     let mut page = Page::new();
-    write_documents(graph, ranks, names, &mut page, out)?;
+    write_ranked(view, names, roots, &mut page, out)?;
     page.send(out)?;
     match out.flush() {
         Ok(()) => Ok(()),
         Err(_) => Err(Fault::WriteFault),
     }
+}
+
+/// Writes the text of the documents of these roots. Each growth is made before the first byte goes
+/// out.
+fn write_spelled<I: Copy, V: RankedNodes<I>, W: Write>(
+    alloc: Global,
+    view: &V,
+    roots: &[I],
+    out: &mut Counted<W>,
+) -> Result<(), Fault>
+    requires rooted { Rooted V.stands V.count V.number view.now roots.now }
+    requires few { faults_of out.old < 2 ^ 64 - 1 }
+    ensures ok { OnOk result (WritesArranged W.contents (map (tree_of V.tree V.number view.now) roots.now) out.old out.new) }
+    ensures err { IfErr result (ArrangedFails W.contents (map (tree_of V.tree V.number view.now) roots.now) out.old out.new) }
+{
+    ranked_len(alloc, view, roots)?;
+    let mut names = Names::new(alloc, view.len())?;
+    write_pages(view, &mut names, roots, out)
 }
 
 /// Writes the canonical text of the stream that these bytes are. Each growth is made before the
@@ -56,11 +74,16 @@ fn write_canonical<W: Write>(alloc: Global, bytes: &[u8], out: &mut Counted<W>) 
     ensures err { IfErr result (WriteRefuses W.contents bytes.now out.old out.new) }
     ensures placed { IfErr result (TellsPlace bytes.now) }
 {
+    if let Ok(forest) = ranked_forest(alloc, bytes) {
+        return write_spelled(alloc, &forest.ranked, &forest.roots, out);
+    }
     let graph = graph_of(alloc, bytes)?;
     let ranks = rank(alloc, &graph)?;
-    canonical_len(alloc, &graph, &ranks)?;
-    let mut names = Names::new(alloc, graph.len())?;
-    write_pages(&graph, &ranks, &mut names, out)
+    let view = RankedGraph {
+        graph: &graph,
+        ranks: &ranks,
+    };
+    write_spelled(alloc, &view, graph.roots(), out)
 }
 
 /// Reads a stream to its end and writes its canonical text, which is never held whole: it goes out

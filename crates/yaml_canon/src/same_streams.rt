@@ -17,9 +17,11 @@ ghost use Rattle.yaml_canon.specs.Accepting.{IsSpelling, IsMemory, TellsTexts};
 ghost use Rattle.yaml_definitions.specs.model.Serial.{Document};
 ghost use Rattle.yaml_graph.specs.Composed.{Composed};
 
+use crate::canonical_text::text_of;
 use crate::graph_of::graph_of;
 use crate::side::Side;
 use std::alloc::Global;
+use yaml_compact::GivesUp;
 use yaml_graph::graph::Graph;
 use yaml_graph::join;
 use yaml_rank::rank;
@@ -82,6 +84,15 @@ fn compare<'a>(alloc: Global, left: Graph<'a>, right: Graph<'a>) -> Result<bool,
     }
 }
 
+/// Whether two streams have one canonical text, where both texts are had in one pass over the bytes.
+fn have_one_text(alloc: Global, left: &[u8], right: &[u8]) -> Result<bool, GivesUp>
+    ensures { IfOk result (Compares left.now right.now) }
+{
+    let first = text_of(alloc, left)?;
+    let second = text_of(alloc, right)?;
+    Ok(first == second)
+}
+
 /// Whether two streams have equally many documents, pairwise the same: aliases unfolded, mappings
 /// as sets of pairs, scalars by tag and content.
 ///
@@ -101,6 +112,9 @@ pub fn same<'a>(alloc: Global, left: &'a [u8], right: &'a [u8]) -> Result<bool, 
     ensures no_right_text { ((cs : List ℕ) → Text right.now cs → ⊥) → IsErrAnd result (λ refusal. (refusal.0 ≡ Left) ⊎ ((refusal.0 ≡ Right) × RefusesText right.now refusal.1)) }
     ensures placed { IfErr result (λ refusal. TellsSidesPlace left.now right.now refusal.0 refusal.1) }
 {
+    if let Ok(answer) = have_one_text(alloc, left, right) {
+        return Ok(answer);
+    }
     let first = on(Side::Left, graph_of(alloc, left))?;
     let second = on(Side::Right, graph_of(alloc, right))?;
     compare(alloc, first, second)

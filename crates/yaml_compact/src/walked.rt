@@ -18,6 +18,10 @@ impl RankedNodes<u32> for Ranked {
 
     ghost rank = { walked_rank };
 
+    fn len(&self) -> usize {
+        self.first.len()
+    }
+
     fn node(&self, id: u32) -> Shown<'_, u32> {
         let node = self.nodes[self.first[id as usize] as usize];
         let tag = self.tags[node.tag as usize].as_str();
@@ -46,4 +50,20 @@ impl RankedNodes<u32> for Ranked {
     }
 
     fn tells(&self) {}
+}
+
+impl Ranked {
+    ghost use Rattle.std.specs.Prelude.{◌<◌, length};
+    ghost use Rattle.std.specs.List.{All};
+    ghost use Rattle.yaml_compact.specs.Walked.{ranks_of, RanksTaken};
+
+    /// Puts the rank of each of these nodes of the store in its place.
+    pub fn take_ranks(&self, nodes: &mut [u32])
+        requires { All (λ i. i < length (ranks_of self.now)) nodes.old }
+        ensures { RanksTaken self.now nodes.old nodes.new }
+    {
+        for place in 0..nodes.len() {
+            nodes[place] = self.ranks[nodes[place] as usize];
+        }
+    }
 }

@@ -1,5 +1,6 @@
 -- Nodes that are ranked, and what they show.
-use Rattle.std.specs.Prelude.{◌≡◌, ◌↔◌, ℕ, ◌<◌, List, map}
+use Rattle.std.specs.Prelude.{◌≡◌, ◌↔◌, ℕ, ◌<◌, ◌^◌, List, length, map}
+use Rattle.std.specs.List.{All}
 use Rattle.yaml_definitions.specs.model.Tree.{Tree, Trees, Pairs}
 use Rattle.yaml_definitions.specs.model.Same.{Same}
 use Rattle.yaml_nodes.specs.TreeLists.{trees, pairs}
@@ -26,6 +27,12 @@ pub record RanksTell (count : ℕ) (tree : ℕ → Tree) (rank : Tree → ℕ) :
 pub record Ready {V : Type 0} (stands : V → Type 0) (count : V → ℕ) (v : V) (n : Names) : Type 0 where
   pub ranked : stands v
   pub long : ranks_in n ≡ count v
+
+-- The ranks stand, and these ids name nodes.
+pub record Rooted {V I : Type 0} (stands : V → Type 0) (count : V → ℕ) (number : I → ℕ) (v : V) (roots : List I) : Type 0 where
+  pub ranked : stands v
+  pub within : All (λ i. number i < count v) roots
+  pub few : length roots < 2 ^ 63
 
 module _ {V I : Type 0} (tree : V → ℕ → Tree) (number : I → ℕ) (v : V) where
   -- the tree of an id

@@ -8,7 +8,7 @@ pub mod page;
 mod parts;
 mod quoted;
 pub mod ranked;
-mod ranked_graph;
+pub mod ranked_graph;
 pub mod room;
 pub mod shown;
 pub mod sink;

@@ -23,6 +23,10 @@ pub trait RankedNodes<I> {
     // The rank of the nodes of a tree.
     ghost rank: { Self → Tree → ℕ };
 
+    /// How many nodes there are.
+    fn len(&self) -> usize
+        ensures { result ≡ count self.now };
+
     /// What a node shows.
     fn node(&self, id: I) -> Shown<'_, I>
         requires stands { stands self.now }

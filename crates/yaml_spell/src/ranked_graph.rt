@@ -7,9 +7,9 @@ use yaml_nodes::node::{NodeId, NodeKind};
 
 /// A graph with its ranks.
 #[derive(Clone, Copy)]
-pub(crate) struct RankedGraph<'g, 't> {
-    pub(crate) graph: &'g Graph<'t>,
-    pub(crate) ranks: &'g Ranks,
+pub struct RankedGraph<'g, 't> {
+    pub graph: &'g Graph<'t>,
+    pub ranks: &'g Ranks,
 }
 
 impl<'g, 't> RankedNodes<NodeId> for RankedGraph<'g, 't> {
@@ -28,6 +28,10 @@ impl<'g, 't> RankedNodes<NodeId> for RankedGraph<'g, 't> {
     ghost tree = { λ s i. arranged (tree s.graph.now i) };
 
     ghost rank = { λ s t. rank_in s.graph.now s.ranks.now t };
+
+    fn len(&self) -> usize {
+        self.graph.len()
+    }
 
     fn node(&self, id: NodeId) -> Shown<'_, NodeId> {
         let node = self.graph.node(id);

@@ -1,14 +1,13 @@
 //! The canonical text of a graph's documents.
 ghost use Rattle.std.specs.Prelude.{◌≡◌, ◌<◌, ◌≤◌, ◌^◌, length, map, OnOk, IfErr, IfOk};
-ghost use Rattle.std.specs.List.{All};
 ghost use Rattle.yaml_definitions.specs.model.Limits.{text_limit};
 ghost use Rattle.yaml_definitions.specs.canonical.Spell.{spell_bytes};
-ghost use Rattle.yaml_nodes.specs.GraphView.{nodes_of, forest};
+ghost use Rattle.yaml_nodes.specs.GraphView.{forest};
 ghost use Rattle.yaml_levels.specs.RanksView.{RanksAre};
 ghost use Rattle.yaml_spell.specs.NamesView.{ranks_in, document_number, NextDocument};
 ghost use Rattle.yaml_spell.specs.Pieces.{Puts, Fails};
-ghost use Rattle.yaml_spell.specs.Documents.{spell_more, arranged_text, arranged_more, RefusesLength};
-ghost use Rattle.yaml_spell.specs.RankedNodes.{Ready, tree_of};
+ghost use Rattle.yaml_spell.specs.Documents.{arranged_text, arranged_more, arranged_bytes, RefusesLength, RefusesArranged};
+ghost use Rattle.yaml_spell.specs.RankedNodes.{Ready, Rooted, tree_of};
 
 use crate::length::Length;
 use crate::names::Names;
@@ -53,9 +52,8 @@ pub fn write_ranked<I: Copy, V: RankedNodes<I>, O, S: Sink<O>>(
     sink: &mut S,
     out: &mut O,
 ) -> Result<(), Fault>
-    requires ready { Ready V.stands V.count view.now names.old }
-    requires within { All (λ i. V.number i < V.count view.now) roots.now }
-    requires few { length roots.now < 2 ^ 63 }
+    requires rooted { Rooted V.stands V.count V.number view.now roots.now }
+    requires long { ranks_in names.old ≡ V.count view.now }
     requires fresh { document_number names.old ≡ 0 }
     ensures ok { OnOk result (Puts S.holds sink.old out.old sink.new out.new (arranged_more (map (tree_of V.tree V.number view.now) roots.now))) }
     ensures err { IfErr result (λ fault. Fails S.holds S.stops sink.old out.old out.new fault (arranged_more (map (tree_of V.tree V.number view.now) roots.now))) }
@@ -66,27 +64,22 @@ pub fn write_ranked<I: Copy, V: RankedNodes<I>, O, S: Sink<O>>(
     Ok(())
 }
 
-/// Writes the documents of a graph, each from its own first node on. `names` has begun none.
-pub fn write_documents<O, S: Sink<O>>(
-    graph: &Graph<'_>,
-    ranks: &Ranks,
-    names: &mut Names,
-    sink: &mut S,
-    out: &mut O,
-) -> Result<(), Fault>
-    requires ranked { RanksAre graph.now ranks.now }
-    requires long { ranks_in names.old ≡ length (nodes_of graph.now) }
-    requires fresh { document_number names.old ≡ 0 }
-    ensures ok { OnOk result (Puts S.holds sink.old out.old sink.new out.new (spell_more (forest graph.now))) }
-    ensures err { IfErr result (λ fault. Fails S.holds S.stops sink.old out.old out.new fault (spell_more (forest graph.now))) }
+/// The length of the text of the documents of these roots, in bytes; no text is made. A text of more
+/// bytes than the limit is refused as `TextTooLong`.
+pub fn ranked_len<I: Copy, V: RankedNodes<I>>(
+    alloc: Global,
+    view: &V,
+    roots: &[I],
+) -> Result<usize, Fault>
+    requires { Rooted V.stands V.count V.number view.now roots.now }
+    ensures ok { IfOk result (λ len. len ≡ length (arranged_bytes (map (tree_of V.tree V.number view.now) roots.now))) }
+    ensures fits { IfOk result (λ len. len ≤ text_limit) }
+    ensures err { IfErr result (RefusesArranged (map (tree_of V.tree V.number view.now) roots.now)) }
 {
-    write_ranked(
-        &RankedGraph { graph, ranks },
-        names,
-        graph.roots(),
-        sink,
-        out,
-    )
+    let mut names = Names::new(alloc, view.len())?;
+    let mut length = Length::new(text_limit());
+    write_ranked(view, &mut names, roots, &mut length, &mut ())?;
+    Ok(length.len())
 }
 
 /// The length of the canonical text of a graph's documents, in bytes; no text is made. A text of
@@ -99,8 +92,5 @@ pub fn canonical_len(alloc: Global, graph: &Graph<'_>, ranks: &Ranks) -> Result<
     ensures fits { IfOk result (λ len. len ≤ text_limit) }
     ensures err { IfErr result (RefusesLength (forest graph.now)) }
 {
-    let mut names = Names::new(alloc, graph.len())?;
-    let mut length = Length::new(text_limit());
-    write_documents(graph, ranks, &mut names, &mut length, &mut ())?;
-    Ok(length.len())
+    ranked_len(alloc, &RankedGraph { graph, ranks }, graph.roots())
 }
