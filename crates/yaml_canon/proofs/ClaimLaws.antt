@@ -2,10 +2,12 @@
 use Rattle.std.proofs.Common.{◌≡◌, ℕ, suc, ◌+◌, ◌*◌, ◌<◌, ◌≤◌, ◌⊎◌, inl, inr, List, [], ◌∷◌, length, map, refl, sym, ◌∙◌, ap, subst, arith}
 use Rattle.std.specs.Prelude.{Result, Ok, Err, None, IfOk, IfErr, MatchResult}
 use Rattle.std.specs.List.{All}
+use Rattle.std.specs.Str.{encode_utf8_all}
 use Rattle.std.proofs.lemmas.List.{append-nil}
 use Rattle.yaml_definitions.specs.model.Event.{Event}
 use Rattle.yaml_definitions.specs.model.Limits.{text_limit, height_limit, open_limit}
 use Rattle.yaml_definitions.specs.model.Tree.{Tree, height}
+use Rattle.yaml_definitions.specs.model.Order.{arranged}
 use Rattle.yaml_definitions.specs.model.Same.{Keyed}
 use Rattle.yaml_definitions.specs.canonical.Spell.{spell_bytes}
 use Rattle.yaml_definitions.specs.model.Proper.{AreAdmitted, Admitted}
@@ -38,9 +40,13 @@ use Rattle.yaml_nodes.specs.declared.node.NodeId.{NodeId}
 use Rattle.yaml_nodes.specs.declared.graph.Graph.{Graph}
 use Rattle.yaml_levels.specs.RanksView.{RefusesGraph}
 use Rattle.yaml_spell.specs.Pieces.{Began, Puts, Fails}
-use Rattle.yaml_spell.specs.Documents.{spell_more, RefusesLength}
-use Rattle.yaml_canon.specs.Claims.{AllOf, MeansAlone, IsCanonicalText, IsRead, IsNoStream, CanonicalRefuses, HasGraph, GraphRefuses}
-use Rattle.yaml_spell.proofs.DocumentLaws.{spell_whole}
+use Rattle.yaml_spell.specs.Documents.{spell_more, arranged_more, arranged_bytes, RefusesArranged}
+use Rattle.yaml_compact.specs.Walked.{walked_tree}
+use Rattle.yaml_forest.specs.Ranks.{HasRanks}
+use Rattle.yaml_forest.specs.declared.ranks.RankedForest.{RankedForest}
+use Rattle.yaml_canon.specs.Claims.{AllOf, MeansAlone, IsArranged, IsCanonicalText, IsRead, IsNoStream, CanonicalRefuses, HasGraph, GraphRefuses}
+use Rattle.yaml_spell.proofs.DocumentLaws.{arranged_same, spell_whole}
+use Rattle.yaml_spell.proofs.GraphNodes.{graph_text}
 
 -- ---- the whole text
 
@@ -48,13 +54,13 @@ abbrev nowhere : Began
 nowhere = record { number = 0; held = None }
 
 module _ {S T : Type 0} (bytes : T → List ℕ) where
-  pub whole_text : (s t : S) (o p : T) (f : List Tree) → bytes o ≡ [] → Puts (λ _ out _ xs. bytes out ≡ xs) s o t p (spell_more f) → bytes p ≡ spell_bytes f
-  whole_text s t o p f e h =
+  pub whole_text : (s t : S) (o p : T) (ts : List Tree) → bytes o ≡ [] → Puts (λ _ out _ xs. bytes out ≡ xs) s o t p (arranged_more ts) → bytes p ≡ arranged_bytes ts
+  whole_text s t o p ts e h =
       let a = h.is nowhere [] e in
-      a.1 ∙ sym (append-nil a.0) ∙ a.2.is [] ∙ spell_whole f
+      a.1 ∙ sym (append-nil a.0) ∙ a.2.is []
 
-  pub text_refused : (s : S) (o p : T) (fault : Fault) (f : List Tree) (g : List ℕ → List ℕ) → bytes o ≡ [] → Fails (λ _ out _ xs. bytes out ≡ xs) (λ _ _ z _. z ≡ faults.OutOfMemory) s o p fault g → RefusesLength f fault
-  text_refused s o p fault f g e h = subst (RefusesLength f) (sym (h.is nowhere [] [] e)) tt
+  pub text_refused : (s : S) (o p : T) (fault : Fault) (ts : List Tree) (g : List ℕ → List ℕ) → bytes o ≡ [] → Fails (λ _ out _ xs. bytes out ≡ xs) (λ _ _ z _. z ≡ faults.OutOfMemory) s o p fault g → RefusesArranged ts fault
+  text_refused s o p fault ts g e h = subst (RefusesArranged ts) (sym (h.is nowhere [] [] e)) tt
 
 -- ---- documents
 
@@ -92,6 +98,27 @@ accepted bytes ds g r c k =
       keyed = all_roots Keyed (graph_trees g) (roots_of g) (length (nodes_of g)) k g.rooted;
     }
 
+-- ---- a forest, arranged
+
+pub arranged_graph : (bytes : List ℕ) (ds : List Document) (g : Graph) (roots : List NodeId) → IsRead bytes ds → Composed ds g → ((i : ℕ) → i < length (nodes_of g) → Keyed (tree g i)) → roots ≡ roots_of g → IsArranged bytes (map (λ i. arranged (tree g i.0)) roots)
+arranged_graph bytes ds g roots r c k e = record { forest = forest g; accepted = accepted bytes ds g r c k; text = graph_text g roots e }
+
+map-itself : {X : Type 0} (xs : List X) → map (λ x. x) xs ≡ xs
+map-itself [] = refl
+map-itself (x ∷ xs) = ap (λ z. x ∷ z) (map-itself xs)
+
+pub arranged_ranks : (bytes : List ℕ) (f : RankedForest) → HasRanks bytes f → IsArranged bytes (map (walked_tree f.ranked) f.roots.items)
+arranged_ranks bytes f h = record {
+  forest = h.trees;
+  accepted = record {
+    means = h.means;
+    only = λ g n. one_meaning bytes g h.trees n h.means;
+    low = all_of (λ t. height t ≤ height_limit) h.trees h.low;
+    keyed = all_of Keyed h.trees h.keyed;
+  };
+  text = ap arranged_bytes h.arranged ∙ ap encode_utf8_all (arranged_same (λ t. t) h.trees []) ∙ ap (λ z. encode_utf8_all (spell_more z [])) (map-itself h.trees) ∙ spell_whole h.trees;
+}
+
 are_admitted : (f : List Tree) → AllProper f → AllOf Keyed f → AllOf (λ t. height t ≤ height_limit) f → AreAdmitted f
 are_admitted [] p k l = tt
 are_admitted (t ∷ f) p k l = (record { proper = p.0; keyed = k.0; low = l.0 }, are_admitted f p.1 k.1 l.1)
@@ -112,6 +139,10 @@ canonical_text bytes text f a e l =
           (λ q. t.0 (sym e ∙ sym q), λ q. sym (t.1 q) ∙ sym e);
       bounded = λ events r. subst (IsWithin text) (one_reading bytes a.means.events events a.means.reads r) (subst (λ z. IsWithin z a.means.events) (sym e) (meaning_bounded tag_light text_light bytes f a.means admitted));
     }
+
+-- a text that was made of ranked nodes
+pub text_arranged : (bytes text : List ℕ) (ts : List Tree) → IsArranged bytes ts → text ≡ arranged_bytes ts → length text ≤ text_limit → IsCanonicalText bytes text
+text_arranged bytes text ts a e l = canonical_text bytes text a.forest a.accepted (e ∙ a.text) l
 
 -- ---- refusals
 
@@ -173,7 +204,7 @@ refused_ranking bytes ds g (faults.EqualKeys n i j) r c h = (ds, g, r, c, h)
 refused_ranking bytes ds g faults.OutOfMemory r c h = tt
 refused_ranking bytes ds g _ r c h = absurd h
 
-pub refused_spelling : (bytes : List ℕ) (f : List Tree) (fault : Fault) → MeansAlone bytes f → RefusesLength f fault → CanonicalRefuses bytes fault
-refused_spelling bytes f faults.TextTooLong a h = (f, a, h)
-refused_spelling bytes f faults.OutOfMemory a h = tt
-refused_spelling bytes f _ a h = absurd h
+pub refused_arranged : (bytes : List ℕ) (ts : List Tree) (fault : Fault) → IsArranged bytes ts → RefusesArranged ts fault → CanonicalRefuses bytes fault
+refused_arranged bytes ts faults.TextTooLong a h = (a.forest, a.accepted, subst (λ z. text_limit < length z) a.text h)
+refused_arranged bytes ts faults.OutOfMemory a h = tt
+refused_arranged bytes ts _ a h = absurd h

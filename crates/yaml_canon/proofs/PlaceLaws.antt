@@ -10,9 +10,10 @@ use Rattle.yaml_definitions.specs.model.Proper.{Admitted}
 use Rattle.yaml_definitions.specs.model.Means.{Means}
 use Rattle.yaml_text.specs.declared.fault.Fault.{Fault}
 use Rattle.yaml_canon.specs.Accepting.{IsSpelling, IsMemory}
-use Rattle.yaml_canon.specs.Claims.{MeansAlone, CanonicalRefuses}
+use Rattle.yaml_spell.specs.Documents.{arranged_bytes}
+use Rattle.yaml_canon.specs.Claims.{IsArranged, CanonicalRefuses}
 use Rattle.yaml_canon.specs.Rooms.{Places, PlacesCanonical}
-use Rattle.yaml_canon.proofs.ClaimLaws.{canonical_text}
+use Rattle.yaml_canon.proofs.ClaimLaws.{text_arranged}
 use Rattle.yaml_canon.proofs.AcceptLaws.{memory, text-is, spelling-means}
 
 pub ok_unless : {T E : Type 0} {P : E → Type 0} (r : Result T E) → IfErr r P → ((e : E) → P e → ⊥) → IsOk r
@@ -23,8 +24,8 @@ pub of_ok : {T E P : Type 0} (r : Result T E) → OnOk r P → IsOk r → P
 of_ok (Ok x) h o = h
 of_ok (Err e) h o = absurd (cc)
 
-pub placed : (bytes old new : List ℕ) (f : List Tree) (len : ℕ) → MeansAlone bytes f → Places (spell_bytes f) old new len → len ≤ text_limit → PlacesCanonical bytes old new len
-placed bytes old new f len a p l = record { text = spell_bytes f; canonical = canonical_text bytes (spell_bytes f) f a refl (subst (λ n. n ≤ text_limit) p.long l); placed = p }
+pub placed : (bytes old new : List ℕ) (ts : List Tree) (len : ℕ) → IsArranged bytes ts → Places (arranged_bytes ts) old new len → len ≤ text_limit → PlacesCanonical bytes old new len
+placed bytes old new ts len a p l = record { text = arranged_bytes ts; canonical = text_arranged bytes (arranged_bytes ts) ts a refl (subst (λ n. n ≤ text_limit) p.long l); placed = p }
 
 module _ (bytes old new : List ℕ) where
   abbrev Gives : Result ℕ Fault → Type 0

@@ -18,7 +18,7 @@ use Rattle.yaml_graph.specs.Composed.{Composed, RefusesStream}
 use Rattle.yaml_nodes.specs.declared.graph.Graph.{Graph}
 use Rattle.yaml_levels.specs.RanksView.{RefusesGraph}
 use Rattle.yaml_canon.specs.Comparing.{RefusesDocuments}
-use Rattle.yaml_spell.specs.Documents.{RefusesLength}
+use Rattle.yaml_spell.specs.Documents.{RefusesArranged}
 use Rattle.yaml_canon.specs.Gathering.{Gathers, GatherFails}
 use Rattle.yaml_canon.specs.FaultPlaces.{IsPlaceIn, TellsPlace, TellsSidesPlace, TellsReadPlace}
 use Rattle.yaml_canon.specs.declared.side.Side.{Side}
@@ -78,10 +78,10 @@ graph_elsewhere bytes g (faults.EqualKeys n i j) h = tt
 graph_elsewhere bytes g faults.OutOfMemory h = tt
 graph_elsewhere bytes g _ h = absurd h
 
-pub length_elsewhere : (bytes : List ℕ) (f : List Tree) (fault : Fault) → RefusesLength f fault → TellsPlace bytes fault
-length_elsewhere bytes f faults.TextTooLong h = tt
-length_elsewhere bytes f faults.OutOfMemory h = tt
-length_elsewhere bytes f _ h = absurd h
+pub arranged_elsewhere : (bytes : List ℕ) (ts : List Tree) (fault : Fault) → RefusesArranged ts fault → TellsPlace bytes fault
+arranged_elsewhere bytes ts faults.TextTooLong h = tt
+arranged_elsewhere bytes ts faults.OutOfMemory h = tt
+arranged_elsewhere bytes ts _ h = absurd h
 
 pub write_elsewhere : (bytes : List ℕ) (fault : Fault) → fault ≡ faults.WriteFault → TellsPlace bytes fault
 write_elsewhere bytes faults.WriteFault h = tt

@@ -5,9 +5,8 @@ use Rattle.std.proofs.Math.Seq.{take-length}
 use Rattle.std.specs.Io.KnownBytes.{Appends, Keeps}
 use Rattle.yaml_definitions.specs.model.Limits.{text_limit}
 use Rattle.yaml_definitions.specs.model.Tree.{Tree}
-use Rattle.yaml_definitions.specs.canonical.Spell.{spell_bytes}
 use Rattle.yaml_text.specs.declared.fault.Fault.{Fault}
-use Rattle.yaml_text.specs.declared.fault.Fault.TheVariants.{WriteFault}
+use Rattle.yaml_text.specs.declared.fault.Fault.TheVariants.{TextTooLong, OutOfMemory, WriteFault}
 use Rattle.yaml_text.specs.declared.counted.Counted.{Counted}
 use Rattle.yaml_text.specs.Count.{one_more}
 use Rattle.yaml_text.specs.CountedModel.{inner_of, faults_of, flushed_of}
@@ -16,13 +15,14 @@ use Rattle.yaml_spell.specs.Pieces.{Began, Puts, Fails}
 use Rattle.yaml_spell.specs.Pages.{page_bytes, page_len, PageHolds, PageStops}
 use Rattle.yaml_spell.specs.Writers.{Sent, CutOff}
 use Rattle.yaml_canon.specs.Writers.{Printed, Broken}
-use Rattle.yaml_spell.specs.Documents.{spell_more}
-use Rattle.yaml_canon.specs.Claims.{MeansAlone, CanonicalRefuses}
-use Rattle.yaml_canon.specs.Runs.{WritesCanonical, WriteRefuses}
-use Rattle.yaml_canon.proofs.ClaimLaws.{canonical_text}
+use Rattle.yaml_spell.specs.Documents.{arranged_more, arranged_bytes, RefusesArranged}
+use Rattle.yaml_canon.specs.Claims.{IsArranged, CanonicalRefuses}
+use Rattle.yaml_canon.specs.Runs.{WritesArranged, ArrangedFails, WritesCanonical, WriteRefuses}
+use Rattle.yaml_canon.specs.FaultPlaces.{TellsPlace}
+use Rattle.yaml_canon.proofs.ClaimLaws.{text_arranged, refused_arranged}
+use Rattle.yaml_canon.proofs.PlacedLaws.{arranged_elsewhere}
 use Rattle.yaml_spell.proofs.Streams.{appends_none, appends_more, appends_kept}
 use Rattle.yaml_spell.proofs.PageLaws.{held_cut}
-use Rattle.yaml_spell.proofs.DocumentLaws.{spell_whole}
 
 one_higher : (n : ℕ) → n < 2 ^ 64 - 1 → one_more n ≡ n + 1
 one_higher n h = omega (arith, h)
@@ -35,10 +35,10 @@ module _ {W : Type 0} (contents : W → Option (List ℕ)) where
   first_page p o e = record { front = []; sent = appends_none (contents (inner_of o)); is = ap (λ n. take n p.bytes) (sym e); counted = refl }
 
   -- all of the text is written but for the last page
-  pub all_but_a_page : (p q : Page) (o u : Counted W) (f : List Tree) → page_len p ≡ 0 → Puts (PageHolds contents) p o q u (spell_more f) → PageHolds contents q u (started o) (spell_bytes f)
-  all_but_a_page p q o u f e h =
+  pub all_but_a_page : (p q : Page) (o u : Counted W) (ts : List Tree) → page_len p ≡ 0 → Puts (PageHolds contents) p o q u (arranged_more ts) → PageHolds contents q u (started o) (arranged_bytes ts)
+  all_but_a_page p q o u ts e h =
       let a = h.is (started o) [] (first_page p o e) in
-      subst (PageHolds contents q u (started o)) (sym (append-nil a.0) ∙ a.2.is [] ∙ spell_whole f) a.1
+      subst (PageHolds contents q u (started o)) (sym (append-nil a.0) ∙ a.2.is []) a.1
 
   pub all_sent : (q : Page) (o u v : Counted W) (xs : List ℕ) → PageHolds contents q u (started o) xs → Sent contents u v (page_bytes q) → Sent contents o v xs
   all_sent q o u v xs h s = record {
@@ -61,10 +61,10 @@ module _ {W : Type 0} (contents : W → Option (List ℕ)) where
   stopped o u fault xs l s = record { count = s.count; took = s.sent; counted = s.counted ∙ one_higher (faults_of o) l }
 
   -- the writer fails within the text, or in its last page
-  pub broken_within : (p : Page) (o u : Counted W) (fault : Fault) (f : List Tree) → faults_of o < 2 ^ 64 - 1 → page_len p ≡ 0 → Fails (PageHolds contents) (PageStops contents) p o u fault (spell_more f) → Broken contents o u (spell_bytes f) × (fault ≡ WriteFault)
-  broken_within p o u fault f l e h =
+  pub broken_within : (p : Page) (o u : Counted W) (fault : Fault) (ts : List Tree) → faults_of o < 2 ^ 64 - 1 → page_len p ≡ 0 → Fails (PageHolds contents) (PageStops contents) p o u fault (arranged_more ts) → Broken contents o u (arranged_bytes ts) × (fault ≡ WriteFault)
+  broken_within p o u fault ts l e h =
       let s = h.is (started o) [] [] (first_page p o e) in
-      (stopped o u fault (spell_bytes f) l (subst (PageStops contents u (started o) fault) (spell_whole f) s), s.is)
+      (stopped o u fault (arranged_bytes ts) l s, s.is)
 
   pub broken_at_the_end : (q : Page) (o u v : Counted W) (fault : Fault) (xs : List ℕ) → faults_of o < 2 ^ 64 - 1 → PageHolds contents q u (started o) xs → CutOff contents u v (page_bytes q) fault → Broken contents o v xs
   broken_at_the_end q o u v fault xs l h s = stopped o v fault xs l (subst (PageStops contents v (started o) fault) (append-nil xs) (held_cut contents q u v (started o) fault xs [] h s))
@@ -74,9 +74,28 @@ module _ {W : Type 0} (contents : W → Option (List ℕ)) where
   refused_unwritten bytes o WriteFault h = absurd h
   refused_unwritten bytes o _ h = record { refused = h; untouched = refl }
 
-  pub canonical_written : (bytes : List ℕ) (f : List Tree) (o u : Counted W) → MeansAlone bytes f → length (spell_bytes f) ≤ text_limit → Printed contents o u (spell_bytes f) → WritesCanonical contents bytes o u
-  canonical_written bytes f o u a l p = record { text = spell_bytes f; canonical = canonical_text bytes (spell_bytes f) f a refl l; printed = p }
+  -- the trees' text is too long, or memory was refused, and nothing was written
+  pub left_arranged : (ts : List Tree) (o : Counted W) (fault : Fault) → RefusesArranged ts fault → ArrangedFails contents ts o o fault
+  left_arranged ts o TextTooLong h = record { refused = h; untouched = refl }
+  left_arranged ts o OutOfMemory h = record { refused = h; untouched = refl }
+  left_arranged ts o _ h = absurd h
 
-  pub canonical_broken : (bytes : List ℕ) (f : List Tree) (o u : Counted W) (fault : Fault) → MeansAlone bytes f → length (spell_bytes f) ≤ text_limit → Broken contents o u (spell_bytes f) → fault ≡ WriteFault → WriteRefuses contents bytes o u fault
-  canonical_broken bytes f o u fault a l b e =
-      subst (WriteRefuses contents bytes o u) (sym e) (record { text = spell_bytes f; canonical = canonical_text bytes (spell_bytes f) f a refl l; broken = b })
+  pub broken_arranged : (ts : List Tree) (o u : Counted W) (fault : Fault) → length (arranged_bytes ts) ≤ text_limit → Broken contents o u (arranged_bytes ts) → fault ≡ WriteFault → ArrangedFails contents ts o u fault
+  broken_arranged ts o u fault l b e = subst (ArrangedFails contents ts o u) (sym e) (record { fits = l; broken = b })
+
+  -- ---- from the trees to the bytes that mean them
+
+  pub canonical_written : (bytes : List ℕ) (ts : List Tree) (o u : Counted W) → IsArranged bytes ts → WritesArranged contents ts o u → WritesCanonical contents bytes o u
+  canonical_written bytes ts o u a w = record { text = arranged_bytes ts; canonical = text_arranged bytes (arranged_bytes ts) ts a refl w.fits; printed = w.printed }
+
+  refused_written : (bytes : List ℕ) (ts : List Tree) (o u : Counted W) (fault : Fault) → IsArranged bytes ts → RefusesArranged ts fault → u ≡ o → WriteRefuses contents bytes o u fault
+  refused_written bytes ts o u fault a h e = subst (λ z. WriteRefuses contents bytes o z fault) (sym e) (refused_unwritten bytes o fault (refused_arranged bytes ts fault a h))
+
+  pub canonical_unwritten : (bytes : List ℕ) (ts : List Tree) (o u : Counted W) (fault : Fault) → IsArranged bytes ts → ArrangedFails contents ts o u fault → WriteRefuses contents bytes o u fault
+  canonical_unwritten bytes ts o u WriteFault a h = record { text = arranged_bytes ts; canonical = text_arranged bytes (arranged_bytes ts) ts a refl h.fits; broken = h.broken }
+  canonical_unwritten bytes ts o u fault a h = refused_written bytes ts o u fault a h.refused h.untouched
+
+  -- no place is told of it
+  pub unwritten_elsewhere : (bytes : List ℕ) (ts : List Tree) (o u : Counted W) (fault : Fault) → ArrangedFails contents ts o u fault → TellsPlace bytes fault
+  unwritten_elsewhere bytes ts o u WriteFault h = tt
+  unwritten_elsewhere bytes ts o u fault h = arranged_elsewhere bytes ts fault h.refused
