@@ -7,6 +7,7 @@ use Rattle.std.specs.List.{All}
 use Rattle.std.specs.Char.{encode_utf8}
 use Rattle.std.specs.Str.{encode_utf8_all}
 use Rattle.yaml_text.specs.declared.fault.Fault.{Fault}
+use Rattle.yaml_text.specs.declared.fault.Fault.TheVariants.{TextTooLong, OutOfMemory}
 use Rattle.yaml_definitions.specs.model.Tree.{Tree, Trees, Pairs, sequence, mapping}
 use Rattle.yaml_definitions.specs.model.Order.{arranged}
 use Rattle.yaml_definitions.specs.model.Same.{same}
@@ -14,6 +15,9 @@ use Rattle.yaml_definitions.specs.model.Serial.{SerialNode}
 use Rattle.yaml_definitions.specs.canonical.NodeText.{node_text}
 use Rattle.yaml_definitions.specs.canonical.Spell.{serial_of, serial_of_arranged, spell, spell_bytes}
 use Rattle.yaml_nodes.specs.TreeLists.{trees, pairs}
+use Rattle.yaml_nodes.specs.GraphView.{roots_of, tree, forest}
+use Rattle.yaml_nodes.specs.declared.node.NodeId.{NodeId}
+use Rattle.yaml_nodes.specs.declared.graph.Graph.{Graph}
 use Rattle.yaml_levels.specs.View.{Inside, content, items, entries, InsideBelow, inside_tree}
 use Rattle.yaml_spell.specs.declared.names.State.TheVariants.{Unseen}
 use Rattle.yaml_spell.specs.NamesView.{Given}
@@ -23,7 +27,7 @@ use Rattle.yaml_spell.specs.Walked.{noticed, written}
 use Rattle.yaml_definitions.specs.model.Limits.{text_limit}
 use Rattle.yaml_spell.specs.declared.length.Length.{Length}
 use Rattle.yaml_spell.specs.SinkViews.{len_of, limit_of}
-use Rattle.yaml_spell.specs.Documents.{document_text, spell_more, arranged_text, arranged_more, RefusesLength}
+use Rattle.yaml_spell.specs.Documents.{document_text, spell_more, arranged_text, arranged_more, arranged_bytes, RefusesLength, RefusesArranged}
 use Rattle.yaml_spell.proofs.ShortLaws.{Holds, Stops}
 use Rattle.yaml_spell.proofs.Linking.{OfAll, OfPairs, written_is}
 use Rattle.yaml_spell.proofs.PieceLaws.{Left, puts_as, puts_piece, puts_then, fails_as, fails_piece, fails_later, fails_more, left_next}
@@ -134,8 +138,21 @@ spell_whole f = ap encode_utf8_all (same_text f)
     same_text [] = refl
     same_text (t ∷ h) = ap (λ z. 45 ∷ 45 ∷ 45 ∷ 32 ∷ node_text (serial_of t) (10 ∷ z)) (same_text h)
 
+-- the roots of a graph, arranged, have the text of its forest
+pub graph_text : (g : Graph) (roots : List NodeId) → roots ≡ roots_of g → arranged_bytes (map (λ i. arranged (tree g i.0)) roots) ≡ spell_bytes (forest g)
+graph_text g roots e =
+    ap (λ z. arranged_bytes (map (λ (i : NodeId). arranged (tree g i.0)) z)) e ∙ ap encode_utf8_all (arranged_same (λ (i : NodeId). tree g i.0) (roots_of g) []) ∙ spell_whole (forest g)
+
+-- ---- texts that are too long
+
 -- why a length is not taken
-pub length_refused : (f : List Tree) (s : Length) (o p : Unit {0}) (fault : Fault) → len_of s ≡ 0 → limit_of s ≡ text_limit → Fails Holds Stops s o p fault (spell_more f) → RefusesLength f fault
-length_refused f s o p fault e l h =
+pub length_refused : (ts : List Tree) (s : Length) (o p : Unit {0}) (fault : Fault) → len_of s ≡ 0 → limit_of s ≡ text_limit → Fails Holds Stops s o p fault (arranged_more ts) → RefusesArranged ts fault
+length_refused ts s o p fault e l h =
     let z = h.is (record { number = text_limit; held = None }) [] [] (record { limit = l; len = e }) in
-    subst (RefusesLength f) (sym z.too_long) (subst (λ n. text_limit < length n) (spell_whole f) z.longer)
+    subst (RefusesArranged ts) (sym z.too_long) z.longer
+
+-- trees that are refused arranged are refused, where the text is the same
+pub arranged_refused : (ts f : List Tree) (fault : Fault) → arranged_bytes ts ≡ spell_bytes f → RefusesArranged ts fault → RefusesLength f fault
+arranged_refused ts f TextTooLong e h = subst (λ z. text_limit < length z) e h
+arranged_refused ts f OutOfMemory e h = tt
+arranged_refused ts f _ e h = absurd h

@@ -1,17 +1,15 @@
 -- What a room holds, step by step.
-use Rattle.std.proofs.Common.{◌≡◌, ℕ, ◌+◌, ◌≤◌, List, [], ◌++◌, length, take, drop, refl, sym, ◌∙◌, ap, arith}
+use Rattle.std.proofs.Common.{◌≡◌, ℕ, ◌+◌, ◌<◌, ◌≤◌, List, [], ◌++◌, length, take, drop, refl, sym, ◌∙◌, ap, arith}
 use Rattle.std.specs.Prelude.{Option, Some}
 use Rattle.std.proofs.lemmas.List.{append_assoc, append-nil, length-append}
 use Rattle.std.proofs.Math.Seq.{take-append_seam, drop-append-add, drop-drop}
 use Rattle.std.proofs.lemmas.Grind.{common_steps}
 use Rattle.yaml_definitions.specs.model.Tree.{Tree}
-use Rattle.yaml_definitions.specs.canonical.Spell.{spell_bytes}
 use Rattle.yaml_text.specs.declared.fault.Fault.{Fault}
 use Rattle.yaml_spell.specs.declared.room.Room.{Room}
-use Rattle.yaml_spell.specs.Documents.{spell_more}
+use Rattle.yaml_spell.specs.Documents.{arranged_more, arranged_bytes}
 use Rattle.yaml_spell.specs.Pieces.{Began, Puts, Fails}
 use Rattle.yaml_spell.specs.Rooms.{room_len, room_bytes, room_name, RoomHolds, Holds, Stops, RoomTakes}
-use Rattle.yaml_spell.proofs.DocumentLaws.{spell_whole}
 
 -- one more piece behind the text so far
 behind : (xs piece old : List ℕ) → length xs + length piece ≤ length old → take (length xs) (xs ++ drop (length xs) old) ++ (piece ++ drop (length xs + length piece) (xs ++ drop (length xs) old)) ≡ (xs ++ piece) ++ drop (length (xs ++ piece)) old
@@ -52,17 +50,16 @@ empty r e = record { original = room_bytes r; held = refl; name = refl; fits = o
 some_same : {X : Type 0} (x y : X) → ◌≡◌ {A = Option X} (Some x) (Some y) → x ≡ y
 some_same x y e = cc
 
-pub all_filled : (r s : Room) (o p : Unit {0}) (f : List Tree) → room_len r ≡ 0 → Puts Holds r o s p (spell_more f)
-    → (room_name r ≡ room_name s) × (room_bytes s ≡ spell_bytes f ++ drop (length (spell_bytes f)) (room_bytes r))
-all_filled r s o p f e h =
+pub all_filled : (r s : Room) (o p : Unit {0}) (ts : List Tree) → room_len r ≡ 0 → Puts Holds r o s p (arranged_more ts)
+    → (room_name r ≡ room_name s) × (room_bytes s ≡ arranged_bytes ts ++ drop (length (arranged_bytes ts)) (room_bytes r))
+all_filled r s o p ts e h =
     let a = h.is (started r) [] (empty r e) in
-    let whole : a.0 ≡ spell_bytes f = sym (append-nil a.0) ∙ a.2.is [] ∙ spell_whole f in
+    let whole : a.0 ≡ arranged_bytes ts = sym (append-nil a.0) ∙ a.2.is [] in
     (sym a.1.name, a.1.is ∙ (λ i. whole i ++ drop (length (whole i)) (some_same a.1.original (room_bytes r) (sym a.1.held) i)))
 
-pub never_short : (r : Room) (o p : Unit {0}) (fault : Fault) (f : List Tree) → room_len r ≡ 0 → length (spell_bytes f) ≤ length (room_bytes r) → Fails Holds Stops r o p fault (spell_more f) → ⊥
-never_short r o p fault f e l h =
+pub never_short : (r : Room) (o p : Unit {0}) (fault : Fault) (ts : List Tree) → room_len r ≡ 0 → length (arranged_bytes ts) ≤ length (room_bytes r) → Fails Holds Stops r o p fault (arranged_more ts) → ⊥
+never_short r o p fault ts e l h =
     let z = h.is (started r) [] [] (empty r e) in
     let same = ap length (some_same z.original (room_bytes r) (sym z.held)) in
-    let whole = ap length (spell_whole f) in
-    let longer = z.longer in
-    omega (arith, l, same, whole, longer)
+    let longer : length z.original < length (arranged_bytes ts) = z.longer in
+    omega (arith, l, same, longer)

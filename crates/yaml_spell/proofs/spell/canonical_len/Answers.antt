@@ -1,20 +1,23 @@
-use Rattle.std.proofs.Common.{◌≤◌, ◌∙◌, ap, subst, rules, length}
-use Rattle.yaml_nodes.specs.GraphView.{forest}
-use Rattle.yaml_spell.specs.Documents.{spell_more}
-use Rattle.yaml_spell.proofs.ShortLaws.{measured}
-use Rattle.yaml_spell.proofs.DocumentLaws.{spell_whole, length_refused}
+use Rattle.std.proofs.Common.{◌<◌, ◌∙◌, length, ap, subst, sym, rules}
+use Rattle.std.specs.List.{All}
+use Rattle.yaml_nodes.specs.GraphView.{nodes_of, forest}
+use Rattle.yaml_nodes.specs.declared.node.NodeId.{NodeId}
+use Rattle.yaml_spell.proofs.PieceLaws.{if_one, if_err}
+use Rattle.yaml_spell.proofs.DocumentLaws.{graph_text, arranged_refused}
 use Rattle.yaml_spell.proofs.spell.canonical_len.Goals as goal
 
-pub returns-in_err-write_documents-clause-err : goal.returns-in_err-write_documents-clause-err
-returns-in_err-write_documents-clause-err c =
-    let f = length_refused (forest c.args.graph.now) c.new-length.result _ _ c.in_err-write_documents.field-0.0 c.new-length.ensures.len (c.new-length.ensures.limit ∙ c.text_limit.ensures) c.in_err-write_documents.ensures.err in
-    search (rules, f)
+pub ranked_len-requires : goal.ranked_len-requires
+ranked_len-requires c =
+    let G = c.args.graph.now in
+    let within : All (λ (i : NodeId). i.0 < length (nodes_of G)) c.roots.result.now = subst (All (λ (i : NodeId). i.0 < length (nodes_of G))) (sym c.roots.ensures) G.rooted in
+    search rules
 
 pub returns-clause-ok : goal.returns-clause-ok
 returns-clause-ok c =
-    c.len-2.ensures.len ∙ (measured c.new-length.result c.write_documents.new.sink _ _ _ (spell_more (forest c.args.graph.now)) c.new-length.ensures.len c.new-length.ensures.limit c.in_ok-write_documents.ensures.ok).0 ∙ ap length (spell_whole (forest c.args.graph.now))
+    let e = graph_text c.args.graph.now c.roots.result.now c.roots.ensures in
+    if_one c.ranked_len.result c.ranked_len.ensures.ok (λ len h. h ∙ ap length e)
 
-pub returns-clause-fits : goal.returns-clause-fits
-returns-clause-fits c =
-    let m = measured c.new-length.result c.write_documents.new.sink _ _ _ (spell_more (forest c.args.graph.now)) c.new-length.ensures.len c.new-length.ensures.limit c.in_ok-write_documents.ensures.ok in
-    subst (λ n. c.len-2.result ≤ n) (m.1 ∙ c.text_limit.ensures) c.len-2.ensures.within
+pub returns-clause-err : goal.returns-clause-err
+returns-clause-err c =
+    let e = graph_text c.args.graph.now c.roots.result.now c.roots.ensures in
+    if_err c.ranked_len.result c.ranked_len.ensures.err (λ fault h. arranged_refused _ (forest c.args.graph.now) fault e h)
