@@ -45,8 +45,7 @@ use Rattle.yaml_compact.specs.Walked.{walked_tree}
 use Rattle.yaml_forest.specs.Ranks.{HasRanks}
 use Rattle.yaml_forest.specs.declared.ranks.RankedForest.{RankedForest}
 use Rattle.yaml_canon.specs.Claims.{AllOf, MeansAlone, IsArranged, IsCanonicalText, IsRead, IsNoStream, CanonicalRefuses, HasGraph, GraphRefuses}
-use Rattle.yaml_spell.proofs.DocumentLaws.{arranged_same, spell_whole}
-use Rattle.yaml_spell.proofs.GraphNodes.{graph_text}
+use Rattle.yaml_spell.proofs.DocumentLaws.{arranged_same, spell_whole, graph_text}
 
 -- ---- the whole text
 
