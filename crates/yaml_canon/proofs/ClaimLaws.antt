@@ -97,6 +97,11 @@ accepted bytes ds g r c k =
       keyed = all_roots Keyed (graph_trees g) (roots_of g) (length (nodes_of g)) k g.rooted;
     }
 
+-- bytes that mean a forest are a text
+pub is_text : (bytes : List ℕ) (f : List Tree) → Means bytes f → ((cs : List ℕ) → Text bytes cs → ⊥) → ⊥
+unfolding Reads
+is_text bytes f m never = let (cs, t, r) = m.reads in never cs t
+
 -- ---- a forest, arranged
 
 pub arranged_graph : (bytes : List ℕ) (ds : List Document) (g : Graph) (roots : List NodeId) → IsRead bytes ds → Composed ds g → ((i : ℕ) → i < length (nodes_of g) → Keyed (tree g i)) → roots ≡ roots_of g → IsArranged bytes (map (λ i. arranged (tree g i.0)) roots)
@@ -106,8 +111,8 @@ map-itself : {X : Type 0} (xs : List X) → map (λ x. x) xs ≡ xs
 map-itself [] = refl
 map-itself (x ∷ xs) = ap (λ z. x ∷ z) (map-itself xs)
 
-pub arranged_ranks : (bytes : List ℕ) (f : RankedForest) → HasRanks bytes f → IsArranged bytes (map (walked_tree f.ranked) f.roots.items)
-arranged_ranks bytes f h = record {
+pub arranged_ranks : (bytes : List ℕ) (f : RankedForest) (roots : List ℕ) → HasRanks bytes f → roots ≡ f.roots.items → IsArranged bytes (map (walked_tree f.ranked) roots)
+arranged_ranks bytes f roots h e = subst (λ z. IsArranged bytes (map (walked_tree f.ranked) z)) (sym e) (record {
   forest = h.trees;
   accepted = record {
     means = h.means;
@@ -116,7 +121,7 @@ arranged_ranks bytes f h = record {
     keyed = all_of Keyed h.trees h.keyed;
   };
   text = ap arranged_bytes h.arranged ∙ ap encode_utf8_all (arranged_same (λ t. t) h.trees []) ∙ ap (λ z. encode_utf8_all (spell_more z [])) (map-itself h.trees) ∙ spell_whole h.trees;
-}
+})
 
 are_admitted : (f : List Tree) → AllProper f → AllOf Keyed f → AllOf (λ t. height t ≤ height_limit) f → AreAdmitted f
 are_admitted [] p k l = tt

@@ -1,9 +1,10 @@
-use Rattle.std.proofs.Common.{sym, subst, rules}
+use Rattle.std.proofs.Common.{sym, subst, rules, Ok}
 use Rattle.yaml_canon.specs.Comparing.{ComparerRefuses, IsComposed}
 use Rattle.yaml_canon.specs.FaultPlaces.{TellsSidesPlace}
 use Rattle.yaml_spell.proofs.PieceLaws.{if_err, if_one}
 use Rattle.yaml_canon.proofs.CompareLaws.{graph_ok, graph_err, compares, refuses-first, refuses-second, refuses-both}
-use Rattle.yaml_canon.proofs.AcceptBoth.{tells-texts, compared, compared-refused, compared-spellings}
+use Rattle.yaml_canon.proofs.AcceptBoth.{tells-texts, both-tell, compared, compared-refused, compared-spellings}
+use Rattle.yaml_canon.proofs.ClaimLaws.{is_text}
 use Rattle.yaml_canon.proofs.same_streams.same.Goals as goal
 use Rattle.yaml_canon.proofs.PlacedLaws.{of_answer, documents_elsewhere}
 
@@ -80,3 +81,20 @@ returns-clause-placed c =
     let a = graph_ok c.args.left.now c.graph_of.result c.in_ok-first.first c.in_ok-first.ensures.ok c.graph_of.ensures.graph in
     let b = graph_ok c.args.right.now c.graph_of-2.result c.in_ok-second.second c.in_ok-second.ensures.ok c.graph_of-2.ensures.graph in
     if_err c.compare.result (c.compare.ensures.err a.documents b.documents a.composed b.composed) (λ r h. documents_elsewhere c.args.left.now c.args.right.now a.documents b.documents r.0 r.1 h)
+
+-- ---- where both texts were had in one pass
+
+pub returns-in-Ok-clause-texts : goal.returns-in-Ok-clause-texts
+returns-in-Ok-clause-texts c = tells-texts c.args.left.now c.args.right.now c.in-Ok.answer c.in-Ok.ensures
+
+pub returns-in-Ok-clause-accepts : goal.returns-in-Ok-clause-accepts
+returns-in-Ok-clause-accepts c = λ f g a b m n. both-tell c.args.left.now c.args.right.now f g a b m n c.in-Ok.answer c.in-Ok.ensures
+
+pub returns-in-Ok-clause-spellings : goal.returns-in-Ok-clause-spellings
+returns-in-Ok-clause-spellings c = compared-spellings c.args.left.now c.args.right.now (Ok c.in-Ok.answer) (returns-in-Ok-clause-accepts c)
+
+pub returns-in-Ok-clause-no_left_text : goal.returns-in-Ok-clause-no_left_text
+returns-in-Ok-clause-no_left_text c = is_text c.args.left.now c.in-Ok.ensures.first c.in-Ok.ensures.first_accepted.means
+
+pub returns-in-Ok-clause-no_right_text : goal.returns-in-Ok-clause-no_right_text
+returns-in-Ok-clause-no_right_text c = is_text c.args.right.now c.in-Ok.ensures.second c.in-Ok.ensures.second_accepted.means
