@@ -1,17 +1,18 @@
 -- Ranks as ranked nodes.
-use Rattle.std.proofs.Common.{◌≡◌, ℕ, zero, suc, ◌+◌, ◌<◌, Bool, true, false, not, cond, List, [], ◌∷◌, length, map, get_or, refl, sym, ◌∙◌, ap, subst, arith}
+use Rattle.std.proofs.Common.{◌≡◌, ℕ, zero, suc, ◌+◌, ◌<◌, Bool, true, false, not, cond, List, [], ◌∷◌, length, map, get_or, slice_index, refl, sym, ◌∙◌, ap, subst, arith}
 use Rattle.std.specs.Prelude.{Some}
 use Rattle.std.specs.String.{string_bytes}
-use Rattle.std.specs.List.{slice_get, slice_range, position_or_len}
+use Rattle.std.specs.List.{slice_get, slice_range, position_or_len, All}
 use Rattle.std.specs.Str.{IsUtf8}
 use Rattle.std.proofs.lemmas.List.{length-map}
+use Rattle.std.proofs.lemmas.List.Elements.{All-map, All-tail}
 use Rattle.yaml_definitions.specs.model.Tree.{Tree, scalar}
 use Rattle.yaml_definitions.specs.model.Order.{arranged}
 use Rattle.yaml_definitions.specs.model.Same.{same}
 use Rattle.yaml_definitions.proofs.SameLaws.{same_from}
 use Rattle.yaml_definitions.proofs.Arranged.{neat_same, arranged_neat}
 use Rattle.yaml_definitions.proofs.Equivalence.{same_refl}
-use Rattle.yaml_levels.specs.View.{InsideBelow, inside_tree}
+use Rattle.yaml_levels.specs.View.{View, InsideBelow, inside_tree}
 use Rattle.yaml_levels.specs.Insides.{Held, HeldBelow}
 use Rattle.yaml_levels.proofs.GraphOf.{get-map, get-unmap}
 use Rattle.yaml_levels.proofs.InsideLaws.{held-length, inside-same, held-tree}
@@ -25,9 +26,10 @@ use Rattle.yaml_compact.specs.declared.nodes.Place.TheVariants.{Scalar}
 use Rattle.yaml_compact.specs.declared.nodes.Span.{Span}
 use Rattle.yaml_compact.specs.StoreModel.{place_of, inside_of, tag_at, Within}
 use Rattle.yaml_compact.specs.StoreGrows.{Good, IsText, tags_of}
-use Rattle.yaml_compact.specs.StoreView.{tree_of, tag_in, inside_at, StoreRanked}
+use Rattle.yaml_compact.specs.StoreView.{tree_of, tag_in, inside_at, view_of, StoreRanked}
 use Rattle.yaml_compact.specs.RanksView.{first_of, rank_tag, rank_inside, rank_tree}
-use Rattle.yaml_compact.specs.Walked.{count_from, rank_held, walked_trees, walked_tree, walked_rank}
+use Rattle.yaml_compact.specs.Walked.{count_from, rank_held, walked_trees, walked_tree, walked_rank, ranks_of, RanksTaken}
+use Rattle.yaml_compact.proofs.RanksOf.{first-tree}
 use Rattle.yaml_compact.proofs.RanksView.{rank-tree-made, rank-parts-below}
 
 get-from : (k n j : ℕ) → j < n → slice_get (count_from k n) j ≡ Some (k + j)
@@ -89,6 +91,21 @@ module _ (s : Store) (good : Good s) (c : Ranked) (are : StoreRanked s good c) w
   -- the tree of a rank is that of the first node that has it
   pub walked-is : (r : ℕ) → r < N → walked_tree c r ≡ rank_tree s c r
   walked-is r l = agree (suc r) r (omega arith) l
+
+  -- the rank of a node of the store is a rank, with the node's tree
+  pub node-ranked : (i : ℕ) → i < length (ranks_of c) → (slice_index (ranks_of c) i < N) × (walked_tree c (slice_index (ranks_of c) i) ≡ arranged (tree_of s i))
+  node-ranked i l =
+      let v : View = view_of s good in
+      let k : i < v.count = subst (λ n. i < n) are.ranked.long l in
+      let w : slice_index (ranks_of c) i < N = are.ranked.within i k in
+      (w, walked-is (slice_index (ranks_of c) i) w ∙ first-tree v c.nodes.items (string_bytes c.text) c.items.items c.entries.items c.ranks.items c.first.items (sym (ap length are.nodes)) are.ranked i k)
+
+  pub taken-within : (nodes : List ℕ) → All (λ i. i < length (ranks_of c)) nodes → All (λ r. r < N) (map (slice_index (ranks_of c)) nodes)
+  taken-within nodes all = All-map (λ r. r < N) (slice_index (ranks_of c)) nodes (λ k d l. (node-ranked (get_or nodes k d) (all k d l)).0)
+
+  pub taken-trees : (nodes : List ℕ) → All (λ i. i < length (ranks_of c)) nodes → map (walked_tree c) (map (slice_index (ranks_of c)) nodes) ≡ map (λ i. arranged (tree_of s i)) nodes
+  taken-trees [] all = refl
+  taken-trees (i ∷ nodes) all = λ z. (node-ranked i (all 0 0 (omega arith))).1 z ∷ taken-trees nodes (All-tail (λ i. i < length (ranks_of c)) i nodes all) z
 
   same-is : (q r : ℕ) → q < N → r < N → same (walked_tree c q) (walked_tree c r) ≡ true → q ≡ r
   same-is q r a b h =
@@ -160,6 +177,14 @@ module _ (s : Store) (good : Good s) (c : Ranked) (are : StoreRanked s good c) w
 
     pub parts-within : (p : Place) → p ≡ place_of n → InsideBelow N (inside_of (string_bytes c.text) c.items.items c.entries.items p)
     parts-within p b = subst (InsideBelow N) (ap (inside_at (string_bytes c.text) c.items.items c.entries.items) node-at ∙ ap (inside_of (string_bytes c.text) c.items.items c.entries.items) (sym b)) (inside-below r l)
+
+-- ranks in place of nodes
+pub ranks-taken : (c : Ranked) (nodes : List ℕ) → All (λ i. i < length (ranks_of c)) nodes → RanksTaken c nodes (map (slice_index (ranks_of c)) nodes)
+ranks-taken c nodes all = record {
+  are = refl;
+  within = λ s good are. taken-within s good c are nodes all;
+  trees = λ s good are. taken-trees s good c are nodes all;
+}
 
 -- a text by number
 pub tag-there : {X : Type 0} (f : X → List ℕ) (ts : List X) (k : ℕ) (t : X) → k < length ts → t ≡ get_or ts k t → f t ≡ tag_at (map f ts) k

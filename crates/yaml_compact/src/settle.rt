@@ -11,7 +11,7 @@ use crate::gives_up::GivesUp;
 use crate::nodes::{Node, Place};
 
 /// Puts the rank of each number in its place.
-fn overwrite(items: &mut [u32], ranks: &[u32])
+pub(crate) fn overwrite(items: &mut [u32], ranks: &[u32])
     requires { All (λ i. i < length ranks.now) items.old }
     ensures { items.new ≡ map (slice_index ranks.now) items.old }
 {

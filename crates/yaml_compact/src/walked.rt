@@ -1,6 +1,7 @@
 //! Ranks as ranked nodes, of which the text is written.
 use crate::nodes::Place;
 use crate::ranking::Ranked;
+use crate::settle::overwrite;
 use yaml_spell::ranked::RankedNodes;
 use yaml_spell::shown::{Inside, Shown};
 
@@ -62,8 +63,6 @@ impl Ranked {
         requires { All (λ i. i < length (ranks_of self.now)) nodes.old }
         ensures { RanksTaken self.now nodes.old nodes.new }
     {
-        for place in 0..nodes.len() {
-            nodes[place] = self.ranks[nodes[place] as usize];
-        }
+        overwrite(nodes, &self.ranks);
     }
 }
