@@ -1,9 +1,11 @@
 -- The lists of a store hold the nodes of its view.
-use Rattle.std.proofs.Common.{◌≡◌, inl, inr, ℕ, ◌≤◌, true, List, length, refl, sym, ◌∙◌, ap, subst, arith}
+use Rattle.std.proofs.Common.{◌≡◌, inl, inr, ℕ, ◌≤◌, Bool, true, List, Vec, Global, length, refl, sym, ◌∙◌, ap, subst, arith}
 use Rattle.std.specs.declared.cmp.Ordering.{Ordering}
 use Rattle.std.specs.declared.cmp.Ordering.TheVariants.{Less, Equal, Greater}
 use Rattle.std.specs.Ordering.{nat_cmp}
 use Rattle.std.specs.String.{string_bytes}
+use Rattle.std.specs.Vec.{with_items}
+use Rattle.std.proofs.lemmas.List.{with_items_is}
 use Rattle.yaml_definitions.specs.model.Order.{bytes_cmp}
 use Rattle.yaml_levels.specs.View.{View}
 use Rattle.yaml_levels.proofs.Numbers.{less-cmp, equal-cmp, greater-cmp}
@@ -15,7 +17,7 @@ use Rattle.yaml_compact.specs.StoreModel.{place_of, Within, Apart, PlacesApart, 
 use Rattle.yaml_compact.specs.StoreGrows.{Good, tags_of}
 use Rattle.yaml_compact.specs.Ranking.{Stored, AllRanked}
 use Rattle.yaml_compact.specs.TagPlaces.{PlacesAre}
-use Rattle.yaml_compact.specs.StoreView.{view_of, tag_in, inside_at}
+use Rattle.yaml_compact.specs.StoreView.{view_of, tag_in, inside_at, StoreListed}
 
 within-from : (text is es : ℕ) (place : Place) → start_of place ≤ end_of place → end_of place ≤ room_of text is es place → Within text is es place
 within-from text is es (Scalar s) a b = (a, b)
@@ -74,3 +76,20 @@ stored-as s good are p nodes text is es places a b c d e =
 pub ranked-as : (v : View) (nodes nodes2 : List Node) (text text2 is is2 : List ℕ) (es es2 : List (ℕ × ℕ)) (ranks first : List ℕ) → AllRanked v nodes text is es ranks first → nodes ≡ nodes2 → text ≡ text2 → is ≡ is2 → es ≡ es2 → AllRanked v nodes2 text2 is2 es2 ranks first
 ranked-as v nodes nodes2 text text2 is is2 es es2 ranks first r a b c d =
     subst (λ z. AllRanked v z text2 is2 es2 ranks first) a (subst (λ z. AllRanked v nodes z is2 es2 ranks first) b (subst (λ z. AllRanked v nodes text z es2 ranks first) c (subst (λ z. AllRanked v nodes text is z ranks first) d r)))
+
+-- what is kept of the lists of a store, once they are ranked, whatever is kept beside
+pub listed-as : (s : Store) (good : Good s) (are : List ℕ) → PlacesAre (tags_of s) are → (nodes : List Node) (text is is2 : List ℕ) (es es2 : List (ℕ × ℕ)) (places : List ℕ) (ranks first : Vec ℕ Global) (shorts : Vec Bool Global)
+    → nodes ≡ s.nodes.items → text ≡ string_bytes s.text → is ≡ s.items.items → es ≡ s.entries.items → places ≡ are → length is2 ≡ length is → length es2 ≡ length es
+    → (Stored (view_of s good) nodes text is es places → AllRanked (view_of s good) nodes text is2 es2 ranks.items first.items)
+    → StoreListed s good record { tags = s.tags; text = s.text; items = with_items s.items is2; entries = with_items s.entries es2; nodes = s.nodes; ranks = ranks; first = first; shorts = shorts }
+listed-as s good are p nodes text is is2 es es2 places ranks first shorts a b c d e long wide ranked =
+    let m : length is2 ≡ length s.items.items = long ∙ ap length c in
+    let n : length es2 ≡ length s.entries.items = wide ∙ ap length d in
+    let f : (with_items s.items is2).items ≡ is2 = with_items_is s.items is2 (omega (arith, m, s.items.ok.0)) in
+    let g : (with_items s.entries es2).items ≡ es2 = with_items_is s.entries es2 (omega (arith, n, s.entries.ok.0)) in
+    record {
+      nodes = refl;
+      text = refl;
+      tags = refl;
+      ranked = ranked-as (view_of s good) _ _ _ _ _ _ _ _ _ _ (ranked (stored-as s good are p nodes text is es places a b c d e)) a b (sym f) (sym g);
+    }

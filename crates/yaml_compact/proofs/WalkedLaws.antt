@@ -1,10 +1,10 @@
 -- Ranks as ranked nodes.
-use Rattle.std.proofs.Common.{◌≡◌, ℕ, zero, suc, ◌+◌, ◌<◌, Bool, true, false, not, cond, List, [], ◌∷◌, length, map, get_or, slice_index, refl, sym, ◌∙◌, ap, subst, arith}
+use Rattle.std.proofs.Common.{◌≡◌, ℕ, zero, suc, ◌+◌, ◌<◌, ◌≤◌, Bool, true, false, not, cond, List, [], ◌∷◌, ◌++◌, length, map, drop, get_or, slice_index, append_assoc, refl, sym, ◌∙◌, ap, subst, arith}
 use Rattle.std.specs.Prelude.{Some}
 use Rattle.std.specs.String.{string_bytes}
 use Rattle.std.specs.List.{slice_get, slice_range, position_or_len, All}
 use Rattle.std.specs.Str.{IsUtf8}
-use Rattle.std.proofs.lemmas.List.{length-map}
+use Rattle.std.proofs.lemmas.List.{append-nil, drop_all, get_or-map, length-map}
 use Rattle.std.proofs.lemmas.List.Elements.{All-map, All-tail}
 use Rattle.yaml_definitions.specs.model.Tree.{Tree, scalar}
 use Rattle.yaml_definitions.specs.model.Order.{arranged}
@@ -17,7 +17,12 @@ use Rattle.yaml_levels.specs.Insides.{Held, HeldBelow}
 use Rattle.yaml_levels.proofs.GraphOf.{get-map, get-unmap}
 use Rattle.yaml_levels.proofs.InsideLaws.{held-length, inside-same, held-tree}
 use Rattle.yaml_levels.proofs.Numbering.{get-there, get-within}
-use Rattle.yaml_spell.specs.RankedNodes.{RanksTell}
+use Rattle.yaml_definitions.specs.canonical.Spell.{short}
+use Rattle.yaml_spell.specs.declared.shown.Inside.{Inside}
+use Rattle.yaml_spell.specs.RankedNodes.{RanksTell, inside_shown}
+use Rattle.yaml_spell.specs.ShortNodes.{short_shown}
+use Rattle.yaml_spell.proofs.ShownLaws.{short-is}
+use Rattle.yaml_spell.proofs.WalkLaws.{drop_next}
 use Rattle.yaml_compact.specs.declared.store.Store.{Store}
 use Rattle.yaml_compact.specs.declared.ranking.Ranked.{Ranked}
 use Rattle.yaml_compact.specs.declared.nodes.Node.{Node}
@@ -26,7 +31,7 @@ use Rattle.yaml_compact.specs.declared.nodes.Place.TheVariants.{Scalar}
 use Rattle.yaml_compact.specs.declared.nodes.Span.{Span}
 use Rattle.yaml_compact.specs.StoreModel.{place_of, inside_of, tag_at, Within}
 use Rattle.yaml_compact.specs.StoreGrows.{Good, IsText, tags_of}
-use Rattle.yaml_compact.specs.StoreView.{tree_of, tag_in, inside_at, view_of, StoreRanked}
+use Rattle.yaml_compact.specs.StoreView.{tree_of, tag_in, inside_at, view_of, short_at, StoreListed, StoreRanked}
 use Rattle.yaml_compact.specs.RanksView.{first_of, rank_tag, rank_inside, rank_tree}
 use Rattle.yaml_compact.specs.Walked.{count_from, rank_held, walked_trees, walked_tree, walked_rank, ranks_of, RanksTaken}
 use Rattle.yaml_compact.proofs.RanksOf.{first-tree}
@@ -59,7 +64,15 @@ found t (x ∷ xs) (suc i) d l h = by (same t x) refl (found t xs i d (omega ari
         let one : suc (position_or_len (same t) xs) ≡ 1 + position_or_len (same t) xs = omega arith in
         (omega arith, subst (λ n. same t (get_or (x ∷ xs) n d) ≡ true) one r.1)
 
-module _ (s : Store) (good : Good s) (c : Ranked) (are : StoreRanked s good c) where
+-- one more of a list is told
+pub flags-step : (f : ℕ → Bool) (xs : List ℕ) (bs cs : List Bool) (k : ℕ) (b : Bool) → k < length xs → b ≡ f (slice_index xs k) → cs ≡ bs ++ (b ∷ []) → bs ++ map f (drop k xs) ≡ map f xs → cs ++ map f (drop (k + 1) xs) ≡ map f xs
+flags-step f xs bs cs k b l e p h = ap (λ z. z ++ map f (drop (k + 1) xs)) p ∙ append_assoc bs (b ∷ []) (map f (drop (k + 1) xs)) ∙ ap (λ z. bs ++ (z ∷ map f (drop (k + 1) xs))) e ∙ ap (λ z. bs ++ map f z) (sym (drop_next xs k 0 l)) ∙ h
+
+-- and all are
+pub flags-whole : (f : ℕ → Bool) (xs : List ℕ) (bs : List Bool) (k : ℕ) → length xs ≤ k → bs ++ map f (drop k xs) ≡ map f xs → bs ≡ map f xs
+flags-whole f xs bs k l h = sym (append-nil bs) ∙ ap (λ z. bs ++ map f z) (sym (drop_all k xs l)) ∙ h
+
+module _ (s : Store) (good : Good s) (c : Ranked) (are : StoreListed s good c) where
   abbrev N : ℕ
   N = length c.first.items
 
@@ -172,18 +185,37 @@ module _ (s : Store) (good : Good s) (c : Ranked) (are : StoreRanked s good c) w
     pub content-text : (p : Span) → Scalar p ≡ place_of n → IsUtf8 (slice_range (string_bytes c.text) p.start p.end)
     content-text p b = subst (λ t. IsUtf8 (slice_range t p.start p.end)) (sym are.text) (subst (λ q. IsText (inside_of (string_bytes s.text) s.items.items s.entries.items q)) (sym b) (good.texts i n (subst (λ z. slice_get z i ≡ Some n) are.nodes there)))
 
-    pub shows : (x : List ℕ) (p : Place) → x ≡ tag_at (map string_bytes c.tags.items) n.tag → p ≡ place_of n → walked_tree c r ≡ inside_tree (walked_tree c) x (inside_of (string_bytes c.text) c.items.items c.entries.items p)
-    shows x p a b = walked-made r l ∙ (λ z. inside_tree (walked_tree c) ((ap (tag_in (map string_bytes c.tags.items)) node-at ∙ sym a) z) ((ap (inside_at (string_bytes c.text) c.items.items c.entries.items) node-at ∙ ap (inside_of (string_bytes c.text) c.items.items c.entries.items) (sym b)) z))
+    pub tag-shown : (x : List ℕ) → x ≡ tag_at (map string_bytes c.tags.items) n.tag → x ≡ rank_tag c r
+    tag-shown x a = a ∙ sym (ap (tag_in (map string_bytes c.tags.items)) node-at)
 
-    pub parts-within : (p : Place) → p ≡ place_of n → InsideBelow N (inside_of (string_bytes c.text) c.items.items c.entries.items p)
-    parts-within p b = subst (InsideBelow N) (ap (inside_at (string_bytes c.text) c.items.items c.entries.items) node-at ∙ ap (inside_of (string_bytes c.text) c.items.items c.entries.items) (sym b)) (inside-below r l)
+    pub inside-shown : (p : Place) → p ≡ place_of n → inside_of (string_bytes c.text) c.items.items c.entries.items p ≡ rank_inside c r
+    inside-shown p a = ap (inside_of (string_bytes c.text) c.items.items c.entries.items) a ∙ sym (ap (inside_at (string_bytes c.text) c.items.items c.entries.items) node-at)
+
+  -- what shows a rank's tag and what is inside it shows its tree, and ranks below their number
+  module _ {I : Type 0} (number : I → ℕ) (r : ℕ) (tag : List ℕ) (x : Inside I) (l : r < N) (is : tag ≡ rank_tag c r) (inside : inside_shown number x ≡ rank_inside c r) where
+    pub tree-shown : walked_tree c r ≡ inside_tree (walked_tree c) tag (inside_shown number x)
+    tree-shown = walked-made r l ∙ (λ z. inside_tree (walked_tree c) (sym is z) (sym inside z))
+
+    pub parts-shown : InsideBelow N (inside_shown number x)
+    parts-shown = subst (InsideBelow N) (sym inside) (inside-below r l)
+
+    -- and tells whether it is short
+    pub short-shown-is : short_shown tag x ≡ short_at s (first_of c r)
+    short-shown-is = sym (short-is number (walked_tree c) (walked_tree c r) tag x tree-shown) ∙ ap short (walked-is r l)
+
+-- whether a rank is short
+pub short-told : (s : Store) (good : Good s) (c : Ranked) → StoreRanked s good c → (r : ℕ) (b : Bool) → r < length c.first.items → b ≡ get_or c.shorts.items r b → b ≡ short (walked_tree c r)
+short-told s good c are r b l e = e ∙ ap (λ z. get_or z r b) are.shorts ∙ get_or-map (short_at s) c.first.items r 0 b l ∙ ap short (sym (walked-is s good c are.listed r l))
+
+pub shorts-long : (s : Store) (good : Good s) (c : Ranked) → StoreRanked s good c → length c.shorts.items ≡ length c.first.items
+shorts-long s good c are = ap length are.shorts ∙ length-map c.first.items (short_at s)
 
 -- ranks in place of nodes
 pub ranks-taken : (c : Ranked) (nodes : List ℕ) → All (λ i. i < length (ranks_of c)) nodes → RanksTaken c nodes (map (slice_index (ranks_of c)) nodes)
 ranks-taken c nodes all = record {
   are = refl;
-  within = λ s good are. taken-within s good c are nodes all;
-  trees = λ s good are. taken-trees s good c are nodes all;
+  within = λ s good are. taken-within s good c are.listed nodes all;
+  trees = λ s good are. taken-trees s good c are.listed nodes all;
 }
 
 -- a text by number

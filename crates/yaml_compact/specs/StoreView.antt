@@ -1,9 +1,11 @@
 -- A store as a view of nodes.
-use Rattle.std.specs.Prelude.{◌≡◌, ℕ, ◌<◌, List, [], length, map, Option, Some, None}
+use Rattle.std.specs.Prelude.{◌≡◌, ℕ, ◌<◌, Bool, List, [], length, map, Option, Some, None}
 use Rattle.std.proofs.Common.{sym, subst}
 use Rattle.std.specs.List.{slice_get}
 use Rattle.std.specs.String.{string_bytes}
 use Rattle.yaml_definitions.specs.model.Tree.{Tree}
+use Rattle.yaml_definitions.specs.model.Order.{arranged}
+use Rattle.yaml_definitions.specs.canonical.Spell.{short}
 use Rattle.yaml_nodes.specs.GraphModel.{tree_at}
 use Rattle.yaml_levels.specs.View.{View, Inside, content, InsideBelow, inside_tree}
 use Rattle.yaml_levels.specs.Insides.{Held, HeldBelow}
@@ -62,8 +64,21 @@ view_of s good = record {
 }
 
 -- The nodes of the store are ranked, and their parts are ranks.
-pub record StoreRanked (s : Store) (good : Good s) (r : Ranked) : Type 0 where
+pub record StoreListed (s : Store) (good : Good s) (r : Ranked) : Type 0 where
   pub nodes : r.nodes.items ≡ s.nodes.items
   pub text : string_bytes r.text ≡ string_bytes s.text
   pub tags : map string_bytes r.tags.items ≡ tags_of s
   pub ranked : AllRanked (view_of s good) r.nodes.items (string_bytes r.text) r.items.items r.entries.items r.ranks.items r.first.items
+
+-- these are the nodes of a store, ranked
+abbrev pub Listed : Ranked → Type 0
+Listed r = (s : Store) × (good : Good s) × StoreListed s good r
+
+-- whether the arranged tree of the node of this number is short
+abbrev pub short_at : Store → ℕ → Bool
+short_at s i = short (arranged (tree_of s i))
+
+-- The same, and it is known which ranks are short.
+pub record StoreRanked (s : Store) (good : Good s) (r : Ranked) : Type 0 where
+  pub listed : StoreListed s good r
+  pub shorts : r.shorts.items ≡ map (short_at s) r.first.items

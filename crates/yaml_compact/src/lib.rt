@@ -12,6 +12,7 @@ mod number;
 mod places;
 pub mod ranking;
 mod settle;
+mod shorts;
 pub mod store;
 mod walked;
 

@@ -12,6 +12,7 @@ use crate::nodes::Node;
 use crate::number::number;
 use crate::places::places;
 use crate::settle::settle;
+use crate::shorts::shorts;
 use crate::store::Store;
 use std::alloc::Global;
 
@@ -28,6 +29,8 @@ pub struct Ranked {
     pub(crate) ranks: Vec<u32>,
     /// The node that stands for each rank.
     pub(crate) first: Vec<u32>,
+    /// Whether each rank is short: asked here once, and not at each of its nodes. Filled in last.
+    pub(crate) shorts: Vec<bool>,
 }
 
 /// No ranks yet, for so many nodes.
@@ -88,7 +91,7 @@ pub fn compact_rank(alloc: Global, store: Store) -> Result<Ranked, GivesUp>
         &mut entries,
         &places,
     )?;
-    Ok(Ranked {
+    let mut ranked = Ranked {
         tags,
         text,
         items,
@@ -96,5 +99,8 @@ pub fn compact_rank(alloc: Global, store: Store) -> Result<Ranked, GivesUp>
         nodes,
         ranks,
         first,
-    })
+        shorts: Vec::new(alloc),
+    };
+    ranked.shorts = shorts(alloc, &ranked)?;
+    Ok(ranked)
 }

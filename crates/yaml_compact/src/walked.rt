@@ -1,9 +1,8 @@
 //! Ranks as ranked nodes, of which the text is written.
-use crate::nodes::Place;
 use crate::ranking::Ranked;
 use crate::settle::overwrite;
 use yaml_spell::ranked::RankedNodes;
-use yaml_spell::shown::{Inside, Shown};
+use yaml_spell::shown::Shown;
 
 impl RankedNodes<u32> for Ranked {
     ghost use Rattle.std.specs.Prelude.{length};
@@ -24,30 +23,15 @@ impl RankedNodes<u32> for Ranked {
     }
 
     fn node(&self, id: u32) -> Shown<'_, u32> {
-        let node = self.nodes[self.first[id as usize] as usize];
-        let tag = self.tags[node.tag as usize].as_str();
-        match node.place() {
-            Place::Scalar(span) => Shown {
-                tag,
-                inside: Inside::Scalar(
-                    self.text
-                        .get(span.start as usize..span.end as usize)
-                        .unwrap_or(""),
-                ),
-            },
-            Place::Sequence(span) => Shown {
-                tag,
-                inside: Inside::Sequence(&self.items[span.start as usize..span.end as usize]),
-            },
-            Place::Mapping(span) => Shown {
-                tag,
-                inside: Inside::Mapping(&self.entries[span.start as usize..span.end as usize]),
-            },
-        }
+        self.shown(id as usize)
     }
 
     fn rank(&self, id: u32) -> usize {
         id as usize
+    }
+
+    fn is_short(&self, id: u32) -> bool {
+        self.shorts[id as usize]
     }
 
     fn tells(&self) {}

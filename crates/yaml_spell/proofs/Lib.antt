@@ -8,7 +8,7 @@ mod PartLaws
 mod RankLaws
 pub mod WalkLaws
 mod ShortLaws
-mod ShownLaws
+pub mod ShownLaws
 mod GraphNodes
 mod WriteLaws
 mod Anchors

@@ -3,7 +3,7 @@
 
 mod length;
 pub mod names;
-mod node;
+pub mod node;
 pub mod page;
 mod parts;
 mod quoted;

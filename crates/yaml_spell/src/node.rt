@@ -42,7 +42,7 @@ fn is_short_tag(tag: &str, kind: Kind) -> bool
 }
 
 /// Whether a node is a scalar or an empty collection of few bytes.
-pub(crate) fn is_short<I: Copy>(node: &Shown<'_, I>) -> bool
+pub fn is_short<I: Copy>(node: &Shown<'_, I>) -> bool
     ensures { result ≡ short_shown node.now.tag.now node.now.inside }
 {
     match node.inside {

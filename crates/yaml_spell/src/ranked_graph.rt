@@ -1,4 +1,5 @@
 //! A graph with its ranks.
+use crate::node::is_short;
 use crate::ranked::RankedNodes;
 use crate::shown::{Inside, Shown};
 use yaml_levels::ranks::Ranks;
@@ -54,6 +55,10 @@ impl<'g, 't> RankedNodes<NodeId> for RankedGraph<'g, 't> {
 
     fn rank(&self, id: NodeId) -> usize {
         self.ranks.of(id)
+    }
+
+    fn is_short(&self, id: NodeId) -> bool {
+        is_short(&self.node(id))
     }
 
     fn tells(&self) {}

@@ -8,7 +8,6 @@ ghost use Rattle.yaml_spell.specs.RankedNodes.{Ready, trees_of, pairs_of};
 ghost use Rattle.yaml_spell.specs.Walked.{noticed, noticed_all, noticed_pairs, opening_of, begun_unless_short, separator, given, given_all, given_pairs, given_inside, written, written_all, written_pairs, behind_anchor};
 
 use crate::names::{Names, Opening};
-use crate::node::is_short;
 use crate::parts::{Kind, put_alias, put_anchor, put_scalar, put_tag};
 use crate::ranked::RankedNodes;
 use crate::shown::Inside;
@@ -24,13 +23,13 @@ pub(crate) fn notice<I: Copy, V: RankedNodes<I>>(view: &V, names: &mut Names, id
     ensures table { table_of names.new ≡ noticed (V.rank view.now) (V.tree view.now (V.number id)) (table_of names.old) }
     ensures others { NamesNone names.old names.new }
 {
-    let node = view.node(id);
-    if is_short(&node) {
+    if view.is_short(id) {
         return;
     }
     if !names.meet(view.rank(id)) {
         return;
     }
+    let node = view.node(id);
     match node.inside {
         Inside::Scalar(_) => {}
         Inside::Sequence(items) => notice_items(view, names, items),
@@ -108,7 +107,7 @@ pub(crate) fn write_node<I: Copy, V: RankedNodes<I>, O, S: Sink<O>>(
     ensures ok { OnOk result (Puts S.holds sink.old out.old sink.new out.new (node_text (written (V.rank view.now) (V.tree view.now (V.number id)) (given_of names.old)))) }
     ensures err { IfErr result (λ fault. Fails S.holds S.stops sink.old out.old out.new fault (node_text (written (V.rank view.now) (V.tree view.now (V.number id)) (given_of names.old)))) }
 {
-    let opening = start(names, is_short(&view.node(id)), view.rank(id));
+    let opening = start(names, view.is_short(id), view.rank(id));
     match opening {
         Opening::Alias(number) => put_alias(sink, out, number),
         Opening::Anchored(number) => {

@@ -7,14 +7,14 @@ use Rattle.yaml_compact.proofs.laws.ranks_are_a_view.Goals as goal
 
 pub returns : goal.returns
 returns c = λ s good r are. (
-  ranks_view s good r are,
+  ranks_view s good r are.listed,
   record {
     count = refl;
     tag = λ k. refl;
     inside = λ k. refl;
     tree = λ k. refl;
-    neat = rank-arranged (view_of s good) r.nodes.items (string_bytes r.text) r.items.items r.entries.items r.ranks.items r.first.items (sym (ap length are.nodes)) are.ranked;
-    rise = ranks-rise (view_of s good) r.nodes.items (string_bytes r.text) r.items.items r.entries.items r.ranks.items r.first.items (sym (ap length are.nodes)) are.ranked;
-    node = first-tree (view_of s good) r.nodes.items (string_bytes r.text) r.items.items r.entries.items r.ranks.items r.first.items (sym (ap length are.nodes)) are.ranked;
+    neat = rank-arranged (view_of s good) r.nodes.items (string_bytes r.text) r.items.items r.entries.items r.ranks.items r.first.items (sym (ap length are.listed.nodes)) are.listed.ranked;
+    rise = ranks-rise (view_of s good) r.nodes.items (string_bytes r.text) r.items.items r.entries.items r.ranks.items r.first.items (sym (ap length are.listed.nodes)) are.listed.ranked;
+    node = first-tree (view_of s good) r.nodes.items (string_bytes r.text) r.items.items r.entries.items r.ranks.items r.first.items (sym (ap length are.listed.nodes)) are.listed.ranked;
   },
 )

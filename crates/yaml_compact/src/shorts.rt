@@ -1,0 +1,57 @@
+//! What ranks show, and which of them are short.
+ghost use Rattle.std.specs.Prelude.{◌≡◌, ◌<◌, length, map, IfOk};
+ghost use Rattle.yaml_spell.specs.RankedNodes.{inside_shown};
+ghost use Rattle.yaml_compact.specs.declared.store.Store.{Store};
+ghost use Rattle.yaml_compact.specs.StoreGrows.{Good};
+ghost use Rattle.yaml_compact.specs.StoreView.{short_at, Listed, StoreListed};
+ghost use Rattle.yaml_compact.specs.RanksView.{rank_tag, rank_inside};
+
+use crate::gives_up::GivesUp;
+use crate::nodes::Place;
+use crate::ranking::Ranked;
+use std::alloc::Global;
+use yaml_spell::node::is_short;
+use yaml_spell::shown::{Inside, Shown};
+
+impl Ranked {
+    /// What the node that stands for a rank shows.
+    pub(crate) fn shown(&self, rank: usize) -> Shown<'_, u32>
+        requires listed { Listed self.now }
+        requires within { rank < length self.now.first.items }
+        ensures tag { result.tag.now ≡ rank_tag self.now rank }
+        ensures inside { inside_shown (λ r. r) result.inside ≡ rank_inside self.now rank }
+    {
+        let node = self.nodes[self.first[rank] as usize];
+        let tag = self.tags[node.tag as usize].as_str();
+        match node.place() {
+            Place::Scalar(span) => Shown {
+                tag,
+                inside: Inside::Scalar(
+                    self.text
+                        .get(span.start as usize..span.end as usize)
+                        .unwrap_or(""),
+                ),
+            },
+            Place::Sequence(span) => Shown {
+                tag,
+                inside: Inside::Sequence(&self.items[span.start as usize..span.end as usize]),
+            },
+            Place::Mapping(span) => Shown {
+                tag,
+                inside: Inside::Mapping(&self.entries[span.start as usize..span.end as usize]),
+            },
+        }
+    }
+}
+
+/// Whether each rank is short.
+pub(crate) fn shorts(alloc: Global, ranked: &Ranked) -> Result<Vec<bool>, GivesUp>
+    requires { Listed ranked.now }
+    ensures { (s : Store) (good : Good s) → StoreListed s good ranked.now → IfOk result (λ shorts. shorts.items ≡ map (short_at s) ranked.now.first.items) }
+{
+    let mut shorts = Vec::with_capacity(alloc, ranked.first.len())?;
+    for rank in 0..ranked.first.len() {
+        shorts.push(is_short(&ranked.shown(rank)))?;
+    }
+    Ok(shorts)
+}
