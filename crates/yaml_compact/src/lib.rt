@@ -2,16 +2,17 @@
 #![tactic(auto)]
 
 pub mod gives_up;
-mod key;
 pub mod laws;
 mod level;
 mod levels;
+mod lists;
 mod memo;
 pub mod nodes;
 mod number;
 mod places;
 pub mod ranking;
 mod settle;
+mod slot;
 pub mod store;
 mod walked;
 
