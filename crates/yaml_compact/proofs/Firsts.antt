@@ -8,8 +8,7 @@ use Rattle.yaml_levels.specs.Numbered.{AgreeBy}
 use Rattle.yaml_levels.proofs.Numbering.{Numbering, Goes, more, at-new, keeps, finished}
 use Rattle.yaml_levels.proofs.LevelLaws.{push-get}
 use Rattle.yaml_levels.proofs.Numbering.{get-within}
-use Rattle.yaml_compact.specs.declared.key.Key.{Key}
-use Rattle.yaml_compact.specs.KeyModel.{key_cmp, Keys, Rises}
+use Rattle.yaml_compact.specs.KeyModel.{Key, key_cmp, Keys, Rises}
 use Rattle.yaml_compact.specs.LevelModel.{Told, NumberedOn}
 
 -- What is noted once the keys before `end` are numbered, of which the last has the rank `rank`.

@@ -1,7 +1,8 @@
 -- Keys of nodes of one height stand as the nodes' trees do.
-use Rattle.std.proofs.Common.{◌≡◌, ℕ, suc, ◌<◌, List, [], ◌∷◌, drop, refl, sym, ◌∙◌, ap, arith}
+use Rattle.std.proofs.Common.{◌≡◌, ℕ, suc, ◌<◌, List, [], ◌∷◌, refl, sym, ◌∙◌, ap, arith}
 use Rattle.std.specs.List.{All}
 use Rattle.std.specs.declared.cmp.Ordering.{Ordering}
+use Rattle.std.specs.declared.cmp.Ordering.TheVariants.{Less, Equal, Greater}
 use Rattle.std.specs.Ordering.{nat_cmp, ordering_then}
 use Rattle.std.specs.Cmp.Lexicographic.{slice_cmp}
 use Rattle.yaml_definitions.specs.model.Tree.{Tree, height}
@@ -13,18 +14,14 @@ use Rattle.yaml_levels.specs.View.{View, Inside, content, items, entries, Ranks}
 use Rattle.yaml_compact.proofs.NumberKeyLaws.{Fit, digits-cmp, two-cmp, flat-cmp}
 use Rattle.yaml_levels.proofs.PrefixLaws.{told-cmp}
 use Rattle.yaml_levels.proofs.RankOrder.{tail, same-high, items-cmp, entries-cmp}
-use Rattle.yaml_compact.specs.declared.key.Key.{Key}
-use Rattle.yaml_compact.specs.KeyModel.{rest_cmp, key_cmp, RanksFit, kind_number, Tells, KeyIs}
+use Rattle.yaml_compact.specs.KeyModel.{inside_cmp, Key, key_cmp, RanksFit, kind_number, IsFrontOf, IsRestOf, KeyIs}
 use Rattle.yaml_compact.proofs.NodeLaws.{Low, Fitted}
 
-drop-two : (xs : List ℕ) → drop 2 xs ≡ behind (behind xs)
-drop-two [] = refl
-drop-two (x ∷ []) = refl
-drop-two (x ∷ (y ∷ xs)) = refl
-
-drop-entry : (ps : List (ℕ × ℕ)) → flat (drop 1 ps) ≡ behind (behind (flat ps))
-drop-entry [] = refl
-drop-entry (p ∷ ps) = refl
+-- where a part is decided by a number and by what stands behind it, the whole may be compared in place of that
+then-told : (o p q : Ordering) → ordering_then o p ≡ q → ordering_then o q ≡ q
+then-told Less p q e = e
+then-told Equal p q e = refl
+then-told Greater p q e = e
 
 all-fit : (xs : List ℕ) → All (λ r. r < 4294967295) xs → Fit xs
 all-fit [] a = tt
@@ -36,42 +33,35 @@ flat-fit (p ∷ ps) a = let b = a 0 p (omega arith) in (b.0, (b.1, flat-fit ps (
 
 -- the second number and the rest of a key
 abbrev told : Key → Key → Ordering
-told k l = ordering_then (nat_cmp k.front l.front) (rest_cmp k.rest l.rest)
+told k l = ordering_then (nat_cmp k.front l.front) (inside_cmp k.rest l.rest)
 
 module _ (v : View) (rank : ℕ → ℕ) (h : ℕ) (right : Ranks v rank h) where
-  inside-told : (g j : List ℕ) (a b : Inside) (k l : Key) (t u : Tree) → Tells k a → Tells l b → Fitted v rank h right g a t → Fitted v rank h right j b u → RanksFit a → RanksFit b
+  inside-told : (g j : List ℕ) (a b : Inside) (k l : Key) (t u : Tree) → IsFrontOf a k.front → IsRestOf a k.rest → IsFrontOf b l.front → IsRestOf b l.rest → Fitted v rank h right g a t → Fitted v rank h right j b u → RanksFit a → RanksFit b
       → ordering_then (nat_cmp (kind_number a) (kind_number b)) (ordering_then (bytes_cmp g j) (told k l)) ≡ tail t u
-  inside-told g j (content x) (content y) k l t u p q e f m n =
-      let r = p.1 in
-      let s = q.1 in
+  inside-told g j (content x) (content y) k l t u p r q s e f m n =
       let w : told k l ≡ bytes_cmp x y =
-      (λ z. ordering_then (nat_cmp (p.0.is z) (q.0.is z)) (rest_cmp (r.1 z) (s.1 z))) ∙ told-cmp x y p.0.bytes q.0.bytes 7 (omega arith) r.0.now s.0.now (r.2.short, r.2.long) (s.2.short, s.2.long) in
+      (λ z. ordering_then (nat_cmp (p.is z) (q.is z)) (inside_cmp (r.1 z) (s.1 z))) ∙ told-cmp x y p.bytes q.bytes 7 (omega arith) r.0 s.0 (r.2.short, r.2.long) (s.2.short, s.2.long) in
       ap (ordering_then (bytes_cmp g j)) w ∙ sym (λ z. tail (e z) (f z))
-  inside-told g j (items rs) (items ss) k l t u p q e f m n =
-      let r = p.1 in
-      let s = q.1 in
+  inside-told g j (items rs) (items ss) k l t u p r q s e f m n =
       let w : told k l ≡ slice_cmp nat_cmp rs ss =
-      (λ z. ordering_then (nat_cmp (p.0 z) (q.0 z)) (rest_cmp (r.1 z) (s.1 z)))
-      ∙ (ap (ordering_then (nat_cmp (two_of rs) (two_of ss))) (λ z. slice_cmp nat_cmp ((r.2 ∙ drop-two rs) z) ((s.2 ∙ drop-two ss) z)) ∙ two-cmp rs ss (all-fit rs m) (all-fit ss n)) in
+      (λ z. ordering_then (nat_cmp (p z) (q z)) (inside_cmp (r z) (s z)))
+      ∙ then-told (nat_cmp (two_of rs) (two_of ss)) (slice_cmp nat_cmp (behind (behind rs)) (behind (behind ss))) (slice_cmp nat_cmp rs ss) (two-cmp rs ss (all-fit rs m) (all-fit ss n)) in
       ap (ordering_then (bytes_cmp g j)) (w ∙ ((λ z. slice_cmp nat_cmp (e.3 z) (f.3 z)) ∙ items-cmp v.tree rank (Low v rank h right) right.agrees e.0 f.0 e.1 f.1)) ∙ sym (λ z. tail (e.2 z) (f.2 z))
-  inside-told g j (entries rs) (entries ss) k l t u p q e f m n =
-      let r = p.1 in
-      let s = q.1 in
+  inside-told g j (entries rs) (entries ss) k l t u p r q s e f m n =
       let w : told k l ≡ slice_cmp pair_cmp rs ss =
-      (λ z. ordering_then (nat_cmp (p.0 z) (q.0 z)) (rest_cmp (r.1 z) (s.1 z)))
-      ∙ (ap (ordering_then (nat_cmp (two_of (flat rs)) (two_of (flat ss)))) ((λ z. slice_cmp pair_cmp (r.2 z) (s.2 z)) ∙ (sym (flat-cmp (drop 1 rs) (drop 1 ss)) ∙ (λ z. slice_cmp nat_cmp (drop-entry rs z) (drop-entry ss z))))
-      ∙ (two-cmp (flat rs) (flat ss) (flat-fit rs m) (flat-fit ss n) ∙ flat-cmp rs ss)) in
+      (λ z. ordering_then (nat_cmp (p z) (q z)) (inside_cmp (r z) (s z)))
+      ∙ then-told (nat_cmp (two_of (flat rs)) (two_of (flat ss))) (slice_cmp nat_cmp (behind (behind (flat rs))) (behind (behind (flat ss)))) (slice_cmp pair_cmp rs ss) (two-cmp (flat rs) (flat ss) (flat-fit rs m) (flat-fit ss n) ∙ flat-cmp rs ss) in
       ap (ordering_then (bytes_cmp g j)) (w ∙ ((λ z. slice_cmp pair_cmp (e.3 z) (f.3 z)) ∙ entries-cmp v.tree rank (Low v rank h right) right.agrees e.0 f.0 e.1 f.1)) ∙ sym (λ z. tail (e.2 z) (f.2 z))
-  inside-told g j (content x) (items ss) k l t u p q e f m n = sym (λ z. tail (e z) (f.2 z))
-  inside-told g j (content x) (entries ss) k l t u p q e f m n = sym (λ z. tail (e z) (f.2 z))
-  inside-told g j (items rs) (content y) k l t u p q e f m n = sym (λ z. tail (e.2 z) (f z))
-  inside-told g j (items rs) (entries ss) k l t u p q e f m n = sym (λ z. tail (e.2 z) (f.2 z))
-  inside-told g j (entries rs) (content y) k l t u p q e f m n = sym (λ z. tail (e.2 z) (f z))
-  inside-told g j (entries rs) (items ss) k l t u p q e f m n = sym (λ z. tail (e.2 z) (f.2 z))
+  inside-told g j (content x) (items ss) k l t u p r q s e f m n = sym (λ z. tail (e z) (f.2 z))
+  inside-told g j (content x) (entries ss) k l t u p r q s e f m n = sym (λ z. tail (e z) (f.2 z))
+  inside-told g j (items rs) (content y) k l t u p r q s e f m n = sym (λ z. tail (e.2 z) (f z))
+  inside-told g j (items rs) (entries ss) k l t u p r q s e f m n = sym (λ z. tail (e.2 z) (f.2 z))
+  inside-told g j (entries rs) (content y) k l t u p r q s e f m n = sym (λ z. tail (e.2 z) (f z))
+  inside-told g j (entries rs) (items ss) k l t u p r q s e f m n = sym (λ z. tail (e.2 z) (f.2 z))
 
   -- where the places of the tags stand as the tags do
   pub key-order : (p q : ℕ) (g j : List ℕ) (a b : Inside) (k l : Key) (t u : Tree) → nat_cmp p q ≡ bytes_cmp g j → KeyIs p a k → KeyIs q b l → Fitted v rank h right g a t → Fitted v rank h right j b u → RanksFit a → RanksFit b
       → height t ≡ height u → key_cmp k l ≡ tree_cmp t u
   key-order p q g j a b k l t u tags x y e f m n high =
-      ap (λ o. ordering_then o (told k l)) ((λ z. nat_cmp (x.head z) (y.head z)) ∙ (digits-cmp 4294967296 (kind_number a) p (kind_number b) q x.small y.small ∙ ap (ordering_then (nat_cmp (kind_number a) (kind_number b))) tags))
-      ∙ (then_assoc (nat_cmp (kind_number a) (kind_number b)) (bytes_cmp g j) (told k l) ∙ (inside-told g j a b k l t u x.tells y.tells e f m n ∙ sym (same-high t u high)))
+      ap (λ o. ordering_then o (told k l)) ((λ z. nat_cmp (x.head z) (y.head z)) ∙ (digits-cmp 1073741824 (kind_number a) p (kind_number b) q x.small y.small ∙ ap (ordering_then (nat_cmp (kind_number a) (kind_number b))) tags))
+      ∙ (then_assoc (nat_cmp (kind_number a) (kind_number b)) (bytes_cmp g j) (told k l) ∙ (inside-told g j a b k l t u x.front x.rest y.front y.rest e f m n ∙ sym (same-high t u high)))

@@ -9,10 +9,9 @@ use Rattle.std.proofs.lemmas.List.Sorted.{Contains-permutation, IsPermutation-sy
 use Rattle.std.proofs.lemmas.Option.{slice_get_read, get_or_from_slice_get}
 use Rattle.yaml_levels.proofs.Numbering.{get-within}
 use Rattle.yaml_levels.proofs.LevelLaws.{push-get, get-some}
-use Rattle.yaml_compact.specs.declared.key.Key.{Key}
 use Rattle.yaml_compact.specs.declared.nodes.Node.{Node}
 use Rattle.yaml_compact.specs.StoreModel.{place_of, inside_of}
-use Rattle.yaml_compact.specs.KeyModel.{Keys, Rises, KeyIs}
+use Rattle.yaml_compact.specs.KeyModel.{Key, Keys, Rises, KeyIs}
 use Rattle.yaml_compact.specs.LevelModel.{KeysMade, KeysSorted}
 
 module _ (nodes : List Node) (text is : List ℕ) (es : List (ℕ × ℕ)) (places level : List ℕ) where

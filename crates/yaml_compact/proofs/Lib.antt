@@ -3,6 +3,7 @@ mod Firsts
 mod Overwriting
 mod Settling
 mod LevelKeys
+mod SlotLaws
 pub mod NumberKeyLaws
 pub mod NodeLaws
 mod KeyLaws
@@ -13,6 +14,6 @@ pub mod StoreLaws
 pub mod StoreOf
 pub mod RanksOf
 pub mod RanksView
-mod TagKeys
+mod TagCounts
 mod ContentLaws
 mod WalkedLaws

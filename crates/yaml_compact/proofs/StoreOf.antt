@@ -59,6 +59,7 @@ stored s good places are = record {
   count = refl;
   few = good.few;
   within = λ i k e. let p = good.placed i k e in (within-from (length (string_bytes s.text)) (length s.items.items) (length s.entries.items) (place_of k) p.0 p.1, (let q = p.2 in let l = are.long in omega arith));
+  small = are.small;
   apart = all-apart s.nodes.items good.apart;
   inside = λ i k e. ap (inside_at (string_bytes s.text) s.items.items s.entries.items) e;
   high = λ i k e. good.measured i k e;

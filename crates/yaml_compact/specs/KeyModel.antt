@@ -1,6 +1,5 @@
 -- The order of keys, and the key of a node.
-use Rattle.std.specs.Borrow.{Bor}
-use Rattle.std.specs.Prelude.{◌≡◌, ℕ, ◌+◌, ◌*◌, ◌<◌, ◌≤◌, min, List, [], length, drop, slice_index}
+use Rattle.std.specs.Prelude.{◌≡◌, ℕ, ◌+◌, ◌*◌, ◌<◌, ◌≤◌, min, List, [], length, slice_index}
 use Rattle.std.specs.List.{All}
 use Rattle.std.specs.declared.cmp.Ordering.{Ordering}
 use Rattle.std.specs.declared.cmp.Ordering.TheVariants.{Less, Greater}
@@ -12,24 +11,28 @@ use Rattle.yaml_levels.specs.KeyModel.{pair_cmp}
 use Rattle.yaml_compact.specs.NumberKeys.{two_of, flat}
 use Rattle.yaml_levels.specs.Numbered.{RisesBy}
 use Rattle.yaml_levels.specs.View.{Inside, content, items, entries}
-use Rattle.yaml_compact.specs.declared.key.Key.{Key}
-use Rattle.yaml_compact.specs.declared.key.Rest.{Rest}
-use Rattle.yaml_compact.specs.declared.key.Rest.TheVariants.{Text, Items, Entries}
 
-abbrev pub rest_cmp : Rest → Rest → Ordering
-rest_cmp (Text x) (Text y) = bytes_cmp x.now y.now
-rest_cmp (Text x) (Items y) = Less
-rest_cmp (Text x) (Entries y) = Less
-rest_cmp (Items x) (Text y) = Greater
-rest_cmp (Items x) (Items y) = slice_cmp nat_cmp x.now y.now
-rest_cmp (Items x) (Entries y) = Less
-rest_cmp (Entries x) (Text y) = Greater
-rest_cmp (Entries x) (Items y) = Greater
-rest_cmp (Entries x) (Entries y) = slice_cmp pair_cmp x.now y.now
+-- contents stand before items, and these before entries
+abbrev pub inside_cmp : Inside → Inside → Ordering
+inside_cmp (content x) (content y) = bytes_cmp x y
+inside_cmp (content x) (items y) = Less
+inside_cmp (content x) (entries y) = Less
+inside_cmp (items x) (content y) = Greater
+inside_cmp (items x) (items y) = slice_cmp nat_cmp x y
+inside_cmp (items x) (entries y) = Less
+inside_cmp (entries x) (content y) = Greater
+inside_cmp (entries x) (items y) = Greater
+inside_cmp (entries x) (entries y) = slice_cmp pair_cmp x y
+
+-- What nodes of one height are compared by: two numbers, and what is compared where these are equal.
+pub record Key : Type 0 where
+  pub head : ℕ
+  pub front : ℕ
+  pub rest : Inside
 
 -- the two numbers, then what they leave
 abbrev pub key_cmp : Key → Key → Ordering
-key_cmp k l = ordering_then (nat_cmp k.head l.head) (ordering_then (nat_cmp k.front l.front) (rest_cmp k.rest l.rest))
+key_cmp k l = ordering_then (nat_cmp k.head l.head) (ordering_then (nat_cmp k.front l.front) (inside_cmp k.rest l.rest))
 
 -- The keys of nodes, each with its node's number.
 abbrev pub Keys : Type 0
@@ -61,18 +64,21 @@ RanksFit (content x) = Unit {0}
 RanksFit (items rs) = All (λ r. r < 4294967295) rs
 RanksFit (entries rs) = All (λ p. (p.0 < 4294967295) × (p.1 < 4294967295)) rs
 
--- the second number and the rest tell what is inside
-abbrev pub Tells : Key → Inside → Type 0
-Tells key (content x) = IsFront x key.front × ((r : Bor (List ℕ)) × (key.rest ≡ Text r) × IsRest x r.now)
-Tells key (items rs) = (key.front ≡ two_of rs) × ((r : Bor (List ℕ)) × (key.rest ≡ Items r) × (r.now ≡ drop 2 rs))
-Tells key (entries rs) = (key.front ≡ two_of (flat rs)) × ((r : Bor (List (ℕ × ℕ))) × (key.rest ≡ Entries r) × (r.now ≡ drop 1 rs))
+-- the second number tells of what is inside
+abbrev pub IsFrontOf : Inside → ℕ → Type 0
+IsFrontOf (content x) front = IsFront x front
+IsFrontOf (items rs) front = front ≡ two_of rs
+IsFrontOf (entries rs) front = front ≡ two_of (flat rs)
+
+-- what is compared where the numbers are equal
+abbrev pub IsRestOf : Inside → Inside → Type 0
+IsRestOf (content x) rest = (r : List ℕ) × (rest ≡ content r) × IsRest x r
+IsRestOf (items rs) rest = rest ≡ items rs
+IsRestOf (entries rs) rest = rest ≡ entries rs
 
 -- The key of a node whose tag stands at this place and of which this is inside, with ranks for parts.
 pub record KeyIs (place : ℕ) (inside : Inside) (key : Key) : Type 0 where
-  pub small : place < 4294967296
-  pub head : key.head ≡ kind_number inside * 4294967296 + place
-  pub tells : Tells key inside
-
--- the key of a tag tells its bytes
-abbrev pub IsTagKey : List ℕ → Key → Type 0
-IsTagKey tag key = (key.head ≡ 0) × (key.front ≡ 0) × ((r : Bor (List ℕ)) × (key.rest ≡ Text r) × (r.now ≡ tag))
+  pub small : place < 1073741824
+  pub head : key.head ≡ kind_number inside * 1073741824 + place
+  pub front : IsFrontOf inside key.front
+  pub rest : IsRestOf inside key.rest

@@ -3,10 +3,9 @@ use Rattle.std.specs.Prelude.{◌≡◌, ℕ, ◌<◌, ◌≤◌, List, Some, le
 use Rattle.std.specs.List.{slice_get}
 use Rattle.yaml_definitions.specs.model.Tree.{Tree}
 use Rattle.yaml_levels.specs.Numbered.{AgreeBy, Among, NumberedUpto}
-use Rattle.yaml_compact.specs.declared.key.Key.{Key}
 use Rattle.yaml_compact.specs.declared.nodes.Node.{Node}
 use Rattle.yaml_compact.specs.StoreModel.{place_of, inside_of}
-use Rattle.yaml_compact.specs.KeyModel.{key_cmp, Keys, Rises, KeyIs, RanksFit}
+use Rattle.yaml_compact.specs.KeyModel.{Key, key_cmp, Keys, Rises, KeyIs, RanksFit}
 
 -- this number has the rank `r`, and is that of one of the first keys
 abbrev pub Told : Keys → ℕ → List ℕ → ℕ → ℕ → Type 0

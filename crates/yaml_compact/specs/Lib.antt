@@ -2,6 +2,7 @@ pub mod NumberKeys
 pub mod StoreModel
 pub mod StoreGrows
 pub mod KeyModel
+pub mod SlotModel
 pub mod PartsModel
 pub mod LevelModel
 pub mod Ranking

@@ -1,6 +1,6 @@
 -- What ranks over the lists of a store say.
 use Rattle.std.specs.Prelude.{◌≡◌, ℕ, ◌<◌, List, length, slice_index, Some}
-use Rattle.std.specs.List.{slice_get}
+use Rattle.std.specs.List.{slice_get, All}
 use Rattle.std.specs.Ordering.{nat_cmp}
 use Rattle.yaml_definitions.specs.model.Tree.{height}
 use Rattle.yaml_definitions.specs.model.Order.{bytes_cmp}
@@ -10,11 +10,12 @@ use Rattle.yaml_compact.specs.declared.nodes.Node.{Node}
 use Rattle.yaml_compact.specs.StoreModel.{place_of, inside_of, Within, NodesWithin, Apart}
 use Rattle.yaml_compact.specs.PartsModel.{PartsRanked}
 
--- The lists hold the nodes of this view, each with its height, and the places of tags stand as the tags do.
+-- The lists hold the nodes of this view, each with its height, and the places of tags are small and stand as the tags do.
 pub record Stored (v : View) (nodes : List Node) (text is : List ℕ) (es : List (ℕ × ℕ)) (places : List ℕ) : Type 0 where
   pub count : v.count ≡ length nodes
   pub few : length nodes < 4294967296
   pub within : NodesWithin (length text) (length is) (length es) (length places) nodes
+  pub small : All (λ p. p < 1073741824) places
   pub apart : Apart nodes
   pub inside : (i : ℕ) (s : Node) → slice_get nodes i ≡ Some s → v.inside i ≡ inside_of text is es (place_of s)
   pub high : (i : ℕ) (s : Node) → slice_get nodes i ≡ Some s → s.height ≡ height (v.tree i)

@@ -1,55 +1,40 @@
-//! The keys of the nodes of one height.
+//! The nodes of one height, in order.
 ghost use Rattle.std.specs.Prelude.{◌≡◌, ◌<◌, length, IfOk};
 ghost use Rattle.std.specs.List.{All};
-ghost use Rattle.yaml_compact.specs.StoreModel.{NodesWithin};
 ghost use Rattle.yaml_compact.specs.LevelModel.{LevelFits, KeysMade, KeysSorted};
+ghost use Rattle.yaml_compact.specs.SlotModel.{InRange, keys_of};
 
 use crate::gives_up::GivesUp;
-use crate::key::{Key, key_of, sort};
-use crate::nodes::Node;
+use crate::lists::Lists;
+use crate::slot::Slot;
 use std::alloc::Global;
 
-/// The keys of the nodes of these numbers, whose parts are ranks. `places` has the place of each tag in the
-/// order of tags.
-fn keys<'s>(
-    alloc: Global,
-    nodes: &[Node],
-    text: &'s [u8],
-    items: &'s [u32],
-    entries: &'s [(u32, u32)],
-    places: &[u32],
-    level: &[u32],
-) -> Result<Vec<(Key<'s>, u32)>, GivesUp>
-    requires numbers { All (λ i. i < length nodes.now) level.now }
-    requires within { NodesWithin (length text.now) (length items.now) (length entries.now) (length places.now) nodes.now }
-    requires fit { LevelFits nodes.now text.now items.now entries.now level.now }
-    ensures ok { IfOk result (λ keys. KeysMade nodes.now text.now items.now entries.now places.now level.now keys.items) }
+/// The slots of the nodes of these numbers, whose parts are ranks.
+fn slots(alloc: Global, lists: &Lists<'_>, level: &[u32]) -> Result<Vec<Slot>, GivesUp>
+    requires range { InRange lists.now }
+    requires numbers { All (λ i. i < length lists.now.nodes.now) level.now }
+    requires fit { LevelFits lists.now.nodes.now lists.now.text.now lists.now.items.now lists.now.entries.now level.now }
+    ensures ok { IfOk result (λ slots. KeysMade lists.now.nodes.now lists.now.text.now lists.now.items.now lists.now.entries.now lists.now.places.now level.now (keys_of lists.now slots.items)) }
 {
-    let mut keys = Vec::with_capacity(alloc, level.len())?;
+    let mut slots = Vec::with_capacity(alloc, level.len())?;
     for number in level {
-        let node = nodes[*number as usize];
-        let tag = places[node.tag as usize];
-        keys.push((key_of(node.place(), tag, text, items, entries), *number))?;
+        slots.push(lists.slot(*number))?;
     }
-    Ok(keys)
+    Ok(slots)
 }
 
-/// The keys of the nodes of these numbers, which are of one height, in order.
-pub(crate) fn sorted_keys<'s>(
+/// The slots of the nodes of these numbers, which are of one height, in order.
+pub(crate) fn sorted_slots(
     alloc: Global,
-    nodes: &[Node],
-    text: &'s [u8],
-    items: &'s [u32],
-    entries: &'s [(u32, u32)],
-    places: &[u32],
+    lists: &Lists<'_>,
     level: &[u32],
-) -> Result<Vec<(Key<'s>, u32)>, GivesUp>
-    requires numbers { All (λ i. i < length nodes.now) level.now }
-    requires within { NodesWithin (length text.now) (length items.now) (length entries.now) (length places.now) nodes.now }
-    requires fit { LevelFits nodes.now text.now items.now entries.now level.now }
-    ensures ok { IfOk result (λ keys. KeysSorted nodes.now text.now items.now entries.now places.now level.now keys.items) }
+) -> Result<Vec<Slot>, GivesUp>
+    requires range { InRange lists.now }
+    requires numbers { All (λ i. i < length lists.now.nodes.now) level.now }
+    requires fit { LevelFits lists.now.nodes.now lists.now.text.now lists.now.items.now lists.now.entries.now level.now }
+    ensures ok { IfOk result (λ slots. KeysSorted lists.now.nodes.now lists.now.text.now lists.now.items.now lists.now.entries.now lists.now.places.now level.now (keys_of lists.now slots.items)) }
 {
-    let mut keys = keys(alloc, nodes, text, items, entries, places, level)?;
-    sort(&mut keys);
-    Ok(keys)
+    let mut slots = slots(alloc, lists, level)?;
+    lists.sort(&mut slots);
+    Ok(slots)
 }

@@ -2,10 +2,10 @@
 #![tactic(auto)]
 
 pub mod gives_up;
-mod key;
 pub mod laws;
 mod level;
 mod levels;
+mod lists;
 mod memo;
 pub mod nodes;
 mod number;
@@ -13,6 +13,7 @@ mod places;
 pub mod ranking;
 mod settle;
 mod shorts;
+mod slot;
 pub mod store;
 mod walked;
 

@@ -1,31 +1,35 @@
-//! Numbers of keys in order.
+//! Numbers of nodes in order.
 ghost use Rattle.std.specs.Prelude.{◌≡◌, ◌<◌, [], ◌∷◌, ◌++◌, length, IfOk};
 ghost use Rattle.std.specs.List.{All};
 ghost use Rattle.yaml_compact.specs.LevelModel.{NumberedOn};
+ghost use Rattle.yaml_compact.specs.SlotModel.{InRange, keys_of};
 
 use crate::gives_up::GivesUp;
-use crate::key::{Key, is_below};
+use crate::lists::Lists;
+use crate::slot::Slot;
 
 /// As many ranks as leave room for one more number in 32 bits.
 const MOST: usize = 4_294_967_295;
 
-/// Ranks nodes in the order of their keys: each has the rank of the first one with its key, which is how
-/// many were noted before that one. The first ones are noted.
+/// Ranks nodes in their order: each has the rank of the first one that is equal, which is how many were
+/// noted before that one. The first ones are noted.
 pub(crate) fn number(
+    lists: &Lists<'_>,
     ranks: &mut [u32],
     first: &mut Vec<u32>,
-    keys: &[(Key<'_>, u32)],
+    slots: &[Slot],
 ) -> Result<(), GivesUp>
-    requires within { All (λ key. key.1 < length ranks.old) keys.now }
+    requires range { InRange lists.now }
+    requires within { All (λ slot. slot.number < length ranks.old) slots.now }
     requires few { length first.old.items < 4294967296 }
-    ensures ok { IfOk result (λ _. NumberedOn keys.now ranks.old ranks.new first.old.items first.new.items) }
+    ensures ok { IfOk result (λ _. NumberedOn (keys_of lists.now slots.now) ranks.old ranks.new first.old.items first.new.items) }
 {
     let mut rank = first.len() as u32;
-    for (place, (key, number)) in keys.iter().enumerate() {
-        if place == 0 || is_below(&keys[place - 1].0, key) {
-            rank = note(first, *number)?;
+    for (place, slot) in slots.iter().enumerate() {
+        if place == 0 || lists.is_below(slots[place - 1], *slot) {
+            rank = note(first, slot.number)?;
         }
-        ranks[*number as usize] = rank;
+        ranks[slot.number as usize] = rank;
     }
     Ok(())
 }

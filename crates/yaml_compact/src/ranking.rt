@@ -6,8 +6,9 @@ ghost use Rattle.yaml_compact.specs.StoreGrows.{Good};
 ghost use Rattle.yaml_compact.specs.StoreView.{StoreRanked};
 
 use crate::gives_up::GivesUp;
-use crate::level::sorted_keys;
+use crate::level::sorted_slots;
 use crate::levels::levels;
+use crate::lists::Lists;
 use crate::nodes::Node;
 use crate::number::number;
 use crate::places::places;
@@ -62,8 +63,15 @@ fn rank_all(
     let mut first = Vec::new(alloc);
     for level in &levels {
         settle(nodes, items, entries, &ranks, level)?;
-        let keys = sorted_keys(alloc, nodes, text, items, entries, places, level)?;
-        number(&mut ranks, &mut first, &keys)?;
+        let lists = Lists {
+            nodes,
+            text,
+            items,
+            entries,
+            places,
+        };
+        let slots = sorted_slots(alloc, &lists, level)?;
+        number(&lists, &mut ranks, &mut first, &slots)?;
     }
     Ok((ranks, first))
 }

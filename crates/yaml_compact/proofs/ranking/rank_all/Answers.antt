@@ -1,4 +1,4 @@
-use Rattle.std.proofs.Common.{◌≡◌, ◌<◌, suc, length, slice_index, add-one, sym, ◌∙◌, ap, subst, arith}
+use Rattle.std.proofs.Common.{◌≡◌, ◌<◌, suc, length, slice_index, add-one, refl, sym, ◌∙◌, ap, subst, arith}
 use Rattle.std.specs.List.{All}
 use Rattle.std.specs.Vec.{with_items}
 use Rattle.std.proofs.lemmas.List.{with_items_is}
@@ -6,8 +6,8 @@ use Rattle.yaml_levels.specs.LevelsModel.{level_of, LevelsBy}
 use Rattle.yaml_levels.proofs.LevelsLaws.{level-there}
 use Rattle.yaml_compact.specs.StoreModel.{height_at}
 use Rattle.yaml_compact.specs.PartsModel.{LevelBelow, LevelSettled}
-use Rattle.yaml_compact.specs.LevelModel.{NumberedOn, KeysSorted, LevelFits, LevelNumbered}
-use Rattle.yaml_compact.proofs.LevelKeys.{sorted-within}
+use Rattle.yaml_compact.specs.LevelModel.{LevelFits, LevelNumbered}
+use Rattle.yaml_compact.proofs.SlotLaws.{slots-within, level-numbered}
 use Rattle.yaml_compact.proofs.Standing.{Standing, level-numbers, level-rising, level-below, level-fits, settled-within, standing-more, standing-done, levels-end}
 use Rattle.yaml_compact.proofs.ranking.rank_all.Goals as goal
 
@@ -59,8 +59,8 @@ settle-requires-clause-below c =
     let is : level ≡ level_of ls i = c.deref-in-loop-level.ensures.value ∙ (ap (λ z. z.items) c.level-item.is ∙ level-there ls i c.level-item.result c.loop-level-test.true) in
     subst (λ z. LevelBelow (length z) nodes level c.loop-level.items c.loop-level.entries) (sym c.deref.ensures.value) (level-below v nodes text olds pairs places store ls are i level is c.loop-level.items c.loop-level.entries c.loop-level.ranks.items c.loop-level.first.items (c.loop-level.invariant v store))
 
-pub sorted_keys-requires-clause-numbers : goal.sorted_keys-requires-clause-numbers
-sorted_keys-requires-clause-numbers c =
+pub sorted_slots-requires-clause-numbers : goal.sorted_slots-requires-clause-numbers
+sorted_slots-requires-clause-numbers c =
     let v = c.requires.0 in
     let store = c.requires.1 in
     let nodes = c.args.nodes.now in
@@ -79,8 +79,8 @@ sorted_keys-requires-clause-numbers c =
     let settled : LevelSettled (slice_index ranks) nodes level c.loop-level.items c.loop-level.entries c.settle.new.items c.settle.new.entries = subst (λ z. LevelSettled (slice_index z) nodes level c.loop-level.items c.loop-level.entries c.settle.new.items c.settle.new.entries) c.deref.ensures.value c.in_ok-settle.ensures in
     subst (All (λ n. n < length nodes)) (sym same) (level-numbers v nodes text olds pairs places store ls are i level is)
 
-pub sorted_keys-requires-clause-within : goal.sorted_keys-requires-clause-within
-sorted_keys-requires-clause-within c =
+pub sorted_slots-requires-clause-range : goal.sorted_slots-requires-clause-range
+sorted_slots-requires-clause-range c =
     let v = c.requires.0 in
     let store = c.requires.1 in
     let nodes = c.args.nodes.now in
@@ -97,10 +97,10 @@ sorted_keys-requires-clause-within c =
     let same : again ≡ level = c.deref-in-loop-level-2.ensures.value ∙ sym c.deref-in-loop-level.ensures.value in
     let ranks = c.loop-level.ranks.items in
     let settled : LevelSettled (slice_index ranks) nodes level c.loop-level.items c.loop-level.entries c.settle.new.items c.settle.new.entries = subst (λ z. LevelSettled (slice_index z) nodes level c.loop-level.items c.loop-level.entries c.settle.new.items c.settle.new.entries) c.deref.ensures.value c.in_ok-settle.ensures in
-    settled-within v nodes text olds pairs places store ls are i level is c.loop-level.items c.loop-level.entries c.loop-level.ranks.items c.loop-level.first.items (c.loop-level.invariant v store) c.settle.new.items c.settle.new.entries settled
+    record { within = settled-within v nodes text olds pairs places store ls are i level is c.loop-level.items c.loop-level.entries c.loop-level.ranks.items c.loop-level.first.items (c.loop-level.invariant v store) c.settle.new.items c.settle.new.entries settled; small = store.small }
 
-pub sorted_keys-requires-clause-fit : goal.sorted_keys-requires-clause-fit
-sorted_keys-requires-clause-fit c =
+pub sorted_slots-requires-clause-fit : goal.sorted_slots-requires-clause-fit
+sorted_slots-requires-clause-fit c =
     let v = c.requires.0 in
     let store = c.requires.1 in
     let nodes = c.args.nodes.now in
@@ -118,6 +118,26 @@ sorted_keys-requires-clause-fit c =
     let ranks = c.loop-level.ranks.items in
     let settled : LevelSettled (slice_index ranks) nodes level c.loop-level.items c.loop-level.entries c.settle.new.items c.settle.new.entries = subst (λ z. LevelSettled (slice_index z) nodes level c.loop-level.items c.loop-level.entries c.settle.new.items c.settle.new.entries) c.deref.ensures.value c.in_ok-settle.ensures in
     subst (LevelFits nodes text c.settle.new.items c.settle.new.entries) (sym same) (level-fits v nodes text olds pairs places store ls are i level is c.loop-level.items c.loop-level.entries c.loop-level.ranks.items c.loop-level.first.items (c.loop-level.invariant v store) c.settle.new.items c.settle.new.entries settled)
+
+pub number-requires-clause-range : goal.number-requires-clause-range
+number-requires-clause-range c =
+    let v = c.requires.0 in
+    let store = c.requires.1 in
+    let nodes = c.args.nodes.now in
+    let text = c.args.text.now in
+    let olds = c.args.items.now in
+    let pairs = c.args.entries.now in
+    let places = c.args.places.now in
+    let ls = c.deref-level-items.result.now in
+    let i = c.loop-level.level-index in
+    let are : LevelsBy (height_at nodes) (length nodes) ls = subst (LevelsBy (height_at nodes) (length nodes)) (sym c.deref-level-items.ensures.value) c.in_ok-levels.ensures.ok in
+    let level = c.deref-in-loop-level.result.now in
+    let is : level ≡ level_of ls i = c.deref-in-loop-level.ensures.value ∙ (ap (λ z. z.items) c.level-item.is ∙ level-there ls i c.level-item.result c.loop-level-test.true) in
+    let again = c.deref-in-loop-level-2.result.now in
+    let same : again ≡ level = c.deref-in-loop-level-2.ensures.value ∙ sym c.deref-in-loop-level.ensures.value in
+    let ranks = c.loop-level.ranks.items in
+    let settled : LevelSettled (slice_index ranks) nodes level c.loop-level.items c.loop-level.entries c.settle.new.items c.settle.new.entries = subst (λ z. LevelSettled (slice_index z) nodes level c.loop-level.items c.loop-level.entries c.settle.new.items c.settle.new.entries) c.deref.ensures.value c.in_ok-settle.ensures in
+    record { within = settled-within v nodes text olds pairs places store ls are i level is c.loop-level.items c.loop-level.entries c.loop-level.ranks.items c.loop-level.first.items (c.loop-level.invariant v store) c.settle.new.items c.settle.new.entries settled; small = store.small }
 
 pub number-requires-clause-within : goal.number-requires-clause-within
 number-requires-clause-within c =
@@ -138,9 +158,9 @@ number-requires-clause-within c =
     let ranks = c.loop-level.ranks.items in
     let settled : LevelSettled (slice_index ranks) nodes level c.loop-level.items c.loop-level.entries c.settle.new.items c.settle.new.entries = subst (λ z. LevelSettled (slice_index z) nodes level c.loop-level.items c.loop-level.entries c.settle.new.items c.settle.new.entries) c.deref.ensures.value c.in_ok-settle.ensures in
     let before = c.loop-level.invariant v store in
-    let found = subst (KeysSorted nodes text c.settle.new.items c.settle.new.entries places again) (sym c.deref-in-loop-level-3.ensures.value) c.in_ok-keys.ensures.ok in
-    sorted-within nodes text c.settle.new.items c.settle.new.entries places again c.deref-in-loop-level-3.result.now found (length c.deref_mut.result.now)
-    (subst (λ n. All (λ i. i < n) again) (sym (ap length c.deref_mut.ensures.value ∙ before.long)) (subst (All (λ n. n < length nodes)) (sym same) (level-numbers v nodes text olds pairs places store ls are i level is)))
+    let numbers = subst (λ n. All (λ i. i < n) again) (sym (ap length c.deref_mut.ensures.value ∙ before.long)) (subst (All (λ n. n < length nodes)) (sym same) (level-numbers v nodes text olds pairs places store ls are i level is)) in
+    let found = slots-within _ nodes text c.settle.new.items c.settle.new.entries places (λ s. refl) again c.in_ok-slots.slots.items c.in_ok-slots.ensures.ok (length c.deref_mut.result.now) numbers in
+    subst (All (λ s. s.number < length c.deref_mut.result.now)) (sym c.deref-in-loop-level-3.ensures.value) found
 
 pub number-requires-clause-few : goal.number-requires-clause-few
 number-requires-clause-few c = (c.loop-level.invariant c.requires.0 c.requires.1).few
@@ -163,13 +183,10 @@ loop-level-preserved c = λ v store.
     let settled : LevelSettled (slice_index ranks) nodes level c.loop-level.items c.loop-level.entries c.settle.new.items c.settle.new.entries = subst (λ z. LevelSettled (slice_index z) nodes level c.loop-level.items c.loop-level.entries c.settle.new.items c.settle.new.entries) c.deref.ensures.value c.in_ok-settle.ensures in
     let next = c.number.new.ranks in
     let after = c.number.new.first.items in
-    let keys = c.deref-in-loop-level-3.result.now in
-    let found : KeysSorted nodes text c.settle.new.items c.settle.new.entries places level keys =
-    subst (λ z. KeysSorted nodes text c.settle.new.items c.settle.new.entries places z keys) same (subst (KeysSorted nodes text c.settle.new.items c.settle.new.entries places again) (sym c.deref-in-loop-level-3.ensures.value) c.in_ok-keys.ensures.ok) in
-    let numbered : NumberedOn keys ranks next c.loop-level.first.items after = subst (λ z. NumberedOn keys z next c.loop-level.first.items after) c.deref_mut.ensures.value c.in_ok-number.ensures.ok in
-    let num : LevelNumbered nodes text c.settle.new.items c.settle.new.entries places level ranks next c.loop-level.first.items after = record { keys = keys; sorted = found; numbered = numbered } in
+    let numbered = level-numbered _ nodes text c.settle.new.items c.settle.new.entries places again level c.in_ok-slots.slots.items c.deref-in-loop-level-3.result.now c.deref_mut.result.now next c.loop-level.first.items after same c.deref-in-loop-level-3.ensures.value c.in_ok-slots.ensures.ok c.in_ok-number.ensures.ok in
+    let num = subst (λ z. LevelNumbered nodes text c.settle.new.items c.settle.new.entries places level z next c.loop-level.first.items after) c.deref_mut.ensures.value numbered in
     let b = c.loop-level.ranks in
-    let e : (with_items b next).items ≡ next = with_items_is b next (omega (arith, numbered.long, b.ok.0)) in
+    let e : (with_items b next).items ≡ next = with_items_is b next (omega (arith, num.numbered.long, b.ok.0)) in
     subst (λ z. Standing v nodes text olds pairs c.settle.new.items c.settle.new.entries (with_items b next).items after z) (sym (add-one i)) (subst (λ z. Standing v nodes text olds pairs c.settle.new.items c.settle.new.entries z after (suc i)) (sym e) (standing-more v nodes text olds pairs places store ls are i level is c.loop-level.items c.loop-level.entries c.loop-level.ranks.items c.loop-level.first.items (c.loop-level.invariant v store) c.settle.new.items c.settle.new.entries settled next after num))
 
 pub returns : goal.returns

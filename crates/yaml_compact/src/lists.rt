@@ -1,0 +1,102 @@
+//! The lists of a store, by which nodes of one height are compared.
+ghost use Rattle.std.specs.Prelude.{◌≡◌, ◌<◌, length};
+ghost use Rattle.std.specs.Ordering.{is_lt};
+ghost use Rattle.std.specs.List.Sorted.{IsPermutation};
+ghost use Rattle.yaml_compact.specs.KeyModel.{key_cmp, Rises, RanksFit};
+ghost use Rattle.yaml_compact.specs.SlotModel.{held, InRange, inside_at, rest_at, key_at, keys_of, IsSlot};
+
+use crate::nodes::{Node, Place};
+use crate::slot::{Rest, Slot};
+use std::cmp::Ordering;
+
+/// The nodes of a store, what all of them hold, with ranks for parts, and the place of each tag in the
+/// order of tags.
+#[derive(Clone, Copy)]
+pub(crate) struct Lists<'s> {
+    pub nodes: &'s [Node],
+    pub text: &'s [u8],
+    pub items: &'s [u32],
+    pub entries: &'s [(u32, u32)],
+    pub places: &'s [u32],
+}
+
+impl<'s> Lists<'s> {
+    /// What is inside the node of this number; there is none of any other.
+    fn inside(&self, number: u32) -> Rest<'s>
+        requires { InRange self.now }
+        ensures { held result ≡ inside_at self.now number }
+    {
+        let Some(node) = self.nodes.get(number as usize) else {
+            return Rest::Text(&[]);
+        };
+        match node.place() {
+            Place::Scalar(span) => Rest::Text(&self.text[span.start as usize..span.end as usize]),
+            Place::Sequence(span) => {
+                Rest::Items(&self.items[span.start as usize..span.end as usize])
+            }
+            Place::Mapping(span) => {
+                Rest::Entries(&self.entries[span.start as usize..span.end as usize])
+            }
+        }
+    }
+
+    /// What nodes are compared by where the two numbers of their slots are equal: nothing of a content
+    /// that these hold whole.
+    fn rest(&self, slot: Slot) -> Rest<'s>
+        requires { InRange self.now }
+        ensures { held result ≡ rest_at self.now slot }
+    {
+        if slot.is_whole() {
+            return Rest::Text(&[]);
+        }
+        self.inside(slot.number)
+    }
+
+    /// The slot of a node.
+    pub(crate) fn slot(&self, number: u32) -> Slot
+        requires range { InRange self.now }
+        requires number { number < length self.now.nodes.now }
+        requires fit { RanksFit (inside_at self.now number) }
+        ensures { IsSlot self.now number result }
+    {
+        let tag = self.places[self.nodes[number as usize].tag as usize];
+        let inside = self.inside(number);
+        Slot {
+            front: inside.front(),
+            head: inside.head(tag),
+            number,
+        }
+    }
+
+    /// How the first node stands to the second.
+    fn compare(&self, left: Slot, right: Slot) -> Ordering
+        requires { InRange self.now }
+        ensures { result ≡ key_cmp (key_at self.now left) (key_at self.now right) }
+    {
+        let told = left
+            .head
+            .cmp(&right.head)
+            .then(left.front.cmp(&right.front));
+        match told {
+            Ordering::Equal => self.rest(left).compare(&self.rest(right)),
+            _ => told,
+        }
+    }
+
+    /// Whether the first node stands before the second.
+    pub(crate) fn is_below(&self, left: Slot, right: Slot) -> bool
+        requires { InRange self.now }
+        ensures { result ≡ is_lt (key_cmp (key_at self.now left) (key_at self.now right)) }
+    {
+        self.compare(left, right) == Ordering::Less
+    }
+
+    /// Puts slots in order, whatever nodes they are of: so the sort may pass over nodes that are equal.
+    pub(crate) fn sort(&self, slots: &mut Vec<Slot>)
+        requires { InRange self.now }
+        ensures permutation { IsPermutation slots.old.items slots.new.items }
+        ensures sorted { Rises (keys_of self.now slots.new.items) }
+    {
+        slots.sort_unstable_by(|left, right| self.compare(*left, *right));
+    }
+}
