@@ -29,7 +29,7 @@ all-kept holds first last out es h is p =
     held
 
 -- the roots stand for these trees
-roots-are : (ts : List Tree) (roots : List ℕ) (us : List Tree) → AllAt ts roots us → parts_at ts roots ≡ us
+pub roots-are : (ts : List Tree) (roots : List ℕ) (us : List Tree) → AllAt ts roots us → parts_at ts roots ≡ us
 roots-are ts [] [] h = refl
 roots-are ts (i ∷ roots) (u ∷ us) h = λ z. get_or_from_slice_get ts i u (scalar [] []) h.0 z ∷ roots-are ts roots us h.1 z
 roots-are ts [] (u ∷ us) h = absurd h

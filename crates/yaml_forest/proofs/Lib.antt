@@ -1,1 +1,2 @@
 pub mod ForestLaws
+pub mod RootRanks
