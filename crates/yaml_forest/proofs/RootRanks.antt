@@ -40,7 +40,7 @@ module _ (ds : List Document) (f : Forest) (is : IsForest ds f) where
 
   -- each root has a rank
   pub roots-ranked : (good : Good f.store) (c : Ranked) → StoreRanked f.store good c → All (λ i. i < length (ranks_of c)) f.roots.items
-  roots-ranked good c are = subst (λ n. All (λ i. i < n) f.roots.items) (sym are.ranked.long) roots-below
+  roots-ranked good c are = subst (λ n. All (λ i. i < n) f.roots.items) (sym are.listed.ranked.long) roots-below
 
 -- the ranks of the roots of the forest that bytes mean
 pub has-ranks : (bytes : List ℕ) (f : Forest) (g : RankedForest) (h : HasForest bytes f) → Means bytes (root_trees f) → StoreRanked f.store h.forest.good g.ranked → RanksTaken g.ranked f.roots.items g.roots.items → length g.roots.items < 2 ^ 63 → HasRanks bytes g
@@ -51,7 +51,7 @@ has-ranks bytes f g h means are taken few =
       trees = root_trees f;
       means = means;
       low = subst AreLow (sym (roots-are (trees_of s) f.roots.items h.forest.trees_are h.forest.roots)) h.forest.low;
-      keyed = All-map Keyed (tree_of s) f.roots.items (λ k d l. are.ranked.keyed (get_or f.roots.items k d) (roots-below h.documents f h.forest k d l));
+      keyed = All-map Keyed (tree_of s) f.roots.items (λ k d l. are.listed.ranked.keyed (get_or f.roots.items k d) (roots-below h.documents f h.forest k d l));
       rooted = record { ranked = (s, good, are); within = taken.within s good are; few = few };
       arranged = taken.trees s good are ∙ map-arranged (trees_of s) f.roots.items;
     }
