@@ -19,7 +19,7 @@ HEAD = """\
 DECIDING = ("edit.py", "judging.py", "layout.py", "room.py", "said.py")
 NOTHING = "-"
 # A sample has at least one of so many edits, and so many crates.
-SAMPLE_PART, SAMPLE_CRATES = 8, 2
+SAMPLE_PART, SAMPLE_CRATES = 16, 2
 
 
 def key_of(root, crate):
