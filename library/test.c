@@ -173,7 +173,7 @@ static void without_memory(const struct file *file, const struct answer *own, co
     }
 }
 
-/* The peak of a call is the least bound under which it answers, and one byte less is refused. A bound holds for its thread. */
+/* A call answers under a bound of its peak; under less it is refused, or goes a way that takes less. A bound holds for its thread. */
 static void bounds(text_call *call, const struct file *file)
 {
     size_t cap = file->n * 40 + 5000, peak;
