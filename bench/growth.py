@@ -5,7 +5,8 @@
 Counts the instructions at a size, at twice and at four times that size (valgrind's callgrind). What the second doubling adds is
 set against what the first added, and scaled to the bytes that each added, so that the start of the program and a head that does
 not grow count for nothing: 2 is linear, 4 quadratic. More than 2.3 fails, unless it was one step, as where a buffer first grows:
-then the doubling behind it adds no more than 2.3 times what the doubling before it did. Needs valgrind and Python 3.
+then the doubling behind it adds no more than 2.3 times what the doubling before it did. Fewer than ten instructions a byte
+count as ten: behind a refusal near the start only the bytes are gathered and checked. Needs valgrind and Python 3.
 """
 import concurrent.futures
 import os
@@ -17,7 +18,7 @@ import tempfile
 from shapes import SHAPES
 
 PROGRAM = os.environ.get('YAMLCANON') or os.path.join(os.path.dirname(os.path.abspath(__file__)), '../crates/yaml_tool/out/yaml_tool')
-SMALLEST, LARGEST, MOST = 10_000, 640_000, 2.3
+SMALLEST, LARGEST, MOST, GATHERING = 10_000, 640_000, 2.3, 10
 
 
 def size_of(make):
@@ -68,7 +69,7 @@ def growth(command, name):
 def growths(texts, counts):
     """Of each doubling but the first, twice what it added for a byte by what the one before it added for a byte."""
     added = [(counts[k + 1][0] - counts[k][0]) / (len(texts[k + 1]) - len(texts[k])) for k in range(len(texts) - 1)]
-    return [2 * more / max(1, less) for less, more in zip(added, added[1:])]
+    return [2 * more / max(GATHERING, less) for less, more in zip(added, added[1:])]
 
 
 def main(args):
