@@ -191,7 +191,13 @@ fn read_keyed<'a, K: Keeper>(
     ensures placed { IfErr result (IsPlaced source.now) }
 {
     let start = out.mark();
-    out.announce(&head.own);
+    // Outer properties are the mapping's where the node is a key, which is rare for a collection.
+    let known = if head.own.is_none() {
+        &outer
+    } else {
+        &head.own
+    };
+    out.announce(known);
     let node = read_in_block(alloc, source, &head, site.level, out)?;
     let begun = Begun { node, start };
     match first_colon(source, head.at, node.end, site.column)? {
