@@ -1,5 +1,6 @@
 pub mod Streams
 pub mod PieceLaws
+mod PlainLaws
 mod QuotedLaws
 mod SpelledLaws
 pub mod PageLaws
@@ -9,6 +10,7 @@ mod RankLaws
 pub mod WalkLaws
 mod ShortLaws
 pub mod ShownLaws
+mod ShortWalk
 mod GraphNodes
 mod WriteLaws
 mod Anchors

@@ -1,7 +1,7 @@
 -- Pieces one after the other.
 use Rattle.std.specs.Prelude.{Result, Ok, Err, OnOk, IfOk, IfErr}
-use Rattle.std.proofs.Common.{◌≡◌, ℕ, List, ◌++◌, refl, sym, ◌∙◌, ap, subst}
-use Rattle.std.proofs.lemmas.List.{append_assoc}
+use Rattle.std.proofs.Common.{◌≡◌, ℕ, List, [], ◌++◌, refl, sym, ◌∙◌, ap, subst}
+use Rattle.std.proofs.lemmas.List.{append_assoc, append-nil}
 use Rattle.std.proofs.lemmas.Str.{encodes-append}
 use Rattle.std.specs.Str.{encode_utf8_all}
 use Rattle.yaml_text.specs.declared.fault.Fault.{Fault}
@@ -32,6 +32,9 @@ module _ {S O : Type 0} (holds : S → O → Began → List ℕ → Type 0) wher
   pub adds_then : (s : S) (o : O) (t : S) (p : O) (u : S) (q : O) (x y : List ℕ) → TakesPiece holds s o t p x → TakesPiece holds t p u q y → TakesPiece holds s o u q (x ++ y)
   adds_then s o t p u q x y h k = record { is = λ b xs i. subst (holds u q b) (append_assoc xs x y) (k.is b (xs ++ x) (h.is b xs i)) }
 
+  pub adds_none : (s : S) (o : O) → TakesPiece holds s o s o []
+  adds_none s o = record { is = λ b xs h. subst (holds s o b) (sym (append-nil xs)) h }
+
   pub puts_none : (s : S) (o : O) → Puts holds s o s o (λ more. more)
   puts_none s o = record { is = λ b xs h. (xs, h, writes_none xs) }
 
@@ -49,6 +52,10 @@ module _ {S O : Type 0} (holds : S → O → Began → List ℕ → Type 0) wher
 
   pub puts_as : (s : S) (o : O) (t : S) (p : O) (f g : List ℕ → List ℕ) → Puts holds s o t p f → ((more : List ℕ) → f more ≡ g more) → Puts holds s o t p g
   puts_as s o t p f g h e = record { is = λ b xs i. let a = h.is b xs i in (a.0, a.1, record { is = λ more. a.2.is more ∙ ap (λ z. xs ++ encode_utf8_all z) (e more) }) }
+
+  -- nothing was taken before
+  pub puts_after : (s : S) (o : O) (t : S) (p : O) (u : S) (q : O) (f : List ℕ → List ℕ) → TakesPiece holds s o t p [] → Puts holds t p u q f → Puts holds s o u q f
+  puts_after s o t p u q f h k = puts_then s o t p u q (λ more. more) f (puts_piece s o t p [] [] h refl) k
 
   module _ (stops : O → Began → Fault → List ℕ → Type 0) where
     pub misses_more : (s : S) (o p : O) (fault : Fault) (x y z : List ℕ) → Misses holds stops s o p fault x → x ++ y ≡ z → Misses holds stops s o p fault z
@@ -76,6 +83,9 @@ module _ {S O : Type 0} (holds : S → O → Began → List ℕ → Type 0) wher
           let a = h.is b xs i in
           subst (stops q b fault) (a.2.is (g more)) (k.is b a.0 more a.1);
     }
+
+    pub fails_after : (s : S) (o : O) (t : S) (p q : O) (fault : Fault) (f : List ℕ → List ℕ) → TakesPiece holds s o t p [] → Fails holds stops t p q fault f → Fails holds stops s o q fault f
+    fails_after s o t p q fault f h k = fails_later s o t p q fault (λ more. more) f (puts_piece s o t p [] [] h refl) k
 
     pub fails_as : (s : S) (o p : O) (fault : Fault) (f g : List ℕ → List ℕ) → Fails holds stops s o p fault f → ((more : List ℕ) → f more ≡ g more) → Fails holds stops s o p fault g
     fails_as s o p fault f g h e = record { is = λ b xs more i. subst (λ w. stops p b fault (xs ++ encode_utf8_all w)) (e more) (h.is b xs more i) }

@@ -1,7 +1,7 @@
 -- A content's spelling, from its front on.
 use Rattle.std.proofs.Common.{◌≡◌, ◌==◌, Bool, ℕ, zero, suc, ◌+◌, ◌<◌, ◌≤◌, true, List, [], ◌∷◌, ◌++◌, length, take, drop, get_or, refl, sym, ◌∙◌, ap, subst, add-one, arith}
 use Rattle.std.proofs.Math.Seq.{take-suc}
-use Rattle.std.proofs.lemmas.List.{append_assoc, append-nil, length-append, nil_from_length}
+use Rattle.std.proofs.lemmas.List.{append_assoc, append-nil, length-append, nil_from_length, take_all, drop_all}
 use Rattle.std.proofs.lemmas.Bool.Decides.{nat_tests}
 use Rattle.std.proofs.lemmas.Str.{encode_ascii, chars-nil, IsUtf8-past_char, IsUtf8-drop, IsCharBoundary-from_drop}
 use Rattle.std.specs.Prelude.{flat_map}
@@ -45,6 +45,21 @@ ran_all text (suc n) u l h =
 
 pub ran_front : (text bytes : List ℕ) (n : ℕ) → IsUtf8 text → bytes ≡ text → n ≤ length bytes → ((k : ℕ) → k < n → (get_or bytes k 0 < 128) × (is_verbatim (get_or bytes k 0) ≡ true)) → Ran text n
 ran_front text bytes n u e l h = ran_all text n u (subst (λ z. n ≤ length z) e l) (subst (λ z. (k : ℕ) → k < n → (get_or z k 0 < 128) × (is_verbatim (get_or z k 0) ≡ true)) e h)
+
+-- ---- what is written as it is
+
+none_spelled : spelled_chars [] ≡ []
+none_spelled = ap (λ z. encode_utf8_all (flat_map spell_char z)) chars-nil
+
+pub plain_quoted : (text : List ℕ) (n : ℕ) → spelled_chars text ≡ take n text ++ spelled_chars (drop n text) → length text ≤ n → quoted_bytes text ≡ 34 ∷ (text ++ (34 ∷ []))
+plain_quoted text n h l =
+    let e : spelled_chars text ≡ text = h ∙ (λ i. take_all n text l i ++ spelled_chars (drop_all n text l i)) ∙ ap (λ z. text ++ z) none_spelled ∙ append-nil text in
+    spelled_is text ∙ ap (λ z. 34 ∷ (z ++ (34 ∷ []))) e
+
+pub plain_long : (text : List ℕ) → quoted_bytes text ≡ 34 ∷ (text ++ (34 ∷ [])) → length text + 2 ≡ length (quoted_bytes text)
+plain_long text e =
+    let k : length (quoted_bytes text) ≡ suc (length text + 1) = ap length e ∙ ap suc (length-append text (34 ∷ [])) in
+    omega (arith, k)
 
 -- a character behind the front, or none
 pub cut_some : (text run tail rest : List ℕ) (n c : ℕ) → spelled_chars text ≡ take n text ++ spelled_chars (drop n text) → run ≡ take n text → tail ≡ drop n text → IsUtf8 text → IsCharBoundary text n → tail ≡ encode_utf8 c ++ rest

@@ -1,24 +1,21 @@
 -- The length of a text that is given to a length with a limit.
-use Rattle.std.proofs.Common.{◌≡◌, ℕ, ◌<◌, ◌≤◌, Bool, true, false, List, [], length, sym, ◌∙◌, ap, subst, arith}
-use Rattle.std.specs.Prelude.{Result, Ok, Err, OnOk, IfErr, None, nat_le, is_ok, is_err}
-use Rattle.std.proofs.lemmas.List.{append-nil}
+use Rattle.std.proofs.Common.{◌≡◌, ℕ, ◌+◌, ◌<◌, ◌≤◌, true, false, List, [], ◌++◌, length, sym, ◌∙◌, ap, subst, arith}
+use Rattle.std.specs.Prelude.{Result, Ok, Err, OnOk, IfErr, None, cond, nat_le, is_err}
+use Rattle.std.proofs.lemmas.List.{append-nil, length-append}
 use Rattle.std.proofs.lemmas.Bool.Decides.{nat_tests}
 use Rattle.std.specs.Str.{encode_utf8_all}
-use Rattle.std.specs.Prelude.{bytes_eq, cond}
 use Rattle.std.specs.Str.{IsUtf8}
 use Rattle.std.proofs.lemmas.Str.{is_utf8-from_IsUtf8}
-use Rattle.yaml_definitions.specs.model.Event.{double, untagged, full}
-use Rattle.yaml_definitions.specs.model.Serial.{scalar_at}
+use Rattle.yaml_definitions.specs.model.Limits.{short_limit}
 use Rattle.yaml_definitions.specs.canonical.NodeText.{node_text}
 use Rattle.yaml_definitions.specs.canonical.Spell.{text_len}
-use Rattle.yaml_definitions.specs.model.Tag.{default_tag}
-use Rattle.yaml_definitions.specs.canonical.TagText.{written_tag}
 use Rattle.yaml_text.specs.declared.fault.Fault.{Fault}
-use Rattle.law_length.proofs.Weights.{bytes, content_bytes}
-use Rattle.law_length.proofs.Contents.{content_light, content_heavy, tag_and_content}
-use Rattle.yaml_spell.specs.ShortNodes.{short_scalar}
+use Rattle.yaml_text.specs.declared.fault.Fault.TheVariants.{TextTooLong}
+use Rattle.law_length.proofs.Weights.{bytes}
+use Rattle.law_length.proofs.Contents.{content_heavy, tag_and_content}
+use Rattle.yaml_spell.specs.ShortNodes.{if_short, scalar_len}
 use Rattle.yaml_spell.specs.declared.length.Length.{Length}
-use Rattle.yaml_spell.specs.Pieces.{Began, Writes, Puts, Fails}
+use Rattle.yaml_spell.specs.Pieces.{Began, Writes, Counts, Puts, Exceeds, Fails}
 use Rattle.yaml_spell.specs.SinkViews.{len_of, limit_of, LengthHolds, LengthStops}
 
 abbrev pub Holds : Length → Unit {0} → Began → List ℕ → Type 0
@@ -49,30 +46,56 @@ within n m h = grind (arith, nat_tests)
 beyond : (n m : ℕ) → m < n → nat_le n m ≡ false
 beyond n m h = grind (arith, nat_tests)
 
--- whether a text is taken
-pub fits_text : (r : Result (Unit {0}) Fault) (b : Bool) (s t : Length) (o p : Unit {0}) (limit : ℕ) (f : List ℕ → List ℕ) → b ≡ is_ok r → len_of s ≡ 0 → limit_of s ≡ limit → OnOk r (Puts Holds s o t p f) → IfErr r (λ fault. Fails Holds Stops s o p fault f)
-    → b ≡ nat_le (length (encode_utf8_all (f []))) limit
-fits_text (Ok u) b s t o p limit f e z l h k = let m = measured s t o p limit f z l h in let x = m.0 in let y = m.1 in e ∙ sym (within _ limit (subst (λ n. n ≤ limit) x (subst (λ n. len_of t ≤ n) y t.within)))
-fits_text (Err fault) b s t o p limit f e z l h k = e ∙ sym (beyond _ limit (too_long s o p limit fault f z l k []))
+if_within : (n : ℕ) → n ≤ 64 → n ≡ if_short n
+if_within n h = ap (λ b. cond b n 0) (sym (within n 64 h))
 
--- a front that is not taken
-pub long_front : (r : Result (Unit {0}) Fault) (s : Length) (o p : Unit {0}) (limit : ℕ) (f : List ℕ → List ℕ) (more : List ℕ) → is_err r ≡ true → len_of s ≡ 0 → limit_of s ≡ limit → IfErr r (λ fault. Fails Holds Stops s o p fault f) → false ≡ nat_le (length (encode_utf8_all (f more))) limit
-long_front (Ok u) s o p limit f more e z l k = absurd (cc)
-long_front (Err fault) s o p limit f more e z l k = sym (beyond _ limit (too_long s o p limit fault f z l k more))
+if_beyond : (n : ℕ) → 64 < n → 0 ≡ if_short n
+if_beyond n h = ap (λ b. cond b n 0) (sym (beyond n 64 h))
+
+-- a text is taken, and is short
+pub short_taken : (s t : Length) (o p : Unit {0}) (f : List ℕ → List ℕ) → len_of s ≡ 0 → limit_of s ≡ short_limit → Puts Holds s o t p f → len_of t ≡ if_short (length (encode_utf8_all (f [])))
+short_taken s t o p f z l h =
+    let m = measured s t o p short_limit f z l h in
+    let x = m.0 in
+    let y = m.1 in
+    x ∙ if_within (length (encode_utf8_all (f []))) (subst (λ n. n ≤ short_limit) x (subst (λ n. len_of t ≤ n) y t.within))
+
+-- a front is not taken
+pub short_missed : (s : Length) (o p : Unit {0}) (fault : Fault) (f : List ℕ → List ℕ) (more : List ℕ) → len_of s ≡ 0 → limit_of s ≡ short_limit → Fails Holds Stops s o p fault f → 0 ≡ if_short (length (encode_utf8_all (f more)))
+short_missed s o p fault f more z l h = if_beyond (length (encode_utf8_all (f more))) (too_long s o p short_limit fault f z l h more)
+
+pub was_err : {T E : Type 0} {P : E → Type 0} (r : Result T E) → is_err r ≡ true → IfErr r P → (e : E) × P e
+was_err (Ok x) e h = absurd (cc)
+was_err (Err x) e h = (x, h)
 
 pub was_ok : {T E P : Type 0} (r : Result T E) → is_err r ≡ false → OnOk r P → P
 was_ok (Ok x) e h = h
 was_ok (Err x) e h = absurd (cc)
 
--- a small content without a tag
-pub small_scalar : (tag x : List ℕ) → bytes_eq tag (default_tag 0) ≡ true → IsUtf8 x → length x ≤ 15 → true ≡ short_scalar tag x
-unfolding text_len node_text written_tag content_bytes bytes
-small_scalar tag x e u l =
-    let w : written_tag 0 tag ≡ untagged = ap (λ b. cond b untagged (full tag)) e in
-    let m : content_bytes x ≤ 64 = omega (arith, l, content_light x (is_utf8-from_IsUtf8 x u)) in
-    sym (ap (λ g. nat_le (text_len (scalar_at None g double x)) 64) w ∙ within _ 64 m)
-
 -- a content that is too long, whatever its tag
-pub long_scalar : (tag x : List ℕ) → IsUtf8 x → 256 < length x → false ≡ short_scalar tag x
+pub long_scalar : (tag x : List ℕ) → IsUtf8 x → 256 < length x → 0 ≡ if_short (scalar_len tag x)
 unfolding text_len node_text bytes
-long_scalar tag x u l = sym (beyond _ 64 (omega (arith, l, content_heavy x (is_utf8-from_IsUtf8 x u), tag_and_content 0 tag x)))
+long_scalar tag x u l = if_beyond (scalar_len tag x) (omega (arith, l, content_heavy x (is_utf8-from_IsUtf8 x u), tag_and_content 0 tag x))
+
+-- ---- counting
+
+pub counted : (s t : Length) (len : ℕ) → limit_of t ≡ limit_of s → len_of t ≡ len_of s + len → Counts Holds s tt t tt len
+counted s t len e f = record {
+  is = λ piece l. record {
+    is = λ b xs h. record {
+      limit = e ∙ h.limit;
+      len = f ∙ (λ i. h.len i + sym l i) ∙ sym (length-append xs piece);
+    };
+  };
+}
+
+pub uncounted : (s : Length) (fault : Fault) (len : ℕ) → fault ≡ TextTooLong → limit_of s < len_of s + len → Exceeds Holds Stops s tt tt fault len
+uncounted s fault len e f = record {
+  is = λ piece l. record {
+    is = λ b xs more h.
+        let same = h.limit in
+        let long = h.len in
+        let whole : length (xs ++ (piece ++ more)) ≡ length xs + (length piece + length more) = length-append xs (piece ++ more) ∙ ap (λ n. length xs + n) (length-append piece more) in
+        record { too_long = e; longer = omega (arith, f, l, same, long, whole) };
+  };
+}

@@ -1,10 +1,10 @@
 -- What nodes show, and the trees that they stand for.
-use Rattle.std.proofs.Common.{◌≡◌, ℕ, zero, suc, ◌<◌, Bool, ◌&&◌, ◌==◌, List, [], ◌∷◌, length, map, get_or, refl, sym, ◌∙◌, ap, subst, arith}
-use Rattle.std.specs.Prelude.{max, nat_le}
+use Rattle.std.proofs.Common.{◌≡◌, ℕ, zero, suc, ◌<◌, ◌≤◌, true, false, cond, ◌==◌, List, [], ◌∷◌, length, map, get_or, refl, sym, ◌∙◌, ap, subst, arith}
+use Rattle.std.specs.Prelude.{nat_le}
 use Rattle.std.specs.Borrow.{Bor}
 use Rattle.std.specs.List.{All}
 use Rattle.std.proofs.lemmas.Bool.Decides.{nat_tests}
-use Rattle.yaml_definitions.specs.model.Limits.{short_limit}
+use Rattle.std.proofs.lemmas.Bool.{cond_both}
 use Rattle.yaml_definitions.specs.model.Tree.{Tree, scalar, sequence, mapping, height, heights, heights_of_pairs}
 use Rattle.yaml_definitions.specs.canonical.NodeText.{node_text}
 use Rattle.yaml_definitions.specs.canonical.Spell.{short, text_len}
@@ -13,7 +13,7 @@ use Rattle.yaml_levels.specs.View.{InsideBelow, inside_tree, items_in, entries_i
 use Rattle.yaml_spell.specs.declared.shown.Inside.{Inside}
 use Rattle.yaml_spell.specs.declared.shown.Inside.TheVariants.{Scalar, Sequence, Mapping}
 use Rattle.yaml_spell.specs.RankedNodes.{inside_shown}
-use Rattle.yaml_spell.specs.ShortNodes.{short_shown, short_tag}
+use Rattle.yaml_spell.specs.ShortNodes.{short_len, if_short, scalar_len, brackets_len, shown_len}
 use Rattle.yaml_spell.proofs.WalkLaws.{brackets, two_square, two_curly}
 
 pub map-twice : {X Y Z : Type 0} (f : X → Y) (h : Y → Z) (xs : List X) → map h (map f xs) ≡ map (λ x. h (f x)) xs
@@ -30,10 +30,10 @@ all-unmap f P [] a k d l = absurd (omega arith)
 all-unmap f P (x ∷ xs) a zero d l = a 0 (f x) (omega arith)
 all-unmap f P (x ∷ xs) a (suc k) d l = all-unmap f P xs (λ j e m. a (suc j) e (omega arith)) k d (omega arith)
 
-no_items : (n : ℕ) (b : Bool) → (suc n == 0) && b ≡ Rattle.std.specs.Prelude.false
-no_items n b = ap (λ z. z && b) (by n)
+no_items : (n len : ℕ) → cond (suc n == 0) len 0 ≡ 0
+no_items n len = ap (λ z. cond z len 0) (by n)
   where
-    by : (m : ℕ) → (suc m == 0) ≡ Rattle.std.specs.Prelude.false
+    by : (m : ℕ) → (suc m == 0) ≡ false
     by m = grind (arith, nat_tests)
 
 module _ {I : Type 0} (number : I → ℕ) (t : ℕ → Tree) where
@@ -54,23 +54,23 @@ module _ {I : Type 0} (number : I → ℕ) (t : ℕ → Tree) where
   pub mapping-shown : (u : Tree) (g : List ℕ) (s : Inside I) (es : Bor (List (I × I))) → u ≡ inside_tree t g (inside_shown number s) → s ≡ Mapping es → u ≡ mapping g (pairs (map two es.now))
   mapping-shown u g s es e h = e ∙ ap (λ z. inside_tree t g (inside_shown number z)) h ∙ ap (λ z. mapping g (pairs z)) (map-twice (λ p. (number p.0, number p.1)) (λ p. (t p.0, t p.1)) es.now)
 
-  -- ---- whether it is short
+  -- ---- how many bytes it has, if it is short
 
-  short-items : (g : List ℕ) (is : List I) → short (sequence g (trees (map of is))) ≡ (length is == 0) && short_tag 1 g
+  short-items : (g : List ℕ) (is : List I) → short_len (sequence g (trees (map of is))) ≡ cond (length is == 0) (if_short (brackets_len 1 g)) 0
   unfolding short text_len node_text
-  short-items g [] = ap (λ n. nat_le n short_limit) (brackets 1 g (91 ∷ 93 ∷ []) two_square)
-  short-items g (i ∷ is) = sym (no_items (length is) (short_tag 1 g))
+  short-items g [] = ap if_short (brackets 1 g (91 ∷ 93 ∷ []) two_square)
+  short-items g (i ∷ is) = sym (no_items (length is) (if_short (brackets_len 1 g)))
 
-  short-entries : (g : List ℕ) (es : List (I × I)) → short (mapping g (pairs (map two es))) ≡ (length es == 0) && short_tag 2 g
+  short-entries : (g : List ℕ) (es : List (I × I)) → short_len (mapping g (pairs (map two es))) ≡ cond (length es == 0) (if_short (brackets_len 2 g)) 0
   unfolding short text_len node_text
-  short-entries g [] = ap (λ n. nat_le n short_limit) (brackets 2 g (123 ∷ 125 ∷ []) two_curly)
-  short-entries g (p ∷ es) = sym (no_items (length es) (short_tag 2 g))
+  short-entries g [] = ap if_short (brackets 2 g (123 ∷ 125 ∷ []) two_curly)
+  short-entries g (p ∷ es) = sym (no_items (length es) (if_short (brackets_len 2 g)))
 
-  pub short-is : (u : Tree) (g : List ℕ) (s : Inside I) → u ≡ inside_tree t g (inside_shown number s) → short u ≡ short_shown g s
+  pub short-is : (u : Tree) (g : List ℕ) (s : Inside I) → u ≡ inside_tree t g (inside_shown number s) → short_len u ≡ shown_len g s
   unfolding short
-  short-is u g (Scalar x) e = ap short e
-  short-is u g (Sequence is) e = ap short (sequence-shown u g (Sequence is) is e refl) ∙ short-items g is.now
-  short-is u g (Mapping es) e = ap short (mapping-shown u g (Mapping es) es e refl) ∙ short-entries g es.now
+  short-is u g (Scalar x) e = ap short_len e
+  short-is u g (Sequence is) e = ap short_len (sequence-shown u g (Sequence is) is e refl) ∙ short-items g is.now
+  short-is u g (Mapping es) e = ap short_len (mapping-shown u g (Mapping es) es e refl) ∙ short-entries g es.now
 
   -- ---- the parts are nodes, and lower
 
@@ -109,6 +109,19 @@ module _ {I : Type 0} (number : I → ℕ) (t : ℕ → Tree) where
 
   pub value-lower : (es : List (I × I)) (k : ℕ) (x : I × I) → k < length es → x ≡ get_or es k x → height (t (number x.1)) < heights_of_pairs (pairs (map two es))
   value-lower es k x l e = subst (λ z. height (t (number z.1)) < heights_of_pairs (pairs (map two es))) (sym e) (value-low es k x l)
+
+-- ---- what is short has few bytes
+
+few : (n : ℕ) → if_short n ≤ 64
+few n = cond_both (nat_le n 64) n 0 (λ z. z ≤ 64) (λ e. under n e) (λ _. omega arith)
+  where
+    under : (m : ℕ) → nat_le m 64 ≡ true → m ≤ 64
+    under m e = grind (arith, nat_tests)
+
+pub shown_few : {I : Type 0} (tag : List ℕ) (s : Inside I) → shown_len tag s ≤ 64
+shown_few tag (Scalar x) = few (scalar_len tag x.now)
+shown_few tag (Sequence is) = cond_both (length is.now == 0) (if_short (brackets_len 1 tag)) 0 (λ z. z ≤ 64) (λ _. few (brackets_len 1 tag)) (λ _. omega arith)
+shown_few tag (Mapping es) = cond_both (length es.now == 0) (if_short (brackets_len 2 tag)) 0 (λ z. z ≤ 64) (λ _. few (brackets_len 2 tag)) (λ _. omega arith)
 
 -- what holds of all of a list holds of one of it
 pub item-in : {X : Type 0} (P : X → Type 0) (xs : List X) (k : ℕ) (x : X) → All P xs → k < length xs → x ≡ get_or xs k x → P x

@@ -1,5 +1,5 @@
 -- A content's spelling, which is given piece by piece to a sink.
-use Rattle.std.proofs.Common.{◌≡◌, ℕ, List, [], ◌∷◌, ◌++◌, sym, ◌∙◌, ap, subst}
+use Rattle.std.proofs.Common.{◌≡◌, ℕ, List, [], ◌∷◌, ◌++◌, refl, sym, ◌∙◌, ap, subst}
 use Rattle.std.proofs.lemmas.List.{append_assoc, append-nil}
 use Rattle.std.specs.Str.{encode_utf8_all}
 use Rattle.std.specs.Prelude.{flat_map}
@@ -20,6 +20,22 @@ module _ {S O : Type 0} (holds : S → O → Began → List ℕ → Type 0) wher
 
   pub spelled_first : (p q : S) (o u : O) (content : List ℕ) → TakesPiece holds p o q u (34 ∷ []) → Spelled p o q u content content
   spelled_first p q o u content h = record { taken = 34 ∷ []; adds = h; left = sym (spelled_is content) }
+
+  -- ---- a content that is written as it is
+
+  pub quoted_taken : (p q r s : S) (o u w x : O) (text : List ℕ) → TakesPiece holds p o q u (34 ∷ []) → TakesPiece holds q u r w text → TakesPiece holds r w s x (34 ∷ []) → TakesPiece holds p o s x (34 ∷ (text ++ (34 ∷ [])))
+  quoted_taken p q r s o u w x text h k m = adds_then holds p o r w s x (34 ∷ text) (34 ∷ []) (adds_then holds p o q u r w (34 ∷ []) text h k) m
+
+  pub quoted_unopened : (stops : O → Began → Fault → List ℕ → Type 0) (p : S) (o w : O) (fault : Fault) (text : List ℕ) → Misses holds stops p o w fault (34 ∷ []) → Misses holds stops p o w fault (34 ∷ (text ++ (34 ∷ [])))
+  quoted_unopened stops p o w fault text h = misses_more holds stops p o w fault (34 ∷ []) (text ++ (34 ∷ [])) (34 ∷ (text ++ (34 ∷ []))) h refl
+
+  pub quoted_broken : (stops : O → Began → Fault → List ℕ → Type 0) (p q : S) (o u w : O) (fault : Fault) (text : List ℕ) → TakesPiece holds p o q u (34 ∷ []) → Misses holds stops q u w fault text → Misses holds stops p o w fault (34 ∷ (text ++ (34 ∷ [])))
+  quoted_broken stops p q o u w fault text h k = misses_more holds stops p o w fault (34 ∷ text) (34 ∷ []) (34 ∷ (text ++ (34 ∷ []))) (misses_later holds stops p o q u w fault (34 ∷ []) text h k) refl
+
+  pub quoted_unclosed : (stops : O → Began → Fault → List ℕ → Type 0) (p q r : S) (o u w x : O) (fault : Fault) (text : List ℕ) → TakesPiece holds p o q u (34 ∷ []) → TakesPiece holds q u r w text → Misses holds stops r w x fault (34 ∷ []) → Misses holds stops p o x fault (34 ∷ (text ++ (34 ∷ [])))
+  quoted_unclosed stops p q r o u w x fault text h k m = misses_later holds stops p o r w x fault (34 ∷ text) (34 ∷ []) (adds_then holds p o q u r w (34 ∷ []) text h k) m
+
+  -- ---- piece by piece
 
   pieced : (taken content rest after piece : List ℕ) → taken ++ (spelled_chars rest ++ (34 ∷ [])) ≡ quoted_bytes content → spelled_chars rest ≡ piece ++ spelled_chars after → (taken ++ piece) ++ (spelled_chars after ++ (34 ∷ [])) ≡ quoted_bytes content
   pieced taken content rest after piece h f =

@@ -1,7 +1,7 @@
 //! The length of a text, up to a limit.
 ghost use Rattle.std.specs.Prelude.{◌≤◌};
 
-use crate::quoted::cut;
+use crate::quoted::{cut, is_unescaped};
 use crate::sink::Sink;
 use yaml_text::fault::Fault;
 
@@ -35,6 +35,7 @@ impl Length {
     }
 
     /// Takes so many bytes more, if there is room.
+    #[inline(always)]
     fn grow(&mut self, by: u128) -> Result<(), Fault>
         ensures limit { limit_of self.new ≡ limit_of self.old }
         ensures ok { OnOk result (len_of self.new ≡ len_of self.old + by) }
@@ -49,6 +50,19 @@ impl Length {
 
     /// Takes so many bytes more as a content's spelling has.
     fn grow_spelled(&mut self, content: &str) -> Result<(), Fault>
+        ensures limit { limit_of self.new ≡ limit_of self.old }
+        ensures ok { OnOk result (len_of self.new ≡ len_of self.old + length (quoted_bytes content.now)) }
+        ensures err { IfErr result (λ fault. (fault ≡ Fault.TextTooLong) × (limit_of self.old < len_of self.old + length (quoted_bytes content.now))) }
+    {
+        if is_unescaped(content) {
+            return self.grow(content.len() as u128 + 2);
+        }
+        self.grow_pieces(content)
+    }
+
+    /// The same, piece by piece.
+    #[inline(never)]
+    fn grow_pieces(&mut self, content: &str) -> Result<(), Fault>
         ensures limit { limit_of self.new ≡ limit_of self.old }
         ensures ok { OnOk result (len_of self.new ≡ len_of self.old + length (quoted_bytes content.now)) }
         ensures err { IfErr result (λ fault. (fault ≡ Fault.TextTooLong) × (limit_of self.old < len_of self.old + length (quoted_bytes content.now))) }
@@ -80,5 +94,11 @@ impl Sink<()> for Length {
 
     fn put_spelled(&mut self, _out: &mut (), content: &str) -> Result<(), Fault> {
         self.grow_spelled(content)
+    }
+
+    #[inline(always)]
+    fn count(&mut self, _out: &mut (), len: usize) -> Result<bool, Fault> {
+        self.grow(len as u128)?;
+        Ok(true)
     }
 }

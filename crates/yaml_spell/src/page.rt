@@ -2,7 +2,7 @@
 ghost use Rattle.std.specs.Prelude.{◌≤◌, OnOk, IfErr};
 ghost use Rattle.yaml_spell.specs.Writers.{Sent, CutOff};
 
-use crate::quoted::{Piece, cut};
+use crate::quoted::{Piece, cut, is_unescaped};
 use crate::sink::Sink;
 use std::io::Write;
 use yaml_scalar::spell::spelled_char;
@@ -38,7 +38,7 @@ pub fn write_whole<W: Write>(out: &mut Counted<W>, piece: &[u8]) -> Result<(), F
 }
 
 impl Page {
-    ghost use Rattle.std.specs.Prelude.{◌≡◌, ◌<◌, ◌≤◌, ◌+◌, ◌++◌, length, [], OnOk, IfErr};
+    ghost use Rattle.std.specs.Prelude.{◌≡◌, ◌<◌, ◌≤◌, ◌+◌, ◌++◌, ◌∷◌, length, [], OnOk, IfErr};
     ghost use Rattle.yaml_scalar.specs.Spelling.{quoted_bytes};
     ghost use Rattle.yaml_spell.specs.Pieces.{TakesPiece, Misses};
     ghost use Rattle.yaml_spell.specs.Quoted.{piece_text};
@@ -79,6 +79,7 @@ impl Page {
     }
 
     /// Puts a piece into the page, which has room for it.
+    #[inline(always)]
     fn fill(&mut self, piece: &[u8])
         requires { page_len self.old + length piece.now ≤ 4096 }
         ensures { page_bytes self.new ≡ page_bytes self.old ++ piece.now }
@@ -88,8 +89,22 @@ impl Page {
         self.len = end;
     }
 
-    /// Takes some bytes, and writes each page that is full.
+    /// Takes some bytes. Mostly they are few, and the page has room for them.
+    #[inline(always)]
     fn add<W: Write>(&mut self, out: &mut Counted<W>, piece: &[u8]) -> Result<(), Fault>
+        ensures ok { OnOk result (TakesPiece (PageHolds W.contents) self.old out.old self.new out.new piece.now) }
+        ensures err { IfErr result (λ fault. Misses (PageHolds W.contents) (PageStops W.contents) self.old out.old out.new fault piece.now) }
+    {
+        if piece.len() > PAGE - self.len {
+            return self.add_paged(out, piece);
+        }
+        self.fill(piece);
+        Ok(())
+    }
+
+    /// The same, and each page that is full is written.
+    #[inline(never)]
+    fn add_paged<W: Write>(&mut self, out: &mut Counted<W>, piece: &[u8]) -> Result<(), Fault>
         ensures ok { OnOk result (TakesPiece (PageHolds W.contents) self.old out.old self.new out.new piece.now) }
         ensures err { IfErr result (λ fault. Misses (PageHolds W.contents) (PageStops W.contents) self.old out.old out.new fault piece.now) }
     {
@@ -116,8 +131,30 @@ impl Page {
         self.add(out, &bytes[..len])
     }
 
+    /// Takes bytes between quotes.
+    fn add_quoted<W: Write>(&mut self, out: &mut Counted<W>, content: &[u8]) -> Result<(), Fault>
+        ensures ok { OnOk result (TakesPiece (PageHolds W.contents) self.old out.old self.new out.new (34 ∷ (content.now ++ (34 ∷ [])))) }
+        ensures err { IfErr result (λ fault. Misses (PageHolds W.contents) (PageStops W.contents) self.old out.old out.new fault (34 ∷ (content.now ++ (34 ∷ [])))) }
+    {
+        self.add(out, b"\"")?;
+        self.add(out, content)?;
+        self.add(out, b"\"")
+    }
+
     /// Takes a content's spelling.
     fn add_spelled<W: Write>(&mut self, out: &mut Counted<W>, content: &str) -> Result<(), Fault>
+        ensures ok { OnOk result (TakesPiece (PageHolds W.contents) self.old out.old self.new out.new (quoted_bytes content.now)) }
+        ensures err { IfErr result (λ fault. Misses (PageHolds W.contents) (PageStops W.contents) self.old out.old out.new fault (quoted_bytes content.now)) }
+    {
+        if is_unescaped(content) {
+            return self.add_quoted(out, content.as_bytes());
+        }
+        self.add_pieces(out, content)
+    }
+
+    /// The same, piece by piece.
+    #[inline(never)]
+    fn add_pieces<W: Write>(&mut self, out: &mut Counted<W>, content: &str) -> Result<(), Fault>
         ensures ok { OnOk result (TakesPiece (PageHolds W.contents) self.old out.old self.new out.new (quoted_bytes content.now)) }
         ensures err { IfErr result (λ fault. Misses (PageHolds W.contents) (PageStops W.contents) self.old out.old out.new fault (quoted_bytes content.now)) }
     {
@@ -139,11 +176,17 @@ impl<W: Write> Sink<Counted<W>> for Page {
 
     ghost stops = { PageStops W.contents };
 
+    #[inline(always)]
     fn put(&mut self, out: &mut Counted<W>, piece: &str) -> Result<(), Fault> {
         self.add(out, piece.as_bytes())
     }
 
     fn put_spelled(&mut self, out: &mut Counted<W>, content: &str) -> Result<(), Fault> {
         self.add_spelled(out, content)
+    }
+
+    #[inline(always)]
+    fn count(&mut self, _out: &mut Counted<W>, _len: usize) -> Result<bool, Fault> {
+        Ok(false)
     }
 }

@@ -1,8 +1,8 @@
 //! A content's spelling between double quotes, cut into pieces.
-ghost use Rattle.std.specs.Prelude.{◌≡◌, ◌<◌, ◌+◌, ◌++◌, true, false, take, drop, length, slice_index};
+ghost use Rattle.std.specs.Prelude.{◌≡◌, ◌<◌, ◌≤◌, ◌+◌, ◌++◌, ◌∷◌, [], true, false, take, drop, length, slice_index};
 ghost use Rattle.std.specs.Str.{IsCharBoundary, IsUtf8};
-ghost use Rattle.yaml_scalar.specs.Spelling.{spelled_chars, is_verbatim};
-ghost use Rattle.yaml_spell.specs.Quoted.{next_text, piece_text};
+ghost use Rattle.yaml_scalar.specs.Spelling.{quoted_bytes, spelled_chars, is_verbatim};
+ghost use Rattle.yaml_spell.specs.Quoted.{next_text, piece_text, AllPlain, SomeOther};
 
 use yaml_scalar::spell::spelled_char;
 use yaml_text::front::front_len;
@@ -33,6 +33,75 @@ fn plain_len(text: &str) -> usize
     ensures furthest { result < length text.now → slice_index text.now result < 128 → is_verbatim (slice_index text.now result) ≡ false }
 {
     front_len(text.as_bytes(), is_plain)
+}
+
+/// Whether all bytes are such letters. Each is tested, whatever the others are, so that the compiler
+/// tests them together where it knows how many they are.
+#[inline(always)]
+fn are_plain(bytes: &[u8]) -> bool
+    ensures yes { result ≡ true → AllPlain bytes.now }
+    ensures no { result ≡ false → SomeOther bytes.now }
+{
+    let mut all = true;
+    for byte in bytes {
+        all &= is_plain(*byte);
+    }
+    all
+}
+
+/// The same of bytes that two stretches of this width cover, the first ones and the last ones.
+#[inline(always)]
+fn both_plain(bytes: &[u8], width: usize) -> bool
+    requires within { width ≤ length bytes.now }
+    requires covered { length bytes.now ≤ width + width }
+    ensures yes { result ≡ true → AllPlain bytes.now }
+    ensures no { result ≡ false → SomeOther bytes.now }
+{
+    are_plain(&bytes[..width]) & are_plain(&bytes[bytes.len() - width..])
+}
+
+/// The same of many bytes, 16 by 16.
+#[inline(never)]
+fn many_plain(bytes: &[u8]) -> bool
+    requires { 16 ≤ length bytes.now }
+    ensures yes { result ≡ true → AllPlain bytes.now }
+    ensures no { result ≡ false → SomeOther bytes.now }
+{
+    let mut at = 0;
+    'test: while at + 16 <= bytes.len() {
+        if !both_plain(&bytes[at..at + 16], 8) {
+            return false;
+        }
+        at += 16;
+    }
+    both_plain(&bytes[bytes.len() - 16..], 8)
+}
+
+/// The same of any bytes: mostly they are few.
+fn all_plain(bytes: &[u8]) -> bool
+    ensures yes { result ≡ true → AllPlain bytes.now }
+    ensures no { result ≡ false → SomeOther bytes.now }
+{
+    let len = bytes.len();
+    if len < 4 {
+        return are_plain(bytes);
+    }
+    if len <= 8 {
+        return both_plain(bytes, 4);
+    }
+    if len <= 16 {
+        return both_plain(bytes, 8);
+    }
+    many_plain(bytes)
+}
+
+/// Whether a content is written as it is, but for the quotes. Of one that has letters beyond ASCII the
+/// answer is no.
+pub(crate) fn is_unescaped(text: &str) -> bool
+    ensures yes { result ≡ true → quoted_bytes text.now ≡ 34 ∷ (text.now ++ (34 ∷ [])) }
+    ensures no { result ≡ false → SomeOther text.now }
+{
+    all_plain(text.as_bytes())
 }
 
 /// The first piece of a content.

@@ -1,9 +1,9 @@
 //! Nodes that are ranked, whichever store they lie in.
 ghost use Rattle.std.specs.Prelude.{◌≡◌, ◌<◌, ℕ};
 ghost use Rattle.yaml_definitions.specs.model.Tree.{Tree};
-ghost use Rattle.yaml_definitions.specs.canonical.Spell.{short};
 ghost use Rattle.yaml_levels.specs.View.{inside_tree, InsideBelow};
 ghost use Rattle.yaml_spell.specs.RankedNodes.{inside_shown, RanksTell};
+ghost use Rattle.yaml_spell.specs.ShortNodes.{short_len};
 
 use crate::shown::Shown;
 
@@ -42,11 +42,12 @@ pub trait RankedNodes<I> {
         ensures is { result ≡ rank self.now (tree self.now (number id)) }
         ensures within { result < count self.now };
 
-    /// Whether a node is always written out: a scalar or an empty collection of few bytes.
-    fn is_short(&self, id: I) -> bool
+    /// How many bytes the text of a node has that is always written out: a scalar or an empty collection of
+    /// few bytes. Of any other node 0.
+    fn short_len(&self, id: I) -> usize
         requires stands { stands self.now }
         requires within { number id < count self.now }
-        ensures is { result ≡ short (tree self.now (number id)) };
+        ensures is { result ≡ short_len (tree self.now (number id)) };
 
     /// Says that the parts of nodes are nodes, and that ranks tell their trees apart. Its body is empty.
     fn tells(&self)

@@ -1,5 +1,5 @@
 //! A graph with its ranks.
-use crate::node::is_short;
+use crate::node::short_len;
 use crate::ranked::RankedNodes;
 use crate::shown::{Inside, Shown};
 use yaml_levels::ranks::Ranks;
@@ -57,8 +57,8 @@ impl<'g, 't> RankedNodes<NodeId> for RankedGraph<'g, 't> {
         self.ranks.of(id)
     }
 
-    fn is_short(&self, id: NodeId) -> bool {
-        is_short(&self.node(id))
+    fn short_len(&self, id: NodeId) -> usize {
+        short_len(&self.node(id))
     }
 
     fn tells(&self) {}

@@ -1,7 +1,7 @@
 //! A text that is put into the room that a caller gives for it.
 ghost use Rattle.std.specs.Prelude.{◌≤◌, length};
 
-use crate::quoted::{Piece, cut};
+use crate::quoted::{Piece, cut, is_unescaped};
 use crate::sink::Sink;
 use yaml_scalar::spell::spelled_char;
 use yaml_text::fault::Fault;
@@ -15,7 +15,7 @@ pub struct Room<'a> {
 }
 
 impl<'a> Room<'a> {
-    ghost use Rattle.std.specs.Prelude.{◌≡◌, ◌≤◌, ◌+◌, ◌++◌, length, take, drop, OnOk, IfErr};
+    ghost use Rattle.std.specs.Prelude.{◌≡◌, ◌≤◌, ◌+◌, ◌++◌, ◌∷◌, [], length, take, drop, OnOk, IfErr};
     ghost use Rattle.yaml_scalar.specs.Spelling.{quoted_bytes};
     ghost use Rattle.yaml_spell.specs.Quoted.{piece_text};
     ghost use Rattle.yaml_spell.specs.Rooms.{room_len, room_bytes, room_name, RoomTakes, RoomMisses};
@@ -30,6 +30,7 @@ impl<'a> Room<'a> {
     }
 
     /// Puts a piece behind the text, for which there is room.
+    #[inline(always)]
     fn fill(&mut self, piece: &[u8])
         requires { room_len self.old + length piece.now ≤ length (room_bytes self.old) }
         ensures len { room_len self.new ≡ room_len self.old + length piece.now }
@@ -42,6 +43,7 @@ impl<'a> Room<'a> {
     }
 
     /// Takes some bytes. A text that is longer than the room is refused as `TextTooLong`.
+    #[inline(always)]
     fn add(&mut self, piece: &[u8]) -> Result<(), Fault>
         ensures ok { OnOk result (RoomTakes self.old self.new piece.now) }
         ensures err { IfErr result (λ fault. RoomMisses self.old fault piece.now) }
@@ -66,8 +68,30 @@ impl<'a> Room<'a> {
         self.add(&bytes[..len])
     }
 
+    /// Takes bytes between quotes.
+    fn add_quoted(&mut self, content: &[u8]) -> Result<(), Fault>
+        ensures ok { OnOk result (RoomTakes self.old self.new (34 ∷ (content.now ++ (34 ∷ [])))) }
+        ensures err { IfErr result (λ fault. RoomMisses self.old fault (34 ∷ (content.now ++ (34 ∷ [])))) }
+    {
+        self.add(b"\"")?;
+        self.add(content)?;
+        self.add(b"\"")
+    }
+
     /// Takes a content's spelling.
     fn add_spelled(&mut self, content: &str) -> Result<(), Fault>
+        ensures ok { OnOk result (RoomTakes self.old self.new (quoted_bytes content.now)) }
+        ensures err { IfErr result (λ fault. RoomMisses self.old fault (quoted_bytes content.now)) }
+    {
+        if is_unescaped(content) {
+            return self.add_quoted(content.as_bytes());
+        }
+        self.add_pieces(content)
+    }
+
+    /// The same, piece by piece.
+    #[inline(never)]
+    fn add_pieces(&mut self, content: &str) -> Result<(), Fault>
         ensures ok { OnOk result (RoomTakes self.old self.new (quoted_bytes content.now)) }
         ensures err { IfErr result (λ fault. RoomMisses self.old fault (quoted_bytes content.now)) }
     {
@@ -89,11 +113,17 @@ impl<'a> Sink<()> for Room<'a> {
 
     ghost stops = { Stops };
 
+    #[inline(always)]
     fn put(&mut self, _out: &mut (), piece: &str) -> Result<(), Fault> {
         self.add(piece.as_bytes())
     }
 
     fn put_spelled(&mut self, _out: &mut (), content: &str) -> Result<(), Fault> {
         self.add_spelled(content)
+    }
+
+    #[inline(always)]
+    fn count(&mut self, _out: &mut (), _len: usize) -> Result<bool, Fault> {
+        Ok(false)
     }
 }

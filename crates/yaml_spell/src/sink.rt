@@ -1,8 +1,8 @@
 //! What takes a text piece by piece.
-ghost use Rattle.std.specs.Prelude.{List, ℕ, OnOk, IfErr};
+ghost use Rattle.std.specs.Prelude.{◌≡◌, List, [], ℕ, true, false, OnOk, IfOk, IfErr};
 ghost use Rattle.yaml_text.specs.declared.fault.Fault.{Fault};
 ghost use Rattle.yaml_scalar.specs.Spelling.{quoted_bytes};
-ghost use Rattle.yaml_spell.specs.Pieces.{Began, TakesPiece, Misses};
+ghost use Rattle.yaml_spell.specs.Pieces.{Began, TakesPiece, Misses, Counts, Exceeds};
 
 use yaml_text::fault::Fault;
 
@@ -23,4 +23,11 @@ pub trait Sink<O> {
     fn put_spelled(&mut self, out: &mut O, content: &str) -> Result<(), Fault>
         ensures ok { OnOk result (TakesPiece holds self.old out.old self.new out.new (quoted_bytes content.now)) }
         ensures err { IfErr result (λ fault. Misses holds stops self.old out.old out.new fault (quoted_bytes content.now)) };
+
+    /// Takes a text of so many bytes unseen, where a sink keeps no more of a text than its length. The
+    /// answer is whether it did; if not, nothing was taken, and the text is still to be put.
+    fn count(&mut self, out: &mut O, len: usize) -> Result<bool, Fault>
+        ensures taken { IfOk result (λ counted. counted ≡ true → Counts holds self.old out.old self.new out.new len) }
+        ensures kept { IfOk result (λ counted. counted ≡ false → TakesPiece holds self.old out.old self.new out.new []) }
+        ensures err { IfErr result (λ fault. Exceeds holds stops self.old out.old out.new fault len) };
 }

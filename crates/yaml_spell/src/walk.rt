@@ -1,8 +1,8 @@
 //! The walk of ranked nodes in writing order.
-ghost use Rattle.std.specs.Prelude.{◌≡◌, ◌<◌, ◌++◌, ◌∷◌, [], OnOk, IfErr};
+ghost use Rattle.std.specs.Prelude.{◌≡◌, ◌<◌, ◌++◌, ◌∷◌, [], true, false, OnOk, IfOk, IfErr};
 ghost use Rattle.std.specs.List.{All};
 ghost use Rattle.yaml_spell.specs.NamesView.{ranks_in, document_number, table_of, given_of, opening_number, SameDocument, NamesNone};
-ghost use Rattle.yaml_spell.specs.Pieces.{Puts, Fails};
+ghost use Rattle.yaml_spell.specs.Pieces.{TakesPiece, Counts, Puts, Exceeds, Fails};
 ghost use Rattle.yaml_definitions.specs.canonical.NodeText.{node_text, items_text, pairs_text};
 ghost use Rattle.yaml_spell.specs.RankedNodes.{Ready, trees_of, pairs_of};
 ghost use Rattle.yaml_spell.specs.Walked.{noticed, noticed_all, noticed_pairs, opening_of, begun_unless_short, separator, given, given_all, given_pairs, given_inside, written, written_all, written_pairs, behind_anchor};
@@ -23,7 +23,7 @@ pub(crate) fn notice<I: Copy, V: RankedNodes<I>>(view: &V, names: &mut Names, id
     ensures table { table_of names.new ≡ noticed (V.rank view.now) (V.tree view.now (V.number id)) (table_of names.old) }
     ensures others { NamesNone names.old names.new }
 {
-    if view.is_short(id) {
+    if view.short_len(id) > 0 {
         return;
     }
     if !names.meet(view.rank(id)) {
@@ -79,6 +79,21 @@ fn start(names: &mut Names, is_short: bool, rank: usize) -> Opening
     names.open(rank)
 }
 
+/// Takes a short node, which has so many bytes, without looking at it, where the sink does so. The answer is
+/// whether it did; a node of 0 bytes is none that is short.
+#[inline(always)]
+fn count_short<O, S: Sink<O>>(sink: &mut S, out: &mut O, len: usize) -> Result<bool, Fault>
+    ensures short { IfOk result (λ counted. counted ≡ true → 0 < len) }
+    ensures taken { IfOk result (λ counted. counted ≡ true → Counts S.holds sink.old out.old sink.new out.new len) }
+    ensures kept { IfOk result (λ counted. counted ≡ false → TakesPiece S.holds sink.old out.old sink.new out.new []) }
+    ensures err { IfErr result (λ fault. (0 < len) × Exceeds S.holds S.stops sink.old out.old out.new fault len) }
+{
+    if len == 0 {
+        return Ok(false);
+    }
+    sink.count(out, len)
+}
+
 /// What stands before the entry at this place.
 fn put_separator<O, S: Sink<O>>(sink: &mut S, out: &mut O, place: usize) -> Result<(), Fault>
     ensures ok { OnOk result (Puts S.holds sink.old out.old sink.new out.new (λ more. separator place ++ more)) }
@@ -91,7 +106,8 @@ fn put_separator<O, S: Sink<O>>(sink: &mut S, out: &mut O, place: usize) -> Resu
 }
 
 /// Writes a node: an alias where its rank came before in its document and is not short, else its
-/// anchor, if its rank comes again, and what stands behind that.
+/// anchor, if its rank comes again, and what stands behind that. A sink that counts is told the length of a
+/// short one.
 #[cycle(write)]
 pub(crate) fn write_node<I: Copy, V: RankedNodes<I>, O, S: Sink<O>>(
     view: &V,
@@ -107,7 +123,12 @@ pub(crate) fn write_node<I: Copy, V: RankedNodes<I>, O, S: Sink<O>>(
     ensures ok { OnOk result (Puts S.holds sink.old out.old sink.new out.new (node_text (written (V.rank view.now) (V.tree view.now (V.number id)) (given_of names.old)))) }
     ensures err { IfErr result (λ fault. Fails S.holds S.stops sink.old out.old out.new fault (node_text (written (V.rank view.now) (V.tree view.now (V.number id)) (given_of names.old)))) }
 {
-    let opening = start(names, view.is_short(id), view.rank(id));
+    let short = view.short_len(id);
+    let counted = count_short(sink, out, short)?;
+    if counted {
+        return Ok(());
+    }
+    let opening = start(names, short > 0, view.rank(id));
     match opening {
         Opening::Alias(number) => put_alias(sink, out, number),
         Opening::Anchored(number) => {

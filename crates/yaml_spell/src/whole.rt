@@ -1,4 +1,9 @@
 //! A text that is held whole.
+ghost use Rattle.std.specs.Prelude.{◌≡◌, ◌++◌, ◌∷◌, [], OnOk, IfErr};
+ghost use Rattle.std.specs.String.{string_bytes};
+ghost use Rattle.yaml_scalar.specs.Spelling.{quoted_bytes};
+
+use crate::quoted::is_unescaped;
 use crate::sink::Sink;
 use yaml_scalar::spell::spell_into;
 use yaml_text::fault::Fault;
@@ -6,6 +11,28 @@ use yaml_text::fault::Fault;
 /// Puts a text at the end of a string.
 #[derive(Drop)]
 pub struct Whole;
+
+/// Puts a text between quotes at the end of a string.
+fn push_quoted(text: &str, out: &mut String) -> Result<(), Fault>
+    ensures ok { OnOk result (string_bytes out.new ≡ string_bytes out.old ++ (34 ∷ (text.now ++ (34 ∷ [])))) }
+    ensures err { IfErr result (λ fault. fault ≡ Fault.OutOfMemory) }
+{
+    out.push_str("\"")?;
+    out.push_str(text)?;
+    out.push_str("\"")?;
+    Ok(())
+}
+
+/// Puts a content's spelling at the end of a string.
+fn push_spelled(content: &str, out: &mut String) -> Result<(), Fault>
+    ensures ok { OnOk result (string_bytes out.new ≡ string_bytes out.old ++ quoted_bytes content.now) }
+    ensures err { IfErr result (λ fault. fault ≡ Fault.OutOfMemory) }
+{
+    if is_unescaped(content) {
+        return push_quoted(content, out);
+    }
+    spell_into(content, out)
+}
 
 impl Sink<String> for Whole {
     ghost use Rattle.std.specs.Prelude.{◌≡◌};
@@ -22,6 +49,11 @@ impl Sink<String> for Whole {
     }
 
     fn put_spelled(&mut self, out: &mut String, content: &str) -> Result<(), Fault> {
-        spell_into(content, out)
+        push_spelled(content, out)
+    }
+
+    #[inline(always)]
+    fn count(&mut self, _out: &mut String, _len: usize) -> Result<bool, Fault> {
+        Ok(false)
     }
 }

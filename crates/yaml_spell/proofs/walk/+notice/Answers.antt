@@ -8,15 +8,16 @@ use Rattle.yaml_spell.specs.Walked.{noticed_all, noticed_pairs}
 use Rattle.yaml_spell.proofs.NamesLaws.{none_then, still}
 use Rattle.yaml_spell.proofs.ShownLaws.{scalar-shown, sequence-shown, mapping-shown, items-within, entries-within, sequence-high, mapping-high, item-lower, key-lower, value-lower, item-in}
 use Rattle.yaml_spell.proofs.WalkLaws.{drop_item, noticed_short, noticed_again, noticed_scalar, noticed_sequence, noticed_mapping, items_noticed, items_done, entries_noticed, entries_done}
+use Rattle.yaml_spell.proofs.ShortWalk.{short_from, long_from}
 use Rattle.yaml_spell.proofs.walk.+notice.Goals as goal
 
-pub notice-returns-then-is_short-clause-table : goal.notice-returns-then-is_short-clause-table
-notice-returns-then-is_short-clause-table g w c =
+pub notice-returns-then-short_len-gt0-clause-table : goal.notice-returns-then-short_len-gt0-clause-table
+notice-returns-then-short_len-gt0-clause-table g w c =
     let N = g.V.RankedNodes.number in
     let v = c.args.view.now in
     let R = g.V.RankedNodes.rank v in
     let T = g.V.RankedNodes.tree v in
-    noticed_short R (T (N c.args.id)) _ (sym c.if-is_short.ensures.is)
+    noticed_short R (T (N c.args.id)) _ (short_from (T (N c.args.id)) _ c.short_len.ensures.is c.if-short_len-gt0.true)
 
 pub notice-returns-then-not-meet-clause-table : goal.notice-returns-then-not-meet-clause-table
 notice-returns-then-not-meet-clause-table g w c =
@@ -26,7 +27,7 @@ notice-returns-then-not-meet-clause-table g w c =
     let T = g.V.RankedNodes.tree v in
     let m = table_of c.args.names.now in
     let t = T (N c.args.id) in
-    let l : short t ≡ false = sym c.if-is_short.ensures.is in
+    let l : short t ≡ false = long_from t _ c.short_len.ensures.is c.if-short_len-gt0.false in
     c.meet.ensures.table ∙ ap (λ z. met_at z m) c.rank.ensures.is ∙ noticed_again R t m l (ap (λ z. is_unseen (m z)) (sym c.rank.ensures.is) ∙ sym c.if-not-meet.ensures.first)
 
 pub notice-returns-in-Scalar-clause-table : goal.notice-returns-in-Scalar-clause-table
@@ -37,7 +38,7 @@ notice-returns-in-Scalar-clause-table g w c =
     let T = g.V.RankedNodes.tree v in
     let m = table_of c.args.names.now in
     let t = T (N c.args.id) in
-    let l : short t ≡ false = sym c.if-is_short.ensures.is in
+    let l : short t ≡ false = long_from t _ c.short_len.ensures.is c.if-short_len-gt0.false in
     let u : is_unseen (m (R t)) ≡ true = ap (λ z. is_unseen (m z)) (sym c.rank.ensures.is) ∙ sym c.if-not-meet.ensures.first in
     c.meet.ensures.table ∙ ap (λ z. met_at z m) c.rank.ensures.is ∙ noticed_scalar R t _ _ m (scalar-shown N T t _ _ _ c.node-node.ensures.tree c.in-Scalar.is) l u
 
@@ -49,7 +50,7 @@ notice-returns-in-Sequence-clause-table g w c =
     let T = g.V.RankedNodes.tree v in
     let m = table_of c.args.names.now in
     let t = T (N c.args.id) in
-    let l : short t ≡ false = sym c.if-is_short.ensures.is in
+    let l : short t ≡ false = long_from t _ c.short_len.ensures.is c.if-short_len-gt0.false in
     let u : is_unseen (m (R t)) ≡ true = ap (λ z. is_unseen (m z)) (sym c.rank.ensures.is) ∙ sym c.if-not-meet.ensures.first in
     let s = sequence-shown N T t _ _ _ c.node-node.ensures.tree c.in-Sequence.is in
     noticed_sequence R t _ _ m _ s l u (c.notice_items.ensures.table ∙ ap (noticed_all R _) (c.meet.ensures.table ∙ ap (λ z. met_at z m) c.rank.ensures.is))
@@ -62,7 +63,7 @@ notice-returns-in-Mapping-clause-table g w c =
     let T = g.V.RankedNodes.tree v in
     let m = table_of c.args.names.now in
     let t = T (N c.args.id) in
-    let l : short t ≡ false = sym c.if-is_short.ensures.is in
+    let l : short t ≡ false = long_from t _ c.short_len.ensures.is c.if-short_len-gt0.false in
     let u : is_unseen (m (R t)) ≡ true = ap (λ z. is_unseen (m z)) (sym c.rank.ensures.is) ∙ sym c.if-not-meet.ensures.first in
     let s = mapping-shown N T t _ _ _ c.node-node.ensures.tree c.in-Mapping.is in
     noticed_mapping R t _ _ m _ s l u (c.notice_entries.ensures.table ∙ ap (noticed_pairs R _) (c.meet.ensures.table ∙ ap (λ z. met_at z m) c.rank.ensures.is))

@@ -1,4 +1,4 @@
-use Rattle.std.proofs.Common.{◌≡◌, ℕ, ◌+◌, ◌*◌, ◌<◌, List, sym, ◌∙◌, ap, refl, rules, arith, ◌++◌, ◌∷◌, []}
+use Rattle.std.proofs.Common.{◌≡◌, ℕ, ◌+◌, ◌*◌, ◌<◌, nat_lt, List, sym, ◌∙◌, ap, refl, rules, arith, ◌++◌, ◌∷◌, []}
 use Rattle.yaml_definitions.specs.model.Tree.{height, heights, heights_of_pairs}
 use Rattle.yaml_definitions.specs.canonical.NodeText.{pairs_text}
 use Rattle.yaml_definitions.specs.canonical.Spell.{short}
@@ -6,9 +6,10 @@ use Rattle.yaml_spell.specs.NamesView.{given_of}
 use Rattle.yaml_spell.specs.RankedNodes.{tree_of, pair_of, trees_of, pairs_of}
 use Rattle.yaml_spell.specs.Walked.{opening_of, begun_unless_short, start, started, given_inside, written_pairs}
 use Rattle.yaml_spell.proofs.NamesLaws.{same_then, still}
-use Rattle.yaml_spell.proofs.PieceLaws.{on_ok, if_err, puts_piece, fails_piece, left_first, left_last, left_fails}
+use Rattle.yaml_spell.proofs.PieceLaws.{on_ok, if_err, puts_piece, puts_after, fails_piece, fails_after, left_first, left_last, left_fails}
 use Rattle.yaml_spell.proofs.ShownLaws.{scalar-shown, sequence-shown, mapping-shown, items-within, entries-within, sequence-high, mapping-high, item-lower, key-lower, value-lower, item-in}
 use Rattle.yaml_spell.proofs.WalkLaws.{drop_item}
+use Rattle.yaml_spell.proofs.ShortWalk.{short_told, short_from, short_given, counted_written, counted_unwritten}
 use Rattle.yaml_spell.proofs.WriteLaws.{scalar_put, scalar_fails, sequence_put, sequence_fails, sequence_tag_fails, mapping_put, mapping_fails, mapping_tag_fails, alias_written, alias_unwritten, anchored_written, anchor_unwritten, anchored_unwritten, plain_written, plain_unwritten, all_ok, closing_bracket, closing_brace, opening_bracket, opening_brace, given_alias, given_anchored, given_plain, items_separator_fails, items_node_fails, items_step, items_end, items_given, items_known, pairs_separator_fails, pairs_key_fails, pairs_colon_fails, pairs_value_fails, pairs_step, pairs_end, pairs_given, pairs_known}
 use Rattle.yaml_spell.proofs.walk.+write.Goals as goal
 
@@ -328,6 +329,37 @@ write_inside-returns-in_ok-put_tag-in-Mapping-clause-err g w c =
     let e = mapping-shown N T t _ _ _ c.node-node.ensures.tree c.in-Mapping.is in
     if_err c.write_entries.result c.write_entries.ensures.err (λ fault h. mapping_fails g.S.Sink.holds g.S.Sink.stops R p t _ _ _ c.args.sink.now c.args.out.now c.put_tag-in-Mapping.new.sink c.put_tag-in-Mapping.new.out c.write_entries.new.out fault e refl c.in_ok-put_tag-in-Mapping.ensures.ok h)
 
+pub write_node-returns-in_err-counted-clause-err : goal.write_node-returns-in_err-counted-clause-err
+write_node-returns-in_err-counted-clause-err g w c =
+    let N = g.V.RankedNodes.number in
+    let v = c.args.view.now in
+    let R = g.V.RankedNodes.rank v in
+    let T = g.V.RankedNodes.tree v in
+    let t = T (N c.args.id) in
+    let p = given_of c.args.names.now in
+    let h = c.in_err-counted.ensures.err in
+    let m = counted_unwritten R g.S.Sink.holds g.S.Sink.stops t p _ (short_from t _ c.short_len-short.ensures.is h.0) c.short_len-short.ensures.is c.args.sink.now c.args.out.now c.count_short.new.out c.in_err-counted.field-0.0 h.1 in
+    search (rules, m)
+
+pub write_node-returns-then-counted-clause-known : goal.write_node-returns-then-counted-clause-known
+write_node-returns-then-counted-clause-known g w c =
+    let N = g.V.RankedNodes.number in
+    let v = c.args.view.now in
+    let R = g.V.RankedNodes.rank v in
+    let T = g.V.RankedNodes.tree v in
+    let t = T (N c.args.id) in
+    short_given R t (given_of c.args.names.now) (short_from t _ c.short_len-short.ensures.is (c.in_ok-counted.ensures.short c.if-counted.true))
+
+pub write_node-returns-then-counted-clause-ok : goal.write_node-returns-then-counted-clause-ok
+write_node-returns-then-counted-clause-ok g w c =
+    let N = g.V.RankedNodes.number in
+    let v = c.args.view.now in
+    let R = g.V.RankedNodes.rank v in
+    let T = g.V.RankedNodes.tree v in
+    let t = T (N c.args.id) in
+    let p = given_of c.args.names.now in
+    counted_written R g.S.Sink.holds g.S.Sink.stops t p _ (short_from t _ c.short_len-short.ensures.is (c.in_ok-counted.ensures.short c.if-counted.true)) c.short_len-short.ensures.is c.args.sink.now c.args.out.now c.count_short.new.sink c.count_short.new.out (c.in_ok-counted.ensures.taken c.if-counted.true)
+
 pub write_node-returns-in-Alias-clause-known : goal.write_node-returns-in-Alias-clause-known
 write_node-returns-in-Alias-clause-known g w c =
     let N = g.V.RankedNodes.number in
@@ -336,7 +368,7 @@ write_node-returns-in-Alias-clause-known g w c =
     let T = g.V.RankedNodes.tree v in
     let t = T (N c.args.id) in
     let p = given_of c.args.names.now in
-    let b : c.is_short.result ≡ short t = c.is_short.ensures.is in
+    let b : nat_lt 0 c.short_len-short.result ≡ short t = short_told t _ c.short_len-short.ensures.is in
     let k : c.rank.result ≡ R t = c.rank.ensures.is in
     let o : c.start-opening.result ≡ start R t p = c.start-opening.ensures.opening ∙ (λ z. opening_of (b z) (k z) p) in
     let q : given_of c.start-opening.new.names ≡ started R t p = c.start-opening.ensures.given ∙ (λ z. begun_unless_short (b z) (k z) p) in
@@ -350,11 +382,11 @@ write_node-returns-in-Alias-clause-ok g w c =
     let T = g.V.RankedNodes.tree v in
     let t = T (N c.args.id) in
     let p = given_of c.args.names.now in
-    let b : c.is_short.result ≡ short t = c.is_short.ensures.is in
+    let b : nat_lt 0 c.short_len-short.result ≡ short t = short_told t _ c.short_len-short.ensures.is in
     let k : c.rank.result ≡ R t = c.rank.ensures.is in
     let o : c.start-opening.result ≡ start R t p = c.start-opening.ensures.opening ∙ (λ z. opening_of (b z) (k z) p) in
     let q : given_of c.start-opening.new.names ≡ started R t p = c.start-opening.ensures.given ∙ (λ z. begun_unless_short (b z) (k z) p) in
-    on_ok c.put_alias.result c.put_alias.ensures.ok (λ h. alias_written g.S.Sink.holds g.S.Sink.stops R t p c.start-opening.result o c.in-Alias.number c.args.sink.now c.args.out.now c.put_alias.new.sink c.put_alias.new.out c.in-Alias.is h)
+    on_ok c.put_alias.result c.put_alias.ensures.ok (λ h. puts_after g.S.Sink.holds c.args.sink.now c.args.out.now c.count_short.new.sink c.count_short.new.out c.put_alias.new.sink c.put_alias.new.out _ (c.in_ok-counted.ensures.kept c.if-counted.false) (alias_written g.S.Sink.holds g.S.Sink.stops R t p c.start-opening.result o c.in-Alias.number c.count_short.new.sink c.count_short.new.out c.put_alias.new.sink c.put_alias.new.out c.in-Alias.is h))
 
 pub write_node-returns-in-Alias-clause-err : goal.write_node-returns-in-Alias-clause-err
 write_node-returns-in-Alias-clause-err g w c =
@@ -364,11 +396,11 @@ write_node-returns-in-Alias-clause-err g w c =
     let T = g.V.RankedNodes.tree v in
     let t = T (N c.args.id) in
     let p = given_of c.args.names.now in
-    let b : c.is_short.result ≡ short t = c.is_short.ensures.is in
+    let b : nat_lt 0 c.short_len-short.result ≡ short t = short_told t _ c.short_len-short.ensures.is in
     let k : c.rank.result ≡ R t = c.rank.ensures.is in
     let o : c.start-opening.result ≡ start R t p = c.start-opening.ensures.opening ∙ (λ z. opening_of (b z) (k z) p) in
     let q : given_of c.start-opening.new.names ≡ started R t p = c.start-opening.ensures.given ∙ (λ z. begun_unless_short (b z) (k z) p) in
-    if_err c.put_alias.result c.put_alias.ensures.err (λ fault h. alias_unwritten g.S.Sink.holds g.S.Sink.stops R t p c.start-opening.result o c.in-Alias.number c.args.sink.now c.args.out.now c.put_alias.new.out fault c.in-Alias.is h)
+    if_err c.put_alias.result c.put_alias.ensures.err (λ fault h. fails_after g.S.Sink.holds g.S.Sink.stops c.args.sink.now c.args.out.now c.count_short.new.sink c.count_short.new.out c.put_alias.new.out fault _ (c.in_ok-counted.ensures.kept c.if-counted.false) (alias_unwritten g.S.Sink.holds g.S.Sink.stops R t p c.start-opening.result o c.in-Alias.number c.count_short.new.sink c.count_short.new.out c.put_alias.new.out fault c.in-Alias.is h))
 
 pub write_node-returns-in_err-put_anchor-in-Anchored-clause-err : goal.write_node-returns-in_err-put_anchor-in-Anchored-clause-err
 write_node-returns-in_err-put_anchor-in-Anchored-clause-err g w c =
@@ -378,11 +410,11 @@ write_node-returns-in_err-put_anchor-in-Anchored-clause-err g w c =
     let T = g.V.RankedNodes.tree v in
     let t = T (N c.args.id) in
     let p = given_of c.args.names.now in
-    let b : c.is_short.result ≡ short t = c.is_short.ensures.is in
+    let b : nat_lt 0 c.short_len-short.result ≡ short t = short_told t _ c.short_len-short.ensures.is in
     let k : c.rank.result ≡ R t = c.rank.ensures.is in
     let o : c.start-opening.result ≡ start R t p = c.start-opening.ensures.opening ∙ (λ z. opening_of (b z) (k z) p) in
     let q : given_of c.start-opening.new.names ≡ started R t p = c.start-opening.ensures.given ∙ (λ z. begun_unless_short (b z) (k z) p) in
-    let m = anchor_unwritten g.S.Sink.holds g.S.Sink.stops R t p c.start-opening.result o c.in-Anchored.number c.args.sink.now c.args.out.now c.put_anchor.new.out c.in_err-put_anchor-in-Anchored.field-0.0 c.in-Anchored.is c.in_err-put_anchor-in-Anchored.ensures.err in
+    let m = fails_after g.S.Sink.holds g.S.Sink.stops c.args.sink.now c.args.out.now c.count_short.new.sink c.count_short.new.out c.put_anchor.new.out c.in_err-put_anchor-in-Anchored.field-0.0 _ (c.in_ok-counted.ensures.kept c.if-counted.false) (anchor_unwritten g.S.Sink.holds g.S.Sink.stops R t p c.start-opening.result o c.in-Anchored.number c.count_short.new.sink c.count_short.new.out c.put_anchor.new.out c.in_err-put_anchor-in-Anchored.field-0.0 c.in-Anchored.is c.in_err-put_anchor-in-Anchored.ensures.err) in
     search (rules, m)
 
 pub write_node-returns-in_ok-put_anchor-in-Anchored-clause-known : goal.write_node-returns-in_ok-put_anchor-in-Anchored-clause-known
@@ -393,7 +425,7 @@ write_node-returns-in_ok-put_anchor-in-Anchored-clause-known g w c =
     let T = g.V.RankedNodes.tree v in
     let t = T (N c.args.id) in
     let p = given_of c.args.names.now in
-    let b : c.is_short.result ≡ short t = c.is_short.ensures.is in
+    let b : nat_lt 0 c.short_len-short.result ≡ short t = short_told t _ c.short_len-short.ensures.is in
     let k : c.rank.result ≡ R t = c.rank.ensures.is in
     let o : c.start-opening.result ≡ start R t p = c.start-opening.ensures.opening ∙ (λ z. opening_of (b z) (k z) p) in
     let q : given_of c.start-opening.new.names ≡ started R t p = c.start-opening.ensures.given ∙ (λ z. begun_unless_short (b z) (k z) p) in
@@ -407,11 +439,11 @@ write_node-returns-in_ok-put_anchor-in-Anchored-clause-ok g w c =
     let T = g.V.RankedNodes.tree v in
     let t = T (N c.args.id) in
     let p = given_of c.args.names.now in
-    let b : c.is_short.result ≡ short t = c.is_short.ensures.is in
+    let b : nat_lt 0 c.short_len-short.result ≡ short t = short_told t _ c.short_len-short.ensures.is in
     let k : c.rank.result ≡ R t = c.rank.ensures.is in
     let o : c.start-opening.result ≡ start R t p = c.start-opening.ensures.opening ∙ (λ z. opening_of (b z) (k z) p) in
     let q : given_of c.start-opening.new.names ≡ started R t p = c.start-opening.ensures.given ∙ (λ z. begun_unless_short (b z) (k z) p) in
-    on_ok c.write_inside.result c.write_inside.ensures.ok (λ h. anchored_written g.S.Sink.holds g.S.Sink.stops R t p c.start-opening.result o c.in-Anchored.number _ c.args.sink.now c.args.out.now c.put_anchor.new.sink c.put_anchor.new.out c.write_inside.new.sink c.write_inside.new.out c.in-Anchored.is q c.in_ok-put_anchor-in-Anchored.ensures.ok h)
+    on_ok c.write_inside.result c.write_inside.ensures.ok (λ h. puts_after g.S.Sink.holds c.args.sink.now c.args.out.now c.count_short.new.sink c.count_short.new.out c.write_inside.new.sink c.write_inside.new.out _ (c.in_ok-counted.ensures.kept c.if-counted.false) (anchored_written g.S.Sink.holds g.S.Sink.stops R t p c.start-opening.result o c.in-Anchored.number _ c.count_short.new.sink c.count_short.new.out c.put_anchor.new.sink c.put_anchor.new.out c.write_inside.new.sink c.write_inside.new.out c.in-Anchored.is q c.in_ok-put_anchor-in-Anchored.ensures.ok h))
 
 pub write_node-returns-in_ok-put_anchor-in-Anchored-clause-err : goal.write_node-returns-in_ok-put_anchor-in-Anchored-clause-err
 write_node-returns-in_ok-put_anchor-in-Anchored-clause-err g w c =
@@ -421,11 +453,11 @@ write_node-returns-in_ok-put_anchor-in-Anchored-clause-err g w c =
     let T = g.V.RankedNodes.tree v in
     let t = T (N c.args.id) in
     let p = given_of c.args.names.now in
-    let b : c.is_short.result ≡ short t = c.is_short.ensures.is in
+    let b : nat_lt 0 c.short_len-short.result ≡ short t = short_told t _ c.short_len-short.ensures.is in
     let k : c.rank.result ≡ R t = c.rank.ensures.is in
     let o : c.start-opening.result ≡ start R t p = c.start-opening.ensures.opening ∙ (λ z. opening_of (b z) (k z) p) in
     let q : given_of c.start-opening.new.names ≡ started R t p = c.start-opening.ensures.given ∙ (λ z. begun_unless_short (b z) (k z) p) in
-    if_err c.write_inside.result c.write_inside.ensures.err (λ fault h. anchored_unwritten g.S.Sink.holds g.S.Sink.stops R t p c.start-opening.result o c.in-Anchored.number _ c.args.sink.now c.args.out.now c.put_anchor.new.sink c.put_anchor.new.out c.write_inside.new.out fault c.in-Anchored.is q c.in_ok-put_anchor-in-Anchored.ensures.ok h)
+    if_err c.write_inside.result c.write_inside.ensures.err (λ fault h. fails_after g.S.Sink.holds g.S.Sink.stops c.args.sink.now c.args.out.now c.count_short.new.sink c.count_short.new.out c.write_inside.new.out fault _ (c.in_ok-counted.ensures.kept c.if-counted.false) (anchored_unwritten g.S.Sink.holds g.S.Sink.stops R t p c.start-opening.result o c.in-Anchored.number _ c.count_short.new.sink c.count_short.new.out c.put_anchor.new.sink c.put_anchor.new.out c.write_inside.new.out fault c.in-Anchored.is q c.in_ok-put_anchor-in-Anchored.ensures.ok h))
 
 pub write_node-returns-in-Plain-clause-known : goal.write_node-returns-in-Plain-clause-known
 write_node-returns-in-Plain-clause-known g w c =
@@ -435,7 +467,7 @@ write_node-returns-in-Plain-clause-known g w c =
     let T = g.V.RankedNodes.tree v in
     let t = T (N c.args.id) in
     let p = given_of c.args.names.now in
-    let b : c.is_short.result ≡ short t = c.is_short.ensures.is in
+    let b : nat_lt 0 c.short_len-short.result ≡ short t = short_told t _ c.short_len-short.ensures.is in
     let k : c.rank.result ≡ R t = c.rank.ensures.is in
     let o : c.start-opening.result ≡ start R t p = c.start-opening.ensures.opening ∙ (λ z. opening_of (b z) (k z) p) in
     let q : given_of c.start-opening.new.names ≡ started R t p = c.start-opening.ensures.given ∙ (λ z. begun_unless_short (b z) (k z) p) in
@@ -449,11 +481,11 @@ write_node-returns-in-Plain-clause-ok g w c =
     let T = g.V.RankedNodes.tree v in
     let t = T (N c.args.id) in
     let p = given_of c.args.names.now in
-    let b : c.is_short.result ≡ short t = c.is_short.ensures.is in
+    let b : nat_lt 0 c.short_len-short.result ≡ short t = short_told t _ c.short_len-short.ensures.is in
     let k : c.rank.result ≡ R t = c.rank.ensures.is in
     let o : c.start-opening.result ≡ start R t p = c.start-opening.ensures.opening ∙ (λ z. opening_of (b z) (k z) p) in
     let q : given_of c.start-opening.new.names ≡ started R t p = c.start-opening.ensures.given ∙ (λ z. begun_unless_short (b z) (k z) p) in
-    on_ok c.write_inside-in-Plain.result c.write_inside-in-Plain.ensures.ok (λ h. plain_written g.S.Sink.holds g.S.Sink.stops R t p c.start-opening.result o _ c.args.sink.now c.args.out.now c.write_inside-in-Plain.new.sink c.write_inside-in-Plain.new.out c.in-Plain.is q h)
+    on_ok c.write_inside-in-Plain.result c.write_inside-in-Plain.ensures.ok (λ h. puts_after g.S.Sink.holds c.args.sink.now c.args.out.now c.count_short.new.sink c.count_short.new.out c.write_inside-in-Plain.new.sink c.write_inside-in-Plain.new.out _ (c.in_ok-counted.ensures.kept c.if-counted.false) (plain_written g.S.Sink.holds g.S.Sink.stops R t p c.start-opening.result o _ c.count_short.new.sink c.count_short.new.out c.write_inside-in-Plain.new.sink c.write_inside-in-Plain.new.out c.in-Plain.is q h))
 
 pub write_node-returns-in-Plain-clause-err : goal.write_node-returns-in-Plain-clause-err
 write_node-returns-in-Plain-clause-err g w c =
@@ -463,11 +495,11 @@ write_node-returns-in-Plain-clause-err g w c =
     let T = g.V.RankedNodes.tree v in
     let t = T (N c.args.id) in
     let p = given_of c.args.names.now in
-    let b : c.is_short.result ≡ short t = c.is_short.ensures.is in
+    let b : nat_lt 0 c.short_len-short.result ≡ short t = short_told t _ c.short_len-short.ensures.is in
     let k : c.rank.result ≡ R t = c.rank.ensures.is in
     let o : c.start-opening.result ≡ start R t p = c.start-opening.ensures.opening ∙ (λ z. opening_of (b z) (k z) p) in
     let q : given_of c.start-opening.new.names ≡ started R t p = c.start-opening.ensures.given ∙ (λ z. begun_unless_short (b z) (k z) p) in
-    if_err c.write_inside-in-Plain.result c.write_inside-in-Plain.ensures.err (λ fault h. plain_unwritten g.S.Sink.holds g.S.Sink.stops R t p c.start-opening.result o _ c.args.sink.now c.args.out.now c.write_inside-in-Plain.new.out fault c.in-Plain.is q h)
+    if_err c.write_inside-in-Plain.result c.write_inside-in-Plain.ensures.err (λ fault h. fails_after g.S.Sink.holds g.S.Sink.stops c.args.sink.now c.args.out.now c.count_short.new.sink c.count_short.new.out c.write_inside-in-Plain.new.out fault _ (c.in_ok-counted.ensures.kept c.if-counted.false) (plain_unwritten g.S.Sink.holds g.S.Sink.stops R t p c.start-opening.result o _ c.count_short.new.sink c.count_short.new.out c.write_inside-in-Plain.new.out fault c.in-Plain.is q h))
 
 pub write_node-write_inside-requires : goal.write_node-write_inside-requires
 write_node-write_inside-requires g w c =
