@@ -40,4 +40,4 @@ inside_cmp-total : IsTotalOrder inside_cmp
 inside_cmp-total = subst IsTotalOrder (λ i k l. by_parts k l i) parts_cmp-total
 
 pub key_cmp-total : IsTotalOrder key_cmp
-key_cmp-total = then_total (on_total (λ k. k.head) nat_cmp_total) (then_total (on_total (λ k. k.front) nat_cmp_total) (on_total (λ k. k.rest) inside_cmp-total))
+key_cmp-total = then_total (on_total (λ k. k.head) nat_cmp_total) (then_total (on_total (λ k. k.high) nat_cmp_total) (then_total (on_total (λ k. k.low) nat_cmp_total) (on_total (λ k. k.rest) inside_cmp-total)))

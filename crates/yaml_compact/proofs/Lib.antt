@@ -1,3 +1,4 @@
+mod FrontParts
 mod KeyOrder
 mod Firsts
 mod Overwriting
@@ -14,6 +15,6 @@ pub mod StoreLaws
 pub mod StoreOf
 pub mod RanksOf
 pub mod RanksView
-mod TagCounts
+mod TagOrder
 mod ContentLaws
 mod WalkedLaws

@@ -1,18 +1,14 @@
 -- Lists of ranks stand as the numbers made of them do.
-use Rattle.std.proofs.Common.{◌≡◌, ℕ, zero, suc, ◌+◌, ◌*◌, ◌<◌, List, [], ◌∷◌, map, refl, sym, ◌∙◌, ap, subst, arith}
+use Rattle.std.proofs.Common.{◌≡◌, ℕ, zero, suc, ◌+◌, ◌*◌, ◌<◌, List, [], ◌∷◌, refl, sym, ◌∙◌, ap, subst, arith}
 use Rattle.std.specs.declared.cmp.Ordering.{Ordering}
 use Rattle.std.specs.declared.cmp.Ordering.TheVariants.{Less, Equal, Greater}
 use Rattle.std.specs.Ordering.{nat_cmp, ordering_then}
 use Rattle.std.specs.Cmp.Lexicographic.{slice_cmp}
 use Rattle.std.proofs.lemmas.Cmp.{tied_itself, nat_cmp_total}
-use Rattle.yaml_definitions.specs.model.Order.{trees_cmp, pairs_cmp, arranged}
 use Rattle.yaml_definitions.proofs.OrderLaws.{then_assoc}
-use Rattle.yaml_nodes.specs.TreeLists.{trees, pairs}
 use Rattle.yaml_levels.specs.KeyModel.{pair_cmp}
-use Rattle.yaml_compact.specs.NumberKeys.{one_of, behind, two_of, flat}
-use Rattle.yaml_levels.specs.View.{View, Lower, Ranks}
+use Rattle.yaml_compact.specs.NumberKeys.{one_of, behind, two_of, joined, four_of, flat}
 use Rattle.yaml_levels.proofs.Numbers.{cmp-less, cmp-greater, less-cmp, equal-cmp, greater-cmp}
-use Rattle.yaml_levels.proofs.RankOrder.{AllLow, PairsLow, items-cmp, entries-cmp}
 
 -- a number of two digits stands as its digits do
 pub digits-cmp : (b x y z w : ℕ) → y < b → w < b → nat_cmp (x * b + y) (z * b + w) ≡ ordering_then (nat_cmp x z) (nat_cmp y w)
@@ -59,12 +55,37 @@ second-fits (x ∷ []) f = omega arith
 second-fits (x ∷ (y ∷ xs)) f = let h = f.1.0 in omega arith
 
 -- two numbers at a time
-pub two-cmp : (xs ys : List ℕ) → Fit xs → Fit ys → ordering_then (nat_cmp (two_of xs) (two_of ys)) (slice_cmp nat_cmp (behind (behind xs)) (behind (behind ys))) ≡ slice_cmp nat_cmp xs ys
+two-cmp : (xs ys : List ℕ) → Fit xs → Fit ys → ordering_then (nat_cmp (two_of xs) (two_of ys)) (slice_cmp nat_cmp (behind (behind xs)) (behind (behind ys))) ≡ slice_cmp nat_cmp xs ys
 two-cmp xs ys f h =
     let rest : Ordering = slice_cmp nat_cmp (behind (behind xs)) (behind (behind ys)) in
     ap (λ o. ordering_then o rest) (digits-cmp 4294967296 (one_of xs) (one_of (behind xs)) (one_of ys) (one_of (behind ys)) (second-fits xs f) (second-fits ys h))
     ∙ (then_assoc (nat_cmp (one_of xs) (one_of ys)) (nat_cmp (one_of (behind xs)) (one_of (behind ys))) rest
     ∙ (ap (ordering_then (nat_cmp (one_of xs) (one_of ys))) (sym (one-cmp (behind xs) (behind ys))) ∙ sym (one-cmp xs ys)))
+
+behind-fits : (xs : List ℕ) → Fit xs → Fit (behind xs)
+behind-fits [] f = f
+behind-fits (x ∷ xs) f = f.1
+
+two-fits : (xs : List ℕ) → Fit xs → two_of xs < 18446744073709551616
+two-fits [] f = omega arith
+two-fits (x ∷ xs) f = let h = f.0 in let k = second-fits (x ∷ xs) f in omega arith
+
+-- a number of 128 bits stands as its halves do
+pub joined-cmp : (x y z w : ℕ) → y < 18446744073709551616 → w < 18446744073709551616 → nat_cmp (joined x y) (joined z w) ≡ ordering_then (nat_cmp x z) (nat_cmp y w)
+joined-cmp x y z w l m = digits-cmp 18446744073709551616 x y z w l m
+
+-- four numbers at a time
+pub four-cmp : (xs ys : List ℕ) → Fit xs → Fit ys
+    → ordering_then (nat_cmp (four_of xs) (four_of ys)) (slice_cmp nat_cmp (behind (behind (behind (behind xs)))) (behind (behind (behind (behind ys))))) ≡ slice_cmp nat_cmp xs ys
+four-cmp xs ys f h =
+    let a : List ℕ = behind (behind xs) in
+    let b : List ℕ = behind (behind ys) in
+    let fits : Fit a = behind-fits (behind xs) (behind-fits xs f) in
+    let fit : Fit b = behind-fits (behind ys) (behind-fits ys h) in
+    let rest : Ordering = slice_cmp nat_cmp (behind (behind a)) (behind (behind b)) in
+    ap (λ o. ordering_then o rest) (joined-cmp (two_of xs) (two_of a) (two_of ys) (two_of b) (two-fits a fits) (two-fits b fit))
+    ∙ (then_assoc (nat_cmp (two_of xs) (two_of ys)) (nat_cmp (two_of a) (two_of b)) rest
+    ∙ (ap (ordering_then (nat_cmp (two_of xs) (two_of ys))) (two-cmp a b fits fit) ∙ two-cmp xs ys f h))
 
 -- keys and values in turn stand as the pairs do
 pub flat-cmp : (ps qs : List (ℕ × ℕ)) → slice_cmp nat_cmp (flat ps) (flat qs) ≡ slice_cmp pair_cmp ps qs
@@ -74,25 +95,3 @@ flat-cmp (p ∷ ps) [] = refl
 flat-cmp (p ∷ ps) (q ∷ qs) =
     ap (λ o. ordering_then (nat_cmp p.0 q.0) (ordering_then (nat_cmp p.1 q.1) o)) (flat-cmp ps qs)
     ∙ sym (then_assoc (nat_cmp p.0 q.0) (nat_cmp p.1 q.1) (slice_cmp pair_cmp ps qs))
-
--- ---- the parts of nodes of any store
-
-module _ (v : View) (rank : ℕ → ℕ) (h : ℕ) (right : Ranks v rank h) where
-  abbrev pub LowParts : List ℕ → Type 0
-  LowParts = AllLow v.tree rank (Lower v h) right.agrees
-
-  abbrev pub LowPairs : List (ℕ × ℕ) → Type 0
-  LowPairs = PairsLow v.tree rank (Lower v h) right.agrees
-
-  -- the numbers made of the items' ranks decide between two sequences
-  pub items-told : (is js : List ℕ) → LowParts is → LowParts js → Fit (map rank is) → Fit (map rank js)
-      → ordering_then (nat_cmp (two_of (map rank is)) (two_of (map rank js))) (slice_cmp nat_cmp (behind (behind (map rank is))) (behind (behind (map rank js)))) ≡ trees_cmp (trees (map (λ i. arranged (v.tree i)) is)) (trees (map (λ i. arranged (v.tree i)) js))
-  items-told is js a b f g = two-cmp (map rank is) (map rank js) f g ∙ items-cmp v.tree rank (Lower v h) right.agrees is js a b
-
-  abbrev pub pair_rank : ℕ × ℕ → ℕ × ℕ
-  pair_rank p = (rank p.0, rank p.1)
-
-  -- and those of the entries' ranks, key and value in turn, between two mappings
-  pub entries-told : (ps qs : List (ℕ × ℕ)) → LowPairs ps → LowPairs qs → Fit (flat (map pair_rank ps)) → Fit (flat (map pair_rank qs))
-      → ordering_then (nat_cmp (two_of (flat (map pair_rank ps))) (two_of (flat (map pair_rank qs)))) (slice_cmp nat_cmp (behind (behind (flat (map pair_rank ps)))) (behind (behind (flat (map pair_rank qs))))) ≡ pairs_cmp (pairs (map (λ p. (arranged (v.tree p.0), arranged (v.tree p.1))) ps)) (pairs (map (λ p. (arranged (v.tree p.0), arranged (v.tree p.1))) qs))
-  entries-told ps qs a b f g = two-cmp (flat (map pair_rank ps)) (flat (map pair_rank qs)) f g ∙ (flat-cmp (map pair_rank ps) (map pair_rank qs) ∙ entries-cmp v.tree rank (Lower v h) right.agrees ps qs a b)

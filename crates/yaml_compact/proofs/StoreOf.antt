@@ -1,5 +1,5 @@
 -- The lists of a store hold the nodes of its view.
-use Rattle.std.proofs.Common.{◌≡◌, inl, inr, ℕ, ◌≤◌, Bool, true, List, Vec, Global, length, refl, sym, ◌∙◌, ap, subst, arith}
+use Rattle.std.proofs.Common.{◌≡◌, inl, inr, ℕ, ◌≤◌, true, List, Vec, Global, length, refl, sym, ◌∙◌, ap, subst, arith}
 use Rattle.std.specs.declared.cmp.Ordering.{Ordering}
 use Rattle.std.specs.declared.cmp.Ordering.TheVariants.{Less, Equal, Greater}
 use Rattle.std.specs.Ordering.{nat_cmp}
@@ -79,7 +79,7 @@ ranked-as v nodes nodes2 text text2 is is2 es es2 ranks first r a b c d =
     subst (λ z. AllRanked v z text2 is2 es2 ranks first) a (subst (λ z. AllRanked v nodes z is2 es2 ranks first) b (subst (λ z. AllRanked v nodes text z es2 ranks first) c (subst (λ z. AllRanked v nodes text is z ranks first) d r)))
 
 -- what is kept of the lists of a store, once they are ranked, whatever is kept beside
-pub listed-as : (s : Store) (good : Good s) (are : List ℕ) → PlacesAre (tags_of s) are → (nodes : List Node) (text is is2 : List ℕ) (es es2 : List (ℕ × ℕ)) (places : List ℕ) (ranks first : Vec ℕ Global) (shorts : Vec Bool Global)
+pub listed-as : (s : Store) (good : Good s) (are : List ℕ) → PlacesAre (tags_of s) are → (nodes : List Node) (text is is2 : List ℕ) (es es2 : List (ℕ × ℕ)) (places : List ℕ) (ranks first : Vec ℕ Global) (shorts : Vec ℕ Global)
     → nodes ≡ s.nodes.items → text ≡ string_bytes s.text → is ≡ s.items.items → es ≡ s.entries.items → places ≡ are → length is2 ≡ length is → length es2 ≡ length es
     → (Stored (view_of s good) nodes text is es places → AllRanked (view_of s good) nodes text is2 es2 ranks.items first.items)
     → StoreListed s good record { tags = s.tags; text = s.text; items = with_items s.items is2; entries = with_items s.entries es2; nodes = s.nodes; ranks = ranks; first = first; shorts = shorts }

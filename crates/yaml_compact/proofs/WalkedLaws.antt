@@ -17,10 +17,9 @@ use Rattle.yaml_levels.specs.Insides.{Held, HeldBelow}
 use Rattle.yaml_levels.proofs.GraphOf.{get-map, get-unmap}
 use Rattle.yaml_levels.proofs.InsideLaws.{held-length, inside-same, held-tree}
 use Rattle.yaml_levels.proofs.Numbering.{get-there, get-within}
-use Rattle.yaml_definitions.specs.canonical.Spell.{short}
 use Rattle.yaml_spell.specs.declared.shown.Inside.{Inside}
 use Rattle.yaml_spell.specs.RankedNodes.{RanksTell, inside_shown}
-use Rattle.yaml_spell.specs.ShortNodes.{short_shown}
+use Rattle.yaml_spell.specs.ShortNodes.{short_len, shown_len}
 use Rattle.yaml_spell.proofs.ShownLaws.{short-is}
 use Rattle.yaml_spell.proofs.WalkLaws.{drop_next}
 use Rattle.yaml_compact.specs.declared.store.Store.{Store}
@@ -65,12 +64,12 @@ found t (x ∷ xs) (suc i) d l h = by (same t x) refl (found t xs i d (omega ari
         (omega arith, subst (λ n. same t (get_or (x ∷ xs) n d) ≡ true) one r.1)
 
 -- one more of a list is told
-pub flags-step : (f : ℕ → Bool) (xs : List ℕ) (bs cs : List Bool) (k : ℕ) (b : Bool) → k < length xs → b ≡ f (slice_index xs k) → cs ≡ bs ++ (b ∷ []) → bs ++ map f (drop k xs) ≡ map f xs → cs ++ map f (drop (k + 1) xs) ≡ map f xs
-flags-step f xs bs cs k b l e p h = ap (λ z. z ++ map f (drop (k + 1) xs)) p ∙ append_assoc bs (b ∷ []) (map f (drop (k + 1) xs)) ∙ ap (λ z. bs ++ (z ∷ map f (drop (k + 1) xs))) e ∙ ap (λ z. bs ++ map f z) (sym (drop_next xs k 0 l)) ∙ h
+pub lens-step : (f : ℕ → ℕ) (xs : List ℕ) (bs cs : List ℕ) (k : ℕ) (b : ℕ) → k < length xs → b ≡ f (slice_index xs k) → cs ≡ bs ++ (b ∷ []) → bs ++ map f (drop k xs) ≡ map f xs → cs ++ map f (drop (k + 1) xs) ≡ map f xs
+lens-step f xs bs cs k b l e p h = ap (λ z. z ++ map f (drop (k + 1) xs)) p ∙ append_assoc bs (b ∷ []) (map f (drop (k + 1) xs)) ∙ ap (λ z. bs ++ (z ∷ map f (drop (k + 1) xs))) e ∙ ap (λ z. bs ++ map f z) (sym (drop_next xs k 0 l)) ∙ h
 
 -- and all are
-pub flags-whole : (f : ℕ → Bool) (xs : List ℕ) (bs : List Bool) (k : ℕ) → length xs ≤ k → bs ++ map f (drop k xs) ≡ map f xs → bs ≡ map f xs
-flags-whole f xs bs k l h = sym (append-nil bs) ∙ ap (λ z. bs ++ map f z) (sym (drop_all k xs l)) ∙ h
+pub lens-whole : (f : ℕ → ℕ) (xs : List ℕ) (bs : List ℕ) (k : ℕ) → length xs ≤ k → bs ++ map f (drop k xs) ≡ map f xs → bs ≡ map f xs
+lens-whole f xs bs k l h = sym (append-nil bs) ∙ ap (λ z. bs ++ map f z) (sym (drop_all k xs l)) ∙ h
 
 module _ (s : Store) (good : Good s) (c : Ranked) (are : StoreListed s good c) where
   abbrev N : ℕ
@@ -199,13 +198,13 @@ module _ (s : Store) (good : Good s) (c : Ranked) (are : StoreListed s good c) w
     pub parts-shown : InsideBelow N (inside_shown number x)
     parts-shown = subst (InsideBelow N) (sym inside) (inside-below r l)
 
-    -- and tells whether it is short
-    pub short-shown-is : short_shown tag x ≡ short_at s (first_of c r)
-    short-shown-is = sym (short-is number (walked_tree c) (walked_tree c r) tag x tree-shown) ∙ ap short (walked-is r l)
+    -- and tells how long it is, if it is short
+    pub short-shown-is : shown_len tag x ≡ short_at s (first_of c r)
+    short-shown-is = sym (short-is number (walked_tree c) (walked_tree c r) tag x tree-shown) ∙ ap short_len (walked-is r l)
 
--- whether a rank is short
-pub short-told : (s : Store) (good : Good s) (c : Ranked) → StoreRanked s good c → (r : ℕ) (b : Bool) → r < length c.first.items → b ≡ get_or c.shorts.items r b → b ≡ short (walked_tree c r)
-short-told s good c are r b l e = e ∙ ap (λ z. get_or z r b) are.shorts ∙ get_or-map (short_at s) c.first.items r 0 b l ∙ ap short (sym (walked-is s good c are.listed r l))
+-- how long a rank is, if it is short
+pub short-told : (s : Store) (good : Good s) (c : Ranked) → StoreRanked s good c → (r b : ℕ) → r < length c.first.items → b ≡ get_or c.shorts.items r b → b ≡ short_len (walked_tree c r)
+short-told s good c are r b l e = e ∙ ap (λ z. get_or z r b) are.shorts ∙ get_or-map (short_at s) c.first.items r 0 b l ∙ ap short_len (sym (walked-is s good c are.listed r l))
 
 pub shorts-long : (s : Store) (good : Good s) (c : Ranked) → StoreRanked s good c → length c.shorts.items ≡ length c.first.items
 shorts-long s good c are = ap length are.shorts ∙ length-map c.first.items (short_at s)

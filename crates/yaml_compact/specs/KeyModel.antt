@@ -1,14 +1,14 @@
 -- The order of keys, and the key of a node.
-use Rattle.std.specs.Prelude.{◌≡◌, ℕ, ◌+◌, ◌*◌, ◌<◌, ◌≤◌, min, List, [], length, slice_index}
+use Rattle.std.specs.Prelude.{◌≡◌, ℕ, ◌+◌, ◌*◌, ◌<◌, List}
 use Rattle.std.specs.List.{All}
 use Rattle.std.specs.declared.cmp.Ordering.{Ordering}
 use Rattle.std.specs.declared.cmp.Ordering.TheVariants.{Less, Greater}
 use Rattle.std.specs.Ordering.{ordering_then, nat_cmp}
 use Rattle.std.specs.Cmp.Lexicographic.{slice_cmp}
 use Rattle.yaml_definitions.specs.model.Order.{bytes_cmp}
-use Rattle.yaml_levels.specs.PrefixModel as prefix
+use Rattle.yaml_levels.specs.PrefixModel.{IsPrefix, IsRest}
 use Rattle.yaml_levels.specs.KeyModel.{pair_cmp}
-use Rattle.yaml_compact.specs.NumberKeys.{two_of, flat}
+use Rattle.yaml_compact.specs.NumberKeys.{joined, four_of, flat}
 use Rattle.yaml_levels.specs.Numbered.{RisesBy}
 use Rattle.yaml_levels.specs.View.{Inside, content, items, entries}
 
@@ -24,15 +24,17 @@ inside_cmp (entries x) (content y) = Greater
 inside_cmp (entries x) (items y) = Greater
 inside_cmp (entries x) (entries y) = slice_cmp pair_cmp x y
 
--- What nodes of one height are compared by: two numbers, and what is compared where these are equal.
+-- What nodes of one height are compared by: two numbers, the second in halves of 64 bits, and what is
+-- compared where these are equal.
 pub record Key : Type 0 where
   pub head : ℕ
-  pub front : ℕ
+  pub high : ℕ
+  pub low : ℕ
   pub rest : Inside
 
--- the two numbers, then what they leave
+-- the numbers, then what they leave
 abbrev pub key_cmp : Key → Key → Ordering
-key_cmp k l = ordering_then (nat_cmp k.head l.head) (ordering_then (nat_cmp k.front l.front) (inside_cmp k.rest l.rest))
+key_cmp k l = ordering_then (nat_cmp k.head l.head) (ordering_then (nat_cmp k.high l.high) (ordering_then (nat_cmp k.low l.low) (inside_cmp k.rest l.rest)))
 
 -- The keys of nodes, each with its node's number.
 abbrev pub Keys : Type 0
@@ -41,16 +43,6 @@ Keys = List (Key × ℕ)
 -- no key is below the one before it
 abbrev pub Rises : Keys → Type 0
 Rises keys = RisesBy key_cmp keys
-
--- the number of the first seven bytes, and behind it the length, which counts no further than eight
-pub record IsFront (text : List ℕ) (front : ℕ) : Type 0 where
-  pub is : front ≡ prefix.front 7 text * 256 + min (length text) 8
-  pub bytes : (k : ℕ) → slice_index text k < 256
-
--- nothing of a text that its front holds whole, else the whole text
-pub record IsRest (text rest : List ℕ) : Type 0 where
-  pub short : length text ≤ 7 → rest ≡ []
-  pub long : 7 < length text → rest ≡ text
 
 -- scalars stand before sequences, and these before mappings
 abbrev pub kind_number : Inside → ℕ
@@ -66,9 +58,9 @@ RanksFit (entries rs) = All (λ p. (p.0 < 4294967295) × (p.1 < 4294967295)) rs
 
 -- the second number tells of what is inside
 abbrev pub IsFrontOf : Inside → ℕ → Type 0
-IsFrontOf (content x) front = IsFront x front
-IsFrontOf (items rs) front = front ≡ two_of rs
-IsFrontOf (entries rs) front = front ≡ two_of (flat rs)
+IsFrontOf (content x) front = IsPrefix x front
+IsFrontOf (items rs) front = front ≡ four_of rs
+IsFrontOf (entries rs) front = front ≡ four_of (flat rs)
 
 -- what is compared where the numbers are equal
 abbrev pub IsRestOf : Inside → Inside → Type 0
@@ -80,5 +72,6 @@ IsRestOf (entries rs) rest = rest ≡ entries rs
 pub record KeyIs (place : ℕ) (inside : Inside) (key : Key) : Type 0 where
   pub small : place < 1073741824
   pub head : key.head ≡ kind_number inside * 1073741824 + place
-  pub front : IsFrontOf inside key.front
+  pub low : key.low < 18446744073709551616
+  pub front : IsFrontOf inside (joined key.high key.low)
   pub rest : IsRestOf inside key.rest

@@ -1,17 +1,17 @@
 -- A store as a view of nodes.
-use Rattle.std.specs.Prelude.{◌≡◌, ℕ, ◌<◌, Bool, List, [], length, map, Option, Some, None}
+use Rattle.std.specs.Prelude.{◌≡◌, ℕ, ◌<◌, List, [], length, map, Option, Some, None}
 use Rattle.std.proofs.Common.{sym, subst}
 use Rattle.std.specs.List.{slice_get}
 use Rattle.std.specs.String.{string_bytes}
 use Rattle.yaml_definitions.specs.model.Tree.{Tree}
 use Rattle.yaml_definitions.specs.model.Order.{arranged}
-use Rattle.yaml_definitions.specs.canonical.Spell.{short}
 use Rattle.yaml_nodes.specs.GraphModel.{tree_at}
 use Rattle.yaml_levels.specs.View.{View, Inside, content, InsideBelow, inside_tree}
 use Rattle.yaml_levels.specs.Insides.{Held, HeldBelow}
 use Rattle.yaml_levels.proofs.InsideLaws.{held-tree}
 use Rattle.yaml_levels.proofs.GraphOf.{get-map, get-unmap}
 use Rattle.yaml_levels.proofs.LevelLaws.{get-some}
+use Rattle.yaml_spell.specs.ShortNodes.{short_len}
 use Rattle.yaml_compact.specs.declared.nodes.Node.{Node}
 use Rattle.yaml_compact.specs.declared.nodes.Place.{Place}
 use Rattle.yaml_compact.specs.declared.nodes.Place.TheVariants.{Scalar, Sequence, Mapping}
@@ -74,11 +74,11 @@ pub record StoreListed (s : Store) (good : Good s) (r : Ranked) : Type 0 where
 abbrev pub Listed : Ranked → Type 0
 Listed r = (s : Store) × (good : Good s) × StoreListed s good r
 
--- whether the arranged tree of the node of this number is short
-abbrev pub short_at : Store → ℕ → Bool
-short_at s i = short (arranged (tree_of s i))
+-- how many bytes the arranged tree of the node of this number takes, if it is short, else 0
+abbrev pub short_at : Store → ℕ → ℕ
+short_at s i = short_len (arranged (tree_of s i))
 
--- The same, and it is known which ranks are short.
+-- The same, and it is known which ranks are short, and how long they are.
 pub record StoreRanked (s : Store) (good : Good s) (r : Ranked) : Type 0 where
   pub listed : StoreListed s good r
   pub shorts : r.shorts.items ≡ map (short_at s) r.first.items

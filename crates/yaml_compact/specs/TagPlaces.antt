@@ -1,13 +1,20 @@
 -- Places of tags.
-use Rattle.std.specs.Prelude.{◌≡◌, ℕ, ◌<◌, ◌≤◌, List, length, slice_index}
-use Rattle.std.specs.List.{All, count_by}
-use Rattle.std.specs.Ordering.{nat_cmp, is_lt}
+use Rattle.std.specs.Borrow.{Bor}
+use Rattle.std.specs.Prelude.{◌≡◌, ℕ, ◌<◌, ◌≤◌, true, List, length, slice_index}
+use Rattle.std.specs.BTreeSet.{BTreeSet, contains}
+use Rattle.std.specs.List.{All, AllZip}
+use Rattle.std.specs.Ordering.{nat_cmp}
 use Rattle.yaml_definitions.specs.model.Order.{bytes_cmp}
+use Rattle.yaml_levels.specs.TagModel.{Texts, text_cmp, IsTagAt}
 use Rattle.yaml_compact.specs.StoreModel.{tag_at}
 
--- how many of the tags stand before this one
-abbrev pub count_below : List (List ℕ) → List ℕ → ℕ
-count_below tags tag = count_by (λ other. is_lt (bytes_cmp other tag)) tags
+-- this tag was found
+abbrev pub IsFound : BTreeSet (Bor (List ℕ)) → List ℕ → Type 0
+IsFound found tag = (t : Bor (List ℕ)) → t.now ≡ tag → contains text_cmp found t ≡ true
+
+-- each tag stands at its place among these texts
+abbrev pub PlacesAmong : Texts → List (List ℕ) → List ℕ → Type 0
+PlacesAmong ordered tags places = AllZip (λ tag place. IsTagAt ordered place tag) tags places
 
 -- The place of each tag in the order of tags.
 pub record PlacesAre (tags : List (List ℕ)) (places : List ℕ) : Type 0 where

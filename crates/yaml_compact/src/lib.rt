@@ -1,4 +1,4 @@
-//! Nodes in twelve bytes each, equal ones mostly merged, and their ranks.
+//! Nodes in sixteen bytes each, equal ones mostly merged, and their ranks.
 #![tactic(auto)]
 
 pub mod gives_up;

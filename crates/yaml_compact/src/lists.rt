@@ -2,7 +2,7 @@
 ghost use Rattle.std.specs.Prelude.{◌≡◌, ◌<◌, length};
 ghost use Rattle.std.specs.Ordering.{is_lt};
 ghost use Rattle.std.specs.List.Sorted.{IsPermutation};
-ghost use Rattle.yaml_compact.specs.KeyModel.{key_cmp, Rises, RanksFit};
+ghost use Rattle.yaml_compact.specs.KeyModel.{inside_cmp, key_cmp, Rises, RanksFit};
 ghost use Rattle.yaml_compact.specs.SlotModel.{held, InRange, inside_at, rest_at, key_at, keys_of, IsSlot};
 
 use crate::nodes::{Node, Place};
@@ -40,11 +40,11 @@ impl<'s> Lists<'s> {
         }
     }
 
-    /// What nodes are compared by where the two numbers of their slots are equal: nothing of a content
+    /// What nodes are compared by where the numbers of their slots are equal: nothing of a content
     /// that these hold whole.
-    fn rest(&self, slot: Slot) -> Rest<'s>
+    fn rest(&self, slot: &Slot) -> Rest<'s>
         requires { InRange self.now }
-        ensures { held result ≡ rest_at self.now slot }
+        ensures { held result ≡ rest_at self.now slot.now }
     {
         if slot.is_whole() {
             return Rest::Text(&[]);
@@ -61,32 +61,47 @@ impl<'s> Lists<'s> {
     {
         let tag = self.places[self.nodes[number as usize].tag as usize];
         let inside = self.inside(number);
+        let (high, low) = inside.front();
         Slot {
-            front: inside.front(),
+            high,
+            low,
             head: inside.head(tag),
             number,
         }
     }
 
-    /// How the first node stands to the second.
-    fn compare(&self, left: Slot, right: Slot) -> Ordering
+    /// How the first node stands to the second where the numbers of their slots are equal. Few
+    /// comparisons come to this, so the code of the sort is shorter without it.
+    #[inline(never)]
+    fn compare_rest(&self, left: &Slot, right: &Slot) -> Ordering
         requires { InRange self.now }
-        ensures { result ≡ key_cmp (key_at self.now left) (key_at self.now right) }
+        ensures { result ≡ inside_cmp (rest_at self.now left.now) (rest_at self.now right.now) }
     {
-        let told = left
-            .head
-            .cmp(&right.head)
-            .then(left.front.cmp(&right.front));
-        match told {
-            Ordering::Equal => self.rest(left).compare(&self.rest(right)),
-            _ => told,
+        self.rest(left).compare(&self.rest(right))
+    }
+
+    /// How the first node stands to the second.
+    #[inline]
+    fn compare(&self, left: &Slot, right: &Slot) -> Ordering
+        requires { InRange self.now }
+        ensures { result ≡ key_cmp (key_at self.now left.now) (key_at self.now right.now) }
+    {
+        if left.head != right.head {
+            return left.head.cmp(&right.head);
         }
+        if left.high != right.high {
+            return left.high.cmp(&right.high);
+        }
+        if left.low != right.low {
+            return left.low.cmp(&right.low);
+        }
+        self.compare_rest(left, right)
     }
 
     /// Whether the first node stands before the second.
-    pub(crate) fn is_below(&self, left: Slot, right: Slot) -> bool
+    pub(crate) fn is_below(&self, left: &Slot, right: &Slot) -> bool
         requires { InRange self.now }
-        ensures { result ≡ is_lt (key_cmp (key_at self.now left) (key_at self.now right)) }
+        ensures { result ≡ is_lt (key_cmp (key_at self.now left.now) (key_at self.now right.now)) }
     {
         self.compare(left, right) == Ordering::Less
     }
@@ -97,6 +112,6 @@ impl<'s> Lists<'s> {
         ensures permutation { IsPermutation slots.old.items slots.new.items }
         ensures sorted { Rises (keys_of self.now slots.new.items) }
     {
-        slots.sort_unstable_by(|left, right| self.compare(*left, *right));
+        slots.sort_unstable_by(|left, right| self.compare(left, right));
     }
 }

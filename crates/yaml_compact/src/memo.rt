@@ -1,52 +1,108 @@
-//! A small table of the nodes that were met last, by a hash. Whatever it says, a node is compared before its
-//! number is used, so nothing is claimed of it.
+//! Small tables of the nodes and of the tags that were met last, by a hash. Whatever they say, what a number
+//! stands for is compared before the number is used, so nothing is claimed of tables and hashes.
+ghost use Rattle.std.specs.Prelude.{◌+◌, ◌≤◌, length};
+
 use crate::nodes::Kind;
 use std::alloc::{AllocError, Global};
 
-const PLACES: usize = 32_768;
-
-/// The last node of each hash's place.
+/// The last number of each hash's place.
 #[derive(Drop)]
 pub(crate) struct Memo {
     places: Vec<u32>,
 }
 
 impl Memo {
-    pub(crate) fn new(alloc: Global) -> Result<Memo, AllocError> {
+    /// A table of so many places.
+    pub(crate) fn new(alloc: Global, count: usize) -> Result<Memo, AllocError> {
         let mut places = Vec::new(alloc);
-        places.resize(PLACES, 0)?;
+        places.resize(count, 0)?;
         Ok(Memo { places })
     }
 
-    /// The node that may be the same.
-    pub(crate) fn seen(&self, hash: u32) -> u32 {
-        let place = hash as usize % PLACES;
+    /// The place of a hash: its upper half, on which all that was mixed tells, scaled to the number of places.
+    fn place(&self, hash: u64) -> usize {
+        ((hash >> 32).wrapping_mul(self.places.len() as u64) >> 32) as usize
+    }
+
+    /// The number of what may be the same.
+    pub(crate) fn seen(&self, hash: u64) -> u32 {
+        let place = self.place(hash);
         self.places.get(place).copied().unwrap_or(0)
     }
 
-    /// The node takes its place.
-    pub(crate) fn keep(&mut self, hash: u32, node: u32) {
-        let place = hash as usize % PLACES;
+    /// The number takes its place.
+    pub(crate) fn keep(&mut self, hash: u64, number: u32) {
+        let place = self.place(hash);
         if place < self.places.len() {
-            self.places[place] = node;
+            self.places[place] = number;
         }
     }
 }
 
-/// A hash of a tag and a content.
-pub(crate) fn hash_text(tag: u8, content: &[u8]) -> u32 {
-    let mut hash = u32::from(tag);
-    for byte in content {
-        hash = (hash ^ u32::from(*byte)).wrapping_mul(0x9E37_79B1);
+/// A hash, and one number more.
+fn mixed(hash: u64, number: u64) -> u64 {
+    (hash.rotate_left(20) ^ number).wrapping_mul(0x9E37_79B9_7F4A_7C15)
+}
+
+/// The eight bytes from this place on, as a number.
+fn eight(bytes: &[u8], at: usize) -> u64
+    requires { at + 8 ≤ length bytes.now }
+{
+    u64::from_le_bytes([
+        bytes[at],
+        bytes[at + 1],
+        bytes[at + 2],
+        bytes[at + 3],
+        bytes[at + 4],
+        bytes[at + 5],
+        bytes[at + 6],
+        bytes[at + 7],
+    ])
+}
+
+/// The four bytes from this place on, as a number.
+fn four(bytes: &[u8], at: usize) -> u64
+    requires { at + 4 ≤ length bytes.now }
+{
+    u64::from(u32::from_le_bytes([bytes[at], bytes[at + 1], bytes[at + 2], bytes[at + 3]]))
+}
+
+/// A hash, and the length of a text with its first eight bytes and its last ones: all of sixteen or fewer.
+fn with_ends(hash: u64, text: &[u8]) -> u64 {
+    let len = text.len();
+    let hash = mixed(hash, len as u64);
+    if len >= 8 {
+        return mixed(mixed(hash, eight(text, 0)), eight(text, len - 8));
     }
-    hash >> 8
+    if len >= 4 {
+        return mixed(mixed(hash, four(text, 0)), four(text, len - 4));
+    }
+    let mut number = 0;
+    for byte in text {
+        number = (number << 8) | u64::from(*byte);
+    }
+    mixed(hash, number)
+}
+
+/// A hash of a tag.
+pub(crate) fn hash_tag(tag: &[u8]) -> u64 {
+    with_ends(0, tag)
+}
+
+/// A hash of a tag and a content, of which each byte counts.
+pub(crate) fn hash_text(tag: u32, content: &[u8]) -> u64 {
+    let mut hash = with_ends(u64::from(tag) << 32, content);
+    for place in 1..content.len() / 8 {
+        hash = mixed(hash, eight(content, 8 * place));
+    }
+    hash
 }
 
 /// A hash of a kind, a tag and parts.
-pub(crate) fn hash_parts(kind: Kind, tag: u8, parts: &[u32]) -> u32 {
-    let mut hash = u32::from(tag).wrapping_mul(4).wrapping_add(kind as u32);
+pub(crate) fn hash_parts(kind: Kind, tag: u32, parts: &[u32]) -> u64 {
+    let mut hash = u64::from(tag).wrapping_mul(4).wrapping_add(kind as u64);
     for part in parts {
-        hash = (hash ^ *part).wrapping_mul(0x9E37_79B1);
+        hash = mixed(hash, u64::from(*part));
     }
-    hash >> 8
+    hash
 }

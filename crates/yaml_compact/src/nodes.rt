@@ -1,4 +1,4 @@
-//! A node in twelve bytes.
+//! A node in sixteen bytes.
 ghost use Rattle.std.specs.Prelude.{◌≡◌};
 ghost use Rattle.yaml_compact.specs.StoreModel.{place_of, kind_of};
 
@@ -37,17 +37,17 @@ impl Collection {
     }
 }
 
-/// A node: what it is, the number of its tag, its height, and where its content, its items or its entries
+/// A node: what it is, its height, the number of its tag, and where its content, its items or its entries
 /// stand among those of all nodes.
 #[derive(Clone, Copy)]
 pub struct Node {
     pub kind: Kind,
-    pub tag: u8,
     pub height: u16,
+    pub tag: u32,
     pub span: Span,
 }
 
-const _: () = prove!(size_of::<Node>() == 12);
+const _: () = prove!(size_of::<Node>() == 16);
 
 /// What a node is, and where its content, its items or its entries stand.
 #[derive(Clone, Copy)]

@@ -26,7 +26,7 @@ pub(crate) fn number(
 {
     let mut rank = first.len() as u32;
     for (place, slot) in slots.iter().enumerate() {
-        if place == 0 || lists.is_below(slots[place - 1], *slot) {
+        if place == 0 || lists.is_below(&slots[place - 1], slot) {
             rank = note(first, slot.number)?;
         }
         ranks[slot.number as usize] = rank;

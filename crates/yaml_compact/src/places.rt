@@ -1,37 +1,57 @@
 //! The place of each tag in the order of tags.
-ghost use Rattle.std.specs.Prelude.{◌≡◌, map, IfOk};
+ghost use Rattle.std.specs.Prelude.{◌≡◌, ◌<◌, length, map, IfOk};
+ghost use Rattle.std.specs.List.{All};
 ghost use Rattle.std.specs.String.{string_bytes};
-ghost use Rattle.yaml_compact.specs.TagPlaces.{count_below, PlacesAre};
+ghost use Rattle.yaml_levels.specs.TagModel.{TagsRise, IsTagAt, IsListed};
+ghost use Rattle.yaml_compact.specs.TagPlaces.{PlacesAre};
 
 use crate::gives_up::GivesUp;
 use std::alloc::Global;
+use std::collections::BTreeSet;
 
 /// What the place of a tag is below.
 const MOST: usize = 1_073_741_824;
 
-/// How many of these tags stand before this one.
-fn count_below(tags: &[String], tag: &str) -> usize
-    ensures { result ≡ count_below (map string_bytes tags.now) tag.now }
+/// The tags, each once, in rising order.
+fn in_order<'t>(alloc: Global, tags: &'t [String]) -> Result<Vec<&'t str>, GivesUp>
+    ensures rise { IfOk result (λ ordered. TagsRise ordered.items) }
+    ensures whole { IfOk result (λ ordered. All (IsListed ordered.items) (map string_bytes tags.now)) }
 {
-    let mut count = 0;
-    for other in tags {
-        if other.as_str() < tag {
-            count += 1;
-        }
+    let mut found = BTreeSet::new(alloc);
+    for text in tags {
+        found.insert(text.as_str())?;
     }
-    count
+    let mut ordered = Vec::new(alloc);
+    for tag in found {
+        ordered.push(tag)?;
+    }
+    Ok(ordered)
+}
+
+/// The place of a tag that is among these.
+fn place(ordered: &[&str], tag: &str) -> usize
+    requires rise { TagsRise ordered.now }
+    requires among { IsListed ordered.now tag.now }
+    ensures at { IsTagAt ordered.now result tag.now }
+    ensures within { result < length ordered.now }
+{
+    match ordered.binary_search(&tag) {
+        Ok(place) => place,
+        Err(place) => place,
+    }
 }
 
 /// The place of each tag: equal for equal tags, and in the order of tags.
 pub(crate) fn places(alloc: Global, tags: &[String]) -> Result<Vec<u32>, GivesUp>
     ensures ok { IfOk result (λ places. PlacesAre (map string_bytes tags.now) places.items) }
 {
-    if tags.len() >= MOST {
+    let ordered = in_order(alloc, tags)?;
+    if ordered.len() >= MOST {
         return Err(GivesUp);
     }
     let mut places = Vec::with_capacity(alloc, tags.len())?;
     for tag in tags {
-        places.push(count_below(tags, tag.as_str()) as u32)?;
+        places.push(place(&ordered, tag.as_str()) as u32)?;
     }
     Ok(places)
 }

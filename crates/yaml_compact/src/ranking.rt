@@ -30,8 +30,9 @@ pub struct Ranked {
     pub(crate) ranks: Vec<u32>,
     /// The node that stands for each rank.
     pub(crate) first: Vec<u32>,
-    /// Whether each rank is short: asked here once, and not at each of its nodes. Filled in last.
-    pub(crate) shorts: Vec<bool>,
+    /// How many bytes each rank takes if it is short, else 0: measured here once, and not at each of its
+    /// nodes. Filled in last.
+    pub(crate) shorts: Vec<u8>,
 }
 
 /// No ranks yet, for so many nodes.
@@ -84,6 +85,8 @@ pub fn compact_rank(alloc: Global, store: Store) -> Result<Ranked, GivesUp>
 {
     let Store {
         memo: _,
+        tag_memo: _,
+        numbers: _,
         tags,
         text,
         mut items,

@@ -10,7 +10,7 @@ use crate::gives_up::GivesUp;
 use crate::nodes::Place;
 use crate::ranking::Ranked;
 use std::alloc::Global;
-use yaml_spell::node::is_short;
+use yaml_spell::node::short_len;
 use yaml_spell::shown::{Inside, Shown};
 
 impl Ranked {
@@ -44,14 +44,14 @@ impl Ranked {
     }
 }
 
-/// Whether each rank is short.
-pub(crate) fn shorts(alloc: Global, ranked: &Ranked) -> Result<Vec<bool>, GivesUp>
+/// How many bytes each rank takes if it is short, else 0.
+pub(crate) fn shorts(alloc: Global, ranked: &Ranked) -> Result<Vec<u8>, GivesUp>
     requires { Listed ranked.now }
     ensures { (s : Store) (good : Good s) → StoreListed s good ranked.now → IfOk result (λ shorts. shorts.items ≡ map (short_at s) ranked.now.first.items) }
 {
     let mut shorts = Vec::with_capacity(alloc, ranked.first.len())?;
     for rank in 0..ranked.first.len() {
-        shorts.push(is_short(&ranked.shown(rank)))?;
+        shorts.push(short_len(&ranked.shown(rank)) as u8)?;
     }
     Ok(shorts)
 }

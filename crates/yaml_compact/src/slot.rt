@@ -1,8 +1,9 @@
 //! What nodes of one height are compared by.
 ghost use Rattle.std.specs.Prelude.{◌≡◌, ◌+◌, ◌*◌, ◌<◌, ◌≤◌};
 ghost use Rattle.std.specs.List.{All};
-ghost use Rattle.yaml_compact.specs.NumberKeys.{two_of, flat};
-ghost use Rattle.yaml_compact.specs.KeyModel.{inside_cmp, kind_number, IsFront, IsFrontOf, RanksFit};
+ghost use Rattle.yaml_levels.specs.PrefixModel.{front, IsPrefix};
+ghost use Rattle.yaml_compact.specs.NumberKeys.{joined, four_of, flat};
+ghost use Rattle.yaml_compact.specs.KeyModel.{inside_cmp, kind_number, IsFrontOf, RanksFit};
 ghost use Rattle.yaml_compact.specs.SlotModel.{held, is_whole};
 
 use std::cmp::Ordering;
@@ -10,23 +11,25 @@ use std::cmp::Ordering;
 /// What the place of a tag is below.
 const PLACES: u32 = 1_073_741_824;
 
-/// A node's kind and the place of its tag in one number, the first bytes of its content or the first two
-/// ranks of its parts in another, and the node's number, by which the rest is found.
+/// A node's kind and the place of its tag in one number, the first bytes of its content or the first
+/// ranks of its parts in the halves of another, and the node's number, by which the rest is found. In
+/// halves, since one number of 128 bits would make a slot a third longer.
 #[derive(Clone, Copy)]
 pub(crate) struct Slot {
-    pub front: u64,
+    pub high: u64,
+    pub low: u64,
     pub head: u32,
     pub number: u32,
 }
 
-const _: () = prove!(size_of::<Slot>() == 16);
+const _: () = prove!(size_of::<Slot>() == 24);
 
 impl Slot {
-    /// Whether these are the numbers of a content that the second holds whole.
-    pub(crate) fn is_whole(self) -> bool
-        ensures { result ≡ is_whole self }
+    /// Whether these are the numbers of a content that they hold whole.
+    pub(crate) fn is_whole(&self) -> bool
+        ensures { result ≡ is_whole self.now }
     {
-        self.head < PLACES && self.front % 256 < 8
+        self.head < PLACES && self.low % 256 < 16
     }
 }
 
@@ -66,51 +69,90 @@ impl Rest<'_> {
         self.kind() * PLACES + tag
     }
 
-    /// The second number of a node with this inside.
-    pub(crate) fn front(&self) -> u64
+    /// The second number of a node with this inside, in halves.
+    pub(crate) fn front(&self) -> (u64, u64)
         requires { RanksFit (held self.now) }
-        ensures { IsFrontOf (held self.now) result }
+        ensures { IsFrontOf (held self.now) (joined result.0 result.1) }
     {
         match self {
             Rest::Text(text) => first_bytes(text),
-            Rest::Items(ranks) => two_items(ranks),
-            Rest::Entries(ranks) => two_entries(ranks),
+            Rest::Items(ranks) => four_items(ranks),
+            Rest::Entries(ranks) => four_in_entries(ranks),
         }
     }
 }
 
-/// The first seven bytes of a text as a number of base 256, with zeros for those that it lacks, and
-/// behind them its length, or 8 where it has more bytes than these.
-fn first_bytes(text: &[u8]) -> u64
-    ensures { IsFront text.now result }
+/// The first fifteen bytes of a text as a number of base 256, with zeros for those that it lacks, and
+/// behind them its length, or 16 where it has more bytes than these: the upper half of that number and
+/// the lower.
+fn first_bytes(text: &[u8]) -> (u64, u64)
+    ensures { IsPrefix text.now (joined result.0 result.1) }
 {
-    let mut front = 0u64;
-    for place in 0..7 {
-        let byte = text.get(place).copied().unwrap_or(0);
-        front = front * 256 + u64::from(byte);
-    }
-    front * 256 + text.len().min(8) as u64
+    let high = eight_bytes(text);
+    let next = if text.len() > 8 {
+        eight_bytes(&text[8..])
+    } else {
+        0
+    };
+    (high, next / 256 * 256 + text.len().min(16) as u64)
 }
 
-/// The first two ranks of a list, each one more, in one number.
-fn two_items(ranks: &[u32]) -> u64
+/// The first eight bytes of a text as a number of base 256, with zeros for those that it lacks. By
+/// patterns, so that those that it has are taken together.
+fn eight_bytes(text: &[u8]) -> u64
+    ensures { result ≡ front 8 text.now }
+{
+    match *text {
+        [a, b, c, d, e, f, g, h, ..] => u64::from_be_bytes([a, b, c, d, e, f, g, h]),
+        [a, b, c, d, e, f, g] => u64::from_be_bytes([a, b, c, d, e, f, g, 0]),
+        [a, b, c, d, e, f] => u64::from_be_bytes([a, b, c, d, e, f, 0, 0]),
+        [a, b, c, d, e] => u64::from_be_bytes([a, b, c, d, e, 0, 0, 0]),
+        [a, b, c, d] => u64::from_be_bytes([a, b, c, d, 0, 0, 0, 0]),
+        [a, b, c] => u64::from_be_bytes([a, b, c, 0, 0, 0, 0, 0]),
+        [a, b] => u64::from_be_bytes([a, b, 0, 0, 0, 0, 0, 0]),
+        [a] => u64::from_be_bytes([a, 0, 0, 0, 0, 0, 0, 0]),
+        [] => 0,
+    }
+}
+
+/// A rank, one more, as the first of two in one number.
+fn one(first: u32) -> u64
+    requires { first < 4294967295 }
+    ensures { result ≡ (first + 1) * 4294967296 }
+{
+    (u64::from(first) + 1) * 4_294_967_296
+}
+
+/// Two ranks, each one more, in one number.
+fn two(first: u32, second: u32) -> u64
+    requires { (first < 4294967295) × (second < 4294967295) }
+    ensures { result ≡ (first + 1) * 4294967296 + (second + 1) }
+{
+    one(first) + u64::from(second) + 1
+}
+
+/// The first four ranks of a list, each one more, in two numbers.
+fn four_items(ranks: &[u32]) -> (u64, u64)
     requires { All (λ r. r < 4294967295) ranks.now }
-    ensures { result ≡ two_of ranks.now }
+    ensures { joined result.0 result.1 ≡ four_of ranks.now }
 {
     match ranks {
-        [] => 0,
-        [first] => (u64::from(*first) + 1) * 4294967296,
-        [first, second, ..] => (u64::from(*first) + 1) * 4294967296 + (u64::from(*second) + 1),
+        [] => (0, 0),
+        [a] => (one(*a), 0),
+        [a, b] => (two(*a, *b), 0),
+        [a, b, c] => (two(*a, *b), one(*c)),
+        [a, b, c, d, ..] => (two(*a, *b), two(*c, *d)),
     }
 }
 
-/// The ranks of the first key and its value, each one more, in one number.
-fn two_entries(ranks: &[(u32, u32)]) -> u64
+/// The ranks of the first two keys and their values, each one more, in two numbers.
+fn four_in_entries(ranks: &[(u32, u32)]) -> (u64, u64)
     requires { All (λ p. (p.0 < 4294967295) × (p.1 < 4294967295)) ranks.now }
-    ensures { result ≡ two_of (flat ranks.now) }
+    ensures { joined result.0 result.1 ≡ four_of (flat ranks.now) }
 {
     match ranks {
-        [] => 0,
-        [(key, value), ..] => (u64::from(*key) + 1) * 4294967296 + (u64::from(*value) + 1),
+        [] => (0, 0),
+        [(key, value)] => (two(*key, *value), 0),
+        [(key, value), (next, last), ..] => (two(*key, *value), two(*next, *last)),
     }
 }

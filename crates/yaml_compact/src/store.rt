@@ -1,7 +1,6 @@
 //! Nodes by number, equal ones mostly merged.
 ghost use Rattle.std.specs.Prelude.{◌≡◌, ◌<◌, ◌≤◌, [], ◌∷◌, ◌++◌, true, false, List, length, Some, IfOk, IsTrue};
 ghost use Rattle.std.specs.Bool.{OnTrue};
-ghost use Rattle.std.specs.Option.{IfSome};
 ghost use Rattle.std.specs.List.{slice_get, slice_range, All};
 ghost use Rattle.yaml_definitions.specs.model.Tree.{Tree, scalar, heights};
 ghost use Rattle.yaml_definitions.specs.model.Limits as limit;
@@ -11,9 +10,10 @@ ghost use Rattle.yaml_compact.specs.StoreModel.{SpanWithin, AllMeasured, tag_at,
 ghost use Rattle.yaml_compact.specs.StoreGrows.{Good, Fits, Keeps, tags_of, trees_of, Stands};
 
 use crate::gives_up::GivesUp;
-use crate::memo::{Memo, hash_parts, hash_text};
+use crate::memo::{Memo, hash_parts, hash_tag, hash_text};
 use crate::nodes::{Collection, Kind, Node, Span};
 use std::alloc::Global;
+use std::collections::BTreeMap;
 use yaml_text::limits::height_limit;
 
 /// The nodes, each after its parts: their tags, each once; all contents one after the other, all items and
@@ -21,6 +21,9 @@ use yaml_text::limits::height_limit;
 #[derive(Drop)]
 pub struct Store {
     pub(crate) memo: Memo,
+    pub(crate) tag_memo: Memo,
+    /// The number of each tag. A number is believed only once its tag was compared.
+    pub(crate) numbers: BTreeMap<String, u32>,
     pub(crate) tags: Vec<String>,
     pub(crate) text: String,
     pub(crate) items: Vec<u32>,
@@ -31,18 +34,11 @@ pub struct Store {
 /// What every number of a node and every place is below.
 const ROOM: usize = 4_294_967_295;
 
-/// How many tags there may be. A tag is looked for among all of them.
-const TAGS: usize = 256;
+/// How many nodes are found again by a hash, at most.
+const NODES_SEEN: usize = 32_768;
 
-/// A tag's number, if there is room for it.
-fn tag_number(number: usize) -> Result<u8, GivesUp>
-    ensures { IfOk result (λ n. n ≡ number) }
-{
-    if number >= TAGS {
-        return Err(GivesUp);
-    }
-    Ok(number as u8)
-}
+/// How many tags are found again by a hash, at most. Others are looked for among all.
+const TAGS_SEEN: usize = 256;
 
 /// A place, if it fits.
 fn place(at: usize) -> Result<u32, GivesUp>
@@ -148,9 +144,12 @@ impl Store {
         ensures good { IfOk result Good }
         ensures empty { IfOk result (λ s. trees_of s ≡ []) }
     {
-        let memo = Memo::new(alloc)?;
+        let memo = Memo::new(alloc, NODES_SEEN)?;
+        let tag_memo = Memo::new(alloc, TAGS_SEEN)?;
         Ok(Store {
             memo,
+            tag_memo,
+            numbers: BTreeMap::new(alloc),
             tags: Vec::new(alloc),
             text: String::new(alloc),
             items: Vec::new(alloc),
@@ -159,35 +158,60 @@ impl Store {
         })
     }
 
-    /// The number of this tag, if it is there.
-    fn tag_of(&self, tag: &str) -> Option<usize>
-        ensures { IfSome result (λ i. slice_get (tags_of self.now) i ≡ Some tag.now) }
+    /// Whether this is the tag of that number.
+    fn is_tag(&self, number: u32, tag: &str) -> bool
+        ensures { IsTrue result → slice_get (tags_of self.now) number ≡ Some tag.now }
     {
-        for (number, text) in self.tags.iter().enumerate() {
-            if text.as_str() == tag {
-                return Some(number);
-            }
-        }
-        None
+        let Some(text) = self.tags.get(number as usize) else {
+            return false;
+        };
+        text.as_str() == tag
     }
 
-    /// The number of this tag, which is added if it is new.
-    pub fn tag(&mut self, alloc: Global, tag: &str) -> Result<u8, GivesUp>
+    /// The number of a new tag.
+    fn add_tag(&mut self, alloc: Global, tag: &str) -> Result<u32, GivesUp>
         ensures kept { Good self.old → IfOk result (λ _. Keeps self.old self.new) }
         ensures is { IfOk result (λ i. slice_get (tags_of self.new) i ≡ Some tag.now) }
     {
-        if let Some(found) = self.tag_of(tag) {
-            let number = tag_number(found)?;
-            return Ok(number);
-        }
-        let number = tag_number(self.tags.len())?;
+        let number = place(self.tags.len())?;
+        let key = String::from_str(alloc, tag)?;
+        self.numbers.insert(key, number)?;
         let text = String::from_str(alloc, tag)?;
         self.tags.push(text)?;
         Ok(number)
     }
 
+    /// The number of this tag, which is looked for among all of them, and added if it is new.
+    fn find_tag(&mut self, alloc: Global, tag: &str) -> Result<u32, GivesUp>
+        ensures kept { Good self.old → IfOk result (λ _. Keeps self.old self.new) }
+        ensures is { IfOk result (λ i. slice_get (tags_of self.new) i ≡ Some tag.now) }
+    {
+        let Some(number) = self.numbers.get(tag).copied() else {
+            return self.add_tag(alloc, tag);
+        };
+        if !self.is_tag(number, tag) {
+            return Err(GivesUp);
+        }
+        Ok(number)
+    }
+
+    /// The number of this tag, which is added if it is new.
+    pub fn tag(&mut self, alloc: Global, tag: &str) -> Result<u32, GivesUp>
+        ensures kept { Good self.old → IfOk result (λ _. Keeps self.old self.new) }
+        ensures is { IfOk result (λ i. slice_get (tags_of self.new) i ≡ Some tag.now) }
+    {
+        let hash = hash_tag(tag.as_bytes());
+        let seen = self.tag_memo.seen(hash);
+        if self.is_tag(seen, tag) {
+            return Ok(seen);
+        }
+        let number = self.find_tag(alloc, tag)?;
+        self.tag_memo.keep(hash, number);
+        Ok(number)
+    }
+
     /// Whether this node is a scalar of the same tag and content.
-    fn is_scalar(&self, seen: u32, tag: u8, content: &str) -> bool
+    fn is_scalar(&self, seen: u32, tag: u32, content: &str) -> bool
         ensures { Good self.now → IsTrue result → Stands self.now seen (scalar (tag_at (tags_of self.now) tag) content.now) }
     {
         let Some(node) = self.nodes.get(seen as usize) else {
@@ -200,7 +224,7 @@ impl Store {
     }
 
     /// Whether this node is a sequence of the same tag and items.
-    fn is_sequence(&self, seen: u32, tag: u8, items: &[u32]) -> bool
+    fn is_sequence(&self, seen: u32, tag: u32, items: &[u32]) -> bool
         ensures { Good self.now → IsTrue result → Stands self.now seen (collection_from false (tag_at (tags_of self.now) tag) (parts_at (trees_of self.now) items.now)) }
     {
         let Some(node) = self.nodes.get(seen as usize) else {
@@ -213,7 +237,7 @@ impl Store {
     }
 
     /// Whether this node is a mapping of the same tag and parts, a key and its value in turn.
-    fn is_mapping(&self, seen: u32, tag: u8, parts: &[u32]) -> bool
+    fn is_mapping(&self, seen: u32, tag: u32, parts: &[u32]) -> bool
         ensures { Good self.now → IsTrue result → Stands self.now seen (collection_from true (tag_at (tags_of self.now) tag) (parts_at (trees_of self.now) parts.now)) }
     {
         let Some(node) = self.nodes.get(seen as usize) else {
@@ -226,7 +250,7 @@ impl Store {
     }
 
     /// The number of a scalar: that of a node that was seen, if it is the same, else that of a new one.
-    fn add_scalar(&mut self, seen: u32, tag: u8, content: &str) -> Result<u32, GivesUp>
+    fn add_scalar(&mut self, seen: u32, tag: u32, content: &str) -> Result<u32, GivesUp>
         ensures kept { Good self.old → tag < length (tags_of self.old) → IfOk result (λ _. Keeps self.old self.new) }
         ensures stands { Good self.old → tag < length (tags_of self.old) → IfOk result (λ i. Stands self.new i (scalar (tag_at (tags_of self.old) tag) content.now)) }
     {
@@ -248,7 +272,7 @@ impl Store {
 
     /// The number of a sequence of these items: that of a node that was seen, if it is the same, else that
     /// of a new one.
-    fn add_sequence(&mut self, seen: u32, tag: u8, items: &[u32]) -> Result<u32, GivesUp>
+    fn add_sequence(&mut self, seen: u32, tag: u32, items: &[u32]) -> Result<u32, GivesUp>
         ensures kept { Fits self.old tag items.now → IfOk result (λ _. Keeps self.old self.new) }
         ensures stands { Fits self.old tag items.now → IfOk result (λ i. Stands self.new i (collection_from false (tag_at (tags_of self.old) tag) (parts_at (trees_of self.old) items.now))) }
     {
@@ -271,7 +295,7 @@ impl Store {
 
     /// The number of a mapping of these parts, a key and its value in turn: that of a node that was seen, if
     /// it is the same, else that of a new one.
-    fn add_mapping(&mut self, seen: u32, tag: u8, parts: &[u32]) -> Result<u32, GivesUp>
+    fn add_mapping(&mut self, seen: u32, tag: u32, parts: &[u32]) -> Result<u32, GivesUp>
         ensures kept { Fits self.old tag parts.now → IfOk result (λ _. Keeps self.old self.new) }
         ensures stands { Fits self.old tag parts.now → IfOk result (λ i. Stands self.new i (collection_from true (tag_at (tags_of self.old) tag) (parts_at (trees_of self.old) parts.now))) }
     {
@@ -300,7 +324,7 @@ impl Store {
         &mut self,
         seen: u32,
         collection: Collection,
-        tag: u8,
+        tag: u32,
         parts: &[u32],
     ) -> Result<u32, GivesUp>
         ensures kept { Fits self.old tag parts.now → IfOk result (λ _. Keeps self.old self.new) }
@@ -329,7 +353,7 @@ impl Store {
     pub fn collection(
         &mut self,
         collection: Collection,
-        tag: u8,
+        tag: u32,
         parts: &[u32],
     ) -> Result<u32, GivesUp>
         ensures kept { Fits self.old tag parts.now → IfOk result (λ _. Keeps self.old self.new) }

@@ -30,8 +30,8 @@ impl RankedNodes<u32> for Ranked {
         id as usize
     }
 
-    fn is_short(&self, id: u32) -> bool {
-        self.shorts[id as usize]
+    fn short_len(&self, id: u32) -> usize {
+        self.shorts[id as usize] as usize
     }
 
     fn tells(&self) {}

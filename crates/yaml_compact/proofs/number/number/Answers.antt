@@ -13,7 +13,7 @@ use Rattle.yaml_compact.proofs.number.number.Goals as goal
 use Rattle.yaml_compact.proofs.number.number.Goals.{then-place-eq0+in_ok-rank, then-place-eq0-via-then-place-eq0, then-place-eq0-via-else-place-eq0+then-is_below, else-place-eq0+else-is_below}
 
 abbrev none : Slot
-none = record { front = 0; head = 0; number = 0 }
+none = record { high = 0; low = 0; head = 0; number = 0 }
 
 pub loop-place-preserved : goal.loop-place-preserved
 loop-place-preserved c =

@@ -1,4 +1,4 @@
-use Rattle.std.proofs.Common.{Bool, Vec, Global, map, subst}
+use Rattle.std.proofs.Common.{ℕ, Vec, Global, map, subst}
 use Rattle.std.specs.String.{string_bytes}
 use Rattle.yaml_compact.specs.TagPlaces.{PlacesAre}
 use Rattle.yaml_compact.specs.StoreView.{view_of}
@@ -21,5 +21,5 @@ pub returns : goal.returns
 returns c = λ good.
     let s = c.args.store in
     let are = subst (λ z. PlacesAre (map string_bytes z) c.in_ok-places.places.items) c.deref.ensures.value c.in_ok-places.ensures.ok in
-    let listed = λ (shorts : Vec Bool Global). listed-as s good c.in_ok-places.places.items are _ _ _ _ _ _ _ c.in_ok-ranks.ranks c.in_ok-ranks.first shorts c.deref-2.ensures.value c.as_bytes.ensures.value c.deref_mut.ensures.value c.deref_mut-2.ensures.value c.deref-3.ensures.value c.rank_all.auto.items c.rank_all.auto.entries (c.in_ok-ranks.ensures (view_of s good)) in
+    let listed = λ (shorts : Vec ℕ Global). listed-as s good c.in_ok-places.places.items are _ _ _ _ _ _ _ c.in_ok-ranks.ranks c.in_ok-ranks.first shorts c.deref-2.ensures.value c.as_bytes.ensures.value c.deref_mut.ensures.value c.deref_mut-2.ensures.value c.deref-3.ensures.value c.rank_all.auto.items c.rank_all.auto.entries (c.in_ok-ranks.ensures (view_of s good)) in
     record { listed = listed _; shorts = c.in_ok-ranked.ensures s good (listed c.new.result) }

@@ -1,6 +1,6 @@
 use Rattle.std.proofs.Common.{rules}
 use Rattle.yaml_compact.proofs.WalkedLaws.{short-told, shorts-long}
-use Rattle.yaml_compact.proofs.walked.RankedRankedNodesU32.is_short.Goals as goal
+use Rattle.yaml_compact.proofs.walked.RankedRankedNodesU32.short_len.Goals as goal
 
 pub index-requires : goal.index-requires
 index-requires c =
