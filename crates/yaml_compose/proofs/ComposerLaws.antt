@@ -344,6 +344,23 @@ are-low tags text is es nodes stack us s a = all-low height_limit us (low-all ta
 pub left-in : (c : Composer) (s : machine.State) (os : List Open) (o : Open) → c.opens.items ≡ os ++ (o ∷ []) → Holds c s → Left (tags_of c.store) (trees_of c.store) (get_by_text c.names) c.anchored.items c.stack.items os o s.inner s.outer s.table
 left-in c s os o e h = keeping-left (tags_of c.store) (trees_of c.store) (get_by_text c.names) c.anchored.items c.stack.items c.opens.items os o s.inner s.outer s.table e h.keeping
 
+-- the roots where no collection is open
+pub record Roots (c : Composer) (s : machine.State) : Type 0 where
+  pub at : AllAt (trees_of c.store) c.stack.items s.inner
+  pub low : AreLow s.inner
+  pub count : length c.stack.items ≡ length s.inner
+
+pub roots-of : (c : Composer) (s : machine.State) → Holds c s → length c.opens.items ≤ 0 → Roots c s
+roots-of c s h l =
+    let k = c.store in
+    let n = outer-none (tags_of k) (trees_of k) (get_by_text c.names) c.anchored.items c.stack.items c.opens.items s.inner s.outer s.table h.keeping l in
+    let a = roots-only (tags_of k) (trees_of k) (get_by_text c.names) c.anchored.items c.stack.items c.opens.items s.inner s.outer s.table h.keeping n in
+    record {
+      at = a;
+      low = are-low (tags_of k) (string_bytes k.text) k.items.items k.entries.items k.nodes.items c.stack.items s.inner h.good a;
+      count = all-length (trees_of k) c.stack.items s.inner a;
+    }
+
 -- ---- kinds of collections
 
 pub begun-step : (k : Collection) (flow : Bool) (a : Anchor) (g : WrittenTag) (t : List ℕ) (s : machine.State) → collection_tag (collection_number k) g ≡ Ok t → machine.step 0 (start_of k flow a g) s ≡ Some (Ok (machine.collection_begun a s t))

@@ -3,9 +3,9 @@ use Rattle.std.proofs.Common.{◌≡◌, ◌≤◌, ℕ, ◌+◌, ◌-◌, min, 
 use Rattle.std.specs.Prelude.{None, Bool}
 use Rattle.yaml_definitions.specs.model.Event.{Event, stream_start, stream_end, document_end, mapping_start, untagged}
 use Rattle.yaml_definitions.specs.grammar.Events.{Props}
-use Rattle.yaml_sink.specs.Held.{Puts, Alters}
+use Rattle.yaml_sink.specs.Held.{Keeps, Puts, Alters}
 use Rattle.yaml_sink.specs.PropertyRules.{dressed}
-use Rattle.yaml_compose.specs.AheadModel.{Tells, all_dues}
+use Rattle.yaml_compose.specs.AheadModel.{Tells, GoesOn}
 use Rattle.yaml_compose.specs.WaitingModel.{waits, Precedes, DressesWaits, ComposesWaits}
 use Rattle.yaml_compose.specs.KeeperModel.{ComposesBut, Composes, MakesRoom, DressesOne}
 use Rattle.yaml_compose.specs.declared.ahead.Ahead.{Ahead}
@@ -25,6 +25,19 @@ all-composed k log ahead h g c =
 
 pub makes-room : (k new : Composing) → k.gave_up ≡ false → new.gave_up ≡ false → ComposesWaits k.count (waits k.waiting) k.ahead new.ahead → waits new.waiting ≡ [] → new.count ≡ k.count + 1 → MakesRoom k new
 makes-room k new g f c w n = record { count = n; gave_up = f; none = w; tells = λ log h. all-composed k log new.ahead h g c }
+
+-- what waited is composed, and nothing is known of what ended then
+pub goes-on : (n : ℕ) (es : List Event) (a b d : Ahead) → ComposesWaits n es a b → GoesOn b d → ComposesWaits n es a d
+goes-on n es a b d c g = record { is = λ log l t. g.tells (log ++ es) (c.is log l t) }
+
+-- what waited is composed, and the log is the same
+pub settles : (k new : Composing) → k.gave_up ≡ false → ComposesWaits k.count (waits k.waiting) k.ahead new.ahead → waits new.waiting ≡ [] → new.count ≡ k.count → Keeps Composes k new
+settles k new g c w n = record {
+  is = λ log h. record {
+    count = n ∙ h.count;
+    is = λ f. record { front = log; split = sym (append-nil log) ∙ ap (λ z. log ++ z) (sym w); tells = all-composed k log new.ahead h g c };
+  };
+}
 
 -- an event waits
 pub puts-waiting : (old room new : Composing) (e : Event) → MakesRoom old room → new.ahead ≡ room.ahead → new.count ≡ room.count → waits new.waiting ≡ e ∷ [] → Puts Composes old (e ∷ []) new
@@ -49,13 +62,13 @@ puts-rest : (old room : Composing) (e : Event) → MakesRoom old room → ((log 
 puts-rest old room e r t = puts-told old room room e r (record { is = t }) refl r.none
 
 pub puts-stream-start : (old room : Composing) → MakesRoom old room → Puts Composes old (stream_start ∷ []) room
-puts-stream-start old room r = puts-rest old room stream_start r (λ log t. (tells-rest room.ahead.composer (all_dues room.ahead) log t).0)
+puts-stream-start old room r = puts-rest old room stream_start r (λ log t. (tells-rest room.ahead log t).0)
 
 pub puts-stream-end : (old room : Composing) → MakesRoom old room → Puts Composes old (stream_end ∷ []) room
-puts-stream-end old room r = puts-rest old room stream_end r (λ log t. (tells-rest room.ahead.composer (all_dues room.ahead) log t).1)
+puts-stream-end old room r = puts-rest old room stream_end r (λ log t. (tells-rest room.ahead log t).1)
 
 pub puts-document-end : (old room : Composing) (explicit : Bool) → MakesRoom old room → Puts Composes old (document_end explicit ∷ []) room
-puts-document-end old room explicit r = puts-rest old room (document_end explicit) r (λ log t. (tells-rest room.ahead.composer (all_dues room.ahead) log t).2 explicit)
+puts-document-end old room explicit r = puts-rest old room (document_end explicit) r (λ log t. (tells-rest room.ahead log t).2 explicit)
 
 -- a mapping's start waits, too
 pub inserts : (old new : Composing) (start : ℕ) (flow : Bool) → old.gave_up ≡ false → old.count - start ≡ 1 → new.count ≡ old.count + 1 → new.ahead ≡ old.ahead → Precedes flow (waits old.waiting) (waits new.waiting)
@@ -69,6 +82,21 @@ inserts old new start flow g d n a p = record {
       record {
         count = omega (arith, n, h.count, length-append log es, length-append log (m ∷ es));
         is = λ f. record { front = b.front; split = (λ z. r.0 z ++ (m ∷ r.1 z)) ∙ ap (λ z. b.front ++ z) (sym p.is); tells = subst (λ z. Tells z b.front) (sym a) b.tells };
+      };
+}
+
+-- a mapping's start is put before a collection that ended
+pub inserts-ended : (old new : Composing) (start : ℕ) (flow : Bool) → old.gave_up ≡ false → waits old.waiting ≡ [] → new.waiting ≡ old.waiting → new.count ≡ old.count + 1 → Alters Tells start (λ es. mapping_start flow None untagged ∷ es) old.ahead new.ahead
+    → Alters Composes start (λ es. mapping_start flow None untagged ∷ es) old new
+inserts-ended old new start flow g w v n a = record {
+  is = λ log es s h.
+      let b = h.is g in
+      let whole : log ++ es ≡ b.front = b.split ∙ (ap (λ z. b.front ++ z) w ∙ append-nil b.front) in
+      let fs = mapping_start flow None untagged ∷ es in
+      let told = a.is log es s (subst (Tells old.ahead) (sym whole) b.tells) in
+      record {
+        count = omega (arith, n, h.count, length-append log es, length-append log fs);
+        is = λ f. record { front = log ++ fs; split = sym (append-nil (log ++ fs)) ∙ ap (λ z. (log ++ fs) ++ z) (sym (ap waits v ∙ w)); tells = told };
       };
 }
 

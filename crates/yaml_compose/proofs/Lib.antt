@@ -1,7 +1,8 @@
 pub mod ReachedLaws
 pub mod ComposerLaws
 pub mod LogLaws
-pub mod DueLaws
+pub mod NodeLaws
 pub mod AheadLaws
 pub mod WaitingLaws
+pub mod DueLaws
 pub mod KeeperLaws

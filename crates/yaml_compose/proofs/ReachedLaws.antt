@@ -1,15 +1,15 @@
 -- Events and the states that they come to, where nothing is refused.
-use Rattle.std.proofs.Common.{◌≡◌, ℕ, suc, List, [], ◌∷◌, ◌++◌, refl, sym, ◌∙◌, ap, subst, Result, Ok, Err}
+use Rattle.std.proofs.Common.{◌≡◌, ℕ, suc, List, [], ◌∷◌, ◌++◌, refl, sym, ◌∙◌, ap, subst, append-nil, Result, Ok, Err}
 use Rattle.std.specs.Prelude.{Option, None, Some}
 use Rattle.yaml_definitions.specs.model.Tree.{Tree}
 use Rattle.yaml_definitions.specs.model.Event.{Event, stream_start, stream_end, document_start, document_end, sequence_start, sequence_end, mapping_start, mapping_end, scalar_event, alias_event}
-use Rattle.yaml_definitions.specs.model.Serial.{Document}
+use Rattle.yaml_definitions.specs.model.Serial.{Document, stream_events}
 use Rattle.yaml_definitions.specs.model.Core.{Cause, resolve, collection_tag}
-use Rattle.yaml_definitions.specs.model.Unfold.{Outcome, and_then, placed, last_named, tree_named, trees_of}
+use Rattle.yaml_definitions.specs.model.Unfold.{Outcome, Table, and_then, placed, last_named, tree_named, trees_from, trees_of}
 use Rattle.yaml_graph.specs.Closing.{stream_trees}
-use Rattle.yaml_nodes.specs.ComposerSteps.{State, scalar_added, added, collection_begun, step, next, steps}
-use Rattle.yaml_graph.proofs.StepLaws.{comes_to, with_all, run-stream}
-use Rattle.yaml_compose.specs.Reached.{Reaches, StreamIsForest}
+use Rattle.yaml_nodes.specs.ComposerSteps.{State, Open, initial_state, scalar_added, added, collection_begun, step, next, steps}
+use Rattle.yaml_graph.proofs.StepLaws.{comes_to, with_all, run-documents}
+use Rattle.yaml_compose.specs.Reached.{Reaches, StreamIsForest, TwoStreamsAreForests}
 
 -- ---- numbers of events
 
@@ -67,15 +67,81 @@ reaches-both (e ∷ xs) ys s m t h k =
     let r : Reaches (xs ++ ys) f.middle t = reaches-both xs ys f.middle m t (steps-any xs 1 0 f.middle m f.rest) k in
     then 0 e (xs ++ ys) s f.middle t f.is (steps-any (xs ++ ys) 0 1 f.middle t r)
 
+-- a log's first part, and what goes on behind it
+pub record Parts (xs ys : List Event) (s t : State) : Type 0 where
+  pub middle : State
+  pub front : Reaches xs s middle
+  pub back : Reaches ys middle t
+
+pub reaches-parts : (xs ys : List Event) (s t : State) → Reaches (xs ++ ys) s t → Parts xs ys s t
+unfolding steps
+reaches-parts [] ys s t h = record { middle = s; front = refl; back = h }
+reaches-parts (e ∷ xs) ys s t h =
+    let f = first 0 e (xs ++ ys) s t h in
+    let r = reaches-parts xs ys f.middle t (steps-any (xs ++ ys) 1 0 f.middle t f.rest) in
+    record { middle = r.middle; front = then 0 e xs s f.middle r.middle f.is (steps-any xs 0 1 f.middle r.middle r.front); back = r.back }
+
+-- one event
+pub reaches-one : (e : Event) (s t : State) → step 0 e s ≡ Some (Ok t) → Reaches (e ∷ []) s t
+unfolding steps
+reaches-one e s t q = ap (λ o. next o (steps 1 [])) q
+
+one-from : (o : Option (Outcome State)) (t : State) → next o (steps 1 []) ≡ Some (Ok t) → o ≡ Some (Ok t)
+unfolding steps
+one-from None t h = absurd (cc)
+one-from (Some (Err e)) t h = absurd (cc)
+one-from (Some (Ok m)) t h = h
+
+pub one-reached : (e : Event) (s t : State) → Reaches (e ∷ []) s t → step 0 e s ≡ Some (Ok t)
+unfolding steps
+one-reached e s t h = one-from (step 0 e s) t h
+
+-- no log comes to two states
+one-state : (o : Option (Outcome State)) (s t : State) → o ≡ Some (Ok s) → o ≡ Some (Ok t) → s ≡ t
+one-state o s t h k = cc
+
+pub reaches-same : (es : List Event) (s t u : State) → Reaches es s t → Reaches es s u → t ≡ u
+reaches-same es s t u h k = one-state (steps 0 es s) t u h k
+
 -- ---- whole streams
 
-forest-of : (ds : List Document) (o : Outcome (List Tree)) (ts us : List Tree) → Some (Ok (ts, us)) ≡ Some (and_then o (with_all [] [] ds)) → o ≡ Ok ts
-forest-of ds (Ok f) ts us h =
+-- The documents unfold to trees, which stand behind these.
+record Adds (ds : List Document) (before after : List Tree) : Type 0 where
+  added : List Tree
+  unfolded : trees_of ds ≡ Ok added
+  is : after ≡ before ++ added
+
+added-of : (ds : List Document) (roots all : List Tree) (o : Outcome (List Tree)) (ts us : List Tree) → trees_of ds ≡ o → Some (Ok (ts, us)) ≡ Some (and_then o (with_all roots all ds)) → Adds ds roots ts
+added-of ds roots all (Ok f) ts us q h =
     let given : List Tree × List Tree = (ts, us) in
-    let made : List Tree × List Tree = (f, stream_trees ds f) in
-    let q : given ≡ made = cc in
-    ap Ok (sym (ap (λ p. p.0) q))
-forest-of ds (Err e) ts us h = absurd (cc)
+    let made : List Tree × List Tree = (roots ++ f, all ++ stream_trees ds f) in
+    let e : given ≡ made = cc in
+    record { added = f; unfolded = q; is = ap (λ p. p.0) e }
+added-of ds roots all (Err e) ts us q h = absurd (cc)
+
+-- a stream whose events follow where no collection is open
+adds-closed : (ds : List Document) (roots all : List Tree) (e : Table) (t : State) → Reaches (stream_events ds) (record { inner = roots; outer = []; table = e; done = all }) t → Adds ds roots t.inner
+unfolding steps step stream_events
+adds-closed ds roots all e t h = added-of ds roots all (trees_of ds) t.inner t.done refl (sym (ap comes_to h) ∙ run-documents ds 1 roots e all)
+
+-- a stream whose events follow anywhere: a document begins only where no collection is open
+adds : (ds : List Document) (roots all : List Tree) (outer : List Open) (e : Table) (t : State) → Reaches (stream_events ds) (record { inner = roots; outer = outer; table = e; done = all }) t → Adds ds roots t.inner
+unfolding steps step stream_events trees_from
+adds ds roots all [] e t h = adds-closed ds roots all e t h
+adds [] roots all (o ∷ os) e t h =
+    let s : State = record { inner = roots; outer = o ∷ os; table = e; done = all } in
+    let q : s ≡ t = cc in
+    record { added = []; unfolded = refl; is = sym (ap (λ z. z.inner) q) ∙ sym (append-nil roots) }
+adds (d ∷ ds) roots all (o ∷ os) e t h = absurd (cc)
 
 pub stream-is-forest : StreamIsForest
-stream-is-forest ds t h = forest-of ds (trees_of ds) t.inner t.done (sym (ap comes_to h) ∙ run-stream ds)
+stream-is-forest ds t h =
+    let a = adds-closed ds [] [] [] t h in
+    a.unfolded ∙ ap Ok (sym a.is)
+
+pub two-streams-are-forests : TwoStreamsAreForests
+two-streams-are-forests ds es t h =
+    let b = reaches-parts (stream_events ds) (stream_events es) initial_state t h in
+    let m = b.middle in
+    let a = adds es m.inner m.done m.outer m.table t b.back in
+    record { lefts = m.inner; rights = a.added; first = stream-is-forest ds m b.front; second = a.unfolded; is = a.is }

@@ -89,16 +89,25 @@ puts-none number es a e = record { is = λ log n t. subst (Tells a) (sym (append
 pub puts-late : (number : ℕ) (es fs : List Event) (a b : Ahead) → es ≡ fs → Puts Tells a fs b → PutsLate number es a b
 puts-late number es fs a b e p = record { is = λ log n t. subst (λ z. Tells b (log ++ z)) (sym e) (p.is log t) }
 
-pub starts-none : (m : Option Bool) (o : Props) (a : Ahead) → m ≡ None → Puts Tells a (start_before m o) a
-starts-none m o a e = record { is = λ log t. subst (Tells a) (sym (append-nil log) ∙ ap (λ z. log ++ start_before z o) (sym e)) t }
+pub starts-none : (m : Option Bool) (o : Props) (number : ℕ) (a : Ahead) → m ≡ None → ComposesWaits number (start_before m o) a a
+starts-none m o number a e = record { is = λ log l t. subst (Tells a) (sym (append-nil log) ∙ ap (λ z. log ++ start_before z o) (sym e)) t }
 
-pub composes-both : (m : Option Bool) (o : Props) (es : List Event) (count number : ℕ) (a b c : Ahead) → IsOne es → count ≡ number + 1 → Puts Tells a (start_before m o) b → PutsLate number es b c → ComposesWaits count (behind_start m o es) a c
+pub starts-some : (m : Option Bool) (flow : Bool) (o : Props) (number at : ℕ) (a b : Ahead) → m ≡ Some flow → number ≡ at + 1 → ((log : List Event) → at ≡ length log → Tells a log → Tells b (log ++ (mapping_start flow o.anchor o.tag ∷ [])))
+    → ComposesWaits number (start_before m o) a b
+starts-some m flow o number at a b e n k = record {
+  is = λ log l t.
+      let start = mapping_start flow o.anchor o.tag ∷ [] in
+      let is : log ++ start_before m o ≡ log ++ start = ap (λ z. log ++ start_before z o) e in
+      subst (Tells b) (sym is) (k log (omega (arith, n, l, ap length is, length-append log start)) t);
+}
+
+pub composes-both : (m : Option Bool) (o : Props) (es : List Event) (count number : ℕ) (a b c : Ahead) → IsOne es → count ≡ number + 1 → ComposesWaits number (start_before m o) a b → PutsLate number es b c → ComposesWaits count (behind_start m o es) a c
 composes-both m o es count number a b c w n p q = record {
   is = λ log l t.
       let s = start_before m o in
       let is : log ++ behind_start m o es ≡ (log ++ s) ++ es = ap (λ z. log ++ z) (behind-one m o es w ∙ ap (λ z. s ++ z) (sym w.is)) ∙ sym (append_assoc log s es) in
       let size : number ≡ length (log ++ s) = omega (arith, n, l, ap length is, length-append (log ++ s) es, ap length w.is) in
-      subst (Tells c) (sym is) (q.is (log ++ s) size (p.is log t));
+      subst (Tells c) (sym is) (q.is (log ++ s) size (p.is log size t));
 }
 
 pub composes-none : (count : ℕ) (es : List Event) (a : Ahead) → es ≡ [] → ComposesWaits count es a a

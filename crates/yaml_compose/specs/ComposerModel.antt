@@ -14,6 +14,7 @@ use Rattle.yaml_nodes.specs.GraphModel.{AreLow}
 use Rattle.yaml_compact.specs.StoreGrows.{tags_of, Good, trees_of}
 use Rattle.yaml_compact.specs.declared.nodes.Collection.{Collection}
 use Rattle.yaml_compact.specs.declared.nodes.Collection.TheVariants.{Sequence, Mapping}
+use Rattle.yaml_compose.specs.Reached.{UnfoldBoth}
 use Rattle.yaml_compose.specs.declared.composer.Open.{Open}
 use Rattle.yaml_compose.specs.declared.composer.Composer.{Composer}
 use Rattle.yaml_compose.specs.declared.composer.Forest.{Forest}
@@ -84,6 +85,14 @@ end_of Mapping = mapping_end
 pub record IsForest (ds : List Document) (f : Forest) : Type 0 where
   pub trees_are : List Tree
   pub unfolded : trees_unfolded ds ≡ Ok trees_are
+  pub low : AreLow trees_are
+  pub good : Good f.store
+  pub roots : AllAt (trees_of f.store) f.roots.items trees_are
+
+-- the same of the documents of two streams, the roots of the first before those of the second
+pub record AreForests (ds es : List Document) (f : Forest) : Type 0 where
+  pub trees_are : List Tree
+  pub unfolded : UnfoldBoth ds es trees_are
   pub low : AreLow trees_are
   pub good : Good f.store
   pub roots : AllAt (trees_of f.store) f.roots.items trees_are

@@ -1,4 +1,5 @@
 pub mod Reached
+pub mod Nodes
 pub mod TagModel
 pub mod ComposerModel
 pub mod ComposerLog

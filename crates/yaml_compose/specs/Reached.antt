@@ -1,5 +1,6 @@
 -- What events come to where nothing is refused.
-use Rattle.std.specs.Prelude.{◌≡◌, List, Ok, Some}
+use Rattle.std.specs.Prelude.{◌≡◌, ℕ, List, ◌++◌, length, Ok, Some}
+use Rattle.yaml_definitions.specs.model.Tree.{Tree}
 use Rattle.yaml_definitions.specs.model.Event.{Event}
 use Rattle.yaml_definitions.specs.model.Serial.{Document, stream_events}
 use Rattle.yaml_definitions.specs.model.Unfold.{trees_of}
@@ -11,3 +12,20 @@ Reaches es s t = steps 0 es s ≡ Some (Ok t)
 
 abbrev pub StreamIsForest : Type 0
 StreamIsForest = (ds : List Document) (t : State) → Reaches (stream_events ds) initial_state t → trees_of ds ≡ Ok t.inner
+
+-- The documents unfold to so many trees.
+pub record UnfoldTo (ds : List Document) (n : ℕ) : Type 0 where
+  pub trees_are : List Tree
+  pub unfolded : trees_of ds ≡ Ok trees_are
+  pub count : n ≡ length trees_are
+
+-- The documents of two streams unfold to these trees, those of the first stream before those of the second.
+pub record UnfoldBoth (ds es : List Document) (ts : List Tree) : Type 0 where
+  pub lefts : List Tree
+  pub rights : List Tree
+  pub first : trees_of ds ≡ Ok lefts
+  pub second : trees_of es ≡ Ok rights
+  pub is : ts ≡ lefts ++ rights
+
+abbrev pub TwoStreamsAreForests : Type 0
+TwoStreamsAreForests = (ds es : List Document) (t : State) → Reaches (stream_events ds ++ stream_events es) initial_state t → UnfoldBoth ds es t.inner

@@ -1,16 +1,17 @@
 //! A composer that knows the properties of a flow collection before the log of events has them.
 ghost use Rattle.std.specs.Prelude.{◌≡◌, Bool, List, [], ◌∷◌, ◌++◌, length, None, IfOk};
 ghost use Rattle.std.specs.Bool.{OnFalse};
-ghost use Rattle.yaml_definitions.specs.model.Event.{Event, document_start, scalar_event, alias_event};
+ghost use Rattle.yaml_definitions.specs.model.Event.{Event, untagged, document_start, mapping_start, scalar_event, alias_event};
 ghost use Rattle.yaml_definitions.specs.model.Serial.{Document, stream_events};
 ghost use Rattle.yaml_definitions.specs.grammar.Events.{Props};
 ghost use Rattle.yaml_text.specs.EventModel.{style_of};
 ghost use Rattle.yaml_sink.specs.Held.{Puts, Alters};
 ghost use Rattle.yaml_sink.specs.PropertyRules.{props_of, with_props, dressed};
 ghost use Rattle.yaml_sink.specs.SinkModel.{start_of, end_of};
-ghost use Rattle.yaml_compose.specs.ComposerModel.{IsForest};
+ghost use Rattle.yaml_compose.specs.Reached.{UnfoldTo};
+ghost use Rattle.yaml_compose.specs.ComposerModel.{IsForest, AreForests};
 ghost use Rattle.yaml_compose.specs.TagModel.{kind_in};
-ghost use Rattle.yaml_compose.specs.AheadModel.{Tells};
+ghost use Rattle.yaml_compose.specs.AheadModel.{settled, Tells, IsPaid, GoesOn};
 
 use crate::composer::{Composer, Forest};
 use crate::copies::are_same;
@@ -22,22 +23,23 @@ use yaml_sink::properties::Properties;
 use yaml_sink::sink::Collection;
 use yaml_text::event::Style;
 
-/// Properties with which a collection was composed, and which its event has not yet in the log.
+/// A collection that began.
 #[derive(Drop)]
-pub(crate) struct Due {
-    /// The number of the event.
+pub(crate) struct Begun {
+    /// The number of its first event.
     at: usize,
-    given: Properties<'static>,
+    /// Properties with which it was composed, and which that event has not yet in the log.
+    due: Option<Properties<'static>>,
 }
 
 /// A composer, and what it knows that the log does not say yet.
 #[derive(Drop)]
 pub(crate) struct Ahead {
     composer: Composer,
-    /// What is due for each open collection, the innermost last.
-    dues: Vec<Option<Due>>,
-    /// What is due for the collection that ended last.
-    ended: Option<Due>,
+    /// The open collections, the innermost last.
+    opens: Vec<Begun>,
+    /// The collection that ended last, where nothing came after it.
+    ended: Option<Begun>,
 }
 
 /// A kind of collection, as nodes have it.
@@ -50,6 +52,40 @@ fn kind_of(collection: Collection) -> nodes::Collection
     }
 }
 
+/// What is due to a mapping that begins without properties before its first key: a block mapping gets its own after that, and is
+/// composed with none.
+fn due_before_key(flow: bool) -> Option<Properties<'static>>
+    ensures { settled result (mapping_start flow None untagged) ≡ mapping_start flow None untagged }
+{
+    if flow { None } else { Some(Properties::none()) }
+}
+
+impl Begun {
+    /// Whether something is due.
+    fn owes(&self) -> bool
+        ensures { OnFalse result (self.now.due ≡ None) }
+    {
+        self.due.is_some()
+    }
+
+    /// The same once its event, which has this number, has got these properties, if they are those that are due.
+    fn paid(self, start: usize, properties: &Properties<'_>) -> Result<Begun, GivesUp>
+        ensures { IfOk result (IsPaid self start (props_of properties.now)) }
+    {
+        let Begun { at, due } = self;
+        let Some(given) = due else {
+            return Err(GivesUp);
+        };
+        if at != start {
+            return Err(GivesUp);
+        }
+        if are_same(&given, properties) {
+            return Ok(Begun { at, due: None });
+        }
+        Err(GivesUp)
+    }
+}
+
 impl Ahead {
     /// No event yet.
     pub(crate) fn new(alloc: Global) -> Result<Ahead, GivesUp>
@@ -58,16 +94,23 @@ impl Ahead {
         let composer = Composer::new(alloc)?;
         Ok(Ahead {
             composer,
-            dues: Vec::new(alloc),
+            opens: Vec::new(alloc),
             ended: None,
         })
     }
 
-    /// Whether something is due for a collection that ended.
-    fn owes(&self) -> bool
-        ensures { OnFalse result (self.now.ended ≡ None) }
+    /// An event follows behind the collection that ended last, to which nothing may be due then.
+    pub(crate) fn go_on(&mut self) -> Result<(), GivesUp>
+        ensures { IfOk result (λ _. GoesOn self.old self.new) }
     {
-        self.ended.is_some()
+        let Some(begun) = &self.ended else {
+            return Ok(());
+        };
+        if begun.owes() {
+            return Err(GivesUp);
+        }
+        self.ended = None;
+        Ok(())
     }
 
     /// A scalar with these properties.
@@ -80,6 +123,7 @@ impl Ahead {
     ) -> Result<(), GivesUp>
         ensures { IfOk result (λ _. Puts Tells self.old (scalar_event (props_of properties.now).anchor (props_of properties.now).tag (style_of style) text.now ∷ []) self.new) }
     {
+        self.go_on()?;
         self.composer.scalar(alloc, properties, style, text)?;
         Ok(())
     }
@@ -88,24 +132,24 @@ impl Ahead {
     pub(crate) fn alias(&mut self, name: &str) -> Result<(), GivesUp>
         ensures { IfOk result (λ _. Puts Tells self.old (alias_event name.now ∷ []) self.new) }
     {
+        self.go_on()?;
         self.composer.alias(name)?;
         Ok(())
     }
 
-    /// A collection begins that has these properties in the log.
+    /// A collection begins with the event of this number, which has these properties in the log.
     pub(crate) fn begin(
         &mut self,
         alloc: Global,
         collection: Collection,
+        at: usize,
         properties: &Properties<'_>,
     ) -> Result<(), GivesUp>
-        ensures { IfOk result (λ _. (flow : Bool) → Puts Tells self.old (with_props (props_of properties.now) (start_of collection flow) ∷ []) self.new) }
+        ensures { IfOk result (λ _. (flow : Bool) (log : List Event) → at ≡ length log → Tells self.old log → Tells self.new (log ++ (with_props (props_of properties.now) (start_of collection flow) ∷ []))) }
     {
-        if self.owes() {
-            return Err(GivesUp);
-        }
+        self.go_on()?;
         self.composer.begin(alloc, kind_of(collection), properties)?;
-        self.dues.push(None)?;
+        self.opens.push(Begun { at, due: None })?;
         Ok(())
     }
 
@@ -119,11 +163,12 @@ impl Ahead {
     ) -> Result<(), GivesUp>
         ensures { IfOk result (λ _. (flow : Bool) (p : Props) (log : List Event) → at ≡ length log → Tells self.old log → Tells self.new (log ++ (with_props p (start_of collection flow) ∷ []))) }
     {
-        if self.owes() {
-            return Err(GivesUp);
-        }
+        self.go_on()?;
         self.composer.begin(alloc, kind_of(collection), &given)?;
-        self.dues.push(Some(Due { at, given }))?;
+        self.opens.push(Begun {
+            at,
+            due: Some(given),
+        })?;
         Ok(())
     }
 
@@ -131,14 +176,12 @@ impl Ahead {
     pub(crate) fn end(&mut self, collection: Collection) -> Result<(), GivesUp>
         ensures { IfOk result (λ _. Puts Tells self.old (end_of collection ∷ []) self.new) }
     {
-        if self.owes() {
-            return Err(GivesUp);
-        }
-        let Some(due) = self.dues.pop() else {
+        self.go_on()?;
+        let Some(begun) = self.opens.pop() else {
             return Err(GivesUp);
         };
-        self.ended = due;
         self.composer.end(kind_of(collection))?;
+        self.ended = Some(begun);
         Ok(())
     }
 
@@ -146,39 +189,84 @@ impl Ahead {
     pub(crate) fn document(&mut self) -> Result<(), GivesUp>
         ensures { IfOk result (λ _. (explicit : Bool) → Puts Tells self.old (document_start explicit ∷ []) self.new) }
     {
+        self.go_on()?;
+        if self.opens.len() > 0 {
+            return Err(GivesUp);
+        }
         self.composer.document()?;
         Ok(())
     }
 
-    /// The first event since a mark, that of the collection which ended last, gets the properties that are due.
+    /// A mapping without properties begins before the collection that ended last, whose first event stands at this mark.
+    pub(crate) fn precede(&mut self, alloc: Global, start: usize, flow: bool) -> Result<(), GivesUp>
+        ensures { IfOk result (λ _. Alters Tells start (λ es. mapping_start flow None untagged ∷ es) self.old self.new) }
+    {
+        let Some(begun) = mem::replace(&mut self.ended, None) else {
+            return Err(GivesUp);
+        };
+        if begun.at != start {
+            return Err(GivesUp);
+        }
+        if begun.owes() {
+            return Err(GivesUp);
+        }
+        self.composer.precede(alloc)?;
+        let due = due_before_key(flow);
+        self.opens.push(Begun { at: start, due })?;
+        Ok(())
+    }
+
+    /// The first event since a mark, that of the collection which ended last, or else of the innermost one, gets the properties
+    /// that are due.
     pub(crate) fn pay(&mut self, start: usize, properties: &Properties<'_>) -> Result<(), GivesUp>
         ensures { IfOk result (λ _. Alters Tells start (dressed (props_of properties.now)) self.old self.new) }
     {
-        let Some(due) = mem::replace(&mut self.ended, None) else {
-            return Err(GivesUp);
-        };
-        if due.at != start {
-            return Err(GivesUp);
-        }
-        if are_same(&due.given, properties) {
+        if let Some(begun) = mem::replace(&mut self.ended, None) {
+            let paid = begun.paid(start, properties)?;
+            self.ended = Some(paid);
             return Ok(());
         }
-        Err(GivesUp)
+        let Some(begun) = self.opens.pop() else {
+            return Err(GivesUp);
+        };
+        let paid = begun.paid(start, properties)?;
+        self.opens.push(paid)?;
+        Ok(())
     }
 
-    /// The stream ends.
-    pub(crate) fn finish(self) -> Result<Forest, GivesUp>
-        ensures { (ds : List Document) → Tells self (stream_events ds) → IfOk result (IsForest ds) }
+    /// Whether a collection ended last, with nothing behind it.
+    fn is_behind_end(&self) -> bool
+        ensures { OnFalse result (self.now.ended ≡ None) }
     {
-        if self.owes() {
+        self.ended.is_some()
+    }
+
+    /// How many documents there are, where no collection is open or just ended.
+    pub(crate) fn documents(&self) -> Result<usize, GivesUp>
+        ensures { (ds : List Document) → Tells self.now (stream_events ds) → IfOk result (UnfoldTo ds) }
+    {
+        if self.is_behind_end() {
             return Err(GivesUp);
         }
+        if self.opens.len() > 0 {
+            return Err(GivesUp);
+        }
+        self.composer.documents()
+    }
+
+    /// The stream ends, or the second of two.
+    pub(crate) fn finish(self) -> Result<Forest, GivesUp>
+        ensures forest { (ds : List Document) → Tells self (stream_events ds) → IfOk result (IsForest ds) }
+        ensures both { (ds es : List Document) → Tells self (stream_events ds ++ stream_events es) → IfOk result (AreForests ds es) }
+    {
+        let mut ahead = self;
+        ahead.go_on()?;
         let Ahead {
             composer,
-            dues,
+            opens,
             ended: _,
-        } = self;
-        if dues.len() > 0 {
+        } = ahead;
+        if opens.len() > 0 {
             return Err(GivesUp);
         }
         let forest = composer.finish()?;

@@ -1,17 +1,19 @@
 //! From nodes, as they begin and end, to nodes of a store. It may give up.
-ghost use Rattle.std.specs.Prelude.{◌≡◌, ℕ, Bool, List, length, drop, IfOk};
+ghost use Rattle.std.specs.Prelude.{◌≡◌, ℕ, Bool, List, ◌∷◌, ◌++◌, length, drop, None, IfOk};
 ghost use Rattle.std.specs.Option.{option_map};
 ghost use Rattle.std.specs.Cow.{cow_str_bytes};
 ghost use Rattle.yaml_definitions.specs.model.Tree.{Tree};
-ghost use Rattle.yaml_definitions.specs.model.Event.{Anchor, document_start, scalar_event, alias_event};
+ghost use Rattle.yaml_definitions.specs.model.Event.{Anchor, Event, untagged, document_start, mapping_start, scalar_event, alias_event};
 ghost use Rattle.yaml_definitions.specs.model.Serial.{Document, stream_events};
 ghost use Rattle.yaml_text.specs.EventModel.{written_of, style_of};
 ghost use Rattle.yaml_sink.specs.PropertyRules.{props_of};
 ghost use Rattle.yaml_nodes.specs.ComposerModel.{names_of, Placed};
 ghost use Rattle.yaml_nodes.specs.ComposerSteps.{State, initial_state, node_begun, whole};
 ghost use Rattle.yaml_compact.specs.StoreGrows.{Stands};
-ghost use Rattle.yaml_compose.specs.Reached.{Reaches};
-ghost use Rattle.yaml_compose.specs.ComposerModel.{anchor_text, Holds, Stepped, IsForest, start_of, end_of};
+ghost use Rattle.yaml_compose.specs.Reached.{Reaches, UnfoldTo};
+ghost use Rattle.yaml_compose.specs.Nodes.{AreNodes};
+ghost use Rattle.yaml_compose.specs.ComposerModel.{anchor_text, Holds, Stepped, IsForest, AreForests, start_of, end_of};
+ghost use Rattle.yaml_compose.specs.ComposerLog.{Follows};
 
 use crate::tag::tag_of;
 use std::alloc::Global;
@@ -31,7 +33,7 @@ pub(crate) struct Open {
     place: Option<usize>,
     collection: Collection,
     /// The number of its tag.
-    tag: u8,
+    tag: u32,
     /// How many whole nodes stand before its own.
     mark: usize,
 }
@@ -94,9 +96,20 @@ impl Composer {
         Ok(())
     }
 
-    /// The stream ends.
+    /// How many documents there are, where no collection is open.
+    pub(crate) fn documents(&self) -> Result<usize, GivesUp>
+        ensures { (ds : List Document) (s : State) → Reaches (stream_events ds) initial_state s → Holds self.now s → IfOk result (UnfoldTo ds) }
+    {
+        if self.opens.len() > 0 {
+            return Err(GivesUp);
+        }
+        Ok(self.stack.len())
+    }
+
+    /// The stream ends, or the second of two.
     pub(crate) fn finish(self) -> Result<Forest, GivesUp>
-        ensures { (ds : List Document) (s : State) → Reaches (stream_events ds) initial_state s → Holds self s → IfOk result (IsForest ds) }
+        ensures forest { (ds : List Document) (s : State) → Reaches (stream_events ds) initial_state s → Holds self s → IfOk result (IsForest ds) }
+        ensures both { (ds es : List Document) (s : State) → Reaches (stream_events ds ++ stream_events es) initial_state s → Holds self s → IfOk result (AreForests ds es) }
     {
         let Composer {
             store,
@@ -240,6 +253,24 @@ impl Composer {
                 &given.tag,
             ),
         }
+    }
+
+    /// A mapping without properties begins before the node that became whole last.
+    pub(crate) fn precede(&mut self, alloc: Global) -> Result<(), GivesUp>
+        ensures { (front es : List Event) → AreNodes 1 es → Follows self.old (front ++ es) → IfOk result (λ _. (flow : Bool) → Follows self.new (front ++ (mapping_start flow None untagged ∷ es))) }
+    {
+        let text = tag_of(Collection::Mapping, &EventTag::None)?;
+        let number = self.store.tag(alloc, text)?;
+        let Some(mark) = self.stack.len().checked_sub(1) else {
+            return Err(GivesUp);
+        };
+        self.opens.push(Open {
+            place: None,
+            collection: Collection::Mapping,
+            tag: number,
+            mark,
+        })?;
+        Ok(())
     }
 
     /// The innermost collection ends.

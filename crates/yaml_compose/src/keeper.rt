@@ -1,12 +1,13 @@
 //! A keeper of a reader's events that composes them.
-ghost use Rattle.std.specs.Prelude.{◌≡◌, Bool, List, [], ◌∷◌, None, IfOk, IfErr};
+ghost use Rattle.std.specs.Prelude.{◌≡◌, Bool, List, [], ◌∷◌, ◌++◌, None, IfOk, IfErr};
 ghost use Rattle.yaml_definitions.specs.model.Event.{Event as PlainEvent, untagged, scalar_event, alias_event, document_start, mapping_start};
 ghost use Rattle.yaml_definitions.specs.model.Serial.{Document, stream_events};
 ghost use Rattle.yaml_text.specs.EventModel.{event_of, style_of};
-ghost use Rattle.yaml_sink.specs.Held.{Puts, Alters};
+ghost use Rattle.yaml_sink.specs.Held.{Keeps, Puts, Alters};
 ghost use Rattle.yaml_sink.specs.PropertyRules.{props_of};
 ghost use Rattle.yaml_sink.specs.SinkModel.{start_of, end_of};
-ghost use Rattle.yaml_compose.specs.ComposerModel.{IsForest};
+ghost use Rattle.yaml_compose.specs.Reached.{UnfoldTo};
+ghost use Rattle.yaml_compose.specs.ComposerModel.{IsForest, AreForests};
 ghost use Rattle.yaml_compose.specs.KeeperModel.{Composes, MakesRoom, DressesOne};
 
 use crate::ahead::Ahead;
@@ -21,8 +22,9 @@ use yaml_sink::sink::{Collection, Keeper};
 use yaml_text::event::{Event, Style};
 use yaml_text::fault::Fault;
 
-/// A reader's events, composed as they come. It gives up where a node has no tree, where a number does not fit, where a key is a
-/// collection, and where a collection gets properties that it did not know when it began; then it says that there is no memory.
+/// A reader's events, composed as they come. It gives up where a node has no tree, where a number does not fit, and where a
+/// collection gets properties that it did not know when it began, as those of a block mapping are whose first key is a collection.
+/// Then it says that there is no memory.
 #[derive(Drop)]
 pub struct Composing {
     alloc: Global,
@@ -143,25 +145,30 @@ impl Composing {
         }
     }
 
-    /// Puts a mapping's start before the event that waits, which was put down at this mark.
+    /// Puts a mapping's start before what was put down since a mark: the event that waits, or a collection that just ended.
     fn put_before(&mut self, start: usize, flow: bool) -> Result<(), GivesUp>
         ensures { IfOk result (λ _. Alters Composes start (λ es. mapping_start flow None untagged ∷ es) self.old self.new) }
     {
         if self.gave_up {
             return Err(GivesUp);
         }
-        if self.count.saturating_sub(start) != 1 {
-            return Err(GivesUp);
-        }
         let Some(count) = self.count.checked_add(1) else {
             return Err(GivesUp);
         };
+        if self.waiting.is_none() {
+            self.ahead.precede(self.alloc, start, flow)?;
+            self.count = count;
+            return Ok(());
+        }
+        if self.count.saturating_sub(start) != 1 {
+            return Err(GivesUp);
+        }
         self.waiting.precede(flow)?;
         self.count = count;
         Ok(())
     }
 
-    /// Puts properties on the first event since a mark: on one that waits, or on that of the collection which ended last.
+    /// Puts properties on the first event since a mark: on one that waits, or on that of the collection which ended or began last.
     fn put_on(&mut self, start: usize, properties: &Properties<'_>) -> Result<(), GivesUp>
         ensures ok { IfOk result (λ _. DressesOne self.old start (props_of properties.now) self.new) }
         ensures count { self.new.count ≡ self.old.count }
@@ -179,9 +186,25 @@ impl Composing {
         Ok(())
     }
 
-    /// The nodes of a whole stream.
+    /// How many documents a whole stream has. The events of a second one may follow.
+    pub fn documents(&mut self) -> Result<usize, GivesUp>
+        ensures count { (ds : List Document) → Composes self.old (stream_events ds) → IfOk result (UnfoldTo ds) }
+        ensures keeps { IfOk result (λ _. Keeps Composes self.old self.new) }
+    {
+        if self.gave_up {
+            return Err(GivesUp);
+        }
+        self.waiting
+            .compose(self.alloc, &mut self.ahead, self.count)?;
+        self.ahead.go_on()?;
+        let documents = self.ahead.documents()?;
+        Ok(documents)
+    }
+
+    /// The nodes of a whole stream, or of two.
     pub fn finish(self) -> Result<Forest, GivesUp>
-        ensures { (ds : List Document) → Composes self (stream_events ds) → IfOk result (IsForest ds) }
+        ensures forest { (ds : List Document) → Composes self (stream_events ds) → IfOk result (IsForest ds) }
+        ensures both { (ds es : List Document) → Composes self (stream_events ds ++ stream_events es) → IfOk result (AreForests ds es) }
     {
         let Composing {
             alloc,

@@ -1,10 +1,15 @@
 //! Laws of what events come to. Each function has an empty body, and its contract is a law.
 ghost use Rattle.yaml_compose.specs.ComposerLog.{FollowsNone, FollowsStep, FollowsRest};
-ghost use Rattle.yaml_compose.specs.Reached.{StreamIsForest};
+ghost use Rattle.yaml_compose.specs.Reached.{StreamIsForest, TwoStreamsAreForests};
 
 /// The roots after a stream's events are its forest.
 pub fn stream_is_forest()
     ensures { StreamIsForest }
+{}
+
+/// The roots after the events of two streams are the forest of the first, and then that of the second.
+pub fn two_streams_are_forests()
+    ensures { TwoStreamsAreForests }
 {}
 
 /// A composer whose calls are those of the events that were put down follows them.

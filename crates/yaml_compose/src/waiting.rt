@@ -3,9 +3,7 @@ ghost use Rattle.std.specs.Prelude.{◌≡◌, [], IfOk};
 ghost use Rattle.std.specs.Bool.{OnTrue, OnFalse};
 ghost use Rattle.std.specs.String.{string_bytes};
 ghost use Rattle.yaml_definitions.specs.grammar.Events.{no_props};
-ghost use Rattle.yaml_sink.specs.Held.{Puts};
 ghost use Rattle.yaml_sink.specs.PropertyRules.{props_of};
-ghost use Rattle.yaml_compose.specs.AheadModel.{Tells};
 ghost use Rattle.yaml_compose.specs.WaitingModel.{late_event, start_before, waits, IsOne, PutsLate, ComposesWaits, Precedes, DressesWaits};
 
 use crate::ahead::Ahead;
@@ -126,14 +124,17 @@ impl Waiting {
         Ok(())
     }
 
-    /// Composes the mapping's start, if there is one.
-    fn compose_start(&self, alloc: Global, ahead: &mut Ahead) -> Result<(), GivesUp>
-        ensures { IfOk result (λ _. Puts Tells ahead.old (start_before self.now.mapping (props_of self.now.outer)) ahead.new) }
+    /// Composes the mapping's start, if there is one, before the event of this number.
+    fn compose_start(&self, alloc: Global, ahead: &mut Ahead, number: usize) -> Result<(), GivesUp>
+        ensures { IfOk result (λ _. ComposesWaits number (start_before self.now.mapping (props_of self.now.outer)) ahead.old ahead.new) }
     {
         let Some(_) = self.mapping else {
             return Ok(());
         };
-        ahead.begin(alloc, Collection::Mapping, &self.outer)?;
+        let Some(at) = number.checked_sub(1) else {
+            return Err(GivesUp);
+        };
+        ahead.begin(alloc, Collection::Mapping, at, &self.outer)?;
         Ok(())
     }
 
@@ -158,7 +159,7 @@ impl Waiting {
             }
             Late::Start(collection, _) => match mem::replace(&mut self.due, None) {
                 None => {
-                    ahead.begin(alloc, collection, &self.own)?;
+                    ahead.begin(alloc, collection, number, &self.own)?;
                     Ok(())
                 }
                 Some(owned) => {
@@ -186,7 +187,7 @@ impl Waiting {
         let Some(number) = count.checked_sub(1) else {
             return Err(GivesUp);
         };
-        self.compose_start(alloc, ahead)?;
+        self.compose_start(alloc, ahead, number)?;
         self.compose_late(alloc, ahead, number)?;
         self.late = Late::Nothing;
         Ok(())

@@ -230,7 +230,8 @@ then-then : {X Y Z : Type 0} (o : Outcome X) (f : X → Outcome Y) (g : Y → Ou
 then-then (Err e) f g = refl
 then-then (Ok x) f g = refl
 
-run-documents : (ds : List Document) (at : ℕ) (roots : List Tree) (e : Table) (all : List Tree) →
+-- the steps over documents where no collection is open
+pub run-documents : (ds : List Document) (at : ℕ) (roots : List Tree) (e : Table) (all : List Tree) →
     comes_to (steps at (documents_events ds (stream_end ∷ [])) (record { inner = roots; outer = []; table = e; done = all })) ≡ Some (and_then (trees_from at ds) (with_all roots all ds))
 unfolding steps step trees_from stream_trees
 run-documents [] at roots e all = λ z. Some (Ok (sym (append-nil roots) z, sym (append-nil all) z))

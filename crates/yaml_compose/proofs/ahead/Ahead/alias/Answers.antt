@@ -1,7 +1,11 @@
+use Rattle.std.proofs.Common.{reverse}
 use Rattle.yaml_definitions.specs.model.Event.{alias_event}
-use Rattle.yaml_compose.specs.AheadModel.{all_dues}
-use Rattle.yaml_compose.proofs.DueLaws.{tells-step}
+use Rattle.yaml_compose.proofs.NodeLaws.{alias-node}
+use Rattle.yaml_compose.proofs.DueLaws.{tells-node}
 use Rattle.yaml_compose.proofs.ahead.Ahead.alias.Goals as goal
 
 pub returns : goal.returns
-returns c = let self = c.args.self.now in record { is = tells-step self.composer c.alias.new.self (all_dues self) (alias_event c.args.name.now) c.in_ok-alias.ensures }
+returns c =
+    let mid = c.go_on.new.self in
+    let x = c.args.name.now in
+    record { is = λ log t. tells-node mid.composer c.alias.new.self mid.ended (reverse mid.opens.items) (alias_event x) c.in_ok-go_on.ensures.none (alias-node x) c.in_ok-alias.ensures log (c.in_ok-go_on.ensures.tells log t) }

@@ -1,7 +1,12 @@
+use Rattle.std.proofs.Common.{arith}
 use Rattle.yaml_definitions.specs.model.Event.{document_start}
-use Rattle.yaml_compose.specs.AheadModel.{all_dues}
-use Rattle.yaml_compose.proofs.DueLaws.{tells-step}
+use Rattle.yaml_compose.proofs.DueLaws.{tells-outside}
 use Rattle.yaml_compose.proofs.ahead.Ahead.document.Goals as goal
 
 pub returns : goal.returns
-returns c = λ explicit. let self = c.args.self.now in record { is = tells-step self.composer c.document.new.self (all_dues self) (document_start explicit) (λ s h. c.in_ok-document.ensures s h explicit) }
+returns c = λ explicit.
+    let mid = c.go_on.new.self in
+    record {
+      is = λ log t.
+          tells-outside mid.composer c.document.new.self mid.ended mid.opens.items (document_start explicit) c.in_ok-go_on.ensures.none (omega (arith, c.len.ensures, mid.opens.ok.0, c.if-len-gt0.false)) (λ s h. c.in_ok-document.ensures s h explicit) log (c.in_ok-go_on.ensures.tells log t);
+    }

@@ -1,15 +1,21 @@
-use Rattle.std.proofs.Common.{◌∙◌, ap, subst}
-use Rattle.yaml_sink.specs.SinkModel as sink
+use Rattle.std.proofs.Common.{reverse, refl, ◌∷◌, [], ◌++◌, subst}
+use Rattle.std.specs.Prelude.{Some}
+use Rattle.yaml_compose.specs.TagModel.{kind_in}
 use Rattle.yaml_compose.specs.ComposerModel.{end_of, Stepped}
+use Rattle.yaml_compose.specs.AheadModel.{TellsOf}
 use Rattle.yaml_compose.proofs.AheadLaws.{ended}
 use Rattle.yaml_compose.proofs.DueLaws.{tells-ended}
 use Rattle.yaml_compose.proofs.ahead.Ahead.end.Goals as goal
 
 pub returns : goal.returns
 returns c =
-    let self = c.args.self.now in
+    let mid = c.go_on.new.self in
     let new = c.end.new.self in
-    let k = c.args.collection in
+    let k = kind_in c.args.collection in
+    let left = c.pop.new.self.items in
+    let b = c.in-Some.begun in
     record {
-      is = tells-ended self.composer new self.ended self.dues.items c.pop.new.self.items c.in-Some.due (sink.end_of k) c.if-owes.ensures c.in-Some.ensures.items (λ s h. subst (λ e. Stepped e s new) (ap end_of c.kind_of.ensures ∙ ended k) (c.in_ok-end.ensures s h));
+      is = λ log t.
+          subst (λ e. TellsOf new (Some b) (reverse left) (log ++ (e ∷ []))) (ended c.args.collection)
+          (tells-ended mid.composer new mid.ended (Some b) mid.opens.items left b k c.in_ok-go_on.ensures.none c.in-Some.ensures.items refl (λ s h. subst (λ z. Stepped (end_of z) s new) c.kind_of.ensures (c.in_ok-end.ensures s h)) log (c.in_ok-go_on.ensures.tells log t));
     }

@@ -1,0 +1,34 @@
+use Rattle.std.proofs.Common.{◌≡◌, ◌++◌, length, arith, refl, length-append}
+use Rattle.std.specs.Prelude.{None}
+use Rattle.std.specs.BTreeMap.{get_by_text}
+use Rattle.yaml_nodes.specs.ComposerSteps.{State}
+use Rattle.yaml_compact.specs.StoreGrows.{tags_of, trees_of}
+use Rattle.yaml_compact.specs.declared.nodes.Collection.TheVariants as kinds
+use Rattle.yaml_compose.specs.Nodes.{with_nodes}
+use Rattle.yaml_compose.specs.ComposerModel.{below, Holds}
+use Rattle.yaml_compose.specs.declared.composer.Open.{Open}
+use Rattle.yaml_compose.specs.declared.composer.Composer.{Composer}
+use Rattle.yaml_compose.proofs.ComposerLaws.{holds-kept, stack-length, keeping-entered}
+use Rattle.yaml_compose.proofs.NodeLaws.{last-node, follows-before}
+use Rattle.yaml_compose.proofs.composer.Composer.precede.Goals as goal
+
+pub returns : goal.returns
+returns c = λ front es p f flow.
+    let self = c.args.self.now in
+    let new = c.tag.new.self in
+    let text = c.in_ok-text.text.now in
+    let l = last-node self front es p f in
+    let a = l.adding in
+    let s : State = with_nodes l.state a.nodes a.inside a.after in
+    let k : Holds (record self { store = new }) s = holds-kept self s new (c.in_ok-number.ensures.kept l.holds.good) l.holds in
+    let o : Open = record { place = None; collection = kinds.Mapping; tag = c.in_ok-number.number; mark = c.in-Some.mark } in
+    let final : Composer = record self { store = new; opens = c.push.new.self } in
+    let under = below l.state.outer in
+    let size = stack-length (tags_of new) (trees_of new) (get_by_text self.names) self.anchored.items self.stack.items self.opens.items s.inner s.outer s.table k.keeping in
+    let mark : o.mark ≡ length (under ++ l.state.inner) =
+    omega (arith, size, a.count, c.in-Some.ensures.0, c.in-Some.ensures.1, c.len.ensures, self.stack.ok.0, length-append under (l.state.inner ++ a.nodes), length-append l.state.inner a.nodes, length-append under l.state.inner) in
+    follows-before self final front es text l c.in_ok-text.ensures (record {
+      good = k.good;
+      keeping =
+          keeping-entered (tags_of new) (trees_of new) (get_by_text self.names) self.anchored.items self.stack.items self.opens.items s.inner s.outer s.table k.keeping o None (length l.state.table) text l.state.inner a.nodes c.push.new.self.items c.in_ok-push.ensures.items refl tt mark c.in_ok-number.ensures.is;
+    }) flow
