@@ -1,2 +1,4 @@
 pub mod ForestLaws
+mod RefusedLaws
 pub mod RootRanks
+pub mod BothLaws

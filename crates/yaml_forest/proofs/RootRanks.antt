@@ -1,26 +1,26 @@
 -- The roots of a forest, and their ranks.
-use Rattle.std.proofs.Common.{◌≡◌, ℕ, ◌<◌, ◌^◌, List, [], ◌∷◌, length, map, get_or, refl, sym, ◌∙◌, ap, subst, arith}
+use Rattle.std.proofs.Common.{◌≡◌, ℕ, ◌<◌, ◌^◌, List, [], ◌∷◌, length, map, slice_index, get_or, refl, sym, ◌∙◌, ap, subst, arith}
+use Rattle.std.specs.Prelude.{◌↔◌}
 use Rattle.std.specs.List.{All}
 use Rattle.std.specs.String.{string_bytes}
 use Rattle.std.proofs.lemmas.Option.{slice_get_within}
+use Rattle.std.proofs.lemmas.List.{length-map, get_or-map}
 use Rattle.std.proofs.lemmas.List.Elements.{All-map, All-cons}
-use Rattle.yaml_definitions.specs.model.Tree.{Tree}
+use Rattle.yaml_definitions.specs.model.Tree.{Tree, scalar}
 use Rattle.yaml_definitions.specs.model.Order.{arranged}
-use Rattle.yaml_definitions.specs.model.Same.{Keyed}
-use Rattle.yaml_definitions.specs.model.Means.{Means}
-use Rattle.yaml_definitions.specs.model.Serial.{Document}
-use Rattle.yaml_nodes.specs.GraphModel.{tree_at, AreLow}
+use Rattle.yaml_definitions.specs.model.Same.{same, Same, Keyed}
+use Rattle.yaml_nodes.specs.GraphModel.{tree_at}
 use Rattle.yaml_compact.specs.declared.ranking.Ranked.{Ranked}
 use Rattle.yaml_compact.specs.StoreModel.{parts_at}
-use Rattle.yaml_compact.specs.StoreGrows.{Good, tags_of, trees_of}
+use Rattle.yaml_compact.specs.StoreGrows.{tags_of, trees_of}
 use Rattle.yaml_compact.specs.StoreView.{tree_of, StoreRanked}
 use Rattle.yaml_compact.specs.Walked.{ranks_of, RanksTaken}
 use Rattle.yaml_compact.proofs.Growing.{trees-count}
-use Rattle.yaml_compose.specs.ComposerModel.{AllAt, IsForest}
+use Rattle.yaml_compose.specs.ComposerModel.{AllAt}
 use Rattle.yaml_compose.specs.declared.composer.Forest.{Forest}
 use Rattle.yaml_forest.specs.declared.ranks.RankedForest.{RankedForest}
-use Rattle.yaml_forest.specs.Read.{HasForest, root_trees}
-use Rattle.yaml_forest.specs.Ranks.{HasRanks}
+use Rattle.yaml_forest.specs.Read.{HasRoots}
+use Rattle.yaml_forest.specs.Ranks.{RanksOf}
 use Rattle.yaml_forest.proofs.ForestLaws.{roots-are}
 
 -- roots that stand for trees are nodes
@@ -34,24 +34,44 @@ map-arranged : (ts : List Tree) (roots : List ℕ) → map (λ i. arranged (tree
 map-arranged ts [] = refl
 map-arranged ts (i ∷ roots) = ap (λ us. arranged (tree_at ts i) ∷ us) (map-arranged ts roots)
 
-module _ (ds : List Document) (f : Forest) (is : IsForest ds f) where
+module _ (ts : List Tree) (f : Forest) (is : HasRoots ts f) where
   roots-below : All (λ i. i < length f.store.nodes.items) f.roots.items
-  roots-below = subst (λ n. All (λ i. i < n) f.roots.items) (trees-count f.store.nodes.items (string_bytes f.store.text) f.store.items.items f.store.entries.items (tags_of f.store)) (at-below (trees_of f.store) f.roots.items is.trees_are is.roots)
+  roots-below = subst (λ n. All (λ i. i < n) f.roots.items) (trees-count f.store.nodes.items (string_bytes f.store.text) f.store.items.items f.store.entries.items (tags_of f.store)) (at-below (trees_of f.store) f.roots.items ts is.roots)
 
   -- each root has a rank
-  pub roots-ranked : (good : Good f.store) (c : Ranked) → StoreRanked f.store good c → All (λ i. i < length (ranks_of c)) f.roots.items
-  roots-ranked good c are = subst (λ n. All (λ i. i < n) f.roots.items) (sym are.listed.ranked.long) roots-below
+  pub roots-ranked : (c : Ranked) → StoreRanked f.store is.good c → All (λ i. i < length (ranks_of c)) f.roots.items
+  roots-ranked c are = subst (λ n. All (λ i. i < n) f.roots.items) (sym are.listed.ranked.long) roots-below
 
--- the ranks of the roots of the forest that bytes mean
-pub has-ranks : (bytes : List ℕ) (f : Forest) (g : RankedForest) (h : HasForest bytes f) → Means bytes (root_trees f) → StoreRanked f.store h.forest.good g.ranked → RanksTaken g.ranked f.roots.items g.roots.items → length g.roots.items < 2 ^ 63 → HasRanks bytes g
-has-ranks bytes f g h means are taken few =
-    let s = f.store in
-    let good : Good s = h.forest.good in
-    record {
-      trees = root_trees f;
-      means = means;
-      low = subst AreLow (sym (roots-are (trees_of s) f.roots.items h.forest.trees_are h.forest.roots)) h.forest.low;
-      keyed = All-map Keyed (tree_of s) f.roots.items (λ k d l. are.listed.ranked.keyed (get_or f.roots.items k d) (roots-below h.documents f h.forest k d l));
-      rooted = record { ranked = (s, good, are); within = taken.within s good are; few = few };
-      arranged = taken.trees s good are ∙ map-arranged (trees_of s) f.roots.items;
-    }
+  trees-are : map (tree_of f.store) f.roots.items ≡ ts
+  trees-are = roots-are (trees_of f.store) f.roots.items ts is.roots
+
+  -- the node of a root
+  abbrev root : ℕ → ℕ
+  root i = slice_index f.roots.items i
+
+  root-within : (i : ℕ) → i < length ts → i < length f.roots.items
+  root-within i l = let n = sym (length-map f.roots.items (tree_of f.store)) ∙ ap length trees-are in omega (arith, l, n)
+
+  root-tree : (i : ℕ) → i < length ts → tree_at ts i ≡ tree_of f.store (root i)
+  root-tree i l = ap (λ us. tree_at us i) (sym trees-are) ∙ get_or-map (tree_of f.store) f.roots.items i 0 (scalar [] []) (root-within i l)
+
+  -- two roots have one rank exactly if their trees are the same
+  roots-tell : (c : Ranked) → StoreRanked f.store is.good c → (ranks : List ℕ) → ranks ≡ map (slice_index (ranks_of c)) f.roots.items → (i j : ℕ) → i < length ts → j < length ts → (slice_index ranks i ≡ slice_index ranks j) ↔ Same (tree_at ts i) (tree_at ts j)
+  roots-tell c are ranks e i j l m =
+      let rank : (k : ℕ) → k < length ts → slice_index ranks k ≡ slice_index (ranks_of c) (root k) = λ k w. ap (λ xs. slice_index xs k) e ∙ get_or-map (slice_index (ranks_of c)) f.roots.items k 0 0 (root-within k w) in
+      let tell = (are.listed.ranked.ranked (root i) (root j) (roots-below i 0 (root-within i l)) (roots-below j 0 (root-within j m))).0 in
+      let a = root-tree i l in
+      let b = root-tree j m in
+      let q : same (tree_at ts i) (tree_at ts j) ≡ same (tree_of f.store (root i)) (tree_of f.store (root j)) = λ z. same (a z) (b z) in
+      (λ h. q ∙ tell.0 (sym (rank i l) ∙ (h ∙ rank j m)), λ h. rank i l ∙ (tell.1 (sym q ∙ h) ∙ sym (rank j m)))
+
+  -- the ranks of the roots
+  pub ranks-of-roots : (g : RankedForest) → StoreRanked f.store is.good g.ranked → RanksTaken g.ranked f.roots.items g.roots.items → length g.roots.items < 2 ^ 63 → RanksOf ts g
+  ranks-of-roots g are taken few =
+      let s = f.store in
+      record {
+        keyed = subst (All Keyed) trees-are (All-map Keyed (tree_of s) f.roots.items (λ k d l. are.listed.ranked.keyed (get_or f.roots.items k d) (roots-below k d l)));
+        rooted = record { ranked = (s, is.good, are); within = taken.within s is.good are; few = few };
+        arranged = taken.trees s is.good are ∙ (map-arranged (trees_of s) f.roots.items ∙ ap (map arranged) trees-are);
+        tell = roots-tell g.ranked are g.roots.items taken.are;
+      }

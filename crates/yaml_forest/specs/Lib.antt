@@ -1,2 +1,4 @@
 pub mod Read
+pub mod Refused
 pub mod Ranks
+pub mod Both

@@ -3,10 +3,19 @@ use Rattle.std.specs.Prelude.{ℕ, List}
 use Rattle.yaml_definitions.specs.model.Tree.{Tree}
 use Rattle.yaml_definitions.specs.model.Serial.{Document, stream_events}
 use Rattle.yaml_definitions.specs.grammar.Reading.{Reads}
+use Rattle.yaml_sink.specs.Held.{Puts}
 use Rattle.yaml_compact.specs.StoreModel.{parts_at}
-use Rattle.yaml_compact.specs.StoreGrows.{trees_of}
-use Rattle.yaml_compose.specs.ComposerModel.{IsForest}
+use Rattle.yaml_compact.specs.StoreGrows.{Good, trees_of}
+use Rattle.yaml_compose.specs.ComposerModel.{AllAt, IsForest}
+use Rattle.yaml_compose.specs.KeeperModel.{Composes}
 use Rattle.yaml_compose.specs.declared.composer.Forest.{Forest}
+use Rattle.yaml_compose.specs.declared.keeper.Composing.{Composing}
+
+-- The bytes are read as documents, whose events were put behind those that were held.
+pub record Takes (bytes : List ℕ) (before after : Composing) : Type 0 where
+  pub documents : List Document
+  pub read : Reads bytes (stream_events documents)
+  pub puts : Puts Composes before (stream_events documents) after
 
 -- The bytes are read as these documents, which unfold, with no tree too high; and the roots stand for their trees.
 pub record HasForest (bytes : List ℕ) (f : Forest) : Type 0 where
@@ -17,3 +26,8 @@ pub record HasForest (bytes : List ℕ) (f : Forest) : Type 0 where
 -- the trees of the roots
 abbrev pub root_trees : Forest → List Tree
 root_trees f = parts_at (trees_of f.store) f.roots.items
+
+-- The roots stand for these trees.
+pub record HasRoots (ts : List Tree) (f : Forest) : Type 0 where
+  pub good : Good f.store
+  pub roots : AllAt (trees_of f.store) f.roots.items ts

@@ -1,12 +1,11 @@
-use Rattle.yaml_forest.proofs.ForestLaws.{held-forest, meant}
+use Rattle.std.proofs.Common.{[]}
+use Rattle.yaml_forest.proofs.ForestLaws.{meant}
 use Rattle.yaml_forest.proofs.forest.forest_of.Goals as goal
 
 pub returns-clause-forest : goal.returns-clause-forest
 returns-clause-forest c =
-    let k = c.in-Ok-composed.ensures in
-    held-forest c.args.bytes.now _ c.in-Ok-composed.keeper k.0 c.in_ok-forest.forest c.in-Ok.ensures.read k.1 k.2 (λ ds h. c.in_ok-forest.ensures ds h)
+    let k = c.in_ok-keeper.ensures.takes in
+    record { documents = k.documents; read = k.read; forest = c.in_ok-forest.ensures.forest k.documents (k.puts.is [] c.in_ok-empty.ensures) }
 
 pub returns-clause-means : goal.returns-clause-means
-returns-clause-means c =
-    let k = c.in-Ok-composed.ensures in
-    meant c.args.bytes.now c.in_ok-forest.forest (held-forest c.args.bytes.now _ c.in-Ok-composed.keeper k.0 c.in_ok-forest.forest c.in-Ok.ensures.read k.1 k.2 (λ ds h. c.in_ok-forest.ensures ds h))
+returns-clause-means c = meant c.args.bytes.now c.in_ok-forest.forest (returns-clause-forest c)
