@@ -15,7 +15,7 @@ use Rattle.yaml_levels.specs.RanksView.{RefusesGraph}
 use Rattle.yaml_rank.proofs.Standing.{keyed-none}
 use Rattle.yaml_canon.specs.declared.side.Side.{Side}
 use Rattle.yaml_canon.specs.declared.side.Side.TheVariants.{Left, Right}
-use Rattle.yaml_canon.specs.Claims.{AllOf, IsRead, IsCanonicalText}
+use Rattle.yaml_canon.specs.Claims.{AllOf, IsRead}
 use Rattle.yaml_canon.specs.Comparing.{Compares, ComparerRefuses, HasEqualKeys, side_of_fault}
 use Rattle.yaml_canon.specs.Accepting.{IsSpelling, IsMemory, TellsTexts}
 use Rattle.yaml_canon.proofs.AcceptLaws.{all-append, keyed-at, nodes-keyed, memory, spelling-means}
@@ -61,18 +61,6 @@ tells-texts left right answer c text other x y =
     let t : (answer ≡ true) ↔ Alike x.forest y.forest = subst (λ z. (answer ≡ true) ↔ Alike z y.forest) p (subst (λ z. (answer ≡ true) ↔ Alike c.first z) q c.tells) in
     let u = x.tells y.forest y.admitted in
     (λ e. sym (u.1 (t.0 e)) ∙ sym y.spelled, λ e. t.1 (u.0 (sym y.spelled ∙ sym e)))
-
--- where both sides have a canonical text, whether these are one is the answer
-pub compares-texts : (left right text other : List ℕ) (answer : Bool) → IsCanonicalText left text → IsCanonicalText right other → (answer ≡ true) ↔ (text ≡ other) → Compares left right answer
-compares-texts left right text other answer x y t =
-    let u = x.tells y.forest y.admitted in
-    record {
-      first = x.forest;
-      second = y.forest;
-      first_accepted = x.accepted;
-      second_accepted = y.accepted;
-      tells = (λ e. u.0 (sym y.spelled ∙ sym (t.0 e)), λ a. t.1 (sym (u.1 a) ∙ sym y.spelled));
-    }
 
 -- ---- an answer
 

@@ -17,6 +17,7 @@ use Rattle.yaml_definitions.specs.model.Serial.{Document, stream_events}
 use Rattle.yaml_text.specs.EventModel.{event_of}
 use Rattle.yaml_definitions.specs.model.Text.{Text}
 use Rattle.yaml_text.specs.Refused.{RefusesText}
+use Rattle.yaml_text.specs.Source.{text_of}
 use Rattle.yaml_definitions.specs.grammar.Reading.{Reads}
 use Rattle.yaml_definitions.specs.grammar.Streams.{ReadsText}
 use Rattle.yaml_text.specs.LeafAnswer.{IsRefusal}
@@ -43,6 +44,7 @@ use Rattle.yaml_spell.specs.Pieces.{Began, Puts, Fails}
 use Rattle.yaml_spell.specs.Documents.{spell_more, arranged_more, arranged_bytes, RefusesArranged}
 use Rattle.yaml_compact.specs.Walked.{walked_tree}
 use Rattle.yaml_forest.specs.Ranks.{HasRanks}
+use Rattle.yaml_forest.specs.Refused.{RefusesBytes}
 use Rattle.yaml_forest.specs.declared.ranks.RankedForest.{RankedForest}
 use Rattle.yaml_canon.specs.Claims.{AllOf, MeansAlone, IsArranged, IsCanonicalText, IsRead, IsNoStream, CanonicalRefuses, HasGraph, GraphRefuses}
 use Rattle.yaml_spell.proofs.DocumentLaws.{arranged_same, spell_whole, graph_text}
@@ -79,7 +81,7 @@ composable bytes es d = record { documents = d.0; cut = d.1 }
 pub means : (bytes : List ℕ) (ds : List Document) (g : Graph) → IsRead bytes ds → Composed ds g → Means bytes (forest g)
 means bytes ds g r c = record { events = stream_events ds; reads = r.reads; stands = record { documents = ds; cut = refl; unfolded = c.unfolded ∙ ap Ok (sym c.roots) } }
 
-all_of : (P : Tree → Type 0) (f : List Tree) → All P f → AllOf P f
+pub all_of : (P : Tree → Type 0) (f : List Tree) → All P f → AllOf P f
 all_of P [] h = tt
 all_of P (t ∷ f) h = (h 0 t (omega arith), all_of P f (λ k d l. h (suc k) d (omega arith)))
 
@@ -176,6 +178,15 @@ refused_reading bytes text (faults.UnknownHandle at) t h d = no_stream bytes tex
 refused_reading bytes text (faults.BadTag at) t h d = no_stream bytes text (faults.BadTag at) t d (λ e. absurd (cc))
 refused_reading bytes text faults.OutOfMemory t h d = tt
 refused_reading bytes text _ t h d = absurd h
+
+-- bytes that were refused while a forest was looked for
+pub refused_bytes : (bytes : List ℕ) (fault : Fault) → RefusesBytes bytes fault → GraphRefuses bytes fault
+refused_bytes bytes fault (inl h) = refused_text bytes fault h
+refused_bytes bytes fault (inr h) = refused_reading bytes (text_of h.source) fault h.text h.refusal (inr h.unread)
+
+pub refused_as_text : (bytes : List ℕ) (fault : Fault) → RefusesBytes bytes fault → ((cs : List ℕ) → Text bytes cs → ⊥) → RefusesText bytes fault
+refused_as_text bytes fault (inl h) never = h
+refused_as_text bytes fault (inr h) never = absurd (never (text_of h.source) h.text)
 
 pub refused_composing : (bytes : List ℕ) (ds : List Document) (fault : Fault) → IsRead bytes ds → RefusesStream ds fault → GraphRefuses bytes fault
 refused_composing bytes ds (faults.UndefinedAlias e) r h = (ds, r, h)

@@ -4,4 +4,5 @@ mod AcceptLaws
 mod PlaceLaws
 pub mod CompareLaws
 mod AcceptBoth
+mod RankLaws
 mod RunLaws

@@ -1,5 +1,5 @@
 -- From the places that a reader tells to places of the bytes.
-use Rattle.std.proofs.Common.{◌≡◌, ◌+◌, ℕ, List, drop, ◌∙◌, ap, subst}
+use Rattle.std.proofs.Common.{◌≡◌, ◌+◌, ℕ, inl, inr, List, drop, ◌∙◌, ap, subst}
 use Rattle.std.specs.Prelude.{Result, Ok, Err, Option, Some, None, IfErr, MatchResult, slice_get}
 use Rattle.std.specs.Str.{chars, IsCharBoundary}
 use Rattle.yaml_definitions.specs.model.Limits.{text_limit}
@@ -14,6 +14,7 @@ use Rattle.yaml_text.specs.declared.chars.Chars.{Chars}
 use Rattle.yaml_text.specs.declared.counted.Counted.{Counted}
 use Rattle.yaml_text.specs.declared.fault.Fault.{Fault}
 use Rattle.yaml_text.specs.declared.fault.Fault.TheVariants as faults
+use Rattle.yaml_forest.specs.Refused.{RefusesBytes}
 use Rattle.yaml_graph.specs.Composed.{Composed, RefusesStream}
 use Rattle.yaml_nodes.specs.declared.graph.Graph.{Graph}
 use Rattle.yaml_levels.specs.RanksView.{RefusesGraph}
@@ -61,6 +62,11 @@ text_elsewhere bytes faults.TooLong h = tt
 text_elsewhere bytes (faults.NotUtf8 at) h = tt
 text_elsewhere bytes (faults.NotPrintable at) h = tt
 text_elsewhere bytes _ h = absurd h
+
+-- bytes that were refused while a forest was looked for
+pub placed_in_bytes : (bytes : List ℕ) (fault : Fault) → RefusesBytes bytes fault → TellsPlace bytes fault
+placed_in_bytes bytes fault (inl h) = text_elsewhere bytes fault h
+placed_in_bytes bytes fault (inr h) = placed_in bytes h.source h.behind_mark h.mark fault h.placed
 
 pub stream_elsewhere : (bytes : List ℕ) (ds : List Document) (fault : Fault) → RefusesStream ds fault → TellsPlace bytes fault
 stream_elsewhere bytes ds (faults.UndefinedAlias e) h = tt

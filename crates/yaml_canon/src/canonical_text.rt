@@ -9,15 +9,15 @@ ghost use Rattle.yaml_definitions.specs.model.Tree.{Tree};
 ghost use Rattle.yaml_definitions.specs.canonical.Spell.{spell_bytes};
 ghost use Rattle.yaml_definitions.specs.model.Proper.{Admitted};
 ghost use Rattle.yaml_definitions.specs.model.Means.{Means};
+ghost use Rattle.yaml_forest.specs.Refused.{TellsWhy};
 ghost use Rattle.yaml_spell.specs.Documents.{arranged_bytes, RefusesArranged};
 ghost use Rattle.yaml_spell.specs.RankedNodes.{Rooted, tree_of};
 ghost use Rattle.yaml_canon.specs.Claims.{IsCanonicalText, CanonicalRefuses};
 ghost use Rattle.yaml_canon.specs.FaultPlaces.{TellsPlace};
 ghost use Rattle.yaml_canon.specs.Accepting.{IsSpelling, IsMemory};
 
-use crate::graph_of::graph_of;
+use crate::graph_of::graph_unless;
 use std::alloc::Global;
-use yaml_compact::GivesUp;
 use yaml_forest::ranked_forest;
 use yaml_rank::rank;
 use yaml_spell::names::Names;
@@ -45,18 +45,6 @@ fn spelled<I: Copy, V: RankedNodes<I>>(
     Ok(text)
 }
 
-/// The canonical text of the stream that these bytes are, or none where its nodes are not had in one
-/// pass over the bytes, or the text is too long, or memory is refused.
-pub(crate) fn text_of(alloc: Global, bytes: &[u8]) -> Result<String, GivesUp>
-    ensures { IfOk result (λ text. IsCanonicalText bytes.now (string_bytes text)) }
-{
-    let forest = ranked_forest(alloc, bytes)?;
-    match spelled(alloc, &forest.ranked, &forest.roots) {
-        Ok(text) => Ok(text),
-        Err(_) => Err(GivesUp),
-    }
-}
-
 /// The canonical text of the stream that these bytes are.
 ///
 /// Refused are bytes that are no text (1 to 3), a text that is no stream of the profile (4 to 11),
@@ -72,10 +60,11 @@ pub fn canonical(alloc: Global, bytes: &[u8]) -> Result<String, Fault>
     ensures spelling { (f : List Tree) → Admitted f → IsSpelling bytes.now f → MatchResult result (λ text. string_bytes text ≡ spell_bytes f) IsMemory }
     ensures placed { IfErr result (TellsPlace bytes.now) }
 {
-    if let Ok(forest) = ranked_forest(alloc, bytes) {
-        return spelled(alloc, &forest.ranked, &forest.roots);
-    }
-    let graph = graph_of(alloc, bytes)?;
+    let none = match ranked_forest(alloc, bytes) {
+        Ok(forest) => return spelled(alloc, &forest.ranked, &forest.roots),
+        Err(none) => none,
+    };
+    let graph = graph_unless(alloc, bytes, none)?;
     let ranks = rank(alloc, &graph)?;
     let view = RankedGraph {
         graph: &graph,

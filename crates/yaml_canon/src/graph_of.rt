@@ -5,10 +5,12 @@ ghost use Rattle.yaml_definitions.specs.grammar.Reading.{Reads};
 ghost use Rattle.yaml_definitions.specs.model.Event.{Event};
 ghost use Rattle.yaml_definitions.specs.model.Text.{Text};
 ghost use Rattle.yaml_text.specs.Refused.{RefusesText};
+ghost use Rattle.yaml_forest.specs.Refused.{TellsWhy};
 ghost use Rattle.yaml_canon.specs.Claims.{HasGraph, GraphRefuses};
 ghost use Rattle.yaml_canon.specs.FaultPlaces.{TellsPlace};
 
 use std::alloc::Global;
+use yaml_forest::NoForest;
 use yaml_graph::compose_owned;
 use yaml_graph::graph::Graph;
 use yaml_read::{read_events, read_events_with};
@@ -31,6 +33,24 @@ pub fn graph_of<'a>(alloc: Global, bytes: &'a [u8]) -> Result<Graph<'a>, Fault>
     let source = Chars::read(bytes)?;
     let events = read_events(alloc, &source)?;
     compose_owned(alloc, events)
+}
+
+/// The same graph, once it is known why no forest was had of the bytes: where they were refused, they are not read again.
+pub(crate) fn graph_unless<'a>(
+    alloc: Global,
+    bytes: &'a [u8],
+    none: NoForest,
+) -> Result<Graph<'a>, Fault>
+    requires { TellsWhy bytes.now none }
+    ensures graph { IfOk result (HasGraph bytes.now) }
+    ensures refused { IfErr result (GraphRefuses bytes.now) }
+    ensures no_text { ((cs : List ℕ) → Text bytes.now cs → ⊥) → IsErrAnd result (RefusesText bytes.now) }
+    ensures placed { IfErr result (TellsPlace bytes.now) }
+{
+    match none {
+        NoForest::Refused(fault) => Err(fault),
+        NoForest::GivesUp => graph_of(alloc, bytes),
+    }
 }
 
 /// The same graph, and a keeper that held nothing and now holds the events that the bytes are read to: for what has to be known of

@@ -7,6 +7,7 @@ pub mod graph_of;
 pub mod laws;
 pub mod placing;
 pub mod run;
+mod same_ranks;
 pub mod same_streams;
 pub mod side;
 

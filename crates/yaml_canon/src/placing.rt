@@ -16,7 +16,7 @@ ghost use Rattle.yaml_canon.specs.FaultPlaces.{TellsPlace};
 ghost use Rattle.yaml_canon.specs.Accepting.{IsSpelling, IsMemory};
 ghost use Rattle.yaml_canon.specs.Rooms.{Places, PlacesCanonical};
 
-use crate::graph_of::graph_of;
+use crate::graph_of::graph_unless;
 use std::alloc::Global;
 use yaml_forest::ranked_forest;
 use yaml_rank::rank;
@@ -83,10 +83,11 @@ pub fn canonical_into(alloc: Global, bytes: &[u8], room: &mut [u8]) -> Result<us
     ensures spelling { (f : List Tree) → Admitted f → IsSpelling bytes.now f → MatchResult result (Places (spell_bytes f) room.old room.new) IsMemory }
     ensures placed { IfErr result (TellsPlace bytes.now) }
 {
-    if let Ok(forest) = ranked_forest(alloc, bytes) {
-        return place(alloc, &forest.ranked, &forest.roots, room);
-    }
-    let graph = graph_of(alloc, bytes)?;
+    let none = match ranked_forest(alloc, bytes) {
+        Ok(forest) => return place(alloc, &forest.ranked, &forest.roots, room),
+        Err(none) => none,
+    };
+    let graph = graph_unless(alloc, bytes, none)?;
     let ranks = rank(alloc, &graph)?;
     let view = RankedGraph {
         graph: &graph,

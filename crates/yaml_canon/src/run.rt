@@ -9,7 +9,7 @@ ghost use Rattle.yaml_canon.specs.FaultPlaces.{TellsPlace, TellsReadPlace};
 ghost use Rattle.yaml_canon.specs.Runs.{WritesArranged, ArrangedFails, WritesCanonical, WriteRefuses, RunsWhole, RunFails};
 
 use crate::gathering::gather;
-use crate::graph_of::graph_of;
+use crate::graph_of::graph_unless;
 use std::alloc::Global;
 use std::io::{Read, Write};
 use yaml_forest::ranked_forest;
@@ -74,10 +74,11 @@ fn write_canonical<W: Write>(alloc: Global, bytes: &[u8], out: &mut Counted<W>) 
     ensures err { IfErr result (WriteRefuses W.contents bytes.now out.old out.new) }
     ensures placed { IfErr result (TellsPlace bytes.now) }
 {
-    if let Ok(forest) = ranked_forest(alloc, bytes) {
-        return write_spelled(alloc, &forest.ranked, &forest.roots, out);
-    }
-    let graph = graph_of(alloc, bytes)?;
+    let none = match ranked_forest(alloc, bytes) {
+        Ok(forest) => return write_spelled(alloc, &forest.ranked, &forest.roots, out),
+        Err(none) => none,
+    };
+    let graph = graph_unless(alloc, bytes, none)?;
     let ranks = rank(alloc, &graph)?;
     let view = RankedGraph {
         graph: &graph,

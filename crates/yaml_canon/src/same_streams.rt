@@ -10,6 +10,7 @@ ghost use Rattle.yaml_definitions.specs.model.Proper.{Admitted};
 ghost use Rattle.yaml_definitions.specs.model.Means.{Means};
 ghost use Rattle.yaml_nodes.specs.GraphView.{nodes_of, roots_of, tree};
 ghost use Rattle.yaml_levels.specs.RanksView.{RanksAre};
+ghost use Rattle.yaml_forest.specs.Refused.{TellsWhy};
 ghost use Rattle.yaml_canon.specs.declared.side.Side.TheVariants.{Left, Right};
 ghost use Rattle.yaml_canon.specs.FaultPlaces.{TellsSidesPlace};
 ghost use Rattle.yaml_canon.specs.Comparing.{Compares, ComparerRefuses, side_of_fault, ComparesDocuments, RefusesDocuments};
@@ -17,11 +18,10 @@ ghost use Rattle.yaml_canon.specs.Accepting.{IsSpelling, IsMemory, TellsTexts};
 ghost use Rattle.yaml_definitions.specs.model.Serial.{Document};
 ghost use Rattle.yaml_graph.specs.Composed.{Composed};
 
-use crate::canonical_text::text_of;
-use crate::graph_of::graph_of;
+use crate::graph_of::graph_unless;
+use crate::same_ranks::have_same_ranks;
 use crate::side::Side;
 use std::alloc::Global;
-use yaml_compact::GivesUp;
 use yaml_graph::graph::Graph;
 use yaml_graph::join;
 use yaml_rank::rank;
@@ -84,15 +84,6 @@ fn compare<'a>(alloc: Global, left: Graph<'a>, right: Graph<'a>) -> Result<bool,
     }
 }
 
-/// Whether two streams have one canonical text, where both texts are had in one pass over the bytes.
-fn have_one_text(alloc: Global, left: &[u8], right: &[u8]) -> Result<bool, GivesUp>
-    ensures { IfOk result (Compares left.now right.now) }
-{
-    let first = text_of(alloc, left)?;
-    let second = text_of(alloc, right)?;
-    Ok(first == second)
-}
-
 /// Whether two streams have equally many documents, pairwise the same: aliases unfolded, mappings
 /// as sets of pairs, scalars by tag and content.
 ///
@@ -112,10 +103,11 @@ pub fn same<'a>(alloc: Global, left: &'a [u8], right: &'a [u8]) -> Result<bool, 
     ensures no_right_text { ((cs : List ℕ) → Text right.now cs → ⊥) → IsErrAnd result (λ refusal. (refusal.0 ≡ Left) ⊎ ((refusal.0 ≡ Right) × RefusesText right.now refusal.1)) }
     ensures placed { IfErr result (λ refusal. TellsSidesPlace left.now right.now refusal.0 refusal.1) }
 {
-    if let Ok(answer) = have_one_text(alloc, left, right) {
-        return Ok(answer);
-    }
-    let first = on(Side::Left, graph_of(alloc, left))?;
-    let second = on(Side::Right, graph_of(alloc, right))?;
+    let none = match have_same_ranks(alloc, left, right) {
+        Ok(answer) => return Ok(answer),
+        Err(none) => none,
+    };
+    let first = on(Side::Left, graph_unless(alloc, left, none.left))?;
+    let second = on(Side::Right, graph_unless(alloc, right, none.right))?;
     compare(alloc, first, second)
 }

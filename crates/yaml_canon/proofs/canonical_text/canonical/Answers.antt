@@ -71,16 +71,16 @@ returns-clause-placed c = if_err c.spelled-2.result c.spelled-2.ensures.err (λ 
 
 pub returns-in-Ok-clause-text : goal.returns-in-Ok-clause-text
 returns-in-Ok-clause-text c =
-    let a = arranged_ranks c.args.bytes.now c.in-Ok.forest c.deref.result.now c.in-Ok.ensures c.deref.ensures.value in
+    let a = arranged_ranks c.args.bytes.now c.in-Ok.forest c.deref.result.now c.in-Ok.ensures.ranks c.deref.ensures.value in
     if_ok c.spelled.result c.spelled.ensures.ok c.spelled.ensures.fits (λ text e l. text_arranged c.args.bytes.now _ _ a e l)
 
 pub returns-in-Ok-clause-refused : goal.returns-in-Ok-clause-refused
 returns-in-Ok-clause-refused c =
-    let a = arranged_ranks c.args.bytes.now c.in-Ok.forest c.deref.result.now c.in-Ok.ensures c.deref.ensures.value in
+    let a = arranged_ranks c.args.bytes.now c.in-Ok.forest c.deref.result.now c.in-Ok.ensures.ranks c.deref.ensures.value in
     if_err c.spelled.result c.spelled.ensures.err (λ fault h. refused_arranged c.args.bytes.now _ fault a h)
 
 pub returns-in-Ok-clause-no_text : goal.returns-in-Ok-clause-no_text
-returns-in-Ok-clause-no_text c = λ never. absurd (is_text c.args.bytes.now c.in-Ok.ensures.trees c.in-Ok.ensures.means never)
+returns-in-Ok-clause-no_text c = λ never. absurd (is_text c.args.bytes.now c.in-Ok.ensures.ranks.trees c.in-Ok.ensures.ranks.means never)
 
 pub returns-in-Ok-clause-accepts : goal.returns-in-Ok-clause-accepts
 returns-in-Ok-clause-accepts c = accepted-answer string_bytes c.args.bytes.now c.spelled.result (returns-in-Ok-clause-text c) (returns-in-Ok-clause-refused c)

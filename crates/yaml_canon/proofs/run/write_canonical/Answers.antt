@@ -42,12 +42,12 @@ returns-clause-placed g c = if_err c.write_spelled-2.result c.write_spelled-2.en
 
 pub returns-in-Ok-clause-ok : goal.returns-in-Ok-clause-ok
 returns-in-Ok-clause-ok g c =
-    let a = arranged_ranks c.args.bytes.now c.in-Ok.forest c.deref.result.now c.in-Ok.ensures c.deref.ensures.value in
+    let a = arranged_ranks c.args.bytes.now c.in-Ok.forest c.deref.result.now c.in-Ok.ensures.ranks c.deref.ensures.value in
     on_ok c.write_spelled.result c.write_spelled.ensures.ok (λ h. canonical_written g.W.Write.contents c.args.bytes.now _ c.args.out.now c.write_spelled.new.out a h)
 
 pub returns-in-Ok-clause-err : goal.returns-in-Ok-clause-err
 returns-in-Ok-clause-err g c =
-    let a = arranged_ranks c.args.bytes.now c.in-Ok.forest c.deref.result.now c.in-Ok.ensures c.deref.ensures.value in
+    let a = arranged_ranks c.args.bytes.now c.in-Ok.forest c.deref.result.now c.in-Ok.ensures.ranks c.deref.ensures.value in
     if_err c.write_spelled.result c.write_spelled.ensures.err (λ fault h. canonical_unwritten g.W.Write.contents c.args.bytes.now _ c.args.out.now c.write_spelled.new.out fault a h)
 
 pub returns-in-Ok-clause-placed : goal.returns-in-Ok-clause-placed

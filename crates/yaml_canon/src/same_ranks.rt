@@ -1,0 +1,19 @@
+//! Whether two streams are the same, by the ranks of their nodes in one store.
+ghost use Rattle.std.specs.Prelude.{IfOk, IfErr};
+ghost use Rattle.yaml_forest.specs.Refused.{TellsWhy};
+ghost use Rattle.yaml_canon.specs.Comparing.{Compares};
+
+use std::alloc::Global;
+use yaml_forest::{NoForests, ranked_both};
+
+/// Whether two streams have equally many roots, of the same ranks, where one pass over the bytes of each has all nodes of both.
+/// Else, why one of them has none.
+pub(crate) fn have_same_ranks(alloc: Global, left: &[u8], right: &[u8]) -> Result<bool, NoForests>
+    ensures answer { IfOk result (Compares left.now right.now) }
+    ensures of_left { IfErr result (λ none. TellsWhy left.now none.left) }
+    ensures of_right { IfErr result (λ none. TellsWhy right.now none.right) }
+{
+    let both = ranked_both(alloc, left, right)?;
+    let (first, second) = both.forest.roots.split_at(both.middle);
+    Ok(first == second)
+}
