@@ -1,3 +1,4 @@
+pub mod Stops
 pub mod Pieces
 pub mod SinkViews
 pub mod Writers

@@ -3,7 +3,7 @@ ghost use Rattle.std.specs.Prelude.{◌≤◌};
 
 use crate::quoted::{cut, is_unescaped};
 use crate::sink::Sink;
-use yaml_text::fault::Fault;
+use crate::stop::Stop;
 
 /// How many bytes a text has, of which no more than a limit are taken.
 #[derive(Drop)]
@@ -36,23 +36,23 @@ impl Length {
 
     /// Takes so many bytes more, if there is room.
     #[inline(always)]
-    fn grow(&mut self, by: u128) -> Result<(), Fault>
+    fn grow(&mut self, by: u128) -> Result<(), Stop>
         ensures limit { limit_of self.new ≡ limit_of self.old }
         ensures ok { OnOk result (len_of self.new ≡ len_of self.old + by) }
-        ensures err { IfErr result (λ fault. (fault ≡ Fault.TextTooLong) × (limit_of self.old < len_of self.old + by)) }
+        ensures err { IfErr result (λ stop. (stop ≡ Stop.TextTooLong) × (limit_of self.old < len_of self.old + by)) }
     {
         if by > (self.limit - self.len) as u128 {
-            return Err(Fault::TextTooLong);
+            return Err(Stop::TextTooLong);
         }
         self.len += by as usize;
         Ok(())
     }
 
     /// Takes so many bytes more as a content's spelling has.
-    fn grow_spelled(&mut self, content: &str) -> Result<(), Fault>
+    fn grow_spelled(&mut self, content: &str) -> Result<(), Stop>
         ensures limit { limit_of self.new ≡ limit_of self.old }
         ensures ok { OnOk result (len_of self.new ≡ len_of self.old + length (quoted_bytes content.now)) }
-        ensures err { IfErr result (λ fault. (fault ≡ Fault.TextTooLong) × (limit_of self.old < len_of self.old + length (quoted_bytes content.now))) }
+        ensures err { IfErr result (λ stop. (stop ≡ Stop.TextTooLong) × (limit_of self.old < len_of self.old + length (quoted_bytes content.now))) }
     {
         if is_unescaped(content) {
             return self.grow(content.len() as u128 + 2);
@@ -62,10 +62,10 @@ impl Length {
 
     /// The same, piece by piece.
     #[inline(never)]
-    fn grow_pieces(&mut self, content: &str) -> Result<(), Fault>
+    fn grow_pieces(&mut self, content: &str) -> Result<(), Stop>
         ensures limit { limit_of self.new ≡ limit_of self.old }
         ensures ok { OnOk result (len_of self.new ≡ len_of self.old + length (quoted_bytes content.now)) }
-        ensures err { IfErr result (λ fault. (fault ≡ Fault.TextTooLong) × (limit_of self.old < len_of self.old + length (quoted_bytes content.now))) }
+        ensures err { IfErr result (λ stop. (stop ≡ Stop.TextTooLong) × (limit_of self.old < len_of self.old + length (quoted_bytes content.now))) }
     {
         self.grow(2)?;
         let mut rest = content;
@@ -88,16 +88,16 @@ impl Sink<()> for Length {
 
     ghost stops = { λ _ b fault xs. LengthStops b fault xs };
 
-    fn put(&mut self, _out: &mut (), piece: &str) -> Result<(), Fault> {
+    fn put(&mut self, _out: &mut (), piece: &str) -> Result<(), Stop> {
         self.grow(piece.len() as u128)
     }
 
-    fn put_spelled(&mut self, _out: &mut (), content: &str) -> Result<(), Fault> {
+    fn put_spelled(&mut self, _out: &mut (), content: &str) -> Result<(), Stop> {
         self.grow_spelled(content)
     }
 
     #[inline(always)]
-    fn count(&mut self, _out: &mut (), len: usize) -> Result<bool, Fault> {
+    fn count(&mut self, _out: &mut (), len: usize) -> Result<bool, Stop> {
         self.grow(len as u128)?;
         Ok(true)
     }

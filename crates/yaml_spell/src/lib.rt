@@ -13,5 +13,6 @@ pub mod room;
 pub mod shown;
 pub mod sink;
 pub mod spell;
+pub mod stop;
 mod walk;
 pub mod whole;

@@ -4,6 +4,7 @@ ghost use Rattle.yaml_spell.specs.Writers.{Sent, CutOff};
 
 use crate::quoted::{Piece, cut, is_unescaped};
 use crate::sink::Sink;
+use crate::stop::Stop;
 use std::io::Write;
 use yaml_scalar::spell::spelled_char;
 use yaml_text::counted::Counted;
@@ -40,6 +41,7 @@ pub fn write_whole<W: Write>(out: &mut Counted<W>, piece: &[u8]) -> Result<(), F
 impl Page {
     ghost use Rattle.std.specs.Prelude.{◌≡◌, ◌<◌, ◌≤◌, ◌+◌, ◌++◌, ◌∷◌, length, [], OnOk, IfErr};
     ghost use Rattle.yaml_scalar.specs.Spelling.{quoted_bytes};
+    ghost use Rattle.yaml_spell.specs.Stops.{fault_of};
     ghost use Rattle.yaml_spell.specs.Pieces.{TakesPiece, Misses};
     ghost use Rattle.yaml_spell.specs.Quoted.{piece_text};
     ghost use Rattle.yaml_spell.specs.Writers.{Sent, CutOff};
@@ -67,15 +69,18 @@ impl Page {
     }
 
     /// Writes the page if it is full.
-    fn make_room<W: Write>(&mut self, out: &mut Counted<W>) -> Result<(), Fault>
+    fn make_room<W: Write>(&mut self, out: &mut Counted<W>) -> Result<(), Stop>
         ensures ok { OnOk result (TakesPiece (PageHolds W.contents) self.old out.old self.new out.new []) }
         ensures room { OnOk result (page_len self.new < 4096) }
-        ensures err { IfErr result (λ fault. Misses (PageHolds W.contents) (PageStops W.contents) self.old out.old out.new fault []) }
+        ensures err { IfErr result (λ stop. Misses (PageHolds W.contents) (PageStops W.contents) self.old out.old out.new (fault_of stop) []) }
     {
-        if self.len == PAGE {
-            self.send(out)?;
+        if self.len < PAGE {
+            return Ok(());
         }
-        Ok(())
+        match self.send(out) {
+            Ok(()) => Ok(()),
+            Err(_) => Err(Stop::WriteFault),
+        }
     }
 
     /// Puts a piece into the page, which has room for it.
@@ -91,9 +96,9 @@ impl Page {
 
     /// Takes some bytes. Mostly they are few, and the page has room for them.
     #[inline(always)]
-    fn add<W: Write>(&mut self, out: &mut Counted<W>, piece: &[u8]) -> Result<(), Fault>
+    fn add<W: Write>(&mut self, out: &mut Counted<W>, piece: &[u8]) -> Result<(), Stop>
         ensures ok { OnOk result (TakesPiece (PageHolds W.contents) self.old out.old self.new out.new piece.now) }
-        ensures err { IfErr result (λ fault. Misses (PageHolds W.contents) (PageStops W.contents) self.old out.old out.new fault piece.now) }
+        ensures err { IfErr result (λ stop. Misses (PageHolds W.contents) (PageStops W.contents) self.old out.old out.new (fault_of stop) piece.now) }
     {
         if piece.len() > PAGE - self.len {
             return self.add_paged(out, piece);
@@ -104,9 +109,9 @@ impl Page {
 
     /// The same, and each page that is full is written.
     #[inline(never)]
-    fn add_paged<W: Write>(&mut self, out: &mut Counted<W>, piece: &[u8]) -> Result<(), Fault>
+    fn add_paged<W: Write>(&mut self, out: &mut Counted<W>, piece: &[u8]) -> Result<(), Stop>
         ensures ok { OnOk result (TakesPiece (PageHolds W.contents) self.old out.old self.new out.new piece.now) }
-        ensures err { IfErr result (λ fault. Misses (PageHolds W.contents) (PageStops W.contents) self.old out.old out.new fault piece.now) }
+        ensures err { IfErr result (λ stop. Misses (PageHolds W.contents) (PageStops W.contents) self.old out.old out.new (fault_of stop) piece.now) }
     {
         let mut at = 0;
         'add: while at < piece.len() {
@@ -119,9 +124,9 @@ impl Page {
     }
 
     /// Takes a piece of a content's spelling.
-    fn add_piece<W: Write>(&mut self, out: &mut Counted<W>, piece: &Piece<'_>) -> Result<(), Fault>
+    fn add_piece<W: Write>(&mut self, out: &mut Counted<W>, piece: &Piece<'_>) -> Result<(), Stop>
         ensures ok { OnOk result (TakesPiece (PageHolds W.contents) self.old out.old self.new out.new (piece_text piece.now)) }
-        ensures err { IfErr result (λ fault. Misses (PageHolds W.contents) (PageStops W.contents) self.old out.old out.new fault (piece_text piece.now)) }
+        ensures err { IfErr result (λ stop. Misses (PageHolds W.contents) (PageStops W.contents) self.old out.old out.new (fault_of stop) (piece_text piece.now)) }
     {
         self.add(out, piece.run.as_bytes())?;
         let Some(c) = piece.next else {
@@ -132,9 +137,9 @@ impl Page {
     }
 
     /// Takes bytes between quotes.
-    fn add_quoted<W: Write>(&mut self, out: &mut Counted<W>, content: &[u8]) -> Result<(), Fault>
+    fn add_quoted<W: Write>(&mut self, out: &mut Counted<W>, content: &[u8]) -> Result<(), Stop>
         ensures ok { OnOk result (TakesPiece (PageHolds W.contents) self.old out.old self.new out.new (34 ∷ (content.now ++ (34 ∷ [])))) }
-        ensures err { IfErr result (λ fault. Misses (PageHolds W.contents) (PageStops W.contents) self.old out.old out.new fault (34 ∷ (content.now ++ (34 ∷ [])))) }
+        ensures err { IfErr result (λ stop. Misses (PageHolds W.contents) (PageStops W.contents) self.old out.old out.new (fault_of stop) (34 ∷ (content.now ++ (34 ∷ [])))) }
     {
         self.add(out, b"\"")?;
         self.add(out, content)?;
@@ -142,9 +147,9 @@ impl Page {
     }
 
     /// Takes a content's spelling.
-    fn add_spelled<W: Write>(&mut self, out: &mut Counted<W>, content: &str) -> Result<(), Fault>
+    fn add_spelled<W: Write>(&mut self, out: &mut Counted<W>, content: &str) -> Result<(), Stop>
         ensures ok { OnOk result (TakesPiece (PageHolds W.contents) self.old out.old self.new out.new (quoted_bytes content.now)) }
-        ensures err { IfErr result (λ fault. Misses (PageHolds W.contents) (PageStops W.contents) self.old out.old out.new fault (quoted_bytes content.now)) }
+        ensures err { IfErr result (λ stop. Misses (PageHolds W.contents) (PageStops W.contents) self.old out.old out.new (fault_of stop) (quoted_bytes content.now)) }
     {
         if is_unescaped(content) {
             return self.add_quoted(out, content.as_bytes());
@@ -154,9 +159,9 @@ impl Page {
 
     /// The same, piece by piece.
     #[inline(never)]
-    fn add_pieces<W: Write>(&mut self, out: &mut Counted<W>, content: &str) -> Result<(), Fault>
+    fn add_pieces<W: Write>(&mut self, out: &mut Counted<W>, content: &str) -> Result<(), Stop>
         ensures ok { OnOk result (TakesPiece (PageHolds W.contents) self.old out.old self.new out.new (quoted_bytes content.now)) }
-        ensures err { IfErr result (λ fault. Misses (PageHolds W.contents) (PageStops W.contents) self.old out.old out.new fault (quoted_bytes content.now)) }
+        ensures err { IfErr result (λ stop. Misses (PageHolds W.contents) (PageStops W.contents) self.old out.old out.new (fault_of stop) (quoted_bytes content.now)) }
     {
         self.add(out, b"\"")?;
         let mut rest = content;
@@ -177,16 +182,16 @@ impl<W: Write> Sink<Counted<W>> for Page {
     ghost stops = { PageStops W.contents };
 
     #[inline(always)]
-    fn put(&mut self, out: &mut Counted<W>, piece: &str) -> Result<(), Fault> {
+    fn put(&mut self, out: &mut Counted<W>, piece: &str) -> Result<(), Stop> {
         self.add(out, piece.as_bytes())
     }
 
-    fn put_spelled(&mut self, out: &mut Counted<W>, content: &str) -> Result<(), Fault> {
+    fn put_spelled(&mut self, out: &mut Counted<W>, content: &str) -> Result<(), Stop> {
         self.add_spelled(out, content)
     }
 
     #[inline(always)]
-    fn count(&mut self, _out: &mut Counted<W>, _len: usize) -> Result<bool, Fault> {
+    fn count(&mut self, _out: &mut Counted<W>, _len: usize) -> Result<bool, Stop> {
         Ok(false)
     }
 }

@@ -9,13 +9,14 @@ ghost use Rattle.yaml_definitions.specs.canonical.NodeText.{node_text, anchor_te
 ghost use Rattle.yaml_definitions.specs.model.Tag.{default_tag};
 ghost use Rattle.yaml_definitions.specs.canonical.TagText.{spell_byte, encoded, full_text, tag_text, written_tag};
 ghost use Rattle.yaml_definitions.specs.model.Tree.{a_scalar};
+ghost use Rattle.yaml_spell.specs.Stops.{fault_of};
 ghost use Rattle.yaml_spell.specs.Pieces.{TakesPiece, Puts, Misses, Fails};
 ghost use Rattle.yaml_spell.specs.Kinds.{number_of_kind};
 
 use crate::sink::Sink;
+use crate::stop::Stop;
 use yaml_text::class::is_uri;
 use yaml_text::core_tag;
-use yaml_text::fault::Fault;
 
 /// The kinds of nodes.
 #[derive(Clone, Copy)]
@@ -63,9 +64,9 @@ fn digit(value: u8) -> &'static str
 }
 
 /// A number in decimal.
-fn put_number<O, S: Sink<O>>(sink: &mut S, out: &mut O, number: usize) -> Result<(), Fault>
+fn put_number<O, S: Sink<O>>(sink: &mut S, out: &mut O, number: usize) -> Result<(), Stop>
     ensures ok { OnOk result (TakesPiece S.holds sink.old out.old sink.new out.new (decimal number)) }
-    ensures err { IfErr result (λ fault. Misses S.holds S.stops sink.old out.old out.new fault (decimal number)) }
+    ensures err { IfErr result (λ stop. Misses S.holds S.stops sink.old out.old out.new (fault_of stop) (decimal number)) }
 {
     let last = digit((number % 10) as u8);
     if number < 10 {
@@ -80,10 +81,10 @@ pub(crate) fn put_alias<O, S: Sink<O>>(
     sink: &mut S,
     out: &mut O,
     number: usize,
-) -> Result<(), Fault>
+) -> Result<(), Stop>
     requires { 0 < number }
     ensures ok { OnOk result (Puts S.holds sink.old out.old sink.new out.new (node_text (alias_at (anchor_name number)))) }
-    ensures err { IfErr result (λ fault. Fails S.holds S.stops sink.old out.old out.new fault (node_text (alias_at (anchor_name number)))) }
+    ensures err { IfErr result (λ stop. Fails S.holds S.stops sink.old out.old out.new (fault_of stop) (node_text (alias_at (anchor_name number)))) }
 {
     sink.put(out, "*a")?;
     put_number(sink, out, number)
@@ -94,10 +95,10 @@ pub(crate) fn put_anchor<O, S: Sink<O>>(
     sink: &mut S,
     out: &mut O,
     number: usize,
-) -> Result<(), Fault>
+) -> Result<(), Stop>
     requires { 0 < number }
     ensures ok { OnOk result (Puts S.holds sink.old out.old sink.new out.new (anchor_text (Some (anchor_name number)))) }
-    ensures err { IfErr result (λ fault. Fails S.holds S.stops sink.old out.old out.new fault (anchor_text (Some (anchor_name number)))) }
+    ensures err { IfErr result (λ stop. Fails S.holds S.stops sink.old out.old out.new (fault_of stop) (anchor_text (Some (anchor_name number)))) }
 {
     sink.put(out, "&a")?;
     put_number(sink, out, number)?;
@@ -105,9 +106,9 @@ pub(crate) fn put_anchor<O, S: Sink<O>>(
 }
 
 /// `%HH`, for a byte that is not written as itself.
-fn put_escape<O, S: Sink<O>>(sink: &mut S, out: &mut O, byte: u8) -> Result<(), Fault>
+fn put_escape<O, S: Sink<O>>(sink: &mut S, out: &mut O, byte: u8) -> Result<(), Stop>
     ensures ok { OnOk result (TakesPiece S.holds sink.old out.old sink.new out.new (37 ∷ hex_digit (byte / 16) ∷ hex_digit (byte % 16) ∷ [])) }
-    ensures err { IfErr result (λ fault. Misses S.holds S.stops sink.old out.old out.new fault (37 ∷ hex_digit (byte / 16) ∷ hex_digit (byte % 16) ∷ [])) }
+    ensures err { IfErr result (λ stop. Misses S.holds S.stops sink.old out.old out.new (fault_of stop) (37 ∷ hex_digit (byte / 16) ∷ hex_digit (byte % 16) ∷ [])) }
 {
     sink.put(out, "%")?;
     sink.put(out, digit(byte / 16))?;
@@ -115,9 +116,9 @@ fn put_escape<O, S: Sink<O>>(sink: &mut S, out: &mut O, byte: u8) -> Result<(), 
 }
 
 /// A byte of a tag: as it is where it is a URI character, else percent-encoded.
-fn put_byte<O, S: Sink<O>>(sink: &mut S, out: &mut O, byte: u8) -> Result<(), Fault>
+fn put_byte<O, S: Sink<O>>(sink: &mut S, out: &mut O, byte: u8) -> Result<(), Stop>
     ensures ok { OnOk result (TakesPiece S.holds sink.old out.old sink.new out.new (encode_utf8_all (spell_byte byte))) }
-    ensures err { IfErr result (λ fault. Misses S.holds S.stops sink.old out.old out.new fault (encode_utf8_all (spell_byte byte))) }
+    ensures err { IfErr result (λ stop. Misses S.holds S.stops sink.old out.old out.new (fault_of stop) (encode_utf8_all (spell_byte byte))) }
 {
     let c = char::from(byte);
     if is_uri(c) {
@@ -129,9 +130,9 @@ fn put_byte<O, S: Sink<O>>(sink: &mut S, out: &mut O, byte: u8) -> Result<(), Fa
 }
 
 /// A tag's bytes, percent-encoded.
-fn put_encoded<O, S: Sink<O>>(sink: &mut S, out: &mut O, tag: &str) -> Result<(), Fault>
+fn put_encoded<O, S: Sink<O>>(sink: &mut S, out: &mut O, tag: &str) -> Result<(), Stop>
     ensures ok { OnOk result (TakesPiece S.holds sink.old out.old sink.new out.new (encode_utf8_all (encoded tag.now []))) }
-    ensures err { IfErr result (λ fault. Misses S.holds S.stops sink.old out.old out.new fault (encode_utf8_all (encoded tag.now []))) }
+    ensures err { IfErr result (λ stop. Misses S.holds S.stops sink.old out.old out.new (fault_of stop) (encode_utf8_all (encoded tag.now []))) }
 {
     for byte in tag.as_bytes() {
         put_byte(sink, out, *byte)?;
@@ -164,9 +165,9 @@ pub(crate) fn put_tag<O, S: Sink<O>>(
     out: &mut O,
     tag: &str,
     kind: Kind,
-) -> Result<(), Fault>
+) -> Result<(), Stop>
     ensures ok { OnOk result (Puts S.holds sink.old out.old sink.new out.new (λ more. tag_text (written_tag (number_of_kind kind) tag.now) ++ more)) }
-    ensures err { IfErr result (λ fault. Fails S.holds S.stops sink.old out.old out.new fault (λ more. tag_text (written_tag (number_of_kind kind) tag.now) ++ more)) }
+    ensures err { IfErr result (λ stop. Fails S.holds S.stops sink.old out.old out.new (fault_of stop) (λ more. tag_text (written_tag (number_of_kind kind) tag.now) ++ more)) }
 {
     if tag == default_tag(kind) {
         return Ok(());
@@ -185,9 +186,9 @@ pub(crate) fn put_scalar<O, S: Sink<O>>(
     out: &mut O,
     tag: &str,
     content: &str,
-) -> Result<(), Fault>
+) -> Result<(), Stop>
     ensures ok { OnOk result (Puts S.holds sink.old out.old sink.new out.new (λ more. tag_text (written_tag a_scalar tag.now) ++ (34 ∷ quoted (chars content.now) more))) }
-    ensures err { IfErr result (λ fault. Fails S.holds S.stops sink.old out.old out.new fault (λ more. tag_text (written_tag a_scalar tag.now) ++ (34 ∷ quoted (chars content.now) more))) }
+    ensures err { IfErr result (λ stop. Fails S.holds S.stops sink.old out.old out.new (fault_of stop) (λ more. tag_text (written_tag a_scalar tag.now) ++ (34 ∷ quoted (chars content.now) more))) }
 {
     put_tag(sink, out, tag, Kind::Scalar)?;
     sink.put_spelled(out, content)

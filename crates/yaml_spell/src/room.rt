@@ -3,8 +3,8 @@ ghost use Rattle.std.specs.Prelude.{◌≤◌, length};
 
 use crate::quoted::{Piece, cut, is_unescaped};
 use crate::sink::Sink;
+use crate::stop::Stop;
 use yaml_scalar::spell::spelled_char;
-use yaml_text::fault::Fault;
 
 /// The room for a text, and how many bytes of it the text has so far. It takes no memory of its own.
 #[derive(Drop)]
@@ -18,6 +18,7 @@ impl<'a> Room<'a> {
     ghost use Rattle.std.specs.Prelude.{◌≡◌, ◌≤◌, ◌+◌, ◌++◌, ◌∷◌, [], length, take, drop, OnOk, IfErr};
     ghost use Rattle.yaml_scalar.specs.Spelling.{quoted_bytes};
     ghost use Rattle.yaml_spell.specs.Quoted.{piece_text};
+    ghost use Rattle.yaml_spell.specs.Stops.{fault_of};
     ghost use Rattle.yaml_spell.specs.Rooms.{room_len, room_bytes, room_name, RoomTakes, RoomMisses};
 
     /// Nothing of the text yet.
@@ -44,21 +45,21 @@ impl<'a> Room<'a> {
 
     /// Takes some bytes. A text that is longer than the room is refused as `TextTooLong`.
     #[inline(always)]
-    fn add(&mut self, piece: &[u8]) -> Result<(), Fault>
+    fn add(&mut self, piece: &[u8]) -> Result<(), Stop>
         ensures ok { OnOk result (RoomTakes self.old self.new piece.now) }
-        ensures err { IfErr result (λ fault. RoomMisses self.old fault piece.now) }
+        ensures err { IfErr result (λ stop. RoomMisses self.old (fault_of stop) piece.now) }
     {
         if piece.len() > self.bytes.len() - self.len {
-            return Err(Fault::TextTooLong);
+            return Err(Stop::TextTooLong);
         }
         self.fill(piece);
         Ok(())
     }
 
     /// Takes a piece of a content's spelling.
-    fn add_piece(&mut self, piece: &Piece<'_>) -> Result<(), Fault>
+    fn add_piece(&mut self, piece: &Piece<'_>) -> Result<(), Stop>
         ensures ok { OnOk result (RoomTakes self.old self.new (piece_text piece.now)) }
-        ensures err { IfErr result (λ fault. RoomMisses self.old fault (piece_text piece.now)) }
+        ensures err { IfErr result (λ stop. RoomMisses self.old (fault_of stop) (piece_text piece.now)) }
     {
         self.add(piece.run.as_bytes())?;
         let Some(c) = piece.next else {
@@ -69,9 +70,9 @@ impl<'a> Room<'a> {
     }
 
     /// Takes bytes between quotes.
-    fn add_quoted(&mut self, content: &[u8]) -> Result<(), Fault>
+    fn add_quoted(&mut self, content: &[u8]) -> Result<(), Stop>
         ensures ok { OnOk result (RoomTakes self.old self.new (34 ∷ (content.now ++ (34 ∷ [])))) }
-        ensures err { IfErr result (λ fault. RoomMisses self.old fault (34 ∷ (content.now ++ (34 ∷ [])))) }
+        ensures err { IfErr result (λ stop. RoomMisses self.old (fault_of stop) (34 ∷ (content.now ++ (34 ∷ [])))) }
     {
         self.add(b"\"")?;
         self.add(content)?;
@@ -79,9 +80,9 @@ impl<'a> Room<'a> {
     }
 
     /// Takes a content's spelling.
-    fn add_spelled(&mut self, content: &str) -> Result<(), Fault>
+    fn add_spelled(&mut self, content: &str) -> Result<(), Stop>
         ensures ok { OnOk result (RoomTakes self.old self.new (quoted_bytes content.now)) }
-        ensures err { IfErr result (λ fault. RoomMisses self.old fault (quoted_bytes content.now)) }
+        ensures err { IfErr result (λ stop. RoomMisses self.old (fault_of stop) (quoted_bytes content.now)) }
     {
         if is_unescaped(content) {
             return self.add_quoted(content.as_bytes());
@@ -91,9 +92,9 @@ impl<'a> Room<'a> {
 
     /// The same, piece by piece.
     #[inline(never)]
-    fn add_pieces(&mut self, content: &str) -> Result<(), Fault>
+    fn add_pieces(&mut self, content: &str) -> Result<(), Stop>
         ensures ok { OnOk result (RoomTakes self.old self.new (quoted_bytes content.now)) }
-        ensures err { IfErr result (λ fault. RoomMisses self.old fault (quoted_bytes content.now)) }
+        ensures err { IfErr result (λ stop. RoomMisses self.old (fault_of stop) (quoted_bytes content.now)) }
     {
         self.add(b"\"")?;
         let mut rest = content;
@@ -114,16 +115,16 @@ impl<'a> Sink<()> for Room<'a> {
     ghost stops = { Stops };
 
     #[inline(always)]
-    fn put(&mut self, _out: &mut (), piece: &str) -> Result<(), Fault> {
+    fn put(&mut self, _out: &mut (), piece: &str) -> Result<(), Stop> {
         self.add(piece.as_bytes())
     }
 
-    fn put_spelled(&mut self, _out: &mut (), content: &str) -> Result<(), Fault> {
+    fn put_spelled(&mut self, _out: &mut (), content: &str) -> Result<(), Stop> {
         self.add_spelled(content)
     }
 
     #[inline(always)]
-    fn count(&mut self, _out: &mut (), _len: usize) -> Result<bool, Fault> {
+    fn count(&mut self, _out: &mut (), _len: usize) -> Result<bool, Stop> {
         Ok(false)
     }
 }

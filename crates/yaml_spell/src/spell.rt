@@ -5,6 +5,7 @@ ghost use Rattle.yaml_definitions.specs.canonical.Spell.{spell_bytes};
 ghost use Rattle.yaml_nodes.specs.GraphView.{forest};
 ghost use Rattle.yaml_levels.specs.RanksView.{RanksAre};
 ghost use Rattle.yaml_spell.specs.NamesView.{ranks_in, document_number, NextDocument};
+ghost use Rattle.yaml_spell.specs.Stops.{fault_of};
 ghost use Rattle.yaml_spell.specs.Pieces.{Puts, Fails};
 ghost use Rattle.yaml_spell.specs.Documents.{arranged_text, arranged_more, arranged_bytes, RefusesLength, RefusesArranged};
 ghost use Rattle.yaml_spell.specs.RankedNodes.{Ready, Rooted, tree_of};
@@ -14,6 +15,7 @@ use crate::names::Names;
 use crate::ranked::RankedNodes;
 use crate::ranked_graph::RankedGraph;
 use crate::sink::Sink;
+use crate::stop::Stop;
 use crate::walk::{notice, write_node};
 use std::alloc::Global;
 use yaml_levels::ranks::Ranks;
@@ -28,13 +30,13 @@ fn write_document<I: Copy, V: RankedNodes<I>, O, S: Sink<O>>(
     root: I,
     sink: &mut S,
     out: &mut O,
-) -> Result<(), Fault>
+) -> Result<(), Stop>
     requires ready { Ready V.stands V.count view.now names.old }
     requires within { V.number root < V.count view.now }
     requires few { document_number names.old < 2 ^ 63 }
     ensures next { NextDocument names.old names.new }
     ensures ok { OnOk result (Puts S.holds sink.old out.old sink.new out.new (arranged_text (V.tree view.now (V.number root)))) }
-    ensures err { IfErr result (λ fault. Fails S.holds S.stops sink.old out.old out.new fault (arranged_text (V.tree view.now (V.number root)))) }
+    ensures err { IfErr result (λ stop. Fails S.holds S.stops sink.old out.old out.new (fault_of stop) (arranged_text (V.tree view.now (V.number root)))) }
 {
     view.tells();
     names.begin();

@@ -2,6 +2,7 @@
 ghost use Rattle.std.specs.Prelude.{◌≡◌, ◌<◌, ◌++◌, ◌∷◌, [], true, false, OnOk, IfOk, IfErr};
 ghost use Rattle.std.specs.List.{All};
 ghost use Rattle.yaml_spell.specs.NamesView.{ranks_in, document_number, table_of, given_of, opening_number, SameDocument, NamesNone};
+ghost use Rattle.yaml_spell.specs.Stops.{fault_of};
 ghost use Rattle.yaml_spell.specs.Pieces.{TakesPiece, Counts, Puts, Exceeds, Fails};
 ghost use Rattle.yaml_definitions.specs.canonical.NodeText.{node_text, items_text, pairs_text};
 ghost use Rattle.yaml_spell.specs.RankedNodes.{Ready, trees_of, pairs_of};
@@ -12,7 +13,7 @@ use crate::parts::{Kind, put_alias, put_anchor, put_scalar, put_tag};
 use crate::ranked::RankedNodes;
 use crate::shown::Inside;
 use crate::sink::Sink;
-use yaml_text::fault::Fault;
+use crate::stop::Stop;
 
 /// Notes which ranks are met in the tree of a node, and which come again. A node that comes again is
 /// not entered.
@@ -82,11 +83,11 @@ fn start(names: &mut Names, is_short: bool, rank: usize) -> Opening
 /// Takes a short node, which has so many bytes, without looking at it, where the sink does so. The answer is
 /// whether it did; a node of 0 bytes is none that is short.
 #[inline(always)]
-fn count_short<O, S: Sink<O>>(sink: &mut S, out: &mut O, len: usize) -> Result<bool, Fault>
+fn count_short<O, S: Sink<O>>(sink: &mut S, out: &mut O, len: usize) -> Result<bool, Stop>
     ensures short { IfOk result (λ counted. counted ≡ true → 0 < len) }
     ensures taken { IfOk result (λ counted. counted ≡ true → Counts S.holds sink.old out.old sink.new out.new len) }
     ensures kept { IfOk result (λ counted. counted ≡ false → TakesPiece S.holds sink.old out.old sink.new out.new []) }
-    ensures err { IfErr result (λ fault. (0 < len) × Exceeds S.holds S.stops sink.old out.old out.new fault len) }
+    ensures err { IfErr result (λ stop. (0 < len) × Exceeds S.holds S.stops sink.old out.old out.new (fault_of stop) len) }
 {
     if len == 0 {
         return Ok(false);
@@ -95,9 +96,9 @@ fn count_short<O, S: Sink<O>>(sink: &mut S, out: &mut O, len: usize) -> Result<b
 }
 
 /// What stands before the entry at this place.
-fn put_separator<O, S: Sink<O>>(sink: &mut S, out: &mut O, place: usize) -> Result<(), Fault>
+fn put_separator<O, S: Sink<O>>(sink: &mut S, out: &mut O, place: usize) -> Result<(), Stop>
     ensures ok { OnOk result (Puts S.holds sink.old out.old sink.new out.new (λ more. separator place ++ more)) }
-    ensures err { IfErr result (λ fault. Fails S.holds S.stops sink.old out.old out.new fault (λ more. separator place ++ more)) }
+    ensures err { IfErr result (λ stop. Fails S.holds S.stops sink.old out.old out.new (fault_of stop) (λ more. separator place ++ more)) }
 {
     if place == 0 {
         return Ok(());
@@ -115,13 +116,13 @@ pub(crate) fn write_node<I: Copy, V: RankedNodes<I>, O, S: Sink<O>>(
     id: I,
     sink: &mut S,
     out: &mut O,
-) -> Result<(), Fault>
+) -> Result<(), Stop>
     requires ready { Ready V.stands V.count view.now names.old }
     requires within { V.number id < V.count view.now }
     ensures same { SameDocument names.old names.new }
     ensures known { OnOk result (given_of names.new ≡ given (V.rank view.now) (V.tree view.now (V.number id)) (given_of names.old)) }
     ensures ok { OnOk result (Puts S.holds sink.old out.old sink.new out.new (node_text (written (V.rank view.now) (V.tree view.now (V.number id)) (given_of names.old)))) }
-    ensures err { IfErr result (λ fault. Fails S.holds S.stops sink.old out.old out.new fault (node_text (written (V.rank view.now) (V.tree view.now (V.number id)) (given_of names.old)))) }
+    ensures err { IfErr result (λ stop. Fails S.holds S.stops sink.old out.old out.new (fault_of stop) (node_text (written (V.rank view.now) (V.tree view.now (V.number id)) (given_of names.old)))) }
 {
     let short = view.short_len(id);
     let counted = count_short(sink, out, short)?;
@@ -147,13 +148,13 @@ fn write_inside<I: Copy, V: RankedNodes<I>, O, S: Sink<O>>(
     id: I,
     sink: &mut S,
     out: &mut O,
-) -> Result<(), Fault>
+) -> Result<(), Stop>
     requires ready { Ready V.stands V.count view.now names.old }
     requires within { V.number id < V.count view.now }
     ensures same { SameDocument names.old names.new }
     ensures known { OnOk result (given_of names.new ≡ given_inside (V.rank view.now) (V.tree view.now (V.number id)) (given_of names.old)) }
     ensures ok { OnOk result (Puts S.holds sink.old out.old sink.new out.new (behind_anchor (V.rank view.now) (V.tree view.now (V.number id)) (given_of names.old))) }
-    ensures err { IfErr result (λ fault. Fails S.holds S.stops sink.old out.old out.new fault (behind_anchor (V.rank view.now) (V.tree view.now (V.number id)) (given_of names.old))) }
+    ensures err { IfErr result (λ stop. Fails S.holds S.stops sink.old out.old out.new (fault_of stop) (behind_anchor (V.rank view.now) (V.tree view.now (V.number id)) (given_of names.old))) }
 {
     let node = view.node(id);
     match node.inside {
@@ -177,13 +178,13 @@ fn write_items<I: Copy, V: RankedNodes<I>, O, S: Sink<O>>(
     items: &[I],
     sink: &mut S,
     out: &mut O,
-) -> Result<(), Fault>
+) -> Result<(), Stop>
     requires ready { Ready V.stands V.count view.now names.old }
     requires within { All (λ i. V.number i < V.count view.now) items.now }
     ensures same { SameDocument names.old names.new }
     ensures known { OnOk result (given_of names.new ≡ given_all (V.rank view.now) (trees_of V.tree V.number view.now items.now) (given_of names.old)) }
     ensures ok { OnOk result (Puts S.holds sink.old out.old sink.new out.new (λ more. 91 ∷ items_text [] (written_all (V.rank view.now) (trees_of V.tree V.number view.now items.now) (given_of names.old)) more)) }
-    ensures err { IfErr result (λ fault. Fails S.holds S.stops sink.old out.old out.new fault (λ more. 91 ∷ items_text [] (written_all (V.rank view.now) (trees_of V.tree V.number view.now items.now) (given_of names.old)) more)) }
+    ensures err { IfErr result (λ stop. Fails S.holds S.stops sink.old out.old out.new (fault_of stop) (λ more. 91 ∷ items_text [] (written_all (V.rank view.now) (trees_of V.tree V.number view.now items.now) (given_of names.old)) more)) }
 {
     sink.put(out, "[")?;
     for (place, item) in items.iter().enumerate() {
@@ -201,13 +202,13 @@ fn write_entries<I: Copy, V: RankedNodes<I>, O, S: Sink<O>>(
     entries: &[(I, I)],
     sink: &mut S,
     out: &mut O,
-) -> Result<(), Fault>
+) -> Result<(), Stop>
     requires ready { Ready V.stands V.count view.now names.old }
     requires within { All (λ p. (V.number p.0 < V.count view.now) × (V.number p.1 < V.count view.now)) entries.now }
     ensures same { SameDocument names.old names.new }
     ensures known { OnOk result (given_of names.new ≡ given_pairs (V.rank view.now) (pairs_of V.tree V.number view.now entries.now) (given_of names.old)) }
     ensures ok { OnOk result (Puts S.holds sink.old out.old sink.new out.new (λ more. 123 ∷ pairs_text [] (written_pairs (V.rank view.now) (pairs_of V.tree V.number view.now entries.now) (given_of names.old)) more)) }
-    ensures err { IfErr result (λ fault. Fails S.holds S.stops sink.old out.old out.new fault (λ more. 123 ∷ pairs_text [] (written_pairs (V.rank view.now) (pairs_of V.tree V.number view.now entries.now) (given_of names.old)) more)) }
+    ensures err { IfErr result (λ stop. Fails S.holds S.stops sink.old out.old out.new (fault_of stop) (λ more. 123 ∷ pairs_text [] (written_pairs (V.rank view.now) (pairs_of V.tree V.number view.now entries.now) (given_of names.old)) more)) }
 {
     sink.put(out, "{")?;
     for (place, entry) in entries.iter().enumerate() {

@@ -5,17 +5,17 @@ ghost use Rattle.yaml_scalar.specs.Spelling.{quoted_bytes};
 
 use crate::quoted::is_unescaped;
 use crate::sink::Sink;
+use crate::stop::Stop;
 use yaml_scalar::spell::spell_into;
-use yaml_text::fault::Fault;
 
 /// Puts a text at the end of a string.
 #[derive(Drop)]
 pub struct Whole;
 
 /// Puts a text between quotes at the end of a string.
-fn push_quoted(text: &str, out: &mut String) -> Result<(), Fault>
+fn push_quoted(text: &str, out: &mut String) -> Result<(), Stop>
     ensures ok { OnOk result (string_bytes out.new ≡ string_bytes out.old ++ (34 ∷ (text.now ++ (34 ∷ [])))) }
-    ensures err { IfErr result (λ fault. fault ≡ Fault.OutOfMemory) }
+    ensures err { IfErr result (λ stop. stop ≡ Stop.OutOfMemory) }
 {
     out.push_str("\"")?;
     out.push_str(text)?;
@@ -24,14 +24,14 @@ fn push_quoted(text: &str, out: &mut String) -> Result<(), Fault>
 }
 
 /// Puts a content's spelling at the end of a string.
-fn push_spelled(content: &str, out: &mut String) -> Result<(), Fault>
+fn push_spelled(content: &str, out: &mut String) -> Result<(), Stop>
     ensures ok { OnOk result (string_bytes out.new ≡ string_bytes out.old ++ quoted_bytes content.now) }
-    ensures err { IfErr result (λ fault. fault ≡ Fault.OutOfMemory) }
+    ensures err { IfErr result (λ stop. stop ≡ Stop.OutOfMemory) }
 {
     if is_unescaped(content) {
         return push_quoted(content, out);
     }
-    spell_into(content, out)
+    spell_into(content, out).map_err(|_| Stop::OutOfMemory)
 }
 
 impl Sink<String> for Whole {
@@ -43,17 +43,17 @@ impl Sink<String> for Whole {
 
     ghost stops = { λ _ _ fault _. fault ≡ OutOfMemory };
 
-    fn put(&mut self, out: &mut String, piece: &str) -> Result<(), Fault> {
+    fn put(&mut self, out: &mut String, piece: &str) -> Result<(), Stop> {
         out.push_str(piece)?;
         Ok(())
     }
 
-    fn put_spelled(&mut self, out: &mut String, content: &str) -> Result<(), Fault> {
+    fn put_spelled(&mut self, out: &mut String, content: &str) -> Result<(), Stop> {
         push_spelled(content, out)
     }
 
     #[inline(always)]
-    fn count(&mut self, _out: &mut String, _len: usize) -> Result<bool, Fault> {
+    fn count(&mut self, _out: &mut String, _len: usize) -> Result<bool, Stop> {
         Ok(false)
     }
 }

@@ -1,5 +1,6 @@
 use Rattle.std.proofs.Common.{◌∙◌, sym, ap, ◌∷◌, [], ◌++◌}
 use Rattle.yaml_definitions.specs.canonical.TagText.{tag_text, written_tag}
+use Rattle.yaml_spell.specs.Stops.{fault_of}
 use Rattle.yaml_spell.specs.Kinds.{number_of_kind}
 use Rattle.yaml_spell.specs.ShortNodes.{if_short}
 use Rattle.yaml_spell.proofs.PieceLaws.{puts_then, puts_piece, fails_later, fails_piece}
@@ -11,7 +12,7 @@ pub returns-then-is_err : goal.returns-then-is_err
 returns-then-is_err c =
     let k = number_of_kind c.args.kind in
     let w = was_err c.put_tag.result (sym c.if-is_err.ensures.value) c.put_tag.ensures.err in
-    short_missed c.new-length.result _ _ w.0 (λ more. tag_text (written_tag k c.args.tag.now) ++ more) (91 ∷ 93 ∷ []) c.new-length.ensures.len (c.new-length.ensures.limit ∙ c.short_limit.ensures) w.1 ∙ ap if_short (brackets k c.args.tag.now (91 ∷ 93 ∷ []) two_square)
+    short_missed c.new-length.result _ _ (fault_of w.0) (λ more. tag_text (written_tag k c.args.tag.now) ++ more) (91 ∷ 93 ∷ []) c.new-length.ensures.len (c.new-length.ensures.limit ∙ c.short_limit.ensures) w.1 ∙ ap if_short (brackets k c.args.tag.now (91 ∷ 93 ∷ []) two_square)
 
 pub returns-in-Ok : goal.returns-in-Ok
 returns-in-Ok c =

@@ -1,15 +1,16 @@
 use Rattle.std.proofs.Common.{rules, arith}
+use Rattle.yaml_spell.specs.Stops.{fault_of}
 use Rattle.yaml_spell.proofs.PieceLaws.{on_ok, if_err}
 use Rattle.yaml_spell.proofs.PartLaws.{alias_put, alias_cut, alias_late}
 use Rattle.yaml_spell.proofs.parts.put_alias.Goals as goal
 
 pub returns-in_err-put-clause-err : goal.returns-in_err-put-clause-err
 returns-in_err-put-clause-err g c =
-    let m = alias_cut g.S.Sink.holds g.S.Sink.stops c.args.sink.now c.args.out.now c.put.new.out c.args.number c.in_err-put.field-0.0 c.requires (omega arith) c.in_err-put.ensures.err in
+    let m = alias_cut g.S.Sink.holds g.S.Sink.stops c.args.sink.now c.args.out.now c.put.new.out c.args.number (fault_of c.in_err-put.field-0.0) c.requires (omega arith) c.in_err-put.ensures.err in
     search (rules, m)
 
 pub returns-clause-ok : goal.returns-clause-ok
 returns-clause-ok g c = on_ok c.put_number.result c.put_number.ensures.ok (λ h. alias_put g.S.Sink.holds g.S.Sink.stops c.args.sink.now c.args.out.now c.put.new.self c.put.new.out c.put_number.new.sink c.put_number.new.out c.args.number c.requires (omega arith) c.in_ok-put.ensures.ok h)
 
 pub returns-clause-err : goal.returns-clause-err
-returns-clause-err g c = if_err c.put_number.result c.put_number.ensures.err (λ fault h. alias_late g.S.Sink.holds g.S.Sink.stops c.args.sink.now c.args.out.now c.put.new.self c.put.new.out c.put_number.new.out c.args.number fault c.requires (omega arith) c.in_ok-put.ensures.ok h)
+returns-clause-err g c = if_err c.put_number.result c.put_number.ensures.err (λ stop h. let fault = fault_of stop in alias_late g.S.Sink.holds g.S.Sink.stops c.args.sink.now c.args.out.now c.put.new.self c.put.new.out c.put_number.new.out c.args.number fault c.requires (omega arith) c.in_ok-put.ensures.ok h)

@@ -1,4 +1,5 @@
 use Rattle.std.proofs.Common.{arith, sym, ◌∙◌, subst}
+use Rattle.yaml_spell.specs.Stops.{fault_of}
 use Rattle.yaml_spell.specs.Pieces.{TakesPiece, Misses}
 use Rattle.yaml_spell.proofs.PieceLaws.{on_ok, if_err}
 use Rattle.yaml_spell.proofs.PartLaws.{byte_itself, byte_escaped}
@@ -10,7 +11,7 @@ returns-then-is_uri-clause-ok g c =
 
 pub returns-then-is_uri-clause-err : goal.returns-then-is_uri-clause-err
 returns-then-is_uri-clause-err g c =
-    if_err c.put.result c.put.ensures.err (λ fault h. subst (Misses g.S.Sink.holds g.S.Sink.stops c.args.sink.now c.args.out.now c.put.new.out fault) (c.encode_utf8.ensures.value ∙ byte_itself c.args.byte c.from-c.result c.from-c.ensures (sym c.if-is_uri.ensures)) h)
+    if_err c.put.result c.put.ensures.err (λ stop h. let fault = fault_of stop in subst (Misses g.S.Sink.holds g.S.Sink.stops c.args.sink.now c.args.out.now c.put.new.out fault) (c.encode_utf8.ensures.value ∙ byte_itself c.args.byte c.from-c.result c.from-c.ensures (sym c.if-is_uri.ensures)) h)
 
 pub returns-else-is_uri-clause-ok : goal.returns-else-is_uri-clause-ok
 returns-else-is_uri-clause-ok g c =
@@ -18,4 +19,4 @@ returns-else-is_uri-clause-ok g c =
 
 pub returns-else-is_uri-clause-err : goal.returns-else-is_uri-clause-err
 returns-else-is_uri-clause-err g c =
-    if_err c.put_escape.result c.put_escape.ensures.err (λ fault h. subst (Misses g.S.Sink.holds g.S.Sink.stops c.args.sink.now c.args.out.now c.put_escape.new.out fault) (byte_escaped c.args.byte c.from-c.result c.from-c.ensures (sym c.if-is_uri.ensures) (omega arith)) h)
+    if_err c.put_escape.result c.put_escape.ensures.err (λ stop h. let fault = fault_of stop in subst (Misses g.S.Sink.holds g.S.Sink.stops c.args.sink.now c.args.out.now c.put_escape.new.out fault) (byte_escaped c.args.byte c.from-c.result c.from-c.ensures (sym c.if-is_uri.ensures) (omega arith)) h)

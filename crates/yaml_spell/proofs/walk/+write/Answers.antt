@@ -2,6 +2,7 @@ use Rattle.std.proofs.Common.{◌≡◌, ℕ, ◌+◌, ◌*◌, ◌<◌, nat_lt,
 use Rattle.yaml_definitions.specs.model.Tree.{height, heights, heights_of_pairs}
 use Rattle.yaml_definitions.specs.canonical.NodeText.{pairs_text}
 use Rattle.yaml_definitions.specs.canonical.Spell.{short}
+use Rattle.yaml_spell.specs.Stops.{fault_of}
 use Rattle.yaml_spell.specs.NamesView.{given_of}
 use Rattle.yaml_spell.specs.RankedNodes.{tree_of, pair_of, trees_of, pairs_of}
 use Rattle.yaml_spell.specs.Walked.{opening_of, begun_unless_short, start, started, given_inside, written_pairs}
@@ -30,7 +31,7 @@ write_items-returns-in_err-put_separator-clause-err g w c =
     let xs = c.args.items.now in
     let i = c.loop-place.place in
     let p = given_of c.loop-place.names in
-    let m = items_separator_fails g.S.Sink.holds g.S.Sink.stops R f xs i p _ c.index-items-place.result c.args.sink.now c.args.out.now c.loop-place.sink c.loop-place.out c.put_separator.new.out c.in_err-put_separator.field-0.0 (drop_item xs i c.index-items-place.result (omega arith) c.index-items-place.is) c.loop-place.invariant.left c.in_err-put_separator.ensures.err in
+    let m = items_separator_fails g.S.Sink.holds g.S.Sink.stops R f xs i p _ c.index-items-place.result c.args.sink.now c.args.out.now c.loop-place.sink c.loop-place.out c.put_separator.new.out (fault_of c.in_err-put_separator.field-0.0) (drop_item xs i c.index-items-place.result (omega arith) c.index-items-place.is) c.loop-place.invariant.left c.in_err-put_separator.ensures.err in
     search (rules, m)
 
 pub write_items-returns-in_err-write_node-clause-err : goal.write_items-returns-in_err-write_node-clause-err
@@ -42,7 +43,7 @@ write_items-returns-in_err-write_node-clause-err g w c =
     let xs = c.args.items.now in
     let i = c.loop-place.place in
     let p = given_of c.loop-place.names in
-    let m = items_node_fails g.S.Sink.holds g.S.Sink.stops R f xs i p _ c.index-items-place.result c.args.sink.now c.args.out.now c.loop-place.sink c.loop-place.out c.put_separator.new.sink c.put_separator.new.out c.write_node.new.out c.in_err-write_node.field-0.0 (drop_item xs i c.index-items-place.result (omega arith) c.index-items-place.is) c.loop-place.invariant.left c.in_ok-put_separator.ensures.ok c.in_err-write_node.ensures.err in
+    let m = items_node_fails g.S.Sink.holds g.S.Sink.stops R f xs i p _ c.index-items-place.result c.args.sink.now c.args.out.now c.loop-place.sink c.loop-place.out c.put_separator.new.sink c.put_separator.new.out c.write_node.new.out (fault_of c.in_err-write_node.field-0.0) (drop_item xs i c.index-items-place.result (omega arith) c.index-items-place.is) c.loop-place.invariant.left c.in_ok-put_separator.ensures.ok c.in_err-write_node.ensures.err in
     search (rules, m)
 
 pub write_items-loop-place-preserved : goal.write_items-loop-place-preserved
@@ -92,7 +93,7 @@ write_items-returns-clause-err g w c =
     let xs = c.args.items.now in
     let i = c.loop-place.place in
     let p = given_of c.loop-place.names in
-    if_err c.put-2.result c.put-2.ensures.err (λ fault h. left_fails g.S.Sink.holds g.S.Sink.stops c.args.sink.now c.args.out.now c.loop-place.sink c.loop-place.out c.put-2.new.out fault _ _ (λ more. (93 ∷ []) ++ more) (λ more. more) c.loop-place.invariant.left (fails_piece g.S.Sink.holds g.S.Sink.stops _ _ _ fault (93 ∷ []) (93 ∷ []) h closing_bracket) (items_end R f xs i p (omega arith)))
+    if_err c.put-2.result c.put-2.ensures.err (λ stop h. let fault = fault_of stop in left_fails g.S.Sink.holds g.S.Sink.stops c.args.sink.now c.args.out.now c.loop-place.sink c.loop-place.out c.put-2.new.out fault _ _ (λ more. (93 ∷ []) ++ more) (λ more. more) c.loop-place.invariant.left (fails_piece g.S.Sink.holds g.S.Sink.stops _ _ _ fault (93 ∷ []) (93 ∷ []) h closing_bracket) (items_end R f xs i p (omega arith)))
 
 pub write_entries-loop-place-init : goal.write_entries-loop-place-init
 write_entries-loop-place-init g w c =
@@ -112,7 +113,7 @@ write_entries-returns-in_err-put_separator-clause-err g w c =
     let i = c.loop-place.place in
     let p = given_of c.loop-place.names in
     let whole : List ℕ → List ℕ = λ more. 123 ∷ pairs_text [] (written_pairs R (pairs_of g.V.RankedNodes.tree N v xs) (given_of c.args.names.now)) more in
-    let m = pairs_separator_fails g.S.Sink.holds g.S.Sink.stops R f xs i p whole c.index-entries-place.result c.args.sink.now c.args.out.now c.loop-place.sink c.loop-place.out c.put_separator.new.out c.in_err-put_separator.field-0.0 (drop_item xs i c.index-entries-place.result (omega arith) c.index-entries-place.is) c.loop-place.invariant.left c.in_err-put_separator.ensures.err in
+    let m = pairs_separator_fails g.S.Sink.holds g.S.Sink.stops R f xs i p whole c.index-entries-place.result c.args.sink.now c.args.out.now c.loop-place.sink c.loop-place.out c.put_separator.new.out (fault_of c.in_err-put_separator.field-0.0) (drop_item xs i c.index-entries-place.result (omega arith) c.index-entries-place.is) c.loop-place.invariant.left c.in_err-put_separator.ensures.err in
     search (rules, m)
 
 pub write_entries-returns-in_err-write_node-clause-err : goal.write_entries-returns-in_err-write_node-clause-err
@@ -125,7 +126,7 @@ write_entries-returns-in_err-write_node-clause-err g w c =
     let i = c.loop-place.place in
     let p = given_of c.loop-place.names in
     let whole : List ℕ → List ℕ = λ more. 123 ∷ pairs_text [] (written_pairs R (pairs_of g.V.RankedNodes.tree N v xs) (given_of c.args.names.now)) more in
-    let m = pairs_key_fails g.S.Sink.holds g.S.Sink.stops R f xs i p whole c.index-entries-place.result c.args.sink.now c.args.out.now c.loop-place.sink c.loop-place.out c.put_separator.new.sink c.put_separator.new.out c.write_node.new.out c.in_err-write_node.field-0.0 (drop_item xs i c.index-entries-place.result (omega arith) c.index-entries-place.is) c.loop-place.invariant.left c.in_ok-put_separator.ensures.ok c.in_err-write_node.ensures.err in
+    let m = pairs_key_fails g.S.Sink.holds g.S.Sink.stops R f xs i p whole c.index-entries-place.result c.args.sink.now c.args.out.now c.loop-place.sink c.loop-place.out c.put_separator.new.sink c.put_separator.new.out c.write_node.new.out (fault_of c.in_err-write_node.field-0.0) (drop_item xs i c.index-entries-place.result (omega arith) c.index-entries-place.is) c.loop-place.invariant.left c.in_ok-put_separator.ensures.ok c.in_err-write_node.ensures.err in
     search (rules, m)
 
 pub write_entries-returns-in_err-put-2-clause-err : goal.write_entries-returns-in_err-put-2-clause-err
@@ -139,7 +140,7 @@ write_entries-returns-in_err-put-2-clause-err g w c =
     let p = given_of c.loop-place.names in
     let q = given_of c.write_node.new.names in
     let whole : List ℕ → List ℕ = λ more. 123 ∷ pairs_text [] (written_pairs R (pairs_of g.V.RankedNodes.tree N v xs) (given_of c.args.names.now)) more in
-    let m = pairs_colon_fails g.S.Sink.holds g.S.Sink.stops R f xs i p whole c.index-entries-place.result q c.args.sink.now c.args.out.now c.loop-place.sink c.loop-place.out c.put_separator.new.sink c.put_separator.new.out c.write_node.new.sink c.write_node.new.out c.put-in-loop-place.new.out c.in_err-put-2.field-0.0 (drop_item xs i c.index-entries-place.result (omega arith) c.index-entries-place.is) c.in_ok-write_node.ensures.known c.loop-place.invariant.left c.in_ok-put_separator.ensures.ok c.in_ok-write_node.ensures.ok c.in_err-put-2.ensures.err in
+    let m = pairs_colon_fails g.S.Sink.holds g.S.Sink.stops R f xs i p whole c.index-entries-place.result q c.args.sink.now c.args.out.now c.loop-place.sink c.loop-place.out c.put_separator.new.sink c.put_separator.new.out c.write_node.new.sink c.write_node.new.out c.put-in-loop-place.new.out (fault_of c.in_err-put-2.field-0.0) (drop_item xs i c.index-entries-place.result (omega arith) c.index-entries-place.is) c.in_ok-write_node.ensures.known c.loop-place.invariant.left c.in_ok-put_separator.ensures.ok c.in_ok-write_node.ensures.ok c.in_err-put-2.ensures.err in
     search (rules, m)
 
 pub write_entries-returns-in_err-write_node-2-clause-err : goal.write_entries-returns-in_err-write_node-2-clause-err
@@ -153,7 +154,7 @@ write_entries-returns-in_err-write_node-2-clause-err g w c =
     let p = given_of c.loop-place.names in
     let q = given_of c.write_node.new.names in
     let whole : List ℕ → List ℕ = λ more. 123 ∷ pairs_text [] (written_pairs R (pairs_of g.V.RankedNodes.tree N v xs) (given_of c.args.names.now)) more in
-    let m = pairs_value_fails g.S.Sink.holds g.S.Sink.stops R f xs i p whole c.index-entries-place.result q c.args.sink.now c.args.out.now c.loop-place.sink c.loop-place.out c.put_separator.new.sink c.put_separator.new.out c.write_node.new.sink c.write_node.new.out c.put-in-loop-place.new.self c.put-in-loop-place.new.out c.write_node-in-loop-place.new.out c.in_err-write_node-2.field-0.0 (drop_item xs i c.index-entries-place.result (omega arith) c.index-entries-place.is) c.in_ok-write_node.ensures.known c.loop-place.invariant.left c.in_ok-put_separator.ensures.ok c.in_ok-write_node.ensures.ok c.in_ok-put-2.ensures.ok c.in_err-write_node-2.ensures.err in
+    let m = pairs_value_fails g.S.Sink.holds g.S.Sink.stops R f xs i p whole c.index-entries-place.result q c.args.sink.now c.args.out.now c.loop-place.sink c.loop-place.out c.put_separator.new.sink c.put_separator.new.out c.write_node.new.sink c.write_node.new.out c.put-in-loop-place.new.self c.put-in-loop-place.new.out c.write_node-in-loop-place.new.out (fault_of c.in_err-write_node-2.field-0.0) (drop_item xs i c.index-entries-place.result (omega arith) c.index-entries-place.is) c.in_ok-write_node.ensures.known c.loop-place.invariant.left c.in_ok-put_separator.ensures.ok c.in_ok-write_node.ensures.ok c.in_ok-put-2.ensures.ok c.in_err-write_node-2.ensures.err in
     search (rules, m)
 
 pub write_entries-loop-place-preserved : goal.write_entries-loop-place-preserved
@@ -204,7 +205,7 @@ write_entries-returns-clause-err g w c =
     let xs = c.args.entries.now in
     let i = c.loop-place.place in
     let p = given_of c.loop-place.names in
-    if_err c.put-2.result c.put-2.ensures.err (λ fault h. left_fails g.S.Sink.holds g.S.Sink.stops c.args.sink.now c.args.out.now c.loop-place.sink c.loop-place.out c.put-2.new.out fault _ _ (λ more. (125 ∷ []) ++ more) (λ more. more) c.loop-place.invariant.left (fails_piece g.S.Sink.holds g.S.Sink.stops _ _ _ fault (125 ∷ []) (125 ∷ []) h closing_brace) (pairs_end R f xs i p (omega arith)))
+    if_err c.put-2.result c.put-2.ensures.err (λ stop h. let fault = fault_of stop in left_fails g.S.Sink.holds g.S.Sink.stops c.args.sink.now c.args.out.now c.loop-place.sink c.loop-place.out c.put-2.new.out fault _ _ (λ more. (125 ∷ []) ++ more) (λ more. more) c.loop-place.invariant.left (fails_piece g.S.Sink.holds g.S.Sink.stops _ _ _ fault (125 ∷ []) (125 ∷ []) h closing_brace) (pairs_end R f xs i p (omega arith)))
 
 pub write_inside-returns-in-Scalar-clause-known : goal.write_inside-returns-in-Scalar-clause-known
 write_inside-returns-in-Scalar-clause-known g w c =
@@ -237,7 +238,7 @@ write_inside-returns-in-Scalar-clause-err g w c =
     let t = T (N c.args.id) in
     let p = given_of c.args.names.now in
     let e = scalar-shown N T t _ _ _ c.node-node.ensures.tree c.in-Scalar.is in
-    if_err c.put_scalar.result c.put_scalar.ensures.err (λ fault h. scalar_fails g.S.Sink.holds g.S.Sink.stops R p t _ _ _ _ c.args.sink.now c.args.out.now c.put_scalar.new.out fault e refl refl h)
+    if_err c.put_scalar.result c.put_scalar.ensures.err (λ stop h. let fault = fault_of stop in scalar_fails g.S.Sink.holds g.S.Sink.stops R p t _ _ _ _ c.args.sink.now c.args.out.now c.put_scalar.new.out fault e refl refl h)
 
 pub write_inside-returns-in_err-put_tag-in-Sequence-clause-err : goal.write_inside-returns-in_err-put_tag-in-Sequence-clause-err
 write_inside-returns-in_err-put_tag-in-Sequence-clause-err g w c =
@@ -248,7 +249,7 @@ write_inside-returns-in_err-put_tag-in-Sequence-clause-err g w c =
     let t = T (N c.args.id) in
     let p = given_of c.args.names.now in
     let e = sequence-shown N T t _ _ _ c.node-node.ensures.tree c.in-Sequence.is in
-    let m = sequence_tag_fails g.S.Sink.holds g.S.Sink.stops R p t _ _ _ c.args.sink.now c.args.out.now c.put_tag.new.out c.in_err-put_tag-in-Sequence.field-0.0 e refl c.in_err-put_tag-in-Sequence.ensures.err in
+    let m = sequence_tag_fails g.S.Sink.holds g.S.Sink.stops R p t _ _ _ c.args.sink.now c.args.out.now c.put_tag.new.out (fault_of c.in_err-put_tag-in-Sequence.field-0.0) e refl c.in_err-put_tag-in-Sequence.ensures.err in
     search (rules, m)
 
 pub write_inside-returns-in_ok-put_tag-in-Sequence-clause-known : goal.write_inside-returns-in_ok-put_tag-in-Sequence-clause-known
@@ -282,7 +283,7 @@ write_inside-returns-in_ok-put_tag-in-Sequence-clause-err g w c =
     let t = T (N c.args.id) in
     let p = given_of c.args.names.now in
     let e = sequence-shown N T t _ _ _ c.node-node.ensures.tree c.in-Sequence.is in
-    if_err c.write_items.result c.write_items.ensures.err (λ fault h. sequence_fails g.S.Sink.holds g.S.Sink.stops R p t _ _ _ c.args.sink.now c.args.out.now c.put_tag.new.sink c.put_tag.new.out c.write_items.new.out fault e refl c.in_ok-put_tag-in-Sequence.ensures.ok h)
+    if_err c.write_items.result c.write_items.ensures.err (λ stop h. let fault = fault_of stop in sequence_fails g.S.Sink.holds g.S.Sink.stops R p t _ _ _ c.args.sink.now c.args.out.now c.put_tag.new.sink c.put_tag.new.out c.write_items.new.out fault e refl c.in_ok-put_tag-in-Sequence.ensures.ok h)
 
 pub write_inside-returns-in_err-put_tag-in-Mapping-clause-err : goal.write_inside-returns-in_err-put_tag-in-Mapping-clause-err
 write_inside-returns-in_err-put_tag-in-Mapping-clause-err g w c =
@@ -293,7 +294,7 @@ write_inside-returns-in_err-put_tag-in-Mapping-clause-err g w c =
     let t = T (N c.args.id) in
     let p = given_of c.args.names.now in
     let e = mapping-shown N T t _ _ _ c.node-node.ensures.tree c.in-Mapping.is in
-    let m = mapping_tag_fails g.S.Sink.holds g.S.Sink.stops R p t _ _ _ c.args.sink.now c.args.out.now c.put_tag-in-Mapping.new.out c.in_err-put_tag-in-Mapping.field-0.0 e refl c.in_err-put_tag-in-Mapping.ensures.err in
+    let m = mapping_tag_fails g.S.Sink.holds g.S.Sink.stops R p t _ _ _ c.args.sink.now c.args.out.now c.put_tag-in-Mapping.new.out (fault_of c.in_err-put_tag-in-Mapping.field-0.0) e refl c.in_err-put_tag-in-Mapping.ensures.err in
     search (rules, m)
 
 pub write_inside-returns-in_ok-put_tag-in-Mapping-clause-known : goal.write_inside-returns-in_ok-put_tag-in-Mapping-clause-known
@@ -327,7 +328,7 @@ write_inside-returns-in_ok-put_tag-in-Mapping-clause-err g w c =
     let t = T (N c.args.id) in
     let p = given_of c.args.names.now in
     let e = mapping-shown N T t _ _ _ c.node-node.ensures.tree c.in-Mapping.is in
-    if_err c.write_entries.result c.write_entries.ensures.err (λ fault h. mapping_fails g.S.Sink.holds g.S.Sink.stops R p t _ _ _ c.args.sink.now c.args.out.now c.put_tag-in-Mapping.new.sink c.put_tag-in-Mapping.new.out c.write_entries.new.out fault e refl c.in_ok-put_tag-in-Mapping.ensures.ok h)
+    if_err c.write_entries.result c.write_entries.ensures.err (λ stop h. let fault = fault_of stop in mapping_fails g.S.Sink.holds g.S.Sink.stops R p t _ _ _ c.args.sink.now c.args.out.now c.put_tag-in-Mapping.new.sink c.put_tag-in-Mapping.new.out c.write_entries.new.out fault e refl c.in_ok-put_tag-in-Mapping.ensures.ok h)
 
 pub write_node-returns-in_err-counted-clause-err : goal.write_node-returns-in_err-counted-clause-err
 write_node-returns-in_err-counted-clause-err g w c =
@@ -338,7 +339,7 @@ write_node-returns-in_err-counted-clause-err g w c =
     let t = T (N c.args.id) in
     let p = given_of c.args.names.now in
     let h = c.in_err-counted.ensures.err in
-    let m = counted_unwritten R g.S.Sink.holds g.S.Sink.stops t p _ (short_from t _ c.short_len-short.ensures.is h.0) c.short_len-short.ensures.is c.args.sink.now c.args.out.now c.count_short.new.out c.in_err-counted.field-0.0 h.1 in
+    let m = counted_unwritten R g.S.Sink.holds g.S.Sink.stops t p _ (short_from t _ c.short_len-short.ensures.is h.0) c.short_len-short.ensures.is c.args.sink.now c.args.out.now c.count_short.new.out (fault_of c.in_err-counted.field-0.0) h.1 in
     search (rules, m)
 
 pub write_node-returns-then-counted-clause-known : goal.write_node-returns-then-counted-clause-known
@@ -400,7 +401,7 @@ write_node-returns-in-Alias-clause-err g w c =
     let k : c.rank.result ≡ R t = c.rank.ensures.is in
     let o : c.start-opening.result ≡ start R t p = c.start-opening.ensures.opening ∙ (λ z. opening_of (b z) (k z) p) in
     let q : given_of c.start-opening.new.names ≡ started R t p = c.start-opening.ensures.given ∙ (λ z. begun_unless_short (b z) (k z) p) in
-    if_err c.put_alias.result c.put_alias.ensures.err (λ fault h. fails_after g.S.Sink.holds g.S.Sink.stops c.args.sink.now c.args.out.now c.count_short.new.sink c.count_short.new.out c.put_alias.new.out fault _ (c.in_ok-counted.ensures.kept c.if-counted.false) (alias_unwritten g.S.Sink.holds g.S.Sink.stops R t p c.start-opening.result o c.in-Alias.number c.count_short.new.sink c.count_short.new.out c.put_alias.new.out fault c.in-Alias.is h))
+    if_err c.put_alias.result c.put_alias.ensures.err (λ stop h. let fault = fault_of stop in fails_after g.S.Sink.holds g.S.Sink.stops c.args.sink.now c.args.out.now c.count_short.new.sink c.count_short.new.out c.put_alias.new.out fault _ (c.in_ok-counted.ensures.kept c.if-counted.false) (alias_unwritten g.S.Sink.holds g.S.Sink.stops R t p c.start-opening.result o c.in-Alias.number c.count_short.new.sink c.count_short.new.out c.put_alias.new.out fault c.in-Alias.is h))
 
 pub write_node-returns-in_err-put_anchor-in-Anchored-clause-err : goal.write_node-returns-in_err-put_anchor-in-Anchored-clause-err
 write_node-returns-in_err-put_anchor-in-Anchored-clause-err g w c =
@@ -414,7 +415,7 @@ write_node-returns-in_err-put_anchor-in-Anchored-clause-err g w c =
     let k : c.rank.result ≡ R t = c.rank.ensures.is in
     let o : c.start-opening.result ≡ start R t p = c.start-opening.ensures.opening ∙ (λ z. opening_of (b z) (k z) p) in
     let q : given_of c.start-opening.new.names ≡ started R t p = c.start-opening.ensures.given ∙ (λ z. begun_unless_short (b z) (k z) p) in
-    let m = fails_after g.S.Sink.holds g.S.Sink.stops c.args.sink.now c.args.out.now c.count_short.new.sink c.count_short.new.out c.put_anchor.new.out c.in_err-put_anchor-in-Anchored.field-0.0 _ (c.in_ok-counted.ensures.kept c.if-counted.false) (anchor_unwritten g.S.Sink.holds g.S.Sink.stops R t p c.start-opening.result o c.in-Anchored.number c.count_short.new.sink c.count_short.new.out c.put_anchor.new.out c.in_err-put_anchor-in-Anchored.field-0.0 c.in-Anchored.is c.in_err-put_anchor-in-Anchored.ensures.err) in
+    let m = fails_after g.S.Sink.holds g.S.Sink.stops c.args.sink.now c.args.out.now c.count_short.new.sink c.count_short.new.out c.put_anchor.new.out (fault_of c.in_err-put_anchor-in-Anchored.field-0.0) _ (c.in_ok-counted.ensures.kept c.if-counted.false) (anchor_unwritten g.S.Sink.holds g.S.Sink.stops R t p c.start-opening.result o c.in-Anchored.number c.count_short.new.sink c.count_short.new.out c.put_anchor.new.out (fault_of c.in_err-put_anchor-in-Anchored.field-0.0) c.in-Anchored.is c.in_err-put_anchor-in-Anchored.ensures.err) in
     search (rules, m)
 
 pub write_node-returns-in_ok-put_anchor-in-Anchored-clause-known : goal.write_node-returns-in_ok-put_anchor-in-Anchored-clause-known
@@ -457,7 +458,7 @@ write_node-returns-in_ok-put_anchor-in-Anchored-clause-err g w c =
     let k : c.rank.result ≡ R t = c.rank.ensures.is in
     let o : c.start-opening.result ≡ start R t p = c.start-opening.ensures.opening ∙ (λ z. opening_of (b z) (k z) p) in
     let q : given_of c.start-opening.new.names ≡ started R t p = c.start-opening.ensures.given ∙ (λ z. begun_unless_short (b z) (k z) p) in
-    if_err c.write_inside.result c.write_inside.ensures.err (λ fault h. fails_after g.S.Sink.holds g.S.Sink.stops c.args.sink.now c.args.out.now c.count_short.new.sink c.count_short.new.out c.write_inside.new.out fault _ (c.in_ok-counted.ensures.kept c.if-counted.false) (anchored_unwritten g.S.Sink.holds g.S.Sink.stops R t p c.start-opening.result o c.in-Anchored.number _ c.count_short.new.sink c.count_short.new.out c.put_anchor.new.sink c.put_anchor.new.out c.write_inside.new.out fault c.in-Anchored.is q c.in_ok-put_anchor-in-Anchored.ensures.ok h))
+    if_err c.write_inside.result c.write_inside.ensures.err (λ stop h. let fault = fault_of stop in fails_after g.S.Sink.holds g.S.Sink.stops c.args.sink.now c.args.out.now c.count_short.new.sink c.count_short.new.out c.write_inside.new.out fault _ (c.in_ok-counted.ensures.kept c.if-counted.false) (anchored_unwritten g.S.Sink.holds g.S.Sink.stops R t p c.start-opening.result o c.in-Anchored.number _ c.count_short.new.sink c.count_short.new.out c.put_anchor.new.sink c.put_anchor.new.out c.write_inside.new.out fault c.in-Anchored.is q c.in_ok-put_anchor-in-Anchored.ensures.ok h))
 
 pub write_node-returns-in-Plain-clause-known : goal.write_node-returns-in-Plain-clause-known
 write_node-returns-in-Plain-clause-known g w c =
@@ -499,7 +500,7 @@ write_node-returns-in-Plain-clause-err g w c =
     let k : c.rank.result ≡ R t = c.rank.ensures.is in
     let o : c.start-opening.result ≡ start R t p = c.start-opening.ensures.opening ∙ (λ z. opening_of (b z) (k z) p) in
     let q : given_of c.start-opening.new.names ≡ started R t p = c.start-opening.ensures.given ∙ (λ z. begun_unless_short (b z) (k z) p) in
-    if_err c.write_inside-in-Plain.result c.write_inside-in-Plain.ensures.err (λ fault h. fails_after g.S.Sink.holds g.S.Sink.stops c.args.sink.now c.args.out.now c.count_short.new.sink c.count_short.new.out c.write_inside-in-Plain.new.out fault _ (c.in_ok-counted.ensures.kept c.if-counted.false) (plain_unwritten g.S.Sink.holds g.S.Sink.stops R t p c.start-opening.result o _ c.count_short.new.sink c.count_short.new.out c.write_inside-in-Plain.new.out fault c.in-Plain.is q h))
+    if_err c.write_inside-in-Plain.result c.write_inside-in-Plain.ensures.err (λ stop h. let fault = fault_of stop in fails_after g.S.Sink.holds g.S.Sink.stops c.args.sink.now c.args.out.now c.count_short.new.sink c.count_short.new.out c.write_inside-in-Plain.new.out fault _ (c.in_ok-counted.ensures.kept c.if-counted.false) (plain_unwritten g.S.Sink.holds g.S.Sink.stops R t p c.start-opening.result o _ c.count_short.new.sink c.count_short.new.out c.write_inside-in-Plain.new.out fault c.in-Plain.is q h))
 
 pub write_node-write_inside-requires : goal.write_node-write_inside-requires
 write_node-write_inside-requires g w c =

@@ -12,4 +12,4 @@ returns-then-is_unescaped-clause-ok c =
 pub returns-then-is_unescaped-clause-err : goal.returns-then-is_unescaped-clause-err
 returns-then-is_unescaped-clause-err c =
     let e = plain_long c.args.content.now (c.if-is_unescaped.ensures.yes refl) in
-    if_err c.grow.result c.grow.ensures.err (λ fault h. (h.0, subst (λ n. limit_of c.args.self.now < len_of c.args.self.now + n) e h.1))
+    if_err c.grow.result c.grow.ensures.err (λ stop h. (h.0, subst (λ n. limit_of c.args.self.now < len_of c.args.self.now + n) e h.1))

@@ -1,4 +1,5 @@
 use Rattle.std.proofs.Common.{◌++◌, sym, ap, subst, ◌∙◌, rules}
+use Rattle.yaml_spell.specs.Stops.{fault_of}
 use Rattle.yaml_spell.specs.Pieces.{Misses}
 use Rattle.yaml_spell.specs.Pages.{PageHolds, PageStops}
 use Rattle.yaml_spell.specs.Quoted.{next_text, piece_text}
@@ -8,7 +9,7 @@ use Rattle.yaml_spell.proofs.page.Page.add_piece.Goals as goal
 pub returns-in_err-add-clause-err : goal.returns-in_err-add-clause-err
 returns-in_err-add-clause-err g c =
     let p = c.args.piece.now in
-    let m = misses_more (PageHolds g.W.Write.contents) (PageStops g.W.Write.contents) c.args.self.now c.args.out.now c.add.new.out c.in_err-add.field-0.0 c.as_bytes.result.now (next_text p.next) (piece_text p) c.in_err-add.ensures.err
+    let m = misses_more (PageHolds g.W.Write.contents) (PageStops g.W.Write.contents) c.args.self.now c.args.out.now c.add.new.out (fault_of c.in_err-add.field-0.0) c.as_bytes.result.now (next_text p.next) (piece_text p) c.in_err-add.ensures.err
     (ap (λ z. z ++ next_text p.next) c.as_bytes.ensures.value) in
     search (rules, m)
 
@@ -17,6 +18,6 @@ returns-clause-err g c =
     let holds = PageHolds g.W.Write.contents in
     let stops = PageStops g.W.Write.contents in
     let p = c.args.piece.now in
-    if_err c.add-2.result c.add-2.ensures.err (λ fault h.
+    if_err c.add-2.result c.add-2.ensures.err (λ stop h. let fault = fault_of stop in
     subst (Misses holds stops c.args.self.now c.args.out.now c.add-2.new.out fault) ((λ i. c.as_bytes.ensures.value i ++ c.spelled_char-len.ensures.text i) ∙ ap (λ z. p.run.now ++ next_text z) (sym c.in-Some.is))
     (misses_later holds stops c.args.self.now c.args.out.now c.add.new.self c.add.new.out c.add-2.new.out fault c.as_bytes.result.now _ c.in_ok-add.ensures.ok h))

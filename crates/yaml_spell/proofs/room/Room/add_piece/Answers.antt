@@ -1,4 +1,5 @@
 use Rattle.std.proofs.Common.{◌++◌, sym, ◌∙◌, ap, subst, rules}
+use Rattle.yaml_spell.specs.Stops.{fault_of}
 use Rattle.yaml_spell.specs.Pieces.{Misses}
 use Rattle.yaml_spell.specs.Quoted.{next_text, piece_text}
 use Rattle.yaml_spell.specs.Rooms.{Holds, Stops}
@@ -8,12 +9,12 @@ use Rattle.yaml_spell.proofs.room.Room.add_piece.Goals as goal
 pub returns-in_err-add-clause-err : goal.returns-in_err-add-clause-err
 returns-in_err-add-clause-err c =
     let p = c.args.piece.now in
-    let m = misses_more Holds Stops c.args.self.now tt tt c.in_err-add.field-0.0 c.as_bytes.result.now (next_text p.next) (piece_text p) c.in_err-add.ensures.err (ap (λ z. z ++ next_text p.next) c.as_bytes.ensures.value) in
+    let m = misses_more Holds Stops c.args.self.now tt tt (fault_of c.in_err-add.field-0.0) c.as_bytes.result.now (next_text p.next) (piece_text p) c.in_err-add.ensures.err (ap (λ z. z ++ next_text p.next) c.as_bytes.ensures.value) in
     search (rules, m)
 
 pub returns-clause-err : goal.returns-clause-err
 returns-clause-err c =
     let p = c.args.piece.now in
-    if_err c.add-2.result c.add-2.ensures.err (λ fault h.
+    if_err c.add-2.result c.add-2.ensures.err (λ stop h. let fault = fault_of stop in
     subst (Misses Holds Stops c.args.self.now tt tt fault) ((λ i. c.as_bytes.ensures.value i ++ c.spelled_char-len.ensures.text i) ∙ ap (λ z. p.run.now ++ next_text z) (sym c.in-Some.is))
     (misses_later Holds Stops c.args.self.now tt c.add.new.self tt tt fault c.as_bytes.result.now _ c.in_ok-add.ensures.ok h))
