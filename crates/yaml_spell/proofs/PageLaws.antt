@@ -1,7 +1,9 @@
 -- What a page and its writer hold, step by step.
-use Rattle.std.proofs.Common.{◌≡◌, ℕ, ◌+◌, ◌-◌, min, List, [], ◌∷◌, ◌++◌, Option, length, take, drop, sym, ◌∙◌, ap, subst, arith, suc, zero-add, take-add, take-append-drop}
-use Rattle.std.proofs.lemmas.List.{append_assoc, append-nil}
+use Rattle.std.proofs.Common.{◌≡◌, ℕ, ◌+◌, ◌-◌, ◌<◌, ◌≤◌, min, set, List, [], ◌∷◌, ◌++◌, Option, length, take, drop, sym, ◌∙◌, ap, subst, arith, suc, zero-add, take-add, take-append-drop}
+use Rattle.std.proofs.lemmas.List.{append_assoc, append-nil, length-set, take_more_set}
 use Rattle.std.proofs.lemmas.Grind.{common_steps}
+use Rattle.std.proofs.lemmas.Slice.{take-put_mid, overwrites}
+use borrow.Rule.Slice.PartMut.{put_mid}
 use Rattle.std.specs.Io.KnownBytes.{Appends}
 use Rattle.yaml_text.specs.declared.fault.Fault.{Fault}
 use Rattle.yaml_text.specs.declared.counted.Counted.{Counted}
@@ -26,6 +28,20 @@ same_slice xs i n = let e : i + n - i ≡ n = omega arith in ap (λ m. take m (d
 
 take_within : (xs ys : List ℕ) (k : ℕ) → (n : ℕ) × (take n (xs ++ ys) ≡ take k xs)
 take_within xs ys k = (min k (length xs), grind (arith, common_steps))
+
+-- bytes between quotes, put behind a place
+pub quotes_put : (xs ys content : List ℕ) (i : ℕ) → ys ≡ content → i + length content + 2 ≤ length xs
+    → take (i + 1 + length content + 1) (set (put_mid (i + 1) (i + 1 + length content - (i + 1)) (set xs i 34) ys) (i + 1 + length content) 34) ≡ take i xs ++ (34 ∷ (content ++ (34 ∷ [])))
+quotes_put xs ys content i e l =
+    let n = length content in
+    let first = set xs i 34 in
+    let some : length ys ≡ n = ap length e in
+    let long : length first ≡ length xs = length-set xs i 34 in
+    let middle = put_mid (i + 1) (i + 1 + n - (i + 1)) first ys in
+    let whole : i + 1 + n < length middle = grind (arith, common_steps, overwrites) in
+    take_more_set middle (i + 1 + n) 34 whole
+    ∙ ap (λ z. z ++ (34 ∷ [])) (take-put_mid (i + 1) (i + 1 + n - (i + 1)) first ys (i + 1 + n) (omega (arith, some)) (omega (arith, long, l)) ∙ (λ j. take_more_set xs i 34 (omega (arith, l)) j ++ e j))
+    ∙ append_assoc (take i xs ++ (34 ∷ [])) content (34 ∷ []) ∙ append_assoc (take i xs) (34 ∷ []) (content ++ (34 ∷ []))
 
 module _ {W : Type 0} (contents : W → Option (List ℕ)) where
   pub held_sent : (p q : Page) (o u : Counted W) (b : Began) (xs : List ℕ) → PageHolds contents p o b xs → Sent contents o u (page_bytes p) → page_len q ≡ 0 → PageHolds contents q u b xs

@@ -158,37 +158,46 @@ module _ {S O : Type 0} (holds : S → O → Began → List ℕ → Type 0) (sto
   abbrev before : ℕ → List ℕ → List ℕ → List ℕ
   before k tag more = tag_text (written_tag k tag) ++ more
 
+  abbrev before_full : List ℕ → List ℕ → List ℕ
+  before_full tag more = full_text tag ++ more
+
   pub tag_left_out : (s : S) (o : O) (k : ℕ) (tag : List ℕ) → bytes_eq tag (default_tag k) ≡ true → Puts holds s o s o (before k tag)
   tag_left_out s o k tag h = puts_as holds s o s o (λ more. more) (before k tag) (puts_none holds s o) (λ more. ap (λ z. z ++ more) (sym (untagged_is k tag h)))
 
-  pub tag_put : (s : S) (o : O) (t : S) (p : O) (k : ℕ) (tag bytes cs : List ℕ) → bytes_eq tag (default_tag k) ≡ false → full_text tag ≡ cs → encode_utf8_all cs ≡ bytes → TakesPiece holds s o t p bytes → Puts holds s o t p (before k tag)
-  tag_put s o t p k tag bytes cs h e f a = puts_as holds s o t p (λ more. cs ++ more) (before k tag) (puts_piece holds s o t p bytes cs a f) (λ more. ap (λ z. z ++ more) (sym e ∙ sym (tagged_is k tag h)))
+  pub tag_told : (s : S) (o : O) (t : S) (p : O) (k : ℕ) (tag : List ℕ) → bytes_eq tag (default_tag k) ≡ false → Puts holds s o t p (before_full tag) → Puts holds s o t p (before k tag)
+  tag_told s o t p k tag h a = puts_as holds s o t p (before_full tag) (before k tag) a (λ more. ap (λ z. z ++ more) (sym (tagged_is k tag h)))
 
-  pub tag_cut : (s : S) (o p : O) (fault : Fault) (k : ℕ) (tag bytes cs : List ℕ) → bytes_eq tag (default_tag k) ≡ false → full_text tag ≡ cs → encode_utf8_all cs ≡ bytes → Misses holds stops s o p fault bytes → Fails holds stops s o p fault (before k tag)
-  tag_cut s o p fault k tag bytes cs h e f m = fails_as holds stops s o p fault (λ more. cs ++ more) (before k tag) (fails_piece holds stops s o p fault bytes cs m f) (λ more. ap (λ z. z ++ more) (sym e ∙ sym (tagged_is k tag h)))
+  pub tag_untold : (s : S) (o p : O) (fault : Fault) (k : ℕ) (tag : List ℕ) → bytes_eq tag (default_tag k) ≡ false → Fails holds stops s o p fault (before_full tag) → Fails holds stops s o p fault (before k tag)
+  tag_untold s o p fault k tag h m = fails_as holds stops s o p fault (before_full tag) (before k tag) m (λ more. ap (λ z. z ++ more) (sym (tagged_is k tag h)))
+
+  pub tag_put : (s : S) (o : O) (t : S) (p : O) (tag bytes cs : List ℕ) → full_text tag ≡ cs → encode_utf8_all cs ≡ bytes → TakesPiece holds s o t p bytes → Puts holds s o t p (before_full tag)
+  tag_put s o t p tag bytes cs e f a = puts_as holds s o t p (λ more. cs ++ more) (before_full tag) (puts_piece holds s o t p bytes cs a f) (λ more. ap (λ z. z ++ more) (sym e))
+
+  pub tag_cut : (s : S) (o p : O) (fault : Fault) (tag bytes cs : List ℕ) → full_text tag ≡ cs → encode_utf8_all cs ≡ bytes → Misses holds stops s o p fault bytes → Fails holds stops s o p fault (before_full tag)
+  tag_cut s o p fault tag bytes cs e f m = fails_as holds stops s o p fault (λ more. cs ++ more) (before_full tag) (fails_piece holds stops s o p fault bytes cs m f) (λ more. ap (λ z. z ++ more) (sym e))
 
   abbrev whole : List ℕ → List ℕ
   whole tag = codes "!<" ++ encoded tag (codes "> ")
 
-  pub tag_spelled : (s : S) (o : O) (t : S) (p : O) (u : S) (q : O) (v : S) (r : O) (k : ℕ) (tag : List ℕ) → bytes_eq tag (default_tag k) ≡ false → full_text tag ≡ whole tag
-      → TakesPiece holds s o t p (33 ∷ 60 ∷ []) → TakesPiece holds t p u q (encode_utf8_all (encoded tag [])) → TakesPiece holds u q v r (62 ∷ 32 ∷ []) → Puts holds s o v r (before k tag)
-  tag_spelled s o t p u q v r k tag h e a b c =
-      tag_put s o v r k tag (((33 ∷ 60 ∷ []) ++ encode_utf8_all (encoded tag [])) ++ (62 ∷ 32 ∷ [])) (whole tag) h e (tag_bytes tag)
+  pub tag_spelled : (s : S) (o : O) (t : S) (p : O) (u : S) (q : O) (v : S) (r : O) (tag : List ℕ) → full_text tag ≡ whole tag
+      → TakesPiece holds s o t p (33 ∷ 60 ∷ []) → TakesPiece holds t p u q (encode_utf8_all (encoded tag [])) → TakesPiece holds u q v r (62 ∷ 32 ∷ []) → Puts holds s o v r (before_full tag)
+  tag_spelled s o t p u q v r tag e a b c =
+      tag_put s o v r tag (((33 ∷ 60 ∷ []) ++ encode_utf8_all (encoded tag [])) ++ (62 ∷ 32 ∷ [])) (whole tag) e (tag_bytes tag)
       (adds_then holds s o u q v r ((33 ∷ 60 ∷ []) ++ encode_utf8_all (encoded tag [])) (62 ∷ 32 ∷ []) (adds_then holds s o t p u q (33 ∷ 60 ∷ []) (encode_utf8_all (encoded tag [])) a b) c)
 
-  tag_lost : (s : S) (o p : O) (fault : Fault) (k : ℕ) (tag : List ℕ) → bytes_eq tag (default_tag k) ≡ false → full_text tag ≡ whole tag → Misses holds stops s o p fault (((33 ∷ 60 ∷ []) ++ encode_utf8_all (encoded tag [])) ++ (62 ∷ 32 ∷ [])) → Fails holds stops s o p fault (before k tag)
-  tag_lost s o p fault k tag h e m = tag_cut s o p fault k tag (((33 ∷ 60 ∷ []) ++ encode_utf8_all (encoded tag [])) ++ (62 ∷ 32 ∷ [])) (whole tag) h e (tag_bytes tag) m
+  tag_lost : (s : S) (o p : O) (fault : Fault) (tag : List ℕ) → full_text tag ≡ whole tag → Misses holds stops s o p fault (((33 ∷ 60 ∷ []) ++ encode_utf8_all (encoded tag [])) ++ (62 ∷ 32 ∷ [])) → Fails holds stops s o p fault (before_full tag)
+  tag_lost s o p fault tag e m = tag_cut s o p fault tag (((33 ∷ 60 ∷ []) ++ encode_utf8_all (encoded tag [])) ++ (62 ∷ 32 ∷ [])) (whole tag) e (tag_bytes tag) m
 
-  pub tag_unopened : (s : S) (o p : O) (fault : Fault) (k : ℕ) (tag : List ℕ) → bytes_eq tag (default_tag k) ≡ false → full_text tag ≡ whole tag → Misses holds stops s o p fault (33 ∷ 60 ∷ []) → Fails holds stops s o p fault (before k tag)
-  tag_unopened s o p fault k tag h e m = tag_lost s o p fault k tag h e (misses_more holds stops s o p fault (33 ∷ 60 ∷ []) (encode_utf8_all (encoded tag []) ++ (62 ∷ 32 ∷ [])) (((33 ∷ 60 ∷ []) ++ encode_utf8_all (encoded tag [])) ++ (62 ∷ 32 ∷ [])) m refl)
+  pub tag_unopened : (s : S) (o p : O) (fault : Fault) (tag : List ℕ) → full_text tag ≡ whole tag → Misses holds stops s o p fault (33 ∷ 60 ∷ []) → Fails holds stops s o p fault (before_full tag)
+  tag_unopened s o p fault tag e m = tag_lost s o p fault tag e (misses_more holds stops s o p fault (33 ∷ 60 ∷ []) (encode_utf8_all (encoded tag []) ++ (62 ∷ 32 ∷ [])) (((33 ∷ 60 ∷ []) ++ encode_utf8_all (encoded tag [])) ++ (62 ∷ 32 ∷ [])) m refl)
 
-  pub tag_broken : (s : S) (o : O) (t : S) (p q : O) (fault : Fault) (k : ℕ) (tag : List ℕ) → bytes_eq tag (default_tag k) ≡ false → full_text tag ≡ whole tag → TakesPiece holds s o t p (33 ∷ 60 ∷ []) → Misses holds stops t p q fault (encode_utf8_all (encoded tag [])) → Fails holds stops s o q fault (before k tag)
-  tag_broken s o t p q fault k tag h e a m =
-      tag_lost s o q fault k tag h e (misses_more holds stops s o q fault ((33 ∷ 60 ∷ []) ++ encode_utf8_all (encoded tag [])) (62 ∷ 32 ∷ []) (((33 ∷ 60 ∷ []) ++ encode_utf8_all (encoded tag [])) ++ (62 ∷ 32 ∷ [])) (misses_later holds stops s o t p q fault (33 ∷ 60 ∷ []) (encode_utf8_all (encoded tag [])) a m) refl)
+  pub tag_broken : (s : S) (o : O) (t : S) (p q : O) (fault : Fault) (tag : List ℕ) → full_text tag ≡ whole tag → TakesPiece holds s o t p (33 ∷ 60 ∷ []) → Misses holds stops t p q fault (encode_utf8_all (encoded tag [])) → Fails holds stops s o q fault (before_full tag)
+  tag_broken s o t p q fault tag e a m =
+      tag_lost s o q fault tag e (misses_more holds stops s o q fault ((33 ∷ 60 ∷ []) ++ encode_utf8_all (encoded tag [])) (62 ∷ 32 ∷ []) (((33 ∷ 60 ∷ []) ++ encode_utf8_all (encoded tag [])) ++ (62 ∷ 32 ∷ [])) (misses_later holds stops s o t p q fault (33 ∷ 60 ∷ []) (encode_utf8_all (encoded tag [])) a m) refl)
 
-  pub tag_unclosed : (s : S) (o : O) (t : S) (p : O) (u : S) (q r : O) (fault : Fault) (k : ℕ) (tag : List ℕ) → bytes_eq tag (default_tag k) ≡ false → full_text tag ≡ whole tag → TakesPiece holds s o t p (33 ∷ 60 ∷ []) → TakesPiece holds t p u q (encode_utf8_all (encoded tag [])) → Misses holds stops u q r fault (62 ∷ 32 ∷ []) → Fails holds stops s o r fault (before k tag)
-  tag_unclosed s o t p u q r fault k tag h e a b m =
-      tag_lost s o r fault k tag h e (misses_later holds stops s o u q r fault ((33 ∷ 60 ∷ []) ++ encode_utf8_all (encoded tag [])) (62 ∷ 32 ∷ []) (adds_then holds s o t p u q (33 ∷ 60 ∷ []) (encode_utf8_all (encoded tag [])) a b) m)
+  pub tag_unclosed : (s : S) (o : O) (t : S) (p : O) (u : S) (q r : O) (fault : Fault) (tag : List ℕ) → full_text tag ≡ whole tag → TakesPiece holds s o t p (33 ∷ 60 ∷ []) → TakesPiece holds t p u q (encode_utf8_all (encoded tag [])) → Misses holds stops u q r fault (62 ∷ 32 ∷ []) → Fails holds stops s o r fault (before_full tag)
+  tag_unclosed s o t p u q r fault tag e a b m =
+      tag_lost s o r fault tag e (misses_later holds stops s o u q r fault ((33 ∷ 60 ∷ []) ++ encode_utf8_all (encoded tag [])) (62 ∷ 32 ∷ []) (adds_then holds s o t p u q (33 ∷ 60 ∷ []) (encode_utf8_all (encoded tag [])) a b) m)
 
   -- ---- a content behind its tag
 

@@ -1,6 +1,7 @@
 //! What spells the documents of a graph whose ranks are known: the walk by ranks, and the sinks that a text goes into.
 #![tactic(auto)]
 
+mod few;
 mod length;
 pub mod names;
 pub mod node;

@@ -2,6 +2,7 @@
 ghost use Rattle.std.specs.Prelude.{◌≤◌, OnOk, IfErr};
 ghost use Rattle.yaml_spell.specs.Writers.{Sent, CutOff};
 
+use crate::few::copy;
 use crate::quoted::{Piece, cut, is_unescaped};
 use crate::sink::Sink;
 use crate::stop::Stop;
@@ -90,8 +91,22 @@ impl Page {
         ensures { page_bytes self.new ≡ page_bytes self.old ++ piece.now }
     {
         let end = self.len + piece.len();
-        self.bytes[self.len..end].copy_from_slice(piece);
+        copy(&mut self.bytes[self.len..end], piece);
         self.len = end;
+    }
+
+    /// Puts bytes between quotes into the page, which has room for them.
+    #[inline(always)]
+    fn fill_quoted(&mut self, content: &[u8])
+        requires { page_len self.old + length content.now + 2 ≤ 4096 }
+        ensures { page_bytes self.new ≡ page_bytes self.old ++ (34 ∷ (content.now ++ (34 ∷ []))) }
+    {
+        let start = self.len + 1;
+        let end = start + content.len();
+        self.bytes[self.len] = b'"';
+        copy(&mut self.bytes[start..end], content);
+        self.bytes[end] = b'"';
+        self.len = end + 1;
     }
 
     /// Takes some bytes. Mostly they are few, and the page has room for them.
@@ -136,8 +151,22 @@ impl Page {
         self.add(out, &bytes[..len])
     }
 
-    /// Takes bytes between quotes.
+    /// Takes bytes between quotes. Mostly the page has room for all of them.
+    #[inline(always)]
     fn add_quoted<W: Write>(&mut self, out: &mut Counted<W>, content: &[u8]) -> Result<(), Stop>
+        ensures ok { OnOk result (TakesPiece (PageHolds W.contents) self.old out.old self.new out.new (34 ∷ (content.now ++ (34 ∷ [])))) }
+        ensures err { IfErr result (λ stop. Misses (PageHolds W.contents) (PageStops W.contents) self.old out.old out.new (fault_of stop) (34 ∷ (content.now ++ (34 ∷ [])))) }
+    {
+        if content.len() + 2 > PAGE - self.len {
+            return self.add_between(out, content);
+        }
+        self.fill_quoted(content);
+        Ok(())
+    }
+
+    /// The same, the quotes and the bytes one after the other.
+    #[inline(never)]
+    fn add_between<W: Write>(&mut self, out: &mut Counted<W>, content: &[u8]) -> Result<(), Stop>
         ensures ok { OnOk result (TakesPiece (PageHolds W.contents) self.old out.old self.new out.new (34 ∷ (content.now ++ (34 ∷ [])))) }
         ensures err { IfErr result (λ stop. Misses (PageHolds W.contents) (PageStops W.contents) self.old out.old out.new (fault_of stop) (34 ∷ (content.now ++ (34 ∷ [])))) }
     {

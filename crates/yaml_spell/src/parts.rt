@@ -77,11 +77,7 @@ fn put_number<O, S: Sink<O>>(sink: &mut S, out: &mut O, number: usize) -> Result
 }
 
 /// An alias of this number.
-pub(crate) fn put_alias<O, S: Sink<O>>(
-    sink: &mut S,
-    out: &mut O,
-    number: usize,
-) -> Result<(), Stop>
+pub(crate) fn put_alias<O, S: Sink<O>>(sink: &mut S, out: &mut O, number: usize) -> Result<(), Stop>
     requires { 0 < number }
     ensures ok { OnOk result (Puts S.holds sink.old out.old sink.new out.new (node_text (alias_at (anchor_name number)))) }
     ensures err { IfErr result (λ stop. Fails S.holds S.stops sink.old out.old out.new (fault_of stop) (node_text (alias_at (anchor_name number)))) }
@@ -159,7 +155,22 @@ fn core_text(tag: &str) -> Option<&'static str>
     }
 }
 
-/// A tag of a node of this kind, and a space. The kind's own tag is not written.
+/// A tag that is not left out, and a space.
+#[inline(never)]
+fn put_full_tag<O, S: Sink<O>>(sink: &mut S, out: &mut O, tag: &str) -> Result<(), Stop>
+    ensures ok { OnOk result (Puts S.holds sink.old out.old sink.new out.new (λ more. full_text tag.now ++ more)) }
+    ensures err { IfErr result (λ stop. Fails S.holds S.stops sink.old out.old out.new (fault_of stop) (λ more. full_text tag.now ++ more)) }
+{
+    if let Some(known) = core_text(tag) {
+        return sink.put(out, known);
+    }
+    sink.put(out, "!<")?;
+    put_encoded(sink, out, tag)?;
+    sink.put(out, "> ")
+}
+
+/// A tag of a node of this kind, and a space. The kind's own tag is not written: mostly it is that one.
+#[inline(always)]
 pub(crate) fn put_tag<O, S: Sink<O>>(
     sink: &mut S,
     out: &mut O,
@@ -172,15 +183,11 @@ pub(crate) fn put_tag<O, S: Sink<O>>(
     if tag == default_tag(kind) {
         return Ok(());
     }
-    if let Some(known) = core_text(tag) {
-        return sink.put(out, known);
-    }
-    sink.put(out, "!<")?;
-    put_encoded(sink, out, tag)?;
-    sink.put(out, "> ")
+    put_full_tag(sink, out, tag)
 }
 
 /// A scalar's tag and content.
+#[inline(always)]
 pub(crate) fn put_scalar<O, S: Sink<O>>(
     sink: &mut S,
     out: &mut O,

@@ -16,8 +16,9 @@ use crate::sink::Sink;
 use crate::stop::Stop;
 
 /// Notes which ranks are met in the tree of a node, and which come again. A node that comes again is
-/// not entered.
+/// not entered. A short one, of which there are many, costs no call.
 #[cycle(notice)]
+#[inline(always)]
 pub(crate) fn notice<I: Copy, V: RankedNodes<I>>(view: &V, names: &mut Names, id: I)
     requires ready { Ready V.stands V.count view.now names.old }
     requires within { V.number id < V.count view.now }
@@ -108,8 +109,9 @@ fn put_separator<O, S: Sink<O>>(sink: &mut S, out: &mut O, place: usize) -> Resu
 
 /// Writes a node: an alias where its rank came before in its document and is not short, else its
 /// anchor, if its rank comes again, and what stands behind that. A sink that counts is told the length of a
-/// short one.
+/// short one. That costs no call, and there are many.
 #[cycle(write)]
+#[inline(always)]
 pub(crate) fn write_node<I: Copy, V: RankedNodes<I>, O, S: Sink<O>>(
     view: &V,
     names: &mut Names,

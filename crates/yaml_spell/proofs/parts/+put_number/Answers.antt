@@ -8,7 +8,7 @@ pub returns-then-number-lt10-clause-ok : goal.returns-then-number-lt10-clause-ok
 returns-then-number-lt10-clause-ok g t c = on_ok c.put.result c.put.ensures.ok (λ h. digit_put g.S.Sink.holds g.S.Sink.stops c.args.sink.now c.args.out.now c.put.new.self c.put.new.out c.args.number _ (omega arith) c.digit-last.ensures h)
 
 pub returns-then-number-lt10-clause-err : goal.returns-then-number-lt10-clause-err
-returns-then-number-lt10-clause-err g t c = if_err c.put.result c.put.ensures.err (λ stop h. let fault = fault_of stop in digit_cut g.S.Sink.holds g.S.Sink.stops c.args.sink.now c.args.out.now c.put.new.out fault c.args.number _ (omega arith) c.digit-last.ensures h)
+returns-then-number-lt10-clause-err g t c = if_err c.put.result c.put.ensures.err (λ stop h. digit_cut g.S.Sink.holds g.S.Sink.stops c.args.sink.now c.args.out.now c.put.new.out (fault_of stop) c.args.number _ (omega arith) c.digit-last.ensures h)
 
 pub returns-in_err-put_number-clause-err : goal.returns-in_err-put_number-clause-err
 returns-in_err-put_number-clause-err g t c =
@@ -19,4 +19,4 @@ pub returns-clause-ok : goal.returns-clause-ok
 returns-clause-ok g t c = on_ok c.put-2.result c.put-2.ensures.ok (λ h. last_put g.S.Sink.holds g.S.Sink.stops c.args.sink.now c.args.out.now c.put_number.new.sink c.put_number.new.out c.put-2.new.self c.put-2.new.out c.args.number _ (omega arith) (omega arith) c.digit-last.ensures c.in_ok-put_number.ensures.ok h)
 
 pub returns-clause-err : goal.returns-clause-err
-returns-clause-err g t c = if_err c.put-2.result c.put-2.ensures.err (λ stop h. let fault = fault_of stop in last_cut g.S.Sink.holds g.S.Sink.stops c.args.sink.now c.args.out.now c.put_number.new.sink c.put_number.new.out c.put-2.new.out fault c.args.number _ (omega arith) (omega arith) c.digit-last.ensures c.in_ok-put_number.ensures.ok h)
+returns-clause-err g t c = if_err c.put-2.result c.put-2.ensures.err (λ stop h. last_cut g.S.Sink.holds g.S.Sink.stops c.args.sink.now c.args.out.now c.put_number.new.sink c.put_number.new.out c.put-2.new.out (fault_of stop) c.args.number _ (omega arith) (omega arith) c.digit-last.ensures c.in_ok-put_number.ensures.ok h)

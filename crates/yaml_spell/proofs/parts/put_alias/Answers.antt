@@ -13,4 +13,4 @@ pub returns-clause-ok : goal.returns-clause-ok
 returns-clause-ok g c = on_ok c.put_number.result c.put_number.ensures.ok (λ h. alias_put g.S.Sink.holds g.S.Sink.stops c.args.sink.now c.args.out.now c.put.new.self c.put.new.out c.put_number.new.sink c.put_number.new.out c.args.number c.requires (omega arith) c.in_ok-put.ensures.ok h)
 
 pub returns-clause-err : goal.returns-clause-err
-returns-clause-err g c = if_err c.put_number.result c.put_number.ensures.err (λ stop h. let fault = fault_of stop in alias_late g.S.Sink.holds g.S.Sink.stops c.args.sink.now c.args.out.now c.put.new.self c.put.new.out c.put_number.new.out c.args.number fault c.requires (omega arith) c.in_ok-put.ensures.ok h)
+returns-clause-err g c = if_err c.put_number.result c.put_number.ensures.err (λ stop h. alias_late g.S.Sink.holds g.S.Sink.stops c.args.sink.now c.args.out.now c.put.new.self c.put.new.out c.put_number.new.out c.args.number (fault_of stop) c.requires (omega arith) c.in_ok-put.ensures.ok h)

@@ -11,7 +11,7 @@ returns-then-is_uri-clause-ok g c =
 
 pub returns-then-is_uri-clause-err : goal.returns-then-is_uri-clause-err
 returns-then-is_uri-clause-err g c =
-    if_err c.put.result c.put.ensures.err (λ stop h. let fault = fault_of stop in subst (Misses g.S.Sink.holds g.S.Sink.stops c.args.sink.now c.args.out.now c.put.new.out fault) (c.encode_utf8.ensures.value ∙ byte_itself c.args.byte c.from-c.result c.from-c.ensures (sym c.if-is_uri.ensures)) h)
+    if_err c.put.result c.put.ensures.err (λ stop h. subst (Misses g.S.Sink.holds g.S.Sink.stops c.args.sink.now c.args.out.now c.put.new.out (fault_of stop)) (c.encode_utf8.ensures.value ∙ byte_itself c.args.byte c.from-c.result c.from-c.ensures (sym c.if-is_uri.ensures)) h)
 
 pub returns-else-is_uri-clause-ok : goal.returns-else-is_uri-clause-ok
 returns-else-is_uri-clause-ok g c =
@@ -19,4 +19,4 @@ returns-else-is_uri-clause-ok g c =
 
 pub returns-else-is_uri-clause-err : goal.returns-else-is_uri-clause-err
 returns-else-is_uri-clause-err g c =
-    if_err c.put_escape.result c.put_escape.ensures.err (λ stop h. let fault = fault_of stop in subst (Misses g.S.Sink.holds g.S.Sink.stops c.args.sink.now c.args.out.now c.put_escape.new.out fault) (byte_escaped c.args.byte c.from-c.result c.from-c.ensures (sym c.if-is_uri.ensures) (omega arith)) h)
+    if_err c.put_escape.result c.put_escape.ensures.err (λ stop h. subst (Misses g.S.Sink.holds g.S.Sink.stops c.args.sink.now c.args.out.now c.put_escape.new.out (fault_of stop)) (byte_escaped c.args.byte c.from-c.result c.from-c.ensures (sym c.if-is_uri.ensures) (omega arith)) h)

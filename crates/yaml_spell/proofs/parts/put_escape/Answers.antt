@@ -16,6 +16,6 @@ pub returns-clause-err : goal.returns-clause-err
 returns-clause-err g c =
     let h = g.S.Sink.holds in
     let b = c.args.byte in
-    if_err c.put-3.result c.put-3.ensures.err (λ stop m. let fault = fault_of stop in
-    misses_later h g.S.Sink.stops c.args.sink.now c.args.out.now c.put-2.new.self c.put-2.new.out c.put-3.new.out fault (37 ∷ hex_digit (b / 16) ∷ []) (hex_digit (b % 16) ∷ [])
+    if_err c.put-3.result c.put-3.ensures.err (λ stop m.
+    misses_later h g.S.Sink.stops c.args.sink.now c.args.out.now c.put-2.new.self c.put-2.new.out c.put-3.new.out (fault_of stop) (37 ∷ hex_digit (b / 16) ∷ []) (hex_digit (b % 16) ∷ [])
     (adds_then h c.args.sink.now c.args.out.now c.put.new.self c.put.new.out c.put-2.new.self c.put-2.new.out (37 ∷ []) (hex_digit (b / 16) ∷ []) c.in_ok-put.ensures.ok (rw c.digit.ensures at c.in_ok-put-2.ensures.ok)) (rw c.digit-2.ensures at m))

@@ -42,4 +42,4 @@ returns-clause-err g c =
     let p = given_of c.notice.new.names in
     let e : p ≡ (noticed R (T i) (λ _. Unseen), 0) = (λ z. ((c.notice.ensures.table ∙ ap (noticed R (T i)) c.begin.ensures.table) z, (c.notice.ensures.others.count ∙ c.begin.ensures.count) z)) in
     let m = marks-there (g.V.RankedNodes.count v) T R c.tells.ensures i p c.requires.within e in
-    if_err c.put-2.result c.put-2.ensures.err (λ stop h. let fault = fault_of stop in document_unended g.S.Sink.holds g.S.Sink.stops (T i) _ c.args.sink.now c.args.out.now c.put.new.self c.put.new.out c.write_node.new.sink c.write_node.new.out c.put-2.new.out fault m c.in_ok-put.ensures.ok c.in_ok-write_node.ensures.ok h)
+    if_err c.put-2.result c.put-2.ensures.err (λ stop h. document_unended g.S.Sink.holds g.S.Sink.stops (T i) _ c.args.sink.now c.args.out.now c.put.new.self c.put.new.out c.write_node.new.sink c.write_node.new.out c.put-2.new.out (fault_of stop) m c.in_ok-put.ensures.ok c.in_ok-write_node.ensures.ok h)

@@ -93,7 +93,7 @@ write_items-returns-clause-err g w c =
     let xs = c.args.items.now in
     let i = c.loop-place.place in
     let p = given_of c.loop-place.names in
-    if_err c.put-2.result c.put-2.ensures.err (λ stop h. let fault = fault_of stop in left_fails g.S.Sink.holds g.S.Sink.stops c.args.sink.now c.args.out.now c.loop-place.sink c.loop-place.out c.put-2.new.out fault _ _ (λ more. (93 ∷ []) ++ more) (λ more. more) c.loop-place.invariant.left (fails_piece g.S.Sink.holds g.S.Sink.stops _ _ _ fault (93 ∷ []) (93 ∷ []) h closing_bracket) (items_end R f xs i p (omega arith)))
+    if_err c.put-2.result c.put-2.ensures.err (λ stop h. left_fails g.S.Sink.holds g.S.Sink.stops c.args.sink.now c.args.out.now c.loop-place.sink c.loop-place.out c.put-2.new.out (fault_of stop) _ _ (λ more. (93 ∷ []) ++ more) (λ more. more) c.loop-place.invariant.left (fails_piece g.S.Sink.holds g.S.Sink.stops _ _ _ (fault_of stop) (93 ∷ []) (93 ∷ []) h closing_bracket) (items_end R f xs i p (omega arith)))
 
 pub write_entries-loop-place-init : goal.write_entries-loop-place-init
 write_entries-loop-place-init g w c =
@@ -205,7 +205,7 @@ write_entries-returns-clause-err g w c =
     let xs = c.args.entries.now in
     let i = c.loop-place.place in
     let p = given_of c.loop-place.names in
-    if_err c.put-2.result c.put-2.ensures.err (λ stop h. let fault = fault_of stop in left_fails g.S.Sink.holds g.S.Sink.stops c.args.sink.now c.args.out.now c.loop-place.sink c.loop-place.out c.put-2.new.out fault _ _ (λ more. (125 ∷ []) ++ more) (λ more. more) c.loop-place.invariant.left (fails_piece g.S.Sink.holds g.S.Sink.stops _ _ _ fault (125 ∷ []) (125 ∷ []) h closing_brace) (pairs_end R f xs i p (omega arith)))
+    if_err c.put-2.result c.put-2.ensures.err (λ stop h. left_fails g.S.Sink.holds g.S.Sink.stops c.args.sink.now c.args.out.now c.loop-place.sink c.loop-place.out c.put-2.new.out (fault_of stop) _ _ (λ more. (125 ∷ []) ++ more) (λ more. more) c.loop-place.invariant.left (fails_piece g.S.Sink.holds g.S.Sink.stops _ _ _ (fault_of stop) (125 ∷ []) (125 ∷ []) h closing_brace) (pairs_end R f xs i p (omega arith)))
 
 pub write_inside-returns-in-Scalar-clause-known : goal.write_inside-returns-in-Scalar-clause-known
 write_inside-returns-in-Scalar-clause-known g w c =
@@ -238,7 +238,7 @@ write_inside-returns-in-Scalar-clause-err g w c =
     let t = T (N c.args.id) in
     let p = given_of c.args.names.now in
     let e = scalar-shown N T t _ _ _ c.node-node.ensures.tree c.in-Scalar.is in
-    if_err c.put_scalar.result c.put_scalar.ensures.err (λ stop h. let fault = fault_of stop in scalar_fails g.S.Sink.holds g.S.Sink.stops R p t _ _ _ _ c.args.sink.now c.args.out.now c.put_scalar.new.out fault e refl refl h)
+    if_err c.put_scalar.result c.put_scalar.ensures.err (λ stop h. scalar_fails g.S.Sink.holds g.S.Sink.stops R p t _ _ _ _ c.args.sink.now c.args.out.now c.put_scalar.new.out (fault_of stop) e refl refl h)
 
 pub write_inside-returns-in_err-put_tag-in-Sequence-clause-err : goal.write_inside-returns-in_err-put_tag-in-Sequence-clause-err
 write_inside-returns-in_err-put_tag-in-Sequence-clause-err g w c =
@@ -283,7 +283,7 @@ write_inside-returns-in_ok-put_tag-in-Sequence-clause-err g w c =
     let t = T (N c.args.id) in
     let p = given_of c.args.names.now in
     let e = sequence-shown N T t _ _ _ c.node-node.ensures.tree c.in-Sequence.is in
-    if_err c.write_items.result c.write_items.ensures.err (λ stop h. let fault = fault_of stop in sequence_fails g.S.Sink.holds g.S.Sink.stops R p t _ _ _ c.args.sink.now c.args.out.now c.put_tag.new.sink c.put_tag.new.out c.write_items.new.out fault e refl c.in_ok-put_tag-in-Sequence.ensures.ok h)
+    if_err c.write_items.result c.write_items.ensures.err (λ stop h. sequence_fails g.S.Sink.holds g.S.Sink.stops R p t _ _ _ c.args.sink.now c.args.out.now c.put_tag.new.sink c.put_tag.new.out c.write_items.new.out (fault_of stop) e refl c.in_ok-put_tag-in-Sequence.ensures.ok h)
 
 pub write_inside-returns-in_err-put_tag-in-Mapping-clause-err : goal.write_inside-returns-in_err-put_tag-in-Mapping-clause-err
 write_inside-returns-in_err-put_tag-in-Mapping-clause-err g w c =
@@ -328,7 +328,7 @@ write_inside-returns-in_ok-put_tag-in-Mapping-clause-err g w c =
     let t = T (N c.args.id) in
     let p = given_of c.args.names.now in
     let e = mapping-shown N T t _ _ _ c.node-node.ensures.tree c.in-Mapping.is in
-    if_err c.write_entries.result c.write_entries.ensures.err (λ stop h. let fault = fault_of stop in mapping_fails g.S.Sink.holds g.S.Sink.stops R p t _ _ _ c.args.sink.now c.args.out.now c.put_tag-in-Mapping.new.sink c.put_tag-in-Mapping.new.out c.write_entries.new.out fault e refl c.in_ok-put_tag-in-Mapping.ensures.ok h)
+    if_err c.write_entries.result c.write_entries.ensures.err (λ stop h. mapping_fails g.S.Sink.holds g.S.Sink.stops R p t _ _ _ c.args.sink.now c.args.out.now c.put_tag-in-Mapping.new.sink c.put_tag-in-Mapping.new.out c.write_entries.new.out (fault_of stop) e refl c.in_ok-put_tag-in-Mapping.ensures.ok h)
 
 pub write_node-returns-in_err-counted-clause-err : goal.write_node-returns-in_err-counted-clause-err
 write_node-returns-in_err-counted-clause-err g w c =
@@ -401,7 +401,7 @@ write_node-returns-in-Alias-clause-err g w c =
     let k : c.rank.result ≡ R t = c.rank.ensures.is in
     let o : c.start-opening.result ≡ start R t p = c.start-opening.ensures.opening ∙ (λ z. opening_of (b z) (k z) p) in
     let q : given_of c.start-opening.new.names ≡ started R t p = c.start-opening.ensures.given ∙ (λ z. begun_unless_short (b z) (k z) p) in
-    if_err c.put_alias.result c.put_alias.ensures.err (λ stop h. let fault = fault_of stop in fails_after g.S.Sink.holds g.S.Sink.stops c.args.sink.now c.args.out.now c.count_short.new.sink c.count_short.new.out c.put_alias.new.out fault _ (c.in_ok-counted.ensures.kept c.if-counted.false) (alias_unwritten g.S.Sink.holds g.S.Sink.stops R t p c.start-opening.result o c.in-Alias.number c.count_short.new.sink c.count_short.new.out c.put_alias.new.out fault c.in-Alias.is h))
+    if_err c.put_alias.result c.put_alias.ensures.err (λ stop h. fails_after g.S.Sink.holds g.S.Sink.stops c.args.sink.now c.args.out.now c.count_short.new.sink c.count_short.new.out c.put_alias.new.out (fault_of stop) _ (c.in_ok-counted.ensures.kept c.if-counted.false) (alias_unwritten g.S.Sink.holds g.S.Sink.stops R t p c.start-opening.result o c.in-Alias.number c.count_short.new.sink c.count_short.new.out c.put_alias.new.out (fault_of stop) c.in-Alias.is h))
 
 pub write_node-returns-in_err-put_anchor-in-Anchored-clause-err : goal.write_node-returns-in_err-put_anchor-in-Anchored-clause-err
 write_node-returns-in_err-put_anchor-in-Anchored-clause-err g w c =
@@ -458,7 +458,7 @@ write_node-returns-in_ok-put_anchor-in-Anchored-clause-err g w c =
     let k : c.rank.result ≡ R t = c.rank.ensures.is in
     let o : c.start-opening.result ≡ start R t p = c.start-opening.ensures.opening ∙ (λ z. opening_of (b z) (k z) p) in
     let q : given_of c.start-opening.new.names ≡ started R t p = c.start-opening.ensures.given ∙ (λ z. begun_unless_short (b z) (k z) p) in
-    if_err c.write_inside.result c.write_inside.ensures.err (λ stop h. let fault = fault_of stop in fails_after g.S.Sink.holds g.S.Sink.stops c.args.sink.now c.args.out.now c.count_short.new.sink c.count_short.new.out c.write_inside.new.out fault _ (c.in_ok-counted.ensures.kept c.if-counted.false) (anchored_unwritten g.S.Sink.holds g.S.Sink.stops R t p c.start-opening.result o c.in-Anchored.number _ c.count_short.new.sink c.count_short.new.out c.put_anchor.new.sink c.put_anchor.new.out c.write_inside.new.out fault c.in-Anchored.is q c.in_ok-put_anchor-in-Anchored.ensures.ok h))
+    if_err c.write_inside.result c.write_inside.ensures.err (λ stop h. fails_after g.S.Sink.holds g.S.Sink.stops c.args.sink.now c.args.out.now c.count_short.new.sink c.count_short.new.out c.write_inside.new.out (fault_of stop) _ (c.in_ok-counted.ensures.kept c.if-counted.false) (anchored_unwritten g.S.Sink.holds g.S.Sink.stops R t p c.start-opening.result o c.in-Anchored.number _ c.count_short.new.sink c.count_short.new.out c.put_anchor.new.sink c.put_anchor.new.out c.write_inside.new.out (fault_of stop) c.in-Anchored.is q c.in_ok-put_anchor-in-Anchored.ensures.ok h))
 
 pub write_node-returns-in-Plain-clause-known : goal.write_node-returns-in-Plain-clause-known
 write_node-returns-in-Plain-clause-known g w c =
@@ -500,7 +500,7 @@ write_node-returns-in-Plain-clause-err g w c =
     let k : c.rank.result ≡ R t = c.rank.ensures.is in
     let o : c.start-opening.result ≡ start R t p = c.start-opening.ensures.opening ∙ (λ z. opening_of (b z) (k z) p) in
     let q : given_of c.start-opening.new.names ≡ started R t p = c.start-opening.ensures.given ∙ (λ z. begun_unless_short (b z) (k z) p) in
-    if_err c.write_inside-in-Plain.result c.write_inside-in-Plain.ensures.err (λ stop h. let fault = fault_of stop in fails_after g.S.Sink.holds g.S.Sink.stops c.args.sink.now c.args.out.now c.count_short.new.sink c.count_short.new.out c.write_inside-in-Plain.new.out fault _ (c.in_ok-counted.ensures.kept c.if-counted.false) (plain_unwritten g.S.Sink.holds g.S.Sink.stops R t p c.start-opening.result o _ c.count_short.new.sink c.count_short.new.out c.write_inside-in-Plain.new.out fault c.in-Plain.is q h))
+    if_err c.write_inside-in-Plain.result c.write_inside-in-Plain.ensures.err (λ stop h. fails_after g.S.Sink.holds g.S.Sink.stops c.args.sink.now c.args.out.now c.count_short.new.sink c.count_short.new.out c.write_inside-in-Plain.new.out (fault_of stop) _ (c.in_ok-counted.ensures.kept c.if-counted.false) (plain_unwritten g.S.Sink.holds g.S.Sink.stops R t p c.start-opening.result o _ c.count_short.new.sink c.count_short.new.out c.write_inside-in-Plain.new.out (fault_of stop) c.in-Plain.is q h))
 
 pub write_node-write_inside-requires : goal.write_node-write_inside-requires
 write_node-write_inside-requires g w c =

@@ -18,6 +18,6 @@ returns-clause-err g c =
     let holds = PageHolds g.W.Write.contents in
     let stops = PageStops g.W.Write.contents in
     let p = c.args.piece.now in
-    if_err c.add-2.result c.add-2.ensures.err (λ stop h. let fault = fault_of stop in
-    subst (Misses holds stops c.args.self.now c.args.out.now c.add-2.new.out fault) ((λ i. c.as_bytes.ensures.value i ++ c.spelled_char-len.ensures.text i) ∙ ap (λ z. p.run.now ++ next_text z) (sym c.in-Some.is))
-    (misses_later holds stops c.args.self.now c.args.out.now c.add.new.self c.add.new.out c.add-2.new.out fault c.as_bytes.result.now _ c.in_ok-add.ensures.ok h))
+    if_err c.add-2.result c.add-2.ensures.err (λ stop h.
+    subst (Misses holds stops c.args.self.now c.args.out.now c.add-2.new.out (fault_of stop)) ((λ i. c.as_bytes.ensures.value i ++ c.spelled_char-len.ensures.text i) ∙ ap (λ z. p.run.now ++ next_text z) (sym c.in-Some.is))
+    (misses_later holds stops c.args.self.now c.args.out.now c.add.new.self c.add.new.out c.add-2.new.out (fault_of stop) c.as_bytes.result.now _ c.in_ok-add.ensures.ok h))

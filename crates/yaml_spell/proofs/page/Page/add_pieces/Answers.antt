@@ -29,4 +29,4 @@ returns-clause-ok g c =
 
 pub returns-clause-err : goal.returns-clause-err
 returns-clause-err g c =
-    if_err c.add-2.result c.add-2.ensures.err (λ stop h. let fault = fault_of stop in spelled_unclosed (PageHolds g.W.Write.contents) (PageStops g.W.Write.contents) c.args.self.now c.spell.self c.args.out.now c.spell.out c.add-2.new.out fault c.args.content.now _ c.spell.invariant.0 (all_taken _ _ c.is_empty.ensures c.spell-test.false) h)
+    if_err c.add-2.result c.add-2.ensures.err (λ stop h. spelled_unclosed (PageHolds g.W.Write.contents) (PageStops g.W.Write.contents) c.args.self.now c.spell.self c.args.out.now c.spell.out c.add-2.new.out (fault_of stop) c.args.content.now _ c.spell.invariant.0 (all_taken _ _ c.is_empty.ensures c.spell-test.false) h)

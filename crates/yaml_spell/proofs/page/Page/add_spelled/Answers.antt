@@ -13,4 +13,4 @@ returns-then-is_unescaped-clause-ok g c =
 pub returns-then-is_unescaped-clause-err : goal.returns-then-is_unescaped-clause-err
 returns-then-is_unescaped-clause-err g c =
     let e = ap (λ z. 34 ∷ (z ++ (34 ∷ []))) c.as_bytes.ensures.value ∙ sym (c.if-is_unescaped.ensures.yes refl) in
-    if_err c.add_quoted.result c.add_quoted.ensures.err (λ stop h. let fault = fault_of stop in subst (Misses (PageHolds g.W.Write.contents) (PageStops g.W.Write.contents) c.args.self.now c.args.out.now c.add_quoted.new.out fault) e h)
+    if_err c.add_quoted.result c.add_quoted.ensures.err (λ stop h. subst (Misses (PageHolds g.W.Write.contents) (PageStops g.W.Write.contents) c.args.self.now c.args.out.now c.add_quoted.new.out (fault_of stop)) e h)

@@ -15,6 +15,6 @@ returns-in_err-add-clause-err c =
 pub returns-clause-err : goal.returns-clause-err
 returns-clause-err c =
     let p = c.args.piece.now in
-    if_err c.add-2.result c.add-2.ensures.err (λ stop h. let fault = fault_of stop in
-    subst (Misses Holds Stops c.args.self.now tt tt fault) ((λ i. c.as_bytes.ensures.value i ++ c.spelled_char-len.ensures.text i) ∙ ap (λ z. p.run.now ++ next_text z) (sym c.in-Some.is))
-    (misses_later Holds Stops c.args.self.now tt c.add.new.self tt tt fault c.as_bytes.result.now _ c.in_ok-add.ensures.ok h))
+    if_err c.add-2.result c.add-2.ensures.err (λ stop h.
+    subst (Misses Holds Stops c.args.self.now tt tt (fault_of stop)) ((λ i. c.as_bytes.ensures.value i ++ c.spelled_char-len.ensures.text i) ∙ ap (λ z. p.run.now ++ next_text z) (sym c.in-Some.is))
+    (misses_later Holds Stops c.args.self.now tt c.add.new.self tt tt (fault_of stop) c.as_bytes.result.now _ c.in_ok-add.ensures.ok h))

@@ -29,4 +29,4 @@ returns-clause-ok c =
 
 pub returns-clause-err : goal.returns-clause-err
 returns-clause-err c =
-    if_err c.add-2.result c.add-2.ensures.err (λ stop h. let fault = fault_of stop in spelled_unclosed Holds Stops c.args.self.now c.spell.self tt tt tt fault c.args.content.now _ c.spell.invariant.0 (all_taken _ _ c.is_empty.ensures c.spell-test.false) h)
+    if_err c.add-2.result c.add-2.ensures.err (λ stop h. spelled_unclosed Holds Stops c.args.self.now c.spell.self tt tt tt (fault_of stop) c.args.content.now _ c.spell.invariant.0 (all_taken _ _ c.is_empty.ensures c.spell-test.false) h)

@@ -21,4 +21,4 @@ returns-clause-ok c =
 
 pub returns-clause-err : goal.returns-clause-err
 returns-clause-err c =
-    if_err c.add-3.result c.add-3.ensures.err (λ stop h. let fault = fault_of stop in quoted_unclosed Holds Stops c.args.self.now c.add.new.self c.add-2.new.self tt tt tt tt fault c.args.content.now c.in_ok-add.ensures.ok c.in_ok-add-2.ensures.ok h)
+    if_err c.add-3.result c.add-3.ensures.err (λ stop h. quoted_unclosed Holds Stops c.args.self.now c.add.new.self c.add-2.new.self tt tt tt tt (fault_of stop) c.args.content.now c.in_ok-add.ensures.ok c.in_ok-add-2.ensures.ok h)

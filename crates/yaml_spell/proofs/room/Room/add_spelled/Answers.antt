@@ -12,4 +12,4 @@ returns-then-is_unescaped-clause-ok c =
 pub returns-then-is_unescaped-clause-err : goal.returns-then-is_unescaped-clause-err
 returns-then-is_unescaped-clause-err c =
     let e = ap (λ z. 34 ∷ (z ++ (34 ∷ []))) c.as_bytes.ensures.value ∙ sym (c.if-is_unescaped.ensures.yes refl) in
-    if_err c.add_quoted.result c.add_quoted.ensures.err (λ stop h. let fault = fault_of stop in subst (RoomMisses c.args.self.now fault) e h)
+    if_err c.add_quoted.result c.add_quoted.ensures.err (λ stop h. subst (RoomMisses c.args.self.now (fault_of stop)) e h)
