@@ -1,10 +1,11 @@
 //! The lists of a store, by which nodes of one height are compared.
-ghost use Rattle.std.specs.Prelude.{◌≡◌, ◌<◌, length};
+ghost use Rattle.std.specs.Prelude.{◌≡◌, ◌<◌, length, IfOk};
 ghost use Rattle.std.specs.Ordering.{is_lt};
 ghost use Rattle.std.specs.List.Sorted.{IsPermutation};
 ghost use Rattle.yaml_compact.specs.KeyModel.{inside_cmp, key_cmp, Rises, RanksFit};
 ghost use Rattle.yaml_compact.specs.SlotModel.{held, InRange, inside_at, rest_at, key_at, keys_of, IsSlot};
 
+use crate::gives_up::GivesUp;
 use crate::nodes::{Node, Place};
 use crate::slot::{Rest, Slot};
 use std::cmp::Ordering;
@@ -106,12 +107,35 @@ impl<'s> Lists<'s> {
         self.compare(left, right) == Ordering::Less
     }
 
+    /// Whether the last slots, all but an eighth of them, stand in order or in the opposite one. Keys that
+    /// come sorted do so, with few others before them.
+    fn end_in_run(&self, slots: &[Slot]) -> bool
+        requires { InRange self.now }
+    {
+        let len = slots.len();
+        if len < 2 {
+            return true;
+        }
+        let falls = self.is_below(&slots[len - 1], &slots[len - 2]);
+        let mut start = len - 1;
+        while start > 0 && self.is_below(&slots[start], &slots[start - 1]) == falls {
+            start -= 1;
+        }
+        start <= len / 8
+    }
+
     /// Puts slots in order, whatever nodes they are of: so the sort may pass over nodes that are equal.
-    pub(crate) fn sort(&self, slots: &mut Vec<Slot>)
+    /// The stable one keeps runs, and takes room for what stands before the last one.
+    pub(crate) fn sort(&self, slots: &mut Vec<Slot>) -> Result<(), GivesUp>
         requires { InRange self.now }
         ensures permutation { IsPermutation slots.old.items slots.new.items }
-        ensures sorted { Rises (keys_of self.now slots.new.items) }
+        ensures sorted { IfOk result (λ _. Rises (keys_of self.now slots.new.items)) }
     {
+        if self.end_in_run(slots) {
+            slots.sort_by(|left, right| self.compare(left, right))?;
+            return Ok(());
+        }
         slots.sort_unstable_by(|left, right| self.compare(left, right));
+        Ok(())
     }
 }

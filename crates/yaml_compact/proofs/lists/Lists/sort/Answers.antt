@@ -1,12 +1,17 @@
+use Rattle.std.proofs.Common.{rules, of_calls}
 use Rattle.std.specs.Ordering.{is_lt}
 use Rattle.std.proofs.lemmas.Fn.{always_returns_same}
 use Rattle.std.proofs.lemmas.List.MinMax.{ranks_by}
-use Rattle.std.proofs.Common.{rules, of_calls}
 use Rattle.yaml_compact.specs.KeyModel.{key_cmp}
 use Rattle.yaml_compact.specs.SlotModel.{key_at}
 use Rattle.yaml_compact.proofs.KeyOrder.{key_cmp-total}
 use Rattle.yaml_compact.proofs.SlotLaws.{slots-rise}
 use Rattle.yaml_compact.proofs.lists.Lists.sort.Goals as goal
+
+pub returns-then-end_in_run-clause-sorted : goal.returns-then-end_in_run-clause-sorted
+returns-then-end_in_run-clause-sorted c =
+    let l = c.args.self.now in
+    slots-rise l c.sort_by.new.self.items (c.in_ok-sort_by.ensures.sorted (λ x y. is_lt (key_cmp (key_at l x) (key_at l y))) (ranks_by key_cmp-total (key_at l)) (always_returns_same _ _ _ (λ a r f k. search (rules, of_calls))))
 
 pub returns-clause-sorted : goal.returns-clause-sorted
 returns-clause-sorted c =
