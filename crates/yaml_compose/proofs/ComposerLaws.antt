@@ -1,13 +1,8 @@
 -- What the composer's lists stand for, as they grow.
-use Rattle.std.proofs.Common.{◌≡◌, ℕ, zero, suc, ◌<◌, ◌≤◌, Bool, true, false, cond, bytes_eq, List, [], ◌∷◌, ◌++◌, length, set, take, drop, reverse, get_or, refl, sym, ◌∙◌, ap, subst, arith, append_assoc, length-append}
-use Rattle.std.specs.Prelude.{Option, None, Some, Ok, String}
+use Rattle.std.proofs.Common.{◌≡◌, ℕ, zero, suc, ◌<◌, ◌≤◌, Bool, List, [], ◌∷◌, ◌++◌, length, set, take, drop, reverse, get_or, refl, sym, ◌∙◌, ap, subst, arith, append_assoc, length-append}
+use Rattle.std.specs.Prelude.{Option, None, Some, Ok}
 use Rattle.std.specs.List.{slice_get, All}
-use Rattle.std.specs.Option.{option_map}
 use Rattle.std.specs.String.{string_bytes}
-use Rattle.std.specs.BTreeMap.{BTreeMap, get_by_text}
-use Rattle.std.specs.Map.{lookup}
-use Rattle.std.specs.Cmp.Lexicographic.{slice_cmp}
-use Rattle.std.specs.Ordering.{nat_cmp, is_eq}
 use Rattle.std.proofs.lemmas.Option.{slice_get_within, get_or_from_slice_get, slice_get_read}
 use Rattle.std.proofs.lemmas.List.{reverse-append, map-append}
 use Rattle.std.proofs.lemmas.List.Elements.{All-nil, All-cons}
@@ -15,7 +10,7 @@ use Rattle.yaml_definitions.specs.model.Limits.{height_limit}
 use Rattle.yaml_definitions.specs.model.Tree.{Tree, scalar}
 use Rattle.yaml_definitions.specs.model.Event.{Anchor, WrittenTag}
 use Rattle.yaml_definitions.specs.model.Core.{collection_tag}
-use Rattle.yaml_definitions.specs.model.Unfold.{Table, or_else, closed, last_named, and_then, placed}
+use Rattle.yaml_definitions.specs.model.Unfold.{Table, closed, last_named, and_then, placed}
 use Rattle.yaml_nodes.specs.ComposerModel.{last_place, names_of, Placed}
 use Rattle.yaml_nodes.specs.ComposerSteps as machine
 use Rattle.yaml_nodes.specs.GraphModel.{AreLow}
@@ -133,25 +128,8 @@ table-closed ts names anchored table (Some place) (Some name) slot i t h e w = s
 table-closed ts names anchored table None (Some name) slot i t h e w = absurd w
 table-closed ts names anchored table (Some place) None slot i t h e w = absurd w
 
-names-push : (table : Table) (name : List ℕ) → names_of (table ++ ((name, None) ∷ [])) ≡ names_of table ++ (name ∷ [])
+pub names-push : (table : Table) (name : List ℕ) → names_of (table ++ ((name, None) ∷ [])) ≡ names_of table ++ (name ∷ [])
 names-push table name = map-append (λ o. o.0) table ((name, None) ∷ [])
-
-push-cases : (b : Bool) (n : ℕ) (p z : Option ℕ) → or_else (option_map suc (cond b (Some n) p)) z ≡ cond b (Some (suc n)) (or_else (option_map suc p) z)
-push-cases true n p z = refl
-push-cases false n p z = refl
-
-place-push : (name : List ℕ) (xs : List (List ℕ)) (y : List ℕ) → last_place name (xs ++ (y ∷ [])) ≡ cond (bytes_eq y name) (Some (length xs)) (last_place name xs)
-unfolding last_place
-place-push name [] y = refl
-place-push name (x ∷ xs) y =
-    ap (λ p. or_else (option_map suc p) (cond (bytes_eq x name) (Some 0) None)) (place-push name xs y) ∙ push-cases (bytes_eq y name) (length xs) (last_place name xs) (cond (bytes_eq x name) (Some 0) None)
-
--- the places of the names, once there is one more
-named-push : (table : Table) (old new : List ℕ → Option ℕ) (name : List ℕ) (place : ℕ) → ((x : List ℕ) → old x ≡ last_place x (names_of table)) → place ≡ length table → ((x : List ℕ) → new x ≡ cond (bytes_eq name x) (Some place) (old x))
-    → (x : List ℕ) → new x ≡ last_place x (names_of (table ++ ((name, None) ∷ [])))
-named-push table old new name place h e u x =
-    let n : place ≡ length (names_of table) = e ∙ sym (names-length table) in
-    u x ∙ ((λ z. cond (bytes_eq name x) (Some (n z)) (h x z)) ∙ (sym (place-push x (names_of table) name) ∙ ap (last_place x) (sym (names-push table name))))
 
 -- the tree of an alias
 pub record AliasAt (ts : List Tree) (i : ℕ) (o : Option (Option Tree)) : Type 0 where
@@ -206,55 +184,48 @@ none-open tags names os ps l h = none-held tags names ps (subst (λ z. OpensHold
 abbrev pub frame : Anchor → ℕ → List ℕ → List Tree → machine.Open
 frame a slot g before = record { anchor = a; slot = slot; tag = g; before = before }
 
--- no name has a place in an empty map
-pub names-none : {Y : Type 0} (m : BTreeMap (String Y) ℕ) → m.entries ≡ [] → (name : List ℕ) → get_by_text m name ≡ None
-names-none m e name = ap (λ es. lookup (λ k. is_eq (slice_cmp nat_cmp name (string_bytes k))) es) e
+pub keeping-none : (tags : List (List ℕ)) (ts : List Tree) (anchored : List (Option ℕ)) (stack : List ℕ) (opens : List Open) → anchored ≡ [] → stack ≡ [] → opens ≡ []
+    → Keeping tags ts anchored stack opens [] [] []
+keeping-none tags ts anchored stack opens ea es eo = rw (ea, es, eo) (record { stacked = tt; opened = tt; anchors = tt })
 
-pub keeping-none : (tags : List (List ℕ)) (ts : List Tree) (named : List ℕ → Option ℕ) (anchored : List (Option ℕ)) (stack : List ℕ) (opens : List Open) → anchored ≡ [] → stack ≡ [] → opens ≡ [] → ((name : List ℕ) → named name ≡ None)
-    → Keeping tags ts named anchored stack opens [] [] []
-unfolding last_place
-keeping-none tags ts named anchored stack opens ea es eo e = rw (ea, es, eo) (record { stacked = tt; opened = tt; anchors = tt; places = e })
-
-module _ (tags : List (List ℕ)) (ts : List Tree) (named : List ℕ → Option ℕ) (anchored : List (Option ℕ)) (stack : List ℕ) (opens : List Open) (inner : List Tree) (outer : List machine.Open) (table : Table) (h : Keeping tags ts named anchored stack opens inner outer table) where
+module _ (tags : List (List ℕ)) (ts : List Tree) (anchored : List (Option ℕ)) (stack : List ℕ) (opens : List Open) (inner : List Tree) (outer : List machine.Open) (table : Table) (h : Keeping tags ts anchored stack opens inner outer table) where
   -- tags and nodes are added
-  pub keeping-more : (us : List (List ℕ)) (vs : List Tree) → Keeping (tags ++ us) (ts ++ vs) named anchored stack opens inner outer table
-  keeping-more us vs = record { stacked = all-more ts vs stack (below outer ++ inner) h.stacked; opened = opens-more tags us (names_of table) (reverse opens) outer h.opened; anchors = table-more ts vs anchored table h.anchors; places = h.places }
+  pub keeping-more : (us : List (List ℕ)) (vs : List Tree) → Keeping (tags ++ us) (ts ++ vs) anchored stack opens inner outer table
+  keeping-more us vs = record { stacked = all-more ts vs stack (below outer ++ inner) h.stacked; opened = opens-more tags us (names_of table) (reverse opens) outer h.opened; anchors = table-more ts vs anchored table h.anchors }
 
   -- a node with an anchor begins
-  pub keeping-begun : (name : List ℕ) (place : ℕ) (new : List ℕ → Option ℕ) (more : List (Option ℕ)) → place ≡ length anchored → more ≡ anchored ++ (None ∷ []) → ((x : List ℕ) → new x ≡ cond (bytes_eq name x) (Some place) (named x))
-      → Placed (names_of (table ++ ((name, None) ∷ []))) (Some place) (Some name) (length table) × Keeping tags ts new more stack opens inner outer (table ++ ((name, None) ∷ []))
-  keeping-begun name place new more e q u =
-      let n : place ≡ length table = e ∙ table-length ts anchored table h.anchors in (
-        placed-push table name place n,
-        record { stacked = h.stacked; opened = opens-opened tags table name (reverse opens) outer h.opened; anchors = subst (λ z. TableAt ts z (table ++ ((name, None) ∷ []))) (sym q) (table-push ts anchored table name h.anchors); places = named-push table named new name place h.places n u },
-      )
+  pub keeping-begun : (name : List ℕ) (place : ℕ) (more : List (Option ℕ)) → place ≡ length (names_of table) → more ≡ anchored ++ (None ∷ [])
+      → Placed (names_of (table ++ ((name, None) ∷ []))) (Some place) (Some name) (length table) × Keeping tags ts more stack opens inner outer (table ++ ((name, None) ∷ []))
+  keeping-begun name place more e q = (
+    placed-push table name place (e ∙ names-length table),
+    record { stacked = h.stacked; opened = opens-opened tags table name (reverse opens) outer h.opened; anchors = subst (λ z. TableAt ts z (table ++ ((name, None) ∷ []))) (sym q) (table-push ts anchored table name h.anchors) },
+  )
 
   -- a node is whole
   pub keeping-whole : (place : Option ℕ) (a : Anchor) (slot i : ℕ) (t : Tree) → Placed (names_of table) place a slot → slice_get ts i ≡ Some t → (filling : List (Option ℕ)) (more : List ℕ) → filling ≡ filled place i anchored → more ≡ stack ++ (i ∷ [])
-      → Keeping tags ts named filling more opens (inner ++ (t ∷ [])) outer (closed a slot t table)
+      → Keeping tags ts filling more opens (inner ++ (t ∷ [])) outer (closed a slot t table)
   keeping-whole place a slot i t w e filling more ef em =
       let names : names_of table ≡ names_of (closed a slot t table) = sym (names-closed table place a slot t w) in
       record {
         stacked = subst (λ z. AllAt ts z (below outer ++ (inner ++ (t ∷ [])))) (sym em) (pushed-all ts stack (below outer) inner i t h.stacked e);
         opened = subst (λ xs. OpensHold tags xs (reverse opens) outer) names h.opened;
         anchors = subst (λ z. TableAt ts z (closed a slot t table)) (sym ef) (table-closed ts (names_of table) anchored table place a slot i t h.anchors e w);
-        places = λ x. h.places x ∙ ap (last_place x) names;
       }
 
   -- an alias
-  place-found : (name : List ℕ) (place : ℕ) → named name ≡ Some place → Found (Some place) (last_named name table) table
-  place-found name place e = subst (λ p. Found p (last_named name table) table) (sym (h.places name) ∙ e) (found name table)
+  place-found : (name : List ℕ) (place : ℕ) → last_place name (names_of table) ≡ Some place → Found (Some place) (last_named name table) table
+  place-found name place e = subst (λ p. Found p (last_named name table) table) e (found name table)
 
-  alias-within : (name : List ℕ) (place : ℕ) → named name ≡ Some place → place < length anchored
+  alias-within : (name : List ℕ) (place : ℕ) → last_place name (names_of table) ≡ Some place → place < length anchored
   alias-within name place e = omega (arith, found-within place (last_named name table) table (place-found name place e), table-length ts anchored table h.anchors)
 
-  pub alias-at : (name : List ℕ) (place i : ℕ) (a : Option ℕ) → named name ≡ Some place → a ≡ get_or anchored place a → a ≡ Some i → AliasAt ts i (last_named name table)
+  pub alias-at : (name : List ℕ) (place i : ℕ) (a : Option ℕ) → last_place name (names_of table) ≡ Some place → a ≡ get_or anchored place a → a ≡ Some i → AliasAt ts i (last_named name table)
   alias-at name place i a e q r =
       alias-found ts anchored table place i (last_named name table) h.anchors (place-found name place e) (slice_get_read anchored (length anchored) place a refl (alias-within name place e) q ∙ ap Some r)
 
   -- a collection begins, with the nodes behind `before` as its first
   pub keeping-entered : (o : Open) (a : Anchor) (slot : ℕ) (g : List ℕ) (before rest : List Tree) (new : List Open) → new ≡ opens ++ (o ∷ []) → before ++ rest ≡ inner → Placed (names_of table) o.place a slot → o.mark ≡ length (below outer ++ before)
-      → slice_get tags o.tag ≡ Some g → Keeping tags ts named anchored stack new rest (frame a slot g before ∷ outer) table
+      → slice_get tags o.tag ≡ Some g → Keeping tags ts anchored stack new rest (frame a slot g before ∷ outer) table
   keeping-entered o a slot g before rest new q e w m l =
       let f = frame a slot g before in
       let one : OpenHolds tags (names_of table) o f (below (f ∷ outer)) = record { place = w; mark = m; tag = l } in
@@ -262,7 +233,6 @@ module _ (tags : List (List ℕ)) (ts : List Tree) (named : List ℕ → Option 
         stacked = subst (AllAt ts stack) (ap (λ z. below outer ++ z) (sym e) ∙ sym (append_assoc (below outer) before rest)) h.stacked;
         opened = subst (λ z. OpensHold tags (names_of table) z (f ∷ outer)) (sym (ap reverse q ∙ reverse-push opens o)) (one, h.opened);
         anchors = h.anchors;
-        places = h.places;
       }
 
   -- how many whole nodes there are
@@ -274,13 +244,11 @@ module _ (tags : List (List ℕ)) (ts : List Tree) (named : List ℕ → Option 
   outer-none l = none-open tags (names_of table) opens outer l h.opened
 
   -- a document begins
-  pub keeping-cleared : (new : List ℕ → Option ℕ) (none : List (Option ℕ)) → none ≡ [] → outer ≡ [] → ((name : List ℕ) → new name ≡ None) → Keeping tags ts new none stack opens inner [] []
-  unfolding last_place
-  keeping-cleared new none q e n = record {
+  pub keeping-cleared : (none : List (Option ℕ)) → none ≡ [] → outer ≡ [] → Keeping tags ts none stack opens inner [] []
+  keeping-cleared none q e = record {
     stacked = subst (λ z. AllAt ts stack (below z ++ inner)) e h.stacked;
     opened = opens-none tags (names_of table) [] (reverse opens) (subst (OpensHold tags (names_of table) (reverse opens)) e h.opened);
     anchors = subst (λ z. TableAt ts z []) (sym q) tt;
-    places = n;
   }
 
   pub roots-only : outer ≡ [] → AllAt ts stack inner
@@ -290,13 +258,14 @@ module _ (tags : List (List ℕ)) (ts : List Tree) (named : List ℕ → Option 
 pub holds-kept : (c : Composer) (s : machine.State) (new : Store) → Keeps c.store new → Holds c s → Holds (record c { store = new }) s
 holds-kept c s new k h = record {
   good = k.good;
-  keeping = subst (λ tags. Keeping tags (trees_of new) (get_by_text c.names) c.anchored.items c.stack.items c.opens.items s.inner s.outer s.table) (sym k.tags)
-      (subst (λ ts. Keeping (tags_of c.store ++ k.more_tags) ts (get_by_text c.names) c.anchored.items c.stack.items c.opens.items s.inner s.outer s.table) (sym k.trees)
-      (keeping-more (tags_of c.store) (trees_of c.store) (get_by_text c.names) c.anchored.items c.stack.items c.opens.items s.inner s.outer s.table h.keeping k.more_tags k.more));
+  names = h.names;
+  keeping = subst (λ tags. Keeping tags (trees_of new) c.anchored.items c.stack.items c.opens.items s.inner s.outer s.table) (sym k.tags)
+      (subst (λ ts. Keeping (tags_of c.store ++ k.more_tags) ts c.anchored.items c.stack.items c.opens.items s.inner s.outer s.table) (sym k.trees)
+      (keeping-more (tags_of c.store) (trees_of c.store) c.anchored.items c.stack.items c.opens.items s.inner s.outer s.table h.keeping k.more_tags k.more));
 }
 
 -- the innermost collection, and what stands without it
-pub record Left (tags : List (List ℕ)) (ts : List Tree) (named : List ℕ → Option ℕ) (anchored : List (Option ℕ)) (stack : List ℕ) (os : List Open) (o : Open) (inner : List Tree) (outer : List machine.Open) (table : Table) : Type 0 where
+pub record Left (tags : List (List ℕ)) (ts : List Tree) (anchored : List (Option ℕ)) (stack : List ℕ) (os : List Open) (o : Open) (inner : List Tree) (outer : List machine.Open) (table : Table) : Type 0 where
   pub last : machine.Open
   pub others : List machine.Open
   pub is : outer ≡ last ∷ others
@@ -305,12 +274,12 @@ pub record Left (tags : List (List ℕ)) (ts : List Tree) (named : List ℕ → 
   pub parts : parts_at ts (drop o.mark stack) ≡ inner
   pub place : Placed (names_of table) o.place last.anchor last.slot
   pub tag : slice_get tags o.tag ≡ Some last.tag
-  pub keeping : Keeping tags ts named anchored (take o.mark stack) os last.before others table
+  pub keeping : Keeping tags ts anchored (take o.mark stack) os last.before others table
 
-pub keeping-left : (tags : List (List ℕ)) (ts : List Tree) (named : List ℕ → Option ℕ) (anchored : List (Option ℕ)) (stack : List ℕ) (opens os : List Open) (o : Open) (inner : List Tree) (outer : List machine.Open) (table : Table) → opens ≡ os ++ (o ∷ [])
-    → Keeping tags ts named anchored stack opens inner outer table → Left tags ts named anchored stack os o inner outer table
-keeping-left tags ts named anchored stack opens os o inner [] table e h = absurd (subst (λ z. OpensHold tags (names_of table) z []) (ap reverse e ∙ reverse-push os o) h.opened)
-keeping-left tags ts named anchored stack opens os o inner (p ∷ ps) table e h =
+pub keeping-left : (tags : List (List ℕ)) (ts : List Tree) (anchored : List (Option ℕ)) (stack : List ℕ) (opens os : List Open) (o : Open) (inner : List Tree) (outer : List machine.Open) (table : Table) → opens ≡ os ++ (o ∷ [])
+    → Keeping tags ts anchored stack opens inner outer table → Left tags ts anchored stack os o inner outer table
+keeping-left tags ts anchored stack opens os o inner [] table e h = absurd (subst (λ z. OpensHold tags (names_of table) z []) (ap reverse e ∙ reverse-push os o) h.opened)
+keeping-left tags ts anchored stack opens os o inner (p ∷ ps) table e h =
     let k : OpensHold tags (names_of table) (o ∷ reverse os) (p ∷ ps) = subst (λ z. OpensHold tags (names_of table) z (p ∷ ps)) (ap reverse e ∙ reverse-push os o) h.opened in
     let under = below ps ++ p.before in
     let r = all-split ts stack under inner h.stacked in
@@ -324,7 +293,7 @@ keeping-left tags ts named anchored stack opens os o inner (p ∷ ps) table e h 
       parts = ap (λ n. parts_at ts (drop n stack)) k.0.mark ∙ parts-are ts (drop (length under) stack) inner r.1;
       place = k.0.place;
       tag = k.0.tag;
-      keeping = record { stacked = subst (λ n. AllAt ts (take n stack) under) (sym k.0.mark) r.0; opened = k.1; anchors = h.anchors; places = h.places };
+      keeping = record { stacked = subst (λ n. AllAt ts (take n stack) under) (sym k.0.mark) r.0; opened = k.1; anchors = h.anchors };
     }
 
 -- ---- heights
@@ -341,8 +310,8 @@ are-low tags text is es nodes stack us s a = all-low height_limit us (low-all ta
 
 -- ---- the same of a composer
 
-pub left-in : (c : Composer) (s : machine.State) (os : List Open) (o : Open) → c.opens.items ≡ os ++ (o ∷ []) → Holds c s → Left (tags_of c.store) (trees_of c.store) (get_by_text c.names) c.anchored.items c.stack.items os o s.inner s.outer s.table
-left-in c s os o e h = keeping-left (tags_of c.store) (trees_of c.store) (get_by_text c.names) c.anchored.items c.stack.items c.opens.items os o s.inner s.outer s.table e h.keeping
+pub left-in : (c : Composer) (s : machine.State) (os : List Open) (o : Open) → c.opens.items ≡ os ++ (o ∷ []) → Holds c s → Left (tags_of c.store) (trees_of c.store) c.anchored.items c.stack.items os o s.inner s.outer s.table
+left-in c s os o e h = keeping-left (tags_of c.store) (trees_of c.store) c.anchored.items c.stack.items c.opens.items os o s.inner s.outer s.table e h.keeping
 
 -- the roots where no collection is open
 pub record Roots (c : Composer) (s : machine.State) : Type 0 where
@@ -353,8 +322,8 @@ pub record Roots (c : Composer) (s : machine.State) : Type 0 where
 pub roots-of : (c : Composer) (s : machine.State) → Holds c s → length c.opens.items ≤ 0 → Roots c s
 roots-of c s h l =
     let k = c.store in
-    let n = outer-none (tags_of k) (trees_of k) (get_by_text c.names) c.anchored.items c.stack.items c.opens.items s.inner s.outer s.table h.keeping l in
-    let a = roots-only (tags_of k) (trees_of k) (get_by_text c.names) c.anchored.items c.stack.items c.opens.items s.inner s.outer s.table h.keeping n in
+    let n = outer-none (tags_of k) (trees_of k) c.anchored.items c.stack.items c.opens.items s.inner s.outer s.table h.keeping l in
+    let a = roots-only (tags_of k) (trees_of k) c.anchored.items c.stack.items c.opens.items s.inner s.outer s.table h.keeping n in
     record {
       at = a;
       low = are-low (tags_of k) (string_bytes k.text) k.items.items k.entries.items k.nodes.items c.stack.items s.inner h.good a;

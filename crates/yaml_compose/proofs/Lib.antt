@@ -1,4 +1,5 @@
 pub mod ReachedLaws
+pub mod AnchorLaws
 pub mod ComposerLaws
 pub mod LogLaws
 pub mod NodeLaws

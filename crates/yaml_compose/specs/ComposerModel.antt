@@ -3,18 +3,18 @@ use Rattle.std.specs.Prelude.{◌≡◌, ℕ, Bool, List, [], ◌∷◌, ◌++�
 use Rattle.std.specs.Borrow.{Bor}
 use Rattle.std.specs.List.{slice_get}
 use Rattle.std.specs.Option.{option_map}
-use Rattle.std.specs.BTreeMap.{get_by_text}
 use Rattle.yaml_definitions.specs.model.Tree.{Tree}
 use Rattle.yaml_definitions.specs.model.Event.{Anchor, Event, WrittenTag, sequence_start, sequence_end, mapping_start, mapping_end}
 use Rattle.yaml_definitions.specs.model.Serial.{Document}
 use Rattle.yaml_definitions.specs.model.Unfold.{Table, trees_of as trees_unfolded}
 use Rattle.yaml_nodes.specs.ComposerSteps as machine
-use Rattle.yaml_nodes.specs.ComposerModel.{last_place, names_of, Placed}
+use Rattle.yaml_nodes.specs.ComposerModel.{names_of, Placed}
 use Rattle.yaml_nodes.specs.GraphModel.{AreLow}
 use Rattle.yaml_compact.specs.StoreGrows.{tags_of, Good, trees_of}
 use Rattle.yaml_compact.specs.declared.nodes.Collection.{Collection}
 use Rattle.yaml_compact.specs.declared.nodes.Collection.TheVariants.{Sequence, Mapping}
 use Rattle.yaml_compose.specs.Reached.{UnfoldBoth}
+use Rattle.yaml_compose.specs.AnchorsModel.{Names}
 use Rattle.yaml_compose.specs.declared.composer.Open.{Open}
 use Rattle.yaml_compose.specs.declared.composer.Composer.{Composer}
 use Rattle.yaml_compose.specs.declared.composer.Forest.{Forest}
@@ -55,17 +55,17 @@ OpensHold tags names [] [] = Unit {0}
 OpensHold tags names (o ∷ os) (p ∷ ps) = OpenHolds tags names o p (below (p ∷ ps)) × OpensHold tags names os ps
 OpensHold tags names _ _ = ⊥
 
--- One stack has the whole nodes of all open collections; `named` is the place of a name.
-pub record Keeping (tags : List (List ℕ)) (ts : List Tree) (named : List ℕ → Option ℕ) (anchored : List (Option ℕ)) (stack : List ℕ) (opens : List Open) (inner : List Tree) (outer : List machine.Open) (table : Table) : Type 0 where
+-- One stack has the whole nodes of all open collections.
+pub record Keeping (tags : List (List ℕ)) (ts : List Tree) (anchored : List (Option ℕ)) (stack : List ℕ) (opens : List Open) (inner : List Tree) (outer : List machine.Open) (table : Table) : Type 0 where
   pub stacked : AllAt ts stack (below outer ++ inner)
   pub opened : OpensHold tags (names_of table) (reverse opens) outer
   pub anchors : TableAt ts anchored table
-  pub places : (name : List ℕ) → named name ≡ last_place name (names_of table)
 
 -- The store is good, and the numbers stand for the state's trees, which may be kept once where they are equal.
 pub record Holds (c : Composer) (s : machine.State) : Type 0 where
   pub good : Good c.store
-  pub keeping : Keeping (tags_of c.store) (trees_of c.store) (get_by_text c.names) c.anchored.items c.stack.items c.opens.items s.inner s.outer s.table
+  pub names : Names c.anchors (names_of s.table)
+  pub keeping : Keeping (tags_of c.store) (trees_of c.store) c.anchored.items c.stack.items c.opens.items s.inner s.outer s.table
 
 -- the event comes to a state that the composer holds
 pub record Stepped (e : Event) (s : machine.State) (c : Composer) : Type 0 where

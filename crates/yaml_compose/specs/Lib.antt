@@ -1,6 +1,7 @@
 pub mod Reached
 pub mod Nodes
 pub mod TagModel
+pub mod AnchorsModel
 pub mod ComposerModel
 pub mod ComposerLog
 pub mod AheadModel

@@ -129,11 +129,11 @@ impl Ahead {
     }
 
     /// An alias.
-    pub(crate) fn alias(&mut self, name: &str) -> Result<(), GivesUp>
+    pub(crate) fn alias(&mut self, alloc: Global, name: &str) -> Result<(), GivesUp>
         ensures { IfOk result (λ _. Puts Tells self.old (alias_event name.now ∷ []) self.new) }
     {
         self.go_on()?;
-        self.composer.alias(name)?;
+        self.composer.alias(alloc, name)?;
         Ok(())
     }
 

@@ -15,10 +15,10 @@ ghost use Rattle.yaml_compose.specs.Nodes.{AreNodes};
 ghost use Rattle.yaml_compose.specs.ComposerModel.{anchor_text, Holds, Stepped, IsForest, AreForests, start_of, end_of};
 ghost use Rattle.yaml_compose.specs.ComposerLog.{Follows};
 
+use crate::anchors::Anchors;
 use crate::tag::tag_of;
 use std::alloc::Global;
 use std::borrow::CowStr;
-use std::collections::BTreeMap;
 use yaml_compact::gives_up::GivesUp;
 use yaml_compact::nodes::Collection;
 use yaml_compact::store::Store;
@@ -42,8 +42,8 @@ pub(crate) struct Open {
 #[derive(Drop)]
 pub(crate) struct Composer {
     pub(crate) store: Store,
-    /// For each name of an anchor of this document, the place of the last node that has it.
-    pub(crate) names: BTreeMap<String, usize>,
+    /// The names of this document's anchors.
+    pub(crate) anchors: Anchors,
     /// The nodes of this document that have anchors, in the order in which they begin; none where
     /// the node is still open.
     pub(crate) anchored: Vec<Option<u32>>,
@@ -77,7 +77,7 @@ impl Composer {
         let store = Store::new(alloc)?;
         Ok(Composer {
             store,
-            names: BTreeMap::new(alloc),
+            anchors: Anchors::new(alloc),
             anchored: Vec::new(alloc),
             stack: Vec::new(alloc),
             opens: Vec::new(alloc),
@@ -91,7 +91,7 @@ impl Composer {
         if self.opens.len() > 0 {
             return Err(GivesUp);
         }
-        self.names.clear();
+        self.anchors.clear();
         self.anchored.clear();
         Ok(())
     }
@@ -113,7 +113,7 @@ impl Composer {
     {
         let Composer {
             store,
-            names: _,
+            anchors: _,
             anchored: _,
             stack,
             opens,
@@ -128,7 +128,7 @@ impl Composer {
     }
 
     /// A node begins. Its place among the anchored ones, if it has an anchor.
-    fn begin_node(&mut self, alloc: Global, anchor: Option<&str>) -> Result<Option<usize>, GivesUp>
+    fn begin_node(&mut self, anchor: Option<&str>) -> Result<Option<usize>, GivesUp>
         ensures { (s : State) → Holds self.old s →
             let a = anchor_text anchor.entry in
             IfOk result (λ place. Placed (names_of (node_begun a s).table) place a (length s.table) × Holds self.new (node_begun a s)) }
@@ -136,10 +136,8 @@ impl Composer {
         let Some(text) = anchor else {
             return Ok(None);
         };
-        let place = self.anchored.len();
-        let name = String::from_str(alloc, text)?;
+        let place = self.anchors.put(text)?;
         self.anchored.push(None)?;
-        self.names.insert(name, place)?;
         Ok(Some(place))
     }
 
@@ -171,7 +169,7 @@ impl Composer {
         let Ok(scalar) = resolve(alloc, tag, style, text) else {
             return Err(GivesUp);
         };
-        let place = self.begin_node(alloc, anchor)?;
+        let place = self.begin_node(anchor)?;
         let id = self
             .store
             .scalar(alloc, scalar.tag.as_str(), scalar.content.as_str())?;
@@ -196,12 +194,10 @@ impl Composer {
     }
 
     /// An alias.
-    pub(crate) fn alias(&mut self, name: &str) -> Result<(), GivesUp>
+    pub(crate) fn alias(&mut self, alloc: Global, name: &str) -> Result<(), GivesUp>
         ensures { (s : State) → Holds self.old s → IfOk result (λ _. Stepped (alias_event name.now) s self.new) }
     {
-        let Some(place) = self.names.get(name).copied() else {
-            return Err(GivesUp);
-        };
+        let place = self.anchors.find(alloc, name)?;
         if place >= self.anchored.len() {
             return Err(GivesUp);
         }
@@ -223,7 +219,7 @@ impl Composer {
         ensures { (s : State) → Holds self.old s → (flow : Bool) → IfOk result (λ _. Stepped (start_of collection flow (anchor_text anchor.entry) (written_of tag.now)) s self.new) }
     {
         let text = tag_of(collection, tag)?;
-        let place = self.begin_node(alloc, anchor)?;
+        let place = self.begin_node(anchor)?;
         let number = self.store.tag(alloc, text)?;
         let mark = self.stack.len();
         self.opens.push(Open {

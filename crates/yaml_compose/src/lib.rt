@@ -2,6 +2,7 @@
 #![tactic(auto)]
 
 mod ahead;
+mod anchors;
 mod composer;
 mod copies;
 pub mod keeper;

@@ -154,7 +154,7 @@ impl Waiting {
                 Ok(())
             }
             Late::Alias => {
-                ahead.alias(self.text.as_str())?;
+                ahead.alias(alloc, self.text.as_str())?;
                 Ok(())
             }
             Late::Start(collection, _) => match mem::replace(&mut self.due, None) {

@@ -1,5 +1,4 @@
 use Rattle.std.proofs.Common.{[], length, arith, append-nil}
-use Rattle.std.specs.BTreeMap.{get_by_text}
 use Rattle.yaml_text.specs.EventModel.{written_of}
 use Rattle.yaml_compose.specs.ComposerModel.{anchor_text}
 use Rattle.yaml_nodes.specs.ComposerSteps.{node_begun, collection_begun}
@@ -19,13 +18,14 @@ returns c = λ s h flow.
     let text = c.in_ok-text.text.now in
     let k : Holds (record middle { store = new }) n = holds-kept middle n new (c.in_ok-number.ensures.kept b.1.good) b.1 in
     let o : Open = record { place = c.in_ok-place.place; collection = c.args.collection; tag = c.in_ok-number.number; mark = c.len-mark.result } in
-    let l = stack-length (tags_of new) (trees_of new) (get_by_text middle.names) middle.anchored.items middle.stack.items middle.opens.items n.inner n.outer n.table k.keeping in
+    let l = stack-length (tags_of new) (trees_of new) middle.anchored.items middle.stack.items middle.opens.items n.inner n.outer n.table k.keeping in
     record {
       state = collection_begun a s text;
       is = begun-step c.args.collection flow a (written_of c.args.tag.now) text s c.in_ok-text.ensures;
       holds = record {
         good = k.good;
+        names = k.names;
         keeping =
-            keeping-entered (tags_of new) (trees_of new) (get_by_text middle.names) middle.anchored.items middle.stack.items middle.opens.items n.inner n.outer n.table k.keeping o a (length s.table) text s.inner [] c.push.new.self.items c.in_ok-push.ensures.items (append-nil s.inner) b.0 (omega (arith, l, c.len-mark.ensures, middle.stack.ok.0)) c.in_ok-number.ensures.is;
+            keeping-entered (tags_of new) (trees_of new) middle.anchored.items middle.stack.items middle.opens.items n.inner n.outer n.table k.keeping o a (length s.table) text s.inner [] c.push.new.self.items c.in_ok-push.ensures.items (append-nil s.inner) b.0 (omega (arith, l, c.len-mark.ensures, middle.stack.ok.0)) c.in_ok-number.ensures.is;
       };
     }

@@ -1,22 +1,22 @@
 use Rattle.std.proofs.Common.{[], ap, arith}
-use Rattle.std.specs.BTreeMap.{get_by_text}
 use Rattle.yaml_nodes.specs.ComposerSteps.{State, step, cleared}
 use Rattle.yaml_compact.specs.StoreGrows.{tags_of, trees_of}
-use Rattle.yaml_compose.proofs.ComposerLaws.{keeping-cleared, outer-none, names-none}
+use Rattle.yaml_compose.proofs.ComposerLaws.{keeping-cleared, outer-none}
 use Rattle.yaml_compose.proofs.composer.Composer.document.Goals as goal
 
 pub returns : goal.returns
 unfolding step
 returns c = λ s h explicit.
     let self = c.args.self.now in
-    let n = outer-none (tags_of self.store) (trees_of self.store) (get_by_text self.names) self.anchored.items self.stack.items self.opens.items s.inner s.outer s.table h.keeping (omega (arith, c.len.ensures, self.opens.ok.0, c.if-len-gt0.false)) in
+    let n = outer-none (tags_of self.store) (trees_of self.store) self.anchored.items self.stack.items self.opens.items s.inner s.outer s.table h.keeping (omega (arith, c.len.ensures, self.opens.ok.0, c.if-len-gt0.false)) in
     let t : State = record { inner = s.inner; outer = []; table = []; done = s.done } in
     record {
       state = t;
       is = ap (cleared s) n;
       holds = record {
         good = h.good;
+        names = c.clear.ensures;
         keeping =
-            keeping-cleared (tags_of self.store) (trees_of self.store) (get_by_text self.names) self.anchored.items self.stack.items self.opens.items s.inner s.outer s.table h.keeping (get_by_text c.clear.new.self) c.clear-2.new.self.items c.clear-2.ensures.items n (names-none c.clear.new.self c.clear.ensures.empty);
+            keeping-cleared (tags_of self.store) (trees_of self.store) self.anchored.items self.stack.items self.opens.items s.inner s.outer s.table h.keeping c.clear-2.new.self.items c.clear-2.ensures.items n;
       };
     }

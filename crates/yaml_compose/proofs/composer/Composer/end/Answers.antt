@@ -1,7 +1,6 @@
 use Rattle.std.proofs.Common.{rules, ◌≡◌, ◌<◌, length, drop, sym, ◌∙◌, ap, subst}
 use Rattle.std.specs.Prelude.{Some}
 use Rattle.std.specs.List.{All}
-use Rattle.std.specs.BTreeMap.{get_by_text}
 use Rattle.yaml_nodes.specs.ComposerSteps.{State, collection_from, collection_ended, whole}
 use Rattle.yaml_compact.specs.StoreModel.{parts_at, is_mapping}
 use Rattle.yaml_compact.specs.StoreGrows.{Fits, tags_of, trees_of, Stands}
@@ -22,7 +21,7 @@ returns c = λ s h.
     let l = left-in self s os o c.in-Some.ensures.items h in
     let rest : State = record { inner = l.last.before; outer = l.others; table = s.table; done = s.done } in
     let cut : Composer = record self { opens = c.pop.new.self; stack = c.truncate.new.self } in
-    let held : Holds cut rest = record { good = h.good; keeping = subst (λ z. Keeping ms ts (get_by_text self.names) self.anchored.items z os l.last.before l.others s.table) (sym c.truncate.ensures.items) l.keeping } in
+    let held : Holds cut rest = record { good = h.good; names = h.names; keeping = subst (λ z. Keeping ms ts self.anchored.items z os l.last.before l.others s.table) (sym c.truncate.ensures.items) l.keeping } in
     let piece : c.in_ok-parts.parts.now ≡ drop o.mark self.stack.items = c.in_ok-parts.ensures ∙ ap (drop o.mark) c.deref.ensures.value in
     let fits : Fits cut.store o.tag c.in_ok-parts.parts.now = record { good = h.good; tagged = (tag-is ms o.tag l.last.tag l.tag).within; below = subst (All (λ i. i < length ts)) (sym piece) l.within } in
     let k : Holds (record cut { store = new }) rest = holds-kept cut rest new (c.in_ok-id.ensures.kept fits) held in

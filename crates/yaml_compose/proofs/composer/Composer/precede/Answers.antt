@@ -1,6 +1,5 @@
 use Rattle.std.proofs.Common.{◌≡◌, ◌++◌, length, arith, refl, length-append}
 use Rattle.std.specs.Prelude.{None}
-use Rattle.std.specs.BTreeMap.{get_by_text}
 use Rattle.yaml_nodes.specs.ComposerSteps.{State}
 use Rattle.yaml_compact.specs.StoreGrows.{tags_of, trees_of}
 use Rattle.yaml_compact.specs.declared.nodes.Collection.TheVariants as kinds
@@ -24,11 +23,12 @@ returns c = λ front es p f flow.
     let o : Open = record { place = None; collection = kinds.Mapping; tag = c.in_ok-number.number; mark = c.in-Some.mark } in
     let final : Composer = record self { store = new; opens = c.push.new.self } in
     let under = below l.state.outer in
-    let size = stack-length (tags_of new) (trees_of new) (get_by_text self.names) self.anchored.items self.stack.items self.opens.items s.inner s.outer s.table k.keeping in
+    let size = stack-length (tags_of new) (trees_of new) self.anchored.items self.stack.items self.opens.items s.inner s.outer s.table k.keeping in
     let mark : o.mark ≡ length (under ++ l.state.inner) =
     omega (arith, size, a.count, c.in-Some.ensures.0, c.in-Some.ensures.1, c.len.ensures, self.stack.ok.0, length-append under (l.state.inner ++ a.nodes), length-append l.state.inner a.nodes, length-append under l.state.inner) in
     follows-before self final front es text l c.in_ok-text.ensures (record {
       good = k.good;
+      names = k.names;
       keeping =
-          keeping-entered (tags_of new) (trees_of new) (get_by_text self.names) self.anchored.items self.stack.items self.opens.items s.inner s.outer s.table k.keeping o None (length l.state.table) text l.state.inner a.nodes c.push.new.self.items c.in_ok-push.ensures.items refl tt mark c.in_ok-number.ensures.is;
+          keeping-entered (tags_of new) (trees_of new) self.anchored.items self.stack.items self.opens.items s.inner s.outer s.table k.keeping o None (length l.state.table) text l.state.inner a.nodes c.push.new.self.items c.in_ok-push.ensures.items refl tt mark c.in_ok-number.ensures.is;
     }) flow

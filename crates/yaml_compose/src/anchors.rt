@@ -1,0 +1,167 @@
+//! The names of a document's anchors.
+ghost use Rattle.std.specs.Prelude.{◌≡◌, ℕ, ◌+◌, [], ◌∷◌, ◌++◌, List, Some, length, slice_get, IfOk, IfSome};
+ghost use Rattle.yaml_nodes.specs.ComposerModel.{last_place};
+ghost use Rattle.yaml_compose.specs.AnchorsModel.{table_place, Names};
+
+use std::alloc::Global;
+use std::collections::BTreeMap;
+use yaml_compact::gives_up::GivesUp;
+use yaml_compact::nodes::Span;
+
+/// How many places the table of recent names has, one for each hash.
+const HASHES: usize = 4_096;
+
+/// By what a hash is multiplied with each byte. Its upper bits are those on which all bytes tell.
+const MULTIPLIER: u32 = 16_777_619;
+
+/// How many numbers share a hash's upper bits.
+const SHARED: u32 = 1_048_576;
+
+/// The names of a document's anchors, in the order in which their nodes begin. The last node of a name is
+/// found by a table as long as no other name of the same hash came since. Only where that fails do the
+/// names come into a map, each of them once, so that no input makes look-ups slow.
+#[derive(Drop)]
+pub(crate) struct Anchors {
+    /// All names, one after the other.
+    text: String,
+    /// Where each name stands.
+    spans: Vec<Span>,
+    /// For each hash the number of the last name that has it. What stands there for other hashes, and is
+    /// from an earlier document, does no harm: the name of a number is compared.
+    recent: Vec<u32>,
+    /// For each of the names that came into the map, the last number among them.
+    places: BTreeMap<String, usize>,
+    /// How many names came into the map.
+    mapped: usize,
+}
+
+/// The place of a name in the table: the upper bits of its hash.
+fn place_of(name: &[u8]) -> usize
+    ensures { result ≡ table_place name.now }
+{
+    let mut hash: u32 = 0;
+    for byte in name {
+        hash = hash.wrapping_add(u32::from(*byte)).wrapping_mul(MULTIPLIER);
+    }
+    (hash / SHARED) as usize
+}
+
+/// A number that fits.
+fn number(of: usize) -> Result<u32, GivesUp>
+    ensures { IfOk result (λ n. n ≡ of) }
+{
+    if of > u32::MAX as usize {
+        return Err(GivesUp);
+    }
+    Ok(of as u32)
+}
+
+impl Anchors {
+    /// No name yet.
+    pub(crate) fn new(alloc: Global) -> Anchors
+        ensures { Names result [] }
+    {
+        Anchors {
+            text: String::new(alloc),
+            spans: Vec::new(alloc),
+            recent: Vec::new(alloc),
+            places: BTreeMap::new(alloc),
+            mapped: 0,
+        }
+    }
+
+    /// A document begins, without names.
+    pub(crate) fn clear(&mut self)
+        ensures { Names self.new [] }
+    {
+        self.text.clear();
+        self.spans.clear();
+        self.places.clear();
+        self.mapped = 0;
+    }
+
+    /// The table is there before the first name is. What stands in it then does no harm.
+    fn make_table(&mut self) -> Result<(), GivesUp>
+        ensures { (names : List (List ℕ)) → Names self.old names → IfOk result (λ _. Names self.new names) }
+    {
+        if self.spans.len() > 0 {
+            return Ok(());
+        }
+        self.recent.resize(HASHES, 0)?;
+        Ok(())
+    }
+
+    /// The number of names before this one, which comes behind them.
+    pub(crate) fn put(&mut self, name: &str) -> Result<usize, GivesUp>
+        ensures place { (names : List (List ℕ)) → Names self.old names → IfOk result (λ place. place ≡ length names) }
+        ensures names { (names : List (List ℕ)) → Names self.old names → IfOk result (λ _. Names self.new (names ++ (name.now ∷ []))) }
+    {
+        self.make_table()?;
+        let place = self.spans.len();
+        let last = number(place)?;
+        let hash = place_of(name.as_bytes());
+        if hash >= self.recent.len() {
+            return Err(GivesUp);
+        }
+        let start = number(self.text.len())?;
+        self.text.push_str(name)?;
+        let end = number(self.text.len())?;
+        self.spans.push(Span { start, end })?;
+        self.recent[hash] = last;
+        Ok(place)
+    }
+
+    /// The name of this number, if there is one.
+    fn name(&self, place: usize) -> Option<&str>
+        ensures { (names : List (List ℕ)) → Names self.now names → IfSome result (λ name. slice_get names place ≡ Some name.now) }
+    {
+        let span = self.spans.get(place)?;
+        self.text.get(span.start as usize..span.end as usize)
+    }
+
+    /// The last number of this name, if the table tells it.
+    fn seen(&self, name: &str) -> Option<usize>
+        ensures { (names : List (List ℕ)) → Names self.now names → IfSome result (λ place. last_place name.now names ≡ Some place) }
+    {
+        let last = self.recent.get(place_of(name.as_bytes()))?;
+        let place = *last as usize;
+        let found = self.name(place)?;
+        if found == name { Some(place) } else { None }
+    }
+
+    /// The first name that is not in the map comes into it.
+    fn map_next(&mut self, alloc: Global) -> Result<(), GivesUp>
+        ensures names { (names : List (List ℕ)) → Names self.old names → IfOk result (λ _. Names self.new names) }
+        ensures mapped { IfOk result (λ _. self.new.mapped ≡ self.old.mapped + 1) }
+        ensures spans { self.new.spans ≡ self.old.spans }
+    {
+        let place = self.mapped;
+        let Some(next) = place.checked_add(1) else {
+            return Err(GivesUp);
+        };
+        let Some(name) = self.name(place) else {
+            return Err(GivesUp);
+        };
+        let key = String::from_str(alloc, name)?;
+        self.places.insert(key, place)?;
+        self.mapped = next;
+        Ok(())
+    }
+
+    /// The last number of this name.
+    pub(crate) fn find(&mut self, alloc: Global, name: &str) -> Result<usize, GivesUp>
+        ensures place { (names : List (List ℕ)) → Names self.old names → IfOk result (λ place. last_place name.now names ≡ Some place) }
+        ensures names { (names : List (List ℕ)) → Names self.old names → IfOk result (λ _. Names self.new names) }
+    {
+        if let Some(place) = self.seen(name) {
+            return Ok(place);
+        }
+        while self.mapped < self.spans.len() {
+            self.map_next(alloc)?;
+        }
+        let Some(place) = self.places.get(name).copied() else {
+            return Err(GivesUp);
+        };
+        Ok(place)
+    }
+}
