@@ -21,7 +21,6 @@ use Rattle.yaml_text.specs.Source.{text_of}
 use Rattle.yaml_definitions.specs.grammar.Reading.{Reads}
 use Rattle.yaml_definitions.specs.grammar.Streams.{ReadsText}
 use Rattle.yaml_text.specs.LeafAnswer.{IsRefusal}
-use Rattle.yaml_definitions.proofs.grammar.OneText.{one-text}
 use Rattle.yaml_definitions.proofs.grammar.Documents.{readings_are_documents}
 use Rattle.yaml_definitions.proofs.MeaningLaws.{meaning_is_proper}
 use Rattle.yaml_definitions.proofs.Law.{texts_tell}
@@ -30,6 +29,7 @@ use Rattle.yaml_text.specs.declared.fault.Fault.{Fault}
 use Rattle.yaml_text.specs.declared.fault.Fault.TheVariants as faults
 use Rattle.law_one_reading.proofs.Documents.{one_reading, one_meaning}
 use Rattle.yaml_read.specs.Decided.{HasNoReading as NoReading}
+use Rattle.yaml_answers.proofs.UnreadLaws.{no_stream}
 use Rattle.law_length.specs.Sizes.{texts_bytes}
 use Rattle.law_length.proofs.Contents.{tag_light}
 use Rattle.law_length.proofs.Numbers.{text_light}
@@ -46,7 +46,7 @@ use Rattle.yaml_compact.specs.Walked.{walked_tree}
 use Rattle.yaml_forest.specs.Ranks.{HasRanks}
 use Rattle.yaml_forest.specs.Refused.{RefusesBytes}
 use Rattle.yaml_forest.specs.declared.ranks.RankedForest.{RankedForest}
-use Rattle.yaml_canon.specs.Claims.{AllOf, MeansAlone, IsArranged, IsCanonicalText, IsRead, IsNoStream, CanonicalRefuses, HasGraph, GraphRefuses}
+use Rattle.yaml_canon.specs.Claims.{AllOf, MeansAlone, IsArranged, IsCanonicalText, IsRead, CanonicalRefuses, HasGraph, GraphRefuses}
 use Rattle.yaml_spell.proofs.DocumentLaws.{arranged_same, spell_whole, graph_text}
 
 -- ---- the whole text
@@ -151,15 +151,6 @@ pub text_arranged : (bytes text : List ℕ) (ts : List Tree) → IsArranged byte
 text_arranged bytes text ts a e l = canonical_text bytes text a.forest a.accepted (e ∙ a.text) l
 
 -- ---- refusals
-
--- a refusal to read that is not want of memory means that the bytes are no stream
-pub no_stream : (bytes text : List ℕ) (fault : Fault) → Text bytes text → (fault ≡ faults.OutOfMemory) ⊎ NoReading text → (fault ≡ faults.OutOfMemory → ⊥) → IsNoStream bytes
-unfolding Reads
-no_stream bytes text fault t (inl e) n = absurd (n e)
-no_stream bytes text fault t (inr h) n = record {
-  text = (text, t);
-  unread = λ es (cs, u, r). h es (subst (λ z. ReadsText z (Unit {0}) open_limit es) (one-text bytes cs text u t) r);
-}
 
 pub refused_text : (bytes : List ℕ) (fault : Fault) → RefusesText bytes fault → GraphRefuses bytes fault
 refused_text bytes faults.TooLong h = h

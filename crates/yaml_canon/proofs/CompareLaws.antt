@@ -18,8 +18,8 @@ use Rattle.yaml_nodes.specs.declared.node.NodeId.{NodeId}
 use Rattle.yaml_nodes.specs.declared.graph.Graph.{Graph}
 use Rattle.yaml_levels.specs.RanksView.{RanksAre, RefusesGraph, rank_of}
 use Rattle.yaml_levels.specs.declared.ranks.Ranks.{Ranks}
-use Rattle.yaml_canon.specs.declared.side.Side.{Side}
-use Rattle.yaml_canon.specs.declared.side.Side.TheVariants.{Left, Right}
+use Rattle.yaml_answers.specs.declared.side.Side.{Side}
+use Rattle.yaml_answers.specs.declared.side.Side.TheVariants.{Left, Right}
 use Rattle.yaml_canon.specs.Claims.{IsRead, HasGraph, GraphRefuses}
 use Rattle.yaml_canon.specs.Comparing.{Compares, side_of_fault, ComparesDocuments, RefusesDocuments, IsComposed, ComparerRefuses}
 use Rattle.yaml_spell.proofs.WalkLaws.{drop_next}

@@ -12,7 +12,8 @@ use Rattle.yaml_text.specs.declared.fault.Fault.{Fault}
 use Rattle.yaml_canon.specs.Accepting.{IsSpelling, IsMemory}
 use Rattle.yaml_spell.specs.Documents.{arranged_bytes}
 use Rattle.yaml_canon.specs.Claims.{IsArranged, CanonicalRefuses}
-use Rattle.yaml_canon.specs.Rooms.{Places, PlacesCanonical}
+use Rattle.yaml_answers.specs.Rooms.{Places}
+use Rattle.yaml_canon.specs.Rooms.{PlacesCanonical}
 use Rattle.yaml_canon.proofs.ClaimLaws.{text_arranged}
 use Rattle.yaml_canon.proofs.AcceptLaws.{memory, text-is, spelling-means}
 

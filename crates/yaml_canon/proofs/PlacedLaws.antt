@@ -20,10 +20,10 @@ use Rattle.yaml_nodes.specs.declared.graph.Graph.{Graph}
 use Rattle.yaml_levels.specs.RanksView.{RefusesGraph}
 use Rattle.yaml_canon.specs.Comparing.{RefusesDocuments}
 use Rattle.yaml_spell.specs.Documents.{RefusesArranged}
-use Rattle.yaml_canon.specs.Gathering.{Gathers, GatherFails}
+use Rattle.yaml_answers.specs.Gathering.{Gathers, GatherFails}
 use Rattle.yaml_canon.specs.FaultPlaces.{IsPlaceIn, TellsPlace, TellsSidesPlace, TellsReadPlace}
-use Rattle.yaml_canon.specs.declared.side.Side.{Side}
-use Rattle.yaml_canon.specs.declared.side.Side.TheVariants.{Left, Right}
+use Rattle.yaml_answers.specs.declared.side.Side.{Side}
+use Rattle.yaml_answers.specs.declared.side.Side.TheVariants.{Left, Right}
 
 -- ---- the reader's places
 

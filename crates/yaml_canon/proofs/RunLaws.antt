@@ -14,7 +14,7 @@ use Rattle.yaml_spell.specs.declared.page.Page.{Page}
 use Rattle.yaml_spell.specs.Pieces.{Began, Puts, Fails}
 use Rattle.yaml_spell.specs.Pages.{page_bytes, page_len, PageHolds, PageStops}
 use Rattle.yaml_spell.specs.Writers.{Sent, CutOff}
-use Rattle.yaml_canon.specs.Writers.{Printed, Broken}
+use Rattle.yaml_answers.specs.Writers.{Printed, Broken}
 use Rattle.yaml_spell.specs.Documents.{arranged_more, arranged_bytes, RefusesArranged}
 use Rattle.yaml_canon.specs.Claims.{IsArranged, CanonicalRefuses}
 use Rattle.yaml_canon.specs.Runs.{WritesArranged, ArrangedFails, WritesCanonical, WriteRefuses}

@@ -10,11 +10,11 @@ use Rattle.yaml_definitions.specs.model.Proper.{Admitted}
 use Rattle.yaml_definitions.specs.model.Means.{Means}
 use Rattle.yaml_definitions.specs.model.Serial.{Document, stream_events}
 use Rattle.yaml_definitions.specs.grammar.Reading.{Reads}
-use Rattle.yaml_definitions.specs.model.Text.{Text}
 use Rattle.yaml_text.specs.Refused.{RefusesText}
 use Rattle.yaml_text.specs.declared.fault.Fault.{Fault}
 use Rattle.yaml_text.specs.declared.fault.Fault.TheVariants.{TooLong, NotUtf8, NotPrintable, Syntax, Tab, KeyTooLong, TooDeep, BadEscape, BadDirective, UnknownHandle, BadTag, UndefinedAlias, CyclicAlias, WrongKind, BadContent, IntRange, FloatRange, TooHigh, EqualKeys, TextTooLong, OutOfMemory}
 use Rattle.law_length.specs.Sizes.{texts_bytes}
+use Rattle.yaml_answers.specs.Unread.{IsNoStream}
 use Rattle.yaml_graph.specs.Composed.{Composed, RefusesStream}
 use Rattle.yaml_nodes.specs.declared.graph.Graph.{Graph}
 use Rattle.yaml_levels.specs.RanksView.{RefusesGraph}
@@ -50,15 +50,6 @@ pub record IsCanonicalText (bytes text : List ℕ) : Type 0 where
 -- the bytes are read as these documents
 pub record IsRead (bytes : List ℕ) (ds : List Document) : Type 0 where
   pub reads : Reads bytes (stream_events ds)
-
--- the bytes are a text
-abbrev pub IsText : List ℕ → Type 0
-IsText bytes = (cs : List ℕ) × Text bytes cs
-
--- The bytes are a text, and no list of events is a reading of it by the productions.
-pub record IsNoStream (bytes : List ℕ) : Type 0 where
-  pub text : IsText bytes
-  pub unread : (es : List Event) → Reads bytes es → ⊥
 
 -- the bytes are read as documents whose composer refuses them with this fault
 abbrev pub RefusedComposing : List ℕ → Fault → Type 0

@@ -11,8 +11,8 @@ use Rattle.yaml_nodes.specs.GraphView.{nodes_of, tree, forest}
 use Rattle.yaml_nodes.specs.JoinModel.{Joined}
 use Rattle.yaml_nodes.specs.declared.graph.Graph.{Graph}
 use Rattle.yaml_levels.specs.RanksView.{RefusesGraph}
-use Rattle.yaml_canon.specs.declared.side.Side.{Side}
-use Rattle.yaml_canon.specs.declared.side.Side.TheVariants.{Left, Right}
+use Rattle.yaml_answers.specs.declared.side.Side.{Side}
+use Rattle.yaml_answers.specs.declared.side.Side.TheVariants.{Left, Right}
 use Rattle.yaml_canon.specs.Claims.{MeansAlone, IsRead, CanonicalRefuses}
 
 -- The two streams are accepted, and the answer is whether they have equally many documents, pairwise the same.

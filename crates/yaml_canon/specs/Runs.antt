@@ -7,8 +7,8 @@ use Rattle.yaml_text.specs.declared.fault.Fault.TheVariants.{TooLong, OutOfMemor
 use Rattle.yaml_text.specs.declared.counted.Counted.{Counted}
 use Rattle.yaml_spell.specs.Documents.{arranged_bytes, RefusesArranged}
 use Rattle.yaml_canon.specs.Claims.{IsCanonicalText, CanonicalRefuses}
-use Rattle.yaml_canon.specs.Gathering.{Gathers, GatherFails}
-use Rattle.yaml_canon.specs.Writers.{Printed, Broken}
+use Rattle.yaml_answers.specs.Gathering.{Gathers, FailsReading}
+use Rattle.yaml_answers.specs.Writers.{Printed, Broken}
 
 module _ {W : Type 0} (contents : W → Option (List ℕ)) where
   -- the text of these trees was written, which is not too long
@@ -66,14 +66,9 @@ module _ {W : Type 0} (contents : W → Option (List ℕ)) where
       pub gathers : Gathers remaining input end text_limit bytes
       pub refuses : WriteRefuses bytes old new fault
 
-    -- The reader had more than a text may have, or memory was refused, or a call of the reader failed; no call of the writer was made.
-    pub record FailsReading (input end : Counted R) (old new : Counted W) (fault : Fault) : Type 0 where
-      pub fails : GatherFails remaining input end text_limit fault
-      pub untouched : new ≡ old
-
     -- why a run ends without the whole text
     abbrev pub RunFails : Counted R → Counted R → Counted W → Counted W → Fault → Type 0
-    RunFails input end old new TooLong = FailsReading input end old new TooLong
-    RunFails input end old new OutOfMemory = FailsReading input end old new OutOfMemory
-    RunFails input end old new ReadFault = FailsReading input end old new ReadFault
+    RunFails input end old new TooLong = FailsReading contents remaining input end old new TooLong
+    RunFails input end old new OutOfMemory = FailsReading contents remaining input end old new OutOfMemory
+    RunFails input end old new ReadFault = FailsReading contents remaining input end old new ReadFault
     RunFails input end old new fault = RefusesAll input end old new fault

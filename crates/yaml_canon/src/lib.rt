@@ -2,20 +2,17 @@
 #![tactic(auto)]
 
 pub mod canonical_text;
-pub mod gathering;
 pub mod graph_of;
 pub mod laws;
 pub mod placing;
 pub mod run;
 mod same_ranks;
 pub mod same_streams;
-pub mod side;
 
 pub use canonical_text::canonical;
-pub use gathering::gather;
 pub use placing::canonical_into;
 pub use run::run_canonical;
 pub use same_streams::same;
-pub use side::Side;
+pub use yaml_answers::{Side, gather, gathering, side};
 pub use yaml_spell::spell;
 pub use yaml_spell::spell::canonical_len;

@@ -14,7 +14,8 @@ ghost use Rattle.yaml_spell.specs.RankedNodes.{Rooted, tree_of};
 ghost use Rattle.yaml_canon.specs.Claims.{CanonicalRefuses};
 ghost use Rattle.yaml_canon.specs.FaultPlaces.{TellsPlace};
 ghost use Rattle.yaml_canon.specs.Accepting.{IsSpelling, IsMemory};
-ghost use Rattle.yaml_canon.specs.Rooms.{Places, PlacesCanonical};
+ghost use Rattle.yaml_answers.specs.Rooms.{Places};
+ghost use Rattle.yaml_canon.specs.Rooms.{PlacesCanonical};
 
 use crate::graph_of::graph_unless;
 use std::alloc::Global;

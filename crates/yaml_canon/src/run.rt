@@ -4,14 +4,14 @@ ghost use Rattle.yaml_text.specs.CountedModel.{faults_of};
 ghost use Rattle.yaml_spell.specs.Documents.{arranged_bytes};
 ghost use Rattle.yaml_spell.specs.RankedNodes.{Rooted, tree_of};
 ghost use Rattle.yaml_spell.specs.NamesView.{ranks_in, document_number};
-ghost use Rattle.yaml_canon.specs.Writers.{Printed, Broken};
+ghost use Rattle.yaml_answers.specs.Writers.{Printed, Broken};
 ghost use Rattle.yaml_canon.specs.FaultPlaces.{TellsPlace, TellsReadPlace};
 ghost use Rattle.yaml_canon.specs.Runs.{WritesArranged, ArrangedFails, WritesCanonical, WriteRefuses, RunsWhole, RunFails};
 
-use crate::gathering::gather;
 use crate::graph_of::graph_unless;
 use std::alloc::Global;
 use std::io::{Read, Write};
+use yaml_answers::gather;
 use yaml_forest::ranked_forest;
 use yaml_rank::rank;
 use yaml_spell::names::Names;

@@ -11,7 +11,7 @@ ghost use Rattle.yaml_definitions.specs.model.Means.{Means};
 ghost use Rattle.yaml_nodes.specs.GraphView.{nodes_of, roots_of, tree};
 ghost use Rattle.yaml_levels.specs.RanksView.{RanksAre};
 ghost use Rattle.yaml_forest.specs.Refused.{TellsWhy};
-ghost use Rattle.yaml_canon.specs.declared.side.Side.TheVariants.{Left, Right};
+ghost use Rattle.yaml_answers.specs.declared.side.Side.TheVariants.{Left, Right};
 ghost use Rattle.yaml_canon.specs.FaultPlaces.{TellsSidesPlace};
 ghost use Rattle.yaml_canon.specs.Comparing.{Compares, ComparerRefuses, side_of_fault, ComparesDocuments, RefusesDocuments};
 ghost use Rattle.yaml_canon.specs.Accepting.{IsSpelling, IsMemory, TellsTexts};
@@ -20,8 +20,8 @@ ghost use Rattle.yaml_graph.specs.Composed.{Composed};
 
 use crate::graph_of::graph_unless;
 use crate::same_ranks::have_same_ranks;
-use crate::side::Side;
 use std::alloc::Global;
+use yaml_answers::Side;
 use yaml_graph::graph::Graph;
 use yaml_graph::join;
 use yaml_rank::rank;

@@ -1,4 +1,1 @@
 mod Answering
-mod EventLaws
-mod PageLaws
-mod LineLaws

@@ -1,34 +1,14 @@
 //! `same`: whether two inputs have the same documents.
-ghost use Rattle.std.specs.Prelude.{◌≡◌, ◌≤◌, ◌<◌, ◌-◌, ◌^◌, length, IfOk, IfErr};
+ghost use Rattle.std.specs.Prelude.{◌≡◌, ◌<◌, ◌-◌, ◌^◌, IfOk, IfErr};
 ghost use Rattle.yaml_text.specs.CountedModel.{faults_of};
-ghost use Rattle.yaml_definitions.specs.model.Limits.{text_limit};
-ghost use Rattle.yaml_canon.specs.Gathering.{Gathers};
 ghost use Rattle.yaml_command.specs.Judged.{same_line, PrintsSame, SameFails};
-ghost use Rattle.yaml_command.specs.Refusals.{SideFails};
 
-use crate::refusal::Refusal;
-use crate::streams::write_out;
 use std::alloc::Global;
-use std::io::{Read, Write};
-use yaml_canon::{Side, gather, same};
+use std::io::Write;
+use yaml_canon::same;
+use yaml_report::refusal::Refusal;
+use yaml_report::streams::write_out;
 use yaml_text::counted::Counted;
-use yaml_text::limits::text_limit;
-
-/// All of one side.
-pub fn gather_side<'a, R: Read>(
-    alloc: Global,
-    file: &mut Counted<R>,
-    side: Side,
-) -> Result<Vec<u8>, Refusal<'a>>
-    requires { faults_of file.old < 2 ^ 64 - 1 }
-    ensures ok { IfOk result (λ v. Gathers R.remaining file.old file.new text_limit v.items) }
-    ensures err { IfErr result (SideFails R.remaining side file.old file.new) }
-{
-    match gather(alloc, file, text_limit()) {
-        Ok(bytes) => Ok(bytes),
-        Err(fault) => Err(Refusal::OneSide(side, fault)),
-    }
-}
 
 /// The line that tells the answer.
 fn line_of(alike: bool) -> &'static str

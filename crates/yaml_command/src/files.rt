@@ -3,50 +3,19 @@ ghost use Rattle.std.specs.Prelude.{◌≡◌, ◌<◌, ◌-◌, ◌^◌, IfOk, 
 ghost use Rattle.yaml_text.specs.CountedModel.{faults_of};
 ghost use Rattle.yaml_command.specs.Commands.{FileCanonical, FileEvents, FilesCompared, FilesMatched, FileNotCanonical, FileHasNoEvents, FilesNotCompared, FilesNotMatched};
 ghost use Rattle.yaml_command.specs.Judged.{Silent};
-ghost use Rattle.yaml_command.specs.Shelves.{IsOf, InputUnread, SideUnread, LinesUnread};
 
-use crate::check::{gather_input, gather_lines, print_match};
-use crate::compare::{gather_side, print_same};
-use crate::events::events;
-use crate::refusal::Refusal;
-use crate::shelf::Shelf;
-use crate::streams::open;
+use crate::compare::print_same;
 use std::alloc::Global;
 use std::io::Write;
-use yaml_canon::{Side, run_canonical};
+use yaml_answers::Side;
+use yaml_canon::run_canonical;
+use yaml_report::check::print_match;
+use yaml_report::events::events;
+use yaml_report::inputs::{read_input, read_lines, read_side};
+use yaml_report::refusal::Refusal;
+use yaml_report::shelf::Shelf;
+use yaml_report::streams::open;
 use yaml_text::counted::Counted;
-
-/// All of the file of this name, one of two sides.
-fn read_side<'a, S: Shelf>(
-    shelf: &S,
-    alloc: Global,
-    name: &'a str,
-    side: Side,
-) -> Result<Vec<u8>, Refusal<'a>>
-    ensures ok { IfOk result (λ v. IsOf (S.holds shelf.now name.now) v.items) }
-    ensures err { IfErr result (SideUnread (S.holds shelf.now name.now) name.now side) }
-{
-    let mut file = open(shelf, name)?;
-    gather_side(alloc, &mut file, side)
-}
-
-/// All of the file of this name, an input.
-fn read_input<'a, S: Shelf>(shelf: &S, alloc: Global, name: &'a str) -> Result<Vec<u8>, Refusal<'a>>
-    ensures ok { IfOk result (λ v. IsOf (S.holds shelf.now name.now) v.items) }
-    ensures err { IfErr result (InputUnread (S.holds shelf.now name.now) name.now) }
-{
-    let mut file = open(shelf, name)?;
-    gather_input(alloc, &mut file)
-}
-
-/// All of the file of this name, an event text.
-fn read_lines<'a, S: Shelf>(shelf: &S, alloc: Global, name: &'a str) -> Result<Vec<u8>, Refusal<'a>>
-    ensures ok { IfOk result (λ v. IsOf (S.holds shelf.now name.now) v.items) }
-    ensures err { IfErr result (LinesUnread (S.holds shelf.now name.now) name.now) }
-{
-    let mut file = open(shelf, name)?;
-    gather_lines(alloc, &mut file)
-}
 
 /// Writes a file's canonical text.
 pub fn canon_file<'a, S: Shelf, W: Write>(

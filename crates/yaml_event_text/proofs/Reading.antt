@@ -13,8 +13,7 @@ use Rattle.yaml_text.specs.declared.fault.Fault.{Fault}
 use Rattle.yaml_text.specs.declared.fault.Fault.TheVariants as faults
 use Rattle.yaml_definitions.proofs.MeaningLaws.{readings_have_text}
 use Rattle.yaml_read.specs.Decided.{HasNoReading as NoReading}
-use Rattle.yaml_canon.specs.Claims.{GraphRefuses}
-use Rattle.yaml_canon.proofs.ClaimLaws.{refused_reading}
+use Rattle.yaml_answers.proofs.UnreadLaws.{no_stream}
 use Rattle.yaml_event_text.specs.EventTextAnswer.{IsEventText, IsUnread}
 
 pub some_is : {A : Type 0} (P : A → Type 0) (o : Option A) (x : A) → o ≡ Some x → IfSome o P → P x
@@ -33,18 +32,14 @@ no_text bytes (faults.NotUtf8 at) h = h
 no_text bytes (faults.NotPrintable at) h = h
 no_text bytes _ h = absurd h
 
--- of the faults of reading it says what it says of the graph that there is none of
-as_unread : (bytes : List ℕ) (fault : Fault) → IsRefusal fault → GraphRefuses bytes fault → IsUnread bytes fault
-as_unread bytes (faults.Syntax at) h r = r
-as_unread bytes (faults.Tab at) h r = r
-as_unread bytes (faults.KeyTooLong at) h r = r
-as_unread bytes (faults.TooDeep at) h r = r
-as_unread bytes (faults.BadEscape at) h r = r
-as_unread bytes (faults.BadDirective at) h r = r
-as_unread bytes (faults.UnknownHandle at) h r = r
-as_unread bytes (faults.BadTag at) h r = r
-as_unread bytes faults.OutOfMemory h r = tt
-as_unread bytes _ h r = absurd h
-
 pub unread : (bytes text : List ℕ) (fault : Fault) → Text bytes text → IsRefusal fault → (fault ≡ faults.OutOfMemory) ⊎ NoReading text → IsUnread bytes fault
-unread bytes text fault t h d = as_unread bytes fault h (refused_reading bytes text fault t h d)
+unread bytes text (faults.Syntax at) t h d = no_stream bytes text (faults.Syntax at) t d (λ e. absurd (cc))
+unread bytes text (faults.Tab at) t h d = no_stream bytes text (faults.Tab at) t d (λ e. absurd (cc))
+unread bytes text (faults.KeyTooLong at) t h d = no_stream bytes text (faults.KeyTooLong at) t d (λ e. absurd (cc))
+unread bytes text (faults.TooDeep at) t h d = no_stream bytes text (faults.TooDeep at) t d (λ e. absurd (cc))
+unread bytes text (faults.BadEscape at) t h d = no_stream bytes text (faults.BadEscape at) t d (λ e. absurd (cc))
+unread bytes text (faults.BadDirective at) t h d = no_stream bytes text (faults.BadDirective at) t d (λ e. absurd (cc))
+unread bytes text (faults.UnknownHandle at) t h d = no_stream bytes text (faults.UnknownHandle at) t d (λ e. absurd (cc))
+unread bytes text (faults.BadTag at) t h d = no_stream bytes text (faults.BadTag at) t d (λ e. absurd (cc))
+unread bytes text faults.OutOfMemory t h d = tt
+unread bytes text _ t h d = absurd h

@@ -8,7 +8,7 @@ ghost use Rattle.yaml_definitions.specs.model.EventText.{events_text};
 ghost use Rattle.yaml_definitions.specs.model.Text.{Text};
 ghost use Rattle.yaml_text.specs.EventModel.{event_of};
 ghost use Rattle.yaml_text.specs.Refused.{RefusesText};
-ghost use Rattle.yaml_canon.specs.Rooms.{Places};
+ghost use Rattle.yaml_answers.specs.Rooms.{Places};
 ghost use Rattle.yaml_event_text.specs.EventTextAnswer.{IsEventText, IsUnread, PlacesEvents};
 
 use std::alloc::Global;

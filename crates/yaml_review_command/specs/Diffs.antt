@@ -2,7 +2,7 @@
 use Rattle.std.specs.Prelude.{◌≡◌, ℕ, Bool, cond, List, Option}
 use Rattle.yaml_text.specs.declared.counted.Counted.{Counted}
 use Rattle.yaml_canon.specs.Comparing.{Compares}
-use Rattle.yaml_canon.specs.Writers.{Printed}
+use Rattle.yaml_answers.specs.Writers.{Printed}
 use Rattle.yaml_review_words.specs.declared.words.Diff.{Diff}
 use Rattle.yaml_review_text.specs.declared.both.Both.{Both}
 use Rattle.yaml_review_lines.specs.Compared.{TellsStreams}

@@ -1,6 +1,6 @@
 -- What the files are of which names are given.
 use Rattle.std.specs.Prelude.{◌≡◌, ℕ, List, Option, codes}
-use Rattle.yaml_command.specs.Shelves.{IsOf}
+use Rattle.yaml_report.specs.Shelves.{IsOf}
 
 -- Where it is known what a file holds, or what the input has, the bytes are that. `-` names the input.
 pub record IsNamed (holds : List ℕ → Option (List ℕ)) (rest : Option (List ℕ)) (name bytes : List ℕ) : Type 0 where

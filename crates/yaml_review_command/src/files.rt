@@ -1,6 +1,6 @@
 //! Files that are read.
 ghost use Rattle.std.specs.Prelude.{◌≡◌, Ok, IfOk, IfErr};
-ghost use Rattle.yaml_command.specs.Shelves.{IsOf, InputUnread};
+ghost use Rattle.yaml_report.specs.Shelves.{IsOf, InputUnread};
 ghost use Rattle.yaml_review_command.specs.Named.{IsNamed, AreNamed};
 
 use std::alloc::Global;

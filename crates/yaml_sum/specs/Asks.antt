@@ -2,10 +2,10 @@
 use Rattle.std.specs.Prelude.{◌≡◌, ◌⊎◌, ℕ, List, map, Option}
 use Rattle.yaml_text.specs.declared.counted.Counted.{Counted}
 use Rattle.yaml_text.specs.CountedModel.{inner_of, faults_of}
-use Rattle.yaml_command.specs.Refusals.{Told}
-use Rattle.yaml_command.specs.Statuses.{refusal_status}
-use Rattle.yaml_command.specs.declared.refusal.Refusal.{Refusal}
-use Rattle.yaml_command.specs.declared.refusal.Refusal.TheVariants.{CannotOpen, Input}
+use Rattle.yaml_report.specs.Refusals.{Told}
+use Rattle.yaml_report.specs.Statuses.{refusal_status}
+use Rattle.yaml_report.specs.declared.refusal.Refusal.{Refusal}
+use Rattle.yaml_report.specs.declared.refusal.Refusal.TheVariants.{CannotOpen, Input}
 use Rattle.yaml_sum.specs.Names.{names_in}
 use Rattle.yaml_sum.specs.Sums.{IsRead, IsNotRead, SumsAll, SumsCut}
 use Rattle.yaml_sum.specs.declared.asked.Asked.{Asked}

@@ -5,7 +5,7 @@ use Rattle.yaml_text.specs.Fault.{fault_number, fault_name}
 use Rattle.yaml_text.specs.declared.fault.Fault.{Fault}
 use Rattle.yaml_text.specs.declared.counted.Counted.{Counted}
 use Rattle.yaml_spell.specs.Writers.{Sent, CutOff}
-use Rattle.yaml_command.specs.Refusals.{place_end}
+use Rattle.yaml_report.specs.Refusals.{place_end}
 use Rattle.yaml_sum.specs.Lines.{name_text}
 use Rattle.yaml_sum.specs.declared.stop.Stop.{Stop}
 use Rattle.yaml_sum.specs.declared.stop.Stop.TheVariants.{CannotOpen, NotRegular, Refused}

@@ -1,6 +1,6 @@
 //! The lines that tell why a file has no sum.
 ghost use Rattle.std.specs.Prelude.{◌≡◌, ◌++◌, [], OnOk, OnErr, IfOk, IfErr};
-ghost use Rattle.yaml_command.specs.Refusals.{fault_line};
+ghost use Rattle.yaml_report.specs.Refusals.{fault_line};
 ghost use Rattle.yaml_sum.specs.Complaints.{reason, complaint, IsTold};
 
 use crate::line::{push, push_name};

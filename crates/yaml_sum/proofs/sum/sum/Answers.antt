@@ -1,5 +1,5 @@
 use Rattle.std.proofs.Common.{◌∙◌, inl, inr}
-use Rattle.yaml_command.specs.Refusals.{line_text}
+use Rattle.yaml_report.specs.Refusals.{line_text}
 use Rattle.yaml_sum.proofs.AskLaws.{told_either}
 use Rattle.yaml_sum.proofs.sum.sum.Goals as goal
 

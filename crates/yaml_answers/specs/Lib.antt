@@ -1,0 +1,4 @@
+pub mod Gathering
+pub mod Rooms
+pub mod Unread
+pub mod Writers

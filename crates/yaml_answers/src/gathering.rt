@@ -1,0 +1,46 @@
+//! Reading an input whole.
+ghost use Rattle.std.specs.Prelude.{◌<◌, ◌-◌, ◌^◌, IfOk, IfErr};
+ghost use Rattle.yaml_text.specs.CountedModel.{faults_of};
+ghost use Rattle.yaml_answers.specs.Gathering.{Gathers, GatherFails};
+
+use std::alloc::Global;
+use std::io::Read;
+use yaml_text::counted::Counted;
+use yaml_text::fault::Fault;
+
+/// How many bytes are asked of a reader at most in one call.
+const PIECE: usize = 4096;
+
+/// All that the reader gives up to its end, if that is at most `limit` bytes.
+///
+/// Of a longer input it reads `limit + 1` bytes and answers `TooLong`. Any error of the reader,
+/// an interrupted call too, is `ReadFault`.
+pub fn gather<R: Read>(
+    alloc: Global,
+    input: &mut Counted<R>,
+    limit: usize,
+) -> Result<Vec<u8>, Fault>
+    requires room { limit < 2 ^ 64 - 1 }
+    requires few { faults_of input.old < 2 ^ 64 - 1 }
+    ensures ok { IfOk result (λ v. Gathers R.remaining input.old input.new limit v.items) }
+    ensures err { IfErr result (GatherFails R.remaining input.old input.new limit) }
+{
+    let mut bytes = Vec::new(alloc);
+    let mut piece = [0u8; PIECE];
+    'read: loop {
+        let want = (limit + 1 - bytes.len()).min(PIECE);
+        let got = match input.read(&mut piece[..want]) {
+            Ok(got) => got,
+            Err(_) => return Err(Fault::ReadFault),
+        };
+        if got == 0 {
+            return Ok(bytes);
+        }
+        bytes
+            .extend_from_slice(&piece[..got])
+            .map_err(|_| Fault::OutOfMemory)?;
+        if bytes.len() > limit {
+            return Err(Fault::TooLong);
+        }
+    }
+}

@@ -1,0 +1,4 @@
+pub mod FileLaws
+mod EventLaws
+mod PageLaws
+mod LineLaws
