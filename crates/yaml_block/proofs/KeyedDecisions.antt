@@ -142,6 +142,11 @@ module _ (cs : List ℕ) (handles : Handles) (room : ℕ) (col : ℕ) (c : Ctx) 
         rest_goes (lines (too_short cs handles room col c b i f s k x p up over st ind whole lt))
         (line_short cs col (least_dash col c) UnderX UnderS (empty p) under_starts under_dashes s k x ind whole st n lt)
 
+    pub under_none : (Fresh cs x → ⊥) ⊎ (DashHere cs x × (k < least_dash col c)) ⊎ ((DashHere cs x → ⊥) × (k < col)) → Goes (Node None) E i Here s
+    under_none (inl n) = under_over n
+    under_none (inr (inl (h, lt))) = under_dash_short h lt
+    under_none (inr (inr (n, lt))) = under_short n lt
+
     pub under_dash : DashHere cs x → least_dash col c ≤ k → Rest (Node None) E i (sequence_with cs (Unit {0}) handles p room k) (AfterSequence cs k) x
     under_dash d le =
         rest_onto (node_sequence cs col k c b le)

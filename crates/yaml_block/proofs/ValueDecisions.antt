@@ -113,6 +113,11 @@ module _ (cs : List ℕ) (handles : Handles) (room : ℕ) where
       pub lines_short : (DashHere cs x → ⊥) → k < col → Goes Lines E s Here s
       lines_short n lt = line_short cs col (least_dash col c) (λ l. Node (Some l)) (sequence_with cs (Unit {0}) handles no_props room) (empty no_props) starts dashes s k x ind whole stuck n lt
 
+      pub lines_none : (Fresh cs x → ⊥) ⊎ (DashHere cs x × (k < least_dash col c)) ⊎ ((DashHere cs x → ⊥) × (k < col)) → Goes Lines E s Here s
+      lines_none (inl n) = lines_over n
+      lines_none (inr (inl (h, lt))) = lines_dash_short h lt
+      lines_none (inr (inr (n, lt))) = lines_short n lt
+
       pub lines_dash : DashHere cs x → least_dash col c ≤ k → Rest Lines E s (sequence_with cs (Unit {0}) handles no_props room k) (AfterSequence cs k) x
       lines_dash h le =
           rest_onto (node_sequence cs col k c b le)

@@ -1,7 +1,7 @@
 -- Block nodes and their parts at a level: where they begin and end, by which rule they are read, and what is decided of them (YAML 1.2.2, 8.2).
-use Rattle.std.specs.Prelude.{◌≡◌, ◌⊎◌, ℕ, ◌-◌, ◌<◌, ◌≤◌, List, Result, Option, Some, MatchOption}
+use Rattle.std.specs.Prelude.{◌≡◌, ◌⊎◌, ◌++◌, ℕ, ◌+◌, ◌-◌, ◌<◌, ◌≤◌, List, [], ◌∷◌, Result, Ok, Err, Option, Some, None, MatchOption}
 use Rattle.std.specs.Char.{is_ascii_alphanumeric}
-use Rattle.yaml_definitions.specs.model.Event.{Event}
+use Rattle.yaml_definitions.specs.model.Event.{Event, mapping_end}
 use Rattle.yaml_definitions.specs.grammar.Rules.{Rule, Stands}
 use Rattle.yaml_definitions.specs.grammar.Separation.{flow_out, block_key, s-l-comments as s_l_comments, AtEnd, DocumentMark}
 use Rattle.yaml_definitions.specs.grammar.Events.{Props}
@@ -10,13 +10,15 @@ use Rattle.yaml_text.specs.Lines.{AfterLine, Inside}
 use Rattle.yaml_text.specs.Source.{text_of, place_of, IsBorder}
 use Rattle.yaml_text.specs.EventModel.{context_of}
 use Rattle.yaml_text.specs.declared.chars.Chars.{Chars}
-use Rattle.yaml_text.specs.declared.context.Ctx.TheVariants.{FlowOut}
+use Rattle.yaml_text.specs.declared.context.Ctx.TheVariants.{FlowOut, BlockOut}
 use Rattle.yaml_text.specs.declared.fault.Fault.{Fault}
+use Rattle.yaml_text.specs.declared.fault.Fault.TheVariants.{OutOfMemory}
 use Rattle.yaml_mark.specs.HandlesModel.{handles_of}
 use Rattle.yaml_sink.specs.PropertyRules.{props_of, SomeProperties, Disjoint}
 use Rattle.yaml_sink.specs.declared.properties.Properties.{Properties}
 use Rattle.law_one_reading.specs.Readings.{End}
-use Rattle.law_going_on.specs.GoingOn.{Here}
+use Rattle.law_one_reading.specs.Follows.{Fresh, DashHere}
+use Rattle.law_going_on.specs.GoingOn.{Refused, Goes, Rest, Here}
 use Rattle.yaml_flow.specs.NodeAnswer.{Appends, Decides}
 use Rattle.yaml_flow.specs.PropertyDecisions.{LineGoesOn, IsOnly}
 use Rattle.yaml_flow.specs.PropertyPlaces.{StandFrom}
@@ -26,13 +28,17 @@ use Rattle.yaml_flow.specs.Levels.{StartsWith}
 use Rattle.yaml_flow.specs.declared.level.Level.{Level}
 use Rattle.yaml_flow.specs.declared.line.Line.{Line}
 use Rattle.yaml_flow.specs.declared.properties.Head.{Head}
-use Rattle.yaml_block.specs.BlockRules.{node_rest, line_rest, value_rest, entry_rest, key_rest, entries_rest, sequence_with}
-use Rattle.yaml_block.specs.BlockEnds.{AfterNode, AfterEntry, AfterSequence, AfterMapping, AfterColon, SignIs, IsStyleSign}
-use Rattle.yaml_block.specs.OuterRules.{Outer, Above, Follows, MayBear, column_of}
+use Rattle.yaml_block.specs.BlockRules.{least_dash, node_rest, line_rest, value_rest, entry_rest, key_rest, entries_rest, sequence_with}
+use Rattle.yaml_block.specs.BlockEnds.{AfterNode, AfterEntry, AfterSequence, AfterMapping, AfterColon, NoneIn, IsFurther, SignIs, IsStyleSign}
+use Rattle.yaml_block.specs.OuterRules.{Outer, Above, Follows, MayBear, column_of, properties_left}
 use Rattle.yaml_block.specs.declared.block.signs.Block.{Block}
+use Rattle.yaml_block.specs.declared.block.signs.Below.{Below}
+use Rattle.yaml_block.specs.declared.block.signs.Below.TheVariants.{Nothing, Sequence, Node}
 use Rattle.yaml_block.specs.declared.block.signs.Sign.{Sign}
 use Rattle.yaml_block.specs.declared.block.signs.Indicator.{Indicator}
 use Rattle.yaml_block.specs.declared.block.nodes.Site.{Site}
+use Rattle.yaml_block.specs.declared.block.nodes.Opened.{Opened}
+use Rattle.yaml_block.specs.declared.block.nodes.Opened.TheVariants.{Whole, Mapping, Marked}
 use Rattle.yaml_block.specs.declared.block.keys.Begun.{Begun}
 
 -- the level of the flow nodes that stand at a block level
@@ -167,6 +173,23 @@ module _ (source : Chars) where
     pub column : line.column ≡ k
     pub dash : IsDash source line.first after
 
+  -- content that is no dash, indented enough
+  pub record NodeBelow (level : Level) (line : Line) : Type 0 where
+    pub no_dash : DashHere (text_of source) (place_of source line.first) → ⊥
+    pub far : level.least ≤ line.column
+    pub some : AtEnd (text_of source) (place_of source line.start) → ⊥
+    pub no_mark : DocumentMark (text_of source) (place_of source line.start) → ⊥
+
+  -- what begins on a line below a parent: nothing, since there is no content, or a dash or other content too far to the left; a sequence, with the border after its dash; or another node
+  module _ (level : Level) (line : Line) where
+    abbrev pub IsBelow : Below → Type 0
+    IsBelow Nothing =
+        (Fresh (text_of source) (place_of source line.first) → ⊥)
+        ⊎ (DashHere (text_of source) (place_of source line.first) × (line.column < least_dash level.least (context_of level.context)))
+        ⊎ ((DashHere (text_of source) (place_of source line.first) → ⊥) × (line.column < level.least))
+    IsBelow (Sequence after) = IsDash source line.first after × (least_dash level.least (context_of level.context) ≤ line.column)
+    IsBelow Node = NodeBelow level line
+
   -- what a block scalar begins with, after the node's own properties
   pub record IsSign (head : Head) (found : Sign) : Type 0 where
     pub border : IsBorder source found.at
@@ -245,3 +268,58 @@ module _ (source : Chars) (level : Level) (at : ℕ) where
 
   abbrev pub DecidesKey : Result ℕ Fault → Type 0
   DecidesKey result = Decides (key_rule source level) (AfterColon (text_of source)) (place_of source at) Here (place_of source) result
+
+-- the key of a mapping's next entry, which begins in column k of a line
+module _ (source : Chars) (level : Level) (line : Line) (k : ℕ) where
+  abbrev pub DecidesNextKey : Result (Option ℕ) Fault → Type 0
+  DecidesNextKey (Ok (Some after)) = EndsKey source line.first after × IsNext source line k × Goes (key_rule source level) (AfterColon (text_of source)) (place_of source line.first) Here (place_of source after)
+  DecidesNextKey (Ok None) = NoneIn source line k
+  DecidesNextKey (Err e) = (e ≡ OutOfMemory) ⊎ IsFurther source line k ⊎ (IsNext source line k × Refused (key_rule source level) (AfterColon (text_of source)) (place_of source line.first))
+
+-- the level of what stands after the colons of a mapping in this column
+abbrev pub entries_level : Level → ℕ → Level
+entries_level level k = record { handles = level.handles; least = k + 1; context = BlockOut; room = level.room - 1 }
+
+-- ---- a whole node, a mapping that is open up to its first key's colon, or a node's properties above a line
+
+-- the node's properties stand above a line, with own ones beside the outer ones
+module _ (source : Chars) (site : Site) (outer : Properties) where
+  pub record IsAbove (line : Line) (above : Head) : Type 0 where
+    pub starts : StartsUnder source site.level.now line above
+    pub same : above.at ≡ site.from
+    pub fewer : properties_left (props_of above.own) < properties_left (props_of outer)
+
+  abbrev pub EndsOpened : Opened → Type 0
+  EndsOpened (Whole line) = EndsLine source site.from line
+  EndsOpened (Mapping k after) = StartsInside source site.level.now k after × (site.from ≤ after)
+  EndsOpened (Marked line above) = IsAbove line above
+
+abbrev pub opened_place : Chars → Opened → ℕ
+opened_place source (Whole line) = place_of source line.start
+opened_place source (Mapping k after) = place_of source after
+opened_place source (Marked line above) = place_of source above.at
+
+-- the events of a mapping up to its first key's colon, which those of what follows the colon and the mapping's end complete
+abbrev pub begins_mapping : Rule (List Event) → Rule (List Event) → Rule (List Event)
+begins_mapping R S i a es = (j : ℕ) (vs : List Event) → S a j vs → R i j ((es ++ vs) ++ (mapping_end ∷ []))
+
+abbrev pub begins_node : Rule (List Event) → Rule (List Event) → Rule (List Event)
+begins_node R S i a es = (j : ℕ) (vs : List Event) → S a j vs → R i j (es ++ vs)
+
+abbrev pub opened_rule : RuleAt → Opened → RuleAt
+opened_rule R (Whole line) source level = R source level
+opened_rule R (Mapping k after) source level = begins_mapping (R source level) (entries_rule k source level)
+opened_rule R (Marked line above) source level = begins_node (R source level) (node_rule None source level)
+
+abbrev pub ReadsOpened : {S : Type 0} → Chars → Site → Properties → (S → List Event → Type 0) → S → S → Result Opened Fault → Type 0
+ReadsOpened source site outer holds old new result = Appends (λ found. opened_rule (site_rule site outer) found source site.level.now) (place_of source site.from) (opened_place source) holds old new result
+
+module _ (source : Chars) (level : Level) (at : ℕ) (R : Rule (List Event)) where
+  abbrev DecidesFound : Result Opened Fault → Type 0
+  DecidesFound (Ok (Whole line)) = Goes R (AfterNode (text_of source) level.least (context_of level.context)) (place_of source at) Here (place_of source line.start)
+  DecidesFound (Ok (Mapping k after)) = Rest R (AfterNode (text_of source) level.least (context_of level.context)) (place_of source at) (entries_rule k source level) (AfterMapping (text_of source) k) (place_of source after)
+  DecidesFound (Ok (Marked line above)) = Rest R (AfterNode (text_of source) level.least (context_of level.context)) (place_of source at) (node_rule None source level) (AfterNode (text_of source) level.least (context_of level.context)) (place_of source above.at)
+  DecidesFound (Err e) = (e ≡ OutOfMemory) ⊎ Refused R (AfterNode (text_of source) level.least (context_of level.context)) (place_of source at)
+
+abbrev pub DecidesOpened : Chars → Site → Properties → Result Opened Fault → Type 0
+DecidesOpened source site outer = DecidesFound source site.level.now site.from (site_rule site outer source site.level.now)

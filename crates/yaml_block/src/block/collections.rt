@@ -5,10 +5,11 @@ ghost use Rattle.yaml_text.specs.Source.{text_of, place_of};
 ghost use Rattle.yaml_text.specs.LeafAnswer.{IsRefusal};
 ghost use Rattle.yaml_text.specs.Placed.{IsPlaced};
 ghost use Rattle.law_one_reading.specs.Follows.{Dash};
+ghost use Rattle.yaml_flow.specs.NodeAnswer.{Perhaps};
 ghost use Rattle.yaml_sink.specs.SinkModel.{holds_of};
 ghost use Rattle.yaml_sink.specs.PropertyRules.{props_of};
 ghost use Rattle.yaml_block.specs.BlockEnds.{NoneIn, IsFurther};
-ghost use Rattle.yaml_block.specs.BlockCalls.{StartsEntryLine, StartsSequence, StartsInside, EndsLine, IsNext, IsNextDash, sequence_rule, entries_rule, ReadsLine, DecidesSequence, DecidesEntries};
+ghost use Rattle.yaml_block.specs.BlockCalls.{StartsEntryLine, StartsSequence, StartsInside, EndsLine, IsNext, IsNextDash, key_rule, sequence_rule, entries_rule, ReadsLine, DecidesSequence, DecidesEntries, DecidesNextKey};
 
 use crate::block::keys::read_key;
 use crate::block::signs::{Indicator, dash};
@@ -63,6 +64,28 @@ fn next_dash(source: &Chars<'_>, line: Line, column: usize) -> Result<Option<usi
     }
 }
 
+/// The border after the colon of a mapping's next key, if a line at its column or further left begins with one.
+#[inline(always)]
+fn next_colon<'a, K: Keeper>(
+    alloc: Global,
+    source: &Chars<'a>,
+    line: Line,
+    column: usize,
+    level: &Level<'_, 'a>,
+    out: &mut Sink<'a, K>,
+) -> Result<Option<usize>, Fault>
+    requires { StartsEntryLine source.now line }
+    ensures reads { Perhaps (λ _. key_rule source.now level.now) (place_of source.now line.first) (place_of source.now) (holds_of K.holds) out.old out.new result }
+    ensures decides { DecidesNextKey source.now level.now line column result }
+    ensures placed { IfErr result (IsPlaced source.now) }
+{
+    if !goes_on(source, line, column)? {
+        return Ok(None);
+    }
+    let colon = read_key(alloc, source, line.first, column, level, out)?;
+    Ok(Some(colon))
+}
+
 /// A block sequence with its properties, from its first dash on (8.2.1).
 #[inline(never)]
 #[cycle(blocks)]
@@ -84,15 +107,16 @@ pub fn read_sequence<'a, K: Keeper>(
         return Err(Fault::TooDeep(source.pos(first.at)));
     }
     push_block_sequence(out, properties, first.at)?;
-    let mut line = read_indented(alloc, source, first.after, first.column, level, out)?;
+    let mut after = first.after;
     'entries: loop {
+        let line = read_indented(alloc, source, after, first.column, level, out)?;
         match next_dash(source, line, first.column)? {
             None => {
                 push_sequence_end(out, line.start)?;
                 return Ok(line);
             }
-            Some(after) => {
-                line = read_indented(alloc, source, after, first.column, level, out)?;
+            Some(next) => {
+                after = next;
             }
         }
     }
@@ -121,12 +145,14 @@ pub fn read_entries<'a, K: Keeper>(
         room: level.room - 1,
         ..*level
     };
-    let mut line = read_value(alloc, source, after, &inside, out)?;
+    let mut colon = after;
     'entries: loop {
-        if !goes_on(source, line, column)? {
-            return Ok(line);
+        let line = read_value(alloc, source, colon, &inside, out)?;
+        match next_colon(alloc, source, line, column, &inside, out)? {
+            None => return Ok(line),
+            Some(next) => {
+                colon = next;
+            }
         }
-        let colon = read_key(alloc, source, line.first, column, &inside, out)?;
-        line = read_value(alloc, source, colon, &inside, out)?;
     }
 }

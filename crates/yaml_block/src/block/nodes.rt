@@ -17,17 +17,17 @@ ghost use Rattle.yaml_sink.specs.PropertyRules.{props_of, both_props, dressed, D
 ghost use Rattle.yaml_block.specs.BlockRules.{root_rest};
 ghost use Rattle.yaml_block.specs.OuterRules.{MayBear};
 ghost use Rattle.yaml_block.specs.BlockEnds.{AfterNode};
-ghost use Rattle.yaml_block.specs.BlockCalls.{flow_level, StartsBlockNode, StartsDressed, NoSign, EndsLine, EndsNode, site_rule, ReadsLine, DecidesBlockNode};
+ghost use Rattle.yaml_block.specs.BlockCalls.{flow_level, StartsBlockNode, StartsDressed, NoSign, EndsLine, EndsNode, site_rule, ReadsLine, DecidesBlockNode, EndsOpened, ReadsOpened, DecidesOpened};
 
 use crate::block::collections::{read_entries, read_sequence};
 use crate::block::keys::{Begun, fit_key};
 use crate::block::scalars::read_block_scalar;
-use crate::block::signs::{Indicator, block_sign, dash, first_colon, may_bear};
+use crate::block::signs::{Indicator, block_sign, dash, first_colon, line_after, may_bear};
 use crate::block::values::read_under;
 use std::alloc::Global;
 use yaml_flow::flow::{FlowNode, read_bare};
 use yaml_flow::level::Level;
-use yaml_flow::line::{Line, line_at, next_line, skip_line_rest};
+use yaml_flow::line::{Line, line_at, next_line};
 use yaml_flow::properties::{Head, read_properties};
 use yaml_mark::handles::Handles;
 use yaml_sink::properties::Properties;
@@ -76,77 +76,13 @@ fn finish_node<'a, K: Keeper>(
     Ok(line)
 }
 
-/// A node whose first character stands at `at`, with its outer properties.
-#[inline(never)]
-#[cycle(blocks)]
-pub fn read_node<'a, K: Keeper>(
-    alloc: Global,
-    source: &Chars<'a>,
-    at: usize,
-    outer: Properties<'a>,
-    site: &Site<'_, '_, 'a>,
-    out: &mut Sink<'a, K>,
-) -> Result<Line, Fault>
-    requires { StartsBlockNode source.now site.now outer at }
-    ensures ends { IfOk result (EndsLine source.now site.now.from) }
-    ensures reads { ReadsLine (site_rule site.now outer.entry) source.now site.now.level.now site.now.from (holds_of K.holds) out.old out.new result }
-    ensures decides { DecidesBlockNode source.now site.now.level.now site.now.from (site_rule site.now outer.entry) result }
-    ensures placed { IfErr result (IsPlaced source.now) }
-{
-    let (own, end) = read_properties(alloc, source, at, 0, Ctx::BlockKey, site.level.handles)?;
-    if own.is_none() {
-        let head = Head { at, end, own };
-        return read_dressed(alloc, source, head, outer, site, out);
-    }
-    match skip_line_rest(source, end) {
-        None => {
-            let head = Head { at, end, own };
-            read_dressed(alloc, source, head, outer, site, out)
-        }
-        Some(start) => {
-            if outer.overlaps(&own) {
-                return Err(unusable(source, end));
-            }
-            let line = line_at(source, start);
-            let above = Head {
-                at: site.from,
-                end,
-                own: outer.and(own),
-            };
-            read_under(alloc, source, line, above, site.level, out)
-        }
-    }
-}
-
-/// The same after the node's own properties, after which the line goes on: a block scalar, a flow node, or a mapping whose first
-/// key it is.
-#[inline(always)]
-#[cycle(blocks)]
-fn read_dressed<'a, K: Keeper>(
-    alloc: Global,
-    source: &Chars<'a>,
-    head: Head<'a>,
-    outer: Properties<'a>,
-    site: &Site<'_, '_, 'a>,
-    out: &mut Sink<'a, K>,
-) -> Result<Line, Fault>
-    requires { StartsDressed source.now site.now outer head }
-    ensures ends { IfOk result (EndsLine source.now site.now.from) }
-    ensures reads { ReadsLine (site_rule site.now outer.entry) source.now site.now.level.now site.now.from (holds_of K.holds) out.old out.new result }
-    ensures decides { DecidesBlockNode source.now site.now.level.now site.now.from (site_rule site.now outer.entry) result }
-    ensures placed { IfErr result (IsPlaced source.now) }
-{
-    match block_sign(source, &head) {
-        None => read_keyed(alloc, source, head, outer, site, out),
-        Some(sign) => {
-            if outer.overlaps(&head.own) {
-                return Err(unusable(source, sign.at));
-            }
-            let both = outer.and(head.own);
-            let line = read_block_scalar(alloc, source, sign, both, site.level.least, out)?;
-            Ok(line)
-        }
-    }
+/// How far a node was read: whole, up to a line; a mapping up to the colon of its first key, which is put down; or its properties
+/// alone, which end their line.
+#[derive(Drop)]
+pub enum Opened<'a> {
+    Whole(Line),
+    Mapping { column: usize, after: usize },
+    Marked(Line, Head<'a>),
 }
 
 /// A flow node of a block level, after its own properties. It is inlined, so that its level has no room of its own in the frame of
@@ -172,22 +108,21 @@ fn read_in_block<'a, K: Keeper>(
     read_bare(alloc, source, head, &flow, out)
 }
 
-/// A flow node, or a mapping whose first key it is.
+/// A flow node, or a mapping of which it is the first key.
 #[inline(never)]
-#[cycle(blocks)]
-fn read_keyed<'a, K: Keeper>(
+fn open_keyed<'a, K: Keeper>(
     alloc: Global,
     source: &Chars<'a>,
     head: Head<'a>,
     outer: Properties<'a>,
     site: &Site<'_, '_, 'a>,
     out: &mut Sink<'a, K>,
-) -> Result<Line, Fault>
+) -> Result<Opened<'a>, Fault>
     requires dressed { StartsDressed source.now site.now outer head }
     requires no_scalar { NoSign source.now head }
-    ensures ends { IfOk result (EndsLine source.now site.now.from) }
-    ensures reads { ReadsLine (site_rule site.now outer.entry) source.now site.now.level.now site.now.from (holds_of K.holds) out.old out.new result }
-    ensures decides { DecidesBlockNode source.now site.now.level.now site.now.from (site_rule site.now outer.entry) result }
+    ensures ends { IfOk result (EndsOpened source.now site.now outer.entry) }
+    ensures reads { ReadsOpened source.now site.now outer.entry (holds_of K.holds) out.old out.new result }
+    ensures decides { DecidesOpened source.now site.now outer.entry result }
     ensures placed { IfErr result (IsPlaced source.now) }
 {
     let start = out.mark();
@@ -203,16 +138,110 @@ fn read_keyed<'a, K: Keeper>(
     match first_colon(source, head.at, node.end, site.column)? {
         None => {
             let line = finish_node(source, begun, head, outer, out)?;
-            Ok(line)
+            Ok(Opened::Whole(line))
         }
         Some((column, after)) => {
             fit_key(alloc, source, &head, begun, site.level, out)?;
             out.dress(start, head.own);
             insert_block_mapping(out, start, outer, head.at)?;
+            Ok(Opened::Mapping { column, after })
+        }
+    }
+}
+
+/// A node after its own properties, after which the line goes on: a block scalar, a flow node, or a mapping up to the colon of
+/// its first key.
+#[inline(always)]
+fn open_dressed<'a, K: Keeper>(
+    alloc: Global,
+    source: &Chars<'a>,
+    head: Head<'a>,
+    outer: Properties<'a>,
+    site: &Site<'_, '_, 'a>,
+    out: &mut Sink<'a, K>,
+) -> Result<Opened<'a>, Fault>
+    requires { StartsDressed source.now site.now outer head }
+    ensures ends { IfOk result (EndsOpened source.now site.now outer.entry) }
+    ensures reads { ReadsOpened source.now site.now outer.entry (holds_of K.holds) out.old out.new result }
+    ensures decides { DecidesOpened source.now site.now outer.entry result }
+    ensures placed { IfErr result (IsPlaced source.now) }
+{
+    match block_sign(source, &head) {
+        None => open_keyed(alloc, source, head, outer, site, out),
+        Some(sign) => {
+            if outer.overlaps(&head.own) {
+                return Err(unusable(source, sign.at));
+            }
+            let both = outer.and(head.own);
+            let line = read_block_scalar(alloc, source, sign, both, site.level.least, out)?;
+            Ok(Opened::Whole(line))
+        }
+    }
+}
+
+/// The start of a node whose first character stands at `at`, with its outer properties.
+#[inline(always)]
+fn open_node<'a, K: Keeper>(
+    alloc: Global,
+    source: &Chars<'a>,
+    at: usize,
+    outer: Properties<'a>,
+    site: &Site<'_, '_, 'a>,
+    out: &mut Sink<'a, K>,
+) -> Result<Opened<'a>, Fault>
+    requires { StartsBlockNode source.now site.now outer at }
+    ensures ends { IfOk result (EndsOpened source.now site.now outer.entry) }
+    ensures reads { ReadsOpened source.now site.now outer.entry (holds_of K.holds) out.old out.new result }
+    ensures decides { DecidesOpened source.now site.now outer.entry result }
+    ensures placed { IfErr result (IsPlaced source.now) }
+{
+    let (own, end) = read_properties(alloc, source, at, 0, Ctx::BlockKey, site.level.handles)?;
+    match line_after(source, end, &own) {
+        None => {
+            let head = Head { at, end, own };
+            open_dressed(alloc, source, head, outer, site, out)
+        }
+        Some(start) => {
+            if outer.overlaps(&own) {
+                return Err(unusable(source, end));
+            }
+            let line = line_at(source, start);
+            let above = Head {
+                at: site.from,
+                end,
+                own: outer.and(own),
+            };
+            Ok(Opened::Marked(line, above))
+        }
+    }
+}
+
+/// A node whose first character stands at `at`, with its outer properties.
+#[inline(never)]
+#[cycle(blocks)]
+pub fn read_node<'a, K: Keeper>(
+    alloc: Global,
+    source: &Chars<'a>,
+    at: usize,
+    outer: Properties<'a>,
+    site: &Site<'_, '_, 'a>,
+    out: &mut Sink<'a, K>,
+) -> Result<Line, Fault>
+    requires { StartsBlockNode source.now site.now outer at }
+    ensures ends { IfOk result (EndsLine source.now site.now.from) }
+    ensures reads { ReadsLine (site_rule site.now outer.entry) source.now site.now.level.now site.now.from (holds_of K.holds) out.old out.new result }
+    ensures decides { DecidesBlockNode source.now site.now.level.now site.now.from (site_rule site.now outer.entry) result }
+    ensures placed { IfErr result (IsPlaced source.now) }
+{
+    let opened = open_node(alloc, source, at, outer, site, out)?;
+    match opened {
+        Opened::Whole(line) => Ok(line),
+        Opened::Mapping { column, after } => {
             let line = read_entries(alloc, source, after, column, site.level, out)?;
             push_mapping_end(out, line.start)?;
             Ok(line)
         }
+        Opened::Marked(line, above) => read_under(alloc, source, line, above, site.level, out),
     }
 }
 

@@ -5,7 +5,7 @@ ghost use Rattle.yaml_text.specs.Source.{text_of, place_of, IsBorder};
 ghost use Rattle.yaml_text.specs.EventModel.{context_of};
 ghost use Rattle.yaml_definitions.specs.grammar.Rules.{Stands};
 ghost use Rattle.yaml_definitions.specs.grammar.Characters.{is_space};
-ghost use Rattle.yaml_definitions.specs.grammar.Separation.{s-l-comments as s_l_comments};
+ghost use Rattle.yaml_definitions.specs.grammar.Separation.{s-l-comments as s_l_comments, l-comment as l_comment};
 ghost use Rattle.yaml_definitions.specs.grammar.Events.{no_props};
 ghost use Rattle.yaml_scalar.specs.BlockModel.{column};
 ghost use Rattle.yaml_text.specs.LeafAnswer.{IsRefusal};
@@ -17,10 +17,11 @@ ghost use Rattle.yaml_sink.specs.PropertyRules.{props_of};
 ghost use Rattle.yaml_block.specs.BlockRules.{least_dash};
 ghost use Rattle.yaml_block.specs.OuterRules.{Follows, MayBear};
 ghost use Rattle.yaml_block.specs.BlockEnds.{ColonStands, IsNoKey};
-ghost use Rattle.yaml_block.specs.BlockCalls.{IsSign, NoSign, IsFirstColon};
+ghost use Rattle.yaml_block.specs.BlockCalls.{StartsEntryLine, IsBelow, IsSign, NoSign, IsFirstColon};
 
 use yaml_flow::key::{Fit, key_fit};
-use yaml_flow::line::skip_line_rest;
+use yaml_flow::level::Level;
+use yaml_flow::line::{Line, has_content, skip_line_rest};
 use yaml_flow::properties::Head;
 use yaml_sink::properties::Properties;
 use yaml_text::chars::Chars;
@@ -65,6 +66,40 @@ pub fn sequence_column(col: usize, context: Ctx) -> usize
         Ctx::FlowIn => col,
         Ctx::BlockKey => col,
         Ctx::FlowKey => col,
+    }
+}
+
+/// What begins on a line below a node's parent: nothing, a sequence, of whose first dash the border after it is told, or another
+/// node.
+#[derive(Clone, Copy)]
+pub enum Below {
+    Nothing,
+    Sequence(usize),
+    Node,
+}
+
+/// What begins on a line below the parent of this level's nodes. Where that is indented too little, nothing does.
+#[inline(always)]
+pub fn begins_below(source: &Chars<'_>, line: Line, level: &Level<'_, '_>) -> Below
+    requires { StartsEntryLine source.now line }
+    ensures { IsBelow source.now level.now line result }
+{
+    if !has_content(source, line) {
+        return Below::Nothing;
+    }
+    match dash(source, line.first) {
+        Some(after) => {
+            if line.column < sequence_column(level.least, level.context) {
+                return Below::Nothing;
+            }
+            Below::Sequence(after)
+        }
+        None => {
+            if line.column < level.least {
+                return Below::Nothing;
+            }
+            Below::Node
+        }
     }
 }
 
@@ -154,6 +189,23 @@ pub fn first_colon(
             }
         }
     }
+}
+
+/// The start of the line after a node's own properties, which end at `end`, if they end their line.
+#[inline(always)]
+pub fn line_after(source: &Chars<'_>, end: usize, own: &Properties<'_>) -> Option<usize>
+    requires { IsBorder source.now end }
+    ensures some { IfSome result (λ _. props_of own.now ≢ no_props) }
+    ensures border { IfSome result (λ start. IsBorder source.now start) }
+    ensures onward { IfSome result (λ start. end ≤ start) }
+    ensures comments { IfSome result (λ start. s_l_comments (text_of source.now) (place_of source.now end) (place_of source.now start)) }
+    ensures stuck { IfSome result (λ start. (j : ℕ) → l_comment (text_of source.now) (place_of source.now start) j → ⊥) }
+    ensures none { IfNone result (LineGoesOn (text_of source.now) (place_of source.now end) (props_of own.now)) }
+{
+    if own.is_none() {
+        return None;
+    }
+    skip_line_rest(source, end)
 }
 
 /// Whether content may follow a node's own properties on their line, which end at `end`: always, if there are none.

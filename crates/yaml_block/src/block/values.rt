@@ -7,11 +7,11 @@ ghost use Rattle.yaml_block.specs.BlockCalls.{StartsBlockValue, StartsInside, St
 use crate::block::collections::read_sequence;
 use crate::block::nodes::{Site, read_node};
 use crate::block::scalars::{push_lone, push_nothing};
-use crate::block::signs::{Indicator, dash, sequence_column};
+use crate::block::signs::{Below, Indicator, begins_below, dash};
 use crate::block::words::read_word;
 use std::alloc::Global;
 use yaml_flow::level::Level;
-use yaml_flow::line::{Line, has_content, line_at, skip_line_rest};
+use yaml_flow::line::{Line, line_at, skip_line_rest};
 use yaml_flow::properties::Head;
 use yaml_mark::starts::begins_word;
 use yaml_sink::properties::Properties;
@@ -133,37 +133,28 @@ pub fn read_below<'a, K: Keeper>(
     ensures decides { DecidesBlockNode source.now level.now line.start line_rule result }
     ensures placed { IfErr result (IsPlaced source.now) }
 {
-    if !has_content(source, line) {
-        push_nothing(line.start, out)?;
-        return Ok(line);
-    }
-    let first = line.first;
     let outer = Properties::none();
-    match dash(source, first) {
-        Some(after) => {
-            if line.column < sequence_column(level.least, level.context) {
-                push_nothing(line.start, out)?;
-                return Ok(line);
-            }
+    match begins_below(source, line, level) {
+        Below::Nothing => {
+            push_nothing(line.start, out)?;
+            Ok(line)
+        }
+        Below::Sequence(after) => {
             let indicator = Indicator {
-                at: first,
+                at: line.first,
                 after,
                 column: line.column,
             };
             read_sequence(alloc, source, indicator, outer, level, out)
         }
-        None => {
-            if line.column < level.least {
-                push_nothing(line.start, out)?;
-                return Ok(line);
-            }
+        Below::Node => {
             let column = Some(line.column);
             let site = Site {
-                from: first,
+                from: line.first,
                 column,
                 level,
             };
-            read_node(alloc, source, first, outer, &site, out)
+            read_node(alloc, source, line.first, outer, &site, out)
         }
     }
 }
@@ -189,35 +180,26 @@ pub fn read_under<'a, K: Keeper>(
         end,
         own: outer,
     } = above;
-    if !has_content(source, line) {
-        push_lone(outer, end, out)?;
-        return Ok(line);
-    }
-    let first = line.first;
-    match dash(source, first) {
-        Some(after) => {
-            if line.column < sequence_column(level.least, level.context) {
-                push_lone(outer, end, out)?;
-                return Ok(line);
-            }
+    match begins_below(source, line, level) {
+        Below::Nothing => {
+            push_lone(outer, end, out)?;
+            Ok(line)
+        }
+        Below::Sequence(after) => {
             let indicator = Indicator {
-                at: first,
+                at: line.first,
                 after,
                 column: line.column,
             };
             read_sequence(alloc, source, indicator, outer, level, out)
         }
-        None => {
-            if line.column < level.least {
-                push_lone(outer, end, out)?;
-                return Ok(line);
-            }
+        Below::Node => {
             let site = Site {
                 from,
                 column: Some(line.column),
                 level,
             };
-            read_node(alloc, source, first, outer, &site, out)
+            read_node(alloc, source, line.first, outer, &site, out)
         }
     }
 }

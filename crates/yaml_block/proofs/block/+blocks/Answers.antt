@@ -1,51 +1,39 @@
-use Rattle.std.proofs.Common.{◌≡◌, ◌⊎◌, ℕ, suc, false, ◌+◌, ◌-◌, ◌<◌, ◌≤◌, List, [], ◌∷◌, ◌++◌, Some, None, refl, sym, ap, subst, arith, inl, inr}
+use Rattle.std.proofs.Common.{◌≡◌, ◌⊎◌, ℕ, suc, false, ◌+◌, ◌-◌, ◌≤◌, List, [], ◌∷◌, ◌++◌, Some, None, refl, sym, subst, arith, append_assoc, inl, inr}
 use Rattle.std.specs.Prelude.{IfOk, Result, Ok, Err}
-use Rattle.std.proofs.lemmas.Option.{MatchOption-at_some}
 use Rattle.yaml_text.specs.declared.fault.Fault.{Fault}
 use Rattle.yaml_definitions.specs.model.Event.{Event, sequence_end, mapping_end}
 use Rattle.yaml_text.specs.EventModel.{context_of}
 use Rattle.yaml_text.specs.Source.{text_of, place_of}
 use Rattle.yaml_text.specs.declared.chars.Chars.{Chars}
-use Rattle.yaml_definitions.specs.grammar.Rules.{◌▸◌}
-use Rattle.yaml_definitions.specs.grammar.Separation.{s-l-comments as s_l_comments, flow_out, block_key, block_in, block_out, s-indent as indent}
+use Rattle.yaml_definitions.specs.grammar.Rules.{◌▸◌, any}
+use Rattle.yaml_definitions.specs.grammar.Separation.{s-l-comments as s_l_comments, block_in, block_out, s-indent as indent}
 use Rattle.yaml_definitions.specs.grammar.Tags.{Handles}
-use Rattle.yaml_definitions.specs.grammar.Events.{no_props, e-scalar as empty, seq_start, map_start}
-use Rattle.yaml_text.proofs.Tests.{on_true_at, on_false_at}
+use Rattle.yaml_definitions.specs.grammar.Events.{no_props, e-scalar as empty, seq_start}
 use Rattle.yaml_mark.specs.HandlesModel.{handles_of}
 use Rattle.law_one_reading.specs.Follows.{Dash}
-use Rattle.law_going_on.specs.GoingOn.{Here}
+use Rattle.law_going_on.specs.GoingOn.{Refused, Here}
 use Rattle.law_going_on.proofs.GoingOn.{rest_rest, rest_goes, rest_refused}
 use Rattle.yaml_flow.specs.NodeAnswer.{Decides}
 use Rattle.yaml_flow.specs.Lines.{IsLine, IsDash}
-use Rattle.yaml_flow.specs.Levels.{StartsWith}
-use Rattle.yaml_flow.specs.declared.level.Level.{Level}
-use Rattle.yaml_flow.specs.declared.properties.Head.{Head}
-use Rattle.yaml_sink.specs.PropertyRules.{props_of, both_props, dressed, SomeProperties}
+use Rattle.yaml_sink.specs.PropertyRules.{props_of}
 use Rattle.yaml_flow.specs.declared.line.Line.{Line}
 use Rattle.yaml_sink.specs.SinkModel.{holds_of}
-use Rattle.yaml_flow.proofs.AnswerLemmas.{appends_by, puts_on, puts_after, puts_altered}
-use Rattle.yaml_flow.proofs.PropertyLemmas.{own_marks}
-use Rattle.yaml_flow.proofs.FlowLemmas.{bare_flow}
-use Rattle.yaml_flow.proofs.PropertyDecisions.{or_else, line_all}
+use Rattle.yaml_sink.specs.Held.{Keeps, Puts}
+use Rattle.yaml_flow.proofs.AnswerLemmas.{appends_by, appends_after, puts_on, puts_none, perhaps_some, perhaps_none}
+use Rattle.yaml_flow.proofs.PropertyDecisions.{or_else}
 use Rattle.yaml_flow.proofs.Deciding.{decides_err}
-use Rattle.yaml_block.specs.BlockRules.{block_scalar_rest, node_rest, line_rest, value_rest, entry_rest, entries_rest, sequence_with, seq_body}
-use Rattle.yaml_block.specs.BlockEnds.{AfterNode, AfterEntry, AfterSequence, AfterMapping, IsNoKey}
-use Rattle.yaml_block.specs.BlockCalls.{flow_level, StartsDressed, EndsLine, IsNextDash, IsFirstColon}
-use Rattle.yaml_sink.specs.declared.properties.Properties.{Properties}
-use Rattle.yaml_block.specs.declared.block.nodes.Site.{Site}
-use Rattle.yaml_block.specs.OuterRules.{above, Above, column_of, properties_left}
-use Rattle.yaml_block.proofs.BlockLemmas.{line_value, same_value, line_entry, sequence_entry, node_entry, dash_entry, seq_entry_at, map_entry_at, sequence_done, value_key, mapping_done, key_entry, joined_more, joined_start}
-use Rattle.yaml_block.proofs.OuterLemmas.{column_none, column_free, marked_column, any_column, above_own, line_own, follows_before, block_scalar, no_key, keyed, marked_nothing, marked_sequence, fewer_left}
-use Rattle.yaml_block.proofs.KeyDecisions.{puts_become}
+use Rattle.yaml_block.specs.BlockRules.{node_rest, line_rest, value_rest, entry_rest, entries_rest, sequence_with, seq_body, key_rest}
+use Rattle.yaml_block.specs.BlockEnds.{AfterNode, AfterEntry, AfterSequence, AfterMapping, AfterColon, IsFurther}
+use Rattle.yaml_block.specs.BlockCalls.{EndsLine, IsNext, IsNextDash, DecidesNextKey, entries_level, key_rule, node_rule, EndsOpened, DecidesOpened, opened_rule, opened_place, site_rule}
+use Rattle.yaml_block.specs.OuterRules.{above, column_of}
+use Rattle.yaml_block.proofs.BlockLemmas.{line_value, same_value, line_entry, sequence_entry, node_entry, dash_entry, seq_entry_at, map_entry_at, sequence_done, key_entry, joined_more, joined_start}
+use Rattle.yaml_block.proofs.OuterLemmas.{column_none, column_free, marked_column, marked_nothing, marked_sequence}
 use Rattle.yaml_block.proofs.Found.{found_is, none_is}
-use Rattle.yaml_block.proofs.Places.{places_up}
-use Rattle.yaml_block.proofs.Passing.{decides_rest, sign_of, scalar_done, scalar_none, keyed_none_below}
-use Rattle.yaml_block.proofs.LineDecisions.{comments_after, colon_inside, no_content, no_end, no_mark, dash_here, dash_inside}
-use Rattle.yaml_block.proofs.ValueDecisions.{value_below, value_beside, value_gap, lines_over, lines_dash_short, lines_short, lines_dash, lines_node, entry_value, entry_dash, entry_own, entry_gap}
+use Rattle.yaml_block.proofs.Passing.{decides_rest}
+use Rattle.yaml_block.proofs.LineDecisions.{comments_after, colon_inside, dash_here, dash_inside}
+use Rattle.yaml_block.proofs.ValueDecisions.{value_below, value_beside, value_gap, lines_none, lines_dash, lines_node, entry_value, entry_dash, entry_own, entry_gap}
 use Rattle.yaml_block.proofs.LoopDecisions.{seq_first, seq_no_first, seq_more, seq_no_more, seq_done, seq_further, map_first, map_no_first, map_more, map_no_key, map_no_value, map_done, map_further, same_line, not_less}
-use Rattle.yaml_block.proofs.NodeDecisions.{kept, signed, signed_clash, barred, over_above, over_left, over_clash}
-use Rattle.yaml_block.proofs.KeyedDecisions.{end_inside, kept_line, kept_neither, kept_keyed, kept_refused, under_over, under_dash_short, under_short, under_dash}
-use Rattle.yaml_block.proofs.MappingDecisions.{colon_stands, colon_after_inside, unfit_none, mapping_left}
+use Rattle.yaml_block.proofs.KeyedDecisions.{under_none, under_dash}
 use Rattle.yaml_block.proofs.block.+blocks.Goals as goal
 
 -- comments up to where a line starts
@@ -57,26 +45,29 @@ ends_from : (s : Chars) (at further : ℕ) (r : Result Line Fault) → at ≤ fu
 ends_from s at further (Ok x) le h = record { line = h.line; onward = omega (arith, le, h.onward); after = h.after }
 ends_from s at further (Err e) le h = h
 
--- the flow node with which a block node begins
-flow_starts : (s : Chars) (site : Site) (outer : Properties) (head : Head) → StartsDressed s site outer head → StartsWith s (flow_level site.level.now) head
-flow_starts s site outer head d =
-    let cs = text_of s in
-    let level = site.level.now in
-    let h = handles_of level.handles in record {
-      border = d.node.border;
-      end = d.own.border;
-      order = d.own.onward;
-      own = line_own cs h level.least _ _ _ d.own.own;
-      all = line_all cs h level.least flow_out _ _ _ d.goes_on d.own.all;
-      low = omega (arith, d.node.low, d.node.order);
-    }
-
 -- an entry after the others, in the column where its line begins
 next_entry : (s : Chars) (handles : Handles) (line : Line) (room k i after j : ℕ) (es fs : List Event) → IsLine s line → line.column ≡ k → IsDash s line.first after →
     seq_body (text_of s) (Unit {0}) handles room k i (place_of s line.start) es → entry_rest (text_of s) (Unit {0}) handles room k (place_of s after) j fs → seq_body (text_of s) (Unit {0}) handles room k i j (es ++ fs)
 next_entry s handles line room k i after j es fs is e d body entry =
     joined_more (seq_entry_at (text_of s) (Unit {0}) handles room k) (indent (text_of s) k ▸ seq_entry_at (text_of s) (Unit {0}) handles room k) body
     (place_of s line.first, subst (λ x. indent (text_of s) x (place_of s line.start) (place_of s line.first)) e is.spaces, dash_entry (text_of s) (Unit {0}) handles room k _ _ _ fs (d.dash.is, d.dash.next) d.apart entry)
+
+-- an entry after the others, by its key and its value
+more_pairs : (cs : List ℕ) (handles : Handles) (room k i x p y j : ℕ) (es ks vs : List Event) → entries_rest cs (Unit {0}) handles room k i x es → indent cs k x p → key_rest cs (Unit {0}) handles room p y ks
+    → value_rest cs (Unit {0}) handles room (k + 1) block_out y j vs → entries_rest cs (Unit {0}) handles room k i j ((es ++ ks) ++ vs)
+more_pairs cs handles room k i x p y j es ks vs body ind key value =
+    subst (entries_rest cs (Unit {0}) handles room k i j) (sym (append_assoc es ks vs))
+    (joined_more (value_rest cs (Unit {0}) handles room (k + 1) block_out) (indent cs k ▸ map_entry_at cs (Unit {0}) handles room k) body (p, ind, key_entry cs (Unit {0}) handles room k _ _ _ ks vs key value))
+
+-- nothing was put down after
+puts_kept : {S : Type 0} {holds : S → List Event → Type 0} (a b c : S) (es : List Event) → Puts holds a es b → Keeps holds b c → Puts holds a es c
+puts_kept a b c es p k = record { is = λ log h. k.is (log ++ es) (p.is log h) }
+
+-- no entry after the others
+map_no_more : (s : Chars) (handles : Handles) (room : ℕ) (line : Line) (k : ℕ) (is : IsLine s line) → IsFurther s line k ⊎ (IsNext s line k × Refused (key_rest (text_of s) (Unit {0}) handles room) (AfterColon (text_of s)) (place_of s line.first))
+    → Refused (any (indent (text_of s) k ▸ map_entry_at (text_of s) (Unit {0}) handles room k)) (AfterMapping (text_of s) k) (place_of s line.start)
+map_no_more s handles room line k is (inl f) = map_further s handles room line k is f
+map_no_more s handles room line k is (inr (next, n)) = map_no_key (text_of s) handles room k _ _ (same_line s handles room line k is next.column) is.stuck (not_less s handles room line k is next.column next.some next.no_mark) n
 
 -- ---- values
 
@@ -147,8 +138,8 @@ values::read_indented-returns-in-None-dash-clause-reads g t c =
 
 -- ---- lines below
 
-pub values::read_below-returns-else-line-sequence_column-clause-reads : goal.values::read_below-returns-else-line-sequence_column-clause-reads
-values::read_below-returns-else-line-sequence_column-clause-reads g t c =
+pub values::read_below-returns-in-Sequence-clause-reads : goal.values::read_below-returns-in-Sequence-clause-reads
+values::read_below-returns-in-Sequence-clause-reads g t c =
     let s = c.args.source.now in
     let cs = text_of s in
     let h = handles_of c.args.level.now.handles in
@@ -157,7 +148,7 @@ values::read_below-returns-else-line-sequence_column-clause-reads g t c =
     (λ x es r. inr (inl (
       c.args.line.column,
       (
-        subst (λ n. n ≤ c.args.line.column) c.sequence_column.ensures c.if-line-sequence_column.false,
+        c.in-Sequence.ensures.1,
         (
           place_of s c.args.line.first,
           c.requires.line.spaces,
@@ -166,8 +157,8 @@ values::read_below-returns-else-line-sequence_column-clause-reads g t c =
       ),
     ))) c.read_sequence.ensures.reads
 
-pub values::read_below-returns-else-line-level-clause-reads : goal.values::read_below-returns-else-line-level-clause-reads
-values::read_below-returns-else-line-level-clause-reads g t c =
+pub values::read_below-returns-in-Node-clause-reads : goal.values::read_below-returns-in-Node-clause-reads
+values::read_below-returns-in-Node-clause-reads g t c =
     let s = c.args.source.now in
     let cs = text_of s in
     let h = handles_of c.args.level.now.handles in
@@ -177,7 +168,7 @@ values::read_below-returns-else-line-level-clause-reads g t c =
     (λ x es r. inl (
       c.args.line.column,
       (
-        c.if-line-level.false,
+        c.in-Node.ensures.far,
         (
           place_of s c.args.line.first,
           c.requires.line.spaces,
@@ -186,41 +177,21 @@ values::read_below-returns-else-line-level-clause-reads g t c =
       ),
     )) c.read_node.ensures.reads
 
-pub values::read_below-returns-then-not-has_content-clause-reads : goal.values::read_below-returns-then-not-has_content-clause-reads
-values::read_below-returns-then-not-has_content-clause-reads g t c = (empty no_props, c.in_ok-push_nothing.ensures.ok, inr (inr (refl, refl)))
-
-pub values::read_below-returns-then-line-sequence_column-clause-reads : goal.values::read_below-returns-then-line-sequence_column-clause-reads
-values::read_below-returns-then-line-sequence_column-clause-reads g t c = (empty no_props, c.in_ok-push_nothing-in-Some.ensures.ok, inr (inr (refl, refl)))
-
-pub values::read_below-returns-then-line-level-clause-reads : goal.values::read_below-returns-then-line-level-clause-reads
-values::read_below-returns-then-line-level-clause-reads g t c = (empty no_props, c.in_ok-push_nothing-in-None.ensures.ok, inr (inr (refl, refl)))
+pub values::read_below-returns-in_ok-push_nothing-in-Nothing-clause-reads : goal.values::read_below-returns-in_ok-push_nothing-in-Nothing-clause-reads
+values::read_below-returns-in_ok-push_nothing-in-Nothing-clause-reads g t c = (empty no_props, c.in_ok-push_nothing-in-Nothing.ensures.ok, inr (inr (refl, refl)))
 
 -- ---- lines below properties
 
-pub values::read_under-returns-then-not-has_content-clause-reads : goal.values::read_under-returns-then-not-has_content-clause-reads
-values::read_under-returns-then-not-has_content-clause-reads g t c = (
+pub values::read_under-returns-in_ok-push_lone-in-Nothing-clause-reads : goal.values::read_under-returns-in_ok-push_lone-in-Nothing-clause-reads
+values::read_under-returns-in_ok-push_lone-in-Nothing-clause-reads g t c = (
   empty (props_of c.args.above.own),
-  c.in_ok-push_lone.ensures.ok,
-  marked_nothing (text_of c.args.source.now) (Unit {0}) (handles_of c.args.level.now.handles) c.args.level.now.room c.args.level.now.least (context_of c.args.level.now.context) None _ _ _ (props_of c.args.above.own) _ c.requires.marks c.requires.comments refl,
-)
-
-pub values::read_under-returns-then-line-sequence_column-clause-reads : goal.values::read_under-returns-then-line-sequence_column-clause-reads
-values::read_under-returns-then-line-sequence_column-clause-reads g t c = (
-  empty (props_of c.args.above.own),
-  c.in_ok-push_lone-in-Some.ensures.ok,
-  marked_nothing (text_of c.args.source.now) (Unit {0}) (handles_of c.args.level.now.handles) c.args.level.now.room c.args.level.now.least (context_of c.args.level.now.context) None _ _ _ (props_of c.args.above.own) _ c.requires.marks c.requires.comments refl,
-)
-
-pub values::read_under-returns-then-line-level-clause-reads : goal.values::read_under-returns-then-line-level-clause-reads
-values::read_under-returns-then-line-level-clause-reads g t c = (
-  empty (props_of c.args.above.own),
-  c.in_ok-push_lone-in-None.ensures.ok,
+  c.in_ok-push_lone-in-Nothing.ensures.ok,
   marked_nothing (text_of c.args.source.now) (Unit {0}) (handles_of c.args.level.now.handles) c.args.level.now.room c.args.level.now.least (context_of c.args.level.now.context) None _ _ _ (props_of c.args.above.own) _ c.requires.marks c.requires.comments refl,
 )
 
 pub values::read_under-read_node-requires : goal.values::read_under-read_node-requires
 values::read_under-read_node-requires g t c = λ κs l.
-    let yes = on_true_at c.has_content.result c.if-not-has_content.false c.has_content.ensures.yes in (
+    let n = c.in-Node.ensures in (
       omega arith,
       (
         l,
@@ -231,25 +202,24 @@ values::read_under-read_node-requires g t c = λ κs l.
           low = c.requires.low;
           block = c.requires.block;
           column = omega (arith, c.requires.line.wide);
-          wide = omega (arith, c.if-line-level.false);
-          above = above _ _ c.args.line.column c.requires.marks c.requires.comments c.requires.line.spaces (omega (arith, c.if-line-level.false)) refl c.requires.above c.requires.line.stuck c.requires.line.all c.in-None.ensures.none
-              (no_end c.args.source.now c.args.line c.requires.line yes.0) (no_mark c.args.source.now c.args.line c.requires.line yes.1);
+          wide = omega (arith, n.far);
+          above = above _ _ c.args.line.column c.requires.marks c.requires.comments c.requires.line.spaces (omega (arith, n.far)) refl c.requires.above c.requires.line.stuck c.requires.line.all n.no_dash n.some n.no_mark;
         },
       ),
     )
 
-pub values::read_under-returns-else-line-sequence_column-clause-reads : goal.values::read_under-returns-else-line-sequence_column-clause-reads
-values::read_under-returns-else-line-sequence_column-clause-reads g t c =
+pub values::read_under-returns-in-Sequence-clause-reads : goal.values::read_under-returns-in-Sequence-clause-reads
+values::read_under-returns-in-Sequence-clause-reads g t c =
     let s = c.args.source.now in
     let cs = text_of s in
     let h = handles_of c.args.level.now.handles in
     appends_by (λ _. sequence_with cs (Unit {0}) h (props_of c.args.above.own) c.args.level.now.room c.args.line.column) (λ _. node_rest cs (Unit {0}) h c.args.level.now.room c.args.level.now.least (context_of c.args.level.now.context) None)
     (place_of s c.args.line.first) (place_of s c.args.above.at) (λ line. place_of s line.start) (holds_of g.K.Keeper.holds) _ _ c.read_sequence.result
     (λ x es r. marked_sequence cs (Unit {0}) h c.args.level.now.room c.args.level.now.least c.args.line.column (context_of c.args.level.now.context) None _ _ _ _ _ (props_of c.args.above.own) es c.requires.marks c.requires.comments
-    (subst (λ n. n ≤ c.args.line.column) c.sequence_column.ensures c.if-line-sequence_column.false) c.requires.line.spaces r) c.read_sequence.ensures.reads
+    c.in-Sequence.ensures.1 c.requires.line.spaces r) c.read_sequence.ensures.reads
 
-pub values::read_under-returns-else-line-level-clause-reads : goal.values::read_under-returns-else-line-level-clause-reads
-values::read_under-returns-else-line-level-clause-reads g t c =
+pub values::read_under-returns-in-Node-clause-reads : goal.values::read_under-returns-in-Node-clause-reads
+values::read_under-returns-in-Node-clause-reads g t c =
     let s = c.args.source.now in
     let cs = text_of s in
     let h = handles_of c.args.level.now.handles in
@@ -265,53 +235,94 @@ collections::read_sequence-entries-init g t c =
     let s = c.args.source.now in
     let cs = text_of s in
     let h = handles_of c.args.level.now.handles in
-    let n = c.in_ok-line.ensures.reads in
     let r = c.args.level.now.room - 1 in
-    let first = seq_start false (props_of c.args.properties) in
+    let k = c.args.first.column in
+    let p = props_of c.args.properties in
+    let d = c.requires.dash in
+    let e : c.args.level.now.room ≡ suc r = omega (arith, c.if-level-eq0.false) in
     record {
-      line = c.in_ok-line.ensures.ends.line;
-      onward = omega (arith, c.requires.dash.dash.forward, c.in_ok-line.ensures.ends.onward);
+      inside = record { border = d.dash.border; low = omega (arith, c.requires.low, d.dash.forward); inside = dash_inside s _ _ d; some = omega (arith, c.if-level-eq0.false) };
+      onward = d.dash.forward;
       reads = (
-        n.0,
-        puts_on c.args.out.now c.push_block_sequence.new.out _ (first ∷ []) n.0 c.in_ok-push_block_sequence.ensures.ok n.1,
-        joined_start (seq_entry_at cs (Unit {0}) h r c.args.first.column) (indent cs c.args.first.column ▸ seq_entry_at cs (Unit {0}) h r c.args.first.column)
-            (dash_entry cs (Unit {0}) h r c.args.first.column _ _ _ n.0 (c.requires.dash.dash.is, c.requires.dash.dash.next) c.requires.dash.apart n.2),
+        [],
+        c.in_ok-push_block_sequence.ensures.ok,
+        λ j vs v. joined_start (seq_entry_at cs (Unit {0}) h r k) (indent cs k ▸ seq_entry_at cs (Unit {0}) h r k) (dash_entry cs (Unit {0}) h r k _ _ _ vs (d.dash.is, d.dash.next) d.apart v),
       );
-      after = c.in_ok-line.ensures.ends.after;
-      rest = seq_first cs h r c.args.first.column c.args.level.now.room (props_of c.args.properties) _ _ _ (omega (arith, c.if-level-eq0.false)) c.requires.dash.dash.next c.in_ok-line.ensures.decides;
+      goes = λ x v. seq_first cs h r k c.args.level.now.room p _ _ x e d.dash.next v;
+      none = λ v. seq_no_first cs h r k c.args.level.now.room p _ _ e d.dash.next v;
+    }
+
+pub collections::read_sequence-entries-preserved : goal.collections::read_sequence-entries-preserved
+collections::read_sequence-entries-preserved g t c =
+    let s = c.args.source.now in
+    let cs = text_of s in
+    let h = handles_of c.args.level.now.handles in
+    let r = c.args.level.now.room - 1 in
+    let k = c.args.first.column in
+    let v = c.entries.invariant in
+    let line = c.in_ok-line.line in
+    let n = c.in_ok-line.ensures in
+    let first = seq_start false (props_of c.args.properties) in
+    let found = found_is (IsNextDash s line k) c.in_ok-next_dash.field-0 c.in-Some.next c.in-Some.is c.in_ok-next_dash.ensures.found in
+    let d = found.dash in
+    let e = found.column in
+    let rest = v.goes _ n.decides in
+    record {
+      inside = record { border = d.dash.border; low = omega (arith, c.requires.low, v.onward, n.ends.onward, n.ends.line.wide, d.dash.forward); inside = dash_inside s _ _ d; some = v.inside.some };
+      onward = omega (arith, v.onward, n.ends.onward, n.ends.line.wide, d.dash.forward);
+      reads = (
+        v.reads.0 ++ n.reads.0,
+        puts_on c.args.out.now c.entries.out _ (first ∷ v.reads.0) n.reads.0 v.reads.1 n.reads.1,
+        λ j vs u. next_entry s h line r k _ c.in-Some.next j (v.reads.0 ++ n.reads.0) vs n.ends.line e d (v.reads.2 _ n.reads.0 n.reads.2) u,
+      );
+      goes = λ x u. rest_rest rest (seq_more cs h r k _ _ _ x (same_line s h r line k n.ends.line e) (dash_here s line.first c.in-Some.next d) d.dash.next u);
+      none = λ u. rest_refused rest (seq_no_more cs h r k _ _ _ (same_line s h r line k n.ends.line e) (dash_here s line.first c.in-Some.next d) d.dash.next u);
     }
 
 pub collections::read_sequence-returns-in-None-clause-reads : goal.collections::read_sequence-returns-in-None-clause-reads
 collections::read_sequence-returns-in-None-clause-reads g t c =
     let v = c.entries.invariant.reads in
+    let n = c.in_ok-line.ensures.reads in
     let p = props_of c.args.properties in
+    let first = seq_start false p in
     let e : c.args.level.now.room ≡ suc (c.args.level.now.room - 1) = omega (arith, c.if-level-eq0.false) in (
-      seq_start false p ∷ (v.0 ++ (sequence_end ∷ [])),
-      puts_on c.args.out.now c.entries.out _ (seq_start false p ∷ v.0) (sequence_end ∷ []) v.1 c.in_ok-push_sequence_end-in-None.ensures.ok,
-      sequence_done (text_of c.args.source.now) (Unit {0}) (handles_of c.args.level.now.handles) p (c.args.level.now.room - 1) c.args.level.now.room c.args.first.column _ _ v.0 e v.2,
+      first ∷ ((v.0 ++ n.0) ++ (sequence_end ∷ [])),
+      puts_on c.args.out.now c.read_indented.new.out _ (first ∷ (v.0 ++ n.0)) (sequence_end ∷ [])
+          (puts_on c.args.out.now c.entries.out _ (first ∷ v.0) n.0 v.1 n.1) c.in_ok-push_sequence_end-in-None.ensures.ok,
+      sequence_done (text_of c.args.source.now) (Unit {0}) (handles_of c.args.level.now.handles) p (c.args.level.now.room - 1) c.args.level.now.room c.args.first.column _ _ (v.0 ++ n.0) e (v.2 _ n.0 n.2),
     )
 
-pub collections::read_sequence-entries-preserved : goal.collections::read_sequence-entries-preserved
-collections::read_sequence-entries-preserved g t c =
+pub collections::read_sequence-returns-in_err-line-clause-decides : goal.collections::read_sequence-returns-in_err-line-clause-decides
+collections::read_sequence-returns-in_err-line-clause-decides g t c =
     let s = c.args.source.now in
-    let v = c.entries.invariant in
-    let n = c.in_ok-line-in-Some.ensures.reads in
-    let first = seq_start false (props_of c.args.properties) in
-    let found = found_is (IsNextDash s c.entries.line c.args.first.column) c.in_ok-next_dash.field-0 c.in-Some.after c.in-Some.is c.in_ok-next_dash.ensures.found in
-    let d = found.dash in
-    let e = found.column in
-    record {
-      line = c.in_ok-line-in-Some.ensures.ends.line;
-      onward = omega (arith, v.onward, v.line.wide, d.dash.forward, c.in_ok-line-in-Some.ensures.ends.onward);
-      reads = (
-        v.reads.0 ++ n.0,
-        puts_on c.args.out.now c.entries.out _ (first ∷ v.reads.0) n.0 v.reads.1 n.1,
-        next_entry s (handles_of c.args.level.now.handles) c.entries.line (c.args.level.now.room - 1) c.args.first.column _ c.in-Some.after _ v.reads.0 n.0 v.line e d v.reads.2 n.2,
-      );
-      after = c.in_ok-line-in-Some.ensures.ends.after;
-      rest = rest_rest v.rest (seq_more (text_of s) (handles_of c.args.level.now.handles) (c.args.level.now.room - 1) c.args.first.column _ _ _ _
-          (same_line s (handles_of c.args.level.now.handles) (c.args.level.now.room - 1) c.entries.line c.args.first.column v.line e) (dash_here s c.entries.line.first c.in-Some.after d) d.dash.next c.in_ok-line-in-Some.ensures.decides);
-    }
+    let cs = text_of s in
+    let k = c.args.first.column in
+    decides_err (sequence_with cs (Unit {0}) (handles_of c.args.level.now.handles) (props_of c.args.properties) c.args.level.now.room k) (AfterSequence cs k) (place_of s c.args.first.at) Here (λ line. place_of s line.start) c.from_residual-in_err-line.result _ c.from_residual-in_err-line.ensures.1
+    (or_else c.entries.invariant.none c.in_err-line.ensures.decides)
+
+pub collections::read_sequence-returns-in_err-next_dash-clause-decides : goal.collections::read_sequence-returns-in_err-next_dash-clause-decides
+collections::read_sequence-returns-in_err-next_dash-clause-decides g t c =
+    let s = c.args.source.now in
+    let cs = text_of s in
+    let h = handles_of c.args.level.now.handles in
+    let k = c.args.first.column in
+    let n = c.in_ok-line.ensures in
+    decides_err (sequence_with cs (Unit {0}) h (props_of c.args.properties) c.args.level.now.room k) (AfterSequence cs k) (place_of s c.args.first.at) Here (λ line. place_of s line.start) c.from_residual-in_err-next_dash.result _ c.from_residual-in_err-next_dash.ensures.1
+    (inr (rest_refused (c.entries.invariant.goes _ n.decides) (seq_further s h (c.args.level.now.room - 1) c.in_ok-line.line k n.ends.line c.in_err-next_dash.ensures.further)))
+
+pub collections::read_sequence-returns-in-None-clause-decides : goal.collections::read_sequence-returns-in-None-clause-decides
+collections::read_sequence-returns-in-None-clause-decides g t c =
+    let s = c.args.source.now in
+    let cs = text_of s in
+    let k = c.args.first.column in
+    let n = c.in_ok-line.ensures in
+    let none = none_is (Dash cs k (place_of s c.in_ok-line.line.start) → ⊥) c.in_ok-next_dash.field-0 c.in-None.is c.in_ok-next_dash.ensures.none in
+    rest_goes (c.entries.invariant.goes _ n.decides) (seq_done cs (handles_of c.args.level.now.handles) (c.args.level.now.room - 1) k _ n.ends.line.stuck none)
+
+pub collections::read_sequence-returns-in-None-clause-ends : goal.collections::read_sequence-returns-in-None-clause-ends
+collections::read_sequence-returns-in-None-clause-ends g t c =
+    let n = c.in_ok-line.ensures.ends in
+    record { line = n.line; onward = omega (arith, c.entries.invariant.onward, n.onward); after = n.after }
 
 -- ---- mappings
 
@@ -319,158 +330,91 @@ pub collections::read_entries-entries-init : goal.collections::read_entries-entr
 collections::read_entries-entries-init g t c =
     let cs = text_of c.args.source.now in
     let h = handles_of c.args.level.now.handles in
-    let n = c.in_ok-line.ensures.reads in
+    let r = c.args.level.now.room - 1 in
+    let k = c.args.column in
     record {
-      line = c.in_ok-line.ensures.ends.line;
-      onward = c.in_ok-line.ensures.ends.onward;
-      reads = (n.0, n.1, joined_start (value_rest cs (Unit {0}) h (c.args.level.now.room - 1) (c.args.column + 1) block_out) (indent cs c.args.column ▸ map_entry_at cs (Unit {0}) h (c.args.level.now.room - 1) c.args.column) n.2);
-      after = c.in_ok-line.ensures.ends.after;
-      rest = map_first cs h (c.args.level.now.room - 1) c.args.column _ _ c.in_ok-line.ensures.decides;
+      inside = c.requires;
+      onward = omega arith;
+      reads = ([], puts_none c.args.out.now, λ j vs v. joined_start (value_rest cs (Unit {0}) h r (k + 1) block_out) (indent cs k ▸ map_entry_at cs (Unit {0}) h r k) v);
+      goes = λ x v. map_first cs h r k _ x v;
+      none = λ v. map_no_first cs h r k _ v;
     }
 
 pub collections::read_entries-entries-preserved : goal.collections::read_entries-entries-preserved
 collections::read_entries-entries-preserved g t c =
     let s = c.args.source.now in
     let cs = text_of s in
-    let h = handles_of c.args.level.now.handles in
+    let level = entries_level c.args.level.now c.args.column in
+    let h = handles_of level.handles in
+    let k = c.args.column in
     let v = c.entries.invariant in
-    let k = c.in_ok-colon.ensures.reads in
-    let n = c.in_ok-line-2.ensures.reads in
-    let next = on_true_at c.in_ok-goes_on.field-0 c.if-not-branch.false c.in_ok-goes_on.ensures.next in
+    let line = c.in_ok-line.line in
+    let n = c.in_ok-line.ensures in
+    let key = perhaps_some (λ _. key_rule s level) (place_of s line.first) (place_of s) c.read_value.new.out c.next_colon.new.out c.in_ok-next_colon.field-0 c.in-Some.next c.in-Some.is c.in_ok-next_colon.ensures.reads in
+    let colon = key.2 in
+    let next = subst (λ o. DecidesNextKey s level line k (Ok o)) c.in-Some.is c.in_ok-next_colon.ensures.decides in
+    let rest = v.goes _ n.decides in
+    let same = same_line s h level.room line k n.ends.line next.1.column in
+    let less = not_less s h level.room line k n.ends.line next.1.column next.1.some next.1.no_mark in
     record {
-      line = c.in_ok-line-2.ensures.ends.line;
-      onward = omega (arith, v.onward, v.line.wide, c.in_ok-colon.ensures.ends.onward, c.in_ok-line-2.ensures.ends.onward);
+      inside = record {
+        border = next.0.border;
+        low = omega (arith, c.requires.low, v.onward, n.ends.onward, n.ends.line.wide, next.0.onward);
+        inside = colon_inside cs colon.0 _ colon.2.0 colon.2.1;
+        some = v.inside.some;
+      };
+      onward = omega (arith, v.onward, n.ends.onward, n.ends.line.wide, next.0.onward);
       reads = (
-        v.reads.0 ++ (k.0 ++ n.0),
-        puts_on c.args.out.now c.entries.out _ v.reads.0 (k.0 ++ n.0) v.reads.1 (puts_on _ c.read_key.new.out _ k.0 n.0 k.1 n.1),
-        joined_more (value_rest cs (Unit {0}) h (c.args.level.now.room - 1) (c.args.column + 1) block_out) (indent cs c.args.column ▸ map_entry_at cs (Unit {0}) h (c.args.level.now.room - 1) c.args.column) v.reads.2 (
-          place_of s c.entries.line.first,
-          subst (λ x. indent cs x (place_of s c.entries.line.start) (place_of s c.entries.line.first)) next.column v.line.spaces,
-          key_entry cs (Unit {0}) h (c.args.level.now.room - 1) c.args.column _ _ _ k.0 n.0 k.2 n.2,
-        ),
+        (v.reads.0 ++ n.reads.0) ++ key.0,
+        puts_on c.args.out.now c.read_value.new.out _ (v.reads.0 ++ n.reads.0) key.0 (puts_on c.args.out.now c.entries.out _ v.reads.0 n.reads.0 v.reads.1 n.reads.1) key.1,
+        λ j vs u. more_pairs cs h level.room k _ _ _ _ j (v.reads.0 ++ n.reads.0) key.0 vs (v.reads.2 _ n.reads.0 n.reads.2) same key.2 u,
       );
-      after = c.in_ok-line-2.ensures.ends.after;
-      rest = rest_rest v.rest (map_more cs h (c.args.level.now.room - 1) c.args.column _ _ _ _ (same_line s h (c.args.level.now.room - 1) c.entries.line c.args.column v.line next.column) v.line.stuck
-          (not_less s h (c.args.level.now.room - 1) c.entries.line c.args.column v.line next.column next.some next.no_mark)
-          c.in_ok-colon.ensures.decides c.in_ok-line-2.ensures.decides);
+      goes = λ x u. rest_rest rest (map_more cs h level.room k _ _ _ x same n.ends.line.stuck less next.2 u);
+      none = λ u. rest_refused rest (map_no_value cs h level.room k _ _ _ same n.ends.line.stuck less next.2 u);
     }
 
--- ---- nodes
-
-pub nodes::read_node-read_dressed-requires : goal.nodes::read_node-read_dressed-requires
-nodes::read_node-read_dressed-requires g t c = λ κs l. (
-  omega arith,
-  (l, record { node = c.requires; own = c.in_ok-own.ensures.stand; goes_on = inl (on_true_at c.is_none.result c.if-is_none.true c.is_none.ensures.yes) }),
-)
-
-pub nodes::read_node-read_dressed-requires-in-None : goal.nodes::read_node-read_dressed-requires-in-None
-nodes::read_node-read_dressed-requires-in-None g t c = λ κs l. (
-  omega arith,
-  (l, record { node = c.requires; own = c.in_ok-own.ensures.stand; goes_on = inr c.in-None.ensures.none }),
-)
-
-pub nodes::read_node-read_under-requires : goal.nodes::read_node-read_under-requires
-nodes::read_node-read_under-requires g t c =
+pub collections::read_entries-returns-in-None-clause-reads : goal.collections::read_entries-returns-in-None-clause-reads
+collections::read_entries-returns-in-None-clause-reads g t c =
     let s = c.args.source.now in
-    let cs = text_of s in
-    let h = handles_of c.args.site.now.level.now.handles in
-    let some = on_false_at c.is_none.result c.if-is_none.false c.is_none.ensures.no in
-    let apart = on_false_at c.overlaps.result c.if-overlaps.false c.overlaps.ensures.no in
-    let fewer = fewer_left (props_of c.args.outer) (props_of c.in_ok-own.own) apart some in
-    let marks = above_own cs h c.args.site.now.level.now.least c.args.site.now.column _ _ _ (props_of c.args.outer) (props_of c.in_ok-own.own) c.requires.above
-    (own_marks cs h 0 block_key _ _ (props_of c.in_ok-own.own) c.in_ok-own.ensures.stand.own some) apart in
-    let comments = moved s _ _ _ c.line_at-line.ensures.start c.in-Some.ensures.some in λ κs l. (
-      omega (arith, fewer, ap properties_left c.and.ensures),
-      (
-        l,
-        record {
-          line = c.line_at-line.ensures.line;
-          border = c.requires.start;
-          low = c.requires.low;
-          order = omega (arith, c.requires.order, c.in_ok-own.ensures.stand.onward, c.in-Some.ensures.onward, c.line_at-line.ensures.start);
-          block = c.requires.block;
-          marks = subst (SomeProperties cs h c.args.site.now.level.now.least flow_out (place_of s c.args.site.now.from) (place_of s c.in_ok-own.end)) (sym c.and.ensures) marks;
-          comments = comments;
-          after = comments_after cs _ _ comments;
-          above = subst (Above cs h c.args.site.now.level.now.least (place_of s c.args.site.now.from) (place_of s c.in_ok-own.end)) (sym c.and.ensures)
-              (over_above cs h c.args.site.now.level.now.room c.args.site.now.level.now.least (context_of c.args.site.now.level.now.context) c.requires.block c.args.site.now.column _ _ (props_of c.args.outer) _ _ (props_of c.in_ok-own.own)
-              (places_up s _ _ c.requires.border c.in_ok-own.ensures.stand.border c.in_ok-own.ensures.stand.onward) (own_marks cs h 0 block_key _ _ (props_of c.in_ok-own.own) c.in_ok-own.ensures.stand.own some) c.in_ok-own.ensures.stand.all
-              c.in-Some.ensures.some c.requires.above apart);
-        },
-      ),
+    let v = c.entries.invariant.reads in
+    let n = c.in_ok-line.ensures.reads in
+    let kept = perhaps_none (λ _. key_rule s (entries_level c.args.level.now c.args.column)) (place_of s c.in_ok-line.line.first) (place_of s) c.read_value.new.out c.next_colon.new.out c.in_ok-next_colon.field-0 c.in-None.is c.in_ok-next_colon.ensures.reads in (
+      v.0 ++ n.0,
+      puts_kept c.args.out.now c.read_value.new.out _ (v.0 ++ n.0) (puts_on c.args.out.now c.entries.out _ v.0 n.0 v.1 n.1) kept,
+      v.2 _ n.0 n.2,
     )
 
-pub nodes::read_node-returns-else-overlaps-clause-reads : goal.nodes::read_node-returns-else-overlaps-clause-reads
-nodes::read_node-returns-else-overlaps-clause-reads g t c =
+pub collections::read_entries-returns-in_err-line-clause-decides : goal.collections::read_entries-returns-in_err-line-clause-decides
+collections::read_entries-returns-in_err-line-clause-decides g t c =
     let s = c.args.source.now in
     let cs = text_of s in
-    let h = handles_of c.args.site.now.level.now.handles in
-    let o = column_of (props_of c.args.outer) c.args.site.now.column in
-    appends_by (λ _. node_rest cs (Unit {0}) h c.args.site.now.level.now.room c.args.site.now.level.now.least (context_of c.args.site.now.level.now.context) None) (λ _. node_rest cs (Unit {0}) h c.args.site.now.level.now.room c.args.site.now.level.now.least (context_of c.args.site.now.level.now.context) o)
-    (place_of s c.args.site.now.from) (place_of s c.args.site.now.from) (λ line. place_of s line.start) (holds_of g.K.Keeper.holds) _ _ c.read_under.result
-    (λ x es r. any_column cs (Unit {0}) h c.args.site.now.level.now.room c.args.site.now.level.now.least (context_of c.args.site.now.level.now.context) o _ _ es r) c.read_under.ensures.reads
+    let k = c.args.column in
+    decides_err (entries_rest cs (Unit {0}) (handles_of c.args.level.now.handles) (c.args.level.now.room - 1) k) (AfterMapping cs k) (place_of s c.args.after) Here (λ line. place_of s line.start) c.from_residual.result _ c.from_residual.ensures.1
+    (or_else c.entries.invariant.none c.in_err-line.ensures.decides)
 
-pub nodes::read_dressed-returns-in_ok-line-in-Some-clause-reads : goal.nodes::read_dressed-returns-in_ok-line-in-Some-clause-reads
-nodes::read_dressed-returns-in_ok-line-in-Some-clause-reads g t c =
+pub collections::read_entries-returns-in_err-next_colon-clause-decides : goal.collections::read_entries-returns-in_err-next_colon-clause-decides
+collections::read_entries-returns-in_err-next_colon-clause-decides g t c =
     let s = c.args.source.now in
     let cs = text_of s in
-    let h = handles_of c.args.site.now.level.now.handles in
-    let n = c.in_ok-line-in-Some.ensures.reads in
-    let p = props_of c.args.outer in
-    let q = props_of c.args.head.own in
-    let apart = on_false_at c.overlaps.result c.if-overlaps.false c.overlaps.ensures.no in (
-      n.0,
-      n.1,
-      block_scalar cs (Unit {0}) h c.args.site.now.level.now.room c.args.site.now.level.now.least (context_of c.args.site.now.level.now.context) c.args.site.now.column (column_of p c.args.site.now.column) _ _ _ _ p q n.0 c.requires.node.above
-          (follows_before cs h _ _ _ q c.requires.own.own c.in-Some.ensures.sign.follows) apart
-          (subst (λ x. block_scalar_rest cs x c.args.site.now.level.now.least (place_of s c.in-Some.sign.at) (place_of s c.in_ok-line-in-Some.line.start) n.0) c.and-both.ensures n.2),
-    )
+    let h = handles_of c.args.level.now.handles in
+    let r = c.args.level.now.room - 1 in
+    let k = c.args.column in
+    let n = c.in_ok-line.ensures in
+    decides_err (entries_rest cs (Unit {0}) h r k) (AfterMapping cs k) (place_of s c.args.after) Here (λ line. place_of s line.start) c.from_residual-in_err-next_colon.result _ c.from_residual-in_err-next_colon.ensures.1
+    (or_else (λ why. rest_refused (c.entries.invariant.goes _ n.decides) (map_no_more s h r c.in_ok-line.line k n.ends.line why)) c.in_err-next_colon.ensures.decides)
 
-pub nodes::read_keyed-returns-in_ok-line-in-None-clause-reads : goal.nodes::read_keyed-returns-in_ok-line-in-None-clause-reads
-nodes::read_keyed-returns-in_ok-line-in-None-clause-reads g t c =
+pub collections::read_entries-returns-in-None-clause-decides : goal.collections::read_entries-returns-in-None-clause-decides
+collections::read_entries-returns-in-None-clause-decides g t c =
     let s = c.args.source.now in
-    let cs = text_of s in
-    let h = handles_of c.args.site.now.level.now.handles in
-    let k = c.in_ok-node.ensures.reads in
-    let n = c.in_ok-line-in-None.ensures in
-    let p = props_of c.args.outer in
-    let q = props_of c.args.head.own in (
-      dressed (both_props p q) k.0,
-      puts_altered c.args.out.now c.read_in_block.new.out c.finish_node.new.out c.mark-start.result (dressed (both_props p q)) k.0 c.mark-start.ensures (puts_after c.args.out.now c.announce.new.self c.read_in_block.new.out k.0 c.announce.ensures k.1) n.dressed,
-      no_key cs (Unit {0}) h c.args.site.now.level.now.room c.in_ok-node.node.deep c.args.site.now.level.now.least (context_of c.args.site.now.level.now.context) c.in_ok-node.node.kind c.args.site.now.column (column_of p c.args.site.now.column) _ _ _ _ _ p q k.0
-          c.requires.dressed.node.above c.requires.dressed.own.own k.2 c.in_ok-node.ensures.ends.within n.ends.apart n.ends.bears n.ends.comments,
-    )
+    let level = entries_level c.args.level.now c.args.column in
+    let n = c.in_ok-line.ensures in
+    let none = subst (λ o. DecidesNextKey s level c.in_ok-line.line c.args.column (Ok o)) c.in-None.is c.in_ok-next_colon.ensures.decides in
+    rest_goes (c.entries.invariant.goes _ n.decides) (map_done (text_of s) (handles_of level.handles) level.room c.args.column _ n.ends.line.stuck none)
 
-pub nodes::read_keyed-returns-in_ok-push_mapping_end-in-Some-clause-reads : goal.nodes::read_keyed-returns-in_ok-push_mapping_end-in-Some-clause-reads
-nodes::read_keyed-returns-in_ok-push_mapping_end-in-Some-clause-reads g t c =
-    let s = c.args.source.now in
-    let cs = text_of s in
-    let h = handles_of c.args.site.now.level.now.handles in
-    let p = props_of c.args.outer in
-    let q = props_of c.args.head.own in
-    let first_read = c.in_ok-node.ensures.reads in
-    let n = c.in_ok-line-in-Some.ensures.reads in
-    let r = c.args.site.now.level.now.room - 1 in
-    let first = map_start false p in
-    let k = c.in_ok-fit_key-in-Some.ensures.reads first_read.0 first_read.2 in
-    let ks = dressed q k.2 in
-    let e : c.args.site.now.level.now.room ≡ suc r = omega (arith, k.3) in
-    let found = found_is (λ z. IsFirstColon s c.args.head.at c.in_ok-node.node.end c.args.site.now.column z.0 z.1) c.in_ok-first_colon.field-0 _ c.in-Some.is c.in_ok-first_colon.ensures.found in
-    let column = found.some in
-    let colon = found.colon in
-    let put = puts_after c.args.out.now c.announce.new.self c.read_in_block.new.out first_read.0 c.announce.ensures first_read.1 in
-    let again = puts_become c.args.out.now c.read_in_block.new.out c.fit_key.new.out c.mark-start.result first_read.0 k.2 c.mark-start.ensures put k.4 in
-    let own = puts_altered c.args.out.now c.fit_key.new.out c.dress.new.self c.mark-start.result (dressed q) k.2 c.mark-start.ensures again c.dress.ensures in
-    let begun = puts_altered c.args.out.now c.dress.new.self c.insert_block_mapping.new.out c.mark-start.result (λ es. first ∷ es) ks c.mark-start.ensures own c.in_ok-insert_block_mapping-in-Some.ensures.ok in
-    let flow = bare_flow cs (Unit {0}) h k.0 k.1 c.args.site.now.level.now.least flow_out q _ _ _ k.2 k.5 in
-    let key = value_key cs (Unit {0}) h r c.args.site.now.level.now.least k.0 k.1 _ _ _ ks flow (omega (arith, k.3)) colon in
-    let whole = mapping_done cs (Unit {0}) h p r c.args.site.now.level.now.room c.in-Some.column _ _ _ ks n.0 e key n.2 in (
-      first ∷ ((ks ++ n.0) ++ (mapping_end ∷ [])),
-      puts_on c.args.out.now c.read_entries.new.out _ (first ∷ (ks ++ n.0)) (mapping_end ∷ [])
-          (puts_on c.args.out.now c.insert_block_mapping.new.out _ (first ∷ ks) n.0 begun n.1)
-          c.in_ok-push_mapping_end-in-Some.ensures.ok,
-      keyed cs (Unit {0}) h c.args.site.now.level.now.room c.args.site.now.level.now.least c.in-Some.column (context_of c.args.site.now.level.now.context) c.args.site.now.column _ _ _ p _ c.requires.dressed.node.above column whole,
-    )
+pub collections::read_entries-returns-in-None-clause-ends : goal.collections::read_entries-returns-in-None-clause-ends
+collections::read_entries-returns-in-None-clause-ends g t c =
+    let n = c.in_ok-line.ensures.ends in
+    record { line = n.line; onward = omega (arith, c.entries.invariant.onward, n.onward); after = n.after }
 
 -- ---- what the calls decide
 
@@ -587,28 +531,15 @@ values::read_indented-returns-in-None-dash-clause-decides g t c =
 
 -- ---- lines below
 
-pub values::read_below-returns-then-not-has_content-clause-decides : goal.values::read_below-returns-then-not-has_content-clause-decides
-values::read_below-returns-then-not-has_content-clause-decides g t c =
+pub values::read_below-returns-in_ok-push_nothing-in-Nothing-clause-decides : goal.values::read_below-returns-in_ok-push_nothing-in-Nothing-clause-decides
+values::read_below-returns-in_ok-push_nothing-in-Nothing-clause-decides g t c =
     let s = c.args.source.now in
     let line = c.requires.line in
-    lines_over (text_of s) (handles_of c.args.level.now.handles) c.args.level.now.room c.args.level.now.least (context_of c.args.level.now.context) c.requires.block _ c.args.line.column _ line.spaces line.all line.stuck
-    (no_content s c.args.line line c.requires.after (on_false_at c.has_content.result c.if-not-has_content.true c.has_content.ensures.no))
+    lines_none (text_of s) (handles_of c.args.level.now.handles) c.args.level.now.room c.args.level.now.least (context_of c.args.level.now.context) c.requires.block _ c.args.line.column _ line.spaces line.all line.stuck
+    c.in-Nothing.ensures
 
-pub values::read_below-returns-then-line-sequence_column-clause-decides : goal.values::read_below-returns-then-line-sequence_column-clause-decides
-values::read_below-returns-then-line-sequence_column-clause-decides g t c =
-    let s = c.args.source.now in
-    let line = c.requires.line in
-    lines_dash_short (text_of s) (handles_of c.args.level.now.handles) c.args.level.now.room c.args.level.now.least (context_of c.args.level.now.context) c.requires.block _ c.args.line.column _ line.spaces line.all line.stuck
-    (dash_here s _ _ c.in-Some.ensures.some) (subst (λ n. c.args.line.column < n) c.sequence_column.ensures c.if-line-sequence_column.true)
-
-pub values::read_below-returns-then-line-level-clause-decides : goal.values::read_below-returns-then-line-level-clause-decides
-values::read_below-returns-then-line-level-clause-decides g t c =
-    let s = c.args.source.now in
-    let line = c.requires.line in
-    lines_short (text_of s) (handles_of c.args.level.now.handles) c.args.level.now.room c.args.level.now.least (context_of c.args.level.now.context) c.requires.block _ c.args.line.column _ line.spaces line.all line.stuck c.in-None.ensures.none c.if-line-level.true
-
-pub values::read_below-returns-else-line-sequence_column-clause-decides : goal.values::read_below-returns-else-line-sequence_column-clause-decides
-values::read_below-returns-else-line-sequence_column-clause-decides g t c =
+pub values::read_below-returns-in-Sequence-clause-decides : goal.values::read_below-returns-in-Sequence-clause-decides
+values::read_below-returns-in-Sequence-clause-decides g t c =
     let s = c.args.source.now in
     let cs = text_of s in
     let h = handles_of c.args.level.now.handles in
@@ -617,49 +548,35 @@ values::read_below-returns-else-line-sequence_column-clause-decides g t c =
     let line = c.requires.line in
     let i = place_of s c.args.line.first in
     decides_rest (line_rest cs (Unit {0}) h c.args.level.now.room c.args.level.now.least x) (AfterNode cs c.args.level.now.least x) (place_of s c.args.line.start) (sequence_with cs (Unit {0}) h no_props c.args.level.now.room k) (AfterSequence cs k) i Here (λ line. place_of s line.start) c.read_sequence.result
-    (lines_dash cs h c.args.level.now.room c.args.level.now.least x c.requires.block _ k _ line.spaces line.all line.stuck (dash_here s _ _ c.in-Some.ensures.some) (subst (λ n. n ≤ k) c.sequence_column.ensures c.if-line-sequence_column.false))
+    (lines_dash cs h c.args.level.now.room c.args.level.now.least x c.requires.block _ k _ line.spaces line.all line.stuck (dash_here s _ _ c.in-Sequence.ensures.0) c.in-Sequence.ensures.1)
     (subst (λ p. Decides (sequence_with cs (Unit {0}) h p c.args.level.now.room k) (AfterSequence cs k) i Here (λ line. place_of s line.start) c.read_sequence.result) c.none-outer.ensures c.read_sequence.ensures.decides)
 
-pub values::read_below-returns-else-line-level-clause-decides : goal.values::read_below-returns-else-line-level-clause-decides
-values::read_below-returns-else-line-level-clause-decides g t c =
+pub values::read_below-returns-in-Node-clause-decides : goal.values::read_below-returns-in-Node-clause-decides
+values::read_below-returns-in-Node-clause-decides g t c =
     let s = c.args.source.now in
     let cs = text_of s in
     let h = handles_of c.args.level.now.handles in
     let x = context_of c.args.level.now.context in
     let k = c.args.line.column in
     let line = c.requires.line in
+    let n = c.in-Node.ensures in
     let i = place_of s c.args.line.first in
     let p = props_of c.none-outer.result in
-    let yes = on_true_at c.has_content.result c.if-not-has_content.false c.has_content.ensures.yes in
     decides_rest (line_rest cs (Unit {0}) h c.args.level.now.room c.args.level.now.least x) (AfterNode cs c.args.level.now.least x) (place_of s c.args.line.start) (node_rest cs (Unit {0}) h c.args.level.now.room c.args.level.now.least x (Some k)) (AfterNode cs c.args.level.now.least x) i Here (λ line. place_of s line.start) c.read_node.result
-    (lines_node cs h c.args.level.now.room c.args.level.now.least x c.requires.block _ k _ line.spaces line.all line.stuck c.in-None.ensures.none c.if-line-level.false (no_end s c.args.line line yes.0) (no_mark s c.args.line line yes.1))
+    (lines_node cs h c.args.level.now.room c.args.level.now.least x c.requires.block _ k _ line.spaces line.all line.stuck n.no_dash n.far n.some n.no_mark)
     (subst (λ o. Decides (node_rest cs (Unit {0}) h c.args.level.now.room c.args.level.now.least x o) (AfterNode cs c.args.level.now.least x) i Here (λ line. place_of s line.start) c.read_node.result) (column_free p (Some k) c.none-outer.ensures) c.read_node.ensures.decides)
 
 -- ---- lines below properties
 
-pub values::read_under-returns-then-not-has_content-clause-decides : goal.values::read_under-returns-then-not-has_content-clause-decides
-values::read_under-returns-then-not-has_content-clause-decides g t c =
+pub values::read_under-returns-in_ok-push_lone-in-Nothing-clause-decides : goal.values::read_under-returns-in_ok-push_lone-in-Nothing-clause-decides
+values::read_under-returns-in_ok-push_lone-in-Nothing-clause-decides g t c =
     let s = c.args.source.now in
     let line = c.requires.line in
-    under_over (text_of s) (handles_of c.args.level.now.handles) c.args.level.now.room c.args.level.now.least (context_of c.args.level.now.context) c.requires.block (props_of c.args.above.own) _ _ _ c.args.line.column _ c.requires.above c.requires.comments line.stuck line.spaces line.all
-    (no_content s c.args.line line c.requires.after (on_false_at c.has_content.result c.if-not-has_content.true c.has_content.ensures.no))
+    under_none (text_of s) (handles_of c.args.level.now.handles) c.args.level.now.room c.args.level.now.least (context_of c.args.level.now.context) c.requires.block (props_of c.args.above.own) _ _ _ c.args.line.column _ c.requires.above c.requires.comments line.stuck line.spaces line.all
+    c.in-Nothing.ensures
 
-pub values::read_under-returns-then-line-sequence_column-clause-decides : goal.values::read_under-returns-then-line-sequence_column-clause-decides
-values::read_under-returns-then-line-sequence_column-clause-decides g t c =
-    let s = c.args.source.now in
-    let line = c.requires.line in
-    under_dash_short (text_of s) (handles_of c.args.level.now.handles) c.args.level.now.room c.args.level.now.least (context_of c.args.level.now.context) c.requires.block (props_of c.args.above.own) _ _ _ c.args.line.column _ c.requires.above c.requires.comments line.stuck line.spaces line.all
-    (dash_here s _ _ c.in-Some.ensures.some) (subst (λ n. c.args.line.column < n) c.sequence_column.ensures c.if-line-sequence_column.true)
-
-pub values::read_under-returns-then-line-level-clause-decides : goal.values::read_under-returns-then-line-level-clause-decides
-values::read_under-returns-then-line-level-clause-decides g t c =
-    let s = c.args.source.now in
-    let line = c.requires.line in
-    under_short (text_of s) (handles_of c.args.level.now.handles) c.args.level.now.room c.args.level.now.least (context_of c.args.level.now.context) c.requires.block (props_of c.args.above.own) _ _ _ c.args.line.column _ c.requires.above c.requires.comments line.stuck line.spaces line.all
-    c.in-None.ensures.none c.if-line-level.true
-
-pub values::read_under-returns-else-line-sequence_column-clause-decides : goal.values::read_under-returns-else-line-sequence_column-clause-decides
-values::read_under-returns-else-line-sequence_column-clause-decides g t c =
+pub values::read_under-returns-in-Sequence-clause-decides : goal.values::read_under-returns-in-Sequence-clause-decides
+values::read_under-returns-in-Sequence-clause-decides g t c =
     let s = c.args.source.now in
     let cs = text_of s in
     let h = handles_of c.args.level.now.handles in
@@ -668,11 +585,11 @@ values::read_under-returns-else-line-sequence_column-clause-decides g t c =
     let line = c.requires.line in
     decides_rest (node_rest cs (Unit {0}) h c.args.level.now.room c.args.level.now.least x None) (AfterNode cs c.args.level.now.least x) (place_of s c.args.above.at) (sequence_with cs (Unit {0}) h (props_of c.args.above.own) c.args.level.now.room k) (AfterSequence cs k) (place_of s c.args.line.first)
     Here (λ line. place_of s line.start) c.read_sequence.result
-    (under_dash cs h c.args.level.now.room c.args.level.now.least x c.requires.block (props_of c.args.above.own) _ _ _ k _ c.requires.above c.requires.comments line.stuck line.spaces line.all (dash_here s _ _ c.in-Some.ensures.some)
-    (subst (λ n. n ≤ k) c.sequence_column.ensures c.if-line-sequence_column.false)) c.read_sequence.ensures.decides
+    (under_dash cs h c.args.level.now.room c.args.level.now.least x c.requires.block (props_of c.args.above.own) _ _ _ k _ c.requires.above c.requires.comments line.stuck line.spaces line.all (dash_here s _ _ c.in-Sequence.ensures.0)
+    c.in-Sequence.ensures.1) c.read_sequence.ensures.decides
 
-pub values::read_under-returns-else-line-level-clause-decides : goal.values::read_under-returns-else-line-level-clause-decides
-values::read_under-returns-else-line-level-clause-decides g t c =
+pub values::read_under-returns-in-Node-clause-decides : goal.values::read_under-returns-in-Node-clause-decides
+values::read_under-returns-in-Node-clause-decides g t c =
     let s = c.args.source.now in
     let cs = text_of s in
     let h = handles_of c.args.level.now.handles in
@@ -680,367 +597,87 @@ values::read_under-returns-else-line-level-clause-decides g t c =
     subst (λ o. Decides (node_rest cs (Unit {0}) h c.args.level.now.room c.args.level.now.least x o) (AfterNode cs c.args.level.now.least x) (place_of s c.args.above.at) Here (λ line. place_of s line.start) c.read_node.result)
     (marked_column cs (Unit {0}) h c.args.level.now.least _ _ (props_of c.args.above.own) (Some c.args.line.column) c.requires.marks) c.read_node.ensures.decides
 
--- ---- sequences
+-- ---- a node of which the start is read
 
-pub collections::read_sequence-read_indented-requires : goal.collections::read_sequence-read_indented-requires
-collections::read_sequence-read_indented-requires g t c = λ κs l. (
-  omega (arith, c.if-level-eq0.false),
-  (
-    l,
-    record {
-      border = c.requires.dash.dash.border;
-      low = omega (arith, c.requires.low, c.requires.dash.dash.forward);
-      inside = dash_inside c.args.source.now _ _ c.requires.dash;
-      some = omega (arith, c.if-level-eq0.false);
-    },
-  ),
-)
-
-pub collections::read_sequence-returns-in_err-line-clause-decides : goal.collections::read_sequence-returns-in_err-line-clause-decides
-collections::read_sequence-returns-in_err-line-clause-decides g t c =
-    let s = c.args.source.now in
-    let cs = text_of s in
-    let h = handles_of c.args.level.now.handles in
-    let k = c.args.first.column in
-    let p = props_of c.args.properties in
-    decides_err (sequence_with cs (Unit {0}) h p c.args.level.now.room k) (AfterSequence cs k) (place_of s c.args.first.at) Here (λ line. place_of s line.start) c.from_residual-in_err-line.result _ c.from_residual-in_err-line.ensures.1
-    (or_else (seq_no_first cs h (c.args.level.now.room - 1) k c.args.level.now.room p _ _ (omega (arith, c.if-level-eq0.false)) c.requires.dash.dash.next) c.in_err-line.ensures.decides)
-
-pub collections::read_sequence-returns-in_err-next_dash-clause-decides : goal.collections::read_sequence-returns-in_err-next_dash-clause-decides
-collections::read_sequence-returns-in_err-next_dash-clause-decides g t c =
-    let s = c.args.source.now in
-    let cs = text_of s in
-    let h = handles_of c.args.level.now.handles in
-    let k = c.args.first.column in
-    let v = c.entries.invariant in
-    decides_err (sequence_with cs (Unit {0}) h (props_of c.args.properties) c.args.level.now.room k) (AfterSequence cs k) (place_of s c.args.first.at) Here (λ line. place_of s line.start) c.from_residual-in_err-next_dash.result _ c.from_residual-in_err-next_dash.ensures.1
-    (inr (rest_refused v.rest (seq_further s h (c.args.level.now.room - 1) c.entries.line k v.line c.in_err-next_dash.ensures.further)))
-
-pub collections::read_sequence-returns-in-None-clause-decides : goal.collections::read_sequence-returns-in-None-clause-decides
-collections::read_sequence-returns-in-None-clause-decides g t c =
-    let s = c.args.source.now in
-    let cs = text_of s in
-    let k = c.args.first.column in
-    let v = c.entries.invariant in
-    let none = none_is (Dash cs k (place_of s c.entries.line.start) → ⊥) c.in_ok-next_dash.field-0 c.in-None.is c.in_ok-next_dash.ensures.none in
-    rest_goes v.rest (seq_done cs (handles_of c.args.level.now.handles) (c.args.level.now.room - 1) k _ v.line.stuck none)
-
-pub collections::read_sequence-read_indented-requires-in-Some : goal.collections::read_sequence-read_indented-requires-in-Some
-collections::read_sequence-read_indented-requires-in-Some g t c = λ κs l.
-    let s = c.args.source.now in
-    let v = c.entries.invariant in
-    let d = (found_is (IsNextDash s c.entries.line c.args.first.column) c.in_ok-next_dash.field-0 c.in-Some.after c.in-Some.is c.in_ok-next_dash.ensures.found).dash in (
-      omega (arith, c.if-level-eq0.false),
-      (
-        l,
-        record {
-          border = d.dash.border;
-          low = omega (arith, c.requires.low, v.onward, v.line.wide, d.dash.forward);
-          inside = dash_inside s _ _ d;
-          some = omega (arith, c.if-level-eq0.false);
-        },
-      ),
+pub nodes::read_node-read_entries-requires : goal.nodes::read_node-read_entries-requires
+nodes::read_node-read_entries-requires g t c =
+    let opened = subst (EndsOpened c.args.source.now c.args.site.now c.args.outer) c.in-Mapping.is c.in_ok-opened.ensures.ends in λ κs l. (
+      omega (arith, opened.0.some),
+      (l, opened.0),
     )
 
-pub collections::read_sequence-returns-in_err-line-in-Some-clause-decides : goal.collections::read_sequence-returns-in_err-line-in-Some-clause-decides
-collections::read_sequence-returns-in_err-line-in-Some-clause-decides g t c =
+pub nodes::read_node-returns-in-Whole-clause-reads : goal.nodes::read_node-returns-in-Whole-clause-reads
+nodes::read_node-returns-in-Whole-clause-reads g t c =
     let s = c.args.source.now in
-    let cs = text_of s in
-    let h = handles_of c.args.level.now.handles in
-    let k = c.args.first.column in
-    let v = c.entries.invariant in
-    let r = c.args.level.now.room - 1 in
-    let found = found_is (IsNextDash s c.entries.line c.args.first.column) c.in_ok-next_dash.field-0 c.in-Some.after c.in-Some.is c.in_ok-next_dash.ensures.found in
-    let d = found.dash in
-    let e = found.column in
-    decides_err (sequence_with cs (Unit {0}) h (props_of c.args.properties) c.args.level.now.room k) (AfterSequence cs k) (place_of s c.args.first.at) Here (λ line. place_of s line.start) c.from_residual-in_err-line-in-Some.result _ c.from_residual-in_err-line-in-Some.ensures.1
-    (or_else (λ n. rest_refused v.rest (seq_no_more cs h r k _ _ _ (same_line s h r c.entries.line k v.line e) (dash_here s c.entries.line.first c.in-Some.after d) d.dash.next n)) c.in_err-line-in-Some.ensures.decides)
-
--- ---- mappings
-
-pub collections::read_entries-returns-in_err-line-clause-decides : goal.collections::read_entries-returns-in_err-line-clause-decides
-collections::read_entries-returns-in_err-line-clause-decides g t c =
-    let s = c.args.source.now in
-    let cs = text_of s in
-    let h = handles_of c.args.level.now.handles in
-    let k = c.args.column in
-    decides_err (entries_rest cs (Unit {0}) h (c.args.level.now.room - 1) k) (AfterMapping cs k) (place_of s c.args.after) Here (λ line. place_of s line.start) c.from_residual.result _ c.from_residual.ensures.1
-    (or_else (map_no_first cs h (c.args.level.now.room - 1) k _) c.in_err-line.ensures.decides)
-
-pub collections::read_entries-returns-in_err-goes_on-clause-decides : goal.collections::read_entries-returns-in_err-goes_on-clause-decides
-collections::read_entries-returns-in_err-goes_on-clause-decides g t c =
-    let s = c.args.source.now in
-    let cs = text_of s in
-    let h = handles_of c.args.level.now.handles in
-    let k = c.args.column in
-    let v = c.entries.invariant in
-    decides_err (entries_rest cs (Unit {0}) h (c.args.level.now.room - 1) k) (AfterMapping cs k) (place_of s c.args.after) Here (λ line. place_of s line.start) c.from_residual-in_err-goes_on.result _ c.from_residual-in_err-goes_on.ensures.1
-    (inr (rest_refused v.rest (map_further s h (c.args.level.now.room - 1) c.entries.line k v.line c.in_err-goes_on.ensures.further)))
-
-pub collections::read_entries-returns-then-not-branch-clause-decides : goal.collections::read_entries-returns-then-not-branch-clause-decides
-collections::read_entries-returns-then-not-branch-clause-decides g t c =
-    let s = c.args.source.now in
-    let v = c.entries.invariant in
-    rest_goes v.rest (map_done (text_of s) (handles_of c.args.level.now.handles) (c.args.level.now.room - 1) c.args.column _ v.line.stuck (on_false_at c.in_ok-goes_on.field-0 c.if-not-branch.true c.in_ok-goes_on.ensures.over))
-
-pub collections::read_entries-returns-in_err-colon-clause-decides : goal.collections::read_entries-returns-in_err-colon-clause-decides
-collections::read_entries-returns-in_err-colon-clause-decides g t c =
-    let s = c.args.source.now in
-    let cs = text_of s in
-    let h = handles_of c.args.level.now.handles in
-    let k = c.args.column in
-    let v = c.entries.invariant in
-    let next = on_true_at c.in_ok-goes_on.field-0 c.if-not-branch.false c.in_ok-goes_on.ensures.next in
-    decides_err (entries_rest cs (Unit {0}) h (c.args.level.now.room - 1) k) (AfterMapping cs k) (place_of s c.args.after) Here (λ line. place_of s line.start) c.from_residual-in_err-colon.result _ c.from_residual-in_err-colon.ensures.1
-    (or_else (λ n. rest_refused v.rest (map_no_key cs h (c.args.level.now.room - 1) k _ _ (same_line s h (c.args.level.now.room - 1) c.entries.line k v.line next.column) v.line.stuck (not_less s h (c.args.level.now.room - 1) c.entries.line k v.line next.column next.some next.no_mark) n)) c.in_err-colon.ensures.decides)
-
-pub collections::read_entries-read_value-requires-in-entries : goal.collections::read_entries-read_value-requires-in-entries
-collections::read_entries-read_value-requires-in-entries g t c = λ κs l.
-    let s = c.args.source.now in
-    let v = c.entries.invariant in
-    let k = c.in_ok-colon.ensures.reads in
-    let colon = k.2 in (
-      omega (arith, c.requires.some),
-      (
-        l,
-        record {
-          border = c.in_ok-colon.ensures.ends.border;
-          low = omega (arith, c.requires.low, v.onward, v.line.wide, c.in_ok-colon.ensures.ends.onward);
-          block = tt;
-          inside = inl (colon_inside (text_of s) colon.0 _ colon.2.0 colon.2.1);
-        },
-      ),
+    let site = c.args.site.now in
+    let n = c.in_ok-opened.ensures.reads in (
+      n.0,
+      n.1,
+      subst (λ found. opened_rule (site_rule site c.args.outer) found s site.level.now (place_of s site.from) (opened_place s found) n.0) c.in-Whole.is n.2,
     )
 
-pub collections::read_entries-returns-in_err-line-2-clause-decides : goal.collections::read_entries-returns-in_err-line-2-clause-decides
-collections::read_entries-returns-in_err-line-2-clause-decides g t c =
+pub nodes::read_node-returns-in_ok-push_mapping_end-in-Mapping-clause-reads : goal.nodes::read_node-returns-in_ok-push_mapping_end-in-Mapping-clause-reads
+nodes::read_node-returns-in_ok-push_mapping_end-in-Mapping-clause-reads g t c =
     let s = c.args.source.now in
-    let cs = text_of s in
-    let h = handles_of c.args.level.now.handles in
-    let k = c.args.column in
-    let v = c.entries.invariant in
-    let next = on_true_at c.in_ok-goes_on.field-0 c.if-not-branch.false c.in_ok-goes_on.ensures.next in
-    decides_err (entries_rest cs (Unit {0}) h (c.args.level.now.room - 1) k) (AfterMapping cs k) (place_of s c.args.after) Here (λ line. place_of s line.start) c.from_residual-in_err-line-2.result _ c.from_residual-in_err-line-2.ensures.1
-    (or_else (λ n. rest_refused v.rest (map_no_value cs h (c.args.level.now.room - 1) k _ _ _ (same_line s h (c.args.level.now.room - 1) c.entries.line k v.line next.column) v.line.stuck (not_less s h (c.args.level.now.room - 1) c.entries.line k v.line next.column next.some next.no_mark) c.in_ok-colon.ensures.decides n)) c.in_err-line-2.ensures.decides)
-
--- ---- nodes
-
-pub nodes::read_node-returns-in_err-own-clause-decides : goal.nodes::read_node-returns-in_err-own-clause-decides
-nodes::read_node-returns-in_err-own-clause-decides g t c =
-    let s = c.args.source.now in
-    let cs = text_of s in
-    let h = handles_of c.args.site.now.level.now.handles in
-    let x = context_of c.args.site.now.level.now.context in
-    let p = props_of c.args.outer in
-    decides_err (node_rest cs (Unit {0}) h c.args.site.now.level.now.room c.args.site.now.level.now.least x (column_of p c.args.site.now.column)) (AfterNode cs c.args.site.now.level.now.least x) (place_of s c.args.site.now.from) Here (λ line. place_of s line.start) c.from_residual.result _ c.from_residual.ensures.1
-    (or_else (barred cs h c.args.site.now.level.now.room c.args.site.now.level.now.least x c.requires.block c.args.site.now.column _ _ p c.requires.above) c.in_err-own.ensures.barred)
-
-pub nodes::read_node-returns-then-overlaps-clause-decides : goal.nodes::read_node-returns-then-overlaps-clause-decides
-nodes::read_node-returns-then-overlaps-clause-decides g t c =
-    let s = c.args.source.now in
-    let cs = text_of s in
-    let h = handles_of c.args.site.now.level.now.handles in
-    let q = props_of c.in_ok-own.own in
-    let some = on_false_at c.is_none.result c.if-is_none.false c.is_none.ensures.no in
-    inr (over_clash cs h c.args.site.now.level.now.room c.args.site.now.level.now.least (context_of c.args.site.now.level.now.context) c.requires.block c.args.site.now.column _ _ (props_of c.args.outer) _ _ q (places_up s _ _ c.requires.border c.in_ok-own.ensures.stand.border c.in_ok-own.ensures.stand.onward)
-    (own_marks cs h 0 block_key _ _ q c.in_ok-own.ensures.stand.own some) c.in_ok-own.ensures.stand.all c.in-Some.ensures.some c.requires.above (on_true_at c.overlaps.result c.if-overlaps.true c.overlaps.ensures.yes))
-
-pub nodes::read_node-returns-else-overlaps-clause-decides : goal.nodes::read_node-returns-else-overlaps-clause-decides
-nodes::read_node-returns-else-overlaps-clause-decides g t c =
-    let s = c.args.source.now in
-    let cs = text_of s in
-    let h = handles_of c.args.site.now.level.now.handles in
-    let x = context_of c.args.site.now.level.now.context in
-    let p = props_of c.args.outer in
-    let q = props_of c.in_ok-own.own in
-    let some = on_false_at c.is_none.result c.if-is_none.false c.is_none.ensures.no in
-    decides_rest (node_rest cs (Unit {0}) h c.args.site.now.level.now.room c.args.site.now.level.now.least x (column_of p c.args.site.now.column)) (AfterNode cs c.args.site.now.level.now.least x) (place_of s c.args.site.now.from) (node_rest cs (Unit {0}) h c.args.site.now.level.now.room c.args.site.now.level.now.least x None) (AfterNode cs c.args.site.now.level.now.least x) (place_of s c.args.site.now.from)
-    Here (λ line. place_of s line.start) c.read_under.result
-    (over_left cs h c.args.site.now.level.now.room c.args.site.now.level.now.least x c.requires.block c.args.site.now.column _ _ p _ _ q (places_up s _ _ c.requires.border c.in_ok-own.ensures.stand.border c.in_ok-own.ensures.stand.onward)
-    (own_marks cs h 0 block_key _ _ q c.in_ok-own.ensures.stand.own some) c.in_ok-own.ensures.stand.all c.in-Some.ensures.some c.requires.above) c.read_under.ensures.decides
-
-pub nodes::read_dressed-read_keyed-requires : goal.nodes::read_dressed-read_keyed-requires
-nodes::read_dressed-read_keyed-requires g t c = λ κs l. (
-  omega arith,
-  (l, (c.requires, c.in-None.ensures.none)),
-)
-
-pub nodes::read_dressed-returns-then-overlaps-clause-decides : goal.nodes::read_dressed-returns-then-overlaps-clause-decides
-nodes::read_dressed-returns-then-overlaps-clause-decides g t c =
-    let s = c.args.source.now in
-    let cs = text_of s in
-    inr (signed_clash cs (handles_of c.args.site.now.level.now.handles) c.args.site.now.level.now.room c.args.site.now.level.now.least (context_of c.args.site.now.level.now.context) c.requires.node.block c.args.site.now.column _ _ (props_of c.args.outer) _ (props_of c.args.head.own) c.requires.own.all c.requires.goes_on c.requires.own.own _
-    c.requires.node.above c.in-Some.ensures.sign.follows (sign_of cs _ _ c.in-Some.ensures.sign.sign) (on_true_at c.overlaps.result c.if-overlaps.true c.overlaps.ensures.yes))
-
-pub nodes::read_dressed-returns-in_err-line-in-Some-clause-decides : goal.nodes::read_dressed-returns-in_err-line-in-Some-clause-decides
-nodes::read_dressed-returns-in_err-line-in-Some-clause-decides g t c =
-    let s = c.args.source.now in
-    let cs = text_of s in
-    let h = handles_of c.args.site.now.level.now.handles in
-    let x = context_of c.args.site.now.level.now.context in
-    let p = props_of c.args.outer in
-    let apart = on_false_at c.overlaps.result c.if-overlaps.false c.overlaps.ensures.no in
-    let properties_left = signed cs h c.args.site.now.level.now.room c.args.site.now.level.now.least x c.requires.node.block c.args.site.now.column _ _ p _ (props_of c.args.head.own) c.requires.own.all c.requires.goes_on c.requires.own.own _ c.requires.node.above c.in-Some.ensures.sign.follows (sign_of cs _ _ c.in-Some.ensures.sign.sign) apart in
-    decides_err (node_rest cs (Unit {0}) h c.args.site.now.level.now.room c.args.site.now.level.now.least x (column_of p c.args.site.now.column)) (AfterNode cs c.args.site.now.level.now.least x) (place_of s c.args.site.now.from) Here (λ line. place_of s line.start) c.from_residual.result _ c.from_residual.ensures.1
-    (or_else (scalar_none cs c.args.site.now.level.now.least x _ _ _ properties_left.0 (props_of c.and-both.result) properties_left.1) c.in_err-line-in-Some.ensures.decides)
-
-pub nodes::read_dressed-returns-in_ok-line-in-Some-clause-decides : goal.nodes::read_dressed-returns-in_ok-line-in-Some-clause-decides
-nodes::read_dressed-returns-in_ok-line-in-Some-clause-decides g t c =
-    let s = c.args.source.now in
-    let cs = text_of s in
-    let h = handles_of c.args.site.now.level.now.handles in
-    let x = context_of c.args.site.now.level.now.context in
-    let p = props_of c.args.outer in
-    let apart = on_false_at c.overlaps.result c.if-overlaps.false c.overlaps.ensures.no in
-    let properties_left = signed cs h c.args.site.now.level.now.room c.args.site.now.level.now.least x c.requires.node.block c.args.site.now.column _ _ p _ (props_of c.args.head.own) c.requires.own.all c.requires.goes_on c.requires.own.own _ c.requires.node.above c.in-Some.ensures.sign.follows (sign_of cs _ _ c.in-Some.ensures.sign.sign) apart in
-    scalar_done cs c.args.site.now.level.now.least x _ _ _ properties_left.0 (props_of c.and-both.result) properties_left.1 _ c.in_ok-line-in-Some.ensures.decides
-
--- ---- keys and flow nodes
-
-pub nodes::read_keyed-read_in_block-requires : goal.nodes::read_keyed-read_in_block-requires
-nodes::read_keyed-read_in_block-requires g t c = flow_starts c.args.source.now c.args.site.now c.args.outer c.args.head c.requires.dressed
-
-pub nodes::read_keyed-fit_key-requires : goal.nodes::read_keyed-fit_key-requires
-nodes::read_keyed-fit_key-requires g t c = record {
-  starts = flow_starts c.args.source.now c.args.site.now c.args.outer c.args.head c.requires.dressed;
-  stop = c.in_ok-node.ensures.ends.border;
-  goes_on = c.requires.dressed.goes_on;
-  key = c.in_ok-node.ensures.decides c.requires.dressed.goes_on;
-}
-
-pub nodes::read_keyed-returns-in_err-node-clause-decides : goal.nodes::read_keyed-returns-in_err-node-clause-decides
-nodes::read_keyed-returns-in_err-node-clause-decides g t c =
-    let s = c.args.source.now in
-    let cs = text_of s in
-    let h = handles_of c.args.site.now.level.now.handles in
-    let x = context_of c.args.site.now.level.now.context in
-    let p = props_of c.args.outer in
-    let whole = kept cs h c.args.site.now.level.now.room c.args.site.now.level.now.least x c.requires.dressed.node.block c.args.site.now.column _ _ p _ (props_of c.args.head.own) c.requires.dressed.own.all c.requires.dressed.goes_on c.requires.dressed.own.own c.requires.dressed.node.above c.requires.no_scalar in
-    decides_err (node_rest cs (Unit {0}) h c.args.site.now.level.now.room c.args.site.now.level.now.least x (column_of p c.args.site.now.column)) (AfterNode cs c.args.site.now.level.now.least x) (place_of s c.args.site.now.from) Here (λ line. place_of s line.start) c.from_residual.result _ c.from_residual.ensures.1
-    (or_else (λ n. rest_refused whole (kept_refused cs h c.args.site.now.level.now.room c.args.site.now.level.now.least x c.requires.dressed.node.block _ p c.args.site.now.column n)) (c.in_err-node.ensures.decides c.requires.dressed.goes_on))
-
-pub nodes::read_keyed-returns-in_err-first_colon-clause-decides : goal.nodes::read_keyed-returns-in_err-first_colon-clause-decides
-nodes::read_keyed-returns-in_err-first_colon-clause-decides g t c =
-    let s = c.args.source.now in
-    let cs = text_of s in
-    let h = handles_of c.args.site.now.level.now.handles in
-    let x = context_of c.args.site.now.level.now.context in
-    let p = props_of c.args.outer in
-    let q = props_of c.args.head.own in
-    let k = c.in_ok-node.ensures.reads in
-    let node = c.in_ok-node.node in
-    let flow = bare_flow cs (Unit {0}) h node.deep node.kind c.args.site.now.level.now.least flow_out q _ _ _ k.0 k.2 in
-    let inside = end_inside cs h c.args.site.now.level.now.room c.args.site.now.level.now.least x c.requires.dressed.node.block node.kind node.deep _ _ (dressed q k.0) flow c.in_ok-node.ensures.ends.within in
-    let whole = kept cs h c.args.site.now.level.now.room c.args.site.now.level.now.least x c.requires.dressed.node.block c.args.site.now.column _ _ p _ q c.requires.dressed.own.all c.requires.dressed.goes_on c.requires.dressed.own.own c.requires.dressed.node.above c.requires.no_scalar in
-    let long = c.in_err-first_colon.ensures.long in
-    decides_err (node_rest cs (Unit {0}) h c.args.site.now.level.now.room c.args.site.now.level.now.least x (column_of p c.args.site.now.column)) (AfterNode cs c.args.site.now.level.now.least x) (place_of s c.args.site.now.from) Here (λ line. place_of s line.start) c.from_residual-in_err-first_colon.result _ c.from_residual-in_err-first_colon.ensures.1
-    (inr (rest_refused whole (kept_neither cs h c.args.site.now.level.now.room c.args.site.now.level.now.least x c.requires.dressed.node.block _ _ node.kind (c.in_ok-node.ensures.decides c.requires.dressed.goes_on) p c.args.site.now.column inside long.0 long.1)))
-
-pub nodes::read_keyed-returns-in_err-line-in-None-clause-decides : goal.nodes::read_keyed-returns-in_err-line-in-None-clause-decides
-nodes::read_keyed-returns-in_err-line-in-None-clause-decides g t c =
-    let s = c.args.source.now in
-    let cs = text_of s in
-    let h = handles_of c.args.site.now.level.now.handles in
-    let x = context_of c.args.site.now.level.now.context in
-    let p = props_of c.args.outer in
-    let q = props_of c.args.head.own in
-    let node = c.in_ok-node.node in
-    let no_key = none_is ((c.args.site.now.column ≡ None) ⊎ IsNoKey cs (place_of s c.args.head.at) (place_of s node.end)) c.in_ok-first_colon.field-0 c.in-None.is c.in_ok-first_colon.ensures.none in
-    decides_err (node_rest cs (Unit {0}) h c.args.site.now.level.now.room c.args.site.now.level.now.least x (column_of p c.args.site.now.column)) (AfterNode cs c.args.site.now.level.now.least x) (place_of s c.args.site.now.from) Here (λ line. place_of s line.start) c.from_residual-in_err-line-in-None.result _ c.from_residual-in_err-line-in-None.ensures.1
-    (inr (unfit_none cs h c.args.site.now.level.now.room c.args.site.now.level.now.least x c.requires.dressed.node.block c.args.site.now.column _ _ p _ q c.requires.dressed.own.all c.requires.dressed.goes_on c.requires.dressed.own.own c.requires.dressed.node.above c.requires.no_scalar _ node.kind (c.in_ok-node.ensures.decides c.requires.dressed.goes_on) no_key c.in_err-line-in-None.ensures.unfit))
-
-pub nodes::read_keyed-returns-in_ok-line-in-None-clause-decides : goal.nodes::read_keyed-returns-in_ok-line-in-None-clause-decides
-nodes::read_keyed-returns-in_ok-line-in-None-clause-decides g t c =
-    let s = c.args.source.now in
-    let cs = text_of s in
-    let h = handles_of c.args.site.now.level.now.handles in
-    let x = context_of c.args.site.now.level.now.context in
-    let p = props_of c.args.outer in
-    let n = c.in_ok-line-in-None.ensures in
-    let node = c.in_ok-node.node in
-    let no_key = none_is ((c.args.site.now.column ≡ None) ⊎ IsNoKey cs (place_of s c.args.head.at) (place_of s node.end)) c.in_ok-first_colon.field-0 c.in-None.is c.in_ok-first_colon.ensures.none in
-    let whole = kept cs h c.args.site.now.level.now.room c.args.site.now.level.now.least x c.requires.dressed.node.block c.args.site.now.column _ _ p _ (props_of c.args.head.own) c.requires.dressed.own.all c.requires.dressed.goes_on c.requires.dressed.own.own c.requires.dressed.node.above c.requires.no_scalar in
-    rest_goes whole (kept_line cs h c.args.site.now.level.now.room c.args.site.now.level.now.least x c.requires.dressed.node.block _ _ node.kind (c.in_ok-node.ensures.decides c.requires.dressed.goes_on) p c.args.site.now.column _ no_key n.ends.comments n.ends.line.stuck)
-
-pub nodes::read_keyed-returns-in_err-fit_key-in-Some-clause-decides : goal.nodes::read_keyed-returns-in_err-fit_key-in-Some-clause-decides
-nodes::read_keyed-returns-in_err-fit_key-in-Some-clause-decides g t c =
-    let s = c.args.source.now in
-    let cs = text_of s in
-    let h = handles_of c.args.site.now.level.now.handles in
-    let x = context_of c.args.site.now.level.now.context in
-    let p = props_of c.args.outer in
-    let q = props_of c.args.head.own in
-    let k = c.in_ok-node.ensures.reads in
-    let node = c.in_ok-node.node in
-    let flow = bare_flow cs (Unit {0}) h node.deep node.kind c.args.site.now.level.now.least flow_out q _ _ _ k.0 k.2 in
-    let inside = end_inside cs h c.args.site.now.level.now.room c.args.site.now.level.now.least x c.requires.dressed.node.block node.kind node.deep _ _ (dressed q k.0) flow c.in_ok-node.ensures.ends.within in
-    let whole = kept cs h c.args.site.now.level.now.room c.args.site.now.level.now.least x c.requires.dressed.node.block c.args.site.now.column _ _ p _ q c.requires.dressed.own.all c.requires.dressed.goes_on c.requires.dressed.own.own c.requires.dressed.node.above c.requires.no_scalar in
-    let found = found_is (λ z. IsFirstColon s c.args.head.at c.in_ok-node.node.end c.args.site.now.column z.0 z.1) c.in_ok-first_colon.field-0 _ c.in-Some.is c.in_ok-first_colon.ensures.found in
-    let colon = found.colon in
-    decides_err (node_rest cs (Unit {0}) h c.args.site.now.level.now.room c.args.site.now.level.now.least x (column_of p c.args.site.now.column)) (AfterNode cs c.args.site.now.level.now.least x) (place_of s c.args.site.now.from) Here (λ line. place_of s line.start) c.from_residual-in_err-fit_key-in-Some.result _ c.from_residual-in_err-fit_key-in-Some.ensures.1
-    (or_else (λ n. rest_refused (rest_rest whole (kept_keyed cs h c.args.site.now.level.now.room c.args.site.now.level.now.least x c.requires.dressed.node.block _ _ node.kind (c.in_ok-node.ensures.decides c.requires.dressed.goes_on) p c.args.site.now.column inside (colon_stands cs _ _ _ colon)))
-    (keyed_none_below cs h c.args.site.now.level.now.room c.args.site.now.level.now.least x c.requires.dressed.node.block p c.args.site.now.column _ (AfterNode cs c.args.site.now.level.now.least x) n)) c.in_err-fit_key-in-Some.ensures.decides)
-
-pub nodes::read_keyed-read_entries-requires : goal.nodes::read_keyed-read_entries-requires
-nodes::read_keyed-read_entries-requires g t c =
-    let s = c.args.source.now in
-    let cs = text_of s in
-    let k = c.in_ok-node.ensures.reads in
-    let node = c.in_ok-node.node in
-    let fit = c.in_ok-fit_key-in-Some.ensures.reads k.0 k.2 in
-    let found = found_is (λ z. IsFirstColon s c.args.head.at c.in_ok-node.node.end c.args.site.now.column z.0 z.1) c.in_ok-first_colon.field-0 _ c.in-Some.is c.in_ok-first_colon.ensures.found in
-    let low = MatchOption-at_some (Unit {0}) (λ k. k ≤ c.args.head.at) _ found.some c.requires.dressed.node.column in λ κs l. (
-      omega (arith, fit.3),
-      (
-        l,
-        record {
-          border = found.border;
-          low = omega (arith, low, found.further, c.in_ok-node.ensures.ends.onward);
-          inside = colon_after_inside cs _ _ _ found.colon;
-          some = omega (arith, fit.3);
-        },
-      ),
+    let site = c.args.site.now in
+    let n = c.in_ok-opened.ensures.reads in
+    let v = c.in_ok-line-in-Mapping.ensures.reads in
+    let begun = subst (λ found. opened_rule (site_rule site c.args.outer) found s site.level.now (place_of s site.from) (opened_place s found) n.0) c.in-Mapping.is n.2 in (
+      (n.0 ++ v.0) ++ (mapping_end ∷ []),
+      puts_on c.args.out.now c.read_entries.new.out _ (n.0 ++ v.0) (mapping_end ∷ [])
+          (puts_on c.args.out.now c.open_node.new.out _ n.0 v.0 n.1 v.1)
+          c.in_ok-push_mapping_end-in-Mapping.ensures.ok,
+      begun _ v.0 v.2,
     )
 
-pub nodes::read_keyed-returns-in_err-line-in-Some-clause-decides : goal.nodes::read_keyed-returns-in_err-line-in-Some-clause-decides
-nodes::read_keyed-returns-in_err-line-in-Some-clause-decides g t c =
-    let s = c.args.source.now in
-    let cs = text_of s in
-    let h = handles_of c.args.site.now.level.now.handles in
-    let x = context_of c.args.site.now.level.now.context in
-    let p = props_of c.args.outer in
-    let q = props_of c.args.head.own in
-    let k = c.in_ok-node.ensures.reads in
-    let node = c.in_ok-node.node in
-    let fit = c.in_ok-fit_key-in-Some.ensures.reads k.0 k.2 in
-    let flow = bare_flow cs (Unit {0}) h node.deep node.kind c.args.site.now.level.now.least flow_out q _ _ _ k.0 k.2 in
-    let found = found_is (λ z. IsFirstColon s c.args.head.at c.in_ok-node.node.end c.args.site.now.column z.0 z.1) c.in_ok-first_colon.field-0 _ c.in-Some.is c.in_ok-first_colon.ensures.found in
-    let column = found.some in
-    let colon = found.colon in
-    let wide = MatchOption-at_some (Unit {0}) (λ k. c.args.site.now.level.now.least ≤ k) _ column c.requires.dressed.node.wide in
-    let rest = mapping_left cs h (c.args.site.now.level.now.room - 1) c.args.site.now.level.now.room c.args.site.now.level.now.least x c.requires.dressed.node.block c.args.site.now.column _ _ p _ q c.requires.dressed.own.all c.requires.dressed.goes_on c.requires.dressed.own.own c.requires.dressed.node.above c.requires.no_scalar _ node.kind node.deep (dressed q k.0) flow c.in_ok-node.ensures.ends.within
-    (c.in_ok-node.ensures.decides c.requires.dressed.goes_on) (omega (arith, fit.3)) _ _ column wide colon in
-    decides_err (node_rest cs (Unit {0}) h c.args.site.now.level.now.room c.args.site.now.level.now.least x (column_of p c.args.site.now.column)) (AfterNode cs c.args.site.now.level.now.least x) (place_of s c.args.site.now.from) Here (λ line. place_of s line.start) c.from_residual-in_err-line-in-Some.result _ c.from_residual-in_err-line-in-Some.ensures.1
-    (or_else (rest_refused rest) c.in_err-line-in-Some.ensures.decides)
+pub nodes::read_node-read_under-requires : goal.nodes::read_node-read_under-requires
+nodes::read_node-read_under-requires g t c =
+    let marked = subst (EndsOpened c.args.source.now c.args.site.now c.args.outer) c.in-Marked.is c.in_ok-opened.ensures.ends in λ κs l. (
+      omega (arith, marked.fewer),
+      (l, marked.starts),
+    )
 
-pub nodes::read_keyed-returns-in_ok-push_mapping_end-in-Some-clause-decides : goal.nodes::read_keyed-returns-in_ok-push_mapping_end-in-Some-clause-decides
-nodes::read_keyed-returns-in_ok-push_mapping_end-in-Some-clause-decides g t c =
+pub nodes::read_node-returns-in-Marked-clause-reads : goal.nodes::read_node-returns-in-Marked-clause-reads
+nodes::read_node-returns-in-Marked-clause-reads g t c =
     let s = c.args.source.now in
-    let cs = text_of s in
-    let h = handles_of c.args.site.now.level.now.handles in
-    let x = context_of c.args.site.now.level.now.context in
-    let p = props_of c.args.outer in
-    let q = props_of c.args.head.own in
-    let k = c.in_ok-node.ensures.reads in
-    let node = c.in_ok-node.node in
-    let fit = c.in_ok-fit_key-in-Some.ensures.reads k.0 k.2 in
-    let flow = bare_flow cs (Unit {0}) h node.deep node.kind c.args.site.now.level.now.least flow_out q _ _ _ k.0 k.2 in
-    let found = found_is (λ z. IsFirstColon s c.args.head.at c.in_ok-node.node.end c.args.site.now.column z.0 z.1) c.in_ok-first_colon.field-0 _ c.in-Some.is c.in_ok-first_colon.ensures.found in
-    let column = found.some in
-    let colon = found.colon in
-    let wide = MatchOption-at_some (Unit {0}) (λ k. c.args.site.now.level.now.least ≤ k) _ column c.requires.dressed.node.wide in
-    rest_goes (mapping_left cs h (c.args.site.now.level.now.room - 1) c.args.site.now.level.now.room c.args.site.now.level.now.least x c.requires.dressed.node.block c.args.site.now.column _ _ p _ q c.requires.dressed.own.all c.requires.dressed.goes_on c.requires.dressed.own.own c.requires.dressed.node.above c.requires.no_scalar _ node.kind node.deep (dressed q k.0) flow c.in_ok-node.ensures.ends.within
-    (c.in_ok-node.ensures.decides c.requires.dressed.goes_on) (omega (arith, fit.3)) _ _ column wide colon) c.in_ok-line-in-Some.ensures.decides
+    let site = c.args.site.now in
+    let n = c.in_ok-opened.ensures.reads in
+    let begun = subst (λ found. opened_rule (site_rule site c.args.outer) found s site.level.now (place_of s site.from) (opened_place s found) n.0) c.in-Marked.is n.2 in
+    appends_after (λ _. node_rule None s site.level.now) (λ _. site_rule site c.args.outer s site.level.now) (place_of s c.in-Marked.above.at) (place_of s site.from) (λ line. place_of s line.start) c.args.out.now c.open_node.new.out _ c.read_under.result n.0 n.1
+    (λ x vs v. begun _ vs v) c.read_under.ensures.reads
+
+pub nodes::read_node-returns-in-Marked-clause-decides : goal.nodes::read_node-returns-in-Marked-clause-decides
+nodes::read_node-returns-in-Marked-clause-decides g t c =
+    let s = c.args.source.now in
+    let site = c.args.site.now in
+    let level = site.level.now in
+    let rest = subst (λ found. DecidesOpened s site c.args.outer (Ok found)) c.in-Marked.is c.in_ok-opened.ensures.decides in
+    decides_rest (site_rule site c.args.outer s level) (AfterNode (text_of s) level.least (context_of level.context)) (place_of s site.from) (node_rule None s level) (AfterNode (text_of s) level.least (context_of level.context)) (place_of s c.in-Marked.above.at)
+    Here (λ line. place_of s line.start) c.read_under.result rest c.read_under.ensures.decides
+
+pub nodes::read_node-returns-in_err-opened-clause-decides : goal.nodes::read_node-returns-in_err-opened-clause-decides
+nodes::read_node-returns-in_err-opened-clause-decides g t c =
+    let s = c.args.source.now in
+    let site = c.args.site.now in
+    let level = site.level.now in
+    decides_err (site_rule site c.args.outer s level) (AfterNode (text_of s) level.least (context_of level.context)) (place_of s site.from) Here (λ line. place_of s line.start) c.from_residual.result _ c.from_residual.ensures.1 c.in_err-opened.ensures.decides
+
+pub nodes::read_node-returns-in-Whole-clause-decides : goal.nodes::read_node-returns-in-Whole-clause-decides
+nodes::read_node-returns-in-Whole-clause-decides g t c = subst (λ found. DecidesOpened c.args.source.now c.args.site.now c.args.outer (Ok found)) c.in-Whole.is c.in_ok-opened.ensures.decides
+
+pub nodes::read_node-returns-in_err-line-in-Mapping-clause-decides : goal.nodes::read_node-returns-in_err-line-in-Mapping-clause-decides
+nodes::read_node-returns-in_err-line-in-Mapping-clause-decides g t c =
+    let s = c.args.source.now in
+    let site = c.args.site.now in
+    let level = site.level.now in
+    let rest = subst (λ found. DecidesOpened s site c.args.outer (Ok found)) c.in-Mapping.is c.in_ok-opened.ensures.decides in
+    decides_err (site_rule site c.args.outer s level) (AfterNode (text_of s) level.least (context_of level.context)) (place_of s site.from) Here (λ line. place_of s line.start) c.from_residual-in_err-line-in-Mapping.result _ c.from_residual-in_err-line-in-Mapping.ensures.1
+    (or_else (rest_refused rest) c.in_err-line-in-Mapping.ensures.decides)
+
+pub nodes::read_node-returns-in_ok-push_mapping_end-in-Mapping-clause-decides : goal.nodes::read_node-returns-in_ok-push_mapping_end-in-Mapping-clause-decides
+nodes::read_node-returns-in_ok-push_mapping_end-in-Mapping-clause-decides g t c =
+    let rest = subst (λ found. DecidesOpened c.args.source.now c.args.site.now c.args.outer (Ok found)) c.in-Mapping.is c.in_ok-opened.ensures.decides in
+    rest_goes rest c.in_ok-line-in-Mapping.ensures.decides
 
 -- ---- where the calls end
 
@@ -1062,34 +699,25 @@ values::read_indented-returns-in-Some-dash-clause-ends g t c = ends_from c.args.
 pub values::read_indented-returns-in-None-dash-clause-ends : goal.values::read_indented-returns-in-None-dash-clause-ends
 values::read_indented-returns-in-None-dash-clause-ends g t c = ends_from c.args.source.now c.args.at c.skip_spaces-count.result.1 c.read_node.result (c.skip_spaces-count.ensures.onward) c.read_node.ensures.ends
 
-pub values::read_below-returns-else-line-sequence_column-clause-ends : goal.values::read_below-returns-else-line-sequence_column-clause-ends
-values::read_below-returns-else-line-sequence_column-clause-ends g t c = ends_from c.args.source.now c.args.line.start c.args.line.first c.read_sequence.result (omega (arith, c.requires.line.wide)) c.read_sequence.ensures.ends
+pub values::read_below-returns-in-Sequence-clause-ends : goal.values::read_below-returns-in-Sequence-clause-ends
+values::read_below-returns-in-Sequence-clause-ends g t c = ends_from c.args.source.now c.args.line.start c.args.line.first c.read_sequence.result (omega (arith, c.requires.line.wide)) c.read_sequence.ensures.ends
 
-pub values::read_below-returns-else-line-level-clause-ends : goal.values::read_below-returns-else-line-level-clause-ends
-values::read_below-returns-else-line-level-clause-ends g t c = ends_from c.args.source.now c.args.line.start c.args.line.first c.read_node.result (omega (arith, c.requires.line.wide)) c.read_node.ensures.ends
+pub values::read_below-returns-in-Node-clause-ends : goal.values::read_below-returns-in-Node-clause-ends
+values::read_below-returns-in-Node-clause-ends g t c = ends_from c.args.source.now c.args.line.start c.args.line.first c.read_node.result (omega (arith, c.requires.line.wide)) c.read_node.ensures.ends
 
-pub values::read_under-returns-else-line-sequence_column-clause-ends : goal.values::read_under-returns-else-line-sequence_column-clause-ends
-values::read_under-returns-else-line-sequence_column-clause-ends g t c = ends_from c.args.source.now c.args.above.at c.args.line.first c.read_sequence.result (omega (arith, c.requires.order, c.requires.line.wide)) c.read_sequence.ensures.ends
+pub values::read_under-returns-in-Sequence-clause-ends : goal.values::read_under-returns-in-Sequence-clause-ends
+values::read_under-returns-in-Sequence-clause-ends g t c = ends_from c.args.source.now c.args.above.at c.args.line.first c.read_sequence.result (omega (arith, c.requires.order, c.requires.line.wide)) c.read_sequence.ensures.ends
 
-pub collections::read_sequence-returns-in-None-clause-ends : goal.collections::read_sequence-returns-in-None-clause-ends
-collections::read_sequence-returns-in-None-clause-ends g t c = record { line = c.entries.invariant.line; onward = omega (arith, c.entries.invariant.onward); after = c.entries.invariant.after }
+pub nodes::read_node-returns-in-Whole-clause-ends : goal.nodes::read_node-returns-in-Whole-clause-ends
+nodes::read_node-returns-in-Whole-clause-ends g t c = subst (EndsOpened c.args.source.now c.args.site.now c.args.outer) c.in-Whole.is c.in_ok-opened.ensures.ends
 
-pub collections::read_entries-returns-then-not-branch-clause-ends : goal.collections::read_entries-returns-then-not-branch-clause-ends
-collections::read_entries-returns-then-not-branch-clause-ends g t c = record { line = c.entries.invariant.line; onward = omega (arith, c.entries.invariant.onward); after = c.entries.invariant.after }
+pub nodes::read_node-returns-in_ok-push_mapping_end-in-Mapping-clause-ends : goal.nodes::read_node-returns-in_ok-push_mapping_end-in-Mapping-clause-ends
+nodes::read_node-returns-in_ok-push_mapping_end-in-Mapping-clause-ends g t c =
+    let opened = subst (EndsOpened c.args.source.now c.args.site.now c.args.outer) c.in-Mapping.is c.in_ok-opened.ensures.ends in
+    let n = c.in_ok-line-in-Mapping.ensures.ends in
+    record { line = n.line; onward = omega (arith, opened.1, n.onward); after = n.after }
 
-pub nodes::read_dressed-returns-in_ok-line-in-Some-clause-ends : goal.nodes::read_dressed-returns-in_ok-line-in-Some-clause-ends
-nodes::read_dressed-returns-in_ok-line-in-Some-clause-ends g t c =
-    let n = c.in_ok-line-in-Some.ensures.ends in
-    record { line = n.line; onward = omega (arith, c.requires.node.order, c.in-Some.ensures.sign.onward, n.onward); after = n.after }
-
-pub nodes::read_keyed-returns-in_ok-line-in-None-clause-ends : goal.nodes::read_keyed-returns-in_ok-line-in-None-clause-ends
-nodes::read_keyed-returns-in_ok-line-in-None-clause-ends g t c =
-    let n = c.in_ok-line-in-None.ensures.ends in
-    record { line = n.line; onward = omega (arith, c.requires.dressed.node.order, c.in_ok-node.ensures.ends.onward, n.onward); after = n.after }
-
-pub nodes::read_keyed-returns-in_ok-push_mapping_end-in-Some-clause-ends : goal.nodes::read_keyed-returns-in_ok-push_mapping_end-in-Some-clause-ends
-nodes::read_keyed-returns-in_ok-push_mapping_end-in-Some-clause-ends g t c =
-    let s = c.args.source.now in
-    let n = c.in_ok-line-in-Some.ensures.ends in
-    let found = found_is (λ z. IsFirstColon s c.args.head.at c.in_ok-node.node.end c.args.site.now.column z.0 z.1) c.in_ok-first_colon.field-0 _ c.in-Some.is c.in_ok-first_colon.ensures.found in
-    record { line = n.line; onward = omega (arith, c.requires.dressed.node.order, c.in_ok-node.ensures.ends.onward, found.further, n.onward); after = n.after }
+pub nodes::read_node-returns-in-Marked-clause-ends : goal.nodes::read_node-returns-in-Marked-clause-ends
+nodes::read_node-returns-in-Marked-clause-ends g t c =
+    let marked = subst (EndsOpened c.args.source.now c.args.site.now c.args.outer) c.in-Marked.is c.in_ok-opened.ensures.ends in
+    ends_from c.args.source.now c.args.site.now.from c.in-Marked.above.at c.read_under.result (omega (arith, marked.same)) c.read_under.ensures.ends
