@@ -267,7 +267,7 @@ fn is_told<T: Abort + AllocGlobal>(rt: &T, row: &Row) -> Result<(), Fail> {
         Narrow::new(&mut err, row.bad_err, Broken::Fails),
     );
     let ran = Ran::new(status, out, err)?;
-    ran.gave(rt, &[row.name], row.status, row.out, row.err);
+    ran.gave(rt, row.words, row.name, row.status, row.out, row.err);
     Ok(())
 }
 

@@ -8,7 +8,7 @@ use std::process::Abort;
 use std::test::Fail;
 
 /// Texts of 25,001 items: with an `a` as the last one, with a `b`, and the event text of the first.
-#[derive(Clone, Copy)]
+#[derive(Clone, Copy, Debug)]
 enum Text {
     One,
     Other,
@@ -136,8 +136,10 @@ fn is_told<T: Abort + AllocGlobal>(rt: &T, row: &Row) -> Result<(), Fail> {
     let (out, err) = (ran.out.as_str(), ran.err.as_str());
     assert!(rt;
         ran.status == row.status && out.len() == row.len && out.ends_with(row.end) && err == "",
-        "{:?}: {} {} {err}",
+        "{:?} over {:?} and {:?}: {} {} {err}",
         row.words,
+        row.a,
+        row.b,
         ran.status,
         out.len()
     );

@@ -56,7 +56,7 @@ fn is_told<T: Abort + AllocGlobal + Files>(rt: &T, row: &Row) -> Result<(), Fail
     let mut err = Vec::new(alloc);
     let status = command(rt, alloc, words.as_slice(), input, &mut out, &mut err);
     let ran = Ran::new(status, out, err)?;
-    ran.gave(rt, row.words, row.status, row.out, row.err);
+    ran.gave(rt, row.words, row.input, row.status, row.out, row.err);
     Ok(())
 }
 

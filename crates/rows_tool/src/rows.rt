@@ -17,7 +17,7 @@ pub struct Row {
 fn is_told<T: Abort + AllocGlobal>(rt: &T, row: &Row) -> Result<(), Fail> {
     let input = Source::over(row.input.as_bytes());
     let ran = run(rt.alloc(), &Listed, row.words, input)?;
-    ran.gave(rt, row.words, row.status, row.out, row.err);
+    ran.gave(rt, row.words, row.input, row.status, row.out, row.err);
     Ok(())
 }
 
@@ -464,7 +464,7 @@ fn words_have_their_lines_and_their_status(rt: HostRuntime) -> Result<(), Fail> 
 fn other_words_are_a_fault_of_usage(rt: HostRuntime) -> Result<(), Fail> {
     for words in &USAGE {
         let ran = run(rt.alloc(), &Listed, words, NONE)?;
-        ran.gave(&rt, words, 3, "", "yaml: usage\n");
+        ran.gave(&rt, words, "", 3, "", "yaml: usage\n");
     }
     Ok(())
 }

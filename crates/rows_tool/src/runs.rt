@@ -23,12 +23,20 @@ impl Ran {
         })
     }
 
-    /// Asserts what a run answered and wrote. The first words say which run it was.
-    pub fn gave<T: Abort>(&self, rt: &T, shows: &[&str], status: u8, out: &str, err: &str) {
+    /// Asserts what a run of these words answered and wrote. `over` tells its input, or its streams.
+    pub fn gave<T: Abort>(
+        &self,
+        rt: &T,
+        words: &[&str],
+        over: &str,
+        status: u8,
+        out: &str,
+        err: &str,
+    ) {
         let (got_out, got_err) = (self.out.as_str(), self.err.as_str());
         assert!(rt;
             self.status == status && got_out == out && got_err == err,
-            "{shows:?}: {} {got_out:?} {got_err:?}",
+            "{words:?} over {over:?}: {} {got_out:?} {got_err:?}",
             self.status
         );
     }
