@@ -2,12 +2,13 @@
 
     bench/hostile --cost [--size BYTES] [--space MB] [--runs KIND,..] [SHAPE ..]
 
-Runs each command of the built program on each shape, and `canon` once more with a refusal behind it (`later`): a last document of
-an alias without an anchor. Prints the shapes that cost the most of each. Seconds are of the processor, memory is the peak; of both
-what the program takes for the empty input is taken off. Bytes are those of one file. A run that ends by a signal is named and
-fails. `--space` bounds the address space, as `ulimit -v` does, so that memory is refused, also where the events of `check` are made;
-each such refusal is counted. Each run's end is told on standard error.
-Needs Python 3, and without a bound about 3 kB for each byte.
+Runs each command of the built program on each shape, and `canon` once more with each of five refusals behind it, as a last
+document (`later`): an alias without an anchor, two equal keys, an int out of range, a tag of another kind of node, a tree that is
+too high. Prints the shapes that cost the most of each. Seconds are of the processor, memory is the peak; of both what the program
+takes for the empty input is taken off. Bytes are those of one file. A run that ends by a signal is named and fails. `--space`
+bounds the address space, as `ulimit -v` does, so that memory is refused, also where the events of `check` are made; each such
+refusal is counted. Each run's end is told on standard error.
+Needs Python 3, GNU time, and without a bound about 3 kB for each byte.
 """
 import argparse
 import collections
@@ -22,7 +23,14 @@ from growth import PROGRAM, words_of
 from shapes import SHAPES
 
 KINDS, SHOWN = 'canon,later,same,events,check', 6
-REFUSED_LATER = b'\n--- *x\n'
+# What refuses a text behind a shape, each as a last document.
+ENDS = {
+    'alias': b'\n--- *x\n',
+    'key': b'\n--- {1: a, 0x1: b}\n',
+    'int': b'\n--- 170141183460469231731687303715884105728\n',
+    'kind': b'\n--- !!seq x\n',
+    'high': b'\n---\n- &a ' + b'[' * 600 + b']' * 600 + b'\n- ' + b'[' * 600 + b'*a ' + b']' * 600 + b'\n',
+}
 Cost = collections.namedtuple('Cost', 'micros memory output ended')
 
 
@@ -33,19 +41,26 @@ def bounded(space):
 def measured(command, text, space):
     """Seconds, peak memory and output of a run, and how it ended."""
     with tempfile.TemporaryDirectory(dir='/dev/shm') as room:
-        words = words_of(command, text, room, bounded(space))
+        words, told = words_of(command, text, room, bounded(space)), os.path.join(room, 'told')
+        # By `time`, since the peak of a process that Python starts is at least Python's own.
+        timed = ['time', '--quiet', '--format=%M', '--output=' + told]
         with open(os.path.join(room, 'out'), 'wb') as out, open(os.path.join(room, 'err'), 'w+b') as err:
-            process = subprocess.Popen([PROGRAM] + words, stdout=out, stderr=err, preexec_fn=bounded(space))
+            process = subprocess.Popen(timed + [PROGRAM] + words, stdout=out, stderr=err, preexec_fn=bounded(space))
             _, status, used = os.wait4(process.pid, 0)
-            process.returncode = 0
+            process.returncode = os.waitstatus_to_exitcode(status)
             err.seek(0)
             said = err.read().decode().strip() or 'answered'
-            ended = 'signal %d' % os.WTERMSIG(status) if os.WIFSIGNALED(status) else said
-            return used.ru_utime + used.ru_stime, used.ru_maxrss * 1024, os.fstat(out.fileno()).st_size, ended
+            if process.returncode in (126, 127):
+                raise SystemExit(said)
+            ended = 'signal %d' % (process.returncode - 128) if process.returncode > 128 else said
+            with open(told, encoding='ascii') as peak:
+                memory = int(peak.read().split()[-1]) * 1024
+            return used.ru_utime + used.ru_stime, memory, os.fstat(out.fileno()).st_size, ended
 
 
 def cost(kind, name, asked):
-    text = SHAPES[name](asked.size) + (REFUSED_LATER if kind == 'later' else b'')
+    shape, _, end = name.partition(' before ')
+    text = SHAPES[shape](asked.size) + ENDS.get(end, b'')
     command = 'canon' if kind == 'later' else kind
     seconds, memory, output, ended = measured(command, text, asked.space)
     free = measured(command, b'', asked.space)
@@ -56,6 +71,8 @@ def cost(kind, name, asked):
 def costs_of(kind, names, asked):
     """The cost of each shape, which is told on standard error as it is known."""
     costs = {}
+    if kind == 'later':
+        names = ['%s before %s' % (name, end) for name in names for end in ENDS]
     with concurrent.futures.ThreadPoolExecutor(max(1, len(os.sched_getaffinity(0)) // 2)) as pool:
         running = {pool.submit(cost, kind, name, asked): name for name in names}
         for done in concurrent.futures.as_completed(running):
