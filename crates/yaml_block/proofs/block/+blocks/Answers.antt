@@ -15,19 +15,19 @@ use Rattle.yaml_mark.specs.HandlesModel.{handles_of}
 use Rattle.law_one_reading.specs.Follows.{Dash}
 use Rattle.law_going_on.specs.GoingOn.{Here}
 use Rattle.law_going_on.proofs.GoingOn.{rest_rest, rest_goes, rest_refused}
-use Rattle.yaml_flow.specs.NodeAnswer.{Decides}
-use Rattle.yaml_flow.specs.Lines.{IsLine, IsDash}
-use Rattle.yaml_flow.specs.Levels.{StartsWith}
-use Rattle.yaml_flow.specs.declared.level.Level.{Level}
-use Rattle.yaml_flow.specs.declared.properties.Head.{Head}
+use Rattle.yaml_line.specs.NodeAnswer.{Decides}
+use Rattle.yaml_line.specs.Lines.{IsLine, IsDash}
+use Rattle.yaml_line.specs.NodeLevels.{StartsWith}
+use Rattle.yaml_line.specs.declared.level.Level.{Level}
+use Rattle.yaml_line.specs.declared.properties.Head.{Head}
 use Rattle.yaml_sink.specs.PropertyRules.{props_of, both_props, dressed, SomeProperties}
-use Rattle.yaml_flow.specs.declared.line.Line.{Line}
+use Rattle.yaml_line.specs.declared.line.Line.{Line}
 use Rattle.yaml_sink.specs.SinkModel.{holds_of}
-use Rattle.yaml_flow.proofs.AnswerLemmas.{appends_by, puts_on, puts_after, puts_altered}
-use Rattle.yaml_flow.proofs.PropertyLemmas.{own_marks}
-use Rattle.yaml_flow.proofs.FlowLemmas.{bare_flow}
-use Rattle.yaml_flow.proofs.PropertyDecisions.{or_else, line_all}
-use Rattle.yaml_flow.proofs.Deciding.{decides_err}
+use Rattle.yaml_line.proofs.AnswerLemmas.{appends_by, puts_on, puts_after, puts_altered}
+use Rattle.yaml_line.proofs.PropertyLemmas.{own_marks}
+use Rattle.yaml_line.proofs.NodeLemmas.{bare_flow}
+use Rattle.yaml_line.proofs.PropertyDecisions.{or_else, line_all}
+use Rattle.yaml_line.proofs.Deciding.{decides_err}
 use Rattle.yaml_block.specs.BlockRules.{block_scalar_rest, node_rest, line_rest, value_rest, entry_rest, entries_rest, sequence_with, seq_body}
 use Rattle.yaml_block.specs.BlockEnds.{AfterNode, AfterEntry, AfterSequence, AfterMapping, IsNoKey}
 use Rattle.yaml_block.specs.BlockCalls.{flow_level, StartsDressed, EndsLine, IsNextDash, IsFirstColon}

@@ -5,7 +5,7 @@ use Rattle.yaml_definitions.specs.grammar.Events.{seq_start}
 use Rattle.yaml_mark.specs.HandlesModel.{handles_of}
 use Rattle.yaml_sink.specs.Held.{Puts}
 use Rattle.yaml_sink.specs.SinkModel.{holds_of}
-use Rattle.yaml_flow.specs.Lines.{IsLine}
+use Rattle.yaml_line.specs.Lines.{IsLine}
 use Rattle.yaml_sink.specs.PropertyRules.{props_of}
 use Rattle.yaml_text.specs.Lines.{AfterLine}
 use Rattle.yaml_definitions.specs.grammar.Rules.{◌▸◌, any}
