@@ -11,14 +11,14 @@ ghost use Rattle.yaml_definitions.specs.grammar.Nodes.{wide};
 ghost use Rattle.yaml_mark.specs.HandlesModel.{handles_of};
 ghost use Rattle.law_one_reading.specs.Follows.{Over, Follow};
 ghost use Rattle.law_going_on.specs.GoingOn.{Here};
-ghost use Rattle.yaml_flow.specs.NodeAnswer.{Appends, Decides};
+ghost use Rattle.yaml_line.specs.NodeAnswer.{Appends, Decides};
 ghost use Rattle.yaml_sink.specs.SinkModel.{holds_of};
-ghost use Rattle.yaml_flow.specs.Lines.{IsLine};
+ghost use Rattle.yaml_line.specs.Lines.{IsLine};
 
 use crate::block::{read_root, read_value};
 use std::alloc::Global;
-use yaml_flow::level::Level;
-use yaml_flow::line::Line;
+use yaml_line::level::Level;
+use yaml_line::line::Line;
 use yaml_mark::handles::Handles;
 use yaml_sink::sink::{Keeper, Sink};
 use yaml_text::chars::Chars;

@@ -1,5 +1,5 @@
--- A flow node with its properties or without any: it decides what its content decides.
-use Rattle.std.proofs.Common.{◌≡◌, ◌≢◌, ℕ, zero, suc, ◌⊎◌, inl, inr, List, [], ◌∷◌, Result, Some, refl, sym, subst, arith, ◌<◌}
+-- A flow node with its properties, or an alias: it decides what its content decides.
+use Rattle.std.proofs.Common.{◌≡◌, ℕ, zero, suc, ◌⊎◌, inl, inr, List, [], ◌∷◌, Result, Some, refl, sym, subst, arith, ◌<◌}
 use Rattle.std.specs.Prelude.{slice_get}
 use Rattle.std.specs.Result.{IsErrAnd}
 use Rattle.std.proofs.Math.Nat.{eq-or-lt_of_le}
@@ -7,18 +7,18 @@ use Rattle.yaml_definitions.specs.model.Event.{Event}
 use Rattle.yaml_text.specs.Lines.{Inside}
 use Rattle.yaml_text.specs.declared.fault.Fault.{Fault}
 use Rattle.yaml_text.specs.declared.fault.Fault.TheVariants.{OutOfMemory}
-use Rattle.yaml_definitions.specs.grammar.Rules.{Rule, ◌▸◌, ◌∪◌, gives, maybe, with_value}
+use Rattle.yaml_definitions.specs.grammar.Rules.{Rule, ◌▸◌, gives, maybe, with_value}
 use Rattle.yaml_definitions.specs.grammar.Separation.{Ctx, block_out, block_in, flow_out, flow_in, block_key, flow_key, s-separate as separate, s-l-comments as s_l_comments}
 use Rattle.yaml_definitions.specs.grammar.Tags.{Handles, c-ns-properties as properties}
 use Rattle.yaml_definitions.specs.grammar.Tags as tags
 use Rattle.yaml_definitions.specs.grammar.Events.{Props, no_props, alias_node, e-scalar as empty}
-use Rattle.yaml_definitions.specs.grammar.Nodes.{Part, yaml_part, json_part, ns-flow-yaml-node as yaml_node, c-flow-json-node as json_node, reads}
+use Rattle.yaml_definitions.specs.grammar.Nodes.{Part, yaml_part, json_part, reads}
 use Rattle.law_one_reading.specs.Readings.{End, At, Starts}
 use Rattle.law_one_reading.specs.Follows.{Solid, Fresh, Closes, Colon, EndsYamlNode as Fy, EndsJsonNode as Fj, EndsNode as F}
 use Rattle.law_one_reading.proofs.Lines.{way_maybe}
 use Rattle.law_one_reading.proofs.Properties.{NoMore, props_two, props_here, props_inside}
 use Rattle.law_one_reading.proofs.TagEnds.{prop_same, prop_here, prop_inside, alias_same}
-use Rattle.law_one_reading.proofs.FlowNodes.{Kind, Sign, kind_three, kind_same, plain_start, jsons_start, prop_kind, ContentHere, Plains, Jsons, YamlRest, JsonRest, yaml_next, json_next, json_parts}
+use Rattle.law_one_reading.proofs.FlowNodes.{Kind, Sign, kind_three, kind_same, plain_start, jsons_start, prop_kind, ContentHere, Plains, Jsons, YamlRest, JsonRest, yaml_next, json_next}
 use Rattle.law_one_reading.proofs.FlowEntries.{Facts, closes_solid, colon_solid, colon_part}
 use Rattle.law_one_reading.proofs.FlowLevels.{inner_in, inner_out, no_facts, reads_facts, jsons_unique, plain_flow_unique, next_flow, content_flow, end_solid}
 use Rattle.law_one_reading.proofs.PlainEnds.{plain_block_unique}
@@ -26,21 +26,21 @@ use Rattle.law_one_reading.proofs.BlockNodes.{next_here, content_here}
 use Rattle.law_going_on.specs.GoingOn.{Refused, Goes, Rest, Here}
 use Rattle.law_going_on.specs.FlowEnds.{EndsYaml, EndsJson}
 use Rattle.law_going_on.proofs.GoingOn.{rest_goes, rest_refused, rest_rest, rest_right, rest_seen, refused_either}
-use Rattle.law_going_on.proofs.FlowStarts.{plain_left, alias_left, no_json, yaml_propped, json_propped, propped_begin}
+use Rattle.law_going_on.proofs.FlowStarts.{alias_left, no_json, yaml_propped, json_propped}
 use Rattle.law_going_on.proofs.PropertyChoices.{Second, rest_propped, plain_after, json_after, goes_gives, refused_gives}
 use Rattle.law_going_on.proofs.Separations.{rest_separate, refused_separate, lines_of}
 use Rattle.law_going_on.proofs.FlowLoops.{closes_fresh}
-use Rattle.yaml_flow.specs.PropertyDecisions.{IsProperty, AllProperties, Barred, Stops, another, nothing, EndOf, LineGoesOn, IsRefused, IsOnly, DecidesNode}
-use Rattle.yaml_flow.specs.FlowDecisions.{IsOpening, ContentOnly, ContentRefused}
-use Rattle.yaml_flow.specs.FlowRules.{opens, below, content_at, content_from}
-use Rattle.yaml_flow.specs.declared.flow.Kind as kinds
-use Rattle.yaml_flow.specs.declared.flow.Kind.TheVariants.{Yaml, Json}
-use Rattle.yaml_flow.specs.declared.flow.FlowNode.{FlowNode}
-use Rattle.yaml_flow.proofs.Deciding.{at_err, one_end, no_end}
-use Rattle.yaml_flow.proofs.FlowLemmas.{from_reads}
-use Rattle.yaml_flow.proofs.LineLemmas.{spaces_apart}
+use Rattle.yaml_line.specs.PropertyDecisions.{AllProperties, Barred, Stops, another, nothing, EndOf, LineGoesOn, IsRefused, IsOnly, DecidesNode}
+use Rattle.yaml_line.specs.NodeDecisions.{IsOpening, ContentOnly, ContentRefused}
+use Rattle.yaml_line.specs.NodeRules.{opens, below, content_at, content_from}
+use Rattle.yaml_line.specs.declared.flow.Kind as kinds
+use Rattle.yaml_line.specs.declared.flow.Kind.TheVariants.{Yaml, Json}
+use Rattle.yaml_line.specs.declared.flow.FlowNode.{FlowNode}
+use Rattle.yaml_line.proofs.PlainDecisions.{yaml_level, json_level}
+use Rattle.yaml_line.proofs.Deciding.{at_err, one_end, no_end}
+use Rattle.yaml_line.proofs.LineLemmas.{spaces_apart}
 use Rattle.law_going_on.proofs.PropertyLines.{no_gap}
-use Rattle.yaml_flow.proofs.PropertyDecisions.{no_more}
+use Rattle.yaml_line.proofs.PropertyDecisions.{no_more}
 use Rattle.yaml_flow.proofs.ContentDecisions.{opening_kind}
 
 abbrev Wide : Type 0
@@ -67,49 +67,15 @@ module _ (cs : List ℕ) (handles : Handles) (room n : ℕ) (c : Ctx) where
   abbrev Content : kinds.Kind → Props → Rule (List Event)
   Content kind p = content_at cs Wide handles p kind room n c
 
-  yaml_level : (E : End) (i : ℕ) → Rest YamlNode E i (yaml_node cs Wide handles Open Inner n c) E i
-  yaml_level E i = record { rest = λ j m v r e. (j, v, from_reads cs Wide handles room (yaml_part n c) i j v r, e) }
-
-  json_level : (E : End) (i : ℕ) → Rest JsonNode E i (json_node cs Wide handles Open Inner n c) E i
-  json_level E i = record { rest = λ j m v r e. (j, v, from_reads cs Wide handles room (json_part n c) i j v r, e) }
-
-  -- ---- without properties
-
-  no_prop : (i : ℕ) → (IsProperty cs i → ⊥) → Kind cs 1 i → ⊥
-  no_prop i f (x, h, Sign.bang _ e) = f (inl (subst (λ y. slice_get cs i ≡ Some y) e h))
-  no_prop i f (x, h, Sign.and _ e) = f (inr (subst (λ y. slice_get cs i ≡ Some y) e h))
-
-  no_star : (i : ℕ) → slice_get cs i ≢ Some 42 → Kind cs 2 i → ⊥
-  no_star i f (x, h, Sign.star _ e) = f (subst (λ y. slice_get cs i ≡ Some y) e h)
-
-  pub bare_yaml : (E : End) (i : ℕ) → (IsProperty cs i → ⊥) → slice_get cs i ≢ Some 42 → Rest YamlNode E i (Content Yaml no_props) E i
-  bare_yaml E i f g = rest_rest (yaml_level E i) (plain_left cs Wide handles Open Inner n c E i (no_prop i f) (no_star i g))
-
-  pub bare_json : (E : End) (i : ℕ) → (IsProperty cs i → ⊥) → Rest JsonNode E i (Content Json no_props) E i
-  bare_json E i f = rest_rest (json_level E i) (record { rest = λ j m v r e. go j m v e (json_parts cs Wide handles Open Inner n c i j v r) })
-    where
-      go : (j m : ℕ) (v : List Event) → E j m → (Jsons cs Wide handles Open Inner n c no_props ∪ with_value (properties cs handles n c) (JsonRest cs Wide handles Open Inner n c)) i j v
-          → (k : ℕ) × (w : List Event) × Content Json no_props i k w × E k m
-      go j m v e (inl r) = (j, v, r, e)
-      go j m v e (inr r) = absurd (no_prop i f (propped_begin cs Wide handles Open Inner n c (JsonRest cs Wide handles Open Inner n c) i j v r))
-
-  pub bare_only : (i x : ℕ) (kind : kinds.Kind) → (IsProperty cs i → ⊥) → slice_get cs i ≢ Some 42 → ContentOnly cs handles room n c i kind x → IsOnly cs handles room n c i kind x
-  bare_only i x Yaml f g (t, r) = ((λ d. rest_goes (bare_yaml (EndOf cs Yaml n c d) i f g) (t no_props d)), λ d. rest_refused (bare_json (EndOf cs Json n c d) i f) (r no_props d))
-  bare_only i x Json f g (t, r) = ((λ d. rest_goes (bare_json (EndOf cs Json n c d) i f) (t no_props d)), λ d. rest_refused (bare_yaml (EndOf cs Yaml n c d) i f g) (r no_props d))
-
-  pub bare_refused : (i : ℕ) → (IsProperty cs i → ⊥) → slice_get cs i ≢ Some 42 → ContentRefused cs handles room n c i Yaml × ContentRefused cs handles room n c i Json
-      → IsRefused cs handles room n c i Yaml × IsRefused cs handles room n c i Json
-  bare_refused i f g (t, r) = ((λ d. rest_refused (bare_yaml (EndOf cs Yaml n c d) i f g) (t no_props d)), λ d. rest_refused (bare_json (EndOf cs Json n c d) i f) (r no_props d))
-
   -- an asterisk
   star_kind : (k i : ℕ) → slice_get cs i ≡ Some 42 → (k ≡ 2 → ⊥) → Kind cs k i → ⊥
   star_kind k i h f g = f (kind_same cs k 2 i g (42, h, Sign.star 42 refl))
 
   star_no_json : (E : End) (i : ℕ) → slice_get cs i ≡ Some 42 → Refused JsonNode E i
-  star_no_json E i h = rest_refused (json_level E i) (no_json cs Wide handles Open Inner n c E i (star_kind 1 i h (λ e. omega (arith, e))) (star_kind 3 i h (λ e. omega (arith, e))))
+  star_no_json E i h = rest_refused (json_level cs handles room n c E i) (no_json cs Wide handles Open Inner n c E i (star_kind 1 i h (λ e. omega (arith, e))) (star_kind 3 i h (λ e. omega (arith, e))))
 
   star_left : (E : End) (i : ℕ) → slice_get cs i ≡ Some 42 → Rest YamlNode E i (tags.c-ns-alias-node cs) E i
-  star_left E i h = rest_rest (yaml_level E i) (rest_rest (alias_left cs Wide handles Open Inner n c E i (42, h, Sign.star 42 refl)) (rest_seen (λ x. alias_node x ∷ []) (tags.c-ns-alias-node cs) E i))
+  star_left E i h = rest_rest (yaml_level cs handles room n c E i) (rest_rest (alias_left cs Wide handles Open Inner n c E i (42, h, Sign.star 42 refl)) (rest_seen (λ x. alias_node x ∷ []) (tags.c-ns-alias-node cs) E i))
 
   pub alias_only : (i x : ℕ) → slice_get cs i ≡ Some 42 → Goes (tags.c-ns-alias-node cs) Here i Here x → IsOnly cs handles room n c i Yaml x
   alias_only i x h g = ((λ d. let E = EndOf cs Yaml n c d in rest_goes (star_left E i h) (one_end (tags.c-ns-alias-node cs) E i x g)), λ d. star_no_json (EndOf cs Json n c d) i h)
@@ -148,10 +114,10 @@ module _ (cs : List ℕ) (handles : Handles) (room n : ℕ) (c : Ctx) where
     none = no_more cs handles n c i k p all
 
     left_yaml : Rest YamlNode EY i (YamlRest cs Wide handles Open Inner n c p) EY k
-    left_yaml = rest_rest (yaml_level EY i) (rest_rest (yaml_propped cs Wide handles Open Inner n c EY i here) (rest_propped cs handles n c (YamlRest cs Wide handles Open Inner n c) EY i k p r none f.nexty))
+    left_yaml = rest_rest (yaml_level cs handles room n c EY i) (rest_rest (yaml_propped cs Wide handles Open Inner n c EY i here) (rest_propped cs handles n c (YamlRest cs Wide handles Open Inner n c) EY i k p r none f.nexty))
 
     left_json : Rest JsonNode EJ i (JsonRest cs Wide handles Open Inner n c p) EJ k
-    left_json = rest_rest (json_level EJ i) (rest_rest (json_propped cs Wide handles Open Inner n c EJ i here) (rest_propped cs handles n c (JsonRest cs Wide handles Open Inner n c) EJ i k p r none f.nextj))
+    left_json = rest_rest (json_level cs handles room n c EJ i) (rest_rest (json_propped cs Wide handles Open Inner n c EJ i here) (rest_propped cs handles n c (JsonRest cs Wide handles Open Inner n c) EJ i k p r none f.nextj))
 
     -- separation leads to no content
     nowhere : ((q : ℕ) → maybe (separate cs n c) k q → Fresh cs q → ⊥) → ((m : ℕ) → EY k m → ⊥) → Both

@@ -1,5 +1,5 @@
 -- What a node's content decides by its first character: an alias, a plain scalar, a quoted one or a flow collection.
-use Rattle.std.proofs.Common.{◌≡◌, ℕ, ◌⊎◌, inl, inr, List, [], ◌∷◌, Result, Ok, Err, Option, Some, None, refl, sym, ◌∙◌, subst}
+use Rattle.std.proofs.Common.{◌≡◌, ℕ, ◌⊎◌, inl, inr, List, [], ◌∷◌, Result, Option, Some, refl, sym, ◌∙◌, subst}
 use Rattle.std.specs.Prelude.{slice_get}
 use Rattle.std.specs.Result.{IsErrAnd}
 use Rattle.yaml_definitions.specs.model.Event.{Event}
@@ -16,20 +16,20 @@ use Rattle.yaml_definitions.specs.grammar.Rules.{Rule}
 use Rattle.yaml_definitions.specs.grammar.Separation.{Ctx, block_out, block_in, flow_out, flow_in, block_key, flow_key, inner}
 use Rattle.yaml_definitions.specs.grammar.Tags as tags
 use Rattle.yaml_definitions.specs.grammar.FlowScalars.{ns-plain as plain}
-use Rattle.law_one_reading.proofs.FlowNodes.{Kind, Sign, plain_no_kind, plain_start, jsons_start}
+use Rattle.law_one_reading.proofs.FlowNodes.{Kind, Sign, plain_no_kind, plain_start}
 use Rattle.law_one_reading.proofs.FlowLevels.{inner_in, inner_out}
 use Rattle.law_going_on.proofs.GoingOn.{rest_goes, rest_refused, rest_seen}
 use Rattle.law_going_on.proofs.FlowStarts.{single_left, double_left, sequence_left, mapping_left}
 use Rattle.law_going_on.specs.GoingOn.{Refused, Goes, Here}
 use Rattle.law_going_on.proofs.PlainScalars.{plain_block_goes}
 use Rattle.law_going_on.proofs.FlowChoices.{plain_in_flow}
-use Rattle.yaml_flow.specs.PropertyDecisions.{EndOf}
-use Rattle.yaml_flow.specs.FlowDecisions.{IsOpening, DecidesPlain, ContentTaken, ContentRefused, ContentOnly, DecidesContent}
-use Rattle.yaml_flow.specs.FlowRules.{opens, below, content_at, NoOpening}
-use Rattle.yaml_flow.specs.declared.flow.Kind as kinds
-use Rattle.yaml_flow.specs.declared.flow.FlowNode.{FlowNode}
-use Rattle.yaml_flow.proofs.Deciding.{at_err, one_end, no_end}
-use Rattle.yaml_flow.specs.declared.flow.Kind.TheVariants.{Yaml, Json}
+use Rattle.yaml_line.specs.PropertyDecisions.{EndOf}
+use Rattle.yaml_line.specs.NodeDecisions.{IsOpening, ContentTaken, ContentRefused, ContentOnly, DecidesContent}
+use Rattle.yaml_line.specs.NodeRules.{opens, below, content_at}
+use Rattle.yaml_line.specs.declared.flow.Kind as kinds
+use Rattle.yaml_line.specs.declared.flow.FlowNode.{FlowNode}
+use Rattle.yaml_line.proofs.Deciding.{at_err, one_end, no_end}
+use Rattle.yaml_line.specs.declared.flow.Kind.TheVariants.{Yaml, Json}
 
 module _ (cs : List ℕ) where
   -- ---- aliases
@@ -71,15 +71,6 @@ module _ (cs : List ℕ) (handles : Handles) (room n : ℕ) (c : Ctx) (i : ℕ) 
   abbrev Inner : Part → Rule (List Event)
   Inner = below cs Wide handles room
 
-  no_json_content : NoOpening cs i → ContentRefused cs handles room n c i Json
-  no_json_content (a, b, q, r) p d = record { none = λ j m v s e. go (jsons_start cs Wide handles Open Inner n c p i j v s) }
-    where
-      go : Kind cs 3 i → ⊥
-      go (x, h, Sign.quotes _ e) = r (subst (λ y. slice_get cs i ≡ Some y) e h)
-      go (x, h, Sign.quote _ e) = q (subst (λ y. slice_get cs i ≡ Some y) e h)
-      go (x, h, Sign.bracket _ e) = a (subst (λ y. slice_get cs i ≡ Some y) e h)
-      go (x, h, Sign.brace _ e) = b (subst (λ y. slice_get cs i ≡ Some y) e h)
-
   pub opening_kind : IsOpening cs i → Kind cs 3 i
   opening_kind (inl h) = (91, h, Sign.bracket 91 refl)
   opening_kind (inr (inl h)) = (123, h, Sign.brace 123 refl)
@@ -88,14 +79,6 @@ module _ (cs : List ℕ) (handles : Handles) (room n : ℕ) (c : Ctx) (i : ℕ) 
 
   no_plain_content : IsOpening cs i → ContentRefused cs handles room n c i Yaml
   no_plain_content h p d = record { none = λ j m v (t, r, e) f. plain_no_kind cs c 3 i (opening_kind h) (plain_start cs n c i j t r).1 }
-
-  -- neither a quote nor a bracket: what is said of plain scalars
-  pub plain_content : (end : FlowNode → ℕ) (r : Result (Option FlowNode) Fault) → NoOpening cs i → DecidesPlain cs n c i end r → DecidesContent cs handles room n c i end r
-  plain_content end (Ok (Some node)) none (k, g) =
-      subst (λ x. ContentOnly cs handles room n c i x (end node)) (sym k)
-      ((λ p d. rest_goes (rest_seen (λ t. scalar p style.plain t ∷ []) (plain cs n c) (EndOf cs Yaml n c d) i) (g d)), no_json_content none)
-  plain_content end (Ok None) none u = ((λ p d. record { none = λ j m v (t, r, e) f. u j t r }), no_json_content none)
-  plain_content end (Err e) none h = inl h
 
   -- a quote or a bracket: one end whatever follows, or none
   only_json : (x : ℕ) → IsOpening cs i → ContentTaken cs handles room n c i Json x → (k : kinds.Kind) → k ≡ Json → ContentOnly cs handles room n c i k x

@@ -13,15 +13,15 @@ use Rattle.yaml_definitions.specs.grammar.Tags as tags
 use Rattle.yaml_definitions.specs.grammar.Events.{Props}
 use Rattle.law_one_reading.specs.Follows.{Solid}
 use Rattle.law_going_on.specs.GoingOn.{Refused, Here}
-use Rattle.yaml_flow.specs.NodeAnswer.{Decides}
-use Rattle.yaml_flow.specs.PropertyDecisions.{IsOnly, DecidesNode}
-use Rattle.yaml_flow.specs.FlowDecisions.{ContentOnly, ContentRefused, DecidesContent, DecidesEach}
+use Rattle.yaml_line.specs.NodeAnswer.{Decides}
+use Rattle.yaml_line.specs.PropertyDecisions.{IsOnly, DecidesNode}
+use Rattle.yaml_flow.specs.FlowDecisions.{DecidesEach}
 use Rattle.yaml_flow.specs.FlowRules.{MayFollowColon, SignAt, IsParted}
-use Rattle.yaml_flow.specs.declared.flow.Kind as kinds
-use Rattle.yaml_flow.specs.declared.flow.Kind.TheVariants.{Yaml, Json}
-use Rattle.yaml_flow.specs.declared.flow.FlowNode.{FlowNode}
-use Rattle.yaml_flow.proofs.Deciding.{at_err}
-use Rattle.yaml_flow.proofs.PropertyDecisions.{or_else}
+use Rattle.yaml_line.specs.declared.flow.Kind as kinds
+use Rattle.yaml_line.specs.declared.flow.Kind.TheVariants.{Yaml, Json}
+use Rattle.yaml_line.specs.declared.flow.FlowNode.{FlowNode}
+use Rattle.yaml_line.proofs.Deciding.{at_err}
+use Rattle.yaml_line.proofs.PropertyDecisions.{or_else}
 use Rattle.yaml_flow.proofs.BareDecisions.{alias_only, alias_refused}
 use Rattle.yaml_flow.proofs.EntryDecisions.{char_inside, nb_question}
 
@@ -33,13 +33,6 @@ if_some P o x e p = let q : IfSome (Some x) P = subst (λ y. IfSome y P) e p in 
 pub if_none : {X : Type 0} (P : Type 0) (o : Option X) → o ≡ None → IfNone o P → P
 if_none P None e p = p
 if_none P (Some x) e p = let h : Some x ≡ None = e in cc
-
-module _ (cs : List ℕ) (handles : Handles) (room n : ℕ) (c : Ctx) (i : ℕ) (end : FlowNode → ℕ) (found : Option FlowNode) where
-  pub content_some : (node : FlowNode) → found ≡ Some node → DecidesContent cs handles room n c i end (Ok found) → ContentOnly cs handles room n c i node.kind (end node)
-  content_some node e d = let q : DecidesContent cs handles room n c i end (Ok (Some node)) = subst (λ y. DecidesContent cs handles room n c i end (Ok y)) e d in q
-
-  pub content_none : found ≡ None → DecidesContent cs handles room n c i end (Ok found) → ContentRefused cs handles room n c i Yaml × ContentRefused cs handles room n c i Json
-  content_none e d = let q : DecidesContent cs handles room n c i end (Ok None) = subst (λ y. DecidesContent cs handles room n c i end (Ok y)) e d in q
 
 -- ---- nodes
 

@@ -1,26 +1,24 @@
--- From what a reader of flow nodes has read to the productions, at each room that holds it.
-use Rattle.std.proofs.Common.{◌≡◌, ℕ, zero, suc, true, ◌+◌, ◌<◌, List, [], ◌∷◌, ◌++◌, refl, sym, ap, subst, arith, inl, inr, max}
+-- From what a reader of flow nodes has read to the productions of contents and parts, at each room that holds it.
+use Rattle.std.proofs.Common.{◌≡◌, ℕ, zero, suc, true, ◌+◌, ◌<◌, List, [], ◌∷◌, ◌++◌, refl, ap, subst, arith, inl, inr, max}
 use Rattle.yaml_definitions.specs.model.Event.{Event, sequence_end, mapping_end}
 use Rattle.yaml_definitions.specs.model.Event as style
 use Rattle.yaml_definitions.specs.grammar.Rules.{Rule, ◌◂◌, any, optional, chr, maybe, done}
 use Rattle.yaml_definitions.specs.grammar.Separation.{Ctx, block_in, block_out, flow_out, flow_in, block_key, flow_key, inner, s-separate as separate}
-use Rattle.yaml_definitions.specs.grammar.Tags.{Handles, c-ns-properties as properties}
-use Rattle.yaml_definitions.specs.grammar.Tags as tags
-use Rattle.yaml_definitions.specs.grammar.Events.{Props, no_props, seq_start, map_start, scalar, alias_node, wrapped, e-scalar as empty}
+use Rattle.yaml_definitions.specs.grammar.Tags.{Handles}
+use Rattle.yaml_definitions.specs.grammar.Events.{no_props, seq_start, map_start, scalar, wrapped, e-scalar as empty}
 use Rattle.yaml_definitions.specs.grammar.FlowScalars as flow
 use Rattle.yaml_definitions.specs.grammar.Nodes as nodes
-use Rattle.yaml_definitions.specs.grammar.Nodes.{Part, yaml_part, json_part, pair_part, part, reads}
+use Rattle.yaml_definitions.specs.grammar.Nodes.{reads}
 use Rattle.yaml_text.proofs.Repeats.{any_push}
-use Rattle.yaml_flow.specs.Keys.{ColonAfter}
-use Rattle.yaml_flow.specs.FlowRules.{part_of, opens, below, flow_from, content_at, content_from, Bare, aliased, plainly, with_properties, lone, from_room, item_at, entry_at, keyed_at, asked_at, value_at, spaced, comma, parts, MayFollowColon, IsInner, IsParted, quoted, quoted_style}
-use Rattle.yaml_sink.specs.PropertyRules.{dressed}
-use Rattle.yaml_flow.proofs.PropertyLemmas.{marks_props}
+use Rattle.yaml_line.specs.Keys.{ColonAfter}
+use Rattle.yaml_line.specs.NodeRules.{flow_from, content_from, from_room, IsInner}
+use Rattle.yaml_flow.specs.FlowRules.{item_at, entry_at, keyed_at, asked_at, value_at, spaced, comma, parts, MayFollowColon, IsParted, quoted, quoted_style}
 use Rattle.yaml_flow.specs.declared.flow.scalars.Quote.{Quote}
 use Rattle.yaml_flow.specs.declared.flow.scalars.Quote.TheVariants as quotes
-use Rattle.yaml_flow.specs.declared.flow.Kind.{Kind}
-use Rattle.yaml_flow.specs.declared.flow.Kind.TheVariants.{Yaml, Json}
-use Rattle.yaml_flow.proofs.KeyLaws.{flow_key_too}
-use Rattle.yaml_flow.proofs.SpaceLemmas.{maybe_sep, in_text}
+use Rattle.yaml_line.specs.declared.flow.Kind.{Kind}
+use Rattle.yaml_line.specs.declared.flow.Kind.TheVariants.{Yaml, Json}
+use Rattle.yaml_line.proofs.KeyLaws.{flow_key_too}
+use Rattle.yaml_line.proofs.SpaceLemmas.{maybe_sep, in_text}
 
 append_nil_back : {A : Type 0} (xs : List A) → xs ≡ xs ++ []
 append_nil_back [] = refl
@@ -58,18 +56,6 @@ module _ (cs : List ℕ) (n : ℕ) (c : Ctx) (R S : Rule (List Event)) (f : (i j
   last_by i j es (inr r) = inr (spaced_by i j es r)
 
 module _ (cs : List ℕ) (Wide : Type 0) (handles : Handles) where
-  -- ---- rooms
-
-  pub to_reads : (room : ℕ) (p : Part) (i j : ℕ) (es : List Event) → part cs Wide handles (opens cs Wide handles room) (below cs Wide handles room) p i j es → reads cs Wide handles room p i j es
-  unfolding reads
-  to_reads zero p i j es r = r
-  to_reads (suc room) p i j es r = r
-
-  pub from_reads : (room : ℕ) (p : Part) (i j : ℕ) (es : List Event) → reads cs Wide handles room p i j es → part cs Wide handles (opens cs Wide handles room) (below cs Wide handles room) p i j es
-  unfolding reads
-  from_reads zero p i j es r = r
-  from_reads (suc room) p i j es r = r
-
   -- ---- contents
 
   pub sequence_is : (n : ℕ) (c : Ctx) (deep i k l j : ℕ) (es : List Event) → chr cs 91 i k → maybe (separate cs n c) k l →
@@ -102,52 +88,6 @@ module _ (cs : List ℕ) (Wide : Type 0) (handles : Handles) where
   pub quoted_is : (q : Quote) (n : ℕ) (c : Ctx) (i j : ℕ) (text : List ℕ) → quoted q cs n c i j text → content_from cs Wide handles 0 Json n c i j (scalar no_props (quoted_style q) text ∷ [])
   quoted_is quotes.Single n c i j text p room le = inl (text, p, refl)
   quoted_is quotes.Double n c i j text p room le = inr (inl (text, p, refl))
-
-  -- with properties on its first event
-  pub dressed_at : (p : Props) (kind : Kind) (room n : ℕ) (c : Ctx) (i j : ℕ) (es : List Event) → content_at cs Wide handles no_props kind room n c i j es → content_at cs Wide handles p kind room n c i j (dressed p es)
-  unfolding nodes.c-flow-sequence nodes.c-flow-mapping
-  dressed_at p Yaml room n c i j es (t, r, e) = (t, r, ap (dressed p) e)
-  dressed_at p Json room n c i j es (inl (t, r, e)) = inl (t, r, ap (dressed p) e)
-  dressed_at p Json room n c i j es (inr (inl (t, r, e))) = inr (inl (t, r, ap (dressed p) e))
-  dressed_at p Json room n c i j es (inr (inr (inl (o, (xs, r, e))))) = inr (inr (inl (o, (xs, r, ap (dressed p) e))))
-  dressed_at p Json room n c i j es (inr (inr (inr (o, (xs, r, e))))) = inr (inr (inr (o, (xs, r, ap (dressed p) e))))
-
-  -- ---- nodes
-
-  pub unmarked_node : (kind : Kind) (room n : ℕ) (c : Ctx) (i j : ℕ) (es : List Event) → content_at cs Wide handles no_props kind room n c i j es → reads cs Wide handles room (part_of kind n c) i j es
-  unfolding nodes.ns-flow-yaml-node nodes.c-flow-json-node
-  unmarked_node Yaml room n c i j es r = to_reads room (yaml_part n c) i j es (inr (inl r))
-  unmarked_node Json room n c i j es r = to_reads room (json_part n c) i j es (i, no_props, inl (refl, refl), r)
-
-  pub marked_node : (kind : Kind) (room n : ℕ) (c : Ctx) (p : Props) (i e k j : ℕ) (es : List Event) → properties cs handles n c i e p → separate cs n c e k →
-      content_at cs Wide handles p kind room n c k j es → reads cs Wide handles room (part_of kind n c) i j es
-  unfolding nodes.ns-flow-yaml-node nodes.c-flow-json-node
-  marked_node Yaml room n c p i e k j es m s r = to_reads room (yaml_part n c) i j es (inr (inr (e, p, m, inl (k, s, r))))
-  marked_node Json room n c p i e k j es m s r = to_reads room (json_part n c) i j es (k, p, inr (e, m, s), r)
-
-  pub lone_node : (room n : ℕ) (c : Ctx) (p : Props) (i j : ℕ) (es : List Event) → properties cs handles n c i j p → es ≡ empty p → reads cs Wide handles room (yaml_part n c) i j es
-  unfolding nodes.ns-flow-yaml-node
-  lone_node room n c p i j es m e = to_reads room (yaml_part n c) i j es (inr (inr (j, p, m, inr (refl, e))))
-
-  pub alias_reading : (room n : ℕ) (c : Ctx) (i j : ℕ) (x : List ℕ) (es : List Event) → tags.c-ns-alias-node cs i j x → es ≡ alias_node x ∷ [] → reads cs Wide handles room (yaml_part n c) i j es
-  unfolding nodes.ns-flow-yaml-node
-  alias_reading room n c i j x es a e = to_reads room (yaml_part n c) i j es (inl (x, a, e))
-
-  -- a node without properties
-  pub content_flow : (deep : ℕ) (kind : Kind) (n : ℕ) (c : Ctx) (i j : ℕ) (es : List Event) → content_from cs Wide handles deep kind n c i j es → flow_from cs Wide handles deep kind n c i j es
-  content_flow deep kind n c i j es r = λ room le. unmarked_node kind room n c i j es (r room le)
-
-  -- a node with its own properties put on its first event
-  pub bare_flow : (deep : ℕ) (kind : Kind) (n : ℕ) (c : Ctx) (p : Props) (e i j : ℕ) (es : List Event) → Bare cs Wide handles deep kind n c p e i j es → flow_from cs Wide handles deep kind n c i j (dressed p es)
-  bare_flow deep kind n c p e i j es (aliased x a f q g) =
-      subst (λ k. flow_from cs Wide handles deep k n c i j (dressed p es)) (sym g) (λ room le. alias_reading room n c i j x (dressed p es) a (ap (dressed p) f))
-  bare_flow deep kind n c p e i j es (plainly q r) =
-      subst (λ x. flow_from cs Wide handles deep kind n c i j (dressed x es)) (sym q) (λ room le. unmarked_node kind room n c i j (dressed no_props es) (dressed_at no_props kind room n c i j es (r room le)))
-  bare_flow deep kind n c p e i j es (with_properties k m s r) = λ room le.
-      marked_node kind room n c p i e k j (dressed p es) (marks_props cs handles n c i e p m) s (dressed_at p kind room n c k j es (r room le))
-  bare_flow deep kind n c p e i j es (lone m f g h) =
-      subst (λ k. flow_from cs Wide handles deep k n c i j (dressed p es)) (sym h)
-      (λ room le. lone_node room n c p i j (dressed p es) (subst (λ x. properties cs handles n c i x p) (sym f) (marks_props cs handles n c i e p m)) (ap (dressed p) g))
 
   -- ---- items, entries and values
 

@@ -15,11 +15,11 @@ ghost use Rattle.yaml_definitions.specs.grammar.Streams.{ReadsText};
 ghost use Rattle.yaml_definitions.specs.grammar.Nodes.{wide};
 ghost use Rattle.yaml_text.specs.LeafAnswer.{IsRefusal};
 ghost use Rattle.law_going_on.specs.GoingOn.{Here};
-ghost use Rattle.yaml_flow.specs.NodeAnswer.{Appends, Decides};
+ghost use Rattle.yaml_line.specs.NodeAnswer.{Appends, Decides};
 ghost use Rattle.yaml_text.specs.Placed.{IsPlaced};
 ghost use Rattle.yaml_sink.specs.Held.{Puts};
 ghost use Rattle.yaml_sink.specs.SinkModel.{holds_of};
-ghost use Rattle.yaml_flow.specs.Lines.{IsLine};
+ghost use Rattle.yaml_line.specs.Lines.{IsLine};
 ghost use Rattle.yaml_mark.specs.HandlesModel.{handles_of};
 ghost use Rattle.yaml_read.specs.Decided.{DocumentEnd, IsAlone, HasNoReading, PutsReading};
 ghost use Rattle.yaml_read.specs.Sofar.{document_closing};
@@ -27,7 +27,7 @@ ghost use Rattle.yaml_read.specs.StreamRules.{IsMarkOf, NextIs, opened_by_mark, 
 
 use std::alloc::Global;
 use yaml_block::document::{read_bare, read_marked};
-use yaml_flow::line::{Line, first_line, next_line};
+use yaml_line::line::{Line, first_line, next_line};
 use yaml_mark::directives::read_directives;
 use yaml_mark::handles::Handles;
 use yaml_sink::list::EventList;

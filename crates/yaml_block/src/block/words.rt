@@ -11,8 +11,8 @@ ghost use Rattle.yaml_block.specs.BlockCalls.{StartsIn, StartsWord, EndsLine, En
 use crate::block::signs::first_colon;
 use std::alloc::Global;
 use yaml_flow::flow::read_plain_node;
-use yaml_flow::level::Level;
-use yaml_flow::line::{Line, next_line};
+use yaml_line::level::Level;
+use yaml_line::line::{Line, next_line};
 use yaml_sink::sink::{Keeper, Sink};
 use yaml_text::chars::Chars;
 use yaml_text::context::Ctx;

@@ -13,15 +13,15 @@ use Rattle.yaml_mark.specs.HandlesModel.{handles_of}
 use Rattle.law_one_reading.specs.Follows.{Dash}
 use Rattle.law_going_on.specs.GoingOn.{Refused, Here}
 use Rattle.law_going_on.proofs.GoingOn.{rest_rest, rest_goes, rest_refused}
-use Rattle.yaml_flow.specs.NodeAnswer.{Decides}
-use Rattle.yaml_flow.specs.Lines.{IsLine, IsDash}
+use Rattle.yaml_line.specs.NodeAnswer.{Decides}
+use Rattle.yaml_line.specs.Lines.{IsLine, IsDash}
 use Rattle.yaml_sink.specs.PropertyRules.{props_of}
-use Rattle.yaml_flow.specs.declared.line.Line.{Line}
+use Rattle.yaml_line.specs.declared.line.Line.{Line}
 use Rattle.yaml_sink.specs.SinkModel.{holds_of}
 use Rattle.yaml_sink.specs.Held.{Keeps, Puts}
-use Rattle.yaml_flow.proofs.AnswerLemmas.{appends_by, appends_after, puts_on, puts_none, perhaps_some, perhaps_none}
-use Rattle.yaml_flow.proofs.PropertyDecisions.{or_else}
-use Rattle.yaml_flow.proofs.Deciding.{decides_err}
+use Rattle.yaml_line.proofs.AnswerLemmas.{appends_by, appends_after, puts_on, puts_none, perhaps_some, perhaps_none}
+use Rattle.yaml_line.proofs.PropertyDecisions.{or_else}
+use Rattle.yaml_line.proofs.Deciding.{decides_err}
 use Rattle.yaml_block.specs.BlockRules.{node_rest, line_rest, value_rest, entry_rest, entries_rest, sequence_with, seq_body, key_rest}
 use Rattle.yaml_block.specs.BlockEnds.{AfterNode, AfterEntry, AfterSequence, AfterMapping, AfterColon, IsFurther}
 use Rattle.yaml_block.specs.BlockCalls.{EndsLine, IsNext, IsNextDash, DecidesNextKey, entries_level, key_rule, node_rule, EndsOpened, DecidesOpened, opened_rule, opened_place, site_rule}

@@ -4,8 +4,8 @@ use Rattle.yaml_text.specs.Source.{text_of, place_of}
 use Rattle.yaml_text.proofs.Tests.{on_true_at, on_false_at}
 use Rattle.yaml_mark.specs.HandlesModel.{handles_of}
 use Rattle.yaml_sink.specs.PropertyRules.{props_of}
-use Rattle.yaml_flow.proofs.PropertyDecisions.{or_else}
-use Rattle.yaml_flow.proofs.Deciding.{at_err}
+use Rattle.yaml_line.proofs.PropertyDecisions.{or_else}
+use Rattle.yaml_line.proofs.Deciding.{at_err}
 use Rattle.yaml_block.specs.BlockRules.{block_scalar_rest}
 use Rattle.yaml_block.specs.BlockCalls.{DecidesOpened}
 use Rattle.yaml_block.specs.OuterRules.{column_of}

@@ -9,12 +9,12 @@ use Rattle.yaml_mark.specs.HandlesModel.{handles_of}
 use Rattle.law_going_on.proofs.GoingOn.{rest_rest, rest_goes, rest_refused}
 use Rattle.yaml_sink.specs.PropertyRules.{props_of, both_props, dressed}
 use Rattle.yaml_sink.specs.declared.properties.Properties.{Properties}
-use Rattle.yaml_flow.specs.Levels.{StartsWith}
-use Rattle.yaml_flow.specs.declared.properties.Head.{Head}
-use Rattle.yaml_flow.proofs.AnswerLemmas.{puts_after, puts_altered}
-use Rattle.yaml_flow.proofs.FlowLemmas.{bare_flow}
-use Rattle.yaml_flow.proofs.PropertyDecisions.{or_else, line_all}
-use Rattle.yaml_flow.proofs.Deciding.{at_err}
+use Rattle.yaml_line.specs.NodeLevels.{StartsWith}
+use Rattle.yaml_line.specs.declared.properties.Head.{Head}
+use Rattle.yaml_line.proofs.AnswerLemmas.{puts_after, puts_altered}
+use Rattle.yaml_line.proofs.NodeLemmas.{bare_flow}
+use Rattle.yaml_line.proofs.PropertyDecisions.{or_else, line_all}
+use Rattle.yaml_line.proofs.Deciding.{at_err}
 use Rattle.yaml_block.specs.BlockEnds.{AfterNode, IsNoKey}
 use Rattle.yaml_block.specs.BlockCalls.{flow_level, StartsDressed, IsFirstColon, DecidesOpened}
 use Rattle.yaml_block.specs.OuterRules.{column_of}

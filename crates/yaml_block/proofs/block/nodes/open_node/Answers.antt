@@ -6,10 +6,10 @@ use Rattle.yaml_text.specs.declared.chars.Chars.{Chars}
 use Rattle.yaml_text.proofs.Tests.{on_true_at, on_false_at}
 use Rattle.yaml_mark.specs.HandlesModel.{handles_of}
 use Rattle.yaml_sink.specs.PropertyRules.{props_of, SomeProperties}
-use Rattle.yaml_flow.proofs.AnswerLemmas.{puts_none}
-use Rattle.yaml_flow.proofs.PropertyLemmas.{own_marks}
-use Rattle.yaml_flow.proofs.PropertyDecisions.{or_else}
-use Rattle.yaml_flow.proofs.Deciding.{at_err}
+use Rattle.yaml_line.proofs.AnswerLemmas.{puts_none}
+use Rattle.yaml_line.proofs.PropertyLemmas.{own_marks}
+use Rattle.yaml_line.proofs.PropertyDecisions.{or_else}
+use Rattle.yaml_line.proofs.Deciding.{at_err}
 use Rattle.yaml_block.specs.BlockCalls.{DecidesOpened}
 use Rattle.yaml_block.specs.OuterRules.{Above, column_of, properties_left}
 use Rattle.yaml_block.proofs.OuterLemmas.{any_column, above_own, fewer_left}

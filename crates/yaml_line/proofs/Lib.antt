@@ -1,0 +1,10 @@
+pub mod KeyLaws
+pub mod AnswerLemmas
+pub mod LineLemmas
+pub mod SpaceLemmas
+pub mod PropertyLemmas
+pub mod NodeLemmas
+pub mod PropertyDecisions
+pub mod Deciding
+pub mod PlainDecisions
+pub mod WordDecisions
