@@ -4,6 +4,7 @@ mod Firsts
 mod Overwriting
 mod Settling
 mod LevelKeys
+mod GroupLaws
 mod SlotLaws
 pub mod NumberKeyLaws
 pub mod NodeLaws

@@ -35,6 +35,6 @@ pub(crate) fn sorted_slots(
     ensures ok { IfOk result (λ slots. KeysSorted lists.now.nodes.now lists.now.text.now lists.now.items.now lists.now.entries.now lists.now.places.now level.now (keys_of lists.now slots.items)) }
 {
     let mut slots = slots(alloc, lists, level)?;
-    lists.sort(&mut slots)?;
+    lists.sort(alloc, &mut slots)?;
     Ok(slots)
 }

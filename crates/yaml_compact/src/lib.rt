@@ -2,6 +2,7 @@
 #![tactic(auto)]
 
 pub mod gives_up;
+mod groups;
 pub mod laws;
 mod level;
 mod levels;

@@ -6,8 +6,10 @@ ghost use Rattle.yaml_compact.specs.KeyModel.{inside_cmp, key_cmp, Rises, RanksF
 ghost use Rattle.yaml_compact.specs.SlotModel.{held, InRange, inside_at, rest_at, key_at, keys_of, IsSlot};
 
 use crate::gives_up::GivesUp;
+use crate::groups::regroup;
 use crate::nodes::{Node, Place};
 use crate::slot::{Rest, Slot};
+use std::alloc::Global;
 use std::cmp::Ordering;
 
 /// The nodes of a store, what all of them hold, with ranks for parts, and the place of each tag in the
@@ -124,14 +126,27 @@ impl<'s> Lists<'s> {
         start <= len / 8
     }
 
-    /// Puts slots in order, whatever nodes they are of: so the sort may pass over nodes that are equal.
-    /// The stable one keeps runs, and takes room for what stands before the last one.
-    pub(crate) fn sort(&self, slots: &mut Vec<Slot>) -> Result<(), GivesUp>
+    /// Whether slots stand in few runs, maybe once they are put together by group.
+    #[tactic(auto, using(crate::proofs::GroupLaws::all_stay))]
+    fn in_runs(&self, alloc: Global, slots: &mut Vec<Slot>) -> Result<bool, GivesUp>
         requires { InRange self.now }
-        ensures permutation { IsPermutation slots.old.items slots.new.items }
-        ensures sorted { IfOk result (λ _. Rises (keys_of self.now slots.new.items)) }
+        ensures { IfOk result (λ _. IsPermutation slots.old.items slots.new.items) }
     {
         if self.end_in_run(slots) {
+            return Ok(true);
+        }
+        regroup(alloc, slots)
+    }
+
+    /// Puts slots in order, whatever nodes they are of: so the sort may pass over nodes that are equal.
+    /// The stable one keeps runs, and takes room for the shorter of two that it merges.
+    pub(crate) fn sort(&self, alloc: Global, slots: &mut Vec<Slot>) -> Result<(), GivesUp>
+        requires { InRange self.now }
+        ensures permutation { IfOk result (λ _. IsPermutation slots.old.items slots.new.items) }
+        ensures sorted { IfOk result (λ _. Rises (keys_of self.now slots.new.items)) }
+    {
+        let runs = self.in_runs(alloc, slots)?;
+        if runs {
             slots.sort_by(|left, right| self.compare(left, right))?;
             return Ok(());
         }
