@@ -135,7 +135,7 @@ impl<'s> Lists<'s> {
         if self.end_in_run(slots) {
             return Ok(true);
         }
-        regroup(alloc, slots)
+        regroup(alloc, self, slots)
     }
 
     /// Puts slots in order, whatever nodes they are of: so the sort may pass over nodes that are equal.
