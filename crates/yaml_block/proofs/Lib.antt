@@ -17,3 +17,4 @@ mod Passing
 mod MappingDecisions
 mod RootDecisions
 mod WordRests
+mod Opened

@@ -2,15 +2,15 @@
 use Rattle.std.specs.Prelude.{◌≡◌, ◌⊎◌, ◌++◌, ℕ, ◌+◌, ◌-◌, ◌<◌, ◌≤◌, List, [], ◌∷◌, Result, Ok, Err, Option, Some, None, MatchOption}
 use Rattle.std.specs.Char.{is_ascii_alphanumeric}
 use Rattle.yaml_definitions.specs.model.Event.{Event, mapping_end}
-use Rattle.yaml_definitions.specs.grammar.Rules.{Rule, Stands}
-use Rattle.yaml_definitions.specs.grammar.Separation.{flow_out, block_key, s-l-comments as s_l_comments, AtEnd, DocumentMark}
+use Rattle.yaml_definitions.specs.grammar.Rules.{Rule, Stands, gives}
+use Rattle.yaml_definitions.specs.grammar.Separation.{flow_out, block_key, block_in, s-l-comments as s_l_comments, AtEnd, DocumentMark}
 use Rattle.yaml_definitions.specs.grammar.Events.{Props}
 use Rattle.yaml_definitions.specs.grammar.Nodes.{wide}
 use Rattle.yaml_text.specs.Lines.{AfterLine, Inside}
 use Rattle.yaml_text.specs.Source.{text_of, place_of, IsBorder}
 use Rattle.yaml_text.specs.EventModel.{context_of}
 use Rattle.yaml_text.specs.declared.chars.Chars.{Chars}
-use Rattle.yaml_text.specs.declared.context.Ctx.TheVariants.{FlowOut, BlockOut}
+use Rattle.yaml_text.specs.declared.context.Ctx.TheVariants.{FlowOut, BlockOut, BlockIn}
 use Rattle.yaml_text.specs.declared.fault.Fault.{Fault}
 use Rattle.yaml_text.specs.declared.fault.Fault.TheVariants.{OutOfMemory}
 use Rattle.yaml_mark.specs.HandlesModel.{handles_of}
@@ -30,15 +30,15 @@ use Rattle.yaml_line.specs.declared.line.Line.{Line}
 use Rattle.yaml_line.specs.declared.properties.Head.{Head}
 use Rattle.yaml_block.specs.BlockRules.{least_dash, node_rest, line_rest, value_rest, entry_rest, key_rest, entries_rest, sequence_with}
 use Rattle.yaml_block.specs.BlockEnds.{AfterNode, AfterEntry, AfterSequence, AfterMapping, AfterColon, NoneIn, IsFurther, SignIs, IsStyleSign}
-use Rattle.yaml_block.specs.OuterRules.{Outer, Above, Follows, MayBear, column_of, properties_left}
+use Rattle.yaml_block.specs.OuterRules.{Outer, Above, Follows, MayBear, column_of}
 use Rattle.yaml_block.specs.declared.block.signs.Block.{Block}
 use Rattle.yaml_block.specs.declared.block.signs.Below.{Below}
-use Rattle.yaml_block.specs.declared.block.signs.Below.TheVariants.{Nothing, Sequence, Node}
+use Rattle.yaml_block.specs.declared.block.signs.Below.TheVariants as below
 use Rattle.yaml_block.specs.declared.block.signs.Sign.{Sign}
 use Rattle.yaml_block.specs.declared.block.signs.Indicator.{Indicator}
 use Rattle.yaml_block.specs.declared.block.nodes.Site.{Site}
 use Rattle.yaml_block.specs.declared.block.nodes.Opened.{Opened}
-use Rattle.yaml_block.specs.declared.block.nodes.Opened.TheVariants.{Whole, Mapping, Marked}
+use Rattle.yaml_block.specs.declared.block.nodes.Opened.TheVariants.{Whole, Mapping, Sequence}
 use Rattle.yaml_block.specs.declared.block.keys.Begun.{Begun}
 
 -- the level of the flow nodes that stand at a block level
@@ -77,6 +77,14 @@ module _ (source : Chars) (level : Level) where
     pub low : column < at
     pub inside : Inside (text_of source) (place_of source at)
     pub some : 0 < level.room
+
+  -- the same at the level of what stands in the collection, a sequence
+  pub record StartsEntry (column at : ℕ) : Type 0 where
+    pub border : IsBorder source at
+    pub low : column < at
+    pub inside : Inside (text_of source) (place_of source at)
+    pub least : level.least ≡ column + 1
+    pub block : context_of level.context ≡ block_in
 
   -- a value, after its colon or mark
   pub record StartsBlockValue (at : ℕ) : Type 0 where
@@ -183,12 +191,12 @@ module _ (source : Chars) where
   -- what begins on a line below a parent: nothing, since there is no content, or a dash or other content too far to the left; a sequence, with the border after its dash; or another node
   module _ (level : Level) (line : Line) where
     abbrev pub IsBelow : Below → Type 0
-    IsBelow Nothing =
+    IsBelow below.Nothing =
         (Fresh (text_of source) (place_of source line.first) → ⊥)
         ⊎ (DashHere (text_of source) (place_of source line.first) × (line.column < least_dash level.least (context_of level.context)))
         ⊎ ((DashHere (text_of source) (place_of source line.first) → ⊥) × (line.column < level.least))
-    IsBelow (Sequence after) = IsDash source line.first after × (least_dash level.least (context_of level.context) ≤ line.column)
-    IsBelow Node = NodeBelow level line
+    IsBelow (below.Sequence after) = IsDash source line.first after × (least_dash level.least (context_of level.context) ≤ line.column)
+    IsBelow below.Node = NodeBelow level line
 
   -- what a block scalar begins with, after the node's own properties
   pub record IsSign (head : Head) (found : Sign) : Type 0 where
@@ -236,8 +244,16 @@ sequence_rule p k source level = sequence_with (text_of source) wide (handles_of
 abbrev pub entry_rule : ℕ → RuleAt
 entry_rule k source level = entry_rest (text_of source) wide (handles_of level.handles) (level.room - 1) k
 
+-- the same at the level of what stands in the entry
+abbrev pub inner_rule : ℕ → RuleAt
+inner_rule k source level = entry_rest (text_of source) wide (handles_of level.handles) level.room k
+
 abbrev pub entries_rule : ℕ → RuleAt
 entries_rule k source level = entries_rest (text_of source) wide (handles_of level.handles) (level.room - 1) k
+
+-- the same with the mapping's end
+abbrev pub closed_rule : ℕ → RuleAt
+closed_rule k source level i j es = (vs : List Event) × (es ≡ vs ++ (mapping_end ∷ [])) × entries_rule k source level i j vs
 
 -- ---- what is read, from `at` on, up to a line or a key's end
 
@@ -276,50 +292,61 @@ module _ (source : Chars) (level : Level) (line : Line) (k : ℕ) where
   DecidesNextKey (Ok None) = NoneIn source line k
   DecidesNextKey (Err e) = (e ≡ OutOfMemory) ⊎ IsFurther source line k ⊎ (IsNext source line k × Refused (key_rule source level) (AfterColon (text_of source)) (place_of source line.first))
 
--- the level of what stands after the colons of a mapping in this column
+-- the level of what stands in the entries of a sequence in this column, and after the colons of a mapping
+abbrev pub entry_level : Level → ℕ → Level
+entry_level level k = record { handles = level.handles; least = k + 1; context = BlockIn; room = level.room - 1 }
+
 abbrev pub entries_level : Level → ℕ → Level
 entries_level level k = record { handles = level.handles; least = k + 1; context = BlockOut; room = level.room - 1 }
 
--- ---- a whole node, a mapping that is open up to its first key's colon, or a node's properties above a line
+-- ---- a node of which the start was read
 
--- the node's properties stand above a line, with own ones beside the outer ones
-module _ (source : Chars) (site : Site) (outer : Properties) where
-  pub record IsAbove (line : Line) (above : Head) : Type 0 where
-    pub starts : StartsUnder source site.level.now line above
-    pub same : above.at ≡ site.from
-    pub fewer : properties_left (props_of above.own) < properties_left (props_of outer)
+-- where what is left of it begins
+abbrev pub opened_at : Opened → ℕ
+opened_at (Whole line) = line.start
+opened_at (Mapping k after) = after
+opened_at (Sequence first p) = first.at
 
-  abbrev pub EndsOpened : Opened → Type 0
-  EndsOpened (Whole line) = EndsLine source site.from line
-  EndsOpened (Mapping k after) = StartsInside source site.level.now k after × (site.from ≤ after)
-  EndsOpened (Marked line above) = IsAbove line above
+-- by which rule the rest is read, with its events and as what decides it
+abbrev pub rest_rule : Opened → RuleAt
+rest_rule (Whole line) source level = gives []
+rest_rule (Mapping k after) source level = closed_rule k source level
+rest_rule (Sequence first p) source level = sequence_rule (props_of p) first.column source level
 
-abbrev pub opened_place : Chars → Opened → ℕ
-opened_place source (Whole line) = place_of source line.start
-opened_place source (Mapping k after) = place_of source after
-opened_place source (Marked line above) = place_of source above.at
+abbrev pub left_rule : Opened → RuleAt
+left_rule (Whole line) source level = gives []
+left_rule (Mapping k after) source level = entries_rule k source level
+left_rule (Sequence first p) source level = sequence_rule (props_of p) first.column source level
 
--- the events of a mapping up to its first key's colon, which those of what follows the colon and the mapping's end complete
-abbrev pub begins_mapping : Rule (List Event) → Rule (List Event) → Rule (List Event)
-begins_mapping R S i a es = (j : ℕ) (vs : List Event) → S a j vs → R i j ((es ++ vs) ++ (mapping_end ∷ []))
+abbrev pub rest_end : Opened → List ℕ → End
+rest_end (Whole line) cs = Here
+rest_end (Mapping k after) cs = AfterMapping cs k
+rest_end (Sequence first p) cs = AfterSequence cs first.column
 
-abbrev pub begins_node : Rule (List Event) → Rule (List Event) → Rule (List Event)
-begins_node R S i a es = (j : ℕ) (vs : List Event) → S a j vs → R i j (es ++ vs)
+-- the first events of a reading, which those of the rest complete
+abbrev pub begins : Rule (List Event) → Rule (List Event) → Rule (List Event)
+begins R S i a es = (j : ℕ) (vs : List Event) → S a j vs → R i j (es ++ vs)
 
-abbrev pub opened_rule : RuleAt → Opened → RuleAt
-opened_rule R (Whole line) source level = R source level
-opened_rule R (Mapping k after) source level = begins_mapping (R source level) (entries_rule k source level)
-opened_rule R (Marked line above) source level = begins_node (R source level) (node_rule None source level)
+module _ (source : Chars) (level : Level) where
+  abbrev pub StartsOpened : Opened → Type 0
+  StartsOpened (Whole line) = EndsLine source line.start line
+  StartsOpened (Mapping k after) = StartsInside source level k after
+  StartsOpened (Sequence first p) = StartsSequence source first
 
-abbrev pub ReadsOpened : {S : Type 0} → Chars → Site → Properties → (S → List Event → Type 0) → S → S → Result Opened Fault → Type 0
-ReadsOpened source site outer holds old new result = Appends (λ found. opened_rule (site_rule site outer) found source site.level.now) (place_of source site.from) (opened_place source) holds old new result
+  pub record EndsOpened (at : ℕ) (found : Opened) : Type 0 where
+    pub starts : StartsOpened found
+    pub onward : at ≤ opened_at found
 
-module _ (source : Chars) (level : Level) (at : ℕ) (R : Rule (List Event)) where
-  abbrev DecidesFound : Result Opened Fault → Type 0
-  DecidesFound (Ok (Whole line)) = Goes R (AfterNode (text_of source) level.least (context_of level.context)) (place_of source at) Here (place_of source line.start)
-  DecidesFound (Ok (Mapping k after)) = Rest R (AfterNode (text_of source) level.least (context_of level.context)) (place_of source at) (entries_rule k source level) (AfterMapping (text_of source) k) (place_of source after)
-  DecidesFound (Ok (Marked line above)) = Rest R (AfterNode (text_of source) level.least (context_of level.context)) (place_of source at) (node_rule None source level) (AfterNode (text_of source) level.least (context_of level.context)) (place_of source above.at)
-  DecidesFound (Err e) = (e ≡ OutOfMemory) ⊎ Refused R (AfterNode (text_of source) level.least (context_of level.context)) (place_of source at)
+  abbrev pub DecidesRest : Opened → Result Line Fault → Type 0
+  DecidesRest found = Decides (left_rule found source level) (rest_end found (text_of source)) (place_of source (opened_at found)) Here (λ line. place_of source line.start)
 
-abbrev pub DecidesOpened : Chars → Site → Properties → Result Opened Fault → Type 0
-DecidesOpened source site outer = DecidesFound source site.level.now site.from (site_rule site outer source site.level.now)
+abbrev pub ReadsOpened : {S : Type 0} → RuleAt → Chars → Level → ℕ → (S → List Event → Type 0) → S → S → Result Opened Fault → Type 0
+ReadsOpened R source level at holds old new result = Appends (λ found. begins (R source level) (rest_rule found source level)) (place_of source at) (λ found. place_of source (opened_at found)) holds old new result
+
+module _ (source : Chars) (level : Level) (at : ℕ) where
+  abbrev pub DecidesOpened : Rule (List Event) → End → Result Opened Fault → Type 0
+  DecidesOpened R E (Ok found) = Rest R E (place_of source at) (left_rule found source level) (rest_end found (text_of source)) (place_of source (opened_at found))
+  DecidesOpened R E (Err e) = (e ≡ OutOfMemory) ⊎ Refused R E (place_of source at)
+
+  abbrev pub DecidesOpenedNode : RuleAt → Result Opened Fault → Type 0
+  DecidesOpenedNode R = DecidesOpened (R source level) (AfterNode (text_of source) level.least (context_of level.context))

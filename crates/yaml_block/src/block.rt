@@ -15,4 +15,4 @@ mod words;
 
 pub(crate) use nodes::read_root;
 pub(crate) use signs::dash;
-pub(crate) use values::{read_below, read_value};
+pub(crate) use values::read_value;

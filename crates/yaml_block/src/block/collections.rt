@@ -9,16 +9,17 @@ ghost use Rattle.yaml_line.specs.NodeAnswer.{Perhaps};
 ghost use Rattle.yaml_sink.specs.SinkModel.{holds_of};
 ghost use Rattle.yaml_sink.specs.PropertyRules.{props_of};
 ghost use Rattle.yaml_block.specs.BlockEnds.{NoneIn, IsFurther};
-ghost use Rattle.yaml_block.specs.BlockCalls.{StartsEntryLine, StartsSequence, StartsInside, EndsLine, IsNext, IsNextDash, key_rule, sequence_rule, entries_rule, ReadsLine, DecidesSequence, DecidesEntries, DecidesNextKey};
+ghost use Rattle.yaml_block.specs.BlockCalls.{StartsEntryLine, StartsSequence, StartsInside, EndsLine, IsNext, IsNextDash, key_rule, sequence_rule, closed_rule, rest_rule, opened_at, StartsOpened, DecidesRest, ReadsLine, DecidesSequence, DecidesEntries, DecidesNextKey};
 
 use crate::block::keys::read_key;
+use crate::block::nodes::Opened;
 use crate::block::signs::{Indicator, dash};
-use crate::block::values::{read_indented, read_value};
+use crate::block::values::{open_entry, open_value};
 use std::alloc::Global;
 use yaml_line::level::Level;
 use yaml_line::line::{Line, has_content};
 use yaml_sink::properties::Properties;
-use yaml_sink::push::{push_block_sequence, push_sequence_end};
+use yaml_sink::push::{push_block_sequence, push_mapping_end, push_sequence_end};
 use yaml_sink::sink::{Keeper, Sink};
 use yaml_text::chars::Chars;
 use yaml_text::context::Ctx;
@@ -86,6 +87,33 @@ fn next_colon<'a, K: Keeper>(
     Ok(Some(colon))
 }
 
+/// The rest of a node whose start was read, and the line after it.
+#[inline(always)]
+#[cycle(blocks)]
+pub fn read_opened<'a, K: Keeper>(
+    alloc: Global,
+    source: &Chars<'a>,
+    opened: Opened<'a>,
+    level: &Level<'_, 'a>,
+    out: &mut Sink<'a, K>,
+) -> Result<Line, Fault>
+    requires { StartsOpened source.now level.now opened }
+    ensures ends { IfOk result (EndsLine source.now (opened_at opened.entry)) }
+    ensures reads { ReadsLine (rest_rule opened.entry) source.now level.now (opened_at opened.entry) (holds_of K.holds) out.old out.new result }
+    ensures decides { DecidesRest source.now level.now opened.entry result }
+    ensures placed { IfErr result (IsPlaced source.now) }
+{
+    match opened {
+        Opened::Whole(line) => Ok(line),
+        Opened::Mapping { column, after } => {
+            read_entries(alloc, source, after, column, level, out)
+        }
+        Opened::Sequence(first, properties) => {
+            read_sequence(alloc, source, first, properties, level, out)
+        }
+    }
+}
+
 /// A block sequence with its properties, from its first dash on (8.2.1).
 #[inline(never)]
 #[cycle(blocks)]
@@ -107,9 +135,16 @@ pub fn read_sequence<'a, K: Keeper>(
         return Err(Fault::TooDeep(source.pos(first.at)));
     }
     push_block_sequence(out, properties, first.at)?;
+    let inside = Level {
+        least: first.column + 1,
+        context: Ctx::BlockIn,
+        room: level.room - 1,
+        ..*level
+    };
     let mut after = first.after;
     'entries: loop {
-        let line = read_indented(alloc, source, after, first.column, level, out)?;
+        let opened = open_entry(alloc, source, after, first.column, &inside, out)?;
+        let line = read_opened(alloc, source, opened, &inside, out)?;
         match next_dash(source, line, first.column)? {
             None => {
                 push_sequence_end(out, line.start)?;
@@ -122,10 +157,10 @@ pub fn read_sequence<'a, K: Keeper>(
     }
 }
 
-/// The entries of a block mapping in this column, from its first key's colon on (8.2.2).
-#[inline(always)]
+/// The entries of a block mapping in this column, from its first key's colon on, and its end (8.2.2).
+#[inline(never)]
 #[cycle(blocks)]
-pub fn read_entries<'a, K: Keeper>(
+fn read_entries<'a, K: Keeper>(
     alloc: Global,
     source: &Chars<'a>,
     after: usize,
@@ -135,7 +170,7 @@ pub fn read_entries<'a, K: Keeper>(
 ) -> Result<Line, Fault>
     requires { StartsInside source.now level.now column after }
     ensures ends { IfOk result (EndsLine source.now after) }
-    ensures reads { ReadsLine (entries_rule column) source.now level.now after (holds_of K.holds) out.old out.new result }
+    ensures reads { ReadsLine (closed_rule column) source.now level.now after (holds_of K.holds) out.old out.new result }
     ensures decides { DecidesEntries source.now level.now after column result }
     ensures placed { IfErr result (IsPlaced source.now) }
 {
@@ -147,9 +182,13 @@ pub fn read_entries<'a, K: Keeper>(
     };
     let mut colon = after;
     'entries: loop {
-        let line = read_value(alloc, source, colon, &inside, out)?;
+        let opened = open_value(alloc, source, colon, &inside, out)?;
+        let line = read_opened(alloc, source, opened, &inside, out)?;
         match next_colon(alloc, source, line, column, &inside, out)? {
-            None => return Ok(line),
+            None => {
+                push_mapping_end(out, line.start)?;
+                return Ok(line);
+            }
             Some(next) => {
                 colon = next;
             }

@@ -1,5 +1,5 @@
 //! Nodes of a block, each perhaps a mapping's first key (YAML 1.2.2, 8.2).
-ghost use Rattle.std.specs.Prelude.{◌⊎◌, ℕ, IfOk, IfErr};
+ghost use Rattle.std.specs.Prelude.{◌⊎◌, ℕ, IfOk, IfErr, None};
 ghost use Rattle.yaml_text.specs.Source.{text_of, place_of, IsBorder};
 ghost use Rattle.yaml_definitions.specs.grammar.Separation.{block_in, s-l-comments as s_l_comments, StartsLine};
 ghost use Rattle.yaml_definitions.specs.grammar.Nodes.{wide};
@@ -8,22 +8,22 @@ ghost use Rattle.yaml_text.specs.LeafAnswer.{IsRefusal};
 ghost use Rattle.yaml_text.specs.Placed.{IsPlaced};
 ghost use Rattle.law_going_on.specs.GoingOn.{Here};
 ghost use Rattle.yaml_line.specs.NodeAnswer.{Appends, Decides};
-ghost use Rattle.yaml_sink.specs.Held.{Alters};
 ghost use Rattle.yaml_sink.specs.SinkModel.{holds_of};
 ghost use Rattle.yaml_line.specs.Lines.{IsLine};
 ghost use Rattle.yaml_line.specs.PropertyDecisions.{LineGoesOn};
 ghost use Rattle.yaml_line.specs.NodeLevels.{StartsWith, Ends, bare_rule, ReadsNode, DecidesNodeAt};
-ghost use Rattle.yaml_sink.specs.PropertyRules.{props_of, both_props, dressed, Disjoint};
+ghost use Rattle.yaml_sink.specs.PropertyRules.{props_of, Disjoint};
 ghost use Rattle.yaml_block.specs.BlockRules.{root_rest};
 ghost use Rattle.yaml_block.specs.OuterRules.{MayBear};
 ghost use Rattle.yaml_block.specs.BlockEnds.{AfterNode};
-ghost use Rattle.yaml_block.specs.BlockCalls.{flow_level, StartsBlockNode, StartsDressed, NoSign, EndsLine, EndsNode, site_rule, ReadsLine, DecidesBlockNode, EndsOpened, ReadsOpened, DecidesOpened};
+ghost use Rattle.yaml_block.specs.BlockCalls.{flow_level, StartsBlockNode, StartsDressed, StartsUnder, NoSign, EndsLine, EndsNode, node_rule, site_rule, ReadsLine, DecidesBlockNode, EndsOpened, ReadsOpened, DecidesOpenedNode};
 
-use crate::block::collections::{read_entries, read_sequence};
+use crate::block::collections::{read_opened, read_sequence};
 use crate::block::keys::{Begun, fit_key};
-use crate::block::scalars::read_block_scalar;
-use crate::block::signs::{Indicator, block_sign, dash, first_colon, line_after, may_bear};
-use crate::block::values::read_under;
+use crate::block::scalars::{push_lone, read_block_scalar};
+use crate::block::signs::{
+    Below, Indicator, begins_below, block_sign, dash, first_colon, line_after, may_bear,
+};
 use std::alloc::Global;
 use yaml_flow::flow::read_bare;
 use yaml_line::flow::FlowNode;
@@ -32,7 +32,7 @@ use yaml_line::line::{Line, line_at, next_line};
 use yaml_line::properties::{Head, read_properties};
 use yaml_mark::handles::Handles;
 use yaml_sink::properties::Properties;
-use yaml_sink::push::{insert_block_mapping, push_mapping_end};
+use yaml_sink::push::insert_block_mapping;
 use yaml_sink::sink::{Keeper, Sink};
 use yaml_text::chars::Chars;
 use yaml_text::context::Ctx;
@@ -48,42 +48,38 @@ pub struct Site<'l, 'h, 'a> {
     pub level: &'l Level<'h, 'a>,
 }
 
-/// Puts the outer and own properties on a node that is no key, and answers the line after it.
+/// The line after a node that is no key, which may have its outer and own properties.
 #[inline(always)]
-fn finish_node<'a, K: Keeper>(
+fn finish_node<'a>(
     source: &Chars<'a>,
-    begun: Begun,
-    head: Head<'a>,
-    outer: Properties<'a>,
-    out: &mut Sink<'a, K>,
+    end: usize,
+    head: &Head<'a>,
+    outer: &Properties<'a>,
 ) -> Result<Line, Fault>
-    requires at { IsBorder source.now head.at }
-    requires end { IsBorder source.now begun.node.end }
-    ensures ends { IfOk result (EndsNode source.now head.entry outer.entry begun.node.end) }
-    ensures dressed { IfOk result (λ _. Alters (holds_of K.holds) begun.start (dressed (both_props (props_of outer.entry) (props_of head.entry.own))) out.old out.new) }
+    requires at { IsBorder source.now head.now.at }
+    requires end { IsBorder source.now end }
+    ensures ends { IfOk result (EndsNode source.now head.now outer.now end) }
     ensures err { IfErr result IsRefusal }
-    ensures unfit { IfErr result (λ _. ((j : ℕ) → s_l_comments (text_of source.now) (place_of source.now begun.node.end) j → ⊥) ⊎ (Disjoint (props_of outer.entry) (props_of head.entry.own) → ⊥) ⊎ (MayBear (text_of source.now) (place_of source.now head.entry.at) (props_of outer.entry) → ⊥)) }
+    ensures unfit { IfErr result (λ _. ((j : ℕ) → s_l_comments (text_of source.now) (place_of source.now end) j → ⊥) ⊎ (Disjoint (props_of outer.now) (props_of head.now.own) → ⊥) ⊎ (MayBear (text_of source.now) (place_of source.now head.now.at) (props_of outer.now) → ⊥)) }
     ensures placed { IfErr result (IsPlaced source.now) }
 {
-    let end = begun.node.end;
     let line = next_line(source, end)?;
     if outer.overlaps(&head.own) {
         return Err(unusable(source, end));
     }
-    if !may_bear(source, head.at, &outer) {
+    if !may_bear(source, head.at, outer) {
         return Err(unusable(source, end));
     }
-    out.dress(begun.start, outer.and(head.own));
     Ok(line)
 }
 
-/// How far a node was read: whole, up to a line; a mapping up to the colon of its first key, which is put down; or its properties
-/// alone, which end their line.
+/// How far a node was read: whole, up to a line; a mapping up to the colon of its first key, which is put down; or a sequence up to
+/// its first dash, of which nothing is put down, with its properties.
 #[derive(Drop)]
 pub enum Opened<'a> {
     Whole(Line),
     Mapping { column: usize, after: usize },
-    Marked(Line, Head<'a>),
+    Sequence(Indicator, Properties<'a>),
 }
 
 /// A flow node of a block level, after its own properties. It is inlined, so that its level has no room of its own in the frame of
@@ -121,9 +117,9 @@ fn open_keyed<'a, K: Keeper>(
 ) -> Result<Opened<'a>, Fault>
     requires dressed { StartsDressed source.now site.now outer head }
     requires no_scalar { NoSign source.now head }
-    ensures ends { IfOk result (EndsOpened source.now site.now outer.entry) }
-    ensures reads { ReadsOpened source.now site.now outer.entry (holds_of K.holds) out.old out.new result }
-    ensures decides { DecidesOpened source.now site.now outer.entry result }
+    ensures ends { IfOk result (EndsOpened source.now site.now.level.now site.now.from) }
+    ensures reads { ReadsOpened (site_rule site.now outer.entry) source.now site.now.level.now site.now.from (holds_of K.holds) out.old out.new result }
+    ensures decides { DecidesOpenedNode source.now site.now.level.now site.now.from (site_rule site.now outer.entry) result }
     ensures placed { IfErr result (IsPlaced source.now) }
 {
     let start = out.mark();
@@ -135,13 +131,15 @@ fn open_keyed<'a, K: Keeper>(
     };
     out.announce(known);
     let node = read_in_block(alloc, source, &head, site.level, out)?;
-    let begun = Begun { node, start };
     match first_colon(source, head.at, node.end, site.column)? {
         None => {
-            let line = finish_node(source, begun, head, outer, out)?;
+            let line = finish_node(source, node.end, &head, &outer)?;
+            let both = outer.and(head.own);
+            out.dress(start, both);
             Ok(Opened::Whole(line))
         }
         Some((column, after)) => {
+            let begun = Begun { node, start };
             fit_key(alloc, source, &head, begun, site.level, out)?;
             out.dress(start, head.own);
             insert_block_mapping(out, start, outer, head.at)?;
@@ -162,9 +160,9 @@ fn open_dressed<'a, K: Keeper>(
     out: &mut Sink<'a, K>,
 ) -> Result<Opened<'a>, Fault>
     requires { StartsDressed source.now site.now outer head }
-    ensures ends { IfOk result (EndsOpened source.now site.now outer.entry) }
-    ensures reads { ReadsOpened source.now site.now outer.entry (holds_of K.holds) out.old out.new result }
-    ensures decides { DecidesOpened source.now site.now outer.entry result }
+    ensures ends { IfOk result (EndsOpened source.now site.now.level.now site.now.from) }
+    ensures reads { ReadsOpened (site_rule site.now outer.entry) source.now site.now.level.now site.now.from (holds_of K.holds) out.old out.new result }
+    ensures decides { DecidesOpenedNode source.now site.now.level.now site.now.from (site_rule site.now outer.entry) result }
     ensures placed { IfErr result (IsPlaced source.now) }
 {
     match block_sign(source, &head) {
@@ -181,8 +179,9 @@ fn open_dressed<'a, K: Keeper>(
 }
 
 /// The start of a node whose first character stands at `at`, with its outer properties.
-#[inline(always)]
-fn open_node<'a, K: Keeper>(
+#[inline(never)]
+#[cycle(starts)]
+pub fn open_node<'a, K: Keeper>(
     alloc: Global,
     source: &Chars<'a>,
     at: usize,
@@ -191,9 +190,9 @@ fn open_node<'a, K: Keeper>(
     out: &mut Sink<'a, K>,
 ) -> Result<Opened<'a>, Fault>
     requires { StartsBlockNode source.now site.now outer at }
-    ensures ends { IfOk result (EndsOpened source.now site.now outer.entry) }
-    ensures reads { ReadsOpened source.now site.now outer.entry (holds_of K.holds) out.old out.new result }
-    ensures decides { DecidesOpened source.now site.now outer.entry result }
+    ensures ends { IfOk result (EndsOpened source.now site.now.level.now site.now.from) }
+    ensures reads { ReadsOpened (site_rule site.now outer.entry) source.now site.now.level.now site.now.from (holds_of K.holds) out.old out.new result }
+    ensures decides { DecidesOpenedNode source.now site.now.level.now site.now.from (site_rule site.now outer.entry) result }
     ensures placed { IfErr result (IsPlaced source.now) }
 {
     let (own, end) = read_properties(alloc, source, at, 0, Ctx::BlockKey, site.level.handles)?;
@@ -212,15 +211,59 @@ fn open_node<'a, K: Keeper>(
                 end,
                 own: outer.and(own),
             };
-            Ok(Opened::Marked(line, above))
+            open_under(alloc, source, line, above, site.level, out)
+        }
+    }
+}
+
+/// The start of a node on a line below its properties, or none where the line is not indented enough.
+#[cycle(starts)]
+fn open_under<'a, K: Keeper>(
+    alloc: Global,
+    source: &Chars<'a>,
+    line: Line,
+    above: Head<'a>,
+    level: &Level<'_, 'a>,
+    out: &mut Sink<'a, K>,
+) -> Result<Opened<'a>, Fault>
+    requires { StartsUnder source.now level.now line above }
+    ensures ends { IfOk result (EndsOpened source.now level.now above.entry.at) }
+    ensures reads { ReadsOpened (node_rule None) source.now level.now above.entry.at (holds_of K.holds) out.old out.new result }
+    ensures decides { DecidesOpenedNode source.now level.now above.entry.at (node_rule None) result }
+    ensures placed { IfErr result (IsPlaced source.now) }
+{
+    let Head {
+        at: from,
+        end,
+        own: outer,
+    } = above;
+    match begins_below(source, line, level) {
+        Below::Nothing => {
+            push_lone(outer, end, out)?;
+            Ok(Opened::Whole(line))
+        }
+        Below::Sequence(after) => {
+            let first = Indicator {
+                at: line.first,
+                after,
+                column: line.column,
+            };
+            Ok(Opened::Sequence(first, outer))
+        }
+        Below::Node => {
+            let column = Some(line.column);
+            let site = Site {
+                from,
+                column,
+                level,
+            };
+            open_node(alloc, source, line.first, outer, &site, out)
         }
     }
 }
 
 /// A node whose first character stands at `at`, with its outer properties.
-#[inline(never)]
-#[cycle(blocks)]
-pub fn read_node<'a, K: Keeper>(
+fn read_node<'a, K: Keeper>(
     alloc: Global,
     source: &Chars<'a>,
     at: usize,
@@ -235,15 +278,7 @@ pub fn read_node<'a, K: Keeper>(
     ensures placed { IfErr result (IsPlaced source.now) }
 {
     let opened = open_node(alloc, source, at, outer, site, out)?;
-    match opened {
-        Opened::Whole(line) => Ok(line),
-        Opened::Mapping { column, after } => {
-            let line = read_entries(alloc, source, after, column, site.level, out)?;
-            push_mapping_end(out, line.start)?;
-            Ok(line)
-        }
-        Opened::Marked(line, above) => read_under(alloc, source, line, above, site.level, out),
-    }
+    read_opened(alloc, source, opened, site.level, out)
 }
 
 /// A document's node on the line where it begins, with content on it.

@@ -1,18 +1,19 @@
 //! What stands after a colon or a dash, on its line or below (YAML 1.2.2, 8.2).
-ghost use Rattle.std.specs.Prelude.{IfOk, IfErr, None};
+ghost use Rattle.std.specs.Prelude.{IfOk, IfErr};
+ghost use Rattle.yaml_text.specs.Source.{text_of};
 ghost use Rattle.yaml_text.specs.Placed.{IsPlaced};
 ghost use Rattle.yaml_sink.specs.SinkModel.{holds_of};
-ghost use Rattle.yaml_block.specs.BlockCalls.{StartsBlockValue, StartsInside, StartsBelow, StartsUnder, EndsLine, value_rule, entry_rule, line_rule, node_rule, ReadsLine, DecidesBlockNode, DecidesEntry};
+ghost use Rattle.yaml_block.specs.BlockEnds.{AfterEntry};
+ghost use Rattle.yaml_block.specs.BlockCalls.{StartsBlockValue, StartsEntry, StartsBelow, EndsLine, value_rule, inner_rule, line_rule, ReadsLine, DecidesBlockNode, EndsOpened, ReadsOpened, DecidesOpened, DecidesOpenedNode};
 
-use crate::block::collections::read_sequence;
-use crate::block::nodes::{Site, read_node};
-use crate::block::scalars::{push_lone, push_nothing};
+use crate::block::collections::read_opened;
+use crate::block::nodes::{Opened, Site, open_node};
+use crate::block::scalars::push_nothing;
 use crate::block::signs::{Below, Indicator, begins_below, dash};
 use crate::block::words::read_word;
 use std::alloc::Global;
 use yaml_line::level::Level;
 use yaml_line::line::{Line, line_at, skip_line_rest};
-use yaml_line::properties::Head;
 use yaml_mark::starts::begins_word;
 use yaml_sink::properties::Properties;
 use yaml_sink::sink::{Keeper, Sink};
@@ -21,9 +22,48 @@ use yaml_text::context::Ctx;
 use yaml_text::fault::Fault;
 use yaml_text::lines::{skip_spaces, unusable};
 
-/// The value after a key's colon, or a document's node after its mark: on the line of the sign, on later lines, or none.
+/// The start of the value after a key's colon, or of a document's node after its mark: on the line of the sign, on later lines, or
+/// none.
 #[inline(always)]
-#[cycle(blocks)]
+pub fn open_value<'a, K: Keeper>(
+    alloc: Global,
+    source: &Chars<'a>,
+    at: usize,
+    level: &Level<'_, 'a>,
+    out: &mut Sink<'a, K>,
+) -> Result<Opened<'a>, Fault>
+    requires { StartsBlockValue source.now level.now at }
+    ensures ends { IfOk result (EndsOpened source.now level.now at) }
+    ensures reads { ReadsOpened value_rule source.now level.now at (holds_of K.holds) out.old out.new result }
+    ensures decides { DecidesOpenedNode source.now level.now at value_rule result }
+    ensures placed { IfErr result (IsPlaced source.now) }
+{
+    match skip_line_rest(source, at) {
+        Some(start) => {
+            let line = line_at(source, start);
+            open_below(alloc, source, line, level, out)
+        }
+        None => {
+            let (count, first) = skip_spaces(source, at);
+            if count == 0 {
+                return Err(unusable(source, first));
+            }
+            if begins_word(source, first) {
+                let line = read_word(alloc, source, first, level, out)?;
+                return Ok(Opened::Whole(line));
+            }
+            let outer = Properties::none();
+            let site = Site {
+                from: first,
+                column: None,
+                level,
+            };
+            open_node(alloc, source, first, outer, &site, out)
+        }
+    }
+}
+
+/// The value after a key's colon, or a document's node after its mark.
 pub fn read_value<'a, K: Keeper>(
     alloc: Global,
     source: &Chars<'a>,
@@ -37,56 +77,31 @@ pub fn read_value<'a, K: Keeper>(
     ensures decides { DecidesBlockNode source.now level.now at value_rule result }
     ensures placed { IfErr result (IsPlaced source.now) }
 {
-    match skip_line_rest(source, at) {
-        Some(start) => {
-            let line = line_at(source, start);
-            read_below(alloc, source, line, level, out)
-        }
-        None => {
-            let (count, first) = skip_spaces(source, at);
-            if count == 0 {
-                return Err(unusable(source, first));
-            }
-            if begins_word(source, first) {
-                return read_word(alloc, source, first, level, out);
-            }
-            let outer = Properties::none();
-            let site = Site {
-                from: first,
-                column: None,
-                level,
-            };
-            read_node(alloc, source, first, outer, &site, out)
-        }
-    }
+    let opened = open_value(alloc, source, at, level, out)?;
+    read_opened(alloc, source, opened, level, out)
 }
 
-/// What stands after the dash of an entry of a sequence in this column (`s-l+block-indented`, 8.2.1).
-#[cycle(blocks)]
-pub fn read_indented<'a, K: Keeper>(
+/// The start of what stands after the dash of an entry of a sequence in this column (`s-l+block-indented`, 8.2.1), at the level of
+/// what stands in the entry.
+#[inline(always)]
+pub fn open_entry<'a, K: Keeper>(
     alloc: Global,
     source: &Chars<'a>,
     at: usize,
     column: usize,
     level: &Level<'_, 'a>,
     out: &mut Sink<'a, K>,
-) -> Result<Line, Fault>
-    requires { StartsInside source.now level.now column at }
-    ensures ends { IfOk result (EndsLine source.now at) }
-    ensures reads { ReadsLine (entry_rule column) source.now level.now at (holds_of K.holds) out.old out.new result }
-    ensures decides { DecidesEntry source.now level.now at column result }
+) -> Result<Opened<'a>, Fault>
+    requires { StartsEntry source.now level.now column at }
+    ensures ends { IfOk result (EndsOpened source.now level.now at) }
+    ensures reads { ReadsOpened (inner_rule column) source.now level.now at (holds_of K.holds) out.old out.new result }
+    ensures decides { DecidesOpened source.now level.now at (inner_rule column source.now level.now) (AfterEntry (text_of source.now) column) result }
     ensures placed { IfErr result (IsPlaced source.now) }
 {
-    let inside = Level {
-        least: column + 1,
-        context: Ctx::BlockIn,
-        room: level.room - 1,
-        ..*level
-    };
     match skip_line_rest(source, at) {
         Some(start) => {
             let line = line_at(source, start);
-            read_below(alloc, source, line, &inside, out)
+            open_below(alloc, source, line, level, out)
         }
         None => {
             let (count, first) = skip_spaces(source, at);
@@ -102,50 +117,49 @@ pub fn read_indented<'a, K: Keeper>(
                         after,
                         column: inner,
                     };
-                    read_sequence(alloc, source, indicator, outer, &inside, out)
+                    Ok(Opened::Sequence(indicator, outer))
                 }
                 None => {
                     let site = Site {
                         from: first,
                         column: Some(inner),
-                        level: &inside,
+                        level,
                     };
-                    read_node(alloc, source, first, outer, &site, out)
+                    open_node(alloc, source, first, outer, &site, out)
                 }
             }
         }
     }
 }
 
-/// A node on a line below its parent, or none where the line is not indented enough.
+/// The start of a node on a line below its parent, or none where the line is not indented enough.
 #[inline(always)]
-#[cycle(blocks)]
-pub fn read_below<'a, K: Keeper>(
+fn open_below<'a, K: Keeper>(
     alloc: Global,
     source: &Chars<'a>,
     line: Line,
     level: &Level<'_, 'a>,
     out: &mut Sink<'a, K>,
-) -> Result<Line, Fault>
+) -> Result<Opened<'a>, Fault>
     requires { StartsBelow source.now level.now line }
-    ensures ends { IfOk result (EndsLine source.now line.start) }
-    ensures reads { ReadsLine line_rule source.now level.now line.start (holds_of K.holds) out.old out.new result }
-    ensures decides { DecidesBlockNode source.now level.now line.start line_rule result }
+    ensures ends { IfOk result (EndsOpened source.now level.now line.start) }
+    ensures reads { ReadsOpened line_rule source.now level.now line.start (holds_of K.holds) out.old out.new result }
+    ensures decides { DecidesOpenedNode source.now level.now line.start line_rule result }
     ensures placed { IfErr result (IsPlaced source.now) }
 {
     let outer = Properties::none();
     match begins_below(source, line, level) {
         Below::Nothing => {
             push_nothing(line.start, out)?;
-            Ok(line)
+            Ok(Opened::Whole(line))
         }
         Below::Sequence(after) => {
-            let indicator = Indicator {
+            let first = Indicator {
                 at: line.first,
                 after,
                 column: line.column,
             };
-            read_sequence(alloc, source, indicator, outer, level, out)
+            Ok(Opened::Sequence(first, outer))
         }
         Below::Node => {
             let column = Some(line.column);
@@ -154,52 +168,7 @@ pub fn read_below<'a, K: Keeper>(
                 column,
                 level,
             };
-            read_node(alloc, source, line.first, outer, &site, out)
-        }
-    }
-}
-
-/// A node on a line below its properties, or none where the line is not indented enough.
-#[cycle(blocks)]
-pub fn read_under<'a, K: Keeper>(
-    alloc: Global,
-    source: &Chars<'a>,
-    line: Line,
-    above: Head<'a>,
-    level: &Level<'_, 'a>,
-    out: &mut Sink<'a, K>,
-) -> Result<Line, Fault>
-    requires { StartsUnder source.now level.now line above }
-    ensures ends { IfOk result (EndsLine source.now above.entry.at) }
-    ensures reads { ReadsLine (node_rule None) source.now level.now above.entry.at (holds_of K.holds) out.old out.new result }
-    ensures decides { DecidesBlockNode source.now level.now above.entry.at (node_rule None) result }
-    ensures placed { IfErr result (IsPlaced source.now) }
-{
-    let Head {
-        at: from,
-        end,
-        own: outer,
-    } = above;
-    match begins_below(source, line, level) {
-        Below::Nothing => {
-            push_lone(outer, end, out)?;
-            Ok(line)
-        }
-        Below::Sequence(after) => {
-            let indicator = Indicator {
-                at: line.first,
-                after,
-                column: line.column,
-            };
-            read_sequence(alloc, source, indicator, outer, level, out)
-        }
-        Below::Node => {
-            let site = Site {
-                from,
-                column: Some(line.column),
-                level,
-            };
-            read_node(alloc, source, line.first, outer, &site, out)
+            open_node(alloc, source, line.first, outer, &site, out)
         }
     }
 }

@@ -13,32 +13,19 @@ use Rattle.yaml_block.specs.BlockEnds.{AfterNode, AfterEntry, AfterSequence, Aft
 use Rattle.yaml_block.specs.BlockCalls.{StartsInside}
 use Rattle.yaml_block.specs.BlockRules.{value_rest, entry_rest, entries_rest, sequence_with, seq_body}
 use Rattle.yaml_block.proofs.BlockLemmas.{seq_entry_at, map_entry_at}
-use Rattle.yaml_block.specs.OuterRules.{properties_left}
-use Rattle.yaml_block.proofs.block.+blocks.Given as goal
+use Rattle.yaml_block.proofs.block.collections.+blocks.Given as goal
 
-abbrev pub decreases-collections::read_sequence : goal.decreases-collections::read_sequence
-decreases-collections::read_sequence g l = 16 * l.level.now.room
+abbrev pub decreases-read_opened : goal.decreases-read_opened
+decreases-read_opened g l = 4 * l.level.now.room + 2
 
-abbrev pub decreases-nodes::read_node : goal.decreases-nodes::read_node
-decreases-nodes::read_node g l = 16 * l.site.now.level.now.room + (4 * properties_left (props_of l.outer) + 2)
+abbrev pub decreases-read_sequence : goal.decreases-read_sequence
+decreases-read_sequence g l = 4 * l.level.now.room + 1
 
-abbrev pub decreases-values::read_under : goal.decreases-values::read_under
-decreases-values::read_under g l = 16 * l.level.now.room + (4 * properties_left (props_of l.above.own) + 3)
+abbrev pub decreases-read_entries : goal.decreases-read_entries
+decreases-read_entries g l = 4 * l.level.now.room + 1
 
-abbrev pub decreases-values::read_below : goal.decreases-values::read_below
-decreases-values::read_below g l = 16 * l.level.now.room + 12
-
-abbrev pub decreases-values::read_value : goal.decreases-values::read_value
-decreases-values::read_value g l = 16 * l.level.now.room + 13
-
-abbrev pub decreases-values::read_indented : goal.decreases-values::read_indented
-decreases-values::read_indented g l = 16 * (l.level.now.room - 1) + 13
-
-abbrev pub decreases-collections::read_entries : goal.decreases-collections::read_entries
-decreases-collections::read_entries g l = 16 * (l.level.now.room - 1) + 14
-
-abbrev pub invariant-collections::read_sequence-entries : goal.invariant-collections::read_sequence-entries
-invariant-collections::read_sequence-entries g l =
+abbrev pub invariant-read_sequence-entries : goal.invariant-read_sequence-entries
+invariant-read_sequence-entries g l =
     record {
       inside : StartsInside l.source l.level l.first.column l.after;
       onward : l.first.at < l.after;
@@ -52,11 +39,11 @@ invariant-collections::read_sequence-entries g l =
           → Refused (sequence_with (text_of l.source) (Unit {0}) (handles_of l.level.handles) (props_of l.fn.properties) l.level.room l.first.column) (AfterSequence (text_of l.source) l.first.column) (place_of l.source l.first.at);
     }
 
-abbrev pub decreases-collections::read_sequence-entries : goal.decreases-collections::read_sequence-entries
-decreases-collections::read_sequence-entries g l = length (bytes_of l.source) - l.after
+abbrev pub decreases-read_sequence-entries : goal.decreases-read_sequence-entries
+decreases-read_sequence-entries g l = length (bytes_of l.source) - l.after
 
-abbrev pub invariant-collections::read_entries-entries : goal.invariant-collections::read_entries-entries
-invariant-collections::read_entries-entries g l =
+abbrev pub invariant-read_entries-entries : goal.invariant-read_entries-entries
+invariant-read_entries-entries g l =
     record {
       inside : StartsInside l.source l.level l.column l.colon;
       onward : l.after ≤ l.colon;
@@ -70,5 +57,5 @@ invariant-collections::read_entries-entries g l =
           → Refused (entries_rest (text_of l.source) (Unit {0}) (handles_of l.level.handles) (l.level.room - 1) l.column) (AfterMapping (text_of l.source) l.column) (place_of l.source l.after);
     }
 
-abbrev pub decreases-collections::read_entries-entries : goal.decreases-collections::read_entries-entries
-decreases-collections::read_entries-entries g l = length (bytes_of l.source) - l.colon
+abbrev pub decreases-read_entries-entries : goal.decreases-read_entries-entries
+decreases-read_entries-entries g l = length (bytes_of l.source) - l.colon
