@@ -14,6 +14,7 @@ use crate::block::keys::read_key;
 use crate::block::signs::{Indicator, dash};
 use crate::block::values::{read_indented, read_value};
 use std::alloc::Global;
+use yaml_line::flow::FlowReader;
 use yaml_line::level::Level;
 use yaml_line::line::{Line, has_content};
 use yaml_sink::properties::Properties;
@@ -66,7 +67,7 @@ fn next_dash(source: &Chars<'_>, line: Line, column: usize) -> Result<Option<usi
 /// A block sequence with its properties, from its first dash on (8.2.1).
 #[inline(never)]
 #[cycle(blocks)]
-pub fn read_sequence<'a, K: Keeper>(
+pub fn read_sequence<'a, K: Keeper, F: FlowReader>(
     alloc: Global,
     source: &Chars<'a>,
     first: Indicator,
@@ -84,7 +85,7 @@ pub fn read_sequence<'a, K: Keeper>(
         return Err(Fault::TooDeep(source.pos(first.at)));
     }
     push_block_sequence(out, properties, first.at)?;
-    let mut line = read_indented(alloc, source, first.after, first.column, level, out)?;
+    let mut line = read_indented::<K, F>(alloc, source, first.after, first.column, level, out)?;
     'entries: loop {
         match next_dash(source, line, first.column)? {
             None => {
@@ -92,7 +93,7 @@ pub fn read_sequence<'a, K: Keeper>(
                 return Ok(line);
             }
             Some(after) => {
-                line = read_indented(alloc, source, after, first.column, level, out)?;
+                line = read_indented::<K, F>(alloc, source, after, first.column, level, out)?;
             }
         }
     }
@@ -101,7 +102,7 @@ pub fn read_sequence<'a, K: Keeper>(
 /// The entries of a block mapping in this column, from its first key's colon on (8.2.2).
 #[inline(always)]
 #[cycle(blocks)]
-pub fn read_entries<'a, K: Keeper>(
+pub fn read_entries<'a, K: Keeper, F: FlowReader>(
     alloc: Global,
     source: &Chars<'a>,
     after: usize,
@@ -121,12 +122,12 @@ pub fn read_entries<'a, K: Keeper>(
         room: level.room - 1,
         ..*level
     };
-    let mut line = read_value(alloc, source, after, &inside, out)?;
+    let mut line = read_value::<K, F>(alloc, source, after, &inside, out)?;
     'entries: loop {
         if !goes_on(source, line, column)? {
             return Ok(line);
         }
-        let colon = read_key(alloc, source, line.first, column, &inside, out)?;
-        line = read_value(alloc, source, colon, &inside, out)?;
+        let colon = read_key::<K, F>(alloc, source, line.first, column, &inside, out)?;
+        line = read_value::<K, F>(alloc, source, colon, &inside, out)?;
     }
 }

@@ -25,8 +25,7 @@ use crate::block::scalars::read_block_scalar;
 use crate::block::signs::{Indicator, block_sign, dash, first_colon, may_bear};
 use crate::block::values::read_under;
 use std::alloc::Global;
-use yaml_flow::flow::read_bare;
-use yaml_line::flow::FlowNode;
+use yaml_line::flow::{FlowNode, FlowReader};
 use yaml_line::level::Level;
 use yaml_line::line::{Line, line_at, next_line, skip_line_rest};
 use yaml_line::properties::{Head, read_properties};
@@ -80,7 +79,7 @@ fn finish_node<'a, K: Keeper>(
 /// A node whose first character stands at `at`, with its outer properties.
 #[inline(never)]
 #[cycle(blocks)]
-pub fn read_node<'a, K: Keeper>(
+pub fn read_node<'a, K: Keeper, F: FlowReader>(
     alloc: Global,
     source: &Chars<'a>,
     at: usize,
@@ -97,12 +96,12 @@ pub fn read_node<'a, K: Keeper>(
     let (own, end) = read_properties(alloc, source, at, 0, Ctx::BlockKey, site.level.handles)?;
     if own.is_none() {
         let head = Head { at, end, own };
-        return read_dressed(alloc, source, head, outer, site, out);
+        return read_dressed::<K, F>(alloc, source, head, outer, site, out);
     }
     match skip_line_rest(source, end) {
         None => {
             let head = Head { at, end, own };
-            read_dressed(alloc, source, head, outer, site, out)
+            read_dressed::<K, F>(alloc, source, head, outer, site, out)
         }
         Some(start) => {
             if outer.overlaps(&own) {
@@ -114,7 +113,7 @@ pub fn read_node<'a, K: Keeper>(
                 end,
                 own: outer.and(own),
             };
-            read_under(alloc, source, line, above, site.level, out)
+            read_under::<K, F>(alloc, source, line, above, site.level, out)
         }
     }
 }
@@ -123,7 +122,7 @@ pub fn read_node<'a, K: Keeper>(
 /// key it is.
 #[inline(always)]
 #[cycle(blocks)]
-fn read_dressed<'a, K: Keeper>(
+fn read_dressed<'a, K: Keeper, F: FlowReader>(
     alloc: Global,
     source: &Chars<'a>,
     head: Head<'a>,
@@ -138,7 +137,7 @@ fn read_dressed<'a, K: Keeper>(
     ensures placed { IfErr result (IsPlaced source.now) }
 {
     match block_sign(source, &head) {
-        None => read_keyed(alloc, source, head, outer, site, out),
+        None => read_keyed::<K, F>(alloc, source, head, outer, site, out),
         Some(sign) => {
             if outer.overlaps(&head.own) {
                 return Err(unusable(source, sign.at));
@@ -153,7 +152,7 @@ fn read_dressed<'a, K: Keeper>(
 /// A flow node of a block level, after its own properties. It is inlined, so that its level has no room of its own in the frame of
 /// a call that nests.
 #[inline(always)]
-fn read_in_block<'a, K: Keeper>(
+fn read_in_block<'a, K: Keeper, F: FlowReader>(
     alloc: Global,
     source: &Chars<'a>,
     head: &Head<'a>,
@@ -170,13 +169,13 @@ fn read_in_block<'a, K: Keeper>(
         context: Ctx::FlowOut,
         ..*level
     };
-    read_bare(alloc, source, head, &flow, out)
+    F::read_bare(alloc, source, head, &flow, out)
 }
 
 /// A flow node, or a mapping whose first key it is.
 #[inline(never)]
 #[cycle(blocks)]
-fn read_keyed<'a, K: Keeper>(
+fn read_keyed<'a, K: Keeper, F: FlowReader>(
     alloc: Global,
     source: &Chars<'a>,
     head: Head<'a>,
@@ -199,7 +198,7 @@ fn read_keyed<'a, K: Keeper>(
         &head.own
     };
     out.announce(known);
-    let node = read_in_block(alloc, source, &head, site.level, out)?;
+    let node = read_in_block::<K, F>(alloc, source, &head, site.level, out)?;
     let begun = Begun { node, start };
     match first_colon(source, head.at, node.end, site.column)? {
         None => {
@@ -207,10 +206,10 @@ fn read_keyed<'a, K: Keeper>(
             Ok(line)
         }
         Some((column, after)) => {
-            fit_key(alloc, source, &head, begun, site.level, out)?;
+            fit_key::<K, F>(alloc, source, &head, begun, site.level, out)?;
             out.dress(start, head.own);
             insert_block_mapping(out, start, outer, head.at)?;
-            let line = read_entries(alloc, source, after, column, site.level, out)?;
+            let line = read_entries::<K, F>(alloc, source, after, column, site.level, out)?;
             push_mapping_end(out, line.start)?;
             Ok(line)
         }
@@ -218,7 +217,7 @@ fn read_keyed<'a, K: Keeper>(
 }
 
 /// A document's node on the line where it begins, with content on it.
-pub fn read_root<'a, K: Keeper>(
+pub fn read_root<'a, K: Keeper, F: FlowReader>(
     alloc: Global,
     source: &Chars<'a>,
     line: Line,
@@ -248,7 +247,7 @@ pub fn read_root<'a, K: Keeper>(
                 after,
                 column: line.column,
             };
-            read_sequence(alloc, source, indicator, outer, &level, out)
+            read_sequence::<K, F>(alloc, source, indicator, outer, &level, out)
         }
         None => {
             let site = Site {
@@ -256,7 +255,7 @@ pub fn read_root<'a, K: Keeper>(
                 column: Some(line.column),
                 level: &level,
             };
-            read_node(alloc, source, first, outer, &site, out)
+            read_node::<K, F>(alloc, source, first, outer, &site, out)
         }
     }
 }

@@ -10,6 +10,7 @@ use crate::block::scalars::{push_lone, push_nothing};
 use crate::block::signs::{Indicator, dash, sequence_column};
 use crate::block::words::read_word;
 use std::alloc::Global;
+use yaml_line::flow::FlowReader;
 use yaml_line::level::Level;
 use yaml_line::line::{Line, has_content, line_at, skip_line_rest};
 use yaml_line::properties::Head;
@@ -24,7 +25,7 @@ use yaml_text::lines::{skip_spaces, unusable};
 /// The value after a key's colon, or a document's node after its mark: on the line of the sign, on later lines, or none.
 #[inline(always)]
 #[cycle(blocks)]
-pub fn read_value<'a, K: Keeper>(
+pub fn read_value<'a, K: Keeper, F: FlowReader>(
     alloc: Global,
     source: &Chars<'a>,
     at: usize,
@@ -40,7 +41,7 @@ pub fn read_value<'a, K: Keeper>(
     match skip_line_rest(source, at) {
         Some(start) => {
             let line = line_at(source, start);
-            read_below(alloc, source, line, level, out)
+            read_below::<K, F>(alloc, source, line, level, out)
         }
         None => {
             let (count, first) = skip_spaces(source, at);
@@ -48,7 +49,7 @@ pub fn read_value<'a, K: Keeper>(
                 return Err(unusable(source, first));
             }
             if begins_word(source, first) {
-                return read_word(alloc, source, first, level, out);
+                return read_word::<K, F>(alloc, source, first, level, out);
             }
             let outer = Properties::none();
             let site = Site {
@@ -56,14 +57,14 @@ pub fn read_value<'a, K: Keeper>(
                 column: None,
                 level,
             };
-            read_node(alloc, source, first, outer, &site, out)
+            read_node::<K, F>(alloc, source, first, outer, &site, out)
         }
     }
 }
 
 /// What stands after the dash of an entry of a sequence in this column (`s-l+block-indented`, 8.2.1).
 #[cycle(blocks)]
-pub fn read_indented<'a, K: Keeper>(
+pub fn read_indented<'a, K: Keeper, F: FlowReader>(
     alloc: Global,
     source: &Chars<'a>,
     at: usize,
@@ -86,7 +87,7 @@ pub fn read_indented<'a, K: Keeper>(
     match skip_line_rest(source, at) {
         Some(start) => {
             let line = line_at(source, start);
-            read_below(alloc, source, line, &inside, out)
+            read_below::<K, F>(alloc, source, line, &inside, out)
         }
         None => {
             let (count, first) = skip_spaces(source, at);
@@ -102,7 +103,7 @@ pub fn read_indented<'a, K: Keeper>(
                         after,
                         column: inner,
                     };
-                    read_sequence(alloc, source, indicator, outer, &inside, out)
+                    read_sequence::<K, F>(alloc, source, indicator, outer, &inside, out)
                 }
                 None => {
                     let site = Site {
@@ -110,7 +111,7 @@ pub fn read_indented<'a, K: Keeper>(
                         column: Some(inner),
                         level: &inside,
                     };
-                    read_node(alloc, source, first, outer, &site, out)
+                    read_node::<K, F>(alloc, source, first, outer, &site, out)
                 }
             }
         }
@@ -120,7 +121,7 @@ pub fn read_indented<'a, K: Keeper>(
 /// A node on a line below its parent, or none where the line is not indented enough.
 #[inline(always)]
 #[cycle(blocks)]
-pub fn read_below<'a, K: Keeper>(
+pub fn read_below<'a, K: Keeper, F: FlowReader>(
     alloc: Global,
     source: &Chars<'a>,
     line: Line,
@@ -150,7 +151,7 @@ pub fn read_below<'a, K: Keeper>(
                 after,
                 column: line.column,
             };
-            read_sequence(alloc, source, indicator, outer, level, out)
+            read_sequence::<K, F>(alloc, source, indicator, outer, level, out)
         }
         None => {
             if line.column < level.least {
@@ -163,14 +164,14 @@ pub fn read_below<'a, K: Keeper>(
                 column,
                 level,
             };
-            read_node(alloc, source, first, outer, &site, out)
+            read_node::<K, F>(alloc, source, first, outer, &site, out)
         }
     }
 }
 
 /// A node on a line below its properties, or none where the line is not indented enough.
 #[cycle(blocks)]
-pub fn read_under<'a, K: Keeper>(
+pub fn read_under<'a, K: Keeper, F: FlowReader>(
     alloc: Global,
     source: &Chars<'a>,
     line: Line,
@@ -205,7 +206,7 @@ pub fn read_under<'a, K: Keeper>(
                 after,
                 column: line.column,
             };
-            read_sequence(alloc, source, indicator, outer, level, out)
+            read_sequence::<K, F>(alloc, source, indicator, outer, level, out)
         }
         None => {
             if line.column < level.least {
@@ -217,7 +218,7 @@ pub fn read_under<'a, K: Keeper>(
                 column: Some(line.column),
                 level,
             };
-            read_node(alloc, source, first, outer, &site, out)
+            read_node::<K, F>(alloc, source, first, outer, &site, out)
         }
     }
 }

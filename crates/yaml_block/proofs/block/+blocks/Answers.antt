@@ -223,18 +223,21 @@ values::read_under-read_node-requires g t c = λ κs l.
     let yes = on_true_at c.has_content.result c.if-not-has_content.false c.has_content.ensures.yes in (
       omega arith,
       (
-        l,
-        record {
-          border = c.requires.line.first;
-          start = c.requires.border;
-          order = omega (arith, c.requires.order, c.requires.line.wide);
-          low = c.requires.low;
-          block = c.requires.block;
-          column = omega (arith, c.requires.line.wide);
-          wide = omega (arith, c.if-line-level.false);
-          above = above _ _ c.args.line.column c.requires.marks c.requires.comments c.requires.line.spaces (omega (arith, c.if-line-level.false)) refl c.requires.above c.requires.line.stuck c.requires.line.all c.in-None.ensures.none
-              (no_end c.args.source.now c.args.line c.requires.line yes.0) (no_mark c.args.source.now c.args.line c.requires.line yes.1);
-        },
+        l.0,
+        (
+          l.1,
+          record {
+            border = c.requires.line.first;
+            start = c.requires.border;
+            order = omega (arith, c.requires.order, c.requires.line.wide);
+            low = c.requires.low;
+            block = c.requires.block;
+            column = omega (arith, c.requires.line.wide);
+            wide = omega (arith, c.if-line-level.false);
+            above = above _ _ c.args.line.column c.requires.marks c.requires.comments c.requires.line.spaces (omega (arith, c.if-line-level.false)) refl c.requires.above c.requires.line.stuck c.requires.line.all c.in-None.ensures.none
+                (no_end c.args.source.now c.args.line c.requires.line yes.0) (no_mark c.args.source.now c.args.line c.requires.line yes.1);
+          },
+        ),
       ),
     )
 
@@ -360,13 +363,13 @@ collections::read_entries-entries-preserved g t c =
 pub nodes::read_node-read_dressed-requires : goal.nodes::read_node-read_dressed-requires
 nodes::read_node-read_dressed-requires g t c = λ κs l. (
   omega arith,
-  (l, record { node = c.requires; own = c.in_ok-own.ensures.stand; goes_on = inl (on_true_at c.is_none.result c.if-is_none.true c.is_none.ensures.yes) }),
+  (l.0, (l.1, record { node = c.requires; own = c.in_ok-own.ensures.stand; goes_on = inl (on_true_at c.is_none.result c.if-is_none.true c.is_none.ensures.yes) })),
 )
 
 pub nodes::read_node-read_dressed-requires-in-None : goal.nodes::read_node-read_dressed-requires-in-None
 nodes::read_node-read_dressed-requires-in-None g t c = λ κs l. (
   omega arith,
-  (l, record { node = c.requires; own = c.in_ok-own.ensures.stand; goes_on = inr c.in-None.ensures.none }),
+  (l.0, (l.1, record { node = c.requires; own = c.in_ok-own.ensures.stand; goes_on = inr c.in-None.ensures.none })),
 )
 
 pub nodes::read_node-read_under-requires : goal.nodes::read_node-read_under-requires
@@ -382,21 +385,24 @@ nodes::read_node-read_under-requires g t c =
     let comments = moved s _ _ _ c.line_at-line.ensures.start c.in-Some.ensures.some in λ κs l. (
       omega (arith, fewer, ap properties_left c.and.ensures),
       (
-        l,
-        record {
-          line = c.line_at-line.ensures.line;
-          border = c.requires.start;
-          low = c.requires.low;
-          order = omega (arith, c.requires.order, c.in_ok-own.ensures.stand.onward, c.in-Some.ensures.onward, c.line_at-line.ensures.start);
-          block = c.requires.block;
-          marks = subst (SomeProperties cs h c.args.site.now.level.now.least flow_out (place_of s c.args.site.now.from) (place_of s c.in_ok-own.end)) (sym c.and.ensures) marks;
-          comments = comments;
-          after = comments_after cs _ _ comments;
-          above = subst (Above cs h c.args.site.now.level.now.least (place_of s c.args.site.now.from) (place_of s c.in_ok-own.end)) (sym c.and.ensures)
-              (over_above cs h c.args.site.now.level.now.room c.args.site.now.level.now.least (context_of c.args.site.now.level.now.context) c.requires.block c.args.site.now.column _ _ (props_of c.args.outer) _ _ (props_of c.in_ok-own.own)
-              (places_up s _ _ c.requires.border c.in_ok-own.ensures.stand.border c.in_ok-own.ensures.stand.onward) (own_marks cs h 0 block_key _ _ (props_of c.in_ok-own.own) c.in_ok-own.ensures.stand.own some) c.in_ok-own.ensures.stand.all
-              c.in-Some.ensures.some c.requires.above apart);
-        },
+        l.0,
+        (
+          l.1,
+          record {
+            line = c.line_at-line.ensures.line;
+            border = c.requires.start;
+            low = c.requires.low;
+            order = omega (arith, c.requires.order, c.in_ok-own.ensures.stand.onward, c.in-Some.ensures.onward, c.line_at-line.ensures.start);
+            block = c.requires.block;
+            marks = subst (SomeProperties cs h c.args.site.now.level.now.least flow_out (place_of s c.args.site.now.from) (place_of s c.in_ok-own.end)) (sym c.and.ensures) marks;
+            comments = comments;
+            after = comments_after cs _ _ comments;
+            above = subst (Above cs h c.args.site.now.level.now.least (place_of s c.args.site.now.from) (place_of s c.in_ok-own.end)) (sym c.and.ensures)
+                (over_above cs h c.args.site.now.level.now.room c.args.site.now.level.now.least (context_of c.args.site.now.level.now.context) c.requires.block c.args.site.now.column _ _ (props_of c.args.outer) _ _ (props_of c.in_ok-own.own)
+                (places_up s _ _ c.requires.border c.in_ok-own.ensures.stand.border c.in_ok-own.ensures.stand.onward) (own_marks cs h 0 block_key _ _ (props_of c.in_ok-own.own) c.in_ok-own.ensures.stand.own some) c.in_ok-own.ensures.stand.all
+                c.in-Some.ensures.some c.requires.above apart);
+          },
+        ),
       ),
     )
 
@@ -479,13 +485,16 @@ values::read_value-read_below-requires g t c = λ κs l.
     let s = c.args.source.now in (
       omega arith,
       (
-        l,
-        record {
-          line = c.line_at-line.ensures.line;
-          low = omega (arith, c.requires.low, c.in-Some.ensures.onward, c.line_at-line.ensures.start);
-          block = c.requires.block;
-          after = comments_after (text_of s) _ _ (moved s _ _ _ c.line_at-line.ensures.start c.in-Some.ensures.some);
-        },
+        l.0,
+        (
+          l.1,
+          record {
+            line = c.line_at-line.ensures.line;
+            low = omega (arith, c.requires.low, c.in-Some.ensures.onward, c.line_at-line.ensures.start);
+            block = c.requires.block;
+            after = comments_after (text_of s) _ _ (moved s _ _ _ c.line_at-line.ensures.start c.in-Some.ensures.some);
+          },
+        ),
       ),
     )
 
@@ -533,13 +542,16 @@ values::read_indented-read_below-requires g t c = λ κs l.
     let s = c.args.source.now in (
       omega (arith, c.requires.some),
       (
-        l,
-        record {
-          line = c.line_at-line.ensures.line;
-          low = omega (arith, c.requires.low, c.in-Some.ensures.onward, c.line_at-line.ensures.start);
-          block = tt;
-          after = comments_after (text_of s) _ _ (moved s _ _ _ c.line_at-line.ensures.start c.in-Some.ensures.some);
-        },
+        l.0,
+        (
+          l.1,
+          record {
+            line = c.line_at-line.ensures.line;
+            low = omega (arith, c.requires.low, c.in-Some.ensures.onward, c.line_at-line.ensures.start);
+            block = tt;
+            after = comments_after (text_of s) _ _ (moved s _ _ _ c.line_at-line.ensures.start c.in-Some.ensures.some);
+          },
+        ),
       ),
     )
 
@@ -686,13 +698,16 @@ pub collections::read_sequence-read_indented-requires : goal.collections::read_s
 collections::read_sequence-read_indented-requires g t c = λ κs l. (
   omega (arith, c.if-level-eq0.false),
   (
-    l,
-    record {
-      border = c.requires.dash.dash.border;
-      low = omega (arith, c.requires.low, c.requires.dash.dash.forward);
-      inside = dash_inside c.args.source.now _ _ c.requires.dash;
-      some = omega (arith, c.if-level-eq0.false);
-    },
+    l.0,
+    (
+      l.1,
+      record {
+        border = c.requires.dash.dash.border;
+        low = omega (arith, c.requires.low, c.requires.dash.dash.forward);
+        inside = dash_inside c.args.source.now _ _ c.requires.dash;
+        some = omega (arith, c.if-level-eq0.false);
+      },
+    ),
   ),
 )
 
@@ -732,13 +747,16 @@ collections::read_sequence-read_indented-requires-in-Some g t c = λ κs l.
     let d = (found_is (IsNextDash s c.entries.line c.args.first.column) c.in_ok-next_dash.field-0 c.in-Some.after c.in-Some.is c.in_ok-next_dash.ensures.found).dash in (
       omega (arith, c.if-level-eq0.false),
       (
-        l,
-        record {
-          border = d.dash.border;
-          low = omega (arith, c.requires.low, v.onward, v.line.wide, d.dash.forward);
-          inside = dash_inside s _ _ d;
-          some = omega (arith, c.if-level-eq0.false);
-        },
+        l.0,
+        (
+          l.1,
+          record {
+            border = d.dash.border;
+            low = omega (arith, c.requires.low, v.onward, v.line.wide, d.dash.forward);
+            inside = dash_inside s _ _ d;
+            some = omega (arith, c.if-level-eq0.false);
+          },
+        ),
       ),
     )
 
@@ -802,13 +820,16 @@ collections::read_entries-read_value-requires-in-entries g t c = λ κs l.
     let colon = k.2 in (
       omega (arith, c.requires.some),
       (
-        l,
-        record {
-          border = c.in_ok-colon.ensures.ends.border;
-          low = omega (arith, c.requires.low, v.onward, v.line.wide, c.in_ok-colon.ensures.ends.onward);
-          block = tt;
-          inside = inl (colon_inside (text_of s) colon.0 _ colon.2.0 colon.2.1);
-        },
+        l.0,
+        (
+          l.1,
+          record {
+            border = c.in_ok-colon.ensures.ends.border;
+            low = omega (arith, c.requires.low, v.onward, v.line.wide, c.in_ok-colon.ensures.ends.onward);
+            block = tt;
+            inside = inl (colon_inside (text_of s) colon.0 _ colon.2.0 colon.2.1);
+          },
+        ),
       ),
     )
 
@@ -862,7 +883,7 @@ nodes::read_node-returns-else-overlaps-clause-decides g t c =
 pub nodes::read_dressed-read_keyed-requires : goal.nodes::read_dressed-read_keyed-requires
 nodes::read_dressed-read_keyed-requires g t c = λ κs l. (
   omega arith,
-  (l, (c.requires, c.in-None.ensures.none)),
+  (l.0, (l.1, (c.requires, c.in-None.ensures.none))),
 )
 
 pub nodes::read_dressed-returns-then-overlaps-clause-decides : goal.nodes::read_dressed-returns-then-overlaps-clause-decides
@@ -992,13 +1013,16 @@ nodes::read_keyed-read_entries-requires g t c =
     let low = MatchOption-at_some (Unit {0}) (λ k. k ≤ c.args.head.at) _ found.some c.requires.dressed.node.column in λ κs l. (
       omega (arith, fit.3),
       (
-        l,
-        record {
-          border = found.border;
-          low = omega (arith, low, found.further, c.in_ok-node.ensures.ends.onward);
-          inside = colon_after_inside cs _ _ _ found.colon;
-          some = omega (arith, fit.3);
-        },
+        l.0,
+        (
+          l.1,
+          record {
+            border = found.border;
+            low = omega (arith, low, found.further, c.in_ok-node.ensures.ends.onward);
+            inside = colon_after_inside cs _ _ _ found.colon;
+            some = omega (arith, fit.3);
+          },
+        ),
       ),
     )
 
