@@ -17,6 +17,7 @@ ghost use Rattle.yaml_line.specs.Lines.{IsLine};
 
 use crate::block::{read_root, read_value};
 use std::alloc::Global;
+use yaml_line::flow::FlowReader;
 use yaml_line::level::Level;
 use yaml_line::line::Line;
 use yaml_mark::handles::Handles;
@@ -34,7 +35,7 @@ fn room() -> u32
 }
 
 /// The node of a bare document on the line where it begins, with content on it (9.1.3), and the line after it.
-pub fn read_bare<'a, K: Keeper>(
+pub fn read_bare<'a, K: Keeper, F: FlowReader>(
     alloc: Global,
     source: &Chars<'a>,
     line: Line,
@@ -49,11 +50,11 @@ pub fn read_bare<'a, K: Keeper>(
     ensures decides { Decides (bare_document (text_of source.now) wide open_limit (handles_of handles.entry)) (Over (text_of source.now) (Follow (text_of source.now) 0 0)) (place_of source.now line.start) Here (λ next. place_of source.now next.start) result }
     ensures placed { IfErr result (IsPlaced source.now) }
 {
-    read_root(alloc, source, line, room(), handles, out)
+    read_root::<K, F>(alloc, source, line, room(), handles, out)
 }
 
 /// What stands after the mark of an explicit document (9.1.4), and the line after it.
-pub fn read_marked<'a, K: Keeper>(
+pub fn read_marked<'a, K: Keeper, F: FlowReader>(
     alloc: Global,
     source: &Chars<'a>,
     at: usize,
@@ -73,5 +74,5 @@ pub fn read_marked<'a, K: Keeper>(
         context: Ctx::BlockIn,
         room: room(),
     };
-    read_value(alloc, source, at, &level, out)
+    read_value::<K, F>(alloc, source, at, &level, out)
 }

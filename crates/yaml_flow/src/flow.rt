@@ -8,5 +8,48 @@ mod scalars;
 mod sequence;
 mod signs;
 
-pub use nodes::{read_bare, read_flow_node};
-pub use scalars::read_plain_node;
+use std::alloc::Global;
+use yaml_line::flow::{FlowNode, FlowReader};
+use yaml_line::level::Level;
+use yaml_line::properties::Head;
+use yaml_sink::sink::{Keeper, Sink};
+use yaml_text::chars::Chars;
+use yaml_text::fault::Fault;
+
+/// The reader of flow nodes.
+pub struct Flow;
+
+impl FlowReader for Flow {
+    #[inline(always)]
+    fn read_flow_node<'a, K: Keeper>(
+        alloc: Global,
+        source: &Chars<'a>,
+        at: usize,
+        level: &Level<'_, 'a>,
+        out: &mut Sink<'a, K>,
+    ) -> Result<FlowNode, Fault> {
+        nodes::read_flow_node(alloc, source, at, level, out)
+    }
+
+    #[inline(always)]
+    fn read_bare<'a, K: Keeper>(
+        alloc: Global,
+        source: &Chars<'a>,
+        head: &Head<'a>,
+        level: &Level<'_, 'a>,
+        out: &mut Sink<'a, K>,
+    ) -> Result<FlowNode, Fault> {
+        nodes::read_bare(alloc, source, head, level, out)
+    }
+
+    #[inline(always)]
+    fn read_plain_node<'a, K: Keeper>(
+        alloc: Global,
+        source: &Chars<'a>,
+        at: usize,
+        level: &Level<'_, 'a>,
+        out: &mut Sink<'a, K>,
+    ) -> Result<Option<FlowNode>, Fault> {
+        scalars::read_plain_node(alloc, source, at, level, out)
+    }
+}

@@ -27,6 +27,7 @@ ghost use Rattle.yaml_read.specs.StreamRules.{IsMarkOf, NextIs, opened_by_mark, 
 
 use std::alloc::Global;
 use yaml_block::document::{read_bare, read_marked};
+use yaml_flow::flow::Flow;
 use yaml_line::line::{Line, first_line, next_line};
 use yaml_mark::directives::read_directives;
 use yaml_mark::handles::Handles;
@@ -125,7 +126,7 @@ fn read_explicit<'a, K: Keeper>(
     ensures placed { IfErr result (IsPlaced source.now) }
 {
     out.push(Event::DocumentStart { explicit: true }, mark)?;
-    read_marked(alloc, source, after, handles, out)
+    read_marked::<K, Flow>(alloc, source, after, handles, out)
 }
 
 /// Directives and the document that they stand before (9.1.5), and the line after it.
@@ -173,7 +174,7 @@ fn read_unmarked<'a, K: Keeper>(
     ensures placed { IfErr result (IsPlaced source.now) }
 {
     out.push(Event::DocumentStart { explicit: false }, line.start)?;
-    read_bare(alloc, source, line, None, out)
+    read_bare::<K, Flow>(alloc, source, line, None, out)
 }
 
 /// A document that no mark parts from what stands before it: with directives or without a mark.

@@ -16,6 +16,7 @@ use crate::block::nodes::Opened;
 use crate::block::signs::{Indicator, dash};
 use crate::block::values::{open_entry, open_value};
 use std::alloc::Global;
+use yaml_line::flow::FlowReader;
 use yaml_line::level::Level;
 use yaml_line::line::{Line, has_content};
 use yaml_sink::properties::Properties;
@@ -67,7 +68,7 @@ fn next_dash(source: &Chars<'_>, line: Line, column: usize) -> Result<Option<usi
 
 /// The border after the colon of a mapping's next key, if a line at its column or further left begins with one.
 #[inline(always)]
-fn next_colon<'a, K: Keeper>(
+fn next_colon<'a, K: Keeper, F: FlowReader>(
     alloc: Global,
     source: &Chars<'a>,
     line: Line,
@@ -83,14 +84,14 @@ fn next_colon<'a, K: Keeper>(
     if !goes_on(source, line, column)? {
         return Ok(None);
     }
-    let colon = read_key(alloc, source, line.first, column, level, out)?;
+    let colon = read_key::<K, F>(alloc, source, line.first, column, level, out)?;
     Ok(Some(colon))
 }
 
 /// The rest of a node whose start was read, and the line after it.
 #[inline(always)]
 #[cycle(blocks)]
-pub fn read_opened<'a, K: Keeper>(
+pub fn read_opened<'a, K: Keeper, F: FlowReader>(
     alloc: Global,
     source: &Chars<'a>,
     opened: Opened<'a>,
@@ -106,10 +107,10 @@ pub fn read_opened<'a, K: Keeper>(
     match opened {
         Opened::Whole(line) => Ok(line),
         Opened::Mapping { column, after } => {
-            read_entries(alloc, source, after, column, level, out)
+            read_entries::<K, F>(alloc, source, after, column, level, out)
         }
         Opened::Sequence(first, properties) => {
-            read_sequence(alloc, source, first, properties, level, out)
+            read_sequence::<K, F>(alloc, source, first, properties, level, out)
         }
     }
 }
@@ -117,7 +118,7 @@ pub fn read_opened<'a, K: Keeper>(
 /// A block sequence with its properties, from its first dash on (8.2.1).
 #[inline(never)]
 #[cycle(blocks)]
-pub fn read_sequence<'a, K: Keeper>(
+pub fn read_sequence<'a, K: Keeper, F: FlowReader>(
     alloc: Global,
     source: &Chars<'a>,
     first: Indicator,
@@ -143,8 +144,8 @@ pub fn read_sequence<'a, K: Keeper>(
     };
     let mut after = first.after;
     'entries: loop {
-        let opened = open_entry(alloc, source, after, first.column, &inside, out)?;
-        let line = read_opened(alloc, source, opened, &inside, out)?;
+        let opened = open_entry::<K, F>(alloc, source, after, first.column, &inside, out)?;
+        let line = read_opened::<K, F>(alloc, source, opened, &inside, out)?;
         match next_dash(source, line, first.column)? {
             None => {
                 push_sequence_end(out, line.start)?;
@@ -160,7 +161,7 @@ pub fn read_sequence<'a, K: Keeper>(
 /// The entries of a block mapping in this column, from its first key's colon on, and its end (8.2.2).
 #[inline(never)]
 #[cycle(blocks)]
-fn read_entries<'a, K: Keeper>(
+fn read_entries<'a, K: Keeper, F: FlowReader>(
     alloc: Global,
     source: &Chars<'a>,
     after: usize,
@@ -182,9 +183,9 @@ fn read_entries<'a, K: Keeper>(
     };
     let mut colon = after;
     'entries: loop {
-        let opened = open_value(alloc, source, colon, &inside, out)?;
-        let line = read_opened(alloc, source, opened, &inside, out)?;
-        match next_colon(alloc, source, line, column, &inside, out)? {
+        let opened = open_value::<K, F>(alloc, source, colon, &inside, out)?;
+        let line = read_opened::<K, F>(alloc, source, opened, &inside, out)?;
+        match next_colon::<K, F>(alloc, source, line, column, &inside, out)? {
             None => {
                 push_mapping_end(out, line.start)?;
                 return Ok(line);

@@ -13,8 +13,7 @@ ghost use Rattle.yaml_block.specs.BlockCalls.{StartsIn, IsFirstKey, EndsKey, Rea
 use crate::block::signs::{first_colon, line_goes_on};
 use crate::block::words::read_word_key;
 use std::alloc::Global;
-use yaml_flow::flow::{read_bare, read_flow_node};
-use yaml_line::flow::FlowNode;
+use yaml_line::flow::{FlowNode, FlowReader};
 use yaml_line::key::{Fit, key_fit};
 use yaml_line::level::Level;
 use yaml_line::properties::{Head, read_properties};
@@ -36,7 +35,7 @@ pub struct Begun {
 
 /// The same, read as the first key of a mapping is, as a node that is a key if a colon follows.
 #[inline(never)]
-fn read_other_key<'a, K: Keeper>(
+fn read_other_key<'a, K: Keeper, F: FlowReader>(
     alloc: Global,
     source: &Chars<'a>,
     at: usize,
@@ -62,7 +61,7 @@ fn read_other_key<'a, K: Keeper>(
         context: Ctx::FlowOut,
         ..*level
     };
-    let key = read_bare(alloc, source, &head, &flow, out)?;
+    let key = F::read_bare(alloc, source, &head, &flow, out)?;
     match first_colon(source, at, key.end, Some(column))? {
         None => Err(unusable(source, key.end)),
         Some(colon) => {
@@ -74,7 +73,7 @@ fn read_other_key<'a, K: Keeper>(
 
 /// The key of an entry in this column, which has to stand at a border, and the border after its colon.
 #[inline(always)]
-fn read_entry_key<'a, K: Keeper>(
+fn read_entry_key<'a, K: Keeper, F: FlowReader>(
     alloc: Global,
     source: &Chars<'a>,
     at: usize,
@@ -89,14 +88,19 @@ fn read_entry_key<'a, K: Keeper>(
     ensures placed { IfErr result (IsPlaced source.now) }
 {
     if begins_word(source, at) {
-        return read_word_key(alloc, source, at, column, level, out);
+        return read_word_key::<K, F>(alloc, source, at, column, level, out);
     }
-    read_other_key(alloc, source, at, column, level, out)
+    read_other_key::<K, F>(alloc, source, at, column, level, out)
 }
 
 /// The fault of a line on which no key stands, at the place where a key that is read by itself ends.
 #[inline(never)]
-fn key_fault<'a>(alloc: Global, source: &Chars<'a>, at: usize, level: &Level<'_, 'a>) -> Fault
+fn key_fault<'a, F: FlowReader>(
+    alloc: Global,
+    source: &Chars<'a>,
+    at: usize,
+    level: &Level<'_, 'a>,
+) -> Fault
     requires { IsBorder source.now at }
     ensures refusal { IsRefusal result }
     ensures placed { IsPlaced source.now result }
@@ -107,7 +111,7 @@ fn key_fault<'a>(alloc: Global, source: &Chars<'a>, at: usize, level: &Level<'_,
         context: Ctx::BlockKey,
         ..*level
     };
-    match read_flow_node(alloc, source, at, &alone, &mut events) {
+    match F::read_flow_node(alloc, source, at, &alone, &mut events) {
         Err(fault) => fault,
         Ok(key) => {
             let (_, colon) = skip_spaces(source, key.end);
@@ -124,7 +128,7 @@ fn key_fault<'a>(alloc: Global, source: &Chars<'a>, at: usize, level: &Level<'_,
 
 /// A key in this column that has to stand at a border, and the border after its colon.
 #[inline(always)]
-pub fn read_key<'a, K: Keeper>(
+pub fn read_key<'a, K: Keeper, F: FlowReader>(
     alloc: Global,
     source: &Chars<'a>,
     at: usize,
@@ -138,16 +142,16 @@ pub fn read_key<'a, K: Keeper>(
     ensures decides { DecidesKey source.now level.now at result }
     ensures placed { IfErr result (IsPlaced source.now) }
 {
-    match read_entry_key(alloc, source, at, column, level, out) {
+    match read_entry_key::<K, F>(alloc, source, at, column, level, out) {
         Ok(after) => Ok(after),
         Err(Fault::OutOfMemory) => Err(Fault::OutOfMemory),
-        Err(_) => Err(key_fault(alloc, source, at, level)),
+        Err(_) => Err(key_fault::<F>(alloc, source, at, level)),
     }
 }
 
 /// The first key of a mapping, which was read with as much room as the mapping itself has: read again where that was too much.
 #[inline(never)]
-pub fn fit_key<'a, K: Keeper>(
+pub fn fit_key<'a, K: Keeper, F: FlowReader>(
     alloc: Global,
     source: &Chars<'a>,
     head: &Head<'a>,
@@ -174,7 +178,7 @@ pub fn fit_key<'a, K: Keeper>(
         room: level.room - 1,
         ..*level
     };
-    let again = read_bare(alloc, source, head, &inside, out)?;
+    let again = F::read_bare(alloc, source, head, &inside, out)?;
     if again.end == key.node.end {
         Ok(())
     } else {

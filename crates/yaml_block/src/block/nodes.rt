@@ -25,8 +25,7 @@ use crate::block::signs::{
     Below, Indicator, begins_below, block_sign, dash, first_colon, line_after, may_bear,
 };
 use std::alloc::Global;
-use yaml_flow::flow::read_bare;
-use yaml_line::flow::FlowNode;
+use yaml_line::flow::{FlowNode, FlowReader};
 use yaml_line::level::Level;
 use yaml_line::line::{Line, line_at, next_line};
 use yaml_line::properties::{Head, read_properties};
@@ -85,7 +84,7 @@ pub enum Opened<'a> {
 /// A flow node of a block level, after its own properties. It is inlined, so that its level has no room of its own in the frame of
 /// a call that nests.
 #[inline(always)]
-fn read_in_block<'a, K: Keeper>(
+fn read_in_block<'a, K: Keeper, F: FlowReader>(
     alloc: Global,
     source: &Chars<'a>,
     head: &Head<'a>,
@@ -102,12 +101,12 @@ fn read_in_block<'a, K: Keeper>(
         context: Ctx::FlowOut,
         ..*level
     };
-    read_bare(alloc, source, head, &flow, out)
+    F::read_bare(alloc, source, head, &flow, out)
 }
 
 /// A flow node, or a mapping of which it is the first key.
 #[inline(never)]
-fn open_keyed<'a, K: Keeper>(
+fn open_keyed<'a, K: Keeper, F: FlowReader>(
     alloc: Global,
     source: &Chars<'a>,
     head: Head<'a>,
@@ -130,7 +129,7 @@ fn open_keyed<'a, K: Keeper>(
         &head.own
     };
     out.announce(known);
-    let node = read_in_block(alloc, source, &head, site.level, out)?;
+    let node = read_in_block::<K, F>(alloc, source, &head, site.level, out)?;
     match first_colon(source, head.at, node.end, site.column)? {
         None => {
             let line = finish_node(source, node.end, &head, &outer)?;
@@ -140,7 +139,7 @@ fn open_keyed<'a, K: Keeper>(
         }
         Some((column, after)) => {
             let begun = Begun { node, start };
-            fit_key(alloc, source, &head, begun, site.level, out)?;
+            fit_key::<K, F>(alloc, source, &head, begun, site.level, out)?;
             out.dress(start, head.own);
             insert_block_mapping(out, start, outer, head.at)?;
             Ok(Opened::Mapping { column, after })
@@ -151,7 +150,7 @@ fn open_keyed<'a, K: Keeper>(
 /// A node after its own properties, after which the line goes on: a block scalar, a flow node, or a mapping up to the colon of
 /// its first key.
 #[inline(always)]
-fn open_dressed<'a, K: Keeper>(
+fn open_dressed<'a, K: Keeper, F: FlowReader>(
     alloc: Global,
     source: &Chars<'a>,
     head: Head<'a>,
@@ -166,7 +165,7 @@ fn open_dressed<'a, K: Keeper>(
     ensures placed { IfErr result (IsPlaced source.now) }
 {
     match block_sign(source, &head) {
-        None => open_keyed(alloc, source, head, outer, site, out),
+        None => open_keyed::<K, F>(alloc, source, head, outer, site, out),
         Some(sign) => {
             if outer.overlaps(&head.own) {
                 return Err(unusable(source, sign.at));
@@ -181,7 +180,7 @@ fn open_dressed<'a, K: Keeper>(
 /// The start of a node whose first character stands at `at`, with its outer properties.
 #[inline(never)]
 #[cycle(starts)]
-pub fn open_node<'a, K: Keeper>(
+pub fn open_node<'a, K: Keeper, F: FlowReader>(
     alloc: Global,
     source: &Chars<'a>,
     at: usize,
@@ -199,7 +198,7 @@ pub fn open_node<'a, K: Keeper>(
     match line_after(source, end, &own) {
         None => {
             let head = Head { at, end, own };
-            open_dressed(alloc, source, head, outer, site, out)
+            open_dressed::<K, F>(alloc, source, head, outer, site, out)
         }
         Some(start) => {
             if outer.overlaps(&own) {
@@ -211,14 +210,14 @@ pub fn open_node<'a, K: Keeper>(
                 end,
                 own: outer.and(own),
             };
-            open_under(alloc, source, line, above, site.level, out)
+            open_under::<K, F>(alloc, source, line, above, site.level, out)
         }
     }
 }
 
 /// The start of a node on a line below its properties, or none where the line is not indented enough.
 #[cycle(starts)]
-fn open_under<'a, K: Keeper>(
+fn open_under<'a, K: Keeper, F: FlowReader>(
     alloc: Global,
     source: &Chars<'a>,
     line: Line,
@@ -257,13 +256,13 @@ fn open_under<'a, K: Keeper>(
                 column,
                 level,
             };
-            open_node(alloc, source, line.first, outer, &site, out)
+            open_node::<K, F>(alloc, source, line.first, outer, &site, out)
         }
     }
 }
 
 /// A node whose first character stands at `at`, with its outer properties.
-fn read_node<'a, K: Keeper>(
+fn read_node<'a, K: Keeper, F: FlowReader>(
     alloc: Global,
     source: &Chars<'a>,
     at: usize,
@@ -277,12 +276,12 @@ fn read_node<'a, K: Keeper>(
     ensures decides { DecidesBlockNode source.now site.now.level.now site.now.from (site_rule site.now outer.entry) result }
     ensures placed { IfErr result (IsPlaced source.now) }
 {
-    let opened = open_node(alloc, source, at, outer, site, out)?;
-    read_opened(alloc, source, opened, site.level, out)
+    let opened = open_node::<K, F>(alloc, source, at, outer, site, out)?;
+    read_opened::<K, F>(alloc, source, opened, site.level, out)
 }
 
 /// A document's node on the line where it begins, with content on it.
-pub fn read_root<'a, K: Keeper>(
+pub fn read_root<'a, K: Keeper, F: FlowReader>(
     alloc: Global,
     source: &Chars<'a>,
     line: Line,
@@ -312,7 +311,7 @@ pub fn read_root<'a, K: Keeper>(
                 after,
                 column: line.column,
             };
-            read_sequence(alloc, source, indicator, outer, &level, out)
+            read_sequence::<K, F>(alloc, source, indicator, outer, &level, out)
         }
         None => {
             let site = Site {
@@ -320,7 +319,7 @@ pub fn read_root<'a, K: Keeper>(
                 column: Some(line.column),
                 level: &level,
             };
-            read_node(alloc, source, first, outer, &site, out)
+            read_node::<K, F>(alloc, source, first, outer, &site, out)
         }
     }
 }

@@ -12,6 +12,7 @@ use crate::block::scalars::push_nothing;
 use crate::block::signs::{Below, Indicator, begins_below, dash};
 use crate::block::words::read_word;
 use std::alloc::Global;
+use yaml_line::flow::FlowReader;
 use yaml_line::level::Level;
 use yaml_line::line::{Line, line_at, skip_line_rest};
 use yaml_mark::starts::begins_word;
@@ -25,7 +26,7 @@ use yaml_text::lines::{skip_spaces, unusable};
 /// The start of the value after a key's colon, or of a document's node after its mark: on the line of the sign, on later lines, or
 /// none.
 #[inline(always)]
-pub fn open_value<'a, K: Keeper>(
+pub fn open_value<'a, K: Keeper, F: FlowReader>(
     alloc: Global,
     source: &Chars<'a>,
     at: usize,
@@ -41,7 +42,7 @@ pub fn open_value<'a, K: Keeper>(
     match skip_line_rest(source, at) {
         Some(start) => {
             let line = line_at(source, start);
-            open_below(alloc, source, line, level, out)
+            open_below::<K, F>(alloc, source, line, level, out)
         }
         None => {
             let (count, first) = skip_spaces(source, at);
@@ -49,7 +50,7 @@ pub fn open_value<'a, K: Keeper>(
                 return Err(unusable(source, first));
             }
             if begins_word(source, first) {
-                let line = read_word(alloc, source, first, level, out)?;
+                let line = read_word::<K, F>(alloc, source, first, level, out)?;
                 return Ok(Opened::Whole(line));
             }
             let outer = Properties::none();
@@ -58,13 +59,13 @@ pub fn open_value<'a, K: Keeper>(
                 column: None,
                 level,
             };
-            open_node(alloc, source, first, outer, &site, out)
+            open_node::<K, F>(alloc, source, first, outer, &site, out)
         }
     }
 }
 
 /// The value after a key's colon, or a document's node after its mark.
-pub fn read_value<'a, K: Keeper>(
+pub fn read_value<'a, K: Keeper, F: FlowReader>(
     alloc: Global,
     source: &Chars<'a>,
     at: usize,
@@ -77,14 +78,14 @@ pub fn read_value<'a, K: Keeper>(
     ensures decides { DecidesBlockNode source.now level.now at value_rule result }
     ensures placed { IfErr result (IsPlaced source.now) }
 {
-    let opened = open_value(alloc, source, at, level, out)?;
-    read_opened(alloc, source, opened, level, out)
+    let opened = open_value::<K, F>(alloc, source, at, level, out)?;
+    read_opened::<K, F>(alloc, source, opened, level, out)
 }
 
 /// The start of what stands after the dash of an entry of a sequence in this column (`s-l+block-indented`, 8.2.1), at the level of
 /// what stands in the entry.
 #[inline(always)]
-pub fn open_entry<'a, K: Keeper>(
+pub fn open_entry<'a, K: Keeper, F: FlowReader>(
     alloc: Global,
     source: &Chars<'a>,
     at: usize,
@@ -101,7 +102,7 @@ pub fn open_entry<'a, K: Keeper>(
     match skip_line_rest(source, at) {
         Some(start) => {
             let line = line_at(source, start);
-            open_below(alloc, source, line, level, out)
+            open_below::<K, F>(alloc, source, line, level, out)
         }
         None => {
             let (count, first) = skip_spaces(source, at);
@@ -125,7 +126,7 @@ pub fn open_entry<'a, K: Keeper>(
                         column: Some(inner),
                         level,
                     };
-                    open_node(alloc, source, first, outer, &site, out)
+                    open_node::<K, F>(alloc, source, first, outer, &site, out)
                 }
             }
         }
@@ -134,7 +135,7 @@ pub fn open_entry<'a, K: Keeper>(
 
 /// The start of a node on a line below its parent, or none where the line is not indented enough.
 #[inline(always)]
-fn open_below<'a, K: Keeper>(
+fn open_below<'a, K: Keeper, F: FlowReader>(
     alloc: Global,
     source: &Chars<'a>,
     line: Line,
@@ -168,7 +169,7 @@ fn open_below<'a, K: Keeper>(
                 column,
                 level,
             };
-            open_node(alloc, source, line.first, outer, &site, out)
+            open_node::<K, F>(alloc, source, line.first, outer, &site, out)
         }
     }
 }

@@ -10,7 +10,7 @@ ghost use Rattle.yaml_block.specs.BlockCalls.{StartsIn, StartsWord, EndsLine, En
 
 use crate::block::signs::first_colon;
 use std::alloc::Global;
-use yaml_flow::flow::read_plain_node;
+use yaml_line::flow::FlowReader;
 use yaml_line::level::Level;
 use yaml_line::line::{Line, next_line};
 use yaml_sink::sink::{Keeper, Sink};
@@ -21,7 +21,7 @@ use yaml_text::lines::unusable;
 
 /// A value on the line of its sign that begins with a letter or a digit, and the line after it.
 #[inline(always)]
-pub fn read_word<'a, K: Keeper>(
+pub fn read_word<'a, K: Keeper, F: FlowReader>(
     alloc: Global,
     source: &Chars<'a>,
     at: usize,
@@ -38,7 +38,7 @@ pub fn read_word<'a, K: Keeper>(
         context: Ctx::FlowOut,
         ..*level
     };
-    let found = read_plain_node(alloc, source, at, &flow, out)?;
+    let found = F::read_plain_node(alloc, source, at, &flow, out)?;
     match found {
         None => Err(unusable(source, at)),
         Some(node) => {
@@ -50,7 +50,7 @@ pub fn read_word<'a, K: Keeper>(
 
 /// The key of an entry in this column that begins with a letter or a digit, and the border after its colon.
 #[inline(never)]
-pub fn read_word_key<'a, K: Keeper>(
+pub fn read_word_key<'a, K: Keeper, F: FlowReader>(
     alloc: Global,
     source: &Chars<'a>,
     at: usize,
@@ -70,7 +70,7 @@ pub fn read_word_key<'a, K: Keeper>(
         context: Ctx::FlowOut,
         ..*level
     };
-    let found = read_plain_node(alloc, source, at, &flow, out)?;
+    let found = F::read_plain_node(alloc, source, at, &flow, out)?;
     match found {
         None => Err(unusable(source, at)),
         Some(key) => match first_colon(source, at, key.end, Some(column))? {

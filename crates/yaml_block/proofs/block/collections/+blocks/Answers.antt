@@ -65,13 +65,13 @@ map_no_more s handles room line k is (inr (next, n)) = map_no_key (text_of s) ha
 pub read_opened-read_entries-requires : goal.read_opened-read_entries-requires
 read_opened-read_entries-requires g t c = λ κs l. (
   omega arith,
-  (l, subst (StartsOpened c.args.source.now c.args.level.now) c.in-Mapping.is c.requires),
+  (l.0, (l.1, subst (StartsOpened c.args.source.now c.args.level.now) c.in-Mapping.is c.requires)),
 )
 
 pub read_opened-read_sequence-requires : goal.read_opened-read_sequence-requires
 read_opened-read_sequence-requires g t c = λ κs l. (
   omega arith,
-  (l, subst (StartsOpened c.args.source.now c.args.level.now) c.in-Sequence.is c.requires),
+  (l.0, (l.1, subst (StartsOpened c.args.source.now c.args.level.now) c.in-Sequence.is c.requires)),
 )
 
 pub read_opened-returns-in-Whole-clause-ends : goal.read_opened-returns-in-Whole-clause-ends
@@ -140,7 +140,7 @@ read_sequence-open_entry-requires g t c =
 pub read_sequence-read_opened-requires : goal.read_sequence-read_opened-requires
 read_sequence-read_opened-requires g t c = λ κs l. (
   omega (arith, c.entries.invariant.inside.some),
-  (l, c.in_ok-opened.ensures.ends.starts),
+  (l.0, (l.1, c.in_ok-opened.ensures.ends.starts)),
 )
 
 pub read_sequence-entries-preserved : goal.read_sequence-entries-preserved
@@ -268,7 +268,7 @@ read_entries-open_value-requires g t c =
 pub read_entries-read_opened-requires : goal.read_entries-read_opened-requires
 read_entries-read_opened-requires g t c = λ κs l. (
   omega (arith, c.entries.invariant.inside.some),
-  (l, c.in_ok-opened.ensures.ends.starts),
+  (l.0, (l.1, c.in_ok-opened.ensures.ends.starts)),
 )
 
 pub read_entries-entries-preserved : goal.read_entries-entries-preserved

@@ -67,21 +67,24 @@ open_node-open_under-requires g t c =
     let comments = moved s _ _ _ c.line_at-line.ensures.start c.in-Some.ensures.comments in λ κs l. (
       omega (arith, fewer, ap properties_left c.and.ensures),
       (
-        l,
-        record {
-          line = c.line_at-line.ensures.line;
-          border = c.requires.start;
-          low = c.requires.low;
-          order = omega (arith, c.requires.order, c.in_ok-own.ensures.stand.onward, c.in-Some.ensures.onward, c.line_at-line.ensures.start);
-          block = c.requires.block;
-          marks = subst (SomeProperties cs h c.args.site.now.level.now.least flow_out (place_of s c.args.site.now.from) (place_of s c.in_ok-own.end)) (sym c.and.ensures) marks;
-          comments = comments;
-          after = comments_after cs _ _ comments;
-          above = subst (Above cs h c.args.site.now.level.now.least (place_of s c.args.site.now.from) (place_of s c.in_ok-own.end)) (sym c.and.ensures)
-              (over_above cs h c.args.site.now.level.now.room c.args.site.now.level.now.least (context_of c.args.site.now.level.now.context) c.requires.block c.args.site.now.column _ _ (props_of c.args.outer) _ _ (props_of c.in_ok-own.own)
-              (places_up s _ _ c.requires.border c.in_ok-own.ensures.stand.border c.in_ok-own.ensures.stand.onward) (own_marks cs h 0 block_key _ _ (props_of c.in_ok-own.own) c.in_ok-own.ensures.stand.own some) c.in_ok-own.ensures.stand.all
-              c.in-Some.ensures.comments c.requires.above apart);
-        },
+        l.0,
+        (
+          l.1,
+          record {
+            line = c.line_at-line.ensures.line;
+            border = c.requires.start;
+            low = c.requires.low;
+            order = omega (arith, c.requires.order, c.in_ok-own.ensures.stand.onward, c.in-Some.ensures.onward, c.line_at-line.ensures.start);
+            block = c.requires.block;
+            marks = subst (SomeProperties cs h c.args.site.now.level.now.least flow_out (place_of s c.args.site.now.from) (place_of s c.in_ok-own.end)) (sym c.and.ensures) marks;
+            comments = comments;
+            after = comments_after cs _ _ comments;
+            above = subst (Above cs h c.args.site.now.level.now.least (place_of s c.args.site.now.from) (place_of s c.in_ok-own.end)) (sym c.and.ensures)
+                (over_above cs h c.args.site.now.level.now.room c.args.site.now.level.now.least (context_of c.args.site.now.level.now.context) c.requires.block c.args.site.now.column _ _ (props_of c.args.outer) _ _ (props_of c.in_ok-own.own)
+                (places_up s _ _ c.requires.border c.in_ok-own.ensures.stand.border c.in_ok-own.ensures.stand.onward) (own_marks cs h 0 block_key _ _ (props_of c.in_ok-own.own) c.in_ok-own.ensures.stand.own some) c.in_ok-own.ensures.stand.all
+                c.in-Some.ensures.comments c.requires.above apart);
+          },
+        ),
       ),
     )
 
@@ -114,17 +117,20 @@ open_under-open_node-requires g t c = λ κs l.
     let n = c.in-Node.ensures in (
       omega arith,
       (
-        l,
-        record {
-          border = c.requires.line.first;
-          start = c.requires.border;
-          order = omega (arith, c.requires.order, c.requires.line.wide);
-          low = c.requires.low;
-          block = c.requires.block;
-          column = omega (arith, c.requires.line.wide);
-          wide = omega (arith, n.far);
-          above = above _ _ c.args.line.column c.requires.marks c.requires.comments c.requires.line.spaces (omega (arith, n.far)) refl c.requires.above c.requires.line.stuck c.requires.line.all n.no_dash n.some n.no_mark;
-        },
+        l.0,
+        (
+          l.1,
+          record {
+            border = c.requires.line.first;
+            start = c.requires.border;
+            order = omega (arith, c.requires.order, c.requires.line.wide);
+            low = c.requires.low;
+            block = c.requires.block;
+            column = omega (arith, c.requires.line.wide);
+            wide = omega (arith, n.far);
+            above = above _ _ c.args.line.column c.requires.marks c.requires.comments c.requires.line.spaces (omega (arith, n.far)) refl c.requires.above c.requires.line.stuck c.requires.line.all n.no_dash n.some n.no_mark;
+          },
+        ),
       ),
     )
 
