@@ -1,4 +1,5 @@
 pub mod ReachedLaws
+pub mod TagLaws
 pub mod ComposerLaws
 pub mod LogLaws
 pub mod NodeLaws

@@ -12,9 +12,12 @@ use Rattle.yaml_nodes.specs.ComposerSteps as machine
 use Rattle.yaml_nodes.specs.ComposerModel.{last_place, names_of, Placed}
 use Rattle.yaml_nodes.specs.GraphModel.{AreLow}
 use Rattle.yaml_compact.specs.StoreGrows.{tags_of, Good, trees_of}
+use Rattle.yaml_compact.specs.declared.store.Store.{Store}
 use Rattle.yaml_compact.specs.declared.nodes.Collection.{Collection}
 use Rattle.yaml_compact.specs.declared.nodes.Collection.TheVariants.{Sequence, Mapping}
 use Rattle.yaml_compose.specs.Reached.{UnfoldBoth}
+use Rattle.yaml_compose.specs.TagModel.{AreCore}
+use Rattle.yaml_compose.specs.declared.core_tags.CoreTags.{CoreTags}
 use Rattle.yaml_compose.specs.declared.composer.Open.{Open}
 use Rattle.yaml_compose.specs.declared.composer.Composer.{Composer}
 use Rattle.yaml_compose.specs.declared.composer.Forest.{Forest}
@@ -62,9 +65,14 @@ pub record Keeping (tags : List (List ℕ)) (ts : List Tree) (named : List ℕ �
   pub anchors : TableAt ts anchored table
   pub places : (name : List ℕ) → named name ≡ last_place name (names_of table)
 
--- The store is good, and the numbers stand for the state's trees, which may be kept once where they are equal.
+-- The store is good, and the tags of the core schema have these numbers in it.
+pub record Ready (s : Store) (c : CoreTags) : Type 0 where
+  pub store : Good s
+  pub core : AreCore (tags_of s) c
+
+-- The store is ready, and the numbers stand for the state's trees, which may be kept once where they are equal.
 pub record Holds (c : Composer) (s : machine.State) : Type 0 where
-  pub good : Good c.store
+  pub good : Ready c.store c.core
   pub keeping : Keeping (tags_of c.store) (trees_of c.store) (get_by_text c.names) c.anchored.items c.stack.items c.opens.items s.inner s.outer s.table
 
 -- the event comes to a state that the composer holds

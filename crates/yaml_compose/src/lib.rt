@@ -4,6 +4,7 @@
 mod ahead;
 mod composer;
 mod copies;
+mod core_tags;
 pub mod keeper;
 pub mod laws;
 mod tag;
