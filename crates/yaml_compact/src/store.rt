@@ -336,16 +336,25 @@ impl Store {
         }
     }
 
+    /// The number of a scalar with the tag of this number and this content.
+    pub fn scalar_of(&mut self, tag: u32, content: &str) -> Result<u32, GivesUp>
+        ensures kept { Good self.old → tag < length (tags_of self.old) → IfOk result (λ _. Keeps self.old self.new) }
+        ensures stands { Good self.old → tag < length (tags_of self.old) → IfOk result (λ i. Stands self.new i (scalar (tag_at (tags_of self.old) tag) content.now)) }
+    {
+        let hash = hash_text(tag, content.as_bytes());
+        let seen = self.memo.seen(hash);
+        let id = self.add_scalar(seen, tag, content)?;
+        self.memo.keep(hash, id);
+        Ok(id)
+    }
+
     /// The number of a scalar with this tag and content.
     pub fn scalar(&mut self, alloc: Global, tag: &str, content: &str) -> Result<u32, GivesUp>
         ensures kept { Good self.old → IfOk result (λ _. Keeps self.old self.new) }
         ensures stands { Good self.old → IfOk result (λ i. Stands self.new i (scalar tag.now content.now)) }
     {
         let tag = self.tag(alloc, tag)?;
-        let hash = hash_text(tag, content.as_bytes());
-        let seen = self.memo.seen(hash);
-        let id = self.add_scalar(seen, tag, content)?;
-        self.memo.keep(hash, id);
+        let id = self.scalar_of(tag, content)?;
         Ok(id)
     }
 

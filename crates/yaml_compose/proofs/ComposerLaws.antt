@@ -22,6 +22,7 @@ use Rattle.yaml_compact.specs.StoreGrows.{Sound, Keeps, tags_of, trees_of}
 use Rattle.yaml_compose.specs.TagModel.{collection_number}
 use Rattle.yaml_compact.proofs.Growing.{tree-low}
 use Rattle.yaml_compose.specs.ComposerModel.{AllAt, SlotAt, TableAt, below, OpenHolds, OpensHold, Keeping, Holds, start_of, end_of}
+use Rattle.yaml_compose.proofs.TagLaws.{core-kept}
 use Rattle.yaml_compose.specs.declared.composer.Open.{Open}
 use Rattle.yaml_compact.specs.declared.nodes.Collection.{Collection}
 use Rattle.yaml_compact.specs.declared.nodes.Collection.TheVariants as kinds
@@ -257,7 +258,7 @@ module _ (tags : List (List ℕ)) (ts : List Tree) (anchored : List (Option ℕ)
 -- more nodes and tags are in the store
 pub holds-kept : (c : Composer) (s : machine.State) (new : Store) → Keeps c.store new → Holds c s → Holds (record c { store = new }) s
 holds-kept c s new k h = record {
-  good = k.good;
+  good = record { store = k.good; core = core-kept c.store new c.core k h.good.core };
   names = h.names;
   keeping = subst (λ tags. Keeping tags (trees_of new) c.anchored.items c.stack.items c.opens.items s.inner s.outer s.table) (sym k.tags)
       (subst (λ ts. Keeping (tags_of c.store ++ k.more_tags) ts c.anchored.items c.stack.items c.opens.items s.inner s.outer s.table) (sym k.trees)
@@ -326,7 +327,7 @@ roots-of c s h l =
     let a = roots-only (tags_of k) (trees_of k) c.anchored.items c.stack.items c.opens.items s.inner s.outer s.table h.keeping n in
     record {
       at = a;
-      low = are-low (tags_of k) (string_bytes k.text) k.items.items k.entries.items k.nodes.items c.stack.items s.inner h.good a;
+      low = are-low (tags_of k) (string_bytes k.text) k.items.items k.entries.items k.nodes.items c.stack.items s.inner h.good.store a;
       count = all-length (trees_of k) c.stack.items s.inner a;
     }
 

@@ -1,5 +1,6 @@
 pub mod ReachedLaws
 pub mod AnchorLaws
+pub mod TagLaws
 pub mod ComposerLaws
 pub mod LogLaws
 pub mod NodeLaws

@@ -2,6 +2,7 @@
 use Rattle.std.proofs.Common.{◌≡◌, ℕ, ◌+◌, List, [], ◌∷◌, ◌++◌, length, refl, sym, ◌∙◌, ap, subst, arith, append-nil, append_assoc, length-append}
 use Rattle.std.specs.Prelude.{Option, Some, None, Bool}
 use Rattle.yaml_definitions.specs.model.Event.{Event, mapping_start, untagged}
+use Rattle.yaml_text.specs.declared.event.Style.{Style}
 use Rattle.yaml_definitions.specs.grammar.Events.{Props, no_props}
 use Rattle.yaml_sink.specs.Held.{Puts}
 use Rattle.yaml_sink.specs.PropertyRules.{with_props, dressed}
@@ -63,6 +64,12 @@ dressed-one m o p es w count n = record {
 pub dresses-late : (l : Late) (m : Option Bool) (o p q : Props) (x : List ℕ) → IsOne (late_event l q x) → (count : ℕ) → count ≡ 1 → DressesWaits count p (behind_start m o (late_event l q x)) (behind_start m o (late_event l p x))
 dresses-late l m o p q x w count n =
     subst (λ z. DressesWaits count p (behind_start m o (late_event l q x)) (behind_start m o z)) (late-dressed l p q x) (dressed-one m o p (late_event l q x) w count n)
+
+-- a scalar without properties gets none
+pub bare-stays : (l : Late) (style : Style) (m : Option Bool) (o p q : Props) (x : List ℕ) → l ≡ Scalar style → p ≡ no_props → q ≡ no_props → (count : ℕ) → count ≡ 1 → DressesWaits count p (behind_start m o (late_event l q x)) (behind_start m o (late_event l q x))
+bare-stays l style m o p q x e ep eq count n =
+    let w : IsOne (late_event l q x) = subst (λ z. IsOne (late_event z q x)) (sym e) (record { event = _; is = refl }) in
+    subst (λ z. DressesWaits count p (behind_start m o (late_event l q x)) (behind_start m o (late_event l z x))) (ep ∙ sym eq) (dresses-late l m o p q x w count n)
 
 pub dresses-start : (m : Option Bool) (flow : Bool) (o p : Props) (es : List Event) → m ≡ Some flow → IsOne es → (count : ℕ) → count ≡ 2 → DressesWaits count p (behind_start m o es) (behind_start m p es)
 dresses-start m flow o p es q w count n = record {

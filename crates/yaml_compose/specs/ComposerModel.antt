@@ -11,10 +11,13 @@ use Rattle.yaml_nodes.specs.ComposerSteps as machine
 use Rattle.yaml_nodes.specs.ComposerModel.{names_of, Placed}
 use Rattle.yaml_nodes.specs.GraphModel.{AreLow}
 use Rattle.yaml_compact.specs.StoreGrows.{tags_of, Good, trees_of}
+use Rattle.yaml_compact.specs.declared.store.Store.{Store}
 use Rattle.yaml_compact.specs.declared.nodes.Collection.{Collection}
 use Rattle.yaml_compact.specs.declared.nodes.Collection.TheVariants.{Sequence, Mapping}
 use Rattle.yaml_compose.specs.Reached.{UnfoldBoth}
 use Rattle.yaml_compose.specs.AnchorsModel.{Names}
+use Rattle.yaml_compose.specs.TagModel.{AreCore}
+use Rattle.yaml_compose.specs.declared.core_tags.CoreTags.{CoreTags}
 use Rattle.yaml_compose.specs.declared.composer.Open.{Open}
 use Rattle.yaml_compose.specs.declared.composer.Composer.{Composer}
 use Rattle.yaml_compose.specs.declared.composer.Forest.{Forest}
@@ -61,9 +64,14 @@ pub record Keeping (tags : List (List ℕ)) (ts : List Tree) (anchored : List (O
   pub opened : OpensHold tags (names_of table) (reverse opens) outer
   pub anchors : TableAt ts anchored table
 
--- The store is good, and the numbers stand for the state's trees, which may be kept once where they are equal.
+-- The store is good, and the tags of the core schema have these numbers in it.
+pub record Ready (s : Store) (c : CoreTags) : Type 0 where
+  pub store : Good s
+  pub core : AreCore (tags_of s) c
+
+-- The store is ready, and the numbers stand for the state's trees, which may be kept once where they are equal.
 pub record Holds (c : Composer) (s : machine.State) : Type 0 where
-  pub good : Good c.store
+  pub good : Ready c.store c.core
   pub names : Names c.anchors (names_of s.table)
   pub keeping : Keeping (tags_of c.store) (trees_of c.store) c.anchored.items c.stack.items c.opens.items s.inner s.outer s.table
 

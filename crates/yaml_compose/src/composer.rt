@@ -2,10 +2,11 @@
 ghost use Rattle.std.specs.Prelude.{◌≡◌, ℕ, Bool, List, ◌∷◌, ◌++◌, length, drop, None, IfOk};
 ghost use Rattle.std.specs.Option.{option_map};
 ghost use Rattle.std.specs.Cow.{cow_str_bytes};
-ghost use Rattle.yaml_definitions.specs.model.Tree.{Tree};
-ghost use Rattle.yaml_definitions.specs.model.Event.{Anchor, Event, untagged, document_start, mapping_start, scalar_event, alias_event};
+ghost use Rattle.yaml_definitions.specs.model.Tree.{Tree, scalar};
+ghost use Rattle.yaml_definitions.specs.model.Event.{Anchor, Event, untagged, plain, document_start, mapping_start, scalar_event, alias_event};
 ghost use Rattle.yaml_definitions.specs.model.Serial.{Document, stream_events};
 ghost use Rattle.yaml_text.specs.EventModel.{written_of, style_of};
+ghost use Rattle.yaml_content.specs.Kind.{kind_tag};
 ghost use Rattle.yaml_sink.specs.PropertyRules.{props_of};
 ghost use Rattle.yaml_nodes.specs.ComposerModel.{names_of, Placed};
 ghost use Rattle.yaml_nodes.specs.ComposerSteps.{State, initial_state, node_begun, whole};
@@ -16,12 +17,16 @@ ghost use Rattle.yaml_compose.specs.ComposerModel.{anchor_text, Holds, Stepped, 
 ghost use Rattle.yaml_compose.specs.ComposerLog.{Follows};
 
 use crate::anchors::Anchors;
+use crate::core_tags::CoreTags;
 use crate::tag::tag_of;
 use std::alloc::Global;
 use std::borrow::CowStr;
 use yaml_compact::gives_up::GivesUp;
 use yaml_compact::nodes::Collection;
 use yaml_compact::store::Store;
+use yaml_content::content::content;
+use yaml_content::form::judge;
+use yaml_core::PlainKind;
 use yaml_core::scalar::resolve;
 use yaml_sink::properties::Properties;
 use yaml_text::event::{EventTag, Style};
@@ -42,6 +47,7 @@ pub(crate) struct Open {
 #[derive(Drop)]
 pub(crate) struct Composer {
     pub(crate) store: Store,
+    pub(crate) core: CoreTags,
     /// The names of this document's anchors.
     pub(crate) anchors: Anchors,
     /// The nodes of this document that have anchors, in the order in which they begin; none where
@@ -74,9 +80,11 @@ impl Composer {
     pub(crate) fn new(alloc: Global) -> Result<Composer, GivesUp>
         ensures { IfOk result (λ c. Holds c initial_state) }
     {
-        let store = Store::new(alloc)?;
+        let mut store = Store::new(alloc)?;
+        let core = CoreTags::new(alloc, &mut store)?;
         Ok(Composer {
             store,
+            core,
             anchors: Anchors::new(alloc),
             anchored: Vec::new(alloc),
             stack: Vec::new(alloc),
@@ -113,6 +121,7 @@ impl Composer {
     {
         let Composer {
             store,
+            core: _,
             anchors: _,
             anchored: _,
             stack,
@@ -177,6 +186,49 @@ impl Composer {
         Ok(())
     }
 
+    /// A scalar of this kind and content without an anchor.
+    fn put_kind(&mut self, kind: PlainKind, content: &str) -> Result<(), GivesUp>
+        ensures { (s : State) → Holds self.old s → IfOk result (λ _. Holds self.new (whole None (length s.table) (scalar (kind_tag kind) content.now) s)) }
+    {
+        let tag = self.core.scalar(kind);
+        let id = self.store.scalar_of(tag, content)?;
+        self.put(None, id)?;
+        Ok(())
+    }
+
+    /// A plain scalar without properties.
+    fn put_plain(&mut self, alloc: Global, text: &str) -> Result<(), GivesUp>
+        ensures { (s : State) → Holds self.old s → IfOk result (λ _. Stepped (scalar_event None untagged plain text.now) s self.new) }
+    {
+        let form = judge(text);
+        let kind = form.kind();
+        if let PlainKind::Str = kind {
+            self.put_kind(kind, text)?;
+            return Ok(());
+        }
+        let Ok(content) = content(alloc, kind, form, text) else {
+            return Err(GivesUp);
+        };
+        self.put_kind(kind, content.as_str())?;
+        Ok(())
+    }
+
+    /// A scalar without properties.
+    fn put_bare(&mut self, alloc: Global, style: Style, text: &str) -> Result<(), GivesUp>
+        ensures { (s : State) → Holds self.old s → IfOk result (λ _. Stepped (scalar_event None untagged (style_of style) text.now) s self.new) }
+    {
+        match style {
+            Style::Plain => {
+                self.put_plain(alloc, text)?;
+                Ok(())
+            }
+            Style::Single | Style::Double | Style::Literal | Style::Folded => {
+                self.put_kind(PlainKind::Str, text)?;
+                Ok(())
+            }
+        }
+    }
+
     /// A scalar with these properties.
     pub(crate) fn scalar(
         &mut self,
@@ -188,7 +240,7 @@ impl Composer {
         ensures { (s : State) → Holds self.old s → IfOk result (λ _. Stepped (scalar_event (props_of properties.now).anchor (props_of properties.now).tag (style_of style) text.now) s self.new) }
     {
         match &properties.given {
-            None => self.put_scalar(alloc, None, &EventTag::None, style, text),
+            None => self.put_bare(alloc, style, text),
             Some(given) => self.put_scalar(alloc, name_of(&given.anchor), &given.tag, style, text),
         }
     }
@@ -231,6 +283,21 @@ impl Composer {
         Ok(())
     }
 
+    /// A collection without properties begins.
+    fn begin_bare(&mut self, collection: Collection) -> Result<(), GivesUp>
+        ensures { (s : State) → Holds self.old s → (flow : Bool) → IfOk result (λ _. Stepped (start_of collection flow None untagged) s self.new) }
+    {
+        let tag = self.core.collection(collection);
+        let mark = self.stack.len();
+        self.opens.push(Open {
+            place: None,
+            collection,
+            tag,
+            mark,
+        })?;
+        Ok(())
+    }
+
     /// A collection with these properties begins.
     pub(crate) fn begin(
         &mut self,
@@ -241,7 +308,7 @@ impl Composer {
         ensures { (s : State) → Holds self.old s → (flow : Bool) → IfOk result (λ _. Stepped (start_of collection flow (props_of properties.now).anchor (props_of properties.now).tag) s self.new) }
     {
         match &properties.given {
-            None => self.begin_collection(alloc, collection, None, &EventTag::None),
+            None => self.begin_bare(collection),
             Some(given) => self.begin_collection(
                 alloc,
                 collection,

@@ -181,8 +181,12 @@ impl Composing {
             self.ahead.pay(start, properties)?;
             return Ok(());
         }
+        let count = self.count - start;
+        if self.waiting.stays(count, properties) {
+            return Ok(());
+        }
         let copy = copy_of(self.alloc, properties)?;
-        self.waiting.dress(self.count - start, copy)?;
+        self.waiting.dress(count, copy)?;
         Ok(())
     }
 

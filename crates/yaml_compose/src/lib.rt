@@ -5,6 +5,7 @@ mod ahead;
 mod anchors;
 mod composer;
 mod copies;
+mod core_tags;
 pub mod keeper;
 pub mod laws;
 mod tag;

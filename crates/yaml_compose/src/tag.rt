@@ -28,7 +28,7 @@ fn is_core(tag: &str) -> bool
 
 /// The tag of a collection that carries none.
 #[tactic(auto, unfolding(yaml_definitions::specs::model::Tag::core_tag))]
-fn default_tag(collection: Collection) -> &'static str
+pub(crate) fn default_tag(collection: Collection) -> &'static str
     ensures { result.now ≡ default_tag (collection_number collection) }
 {
     match collection {

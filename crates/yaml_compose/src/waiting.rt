@@ -64,6 +64,7 @@ impl Waiting {
     }
 
     /// This waits, without properties.
+    #[inline(always)]
     pub(crate) fn put(&mut self, late: Late, text: &str) -> Result<(), GivesUp>
         ensures { IfOk result (λ _. waits self.new ≡ late_event late no_props text.now) }
     {
@@ -96,6 +97,23 @@ impl Waiting {
         self.mapping = Some(flow);
         self.outer = Properties::none();
         Ok(())
+    }
+
+    /// Whether all stays as it is where the first of the last so many events gets these properties: a scalar that has none, as most
+    /// have, gets none.
+    pub(crate) fn stays(&self, count: usize, properties: &Properties<'_>) -> bool
+        ensures { OnTrue result (DressesWaits count (props_of properties.now) (waits self.now) (waits self.now)) }
+    {
+        let Late::Scalar(_) = self.late else {
+            return false;
+        };
+        if count != 1 {
+            return false;
+        }
+        if !self.own.is_none() {
+            return false;
+        }
+        properties.is_none()
     }
 
     /// Puts properties on the first of the last so many events, which wait.

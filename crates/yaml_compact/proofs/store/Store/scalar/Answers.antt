@@ -2,14 +2,14 @@ use Rattle.std.proofs.Common.{ap, ◌∙◌}
 use Rattle.std.specs.Prelude.{Some}
 use Rattle.yaml_definitions.specs.model.Tree.{scalar}
 use Rattle.yaml_compact.specs.StoreGrows.{tags_of}
-use Rattle.yaml_compact.proofs.StoreLaws.{tag-is, kept-both, kept-memo}
+use Rattle.yaml_compact.proofs.StoreLaws.{tag-is, kept-both}
 use Rattle.yaml_compact.proofs.store.Store.scalar.Goals as goal
 
 pub returns-clause-kept : goal.returns-clause-kept
 returns-clause-kept c = λ good.
     let k = c.in_ok-tag.ensures.kept good in
     let t = tag-is (tags_of c.tag.new.self) c.in_ok-tag.tag c.args.tag.now c.in_ok-tag.ensures.is in
-    kept-memo c.args.self.now c.add_scalar.new.self c.keep.new.self (kept-both c.args.self.now c.tag.new.self c.add_scalar.new.self k (c.in_ok-id.ensures.kept k.good t.within))
+    kept-both c.args.self.now c.tag.new.self c.scalar_of.new.self k (c.in_ok-id.ensures.kept k.good t.within)
 
 pub returns-clause-stands : goal.returns-clause-stands
 returns-clause-stands c = λ good.

@@ -23,7 +23,7 @@ returns c = λ s h.
     let cut : Composer = record self { opens = c.pop.new.self; stack = c.truncate.new.self } in
     let held : Holds cut rest = record { good = h.good; names = h.names; keeping = subst (λ z. Keeping ms ts self.anchored.items z os l.last.before l.others s.table) (sym c.truncate.ensures.items) l.keeping } in
     let piece : c.in_ok-parts.parts.now ≡ drop o.mark self.stack.items = c.in_ok-parts.ensures ∙ ap (drop o.mark) c.deref.ensures.value in
-    let fits : Fits cut.store o.tag c.in_ok-parts.parts.now = record { good = h.good; tagged = (tag-is ms o.tag l.last.tag l.tag).within; below = subst (All (λ i. i < length ts)) (sym piece) l.within } in
+    let fits : Fits cut.store o.tag c.in_ok-parts.parts.now = record { good = h.good.store; tagged = (tag-is ms o.tag l.last.tag l.tag).within; below = subst (All (λ i. i < length ts)) (sym piece) l.within } in
     let k : Holds (record cut { store = new }) rest = holds-kept cut rest new (c.in_ok-id.ensures.kept fits) held in
     let d = tag-is ms o.tag l.last.tag l.tag in
     let parts = ap (parts_at ts) piece ∙ l.parts in

@@ -7,10 +7,10 @@ pub returns-clause-forest : goal.returns-clause-forest
 returns-clause-forest c = λ ds s r h.
     let self = c.args.self in
     let roots = roots-of self s h (omega (arith, c.len.ensures, self.opens.ok.0, c.if-len-gt0.false)) in
-    record { trees_are = s.inner; unfolded = stream-is-forest ds s r; low = roots.low; good = h.good; roots = roots.at }
+    record { trees_are = s.inner; unfolded = stream-is-forest ds s r; low = roots.low; good = h.good.store; roots = roots.at }
 
 pub returns-clause-both : goal.returns-clause-both
 returns-clause-both c = λ ds es s r h.
     let self = c.args.self in
     let roots = roots-of self s h (omega (arith, c.len.ensures, self.opens.ok.0, c.if-len-gt0.false)) in
-    record { trees_are = s.inner; unfolded = two-streams-are-forests ds es s r; low = roots.low; good = h.good; roots = roots.at }
+    record { trees_are = s.inner; unfolded = two-streams-are-forests ds es s r; low = roots.low; good = h.good.store; roots = roots.at }

@@ -19,7 +19,7 @@ returns c = λ front es p f flow.
     let l = last-node self front es p f in
     let a = l.adding in
     let s : State = with_nodes l.state a.nodes a.inside a.after in
-    let k : Holds (record self { store = new }) s = holds-kept self s new (c.in_ok-number.ensures.kept l.holds.good) l.holds in
+    let k : Holds (record self { store = new }) s = holds-kept self s new (c.in_ok-number.ensures.kept l.holds.good.store) l.holds in
     let o : Open = record { place = None; collection = kinds.Mapping; tag = c.in_ok-number.number; mark = c.in-Some.mark } in
     let final : Composer = record self { store = new; opens = c.push.new.self } in
     let under = below l.state.outer in

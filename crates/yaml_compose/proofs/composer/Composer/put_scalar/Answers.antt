@@ -20,8 +20,8 @@ returns c = λ s h.
     let new = c.scalar.new.self in
     let g = cow_str_bytes c.in-Ok.scalar.tag in
     let x = cow_str_bytes c.in-Ok.scalar.content in
-    let k : Holds (record middle { store = new }) n = holds-kept middle n new (c.in_ok-id.ensures.kept b.1.good) b.1 in
-    let there : Stands new c.in_ok-id.id (scalar g x) = c.in_ok-id.ensures.stands b.1.good ∙ (λ z. Some (scalar (c.as_str.ensures.value z) (c.as_str-2.ensures.value z))) in
+    let k : Holds (record middle { store = new }) n = holds-kept middle n new (c.in_ok-id.ensures.kept b.1.good.store) b.1 in
+    let there : Stands new c.in_ok-id.id (scalar g x) = c.in_ok-id.ensures.stands b.1.good.store ∙ (λ z. Some (scalar (c.as_str.ensures.value z) (c.as_str-2.ensures.value z))) in
     record {
       state = whole a (length s.table) (scalar g x) n;
       is = ap (λ r. Some (and_then (placed 0 r) (scalar_added a s))) c.in-Ok.ensures.means;

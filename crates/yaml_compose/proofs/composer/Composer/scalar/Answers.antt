@@ -9,4 +9,4 @@ use Rattle.yaml_compose.proofs.composer.Composer.scalar.Goals as goal
 
 pub returns-in-None : goal.returns-in-None
 returns-in-None c = λ s h.
-    subst (λ (p : Props). IfOk c.put_scalar.result (λ _. Stepped (scalar_event p.anchor p.tag (style_of c.args.style) c.args.text.now) s c.put_scalar.new.self)) (sym (ap props_given c.in-None.is)) (c.put_scalar.ensures s h)
+    subst (λ (p : Props). IfOk c.put_bare.result (λ _. Stepped (scalar_event p.anchor p.tag (style_of c.args.style) c.args.text.now) s c.put_bare.new.self)) (sym (ap props_given c.in-None.is)) (c.put_bare.ensures s h)
