@@ -38,8 +38,8 @@ fn spelled<I: Copy, V: RankedNodes<I>>(
     ensures fits { IfOk result (λ text. length (string_bytes text) ≤ text_limit) }
     ensures err { IfErr result (RefusesArranged (map (tree_of V.tree V.number view.now) roots.now)) }
 {
-    let len = ranked_len(alloc, view, roots)?;
     let mut names = Names::new(alloc, view.len())?;
+    let len = ranked_len(view, &mut names, roots)?;
     let mut text = String::with_capacity(alloc, len)?;
     write_ranked(view, &mut names, roots, &mut Whole, &mut text)?;
     Ok(text)

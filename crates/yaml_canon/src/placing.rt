@@ -8,7 +8,7 @@ ghost use Rattle.yaml_definitions.specs.model.Tree.{Tree};
 ghost use Rattle.yaml_definitions.specs.canonical.Spell.{spell_bytes};
 ghost use Rattle.yaml_definitions.specs.model.Proper.{Admitted};
 ghost use Rattle.yaml_definitions.specs.model.Means.{Means};
-ghost use Rattle.yaml_spell.specs.NamesView.{ranks_in, document_number};
+ghost use Rattle.yaml_spell.specs.NamesView.{ranks_in};
 ghost use Rattle.yaml_spell.specs.Documents.{arranged_bytes, RefusesArranged};
 ghost use Rattle.yaml_spell.specs.RankedNodes.{Rooted, tree_of};
 ghost use Rattle.yaml_canon.specs.Claims.{CanonicalRefuses};
@@ -38,7 +38,6 @@ fn fill<I: Copy, V: RankedNodes<I>>(
 ) -> Result<(), Fault>
     requires rooted { Rooted V.stands V.count V.number view.now roots.now }
     requires long { ranks_in names.old ≡ V.count view.now }
-    requires fresh { document_number names.old ≡ 0 }
     requires fits { length (arranged_bytes (map (tree_of V.tree V.number view.now) roots.now)) ≤ length room.old }
     ensures done { IsOk result }
     ensures text { room.new ≡ arranged_bytes (map (tree_of V.tree V.number view.now) roots.now) ++ drop (length (arranged_bytes (map (tree_of V.tree V.number view.now) roots.now))) room.old }
@@ -61,11 +60,11 @@ fn place<I: Copy, V: RankedNodes<I>>(
     ensures err { IfErr result (RefusesArranged (map (tree_of V.tree V.number view.now) roots.now)) }
     ensures kept { OnErr result (room.new ≡ room.old) }
 {
-    let len = ranked_len(alloc, view, roots)?;
+    let mut names = Names::new(alloc, view.len())?;
+    let len = ranked_len(view, &mut names, roots)?;
     if len > room.len() {
         return Ok(len);
     }
-    let mut names = Names::new(alloc, view.len())?;
     fill(view, &mut names, roots, room)?;
     Ok(len)
 }

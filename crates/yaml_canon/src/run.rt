@@ -3,7 +3,7 @@ ghost use Rattle.std.specs.Prelude.{◌≡◌, ◌<◌, ◌-◌, ◌^◌, map, O
 ghost use Rattle.yaml_text.specs.CountedModel.{faults_of};
 ghost use Rattle.yaml_spell.specs.Documents.{arranged_bytes};
 ghost use Rattle.yaml_spell.specs.RankedNodes.{Rooted, tree_of};
-ghost use Rattle.yaml_spell.specs.NamesView.{ranks_in, document_number};
+ghost use Rattle.yaml_spell.specs.NamesView.{ranks_in};
 ghost use Rattle.yaml_answers.specs.Writers.{Printed, Broken};
 ghost use Rattle.yaml_canon.specs.FaultPlaces.{TellsPlace, TellsReadPlace};
 ghost use Rattle.yaml_canon.specs.Runs.{WritesArranged, ArrangedFails, WritesCanonical, WriteRefuses, RunsWhole, RunFails};
@@ -33,7 +33,6 @@ fn write_pages<I: Copy, V: RankedNodes<I>, W: Write>(
 ) -> Result<(), Fault>
     requires rooted { Rooted V.stands V.count V.number view.now roots.now }
     requires long { ranks_in names.old ≡ V.count view.now }
-    requires fresh { document_number names.old ≡ 0 }
     requires few { faults_of out.old < 2 ^ 64 - 1 }
     ensures ok { OnOk result (Printed W.contents out.old out.new (arranged_bytes (map (tree_of V.tree V.number view.now) roots.now))) }
     ensures broken { IfErr result (λ _. Broken W.contents out.old out.new (arranged_bytes (map (tree_of V.tree V.number view.now) roots.now))) }
@@ -61,8 +60,8 @@ fn write_spelled<I: Copy, V: RankedNodes<I>, W: Write>(
     ensures ok { OnOk result (WritesArranged W.contents (map (tree_of V.tree V.number view.now) roots.now) out.old out.new) }
     ensures err { IfErr result (ArrangedFails W.contents (map (tree_of V.tree V.number view.now) roots.now) out.old out.new) }
 {
-    ranked_len(alloc, view, roots)?;
     let mut names = Names::new(alloc, view.len())?;
+    ranked_len(view, &mut names, roots)?;
     write_pages(view, &mut names, roots, out)
 }
 

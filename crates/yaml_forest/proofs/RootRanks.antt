@@ -1,5 +1,5 @@
 -- The roots of a forest, and their ranks.
-use Rattle.std.proofs.Common.{◌≡◌, ℕ, ◌<◌, ◌^◌, List, [], ◌∷◌, length, map, slice_index, get_or, refl, sym, ◌∙◌, ap, subst, arith}
+use Rattle.std.proofs.Common.{◌≡◌, ℕ, ◌<◌, List, [], ◌∷◌, length, map, slice_index, get_or, refl, sym, ◌∙◌, ap, subst, arith}
 use Rattle.std.specs.Prelude.{◌↔◌}
 use Rattle.std.specs.List.{All}
 use Rattle.std.specs.String.{string_bytes}
@@ -66,12 +66,12 @@ module _ (ts : List Tree) (f : Forest) (is : HasRoots ts f) where
       (λ h. q ∙ tell.0 (sym (rank i l) ∙ (h ∙ rank j m)), λ h. rank i l ∙ (tell.1 (sym q ∙ h) ∙ sym (rank j m)))
 
   -- the ranks of the roots
-  pub ranks-of-roots : (g : RankedForest) → StoreRanked f.store is.good g.ranked → RanksTaken g.ranked f.roots.items g.roots.items → length g.roots.items < 2 ^ 63 → RanksOf ts g
-  ranks-of-roots g are taken few =
+  pub ranks-of-roots : (g : RankedForest) → StoreRanked f.store is.good g.ranked → RanksTaken g.ranked f.roots.items g.roots.items → RanksOf ts g
+  ranks-of-roots g are taken =
       let s = f.store in
       record {
         keyed = subst (All Keyed) trees-are (All-map Keyed (tree_of s) f.roots.items (λ k d l. are.listed.ranked.keyed (get_or f.roots.items k d) (roots-below k d l)));
-        rooted = record { ranked = (s, is.good, are); within = taken.within s is.good are; few = few };
+        rooted = record { ranked = (s, is.good, are); within = taken.within s is.good are };
         arranged = taken.trees s is.good are ∙ (map-arranged (trees_of s) f.roots.items ∙ ap (map arranged) trees-are);
         tell = roots-tell g.ranked are g.roots.items taken.are;
       }

@@ -1,7 +1,15 @@
 -- How ranks are known in a document.
-use Rattle.std.specs.Prelude.{ℕ, Bool, true, false, ◌&&◌, ◌==◌}
+use Rattle.std.specs.Prelude.{ℕ, zero, suc, Bool, true, false, ◌&&◌, ◌==◌}
+use Rattle.yaml_spell.specs.declared.names.Known.{Known}
 use Rattle.yaml_spell.specs.declared.names.State.{State}
 use Rattle.yaml_spell.specs.declared.names.State.TheVariants.{Unseen, Seen, Repeated, Named}
+
+-- the state of a mark: the first three, and behind them names by their numbers
+abbrev pub state_of : ℕ → State
+state_of zero = Unseen
+state_of (suc zero) = Seen
+state_of (suc (suc zero)) = Repeated
+state_of (suc (suc (suc n))) = Named (suc n)
 
 -- once one more node is met
 abbrev pub met_state : State → State
@@ -18,8 +26,8 @@ has_name (Named number) = true
 has_name _ = false
 
 -- it has a name in this document
-abbrev pub is_named : ℕ → ℕ × State → Bool
-is_named document s = (s.0 == document) && has_name s.1
+abbrev pub is_named : ℕ → Known → Bool
+is_named document k = (k.document == document) && has_name (state_of k.mark)
 
 -- the number of its name, or 1
 abbrev pub state_number : State → ℕ

@@ -1,18 +1,16 @@
 -- What is known of each rank, as a table, and how nodes change it.
-use Rattle.std.specs.Prelude.{◌≡◌, ℕ, suc, ◌+◌, cond, ◌==◌, length}
+use Rattle.std.specs.Prelude.{◌≡◌, ℕ, suc, cond, ◌==◌, length}
 use Rattle.std.specs.List.{slice_index_or}
+use Rattle.yaml_spell.specs.declared.names.Known.{Known}
 use Rattle.yaml_spell.specs.declared.names.State.{State}
 use Rattle.yaml_spell.specs.declared.names.State.TheVariants.{Unseen, Repeated, Named}
 use Rattle.yaml_spell.specs.declared.names.Opening.{Opening}
 use Rattle.yaml_spell.specs.declared.names.Opening.TheVariants.{Plain, Anchored, Alias}
 use Rattle.yaml_spell.specs.declared.names.Names.{Names}
-use Rattle.yaml_spell.specs.Known.{met_state}
+use Rattle.yaml_spell.specs.Known.{state_of, met_state}
 
 abbrev pub ranks_in : Names → ℕ
 ranks_in n = length n.states.items
-
-abbrev pub document_number : Names → ℕ
-document_number n = n.document
 
 abbrev pub count_of : Names → ℕ
 count_of n = n.count
@@ -21,11 +19,14 @@ count_of n = n.count
 abbrev pub RankStates : Type 0
 RankStates = ℕ → State
 
-abbrev pub stamped_state : ℕ → ℕ × State → State
-stamped_state document s = cond (s.0 == document) s.1 Unseen
+abbrev pub unknown : Known
+unknown = record { document = 0; mark = 0 }
+
+abbrev pub stamped_state : ℕ → Known → State
+stamped_state document k = cond (k.document == document) (state_of k.mark) Unseen
 
 abbrev pub table_of : Names → RankStates
-table_of n rank = stamped_state n.document (slice_index_or n.states.items rank (0, Unseen))
+table_of n rank = stamped_state n.document (slice_index_or n.states.items rank unknown)
 
 abbrev pub put : ℕ → State → RankStates → RankStates
 put rank s table q = cond (q == rank) s (table q)
@@ -61,18 +62,7 @@ opening_number (Alias number) = number
 opening_number (Anchored number) = number
 opening_number Plain = 1
 
--- The document is the same, and so is how many ranks there are.
-pub record SameDocument (old new : Names) : Type 0 where
-  pub long : ranks_in new ≡ ranks_in old
-  pub document : document_number new ≡ document_number old
-
--- The same, and no name is given.
+-- There are as many ranks, and no name is given.
 pub record NamesNone (old new : Names) : Type 0 where
   pub long : ranks_in new ≡ ranks_in old
-  pub document : document_number new ≡ document_number old
   pub count : count_of new ≡ count_of old
-
--- The next document is begun, with as many ranks.
-pub record NextDocument (old new : Names) : Type 0 where
-  pub long : ranks_in new ≡ ranks_in old
-  pub document : document_number new ≡ document_number old + 1

@@ -1,5 +1,5 @@
 -- Nodes that are ranked, and what they show.
-use Rattle.std.specs.Prelude.{◌≡◌, ◌↔◌, ℕ, ◌<◌, ◌^◌, List, length, map}
+use Rattle.std.specs.Prelude.{◌≡◌, ◌↔◌, ℕ, ◌<◌, List, map}
 use Rattle.std.specs.List.{All}
 use Rattle.yaml_definitions.specs.model.Tree.{Tree, Trees, Pairs}
 use Rattle.yaml_definitions.specs.model.Same.{Same}
@@ -32,7 +32,6 @@ pub record Ready {V : Type 0} (stands : V → Type 0) (count : V → ℕ) (v : V
 pub record Rooted {V I : Type 0} (stands : V → Type 0) (count : V → ℕ) (number : I → ℕ) (v : V) (roots : List I) : Type 0 where
   pub ranked : stands v
   pub within : All (λ i. number i < count v) roots
-  pub few : length roots < 2 ^ 63
 
 module _ {V I : Type 0} (tree : V → ℕ → Tree) (number : I → ℕ) (v : V) where
   -- the tree of an id

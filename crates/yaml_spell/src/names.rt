@@ -1,8 +1,8 @@
 //! What is known of the nodes of each rank in the document that is being written.
-ghost use Rattle.std.specs.Prelude.{◌≡◌, ◌<◌, ◌≤◌};
+ghost use Rattle.std.specs.Prelude.{◌≡◌, ◌<◌, ◌≤◌, length};
 ghost use Rattle.std.specs.List.{count_by, All};
 ghost use Rattle.std.proofs.Props.{props};
-ghost use Rattle.yaml_spell.specs.Known.{is_named, met_state, state_number};
+ghost use Rattle.yaml_spell.specs.Known.{is_named, met_state, state_number, state_of};
 
 use std::alloc::Global;
 use yaml_text::fault::Fault;
@@ -31,45 +31,95 @@ pub(crate) enum Opening {
     Alias(usize),
 }
 
-/// What is known of each rank in one document, which is counted from 1. What was known in earlier
-/// documents is told by their numbers.
-#[derive(Drop)]
-pub struct Names {
-    states: Vec<(usize, State)>,
-    document: usize,
-    count: usize,
-    ghost stamped: { All (λ s. s.0 ≤ document) states.items } by { Prim.hlevel props },
-    ghost numbered: { All (λ s. 0 < state_number s.1) states.items } by { Prim.hlevel props },
-    ghost few: { count ≤ count_by (is_named document) states.items },
+/// In which document a rank was met last, and the mark of the state that it is in there.
+#[derive(Clone, Copy)]
+pub(crate) struct Known {
+    pub document: u32,
+    pub mark: u32,
 }
 
-/// The state once one more node is met.
-fn met(state: State) -> State
-    ensures { result ≡ met_state state }
-{
-    match state {
-        State::Unseen => State::Seen,
-        State::Seen => State::Repeated,
-        known => known,
+const _: () = prove!(size_of::<Known>() == 8);
+
+/// What is known of a rank before the first document.
+const UNKNOWN: Known = Known {
+    document: 0,
+    mark: 0,
+};
+
+/// The names of more ranks would have numbers that have no mark.
+const MOST_RANKS: usize = 4_294_967_292;
+
+/// What is known of each rank in one document. What was known in earlier documents is told by their
+/// numbers.
+#[derive(Drop)]
+pub struct Names {
+    states: Vec<Known>,
+    document: u32,
+    count: u32,
+    ghost stamped: { All (λ k. k.document ≤ document) states.items } by { Prim.hlevel props },
+    ghost few: { count ≤ count_by (is_named document) states.items },
+    ghost markable: { length states.items ≤ 4294967292 },
+}
+
+impl State {
+    /// The state that has this mark.
+    fn marked(mark: u32) -> State
+        ensures is { result ≡ state_of mark }
+        ensures positive { 0 < state_number result }
+        ensures small { state_number result ≤ 4294967293 }
+    {
+        match mark {
+            0 => State::Unseen,
+            1 => State::Seen,
+            2 => State::Repeated,
+            name => State::Named(name as usize - 2),
+        }
+    }
+
+    /// Its mark: names have theirs behind those of the other states.
+    fn mark(self) -> u32
+        requires positive { 0 < state_number self }
+        requires small { state_number self ≤ 4294967293 }
+        ensures { state_of result ≡ self }
+    {
+        match self {
+            State::Unseen => 0,
+            State::Seen => 1,
+            State::Repeated => 2,
+            State::Named(number) => number as u32 + 2,
+        }
+    }
+
+    /// The state once one more node is met.
+    fn met(self) -> State
+        ensures is { result ≡ met_state self }
+        ensures number { state_number result ≡ state_number self }
+    {
+        match self {
+            State::Unseen => State::Seen,
+            State::Seen => State::Repeated,
+            known => known,
+        }
     }
 }
 
 impl Names {
-    ghost use Rattle.std.specs.Prelude.{◌≡◌, ◌<◌, ◌+◌, ◌^◌, IfOk, IfErr};
+    ghost use Rattle.std.specs.Prelude.{◌≡◌, ◌<◌, IfOk, IfErr};
     ghost use Rattle.yaml_spell.specs.declared.names.State.TheVariants.{Unseen};
-    ghost use Rattle.yaml_spell.specs.Known.{is_unseen};
-    ghost use Rattle.yaml_spell.specs.NamesView.{ranks_in, document_number, count_of, table_of, met_at, opening, rank_begun, given_of, opening_number};
+    ghost use Rattle.yaml_spell.specs.Known.{is_unseen, state_number};
+    ghost use Rattle.yaml_spell.specs.NamesView.{ranks_in, count_of, table_of, met_at, opening, rank_begun, given_of, opening_number};
 
-    /// Nothing is known of so many ranks; no document was begun.
+    /// Nothing is known of so many ranks; no document was begun. More than 4,294,967,292 ranks are
+    /// refused as want of memory.
     pub fn new(alloc: Global, len: usize) -> Result<Names, Fault>
         ensures long { IfOk result (λ names. ranks_in names ≡ len) }
-        ensures document { IfOk result (λ names. document_number names ≡ 0) }
         ensures err { IfErr result (λ fault. fault ≡ Fault.OutOfMemory) }
     {
-        let mut states = Vec::with_capacity(alloc, len)?;
-        for _ in 0..len {
-            states.push((0, State::Unseen))?;
+        if len > MOST_RANKS {
+            return Err(Fault::OutOfMemory);
         }
+        let mut states = Vec::with_capacity(alloc, len)?;
+        states.resize(len, UNKNOWN)?;
         Ok(Names {
             states,
             document: 0,
@@ -79,24 +129,28 @@ impl Names {
 
     /// Begins the next document, in which nothing is known.
     pub(crate) fn begin(&mut self)
-        requires { document_number self.old < 2 ^ 63 }
         ensures long { ranks_in self.new ≡ ranks_in self.old }
-        ensures document { document_number self.new ≡ document_number self.old + 1 }
         ensures count { count_of self.new ≡ 0 }
         ensures table { table_of self.new ≡ (λ _. Unseen) }
     {
-        self.document += 1;
         self.count = 0;
+        if self.document == u32::MAX {
+            self.states.fill(UNKNOWN);
+            self.document = 0;
+        }
+        self.document += 1;
     }
 
     /// How a rank is known.
     fn state(&self, rank: usize) -> State
         requires { rank < ranks_in self.now }
-        ensures { result ≡ table_of self.now rank }
+        ensures is { result ≡ table_of self.now rank }
+        ensures positive { 0 < state_number result }
+        ensures small { state_number result ≤ 4294967293 }
     {
-        let (document, state) = self.states[rank];
-        if document == self.document {
-            state
+        let known = self.states[rank];
+        if known.document == self.document {
+            State::marked(known.mark)
         } else {
             State::Unseen
         }
@@ -108,11 +162,13 @@ impl Names {
         ensures first { result ≡ is_unseen (table_of self.old rank) }
         ensures table { table_of self.new ≡ met_at rank (table_of self.old) }
         ensures long { ranks_in self.new ≡ ranks_in self.old }
-        ensures document { document_number self.new ≡ document_number self.old }
         ensures count { count_of self.new ≡ count_of self.old }
     {
         let state = self.state(rank);
-        self.states[rank] = (self.document, met(state));
+        self.states[rank] = Known {
+            document: self.document,
+            mark: state.met().mark(),
+        };
         matches!(state, State::Unseen)
     }
 
@@ -124,14 +180,17 @@ impl Names {
         ensures positive { 0 < opening_number result }
         ensures given { given_of self.new ≡ rank_begun rank (given_of self.old) }
         ensures long { ranks_in self.new ≡ ranks_in self.old }
-        ensures document { document_number self.new ≡ document_number self.old }
     {
         match self.state(rank) {
             State::Named(number) => Opening::Alias(number),
             State::Repeated => {
                 self.count += 1;
-                self.states[rank] = (self.document, State::Named(self.count));
-                Opening::Anchored(self.count)
+                let number = self.count as usize;
+                self.states[rank] = Known {
+                    document: self.document,
+                    mark: State::Named(number).mark(),
+                };
+                Opening::Anchored(number)
             }
             _ => Opening::Plain,
         }

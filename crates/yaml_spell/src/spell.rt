@@ -1,10 +1,10 @@
 //! The canonical text of a graph's documents.
-ghost use Rattle.std.specs.Prelude.{◌≡◌, ◌<◌, ◌≤◌, ◌^◌, length, map, OnOk, IfErr, IfOk};
+ghost use Rattle.std.specs.Prelude.{◌≡◌, ◌<◌, ◌≤◌, length, map, OnOk, IfErr, IfOk};
 ghost use Rattle.yaml_definitions.specs.model.Limits.{text_limit};
 ghost use Rattle.yaml_definitions.specs.canonical.Spell.{spell_bytes};
 ghost use Rattle.yaml_nodes.specs.GraphView.{forest};
 ghost use Rattle.yaml_levels.specs.RanksView.{RanksAre};
-ghost use Rattle.yaml_spell.specs.NamesView.{ranks_in, document_number, NextDocument};
+ghost use Rattle.yaml_spell.specs.NamesView.{ranks_in};
 ghost use Rattle.yaml_spell.specs.Stops.{fault_of};
 ghost use Rattle.yaml_spell.specs.Pieces.{Puts, Fails};
 ghost use Rattle.yaml_spell.specs.Documents.{arranged_text, arranged_more, arranged_bytes, RefusesLength, RefusesArranged};
@@ -33,8 +33,7 @@ fn write_document<I: Copy, V: RankedNodes<I>, O, S: Sink<O>>(
 ) -> Result<(), Stop>
     requires ready { Ready V.stands V.count view.now names.old }
     requires within { V.number root < V.count view.now }
-    requires few { document_number names.old < 2 ^ 63 }
-    ensures next { NextDocument names.old names.new }
+    ensures long { ranks_in names.new ≡ ranks_in names.old }
     ensures ok { OnOk result (Puts S.holds sink.old out.old sink.new out.new (arranged_text (V.tree view.now (V.number root)))) }
     ensures err { IfErr result (λ stop. Fails S.holds S.stops sink.old out.old out.new (fault_of stop) (arranged_text (V.tree view.now (V.number root)))) }
 {
@@ -46,7 +45,8 @@ fn write_document<I: Copy, V: RankedNodes<I>, O, S: Sink<O>>(
     sink.put(out, "\n")
 }
 
-/// Writes the documents of these roots, each from its own first node on. `names` has begun none.
+/// Writes the documents of these roots, each from its own first node on. What `names` knew before does
+/// not matter.
 pub fn write_ranked<I: Copy, V: RankedNodes<I>, O, S: Sink<O>>(
     view: &V,
     names: &mut Names,
@@ -56,7 +56,7 @@ pub fn write_ranked<I: Copy, V: RankedNodes<I>, O, S: Sink<O>>(
 ) -> Result<(), Fault>
     requires rooted { Rooted V.stands V.count V.number view.now roots.now }
     requires long { ranks_in names.old ≡ V.count view.now }
-    requires fresh { document_number names.old ≡ 0 }
+    ensures long { ranks_in names.new ≡ ranks_in names.old }
     ensures ok { OnOk result (Puts S.holds sink.old out.old sink.new out.new (arranged_more (map (tree_of V.tree V.number view.now) roots.now))) }
     ensures err { IfErr result (λ fault. Fails S.holds S.stops sink.old out.old out.new fault (arranged_more (map (tree_of V.tree V.number view.now) roots.now))) }
 {
@@ -66,21 +66,22 @@ pub fn write_ranked<I: Copy, V: RankedNodes<I>, O, S: Sink<O>>(
     Ok(())
 }
 
-/// The length of the text of the documents of these roots, in bytes; no text is made. A text of more
-/// bytes than the limit is refused as `TextTooLong`.
+/// The length of the text of the documents of these roots, in bytes; no text is made, and no memory is
+/// taken. A text of more bytes than the limit is refused as `TextTooLong`.
 pub fn ranked_len<I: Copy, V: RankedNodes<I>>(
-    alloc: Global,
     view: &V,
+    names: &mut Names,
     roots: &[I],
 ) -> Result<usize, Fault>
-    requires { Rooted V.stands V.count V.number view.now roots.now }
+    requires rooted { Rooted V.stands V.count V.number view.now roots.now }
+    requires long { ranks_in names.old ≡ V.count view.now }
+    ensures long { ranks_in names.new ≡ ranks_in names.old }
     ensures ok { IfOk result (λ len. len ≡ length (arranged_bytes (map (tree_of V.tree V.number view.now) roots.now))) }
     ensures fits { IfOk result (λ len. len ≤ text_limit) }
     ensures err { IfErr result (RefusesArranged (map (tree_of V.tree V.number view.now) roots.now)) }
 {
-    let mut names = Names::new(alloc, view.len())?;
     let mut length = Length::new(text_limit());
-    write_ranked(view, &mut names, roots, &mut length, &mut ())?;
+    write_ranked(view, names, roots, &mut length, &mut ())?;
     Ok(length.len())
 }
 
@@ -94,5 +95,7 @@ pub fn canonical_len(alloc: Global, graph: &Graph<'_>, ranks: &Ranks) -> Result<
     ensures fits { IfOk result (λ len. len ≤ text_limit) }
     ensures err { IfErr result (RefusesLength (forest graph.now)) }
 {
-    ranked_len(alloc, &RankedGraph { graph, ranks }, graph.roots())
+    let view = RankedGraph { graph, ranks };
+    let mut names = Names::new(alloc, view.len())?;
+    ranked_len(&view, &mut names, graph.roots())
 }

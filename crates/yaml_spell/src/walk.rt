@@ -1,7 +1,7 @@
 //! The walk of ranked nodes in writing order.
 ghost use Rattle.std.specs.Prelude.{◌≡◌, ◌<◌, ◌++◌, ◌∷◌, [], true, false, OnOk, IfOk, IfErr};
 ghost use Rattle.std.specs.List.{All};
-ghost use Rattle.yaml_spell.specs.NamesView.{ranks_in, document_number, table_of, given_of, opening_number, SameDocument, NamesNone};
+ghost use Rattle.yaml_spell.specs.NamesView.{ranks_in, table_of, given_of, opening_number, NamesNone};
 ghost use Rattle.yaml_spell.specs.Stops.{fault_of};
 ghost use Rattle.yaml_spell.specs.Pieces.{TakesPiece, Counts, Puts, Exceeds, Fails};
 ghost use Rattle.yaml_definitions.specs.canonical.NodeText.{node_text, items_text, pairs_text};
@@ -73,7 +73,6 @@ fn start(names: &mut Names, is_short: bool, rank: usize) -> Opening
     ensures positive { 0 < opening_number result }
     ensures given { given_of names.new ≡ begun_unless_short is_short rank (given_of names.old) }
     ensures long { ranks_in names.new ≡ ranks_in names.old }
-    ensures document { document_number names.new ≡ document_number names.old }
 {
     if is_short {
         return Opening::Plain;
@@ -121,7 +120,7 @@ pub(crate) fn write_node<I: Copy, V: RankedNodes<I>, O, S: Sink<O>>(
 ) -> Result<(), Stop>
     requires ready { Ready V.stands V.count view.now names.old }
     requires within { V.number id < V.count view.now }
-    ensures same { SameDocument names.old names.new }
+    ensures long { ranks_in names.new ≡ ranks_in names.old }
     ensures known { OnOk result (given_of names.new ≡ given (V.rank view.now) (V.tree view.now (V.number id)) (given_of names.old)) }
     ensures ok { OnOk result (Puts S.holds sink.old out.old sink.new out.new (node_text (written (V.rank view.now) (V.tree view.now (V.number id)) (given_of names.old)))) }
     ensures err { IfErr result (λ stop. Fails S.holds S.stops sink.old out.old out.new (fault_of stop) (node_text (written (V.rank view.now) (V.tree view.now (V.number id)) (given_of names.old)))) }
@@ -153,7 +152,7 @@ fn write_inside<I: Copy, V: RankedNodes<I>, O, S: Sink<O>>(
 ) -> Result<(), Stop>
     requires ready { Ready V.stands V.count view.now names.old }
     requires within { V.number id < V.count view.now }
-    ensures same { SameDocument names.old names.new }
+    ensures long { ranks_in names.new ≡ ranks_in names.old }
     ensures known { OnOk result (given_of names.new ≡ given_inside (V.rank view.now) (V.tree view.now (V.number id)) (given_of names.old)) }
     ensures ok { OnOk result (Puts S.holds sink.old out.old sink.new out.new (behind_anchor (V.rank view.now) (V.tree view.now (V.number id)) (given_of names.old))) }
     ensures err { IfErr result (λ stop. Fails S.holds S.stops sink.old out.old out.new (fault_of stop) (behind_anchor (V.rank view.now) (V.tree view.now (V.number id)) (given_of names.old))) }
@@ -183,7 +182,7 @@ fn write_items<I: Copy, V: RankedNodes<I>, O, S: Sink<O>>(
 ) -> Result<(), Stop>
     requires ready { Ready V.stands V.count view.now names.old }
     requires within { All (λ i. V.number i < V.count view.now) items.now }
-    ensures same { SameDocument names.old names.new }
+    ensures long { ranks_in names.new ≡ ranks_in names.old }
     ensures known { OnOk result (given_of names.new ≡ given_all (V.rank view.now) (trees_of V.tree V.number view.now items.now) (given_of names.old)) }
     ensures ok { OnOk result (Puts S.holds sink.old out.old sink.new out.new (λ more. 91 ∷ items_text [] (written_all (V.rank view.now) (trees_of V.tree V.number view.now items.now) (given_of names.old)) more)) }
     ensures err { IfErr result (λ stop. Fails S.holds S.stops sink.old out.old out.new (fault_of stop) (λ more. 91 ∷ items_text [] (written_all (V.rank view.now) (trees_of V.tree V.number view.now items.now) (given_of names.old)) more)) }
@@ -207,7 +206,7 @@ fn write_entries<I: Copy, V: RankedNodes<I>, O, S: Sink<O>>(
 ) -> Result<(), Stop>
     requires ready { Ready V.stands V.count view.now names.old }
     requires within { All (λ p. (V.number p.0 < V.count view.now) × (V.number p.1 < V.count view.now)) entries.now }
-    ensures same { SameDocument names.old names.new }
+    ensures long { ranks_in names.new ≡ ranks_in names.old }
     ensures known { OnOk result (given_of names.new ≡ given_pairs (V.rank view.now) (pairs_of V.tree V.number view.now entries.now) (given_of names.old)) }
     ensures ok { OnOk result (Puts S.holds sink.old out.old sink.new out.new (λ more. 123 ∷ pairs_text [] (written_pairs (V.rank view.now) (pairs_of V.tree V.number view.now entries.now) (given_of names.old)) more)) }
     ensures err { IfErr result (λ stop. Fails S.holds S.stops sink.old out.old out.new (fault_of stop) (λ more. 123 ∷ pairs_text [] (written_pairs (V.rank view.now) (pairs_of V.tree V.number view.now entries.now) (given_of names.old)) more)) }

@@ -1,4 +1,4 @@
-use Rattle.std.proofs.Common.{◌≡◌, ◌<◌, ◌^◌, length, slice_index, sym, ◌∙◌, ap, subst, arith}
+use Rattle.std.proofs.Common.{◌≡◌, ◌<◌, length, slice_index, sym, ◌∙◌, ap, subst, arith}
 use Rattle.std.specs.List.{All}
 use Rattle.std.specs.Vec.{with_items}
 use Rattle.std.proofs.lemmas.List.{with_items_is, length-map}
@@ -19,8 +19,6 @@ returns c = λ ts h.
     let next = c.take_ranks.new.nodes in
     let long : length next ≡ length c.deref_mut.result.now = ap length c.take_ranks.ensures.are ∙ length-map c.deref_mut.result.now (slice_index (ranks_of ranked)) in
     let e : (with_items f.roots next).items ≡ next = with_items_is f.roots next (omega (arith, long, ap length c.deref_mut.ensures.value, f.roots.ok.0)) in
-    let few : length next < 2 ^ 63 = omega (arith, long, c.deref_mut.type_inv.1) in
     let taken : RanksTaken ranked f.roots.items next = subst (λ z. RanksTaken ranked z next) c.deref_mut.ensures.value c.take_ranks.ensures in
     ranks-of-roots ts f h (record { ranked = ranked; roots = with_items f.roots next }) (c.in_ok-ranked.ensures h.good)
     (subst (RanksTaken ranked f.roots.items) (sym e) taken)
-    (subst (λ z. length z < 2 ^ 63) (sym e) few)

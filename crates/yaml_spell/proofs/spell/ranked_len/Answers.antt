@@ -18,11 +18,11 @@ returns-in_err-write_ranked-clause-err g c =
 pub returns-clause-ok : goal.returns-clause-ok
 returns-clause-ok g c =
     let ts : List Tree = map (tree_of g.V.RankedNodes.tree g.V.RankedNodes.number c.args.view.now) c.args.roots.now in
-    c.len-2.ensures.len ∙ (measured c.new-length.result c.write_ranked.new.sink _ _ _ (arranged_more ts) c.new-length.ensures.len c.new-length.ensures.limit c.in_ok-write_ranked.ensures.ok).0
+    c.len.ensures.len ∙ (measured c.new-length.result c.write_ranked.new.sink _ _ _ (arranged_more ts) c.new-length.ensures.len c.new-length.ensures.limit c.in_ok-write_ranked.ensures.ok).0
 
 pub returns-clause-fits : goal.returns-clause-fits
 returns-clause-fits g c =
     let ts : List Tree = map (tree_of g.V.RankedNodes.tree g.V.RankedNodes.number c.args.view.now) c.args.roots.now in
     let limit : limit_of c.new-length.result ≡ text_limit = omega (arith, c.new-length.ensures.limit, c.text_limit.ensures) in
     let m = measured c.new-length.result c.write_ranked.new.sink _ _ text_limit (arranged_more ts) c.new-length.ensures.len limit c.in_ok-write_ranked.ensures.ok in
-    subst (λ n. c.len-2.result ≤ n) m.1 c.len-2.ensures.within
+    subst (λ n. c.len.result ≤ n) m.1 c.len.ensures.within

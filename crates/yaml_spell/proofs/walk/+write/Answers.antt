@@ -6,7 +6,7 @@ use Rattle.yaml_spell.specs.Stops.{fault_of}
 use Rattle.yaml_spell.specs.NamesView.{given_of}
 use Rattle.yaml_spell.specs.RankedNodes.{tree_of, pair_of, trees_of, pairs_of}
 use Rattle.yaml_spell.specs.Walked.{opening_of, begun_unless_short, start, started, given_inside, written_pairs}
-use Rattle.yaml_spell.proofs.NamesLaws.{same_then, still}
+use Rattle.yaml_spell.proofs.NamesLaws.{still}
 use Rattle.yaml_spell.proofs.PieceLaws.{on_ok, if_err, puts_piece, puts_after, fails_piece, fails_after, left_first, left_last, left_fails}
 use Rattle.yaml_spell.proofs.ShownLaws.{scalar-shown, sequence-shown, mapping-shown, items-within, entries-within, sequence-high, mapping-high, item-lower, key-lower, value-lower, item-in}
 use Rattle.yaml_spell.proofs.WalkLaws.{drop_item}
@@ -18,7 +18,7 @@ pub write_items-loop-place-init : goal.write_items-loop-place-init
 write_items-loop-place-init g w c =
     record {
       known = refl;
-      same = record { long = refl; document = refl };
+      long = refl;
       left = left_first g.S.Sink.holds c.args.sink.now c.args.out.now c.put.new.self c.put.new.out (λ more. (91 ∷ []) ++ more) _ _ (puts_piece g.S.Sink.holds c.args.sink.now c.args.out.now c.put.new.self c.put.new.out (91 ∷ []) (91 ∷ []) c.in_ok-put.ensures.ok opening_bracket) (λ more. refl);
     }
 
@@ -58,7 +58,7 @@ write_items-loop-place-preserved g w c =
     let q = given_of c.write_node.new.names in
     record {
       known = items_given R f xs i c.index-items-place.result p q _ (drop_item xs i c.index-items-place.result (omega arith) c.index-items-place.is) c.in_ok-write_node.ensures.known c.loop-place.invariant.known;
-      same = same_then c.write_node.ensures.same c.loop-place.invariant.same;
+      long = c.write_node.ensures.long ∙ c.loop-place.invariant.long;
       left = items_step g.S.Sink.holds g.S.Sink.stops R f xs i p _ c.index-items-place.result q c.args.sink.now c.args.out.now c.loop-place.sink c.loop-place.out c.put_separator.new.sink c.put_separator.new.out c.write_node.new.sink c.write_node.new.out (drop_item xs i c.index-items-place.result (omega arith) c.index-items-place.is) c.in_ok-write_node.ensures.known c.loop-place.invariant.left c.in_ok-put_separator.ensures.ok c.in_ok-write_node.ensures.ok;
     }
 
@@ -99,7 +99,7 @@ pub write_entries-loop-place-init : goal.write_entries-loop-place-init
 write_entries-loop-place-init g w c =
     record {
       known = refl;
-      same = record { long = refl; document = refl };
+      long = refl;
       left = left_first g.S.Sink.holds c.args.sink.now c.args.out.now c.put.new.self c.put.new.out (λ more. (123 ∷ []) ++ more) _ _ (puts_piece g.S.Sink.holds c.args.sink.now c.args.out.now c.put.new.self c.put.new.out (123 ∷ []) (123 ∷ []) c.in_ok-put.ensures.ok opening_brace) (λ more. refl);
     }
 
@@ -170,7 +170,7 @@ write_entries-loop-place-preserved g w c =
     let r = given_of c.write_node-in-loop-place.new.names in
     record {
       known = pairs_given R f xs i c.index-entries-place.result p q r _ (drop_item xs i c.index-entries-place.result (omega arith) c.index-entries-place.is) c.in_ok-write_node.ensures.known c.in_ok-write_node-2.ensures.known c.loop-place.invariant.known;
-      same = same_then c.write_node-in-loop-place.ensures.same (same_then c.write_node.ensures.same c.loop-place.invariant.same);
+      long = c.write_node-in-loop-place.ensures.long ∙ (c.write_node.ensures.long ∙ c.loop-place.invariant.long);
       left = pairs_step g.S.Sink.holds g.S.Sink.stops R f xs i p _ c.index-entries-place.result q r c.args.sink.now c.args.out.now c.loop-place.sink c.loop-place.out c.put_separator.new.sink c.put_separator.new.out c.write_node.new.sink c.write_node.new.out c.put-in-loop-place.new.self c.put-in-loop-place.new.out c.write_node-in-loop-place.new.sink c.write_node-in-loop-place.new.out (drop_item xs i c.index-entries-place.result (omega arith) c.index-entries-place.is) c.in_ok-write_node.ensures.known c.in_ok-write_node-2.ensures.known c.loop-place.invariant.left c.in_ok-put_separator.ensures.ok c.in_ok-write_node.ensures.ok c.in_ok-put-2.ensures.ok c.in_ok-write_node-2.ensures.ok;
     }
 
@@ -547,7 +547,7 @@ write_items-write_node-requires g w c =
     let T = g.V.RankedNodes.tree v in
     let xs = c.args.items.now in
     let x = c.index-items-place.result in
-    let ready = still c.loop-place.names c.requires.ready c.loop-place.invariant.same.long in
+    let ready = still c.loop-place.names c.requires.ready c.loop-place.invariant.long in
     let within = item-in (λ i. N i < g.V.RankedNodes.count v) xs c.loop-place.place x c.requires.within (omega arith) c.index-items-place.is in
     let low = item-lower N T xs c.loop-place.place x (omega arith) c.index-items-place.is in
     let lower : 3 * height (T (N x)) + 2 < 3 * heights (trees_of g.V.RankedNodes.tree N v xs) = omega (arith, low) in
@@ -560,7 +560,7 @@ write_entries-write_node-requires g w c =
     let T = g.V.RankedNodes.tree v in
     let xs = c.args.entries.now in
     let x = c.index-entries-place.result in
-    let ready = still c.loop-place.names c.requires.ready c.loop-place.invariant.same.long in
+    let ready = still c.loop-place.names c.requires.ready c.loop-place.invariant.long in
     let within = (item-in (λ p. (N p.0 < g.V.RankedNodes.count v) × (N p.1 < g.V.RankedNodes.count v)) xs c.loop-place.place x c.requires.within (omega arith) c.index-entries-place.is).0 in
     let low = key-lower N T xs c.loop-place.place x (omega arith) c.index-entries-place.is in
     let lower : 3 * height (T (N x.0)) + 2 < 3 * heights_of_pairs (pairs_of g.V.RankedNodes.tree N v xs) = omega (arith, low) in
@@ -573,7 +573,7 @@ write_entries-write_node-requires-in-loop-place g w c =
     let T = g.V.RankedNodes.tree v in
     let xs = c.args.entries.now in
     let x = c.index-entries-place.result in
-    let ready = still c.write_node.new.names c.requires.ready (c.write_node.ensures.same.long ∙ c.loop-place.invariant.same.long) in
+    let ready = still c.write_node.new.names c.requires.ready (c.write_node.ensures.long ∙ c.loop-place.invariant.long) in
     let within = (item-in (λ p. (N p.0 < g.V.RankedNodes.count v) × (N p.1 < g.V.RankedNodes.count v)) xs c.loop-place.place x c.requires.within (omega arith) c.index-entries-place.is).1 in
     let low = value-lower N T xs c.loop-place.place x (omega arith) c.index-entries-place.is in
     let lower : 3 * height (T (N x.1)) + 2 < 3 * heights_of_pairs (pairs_of g.V.RankedNodes.tree N v xs) = omega (arith, low) in

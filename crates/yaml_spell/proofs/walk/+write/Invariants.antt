@@ -1,7 +1,7 @@
 use Rattle.std.proofs.Common.{◌≡◌, ◌+◌, ◌*◌, ◌∷◌, [], drop}
 use Rattle.yaml_definitions.specs.model.Tree.{height, heights, heights_of_pairs}
 use Rattle.yaml_definitions.specs.canonical.NodeText.{items_text, pairs_text}
-use Rattle.yaml_spell.specs.NamesView.{given_of, SameDocument}
+use Rattle.yaml_spell.specs.NamesView.{ranks_in, given_of}
 use Rattle.yaml_spell.specs.RankedNodes.{tree_of, trees_of, pairs_of}
 use Rattle.yaml_spell.specs.Walked.{separator, given_all, given_pairs, written_all, written_pairs}
 use Rattle.yaml_spell.proofs.PieceLaws.{Left}
@@ -24,7 +24,7 @@ invariant-write_items-loop-place g l =
     record {
       known : given_all (g.V.RankedNodes.rank l.view) (trees_of g.V.RankedNodes.tree g.V.RankedNodes.number l.view (drop l.place l.items)) (given_of l.names)
           ≡ given_all (g.V.RankedNodes.rank l.view) (trees_of g.V.RankedNodes.tree g.V.RankedNodes.number l.view l.items) (given_of l.fn.names);
-      same : SameDocument l.fn.names l.names;
+      long : ranks_in l.names ≡ ranks_in l.fn.names;
       left : Left g.S.Sink.holds l.fn.sink l.fn.out l.sink l.out
           (λ more. items_text (separator l.place) (written_all (g.V.RankedNodes.rank l.view) (trees_of g.V.RankedNodes.tree g.V.RankedNodes.number l.view (drop l.place l.items)) (given_of l.names)) more)
           (λ more. 91 ∷ items_text [] (written_all (g.V.RankedNodes.rank l.view) (trees_of g.V.RankedNodes.tree g.V.RankedNodes.number l.view l.items) (given_of l.fn.names)) more);
@@ -35,7 +35,7 @@ invariant-write_entries-loop-place g l =
     record {
       known : given_pairs (g.V.RankedNodes.rank l.view) (pairs_of g.V.RankedNodes.tree g.V.RankedNodes.number l.view (drop l.place l.entries)) (given_of l.names)
           ≡ given_pairs (g.V.RankedNodes.rank l.view) (pairs_of g.V.RankedNodes.tree g.V.RankedNodes.number l.view l.entries) (given_of l.fn.names);
-      same : SameDocument l.fn.names l.names;
+      long : ranks_in l.names ≡ ranks_in l.fn.names;
       left : Left g.S.Sink.holds l.fn.sink l.fn.out l.sink l.out
           (λ more. pairs_text (separator l.place) (written_pairs (g.V.RankedNodes.rank l.view) (pairs_of g.V.RankedNodes.tree g.V.RankedNodes.number l.view (drop l.place l.entries)) (given_of l.names)) more)
           (λ more. 123 ∷ pairs_text [] (written_pairs (g.V.RankedNodes.rank l.view) (pairs_of g.V.RankedNodes.tree g.V.RankedNodes.number l.view l.entries) (given_of l.fn.names)) more);
