@@ -69,6 +69,12 @@ pub static ROWS: [Node; 12] = [
         canonical: "--- \"\\uFEFF\"\n",
     },
     Node {
+        shows: "characters beyond ASCII, of which some are escaped",
+        input: "\"\u{E9}\u{4E2D}\\x80\u{DF}\\ufeff\u{FF0C}\\ufffe\u{FC}\u{A9}\\U0001F600\"",
+        events: "=VAL \"\u{E9}\u{4E2D}\u{80}\u{DF}\u{FEFF}\u{FF0C}\u{FFFE}\u{FC}\u{A9}\u{1F600}\n",
+        canonical: "--- \"\u{E9}\u{4E2D}\\x80\u{DF}\\uFEFF\u{FF0C}\\uFFFE\u{FC}\u{A9}\u{1F600}\"\n",
+    },
+    Node {
         shows: "indicators that begin no plain scalar stand inside one",
         input: "a,[]{}&*!|>'\"%@`",
         events: "=VAL :a,[]{}&*!|>'\"%@`\n",

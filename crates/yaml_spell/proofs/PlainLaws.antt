@@ -3,8 +3,7 @@ use Rattle.std.proofs.Common.{◌≡◌, ◌⊎◌, inl, inr, ℕ, ◌+◌, ◌-
 use Rattle.std.specs.Prelude.{◌&&◌, slice_index}
 use Rattle.std.proofs.lemmas.List.{get_or-drop, get_or-take, length-take, length-drop}
 use Rattle.std.proofs.lemmas.Bool.{cases_lt}
-use Rattle.yaml_scalar.specs.Spelling.{is_verbatim}
-use Rattle.yaml_spell.specs.Quoted.{Plain, AllPlain, SomeOther}
+use Rattle.yaml_spell.specs.Quoted.{Plain, Other, AllPlain, SomeOther}
 
 stretch : (xs : List ℕ) (i n k : ℕ) → k < length (take n (drop i xs)) → (i + k < length xs) × (slice_index (take n (drop i xs)) k ≡ slice_index xs (i + k))
 stretch xs i n k l =
@@ -15,7 +14,7 @@ stretch xs i n k l =
 
 -- one that is none
 pub other_in : (xs : List ℕ) (i n : ℕ) → SomeOther (take n (drop i xs)) → SomeOther xs
-other_in xs i n h = let s = stretch xs i n h.0 h.1 in (i + h.0, s.0, subst (λ z. z < 128 → is_verbatim z ≡ false) s.1 h.2)
+other_in xs i n h = let s = stretch xs i n h.0 h.1 in (i + h.0, s.0, subst Other s.1 h.2)
 
 pub other_first : (xs : List ℕ) (n : ℕ) → SomeOther (take n xs) → SomeOther xs
 other_first xs n h = other_in xs 0 n h

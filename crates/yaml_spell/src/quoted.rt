@@ -1,13 +1,13 @@
 //! A content's spelling between double quotes, cut into pieces.
-ghost use Rattle.std.specs.Prelude.{◌≡◌, ◌<◌, ◌≤◌, ◌+◌, ◌++◌, ◌∷◌, [], true, false, take, drop, length, slice_index};
+ghost use Rattle.std.specs.Prelude.{◌≡◌, ◌≢◌, ◌<◌, ◌≤◌, ◌+◌, ◌++◌, ◌∷◌, [], true, false, take, drop, length, slice_index};
 ghost use Rattle.std.specs.Str.{IsCharBoundary, IsUtf8};
 ghost use Rattle.yaml_scalar.specs.Spelling.{quoted_bytes, spelled_chars, is_verbatim};
-ghost use Rattle.yaml_spell.specs.Quoted.{next_text, piece_text, AllPlain, SomeOther};
+ghost use Rattle.yaml_spell.specs.Quoted.{next_text, piece_text, Plain, Other, AllPlain, SomeOther};
 
 use yaml_scalar::spell::spelled_char;
 use yaml_text::front::front_len;
 
-/// The front of a content: letters that are written as they are, and the character behind them.
+/// The front of a content: characters that are written as they are, and the one behind them.
 #[derive(Clone, Copy)]
 pub(crate) struct Piece<'a> {
     pub(crate) run: &'a str,
@@ -16,26 +16,36 @@ pub(crate) struct Piece<'a> {
     pub(crate) rest: &'a str,
 }
 
-/// Whether a byte is a letter of ASCII that is written as it is. It has no branch, for `front_len`.
+/// The first byte of U+0080 to U+00BF, of which the first half are escaped.
+const CONTROLS: u8 = 0xc2;
+
+/// The first byte of U+F000 to U+FFFF, among which the byte order mark is escaped.
+const MARKS: u8 = 0xef;
+
+/// Whether a byte is of a character that is surely written as it is. It has no branch, for `front_len`.
 #[tactic(auto, unfolding(yaml_scalar::specs::Spelling::is_verbatim))]
 fn is_plain(byte: u8) -> bool
-    ensures ascii { result ≡ true → byte < 128 }
-    ensures verbatim { result ≡ true → is_verbatim byte ≡ true }
-    ensures other { result ≡ false → byte < 128 → is_verbatim byte ≡ false }
+    ensures yes { result ≡ true → Plain byte }
+    ensures no { result ≡ false → Other byte }
 {
-    (byte >= b' ') & (byte <= b'~') & (byte != b'"') & (byte != b'\\')
+    (byte >= b' ')
+        & (byte != b'"')
+        & (byte != b'\\')
+        & (byte != 0x7f)
+        & (byte != CONTROLS)
+        & (byte != MARKS)
 }
 
-/// How many bytes at a text's start are such letters.
+/// How many bytes at a text's start are of such characters.
 fn plain_len(text: &str) -> usize
     ensures spelled { spelled_chars text.now ≡ take result text.now ++ spelled_chars (drop result text.now) }
     ensures border { IsCharBoundary text.now result }
-    ensures furthest { result < length text.now → slice_index text.now result < 128 → is_verbatim (slice_index text.now result) ≡ false }
+    ensures furthest { result < length text.now → Other (slice_index text.now result) }
 {
     front_len(text.as_bytes(), is_plain)
 }
 
-/// Whether all bytes are such letters. Each is tested, whatever the others are, so that the compiler
+/// Whether all bytes are such. Each is tested, whatever the others are, so that the compiler
 /// tests them together where it knows how many they are.
 #[inline(always)]
 fn are_plain(bytes: &[u8]) -> bool
@@ -95,8 +105,8 @@ fn all_plain(bytes: &[u8]) -> bool
     many_plain(bytes)
 }
 
-/// Whether a content is written as it is, but for the quotes. Of one that has letters beyond ASCII the
-/// answer is no.
+/// Whether a content is written as it is, but for the quotes. Of one with a character of U+0080 to
+/// U+00BF, or from U+F000 to U+FFFF, the answer is no.
 pub(crate) fn is_unescaped(text: &str) -> bool
     ensures yes { result ≡ true → quoted_bytes text.now ≡ 34 ∷ (text.now ++ (34 ∷ [])) }
     ensures no { result ≡ false → SomeOther text.now }
