@@ -43,9 +43,9 @@ use Rattle.yaml_levels.specs.RanksView.{RefusesGraph}
 use Rattle.yaml_spell.specs.Pieces.{Began, Puts, Fails}
 use Rattle.yaml_spell.specs.Documents.{spell_more, arranged_more, arranged_bytes, RefusesArranged}
 use Rattle.yaml_compact.specs.Walked.{walked_tree}
-use Rattle.yaml_forest.specs.Ranks.{HasRanks}
-use Rattle.yaml_forest.specs.Refused.{RefusesBytes}
-use Rattle.yaml_forest.specs.declared.ranks.RankedForest.{RankedForest}
+use Rattle.yaml_canon.specs.Ranks.{HasRanks}
+use Rattle.yaml_canon.specs.Refused.{RefusesBytes}
+use Rattle.yaml_canon.specs.declared.ranks.RankedForest.{RankedForest}
 use Rattle.yaml_canon.specs.Claims.{AllOf, MeansAlone, IsArranged, IsCanonicalText, IsRead, CanonicalRefuses, HasGraph, GraphRefuses}
 use Rattle.yaml_spell.proofs.DocumentLaws.{arranged_same, spell_whole, graph_text}
 

@@ -1,3 +1,7 @@
+mod ForestLaws
+mod RefusedLaws
+mod RootRanks
+mod BothLaws
 pub mod ClaimLaws
 mod PlacedLaws
 mod AcceptLaws

@@ -14,7 +14,7 @@ use Rattle.yaml_text.specs.declared.chars.Chars.{Chars}
 use Rattle.yaml_text.specs.declared.counted.Counted.{Counted}
 use Rattle.yaml_text.specs.declared.fault.Fault.{Fault}
 use Rattle.yaml_text.specs.declared.fault.Fault.TheVariants as faults
-use Rattle.yaml_forest.specs.Refused.{RefusesBytes}
+use Rattle.yaml_canon.specs.Refused.{RefusesBytes}
 use Rattle.yaml_graph.specs.Composed.{Composed, RefusesStream}
 use Rattle.yaml_nodes.specs.declared.graph.Graph.{Graph}
 use Rattle.yaml_levels.specs.RanksView.{RefusesGraph}

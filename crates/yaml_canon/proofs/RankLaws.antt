@@ -11,8 +11,8 @@ use Rattle.yaml_definitions.proofs.Members.{and_both, both_and}
 use Rattle.law_one_reading.proofs.Documents.{one_meaning}
 use Rattle.yaml_nodes.specs.GraphModel.{tree_at}
 use Rattle.yaml_compact.specs.Walked.{walked_tree}
-use Rattle.yaml_forest.specs.Both.{HaveRanks}
-use Rattle.yaml_forest.specs.declared.both.RankedBoth.{RankedBoth}
+use Rattle.yaml_canon.specs.Both.{HaveRanks}
+use Rattle.yaml_canon.specs.declared.both.RankedBoth.{RankedBoth}
 use Rattle.yaml_canon.specs.Claims.{AllOf}
 use Rattle.yaml_canon.specs.Comparing.{Compares}
 use Rattle.yaml_canon.proofs.ClaimLaws.{all_of}

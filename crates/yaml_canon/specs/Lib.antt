@@ -1,3 +1,7 @@
+pub mod Read
+pub mod Refused
+pub mod Ranks
+pub mod Both
 pub mod Claims
 pub mod FaultPlaces
 pub mod Comparing

@@ -9,7 +9,6 @@ ghost use Rattle.yaml_definitions.specs.model.Tree.{Tree};
 ghost use Rattle.yaml_definitions.specs.canonical.Spell.{spell_bytes};
 ghost use Rattle.yaml_definitions.specs.model.Proper.{Admitted};
 ghost use Rattle.yaml_definitions.specs.model.Means.{Means};
-ghost use Rattle.yaml_forest.specs.Refused.{TellsWhy};
 ghost use Rattle.yaml_spell.specs.Documents.{arranged_bytes, RefusesArranged};
 ghost use Rattle.yaml_spell.specs.RankedNodes.{Rooted, tree_of};
 ghost use Rattle.yaml_canon.specs.Claims.{IsCanonicalText, CanonicalRefuses};
@@ -18,7 +17,7 @@ ghost use Rattle.yaml_canon.specs.Accepting.{IsSpelling, IsMemory};
 
 use crate::graph_of::graph_unless;
 use std::alloc::Global;
-use yaml_forest::ranked_forest;
+use crate::ranks::ranked_forest;
 use yaml_rank::rank;
 use yaml_spell::names::Names;
 use yaml_spell::ranked::RankedNodes;

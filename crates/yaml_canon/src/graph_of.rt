@@ -5,12 +5,12 @@ ghost use Rattle.yaml_definitions.specs.grammar.Reading.{Reads};
 ghost use Rattle.yaml_definitions.specs.model.Event.{Event};
 ghost use Rattle.yaml_definitions.specs.model.Text.{Text};
 ghost use Rattle.yaml_text.specs.Refused.{RefusesText};
-ghost use Rattle.yaml_forest.specs.Refused.{TellsWhy};
+ghost use Rattle.yaml_canon.specs.Refused.{TellsWhy};
 ghost use Rattle.yaml_canon.specs.Claims.{HasGraph, GraphRefuses};
 ghost use Rattle.yaml_canon.specs.FaultPlaces.{TellsPlace};
 
 use std::alloc::Global;
-use yaml_forest::NoForest;
+use crate::no_forest::NoForest;
 use yaml_graph::compose_owned;
 use yaml_graph::graph::Graph;
 use yaml_read::{read_events, read_events_with};

@@ -19,7 +19,7 @@ ghost use Rattle.yaml_canon.specs.Rooms.{PlacesCanonical};
 
 use crate::graph_of::graph_unless;
 use std::alloc::Global;
-use yaml_forest::ranked_forest;
+use crate::ranks::ranked_forest;
 use yaml_rank::rank;
 use yaml_spell::names::Names;
 use yaml_spell::ranked::RankedNodes;

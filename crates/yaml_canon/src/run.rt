@@ -12,7 +12,7 @@ use crate::graph_of::graph_unless;
 use std::alloc::Global;
 use std::io::{Read, Write};
 use yaml_answers::gather;
-use yaml_forest::ranked_forest;
+use crate::ranks::ranked_forest;
 use yaml_rank::rank;
 use yaml_spell::names::Names;
 use yaml_spell::page::Page;

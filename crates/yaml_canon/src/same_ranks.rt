@@ -1,10 +1,11 @@
 //! Whether two streams are the same, by the ranks of their nodes in one store.
 ghost use Rattle.std.specs.Prelude.{IfOk, IfErr};
-ghost use Rattle.yaml_forest.specs.Refused.{TellsWhy};
+ghost use Rattle.yaml_canon.specs.Refused.{TellsWhy};
 ghost use Rattle.yaml_canon.specs.Comparing.{Compares};
 
 use std::alloc::Global;
-use yaml_forest::{NoForests, ranked_both};
+use crate::both::ranked_both;
+use crate::no_forest::NoForests;
 
 /// Whether two streams have equally many roots, of the same ranks, where one pass over the bytes of each has all nodes of both.
 /// Else, why one of them has none.

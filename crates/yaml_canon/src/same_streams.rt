@@ -1,5 +1,5 @@
 //! Whether two streams are the same.
-ghost use Rattle.std.specs.Prelude.{◌≡◌, ◌↔◌, ◌⊎◌, ◌≤◌, ◌<◌, ℕ, List, true, Ok, Err, map, take, drop, length, OnOk, IfOk, IfErr, MatchResult};
+ghost use Rattle.std.specs.Prelude.{◌≡◌, ◌↔◌, ◌⊎◌, ◌≤◌, ◌<◌, ℕ, List, true, Ok, Err, map, take, drop, length, IfOk, IfErr, MatchResult};
 ghost use Rattle.std.specs.Result.{IsErrAnd};
 ghost use Rattle.std.specs.Cmp.Lexicographic.{pointwise};
 ghost use Rattle.yaml_definitions.specs.model.Text.{Text};
@@ -8,9 +8,8 @@ ghost use Rattle.yaml_definitions.specs.model.Same.{Alike, same};
 ghost use Rattle.yaml_definitions.specs.model.Tree.{Tree};
 ghost use Rattle.yaml_definitions.specs.model.Proper.{Admitted};
 ghost use Rattle.yaml_definitions.specs.model.Means.{Means};
-ghost use Rattle.yaml_nodes.specs.GraphView.{nodes_of, roots_of, tree};
+ghost use Rattle.yaml_nodes.specs.GraphView.{roots_of, tree};
 ghost use Rattle.yaml_levels.specs.RanksView.{RanksAre};
-ghost use Rattle.yaml_forest.specs.Refused.{TellsWhy};
 ghost use Rattle.yaml_answers.specs.declared.side.Side.TheVariants.{Left, Right};
 ghost use Rattle.yaml_canon.specs.FaultPlaces.{TellsSidesPlace};
 ghost use Rattle.yaml_canon.specs.Comparing.{Compares, ComparerRefuses, side_of_fault, ComparesDocuments, RefusesDocuments};

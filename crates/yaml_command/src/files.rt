@@ -1,5 +1,5 @@
 //! What each command does of files that are named.
-ghost use Rattle.std.specs.Prelude.{◌≡◌, ◌<◌, ◌-◌, ◌^◌, IfOk, IfErr, OnOk};
+ghost use Rattle.std.specs.Prelude.{◌<◌, ◌-◌, ◌^◌, IfOk, IfErr, OnOk};
 ghost use Rattle.yaml_text.specs.CountedModel.{faults_of};
 ghost use Rattle.yaml_command.specs.Commands.{FileCanonical, FileEvents, FilesCompared, FilesMatched, FileNotCanonical, FileHasNoEvents, FilesNotCompared, FilesNotMatched};
 ghost use Rattle.yaml_command.specs.Judged.{Silent};

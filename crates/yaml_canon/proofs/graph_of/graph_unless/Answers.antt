@@ -1,5 +1,5 @@
 use Rattle.std.proofs.Common.{subst}
-use Rattle.yaml_forest.specs.Refused.{TellsWhy}
+use Rattle.yaml_canon.specs.Refused.{TellsWhy}
 use Rattle.yaml_canon.proofs.ClaimLaws.{refused_bytes, refused_as_text}
 use Rattle.yaml_canon.proofs.PlacedLaws.{placed_in_bytes}
 use Rattle.yaml_canon.proofs.graph_of.graph_unless.Goals as goal

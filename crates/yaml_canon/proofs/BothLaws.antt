@@ -1,0 +1,34 @@
+-- What two streams in one store come to.
+use Rattle.std.proofs.Common.{◌≡◌, ℕ, List, refl, sym, ◌∙◌, ap, subst, length, Ok}
+use Rattle.yaml_definitions.specs.model.Tree.{Tree}
+use Rattle.yaml_definitions.specs.model.Means.{Means}
+use Rattle.yaml_definitions.specs.model.Serial.{Document, stream_events}
+use Rattle.yaml_definitions.specs.model.Unfold.{trees_of as trees_unfolded}
+use Rattle.yaml_definitions.specs.grammar.Reading.{Reads}
+use Rattle.yaml_nodes.specs.GraphModel.{AreLow}
+use Rattle.yaml_compact.specs.StoreGrows.{trees_of}
+use Rattle.yaml_compose.specs.Reached.{UnfoldTo}
+use Rattle.yaml_compose.specs.ComposerModel.{AllAt, AreForests}
+use Rattle.yaml_compose.specs.declared.composer.Forest.{Forest}
+use Rattle.yaml_canon.specs.Both.{HasBoth}
+
+means-trees : (bytes : List ℕ) (ds : List Document) (ts : List Tree) → Reads bytes (stream_events ds) → trees_unfolded ds ≡ Ok ts → Means bytes ts
+means-trees bytes ds ts r u = record { events = stream_events ds; reads = r; stands = record { documents = ds; cut = refl; unfolded = u } }
+
+-- both sides were read, and the left side's documents are so many
+pub has-both : (left right : List ℕ) (ds es : List Document) (n : ℕ) (f : Forest) → Reads left (stream_events ds) → Reads right (stream_events es) → UnfoldTo ds n → AreForests ds es f → HasBoth left right (record { forest = f; middle = n })
+has-both left right ds es n f r s u a =
+    let both = a.unfolded in
+    let same : Ok u.trees_are ≡ Ok both.lefts = sym u.unfolded ∙ both.first in
+    let these : u.trees_are ≡ both.lefts = cc in
+    record {
+      mean = record {
+        lefts = both.lefts;
+        rights = both.rights;
+        left_means = means-trees left ds both.lefts r both.first;
+        right_means = means-trees right es both.rights s both.second;
+        low = subst AreLow both.is a.low;
+        middle_is = u.count ∙ ap length these;
+      };
+      roots = record { good = a.good; roots = subst (AllAt (trees_of f.store) f.roots.items) both.is a.roots };
+    }

@@ -1,0 +1,75 @@
+//! The forest of a stream's bytes.
+ghost use Rattle.std.specs.Prelude.{◌≡◌, ◌⊎◌, List, IfOk, IfErr};
+ghost use Rattle.yaml_definitions.specs.model.Limits.{open_limit};
+ghost use Rattle.yaml_definitions.specs.model.Event.{Event};
+ghost use Rattle.yaml_definitions.specs.model.Means.{Means};
+ghost use Rattle.yaml_definitions.specs.grammar.Nodes.{wide};
+ghost use Rattle.yaml_definitions.specs.grammar.Streams.{ReadsText};
+ghost use Rattle.yaml_text.specs.LeafAnswer.{IsRefusal};
+ghost use Rattle.yaml_text.specs.Placed.{IsPlaced};
+ghost use Rattle.yaml_text.specs.Source.{text_of};
+ghost use Rattle.yaml_sink.specs.Held.{Puts};
+ghost use Rattle.yaml_read.specs.Decided.{HasNoReading};
+ghost use Rattle.yaml_compose.specs.KeeperModel.{Composes};
+ghost use Rattle.yaml_canon.specs.Read.{Takes, HasForest, root_trees};
+ghost use Rattle.yaml_canon.specs.Refused.{TellsWhy};
+
+use crate::no_forest::NoForest;
+use std::alloc::Global;
+use yaml_compose::{Composing, Forest};
+use yaml_read::read_into;
+use yaml_sink::sink::Sink;
+use yaml_text::chars::Chars;
+use yaml_text::fault::Fault;
+
+/// What composed the events that a text is read to, behind those that it had. Where that gives up, there is no memory; each other
+/// fault is the reader's.
+fn composed(alloc: Global, keeper: Composing, source: &Chars<'_>) -> Result<Composing, Fault>
+    ensures ok { IfOk result (λ new. (es : List Event) × ReadsText (text_of source.now) wide open_limit es × Puts Composes keeper es new) }
+    ensures err { IfErr result IsRefusal }
+    ensures decides { IfErr result (λ e. (e ≡ Fault.OutOfMemory) ⊎ HasNoReading (text_of source.now)) }
+    ensures placed { IfErr result (IsPlaced source.now) }
+{
+    let mut out: Sink<'_, Composing> = Sink::Kept(keeper);
+    read_into(alloc, source, &mut out)?;
+    match out {
+        Sink::Kept(keeper) => Ok(keeper),
+        Sink::Listed(list) => {
+            drop(list);
+            Err(Fault::OutOfMemory)
+        }
+        Sink::Both(both) => {
+            drop(both);
+            Err(Fault::OutOfMemory)
+        }
+    }
+}
+
+/// What composed the events of these bytes, behind those that it had.
+pub(crate) fn composed_bytes(
+    alloc: Global,
+    keeper: Composing,
+    bytes: &[u8],
+) -> Result<Composing, NoForest>
+    ensures takes { IfOk result (Takes bytes.now keeper) }
+    ensures why { IfErr result (TellsWhy bytes.now) }
+{
+    let source = Chars::read(bytes)?;
+    let new = composed(alloc, keeper, &source)?;
+    Ok(new)
+}
+
+/// The nodes of the stream that these bytes are.
+///
+/// Refused are bytes that are no text (1 to 3), and a text that is no stream of the profile (4 to 11). It gives up where a node has
+/// no tree, and where the composer does: the way by a graph then tells why, or goes on.
+pub(crate) fn forest_of(alloc: Global, bytes: &[u8]) -> Result<Forest, NoForest>
+    ensures forest { IfOk result (HasForest bytes.now) }
+    ensures means { IfOk result (λ forest. Means bytes.now (root_trees forest)) }
+    ensures why { IfErr result (TellsWhy bytes.now) }
+{
+    let empty = Composing::new(alloc)?;
+    let keeper = composed_bytes(alloc, empty, bytes)?;
+    let forest = keeper.finish()?;
+    Ok(forest)
+}

@@ -1,4 +1,0 @@
-pub mod ForestLaws
-mod RefusedLaws
-pub mod RootRanks
-pub mod BothLaws

@@ -1,4 +1,0 @@
-pub mod Read
-pub mod Refused
-pub mod Ranks
-pub mod Both
