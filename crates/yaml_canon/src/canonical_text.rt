@@ -16,8 +16,8 @@ ghost use Rattle.yaml_canon.specs.FaultPlaces.{TellsPlace};
 ghost use Rattle.yaml_canon.specs.Accepting.{IsSpelling, IsMemory};
 
 use crate::graph_of::graph_unless;
-use std::alloc::Global;
 use crate::ranks::ranked_forest;
+use std::alloc::Global;
 use yaml_rank::rank;
 use yaml_spell::names::Names;
 use yaml_spell::ranked::RankedNodes;

@@ -9,8 +9,8 @@ ghost use Rattle.yaml_canon.specs.Refused.{TellsWhy};
 ghost use Rattle.yaml_canon.specs.Claims.{HasGraph, GraphRefuses};
 ghost use Rattle.yaml_canon.specs.FaultPlaces.{TellsPlace};
 
-use std::alloc::Global;
 use crate::no_forest::NoForest;
+use std::alloc::Global;
 use yaml_graph::compose_owned;
 use yaml_graph::graph::Graph;
 use yaml_read::{read_events, read_events_with};

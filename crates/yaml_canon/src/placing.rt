@@ -18,8 +18,8 @@ ghost use Rattle.yaml_answers.specs.Rooms.{Places};
 ghost use Rattle.yaml_canon.specs.Rooms.{PlacesCanonical};
 
 use crate::graph_of::graph_unless;
-use std::alloc::Global;
 use crate::ranks::ranked_forest;
+use std::alloc::Global;
 use yaml_rank::rank;
 use yaml_spell::names::Names;
 use yaml_spell::ranked::RankedNodes;

@@ -9,10 +9,10 @@ ghost use Rattle.yaml_canon.specs.FaultPlaces.{TellsPlace, TellsReadPlace};
 ghost use Rattle.yaml_canon.specs.Runs.{WritesArranged, ArrangedFails, WritesCanonical, WriteRefuses, RunsWhole, RunFails};
 
 use crate::graph_of::graph_unless;
+use crate::ranks::ranked_forest;
 use std::alloc::Global;
 use std::io::{Read, Write};
 use yaml_answers::gather;
-use crate::ranks::ranked_forest;
 use yaml_rank::rank;
 use yaml_spell::names::Names;
 use yaml_spell::page::Page;

@@ -3,9 +3,9 @@ ghost use Rattle.std.specs.Prelude.{IfOk, IfErr};
 ghost use Rattle.yaml_canon.specs.Refused.{TellsWhy};
 ghost use Rattle.yaml_canon.specs.Comparing.{Compares};
 
-use std::alloc::Global;
 use crate::both::ranked_both;
 use crate::no_forest::NoForests;
+use std::alloc::Global;
 
 /// Whether two streams have equally many roots, of the same ranks, where one pass over the bytes of each has all nodes of both.
 /// Else, why one of them has none.
