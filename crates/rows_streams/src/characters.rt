@@ -1,7 +1,7 @@
 //! Vectors: characters (chapter 5).
 use crate::rows::Node;
 
-pub static ROWS: [Node; 12] = [
+pub static ROWS: [Node; 13] = [
     Node {
         shows: "a byte order mark at the start",
         input: "\u{FEFF}a",
