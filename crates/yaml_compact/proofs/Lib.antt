@@ -19,3 +19,5 @@ pub mod RanksView
 mod TagOrder
 mod ContentLaws
 mod WalkedLaws
+mod Measuring
+mod GraphLaws

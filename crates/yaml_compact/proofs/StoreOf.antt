@@ -19,7 +19,7 @@ use Rattle.yaml_compact.specs.Ranking.{Stored, AllRanked}
 use Rattle.yaml_compact.specs.TagPlaces.{PlacesAre}
 use Rattle.yaml_compact.specs.StoreView.{view_of, tag_in, inside_at, StoreListed}
 
-within-from : (text is es : ℕ) (place : Place) → start_of place ≤ end_of place → end_of place ≤ room_of text is es place → Within text is es place
+pub within-from : (text is es : ℕ) (place : Place) → start_of place ≤ end_of place → end_of place ≤ room_of text is es place → Within text is es place
 within-from text is es (Scalar s) a b = (a, b)
 within-from text is es (Sequence s) a b = (a, b)
 within-from text is es (Mapping s) a b = (a, b)

@@ -1,10 +1,10 @@
 -- Ranks as ranked nodes.
-use Rattle.std.proofs.Common.{◌≡◌, ℕ, zero, suc, ◌+◌, ◌<◌, ◌≤◌, Bool, true, false, not, cond, List, [], ◌∷◌, ◌++◌, length, map, drop, get_or, slice_index, append_assoc, refl, sym, ◌∙◌, ap, subst, arith}
+use Rattle.std.proofs.Common.{◌≡◌, ℕ, zero, suc, ◌+◌, ◌<◌, Bool, true, false, not, cond, List, [], ◌∷◌, length, map, get_or, slice_index, refl, sym, ◌∙◌, ap, subst, arith}
 use Rattle.std.specs.Prelude.{Some}
 use Rattle.std.specs.String.{string_bytes}
 use Rattle.std.specs.List.{slice_get, slice_range, position_or_len, All}
 use Rattle.std.specs.Str.{IsUtf8}
-use Rattle.std.proofs.lemmas.List.{append-nil, drop_all, get_or-map, length-map}
+use Rattle.std.proofs.lemmas.List.{get_or-map, length-map}
 use Rattle.std.proofs.lemmas.List.Elements.{All-map, All-tail}
 use Rattle.yaml_definitions.specs.model.Tree.{Tree, scalar}
 use Rattle.yaml_definitions.specs.model.Order.{arranged}
@@ -21,7 +21,6 @@ use Rattle.yaml_spell.specs.declared.shown.Inside.{Inside}
 use Rattle.yaml_spell.specs.RankedNodes.{RanksTell, inside_shown}
 use Rattle.yaml_spell.specs.ShortNodes.{short_len, shown_len}
 use Rattle.yaml_spell.proofs.ShownLaws.{short-is}
-use Rattle.yaml_spell.proofs.WalkLaws.{drop_next}
 use Rattle.yaml_compact.specs.declared.store.Store.{Store}
 use Rattle.yaml_compact.specs.declared.ranking.Ranked.{Ranked}
 use Rattle.yaml_compact.specs.declared.nodes.Node.{Node}
@@ -62,14 +61,6 @@ found t (x ∷ xs) (suc i) d l h = by (same t x) refl (found t xs i d (omega ari
         let p = r.0 in
         let one : suc (position_or_len (same t) xs) ≡ 1 + position_or_len (same t) xs = omega arith in
         (omega arith, subst (λ n. same t (get_or (x ∷ xs) n d) ≡ true) one r.1)
-
--- one more of a list is told
-pub lens-step : (f : ℕ → ℕ) (xs : List ℕ) (bs cs : List ℕ) (k : ℕ) (b : ℕ) → k < length xs → b ≡ f (slice_index xs k) → cs ≡ bs ++ (b ∷ []) → bs ++ map f (drop k xs) ≡ map f xs → cs ++ map f (drop (k + 1) xs) ≡ map f xs
-lens-step f xs bs cs k b l e p h = ap (λ z. z ++ map f (drop (k + 1) xs)) p ∙ append_assoc bs (b ∷ []) (map f (drop (k + 1) xs)) ∙ ap (λ z. bs ++ (z ∷ map f (drop (k + 1) xs))) e ∙ ap (λ z. bs ++ map f z) (sym (drop_next xs k 0 l)) ∙ h
-
--- and all are
-pub lens-whole : (f : ℕ → ℕ) (xs : List ℕ) (bs : List ℕ) (k : ℕ) → length xs ≤ k → bs ++ map f (drop k xs) ≡ map f xs → bs ≡ map f xs
-lens-whole f xs bs k l h = sym (append-nil bs) ∙ ap (λ z. bs ++ map f z) (sym (drop_all k xs l)) ∙ h
 
 module _ (s : Store) (good : Good s) (c : Ranked) (are : StoreListed s good c) where
   abbrev N : ℕ

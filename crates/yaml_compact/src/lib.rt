@@ -2,6 +2,7 @@
 #![tactic(auto)]
 
 pub mod gives_up;
+mod graph;
 mod groups;
 pub mod laws;
 mod level;

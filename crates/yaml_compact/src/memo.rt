@@ -5,10 +5,17 @@ ghost use Rattle.std.specs.Prelude.{◌+◌, ◌≤◌, length};
 use crate::nodes::Kind;
 use std::alloc::{AllocError, Global};
 
-/// The last number of each hash's place.
+/// What a table answers where it has nothing of a hash: no node and no tag has this number.
+const NONE: u32 = u32::MAX;
+
+/// The lower half of a number.
+const LOWER: u64 = 0xffff_ffff;
+
+/// For each place the last number whose hash has it, and above it the lower half of that hash, so that mostly
+/// nothing is looked at in vain.
 #[derive(Drop)]
 pub(crate) struct Memo {
-    places: Vec<u32>,
+    places: Vec<u64>,
 }
 
 impl Memo {
@@ -27,14 +34,19 @@ impl Memo {
     /// The number of what may be the same.
     pub(crate) fn seen(&self, hash: u64) -> u32 {
         let place = self.place(hash);
-        self.places.get(place).copied().unwrap_or(0)
+        let kept = self.places.get(place).copied().unwrap_or(0);
+        if kept >> 32 == hash & LOWER {
+            (kept & LOWER) as u32
+        } else {
+            NONE
+        }
     }
 
     /// The number takes its place.
     pub(crate) fn keep(&mut self, hash: u64, number: u32) {
         let place = self.place(hash);
         if place < self.places.len() {
-            self.places[place] = number;
+            self.places[place] = (hash << 32) | u64::from(number);
         }
     }
 }

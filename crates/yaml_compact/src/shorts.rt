@@ -44,14 +44,19 @@ impl Ranked {
     }
 }
 
-/// How many bytes each rank takes if it is short, else 0.
+/// How many bytes each rank takes if it is short, else 0. The nodes are taken in the order in which they and
+/// their contents stand, and not by rank, so that what is looked at next is near.
 pub(crate) fn shorts(alloc: Global, ranked: &Ranked) -> Result<Vec<u8>, GivesUp>
     requires { Listed ranked.now }
     ensures { (s : Store) (good : Good s) → StoreListed s good ranked.now → IfOk result (λ shorts. shorts.items ≡ map (short_at s) ranked.now.first.items) }
 {
-    let mut shorts = Vec::with_capacity(alloc, ranked.first.len())?;
-    for rank in 0..ranked.first.len() {
-        shorts.push(short_len(&ranked.shown(rank)) as u8)?;
+    let mut shorts = Vec::new(alloc);
+    shorts.resize(ranked.first.len(), 0)?;
+    for (node, rank) in ranked.ranks.iter().enumerate() {
+        let rank = *rank as usize;
+        if ranked.first[rank] as usize == node {
+            shorts[rank] = short_len(&ranked.shown(rank)) as u8;
+        }
     }
     Ok(shorts)
 }

@@ -71,7 +71,7 @@ kind-below k (kinds.Mapping es) b = (λ j d l. absurd (omega arith), all-map num
 abbrev pub node_held : Node → Held
 node_held n = (cow_str_bytes n.tag, kind_inside n.kind)
 
-more-trees : (ts : List Tree) (ns : List Node) → more_trees ts ns ≡ more_held ts (map node_held ns)
+pub more-trees : (ts : List Tree) (ns : List Node) → more_trees ts ns ≡ more_held ts (map node_held ns)
 more-trees ts [] = refl
 more-trees ts (n ∷ ns) =
     let e : node_tree ts n ≡ held_tree ts (node_held n) = kind-made ts (cow_str_bytes n.tag) n.kind in

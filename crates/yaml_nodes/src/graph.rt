@@ -27,6 +27,22 @@ impl<'a> Graph<'a> {
     ghost use Rattle.yaml_nodes.specs.GraphModel.{tree_at};
     ghost use Rattle.yaml_nodes.specs.GraphView.{nodes_of, roots_of, tree};
 
+    /// The graph of these nodes, each with its height and after its parts, and of these roots.
+    pub fn new(nodes: Vec<Node<'a>>, heights: Vec<u32>, roots: Vec<NodeId>) -> Graph<'a>
+        requires grounded { Grounded nodes.items }
+        requires measured { heights.items ≡ map height (trees_in nodes.items) }
+        requires low { All (λ h. h ≤ height_limit) heights.items }
+        requires rooted { All (λ i. i.0 < length nodes.items) roots.items }
+        ensures nodes { nodes_of result ≡ nodes.entry.items }
+        ensures roots { roots_of result ≡ roots.items }
+    {
+        Graph {
+            nodes,
+            heights,
+            roots,
+        }
+    }
+
     /// The roots of the documents, in order.
     pub fn roots(&self) -> &[NodeId]
         ensures { result.now ≡ roots_of self.now }
