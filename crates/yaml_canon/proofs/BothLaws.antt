@@ -1,16 +1,23 @@
 -- What two streams in one store come to.
-use Rattle.std.proofs.Common.{◌≡◌, ℕ, List, refl, sym, ◌∙◌, ap, subst, length, Ok}
+use Rattle.std.proofs.Common.{◌≡◌, ℕ, List, [], ◌∷◌, map, refl, sym, ◌∙◌, ap, subst, length, Ok}
+use Rattle.std.specs.Prelude.{Result, Err, IfOk}
 use Rattle.yaml_definitions.specs.model.Tree.{Tree}
 use Rattle.yaml_definitions.specs.model.Means.{Means}
 use Rattle.yaml_definitions.specs.model.Serial.{Document, stream_events}
 use Rattle.yaml_definitions.specs.model.Unfold.{trees_of as trees_unfolded}
 use Rattle.yaml_definitions.specs.grammar.Reading.{Reads}
-use Rattle.yaml_nodes.specs.GraphModel.{AreLow}
+use Rattle.yaml_nodes.specs.GraphModel.{tree_at, AreLow}
+use Rattle.yaml_nodes.specs.GraphView.{roots_of, graph_trees, forest}
+use Rattle.yaml_nodes.specs.declared.node.NodeId.{NodeId}
+use Rattle.yaml_nodes.specs.declared.graph.Graph.{Graph}
+use Rattle.yaml_compact.specs.StoreModel.{parts_at}
 use Rattle.yaml_compact.specs.StoreGrows.{trees_of}
 use Rattle.yaml_compose.specs.Reached.{UnfoldTo}
 use Rattle.yaml_compose.specs.ComposerModel.{AllAt, AreForests}
 use Rattle.yaml_compose.specs.declared.composer.Forest.{Forest}
+use Rattle.yaml_canon.specs.Read.{HasRoots}
 use Rattle.yaml_canon.specs.Both.{HasBoth}
+use Rattle.yaml_canon.proofs.ForestLaws.{roots-are}
 
 means-trees : (bytes : List ℕ) (ds : List Document) (ts : List Tree) → Reads bytes (stream_events ds) → trees_unfolded ds ≡ Ok ts → Means bytes ts
 means-trees bytes ds ts r u = record { events = stream_events ds; reads = r; stands = record { documents = ds; cut = refl; unfolded = u } }
@@ -32,3 +39,19 @@ has-both left right ds es n f r s u a =
       };
       roots = record { good = a.good; roots = subst (AllAt (trees_of f.store) f.roots.items) both.is a.roots };
     }
+
+-- ---- both sides in one graph
+
+trees-by : (ts : List Tree) (roots : List NodeId) → map (λ i. tree_at ts i.0) roots ≡ parts_at ts (map (λ i. i.0) roots)
+trees-by ts [] = refl
+trees-by ts (i ∷ roots) = ap (λ us. tree_at ts i.0 ∷ us) (trees-by ts roots)
+
+-- the graph of a store has the trees of its roots
+pub graph-roots : (ts : List Tree) (f : Forest) → HasRoots ts f → (g : Graph) → graph_trees g ≡ trees_of f.store → map (λ i. i.0) (roots_of g) ≡ f.roots.items → forest g ≡ ts
+graph-roots ts f is g t r =
+    ap (λ us. map (λ i. tree_at us i.0) (roots_of g)) t ∙ trees-by (trees_of f.store) (roots_of g) ∙ ap (parts_at (trees_of f.store)) r ∙ roots-are (trees_of f.store) f.roots.items ts is.roots
+
+-- what an answer promises twice
+pub if-both : {T E : Type 0} {P Q R : T → Type 0} (r : Result T E) → IfOk r P → IfOk r Q → ((x : T) → P x → Q x → R x) → IfOk r R
+if-both (Ok x) p q f = f x p q
+if-both (Err e) p q f = tt

@@ -85,19 +85,19 @@ pub all_of : (P : Tree → Type 0) (f : List Tree) → All P f → AllOf P f
 all_of P [] h = tt
 all_of P (t ∷ f) h = (h 0 t (omega arith), all_of P f (λ k d l. h (suc k) d (omega arith)))
 
-all_roots : (P : Tree → Type 0) (ts : List Tree) (roots : List NodeId) (n : ℕ) → ((i : ℕ) → i < n → P (tree_at ts i)) → All (λ i. i.0 < n) roots → AllOf P (map (λ i. tree_at ts i.0) roots)
+pub all_roots : (P : Tree → Type 0) (ts : List Tree) (roots : List NodeId) (n : ℕ) → ((i : ℕ) → i < n → P (tree_at ts i)) → All (λ i. i.0 < n) roots → AllOf P (map (λ i. tree_at ts i.0) roots)
 all_roots P ts [] n h w = tt
 all_roots P ts (r ∷ roots) n h w = (h r.0 (w 0 r (omega arith)), all_roots P ts roots n h (λ k d l. w (suc k) d (omega arith)))
 
+-- it is all that they mean
+pub means_alone : (bytes : List ℕ) (f : List Tree) → Means bytes f → AllOf (λ t. height t ≤ height_limit) f → AllOf Keyed f → MeansAlone bytes f
+means_alone bytes f m l k = record { means = m; only = λ h n. one_meaning bytes h f n m; low = l; keyed = k }
+
 pub accepted : (bytes : List ℕ) (ds : List Document) (g : Graph) → IsRead bytes ds → Composed ds g → ((i : ℕ) → i < length (nodes_of g) → Keyed (tree g i)) → MeansAlone bytes (forest g)
 accepted bytes ds g r c k =
-    let m = means bytes ds g r c in
-    record {
-      means = m;
-      only = λ h n. one_meaning bytes h (forest g) n m;
-      low = subst (AllOf (λ t. height t ≤ height_limit)) (sym c.roots) (all_of (λ t. height t ≤ height_limit) c.trees c.low);
-      keyed = all_roots Keyed (graph_trees g) (roots_of g) (length (nodes_of g)) k g.rooted;
-    }
+    means_alone bytes (forest g) (means bytes ds g r c)
+    (subst (AllOf (λ t. height t ≤ height_limit)) (sym c.roots) (all_of (λ t. height t ≤ height_limit) c.trees c.low))
+    (all_roots Keyed (graph_trees g) (roots_of g) (length (nodes_of g)) k g.rooted)
 
 -- bytes that mean a forest are a text
 pub is_text : (bytes : List ℕ) (f : List Tree) → Means bytes f → ((cs : List ℕ) → Text bytes cs → ⊥) → ⊥

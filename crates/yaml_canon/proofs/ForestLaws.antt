@@ -17,9 +17,7 @@ use Rattle.yaml_sink.specs.declared.sink.Sink.TheVariants.{Kept}
 use Rattle.yaml_compact.specs.StoreModel.{parts_at}
 use Rattle.yaml_compact.specs.StoreGrows.{trees_of}
 use Rattle.yaml_compose.specs.ComposerModel.{AllAt}
-use Rattle.yaml_compose.specs.KeeperModel.{Composes}
 use Rattle.yaml_compose.specs.declared.composer.Forest.{Forest}
-use Rattle.yaml_compose.specs.declared.keeper.Composing.{Composing}
 use Rattle.yaml_canon.specs.Read.{Takes, HasForest, root_trees}
 
 -- what is put into a sink that is a keeper
@@ -46,8 +44,8 @@ meant bytes f h = record {
 }
 
 -- the events of a reading are those of documents
-pub takes : (bytes cs : List ℕ) (before after : Composing) (es : List Event) → Text bytes cs → ReadsText cs (Unit {0}) open_limit es → Puts Composes before es after → Takes bytes before after
+pub takes : {K : Type 0} (holds : K → List Event → Type 0) (bytes cs : List ℕ) (before after : K) (es : List Event) → Text bytes cs → ReadsText cs (Unit {0}) open_limit es → Puts holds before es after → Takes holds bytes before after
 unfolding Reads
-takes bytes cs before after es t r p =
+takes holds bytes cs before after es t r p =
     let d = readings_are_documents bytes es (cs, t, r) in
-    record { documents = d.0; read = subst (Reads bytes) d.1 (cs, t, r); puts = subst (λ z. Puts Composes before z after) d.1 p }
+    record { documents = d.0; read = subst (Reads bytes) d.1 (cs, t, r); puts = subst (λ z. Puts holds before z after) d.1 p }

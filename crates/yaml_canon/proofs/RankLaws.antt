@@ -8,16 +8,15 @@ use Rattle.yaml_definitions.specs.model.Tree.{Tree, scalar, height}
 use Rattle.yaml_definitions.specs.model.Order.{arranged}
 use Rattle.yaml_definitions.specs.model.Same.{Alike, same, Same, Keyed}
 use Rattle.yaml_definitions.proofs.Members.{and_both, both_and}
-use Rattle.law_one_reading.proofs.Documents.{one_meaning}
 use Rattle.yaml_nodes.specs.GraphModel.{tree_at}
 use Rattle.yaml_compact.specs.Walked.{walked_tree}
 use Rattle.yaml_canon.specs.Both.{HaveRanks}
 use Rattle.yaml_canon.specs.declared.both.RankedBoth.{RankedBoth}
 use Rattle.yaml_canon.specs.Claims.{AllOf}
 use Rattle.yaml_canon.specs.Comparing.{Compares}
-use Rattle.yaml_canon.proofs.ClaimLaws.{all_of}
+use Rattle.yaml_canon.proofs.ClaimLaws.{all_of, means_alone}
 
-all-apart : (P : Tree → Type 0) (ts us : List Tree) → AllOf P (ts ++ us) → AllOf P ts × AllOf P us
+pub all-apart : (P : Tree → Type 0) (ts us : List Tree) → AllOf P (ts ++ us) → AllOf P ts × AllOf P us
 all-apart P [] us h = (tt, h)
 all-apart P (t ∷ ts) us h = let k = all-apart P ts us h.1 in ((h.0, k.0), k.1)
 
@@ -87,7 +86,7 @@ module _ (left right : List ℕ) (b : RankedBoth) (h : HaveRanks left right b) w
   compares-ranks answer t = record {
     first = lefts;
     second = rights;
-    first_accepted = record { means = h.mean.left_means; only = λ g n. one_meaning left g lefts n h.mean.left_means; low = low.0; keyed = keyed.0 };
-    second_accepted = record { means = h.mean.right_means; only = λ g n. one_meaning right g rights n h.mean.right_means; low = low.1; keyed = keyed.1 };
+    first_accepted = means_alone left lefts h.mean.left_means low.0 keyed.0;
+    second_accepted = means_alone right rights h.mean.right_means low.1 keyed.1;
     tells = (λ e. both-tell.0 (t.0 e), λ e. t.1 (both-tell.1 e));
   }

@@ -35,7 +35,7 @@ map-arranged ts [] = refl
 map-arranged ts (i ∷ roots) = ap (λ us. arranged (tree_at ts i) ∷ us) (map-arranged ts roots)
 
 module _ (ts : List Tree) (f : Forest) (is : HasRoots ts f) where
-  roots-below : All (λ i. i < length f.store.nodes.items) f.roots.items
+  pub roots-below : All (λ i. i < length f.store.nodes.items) f.roots.items
   roots-below = subst (λ n. All (λ i. i < n) f.roots.items) (trees-count f.store.nodes.items (string_bytes f.store.text) f.store.items.items f.store.entries.items (tags_of f.store)) (at-below (trees_of f.store) f.roots.items ts is.roots)
 
   -- each root has a rank

@@ -2,6 +2,7 @@ pub mod Read
 pub mod Refused
 pub mod Ranks
 pub mod Both
+pub mod Two
 pub mod Claims
 pub mod FaultPlaces
 pub mod Comparing

@@ -1,21 +1,20 @@
 -- The forest that bytes are read as.
 use Rattle.std.specs.Prelude.{ℕ, List}
 use Rattle.yaml_definitions.specs.model.Tree.{Tree}
+use Rattle.yaml_definitions.specs.model.Event.{Event}
 use Rattle.yaml_definitions.specs.model.Serial.{Document, stream_events}
 use Rattle.yaml_definitions.specs.grammar.Reading.{Reads}
 use Rattle.yaml_sink.specs.Held.{Puts}
 use Rattle.yaml_compact.specs.StoreModel.{parts_at}
 use Rattle.yaml_compact.specs.StoreGrows.{Good, trees_of}
 use Rattle.yaml_compose.specs.ComposerModel.{AllAt, IsForest}
-use Rattle.yaml_compose.specs.KeeperModel.{Composes}
 use Rattle.yaml_compose.specs.declared.composer.Forest.{Forest}
-use Rattle.yaml_compose.specs.declared.keeper.Composing.{Composing}
 
 -- The bytes are read as documents, whose events were put behind those that were held.
-pub record Takes (bytes : List ℕ) (before after : Composing) : Type 0 where
+pub record Takes {K : Type 0} (holds : K → List Event → Type 0) (bytes : List ℕ) (before after : K) : Type 0 where
   pub documents : List Document
   pub read : Reads bytes (stream_events documents)
-  pub puts : Puts Composes before (stream_events documents) after
+  pub puts : Puts holds before (stream_events documents) after
 
 -- The bytes are read as these documents, which unfold, with no tree too high; and the roots stand for their trees.
 pub record HasForest (bytes : List ℕ) (f : Forest) : Type 0 where

@@ -1,20 +1,37 @@
 //! Two streams in one store.
-ghost use Rattle.std.specs.Prelude.{IfOk, IfErr};
+ghost use Rattle.std.specs.Prelude.{◌≡◌, ◌++◌, ℕ, List, [], IfOk, IfErr};
+ghost use Rattle.yaml_nodes.specs.GraphView.{forest as root_trees};
 ghost use Rattle.yaml_canon.specs.Both.{HasBoth, HaveRanks};
+ghost use Rattle.yaml_canon.specs.Two.{KeepsBoth};
 ghost use Rattle.yaml_canon.specs.Refused.{TellsWhy};
 
-use crate::forest::composed_bytes;
+use crate::forest::kept_bytes;
 use crate::no_forest::NoForests;
 use crate::ranks::{RankedForest, ranked_roots};
+use crate::two::Two;
 use std::alloc::Global;
+use yaml_compact::GivesUp;
 use yaml_compose::{Composing, Forest};
+use yaml_graph::graph::Graph;
+use yaml_sink::sink::Keeper;
 
 /// The nodes of two streams: the roots of the left one, and then those of the right one.
 #[derive(Drop)]
-struct BothForests {
-    forest: Forest,
+pub struct BothForests {
+    pub forest: Forest,
     /// How many roots are the left one's.
-    middle: usize,
+    pub middle: usize,
+}
+
+impl BothForests {
+    /// The nodes of both streams in one graph, equal ones mostly merged. The forest lends their texts. It gives up where memory is
+    /// refused.
+    pub fn graph(&self, alloc: Global) -> Result<Graph<'_>, GivesUp>
+        requires { (left right : List ℕ) × HasBoth left right self.now }
+        ensures { (left right : List ℕ) (has : HasBoth left right self.now) → IfOk result (λ graph. root_trees graph ≡ has.mean.lefts ++ has.mean.rights) }
+    {
+        self.forest.store.graph(alloc, &self.forest.roots)
+    }
 }
 
 /// The ranked nodes of two streams, and the ranks of the left one's roots and then those of the right one's.
@@ -26,23 +43,62 @@ pub(crate) struct RankedBoth {
 }
 
 /// The nodes of the streams that both sides are, those of the right one behind those of the left one.
-fn forest_of_both(alloc: Global, left: &[u8], right: &[u8]) -> Result<BothForests, NoForests>
+///
+/// Refused is what `canonical` refuses of the left side while it reads (1 to 11), else of the right one. It gives up where a node of
+/// either side has no tree, and where memory is refused or a number does not fit.
+pub fn forest_of_both(alloc: Global, left: &[u8], right: &[u8]) -> Result<BothForests, NoForests>
     ensures both { IfOk result (HasBoth left.now right.now) }
     ensures of_left { IfErr result (λ none. TellsWhy left.now none.left) }
     ensures of_right { IfErr result (λ none. TellsWhy right.now none.right) }
 {
     let empty = Composing::new(alloc)?;
-    let mut first = match composed_bytes(alloc, empty, left) {
+    let mut first = match kept_bytes(alloc, empty, left) {
         Ok(first) => first,
         Err(none) => return Err(NoForests::left(none)),
     };
     let middle = first.documents()?;
-    let both = match composed_bytes(alloc, first, right) {
+    let both = match kept_bytes(alloc, first, right) {
         Ok(both) => both,
         Err(none) => return Err(NoForests::right(none)),
     };
     let forest = both.finish()?;
     Ok(BothForests { forest, middle })
+}
+
+/// The same, with a keeper that held nothing and now holds the events that the left side is read to and then those of the right one,
+/// and how many are the left one's: for what has to be known of these beside their nodes, as where in the text each stands, without a
+/// second reading.
+pub fn forest_of_both_with<K: Keeper + Drop>(
+    alloc: Global,
+    left: &[u8],
+    right: &[u8],
+    keeper: K,
+) -> Result<(BothForests, K, usize), NoForests>
+    requires { K.holds keeper [] }
+    ensures both { IfOk result (λ made. HasBoth left.now right.now made.0) }
+    ensures of_left { IfErr result (λ none. TellsWhy left.now none.left) }
+    ensures of_right { IfErr result (λ none. TellsWhy right.now none.right) }
+    ensures kept { IfOk result (λ made. KeepsBoth K.holds left.now right.now made.1 made.2) }
+{
+    let empty = Two {
+        first: Composing::new(alloc)?,
+        second: keeper,
+    };
+    let mut begun = match kept_bytes(alloc, empty, left) {
+        Ok(begun) => begun,
+        Err(why) => return Err(NoForests::left(why)),
+    };
+    let middle = begun.first.documents()?;
+    let events = begun.second.mark();
+    let Two {
+        first: both,
+        second: kept,
+    } = match kept_bytes(alloc, begun, right) {
+        Ok(both) => both,
+        Err(why) => return Err(NoForests::right(why)),
+    };
+    let forest = both.finish()?;
+    Ok((BothForests { forest, middle }, kept, events))
 }
 
 /// The ranked nodes of the streams that both sides are, in one store, so that their ranks can be compared.

@@ -10,7 +10,6 @@ ghost use Rattle.yaml_text.specs.Placed.{IsPlaced};
 ghost use Rattle.yaml_text.specs.Source.{text_of};
 ghost use Rattle.yaml_sink.specs.Held.{Puts};
 ghost use Rattle.yaml_read.specs.Decided.{HasNoReading};
-ghost use Rattle.yaml_compose.specs.KeeperModel.{Composes};
 ghost use Rattle.yaml_canon.specs.Read.{Takes, HasForest, root_trees};
 ghost use Rattle.yaml_canon.specs.Refused.{TellsWhy};
 
@@ -18,19 +17,19 @@ use crate::no_forest::NoForest;
 use std::alloc::Global;
 use yaml_compose::{Composing, Forest};
 use yaml_read::read_into;
-use yaml_sink::sink::Sink;
+use yaml_sink::sink::{Keeper, Sink};
 use yaml_text::chars::Chars;
 use yaml_text::fault::Fault;
 
-/// What composed the events that a text is read to, behind those that it had. Where that gives up, there is no memory; each other
+/// What keeps the events that a text is read to, behind those that it had. Where that gives up, there is no memory; each other
 /// fault is the reader's.
-fn composed(alloc: Global, keeper: Composing, source: &Chars<'_>) -> Result<Composing, Fault>
-    ensures ok { IfOk result (λ new. (es : List Event) × ReadsText (text_of source.now) wide open_limit es × Puts Composes keeper es new) }
+fn kept<K: Keeper + Drop>(alloc: Global, keeper: K, source: &Chars<'_>) -> Result<K, Fault>
+    ensures ok { IfOk result (λ new. (es : List Event) × ReadsText (text_of source.now) wide open_limit es × Puts K.holds keeper es new) }
     ensures err { IfErr result IsRefusal }
     ensures decides { IfErr result (λ e. (e ≡ Fault.OutOfMemory) ⊎ HasNoReading (text_of source.now)) }
     ensures placed { IfErr result (IsPlaced source.now) }
 {
-    let mut out: Sink<'_, Composing> = Sink::Kept(keeper);
+    let mut out: Sink<'_, K> = Sink::Kept(keeper);
     read_into(alloc, source, &mut out)?;
     match out {
         Sink::Kept(keeper) => Ok(keeper),
@@ -45,17 +44,17 @@ fn composed(alloc: Global, keeper: Composing, source: &Chars<'_>) -> Result<Comp
     }
 }
 
-/// What composed the events of these bytes, behind those that it had.
-pub(crate) fn composed_bytes(
+/// What keeps the events of these bytes, behind those that it had.
+pub(crate) fn kept_bytes<K: Keeper + Drop>(
     alloc: Global,
-    keeper: Composing,
+    keeper: K,
     bytes: &[u8],
-) -> Result<Composing, NoForest>
-    ensures takes { IfOk result (Takes bytes.now keeper) }
+) -> Result<K, NoForest>
+    ensures takes { IfOk result (Takes K.holds bytes.now keeper) }
     ensures why { IfErr result (TellsWhy bytes.now) }
 {
     let source = Chars::read(bytes)?;
-    let new = composed(alloc, keeper, &source)?;
+    let new = kept(alloc, keeper, &source)?;
     Ok(new)
 }
 
@@ -69,7 +68,7 @@ pub(crate) fn forest_of(alloc: Global, bytes: &[u8]) -> Result<Forest, NoForest>
     ensures why { IfErr result (TellsWhy bytes.now) }
 {
     let empty = Composing::new(alloc)?;
-    let keeper = composed_bytes(alloc, empty, bytes)?;
+    let keeper = kept_bytes(alloc, empty, bytes)?;
     let forest = keeper.finish()?;
     Ok(forest)
 }

@@ -36,11 +36,7 @@ pub fn graph_of<'a>(alloc: Global, bytes: &'a [u8]) -> Result<Graph<'a>, Fault>
 }
 
 /// The same graph, once it is known why no forest was had of the bytes: where they were refused, they are not read again.
-pub(crate) fn graph_unless<'a>(
-    alloc: Global,
-    bytes: &'a [u8],
-    none: NoForest,
-) -> Result<Graph<'a>, Fault>
+pub fn graph_unless<'a>(alloc: Global, bytes: &'a [u8], none: NoForest) -> Result<Graph<'a>, Fault>
     requires { TellsWhy bytes.now none }
     ensures graph { IfOk result (HasGraph bytes.now) }
     ensures refused { IfErr result (GraphRefuses bytes.now) }

@@ -1,17 +1,18 @@
 //! The canonical text of a YAML stream, and whether two streams are the same.
 #![tactic(auto)]
 
-mod both;
+pub mod both;
 pub mod canonical_text;
 mod forest;
 pub mod graph_of;
 pub mod laws;
-mod no_forest;
+pub mod no_forest;
 pub mod placing;
 mod ranks;
 pub mod run;
 mod same_ranks;
 pub mod same_streams;
+mod two;
 
 pub use canonical_text::canonical;
 pub use placing::canonical_into;

@@ -7,7 +7,7 @@ use yaml_text::fault::Fault;
 
 /// Why no forest is had of some bytes.
 #[derive(Clone, Copy, Debug, PartialEq, Eq)]
-pub(crate) enum NoForest {
+pub enum NoForest {
     /// The bytes are no text (1 to 3), or no stream of the profile (4 to 11).
     Refused(Fault),
     /// This way has no answer, and tells nothing of the bytes.
@@ -38,9 +38,9 @@ impl From<Fault> for NoForest {
 
 /// Why no forest is had of two streams: of the left one, or else of the right one. Of the other one nothing is told.
 #[derive(Clone, Copy, Debug, PartialEq, Eq)]
-pub(crate) struct NoForests {
-    pub(crate) left: NoForest,
-    pub(crate) right: NoForest,
+pub struct NoForests {
+    pub left: NoForest,
+    pub right: NoForest,
 }
 
 impl NoForests {

@@ -1,0 +1,16 @@
+use Rattle.std.proofs.Common.{◌<◌, ◌++◌, length, sym, ◌∙◌, subst}
+use Rattle.std.specs.List.{All}
+use Rattle.yaml_canon.proofs.BothLaws.{if-both, graph-roots}
+use Rattle.yaml_canon.proofs.RootRanks.{roots-below}
+use Rattle.yaml_canon.proofs.both.BothForests.graph.Goals as goal
+
+pub graph-requires-clause-roots : goal.graph-requires-clause-roots
+graph-requires-clause-roots c =
+    let f = c.args.self.now.forest in
+    let h = c.requires.2 in
+    subst (All (λ i. i < length f.store.nodes.items)) (sym c.deref.ensures.value) (roots-below (h.mean.lefts ++ h.mean.rights) f h.roots)
+
+pub returns : goal.returns
+returns c left right has =
+    let f = c.args.self.now.forest in
+    if-both c.graph.result c.graph.ensures.trees c.graph.ensures.roots (λ g t r. graph-roots (has.mean.lefts ++ has.mean.rights) f has.roots g t (r ∙ c.deref.ensures.value))

@@ -1,0 +1,27 @@
+use Rattle.std.proofs.Common.{[]}
+use Rattle.yaml_definitions.specs.model.Serial.{stream_events}
+use Rattle.yaml_canon.proofs.BothLaws.{has-both}
+use Rattle.yaml_canon.proofs.both.forest_of_both_with.Goals as goal
+
+pub returns-clause-both : goal.returns-clause-both
+returns-clause-both g c =
+    let l = c.in-Ok.ensures.takes in
+    let r = c.in-Ok-kept_bytes.ensures.takes in
+    let held = l.puts.is [] (record { first_holds = c.in_ok-new.ensures; second_holds = c.requires }) in
+    let all = r.puts.is (stream_events l.documents) (record { first_holds = c.in_ok-middle.ensures.keeps.is (stream_events l.documents) held.first_holds; second_holds = held.second_holds }) in
+    has-both c.args.left.now c.args.right.now l.documents r.documents c.in_ok-middle.middle c.in_ok-forest.forest l.read r.read (c.in_ok-middle.ensures.count l.documents held.first_holds) (c.in_ok-forest.ensures.both l.documents r.documents all.first_holds)
+
+pub returns-clause-kept : goal.returns-clause-kept
+returns-clause-kept g c =
+    let l = c.in-Ok.ensures.takes in
+    let r = c.in-Ok-kept_bytes.ensures.takes in
+    let held = l.puts.is [] (record { first_holds = c.in_ok-new.ensures; second_holds = c.requires }) in
+    let all = r.puts.is (stream_events l.documents) (record { first_holds = c.in_ok-middle.ensures.keeps.is (stream_events l.documents) held.first_holds; second_holds = held.second_holds }) in
+    record {
+      lefts = stream_events l.documents;
+      rights = stream_events r.documents;
+      left_read = l.read;
+      right_read = r.read;
+      held = all.second_holds;
+      middle_is = c.mark-events.ensures.is (stream_events l.documents) held.second_holds;
+    }
