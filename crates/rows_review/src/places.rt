@@ -11,7 +11,7 @@ const DEPLOYMENT_RIGHT: &[u8] =
 const LINES: &str =
     "~\t0.spec.replicas\t!!int \"2\"\t!!int \"3\"\t6:13\t4:19\n~\t0.spec.template.image\t\"shop/web:1.4\"\t\"shop/web:1.5\"\t8:12\t5:21\n-\t0.spec.template.ports[1]\t!!int \"443\"\t\t9:17\t\n+\t0.spec.strategy\t\t\"Recreate\"\t\t4:34\n";
 
-pub static ROWS: [Row; 8] = [
+pub static ROWS: [Row; 12] = [
     Row {
         name: "a deployment",
         words: &["diff", "left", "right"],
@@ -37,6 +37,42 @@ pub static ROWS: [Row; 8] = [
         right: b"a: 1\nb: 2\n",
         status: 1,
         out: "~\t0.b\t!!int \"1\"\t!!int \"2\"\t2:4\t2:4\n",
+        err: "",
+    },
+    Row {
+        name: "below an alias the places are those of the node that it stands for",
+        words: &["diff", "left", "right"],
+        left: b"a: &x {k: [1, 2]}\nb: *x\n",
+        right: b"a: {k: [1, 2]}\nb: {k: [1, 3]}\n",
+        status: 1,
+        out: "~\t0.b.k[1]\t!!int \"2\"\t!!int \"3\"\t1:15\t2:12\n",
+        err: "",
+    },
+    Row {
+        name: "an alias stands for the last node of its name, also behind a collection that was begun before",
+        words: &["diff", "left", "right"],
+        left: b"- &x [&x [1], 2]\n- *x\n- &x [3]\n- *x\n",
+        right: b"- [[1], 2]\n- [4]\n- [3]\n- [5]\n",
+        status: 1,
+        out: "~\t0[1][0]\t!!int \"1\"\t!!int \"4\"\t1:11\t2:4\n~\t0[3][0]\t!!int \"3\"\t!!int \"5\"\t3:7\t4:4\n",
+        err: "",
+    },
+    Row {
+        name: "each of two nodes that are the same has a place of its own",
+        words: &["diff", "left", "right"],
+        left: b"a: {x: 1}\nb: {x: 1}\n",
+        right: b"a: {x: 1}\nb: {x: 2}\n",
+        status: 1,
+        out: "~\t0.b.x\t!!int \"1\"\t!!int \"2\"\t2:8\t2:8\n",
+        err: "",
+    },
+    Row {
+        name: "keys that were met in another order",
+        words: &["diff", "left", "right"],
+        left: b"- {a: 1, b: 2, c: 3}\n- {c: 4, b: 5, a: 6}\n",
+        right: b"- {a: 1, b: 2, c: 3}\n- {a: 7, c: 8, b: 5}\n",
+        status: 1,
+        out: "~\t0[1].c\t!!int \"4\"\t!!int \"8\"\t2:7\t2:13\n~\t0[1].a\t!!int \"6\"\t!!int \"7\"\t2:19\t2:7\n",
         err: "",
     },
     Row {

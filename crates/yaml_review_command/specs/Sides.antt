@@ -1,18 +1,17 @@
 -- Two streams in one graph.
-use Rattle.std.specs.Prelude.{◌≡◌, ℕ, List, length}
-use Rattle.yaml_nodes.specs.GraphView.{roots_of}
-use Rattle.yaml_nodes.specs.JoinModel.{Joined}
-use Rattle.yaml_nodes.specs.declared.graph.Graph.{Graph}
+use Rattle.std.specs.Prelude.{◌≡◌, ℕ, List, ◌++◌, length}
+use Rattle.yaml_definitions.specs.model.Tree.{Tree}
+use Rattle.yaml_definitions.specs.model.Means.{Means}
+use Rattle.yaml_nodes.specs.GraphView.{forest}
 use Rattle.yaml_levels.specs.RanksView.{RanksAre}
-use Rattle.yaml_canon.specs.Claims.{HasGraph}
 use Rattle.yaml_review_text.specs.declared.both.Both.{Both}
 
--- The bytes of either side have a graph, these are both of them in one, and its ranks.
+-- The bytes of either side mean these trees: the roots of one graph stand for those of the left side, and then for those of the right one. These are the graph's ranks.
 pub record BothAre (left right : List ℕ) (both : Both) : Type 0 where
-  pub first : Graph
-  pub second : Graph
-  pub first_graph : HasGraph left first
-  pub second_graph : HasGraph right second
-  pub joined : Joined first second both.graph
-  pub middle : both.documents ≡ length (roots_of first)
+  pub lefts : List Tree
+  pub rights : List Tree
+  pub left_means : Means left lefts
+  pub right_means : Means right rights
+  pub roots : forest both.graph ≡ lefts ++ rights
+  pub middle : both.documents ≡ length lefts
   pub ranked : RanksAre both.graph both.ranks

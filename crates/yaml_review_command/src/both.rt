@@ -1,20 +1,25 @@
 //! Two streams in one graph, ranked.
-ghost use Rattle.std.specs.Prelude.{IfOk, string_bytes};
+ghost use Rattle.std.specs.Prelude.{ℕ, List, IfOk, IfErr, string_bytes};
+ghost use Rattle.yaml_canon.specs.Both.{HasBoth};
 ghost use Rattle.yaml_canon.specs.Claims.{HasGraph};
 ghost use Rattle.yaml_canon.specs.Comparing.{Compares};
+ghost use Rattle.yaml_canon.specs.Refused.{TellsWhy};
 ghost use Rattle.yaml_review_command.specs.Diffs.{DiffLines};
 ghost use Rattle.yaml_review_command.specs.Sides.{BothAre};
 
 use std::alloc::Global;
 use yaml_canon::Side;
-use yaml_canon::graph_of::{graph_of, graph_with};
+use yaml_canon::both::{BothForests, forest_of_both, forest_of_both_with};
+use yaml_canon::graph_of::{graph_of, graph_unless, graph_with};
+use yaml_canon::no_forest::{NoForest, NoForests};
 use yaml_canon::same_streams::{on, with_side};
+use yaml_compact::GivesUp;
 use yaml_graph::join;
 use yaml_nodes::graph::Graph;
 use yaml_rank::rank;
 use yaml_review_lines::{Compared, compare};
+use yaml_review_places::trace::{Trace, Traced};
 use yaml_review_text::Both;
-use yaml_review_text::trace::{Trace, Traced};
 use yaml_review_words::Diff;
 use yaml_text::fault::Fault;
 
@@ -29,19 +34,103 @@ pub(crate) fn fault_of(alloc: Global, bytes: &[u8]) -> Option<Fault> {
     }
 }
 
-/// The graph of some bytes, and where it is asked for, the trace of the events that they are read to.
+/// The nodes of both streams in one graph, equal ones mostly merged, ranked. It gives up where two keys are equal, and where memory
+/// is refused.
+fn merged<'f>(alloc: Global, forests: &'f BothForests) -> Result<Both<'f>, GivesUp>
+    requires { (left right : List ℕ) × HasBoth left right forests.now }
+    ensures { (left right : List ℕ) → HasBoth left right forests.now → IfOk result (BothAre left right) }
+{
+    let graph = forests.graph(alloc)?;
+    let Ok(ranks) = rank(alloc, &graph) else {
+        return Err(GivesUp);
+    };
+    Ok(Both {
+        graph,
+        ranks,
+        documents: forests.middle,
+    })
+}
+
+/// The nodes of both streams, and where it is asked for, a trace of the events that the left one is read to and then of the right
+/// one's, with how many are the left one's.
+fn forests_of(
+    alloc: Global,
+    left: &[u8],
+    right: &[u8],
+    traced: bool,
+) -> Result<(BothForests, Option<(Trace, usize)>), NoForests>
+    ensures both { IfOk result (λ made. HasBoth left.now right.now made.0) }
+    ensures of_left { IfErr result (λ none. TellsWhy left.now none.left) }
+    ensures of_right { IfErr result (λ none. TellsWhy right.now none.right) }
+{
+    if traced {
+        let (forests, trace, middle) = forest_of_both_with(alloc, left, right, Trace::new(alloc))?;
+        Ok((forests, Some((trace, middle))))
+    } else {
+        Ok((forest_of_both(alloc, left, right)?, None))
+    }
+}
+
+/// Two streams with their traces, of which one has the events of both, so many of the left one.
+fn traced_both<'t>(
+    left: &'t [u8],
+    right: &'t [u8],
+    both: &'t Option<(Trace, usize)>,
+) -> Option<(Traced<'t>, Traced<'t>)> {
+    let (trace, middle) = both.as_ref()?;
+    Some((
+        Traced {
+            bytes: left,
+            trace,
+            first: 0,
+            end: *middle,
+        },
+        Traced {
+            bytes: right,
+            trace,
+            first: *middle,
+            end: trace.events.len(),
+        },
+    ))
+}
+
+/// The lines of the differences of two streams, and whether they are the same, where one pass over the bytes of each has all nodes of
+/// both. Else, why one of them has none.
+fn compare_merged(
+    alloc: Global,
+    asked: &Diff<'_>,
+    left: &[u8],
+    right: &[u8],
+) -> Result<Compared, NoForests>
+    ensures same { IfOk result (λ told. Compares left.now right.now told.same) }
+    ensures lines { IfOk result (λ told. DiffLines left.now right.now asked.now (string_bytes told.text)) }
+    ensures of_left { IfErr result (λ none. TellsWhy left.now none.left) }
+    ensures of_right { IfErr result (λ none. TellsWhy right.now none.right) }
+{
+    let (forests, trace) = forests_of(alloc, left, right, asked.places)?;
+    let both = merged(alloc, &forests)?;
+    match compare(alloc, &both, asked, traced_both(left, right, &trace)) {
+        Ok(told) => Ok(told),
+        Err(_) => Err(NoForests::from(GivesUp)),
+    }
+}
+
+/// The graph of some bytes, once it is known why no forest was had of them, and where it is asked for, the trace of the events that
+/// they are read to.
 fn graph_and_trace<'a>(
     alloc: Global,
     bytes: &'a [u8],
+    none: NoForest,
     traced: bool,
 ) -> Result<(Graph<'a>, Option<Trace>), Fault>
+    requires { TellsWhy bytes.now none }
     ensures graph { IfOk result (λ made. HasGraph bytes.now made.0) }
 {
     if traced {
         let (graph, trace) = graph_with(alloc, bytes, Trace::new(alloc))?;
         Ok((graph, Some(trace)))
     } else {
-        Ok((graph_of(alloc, bytes)?, None))
+        Ok((graph_unless(alloc, bytes, none)?, None))
     }
 }
 
@@ -58,30 +147,28 @@ impl Sides<'_> {
     fn traced<'s>(&'s self, left: &'s [u8], right: &'s [u8]) -> Option<(Traced<'s>, Traced<'s>)> {
         let one = self.left.as_ref()?;
         let other = self.right.as_ref()?;
-        Some((
-            Traced {
-                bytes: left,
-                trace: one,
-            },
-            Traced {
-                bytes: right,
-                trace: other,
-            },
-        ))
+        Some((Traced::whole(left, one), Traced::whole(right, other)))
     }
 }
 
-/// Both streams. A refusal names the side, as that of `same`.
+/// Both streams, each with nodes of its own, once it is known why no forest was had of them. A refusal names the side, as that of
+/// `same`.
 fn both_of<'a>(
     alloc: Global,
     left: &'a [u8],
     right: &'a [u8],
+    none: NoForests,
     traced: bool,
 ) -> Result<Sides<'a>, (Side, Fault)>
+    requires of_left { TellsWhy left.now none.left }
+    requires of_right { TellsWhy right.now none.right }
     ensures both { IfOk result (λ sides. BothAre left.now right.now sides.both) }
 {
-    let (first, left_trace) = on(Side::Left, graph_and_trace(alloc, left, traced))?;
-    let (second, right_trace) = on(Side::Right, graph_and_trace(alloc, right, traced))?;
+    let (first, left_trace) = on(Side::Left, graph_and_trace(alloc, left, none.left, traced))?;
+    let (second, right_trace) = on(
+        Side::Right,
+        graph_and_trace(alloc, right, none.right, traced),
+    )?;
     let nodes = first.len();
     let documents = first.roots().len();
     let graph = on(Side::Left, join(first, second))?;
@@ -90,7 +177,6 @@ fn both_of<'a>(
             both: Both {
                 graph,
                 ranks,
-                nodes,
                 documents,
             },
             left: left_trace,
@@ -110,7 +196,11 @@ pub(crate) fn compare_sides(
     ensures same { IfOk result (λ told. Compares left.now right.now told.same) }
     ensures lines { IfOk result (λ told. DiffLines left.now right.now asked.now (string_bytes told.text)) }
 {
-    let sides = both_of(alloc, left, right, asked.places)?;
+    let none = match compare_merged(alloc, asked, left, right) {
+        Ok(told) => return Ok(told),
+        Err(none) => none,
+    };
+    let sides = both_of(alloc, left, right, none, asked.places)?;
     let traced = sides.traced(left, right);
     match compare(alloc, &sides.both, asked, traced) {
         Ok(told) => Ok(told),

@@ -1,18 +1,17 @@
 -- What a list of the differences of two streams says of whether they are the same.
-use Rattle.std.proofs.Common.{◌≡◌, ℕ, zero, suc, ◌+◌, ◌<◌, ◌≤◌, Bool, true, false, ◌&&◌, ◌==◌, List, [], ◌∷◌, length, map, refl, sym, ◌∙◌, ap, subst, arith}
+use Rattle.std.proofs.Common.{◌≡◌, ℕ, suc, ◌<◌, Bool, true, false, ◌&&◌, ◌==◌, List, [], ◌∷◌, length, map, refl, sym, ◌∙◌, arith}
 use Rattle.std.specs.Prelude.{◌↔◌, Some}
-use Rattle.std.specs.List.{slice_get}
 use Rattle.std.proofs.lemmas.Bool.{eqb-true}
-use Rattle.yaml_definitions.specs.model.Tree.{Tree, Trees, sequence, end, item}
+use Rattle.yaml_definitions.specs.model.Tree.{Tree, sequence}
 use Rattle.yaml_definitions.specs.model.Same.{Same, Keyed, keyed, keyed_trees, Alike}
-use Rattle.yaml_definitions.proofs.Members.{and_both, both_and}
+use Rattle.yaml_definitions.proofs.Members.{both_and}
 use Rattle.yaml_nodes.specs.TreeLists.{trees}
 use Rattle.yaml_nodes.specs.GraphView.{nodes_of, tree}
 use Rattle.yaml_nodes.specs.declared.node.NodeId.{NodeId}
 use Rattle.yaml_nodes.specs.declared.graph.Graph.{Graph}
 use Rattle.yaml_path.specs.Ways.{Pairing}
-use Rattle.yaml_diff.specs.Lines.{Line, Lists, line_of, way_of, tree_of, sequence_of}
-use Rattle.yaml_diff.specs.Found.{AllWithin, FindsItems, lines_of}
+use Rattle.yaml_diff.specs.Lines.{Lists, line_of, way_of, tree_of}
+use Rattle.yaml_diff.specs.Found.{AllWithin, FindsItems}
 use Rattle.yaml_diff.specs.declared.difference.Found.{Found}
 use Rattle.yaml_diff.specs.declared.difference.Difference.{Difference}
 use Rattle.yaml_diff.proofs.PatchLaws.{empty-same, sequences-alike}

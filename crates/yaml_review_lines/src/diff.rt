@@ -11,13 +11,14 @@ use std::alloc::Global;
 use yaml_diff::{Difference, Found, stream_differences};
 use yaml_nodes::node::NodeId;
 use yaml_place::Place;
+use yaml_review_places::finder::{Finder, Hand, Stream};
+use yaml_review_places::layout::lay_out_from;
+use yaml_review_places::places::{places, unmarked};
+use yaml_review_places::trace::Traced;
 use yaml_review_text::both::Both;
-use yaml_review_text::layout::lay_out;
 use yaml_review_text::lines::{Line, put_more};
-use yaml_review_text::path::{Hand, Stream, offset_of, path_text};
-use yaml_review_text::places::{places, unmarked};
+use yaml_review_text::path::path_text;
 use yaml_review_text::text::{CUT, WHOLE, node_text};
-use yaml_review_text::trace::Traced;
 use yaml_review_words::Diff;
 use yaml_text::fault::Fault;
 
@@ -108,15 +109,10 @@ fn lines_of(
 fn stream_of<'g>(both: &'g Both<'_>, hand: Hand) -> Stream<'g> {
     let (lefts, rights) = both.sides();
     match hand {
-        Hand::Left => Stream {
-            hand,
-            roots: lefts,
-            base: 0,
-        },
+        Hand::Left => Stream { hand, roots: lefts },
         Hand::Right => Stream {
             hand,
             roots: rights,
-            base: both.nodes,
         },
     }
 }
@@ -137,15 +133,14 @@ fn side_places(
     hand: Hand,
     side: Traced<'_>,
 ) -> Result<Vec<(usize, Place)>, Fault> {
-    let layout = lay_out(alloc, side.trace)?;
-    let stream = stream_of(both, hand);
+    let layout = lay_out_from(alloc, side.trace, side.first, side.end)?;
+    let mut finder = Finder::new(alloc, both, stream_of(both, hand), layout);
     let mut offsets = Vec::new(alloc);
     for (number, difference) in list.iter().enumerate() {
         if !has_node(difference, hand) {
             continue;
         }
-        let path = &difference.path;
-        if let Some(offset) = offset_of(both, &layout, stream, path) {
+        if let Some(offset) = finder.offset(alloc, &difference.path)? {
             offsets.push((offset, number))?;
         }
     }

@@ -6,4 +6,3 @@ pub mod OctalLaws
 mod PathLaws
 mod Pieces
 mod ShownLaws
-mod TraceLaws

@@ -4,6 +4,4 @@ pub mod NodeText
 pub mod Objects
 pub mod PathText
 pub mod Shown
-pub mod Trace
-pub mod Told
 pub mod Yaml11

@@ -7,13 +7,11 @@ use yaml_levels::ranks::Ranks;
 use yaml_nodes::graph::Graph;
 use yaml_nodes::node::{Node, NodeId};
 
-/// Two streams in one graph: the nodes and the documents of the left one, then those of the right one.
+/// Two streams in one graph: the documents of the left one, then those of the right one.
 #[derive(Drop)]
 pub struct Both<'a> {
     pub graph: Graph<'a>,
     pub ranks: Ranks,
-    /// How many nodes the left stream has.
-    pub nodes: usize,
     /// How many documents the left stream has.
     pub documents: usize,
     pub ghost long: { length (numbers_of ranks) ≡ length (nodes_of graph) },

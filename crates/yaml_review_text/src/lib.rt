@@ -4,13 +4,9 @@
 pub mod both;
 pub mod fronts;
 pub mod json;
-pub mod layout;
 pub mod lines;
 pub mod path;
-pub mod places;
 pub mod text;
-pub mod trace;
-pub mod trail;
 pub mod words;
 pub mod yaml11;
 

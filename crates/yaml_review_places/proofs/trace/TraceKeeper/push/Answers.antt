@@ -1,0 +1,12 @@
+use Rattle.std.proofs.Common.{◌∷◌, [], length, ◌∙◌, ap}
+use Rattle.yaml_sink.specs.Held.{Puts}
+use Rattle.yaml_text.specs.EventModel.{event_of}
+use Rattle.yaml_review_places.specs.Trace.{TraceHolds}
+use Rattle.yaml_review_places.proofs.TraceLaws.{whatever, traced_put}
+use Rattle.yaml_review_places.proofs.trace.TraceKeeper.push.Goals as goal
+
+pub returns-clause-ok : goal.returns-clause-ok
+returns-clause-ok c =
+    let e = event_of c.args.event.now in
+    whatever (Puts TraceHolds c.args.self.now (e ∷ []) c.note_name.new.self) c.note_name.result
+    (traced_put c.args.self.now c.note_name.new.self e (ap (λ v. length v.items) c.note_name.ensures.events ∙ c.in_ok-put.ensures.ok))
