@@ -2,6 +2,7 @@ mod FrontParts
 mod KeyOrder
 mod Firsts
 mod Overwriting
+mod EqualLaws
 mod Settling
 mod LevelKeys
 mod GroupLaws
@@ -10,6 +11,7 @@ pub mod NumberKeyLaws
 pub mod NodeLaws
 mod KeyLaws
 mod Standing
+mod Repeating
 pub mod Growing
 pub mod Parts
 pub mod StoreLaws

@@ -8,5 +8,6 @@ pub mod LevelModel
 pub mod Ranking
 pub mod TagPlaces
 pub mod StoreView
+pub mod Unranked
 pub mod RanksView
 pub mod Walked

@@ -1,10 +1,13 @@
 -- Parts overwritten by their ranks.
-use Rattle.std.specs.Prelude.{◌≡◌, ℕ, ◌<◌, List, [], length, map, Some}
+use Rattle.std.specs.Prelude.{◌≡◌, ℕ, ◌<◌, List, [], length, map, take, slice_index, Some}
 use Rattle.std.specs.List.{slice_get, slice_index_or}
 use Rattle.std.specs.List.Sorted.{IsPermutation}
-use Rattle.yaml_levels.specs.View.{Inside, content, items, entries, InsideBelow}
+use Rattle.yaml_levels.specs.View.{Inside, content, items, entries, entries_in, InsideBelow}
+use Rattle.yaml_levels.specs.Places.{IsFirstEqual}
 use Rattle.yaml_compact.specs.declared.nodes.Node.{Node}
 use Rattle.yaml_compact.specs.declared.nodes.Place.{Place}
+use Rattle.yaml_compact.specs.declared.unranked.Unranked.{Unranked}
+use Rattle.yaml_compact.specs.declared.unranked.Unranked.TheVariants.{EqualKeys, GivesUp}
 use Rattle.yaml_compact.specs.StoreModel.{place_of, inside_of, PartsWithin, PlacesApart}
 
 abbrev pub two_ranks : (ℕ → ℕ) → ℕ × ℕ → ℕ × ℕ
@@ -42,3 +45,27 @@ pub record LevelSettled (rank : ℕ → ℕ) (nodes : List Node) (level : List �
   pub wide : length fs ≡ length es
   pub here : (text : List ℕ) (k i : ℕ) (s : Node) → slice_get level k ≡ Some i → slice_get nodes i ≡ Some s → PartsRanked rank (inside_of text is es (place_of s)) (inside_of text js fs (place_of s))
   pub others : (text : List ℕ) (i : ℕ) (s : Node) → slice_get nodes i ≡ Some s → ((k : ℕ) → slice_get level k ≡ Some i → ⊥) → inside_of text js fs (place_of s) ≡ inside_of text is es (place_of s)
+
+-- no two of these numbers are equal
+abbrev pub Differ : List ℕ → Type 0
+Differ numbers = (j k : ℕ) → j < k → k < length numbers → slice_index numbers j ≡ slice_index numbers k → ⊥
+
+-- the ranks of a mapping's keys, in the order of its entries
+abbrev pub key_ranks : (ℕ → ℕ) → Inside → List ℕ
+key_ranks rank inside = map (λ p. rank p.0) (entries_in inside)
+
+-- These are the first two keys of one rank of a node of the level, and the parts of the nodes before it can be overwritten.
+pub record LevelEquals (rank : ℕ → ℕ) (nodes : List Node) (level : List ℕ) (is : List ℕ) (es : List (ℕ × ℕ)) (node first second : ℕ) : Type 0 where
+  pub place : ℕ
+  pub stands : slice_get level place ≡ Some node
+  pub stored : Node
+  pub stored_is : slice_get nodes node ≡ Some stored
+  pub equal : IsFirstEqual (key_ranks rank (inside_of [] is es (place_of stored))) first second
+  pub js : List ℕ
+  pub fs : List (ℕ × ℕ)
+  pub before : LevelSettled rank nodes (take place level) is es js fs
+
+-- A node of the level has two keys of one rank, the first ones are told, and no node before it has two. Where it gives up, nothing is told.
+abbrev pub RefusesLevel : (ℕ → ℕ) → List Node → List ℕ → List ℕ → List (ℕ × ℕ) → Unranked → Type 0
+RefusesLevel rank nodes level is es (EqualKeys e) = LevelEquals rank nodes level is es e.node e.first e.second
+RefusesLevel rank nodes level is es GivesUp = Unit {0}

@@ -1,6 +1,7 @@
 //! Nodes in sixteen bytes each, equal ones mostly merged, and their ranks.
 #![tactic(auto)]
 
+mod equal;
 pub mod gives_up;
 mod graph;
 mod groups;
@@ -17,8 +18,10 @@ mod settle;
 mod shorts;
 mod slot;
 pub mod store;
+pub mod unranked;
 mod walked;
 
 pub use gives_up::GivesUp;
 pub use ranking::{Ranked, compact_rank};
 pub use store::Store;
+pub use unranked::{EqualKeys, Unranked};

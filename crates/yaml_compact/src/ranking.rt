@@ -1,9 +1,10 @@
 //! Ranking nodes by number.
-ghost use Rattle.std.specs.Prelude.{◌≡◌, length, IfOk};
+ghost use Rattle.std.specs.Prelude.{◌≡◌, length, IfOk, IfErr};
 ghost use Rattle.yaml_levels.specs.View.{View};
 ghost use Rattle.yaml_compact.specs.Ranking.{Stored, AllRanked};
 ghost use Rattle.yaml_compact.specs.StoreGrows.{Good};
 ghost use Rattle.yaml_compact.specs.StoreView.{StoreRanked};
+ghost use Rattle.yaml_compact.specs.Unranked.{RefusesView, RefusesStore};
 
 use crate::gives_up::GivesUp;
 use crate::level::sorted_slots;
@@ -15,6 +16,7 @@ use crate::places::places;
 use crate::settle::settle;
 use crate::shorts::shorts;
 use crate::store::Store;
+use crate::unranked::Unranked;
 use std::alloc::Global;
 
 /// The nodes of a store with their ranks. Parts are ranks, and the entries of a mapping stand in the order
@@ -55,15 +57,17 @@ fn rank_all(
     items: &mut [u32],
     entries: &mut [(u32, u32)],
     places: &[u32],
-) -> Result<(Vec<u32>, Vec<u32>), GivesUp>
+) -> Result<(Vec<u32>, Vec<u32>), Unranked>
     requires { (v : View) × Stored v nodes.now text.now items.old entries.old places.now }
-    ensures { (v : View) → Stored v nodes.now text.now items.old entries.old places.now → IfOk result (λ made. AllRanked v nodes.now text.now items.new entries.new made.0.items made.1.items) }
+    ensures ok { (v : View) → Stored v nodes.now text.now items.old entries.old places.now → IfOk result (λ made. AllRanked v nodes.now text.now items.new entries.new made.0.items made.1.items) }
+    ensures err { (v : View) → Stored v nodes.now text.now items.old entries.old places.now → IfErr result (RefusesView v) }
 {
     let levels = levels(alloc, nodes)?;
     let mut ranks = zeros(alloc, nodes.len())?;
     let mut first = Vec::new(alloc);
+    let mut keys = Vec::new(alloc);
     for level in &levels {
-        settle(nodes, items, entries, &ranks, level)?;
+        settle(alloc, nodes, items, entries, &ranks, level, &mut keys)?;
         let lists = Lists {
             nodes,
             text,
@@ -77,11 +81,12 @@ fn rank_all(
     Ok((ranks, first))
 }
 
-/// The ranks of all nodes of a store: equal exactly for equal trees, and in the order of trees. Gives up at
-/// a mapping with two equal keys.
-pub fn compact_rank(alloc: Global, store: Store) -> Result<Ranked, GivesUp>
+/// The ranks of all nodes of a store: equal exactly for equal trees, and in the order of trees. Refused is
+/// the mapping of least height, then of least number, with two equal keys, and its first two are told.
+pub fn compact_rank(alloc: Global, store: Store) -> Result<Ranked, Unranked>
     requires { Good store }
-    ensures { (good : Good store) → IfOk result (StoreRanked store good) }
+    ensures ok { (good : Good store) → IfOk result (StoreRanked store good) }
+    ensures err { (good : Good store) → IfErr result (RefusesStore store good) }
 {
     let Store {
         memo: _,

@@ -1,14 +1,18 @@
 //! Parts overwritten by their ranks.
-ghost use Rattle.std.specs.Prelude.{◌≡◌, ℕ, [], ◌<◌, true, map, length, slice_index, Some, IfOk};
+ghost use Rattle.std.specs.Prelude.{◌≡◌, ℕ, [], ◌<◌, true, map, length, slice_index, Some, IfOk, IfErr, MatchOption};
 ghost use Rattle.std.specs.List.{All, slice_get};
 ghost use Rattle.std.specs.List.Sorted.{IsPermutation};
 ghost use Rattle.yaml_levels.specs.View.{InsideBelow};
+ghost use Rattle.yaml_levels.specs.Places.{IsFirstEqual};
 ghost use Rattle.yaml_compact.specs.declared.nodes.Node.{Node};
 ghost use Rattle.yaml_compact.specs.StoreModel.{place_of, inside_of, PartsWithin, Apart};
-ghost use Rattle.yaml_compact.specs.PartsModel.{two_ranks, KeysRise, PlaceSettled, Rising, LevelBelow, LevelSettled};
+ghost use Rattle.yaml_compact.specs.PartsModel.{two_ranks, key_ranks, KeysRise, PlaceSettled, Rising, LevelBelow, LevelSettled, RefusesLevel};
 
+use crate::equal::{copy_keys, first_equal};
 use crate::gives_up::GivesUp;
 use crate::nodes::{Node, Place};
+use crate::unranked::{EqualKeys, Unranked};
+use std::alloc::Global;
 
 /// Puts the rank of each number in its place.
 pub(crate) fn overwrite(items: &mut [u32], ranks: &[u32])
@@ -42,63 +46,83 @@ fn rises(entries: &[(u32, u32)]) -> bool
     true
 }
 
-/// Puts entries in the order of their keys; two equal keys are refused.
-fn arrange(entries: &mut [(u32, u32)]) -> bool
-    ensures same { IsPermutation entries.old entries.new }
-    ensures order { result ≡ true → KeysRise entries.new }
+/// Puts entries in the order of their keys. Told are the first two equal keys, if there are some: the
+/// keys are copied only where the order is lost.
+fn arrange(
+    alloc: Global,
+    entries: &mut [(u32, u32)],
+    keys: &mut Vec<u32>,
+) -> Result<Option<(usize, usize)>, GivesUp>
+    ensures { IfOk result (λ equal. MatchOption equal (IsPermutation entries.old entries.new × KeysRise entries.new) (λ places. IsFirstEqual (map (λ p. p.0) entries.old) places.0 places.1)) }
 {
     if rises(entries) {
-        return true;
+        return Ok(None);
     }
+    copy_keys(entries, keys)?;
     entries.sort_unstable();
-    rises(entries)
+    if rises(entries) {
+        return Ok(None);
+    }
+    first_equal(alloc, keys)
 }
 
-/// Overwrites the parts of a node by their ranks, the entries of a mapping in the order of their keys; two
-/// equal keys are refused.
+/// Overwrites the parts of a node by their ranks, the entries of a mapping in the order of their keys.
+/// Told are the first two equal keys, if there are some.
 fn settle_one(
+    alloc: Global,
     place: Place,
     items: &mut [u32],
     entries: &mut [(u32, u32)],
     ranks: &[u32],
-) -> Result<(), GivesUp>
+    keys: &mut Vec<u32>,
+) -> Result<Option<(usize, usize)>, GivesUp>
     requires within { PartsWithin (length items.old) (length entries.old) place }
     requires parts { InsideBelow (length ranks.now) (inside_of [] items.old entries.old place) }
-    ensures { IfOk result (λ _. PlaceSettled (slice_index ranks.now) place items.old entries.old items.new entries.new) }
+    ensures { IfOk result (λ equal. MatchOption equal (PlaceSettled (slice_index ranks.now) place items.old entries.old items.new entries.new) (λ places. IsFirstEqual (key_ranks (slice_index ranks.now) (inside_of [] items.old entries.old place)) places.0 places.1)) }
 {
     match place {
-        Place::Scalar(_) => {}
+        Place::Scalar(_) => Ok(None),
         Place::Sequence(span) => {
             overwrite(&mut items[span.start as usize..span.end as usize], ranks);
+            Ok(None)
         }
         Place::Mapping(span) => {
             let part = &mut entries[span.start as usize..span.end as usize];
             overwrite_entries(part, ranks);
-            if !arrange(part) {
-                return Err(GivesUp);
-            }
+            arrange(alloc, part, keys)
         }
     }
-    Ok(())
 }
 
-/// Overwrites the parts of the nodes of one height by their ranks.
+/// Overwrites the parts of the nodes of one height by their ranks; two equal keys are refused. The keys
+/// are room for copies, whatever stands there.
 pub(crate) fn settle(
+    alloc: Global,
     nodes: &[Node],
     items: &mut [u32],
     entries: &mut [(u32, u32)],
     ranks: &[u32],
     level: &[u32],
-) -> Result<(), GivesUp>
+    keys: &mut Vec<u32>,
+) -> Result<(), Unranked>
     requires numbers { All (λ i. i < length nodes.now) level.now }
     requires once { Rising level.now }
     requires within { (i : ℕ) (s : Node) → slice_get nodes.now i ≡ Some s → PartsWithin (length items.old) (length entries.old) (place_of s) }
     requires apart { Apart nodes.now }
     requires below { LevelBelow (length ranks.now) nodes.now level.now items.old entries.old }
-    ensures { IfOk result (λ _. LevelSettled (slice_index ranks.now) nodes.now level.now items.old entries.old items.new entries.new) }
+    ensures ok { IfOk result (λ _. LevelSettled (slice_index ranks.now) nodes.now level.now items.old entries.old items.new entries.new) }
+    ensures err { IfErr result (RefusesLevel (slice_index ranks.now) nodes.now level.now items.old entries.old) }
 {
     for number in level {
-        settle_one(nodes[*number as usize].place(), items, entries, ranks)?;
+        let place = nodes[*number as usize].place();
+        if let Some((first, second)) = settle_one(alloc, place, items, entries, ranks, keys)? {
+            let node = *number;
+            return Err(Unranked::EqualKeys(EqualKeys {
+                node,
+                first,
+                second,
+            }));
+        }
     }
     Ok(())
 }

@@ -76,7 +76,7 @@ sorted_slots-requires-clause-numbers c =
     let again = c.deref-in-loop-level-2.result.now in
     let same : again ≡ level = c.deref-in-loop-level-2.ensures.value ∙ sym c.deref-in-loop-level.ensures.value in
     let ranks = c.loop-level.ranks.items in
-    let settled : LevelSettled (slice_index ranks) nodes level c.loop-level.items c.loop-level.entries c.settle.new.items c.settle.new.entries = subst (λ z. LevelSettled (slice_index z) nodes level c.loop-level.items c.loop-level.entries c.settle.new.items c.settle.new.entries) c.deref.ensures.value c.in_ok-settle.ensures in
+    let settled : LevelSettled (slice_index ranks) nodes level c.loop-level.items c.loop-level.entries c.settle.new.items c.settle.new.entries = subst (λ z. LevelSettled (slice_index z) nodes level c.loop-level.items c.loop-level.entries c.settle.new.items c.settle.new.entries) c.deref.ensures.value c.in_ok-settle.ensures.ok in
     subst (All (λ n. n < length nodes)) (sym same) (level-numbers v nodes text olds pairs places store ls are i level is)
 
 pub sorted_slots-requires-clause-range : goal.sorted_slots-requires-clause-range
@@ -96,7 +96,7 @@ sorted_slots-requires-clause-range c =
     let again = c.deref-in-loop-level-2.result.now in
     let same : again ≡ level = c.deref-in-loop-level-2.ensures.value ∙ sym c.deref-in-loop-level.ensures.value in
     let ranks = c.loop-level.ranks.items in
-    let settled : LevelSettled (slice_index ranks) nodes level c.loop-level.items c.loop-level.entries c.settle.new.items c.settle.new.entries = subst (λ z. LevelSettled (slice_index z) nodes level c.loop-level.items c.loop-level.entries c.settle.new.items c.settle.new.entries) c.deref.ensures.value c.in_ok-settle.ensures in
+    let settled : LevelSettled (slice_index ranks) nodes level c.loop-level.items c.loop-level.entries c.settle.new.items c.settle.new.entries = subst (λ z. LevelSettled (slice_index z) nodes level c.loop-level.items c.loop-level.entries c.settle.new.items c.settle.new.entries) c.deref.ensures.value c.in_ok-settle.ensures.ok in
     record { within = settled-within v nodes text olds pairs places store ls are i level is c.loop-level.items c.loop-level.entries c.loop-level.ranks.items c.loop-level.first.items (c.loop-level.invariant v store) c.settle.new.items c.settle.new.entries settled; small = store.small }
 
 pub sorted_slots-requires-clause-fit : goal.sorted_slots-requires-clause-fit
@@ -116,7 +116,7 @@ sorted_slots-requires-clause-fit c =
     let again = c.deref-in-loop-level-2.result.now in
     let same : again ≡ level = c.deref-in-loop-level-2.ensures.value ∙ sym c.deref-in-loop-level.ensures.value in
     let ranks = c.loop-level.ranks.items in
-    let settled : LevelSettled (slice_index ranks) nodes level c.loop-level.items c.loop-level.entries c.settle.new.items c.settle.new.entries = subst (λ z. LevelSettled (slice_index z) nodes level c.loop-level.items c.loop-level.entries c.settle.new.items c.settle.new.entries) c.deref.ensures.value c.in_ok-settle.ensures in
+    let settled : LevelSettled (slice_index ranks) nodes level c.loop-level.items c.loop-level.entries c.settle.new.items c.settle.new.entries = subst (λ z. LevelSettled (slice_index z) nodes level c.loop-level.items c.loop-level.entries c.settle.new.items c.settle.new.entries) c.deref.ensures.value c.in_ok-settle.ensures.ok in
     subst (LevelFits nodes text c.settle.new.items c.settle.new.entries) (sym same) (level-fits v nodes text olds pairs places store ls are i level is c.loop-level.items c.loop-level.entries c.loop-level.ranks.items c.loop-level.first.items (c.loop-level.invariant v store) c.settle.new.items c.settle.new.entries settled)
 
 pub number-requires-clause-range : goal.number-requires-clause-range
@@ -136,7 +136,7 @@ number-requires-clause-range c =
     let again = c.deref-in-loop-level-2.result.now in
     let same : again ≡ level = c.deref-in-loop-level-2.ensures.value ∙ sym c.deref-in-loop-level.ensures.value in
     let ranks = c.loop-level.ranks.items in
-    let settled : LevelSettled (slice_index ranks) nodes level c.loop-level.items c.loop-level.entries c.settle.new.items c.settle.new.entries = subst (λ z. LevelSettled (slice_index z) nodes level c.loop-level.items c.loop-level.entries c.settle.new.items c.settle.new.entries) c.deref.ensures.value c.in_ok-settle.ensures in
+    let settled : LevelSettled (slice_index ranks) nodes level c.loop-level.items c.loop-level.entries c.settle.new.items c.settle.new.entries = subst (λ z. LevelSettled (slice_index z) nodes level c.loop-level.items c.loop-level.entries c.settle.new.items c.settle.new.entries) c.deref.ensures.value c.in_ok-settle.ensures.ok in
     record { within = settled-within v nodes text olds pairs places store ls are i level is c.loop-level.items c.loop-level.entries c.loop-level.ranks.items c.loop-level.first.items (c.loop-level.invariant v store) c.settle.new.items c.settle.new.entries settled; small = store.small }
 
 pub number-requires-clause-within : goal.number-requires-clause-within
@@ -156,7 +156,7 @@ number-requires-clause-within c =
     let again = c.deref-in-loop-level-2.result.now in
     let same : again ≡ level = c.deref-in-loop-level-2.ensures.value ∙ sym c.deref-in-loop-level.ensures.value in
     let ranks = c.loop-level.ranks.items in
-    let settled : LevelSettled (slice_index ranks) nodes level c.loop-level.items c.loop-level.entries c.settle.new.items c.settle.new.entries = subst (λ z. LevelSettled (slice_index z) nodes level c.loop-level.items c.loop-level.entries c.settle.new.items c.settle.new.entries) c.deref.ensures.value c.in_ok-settle.ensures in
+    let settled : LevelSettled (slice_index ranks) nodes level c.loop-level.items c.loop-level.entries c.settle.new.items c.settle.new.entries = subst (λ z. LevelSettled (slice_index z) nodes level c.loop-level.items c.loop-level.entries c.settle.new.items c.settle.new.entries) c.deref.ensures.value c.in_ok-settle.ensures.ok in
     let before = c.loop-level.invariant v store in
     let numbers = subst (λ n. All (λ i. i < n) again) (sym (ap length c.deref_mut.ensures.value ∙ before.long)) (subst (All (λ n. n < length nodes)) (sym same) (level-numbers v nodes text olds pairs places store ls are i level is)) in
     let found = slots-within _ nodes text c.settle.new.items c.settle.new.entries places (λ s. refl) again c.in_ok-slots.slots.items c.in_ok-slots.ensures.ok (length c.deref_mut.result.now) numbers in
@@ -180,7 +180,7 @@ loop-level-preserved c = λ v store.
     let again = c.deref-in-loop-level-2.result.now in
     let same : again ≡ level = c.deref-in-loop-level-2.ensures.value ∙ sym c.deref-in-loop-level.ensures.value in
     let ranks = c.loop-level.ranks.items in
-    let settled : LevelSettled (slice_index ranks) nodes level c.loop-level.items c.loop-level.entries c.settle.new.items c.settle.new.entries = subst (λ z. LevelSettled (slice_index z) nodes level c.loop-level.items c.loop-level.entries c.settle.new.items c.settle.new.entries) c.deref.ensures.value c.in_ok-settle.ensures in
+    let settled : LevelSettled (slice_index ranks) nodes level c.loop-level.items c.loop-level.entries c.settle.new.items c.settle.new.entries = subst (λ z. LevelSettled (slice_index z) nodes level c.loop-level.items c.loop-level.entries c.settle.new.items c.settle.new.entries) c.deref.ensures.value c.in_ok-settle.ensures.ok in
     let next = c.number.new.ranks in
     let after = c.number.new.first.items in
     let numbered = level-numbered _ nodes text c.settle.new.items c.settle.new.entries places again level c.in_ok-slots.slots.items c.deref-in-loop-level-3.result.now c.deref_mut.result.now next c.loop-level.first.items after same c.deref-in-loop-level-3.ensures.value c.in_ok-slots.ensures.ok c.in_ok-number.ensures.ok in
@@ -189,8 +189,8 @@ loop-level-preserved c = λ v store.
     let e : (with_items b next).items ≡ next = with_items_is b next (omega (arith, num.numbered.long, b.ok.0)) in
     subst (λ z. Standing v nodes text olds pairs c.settle.new.items c.settle.new.entries (with_items b next).items after z) (sym (add-one i)) (subst (λ z. Standing v nodes text olds pairs c.settle.new.items c.settle.new.entries z after (suc i)) (sym e) (standing-more v nodes text olds pairs places store ls are i level is c.loop-level.items c.loop-level.entries c.loop-level.ranks.items c.loop-level.first.items (c.loop-level.invariant v store) c.settle.new.items c.settle.new.entries settled next after num))
 
-pub returns : goal.returns
-returns c = λ v store.
+pub returns-clause-ok : goal.returns-clause-ok
+returns-clause-ok c = λ v store.
     let nodes = c.args.nodes.now in
     let ls = c.deref-level-items.result.now in
     let are : LevelsBy (height_at nodes) (length nodes) ls = subst (LevelsBy (height_at nodes) (length nodes)) (sym c.deref-level-items.ensures.value) c.in_ok-levels.ensures.ok in
