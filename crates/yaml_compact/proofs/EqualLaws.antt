@@ -1,5 +1,6 @@
 -- Numbers that differ, and entries in the order of their keys.
 use Rattle.std.proofs.Common.{◌≡◌, inl, inr, ℕ, ◌<◌, Bool, true, false, List, length, map, get_or, slice_index, refl, sym, ◌∙◌, ap, subst, arith}
+use Rattle.std.specs.Prelude.{Option, None, Some, MatchOption, Result, Ok, Err, IfOk}
 use Rattle.std.specs.List.Sorted.{IsPermutation, IsSorted}
 use Rattle.std.specs.Ordering.{nat_cmp, is_lt, is_eq, ordering_reverse}
 use Rattle.std.specs.declared.cmp.Ordering.{Ordering}
@@ -9,7 +10,7 @@ use Rattle.std.proofs.lemmas.List.{length-map}
 use Rattle.std.proofs.lemmas.List.Sorted.{ranks_by, sorted_far, length_permutation}
 use Rattle.std.proofs.lemmas.Map.Keys.{IsDistinct-from_apart, IsDistinct-IsPermutation, apart_from_distinct}
 use Rattle.yaml_levels.specs.KeyModel.{pair_cmp}
-use Rattle.yaml_levels.specs.Places.{at, InOrder, AllRise}
+use Rattle.yaml_levels.specs.Places.{at, InOrder, AllRise, IsFirstEqual}
 use Rattle.yaml_levels.proofs.Numbers.{pair_cmp-total, pair-upto, less-cmp, equal-cmp, greater-cmp}
 use Rattle.yaml_levels.proofs.Lists.{get_or-any, get_or-map}
 use Rattle.yaml_compact.specs.PartsModel.{KeysRise, Differ}
@@ -27,6 +28,11 @@ all-differ numbers order is rise j k l m e =
     by f s c d f0 f1 s0 s1 Less q = let r = rise f s (less-cmp f s q) d in omega arith
     by f s c d f0 f1 s0 s1 Equal q = let h : (at order f).1 ≡ (at order s).1 = ap (λ z. (at order z).1) (equal-cmp f s q) in omega arith
     by f s c d f0 f1 s0 s1 Greater q = let r = rise s f (greater-cmp f s q) c in omega arith
+
+-- no two neighbours are equal, or the first two equal ones are told
+pub equal-or-differ : (numbers : List ℕ) (order : List (ℕ × ℕ)) → InOrder numbers order → (equal : Option (ℕ × ℕ)) → MatchOption equal (AllRise order) (λ p. IsFirstEqual numbers p.0 p.1) → MatchOption equal (Differ numbers) (λ p. IsFirstEqual numbers p.0 p.1)
+equal-or-differ numbers order is None h = all-differ numbers order is h
+equal-or-differ numbers order is (Some p) h = h
 
 -- ---- entries of which no two keys are equal
 
@@ -68,3 +74,9 @@ sorted-rise old new p s differ j k d l m =
 
     olds : (i n : ℕ) (e : ℕ × ℕ) → i < n → n < length old → same_key (get_or old i e) (get_or old n e) ≡ false
     olds i n e o q = unequal (get_or old i e).0 (get_or old n e).0 (λ r. differ i n o (omega (arith, length-map old (λ (z : ℕ × ℕ). z.0))) (key-at i e (omega arith) ∙ (r ∙ sym (key-at n e q))))
+
+pub arranged-or-equal : {E : Type 0} (old new : List (ℕ × ℕ)) (keys : List ℕ) → keys ≡ map (λ p. p.0) old → IsPermutation old new → IsSorted pair_cmp new → (r : Result (Option (ℕ × ℕ)) E) → IfOk r (λ equal. MatchOption equal (Differ keys) (λ p. IsFirstEqual keys p.0 p.1))
+    → IfOk r (λ equal. MatchOption equal (IsPermutation old new × KeysRise new) (λ p. IsFirstEqual (map (λ q. q.0) old) p.0 p.1))
+arranged-or-equal old new keys e p s (Ok None) h = (p, sorted-rise old new p s (subst Differ e h))
+arranged-or-equal old new keys e p s (Ok (Some places)) h = subst (λ z. IsFirstEqual z places.0 places.1) e h
+arranged-or-equal old new keys e p s (Err e2) h = h

@@ -1,6 +1,6 @@
 -- One node's parts are overwritten, and no others.
 use Rattle.std.proofs.Common.{◌≡◌, inl, inr, ℕ, zero, suc, ◌+◌, ◌-◌, ◌<◌, List, [], ◌∷◌, ◌++◌, length, map, take, drop, get_or, add-one, refl, sym, ◌∙◌, ap, subst, arith, length-append, length-take, length-drop}
-use Rattle.std.specs.Prelude.{Some}
+use Rattle.std.specs.Prelude.{Option, None, Some, MatchOption, Result, Ok, Err, IfOk}
 use Rattle.std.proofs.Math.Seq.{take-suc}
 use Rattle.std.specs.List.{slice_get, slice_range}
 use Rattle.std.specs.List.Sorted.{IsPermutation}
@@ -13,12 +13,13 @@ use Rattle.yaml_nodes.proofs.GraphLaws.{get-more}
 use Rattle.yaml_levels.proofs.Numbering.{get-there, get-within, one-there}
 use Rattle.yaml_levels.proofs.LevelLaws.{push-get, take-get}
 use Rattle.yaml_levels.specs.View.{items, entries}
+use Rattle.yaml_levels.specs.Places.{IsFirstEqual}
 use Rattle.yaml_compact.specs.declared.nodes.Span.{Span}
 use Rattle.yaml_compact.specs.declared.nodes.Node.{Node}
 use Rattle.yaml_compact.specs.declared.nodes.Place.{Place}
 use Rattle.yaml_compact.specs.declared.nodes.Place.TheVariants.{Scalar, Sequence, Mapping}
 use Rattle.yaml_compact.specs.StoreModel.{place_of, inside_of, SpanWithin, PartsWithin, SpansApart, Apart, PlacesApart}
-use Rattle.yaml_compact.specs.PartsModel.{two_ranks, KeysRise, PartsRanked, PlaceSettled, LevelSettled, Rising}
+use Rattle.yaml_compact.specs.PartsModel.{two_ranks, key_ranks, KeysRise, PartsRanked, PlaceSettled, LevelSettled, LevelEquals, Rising}
 
 module _ {X : Type 0} (s : Span) (xs ys : List X) (within : SpanWithin (length xs) s) (long : length ys ≡ s.end - s.start) where
   abbrev pub put : List X
@@ -88,6 +89,19 @@ module _ (rank : ℕ → ℕ) (is : List ℕ) (es : List (ℕ × ℕ)) where
       other-place ys long (Sequence t) text a v = refl
       other-place ys long (Mapping t) text a v = ap entries (put-other s es ys w long t a v)
 
+  keys-told : (xs : List (ℕ × ℕ)) → map (λ p. p.0) (map (two_ranks rank) xs) ≡ map (λ p. rank p.0) xs
+  keys-told [] = refl
+  keys-told (x ∷ xs) = ap (λ z. rank x.0 ∷ z) (keys-told xs)
+
+  -- its entries are arranged, or its first two equal keys are told
+  pub mapping-told : {E : Type 0} (place : Place) (s : Span) → place ≡ Mapping s → SpanWithin (length es) s → (mid ys : List (ℕ × ℕ)) → mid ≡ map (two_ranks rank) (slice_range es s.start s.end) → (r : Result (Option (ℕ × ℕ)) E)
+      → IfOk r (λ equal. MatchOption equal (IsPermutation mid ys × KeysRise ys) (λ p. IsFirstEqual (map (λ q. q.0) mid) p.0 p.1))
+      → IfOk r (λ equal. MatchOption equal (PlaceSettled rank place is es is (put_mid s.start (s.end - s.start) es ys)) (λ p. IsFirstEqual (key_ranks rank (inside_of [] is es place)) p.0 p.1))
+  mapping-told place s e w mid ys q (Ok None) h = mapping-settled place s e w mid ys q h.0 h.1
+  mapping-told place s e w mid ys q (Ok (Some p)) h =
+      subst (λ k. IsFirstEqual (key_ranks rank (inside_of [] is es k)) p.0 p.1) (sym e) (subst (λ z. IsFirstEqual z p.0 p.1) (ap (map (λ (z : ℕ × ℕ). z.0)) q ∙ keys-told (slice_range es s.start s.end)) h)
+  mapping-told place s e w mid ys q (Err x) h = h
+
 -- ---- one more node of a level
 
 get-take : {X : Type 0} (xs : List X) (n i : ℕ) (x : X) → i < n → slice_get (take n xs) i ≡ Some x → slice_get xs i ≡ Some x
@@ -114,6 +128,19 @@ module _ (rank : ℕ → ℕ) (nodes : List Node) (level : List ℕ) (is : List 
 
     pub inside-now : (text : List ℕ) → inside_of text js fs (place_of s) ≡ inside_of text is es (place_of s)
     inside-now text = before.others text n s there not-before
+
+    -- its first two equal keys are those of the level
+    pub equals-now : (first second : ℕ) → IsFirstEqual (key_ranks rank (inside_of [] js fs (place_of s))) first second → LevelEquals rank nodes level is es n first second
+    equals-now first second e = record {
+      place = k;
+      stands = get-there level k 0 inside;
+      stored = s;
+      stored_is = there;
+      equal = subst (λ z. IsFirstEqual (key_ranks rank z) first second) (inside-now []) e;
+      js = js;
+      fs = fs;
+      before = before;
+    }
 
     module _ (gs : List ℕ) (hs : List (ℕ × ℕ)) (done : PlaceSettled rank (place_of s) js fs gs hs) where
       more-level : take (k + 1) level ≡ take k level ++ (n ∷ [])

@@ -115,7 +115,8 @@ pub(crate) fn settle(
 {
     for number in level {
         let place = nodes[*number as usize].place();
-        if let Some((first, second)) = settle_one(alloc, place, items, entries, ranks, keys)? {
+        let equal = settle_one(alloc, place, items, entries, ranks, keys)?;
+        if let Some((first, second)) = equal {
             let node = *number;
             return Err(Unranked::EqualKeys(EqualKeys {
                 node,
