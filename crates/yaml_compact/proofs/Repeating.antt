@@ -44,43 +44,43 @@ module _ (v : View) (rank : ℕ → ℕ) (h : ℕ) (right : Ranks v rank h) wher
       equal-cmp (rank i) (rank j) (right.agrees i j a b ∙ subst (λ z. tree_cmp (arranged (v.tree i)) z ≡ Equal) q (tied_itself tree_cmp-total (arranged (v.tree i))))
 
   module _ (m : ℕ) (within : m < v.count) (low : height (v.tree m) ≤ h) where
-    abbrev es : List (ℕ × ℕ)
-    es = entries_in (v.inside m)
+    abbrev parts : List (ℕ × ℕ)
+    parts = entries_in (v.inside m)
 
     -- keys and values are lower than their mapping
-    parts-lower : All (λ p. Lower v h p.0 × Lower v h p.1) es
+    parts-lower : All (λ p. Lower v h p.0 × Lower v h p.1) parts
     parts-lower = by (v.inside m) (v.made m within) (v.below m within)
       where
         by : (inside : Inside) → v.tree m ≡ inside_tree v.tree (v.tag m) inside → InsideBelow m inside → All (λ p. Lower v h p.0 × Lower v h p.1) (entries_in inside)
         by (content x) e b k d l = absurd (omega arith)
         by (items is) e b k d l = absurd (omega arith)
-        by (entries es) e b = pairs-all v rank h right m es within b.1 (let f = ap height e in omega arith)
+        by (entries es) e b k d l = pairs-all v rank h right m es within b.1 (let f = ap height e in omega arith) k d l
 
-    rank-at : (i : ℕ) → i < length es → slice_index (key_ranks rank (v.inside m)) i ≡ rank (get_or es i (0, 0)).0
-    rank-at i l = get_or-map (λ p. rank p.0) es i (0, 0) 0 l
+    rank-at : (i : ℕ) → i < length parts → slice_index (key_ranks rank (v.inside m)) i ≡ rank (get_or parts i (0, 0)).0
+    rank-at i l = get_or-map (λ p. rank p.0) parts i (0, 0) 0 l
 
     pub first-repeats : (first second : ℕ) → IsFirstEqual (key_ranks rank (v.inside m)) first second → FirstRepeats v m first second
     first-repeats first second q =
-        let long = length-map es (λ p. rank p.0) in
-        let w : second < length es = omega (arith, q.within) in
-        let u : first < length es = omega (arith, q.in_order) in
+        let long = length-map parts (λ p. rank p.0) in
+        let w : second < length parts = omega (arith, q.within) in
+        let u : first < length parts = omega (arith, q.in_order) in
         record {
           is = record {
             within = within;
             in_order = q.in_order;
-            earlier = get_or es first (0, 0);
-            later = get_or es second (0, 0);
-            earlier_is = get-there es first (0, 0) u;
-            later_is = get-there es second (0, 0) w;
-            equal = rank-same (get_or es first (0, 0)).0 (get_or es second (0, 0)).0 (parts-lower first (0, 0) u).0 (parts-lower second (0, 0) w).0 (sym (rank-at first u) ∙ (q.equal ∙ rank-at second w));
+            earlier = get_or parts first (0, 0);
+            later = get_or parts second (0, 0);
+            earlier_is = get-there parts first (0, 0) u;
+            later_is = get-there parts second (0, 0) w;
+            equal = rank-same (get_or parts first (0, 0)).0 (get_or parts second (0, 0)).0 (parts-lower first (0, 0) u).0 (parts-lower second (0, 0) w).0 (sym (rank-at first u) ∙ (q.equal ∙ rank-at second w));
           };
           before = λ f s e.
-              let a = get-within es f e.earlier e.earlier_is in
-              let b = get-within es s e.later e.later_is in
-              let x : get_or es f (0, 0) ≡ e.earlier = get_or_from_slice_get es f e.earlier (0, 0) e.earlier_is in
-              let y : get_or es s (0, 0) ≡ e.later = get_or_from_slice_get es s e.later (0, 0) e.later_is in
-              let same : Same (v.tree (get_or es f (0, 0)).0) (v.tree (get_or es s (0, 0)).0) = subst (λ (z : ℕ × ℕ). Same (v.tree z.0) (v.tree (get_or es s (0, 0)).0)) (sym x) (subst (λ (z : ℕ × ℕ). Same (v.tree e.earlier.0) (v.tree z.0)) (sym y) e.equal) in
-              let r = same-rank (get_or es f (0, 0)).0 (get_or es s (0, 0)).0 (parts-lower f (0, 0) a).0 (parts-lower s (0, 0) b).0 same in
+              let a = get-within parts f e.earlier e.earlier_is in
+              let b = get-within parts s e.later e.later_is in
+              let x : get_or parts f (0, 0) ≡ e.earlier = get_or_from_slice_get parts f e.earlier (0, 0) e.earlier_is in
+              let y : get_or parts s (0, 0) ≡ e.later = get_or_from_slice_get parts s e.later (0, 0) e.later_is in
+              let same : Same (v.tree (get_or parts f (0, 0)).0) (v.tree (get_or parts s (0, 0)).0) = subst (λ (z : ℕ × ℕ). Same (v.tree z.0) (v.tree (get_or parts s (0, 0)).0)) (sym x) (subst (λ (z : ℕ × ℕ). Same (v.tree e.earlier.0) (v.tree z.0)) (sym y) e.equal) in
+              let r = same-rank (get_or parts f (0, 0)).0 (get_or parts s (0, 0)).0 (parts-lower f (0, 0) a).0 (parts-lower s (0, 0) b).0 same in
               q.before f s e.in_order (omega arith) (rank-at f a ∙ (r ∙ sym (rank-at s b)));
         }
 

@@ -1,7 +1,8 @@
-use Rattle.std.proofs.Common.{ℕ, Vec, Global, map, subst}
+use Rattle.std.proofs.Common.{ℕ, Vec, Global, map, subst, rules}
 use Rattle.std.specs.String.{string_bytes}
 use Rattle.yaml_compact.specs.TagPlaces.{PlacesAre}
 use Rattle.yaml_compact.specs.StoreView.{view_of}
+use Rattle.yaml_compact.specs.Unranked.{RefusesStore}
 use Rattle.yaml_compact.proofs.StoreOf.{stored-as, listed-as}
 use Rattle.yaml_compact.proofs.ranking.compact_rank.Goals as goal
 
@@ -23,3 +24,10 @@ returns-clause-ok c = λ good.
     let are = subst (λ z. PlacesAre (map string_bytes z) c.in_ok-places.places.items) c.deref.ensures.value c.in_ok-places.ensures.ok in
     let listed = λ (shorts : Vec ℕ Global). listed-as s good c.in_ok-places.places.items are _ _ _ _ _ _ _ c.in_ok-ranks.ranks c.in_ok-ranks.first shorts c.deref-2.ensures.value c.as_bytes.ensures.value c.deref_mut.ensures.value c.deref_mut-2.ensures.value c.deref-3.ensures.value c.rank_all.auto.items c.rank_all.auto.entries (c.in_ok-ranks.ensures.ok (view_of s good)) in
     record { listed = listed _; shorts = c.in_ok-ranked.ensures s good (listed c.new.result) }
+
+pub returns-in_err-ranks-clause-err : goal.returns-in_err-ranks-clause-err
+returns-in_err-ranks-clause-err c = λ good.
+    let s = c.args.store in
+    let are = subst (λ z. PlacesAre (map string_bytes z) c.in_ok-places.places.items) c.deref.ensures.value c.in_ok-places.ensures.ok in
+    let told : RefusesStore s good c.in_err-ranks.field-0.0 = c.in_err-ranks.ensures.err (view_of s good) (stored-as s good c.in_ok-places.places.items are _ _ _ _ _ c.deref-2.ensures.value c.as_bytes.ensures.value c.deref_mut.ensures.value c.deref_mut-2.ensures.value c.deref-3.ensures.value) in
+    search (rules, told)

@@ -1,12 +1,14 @@
-use Rattle.std.proofs.Common.{◌≡◌, ◌<◌, suc, length, slice_index, add-one, refl, sym, ◌∙◌, ap, subst, arith}
+use Rattle.std.proofs.Common.{◌≡◌, ◌<◌, suc, length, slice_index, add-one, refl, sym, ◌∙◌, ap, subst, arith, rules}
 use Rattle.std.specs.List.{All}
 use Rattle.std.specs.Vec.{with_items}
 use Rattle.std.proofs.lemmas.List.{with_items_is}
 use Rattle.yaml_levels.specs.LevelsModel.{level_of, LevelsBy}
 use Rattle.yaml_levels.proofs.LevelsLaws.{level-there}
 use Rattle.yaml_compact.specs.StoreModel.{height_at}
-use Rattle.yaml_compact.specs.PartsModel.{LevelBelow, LevelSettled}
+use Rattle.yaml_compact.specs.PartsModel.{LevelBelow, LevelSettled, RefusesLevel}
 use Rattle.yaml_compact.specs.LevelModel.{LevelFits, LevelNumbered}
+use Rattle.yaml_compact.specs.Unranked.{RefusesView}
+use Rattle.yaml_compact.proofs.Repeating.{level-refused}
 use Rattle.yaml_compact.proofs.SlotLaws.{slots-within, level-numbered}
 use Rattle.yaml_compact.proofs.Standing.{Standing, level-numbers, level-rising, level-below, level-fits, settled-within, standing-more, standing-done, levels-end}
 use Rattle.yaml_compact.proofs.ranking.rank_all.Goals as goal
@@ -196,3 +198,21 @@ returns-clause-ok c = λ v store.
     let are : LevelsBy (height_at nodes) (length nodes) ls = subst (LevelsBy (height_at nodes) (length nodes)) (sym c.deref-level-items.ensures.value) c.in_ok-levels.ensures.ok in
     standing-done v nodes c.args.text.now c.args.items.now c.args.entries.now c.args.places.now store c.loop-level.items c.loop-level.entries c.loop-level.ranks.items c.loop-level.first.items c.loop-level.level-index (c.loop-level.invariant v store)
     (λ i l. let w = levels-end v nodes c.args.text.now c.args.items.now c.args.entries.now c.args.places.now store ls are i l in omega (arith, c.loop-level-test.false))
+
+pub returns-in_err-settle-clause-err : goal.returns-in_err-settle-clause-err
+returns-in_err-settle-clause-err c = λ v store.
+    let nodes = c.args.nodes.now in
+    let text = c.args.text.now in
+    let olds = c.args.items.now in
+    let pairs = c.args.entries.now in
+    let places = c.args.places.now in
+    let ls = c.deref-level-items.result.now in
+    let i = c.loop-level.level-index in
+    let are : LevelsBy (height_at nodes) (length nodes) ls = subst (LevelsBy (height_at nodes) (length nodes)) (sym c.deref-level-items.ensures.value) c.in_ok-levels.ensures.ok in
+    let level = c.deref-in-loop-level.result.now in
+    let is : level ≡ level_of ls i = c.deref-in-loop-level.ensures.value ∙ (ap (λ z. z.items) c.level-item.is ∙ level-there ls i c.level-item.result c.loop-level-test.true) in
+    let ranks = c.loop-level.ranks.items in
+    let unranked = c.in_err-settle.field-0.0 in
+    let refused = subst (λ z. RefusesLevel (slice_index z) nodes level c.loop-level.items c.loop-level.entries unranked) c.deref.ensures.value c.in_err-settle.ensures.err in
+    let told : RefusesView v unranked = level-refused v nodes text olds pairs places store ls are i level is c.loop-level.items c.loop-level.entries ranks c.loop-level.first.items (c.loop-level.invariant v store) unranked refused in
+    search (rules, told)
