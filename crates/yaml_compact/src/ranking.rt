@@ -2,7 +2,7 @@
 ghost use Rattle.std.specs.Prelude.{◌≡◌, length, IfOk};
 ghost use Rattle.yaml_levels.specs.View.{View};
 ghost use Rattle.yaml_compact.specs.Ranking.{Stored, AllRanked};
-ghost use Rattle.yaml_compact.specs.StoreGrows.{Good};
+ghost use Rattle.yaml_compact.specs.StoreGrows.{Good, IsLow};
 ghost use Rattle.yaml_compact.specs.StoreView.{StoreRanked};
 
 use crate::gives_up::GivesUp;
@@ -80,7 +80,8 @@ fn rank_all(
 /// The ranks of all nodes of a store: equal exactly for equal trees, and in the order of trees. Gives up at
 /// a mapping with two equal keys.
 pub fn compact_rank(alloc: Global, store: Store) -> Result<Ranked, GivesUp>
-    requires { Good store }
+    requires good { Good store }
+    requires low { IsLow store }
     ensures { (good : Good store) → IfOk result (StoreRanked store good) }
 {
     let Store {

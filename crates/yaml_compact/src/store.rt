@@ -1,13 +1,14 @@
 //! Nodes by number, equal ones mostly merged.
-ghost use Rattle.std.specs.Prelude.{◌≡◌, ◌<◌, ◌≤◌, [], ◌∷◌, ◌++◌, true, false, List, length, Some, IfOk, IsTrue};
+ghost use Rattle.std.specs.Prelude.{◌≡◌, ◌<◌, suc, min, [], ◌∷◌, ◌++◌, true, false, List, length, Some, IfOk, IsTrue};
 ghost use Rattle.std.specs.Bool.{OnTrue};
 ghost use Rattle.std.specs.List.{slice_get, slice_range, All};
 ghost use Rattle.yaml_definitions.specs.model.Tree.{Tree, scalar, heights};
 ghost use Rattle.yaml_definitions.specs.model.Limits as limit;
 ghost use Rattle.yaml_nodes.specs.TreeLists.{trees as part_list};
+ghost use Rattle.yaml_nodes.specs.ComposerModel.{cut};
 ghost use Rattle.yaml_nodes.specs.ComposerSteps.{collection_from, paired};
 ghost use Rattle.yaml_compact.specs.StoreModel.{SpanWithin, AllMeasured, tag_at, parts_at, is_mapping};
-ghost use Rattle.yaml_compact.specs.StoreGrows.{Good, Fits, Keeps, tags_of, trees_of, Stands};
+ghost use Rattle.yaml_compact.specs.StoreGrows.{Good, IsLow, Fits, Keeps, tags_of, trees_of, Stands};
 
 use crate::gives_up::GivesUp;
 use crate::memo::{Memo, hash_parts, hash_tag, hash_text};
@@ -120,10 +121,9 @@ fn push_node(nodes: &mut Vec<Node>, node: Node) -> Result<u32, GivesUp>
     Ok(number as u32)
 }
 
-/// The height of a collection of these parts, if it is not above the limit.
+/// The height of a collection of these parts, cut just above the limit.
 fn height_over(nodes: &[Node], parts: &[u32]) -> Result<u16, GivesUp>
-    ensures low { IfOk result (λ h. h ≤ limit.height_limit) }
-    ensures is { IfOk result (λ h. (ts : List Tree) → AllMeasured nodes.now ts → h ≡ heights (part_list (parts_at ts parts.now))) }
+    ensures { IfOk result (λ h. (ts : List Tree) → AllMeasured nodes.now ts → h ≡ min (heights (part_list (parts_at ts parts.now))) (suc limit.height_limit)) }
 {
     let mut height: usize = 0;
     for part in parts {
@@ -132,10 +132,7 @@ fn height_over(nodes: &[Node], parts: &[u32]) -> Result<u16, GivesUp>
         };
         height = height.max(node.height as usize + 1);
     }
-    if height > height_limit() {
-        return Err(GivesUp);
-    }
-    Ok(height as u16)
+    Ok(height.min(height_limit() + 1) as u16)
 }
 
 impl Store {
@@ -156,6 +153,27 @@ impl Store {
             entries: Vec::new(alloc),
             nodes: Vec::new(alloc),
         })
+    }
+
+    /// Whether no node's tree is higher than the limit.
+    pub fn is_low(&self) -> bool
+        ensures low { Good self.now → OnTrue result (IsLow self.now) }
+        ensures high { Good self.now → IsLow self.now → IsTrue result }
+    {
+        for node in &self.nodes {
+            if node.height as usize > height_limit() {
+                return false;
+            }
+        }
+        true
+    }
+
+    /// The height of the tree that a node stands for, cut just above the limit.
+    pub fn height_of(&self, id: u32) -> Option<u16>
+        ensures { (t : Tree) → Good self.now → Stands self.now id t → result ≡ Some (cut t) }
+    {
+        let node = self.nodes.get(id as usize)?;
+        Some(node.height)
     }
 
     /// Whether this is the tag of that number.
