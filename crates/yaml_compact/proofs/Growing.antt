@@ -1,5 +1,5 @@
 -- Lists of nodes with one more at their end.
-use Rattle.std.proofs.Common.{◌≡◌, ◌⊎◌, inl, inr, ℕ, suc, min, ◌-◌, ◌<◌, ◌≤◌, true, List, [], ◌∷◌, ◌++◌, length, map, take, drop, refl, sym, ◌∙◌, ap, subst, arith, length-append, length-drop}
+use Rattle.std.proofs.Common.{◌≡◌, ◌⊎◌, inl, inr, ℕ, suc, min, ◌+◌, ◌-◌, ◌<◌, ◌≤◌, true, List, [], ◌∷◌, ◌++◌, length, map, take, drop, get_or, refl, sym, ◌∙◌, ap, subst, arith, length-append, length-drop}
 use Rattle.std.specs.Prelude.{Some}
 use Rattle.std.specs.List.{slice_get, slice_range}
 use Rattle.std.specs.String.{string_bytes}
@@ -13,6 +13,7 @@ use Rattle.yaml_nodes.proofs.GraphLaws.{get-end}
 use Rattle.yaml_levels.specs.View.{Inside, content, items, entries, InsideBelow, inside_tree}
 use Rattle.yaml_levels.specs.Insides.{Held, held_tree, more_held, trees_held}
 use Rattle.yaml_levels.proofs.InsideLaws.{held-length}
+use Rattle.yaml_levels.proofs.Numbers.{below_or}
 use Rattle.yaml_levels.proofs.Numbering.{get-there, get-within}
 use Rattle.yaml_levels.proofs.LevelLaws.{push-get, get-some}
 use Rattle.yaml_compact.specs.declared.nodes.Node.{Node}
@@ -153,3 +154,31 @@ uncut-at s good low i n a =
     let l = low i (tree_at ts i) there in
     let q = high-at s good i n a (tree_at ts i) there in
     (omega arith, omega arith)
+
+-- nodes of which none is too high
+pub low-from : (s : Store) → Good s → ((i : ℕ) (n : Node) → slice_get s.nodes.items i ≡ Some n → n.height ≤ height_limit) → IsLow s
+low-from s good low i t e =
+    let count = trees-count s.nodes.items (string_bytes s.text) s.items.items s.entries.items (tags_of s) in
+    let n = get-some s.nodes.items i (omega (arith, get-within (trees_of s) i t e, count)) in
+    let l = low i n.0 n.1 in
+    let q = high-at s good i n.0 n.1 t e in
+    omega arith
+
+module _ (ns : List Node) (at : ℕ) (d : Node) (limit : ℕ) (is : limit ≡ height_limit) where
+  -- the first nodes are told not to be too high, and now one more
+  pub low-more : (nodes : List Node) → ns ≡ nodes → ((k : ℕ) (n : Node) → k < at → slice_get nodes k ≡ Some n → n.height ≤ height_limit) → (get_or ns at d).height ≤ limit → (k : ℕ) (n : Node) → k < at + 1 → slice_get nodes k ≡ Some n → n.height ≤ height_limit
+  low-more nodes e low here k n l a = elim (below_or k at) [
+    | inl b ↦ low k n b a
+    | inr b ↦ (
+        let q : at ≡ k = omega arith in
+        let f : get_or ns at d ≡ n = (λ z. get_or (e z) (q z) d) ∙ get_or_from_slice_get nodes k n d a in
+        let g : (get_or ns at d).height ≡ n.height = ap (λ m. m.height) f in
+        omega arith)
+  ]
+
+  -- one is told to be too high
+  pub high-there : (s : Store) → Good s → IsLow s → ns ≡ s.nodes.items → at < length ns → limit < (get_or ns at d).height → ⊥
+  high-there s good low e l h =
+      let there : slice_get s.nodes.items at ≡ Some (get_or ns at d) = subst (λ z. slice_get z at ≡ Some (get_or ns at d)) e (get-there ns at d l) in
+      let q = (uncut-at s good low at (get_or ns at d) there).1 in
+      omega arith
