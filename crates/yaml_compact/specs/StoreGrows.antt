@@ -1,5 +1,5 @@
 -- Stores that grow.
-use Rattle.std.specs.Prelude.{◌≡◌, ℕ, ◌<◌, ◌≤◌, List, ◌++◌, length, map, Some}
+use Rattle.std.specs.Prelude.{◌≡◌, ◌⊎◌, ℕ, suc, ◌<◌, ◌≤◌, List, ◌++◌, length, map, Some}
 use Rattle.std.specs.List.{slice_get, All}
 use Rattle.std.specs.Str.{IsUtf8}
 use Rattle.std.specs.String.{string_bytes}
@@ -43,6 +43,10 @@ IsLow s = (i : ℕ) (t : Tree) → slice_get (trees_of s) i ≡ Some t → heigh
 -- the node of this number stands for the tree
 abbrev pub Stands : Store → ℕ → Tree → Type 0
 Stands s i t = slice_get (trees_of s) i ≡ Some t
+
+-- at most one node came, and it has the next number
+abbrev pub AtMostOne : ℕ → ℕ → ℕ → Type 0
+AtMostOne before after i = (after ≡ before) ⊎ ((after ≡ suc before) × (i ≡ before))
 
 -- The store is good, and has a tag of this number and nodes of these.
 pub record Fits (s : Store) (tag : ℕ) (parts : List ℕ) : Type 0 where
