@@ -21,6 +21,7 @@ use Rattle.yaml_compact.specs.declared.nodes.Kind.TheVariants as kinds
 use Rattle.yaml_compact.specs.declared.nodes.Place.{Place}
 use Rattle.yaml_compact.specs.declared.nodes.Place.TheVariants.{Scalar, Sequence, Mapping}
 use Rattle.yaml_compact.specs.declared.store.Store.{Store}
+use Rattle.yaml_compact.specs.declared.tag_numbers.TagNumbers.{TagNumbers}
 use Rattle.yaml_compact.specs.StoreModel.{place, place_of, inside_of, tag_at, parts_at, node_held, trees_stored, room_of, share, start_of, end_of, AllPlaced}
 use Rattle.yaml_compact.specs.StoreGrows.{Sound, Good, Keeps, tags_of, trees_of}
 use Rattle.yaml_compact.proofs.Growing.{Grown, one-more, range-new, trees-count, stands-at}
@@ -192,6 +193,10 @@ kept-memo old new m h = record { good = h.good; more_tags = h.more_tags; tags = 
 
 pub kept-tag-memo : (old new : Store) (m : Memo) → Keeps old new → Keeps old (record new { tag_memo = m })
 kept-tag-memo old new m h = record { good = h.good; more_tags = h.more_tags; tags = h.tags; more = h.more; trees = h.trees }
+
+-- and so may the numbers of tags
+pub kept-numbers : (old new : Store) (m : TagNumbers) → Keeps old new → Keeps old (record new { numbers = m })
+kept-numbers old new m h = record { good = h.good; more_tags = h.more_tags; tags = h.tags; more = h.more; trees = h.trees }
 
 -- what a tag is, by its number
 pub record TagIs (tags : List (List ℕ)) (i : ℕ) (t : List ℕ) : Type 0 where

@@ -17,6 +17,7 @@ mod settle;
 mod shorts;
 mod slot;
 pub mod store;
+mod tag_numbers;
 mod walked;
 
 pub use gives_up::GivesUp;

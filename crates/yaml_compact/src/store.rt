@@ -13,8 +13,8 @@ ghost use Rattle.yaml_compact.specs.StoreGrows.{AtMostOne, Good, IsLow, Fits, Ke
 use crate::gives_up::GivesUp;
 use crate::memo::{Memo, hash_parts, hash_tag, hash_text};
 use crate::nodes::{Collection, Kind, Node, Span};
+use crate::tag_numbers::TagNumbers;
 use std::alloc::Global;
-use std::collections::BTreeMap;
 use yaml_text::limits::height_limit;
 
 /// The nodes, each after its parts: their tags, each once; all contents one after the other, all items and
@@ -23,8 +23,7 @@ use yaml_text::limits::height_limit;
 pub struct Store {
     pub(crate) memo: Memo,
     pub(crate) tag_memo: Memo,
-    /// The number of each tag. A number is believed only once its tag was compared.
-    pub(crate) numbers: BTreeMap<String, u32>,
+    pub(crate) numbers: TagNumbers,
     pub(crate) tags: Vec<String>,
     pub(crate) text: String,
     pub(crate) items: Vec<u32>,
@@ -147,7 +146,7 @@ impl Store {
         Ok(Store {
             memo,
             tag_memo,
-            numbers: BTreeMap::new(alloc),
+            numbers: TagNumbers::new(alloc),
             tags: Vec::new(alloc),
             text: String::new(alloc),
             items: Vec::new(alloc),
@@ -194,32 +193,39 @@ impl Store {
         text.as_str() == tag
     }
 
-    /// The number of a new tag.
+    /// Puts a tag behind the others. Its number.
     fn add_tag(&mut self, alloc: Global, tag: &str) -> Result<u32, GivesUp>
         ensures kept { Good self.old → IfOk result (λ _. Keeps self.old self.new) }
         ensures is { IfOk result (λ i. slice_get (tags_of self.new) i ≡ Some tag.now) }
         ensures nodes { IfOk result (λ _. self.new.nodes ≡ self.old.nodes) }
     {
         let number = place(self.tags.len())?;
-        let key = String::from_str(alloc, tag)?;
-        self.numbers.insert(key, number)?;
         let text = String::from_str(alloc, tag)?;
         self.tags.push(text)?;
         Ok(number)
     }
 
-    /// The number of this tag, which is looked for among all of them, and added if it is new.
-    fn find_tag(&mut self, alloc: Global, tag: &str) -> Result<u32, GivesUp>
+    /// The number of this tag of this hash, which is looked for among all of them, and added if it is new.
+    fn find_tag(&mut self, alloc: Global, hash: u64, tag: &str) -> Result<u32, GivesUp>
         ensures kept { Good self.old → IfOk result (λ _. Keeps self.old self.new) }
         ensures is { IfOk result (λ i. slice_get (tags_of self.new) i ≡ Some tag.now) }
         ensures nodes { IfOk result (λ _. self.new.nodes ≡ self.old.nodes) }
     {
-        let Some(number) = self.numbers.get(tag).copied() else {
-            return self.add_tag(alloc, tag);
+        let Some(first) = self.numbers.first(hash) else {
+            let number = self.add_tag(alloc, tag)?;
+            self.numbers.keep_first(hash, number)?;
+            return Ok(number);
         };
-        if !self.is_tag(number, tag) {
-            return Err(GivesUp);
+        if self.is_tag(first, tag) {
+            return Ok(first);
         }
+        if let Some(other) = self.numbers.other(tag) {
+            if self.is_tag(other, tag) {
+                return Ok(other);
+            }
+        }
+        let number = self.add_tag(alloc, tag)?;
+        self.numbers.keep_other(alloc, tag, number)?;
         Ok(number)
     }
 
@@ -234,7 +240,7 @@ impl Store {
         if self.is_tag(seen, tag) {
             return Ok(seen);
         }
-        let number = self.find_tag(alloc, tag)?;
+        let number = self.find_tag(alloc, hash, tag)?;
         self.tag_memo.keep(hash, number);
         Ok(number)
     }
