@@ -21,10 +21,10 @@ use Rattle.yaml_levels.proofs.LevelLaws.{get-some}
 use Rattle.yaml_compact.specs.declared.nodes.Node.{Node}
 use Rattle.yaml_compact.specs.declared.store.Store.{Store}
 use Rattle.yaml_compact.specs.StoreModel.{place_of, node_held, Within}
-use Rattle.yaml_compact.specs.StoreGrows.{Good, tags_of, trees_of}
+use Rattle.yaml_compact.specs.StoreGrows.{Good, IsLow, tags_of, trees_of}
 use Rattle.yaml_compact.specs.StoreView.{inside_at, stored-below}
 use Rattle.yaml_compact.proofs.StoreOf.{within-from}
-use Rattle.yaml_compact.proofs.Growing.{trees-count}
+use Rattle.yaml_compact.proofs.Growing.{trees-count, uncut-at}
 
 -- one more of a list is taken
 pub took-more : {X : Type 0} (xs ys new : List X) (k : ℕ) (y d : X) → k < length xs → ys ≡ take k xs → y ≡ get_or xs k d → new ≡ ys ++ (y ∷ []) → new ≡ take (k + 1) xs
@@ -74,22 +74,22 @@ module _ (s : Store) (good : Good s) (nodes : List graph.Node) (same : map held_
       let below = stored-below s.nodes.items (string_bytes s.text) s.items.items s.entries.items (tags_of s) good.below k (get-within s.nodes.items k m.0 m.1) in
       parts-below k n.kind (subst (λ (h : Held). InsideBelow k h.1) m.2 (subst (λ o. InsideBelow k (inside_at (string_bytes s.text) s.items.items s.entries.items o)) m.1 below))
 
-  pub measured : (heights : List ℕ) → heights ≡ map high s.nodes.items → heights ≡ map height (trees_in nodes)
-  measured heights e =
+  pub measured : IsLow s → (heights : List ℕ) → heights ≡ map high s.nodes.items → heights ≡ map height (trees_in nodes)
+  measured low heights e =
       let ts = trees_of s in
       let count = trees-count s.nodes.items (string_bytes s.text) s.items.items s.entries.items (tags_of s) in
       let n : length heights ≡ length s.nodes.items = ap length e ∙ length-map s.nodes.items high in
       ext_get_or 0 heights (map height ts) (omega (arith, n, count, length-map ts height)) (λ i l.
       let m = get-some s.nodes.items i (omega (arith, l, n)) in
       let there = get-map high s.nodes.items i m.0 m.1 in
-      ap (λ hs. get_or hs i 0) e ∙ get_or_from_slice_get (map high s.nodes.items) i m.0.height 0 there ∙ good.measured i m.0 m.1 ∙ sym (get_or-map height ts i (scalar [] []) 0 (omega (arith, l, n, count)))) ∙ ap (map height) (sym trees-same)
+      ap (λ hs. get_or hs i 0) e ∙ get_or_from_slice_get (map high s.nodes.items) i m.0.height 0 there ∙ (uncut-at s good low i m.0 m.1).0 ∙ sym (get_or-map height ts i (scalar [] []) 0 (omega (arith, l, n, count)))) ∙ ap (map height) (sym trees-same)
 
-  pub low : (heights : List ℕ) → heights ≡ map high s.nodes.items → All (λ h. h ≤ height_limit) heights
-  low heights e k d l =
+  pub low : IsLow s → (heights : List ℕ) → heights ≡ map high s.nodes.items → All (λ h. h ≤ height_limit) heights
+  low is heights e k d l =
       let n : length heights ≡ length s.nodes.items = ap length e ∙ length-map s.nodes.items high in
       let m = get-some s.nodes.items k (omega (arith, l, n)) in
       let there = get-map high s.nodes.items k m.0 m.1 in
-      subst (λ h. h ≤ height_limit) (sym (ap (λ hs. get_or hs k d) e ∙ get_or_from_slice_get (map high s.nodes.items) k m.0.height d there)) (good.low k m.0 m.1)
+      subst (λ h. h ≤ height_limit) (sym (ap (λ hs. get_or hs k d) e ∙ get_or_from_slice_get (map high s.nodes.items) k m.0.height d there)) (uncut-at s good is k m.0 m.1).1
 
   pub rooted : (roots : List NodeId) (ids : List ℕ) → map number roots ≡ ids → All (λ i. i < length s.nodes.items) ids → All (λ i. i.0 < length nodes) roots
   rooted roots ids e all = subst (λ n. All (λ i. i.0 < n) roots) (sym long) (unmap number (λ i. i < length s.nodes.items) roots (subst (All (λ i. i < length s.nodes.items)) (sym e) all))

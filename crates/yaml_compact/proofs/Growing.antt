@@ -1,23 +1,27 @@
 -- Lists of nodes with one more at their end.
-use Rattle.std.proofs.Common.{◌≡◌, ◌⊎◌, inl, inr, ℕ, suc, ◌-◌, ◌<◌, ◌≤◌, true, List, [], ◌∷◌, ◌++◌, length, map, take, drop, refl, sym, ◌∙◌, ap, subst, arith, length-append, length-drop}
+use Rattle.std.proofs.Common.{◌≡◌, ◌⊎◌, inl, inr, ℕ, suc, min, ◌+◌, ◌-◌, ◌<◌, ◌≤◌, true, List, [], ◌∷◌, ◌++◌, length, map, take, drop, get_or, refl, sym, ◌∙◌, ap, subst, arith, length-append, length-drop}
 use Rattle.std.specs.Prelude.{Some}
 use Rattle.std.specs.List.{slice_get, slice_range}
+use Rattle.std.specs.String.{string_bytes}
 use Rattle.std.proofs.lemmas.List.{take_all, take-append-le, drop-append-le, drop_at, map-append, length-map, get_or_append_left}
 use Rattle.std.proofs.lemmas.Option.{get_or_from_slice_get}
 use Rattle.yaml_definitions.specs.model.Limits.{height_limit}
 use Rattle.yaml_definitions.specs.model.Tree.{Tree, scalar, height}
 use Rattle.yaml_nodes.specs.GraphModel.{tree_at}
+use Rattle.yaml_nodes.specs.ComposerModel.{cut}
 use Rattle.yaml_nodes.proofs.GraphLaws.{get-end}
 use Rattle.yaml_levels.specs.View.{Inside, content, items, entries, InsideBelow, inside_tree}
 use Rattle.yaml_levels.specs.Insides.{Held, held_tree, more_held, trees_held}
 use Rattle.yaml_levels.proofs.InsideLaws.{held-length}
+use Rattle.yaml_levels.proofs.Numbers.{below_or}
 use Rattle.yaml_levels.proofs.Numbering.{get-there, get-within}
 use Rattle.yaml_levels.proofs.LevelLaws.{push-get, get-some}
 use Rattle.yaml_compact.specs.declared.nodes.Node.{Node}
 use Rattle.yaml_compact.specs.declared.nodes.Place.{Place}
 use Rattle.yaml_compact.specs.declared.nodes.Place.TheVariants.{Scalar, Sequence, Mapping}
+use Rattle.yaml_compact.specs.declared.store.Store.{Store}
 use Rattle.yaml_compact.specs.StoreModel.{place_of, inside_of, tag_at, node_held, trees_stored, start_of, end_of, room_of, share, AllPlaced, PartsInOrder, AllBelow, AllMeasured}
-use Rattle.yaml_compact.specs.StoreGrows.{IsText, Sound}
+use Rattle.yaml_compact.specs.StoreGrows.{IsText, Sound, Good, IsLow, tags_of, trees_of}
 use Rattle.yaml_compact.specs.StoreView.{tag_in, inside_at, stored-made}
 
 -- ---- lists that grow at their end
@@ -82,7 +86,7 @@ module _ (tags : List (List ℕ)) (text mt is mi : List ℕ) (es me : List (ℕ 
   p = place_of n
 
   module _ (tagged : n.tag < length tags) (start : start_of p ≤ end_of p) (room : end_of p ≤ room_of (length (text ++ mt)) (length (is ++ mi)) (length (es ++ me)) p) (behind : (t : Place) → share t p ≡ true → room_of (length text) (length is) (length es) t ≤ start_of p)
-      (low : InsideBelow (length nodes) (inside_of [] (is ++ mi) (es ++ me) p)) (inside : Inside) (is-inside : inside_of (text ++ mt) (is ++ mi) (es ++ me) p ≡ inside) (utf8 : IsText inside) (high : n.height ≡ height (inside_tree (tree_at ts) (tag_at tags n.tag) inside)) (not-high : n.height ≤ height_limit) (few : length (nodes ++ (n ∷ [])) < 4294967296) where
+      (low : InsideBelow (length nodes) (inside_of [] (is ++ mi) (es ++ me) p)) (inside : Inside) (is-inside : inside_of (text ++ mt) (is ++ mi) (es ++ me) p ≡ inside) (utf8 : IsText inside) (high : n.height ≡ cut (inside_tree (tree_at ts) (tag_at tags n.tag) inside)) (few : length (nodes ++ (n ∷ [])) < 4294967296) where
     abbrev new_tree : Tree
     new_tree = inside_tree (tree_at ts) (tag_at tags n.tag) inside
 
@@ -117,9 +121,6 @@ module _ (tags : List (List ℕ)) (text mt is mi : List ℕ) (es me : List (ℕ 
       | inr a ↦ subst (λ z. IsText (inside_of (text ++ mt) (is ++ mi) (es ++ me) (place_of z))) (sym a.1) (subst IsText (sym is-inside) utf8)
     ]
 
-    low-more : (i : ℕ) (m : Node) → slice_get (nodes ++ (n ∷ [])) i ≡ Some m → m.height ≤ height_limit
-    low-more i m e = elim (push-get nodes n m i e) [ inl a ↦ old.low i m a | inr a ↦ subst (λ z. z.height ≤ height_limit) (sym a.1) not-high ]
-
     trees-more : trees_stored (nodes ++ (n ∷ [])) (text ++ mt) (is ++ mi) (es ++ me) tags ≡ ts ++ (new_tree ∷ [])
     trees-more =
         ap trees_held (map-append (node_held (text ++ mt) (is ++ mi) (es ++ me) tags) nodes (n ∷ []))
@@ -127,23 +128,57 @@ module _ (tags : List (List ℕ)) (text mt is mi : List ℕ) (es me : List (ℕ 
         ∙ (held-push [] (map (node_held text is es tags) nodes) (node_held (text ++ mt) (is ++ mi) (es ++ me) tags n) ∙ ap (λ z. ts ++ (inside_tree (tree_at ts) (tag_at tags n.tag) z ∷ [])) is-inside))
 
     measured-more : AllMeasured (nodes ++ (n ∷ [])) (trees_stored (nodes ++ (n ∷ [])) (text ++ mt) (is ++ mi) (es ++ me) tags)
-    measured-more i m e = subst (λ us. m.height ≡ height (tree_at us i)) (sym trees-more) (elim (push-get nodes n m i e) [
-      | inl a ↦ old.measured i m a ∙ ap height (sym (get_or_append_left ts (new_tree ∷ []) (scalar [] []) i (omega (arith, get-within nodes i m a, trees-count nodes text is es tags))))
+    measured-more i m e = subst (λ us. m.height ≡ cut (tree_at us i)) (sym trees-more) (elim (push-get nodes n m i e) [
+      | inl a ↦ old.measured i m a ∙ ap cut (sym (get_or_append_left ts (new_tree ∷ []) (scalar [] []) i (omega (arith, get-within nodes i m a, trees-count nodes text is es tags))))
       | inr a ↦ (let q : slice_get (ts ++ (new_tree ∷ [])) i ≡ Some new_tree = subst (λ k. slice_get (ts ++ (new_tree ∷ [])) k ≡ Some new_tree) (trees-count nodes text is es tags ∙ sym a.0) (get-end ts new_tree) in
-          ap (λ z. z.height) a.1 ∙ (high ∙ ap height (sym (get_or_from_slice_get (ts ++ (new_tree ∷ [])) i new_tree (scalar [] []) q))))
+          ap (λ z. z.height) a.1 ∙ (high ∙ ap cut (sym (get_or_from_slice_get (ts ++ (new_tree ∷ [])) i new_tree (scalar [] []) q))))
     ])
 
     pub one-more : (text2 is2 : List ℕ) (es2 : List (ℕ × ℕ)) (nodes2 : List Node) → text2 ≡ text ++ mt → is2 ≡ is ++ mi → es2 ≡ es ++ me → nodes2 ≡ nodes ++ (n ∷ []) → Grown tags text2 is2 es2 nodes2 ts new_tree
     one-more text2 is2 es2 nodes2 a b c d =
         let made : Grown tags (text ++ mt) (is ++ mi) (es ++ me) (nodes ++ (n ∷ [])) ts new_tree =
-        record { sound = record { few = few; placed = placed-more; apart = apart-more; below = below-more; texts = texts-more; measured = measured-more; low = low-more }; trees = trees-more } in
+        record { sound = record { few = few; placed = placed-more; apart = apart-more; below = below-more; texts = texts-more; measured = measured-more }; trees = trees-more } in
         subst (λ z. Grown tags z is2 es2 nodes2 ts new_tree) (sym a) (subst (λ z. Grown tags (text ++ mt) z es2 nodes2 ts new_tree) (sym b) (subst (λ z. Grown tags (text ++ mt) (is ++ mi) z nodes2 ts new_tree) (sym c) (subst (λ z. Grown tags (text ++ mt) (is ++ mi) (es ++ me) z ts new_tree) (sym d) made)))
 
--- no tree that stands is higher than the limit
-pub tree-low : (tags : List (List ℕ)) (text is : List ℕ) (es : List (ℕ × ℕ)) (nodes : List Node) → Sound tags text is es nodes → (i : ℕ) (t : Tree) → slice_get (trees_stored nodes text is es tags) i ≡ Some t → height t ≤ height_limit
-tree-low tags text is es nodes s i t e =
-    let ts = trees_stored nodes text is es tags in
-    let n = get-some nodes i (omega (arith, get-within ts i t e, trees-count nodes text is es tags)) in
-    let q : n.0.height ≡ height t = s.measured i n.0 n.1 ∙ ap height (get_or_from_slice_get ts i t (scalar [] []) e) in
-    let l = s.low i n.0 n.1 in
+-- ---- heights
+
+-- the node that stands for a tree has its height, cut just above the limit
+pub high-at : (s : Store) → Good s → (i : ℕ) (n : Node) → slice_get s.nodes.items i ≡ Some n → (t : Tree) → slice_get (trees_of s) i ≡ Some t → n.height ≡ min (height t) (suc height_limit)
+high-at s good i n a t e = good.measured i n a ∙ ap cut (get_or_from_slice_get (trees_of s) i t (scalar [] []) e)
+
+-- where no tree is higher than the limit, none is cut
+pub uncut-at : (s : Store) → Good s → IsLow s → (i : ℕ) (n : Node) → slice_get s.nodes.items i ≡ Some n → (n.height ≡ height (tree_at (trees_of s) i)) × (n.height ≤ height_limit)
+uncut-at s good low i n a =
+    let ts = trees_of s in
+    let there = get-there ts i (scalar [] []) (omega (arith, get-within s.nodes.items i n a, trees-count s.nodes.items (string_bytes s.text) s.items.items s.entries.items (tags_of s))) in
+    let l = low i (tree_at ts i) there in
+    let q = high-at s good i n a (tree_at ts i) there in
+    (omega arith, omega arith)
+
+-- nodes of which none is too high
+pub low-from : (s : Store) → Good s → ((i : ℕ) (n : Node) → slice_get s.nodes.items i ≡ Some n → n.height ≤ height_limit) → IsLow s
+low-from s good low i t e =
+    let count = trees-count s.nodes.items (string_bytes s.text) s.items.items s.entries.items (tags_of s) in
+    let n = get-some s.nodes.items i (omega (arith, get-within (trees_of s) i t e, count)) in
+    let l = low i n.0 n.1 in
+    let q = high-at s good i n.0 n.1 t e in
     omega arith
+
+module _ (ns : List Node) (at : ℕ) (d : Node) (limit : ℕ) (is : limit ≡ height_limit) where
+  -- the first nodes are told not to be too high, and now one more
+  pub low-more : (nodes : List Node) → ns ≡ nodes → ((k : ℕ) (n : Node) → k < at → slice_get nodes k ≡ Some n → n.height ≤ height_limit) → (get_or ns at d).height ≤ limit → (k : ℕ) (n : Node) → k < at + 1 → slice_get nodes k ≡ Some n → n.height ≤ height_limit
+  low-more nodes e low here k n l a = elim (below_or k at) [
+    | inl b ↦ low k n b a
+    | inr b ↦ (
+        let q : at ≡ k = omega arith in
+        let f : get_or ns at d ≡ n = (λ z. get_or (e z) (q z) d) ∙ get_or_from_slice_get nodes k n d a in
+        let g : (get_or ns at d).height ≡ n.height = ap (λ m. m.height) f in
+        omega arith)
+  ]
+
+  -- one is told to be too high
+  pub high-there : (s : Store) → Good s → IsLow s → ns ≡ s.nodes.items → at < length ns → limit < (get_or ns at d).height → ⊥
+  high-there s good low e l h =
+      let there : slice_get s.nodes.items at ≡ Some (get_or ns at d) = subst (λ z. slice_get z at ≡ Some (get_or ns at d)) e (get-there ns at d l) in
+      let q = (uncut-at s good low at (get_or ns at d) there).1 in
+      omega arith

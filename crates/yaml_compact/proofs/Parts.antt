@@ -1,8 +1,10 @@
 -- Keys and values in turn, as pairs, and the heights of collections.
-use Rattle.std.proofs.Common.{◌≡◌, ℕ, zero, suc, ◌+◌, ◌*◌, ◌/◌, ◌%◌, ◌<◌, ◌≤◌, max, List, [], ◌∷◌, ◌++◌, length, map, take, drop, get_or, refl, sym, ◌∙◌, ap, subst, arith, Some}
+use Rattle.std.proofs.Common.{◌≡◌, ℕ, zero, suc, ◌+◌, ◌*◌, ◌/◌, ◌%◌, ◌<◌, ◌≤◌, min, max, List, [], ◌∷◌, ◌++◌, length, map, take, drop, get_or, refl, sym, ◌∙◌, ap, subst, arith, Some}
 use Rattle.std.specs.List.{slice_get, All}
 use Rattle.std.proofs.lemmas.List.{at_drop_more, at_drop_all}
-use Rattle.yaml_definitions.specs.model.Tree.{Tree, heights, heights_of_pairs}
+use Rattle.yaml_definitions.specs.model.Limits.{height_limit}
+use Rattle.yaml_definitions.specs.model.Tree.{Tree, height, heights, heights_of_pairs}
+use Rattle.yaml_nodes.specs.GraphModel.{tree_at}
 use Rattle.yaml_nodes.specs.TreeLists.{trees, pairs}
 use Rattle.yaml_nodes.specs.ComposerSteps.{paired}
 use Rattle.yaml_compact.specs.declared.nodes.Node.{Node}
@@ -70,11 +72,11 @@ even-pairs (k ∷ (v ∷ us)) h = omega (arith, even-pairs us (omega arith))
 
 -- the loop over the parts: what stands so far, and what is left
 pub over-step : (nodes : List Node) (ts : List Tree) (parts : List ℕ) (i d : ℕ) (n : Node) (h new all : ℕ) → AllMeasured nodes ts → slice_get nodes (get_or parts i d) ≡ Some n → i < length parts
-    → max h (heights (trees (parts_at ts (drop i parts)))) ≡ all → new ≡ max h (n.height + 1) → max new (heights (trees (parts_at ts (drop (i + 1) parts)))) ≡ all
+    → min (max h (heights (trees (parts_at ts (drop i parts))))) (suc height_limit) ≡ all → new ≡ max h (n.height + 1) → min (max new (heights (trees (parts_at ts (drop (i + 1) parts))))) (suc height_limit) ≡ all
 over-step nodes ts parts i d n h new all e there l q w =
     let f = at_drop_more (λ ps. heights (trees (parts_at ts ps))) parts i d l in
-    let t = e (get_or parts i d) n there in
+    let t : n.height ≡ min (height (tree_at ts (get_or parts i d))) (suc height_limit) = e (get_or parts i d) n there in
     omega arith
 
-pub over-all : (ts : List Tree) (parts : List ℕ) (i h all : ℕ) → length parts ≤ i → max h (heights (trees (parts_at ts (drop i parts)))) ≡ all → h ≡ all
+pub over-all : (ts : List Tree) (parts : List ℕ) (i h all : ℕ) → length parts ≤ i → min (max h (heights (trees (parts_at ts (drop i parts))))) (suc height_limit) ≡ all → min h (suc height_limit) ≡ all
 over-all ts parts i h all l q = let f = at_drop_all (λ ps. heights (trees (parts_at ts ps))) parts i l in omega arith

@@ -1,13 +1,14 @@
 -- A store as it grows.
-use Rattle.std.proofs.Common.{◌≡◌, ℕ, suc, ◌%◌, ◌<◌, ◌≤◌, true, false, List, [], ◌∷◌, ◌++◌, length, map, refl, sym, ◌∙◌, ap, subst, arith, append-nil, append_assoc, length-append}
+use Rattle.std.proofs.Common.{◌≡◌, ℕ, suc, min, ◌%◌, ◌<◌, ◌≤◌, true, false, List, [], ◌∷◌, ◌++◌, length, map, refl, sym, ◌∙◌, ap, subst, arith, append-nil, append_assoc, length-append}
 use Rattle.std.specs.Prelude.{Some}
 use Rattle.std.specs.List.{slice_get, slice_range, All}
 use Rattle.std.specs.Str.{IsUtf8}
 use Rattle.std.proofs.lemmas.List.{length-map, get_or_append_left}
 use Rattle.std.proofs.lemmas.Option.{slice_get_within, get_or_from_slice_get}
 use Rattle.yaml_definitions.specs.model.Limits.{height_limit}
-use Rattle.yaml_definitions.specs.model.Tree.{Tree, scalar, sequence, mapping, height, heights}
+use Rattle.yaml_definitions.specs.model.Tree.{Tree, scalar, sequence, mapping, heights}
 use Rattle.yaml_nodes.specs.GraphModel.{tree_at}
+use Rattle.yaml_nodes.specs.ComposerModel.{cut}
 use Rattle.yaml_nodes.specs.TreeLists.{trees as part_list, pairs}
 use Rattle.yaml_nodes.specs.ComposerSteps.{paired, collection_from}
 use Rattle.yaml_nodes.proofs.GraphLaws.{get-end}
@@ -20,6 +21,7 @@ use Rattle.yaml_compact.specs.declared.nodes.Kind.TheVariants as kinds
 use Rattle.yaml_compact.specs.declared.nodes.Place.{Place}
 use Rattle.yaml_compact.specs.declared.nodes.Place.TheVariants.{Scalar, Sequence, Mapping}
 use Rattle.yaml_compact.specs.declared.store.Store.{Store}
+use Rattle.yaml_compact.specs.declared.tag_numbers.TagNumbers.{TagNumbers}
 use Rattle.yaml_compact.specs.StoreModel.{place, place_of, inside_of, tag_at, parts_at, node_held, trees_stored, room_of, share, start_of, end_of, AllPlaced}
 use Rattle.yaml_compact.specs.StoreGrows.{Sound, Good, Keeps, tags_of, trees_of}
 use Rattle.yaml_compact.proofs.Growing.{Grown, one-more, range-new, trees-count, stands-at}
@@ -35,7 +37,6 @@ sound-none tags text is es nodes e = subst (Sound tags text is es) (sym e) (reco
   below = λ i n h. absurd (cc);
   texts = λ i n h. absurd (cc);
   measured = λ i n h. absurd (cc);
-  low = λ i n h. absurd (cc);
 })
 
 pub trees-none : (tags : List (List ℕ)) (text is : List ℕ) (es : List (ℕ × ℕ)) (nodes : List Node) → nodes ≡ [] → trees_stored nodes text is es tags ≡ []
@@ -53,38 +54,38 @@ module _ (tags : List (List ℕ)) (text is : List ℕ) (es : List (ℕ × ℕ)) 
       let n : Node = record { kind = kinds.Scalar; tag = tag; height = 0; span = record { start = start; end = end } } in
       let last : end ≡ length (text ++ x) = b ∙ ap length e in
       one-more tags text x is [] es [] nodes old n tagged (omega (arith, length-append text x)) (omega arith) (λ t h. absurd (alone t h))
-      (λ j d l. absurd (omega arith), λ j d l. absurd (omega arith)) (content x) (ap content (range-new text x start end a last)) utf8 refl (omega arith) (omega (arith, ap length q)) text2 is es nodes2 e (sym (append-nil is)) (sym (append-nil es)) q
+      (λ j d l. absurd (omega arith), λ j d l. absurd (omega arith)) (content x) (ap content (range-new text x start end a last)) utf8 refl (omega (arith, ap length q)) text2 is es nodes2 e (sym (append-nil is)) (sym (append-nil es)) q
     where
       alone : (t : Place) → share t (Scalar (record { start = start; end = end })) ≡ true → ⊥
       alone (Scalar u) h = cc
       alone (Sequence u) h = cc
       alone (Mapping u) h = cc
 
-  pub sequence-more : (tag high start end : ℕ) (part is2 : List ℕ) (nodes2 : List Node) → tag < length tags → start ≡ length is → end ≡ length is2 → is2 ≡ is ++ part → All (λ i. i < length ts) part → high ≡ heights (part_list (parts_at ts part)) → high ≤ height_limit
+  pub sequence-more : (tag high start end : ℕ) (part is2 : List ℕ) (nodes2 : List Node) → tag < length tags → start ≡ length is → end ≡ length is2 → is2 ≡ is ++ part → All (λ i. i < length ts) part → high ≡ min (heights (part_list (parts_at ts part))) (suc height_limit)
       → nodes2 ≡ nodes ++ ((record { kind = kinds.Sequence; tag = tag; height = high; span = record { start = start; end = end } }) ∷ []) → length nodes2 < 4294967296 → Grown tags text is2 es nodes2 ts (collection_from false (tag_at tags tag) (parts_at ts part))
-  sequence-more tag high start end part is2 nodes2 tagged a b e low h limit q few =
+  sequence-more tag high start end part is2 nodes2 tagged a b e low h q few =
       let n : Node = record { kind = kinds.Sequence; tag = tag; height = high; span = record { start = start; end = end } } in
       let last : end ≡ length (is ++ part) = b ∙ ap length e in
       let inside = ap items (range-new is part start end a last) in
       one-more tags text [] is part es [] nodes old n tagged (omega (arith, length-append is part)) (omega arith) behind
-      (subst (All (λ i. i < length nodes)) (sym (range-new is part start end a last)) (subst (λ k. All (λ i. i < k) part) (trees-count nodes text is es tags) low), λ j d l. absurd (omega arith)) (items part) inside tt h limit (omega (arith, ap length q)) text is2 es nodes2 (sym (append-nil text)) e (sym (append-nil es)) q
+      (subst (All (λ i. i < length nodes)) (sym (range-new is part start end a last)) (subst (λ k. All (λ i. i < k) part) (trees-count nodes text is es tags) low), λ j d l. absurd (omega arith)) (items part) inside tt h (omega (arith, ap length q)) text is2 es nodes2 (sym (append-nil text)) e (sym (append-nil es)) q
     where
       behind : (t : Place) → share t (Sequence (record { start = start; end = end })) ≡ true → room_of (length text) (length is) (length es) t ≤ start
       behind (Scalar u) w = cc
       behind (Sequence u) w = omega arith
       behind (Mapping u) w = cc
 
-  pub mapping-more : (tag high start end : ℕ) (parts : List ℕ) (es2 : List (ℕ × ℕ)) (nodes2 : List Node) → tag < length tags → start ≡ length es → end ≡ length es2 → es2 ≡ es ++ paired parts → length parts % 2 ≡ 0 → All (λ i. i < length ts) parts → high ≡ heights (part_list (parts_at ts parts)) → high ≤ height_limit
+  pub mapping-more : (tag high start end : ℕ) (parts : List ℕ) (es2 : List (ℕ × ℕ)) (nodes2 : List Node) → tag < length tags → start ≡ length es → end ≡ length es2 → es2 ≡ es ++ paired parts → length parts % 2 ≡ 0 → All (λ i. i < length ts) parts → high ≡ min (heights (part_list (parts_at ts parts))) (suc height_limit)
       → nodes2 ≡ nodes ++ ((record { kind = kinds.Mapping; tag = tag; height = high; span = record { start = start; end = end } }) ∷ []) → length nodes2 < 4294967296 → Grown tags text is es2 nodes2 ts (collection_from true (tag_at tags tag) (parts_at ts parts))
-  mapping-more tag high start end parts es2 nodes2 tagged a b e even low h limit q few =
+  mapping-more tag high start end parts es2 nodes2 tagged a b e even low h q few =
       let n : Node = record { kind = kinds.Mapping; tag = tag; height = high; span = record { start = start; end = end } } in
       let last : end ≡ length (es ++ paired parts) = b ∙ ap length e in
       let inside = ap entries (range-new es (paired parts) start end a last) in
       let same = paired-map (tree_at ts) parts in
       let count : length (parts_at ts parts) % 2 ≡ 0 = ap (λ k. k % 2) (length-map {B = Tree} parts (tree_at ts)) ∙ even in
-      let tall : high ≡ height (mapping (tag_at tags tag) (pairs (map {B = Tree × Tree} (λ p. (tree_at ts p.0, tree_at ts p.1)) (paired parts)))) = h ∙ (sym (even-pairs (parts_at ts parts) count) ∙ ap (λ ps. height (mapping (tag_at tags tag) (pairs ps))) (sym same)) in
+      let tall : high ≡ cut (mapping (tag_at tags tag) (pairs (map {B = Tree × Tree} (λ p. (tree_at ts p.0, tree_at ts p.1)) (paired parts)))) = h ∙ (ap (λ k. min k (suc height_limit)) (sym (even-pairs (parts_at ts parts) count)) ∙ ap (λ ps. cut (mapping (tag_at tags tag) (pairs ps))) (sym same)) in
       let grown = one-more tags text [] is [] es (paired parts) nodes old n tagged (omega (arith, length-append es (paired parts))) (omega arith) behind
-      (λ j d l. absurd (omega arith), subst (All (λ (p : ℕ × ℕ). (p.0 < length nodes) × (p.1 < length nodes))) (sym (range-new es (paired parts) start end a last)) (paired-below (length nodes) parts (subst (λ k. All (λ i. i < k) parts) (trees-count nodes text is es tags) low))) (entries (paired parts)) inside tt tall limit (omega (arith, ap length q)) text is es2 nodes2 (sym (append-nil text)) (sym (append-nil is)) e q in
+      (λ j d l. absurd (omega arith), subst (All (λ (p : ℕ × ℕ). (p.0 < length nodes) × (p.1 < length nodes))) (sym (range-new es (paired parts) start end a last)) (paired-below (length nodes) parts (subst (λ k. All (λ i. i < k) parts) (trees-count nodes text is es tags) low))) (entries (paired parts)) inside tt tall (omega (arith, ap length q)) text is es2 nodes2 (sym (append-nil text)) (sym (append-nil is)) e q in
       subst (λ ps. Grown tags text is es2 nodes2 ts (mapping (tag_at tags tag) (pairs ps))) same grown
     where
       behind : (t : Place) → share t (Mapping (record { start = start; end = end })) ≡ true → room_of (length text) (length is) (length es) t ≤ start
@@ -153,8 +154,7 @@ module _ (tags more : List (List ℕ)) (text is : List ℕ) (es : List (ℕ × �
       apart = old.apart;
       below = old.below;
       texts = old.texts;
-      measured = subst (λ us. (i : ℕ) (n : Node) → slice_get nodes i ≡ Some n → n.height ≡ height (tree_at us i)) (sym tagged-trees) old.measured;
-      low = old.low;
+      measured = subst (λ us. (i : ℕ) (n : Node) → slice_get nodes i ≡ Some n → n.height ≡ cut (tree_at us i)) (sym tagged-trees) old.measured;
     }
 
 pub record Tagged (gs hs : List (List ℕ)) (t : List ℕ) (text is : List ℕ) (es : List (ℕ × ℕ)) (nodes : List Node) : Type 0 where
@@ -193,6 +193,10 @@ kept-memo old new m h = record { good = h.good; more_tags = h.more_tags; tags = 
 
 pub kept-tag-memo : (old new : Store) (m : Memo) → Keeps old new → Keeps old (record new { tag_memo = m })
 kept-tag-memo old new m h = record { good = h.good; more_tags = h.more_tags; tags = h.tags; more = h.more; trees = h.trees }
+
+-- and so may the numbers of tags
+pub kept-numbers : (old new : Store) (m : TagNumbers) → Keeps old new → Keeps old (record new { numbers = m })
+kept-numbers old new m h = record { good = h.good; more_tags = h.more_tags; tags = h.tags; more = h.more; trees = h.trees }
 
 -- what a tag is, by its number
 pub record TagIs (tags : List (List ℕ)) (i : ℕ) (t : List ℕ) : Type 0 where

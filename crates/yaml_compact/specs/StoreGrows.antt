@@ -1,10 +1,10 @@
 -- Stores that grow.
-use Rattle.std.specs.Prelude.{◌≡◌, ℕ, ◌<◌, ◌≤◌, List, ◌++◌, length, map, Some}
+use Rattle.std.specs.Prelude.{◌≡◌, ◌⊎◌, ℕ, suc, ◌<◌, ◌≤◌, List, ◌++◌, length, map, Some}
 use Rattle.std.specs.List.{slice_get, All}
 use Rattle.std.specs.Str.{IsUtf8}
 use Rattle.std.specs.String.{string_bytes}
 use Rattle.yaml_definitions.specs.model.Limits.{height_limit}
-use Rattle.yaml_definitions.specs.model.Tree.{Tree}
+use Rattle.yaml_definitions.specs.model.Tree.{Tree, height}
 use Rattle.yaml_levels.specs.View.{Inside, content, items, entries}
 use Rattle.yaml_compact.specs.declared.nodes.Node.{Node}
 use Rattle.yaml_compact.specs.declared.store.Store.{Store}
@@ -16,7 +16,7 @@ IsText (content x) = IsUtf8 x
 IsText (items is) = Unit {0}
 IsText (entries es) = Unit {0}
 
--- What lists of nodes keep: places lie in their list, parts stand before their node and behind those of earlier ones, contents are text, and heights are those of the trees.
+-- What lists of nodes keep: places lie in their list, parts stand before their node and behind those of earlier ones, contents are text, and heights are those of the trees, cut just above the limit.
 pub record Sound (tags : List (List ℕ)) (text is : List ℕ) (es : List (ℕ × ℕ)) (nodes : List Node) : Type 0 where
   pub few : length nodes < 4294967296
   pub placed : AllPlaced (length text) (length is) (length es) (length tags) nodes
@@ -24,7 +24,6 @@ pub record Sound (tags : List (List ℕ)) (text is : List ℕ) (es : List (ℕ �
   pub below : AllBelow nodes is es
   pub texts : (i : ℕ) (n : Node) → slice_get nodes i ≡ Some n → IsText (inside_of text is es (place_of n))
   pub measured : AllMeasured nodes (trees_stored nodes text is es tags)
-  pub low : (i : ℕ) (n : Node) → slice_get nodes i ≡ Some n → n.height ≤ height_limit
 
 -- the tags by number
 abbrev pub tags_of : Store → List (List ℕ)
@@ -37,9 +36,17 @@ Good s = Sound (tags_of s) (string_bytes s.text) s.items.items s.entries.items s
 abbrev pub trees_of : Store → List Tree
 trees_of s = trees_stored s.nodes.items (string_bytes s.text) s.items.items s.entries.items (tags_of s)
 
+-- no node stands for a tree that is higher than the limit
+abbrev pub IsLow : Store → Type 0
+IsLow s = (i : ℕ) (t : Tree) → slice_get (trees_of s) i ≡ Some t → height t ≤ height_limit
+
 -- the node of this number stands for the tree
 abbrev pub Stands : Store → ℕ → Tree → Type 0
 Stands s i t = slice_get (trees_of s) i ≡ Some t
+
+-- at most one node came, and it has the next number
+abbrev pub AtMostOne : ℕ → ℕ → ℕ → Type 0
+AtMostOne before after i = (after ≡ before) ⊎ ((after ≡ suc before) × (i ≡ before))
 
 -- The store is good, and has a tag of this number and nodes of these.
 pub record Fits (s : Store) (tag : ℕ) (parts : List ℕ) : Type 0 where

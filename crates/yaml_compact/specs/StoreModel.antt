@@ -1,8 +1,9 @@
 -- What the lists of a store hold.
 use Rattle.std.specs.Prelude.{◌≡◌, ◌⊎◌, ℕ, ◌<◌, ◌≤◌, Bool, true, false, List, [], map, Option, Some, None}
 use Rattle.std.specs.List.{slice_get, slice_index_or, slice_range}
-use Rattle.yaml_definitions.specs.model.Tree.{Tree, height}
+use Rattle.yaml_definitions.specs.model.Tree.{Tree}
 use Rattle.yaml_nodes.specs.GraphModel.{tree_at}
+use Rattle.yaml_nodes.specs.ComposerModel.{cut}
 use Rattle.yaml_levels.specs.View.{Inside, content, items, entries, InsideBelow}
 use Rattle.yaml_levels.specs.Insides.{Held, trees_held}
 use Rattle.yaml_compact.specs.declared.nodes.Span.{Span}
@@ -128,6 +129,6 @@ PartsInOrder nodes = (i j : ℕ) (s t : Node) → i < j → slice_get nodes i �
 abbrev pub AllBelow : List Node → List ℕ → List (ℕ × ℕ) → Type 0
 AllBelow nodes is es = (i : ℕ) (s : Node) → slice_get nodes i ≡ Some s → InsideBelow i (inside_of [] is es (place_of s))
 
--- the heights are those of the trees
+-- the heights are those of the trees, cut just above the limit
 abbrev pub AllMeasured : List Node → List Tree → Type 0
-AllMeasured nodes ts = (i : ℕ) (s : Node) → slice_get nodes i ≡ Some s → s.height ≡ height (tree_at ts i)
+AllMeasured nodes ts = (i : ℕ) (s : Node) → slice_get nodes i ≡ Some s → s.height ≡ cut (tree_at ts i)

@@ -5,7 +5,7 @@ ghost use Rattle.std.specs.List.{slice_get, All};
 ghost use Rattle.yaml_nodes.specs.GraphView.{graph_trees, roots_of};
 ghost use Rattle.yaml_levels.proofs.GraphOf.{kind_inside, node_held as held_of};
 ghost use Rattle.yaml_compact.specs.StoreModel.{Within, inside_of, node_held};
-ghost use Rattle.yaml_compact.specs.StoreGrows.{Good, IsText, tags_of, trees_of};
+ghost use Rattle.yaml_compact.specs.StoreGrows.{Good, IsLow, IsText, tags_of, trees_of};
 
 use crate::gives_up::GivesUp;
 use crate::nodes::{Node, Place};
@@ -75,6 +75,7 @@ impl Store {
     /// mostly one. The store lends their texts.
     pub fn graph(&self, alloc: Global, roots: &[u32]) -> Result<Graph<'_>, GivesUp>
         requires good { Good self.now }
+        requires low { IsLow self.now }
         requires roots { All (λ i. i < length self.now.nodes.items) roots.now }
         ensures trees { IfOk result (λ graph. graph_trees graph ≡ trees_of self.now) }
         ensures roots { IfOk result (λ graph. map (λ i. i.0) (roots_of graph) ≡ roots.now) }

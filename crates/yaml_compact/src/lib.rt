@@ -18,6 +18,7 @@ mod settle;
 mod shorts;
 mod slot;
 pub mod store;
+mod tag_numbers;
 pub mod unranked;
 mod walked;
 

@@ -96,9 +96,9 @@ fn with_ends(hash: u64, text: &[u8]) -> u64 {
     mixed(hash, number)
 }
 
-/// A hash of a tag.
+/// A hash of a tag, of which each byte counts.
 pub(crate) fn hash_tag(tag: &[u8]) -> u64 {
-    with_ends(0, tag)
+    hash_text(0, tag)
 }
 
 /// A hash of a tag and a content, of which each byte counts.

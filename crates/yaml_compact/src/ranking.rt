@@ -2,7 +2,7 @@
 ghost use Rattle.std.specs.Prelude.{◌≡◌, length, IfOk, IfErr};
 ghost use Rattle.yaml_levels.specs.View.{View};
 ghost use Rattle.yaml_compact.specs.Ranking.{Stored, AllRanked};
-ghost use Rattle.yaml_compact.specs.StoreGrows.{Good};
+ghost use Rattle.yaml_compact.specs.StoreGrows.{Good, IsLow};
 ghost use Rattle.yaml_compact.specs.StoreView.{StoreRanked};
 ghost use Rattle.yaml_compact.specs.Unranked.{RefusesView, RefusesStore};
 
@@ -84,7 +84,8 @@ fn rank_all(
 /// The ranks of all nodes of a store: equal exactly for equal trees, and in the order of trees. Refused is
 /// the mapping of least height, then of least number, with two equal keys, and its first two are told.
 pub fn compact_rank(alloc: Global, store: Store) -> Result<Ranked, Unranked>
-    requires { Good store }
+    requires good { Good store }
+    requires low { IsLow store }
     ensures ok { (good : Good store) → IfOk result (StoreRanked store good) }
     ensures err { (good : Good store) → IfErr result (RefusesStore store good) }
 {

@@ -1,19 +1,20 @@
 //! Nodes by number, equal ones mostly merged.
-ghost use Rattle.std.specs.Prelude.{◌≡◌, ◌<◌, ◌≤◌, [], ◌∷◌, ◌++◌, true, false, List, length, Some, IfOk, IsTrue};
+ghost use Rattle.std.specs.Prelude.{◌≡◌, ◌<◌, suc, min, [], ◌∷◌, ◌++◌, true, false, List, length, Some, IfOk, IsTrue};
 ghost use Rattle.std.specs.Bool.{OnTrue};
 ghost use Rattle.std.specs.List.{slice_get, slice_range, All};
 ghost use Rattle.yaml_definitions.specs.model.Tree.{Tree, scalar, heights};
 ghost use Rattle.yaml_definitions.specs.model.Limits as limit;
 ghost use Rattle.yaml_nodes.specs.TreeLists.{trees as part_list};
+ghost use Rattle.yaml_nodes.specs.ComposerModel.{cut};
 ghost use Rattle.yaml_nodes.specs.ComposerSteps.{collection_from, paired};
 ghost use Rattle.yaml_compact.specs.StoreModel.{SpanWithin, AllMeasured, tag_at, parts_at, is_mapping};
-ghost use Rattle.yaml_compact.specs.StoreGrows.{Good, Fits, Keeps, tags_of, trees_of, Stands};
+ghost use Rattle.yaml_compact.specs.StoreGrows.{AtMostOne, Good, IsLow, Fits, Keeps, tags_of, trees_of, Stands};
 
 use crate::gives_up::GivesUp;
 use crate::memo::{Memo, hash_parts, hash_tag, hash_text};
 use crate::nodes::{Collection, Kind, Node, Span};
+use crate::tag_numbers::TagNumbers;
 use std::alloc::Global;
-use std::collections::BTreeMap;
 use yaml_text::limits::height_limit;
 
 /// The nodes, each after its parts: their tags, each once; all contents one after the other, all items and
@@ -22,8 +23,7 @@ use yaml_text::limits::height_limit;
 pub struct Store {
     pub(crate) memo: Memo,
     pub(crate) tag_memo: Memo,
-    /// The number of each tag. A number is believed only once its tag was compared.
-    pub(crate) numbers: BTreeMap<String, u32>,
+    pub(crate) numbers: TagNumbers,
     pub(crate) tags: Vec<String>,
     pub(crate) text: String,
     pub(crate) items: Vec<u32>,
@@ -111,6 +111,7 @@ fn push_node(nodes: &mut Vec<Node>, node: Node) -> Result<u32, GivesUp>
     ensures number { IfOk result (λ n. n ≡ length nodes.old.items) }
     ensures few { IfOk result (λ _. length nodes.new.items < 4294967296) }
     ensures pushed { IfOk result (λ _. nodes.new.items ≡ nodes.old.items ++ (node ∷ [])) }
+    ensures one { IfOk result (AtMostOne (length nodes.old.items) (length nodes.new.items)) }
 {
     let number = nodes.len();
     if number >= ROOM {
@@ -120,10 +121,9 @@ fn push_node(nodes: &mut Vec<Node>, node: Node) -> Result<u32, GivesUp>
     Ok(number as u32)
 }
 
-/// The height of a collection of these parts, if it is not above the limit.
+/// The height of a collection of these parts, cut just above the limit.
 fn height_over(nodes: &[Node], parts: &[u32]) -> Result<u16, GivesUp>
-    ensures low { IfOk result (λ h. h ≤ limit.height_limit) }
-    ensures is { IfOk result (λ h. (ts : List Tree) → AllMeasured nodes.now ts → h ≡ heights (part_list (parts_at ts parts.now))) }
+    ensures { IfOk result (λ h. (ts : List Tree) → AllMeasured nodes.now ts → h ≡ min (heights (part_list (parts_at ts parts.now))) (suc limit.height_limit)) }
 {
     let mut height: usize = 0;
     for part in parts {
@@ -132,10 +132,7 @@ fn height_over(nodes: &[Node], parts: &[u32]) -> Result<u16, GivesUp>
         };
         height = height.max(node.height as usize + 1);
     }
-    if height > height_limit() {
-        return Err(GivesUp);
-    }
-    Ok(height as u16)
+    Ok(height.min(height_limit() + 1) as u16)
 }
 
 impl Store {
@@ -149,13 +146,41 @@ impl Store {
         Ok(Store {
             memo,
             tag_memo,
-            numbers: BTreeMap::new(alloc),
+            numbers: TagNumbers::new(alloc),
             tags: Vec::new(alloc),
             text: String::new(alloc),
             items: Vec::new(alloc),
             entries: Vec::new(alloc),
             nodes: Vec::new(alloc),
         })
+    }
+
+    /// How many nodes there are.
+    pub fn len(&self) -> usize
+        ensures { result ≡ length self.now.nodes.items }
+    {
+        self.nodes.len()
+    }
+
+    /// Whether no node's tree is higher than the limit.
+    pub fn is_low(&self) -> bool
+        ensures low { Good self.now → OnTrue result (IsLow self.now) }
+        ensures high { Good self.now → IsLow self.now → IsTrue result }
+    {
+        for node in &self.nodes {
+            if node.height as usize > height_limit() {
+                return false;
+            }
+        }
+        true
+    }
+
+    /// The height of the tree that a node stands for, cut just above the limit.
+    pub fn height_of(&self, id: u32) -> Option<u16>
+        ensures { (t : Tree) → Good self.now → Stands self.now id t → result ≡ Some (cut t) }
+    {
+        let node = self.nodes.get(id as usize)?;
+        Some(node.height)
     }
 
     /// Whether this is the tag of that number.
@@ -168,30 +193,39 @@ impl Store {
         text.as_str() == tag
     }
 
-    /// The number of a new tag.
+    /// Puts a tag behind the others. Its number.
     fn add_tag(&mut self, alloc: Global, tag: &str) -> Result<u32, GivesUp>
         ensures kept { Good self.old → IfOk result (λ _. Keeps self.old self.new) }
         ensures is { IfOk result (λ i. slice_get (tags_of self.new) i ≡ Some tag.now) }
+        ensures nodes { IfOk result (λ _. self.new.nodes ≡ self.old.nodes) }
     {
         let number = place(self.tags.len())?;
-        let key = String::from_str(alloc, tag)?;
-        self.numbers.insert(key, number)?;
         let text = String::from_str(alloc, tag)?;
         self.tags.push(text)?;
         Ok(number)
     }
 
-    /// The number of this tag, which is looked for among all of them, and added if it is new.
-    fn find_tag(&mut self, alloc: Global, tag: &str) -> Result<u32, GivesUp>
+    /// The number of this tag of this hash, which is looked for among all of them, and added if it is new.
+    fn find_tag(&mut self, alloc: Global, hash: u64, tag: &str) -> Result<u32, GivesUp>
         ensures kept { Good self.old → IfOk result (λ _. Keeps self.old self.new) }
         ensures is { IfOk result (λ i. slice_get (tags_of self.new) i ≡ Some tag.now) }
+        ensures nodes { IfOk result (λ _. self.new.nodes ≡ self.old.nodes) }
     {
-        let Some(number) = self.numbers.get(tag).copied() else {
-            return self.add_tag(alloc, tag);
+        let Some(first) = self.numbers.first(hash) else {
+            let number = self.add_tag(alloc, tag)?;
+            self.numbers.keep_first(hash, number)?;
+            return Ok(number);
         };
-        if !self.is_tag(number, tag) {
-            return Err(GivesUp);
+        if self.is_tag(first, tag) {
+            return Ok(first);
         }
+        if let Some(other) = self.numbers.other(tag) {
+            if self.is_tag(other, tag) {
+                return Ok(other);
+            }
+        }
+        let number = self.add_tag(alloc, tag)?;
+        self.numbers.keep_other(alloc, tag, number)?;
         Ok(number)
     }
 
@@ -199,13 +233,14 @@ impl Store {
     pub fn tag(&mut self, alloc: Global, tag: &str) -> Result<u32, GivesUp>
         ensures kept { Good self.old → IfOk result (λ _. Keeps self.old self.new) }
         ensures is { IfOk result (λ i. slice_get (tags_of self.new) i ≡ Some tag.now) }
+        ensures nodes { IfOk result (λ _. self.new.nodes ≡ self.old.nodes) }
     {
         let hash = hash_tag(tag.as_bytes());
         let seen = self.tag_memo.seen(hash);
         if self.is_tag(seen, tag) {
             return Ok(seen);
         }
-        let number = self.find_tag(alloc, tag)?;
+        let number = self.find_tag(alloc, hash, tag)?;
         self.tag_memo.keep(hash, number);
         Ok(number)
     }
@@ -253,6 +288,7 @@ impl Store {
     fn add_scalar(&mut self, seen: u32, tag: u32, content: &str) -> Result<u32, GivesUp>
         ensures kept { Good self.old → tag < length (tags_of self.old) → IfOk result (λ _. Keeps self.old self.new) }
         ensures stands { Good self.old → tag < length (tags_of self.old) → IfOk result (λ i. Stands self.new i (scalar (tag_at (tags_of self.old) tag) content.now)) }
+        ensures one { IfOk result (λ i. AtMostOne (length self.old.nodes.items) (length self.new.nodes.items) i) }
     {
         if self.is_scalar(seen, tag, content) {
             return Ok(seen);
@@ -275,6 +311,7 @@ impl Store {
     fn add_sequence(&mut self, seen: u32, tag: u32, items: &[u32]) -> Result<u32, GivesUp>
         ensures kept { Fits self.old tag items.now → IfOk result (λ _. Keeps self.old self.new) }
         ensures stands { Fits self.old tag items.now → IfOk result (λ i. Stands self.new i (collection_from false (tag_at (tags_of self.old) tag) (parts_at (trees_of self.old) items.now))) }
+        ensures one { IfOk result (λ i. AtMostOne (length self.old.nodes.items) (length self.new.nodes.items) i) }
     {
         if self.is_sequence(seen, tag, items) {
             return Ok(seen);
@@ -298,6 +335,7 @@ impl Store {
     fn add_mapping(&mut self, seen: u32, tag: u32, parts: &[u32]) -> Result<u32, GivesUp>
         ensures kept { Fits self.old tag parts.now → IfOk result (λ _. Keeps self.old self.new) }
         ensures stands { Fits self.old tag parts.now → IfOk result (λ i. Stands self.new i (collection_from true (tag_at (tags_of self.old) tag) (parts_at (trees_of self.old) parts.now))) }
+        ensures one { IfOk result (λ i. AtMostOne (length self.old.nodes.items) (length self.new.nodes.items) i) }
     {
         if self.is_mapping(seen, tag, parts) {
             return Ok(seen);
@@ -329,6 +367,7 @@ impl Store {
     ) -> Result<u32, GivesUp>
         ensures kept { Fits self.old tag parts.now → IfOk result (λ _. Keeps self.old self.new) }
         ensures stands { Fits self.old tag parts.now → IfOk result (λ i. Stands self.new i (collection_from (is_mapping collection) (tag_at (tags_of self.old) tag) (parts_at (trees_of self.old) parts.now))) }
+        ensures one { IfOk result (λ i. AtMostOne (length self.old.nodes.items) (length self.new.nodes.items) i) }
     {
         match collection {
             Collection::Sequence => self.add_sequence(seen, tag, parts),
@@ -340,6 +379,7 @@ impl Store {
     pub fn scalar_of(&mut self, tag: u32, content: &str) -> Result<u32, GivesUp>
         ensures kept { Good self.old → tag < length (tags_of self.old) → IfOk result (λ _. Keeps self.old self.new) }
         ensures stands { Good self.old → tag < length (tags_of self.old) → IfOk result (λ i. Stands self.new i (scalar (tag_at (tags_of self.old) tag) content.now)) }
+        ensures one { IfOk result (λ i. AtMostOne (length self.old.nodes.items) (length self.new.nodes.items) i) }
     {
         let hash = hash_text(tag, content.as_bytes());
         let seen = self.memo.seen(hash);
@@ -352,6 +392,7 @@ impl Store {
     pub fn scalar(&mut self, alloc: Global, tag: &str, content: &str) -> Result<u32, GivesUp>
         ensures kept { Good self.old → IfOk result (λ _. Keeps self.old self.new) }
         ensures stands { Good self.old → IfOk result (λ i. Stands self.new i (scalar tag.now content.now)) }
+        ensures one { IfOk result (λ i. AtMostOne (length self.old.nodes.items) (length self.new.nodes.items) i) }
     {
         let tag = self.tag(alloc, tag)?;
         let id = self.scalar_of(tag, content)?;
@@ -367,6 +408,7 @@ impl Store {
     ) -> Result<u32, GivesUp>
         ensures kept { Fits self.old tag parts.now → IfOk result (λ _. Keeps self.old self.new) }
         ensures stands { Fits self.old tag parts.now → IfOk result (λ i. Stands self.new i (collection_from (is_mapping collection) (tag_at (tags_of self.old) tag) (parts_at (trees_of self.old) parts.now))) }
+        ensures one { IfOk result (λ i. AtMostOne (length self.old.nodes.items) (length self.new.nodes.items) i) }
     {
         let hash = hash_parts(collection.kind(), tag, parts);
         let seen = self.memo.seen(hash);

@@ -2,7 +2,6 @@
 use Rattle.std.proofs.Common.{◌≡◌, ℕ, zero, suc, ◌<◌, ◌≤◌, Bool, List, [], ◌∷◌, ◌++◌, length, set, take, drop, reverse, get_or, refl, sym, ◌∙◌, ap, subst, arith, append_assoc, length-append}
 use Rattle.std.specs.Prelude.{Option, None, Some, Ok}
 use Rattle.std.specs.List.{slice_get, All}
-use Rattle.std.specs.String.{string_bytes}
 use Rattle.std.proofs.lemmas.Option.{slice_get_within, get_or_from_slice_get, slice_get_read}
 use Rattle.std.proofs.lemmas.List.{reverse-append, map-append}
 use Rattle.std.proofs.lemmas.List.Elements.{All-nil, All-cons}
@@ -17,17 +16,15 @@ use Rattle.yaml_nodes.specs.GraphModel.{AreLow}
 use Rattle.yaml_nodes.proofs.GraphLaws.{get-more}
 use Rattle.yaml_nodes.proofs.LowLaws.{Low, all-low}
 use Rattle.yaml_nodes.proofs.AnchorLaws.{names-length, names-closed, placed-push, placed-opened, Found, found}
-use Rattle.yaml_compact.specs.StoreModel.{parts_at, trees_stored, is_mapping}
-use Rattle.yaml_compact.specs.StoreGrows.{Sound, Keeps, tags_of, trees_of}
+use Rattle.yaml_compact.specs.StoreModel.{parts_at, is_mapping}
+use Rattle.yaml_compact.specs.StoreGrows.{Keeps, IsLow, tags_of, trees_of}
 use Rattle.yaml_compose.specs.TagModel.{collection_number}
-use Rattle.yaml_compact.proofs.Growing.{tree-low}
 use Rattle.yaml_compose.specs.ComposerModel.{AllAt, SlotAt, TableAt, below, OpenHolds, OpensHold, Keeping, Holds, start_of, end_of}
 use Rattle.yaml_compose.proofs.TagLaws.{core-kept}
 use Rattle.yaml_compose.specs.declared.composer.Open.{Open}
 use Rattle.yaml_compact.specs.declared.nodes.Collection.{Collection}
 use Rattle.yaml_compact.specs.declared.nodes.Collection.TheVariants as kinds
 use Rattle.yaml_compose.specs.declared.composer.Composer.{Composer}
-use Rattle.yaml_compact.specs.declared.nodes.Node.{Node}
 use Rattle.yaml_compact.specs.declared.store.Store.{Store}
 
 -- ---- the whole nodes
@@ -299,15 +296,15 @@ keeping-left tags ts anchored stack opens os o inner (p ∷ ps) table e h =
 
 -- ---- heights
 
-low-all : (tags : List (List ℕ)) (text is : List ℕ) (es : List (ℕ × ℕ)) (nodes : List Node) → Sound tags text is es nodes → (stack : List ℕ) (us : List Tree) → AllAt (trees_stored nodes text is es tags) stack us → Low height_limit us
-low-all tags text is es nodes s [] [] h = tt
-low-all tags text is es nodes s (i ∷ stack) (u ∷ us) h = (tree-low tags text is es nodes s i u h.0, low-all tags text is es nodes s stack us h.1)
-low-all tags text is es nodes s [] (u ∷ us) h = absurd h
-low-all tags text is es nodes s (i ∷ stack) [] h = absurd h
+low-all : (s : Store) → IsLow s → (stack : List ℕ) (us : List Tree) → AllAt (trees_of s) stack us → Low height_limit us
+low-all s low [] [] h = tt
+low-all s low (i ∷ stack) (u ∷ us) h = (low i u h.0, low-all s low stack us h.1)
+low-all s low [] (u ∷ us) h = absurd h
+low-all s low (i ∷ stack) [] h = absurd h
 
--- no tree that stands is higher than the limit
-pub are-low : (tags : List (List ℕ)) (text is : List ℕ) (es : List (ℕ × ℕ)) (nodes : List Node) (stack : List ℕ) (us : List Tree) → Sound tags text is es nodes → AllAt (trees_stored nodes text is es tags) stack us → AreLow us
-are-low tags text is es nodes stack us s a = all-low height_limit us (low-all tags text is es nodes s stack us a)
+-- no tree that stands in a low store is higher than the limit
+pub are-low : (s : Store) → IsLow s → (stack : List ℕ) (us : List Tree) → AllAt (trees_of s) stack us → AreLow us
+are-low s low stack us a = all-low height_limit us (low-all s low stack us a)
 
 -- ---- the same of a composer
 
@@ -317,7 +314,6 @@ left-in c s os o e h = keeping-left (tags_of c.store) (trees_of c.store) c.ancho
 -- the roots where no collection is open
 pub record Roots (c : Composer) (s : machine.State) : Type 0 where
   pub at : AllAt (trees_of c.store) c.stack.items s.inner
-  pub low : AreLow s.inner
   pub count : length c.stack.items ≡ length s.inner
 
 pub roots-of : (c : Composer) (s : machine.State) → Holds c s → length c.opens.items ≤ 0 → Roots c s
@@ -327,7 +323,6 @@ roots-of c s h l =
     let a = roots-only (tags_of k) (trees_of k) c.anchored.items c.stack.items c.opens.items s.inner s.outer s.table h.keeping n in
     record {
       at = a;
-      low = are-low (tags_of k) (string_bytes k.text) k.items.items k.entries.items k.nodes.items c.stack.items s.inner h.good.store a;
       count = all-length (trees_of k) c.stack.items s.inner a;
     }
 

@@ -10,7 +10,7 @@ use Rattle.yaml_definitions.specs.model.Unfold.{Table, trees_of as trees_unfolde
 use Rattle.yaml_nodes.specs.ComposerSteps as machine
 use Rattle.yaml_nodes.specs.ComposerModel.{names_of, Placed}
 use Rattle.yaml_nodes.specs.GraphModel.{AreLow}
-use Rattle.yaml_compact.specs.StoreGrows.{tags_of, Good, trees_of}
+use Rattle.yaml_compact.specs.StoreGrows.{tags_of, Good, IsLow, trees_of}
 use Rattle.yaml_compact.specs.declared.store.Store.{Store}
 use Rattle.yaml_compact.specs.declared.nodes.Collection.{Collection}
 use Rattle.yaml_compact.specs.declared.nodes.Collection.TheVariants.{Sequence, Mapping}
@@ -89,12 +89,13 @@ abbrev pub end_of : Collection → Event
 end_of Sequence = sequence_end
 end_of Mapping = mapping_end
 
--- the documents unfold, no tree is higher than the limit, and the roots stand for the trees
+-- the documents unfold, no tree is higher than the limit, nor is one that a node of the store stands for, and the roots stand for the trees
 pub record IsForest (ds : List Document) (f : Forest) : Type 0 where
   pub trees_are : List Tree
   pub unfolded : trees_unfolded ds ≡ Ok trees_are
   pub low : AreLow trees_are
   pub good : Good f.store
+  pub level : IsLow f.store
   pub roots : AllAt (trees_of f.store) f.roots.items trees_are
 
 -- the same of the documents of two streams, the roots of the first before those of the second
@@ -103,4 +104,5 @@ pub record AreForests (ds es : List Document) (f : Forest) : Type 0 where
   pub unfolded : UnfoldBoth ds es trees_are
   pub low : AreLow trees_are
   pub good : Good f.store
+  pub level : IsLow f.store
   pub roots : AllAt (trees_of f.store) f.roots.items trees_are

@@ -19,6 +19,7 @@ ghost use Rattle.yaml_compose.specs.ComposerLog.{Follows};
 use crate::anchors::Anchors;
 use crate::core_tags::CoreTags;
 use crate::tag::tag_of;
+use crate::too_high::first_too_high;
 use std::alloc::Global;
 use std::borrow::CowStr;
 use yaml_compact::gives_up::GivesUp;
@@ -128,6 +129,12 @@ impl Composer {
             opens,
         } = self;
         if opens.len() > 0 {
+            return Err(GivesUp);
+        }
+        if first_too_high(&store, &stack).is_some() {
+            return Err(GivesUp);
+        }
+        if !store.is_low() {
             return Err(GivesUp);
         }
         Ok(Forest {

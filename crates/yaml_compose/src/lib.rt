@@ -9,6 +9,7 @@ mod core_tags;
 pub mod keeper;
 pub mod laws;
 mod tag;
+mod too_high;
 mod waiting;
 
 pub use composer::Forest;

@@ -31,6 +31,7 @@ new-requires-clause-measured c =
     let n = ap length c.deref-node-items.ensures.value in
     measured s c.requires.good c.loop-node.nodes.items
     (all-copied c.loop-node.node-index (map (held s) s.nodes.items) (omega (arith, c.loop-node-test.false, n, length-map s.nodes.items (held s))) c.loop-node.invariant.0)
+    c.requires.low
     c.loop-node.heights.items
     (all-copied c.loop-node.node-index (map high s.nodes.items) (omega (arith, c.loop-node-test.false, n, length-map s.nodes.items high)) c.loop-node.invariant.1)
 
@@ -40,6 +41,7 @@ new-requires-clause-low c =
     let n = ap length c.deref-node-items.ensures.value in
     low s c.requires.good c.loop-node.nodes.items
     (all-copied c.loop-node.node-index (map (held s) s.nodes.items) (omega (arith, c.loop-node-test.false, n, length-map s.nodes.items (held s))) c.loop-node.invariant.0)
+    c.requires.low
     c.loop-node.heights.items
     (all-copied c.loop-node.node-index (map high s.nodes.items) (omega (arith, c.loop-node-test.false, n, length-map s.nodes.items high)) c.loop-node.invariant.1)
 

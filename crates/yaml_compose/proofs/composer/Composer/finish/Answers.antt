@@ -1,16 +1,19 @@
 use Rattle.std.proofs.Common.{arith}
-use Rattle.yaml_compose.proofs.ComposerLaws.{roots-of}
+use Rattle.yaml_compose.proofs.ComposerLaws.{roots-of, are-low}
 use Rattle.yaml_compose.proofs.ReachedLaws.{stream-is-forest, two-streams-are-forests}
+use Rattle.yaml_compact.specs.StoreGrows.{IsLow}
 use Rattle.yaml_compose.proofs.composer.Composer.finish.Goals as goal
 
 pub returns-clause-forest : goal.returns-clause-forest
 returns-clause-forest c = λ ds s r h.
     let self = c.args.self in
     let roots = roots-of self s h (omega (arith, c.len.ensures, self.opens.ok.0, c.if-len-gt0.false)) in
-    record { trees_are = s.inner; unfolded = stream-is-forest ds s r; low = roots.low; good = h.good.store; roots = roots.at }
+    let low : IsLow self.store = c.if-not-is_low.ensures.low h.good.store in
+    record { trees_are = s.inner; unfolded = stream-is-forest ds s r; low = are-low self.store low self.stack.items s.inner roots.at; good = h.good.store; level = low; roots = roots.at }
 
 pub returns-clause-both : goal.returns-clause-both
 returns-clause-both c = λ ds es s r h.
     let self = c.args.self in
     let roots = roots-of self s h (omega (arith, c.len.ensures, self.opens.ok.0, c.if-len-gt0.false)) in
-    record { trees_are = s.inner; unfolded = two-streams-are-forests ds es s r; low = roots.low; good = h.good.store; roots = roots.at }
+    let low : IsLow self.store = c.if-not-is_low.ensures.low h.good.store in
+    record { trees_are = s.inner; unfolded = two-streams-are-forests ds es s r; low = are-low self.store low self.stack.items s.inner roots.at; good = h.good.store; level = low; roots = roots.at }
