@@ -6,5 +6,7 @@ pub mod LogLaws
 pub mod NodeLaws
 pub mod AheadLaws
 pub mod WaitingLaws
+pub mod RefusalLaws
+pub mod JudgedLaws
 pub mod DueLaws
 pub mod KeeperLaws

@@ -6,10 +6,14 @@ mod anchors;
 mod composer;
 mod copies;
 mod core_tags;
+mod judged;
 pub mod keeper;
 pub mod laws;
+mod stop;
 mod tag;
+mod unmade;
 mod waiting;
 
 pub use composer::Forest;
 pub use keeper::Composing;
+pub use unmade::Unmade;
