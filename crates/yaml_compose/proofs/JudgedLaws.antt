@@ -1,6 +1,7 @@
 -- A composer up to the first event that is refused, as more events come.
 use Rattle.std.proofs.Common.{◌≡◌, ℕ, ◌<◌, List, [], ◌∷◌, ◌++◌, length, refl, sym, ◌∙◌, ap, subst, arith}
 use Rattle.std.specs.Prelude.{Bool, Option, None, Some}
+use Rattle.yaml_definitions.specs.model.Core.{Cause}
 use Rattle.yaml_definitions.specs.model.Event.{Event, stream_start, stream_end, document_end, mapping_start, untagged}
 use Rattle.yaml_definitions.specs.model.Serial.{Document, stream_events}
 use Rattle.yaml_sink.specs.Held.{Puts}
@@ -63,7 +64,7 @@ takes-stopped old new at e stop r n q w k = record {
 rest-by : (o : Option Refusal) (c : Composer) (told : List Event) → FollowsUnless o c told → FollowsUnless o c (told ++ (stream_start ∷ [])) × FollowsUnless o c (told ++ (stream_end ∷ [])) × ((explicit : Bool) → FollowsUnless o c (told ++ (document_end explicit ∷ [])))
 rest-by None c told h = follows-rest c told h
 rest-by (Some r) c told h =
-    let x = (cause_of r.cause, r.at) in
+    let x : Cause × ℕ = (cause_of r.cause, r.at) in
     (refused-more told (stream_start ∷ []) 0 initial_state x h, refused-more told (stream_end ∷ []) 0 initial_state x h, λ explicit. refused-more told (document_end explicit ∷ []) 0 initial_state x h)
 
 pub judges-rest : (j : Judged) (told : List Event) → Judges j told → Judges j (told ++ (stream_start ∷ [])) × Judges j (told ++ (stream_end ∷ [])) × ((explicit : Bool) → Judges j (told ++ (document_end explicit ∷ [])))
@@ -72,7 +73,7 @@ judges-rest j told h = rest-by j.refusal j.composer told h
 -- a mapping's start before events behind the one that is refused
 pub before-refused : (j : Judged) (r : Refusal) (front es fs : List Event) → j.refusal ≡ Some r → r.at < length front → Judges j (front ++ es) → Judges j (front ++ fs)
 before-refused j r front es fs n l h =
-    let x = (cause_of r.cause, r.at) in
+    let x : Cause × ℕ = (cause_of r.cause, r.at) in
     refusing j r (front ++ fs) n (refused-more front fs 0 initial_state x (refused-front front es 0 initial_state x (omega (arith, l)) (first-refused j r (front ++ es) n h)))
 
 -- ---- a whole stream

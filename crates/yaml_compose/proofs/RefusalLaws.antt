@@ -1,5 +1,5 @@
 -- Events that are refused, and the steps over logs in which they stand.
-use Rattle.std.proofs.Common.{◌≡◌, ℕ, suc, ◌+◌, ◌<◌, ◌≤◌, Bool, List, [], ◌∷◌, ◌++◌, length, refl, sym, ◌∙◌, ap, subst, arith, Result, Ok, Err}
+use Rattle.std.proofs.Common.{◌≡◌, ℕ, suc, ◌+◌, ◌<◌, ◌≤◌, Bool, true, false, List, [], ◌∷◌, ◌++◌, length, refl, sym, ◌∙◌, ap, subst, arith, Result, Ok, Err}
 use Rattle.std.specs.Prelude.{Option, None, Some}
 use Rattle.yaml_definitions.specs.model.Tree.{Tree, scalar}
 use Rattle.yaml_definitions.specs.model.Event.{Event, Anchor, WrittenTag, Style, stream_start, stream_end, document_start, document_end, sequence_start, sequence_end, mapping_start, mapping_end, scalar_event, alias_event}
@@ -66,8 +66,8 @@ step-at at (scalar_event a g y t) s x h = placed-at at (resolve g y t) (λ r. wh
 step-at at (alias_event name) s x h = placed-at {Y = State} at (tree_named (last_named name s.table)) (λ t. record { inner = s.inner ++ (t ∷ []); outer = s.outer; table = s.table; done = s.done }) x h
 step-at at (sequence_start b a g) s x h = placed-at at (collection_tag 1 g) (collection_begun a s) x h
 step-at at (mapping_start b a g) s x h = placed-at at (collection_tag 2 g) (collection_begun a s) x h
-step-at at sequence_end s x h = ended-at at _ s s.outer x h
-step-at at mapping_end s x h = ended-at at _ s s.outer x h
+step-at at sequence_end s x h = ended-at at false s s.outer x h
+step-at at mapping_end s x h = ended-at at true s s.outer x h
 step-at at (document_start b) s x h = cleared-at at s s.outer x h
 step-at at (document_end b) s x h = absurd (cc)
 step-at at stream_start s x h = absurd (cc)

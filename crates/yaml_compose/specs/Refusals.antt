@@ -44,9 +44,9 @@ Stops e s (stops.Refused cause) = (at : ℕ) → step at e s ≡ Some (Err (caus
 Stops e s stops.GivesUp = Unit {0}
 
 -- The composer did not give up, and the event of this number is refused.
-pub record IsRefusal (stop : Stop) (at : ℕ) (r : Refusal) : Type 0 where
+pub record IsRefusal (stop : Stop) (number : ℕ) (r : Refusal) : Type 0 where
   pub cause : stop ≡ stops.Refused r.cause
-  pub at : r.at ≡ at
+  pub at : r.at ≡ number
 
 -- What it says of a stream's documents that no forest is made of them: the first event that is refused; nothing where this way gives up.
 abbrev pub RefusesForest : List Document → Unmade → Type 0
