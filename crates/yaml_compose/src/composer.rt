@@ -1,4 +1,4 @@
-//! From nodes, as they begin and end, to nodes of a store. It may give up.
+//! From nodes, as they begin and end, to nodes of a store. Where a node has no tree it says why. It may give up.
 ghost use Rattle.std.specs.Prelude.{◌≡◌, ℕ, Bool, List, ◌∷◌, ◌++◌, length, drop, None, IfOk, MatchResult};
 ghost use Rattle.std.specs.Option.{option_map};
 ghost use Rattle.std.specs.Cow.{cow_str_bytes};

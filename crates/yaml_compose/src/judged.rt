@@ -20,7 +20,7 @@ use yaml_compact::nodes::Collection;
 use yaml_sink::properties::Properties;
 use yaml_text::event::Style;
 
-/// A composer that is told of no more events once one is refused.
+/// A composer that is told of no more events once one is refused: its node has no tree.
 #[derive(Drop)]
 pub(crate) struct Judged {
     composer: Composer,
@@ -114,8 +114,8 @@ impl Judged {
         Ok(())
     }
 
-    /// A mapping without properties begins before the node that became whole last, whose first event has this number. An event
-    /// that is refused has no other number then, or this gives up.
+    /// A mapping without properties begins before the node that became whole last, whose first event has this number. It gives up
+    /// where the event that is refused would get another number.
     pub(crate) fn precede(&mut self, alloc: Global, start: usize) -> Result<(), GivesUp>
         ensures { (front es : List Event) → start ≡ length front → AreNodes 1 es → Judges self.old (front ++ es) → IfOk result (λ _. (flow : Bool) → Judges self.new (front ++ (mapping_start flow None untagged ∷ es))) }
     {

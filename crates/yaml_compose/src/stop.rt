@@ -20,7 +20,7 @@ pub(crate) enum Cause {
     FloatRange,
 }
 
-/// Why a composer does not take an event.
+/// Why a composer does not take an event. It is small, and has no number, since it is answered for each event.
 #[derive(Clone, Copy)]
 pub(crate) enum Stop {
     /// Its node has no tree.
