@@ -1,8 +1,8 @@
 -- A composer up to the first event that is refused, as more events come.
-use Rattle.std.proofs.Common.{◌≡◌, ℕ, ◌<◌, List, [], ◌∷◌, ◌++◌, length, refl, sym, ◌∙◌, ap, subst, arith}
+use Rattle.std.proofs.Common.{◌≡◌, ℕ, ◌<◌, List, [], ◌∷◌, ◌++◌, length, sym, ◌∙◌, subst, arith}
 use Rattle.std.specs.Prelude.{Bool, Option, None, Some}
 use Rattle.yaml_definitions.specs.model.Core.{Cause}
-use Rattle.yaml_definitions.specs.model.Event.{Event, stream_start, stream_end, document_end, mapping_start, untagged}
+use Rattle.yaml_definitions.specs.model.Event.{Event, stream_start, stream_end, document_end}
 use Rattle.yaml_definitions.specs.model.Serial.{Document, stream_events}
 use Rattle.yaml_sink.specs.Held.{Puts}
 use Rattle.yaml_nodes.specs.ComposerSteps.{State, initial_state}

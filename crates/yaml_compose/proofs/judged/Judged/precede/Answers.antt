@@ -1,4 +1,4 @@
-use Rattle.std.proofs.Common.{[], ◌∷◌, ◌++◌, arith}
+use Rattle.std.proofs.Common.{◌∷◌, ◌++◌, arith}
 use Rattle.std.specs.Prelude.{None}
 use Rattle.yaml_definitions.specs.model.Event.{mapping_start, untagged}
 use Rattle.yaml_compose.proofs.JudgedLaws.{followed, following, before-refused}
