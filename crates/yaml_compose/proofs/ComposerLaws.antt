@@ -143,6 +143,19 @@ alias-found : (ts : List Tree) (anchored : List (Option ℕ)) (table : Table) (p
 alias-found ts anchored table place i (Some p) h f e = whole-slot ts i p (slot-at ts anchored table place (Some i) f.0 p h e f.1)
 alias-found ts anchored table place i None h f e = absurd f
 
+-- the name of no anchor, and that of a node which is open
+found-none : (o : Option (Option Tree)) (table : Table) → Found None o table → o ≡ None
+found-none None table f = refl
+found-none (Some p) table f = absurd f
+
+open-slot : (ts : List Tree) (o : Option Tree) → SlotAt ts None o → o ≡ None
+open-slot ts None h = refl
+open-slot ts (Some t) h = absurd h
+
+open-found : (ts : List Tree) (anchored : List (Option ℕ)) (table : Table) (place : ℕ) (o : Option (Option Tree)) → TableAt ts anchored table → Found (Some place) o table → slice_get anchored place ≡ Some None → o ≡ Some None
+open-found ts anchored table place (Some p) h f e = ap Some (open-slot ts p (slot-at ts anchored table place None f.0 p h e f.1))
+open-found ts anchored table place None h f e = absurd f
+
 found-within : (place : ℕ) (o : Option (Option Tree)) (table : Table) → Found (Some place) o table → place < length table
 found-within place (Some p) table f = slice_get_within table place (f.0, p) f.1
 found-within place None table f = absurd f
@@ -220,6 +233,13 @@ module _ (tags : List (List ℕ)) (ts : List Tree) (anchored : List (Option ℕ)
   pub alias-at : (name : List ℕ) (place i : ℕ) (a : Option ℕ) → last_place name (names_of table) ≡ Some place → a ≡ get_or anchored place a → a ≡ Some i → AliasAt ts i (last_named name table)
   alias-at name place i a e q r =
       alias-found ts anchored table place i (last_named name table) h.anchors (place-found name place e) (slice_get_read anchored (length anchored) place a refl (alias-within name place e) q ∙ ap Some r)
+
+  pub alias-unnamed : (name : List ℕ) → last_place name (names_of table) ≡ None → last_named name table ≡ None
+  alias-unnamed name e = found-none (last_named name table) table (subst (λ p. Found p (last_named name table) table) e (found name table))
+
+  pub alias-open : (name : List ℕ) (place : ℕ) (a : Option ℕ) → last_place name (names_of table) ≡ Some place → a ≡ get_or anchored place a → a ≡ None → last_named name table ≡ Some None
+  alias-open name place a e q r =
+      open-found ts anchored table place (last_named name table) h.anchors (place-found name place e) (slice_get_read anchored (length anchored) place a refl (alias-within name place e) q ∙ ap Some r)
 
   -- a collection begins, with the nodes behind `before` as its first
   pub keeping-entered : (o : Open) (a : Anchor) (slot : ℕ) (g : List ℕ) (before rest : List Tree) (new : List Open) → new ≡ opens ++ (o ∷ []) → before ++ rest ≡ inner → Placed (names_of table) o.place a slot → o.mark ≡ length (below outer ++ before)

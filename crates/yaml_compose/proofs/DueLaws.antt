@@ -4,17 +4,17 @@ use Rattle.std.specs.Prelude.{Option, Some, None, Bool}
 use Rattle.std.proofs.lemmas.List.{reverse-append}
 use Rattle.yaml_definitions.specs.model.Event.{Event, Anchor, WrittenTag, stream_start, stream_end, document_end}
 use Rattle.yaml_definitions.specs.grammar.Events.{Props}
+use Rattle.yaml_sink.specs.Held.{Puts}
 use Rattle.yaml_sink.specs.PropertyRules.{with_props, dressed}
-use Rattle.yaml_nodes.specs.ComposerSteps.{State}
 use Rattle.yaml_compact.specs.declared.nodes.Collection.{Collection}
 use Rattle.yaml_compose.specs.Nodes.{AreNodes}
-use Rattle.yaml_compose.specs.ComposerModel.{Holds, Stepped, start_of, end_of}
-use Rattle.yaml_compose.specs.ComposerLog.{Follows}
+use Rattle.yaml_compose.specs.ComposerModel.{start_of, end_of}
+use Rattle.yaml_compose.specs.JudgedModel.{Judges, Takes}
 use Rattle.yaml_compose.specs.AheadModel.{settled, IsOpen, IsWhole, Since, OpensTold, EndedTold, TellsOf, Tells, IsPaid, GoesOn}
-use Rattle.yaml_compose.specs.declared.composer.Composer.{Composer}
+use Rattle.yaml_compose.specs.declared.judged.Judged.{Judged}
 use Rattle.yaml_compose.specs.declared.ahead.Begun.{Begun}
 use Rattle.yaml_compose.specs.declared.ahead.Ahead.{Ahead}
-use Rattle.yaml_compose.proofs.LogLaws.{follows-step, follows-rest}
+use Rattle.yaml_compose.proofs.JudgedLaws.{judges-rest}
 use Rattle.yaml_compose.proofs.NodeLaws.{no-nodes, aside-start, aside-end, aside-document, nodes-both, collection-node}
 use Rattle.yaml_compose.proofs.WaitingLaws.{split-ends}
 
@@ -122,11 +122,22 @@ since-paid I O b c start p log es told w l s =
       outside_is = s.outside_is;
     }
 
--- ---- what the composer follows
+-- ---- numbers of events
+
+-- as many events are told as there are in the log
+since-length : (I : Event → List Event → Type 0) (O : List Event → List Event → Type 0) (b : Begun) (log told : List Event) → ((front before : List Event) → O front before → length before ≡ length front) → Since I O b log told → length told ≡ length log
+since-length I O b log told k s =
+    omega (arith, ap length s.told_is, ap length s.log_is, k s.front s.before s.outside_is, length-append s.before (settled b.due s.first ∷ s.rest), length-append s.front (s.first ∷ s.rest))
+
+opens-length : (bs : List Begun) (log told : List Event) → OpensTold bs log told → length told ≡ length log
+opens-length [] log told o = ap length o
+opens-length (b ∷ bs) log told o = since-length IsOpen (OpensTold bs) b log told (opens-length bs) o
+
+-- ---- what the composer is told
 
 -- nothing is put down yet
-pub tells-none : (c : Composer) (ended : Option Begun) (opens : List Begun) → ended ≡ None → opens ≡ [] → Follows c [] → TellsOf c ended (reverse opens) []
-tells-none c ended opens n e f = rw (n, e) (record { told = []; is = refl; follows = f })
+pub tells-none : (j : Judged) (ended : Option Begun) (opens : List Begun) → ended ≡ None → opens ≡ [] → Judges j [] → TellsOf j ended (reverse opens) []
+tells-none j ended opens n e f = rw (n, e) (record { told = []; is = refl; judges = f })
 
 -- nothing is due to a collection that ended
 pub goes-on : (a : Ahead) (b : Begun) → a.ended ≡ Some b → b.due ≡ None → GoesOn a (record a { ended = None })
@@ -134,30 +145,30 @@ goes-on a b e n = record {
   none = refl;
   tells = λ log t.
       let s : Since IsWhole (OpensTold (reverse a.opens.items)) b log t.told = subst (λ z. EndedTold z (reverse a.opens.items) log t.told) e t.is in
-      record { told = t.told; is = folded b (reverse a.opens.items) log t.told n s; follows = t.follows };
+      record { told = t.told; is = folded b (reverse a.opens.items) log t.told n s; judges = t.judges };
 }
 
 pub goes-on-none : (a : Ahead) → a.ended ≡ None → GoesOn a a
 goes-on-none a n = record { none = n; tells = λ log t. t }
 
 -- a whole node, by one event
-pub tells-node : (old new : Composer) (ended : Option Begun) (opens : List Begun) (e : Event) → ended ≡ None → AreNodes 1 (e ∷ []) → ((s : State) → Holds old s → Stepped e s new) → (log : List Event) → TellsOf old ended opens log → TellsOf new ended opens (log ++ (e ∷ []))
-tells-node old new ended opens e n p k log t =
+pub tells-node : (old new : Judged) (ended : Option Begun) (opens : List Begun) (at : ℕ) (e : Event) → ended ≡ None → AreNodes 1 (e ∷ []) → Takes at e old new → (log : List Event) → at ≡ length log → TellsOf old ended opens log → TellsOf new ended opens (log ++ (e ∷ []))
+tells-node old new ended opens at e n p k log l t =
     let o : OpensTold opens log t.told = subst (λ z. EndedTold z opens log t.told) n t.is in
     record {
       told = t.told ++ (e ∷ []);
       is = subst (λ z. EndedTold z opens (log ++ (e ∷ [])) (t.told ++ (e ∷ []))) (sym n) (opens-more opens log t.told (e ∷ []) 1 o p);
-      follows = follows-step old new t.told e t.follows k;
+      judges = k.is t.told (l ∙ sym (opens-length opens log t.told o)) t.judges;
     }
 
 -- events of which the composer is not told
 pub tells-rest : (a : Ahead) (log : List Event) → Tells a log → Tells a (log ++ (stream_start ∷ [])) × Tells a (log ++ (stream_end ∷ [])) × ((explicit : Bool) → Tells a (log ++ (document_end explicit ∷ [])))
 tells-rest a log t =
-    let f = follows-rest a.composer t.told t.follows in
-    let more : (e : Event) → AreNodes 0 (e ∷ []) → Follows a.composer (t.told ++ (e ∷ [])) → Tells a (log ++ (e ∷ [])) = λ e p g. record {
+    let f = judges-rest a.judged t.told t.judges in
+    let more : (e : Event) → AreNodes 0 (e ∷ []) → Judges a.judged (t.told ++ (e ∷ [])) → Tells a (log ++ (e ∷ [])) = λ e p g. record {
       told = t.told ++ (e ∷ []);
       is = ended-more a.ended (reverse a.opens.items) log t.told (e ∷ []) t.is p;
-      follows = g;
+      judges = g;
     } in
     (more stream_start aside-start f.0, more stream_end aside-end f.1, λ explicit. more (document_end explicit) (aside-document explicit) (f.2 explicit))
 
@@ -166,16 +177,16 @@ no-items : {X : Type 0} (xs : List X) → length xs ≤ 0 → xs ≡ []
 no-items [] l = refl
 no-items (x ∷ xs) l = absurd (omega arith)
 
-pub tells-all : (c : Composer) (ended : Option Begun) (opens : List Begun) (log : List Event) → ended ≡ None → length opens ≤ 0 → TellsOf c ended (reverse opens) log → Follows c log
-tells-all c ended opens log n l t =
+pub tells-all : (j : Judged) (ended : Option Begun) (opens : List Begun) (log : List Event) → ended ≡ None → length opens ≤ 0 → TellsOf j ended (reverse opens) log → Judges j log
+tells-all j ended opens log n l t =
     let o : OpensTold [] log t.told = subst (λ z. OpensTold (reverse z) log t.told) (no-items opens l) (subst (λ z. EndedTold z (reverse opens) log t.told) n t.is) in
-    subst (Follows c) o t.follows
+    subst (Judges j) o t.judges
 
-pub tells-outside : (old new : Composer) (ended : Option Begun) (opens : List Begun) (e : Event) → ended ≡ None → length opens ≤ 0 → ((s : State) → Holds old s → Stepped e s new) → (log : List Event) → TellsOf old ended (reverse opens) log → TellsOf new ended (reverse opens) (log ++ (e ∷ []))
+pub tells-outside : (old new : Judged) (ended : Option Begun) (opens : List Begun) (e : Event) → ended ≡ None → length opens ≤ 0 → Puts Judges old (e ∷ []) new → (log : List Event) → TellsOf old ended (reverse opens) log → TellsOf new ended (reverse opens) (log ++ (e ∷ []))
 tells-outside old new ended opens e n l k log t =
     let f = tells-all old ended opens log n l t in
     let none = no-items opens l in
-    rw (n, none) (record { told = log ++ (e ∷ []); is = refl; follows = follows-step old new log e f k })
+    rw (n, none) (record { told = log ++ (e ∷ []); is = refl; judges = k.is log f })
 
 -- ---- collections
 
@@ -183,46 +194,46 @@ reverse-push : (opens more : List Begun) (b : Begun) → more ≡ opens ++ (b �
 reverse-push opens more b e = ap reverse e ∙ reverse-append opens (b ∷ [])
 
 -- the log where this collection is the innermost
-innermost : (c : Composer) (ended : Option Begun) (opens more : List Begun) (b : Begun) (log told : List Event) → ended ≡ None → more ≡ opens ++ (b ∷ []) → Follows c told → Since IsOpen (OpensTold (reverse opens)) b log told → TellsOf c ended (reverse more) log
-innermost c ended opens more b log told n m f s =
-    record { told = told; is = subst (λ z. EndedTold z (reverse more) log told) (sym n) (subst (λ z. OpensTold z log told) (sym (reverse-push opens more b m)) s); follows = f }
+innermost : (j : Judged) (ended : Option Begun) (opens more : List Begun) (b : Begun) (log told : List Event) → ended ≡ None → more ≡ opens ++ (b ∷ []) → Judges j told → Since IsOpen (OpensTold (reverse opens)) b log told → TellsOf j ended (reverse more) log
+innermost j ended opens more b log told n m f s =
+    record { told = told; is = subst (λ z. EndedTold z (reverse more) log told) (sym n) (subst (λ z. OpensTold z log told) (sym (reverse-push opens more b m)) s); judges = f }
 
-inner-told : (c : Composer) (ended : Option Begun) (opens left : List Begun) (b : Begun) (log : List Event) → ended ≡ None → opens ≡ left ++ (b ∷ []) → (t : TellsOf c ended (reverse opens) log) → Since IsOpen (OpensTold (reverse left)) b log t.told
-inner-told c ended opens left b log n m t = subst (λ z. OpensTold z log t.told) (reverse-push left opens b m) (subst (λ z. EndedTold z (reverse opens) log t.told) n t.is)
+inner-told : (j : Judged) (ended : Option Begun) (opens left : List Begun) (b : Begun) (log : List Event) → ended ≡ None → opens ≡ left ++ (b ∷ []) → (t : TellsOf j ended (reverse opens) log) → Since IsOpen (OpensTold (reverse left)) b log t.told
+inner-told j ended opens left b log n m t = subst (λ z. OpensTold z log t.told) (reverse-push left opens b m) (subst (λ z. EndedTold z (reverse opens) log t.told) n t.is)
 
-pub tells-begun : (old new : Composer) (ended : Option Begun) (opens more : List Begun) (b : Begun) (e f : Event) (kind : Collection) (flow : Bool) (a : Anchor) (g : WrittenTag) → ended ≡ None → more ≡ opens ++ (b ∷ []) → settled b.due e ≡ f → f ≡ start_of kind flow a g
-    → ((s : State) → Holds old s → Stepped f s new) → (log : List Event) → b.at ≡ length log → TellsOf old ended (reverse opens) log → TellsOf new ended (reverse more) (log ++ (e ∷ []))
+pub tells-begun : (old new : Judged) (ended : Option Begun) (opens more : List Begun) (b : Begun) (e f : Event) (kind : Collection) (flow : Bool) (a : Anchor) (g : WrittenTag) → ended ≡ None → more ≡ opens ++ (b ∷ []) → settled b.due e ≡ f → f ≡ start_of kind flow a g
+    → Takes b.at f old new → (log : List Event) → b.at ≡ length log → TellsOf old ended (reverse opens) log → TellsOf new ended (reverse more) (log ++ (e ∷ []))
 tells-begun old new ended opens more b e f kind flow a g n m q r k log at t =
     let o : OpensTold (reverse opens) log t.told = subst (λ z. EndedTold z (reverse opens) log t.told) n t.is in
     let s = begun b (reverse opens) log t.told e kind flow a g at (q ∙ r) o in
-    innermost new ended opens more b (log ++ (e ∷ [])) (t.told ++ (settled b.due e ∷ [])) n m (subst (λ z. Follows new (t.told ++ (z ∷ []))) (sym q) (follows-step old new t.told f t.follows k)) s
+    innermost new ended opens more b (log ++ (e ∷ [])) (t.told ++ (settled b.due e ∷ [])) n m (subst (λ z. Judges new (t.told ++ (z ∷ []))) (sym q) (k.is t.told (at ∙ sym (opens-length (reverse opens) log t.told o)) t.judges)) s
 
-pub tells-ended : (old new : Composer) (ended after : Option Begun) (opens left : List Begun) (b : Begun) (k : Collection) → ended ≡ None → opens ≡ left ++ (b ∷ []) → after ≡ Some b → ((s : State) → Holds old s → Stepped (end_of k) s new)
+pub tells-ended : (old new : Judged) (ended after : Option Begun) (opens left : List Begun) (b : Begun) (k : Collection) → ended ≡ None → opens ≡ left ++ (b ∷ []) → after ≡ Some b → Puts Judges old (end_of k ∷ []) new
     → (log : List Event) → TellsOf old ended (reverse opens) log → TellsOf new after (reverse left) (log ++ (end_of k ∷ []))
 tells-ended old new ended after opens left b k n m q step log t =
     let fs = end_of k ∷ [] in
     record {
       told = t.told ++ fs;
       is = subst (λ z. EndedTold z (reverse left) (log ++ fs) (t.told ++ fs)) (sym q) (over b (reverse left) log t.told k (inner-told old ended opens left b log n m t));
-      follows = follows-step old new t.told (end_of k) t.follows step;
+      judges = step.is t.told t.judges;
     }
 
 -- the collection that ended gets what was due
-pub tells-paid : (c : Composer) (ended after : Option Begun) (opens : List Begun) (b d : Begun) (start : ℕ) (p : Props) (log es : List Event) → ended ≡ Some b → after ≡ Some d → IsPaid b start p d → start ≡ length log → TellsOf c ended opens (log ++ es) → TellsOf c after opens (log ++ dressed p es)
-tells-paid c ended after opens b d start p log es e f w l t =
+pub tells-paid : (j : Judged) (ended after : Option Begun) (opens : List Begun) (b d : Begun) (start : ℕ) (p : Props) (log es : List Event) → ended ≡ Some b → after ≡ Some d → IsPaid b start p d → start ≡ length log → TellsOf j ended opens (log ++ es) → TellsOf j after opens (log ++ dressed p es)
+tells-paid j ended after opens b d start p log es e f w l t =
     let s : Since IsWhole (OpensTold opens) b (log ++ es) t.told = subst (λ z. EndedTold z opens (log ++ es) t.told) e t.is in
     record {
       told = t.told;
       is = subst (λ z. EndedTold z opens (log ++ dressed p es) t.told) (sym f) (since-paid IsWhole (OpensTold opens) b d start p log es t.told w l s);
-      follows = t.follows;
+      judges = t.judges;
     }
 
 -- and the one that is open
-pub tells-paid-open : (c : Composer) (ended after : Option Begun) (opens left more : List Begun) (b d : Begun) (start : ℕ) (p : Props) (log es : List Event) → ended ≡ None → after ≡ None → opens ≡ left ++ (b ∷ []) → more ≡ left ++ (d ∷ []) → IsPaid b start p d → start ≡ length log
-    → TellsOf c ended (reverse opens) (log ++ es) → TellsOf c after (reverse more) (log ++ dressed p es)
-tells-paid-open c ended after opens left more b d start p log es n v m q w l t =
-    let s = inner-told c ended opens left b (log ++ es) n m t in
-    innermost c after left more d (log ++ dressed p es) t.told v q t.follows (since-paid IsOpen (OpensTold (reverse left)) b d start p log es t.told w l s)
+pub tells-paid-open : (j : Judged) (ended after : Option Begun) (opens left more : List Begun) (b d : Begun) (start : ℕ) (p : Props) (log es : List Event) → ended ≡ None → after ≡ None → opens ≡ left ++ (b ∷ []) → more ≡ left ++ (d ∷ []) → IsPaid b start p d → start ≡ length log
+    → TellsOf j ended (reverse opens) (log ++ es) → TellsOf j after (reverse more) (log ++ dressed p es)
+tells-paid-open j ended after opens left more b d start p log es n v m q w l t =
+    let s = inner-told j ended opens left b (log ++ es) n m t in
+    innermost j after left more d (log ++ dressed p es) t.told v q t.judges (since-paid IsOpen (OpensTold (reverse left)) b d start p log es t.told w l s)
 
 -- a mapping begins before the collection that ended
 since-before : (b d : Begun) (bs : List Begun) (log es told : List Event) (start : ℕ) (m : Event) (kind : Collection) (flow : Bool) (a : Anchor) (g : WrittenTag) → b.at ≡ start → b.due ≡ None → d.at ≡ start → settled d.due m ≡ m → m ≡ start_of kind flow a g → start ≡ length log
@@ -243,8 +254,8 @@ since-before b d bs log es told start m kind flow a g at none same due is l s =
       outside_is = s.outside_is;
     }
 
-pub tells-before : (old new : Composer) (ended after : Option Begun) (opens more : List Begun) (b d : Begun) (start : ℕ) (m : Event) (kind : Collection) (flow : Bool) (a : Anchor) (g : WrittenTag) (log es : List Event) → ended ≡ Some b → after ≡ None → more ≡ opens ++ (d ∷ [])
-    → b.at ≡ start → b.due ≡ None → d.at ≡ start → settled d.due m ≡ m → m ≡ start_of kind flow a g → ((front fs : List Event) → AreNodes 1 fs → Follows old (front ++ fs) → Follows new (front ++ (m ∷ fs))) → start ≡ length log
+pub tells-before : (old new : Judged) (ended after : Option Begun) (opens more : List Begun) (b d : Begun) (start : ℕ) (m : Event) (kind : Collection) (flow : Bool) (a : Anchor) (g : WrittenTag) (log es : List Event) → ended ≡ Some b → after ≡ None → more ≡ opens ++ (d ∷ [])
+    → b.at ≡ start → b.due ≡ None → d.at ≡ start → settled d.due m ≡ m → m ≡ start_of kind flow a g → ((front fs : List Event) → start ≡ length front → AreNodes 1 fs → Judges old (front ++ fs) → Judges new (front ++ (m ∷ fs))) → start ≡ length log
     → TellsOf old ended (reverse opens) (log ++ es) → TellsOf new after (reverse more) (log ++ (m ∷ es))
 tells-before old new ended after opens more b d start m kind flow a g log es e v q at none same due is k l t =
     let s : Since IsWhole (OpensTold (reverse opens)) b (log ++ es) t.told = subst (λ z. EndedTold z (reverse opens) (log ++ es) t.told) e t.is in
@@ -252,4 +263,5 @@ tells-before old new ended after opens more b d start m kind flow a g log es e v
     let fs = s.first ∷ s.rest in
     let whole : AreNodes 1 fs = subst (λ x. AreNodes 1 (x ∷ s.rest)) first s.inside_is in
     let told : t.told ≡ s.before ++ fs = s.told_is ∙ (λ z. s.before ++ (first z ∷ s.rest)) in
-    innermost new after opens more d (log ++ (m ∷ es)) (s.before ++ (m ∷ fs)) v q (k s.before fs whole (subst (Follows old) told t.follows)) (since-before b d (reverse opens) log es t.told start m kind flow a g at none same due is l s)
+    let size : start ≡ length s.before = sym at ∙ (s.at ∙ sym (opens-length (reverse opens) s.front s.before s.outside_is)) in
+    innermost new after opens more d (log ++ (m ∷ es)) (s.before ++ (m ∷ fs)) v q (k s.before fs size whole (subst (Judges old) told t.judges)) (since-before b d (reverse opens) log es t.told start m kind flow a g at none same due is l s)

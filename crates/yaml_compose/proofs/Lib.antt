@@ -6,6 +6,8 @@ pub mod LogLaws
 pub mod NodeLaws
 pub mod AheadLaws
 pub mod WaitingLaws
+pub mod RefusalLaws
+pub mod JudgedLaws
 pub mod DueLaws
 pub mod KeeperLaws
 mod HighLaws

@@ -7,8 +7,8 @@ use Rattle.yaml_sink.specs.declared.properties.Properties.{Properties}
 use Rattle.yaml_compact.specs.declared.nodes.Collection.{Collection}
 use Rattle.yaml_compose.specs.Nodes.{AreNodes}
 use Rattle.yaml_compose.specs.ComposerModel.{start_of}
-use Rattle.yaml_compose.specs.ComposerLog.{Follows}
-use Rattle.yaml_compose.specs.declared.composer.Composer.{Composer}
+use Rattle.yaml_compose.specs.JudgedModel.{Judges}
+use Rattle.yaml_compose.specs.declared.judged.Judged.{Judged}
 use Rattle.yaml_compose.specs.declared.ahead.Begun.{Begun}
 use Rattle.yaml_compose.specs.declared.ahead.Ahead.{Ahead}
 
@@ -54,15 +54,15 @@ abbrev pub EndedTold : Option Begun → List Begun → List Event → List Event
 EndedTold None bs log told = OpensTold bs log told
 EndedTold (Some b) bs log told = Since IsWhole (OpensTold bs) b log told
 
--- The composer follows what it was told in place of the log.
-pub record TellsOf (c : Composer) (ended : Option Begun) (opens : List Begun) (log : List Event) : Type 0 where
+-- The composer was told of these events in place of the log.
+pub record TellsOf (j : Judged) (ended : Option Begun) (opens : List Begun) (log : List Event) : Type 0 where
   pub told : List Event
   pub is : EndedTold ended opens log told
-  pub follows : Follows c told
+  pub judges : Judges j told
 
 -- the composer was told of these events, and knows what is due
 abbrev pub Tells : Ahead → List Event → Type 0
-Tells a log = TellsOf a.composer a.ended (reverse a.opens.items) log
+Tells a log = TellsOf a.judged a.ended (reverse a.opens.items) log
 
 -- ---- what calls do
 

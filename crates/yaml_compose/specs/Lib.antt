@@ -4,6 +4,8 @@ pub mod TagModel
 pub mod AnchorsModel
 pub mod ComposerModel
 pub mod ComposerLog
+pub mod Refusals
+pub mod JudgedModel
 pub mod AheadModel
 pub mod WaitingModel
 pub mod KeeperModel

@@ -1,5 +1,5 @@
 //! A composer that knows the properties of a flow collection before the log of events has them.
-ghost use Rattle.std.specs.Prelude.{◌≡◌, Bool, List, [], ◌∷◌, ◌++◌, length, None, IfOk};
+ghost use Rattle.std.specs.Prelude.{◌≡◌, Bool, List, [], ◌∷◌, ◌++◌, length, None, IfOk, IfErr};
 ghost use Rattle.std.specs.Bool.{OnFalse};
 ghost use Rattle.yaml_definitions.specs.model.Event.{Event, untagged, document_start, mapping_start, scalar_event, alias_event};
 ghost use Rattle.yaml_definitions.specs.model.Serial.{Document, stream_events};
@@ -12,9 +12,12 @@ ghost use Rattle.yaml_compose.specs.Reached.{UnfoldTo};
 ghost use Rattle.yaml_compose.specs.ComposerModel.{IsForest, AreForests};
 ghost use Rattle.yaml_compose.specs.TagModel.{kind_in};
 ghost use Rattle.yaml_compose.specs.AheadModel.{settled, Tells, IsPaid, GoesOn};
+ghost use Rattle.yaml_compose.specs.Refusals.{RefusesForest};
 
-use crate::composer::{Composer, Forest};
+use crate::composer::Forest;
 use crate::copies::are_same;
+use crate::judged::Judged;
+use crate::unmade::Unmade;
 use std::alloc::Global;
 use std::mem;
 use yaml_compact::gives_up::GivesUp;
@@ -35,7 +38,7 @@ pub(crate) struct Begun {
 /// A composer, and what it knows that the log does not say yet.
 #[derive(Drop)]
 pub(crate) struct Ahead {
-    composer: Composer,
+    judged: Judged,
     /// The open collections, the innermost last.
     opens: Vec<Begun>,
     /// The collection that ended last, where nothing came after it.
@@ -91,9 +94,9 @@ impl Ahead {
     pub(crate) fn new(alloc: Global) -> Result<Ahead, GivesUp>
         ensures { IfOk result (λ ahead. Tells ahead []) }
     {
-        let composer = Composer::new(alloc)?;
+        let judged = Judged::new(alloc)?;
         Ok(Ahead {
-            composer,
+            judged,
             opens: Vec::new(alloc),
             ended: None,
         })
@@ -113,27 +116,28 @@ impl Ahead {
         Ok(())
     }
 
-    /// A scalar with these properties.
+    /// The event of this number is a scalar with these properties.
     pub(crate) fn scalar(
         &mut self,
         alloc: Global,
+        at: usize,
         properties: &Properties<'_>,
         style: Style,
         text: &str,
     ) -> Result<(), GivesUp>
-        ensures { IfOk result (λ _. Puts Tells self.old (scalar_event (props_of properties.now).anchor (props_of properties.now).tag (style_of style) text.now ∷ []) self.new) }
+        ensures { IfOk result (λ _. (log : List Event) → at ≡ length log → Tells self.old log → Tells self.new (log ++ (scalar_event (props_of properties.now).anchor (props_of properties.now).tag (style_of style) text.now ∷ []))) }
     {
         self.go_on()?;
-        self.composer.scalar(alloc, properties, style, text)?;
+        self.judged.scalar(alloc, at, properties, style, text)?;
         Ok(())
     }
 
-    /// An alias.
-    pub(crate) fn alias(&mut self, alloc: Global, name: &str) -> Result<(), GivesUp>
-        ensures { IfOk result (λ _. Puts Tells self.old (alias_event name.now ∷ []) self.new) }
+    /// The event of this number is an alias.
+    pub(crate) fn alias(&mut self, alloc: Global, at: usize, name: &str) -> Result<(), GivesUp>
+        ensures { IfOk result (λ _. (log : List Event) → at ≡ length log → Tells self.old log → Tells self.new (log ++ (alias_event name.now ∷ []))) }
     {
         self.go_on()?;
-        self.composer.alias(alloc, name)?;
+        self.judged.alias(alloc, at, name)?;
         Ok(())
     }
 
@@ -148,7 +152,8 @@ impl Ahead {
         ensures { IfOk result (λ _. (flow : Bool) (log : List Event) → at ≡ length log → Tells self.old log → Tells self.new (log ++ (with_props (props_of properties.now) (start_of collection flow) ∷ []))) }
     {
         self.go_on()?;
-        self.composer.begin(alloc, kind_of(collection), properties)?;
+        self.judged
+            .begin(alloc, at, kind_of(collection), properties)?;
         self.opens.push(Begun { at, due: None })?;
         Ok(())
     }
@@ -164,7 +169,7 @@ impl Ahead {
         ensures { IfOk result (λ _. (flow : Bool) (p : Props) (log : List Event) → at ≡ length log → Tells self.old log → Tells self.new (log ++ (with_props p (start_of collection flow) ∷ []))) }
     {
         self.go_on()?;
-        self.composer.begin(alloc, kind_of(collection), &given)?;
+        self.judged.begin(alloc, at, kind_of(collection), &given)?;
         self.opens.push(Begun {
             at,
             due: Some(given),
@@ -180,7 +185,7 @@ impl Ahead {
         let Some(begun) = self.opens.pop() else {
             return Err(GivesUp);
         };
-        self.composer.end(kind_of(collection))?;
+        self.judged.end(kind_of(collection))?;
         self.ended = Some(begun);
         Ok(())
     }
@@ -193,7 +198,7 @@ impl Ahead {
         if self.opens.len() > 0 {
             return Err(GivesUp);
         }
-        self.composer.document()?;
+        self.judged.document()?;
         Ok(())
     }
 
@@ -210,7 +215,7 @@ impl Ahead {
         if begun.owes() {
             return Err(GivesUp);
         }
-        self.composer.precede(alloc)?;
+        self.judged.precede(alloc, start)?;
         let due = due_before_key(flow);
         self.opens.push(Begun { at: start, due })?;
         Ok(())
@@ -242,34 +247,35 @@ impl Ahead {
     }
 
     /// How many documents there are, where no collection is open or just ended.
-    pub(crate) fn documents(&self) -> Result<usize, GivesUp>
-        ensures { (ds : List Document) → Tells self.now (stream_events ds) → IfOk result (UnfoldTo ds) }
+    pub(crate) fn documents(&self) -> Result<usize, Unmade>
+        ensures count { (ds : List Document) → Tells self.now (stream_events ds) → IfOk result (UnfoldTo ds) }
+        ensures refused { (ds : List Document) → Tells self.now (stream_events ds) → IfErr result (RefusesForest ds) }
     {
         if self.is_behind_end() {
-            return Err(GivesUp);
+            return Err(Unmade::GivesUp);
         }
         if self.opens.len() > 0 {
-            return Err(GivesUp);
+            return Err(Unmade::GivesUp);
         }
-        self.composer.documents()
+        self.judged.documents()
     }
 
     /// The stream ends, or the second of two.
-    pub(crate) fn finish(self) -> Result<Forest, GivesUp>
+    pub(crate) fn finish(self) -> Result<Forest, Unmade>
         ensures forest { (ds : List Document) → Tells self (stream_events ds) → IfOk result (IsForest ds) }
         ensures both { (ds es : List Document) → Tells self (stream_events ds ++ stream_events es) → IfOk result (AreForests ds es) }
+        ensures refused { (ds : List Document) → Tells self (stream_events ds) → IfErr result (RefusesForest ds) }
     {
         let mut ahead = self;
         ahead.go_on()?;
         let Ahead {
-            composer,
+            judged,
             opens,
             ended: _,
         } = ahead;
         if opens.len() > 0 {
-            return Err(GivesUp);
+            return Err(Unmade::GivesUp);
         }
-        let forest = composer.finish()?;
-        Ok(forest)
+        judged.finish()
     }
 }

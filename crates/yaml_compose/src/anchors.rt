@@ -148,20 +148,17 @@ impl Anchors {
         Ok(())
     }
 
-    /// The last number of this name.
-    pub(crate) fn find(&mut self, alloc: Global, name: &str) -> Result<usize, GivesUp>
-        ensures place { (names : List (List ℕ)) → Names self.old names → IfOk result (λ place. last_place name.now names ≡ Some place) }
+    /// The last number of this name, if there is one.
+    pub(crate) fn find(&mut self, alloc: Global, name: &str) -> Result<Option<usize>, GivesUp>
+        ensures place { (names : List (List ℕ)) → Names self.old names → IfOk result (λ place. last_place name.now names ≡ place) }
         ensures names { (names : List (List ℕ)) → Names self.old names → IfOk result (λ _. Names self.new names) }
     {
         if let Some(place) = self.seen(name) {
-            return Ok(place);
+            return Ok(Some(place));
         }
         while self.mapped < self.spans.len() {
             self.map_next(alloc)?;
         }
-        let Some(place) = self.places.get(name).copied() else {
-            return Err(GivesUp);
-        };
-        Ok(place)
+        Ok(self.places.get(name).copied())
     }
 }

@@ -1,5 +1,5 @@
-//! From nodes, as they begin and end, to nodes of a store. It may give up.
-ghost use Rattle.std.specs.Prelude.{◌≡◌, ℕ, Bool, List, ◌∷◌, ◌++◌, length, drop, None, IfOk};
+//! From nodes, as they begin and end, to nodes of a store. Where a node has no tree it says why. It may give up.
+ghost use Rattle.std.specs.Prelude.{◌≡◌, ℕ, Bool, List, ◌∷◌, ◌++◌, length, drop, None, IfOk, IfErr, MatchResult};
 ghost use Rattle.std.specs.Option.{option_map};
 ghost use Rattle.std.specs.Cow.{cow_str_bytes};
 ghost use Rattle.yaml_definitions.specs.model.Tree.{Tree, scalar};
@@ -15,11 +15,14 @@ ghost use Rattle.yaml_compose.specs.Reached.{Reaches, UnfoldTo};
 ghost use Rattle.yaml_compose.specs.Nodes.{AreNodes};
 ghost use Rattle.yaml_compose.specs.ComposerModel.{anchor_text, Holds, Stepped, IsForest, AreForests, start_of, end_of};
 ghost use Rattle.yaml_compose.specs.ComposerLog.{Follows};
+ghost use Rattle.yaml_compose.specs.Refusals.{Stops, RefusesForest};
 
 use crate::anchors::Anchors;
 use crate::core_tags::CoreTags;
-use crate::tag::tag_of;
+use crate::stop::{Cause, Stop};
+use crate::tag::{default_tag, tag_of};
 use crate::too_high::first_too_high;
+use crate::unmade::Unmade;
 use std::alloc::Global;
 use std::borrow::CowStr;
 use yaml_compact::gives_up::GivesUp;
@@ -31,6 +34,7 @@ use yaml_core::PlainKind;
 use yaml_core::scalar::resolve;
 use yaml_sink::properties::Properties;
 use yaml_text::event::{EventTag, Style};
+use yaml_text::fault::Fault;
 
 /// A collection that is open.
 #[derive(Clone, Copy)]
@@ -116,8 +120,9 @@ impl Composer {
     }
 
     /// The stream ends, or the second of two.
-    pub(crate) fn finish(self) -> Result<Forest, GivesUp>
+    pub(crate) fn finish(self) -> Result<Forest, Unmade>
         ensures forest { (ds : List Document) (s : State) → Reaches (stream_events ds) initial_state s → Holds self s → IfOk result (IsForest ds) }
+        ensures refused { (ds : List Document) (s : State) → Reaches (stream_events ds) initial_state s → Holds self s → IfErr result (RefusesForest ds) }
         ensures both { (ds es : List Document) (s : State) → Reaches (stream_events ds ++ stream_events es) initial_state s → Holds self s → IfOk result (AreForests ds es) }
     {
         let Composer {
@@ -129,13 +134,13 @@ impl Composer {
             opens,
         } = self;
         if opens.len() > 0 {
-            return Err(GivesUp);
+            return Err(Unmade::GivesUp);
         }
-        if first_too_high(&store, &stack).is_some() {
-            return Err(GivesUp);
+        if let Some(document) = first_too_high(&store, &stack) {
+            return Err(Unmade::Refused(Fault::TooHigh(document)));
         }
         if !store.is_low() {
-            return Err(GivesUp);
+            return Err(Unmade::GivesUp);
         }
         Ok(Forest {
             store,
@@ -179,12 +184,12 @@ impl Composer {
         tag: &EventTag<'_>,
         style: Style,
         text: &str,
-    ) -> Result<(), GivesUp>
-        ensures { (s : State) → Holds self.old s → IfOk result (λ _. Stepped (scalar_event (anchor_text anchor.entry) (written_of tag.now) (style_of style) text.now) s self.new) }
+    ) -> Result<(), Stop>
+        ensures { (s : State) → Holds self.old s →
+            let event = scalar_event (anchor_text anchor.entry) (written_of tag.now) (style_of style) text.now in
+            MatchResult result (λ _. Stepped event s self.new) (Stops event s) }
     {
-        let Ok(scalar) = resolve(alloc, tag, style, text) else {
-            return Err(GivesUp);
-        };
+        let scalar = resolve(alloc, tag, style, text)?;
         let place = self.begin_node(anchor)?;
         let id = self
             .store
@@ -204,8 +209,8 @@ impl Composer {
     }
 
     /// A plain scalar without properties.
-    fn put_plain(&mut self, alloc: Global, text: &str) -> Result<(), GivesUp>
-        ensures { (s : State) → Holds self.old s → IfOk result (λ _. Stepped (scalar_event None untagged plain text.now) s self.new) }
+    fn put_plain(&mut self, alloc: Global, text: &str) -> Result<(), Stop>
+        ensures { (s : State) → Holds self.old s → MatchResult result (λ _. Stepped (scalar_event None untagged plain text.now) s self.new) (Stops (scalar_event None untagged plain text.now) s) }
     {
         let form = judge(text);
         let kind = form.kind();
@@ -213,16 +218,14 @@ impl Composer {
             self.put_kind(kind, text)?;
             return Ok(());
         }
-        let Ok(content) = content(alloc, kind, form, text) else {
-            return Err(GivesUp);
-        };
+        let content = content(alloc, kind, form, text)?;
         self.put_kind(kind, content.as_str())?;
         Ok(())
     }
 
     /// A scalar without properties.
-    fn put_bare(&mut self, alloc: Global, style: Style, text: &str) -> Result<(), GivesUp>
-        ensures { (s : State) → Holds self.old s → IfOk result (λ _. Stepped (scalar_event None untagged (style_of style) text.now) s self.new) }
+    fn put_bare(&mut self, alloc: Global, style: Style, text: &str) -> Result<(), Stop>
+        ensures { (s : State) → Holds self.old s → MatchResult result (λ _. Stepped (scalar_event None untagged (style_of style) text.now) s self.new) (Stops (scalar_event None untagged (style_of style) text.now) s) }
     {
         match style {
             Style::Plain => {
@@ -243,8 +246,10 @@ impl Composer {
         properties: &Properties<'_>,
         style: Style,
         text: &str,
-    ) -> Result<(), GivesUp>
-        ensures { (s : State) → Holds self.old s → IfOk result (λ _. Stepped (scalar_event (props_of properties.now).anchor (props_of properties.now).tag (style_of style) text.now) s self.new) }
+    ) -> Result<(), Stop>
+        ensures { (s : State) → Holds self.old s →
+            let event = scalar_event (props_of properties.now).anchor (props_of properties.now).tag (style_of style) text.now in
+            MatchResult result (λ _. Stepped event s self.new) (Stops event s) }
     {
         match &properties.given {
             None => self.put_bare(alloc, style, text),
@@ -253,15 +258,18 @@ impl Composer {
     }
 
     /// An alias.
-    pub(crate) fn alias(&mut self, alloc: Global, name: &str) -> Result<(), GivesUp>
-        ensures { (s : State) → Holds self.old s → IfOk result (λ _. Stepped (alias_event name.now) s self.new) }
+    pub(crate) fn alias(&mut self, alloc: Global, name: &str) -> Result<(), Stop>
+        ensures { (s : State) → Holds self.old s → MatchResult result (λ _. Stepped (alias_event name.now) s self.new) (Stops (alias_event name.now) s) }
     {
-        let place = self.anchors.find(alloc, name)?;
+        let found = self.anchors.find(alloc, name)?;
+        let Some(place) = found else {
+            return Err(Stop::Refused(Cause::UndefinedAlias));
+        };
         if place >= self.anchored.len() {
-            return Err(GivesUp);
+            return Err(Stop::GivesUp);
         }
         let Some(id) = self.anchored[place] else {
-            return Err(GivesUp);
+            return Err(Stop::Refused(Cause::CyclicAlias));
         };
         self.stack.push(id)?;
         Ok(())
@@ -274,8 +282,10 @@ impl Composer {
         collection: Collection,
         anchor: Option<&str>,
         tag: &EventTag<'_>,
-    ) -> Result<(), GivesUp>
-        ensures { (s : State) → Holds self.old s → (flow : Bool) → IfOk result (λ _. Stepped (start_of collection flow (anchor_text anchor.entry) (written_of tag.now)) s self.new) }
+    ) -> Result<(), Stop>
+        ensures { (s : State) → Holds self.old s → (flow : Bool) →
+            let event = start_of collection flow (anchor_text anchor.entry) (written_of tag.now) in
+            MatchResult result (λ _. Stepped event s self.new) (Stops event s) }
     {
         let text = tag_of(collection, tag)?;
         let place = self.begin_node(anchor)?;
@@ -311,11 +321,16 @@ impl Composer {
         alloc: Global,
         collection: Collection,
         properties: &Properties<'_>,
-    ) -> Result<(), GivesUp>
-        ensures { (s : State) → Holds self.old s → (flow : Bool) → IfOk result (λ _. Stepped (start_of collection flow (props_of properties.now).anchor (props_of properties.now).tag) s self.new) }
+    ) -> Result<(), Stop>
+        ensures { (s : State) → Holds self.old s → (flow : Bool) →
+            let event = start_of collection flow (props_of properties.now).anchor (props_of properties.now).tag in
+            MatchResult result (λ _. Stepped event s self.new) (Stops event s) }
     {
         match &properties.given {
-            None => self.begin_bare(collection),
+            None => {
+                self.begin_bare(collection)?;
+                Ok(())
+            }
             Some(given) => self.begin_collection(
                 alloc,
                 collection,
@@ -329,7 +344,7 @@ impl Composer {
     pub(crate) fn precede(&mut self, alloc: Global) -> Result<(), GivesUp>
         ensures { (front es : List Event) → AreNodes 1 es → Follows self.old (front ++ es) → IfOk result (λ _. (flow : Bool) → Follows self.new (front ++ (mapping_start flow None untagged ∷ es))) }
     {
-        let text = tag_of(Collection::Mapping, &EventTag::None)?;
+        let text = default_tag(Collection::Mapping);
         let number = self.store.tag(alloc, text)?;
         let Some(mark) = self.stack.len().checked_sub(1) else {
             return Err(GivesUp);

@@ -9,10 +9,12 @@ ghost use Rattle.yaml_sink.specs.SinkModel.{start_of, end_of};
 ghost use Rattle.yaml_compose.specs.Reached.{UnfoldTo};
 ghost use Rattle.yaml_compose.specs.ComposerModel.{IsForest, AreForests};
 ghost use Rattle.yaml_compose.specs.KeeperModel.{Composes, MakesRoom, DressesOne};
+ghost use Rattle.yaml_compose.specs.Refusals.{RefusesForest};
 
 use crate::ahead::Ahead;
 use crate::composer::Forest;
 use crate::copies::{Owned, copy_of};
+use crate::unmade::Unmade;
 use crate::waiting::{Late, Waiting};
 use std::alloc::Global;
 use std::mem;
@@ -22,9 +24,9 @@ use yaml_sink::sink::{Collection, Keeper};
 use yaml_text::event::{Event, Style};
 use yaml_text::fault::Fault;
 
-/// A reader's events, composed as they come. It gives up where a node has no tree, where a number does not fit, and where a
-/// collection gets properties that it did not know when it began, as those of a block mapping are whose first key is a collection.
-/// Then it says that there is no memory.
+/// A reader's events, composed as they come. Where a node has no tree it goes on counting, and at the end it tells why. It gives up
+/// where a number does not fit, and where a collection gets properties that it did not know when it began, as those of a block
+/// mapping are whose first key is a collection. Then it says that there is no memory.
 #[derive(Drop)]
 pub struct Composing {
     alloc: Global,
@@ -191,12 +193,13 @@ impl Composing {
     }
 
     /// How many documents a whole stream has. The events of a second one may follow.
-    pub fn documents(&mut self) -> Result<usize, GivesUp>
+    pub fn documents(&mut self) -> Result<usize, Unmade>
         ensures count { (ds : List Document) → Composes self.old (stream_events ds) → IfOk result (UnfoldTo ds) }
         ensures keeps { IfOk result (λ _. Keeps Composes self.old self.new) }
+        ensures refused { (ds : List Document) → Composes self.old (stream_events ds) → IfErr result (RefusesForest ds) }
     {
         if self.gave_up {
-            return Err(GivesUp);
+            return Err(Unmade::GivesUp);
         }
         self.waiting
             .compose(self.alloc, &mut self.ahead, self.count)?;
@@ -206,9 +209,10 @@ impl Composing {
     }
 
     /// The nodes of a whole stream, or of two.
-    pub fn finish(self) -> Result<Forest, GivesUp>
+    pub fn finish(self) -> Result<Forest, Unmade>
         ensures forest { (ds : List Document) → Composes self (stream_events ds) → IfOk result (IsForest ds) }
         ensures both { (ds es : List Document) → Composes self (stream_events ds ++ stream_events es) → IfOk result (AreForests ds es) }
+        ensures refused { (ds : List Document) → Composes self (stream_events ds) → IfErr result (RefusesForest ds) }
     {
         let Composing {
             alloc,
@@ -219,11 +223,10 @@ impl Composing {
             gave_up,
         } = self;
         if gave_up {
-            return Err(GivesUp);
+            return Err(Unmade::GivesUp);
         }
         waiting.compose(alloc, &mut ahead, count)?;
-        let forest = ahead.finish()?;
-        Ok(forest)
+        ahead.finish()
     }
 }
 

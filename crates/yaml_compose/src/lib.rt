@@ -6,11 +6,15 @@ mod anchors;
 mod composer;
 mod copies;
 mod core_tags;
+mod judged;
 pub mod keeper;
 pub mod laws;
+mod stop;
 mod tag;
 mod too_high;
+mod unmade;
 mod waiting;
 
 pub use composer::Forest;
 pub use keeper::Composing;
+pub use unmade::Unmade;

@@ -1,11 +1,12 @@
 //! Tags of collections.
-ghost use Rattle.std.specs.Prelude.{IfOk, Ok, ◌≡◌};
+ghost use Rattle.std.specs.Prelude.{MatchResult, Ok, ◌≡◌};
 ghost use Rattle.yaml_definitions.specs.model.Tag.{default_tag, is_core};
 ghost use Rattle.yaml_definitions.specs.model.Core.{collection_tag};
 ghost use Rattle.yaml_text.specs.EventModel.{written_of};
 ghost use Rattle.yaml_compose.specs.TagModel.{collection_number};
+ghost use Rattle.yaml_compose.specs.Refusals.{Blames};
 
-use yaml_compact::gives_up::GivesUp;
+use crate::stop::{Cause, Stop};
 use yaml_compact::nodes::Collection;
 use yaml_text::event::EventTag;
 
@@ -39,15 +40,15 @@ pub(crate) fn default_tag(collection: Collection) -> &'static str
 
 /// The tag of a collection, by what is written.
 #[tactic(auto, unfolding(yaml_definitions::specs::model::Core::collection_tag))]
-pub(crate) fn tag_of<'a>(collection: Collection, tag: &'a EventTag<'_>) -> Result<&'a str, GivesUp>
-    ensures { IfOk result (λ text. collection_tag (collection_number collection) (written_of tag.now) ≡ Ok text.now) }
+pub(crate) fn tag_of<'a>(collection: Collection, tag: &'a EventTag<'_>) -> Result<&'a str, Stop>
+    ensures { MatchResult result (λ text. collection_tag (collection_number collection) (written_of tag.now) ≡ Ok text.now) (Blames (collection_tag (collection_number collection) (written_of tag.now))) }
 {
     let EventTag::Full(full) = tag else {
         return Ok(default_tag(collection));
     };
     let text = full.as_str();
     if text != default_tag(collection) && is_core(text) {
-        return Err(GivesUp);
+        return Err(Stop::Refused(Cause::WrongKind));
     }
     Ok(text)
 }

@@ -168,11 +168,11 @@ impl Waiting {
         match self.late {
             Late::Nothing => Ok(()),
             Late::Scalar(style) => {
-                ahead.scalar(alloc, &self.own, style, self.text.as_str())?;
+                ahead.scalar(alloc, number, &self.own, style, self.text.as_str())?;
                 Ok(())
             }
             Late::Alias => {
-                ahead.alias(alloc, self.text.as_str())?;
+                ahead.alias(alloc, number, self.text.as_str())?;
                 Ok(())
             }
             Late::Start(collection, _) => match mem::replace(&mut self.due, None) {

@@ -8,4 +8,4 @@ pub returns : goal.returns
 returns c =
     let mid = c.go_on.new.self in
     let x = c.args.name.now in
-    record { is = λ log t. tells-node mid.composer c.alias.new.self mid.ended (reverse mid.opens.items) (alias_event x) c.in_ok-go_on.ensures.none (alias-node x) c.in_ok-alias.ensures log (c.in_ok-go_on.ensures.tells log t) }
+    λ log l t. tells-node mid.judged c.alias.new.self mid.ended (reverse mid.opens.items) c.args.at (alias_event x) c.in_ok-go_on.ensures.none (alias-node x) c.in_ok-alias.ensures log l (c.in_ok-go_on.ensures.tells log t)

@@ -3,7 +3,8 @@ use Rattle.std.specs.Prelude.{Some}
 use Rattle.yaml_sink.specs.PropertyRules.{props_of, with_props}
 use Rattle.yaml_sink.specs.SinkModel as sink
 use Rattle.yaml_compose.specs.TagModel.{kind_in}
-use Rattle.yaml_compose.specs.ComposerModel.{start_of, Stepped}
+use Rattle.yaml_compose.specs.ComposerModel.{start_of}
+use Rattle.yaml_compose.specs.JudgedModel.{Takes}
 use Rattle.yaml_compose.specs.declared.ahead.Begun.{Begun}
 use Rattle.yaml_compose.proofs.AheadLaws.{started, started-again}
 use Rattle.yaml_compose.proofs.DueLaws.{tells-begun}
@@ -12,10 +13,9 @@ use Rattle.yaml_compose.proofs.ahead.Ahead.begin_due.Goals as goal
 pub returns : goal.returns
 returns c = λ flow p log at t.
     let mid = c.go_on.new.self in
-    let new = c.begin.new.self in
     let g = props_of c.args.given in
     let k = c.args.collection in
     let b : Begun = record { at = c.args.at; due = Some c.args.given } in
     let start = sink.start_of k flow in
-    tells-begun mid.composer new mid.ended mid.opens.items c.push.new.self.items b (with_props p start) (with_props g start) (kind_in k) flow g.anchor g.tag c.in_ok-go_on.ensures.none c.in_ok-push.ensures.items (started-again k flow g p) (sym (started k flow g))
-    (λ s h. subst (λ z. Stepped z s new) (ap (λ z. start_of z flow g.anchor g.tag) c.kind_of.ensures ∙ started k flow g) (c.in_ok-begin.ensures s h flow)) log at (c.in_ok-go_on.ensures.tells log t)
+    tells-begun mid.judged c.begin.new.self mid.ended mid.opens.items c.push.new.self.items b (with_props p start) (with_props g start) (kind_in k) flow g.anchor g.tag c.in_ok-go_on.ensures.none c.in_ok-push.ensures.items (started-again k flow g p) (sym (started k flow g))
+    (subst (λ z. Takes c.args.at z mid.judged c.begin.new.self) (ap (λ z. start_of z flow g.anchor g.tag) c.kind_of.ensures ∙ started k flow g) (c.in_ok-begin.ensures flow)) log at (c.in_ok-go_on.ensures.tells log t)

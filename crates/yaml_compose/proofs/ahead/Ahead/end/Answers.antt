@@ -1,7 +1,9 @@
 use Rattle.std.proofs.Common.{reverse, refl, ◌∷◌, [], ◌++◌, subst}
 use Rattle.std.specs.Prelude.{Some}
 use Rattle.yaml_compose.specs.TagModel.{kind_in}
-use Rattle.yaml_compose.specs.ComposerModel.{end_of, Stepped}
+use Rattle.yaml_sink.specs.Held.{Puts}
+use Rattle.yaml_compose.specs.ComposerModel.{end_of}
+use Rattle.yaml_compose.specs.JudgedModel.{Judges}
 use Rattle.yaml_compose.specs.AheadModel.{TellsOf}
 use Rattle.yaml_compose.proofs.AheadLaws.{ended}
 use Rattle.yaml_compose.proofs.DueLaws.{tells-ended}
@@ -17,5 +19,5 @@ returns c =
     record {
       is = λ log t.
           subst (λ e. TellsOf new (Some b) (reverse left) (log ++ (e ∷ []))) (ended c.args.collection)
-          (tells-ended mid.composer new mid.ended (Some b) mid.opens.items left b k c.in_ok-go_on.ensures.none c.in-Some.ensures.items refl (λ s h. subst (λ z. Stepped (end_of z) s new) c.kind_of.ensures (c.in_ok-end.ensures s h)) log (c.in_ok-go_on.ensures.tells log t));
+          (tells-ended mid.judged new mid.ended (Some b) mid.opens.items left b k c.in_ok-go_on.ensures.none c.in-Some.ensures.items refl (subst (λ z. Puts Judges mid.judged (end_of z ∷ []) new) c.kind_of.ensures c.in_ok-end.ensures) log (c.in_ok-go_on.ensures.tells log t));
     }

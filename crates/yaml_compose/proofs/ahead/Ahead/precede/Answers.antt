@@ -13,6 +13,6 @@ returns c =
     let d : Begun = record { at = c.args.start; due = c.due_before_key-due.result } in
     record {
       is = λ log es s t.
-          tells-before self.composer c.precede.new.self self.ended c.replace.new.dest self.opens.items c.push.new.self.items c.in-Some.begun d c.args.start (mapping_start flow None untagged) kinds.Mapping flow None untagged log es (sym c.replace.ensures.value ∙ c.in-Some.is) c.replace.ensures.after c.in_ok-push.ensures.items c.if-begun-start.false c.if-owes.ensures refl c.due_before_key-due.ensures refl
-          (λ front fs p f. c.in_ok-precede.ensures front fs p f flow) s t;
+          tells-before self.judged c.precede.new.self self.ended c.replace.new.dest self.opens.items c.push.new.self.items c.in-Some.begun d c.args.start (mapping_start flow None untagged) kinds.Mapping flow None untagged log es (sym c.replace.ensures.value ∙ c.in-Some.is) c.replace.ensures.after c.in_ok-push.ensures.items c.if-begun-start.false c.if-owes.ensures refl c.due_before_key-due.ensures refl
+          (λ front fs n p f. c.in_ok-precede.ensures front fs n p f flow) s t;
     }

@@ -12,6 +12,4 @@ returns c =
     let p = props_of c.args.properties.now in
     let y = style_of c.args.style in
     let x = c.args.text.now in
-    record {
-      is = λ log t. tells-node mid.composer c.scalar.new.self mid.ended (reverse mid.opens.items) (scalar_event p.anchor p.tag y x) c.in_ok-go_on.ensures.none (scalar-node p.anchor p.tag y x) c.in_ok-scalar.ensures log (c.in_ok-go_on.ensures.tells log t);
-    }
+    λ log l t. tells-node mid.judged c.scalar.new.self mid.ended (reverse mid.opens.items) c.args.at (scalar_event p.anchor p.tag y x) c.in_ok-go_on.ensures.none (scalar-node p.anchor p.tag y x) c.in_ok-scalar.ensures log l (c.in_ok-go_on.ensures.tells log t)

@@ -1,4 +1,4 @@
-use Rattle.std.proofs.Common.{◌≡◌, arith, sym, ◌∙◌, Some}
+use Rattle.std.proofs.Common.{arith, sym, ◌∙◌}
 use Rattle.std.specs.String.{string_bytes}
 use Rattle.std.specs.BTreeMap.{get_by_text}
 use Rattle.yaml_compose.proofs.AnchorLaws.{stand-length, maps-all}
@@ -8,5 +8,4 @@ pub returns-clause-place : goal.returns-clause-place
 returns-clause-place c = λ names h.
     let s = c.loop-self.self in
     let k = c.loop-self.invariant names h in
-    let found : get_by_text s.places c.args.name.now ≡ Some c.in-Some-copied.place = sym c.get.ensures.value ∙ (sym c.copied.ensures ∙ c.in-Some-copied.is) in
-    sym (maps-all (get_by_text s.places) s.mapped names (omega (arith, stand-length (string_bytes s.text) s.spans.items names k.texts, c.len.ensures, s.spans.ok.0, c.loop-self-test.false)) k.maps c.args.name.now) ∙ found
+    sym (maps-all (get_by_text s.places) s.mapped names (omega (arith, stand-length (string_bytes s.text) s.spans.items names k.texts, c.len.ensures, s.spans.ok.0, c.loop-self-test.false)) k.maps c.args.name.now) ∙ (sym c.get.ensures.value ∙ sym c.copied.ensures)

@@ -1,4 +1,5 @@
 use Rattle.std.proofs.Common.{[], length, arith, append-nil}
+use Rattle.std.proofs.lemmas.Result.{err_from_is_err_and}
 use Rattle.yaml_text.specs.EventModel.{written_of}
 use Rattle.yaml_compose.specs.ComposerModel.{anchor_text}
 use Rattle.yaml_nodes.specs.ComposerSteps.{node_begun, collection_begun}
@@ -6,6 +7,7 @@ use Rattle.yaml_compact.specs.StoreGrows.{tags_of, trees_of}
 use Rattle.yaml_compose.specs.ComposerModel.{Holds}
 use Rattle.yaml_compose.specs.declared.composer.Open.{Open}
 use Rattle.yaml_compose.proofs.ComposerLaws.{holds-kept, begun-step, stack-length, keeping-entered}
+use Rattle.yaml_compose.proofs.RefusalLaws.{begin-stops}
 use Rattle.yaml_compose.proofs.composer.Composer.begin_collection.Goals as goal
 
 pub returns : goal.returns
@@ -29,3 +31,8 @@ returns c = λ s h flow.
             keeping-entered (tags_of new) (trees_of new) middle.anchored.items middle.stack.items middle.opens.items n.inner n.outer n.table k.keeping o a (length s.table) text s.inner [] c.push.new.self.items c.in_ok-push.ensures.items (append-nil s.inner) b.0 (omega (arith, l, c.len-mark.ensures, middle.stack.ok.0)) c.in_ok-number.ensures.is;
       };
     }
+
+pub returns-in_err-text : goal.returns-in_err-text
+returns-in_err-text c = λ s h flow.
+    let p = err_from_is_err_and c.from_residual.result c.from_residual.ensures.1 in
+    rw (p.1, p.2) (begin-stops c.args.collection flow (anchor_text c.args.anchor) (written_of c.args.tag.now) s _ c.in_err-text.ensures)

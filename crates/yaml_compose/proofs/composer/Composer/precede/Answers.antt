@@ -1,5 +1,6 @@
-use Rattle.std.proofs.Common.{◌≡◌, ◌++◌, length, arith, refl, length-append}
+use Rattle.std.proofs.Common.{◌≡◌, ◌++◌, length, arith, refl, sym, ap, Ok, length-append}
 use Rattle.std.specs.Prelude.{None}
+use Rattle.yaml_definitions.specs.model.Core.{collection_tag}
 use Rattle.yaml_nodes.specs.ComposerSteps.{State}
 use Rattle.yaml_compact.specs.StoreGrows.{tags_of, trees_of}
 use Rattle.yaml_compact.specs.declared.nodes.Collection.TheVariants as kinds
@@ -12,10 +13,11 @@ use Rattle.yaml_compose.proofs.NodeLaws.{last-node, follows-before}
 use Rattle.yaml_compose.proofs.composer.Composer.precede.Goals as goal
 
 pub returns : goal.returns
+unfolding collection_tag
 returns c = λ front es p f flow.
     let self = c.args.self.now in
     let new = c.tag.new.self in
-    let text = c.in_ok-text.text.now in
+    let text = c.default_tag-text.result.now in
     let l = last-node self front es p f in
     let a = l.adding in
     let s : State = with_nodes l.state a.nodes a.inside a.after in
@@ -26,7 +28,7 @@ returns c = λ front es p f flow.
     let size = stack-length (tags_of new) (trees_of new) self.anchored.items self.stack.items self.opens.items s.inner s.outer s.table k.keeping in
     let mark : o.mark ≡ length (under ++ l.state.inner) =
     omega (arith, size, a.count, c.in-Some.ensures.0, c.in-Some.ensures.1, c.len.ensures, self.stack.ok.0, length-append under (l.state.inner ++ a.nodes), length-append l.state.inner a.nodes, length-append under l.state.inner) in
-    follows-before self final front es text l c.in_ok-text.ensures (record {
+    follows-before self final front es text l (ap Ok (sym c.default_tag-text.ensures)) (record {
       good = k.good;
       names = k.names;
       keeping =

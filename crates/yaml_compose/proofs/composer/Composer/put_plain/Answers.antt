@@ -1,12 +1,15 @@
-use Rattle.std.proofs.Common.{◌≡◌, length, sym, ◌∙◌, ap}
+use Rattle.std.proofs.Common.{subst, ◌≡◌, length, sym, ◌∙◌, ap}
 use Rattle.std.specs.Prelude.{Some, None, Ok}
+use Rattle.std.proofs.lemmas.Result.{err_from_is_err_and}
 use Rattle.yaml_definitions.specs.model.Tree.{scalar}
 use Rattle.yaml_definitions.specs.model.Core.{resolve}
 use Rattle.yaml_definitions.specs.model.Event.{untagged, plain}
 use Rattle.yaml_definitions.specs.model.Unfold.{and_then, placed}
 use Rattle.yaml_nodes.specs.ComposerSteps.{step, whole, scalar_added}
+use Rattle.yaml_content.specs.CoreAnswer.{RefusesScalar}
 use Rattle.yaml_content.specs.Kind.{kind_tag, of_kind}
 use Rattle.yaml_compose.proofs.TagLaws.{plain-is}
+use Rattle.yaml_compose.proofs.RefusalLaws.{scalar-stops}
 use Rattle.yaml_compose.proofs.composer.Composer.put_plain.Goals as goal
 
 pub returns-in-Str : goal.returns-in-Str
@@ -21,12 +24,20 @@ returns-in-Str c = λ s h.
       holds = c.in_ok-put_kind.ensures s h;
     }
 
+pub returns-in_err-content : goal.returns-in_err-content
+returns-in_err-content c = λ s h.
+    let p = err_from_is_err_and c.from_residual-in_err-content.result c.from_residual-in_err-content.ensures.1 in
+    let x = c.args.text.now in
+    let k = c.kind-kind.result in
+    let e : resolve untagged plain x ≡ of_kind k x = plain-is x c.judge-form.result k c.judge-form.ensures c.kind-kind.ensures in
+    rw p.1 (scalar-stops None untagged plain x s p.0 (p.2 (resolve untagged plain x) (subst (λ r. RefusesScalar r c.in_err-content.field-0.0) (sym e) c.in_err-content.ensures.means)))
+
 pub returns : goal.returns
 unfolding step
 returns c = λ s h.
     let x = c.args.text.now in
     let k = c.kind-kind.result in
-    let e : resolve untagged plain x ≡ Ok (kind_tag k, c.as_str.result.now) = plain-is x c.judge-form.result k c.judge-form.ensures c.kind-kind.ensures ∙ (c.in-Ok.ensures.means ∙ ap (λ z. Ok (kind_tag k, z)) (sym c.as_str.ensures.value)) in
+    let e : resolve untagged plain x ≡ Ok (kind_tag k, c.as_str.result.now) = plain-is x c.judge-form.result k c.judge-form.ensures c.kind-kind.ensures ∙ (c.in_ok-content.ensures.means ∙ ap (λ z. Ok (kind_tag k, z)) (sym c.as_str.ensures.value)) in
     record {
       state = whole None (length s.table) (scalar (kind_tag k) c.as_str.result.now) s;
       is = ap (λ r. Some (and_then (placed 0 r) (scalar_added None s))) e;

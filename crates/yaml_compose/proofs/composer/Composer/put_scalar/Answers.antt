@@ -1,14 +1,26 @@
 use Rattle.std.proofs.Common.{length, ap, ◌∙◌}
 use Rattle.std.specs.Prelude.{Some}
 use Rattle.std.specs.Cow.{cow_str_bytes}
+use Rattle.std.proofs.lemmas.Result.{err_from_is_err_and}
 use Rattle.yaml_definitions.specs.model.Tree.{scalar}
+use Rattle.yaml_definitions.specs.model.Core.{resolve}
+use Rattle.yaml_text.specs.EventModel.{written_of, style_of}
 use Rattle.yaml_definitions.specs.model.Unfold.{and_then, placed}
 use Rattle.yaml_compose.specs.ComposerModel.{anchor_text}
 use Rattle.yaml_nodes.specs.ComposerSteps.{step, node_begun, whole, scalar_added}
 use Rattle.yaml_compact.specs.StoreGrows.{Stands}
 use Rattle.yaml_compose.specs.ComposerModel.{Holds}
 use Rattle.yaml_compose.proofs.ComposerLaws.{holds-kept}
+use Rattle.yaml_compose.proofs.RefusalLaws.{scalar-stops}
 use Rattle.yaml_compose.proofs.composer.Composer.put_scalar.Goals as goal
+
+pub returns-in_err-scalar : goal.returns-in_err-scalar
+returns-in_err-scalar c = λ s h.
+    let p = err_from_is_err_and c.from_residual.result c.from_residual.ensures.1 in
+    let g = written_of c.args.tag.now in
+    let y = style_of c.args.style in
+    let x = c.args.text.now in
+    rw p.1 (scalar-stops (anchor_text c.args.anchor) g y x s p.0 (p.2 (resolve g y x) c.in_err-scalar.ensures.means))
 
 pub returns : goal.returns
 unfolding step
@@ -18,12 +30,12 @@ returns c = λ s h.
     let b = c.in_ok-place.ensures s h in
     let middle = c.begin_node.new.self in
     let new = c.scalar.new.self in
-    let g = cow_str_bytes c.in-Ok.scalar.tag in
-    let x = cow_str_bytes c.in-Ok.scalar.content in
+    let g = cow_str_bytes c.in_ok-scalar.scalar.tag in
+    let x = cow_str_bytes c.in_ok-scalar.scalar.content in
     let k : Holds (record middle { store = new }) n = holds-kept middle n new (c.in_ok-id.ensures.kept b.1.good.store) b.1 in
     let there : Stands new c.in_ok-id.id (scalar g x) = c.in_ok-id.ensures.stands b.1.good.store ∙ (λ z. Some (scalar (c.as_str.ensures.value z) (c.as_str-2.ensures.value z))) in
     record {
       state = whole a (length s.table) (scalar g x) n;
-      is = ap (λ r. Some (and_then (placed 0 r) (scalar_added a s))) c.in-Ok.ensures.means;
+      is = ap (λ r. Some (and_then (placed 0 r) (scalar_added a s))) c.in_ok-scalar.ensures.means;
       holds = c.in_ok-put.ensures n k a (length s.table) (scalar g x) b.0 there;
     }

@@ -6,7 +6,7 @@ use Rattle.yaml_compose.proofs.keeper.Composing.documents.Goals as goal
 pub returns-clause-count : goal.returns-clause-count
 returns-clause-count c = λ ds h.
     let w = goes-on _ _ _ _ c.go_on.new.self c.in_ok-compose.ensures.composes c.in_ok-go_on.ensures in
-    c.in_ok-documents.ensures ds (all-composed c.args.self.now (stream_events ds) c.go_on.new.self h c.if-self.false w)
+    c.in_ok-documents.ensures.count ds (all-composed c.args.self.now (stream_events ds) c.go_on.new.self h c.if-self.false w)
 
 pub returns-clause-keeps : goal.returns-clause-keeps
 returns-clause-keeps c =

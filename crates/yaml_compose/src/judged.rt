@@ -1,0 +1,156 @@
+//! A composer up to the first event that is refused.
+ghost use Rattle.std.specs.Prelude.{◌≡◌, Bool, List, [], ◌∷◌, ◌++◌, length, None, IfOk, IfErr};
+ghost use Rattle.yaml_definitions.specs.model.Event.{Event, untagged, document_start, mapping_start, scalar_event, alias_event};
+ghost use Rattle.yaml_definitions.specs.model.Serial.{Document, stream_events};
+ghost use Rattle.yaml_text.specs.EventModel.{style_of};
+ghost use Rattle.yaml_sink.specs.Held.{Puts};
+ghost use Rattle.yaml_sink.specs.PropertyRules.{props_of};
+ghost use Rattle.yaml_compose.specs.Reached.{UnfoldTo};
+ghost use Rattle.yaml_compose.specs.Nodes.{AreNodes};
+ghost use Rattle.yaml_compose.specs.ComposerModel.{IsForest, AreForests, start_of, end_of};
+ghost use Rattle.yaml_compose.specs.Refusals.{RefusesForest};
+ghost use Rattle.yaml_compose.specs.JudgedModel.{Judges, Takes};
+
+use crate::composer::{Composer, Forest};
+use crate::stop::Refusal;
+use crate::unmade::Unmade;
+use std::alloc::Global;
+use yaml_compact::gives_up::GivesUp;
+use yaml_compact::nodes::Collection;
+use yaml_sink::properties::Properties;
+use yaml_text::event::Style;
+
+/// A composer that is told of no more events once one is refused: its node has no tree.
+#[derive(Drop)]
+pub(crate) struct Judged {
+    composer: Composer,
+    /// The event that is refused.
+    refusal: Option<Refusal>,
+}
+
+impl Judged {
+    /// No event yet.
+    pub(crate) fn new(alloc: Global) -> Result<Judged, GivesUp>
+        ensures { IfOk result (λ judged. Judges judged []) }
+    {
+        let composer = Composer::new(alloc)?;
+        Ok(Judged {
+            composer,
+            refusal: None,
+        })
+    }
+
+    /// The event of this number is a scalar with these properties.
+    pub(crate) fn scalar(
+        &mut self,
+        alloc: Global,
+        at: usize,
+        properties: &Properties<'_>,
+        style: Style,
+        text: &str,
+    ) -> Result<(), GivesUp>
+        ensures { IfOk result (λ _. Takes at (scalar_event (props_of properties.now).anchor (props_of properties.now).tag (style_of style) text.now) self.old self.new) }
+    {
+        if let Some(_) = self.refusal {
+            return Ok(());
+        }
+        if let Err(stop) = self.composer.scalar(alloc, properties, style, text) {
+            self.refusal = Some(stop.refusal(at)?);
+        }
+        Ok(())
+    }
+
+    /// The event of this number is an alias.
+    pub(crate) fn alias(&mut self, alloc: Global, at: usize, name: &str) -> Result<(), GivesUp>
+        ensures { IfOk result (λ _. Takes at (alias_event name.now) self.old self.new) }
+    {
+        if let Some(_) = self.refusal {
+            return Ok(());
+        }
+        if let Err(stop) = self.composer.alias(alloc, name) {
+            self.refusal = Some(stop.refusal(at)?);
+        }
+        Ok(())
+    }
+
+    /// A collection with these properties begins with the event of this number.
+    pub(crate) fn begin(
+        &mut self,
+        alloc: Global,
+        at: usize,
+        collection: Collection,
+        properties: &Properties<'_>,
+    ) -> Result<(), GivesUp>
+        ensures { IfOk result (λ _. (flow : Bool) → Takes at (start_of collection flow (props_of properties.now).anchor (props_of properties.now).tag) self.old self.new) }
+    {
+        if let Some(_) = self.refusal {
+            return Ok(());
+        }
+        if let Err(stop) = self.composer.begin(alloc, collection, properties) {
+            self.refusal = Some(stop.refusal(at)?);
+        }
+        Ok(())
+    }
+
+    /// The innermost collection ends.
+    pub(crate) fn end(&mut self, collection: Collection) -> Result<(), GivesUp>
+        ensures { IfOk result (λ _. Puts Judges self.old (end_of collection ∷ []) self.new) }
+    {
+        if let Some(_) = self.refusal {
+            return Ok(());
+        }
+        self.composer.end(collection)?;
+        Ok(())
+    }
+
+    /// A document begins.
+    pub(crate) fn document(&mut self) -> Result<(), GivesUp>
+        ensures { IfOk result (λ _. (explicit : Bool) → Puts Judges self.old (document_start explicit ∷ []) self.new) }
+    {
+        if let Some(_) = self.refusal {
+            return Ok(());
+        }
+        self.composer.document()?;
+        Ok(())
+    }
+
+    /// A mapping without properties begins before the node that became whole last, whose first event has this number. It gives up
+    /// where the event that is refused would get another number.
+    pub(crate) fn precede(&mut self, alloc: Global, start: usize) -> Result<(), GivesUp>
+        ensures { (front es : List Event) → start ≡ length front → AreNodes 1 es → Judges self.old (front ++ es) → IfOk result (λ _. (flow : Bool) → Judges self.new (front ++ (mapping_start flow None untagged ∷ es))) }
+    {
+        let Some(refusal) = self.refusal else {
+            self.composer.precede(alloc)?;
+            return Ok(());
+        };
+        if refusal.at >= start {
+            return Err(GivesUp);
+        }
+        Ok(())
+    }
+
+    /// How many documents there are, where no collection is open.
+    pub(crate) fn documents(&self) -> Result<usize, Unmade>
+        ensures count { (ds : List Document) → Judges self.now (stream_events ds) → IfOk result (UnfoldTo ds) }
+        ensures refused { (ds : List Document) → Judges self.now (stream_events ds) → IfErr result (RefusesForest ds) }
+    {
+        if let Some(refusal) = self.refusal {
+            return Err(Unmade::Refused(refusal.fault()));
+        }
+        let documents = self.composer.documents()?;
+        Ok(documents)
+    }
+
+    /// The stream ends, or the second of two.
+    pub(crate) fn finish(self) -> Result<Forest, Unmade>
+        ensures forest { (ds : List Document) → Judges self (stream_events ds) → IfOk result (IsForest ds) }
+        ensures both { (ds es : List Document) → Judges self (stream_events ds ++ stream_events es) → IfOk result (AreForests ds es) }
+        ensures refused { (ds : List Document) → Judges self (stream_events ds) → IfErr result (RefusesForest ds) }
+    {
+        let Judged { composer, refusal } = self;
+        if let Some(refusal) = refusal {
+            return Err(Unmade::Refused(refusal.fault()));
+        }
+        composer.finish()
+    }
+}

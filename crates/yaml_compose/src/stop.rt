@@ -1,0 +1,100 @@
+//! Why a composer does not take an event.
+ghost use Rattle.std.specs.Prelude.{◌≡◌, IfOk};
+ghost use Rattle.yaml_definitions.specs.model.Core.{Resolved};
+ghost use Rattle.yaml_content.specs.CoreAnswer.{RefusesScalar};
+ghost use Rattle.yaml_compose.specs.Refusals.{fault_of, Blames, IsRefusal};
+
+use std::alloc::AllocFailed;
+use yaml_compact::gives_up::GivesUp;
+use yaml_content::CoreFault;
+use yaml_text::fault::Fault;
+
+/// Why a node has no tree.
+#[derive(Clone, Copy)]
+pub(crate) enum Cause {
+    UndefinedAlias,
+    CyclicAlias,
+    WrongKind,
+    BadContent,
+    IntRange,
+    FloatRange,
+}
+
+/// Why a composer does not take an event. It is small, and has no number, since it is answered for each event.
+#[derive(Clone, Copy)]
+pub(crate) enum Stop {
+    /// Its node has no tree.
+    Refused(Cause),
+    /// The composer goes no further.
+    GivesUp,
+}
+
+/// An event whose node has no tree.
+#[derive(Clone, Copy)]
+pub(crate) struct Refusal {
+    pub(crate) cause: Cause,
+    /// The event's number.
+    pub(crate) at: usize,
+}
+
+impl Refusal {
+    /// The fault that says so.
+    pub(crate) fn fault(self) -> Fault
+        ensures { result ≡ fault_of self.cause self.at }
+    {
+        match self.cause {
+            Cause::UndefinedAlias => Fault::UndefinedAlias(self.at),
+            Cause::CyclicAlias => Fault::CyclicAlias(self.at),
+            Cause::WrongKind => Fault::WrongKind(self.at),
+            Cause::BadContent => Fault::BadContent(self.at),
+            Cause::IntRange => Fault::IntRange(self.at),
+            Cause::FloatRange => Fault::FloatRange(self.at),
+        }
+    }
+}
+
+impl Stop {
+    /// The event of this number is refused, unless the composer gives up.
+    pub(crate) fn refusal(self, at: usize) -> Result<Refusal, GivesUp>
+        ensures { IfOk result (IsRefusal self at) }
+    {
+        match self {
+            Stop::Refused(cause) => Ok(Refusal { cause, at }),
+            Stop::GivesUp => Err(GivesUp),
+        }
+    }
+}
+
+impl From<GivesUp> for Stop {
+    ghost use Rattle.yaml_compose.specs.declared.stop.Stop.TheVariants.{GivesUp};
+
+    ghost from_gives = { λ _ stop. stop ≡ GivesUp };
+
+    fn from(_gives_up: GivesUp) -> Stop {
+        Stop::GivesUp
+    }
+}
+
+impl<T: Drop> From<AllocFailed<T>> for Stop {
+    ghost use Rattle.yaml_compose.specs.declared.stop.Stop.TheVariants.{GivesUp};
+
+    ghost from_gives = { λ _ stop. stop ≡ GivesUp };
+
+    fn from(_error: AllocFailed<T>) -> Stop {
+        Stop::GivesUp
+    }
+}
+
+impl From<CoreFault> for Stop {
+    ghost from_gives = { λ fault stop. (found : Resolved) → RefusesScalar found fault → Blames found stop };
+
+    fn from(fault: CoreFault) -> Stop {
+        match fault {
+            CoreFault::WrongKind => Stop::Refused(Cause::WrongKind),
+            CoreFault::BadContent => Stop::Refused(Cause::BadContent),
+            CoreFault::IntRange => Stop::Refused(Cause::IntRange),
+            CoreFault::FloatRange => Stop::Refused(Cause::FloatRange),
+            CoreFault::OutOfMemory => Stop::GivesUp,
+        }
+    }
+}
