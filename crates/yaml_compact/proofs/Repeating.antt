@@ -1,5 +1,5 @@
 -- The first node with two equal keys.
-use Rattle.std.proofs.Common.{◌≡◌, ℕ, ◌<◌, ◌≤◌, true, List, [], length, map, take, get_or, slice_index, refl, sym, ◌∙◌, ap, subst, arith}
+use Rattle.std.proofs.Common.{◌≡◌, ℕ, ◌<◌, ◌≤◌, true, List, [], length, map, get_or, slice_index, refl, sym, ◌∙◌, ap, subst, arith}
 use Rattle.std.specs.Prelude.{Some}
 use Rattle.std.specs.List.{slice_get, All}
 use Rattle.std.specs.declared.cmp.Ordering.TheVariants.{Equal}
@@ -14,7 +14,7 @@ use Rattle.yaml_definitions.proofs.OrderLaws.{tree_cmp-total, tree_same}
 use Rattle.yaml_definitions.proofs.SameLaws.{same_to, same_from}
 use Rattle.yaml_levels.specs.LevelsModel.{Levels, level_of, LevelsBy}
 use Rattle.yaml_levels.specs.Places.{IsFirstEqual}
-use Rattle.yaml_levels.specs.View.{View, Inside, content, items, entries, entries_in, inside_tree, InsideBelow, Lower, Ranks, Repeats, IsFirst}
+use Rattle.yaml_levels.specs.View.{View, Inside, content, items, entries, entries_in, inside_tree, InsideBelow, Lower, Ranks, IsFirst}
 use Rattle.yaml_levels.proofs.Lists.{get_or-map}
 use Rattle.yaml_levels.proofs.Numbers.{equal-cmp}
 use Rattle.yaml_levels.proofs.Numbering.{get-there, get-within}
