@@ -1,0 +1,5 @@
+mod Grounding
+mod Building
+mod Graphs
+mod Repeats
+mod NumberLaws
