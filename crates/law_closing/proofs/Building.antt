@@ -1,23 +1,20 @@
 -- Nodes for trees of which each has its parts before it.
-use Rattle.std.proofs.Common.{Global, Vec, ◌≡◌, ◌+◌, ◌<◌, ◌≤◌, ◌^◌, ℕ, zero, suc, List, [], ◌∷◌, ◌++◌, length, map, refl, sym, ◌∙◌, ap, subst, arith, append_assoc, append-nil, length-append}
+use Rattle.std.proofs.Common.{Global, Vec, ◌≡◌, ◌+◌, ◌<◌, ℕ, zero, suc, List, [], ◌∷◌, ◌++◌, length, refl, sym, ◌∙◌, ap, subst, arith, append_assoc, append-nil, length-append}
 use Rattle.std.specs.Prelude.{Some}
-use Rattle.std.specs.Borrow.{Bor}
 use Rattle.std.specs.List.{slice_get, All}
-use Rattle.std.specs.Cow.{cow_str_bytes}
 use Rattle.std.specs.declared.borrow.CowStr.{CowStr}
 use Rattle.std.specs.declared.borrow.CowStr.TheVariants.{Borrowed}
 use Rattle.std.proofs.lemmas.Option.{get_or_from_slice_get}
 use denote.RawPtr.{null_ptr}
 use Rattle.yaml_definitions.specs.model.Tree.{Tree, Trees, Pairs, scalar, sequence, mapping, end, item, done, entry}
 use Rattle.yaml_nodes.specs.TreeLists.{trees, pairs}
-use Rattle.yaml_nodes.specs.GraphModel.{Entries, tree_at, trees_at, entries_at, node_tree, more_trees, PartsBelow}
+use Rattle.yaml_nodes.specs.GraphModel.{Entries, trees_at, entries_at, node_tree, more_trees, PartsBelow}
 use Rattle.yaml_nodes.specs.declared.node.NodeId.{NodeId}
 use Rattle.yaml_nodes.specs.declared.node.Node.{Node}
-use Rattle.yaml_nodes.specs.declared.node.NodeKind.{NodeKind}
 use Rattle.yaml_nodes.specs.declared.node.NodeKind.TheVariants as kinds
 use Rattle.yaml_levels.proofs.Numbering.{get-within}
-use Rattle.law_closing.specs.Keys.{listed, pairs_listed, items_of, pairs_of}
-use Rattle.law_closing.specs.Laws.{Holdable}
+use Rattle.law_closing.specs.Keys.{listed, pairs_listed}
+use Rattle.law_closing.specs.Laws.{Holdable, PartsHoldable}
 use Rattle.law_closing.proofs.Grounding.{EachStands, PairsStand, PartsStand, Behind}
 
 -- ---- values that no program makes
@@ -48,7 +45,7 @@ pub places-count : (ts xs : List Tree) (s : EachStands ts xs) → length (places
 places-count [] xs s = refl
 places-count (t ∷ ts) xs s = ap suc (places-count ts xs s.1)
 
-pairs-count : (ps : List (Tree × Tree)) (xs : List Tree) (s : PairsStand ps xs) → length (pair_places ps xs s) ≡ length ps
+pub pairs-count : (ps : List (Tree × Tree)) (xs : List Tree) (s : PairsStand ps xs) → length (pair_places ps xs s) ≡ length ps
 pairs-count [] xs s = refl
 pairs-count (p ∷ ps) xs s = ap suc (pairs-count ps xs s.1.1)
 
@@ -79,10 +76,6 @@ trees-listed (item t ts) = ap (item t) (trees-listed ts)
 pairs-listed : (ps : Pairs) → pairs (pairs_listed ps) ≡ ps
 pairs-listed done = refl
 pairs-listed (entry k v ps) = ap (entry k v) (pairs-listed ps)
-
--- vectors may hold the tree's parts
-abbrev pub PartsHoldable : Tree → Type 0
-PartsHoldable t = Holdable (length (items_of t)) × Holdable (length (pairs_of t))
 
 -- the node of a tree whose parts stand among these
 abbrev node_for : (t : Tree) (xs : List Tree) → PartsStand t xs → PartsHoldable t → Node

@@ -1,24 +1,21 @@
 -- The graph of a stream that unfolds low.
-use Rattle.std.proofs.Common.{◌≡◌, ◌+◌, ◌<◌, ◌≤◌, ◌^◌, ℕ, zero, suc, List, [], ◌∷◌, ◌++◌, length, map, refl, sym, ◌∙◌, ap, subst, arith, length-append, Ok}
+use Rattle.std.proofs.Common.{◌≡◌, ◌+◌, ◌<◌, ◌≤◌, ℕ, suc, List, [], ◌∷◌, length, map, refl, sym, ◌∙◌, ap, subst, arith, length-append, Ok}
 use Rattle.std.specs.Prelude.{Some}
 use Rattle.std.specs.List.{slice_get, All}
 use Rattle.std.proofs.lemmas.List.{length-map}
 use Rattle.yaml_definitions.specs.model.Limits.{height_limit}
-use Rattle.yaml_definitions.specs.model.Tree.{Tree, Trees, Pairs, scalar, sequence, mapping, height}
-use Rattle.yaml_definitions.specs.model.Event.{Anchor}
+use Rattle.yaml_definitions.specs.model.Tree.{Tree, Trees, Pairs, sequence, mapping, height}
 use Rattle.yaml_definitions.specs.model.Serial.{SerialNode, alias_at, scalar_at, sequence_at, mapping_at, Document}
-use Rattle.yaml_definitions.specs.model.Core.{resolve, collection_tag}
-use Rattle.yaml_definitions.specs.model.Unfold.{Outcome, Table, and_then, placed, opened, closed, last_named, tree_named, event_count, unfold_node, unfold_all, unfold_pairs, trees_from, trees_of}
+use Rattle.yaml_definitions.specs.model.Core.{collection_tag}
+use Rattle.yaml_definitions.specs.model.Unfold.{Table, and_then, placed, opened, closed, last_named, event_count, unfold_node, unfold_all, unfold_pairs, trees_from, trees_of}
 use Rattle.yaml_graph.specs.Closing.{trees_inside, trees_inside_all, trees_inside_pairs, stream_trees}
 use Rattle.yaml_graph.specs.Composed.{Composed}
 use Rattle.yaml_graph.proofs.ClosingLaws.{low-stream}
 use Rattle.yaml_nodes.specs.GraphModel.{AreLow, trees_at, trees_in}
 use Rattle.yaml_nodes.specs.declared.node.Node.{Node}
-use Rattle.yaml_nodes.specs.declared.node.NodeId.{NodeId}
 use Rattle.yaml_nodes.specs.declared.graph.Graph.{Graph}
 use Rattle.yaml_nodes.proofs.LowLaws.{low-each, heights-low}
-use Rattle.law_closing.specs.Keys.{items_of, pairs_of}
-use Rattle.law_closing.specs.Laws.{Holdable, AreHoldable}
+use Rattle.law_closing.specs.Laws.{Holdable, PartsHoldable, AreHoldable}
 use Rattle.law_closing.proofs.Grounding.{then-found, found-is, EachStands, Behind, stream-behind}
 use Rattle.law_closing.proofs.Building.{vector, places, places-count, places-tell, places-below, AllHoldable, nodes_for, nodes-count, nodes-tell, nodes-below}
 
@@ -54,7 +51,7 @@ roots-few (d ∷ ds) at ts q =
 
 -- ---- the graph
 
-all-holdable : (ts : List Tree) → ((k : ℕ) (t : Tree) → slice_get ts k ≡ Some t → Holdable (length (items_of t)) × Holdable (length (pairs_of t))) → AllHoldable ts
+all-holdable : (ts : List Tree) → ((k : ℕ) (t : Tree) → slice_get ts k ≡ Some t → PartsHoldable t) → AllHoldable ts
 all-holdable [] h = tt
 all-holdable (t ∷ ts) h = (h 0 t refl, all-holdable ts (λ k. h (suc k)))
 
@@ -66,7 +63,7 @@ module _ (ds : List Document) (ts : List Tree) (unfolded : trees_of ds ≡ Ok ts
   stands = stream-behind ds 1 [] ts unfolded
 
   parts : AllHoldable all
-  parts = all-holdable all (λ k t e. (fits.items k t e, fits.pairs k t e))
+  parts = all-holdable all fits.parts
 
   abbrev nodes : List Node
   nodes = nodes_for [] all stands.0 parts

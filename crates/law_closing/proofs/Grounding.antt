@@ -1,12 +1,12 @@
 -- The trees of a stream's nodes, as they close: the parts of each stand before it.
-use Rattle.std.proofs.Common.{◌≡◌, ℕ, zero, suc, ◌+◌, ◌<◌, List, [], ◌∷◌, ◌++◌, length, set, refl, sym, ◌∙◌, ap, subst, append_assoc, append-nil, Result, Ok, Err}
+use Rattle.std.proofs.Common.{◌≡◌, ℕ, zero, suc, ◌+◌, List, [], ◌∷◌, ◌++◌, length, set, refl, sym, ◌∙◌, ap, subst, append_assoc, append-nil, Result, Ok, Err}
 use Rattle.std.specs.Prelude.{Option, Some, None, Bool, true, false, cond, bytes_eq}
 use Rattle.std.specs.List.{slice_get}
 use Rattle.yaml_definitions.specs.model.Tree.{Tree, Trees, Pairs, scalar, sequence, mapping, end, item, done, entry}
 use Rattle.yaml_definitions.specs.model.Event.{Anchor}
 use Rattle.yaml_definitions.specs.model.Serial.{SerialNode, SerialNodes, SerialPairs, alias_at, scalar_at, sequence_at, mapping_at, end_serial, item_serial, done_serial, entry_serial, Document}
 use Rattle.yaml_definitions.specs.model.Core.{Cause, resolve, collection_tag}
-use Rattle.yaml_definitions.specs.model.Unfold.{Outcome, Table, and_then, placed, or_else, opened, closed, last_named, tree_named, event_count, unfold_node, unfold_all, unfold_pairs, trees_from, trees_of}
+use Rattle.yaml_definitions.specs.model.Unfold.{Outcome, Table, and_then, placed, or_else, opened, closed, last_named, tree_named, event_count, unfold_node, unfold_all, unfold_pairs, trees_from}
 use Rattle.yaml_graph.specs.Closing.{trees_inside, trees_inside_all, trees_inside_pairs, stream_trees}
 use Rattle.yaml_nodes.proofs.GraphLaws.{get-more, get-end}
 use Rattle.law_closing.specs.Keys.{listed, pairs_listed, items_of, pairs_of}
@@ -67,6 +67,9 @@ table-more : (e : Table) (xs ys : List Tree) → TableStands e xs → TableStand
 table-more [] xs ys s = tt
 table-more (o ∷ e) xs ys s = (whole-more o.1 xs ys s.0, table-more e xs ys s.1)
 
+all-assoc : (xs us vs ws : List Tree) → ((xs ++ us) ++ vs) ++ ws ≡ xs ++ (us ++ (vs ++ ws))
+all-assoc xs us vs ws = append_assoc (xs ++ us) vs ws ∙ append_assoc xs us (vs ++ ws)
+
 behind-both : (xs ys zs : List Tree) → Behind xs ys → Behind (xs ++ ys) zs → Behind xs (ys ++ zs)
 behind-both xs [] zs a b = subst (λ l. Behind l zs) (append-nil xs) b
 behind-both xs (y ∷ ys) zs a b = (a.0, behind-both (xs ++ (y ∷ [])) ys zs a.1 (subst (λ l. Behind l zs) (sym (append_assoc xs (y ∷ []) ys)) b))
@@ -117,10 +120,10 @@ then-found (Ok x) f r q = (x, refl, q)
 
 placed-found : {X : Type 0} (at : ℕ) (o : Result X Cause) (x : X) → placed at o ≡ Ok x → o ≡ Ok x
 placed-found at (Err e) x q = absurd (cc)
-placed-found at (Ok y) x q = q
+placed-found at (Ok y) x q = let e : y ≡ x = cc in ap Ok e
 
 -- what was found is what was made
-pub found-is : {X : Type 0} (P : X → Type 0) (made found : X) → Result.Ok made ≡ Ok found → P made → P found
+pub found-is : {X : Type 0} (P : X → Type 0) (made found : X) → ◌≡◌ {A = Outcome X} (Ok made) (Ok found) → P made → P found
 found-is P made found e p = let q : made ≡ found = cc in subst P q p
 
 -- behind these trees, those of a node, some items, some entries stand as they should, and the table and the trees made in what stands then
@@ -199,9 +202,9 @@ mutual
       let key = node-behind i e at xs f.0 s f.1 in
       let value = node-behind j f.0.1 b (xs ++ us) g.0 key.1.1 g.1 in
       let rest = entries-behind ps g.0.1 c ((xs ++ us) ++ vs) k.0 value.1.1 k.1 in
-      let assoc : ((xs ++ us) ++ vs) ++ ws ≡ xs ++ (us ++ (vs ++ ws)) = append_assoc (xs ++ us) vs ws ∙ append_assoc xs us (vs ++ ws) in
+      let assoc : ((xs ++ us) ++ vs) ++ ws ≡ xs ++ (us ++ (vs ++ ws)) = all-assoc xs us vs ws in
       let there : PairsStand ((f.0.0, g.0.0) ∷ pairs_listed k.0.0) (((xs ++ us) ++ vs) ++ ws) =
-        (stands-more f.0.0 ((xs ++ us) ++ vs) ws (stands-more f.0.0 (xs ++ us) vs key.1.0), (stands-more g.0.0 ((xs ++ us) ++ vs) ws value.1.0, rest.1.0)) in
+      (stands-more f.0.0 ((xs ++ us) ++ vs) ws (stands-more f.0.0 (xs ++ us) vs key.1.0), (stands-more g.0.0 ((xs ++ us) ++ vs) ws value.1.0, rest.1.0)) in
       found-is (EntriesBehind (entry_serial i j ps) xs) (entry f.0.0 g.0.0 k.0.0, k.0.1) r k.2
       (behind-both xs us (vs ++ ws) key.0 (behind-both (xs ++ us) vs ws value.0 rest.0), (subst (PairsStand ((f.0.0, g.0.0) ∷ pairs_listed k.0.0)) assoc there, subst (TableStands k.0.1) assoc rest.1.1))
 

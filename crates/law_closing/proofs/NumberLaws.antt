@@ -1,14 +1,13 @@
 -- Numbers of nodes, as one more node closes.
-use Rattle.std.proofs.Common.{◌≡◌, ◌⊎◌, inl, inr, ◌+◌, ◌<◌, ◌≤◌, ℕ, zero, suc, List, [], ◌∷◌, ◌++◌, length, refl, sym, ◌∙◌, ap, subst, arith, length-append}
+use Rattle.std.proofs.Common.{◌≡◌, ◌⊎◌, inl, inr, ◌<◌, ◌≤◌, ℕ, List, [], ◌∷◌, ◌++◌, length, refl, sym, ◌∙◌, ap, subst, arith, length-append}
 use Rattle.std.specs.Prelude.{Some}
 use Rattle.std.specs.List.{slice_get}
 use Rattle.yaml_definitions.specs.model.Tree.{Tree}
 use Rattle.yaml_nodes.proofs.GraphLaws.{get-more, get-end}
 use Rattle.yaml_levels.proofs.LevelLaws.{push-get, get-some}
 use Rattle.yaml_levels.proofs.Numbering.{get-within}
-use Rattle.law_closing.specs.Keys.{items_of, pairs_of}
 use Rattle.law_closing.specs.Numbers.{Numbers}
-use Rattle.law_closing.specs.Laws.{Holdable, AreHoldable}
+use Rattle.law_closing.specs.Laws.{Holdable, PartsHoldable, AreHoldable}
 
 pub no-numbers : Numbers [] [] []
 no-numbers = record { long = refl; stands = λ i k t a b. absurd (cc); rises = λ i j k l h a b. absurd (cc); covers = λ k t a. absurd (cc) }
@@ -68,9 +67,5 @@ module _ (trees : List Tree) (numbers : List ℕ) (closed : List Tree) (n : Numb
       )
 
   -- where vectors may hold the parts of all nodes, they may hold those of the closed ones
-  pub holdable : Holdable (length closed) → ((i : ℕ) (t : Tree) → slice_get trees i ≡ Some t → Holdable (length (items_of t)) × Holdable (length (pairs_of t))) → AreHoldable closed
-  holdable count parts = record {
-    count = count;
-    items = λ k t e. let c = n.covers k t e in (parts c.0 t c.2).0;
-    pairs = λ k t e. let c = n.covers k t e in (parts c.0 t c.2).1;
-  }
+  pub holdable : Holdable (length closed) → ((i : ℕ) (t : Tree) → slice_get trees i ≡ Some t → PartsHoldable t) → AreHoldable closed
+  holdable count parts = record { count = count; parts = λ k t e. let c = n.covers k t e in parts c.0 t c.2 }

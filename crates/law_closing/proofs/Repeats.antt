@@ -1,14 +1,17 @@
 -- Equal keys of nodes, by their trees.
-use Rattle.std.proofs.Common.{◌≡◌, ◌⊎◌, inl, inr, ◌+◌, ◌<◌, ◌≤◌, ℕ, zero, suc, List, [], ◌∷◌, length, map, refl, sym, ◌∙◌, ap, subst, arith}
-use Rattle.std.specs.Prelude.{◌↔◌, Some}
+use Rattle.std.proofs.Common.{◌≡◌, ◌⊎◌, inl, inr, ◌<◌, ◌≤◌, ℕ, List, [], ◌∷◌, length, map, refl, sym, ◌∙◌, ap, subst, arith}
+use Rattle.std.specs.Prelude.{Some}
 use Rattle.std.specs.List.{slice_get}
 use Rattle.std.specs.Cow.{cow_str_bytes}
+use Rattle.std.specs.declared.cmp.Ordering.{Ordering}
+use Rattle.std.specs.declared.cmp.Ordering.TheVariants.{Less, Equal, Greater}
+use Rattle.std.specs.Ordering.{nat_cmp}
 use Rattle.std.proofs.lemmas.Option.{get_or_from_slice_get}
-use Rattle.yaml_definitions.specs.model.Tree.{Tree, scalar, sequence, mapping, height}
+use Rattle.yaml_definitions.specs.model.Tree.{Tree, scalar, height}
 use Rattle.yaml_definitions.specs.model.Same.{Same}
 use Rattle.yaml_text.specs.declared.fault.Fault.TheVariants.{EqualKeys}
 use Rattle.yaml_nodes.specs.TreeLists.{pairs}
-use Rattle.yaml_nodes.specs.GraphModel.{tree_at, kind_tree, node_tree, trees_in, entries_of}
+use Rattle.yaml_nodes.specs.GraphModel.{tree_at, kind_tree, entries_of}
 use Rattle.yaml_nodes.specs.GraphView.{nodes_of, graph_trees, tree}
 use Rattle.yaml_nodes.specs.declared.node.NodeId.{NodeId}
 use Rattle.yaml_nodes.specs.declared.node.Node.{Node}
@@ -16,12 +19,13 @@ use Rattle.yaml_nodes.specs.declared.node.NodeKind.{NodeKind}
 use Rattle.yaml_nodes.specs.declared.node.NodeKind.TheVariants as kinds
 use Rattle.yaml_nodes.specs.declared.graph.Graph.{Graph}
 use Rattle.yaml_nodes.proofs.GraphLaws.{node-tree, trees-length}
-use Rattle.yaml_levels.specs.RankModel.{EqualAt, FirstIn}
+use Rattle.yaml_levels.specs.RankModel.{EqualAt}
 use Rattle.yaml_levels.specs.RanksView.{RefusesGraph}
 use Rattle.yaml_levels.specs.View.{View, Inside, content, items, entries, entries_in, inside_tree, Repeats, IsFirst}
 use Rattle.yaml_levels.proofs.GraphOf.{get-map, get-unmap}
 use Rattle.yaml_levels.proofs.LevelLaws.{get-some}
-use Rattle.yaml_levels.proofs.Numbering.{get-within, get-there}
+use Rattle.yaml_levels.proofs.Numbering.{get-within}
+use Rattle.yaml_levels.proofs.Numbers.{less-cmp, equal-cmp, greater-cmp}
 use Rattle.law_closing.specs.Keys.{pairs_listed, pairs_of, TreeRepeats}
 use Rattle.law_closing.specs.Numbers.{Numbers}
 use Rattle.law_closing.specs.Laws.{NoneBefore}
@@ -143,14 +147,12 @@ module _ (g : Graph) (v : View) (trees : List Tree) (numbers : List ℕ) (long :
         (c.0, c.1, u.0, u.1 ∙ sym w.1, c.3, c.4)
 
     not-above : (i l m : ℕ) → n ≤ i → slice_get numbers i ≡ Some l → l ≤ m → k ≤ m
-    not-above i l m h e q = by (h-or h)
+    not-above i l m h e q = by (nat_cmp n i) refl
       where
-        h-or : n ≤ i → (n < i) ⊎ (n ≡ i)
-        h-or h = omega arith
-
-        by : (n < i) ⊎ (n ≡ i) → k ≤ m
-        by (inl a) = let r = numbered.rises n i k l a is e in omega arith
-        by (inr a) = let r : Some k ≡ Some l = sym is ∙ ap (slice_get numbers) a ∙ e in let s : k ≡ l = cc in omega arith
+        by : (o : Ordering) → nat_cmp n i ≡ o → k ≤ m
+        by Less a = let r = numbered.rises n i k l (less-cmp n i a) is e in omega arith
+        by Equal a = let r : Some k ≡ Some l = sym is ∙ ap (slice_get numbers) (equal-cmp n i a) ∙ e in let s : k ≡ l = cc in omega arith
+        by Greater a = let r = greater-cmp n i a in absurd (omega arith)
 
     pub first-is-graphs : (first second : ℕ) → Repeats v n first second → NoneBefore v n first second → IsFirst v n → RefusesGraph g (EqualKeys k first second)
     first-is-graphs first second r before lowest = (record { is = to-graph first second r; before = λ f s e. before f s (from-graph f s e) }, others)

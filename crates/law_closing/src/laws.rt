@@ -1,5 +1,5 @@
 //! Laws of the nodes of a stream, as they close. Each function has an empty body, and its contract is a law.
-ghost use Rattle.law_closing.specs.Laws.{StreamHasGraph, GraphRepeatsByTree, ViewRepeatsByTree, FirstRepeatIsGraphs};
+ghost use Rattle.law_closing.specs.Laws.{StreamHasGraph, GraphRepeatsByTree, ViewRepeatsByTree, FirstRepeatIsGraphs, NumbersStay, NumbersGrow, NumberedAreHoldable};
 
 /// Each stream that unfolds low has a graph, where vectors may hold its nodes.
 pub fn stream_has_graph()
@@ -16,4 +16,11 @@ pub fn repeats_by_tree()
 /// of the first node that its node stands for.
 pub fn first_repeat_is_graphs()
     ensures { FirstRepeatIsGraphs }
+{}
+
+/// Numbers of the nodes of a store as one more node of a stream closes.
+pub fn numbers_go_on()
+    ensures stay { NumbersStay }
+    ensures grow { NumbersGrow }
+    ensures hold { NumberedAreHoldable }
 {}
