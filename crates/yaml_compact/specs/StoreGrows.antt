@@ -1,5 +1,5 @@
 -- Stores that grow.
-use Rattle.std.specs.Prelude.{◌≡◌, ℕ, ◌<◌, ◌≤◌, List, ◌++◌, length, map, Some}
+use Rattle.std.specs.Prelude.{◌≡◌, ◌⊎◌, ℕ, suc, ◌<◌, ◌≤◌, List, ◌++◌, length, map, Some}
 use Rattle.std.specs.List.{slice_get, All}
 use Rattle.std.specs.Str.{IsUtf8}
 use Rattle.std.specs.String.{string_bytes}
@@ -54,3 +54,7 @@ pub record Keeps (old new : Store) : Type 0 where
   pub tags : tags_of new ≡ tags_of old ++ more_tags
   pub more : List Tree
   pub trees : trees_of new ≡ trees_of old ++ more
+
+-- There are as many nodes as before, or one more, which has this number.
+abbrev pub AtMostOne : ℕ → ℕ → ℕ → Type 0
+AtMostOne before after i = (after ≡ before) ⊎ ((after ≡ suc before) × (i ≡ before))

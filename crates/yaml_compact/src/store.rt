@@ -7,7 +7,7 @@ ghost use Rattle.yaml_definitions.specs.model.Limits as limit;
 ghost use Rattle.yaml_nodes.specs.TreeLists.{trees as part_list};
 ghost use Rattle.yaml_nodes.specs.ComposerSteps.{collection_from, paired};
 ghost use Rattle.yaml_compact.specs.StoreModel.{SpanWithin, AllMeasured, tag_at, parts_at, is_mapping};
-ghost use Rattle.yaml_compact.specs.StoreGrows.{Good, Fits, Keeps, tags_of, trees_of, Stands};
+ghost use Rattle.yaml_compact.specs.StoreGrows.{Good, Fits, Keeps, AtMostOne, tags_of, trees_of, Stands};
 
 use crate::gives_up::GivesUp;
 use crate::memo::{Memo, hash_parts, hash_tag, hash_text};
@@ -158,6 +158,13 @@ impl Store {
         })
     }
 
+    /// How many nodes there are.
+    pub fn len(&self) -> usize
+        ensures { result ≡ length self.now.nodes.items }
+    {
+        self.nodes.len()
+    }
+
     /// Whether this is the tag of that number.
     fn is_tag(&self, number: u32, tag: &str) -> bool
         ensures { IsTrue result → slice_get (tags_of self.now) number ≡ Some tag.now }
@@ -172,6 +179,7 @@ impl Store {
     fn add_tag(&mut self, alloc: Global, tag: &str) -> Result<u32, GivesUp>
         ensures kept { Good self.old → IfOk result (λ _. Keeps self.old self.new) }
         ensures is { IfOk result (λ i. slice_get (tags_of self.new) i ≡ Some tag.now) }
+        ensures nodes { IfOk result (λ _. self.new.nodes ≡ self.old.nodes) }
     {
         let number = place(self.tags.len())?;
         let key = String::from_str(alloc, tag)?;
@@ -185,6 +193,7 @@ impl Store {
     fn find_tag(&mut self, alloc: Global, tag: &str) -> Result<u32, GivesUp>
         ensures kept { Good self.old → IfOk result (λ _. Keeps self.old self.new) }
         ensures is { IfOk result (λ i. slice_get (tags_of self.new) i ≡ Some tag.now) }
+        ensures nodes { IfOk result (λ _. self.new.nodes ≡ self.old.nodes) }
     {
         let Some(number) = self.numbers.get(tag).copied() else {
             return self.add_tag(alloc, tag);
@@ -199,6 +208,7 @@ impl Store {
     pub fn tag(&mut self, alloc: Global, tag: &str) -> Result<u32, GivesUp>
         ensures kept { Good self.old → IfOk result (λ _. Keeps self.old self.new) }
         ensures is { IfOk result (λ i. slice_get (tags_of self.new) i ≡ Some tag.now) }
+        ensures nodes { IfOk result (λ _. self.new.nodes ≡ self.old.nodes) }
     {
         let hash = hash_tag(tag.as_bytes());
         let seen = self.tag_memo.seen(hash);
@@ -253,6 +263,7 @@ impl Store {
     fn add_scalar(&mut self, seen: u32, tag: u32, content: &str) -> Result<u32, GivesUp>
         ensures kept { Good self.old → tag < length (tags_of self.old) → IfOk result (λ _. Keeps self.old self.new) }
         ensures stands { Good self.old → tag < length (tags_of self.old) → IfOk result (λ i. Stands self.new i (scalar (tag_at (tags_of self.old) tag) content.now)) }
+        ensures one { IfOk result (λ i. AtMostOne (length self.old.nodes.items) (length self.new.nodes.items) i) }
     {
         if self.is_scalar(seen, tag, content) {
             return Ok(seen);
@@ -275,6 +286,7 @@ impl Store {
     fn add_sequence(&mut self, seen: u32, tag: u32, items: &[u32]) -> Result<u32, GivesUp>
         ensures kept { Fits self.old tag items.now → IfOk result (λ _. Keeps self.old self.new) }
         ensures stands { Fits self.old tag items.now → IfOk result (λ i. Stands self.new i (collection_from false (tag_at (tags_of self.old) tag) (parts_at (trees_of self.old) items.now))) }
+        ensures one { IfOk result (λ i. AtMostOne (length self.old.nodes.items) (length self.new.nodes.items) i) }
     {
         if self.is_sequence(seen, tag, items) {
             return Ok(seen);
@@ -298,6 +310,7 @@ impl Store {
     fn add_mapping(&mut self, seen: u32, tag: u32, parts: &[u32]) -> Result<u32, GivesUp>
         ensures kept { Fits self.old tag parts.now → IfOk result (λ _. Keeps self.old self.new) }
         ensures stands { Fits self.old tag parts.now → IfOk result (λ i. Stands self.new i (collection_from true (tag_at (tags_of self.old) tag) (parts_at (trees_of self.old) parts.now))) }
+        ensures one { IfOk result (λ i. AtMostOne (length self.old.nodes.items) (length self.new.nodes.items) i) }
     {
         if self.is_mapping(seen, tag, parts) {
             return Ok(seen);
@@ -329,6 +342,7 @@ impl Store {
     ) -> Result<u32, GivesUp>
         ensures kept { Fits self.old tag parts.now → IfOk result (λ _. Keeps self.old self.new) }
         ensures stands { Fits self.old tag parts.now → IfOk result (λ i. Stands self.new i (collection_from (is_mapping collection) (tag_at (tags_of self.old) tag) (parts_at (trees_of self.old) parts.now))) }
+        ensures one { IfOk result (λ i. AtMostOne (length self.old.nodes.items) (length self.new.nodes.items) i) }
     {
         match collection {
             Collection::Sequence => self.add_sequence(seen, tag, parts),
@@ -340,6 +354,7 @@ impl Store {
     pub fn scalar_of(&mut self, tag: u32, content: &str) -> Result<u32, GivesUp>
         ensures kept { Good self.old → tag < length (tags_of self.old) → IfOk result (λ _. Keeps self.old self.new) }
         ensures stands { Good self.old → tag < length (tags_of self.old) → IfOk result (λ i. Stands self.new i (scalar (tag_at (tags_of self.old) tag) content.now)) }
+        ensures one { IfOk result (λ i. AtMostOne (length self.old.nodes.items) (length self.new.nodes.items) i) }
     {
         let hash = hash_text(tag, content.as_bytes());
         let seen = self.memo.seen(hash);
@@ -352,6 +367,7 @@ impl Store {
     pub fn scalar(&mut self, alloc: Global, tag: &str, content: &str) -> Result<u32, GivesUp>
         ensures kept { Good self.old → IfOk result (λ _. Keeps self.old self.new) }
         ensures stands { Good self.old → IfOk result (λ i. Stands self.new i (scalar tag.now content.now)) }
+        ensures one { IfOk result (λ i. AtMostOne (length self.old.nodes.items) (length self.new.nodes.items) i) }
     {
         let tag = self.tag(alloc, tag)?;
         let id = self.scalar_of(tag, content)?;
@@ -367,6 +383,7 @@ impl Store {
     ) -> Result<u32, GivesUp>
         ensures kept { Fits self.old tag parts.now → IfOk result (λ _. Keeps self.old self.new) }
         ensures stands { Fits self.old tag parts.now → IfOk result (λ i. Stands self.new i (collection_from (is_mapping collection) (tag_at (tags_of self.old) tag) (parts_at (trees_of self.old) parts.now))) }
+        ensures one { IfOk result (λ i. AtMostOne (length self.old.nodes.items) (length self.new.nodes.items) i) }
     {
         let hash = hash_parts(collection.kind(), tag, parts);
         let seen = self.memo.seen(hash);
