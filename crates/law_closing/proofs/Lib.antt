@@ -1,5 +1,5 @@
-mod Grounding
-mod Building
-mod Graphs
-mod Repeats
-mod NumberLaws
+pub mod Grounding
+pub mod Building
+pub mod Graphs
+pub mod Repeats
+pub mod NumberLaws

@@ -8,3 +8,4 @@ pub mod AheadLaws
 pub mod WaitingLaws
 pub mod DueLaws
 pub mod KeeperLaws
+mod FirstsLaws

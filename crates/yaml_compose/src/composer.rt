@@ -10,14 +10,17 @@ ghost use Rattle.yaml_content.specs.Kind.{kind_tag};
 ghost use Rattle.yaml_sink.specs.PropertyRules.{props_of};
 ghost use Rattle.yaml_nodes.specs.ComposerModel.{names_of, Placed};
 ghost use Rattle.yaml_nodes.specs.ComposerSteps.{State, initial_state, node_begun, whole};
-ghost use Rattle.yaml_compact.specs.StoreGrows.{Stands};
+ghost use Rattle.yaml_compact.specs.StoreGrows.{Stands, Keeps, trees_of};
+ghost use Rattle.yaml_compact.specs.declared.store.Store.{Store};
 ghost use Rattle.yaml_compose.specs.Reached.{Reaches, UnfoldTo};
 ghost use Rattle.yaml_compose.specs.Nodes.{AreNodes};
-ghost use Rattle.yaml_compose.specs.ComposerModel.{anchor_text, Holds, Stepped, IsForest, AreForests, start_of, end_of};
+ghost use Rattle.yaml_compose.specs.FirstsModel.{Comes};
+ghost use Rattle.yaml_compose.specs.ComposerModel.{anchor_text, with_store, Holds, Stepped, IsForest, AreForests, start_of, end_of};
 ghost use Rattle.yaml_compose.specs.ComposerLog.{Follows};
 
 use crate::anchors::Anchors;
 use crate::core_tags::CoreTags;
+use crate::firsts::Firsts;
 use crate::tag::tag_of;
 use std::alloc::Global;
 use std::borrow::CowStr;
@@ -56,6 +59,8 @@ pub(crate) struct Composer {
     /// The whole nodes of the roots and of all open collections.
     pub(crate) stack: Vec<u32>,
     pub(crate) opens: Vec<Open>,
+    /// The first node of the stream that each node of the store stands for.
+    pub(crate) firsts: Firsts,
 }
 
 /// The nodes from this place on.
@@ -68,11 +73,13 @@ fn parts_from(stack: &[u32], mark: usize) -> Result<&[u32], GivesUp>
     Ok(&stack[mark..])
 }
 
-/// The nodes of a stream, and the numbers of its documents' roots.
+/// The nodes of a stream, the numbers of its documents' roots, and for each node the first one of the
+/// stream that it stands for.
 #[derive(Drop)]
 pub struct Forest {
     pub store: Store,
     pub roots: Vec<u32>,
+    pub firsts: Vec<u32>,
 }
 
 impl Composer {
@@ -89,6 +96,7 @@ impl Composer {
             anchored: Vec::new(alloc),
             stack: Vec::new(alloc),
             opens: Vec::new(alloc),
+            firsts: Firsts::new(alloc),
         })
     }
 
@@ -126,6 +134,7 @@ impl Composer {
             anchored: _,
             stack,
             opens,
+            firsts,
         } = self;
         if opens.len() > 0 {
             return Err(GivesUp);
@@ -133,6 +142,7 @@ impl Composer {
         Ok(Forest {
             store,
             roots: stack,
+            firsts: firsts.numbers,
         })
     }
 
@@ -150,10 +160,13 @@ impl Composer {
         Ok(Some(place))
     }
 
-    /// A whole node stands in the innermost collection, and at its place among the anchored ones.
+    /// A whole node stands in the innermost collection, and at its place among the anchored ones. The store
+    /// has it, since before or as its last one.
     fn put(&mut self, place: Option<usize>, id: u32) -> Result<(), GivesUp>
-        ensures { (s : State) → Holds self.old s → (a : Anchor) (slot : ℕ) (t : Tree) → Placed (names_of s.table) place a slot → Stands self.old.store id t → IfOk result (λ _. Holds self.new (whole a slot t s)) }
+        ensures { (s : State) (before : Store) → Holds (with_store self.old before) s → Keeps before self.old.store → (a : Anchor) (slot : ℕ) (t : Tree) → Placed (names_of s.table) place a slot → Stands self.old.store id t →
+            Comes (trees_of before) (trees_of self.old.store) t → IfOk result (λ _. Holds self.new (whole a slot t s)) }
     {
+        self.firsts.note(self.store.len())?;
         self.stack.push(id)?;
         if let Some(place) = place {
             if place >= self.anchored.len() {

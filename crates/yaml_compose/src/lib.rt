@@ -6,6 +6,7 @@ mod anchors;
 mod composer;
 mod copies;
 mod core_tags;
+mod firsts;
 pub mod keeper;
 pub mod laws;
 mod tag;
