@@ -19,7 +19,9 @@ use Rattle.yaml_nodes.proofs.AnchorLaws.{names-length, names-closed, placed-push
 use Rattle.yaml_compact.specs.StoreModel.{parts_at, is_mapping}
 use Rattle.yaml_compact.specs.StoreGrows.{Keeps, IsLow, tags_of, trees_of}
 use Rattle.yaml_compose.specs.TagModel.{collection_number}
-use Rattle.yaml_compose.specs.ComposerModel.{AllAt, SlotAt, TableAt, below, OpenHolds, OpensHold, Keeping, Holds, start_of, end_of}
+use Rattle.yaml_compose.specs.ComposerModel.{AllAt, SlotAt, TableAt, below, OpenHolds, OpensHold, Keeping, Ready, Holds, with_store, start_of, end_of}
+use Rattle.yaml_compose.specs.FirstsModel.{Counted}
+use Rattle.yaml_compose.proofs.FirstsLaws.{same-trees}
 use Rattle.yaml_compose.proofs.TagLaws.{core-kept}
 use Rattle.yaml_compose.specs.declared.composer.Open.{Open}
 use Rattle.yaml_compact.specs.declared.nodes.Collection.{Collection}
@@ -272,15 +274,20 @@ module _ (tags : List (List ℕ)) (ts : List Tree) (anchored : List (Option ℕ)
   pub roots-only : outer ≡ [] → AllAt ts stack inner
   roots-only e = subst (λ z. AllAt ts stack (below z ++ inner)) e h.stacked
 
--- more nodes and tags are in the store
-pub holds-kept : (c : Composer) (s : machine.State) (new : Store) → Keeps c.store new → Holds c s → Holds (record c { store = new }) s
-holds-kept c s new k h = record {
-  good = record { store = k.good; core = core-kept c.store new c.core k h.good.core };
-  names = h.names;
-  keeping = subst (λ tags. Keeping tags (trees_of new) c.anchored.items c.stack.items c.opens.items s.inner s.outer s.table) (sym k.tags)
+-- ---- more nodes and tags in the store
+
+module _ (c : Composer) (s : machine.State) (new : Store) (k : Keeps c.store new) (h : Holds c s) where
+  pub ready-kept : Ready new c.core
+  ready-kept = record { store = k.good; core = core-kept c.store new c.core k h.good.core }
+
+  pub keeping-kept : Keeping (tags_of new) (trees_of new) c.anchored.items c.stack.items c.opens.items s.inner s.outer s.table
+  keeping-kept = subst (λ tags. Keeping tags (trees_of new) c.anchored.items c.stack.items c.opens.items s.inner s.outer s.table) (sym k.tags)
       (subst (λ ts. Keeping (tags_of c.store ++ k.more_tags) ts c.anchored.items c.stack.items c.opens.items s.inner s.outer s.table) (sym k.trees)
-      (keeping-more (tags_of c.store) (trees_of c.store) c.anchored.items c.stack.items c.opens.items s.inner s.outer s.table h.keeping k.more_tags k.more));
-}
+      (keeping-more (tags_of c.store) (trees_of c.store) c.anchored.items c.stack.items c.opens.items s.inner s.outer s.table h.keeping k.more_tags k.more))
+
+  -- tags alone
+  pub holds-tagged : new.nodes ≡ c.store.nodes → Holds (with_store c new) s
+  holds-tagged e = record { good = ready-kept; names = h.names; keeping = keeping-kept; counted = subst (λ ts. Counted ts c.firsts s.done) (sym (same-trees c.store new k e)) h.counted }
 
 -- the innermost collection, and what stands without it
 pub record Left (tags : List (List ℕ)) (ts : List Tree) (anchored : List (Option ℕ)) (stack : List ℕ) (os : List Open) (o : Open) (inner : List Tree) (outer : List machine.Open) (table : Table) : Type 0 where

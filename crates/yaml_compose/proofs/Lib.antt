@@ -11,3 +11,4 @@ pub mod JudgedLaws
 pub mod DueLaws
 pub mod KeeperLaws
 mod HighLaws
+mod FirstsLaws

@@ -9,7 +9,7 @@ use Rattle.yaml_definitions.specs.model.Unfold.{Outcome, Table, and_then, placed
 use Rattle.yaml_graph.specs.Closing.{stream_trees}
 use Rattle.yaml_nodes.specs.ComposerSteps.{State, Open, initial_state, scalar_added, added, collection_begun, step, next, steps}
 use Rattle.yaml_graph.proofs.StepLaws.{comes_to, with_all, run-documents}
-use Rattle.yaml_compose.specs.Reached.{Reaches, StreamIsForest, TwoStreamsAreForests}
+use Rattle.yaml_compose.specs.Reached.{Reaches, StreamIsForest, StreamCloses, TwoStreamsAreForests}
 
 -- ---- numbers of events
 
@@ -133,6 +133,18 @@ adds [] roots all (o ∷ os) e t h =
     let q : s ≡ t = cc in
     record { added = []; unfolded = refl; is = sym (ap (λ z. z.inner) q) ∙ sym (append-nil roots) }
 adds (d ∷ ds) roots all (o ∷ os) e t h = absurd (cc)
+
+closed-from : (ds : List Document) (o : Outcome (List Tree)) (ts us : List Tree) → Some (Ok (ts, us)) ≡ Some (and_then o (with_all [] [] ds)) → us ≡ stream_trees ds ts
+closed-from ds (Ok f) ts us h =
+    let given : List Tree × List Tree = (ts, us) in
+    let made : List Tree × List Tree = (f, stream_trees ds f) in
+    let e : given ≡ made = cc in
+    ap (λ p. p.1) e ∙ ap (λ p. stream_trees ds p.0) (sym e)
+closed-from ds (Err e) ts us h = absurd (cc)
+
+pub stream-closes : StreamCloses
+unfolding steps step stream_events
+stream-closes ds t h = closed-from ds (trees_of ds) t.inner t.done (sym (ap comes_to h) ∙ run-documents ds 1 [] [] [])
 
 pub stream-is-forest : StreamIsForest
 stream-is-forest ds t h =

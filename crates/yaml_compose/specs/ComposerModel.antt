@@ -10,12 +10,15 @@ use Rattle.yaml_definitions.specs.model.Unfold.{Table, trees_of as trees_unfolde
 use Rattle.yaml_nodes.specs.ComposerSteps as machine
 use Rattle.yaml_nodes.specs.ComposerModel.{names_of, Placed}
 use Rattle.yaml_nodes.specs.GraphModel.{AreLow}
+use Rattle.yaml_graph.specs.Closing.{stream_trees}
+use Rattle.law_closing.specs.Numbers.{Numbers}
 use Rattle.yaml_compact.specs.StoreGrows.{tags_of, Good, IsLow, trees_of}
 use Rattle.yaml_compact.specs.declared.store.Store.{Store}
 use Rattle.yaml_compact.specs.declared.nodes.Collection.{Collection}
 use Rattle.yaml_compact.specs.declared.nodes.Collection.TheVariants.{Sequence, Mapping}
 use Rattle.yaml_compose.specs.Reached.{UnfoldBoth}
 use Rattle.yaml_compose.specs.AnchorsModel.{Names}
+use Rattle.yaml_compose.specs.FirstsModel.{Counted}
 use Rattle.yaml_compose.specs.TagModel.{AreCore}
 use Rattle.yaml_compose.specs.declared.core_tags.CoreTags.{CoreTags}
 use Rattle.yaml_compose.specs.declared.composer.Open.{Open}
@@ -69,11 +72,16 @@ pub record Ready (s : Store) (c : CoreTags) : Type 0 where
   pub store : Good s
   pub core : AreCore (tags_of s) c
 
--- The store is ready, and the numbers stand for the state's trees, which may be kept once where they are equal.
+-- The store is ready, the numbers stand for the state's trees, which may be kept once where they are equal, and the places of the closed ones are known.
 pub record Holds (c : Composer) (s : machine.State) : Type 0 where
   pub good : Ready c.store c.core
   pub names : Names c.anchors (names_of s.table)
   pub keeping : Keeping (tags_of c.store) (trees_of c.store) c.anchored.items c.stack.items c.opens.items s.inner s.outer s.table
+  pub counted : Counted (trees_of c.store) c.firsts s.done
+
+-- the composer with another store
+abbrev pub with_store : Composer → Store → Composer
+with_store c store = record c { store = store }
 
 -- the event comes to a state that the composer holds
 pub record Stepped (e : Event) (s : machine.State) (c : Composer) : Type 0 where
@@ -89,7 +97,7 @@ abbrev pub end_of : Collection → Event
 end_of Sequence = sequence_end
 end_of Mapping = mapping_end
 
--- the documents unfold, no tree is higher than the limit, nor is one that a node of the store stands for, and the roots stand for the trees
+-- the documents unfold, no tree is higher than the limit, nor is one that a node of the store stands for, the roots stand for the trees, and the nodes have these places among those of the stream
 pub record IsForest (ds : List Document) (f : Forest) : Type 0 where
   pub trees_are : List Tree
   pub unfolded : trees_unfolded ds ≡ Ok trees_are
@@ -97,8 +105,9 @@ pub record IsForest (ds : List Document) (f : Forest) : Type 0 where
   pub good : Good f.store
   pub level : IsLow f.store
   pub roots : AllAt (trees_of f.store) f.roots.items trees_are
+  pub numbered : Numbers (trees_of f.store) f.firsts.items (stream_trees ds trees_are)
 
--- the same of the documents of two streams, the roots of the first before those of the second
+-- the same of the documents of two streams, the roots of the first before those of the second, but for the places
 pub record AreForests (ds es : List Document) (f : Forest) : Type 0 where
   pub trees_are : List Tree
   pub unfolded : UnfoldBoth ds es trees_are

@@ -2,6 +2,7 @@ pub mod Reached
 pub mod Nodes
 pub mod TagModel
 pub mod AnchorsModel
+pub mod FirstsModel
 pub mod ComposerModel
 pub mod ComposerLog
 pub mod Refusals

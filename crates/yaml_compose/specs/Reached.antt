@@ -4,6 +4,7 @@ use Rattle.yaml_definitions.specs.model.Tree.{Tree}
 use Rattle.yaml_definitions.specs.model.Event.{Event}
 use Rattle.yaml_definitions.specs.model.Serial.{Document, stream_events}
 use Rattle.yaml_definitions.specs.model.Unfold.{trees_of}
+use Rattle.yaml_graph.specs.Closing.{stream_trees}
 use Rattle.yaml_nodes.specs.ComposerSteps.{State, initial_state, steps}
 
 -- From this state the events come to that one, and nothing is refused. The events' numbers tell nothing then.
@@ -12,6 +13,10 @@ Reaches es s t = steps 0 es s ≡ Some (Ok t)
 
 abbrev pub StreamIsForest : Type 0
 StreamIsForest = (ds : List Document) (t : State) → Reaches (stream_events ds) initial_state t → trees_of ds ≡ Ok t.inner
+
+-- the nodes that closed are those of the documents
+abbrev pub StreamCloses : Type 0
+StreamCloses = (ds : List Document) (t : State) → Reaches (stream_events ds) initial_state t → t.done ≡ stream_trees ds t.inner
 
 -- The documents unfold to so many trees.
 pub record UnfoldTo (ds : List Document) (n : ℕ) : Type 0 where

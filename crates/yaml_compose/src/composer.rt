@@ -10,15 +10,18 @@ ghost use Rattle.yaml_content.specs.Kind.{kind_tag};
 ghost use Rattle.yaml_sink.specs.PropertyRules.{props_of};
 ghost use Rattle.yaml_nodes.specs.ComposerModel.{names_of, Placed};
 ghost use Rattle.yaml_nodes.specs.ComposerSteps.{State, initial_state, node_begun, whole};
-ghost use Rattle.yaml_compact.specs.StoreGrows.{Stands};
+ghost use Rattle.yaml_compact.specs.StoreGrows.{Stands, Keeps, trees_of};
+ghost use Rattle.yaml_compact.specs.declared.store.Store.{Store};
 ghost use Rattle.yaml_compose.specs.Reached.{Reaches, UnfoldTo};
 ghost use Rattle.yaml_compose.specs.Nodes.{AreNodes};
-ghost use Rattle.yaml_compose.specs.ComposerModel.{anchor_text, Holds, Stepped, IsForest, AreForests, start_of, end_of};
+ghost use Rattle.yaml_compose.specs.FirstsModel.{Comes};
+ghost use Rattle.yaml_compose.specs.ComposerModel.{anchor_text, with_store, Holds, Stepped, IsForest, AreForests, start_of, end_of};
 ghost use Rattle.yaml_compose.specs.ComposerLog.{Follows};
 ghost use Rattle.yaml_compose.specs.Refusals.{Stops, RefusesForest};
 
 use crate::anchors::Anchors;
 use crate::core_tags::CoreTags;
+use crate::firsts::Firsts;
 use crate::stop::{Cause, Stop};
 use crate::tag::{default_tag, tag_of};
 use crate::too_high::first_too_high;
@@ -61,6 +64,8 @@ pub(crate) struct Composer {
     /// The whole nodes of the roots and of all open collections.
     pub(crate) stack: Vec<u32>,
     pub(crate) opens: Vec<Open>,
+    /// The first node of the stream that each node of the store stands for.
+    pub(crate) firsts: Firsts,
 }
 
 /// The nodes from this place on.
@@ -73,11 +78,13 @@ fn parts_from(stack: &[u32], mark: usize) -> Result<&[u32], GivesUp>
     Ok(&stack[mark..])
 }
 
-/// The nodes of a stream, and the numbers of its documents' roots.
+/// The nodes of a stream, the numbers of its documents' roots, and for each node the first one of the
+/// stream that it stands for.
 #[derive(Drop)]
 pub struct Forest {
     pub store: Store,
     pub roots: Vec<u32>,
+    pub firsts: Vec<u32>,
 }
 
 impl Composer {
@@ -94,6 +101,7 @@ impl Composer {
             anchored: Vec::new(alloc),
             stack: Vec::new(alloc),
             opens: Vec::new(alloc),
+            firsts: Firsts::new(alloc),
         })
     }
 
@@ -132,6 +140,7 @@ impl Composer {
             anchored: _,
             stack,
             opens,
+            firsts,
         } = self;
         if opens.len() > 0 {
             return Err(Unmade::GivesUp);
@@ -145,6 +154,7 @@ impl Composer {
         Ok(Forest {
             store,
             roots: stack,
+            firsts: firsts.numbers,
         })
     }
 
@@ -162,10 +172,13 @@ impl Composer {
         Ok(Some(place))
     }
 
-    /// A whole node stands in the innermost collection, and at its place among the anchored ones.
+    /// A whole node stands in the innermost collection, and at its place among the anchored ones. The store
+    /// has it, since before or as its last one.
     fn put(&mut self, place: Option<usize>, id: u32) -> Result<(), GivesUp>
-        ensures { (s : State) → Holds self.old s → (a : Anchor) (slot : ℕ) (t : Tree) → Placed (names_of s.table) place a slot → Stands self.old.store id t → IfOk result (λ _. Holds self.new (whole a slot t s)) }
+        ensures { (s : State) (before : Store) → Holds (with_store self.old before) s → Keeps before self.old.store → (a : Anchor) (slot : ℕ) (t : Tree) → Placed (names_of s.table) place a slot → Stands self.old.store id t →
+            Comes (trees_of before) (trees_of self.old.store) t → IfOk result (λ _. Holds self.new (whole a slot t s)) }
     {
+        self.firsts.note(self.store.len())?;
         self.stack.push(id)?;
         if let Some(place) = place {
             if place >= self.anchored.len() {

@@ -26,6 +26,7 @@ impl CoreTags {
     /// Puts the tags into a store.
     pub(crate) fn new(alloc: Global, store: &mut Store) -> Result<CoreTags, GivesUp>
         ensures kept { Good store.old → IfOk result (λ _. Keeps store.old store.new) }
+        ensures nodes { IfOk result (λ _. store.new.nodes ≡ store.old.nodes) }
         ensures core { Good store.old → IfOk result (AreCore (tags_of store.new)) }
     {
         let nulls = store.tag(alloc, PlainKind::Null.tag())?;

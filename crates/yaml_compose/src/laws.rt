@@ -1,10 +1,11 @@
 //! Laws of what events come to. Each function has an empty body, and its contract is a law.
 ghost use Rattle.yaml_compose.specs.ComposerLog.{FollowsNone, FollowsStep, FollowsRest};
-ghost use Rattle.yaml_compose.specs.Reached.{StreamIsForest, TwoStreamsAreForests};
+ghost use Rattle.yaml_compose.specs.Reached.{StreamIsForest, StreamCloses, TwoStreamsAreForests};
 
-/// The roots after a stream's events are its forest.
+/// The roots after a stream's events are its forest, and the closed nodes those of its documents.
 pub fn stream_is_forest()
-    ensures { StreamIsForest }
+    ensures forest { StreamIsForest }
+    ensures closed { StreamCloses }
 {}
 
 /// The roots after the events of two streams are the forest of the first, and then that of the second.

@@ -6,6 +6,7 @@ mod anchors;
 mod composer;
 mod copies;
 mod core_tags;
+mod firsts;
 mod judged;
 pub mod keeper;
 pub mod laws;

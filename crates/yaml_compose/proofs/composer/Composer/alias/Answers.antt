@@ -38,5 +38,6 @@ returns c = λ s h.
         names = c.in_ok-found.ensures.names (names_of s.table) h.names;
         keeping =
             keeping-whole (tags_of self.store) (trees_of self.store) self.anchored.items self.stack.items self.opens.items s.inner s.outer s.table h.keeping None None 0 i f.tree tt f.stands self.anchored.items c.push.new.self.items refl c.in_ok-push.ensures.items;
+        counted = h.counted;
       };
     }

@@ -30,5 +30,6 @@ returns c = λ s h flow.
         names = h.names;
         keeping =
             keeping-entered tags ts self.anchored.items self.stack.items self.opens.items s.inner s.outer s.table h.keeping o None (length s.table) text s.inner [] c.push.new.self.items c.in_ok-push.ensures.items (append-nil s.inner) tt (omega (arith, l, c.len-mark.ensures, self.stack.ok.0)) at;
+        counted = h.counted;
       };
     }

@@ -6,7 +6,7 @@ use Rattle.yaml_nodes.specs.ComposerSteps.{node_begun, collection_begun}
 use Rattle.yaml_compact.specs.StoreGrows.{tags_of, trees_of}
 use Rattle.yaml_compose.specs.ComposerModel.{Holds}
 use Rattle.yaml_compose.specs.declared.composer.Open.{Open}
-use Rattle.yaml_compose.proofs.ComposerLaws.{holds-kept, begun-step, stack-length, keeping-entered}
+use Rattle.yaml_compose.proofs.ComposerLaws.{holds-tagged, begun-step, stack-length, keeping-entered}
 use Rattle.yaml_compose.proofs.RefusalLaws.{begin-stops}
 use Rattle.yaml_compose.proofs.composer.Composer.begin_collection.Goals as goal
 
@@ -18,7 +18,7 @@ returns c = λ s h flow.
     let middle = c.begin_node.new.self in
     let new = c.tag.new.self in
     let text = c.in_ok-text.text.now in
-    let k : Holds (record middle { store = new }) n = holds-kept middle n new (c.in_ok-number.ensures.kept b.1.good.store) b.1 in
+    let k : Holds (record middle { store = new }) n = holds-tagged middle n new (c.in_ok-number.ensures.kept b.1.good.store) b.1 c.in_ok-number.ensures.nodes in
     let o : Open = record { place = c.in_ok-place.place; collection = c.args.collection; tag = c.in_ok-number.number; mark = c.len-mark.result } in
     let l = stack-length (tags_of new) (trees_of new) middle.anchored.items middle.stack.items middle.opens.items n.inner n.outer n.table k.keeping in
     record {
@@ -29,6 +29,7 @@ returns c = λ s h flow.
         names = k.names;
         keeping =
             keeping-entered (tags_of new) (trees_of new) middle.anchored.items middle.stack.items middle.opens.items n.inner n.outer n.table k.keeping o a (length s.table) text s.inner [] c.push.new.self.items c.in_ok-push.ensures.items (append-nil s.inner) b.0 (omega (arith, l, c.len-mark.ensures, middle.stack.ok.0)) c.in_ok-number.ensures.is;
+        counted = k.counted;
       };
     }
 

@@ -18,5 +18,5 @@ returns c = λ s h.
     let new : Composer = record self { anchors = c.put.new.self; anchored = c.push.new.self } in
     let e : anchor_text c.args.anchor ≡ Some name = ap anchor_text c.in-Some.is in
     let k = keeping-begun (tags_of self.store) (trees_of self.store) self.anchored.items self.stack.items self.opens.items s.inner s.outer s.table h.keeping name place c.push.new.self.items (c.in_ok-place.ensures.place (names_of s.table) h.names) c.in_ok-push.ensures.items in
-    let held : Holds new (node_begun (Some name) s) = record { good = h.good; names = subst (Names c.put.new.self) (sym (names-push s.table name)) (c.in_ok-place.ensures.names (names_of s.table) h.names); keeping = k.1 } in
+    let held : Holds new (node_begun (Some name) s) = record { good = h.good; names = subst (Names c.put.new.self) (sym (names-push s.table name)) (c.in_ok-place.ensures.names (names_of s.table) h.names); keeping = k.1; counted = h.counted } in
     subst (λ (a : Anchor). Placed (names_of (node_begun a s).table) (Some place) a (length s.table) × Holds new (node_begun a s)) (sym e) (k.0, held)

@@ -18,5 +18,6 @@ returns c = λ s h explicit.
         names = c.clear.ensures;
         keeping =
             keeping-cleared (tags_of self.store) (trees_of self.store) self.anchored.items self.stack.items self.opens.items s.inner s.outer s.table h.keeping c.clear-2.new.self.items c.clear-2.ensures.items n;
+        counted = h.counted;
       };
     }

@@ -7,7 +7,8 @@ use Rattle.yaml_compact.specs.StoreGrows.{Fits, tags_of, trees_of, Stands}
 use Rattle.yaml_compose.specs.ComposerModel.{Holds, Keeping}
 use Rattle.yaml_compose.specs.declared.composer.Composer.{Composer}
 use Rattle.yaml_compact.proofs.StoreLaws.{tag-is}
-use Rattle.yaml_compose.proofs.ComposerLaws.{left-in, holds-kept, ended-step}
+use Rattle.yaml_compose.proofs.ComposerLaws.{left-in, ended-step}
+use Rattle.yaml_compose.proofs.FirstsLaws.{comes}
 use Rattle.yaml_compose.proofs.composer.Composer.end.Goals as goal
 
 pub returns : goal.returns
@@ -21,10 +22,10 @@ returns c = λ s h.
     let l = left-in self s os o c.in-Some.ensures.items h in
     let rest : State = record { inner = l.last.before; outer = l.others; table = s.table; done = s.done } in
     let cut : Composer = record self { opens = c.pop.new.self; stack = c.truncate.new.self } in
-    let held : Holds cut rest = record { good = h.good; names = h.names; keeping = subst (λ z. Keeping ms ts self.anchored.items z os l.last.before l.others s.table) (sym c.truncate.ensures.items) l.keeping } in
+    let held : Holds cut rest = record { good = h.good; names = h.names; keeping = subst (λ z. Keeping ms ts self.anchored.items z os l.last.before l.others s.table) (sym c.truncate.ensures.items) l.keeping; counted = h.counted } in
     let piece : c.in_ok-parts.parts.now ≡ drop o.mark self.stack.items = c.in_ok-parts.ensures ∙ ap (drop o.mark) c.deref.ensures.value in
     let fits : Fits cut.store o.tag c.in_ok-parts.parts.now = record { good = h.good.store; tagged = (tag-is ms o.tag l.last.tag l.tag).within; below = subst (All (λ i. i < length ts)) (sym piece) l.within } in
-    let k : Holds (record cut { store = new }) rest = holds-kept cut rest new (c.in_ok-id.ensures.kept fits) held in
+    let kept = c.in_ok-id.ensures.kept fits in
     let d = tag-is ms o.tag l.last.tag l.tag in
     let parts = ap (parts_at ts) piece ∙ l.parts in
     let t = collection_from (is_mapping o.collection) l.last.tag s.inner in
@@ -33,5 +34,5 @@ returns c = λ s h.
     record {
       state = whole l.last.anchor l.last.slot t rest;
       is = ended-step c.args.collection s ∙ (ap (λ b. collection_ended (is_mapping b) s s.outer) (sym same) ∙ ap (collection_ended (is_mapping o.collection) s) l.is);
-      holds = c.in_ok-put.ensures rest k l.last.anchor l.last.slot t l.place there;
+      holds = c.in_ok-put.ensures rest self.store held kept l.last.anchor l.last.slot t l.place there (comes self.store new c.in_ok-id.id t kept c.in_ok-id.ensures.one there);
     }

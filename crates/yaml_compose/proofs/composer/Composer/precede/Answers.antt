@@ -8,7 +8,7 @@ use Rattle.yaml_compose.specs.Nodes.{with_nodes}
 use Rattle.yaml_compose.specs.ComposerModel.{below, Holds}
 use Rattle.yaml_compose.specs.declared.composer.Open.{Open}
 use Rattle.yaml_compose.specs.declared.composer.Composer.{Composer}
-use Rattle.yaml_compose.proofs.ComposerLaws.{holds-kept, stack-length, keeping-entered}
+use Rattle.yaml_compose.proofs.ComposerLaws.{holds-tagged, stack-length, keeping-entered}
 use Rattle.yaml_compose.proofs.NodeLaws.{last-node, follows-before}
 use Rattle.yaml_compose.proofs.composer.Composer.precede.Goals as goal
 
@@ -21,7 +21,7 @@ returns c = λ front es p f flow.
     let l = last-node self front es p f in
     let a = l.adding in
     let s : State = with_nodes l.state a.nodes a.inside a.after in
-    let k : Holds (record self { store = new }) s = holds-kept self s new (c.in_ok-number.ensures.kept l.holds.good.store) l.holds in
+    let k : Holds (record self { store = new }) s = holds-tagged self s new (c.in_ok-number.ensures.kept l.holds.good.store) l.holds c.in_ok-number.ensures.nodes in
     let o : Open = record { place = None; collection = kinds.Mapping; tag = c.in_ok-number.number; mark = c.in-Some.mark } in
     let final : Composer = record self { store = new; opens = c.push.new.self } in
     let under = below l.state.outer in
@@ -33,4 +33,5 @@ returns c = λ front es p f flow.
       names = k.names;
       keeping =
           keeping-entered (tags_of new) (trees_of new) self.anchored.items self.stack.items self.opens.items s.inner s.outer s.table k.keeping o None (length l.state.table) text l.state.inner a.nodes c.push.new.self.items c.in_ok-push.ensures.items refl tt mark c.in_ok-number.ensures.is;
+      counted = k.counted;
     }) flow

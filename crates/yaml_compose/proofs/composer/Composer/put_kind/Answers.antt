@@ -5,8 +5,7 @@ use Rattle.yaml_definitions.specs.model.Tree.{scalar}
 use Rattle.yaml_content.specs.Kind.{kind_tag}
 use Rattle.yaml_compact.specs.StoreGrows.{Stands, tags_of}
 use Rattle.yaml_compact.proofs.StoreLaws.{tag-is}
-use Rattle.yaml_compose.specs.ComposerModel.{Holds}
-use Rattle.yaml_compose.proofs.ComposerLaws.{holds-kept}
+use Rattle.yaml_compose.proofs.FirstsLaws.{comes}
 use Rattle.yaml_compose.proofs.composer.Composer.put_kind.Goals as goal
 
 pub returns : goal.returns
@@ -18,6 +17,6 @@ returns c = λ s h.
     let tag = c.scalar-tag.result in
     let at : slice_get (tags_of self.store) tag ≡ Some g = subst (λ i. slice_get (tags_of self.store) i ≡ Some g) (sym c.scalar-tag.ensures) (h.good.core.scalars c.args.kind) in
     let d = tag-is (tags_of self.store) tag g at in
-    let k : Holds (record self { store = new }) s = holds-kept self s new (c.in_ok-id.ensures.kept h.good.store d.within) h in
+    let kept = c.in_ok-id.ensures.kept h.good.store d.within in
     let there : Stands new c.in_ok-id.id (scalar g x) = c.in_ok-id.ensures.stands h.good.store d.within ∙ ap (λ z. Some (scalar z x)) d.is in
-    c.in_ok-put.ensures s k None (length s.table) (scalar g x) tt there
+    c.in_ok-put.ensures s self.store h kept None (length s.table) (scalar g x) tt there (comes self.store new c.in_ok-id.id (scalar g x) kept c.in_ok-id.ensures.one there)

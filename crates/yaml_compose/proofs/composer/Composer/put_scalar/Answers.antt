@@ -9,9 +9,8 @@ use Rattle.yaml_definitions.specs.model.Unfold.{and_then, placed}
 use Rattle.yaml_compose.specs.ComposerModel.{anchor_text}
 use Rattle.yaml_nodes.specs.ComposerSteps.{step, node_begun, whole, scalar_added}
 use Rattle.yaml_compact.specs.StoreGrows.{Stands}
-use Rattle.yaml_compose.specs.ComposerModel.{Holds}
-use Rattle.yaml_compose.proofs.ComposerLaws.{holds-kept}
 use Rattle.yaml_compose.proofs.RefusalLaws.{scalar-stops}
+use Rattle.yaml_compose.proofs.FirstsLaws.{comes}
 use Rattle.yaml_compose.proofs.composer.Composer.put_scalar.Goals as goal
 
 pub returns-in_err-scalar : goal.returns-in_err-scalar
@@ -32,10 +31,10 @@ returns c = λ s h.
     let new = c.scalar.new.self in
     let g = cow_str_bytes c.in_ok-scalar.scalar.tag in
     let x = cow_str_bytes c.in_ok-scalar.scalar.content in
-    let k : Holds (record middle { store = new }) n = holds-kept middle n new (c.in_ok-id.ensures.kept b.1.good.store) b.1 in
+    let kept = c.in_ok-id.ensures.kept b.1.good.store in
     let there : Stands new c.in_ok-id.id (scalar g x) = c.in_ok-id.ensures.stands b.1.good.store ∙ (λ z. Some (scalar (c.as_str.ensures.value z) (c.as_str-2.ensures.value z))) in
     record {
       state = whole a (length s.table) (scalar g x) n;
       is = ap (λ r. Some (and_then (placed 0 r) (scalar_added a s))) c.in_ok-scalar.ensures.means;
-      holds = c.in_ok-put.ensures n k a (length s.table) (scalar g x) b.0 there;
+      holds = c.in_ok-put.ensures n middle.store b.1 kept a (length s.table) (scalar g x) b.0 there (comes middle.store new c.in_ok-id.id (scalar g x) kept c.in_ok-id.ensures.one there);
     }

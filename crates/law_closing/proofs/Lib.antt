@@ -1,0 +1,5 @@
+pub mod Grounding
+pub mod Building
+pub mod Graphs
+pub mod Repeats
+pub mod NumberLaws
