@@ -1,9 +1,10 @@
-pub mod Reached
-pub mod Nodes
-pub mod TagModel
-pub mod AnchorsModel
-pub mod ComposerModel
-pub mod ComposerLog
 pub mod AheadModel
-pub mod WaitingModel
+pub mod AnchorsModel
+pub mod ComposerLog
+pub mod ComposerModel
 pub mod KeeperModel
+pub mod Nodes
+pub mod Reached
+pub mod Refusals
+pub mod TagModel
+pub mod WaitingModel

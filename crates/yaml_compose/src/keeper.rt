@@ -9,10 +9,12 @@ ghost use Rattle.yaml_sink.specs.SinkModel.{start_of, end_of};
 ghost use Rattle.yaml_compose.specs.Reached.{UnfoldTo};
 ghost use Rattle.yaml_compose.specs.ComposerModel.{IsForest, AreForests};
 ghost use Rattle.yaml_compose.specs.KeeperModel.{Composes, MakesRoom, DressesOne};
+ghost use Rattle.yaml_compose.specs.Refusals.{RefusesForest};
 
 use crate::ahead::Ahead;
 use crate::composer::Forest;
 use crate::copies::{Owned, copy_of};
+use crate::unmade::Unmade;
 use crate::waiting::{Late, Waiting};
 use std::alloc::Global;
 use std::mem;
@@ -191,12 +193,13 @@ impl Composing {
     }
 
     /// How many documents a whole stream has. The events of a second one may follow.
-    pub fn documents(&mut self) -> Result<usize, GivesUp>
+    pub fn documents(&mut self) -> Result<usize, Unmade>
         ensures count { (ds : List Document) → Composes self.old (stream_events ds) → IfOk result (UnfoldTo ds) }
         ensures keeps { IfOk result (λ _. Keeps Composes self.old self.new) }
+        ensures refused { (ds : List Document) → Composes self.old (stream_events ds) → IfErr result (RefusesForest ds) }
     {
         if self.gave_up {
-            return Err(GivesUp);
+            return Err(Unmade::GivesUp);
         }
         self.waiting
             .compose(self.alloc, &mut self.ahead, self.count)?;
@@ -206,9 +209,10 @@ impl Composing {
     }
 
     /// The nodes of a whole stream, or of two.
-    pub fn finish(self) -> Result<Forest, GivesUp>
+    pub fn finish(self) -> Result<Forest, Unmade>
         ensures forest { (ds : List Document) → Composes self (stream_events ds) → IfOk result (IsForest ds) }
         ensures both { (ds es : List Document) → Composes self (stream_events ds ++ stream_events es) → IfOk result (AreForests ds es) }
+        ensures refused { (ds : List Document) → Composes self (stream_events ds) → IfErr result (RefusesForest ds) }
     {
         let Composing {
             alloc,
@@ -219,7 +223,7 @@ impl Composing {
             gave_up,
         } = self;
         if gave_up {
-            return Err(GivesUp);
+            return Err(Unmade::GivesUp);
         }
         waiting.compose(alloc, &mut ahead, count)?;
         let forest = ahead.finish()?;

@@ -9,7 +9,9 @@ mod core_tags;
 pub mod keeper;
 pub mod laws;
 mod tag;
+pub mod unmade;
 mod waiting;
 
 pub use composer::Forest;
 pub use keeper::Composing;
+pub use unmade::Unmade;
