@@ -44,7 +44,9 @@ use Rattle.yaml_spell.specs.Pieces.{Began, Puts, Fails}
 use Rattle.yaml_spell.specs.Documents.{spell_more, arranged_more, arranged_bytes, RefusesArranged}
 use Rattle.yaml_compact.specs.Walked.{walked_tree}
 use Rattle.yaml_canon.specs.Ranks.{HasRanks}
-use Rattle.yaml_canon.specs.Refused.{RefusesBytes}
+use Rattle.yaml_canon.specs.Refused.{RefusesBytes, TellsWhy}
+use Rattle.yaml_canon.specs.declared.no_forest.NoForest.TheVariants as none
+use Rattle.yaml_canon.proofs.RefusedLaws.{unfolds-not}
 use Rattle.yaml_canon.specs.declared.ranks.RankedForest.{RankedForest}
 use Rattle.yaml_canon.specs.Claims.{AllOf, MeansAlone, IsArranged, IsCanonicalText, IsRead, CanonicalRefuses, HasGraph, GraphRefuses}
 use Rattle.yaml_spell.proofs.DocumentLaws.{arranged_same, spell_whole, graph_text}
@@ -170,15 +172,6 @@ refused_reading bytes text (faults.BadTag at) t h d = no_stream bytes text (faul
 refused_reading bytes text faults.OutOfMemory t h d = tt
 refused_reading bytes text _ t h d = absurd h
 
--- bytes that were refused while a forest was looked for
-pub refused_bytes : (bytes : List ℕ) (fault : Fault) → RefusesBytes bytes fault → GraphRefuses bytes fault
-refused_bytes bytes fault (inl h) = refused_text bytes fault h
-refused_bytes bytes fault (inr h) = refused_reading bytes (text_of h.source) fault h.text h.refusal (inr h.unread)
-
-pub refused_as_text : (bytes : List ℕ) (fault : Fault) → RefusesBytes bytes fault → ((cs : List ℕ) → Text bytes cs → ⊥) → RefusesText bytes fault
-refused_as_text bytes fault (inl h) never = h
-refused_as_text bytes fault (inr h) never = absurd (never (text_of h.source) h.text)
-
 pub refused_composing : (bytes : List ℕ) (ds : List Document) (fault : Fault) → IsRead bytes ds → RefusesStream ds fault → GraphRefuses bytes fault
 refused_composing bytes ds (faults.UndefinedAlias e) r h = (ds, r, h)
 refused_composing bytes ds (faults.CyclicAlias e) r h = (ds, r, h)
@@ -189,6 +182,21 @@ refused_composing bytes ds (faults.FloatRange e) r h = (ds, r, h)
 refused_composing bytes ds (faults.TooHigh e) r h = (ds, r, h)
 refused_composing bytes ds faults.OutOfMemory r h = tt
 refused_composing bytes ds _ r h = absurd h
+
+-- bytes that were refused while a forest was looked for
+refused_bytes : (bytes : List ℕ) (fault : Fault) → RefusesBytes bytes fault → GraphRefuses bytes fault
+refused_bytes bytes fault (inl h) = refused_text bytes fault h
+refused_bytes bytes fault (inr h) = refused_reading bytes (text_of h.source) fault h.text h.refusal (inr h.unread)
+
+pub refused_forest : (bytes : List ℕ) (fault : Fault) → TellsWhy bytes (none.Refused fault) → GraphRefuses bytes fault
+refused_forest bytes fault (inl h) = refused_bytes bytes fault h
+refused_forest bytes fault (inr h) = refused_composing bytes h.documents fault (record { reads = h.read }) (unfolds-not h.documents fault h.refuses)
+
+pub refused_as_text : (bytes : List ℕ) (fault : Fault) → TellsWhy bytes (none.Refused fault) → ((cs : List ℕ) → Text bytes cs → ⊥) → RefusesText bytes fault
+unfolding Reads
+refused_as_text bytes fault (inl (inl h)) never = h
+refused_as_text bytes fault (inl (inr h)) never = absurd (never (text_of h.source) h.text)
+refused_as_text bytes fault (inr h) never = let (cs, t, r) = h.read in absurd (never cs t)
 
 -- what composing answers, once the bytes are read as these documents
 pub graph_found : (bytes : List ℕ) (ds : List Document) → IsRead bytes ds → (r : Result Graph Fault) → MatchResult r (Composed ds) (RefusesStream ds) → IfOk r (HasGraph bytes)

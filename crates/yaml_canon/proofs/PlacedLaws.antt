@@ -14,7 +14,9 @@ use Rattle.yaml_text.specs.declared.chars.Chars.{Chars}
 use Rattle.yaml_text.specs.declared.counted.Counted.{Counted}
 use Rattle.yaml_text.specs.declared.fault.Fault.{Fault}
 use Rattle.yaml_text.specs.declared.fault.Fault.TheVariants as faults
-use Rattle.yaml_canon.specs.Refused.{RefusesBytes}
+use Rattle.yaml_canon.specs.Refused.{TellsWhy}
+use Rattle.yaml_canon.specs.declared.no_forest.NoForest.TheVariants as none
+use Rattle.yaml_canon.proofs.RefusedLaws.{unfolds-not}
 use Rattle.yaml_graph.specs.Composed.{Composed, RefusesStream}
 use Rattle.yaml_nodes.specs.declared.graph.Graph.{Graph}
 use Rattle.yaml_levels.specs.RanksView.{RefusesGraph}
@@ -63,11 +65,6 @@ text_elsewhere bytes (faults.NotUtf8 at) h = tt
 text_elsewhere bytes (faults.NotPrintable at) h = tt
 text_elsewhere bytes _ h = absurd h
 
--- bytes that were refused while a forest was looked for
-pub placed_in_bytes : (bytes : List ℕ) (fault : Fault) → RefusesBytes bytes fault → TellsPlace bytes fault
-placed_in_bytes bytes fault (inl h) = text_elsewhere bytes fault h
-placed_in_bytes bytes fault (inr h) = placed_in bytes h.source h.behind_mark h.mark fault h.placed
-
 pub stream_elsewhere : (bytes : List ℕ) (ds : List Document) (fault : Fault) → RefusesStream ds fault → TellsPlace bytes fault
 stream_elsewhere bytes ds (faults.UndefinedAlias e) h = tt
 stream_elsewhere bytes ds (faults.CyclicAlias e) h = tt
@@ -78,6 +75,12 @@ stream_elsewhere bytes ds (faults.FloatRange e) h = tt
 stream_elsewhere bytes ds (faults.TooHigh e) h = tt
 stream_elsewhere bytes ds faults.OutOfMemory h = tt
 stream_elsewhere bytes ds _ h = absurd h
+
+-- bytes that were refused while a forest was looked for
+pub placed_in_bytes : (bytes : List ℕ) (fault : Fault) → TellsWhy bytes (none.Refused fault) → TellsPlace bytes fault
+placed_in_bytes bytes fault (inl (inl h)) = text_elsewhere bytes fault h
+placed_in_bytes bytes fault (inl (inr h)) = placed_in bytes h.source h.behind_mark h.mark fault h.placed
+placed_in_bytes bytes fault (inr h) = stream_elsewhere bytes h.documents fault (unfolds-not h.documents fault h.refuses)
 
 pub graph_elsewhere : (bytes : List ℕ) (g : Graph) (fault : Fault) → RefusesGraph g fault → TellsPlace bytes fault
 graph_elsewhere bytes g (faults.EqualKeys n i j) h = tt

@@ -6,7 +6,7 @@ ghost use Rattle.yaml_canon.specs.Two.{KeepsBoth};
 ghost use Rattle.yaml_canon.specs.Refused.{TellsWhy};
 
 use crate::forest::kept_bytes;
-use crate::no_forest::NoForests;
+use crate::no_forest::{NoForest, NoForests};
 use crate::ranks::{RankedForest, ranked_roots};
 use crate::two::Two;
 use std::alloc::Global;
@@ -44,8 +44,8 @@ pub(crate) struct RankedBoth {
 
 /// The nodes of the streams that both sides are, those of the right one behind those of the left one.
 ///
-/// Refused is what `canonical` refuses of the left side while it reads (1 to 11), else of the right one. It gives up where a node of
-/// either side has no tree, and where memory is refused or a number does not fit.
+/// Refused is what `canonical` refuses of the left side while it reads or composes (1 to 17), else of the right one while it reads (1
+/// to 11). It gives up at what is refused later, and where memory is refused or a number does not fit.
 pub fn forest_of_both(alloc: Global, left: &[u8], right: &[u8]) -> Result<BothForests, NoForests>
     ensures both { IfOk result (HasBoth left.now right.now) }
     ensures of_left { IfErr result (λ none. TellsWhy left.now none.left) }
@@ -56,12 +56,17 @@ pub fn forest_of_both(alloc: Global, left: &[u8], right: &[u8]) -> Result<BothFo
         Ok(first) => first,
         Err(none) => return Err(NoForests::left(none)),
     };
-    let middle = first.documents()?;
+    let middle = match first.documents() {
+        Ok(middle) => middle,
+        Err(why) => return Err(NoForests::left(NoForest::from(why))),
+    };
     let both = match kept_bytes(alloc, first, right) {
         Ok(both) => both,
         Err(none) => return Err(NoForests::right(none)),
     };
-    let forest = both.finish()?;
+    let Ok(forest) = both.finish() else {
+        return Err(NoForests::from(GivesUp));
+    };
     Ok(BothForests { forest, middle })
 }
 
@@ -88,7 +93,10 @@ pub fn forest_of_both_with<K: Keeper + Drop>(
         Ok(begun) => begun,
         Err(why) => return Err(NoForests::left(why)),
     };
-    let middle = begun.first.documents()?;
+    let middle = match begun.first.documents() {
+        Ok(middle) => middle,
+        Err(why) => return Err(NoForests::left(NoForest::from(why))),
+    };
     let events = begun.second.mark();
     let Two {
         first: both,
@@ -97,14 +105,16 @@ pub fn forest_of_both_with<K: Keeper + Drop>(
         Ok(both) => both,
         Err(why) => return Err(NoForests::right(why)),
     };
-    let forest = both.finish()?;
+    let Ok(forest) = both.finish() else {
+        return Err(NoForests::from(GivesUp));
+    };
     Ok((BothForests { forest, middle }, kept, events))
 }
 
 /// The ranked nodes of the streams that both sides are, in one store, so that their ranks can be compared.
 ///
-/// Refused is what `ranked_forest` refuses of the left side (1 to 11), else of the right one. It gives up where that does for either
-/// side, and where a number of both together does not fit.
+/// Refused is what `forest_of_both` refuses. It gives up where that does, at a mapping with two equal keys, and where a number of both
+/// together does not fit.
 pub(crate) fn ranked_both(alloc: Global, left: &[u8], right: &[u8]) -> Result<RankedBoth, NoForests>
     ensures both { IfOk result (HaveRanks left.now right.now) }
     ensures of_left { IfErr result (λ none. TellsWhy left.now none.left) }

@@ -60,8 +60,9 @@ pub(crate) fn kept_bytes<K: Keeper + Drop>(
 
 /// The nodes of the stream that these bytes are.
 ///
-/// Refused are bytes that are no text (1 to 3), and a text that is no stream of the profile (4 to 11). It gives up where a node has
-/// no tree, and where the composer does: the way by a graph then tells why, or goes on.
+/// Refused are bytes that are no text (1 to 3), a text that is no stream of the profile (4 to 11), the first event with an alias or
+/// a tag that stands for nothing (12 to 17), and a document that is too high (18). It gives up where the composer does: the way by a
+/// graph then tells why, or goes on.
 pub(crate) fn forest_of(alloc: Global, bytes: &[u8]) -> Result<Forest, NoForest>
     ensures forest { IfOk result (HasForest bytes.now) }
     ensures means { IfOk result (λ forest. Means bytes.now (root_trees forest)) }

@@ -1,14 +1,16 @@
 //! Why no forest is had of some bytes.
 ghost use Rattle.std.specs.Prelude.{◌≡◌};
-ghost use Rattle.yaml_canon.specs.Refused.{handed_on};
+ghost use Rattle.yaml_canon.specs.Refused.{handed_on, told_as};
 
 use yaml_compact::GivesUp;
+use yaml_compose::Unmade;
 use yaml_text::fault::Fault;
 
 /// Why no forest is had of some bytes.
 #[derive(Clone, Copy, Debug, PartialEq, Eq)]
 pub enum NoForest {
-    /// The bytes are no text (1 to 3), or no stream of the profile (4 to 11).
+    /// The bytes are no text (1 to 3), no stream of the profile (4 to 11), or one whose documents have no trees or are too high (12
+    /// to 18).
     Refused(Fault),
     /// This way has no answer, and tells nothing of the bytes.
     GivesUp,
@@ -32,6 +34,17 @@ impl From<Fault> for NoForest {
         match fault {
             Fault::OutOfMemory => NoForest::GivesUp,
             _ => NoForest::Refused(fault),
+        }
+    }
+}
+
+impl From<Unmade> for NoForest {
+    ghost from_gives = { λ unmade none. none ≡ told_as unmade };
+
+    fn from(unmade: Unmade) -> NoForest {
+        match unmade {
+            Unmade::Refused(fault) => NoForest::Refused(fault),
+            Unmade::GivesUp => NoForest::GivesUp,
         }
     }
 }

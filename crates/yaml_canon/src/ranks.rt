@@ -31,7 +31,7 @@ pub(crate) fn ranked_roots(alloc: Global, forest: Forest) -> Result<RankedForest
 
 /// The ranked nodes of the stream that these bytes are.
 ///
-/// Refused is what `forest_of` refuses (1 to 11). It gives up where that does, at a mapping with two equal keys, and where memory
+/// Refused is what `forest_of` refuses (1 to 18). It gives up where that does, at a mapping with two equal keys, and where memory
 /// is refused or a number does not fit.
 pub(crate) fn ranked_forest(alloc: Global, bytes: &[u8]) -> Result<RankedForest, NoForest>
     ensures ranks { IfOk result (HasRanks bytes.now) }

@@ -8,5 +8,5 @@ returns-clause-both c =
     let l = c.in-Ok.ensures.takes in
     let r = c.in-Ok-kept_bytes.ensures.takes in
     let held = l.puts.is [] c.in_ok-empty.ensures in
-    let all = r.puts.is (stream_events l.documents) (c.in_ok-middle.ensures.keeps.is (stream_events l.documents) held) in
-    has-both c.args.left.now c.args.right.now l.documents r.documents c.in_ok-middle.middle c.in_ok-forest.forest l.read r.read (c.in_ok-middle.ensures.count l.documents held) (c.in_ok-forest.ensures.both l.documents r.documents all)
+    let all = r.puts.is (stream_events l.documents) (c.in-Ok-documents.ensures.keeps.is (stream_events l.documents) held) in
+    has-both c.args.left.now c.args.right.now l.documents r.documents c.in-Ok-documents.middle c.in-Ok-finish.forest l.read r.read (c.in-Ok-documents.ensures.count l.documents held) (c.in-Ok-finish.ensures.both l.documents r.documents all)

@@ -8,15 +8,15 @@ returns-clause-both g c =
     let l = c.in-Ok.ensures.takes in
     let r = c.in-Ok-kept_bytes.ensures.takes in
     let held = l.puts.is [] (record { first_holds = c.in_ok-new.ensures; second_holds = c.requires }) in
-    let all = r.puts.is (stream_events l.documents) (record { first_holds = c.in_ok-middle.ensures.keeps.is (stream_events l.documents) held.first_holds; second_holds = held.second_holds }) in
-    has-both c.args.left.now c.args.right.now l.documents r.documents c.in_ok-middle.middle c.in_ok-forest.forest l.read r.read (c.in_ok-middle.ensures.count l.documents held.first_holds) (c.in_ok-forest.ensures.both l.documents r.documents all.first_holds)
+    let all = r.puts.is (stream_events l.documents) (record { first_holds = c.in-Ok-documents.ensures.keeps.is (stream_events l.documents) held.first_holds; second_holds = held.second_holds }) in
+    has-both c.args.left.now c.args.right.now l.documents r.documents c.in-Ok-documents.middle c.in-Ok-finish.forest l.read r.read (c.in-Ok-documents.ensures.count l.documents held.first_holds) (c.in-Ok-finish.ensures.both l.documents r.documents all.first_holds)
 
 pub returns-clause-kept : goal.returns-clause-kept
 returns-clause-kept g c =
     let l = c.in-Ok.ensures.takes in
     let r = c.in-Ok-kept_bytes.ensures.takes in
     let held = l.puts.is [] (record { first_holds = c.in_ok-new.ensures; second_holds = c.requires }) in
-    let all = r.puts.is (stream_events l.documents) (record { first_holds = c.in_ok-middle.ensures.keeps.is (stream_events l.documents) held.first_holds; second_holds = held.second_holds }) in
+    let all = r.puts.is (stream_events l.documents) (record { first_holds = c.in-Ok-documents.ensures.keeps.is (stream_events l.documents) held.first_holds; second_holds = held.second_holds }) in
     record {
       lefts = stream_events l.documents;
       rights = stream_events r.documents;
