@@ -117,9 +117,8 @@ pub(crate) fn settle(
         let place = nodes[*number as usize].place();
         let equal = settle_one(alloc, place, items, entries, ranks, keys)?;
         if let Some((first, second)) = equal {
-            let node = *number;
             return Err(Unranked::EqualKeys(EqualKeys {
-                node,
+                node: *number,
                 first,
                 second,
             }));
