@@ -15,22 +15,24 @@ use Rattle.yaml_compose.specs.declared.firsts.Firsts.{Firsts}
 
 -- one more node is counted
 pub counted-more : (before after closed : List Tree) (t : Tree) (old new : Firsts) (len : ℕ) → Counted before old closed → Comes before after t → len ≡ length after
-    → (length old.numbers.items < len → new.numbers.items ≡ old.numbers.items ++ (old.closed ∷ [])) → (len ≤ length old.numbers.items → new.numbers.items ≡ old.numbers.items) → new.closed ≡ old.closed + 1
+    → (length old.numbers.items < len → new.numbers.items ≡ old.numbers.items ++ (old.closed ∷ [])) → (len ≤ length old.numbers.items → new.numbers.items ≡ old.numbers.items) → new.closed ≡ old.closed + 1 → new.closed < 4294967296
     → Counted after new (closed ++ (t ∷ []))
-counted-more before after closed t old new len h (inl k) l more same e =
+counted-more before after closed t old new len h (inl k) l more same e w =
     let q : new.numbers.items ≡ old.numbers.items = same (omega (arith, h.numbers.long, ap length k.0)) in
     let again : Numbers before old.numbers.items (closed ++ (t ∷ [])) = closes-again before old.numbers.items closed h.numbers k.1.0 t k.1.1 in
     record {
       numbers = subst (λ us. Numbers us new.numbers.items (closed ++ (t ∷ []))) (sym k.0) (subst (λ ns. Numbers before ns (closed ++ (t ∷ []))) (sym q) again);
       count = omega (arith, h.count, length-append closed (t ∷ []));
+      few = w;
     }
-counted-more before after closed t old new len h (inr k) l more same e =
+counted-more before after closed t old new len h (inr k) l more same e w =
     let q : new.numbers.items ≡ old.numbers.items ++ (old.closed ∷ []) = more (omega (arith, h.numbers.long, ap length k, length-append before (t ∷ []))) in
     let r : new.numbers.items ≡ old.numbers.items ++ (length closed ∷ []) = q ∙ ap (λ n. old.numbers.items ++ (n ∷ [])) h.count in
     let first : Numbers (before ++ (t ∷ [])) (old.numbers.items ++ (length closed ∷ [])) (closed ++ (t ∷ [])) = closes-first before old.numbers.items closed h.numbers t in
     record {
       numbers = subst (λ us. Numbers us new.numbers.items (closed ++ (t ∷ []))) (sym k) (subst (λ ns. Numbers (before ++ (t ∷ [])) ns (closed ++ (t ∷ []))) (sym r) first);
       count = omega (arith, h.count, length-append closed (t ∷ []));
+      few = w;
     }
 
 -- ---- nodes of a store

@@ -1,5 +1,5 @@
 -- What the composer holds, as plain values.
-use Rattle.std.specs.Prelude.{◌≡◌, ℕ, Bool, List, [], ◌∷◌, ◌++◌, length, reverse, Option, Some, None, Ok}
+use Rattle.std.specs.Prelude.{◌≡◌, ◌<◌, ℕ, Bool, List, [], ◌∷◌, ◌++◌, length, reverse, Option, Some, None, Ok}
 use Rattle.std.specs.Borrow.{Bor}
 use Rattle.std.specs.List.{slice_get}
 use Rattle.std.specs.Option.{option_map}
@@ -106,6 +106,7 @@ pub record IsForest (ds : List Document) (f : Forest) : Type 0 where
   pub level : IsLow f.store
   pub roots : AllAt (trees_of f.store) f.roots.items trees_are
   pub numbered : Numbers (trees_of f.store) f.firsts.items (stream_trees ds trees_are)
+  pub few : length (stream_trees ds trees_are) < 4294967296
 
 -- the same of the documents of two streams, the roots of the first before those of the second, but for the places
 pub record AreForests (ds es : List Document) (f : Forest) : Type 0 where

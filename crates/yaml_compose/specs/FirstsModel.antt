@@ -1,5 +1,5 @@
 -- The places of the nodes that a store keeps among all nodes that closed.
-use Rattle.std.specs.Prelude.{◌≡◌, ◌⊎◌, ℕ, List, [], ◌∷◌, ◌++◌, length, Some}
+use Rattle.std.specs.Prelude.{◌≡◌, ◌⊎◌, ◌<◌, ℕ, List, [], ◌∷◌, ◌++◌, length, Some}
 use Rattle.std.specs.List.{slice_get}
 use Rattle.yaml_definitions.specs.model.Tree.{Tree}
 use Rattle.law_closing.specs.Numbers.{Numbers}
@@ -9,6 +9,7 @@ use Rattle.yaml_compose.specs.declared.firsts.Firsts.{Firsts}
 pub record Counted (trees : List Tree) (f : Firsts) (closed : List Tree) : Type 0 where
   pub numbers : Numbers trees f.numbers.items closed
   pub count : f.closed ≡ length closed
+  pub few : f.closed < 4294967296
 
 -- The tree stands among these already, or comes behind them.
 abbrev pub Comes : List Tree → List Tree → Tree → Type 0

@@ -1,4 +1,4 @@
-use Rattle.std.proofs.Common.{arith, sym, subst}
+use Rattle.std.proofs.Common.{arith, length, sym, ap, subst}
 use Rattle.std.specs.Prelude.{MatchOption}
 use Rattle.yaml_nodes.specs.Finished.{IsFirstTooHigh}
 use Rattle.yaml_nodes.specs.GraphModel.{AreLow}
@@ -23,6 +23,7 @@ returns-clause-forest c = λ ds s r h.
       level = low;
       roots = roots.at;
       numbered = subst (Numbers (trees_of self.store) self.firsts.numbers.items) (stream-closes ds s r) h.counted.numbers;
+      few = omega (arith, ap length (stream-closes ds s r), h.counted.count, h.counted.few);
     }
 
 pub returns-clause-both : goal.returns-clause-both
