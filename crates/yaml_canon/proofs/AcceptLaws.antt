@@ -90,7 +90,7 @@ low-at [] n t a e = absurd (cc)
 low-at (u ∷ f) zero t a e = let q : u ≡ t = cc in subst (λ z. height z ≤ height_limit) q a.0.low
 low-at (u ∷ f) (suc n) t a e = low-at f n t a.1 e
 
-same-trees : (f g : List Tree) (ds : List Document) → trees_of ds ≡ Ok f → trees_of ds ≡ Ok g → f ≡ g
+pub same-trees : (f g : List Tree) (ds : List Document) → trees_of ds ≡ Ok f → trees_of ds ≡ Ok g → f ≡ g
 same-trees f g ds h k = let q : ◌≡◌ {A = Result (List Tree) (Cause × ℕ)} (Ok f) (Ok g) = sym h ∙ k in cc
 
 no-trees : (f : List Tree) (e : Cause × ℕ) (ds : List Document) → trees_of ds ≡ Ok f → trees_of ds ≡ Err e → ⊥

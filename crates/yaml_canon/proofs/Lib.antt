@@ -9,4 +9,5 @@ mod PlaceLaws
 pub mod CompareLaws
 mod AcceptBoth
 mod RankLaws
+mod KeyLaws
 mod RunLaws

@@ -121,7 +121,9 @@ pub(crate) fn ranked_both(alloc: Global, left: &[u8], right: &[u8]) -> Result<Ra
     ensures of_right { IfErr result (λ none. TellsWhy right.now none.right) }
 {
     let BothForests { forest, middle } = forest_of_both(alloc, left, right)?;
-    let ranked = ranked_roots(alloc, forest)?;
+    let Ok(ranked) = ranked_roots(alloc, forest) else {
+        return Err(NoForests::from(GivesUp));
+    };
     Ok(RankedBoth {
         forest: ranked,
         middle,

@@ -15,7 +15,7 @@ ghost use Rattle.yaml_canon.specs.Claims.{IsCanonicalText, CanonicalRefuses};
 ghost use Rattle.yaml_canon.specs.FaultPlaces.{TellsPlace};
 ghost use Rattle.yaml_canon.specs.Accepting.{IsSpelling, IsMemory};
 
-use crate::graph_of::graph_unless;
+use crate::graph_of::graph_unranked;
 use crate::ranks::ranked_forest;
 use std::alloc::Global;
 use yaml_rank::rank;
@@ -63,7 +63,7 @@ pub fn canonical(alloc: Global, bytes: &[u8]) -> Result<String, Fault>
         Ok(forest) => return spelled(alloc, &forest.ranked, &forest.roots),
         Err(none) => none,
     };
-    let graph = graph_unless(alloc, bytes, none)?;
+    let graph = graph_unranked(alloc, bytes, none)?;
     let ranks = rank(alloc, &graph)?;
     let view = RankedGraph {
         graph: &graph,

@@ -6,11 +6,14 @@ ghost use Rattle.yaml_definitions.specs.model.Event.{Event};
 ghost use Rattle.yaml_definitions.specs.model.Text.{Text};
 ghost use Rattle.yaml_text.specs.Refused.{RefusesText};
 ghost use Rattle.yaml_canon.specs.Refused.{TellsWhy};
-ghost use Rattle.yaml_canon.specs.Claims.{HasGraph, GraphRefuses};
+ghost use Rattle.yaml_canon.specs.Claims.{HasGraph, GraphRefuses, CanonicalRefuses};
+ghost use Rattle.yaml_canon.specs.NoRanks.{TellsWhyNot};
 ghost use Rattle.yaml_canon.specs.FaultPlaces.{TellsPlace};
 
 use crate::no_forest::NoForest;
+use crate::no_ranks::NoRanks;
 use std::alloc::Global;
+use yaml_compact::EqualKeys;
 use yaml_graph::compose_owned;
 use yaml_graph::graph::Graph;
 use yaml_read::{read_events, read_events_with};
@@ -46,6 +49,31 @@ pub fn graph_unless<'a>(alloc: Global, bytes: &'a [u8], none: NoForest) -> Resul
     match none {
         NoForest::Refused(fault) => Err(fault),
         NoForest::GivesUp => graph_of(alloc, bytes),
+    }
+}
+
+/// The same graph, once it is known why no ranks were had of the bytes: where they were refused, they are not read again.
+pub(crate) fn graph_unranked<'a>(
+    alloc: Global,
+    bytes: &'a [u8],
+    none: NoRanks,
+) -> Result<Graph<'a>, Fault>
+    requires { TellsWhyNot bytes.now none }
+    ensures graph { IfOk result (HasGraph bytes.now) }
+    ensures refused { IfErr result (CanonicalRefuses bytes.now) }
+    ensures no_text { ((cs : List ℕ) → Text bytes.now cs → ⊥) → IsErrAnd result (RefusesText bytes.now) }
+    ensures placed { IfErr result (TellsPlace bytes.now) }
+{
+    match none {
+        NoRanks::Forest(none) => graph_unless(alloc, bytes, none),
+        NoRanks::EqualKeys(keys) => {
+            let EqualKeys {
+                node,
+                first,
+                second,
+            } = keys;
+            Err(Fault::EqualKeys(node as usize, first, second))
+        }
     }
 }
 

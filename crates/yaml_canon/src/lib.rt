@@ -7,6 +7,7 @@ mod forest;
 pub mod graph_of;
 pub mod laws;
 pub mod no_forest;
+mod no_ranks;
 pub mod placing;
 mod ranks;
 pub mod run;

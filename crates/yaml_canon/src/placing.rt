@@ -17,7 +17,7 @@ ghost use Rattle.yaml_canon.specs.Accepting.{IsSpelling, IsMemory};
 ghost use Rattle.yaml_answers.specs.Rooms.{Places};
 ghost use Rattle.yaml_canon.specs.Rooms.{PlacesCanonical};
 
-use crate::graph_of::graph_unless;
+use crate::graph_of::graph_unranked;
 use crate::ranks::ranked_forest;
 use std::alloc::Global;
 use yaml_rank::rank;
@@ -87,7 +87,7 @@ pub fn canonical_into(alloc: Global, bytes: &[u8], room: &mut [u8]) -> Result<us
         Ok(forest) => return place(alloc, &forest.ranked, &forest.roots, room),
         Err(none) => none,
     };
-    let graph = graph_unless(alloc, bytes, none)?;
+    let graph = graph_unranked(alloc, bytes, none)?;
     let ranks = rank(alloc, &graph)?;
     let view = RankedGraph {
         graph: &graph,

@@ -1,14 +1,16 @@
 //! The ranks of a stream's bytes.
 ghost use Rattle.std.specs.Prelude.{List, IfOk, IfErr};
+ghost use Rattle.yaml_definitions.specs.model.Serial.{Document};
 ghost use Rattle.yaml_definitions.specs.model.Tree.{Tree};
+ghost use Rattle.yaml_compose.specs.ComposerModel.{IsForest};
 ghost use Rattle.yaml_canon.specs.Read.{HasRoots};
 ghost use Rattle.yaml_canon.specs.Ranks.{RanksOf, HasRanks};
-ghost use Rattle.yaml_canon.specs.Refused.{TellsWhy};
+ghost use Rattle.yaml_canon.specs.NoRanks.{IsInStream, RefusesRanks, TellsWhyNot};
 
 use crate::forest::forest_of;
-use crate::no_forest::NoForest;
+use crate::no_ranks::NoRanks;
 use std::alloc::Global;
-use yaml_compact::{GivesUp, Ranked, compact_rank};
+use yaml_compact::{EqualKeys, Ranked, Unranked, compact_rank};
 use yaml_compose::Forest;
 
 /// The ranked nodes of a stream, and the ranks of its documents' roots.
@@ -18,24 +20,50 @@ pub(crate) struct RankedForest {
     pub(crate) roots: Vec<u32>,
 }
 
-/// A forest with the ranks of its nodes, those of the roots in place of the roots.
-pub(crate) fn ranked_roots(alloc: Global, forest: Forest) -> Result<RankedForest, GivesUp>
-    requires { (ts : List Tree) × HasRoots ts forest }
-    ensures { (ts : List Tree) → HasRoots ts forest → IfOk result (RanksOf ts) }
+/// Equal keys of a node of a store, told of the first node of the stream that it stands for.
+fn in_stream(unranked: Unranked, firsts: &[u32]) -> Unranked
+    ensures { IsInStream firsts.now unranked result }
 {
-    let Forest { store, mut roots } = forest;
-    let ranked = compact_rank(alloc, store)?;
-    ranked.take_ranks(&mut roots);
-    Ok(RankedForest { ranked, roots })
+    let Unranked::EqualKeys(keys) = unranked else {
+        return unranked;
+    };
+    match firsts.get(keys.node as usize) {
+        Some(node) => Unranked::EqualKeys(EqualKeys {
+            node: *node,
+            ..keys
+        }),
+        None => Unranked::GivesUp,
+    }
+}
+
+/// A forest with the ranks of its nodes, those of the roots in place of the roots. Refused are two equal keys of a mapping, by the
+/// number of its node in the stream.
+pub(crate) fn ranked_roots(alloc: Global, forest: Forest) -> Result<RankedForest, Unranked>
+    requires { (ts : List Tree) × HasRoots ts forest }
+    ensures ok { (ts : List Tree) → HasRoots ts forest → IfOk result (RanksOf ts) }
+    ensures err { (ds : List Document) → IsForest ds forest → IfErr result (RefusesRanks ds) }
+{
+    let Forest {
+        store,
+        mut roots,
+        firsts,
+    } = forest;
+    match compact_rank(alloc, store) {
+        Ok(ranked) => {
+            ranked.take_ranks(&mut roots);
+            Ok(RankedForest { ranked, roots })
+        }
+        Err(unranked) => Err(in_stream(unranked, &firsts)),
+    }
 }
 
 /// The ranked nodes of the stream that these bytes are.
 ///
-/// Refused is what `forest_of` refuses (1 to 18). It gives up where that does, at a mapping with two equal keys, and where memory
-/// is refused or a number does not fit.
-pub(crate) fn ranked_forest(alloc: Global, bytes: &[u8]) -> Result<RankedForest, NoForest>
+/// Refused is what `forest_of` refuses (1 to 18), and the lowest mapping with two equal keys (19). It gives up where that does, and
+/// where memory is refused or a number does not fit.
+pub(crate) fn ranked_forest(alloc: Global, bytes: &[u8]) -> Result<RankedForest, NoRanks>
     ensures ranks { IfOk result (HasRanks bytes.now) }
-    ensures why { IfErr result (TellsWhy bytes.now) }
+    ensures why { IfErr result (TellsWhyNot bytes.now) }
 {
     let forest = forest_of(alloc, bytes)?;
     let ranked = ranked_roots(alloc, forest)?;

@@ -8,7 +8,7 @@ ghost use Rattle.yaml_answers.specs.Writers.{Printed, Broken};
 ghost use Rattle.yaml_canon.specs.FaultPlaces.{TellsPlace, TellsReadPlace};
 ghost use Rattle.yaml_canon.specs.Runs.{WritesArranged, ArrangedFails, WritesCanonical, WriteRefuses, RunsWhole, RunFails};
 
-use crate::graph_of::graph_unless;
+use crate::graph_of::graph_unranked;
 use crate::ranks::ranked_forest;
 use std::alloc::Global;
 use std::io::{Read, Write};
@@ -77,7 +77,7 @@ fn write_canonical<W: Write>(alloc: Global, bytes: &[u8], out: &mut Counted<W>) 
         Ok(forest) => return write_spelled(alloc, &forest.ranked, &forest.roots, out),
         Err(none) => none,
     };
-    let graph = graph_unless(alloc, bytes, none)?;
+    let graph = graph_unranked(alloc, bytes, none)?;
     let ranks = rank(alloc, &graph)?;
     let view = RankedGraph {
         graph: &graph,

@@ -7,4 +7,4 @@ ranked_roots-requires c = let h = c.in_ok-forest.ensures.both in (h.mean.lefts +
 pub returns-clause-both : goal.returns-clause-both
 returns-clause-both c =
     let h = c.in_ok-forest.ensures.both in
-    record { mean = h.mean; ranks = c.in_ok-ranked.ensures (h.mean.lefts ++ h.mean.rights) h.roots }
+    record { mean = h.mean; ranks = c.in-Ok.ensures.ok (h.mean.lefts ++ h.mean.rights) h.roots }

@@ -1,14 +1,14 @@
 use Rattle.std.proofs.Common.{rules}
 use Rattle.std.specs.String.{string_bytes}
 use Rattle.yaml_spell.proofs.PieceLaws.{if_ok, if_err}
-use Rattle.yaml_canon.proofs.ClaimLaws.{arranged_graph, arranged_ranks, is_text, text_arranged, refused_arranged, refused_graph, refused_ranking}
+use Rattle.yaml_canon.proofs.ClaimLaws.{arranged_graph, arranged_ranks, is_text, text_arranged, refused_arranged, refused_ranking}
 use Rattle.yaml_canon.proofs.AcceptLaws.{accepted-answer, accepted-exit, accepted-spelling}
 use Rattle.yaml_canon.proofs.canonical_text.canonical.Goals as goal
 use Rattle.yaml_canon.proofs.PlacedLaws.{graph_elsewhere, arranged_elsewhere}
 
 pub returns-in_err-graph-clause-refused : goal.returns-in_err-graph-clause-refused
 returns-in_err-graph-clause-refused c =
-    let f = refused_graph c.args.bytes.now c.in_err-graph.field-0.0 c.in_err-graph.ensures.refused in
+    let f = c.in_err-graph.ensures.refused in
     search (rules, f)
 
 pub returns-in_err-ranks-clause-refused : goal.returns-in_err-ranks-clause-refused
@@ -33,7 +33,7 @@ returns-clause-refused c =
 
 pub returns-in_err-graph-clause-accepts : goal.returns-in_err-graph-clause-accepts
 returns-in_err-graph-clause-accepts c =
-    accepted-exit string_bytes c.args.bytes.now c.from_residual.result _ c.from_residual.ensures.1 (refused_graph c.args.bytes.now c.in_err-graph.field-0.0 c.in_err-graph.ensures.refused)
+    accepted-exit string_bytes c.args.bytes.now c.from_residual.result _ c.from_residual.ensures.1 c.in_err-graph.ensures.refused
 
 pub returns-in_err-graph-clause-spelling : goal.returns-in_err-graph-clause-spelling
 returns-in_err-graph-clause-spelling c =

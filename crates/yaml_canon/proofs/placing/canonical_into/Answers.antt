@@ -1,6 +1,6 @@
 use Rattle.std.proofs.Common.{rules}
 use Rattle.yaml_spell.proofs.PieceLaws.{if_ok, if_err}
-use Rattle.yaml_canon.proofs.ClaimLaws.{arranged_graph, arranged_ranks, is_text, refused_arranged, refused_graph, refused_ranking}
+use Rattle.yaml_canon.proofs.ClaimLaws.{arranged_graph, arranged_ranks, is_text, refused_arranged, refused_ranking}
 use Rattle.yaml_canon.proofs.PlaceLaws.{placed, placed-answer, placed-exit, placed-spelling}
 use Rattle.yaml_canon.proofs.PlacedLaws.{graph_elsewhere, arranged_elsewhere}
 use Rattle.yaml_canon.proofs.placing.canonical_into.Goals as goal
@@ -27,7 +27,7 @@ returns-clause-refused c =
 
 pub returns-in_err-graph-clause-accepts : goal.returns-in_err-graph-clause-accepts
 returns-in_err-graph-clause-accepts c =
-    placed-exit c.args.bytes.now c.args.room.now c.args.room.now c.from_residual.result _ c.from_residual.ensures.1 (refused_graph c.args.bytes.now c.in_err-graph.field-0.0 c.in_err-graph.ensures.refused)
+    placed-exit c.args.bytes.now c.args.room.now c.args.room.now c.from_residual.result _ c.from_residual.ensures.1 c.in_err-graph.ensures.refused
 
 pub returns-in_err-graph-clause-spelling : goal.returns-in_err-graph-clause-spelling
 returns-in_err-graph-clause-spelling c =

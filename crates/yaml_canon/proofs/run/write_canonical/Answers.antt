@@ -1,13 +1,13 @@
 use Rattle.std.proofs.Common.{rules}
 use Rattle.yaml_spell.proofs.PieceLaws.{on_ok, if_err}
-use Rattle.yaml_canon.proofs.ClaimLaws.{arranged_graph, arranged_ranks, refused_graph, refused_ranking}
+use Rattle.yaml_canon.proofs.ClaimLaws.{arranged_graph, arranged_ranks, refused_ranking}
 use Rattle.yaml_canon.proofs.RunLaws.{refused_unwritten, canonical_written, canonical_unwritten, unwritten_elsewhere}
 use Rattle.yaml_canon.proofs.PlacedLaws.{graph_elsewhere}
 use Rattle.yaml_canon.proofs.run.write_canonical.Goals as goal
 
 pub returns-in_err-graph-clause-err : goal.returns-in_err-graph-clause-err
 returns-in_err-graph-clause-err g c =
-    let f = refused_unwritten g.W.Write.contents c.args.bytes.now c.args.out.now c.in_err-graph.field-0.0 (refused_graph c.args.bytes.now c.in_err-graph.field-0.0 c.in_err-graph.ensures.refused) in
+    let f = refused_unwritten g.W.Write.contents c.args.bytes.now c.args.out.now c.in_err-graph.field-0.0 c.in_err-graph.ensures.refused in
     search (rules, f)
 
 pub returns-in_err-ranks-clause-err : goal.returns-in_err-ranks-clause-err
