@@ -15,7 +15,7 @@ use Rattle.yaml_compose.specs.declared.stop.Refusal.{Refusal}
 use Rattle.yaml_compose.specs.declared.unmade.Unmade.{Unmade}
 use Rattle.yaml_compose.specs.declared.unmade.Unmade.TheVariants.{Refused, GivesUp}
 
--- the same cause, as plain value
+-- the same cause, as a plain value
 abbrev pub cause_of : Cause → core.Cause
 cause_of causes.UndefinedAlias = core.undefined_alias
 cause_of causes.CyclicAlias = core.cyclic_alias
@@ -48,7 +48,7 @@ pub record IsRefusal (stop : Stop) (number : ℕ) (r : Refusal) : Type 0 where
   pub cause : stop ≡ stops.Refused r.cause
   pub at : r.at ≡ number
 
--- What it says of a stream's documents that no forest is made of them: the first event that is refused; nothing where this way gives up.
+-- What it says of a stream's documents that no forest is made of them: why they have no trees; nothing where this way gives up.
 abbrev pub RefusesForest : List Document → Unmade → Type 0
 RefusesForest ds (Refused faults.OutOfMemory) = ⊥
 RefusesForest ds (Refused fault) = RefusesStream ds fault
