@@ -37,7 +37,7 @@ has-both left right ds es n f r s u a =
         low = subst AreLow both.is a.low;
         middle_is = u.count ∙ ap length these;
       };
-      roots = record { good = a.good; roots = subst (AllAt (trees_of f.store) f.roots.items) both.is a.roots };
+      roots = record { good = a.good; level = a.level; roots = subst (AllAt (trees_of f.store) f.roots.items) both.is a.roots };
     }
 
 -- ---- both sides in one graph

@@ -6,7 +6,7 @@ use Rattle.yaml_definitions.specs.model.Serial.{Document, stream_events}
 use Rattle.yaml_definitions.specs.grammar.Reading.{Reads}
 use Rattle.yaml_sink.specs.Held.{Puts}
 use Rattle.yaml_compact.specs.StoreModel.{parts_at}
-use Rattle.yaml_compact.specs.StoreGrows.{Good, trees_of}
+use Rattle.yaml_compact.specs.StoreGrows.{Good, IsLow, trees_of}
 use Rattle.yaml_compose.specs.ComposerModel.{AllAt, IsForest}
 use Rattle.yaml_compose.specs.declared.composer.Forest.{Forest}
 
@@ -26,7 +26,8 @@ pub record HasForest (bytes : List ℕ) (f : Forest) : Type 0 where
 abbrev pub root_trees : Forest → List Tree
 root_trees f = parts_at (trees_of f.store) f.roots.items
 
--- The roots stand for these trees.
+-- The roots stand for these trees, and no node of the store for a tree that is too high.
 pub record HasRoots (ts : List Tree) (f : Forest) : Type 0 where
   pub good : Good f.store
+  pub level : IsLow f.store
   pub roots : AllAt (trees_of f.store) f.roots.items ts
