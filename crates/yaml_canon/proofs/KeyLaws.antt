@@ -1,10 +1,10 @@
 -- Equal keys of a store's node, told of the node of the stream that it stands for.
-use Rattle.std.proofs.Common.{◌≡◌, ℕ, ◌<◌, ◌≤◌, ◌^◌, List, [], ◌∷◌, length, map, refl, sym, ◌∙◌, ap, subst, arith}
-use Rattle.std.specs.Prelude.{Result, Some}
+use Rattle.std.proofs.Common.{◌≡◌, ℕ, List, [], ◌∷◌, length, map, refl, sym, ◌∙◌, ap, subst, arith}
+use Rattle.std.specs.Prelude.{Some}
 use Rattle.std.specs.List.{slice_get}
 use Rattle.std.specs.String.{string_bytes}
 use Rattle.std.proofs.lemmas.List.{length-map}
-use Rattle.yaml_definitions.specs.model.Tree.{Tree, Trees, Pairs}
+use Rattle.yaml_definitions.specs.model.Tree.{Tree}
 use Rattle.yaml_definitions.specs.model.Text.{Text}
 use Rattle.yaml_definitions.specs.model.Serial.{Document, stream_events}
 use Rattle.yaml_definitions.specs.grammar.Reading.{Reads}
@@ -18,7 +18,7 @@ use Rattle.yaml_graph.specs.Composed.{Composed}
 use Rattle.yaml_levels.specs.View.{Inside, content, items, entries, items_in, entries_in, inside_tree}
 use Rattle.yaml_levels.proofs.LevelLaws.{get-some}
 use Rattle.law_closing.specs.Keys.{listed, pairs_listed}
-use Rattle.law_closing.specs.Laws.{Holdable, PartsHoldable, AreHoldable}
+use Rattle.law_closing.specs.Laws.{Holdable, PartsHoldable}
 use Rattle.law_closing.specs.Numbers.{Numbers}
 use Rattle.law_closing.proofs.Graphs.{has-graph}
 use Rattle.law_closing.proofs.NumberLaws.{holdable}
@@ -36,7 +36,7 @@ use Rattle.yaml_compact.proofs.Growing.{trees-count, stands-at, inside-few}
 use Rattle.yaml_compose.specs.ComposerModel.{IsForest}
 use Rattle.yaml_compose.specs.declared.composer.Forest.{Forest}
 use Rattle.yaml_canon.specs.NoRanks.{ranked_not, IsInStream, AreEqual, RefusesRanks, HasEqualKeys, TellsWhyNot}
-use Rattle.yaml_canon.specs.Claims.{IsRead, CanonicalRefuses}
+use Rattle.yaml_canon.specs.Claims.{CanonicalRefuses}
 use Rattle.yaml_canon.proofs.AcceptLaws.{same-trees}
 
 -- ---- parts that a store holds

@@ -1,4 +1,4 @@
-use Rattle.std.proofs.Common.{◌≡◌, List, [], ◌∷◌, ◌++◌, length, ℕ, ◌+◌, ◌<◌, ◌≤◌, ◌∙◌, arith, ap}
+use Rattle.std.proofs.Common.{◌≡◌, ◌+◌, ◌<◌, ◌∙◌, arith, ap}
 use Rattle.yaml_compose.specs.declared.firsts.Firsts.{Firsts}
 use Rattle.yaml_compose.proofs.FirstsLaws.{counted-more}
 use Rattle.yaml_compose.proofs.firsts.Firsts.note.Goals as goal
