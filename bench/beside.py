@@ -1,0 +1,96 @@
+"""beside.py: what the built program takes for what another build of it takes, on each shape of shapes.py and with each of five ends.
+
+    bench/hostile --beside PROGRAM [--size BYTES] [--rounds N] [--jobs N] [SHAPE ..]
+
+PROGRAM is another build of `yamlcanon`. Runs `canon` of both by turns on each shape alone and with each of the refusals of cost.py
+behind it, and takes the least processor time of each over the rounds and its peak of memory. Prints, for the texts that are accepted,
+refused in reading (1 to 11), refused by their documents (12 to 18) and refused for equal keys (19), the ratios of both by this
+program's part: median, nine in ten, most; and the shapes that are worst. A text on which both end otherwise is named and fails.
+Needs Python 3 and GNU time.
+"""
+import argparse
+import concurrent.futures
+import os
+import re
+import subprocess
+import sys
+import tempfile
+
+from cost import ENDS
+from growth import PROGRAM
+from shapes import SHAPES
+
+KINDS = ("accepted", "refused in reading", "refused by documents", "equal keys", "else")
+SHOWN = 8
+
+
+def run(program, path, room):
+    """Processor seconds, peak memory in kB and how the run ended."""
+    told = os.path.join(room, "told")
+    with open(os.path.join(room, "err"), "w+b") as err:
+        process = subprocess.Popen(["time", "--quiet", "--format=%U %S %M", "--output=" + told, program, "canon", path],
+                                   stdout=subprocess.DEVNULL, stderr=err)
+        _, status, used = os.wait4(process.pid, 0)
+        process.returncode = os.waitstatus_to_exitcode(status)
+        err.seek(0)
+        said = err.read().decode().strip() or "answered"
+    with open(told, encoding="ascii") as peak:
+        memory = int(peak.read().split()[-1])
+    return used.ru_utime + used.ru_stime, memory, said if process.returncode in (0, 2) else "ended by %d" % process.returncode
+
+
+def kind_of(said):
+    """Which kind of answer this is."""
+    found = re.match(r"yaml: (\d+) ", said)
+    number = int(found[1]) if found else 0
+    if said == "answered":
+        return KINDS[0]
+    return KINDS[1] if 1 <= number <= 11 else KINDS[2] if number <= 18 else KINDS[3] if number == 19 else KINDS[4]
+
+
+def beside(name, asked):
+    """The kind of a text, whether both ended alike, and the ratios of time and memory."""
+    shape, _, end = name.partition(" before ")
+    text = SHAPES[shape](asked.size) + ENDS.get(end, b"")
+    with tempfile.TemporaryDirectory(dir="/dev/shm") as room:
+        path = os.path.join(room, "text")
+        with open(path, "wb") as out:
+            out.write(text)
+        runs = [(run(asked.program, path, room), run(PROGRAM, path, room)) for _ in range(asked.rounds)]
+    before, now = (min(pair[side][0] for pair in runs) for side in (0, 1))
+    most, less = (min(pair[side][1] for pair in runs) for side in (0, 1))
+    ends = {pair[side][2] for pair in runs for side in (0, 1)}
+    return kind_of(runs[0][1][2]), ends, now / max(before, 1e-3), less / most, (before, now, most, less)
+
+
+def tell(kind, found):
+    """The ratios of a kind."""
+    for place, what in ((2, "time"), (3, "memory")):
+        ratios = sorted((it[place], name) for name, it in found)
+        if ratios:
+            print("%s, %d texts, %s: median %.2f, nine in ten at most %.2f, most %.2f" % (
+                kind, len(ratios), what, ratios[len(ratios) // 2][0], ratios[len(ratios) * 9 // 10][0], ratios[-1][0]))
+            print("  " + ", ".join("%s %.2f" % (name, ratio) for ratio, name in ratios[:-1 - SHOWN:-1]), flush=True)
+
+
+def main(args):
+    parser = argparse.ArgumentParser(prog="bench/hostile --beside")
+    parser.add_argument("program")
+    parser.add_argument("--size", type=int, default=500_000)
+    parser.add_argument("--rounds", type=int, default=3)
+    parser.add_argument("--jobs", type=int, default=max(1, len(os.sched_getaffinity(0)) // 2))
+    parser.add_argument("shapes", nargs="*", metavar="SHAPE")
+    asked = parser.parse_args(args)
+    names = [name + end for name in asked.shapes or SHAPES for end in ["", *(" before " + end for end in ENDS)]]
+    with concurrent.futures.ThreadPoolExecutor(asked.jobs) as pool:
+        found = list(zip(names, pool.map(lambda name: beside(name, asked), names)))
+    other = [(name, it[1]) for name, it in found if len(it[1]) > 1]
+    for kind in KINDS:
+        tell(kind, [(name, it) for name, it in found if it[0] == kind])
+    for name, ends in other:
+        print("%s: %s" % (name, " / ".join(sorted(ends))))
+    return 1 if other else 0
+
+
+if __name__ == "__main__":
+    sys.exit(main(sys.argv[1:]))
