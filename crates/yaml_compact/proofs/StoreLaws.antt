@@ -187,12 +187,9 @@ kept-both a b c h k = record {
   trees = k.trees ∙ (ap (λ z. z ++ k.more) h.trees ∙ append_assoc (trees_of a) h.more k.more);
 }
 
--- the tables of what was met last may be any
+-- the table of what was met last may be any
 pub kept-memo : (old new : Store) (m : Memo) → Keeps old new → Keeps old (record new { memo = m })
 kept-memo old new m h = record { good = h.good; more_tags = h.more_tags; tags = h.tags; more = h.more; trees = h.trees }
-
-pub kept-tag-memo : (old new : Store) (m : Memo) → Keeps old new → Keeps old (record new { tag_memo = m })
-kept-tag-memo old new m h = record { good = h.good; more_tags = h.more_tags; tags = h.tags; more = h.more; trees = h.trees }
 
 -- and so may the numbers of tags
 pub kept-numbers : (old new : Store) (m : TagNumbers) → Keeps old new → Keeps old (record new { numbers = m })

@@ -1,29 +1,40 @@
-//! Small tables of the nodes and of the tags that were met last, by a hash. Whatever they say, what a number
-//! stands for is compared before the number is used, so nothing is claimed of tables and hashes.
+//! A small table of the nodes that were met last, by a hash. Whatever it says, what a number stands for is
+//! compared before the number is used, so nothing is claimed of tables and hashes.
 ghost use Rattle.std.specs.Prelude.{◌+◌, ◌≤◌, length};
 
 use crate::nodes::Kind;
 use std::alloc::{AllocError, Global};
 
-/// What a table answers where it has nothing of a hash: no node and no tag has this number.
+/// What a table answers where it has nothing of a hash: no node has this number.
 const NONE: u32 = u32::MAX;
 
 /// The lower half of a number.
 const LOWER: u64 = 0xffff_ffff;
+
+/// How many places a table has at first.
+const PLACES: usize = 256;
+
+/// By how much a table grows.
+const GROWTH: usize = 16;
+
+/// How many bytes of the front of a content count for its hash.
+const FRONT: usize = 128;
 
 /// For each place the last number whose hash has it, and above it the lower half of that hash, so that mostly
 /// nothing is looked at in vain.
 #[derive(Drop)]
 pub(crate) struct Memo {
     places: Vec<u64>,
+    /// How many places there are at most.
+    most: usize,
 }
 
 impl Memo {
-    /// A table of so many places.
-    pub(crate) fn new(alloc: Global, count: usize) -> Result<Memo, AllocError> {
+    /// A table of few places, and later of at most so many.
+    pub(crate) fn new(alloc: Global, most: usize) -> Result<Memo, AllocError> {
         let mut places = Vec::new(alloc);
-        places.resize(count, 0)?;
-        Ok(Memo { places })
+        places.resize(PLACES, 0)?;
+        Ok(Memo { places, most })
     }
 
     /// The place of a hash: its upper half, on which all that was mixed tells, scaled to the number of places.
@@ -42,11 +53,24 @@ impl Memo {
         }
     }
 
-    /// The number takes its place.
+    /// The table grows where there is memory for it. What it has is then mostly not found again.
+    #[inline(never)]
+    fn grow(&mut self) {
+        let count = self.places.len().saturating_mul(GROWTH).min(self.most);
+        if let Err(_) = self.places.resize(count, 0) {
+            self.most = self.places.len();
+        }
+    }
+
+    /// The number takes its place. There come to be as many places as numbers, up to a limit.
     pub(crate) fn keep(&mut self, hash: u64, number: u32) {
         let place = self.place(hash);
-        if place < self.places.len() {
+        let count = self.places.len();
+        if place < count {
             self.places[place] = (hash << 32) | u64::from(number);
+        }
+        if number as usize >= count && count < self.most {
+            self.grow();
         }
     }
 }
@@ -96,18 +120,37 @@ fn with_ends(hash: u64, text: &[u8]) -> u64 {
     mixed(hash, number)
 }
 
-/// A hash of a tag, of which each byte counts.
-pub(crate) fn hash_tag(tag: &[u8]) -> u64 {
-    hash_text(0, tag)
+/// A hash, and all that stands in a long text between its first eight bytes and its last ones: by two hashes in
+/// turns, as each number waits for what was mixed before it.
+fn with_middle(hash: u64, text: &[u8]) -> u64 {
+    let mut hash = hash;
+    let mut beside = 0;
+    let eights = text.len() / 8;
+    for pair in 1..eights.div_ceil(2) {
+        hash = mixed(hash, eight(text, 16 * pair - 8));
+        beside = mixed(beside, eight(text, 16 * pair));
+    }
+    if eights > 1 && eights % 2 == 0 {
+        hash = mixed(hash, eight(text, 8 * eights - 8));
+    }
+    hash ^ beside
 }
 
-/// A hash of a tag and a content, of which each byte counts.
+/// A hash of a tag, of which each byte counts.
+pub(crate) fn hash_tag(tag: &[u8]) -> u64 {
+    with_middle(with_ends(0, tag), tag)
+}
+
+/// A hash of a tag and a content. Of a long one its front, its length and its end count: those that differ only
+/// elsewhere share a place of the table, as others may.
+#[inline(always)]
 pub(crate) fn hash_text(tag: u32, content: &[u8]) -> u64 {
-    let mut hash = with_ends(u64::from(tag) << 32, content);
-    for place in 1..content.len() / 8 {
-        hash = mixed(hash, eight(content, 8 * place));
+    let hash = with_ends(u64::from(tag) << 32, content);
+    if content.len() > 16 {
+        with_middle(hash, &content[..content.len().min(FRONT)])
+    } else {
+        hash
     }
-    hash
 }
 
 /// A hash of a kind, a tag and parts.

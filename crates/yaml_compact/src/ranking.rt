@@ -91,7 +91,6 @@ pub fn compact_rank(alloc: Global, store: Store) -> Result<Ranked, Unranked>
 {
     let Store {
         memo: _,
-        tag_memo: _,
         numbers: _,
         tags,
         text,

@@ -13,16 +13,15 @@ ghost use Rattle.yaml_compact.specs.StoreGrows.{AtMostOne, Good, IsLow, Fits, Ke
 use crate::gives_up::GivesUp;
 use crate::memo::{Memo, hash_parts, hash_tag, hash_text};
 use crate::nodes::{Collection, Kind, Node, Span};
-use crate::tag_numbers::TagNumbers;
+use crate::tag_numbers::{Found, TagNumbers};
 use std::alloc::Global;
 use yaml_text::limits::height_limit;
 
-/// The nodes, each after its parts: their tags, each once; all contents one after the other, all items and
+/// The nodes, each after its parts: their tags, mostly each once; all contents one after the other, all items and
 /// all entries, by number. Those that were met last are found again by a hash.
 #[derive(Drop)]
 pub struct Store {
     pub(crate) memo: Memo,
-    pub(crate) tag_memo: Memo,
     pub(crate) numbers: TagNumbers,
     pub(crate) tags: Vec<String>,
     pub(crate) text: String,
@@ -36,9 +35,6 @@ const ROOM: usize = 4_294_967_295;
 
 /// How many nodes are found again by a hash, at most.
 const NODES_SEEN: usize = 32_768;
-
-/// How many tags are found again by a hash, at most. Others are looked for among all.
-const TAGS_SEEN: usize = 256;
 
 /// A place, if it fits.
 fn place(at: usize) -> Result<u32, GivesUp>
@@ -142,11 +138,10 @@ impl Store {
         ensures empty { IfOk result (λ s. trees_of s ≡ []) }
     {
         let memo = Memo::new(alloc, NODES_SEEN)?;
-        let tag_memo = Memo::new(alloc, TAGS_SEEN)?;
+        let numbers = TagNumbers::new(alloc)?;
         Ok(Store {
             memo,
-            tag_memo,
-            numbers: TagNumbers::new(alloc),
+            numbers,
             tags: Vec::new(alloc),
             text: String::new(alloc),
             items: Vec::new(alloc),
@@ -205,20 +200,12 @@ impl Store {
         Ok(number)
     }
 
-    /// The number of this tag of this hash, which is looked for among all of them, and added if it is new.
-    fn find_tag(&mut self, alloc: Global, hash: u64, tag: &str) -> Result<u32, GivesUp>
+    /// The number of this tag, which its hash does not tell, and which is added if it is new.
+    fn other_tag(&mut self, alloc: Global, tag: &str) -> Result<u32, GivesUp>
         ensures kept { Good self.old → IfOk result (λ _. Keeps self.old self.new) }
         ensures is { IfOk result (λ i. slice_get (tags_of self.new) i ≡ Some tag.now) }
         ensures nodes { IfOk result (λ _. self.new.nodes ≡ self.old.nodes) }
     {
-        let Some(first) = self.numbers.first(hash) else {
-            let number = self.add_tag(alloc, tag)?;
-            self.numbers.keep_first(hash, number)?;
-            return Ok(number);
-        };
-        if self.is_tag(first, tag) {
-            return Ok(first);
-        }
         if let Some(other) = self.numbers.other(tag) {
             if self.is_tag(other, tag) {
                 return Ok(other);
@@ -236,13 +223,20 @@ impl Store {
         ensures nodes { IfOk result (λ _. self.new.nodes ≡ self.old.nodes) }
     {
         let hash = hash_tag(tag.as_bytes());
-        let seen = self.tag_memo.seen(hash);
-        if self.is_tag(seen, tag) {
-            return Ok(seen);
+        match self.numbers.find(hash) {
+            Found::Number(first) => {
+                if self.is_tag(first, tag) {
+                    return Ok(first);
+                }
+            }
+            Found::Free => {
+                let number = self.add_tag(alloc, tag)?;
+                self.numbers.keep(alloc, hash, number)?;
+                return Ok(number);
+            }
+            Found::Full => {}
         }
-        let number = self.find_tag(alloc, hash, tag)?;
-        self.tag_memo.keep(hash, number);
-        Ok(number)
+        self.other_tag(alloc, tag)
     }
 
     /// Whether this node is a scalar of the same tag and content.

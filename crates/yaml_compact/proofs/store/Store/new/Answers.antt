@@ -2,7 +2,7 @@ use Rattle.yaml_compact.proofs.StoreLaws.{sound-none, trees-none}
 use Rattle.yaml_compact.proofs.store.Store.new.Goals as goal
 
 pub returns-clause-good : goal.returns-clause-good
-returns-clause-good c = sound-none _ _ _ _ c.new-8.result.items c.new-8.ensures.items
+returns-clause-good c = sound-none _ _ _ _ c.new-7.result.items c.new-7.ensures.items
 
 pub returns-clause-empty : goal.returns-clause-empty
-returns-clause-empty c = trees-none _ _ _ _ c.new-8.result.items c.new-8.ensures.items
+returns-clause-empty c = trees-none _ _ _ _ c.new-7.result.items c.new-7.ensures.items

@@ -1,8 +1,8 @@
-use Rattle.yaml_compact.proofs.StoreLaws.{kept-same, kept-tag-memo}
+use Rattle.yaml_compact.proofs.StoreLaws.{kept-same, kept-numbers}
 use Rattle.yaml_compact.proofs.store.Store.tag.Goals as goal
 
 pub returns-then-is_tag-clause-kept : goal.returns-then-is_tag-clause-kept
 returns-then-is_tag-clause-kept c = λ good. kept-same c.args.self.now good
 
-pub returns-clause-kept : goal.returns-clause-kept
-returns-clause-kept c = λ good. kept-tag-memo c.args.self.now c.find_tag.new.self c.keep.new.self (c.in_ok-number.ensures.kept good)
+pub returns-in-Free-clause-kept : goal.returns-in-Free-clause-kept
+returns-in-Free-clause-kept c = λ good. kept-numbers c.args.self.now c.add_tag.new.self c.keep.new.self (c.in_ok-number-in-Free.ensures.kept good)
