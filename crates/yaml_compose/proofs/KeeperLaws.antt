@@ -57,6 +57,15 @@ puts-told old room new e r p n w = record {
   };
 }
 
+-- and it is the one of this number
+pub puts-numbered : (old room new : Composing) (e : Event) → MakesRoom old room → ((log : List Event) → old.count ≡ length log → Tells room.ahead log → Tells new.ahead (log ++ (e ∷ []))) → new.count ≡ room.count → waits new.waiting ≡ [] → Puts Composes old (e ∷ []) new
+puts-numbered old room new e r p n w = record {
+  is = λ log h. record {
+    count = omega (arith, n, r.count, h.count, length-append log (e ∷ []));
+    is = λ g. record { front = log ++ (e ∷ []); split = sym (append-nil (log ++ (e ∷ []))) ∙ ap (λ z. (log ++ (e ∷ [])) ++ z) (sym w); tells = p log h.count (r.tells log h) };
+  };
+}
+
 -- an event of which the composer is not told
 puts-rest : (old room : Composing) (e : Event) → MakesRoom old room → ((log : List Event) → Tells room.ahead log → Tells room.ahead (log ++ (e ∷ []))) → Puts Composes old (e ∷ []) room
 puts-rest old room e r t = puts-told old room room e r (record { is = t }) refl r.none

@@ -26,7 +26,7 @@ use yaml_sink::properties::Properties;
 use yaml_sink::sink::Collection;
 use yaml_text::event::Style;
 
-/// A collection that began.
+/// A collection that began, or a long scalar.
 #[derive(Drop)]
 pub(crate) struct Begun {
     /// The number of its first event.
@@ -41,7 +41,7 @@ pub(crate) struct Ahead {
     judged: Judged,
     /// The open collections, the innermost last.
     opens: Vec<Begun>,
-    /// The collection that ended last, where nothing came after it.
+    /// The collection that ended last, or a long scalar, where nothing came after it.
     ended: Option<Begun>,
 }
 
@@ -129,6 +129,24 @@ impl Ahead {
     {
         self.go_on()?;
         self.judged.scalar(alloc, at, properties, style, text)?;
+        Ok(())
+    }
+
+    /// The event of this number is a scalar, which gets these properties in the log later, in place of any others.
+    pub(crate) fn scalar_due(
+        &mut self,
+        alloc: Global,
+        at: usize,
+        given: Properties<'static>,
+        style: Style,
+        text: &str,
+    ) -> Result<(), GivesUp>
+        ensures { IfOk result (λ _. (p : Props) (log : List Event) → at ≡ length log → Tells self.old log → Tells self.new (log ++ (scalar_event p.anchor p.tag (style_of style) text.now ∷ []))) }
+    {
+        self.go_on()?;
+        self.judged.scalar(alloc, at, &given, style, text)?;
+        let due = Some(given);
+        self.ended = Some(Begun { at, due });
         Ok(())
     }
 

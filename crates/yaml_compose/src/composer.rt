@@ -174,6 +174,7 @@ impl Composer {
 
     /// A whole node stands in the innermost collection, and at its place among the anchored ones. The store
     /// has it, since before or as its last one.
+    #[inline(always)]
     fn put(&mut self, place: Option<usize>, id: u32) -> Result<(), GivesUp>
         ensures { (s : State) (before : Store) → Holds (with_store self.old before) s → Keeps before self.old.store → (a : Anchor) (slot : ℕ) (t : Tree) → Placed (names_of s.table) place a slot → Stands self.old.store id t →
             Comes (trees_of before) (trees_of self.old.store) t → IfOk result (λ _. Holds self.new (whole a slot t s)) }
@@ -212,6 +213,7 @@ impl Composer {
     }
 
     /// A scalar of this kind and content without an anchor.
+    #[inline(always)]
     fn put_kind(&mut self, kind: PlainKind, content: &str) -> Result<(), GivesUp>
         ensures { (s : State) → Holds self.old s → IfOk result (λ _. Holds self.new (whole None (length s.table) (scalar (kind_tag kind) content.now) s)) }
     {
@@ -222,6 +224,7 @@ impl Composer {
     }
 
     /// A plain scalar without properties.
+    #[inline(always)]
     fn put_plain(&mut self, alloc: Global, text: &str) -> Result<(), Stop>
         ensures { (s : State) → Holds self.old s → MatchResult result (λ _. Stepped (scalar_event None untagged plain text.now) s self.new) (Stops (scalar_event None untagged plain text.now) s) }
     {
@@ -237,6 +240,7 @@ impl Composer {
     }
 
     /// A scalar without properties.
+    #[inline(always)]
     fn put_bare(&mut self, alloc: Global, style: Style, text: &str) -> Result<(), Stop>
         ensures { (s : State) → Holds self.old s → MatchResult result (λ _. Stepped (scalar_event None untagged (style_of style) text.now) s self.new) (Stops (scalar_event None untagged (style_of style) text.now) s) }
     {
@@ -253,6 +257,7 @@ impl Composer {
     }
 
     /// A scalar with these properties.
+    #[inline(always)]
     pub(crate) fn scalar(
         &mut self,
         alloc: Global,

@@ -41,6 +41,7 @@ impl Judged {
     }
 
     /// The event of this number is a scalar with these properties.
+    #[inline(always)]
     pub(crate) fn scalar(
         &mut self,
         alloc: Global,

@@ -24,6 +24,10 @@ use yaml_sink::sink::{Collection, Keeper};
 use yaml_text::event::{Event, Style};
 use yaml_text::fault::Fault;
 
+/// How many bytes the content of an implicit key has at most, before which a mapping may begin later: 1024 characters (YAML 1.2.2,
+/// 7.4.2) of four.
+const LONGEST_KEY: usize = 4096;
+
 /// A reader's events, composed as they come. Where a node has no tree it goes on counting, and at the end it tells why. It gives up
 /// where a number does not fit, and where a collection gets properties that it did not know when it began, as those of a block
 /// mapping are whose first key is a collection. Then it says that there is no memory.
@@ -77,8 +81,24 @@ impl Composing {
         ensures { IfOk result (λ _. Puts Composes self.old (scalar_event None untagged (style_of style) text.now ∷ []) self.new) }
     {
         self.make_room()?;
-        self.waiting.put(Late::Scalar(style), text)?;
-        self.announced = None;
+        let due = mem::replace(&mut self.announced, None);
+        self.waiting.put(Late::Scalar(style), text, due)?;
+        Ok(())
+    }
+
+    /// Puts down a long scalar without properties. It is composed at once, with those that are announced, so that its text is copied
+    /// once.
+    #[inline(never)]
+    fn put_long(&mut self, style: Style, text: &str) -> Result<(), GivesUp>
+        ensures { IfOk result (λ _. Puts Composes self.old (scalar_event None untagged (style_of style) text.now ∷ []) self.new) }
+    {
+        let at = self.count;
+        self.make_room()?;
+        let given = match mem::replace(&mut self.announced, None) {
+            None => Properties::none(),
+            Some(owned) => owned.properties,
+        };
+        self.ahead.scalar_due(self.alloc, at, given, style, text)?;
         Ok(())
     }
 
@@ -87,7 +107,7 @@ impl Composing {
         ensures { IfOk result (λ _. Puts Composes self.old (alias_event name.now ∷ []) self.new) }
     {
         self.make_room()?;
-        self.waiting.put(Late::Alias, name)?;
+        self.waiting.put(Late::Alias, name, None)?;
         self.announced = None;
         Ok(())
     }
@@ -97,9 +117,8 @@ impl Composing {
         ensures { IfOk result (λ _. Puts Composes self.old (start_of collection flow ∷ []) self.new) }
     {
         self.make_room()?;
-        self.waiting.put(Late::Start(collection, flow), "")?;
-        let given = mem::replace(&mut self.announced, None);
-        self.waiting.owe(given);
+        let due = mem::replace(&mut self.announced, None);
+        self.waiting.put(Late::Start(collection, flow), "", due)?;
         Ok(())
     }
 
@@ -187,7 +206,7 @@ impl Composing {
         if self.waiting.stays(count, properties) {
             return Ok(());
         }
-        let copy = copy_of(self.alloc, properties)?;
+        let copy = self.waiting.copy_of(self.alloc, properties)?;
         self.waiting.dress(count, copy)?;
         Ok(())
     }
@@ -248,6 +267,10 @@ impl Keeper for Composing {
     }
 
     fn scalar(&mut self, style: Style, text: &str, _at: usize) -> Result<(), Fault> {
+        if text.len() > LONGEST_KEY {
+            self.put_long(style, text)?;
+            return Ok(());
+        }
         self.put_scalar(style, text)?;
         Ok(())
     }

@@ -7,7 +7,7 @@ ghost use Rattle.yaml_sink.specs.PropertyRules.{props_of};
 ghost use Rattle.yaml_compose.specs.WaitingModel.{late_event, start_before, waits, IsOne, PutsLate, ComposesWaits, Precedes, DressesWaits};
 
 use crate::ahead::Ahead;
-use crate::copies::Owned;
+use crate::copies::{Owned, are_same, copy_of};
 use std::alloc::Global;
 use std::mem;
 use yaml_compact::gives_up::GivesUp;
@@ -33,7 +33,7 @@ pub(crate) struct Waiting {
     text: String,
     /// What the event has of properties.
     own: Properties<'static>,
-    /// With which properties a collection is composed that has none yet.
+    /// What was announced of properties.
     due: Option<Owned>,
     /// Of the mapping's start, whether it is a flow mapping, and its properties.
     mapping: Option<bool>,
@@ -63,25 +63,19 @@ impl Waiting {
         matches!(self.late, Late::Nothing)
     }
 
-    /// This waits, without properties.
+    /// This waits, without properties. Those that are due, if there are any, were announced for it: a collection is composed with
+    /// them, unless it gets others before.
     #[inline(always)]
-    pub(crate) fn put(&mut self, late: Late, text: &str) -> Result<(), GivesUp>
+    pub(crate) fn put(&mut self, late: Late, text: &str, due: Option<Owned>) -> Result<(), GivesUp>
         ensures { IfOk result (λ _. waits self.new ≡ late_event late no_props text.now) }
     {
         self.text.clear();
         self.text.push_str(text)?;
         self.own = Properties::none();
-        self.due = None;
+        self.due = due;
         self.mapping = None;
         self.late = late;
         Ok(())
-    }
-
-    /// The collection that waits is composed with these properties, if there are any, unless it gets others before.
-    pub(crate) fn owe(&mut self, given: Option<Owned>)
-        ensures { waits self.new ≡ waits self.old }
-    {
-        self.due = given;
     }
 
     /// A mapping's start without properties waits before the event, where none does yet.
@@ -114,6 +108,24 @@ impl Waiting {
             return false;
         }
         properties.is_none()
+    }
+
+    /// A copy of properties: those that are due, where they are the same.
+    pub(crate) fn copy_of(
+        &mut self,
+        alloc: Global,
+        properties: &Properties<'_>,
+    ) -> Result<Properties<'static>, GivesUp>
+        ensures copy { IfOk result (λ copy. props_of copy ≡ props_of properties.now) }
+        ensures waits { waits self.new ≡ waits self.old }
+    {
+        if let Some(owned) = mem::replace(&mut self.due, None) {
+            let Owned { properties: given } = owned;
+            if are_same(&given, properties) {
+                return Ok(given);
+            }
+        }
+        copy_of(alloc, properties)
     }
 
     /// Puts properties on the first of the last so many events, which wait.
