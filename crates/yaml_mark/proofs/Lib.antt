@@ -12,3 +12,4 @@ pub mod DirectivesLemmas
 pub mod PrefixLemmas
 pub mod RefusalLemmas
 pub mod StartLemmas
+pub mod RunSpans

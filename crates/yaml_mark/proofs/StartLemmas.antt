@@ -1,6 +1,5 @@
 -- What stands at a border, by its byte, and what follows for the rest of a line.
-use Rattle.std.proofs.Common.{◌≡◌, ℕ, Bool, ◌+◌, ◌<◌, true, List, length, drop, get_or, refl, sym, arith}
-use Rattle.std.specs.Prelude.{slice_get}
+use Rattle.std.proofs.Common.{◌≡◌, ℕ, Bool, ◌<◌, true, List, length, drop, get_or, refl, sym, arith}
 use Rattle.std.specs.Int.{is_in_range}
 use Rattle.std.proofs.lemmas.Str.{IsUtf8-had}
 use Rattle.yaml_text.specs.declared.chars.Chars.{Chars}

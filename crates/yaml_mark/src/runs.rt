@@ -1,5 +1,5 @@
 //! Runs of characters of one class.
-ghost use Rattle.std.specs.Prelude.{◌≡◌, ◌≤◌, ◌<◌, IfSome, IfNone, ℕ};
+ghost use Rattle.std.specs.Prelude.{◌≡◌, ◌≤◌, ◌<◌, true, length, slice_index, IfSome, IfNone, ℕ};
 ghost use Rattle.std.specs.Bool.{OnTrue, OnFalse};
 ghost use Rattle.yaml_text.specs.Source.{text_of, place_of, IsBorder};
 ghost use Rattle.yaml_definitions.specs.grammar.Rules.{run, Stands, one, any_span};
@@ -27,6 +27,7 @@ pub(crate) enum Class {
 }
 
 impl Class {
+    #[inline(always)]
     #[tactic(auto, unfolding(yaml_definitions::specs::grammar::Tags::is_name, yaml_definitions::specs::grammar::Characters::is_tag))]
     fn has(self, c: char) -> bool
         ensures { result ≡ class_of self c }
@@ -39,6 +40,40 @@ impl Class {
             Class::Tag => is_uri(c) && c != '!' && !is_flow_indicator(c),
         }
     }
+
+    /// Whether a byte is an ASCII character of the class.
+    #[inline(always)]
+    fn has_ascii(self, byte: u8) -> bool
+        ensures ascii { result ≡ true → byte < 128 }
+        ensures has { result ≡ true → class_of self byte ≡ true }
+    {
+        byte.is_ascii() && self.has(byte as char)
+    }
+}
+
+/// How many bytes at the start are ASCII characters of a class.
+#[inline(always)]
+fn ascii_len(bytes: &[u8], class: Class) -> usize
+    ensures len { result ≤ length bytes.now }
+    ensures front { (k : ℕ) → k < result → (slice_index bytes.now k < 128) × (class_of class (slice_index bytes.now k) ≡ true) }
+{
+    for (at, byte) in bytes.iter().enumerate() {
+        if !class.has_ascii(*byte) {
+            return at;
+        }
+    }
+    bytes.len()
+}
+
+/// The border after the ASCII characters of a class that stand at a border, which are not decoded.
+#[inline(always)]
+fn skip_ascii(source: &Chars<'_>, at: usize, class: Class) -> usize
+    requires { IsBorder source.now at }
+    ensures border { IsBorder source.now result }
+    ensures onward { at ≤ result }
+    ensures run { run (text_of source.now) (class_of class) (place_of source.now at) (place_of source.now result) }
+{
+    at + ascii_len(source.rest(at).as_bytes(), class)
 }
 
 /// The border after the characters of a class that stand at a border.
@@ -49,7 +84,7 @@ pub(crate) fn skip_run(source: &Chars<'_>, at: usize, class: Class) -> usize
     ensures run { run (text_of source.now) (class_of class) (place_of source.now at) (place_of source.now result) }
     ensures furthest { Stands (text_of source.now) (class_of class) (place_of source.now result) → ⊥ }
 {
-    let mut here = at;
+    let mut here = skip_ascii(source, at, class);
     'run: loop {
         match next(source, here) {
             None => return here,
@@ -145,7 +180,7 @@ pub(crate) fn skip_escaped(source: &Chars<'_>, at: usize, class: Class) -> usize
     ensures spans { any_span (char_or_escape (text_of source.now) (class_of class)) (place_of source.now at) (place_of source.now result) }
     ensures furthest { (j : ℕ) → char_or_escape (text_of source.now) (class_of class) (place_of source.now result) j → ⊥ }
 {
-    let mut here = at;
+    let mut here = skip_ascii(source, at, class);
     'run: loop {
         match next_escaped(source, here, class) {
             None => return here,

@@ -1,10 +1,12 @@
-use Rattle.std.proofs.Common.{refl, arith}
-use Rattle.yaml_definitions.specs.grammar.Rules.{Spans}
+use Rattle.std.proofs.Common.{arith}
 use Rattle.yaml_text.proofs.Repeats.{spans_push}
+use Rattle.yaml_mark.proofs.RunSpans.{run_spans}
 use Rattle.yaml_mark.proofs.runs.skip_escaped.Goals as goal
 
 pub run-init : goal.run-init
-run-init c = record { border = c.requires; onward = omega arith; spans = Spans.done refl }
+run-init c =
+    let s = c.skip_ascii-here.ensures in
+    record { border = s.border; onward = s.onward; spans = run_spans _ _ _ _ s.run }
 
 pub run-preserved : goal.run-preserved
 run-preserved c =
