@@ -1,6 +1,7 @@
 //! Two keepers of the same events.
+use std::borrow::CowStr;
 use yaml_sink::properties::Properties;
-use yaml_sink::sink::{Collection, Keeper};
+use yaml_sink::sink::{Collection, Keeper, lend_scalar};
 use yaml_text::event::{Event, Style};
 use yaml_text::fault::Fault;
 
@@ -26,8 +27,8 @@ impl<A: Keeper, B: Keeper> Keeper for Two<A, B> {
         self.second.push(event, at)
     }
 
-    fn scalar(&mut self, style: Style, text: &str, at: usize) -> Result<(), Fault> {
-        self.first.scalar(style, text, at)?;
+    fn scalar(&mut self, style: Style, text: &mut CowStr<'_>, at: usize) -> Result<(), Fault> {
+        lend_scalar(&mut self.first, style, text.as_str(), at)?;
         self.second.scalar(style, text, at)
     }
 

@@ -19,6 +19,7 @@ ghost use Rattle.yaml_event_lines.specs.Slots.{props_text};
 use crate::slot::{Slot, slot_in};
 use crate::starts::{move_behind, move_from};
 use std::alloc::Global;
+use std::borrow::CowStr;
 use yaml_events::{push_line, push_properties, push_scalar_line};
 use yaml_read::read_into;
 use yaml_sink::properties::Properties;
@@ -245,9 +246,9 @@ impl Keeper for Lines {
         push_line(event, &mut self.text)
     }
 
-    fn scalar(&mut self, style: Style, text: &str, _at: usize) -> Result<(), Fault> {
+    fn scalar(&mut self, style: Style, text: &mut CowStr<'_>, _at: usize) -> Result<(), Fault> {
         self.begin_line()?;
-        push_scalar_line(style, text, &mut self.text)
+        push_scalar_line(style, text.as_str(), &mut self.text)
     }
 
     fn begin(&mut self, collection: Collection, flow: bool, _at: usize) -> Result<(), Fault> {

@@ -13,6 +13,7 @@ ghost use Rattle.yaml_read.specs.Counts.{content_of, CountHolds, Grows};
 
 use crate::stream::read_into;
 use std::alloc::Global;
+use std::borrow::CowStr;
 use yaml_sink::properties::Properties;
 use yaml_sink::sink::{Collection, Keeper, Sink};
 use yaml_text::chars::Chars;
@@ -78,8 +79,8 @@ impl Keeper for Counter {
         self.grow(content_len(event))
     }
 
-    fn scalar(&mut self, _style: Style, text: &str, _at: usize) -> Result<(), Fault> {
-        self.grow(text.len())
+    fn scalar(&mut self, _style: Style, text: &mut CowStr<'_>, _at: usize) -> Result<(), Fault> {
+        self.grow(text.as_str().len())
     }
 
     fn begin(&mut self, _collection: Collection, _flow: bool, _at: usize) -> Result<(), Fault> {

@@ -2,6 +2,7 @@
 ghost use Rattle.std.specs.Prelude.{◌≡◌, IfOk, IfErr};
 
 use std::alloc::Global;
+use std::borrow::CowStr;
 use yaml_read::read_into;
 use yaml_sink::properties::Properties;
 use yaml_sink::sink::{Collection, Keeper, Sink};
@@ -260,7 +261,7 @@ impl Keeper for Trace {
         self.note_name(number, event)
     }
 
-    fn scalar(&mut self, _style: Style, _text: &str, at: usize) -> Result<(), Fault> {
+    fn scalar(&mut self, _style: Style, _text: &mut CowStr<'_>, at: usize) -> Result<(), Fault> {
         self.put(Shape::Scalar, at)
     }
 

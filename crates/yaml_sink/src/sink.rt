@@ -39,9 +39,9 @@ pub trait Keeper {
         ensures ok { IfOk result (λ _. Puts holds self.old (event_of event.now ∷ []) self.new) }
         ensures err { IfErr result (λ e. e ≡ OutOfMemory) };
 
-    /// Puts down a scalar without properties.
-    fn scalar(&mut self, style: Style, text: &str, at: usize) -> Result<(), Fault>
-        ensures ok { IfOk result (λ _. Puts holds self.old (scalar_event None untagged (style_of style) text.now ∷ []) self.new) }
+    /// Puts down a scalar without properties. Its text may be taken.
+    fn scalar(&mut self, style: Style, text: &mut CowStr<'_>, at: usize) -> Result<(), Fault>
+        ensures ok { IfOk result (λ _. Puts holds self.old (scalar_event None untagged (style_of style) (cow_str_bytes text.old) ∷ []) self.new) }
         ensures err { IfErr result (λ e. e ≡ OutOfMemory) };
 
     /// Puts down the start of a collection without properties.
@@ -70,6 +70,20 @@ pub trait Keeper {
     /// Takes back what was put down since a mark.
     fn cut(&mut self, start: usize)
         ensures { Alters holds start (λ _. []) self.old self.new };
+}
+
+/// Puts down a scalar without properties, whose text stays where it is.
+pub fn lend_scalar<K: Keeper>(
+    keeper: &mut K,
+    style: Style,
+    text: &str,
+    at: usize,
+) -> Result<(), Fault>
+    ensures ok { IfOk result (λ _. Puts K.holds keeper.old (scalar_event None untagged (style_of style) text.now ∷ []) keeper.new) }
+    ensures err { IfErr result (λ e. e ≡ OutOfMemory) }
+{
+    let mut lent = CowStr::Borrowed(text);
+    keeper.scalar(style, &mut lent, at)
 }
 
 /// Where a reader's events go: a list, or what keeps them in a form of its own, or both.
@@ -102,7 +116,7 @@ impl<'a, K: Keeper> Beside<'a, K> {
         ensures ok { IfOk result (λ _. Puts (HeldBeside K.holds) self.old (scalar_event None untagged (style_of style) (cow_str_bytes text.entry) ∷ []) self.new) }
         ensures err { IfErr result (λ e. e ≡ OutOfMemory) }
     {
-        self.keeper.scalar(style, text.as_str(), at)?;
+        lend_scalar(&mut self.keeper, style, text.as_str(), at)?;
         self.list.scalar(style, text)
     }
 
@@ -188,7 +202,10 @@ impl<'a, K: Keeper> Sink<'a, K> {
     {
         match self {
             Sink::Listed(list) => list.scalar(style, text),
-            Sink::Kept(keeper) => keeper.scalar(style, text.as_str(), at),
+            Sink::Kept(keeper) => {
+                let mut text = text;
+                keeper.scalar(style, &mut text, at)
+            }
             Sink::Both(both) => both.scalar(style, text, at),
         }
     }
@@ -280,7 +297,7 @@ impl Keeper for Unkept {
         Err(Fault::OutOfMemory)
     }
 
-    fn scalar(&mut self, _style: Style, _text: &str, _at: usize) -> Result<(), Fault> {
+    fn scalar(&mut self, _style: Style, _text: &mut CowStr<'_>, _at: usize) -> Result<(), Fault> {
         Err(Fault::OutOfMemory)
     }
 
