@@ -2,7 +2,6 @@
 use Rattle.std.proofs.Common.{◌≡◌, ℕ, zero, suc, ◌+◌, ◌<◌, ◌≤◌, List, [], ◌∷◌, ◌++◌, length, map, take, get_or, sym, ◌∙◌, ap, subst, arith}
 use Rattle.std.specs.Prelude.{Some}
 use Rattle.std.specs.List.{slice_get, All}
-use Rattle.std.specs.String.{string_bytes}
 use Rattle.std.proofs.Math.Seq.{take-suc}
 use Rattle.std.proofs.lemmas.Option.{get_or_from_slice_get}
 use Rattle.std.proofs.lemmas.List.{ext_get_or, get_or-map, length-map, map-append, take_all}
@@ -20,6 +19,7 @@ use Rattle.yaml_levels.proofs.Numbering.{get-within}
 use Rattle.yaml_levels.proofs.LevelLaws.{get-some}
 use Rattle.yaml_compact.specs.declared.nodes.Node.{Node}
 use Rattle.yaml_compact.specs.declared.store.Store.{Store}
+use Rattle.yaml_compact.specs.TextModel.{text_of}
 use Rattle.yaml_compact.specs.StoreModel.{place_of, node_held, Within}
 use Rattle.yaml_compact.specs.StoreGrows.{Good, IsLow, tags_of, trees_of}
 use Rattle.yaml_compact.specs.StoreView.{inside_at, stored-below}
@@ -51,12 +51,12 @@ parts-below k (kinds.Sequence is) b = (unmap number (λ i. i < k) is.items b.0, 
 parts-below k (kinds.Mapping es) b = (λ j d l. absurd (omega arith), unmap numbers (λ p. (p.0 < k) × (p.1 < k)) es.items b.1)
 
 -- where a node stands
-pub placed-within : (s : Store) → Good s → (i : ℕ) (n : Node) → slice_get s.nodes.items i ≡ Some n → Within (length (string_bytes s.text)) (length s.items.items) (length s.entries.items) (place_of n) × (n.tag < length (tags_of s))
-placed-within s good i n e = let p = good.placed i n e in (within-from (length (string_bytes s.text)) (length s.items.items) (length s.entries.items) (place_of n) p.0 p.1, p.2)
+pub placed-within : (s : Store) → Good s → (i : ℕ) (n : Node) → slice_get s.nodes.items i ≡ Some n → Within (length (text_of s.text)) (length s.items.items) (length s.entries.items) (place_of n) × (n.tag < length (tags_of s))
+placed-within s good i n e = let p = good.placed i n e in (within-from (length (text_of s.text)) (length s.items.items) (length s.entries.items) (place_of n) p.0 p.1, p.2)
 
 -- a node as it is held
 abbrev pub held : Store → Node → Held
-held s n = node_held (string_bytes s.text) s.items.items s.entries.items (tags_of s) n
+held s n = node_held (text_of s.text) s.items.items s.entries.items (tags_of s) n
 
 abbrev pub high : Node → ℕ
 high n = n.height
@@ -71,13 +71,13 @@ module _ (s : Store) (good : Good s) (nodes : List graph.Node) (same : map held_
   pub grounded : Grounded nodes
   grounded k n e =
       let m = get-unmap (held s) s.nodes.items k (held_of n) (subst (λ xs. slice_get xs k ≡ Some (held_of n)) same (get-map held_of nodes k n e)) in
-      let below = stored-below s.nodes.items (string_bytes s.text) s.items.items s.entries.items (tags_of s) good.below k (get-within s.nodes.items k m.0 m.1) in
-      parts-below k n.kind (subst (λ (h : Held). InsideBelow k h.1) m.2 (subst (λ o. InsideBelow k (inside_at (string_bytes s.text) s.items.items s.entries.items o)) m.1 below))
+      let below = stored-below s.nodes.items (text_of s.text) s.items.items s.entries.items (tags_of s) good.below k (get-within s.nodes.items k m.0 m.1) in
+      parts-below k n.kind (subst (λ (h : Held). InsideBelow k h.1) m.2 (subst (λ o. InsideBelow k (inside_at (text_of s.text) s.items.items s.entries.items o)) m.1 below))
 
   pub measured : IsLow s → (heights : List ℕ) → heights ≡ map high s.nodes.items → heights ≡ map height (trees_in nodes)
   measured low heights e =
       let ts = trees_of s in
-      let count = trees-count s.nodes.items (string_bytes s.text) s.items.items s.entries.items (tags_of s) in
+      let count = trees-count s.nodes.items (text_of s.text) s.items.items s.entries.items (tags_of s) in
       let n : length heights ≡ length s.nodes.items = ap length e ∙ length-map s.nodes.items high in
       ext_get_or 0 heights (map height ts) (omega (arith, n, count, length-map ts height)) (λ i l.
       let m = get-some s.nodes.items i (omega (arith, l, n)) in

@@ -2,7 +2,6 @@
 use Rattle.std.proofs.Common.{◌≡◌, ◌⊎◌, inl, inr, ℕ, zero, suc, min, ◌+◌, ◌-◌, ◌<◌, ◌≤◌, true, List, [], ◌∷◌, ◌++◌, length, map, take, drop, get_or, refl, sym, ◌∙◌, ap, subst, arith, length-append, length-drop}
 use Rattle.std.specs.Prelude.{Some}
 use Rattle.std.specs.List.{slice_get, slice_range}
-use Rattle.std.specs.String.{string_bytes}
 use Rattle.std.proofs.lemmas.List.{take_all, take-append-le, drop-append-le, drop_at, map-append, length-map, get_or_append_left}
 use Rattle.std.proofs.lemmas.Option.{get_or_from_slice_get}
 use Rattle.yaml_definitions.specs.model.Limits.{height_limit}
@@ -20,13 +19,14 @@ use Rattle.yaml_compact.specs.declared.nodes.Node.{Node}
 use Rattle.yaml_compact.specs.declared.nodes.Place.{Place}
 use Rattle.yaml_compact.specs.declared.nodes.Place.TheVariants.{Scalar, Sequence, Mapping}
 use Rattle.yaml_compact.specs.declared.store.Store.{Store}
+use Rattle.yaml_compact.specs.TextModel.{text_of}
 use Rattle.yaml_compact.specs.StoreModel.{place_of, inside_of, tag_at, node_held, trees_stored, start_of, end_of, room_of, share, AllPlaced, PartsInOrder, AllBelow, AllMeasured}
 use Rattle.yaml_compact.specs.StoreGrows.{IsText, Sound, Good, IsLow, tags_of, trees_of}
 use Rattle.yaml_compact.specs.StoreView.{tag_in, inside_at, stored-made}
 
 -- ---- lists that grow at their end
 
-range-grown : {X : Type 0} (xs more : List X) (a b : ℕ) → a ≤ b → b ≤ length xs → slice_range (xs ++ more) a b ≡ slice_range xs a b
+pub range-grown : {X : Type 0} (xs more : List X) (a b : ℕ) → a ≤ b → b ≤ length xs → slice_range (xs ++ more) a b ≡ slice_range xs a b
 range-grown xs more a b l m =
     let n : a ≤ length xs = omega arith in
     ap (take (b - a)) (drop-append-le a xs more n) ∙ take-append-le (b - a) (drop a xs) more (omega (arith, length-drop a xs))
@@ -166,7 +166,7 @@ high-at s good i n a t e = good.measured i n a ∙ ap cut (get_or_from_slice_get
 pub uncut-at : (s : Store) → Good s → IsLow s → (i : ℕ) (n : Node) → slice_get s.nodes.items i ≡ Some n → (n.height ≡ height (tree_at (trees_of s) i)) × (n.height ≤ height_limit)
 uncut-at s good low i n a =
     let ts = trees_of s in
-    let there = get-there ts i (scalar [] []) (omega (arith, get-within s.nodes.items i n a, trees-count s.nodes.items (string_bytes s.text) s.items.items s.entries.items (tags_of s))) in
+    let there = get-there ts i (scalar [] []) (omega (arith, get-within s.nodes.items i n a, trees-count s.nodes.items (text_of s.text) s.items.items s.entries.items (tags_of s))) in
     let l = low i (tree_at ts i) there in
     let q = high-at s good i n a (tree_at ts i) there in
     (omega arith, omega arith)
@@ -174,7 +174,7 @@ uncut-at s good low i n a =
 -- nodes of which none is too high
 pub low-from : (s : Store) → Good s → ((i : ℕ) (n : Node) → slice_get s.nodes.items i ≡ Some n → n.height ≤ height_limit) → IsLow s
 low-from s good low i t e =
-    let count = trees-count s.nodes.items (string_bytes s.text) s.items.items s.entries.items (tags_of s) in
+    let count = trees-count s.nodes.items (text_of s.text) s.items.items s.entries.items (tags_of s) in
     let n = get-some s.nodes.items i (omega (arith, get-within (trees_of s) i t e, count)) in
     let l = low i n.0 n.1 in
     let q = high-at s good i n.0 n.1 t e in

@@ -16,13 +16,14 @@ use Rattle.yaml_levels.specs.View.{content, items, entries, inside_tree}
 use Rattle.yaml_levels.specs.Insides.{trees_held}
 use Rattle.yaml_compact.specs.declared.memo.Memo.{Memo}
 use Rattle.yaml_compact.specs.declared.nodes.Node.{Node}
+use Rattle.yaml_compact.specs.declared.nodes.Span.{Span}
 use Rattle.yaml_compact.specs.declared.nodes.Kind.{Kind}
 use Rattle.yaml_compact.specs.declared.nodes.Kind.TheVariants as kinds
 use Rattle.yaml_compact.specs.declared.nodes.Place.{Place}
 use Rattle.yaml_compact.specs.declared.nodes.Place.TheVariants.{Scalar, Sequence, Mapping}
 use Rattle.yaml_compact.specs.declared.store.Store.{Store}
 use Rattle.yaml_compact.specs.declared.tag_numbers.TagNumbers.{TagNumbers}
-use Rattle.yaml_compact.specs.StoreModel.{place, place_of, inside_of, tag_at, parts_at, node_held, trees_stored, room_of, share, start_of, end_of, AllPlaced}
+use Rattle.yaml_compact.specs.StoreModel.{SpanWithin, place, place_of, inside_of, tag_at, parts_at, node_held, trees_stored, room_of, share, start_of, end_of, AllPlaced}
 use Rattle.yaml_compact.specs.StoreGrows.{Sound, Good, Keeps, tags_of, trees_of}
 use Rattle.yaml_compact.proofs.Growing.{Grown, one-more, range-new, trees-count, stands-at}
 use Rattle.yaml_compact.proofs.Parts.{paired-map, paired-below, even-pairs}
@@ -48,15 +49,15 @@ module _ (tags : List (List ℕ)) (text is : List ℕ) (es : List (ℕ × ℕ)) 
   abbrev ts : List Tree
   ts = trees_stored nodes text is es tags
 
-  pub scalar-more : (tag start end : ℕ) (x text2 : List ℕ) (nodes2 : List Node) → tag < length tags → start ≡ length text → end ≡ length text2 → text2 ≡ text ++ x → IsUtf8 x
-      → nodes2 ≡ nodes ++ ((record { kind = kinds.Scalar; tag = tag; height = 0; span = record { start = start; end = end } }) ∷ []) → length nodes2 < 4294967296 → Grown tags text2 is es nodes2 ts (scalar (tag_at tags tag) x)
-  scalar-more tag start end x text2 nodes2 tagged a b e utf8 q few =
-      let n : Node = record { kind = kinds.Scalar; tag = tag; height = 0; span = record { start = start; end = end } } in
-      let last : end ≡ length (text ++ x) = b ∙ ap length e in
-      one-more tags text x is [] es [] nodes old n tagged (omega (arith, length-append text x)) (omega arith) (λ t h. absurd (alone t h))
-      (λ j d l. absurd (omega arith), λ j d l. absurd (omega arith)) (content x) (ap content (range-new text x start end a last)) utf8 refl (omega (arith, ap length q)) text2 is es nodes2 e (sym (append-nil is)) (sym (append-nil es)) q
+  pub scalar-more : (tag : ℕ) (span : Span) (x text2 more : List ℕ) (nodes2 : List Node) → tag < length tags → SpanWithin (length text2) span → text2 ≡ text ++ more → slice_range text2 span.start span.end ≡ x → IsUtf8 x
+      → nodes2 ≡ nodes ++ ((record { kind = kinds.Scalar; tag = tag; height = 0; span = span }) ∷ []) → length nodes2 < 4294967296 → Grown tags text2 is es nodes2 ts (scalar (tag_at tags tag) x)
+  scalar-more tag span x text2 more nodes2 tagged within e there utf8 q few =
+      let n : Node = record { kind = kinds.Scalar; tag = tag; height = 0; span = span } in
+      let room : span.end ≤ length (text ++ more) = subst (λ z. span.end ≤ length z) e within.1 in
+      one-more tags text more is [] es [] nodes old n tagged within.0 room (λ t h. absurd (alone t h))
+      (λ j d l. absurd (omega arith), λ j d l. absurd (omega arith)) (content x) (ap content (subst (λ z. slice_range z span.start span.end ≡ x) e there)) utf8 refl (omega (arith, ap length q)) text2 is es nodes2 e (sym (append-nil is)) (sym (append-nil es)) q
     where
-      alone : (t : Place) → share t (Scalar (record { start = start; end = end })) ≡ true → ⊥
+      alone : (t : Place) → share t (Scalar span) ≡ true → ⊥
       alone (Scalar u) h = cc
       alone (Sequence u) h = cc
       alone (Mapping u) h = cc

@@ -3,7 +3,6 @@ use Rattle.std.proofs.Common.{◌≡◌, inl, inr, ℕ, ◌≤◌, true, List, V
 use Rattle.std.specs.declared.cmp.Ordering.{Ordering}
 use Rattle.std.specs.declared.cmp.Ordering.TheVariants.{Less, Equal, Greater}
 use Rattle.std.specs.Ordering.{nat_cmp}
-use Rattle.std.specs.String.{string_bytes}
 use Rattle.std.specs.Vec.{with_items}
 use Rattle.std.proofs.lemmas.List.{with_items_is}
 use Rattle.yaml_definitions.specs.model.Order.{bytes_cmp}
@@ -13,6 +12,7 @@ use Rattle.yaml_compact.specs.declared.nodes.Place.{Place}
 use Rattle.yaml_compact.specs.declared.nodes.Place.TheVariants.{Scalar, Sequence, Mapping}
 use Rattle.yaml_compact.specs.declared.nodes.Node.{Node}
 use Rattle.yaml_compact.specs.declared.store.Store.{Store}
+use Rattle.yaml_compact.specs.TextModel.{text_of, border, AllWhole}
 use Rattle.yaml_compact.specs.StoreModel.{place_of, Within, Apart, PlacesApart, PartsInOrder, start_of, end_of, room_of, share}
 use Rattle.yaml_compact.specs.StoreGrows.{Good, IsLow, tags_of}
 use Rattle.yaml_compact.specs.Ranking.{Stored, AllRanked}
@@ -55,14 +55,14 @@ all-apart nodes order i j k l n a b = by (nat_cmp i j) refl
     by Equal e = absurd (n (equal-cmp i j e))
     by Greater e = apart-sym (place_of l) (place_of k) (apart-from (place_of l) (place_of k) (order j i l k (greater-cmp i j e) b a))
 
-pub stored : (s : Store) (good : Good s) → IsLow s → (places : List ℕ) → PlacesAre (tags_of s) places → Stored (view_of s good) s.nodes.items (string_bytes s.text) s.items.items s.entries.items places
+pub stored : (s : Store) (good : Good s) → IsLow s → (places : List ℕ) → PlacesAre (tags_of s) places → Stored (view_of s good) s.nodes.items (text_of s.text) s.items.items s.entries.items places
 stored s good low places are = record {
   count = refl;
   few = good.few;
-  within = λ i k e. let p = good.placed i k e in (within-from (length (string_bytes s.text)) (length s.items.items) (length s.entries.items) (place_of k) p.0 p.1, (let q = p.2 in let l = are.long in omega arith));
+  within = λ i k e. let p = good.placed i k e in (within-from (length (text_of s.text)) (length s.items.items) (length s.entries.items) (place_of k) p.0 p.1, (let q = p.2 in let l = are.long in omega arith));
   small = are.small;
   apart = all-apart s.nodes.items good.apart;
-  inside = λ i k e. ap (inside_at (string_bytes s.text) s.items.items s.entries.items) e;
+  inside = λ i k e. ap (inside_at (text_of s.text) s.items.items s.entries.items) e;
   high = λ i k e. (uncut-at s good low i k e).0;
   placed = λ i j k l a b.
       are.agree k.tag l.tag (good.placed i k a).2 (good.placed j l b).2
@@ -70,10 +70,10 @@ stored s good low places are = record {
 }
 
 -- the same, of lists that are those of the store
-pub stored-as : (s : Store) (good : Good s) → IsLow s → (are : List ℕ) → PlacesAre (tags_of s) are → (nodes : List Node) (text is : List ℕ) (es : List (ℕ × ℕ)) (places : List ℕ) → nodes ≡ s.nodes.items → text ≡ string_bytes s.text → is ≡ s.items.items → es ≡ s.entries.items → places ≡ are → Stored (view_of s good) nodes text is es places
+pub stored-as : (s : Store) (good : Good s) → IsLow s → (are : List ℕ) → PlacesAre (tags_of s) are → (nodes : List Node) (text is : List ℕ) (es : List (ℕ × ℕ)) (places : List ℕ) → nodes ≡ s.nodes.items → text ≡ text_of s.text → is ≡ s.items.items → es ≡ s.entries.items → places ≡ are → Stored (view_of s good) nodes text is es places
 stored-as s good low are p nodes text is es places a b c d e =
-    subst (λ z. Stored (view_of s good) z text is es places) (sym a) (subst (λ z. Stored (view_of s good) s.nodes.items z is es places) (sym b) (subst (λ z. Stored (view_of s good) s.nodes.items (string_bytes s.text) z es places) (sym c)
-    (subst (λ z. Stored (view_of s good) s.nodes.items (string_bytes s.text) s.items.items z places) (sym d) (subst (Stored (view_of s good) s.nodes.items (string_bytes s.text) s.items.items s.entries.items) (sym e) (stored s good low are p)))))
+    subst (λ z. Stored (view_of s good) z text is es places) (sym a) (subst (λ z. Stored (view_of s good) s.nodes.items z is es places) (sym b) (subst (λ z. Stored (view_of s good) s.nodes.items (text_of s.text) z es places) (sym c)
+    (subst (λ z. Stored (view_of s good) s.nodes.items (text_of s.text) s.items.items z places) (sym d) (subst (Stored (view_of s good) s.nodes.items (text_of s.text) s.items.items s.entries.items) (sym e) (stored s good low are p)))))
 
 pub ranked-as : (v : View) (nodes nodes2 : List Node) (text text2 is is2 : List ℕ) (es es2 : List (ℕ × ℕ)) (ranks first : List ℕ) → AllRanked v nodes text is es ranks first → nodes ≡ nodes2 → text ≡ text2 → is ≡ is2 → es ≡ es2 → AllRanked v nodes2 text2 is2 es2 ranks first
 ranked-as v nodes nodes2 text text2 is is2 es es2 ranks first r a b c d =
@@ -81,10 +81,11 @@ ranked-as v nodes nodes2 text text2 is is2 es es2 ranks first r a b c d =
 
 -- what is kept of the lists of a store, once they are ranked, whatever is kept beside
 pub listed-as : (s : Store) (good : Good s) → IsLow s → (are : List ℕ) → PlacesAre (tags_of s) are → (nodes : List Node) (text is is2 : List ℕ) (es es2 : List (ℕ × ℕ)) (places : List ℕ) (ranks first : Vec ℕ Global) (shorts : Vec ℕ Global)
-    → nodes ≡ s.nodes.items → text ≡ string_bytes s.text → is ≡ s.items.items → es ≡ s.entries.items → places ≡ are → length is2 ≡ length is → length es2 ≡ length es
+    → nodes ≡ s.nodes.items → text ≡ text_of s.text → is ≡ s.items.items → es ≡ s.entries.items → places ≡ are → length is2 ≡ length is → length es2 ≡ length es
+    → AllWhole (border s.text) s.nodes.items
     → (Stored (view_of s good) nodes text is es places → AllRanked (view_of s good) nodes text is2 es2 ranks.items first.items)
     → StoreListed s good record { tags = s.tags; text = s.text; items = with_items s.items is2; entries = with_items s.entries es2; nodes = s.nodes; ranks = ranks; first = first; shorts = shorts }
-listed-as s good low are p nodes text is is2 es es2 places ranks first shorts a b c d e long wide ranked =
+listed-as s good low are p nodes text is is2 es es2 places ranks first shorts a b c d e long wide whole ranked =
     let m : length is2 ≡ length s.items.items = long ∙ ap length c in
     let n : length es2 ≡ length s.entries.items = wide ∙ ap length d in
     let f : (with_items s.items is2).items ≡ is2 = with_items_is s.items is2 (omega (arith, m, s.items.ok.0)) in
@@ -92,6 +93,7 @@ listed-as s good low are p nodes text is is2 es es2 places ranks first shorts a 
     record {
       nodes = refl;
       text = refl;
+      whole = whole;
       tags = refl;
       ranked = ranked-as (view_of s good) _ _ _ _ _ _ _ _ _ _ (ranked (stored-as s good low are p nodes text is es places a b c d e)) a b (sym f) (sym g);
     }

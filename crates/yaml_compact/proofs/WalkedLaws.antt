@@ -27,6 +27,7 @@ use Rattle.yaml_compact.specs.declared.nodes.Node.{Node}
 use Rattle.yaml_compact.specs.declared.nodes.Place.{Place}
 use Rattle.yaml_compact.specs.declared.nodes.Place.TheVariants.{Scalar}
 use Rattle.yaml_compact.specs.declared.nodes.Span.{Span}
+use Rattle.yaml_compact.specs.TextModel.{text_of, border, IsWhole, PlaceWhole}
 use Rattle.yaml_compact.specs.StoreModel.{place_of, inside_of, tag_at, Within}
 use Rattle.yaml_compact.specs.StoreGrows.{Good, IsText, tags_of}
 use Rattle.yaml_compact.specs.StoreView.{tree_of, tag_in, inside_at, view_of, short_at, StoreListed, StoreRanked}
@@ -101,7 +102,7 @@ module _ (s : Store) (good : Good s) (c : Ranked) (are : StoreListed s good c) w
       let v : View = view_of s good in
       let k : i < v.count = subst (λ n. i < n) are.ranked.long l in
       let w : slice_index (ranks_of c) i < N = are.ranked.within i k in
-      (w, walked-is (slice_index (ranks_of c) i) w ∙ first-tree v c.nodes.items (string_bytes c.text) c.items.items c.entries.items c.ranks.items c.first.items (sym (ap length are.nodes)) are.ranked i k)
+      (w, walked-is (slice_index (ranks_of c) i) w ∙ first-tree v c.nodes.items (text_of c.text) c.items.items c.entries.items c.ranks.items c.first.items (sym (ap length are.nodes)) are.ranked i k)
 
   pub taken-within : (nodes : List ℕ) → All (λ i. i < length (ranks_of c)) nodes → All (λ r. r < N) (map (slice_index (ranks_of c)) nodes)
   taken-within nodes all = All-map (λ r. r < N) (slice_index (ranks_of c)) nodes (λ k d l. (node-ranked (get_or nodes k d) (all k d l)).0)
@@ -168,18 +169,22 @@ module _ (s : Store) (good : Good s) (c : Ranked) (are : StoreListed s good c) w
         let k : length (tags_of s) ≡ length c.tags.items = ap length (sym are.tags) ∙ length-map c.tags.items string_bytes in
         omega (arith, t, k)
 
-    pub place-within : Within (length (string_bytes c.text)) (length c.items.items) (length c.entries.items) (place_of n)
+    pub place-within : Within (length (text_of c.text)) (length c.items.items) (length c.entries.items) (place_of n)
     place-within = are.ranked.placed i n there
 
     -- a content is text
-    pub content-text : (p : Span) → Scalar p ≡ place_of n → IsUtf8 (slice_range (string_bytes c.text) p.start p.end)
-    content-text p b = subst (λ t. IsUtf8 (slice_range t p.start p.end)) (sym are.text) (subst (λ q. IsText (inside_of (string_bytes s.text) s.items.items s.entries.items q)) (sym b) (good.texts i n (subst (λ z. slice_get z i ≡ Some n) are.nodes there)))
+    pub content-text : (p : Span) → Scalar p ≡ place_of n → IsUtf8 (slice_range (text_of c.text) p.start p.end)
+    content-text p b = subst (λ t. IsUtf8 (slice_range t p.start p.end)) (sym are.text) (subst (λ q. IsText (inside_of (text_of s.text) s.items.items s.entries.items q)) (sym b) (good.texts i n (subst (λ z. slice_get z i ≡ Some n) are.nodes there)))
+
+    -- and stands in one part of the text
+    pub content-whole : (p : Span) → Scalar p ≡ place_of n → IsWhole (border c.text) p
+    content-whole p b = subst (PlaceWhole (border c.text)) (sym b) (are.whole i n there)
 
     pub tag-shown : (x : List ℕ) → x ≡ tag_at (map string_bytes c.tags.items) n.tag → x ≡ rank_tag c r
     tag-shown x a = a ∙ sym (ap (tag_in (map string_bytes c.tags.items)) node-at)
 
-    pub inside-shown : (p : Place) → p ≡ place_of n → inside_of (string_bytes c.text) c.items.items c.entries.items p ≡ rank_inside c r
-    inside-shown p a = ap (inside_of (string_bytes c.text) c.items.items c.entries.items) a ∙ sym (ap (inside_at (string_bytes c.text) c.items.items c.entries.items) node-at)
+    pub inside-shown : (p : Place) → p ≡ place_of n → inside_of (text_of c.text) c.items.items c.entries.items p ≡ rank_inside c r
+    inside-shown p a = ap (inside_of (text_of c.text) c.items.items c.entries.items) a ∙ sym (ap (inside_at (text_of c.text) c.items.items c.entries.items) node-at)
 
   -- what shows a rank's tag and what is inside it shows its tree, and ranks below their number
   module _ {I : Type 0} (number : I → ℕ) (r : ℕ) (tag : List ℕ) (x : Inside I) (l : r < N) (is : tag ≡ rank_tag c r) (inside : inside_shown number x ≡ rank_inside c r) where

@@ -9,6 +9,7 @@ use Rattle.yaml_levels.specs.View.{View, Inside}
 use Rattle.yaml_compact.specs.declared.store.Store.{Store}
 use Rattle.yaml_compact.specs.declared.ranking.Ranked.{Ranked}
 use Rattle.yaml_compact.specs.StoreGrows.{Good}
+use Rattle.yaml_compact.specs.TextModel.{text_of}
 use Rattle.yaml_compact.specs.StoreView.{tree_of, tag_in, inside_at, StoreRanked}
 
 abbrev pub first_of : Ranked → ℕ → ℕ
@@ -19,7 +20,7 @@ rank_tag c r = tag_in (map string_bytes c.tags.items) (slice_get c.nodes.items (
 
 -- what is inside a rank: its content, or its parts by rank
 abbrev pub rank_inside : Ranked → ℕ → Inside
-rank_inside c r = inside_at (string_bytes c.text) c.items.items c.entries.items (slice_get c.nodes.items (first_of c r))
+rank_inside c r = inside_at (text_of c.text) c.items.items c.entries.items (slice_get c.nodes.items (first_of c r))
 
 -- the arranged tree of the node that stands for a rank
 abbrev pub rank_tree : Store → Ranked → ℕ → Tree

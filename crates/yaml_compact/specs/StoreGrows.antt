@@ -8,6 +8,7 @@ use Rattle.yaml_definitions.specs.model.Tree.{Tree, height}
 use Rattle.yaml_levels.specs.View.{Inside, content, items, entries}
 use Rattle.yaml_compact.specs.declared.nodes.Node.{Node}
 use Rattle.yaml_compact.specs.declared.store.Store.{Store}
+use Rattle.yaml_compact.specs.TextModel.{text_of}
 use Rattle.yaml_compact.specs.StoreModel.{place_of, inside_of, trees_stored, AllPlaced, PartsInOrder, AllBelow, AllMeasured}
 
 -- a content is text
@@ -30,11 +31,11 @@ abbrev pub tags_of : Store → List (List ℕ)
 tags_of s = map string_bytes s.tags.items
 
 abbrev pub Good : Store → Type 0
-Good s = Sound (tags_of s) (string_bytes s.text) s.items.items s.entries.items s.nodes.items
+Good s = Sound (tags_of s) (text_of s.text) s.items.items s.entries.items s.nodes.items
 
 -- each node's tree, in order
 abbrev pub trees_of : Store → List Tree
-trees_of s = trees_stored s.nodes.items (string_bytes s.text) s.items.items s.entries.items (tags_of s)
+trees_of s = trees_stored s.nodes.items (text_of s.text) s.items.items s.entries.items (tags_of s)
 
 -- no node stands for a tree that is higher than the limit
 abbrev pub IsLow : Store → Type 0

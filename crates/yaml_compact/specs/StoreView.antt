@@ -17,6 +17,7 @@ use Rattle.yaml_compact.specs.declared.nodes.Place.{Place}
 use Rattle.yaml_compact.specs.declared.nodes.Place.TheVariants.{Scalar, Sequence, Mapping}
 use Rattle.yaml_compact.specs.declared.store.Store.{Store}
 use Rattle.yaml_compact.specs.declared.ranking.Ranked.{Ranked}
+use Rattle.yaml_compact.specs.TextModel.{text_of, border, AllWhole}
 use Rattle.yaml_compact.specs.StoreModel.{place_of, inside_of, tag_at, node_held, trees_stored, AllBelow}
 use Rattle.yaml_compact.specs.StoreGrows.{Good, tags_of, trees_of}
 use Rattle.yaml_compact.specs.Ranking.{AllRanked}
@@ -57,18 +58,19 @@ abbrev pub view_of : (s : Store) → Good s → View
 view_of s good = record {
   count = length s.nodes.items;
   tag = λ i. tag_in (tags_of s) (slice_get s.nodes.items i);
-  inside = λ i. inside_at (string_bytes s.text) s.items.items s.entries.items (slice_get s.nodes.items i);
+  inside = λ i. inside_at (text_of s.text) s.items.items s.entries.items (slice_get s.nodes.items i);
   tree = tree_of s;
-  made = stored-made s.nodes.items (string_bytes s.text) s.items.items s.entries.items (tags_of s) good.below;
-  below = stored-below s.nodes.items (string_bytes s.text) s.items.items s.entries.items (tags_of s) good.below;
+  made = stored-made s.nodes.items (text_of s.text) s.items.items s.entries.items (tags_of s) good.below;
+  below = stored-below s.nodes.items (text_of s.text) s.items.items s.entries.items (tags_of s) good.below;
 }
 
 -- The nodes of the store are ranked, and their parts are ranks.
 pub record StoreListed (s : Store) (good : Good s) (r : Ranked) : Type 0 where
   pub nodes : r.nodes.items ≡ s.nodes.items
-  pub text : string_bytes r.text ≡ string_bytes s.text
+  pub text : text_of r.text ≡ text_of s.text
+  pub whole : AllWhole (border r.text) r.nodes.items
   pub tags : map string_bytes r.tags.items ≡ tags_of s
-  pub ranked : AllRanked (view_of s good) r.nodes.items (string_bytes r.text) r.items.items r.entries.items r.ranks.items r.first.items
+  pub ranked : AllRanked (view_of s good) r.nodes.items (text_of r.text) r.items.items r.entries.items r.ranks.items r.first.items
 
 -- these are the nodes of a store, ranked
 abbrev pub Listed : Ranked → Type 0

@@ -6,6 +6,7 @@ ghost use Rattle.yaml_nodes.specs.GraphView.{graph_trees, roots_of};
 ghost use Rattle.yaml_levels.proofs.GraphOf.{kind_inside, node_held as held_of};
 ghost use Rattle.yaml_compact.specs.StoreModel.{Within, inside_of, node_held};
 ghost use Rattle.yaml_compact.specs.StoreGrows.{Good, IsLow, IsText, tags_of, trees_of};
+ghost use Rattle.yaml_compact.specs.TextModel.{text_of};
 
 use crate::gives_up::GivesUp;
 use crate::nodes::{Node, Place};
@@ -37,17 +38,20 @@ fn entries(alloc: Global, parts: &[(u32, u32)]) -> Result<Vec<(NodeId, NodeId)>,
     Ok(entries)
 }
 
-impl Store {
+impl Store<'_> {
     /// What a node at this place is in a graph. The store lends its content.
     fn graph_kind(&self, alloc: Global, place: Place) -> Result<NodeKind<'_>, GivesUp>
-        requires within { Within (length (string_bytes self.now.text)) (length self.now.items.items) (length self.now.entries.items) place }
-        requires text { IsText (inside_of (string_bytes self.now.text) self.now.items.items self.now.entries.items place) }
-        ensures { IfOk result (λ kind. kind_inside kind ≡ inside_of (string_bytes self.now.text) self.now.items.items self.now.entries.items place) }
+        requires within { Within (length (text_of self.now.text)) (length self.now.items.items) (length self.now.entries.items) place }
+        requires text { IsText (inside_of (text_of self.now.text) self.now.items.items self.now.entries.items place) }
+        ensures { IfOk result (λ kind. kind_inside kind ≡ inside_of (text_of self.now.text) self.now.items.items self.now.entries.items place) }
     {
         match place {
             Place::Scalar(span) => {
-                let content = self.text.get(span.start as usize..span.end as usize);
-                Ok(NodeKind::Scalar(CowStr::Borrowed(content.unwrap_or(""))))
+                if !self.text.is_whole(span) {
+                    return Err(GivesUp);
+                }
+                let content = self.text.content(span);
+                Ok(NodeKind::Scalar(CowStr::Borrowed(content)))
             }
             Place::Sequence(span) => {
                 let parts = &self.items[span.start as usize..span.end as usize];
@@ -64,7 +68,7 @@ impl Store {
     fn graph_node(&self, alloc: Global, node: &Node) -> Result<GraphNode<'_>, GivesUp>
         requires good { Good self.now }
         requires among { (i : ℕ) × (slice_get self.now.nodes.items i ≡ Some node.now) }
-        ensures { IfOk result (λ made. held_of made ≡ node_held (string_bytes self.now.text) self.now.items.items self.now.entries.items (tags_of self.now) node.now) }
+        ensures { IfOk result (λ made. held_of made ≡ node_held (text_of self.now.text) self.now.items.items self.now.entries.items (tags_of self.now) node.now) }
     {
         let kind = self.graph_kind(alloc, node.place())?;
         let tag = CowStr::Borrowed(self.tags[node.tag as usize].as_str());

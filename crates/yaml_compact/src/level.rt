@@ -3,6 +3,7 @@ ghost use Rattle.std.specs.Prelude.{◌≡◌, ◌<◌, length, IfOk};
 ghost use Rattle.std.specs.List.{All};
 ghost use Rattle.yaml_compact.specs.LevelModel.{LevelFits, KeysMade, KeysSorted};
 ghost use Rattle.yaml_compact.specs.SlotModel.{InRange, keys_of};
+ghost use Rattle.yaml_compact.specs.TextModel.{text_of};
 
 use crate::gives_up::GivesUp;
 use crate::lists::Lists;
@@ -10,11 +11,11 @@ use crate::slot::Slot;
 use std::alloc::Global;
 
 /// The slots of the nodes of these numbers, whose parts are ranks.
-fn slots(alloc: Global, lists: &Lists<'_>, level: &[u32]) -> Result<Vec<Slot>, GivesUp>
+fn slots(alloc: Global, lists: &Lists<'_, '_>, level: &[u32]) -> Result<Vec<Slot>, GivesUp>
     requires range { InRange lists.now }
     requires numbers { All (λ i. i < length lists.now.nodes.now) level.now }
-    requires fit { LevelFits lists.now.nodes.now lists.now.text.now lists.now.items.now lists.now.entries.now level.now }
-    ensures ok { IfOk result (λ slots. KeysMade lists.now.nodes.now lists.now.text.now lists.now.items.now lists.now.entries.now lists.now.places.now level.now (keys_of lists.now slots.items)) }
+    requires fit { LevelFits lists.now.nodes.now (text_of lists.now.text.now) lists.now.items.now lists.now.entries.now level.now }
+    ensures ok { IfOk result (λ slots. KeysMade lists.now.nodes.now (text_of lists.now.text.now) lists.now.items.now lists.now.entries.now lists.now.places.now level.now (keys_of lists.now slots.items)) }
 {
     let mut slots = Vec::with_capacity(alloc, level.len())?;
     for number in level {
@@ -26,13 +27,13 @@ fn slots(alloc: Global, lists: &Lists<'_>, level: &[u32]) -> Result<Vec<Slot>, G
 /// The slots of the nodes of these numbers, which are of one height, in order.
 pub(crate) fn sorted_slots(
     alloc: Global,
-    lists: &Lists<'_>,
+    lists: &Lists<'_, '_>,
     level: &[u32],
 ) -> Result<Vec<Slot>, GivesUp>
     requires range { InRange lists.now }
     requires numbers { All (λ i. i < length lists.now.nodes.now) level.now }
-    requires fit { LevelFits lists.now.nodes.now lists.now.text.now lists.now.items.now lists.now.entries.now level.now }
-    ensures ok { IfOk result (λ slots. KeysSorted lists.now.nodes.now lists.now.text.now lists.now.items.now lists.now.entries.now lists.now.places.now level.now (keys_of lists.now slots.items)) }
+    requires fit { LevelFits lists.now.nodes.now (text_of lists.now.text.now) lists.now.items.now lists.now.entries.now level.now }
+    ensures ok { IfOk result (λ slots. KeysSorted lists.now.nodes.now (text_of lists.now.text.now) lists.now.items.now lists.now.entries.now lists.now.places.now level.now (keys_of lists.now slots.items)) }
 {
     let mut slots = slots(alloc, lists, level)?;
     lists.sort(alloc, &mut slots)?;

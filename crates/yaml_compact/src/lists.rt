@@ -9,21 +9,22 @@ use crate::gives_up::GivesUp;
 use crate::groups::regroup;
 use crate::nodes::{Node, Place};
 use crate::slot::{Rest, Slot};
+use crate::text::Text;
 use std::alloc::Global;
 use std::cmp::Ordering;
 
 /// The nodes of a store, what all of them hold, with ranks for parts, and the place of each tag in the
 /// order of tags.
 #[derive(Clone, Copy)]
-pub(crate) struct Lists<'s> {
+pub(crate) struct Lists<'s, 't> {
     pub nodes: &'s [Node],
-    pub text: &'s [u8],
+    pub text: &'s Text<'t>,
     pub items: &'s [u32],
     pub entries: &'s [(u32, u32)],
     pub places: &'s [u32],
 }
 
-impl<'s> Lists<'s> {
+impl<'s> Lists<'s, '_> {
     /// What is inside the node of this number; there is none of any other.
     fn inside(&self, number: u32) -> Rest<'s>
         requires { InRange self.now }
@@ -33,7 +34,7 @@ impl<'s> Lists<'s> {
             return Rest::Text(&[]);
         };
         match node.place() {
-            Place::Scalar(span) => Rest::Text(&self.text[span.start as usize..span.end as usize]),
+            Place::Scalar(span) => Rest::Text(self.text.bytes(span)),
             Place::Sequence(span) => {
                 Rest::Items(&self.items[span.start as usize..span.end as usize])
             }

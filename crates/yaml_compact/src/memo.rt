@@ -17,7 +17,7 @@ const PLACES: usize = 256;
 /// By how much a table grows.
 const GROWTH: usize = 16;
 
-/// How many bytes of the front of a content count for its hash.
+/// How many bytes of the front of a content count for its hash, and of a tag's front and of its end.
 const FRONT: usize = 128;
 
 /// For each place the last number whose hash has it, and above it the lower half of that hash, so that mostly
@@ -136,9 +136,15 @@ fn with_middle(hash: u64, text: &[u8]) -> u64 {
     hash ^ beside
 }
 
-/// A hash of a tag, of which each byte counts.
+/// A hash of a tag, of which the front, the length and the end count. Tags that differ only elsewhere are told by their texts.
 pub(crate) fn hash_tag(tag: &[u8]) -> u64 {
-    with_middle(with_ends(0, tag), tag)
+    let len = tag.len();
+    let hash = with_ends(0, tag);
+    if len <= 2 * FRONT {
+        return with_middle(hash, tag);
+    }
+    let part = len.min(FRONT);
+    with_middle(with_middle(hash, &tag[..part]), &tag[len - part..])
 }
 
 /// A hash of a tag and a content. Of a long one its front, its length and its end count: those that differ only

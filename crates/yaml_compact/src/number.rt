@@ -14,7 +14,7 @@ const MOST: usize = 4_294_967_295;
 /// Ranks nodes in their order: each has the rank of the first one that is equal, which is how many were
 /// noted before that one. The first ones are noted.
 pub(crate) fn number(
-    lists: &Lists<'_>,
+    lists: &Lists<'_, '_>,
     ranks: &mut [u32],
     first: &mut Vec<u32>,
     slots: &[Slot],

@@ -1,30 +1,34 @@
 //! Ranking nodes by number.
 ghost use Rattle.std.specs.Prelude.{◌≡◌, length, IfOk, IfErr};
+ghost use Rattle.std.specs.Bool.{OnTrue};
 ghost use Rattle.yaml_levels.specs.View.{View};
 ghost use Rattle.yaml_compact.specs.Ranking.{Stored, AllRanked};
 ghost use Rattle.yaml_compact.specs.StoreGrows.{Good, IsLow};
 ghost use Rattle.yaml_compact.specs.StoreView.{StoreRanked};
 ghost use Rattle.yaml_compact.specs.Unranked.{RefusesView, RefusesStore};
+ghost use Rattle.yaml_compact.specs.StoreModel.{place_of};
+ghost use Rattle.yaml_compact.specs.TextModel.{text_of, border, PlaceWhole, AllWhole};
 
 use crate::gives_up::GivesUp;
 use crate::level::sorted_slots;
 use crate::levels::levels;
 use crate::lists::Lists;
-use crate::nodes::Node;
+use crate::nodes::{Kind, Node};
 use crate::number::number;
 use crate::places::places;
 use crate::settle::settle;
 use crate::shorts::shorts;
 use crate::store::Store;
+use crate::text::Text;
 use crate::unranked::Unranked;
 use std::alloc::Global;
 
 /// The nodes of a store with their ranks. Parts are ranks, and the entries of a mapping stand in the order
 /// of their keys.
 #[derive(Drop)]
-pub struct Ranked {
+pub struct Ranked<'s> {
     pub(crate) tags: Vec<String>,
-    pub(crate) text: String,
+    pub(crate) text: Text<'s>,
     pub(crate) items: Vec<u32>,
     pub(crate) entries: Vec<(u32, u32)>,
     pub(crate) nodes: Vec<Node>,
@@ -53,14 +57,15 @@ pub(crate) fn zeros(alloc: Global, len: usize) -> Result<Vec<u32>, GivesUp>
 fn rank_all(
     alloc: Global,
     nodes: &[Node],
-    text: &[u8],
+    text: &Text<'_>,
     items: &mut [u32],
     entries: &mut [(u32, u32)],
     places: &[u32],
 ) -> Result<(Vec<u32>, Vec<u32>), Unranked>
-    requires { (v : View) × Stored v nodes.now text.now items.old entries.old places.now }
-    ensures ok { (v : View) → Stored v nodes.now text.now items.old entries.old places.now → IfOk result (λ made. AllRanked v nodes.now text.now items.new entries.new made.0.items made.1.items) }
-    ensures err { (v : View) → Stored v nodes.now text.now items.old entries.old places.now → IfErr result (RefusesView v) }
+    requires stored { (v : View) × Stored v nodes.now (text_of text.now) items.old entries.old places.now }
+    requires whole { AllWhole (border text.now) nodes.now }
+    ensures ok { (v : View) → Stored v nodes.now (text_of text.now) items.old entries.old places.now → IfOk result (λ made. AllRanked v nodes.now (text_of text.now) items.new entries.new made.0.items made.1.items) }
+    ensures err { (v : View) → Stored v nodes.now (text_of text.now) items.old entries.old places.now → IfErr result (RefusesView v) }
 {
     let levels = levels(alloc, nodes)?;
     let mut ranks = zeros(alloc, nodes.len())?;
@@ -81,13 +86,35 @@ fn rank_all(
     Ok((ranks, first))
 }
 
+/// Whether the content of a node, if it has one, stands in one part of the text.
+fn is_whole(text: &Text<'_>, node: &Node) -> bool
+    ensures { OnTrue result (PlaceWhole (border text.now) (place_of node.now)) }
+{
+    match node.kind {
+        Kind::Scalar => text.is_whole(node.span),
+        Kind::Sequence | Kind::Mapping => true,
+    }
+}
+
+/// Whether each content stands in one part of the text.
+fn are_whole(text: &Text<'_>, nodes: &[Node]) -> bool
+    ensures { OnTrue result (AllWhole (border text.now) nodes.now) }
+{
+    for node in nodes {
+        if !is_whole(text, node) {
+            return false;
+        }
+    }
+    true
+}
+
 /// The ranks of all nodes of a store: equal exactly for equal trees, and in the order of trees. Refused is
 /// the mapping of least height, then of least number, with two equal keys, and its first two are told.
-pub fn compact_rank(alloc: Global, store: Store) -> Result<Ranked, Unranked>
+pub fn compact_rank<'s>(alloc: Global, store: Store<'s>) -> Result<Ranked<'s>, Unranked>
     requires good { Good store }
     requires low { IsLow store }
-    ensures ok { (good : Good store) → IfOk result (StoreRanked store good) }
-    ensures err { (good : Good store) → IfErr result (RefusesStore store good) }
+    ensures ok { (good : Good store.entry) → IfOk result (StoreRanked store.entry good) }
+    ensures err { (good : Good store.entry) → IfErr result (RefusesStore store.entry good) }
 {
     let Store {
         memo: _,
@@ -98,15 +125,11 @@ pub fn compact_rank(alloc: Global, store: Store) -> Result<Ranked, Unranked>
         mut entries,
         nodes,
     } = store;
+    if !are_whole(&text, &nodes) {
+        return Err(Unranked::GivesUp);
+    }
     let places = places(alloc, &tags)?;
-    let (ranks, first) = rank_all(
-        alloc,
-        &nodes,
-        text.as_bytes(),
-        &mut items,
-        &mut entries,
-        &places,
-    )?;
+    let (ranks, first) = rank_all(alloc, &nodes, &text, &mut items, &mut entries, &places)?;
     let mut ranked = Ranked {
         tags,
         text,

@@ -13,7 +13,7 @@ use std::alloc::Global;
 use yaml_spell::node::short_len;
 use yaml_spell::shown::{Inside, Shown};
 
-impl Ranked {
+impl Ranked<'_> {
     /// What the node that stands for a rank shows.
     pub(crate) fn shown(&self, rank: usize) -> Shown<'_, u32>
         requires listed { Listed self.now }
@@ -26,11 +26,7 @@ impl Ranked {
         match node.place() {
             Place::Scalar(span) => Shown {
                 tag,
-                inside: Inside::Scalar(
-                    self.text
-                        .get(span.start as usize..span.end as usize)
-                        .unwrap_or(""),
-                ),
+                inside: Inside::Scalar(self.text.content(span)),
             },
             Place::Sequence(span) => Shown {
                 tag,
@@ -46,7 +42,7 @@ impl Ranked {
 
 /// How many bytes each rank takes if it is short, else 0. The nodes are taken in the order in which they and
 /// their contents stand, and not by rank, so that what is looked at next is near.
-pub(crate) fn shorts(alloc: Global, ranked: &Ranked) -> Result<Vec<u8>, GivesUp>
+pub(crate) fn shorts(alloc: Global, ranked: &Ranked<'_>) -> Result<Vec<u8>, GivesUp>
     requires { Listed ranked.now }
     ensures { (s : Store) (good : Good s) → StoreListed s good ranked.now → IfOk result (λ shorts. shorts.items ≡ map (short_at s) ranked.now.first.items) }
 {

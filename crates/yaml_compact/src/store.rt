@@ -1,6 +1,7 @@
 //! Nodes by number, equal ones mostly merged.
 ghost use Rattle.std.specs.Prelude.{◌≡◌, ◌<◌, suc, min, [], ◌∷◌, ◌++◌, true, false, List, length, Some, IfOk, IsTrue};
 ghost use Rattle.std.specs.Bool.{OnTrue};
+ghost use Rattle.std.specs.Cow.{cow_str_bytes};
 ghost use Rattle.std.specs.List.{slice_get, slice_range, All};
 ghost use Rattle.yaml_definitions.specs.model.Tree.{Tree, scalar, heights};
 ghost use Rattle.yaml_definitions.specs.model.Limits as limit;
@@ -14,54 +15,26 @@ use crate::gives_up::GivesUp;
 use crate::memo::{Memo, hash_parts, hash_tag, hash_text};
 use crate::nodes::{Collection, Kind, Node, Span};
 use crate::tag_numbers::{Found, TagNumbers};
+use crate::text::{ROOM, Text, is_within, place};
 use std::alloc::Global;
+use std::borrow::CowStr;
 use yaml_text::limits::height_limit;
 
-/// The nodes, each after its parts: their tags, mostly each once; all contents one after the other, all items and
-/// all entries, by number. Those that were met last are found again by a hash.
+/// The nodes, each after its parts: their tags, mostly each once; all contents one after the other, of which long ones may be parts of
+/// a text that is lent, all items and all entries, by number. Those that were met last are found again by a hash.
 #[derive(Drop)]
-pub struct Store {
+pub struct Store<'s> {
     pub(crate) memo: Memo,
     pub(crate) numbers: TagNumbers,
     pub(crate) tags: Vec<String>,
-    pub(crate) text: String,
+    pub(crate) text: Text<'s>,
     pub(crate) items: Vec<u32>,
     pub(crate) entries: Vec<(u32, u32)>,
     pub(crate) nodes: Vec<Node>,
 }
 
-/// What every number of a node and every place is below.
-const ROOM: usize = 4_294_967_295;
-
 /// How many nodes are found again by a hash, at most.
 const NODES_SEEN: usize = 32_768;
-
-/// A place, if it fits.
-fn place(at: usize) -> Result<u32, GivesUp>
-    ensures { IfOk result (λ n. n ≡ at) }
-{
-    if at >= ROOM {
-        return Err(GivesUp);
-    }
-    Ok(at as u32)
-}
-
-/// Whether these places are among so many.
-fn is_within(span: Span, len: usize) -> bool
-    ensures { OnTrue result (SpanWithin len span) }
-{
-    span.start <= span.end && span.end as usize <= len
-}
-
-/// Whether this is the content that stands there.
-fn has_text(all: &[u8], span: Span, content: &[u8]) -> bool
-    ensures { IsTrue result → slice_range all.now span.start span.end ≡ content.now }
-{
-    if !is_within(span, all.len()) {
-        return false;
-    }
-    &all[span.start as usize..span.end as usize] == content
-}
 
 /// Whether these are the items that stand there.
 fn has_items(all: &[u32], span: Span, parts: &[u32]) -> bool
@@ -131,9 +104,9 @@ fn height_over(nodes: &[Node], parts: &[u32]) -> Result<u16, GivesUp>
     Ok(height.min(height_limit() + 1) as u16)
 }
 
-impl Store {
-    /// No node yet.
-    pub fn new(alloc: Global) -> Result<Store, GivesUp>
+impl<'s> Store<'s> {
+    /// No node yet. Contents that are long may be parts of the text that is lent.
+    pub fn new(alloc: Global, lent: &'s str) -> Result<Store<'s>, GivesUp>
         ensures good { IfOk result Good }
         ensures empty { IfOk result (λ s. trees_of s ≡ []) }
     {
@@ -143,7 +116,7 @@ impl Store {
             memo,
             numbers,
             tags: Vec::new(alloc),
-            text: String::new(alloc),
+            text: Text::new(alloc, lent),
             items: Vec::new(alloc),
             entries: Vec::new(alloc),
             nodes: Vec::new(alloc),
@@ -249,7 +222,7 @@ impl Store {
         if node.kind != Kind::Scalar || node.tag != tag {
             return false;
         }
-        has_text(self.text.as_bytes(), node.span, content.as_bytes())
+        self.text.has(node.span, content)
     }
 
     /// Whether this node is a sequence of the same tag and items.
@@ -279,22 +252,26 @@ impl Store {
     }
 
     /// The number of a scalar: that of a node that was seen, if it is the same, else that of a new one.
-    fn add_scalar(&mut self, seen: u32, tag: u32, content: &str) -> Result<u32, GivesUp>
+    fn add_scalar(
+        &mut self,
+        seen: u32,
+        tag: u32,
+        content: &mut CowStr<'_>,
+        offset: usize,
+    ) -> Result<u32, GivesUp>
         ensures kept { Good self.old → tag < length (tags_of self.old) → IfOk result (λ _. Keeps self.old self.new) }
-        ensures stands { Good self.old → tag < length (tags_of self.old) → IfOk result (λ i. Stands self.new i (scalar (tag_at (tags_of self.old) tag) content.now)) }
+        ensures stands { Good self.old → tag < length (tags_of self.old) → IfOk result (λ i. Stands self.new i (scalar (tag_at (tags_of self.old) tag) (cow_str_bytes content.old))) }
         ensures one { IfOk result (λ i. AtMostOne (length self.old.nodes.items) (length self.new.nodes.items) i) }
     {
-        if self.is_scalar(seen, tag, content) {
+        if self.is_scalar(seen, tag, content.as_str()) {
             return Ok(seen);
         }
-        let start = place(self.text.len())?;
-        self.text.push_str(content)?;
-        let end = place(self.text.len())?;
+        let span = self.text.put(offset, content)?;
         let node = Node {
             kind: Kind::Scalar,
             tag,
             height: 0,
-            span: Span { start, end },
+            span,
         };
         let id = push_node(&mut self.nodes, node)?;
         Ok(id)
@@ -369,27 +346,38 @@ impl Store {
         }
     }
 
-    /// The number of a scalar with the tag of this number and this content.
-    pub fn scalar_of(&mut self, tag: u32, content: &str) -> Result<u32, GivesUp>
+    /// The number of a scalar with the tag of this number and this content, which may stand at this offset in the text that is lent.
+    pub fn scalar_of(
+        &mut self,
+        tag: u32,
+        content: &mut CowStr<'_>,
+        offset: usize,
+    ) -> Result<u32, GivesUp>
         ensures kept { Good self.old → tag < length (tags_of self.old) → IfOk result (λ _. Keeps self.old self.new) }
-        ensures stands { Good self.old → tag < length (tags_of self.old) → IfOk result (λ i. Stands self.new i (scalar (tag_at (tags_of self.old) tag) content.now)) }
+        ensures stands { Good self.old → tag < length (tags_of self.old) → IfOk result (λ i. Stands self.new i (scalar (tag_at (tags_of self.old) tag) (cow_str_bytes content.old))) }
         ensures one { IfOk result (λ i. AtMostOne (length self.old.nodes.items) (length self.new.nodes.items) i) }
     {
-        let hash = hash_text(tag, content.as_bytes());
+        let hash = hash_text(tag, content.as_str().as_bytes());
         let seen = self.memo.seen(hash);
-        let id = self.add_scalar(seen, tag, content)?;
+        let id = self.add_scalar(seen, tag, content, offset)?;
         self.memo.keep(hash, id);
         Ok(id)
     }
 
-    /// The number of a scalar with this tag and content.
-    pub fn scalar(&mut self, alloc: Global, tag: &str, content: &str) -> Result<u32, GivesUp>
+    /// The number of a scalar with this tag and this content, which may stand at this offset in the text that is lent.
+    pub fn scalar(
+        &mut self,
+        alloc: Global,
+        tag: &str,
+        content: &mut CowStr<'_>,
+        offset: usize,
+    ) -> Result<u32, GivesUp>
         ensures kept { Good self.old → IfOk result (λ _. Keeps self.old self.new) }
-        ensures stands { Good self.old → IfOk result (λ i. Stands self.new i (scalar tag.now content.now)) }
+        ensures stands { Good self.old → IfOk result (λ i. Stands self.new i (scalar tag.now (cow_str_bytes content.old))) }
         ensures one { IfOk result (λ i. AtMostOne (length self.old.nodes.items) (length self.new.nodes.items) i) }
     {
         let tag = self.tag(alloc, tag)?;
-        let id = self.scalar_of(tag, content)?;
+        let id = self.scalar_of(tag, content, offset)?;
         Ok(id)
     }
 

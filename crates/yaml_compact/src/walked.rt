@@ -4,7 +4,7 @@ use crate::settle::overwrite;
 use yaml_spell::ranked::RankedNodes;
 use yaml_spell::shown::Shown;
 
-impl RankedNodes<u32> for Ranked {
+impl RankedNodes<u32> for Ranked<'_> {
     ghost use Rattle.std.specs.Prelude.{length};
     ghost use Rattle.yaml_compact.specs.Walked.{StandsFor, walked_tree, walked_rank};
 
@@ -37,7 +37,7 @@ impl RankedNodes<u32> for Ranked {
     fn tells(&self) {}
 }
 
-impl Ranked {
+impl Ranked<'_> {
     ghost use Rattle.std.specs.Prelude.{◌<◌, length};
     ghost use Rattle.std.specs.List.{All};
     ghost use Rattle.yaml_compact.specs.Walked.{ranks_of, RanksTaken};

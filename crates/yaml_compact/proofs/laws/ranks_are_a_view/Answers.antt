@@ -1,8 +1,8 @@
 use Rattle.std.proofs.Common.{length, ap, sym, refl}
-use Rattle.std.specs.String.{string_bytes}
 use Rattle.yaml_compact.specs.StoreView.{view_of}
 use Rattle.yaml_compact.proofs.RanksView.{ranks_view}
 use Rattle.yaml_compact.proofs.RanksOf.{rank-arranged, ranks-rise, first-tree}
+use Rattle.yaml_compact.specs.TextModel.{text_of}
 use Rattle.yaml_compact.proofs.laws.ranks_are_a_view.Goals as goal
 
 pub returns : goal.returns
@@ -13,8 +13,8 @@ returns c = λ s good r are. (
     tag = λ k. refl;
     inside = λ k. refl;
     tree = λ k. refl;
-    neat = rank-arranged (view_of s good) r.nodes.items (string_bytes r.text) r.items.items r.entries.items r.ranks.items r.first.items (sym (ap length are.listed.nodes)) are.listed.ranked;
-    rise = ranks-rise (view_of s good) r.nodes.items (string_bytes r.text) r.items.items r.entries.items r.ranks.items r.first.items (sym (ap length are.listed.nodes)) are.listed.ranked;
-    node = first-tree (view_of s good) r.nodes.items (string_bytes r.text) r.items.items r.entries.items r.ranks.items r.first.items (sym (ap length are.listed.nodes)) are.listed.ranked;
+    neat = rank-arranged (view_of s good) r.nodes.items (text_of r.text) r.items.items r.entries.items r.ranks.items r.first.items (sym (ap length are.listed.nodes)) are.listed.ranked;
+    rise = ranks-rise (view_of s good) r.nodes.items (text_of r.text) r.items.items r.entries.items r.ranks.items r.first.items (sym (ap length are.listed.nodes)) are.listed.ranked;
+    node = first-tree (view_of s good) r.nodes.items (text_of r.text) r.items.items r.entries.items r.ranks.items r.first.items (sym (ap length are.listed.nodes)) are.listed.ranked;
   },
 )

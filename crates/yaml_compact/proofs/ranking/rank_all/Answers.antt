@@ -5,6 +5,7 @@ use Rattle.std.proofs.lemmas.List.{with_items_is}
 use Rattle.yaml_levels.specs.LevelsModel.{level_of, LevelsBy}
 use Rattle.yaml_levels.proofs.LevelsLaws.{level-there}
 use Rattle.yaml_compact.specs.StoreModel.{height_at}
+use Rattle.yaml_compact.specs.TextModel.{text_of}
 use Rattle.yaml_compact.specs.PartsModel.{LevelBelow, LevelSettled, RefusesLevel}
 use Rattle.yaml_compact.specs.LevelModel.{LevelFits, LevelNumbered}
 use Rattle.yaml_compact.specs.Unranked.{RefusesView}
@@ -15,10 +16,10 @@ use Rattle.yaml_compact.proofs.ranking.rank_all.Goals as goal
 
 pub settle-requires-clause-numbers : goal.settle-requires-clause-numbers
 settle-requires-clause-numbers c =
-    let v = c.requires.0 in
-    let store = c.requires.1 in
+    let v = c.requires.stored.0 in
+    let store = c.requires.stored.1 in
     let nodes = c.args.nodes.now in
-    let text = c.args.text.now in
+    let text = text_of c.args.text.now in
     let olds = c.args.items.now in
     let pairs = c.args.entries.now in
     let places = c.args.places.now in
@@ -31,10 +32,10 @@ settle-requires-clause-numbers c =
 
 pub settle-requires-clause-once : goal.settle-requires-clause-once
 settle-requires-clause-once c =
-    let v = c.requires.0 in
-    let store = c.requires.1 in
+    let v = c.requires.stored.0 in
+    let store = c.requires.stored.1 in
     let nodes = c.args.nodes.now in
-    let text = c.args.text.now in
+    let text = text_of c.args.text.now in
     let olds = c.args.items.now in
     let pairs = c.args.entries.now in
     let places = c.args.places.now in
@@ -47,10 +48,10 @@ settle-requires-clause-once c =
 
 pub settle-requires-clause-below : goal.settle-requires-clause-below
 settle-requires-clause-below c =
-    let v = c.requires.0 in
-    let store = c.requires.1 in
+    let v = c.requires.stored.0 in
+    let store = c.requires.stored.1 in
     let nodes = c.args.nodes.now in
-    let text = c.args.text.now in
+    let text = text_of c.args.text.now in
     let olds = c.args.items.now in
     let pairs = c.args.entries.now in
     let places = c.args.places.now in
@@ -63,10 +64,10 @@ settle-requires-clause-below c =
 
 pub sorted_slots-requires-clause-numbers : goal.sorted_slots-requires-clause-numbers
 sorted_slots-requires-clause-numbers c =
-    let v = c.requires.0 in
-    let store = c.requires.1 in
+    let v = c.requires.stored.0 in
+    let store = c.requires.stored.1 in
     let nodes = c.args.nodes.now in
-    let text = c.args.text.now in
+    let text = text_of c.args.text.now in
     let olds = c.args.items.now in
     let pairs = c.args.entries.now in
     let places = c.args.places.now in
@@ -83,10 +84,10 @@ sorted_slots-requires-clause-numbers c =
 
 pub sorted_slots-requires-clause-range : goal.sorted_slots-requires-clause-range
 sorted_slots-requires-clause-range c =
-    let v = c.requires.0 in
-    let store = c.requires.1 in
+    let v = c.requires.stored.0 in
+    let store = c.requires.stored.1 in
     let nodes = c.args.nodes.now in
-    let text = c.args.text.now in
+    let text = text_of c.args.text.now in
     let olds = c.args.items.now in
     let pairs = c.args.entries.now in
     let places = c.args.places.now in
@@ -99,14 +100,14 @@ sorted_slots-requires-clause-range c =
     let same : again ≡ level = c.deref-in-loop-level-2.ensures.value ∙ sym c.deref-in-loop-level.ensures.value in
     let ranks = c.loop-level.ranks.items in
     let settled : LevelSettled (slice_index ranks) nodes level c.loop-level.items c.loop-level.entries c.settle.new.items c.settle.new.entries = subst (λ z. LevelSettled (slice_index z) nodes level c.loop-level.items c.loop-level.entries c.settle.new.items c.settle.new.entries) c.deref.ensures.value c.in_ok-settle.ensures.ok in
-    record { within = settled-within v nodes text olds pairs places store ls are i level is c.loop-level.items c.loop-level.entries c.loop-level.ranks.items c.loop-level.first.items (c.loop-level.invariant v store) c.settle.new.items c.settle.new.entries settled; small = store.small }
+    record { within = settled-within v nodes text olds pairs places store ls are i level is c.loop-level.items c.loop-level.entries c.loop-level.ranks.items c.loop-level.first.items (c.loop-level.invariant v store) c.settle.new.items c.settle.new.entries settled; whole = c.requires.whole; small = store.small }
 
 pub sorted_slots-requires-clause-fit : goal.sorted_slots-requires-clause-fit
 sorted_slots-requires-clause-fit c =
-    let v = c.requires.0 in
-    let store = c.requires.1 in
+    let v = c.requires.stored.0 in
+    let store = c.requires.stored.1 in
     let nodes = c.args.nodes.now in
-    let text = c.args.text.now in
+    let text = text_of c.args.text.now in
     let olds = c.args.items.now in
     let pairs = c.args.entries.now in
     let places = c.args.places.now in
@@ -123,10 +124,10 @@ sorted_slots-requires-clause-fit c =
 
 pub number-requires-clause-range : goal.number-requires-clause-range
 number-requires-clause-range c =
-    let v = c.requires.0 in
-    let store = c.requires.1 in
+    let v = c.requires.stored.0 in
+    let store = c.requires.stored.1 in
     let nodes = c.args.nodes.now in
-    let text = c.args.text.now in
+    let text = text_of c.args.text.now in
     let olds = c.args.items.now in
     let pairs = c.args.entries.now in
     let places = c.args.places.now in
@@ -139,14 +140,14 @@ number-requires-clause-range c =
     let same : again ≡ level = c.deref-in-loop-level-2.ensures.value ∙ sym c.deref-in-loop-level.ensures.value in
     let ranks = c.loop-level.ranks.items in
     let settled : LevelSettled (slice_index ranks) nodes level c.loop-level.items c.loop-level.entries c.settle.new.items c.settle.new.entries = subst (λ z. LevelSettled (slice_index z) nodes level c.loop-level.items c.loop-level.entries c.settle.new.items c.settle.new.entries) c.deref.ensures.value c.in_ok-settle.ensures.ok in
-    record { within = settled-within v nodes text olds pairs places store ls are i level is c.loop-level.items c.loop-level.entries c.loop-level.ranks.items c.loop-level.first.items (c.loop-level.invariant v store) c.settle.new.items c.settle.new.entries settled; small = store.small }
+    record { within = settled-within v nodes text olds pairs places store ls are i level is c.loop-level.items c.loop-level.entries c.loop-level.ranks.items c.loop-level.first.items (c.loop-level.invariant v store) c.settle.new.items c.settle.new.entries settled; whole = c.requires.whole; small = store.small }
 
 pub number-requires-clause-within : goal.number-requires-clause-within
 number-requires-clause-within c =
-    let v = c.requires.0 in
-    let store = c.requires.1 in
+    let v = c.requires.stored.0 in
+    let store = c.requires.stored.1 in
     let nodes = c.args.nodes.now in
-    let text = c.args.text.now in
+    let text = text_of c.args.text.now in
     let olds = c.args.items.now in
     let pairs = c.args.entries.now in
     let places = c.args.places.now in
@@ -165,12 +166,12 @@ number-requires-clause-within c =
     subst (All (λ s. s.number < length c.deref_mut.result.now)) (sym c.deref-in-loop-level-3.ensures.value) found
 
 pub number-requires-clause-few : goal.number-requires-clause-few
-number-requires-clause-few c = (c.loop-level.invariant c.requires.0 c.requires.1).few
+number-requires-clause-few c = (c.loop-level.invariant c.requires.stored.0 c.requires.stored.1).few
 
 pub loop-level-preserved : goal.loop-level-preserved
 loop-level-preserved c = λ v store.
     let nodes = c.args.nodes.now in
-    let text = c.args.text.now in
+    let text = text_of c.args.text.now in
     let olds = c.args.items.now in
     let pairs = c.args.entries.now in
     let places = c.args.places.now in
@@ -196,13 +197,13 @@ returns-clause-ok c = λ v store.
     let nodes = c.args.nodes.now in
     let ls = c.deref-level-items.result.now in
     let are : LevelsBy (height_at nodes) (length nodes) ls = subst (LevelsBy (height_at nodes) (length nodes)) (sym c.deref-level-items.ensures.value) c.in_ok-levels.ensures.ok in
-    standing-done v nodes c.args.text.now c.args.items.now c.args.entries.now c.args.places.now store c.loop-level.items c.loop-level.entries c.loop-level.ranks.items c.loop-level.first.items c.loop-level.level-index (c.loop-level.invariant v store)
-    (λ i l. let w = levels-end v nodes c.args.text.now c.args.items.now c.args.entries.now c.args.places.now store ls are i l in omega (arith, c.loop-level-test.false))
+    standing-done v nodes (text_of c.args.text.now) c.args.items.now c.args.entries.now c.args.places.now store c.loop-level.items c.loop-level.entries c.loop-level.ranks.items c.loop-level.first.items c.loop-level.level-index (c.loop-level.invariant v store)
+    (λ i l. let w = levels-end v nodes (text_of c.args.text.now) c.args.items.now c.args.entries.now c.args.places.now store ls are i l in omega (arith, c.loop-level-test.false))
 
 pub returns-in_err-settle-clause-err : goal.returns-in_err-settle-clause-err
 returns-in_err-settle-clause-err c = λ v store.
     let nodes = c.args.nodes.now in
-    let text = c.args.text.now in
+    let text = text_of c.args.text.now in
     let olds = c.args.items.now in
     let pairs = c.args.entries.now in
     let places = c.args.places.now in

@@ -1,13 +1,11 @@
-use Rattle.std.proofs.Common.{◌≡◌, ℕ, List, length, Bor, refl, sym, ◌∙◌, ap, subst, rules}
+use Rattle.std.proofs.Common.{◌≡◌, length, sym, ◌∙◌, ap, subst, rules}
 use Rattle.std.specs.String.{string_bytes}
-use Rattle.std.specs.Str.{IsUtf8}
-use Rattle.std.specs.Str.Pattern.{GetsRange}
 use Rattle.std.specs.List.{slice_range}
 use Rattle.yaml_levels.specs.View.{content, items, entries}
 use Rattle.yaml_compact.specs.declared.nodes.Place.TheVariants.{Scalar, Sequence, Mapping}
+use Rattle.yaml_compact.specs.TextModel.{text_of}
 use Rattle.yaml_compact.specs.StoreModel.{place_of, Within}
-use Rattle.yaml_compact.proofs.WalkedLaws.{first-within, tag-within, place-within, tag-shown, inside-shown, content-text, tag-there, same-numbers, same-pairs}
-use Rattle.yaml_compact.proofs.ContentLaws.{content-got}
+use Rattle.yaml_compact.proofs.WalkedLaws.{first-within, tag-within, place-within, tag-shown, inside-shown, content-text, content-whole, tag-there, same-numbers, same-pairs}
 use Rattle.yaml_compact.proofs.ranking.Ranked.shown.Goals as goal
 
 pub index-requires-2 : goal.index-requires-2
@@ -49,7 +47,7 @@ slice_bounds-result-count c =
     let i = c.index.result.now in
     let n = c.index-2.result.now in
     let l = c.requires.within in
-    let p = subst (Within (length (string_bytes C.text)) (length C.items.items) (length C.entries.items)) (sym c.place.ensures ∙ c.in-Sequence.is) (place-within w.0 w.1 C w.2 r i n l c.index.ensures c.index-2.ensures) in
+    let p = subst (Within (length (text_of C.text)) (length C.items.items) (length C.entries.items)) (sym c.place.ensures ∙ c.in-Sequence.is) (place-within w.0 w.1 C w.2 r i n l c.index.ensures c.index-2.ensures) in
     let a = p.0 in
     let b = p.1 in
     search rules
@@ -62,7 +60,7 @@ slice_bounds-result-start c =
     let i = c.index.result.now in
     let n = c.index-2.result.now in
     let l = c.requires.within in
-    let p = subst (Within (length (string_bytes C.text)) (length C.items.items) (length C.entries.items)) (sym c.place.ensures ∙ c.in-Sequence.is) (place-within w.0 w.1 C w.2 r i n l c.index.ensures c.index-2.ensures) in
+    let p = subst (Within (length (text_of C.text)) (length C.items.items) (length C.entries.items)) (sym c.place.ensures ∙ c.in-Sequence.is) (place-within w.0 w.1 C w.2 r i n l c.index.ensures c.index-2.ensures) in
     let a = p.0 in
     let b = p.1 in
     search rules
@@ -75,7 +73,7 @@ slice_bounds-result-end c =
     let i = c.index.result.now in
     let n = c.index-2.result.now in
     let l = c.requires.within in
-    let p = subst (Within (length (string_bytes C.text)) (length C.items.items) (length C.entries.items)) (sym c.place.ensures ∙ c.in-Sequence.is) (place-within w.0 w.1 C w.2 r i n l c.index.ensures c.index-2.ensures) in
+    let p = subst (Within (length (text_of C.text)) (length C.items.items) (length C.entries.items)) (sym c.place.ensures ∙ c.in-Sequence.is) (place-within w.0 w.1 C w.2 r i n l c.index.ensures c.index-2.ensures) in
     let a = p.0 in
     let b = p.1 in
     search rules
@@ -88,7 +86,7 @@ slice_bounds-result-count-in-Mapping c =
     let i = c.index.result.now in
     let n = c.index-2.result.now in
     let l = c.requires.within in
-    let p = subst (Within (length (string_bytes C.text)) (length C.items.items) (length C.entries.items)) (sym c.place.ensures ∙ c.in-Mapping.is) (place-within w.0 w.1 C w.2 r i n l c.index.ensures c.index-2.ensures) in
+    let p = subst (Within (length (text_of C.text)) (length C.items.items) (length C.entries.items)) (sym c.place.ensures ∙ c.in-Mapping.is) (place-within w.0 w.1 C w.2 r i n l c.index.ensures c.index-2.ensures) in
     let a = p.0 in
     let b = p.1 in
     search rules
@@ -101,7 +99,7 @@ slice_bounds-result-start-in-Mapping c =
     let i = c.index.result.now in
     let n = c.index-2.result.now in
     let l = c.requires.within in
-    let p = subst (Within (length (string_bytes C.text)) (length C.items.items) (length C.entries.items)) (sym c.place.ensures ∙ c.in-Mapping.is) (place-within w.0 w.1 C w.2 r i n l c.index.ensures c.index-2.ensures) in
+    let p = subst (Within (length (text_of C.text)) (length C.items.items) (length C.entries.items)) (sym c.place.ensures ∙ c.in-Mapping.is) (place-within w.0 w.1 C w.2 r i n l c.index.ensures c.index-2.ensures) in
     let a = p.0 in
     let b = p.1 in
     search rules
@@ -114,7 +112,7 @@ slice_bounds-result-end-in-Mapping c =
     let i = c.index.result.now in
     let n = c.index-2.result.now in
     let l = c.requires.within in
-    let p = subst (Within (length (string_bytes C.text)) (length C.items.items) (length C.entries.items)) (sym c.place.ensures ∙ c.in-Mapping.is) (place-within w.0 w.1 C w.2 r i n l c.index.ensures c.index-2.ensures) in
+    let p = subst (Within (length (text_of C.text)) (length C.items.items) (length C.entries.items)) (sym c.place.ensures ∙ c.in-Mapping.is) (place-within w.0 w.1 C w.2 r i n l c.index.ensures c.index-2.ensures) in
     let a = p.0 in
     let b = p.1 in
     search rules
@@ -163,7 +161,7 @@ returns-in-Sequence-clause-inside c =
     let a = c.in-Sequence.span.start in
     let b = c.in-Sequence.span.end in
     let at : Sequence c.in-Sequence.span ≡ place_of n = sym c.in-Sequence.is ∙ c.place.ensures in
-    let q = ap (λ z. slice_range z a b) (sym c.deref-in-Sequence.ensures.value) ∙ same-numbers (slice_range c.deref-in-Sequence.result.now a b) in
+    let q = ap (λ z. slice_range z a b) (sym c.deref.ensures.value) ∙ same-numbers (slice_range c.deref.result.now a b) in
     sym (ap items q) ∙ inside-shown w.0 w.1 C w.2 r i n l c.index.ensures c.index-2.ensures (Sequence c.in-Sequence.span) at
 
 pub returns-in-Mapping-clause-inside : goal.returns-in-Mapping-clause-inside
@@ -180,20 +178,26 @@ returns-in-Mapping-clause-inside c =
     let q = ap (λ z. slice_range z a b) (sym c.deref-in-Mapping.ensures.value) ∙ same-pairs (slice_range c.deref-in-Mapping.result.now a b) in
     sym (ap entries q) ∙ inside-shown w.0 w.1 C w.2 r i n l c.index.ensures c.index-2.ensures (Mapping c.in-Mapping.span) at
 
+pub content-requires-clause-whole : goal.content-requires-clause-whole
+content-requires-clause-whole c =
+    let w = c.requires.listed in
+    let n = c.index-2.result.now in
+    content-whole w.0 w.1 c.args.self.now w.2 c.args.rank c.index.result.now n c.requires.within c.index.ensures c.index-2.ensures c.in-Scalar.span (sym c.in-Scalar.is ∙ c.place.ensures)
+
+pub content-requires-clause-within : goal.content-requires-clause-within
+content-requires-clause-within c =
+    let w = c.requires.listed in
+    let C = c.args.self.now in
+    subst (Within (length (text_of C.text)) (length C.items.items) (length C.entries.items)) (sym c.place.ensures ∙ c.in-Scalar.is) (place-within w.0 w.1 C w.2 c.args.rank c.index.result.now c.index-2.result.now c.requires.within c.index.ensures c.index-2.ensures)
+
+pub content-requires-clause-utf8 : goal.content-requires-clause-utf8
+content-requires-clause-utf8 c =
+    let w = c.requires.listed in
+    content-text w.0 w.1 c.args.self.now w.2 c.args.rank c.index.result.now c.index-2.result.now c.requires.within c.index.ensures c.index-2.ensures c.in-Scalar.span (sym c.in-Scalar.is ∙ c.place.ensures)
+
 pub returns-in-Scalar-clause-inside : goal.returns-in-Scalar-clause-inside
 returns-in-Scalar-clause-inside c =
     let w = c.requires.listed in
-    let C = c.args.self.now in
-    let r = c.args.rank in
-    let i = c.index.result.now in
     let n = c.index-2.result.now in
-    let l = c.requires.within in
-    let a = c.in-Scalar.span.start in
-    let b = c.in-Scalar.span.end in
     let at : Scalar c.in-Scalar.span ≡ place_of n = sym c.in-Scalar.is ∙ c.place.ensures in
-    let p = subst (Within (length (string_bytes C.text)) (length C.items.items) (length C.entries.items)) (sym c.place.ensures ∙ c.in-Scalar.is) (place-within w.0 w.1 C w.2 r i n l c.index.ensures c.index-2.ensures) in
-    let v = content-text w.0 w.1 C w.2 r i n l c.index.ensures c.index-2.ensures c.in-Scalar.span at in
-    let d = c.deref.ensures in
-    let is : c.deref.result.now ≡ string_bytes C.text = cc in
-    let q = content-got (string_bytes C.text) a b c.get.result _ refl (subst IsUtf8 is c.deref.utf8) v p.0 p.1 (subst (λ z. GetsRange z a b c.get.result) is c.get.ensures.cases) ∙ ap (λ (z : Bor (List ℕ)). z.now) (sym c.unwrap_or.ensures) in
-    sym (ap content q) ∙ inside-shown w.0 w.1 C w.2 r i n l c.index.ensures c.index-2.ensures (Scalar c.in-Scalar.span) at
+    ap content c.content.ensures ∙ inside-shown w.0 w.1 c.args.self.now w.2 c.args.rank c.index.result.now n c.requires.within c.index.ensures c.index-2.ensures (Scalar c.in-Scalar.span) at

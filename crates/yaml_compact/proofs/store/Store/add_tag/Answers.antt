@@ -6,6 +6,7 @@ use Rattle.std.proofs.lemmas.List.{map-append, length-map}
 use Rattle.yaml_nodes.proofs.GraphLaws.{get-end}
 use Rattle.yaml_compact.specs.StoreGrows.{tags_of}
 use Rattle.yaml_compact.proofs.StoreLaws.{tagged}
+use Rattle.yaml_compact.specs.TextModel.{text_of}
 use Rattle.yaml_compact.proofs.store.Store.add_tag.Goals as goal
 
 -- the tags with the one that was pushed
@@ -17,7 +18,7 @@ pushed c =
 pub returns-clause-kept : goal.returns-clause-kept
 returns-clause-kept c = λ good.
     let s = c.args.self.now in
-    let t = tagged (tags_of s) (map string_bytes c.push.new.self.items) c.args.tag.now (string_bytes s.text) s.items.items s.entries.items s.nodes.items good (pushed c) in
+    let t = tagged (tags_of s) (map string_bytes c.push.new.self.items) c.args.tag.now (text_of s.text) s.items.items s.entries.items s.nodes.items good (pushed c) in
     record { good = t.sound; more_tags = c.args.tag.now ∷ []; tags = t.tags; more = []; trees = t.trees }
 
 pub returns-clause-is : goal.returns-clause-is

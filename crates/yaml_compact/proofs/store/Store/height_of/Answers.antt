@@ -1,16 +1,16 @@
 use Rattle.std.proofs.Common.{◌≡◌, length, Some, refl, sym, ap, subst, arith}
 use Rattle.std.specs.List.{slice_get}
-use Rattle.std.specs.String.{string_bytes}
 use Rattle.std.proofs.lemmas.Bool.{ltb-true, ltb-false}
 use Rattle.std.proofs.lemmas.Option.{slice_get_read, slice_get_within}
 use Rattle.yaml_compact.specs.StoreGrows.{tags_of, trees_of}
 use Rattle.yaml_compact.proofs.Growing.{high-at, trees-count}
+use Rattle.yaml_compact.specs.TextModel.{text_of}
 use Rattle.yaml_compact.proofs.store.Store.height_of.Goals as goal
 
 pub returns-in_err-node : goal.returns-in_err-node
 returns-in_err-node c = λ t good e.
     let s = c.args.self.now in
-    let count = trees-count s.nodes.items (string_bytes s.text) s.items.items s.entries.items (tags_of s) in
+    let count = trees-count s.nodes.items (text_of s.text) s.items.items s.entries.items (tags_of s) in
     let out = ltb-false c.args.id (length c.deref.result.now) (sym c.in_err-node.ensures.lookup.0) in
     absurd (omega (arith, slice_get_within (trees_of s) c.args.id t e, count, out, c.deref.ensures.len))
 

@@ -1,4 +1,5 @@
 use Rattle.std.proofs.Common.{ap, ◌∙◌}
+use Rattle.std.specs.Cow.{cow_str_bytes}
 use Rattle.std.specs.Prelude.{Some}
 use Rattle.yaml_definitions.specs.model.Tree.{scalar}
 use Rattle.yaml_compact.specs.StoreGrows.{tags_of}
@@ -14,4 +15,4 @@ returns-clause-kept c = λ good.
 pub returns-clause-stands : goal.returns-clause-stands
 returns-clause-stands c = λ good.
     let t = tag-is (tags_of c.tag.new.self) c.in_ok-tag.tag c.args.tag.now c.in_ok-tag.ensures.is in
-    c.in_ok-id.ensures.stands (c.in_ok-tag.ensures.kept good).good t.within ∙ ap (λ g. Some (scalar g c.args.content.now)) t.is
+    c.in_ok-id.ensures.stands (c.in_ok-tag.ensures.kept good).good t.within ∙ ap (λ g. Some (scalar g (cow_str_bytes c.args.content.now))) t.is
