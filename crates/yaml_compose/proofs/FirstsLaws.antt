@@ -2,7 +2,7 @@
 use Rattle.std.proofs.Common.{◌≡◌, inl, inr, ◌+◌, ◌<◌, ◌≤◌, ℕ, List, [], ◌∷◌, ◌++◌, length, sym, ◌∙◌, ap, subst, arith, append-nil, length-append}
 use Rattle.std.specs.Prelude.{Some}
 use Rattle.std.specs.List.{slice_get}
-use Rattle.std.specs.String.{string_bytes}
+use Rattle.yaml_compact.specs.TextModel.{text_of}
 use Rattle.yaml_definitions.specs.model.Tree.{Tree}
 use Rattle.yaml_nodes.proofs.GraphLaws.{get-end}
 use Rattle.law_closing.specs.Numbers.{Numbers}
@@ -38,7 +38,7 @@ counted-more before after closed t old new len h (inr k) l more same e w =
 -- ---- nodes of a store
 
 pub count-of : (s : Store) → length (trees_of s) ≡ length s.nodes.items
-count-of s = trees-count s.nodes.items (string_bytes s.text) s.items.items s.entries.items (tags_of s)
+count-of s = trees-count s.nodes.items (text_of s.text) s.items.items s.entries.items (tags_of s)
 
 came : (before more after : List Tree) (i : ℕ) (t : Tree) → after ≡ before ++ more → AtMostOne (length before) (length after) i → slice_get after i ≡ Some t → Comes before after t
 came before [] after i t e one at = let q = e ∙ append-nil before in inl (q, (i, subst (λ us. slice_get us i ≡ Some t) q at))

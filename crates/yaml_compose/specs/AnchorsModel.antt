@@ -1,5 +1,5 @@
 -- The names of anchors, as plain values.
-use Rattle.std.specs.Prelude.{◌≡◌, ℕ, ◌≤◌, ◌+◌, ◌*◌, ◌%◌, ◌/◌, ◌^◌, List, [], ◌∷◌, length, take, Option, Some}
+use Rattle.std.specs.Prelude.{◌≡◌, ℕ, ◌≤◌, ◌+◌, ◌*◌, ◌%◌, ◌/◌, ◌^◌, List, [], ◌∷◌, length, take, drop, ◌-◌, Option, Some}
 use Rattle.std.specs.List.{slice_get, slice_range}
 use Rattle.std.specs.String.{string_bytes}
 use Rattle.std.specs.BTreeMap.{get_by_text}
@@ -14,7 +14,7 @@ hashed h [] = h
 hashed h (b ∷ bs) = hashed ((h + b) % 2 ^ 32 * 16777619 % 2 ^ 32) bs
 
 abbrev pub table_place : List ℕ → ℕ
-table_place name = hashed 0 name / 1048576
+table_place name = hashed 0 (drop (length name - 32) name) / 1048576
 
 -- each name stands in the text where its span says
 abbrev pub StandIn : List ℕ → List Span → List (List ℕ) → Type 0

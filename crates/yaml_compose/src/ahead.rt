@@ -1,6 +1,7 @@
 //! A composer that knows the properties of a flow collection before the log of events has them.
 ghost use Rattle.std.specs.Prelude.{◌≡◌, Bool, List, [], ◌∷◌, ◌++◌, length, None, IfOk, IfErr};
 ghost use Rattle.std.specs.Bool.{OnFalse};
+ghost use Rattle.std.specs.Cow.{cow_str_bytes};
 ghost use Rattle.yaml_definitions.specs.model.Event.{Event, untagged, document_start, mapping_start, scalar_event, alias_event};
 ghost use Rattle.yaml_definitions.specs.model.Serial.{Document, stream_events};
 ghost use Rattle.yaml_definitions.specs.grammar.Events.{Props};
@@ -19,6 +20,7 @@ use crate::copies::are_same;
 use crate::judged::Judged;
 use crate::unmade::Unmade;
 use std::alloc::Global;
+use std::borrow::CowStr;
 use std::mem;
 use yaml_compact::gives_up::GivesUp;
 use yaml_compact::nodes;
@@ -37,8 +39,8 @@ pub(crate) struct Begun {
 
 /// A composer, and what it knows that the log does not say yet.
 #[derive(Drop)]
-pub(crate) struct Ahead {
-    judged: Judged,
+pub(crate) struct Ahead<'s> {
+    judged: Judged<'s>,
     /// The open collections, the innermost last.
     opens: Vec<Begun>,
     /// The collection that ended last, or a long scalar, where nothing came after it.
@@ -89,12 +91,12 @@ impl Begun {
     }
 }
 
-impl Ahead {
+impl<'s> Ahead<'s> {
     /// No event yet.
-    pub(crate) fn new(alloc: Global) -> Result<Ahead, GivesUp>
+    pub(crate) fn new(alloc: Global, lent: &'s str) -> Result<Ahead<'s>, GivesUp>
         ensures { IfOk result (λ ahead. Tells ahead []) }
     {
-        let judged = Judged::new(alloc)?;
+        let judged = Judged::new(alloc, lent)?;
         Ok(Ahead {
             judged,
             opens: Vec::new(alloc),
@@ -123,12 +125,14 @@ impl Ahead {
         at: usize,
         properties: &Properties<'_>,
         style: Style,
-        text: &str,
+        text: &mut CowStr<'_>,
+        offset: usize,
     ) -> Result<(), GivesUp>
-        ensures { IfOk result (λ _. (log : List Event) → at ≡ length log → Tells self.old log → Tells self.new (log ++ (scalar_event (props_of properties.now).anchor (props_of properties.now).tag (style_of style) text.now ∷ []))) }
+        ensures { IfOk result (λ _. (log : List Event) → at ≡ length log → Tells self.old log → Tells self.new (log ++ (scalar_event (props_of properties.now).anchor (props_of properties.now).tag (style_of style) (cow_str_bytes text.old) ∷ []))) }
     {
         self.go_on()?;
-        self.judged.scalar(alloc, at, properties, style, text)?;
+        self.judged
+            .scalar(alloc, at, properties, style, text, offset)?;
         Ok(())
     }
 
@@ -139,12 +143,13 @@ impl Ahead {
         at: usize,
         given: Properties<'static>,
         style: Style,
-        text: &str,
+        text: &mut CowStr<'_>,
+        offset: usize,
     ) -> Result<(), GivesUp>
-        ensures { IfOk result (λ _. (p : Props) (log : List Event) → at ≡ length log → Tells self.old log → Tells self.new (log ++ (scalar_event p.anchor p.tag (style_of style) text.now ∷ []))) }
+        ensures { IfOk result (λ _. (p : Props) (log : List Event) → at ≡ length log → Tells self.old log → Tells self.new (log ++ (scalar_event p.anchor p.tag (style_of style) (cow_str_bytes text.old) ∷ []))) }
     {
         self.go_on()?;
-        self.judged.scalar(alloc, at, &given, style, text)?;
+        self.judged.scalar(alloc, at, &given, style, text, offset)?;
         let due = Some(given);
         self.ended = Some(Begun { at, due });
         Ok(())
@@ -279,10 +284,10 @@ impl Ahead {
     }
 
     /// The stream ends, or the second of two.
-    pub(crate) fn finish(self) -> Result<Forest, Unmade>
-        ensures forest { (ds : List Document) → Tells self (stream_events ds) → IfOk result (IsForest ds) }
-        ensures both { (ds es : List Document) → Tells self (stream_events ds ++ stream_events es) → IfOk result (AreForests ds es) }
-        ensures refused { (ds : List Document) → Tells self (stream_events ds) → IfErr result (RefusesForest ds) }
+    pub(crate) fn finish(self) -> Result<Forest<'s>, Unmade>
+        ensures forest { (ds : List Document) → Tells self.entry (stream_events ds) → IfOk result (IsForest ds) }
+        ensures both { (ds es : List Document) → Tells self.entry (stream_events ds ++ stream_events es) → IfOk result (AreForests ds es) }
+        ensures refused { (ds : List Document) → Tells self.entry (stream_events ds) → IfErr result (RefusesForest ds) }
     {
         let mut ahead = self;
         ahead.go_on()?;

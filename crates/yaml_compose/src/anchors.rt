@@ -14,6 +14,9 @@ const HASHES: usize = 4_096;
 /// By what a hash is multiplied with each byte. Its upper bits are those on which all bytes tell.
 const MULTIPLIER: u32 = 16_777_619;
 
+/// How many bytes at the end of a name count for its hash.
+const COUNTED: usize = 32;
+
 /// How many numbers share a hash's upper bits.
 const SHARED: u32 = 1_048_576;
 
@@ -35,12 +38,13 @@ pub(crate) struct Anchors {
     mapped: usize,
 }
 
-/// The place of a name in the table: the upper bits of its hash.
+/// The place of a name in the table: the upper bits of a hash of its end. Names that differ only before that share a place.
 fn place_of(name: &[u8]) -> usize
     ensures { result ≡ table_place name.now }
 {
+    let end = &name[name.len().saturating_sub(COUNTED)..];
     let mut hash: u32 = 0;
-    for byte in name {
+    for byte in end {
         hash = hash.wrapping_add(u32::from(*byte)).wrapping_mul(MULTIPLIER);
     }
     (hash / SHARED) as usize

@@ -53,8 +53,8 @@ pub(crate) struct Open {
 
 /// What was composed of the events so far.
 #[derive(Drop)]
-pub(crate) struct Composer {
-    pub(crate) store: Store,
+pub(crate) struct Composer<'s> {
+    pub(crate) store: Store<'s>,
     pub(crate) core: CoreTags,
     /// The names of this document's anchors.
     pub(crate) anchors: Anchors,
@@ -81,18 +81,18 @@ fn parts_from(stack: &[u32], mark: usize) -> Result<&[u32], GivesUp>
 /// The nodes of a stream, the numbers of its documents' roots, and for each node the first one of the
 /// stream that it stands for.
 #[derive(Drop)]
-pub struct Forest {
-    pub store: Store,
+pub struct Forest<'s> {
+    pub store: Store<'s>,
     pub roots: Vec<u32>,
     pub firsts: Vec<u32>,
 }
 
-impl Composer {
-    /// Nothing is put down yet.
-    pub(crate) fn new(alloc: Global) -> Result<Composer, GivesUp>
+impl<'s> Composer<'s> {
+    /// Nothing is put down yet. Long contents may be parts of the text that is lent.
+    pub(crate) fn new(alloc: Global, lent: &'s str) -> Result<Composer<'s>, GivesUp>
         ensures { IfOk result (λ c. Holds c initial_state) }
     {
-        let mut store = Store::new(alloc)?;
+        let mut store = Store::new(alloc, lent)?;
         let core = CoreTags::new(alloc, &mut store)?;
         Ok(Composer {
             store,
@@ -128,10 +128,10 @@ impl Composer {
     }
 
     /// The stream ends, or the second of two.
-    pub(crate) fn finish(self) -> Result<Forest, Unmade>
-        ensures forest { (ds : List Document) (s : State) → Reaches (stream_events ds) initial_state s → Holds self s → IfOk result (IsForest ds) }
-        ensures refused { (ds : List Document) (s : State) → Reaches (stream_events ds) initial_state s → Holds self s → IfErr result (RefusesForest ds) }
-        ensures both { (ds es : List Document) (s : State) → Reaches (stream_events ds ++ stream_events es) initial_state s → Holds self s → IfOk result (AreForests ds es) }
+    pub(crate) fn finish(self) -> Result<Forest<'s>, Unmade>
+        ensures forest { (ds : List Document) (s : State) → Reaches (stream_events ds) initial_state s → Holds self.entry s → IfOk result (IsForest ds) }
+        ensures refused { (ds : List Document) (s : State) → Reaches (stream_events ds) initial_state s → Holds self.entry s → IfErr result (RefusesForest ds) }
+        ensures both { (ds es : List Document) (s : State) → Reaches (stream_events ds ++ stream_events es) initial_state s → Holds self.entry s → IfOk result (AreForests ds es) }
     {
         let Composer {
             store,
@@ -197,60 +197,73 @@ impl Composer {
         anchor: Option<&str>,
         tag: &EventTag<'_>,
         style: Style,
-        text: &str,
+        text: &mut CowStr<'_>,
+        offset: usize,
     ) -> Result<(), Stop>
         ensures { (s : State) → Holds self.old s →
-            let event = scalar_event (anchor_text anchor.entry) (written_of tag.now) (style_of style) text.now in
+            let event = scalar_event (anchor_text anchor.entry) (written_of tag.now) (style_of style) (cow_str_bytes text.old) in
             MatchResult result (λ _. Stepped event s self.new) (Stops event s) }
     {
-        let scalar = resolve(alloc, tag, style, text)?;
+        let scalar = resolve(alloc, tag, style, text.as_str())?;
         let place = self.begin_node(anchor)?;
+        let mut content = CowStr::Borrowed(scalar.content.as_str());
         let id = self
             .store
-            .scalar(alloc, scalar.tag.as_str(), scalar.content.as_str())?;
+            .scalar(alloc, scalar.tag.as_str(), &mut content, offset)?;
         self.put(place, id)?;
         Ok(())
     }
 
     /// A scalar of this kind and content without an anchor.
     #[inline(always)]
-    fn put_kind(&mut self, kind: PlainKind, content: &str) -> Result<(), GivesUp>
-        ensures { (s : State) → Holds self.old s → IfOk result (λ _. Holds self.new (whole None (length s.table) (scalar (kind_tag kind) content.now) s)) }
+    fn put_kind(
+        &mut self,
+        kind: PlainKind,
+        content: &mut CowStr<'_>,
+        offset: usize,
+    ) -> Result<(), GivesUp>
+        ensures { (s : State) → Holds self.old s → IfOk result (λ _. Holds self.new (whole None (length s.table) (scalar (kind_tag kind) (cow_str_bytes content.old)) s)) }
     {
         let tag = self.core.scalar(kind);
-        let id = self.store.scalar_of(tag, content)?;
+        let id = self.store.scalar_of(tag, content, offset)?;
         self.put(None, id)?;
         Ok(())
     }
 
     /// A plain scalar without properties.
     #[inline(always)]
-    fn put_plain(&mut self, alloc: Global, text: &str) -> Result<(), Stop>
-        ensures { (s : State) → Holds self.old s → MatchResult result (λ _. Stepped (scalar_event None untagged plain text.now) s self.new) (Stops (scalar_event None untagged plain text.now) s) }
+    fn put_plain(&mut self, alloc: Global, text: &mut CowStr<'_>, offset: usize) -> Result<(), Stop>
+        ensures { (s : State) → Holds self.old s → MatchResult result (λ _. Stepped (scalar_event None untagged plain (cow_str_bytes text.old)) s self.new) (Stops (scalar_event None untagged plain (cow_str_bytes text.old)) s) }
     {
-        let form = judge(text);
+        let form = judge(text.as_str());
         let kind = form.kind();
         if let PlainKind::Str = kind {
-            self.put_kind(kind, text)?;
+            self.put_kind(kind, text, offset)?;
             return Ok(());
         }
-        let content = content(alloc, kind, form, text)?;
-        self.put_kind(kind, content.as_str())?;
+        let mut content = content(alloc, kind, form, text.as_str())?;
+        self.put_kind(kind, &mut content, offset)?;
         Ok(())
     }
 
     /// A scalar without properties.
     #[inline(always)]
-    fn put_bare(&mut self, alloc: Global, style: Style, text: &str) -> Result<(), Stop>
-        ensures { (s : State) → Holds self.old s → MatchResult result (λ _. Stepped (scalar_event None untagged (style_of style) text.now) s self.new) (Stops (scalar_event None untagged (style_of style) text.now) s) }
+    fn put_bare(
+        &mut self,
+        alloc: Global,
+        style: Style,
+        text: &mut CowStr<'_>,
+        offset: usize,
+    ) -> Result<(), Stop>
+        ensures { (s : State) → Holds self.old s → MatchResult result (λ _. Stepped (scalar_event None untagged (style_of style) (cow_str_bytes text.old)) s self.new) (Stops (scalar_event None untagged (style_of style) (cow_str_bytes text.old)) s) }
     {
         match style {
             Style::Plain => {
-                self.put_plain(alloc, text)?;
+                self.put_plain(alloc, text, offset)?;
                 Ok(())
             }
             Style::Single | Style::Double | Style::Literal | Style::Folded => {
-                self.put_kind(PlainKind::Str, text)?;
+                self.put_kind(PlainKind::Str, text, offset)?;
                 Ok(())
             }
         }
@@ -263,15 +276,25 @@ impl Composer {
         alloc: Global,
         properties: &Properties<'_>,
         style: Style,
-        text: &str,
+        text: &mut CowStr<'_>,
+        offset: usize,
     ) -> Result<(), Stop>
         ensures { (s : State) → Holds self.old s →
-            let event = scalar_event (props_of properties.now).anchor (props_of properties.now).tag (style_of style) text.now in
+            let event = scalar_event (props_of properties.now).anchor (props_of properties.now).tag (style_of style) (cow_str_bytes text.old) in
             MatchResult result (λ _. Stepped event s self.new) (Stops event s) }
     {
         match &properties.given {
-            None => self.put_bare(alloc, style, text),
-            Some(given) => self.put_scalar(alloc, name_of(&given.anchor), &given.tag, style, text),
+            None => self.put_bare(alloc, style, text, offset),
+            Some(given) => {
+                self.put_scalar(
+                    alloc,
+                    name_of(&given.anchor),
+                    &given.tag,
+                    style,
+                    text,
+                    offset,
+                )
+            }
         }
     }
 

@@ -26,6 +26,19 @@ fn copy_text(alloc: Global, text: &CowStr<'_>) -> Result<CowStr<'static>, GivesU
     Ok(CowStr::Owned(copy))
 }
 
+/// A text becomes a copy of another, in the room that it has.
+fn write_over(alloc: Global, copy: &mut CowStr<'static>, text: &CowStr<'_>) -> Result<(), GivesUp>
+    ensures { IfOk result (λ _. cow_str_bytes copy.new ≡ cow_str_bytes text.now) }
+{
+    if let CowStr::Owned(room) = copy {
+        room.clear();
+        room.push_str(text.as_str())?;
+        return Ok(());
+    }
+    *copy = copy_text(alloc, text)?;
+    Ok(())
+}
+
 /// A copy of an anchor's name, if there is one.
 fn copy_anchor(
     alloc: Global,
@@ -69,6 +82,55 @@ pub(crate) fn copy_of(
     let anchor = copy_anchor(alloc, &given.anchor)?;
     let tag = copy_tag(alloc, &given.tag)?;
     let held = Box::new(alloc, Given { anchor, tag })?;
+    Ok(Properties { given: Some(held) })
+}
+
+/// An anchor's name becomes a copy of another, in the room that it has.
+fn write_over_anchor(
+    alloc: Global,
+    copy: &mut Option<CowStr<'static>>,
+    anchor: &Option<CowStr<'_>>,
+) -> Result<(), GivesUp>
+    ensures { IfOk result (λ _. option_map cow_str_bytes copy.new ≡ option_map cow_str_bytes anchor.now) }
+{
+    if let (Some(copy), Some(name)) = (&mut *copy, anchor) {
+        return write_over(alloc, copy, name);
+    }
+    *copy = copy_anchor(alloc, anchor)?;
+    Ok(())
+}
+
+/// A tag becomes a copy of another, in the room that it has.
+fn write_over_tag(
+    alloc: Global,
+    copy: &mut EventTag<'static>,
+    tag: &EventTag<'_>,
+) -> Result<(), GivesUp>
+    ensures { IfOk result (λ _. written_of copy.new ≡ written_of tag.now) }
+{
+    if let (EventTag::Full(copy), EventTag::Full(text)) = (&mut *copy, tag) {
+        return write_over(alloc, copy, text);
+    }
+    *copy = copy_tag(alloc, tag)?;
+    Ok(())
+}
+
+/// A copy of a node's properties, in the room of others that are of no use any more.
+pub(crate) fn copy_over(
+    alloc: Global,
+    spare: Properties<'static>,
+    properties: &Properties<'_>,
+) -> Result<Properties<'static>, GivesUp>
+    ensures { IfOk result (λ copy. props_of copy ≡ props_of properties.now) }
+{
+    let Some(given) = &properties.given else {
+        return Ok(Properties::none());
+    };
+    let Some(mut held) = spare.given else {
+        return copy_of(alloc, properties);
+    };
+    write_over_anchor(alloc, &mut held.anchor, &given.anchor)?;
+    write_over_tag(alloc, &mut held.tag, &given.tag)?;
     Ok(Properties { given: Some(held) })
 }
 

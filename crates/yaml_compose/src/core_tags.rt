@@ -24,7 +24,7 @@ pub(crate) struct CoreTags {
 
 impl CoreTags {
     /// Puts the tags into a store.
-    pub(crate) fn new(alloc: Global, store: &mut Store) -> Result<CoreTags, GivesUp>
+    pub(crate) fn new(alloc: Global, store: &mut Store<'_>) -> Result<CoreTags, GivesUp>
         ensures kept { Good store.old → IfOk result (λ _. Keeps store.old store.new) }
         ensures nodes { IfOk result (λ _. store.new.nodes ≡ store.old.nodes) }
         ensures core { Good store.old → IfOk result (AreCore (tags_of store.new)) }

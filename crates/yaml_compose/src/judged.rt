@@ -1,5 +1,6 @@
 //! A composer up to the first event that is refused.
 ghost use Rattle.std.specs.Prelude.{◌≡◌, Bool, List, [], ◌∷◌, ◌++◌, length, None, IfOk, IfErr};
+ghost use Rattle.std.specs.Cow.{cow_str_bytes};
 ghost use Rattle.yaml_definitions.specs.model.Event.{Event, untagged, document_start, mapping_start, scalar_event, alias_event};
 ghost use Rattle.yaml_definitions.specs.model.Serial.{Document, stream_events};
 ghost use Rattle.yaml_text.specs.EventModel.{style_of};
@@ -15,6 +16,7 @@ use crate::composer::{Composer, Forest};
 use crate::stop::Refusal;
 use crate::unmade::Unmade;
 use std::alloc::Global;
+use std::borrow::CowStr;
 use yaml_compact::gives_up::GivesUp;
 use yaml_compact::nodes::Collection;
 use yaml_sink::properties::Properties;
@@ -22,18 +24,18 @@ use yaml_text::event::Style;
 
 /// A composer that is told of no more events once one is refused: its node has no tree.
 #[derive(Drop)]
-pub(crate) struct Judged {
-    composer: Composer,
+pub(crate) struct Judged<'s> {
+    composer: Composer<'s>,
     /// The event that is refused.
     refusal: Option<Refusal>,
 }
 
-impl Judged {
+impl<'s> Judged<'s> {
     /// No event yet.
-    pub(crate) fn new(alloc: Global) -> Result<Judged, GivesUp>
+    pub(crate) fn new(alloc: Global, lent: &'s str) -> Result<Judged<'s>, GivesUp>
         ensures { IfOk result (λ judged. Judges judged []) }
     {
-        let composer = Composer::new(alloc)?;
+        let composer = Composer::new(alloc, lent)?;
         Ok(Judged {
             composer,
             refusal: None,
@@ -48,14 +50,15 @@ impl Judged {
         at: usize,
         properties: &Properties<'_>,
         style: Style,
-        text: &str,
+        text: &mut CowStr<'_>,
+        offset: usize,
     ) -> Result<(), GivesUp>
-        ensures { IfOk result (λ _. Takes at (scalar_event (props_of properties.now).anchor (props_of properties.now).tag (style_of style) text.now) self.old self.new) }
+        ensures { IfOk result (λ _. Takes at (scalar_event (props_of properties.now).anchor (props_of properties.now).tag (style_of style) (cow_str_bytes text.old)) self.old self.new) }
     {
         if let Some(_) = self.refusal {
             return Ok(());
         }
-        if let Err(stop) = self.composer.scalar(alloc, properties, style, text) {
+        if let Err(stop) = self.composer.scalar(alloc, properties, style, text, offset) {
             self.refusal = Some(stop.refusal(at)?);
         }
         Ok(())
@@ -143,10 +146,10 @@ impl Judged {
     }
 
     /// The stream ends, or the second of two.
-    pub(crate) fn finish(self) -> Result<Forest, Unmade>
-        ensures forest { (ds : List Document) → Judges self (stream_events ds) → IfOk result (IsForest ds) }
-        ensures both { (ds es : List Document) → Judges self (stream_events ds ++ stream_events es) → IfOk result (AreForests ds es) }
-        ensures refused { (ds : List Document) → Judges self (stream_events ds) → IfErr result (RefusesForest ds) }
+    pub(crate) fn finish(self) -> Result<Forest<'s>, Unmade>
+        ensures forest { (ds : List Document) → Judges self.entry (stream_events ds) → IfOk result (IsForest ds) }
+        ensures both { (ds es : List Document) → Judges self.entry (stream_events ds ++ stream_events es) → IfOk result (AreForests ds es) }
+        ensures refused { (ds : List Document) → Judges self.entry (stream_events ds) → IfErr result (RefusesForest ds) }
     {
         let Judged { composer, refusal } = self;
         if let Some(refusal) = refusal {

@@ -1,5 +1,6 @@
 //! A keeper of a reader's events that composes them.
 ghost use Rattle.std.specs.Prelude.{◌≡◌, Bool, List, [], ◌∷◌, ◌++◌, None, IfOk, IfErr};
+ghost use Rattle.std.specs.Cow.{cow_str_bytes};
 ghost use Rattle.yaml_definitions.specs.model.Event.{Event as PlainEvent, untagged, scalar_event, alias_event, document_start, mapping_start};
 ghost use Rattle.yaml_definitions.specs.model.Serial.{Document, stream_events};
 ghost use Rattle.yaml_text.specs.EventModel.{event_of, style_of};
@@ -13,10 +14,11 @@ ghost use Rattle.yaml_compose.specs.Refusals.{RefusesForest};
 
 use crate::ahead::Ahead;
 use crate::composer::Forest;
-use crate::copies::{Owned, copy_of};
+use crate::copies::Owned;
 use crate::unmade::Unmade;
 use crate::waiting::{Late, Waiting};
 use std::alloc::Global;
+use std::borrow::CowStr;
 use std::mem;
 use yaml_compact::gives_up::GivesUp;
 use yaml_sink::properties::Properties;
@@ -28,13 +30,21 @@ use yaml_text::fault::Fault;
 /// 7.4.2) of four.
 const LONGEST_KEY: usize = 4096;
 
+/// Where the content of a scalar begins that begins here, if it stands in the text as it is: behind its quote.
+fn content_offset(style: Style, at: usize) -> usize {
+    match style {
+        Style::Single | Style::Double => at.saturating_add(1),
+        Style::Plain | Style::Literal | Style::Folded => at,
+    }
+}
+
 /// A reader's events, composed as they come. Where a node has no tree it goes on counting, and at the end it tells why. It gives up
 /// where a number does not fit, and where a collection gets properties that it did not know when it began, as those of a block
 /// mapping are whose first key is a collection. Then it says that there is no memory.
 #[derive(Drop)]
-pub struct Composing {
+pub struct Composing<'s> {
     alloc: Global,
-    ahead: Ahead,
+    ahead: Ahead<'s>,
     waiting: Waiting,
     /// The properties of the node that follows, if they are known.
     announced: Option<Owned>,
@@ -44,12 +54,12 @@ pub struct Composing {
     gave_up: bool,
 }
 
-impl Composing {
-    /// No event yet.
-    pub fn new(alloc: Global) -> Result<Composing, GivesUp>
+impl<'s> Composing<'s> {
+    /// No event yet. Long contents may be parts of the text that is lent.
+    pub fn new(alloc: Global, lent: &'s str) -> Result<Composing<'s>, GivesUp>
         ensures { IfOk result (λ keeper. Composes keeper []) }
     {
-        let ahead = Ahead::new(alloc)?;
+        let ahead = Ahead::new(alloc, lent)?;
         Ok(Composing {
             alloc,
             ahead,
@@ -77,20 +87,25 @@ impl Composing {
     }
 
     /// Puts down a scalar without properties.
-    fn put_scalar(&mut self, style: Style, text: &str) -> Result<(), GivesUp>
+    fn put_scalar(&mut self, style: Style, text: &str, offset: usize) -> Result<(), GivesUp>
         ensures { IfOk result (λ _. Puts Composes self.old (scalar_event None untagged (style_of style) text.now ∷ []) self.new) }
     {
         self.make_room()?;
         let due = mem::replace(&mut self.announced, None);
-        self.waiting.put(Late::Scalar(style), text, due)?;
+        self.waiting.put(Late::Scalar(style), text, offset, due)?;
         Ok(())
     }
 
     /// Puts down a long scalar without properties. It is composed at once, with those that are announced, so that its text is copied
     /// once.
     #[inline(never)]
-    fn put_long(&mut self, style: Style, text: &str) -> Result<(), GivesUp>
-        ensures { IfOk result (λ _. Puts Composes self.old (scalar_event None untagged (style_of style) text.now ∷ []) self.new) }
+    fn put_long(
+        &mut self,
+        style: Style,
+        text: &mut CowStr<'_>,
+        offset: usize,
+    ) -> Result<(), GivesUp>
+        ensures { IfOk result (λ _. Puts Composes self.old (scalar_event None untagged (style_of style) (cow_str_bytes text.old) ∷ []) self.new) }
     {
         let at = self.count;
         self.make_room()?;
@@ -98,7 +113,8 @@ impl Composing {
             None => Properties::none(),
             Some(owned) => owned.properties,
         };
-        self.ahead.scalar_due(self.alloc, at, given, style, text)?;
+        self.ahead
+            .scalar_due(self.alloc, at, given, style, text, offset)?;
         Ok(())
     }
 
@@ -107,7 +123,7 @@ impl Composing {
         ensures { IfOk result (λ _. Puts Composes self.old (alias_event name.now ∷ []) self.new) }
     {
         self.make_room()?;
-        self.waiting.put(Late::Alias, name, None)?;
+        self.waiting.put(Late::Alias, name, 0, None)?;
         self.announced = None;
         Ok(())
     }
@@ -118,7 +134,7 @@ impl Composing {
     {
         self.make_room()?;
         let due = mem::replace(&mut self.announced, None);
-        self.waiting.put(Late::Start(collection, flow), "", due)?;
+        self.waiting.put(Late::Start(collection, flow), "", 0, due)?;
         Ok(())
     }
 
@@ -228,10 +244,10 @@ impl Composing {
     }
 
     /// The nodes of a whole stream, or of two.
-    pub fn finish(self) -> Result<Forest, Unmade>
-        ensures forest { (ds : List Document) → Composes self (stream_events ds) → IfOk result (IsForest ds) }
-        ensures both { (ds es : List Document) → Composes self (stream_events ds ++ stream_events es) → IfOk result (AreForests ds es) }
-        ensures refused { (ds : List Document) → Composes self (stream_events ds) → IfErr result (RefusesForest ds) }
+    pub fn finish(self) -> Result<Forest<'s>, Unmade>
+        ensures forest { (ds : List Document) → Composes self.entry (stream_events ds) → IfOk result (IsForest ds) }
+        ensures both { (ds es : List Document) → Composes self.entry (stream_events ds ++ stream_events es) → IfOk result (AreForests ds es) }
+        ensures refused { (ds : List Document) → Composes self.entry (stream_events ds) → IfErr result (RefusesForest ds) }
     {
         let Composing {
             alloc,
@@ -249,7 +265,7 @@ impl Composing {
     }
 }
 
-impl Keeper for Composing {
+impl Keeper for Composing<'_> {
     ghost use Rattle.yaml_sink.specs.Held.{Counts, Keeps, Puts, Alters};
     ghost use Rattle.yaml_sink.specs.PropertyRules.{props_of, dressed};
     ghost use Rattle.yaml_text.specs.EventModel.{event_of};
@@ -266,12 +282,13 @@ impl Keeper for Composing {
         Ok(())
     }
 
-    fn scalar(&mut self, style: Style, text: &str, _at: usize) -> Result<(), Fault> {
-        if text.len() > LONGEST_KEY {
-            self.put_long(style, text)?;
+    fn scalar(&mut self, style: Style, text: &mut CowStr<'_>, at: usize) -> Result<(), Fault> {
+        let offset = content_offset(style, at);
+        if text.as_str().len() > LONGEST_KEY {
+            self.put_long(style, text, offset)?;
             return Ok(());
         }
-        self.put_scalar(style, text)?;
+        self.put_scalar(style, text.as_str(), offset)?;
         Ok(())
     }
 
@@ -291,7 +308,7 @@ impl Keeper for Composing {
     }
 
     fn announce(&mut self, own: &Properties<'_>) {
-        match copy_of(self.alloc, own) {
+        match self.waiting.copy_in_room(self.alloc, own) {
             Ok(copy) => self.announced = Some(Owned { properties: copy }),
             Err(_) => self.gave_up = true,
         }

@@ -11,7 +11,7 @@ use yaml_compact::store::Store;
 use yaml_text::limits::height_limit;
 
 /// Whether the tree that a node stands for is higher than the limit.
-fn is_too_high(store: &Store, id: u32) -> bool
+fn is_too_high(store: &Store<'_>, id: u32) -> bool
     ensures { (t : Tree) → Good store.now → Stands store.now id t → (IsTrue result ↔ (limit.height_limit < height t)) }
 {
     match store.height_of(id) {
@@ -21,7 +21,7 @@ fn is_too_high(store: &Store, id: u32) -> bool
 }
 
 /// The first document whose root stands for a tree that is higher than the limit.
-pub(crate) fn first_too_high(store: &Store, roots: &[u32]) -> Option<usize>
+pub(crate) fn first_too_high(store: &Store<'_>, roots: &[u32]) -> Option<usize>
     ensures { Good store.now → (trees : List Tree) → AllAt (trees_of store.now) roots.now trees → MatchOption result (AreLow trees) (IsFirstTooHigh trees) }
 {
     for (document, root) in roots.iter().enumerate() {

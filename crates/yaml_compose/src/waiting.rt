@@ -7,8 +7,9 @@ ghost use Rattle.yaml_sink.specs.PropertyRules.{props_of};
 ghost use Rattle.yaml_compose.specs.WaitingModel.{late_event, start_before, waits, IsOne, PutsLate, ComposesWaits, Precedes, DressesWaits};
 
 use crate::ahead::Ahead;
-use crate::copies::{Owned, are_same, copy_of};
+use crate::copies::{Owned, copy_over};
 use std::alloc::Global;
+use std::borrow::CowStr;
 use std::mem;
 use yaml_compact::gives_up::GivesUp;
 use yaml_sink::properties::Properties;
@@ -31,6 +32,8 @@ pub(crate) struct Waiting {
     late: Late,
     /// The content of a scalar, the name of an alias.
     text: String,
+    /// Where it may stand in the text that is read.
+    offset: usize,
     /// What the event has of properties.
     own: Properties<'static>,
     /// What was announced of properties.
@@ -38,6 +41,18 @@ pub(crate) struct Waiting {
     /// Of the mapping's start, whether it is a flow mapping, and its properties.
     mapping: Option<bool>,
     outer: Properties<'static>,
+    /// Properties of an earlier event, whose room others may have.
+    spare: Properties<'static>,
+}
+
+/// Properties are of no use any more, but for their room.
+#[inline(always)]
+fn set_aside(own: &mut Properties<'static>, spare: &mut Properties<'static>)
+    ensures { props_of own.new ≡ no_props }
+{
+    if own.given.is_some() {
+        *spare = mem::replace(own, Properties::none());
+    }
 }
 
 impl Waiting {
@@ -48,10 +63,12 @@ impl Waiting {
         Waiting {
             late: Late::Nothing,
             text: String::new(alloc),
+            offset: 0,
             own: Properties::none(),
             due: None,
             mapping: None,
             outer: Properties::none(),
+            spare: Properties::none(),
         }
     }
 
@@ -66,12 +83,19 @@ impl Waiting {
     /// This waits, without properties. Those that are due, if there are any, were announced for it: a collection is composed with
     /// them, unless it gets others before.
     #[inline(always)]
-    pub(crate) fn put(&mut self, late: Late, text: &str, due: Option<Owned>) -> Result<(), GivesUp>
+    pub(crate) fn put(
+        &mut self,
+        late: Late,
+        text: &str,
+        offset: usize,
+        due: Option<Owned>,
+    ) -> Result<(), GivesUp>
         ensures { IfOk result (λ _. waits self.new ≡ late_event late no_props text.now) }
     {
         self.text.clear();
         self.text.push_str(text)?;
-        self.own = Properties::none();
+        self.offset = offset;
+        set_aside(&mut self.own, &mut self.spare);
         self.due = due;
         self.mapping = None;
         self.late = late;
@@ -110,7 +134,23 @@ impl Waiting {
         properties.is_none()
     }
 
-    /// A copy of properties: those that are due, where they are the same.
+    /// A copy of properties, in the room that earlier ones had.
+    pub(crate) fn copy_in_room(
+        &mut self,
+        alloc: Global,
+        properties: &Properties<'_>,
+    ) -> Result<Properties<'static>, GivesUp>
+        ensures copy { IfOk result (λ copy. props_of copy ≡ props_of properties.now) }
+        ensures waits { waits self.new ≡ waits self.old }
+    {
+        if properties.given.is_none() {
+            return Ok(Properties::none());
+        }
+        let spare = mem::replace(&mut self.spare, Properties::none());
+        copy_over(alloc, spare, properties)
+    }
+
+    /// A copy of properties, in the room of those that are due.
     pub(crate) fn copy_of(
         &mut self,
         alloc: Global,
@@ -119,13 +159,11 @@ impl Waiting {
         ensures copy { IfOk result (λ copy. props_of copy ≡ props_of properties.now) }
         ensures waits { waits self.new ≡ waits self.old }
     {
-        if let Some(owned) = mem::replace(&mut self.due, None) {
-            let Owned { properties: given } = owned;
-            if are_same(&given, properties) {
-                return Ok(given);
-            }
-        }
-        copy_of(alloc, properties)
+        let room = match mem::replace(&mut self.due, None) {
+            Some(owned) => owned.properties,
+            None => Properties::none(),
+        };
+        copy_over(alloc, room, properties)
     }
 
     /// Puts properties on the first of the last so many events, which wait.
@@ -155,7 +193,12 @@ impl Waiting {
     }
 
     /// Composes the mapping's start, if there is one, before the event of this number.
-    fn compose_start(&self, alloc: Global, ahead: &mut Ahead, number: usize) -> Result<(), GivesUp>
+    fn compose_start(
+        &self,
+        alloc: Global,
+        ahead: &mut Ahead<'_>,
+        number: usize,
+    ) -> Result<(), GivesUp>
         ensures { IfOk result (λ _. ComposesWaits number (start_before self.now.mapping (props_of self.now.outer)) ahead.old ahead.new) }
     {
         let Some(_) = self.mapping else {
@@ -172,7 +215,7 @@ impl Waiting {
     fn compose_late(
         &mut self,
         alloc: Global,
-        ahead: &mut Ahead,
+        ahead: &mut Ahead<'_>,
         number: usize,
     ) -> Result<(), GivesUp>
         ensures { IfOk result (λ _. PutsLate number (late_event self.old.late (props_of self.old.own) (string_bytes self.old.text)) ahead.old ahead.new) }
@@ -180,7 +223,8 @@ impl Waiting {
         match self.late {
             Late::Nothing => Ok(()),
             Late::Scalar(style) => {
-                ahead.scalar(alloc, number, &self.own, style, self.text.as_str())?;
+                let mut text = CowStr::Borrowed(self.text.as_str());
+                ahead.scalar(alloc, number, &self.own, style, &mut text, self.offset)?;
                 Ok(())
             }
             Late::Alias => {
@@ -205,7 +249,7 @@ impl Waiting {
     pub(crate) fn compose(
         &mut self,
         alloc: Global,
-        ahead: &mut Ahead,
+        ahead: &mut Ahead<'_>,
         count: usize,
     ) -> Result<(), GivesUp>
         ensures composes { IfOk result (λ _. ComposesWaits count (waits self.old) ahead.old ahead.new) }

@@ -3,4 +3,4 @@ use Rattle.yaml_compose.specs.AnchorsModel.{hashed}
 use Rattle.yaml_compose.proofs.anchors.place_of.Given as goal
 
 abbrev pub invariant-loop-byte : goal.invariant-loop-byte
-invariant-loop-byte l = hashed l.hash (drop l.byte-index l.name) ≡ hashed 0 l.name
+invariant-loop-byte l = hashed l.hash (drop l.byte-index l.end) ≡ hashed 0 l.end

@@ -1,4 +1,5 @@
 use Rattle.std.proofs.Common.{◌≡◌, length, ap, inl, inr}
+use Rattle.std.specs.Cow.{cow_str_bytes}
 use Rattle.std.specs.Prelude.{Some, None, Ok}
 use Rattle.yaml_definitions.specs.model.Tree.{scalar}
 use Rattle.yaml_definitions.specs.model.Tag.{str_tag}
@@ -12,7 +13,7 @@ use Rattle.yaml_compose.proofs.composer.Composer.put_bare.Goals as goal
 pub returns-in_ok-put_kind-in-Single : goal.returns-in_ok-put_kind-in-Single
 unfolding resolve step
 returns-in_ok-put_kind-in-Single c = λ s h.
-    let x = c.args.text.now in
+    let x = (cow_str_bytes c.args.text.now) in
     let e : resolve untagged (style_of c.args.style) x ≡ Ok (str_tag, x) =
     elim c.in-Single.is [
       | inl p ↦ ap (λ y. resolve untagged (style_of y) x) p

@@ -1,4 +1,5 @@
 use Rattle.std.proofs.Common.{◌≡◌, length, ap, sym, ◌∙◌, subst}
+use Rattle.std.specs.Cow.{cow_str_bytes}
 use Rattle.std.specs.Prelude.{Some, None}
 use Rattle.std.specs.List.{slice_get}
 use Rattle.yaml_definitions.specs.model.Tree.{scalar}
@@ -13,7 +14,7 @@ returns c = λ s h.
     let self = c.args.self.now in
     let new = c.scalar_of.new.self in
     let g = kind_tag c.args.kind in
-    let x = c.args.content.now in
+    let x = (cow_str_bytes c.args.content.now) in
     let tag = c.scalar-tag.result in
     let at : slice_get (tags_of self.store) tag ≡ Some g = subst (λ i. slice_get (tags_of self.store) i ≡ Some g) (sym c.scalar-tag.ensures) (h.good.core.scalars c.args.kind) in
     let d = tag-is (tags_of self.store) tag g at in
