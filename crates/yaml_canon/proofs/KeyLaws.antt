@@ -2,7 +2,7 @@
 use Rattle.std.proofs.Common.{◌≡◌, ℕ, List, [], ◌∷◌, length, map, refl, sym, ◌∙◌, ap, subst, arith}
 use Rattle.std.specs.Prelude.{Some}
 use Rattle.std.specs.List.{slice_get}
-use Rattle.std.specs.String.{string_bytes}
+use Rattle.yaml_compact.specs.TextModel.{text_of}
 use Rattle.std.proofs.lemmas.List.{length-map}
 use Rattle.yaml_definitions.specs.model.Tree.{Tree}
 use Rattle.yaml_definitions.specs.model.Text.{Text}
@@ -58,7 +58,7 @@ inside-holdable t g (entries es) a b =
 
 stored-holdable : (s : Store) → Good s → (i : ℕ) (t : Tree) → slice_get (trees_of s) i ≡ Some t → PartsHoldable t
 stored-holdable s good i t e =
-    let text = string_bytes s.text in
+    let text = text_of s.text in
     let is = s.items.items in
     let es = s.entries.items in
     let nodes = s.nodes.items in
@@ -89,7 +89,7 @@ module _ (ds : List Document) (f : Forest) (is : IsForest ds f) where
   are-equal keys told at first second h =
       let s = f.store in
       let v = view_of s is.good in
-      let count = trees-count s.nodes.items (string_bytes s.text) s.items.items s.entries.items (tags_of s) in
+      let count = trees-count s.nodes.items (text_of s.text) s.items.items s.entries.items (tags_of s) in
       let refused = first-is-graphs graph.0 v (trees_of s) f.firsts.items count (λ i l. refl) numbered keys.node told.node at h.0.is.within keys.first keys.second h.0.is h.0.before h.1 in
       record { graph = graph.0; composed = graph.1; refuses = rw (first, second) refused }
 

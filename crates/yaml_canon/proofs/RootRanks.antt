@@ -2,7 +2,7 @@
 use Rattle.std.proofs.Common.{◌≡◌, ℕ, ◌<◌, List, [], ◌∷◌, length, map, slice_index, get_or, refl, sym, ◌∙◌, ap, subst, arith}
 use Rattle.std.specs.Prelude.{◌↔◌}
 use Rattle.std.specs.List.{All}
-use Rattle.std.specs.String.{string_bytes}
+use Rattle.yaml_compact.specs.TextModel.{text_of}
 use Rattle.std.proofs.lemmas.Option.{slice_get_within}
 use Rattle.std.proofs.lemmas.List.{length-map, get_or-map}
 use Rattle.std.proofs.lemmas.List.Elements.{All-map, All-cons}
@@ -36,7 +36,7 @@ map-arranged ts (i ∷ roots) = ap (λ us. arranged (tree_at ts i) ∷ us) (map-
 
 module _ (ts : List Tree) (f : Forest) (is : HasRoots ts f) where
   pub roots-below : All (λ i. i < length f.store.nodes.items) f.roots.items
-  roots-below = subst (λ n. All (λ i. i < n) f.roots.items) (trees-count f.store.nodes.items (string_bytes f.store.text) f.store.items.items f.store.entries.items (tags_of f.store)) (at-below (trees_of f.store) f.roots.items ts is.roots)
+  roots-below = subst (λ n. All (λ i. i < n) f.roots.items) (trees-count f.store.nodes.items (text_of f.store.text) f.store.items.items f.store.entries.items (tags_of f.store)) (at-below (trees_of f.store) f.roots.items ts is.roots)
 
   -- each root has a rank
   pub roots-ranked : (c : Ranked) → StoreRanked f.store is.good c → All (λ i. i < length (ranks_of c)) f.roots.items

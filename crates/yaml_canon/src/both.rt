@@ -5,7 +5,7 @@ ghost use Rattle.yaml_canon.specs.Both.{HasBoth, HaveRanks};
 ghost use Rattle.yaml_canon.specs.Two.{KeepsBoth};
 ghost use Rattle.yaml_canon.specs.Refused.{TellsWhy};
 
-use crate::forest::kept_bytes;
+use crate::forest::{kept_source, lent, source_of};
 use crate::no_forest::{NoForest, NoForests};
 use crate::ranks::{RankedForest, ranked_roots};
 use crate::two::Two;
@@ -17,13 +17,13 @@ use yaml_sink::sink::Keeper;
 
 /// The nodes of two streams: the roots of the left one, and then those of the right one.
 #[derive(Drop)]
-pub struct BothForests {
-    pub forest: Forest,
+pub struct BothForests<'l> {
+    pub forest: Forest<'l>,
     /// How many roots are the left one's.
     pub middle: usize,
 }
 
-impl BothForests {
+impl BothForests<'_> {
     /// The nodes of both streams in one graph, equal ones mostly merged. The forest lends their texts. It gives up where memory is
     /// refused.
     pub fn graph(&self, alloc: Global) -> Result<Graph<'_>, GivesUp>
@@ -36,8 +36,8 @@ impl BothForests {
 
 /// The ranked nodes of two streams, and the ranks of the left one's roots and then those of the right one's.
 #[derive(Drop)]
-pub(crate) struct RankedBoth {
-    pub(crate) forest: RankedForest,
+pub(crate) struct RankedBoth<'l> {
+    pub(crate) forest: RankedForest<'l>,
     /// How many roots are the left one's.
     pub(crate) middle: usize,
 }
@@ -46,13 +46,21 @@ pub(crate) struct RankedBoth {
 ///
 /// Refused is what `canonical` refuses of the left side while it reads or composes (1 to 17), else of the right one while it reads (1
 /// to 11). It gives up at what is refused later, and where memory is refused or a number does not fit.
-pub fn forest_of_both(alloc: Global, left: &[u8], right: &[u8]) -> Result<BothForests, NoForests>
+pub fn forest_of_both<'l>(
+    alloc: Global,
+    left: &'l [u8],
+    right: &[u8],
+) -> Result<BothForests<'l>, NoForests>
     ensures both { IfOk result (HasBoth left.now right.now) }
     ensures of_left { IfErr result (λ none. TellsWhy left.now none.left) }
     ensures of_right { IfErr result (λ none. TellsWhy right.now none.right) }
 {
-    let empty = Composing::new(alloc)?;
-    let mut first = match kept_bytes(alloc, empty, left) {
+    let left_text = match source_of(left) {
+        Ok(text) => text,
+        Err(why) => return Err(NoForests::left(why)),
+    };
+    let empty = Composing::new(alloc, lent(&left_text))?;
+    let mut first = match kept_source(alloc, empty, &left_text) {
         Ok(first) => first,
         Err(none) => return Err(NoForests::left(none)),
     };
@@ -60,7 +68,11 @@ pub fn forest_of_both(alloc: Global, left: &[u8], right: &[u8]) -> Result<BothFo
         Ok(middle) => middle,
         Err(why) => return Err(NoForests::left(NoForest::from(why))),
     };
-    let both = match kept_bytes(alloc, first, right) {
+    let right_text = match source_of(right) {
+        Ok(text) => text,
+        Err(why) => return Err(NoForests::right(why)),
+    };
+    let both = match kept_source(alloc, first, &right_text) {
         Ok(both) => both,
         Err(none) => return Err(NoForests::right(none)),
     };
@@ -73,23 +85,27 @@ pub fn forest_of_both(alloc: Global, left: &[u8], right: &[u8]) -> Result<BothFo
 /// The same, with a keeper that held nothing and now holds the events that the left side is read to and then those of the right one,
 /// and how many are the left one's: for what has to be known of these beside their nodes, as where in the text each stands, without a
 /// second reading.
-pub fn forest_of_both_with<K: Keeper + Drop>(
+pub fn forest_of_both_with<'l, K: Keeper + Drop>(
     alloc: Global,
-    left: &[u8],
+    left: &'l [u8],
     right: &[u8],
     keeper: K,
-) -> Result<(BothForests, K, usize), NoForests>
+) -> Result<(BothForests<'l>, K, usize), NoForests>
     requires { K.holds keeper [] }
     ensures both { IfOk result (λ made. HasBoth left.now right.now made.0) }
     ensures of_left { IfErr result (λ none. TellsWhy left.now none.left) }
     ensures of_right { IfErr result (λ none. TellsWhy right.now none.right) }
     ensures kept { IfOk result (λ made. KeepsBoth K.holds left.now right.now made.1 made.2) }
 {
+    let first_text = match source_of(left) {
+        Ok(text) => text,
+        Err(why) => return Err(NoForests::left(why)),
+    };
     let empty = Two {
-        first: Composing::new(alloc)?,
+        first: Composing::new(alloc, lent(&first_text))?,
         second: keeper,
     };
-    let mut begun = match kept_bytes(alloc, empty, left) {
+    let mut begun = match kept_source(alloc, empty, &first_text) {
         Ok(begun) => begun,
         Err(why) => return Err(NoForests::left(why)),
     };
@@ -98,10 +114,14 @@ pub fn forest_of_both_with<K: Keeper + Drop>(
         Err(why) => return Err(NoForests::left(NoForest::from(why))),
     };
     let events = begun.second.mark();
+    let second_text = match source_of(right) {
+        Ok(text) => text,
+        Err(why) => return Err(NoForests::right(why)),
+    };
     let Two {
         first: both,
         second: kept,
-    } = match kept_bytes(alloc, begun, right) {
+    } = match kept_source(alloc, begun, &second_text) {
         Ok(both) => both,
         Err(why) => return Err(NoForests::right(why)),
     };
@@ -115,7 +135,11 @@ pub fn forest_of_both_with<K: Keeper + Drop>(
 ///
 /// Refused is what `forest_of_both` refuses. It gives up where that does, at a mapping with two equal keys, and where a number of both
 /// together does not fit.
-pub(crate) fn ranked_both(alloc: Global, left: &[u8], right: &[u8]) -> Result<RankedBoth, NoForests>
+pub(crate) fn ranked_both<'l>(
+    alloc: Global,
+    left: &'l [u8],
+    right: &[u8],
+) -> Result<RankedBoth<'l>, NoForests>
     ensures both { IfOk result (HaveRanks left.now right.now) }
     ensures of_left { IfErr result (λ none. TellsWhy left.now none.left) }
     ensures of_right { IfErr result (λ none. TellsWhy right.now none.right) }

@@ -1,5 +1,5 @@
 //! The forest of a stream's bytes.
-ghost use Rattle.std.specs.Prelude.{◌≡◌, ◌⊎◌, List, IfOk, IfErr};
+ghost use Rattle.std.specs.Prelude.{ℕ, ◌≡◌, ◌⊎◌, List, IfOk, IfErr};
 ghost use Rattle.yaml_definitions.specs.model.Limits.{open_limit};
 ghost use Rattle.yaml_definitions.specs.model.Event.{Event};
 ghost use Rattle.yaml_definitions.specs.model.Means.{Means};
@@ -10,7 +10,7 @@ ghost use Rattle.yaml_text.specs.Placed.{IsPlaced};
 ghost use Rattle.yaml_text.specs.Source.{text_of};
 ghost use Rattle.yaml_sink.specs.Held.{Puts};
 ghost use Rattle.yaml_read.specs.Decided.{HasNoReading};
-ghost use Rattle.yaml_canon.specs.Read.{Takes, HasForest, root_trees};
+ghost use Rattle.yaml_canon.specs.Read.{IsSource, Takes, HasForest, root_trees};
 ghost use Rattle.yaml_canon.specs.Refused.{TellsWhy};
 
 use crate::no_forest::NoForest;
@@ -44,17 +44,30 @@ fn kept<K: Keeper + Drop>(alloc: Global, keeper: K, source: &Chars<'_>) -> Resul
     }
 }
 
-/// What keeps the events of these bytes, behind those that it had.
-pub(crate) fn kept_bytes<K: Keeper + Drop>(
-    alloc: Global,
-    keeper: K,
-    bytes: &[u8],
-) -> Result<K, NoForest>
-    ensures takes { IfOk result (Takes K.holds bytes.now keeper) }
+/// The text that these bytes are.
+pub(crate) fn source_of<'b>(bytes: &'b [u8]) -> Result<Chars<'b>, NoForest>
+    ensures source { IfOk result (IsSource bytes.now) }
     ensures why { IfErr result (TellsWhy bytes.now) }
 {
     let source = Chars::read(bytes)?;
-    let new = kept(alloc, keeper, &source)?;
+    Ok(source)
+}
+
+/// All of a text.
+pub(crate) fn lent<'b>(source: &Chars<'b>) -> &'b str {
+    source.rest(0)
+}
+
+/// What keeps the events of a text, behind those that it had.
+pub(crate) fn kept_source<K: Keeper + Drop>(
+    alloc: Global,
+    keeper: K,
+    source: &Chars<'_>,
+) -> Result<K, NoForest>
+    ensures takes { (bytes : List ℕ) → IsSource bytes source.now → IfOk result (Takes K.holds bytes keeper) }
+    ensures why { (bytes : List ℕ) → IsSource bytes source.now → IfErr result (TellsWhy bytes) }
+{
+    let new = kept(alloc, keeper, source)?;
     Ok(new)
 }
 
@@ -63,13 +76,14 @@ pub(crate) fn kept_bytes<K: Keeper + Drop>(
 /// Refused are bytes that are no text (1 to 3), a text that is no stream of the profile (4 to 11), the first event with an alias or
 /// a tag that stands for nothing (12 to 17), and a document that is too high (18). It gives up where the composer does: the way by a
 /// graph then tells why, or goes on.
-pub(crate) fn forest_of(alloc: Global, bytes: &[u8]) -> Result<Forest, NoForest>
+pub(crate) fn forest_of<'b>(alloc: Global, bytes: &'b [u8]) -> Result<Forest<'b>, NoForest>
     ensures forest { IfOk result (HasForest bytes.now) }
     ensures means { IfOk result (λ forest. Means bytes.now (root_trees forest)) }
     ensures why { IfErr result (TellsWhy bytes.now) }
 {
-    let empty = Composing::new(alloc)?;
-    let keeper = kept_bytes(alloc, empty, bytes)?;
+    let source = source_of(bytes)?;
+    let empty = Composing::new(alloc, lent(&source))?;
+    let keeper = kept_source(alloc, empty, &source)?;
     let forest = keeper.finish()?;
     Ok(forest)
 }

@@ -15,8 +15,8 @@ use yaml_compose::Forest;
 
 /// The ranked nodes of a stream, and the ranks of its documents' roots.
 #[derive(Drop)]
-pub(crate) struct RankedForest {
-    pub(crate) ranked: Ranked,
+pub(crate) struct RankedForest<'s> {
+    pub(crate) ranked: Ranked<'s>,
     pub(crate) roots: Vec<u32>,
 }
 
@@ -38,10 +38,13 @@ fn in_stream(unranked: Unranked, firsts: &[u32]) -> Unranked
 
 /// A forest with the ranks of its nodes, those of the roots in place of the roots. Refused are two equal keys of a mapping, by the
 /// number of its node in the stream.
-pub(crate) fn ranked_roots(alloc: Global, forest: Forest) -> Result<RankedForest, Unranked>
+pub(crate) fn ranked_roots<'s>(
+    alloc: Global,
+    forest: Forest<'s>,
+) -> Result<RankedForest<'s>, Unranked>
     requires { (ts : List Tree) × HasRoots ts forest }
-    ensures ok { (ts : List Tree) → HasRoots ts forest → IfOk result (RanksOf ts) }
-    ensures err { (ds : List Document) → IsForest ds forest → IfErr result (RefusesRanks ds) }
+    ensures ok { (ts : List Tree) → HasRoots ts forest.entry → IfOk result (RanksOf ts) }
+    ensures err { (ds : List Document) → IsForest ds forest.entry → IfErr result (RefusesRanks ds) }
 {
     let Forest {
         store,
@@ -61,7 +64,7 @@ pub(crate) fn ranked_roots(alloc: Global, forest: Forest) -> Result<RankedForest
 ///
 /// Refused is what `forest_of` refuses (1 to 18), and the lowest mapping with two equal keys (19). It gives up where that does, and
 /// where memory is refused or a number does not fit.
-pub(crate) fn ranked_forest(alloc: Global, bytes: &[u8]) -> Result<RankedForest, NoRanks>
+pub(crate) fn ranked_forest<'b>(alloc: Global, bytes: &'b [u8]) -> Result<RankedForest<'b>, NoRanks>
     ensures ranks { IfOk result (HasRanks bytes.now) }
     ensures why { IfErr result (TellsWhyNot bytes.now) }
 {

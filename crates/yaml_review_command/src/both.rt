@@ -36,7 +36,7 @@ pub(crate) fn fault_of(alloc: Global, bytes: &[u8]) -> Option<Fault> {
 
 /// The nodes of both streams in one graph, equal ones mostly merged, ranked. It gives up where two keys are equal, and where memory
 /// is refused.
-fn merged<'f>(alloc: Global, forests: &'f BothForests) -> Result<Both<'f>, GivesUp>
+fn merged<'f>(alloc: Global, forests: &'f BothForests<'_>) -> Result<Both<'f>, GivesUp>
     requires { (left right : List ℕ) × HasBoth left right forests.now }
     ensures { (left right : List ℕ) → HasBoth left right forests.now → IfOk result (BothAre left right) }
 {
@@ -53,12 +53,12 @@ fn merged<'f>(alloc: Global, forests: &'f BothForests) -> Result<Both<'f>, Gives
 
 /// The nodes of both streams, and where it is asked for, a trace of the events that the left one is read to and then of the right
 /// one's, with how many are the left one's.
-fn forests_of(
+fn forests_of<'l>(
     alloc: Global,
-    left: &[u8],
+    left: &'l [u8],
     right: &[u8],
     traced: bool,
-) -> Result<(BothForests, Option<(Trace, usize)>), NoForests>
+) -> Result<(BothForests<'l>, Option<(Trace, usize)>), NoForests>
     ensures both { IfOk result (λ made. HasBoth left.now right.now made.0) }
     ensures of_left { IfErr result (λ none. TellsWhy left.now none.left) }
     ensures of_right { IfErr result (λ none. TellsWhy right.now none.right) }

@@ -5,8 +5,8 @@ use Rattle.yaml_canon.proofs.both.forest_of_both.Goals as goal
 
 pub returns-clause-both : goal.returns-clause-both
 returns-clause-both c =
-    let l = c.in-Ok.ensures.takes in
-    let r = c.in-Ok-kept_bytes.ensures.takes in
+    let l = c.in-Ok-kept_source.ensures.takes c.args.left.now c.in-Ok.ensures.source in
+    let r = c.in-Ok-kept_source-2.ensures.takes c.args.right.now c.in-Ok-source_of.ensures.source in
     let held = l.puts.is [] c.in_ok-empty.ensures in
     let all = r.puts.is (stream_events l.documents) (c.in-Ok-documents.ensures.keeps.is (stream_events l.documents) held) in
     has-both c.args.left.now c.args.right.now l.documents r.documents c.in-Ok-documents.middle c.in-Ok-finish.forest l.read r.read (c.in-Ok-documents.ensures.count l.documents held) (c.in-Ok-finish.ensures.both l.documents r.documents all)

@@ -1,20 +1,20 @@
-use Rattle.std.proofs.Common.{[]}
+use Rattle.std.proofs.Common.{rules, []}
 use Rattle.yaml_definitions.specs.model.Serial.{stream_events}
 use Rattle.yaml_canon.proofs.BothLaws.{has-both}
 use Rattle.yaml_canon.proofs.both.forest_of_both_with.Goals as goal
 
 pub returns-clause-both : goal.returns-clause-both
 returns-clause-both g c =
-    let l = c.in-Ok.ensures.takes in
-    let r = c.in-Ok-kept_bytes.ensures.takes in
+    let l = c.in-Ok-kept_source.ensures.takes c.args.left.now c.in-Ok.ensures.source in
+    let r = c.in-Ok-kept_source-2.ensures.takes c.args.right.now c.in-Ok-source_of.ensures.source in
     let held = l.puts.is [] (record { first_holds = c.in_ok-new.ensures; second_holds = c.requires }) in
     let all = r.puts.is (stream_events l.documents) (record { first_holds = c.in-Ok-documents.ensures.keeps.is (stream_events l.documents) held.first_holds; second_holds = held.second_holds }) in
     has-both c.args.left.now c.args.right.now l.documents r.documents c.in-Ok-documents.middle c.in-Ok-finish.forest l.read r.read (c.in-Ok-documents.ensures.count l.documents held.first_holds) (c.in-Ok-finish.ensures.both l.documents r.documents all.first_holds)
 
 pub returns-clause-kept : goal.returns-clause-kept
 returns-clause-kept g c =
-    let l = c.in-Ok.ensures.takes in
-    let r = c.in-Ok-kept_bytes.ensures.takes in
+    let l = c.in-Ok-kept_source.ensures.takes c.args.left.now c.in-Ok.ensures.source in
+    let r = c.in-Ok-kept_source-2.ensures.takes c.args.right.now c.in-Ok-source_of.ensures.source in
     let held = l.puts.is [] (record { first_holds = c.in_ok-new.ensures; second_holds = c.requires }) in
     let all = r.puts.is (stream_events l.documents) (record { first_holds = c.in-Ok-documents.ensures.keeps.is (stream_events l.documents) held.first_holds; second_holds = held.second_holds }) in
     record {
@@ -25,3 +25,10 @@ returns-clause-kept g c =
       held = all.second_holds;
       middle_is = c.mark-events.ensures.is (stream_events l.documents) held.second_holds;
     }
+
+pub returns-in-Err-documents-clause-of_left : goal.returns-in-Err-documents-clause-of_left
+returns-in-Err-documents-clause-of_left g c =
+    let l = c.in-Ok-kept_source.ensures.takes c.args.left.now c.in-Ok.ensures.source in
+    let held = l.puts.is [] (record { first_holds = c.in_ok-new.ensures; second_holds = c.requires }) in
+    let told = c.in-Err-documents.ensures.refused l.documents held.first_holds in
+    search (rules, l, told)

@@ -25,8 +25,8 @@ returns-in-Ok-clause-ok c = λ ts h.
     ranks-of-roots ts f h (record { ranked = ranked; roots = with_items f.roots next }) (c.in-Ok.ensures.ok h.good)
     (subst (RanksTaken ranked f.roots.items) (sym e) taken)
 
-pub returns-in-Err-clause-err : goal.returns-in-Err-clause-err
-returns-in-Err-clause-err c = λ ds is.
+pub returns-clause-err : goal.returns-clause-err
+returns-clause-err c = λ ds is.
     let f = c.args.forest in
     let told = subst (λ firsts. IsInStream firsts c.in-Err.unranked c.in_stream.result) c.deref.ensures.value c.in_stream.ensures in
     in-stream ds f is c.in-Err.unranked c.in_stream.result told (c.in-Err.ensures.err is.good)
