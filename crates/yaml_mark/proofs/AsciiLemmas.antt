@@ -1,5 +1,5 @@
 -- Texts of ASCII characters alone: their bytes are their characters.
-use Rattle.std.proofs.Common.{◌≡◌, ℕ, zero, suc, ◌+◌, ◌-◌, ◌<◌, ◌≤◌, inl, inr, List, [], ◌∷◌, Bool, true, false, Some, refl, sym, ◌∙◌, ap, subst, arith}
+use Rattle.std.proofs.Common.{◌≡◌, ℕ, zero, suc, ◌+◌, ◌-◌, ◌<◌, ◌≤◌, inl, inr, List, [], ◌∷◌, ◌++◌, Bool, true, false, Some, refl, sym, ◌∙◌, ap, subst, arith}
 use Rattle.std.specs.Prelude.{slice_get, slice_range, codes, nat_lt, ◌==◌, ◌||◌}
 use Rattle.std.specs.List.{list_any}
 use Rattle.std.specs.Char.{is_ascii_hexdigit}
@@ -10,7 +10,7 @@ use Rattle.std.proofs.lemmas.Str.Ascii.{IsAscii-nil}
 use lib.Utf8.{encodes}
 use Rattle.yaml_definitions.specs.grammar.Rules.{Spans, run, Stands}
 use Rattle.yaml_definitions.specs.grammar.Characters.{is_word, is_uri, is_tag}
-use Rattle.yaml_text.proofs.PlaceLemmas.{slice_none, slice_snoc}
+use Rattle.yaml_text.proofs.PlaceLemmas.{slice_none, slice_one, slice_join, slice_snoc}
 use Rattle.yaml_text.proofs.Runs.{run_none, run_more}
 use Rattle.yaml_text.proofs.Breaks.{run_join}
 use Rattle.yaml_mark.specs.DirectiveParts.{prefix_start, prefix_run}
@@ -110,3 +110,15 @@ module _ (cs : List ℕ) where
       let at : i + (j - i) ≡ j = omega (arith, l) in
       let a = subst (λ z. IsAscii (slice_range cs i z)) at (ascii_slice i (j - i) (λ k x y. r k x (omega (arith, y, l)))) in
       sym (encodes-chars s u) ∙ ap encodes e ∙ encodes-IsAscii (slice_range cs i j) a
+
+  rest_onward : (f a : ℕ) → handle_rest cs f a → f ≤ a
+  unfolding handle_rest
+  rest_onward f a (inr (g, none)) = omega (arith, g)
+  rest_onward f a (inl (x, r, (k, g))) = omega (arith, r.0, g)
+
+  -- a shorthand's bytes: its first character, what is left of its handle, and its suffix
+  pub shorthand_is : (all suffix : List ℕ) (i f a e : ℕ) → IsUtf8 all → chars all ≡ slice_range cs i e → slice_get cs i ≡ Some 33 → f ≡ i + 1 → handle_rest cs f a → run cs is_low a e → suffix ≡ slice_range cs a e → (handle : List ℕ) × (all ≡ 33 ∷ (handle ++ suffix))
+  shorthand_is all suffix i f a e u t h n r s v =
+      let o = rest_onward f a r in
+      let is = ascii_text all i e u t (run_join cs is_low i a e (low_handle i f a h n r) s) in
+      (slice_range cs f a, is ∙ slice_join cs i f e (omega (arith, n)) (omega (arith, o, s.0)) ∙ ap (λ z. z ++ slice_range cs f e) (slice_one cs i f 33 h n) ∙ ap (λ z. 33 ∷ z) (slice_join cs f a e o s.0 ∙ ap (λ z. slice_range cs f a ++ z) (sym v)))

@@ -1,9 +1,10 @@
 -- Decoded tags.
-use Rattle.std.proofs.Common.{◌≡◌, ◌≢◌, ℕ, ◌+◌, ◌*◌, ◌≤◌, ◌<◌, List, [], ◌∷◌, ◌++◌, length, Bool, true, false, not, Some, None, if◌then◌else◌, bytes_eq, refl, sym, ◌∙◌, ap, arith}
+use Rattle.std.proofs.Common.{◌≡◌, ◌≢◌, ℕ, suc, ◌+◌, ◌-◌, ◌*◌, ◌≤◌, ◌<◌, List, [], ◌∷◌, ◌++◌, length, Bool, true, false, not, Some, None, if◌then◌else◌, bytes_eq, refl, sym, ◌∙◌, ap, arith}
 use Rattle.std.specs.Prelude.{◌&&◌, ◌==◌, nat_le, Result, Ok, Err, IfOk}
 use Rattle.std.specs.Char.{is_digit, is_ascii_hexdigit, digit_value}
 use Rattle.std.specs.Str.{IsUtf8, is_utf8}
 use Rattle.std.proofs.lemmas.Str.{IsUtf8-from_is_utf8, is_utf8-from_IsUtf8}
+use Rattle.std.proofs.lemmas.List.{length-append}
 use Rattle.std.proofs.lemmas.Bool.Decides.{nat_tests}
 use Rattle.yaml_definitions.specs.model.Event.{full}
 use Rattle.yaml_definitions.specs.model.Limits.{tag_limit}
@@ -68,3 +69,13 @@ if_ok {T} {E} {P} {Q} (Err e) f p = tt
 pub both_appended : {a b f e d : List ℕ} (p s : List ℕ) → a ≡ b → b ≡ f ++ d → f ≡ e ++ p → e ≡ [] → d ≡ crate_spec.percent_decode s → a ≡ p ++ percent_decode s
 both_appended {a} {b} {f} {e} {d} p s g h i j k =
     g ∙ h ∙ ap (λ z. z ++ d) (i ∙ ap (λ z. z ++ p) j) ∙ ap (λ z. p ++ z) (k ∙ same_decode s)
+
+-- the tag of a text is told by what it is decoded to
+pub same_decoded : (s t : List ℕ) → percent_decode s ≡ percent_decode t → decoded s ≡ decoded t
+unfolding decoded
+same_decoded s t e = ap (λ z. if is_full z then Some (full z) else None) e
+
+-- a shorthand with nothing between its first character and its suffix
+pub local_is : (b : ℕ) (all suffix handle : List ℕ) → b ≢ 37 → all ≡ b ∷ (handle ++ suffix) → length all - length suffix ≡ 1 → percent_decode all ≡ (b ∷ []) ++ percent_decode suffix
+local_is b all suffix [] n e l = ap percent_decode e ∙ kept_first b suffix n
+local_is b all suffix (c ∷ handle) n e l = let k = ap length e ∙ ap (λ z. suc (suc z)) (length-append handle suffix) in absurd (omega (arith, l, k))

@@ -1,6 +1,6 @@
 -- The characters of tags, and escapes: from a place one at most.
 use Rattle.std.proofs.Common.{◌≡◌, ◌≢◌, ℕ, ◌+◌, inl, inr, List, Bool, true, false, Some, None, sym, ◌∙◌, ap, subst}
-use Rattle.std.specs.Prelude.{slice_get}
+use Rattle.std.specs.Prelude.{slice_get, IfSome, Option}
 use Rattle.std.specs.Char.{is_ascii_hexdigit}
 use Rattle.yaml_definitions.specs.grammar.Rules.{Stands, one}
 use Rattle.yaml_mark.specs.Parts.{percent_escape, char_or_escape}
@@ -43,3 +43,9 @@ module _ (cs : List ℕ) where
   unfolding char_or_escape
   no_escaped p i c h f n j (inl (s, e)) = no_stand cs p i c h f s
   no_escaped p i c h f n j (inr r) = n j r
+
+  -- where another character than `%` stands that is none of the class, no character of it and no escape does
+  pub none_behind : (p : ℕ → Bool) (i c : ℕ) {o : Option ℕ} → o ≡ Some c → IfSome o (λ b. slice_get cs i ≡ Some b) → IfSome o (λ b. p b ≡ false) → c ≢ 37 → (j : ℕ) → char_or_escape cs p i j → ⊥
+  none_behind p i c {o} e h f n =
+      let is : slice_get cs i ≡ Some c = subst (λ z. IfSome z (λ b. slice_get cs i ≡ Some b)) e h in
+      no_escaped p i c is (subst (λ z. IfSome z (λ b. p b ≡ false)) e f) (no_percent i (λ g. n (let k = sym is ∙ g in cc)))

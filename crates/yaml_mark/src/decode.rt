@@ -1,5 +1,6 @@
 //! Tags decoded (YAML 1.2.2, 5.6 and 6.9.1).
-ghost use Rattle.std.specs.Prelude.{◌≡◌, ◌++◌, ℕ, List, IfOk, IfErr, string_bytes};
+ghost use Rattle.std.specs.Prelude.{◌≡◌, [], ◌∷◌, ◌++◌, ℕ, List, IfOk, IfErr, string_bytes};
+ghost use Rattle.std.specs.Bool.{OnTrue};
 ghost use Rattle.std.specs.Option.{option_map};
 ghost use Rattle.std.specs.Cow.{cow_str_bytes};
 ghost use Rattle.yaml_definitions.specs.model.Event.{full};
@@ -76,9 +77,23 @@ fn tag_of(alloc: Global, bytes: &[u8]) -> Result<Option<String>, Fault>
     }
 }
 
-/// The tag of a decoded prefix and a suffix, which is decoded here. They are judged as one, since a character's escapes may
-/// stand in both.
-pub(crate) fn join(alloc: Global, prefix: &[u8], suffix: &str) -> Result<Option<String>, Fault>
+/// The tag of two texts together.
+fn glue(alloc: Global, front: &str, back: &str) -> Result<Option<String>, Fault>
+    ensures ok { IfOk result (λ tag. (text : List ℕ) → percent_decode text ≡ front.now ++ back.now → option_map (λ t. full (string_bytes t)) tag ≡ decoded text) }
+    ensures err { IfErr result (λ e. e ≡ fault.OutOfMemory) }
+{
+    let mut tag = String::with_capacity(alloc, front.len() + back.len())?;
+    tag.push_str(front)?;
+    tag.push_str(back)?;
+    if is_tag(tag.as_str()) {
+        Ok(Some(tag))
+    } else {
+        Ok(None)
+    }
+}
+
+/// The same as `join`, for texts that are no UTF-8 one by one.
+fn join_bytes(alloc: Global, prefix: &[u8], suffix: &str) -> Result<Option<String>, Fault>
     ensures ok { IfOk result (λ tag. (text : List ℕ) → percent_decode text ≡ prefix.now ++ percent_decode suffix.now → option_map (λ t. full (string_bytes t)) tag ≡ decoded text) }
     ensures err { IfErr result (λ e. e ≡ fault.OutOfMemory) }
 {
@@ -86,4 +101,48 @@ pub(crate) fn join(alloc: Global, prefix: &[u8], suffix: &str) -> Result<Option<
     bytes.extend_from_slice(prefix)?;
     percent_decode_str(suffix).append_to(&mut bytes)?;
     tag_of(alloc, bytes.as_slice())
+}
+
+/// The tag of a decoded prefix and a suffix, which is decoded here. They are judged as one, since a character's escapes may
+/// stand in both.
+fn join(alloc: Global, prefix: &[u8], suffix: &str) -> Result<Option<String>, Fault>
+    ensures ok { IfOk result (λ tag. (text : List ℕ) → percent_decode text ≡ prefix.now ++ percent_decode suffix.now → option_map (λ t. full (string_bytes t)) tag ≡ decoded text) }
+    ensures err { IfErr result (λ e. e ≡ fault.OutOfMemory) }
+{
+    let Ok(front) = simdutf8::basic::from_utf8(prefix) else {
+        return join_bytes(alloc, prefix, suffix);
+    };
+    match percent_decode_str(suffix).decode_utf8(alloc) {
+        Ok(back) => glue(alloc, front, back.as_str()),
+        Err(DecodeError::Utf8(_)) => join_bytes(alloc, prefix, suffix),
+        Err(DecodeError::OutOfMemory) => Err(Fault::OutOfMemory),
+    }
+}
+
+/// Whether a prefix is `!`.
+fn is_bang(prefix: &[u8]) -> bool
+    ensures { OnTrue result (prefix.now ≡ 33 ∷ []) }
+{
+    prefix == "!".as_bytes()
+}
+
+/// The tag of a shorthand with this suffix, whose handle stands for this prefix. Where that is the `!` with which the shorthand
+/// begins, and which is all of its handle, the tag is decoded as it stands there, and without escapes it is a part of the text.
+pub(crate) fn expand<'a>(
+    alloc: Global,
+    prefix: &[u8],
+    shorthand: &'a str,
+    suffix: &str,
+) -> Result<Option<CowStr<'a>>, Fault>
+    requires { (handle : List ℕ) × (shorthand.now ≡ 33 ∷ (handle ++ suffix.now)) }
+    ensures ok { IfOk result (λ tag. (text : List ℕ) → percent_decode text ≡ prefix.now ++ percent_decode suffix.now → option_map (λ t. full (cow_str_bytes t)) tag ≡ decoded text) }
+    ensures err { IfErr result (λ e. e ≡ fault.OutOfMemory) }
+{
+    if is_bang(prefix) && shorthand.len() - suffix.len() == 1 {
+        return decode(alloc, shorthand);
+    }
+    match join(alloc, prefix, suffix)? {
+        None => Ok(None),
+        Some(tag) => Ok(Some(CowStr::Owned(tag))),
+    }
 }

@@ -1,5 +1,5 @@
 //! Runs of characters of one class.
-ghost use Rattle.std.specs.Prelude.{◌≡◌, ◌≤◌, ◌<◌, true, length, slice_index, IfSome, IfNone, ℕ};
+ghost use Rattle.std.specs.Prelude.{◌≡◌, ◌≤◌, ◌<◌, true, false, length, slice_get, slice_index, Some, IfSome, IfNone, ℕ};
 ghost use Rattle.std.specs.Bool.{OnTrue, OnFalse};
 ghost use Rattle.yaml_text.specs.Source.{text_of, place_of, IsBorder};
 ghost use Rattle.yaml_definitions.specs.grammar.Rules.{run, Stands, one, any_span};
@@ -46,6 +46,7 @@ impl Class {
     fn has_ascii(self, byte: u8) -> bool
         ensures ascii { result ≡ true → byte < 128 }
         ensures has { result ≡ true → class_of self byte ≡ true }
+        ensures other { result ≡ false → byte < 128 → class_of self byte ≡ false }
     {
         byte.is_ascii() && self.has(byte as char)
     }
@@ -56,6 +57,7 @@ impl Class {
 fn ascii_len(bytes: &[u8], class: Class) -> usize
     ensures len { result ≤ length bytes.now }
     ensures front { (k : ℕ) → k < result → (slice_index bytes.now k < 128) × (class_of class (slice_index bytes.now k) ≡ true) }
+    ensures behind { result < length bytes.now → slice_index bytes.now result < 128 → class_of class (slice_index bytes.now result) ≡ false }
 {
     for (at, byte) in bytes.iter().enumerate() {
         if !class.has_ascii(*byte) {
@@ -65,15 +67,24 @@ fn ascii_len(bytes: &[u8], class: Class) -> usize
     bytes.len()
 }
 
-/// The border after the ASCII characters of a class that stand at a border, which are not decoded.
+/// The border after the ASCII characters of a class that stand at a border, which are not decoded, and the ASCII character that
+/// stands behind them, if one does: it is none of the class.
 #[inline(always)]
-fn skip_ascii(source: &Chars<'_>, at: usize, class: Class) -> usize
+fn skip_ascii(source: &Chars<'_>, at: usize, class: Class) -> (usize, Option<u8>)
     requires { IsBorder source.now at }
-    ensures border { IsBorder source.now result }
-    ensures onward { at ≤ result }
-    ensures run { run (text_of source.now) (class_of class) (place_of source.now at) (place_of source.now result) }
+    ensures border { IsBorder source.now result.0 }
+    ensures onward { at ≤ result.0 }
+    ensures run { run (text_of source.now) (class_of class) (place_of source.now at) (place_of source.now result.0) }
+    ensures behind { IfSome result.1 (λ byte. slice_get (text_of source.now) (place_of source.now result.0) ≡ Some byte) }
+    ensures other { IfSome result.1 (λ byte. class_of class byte ≡ false) }
 {
-    at + ascii_len(source.rest(at).as_bytes(), class)
+    let bytes = source.rest(at).as_bytes();
+    let len = ascii_len(bytes, class);
+    if len < bytes.len() && bytes[len].is_ascii() {
+        (at + len, Some(bytes[len]))
+    } else {
+        (at + len, None)
+    }
 }
 
 /// The border after the characters of a class that stand at a border.
@@ -84,7 +95,10 @@ pub(crate) fn skip_run(source: &Chars<'_>, at: usize, class: Class) -> usize
     ensures run { run (text_of source.now) (class_of class) (place_of source.now at) (place_of source.now result) }
     ensures furthest { Stands (text_of source.now) (class_of class) (place_of source.now result) → ⊥ }
 {
-    let mut here = skip_ascii(source, at, class);
+    let (mut here, behind) = skip_ascii(source, at, class);
+    if let Some(_) = behind {
+        return here;
+    }
     'run: loop {
         match next(source, here) {
             None => return here,
@@ -180,7 +194,12 @@ pub(crate) fn skip_escaped(source: &Chars<'_>, at: usize, class: Class) -> usize
     ensures spans { any_span (char_or_escape (text_of source.now) (class_of class)) (place_of source.now at) (place_of source.now result) }
     ensures furthest { (j : ℕ) → char_or_escape (text_of source.now) (class_of class) (place_of source.now result) j → ⊥ }
 {
-    let mut here = skip_ascii(source, at, class);
+    let (mut here, behind) = skip_ascii(source, at, class);
+    if let Some(byte) = behind {
+        if byte != b'%' {
+            return here;
+        }
+    }
     'run: loop {
         match next_escaped(source, here, class) {
             None => return here,

@@ -13,12 +13,11 @@ ghost use Rattle.yaml_mark.specs.MarkFaults.{TagRefuses};
 ghost use Rattle.yaml_mark.specs.HandlesModel.{handles_of};
 ghost use Rattle.yaml_mark.specs.Parts.{handle_rest};
 
-use crate::decode::{decode, join};
+use crate::decode::{decode, expand};
 use crate::handles::Handles;
 use crate::prefix::prefix_of;
 use crate::runs::{Class, skip_escaped, skip_run, stands};
 use std::alloc::Global;
-use std::borrow::CowStr;
 use yaml_text::chars::Chars;
 use yaml_text::event::EventTag;
 use yaml_text::fault::Fault;
@@ -106,9 +105,10 @@ fn read_shorthand<'a>(
     if end == after {
         return Err(Fault::BadTag(source.pos(at)));
     }
-    match join(alloc, prefix, text_between(source, after, end))? {
+    let suffix = text_between(source, after, end);
+    match expand(alloc, prefix, text_between(source, at, end), suffix)? {
         None => Err(Fault::BadTag(source.pos(at))),
-        Some(tag) => Ok((EventTag::Full(CowStr::Owned(tag)), end)),
+        Some(tag) => Ok((EventTag::Full(tag), end)),
     }
 }
 

@@ -4,7 +4,7 @@ use Rattle.yaml_mark.proofs.runs.skip_run.Goals as goal
 
 pub run-preserved : goal.run-preserved
 run-preserved c =
-    let s = c.in-Some.ensures.some in
+    let s = c.in-Some-next.ensures.some in
     record {
       border = s.border;
       onward = omega (arith, s.forward, c.run.invariant.onward);
