@@ -23,7 +23,7 @@ use Rattle.law_going_on.proofs.KeyChoices.{keys_refused}
 use Rattle.law_going_on.proofs.BlockProperties.{no_key_over}
 use Rattle.law_going_on.proofs.PropertyLines.{no_flow_barred}
 use Rattle.yaml_line.specs.PropertyDecisions.{Barred, IsOnly, IsRefused}
-use Rattle.yaml_sink.specs.Held.{Counts, Keeps, Puts, Alters}
+use Rattle.yaml_sink.specs.Held.{Counts, Puts, Alters}
 use Rattle.yaml_line.specs.Keys.{ColonAfter}
 use Rattle.yaml_sink.specs.PropertyRules.{SomeProperties}
 use Rattle.yaml_line.specs.declared.flow.Kind.{Kind}
@@ -39,8 +39,8 @@ module _ {S : Type 0} {holds : S → List Event → Type 0} where
   pub puts_become : (a b c : S) (start : ℕ) (es fs : List Event) → Counts holds a start → Puts holds a es b → Becomes holds start es fs b c → Puts holds a fs c
   puts_become a b c start es fs m p q = record { is = λ log h. q.is log (m.is log h) (p.is log h) }
 
-  pub puts_again : (a b c d : S) (start : ℕ) (es fs : List Event) → Alters holds start (λ _. []) a b → Keeps holds b c → Puts holds c fs d → Becomes holds start es fs a d
-  puts_again a b c d start es fs q k p = record { is = λ log s h. p.is log (k.is log (subst (holds b) (append-nil log) (q.is log es s h))) }
+  pub puts_again : (a b d : S) (start : ℕ) (es fs : List Event) → Alters holds start (λ _. []) a b → Puts holds b fs d → Becomes holds start es fs a d
+  puts_again a b d start es fs q p = record { is = λ log s h. p.is log (subst (holds b) (append-nil log) (q.is log es s h)) }
 
 module _ (cs : List ℕ) (handles : Handles) (room : ℕ) where
   -- flow nodes of either kind

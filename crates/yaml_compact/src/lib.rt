@@ -19,7 +19,7 @@ mod shorts;
 mod slot;
 pub mod store;
 mod tag_numbers;
-mod text;
+pub mod text;
 pub mod unranked;
 mod walked;
 

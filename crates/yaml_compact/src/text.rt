@@ -23,9 +23,9 @@ const SHORT: usize = 64;
 
 /// A text that is lent, and behind it one's own, with the places of both together.
 #[derive(Drop)]
-pub(crate) struct Text<'s> {
-    lent: &'s str,
-    own: String,
+pub struct Text<'s> {
+    pub(crate) lent: &'s str,
+    pub(crate) own: String,
 }
 
 /// A place, if it fits.
@@ -77,11 +77,16 @@ fn found_at(text: &str, at: usize, content: &str) -> Option<Span>
 
 impl<'s> Text<'s> {
     /// The text that is lent.
-    pub(crate) fn new(alloc: Global, lent: &'s str) -> Text<'s> {
+    pub fn new(alloc: Global, lent: &'s str) -> Text<'s> {
         Text {
             lent,
             own: String::new(alloc),
         }
+    }
+
+    /// The text that is lent, with nothing behind it any more.
+    pub fn clear(&mut self) {
+        self.own.clear();
     }
 
     /// How many bytes there are.
@@ -130,7 +135,7 @@ impl<'s> Text<'s> {
     }
 
     /// Where a content stands, which may do so at this place of the text that is lent. Else it is put behind all.
-    pub(crate) fn put(&mut self, at: usize, content: &mut CowStr<'_>) -> Result<Span, GivesUp>
+    pub fn put(&mut self, at: usize, content: &mut CowStr<'_>) -> Result<Span, GivesUp>
         ensures puts { IfOk result (PutsText self.old self.new (cow_str_bytes content.old)) }
         ensures utf8 { IsUtf8 (cow_str_bytes content.old) }
     {
@@ -196,5 +201,16 @@ impl<'s> Text<'s> {
         let (part, inside) = self.home(span);
         part.get(inside.start as usize..inside.end as usize)
             .unwrap_or("")
+    }
+
+    /// The text that stands there, if one does.
+    pub fn get(&self, span: Span) -> Option<&str>
+        ensures { IfSome result (λ text. slice_range (text_of self.now) span.start span.end ≡ text.now) }
+    {
+        if !self.is_whole(span) {
+            return None;
+        }
+        let (part, inside) = self.home(span);
+        part.get(inside.start as usize..inside.end as usize)
     }
 }

@@ -1,6 +1,6 @@
 -- The names of anchors, as they grow and come into the map.
 use Rattle.std.proofs.Common.{inl, inr, ◌≡◌, ℕ, zero, suc, ◌+◌, ◌-◌, ◌<◌, ◌≤◌, Bool, true, false, cond, bytes_eq, List, [], ◌∷◌, ◌++◌, length, set, take, drop, refl, sym, ◌∙◌, ap, subst, arith, length-append, length-take-le, length-drop}
-use Rattle.std.specs.Prelude.{Option, None, Some, String, MatchOption, IfSome}
+use Rattle.std.specs.Prelude.{Option, None, Some, String, IfSome}
 use Rattle.std.specs.List.{slice_get, slice_range}
 use Rattle.std.specs.Option.{option_map}
 use Rattle.std.specs.String.{string_bytes}
@@ -16,7 +16,8 @@ use Rattle.yaml_definitions.specs.model.Unfold.{or_else}
 use Rattle.yaml_nodes.specs.ComposerModel.{last_place}
 use Rattle.yaml_compact.specs.StoreModel.{SpanWithin}
 use Rattle.yaml_compact.specs.declared.nodes.Span.{Span}
-use Rattle.yaml_compact.proofs.Growing.{range-new}
+use Rattle.yaml_compact.specs.declared.text.Text.{Text}
+use Rattle.yaml_compact.specs.TextModel.{text_of, PutsText}
 use Rattle.yaml_compose.specs.AnchorsModel.{table_place, StandIn, SeesLast, Maps, Names}
 use Rattle.yaml_compose.specs.declared.anchors.Anchors.{Anchors}
 
@@ -104,16 +105,15 @@ stand-at text [] names i s h e = absurd (cc)
 stand-at text (t ∷ spans) [] i s h e = absurd h
 
 -- the texts with one more
-pub stand-new : (text text2 : List ℕ) (spans spans2 : List Span) (names : List (List ℕ)) (s : Span) (x : List ℕ) → text2 ≡ text ++ x → s.start ≡ length text → s.end ≡ length text2 → spans2 ≡ spans ++ (s ∷ []) → StandIn text spans names → StandIn text2 spans2 (names ++ (x ∷ []))
-stand-new text text2 spans spans2 names s x q a b e h =
-    let b2 : s.end ≡ length (text ++ x) = b ∙ ap length q in
-    subst (λ z. StandIn z spans2 (names ++ (x ∷ []))) (sym q) (subst (λ z. StandIn (text ++ x) z (names ++ (x ∷ []))) (sym e)
-    (stand-push (text ++ x) spans names s x (stand-more text x spans names h) (omega (arith, a, b2, length-append text x), omega (arith, b2)) (range-new text x s.start s.end a b2)))
+pub stand-new : (before after : Text) (spans spans2 : List Span) (names : List (List ℕ)) (s : Span) (x : List ℕ) → PutsText before after x s → spans2 ≡ spans ++ (s ∷ []) → StandIn (text_of before) spans names → StandIn (text_of after) spans2 (names ++ (x ∷ []))
+stand-new before after spans spans2 names s x p e h =
+    let grown = subst (λ z. StandIn z spans names) (sym p.grows) (stand-more (text_of before) p.more spans names h) in
+    subst (λ z. StandIn (text_of after) z (names ++ (x ∷ []))) (sym e) (stand-push (text_of after) spans names s x grown p.within p.is)
 
 -- what is got, if anything is, has what follows from what is told of it
-pub got : {X : Type 0} (r : Option X) (A : Type 0) (P Q : X → Type 0) → MatchOption r A P → ((x : X) → P x → Q x) → IfSome r Q
-got None A P Q h f = tt
-got (Some x) A P Q h f = f x h
+pub got : {X : Type 0} (r : Option X) {P Q : X → Type 0} → IfSome r P → ((x : X) → P x → Q x) → IfSome r Q
+got None h f = tt
+got (Some x) h f = f x h
 
 -- ---- the table
 
@@ -192,7 +192,7 @@ stand-none text spans e = subst (λ z. StandIn text z []) (sym e) tt
 
 -- no names
 pub names-none : (a : Anchors) → a.spans.items ≡ [] → a.mapped ≡ 0 → ((name : List ℕ) → get_by_text a.places name ≡ None) → Names a []
-names-none a e m h = record { texts = stand-none (string_bytes a.text) a.spans.items e; sees = sees-none a.recent.items; maps = maps-none (get_by_text a.places) a.mapped m h }
+names-none a e m h = record { texts = stand-none (text_of a.text) a.spans.items e; sees = sees-none a.recent.items; maps = maps-none (get_by_text a.places) a.mapped m h }
 
 none-standing : (text : List ℕ) (spans : List Span) (names : List (List ℕ)) → length spans ≤ 0 → StandIn text spans names → names ≡ []
 none-standing text [] [] l h = refl
@@ -202,18 +202,18 @@ none-standing text [] (x ∷ names) l h = absurd h
 -- any table will do where there are no names
 pub names-tabled : (a b : Anchors) (names : List (List ℕ)) → length a.spans.items ≤ 0 → b.text ≡ a.text → b.spans ≡ a.spans → b.places ≡ a.places → b.mapped ≡ a.mapped → Names a names → Names b names
 names-tabled a b names l et es ep em h =
-    let e = none-standing (string_bytes a.text) a.spans.items names l h.texts in
+    let e = none-standing (text_of a.text) a.spans.items names l h.texts in
     record {
-      texts = subst (λ z. StandIn (string_bytes z) b.spans.items names) (sym et) (subst (λ z. StandIn (string_bytes a.text) z.items names) (sym es) h.texts);
+      texts = subst (λ z. StandIn (text_of z) b.spans.items names) (sym et) (subst (λ z. StandIn (text_of a.text) z.items names) (sym es) h.texts);
       sees = subst (SeesLast b.recent.items) (sym e) (sees-none b.recent.items);
       maps = subst (λ z. Maps (get_by_text z) b.mapped names) (sym ep) (subst (λ z. Maps (get_by_text a.places) z names) (sym em) h.maps);
     }
 
 -- one name more
-pub names-more : (a b : Anchors) (names : List (List ℕ)) (x : List ℕ) (s : Span) (last hash : ℕ) → string_bytes b.text ≡ string_bytes a.text ++ x → s.start ≡ length (string_bytes a.text) → s.end ≡ length (string_bytes b.text) → b.spans.items ≡ a.spans.items ++ (s ∷ [])
+pub names-more : (a b : Anchors) (names : List (List ℕ)) (x : List ℕ) (s : Span) (last hash : ℕ) → PutsText a.text b.text x s → b.spans.items ≡ a.spans.items ++ (s ∷ [])
     → last ≡ length names → hash ≡ table_place x → b.recent.items ≡ set a.recent.items hash last → b.places ≡ a.places → b.mapped ≡ a.mapped → Names a names → Names b (names ++ (x ∷ []))
-names-more a b names x s last hash et es ee ep en eh er em ec h = record {
-  texts = stand-new (string_bytes a.text) (string_bytes b.text) a.spans.items b.spans.items names s x et es ee ep h.texts;
+names-more a b names x s last hash put ep en eh er em ec h = record {
+  texts = stand-new a.text b.text a.spans.items b.spans.items names s x put ep h.texts;
   sees = subst (λ z. SeesLast z (names ++ (x ∷ []))) (sym (er ∙ ap (λ z. set a.recent.items z last) eh)) (sees-new a.recent.items names x last en h.sees);
   maps = subst (λ z. Maps (get_by_text z) b.mapped (names ++ (x ∷ []))) (sym em) (subst (λ z. Maps (get_by_text a.places) z (names ++ (x ∷ []))) (sym ec) (maps-more (get_by_text a.places) a.mapped names (x ∷ []) h.maps));
 }

@@ -161,28 +161,6 @@ tells-node old new ended opens at e n p k log l t =
       judges = k.is t.told (l ∙ sym (opens-length opens log t.told o)) t.judges;
     }
 
--- and one to which properties are due
-pub tells-node-due : (old new : Judged) (ended after : Option Begun) (opens : List Begun) (b : Begun) (e f : Event) → ended ≡ None → after ≡ Some b → settled b.due e ≡ f → AreNodes 1 (f ∷ []) → Takes b.at f old new
-    → (log : List Event) → b.at ≡ length log → TellsOf old ended opens log → TellsOf new after opens (log ++ (e ∷ []))
-tells-node-due old new ended after opens b e f n m q p k log at t =
-    let o : OpensTold opens log t.told = subst (λ z. EndedTold z opens log t.told) n t.is in
-    let s : Since IsWhole (OpensTold opens) b (log ++ (e ∷ [])) (t.told ++ (f ∷ [])) = record {
-      front = log;
-      before = t.told;
-      first = e;
-      rest = [];
-      log_is = refl;
-      told_is = λ z. t.told ++ (sym q z ∷ []);
-      at = at;
-      inside_is = subst (λ z. AreNodes 1 (z ∷ [])) (sym q) p;
-      outside_is = o;
-    } in
-    record {
-      told = t.told ++ (f ∷ []);
-      is = subst (λ z. EndedTold z opens (log ++ (e ∷ [])) (t.told ++ (f ∷ []))) (sym m) s;
-      judges = k.is t.told (at ∙ sym (opens-length opens log t.told o)) t.judges;
-    }
-
 -- events of which the composer is not told
 pub tells-rest : (a : Ahead) (log : List Event) → Tells a log → Tells a (log ++ (stream_start ∷ [])) × Tells a (log ++ (stream_end ∷ [])) × ((explicit : Bool) → Tells a (log ++ (document_end explicit ∷ [])))
 tells-rest a log t =

@@ -1,10 +1,10 @@
 -- The names of anchors, as plain values.
 use Rattle.std.specs.Prelude.{◌≡◌, ℕ, ◌≤◌, ◌+◌, ◌*◌, ◌%◌, ◌/◌, ◌^◌, List, [], ◌∷◌, length, take, drop, ◌-◌, Option, Some}
 use Rattle.std.specs.List.{slice_get, slice_range}
-use Rattle.std.specs.String.{string_bytes}
 use Rattle.std.specs.BTreeMap.{get_by_text}
 use Rattle.yaml_nodes.specs.ComposerModel.{last_place}
 use Rattle.yaml_compact.specs.StoreModel.{SpanWithin}
+use Rattle.yaml_compact.specs.TextModel.{text_of}
 use Rattle.yaml_compact.specs.declared.nodes.Span.{Span}
 use Rattle.yaml_compose.specs.declared.anchors.Anchors.{Anchors}
 
@@ -33,6 +33,6 @@ pub record Maps (named : List ℕ → Option ℕ) (count : ℕ) (names : List (L
 
 -- These are the names, in order.
 pub record Names (a : Anchors) (names : List (List ℕ)) : Type 0 where
-  pub texts : StandIn (string_bytes a.text) a.spans.items names
+  pub texts : StandIn (text_of a.text) a.spans.items names
   pub sees : SeesLast a.recent.items names
   pub maps : Maps (get_by_text a.places) a.mapped names

@@ -1,8 +1,6 @@
 -- What the composer holds, as plain values.
 use Rattle.std.specs.Prelude.{◌≡◌, ◌<◌, ℕ, Bool, List, [], ◌∷◌, ◌++◌, length, reverse, Option, Some, None, Ok}
-use Rattle.std.specs.Borrow.{Bor}
 use Rattle.std.specs.List.{slice_get}
-use Rattle.std.specs.Option.{option_map}
 use Rattle.yaml_definitions.specs.model.Tree.{Tree}
 use Rattle.yaml_definitions.specs.model.Event.{Anchor, Event, WrittenTag, sequence_start, sequence_end, mapping_start, mapping_end}
 use Rattle.yaml_definitions.specs.model.Serial.{Document}
@@ -24,10 +22,6 @@ use Rattle.yaml_compose.specs.declared.core_tags.CoreTags.{CoreTags}
 use Rattle.yaml_compose.specs.declared.composer.Open.{Open}
 use Rattle.yaml_compose.specs.declared.composer.Composer.{Composer}
 use Rattle.yaml_compose.specs.declared.composer.Forest.{Forest}
-
--- an anchor, from the name that is given
-abbrev pub anchor_text : Option (Bor (List ℕ)) → Anchor
-anchor_text anchor = option_map (λ name. name.now) anchor
 
 -- the nodes of these numbers stand for the trees
 abbrev pub AllAt : List Tree → List ℕ → List Tree → Type 0

@@ -1,6 +1,6 @@
 -- Events that wait to be composed.
 use Rattle.std.specs.Prelude.{◌≡◌, ℕ, Bool, List, [], ◌∷◌, ◌++◌, length, Option, Some, None}
-use Rattle.std.specs.String.{string_bytes}
+use Rattle.std.specs.Cow.{cow_str_bytes}
 use Rattle.yaml_definitions.specs.model.Event.{Event, mapping_start, scalar_event, alias_event, untagged}
 use Rattle.yaml_definitions.specs.grammar.Events.{Props}
 use Rattle.yaml_text.specs.EventModel.{style_of}
@@ -30,7 +30,7 @@ behind_start mapping p [] = []
 behind_start mapping p (e ∷ es) = start_before mapping p ++ (e ∷ es)
 
 abbrev pub waits : Waiting → List Event
-waits w = behind_start w.mapping (props_of w.outer) (late_event w.late (props_of w.own) (string_bytes w.text))
+waits w = behind_start w.mapping (props_of w.outer) (late_event w.late (props_of w.own) (cow_str_bytes w.text))
 
 -- There is one event.
 pub record IsOne (es : List Event) : Type 0 where

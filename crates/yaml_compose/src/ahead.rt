@@ -28,13 +28,13 @@ use yaml_sink::properties::Properties;
 use yaml_sink::sink::Collection;
 use yaml_text::event::Style;
 
-/// A collection that began, or a long scalar.
+/// A collection that began.
 #[derive(Drop)]
-pub(crate) struct Begun {
+pub(crate) struct Begun<'s> {
     /// The number of its first event.
     at: usize,
     /// Properties with which it was composed, and which that event has not yet in the log.
-    due: Option<Properties<'static>>,
+    due: Option<Properties<'s>>,
 }
 
 /// A composer, and what it knows that the log does not say yet.
@@ -42,9 +42,9 @@ pub(crate) struct Begun {
 pub(crate) struct Ahead<'s> {
     judged: Judged<'s>,
     /// The open collections, the innermost last.
-    opens: Vec<Begun>,
-    /// The collection that ended last, or a long scalar, where nothing came after it.
-    ended: Option<Begun>,
+    opens: Vec<Begun<'s>>,
+    /// The collection that ended last, where nothing came after it.
+    ended: Option<Begun<'s>>,
 }
 
 /// A kind of collection, as nodes have it.
@@ -59,13 +59,13 @@ fn kind_of(collection: Collection) -> nodes::Collection
 
 /// What is due to a mapping that begins without properties before its first key: a block mapping gets its own after that, and is
 /// composed with none.
-fn due_before_key(flow: bool) -> Option<Properties<'static>>
+fn due_before_key<'s>(flow: bool) -> Option<Properties<'s>>
     ensures { settled result (mapping_start flow None untagged) ≡ mapping_start flow None untagged }
 {
     if flow { None } else { Some(Properties::none()) }
 }
 
-impl Begun {
+impl<'s> Begun<'s> {
     /// Whether something is due.
     fn owes(&self) -> bool
         ensures { OnFalse result (self.now.due ≡ None) }
@@ -74,8 +74,8 @@ impl Begun {
     }
 
     /// The same once its event, which has this number, has got these properties, if they are those that are due.
-    fn paid(self, start: usize, properties: &Properties<'_>) -> Result<Begun, GivesUp>
-        ensures { IfOk result (IsPaid self start (props_of properties.now)) }
+    fn paid(self, start: usize, properties: &Properties<'_>) -> Result<Begun<'s>, GivesUp>
+        ensures { IfOk result (IsPaid self.entry start (props_of properties.now)) }
     {
         let Begun { at, due } = self;
         let Some(given) = due else {
@@ -136,25 +136,6 @@ impl<'s> Ahead<'s> {
         Ok(())
     }
 
-    /// The event of this number is a scalar, which gets these properties in the log later, in place of any others.
-    pub(crate) fn scalar_due(
-        &mut self,
-        alloc: Global,
-        at: usize,
-        given: Properties<'static>,
-        style: Style,
-        text: &mut CowStr<'_>,
-        offset: usize,
-    ) -> Result<(), GivesUp>
-        ensures { IfOk result (λ _. (p : Props) (log : List Event) → at ≡ length log → Tells self.old log → Tells self.new (log ++ (scalar_event p.anchor p.tag (style_of style) (cow_str_bytes text.old) ∷ []))) }
-    {
-        self.go_on()?;
-        self.judged.scalar(alloc, at, &given, style, text, offset)?;
-        let due = Some(given);
-        self.ended = Some(Begun { at, due });
-        Ok(())
-    }
-
     /// The event of this number is an alias.
     pub(crate) fn alias(&mut self, alloc: Global, at: usize, name: &str) -> Result<(), GivesUp>
         ensures { IfOk result (λ _. (log : List Event) → at ≡ length log → Tells self.old log → Tells self.new (log ++ (alias_event name.now ∷ []))) }
@@ -187,7 +168,7 @@ impl<'s> Ahead<'s> {
         alloc: Global,
         collection: Collection,
         at: usize,
-        given: Properties<'static>,
+        given: Properties<'s>,
     ) -> Result<(), GivesUp>
         ensures { IfOk result (λ _. (flow : Bool) (p : Props) (log : List Event) → at ≡ length log → Tells self.old log → Tells self.new (log ++ (with_props p (start_of collection flow) ∷ []))) }
     {

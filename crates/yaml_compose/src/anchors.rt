@@ -4,9 +4,11 @@ ghost use Rattle.yaml_nodes.specs.ComposerModel.{last_place};
 ghost use Rattle.yaml_compose.specs.AnchorsModel.{table_place, Names};
 
 use std::alloc::Global;
+use std::borrow::CowStr;
 use std::collections::BTreeMap;
 use yaml_compact::gives_up::GivesUp;
 use yaml_compact::nodes::Span;
+use yaml_compact::text::Text;
 
 /// How many places the table of recent names has, one for each hash.
 const HASHES: usize = 4_096;
@@ -24,9 +26,9 @@ const SHARED: u32 = 1_048_576;
 /// found by a table as long as no other name of the same hash came since. Only where that fails do the
 /// names come into a map, each of them once, so that no input makes look-ups slow.
 #[derive(Drop)]
-pub(crate) struct Anchors {
-    /// All names, one after the other.
-    text: String,
+pub(crate) struct Anchors<'s> {
+    /// All names: long ones may be parts of the text that is lent, the others stand one after the other.
+    text: Text<'s>,
     /// Where each name stands.
     spans: Vec<Span>,
     /// For each hash the number of the last name that has it. What stands there for other hashes, and is
@@ -60,13 +62,13 @@ fn number(of: usize) -> Result<u32, GivesUp>
     Ok(of as u32)
 }
 
-impl Anchors {
-    /// No name yet.
-    pub(crate) fn new(alloc: Global) -> Anchors
+impl<'s> Anchors<'s> {
+    /// No name yet. Long ones may be parts of the text that is lent.
+    pub(crate) fn new(alloc: Global, lent: &'s str) -> Anchors<'s>
         ensures { Names result [] }
     {
         Anchors {
-            text: String::new(alloc),
+            text: Text::new(alloc, lent),
             spans: Vec::new(alloc),
             recent: Vec::new(alloc),
             places: BTreeMap::new(alloc),
@@ -95,8 +97,8 @@ impl Anchors {
         Ok(())
     }
 
-    /// The number of names before this one, which comes behind them.
-    pub(crate) fn put(&mut self, name: &str) -> Result<usize, GivesUp>
+    /// The number of names before this one, which comes behind them, and which may stand at this offset of the text that is lent.
+    pub(crate) fn put(&mut self, name: &str, offset: usize) -> Result<usize, GivesUp>
         ensures place { (names : List (List ℕ)) → Names self.old names → IfOk result (λ place. place ≡ length names) }
         ensures names { (names : List (List ℕ)) → Names self.old names → IfOk result (λ _. Names self.new (names ++ (name.now ∷ []))) }
     {
@@ -107,10 +109,9 @@ impl Anchors {
         if hash >= self.recent.len() {
             return Err(GivesUp);
         }
-        let start = number(self.text.len())?;
-        self.text.push_str(name)?;
-        let end = number(self.text.len())?;
-        self.spans.push(Span { start, end })?;
+        let mut text = CowStr::Borrowed(name);
+        let span = self.text.put(offset, &mut text)?;
+        self.spans.push(span)?;
         self.recent[hash] = last;
         Ok(place)
     }
@@ -120,7 +121,7 @@ impl Anchors {
         ensures { (names : List (List ℕ)) → Names self.now names → IfSome result (λ name. slice_get names place ≡ Some name.now) }
     {
         let span = self.spans.get(place)?;
-        self.text.get(span.start as usize..span.end as usize)
+        self.text.get(*span)
     }
 
     /// The last number of this name, if the table tells it.

@@ -1,13 +1,12 @@
 //! From nodes, as they begin and end, to nodes of a store. Where a node has no tree it says why. It may give up.
 ghost use Rattle.std.specs.Prelude.{◌≡◌, ℕ, Bool, List, ◌∷◌, ◌++◌, length, drop, None, IfOk, IfErr, MatchResult};
-ghost use Rattle.std.specs.Option.{option_map};
 ghost use Rattle.std.specs.Cow.{cow_str_bytes};
 ghost use Rattle.yaml_definitions.specs.model.Tree.{Tree, scalar};
 ghost use Rattle.yaml_definitions.specs.model.Event.{Anchor, Event, untagged, plain, document_start, mapping_start, scalar_event, alias_event};
 ghost use Rattle.yaml_definitions.specs.model.Serial.{Document, stream_events};
-ghost use Rattle.yaml_text.specs.EventModel.{written_of, style_of};
+ghost use Rattle.yaml_text.specs.EventModel.{style_of};
 ghost use Rattle.yaml_content.specs.Kind.{kind_tag};
-ghost use Rattle.yaml_sink.specs.PropertyRules.{props_of};
+ghost use Rattle.yaml_sink.specs.PropertyRules.{props_of, props_in};
 ghost use Rattle.yaml_nodes.specs.ComposerModel.{names_of, Placed};
 ghost use Rattle.yaml_nodes.specs.ComposerSteps.{State, initial_state, node_begun, whole};
 ghost use Rattle.yaml_compact.specs.StoreGrows.{Stands, Keeps, trees_of};
@@ -15,7 +14,7 @@ ghost use Rattle.yaml_compact.specs.declared.store.Store.{Store};
 ghost use Rattle.yaml_compose.specs.Reached.{Reaches, UnfoldTo};
 ghost use Rattle.yaml_compose.specs.Nodes.{AreNodes};
 ghost use Rattle.yaml_compose.specs.FirstsModel.{Comes};
-ghost use Rattle.yaml_compose.specs.ComposerModel.{anchor_text, with_store, Holds, Stepped, IsForest, AreForests, start_of, end_of};
+ghost use Rattle.yaml_compose.specs.ComposerModel.{with_store, Holds, Stepped, IsForest, AreForests, start_of, end_of};
 ghost use Rattle.yaml_compose.specs.ComposerLog.{Follows};
 ghost use Rattle.yaml_compose.specs.Refusals.{Stops, RefusesForest};
 
@@ -35,8 +34,8 @@ use yaml_content::content::content;
 use yaml_content::form::judge;
 use yaml_core::PlainKind;
 use yaml_core::scalar::resolve;
-use yaml_sink::properties::Properties;
-use yaml_text::event::{EventTag, Style};
+use yaml_sink::properties::{Given, Properties};
+use yaml_text::event::Style;
 use yaml_text::fault::Fault;
 
 /// A collection that is open.
@@ -57,7 +56,7 @@ pub(crate) struct Composer<'s> {
     pub(crate) store: Store<'s>,
     pub(crate) core: CoreTags,
     /// The names of this document's anchors.
-    pub(crate) anchors: Anchors,
+    pub(crate) anchors: Anchors<'s>,
     /// The nodes of this document that have anchors, in the order in which they begin; none where
     /// the node is still open.
     pub(crate) anchored: Vec<Option<u32>>,
@@ -97,7 +96,7 @@ impl<'s> Composer<'s> {
         Ok(Composer {
             store,
             core,
-            anchors: Anchors::new(alloc),
+            anchors: Anchors::new(alloc, lent),
             anchored: Vec::new(alloc),
             stack: Vec::new(alloc),
             opens: Vec::new(alloc),
@@ -158,16 +157,16 @@ impl<'s> Composer<'s> {
         })
     }
 
-    /// A node begins. Its place among the anchored ones, if it has an anchor.
-    fn begin_node(&mut self, anchor: Option<&str>) -> Result<Option<usize>, GivesUp>
+    /// A node with these properties begins. Its place among the anchored ones, if it has an anchor.
+    fn begin_node(&mut self, given: &Given<'_>) -> Result<Option<usize>, GivesUp>
         ensures { (s : State) → Holds self.old s →
-            let a = anchor_text anchor.entry in
+            let a = (props_in given.now).anchor in
             IfOk result (λ place. Placed (names_of (node_begun a s).table) place a (length s.table) × Holds self.new (node_begun a s)) }
     {
-        let Some(text) = anchor else {
+        let Some(name) = &given.anchor else {
             return Ok(None);
         };
-        let place = self.anchors.put(text)?;
+        let place = self.anchors.put(name.as_str(), given.offsets.anchor)?;
         self.anchored.push(None)?;
         Ok(Some(place))
     }
@@ -194,18 +193,17 @@ impl<'s> Composer<'s> {
     fn put_scalar(
         &mut self,
         alloc: Global,
-        anchor: Option<&str>,
-        tag: &EventTag<'_>,
+        given: &Given<'_>,
         style: Style,
         text: &mut CowStr<'_>,
         offset: usize,
     ) -> Result<(), Stop>
         ensures { (s : State) → Holds self.old s →
-            let event = scalar_event (anchor_text anchor.entry) (written_of tag.now) (style_of style) (cow_str_bytes text.old) in
+            let event = scalar_event (props_in given.now).anchor (props_in given.now).tag (style_of style) (cow_str_bytes text.old) in
             MatchResult result (λ _. Stepped event s self.new) (Stops event s) }
     {
-        let scalar = resolve(alloc, tag, style, text.as_str())?;
-        let place = self.begin_node(anchor)?;
+        let scalar = resolve(alloc, &given.tag, style, text.as_str())?;
+        let place = self.begin_node(given)?;
         let mut content = CowStr::Borrowed(scalar.content.as_str());
         let id = self
             .store
@@ -285,16 +283,7 @@ impl<'s> Composer<'s> {
     {
         match &properties.given {
             None => self.put_bare(alloc, style, text, offset),
-            Some(given) => {
-                self.put_scalar(
-                    alloc,
-                    name_of(&given.anchor),
-                    &given.tag,
-                    style,
-                    text,
-                    offset,
-                )
-            }
+            Some(given) => self.put_scalar(alloc, given, style, text, offset),
         }
     }
 
@@ -321,15 +310,14 @@ impl<'s> Composer<'s> {
         &mut self,
         alloc: Global,
         collection: Collection,
-        anchor: Option<&str>,
-        tag: &EventTag<'_>,
+        given: &Given<'_>,
     ) -> Result<(), Stop>
         ensures { (s : State) → Holds self.old s → (flow : Bool) →
-            let event = start_of collection flow (anchor_text anchor.entry) (written_of tag.now) in
+            let event = start_of collection flow (props_in given.now).anchor (props_in given.now).tag in
             MatchResult result (λ _. Stepped event s self.new) (Stops event s) }
     {
-        let text = tag_of(collection, tag)?;
-        let place = self.begin_node(anchor)?;
+        let text = tag_of(collection, &given.tag)?;
+        let place = self.begin_node(given)?;
         let number = self.store.tag(alloc, text)?;
         let mark = self.stack.len();
         self.opens.push(Open {
@@ -372,12 +360,7 @@ impl<'s> Composer<'s> {
                 self.begin_bare(collection)?;
                 Ok(())
             }
-            Some(given) => self.begin_collection(
-                alloc,
-                collection,
-                name_of(&given.anchor),
-                &given.tag,
-            ),
+            Some(given) => self.begin_collection(alloc, collection, given),
         }
     }
 
@@ -414,15 +397,5 @@ impl<'s> Composer<'s> {
         self.stack.truncate(open.mark);
         self.put(open.place, id)?;
         Ok(())
-    }
-}
-
-/// The name of an anchor, if there is one.
-fn name_of<'a>(anchor: &'a Option<CowStr<'_>>) -> Option<&'a str>
-    ensures { anchor_text result ≡ option_map cow_str_bytes anchor.now }
-{
-    match anchor {
-        None => None,
-        Some(name) => Some(name.as_str()),
     }
 }

@@ -1,5 +1,5 @@
 //! Properties that are kept without the text that they stand in.
-ghost use Rattle.std.specs.Prelude.{◌≡◌, IfOk};
+ghost use Rattle.std.specs.Prelude.{◌≡◌, IfOk, IfSome};
 ghost use Rattle.std.specs.Bool.{OnTrue};
 ghost use Rattle.std.specs.Option.{option_map};
 ghost use Rattle.std.specs.Cow.{cow_str_bytes};
@@ -8,129 +8,157 @@ ghost use Rattle.yaml_sink.specs.PropertyRules.{props_of};
 
 use std::alloc::Global;
 use std::borrow::CowStr;
+use std::mem;
 use yaml_compact::gives_up::GivesUp;
-use yaml_sink::properties::{Given, Properties};
+use yaml_sink::properties::{Given, Offsets, Properties};
 use yaml_text::event::EventTag;
 
-/// Properties that are lent by no text.
+/// Properties that are parts of the text that is lent, or lent by none.
 #[derive(Drop)]
-pub(crate) struct Owned {
-    pub(crate) properties: Properties<'static>,
+pub(crate) struct Owned<'s> {
+    pub(crate) properties: Properties<'s>,
 }
 
-/// A copy of a text.
-fn copy_text(alloc: Global, text: &CowStr<'_>) -> Result<CowStr<'static>, GivesUp>
-    ensures { IfOk result (λ copy. cow_str_bytes copy ≡ cow_str_bytes text.now) }
+/// The part of a text at this place, if it is the same as another text.
+fn part_at<'s>(lent: &'s str, at: usize, text: &str) -> Option<&'s str>
+    ensures { IfSome result (λ part. part.now ≡ text.now) }
 {
-    let copy = String::from_str(alloc, text.as_str())?;
-    Ok(CowStr::Owned(copy))
+    let end = at.checked_add(text.len())?;
+    let part = lent.get(at..end)?;
+    if part == text { Some(part) } else { None }
 }
 
 /// A text becomes a copy of another, in the room that it has.
-fn write_over(alloc: Global, copy: &mut CowStr<'static>, text: &CowStr<'_>) -> Result<(), GivesUp>
-    ensures { IfOk result (λ _. cow_str_bytes copy.new ≡ cow_str_bytes text.now) }
+#[inline(always)]
+pub(crate) fn fill(alloc: Global, copy: &mut CowStr<'_>, text: &str) -> Result<(), GivesUp>
+    ensures { IfOk result (λ _. cow_str_bytes copy.new ≡ text.now) }
 {
     if let CowStr::Owned(room) = copy {
         room.clear();
-        room.push_str(text.as_str())?;
+        room.push_str(text)?;
         return Ok(());
     }
-    *copy = copy_text(alloc, text)?;
+    let owned = String::from_str(alloc, text)?;
+    *copy = CowStr::Owned(owned);
     Ok(())
 }
 
-/// A copy of an anchor's name, if there is one.
-fn copy_anchor(
+/// A text that may be taken: the part at this place of the text that is lent, if it stands there, else the text itself if it is
+/// one of its own, else a copy.
+pub(crate) fn keep<'s>(
     alloc: Global,
-    anchor: &Option<CowStr<'_>>,
-) -> Result<Option<CowStr<'static>>, GivesUp>
-    ensures { IfOk result (λ copy. option_map cow_str_bytes copy ≡ option_map cow_str_bytes anchor.now) }
+    lent: &'s str,
+    at: usize,
+    text: &mut CowStr<'_>,
+) -> Result<CowStr<'s>, GivesUp>
+    ensures { IfOk result (λ kept. cow_str_bytes kept ≡ cow_str_bytes text.old) }
 {
-    match anchor {
-        None => Ok(None),
-        Some(name) => {
-            let copy = copy_text(alloc, name)?;
-            Ok(Some(copy))
-        }
+    if let Some(part) = part_at(lent, at, text.as_str()) {
+        return Ok(CowStr::Borrowed(part));
+    }
+    match text {
+        CowStr::Owned(owned) => Ok(CowStr::Owned(mem::replace(owned, String::new(alloc)))),
+        CowStr::Borrowed(text) => Ok(CowStr::Owned(String::from_str(alloc, text)?)),
     }
 }
 
-/// A copy of a tag.
-fn copy_tag(alloc: Global, tag: &EventTag<'_>) -> Result<EventTag<'static>, GivesUp>
-    ensures { IfOk result (λ copy. written_of copy ≡ written_of tag.now) }
+/// A text becomes the same as another: the part at this place of the text that is lent, if it stands there, else a copy, in the
+/// room that it has.
+fn write_over<'s>(
+    alloc: Global,
+    lent: &'s str,
+    at: usize,
+    copy: &mut CowStr<'s>,
+    text: &CowStr<'_>,
+) -> Result<(), GivesUp>
+    ensures { IfOk result (λ _. cow_str_bytes copy.new ≡ cow_str_bytes text.now) }
 {
-    match tag {
-        EventTag::None => Ok(EventTag::None),
-        EventTag::NonSpecific => Ok(EventTag::NonSpecific),
-        EventTag::Full(text) => {
-            let copy = copy_text(alloc, text)?;
-            Ok(EventTag::Full(copy))
-        }
+    if let Some(part) = part_at(lent, at, text.as_str()) {
+        *copy = CowStr::Borrowed(part);
+        return Ok(());
     }
+    fill(alloc, copy, text.as_str())
 }
 
-/// A copy of a node's properties.
-pub(crate) fn copy_of(
+/// An anchor's name becomes the same as another.
+fn write_over_anchor<'s>(
     alloc: Global,
-    properties: &Properties<'_>,
-) -> Result<Properties<'static>, GivesUp>
-    ensures { IfOk result (λ copy. props_of copy ≡ props_of properties.now) }
-{
-    let Some(given) = &properties.given else {
-        return Ok(Properties::none());
-    };
-    let anchor = copy_anchor(alloc, &given.anchor)?;
-    let tag = copy_tag(alloc, &given.tag)?;
-    let held = Box::new(alloc, Given { anchor, tag })?;
-    Ok(Properties { given: Some(held) })
-}
-
-/// An anchor's name becomes a copy of another, in the room that it has.
-fn write_over_anchor(
-    alloc: Global,
-    copy: &mut Option<CowStr<'static>>,
+    lent: &'s str,
+    at: usize,
+    copy: &mut Option<CowStr<'s>>,
     anchor: &Option<CowStr<'_>>,
 ) -> Result<(), GivesUp>
     ensures { IfOk result (λ _. option_map cow_str_bytes copy.new ≡ option_map cow_str_bytes anchor.now) }
 {
-    if let (Some(copy), Some(name)) = (&mut *copy, anchor) {
-        return write_over(alloc, copy, name);
-    }
-    *copy = copy_anchor(alloc, anchor)?;
+    let Some(name) = anchor else {
+        *copy = None;
+        return Ok(());
+    };
+    let mut same = mem::replace(copy, None).unwrap_or(CowStr::Borrowed(""));
+    write_over(alloc, lent, at, &mut same, name)?;
+    *copy = Some(same);
     Ok(())
 }
 
-/// A tag becomes a copy of another, in the room that it has.
-fn write_over_tag(
+/// A tag becomes the same as another.
+fn write_over_tag<'s>(
     alloc: Global,
-    copy: &mut EventTag<'static>,
+    lent: &'s str,
+    at: usize,
+    copy: &mut EventTag<'s>,
     tag: &EventTag<'_>,
 ) -> Result<(), GivesUp>
     ensures { IfOk result (λ _. written_of copy.new ≡ written_of tag.now) }
 {
-    if let (EventTag::Full(copy), EventTag::Full(text)) = (&mut *copy, tag) {
-        return write_over(alloc, copy, text);
+    match tag {
+        EventTag::None => *copy = EventTag::None,
+        EventTag::NonSpecific => *copy = EventTag::NonSpecific,
+        EventTag::Full(text) => {
+            let mut same = match mem::replace(copy, EventTag::None) {
+                EventTag::Full(room) => room,
+                _ => CowStr::Borrowed(""),
+            };
+            write_over(alloc, lent, at, &mut same, text)?;
+            *copy = EventTag::Full(same);
+        }
     }
-    *copy = copy_tag(alloc, tag)?;
     Ok(())
 }
 
-/// A copy of a node's properties, in the room of others that are of no use any more.
-pub(crate) fn copy_over(
+/// Neither an anchor nor a tag yet.
+fn no_given<'s>(alloc: Global) -> Result<Box<Given<'s>>, GivesUp> {
+    let held = Box::new(
+        alloc,
+        Given {
+            anchor: None,
+            tag: EventTag::None,
+            offsets: Offsets { anchor: 0, tag: 0 },
+        },
+    )?;
+    Ok(held)
+}
+
+/// The same properties as a node's, in the room of others that are of no use any more: parts of the text that is lent where they
+/// stand in it, else copies.
+pub(crate) fn copy_over<'s>(
     alloc: Global,
-    spare: Properties<'static>,
+    lent: &'s str,
+    spare: Properties<'s>,
     properties: &Properties<'_>,
-) -> Result<Properties<'static>, GivesUp>
+) -> Result<Properties<'s>, GivesUp>
     ensures { IfOk result (λ copy. props_of copy ≡ props_of properties.now) }
 {
     let Some(given) = &properties.given else {
         return Ok(Properties::none());
     };
-    let Some(mut held) = spare.given else {
-        return copy_of(alloc, properties);
+    let mut held = match spare.given {
+        Some(held) => held,
+        None => no_given(alloc)?,
     };
-    write_over_anchor(alloc, &mut held.anchor, &given.anchor)?;
-    write_over_tag(alloc, &mut held.tag, &given.tag)?;
+    let offsets = given.offsets;
+    write_over_anchor(alloc, lent, offsets.anchor, &mut held.anchor, &given.anchor)?;
+    write_over_tag(alloc, lent, offsets.tag, &mut held.tag, &given.tag)?;
+    held.offsets = offsets;
     Ok(Properties { given: Some(held) })
 }
 

@@ -26,9 +26,8 @@ use yaml_sink::sink::{Collection, Keeper};
 use yaml_text::event::{Event, Style};
 use yaml_text::fault::Fault;
 
-/// How many bytes the content of an implicit key has at most, before which a mapping may begin later: 1024 characters (YAML 1.2.2,
-/// 7.4.2) of four.
-const LONGEST_KEY: usize = 4096;
+/// A scalar's text, or an alias's name, of more bytes than this is not copied while it waits.
+const LONG: usize = 4096;
 
 /// Where the content of a scalar begins that begins here, if it stands in the text as it is: behind its quote.
 fn content_offset(style: Style, at: usize) -> usize {
@@ -44,10 +43,12 @@ fn content_offset(style: Style, at: usize) -> usize {
 #[derive(Drop)]
 pub struct Composing<'s> {
     alloc: Global,
+    /// The text of which long contents and properties may be parts.
+    lent: &'s str,
     ahead: Ahead<'s>,
-    waiting: Waiting,
-    /// The properties of the node that follows, if they are known.
-    announced: Option<Owned>,
+    waiting: Waiting<'s>,
+    /// The properties of the collection that follows, if they are known.
+    announced: Option<Owned<'s>>,
     /// How many events are held.
     count: usize,
     /// Whether what is composed is of no use.
@@ -55,13 +56,14 @@ pub struct Composing<'s> {
 }
 
 impl<'s> Composing<'s> {
-    /// No event yet. Long contents may be parts of the text that is lent.
+    /// No event yet. Long contents, and properties, may be parts of the text that is lent.
     pub fn new(alloc: Global, lent: &'s str) -> Result<Composing<'s>, GivesUp>
         ensures { IfOk result (λ keeper. Composes keeper []) }
     {
         let ahead = Ahead::new(alloc, lent)?;
         Ok(Composing {
             alloc,
+            lent,
             ahead,
             waiting: Waiting::new(alloc),
             announced: None,
@@ -91,13 +93,13 @@ impl<'s> Composing<'s> {
         ensures { IfOk result (λ _. Puts Composes self.old (scalar_event None untagged (style_of style) text.now ∷ []) self.new) }
     {
         self.make_room()?;
-        let due = mem::replace(&mut self.announced, None);
-        self.waiting.put(Late::Scalar(style), text, offset, due)?;
+        self.announced = None;
+        self.waiting
+            .put(self.alloc, Late::Scalar(style), text, offset)?;
         Ok(())
     }
 
-    /// Puts down a long scalar without properties. It is composed at once, with those that are announced, so that its text is copied
-    /// once.
+    /// Puts down a long scalar without properties.
     #[inline(never)]
     fn put_long(
         &mut self,
@@ -107,24 +109,26 @@ impl<'s> Composing<'s> {
     ) -> Result<(), GivesUp>
         ensures { IfOk result (λ _. Puts Composes self.old (scalar_event None untagged (style_of style) (cow_str_bytes text.old) ∷ []) self.new) }
     {
-        let at = self.count;
         self.make_room()?;
-        let given = match mem::replace(&mut self.announced, None) {
-            None => Properties::none(),
-            Some(owned) => owned.properties,
-        };
-        self.ahead
-            .scalar_due(self.alloc, at, given, style, text, offset)?;
+        self.announced = None;
+        self.waiting
+            .put_long(self.alloc, self.lent, Late::Scalar(style), text, offset)?;
         Ok(())
     }
 
     /// Puts down an alias.
-    fn put_alias(&mut self, name: &str) -> Result<(), GivesUp>
+    fn put_alias(&mut self, name: &str, offset: usize) -> Result<(), GivesUp>
         ensures { IfOk result (λ _. Puts Composes self.old (alias_event name.now ∷ []) self.new) }
     {
         self.make_room()?;
-        self.waiting.put(Late::Alias, name, 0, None)?;
         self.announced = None;
+        if name.len() > LONG {
+            let mut text = CowStr::Borrowed(name);
+            self.waiting
+                .put_long(self.alloc, self.lent, Late::Alias, &mut text, offset)?;
+            return Ok(());
+        }
+        self.waiting.put(self.alloc, Late::Alias, name, 0)?;
         Ok(())
     }
 
@@ -134,7 +138,7 @@ impl<'s> Composing<'s> {
     {
         self.make_room()?;
         let due = mem::replace(&mut self.announced, None);
-        self.waiting.put(Late::Start(collection, flow), "", 0, due)?;
+        self.waiting.put_start(self.alloc, collection, flow, due)?;
         Ok(())
     }
 
@@ -156,12 +160,12 @@ impl<'s> Composing<'s> {
         Ok(())
     }
 
-    /// Puts down an event of those that a reader gives as a whole.
-    fn put(&mut self, event: &Event<'_>) -> Result<(), GivesUp>
+    /// Puts down an event of those that a reader gives as a whole, whose text begins at this offset.
+    fn put(&mut self, event: &Event<'_>, at: usize) -> Result<(), GivesUp>
         ensures { IfOk result (λ _. Puts Composes self.old (event_of event.now ∷ []) self.new) }
     {
         match event {
-            Event::Alias { name } => self.put_alias(name.as_str()),
+            Event::Alias { name } => self.put_alias(name.as_str(), at.saturating_add(1)),
             Event::DocumentStart { .. } => {
                 self.put_document()?;
                 Ok(())
@@ -222,7 +226,7 @@ impl<'s> Composing<'s> {
         if self.waiting.stays(count, properties) {
             return Ok(());
         }
-        let copy = self.waiting.copy_of(self.alloc, properties)?;
+        let copy = self.waiting.copy_of(self.alloc, self.lent, properties)?;
         self.waiting.dress(count, copy)?;
         Ok(())
     }
@@ -251,6 +255,7 @@ impl<'s> Composing<'s> {
     {
         let Composing {
             alloc,
+            lent: _,
             mut ahead,
             mut waiting,
             announced: _,
@@ -277,14 +282,14 @@ impl Keeper for Composing<'_> {
         self.count
     }
 
-    fn push(&mut self, event: &Event<'_>, _at: usize) -> Result<(), Fault> {
-        self.put(event)?;
+    fn push(&mut self, event: &Event<'_>, at: usize) -> Result<(), Fault> {
+        self.put(event, at)?;
         Ok(())
     }
 
     fn scalar(&mut self, style: Style, text: &mut CowStr<'_>, at: usize) -> Result<(), Fault> {
         let offset = content_offset(style, at);
-        if text.as_str().len() > LONGEST_KEY {
+        if text.as_str().len() > LONG {
             self.put_long(style, text, offset)?;
             return Ok(());
         }
@@ -308,7 +313,10 @@ impl Keeper for Composing<'_> {
     }
 
     fn announce(&mut self, own: &Properties<'_>) {
-        match self.waiting.copy_in_room(self.alloc, own) {
+        if own.given.is_none() && self.announced.is_some() {
+            return;
+        }
+        match self.waiting.copy_of(self.alloc, self.lent, own) {
             Ok(copy) => self.announced = Some(Owned { properties: copy }),
             Err(_) => self.gave_up = true,
         }

@@ -1,13 +1,14 @@
 //! What was put down last, while it is not known yet whose its properties are and whether a mapping begins before it.
 ghost use Rattle.std.specs.Prelude.{◌≡◌, [], IfOk};
 ghost use Rattle.std.specs.Bool.{OnTrue, OnFalse};
-ghost use Rattle.std.specs.String.{string_bytes};
+ghost use Rattle.std.specs.Cow.{cow_str_bytes};
 ghost use Rattle.yaml_definitions.specs.grammar.Events.{no_props};
 ghost use Rattle.yaml_sink.specs.PropertyRules.{props_of};
+ghost use Rattle.yaml_compose.specs.declared.waiting.Late.TheVariants.{Start};
 ghost use Rattle.yaml_compose.specs.WaitingModel.{late_event, start_before, waits, IsOne, PutsLate, ComposesWaits, Precedes, DressesWaits};
 
 use crate::ahead::Ahead;
-use crate::copies::{Owned, copy_over};
+use crate::copies::{Owned, copy_over, fill, keep};
 use std::alloc::Global;
 use std::borrow::CowStr;
 use std::mem;
@@ -28,26 +29,26 @@ pub(crate) enum Late {
 
 /// An event that waits, perhaps with a mapping's start before it.
 #[derive(Drop)]
-pub(crate) struct Waiting {
+pub(crate) struct Waiting<'s> {
     late: Late,
     /// The content of a scalar, the name of an alias.
-    text: String,
+    text: CowStr<'s>,
     /// Where it may stand in the text that is read.
     offset: usize,
     /// What the event has of properties.
-    own: Properties<'static>,
-    /// What was announced of properties.
-    due: Option<Owned>,
+    own: Properties<'s>,
+    /// What a collection gets of properties, where it is known.
+    due: Option<Owned<'s>>,
     /// Of the mapping's start, whether it is a flow mapping, and its properties.
     mapping: Option<bool>,
-    outer: Properties<'static>,
+    outer: Properties<'s>,
     /// Properties of an earlier event, whose room others may have.
-    spare: Properties<'static>,
+    spare: Properties<'s>,
 }
 
 /// Properties are of no use any more, but for their room.
 #[inline(always)]
-fn set_aside(own: &mut Properties<'static>, spare: &mut Properties<'static>)
+fn set_aside<'s>(own: &mut Properties<'s>, spare: &mut Properties<'s>)
     ensures { props_of own.new ≡ no_props }
 {
     if own.given.is_some() {
@@ -55,14 +56,14 @@ fn set_aside(own: &mut Properties<'static>, spare: &mut Properties<'static>)
     }
 }
 
-impl Waiting {
+impl<'s> Waiting<'s> {
     /// Nothing waits.
-    pub(crate) fn new(alloc: Global) -> Waiting
+    pub(crate) fn new(alloc: Global) -> Waiting<'s>
         ensures { waits result ≡ [] }
     {
         Waiting {
             late: Late::Nothing,
-            text: String::new(alloc),
+            text: CowStr::Owned(String::new(alloc)),
             offset: 0,
             own: Properties::none(),
             due: None,
@@ -75,30 +76,61 @@ impl Waiting {
     /// Whether nothing waits.
     pub(crate) fn is_none(&self) -> bool
         ensures yes { OnTrue result (waits self.now ≡ []) }
-        ensures no { OnFalse result (IsOne (late_event self.now.late (props_of self.now.own) (string_bytes self.now.text))) }
+        ensures no { OnFalse result (IsOne (late_event self.now.late (props_of self.now.own) (cow_str_bytes self.now.text))) }
     {
         matches!(self.late, Late::Nothing)
     }
 
-    /// This waits, without properties. Those that are due, if there are any, were announced for it: a collection is composed with
-    /// them, unless it gets others before.
+    /// This waits, without properties.
     #[inline(always)]
     pub(crate) fn put(
         &mut self,
+        alloc: Global,
         late: Late,
         text: &str,
         offset: usize,
-        due: Option<Owned>,
     ) -> Result<(), GivesUp>
         ensures { IfOk result (λ _. waits self.new ≡ late_event late no_props text.now) }
     {
-        self.text.clear();
-        self.text.push_str(text)?;
+        fill(alloc, &mut self.text, text)?;
         self.offset = offset;
         set_aside(&mut self.own, &mut self.spare);
-        self.due = due;
+        self.due = None;
         self.mapping = None;
         self.late = late;
+        Ok(())
+    }
+
+    /// A collection's start waits, without properties. It is composed with those that are due, if there are any.
+    pub(crate) fn put_start(
+        &mut self,
+        alloc: Global,
+        collection: Collection,
+        flow: bool,
+        due: Option<Owned<'s>>,
+    ) -> Result<(), GivesUp>
+        ensures { IfOk result (λ _. waits self.new ≡ late_event (Start collection flow) no_props []) }
+    {
+        self.put(alloc, Late::Start(collection, flow), "", 0)?;
+        self.due = due;
+        Ok(())
+    }
+
+    /// This waits, without properties. Its text, a long one, is not copied where it is a part of the text that is lent, or may be taken.
+    #[inline(never)]
+    pub(crate) fn put_long(
+        &mut self,
+        alloc: Global,
+        lent: &'s str,
+        late: Late,
+        text: &mut CowStr<'_>,
+        offset: usize,
+    ) -> Result<(), GivesUp>
+        ensures { IfOk result (λ _. waits self.new ≡ late_event late no_props (cow_str_bytes text.old)) }
+    {
+        let kept = keep(alloc, lent, offset, text)?;
+        self.put(alloc, late, "", offset)?;
+        self.text = kept;
         Ok(())
     }
 
@@ -134,12 +166,13 @@ impl Waiting {
         properties.is_none()
     }
 
-    /// A copy of properties, in the room that earlier ones had.
-    pub(crate) fn copy_in_room(
+    /// The same properties, in the room that earlier ones had.
+    pub(crate) fn copy_of(
         &mut self,
         alloc: Global,
+        lent: &'s str,
         properties: &Properties<'_>,
-    ) -> Result<Properties<'static>, GivesUp>
+    ) -> Result<Properties<'s>, GivesUp>
         ensures copy { IfOk result (λ copy. props_of copy ≡ props_of properties.now) }
         ensures waits { waits self.new ≡ waits self.old }
     {
@@ -147,31 +180,11 @@ impl Waiting {
             return Ok(Properties::none());
         }
         let spare = mem::replace(&mut self.spare, Properties::none());
-        copy_over(alloc, spare, properties)
-    }
-
-    /// A copy of properties, in the room of those that are due.
-    pub(crate) fn copy_of(
-        &mut self,
-        alloc: Global,
-        properties: &Properties<'_>,
-    ) -> Result<Properties<'static>, GivesUp>
-        ensures copy { IfOk result (λ copy. props_of copy ≡ props_of properties.now) }
-        ensures waits { waits self.new ≡ waits self.old }
-    {
-        let room = match mem::replace(&mut self.due, None) {
-            Some(owned) => owned.properties,
-            None => Properties::none(),
-        };
-        copy_over(alloc, room, properties)
+        copy_over(alloc, lent, spare, properties)
     }
 
     /// Puts properties on the first of the last so many events, which wait.
-    pub(crate) fn dress(
-        &mut self,
-        count: usize,
-        properties: Properties<'static>,
-    ) -> Result<(), GivesUp>
+    pub(crate) fn dress(&mut self, count: usize, properties: Properties<'s>) -> Result<(), GivesUp>
         ensures { IfOk result (λ _. DressesWaits count (props_of properties.entry) (waits self.old) (waits self.new)) }
     {
         if self.is_none() {
@@ -196,7 +209,7 @@ impl Waiting {
     fn compose_start(
         &self,
         alloc: Global,
-        ahead: &mut Ahead<'_>,
+        ahead: &mut Ahead<'s>,
         number: usize,
     ) -> Result<(), GivesUp>
         ensures { IfOk result (λ _. ComposesWaits number (start_before self.now.mapping (props_of self.now.outer)) ahead.old ahead.new) }
@@ -215,16 +228,15 @@ impl Waiting {
     fn compose_late(
         &mut self,
         alloc: Global,
-        ahead: &mut Ahead<'_>,
+        ahead: &mut Ahead<'s>,
         number: usize,
     ) -> Result<(), GivesUp>
-        ensures { IfOk result (λ _. PutsLate number (late_event self.old.late (props_of self.old.own) (string_bytes self.old.text)) ahead.old ahead.new) }
+        ensures { IfOk result (λ _. PutsLate number (late_event self.old.late (props_of self.old.own) (cow_str_bytes self.old.text)) ahead.old ahead.new) }
     {
         match self.late {
             Late::Nothing => Ok(()),
             Late::Scalar(style) => {
-                let mut text = CowStr::Borrowed(self.text.as_str());
-                ahead.scalar(alloc, number, &self.own, style, &mut text, self.offset)?;
+                ahead.scalar(alloc, number, &self.own, style, &mut self.text, self.offset)?;
                 Ok(())
             }
             Late::Alias => {
@@ -249,7 +261,7 @@ impl Waiting {
     pub(crate) fn compose(
         &mut self,
         alloc: Global,
-        ahead: &mut Ahead<'_>,
+        ahead: &mut Ahead<'s>,
         count: usize,
     ) -> Result<(), GivesUp>
         ensures composes { IfOk result (λ _. ComposesWaits count (waits self.old) ahead.old ahead.new) }

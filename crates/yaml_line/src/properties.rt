@@ -14,7 +14,7 @@ use std::alloc::Global;
 use yaml_mark::handles::Handles;
 use yaml_mark::name::read_name;
 use yaml_mark::tag::read_tag;
-use yaml_sink::properties::{Properties, hold};
+use yaml_sink::properties::{Offsets, Properties, hold};
 use yaml_text::chars::Chars;
 use yaml_text::context::Ctx;
 use yaml_text::event::EventTag;
@@ -77,10 +77,15 @@ fn read_tagged<'a>(
         if let Some(_) = accept(source, next, '&') {
             let (name, after) = read_name(alloc, source, next)?;
             let anchor = Some(name);
-            return Ok((hold(alloc, anchor, tag)?, after));
+            let offsets = Offsets {
+                anchor: next + 1,
+                tag: at,
+            };
+            return Ok((hold(alloc, anchor, tag, offsets)?, after));
         }
     }
-    Ok((hold(alloc, None, tag)?, end))
+    let offsets = Offsets { anchor: 0, tag: at };
+    Ok((hold(alloc, None, tag, offsets)?, end))
 }
 
 /// An anchor, and a tag that may follow it.
@@ -106,9 +111,17 @@ fn read_anchored<'a>(
     if next > end {
         if let Some(_) = accept(source, next, '!') {
             let (tag, after) = read_tag(alloc, source, next, handles)?;
-            return Ok((hold(alloc, anchor, tag)?, after));
+            let offsets = Offsets {
+                anchor: at + 1,
+                tag: next,
+            };
+            return Ok((hold(alloc, anchor, tag, offsets)?, after));
         }
     }
     let tag = EventTag::None;
-    Ok((hold(alloc, anchor, tag)?, end))
+    let offsets = Offsets {
+        anchor: at + 1,
+        tag: 0,
+    };
+    Ok((hold(alloc, anchor, tag, offsets)?, end))
 }

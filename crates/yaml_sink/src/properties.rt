@@ -8,7 +8,7 @@ ghost use Rattle.yaml_text.specs.EventModel.{event_of, written_of};
 ghost use Rattle.yaml_definitions.specs.grammar.Events.{no_props};
 ghost use Rattle.yaml_text.specs.declared.fault.Fault.TheVariants.{OutOfMemory};
 ghost use Rattle.std.specs.Box.{box_value};
-ghost use Rattle.yaml_sink.specs.PropertyRules.{props_of, props_in, both_props, either_anchor, either_tag, with_props, Dresses, Disjoint};
+ghost use Rattle.yaml_sink.specs.PropertyRules.{props_of, props_in, both_props, with_props, Dresses, Disjoint};
 
 use std::alloc::Global;
 use std::borrow::CowStr;
@@ -27,11 +27,19 @@ fn is_absent(anchor: &Option<CowStr<'_>>, tag: &EventTag<'_>) -> bool
     }
 }
 
+/// Where an anchor's name and a tag may stand as they are in the text that is read. Who uses it compares.
+#[derive(Clone, Copy)]
+pub struct Offsets {
+    pub anchor: usize,
+    pub tag: usize,
+}
+
 /// An anchor and a tag, of which one may be absent.
 #[derive(Drop)]
 pub struct Given<'a> {
     pub anchor: Option<CowStr<'a>>,
     pub tag: EventTag<'a>,
+    pub offsets: Offsets,
 }
 
 /// A node's anchor and tag. Most nodes have neither, so they stand behind a pointer where there are any.
@@ -91,7 +99,7 @@ impl<'a> Properties<'a> {
         match self.given {
             None => (None, EventTag::None),
             Some(given) => {
-                let Given { anchor, tag } = Box::into_inner(given);
+                let Given { anchor, tag, .. } = Box::into_inner(given);
                 (anchor, tag)
             }
         }
@@ -119,47 +127,42 @@ fn join<'a>(outer: Box<Given<'a>>, own: Box<Given<'a>>) -> Box<Given<'a>>
     ensures { props_in (box_value result) ≡ both_props (props_in (box_value outer.entry)) (props_in (box_value own.entry)) }
 {
     let mut both = own;
-    let Given { anchor, tag } = Box::into_inner(outer);
-    let own_anchor = mem::replace(&mut both.anchor, None);
-    let own_tag = mem::replace(&mut both.tag, EventTag::None);
-    both.anchor = first_anchor(own_anchor, anchor);
-    both.tag = first_tag(own_tag, tag);
+    let Given {
+        anchor,
+        tag,
+        offsets,
+    } = Box::into_inner(outer);
+    if both.anchor.is_none() {
+        both.anchor = anchor;
+        both.offsets.anchor = offsets.anchor;
+    }
+    if let EventTag::None = both.tag {
+        both.tag = tag;
+        both.offsets.tag = offsets.tag;
+    }
     both
 }
 
-/// An anchor and a tag that were read.
+/// An anchor and a tag that were read, which stand at these places.
 #[inline(never)]
 pub fn hold<'a>(
     alloc: Global,
     anchor: Option<CowStr<'a>>,
     tag: EventTag<'a>,
+    offsets: Offsets,
 ) -> Result<Properties<'a>, Fault>
     ensures ok { IfOk result (λ p. props_of p ≡ record { anchor = option_map cow_str_bytes anchor.entry; tag = written_of tag.entry }) }
     ensures err { IfErr result (λ e. e ≡ OutOfMemory) }
 {
-    let held = Box::new(alloc, Given { anchor, tag })?;
+    let held = Box::new(
+        alloc,
+        Given {
+            anchor,
+            tag,
+            offsets,
+        },
+    )?;
     Ok(Properties { given: Some(held) })
-}
-
-/// An anchor, or else another.
-fn first_anchor<'a>(anchor: Option<CowStr<'a>>, other: Option<CowStr<'a>>) -> Option<CowStr<'a>>
-    ensures { option_map cow_str_bytes result ≡ either_anchor (option_map cow_str_bytes anchor.entry) (option_map cow_str_bytes other.entry) }
-{
-    match anchor {
-        Some(name) => Some(name),
-        None => other,
-    }
-}
-
-/// A tag, or else another.
-fn first_tag<'a>(tag: EventTag<'a>, other: EventTag<'a>) -> EventTag<'a>
-    ensures { written_of result ≡ either_tag (written_of tag.entry) (written_of other.entry) }
-{
-    match tag {
-        EventTag::Full(name) => EventTag::Full(name),
-        EventTag::NonSpecific => EventTag::NonSpecific,
-        EventTag::None => other,
-    }
 }
 
 /// An event with these properties in place of its own.

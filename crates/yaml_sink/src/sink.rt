@@ -59,7 +59,8 @@ pub trait Keeper {
         ensures ok { IfOk result (λ _. Alters holds start (λ es. mapping_start flow None untagged ∷ es) self.old self.new) }
         ensures err { IfErr result (λ e. e ≡ OutOfMemory) };
 
-    /// A node follows that has these properties on its line. They are put on it, alone or with others, by `dress`.
+    /// A flow collection may follow, to which `dress` gives these properties, alone or with others, once it has ended. Where it has none
+    /// of its own, it may get those that were told before.
     fn announce(&mut self, own: &Properties<'_>)
         ensures { Keeps holds self.old self.new };
 
@@ -246,7 +247,8 @@ impl<'a, K: Keeper> Sink<'a, K> {
         }
     }
 
-    /// A node follows that has these properties on its line. They are put on it, alone or with others, by `dress`.
+    /// A flow collection may follow, to which `dress` gives these properties, alone or with others, once it has ended. Where it has none
+    /// of its own, it may get those that were told before.
     pub fn announce(&mut self, own: &Properties<'a>)
         ensures { Keeps (holds_of K.holds) self.old self.new }
     {

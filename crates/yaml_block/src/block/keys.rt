@@ -54,7 +54,6 @@ fn read_other_key<'a, K: Keeper, F: FlowReader>(
     if !line_goes_on(source, end, &own) {
         return Err(unusable(source, end));
     }
-    out.announce(&own);
     let head = Head { at, end, own };
     let flow = Level {
         least: column,
@@ -172,7 +171,6 @@ pub fn fit_key<'a, K: Keeper, F: FlowReader>(
         return Err(Fault::TooDeep(source.pos(head.at)));
     }
     out.cut(key.start);
-    out.announce(&head.own);
     let inside = Level {
         context: Ctx::FlowOut,
         room: level.room - 1,

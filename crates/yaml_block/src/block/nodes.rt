@@ -8,6 +8,7 @@ ghost use Rattle.yaml_text.specs.LeafAnswer.{IsRefusal};
 ghost use Rattle.yaml_text.specs.Placed.{IsPlaced};
 ghost use Rattle.law_going_on.specs.GoingOn.{Here};
 ghost use Rattle.yaml_line.specs.NodeAnswer.{Appends, Decides};
+ghost use Rattle.yaml_sink.specs.Held.{Keeps};
 ghost use Rattle.yaml_sink.specs.SinkModel.{holds_of};
 ghost use Rattle.yaml_line.specs.Lines.{IsLine};
 ghost use Rattle.yaml_line.specs.PropertyDecisions.{LineGoesOn};
@@ -104,6 +105,21 @@ fn read_in_block<'a, K: Keeper, F: FlowReader>(
     F::read_bare(alloc, source, head, &flow, out)
 }
 
+/// Tells a flow collection that has no properties of its own of the outer ones. They are the mapping's where the collection is a key,
+/// which is rare.
+#[inline(always)]
+fn announce_outer<'a, K: Keeper>(
+    own: &Properties<'a>,
+    outer: &Properties<'a>,
+    out: &mut Sink<'a, K>,
+)
+    ensures { Keeps (holds_of K.holds) out.old out.new }
+{
+    if own.is_none() && !outer.is_none() {
+        out.announce(outer);
+    }
+}
+
 /// A flow node, or a mapping of which it is the first key.
 #[inline(never)]
 fn open_keyed<'a, K: Keeper, F: FlowReader>(
@@ -122,13 +138,7 @@ fn open_keyed<'a, K: Keeper, F: FlowReader>(
     ensures placed { IfErr result (IsPlaced source.now) }
 {
     let start = out.mark();
-    // Outer properties are the mapping's where the node is a key, which is rare for a collection.
-    let known = if head.own.is_none() {
-        &outer
-    } else {
-        &head.own
-    };
-    out.announce(known);
+    announce_outer(&head.own, &outer, out);
     let node = read_in_block::<K, F>(alloc, source, &head, site.level, out)?;
     match first_colon(source, head.at, node.end, site.column)? {
         None => {

@@ -112,7 +112,6 @@ pub fn read_block_scalar<'a, K: Keeper>(
     ensures placed { IfErr result (IsPlaced source.now) }
 {
     let start = out.mark();
-    out.announce(&properties);
     let line = read_bare_scalar(alloc, source, sign, col, out)?;
     out.dress(start, properties);
     Ok(line)
@@ -129,7 +128,6 @@ pub fn push_lone<'a, K: Keeper>(
     ensures err { IfErr result (λ e. e ≡ OutOfMemory) }
 {
     let start = out.mark();
-    out.announce(&properties);
     push_empty(out, at)?;
     out.dress(start, properties);
     Ok(())

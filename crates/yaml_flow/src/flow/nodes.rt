@@ -19,6 +19,7 @@ use yaml_line::flow::FlowNode;
 use yaml_line::level::Level;
 use yaml_line::line::separation;
 use yaml_line::properties::{Head, read_properties};
+use yaml_sink::properties::Properties;
 use yaml_sink::sink::{Keeper, Sink};
 use yaml_text::chars::Chars;
 use yaml_text::fault::Fault;
@@ -43,7 +44,6 @@ pub fn read_flow_node<'a, K: Keeper>(
 {
     let start = out.mark();
     let (own, end) = read_properties(alloc, source, at, level.least, level.context, level.handles)?;
-    out.announce(&own);
     let head = Head { at, end, own };
     let node = read_bare(alloc, source, &head, level, out)?;
     out.dress(start, head.own);
@@ -70,7 +70,7 @@ pub fn read_bare<'a, K: Keeper>(
         if let Some(_) = accept(source, head.at, '*') {
             return read_alias(alloc, source, head.at, out);
         }
-        return match read_content(alloc, source, head.at, level, out)? {
+        return match read_content(alloc, source, head.at, &head.own, level, out)? {
             Some(node) => Ok(node),
             None => Err(unusable(source, head.at)),
         };
@@ -79,19 +79,20 @@ pub fn read_bare<'a, K: Keeper>(
     if start == head.end {
         return push_lone(source, head.end, out);
     }
-    match read_content(alloc, source, start, level, out)? {
+    match read_content(alloc, source, start, &head.own, level, out)? {
         Some(node) => Ok(node),
         None => push_lone(source, head.end, out),
     }
 }
 
-/// A node's content, if any begins here.
+/// A node's content, if any begins here. A collection is told of the node's own properties before it begins.
 #[inline(always)]
 #[cycle(nodes)]
 fn read_content<'a, K: Keeper>(
     alloc: Global,
     source: &Chars<'a>,
     at: usize,
+    own: &Properties<'a>,
     level: &Level<'_, 'a>,
     out: &mut Sink<'a, K>,
 ) -> Result<Option<FlowNode>, Fault>
@@ -106,6 +107,7 @@ fn read_content<'a, K: Keeper>(
             if level.room == 0 {
                 return Err(Fault::TooDeep(source.pos(at)));
             }
+            out.announce(own);
             let node = read_sequence(alloc, source, at, inside, level, out)?;
             Ok(Some(node))
         }
@@ -113,6 +115,7 @@ fn read_content<'a, K: Keeper>(
             if level.room == 0 {
                 return Err(Fault::TooDeep(source.pos(at)));
             }
+            out.announce(own);
             let node = read_mapping(alloc, source, at, inside, level, out)?;
             Ok(Some(node))
         }

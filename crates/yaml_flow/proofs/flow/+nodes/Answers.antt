@@ -13,7 +13,7 @@ use Rattle.yaml_sink.specs.PropertyRules.{props_of, dressed}
 use Rattle.yaml_line.specs.declared.flow.Kind.TheVariants.{Yaml}
 use Rattle.yaml_sink.specs.SinkModel.{holds_of}
 use Rattle.yaml_line.proofs.PropertyLemmas.{own_marks, marks_props}
-use Rattle.yaml_line.proofs.AnswerLemmas.{puts_on, puts_none, puts_after, puts_altered, appends_by, appends_after, appends_same, perhaps_some, perhaps_none}
+use Rattle.yaml_line.proofs.AnswerLemmas.{puts_on, puts_none, puts_altered, appends_by, appends_after, appends_same, perhaps_some, perhaps_none}
 use Rattle.yaml_line.proofs.NodeLemmas.{bare_flow}
 use Rattle.yaml_flow.proofs.FlowLemmas.{no_parts, one_part, parts_end, part_end, sequence_is, mapping_is, pair_item, no_value, key_entry, lone_entry, value_is, empty_entry, asked_keyed, asked_nothing, keyed_entry, asked_entry, asked_pair, empty_pair}
 use Rattle.yaml_definitions.specs.grammar.Separation.{flow_in}
@@ -227,7 +227,7 @@ nodes::read_flow_node-returns-clause-reads g t c =
     let h = handles_of c.args.level.now.handles in
     let n = c.in_ok-node.ensures.reads in
     let p = props_of c.in_ok-own.own in
-    let altered = puts_altered c.args.out.now c.read_bare.new.out c.dress.new.self c.mark-start.result (dressed p) n.0 c.mark-start.ensures (puts_after c.args.out.now c.announce.new.self c.read_bare.new.out n.0 c.announce.ensures n.1) c.dress.ensures in (
+    let altered = puts_altered c.args.out.now c.read_bare.new.out c.dress.new.self c.mark-start.result (dressed p) n.0 c.mark-start.ensures n.1 c.dress.ensures in (
       dressed p n.0,
       altered,
       bare_flow cs (Unit {0}) h c.in_ok-node.node.deep c.in_ok-node.node.kind c.args.level.now.least (context_of c.args.level.now.context) p _ _ _ n.0 n.2,

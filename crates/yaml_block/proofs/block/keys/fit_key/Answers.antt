@@ -23,7 +23,7 @@ returns-then-again-key-clause-reads g c = λ es b.
       c.in_ok-again.again.kind,
       r.0,
       omega (arith, c.in_ok-again.ensures.ends.within, c.if-level-eq0.false),
-      puts_again c.args.out.now c.cut.new.self c.announce.new.self _ c.args.key.start es r.0 c.cut.ensures c.announce.ensures r.1,
+      puts_again c.args.out.now c.cut.new.self _ c.args.key.start es r.0 c.cut.ensures r.1,
       subst (λ x. Bare cs (Unit {0}) (handles_of c.args.level.now.handles) c.in_ok-again.again.deep c.in_ok-again.again.kind c.args.level.now.least flow_out (props_of c.args.head.now.own) (place_of s c.args.head.now.end) (place_of s c.args.head.now.at) (place_of s x) r.0) c.if-again-key.true r.2,
     )
 

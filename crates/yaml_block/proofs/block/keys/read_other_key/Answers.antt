@@ -5,7 +5,7 @@ use Rattle.yaml_text.proofs.Tests.{on_true_at, on_false_at}
 use Rattle.yaml_mark.specs.HandlesModel.{handles_of}
 use Rattle.law_going_on.specs.GoingOn.{Here}
 use Rattle.yaml_sink.specs.PropertyRules.{props_of, dressed}
-use Rattle.yaml_line.proofs.AnswerLemmas.{puts_after, puts_altered}
+use Rattle.yaml_line.proofs.AnswerLemmas.{puts_altered}
 use Rattle.yaml_line.proofs.NodeLemmas.{bare_flow}
 use Rattle.yaml_line.proofs.PropertyLemmas.{own_marks}
 use Rattle.yaml_line.proofs.PropertyDecisions.{or_else, line_own, line_all}
@@ -37,10 +37,9 @@ returns-in-Some-clause-reads g c =
     let cs = text_of c.args.source.now in
     let h = handles_of c.args.level.now.handles in
     let k = c.in_ok-key.ensures.reads in
-    let q = props_of c.in_ok-own.own in
-    let put = puts_after c.args.out.now c.announce.new.self c.read_bare.new.out k.0 c.announce.ensures k.1 in (
+    let q = props_of c.in_ok-own.own in (
       dressed q k.0,
-      puts_altered c.args.out.now c.read_bare.new.out c.dress.new.self c.mark-begin.result (dressed q) k.0 c.mark-begin.ensures put c.dress.ensures,
+      puts_altered c.args.out.now c.read_bare.new.out c.dress.new.self c.mark-begin.result (dressed q) k.0 c.mark-begin.ensures k.1 c.dress.ensures,
       value_key cs (Unit {0}) h c.args.level.now.room c.args.column c.in_ok-key.key.deep c.in_ok-key.key.kind _ _ _ (dressed q k.0) (bare_flow cs (Unit {0}) h c.in_ok-key.key.deep c.in_ok-key.key.kind c.args.column flow_out q _ _ _ k.0 k.2) c.in_ok-key.ensures.ends.within
           ((found_is (λ x. IsFirstColon c.args.source.now c.args.at c.in_ok-key.key.end (Some c.args.column) x.0 x.1) c.in_ok-first_colon.field-0 _ c.in-Some.is c.in_ok-first_colon.ensures.found).colon),
     )

@@ -58,7 +58,7 @@ returns-in_ok-line-in-None-clause-reads g c =
     let p = props_of c.args.outer in
     let q = props_of c.args.head.own in (
       dressed (both_props p q) k.0,
-      puts_altered c.args.out.now c.read_in_block.new.out c.dress.new.self c.mark-start.result (dressed (both_props p q)) k.0 c.mark-start.ensures (puts_after c.args.out.now c.announce.new.self c.read_in_block.new.out k.0 c.announce.ensures k.1)
+      puts_altered c.args.out.now c.read_in_block.new.out c.dress.new.self c.mark-start.result (dressed (both_props p q)) k.0 c.mark-start.ensures (puts_after c.args.out.now c.announce_outer.new.out c.read_in_block.new.out k.0 c.announce_outer.ensures k.1)
           (subst (λ z. Alters (holds_of g.K.Keeper.holds) c.mark-start.result (dressed z) c.read_in_block.new.out c.dress.new.self) c.and-both.ensures c.dress.ensures),
       whole_begins (node_rest cs (Unit {0}) h c.args.site.now.level.now.room c.args.site.now.level.now.least (context_of c.args.site.now.level.now.context) (column_of p c.args.site.now.column)) _ _ (dressed (both_props p q) k.0)
           (no_key cs (Unit {0}) h c.args.site.now.level.now.room c.in_ok-node.node.deep c.args.site.now.level.now.least (context_of c.args.site.now.level.now.context) c.in_ok-node.node.kind c.args.site.now.column (column_of p c.args.site.now.column) _ _ _ _ _ p q k.0
@@ -81,7 +81,7 @@ returns-in_ok-insert_block_mapping-in-Some-clause-reads g c =
     let found = found_is (λ z. IsFirstColon s c.args.head.at c.in_ok-node.node.end c.args.site.now.column z.0 z.1) c.in_ok-first_colon.field-0 _ c.in-Some.is c.in_ok-first_colon.ensures.found in
     let column = found.some in
     let colon = found.colon in
-    let put = puts_after c.args.out.now c.announce.new.self c.read_in_block.new.out first_read.0 c.announce.ensures first_read.1 in
+    let put = puts_after c.args.out.now c.announce_outer.new.out c.read_in_block.new.out first_read.0 c.announce_outer.ensures first_read.1 in
     let again = puts_become c.args.out.now c.read_in_block.new.out c.fit_key.new.out c.mark-start.result first_read.0 k.2 c.mark-start.ensures put k.4 in
     let own = puts_altered c.args.out.now c.fit_key.new.out c.dress-in-Some.new.self c.mark-start.result (dressed q) k.2 c.mark-start.ensures again c.dress-in-Some.ensures in
     let begun = puts_altered c.args.out.now c.dress-in-Some.new.self c.insert_block_mapping.new.out c.mark-start.result (λ es. first ∷ es) ks c.mark-start.ensures own c.in_ok-insert_block_mapping-in-Some.ensures.ok in

@@ -2,7 +2,7 @@ use Rattle.yaml_text.specs.Source.{text_of, place_of}
 use Rattle.yaml_definitions.specs.grammar.Events.{no_props}
 use Rattle.law_going_on.specs.GoingOn.{Here}
 use Rattle.yaml_sink.specs.PropertyRules.{props_of, dressed}
-use Rattle.yaml_line.proofs.AnswerLemmas.{puts_after, puts_altered}
+use Rattle.yaml_line.proofs.AnswerLemmas.{puts_altered}
 use Rattle.yaml_line.proofs.PropertyDecisions.{or_else}
 use Rattle.yaml_line.proofs.Deciding.{decides_err}
 use Rattle.yaml_block.specs.BlockRules.{block_scalar_rest}
@@ -15,7 +15,7 @@ pub returns-clause-reads : goal.returns-clause-reads
 returns-clause-reads g c =
     let n = c.in_ok-line.ensures.reads in
     let p = props_of c.args.properties in
-    (dressed p n.0, puts_altered c.args.out.now c.read_bare_scalar.new.out c.dress.new.self c.mark-start.result (dressed p) n.0 c.mark-start.ensures (puts_after c.args.out.now c.announce.new.self c.read_bare_scalar.new.out n.0 c.announce.ensures n.1) c.dress.ensures, scalar_dressed (text_of c.args.source.now) p c.args.col _ _ n.0 n.2)
+    (dressed p n.0, puts_altered c.args.out.now c.read_bare_scalar.new.out c.dress.new.self c.mark-start.result (dressed p) n.0 c.mark-start.ensures n.1 c.dress.ensures, scalar_dressed (text_of c.args.source.now) p c.args.col _ _ n.0 n.2)
 
 pub returns-in_err-line-clause-decides : goal.returns-in_err-line-clause-decides
 returns-in_err-line-clause-decides g c =

@@ -1,5 +1,5 @@
 use Rattle.std.proofs.Common.{arith, sym, ◌∙◌}
-use Rattle.std.specs.String.{string_bytes}
+use Rattle.yaml_compact.specs.TextModel.{text_of}
 use Rattle.std.specs.BTreeMap.{get_by_text}
 use Rattle.yaml_compose.proofs.AnchorLaws.{stand-length, maps-all}
 use Rattle.yaml_compose.proofs.anchors.Anchors.find.Goals as goal
@@ -8,4 +8,4 @@ pub returns-clause-place : goal.returns-clause-place
 returns-clause-place c = λ names h.
     let s = c.loop-self.self in
     let k = c.loop-self.invariant names h in
-    sym (maps-all (get_by_text s.places) s.mapped names (omega (arith, stand-length (string_bytes s.text) s.spans.items names k.texts, c.len.ensures, s.spans.ok.0, c.loop-self-test.false)) k.maps c.args.name.now) ∙ (sym c.get.ensures.value ∙ sym c.copied.ensures)
+    sym (maps-all (get_by_text s.places) s.mapped names (omega (arith, stand-length (text_of s.text) s.spans.items names k.texts, c.len.ensures, s.spans.ok.0, c.loop-self-test.false)) k.maps c.args.name.now) ∙ (sym c.get.ensures.value ∙ sym c.copied.ensures)

@@ -1,7 +1,7 @@
 use Rattle.std.proofs.Common.{[], length, arith, append-nil}
 use Rattle.std.proofs.lemmas.Result.{err_from_is_err_and}
 use Rattle.yaml_text.specs.EventModel.{written_of}
-use Rattle.yaml_compose.specs.ComposerModel.{anchor_text}
+use Rattle.yaml_sink.specs.PropertyRules.{props_in}
 use Rattle.yaml_nodes.specs.ComposerSteps.{node_begun, collection_begun}
 use Rattle.yaml_compact.specs.StoreGrows.{tags_of, trees_of}
 use Rattle.yaml_compose.specs.ComposerModel.{Holds}
@@ -12,7 +12,7 @@ use Rattle.yaml_compose.proofs.composer.Composer.begin_collection.Goals as goal
 
 pub returns : goal.returns
 returns c = λ s h flow.
-    let a = anchor_text c.args.anchor in
+    let a = (props_in c.args.given.now).anchor in
     let n = node_begun a s in
     let b = c.in_ok-place.ensures s h in
     let middle = c.begin_node.new.self in
@@ -23,7 +23,7 @@ returns c = λ s h flow.
     let l = stack-length (tags_of new) (trees_of new) middle.anchored.items middle.stack.items middle.opens.items n.inner n.outer n.table k.keeping in
     record {
       state = collection_begun a s text;
-      is = begun-step c.args.collection flow a (written_of c.args.tag.now) text s c.in_ok-text.ensures;
+      is = begun-step c.args.collection flow a (written_of c.args.given.now.tag) text s c.in_ok-text.ensures;
       holds = record {
         good = k.good;
         names = k.names;
@@ -36,4 +36,4 @@ returns c = λ s h flow.
 pub returns-in_err-text : goal.returns-in_err-text
 returns-in_err-text c = λ s h flow.
     let p = err_from_is_err_and c.from_residual.result c.from_residual.ensures.1 in
-    rw (p.1, p.2) (begin-stops c.args.collection flow (anchor_text c.args.anchor) (written_of c.args.tag.now) s _ c.in_err-text.ensures)
+    rw (p.1, p.2) (begin-stops c.args.collection flow (props_in c.args.given.now).anchor (written_of c.args.given.now.tag) s _ c.in_err-text.ensures)

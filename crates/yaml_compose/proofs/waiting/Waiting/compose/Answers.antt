@@ -1,5 +1,5 @@
 use Rattle.std.proofs.Common.{arith}
-use Rattle.std.specs.String.{string_bytes}
+use Rattle.std.specs.Cow.{cow_str_bytes}
 use Rattle.yaml_sink.specs.PropertyRules.{props_of}
 use Rattle.yaml_compose.specs.WaitingModel.{waits, late_event}
 use Rattle.yaml_compose.proofs.WaitingLaws.{composes-both, composes-none}
@@ -11,4 +11,4 @@ returns-then-is_none-clause-composes c = composes-none c.args.count (waits c.arg
 pub returns-clause-composes : goal.returns-clause-composes
 returns-clause-composes c =
     let w = c.args.self.now in
-    composes-both w.mapping (props_of w.outer) (late_event w.late (props_of w.own) (string_bytes w.text)) c.args.count c.in-Some.number c.args.ahead.now c.compose_start.new.ahead c.compose_late.new.ahead c.if-is_none.ensures.no (omega (arith, c.in-Some.ensures.0, c.in-Some.ensures.1)) c.in_ok-compose_start.ensures c.in_ok-compose_late.ensures
+    composes-both w.mapping (props_of w.outer) (late_event w.late (props_of w.own) (cow_str_bytes w.text)) c.args.count c.in-Some.number c.args.ahead.now c.compose_start.new.ahead c.compose_late.new.ahead c.if-is_none.ensures.no (omega (arith, c.in-Some.ensures.0, c.in-Some.ensures.1)) c.in_ok-compose_start.ensures c.in_ok-compose_late.ensures
