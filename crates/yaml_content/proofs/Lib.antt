@@ -9,3 +9,4 @@ mod CutLemmas
 mod DecimalLemmas
 mod ContentForms
 mod ResolvedForms
+pub mod RunLemmas

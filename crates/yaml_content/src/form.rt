@@ -1,9 +1,14 @@
 //! The one pass over a text that tells by which patterns of the core schema it matches.
-ghost use Rattle.std.specs.Prelude.{◌≡◌, ℕ, false, List, [], ◌∷◌, MatchOption, bytes_eq};
+ghost use Rattle.std.specs.Prelude.{◌≡◌, ◌≤◌, ℕ, true, false, List, [], ◌∷◌, MatchOption, bytes_eq, length, drop};
+ghost use Rattle.std.specs.Char.{is_digit};
 ghost use Rattle.yaml_content.specs.Form.{form_of, form_kind};
 ghost use Rattle.yaml_content.specs.State.{meaning, by_test};
 
 use crate::kind::PlainKind;
+use yaml_text::front::front_len;
+
+/// In texts of more bytes than this digits are passed over together.
+const LONG: usize = 64;
 
 /// What a text is by the patterns of the core schema. A decimal int is a float too.
 #[derive(Clone, Copy)]
@@ -67,8 +72,11 @@ enum State {
 pub fn judge(text: &str) -> Form
     ensures { result ≡ form_of text.now }
 {
-    let mut state = State::Start;
     let bytes = text.as_bytes();
+    if bytes.len() > LONG {
+        return judge_long(bytes);
+    }
+    let mut state = State::Start;
     for byte in bytes {
         state = state.step(*byte);
         if let State::Other = state {
@@ -78,7 +86,62 @@ pub fn judge(text: &str) -> Form
     state.end()
 }
 
+/// The same of a long text.
+fn judge_long(bytes: &[u8]) -> Form
+    ensures { result ≡ form_of bytes.now }
+{
+    let mut state = State::Start;
+    let mut at = 0;
+    while at < bytes.len() {
+        state = state.step(bytes[at]);
+        at += 1;
+        match state {
+            State::Other => return Form::Other,
+            _ => at += state.run_len(&bytes[at..]),
+        }
+    }
+    state.end()
+}
+
+/// Whether a byte is a decimal digit. It has no branch, for `front_len`, as those below have none.
+fn is_decimal(byte: u8) -> bool
+    ensures { result ≡ true → is_digit byte 10 ≡ true }
+{
+    (byte >= b'0') & (byte <= b'9')
+}
+
+/// Whether a byte is an octal digit.
+fn is_octal(byte: u8) -> bool
+    ensures { result ≡ true → is_digit byte 8 ≡ true }
+{
+    (byte >= b'0') & (byte <= b'7')
+}
+
+/// Whether a byte is a hexadecimal digit.
+fn is_hexadecimal(byte: u8) -> bool
+    ensures { result ≡ true → is_digit byte 16 ≡ true }
+{
+    ((byte >= b'0') & (byte <= b'9'))
+        | ((byte >= b'a') & (byte <= b'f'))
+        | ((byte >= b'A') & (byte <= b'F'))
+}
+
 impl State {
+    /// How many of these bytes at the front are digits behind which the state is the same.
+    fn run_len(self, bytes: &[u8]) -> usize
+        ensures len { result ≤ length bytes.now }
+        ensures same { meaning self bytes.now ≡ meaning self (drop result bytes.now) }
+    {
+        match self {
+            State::Digits => front_len(bytes, is_decimal),
+            State::Fraction => front_len(bytes, is_decimal),
+            State::ExponentDigits => front_len(bytes, is_decimal),
+            State::OctalDigits => front_len(bytes, is_octal),
+            State::HexadecimalDigits => front_len(bytes, is_hexadecimal),
+            _ => 0,
+        }
+    }
+
     /// The state after one more byte.
     fn step(self, byte: u8) -> State
         ensures { (rest : List ℕ) → meaning self (byte ∷ rest) ≡ meaning result rest }
