@@ -1,11 +1,15 @@
 //! The classes of characters that a scalar asks for.
-ghost use Rattle.std.specs.Prelude.{◌≡◌, ◌<◌, true};
+ghost use Rattle.std.specs.Prelude.{◌≡◌, ◌≤◌, ◌<◌, ℕ, true, length, slice_index};
 ghost use Rattle.yaml_definitions.specs.grammar.Separation.{flow_in};
 ghost use Rattle.yaml_text.specs.EventModel.{context_of};
 ghost use Rattle.yaml_scalar.specs.Chains.{plain_inner, plain_head, plain_sign, verbatim};
 
 use yaml_text::class::{is_indicator, is_ns, is_plain_safe};
 use yaml_text::context::Ctx;
+use yaml_text::front::{front_len, len_by_one};
+
+/// How many bytes of a front are tested one by one, before those behind them are tested together.
+const NEAR: usize = 64;
 
 /// Whether a character of a plain scalar needs no look at its neighbours.
 #[tactic(auto, unfolding(crate::specs::Chains::plain_inner))]
@@ -18,7 +22,7 @@ pub fn is_plain_inner(context: Ctx, c: char) -> bool
 /// Whether a byte is an ASCII character that is plain in every context, whatever its neighbours are.
 #[tactic(auto, unfolding(crate::specs::Chains::plain_inner, yaml_definitions::specs::grammar::FlowScalars::plain_safe, yaml_definitions::specs::grammar::FlowScalars::is_flow, yaml_definitions::specs::grammar::Characters::is_ns, yaml_definitions::specs::grammar::Characters::is_nb, yaml_definitions::specs::grammar::Characters::is_break, yaml_definitions::specs::grammar::Characters::is_white, yaml_definitions::specs::grammar::Characters::is_flow_indicator))]
 #[inline]
-pub fn is_plain_byte(byte: u8) -> bool
+fn is_plain_byte(byte: u8) -> bool
     ensures ascii { result ≡ true → byte < 128 }
     ensures inner { result ≡ true → plain_inner flow_in byte ≡ true }
 {
@@ -56,7 +60,7 @@ pub fn is_verbatim(quote: char, c: char) -> bool
 /// Whether a byte is an ASCII character that stands for itself between both kinds of quotes.
 #[tactic(auto, unfolding(crate::specs::Chains::verbatim, yaml_definitions::specs::grammar::Characters::is_ns, yaml_definitions::specs::grammar::Characters::is_nb, yaml_definitions::specs::grammar::Characters::is_break, yaml_definitions::specs::grammar::Characters::is_white))]
 #[inline]
-pub fn is_quoted_byte(byte: u8) -> bool
+fn is_quoted_byte(byte: u8) -> bool
     ensures ascii { result ≡ true → byte < 128 }
     ensures single { result ≡ true → verbatim 39 byte ≡ true }
     ensures double { result ≡ true → verbatim 34 byte ≡ true }
@@ -64,4 +68,59 @@ pub fn is_quoted_byte(byte: u8) -> bool
     // most are told by one comparison
     (byte >= b'a' && byte <= b'z')
         || (byte > b' ' && byte < 127 && !matches!(byte, b'"' | b'\'' | b'\\'))
+}
+
+/// The same as `is_plain_byte` of most bytes, without a branch, so that many are tested at once.
+#[tactic(auto, unfolding(crate::specs::Chains::plain_inner, yaml_definitions::specs::grammar::FlowScalars::plain_safe, yaml_definitions::specs::grammar::FlowScalars::is_flow, yaml_definitions::specs::grammar::Characters::is_ns, yaml_definitions::specs::grammar::Characters::is_nb, yaml_definitions::specs::grammar::Characters::is_break, yaml_definitions::specs::grammar::Characters::is_white, yaml_definitions::specs::grammar::Characters::is_flow_indicator))]
+fn is_plain_in_many(byte: u8) -> bool
+    ensures ascii { result ≡ true → byte < 128 }
+    ensures inner { result ≡ true → plain_inner flow_in byte ≡ true }
+{
+    (byte > b' ')
+        & (byte < 127)
+        & (byte != b'#')
+        & (byte != b',')
+        & (byte != b':')
+        & (byte != b'[')
+        & (byte != b']')
+        & (byte != b'{')
+        & (byte != b'}')
+}
+
+/// The same as `is_quoted_byte`, without a branch.
+#[tactic(auto, unfolding(crate::specs::Chains::verbatim, yaml_definitions::specs::grammar::Characters::is_ns, yaml_definitions::specs::grammar::Characters::is_nb, yaml_definitions::specs::grammar::Characters::is_break, yaml_definitions::specs::grammar::Characters::is_white))]
+fn is_quoted_in_many(byte: u8) -> bool
+    ensures ascii { result ≡ true → byte < 128 }
+    ensures single { result ≡ true → verbatim 39 byte ≡ true }
+    ensures double { result ≡ true → verbatim 34 byte ≡ true }
+{
+    (byte > b' ') & (byte < 127) & (byte != b'"') & (byte != b'\'') & (byte != b'\\')
+}
+
+/// How many bytes at the start are ASCII characters that are plain in every context, whatever their neighbours are.
+#[inline]
+pub fn plain_len(bytes: &[u8]) -> usize
+    ensures len { result ≤ length bytes.now }
+    ensures front { (k : ℕ) → k < result → (slice_index bytes.now k < 128) × (plain_inner flow_in (slice_index bytes.now k) ≡ true) }
+{
+    let near = bytes.len().min(NEAR);
+    let len = len_by_one(&bytes[..near], &is_plain_byte);
+    if len < near {
+        return len;
+    }
+    near + front_len(&bytes[near..], is_plain_in_many)
+}
+
+/// How many bytes at the start are ASCII characters that stand for themselves between both kinds of quotes.
+#[inline]
+pub fn quoted_len(bytes: &[u8]) -> usize
+    ensures len { result ≤ length bytes.now }
+    ensures front { (k : ℕ) → k < result → (slice_index bytes.now k < 128) × (verbatim 39 (slice_index bytes.now k) ≡ true) × (verbatim 34 (slice_index bytes.now k) ≡ true) }
+{
+    let near = bytes.len().min(NEAR);
+    let len = len_by_one(&bytes[..near], &is_quoted_byte);
+    if len < near {
+        return len;
+    }
+    near + front_len(&bytes[near..], is_quoted_in_many)
 }

@@ -16,7 +16,7 @@ ghost use Rattle.yaml_definitions.specs.grammar.Separation.{DocumentMark};
 ghost use Rattle.yaml_scalar.specs.Chains.{breaks, GoesOnBelow, Later, NoPlainLine, line_more, plain_inner};
 ghost use Rattle.yaml_text.specs.LeafAnswer.{Answers};
 
-use crate::class::{is_plain_byte, is_plain_head, is_plain_inner, is_plain_sign};
+use crate::class::{is_plain_head, is_plain_inner, is_plain_sign, plain_len};
 use crate::line::{columns, read_break};
 use crate::text::{push_between, push_fold};
 use std::alloc::Global;
@@ -25,7 +25,6 @@ use yaml_text::chars::Chars;
 use yaml_text::class::{is_plain_safe, is_white};
 use yaml_text::context::Ctx;
 use yaml_text::fault::Fault;
-use yaml_text::front::len_by_one;
 use yaml_text::lines::{line_break, stands_mark};
 use yaml_text::places::{next, text_between};
 
@@ -93,7 +92,7 @@ fn skip_plain(source: &Chars<'_>, at: usize, context: Ctx) -> usize
     ensures onward { at ≤ result }
     ensures plain { run (text_of source.now) (plain_inner (context_of context)) (place_of source.now at) (place_of source.now result) }
 {
-    at + len_by_one(source.rest(at).as_bytes(), &is_plain_byte)
+    at + plain_len(source.rest(at).as_bytes())
 }
 
 /// How far a plain scalar that has come to `from` goes on its line: its furthest end, and the end of the whites after it.

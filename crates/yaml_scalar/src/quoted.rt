@@ -5,10 +5,9 @@ ghost use Rattle.yaml_definitions.specs.grammar.Characters.{is_white};
 ghost use Rattle.yaml_definitions.specs.grammar.Rules.{run, Stands, any};
 ghost use Rattle.yaml_scalar.specs.Chains.{verbatim, quoted_more};
 
-use crate::class::{is_quoted_byte, is_verbatim};
+use crate::class::{is_verbatim, quoted_len};
 use yaml_text::chars::Chars;
 use yaml_text::class::is_white;
-use yaml_text::front::len_by_one;
 use yaml_text::places::next;
 
 /// The border after the ASCII characters from a border on that stand for themselves between these quotes, which are not decoded.
@@ -19,9 +18,9 @@ fn skip_quoted(source: &Chars<'_>, at: usize, quote: char) -> usize
     ensures text { run (text_of source.now) (verbatim quote) (place_of source.now at) (place_of source.now result) }
 {
     if quote == '"' {
-        at + len_by_one(source.rest(at).as_bytes(), &is_quoted_byte)
+        at + quoted_len(source.rest(at).as_bytes())
     } else if quote == '\'' {
-        at + len_by_one(source.rest(at).as_bytes(), &is_quoted_byte)
+        at + quoted_len(source.rest(at).as_bytes())
     } else {
         at
     }
