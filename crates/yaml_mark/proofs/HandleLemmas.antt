@@ -1,5 +1,6 @@
 -- Looking handles up.
 use Rattle.std.proofs.Common.{◌≡◌, ℕ, List, [], ◌∷◌, ◌++◌, Bool, true, false, Option, Some, None, Bor, cond, map, refl, sym, ◌∙◌, ap, subst}
+use Rattle.std.proofs.lemmas.List.{append-nil}
 use Rattle.std.specs.Prelude.{bytes_eq, codes, is_some, ◌==◌, ◌||◌}
 use Rattle.std.specs.List.{list_any}
 use Rattle.std.specs.Option.{option_map, option_or}
@@ -47,6 +48,10 @@ kept_all (b ∷ p) s h = pick (b == 37) refl h (kept_all p s)
     pick true e k rec = let z : true ≡ false = k in absurd (cc)
     pick false e k rec = kept_first b (p ++ s) (λ f. let z : false ≡ true = sym e ∙ ap (λ x. x == 37) f in cc) ∙ ap (λ z. b ∷ z) (rec k)
 
+pub no_escape : (p : List ℕ) → list_any (λ b. b == 37) p ≡ false → percent_decode p ≡ p
+unfolding percent_decode
+no_escape p h = ap percent_decode (sym (append-nil p)) ∙ kept_all p [] h ∙ append-nil p
+
 -- a prefix without escapes stands for itself
 pub plain_stands : (p : List ℕ) → list_any (λ b. b == 37) p ≡ false → StandFor (Some p) (Some p)
 plain_stands p h = λ s. ap Some (sym (kept_all p s h))
@@ -72,10 +77,10 @@ unfolding prefix_of
 prefix_or bs hs h e = sym (lookup_or (bytes_eq h) bs default_handles) ∙ ap (λ x. lookup (bytes_eq h) (x ++ default_handles)) (sym e)
 
 -- what directives bind, or else the default
-pub prefix_both : (bs hs : Handles) (h : List ℕ) (a b r : Option (Bor (List ℕ))) → r ≡ option_or a b → hs ≡ bs → StandFor (option_map (λ x. x.now) a) (lookup (bytes_eq h) bs) →
-    StandFor (option_map (λ x. x.now) b) (lookup (bytes_eq h) default_handles) → StandFor (option_map (λ x. x.now) r) (prefix_of hs h)
-prefix_both bs hs h a b r e f x y = λ s.
-    ap (option_map (λ z. z ++ percent_decode s)) (ap (option_map (λ x. x.now)) e ∙ or_seen (λ x. x.now) a b) ∙ stand_or _ _ _ _ x y s ∙ ap (option_map (λ p. percent_decode (p ++ s))) (prefix_or bs hs h f)
+pub prefix_both : {A : Type 0} (g : A → List ℕ) (bs hs : Handles) (h : List ℕ) (a b r : Option A) → r ≡ option_or a b → hs ≡ bs → StandFor (option_map g a) (lookup (bytes_eq h) bs) →
+    StandFor (option_map g b) (lookup (bytes_eq h) default_handles) → StandFor (option_map g r) (prefix_of hs h)
+prefix_both {A} g bs hs h a b r e f x y = λ s.
+    ap (option_map (λ z. z ++ percent_decode s)) (ap (option_map g) e ∙ or_seen g a b) ∙ stand_or _ _ _ _ x y s ∙ ap (option_map (λ p. percent_decode (p ++ s))) (prefix_or bs hs h f)
 
 lookup_end : (p : List ℕ → Bool) (bs : List (Bor (List ℕ) × Bor (List ℕ))) (h x : Bor (List ℕ)) → lookup p (map plain (bs ++ (h, x) ∷ [])) ≡ option_or (lookup p (map plain bs)) (cond (p h.now) (Some x.now) None)
 lookup_end p [] h x = refl
@@ -112,15 +117,15 @@ kept_some {A} {B} f (Some a) = refl
 some_alike : {A : Type 0} (f : A → List ℕ) (o : Option A) (x : Option (List ℕ)) → StandFor (option_map f o) x → is_some x ≡ is_some o
 some_alike {A} f o x e = sym (kept_some (λ p. percent_decode (p ++ [])) x) ∙ ap is_some (sym (e [])) ∙ kept_some (λ b. b ++ percent_decode []) (option_map f o) ∙ kept_some f o
 
-pub seen_some : (o : Option (Bor (List ℕ))) (x : Option (List ℕ)) → StandFor (option_map (λ p. p.now) o) x → is_some o ≡ true → is_some x ≡ true
-seen_some o x e t = some_alike (λ p. p.now) o x e ∙ t
+pub seen_some : {A : Type 0} (f : A → List ℕ) (o : Option A) (x : Option (List ℕ)) → StandFor (option_map f o) x → is_some o ≡ true → is_some x ≡ true
+seen_some {A} f o x e t = some_alike f o x e ∙ t
 
 none_there : (x : Option (List ℕ)) → is_some x ≡ false → x ≡ None
 none_there None t = refl
 none_there (Some p) t = let z : true ≡ false = t in absurd (cc)
 
-pub seen_none : (o : Option (Bor (List ℕ))) (x : Option (List ℕ)) → StandFor (option_map (λ p. p.now) o) x → is_some o ≡ false → x ≡ None
-seen_none o x e t = none_there x (some_alike (λ p. p.now) o x e ∙ t)
+pub seen_none : {A : Type 0} (f : A → List ℕ) (o : Option A) (x : Option (List ℕ)) → StandFor (option_map f o) x → is_some o ≡ false → x ≡ None
+seen_none {A} f o x e t = none_there x (some_alike f o x e ∙ t)
 
 pub no_stand : (x : Option (List ℕ)) → StandFor None x → x ≡ None
 no_stand None e = refl

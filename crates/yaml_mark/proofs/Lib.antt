@@ -8,6 +8,7 @@ pub mod AsciiLemmas
 pub mod DirectiveLemmas
 pub mod LineEndLemmas
 pub mod BodyLemmas
+pub mod ClassLemmas
 pub mod DirectivesLemmas
 pub mod PrefixLemmas
 pub mod RefusalLemmas

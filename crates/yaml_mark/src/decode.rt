@@ -1,13 +1,14 @@
 //! Tags decoded (YAML 1.2.2, 5.6 and 6.9.1).
 ghost use Rattle.std.specs.Prelude.{◌≡◌, [], ◌∷◌, ◌++◌, ℕ, List, IfOk, IfErr, string_bytes};
-ghost use Rattle.std.specs.Bool.{OnTrue};
 ghost use Rattle.std.specs.Option.{option_map};
 ghost use Rattle.std.specs.Cow.{cow_str_bytes};
 ghost use Rattle.yaml_definitions.specs.model.Event.{full};
 ghost use Rattle.yaml_definitions.specs.model.Tag.{is_full};
 ghost use Rattle.yaml_definitions.specs.grammar.Tags.{decoded, percent_decode};
 ghost use Rattle.yaml_text.specs.declared.fault.Fault.TheVariants as fault;
+ghost use Rattle.yaml_mark.specs.PrefixModel.{bytes_of};
 
+use crate::decoded::Prefix;
 use percent_encoding::{DecodeError, percent_decode_str};
 use std::alloc::Global;
 use std::borrow::CowStr;
@@ -105,40 +106,37 @@ fn join_bytes(alloc: Global, prefix: &[u8], suffix: &str) -> Result<Option<Strin
 
 /// The tag of a decoded prefix and a suffix, which is decoded here. They are judged as one, since a character's escapes may
 /// stand in both.
-fn join(alloc: Global, prefix: &[u8], suffix: &str) -> Result<Option<String>, Fault>
-    ensures ok { IfOk result (λ tag. (text : List ℕ) → percent_decode text ≡ prefix.now ++ percent_decode suffix.now → option_map (λ t. full (string_bytes t)) tag ≡ decoded text) }
+fn join(alloc: Global, prefix: Prefix<'_>, suffix: &str) -> Result<Option<String>, Fault>
+    ensures ok { IfOk result (λ tag. (text : List ℕ) → percent_decode text ≡ bytes_of prefix.entry ++ percent_decode suffix.now → option_map (λ t. full (string_bytes t)) tag ≡ decoded text) }
     ensures err { IfErr result (λ e. e ≡ fault.OutOfMemory) }
 {
-    let Ok(front) = simdutf8::basic::from_utf8(prefix) else {
-        return join_bytes(alloc, prefix, suffix);
+    let front = match prefix {
+        Prefix::Text(front) => front,
+        Prefix::Bytes(bytes) => return join_bytes(alloc, bytes, suffix),
     };
+    if !suffix.as_bytes().contains(&b'%') {
+        return glue(alloc, front, suffix);
+    }
     match percent_decode_str(suffix).decode_utf8(alloc) {
         Ok(back) => glue(alloc, front, back.as_str()),
-        Err(DecodeError::Utf8(_)) => join_bytes(alloc, prefix, suffix),
+        Err(DecodeError::Utf8(_)) => join_bytes(alloc, front.as_bytes(), suffix),
         Err(DecodeError::OutOfMemory) => Err(Fault::OutOfMemory),
     }
-}
-
-/// Whether a prefix is `!`.
-fn is_bang(prefix: &[u8]) -> bool
-    ensures { OnTrue result (prefix.now ≡ 33 ∷ []) }
-{
-    prefix == "!".as_bytes()
 }
 
 /// The tag of a shorthand with this suffix, whose handle stands for this prefix. Where that is the `!` with which the shorthand
 /// begins, and which is all of its handle, the tag is decoded as it stands there, and without escapes it is a part of the text.
 pub(crate) fn expand<'a>(
     alloc: Global,
-    prefix: &[u8],
+    prefix: Prefix<'_>,
     shorthand: &'a str,
     suffix: &str,
 ) -> Result<Option<CowStr<'a>>, Fault>
     requires { (handle : List ℕ) × (shorthand.now ≡ 33 ∷ (handle ++ suffix.now)) }
-    ensures ok { IfOk result (λ tag. (text : List ℕ) → percent_decode text ≡ prefix.now ++ percent_decode suffix.now → option_map (λ t. full (cow_str_bytes t)) tag ≡ decoded text) }
+    ensures ok { IfOk result (λ tag. (text : List ℕ) → percent_decode text ≡ bytes_of prefix.entry ++ percent_decode suffix.now → option_map (λ t. full (cow_str_bytes t)) tag ≡ decoded text) }
     ensures err { IfErr result (λ e. e ≡ fault.OutOfMemory) }
 {
-    if is_bang(prefix) && shorthand.len() - suffix.len() == 1 {
+    if prefix.is_bang() && shorthand.len() - suffix.len() == 1 {
         return decode(alloc, shorthand);
     }
     match join(alloc, prefix, suffix)? {

@@ -4,27 +4,25 @@ ghost use Rattle.std.specs.Option.{option_map};
 ghost use Rattle.std.specs.BTreeMap.{get_by};
 ghost use Rattle.std.specs.Ordering.{nat_cmp};
 ghost use Rattle.std.specs.Cmp.Lexicographic.{slice_cmp};
-ghost use Rattle.std.specs.Cow.{cow_slice_items};
 ghost use Rattle.std.specs.Map.{lookup};
 ghost use Rattle.std.proofs.Props.{props};
 ghost use Rattle.yaml_text.specs.declared.fault.Fault.TheVariants as fault;
+ghost use Rattle.yaml_mark.specs.PrefixModel.{bytes_of, decoded_of};
 ghost use Rattle.yaml_mark.specs.Prefixes.{IsWhole, StandFor};
 
-use percent_encoding::percent_decode_str;
+use crate::decoded::{Decoded, Prefix, decode_prefix};
 use std::alloc::Global;
-use std::borrow::CowSlice;
 use std::collections::BTreeMap;
 use yaml_text::fault::Fault;
 
 /// The handles that a document's directives bind, each with its prefix (YAML 1.2.2, 6.8.2).
 ///
-/// A prefix is decoded when it is bound, since many tags may use it. The bytes need be no text: a character's escapes may
-/// stand in the prefix and in the suffix.
+/// A prefix is decoded when it is bound, and it is told then whether its bytes are a text, since many tags may use it.
 #[derive(Drop)]
 pub struct Handles<'a> {
     bindings: Vec<(&'a str, &'a str)>,
-    prefixes: BTreeMap<&'a str, CowSlice<'a, u8>>,
-    ghost found: { (q : List ℕ) → StandFor (option_map cow_slice_items (get_by (λ k. slice_cmp nat_cmp q k.now) prefixes)) (lookup (bytes_eq q) (map (λ b. (b.0.now, b.1.now)) bindings.items)) } by { Prim.hlevel props },
+    prefixes: BTreeMap<&'a str, Decoded<'a>>,
+    ghost found: { (q : List ℕ) → StandFor (option_map decoded_of (get_by (λ k. slice_cmp nat_cmp q k.now) prefixes)) (lookup (bytes_eq q) (map (λ b. (b.0.now, b.1.now)) bindings.items)) } by { Prim.hlevel props },
 }
 
 impl<'a> Handles<'a> {
@@ -42,11 +40,11 @@ impl<'a> Handles<'a> {
     }
 
     /// The decoded prefix that a handle is bound to.
-    pub(crate) fn get(&self, handle: &str) -> Option<&[u8]>
-        ensures { StandFor (option_map (λ b. b.now) result) (lookup (bytes_eq handle.now) (bindings_of self.now)) }
+    pub(crate) fn get(&self, handle: &str) -> Option<Prefix<'_>>
+        ensures { StandFor (option_map bytes_of result) (lookup (bytes_eq handle.now) (bindings_of self.now)) }
     {
         match self.prefixes.get(handle) {
-            Some(bytes) => Some(bytes.as_slice()),
+            Some(kept) => Some(kept.prefix()),
             None => None,
         }
     }
@@ -67,8 +65,8 @@ impl<'a> Handles<'a> {
             mut bindings,
             mut prefixes,
         } = self;
-        let bytes = percent_decode_str(prefix).into_cow(alloc)?;
-        prefixes.insert(handle, bytes)?;
+        let kept = decode_prefix(alloc, prefix)?;
+        prefixes.insert(handle, kept)?;
         bindings.push((handle, prefix))?;
         Ok(Handles { bindings, prefixes })
     }

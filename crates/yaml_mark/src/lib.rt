@@ -3,6 +3,7 @@
 
 pub mod comments;
 mod decode;
+mod decoded;
 mod directive;
 pub mod directives;
 pub mod handles;

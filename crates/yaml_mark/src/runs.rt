@@ -37,7 +37,8 @@ impl Class {
             Class::Name => is_ns(c) && !is_flow_indicator(c),
             Class::Word => is_word(c),
             Class::Uri => is_uri(c),
-            Class::Tag => is_uri(c) && c != '!' && !is_flow_indicator(c),
+            // most are letters and digits
+            Class::Tag => is_word(c) || is_uri(c) && c != '!' && !is_flow_indicator(c),
         }
     }
 

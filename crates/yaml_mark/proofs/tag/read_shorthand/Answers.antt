@@ -12,6 +12,7 @@ use Rattle.yaml_text.proofs.PlaceLemmas.{place_less, place_same}
 use Rattle.yaml_text.proofs.Tests.{on_true_at, on_false_at}
 use Rattle.yaml_mark.specs.HandlesModel.{handles_of}
 use Rattle.yaml_mark.specs.Parts.{handle_rest}
+use Rattle.yaml_mark.specs.PrefixModel.{bytes_of}
 use Rattle.yaml_mark.specs.Prefixes.{StandFor}
 use Rattle.yaml_mark.proofs.HandleLemmas.{no_stand}
 use Rattle.yaml_mark.proofs.AsciiLemmas.{low_spans, low_handle, ascii_text, shorthand_is, tag_low}
@@ -70,8 +71,8 @@ returns-in-None-2-clause-refused c =
     no_join cs (handles_of c.args.handles) _ _ _ (λ g. c.requires.other (ap (slice_get cs) b.1 ∙ g))
     (subst (λ z. handle_rest cs z (place_of c.args.source.now c.skip_handle-after.result)) b.1 h)
     (spans_map (tag_is cs) e.spans) (λ m r. e.furthest m (is_tag_char cs _ m r))
-    (joined_is (handles_of c.args.handles) _ c.in-Some.prefix.now _ _ (subst (λ z. StandFor (Some c.in-Some.prefix.now) (prefix_of (handles_of c.args.handles) z)) t c.in-Some.ensures)
-    (λ text e. sym (ap (option_map (λ x. full (cow_str_bytes x))) c.in-None-2.is) ∙ c.in_ok-expand.ensures.ok text (e ∙ ap (λ z. c.in-Some.prefix.now ++ percent_decode z) (sym u))))
+    (joined_is (handles_of c.args.handles) _ (bytes_of c.in-Some.prefix) _ _ (subst (λ z. StandFor (Some (bytes_of c.in-Some.prefix)) (prefix_of (handles_of c.args.handles) z)) t c.in-Some.ensures)
+    (λ text e. sym (ap (option_map (λ x. full (cow_str_bytes x))) c.in-None-2.is) ∙ c.in_ok-expand.ensures.ok text (e ∙ ap (λ z. bytes_of c.in-Some.prefix ++ percent_decode z) (sym u))))
     (apart c.args.source.now _ _ _ e.border c.requires.first b.1 c.if-end-first.false)
 
 pub returns-in-Some-2-clause-only : goal.returns-in-Some-2-clause-only
@@ -87,8 +88,8 @@ returns-in-Some-2-clause-only c =
     short_only cs (handles_of c.args.handles) _ _ _ (λ g. c.requires.other (ap (slice_get cs) b.1 ∙ g))
     (subst (λ z. handle_rest cs z (place_of c.args.source.now c.skip_handle-after.result)) b.1 h)
     (spans_map (tag_is cs) e.spans) (λ m r. e.furthest m (is_tag_char cs _ m r)) _ b.0 l
-    (joined_is (handles_of c.args.handles) _ c.in-Some.prefix.now _ _ (subst (λ z. StandFor (Some c.in-Some.prefix.now) (prefix_of (handles_of c.args.handles) z)) t c.in-Some.ensures)
-    (λ text e. sym (ap (option_map (λ x. full (cow_str_bytes x))) c.in-Some-2.is) ∙ c.in_ok-expand.ensures.ok text (e ∙ ap (λ z. c.in-Some.prefix.now ++ percent_decode z) (sym u))))
+    (joined_is (handles_of c.args.handles) _ (bytes_of c.in-Some.prefix) _ _ (subst (λ z. StandFor (Some (bytes_of c.in-Some.prefix)) (prefix_of (handles_of c.args.handles) z)) t c.in-Some.ensures)
+    (λ text e. sym (ap (option_map (λ x. full (cow_str_bytes x))) c.in-Some-2.is) ∙ c.in_ok-expand.ensures.ok text (e ∙ ap (λ z. bytes_of c.in-Some.prefix ++ percent_decode z) (sym u))))
     (on_false_at c.stands.result c.if-stands.false c.stands.ensures.no)
 
 pub expand-requires : goal.expand-requires
