@@ -17,8 +17,11 @@ const PLACES: usize = 256;
 /// By how much a table grows.
 const GROWTH: usize = 16;
 
-/// How many bytes of the front of a content count for its hash, and of a tag's front and of its end.
+/// How many bytes of the front of a content count for its hash.
 const FRONT: usize = 128;
+
+/// How many bytes of a tag's front count for its hash, and how many of its end.
+const ENDS: usize = 64;
 
 /// For each place the last number whose hash has it, and above it the lower half of that hash, so that mostly
 /// nothing is looked at in vain.
@@ -140,10 +143,10 @@ fn with_middle(hash: u64, text: &[u8]) -> u64 {
 pub(crate) fn hash_tag(tag: &[u8]) -> u64 {
     let len = tag.len();
     let hash = with_ends(0, tag);
-    if len <= 2 * FRONT {
+    if len <= 2 * ENDS {
         return with_middle(hash, tag);
     }
-    let part = len.min(FRONT);
+    let part = len.min(ENDS);
     with_middle(with_middle(hash, &tag[..part]), &tag[len - part..])
 }
 

@@ -28,7 +28,7 @@ pub(crate) enum Found {
     Full,
 }
 
-/// The numbers of tags by a hash of all their bytes. Only tags that found their bucket full, or another with
+/// The numbers of tags by a hash. Only tags that found their bucket full, or another with
 /// the same half of a hash, are looked for by their texts, so that no input makes look-ups slow.
 #[derive(Drop)]
 pub(crate) struct TagNumbers {

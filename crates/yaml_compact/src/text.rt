@@ -77,7 +77,9 @@ fn found_at(text: &str, at: usize, content: &str) -> Option<Span>
 
 impl<'s> Text<'s> {
     /// The text that is lent.
-    pub fn new(alloc: Global, lent: &'s str) -> Text<'s> {
+    pub fn new(alloc: Global, lent: &'s str) -> Text<'s>
+        ensures { text_of result ≡ lent.now }
+    {
         Text {
             lent,
             own: String::new(alloc),
@@ -85,7 +87,9 @@ impl<'s> Text<'s> {
     }
 
     /// The text that is lent, with nothing behind it any more.
-    pub fn clear(&mut self) {
+    pub fn clear(&mut self)
+        ensures { text_of self.new ≡ self.old.lent.now }
+    {
         self.own.clear();
     }
 
