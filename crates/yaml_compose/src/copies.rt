@@ -1,4 +1,4 @@
-//! Properties that are kept without the text that they stand in.
+//! Texts and properties that are kept: parts of the text that is lent where they stand in it, else copies.
 ghost use Rattle.std.specs.Prelude.{◌≡◌, IfOk, IfSome};
 ghost use Rattle.std.specs.Bool.{OnTrue};
 ghost use Rattle.std.specs.Option.{option_map};
@@ -12,12 +12,6 @@ use std::mem;
 use yaml_compact::gives_up::GivesUp;
 use yaml_sink::properties::{Given, Offsets, Properties};
 use yaml_text::event::EventTag;
-
-/// Properties that are parts of the text that is lent, or lent by none.
-#[derive(Drop)]
-pub(crate) struct Owned<'s> {
-    pub(crate) properties: Properties<'s>,
-}
 
 /// The part of a text at this place, if it is the same as another text.
 fn part_at<'s>(lent: &'s str, at: usize, text: &str) -> Option<&'s str>

@@ -14,7 +14,6 @@ ghost use Rattle.yaml_compose.specs.Refusals.{RefusesForest};
 
 use crate::ahead::Ahead;
 use crate::composer::Forest;
-use crate::copies::Owned;
 use crate::unmade::Unmade;
 use crate::waiting::{Late, Waiting};
 use std::alloc::Global;
@@ -48,7 +47,7 @@ pub struct Composing<'s> {
     ahead: Ahead<'s>,
     waiting: Waiting<'s>,
     /// The properties of the collection that follows, if they are known.
-    announced: Option<Owned<'s>>,
+    announced: Option<Properties<'s>>,
     /// How many events are held.
     count: usize,
     /// Whether what is composed is of no use.
@@ -317,7 +316,7 @@ impl Keeper for Composing<'_> {
             return;
         }
         match self.waiting.copy_of(self.alloc, self.lent, own) {
-            Ok(copy) => self.announced = Some(Owned { properties: copy }),
+            Ok(copy) => self.announced = Some(copy),
             Err(_) => self.gave_up = true,
         }
     }

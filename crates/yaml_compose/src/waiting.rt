@@ -8,7 +8,7 @@ ghost use Rattle.yaml_compose.specs.declared.waiting.Late.TheVariants.{Start};
 ghost use Rattle.yaml_compose.specs.WaitingModel.{late_event, start_before, waits, IsOne, PutsLate, ComposesWaits, Precedes, DressesWaits};
 
 use crate::ahead::Ahead;
-use crate::copies::{Owned, copy_over, fill, keep};
+use crate::copies::{copy_over, fill, keep};
 use std::alloc::Global;
 use std::borrow::CowStr;
 use std::mem;
@@ -38,7 +38,7 @@ pub(crate) struct Waiting<'s> {
     /// What the event has of properties.
     own: Properties<'s>,
     /// What a collection gets of properties, where it is known.
-    due: Option<Owned<'s>>,
+    due: Option<Properties<'s>>,
     /// Of the mapping's start, whether it is a flow mapping, and its properties.
     mapping: Option<bool>,
     outer: Properties<'s>,
@@ -107,7 +107,7 @@ impl<'s> Waiting<'s> {
         alloc: Global,
         collection: Collection,
         flow: bool,
-        due: Option<Owned<'s>>,
+        due: Option<Properties<'s>>,
     ) -> Result<(), GivesUp>
         ensures { IfOk result (λ _. waits self.new ≡ late_event (Start collection flow) no_props []) }
     {
@@ -248,8 +248,7 @@ impl<'s> Waiting<'s> {
                     ahead.begin(alloc, collection, number, &self.own)?;
                     Ok(())
                 }
-                Some(owned) => {
-                    let Owned { properties } = owned;
+                Some(properties) => {
                     ahead.begin_due(alloc, collection, number, properties)?;
                     Ok(())
                 }
