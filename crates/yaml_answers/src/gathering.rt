@@ -11,6 +11,9 @@ use yaml_text::fault::Fault;
 /// How many bytes are asked of a reader at most in one call.
 const PIECE: usize = 4096;
 
+/// For how many bytes there is room at first. The allocator gives so much room by pages, of which only those that are used take memory.
+const ROOM: usize = 131_072;
+
 /// All that the reader gives up to its end, if that is at most `limit` bytes.
 ///
 /// Of a longer input it reads `limit + 1` bytes and answers `TooLong`. Any error of the reader,
@@ -25,7 +28,7 @@ pub fn gather<R: Read>(
     ensures ok { IfOk result (λ v. Gathers R.remaining input.old input.new limit v.items) }
     ensures err { IfErr result (GatherFails R.remaining input.old input.new limit) }
 {
-    let mut bytes = Vec::new(alloc);
+    let mut bytes = Vec::with_capacity(alloc, ROOM).map_err(|_| Fault::OutOfMemory)?;
     let mut piece = [0u8; PIECE];
     'read: loop {
         let want = (limit + 1 - bytes.len()).min(PIECE);

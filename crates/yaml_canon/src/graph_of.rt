@@ -27,6 +27,7 @@ use yaml_text::fault::Fault;
 /// Refused are bytes that are no text (1 to 3), a text that is no stream of the profile (4 to 11),
 /// the first event with an alias or a tag that stands for nothing (12 to 17), a document that is too
 /// high (18), and want of memory (21).
+#[inline(never)]
 pub fn graph_of<'a>(alloc: Global, bytes: &'a [u8]) -> Result<Graph<'a>, Fault>
     ensures graph { IfOk result (HasGraph bytes.now) }
     ensures refused { IfErr result (GraphRefuses bytes.now) }
@@ -39,6 +40,7 @@ pub fn graph_of<'a>(alloc: Global, bytes: &'a [u8]) -> Result<Graph<'a>, Fault>
 }
 
 /// The same graph, once it is known why no forest was had of the bytes: where they were refused, they are not read again.
+#[inline(always)]
 pub fn graph_unless<'a>(alloc: Global, bytes: &'a [u8], none: NoForest) -> Result<Graph<'a>, Fault>
     requires { TellsWhy bytes.now none }
     ensures graph { IfOk result (HasGraph bytes.now) }

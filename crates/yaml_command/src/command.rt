@@ -63,11 +63,11 @@ fn run<'a, S: Shelf, R: Read, W: Write>(
     ensures refused { IfErr result (λ refusal. DoesNot (S.holds shelf.now) W.contents R.remaining input.old input.new out.old out.new refusal asked.entry) }
 {
     match asked {
-        Asked::Canon(None) => written(run_canonical(alloc, input, out)),
         Asked::Canon(Some(name)) => {
             canon_file(shelf, alloc, name, out)?;
             Ok(DONE)
         }
+        Asked::Canon(None) => written(run_canonical(alloc, input, out)),
         Asked::Same(left, right) => judged(compare_files(shelf, alloc, left, right, out)),
         Asked::Events(None) => written(events(alloc, input, out)),
         Asked::Events(Some(name)) => {
