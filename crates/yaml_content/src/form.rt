@@ -143,6 +143,7 @@ impl State {
     }
 
     /// The state after one more byte.
+    #[inline(always)]
     fn step(self, byte: u8) -> State
         ensures { (rest : List ℕ) → meaning self (byte ∷ rest) ≡ meaning result rest }
     {

@@ -97,8 +97,17 @@ fn is_quoted_in_many(byte: u8) -> bool
     (byte > b' ') & (byte < 127) & (byte != b'"') & (byte != b'\'') & (byte != b'\\')
 }
 
+/// The same as `plain_len`, for many bytes, which are tested together. Out of line, since few fronts are so long.
+#[inline(never)]
+fn far_plain_len(bytes: &[u8]) -> usize
+    ensures len { result ≤ length bytes.now }
+    ensures front { (k : ℕ) → k < result → (slice_index bytes.now k < 128) × (plain_inner flow_in (slice_index bytes.now k) ≡ true) }
+{
+    front_len(bytes, is_plain_in_many)
+}
+
 /// How many bytes at the start are ASCII characters that are plain in every context, whatever their neighbours are.
-#[inline]
+#[inline(always)]
 pub fn plain_len(bytes: &[u8]) -> usize
     ensures len { result ≤ length bytes.now }
     ensures front { (k : ℕ) → k < result → (slice_index bytes.now k < 128) × (plain_inner flow_in (slice_index bytes.now k) ≡ true) }
@@ -108,11 +117,20 @@ pub fn plain_len(bytes: &[u8]) -> usize
     if len < near {
         return len;
     }
-    near + front_len(&bytes[near..], is_plain_in_many)
+    near + far_plain_len(&bytes[near..])
+}
+
+/// The same as `quoted_len`, for many bytes, which are tested together. Out of line, since few fronts are so long.
+#[inline(never)]
+fn far_quoted_len(bytes: &[u8]) -> usize
+    ensures len { result ≤ length bytes.now }
+    ensures front { (k : ℕ) → k < result → (slice_index bytes.now k < 128) × (verbatim 39 (slice_index bytes.now k) ≡ true) × (verbatim 34 (slice_index bytes.now k) ≡ true) }
+{
+    front_len(bytes, is_quoted_in_many)
 }
 
 /// How many bytes at the start are ASCII characters that stand for themselves between both kinds of quotes.
-#[inline]
+#[inline(always)]
 pub fn quoted_len(bytes: &[u8]) -> usize
     ensures len { result ≤ length bytes.now }
     ensures front { (k : ℕ) → k < result → (slice_index bytes.now k < 128) × (verbatim 39 (slice_index bytes.now k) ≡ true) × (verbatim 34 (slice_index bytes.now k) ≡ true) }
@@ -122,5 +140,5 @@ pub fn quoted_len(bytes: &[u8]) -> usize
     if len < near {
         return len;
     }
-    near + front_len(&bytes[near..], is_quoted_in_many)
+    near + far_quoted_len(&bytes[near..])
 }

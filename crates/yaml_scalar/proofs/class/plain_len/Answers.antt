@@ -15,6 +15,6 @@ returns-clause-front c =
     let bytes = c.args.bytes.now in
     let taken = length-take near bytes in
     let whole : c.len_by_one-len.result ≡ near = omega (arith, c.len_by_one-len.ensures.len, taken, c.if-len-near.false) in
-    front_on Told bytes near (length bytes - near) c.front_len.result
+    front_on Told bytes near (length bytes - near) c.far_plain_len.result
     (λ k e. front_on Told bytes 0 near near (λ k e. absurd (omega (arith, e))) (λ k e. let f = c.len_by_one-len.ensures.front k (omega (arith, e, whole)) in (f.0 refl, f.1 refl)) (omega (arith, whole, c.len_by_one-len.ensures.len)) k (omega (arith, e)))
-    (λ k e. let f = c.front_len.ensures.front k e in (f.0 refl, f.1 refl)) c.front_len.ensures.len
+    c.far_plain_len.ensures.front c.far_plain_len.ensures.len
