@@ -87,6 +87,7 @@ pub fn judge(text: &str) -> Form
 }
 
 /// The same of a long text.
+#[inline(never)]
 fn judge_long(bytes: &[u8]) -> Form
     ensures { result ≡ form_of bytes.now }
 {
@@ -199,6 +200,7 @@ fn form_at_end(form: Form, is_whole: bool) -> Form
     if is_whole { form } else { Form::Other }
 }
 
+#[inline(always)]
 fn after_start(byte: u8) -> State
     ensures { (rest : List ℕ) → meaning State.Start (byte ∷ rest) ≡ meaning result rest }
 {
@@ -218,6 +220,7 @@ fn after_start(byte: u8) -> State
     }
 }
 
+#[inline(always)]
 fn after_sign(byte: u8) -> State
     ensures { (rest : List ℕ) → meaning State.Sign (byte ∷ rest) ≡ meaning result rest }
 {
@@ -228,6 +231,7 @@ fn after_sign(byte: u8) -> State
     }
 }
 
+#[inline(always)]
 fn after_zero(byte: u8) -> State
     ensures { (rest : List ℕ) → meaning State.Zero (byte ∷ rest) ≡ meaning result rest }
 {
@@ -238,6 +242,7 @@ fn after_zero(byte: u8) -> State
     }
 }
 
+#[inline(always)]
 fn after_digits(byte: u8) -> State
     ensures { (rest : List ℕ) → meaning State.Digits (byte ∷ rest) ≡ meaning result rest }
 {
@@ -249,6 +254,7 @@ fn after_digits(byte: u8) -> State
     }
 }
 
+#[inline(always)]
 fn after_point(byte: u8) -> State
     ensures { (rest : List ℕ) → meaning State.Point (byte ∷ rest) ≡ meaning result rest }
 {
@@ -259,6 +265,7 @@ fn after_point(byte: u8) -> State
     }
 }
 
+#[inline(always)]
 fn after_signed_point(byte: u8) -> State
     ensures { (rest : List ℕ) → meaning State.SignedPoint (byte ∷ rest) ≡ meaning result rest }
 {
@@ -270,6 +277,7 @@ fn after_signed_point(byte: u8) -> State
     }
 }
 
+#[inline(always)]
 fn after_fraction(byte: u8) -> State
     ensures { (rest : List ℕ) → meaning State.Fraction (byte ∷ rest) ≡ meaning result rest }
 {
@@ -280,6 +288,7 @@ fn after_fraction(byte: u8) -> State
     }
 }
 
+#[inline(always)]
 fn after_exponent(byte: u8) -> State
     ensures { (rest : List ℕ) → meaning State.Exponent (byte ∷ rest) ≡ meaning result rest }
 {
@@ -290,6 +299,7 @@ fn after_exponent(byte: u8) -> State
 }
 
 /// After the sign of an exponent, or after some of its digits.
+#[inline(always)]
 fn after_exponent_sign(byte: u8) -> State
     ensures sign { (rest : List ℕ) → meaning State.ExponentSign (byte ∷ rest) ≡ meaning result rest }
     ensures digits { (rest : List ℕ) → meaning State.ExponentDigits (byte ∷ rest) ≡ meaning result rest }
@@ -301,6 +311,7 @@ fn after_exponent_sign(byte: u8) -> State
 }
 
 /// After `0o`, or after some digits there.
+#[inline(always)]
 fn after_octal_mark(byte: u8) -> State
     ensures mark { (rest : List ℕ) → meaning State.OctalMark (byte ∷ rest) ≡ meaning result rest }
     ensures digits { (rest : List ℕ) → meaning State.OctalDigits (byte ∷ rest) ≡ meaning result rest }
@@ -312,6 +323,7 @@ fn after_octal_mark(byte: u8) -> State
 }
 
 /// After `0x`, or after some digits there.
+#[inline(always)]
 fn after_hexadecimal_mark(byte: u8) -> State
     ensures mark { (rest : List ℕ) → meaning State.HexadecimalMark (byte ∷ rest) ≡ meaning result rest }
     ensures digits { (rest : List ℕ) → meaning State.HexadecimalDigits (byte ∷ rest) ≡ meaning result rest }
@@ -322,6 +334,7 @@ fn after_hexadecimal_mark(byte: u8) -> State
     }
 }
 
+#[inline(always)]
 fn after_letter(form: Form, left: &'static [u8], byte: u8) -> State
     ensures { (rest : List ℕ) → meaning (State.Word form left.entry) (byte ∷ rest) ≡ meaning result rest }
 {
@@ -331,6 +344,7 @@ fn after_letter(form: Form, left: &'static [u8], byte: u8) -> State
     }
 }
 
+#[inline(always)]
 fn after_capital(form: Form, lower: &'static [u8], upper: &'static [u8], byte: u8) -> State
     ensures { (rest : List ℕ) → meaning (State.Capital form lower.entry upper.entry) (byte ∷ rest) ≡ meaning result rest }
 {
@@ -343,6 +357,7 @@ fn after_capital(form: Form, lower: &'static [u8], upper: &'static [u8], byte: u
 }
 
 /// What is left of a word after its first letter, if that is this one.
+#[inline(always)]
 fn left_after(word: &'static [u8], letter: u8) -> Option<&'static [u8]>
     ensures { MatchOption result ((rest : List ℕ) → bytes_eq (letter ∷ rest) word.now ≡ false) (λ left. (rest : List ℕ) → bytes_eq (letter ∷ rest) word.now ≡ bytes_eq rest left.now) }
 {
