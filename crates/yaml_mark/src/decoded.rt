@@ -3,7 +3,7 @@ ghost use Rattle.std.specs.Prelude.{◌≡◌, [], ◌∷◌, IfOk, IfErr};
 ghost use Rattle.std.specs.Bool.{OnTrue};
 ghost use Rattle.yaml_definitions.specs.grammar.Tags.{percent_decode};
 ghost use Rattle.yaml_text.specs.declared.fault.Fault.TheVariants as fault;
-ghost use Rattle.yaml_mark.specs.PrefixModel.{bytes_of, decoded_of};
+ghost use Rattle.yaml_mark.specs.PrefixModel.{bytes_of, decoded_of, made_of};
 
 use percent_encoding::{DecodeError, percent_decode_str};
 use std::alloc::Global;
@@ -21,7 +21,15 @@ pub(crate) enum Prefix<'p> {
 /// A decoded prefix that is kept.
 #[derive(Drop)]
 pub(crate) enum Decoded<'a> {
-    Text(CowStr<'a>),
+    /// It has no escapes.
+    Text(&'a str),
+    Made(Box<Made<'a>>),
+}
+
+/// A prefix that was made out of escapes, in a box, since few are: an enum has room for all its parts.
+#[derive(Drop)]
+pub(crate) enum Made<'a> {
+    Text(String),
     Bytes(CowSlice<'a, u8>),
 }
 
@@ -37,14 +45,26 @@ impl Prefix<'_> {
     }
 }
 
-impl<'a> Decoded<'a> {
+impl Made<'_> {
+    /// The prefix that was made.
+    fn prefix(&self) -> Prefix<'_>
+        ensures { bytes_of result ≡ made_of self.now }
+    {
+        match self {
+            Made::Text(text) => Prefix::Text(text.as_str()),
+            Made::Bytes(bytes) => Prefix::Bytes(bytes.as_slice()),
+        }
+    }
+}
+
+impl Decoded<'_> {
     /// The prefix that is kept.
     pub(crate) fn prefix(&self) -> Prefix<'_>
         ensures { bytes_of result ≡ decoded_of self.now }
     {
         match self {
-            Decoded::Text(text) => Prefix::Text(text.as_str()),
-            Decoded::Bytes(bytes) => Prefix::Bytes(bytes.as_slice()),
+            Decoded::Text(text) => Prefix::Text(text),
+            Decoded::Made(made) => made.prefix(),
         }
     }
 }
@@ -55,10 +75,15 @@ pub(crate) fn decode_prefix<'a>(alloc: Global, prefix: &'a str) -> Result<Decode
     ensures err { IfErr result (λ e. e ≡ fault.OutOfMemory) }
 {
     match percent_decode_str(prefix).decode_utf8(alloc) {
-        Ok(text) => Ok(Decoded::Text(text)),
+        Ok(CowStr::Borrowed(text)) => Ok(Decoded::Text(text)),
+        Ok(CowStr::Owned(text)) => {
+            let made = Box::new(alloc, Made::Text(text))?;
+            Ok(Decoded::Made(made))
+        }
         Err(DecodeError::Utf8(_)) => {
             let bytes = percent_decode_str(prefix).into_cow(alloc)?;
-            Ok(Decoded::Bytes(bytes))
+            let made = Box::new(alloc, Made::Bytes(bytes))?;
+            Ok(Decoded::Made(made))
         }
         Err(DecodeError::OutOfMemory) => Err(Fault::OutOfMemory),
     }
