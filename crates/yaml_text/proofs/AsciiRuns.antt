@@ -5,7 +5,6 @@ use Rattle.std.proofs.lemmas.Str.{IsUtf8-had}
 use Rattle.yaml_text.specs.declared.chars.Chars.{Chars}
 use Rattle.yaml_text.specs.Place.{Steps}
 use Rattle.yaml_text.specs.Source.{text_of, place_of, IsBorder}
-use Rattle.yaml_definitions.specs.grammar.Characters.{is_nb}
 use Rattle.yaml_definitions.specs.grammar.Rules.{run}
 use Rattle.yaml_text.proofs.PlaceLemmas.{ascii_steps}
 use Rattle.yaml_text.proofs.Runs.{run_none, run_more}
@@ -30,10 +29,3 @@ pub crossed_front_of : (p : ℕ → Bool) (source : Chars) (at n : ℕ) (bytes :
 crossed_front_of p source at n bytes b e l h =
     let len : length bytes ≡ length source.text.now - at = ap length e ∙ length-drop at source.text.now in
     crossed p source at n (at + n) refl b (omega (arith, l, len, b.0)) (subst (λ z. (k : ℕ) → k < n → (get_or z k 0 < 128) × (p (get_or z k 0) ≡ true)) e h)
-
--- the characters from one border to another are those of a line
-abbrev pub Crossed : Chars → ℕ → ℕ → Type 0
-Crossed source at to = IsBorder source to × run (text_of source) is_nb (place_of source at) (place_of source to)
-
-pub crossed_front : (source : Chars) (at n : ℕ) (bytes : List ℕ) → IsBorder source at → bytes ≡ drop at source.text.now → n ≤ length bytes → ((k : ℕ) → k < n → (get_or bytes k 0 < 128) × (is_nb (get_or bytes k 0) ≡ true)) → Crossed source at (at + n)
-crossed_front source at n bytes b e l h = let c = crossed_front_of is_nb source at n bytes b e l h in (c.0, c.1)

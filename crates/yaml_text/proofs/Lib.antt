@@ -6,6 +6,7 @@ pub mod Repeats
 pub mod Runs
 pub mod Breaks
 pub mod LineRuns
+pub mod LineBytes
 pub mod RestLemmas
 pub mod FrontLemmas
 pub mod AsciiRuns

@@ -1,5 +1,5 @@
 -- Runs of characters on a line, breaks and the ends of lines: from a place one at most.
-use Rattle.std.proofs.Common.{◌≡◌, ◌≢◌, ℕ, ◌+◌, ◌-◌, ◌<◌, ◌≤◌, ◌⊎◌, inl, inr, List, Some, Bool, true, false, not, refl, sym, ◌∙◌, ap, subst, arith}
+use Rattle.std.proofs.Common.{◌≡◌, ◌≢◌, ℕ, ◌+◌, ◌-◌, ◌<◌, ◌≤◌, ◌⊎◌, inl, inr, List, Some, Bool, true, false, refl, sym, ◌∙◌, ap, subst, arith}
 use Rattle.std.specs.Prelude.{slice_get, ◌==◌}
 use Rattle.std.proofs.lemmas.Option.{slice_get_past}
 use Rattle.std.proofs.Math.Nat.{eq-or-lt_of_le}
@@ -9,7 +9,7 @@ use Rattle.yaml_definitions.specs.grammar.Separation.{AtEnd, StartsLine, b-comme
 use Rattle.yaml_text.specs.Lines.{line_brk}
 use Rattle.yaml_text.specs.Lines.{AfterLine, Inside, Uncut}
 use Rattle.yaml_text.proofs.Repeats.{SameEnd}
-use Rattle.yaml_text.proofs.Runs.{same_char, no_stand, no_stand_end, run_more}
+use Rattle.yaml_text.proofs.Runs.{same_char, no_stand, no_stand_end}
 use Rattle.yaml_text.proofs.Breaks as gap
 
 same_code : (c : ℕ) → (c == c) ≡ true
@@ -87,14 +87,6 @@ module _ (cs : List ℕ) where
   -- a character where no break stands
   pub nb_here : (i c : ℕ) → slice_get cs i ≡ Some c → ((j : ℕ) → line_brk cs i j → ⊥) → Stands cs is_nb i
   nb_here i c h none = (c, h, no_break_nb c (λ e. none (i + 1) (inl (h ∙ ap Some e, refl))) (λ e. return_breaks i (h ∙ ap Some e) none))
-
-  pub nb_char : (i c : ℕ) → slice_get cs i ≡ Some c → is_break c ≡ false → Stands cs is_nb i
-  unfolding is_nb
-  nb_char i c h e = (c, h, ap not e)
-
-  pub break_breaks : (i c : ℕ) → slice_get cs i ≡ Some c → is_break c ≡ true → ((j : ℕ) → line_brk cs i j → ⊥) → ⊥
-  unfolding is_nb
-  break_breaks i c h e none = no_stand cs is_nb i c h (ap not e) (nb_here i c h none)
 
   -- ---- no CR LF is cut
 
@@ -181,9 +173,6 @@ module _ (cs : List ℕ) where
   ]
 
   -- ---- runs of places
-
-  pub run_nb : (i j k c : ℕ) → run cs is_nb i j → Stands cs is_nb j → slice_get cs j ≡ Some c → k ≡ j + 1 → run cs is_nb i k
-  run_nb i j k c r (d, h, t) g e = run_more cs is_nb i j k d r h t e
 
   -- a place after a character of a line
   pub inside_next : (j k : ℕ) → Stands cs is_nb j → k ≡ j + 1 → Inside cs k

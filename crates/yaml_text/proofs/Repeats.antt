@@ -50,6 +50,10 @@ pub spans_push : {R : Span} {k j i : ℕ} → Spans R k i → R k j → Spans R 
 spans_push {R} {k} {j} {i} (done e) r = then j (subst (λ m. R m j) e r) (done refl)
 spans_push {R} {k} {j} {i} (then m p rest) r = then m p (spans_push rest r)
 
+pub spans_join : {R : Span} {k j i : ℕ} → Spans R k i → Spans R j k → Spans R j i
+spans_join {R} {k} {j} {i} (done e) more = subst (λ m. Spans R j m) e more
+spans_join {R} {k} {j} {i} (then m p rest) more = then m p (spans_join rest more)
+
 pub spans_onward : {R : Span} → ((i j : ℕ) → R i j → i ≤ j) → {j i : ℕ} → Spans R j i → i ≤ j
 spans_onward {R} f {j} {i} (done e) = omega (arith, e)
 spans_onward {R} f {j} {i} (then k r more) = let a : i ≤ k = f i k r in let b : k ≤ j = spans_onward f more in omega (arith, a, b)

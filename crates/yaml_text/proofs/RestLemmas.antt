@@ -121,13 +121,18 @@ module _ (cs : List ℕ) where
   unfolding comment
   comment_is i k m j h e r l = (m, (k, (h, e), r), l)
 
-  pub blank_comment : (i m j : ℕ) → run cs is_space i m → (comment cs ◆ line_end cs) m j → blank_rest cs i j
+  pub with_comment : (i j : ℕ) → (comment cs ◆ line_end cs) i j → (maybe (comment cs) ◆ line_end cs) i j
+  with_comment i j (k, c, e) = (k, inr c, e)
+
+  pub no_comment : (i j : ℕ) → line_end cs i j → (maybe (comment cs) ◆ line_end cs) i j
+  no_comment i j e = (i, inl refl, e)
+
+  pub blank_more : (i m j : ℕ) → run cs is_space i m → (maybe (comment cs) ◆ line_end cs) m j → blank_rest cs i j
   unfolding blank_rest
-  blank_comment i m j r (k, c, e) = (m, r, (k, inr c, e))
+  blank_more i m j r e = (m, r, e)
 
   pub blank_end : (i m j : ℕ) → run cs is_space i m → line_end cs m j → blank_rest cs i j
-  unfolding blank_rest
-  blank_end i m j r e = (m, r, (m, inl refl, e))
+  blank_end i m j r e = blank_more i m j r (no_comment m j e)
 
   pub no_blank : (i m : ℕ) → run cs is_space i m → (Stands cs is_space m → ⊥) → slice_get cs m ≢ Some 35 → Stands cs is_nb m → (j : ℕ) → blank_rest cs i j → ⊥
   unfolding blank_rest comment

@@ -7,11 +7,11 @@ ghost use Rattle.yaml_text.specs.Placed.{IsPlaced};
 ghost use Rattle.yaml_text.specs.Lines.{line_brk, DashesOf, LooksLikeMarker, AfterLine, Uncut, blank_rest};
 ghost use Rattle.yaml_text.specs.Source.{bytes_of, mark_of, text_of, place_of, IsBorder};
 ghost use Rattle.yaml_definitions.specs.grammar.Characters.{is_space, is_white, is_nb};
-ghost use Rattle.yaml_definitions.specs.grammar.Rules.{run, Stands, any_span, ◌◆◌};
+ghost use Rattle.yaml_definitions.specs.grammar.Rules.{run, Stands, maybe, any_span, ◌◆◌};
 ghost use Rattle.yaml_definitions.specs.grammar.Separation.{StartsLine, DocumentMark, s-indent as indent, b-comment as line_end, c-nb-comment-text as comment, l-comment as l_comment};
 
 use crate::chars::Chars;
-use crate::class::{is_break, is_ns};
+use crate::class::is_ns;
 use crate::fault::Fault;
 use crate::front::{front_len, len_by_one};
 use crate::places::{accept, is_border, next};
@@ -100,7 +100,27 @@ pub fn end_line(source: &Chars<'_>, at: usize) -> Option<usize>
     }
 }
 
-/// Whether a byte is an ASCII character of a line, which is no break. It has no branch, for `front_len`.
+/// Whether a byte is that of no break. It has no branch, for `front_len`.
+#[tactic(auto, unfolding(yaml_definitions::specs::grammar::Characters::is_nb, yaml_definitions::specs::grammar::Characters::is_break))]
+fn is_nb_byte(byte: u8) -> bool
+    ensures { result ≡ is_nb byte }
+{
+    (byte > b'\r') | ((byte < b'\r') & (byte != b'\n'))
+}
+
+/// The border after the characters of a line that stand at a border. A break is one byte, which stands in no longer character,
+/// so none is decoded.
+fn skip_line(source: &Chars<'_>, at: usize) -> usize
+    requires { IsBorder source.now at }
+    ensures border { IsBorder source.now result }
+    ensures onward { at ≤ result }
+    ensures chars { run (text_of source.now) is_nb (place_of source.now at) (place_of source.now result) }
+    ensures furthest { Stands (text_of source.now) is_nb (place_of source.now result) → ⊥ }
+{
+    at + front_len(source.rest(at).as_bytes(), is_nb_byte)
+}
+
+/// Whether a byte is an ASCII character of a line, which is no break.
 #[tactic(auto, unfolding(yaml_definitions::specs::grammar::Characters::is_nb, yaml_definitions::specs::grammar::Characters::is_break))]
 fn is_ascii_nb(byte: u8) -> bool
     ensures ascii { result ≡ true → byte < 128 }
@@ -108,17 +128,6 @@ fn is_ascii_nb(byte: u8) -> bool
     ensures other { result ≡ false → byte < 128 → is_nb byte ≡ false }
 {
     byte.is_ascii() & (byte != b'\n') & (byte != b'\r')
-}
-
-/// The border after the ASCII characters of a line that stand at a border, which are not decoded.
-fn skip_ascii(source: &Chars<'_>, at: usize) -> usize
-    requires { IsBorder source.now at }
-    ensures border { IsBorder source.now result }
-    ensures onward { at ≤ result }
-    ensures chars { run (text_of source.now) is_nb (place_of source.now at) (place_of source.now result) }
-    ensures furthest { result < length (bytes_of source.now) → slice_index (bytes_of source.now) result < 128 → is_nb (slice_index (bytes_of source.now) result) ≡ false }
-{
-    at + front_len(source.rest(at).as_bytes(), is_ascii_nb)
 }
 
 /// Whether all that stands between two borders is ASCII characters of a line, so that it has as many characters as bytes.
@@ -143,21 +152,10 @@ pub fn rest_of_line(source: &Chars<'_>, at: usize) -> (usize, usize)
     ensures chars { run (text_of source.now) is_nb (place_of source.now at) (place_of source.now result.0) }
     ensures end { line_end (text_of source.now) (place_of source.now result.0) (place_of source.now result.1) }
 {
-    let mut from = at;
-    'line: loop {
-        let here = skip_ascii(source, from);
-        match next(source, here) {
-            None => return (here, here),
-            Some((c, to)) => {
-                if is_break(c) {
-                    return match line_break(source, here) {
-                        Some(after) => (here, after),
-                        None => (here, here),
-                    };
-                }
-                from = to;
-            }
-        }
+    let here = skip_line(source, at);
+    match end_line(source, here) {
+        Some(after) => (here, after),
+        None => (here, here),
     }
 }
 
@@ -178,6 +176,25 @@ pub fn read_comment(source: &Chars<'_>, at: usize) -> Option<usize>
     }
 }
 
+/// The border after the rest of a line that has no content from a border on, nor a space.
+fn skip_comment(source: &Chars<'_>, at: usize) -> Option<usize>
+    requires border { IsBorder source.now at }
+    requires uncut { Uncut (text_of source.now) (place_of source.now at) }
+    ensures border { IfSome result (λ to. IsBorder source.now to) }
+    ensures onward { IfSome result (λ to. at ≤ to) }
+    ensures some { IfSome result (λ to. (maybe (comment (text_of source.now)) ◆ line_end (text_of source.now)) (place_of source.now at) (place_of source.now to)) }
+    ensures hash { IfNone result (slice_get (text_of source.now) (place_of source.now at) ≢ Some 35) }
+    ensures none { IfNone result (Stands (text_of source.now) is_nb (place_of source.now at)) }
+{
+    match read_comment(source, at) {
+        Some(after) => Some(after),
+        None => match end_line(source, at) {
+            Some(after) => Some(after),
+            None => None,
+        },
+    }
+}
+
 /// The border after a line that has no content from a border on.
 pub fn skip_blank(source: &Chars<'_>, at: usize) -> Option<usize>
     requires border { IsBorder source.now at }
@@ -188,12 +205,33 @@ pub fn skip_blank(source: &Chars<'_>, at: usize) -> Option<usize>
     ensures none { IfNone result ((j : ℕ) → blank_rest (text_of source.now) (place_of source.now at) j → ⊥) }
 {
     let (_, from) = skip_spaces(source, at);
-    match read_comment(source, from) {
+    match skip_comment(source, from) {
         Some(after) => Some(after),
-        None => match end_line(source, from) {
-            Some(after) => Some(after),
-            None => None,
-        },
+        None => None,
+    }
+}
+
+/// Where the last of the lines starts that stand at a border behind empty ones, which have spaces and a line feed alone, and the
+/// border after its spaces.
+fn skip_empty_lines(source: &Chars<'_>, at: usize) -> (usize, usize)
+    requires border { IsBorder source.now at }
+    requires after { AfterLine (text_of source.now) (place_of source.now at) }
+    ensures start { IsBorder source.now result.0 }
+    ensures border { IsBorder source.now result.1 }
+    ensures onward { at ≤ result.0 }
+    ensures further { result.0 ≤ result.1 }
+    ensures after { AfterLine (text_of source.now) (place_of source.now result.0) }
+    ensures lines { any_span (l_comment (text_of source.now)) (place_of source.now at) (place_of source.now result.0) }
+    ensures spaces { run (text_of source.now) is_space (place_of source.now result.0) (place_of source.now result.1) }
+    ensures furthest { Stands (text_of source.now) is_space (place_of source.now result.1) → ⊥ }
+{
+    let mut line = at;
+    'empty: loop {
+        let (_, end) = skip_spaces(source, line);
+        match accept(source, end, '\n') {
+            Some(to) => line = to,
+            None => return (line, end),
+        }
     }
 }
 
@@ -208,11 +246,12 @@ pub fn skip_comment_lines(source: &Chars<'_>, at: usize) -> usize
 {
     let mut line = at;
     'lines: loop {
-        match skip_blank(source, line) {
-            None => return line,
+        let (start, end) = skip_empty_lines(source, line);
+        match skip_comment(source, end) {
+            None => return start,
             Some(after) => {
-                if after == line {
-                    return line;
+                if after == start {
+                    return start;
                 }
                 line = after;
             }
@@ -248,7 +287,11 @@ pub fn is_mark(source: &Chars<'_>, at: usize) -> bool
     ensures yes { OnTrue result (LooksLikeMarker (text_of source.now) (place_of source.now at)) }
     ensures no { OnFalse result (LooksLikeMarker (text_of source.now) (place_of source.now at) → ⊥) }
 {
-    is_mark_of(source, at, '-') || is_mark_of(source, at, '.')
+    match next(source, at) {
+        Some(('-', _)) => is_mark_of(source, at, '-'),
+        Some(('.', _)) => is_mark_of(source, at, '.'),
+        _ => false,
+    }
 }
 
 /// Whether a line starts at a border.

@@ -1,23 +1,16 @@
-use Rattle.std.proofs.Common.{sym, ◌∙◌, ap, length}
+use Rattle.std.proofs.Common.{◌≡◌, ◌<◌, ◌-◌, ◌∙◌, sym, ap, get_or, length, arith}
+use Rattle.std.proofs.lemmas.List.{length-drop}
 use Rattle.std.proofs.lemmas.Str.{IsUtf8-had}
-use Rattle.yaml_text.proofs.PlaceLemmas.{steps, ends, ends_at}
+use Rattle.yaml_text.proofs.PlaceLemmas.{ascii_steps, front_byte}
 use Rattle.yaml_text.proofs.places.next.Goals as goal
 
-pub returns-in-None-clause-none : goal.returns-in-None-clause-none
-returns-in-None-clause-none c =
+pub returns-then-is_ascii-clause-some : goal.returns-then-is_ascii-clause-some
+returns-then-is_ascii-clause-some c =
     let text = c.args.source.now.text.now in
-    ends text c.args.at (IsUtf8-had text c.args.source.now.utf8) c.requires
-    (ap length (sym c.rest-rest.ensures ∙ sym c.chars.ensures.rest) ∙ c.in-None.ensures.steps.0.0)
-
-pub returns-in-Some-clause-some : goal.returns-in-Some-clause-some
-returns-in-Some-clause-some c =
-    let text = c.args.source.now.text.now in
-    rw c.len_utf8.ensures.value
-    (steps text c.next.new.self.rest.now c.args.at c.in-Some.c (IsUtf8-had text c.args.source.now.utf8) c.requires
-    (sym c.rest-rest.ensures ∙ sym c.chars.ensures.rest ∙ c.in-Some.ensures.steps.0))
-
-pub returns-in-None-clause-end : goal.returns-in-None-clause-end
-returns-in-None-clause-end c =
-    let text = c.args.source.now.text.now in
-    ends_at text c.args.at (IsUtf8-had text c.args.source.now.utf8) c.requires
-    (ap length (sym c.rest-rest.ensures ∙ sym c.chars.ensures.rest) ∙ c.in-None.ensures.steps.0.0)
+    let bytes = c.as_bytes-bytes.result.now in
+    let same = c.as_bytes-bytes.ensures.value ∙ c.rest.ensures in
+    let len : length bytes ≡ length text - c.args.at = ap length same ∙ length-drop c.args.at text in
+    let there : c.args.at < length text = grind (arith, len, c.is_empty.ensures, c.if-not-is_empty.true) in
+    let byte : get_or text c.args.at 0 ≡ c.from.result = sym (front_byte text bytes c.args.at same) ∙ sym c.from.ensures in
+    let small : c.from.result < 128 = grind (arith, c.is_ascii.ensures, c.if-is_ascii.true, c.from.ensures) in
+    ascii_steps text c.args.at c.from.result (IsUtf8-had text c.args.source.now.utf8) c.requires there byte small
