@@ -8,7 +8,7 @@ use yaml_text::class::{is_indicator, is_ns, is_plain_safe};
 use yaml_text::context::Ctx;
 use yaml_text::front::{front_len, len_by_one};
 
-/// How many bytes of a front are tested one by one, before those behind them are tested together.
+/// Fronts shorter than this are told one byte after the other, where more bytes than this stand.
 const NEAR: usize = 64;
 
 /// Whether a character of a plain scalar needs no look at its neighbours.
@@ -97,7 +97,7 @@ fn is_quoted_in_many(byte: u8) -> bool
     (byte > b' ') & (byte < 127) & (byte != b'"') & (byte != b'\'') & (byte != b'\\')
 }
 
-/// The same as `plain_len`, for many bytes, which are tested together. Out of line, since few fronts are so long.
+/// The same as `plain_len`, by many bytes that are tested together. Out of line, since few fronts are long or near the text's end.
 #[inline(never)]
 fn far_plain_len(bytes: &[u8]) -> usize
     ensures len { result ≤ length bytes.now }
@@ -112,15 +112,16 @@ pub fn plain_len(bytes: &[u8]) -> usize
     ensures len { result ≤ length bytes.now }
     ensures front { (k : ℕ) → k < result → (slice_index bytes.now k < 128) × (plain_inner flow_in (slice_index bytes.now k) ≡ true) }
 {
-    let near = bytes.len().min(NEAR);
-    let len = len_by_one(&bytes[..near], &is_plain_byte);
-    if len < near {
-        return len;
+    if bytes.len() > NEAR {
+        let len = len_by_one(&bytes[..NEAR], &is_plain_byte);
+        if len < NEAR {
+            return len;
+        }
     }
-    near + far_plain_len(&bytes[near..])
+    far_plain_len(bytes)
 }
 
-/// The same as `quoted_len`, for many bytes, which are tested together. Out of line, since few fronts are so long.
+/// The same as `quoted_len`, by many bytes that are tested together. Out of line, since few fronts are long or near the text's end.
 #[inline(never)]
 fn far_quoted_len(bytes: &[u8]) -> usize
     ensures len { result ≤ length bytes.now }
@@ -135,10 +136,11 @@ pub fn quoted_len(bytes: &[u8]) -> usize
     ensures len { result ≤ length bytes.now }
     ensures front { (k : ℕ) → k < result → (slice_index bytes.now k < 128) × (verbatim 39 (slice_index bytes.now k) ≡ true) × (verbatim 34 (slice_index bytes.now k) ≡ true) }
 {
-    let near = bytes.len().min(NEAR);
-    let len = len_by_one(&bytes[..near], &is_quoted_byte);
-    if len < near {
-        return len;
+    if bytes.len() > NEAR {
+        let len = len_by_one(&bytes[..NEAR], &is_quoted_byte);
+        if len < NEAR {
+            return len;
+        }
     }
-    near + far_quoted_len(&bytes[near..])
+    far_quoted_len(bytes)
 }

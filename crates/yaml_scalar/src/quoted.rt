@@ -11,16 +11,18 @@ use yaml_text::class::is_white;
 use yaml_text::places::next;
 
 /// The border after the ASCII characters from a border on that stand for themselves between these quotes, which are not decoded.
+#[inline(always)]
 fn skip_quoted(source: &Chars<'_>, at: usize, quote: char) -> usize
     requires { IsBorder source.now at }
     ensures border { IsBorder source.now result }
     ensures onward { at ≤ result }
     ensures text { run (text_of source.now) (verbatim quote) (place_of source.now at) (place_of source.now result) }
 {
+    let len = quoted_len(source.rest(at).as_bytes());
     if quote == '"' {
-        at + quoted_len(source.rest(at).as_bytes())
+        at + len
     } else if quote == '\'' {
-        at + quoted_len(source.rest(at).as_bytes())
+        at + len
     } else {
         at
     }
