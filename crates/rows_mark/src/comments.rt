@@ -3,7 +3,7 @@ use crate::rows::{Call, Row, answers};
 use std::test::Fail;
 
 /// Comments end as far as they can.
-static ENDS: [Row; 21] = [
+static ENDS: [Row; 24] = [
     ("", 0, "ends at 0"),
     ("a", 0, "ends at 0"),
     ("a", 1, "ends at 1"),
@@ -25,6 +25,9 @@ static ENDS: [Row; 21] = [
     ("a\n#b\n --- c", 1, "ends at 5"),
     ("a\n--- c", 1, "ends at 2"),
     ("é # ü\nx", 2, "ends at 8"),
+    ("a\n\n\r\n \r\n  \r d", 1, "ends at 11"),
+    ("a\n\n  \n#é\r\n\n  - d", 1, "ends at 12"),
+    ("a\r\n\n  # b \n\n   ", 1, "ends at 15"),
 ];
 
 /// Content and tabs are no comments.

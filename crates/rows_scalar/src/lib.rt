@@ -6,6 +6,8 @@ mod block;
 #[cfg(test)]
 mod flow;
 #[cfg(test)]
+mod fronts;
+#[cfg(test)]
 mod rows;
 #[cfg(test)]
 mod spell;
