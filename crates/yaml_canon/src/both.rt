@@ -85,7 +85,7 @@ pub fn forest_of_both<'l>(
 /// The same, with a keeper that held nothing and now holds the events that the left side is read to and then those of the right one,
 /// and how many are the left one's: for what has to be known of these beside their nodes, as where in the text each stands, without a
 /// second reading.
-pub fn forest_of_both_with<'l, K: Keeper + Drop>(
+pub fn forest_of_both_with<'l, K: Keeper>(
     alloc: Global,
     left: &'l [u8],
     right: &[u8],

@@ -23,7 +23,7 @@ use yaml_text::fault::Fault;
 
 /// What keeps the events that a text is read to, behind those that it had. Where that gives up, there is no memory; each other
 /// fault is the reader's.
-fn kept<K: Keeper + Drop>(alloc: Global, keeper: K, source: &Chars<'_>) -> Result<K, Fault>
+fn kept<K: Keeper>(alloc: Global, keeper: K, source: &Chars<'_>) -> Result<K, Fault>
     ensures ok { IfOk result (λ new. (es : List Event) × ReadsText (text_of source.now) wide open_limit es × Puts K.holds keeper es new) }
     ensures err { IfErr result IsRefusal }
     ensures decides { IfErr result (λ e. (e ≡ Fault.OutOfMemory) ⊎ HasNoReading (text_of source.now)) }
@@ -59,7 +59,7 @@ pub(crate) fn lent<'b>(source: &Chars<'b>) -> &'b str {
 }
 
 /// What keeps the events of a text, behind those that it had.
-pub(crate) fn kept_source<K: Keeper + Drop>(
+pub(crate) fn kept_source<K: Keeper>(
     alloc: Global,
     keeper: K,
     source: &Chars<'_>,

@@ -81,7 +81,7 @@ pub(crate) fn graph_unranked<'a>(
 
 /// The same graph, and a keeper that held nothing and now holds the events that the bytes are read to: for what has to be known of
 /// these beside their graph, as where in the text each stands, without a second reading.
-pub fn graph_with<'a, K: Keeper + Drop>(
+pub fn graph_with<'a, K: Keeper>(
     alloc: Global,
     bytes: &'a [u8],
     keeper: K,

@@ -285,7 +285,7 @@ pub fn read_events<'a>(alloc: Global, source: &Chars<'a>) -> Result<Vec<Event<'a
 }
 
 /// The events of a stream as `read_events` lists them, and a keeper that held nothing and now holds the same.
-pub fn read_events_with<'a, K: Keeper + Drop>(
+pub fn read_events_with<'a, K: Keeper>(
     alloc: Global,
     source: &Chars<'a>,
     keeper: K,

@@ -26,7 +26,7 @@ pub enum Collection {
 /// Events come in the order of the text but for two things: a mapping's start is put before its first key once the colon after
 /// the key is read, and a node's properties are put on its first event once it is known whose they are. A keeper that cannot do
 /// what it is asked answers that there is no memory; who made it looks at it before the fault.
-pub trait Keeper {
+pub trait Keeper: Drop {
     // These are the events that were put down and not taken back.
     ghost holds: { Self → List PlainEvent → Type 0 };
 

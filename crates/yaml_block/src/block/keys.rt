@@ -19,7 +19,7 @@ use yaml_line::level::Level;
 use yaml_line::properties::{Head, read_properties};
 use yaml_mark::starts::begins_word;
 use yaml_sink::list::EventList;
-use yaml_sink::sink::{Keeper, Sink, Unkept};
+use yaml_sink::sink::{Keeper, Sink};
 use yaml_text::chars::Chars;
 use yaml_text::context::Ctx;
 use yaml_text::fault::Fault;
@@ -92,9 +92,10 @@ fn read_entry_key<'a, K: Keeper, F: FlowReader>(
     read_other_key::<K, F>(alloc, source, at, column, level, out)
 }
 
-/// The fault of a line on which no key stands, at the place where a key that is read by itself ends.
+/// The fault of a line on which no key stands, at the place where a key that is read by itself ends. The sink's type is that of
+/// the line's reader, so that both read by the same code.
 #[inline(never)]
-fn key_fault<'a, F: FlowReader>(
+fn key_fault<'a, K: Keeper, F: FlowReader>(
     alloc: Global,
     source: &Chars<'a>,
     at: usize,
@@ -104,7 +105,7 @@ fn key_fault<'a, F: FlowReader>(
     ensures refusal { IsRefusal result }
     ensures placed { IsPlaced source.now result }
 {
-    let mut events: Sink<'_, Unkept> = Sink::Listed(EventList::new(alloc));
+    let mut events: Sink<'_, K> = Sink::Listed(EventList::new(alloc));
     let alone = Level {
         least: 0,
         context: Ctx::BlockKey,
@@ -144,7 +145,7 @@ pub fn read_key<'a, K: Keeper, F: FlowReader>(
     match read_entry_key::<K, F>(alloc, source, at, column, level, out) {
         Ok(after) => Ok(after),
         Err(Fault::OutOfMemory) => Err(Fault::OutOfMemory),
-        Err(_) => Err(key_fault::<F>(alloc, source, at, level)),
+        Err(_) => Err(key_fault::<K, F>(alloc, source, at, level)),
     }
 }
 
