@@ -52,12 +52,10 @@ pub fn read_directives<'a>(
                 }
                 has_version = true;
             }
-            Directive::Binding(handle, prefix) => {
-                if handles.get(handle).is_some() {
-                    return Err(Fault::BadDirective(source.pos(line)));
-                }
-                handles = handles.bind(alloc, handle, prefix)?;
-            }
+            Directive::Binding(handle, prefix) => match handles.bind(alloc, handle, prefix)? {
+                None => return Err(Fault::BadDirective(source.pos(line))),
+                Some(more) => handles = more,
+            },
             Directive::Reserved => {}
         }
         line = next;

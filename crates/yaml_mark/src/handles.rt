@@ -1,5 +1,5 @@
 //! The handles of a document's tags.
-ghost use Rattle.std.specs.Prelude.{◌≡◌, ℕ, List, map, bytes_eq, IfOk, IfErr, None};
+ghost use Rattle.std.specs.Prelude.{◌≡◌, ℕ, List, map, bytes_eq, IfOk, IfErr, IfSome, IfNone, is_some, true, None};
 ghost use Rattle.std.specs.Option.{option_map};
 ghost use Rattle.std.specs.BTreeMap.{get_by};
 ghost use Rattle.std.specs.Ordering.{nat_cmp};
@@ -49,16 +49,17 @@ impl<'a> Handles<'a> {
         }
     }
 
-    /// The same with one more handle, which is not bound yet.
+    /// The same with one more handle. There is no answer where it is bound already.
     pub(crate) fn bind(
         self,
         alloc: Global,
         handle: &'a str,
         prefix: &'a str,
-    ) -> Result<Handles<'a>, Fault>
-        requires free { lookup (bytes_eq handle.now) (bindings_of self) ≡ None }
-        requires whole { IsWhole prefix.now }
-        ensures ok { IfOk result (λ more. bindings_of more ≡ bindings_of self.entry ++ (handle.now, prefix.now) ∷ []) }
+    ) -> Result<Option<Handles<'a>>, Fault>
+        requires { IsWhole prefix.now }
+        ensures more { IfOk result (λ found. IfSome found (λ more. bindings_of more ≡ bindings_of self.entry ++ (handle.now, prefix.now) ∷ [])) }
+        ensures free { IfOk result (λ found. IfSome found (λ _. lookup (bytes_eq handle.now) (bindings_of self.entry) ≡ None)) }
+        ensures bound { IfOk result (λ found. IfNone found (is_some (lookup (bytes_eq handle.now) (bindings_of self.entry)) ≡ true)) }
         ensures err { IfErr result (λ e. e ≡ fault.OutOfMemory) }
     {
         let Handles {
@@ -66,8 +67,12 @@ impl<'a> Handles<'a> {
             mut prefixes,
         } = self;
         let kept = decode_prefix(alloc, prefix)?;
-        prefixes.insert(handle, kept)?;
-        bindings.push((handle, prefix))?;
-        Ok(Handles { bindings, prefixes })
+        match prefixes.insert(handle, kept)? {
+            Some(_) => Ok(None),
+            None => {
+                bindings.push((handle, prefix))?;
+                Ok(Some(Handles { bindings, prefixes }))
+            }
+        }
     }
 }

@@ -88,18 +88,16 @@ fn skip_ascii(source: &Chars<'_>, at: usize, class: Class) -> (usize, Option<u8>
     }
 }
 
-/// The border after the characters of a class that stand at a border.
-pub(crate) fn skip_run(source: &Chars<'_>, at: usize, class: Class) -> usize
+/// The same as `skip_run`, for any characters, which are decoded.
+#[inline(never)]
+fn skip_decoded(source: &Chars<'_>, at: usize, class: Class) -> usize
     requires { IsBorder source.now at }
     ensures border { IsBorder source.now result }
     ensures onward { at ≤ result }
     ensures run { run (text_of source.now) (class_of class) (place_of source.now at) (place_of source.now result) }
     ensures furthest { Stands (text_of source.now) (class_of class) (place_of source.now result) → ⊥ }
 {
-    let (mut here, behind) = skip_ascii(source, at, class);
-    if let Some(_) = behind {
-        return here;
-    }
+    let mut here = at;
     'run: loop {
         match next(source, here) {
             None => return here,
@@ -110,6 +108,22 @@ pub(crate) fn skip_run(source: &Chars<'_>, at: usize, class: Class) -> usize
                 here = to;
             }
         }
+    }
+}
+
+/// The border after the characters of a class that stand at a border. Most runs are short, and end at an ASCII character.
+#[inline(always)]
+pub(crate) fn skip_run(source: &Chars<'_>, at: usize, class: Class) -> usize
+    requires { IsBorder source.now at }
+    ensures border { IsBorder source.now result }
+    ensures onward { at ≤ result }
+    ensures run { run (text_of source.now) (class_of class) (place_of source.now at) (place_of source.now result) }
+    ensures furthest { Stands (text_of source.now) (class_of class) (place_of source.now result) → ⊥ }
+{
+    let (here, behind) = skip_ascii(source, at, class);
+    match behind {
+        Some(_) => here,
+        None => skip_decoded(source, here, class),
     }
 }
 

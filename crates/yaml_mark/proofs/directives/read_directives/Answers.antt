@@ -1,9 +1,8 @@
-use Rattle.std.proofs.Common.{false, inl, ap, sym, subst, ◌∙◌, arith}
+use Rattle.std.proofs.Common.{false, inl, ap, sym, subst, arith}
 use Rattle.std.proofs.lemmas.Result.{err_from_is_err_and}
 use Rattle.yaml_text.specs.Source.{text_of, place_of}
 use Rattle.yaml_mark.specs.DirectiveParts.{directive_of}
-use Rattle.yaml_mark.specs.PrefixModel.{bytes_of}
-use Rattle.yaml_mark.proofs.HandleLemmas.{seen_some, seen_none}
+use Rattle.yaml_mark.proofs.HandleLemmas.{when_some, when_none}
 use Rattle.yaml_mark.proofs.RefusalLemmas.{malformed_refuses}
 use Rattle.yaml_mark.proofs.DirectivesLemmas.{Read, percent_stuck, only_stuck, only_of, starts, more_version, more_reserved, more_binding, ends_read, refused_read, version_again, handle_again, line_here}
 use Rattle.yaml_mark.proofs.PrefixLemmas.{bound_whole}
@@ -41,17 +40,14 @@ returns-then-has_version-clause-refused c =
     version_again cs _ _ _ _ _ c.if-has_version.true c.lines.invariant.read c.in-Some.ensures.some.is
     (only_of cs _ _ _ _ (ap directive_of c.in-Version.is) c.in_ok-directive.ensures.only)
 
-pub returns-then-is_some-clause-refused : goal.returns-then-is_some-clause-refused
-returns-then-is_some-clause-refused c =
+pub returns-in-None-2-clause-refused : goal.returns-in-None-2-clause-refused
+returns-in-None-2-clause-refused c =
     let cs = text_of c.args.source.now in
-    handle_again cs _ _ _ _ _ _ _ (seen_some bytes_of c.get.result _ c.get.ensures (sym c.is_some.ensures ∙ c.if-is_some.true)) c.lines.invariant.read c.in-Some.ensures.some.is
+    handle_again cs _ _ _ _ _ _ _ (when_none _ _ c.in-None-2.is c.in_ok-bind-in-Binding.ensures.bound) c.lines.invariant.read c.in-Some.ensures.some.is
     (only_of cs _ _ _ _ (ap directive_of c.in-Binding.is) c.in_ok-directive.ensures.only)
 
-pub bind-requires-clause-free : goal.bind-requires-clause-free
-bind-requires-clause-free c = seen_none bytes_of c.get.result _ c.get.ensures (sym c.is_some.ensures ∙ c.if-is_some.false)
-
-pub bind-requires-clause-whole : goal.bind-requires-clause-whole
-bind-requires-clause-whole c =
+pub bind-requires : goal.bind-requires
+bind-requires c =
     bound_whole (text_of c.args.source.now) _ _ _ _ (only_of (text_of c.args.source.now) _ _ _ _ (ap directive_of c.in-Binding.is) c.in_ok-directive.ensures.only)
 
 pub lines-preserved-else-has_version : goal.lines-preserved-else-has_version
@@ -68,8 +64,8 @@ lines-preserved-else-has_version c =
           (only_of cs _ _ _ _ (ap directive_of c.in-Version.is) e.only);
     }
 
-pub lines-preserved-in_ok-handles-in-Binding : goal.lines-preserved-in_ok-handles-in-Binding
-lines-preserved-in_ok-handles-in-Binding c =
+pub lines-preserved-in-Some-2 : goal.lines-preserved-in-Some-2
+lines-preserved-in-Some-2 c =
     let cs = text_of c.args.source.now in
     let e = c.in_ok-directive.ensures in
     let v = c.lines.invariant in
@@ -78,7 +74,7 @@ lines-preserved-in_ok-handles-in-Binding c =
       onward = omega (arith, v.onward, e.onward);
       start = e.after;
       stuck = only_stuck cs _ _ _ e.only;
-      read = more_binding cs _ _ _ _ _ _ _ _ (seen_none bytes_of c.get.result _ c.get.ensures (sym c.is_some.ensures ∙ c.if-is_some.false)) c.in_ok-handles-in-Binding.ensures.ok v.read c.in-Some.ensures.some.is
+      read = more_binding cs _ _ _ _ _ _ _ _ (when_some _ _ _ c.in-Some-2.is c.in_ok-bind-in-Binding.ensures.free) (when_some _ _ _ c.in-Some-2.is c.in_ok-bind-in-Binding.ensures.more) v.read c.in-Some.ensures.some.is
           (only_of cs _ _ _ _ (ap directive_of c.in-Binding.is) e.only);
     }
 

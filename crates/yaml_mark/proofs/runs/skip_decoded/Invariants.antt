@@ -2,7 +2,7 @@ use Rattle.std.proofs.Common.{◌-◌, ◌≤◌, length}
 use Rattle.yaml_text.specs.Source.{text_of, place_of, IsBorder}
 use Rattle.yaml_definitions.specs.grammar.Rules.{run}
 use Rattle.yaml_mark.specs.Classes.{class_of}
-use Rattle.yaml_mark.proofs.runs.skip_run.Given as goal
+use Rattle.yaml_mark.proofs.runs.skip_decoded.Given as goal
 
 abbrev pub invariant-run : goal.invariant-run
 invariant-run l = record {
