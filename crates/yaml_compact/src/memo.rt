@@ -21,7 +21,7 @@ const GROWTH: usize = 16;
 const FRONT: usize = 128;
 
 /// How many bytes of a tag's front count for its hash, and how many of its end.
-const ENDS: usize = 64;
+const ENDS: usize = 32;
 
 /// For each place the last number whose hash has it, and above it the lower half of that hash, so that mostly
 /// nothing is looked at in vain.

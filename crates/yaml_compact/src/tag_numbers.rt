@@ -15,6 +15,9 @@ const TAKEN: usize = 4;
 /// How many buckets there are at first.
 const BUCKETS: usize = 16;
 
+/// By how much the buckets grow.
+const GROWTH: usize = 4;
+
 /// What stands for a number in a free place.
 const NONE: u32 = u32::MAX;
 
@@ -102,10 +105,10 @@ impl TagNumbers {
         }
     }
 
-    /// Twice as many buckets. A tag whose bucket is full then is lost, and gets another number if it is met
+    /// Four times as many buckets. A tag whose bucket is full then is lost, and gets another number if it is met
     /// again.
     fn grow(&mut self, alloc: Global) -> Result<(), GivesUp> {
-        let buckets = free(alloc, self.buckets.len().saturating_mul(2))?;
+        let buckets = free(alloc, self.buckets.len().saturating_mul(GROWTH))?;
         for bucket in mem::replace(&mut self.buckets, buckets) {
             for (half, number) in bucket {
                 if number != NONE {

@@ -57,7 +57,7 @@ pub(crate) fn keep<'s>(
 }
 
 /// A text becomes the same as another: the part at this place of the text that is lent, if it stands there, else a copy, in the
-/// room that it has.
+/// room that it has. One that was made stands nowhere in it.
 fn write_over<'s>(
     alloc: Global,
     lent: &'s str,
@@ -67,9 +67,11 @@ fn write_over<'s>(
 ) -> Result<(), GivesUp>
     ensures { IfOk result (λ _. cow_str_bytes copy.new ≡ cow_str_bytes text.now) }
 {
-    if let Some(part) = part_at(lent, at, text.as_str()) {
-        *copy = CowStr::Borrowed(part);
-        return Ok(());
+    if let CowStr::Borrowed(part) = text {
+        if let Some(part) = part_at(lent, at, part) {
+            *copy = CowStr::Borrowed(part);
+            return Ok(());
+        }
     }
     fill(alloc, copy, text.as_str())
 }
