@@ -360,7 +360,9 @@ impl<'s> Store<'s> {
         let hash = hash_text(tag, content.as_str().as_bytes());
         let seen = self.memo.seen(hash);
         let id = self.add_scalar(seen, tag, content, offset)?;
-        self.memo.keep(hash, id);
+        if id != seen {
+            self.memo.keep(hash, id);
+        }
         Ok(id)
     }
 
@@ -395,7 +397,9 @@ impl<'s> Store<'s> {
         let hash = hash_parts(collection.kind(), tag, parts);
         let seen = self.memo.seen(hash);
         let id = self.add_collection(seen, collection, tag, parts)?;
-        self.memo.keep(hash, id);
+        if id != seen {
+            self.memo.keep(hash, id);
+        }
         Ok(id)
     }
 }

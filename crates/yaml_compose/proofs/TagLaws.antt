@@ -1,10 +1,13 @@
 -- Tags by number, and the tags and contents of nodes that carry no tag.
 use Rattle.std.proofs.Common.{◌≡◌, ℕ, List, true, refl, sym, ◌∙◌, ap, subst}
-use Rattle.std.specs.Prelude.{Option, Some, None, is_some}
+use Rattle.std.specs.Prelude.{Option, Some, None, Ok, is_some}
 use Rattle.std.specs.List.{slice_get}
 use Rattle.yaml_definitions.specs.model.Tag.{null_tag, bool_tag, int_tag, float_tag, str_tag, seq_tag, map_tag, default_tag}
 use Rattle.yaml_definitions.specs.model.Event.{untagged, plain}
-use Rattle.yaml_definitions.specs.model.Core.{Value, Resolved, null_of, float_of, by_pattern, by_table, resolve}
+use Rattle.yaml_definitions.specs.model.Core.{Value, Resolved, null_of, float_of, by_pattern, by_table, resolve, collection_tag}
+use Rattle.yaml_text.specs.EventModel.{written_of}
+use Rattle.yaml_text.specs.declared.event.EventTag.{EventTag}
+use Rattle.yaml_text.specs.declared.event.EventTag.TheVariants as tags
 use Rattle.yaml_nodes.proofs.GraphLaws.{get-more}
 use Rattle.yaml_content.specs.Form.{form_kind, form_of}
 use Rattle.yaml_content.specs.Kind.{kind_tag, of_kind}
@@ -47,6 +50,13 @@ module _ (tags : List (List ℕ)) (c : CoreTags) (nulls : slice_get tags c.nulls
 
   pub are-core : AreCore tags c
   are-core = record { scalars = of-scalars; collections = of-collections }
+
+-- what is not written out is the tag of the kind
+pub default-is : (k : ℕ) (t : EventTag) → ((x : _) → t ≡ tags.Full x → ⊥) → collection_tag k (written_of t) ≡ Ok (default_tag k)
+unfolding collection_tag
+default-is k tags.None f = refl
+default-is k tags.NonSpecific f = refl
+default-is k (tags.Full x) f = absurd (f x refl)
 
 -- ---- untagged plain scalars
 

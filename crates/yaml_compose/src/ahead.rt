@@ -207,7 +207,7 @@ impl<'s> Ahead<'s> {
     }
 
     /// A mapping without properties begins before the collection that ended last, whose first event stands at this mark.
-    pub(crate) fn precede(&mut self, alloc: Global, start: usize, flow: bool) -> Result<(), GivesUp>
+    pub(crate) fn precede(&mut self, start: usize, flow: bool) -> Result<(), GivesUp>
         ensures { IfOk result (λ _. Alters Tells start (λ es. mapping_start flow None untagged ∷ es) self.old self.new) }
     {
         let Some(begun) = mem::replace(&mut self.ended, None) else {
@@ -219,7 +219,7 @@ impl<'s> Ahead<'s> {
         if begun.owes() {
             return Err(GivesUp);
         }
-        self.judged.precede(alloc, start)?;
+        self.judged.precede(start)?;
         let due = due_before_key(flow);
         self.opens.push(Begun { at: start, due })?;
         Ok(())

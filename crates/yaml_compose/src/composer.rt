@@ -1,9 +1,11 @@
 //! From nodes, as they begin and end, to nodes of a store. Where a node has no tree it says why. It may give up.
-ghost use Rattle.std.specs.Prelude.{◌≡◌, ℕ, Bool, List, ◌∷◌, ◌++◌, length, drop, None, IfOk, IfErr, MatchResult};
+ghost use Rattle.std.specs.Prelude.{◌≡◌, ℕ, Bool, List, ◌∷◌, ◌++◌, length, drop, None, Ok, IfOk, IfErr, MatchResult};
 ghost use Rattle.std.specs.Cow.{cow_str_bytes};
 ghost use Rattle.yaml_definitions.specs.model.Tree.{Tree, scalar};
-ghost use Rattle.yaml_definitions.specs.model.Event.{Anchor, Event, untagged, plain, document_start, mapping_start, scalar_event, alias_event};
+ghost use Rattle.yaml_definitions.specs.model.Event.{Anchor, Event, WrittenTag, untagged, plain, document_start, mapping_start, scalar_event, alias_event};
 ghost use Rattle.yaml_definitions.specs.model.Serial.{Document, stream_events};
+ghost use Rattle.yaml_definitions.specs.model.Tag.{default_tag};
+ghost use Rattle.yaml_definitions.specs.model.Core.{collection_tag};
 ghost use Rattle.yaml_text.specs.EventModel.{style_of};
 ghost use Rattle.yaml_content.specs.Kind.{kind_tag};
 ghost use Rattle.yaml_sink.specs.PropertyRules.{props_of, props_in};
@@ -14,6 +16,7 @@ ghost use Rattle.yaml_compact.specs.declared.store.Store.{Store};
 ghost use Rattle.yaml_compose.specs.Reached.{Reaches, UnfoldTo};
 ghost use Rattle.yaml_compose.specs.Nodes.{AreNodes};
 ghost use Rattle.yaml_compose.specs.FirstsModel.{Comes};
+ghost use Rattle.yaml_compose.specs.TagModel.{collection_number};
 ghost use Rattle.yaml_compose.specs.ComposerModel.{with_store, Holds, Stepped, IsForest, AreForests, start_of, end_of};
 ghost use Rattle.yaml_compose.specs.ComposerLog.{Follows};
 ghost use Rattle.yaml_compose.specs.Refusals.{Stops, RefusesForest};
@@ -22,7 +25,7 @@ use crate::anchors::Anchors;
 use crate::core_tags::CoreTags;
 use crate::firsts::Firsts;
 use crate::stop::{Cause, Stop};
-use crate::tag::{default_tag, tag_of};
+use crate::tag::tag_of;
 use crate::too_high::first_too_high;
 use crate::unmade::Unmade;
 use std::alloc::Global;
@@ -35,7 +38,7 @@ use yaml_content::form::judge;
 use yaml_core::PlainKind;
 use yaml_core::scalar::resolve;
 use yaml_sink::properties::{Given, Properties};
-use yaml_text::event::Style;
+use yaml_text::event::{EventTag, Style};
 use yaml_text::fault::Fault;
 
 /// A collection that is open.
@@ -189,8 +192,8 @@ impl<'s> Composer<'s> {
         Ok(())
     }
 
-    /// A scalar with this anchor and tag.
-    fn put_scalar(
+    /// A scalar with this anchor and this tag, which is written out.
+    fn put_tagged(
         &mut self,
         alloc: Global,
         given: &Given<'_>,
@@ -212,59 +215,95 @@ impl<'s> Composer<'s> {
         Ok(())
     }
 
-    /// A scalar of this kind and content without an anchor.
+    /// A scalar of this kind and content, whose place among the anchored ones is this, if it has an anchor.
     #[inline(always)]
     fn put_kind(
         &mut self,
+        place: Option<usize>,
         kind: PlainKind,
         content: &mut CowStr<'_>,
         offset: usize,
     ) -> Result<(), GivesUp>
-        ensures { (s : State) → Holds self.old s → IfOk result (λ _. Holds self.new (whole None (length s.table) (scalar (kind_tag kind) (cow_str_bytes content.old)) s)) }
+        ensures { (a : Anchor) (slot : ℕ) (s : State) → Placed (names_of s.table) place a slot → Holds self.old s → IfOk result (λ _. Holds self.new (whole a slot (scalar (kind_tag kind) (cow_str_bytes content.old)) s)) }
     {
         let tag = self.core.scalar(kind);
         let id = self.store.scalar_of(tag, content, offset)?;
-        self.put(None, id)?;
+        self.put(place, id)?;
         Ok(())
     }
 
-    /// A plain scalar without properties.
+    /// A plain scalar without a tag.
     #[inline(always)]
-    fn put_plain(&mut self, alloc: Global, text: &mut CowStr<'_>, offset: usize) -> Result<(), Stop>
-        ensures { (s : State) → Holds self.old s → MatchResult result (λ _. Stepped (scalar_event None untagged plain (cow_str_bytes text.old)) s self.new) (Stops (scalar_event None untagged plain (cow_str_bytes text.old)) s) }
+    fn put_plain(
+        &mut self,
+        alloc: Global,
+        place: Option<usize>,
+        text: &mut CowStr<'_>,
+        offset: usize,
+    ) -> Result<(), Stop>
+        ensures { (a : Anchor) (s : State) → Placed (names_of (node_begun a s).table) place a (length s.table) → Holds self.old (node_begun a s) →
+            let event = scalar_event a untagged plain (cow_str_bytes text.old) in
+            MatchResult result (λ _. Stepped event s self.new) (Stops event s) }
     {
         let form = judge(text.as_str());
         let kind = form.kind();
         if let PlainKind::Str = kind {
-            self.put_kind(kind, text, offset)?;
+            self.put_kind(place, kind, text, offset)?;
             return Ok(());
         }
         let mut content = content(alloc, kind, form, text.as_str())?;
-        self.put_kind(kind, &mut content, offset)?;
+        self.put_kind(place, kind, &mut content, offset)?;
         Ok(())
     }
 
-    /// A scalar without properties.
+    /// A scalar without a tag, whose place among the anchored ones is this, if it has an anchor.
     #[inline(always)]
     fn put_bare(
         &mut self,
         alloc: Global,
+        place: Option<usize>,
         style: Style,
         text: &mut CowStr<'_>,
         offset: usize,
     ) -> Result<(), Stop>
-        ensures { (s : State) → Holds self.old s → MatchResult result (λ _. Stepped (scalar_event None untagged (style_of style) (cow_str_bytes text.old)) s self.new) (Stops (scalar_event None untagged (style_of style) (cow_str_bytes text.old)) s) }
+        ensures { (a : Anchor) (s : State) → Placed (names_of (node_begun a s).table) place a (length s.table) → Holds self.old (node_begun a s) →
+            let event = scalar_event a untagged (style_of style) (cow_str_bytes text.old) in
+            MatchResult result (λ _. Stepped event s self.new) (Stops event s) }
     {
         match style {
             Style::Plain => {
-                self.put_plain(alloc, text, offset)?;
+                self.put_plain(alloc, place, text, offset)?;
                 Ok(())
             }
             Style::Single | Style::Double | Style::Literal | Style::Folded => {
-                self.put_kind(PlainKind::Str, text, offset)?;
+                self.put_kind(place, PlainKind::Str, text, offset)?;
                 Ok(())
             }
         }
+    }
+
+    /// A scalar with this anchor and tag.
+    fn put_scalar(
+        &mut self,
+        alloc: Global,
+        given: &Given<'_>,
+        style: Style,
+        text: &mut CowStr<'_>,
+        offset: usize,
+    ) -> Result<(), Stop>
+        ensures { (s : State) → Holds self.old s →
+            let event = scalar_event (props_in given.now).anchor (props_in given.now).tag (style_of style) (cow_str_bytes text.old) in
+            MatchResult result (λ _. Stepped event s self.new) (Stops event s) }
+    {
+        if let EventTag::Full(_) = &given.tag {
+            return self.put_tagged(alloc, given, style, text, offset);
+        }
+        let place = self.begin_node(given)?;
+        if let EventTag::NonSpecific = &given.tag {
+            self.put_kind(place, PlainKind::Str, text, offset)?;
+            return Ok(());
+        }
+        self.put_bare(alloc, place, style, text, offset)
     }
 
     /// A scalar with these properties.
@@ -282,7 +321,7 @@ impl<'s> Composer<'s> {
             MatchResult result (λ _. Stepped event s self.new) (Stops event s) }
     {
         match &properties.given {
-            None => self.put_bare(alloc, style, text, offset),
+            None => self.put_bare(alloc, None, style, text, offset),
             Some(given) => self.put_scalar(alloc, given, style, text, offset),
         }
     }
@@ -305,8 +344,8 @@ impl<'s> Composer<'s> {
         Ok(())
     }
 
-    /// A collection with this anchor and tag begins.
-    fn begin_collection(
+    /// A collection with this anchor and this tag, which is written out, begins.
+    fn begin_tagged(
         &mut self,
         alloc: Global,
         collection: Collection,
@@ -329,18 +368,37 @@ impl<'s> Composer<'s> {
         Ok(())
     }
 
-    /// A collection without properties begins.
-    fn begin_bare(&mut self, collection: Collection) -> Result<(), GivesUp>
-        ensures { (s : State) → Holds self.old s → (flow : Bool) → IfOk result (λ _. Stepped (start_of collection flow None untagged) s self.new) }
+    /// A collection with the tag of its kind begins, whose place among the anchored ones is this, if it has an anchor.
+    fn begin_bare(&mut self, place: Option<usize>, collection: Collection) -> Result<(), GivesUp>
+        ensures { (a : Anchor) (g : WrittenTag) (s : State) → collection_tag (collection_number collection) g ≡ Ok (default_tag (collection_number collection)) → Placed (names_of (node_begun a s).table) place a (length s.table) → Holds self.old (node_begun a s) → (flow : Bool) → IfOk result (λ _. Stepped (start_of collection flow a g) s self.new) }
     {
         let tag = self.core.collection(collection);
         let mark = self.stack.len();
         self.opens.push(Open {
-            place: None,
+            place,
             collection,
             tag,
             mark,
         })?;
+        Ok(())
+    }
+
+    /// A collection with this anchor and tag begins.
+    fn begin_collection(
+        &mut self,
+        alloc: Global,
+        collection: Collection,
+        given: &Given<'_>,
+    ) -> Result<(), Stop>
+        ensures { (s : State) → Holds self.old s → (flow : Bool) →
+            let event = start_of collection flow (props_in given.now).anchor (props_in given.now).tag in
+            MatchResult result (λ _. Stepped event s self.new) (Stops event s) }
+    {
+        if let EventTag::Full(_) = &given.tag {
+            return self.begin_tagged(alloc, collection, given);
+        }
+        let place = self.begin_node(given)?;
+        self.begin_bare(place, collection)?;
         Ok(())
     }
 
@@ -357,7 +415,7 @@ impl<'s> Composer<'s> {
     {
         match &properties.given {
             None => {
-                self.begin_bare(collection)?;
+                self.begin_bare(None, collection)?;
                 Ok(())
             }
             Some(given) => self.begin_collection(alloc, collection, given),
@@ -365,18 +423,17 @@ impl<'s> Composer<'s> {
     }
 
     /// A mapping without properties begins before the node that became whole last.
-    pub(crate) fn precede(&mut self, alloc: Global) -> Result<(), GivesUp>
+    pub(crate) fn precede(&mut self) -> Result<(), GivesUp>
         ensures { (front es : List Event) → AreNodes 1 es → Follows self.old (front ++ es) → IfOk result (λ _. (flow : Bool) → Follows self.new (front ++ (mapping_start flow None untagged ∷ es))) }
     {
-        let text = default_tag(Collection::Mapping);
-        let number = self.store.tag(alloc, text)?;
+        let tag = self.core.collection(Collection::Mapping);
         let Some(mark) = self.stack.len().checked_sub(1) else {
             return Err(GivesUp);
         };
         self.opens.push(Open {
             place: None,
             collection: Collection::Mapping,
-            tag: number,
+            tag,
             mark,
         })?;
         Ok(())

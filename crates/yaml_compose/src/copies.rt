@@ -57,7 +57,7 @@ pub(crate) fn keep<'s>(
 }
 
 /// A text becomes the same as another: the part at this place of the text that is lent, if it stands there, else a copy, in the
-/// room that it has. One that was made stands nowhere in it.
+/// room that it has. One that was made is not looked for there, since it is seldom found.
 fn write_over<'s>(
     alloc: Global,
     lent: &'s str,

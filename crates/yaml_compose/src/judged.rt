@@ -120,11 +120,11 @@ impl<'s> Judged<'s> {
 
     /// A mapping without properties begins before the node that became whole last, whose first event has this number. It gives up
     /// where the event that is refused would get another number.
-    pub(crate) fn precede(&mut self, alloc: Global, start: usize) -> Result<(), GivesUp>
+    pub(crate) fn precede(&mut self, start: usize) -> Result<(), GivesUp>
         ensures { (front es : List Event) → start ≡ length front → AreNodes 1 es → Judges self.old (front ++ es) → IfOk result (λ _. (flow : Bool) → Judges self.new (front ++ (mapping_start flow None untagged ∷ es))) }
     {
         let Some(refusal) = self.refusal else {
-            self.composer.precede(alloc)?;
+            self.composer.precede()?;
             return Ok(());
         };
         if refusal.at >= start {

@@ -196,7 +196,7 @@ impl<'s> Composing<'s> {
             return Err(GivesUp);
         };
         if self.waiting.is_none() {
-            self.ahead.precede(self.alloc, start, flow)?;
+            self.ahead.precede(start, flow)?;
             self.count = count;
             return Ok(());
         }

@@ -1,6 +1,6 @@
-use Rattle.std.proofs.Common.{◌≡◌, length, ap, sym, ◌∙◌, subst}
+use Rattle.std.proofs.Common.{◌≡◌, ap, sym, ◌∙◌, subst}
 use Rattle.std.specs.Cow.{cow_str_bytes}
-use Rattle.std.specs.Prelude.{Some, None}
+use Rattle.std.specs.Prelude.{Some}
 use Rattle.std.specs.List.{slice_get}
 use Rattle.yaml_definitions.specs.model.Tree.{scalar}
 use Rattle.yaml_content.specs.Kind.{kind_tag}
@@ -10,7 +10,7 @@ use Rattle.yaml_compose.proofs.FirstsLaws.{comes}
 use Rattle.yaml_compose.proofs.composer.Composer.put_kind.Goals as goal
 
 pub returns : goal.returns
-returns c = λ s h.
+returns c = λ a slot s w h.
     let self = c.args.self.now in
     let new = c.scalar_of.new.self in
     let g = kind_tag c.args.kind in
@@ -20,4 +20,4 @@ returns c = λ s h.
     let d = tag-is (tags_of self.store) tag g at in
     let kept = c.in_ok-id.ensures.kept h.good.store d.within in
     let there : Stands new c.in_ok-id.id (scalar g x) = c.in_ok-id.ensures.stands h.good.store d.within ∙ ap (λ z. Some (scalar z x)) d.is in
-    c.in_ok-put.ensures s self.store h kept None (length s.table) (scalar g x) tt there (comes self.store new c.in_ok-id.id (scalar g x) kept c.in_ok-id.ensures.one there)
+    c.in_ok-put.ensures s self.store h kept a slot (scalar g x) w there (comes self.store new c.in_ok-id.id (scalar g x) kept c.in_ok-id.ensures.one there)
