@@ -1,19 +1,22 @@
 -- Tags by number, and the tags and contents of nodes that carry no tag.
-use Rattle.std.proofs.Common.{◌≡◌, ℕ, List, true, refl, sym, ◌∙◌, ap, subst}
-use Rattle.std.specs.Prelude.{Option, Some, None, Ok, is_some}
+use Rattle.std.proofs.Common.{◌≡◌, ℕ, List, true, ◌||◌, refl, sym, ◌∙◌, ap, subst}
+use Rattle.std.specs.Prelude.{Option, Some, None, Ok, bytes_eq, is_some}
+use Rattle.std.proofs.lemmas.Bool.{cond_both}
 use Rattle.std.specs.List.{slice_get}
 use Rattle.yaml_definitions.specs.model.Tag.{null_tag, bool_tag, int_tag, float_tag, str_tag, seq_tag, map_tag, default_tag}
 use Rattle.yaml_definitions.specs.model.Event.{untagged, plain}
-use Rattle.yaml_definitions.specs.model.Core.{Value, Resolved, null_of, float_of, by_pattern, by_table, resolve, collection_tag}
+use Rattle.yaml_definitions.specs.model.Core.{Value, Resolved, null_of, float_of, by_pattern, by_table, by_tag, resolve, collection_tag}
 use Rattle.yaml_text.specs.EventModel.{written_of}
 use Rattle.yaml_text.specs.declared.event.EventTag.{EventTag}
 use Rattle.yaml_text.specs.declared.event.EventTag.TheVariants as tags
 use Rattle.yaml_nodes.proofs.GraphLaws.{get-more}
 use Rattle.yaml_content.specs.Form.{form_kind, form_of}
-use Rattle.yaml_content.specs.Kind.{kind_tag, of_kind}
+use Rattle.yaml_content.specs.Kind.{kind_tag, of_kind, use_of}
 use Rattle.yaml_content.specs.Values.{HasValues}
 use Rattle.yaml_content.specs.declared.kind.PlainKind.{PlainKind}
 use Rattle.yaml_content.specs.declared.kind.PlainKind.TheVariants as plains
+use Rattle.yaml_content.specs.declared.tag.TagUse.{TagUse}
+use Rattle.yaml_content.specs.declared.tag.TagUse.TheVariants as uses
 use Rattle.yaml_content.specs.declared.form.Form.{Form}
 use Rattle.yaml_content.specs.declared.form.Form.TheVariants as forms
 use Rattle.yaml_content.proofs.FormLemmas.{values}
@@ -57,6 +60,17 @@ unfolding collection_tag
 default-is k tags.None f = refl
 default-is k tags.NonSpecific f = refl
 default-is k (tags.Full x) f = absurd (f x refl)
+
+-- under a tag that is none of the core schema each text stands for itself
+pub kept-is : (g x : List ℕ) → use_of g ≡ uses.Kept → by_tag g x ≡ Ok (g, x)
+unfolding by_tag
+kept-is g x =
+    let P : TagUse → Type 0 = λ u. u ≡ uses.Kept → by_tag g x ≡ Ok (g, x) in
+    cond_both (bytes_eq g null_tag) _ _ P (λ b e. absurd (cc)) (λ n0.
+    cond_both (bytes_eq g bool_tag) _ _ P (λ b e. absurd (cc)) (λ n1.
+    cond_both (bytes_eq g int_tag) _ _ P (λ b e. absurd (cc)) (λ n2.
+    cond_both (bytes_eq g float_tag) _ _ P (λ b e. absurd (cc)) (λ n3.
+    cond_both (bytes_eq g seq_tag || bytes_eq g map_tag) _ _ P (λ b e. absurd (cc)) (λ n4 e. rw (n0, n1, n2, n3, n4) refl)))))
 
 -- ---- untagged plain scalars
 

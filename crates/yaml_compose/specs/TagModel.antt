@@ -1,7 +1,9 @@
 -- Kinds of collections, and tags by number.
-use Rattle.std.specs.Prelude.{◌≡◌, ℕ, List, Some}
+use Rattle.std.specs.Prelude.{◌≡◌, ℕ, List, Some, Ok}
 use Rattle.std.specs.List.{slice_get}
 use Rattle.yaml_definitions.specs.model.Tag.{default_tag}
+use Rattle.yaml_definitions.specs.model.Event.{WrittenTag, full, Style}
+use Rattle.yaml_definitions.specs.model.Core.{resolve}
 use Rattle.yaml_content.specs.Kind.{kind_tag}
 use Rattle.yaml_content.specs.declared.kind.PlainKind.{PlainKind}
 use Rattle.yaml_content.specs.declared.kind.PlainKind.TheVariants as plain
@@ -10,6 +12,11 @@ use Rattle.yaml_compact.specs.declared.nodes.Collection.TheVariants as kinds
 use Rattle.yaml_sink.specs.declared.sink.Collection as sink
 use Rattle.yaml_sink.specs.declared.sink.Collection.TheVariants as read
 use Rattle.yaml_compose.specs.declared.core_tags.CoreTags.{CoreTags}
+
+-- a tag that is written out, under which each text stands for itself
+abbrev pub KeepsTexts : WrittenTag → Type 0
+KeepsTexts (full g) = (y : Style) (x : List ℕ) → resolve (full g) y x ≡ Ok (g, x)
+KeepsTexts _ = ⊥
 
 -- the place of the kind
 abbrev pub collection_number : Collection → ℕ

@@ -2,7 +2,7 @@
 ghost use Rattle.std.specs.Prelude.{◌≡◌, ℕ, Bool, List, ◌∷◌, ◌++◌, length, drop, None, Ok, IfOk, IfErr, MatchResult};
 ghost use Rattle.std.specs.Cow.{cow_str_bytes};
 ghost use Rattle.yaml_definitions.specs.model.Tree.{Tree, scalar};
-ghost use Rattle.yaml_definitions.specs.model.Event.{Anchor, Event, WrittenTag, untagged, plain, document_start, mapping_start, scalar_event, alias_event};
+ghost use Rattle.yaml_definitions.specs.model.Event.{Anchor, Event, WrittenTag, Style as PlainStyle, untagged, plain, document_start, mapping_start, scalar_event, alias_event};
 ghost use Rattle.yaml_definitions.specs.model.Serial.{Document, stream_events};
 ghost use Rattle.yaml_definitions.specs.model.Tag.{default_tag};
 ghost use Rattle.yaml_definitions.specs.model.Core.{collection_tag};
@@ -16,7 +16,7 @@ ghost use Rattle.yaml_compact.specs.declared.store.Store.{Store};
 ghost use Rattle.yaml_compose.specs.Reached.{Reaches, UnfoldTo};
 ghost use Rattle.yaml_compose.specs.Nodes.{AreNodes};
 ghost use Rattle.yaml_compose.specs.FirstsModel.{Comes};
-ghost use Rattle.yaml_compose.specs.TagModel.{collection_number};
+ghost use Rattle.yaml_compose.specs.TagModel.{collection_number, KeepsTexts};
 ghost use Rattle.yaml_compose.specs.ComposerModel.{with_store, Holds, Stepped, IsForest, AreForests, start_of, end_of};
 ghost use Rattle.yaml_compose.specs.ComposerLog.{Follows};
 ghost use Rattle.yaml_compose.specs.Refusals.{Stops, RefusesForest};
@@ -25,7 +25,7 @@ use crate::anchors::Anchors;
 use crate::core_tags::CoreTags;
 use crate::firsts::Firsts;
 use crate::stop::{Cause, Stop};
-use crate::tag::tag_of;
+use crate::tag::{keeps_texts, tag_of};
 use crate::too_high::first_too_high;
 use crate::unmade::Unmade;
 use std::alloc::Global;
@@ -192,25 +192,48 @@ impl<'s> Composer<'s> {
         Ok(())
     }
 
+    /// A scalar with this anchor and a tag under which each text stands for itself.
+    fn put_kept(
+        &mut self,
+        alloc: Global,
+        given: &mut Given<'_>,
+        text: &mut CowStr<'_>,
+        offset: usize,
+    ) -> Result<(), GivesUp>
+        ensures { (y : PlainStyle) (s : State) → Holds self.old s → KeepsTexts (props_in given.old).tag →
+            IfOk result (λ _. Stepped (scalar_event (props_in given.old).anchor (props_in given.old).tag y (cow_str_bytes text.old)) s self.new) }
+    {
+        let place = self.begin_node(given)?;
+        let EventTag::Full(tag) = &mut given.tag else {
+            return Err(GivesUp);
+        };
+        let id = self.store.scalar(alloc, tag, text, offset)?;
+        self.put(place, id)?;
+        Ok(())
+    }
+
     /// A scalar with this anchor and this tag, which is written out.
     fn put_tagged(
         &mut self,
         alloc: Global,
-        given: &Given<'_>,
+        given: &mut Given<'_>,
         style: Style,
         text: &mut CowStr<'_>,
         offset: usize,
     ) -> Result<(), Stop>
         ensures { (s : State) → Holds self.old s →
-            let event = scalar_event (props_in given.now).anchor (props_in given.now).tag (style_of style) (cow_str_bytes text.old) in
+            let event = scalar_event (props_in given.old).anchor (props_in given.old).tag (style_of style) (cow_str_bytes text.old) in
             MatchResult result (λ _. Stepped event s self.new) (Stops event s) }
     {
+        if keeps_texts(&given.tag) {
+            self.put_kept(alloc, given, text, offset)?;
+            return Ok(());
+        }
         let scalar = resolve(alloc, &given.tag, style, text.as_str())?;
         let place = self.begin_node(given)?;
+        let mut tag = CowStr::Borrowed(scalar.tag.as_str());
         let mut content = CowStr::Borrowed(scalar.content.as_str());
-        let id = self
-            .store
-            .scalar(alloc, scalar.tag.as_str(), &mut content, offset)?;
+        let id = self.store.scalar(alloc, &mut tag, &mut content, offset)?;
         self.put(place, id)?;
         Ok(())
     }
@@ -286,13 +309,13 @@ impl<'s> Composer<'s> {
     fn put_scalar(
         &mut self,
         alloc: Global,
-        given: &Given<'_>,
+        given: &mut Given<'_>,
         style: Style,
         text: &mut CowStr<'_>,
         offset: usize,
     ) -> Result<(), Stop>
         ensures { (s : State) → Holds self.old s →
-            let event = scalar_event (props_in given.now).anchor (props_in given.now).tag (style_of style) (cow_str_bytes text.old) in
+            let event = scalar_event (props_in given.old).anchor (props_in given.old).tag (style_of style) (cow_str_bytes text.old) in
             MatchResult result (λ _. Stepped event s self.new) (Stops event s) }
     {
         if let EventTag::Full(_) = &given.tag {
@@ -306,21 +329,21 @@ impl<'s> Composer<'s> {
         self.put_bare(alloc, place, style, text, offset)
     }
 
-    /// A scalar with these properties.
+    /// A scalar with these properties, of which a tag may be taken.
     #[inline(always)]
     pub(crate) fn scalar(
         &mut self,
         alloc: Global,
-        properties: &Properties<'_>,
+        properties: &mut Properties<'_>,
         style: Style,
         text: &mut CowStr<'_>,
         offset: usize,
     ) -> Result<(), Stop>
         ensures { (s : State) → Holds self.old s →
-            let event = scalar_event (props_of properties.now).anchor (props_of properties.now).tag (style_of style) (cow_str_bytes text.old) in
+            let event = scalar_event (props_of properties.old).anchor (props_of properties.old).tag (style_of style) (cow_str_bytes text.old) in
             MatchResult result (λ _. Stepped event s self.new) (Stops event s) }
     {
-        match &properties.given {
+        match &mut properties.given {
             None => self.put_bare(alloc, None, style, text, offset),
             Some(given) => self.put_scalar(alloc, given, style, text, offset),
         }

@@ -1,13 +1,15 @@
 //! Tags of collections.
 ghost use Rattle.std.specs.Prelude.{MatchResult, Ok, ◌≡◌};
+ghost use Rattle.std.specs.Bool.{OnTrue};
 ghost use Rattle.yaml_definitions.specs.model.Tag.{default_tag, is_core};
 ghost use Rattle.yaml_definitions.specs.model.Core.{collection_tag};
 ghost use Rattle.yaml_text.specs.EventModel.{written_of};
-ghost use Rattle.yaml_compose.specs.TagModel.{collection_number};
+ghost use Rattle.yaml_compose.specs.TagModel.{collection_number, KeepsTexts};
 ghost use Rattle.yaml_compose.specs.Refusals.{Blames};
 
 use crate::stop::{Cause, Stop};
 use yaml_compact::nodes::Collection;
+use yaml_content::tag::{TagUse, tag_use};
 use yaml_text::event::EventTag;
 
 /// Whether this is a tag of the core schema.
@@ -35,6 +37,16 @@ pub(crate) fn default_tag(collection: Collection) -> &'static str
     match collection {
         Collection::Sequence => "tag:yaml.org,2002:seq",
         Collection::Mapping => "tag:yaml.org,2002:map",
+    }
+}
+
+/// Whether this is a tag that is written out, and each text stands for itself under it.
+pub(crate) fn keeps_texts(tag: &EventTag<'_>) -> bool
+    ensures { OnTrue result (KeepsTexts (written_of tag.now)) }
+{
+    match tag {
+        EventTag::Full(full) => matches!(tag_use(full.as_str()), TagUse::Kept),
+        EventTag::None | EventTag::NonSpecific => false,
     }
 }
 
