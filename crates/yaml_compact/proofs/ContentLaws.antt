@@ -12,13 +12,13 @@ module _ (text : List ℕ) (a b : ℕ) (whole : IsUtf8 text) (part : IsUtf8 (sli
   long = length-take-le (b - a) (drop a text) (omega (arith, within, length-drop a text))
 
   -- it begins at a character
-  begins : IsCharBoundary text a
+  pub begins : IsCharBoundary text a
   begins =
       let e : get_or (slice_range text a b) 0 0 ≡ get_or text a 0 = get_or-take (b - a) (drop a text) 0 0 (omega (arith, some)) ∙ get_or-drop a text 0 0 ∙ ap (λ n. get_or text n 0) (let z : a + 0 ≡ a = omega arith in z) in
       (omega (arith, some, within), λ l h. let k = (IsCharBoundary-start (slice_range text a b) part).1 (omega (arith, long, some)) (omega (arith, e, h)) in omega (arith, e, k))
 
   -- and ends behind one
-  ends : IsCharBoundary text b
+  pub ends : IsCharBoundary text b
   ends =
       let r = IsCharBoundary-from_take (drop a text) (b - a) (IsUtf8-drop text a whole begins) (omega (arith, within, length-drop a text)) part in
       subst (IsCharBoundary text) (let z : a + (b - a) ≡ b = omega (arith, some) in z) (IsCharBoundary-from_rest text a (b - a) (omega (arith, some, within)) r)

@@ -19,6 +19,7 @@ pub mod StoreOf
 pub mod RanksOf
 pub mod RanksView
 mod TagOrder
+mod TagParts
 mod ContentLaws
 mod WalkedLaws
 mod Measuring

@@ -1,7 +1,6 @@
 -- Ranks as ranked nodes.
 use Rattle.std.proofs.Common.{◌≡◌, ℕ, zero, suc, ◌+◌, ◌<◌, Bool, true, false, not, cond, List, [], ◌∷◌, length, map, get_or, slice_index, refl, sym, ◌∙◌, ap, subst, arith}
 use Rattle.std.specs.Prelude.{Some}
-use Rattle.std.specs.String.{string_bytes}
 use Rattle.std.specs.List.{slice_get, slice_range, position_or_len, All}
 use Rattle.std.specs.Str.{IsUtf8}
 use Rattle.std.proofs.lemmas.List.{get_or-map, length-map}
@@ -29,7 +28,7 @@ use Rattle.yaml_compact.specs.declared.nodes.Place.TheVariants.{Scalar}
 use Rattle.yaml_compact.specs.declared.nodes.Span.{Span}
 use Rattle.yaml_compact.specs.TextModel.{text_of, border, IsWhole, PlaceWhole}
 use Rattle.yaml_compact.specs.StoreModel.{place_of, inside_of, tag_at, Within}
-use Rattle.yaml_compact.specs.StoreGrows.{Good, IsText, tags_of}
+use Rattle.yaml_compact.specs.StoreGrows.{Good, IsText}
 use Rattle.yaml_compact.specs.StoreView.{tree_of, tag_in, inside_at, view_of, short_at, StoreListed, StoreRanked}
 use Rattle.yaml_compact.specs.RanksView.{first_of, rank_tag, rank_inside, rank_tree}
 use Rattle.yaml_compact.specs.Walked.{count_from, rank_held, walked_trees, walked_tree, walked_rank, ranks_of, RanksTaken}
@@ -163,11 +162,10 @@ module _ (s : Store) (good : Good s) (c : Ranked) (are : StoreListed s good c) w
         let z : first_of c r ≡ i = cc in
         ap (slice_get c.nodes.items) z ∙ there
 
-    pub tag-within : n.tag < length c.tags.items
+    pub tag-within : n.tag < length c.tags
     tag-within =
         let t = (good.placed i n (subst (λ z. slice_get z i ≡ Some n) are.nodes there)).2 in
-        let k : length (tags_of s) ≡ length c.tags.items = ap length (sym are.tags) ∙ length-map c.tags.items string_bytes in
-        omega (arith, t, k)
+        omega (arith, t, ap length are.tags)
 
     pub place-within : Within (length (text_of c.text)) (length c.items.items) (length c.entries.items) (place_of n)
     place-within = are.ranked.placed i n there
@@ -180,8 +178,8 @@ module _ (s : Store) (good : Good s) (c : Ranked) (are : StoreListed s good c) w
     pub content-whole : (p : Span) → Scalar p ≡ place_of n → IsWhole (border c.text) p
     content-whole p b = subst (PlaceWhole (border c.text)) (sym b) (are.whole i n there)
 
-    pub tag-shown : (x : List ℕ) → x ≡ tag_at (map string_bytes c.tags.items) n.tag → x ≡ rank_tag c r
-    tag-shown x a = a ∙ sym (ap (tag_in (map string_bytes c.tags.items)) node-at)
+    pub tag-shown : (x : List ℕ) → x ≡ tag_at c.tags n.tag → x ≡ rank_tag c r
+    tag-shown x a = a ∙ sym (ap (tag_in c.tags) node-at)
 
     pub inside-shown : (p : Place) → p ≡ place_of n → inside_of (text_of c.text) c.items.items c.entries.items p ≡ rank_inside c r
     inside-shown p a = ap (inside_of (text_of c.text) c.items.items c.entries.items) a ∙ sym (ap (inside_at (text_of c.text) c.items.items c.entries.items) node-at)
@@ -212,12 +210,6 @@ ranks-taken c nodes all = record {
   within = λ s good are. taken-within s good c are.listed nodes all;
   trees = λ s good are. taken-trees s good c are.listed nodes all;
 }
-
--- a text by number
-pub tag-there : {X : Type 0} (f : X → List ℕ) (ts : List X) (k : ℕ) (t : X) → k < length ts → t ≡ get_or ts k t → f t ≡ tag_at (map f ts) k
-tag-there f [] k t l e = absurd (omega arith)
-tag-there f (x ∷ ts) zero t l e = ap f e
-tag-there f (x ∷ ts) (suc k) t l e = tag-there f ts k t (omega arith) e
 
 -- each rank is its own number
 pub same-numbers : (xs : List ℕ) → xs ≡ map (λ x. x) xs

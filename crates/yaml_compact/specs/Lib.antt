@@ -7,6 +7,7 @@ pub mod PartsModel
 pub mod LevelModel
 pub mod Ranking
 pub mod TagPlaces
+pub mod TagTexts
 pub mod TextModel
 pub mod StoreView
 pub mod Unranked

@@ -1,7 +1,6 @@
 -- Ranks as a view of nodes.
-use Rattle.std.specs.Prelude.{◌≡◌, ℕ, ◌<◌, List, length, map, slice_index}
+use Rattle.std.specs.Prelude.{◌≡◌, ℕ, ◌<◌, List, length, slice_index}
 use Rattle.std.specs.List.{slice_get}
-use Rattle.std.specs.String.{string_bytes}
 use Rattle.std.specs.declared.cmp.Ordering.TheVariants.{Less}
 use Rattle.yaml_definitions.specs.model.Tree.{Tree}
 use Rattle.yaml_definitions.specs.model.Order.{tree_cmp, arranged}
@@ -16,7 +15,7 @@ abbrev pub first_of : Ranked → ℕ → ℕ
 first_of c r = slice_index c.first.items r
 
 abbrev pub rank_tag : Ranked → ℕ → List ℕ
-rank_tag c r = tag_in (map string_bytes c.tags.items) (slice_get c.nodes.items (first_of c r))
+rank_tag c r = tag_in c.tags (slice_get c.nodes.items (first_of c r))
 
 -- what is inside a rank: its content, or its parts by rank
 abbrev pub rank_inside : Ranked → ℕ → Inside

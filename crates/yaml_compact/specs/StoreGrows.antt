@@ -1,8 +1,7 @@
 -- Stores that grow.
-use Rattle.std.specs.Prelude.{◌≡◌, ◌⊎◌, ℕ, suc, ◌<◌, ◌≤◌, List, ◌++◌, length, map, Some}
+use Rattle.std.specs.Prelude.{◌≡◌, ◌⊎◌, ℕ, suc, ◌<◌, ◌≤◌, List, ◌++◌, length, Some}
 use Rattle.std.specs.List.{slice_get, All}
 use Rattle.std.specs.Str.{IsUtf8}
-use Rattle.std.specs.String.{string_bytes}
 use Rattle.yaml_definitions.specs.model.Limits.{height_limit}
 use Rattle.yaml_definitions.specs.model.Tree.{Tree, height}
 use Rattle.yaml_levels.specs.View.{Inside, content, items, entries}
@@ -28,7 +27,7 @@ pub record Sound (tags : List (List ℕ)) (text is : List ℕ) (es : List (ℕ �
 
 -- the tags by number
 abbrev pub tags_of : Store → List (List ℕ)
-tags_of s = map string_bytes s.tags.items
+tags_of s = s.tags
 
 abbrev pub Good : Store → Type 0
 Good s = Sound (tags_of s) (text_of s.text) s.items.items s.entries.items s.nodes.items

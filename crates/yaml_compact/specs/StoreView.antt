@@ -2,7 +2,6 @@
 use Rattle.std.specs.Prelude.{◌≡◌, ℕ, ◌<◌, List, [], length, map, Option, Some, None}
 use Rattle.std.proofs.Common.{sym, subst}
 use Rattle.std.specs.List.{slice_get}
-use Rattle.std.specs.String.{string_bytes}
 use Rattle.yaml_definitions.specs.model.Tree.{Tree}
 use Rattle.yaml_definitions.specs.model.Order.{arranged}
 use Rattle.yaml_nodes.specs.GraphModel.{tree_at}
@@ -69,7 +68,7 @@ pub record StoreListed (s : Store) (good : Good s) (r : Ranked) : Type 0 where
   pub nodes : r.nodes.items ≡ s.nodes.items
   pub text : text_of r.text ≡ text_of s.text
   pub whole : AllWhole (border r.text) r.nodes.items
-  pub tags : map string_bytes r.tags.items ≡ tags_of s
+  pub tags : r.tags ≡ tags_of s
   pub ranked : AllRanked (view_of s good) r.nodes.items (text_of r.text) r.items.items r.entries.items r.ranks.items r.first.items
 
 -- these are the nodes of a store, ranked

@@ -71,7 +71,7 @@ impl Store<'_> {
         ensures { IfOk result (λ made. held_of made ≡ node_held (text_of self.now.text) self.now.items.items self.now.entries.items (tags_of self.now) node.now) }
     {
         let kind = self.graph_kind(alloc, node.place())?;
-        let tag = CowStr::Borrowed(self.tags[node.tag as usize].as_str());
+        let tag = CowStr::Borrowed(self.tags.get(node.tag));
         Ok(GraphNode { tag, kind })
     }
 

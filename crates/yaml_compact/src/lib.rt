@@ -19,6 +19,7 @@ mod shorts;
 mod slot;
 pub mod store;
 mod tag_numbers;
+mod tags;
 pub mod text;
 pub mod unranked;
 mod walked;

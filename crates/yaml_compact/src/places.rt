@@ -1,11 +1,11 @@
 //! The place of each tag in the order of tags.
-ghost use Rattle.std.specs.Prelude.{◌≡◌, ◌<◌, length, map, IfOk};
+ghost use Rattle.std.specs.Prelude.{◌≡◌, ◌<◌, length, IfOk};
 ghost use Rattle.std.specs.List.{All};
-ghost use Rattle.std.specs.String.{string_bytes};
 ghost use Rattle.yaml_levels.specs.TagModel.{TagsRise, IsTagAt, IsListed};
 ghost use Rattle.yaml_compact.specs.TagPlaces.{PlacesAre};
 
 use crate::gives_up::GivesUp;
+use crate::tags::Tags;
 use std::alloc::Global;
 use std::collections::BTreeSet;
 
@@ -13,13 +13,13 @@ use std::collections::BTreeSet;
 const MOST: usize = 1_073_741_824;
 
 /// The tags, each once, in rising order.
-fn in_order<'t>(alloc: Global, tags: &'t [String]) -> Result<Vec<&'t str>, GivesUp>
+fn in_order<'t>(alloc: Global, tags: &'t Tags) -> Result<Vec<&'t str>, GivesUp>
     ensures rise { IfOk result (λ ordered. TagsRise ordered.items) }
-    ensures whole { IfOk result (λ ordered. All (IsListed ordered.items) (map string_bytes tags.now)) }
+    ensures whole { IfOk result (λ ordered. All (IsListed ordered.items) tags.now) }
 {
     let mut found = BTreeSet::new(alloc);
-    for text in tags {
-        found.insert(text.as_str())?;
+    for number in 0..tags.len() {
+        found.insert(tags.at(number))?;
     }
     let mut ordered = Vec::new(alloc);
     for tag in found {
@@ -42,16 +42,16 @@ fn place(ordered: &[&str], tag: &str) -> usize
 }
 
 /// The place of each tag: equal for equal tags, and in the order of tags.
-pub(crate) fn places(alloc: Global, tags: &[String]) -> Result<Vec<u32>, GivesUp>
-    ensures ok { IfOk result (λ places. PlacesAre (map string_bytes tags.now) places.items) }
+pub(crate) fn places(alloc: Global, tags: &Tags) -> Result<Vec<u32>, GivesUp>
+    ensures ok { IfOk result (λ places. PlacesAre tags.now places.items) }
 {
     let ordered = in_order(alloc, tags)?;
     if ordered.len() >= MOST {
         return Err(GivesUp);
     }
     let mut places = Vec::with_capacity(alloc, tags.len())?;
-    for tag in tags {
-        places.push(place(&ordered, tag.as_str()) as u32)?;
+    for number in 0..tags.len() {
+        places.push(place(&ordered, tags.at(number)) as u32)?;
     }
     Ok(places)
 }

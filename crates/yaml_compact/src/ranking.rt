@@ -19,6 +19,7 @@ use crate::places::places;
 use crate::settle::settle;
 use crate::shorts::shorts;
 use crate::store::Store;
+use crate::tags::Tags;
 use crate::text::Text;
 use crate::unranked::Unranked;
 use std::alloc::Global;
@@ -27,7 +28,7 @@ use std::alloc::Global;
 /// of their keys.
 #[derive(Drop)]
 pub struct Ranked<'s> {
-    pub(crate) tags: Vec<String>,
+    pub(crate) tags: Tags,
     pub(crate) text: Text<'s>,
     pub(crate) items: Vec<u32>,
     pub(crate) entries: Vec<(u32, u32)>,

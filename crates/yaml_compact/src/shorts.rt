@@ -22,7 +22,7 @@ impl Ranked<'_> {
         ensures inside { inside_shown (λ r. r) result.inside ≡ rank_inside self.now rank }
     {
         let node = self.nodes[self.first[rank] as usize];
-        let tag = self.tags[node.tag as usize].as_str();
+        let tag = self.tags.get(node.tag);
         match node.place() {
             Place::Scalar(span) => Shown {
                 tag,

@@ -2,7 +2,6 @@
 ghost use Rattle.std.specs.Prelude.{◌≡◌, ◌<◌, suc, min, [], ◌∷◌, ◌++◌, true, false, List, length, Some, IfOk, IsTrue};
 ghost use Rattle.std.specs.Bool.{OnTrue};
 ghost use Rattle.std.specs.Cow.{cow_str_bytes};
-ghost use Rattle.std.specs.String.{string_bytes};
 ghost use Rattle.std.specs.List.{slice_get, slice_range, All};
 ghost use Rattle.yaml_definitions.specs.model.Tree.{Tree, scalar, heights};
 ghost use Rattle.yaml_definitions.specs.model.Limits as limit;
@@ -16,10 +15,10 @@ use crate::gives_up::GivesUp;
 use crate::memo::{Memo, hash_parts, hash_tag, hash_text};
 use crate::nodes::{Collection, Kind, Node, Span};
 use crate::tag_numbers::{Found, TagNumbers};
+use crate::tags::Tags;
 use crate::text::{ROOM, Text, is_within, place};
 use std::alloc::Global;
 use std::borrow::CowStr;
-use std::mem;
 use yaml_text::limits::height_limit;
 
 /// The nodes, each after its parts: their tags, mostly each once; all contents one after the other, of which long ones may be parts of
@@ -28,7 +27,7 @@ use yaml_text::limits::height_limit;
 pub struct Store<'s> {
     pub(crate) memo: Memo,
     pub(crate) numbers: TagNumbers,
-    pub(crate) tags: Vec<String>,
+    pub(crate) tags: Tags,
     pub(crate) text: Text<'s>,
     pub(crate) items: Vec<u32>,
     pub(crate) entries: Vec<(u32, u32)>,
@@ -77,19 +76,6 @@ fn push_entries(entries: &mut Vec<(u32, u32)>, parts: &[u32]) -> Result<(), Give
     Ok(())
 }
 
-/// A tag that may be taken: it is, where it has not much more room than it needs, else it is copied.
-fn taken(alloc: Global, tag: &mut CowStr<'_>) -> Result<String, GivesUp>
-    ensures { IfOk result (λ text. string_bytes text ≡ cow_str_bytes tag.old) }
-{
-    if let CowStr::Owned(text) = tag {
-        if text.capacity() / 2 <= text.len() {
-            return Ok(mem::replace(text, String::new(alloc)));
-        }
-    }
-    let text = String::from_str(alloc, tag.as_str())?;
-    Ok(text)
-}
-
 /// Puts a node behind the others. Its number.
 fn push_node(nodes: &mut Vec<Node>, node: Node) -> Result<u32, GivesUp>
     ensures number { IfOk result (λ n. n ≡ length nodes.old.items) }
@@ -130,7 +116,7 @@ impl<'s> Store<'s> {
         Ok(Store {
             memo,
             numbers,
-            tags: Vec::new(alloc),
+            tags: Tags::new(alloc),
             text: Text::new(alloc, lent),
             items: Vec::new(alloc),
             entries: Vec::new(alloc),
@@ -170,21 +156,16 @@ impl<'s> Store<'s> {
     fn is_tag(&self, number: u32, tag: &str) -> bool
         ensures { IsTrue result → slice_get (tags_of self.now) number ≡ Some tag.now }
     {
-        let Some(text) = self.tags.get(number as usize) else {
-            return false;
-        };
-        text.as_str() == tag
+        (number as usize) < self.tags.len() && self.tags.get(number) == tag
     }
 
-    /// Puts a tag, which may be taken, behind the others. Its number.
-    fn add_tag(&mut self, alloc: Global, tag: &mut CowStr<'_>) -> Result<u32, GivesUp>
+    /// Puts a tag behind the others. Its number.
+    fn add_tag(&mut self, tag: &str) -> Result<u32, GivesUp>
         ensures kept { Good self.old → IfOk result (λ _. Keeps self.old self.new) }
-        ensures is { IfOk result (λ i. slice_get (tags_of self.new) i ≡ Some (cow_str_bytes tag.old)) }
+        ensures is { IfOk result (λ i. slice_get (tags_of self.new) i ≡ Some tag.now) }
         ensures nodes { IfOk result (λ _. self.new.nodes ≡ self.old.nodes) }
     {
-        let number = place(self.tags.len())?;
-        let text = taken(alloc, tag)?;
-        self.tags.push(text)?;
+        let number = self.tags.push(tag)?;
         Ok(number)
     }
 
@@ -199,7 +180,7 @@ impl<'s> Store<'s> {
                 return Ok(other);
             }
         }
-        let number = self.add_tag(alloc, &mut CowStr::Borrowed(tag))?;
+        let number = self.add_tag(tag)?;
         self.numbers.keep_other(alloc, tag, number)?;
         Ok(number)
     }
@@ -210,30 +191,21 @@ impl<'s> Store<'s> {
         ensures is { IfOk result (λ i. slice_get (tags_of self.new) i ≡ Some tag.now) }
         ensures nodes { IfOk result (λ _. self.new.nodes ≡ self.old.nodes) }
     {
-        self.take_tag(alloc, &mut CowStr::Borrowed(tag))
-    }
-
-    /// The number of this tag, which is added if it is new, and may be taken then.
-    fn take_tag(&mut self, alloc: Global, tag: &mut CowStr<'_>) -> Result<u32, GivesUp>
-        ensures kept { Good self.old → IfOk result (λ _. Keeps self.old self.new) }
-        ensures is { IfOk result (λ i. slice_get (tags_of self.new) i ≡ Some (cow_str_bytes tag.old)) }
-        ensures nodes { IfOk result (λ _. self.new.nodes ≡ self.old.nodes) }
-    {
-        let hash = hash_tag(tag.as_str().as_bytes());
+        let hash = hash_tag(tag.as_bytes());
         match self.numbers.find(hash) {
             Found::Number(first) => {
-                if self.is_tag(first, tag.as_str()) {
+                if self.is_tag(first, tag) {
                     return Ok(first);
                 }
             }
             Found::Free => {
-                let number = self.add_tag(alloc, tag)?;
+                let number = self.add_tag(tag)?;
                 self.numbers.keep(alloc, hash, number)?;
                 return Ok(number);
             }
             Found::Full => {}
         }
-        self.other_tag(alloc, tag.as_str())
+        self.other_tag(alloc, tag)
     }
 
     /// Whether this node is a scalar of the same tag and content.
@@ -390,20 +362,19 @@ impl<'s> Store<'s> {
         Ok(id)
     }
 
-    /// The number of a scalar with this tag, which may be taken, and this content, which may stand at this offset in the text that is
-    /// lent.
+    /// The number of a scalar with this tag and this content, which may stand at this offset in the text that is lent.
     pub fn scalar(
         &mut self,
         alloc: Global,
-        tag: &mut CowStr<'_>,
+        tag: &str,
         content: &mut CowStr<'_>,
         offset: usize,
     ) -> Result<u32, GivesUp>
         ensures kept { Good self.old → IfOk result (λ _. Keeps self.old self.new) }
-        ensures stands { Good self.old → IfOk result (λ i. Stands self.new i (scalar (cow_str_bytes tag.old) (cow_str_bytes content.old))) }
+        ensures stands { Good self.old → IfOk result (λ i. Stands self.new i (scalar tag.now (cow_str_bytes content.old))) }
         ensures one { IfOk result (λ i. AtMostOne (length self.old.nodes.items) (length self.new.nodes.items) i) }
     {
-        let tag = self.take_tag(alloc, tag)?;
+        let tag = self.tag(alloc, tag)?;
         let id = self.scalar_of(tag, content, offset)?;
         Ok(id)
     }

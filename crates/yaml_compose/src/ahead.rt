@@ -118,17 +118,17 @@ impl<'s> Ahead<'s> {
         Ok(())
     }
 
-    /// The event of this number is a scalar with these properties, of which a tag may be taken.
+    /// The event of this number is a scalar with these properties.
     pub(crate) fn scalar(
         &mut self,
         alloc: Global,
         at: usize,
-        properties: &mut Properties<'_>,
+        properties: &Properties<'_>,
         style: Style,
         text: &mut CowStr<'_>,
         offset: usize,
     ) -> Result<(), GivesUp>
-        ensures { IfOk result (λ _. (log : List Event) → at ≡ length log → Tells self.old log → Tells self.new (log ++ (scalar_event (props_of properties.old).anchor (props_of properties.old).tag (style_of style) (cow_str_bytes text.old) ∷ []))) }
+        ensures { IfOk result (λ _. (log : List Event) → at ≡ length log → Tells self.old log → Tells self.new (log ++ (scalar_event (props_of properties.now).anchor (props_of properties.now).tag (style_of style) (cow_str_bytes text.old) ∷ []))) }
     {
         self.go_on()?;
         self.judged

@@ -196,18 +196,18 @@ impl<'s> Composer<'s> {
     fn put_kept(
         &mut self,
         alloc: Global,
-        given: &mut Given<'_>,
+        given: &Given<'_>,
         text: &mut CowStr<'_>,
         offset: usize,
     ) -> Result<(), GivesUp>
-        ensures { (y : PlainStyle) (s : State) → Holds self.old s → KeepsTexts (props_in given.old).tag →
-            IfOk result (λ _. Stepped (scalar_event (props_in given.old).anchor (props_in given.old).tag y (cow_str_bytes text.old)) s self.new) }
+        ensures { (y : PlainStyle) (s : State) → Holds self.old s → KeepsTexts (props_in given.now).tag →
+            IfOk result (λ _. Stepped (scalar_event (props_in given.now).anchor (props_in given.now).tag y (cow_str_bytes text.old)) s self.new) }
     {
         let place = self.begin_node(given)?;
-        let EventTag::Full(tag) = &mut given.tag else {
+        let EventTag::Full(tag) = &given.tag else {
             return Err(GivesUp);
         };
-        let id = self.store.scalar(alloc, tag, text, offset)?;
+        let id = self.store.scalar(alloc, tag.as_str(), text, offset)?;
         self.put(place, id)?;
         Ok(())
     }
@@ -216,13 +216,13 @@ impl<'s> Composer<'s> {
     fn put_tagged(
         &mut self,
         alloc: Global,
-        given: &mut Given<'_>,
+        given: &Given<'_>,
         style: Style,
         text: &mut CowStr<'_>,
         offset: usize,
     ) -> Result<(), Stop>
         ensures { (s : State) → Holds self.old s →
-            let event = scalar_event (props_in given.old).anchor (props_in given.old).tag (style_of style) (cow_str_bytes text.old) in
+            let event = scalar_event (props_in given.now).anchor (props_in given.now).tag (style_of style) (cow_str_bytes text.old) in
             MatchResult result (λ _. Stepped event s self.new) (Stops event s) }
     {
         if keeps_texts(&given.tag) {
@@ -231,9 +231,10 @@ impl<'s> Composer<'s> {
         }
         let scalar = resolve(alloc, &given.tag, style, text.as_str())?;
         let place = self.begin_node(given)?;
-        let mut tag = CowStr::Borrowed(scalar.tag.as_str());
         let mut content = CowStr::Borrowed(scalar.content.as_str());
-        let id = self.store.scalar(alloc, &mut tag, &mut content, offset)?;
+        let id = self
+            .store
+            .scalar(alloc, scalar.tag.as_str(), &mut content, offset)?;
         self.put(place, id)?;
         Ok(())
     }
@@ -309,13 +310,13 @@ impl<'s> Composer<'s> {
     fn put_scalar(
         &mut self,
         alloc: Global,
-        given: &mut Given<'_>,
+        given: &Given<'_>,
         style: Style,
         text: &mut CowStr<'_>,
         offset: usize,
     ) -> Result<(), Stop>
         ensures { (s : State) → Holds self.old s →
-            let event = scalar_event (props_in given.old).anchor (props_in given.old).tag (style_of style) (cow_str_bytes text.old) in
+            let event = scalar_event (props_in given.now).anchor (props_in given.now).tag (style_of style) (cow_str_bytes text.old) in
             MatchResult result (λ _. Stepped event s self.new) (Stops event s) }
     {
         if let EventTag::Full(_) = &given.tag {
@@ -329,21 +330,21 @@ impl<'s> Composer<'s> {
         self.put_bare(alloc, place, style, text, offset)
     }
 
-    /// A scalar with these properties, of which a tag may be taken.
+    /// A scalar with these properties.
     #[inline(always)]
     pub(crate) fn scalar(
         &mut self,
         alloc: Global,
-        properties: &mut Properties<'_>,
+        properties: &Properties<'_>,
         style: Style,
         text: &mut CowStr<'_>,
         offset: usize,
     ) -> Result<(), Stop>
         ensures { (s : State) → Holds self.old s →
-            let event = scalar_event (props_of properties.old).anchor (props_of properties.old).tag (style_of style) (cow_str_bytes text.old) in
+            let event = scalar_event (props_of properties.now).anchor (props_of properties.now).tag (style_of style) (cow_str_bytes text.old) in
             MatchResult result (λ _. Stepped event s self.new) (Stops event s) }
     {
-        match &mut properties.given {
+        match &properties.given {
             None => self.put_bare(alloc, None, style, text, offset),
             Some(given) => self.put_scalar(alloc, given, style, text, offset),
         }

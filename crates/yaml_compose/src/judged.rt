@@ -42,18 +42,18 @@ impl<'s> Judged<'s> {
         })
     }
 
-    /// The event of this number is a scalar with these properties, of which a tag may be taken.
+    /// The event of this number is a scalar with these properties.
     #[inline(always)]
     pub(crate) fn scalar(
         &mut self,
         alloc: Global,
         at: usize,
-        properties: &mut Properties<'_>,
+        properties: &Properties<'_>,
         style: Style,
         text: &mut CowStr<'_>,
         offset: usize,
     ) -> Result<(), GivesUp>
-        ensures { IfOk result (λ _. Takes at (scalar_event (props_of properties.old).anchor (props_of properties.old).tag (style_of style) (cow_str_bytes text.old)) self.old self.new) }
+        ensures { IfOk result (λ _. Takes at (scalar_event (props_of properties.now).anchor (props_of properties.now).tag (style_of style) (cow_str_bytes text.old)) self.old self.new) }
     {
         if let Some(_) = self.refusal {
             return Ok(());

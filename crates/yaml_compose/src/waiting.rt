@@ -236,14 +236,7 @@ impl<'s> Waiting<'s> {
         match self.late {
             Late::Nothing => Ok(()),
             Late::Scalar(style) => {
-                ahead.scalar(
-                    alloc,
-                    number,
-                    &mut self.own,
-                    style,
-                    &mut self.text,
-                    self.offset,
-                )?;
+                ahead.scalar(alloc, number, &self.own, style, &mut self.text, self.offset)?;
                 Ok(())
             }
             Late::Alias => {

@@ -1,6 +1,8 @@
-use Rattle.std.proofs.Common.{rules, []}
+use Rattle.std.proofs.Common.{[], sym, ◌∙◌, subst}
 use Rattle.yaml_definitions.specs.model.Serial.{stream_events}
+use Rattle.yaml_canon.specs.Refused.{TellsWhy}
 use Rattle.yaml_canon.proofs.BothLaws.{has-both}
+use Rattle.yaml_canon.proofs.RefusedLaws.{not-made}
 use Rattle.yaml_canon.proofs.both.forest_of_both.Goals as goal
 
 pub returns-clause-both : goal.returns-clause-both
@@ -15,5 +17,5 @@ pub returns-in-Err-documents-clause-of_left : goal.returns-in-Err-documents-clau
 returns-in-Err-documents-clause-of_left c =
     let l = c.in-Ok-kept_source.ensures.takes c.args.left.now c.in-Ok.ensures.source in
     let held = l.puts.is [] c.in_ok-empty.ensures in
-    let told = c.in-Err-documents.ensures.refused l.documents held in
-    search (rules, l, told)
+    let told = not-made c.args.left.now l.documents c.in-Err-documents.why l.read (c.in-Err-documents.ensures.refused l.documents held) in
+    subst (TellsWhy c.args.left.now) (sym (c.left-in-Err-documents.ensures.left ∙ c.from.ensures)) told

@@ -1,7 +1,6 @@
-use Rattle.std.proofs.Common.{map, take}
-use Rattle.std.specs.String.{string_bytes}
+use Rattle.std.proofs.Common.{take}
 use Rattle.yaml_compact.specs.TagPlaces.{PlacesAmong}
 use Rattle.yaml_compact.proofs.places.places.Given as goal
 
-abbrev pub invariant-loop-tag : goal.invariant-loop-tag
-invariant-loop-tag l = PlacesAmong l.ordered.items (map string_bytes (take l.tag-index l.tags)) l.places.items
+abbrev pub invariant-loop-number : goal.invariant-loop-number
+invariant-loop-number l = PlacesAmong l.ordered.items (take l.number l.tags) l.places.items

@@ -1,7 +1,5 @@
-use Rattle.std.proofs.Common.{ℕ, Vec, Global, map, subst, refl, rules}
-use Rattle.std.specs.String.{string_bytes}
+use Rattle.std.proofs.Common.{ℕ, Vec, Global, subst, refl, rules}
 use Rattle.yaml_compact.specs.TextModel.{border, AllWhole}
-use Rattle.yaml_compact.specs.TagPlaces.{PlacesAre}
 use Rattle.yaml_compact.specs.StoreView.{view_of}
 use Rattle.yaml_compact.specs.Unranked.{RefusesStore}
 use Rattle.yaml_compact.proofs.StoreOf.{stored-as, listed-as}
@@ -10,27 +8,27 @@ use Rattle.yaml_compact.proofs.ranking.compact_rank.Goals as goal
 pub rank_all-requires-clause-stored : goal.rank_all-requires-clause-stored
 rank_all-requires-clause-stored c =
     let s = c.args.store in
-    let are = subst (λ z. PlacesAre (map string_bytes z) c.in_ok-places.places.items) c.deref-2.ensures.value c.in_ok-places.ensures.ok in
-    (view_of s c.requires.good, stored-as s c.requires.good c.requires.low c.in_ok-places.places.items are _ _ _ _ _ c.deref-3.ensures.value refl c.deref_mut.ensures.value c.deref_mut-2.ensures.value c.deref-4.ensures.value)
+    let are = c.in_ok-places.ensures.ok in
+    (view_of s c.requires.good, stored-as s c.requires.good c.requires.low c.in_ok-places.places.items are _ _ _ _ _ c.deref-2.ensures.value refl c.deref_mut.ensures.value c.deref_mut-2.ensures.value c.deref-3.ensures.value)
 
 pub shorts-requires : goal.shorts-requires
 shorts-requires c =
     let s = c.args.store in
     let whole : AllWhole (border s.text) s.nodes.items = subst (AllWhole (border s.text)) c.deref.ensures.value (search rules) in
-    let are = subst (λ z. PlacesAre (map string_bytes z) c.in_ok-places.places.items) c.deref-2.ensures.value c.in_ok-places.ensures.ok in
-    (s, c.requires.good, listed-as s c.requires.good c.requires.low c.in_ok-places.places.items are _ _ _ _ _ _ _ c.in_ok-ranks.ranks c.in_ok-ranks.first c.new.result c.deref-3.ensures.value refl c.deref_mut.ensures.value c.deref_mut-2.ensures.value c.deref-4.ensures.value c.rank_all.auto.items c.rank_all.auto.entries whole (c.in_ok-ranks.ensures.ok (view_of s c.requires.good)))
+    let are = c.in_ok-places.ensures.ok in
+    (s, c.requires.good, listed-as s c.requires.good c.requires.low c.in_ok-places.places.items are _ _ _ _ _ _ _ c.in_ok-ranks.ranks c.in_ok-ranks.first c.new.result c.deref-2.ensures.value refl c.deref_mut.ensures.value c.deref_mut-2.ensures.value c.deref-3.ensures.value c.rank_all.auto.items c.rank_all.auto.entries whole (c.in_ok-ranks.ensures.ok (view_of s c.requires.good)))
 
 pub returns-clause-ok : goal.returns-clause-ok
 returns-clause-ok c = λ good.
     let s = c.args.store in
     let whole : AllWhole (border s.text) s.nodes.items = subst (AllWhole (border s.text)) c.deref.ensures.value (search rules) in
-    let are = subst (λ z. PlacesAre (map string_bytes z) c.in_ok-places.places.items) c.deref-2.ensures.value c.in_ok-places.ensures.ok in
-    let listed = λ (shorts : Vec ℕ Global). listed-as s good c.requires.low c.in_ok-places.places.items are _ _ _ _ _ _ _ c.in_ok-ranks.ranks c.in_ok-ranks.first shorts c.deref-3.ensures.value refl c.deref_mut.ensures.value c.deref_mut-2.ensures.value c.deref-4.ensures.value c.rank_all.auto.items c.rank_all.auto.entries whole (c.in_ok-ranks.ensures.ok (view_of s good)) in
+    let are = c.in_ok-places.ensures.ok in
+    let listed = λ (shorts : Vec ℕ Global). listed-as s good c.requires.low c.in_ok-places.places.items are _ _ _ _ _ _ _ c.in_ok-ranks.ranks c.in_ok-ranks.first shorts c.deref-2.ensures.value refl c.deref_mut.ensures.value c.deref_mut-2.ensures.value c.deref-3.ensures.value c.rank_all.auto.items c.rank_all.auto.entries whole (c.in_ok-ranks.ensures.ok (view_of s good)) in
     record { listed = listed _; shorts = c.in_ok-ranked.ensures s good (listed c.new.result) }
 
 pub returns-in_err-ranks-clause-err : goal.returns-in_err-ranks-clause-err
 returns-in_err-ranks-clause-err c = λ good.
     let s = c.args.store in
-    let are = subst (λ z. PlacesAre (map string_bytes z) c.in_ok-places.places.items) c.deref-2.ensures.value c.in_ok-places.ensures.ok in
-    let told : RefusesStore s good c.in_err-ranks.field-0.0 = c.in_err-ranks.ensures.err (view_of s good) (stored-as s good c.requires.low c.in_ok-places.places.items are _ _ _ _ _ c.deref-3.ensures.value refl c.deref_mut.ensures.value c.deref_mut-2.ensures.value c.deref-4.ensures.value) in
+    let are = c.in_ok-places.ensures.ok in
+    let told : RefusesStore s good c.in_err-ranks.field-0.0 = c.in_err-ranks.ensures.err (view_of s good) (stored-as s good c.requires.low c.in_ok-places.places.items are _ _ _ _ _ c.deref-2.ensures.value refl c.deref_mut.ensures.value c.deref_mut-2.ensures.value c.deref-3.ensures.value) in
     search (rules, told)

@@ -1,11 +1,10 @@
 use Rattle.std.proofs.Common.{◌≡◌, length, sym, ◌∙◌, ap, subst, rules}
-use Rattle.std.specs.String.{string_bytes}
 use Rattle.std.specs.List.{slice_range}
 use Rattle.yaml_levels.specs.View.{content, items, entries}
 use Rattle.yaml_compact.specs.declared.nodes.Place.TheVariants.{Scalar, Sequence, Mapping}
 use Rattle.yaml_compact.specs.TextModel.{text_of}
 use Rattle.yaml_compact.specs.StoreModel.{place_of, Within}
-use Rattle.yaml_compact.proofs.WalkedLaws.{first-within, tag-within, place-within, tag-shown, inside-shown, content-text, content-whole, tag-there, same-numbers, same-pairs}
+use Rattle.yaml_compact.proofs.WalkedLaws.{first-within, tag-within, place-within, tag-shown, inside-shown, content-text, content-whole, same-numbers, same-pairs}
 use Rattle.yaml_compact.proofs.ranking.Ranked.shown.Goals as goal
 
 pub index-requires-2 : goal.index-requires-2
@@ -17,27 +16,10 @@ index-requires-2 c =
     let t = first-within w.0 w.1 C w.2 r i c.requires.within c.index.ensures in
     search rules
 
-pub overflow_cast-node : goal.overflow_cast-node
-overflow_cast-node c =
+pub get-tag-requires : goal.get-tag-requires
+get-tag-requires c =
     let w = c.requires.listed in
-    let C = c.args.self.now in
-    let r = c.args.rank in
-    let i = c.index.result.now in
-    let n = c.index-2.result.now in
-    let l = c.requires.within in
-    let t = tag-within w.0 w.1 C w.2 r i n l c.index.ensures c.index-2.ensures in
-    search rules
-
-pub index-requires-3 : goal.index-requires-3
-index-requires-3 c =
-    let w = c.requires.listed in
-    let C = c.args.self.now in
-    let r = c.args.rank in
-    let i = c.index.result.now in
-    let n = c.index-2.result.now in
-    let l = c.requires.within in
-    let t = tag-within w.0 w.1 C w.2 r i n l c.index.ensures c.index-2.ensures in
-    search rules
+    tag-within w.0 w.1 c.args.self.now w.2 c.args.rank c.index.result.now c.index-2.result.now c.requires.within c.index.ensures c.index-2.ensures
 
 pub slice_bounds-result-count : goal.slice_bounds-result-count
 slice_bounds-result-count c =
@@ -125,8 +107,7 @@ returns-in-Sequence-clause-tag c =
     let i = c.index.result.now in
     let n = c.index-2.result.now in
     let l = c.requires.within in
-    let tag = c.as_str-tag.ensures.value ∙ tag-there string_bytes C.tags.items n.tag c.index-3.result.now (tag-within w.0 w.1 C w.2 r i n l c.index.ensures c.index-2.ensures) c.index-3.ensures in
-    tag-shown w.0 w.1 C w.2 r i n l c.index.ensures c.index-2.ensures c.as_str-tag.result.now tag
+    tag-shown w.0 w.1 C w.2 r i n l c.index.ensures c.index-2.ensures c.get-tag.result.now c.get-tag.ensures
 
 pub returns-in-Mapping-clause-tag : goal.returns-in-Mapping-clause-tag
 returns-in-Mapping-clause-tag c =
@@ -136,8 +117,7 @@ returns-in-Mapping-clause-tag c =
     let i = c.index.result.now in
     let n = c.index-2.result.now in
     let l = c.requires.within in
-    let tag = c.as_str-tag.ensures.value ∙ tag-there string_bytes C.tags.items n.tag c.index-3.result.now (tag-within w.0 w.1 C w.2 r i n l c.index.ensures c.index-2.ensures) c.index-3.ensures in
-    tag-shown w.0 w.1 C w.2 r i n l c.index.ensures c.index-2.ensures c.as_str-tag.result.now tag
+    tag-shown w.0 w.1 C w.2 r i n l c.index.ensures c.index-2.ensures c.get-tag.result.now c.get-tag.ensures
 
 pub returns-in-Scalar-clause-tag : goal.returns-in-Scalar-clause-tag
 returns-in-Scalar-clause-tag c =
@@ -147,8 +127,7 @@ returns-in-Scalar-clause-tag c =
     let i = c.index.result.now in
     let n = c.index-2.result.now in
     let l = c.requires.within in
-    let tag = c.as_str-tag.ensures.value ∙ tag-there string_bytes C.tags.items n.tag c.index-3.result.now (tag-within w.0 w.1 C w.2 r i n l c.index.ensures c.index-2.ensures) c.index-3.ensures in
-    tag-shown w.0 w.1 C w.2 r i n l c.index.ensures c.index-2.ensures c.as_str-tag.result.now tag
+    tag-shown w.0 w.1 C w.2 r i n l c.index.ensures c.index-2.ensures c.get-tag.result.now c.get-tag.ensures
 
 pub returns-in-Sequence-clause-inside : goal.returns-in-Sequence-clause-inside
 returns-in-Sequence-clause-inside c =

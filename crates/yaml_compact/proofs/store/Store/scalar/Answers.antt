@@ -9,10 +9,10 @@ use Rattle.yaml_compact.proofs.store.Store.scalar.Goals as goal
 pub returns-clause-kept : goal.returns-clause-kept
 returns-clause-kept c = λ good.
     let k = c.in_ok-tag.ensures.kept good in
-    let t = tag-is (tags_of c.take_tag.new.self) c.in_ok-tag.tag (cow_str_bytes c.args.tag.now) c.in_ok-tag.ensures.is in
-    kept-both c.args.self.now c.take_tag.new.self c.scalar_of.new.self k (c.in_ok-id.ensures.kept k.good t.within)
+    let t = tag-is (tags_of c.tag.new.self) c.in_ok-tag.tag c.args.tag.now c.in_ok-tag.ensures.is in
+    kept-both c.args.self.now c.tag.new.self c.scalar_of.new.self k (c.in_ok-id.ensures.kept k.good t.within)
 
 pub returns-clause-stands : goal.returns-clause-stands
 returns-clause-stands c = λ good.
-    let t = tag-is (tags_of c.take_tag.new.self) c.in_ok-tag.tag (cow_str_bytes c.args.tag.now) c.in_ok-tag.ensures.is in
+    let t = tag-is (tags_of c.tag.new.self) c.in_ok-tag.tag c.args.tag.now c.in_ok-tag.ensures.is in
     c.in_ok-id.ensures.stands (c.in_ok-tag.ensures.kept good).good t.within ∙ ap (λ g. Some (scalar g (cow_str_bytes c.args.content.now))) t.is

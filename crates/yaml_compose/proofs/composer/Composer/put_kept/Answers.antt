@@ -1,4 +1,4 @@
-use Rattle.std.proofs.Common.{◌≡◌, length, subst, sym, ap}
+use Rattle.std.proofs.Common.{◌≡◌, length, subst, sym, ◌∙◌, ap}
 use Rattle.std.specs.Prelude.{Some, Ok}
 use Rattle.std.specs.Cow.{cow_str_bytes}
 use Rattle.yaml_definitions.specs.model.Tree.{scalar}
@@ -26,7 +26,7 @@ returns c = λ y s h keeps.
     let is : written_of c.args.given.now.tag ≡ full g = ap written_of c.in-Full.is in
     let m : resolve (written_of c.args.given.now.tag) y x ≡ Ok (g, x) = subst (λ t. resolve t y x ≡ Ok (g, x)) (sym is) (subst KeepsTexts is keeps y x) in
     let kept = c.in_ok-id.ensures.kept b.1.good.store in
-    let there : Stands new c.in_ok-id.id (scalar g x) = c.in_ok-id.ensures.stands b.1.good.store in
+    let there : Stands new c.in_ok-id.id (scalar g x) = c.in_ok-id.ensures.stands b.1.good.store ∙ ap (λ t. Some (scalar t x)) c.as_str.ensures.value in
     record {
       state = whole a (length s.table) (scalar g x) n;
       is = ap (λ r. Some (and_then (placed 0 r) (scalar_added a s))) m;

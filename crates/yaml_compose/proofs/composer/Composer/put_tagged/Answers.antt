@@ -34,7 +34,7 @@ returns c = λ s h.
     let g = cow_str_bytes c.in_ok-scalar.scalar.tag in
     let x = cow_str_bytes c.in_ok-scalar.scalar.content in
     let kept = c.in_ok-id.ensures.kept b.1.good.store in
-    let there : Stands new c.in_ok-id.id (scalar g x) = c.in_ok-id.ensures.stands b.1.good.store ∙ (λ z. Some (scalar (c.as_str-2.ensures.value z) (c.as_str-3.ensures.value z))) in
+    let there : Stands new c.in_ok-id.id (scalar g x) = c.in_ok-id.ensures.stands b.1.good.store ∙ (λ z. Some (scalar (c.as_str-3.ensures.value z) (c.as_str-2.ensures.value z))) in
     let m = subst (λ z. resolve (written_of c.args.given.now.tag) (style_of c.args.style) z ≡ Ok (g, x)) c.as_str.ensures.value c.in_ok-scalar.ensures.means in
     record {
       state = whole a (length s.table) (scalar g x) n;

@@ -1,5 +1,5 @@
 use Rattle.yaml_compact.proofs.StoreLaws.{kept-same, kept-numbers}
-use Rattle.yaml_compact.proofs.store.Store.take_tag.Goals as goal
+use Rattle.yaml_compact.proofs.store.Store.tag.Goals as goal
 
 pub returns-then-is_tag-clause-kept : goal.returns-then-is_tag-clause-kept
 returns-then-is_tag-clause-kept c = λ good. kept-same c.args.self.now good
