@@ -1,4 +1,4 @@
-//! What `yamlreview` tells, through `command_over`: tests alone.
+//! Test cases of what `yamlreview` prints and its statuses.
 #![tactic(auto)]
 
 #[cfg(test)]

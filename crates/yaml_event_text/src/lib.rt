@@ -1,4 +1,4 @@
-//! The event text of bytes.
+//! The event lines of bytes: `event_text`, `event_text_into`.
 #![tactic(auto)]
 
 ghost use Rattle.std.specs.Prelude.{◌≡◌, ℕ, List, map, IfOk, IfErr, OnErr};
