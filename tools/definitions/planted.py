@@ -4,7 +4,7 @@
     python3 planted.py [--lanes N] [--suite PLACE] [--only WORD] [--out FILE]
     python3 planted.py --listed             whether each can still be put into its definition, as the gate asks
     python3 planted.py --checked            whether the definitions still check with each in its place: else it is no definition
-    python3 planted.py --table FILE         what a run wrote there, as the table of docs/DEFINITIONS.md
+    python3 planted.py --table FILE         what a run wrote there, as the table of docs/proof/DEFINITIONS.md
 
 The list is planted.list. What is asked, the cheapest first, until something tells:
 
