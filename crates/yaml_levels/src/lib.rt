@@ -12,6 +12,6 @@ mod order;
 mod prefix;
 pub mod ranks;
 pub mod tags;
-mod visits;
+pub mod visits;
 
 pub use ranks::Ranks;
