@@ -6,6 +6,8 @@ mod built;
 #[cfg(test)]
 mod differences;
 #[cfg(test)]
+mod empty_nodes;
+#[cfg(test)]
 mod faults;
 #[cfg(test)]
 mod places;
