@@ -18,4 +18,6 @@ mod runs;
 #[cfg(test)]
 mod sum;
 #[cfg(test)]
+mod tag_places;
+#[cfg(test)]
 mod warnings;

@@ -6,6 +6,7 @@ pub mod fronts;
 pub mod json;
 pub mod lines;
 pub mod path;
+pub mod tag_words;
 pub mod text;
 pub mod words;
 pub mod yaml11;
