@@ -1,6 +1,7 @@
 //! A stream's events, each with the offset of its own text. An empty node's offset is the end of its properties, or of the
 //! indicator that introduces it where it has none; an empty key without properties has the offset of its colon.
 ghost use Rattle.std.specs.Prelude.{◌≡◌, IfOk, IfErr, IfSome, Some, slice_get};
+ghost use Rattle.std.specs.Bool.{OnTrue};
 
 use std::alloc::Global;
 use std::borrow::CowStr;
@@ -223,7 +224,7 @@ impl Trace {
         for noted in &self.notes {
             if let Note::Tag { at } = noted.note
                 && noted.event as usize == event
-                && text.get(at as usize) == Some(&b'!')
+                && begins_tag(text, at as usize)
             {
                 return Some(at as usize);
             }
@@ -283,6 +284,13 @@ fn short(at: usize) -> Result<u32, Fault>
         Ok(at) => Ok(at),
         Err(_) => Err(Fault::OutOfMemory),
     }
+}
+
+/// Whether a tag begins at this offset: with `!` (YAML 1.2.2, 6.9.1).
+fn begins_tag(text: &[u8], at: usize) -> bool
+    ensures { OnTrue result (slice_get text.now at ≡ Some 33) }
+{
+    at < text.len() && text[at] == b'!'
 }
 
 fn shape_of(event: &Event<'_>) -> Shape {
