@@ -1,5 +1,5 @@
 /* yamlcanon_canonical: the text is its own text, means what the input means, and comes whole or not at all into a room of any
- * size, in the memory that docs/PROFILE.md says. */
+ * size, in the memory that docs/using/PERFORMANCE.md says. */
 #include "fuzz.h"
 
 int LLVMFuzzerTestOneInput(const uint8_t *data, size_t size)

@@ -19,7 +19,7 @@
 #define UNTOLD ((size_t)-7)
 /* Texts up to this length are asked for with a room of every size. */
 #define EVERY_ROOM 24
-/* What a call may hold for each byte of its input, by docs/PROFILE.md, and what it needs at least. */
+/* What a call may hold for each byte of its input, by docs/using/PERFORMANCE.md, and what it needs at least. */
 #define MOST_A_BYTE 1400
 #define MOST_AT_LEAST (1 << 20)
 
