@@ -3,7 +3,7 @@ import os
 import re
 import sys
 
-from .base import TOP, is_there, run, say, wrong
+from .base import TOP, WRONG, is_there, run, say, wrong
 
 PAGE = "docs/using/LIBRARY.md"
 EXAMPLE = re.compile(r"^```(c|python|rust)\n(.*?)^```\n+```text\n(.*?)^```$", re.M | re.S)
@@ -51,10 +51,12 @@ def try_page(folder, room):
     """Runs each example of the page over the library in a folder, and compares what it prints with what the page shows."""
     with open(f"{TOP}/{PAGE}", encoding="utf-8") as file:
         found = EXAMPLE.findall(file.read())
+    before = len(WRONG)
     if sorted(kind for kind, _, _ in found) != sorted(RUNS):
         wrong(f"{PAGE}: an example in {', '.join(RUNS)} each is wanted, and there are {[kind for kind, _, _ in found]}")
     for kind, text, wanted in found:
         had = RUNS[kind](folder, f"{room}/{kind}", text)
         if had not in (None, wanted.strip()):
             wrong(f"{PAGE}: the example in {kind} printed\n{had}\nand the page has\n{wanted}")
-    say(f"the examples of {PAGE} print what it shows")
+    if len(WRONG) == before:
+        say(f"the examples of {PAGE} print what it shows")
