@@ -9,7 +9,7 @@ from .base import ARCH, copy, end, files_below, git, read, run, say, write, zipp
 from .version import TOP, release
 
 PROGRAMS = {'yamlcanon': 'yaml_tool', 'yamlreview': 'yaml_review'}
-TEXTS = ('README.md', 'CHANGELOG.md', 'SECURITY.md', 'NOTICE', 'LICENSE-MIT', 'LICENSE-APACHE')
+TEXTS = ('README.md', 'CHANGELOG.md', 'CONTRIBUTING.md', 'SECURITY.md', 'NOTICE', 'LICENSE-MIT', 'LICENSE-APACHE')
 LIBRARY = 'libyamlcanon.so.'
 PACKAGE = """\
 prefix=${pcfiledir}/../..
