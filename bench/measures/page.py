@@ -130,9 +130,10 @@ def minutes(results):
 def page(results):
     """The page's text."""
     kits, processors = (" and ".join(results.all_of(it)) for it in ("kit", "processor"))
-    head = ["# Performance", "", "<!-- Made by bench/report from bench/results.tsv: change these. -->", "",
-            f"All numbers are measured by [`bench/report`](../../bench/report), on {processors}, with {kits}. [`results.tsv`](../../bench/results.tsv) has each "
-            "value with its unit, its range and its commit. Other machines give other times; ratios differ less.", ""]
+    source = (f"All numbers are measured by [`bench/report`](../../bench/report), on {processors}, with {kits}. [`results.tsv`](../../bench/results.tsv) has "
+              "each value with its unit, its range and its commit. Other machines give other times; ratios differ less.") if results.rows else \
+        "Nothing has been measured of this version yet: run [`bench/report`](../../bench/report)."
+    head = ["# Performance", "", "<!-- Made by bench/report from bench/results.tsv: change these. -->", "", source, ""]
     parts = (part(results) for part in (speed, commands, small, growth, costs, stack, files, minutes))
     return "\n".join([*head, *(line for lines in parts for line in lines)]).rstrip("\n") + "\n"
 

@@ -83,6 +83,8 @@ class Report(unittest.TestCase):
     def test_no_results(self):
         shutil.rmtree(f"{self.top}/bench")
         self.assertEqual(run(REPORT.main, "--check")[0], 1)
+        run(REPORT.main, "--write")
+        self.assertIn("Nothing has been measured of this version yet", self.page())
 
     def test_other_columns(self):
         self.put("bench/results.tsv", "name\tvalue\n")
