@@ -22,8 +22,12 @@ pub fn utf8_words(text: &[u8]) -> &'static str {
 /// What a character is that is none of YAML's.
 pub fn printable_words(text: &[u8], at: usize) -> &'static str {
     match text.get(at..).unwrap_or(&[]) {
-        [0, ..] if is_utf16(text) =>
-            "this is UTF-16: convert the file by `iconv -f UTF-16LE -t UTF-8`, or UTF-16BE",
+        [0, ..] if is_utf16(text) && at == 0 => {
+            "this is UTF-16: convert the file by `iconv -f UTF-16BE -t UTF-8`"
+        }
+        [0, ..] if is_utf16(text) && at == 1 => {
+            "this is UTF-16: convert the file by `iconv -f UTF-16LE -t UTF-8`"
+        }
         [0xEF, 0xBB, 0xBF, ..] =>
             "a byte order mark past the start is no character of YAML: remove it",
         _ => "a control character, or a byte order mark past the start, is no character of YAML",
