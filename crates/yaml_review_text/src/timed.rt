@@ -143,7 +143,7 @@ fn is_time(mut rest: Rest<'_>) -> bool {
 }
 
 /// What a text with `:` or `-` between digits is in YAML 1.1: a number of base 60 or a timestamp.
-pub fn read_timed(text: &[u8]) -> Option<Kind>
+pub(crate) fn read_timed(text: &[u8]) -> Option<Kind>
     ensures { IsTimed result }
 {
     let rest = Rest { bytes: text };

@@ -80,7 +80,7 @@ impl Older {
 }
 
 /// The bytes behind the first one, if that is of a set.
-pub fn behind_one<'a>(text: &'a [u8], set: &[u8]) -> Option<&'a [u8]>
+pub(crate) fn behind_one<'a>(text: &'a [u8], set: &[u8]) -> Option<&'a [u8]>
     ensures { option_map (λ rest. rest.now) result ≡ after_one set.now text.now }
 {
     match text.split_first() {
