@@ -10,11 +10,15 @@ mod empty_nodes;
 #[cfg(test)]
 mod faults;
 #[cfg(test)]
+mod hints;
+#[cfg(test)]
 mod places;
 #[cfg(test)]
 mod rows;
 #[cfg(test)]
 mod runs;
+#[cfg(test)]
+mod slips;
 #[cfg(test)]
 mod sum;
 #[cfg(test)]

@@ -108,7 +108,7 @@ pub static ROWS: [Row; 12] = [
         left: b"a: yes\n",
         right: b"[1:20]\n",
         status: 0,
-        out: "{\"column\":4,\"file\":\"left\",\"line\":1,\"text\":\"yes\",\"words\":\"a str, and a bool in YAML 1.1\"}\n{\"column\":2,\"file\":\"right\",\"line\":1,\"text\":\"1:20\",\"words\":\"a str, and a number of base 60 in YAML 1.1\"}\n",
+        out: "{\"column\":4,\"file\":\"left\",\"line\":1,\"text\":\"yes\",\"words\":\"a string here, a bool in YAML 1.1\"}\n{\"column\":2,\"file\":\"right\",\"line\":1,\"text\":\"1:20\",\"words\":\"a string here, an int in YAML 1.1\"}\n",
         err: "",
     },
     Row {
@@ -117,7 +117,7 @@ pub static ROWS: [Row; 12] = [
         left: b"[yes, no, on]\n",
         right: b"[off]\n",
         status: 0,
-        out: "left:1:2: warning: yes: a str, and a bool in YAML 1.1\nleft:1:7: warning: no: a str, and a bool in YAML 1.1\n...\nright:1:2: warning: off: a str, and a bool in YAML 1.1\n",
+        out: "left:1:2: warning: yes: a string here, a bool in YAML 1.1\nleft:1:7: warning: no: a string here, a bool in YAML 1.1\n...\nright:1:2: warning: off: a string here, a bool in YAML 1.1\n",
         err: "",
     },
 ];

@@ -114,7 +114,8 @@ pub fn put_warnings(
             continue;
         };
         if let Some(text) = events.get(*event).and_then(plain_text) {
-            put_warning(alloc, out, name, *place, text, older.words(), form)?;
+            let words = older.words(alloc, text)?;
+            put_warning(alloc, out, name, *place, text, &words, form)?;
         }
     }
     if !found.whole {
