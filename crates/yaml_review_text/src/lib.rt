@@ -3,6 +3,7 @@
 
 pub mod both;
 pub mod fronts;
+pub mod hidden;
 pub mod json;
 pub mod lines;
 pub mod path;
@@ -13,3 +14,4 @@ pub mod yaml11;
 
 pub use both::Both;
 pub use fronts::put_shown;
+pub use hidden::put_visible;
