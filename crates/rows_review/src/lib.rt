@@ -10,7 +10,13 @@ mod empty_nodes;
 #[cfg(test)]
 mod faults;
 #[cfg(test)]
+mod git;
+#[cfg(test)]
+mod names;
+#[cfg(test)]
 mod places;
+#[cfg(test)]
+mod rejected;
 #[cfg(test)]
 mod rows;
 #[cfg(test)]
