@@ -228,6 +228,6 @@ pub static OTHERS: [Row; 9] = [
         right: b"a",
         status: 3,
         out: "left:1:5: 4 Syntax at byte 4: the bracket opened at line 1, column 4 is not closed\na: [\n    ^\n",
-        err: "yaml: cannot open no?yaml: ?[2K\n",
+        err: "yamlreview: no?yaml: ?[2K: cannot open: not found\n",
     },
 ];

@@ -10,9 +10,15 @@ mod empty_nodes;
 #[cfg(test)]
 mod faults;
 #[cfg(test)]
+mod git;
+#[cfg(test)]
 mod hints;
 #[cfg(test)]
+mod names;
+#[cfg(test)]
 mod places;
+#[cfg(test)]
+mod rejected;
 #[cfg(test)]
 mod rows;
 #[cfg(test)]

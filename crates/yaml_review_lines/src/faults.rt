@@ -11,6 +11,7 @@ use yaml_review_places::places::unmarked;
 use yaml_review_places::trace::{Trace, trace_of};
 use yaml_review_places::trail::Trail;
 use yaml_review_text::fronts::{put_shown, put_source_line};
+use yaml_review_text::put_visible;
 use yaml_review_text::tag_words::put_tag_words;
 use yaml_review_text::words::words_of;
 use yaml_review_words::Form;
@@ -252,7 +253,7 @@ fn put_lines(
     }
     out.push_str(": ")?;
     if let Some(path) = &told.path {
-        out.push_str(path)?;
+        put_visible(out, path)?;
         out.push_str(": ")?;
     }
     out.push_str(&told.words(alloc, fault, text)?)?;

@@ -99,6 +99,9 @@ pub fn put_warnings(
     form: Form,
     room: usize,
 ) -> Result<(), Fault> {
+    if room == 0 {
+        return Ok(());
+    }
     let source = Chars::read(bytes)?;
     let events = read_events(alloc, &source)?;
     let found = find_warned(alloc, &events, room)?;

@@ -4,6 +4,7 @@
 pub mod both;
 mod byte_hints;
 pub mod fronts;
+pub mod hidden;
 mod hints;
 pub mod json;
 mod line_hints;
@@ -21,3 +22,4 @@ pub mod yaml11;
 
 pub use both::Both;
 pub use fronts::put_shown;
+pub use hidden::put_visible;
