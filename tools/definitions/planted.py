@@ -4,7 +4,7 @@
     python3 planted.py [--lanes N] [--suite PLACE] [--only WORD] [--out FILE]
     python3 planted.py --listed             whether each can still be put into its definition, as the gate asks
     python3 planted.py --checked            whether the definitions still check with each in its place: else it is no definition
-    python3 planted.py --table FILE         what a run wrote there, as the table of docs/DEFINITIONS.md
+    python3 planted.py --table [FILE]       what a run wrote there, as a table (planted.found, the results that are stored)
 
 The list is planted.list. What is asked, the cheapest first, until something tells:
 
@@ -37,6 +37,7 @@ from statements.definitions import File            # noqa: E402
 
 SPECS = TOP + '/crates/yaml_definitions/specs'
 LAWS = {'law_length': [], 'law_read_back': ['yaml_text'], 'yaml_content': ['yaml_text']}
+FOUND = HERE + '/planted.found'     # what told each, for docs/proof/DEFINITIONS.md
 UNSHADOWED = ('Rules',)     # which shadow.py has by hand
 
 
@@ -164,12 +165,17 @@ def table_of(lines):
 
 
 def listed(plantings):
-    """Whether each planting can be put into the definitions as they stand."""
+    """Whether each planting can be put into the definitions as they are, and has its result in planted.found."""
     lost = [it.said() for it in plantings if it.changed(SPECS) is None]
+    with open(FOUND, encoding='utf-8') as file:
+        results = {line.rpartition(' | ')[0] for line in file}
+    unknown = [it.said() for it in plantings if it.said() not in results]
     for said in lost:
         print('planted: its right text does not stand once in its definition: ' + said)
+    for said in unknown:
+        print('planted: planted.found does not say what told it: ' + said)
     print('%d of %d can be planted' % (len(plantings) - len(lost), len(plantings)))
-    return 1 if lost else 0
+    return 1 if lost or unknown else 0
 
 
 def batches(plantings):
@@ -205,7 +211,7 @@ def options_given():
     given.add_argument('--suite', default=os.environ.get('YAML_TEST_SUITE'))
     given.add_argument('--only', default='')
     given.add_argument('--out')
-    given.add_argument('--table')
+    given.add_argument('--table', nargs='?', const=FOUND, metavar='FILE')
     given.add_argument('--listed', action='store_true')
     given.add_argument('--checked', action='store_true')
     return given.parse_args()

@@ -42,7 +42,7 @@ def built_rows():
 
 
 def page_rows():
-    """The examples of docs/FORM.md."""
+    """The examples of docs/format/FORM.md."""
     for example in examples(page()):
         canon = example.refusal.rstrip('\n') or example.text
         yield Row('FORM.md, ' + example.rule, example.input.encode(), None, canon.encode(), None)

@@ -1,4 +1,4 @@
-"""page.py: the examples of docs/FORM.md, and how a program is asked."""
+"""page.py: the examples of docs/format/FORM.md, and how a program is asked."""
 import collections
 import os
 import re
@@ -12,7 +12,7 @@ Example = collections.namedtuple('Example', 'rule input text refusal')
 
 
 def page():
-    with open(os.path.join(TOP, 'docs/FORM.md'), encoding='utf-8') as file:
+    with open(os.path.join(TOP, 'docs/format/FORM.md'), encoding='utf-8') as file:
         return file.read()
 
 

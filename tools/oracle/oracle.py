@@ -1,5 +1,5 @@
 #!/usr/bin/env python3
-"""oracle.py: the companion of docs/FORM.md: the canonical text of a stream's events, computed anew, rule by rule.
+"""oracle.py: the companion of docs/format/FORM.md: the canonical text of a stream's events, computed anew, rule by rule.
 
 It is in Python's own means: whole trees, dictionaries, tuples, big integers. Before what a rule asks for stands its name in
 FORM.md. It was first written from the rules in plain words, without a look at the Rattle sources or at the definitions, and

@@ -5,15 +5,16 @@ from .code import read
 from .page import fixities, printed
 
 INTRODUCTION = """\
-This page is written by `tools/statement`: the contract of `{call}`, and each definition that it rests on, once, before its use.
-Who has read it has read all that the promise says; that it is kept is what the check shows (`tools/check-headline`). Names
-between ◌ are signs: `R ◆ S` is `◌◆◌`. `Type 0` are statements, `⊎` is or, `×` and, `⊥` never. A clause holds of each call that ends.
+`tools/statement` writes this page: the contract of `{call}`, and each definition that it rests on, once, before its use.
+If you have read it, you have read the whole promise. `tools/check-headline` checks the proof that the promise is kept.
+Names between ◌ are operators: `R ◆ S` uses `◌◆◌`. A `Type 0` is a statement; `⊎` is or, `×` is and, `⊥` is false.
+A clause holds of each call that returns. The signs are explained in [PROVED.md](PROVED.md#the-notation).
 """
 
 
 def untied(path):
-    """The definitions that no law ties down, and the files of which that is said whole, as docs/DEFINITIONS.md lists them."""
-    found = re.search(r"^### Definitions that no law ties down\n(.*?)^###? ", read(path), re.M | re.S)
+    """The definitions that no theorem constrains, and the files of which that is said whole, as docs/proof/DEFINITIONS.md lists them."""
+    found = re.search(r"^##+ Definitions that no theorem constrains\n(.*?)^##+ ", read(path), re.M | re.S)
     rows = [line.split("|")[1] for line in found[1].split("\n") if line.startswith("| ")] if found else []
     return {name for row in rows for name in re.findall(r"`([^`]+)`", row)}
 
@@ -43,7 +44,8 @@ def page_of(statement, definitions):
         *INTRODUCTION.format(call=call).splitlines(),
         "",
         f"{count_of(defined)} definitions and {len(statement.types)} types of the code in {total + len(contract)} lines, {comments} of them comments."
-        f" {count_of(loose)} definitions no law ties down (`docs/DEFINITIONS.md` says what holds them).",
+        f" No theorem constrains {count_of(loose)} of the definitions: [DEFINITIONS.md](DEFINITIONS.md#definitions-that-no-theorem-constrains)"
+        " says which tests do.",
         "## The contract",
         *said,
         "```",
@@ -60,12 +62,12 @@ def count_of(blocks):
 
 
 def words_of(statement):
-    """The words of the kit's library, by module."""
+    """The names from the kit's library, by module."""
     modules = {}
     for module, name in statement.words:
         # a type of the library and its variants stand together
         modules.setdefault(module.removeprefix("Rattle.").removesuffix(".TheVariants"), set()).add(name)
-    lines = ["## Words of the kit's library", "Lists, numbers, options and characters are the library's own; `rt lemma WORD` and its folder say what each is."]
+    lines = ["## Names from the kit's library", "Lists, numbers, options and characters are defined in the library of the Rattle kit; `rt lemma WORD` prints what each name is."]
     for module in sorted(modules):
         lines.append(f"- `{module}`: {' '.join(f'`{name}`' for name in sorted(modules[module]))}")
     return lines

@@ -5,7 +5,7 @@ from .code import Contract, Declared, read
 from .definitions import Definitions
 
 WIDTH = 128  # up to which a comment stands behind the line that it is of
-OWN = "What the calls promise (the project's own words, and the types of its code)"
+OWN = "What the calls promise (the project's own definitions, and the types of its code)"
 
 
 class Chapters:

@@ -24,7 +24,7 @@ OWN = re.compile(r"use Rattle\.(\w+)\.specs\.([\w.]+?)(?:\.\{(.*?)\}| as (\w+));
 
 def page(call):
     chapters = Chapters(f"{TOP}/tools/statements/chapters")
-    return page_of(Statement(f"{TOP}/crates", call, chapters), f"{TOP}/docs/DEFINITIONS.md")
+    return page_of(Statement(f"{TOP}/crates", call, chapters), f"{TOP}/docs/proof/DEFINITIONS.md")
 
 
 @functools.lru_cache(maxsize=None)
@@ -214,8 +214,8 @@ class OfThePages(unittest.TestCase):
                 body = re.search(rf"^pub (?:enum|struct) {name}\b(?:[^\n{{]*;$|.*?^}}$)", text, re.M | re.S)[0]
                 self.assertFalse(words_of(re.sub(r"[<>&]", " ", body)) & set(types[at + 1 :]), (call, name))
 
-    def test_what_no_law_ties_down_is_named_as_it_is_defined(self):
-        names = untied(f"{TOP}/docs/DEFINITIONS.md")
+    def test_what_no_theorem_constrains_is_named_as_it_is_defined(self):
+        names = untied(f"{TOP}/docs/proof/DEFINITIONS.md")
         known = set()
         for path in glob.glob(f"{TOP}/crates/*/specs/**/*.antt", recursive=True):
             if "/out/" not in path and not path.endswith("/Lib.antt"):

@@ -1,5 +1,5 @@
-//! Laws, no code: each stream that unfolds has a graph, and where equal keys of a store that keeps equal nodes once stand
-//! in it. What `yaml_compose` says of equal keys rests on them.
+//! Theorems about equal keys, no code: each stream whose aliases can be replaced has a graph, and equal keys of the store are
+//! equal keys of that graph. What `yaml_compose` says of equal keys cites them.
 #![tactic(auto)]
 
 pub mod laws;

@@ -1,6 +1,6 @@
-//! Two laws, no code: where any reading of a scalar goes on, the one that ends furthest does, and no more collections are open in
-//! a reading than there was room for. The clauses `decides` of `yaml_flow`, `yaml_block` and `yaml_read` rest on their lemmas:
-//! what a refusal has to say of the text, and what an answer says of all readings that a text could go on with.
+//! Theorems about which reading the text continues after, no code: if any reading of a scalar is followed by what must follow it,
+//! the longest one is. And a reading has no more open collections than are allowed. The clauses `decides` of `yaml_flow`,
+//! `yaml_block` and `yaml_read` cite them.
 #![tactic(auto)]
 
 pub mod laws;

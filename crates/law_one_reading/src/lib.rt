@@ -1,5 +1,5 @@
-//! Two laws, no code: bytes are read by the productions as one list of events at most, and mean one forest at most. `MeansAlone`
-//! in `IsCanonicalText` (`yaml_canon`) rests on them, and the proofs of the readers and of `law_going_on` on their lemmas.
+//! Two theorems, no code: a text has at most one reading, and bytes mean at most one list of documents. `MeansAlone` in
+//! `IsCanonicalText` (`yaml_canon`) cites them. The readers and `law_going_on` cite their lemmas.
 #![tactic(auto)]
 
 pub mod laws;

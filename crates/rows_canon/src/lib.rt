@@ -1,4 +1,4 @@
-//! Runs over readers and writers that give and take little at a time, or fail: tests alone.
+//! Test cases of readers and writers that take little at a time, or fail.
 #![tactic(auto)]
 
 #[cfg(test)]

@@ -1,4 +1,4 @@
-//! Rows of the core schema, as tests alone.
+//! Test cases of the core schema.
 #![tactic(auto)]
 
 #[cfg(test)]

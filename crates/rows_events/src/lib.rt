@@ -1,4 +1,4 @@
-//! Rows on event text, as tests alone.
+//! Test cases of the event notation.
 #![tactic(auto)]
 
 #[cfg(test)]

@@ -1,4 +1,4 @@
-//! Rows of events, the graphs that they give and the ranks of their nodes, as tests alone.
+//! Test cases of graphs and ranks.
 #![tactic(auto)]
 
 #[cfg(test)]

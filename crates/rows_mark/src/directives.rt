@@ -44,6 +44,25 @@ static MALFORMED: [Row; 18] = [
     ("\u{FEFF}%YAML 1.3\n---", 0, "9 BadDirective at byte 3"),
 ];
 
+/// A directive is repeated as soon as its name (`%YAML`) or its handle (`%TAG`) has been read: what follows on its line comes
+/// later from left to right.
+static REPEATED: [Row; 14] = [
+    ("%TAG !e! a:\n%TAG !e! t\t\n---", 0, "9 BadDirective at byte 12"),
+    ("%TAG !e! a:\n%TAG !e!\tt\n---", 0, "9 BadDirective at byte 12"),
+    ("%TAG !e! a:\n%TAG !e! \tt\n---", 0, "9 BadDirective at byte 12"),
+    ("%TAG !e! a:\n%TAG !e! t #\t\n---", 0, "9 BadDirective at byte 12"),
+    ("%TAG !e! a:\n%TAG !e! %zz\t\n---", 0, "9 BadDirective at byte 12"),
+    ("%TAG ! a:\n%TAG !\tt\n---", 0, "9 BadDirective at byte 10"),
+    ("%TAG !! a:\n%TAG !! t\t\n---", 0, "9 BadDirective at byte 11"),
+    ("%YAML 1.2\n%YAML 1.2\t\n---", 0, "9 BadDirective at byte 10"),
+    ("%YAML 1.2\n%YAML\t1.2\n---", 0, "9 BadDirective at byte 10"),
+    ("%YAML 1.2\n%YAML 1.3\n---", 0, "9 BadDirective at byte 10"),
+    ("%TAG !e! a:\n%TAG\t!e! t\n---", 0, "5 Tab at byte 16"),
+    ("%TAG !e! a:\n%TAG \t!e! t\n---", 0, "5 Tab at byte 17"),
+    ("%TAG !e! a:\n%TAG !f! t\t\n---", 0, "5 Tab at byte 22"),
+    ("%TAG !e! a:\n%YAML 1.2\t\n---", 0, "5 Tab at byte 21"),
+];
+
 /// A tab is no separation.
 static TABS: [Row; 9] = [
     ("%YAML\t1.2", 0, "5 Tab at byte 5"),
@@ -59,7 +78,7 @@ static TABS: [Row; 9] = [
 
 #[test]
 fn directives_end_or_are_refused(rt: HostRuntime) -> Result<(), Fail> {
-    let tables: [&[Row]; 3] = [&ENDS, &MALFORMED, &TABS];
+    let tables: [&[Row]; 4] = [&ENDS, &MALFORMED, &REPEATED, &TABS];
     for table in &tables {
         for row in *table {
             answers(&rt, Call::Directives, row)?;

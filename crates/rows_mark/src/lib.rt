@@ -1,4 +1,4 @@
-//! Rows of the comments, directives, tags and names that are read.
+//! Test cases of comments, directives, tags and anchors.
 #![tactic(auto)]
 
 #[cfg(test)]

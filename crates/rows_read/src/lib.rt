@@ -1,4 +1,4 @@
-//! Rows of streams, and the events or the fault that they are read to: tests alone.
+//! Test cases of streams: their events, or the fault.
 #![tactic(auto)]
 
 #[cfg(test)]

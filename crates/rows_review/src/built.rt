@@ -160,8 +160,8 @@ static FAULTS: [Row; 4] = [
         right: NONE,
         status: 2,
         told: Text {
-            front: "left:1:65550: 15 BadContent at byte 65553: 0[\"a ",
-            end: "...]: this text is none of its tag\n",
+            front: "left:1:65544: 15 BadContent at byte 65547: 0[\"a ",
+            end: "...]: `x` is no `!!int`: write a whole number, as 12, -12, 0o14 or 0xC\n",
             ..LONG_KEY
         },
         is_all: false,

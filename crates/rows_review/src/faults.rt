@@ -114,7 +114,7 @@ pub static MEANINGS: [Row; 7] = [
         left: b"a: !!str [x]\n",
         right: b"",
         status: 2,
-        out: "left:1:10: 14 WrongKind at byte 9: 0.a: this tag is for another kind of node\na: !!str [x]\n         ^\n",
+        out: "left:1:4: 14 WrongKind at byte 3: 0.a: `!!str` is for scalars, and this is a sequence\na: !!str [x]\n   ^\n",
         err: "",
     },
     Row {
@@ -123,7 +123,7 @@ pub static MEANINGS: [Row; 7] = [
         left: b"a: !!int x\n",
         right: b"",
         status: 2,
-        out: "left:1:10: 15 BadContent at byte 9: 0.a: this text is none of its tag\na: !!int x\n         ^\n",
+        out: "left:1:4: 15 BadContent at byte 3: 0.a: `x` is no `!!int`: write a whole number, as 12, -12, 0o14 or 0xC\na: !!int x\n   ^\n",
         err: "",
     },
     Row {

@@ -1,10 +1,12 @@
-//! What `yamlreview` tells, through `command_over`: tests alone.
+//! Test cases of what `yamlreview` prints and its statuses.
 #![tactic(auto)]
 
 #[cfg(test)]
 mod built;
 #[cfg(test)]
 mod differences;
+#[cfg(test)]
+mod empty_nodes;
 #[cfg(test)]
 mod faults;
 #[cfg(test)]
@@ -15,5 +17,7 @@ mod rows;
 mod runs;
 #[cfg(test)]
 mod sum;
+#[cfg(test)]
+mod tag_places;
 #[cfg(test)]
 mod warnings;

@@ -1,6 +1,6 @@
 //! Every table of runs over two files. A test is proved and paid for, a row is not, so one goes over all tables.
 use crate::runs::{ALL, Given, run};
-use crate::{differences, faults, places, warnings};
+use crate::{differences, empty_nodes, faults, places, tag_places, warnings};
 use std::process::Abort;
 use std::test::Fail;
 
@@ -30,8 +30,9 @@ fn is_told<T: Abort + AllocGlobal>(rt: &T, row: &Row) -> Result<(), Fail> {
 
 #[test]
 fn runs_over_two_files_are_told(rt: HostRuntime) -> Result<(), Fail> {
-    let tables: [&[Row]; 8] = [
+    let tables: [&[Row]; 10] = [
         &differences::ROWS,
+        &empty_nodes::ROWS,
         &faults::SYNTAX,
         &faults::MEANINGS,
         &faults::OTHERS,
@@ -39,6 +40,7 @@ fn runs_over_two_files_are_told(rt: HostRuntime) -> Result<(), Fail> {
         &places::ROWS,
         &places::GIT,
         &places::REFUSED,
+        &tag_places::ROWS,
     ];
     for table in &tables {
         for row in *table {

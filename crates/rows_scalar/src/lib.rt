@@ -1,4 +1,4 @@
-//! Rows of the scalars that are read and spelled.
+//! Test cases of scalars, read and written.
 #![tactic(auto)]
 
 #[cfg(test)]

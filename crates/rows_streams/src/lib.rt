@@ -1,5 +1,5 @@
-//! Vectors: inputs, and their events in the notation of yaml-test-suite, or their faults. One table a file, named for what
-//! its rows show; the events of a row are those that the definitions of the grammar give it.
+//! Test cases of streams with their events in the notation of yaml-test-suite, or their faults. Each file has one table. The
+//! events are those that the definitions of the grammar give.
 #![tactic(auto)]
 
 #[cfg(test)]

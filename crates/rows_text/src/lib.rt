@@ -1,4 +1,4 @@
-//! Rows of the checked texts and the faults.
+//! Test cases of checked texts and faults.
 #![tactic(auto)]
 
 #[cfg(test)]

@@ -1,4 +1,4 @@
-//! What the program prints and answers, through `command` and `command_over`: tests alone.
+//! Test cases of what `yamlcanon` prints and its statuses.
 #![tactic(auto)]
 
 #[cfg(test)]

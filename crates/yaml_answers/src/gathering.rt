@@ -14,10 +14,11 @@ const PIECE: usize = 4096;
 /// For how many bytes there is room at first. The allocator gives so much room by pages, of which only those that are used take memory.
 const ROOM: usize = 131_072;
 
-/// All that the reader gives up to its end, if that is at most `limit` bytes.
+/// All bytes of a reader up to its end, at most `limit`.
 ///
-/// Of a longer input it reads `limit + 1` bytes and answers `TooLong`. Any error of the reader,
-/// an interrupted call too, is `ReadFault`.
+/// # Errors
+/// `TooLong` after `limit + 1` bytes of a longer input. `ReadFault` if the reader fails, also by an interrupted call.
+/// `OutOfMemory`.
 pub fn gather<R: Read>(
     alloc: Global,
     input: &mut Counted<R>,

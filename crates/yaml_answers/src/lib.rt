@@ -1,4 +1,4 @@
-//! What is said of bytes that are read, of the readers that give them, and of the writers and rooms that a text goes into.
+//! What several calls share: reading a whole input (`gather`), the two sides of a comparison, words of contracts.
 #![tactic(auto)]
 
 pub mod gathering;

@@ -1,6 +1,6 @@
 //! The sides of a comparison.
 
-/// The side of a comparison that a refusal names.
+/// The side of a comparison that an error names.
 #[derive(Clone, Copy, Debug, PartialEq, Eq)]
 pub enum Side {
     Left,

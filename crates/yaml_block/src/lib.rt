@@ -1,4 +1,4 @@
-//! Block nodes and documents, read to events (YAML 1.2.2, 8.2 and 9.1).
+//! The reader of block nodes and documents (YAML 1.2.2, 8.2 and 9.1).
 #![tactic(auto)]
 
 pub mod block;

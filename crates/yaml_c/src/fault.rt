@@ -7,9 +7,8 @@ use crate::status::REFUSED;
 use yaml_canon::Side;
 use yaml_text::fault::Fault;
 
-/// Why an input is refused: the fault's number, the side on which it stands (0, or 1 for the right one of two), and
-/// what its message tells: its place, and of equal keys their entries, which are 0 where there are none, and its name,
-/// ended by zeros.
+/// Why an input is rejected: the number of the fault, the side (0, or 1 for the right one of two), its position, the two entries
+/// of equal keys (0 if there are none), and its name, ended by zeros.
 #[repr(C)]
 #[derive(Clone, Copy, Drop)]
 pub struct YamlcanonFault {
@@ -70,7 +69,7 @@ fn tell(side: Side, fault: Fault) -> YamlcanonFault
     }
 }
 
-/// Tells a fault of one side to the caller, and answers the status of a refusal.
+/// Reports a fault of one side to the caller, and returns the status of a rejection.
 pub fn refuse(side: Side, refusal: Fault, fault: &mut YamlcanonFault) -> u32
     ensures status { result ≡ 2 }
     ensures told { fault.new ≡ told side refusal }

@@ -1,7 +1,7 @@
-//! The canonicaliser for programs in other languages: `include/yamlcanon.h` declares these functions in C.
+//! The calls for programs in other languages. `include/yamlcanon.h` declares them in C.
 //!
-//! Each call is given all the memory that it writes, and keeps nothing. Its answer is a status: 0, or 1 where two
-//! streams differ, 2 where an input is refused, 3 where the room for a text is too small.
+//! The caller passes all memory that a call writes. A call keeps nothing. Its answer is a status: 0; 1 if two streams differ; 2
+//! if an input is rejected; 3 if the buffer for a text is too small.
 #![tactic(auto)]
 
 mod calls;

@@ -3,7 +3,7 @@ ghost use Rattle.std.specs.Prelude.{◌≡◌, ◌<◌, ◌≤◌, ◌⊎◌};
 
 use crate::status::{DONE, SHORT};
 
-/// Tells a text's length, of which a room of so many bytes has the text if it is long enough.
+/// Reports the length of a text. A buffer of that many bytes has the text if it is long enough.
 pub fn tell_length(needed: usize, room: usize, len: &mut usize) -> u32
     ensures status { (result ≡ 0) ⊎ (result ≡ 3) }
     ensures told { len.new ≡ needed }

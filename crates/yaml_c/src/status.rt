@@ -6,8 +6,8 @@ pub const DONE: u32 = 0;
 /// The status where two streams differ.
 pub const DIFFERENT: u32 = 1;
 
-/// The status where an input is refused.
+/// The status if an input is rejected.
 pub const REFUSED: u32 = 2;
 
-/// The status where the room for a text is too small.
+/// The status if the buffer for a text is too small.
 pub const SHORT: u32 = 3;

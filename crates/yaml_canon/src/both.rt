@@ -24,8 +24,8 @@ pub struct BothForests<'l> {
 }
 
 impl BothForests<'_> {
-    /// The nodes of both streams in one graph, equal ones mostly merged. The forest lends their texts. It gives up where memory is
-    /// refused.
+    /// The nodes of both streams in one graph, equal ones mostly merged. Their texts are borrowed from the store. It falls back
+    /// if memory does not suffice.
     pub fn graph(&self, alloc: Global) -> Result<Graph<'_>, GivesUp>
         requires { (left right : List ℕ) × HasBoth left right self.now }
         ensures { (left right : List ℕ) (has : HasBoth left right self.now) → IfOk result (λ graph. root_trees graph ≡ has.mean.lefts ++ has.mean.rights) }
@@ -42,10 +42,11 @@ pub(crate) struct RankedBoth<'l> {
     pub(crate) middle: usize,
 }
 
-/// The nodes of the streams that both sides are, those of the right one behind those of the left one.
+/// The nodes of two streams in one store: those of the left stream, then those of the right one.
 ///
-/// Refused is what `canonical` refuses of the left side while it reads or composes (1 to 17), else of the right one while it reads (1
-/// to 11). It gives up at what is refused later, and where memory is refused or a number does not fit.
+/// # Errors
+/// What `canonical` rejects of the left side while it reads and composes (1 to 17), otherwise of the right side while it reads (1
+/// to 11). It falls back for later rejections, for want of memory, and if a number does not fit.
 pub fn forest_of_both<'l>(
     alloc: Global,
     left: &'l [u8],
@@ -82,9 +83,8 @@ pub fn forest_of_both<'l>(
     Ok(BothForests { forest, middle })
 }
 
-/// The same, with a keeper that held nothing and now holds the events that the left side is read to and then those of the right one,
-/// and how many are the left one's: for what has to be known of these beside their nodes, as where in the text each stands, without a
-/// second reading.
+/// The same, with a keeper that starts empty and receives the events of the left side and then those of the right one; and how
+/// many of them belong to the left side. So a caller learns the offsets of events without a second reading.
 pub fn forest_of_both_with<'l, K: Keeper>(
     alloc: Global,
     left: &'l [u8],

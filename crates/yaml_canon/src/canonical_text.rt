@@ -44,13 +44,13 @@ fn spelled<I: Copy, V: RankedNodes<I>>(
     Ok(text)
 }
 
-/// The canonical text of the stream that these bytes are.
+/// The canonical text of the stream in these bytes.
 ///
-/// Refused are bytes that are no text (1 to 3), a text that is no stream of the profile (4 to 11),
-/// the first event with an alias or a tag that stands for nothing (12 to 17), a document that is too
-/// high (18), two equal keys of a mapping (19), a text that would be too long (20), and want of
-/// memory (21). Nothing else is: each stream that means an admitted forest is given its text, the
-/// canonical text itself and the block spelling among them, or memory is refused.
+/// # Errors
+/// 1 to 3: the bytes are not a text. 4 to 11: the text is not a stream of the profile. 12 to 17: an event has an alias or a tag
+/// without a meaning. 18: a document is too high. 19: a mapping has two equal keys. 20: the canonical text would be too long. 21:
+/// memory does not suffice. There are no other errors: each stream with admitted documents gets its text, unless memory does not
+/// suffice.
 pub fn canonical(alloc: Global, bytes: &[u8]) -> Result<String, Fault>
     ensures text { IfOk result (λ text. IsCanonicalText bytes.now (string_bytes text)) }
     ensures refused { IfErr result (CanonicalRefuses bytes.now) }

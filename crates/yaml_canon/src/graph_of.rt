@@ -21,12 +21,11 @@ use yaml_sink::sink::Keeper;
 use yaml_text::chars::Chars;
 use yaml_text::fault::Fault;
 
-/// The graph of the stream that these bytes are, which takes the texts of its events. What it does not
-/// have of its own the bytes lend.
+/// The graph of the stream in these bytes. It takes the texts of its events and borrows the rest from the bytes.
 ///
-/// Refused are bytes that are no text (1 to 3), a text that is no stream of the profile (4 to 11),
-/// the first event with an alias or a tag that stands for nothing (12 to 17), a document that is too
-/// high (18), and want of memory (21).
+/// # Errors
+/// 1 to 3: the bytes are not a text. 4 to 11: the text is not a stream of the profile. 12 to 17: an event has an alias or a tag
+/// without a meaning. 18: a document is too high. 21: memory does not suffice.
 #[inline(never)]
 pub fn graph_of<'a>(alloc: Global, bytes: &'a [u8]) -> Result<Graph<'a>, Fault>
     ensures graph { IfOk result (HasGraph bytes.now) }
@@ -39,7 +38,7 @@ pub fn graph_of<'a>(alloc: Global, bytes: &'a [u8]) -> Result<Graph<'a>, Fault>
     compose_owned(alloc, events)
 }
 
-/// The same graph, once it is known why no forest was had of the bytes: where they were refused, they are not read again.
+/// The same graph, after the store had no answer. If the bytes were rejected, they are not read again.
 #[inline(always)]
 pub fn graph_unless<'a>(alloc: Global, bytes: &'a [u8], none: NoForest) -> Result<Graph<'a>, Fault>
     requires { TellsWhy bytes.now none }
@@ -79,8 +78,8 @@ pub(crate) fn graph_unranked<'a>(
     }
 }
 
-/// The same graph, and a keeper that held nothing and now holds the events that the bytes are read to: for what has to be known of
-/// these beside their graph, as where in the text each stands, without a second reading.
+/// The same graph, with a keeper that starts empty and receives the events. So a caller learns the offsets of events without a
+/// second reading.
 pub fn graph_with<'a, K: Keeper>(
     alloc: Global,
     bytes: &'a [u8],

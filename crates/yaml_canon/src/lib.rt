@@ -1,4 +1,4 @@
-//! The canonical text of a YAML stream, and whether two streams are the same.
+//! The canonical text of a stream, and whether two streams are the same: `canonical`, `canonical_into`, `same`, `run_canonical`.
 #![tactic(auto)]
 
 pub mod both;

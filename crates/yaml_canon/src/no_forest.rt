@@ -6,7 +6,7 @@ use yaml_compact::GivesUp;
 use yaml_compose::Unmade;
 use yaml_text::fault::Fault;
 
-/// Why no forest is had of some bytes.
+/// Why the store has no documents of some bytes.
 #[derive(Clone, Copy, Debug, PartialEq, Eq)]
 pub enum NoForest {
     /// The bytes are no text (1 to 3), no stream of the profile (4 to 11), or one whose documents have no trees or are too high (12
@@ -49,7 +49,8 @@ impl From<Unmade> for NoForest {
     }
 }
 
-/// Why no forest is had of two streams: of the left one, or else of the right one. Of the other one nothing is told.
+/// Why the store has no documents of two streams: the reason of the left one, or otherwise of the right one. Nothing is said of
+/// the other one.
 #[derive(Clone, Copy, Debug, PartialEq, Eq)]
 pub struct NoForests {
     pub left: NoForest,

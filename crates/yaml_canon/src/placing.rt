@@ -69,11 +69,11 @@ fn place<I: Copy, V: RankedNodes<I>>(
     Ok(len)
 }
 
-/// Puts the canonical text of the stream that these bytes are at the start of the room, and answers
-/// the text's length in bytes. Where the room is too small nothing of it is changed; behind the text
-/// it is as it was. The text is held nowhere else.
+/// Writes the canonical text of the stream in these bytes to the start of a buffer, and returns the text's length in bytes. If
+/// the buffer is too small, it is not changed. Behind the text, the buffer is not changed. The text is held nowhere else.
 ///
-/// Refused is what `canonical` refuses, and the room is then as it was.
+/// # Errors
+/// Those of `canonical`. The buffer is then not changed.
 pub fn canonical_into(alloc: Global, bytes: &[u8], room: &mut [u8]) -> Result<usize, Fault>
     ensures text { IfOk result (PlacesCanonical bytes.now room.old room.new) }
     ensures refused { IfErr result (CanonicalRefuses bytes.now) }

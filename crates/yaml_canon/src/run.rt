@@ -86,16 +86,13 @@ fn write_canonical<W: Write>(alloc: Global, bytes: &[u8], out: &mut Counted<W>) 
     write_spelled(alloc, &view, graph.roots(), out)
 }
 
-/// Reads a stream to its end and writes its canonical text, which is never held whole: it goes out
-/// in pieces of at most 4,096 bytes, and then the writer is flushed.
+/// Reads a stream to its end, writes its canonical text in pieces of at most 4,096 bytes, and flushes the writer. The text is
+/// never held as a whole. Both counts must be below the greatest u64.
 ///
-/// Refused are, before the first byte goes out, what `canonical` refuses (1 to 21) and a reader that
-/// fails, also by an interrupted call (22); and a writer that fails or takes no byte of a piece (23),
-/// which then has a beginning of the text. An input of more bytes than the limit is refused once one
-/// byte more than that was read. The count of the reader, or of the writer, is one higher after 22,
-/// or 23, and else as it was.
-///
-/// Both counts are below the greatest u64.
+/// # Errors
+/// Before the first byte is written: those of `canonical` (1 to 21), and 22 if the reader fails, also by an interrupted call. 23
+/// if the writer fails or takes no byte of a piece. The writer then has a beginning of the text. If the input is longer than the
+/// limit, one byte more than the limit is read. 22 adds one to the reader's count, 23 to the writer's.
 pub fn run_canonical<R: Read, W: Write>(
     alloc: Global,
     input: &mut Counted<R>,

@@ -27,7 +27,7 @@ use yaml_rank::rank;
 use yaml_rank::ranks::Ranks;
 use yaml_text::fault::Fault;
 
-/// The answer for one side: what is refused is told with it.
+/// The answer for one side: an error names the side.
 pub fn on<T>(side: Side, answer: Result<T, Fault>) -> Result<T, (Side, Fault)>
     ensures ok { IfOk result (λ value. answer ≡ Ok value) }
     ensures err { IfErr result (λ refusal. (answer ≡ Err refusal.1) × (refusal.0 ≡ side)) }
@@ -83,15 +83,14 @@ fn compare<'a>(alloc: Global, left: Graph<'a>, right: Graph<'a>) -> Result<bool,
     }
 }
 
-/// Whether two streams have equally many documents, pairwise the same: aliases unfolded, mappings
-/// as sets of pairs, scalars by tag and content.
+/// Whether two streams have equally many documents that are pairwise equal: aliases replaced, mappings as sets of entries,
+/// scalars by tag and content. If both have a canonical text, they are the same exactly if the texts are.
 ///
-/// A refusal names the side, and is one of those of `canonical` but 20. The left side passes
-/// first what is judged of it alone (1 to 18), then the right one; then the keys of both are
-/// judged (19): told is the lower mapping with equal keys, or the left one. Want of memory after
-/// both sides were read is told as the left side's. Where both sides mean admitted forests, only
-/// want of memory is left; and where both have a canonical text, they are the same exactly where
-/// those texts are.
+/// # Errors
+/// An error names the side. It is one of `canonical`'s except 20. First the left side is checked alone (1 to 18), then the right
+/// one. Then the keys of both are checked (19): the error names the lower mapping with equal keys, or the left one. Want of
+/// memory after both sides were read names the left side. If both sides mean admitted documents, the only error is want of
+/// memory.
 pub fn same<'a>(alloc: Global, left: &'a [u8], right: &'a [u8]) -> Result<bool, (Side, Fault)>
     ensures answer { IfOk result (λ answer. Compares left.now right.now answer) }
     ensures texts { IfOk result (TellsTexts left.now right.now) }

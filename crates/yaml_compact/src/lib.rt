@@ -1,4 +1,4 @@
-//! Nodes in sixteen bytes each, equal ones mostly merged, and their ranks.
+//! The store: nodes in sixteen bytes each, equal ones mostly merged, and their ranks (`compact_rank`).
 #![tactic(auto)]
 
 mod equal;

@@ -1,4 +1,4 @@
-//! From a reader's events to nodes of a store, by a keeper that may give up.
+//! The streaming composer: from a reader's events to nodes of the store, as they are read. It may fall back to the graph.
 #![tactic(auto)]
 
 mod ahead;

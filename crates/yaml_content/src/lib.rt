@@ -1,5 +1,5 @@
-//! Values of the core schema (YAML 1.2.2, 10.3): what kind of value a plain text is, and the one content that stands for a
-//! text under the tag of each kind.
+//! Values of the core schema (YAML 1.2.2, 10.3): the kind of a plain text, and the one canonical content of a text under the tag
+//! of each kind.
 #![tactic(auto)]
 
 pub mod content;

@@ -1,4 +1,4 @@
-//! The event text of a text, written as the text is read.
+//! The event lines of a checked text, written while the text is read.
 #![tactic(auto)]
 
 mod lines;

@@ -1,4 +1,4 @@
-//! The event text of bytes.
+//! The event lines of bytes: `event_text`, `event_text_into`.
 #![tactic(auto)]
 
 ghost use Rattle.std.specs.Prelude.{◌≡◌, ℕ, List, map, IfOk, IfErr, OnErr};
@@ -19,9 +19,11 @@ use yaml_text::chars::Chars;
 use yaml_text::event::Event;
 use yaml_text::fault::Fault;
 
-/// The event text of an input's bytes: the events that they are read to, a line for each, in the
-/// notation of yaml-test-suite. A refusal is that of the reading. No list of the events is made, but where
-/// properties are much more than the input, as tags under a long prefix may be, or flow collections nest that have some.
+/// The events of an input, one line for each, in the notation of yaml-test-suite. No list of events is made, unless properties
+/// are much longer than the input.
+///
+/// # Errors
+/// Those of the reader (1 to 11), and `OutOfMemory`.
 pub fn event_text(alloc: Global, bytes: &[u8]) -> Result<String, Fault>
     ensures ok { IfOk result (λ text. IsEventText bytes.now (string_bytes text)) }
     ensures err { IfErr result (IsUnread bytes.now) }
@@ -51,11 +53,12 @@ fn place(alloc: Global, events: &[Event<'_>], room: &mut [u8]) -> Result<usize, 
     Ok(len)
 }
 
-/// Puts the event text of an input's bytes at the start of the room, and answers the text's length in bytes. Where the room is
-/// too small nothing of it is changed; behind the text it is as it was. The text is held nowhere else, but for a page of it where
-/// the room is long enough even if every byte of it were escaped: then the text is not measured before.
+/// Writes the event lines of an input to the start of a buffer, and returns their length in bytes. If the buffer is too small, it
+/// is not changed. Behind the text, the buffer is not changed. If the buffer suffices whatever is escaped, the length is not
+/// computed first, and one page of text is held.
 ///
-/// Refused is what `event_text` refuses, and the room is then as it was.
+/// # Errors
+/// Those of `event_text`. The buffer is then not changed.
 pub fn event_text_into(alloc: Global, bytes: &[u8], room: &mut [u8]) -> Result<usize, Fault>
     ensures text { IfOk result (PlacesEvents bytes.now room.old room.new) }
     ensures refused { IfErr result (IsUnread bytes.now) }

@@ -12,7 +12,7 @@ use std::alloc::{AllocError, Global};
 use yaml_text::event::Event;
 use yaml_text::fault::Fault;
 
-/// The room for a text, and how many bytes of it the text has so far. It takes no memory of its own.
+/// A buffer for a text, and how many bytes of the text it has so far.
 #[derive(Drop)]
 pub struct Room<'a> {
     bytes: &'a mut [u8],
@@ -64,7 +64,7 @@ impl<'a> Sink for Room<'a> {
     }
 }
 
-/// Writes the text of events over a room that is as long as the text. It takes no memory, and is always done.
+/// Writes the text of events over a buffer of exactly its length. It takes no memory and cannot fail for want of it.
 pub fn fill_events(events: &[Event<'_>], room: &mut [u8]) -> Result<(), Fault>
     requires { length room.old ≡ length (events_text (map event_of events.now)) }
     ensures done { IsOk result }
@@ -119,9 +119,9 @@ fn turn_pages(events: &[Event<'_>], page: &mut String, room: &mut [u8]) -> Resul
     Ok(at + page.len())
 }
 
-/// Puts the text of events at the start of a room that is long enough, and answers its length; behind it the room is as it was.
-/// A page is all the memory that is taken, before the first byte is put there: `OutOfMemory`, the only fault, leaves the room
-/// as it was.
+/// Writes the text of events to the start of a buffer that is long enough, and returns its length. Behind the text, the buffer is
+/// not changed. It takes the memory of one page before it writes. `OutOfMemory` is the only error and leaves the buffer
+/// unchanged.
 pub fn fill_by_pages(alloc: Global, events: &[Event<'_>], room: &mut [u8]) -> Result<usize, Fault>
     requires { length (events_text (map event_of events.now)) ≤ length room.old }
     ensures fills { IfOk result (Fills (events_text (map event_of events.now)) room.old room.new) }

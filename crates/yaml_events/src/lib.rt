@@ -1,4 +1,4 @@
-//! Events as text, one line for each, and back.
+//! The notation of yaml-test-suite for events: one line for each event, written and read.
 #![tactic(auto)]
 
 mod fault;

@@ -32,10 +32,8 @@ fn hold_line<'e, 's>(
     Ok(behind(left, &event))
 }
 
-/// Whether a text is that of these events, in the notation of yaml-test-suite.
-///
-/// Each line is held against its event as it is read, so that no list of the lines is made. Lines and
-/// faults are those of `read_event_text`: a bad line is told also behind one that differs.
+/// Whether a text is that of these events, in the notation of yaml-test-suite. Each line is compared with its event while it is
+/// read, so no list of lines is made. Errors are those of `read_event_text`: a bad line is reported also after one that differs.
 pub fn is_event_text(alloc: Global, text: &str, events: &[Event<'_>]) -> Result<bool, EventFault>
     ensures told { IfOk result (TellsEventText text.now (map event_of events.now)) }
     ensures refused { IfErr result (RefusesEventText text.now) }

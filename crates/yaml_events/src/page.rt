@@ -12,8 +12,7 @@ use yaml_text::fault::Fault;
 /// A page that has as many bytes or more is full.
 pub const PAGE: usize = 4096;
 
-/// An empty page, which has room for any one of the events' lines behind what is not yet full. The only fault is
-/// `OutOfMemory`.
+/// An empty page with room for any one of the events' lines. The only error is `OutOfMemory`.
 pub fn page_for(alloc: Global, events: &[Event<'_>]) -> Result<String, Fault>
     ensures empty { IfOk result (λ page. string_bytes page ≡ []) }
     ensures room { IfOk result (λ page. All (λ e. 4096 + length (event_line e ++ (10 ∷ [])) ≤ string_capacity page) (map event_of events.now)) }

@@ -28,8 +28,8 @@ fn before_value(style: Style) -> &'static str
     }
 }
 
-/// Appends the line of a scalar without properties, with its LF. The only fault is `OutOfMemory`; a part of the line may then
-/// stand in the text.
+/// Appends the line of a scalar without properties, with its LF. The only error is `OutOfMemory`. The text may then have a part
+/// of the line.
 #[tactic(auto, unfolding(yaml_definitions::specs::model::EventText::event_line))]
 pub fn push_scalar_line(style: Style, text: &str, out: &mut String) -> Result<(), Fault>
     ensures ok { OnOk result (string_bytes out.new ≡ string_bytes out.old ++ (event_line (scalar_event None untagged (style_of style) text.now) ++ (10 ∷ []))) }
@@ -41,8 +41,7 @@ pub fn push_scalar_line(style: Style, text: &str, out: &mut String) -> Result<()
     Ok(())
 }
 
-/// Appends an anchor and a tag, where they are, as a line has them. The only fault is `OutOfMemory`; a part of them may then
-/// stand in the text.
+/// Appends an anchor and a tag, if there are any. The only error is `OutOfMemory`. The text may then have a part of them.
 pub fn push_properties(
     anchor: &Option<CowStr<'_>>,
     tag: &EventTag<'_>,

@@ -9,11 +9,12 @@ use crate::line::read_line;
 use std::alloc::Global;
 use yaml_text::event::Event;
 
-/// The events whose text this is: one for each line, in the notation of yaml-test-suite.
+/// The events of a text: one for each line, in the notation of yaml-test-suite. Each line ends with LF and has the one
+/// presentation that `write_events` gives. The nesting of events is not checked. Names, tags and texts are slices if they are in
+/// the text literally.
 ///
-/// Each line is ended by LF and has one spelling, that of `write_events`. `BadLine` names the
-/// first line, from 1, that is no event's; a last line without LF is none. How the events nest is
-/// not looked at. Names, tags and texts are slices where they stand in the text as they are.
+/// # Errors
+/// `BadLine` names the first line, from 1, that is not an event's. A last line without LF is not one. `OutOfMemory`.
 pub fn read_event_text<'a>(alloc: Global, text: &'a str) -> Result<Vec<Event<'a>>, EventFault>
     ensures events { IfOk result (λ v. EventText text.now (map event_of v.items)) }
     ensures refused { IfErr result (RefusesEventText text.now) }

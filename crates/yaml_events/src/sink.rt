@@ -3,7 +3,7 @@ ghost use Rattle.std.specs.Prelude.{◌≡◌, ◌≤◌, ◌<◌, ◌+◌, ◌+
 
 use std::alloc::AllocError;
 
-/// What takes a text piece by piece. It fails where there is no room for a piece.
+/// What receives a text piece by piece. It fails if there is no room for a piece.
 pub trait Sink {
     // The bytes that it has.
     ghost bytes: { Self → List ℕ };

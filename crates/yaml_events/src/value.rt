@@ -38,7 +38,7 @@ fn is_kept(byte: u8) -> bool
     (byte >= b' ') & (byte != b'\\')
 }
 
-/// Appends a text as a value, by runs of what stands for itself.
+/// Appends a text as a value, with escapes.
 pub fn push_value<S: Sink>(text: &str, out: &mut S) -> Result<(), AllocError>
     ensures ok { OnOk result (S.bytes out.new ≡ S.bytes out.old ++ value_text text.now) }
     ensures keeps { S.room out.old ≤ S.room out.new }
@@ -77,7 +77,7 @@ fn unescape(byte: u8) -> Option<char>
     }
 }
 
-/// The text that a value stands for: a slice where nothing in it is escaped, else put together of runs.
+/// The text of a value: a slice if nothing in it is escaped, otherwise a new text.
 pub fn read_value<'a>(alloc: Global, value: &'a str) -> Result<CowStr<'a>, LineFault>
     ensures reads { Parses (λ x. value.now ≡ value_text x) (λ x. value.now ≡ value_text x) cow_str_bytes result }
     ensures utf8 { IfOk result (λ x. IsUtf8 (cow_str_bytes x)) }

@@ -120,8 +120,7 @@ fn push_event<S: Sink>(event: &Event<'_>, out: &mut S) -> Result<(), AllocError>
     }
 }
 
-/// Appends an event's line with its LF, which is refused only where there was no room for it; a part of the line may then
-/// stand there.
+/// Appends an event's line with its LF. It fails only if there is no room for it. A part of the line may then be there.
 pub fn put_line<S: Sink>(event: &Event<'_>, out: &mut S) -> Result<(), AllocError>
     ensures ok { OnOk result (S.bytes out.new ≡ S.bytes out.old ++ (event_line (event_of event.now) ++ (10 ∷ []))) }
     ensures keeps { S.room out.old ≤ S.room out.new }
@@ -132,8 +131,8 @@ pub fn put_line<S: Sink>(event: &Event<'_>, out: &mut S) -> Result<(), AllocErro
     out.put("\n")
 }
 
-/// Appends an event's line with its LF, as `write_events` writes it. The only fault is `OutOfMemory`,
-/// and only where the text had no room for the line; a part of the line may then stand in it.
+/// Appends an event's line with its LF, as `write_events` writes it. The only error is `OutOfMemory`, only if the text had no
+/// room for the line. A part of the line may then be there.
 pub fn push_line(event: &Event<'_>, out: &mut String) -> Result<(), Fault>
     ensures ok { OnOk result (string_bytes out.new ≡ string_bytes out.old ++ (event_line (event_of event.now) ++ (10 ∷ []))) }
     ensures keeps { string_capacity out.old ≤ string_capacity out.new }

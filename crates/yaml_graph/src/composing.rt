@@ -11,13 +11,13 @@ use yaml_nodes::graph::Graph;
 use yaml_text::event::Event;
 use yaml_text::fault::Fault;
 
-/// The graph of a stream's events, which are those of some documents, well nested. Nodes are
-/// numbered in the order in which they close. Texts and tags move from the events to the nodes.
+/// The graph of the events of some documents. Nodes are numbered in the order in which they end. Texts and tags move from the
+/// events to the nodes.
 ///
-/// Refused are, at the first event of which one is true: an alias that no node before it in its
-/// document is named for (12) or whose node is still open (13), a core tag on another kind of node
-/// (14), a text that a written core tag does not match (15), and an int (16) or a float (17) out of
-/// range. Then the first document whose tree is higher than the limit (18).
+/// # Errors
+/// At the first event that has one: an alias without an earlier node of its name in the document (12), or to a node that is still
+/// open (13); a core tag on another kind of node (14); a text that does not match its explicit core tag (15); an int (16) or a
+/// float (17) out of range. Otherwise the first document that is higher than the limit (18).
 pub fn compose_owned<'s>(alloc: Global, events: Vec<Event<'s>>) -> Result<Graph<'s>, Fault>
     requires { Composable events.items }
     ensures { (ds : List Document) → map event_of events.entry.items ≡ stream_events ds → MatchResult result (Composed ds) (RefusesStream ds) }

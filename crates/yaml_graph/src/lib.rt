@@ -1,4 +1,4 @@
-//! From the events of a stream to the graph of its nodes, each of which stands for its unfolded tree.
+//! From the events of a stream to the graph of its nodes: `compose`, `compose_owned`.
 #![tactic(auto)]
 
 pub mod composing;

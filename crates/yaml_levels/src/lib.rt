@@ -1,4 +1,4 @@
-//! The nodes of a graph by height, and the ranks of those of one height, by the ranks of their parts.
+//! The nodes of a graph by height, and the ranks of the nodes of one height.
 #![tactic(auto)]
 
 mod entries;
@@ -12,6 +12,6 @@ mod order;
 mod prefix;
 pub mod ranks;
 pub mod tags;
-mod visits;
+pub mod visits;
 
 pub use ranks::Ranks;

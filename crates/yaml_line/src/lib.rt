@@ -1,4 +1,5 @@
-//! What nodes stand on: lines and separation, implicit keys, levels and node properties; and what a flow node is once it is read.
+//! What the readers of flow and block nodes share: lines, separation, implicit keys, node properties (YAML 1.2.2, 6.6, 6.7, 6.9,
+//! 7.4.2).
 #![tactic(auto)]
 
 pub mod flow;

@@ -8,7 +8,6 @@ use Rattle.std.proofs.lemmas.Bool.{cases_lt}
 use Rattle.std.proofs.lemmas.Str.{encodes-chars, encodes-IsAscii, chars-IsAscii}
 use lib.Utf8.{encodes}
 use Rattle.yaml_text.specs.LeafAnswer.{Only}
-use Rattle.yaml_text.specs.LeafAnswer.{Unread}
 use Rattle.yaml_definitions.specs.grammar.Rules.{◌◆◌, Spans, run, some_run, Stands, word, chr}
 use Rattle.yaml_definitions.specs.grammar.Characters.{is_ns, is_nb, is_break, is_space}
 use Rattle.yaml_definitions.specs.grammar.Separation.{StartsLine, s-l-comments as s_l_comments}
@@ -19,9 +18,9 @@ use Rattle.yaml_text.proofs.Runs.{same_char, run_same}
 use Rattle.yaml_text.proofs.Breaks.{run_join}
 use Rattle.yaml_text.proofs.LineRuns.{inside_no_line}
 use Rattle.yaml_text.proofs.RestLemmas.{from_s_b, no_blank}
-use Rattle.yaml_mark.specs.DirectiveParts.{version_rest, binding_rest, parameter, prefix_run, prefix_start, body, whole_directive, Settles, Unsettled}
+use Rattle.yaml_mark.specs.DirectiveParts.{version_rest, binding_rest, parameter, prefix_run, prefix_start, body, whole_directive, Settles, is_repeated, OnlyRepeats, WholeRepeats}
 use Rattle.yaml_mark.proofs.AsciiLemmas.{AllLow, all_ascii}
-use Rattle.yaml_definitions.specs.grammar.Tags.{ns-tag-prefix as tag_prefix}
+use Rattle.yaml_definitions.specs.grammar.Tags.{Handles, ns-tag-prefix as tag_prefix}
 use Rattle.yaml_text.proofs.Classes.{ns_two, ns_percent, solid_nb, solid_no_space}
 use Rattle.yaml_text.proofs.TagRuns.{handle_of}
 use Rattle.yaml_text.proofs.DirectiveRuns.{AllOf, yaml_all, tag_all, yaml_known, tag_known, known_no, word_run, word_text, spaces_nb, ns_nb_run, handle_nb, params_nb, prefix_nb, char_inside, run_inside, one_nb, Rest, blank_then, rest_same}
@@ -230,13 +229,13 @@ module _ (cs : List ℕ) where
     view : (f : ℕ) (w : Directive) → body cs i f w → View start end f w
     view f w q = view_of i start end f w percent solid stop q
 
-    pub no_version : slice_range cs start end ≡ codes "YAML" → ((j : ℕ) → version_rest cs end j → ⊥) → Unsettled cs (body cs) i
-    no_version n none k m w q c = go (view k w q)
+    pub no_version : slice_range cs start end ≡ codes "YAML" → ((j : ℕ) → version_rest cs end j → ⊥) → (v : Bool) (hs : Handles) → OnlyRepeats cs v hs (body cs) i
+    no_version n none v hs k m w q c = absurd (go (view k w q))
       where
         go : View start end k w → ⊥
-        go (of_version o v e) = none k v
-        go (of_binding o v) = yaml_no_tag _ n o
-        go (of_reserved l o v e) = known_no _ _ yaml_known n o
+        go (of_version o u e) = none k u
+        go (of_binding o u) = yaml_no_tag _ n o
+        go (of_reserved l o u e) = known_no _ _ yaml_known n o
 
     pub version_settles : (e : ℕ) → slice_range cs start end ≡ codes "YAML" → version_rest cs end e → Settles cs (body cs) i e version
     unfolding body yaml_directive version_rest
@@ -250,13 +249,22 @@ module _ (cs : List ℕ) where
         go k m w c (of_binding o u) = absurd (yaml_no_tag _ n o)
         go k m w c (of_reserved l o u f) = absurd (known_no _ _ yaml_known n o)
 
-    pub no_binding : slice_range cs start end ≡ codes "TAG" → Unsettled cs (binding_rest cs) end → Unsettled cs (body cs) i
-    no_binding n none k m w q c = go (view k w q)
+    -- a version behind a version, whatever follows its name
+    pub version_repeats : slice_range cs start end ≡ codes "YAML" → (v : Bool) (hs : Handles) → v ≡ true → OnlyRepeats cs v hs (body cs) i
+    version_repeats n v hs t k m w q c = go (view k w q)
       where
-        go : View start end k w → ⊥
-        go (of_version o v e) = yaml_no_tag _ o n
-        go (of_binding o v) = none k m w v c
-        go (of_reserved l o v e) = known_no _ _ tag_known n o
+        go : View start end k w → is_repeated v hs w ≡ true
+        go (of_version o u e) = ap (is_repeated v hs) e ∙ t
+        go (of_binding o u) = absurd (yaml_no_tag _ n o)
+        go (of_reserved l o u e) = absurd (known_no _ _ yaml_known n o)
+
+    pub binding_repeats : slice_range cs start end ≡ codes "TAG" → (v : Bool) (hs : Handles) → OnlyRepeats cs v hs (binding_rest cs) end → OnlyRepeats cs v hs (body cs) i
+    binding_repeats n v hs repeats k m w q c = go (view k w q)
+      where
+        go : View start end k w → is_repeated v hs w ≡ true
+        go (of_version o u e) = absurd (yaml_no_tag _ o n)
+        go (of_binding o u) = repeats k m w u c
+        go (of_reserved l o u e) = absurd (known_no _ _ tag_known n o)
 
     pub binding_body : (e : ℕ) (d : Directive) → slice_range cs start end ≡ codes "TAG" → Settles cs (binding_rest cs) end e d → Settles cs (body cs) i e d
     unfolding body tag_directive binding_rest
@@ -270,8 +278,8 @@ module _ (cs : List ℕ) where
         go k m w c (of_binding o u) = s.only k m w u c
         go k m w c (of_reserved l o u f) = absurd (known_no _ _ tag_known n o)
 
-    pub no_body : end ≡ start → Unsettled cs (body cs) i
-    no_body e k m w q c = go (view k w q)
+    pub no_body : end ≡ start → (v : Bool) (hs : Handles) → OnlyRepeats cs v hs (body cs) i
+    no_body e t hs k m w q c = absurd (go (view k w q))
       where
         none : slice_range cs start end ≡ []
         none = ap (slice_range cs start) e ∙ slice_none cs start
@@ -304,13 +312,14 @@ module _ (cs : List ℕ) where
   unfolding directive body
   directive_parts i j v (a, (e, s), (b, (d, r, f), t)) = (b, d, subst (λ z. body cs z b d) e r, f, t)
 
-  pub no_directive : (i : ℕ) → Unsettled cs (body cs) i → Unread (whole_directive cs) i
+  pub directive_repeats : (i : ℕ) (v : Bool) (hs : Handles) → OnlyRepeats cs v hs (body cs) i → WholeRepeats cs v hs i
   unfolding whole_directive
-  no_directive i n j v (k, r, q) = let (f, d, b, e, c) = directive_parts i k v r in n f k d b c
+  directive_repeats i v hs repeats j d (k, r, q) =
+      let (f, g, b, e, c) = directive_parts i k (d ∷ []) r in let same : d ≡ g = cc in ap (is_repeated v hs) same ∙ repeats f k g b c
 
-  pub no_comments_after : (i e : ℕ) (d : Directive) → Settles cs (body cs) i e d → ((j : ℕ) → s_l_comments cs e j → ⊥) → Unread (whole_directive cs) i
+  pub no_comments_after : (i e : ℕ) (d : Directive) (v : Bool) (hs : Handles) → Settles cs (body cs) i e d → ((j : ℕ) → s_l_comments cs e j → ⊥) → WholeRepeats cs v hs i
   unfolding whole_directive
-  no_comments_after i e d s n j v (k, r, q) = let (f, g, b, h, c) = directive_parts i k v r in let (u, (m, t)) = s.only f k g b c in n m t
+  no_comments_after i e d v hs s n j w (k, r, q) = let (f, g, b, h, c) = directive_parts i k (w ∷ []) r in let (u, (m, t)) = s.only f k g b c in absurd (n m t)
 
   pub directive_only : (i start e to : ℕ) (d : Directive) → chr cs 37 i start → StartsLine cs i → Settles cs (body cs) i e d → s_l_comments cs e to → Stuck cs to → Only (whole_directive cs) i to (d ∷ [])
   unfolding whole_directive directive body

@@ -1,18 +1,19 @@
 -- The parts of directives.
 use Rattle.std.proofs.Common.{◌≡◌, ◌≢◌, ℕ, ◌+◌, ◌<◌, ◌⊎◌, inl, inr, List, Bool, true, false, Some, refl, sym, ◌∙◌, ap, subst, arith}
-use Rattle.std.specs.Prelude.{slice_get, slice_range, ◌==◌}
+use Rattle.std.specs.Prelude.{slice_get, slice_range, ◌==◌, bytes_eq, is_some}
+use Rattle.std.specs.Map.{lookup}
 use Rattle.std.proofs.Math.Nat.{eq-or-lt_of_le}
 use Rattle.yaml_definitions.specs.grammar.Rules.{Spans, run, some_run, Stands}
 use Rattle.yaml_definitions.specs.grammar.Characters.{is_ns, is_space, is_word, is_uri, is_tag}
 use Rattle.yaml_definitions.specs.grammar.Separation.{s-l-comments as s_l_comments}
-use Rattle.yaml_definitions.specs.grammar.Tags.{ns-tag-prefix as tag_prefix, uri_char, c-tag-handle as tag_handle}
+use Rattle.yaml_definitions.specs.grammar.Tags.{Handles, ns-tag-prefix as tag_prefix, uri_char, c-tag-handle as tag_handle}
 use Rattle.yaml_definitions.specs.grammar.Directives as grammar
 use Rattle.yaml_text.specs.Lines.{Inside}
 use Rattle.yaml_text.proofs.Runs.{same_char, no_stand, run_same, run_none}
 use Rattle.yaml_text.proofs.LineRuns.{inside_no_line}
 use Rattle.yaml_text.proofs.RestLemmas.{from_s_b, no_blank}
 use Rattle.yaml_mark.specs.Parts.{char_or_escape, handle_rest}
-use Rattle.yaml_mark.specs.DirectiveParts.{version_rest, binding_rest, parameter, prefix_start, prefix_run, Settles, Unsettled}
+use Rattle.yaml_mark.specs.DirectiveParts.{version_rest, binding_rest, parameter, prefix_start, prefix_run, Settles, is_repeated, OnlyRepeats}
 use Rattle.yaml_mark.proofs.CommentLemmas.{hash_rest}
 use Rattle.yaml_text.proofs.Classes.{space_bang, space_one, word_bang, solid_nb, solid_no_space, space_no_word}
 use Rattle.yaml_text.proofs.TagRuns.{spans_same, uri_same, Handle, named, double, single, handle_of, handle_first}
@@ -133,36 +134,47 @@ module _ (cs : List ℕ) where
   gap_first : (i k : ℕ) → some_run cs is_space i k → Stands cs is_space i
   gap_first i k (r, l) = r.1 i (omega arith) l
 
-  pub no_binding_gap : (i : ℕ) → (Stands cs is_space i → ⊥) → Unsettled cs (binding_rest cs) i
+  pub no_binding_gap : (i : ℕ) → (Stands cs is_space i → ⊥) → (hs : Handles) (v : Bool) → OnlyRepeats cs v hs (binding_rest cs) i
   unfolding binding_rest
-  no_binding_gap i n k m w (x, r, q) c = gap_none i x n r
+  no_binding_gap i n hs v k m w (x, r, q) c = absurd (gap_none i x n r)
 
   -- spaces up to the handle
   handle_start : (i d x a : ℕ) (h : List ℕ) → some_run cs is_space i d → (Stands cs is_space d → ⊥) → some_run cs is_space i x → tag_handle cs x a h → x ≡ d
   handle_start i d x a h (r, l) stop (s, m) t =
       run_same cs is_space i x d s r (no_stand cs is_space x 33 (handle_first cs x a (handle_of cs x a h t).0) space_bang) stop
 
-  pub no_binding_bang : (i d : ℕ) → some_run cs is_space i d → (Stands cs is_space d → ⊥) → slice_get cs d ≢ Some 33 → Unsettled cs (binding_rest cs) i
+  pub no_binding_bang : (i d : ℕ) → some_run cs is_space i d → (Stands cs is_space d → ⊥) → slice_get cs d ≢ Some 33 → (hs : Handles) (v : Bool) → OnlyRepeats cs v hs (binding_rest cs) i
   unfolding binding_rest
-  no_binding_bang i d r stop n k m w (x, s, (a, h, t, q)) c =
-      n (ap (slice_get cs) (sym (handle_start i d x a h r stop s t)) ∙ handle_first cs x a (handle_of cs x a h t).0)
+  no_binding_bang i d r stop n hs v k m w (x, s, (a, h, t, q)) c =
+      absurd (n (ap (slice_get cs) (sym (handle_start i d x a h r stop s t)) ∙ handle_first cs x a (handle_of cs x a h t).0))
 
-  pub no_handle_gap : (i d f a : ℕ) → some_run cs is_space i d → (Stands cs is_space d → ⊥) → f ≡ d + 1 → handle_rest cs f a → (Stands cs is_space a → ⊥) → Unsettled cs (binding_rest cs) i
+  pub no_handle_gap : (i d f a : ℕ) → some_run cs is_space i d → (Stands cs is_space d → ⊥) → f ≡ d + 1 → handle_rest cs f a → (Stands cs is_space a → ⊥) → (hs : Handles) (v : Bool) → OnlyRepeats cs v hs (binding_rest cs) i
   unfolding binding_rest
-  no_handle_gap i d f a r stop e t n k m w (x, s, (b, h, u, (y, g, q))) c =
+  no_handle_gap i d f a r stop e t n hs v k m w (x, s, (b, h, u, (y, g, q))) c =
       let at = handle_start i d x b h r stop s u in
       let b_is = handle_gap d b a (subst (λ z. Handle cs z b) at (handle_of cs x b h u).0) (gap_first b y g) (subst (λ z. handle_rest cs z a) e t) in
-      n (subst (Stands cs is_space) b_is (gap_first b y g))
+      absurd (n (subst (Stands cs is_space) b_is (gap_first b y g)))
+
+  -- a handle that is bound already, whatever follows it
+  pub bound_repeats : (i d f a : ℕ) (n : List ℕ) → some_run cs is_space i d → (Stands cs is_space d → ⊥) → f ≡ d + 1 → handle_rest cs f a → n ≡ slice_range cs d a →
+      (hs : Handles) → is_some (lookup (bytes_eq n) hs) ≡ true → (v : Bool) → OnlyRepeats cs v hs (binding_rest cs) i
+  unfolding binding_rest
+  bound_repeats i d f a n r stop e t name hs bound v k m w (x, s, (b, h, u, (y, g, (pre, q, z)))) c =
+      let at = handle_start i d x b h r stop s u in
+      let (hd, h_is) = handle_of cs x b h u in
+      let b_is = handle_gap d b a (subst (λ o. Handle cs o b) at hd) (gap_first b y g) (subst (λ o. handle_rest cs o a) e t) in
+      let same : h ≡ n = h_is ∙ ap (λ o. slice_range cs o b) at ∙ ap (slice_range cs d) b_is ∙ sym name in
+      ap (is_repeated v hs) z ∙ ap (λ o. is_some (lookup (bytes_eq o) hs)) same ∙ bound
 
   pub no_prefix_start : (i d f a p : ℕ) → some_run cs is_space i d → (Stands cs is_space d → ⊥) → f ≡ d + 1 → handle_rest cs f a → some_run cs is_space a p → (Stands cs is_space p → ⊥) →
-      ((j : ℕ) → prefix_start cs p j → ⊥) → Unsettled cs (binding_rest cs) i
+      ((j : ℕ) → prefix_start cs p j → ⊥) → (hs : Handles) (v : Bool) → OnlyRepeats cs v hs (binding_rest cs) i
   unfolding binding_rest prefix_run
-  no_prefix_start i d f a p r stop e t g halt n k m w (x, s, (b, h, u, (y, v, (pre, q, z)))) c =
+  no_prefix_start i d f a p r stop e t g halt n hs o k m w (x, s, (b, h, u, (y, v, (pre, q, z)))) c =
       let at = handle_start i d x b h r stop s u in
       let b_is = handle_gap d b a (subst (λ z. Handle cs z b) at (handle_of cs x b h u).0) (gap_first b y v) (subst (λ z. handle_rest cs z a) e t) in
       let (run_is, eq) = prefix_parts y k pre q in
-      let y_is = run_same cs is_space a y p (subst (λ z. run cs is_space z y) b_is v.0) g.0 (λ o. solid_no_space cs y (starts_solid y k run_is) o) halt in
-      n run_is.0 (subst (λ z. prefix_start cs z run_is.0) y_is run_is.1)
+      let y_is = run_same cs is_space a y p (subst (λ z. run cs is_space z y) b_is v.0) g.0 (λ l. solid_no_space cs y (starts_solid y k run_is) l) halt in
+      absurd (n run_is.0 (subst (λ z. prefix_start cs z run_is.0) y_is run_is.1))
 
   pub binding_settles : (i d f a p e : ℕ) → some_run cs is_space i d → (Stands cs is_space d → ⊥) → slice_get cs d ≡ Some 33 → f ≡ d + 1 → handle_rest cs f a → some_run cs is_space a p → (Stands cs is_space p → ⊥) →
       prefix_run cs p e → ((j : ℕ) → uri_char cs e j → ⊥) → ((k : ℕ) → prefix_run cs p k → Inside cs k) →

@@ -1,5 +1,5 @@
 -- A document's directives, one after another: from a place one list at most.
-use Rattle.std.proofs.Common.{◌≡◌, ◌≢◌, ℕ, ◌+◌, ◌⊎◌, inl, inr, List, [], ◌∷◌, ◌++◌, Bool, true, false, not, Some, None, cond, refl, sym, ◌∙◌, ap, subst, arith, append_assoc}
+use Rattle.std.proofs.Common.{◌≡◌, ◌≢◌, ℕ, ◌+◌, ◌⊎◌, inl, inr, List, [], ◌∷◌, ◌++◌, Bool, true, false, not, Some, cond, refl, sym, ◌∙◌, ap, subst, arith, append_assoc}
 use Rattle.std.specs.Prelude.{slice_get, bytes_eq, ◌||◌, ◌&&◌, is_some}
 use Rattle.std.specs.List.{list_any}
 use Rattle.std.specs.Map.{lookup}
@@ -16,7 +16,7 @@ use Rattle.yaml_definitions.specs.grammar.Directives.{Directive, version, reserv
 use Rattle.yaml_text.proofs.Runs.{same_char, run_none}
 use Rattle.yaml_text.proofs.LineRuns.{end_stops}
 use Rattle.yaml_text.proofs.RestLemmas.{from_l, no_blank}
-use Rattle.yaml_mark.specs.DirectiveParts.{body, whole_directive}
+use Rattle.yaml_mark.specs.DirectiveParts.{body, whole_directive, is_repeated, WholeRepeats}
 use Rattle.yaml_mark.proofs.CommentLemmas.{Stuck}
 use Rattle.yaml_text.proofs.Classes.{ns_percent, solid_nb, solid_no_space}
 use Rattle.yaml_mark.proofs.BodyLemmas.{directive_parts}
@@ -78,6 +78,12 @@ bound_clashes h p (binding g m ∷ ds) = ap (λ t. t || list_any (λ e. excludes
         (t || list_any (λ e. excludes e (binding h p)) ds) ≡ is_some (cond t (Some m) (lookup (bytes_eq h) (bindings ds)))
     pick true e = refl
     pick false e = e
+
+-- a directive that is repeated clashes with one of those before it
+pub repeated_clashes : (ds : List Directive) (d : Directive) (v : Bool) (hs : Handles) → v ≡ list_any (λ e. excludes e version) ds → bindings ds ≡ hs → is_repeated v hs d ≡ true → list_any (λ e. excludes e d) ds ≡ true
+repeated_clashes ds version v hs e b t = sym e ∙ t
+repeated_clashes ds reserved v hs e b t = let z : false ≡ true = t in absurd (cc)
+repeated_clashes ds (binding h p) v hs e b t = bound_clashes h p ds ∙ ap (λ z. is_some (lookup (bytes_eq h) z)) b ∙ t
 
 reserved_apart : (ds : List Directive) → list_any (λ e. excludes e reserved) ds ≡ false
 unfolding excludes
@@ -227,12 +233,12 @@ module _ (cs : List ℕ) where
     handles_are = bindings_more r.ds reserved ∙ ap (λ z. bindings r.ds ++ z) reserved_bindings ∙ append-nil (bindings r.ds) ∙ r.handles_are;
   }
 
-  pub more_binding : (at line next : ℕ) (v : Bool) (hs more : Handles) (h p : List ℕ) → lookup (bytes_eq h) hs ≡ None → more ≡ hs ++ (h, p) ∷ [] → Read at line v hs → slice_get cs line ≡ Some 37 →
+  pub more_binding : (at line next : ℕ) (v : Bool) (hs more : Handles) (h p : List ℕ) → is_some (lookup (bytes_eq h) hs) ≡ false → more ≡ hs ++ (h, p) ∷ [] → Read at line v hs → slice_get cs line ≡ Some 37 →
       Only (whole_directive cs) line next (binding h p ∷ []) → Read at next v more
   more_binding at line next v hs more h p free e r c o = record {
     ds = r.ds ++ binding h p ∷ [];
     chain = chain_more (binding h p) r.chain (whole_is line next _ o.is);
-    consistent = consistent_more r.ds (binding h p) r.consistent (bound_clashes h p r.ds ∙ ap is_some (ap (lookup (bytes_eq h)) r.handles_are ∙ free));
+    consistent = consistent_more r.ds (binding h p) r.consistent (bound_clashes h p r.ds ∙ ap (λ z. is_some (lookup (bytes_eq h) z)) r.handles_are ∙ free);
     goes = goes_more at line next r.ds (binding h p) r.goes c o;
     version_is = r.version_is ∙ sym (any_end (λ e. excludes e version) r.ds (binding h p) (binding_apart h p));
     handles_are = bindings_more r.ds (binding h p) ∙ ap (λ z. bindings r.ds ++ z) (binding_bindings h p) ∙ ap (λ z. z ++ (h, p) ∷ []) r.handles_are ∙ sym e;
@@ -264,29 +270,17 @@ module _ (cs : List ℕ) where
       go k w ds ws e f (Any.done g h) = (g, f ∙ ap bindings (e ∙ ap (λ z. r.ds ++ z) h ∙ append-nil r.ds) ∙ r.handles_are)
       go k w ds ws e f (Any.then m ys zs u more g) = absurd (n (directive_percent line m ys u))
 
-  pub refused_read : (at line : ℕ) (v : Bool) (hs : Handles) → Read at line v hs → slice_get cs line ≡ Some 37 → Unread (whole_directive cs) line → Unread (read_directives cs) at
+  pub refused_read : (at line : ℕ) (v : Bool) (hs : Handles) → Read at line v hs → slice_get cs line ≡ Some 37 → WholeRepeats cs v hs line → Unread (read_directives cs) at
   unfolding whole_directive
-  refused_read at line v hs r h none k w q =
-      let (ds, c, s, ok, f) = parts at k w q in let (ws, e, t) = r.goes k ds c s in go k s ws t
+  refused_read at line v hs r h repeats k w q =
+      let (ds, c, s, ok, f) = parts at k w q in let (ws, e, t) = r.goes k ds c s in go k s ws (ap is_consistent (sym e) ∙ ok) t
     where
-      go : (k : ℕ) → Stop k → (ws : List Directive) → Directives line k ws → ⊥
-      go k s ws (Any.done g f) = percent_stops k line g h s
-      go k s ws (Any.then m ys zs u more g) = none m ys (m, u, (refl, next_stuck more s))
-
-  repeated : (at line next : ℕ) (v : Bool) (hs : Handles) (d : Directive) → Read at line v hs → slice_get cs line ≡ Some 37 → Only (whole_directive cs) line next (d ∷ []) →
-      ((ds : List Directive) → bindings ds ≡ hs → v ≡ list_any (λ e. excludes e version) ds → list_any (λ e. excludes e d) ds ≡ true) → Unread (read_directives cs) at
-  repeated at line next v hs d r h o clash k w q =
-      let (ds, c, s, ok, f) = parts at k w q in
-      let (ws, e, t) = r.goes k ds c s in
-      let (zs, g, u) = step line next k d ws h o t s in
-      clash_dead r.ds zs d (clash r.ds r.handles_are r.version_is) (ap is_consistent (sym (e ∙ ap (λ z. r.ds ++ z) g)) ∙ ok)
-
-  pub version_again : (at line next : ℕ) (v : Bool) (hs : Handles) → v ≡ true → Read at line v hs → slice_get cs line ≡ Some 37 → Only (whole_directive cs) line next (version ∷ []) → Unread (read_directives cs) at
-  version_again at line next v hs t r h o = repeated at line next v hs version r h o (λ ds b e. sym e ∙ t)
-
-  pub handle_again : (at line next : ℕ) (v : Bool) (hs : Handles) (g p : List ℕ) → is_some (lookup (bytes_eq g) hs) ≡ true → Read at line v hs → slice_get cs line ≡ Some 37 → Only (whole_directive cs) line next (binding g p ∷ []) →
-      Unread (read_directives cs) at
-  handle_again at line next v hs g p t r h o = repeated at line next v hs (binding g p) r h o (λ ds b e. bound_clashes g p ds ∙ ap (λ z. is_some (lookup (bytes_eq g) z)) b ∙ t)
+      go : (k : ℕ) → Stop k → (ws : List Directive) → is_consistent (r.ds ++ ws) ≡ true → Directives line k ws → ⊥
+      go k s ws ok (Any.done g f) = percent_stops k line g h s
+      go k s ws ok (Any.then m ys zs u more g) =
+          let (f, d, b, y, c) = directive_parts cs line m ys u in
+          let clash = repeated_clashes r.ds d v hs r.version_is r.handles_are (repeats m d (m, subst (directive cs line m) y u, (refl, next_stuck more s))) in
+          clash_dead r.ds zs d clash (ap (λ z. is_consistent (r.ds ++ z)) (sym (g ∙ ap (λ z. z ++ zs) y)) ∙ ok)
 
   -- where a line starts, unless the text ends
   pub line_here : (i c : ℕ) → slice_get cs i ≡ Some c → StartsLine cs i ⊎ AtEnd cs i → StartsLine cs i

@@ -1,7 +1,7 @@
 -- Looking handles up.
 use Rattle.std.proofs.Common.{◌≡◌, ℕ, List, [], ◌∷◌, ◌++◌, Bool, true, false, Option, Some, None, Bor, cond, map, refl, sym, ◌∙◌, ap, subst}
 use Rattle.std.proofs.lemmas.List.{append-nil}
-use Rattle.std.specs.Prelude.{bytes_eq, codes, is_some, IfSome, IfNone, ◌==◌, ◌||◌}
+use Rattle.std.specs.Prelude.{bytes_eq, codes, is_some, ◌==◌, ◌||◌}
 use Rattle.std.specs.List.{list_any}
 use Rattle.std.specs.Option.{option_map, option_or}
 use Rattle.std.specs.Map.{lookup, update}
@@ -114,33 +114,13 @@ kept_some : {A B : Type 0} (f : A → B) (o : Option A) → is_some (option_map 
 kept_some {A} {B} f None = refl
 kept_some {A} {B} f (Some a) = refl
 
-some_alike : {A : Type 0} (f : A → List ℕ) (o : Option A) (x : Option (List ℕ)) → StandFor (option_map f o) x → is_some x ≡ is_some o
+pub some_alike : {A : Type 0} (f : A → List ℕ) (o : Option A) (x : Option (List ℕ)) → StandFor (option_map f o) x → is_some x ≡ is_some o
 some_alike {A} f o x e = sym (kept_some (λ p. percent_decode (p ++ [])) x) ∙ ap is_some (sym (e [])) ∙ kept_some (λ b. b ++ percent_decode []) (option_map f o) ∙ kept_some f o
 
-pub seen_some : {A : Type 0} (f : A → List ℕ) (o : Option A) (x : Option (List ℕ)) → StandFor (option_map f o) x → is_some o ≡ true → is_some x ≡ true
-seen_some {A} f o x e t = some_alike f o x e ∙ t
-
-none_there : (x : Option (List ℕ)) → is_some x ≡ false → x ≡ None
+pub none_there : (x : Option (List ℕ)) → is_some x ≡ false → x ≡ None
 none_there None t = refl
 none_there (Some p) t = let z : true ≡ false = t in absurd (cc)
-
-pub seen_none : {A : Type 0} (f : A → List ℕ) (o : Option A) (x : Option (List ℕ)) → StandFor (option_map f o) x → is_some o ≡ false → x ≡ None
-seen_none {A} f o x e t = none_there x (some_alike f o x e ∙ t)
 
 pub no_stand : (x : Option (List ℕ)) → StandFor None x → x ≡ None
 no_stand None e = refl
 no_stand (Some p) e = let z : ◌≡◌ {A = Option (List ℕ)} None (Some (percent_decode (p ++ []))) = e [] in absurd (cc)
-
--- a handle for which nothing was kept is not bound, one for which something was is
-pub free_before : {A : Type 0} (f : A → List ℕ) (o p : Option A) (x : Option (List ℕ)) → StandFor (option_map f o) x → p ≡ o → p ≡ None → x ≡ None
-free_before {A} f o p x e same t = seen_none f o x e (ap is_some (sym same ∙ t))
-
-pub bound_before : {A : Type 0} (f : A → List ℕ) (o p : Option A) (a : A) (x : Option (List ℕ)) → StandFor (option_map f o) x → p ≡ o → p ≡ Some a → is_some x ≡ true
-bound_before {A} f o p a x e same t = seen_some f o x e (ap is_some (sym same ∙ t))
-
--- what is said of what was found, once it is known what that is
-pub when_some : {A : Type 0} (P : A → Type 0) (o : Option A) (a : A) → o ≡ Some a → IfSome o P → P a
-when_some {A} P o a e p = subst (λ x. IfSome x P) e p
-
-pub when_none : {A : Type 0} (P : Type 0) (o : Option A) → o ≡ None → IfNone o P → P
-when_none {A} P o e p = subst (λ x. IfNone x P) e p

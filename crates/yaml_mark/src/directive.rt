@@ -1,17 +1,18 @@
 //! One directive (YAML 1.2.2, 6.8).
-ghost use Rattle.std.specs.Prelude.{◌≡◌, ◌≤◌, ◌<◌, ◌⊎◌, IfOk, IfErr, IfSome, IfNone, [], ◌∷◌, ℕ, Some, slice_get};
+ghost use Rattle.std.specs.Prelude.{◌≡◌, ◌≤◌, ◌<◌, ◌⊎◌, IfOk, IfErr, IfSome, IfNone, [], ◌∷◌, ℕ, Bool, false, Some, slice_get};
 ghost use Rattle.yaml_text.specs.LeafAnswer.{Only};
 ghost use Rattle.yaml_text.specs.Placed.{IsPlaced};
 ghost use Rattle.yaml_text.specs.Source.{text_of, place_of, IsBorder};
-ghost use Rattle.yaml_text.specs.LeafAnswer.{Unread};
 ghost use Rattle.yaml_definitions.specs.grammar.Directives as grammar;
 ghost use Rattle.yaml_definitions.specs.grammar.Rules.{any_span, some_run, Stands, chr};
 ghost use Rattle.yaml_definitions.specs.grammar.Characters.{is_space};
 ghost use Rattle.yaml_definitions.specs.grammar.Tags.{uri_char};
 ghost use Rattle.yaml_definitions.specs.grammar.Separation.{StartsLine, AtEnd, l-comment as l_comment};
-ghost use Rattle.yaml_mark.specs.DirectiveParts.{IsMalformed, Settles, Unsettled, parameter, prefix_start, prefix_run, version_rest, binding_rest, body, whole_directive, directive_of};
+ghost use Rattle.yaml_mark.specs.DirectiveParts.{IsMalformed, Settles, is_repeated, OnlyRepeats, WholeRepeats, parameter, prefix_start, prefix_run, version_rest, binding_rest, body, whole_directive, directive_of};
+ghost use Rattle.yaml_mark.specs.HandlesModel.{bindings_of};
 
 use crate::comments::skip_comments;
+use crate::handles::Handles;
 use crate::runs::{Class, next_escaped, skip_escaped, skip_run};
 use crate::tag::skip_handle;
 use yaml_text::chars::Chars;
@@ -107,11 +108,13 @@ fn skip_prefix(source: &Chars<'_>, at: usize) -> Option<usize>
     }
 }
 
-/// The handle and the prefix of the directive at `at`, whose name ends at `from`, and the border after them.
+/// The handle and the prefix of the directive at `at`, whose name ends at `from`, and the border after them. A handle that is
+/// bound already is an error as soon as it is read, whatever follows it.
 fn read_binding<'a>(
     source: &Chars<'a>,
     at: usize,
     from: usize,
+    handles: &Handles<'_>,
 ) -> Result<((&'a str, &'a str), usize), Fault>
     requires at { IsBorder source.now at }
     requires percent { slice_get (text_of source.now) (place_of source.now at) ≡ Some 37 }
@@ -119,26 +122,25 @@ fn read_binding<'a>(
     ensures border { IfOk result (λ r. IsBorder source.now r.1) }
     ensures onward { IfOk result (λ r. from < r.1) }
     ensures settles { IfOk result (λ r. Settles (text_of source.now) (binding_rest (text_of source.now)) (place_of source.now from) (place_of source.now r.1) (grammar.binding r.0.0.now r.0.1.now)) }
-    ensures none { IfErr result (λ _. Unsettled (text_of source.now) (binding_rest (text_of source.now)) (place_of source.now from)) }
+    ensures fresh { IfOk result (λ r. (version : Bool) → is_repeated version (bindings_of handles.now) (grammar.binding r.0.0.now r.0.1.now) ≡ false) }
+    ensures none { IfErr result (λ _. (version : Bool) → OnlyRepeats (text_of source.now) version (bindings_of handles.now) (binding_rest (text_of source.now)) (place_of source.now from)) }
     ensures malformed { IfErr result IsMalformed }
     ensures placed { IfErr result (IsPlaced source.now) }
 {
-    let handle = skip_gap(source, at, from)?;
-    let first = match accept(source, handle, '!') {
-        None => return Err(malformed(source, at, handle)),
+    let start = skip_gap(source, at, from)?;
+    let first = match accept(source, start, '!') {
+        None => return Err(malformed(source, at, start)),
         Some(first) => first,
     };
     let after = skip_handle(source, first);
+    let handle = text_between(source, start, after);
+    if handles.binds(handle) {
+        return Err(Fault::BadDirective(source.pos(at)));
+    }
     let prefix = skip_gap(source, at, after)?;
     match skip_prefix(source, prefix) {
         None => Err(malformed(source, at, prefix)),
-        Some(end) => Ok((
-            (
-                text_between(source, handle, after),
-                text_between(source, prefix, end),
-            ),
-            end,
-        )),
+        Some(end) => Ok(((handle, text_between(source, prefix, end)), end)),
     }
 }
 
@@ -184,11 +186,14 @@ fn skip_parameters(source: &Chars<'_>, at: usize) -> usize
     }
 }
 
-/// The directive at `at`, whose `%` ends at `start`, and the border after its last character.
+/// The directive at `at`, whose `%` ends at `start`, and the border after its last character. The directives before it have bound
+/// these handles, and maybe said a version.
 fn read_body<'a>(
     source: &Chars<'a>,
     at: usize,
     start: usize,
+    handles: &Handles<'_>,
+    has_version: bool,
 ) -> Result<(Directive<'a>, usize), Fault>
     requires at { IsBorder source.now at }
     requires start { IsBorder source.now start }
@@ -197,18 +202,22 @@ fn read_body<'a>(
     ensures border { IfOk result (λ r. IsBorder source.now r.1) }
     ensures onward { IfOk result (λ r. at < r.1) }
     ensures settles { IfOk result (λ r. Settles (text_of source.now) (body (text_of source.now)) (place_of source.now at) (place_of source.now r.1) (directive_of r.0)) }
-    ensures none { IfErr result (λ _. Unsettled (text_of source.now) (body (text_of source.now)) (place_of source.now at)) }
+    ensures fresh { IfOk result (λ r. is_repeated has_version (bindings_of handles.now) (directive_of r.0) ≡ false) }
+    ensures none { IfErr result (λ _. OnlyRepeats (text_of source.now) has_version (bindings_of handles.now) (body (text_of source.now)) (place_of source.now at)) }
     ensures malformed { IfErr result IsMalformed }
     ensures placed { IfErr result (IsPlaced source.now) }
 {
     let end = skip_run(source, start, Class::Solid);
     let name = text_between(source, start, end);
     if name == "YAML" {
+        if has_version {
+            return Err(Fault::BadDirective(source.pos(at)));
+        }
         let to = read_version(source, at, end)?;
         return Ok((Directive::Version, to));
     }
     if name == "TAG" {
-        let ((handle, prefix), to) = read_binding(source, at, end)?;
+        let ((handle, prefix), to) = read_binding(source, at, end, handles)?;
         return Ok((Directive::Binding(handle, prefix), to));
     }
     if end == start {
@@ -217,11 +226,14 @@ fn read_body<'a>(
     Ok((Directive::Reserved, skip_parameters(source, end)))
 }
 
-/// The directive at `at`, whose `%` ends at `start`, and the border after its line and the comment lines that follow it.
+/// The directive at `at`, whose `%` ends at `start`, and the border after its line and the comment lines that follow it. The
+/// directives before it have bound these handles, and maybe said a version: it may not repeat one of them.
 pub(crate) fn read_directive<'a>(
     source: &Chars<'a>,
     at: usize,
     start: usize,
+    handles: &Handles<'_>,
+    has_version: bool,
 ) -> Result<(Directive<'a>, usize), Fault>
     requires at { IsBorder source.now at }
     requires start { IsBorder source.now start }
@@ -232,11 +244,12 @@ pub(crate) fn read_directive<'a>(
     ensures onward { IfOk result (λ r. at < r.1) }
     ensures after { IfOk result (λ r. StartsLine (text_of source.now) (place_of source.now r.1) ⊎ AtEnd (text_of source.now) (place_of source.now r.1)) }
     ensures only { IfOk result (λ r. Only (whole_directive (text_of source.now)) (place_of source.now at) (place_of source.now r.1) (directive_of r.0 ∷ [])) }
-    ensures none { IfErr result (λ _. Unread (whole_directive (text_of source.now)) (place_of source.now at)) }
+    ensures fresh { IfOk result (λ r. is_repeated has_version (bindings_of handles.now) (directive_of r.0) ≡ false) }
+    ensures none { IfErr result (λ _. WholeRepeats (text_of source.now) has_version (bindings_of handles.now) (place_of source.now at)) }
     ensures malformed { IfErr result IsMalformed }
     ensures placed { IfErr result (IsPlaced source.now) }
 {
-    let (directive, end) = read_body(source, at, start)?;
+    let (directive, end) = read_body(source, at, start, handles, has_version)?;
     match skip_comments(source, end) {
         Some(line) => Ok((directive, line)),
         None => {

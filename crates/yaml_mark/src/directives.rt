@@ -21,6 +21,8 @@ use yaml_text::places::accept;
 ///
 /// Offsets count bytes of the text. The answer is `BadDirective` at the `%` of a directive that is malformed, repeated or of
 /// another version than 1.2, `Tab` at a tab that stands where a space may, and `OutOfMemory` where the handles find no room.
+/// Each line is read from left to right: a `%YAML` is repeated as soon as its name is read, a `%TAG` as soon as its handle is,
+/// so that a tab behind these is not looked at.
 pub fn read_directives<'a>(
     alloc: Global,
     source: &Chars<'a>,
@@ -44,18 +46,10 @@ pub fn read_directives<'a>(
             None => return Ok((handles, line)),
             Some(start) => start,
         };
-        let (directive, next) = read_directive(source, line, start)?;
+        let (directive, next) = read_directive(source, line, start, &handles, has_version)?;
         match directive {
-            Directive::Version => {
-                if has_version {
-                    return Err(Fault::BadDirective(source.pos(line)));
-                }
-                has_version = true;
-            }
-            Directive::Binding(handle, prefix) => match handles.bind(alloc, handle, prefix)? {
-                None => return Err(Fault::BadDirective(source.pos(line))),
-                Some(more) => handles = more,
-            },
+            Directive::Version => has_version = true,
+            Directive::Binding(handle, prefix) => handles = handles.bind(alloc, handle, prefix)?,
             Directive::Reserved => {}
         }
         line = next;

@@ -1,5 +1,5 @@
 //! The handles of a document's tags.
-ghost use Rattle.std.specs.Prelude.{◌≡◌, ℕ, List, map, bytes_eq, IfOk, IfErr, IfSome, IfNone, is_some, true, None};
+ghost use Rattle.std.specs.Prelude.{◌≡◌, ℕ, List, map, bytes_eq, IfOk, IfErr, is_some, false};
 ghost use Rattle.std.specs.Option.{option_map};
 ghost use Rattle.std.specs.BTreeMap.{get_by};
 ghost use Rattle.std.specs.Ordering.{nat_cmp};
@@ -49,17 +49,23 @@ impl<'a> Handles<'a> {
         }
     }
 
-    /// The same with one more handle. There is no answer where it is bound already.
+    /// Whether a handle is bound.
+    pub(crate) fn binds(&self, handle: &str) -> bool
+        ensures { result ≡ is_some (lookup (bytes_eq handle.now) (bindings_of self.now)) }
+    {
+        self.get(handle).is_some()
+    }
+
+    /// The same with one more handle, which is not bound yet.
     pub(crate) fn bind(
         self,
         alloc: Global,
         handle: &'a str,
         prefix: &'a str,
-    ) -> Result<Option<Handles<'a>>, Fault>
-        requires { IsWhole prefix.now }
-        ensures more { IfOk result (λ found. IfSome found (λ more. bindings_of more ≡ bindings_of self.entry ++ (handle.now, prefix.now) ∷ [])) }
-        ensures free { IfOk result (λ found. IfSome found (λ _. lookup (bytes_eq handle.now) (bindings_of self.entry) ≡ None)) }
-        ensures bound { IfOk result (λ found. IfNone found (is_some (lookup (bytes_eq handle.now) (bindings_of self.entry)) ≡ true)) }
+    ) -> Result<Handles<'a>, Fault>
+        requires whole { IsWhole prefix.now }
+        requires free { is_some (lookup (bytes_eq handle.now) (bindings_of self)) ≡ false }
+        ensures more { IfOk result (λ more. bindings_of more ≡ bindings_of self.entry ++ (handle.now, prefix.now) ∷ []) }
         ensures err { IfErr result (λ e. e ≡ fault.OutOfMemory) }
     {
         let Handles {
@@ -67,12 +73,8 @@ impl<'a> Handles<'a> {
             mut prefixes,
         } = self;
         let kept = decode_prefix(alloc, prefix)?;
-        match prefixes.insert(handle, kept)? {
-            Some(_) => Ok(None),
-            None => {
-                bindings.push((handle, prefix))?;
-                Ok(Some(Handles { bindings, prefixes }))
-            }
-        }
+        prefixes.insert(handle, kept)?;
+        bindings.push((handle, prefix))?;
+        Ok(Handles { bindings, prefixes })
     }
 }

@@ -1,4 +1,4 @@
-//! What stands between and before the nodes of a stream: comments, directives, tags and names.
+//! Comments, directives, tags, anchors and document markers (YAML 1.2.2, 6.6 to 6.9 and 9.1).
 #![tactic(auto)]
 
 pub mod comments;

@@ -65,7 +65,7 @@ impl<'a> Graph<'a> {
         &self.nodes[id.0]
     }
 
-    /// The height of the tree that the node of this number stands for.
+    /// The height of the tree of the node with this number.
     pub fn height(&self, id: NodeId) -> u32
         requires { id.0 < length (nodes_of self.now) }
         ensures { result ≡ height (tree self.now id.0) }

@@ -1,5 +1,4 @@
-//! Graphs: nodes by number, each of which stands for its unfolded tree; two graphs as one; and the composer, which makes a
-//! graph event by event.
+//! Graphs: nodes by number, two graphs as one (`join`), and the composer, which makes a graph event by event.
 #![tactic(auto)]
 
 pub mod composer;

@@ -238,8 +238,8 @@ fn read_pieces<'a, K: Keeper>(
     }
 }
 
-/// Puts down the events of a stream (9.2), from its start to its end, where the reader's events are to go: the one list that the
-/// productions give the text. After a refusal nothing is said of what was put down.
+/// Emits the events of a stream (9.2) from start to end into a sink: the one list that the productions give the text. After an
+/// error, nothing is said of the events that were emitted.
 pub fn read_into<'a, K: Keeper>(
     alloc: Global,
     source: &Chars<'a>,
@@ -256,13 +256,14 @@ pub fn read_into<'a, K: Keeper>(
     Ok(())
 }
 
-/// The events of a stream (9.2), from its start to its end: the one list that the productions give the text, and a refusal for want
-/// of room in memory, or where they give none. Of a canonical text, and of a block spelling, these are the events spelled.
+/// The events of a stream (9.2) from start to end: the one list that the productions give the text. Of a canonical text, and of a
+/// block presentation, these are the events that were written.
 ///
-/// Refused are, with the input offset of the first character that cannot be used: a tab where separation or indentation
-/// stands (5), a key of more than 1,024 characters (6), a collection too deep (7), an escape that there is not (8), a directive
-/// that is malformed, repeated or of another version (9), a handle that is not bound (10), a malformed tag (11), and anything
-/// else that the productions do not go on with (4).
+/// # Errors
+/// `OutOfMemory`; otherwise the productions give no list. The offset is that of the first character that cannot be used: a tab as
+/// separation or indentation (5), a key of more than 1,024 characters (6), a collection that is too deep (7), an unknown escape
+/// (8), a directive that is malformed, repeated or of another version (9), an unbound handle (10), a malformed tag (11), and
+/// anything else (4).
 pub fn read_events<'a>(alloc: Global, source: &Chars<'a>) -> Result<Vec<Event<'a>>, Fault>
     ensures ok { IfOk result (λ events. ReadsText (text_of source.now) wide open_limit (map event_of events.items)) }
     ensures err { IfErr result IsRefusal }

@@ -1,4 +1,4 @@
-//! What the program reads and answers without canonical texts: its files, its event texts, and the line of a refusal.
+//! What the commands of `yamlcanon` share: files, event lines, and the line of a rejection.
 #![tactic(auto)]
 
 pub mod check;

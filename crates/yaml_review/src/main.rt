@@ -1,4 +1,4 @@
-//! The program `yamlreview`: where two YAML streams differ, and where in a file a fault is.
+//! The program `yamlreview`: where two YAML streams differ, and where and why a file is rejected.
 #![tactic(auto)]
 
 use std::env;

@@ -1,4 +1,4 @@
-//! The commands of the program `yamlreview`, over streams and files that are given.
+//! The commands of the program `yamlreview`, over streams and files that are passed in.
 #![tactic(auto)]
 
 mod both;

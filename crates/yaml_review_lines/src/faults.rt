@@ -12,9 +12,11 @@ use yaml_review_places::places::unmarked;
 use yaml_review_places::trace::{Trace, trace_of};
 use yaml_review_places::trail::Trail;
 use yaml_review_text::fronts::{put_shown, put_source_line};
+use yaml_review_text::tag_words::put_tag_words;
 use yaml_review_text::words::words_of;
 use yaml_review_words::Form;
 use yaml_text::chars::Chars;
+use yaml_text::event::Event;
 use yaml_text::fault::Fault;
 
 /// Where a fault is, in the text behind the byte order mark.
@@ -23,8 +25,22 @@ struct Spot {
     at: Option<usize>,
     /// The path of the node that a fault of an event, a document or a mapping is at.
     path: Option<String>,
+    /// What is said of the fault, where that depends on the node.
+    words: Option<String>,
     /// Where the first of two equal keys stands.
     first: Option<usize>,
+}
+
+impl Spot {
+    /// A spot of which no more is known than its offset.
+    fn at(at: Option<usize>) -> Spot {
+        Spot {
+            at,
+            path: None,
+            words: None,
+            first: None,
+        }
+    }
 }
 
 /// A spot with its lines and columns.
@@ -33,7 +49,18 @@ struct Told {
     place: Option<Place>,
     at: usize,
     path: Option<String>,
+    words: Option<String>,
     first: Option<Place>,
+}
+
+impl Told {
+    /// What is said of the fault in this text.
+    fn words<'t>(&'t self, fault: Fault, text: &[u8]) -> &'t str {
+        match &self.words {
+            Some(words) => words.as_str(),
+            None => words_of(fault, str::from_utf8(text).unwrap_or(""), self.at),
+        }
+    }
 }
 
 /// The offset that a fault carries, which counts the byte order mark.
@@ -80,25 +107,50 @@ fn events_in(
     }
 }
 
+/// The offset at which a fault of this event is shown: that of the node's tag where the tag is what is wrong, else that of its own
+/// text.
+fn offset_of(fault: Fault, text: &[u8], trace: &Trace, event: usize) -> Option<usize> {
+    match fault {
+        Fault::WrongKind(_) | Fault::BadContent(_) => match trace.tag_offset(text, event) {
+            Some(at) => Some(at),
+            None => trace.offset(event),
+        },
+        _ => trace.offset(event),
+    }
+}
+
+/// What is said of a fault of this event, where that depends on its node.
+fn event_words(
+    alloc: Global,
+    fault: Fault,
+    event: Option<&Event<'_>>,
+) -> Result<Option<String>, Fault> {
+    match (fault, event) {
+        (Fault::WrongKind(_) | Fault::BadContent(_), Some(event)) => {
+            let mut words = String::new(alloc);
+            put_tag_words(&mut words, event)?;
+            Ok(Some(words))
+        }
+        _ => Ok(None),
+    }
+}
+
 /// The spot of a fault of an event: one more reading of the text.
 fn spot_of_event(alloc: Global, bytes: &[u8], fault: Fault) -> Result<Spot, Fault> {
     let source = Chars::read(bytes)?;
     let trace = trace_of(alloc, &source)?;
-    let Some((event, first)) = events_in(alloc, fault, &trace)? else {
-        return Ok(Spot {
-            at: None,
-            path: None,
-            first: None,
-        });
+    let Some((number, first)) = events_in(alloc, fault, &trace)? else {
+        return Ok(Spot::at(None));
     };
     let events = read_events(alloc, &source)?;
     let mut trail = Trail::new(alloc);
-    for (at, event) in events.iter().enumerate().take(event.saturating_add(1)) {
+    for (at, event) in events.iter().enumerate().take(number.saturating_add(1)) {
         trail.take(at, event)?;
     }
     Ok(Spot {
-        at: trace.offset(event),
+        at: offset_of(fault, unmarked(bytes), &trace, number),
         path: Some(trail.path(alloc, &events)?),
+        words: event_words(alloc, fault, events.get(number))?,
         first: match first {
             Some(event) => trace.offset(event),
             None => None,
@@ -110,11 +162,7 @@ fn spot_of_event(alloc: Global, bytes: &[u8], fault: Fault) -> Result<Spot, Faul
 fn find_spot(alloc: Global, bytes: &[u8], fault: Fault) -> Result<Spot, Fault> {
     let mark = bytes.len().saturating_sub(unmarked(bytes).len());
     match offset_in(fault) {
-        Some(at) => Ok(Spot {
-            at: Some(at.saturating_sub(mark)),
-            path: None,
-            first: None,
-        }),
+        Some(at) => Ok(Spot::at(Some(at.saturating_sub(mark)))),
         None => match fault {
             Fault::UndefinedAlias(_)
             | Fault::CyclicAlias(_)
@@ -124,11 +172,7 @@ fn find_spot(alloc: Global, bytes: &[u8], fault: Fault) -> Result<Spot, Fault> {
             | Fault::FloatRange(_)
             | Fault::TooHigh(_)
             | Fault::EqualKeys(_, _, _) => spot_of_event(alloc, bytes, fault),
-            _ => Ok(Spot {
-                at: None,
-                path: None,
-                first: None,
-            }),
+            _ => Ok(Spot::at(None)),
         },
     }
 }
@@ -158,12 +202,14 @@ fn find_told(alloc: Global, bytes: &[u8], text: &[u8], fault: Fault) -> Result<T
             place: place_of(text, at),
             at,
             path: spot.path,
+            words: spot.words,
             first,
         }),
         None => Ok(Told {
             place: None,
             at: 0,
             path: spot.path,
+            words: spot.words,
             first,
         }),
     }
@@ -210,7 +256,7 @@ fn put_lines(
         out.push_str(path)?;
         out.push_str(": ")?;
     }
-    out.push_str(words_of(fault, str::from_utf8(text).unwrap_or(""), told.at))?;
+    out.push_str(told.words(fault, text))?;
     out.push('\n')?;
     if told.place.is_some() {
         put_source_line(alloc, out, text, told.at)?;
@@ -252,7 +298,7 @@ fn put_json(
 ) -> Result<(), Fault> {
     let text = unmarked(bytes);
     let mark = bytes.len().saturating_sub(text.len());
-    let words = words_of(fault, str::from_utf8(text).unwrap_or(""), told.at);
+    let words = told.words(fault, text);
     let line = number_value(alloc, told.place.map(|place| place.line))?;
     let column = number_value(alloc, told.place.map(|place| place.column))?;
     let byte = number_value(alloc, told.place.map(|_| told.at.saturating_add(mark)))?;

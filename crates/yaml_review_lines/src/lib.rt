@@ -1,4 +1,4 @@
-//! What is told of two streams that differ, and of a file that is refused or is read otherwise by YAML 1.1, as lines.
+//! The lines of `diff`, `faults` and `warn`.
 #![tactic(auto)]
 
 pub mod diff;

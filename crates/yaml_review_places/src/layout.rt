@@ -1,5 +1,5 @@
 //! Where the nodes of a stream stand: the events of each node's parts.
-use crate::trace::{Named, Shape, Trace};
+use crate::trace::{Noted, Shape, Trace};
 use std::alloc::Global;
 use std::collections::BTreeMap;
 use yaml_text::fault::Fault;
@@ -100,8 +100,8 @@ impl Layout {
 #[derive(Drop)]
 struct Anchors<'t> {
     trace: &'t Trace,
-    /// The names in the order of their events.
-    named: Vec<Named>,
+    /// The notes of names in the order of their events.
+    named: Vec<Noted>,
     /// How many of these were met.
     met: usize,
     last: BTreeMap<&'t [u8], usize>,
@@ -111,7 +111,11 @@ impl<'t> Anchors<'t> {
     /// Those of the events from one on.
     fn new(alloc: Global, trace: &'t Trace, first: usize) -> Result<Anchors<'t>, Fault> {
         let mut named = Vec::new(alloc);
-        named.extend_from_slice(&trace.named)?;
+        for noted in &trace.notes {
+            if trace.name(*noted).is_some() {
+                named.push(*noted)?;
+            }
+        }
         named.sort_unstable_by_key(|it| it.event);
         let met = named.partition_point(|it| (it.event as usize) < first);
         Ok(Anchors {
@@ -129,7 +133,7 @@ impl<'t> Anchors<'t> {
             return None;
         }
         self.met = self.met.saturating_add(1);
-        Some(self.trace.name(named))
+        self.trace.name(named)
     }
 }
 

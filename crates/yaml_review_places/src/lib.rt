@@ -1,5 +1,4 @@
-//! Where the nodes of a stream stand: its events as they are read, the events of each node's parts, the node at the end of a path, and
-//! the lines and columns of offsets.
+//! The positions of nodes: the offsets of events, the node at the end of a path, lines and columns.
 #![tactic(auto)]
 
 pub mod finder;

@@ -1,13 +1,15 @@
-//! A stream's events, each with the offset of its own text.
-ghost use Rattle.std.specs.Prelude.{◌≡◌, IfOk, IfErr};
+//! A stream's events, each with the offset of its own text. An empty node's offset is the end of its properties, or of the
+//! indicator that introduces it where it has none; an empty key without properties has the offset of its colon.
+ghost use Rattle.std.specs.Prelude.{◌≡◌, IfOk, IfErr, IfSome, Some, slice_get};
+ghost use Rattle.std.specs.Bool.{OnTrue};
 
 use std::alloc::Global;
 use std::borrow::CowStr;
 use yaml_read::read_into;
-use yaml_sink::properties::Properties;
+use yaml_sink::properties::{Given, Properties};
 use yaml_sink::sink::{Collection, Keeper, Sink};
 use yaml_text::chars::Chars;
-use yaml_text::event::{Event, Style};
+use yaml_text::event::{Event, EventTag, Style};
 use yaml_text::fault::Fault;
 
 /// What an event does to the nodes that are open.
@@ -23,28 +25,34 @@ pub enum Shape {
     Other,
 }
 
-/// The name of an alias, or of the anchor of a node that an event begins.
+/// What is noted at an event.
 #[derive(Clone, Copy)]
-pub(crate) struct Named {
-    /// The number of the event.
+pub(crate) enum Note {
+    /// The name of an alias or of an anchor: where it is among all names.
+    Name { start: u32, end: u32 },
+    /// The offset of a tag.
+    Tag { at: u32 },
+}
+
+/// A note at the event of this number.
+#[derive(Clone, Copy)]
+pub(crate) struct Noted {
     pub(crate) event: u32,
-    /// How many events there were when the name was noted.
+    /// How many events there were when the note was made.
     seen: u32,
-    /// Where the name stands among all names.
-    start: u32,
-    end: u32,
+    pub(crate) note: Note,
 }
 
 /// The events of a stream in order, each with the offset at which its own text begins, which four bytes hold: a text has at most
-/// 64 MiB. And the names of its anchors and aliases.
+/// 64 MiB. With them the names of anchors and aliases, and the offsets of tags.
 #[derive(Drop)]
 pub struct Trace {
     pub events: Vec<(Shape, u32)>,
     /// All names, one behind another.
     names: Vec<u8>,
-    /// Whose names these are, in the order in which they were noted.
-    pub(crate) named: Vec<Named>,
-    /// Whether a name was lost for want of memory.
+    /// The notes in the order in which they were made.
+    pub(crate) notes: Vec<Noted>,
+    /// Whether a note was lost because memory ran out.
     lost: bool,
 }
 
@@ -81,43 +89,73 @@ impl Trace {
         Trace {
             events: Vec::new(alloc),
             names: Vec::new(alloc),
-            named: Vec::new(alloc),
+            notes: Vec::new(alloc),
             lost: false,
         }
     }
 
+    /// Makes a note at the event of this number.
+    fn put_note(&mut self, event: usize, note: Note) -> Result<(), Fault>
+        ensures events { self.new.events ≡ self.old.events }
+        ensures err { IfErr result (λ e. e ≡ OutOfMemory) }
+    {
+        let noted = Noted {
+            event: short(event)?,
+            seen: short(self.events.len())?,
+            note,
+        };
+        self.notes.push(noted)?;
+        Ok(())
+    }
+
     /// Notes the name of an alias, or of an anchor, at the event of this number.
-    fn note(&mut self, event: usize, name: &str) -> Result<(), Fault>
+    fn note_name(&mut self, event: usize, name: &str) -> Result<(), Fault>
         ensures events { self.new.events ≡ self.old.events }
         ensures err { IfErr result (λ e. e ≡ OutOfMemory) }
     {
         let start = short(self.names.len())?;
         self.names.extend_from_slice(name.as_bytes())?;
-        let named = Named {
-            event: short(event)?,
-            seen: short(self.events.len())?,
-            start,
-            end: short(self.names.len())?,
-        };
-        self.named.push(named)?;
+        let end = short(self.names.len())?;
+        self.put_note(event, Note::Name { start, end })
+    }
+
+    /// Notes the offset of a tag at the event of this number.
+    fn note_tag(&mut self, event: usize, at: usize) -> Result<(), Fault>
+        ensures events { self.new.events ≡ self.old.events }
+        ensures err { IfErr result (λ e. e ≡ OutOfMemory) }
+    {
+        let at = short(at)?;
+        self.put_note(event, Note::Tag { at })
+    }
+
+    /// Notes an anchor and a tag, where there are such, at the event of this number. Of the tag `!` nothing is noted.
+    fn note_given(&mut self, event: usize, given: &Given<'_>) -> Result<(), Fault>
+        ensures events { self.new.events ≡ self.old.events }
+        ensures err { IfErr result (λ e. e ≡ OutOfMemory) }
+    {
+        if let Some(name) = &given.anchor {
+            self.note_name(event, name.as_str())?;
+        }
+        if let EventTag::Full(_) = &given.tag {
+            self.note_tag(event, given.offsets.tag)?;
+        }
         Ok(())
     }
 
-    /// Notes the name of the anchor of the node that begins at this event, if there is such an event.
-    fn note_anchor(&mut self, event: usize, properties: &Properties<'_>)
+    /// Notes the properties of the node that begins at this event, if there is such an event.
+    fn note_properties(&mut self, event: usize, properties: &Properties<'_>)
         ensures { self.new.events ≡ self.old.events }
     {
         if let Some(given) = &properties.given
-            && let Some(name) = &given.anchor
             && event < self.events.len()
-            && self.note(event, name.as_str()).is_err()
+            && self.note_given(event, given).is_err()
         {
             self.lost = true;
         }
     }
 
     /// Notes the name that an event bears, whose number is this.
-    fn note_name(&mut self, number: usize, event: &Event<'_>) -> Result<(), Fault>
+    fn note_event(&mut self, number: usize, event: &Event<'_>) -> Result<(), Fault>
         ensures events { self.new.events ≡ self.old.events }
         ensures err { IfErr result (λ e. e ≡ OutOfMemory) }
     {
@@ -134,7 +172,7 @@ impl Trace {
             | Event::MappingStart {
                 anchor: Some(name),
                 ..
-            } => self.note(number, name.as_str()),
+            } => self.note_name(number, name.as_str()),
             _ => Ok(()),
         }
     }
@@ -143,37 +181,55 @@ impl Trace {
     fn renumber(&mut self, start: usize)
         ensures { self.new.events ≡ self.old.events }
     {
-        for named in self.named.iter_mut().rev() {
-            if named.seen as usize <= start {
+        for noted in self.notes.iter_mut().rev() {
+            if noted.seen as usize <= start {
                 break;
             }
-            if named.event as usize >= start {
-                named.event = named.event.saturating_add(1);
+            if noted.event as usize >= start {
+                noted.event = noted.event.saturating_add(1);
             }
         }
     }
 
-    /// The names that were noted since there were so many events are taken back.
+    /// The notes that were made since there were so many events are taken back.
     fn forget(&mut self, len: usize)
         ensures { self.new.events ≡ self.old.events }
     {
-        for _ in 0..self.named.len() {
-            let Some(named) = self.named.last().copied() else {
+        for _ in 0..self.notes.len() {
+            let Some(noted) = self.notes.last().copied() else {
                 break;
             };
-            if named.seen as usize <= len {
+            if noted.seen as usize <= len {
                 break;
             }
-            self.names.truncate(named.start as usize);
-            self.named.pop();
+            if let Note::Name { start, .. } = noted.note {
+                self.names.truncate(start as usize);
+            }
+            self.notes.pop();
         }
     }
 
-    /// A name.
-    pub(crate) fn name(&self, named: Named) -> &[u8] {
-        self.names
-            .get(named.start as usize..named.end as usize)
-            .unwrap_or(&[])
+    /// The name of a note, if it is one of a name.
+    pub(crate) fn name(&self, noted: Noted) -> Option<&[u8]> {
+        match noted.note {
+            Note::Name { start, end } => self.names.get(start as usize..end as usize),
+            Note::Tag { .. } => None,
+        }
+    }
+
+    /// The offset of the tag of the node that an event begins, in the text that was read. It has one there that is not `!` alone.
+    pub fn tag_offset(&self, text: &[u8], event: usize) -> Option<usize>
+        ensures { IfSome result (λ at. slice_get text.now at ≡ Some 33) }
+    {
+        for noted in &self.notes {
+            if let Note::Tag { at } = noted.note
+                && noted.event as usize == event
+                && begins_tag(text, at as usize)
+            {
+                return Some(at as usize);
+            }
+        }
+        None
     }
 
     /// Puts an event before that of a place, or at the end.
@@ -230,6 +286,13 @@ fn short(at: usize) -> Result<u32, Fault>
     }
 }
 
+/// Whether a tag begins at this offset: with `!` (YAML 1.2.2, 6.9.1).
+fn begins_tag(text: &[u8], at: usize) -> bool
+    ensures { OnTrue result (slice_get text.now at ≡ Some 33) }
+{
+    at < text.len() && text[at] == b'!'
+}
+
 fn shape_of(event: &Event<'_>) -> Shape {
     match event {
         Event::Scalar { .. } => Shape::Scalar,
@@ -258,7 +321,7 @@ impl Keeper for Trace {
     fn push(&mut self, event: &Event<'_>, at: usize) -> Result<(), Fault> {
         let number = self.events.len();
         self.put(shape_of(event), at)?;
-        self.note_name(number, event)
+        self.note_event(number, event)
     }
 
     fn scalar(&mut self, _style: Style, _text: &mut CowStr<'_>, at: usize) -> Result<(), Fault> {
@@ -280,7 +343,7 @@ impl Keeper for Trace {
     fn announce(&mut self, _own: &Properties<'_>) {}
 
     fn dress(&mut self, start: usize, properties: &Properties<'_>) {
-        self.note_anchor(start, properties);
+        self.note_properties(start, properties);
     }
 
     fn cut(&mut self, start: usize) {

@@ -1,4 +1,4 @@
-//! The texts that `yamlreview` is made of: nodes, paths and places, fronts of source lines, and what a fault or a scalar of YAML 1.1 is said to be.
+//! The texts that `yamlreview` prints: nodes, paths, source lines, hints for faults, words for warnings.
 #![tactic(auto)]
 
 pub mod both;
@@ -6,6 +6,7 @@ pub mod fronts;
 pub mod json;
 pub mod lines;
 pub mod path;
+pub mod tag_words;
 pub mod text;
 pub mod words;
 pub mod yaml11;

@@ -1,4 +1,4 @@
-//! What the words of the program `yamlreview` ask for.
+//! The arguments of the program `yamlreview`.
 #![tactic(auto)]
 
 pub mod words;

@@ -1,4 +1,4 @@
-//! Scalars, read from a text and spelled.
+//! Scalars in all five styles: read from a text, and written (YAML 1.2.2, 7.3 and 8.1).
 #![tactic(auto)]
 
 pub mod block;

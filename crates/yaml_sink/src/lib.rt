@@ -1,4 +1,4 @@
-//! What holds the events that a reader puts down: a list, a keeper, or both.
+//! What receives the reader's events: a list, a keeper, or both.
 #![tactic(auto)]
 
 pub mod list;

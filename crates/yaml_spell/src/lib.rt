@@ -1,4 +1,4 @@
-//! What spells the documents of a graph whose ranks are known: the walk by ranks, and the sinks that a text goes into.
+//! Writing ranked nodes: the walk that writes the canonical text, its length, and the sinks that it writes to.
 #![tactic(auto)]
 
 mod few;

@@ -49,8 +49,7 @@ const UNKNOWN: Known = Known {
 /// The names of more ranks would have numbers that have no mark.
 const MOST_RANKS: usize = 4_294_967_292;
 
-/// What is known of each rank in one document. What was known in earlier documents is told by their
-/// numbers.
+/// What is known of each rank in one document. Entries of earlier documents are recognised by their numbers.
 #[derive(Drop)]
 pub struct Names {
     states: Vec<Known>,
@@ -109,8 +108,8 @@ impl Names {
     ghost use Rattle.yaml_spell.specs.Known.{is_unseen, state_number};
     ghost use Rattle.yaml_spell.specs.NamesView.{ranks_in, count_of, table_of, met_at, opening, rank_begun, given_of, opening_number};
 
-    /// Nothing is known of so many ranks; no document was begun. More than 4,294,967,292 ranks are
-    /// refused as want of memory.
+    /// Nothing is known of so many ranks, and no document was begun. More than 4,294,967,292 ranks are rejected as want of
+    /// memory.
     pub fn new(alloc: Global, len: usize) -> Result<Names, Fault>
         ensures long { IfOk result (λ names. ranks_in names ≡ len) }
         ensures err { IfErr result (λ fault. fault ≡ Fault.OutOfMemory) }

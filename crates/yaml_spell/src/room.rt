@@ -6,7 +6,7 @@ use crate::sink::Sink;
 use crate::stop::Stop;
 use yaml_scalar::spell::spelled_char;
 
-/// The room for a text, and how many bytes of it the text has so far. It takes no memory of its own.
+/// A buffer for a text, and how many bytes of the text it has so far.
 #[derive(Drop)]
 pub struct Room<'a> {
     bytes: &'a mut [u8],

@@ -66,8 +66,8 @@ pub fn write_ranked<I: Copy, V: RankedNodes<I>, O, S: Sink<O>>(
     Ok(())
 }
 
-/// The length of the text of the documents of these roots, in bytes; no text is made, and no memory is
-/// taken. A text of more bytes than the limit is refused as `TextTooLong`.
+/// The length of the text of the documents of these roots, in bytes. No text is made and no memory is taken. `TextTooLong` if the
+/// text would be longer than the limit.
 pub fn ranked_len<I: Copy, V: RankedNodes<I>>(
     view: &V,
     names: &mut Names,
@@ -85,10 +85,8 @@ pub fn ranked_len<I: Copy, V: RankedNodes<I>>(
     Ok(length.len())
 }
 
-/// The length of the canonical text of a graph's documents, in bytes; no text is made. A text of
-/// more bytes than the limit is refused as `TextTooLong`.
-///
-/// The ranks are those of the graph.
+/// The length of the canonical text of a graph's documents, in bytes. The ranks must be those of the graph. No text is made.
+/// `TextTooLong` if the text would be longer than the limit.
 pub fn canonical_len(alloc: Global, graph: &Graph<'_>, ranks: &Ranks) -> Result<usize, Fault>
     requires { RanksAre graph.now ranks.now }
     ensures ok { IfOk result (λ len. len ≡ length (spell_bytes (forest graph.now))) }

@@ -1,4 +1,4 @@
-//! Sums of meanings: the SHA-256 of each file's canonical text, in the lines of `sha256sum`.
+//! `sum`: the SHA-256 of each file's canonical text, in the lines of `sha256sum`, and checking such lines.
 #![tactic(auto)]
 
 pub mod asked;

@@ -79,10 +79,11 @@ fn first_refused(text: &str) -> Option<usize>
 impl<'a> Chars<'a> {
     ghost use Rattle.yaml_text.specs.Source.{bytes_of, mark_of};
 
-    /// Checks an input, and skips the byte order mark that it may begin with.
+    /// Checks an input and skips a byte order mark at its start.
     ///
-    /// Refused are, in this order, more bytes than the limit, bytes that are not UTF-8, and the
-    /// first character that is not printable (YAML 1.2.2, 5.1) or is a further U+FEFF.
+    /// # Errors
+    /// In this order: `TooLong` for more bytes than the limit, `NotUtf8`, and `NotPrintable` for the first character that is not
+    /// printable (YAML 1.2.2, 5.1) or is a further U+FEFF.
     pub fn read(bytes: &'a [u8]) -> Result<Chars<'a>, Fault>
         ensures read { IfOk result (λ c. Text bytes.now (chars (bytes_of c))) }
         ensures text { IfOk result (λ c. bytes_of c ≡ drop (mark_len bytes.now) bytes.now) }

@@ -43,7 +43,7 @@ pub fn is_word(c: char) -> bool
     c.is_ascii_alphanumeric() || c == '-'
 }
 
-/// Whether `c` stands for itself in a URI (5.6). `%` does not.
+/// Whether `c` is a character of a URI that is written as itself (5.6). `%` is not.
 #[tactic(auto, unfolding(yaml_definitions::specs::grammar::Characters::is_uri))]
 pub fn is_uri(c: char) -> bool
     ensures { result ≡ is_uri c }

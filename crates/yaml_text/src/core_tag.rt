@@ -1,6 +1,6 @@
 //! The tags of the core schema (YAML 1.2.2, 10.1 to 10.3), decoded.
 
-/// What each of them begins with, and what `!!` stands for (6.8.2.1).
+/// The prefix of the core tags, which `!!` is short for (6.8.2.1).
 pub const PREFIX: &str = "tag:yaml.org,2002:";
 
 /// The tag of null (10.2.1.1).

@@ -1,4 +1,4 @@
-//! Checked texts and their characters, events and faults.
+//! Checked texts and their characters, events, faults and limits.
 #![tactic(auto)]
 
 pub mod chars;

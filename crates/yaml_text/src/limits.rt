@@ -23,7 +23,7 @@ pub fn height_limit() -> usize
     1_023
 }
 
-/// How many characters may stand before the `:` of an implicit key.
+/// How many characters an implicit key may have before its `:`.
 pub fn key_limit() -> usize
     ensures { result ≡ limit.key_limit }
 {

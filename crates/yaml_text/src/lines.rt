@@ -16,7 +16,7 @@ use crate::fault::Fault;
 use crate::front::{front_len, len_by_one};
 use crate::places::{accept, is_border, next};
 
-/// How many spaces stand at a border, and the border after them.
+/// The number of spaces at a border, and the border after them.
 #[inline]
 pub fn skip_spaces(source: &Chars<'_>, at: usize) -> (usize, usize)
     requires { IsBorder source.now at }
@@ -39,7 +39,7 @@ pub fn skip_spaces(source: &Chars<'_>, at: usize) -> (usize, usize)
     }
 }
 
-/// The border after the whites that stand at a border.
+/// The border after the spaces and tabs at a border.
 #[inline]
 pub fn skip_whites(source: &Chars<'_>, at: usize) -> usize
     requires { IsBorder source.now at }
@@ -60,7 +60,7 @@ pub fn skip_whites(source: &Chars<'_>, at: usize) -> usize
     }
 }
 
-/// The border after the break that stands at a border.
+/// The border after the line break at a border, if there is one.
 #[inline]
 pub fn line_break(source: &Chars<'_>, at: usize) -> Option<usize>
     requires { IsBorder source.now at }
@@ -81,7 +81,7 @@ pub fn line_break(source: &Chars<'_>, at: usize) -> Option<usize>
     }
 }
 
-/// The border after the end of a line that stands at a border: after a break, or at the end of the text.
+/// The border after the end of a line at a border: after a line break, or at the end of the text.
 #[inline]
 pub fn end_line(source: &Chars<'_>, at: usize) -> Option<usize>
     requires border { IsBorder source.now at }
@@ -130,7 +130,7 @@ fn is_ascii_nb(byte: u8) -> bool
     byte.is_ascii() & (byte != b'\n') & (byte != b'\r')
 }
 
-/// Whether all that stands between two borders is ASCII characters of a line, so that it has as many characters as bytes.
+/// Whether there are only ASCII characters of one line between two borders, so that bytes and characters are equally many.
 pub fn is_ascii_line(source: &Chars<'_>, from: usize, to: usize) -> bool
     requires from { IsBorder source.now from }
     requires to { IsBorder source.now to }
@@ -235,7 +235,7 @@ fn skip_empty_lines(source: &Chars<'_>, at: usize) -> (usize, usize)
     }
 }
 
-/// The border after the comment lines (6.6) that stand at a border.
+/// The border after the comment lines (6.6) at a border.
 pub fn skip_comment_lines(source: &Chars<'_>, at: usize) -> usize
     requires border { IsBorder source.now at }
     requires after { AfterLine (text_of source.now) (place_of source.now at) }
@@ -259,7 +259,7 @@ pub fn skip_comment_lines(source: &Chars<'_>, at: usize) -> usize
     }
 }
 
-/// Whether three of a character, and then no character of a line but a white, stand at a border.
+/// Whether a character occurs three times at a border, followed by a space, a tab, a line break or the end of the text.
 #[inline]
 pub fn is_mark_of(source: &Chars<'_>, at: usize, c: char) -> bool
     requires { IsBorder source.now at }
@@ -281,7 +281,7 @@ pub fn is_mark_of(source: &Chars<'_>, at: usize, c: char) -> bool
     }
 }
 
-/// Whether what stands at a border is a document mark, if it begins a line.
+/// Whether there is a document marker at a border, if the border starts a line.
 pub fn is_mark(source: &Chars<'_>, at: usize) -> bool
     requires { IsBorder source.now at }
     ensures yes { OnTrue result (LooksLikeMarker (text_of source.now) (place_of source.now at)) }
@@ -316,7 +316,7 @@ pub fn starts_line(source: &Chars<'_>, at: usize) -> bool
     }
 }
 
-/// Whether a document mark stands at a border.
+/// Whether there is a document marker at a border.
 pub fn stands_mark(source: &Chars<'_>, at: usize) -> bool
     requires { IsBorder source.now at }
     ensures yes { OnTrue result (DocumentMark (text_of source.now) (place_of source.now at)) }
@@ -329,8 +329,7 @@ pub fn stands_mark(source: &Chars<'_>, at: usize) -> bool
     }
 }
 
-/// Which fault a character that can't be used gives, with its offset in the input: a tab is one of its own, since it bars where
-/// indentation or separation would stand.
+/// The fault of a character that cannot be used, with its offset in the input. A tab has a fault of its own.
 pub fn unusable(source: &Chars<'_>, at: usize) -> Fault
     requires { IsBorder source.now at }
     ensures unread { IsSyntaxFault result }

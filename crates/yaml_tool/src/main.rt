@@ -1,4 +1,4 @@
-//! The program `yamlcanon`, which reads YAML and writes its canonical text.
+//! The program `yamlcanon`: it reads YAML and writes its canonical text.
 #![tactic(auto)]
 
 use std::env;

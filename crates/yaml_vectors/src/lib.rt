@@ -1,4 +1,4 @@
-//! Rows of inputs and their answers, as tests alone.
+//! Test cases of the whole: inputs with their canonical texts or rejections.
 #![tactic(auto)]
 
 #[cfg(test)]

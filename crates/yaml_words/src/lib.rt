@@ -1,4 +1,4 @@
-//! What the words of the program `yamlcanon` ask for.
+//! The arguments of the program `yamlcanon`.
 #![tactic(auto)]
 
 pub mod words;

@@ -42,7 +42,7 @@ pub fn open_value<'a, K: Keeper, F: FlowReader>(
     match skip_line_rest(source, at) {
         Some(start) => {
             let line = line_at(source, start);
-            open_below::<K, F>(alloc, source, line, level, out)
+            open_below::<K, F>(alloc, source, at, line, level, out)
         }
         None => {
             let (count, first) = skip_spaces(source, at);
@@ -102,7 +102,7 @@ pub fn open_entry<'a, K: Keeper, F: FlowReader>(
     match skip_line_rest(source, at) {
         Some(start) => {
             let line = line_at(source, start);
-            open_below::<K, F>(alloc, source, line, level, out)
+            open_below::<K, F>(alloc, source, at, line, level, out)
         }
         None => {
             let (count, first) = skip_spaces(source, at);
@@ -133,11 +133,13 @@ pub fn open_entry<'a, K: Keeper, F: FlowReader>(
     }
 }
 
-/// The start of a node on a line below its parent, or none where the line is not indented enough.
+/// The start of a node on a line below its indicator, or none where the line is not indented enough. An empty node has the offset
+/// at which its indicator ends.
 #[inline(always)]
 fn open_below<'a, K: Keeper, F: FlowReader>(
     alloc: Global,
     source: &Chars<'a>,
+    indicator_end: usize,
     line: Line,
     level: &Level<'_, 'a>,
     out: &mut Sink<'a, K>,
@@ -151,7 +153,7 @@ fn open_below<'a, K: Keeper, F: FlowReader>(
     let outer = Properties::none();
     match begins_below(source, line, level) {
         Below::Nothing => {
-            push_nothing(line.start, out)?;
+            push_nothing(indicator_end, out)?;
             Ok(Opened::Whole(line))
         }
         Below::Sequence(after) => {

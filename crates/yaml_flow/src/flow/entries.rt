@@ -105,8 +105,8 @@ pub fn read_asked<'a, K: Keeper>(
         return Err(unusable(source, after));
     }
     if ends_value(source, start) {
-        push_empty(out, start)?;
-        push_empty(out, start)?;
+        push_empty(out, after)?;
+        push_empty(out, after)?;
         return Ok((start, 0));
     }
     read_keyed(alloc, source, start, level, out)

@@ -1,10 +1,10 @@
-use Rattle.std.proofs.Common.{false, inl, ap, sym, subst, arith}
+use Rattle.std.proofs.Common.{◌≡◌, false, inl, ap, sym, subst, arith}
 use Rattle.std.proofs.lemmas.Result.{err_from_is_err_and}
 use Rattle.yaml_text.specs.Source.{text_of, place_of}
-use Rattle.yaml_mark.specs.DirectiveParts.{directive_of}
-use Rattle.yaml_mark.proofs.HandleLemmas.{when_some, when_none}
+use Rattle.yaml_mark.specs.DirectiveParts.{directive_of, is_repeated}
+use Rattle.yaml_mark.specs.HandlesModel.{bindings_of}
 use Rattle.yaml_mark.proofs.RefusalLemmas.{malformed_refuses}
-use Rattle.yaml_mark.proofs.DirectivesLemmas.{Read, percent_stuck, only_stuck, only_of, starts, more_version, more_reserved, more_binding, ends_read, refused_read, version_again, handle_again, line_here}
+use Rattle.yaml_mark.proofs.DirectivesLemmas.{Read, percent_stuck, only_stuck, only_of, starts, more_version, more_reserved, more_binding, ends_read, refused_read, line_here}
 use Rattle.yaml_mark.proofs.PrefixLemmas.{bound_whole}
 use Rattle.yaml_mark.proofs.directives.read_directives.Goals as goal
 
@@ -34,24 +34,16 @@ returns-in_err-directive-clause-refused c =
     rw (p.1, p.2)
     (malformed_refuses _ c.in_err-directive.ensures.malformed (refused_read (text_of c.args.source.now) _ _ _ _ c.lines.invariant.read c.in-Some.ensures.some.is c.in_err-directive.ensures.none))
 
-pub returns-then-has_version-clause-refused : goal.returns-then-has_version-clause-refused
-returns-then-has_version-clause-refused c =
-    let cs = text_of c.args.source.now in
-    version_again cs _ _ _ _ _ c.if-has_version.true c.lines.invariant.read c.in-Some.ensures.some.is
-    (only_of cs _ _ _ _ (ap directive_of c.in-Version.is) c.in_ok-directive.ensures.only)
-
-pub returns-in-None-2-clause-refused : goal.returns-in-None-2-clause-refused
-returns-in-None-2-clause-refused c =
-    let cs = text_of c.args.source.now in
-    handle_again cs _ _ _ _ _ _ _ (when_none _ _ c.in-None-2.is c.in_ok-bind-in-Binding.ensures.bound) c.lines.invariant.read c.in-Some.ensures.some.is
-    (only_of cs _ _ _ _ (ap directive_of c.in-Binding.is) c.in_ok-directive.ensures.only)
-
-pub bind-requires : goal.bind-requires
-bind-requires c =
+pub bind-requires-clause-whole : goal.bind-requires-clause-whole
+bind-requires-clause-whole c =
     bound_whole (text_of c.args.source.now) _ _ _ _ (only_of (text_of c.args.source.now) _ _ _ _ (ap directive_of c.in-Binding.is) c.in_ok-directive.ensures.only)
 
-pub lines-preserved-else-has_version : goal.lines-preserved-else-has_version
-lines-preserved-else-has_version c =
+pub bind-requires-clause-free : goal.bind-requires-clause-free
+bind-requires-clause-free c =
+    subst (λ z. is_repeated c.lines.has_version (bindings_of c.lines.handles) (directive_of z) ≡ false) c.in-Binding.is c.in_ok-directive.ensures.fresh
+
+pub lines-preserved-in-Version : goal.lines-preserved-in-Version
+lines-preserved-in-Version c =
     let cs = text_of c.args.source.now in
     let e = c.in_ok-directive.ensures in
     let v = c.lines.invariant in
@@ -60,12 +52,12 @@ lines-preserved-else-has_version c =
       onward = omega (arith, v.onward, e.onward);
       start = e.after;
       stuck = only_stuck cs _ _ _ e.only;
-      read = more_version cs _ _ _ _ _ c.if-has_version.false v.read c.in-Some.ensures.some.is
+      read = more_version cs _ _ _ _ _ (subst (λ z. is_repeated c.lines.has_version (bindings_of c.lines.handles) (directive_of z) ≡ false) c.in-Version.is e.fresh) v.read c.in-Some.ensures.some.is
           (only_of cs _ _ _ _ (ap directive_of c.in-Version.is) e.only);
     }
 
-pub lines-preserved-in-Some-2 : goal.lines-preserved-in-Some-2
-lines-preserved-in-Some-2 c =
+pub lines-preserved-in_ok-handles-in-Binding : goal.lines-preserved-in_ok-handles-in-Binding
+lines-preserved-in_ok-handles-in-Binding c =
     let cs = text_of c.args.source.now in
     let e = c.in_ok-directive.ensures in
     let v = c.lines.invariant in
@@ -74,7 +66,7 @@ lines-preserved-in-Some-2 c =
       onward = omega (arith, v.onward, e.onward);
       start = e.after;
       stuck = only_stuck cs _ _ _ e.only;
-      read = more_binding cs _ _ _ _ _ _ _ _ (when_some _ _ _ c.in-Some-2.is c.in_ok-bind-in-Binding.ensures.free) (when_some _ _ _ c.in-Some-2.is c.in_ok-bind-in-Binding.ensures.more) v.read c.in-Some.ensures.some.is
+      read = more_binding cs _ _ _ _ _ _ _ _ (subst (λ z. is_repeated c.lines.has_version (bindings_of c.lines.handles) (directive_of z) ≡ false) c.in-Binding.is e.fresh) c.in_ok-handles-in-Binding.ensures.more v.read c.in-Some.ensures.some.is
           (only_of cs _ _ _ _ (ap directive_of c.in-Binding.is) e.only);
     }
 

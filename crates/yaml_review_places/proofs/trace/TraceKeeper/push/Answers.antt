@@ -8,5 +8,5 @@ use Rattle.yaml_review_places.proofs.trace.TraceKeeper.push.Goals as goal
 pub returns-clause-ok : goal.returns-clause-ok
 returns-clause-ok c =
     let e = event_of c.args.event.now in
-    whatever (Puts TraceHolds c.args.self.now (e ∷ []) c.note_name.new.self) c.note_name.result
-    (traced_put c.args.self.now c.note_name.new.self e (ap (λ v. length v.items) c.note_name.ensures.events ∙ c.in_ok-put.ensures.ok))
+    whatever (Puts TraceHolds c.args.self.now (e ∷ []) c.note_event.new.self) c.note_event.result
+    (traced_put c.args.self.now c.note_event.new.self e (ap (λ v. length v.items) c.note_event.ensures.events ∙ c.in_ok-put.ensures.ok))

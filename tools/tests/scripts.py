@@ -1,0 +1,40 @@
+"""scripts.py: a tool without a suffix as a module, and what it prints."""
+import contextlib
+import importlib.machinery
+import importlib.util
+import io
+import os
+import sys
+
+sys.dont_write_bytecode = True
+TOP = os.path.dirname(os.path.dirname(os.path.dirname(os.path.realpath(__file__))))
+
+
+def load(path):
+    """The tool at this path from the top of the repository."""
+    sys.path.insert(0, os.path.dirname(f"{TOP}/{path}"))
+    name = os.path.basename(path).replace("-", "_")
+    loader = importlib.machinery.SourceFileLoader(name, f"{TOP}/{path}")
+    module = importlib.util.module_from_spec(importlib.util.spec_from_loader(name, loader))
+    loader.exec_module(module)
+    return module
+
+
+def run(main, *words):
+    """The status of a tool's `main`, and what it printed on both streams."""
+    said = io.StringIO()
+    with contextlib.redirect_stdout(said), contextlib.redirect_stderr(said):
+        try:
+            status = main(list(words))
+        except SystemExit as end:
+            status = end.code
+    return status, said.getvalue()
+
+
+def write(folder, **texts):
+    """Writes files below a folder; in their names `__` is for `/`, and `.md` is added."""
+    for name, text in texts.items():
+        path = f"{folder}/{name.replace('__', '/')}.md"
+        os.makedirs(os.path.dirname(path), exist_ok=True)
+        with open(path, "w", encoding="utf-8") as file:
+            file.write(text)

@@ -1,0 +1,122 @@
+"""Tests of tools/contracts: which functions it takes from a source, and what it shows of them."""
+import os
+import sys
+import tempfile
+import unittest
+
+sys.dont_write_bytecode = True
+TOP = os.path.dirname(os.path.dirname(os.path.dirname(os.path.realpath(__file__))))
+sys.path.insert(0, f"{TOP}/tools")
+
+from statements.calls import calls_of, libraries_of, summary_of  # noqa: E402
+
+ROOT = """\
+//! What the crate
+//! is for. And more.
+pub mod open;
+mod closed;
+pub use closed::{passed_on};
+"""
+OPEN = """\
+/// The first number, of
+/// two. More of it.
+///
+/// A second paragraph.
+#[inline]
+pub fn first(a: &[u8]) -> usize
+    requires few { length a ≤ 3 }
+    ensures { result ≡ 1 }
+{
+    inner(a)
+}
+
+fn inner(a: &[u8]) -> usize {
+    1
+}
+
+/// A theorem.
+pub fn theorem()
+    ensures { Holds }
+{}
+
+impl<'s> Store<'s> {
+    /// A method.
+    pub fn at(
+        &self,
+    ) -> usize
+        ensures { result ≡ 2 }
+    {
+        2
+    }
+
+    fn hidden(&self) -> usize {
+        2
+    }
+}
+
+pub trait Shelf {
+    /// Opens.
+    fn open(&self)
+        ensures { Opens };
+}
+
+pub fn bare() -> usize {
+    3
+}
+"""
+CLOSED = """\
+pub fn passed_on()
+    ensures { A }
+{}
+
+pub fn kept_back()
+    ensures { B }
+{}
+"""
+
+
+class OfASource(unittest.TestCase):
+    def setUp(self):
+        with tempfile.TemporaryDirectory() as folder:
+            os.makedirs(f"{folder}/small/src")
+            for name, text in (("lib", ROOT), ("open", OPEN), ("closed", CLOSED)):
+                with open(f"{folder}/small/src/{name}.rt", "w", encoding="utf-8") as file:
+                    file.write(text)
+            self.calls = {it.title(): it for it in calls_of(folder, "small")}
+            self.summary = summary_of(folder, "small")
+
+    def test_public_functions_are_taken_and_no_others(self):
+        self.assertEqual(list(self.calls), ["first", "theorem", "Store::at", "Shelf::open", "bare", "passed_on"])
+
+    def test_the_comment_is_cut_behind_its_first_sentence(self):
+        self.assertEqual(self.calls["first"].sentence(), "The first number, of two.")
+        self.assertEqual(self.summary, "What the crate is for.")
+
+    def test_head_and_clauses_are_as_they_are_in_the_source(self):
+        self.assertEqual(self.calls["first"].lines,
+                         ["pub fn first(a: &[u8]) -> usize", "    requires few { length a ≤ 3 }", "    ensures { result ≡ 1 }"])
+        self.assertEqual(self.calls["Store::at"].lines[-1], "        ensures { result ≡ 2 }")
+        self.assertEqual(self.calls["bare"].lines, ["pub fn bare() -> usize"])
+
+    def test_a_function_without_clauses_is_known(self):
+        self.assertEqual([name for name, it in self.calls.items() if not it.has_clauses()], ["bare"])
+
+
+class OfTheTree(unittest.TestCase):
+    def test_no_tests_and_no_programs_are_among_the_libraries(self):
+        names = libraries_of(TOP)
+        self.assertIn("yaml_definitions", names)
+        self.assertFalse([it for it in names if it.startswith("rows_") or it in ("yaml_vectors", "yaml_tool", "yaml_review")])
+
+    def test_each_clause_of_a_theorem_is_taken(self):
+        """The crates of theorems have public functions alone, so each line that begins a clause is taken."""
+        for crate in (it for it in libraries_of(TOP) if it.startswith("law_")):
+            with open(f"{TOP}/crates/{crate}/src/laws.rt", encoding="utf-8") as file:
+                wanted = [line.rstrip("\n") for line in file if line.lstrip().startswith(("ensures", "requires"))]
+            taken = [line for it in calls_of(f"{TOP}/crates", crate) for line in it.lines if line.lstrip().startswith(("ensures", "requires"))]
+            self.assertTrue(wanted)
+            self.assertEqual(taken, wanted)
+
+
+if __name__ == "__main__":
+    unittest.main()
