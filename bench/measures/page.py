@@ -20,12 +20,14 @@ SHORT = {"milliseconds by the clock": "ms", "microseconds of processor": "µs", 
 
 
 def number(value):
-    """A number with three significant digits at least, for readers."""
+    """A number for readers."""
     if value is None:
         return ""
     if value >= 100:
         return f"{value:,.0f}"
-    return f"{value:.1f}" if value >= 10 else f"{value:.2f}"
+    if value >= 10:
+        return f"{value:.1f}"
+    return f"{value:.2f}" if value >= 0.1 else f"{value:.2g}"
 
 
 def with_range(results, name):

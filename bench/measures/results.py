@@ -60,7 +60,12 @@ def processor():
 def rows_of(values):
     """The rows of measured values: name, value, unit and spread."""
     of = commit(), kit(), processor()
-    return {name: Row(name, f"{value:.4g}" if isinstance(value, float) else str(value), unit, spread, *of) for name, value, unit, spread in values}
+    return {name: Row(name, shown(value), unit, spread, *of) for name, value, unit, spread in values}
+
+
+def shown(value):
+    """A number as it is in the file: four significant digits of what was measured, and what was counted whole."""
+    return f"{value:.4g}" if isinstance(value, float) and abs(value) < 1e4 else f"{value:.0f}"
 
 
 class Results:
