@@ -43,7 +43,8 @@ def said(*words):
 @functools.cache
 def commit():
     """The commit of the tree, with a mark where sources have changed since."""
-    return said("git", "rev-parse", "--short=12", "HEAD") + "+changes" * bool(said("git", "status", "--porcelain", "--", "crates", "crates.txt", "library"))
+    has_changes = bool(said("git", "status", "--porcelain", "--", "crates", "crates.txt", "library"))
+    return said("git", "rev-parse", "--short=12", "HEAD") + "+changes" * has_changes
 
 
 @functools.cache

@@ -53,10 +53,11 @@ def calls(run):
     """A call of the library on the same file, from C and from Python: the least of some rounds."""
     library = run.library()
     made, (rounds, count) = run.path("time_calls"), (3, 200) if run.quick else (20, 10_000)
-    built = subprocess.run(["cc", "-O2", "-I", library, "-o", made, f"{BENCH}/time_calls.c", f"{library}/libyamlcanon.a"], capture_output=True, check=False)
+    words = ["cc", "-O2", "-I", library, "-o", made, f"{BENCH}/time_calls.c", f"{library}/libyamlcanon.a"]
+    built = subprocess.run(words, capture_output=True, check=False)
     if built.returncode:
         raise LeftOut(f"calls from C: {built.stderr.decode(errors='replace').strip()}")
-    env = {**os.environ, "YAMLCANON_LIBRARY": f"{library}/libyamlcanon.so.1", "PYTHONPATH": f"{TOP}/bindings/python", "PYTHONDONTWRITEBYTECODE": "1"}
+    env = {**os.environ, "YAMLCANON_LIBRARY": f"{library}/libyamlcanon.so.1", "PYTHONPATH": f"{TOP}/bindings/python"}
     for call in CALLS:
         for name, words in (("C", [made]), ("Python", [sys.executable, "-c", FROM_PYTHON])):
             words = [*words, INPUT, str(rounds), str(count), call]
