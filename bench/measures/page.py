@@ -1,6 +1,5 @@
 """page.py: docs/using/PERFORMANCE.md from the values of bench/results.tsv. A value that was not measured is left out, and so is a row, a
 table or a section that has none."""
-import re
 
 PAGE, PICTURE = "docs/using/PERFORMANCE.md", "docs/using/performance.svg"
 TEXTS = {
@@ -28,6 +27,16 @@ RUNS = {
     "events from C": "one call of `events` from C",
     "events from Python": "one call of `events` from Python",
 }
+WAYS = {
+    "sum, one process": "`yamlreview sum`, one process",
+    "sum, xargs -P4 -n256": "`yamlreview sum`, four processes by `xargs`",
+    "module, 1 job": "`yamlcanon.many`, one job",
+    "module, 1 job, a new cache": "`yamlcanon.many`, one job, an empty cache",
+    "module, 1 job, a cache that has all": "`yamlcanon.many`, one job, all files in the cache",
+    "module, 4 jobs": "`yamlcanon.many`, four jobs",
+    "module, 4 jobs, a cache that has all": "`yamlcanon.many`, four jobs, all files in the cache",
+    "canon, xargs -P4 -n1": "`yamlcanon canon`, a process for each file, four at once",
+}
 SHORT = {"milliseconds by the clock": "ms", "microseconds of processor": "µs"}
 PROSE = {
     "head": """All numbers are measured by [`bench/report`](../../bench/report), on {processors}, with {kits}.
@@ -51,8 +60,9 @@ The cost of an empty input is subtracted.""",
 then answers `21 OutOfMemory`.""",
     "stack": """The least stack with which each command answers on the deepest texts, of 1,023 nested collections. The usual limit is
 8,192 kB.""",
-    "files": """{count} files of {size} bytes on average. The ratio is by the clock, for the way that the third column names: the median,
-with the least and the greatest.""",
+    "files": """{count} files of {size} bytes on average. The ratio is by the clock: the median, with the least and the greatest. Ways of
+`sum` are compared with one process of it. A run whose cache has all files is compared with the run that filled that cache. All other ways
+are compared with one job of `yamlcanon.many`.""",
     "minutes": "In a clean clone, with nothing proved before.",
 }
 
@@ -139,11 +149,9 @@ def stack(results):
 
 
 def files(results):
-    names = [found[1] for found in (re.fullmatch(r"files/(.*)/rate", name) for name in results.rows) if found]
-    rows = [[it, number(results.value(f"files/{it}/rate")), results.rows[f"files/{it}/ratio"].unit.removeprefix("times "),
-             with_range(results, f"files/{it}/ratio")] for it in names]
+    rows = [[shown, number(results.value(f"files/{name}/rate")), with_range(results, f"files/{name}/ratio")] for name, shown in WAYS.items()]
     before = prose("files", count=number(results.value("files/count")), size=number(results.value("files/size")))
-    return section("Many files", before, ["way", "files per second", "compared with", "ratio"], rows)
+    return section("Many files", before, ["way", "files per second", "ratio"], rows)
 
 
 def minutes(results):
