@@ -34,7 +34,9 @@ fn put_tag(out: &mut String, tag: &str) -> Result<(), Fault> {
 /// Says that a tag is not for this kind of node.
 fn put_kind(out: &mut String, tag: &str, kind: &str) -> Result<(), Fault> {
     put_tag(out, tag)?;
-    put_all(out, &[" is for ", bearers(tag), ", and this is a ", kind])
+    put_all(out, &[" is for ", bearers(tag), ", and this is a "])?;
+    out.push_str(kind)?;
+    Ok(())
 }
 
 /// Says that a scalar's text is none of its tag, and what would be one. A long text is cut.
