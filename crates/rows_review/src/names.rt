@@ -8,6 +8,7 @@ use std::test::Fail;
 use yaml_review_command::arguments::words_of;
 
 /// The words of a program, its own name first.
+#[derive(Drop)]
 struct Called(&'static [&'static [u8]]);
 
 impl Env for Called {

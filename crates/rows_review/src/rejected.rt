@@ -138,7 +138,7 @@ pub static HIDDEN: [Row; 4] = [
     Row {
         name: "controls of direction and spaces without width",
         words: &["diff", "--no-places", "left", "right"],
-        left: "- a\u{202E}b\n- \u{200B}\n".as_bytes(),
+        left: b"- a\xE2\x80\xAEb\n- \xE2\x80\x8B\n",
         right: b"- ab\n- ''\n",
         status: 1,
         out: "~\t0[0]\t\"a\\u202Eb\"\t\"ab\"\n~\t0[1]\t\"\\u200B\"\t\"\"\n",
@@ -147,8 +147,8 @@ pub static HIDDEN: [Row; 4] = [
     Row {
         name: "a key, a soft hyphen and a tag character",
         words: &["diff", "--no-places", "left", "right"],
-        left: "{\"a \u{2066}\": \"\u{AD}\u{E0041}\"}\n".as_bytes(),
-        right: "{\"a \u{2066}\": \"x\"}\n".as_bytes(),
+        left: b"{\"a \xE2\x81\xA6\": \"\xC2\xAD\xF3\xA0\x81\x81\"}\n",
+        right: b"{\"a \xE2\x81\xA6\": \"x\"}\n",
         status: 1,
         out: "~\t0[\"a \\u2066\"]\t\"\\u00AD\\U000E0041\"\t\"x\"\n",
         err: "",
@@ -156,7 +156,7 @@ pub static HIDDEN: [Row; 4] = [
     Row {
         name: "letters of other scripts are shown as they are",
         words: &["diff", "--no-places", "left", "right"],
-        left: "- \u{E9}\u{65E5}\u{5D0}\u{1F600}\n".as_bytes(),
+        left: b"- \xC3\xA9\xE6\x97\xA5\xD7\x90\xF0\x9F\x98\x80\n",
         right: b"- x\n",
         status: 1,
         out: "~\t0[0]\t\"\u{E9}\u{65E5}\u{5D0}\u{1F600}\"\t\"x\"\n",
@@ -165,7 +165,7 @@ pub static HIDDEN: [Row; 4] = [
     Row {
         name: "as objects",
         words: &["diff", "--no-places", "--format=json", "left", "right"],
-        left: "- a\u{202E}b\n".as_bytes(),
+        left: b"- a\xE2\x80\xAEb\n",
         right: b"- ab\n",
         status: 1,
         out: "{\"kind\":\"changed\",\"left\":\"\\\"a\u{202E}b\\\"\",\"left_place\":null,\"path\":\"0[0]\",\"right\":\"\\\"ab\\\"\",\"right_place\":null}\n",
