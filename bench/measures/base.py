@@ -54,6 +54,12 @@ class Run:
         self.size = options.size or (200_000 if self.quick else 10_000_000)
         self.rounds = options.rounds or (3 if self.quick else 9)
 
+    def library(self):
+        """The folder that has the library."""
+        if not self.options.library:
+            raise LeftOut("what needs the library, since --library names no folder that tools/library built")
+        return os.path.abspath(self.options.library)
+
     def path(self, name):
         return f"{self.folder}/{name}"
 

@@ -6,7 +6,6 @@ import sys
 
 from .base import REVIEW, need, say, script
 from .results import TOP
-from .small import library_of
 from .taken import BENCH
 
 JOBS = 4
@@ -15,8 +14,7 @@ JOBS = 4
 def files(run):
     """Files a second of each way by the clock, and how many times those of the way that it is compared with."""
     need(REVIEW, "yamlreview")
-    library, many, count = library_of(run), script("many"), 300 if run.quick else 10_000
-    many.REVIEW = REVIEW
+    library, many, count = run.library(), script("many"), 300 if run.quick else 10_000
     folder = run.path("files")
     subprocess.run([sys.executable, f"{BENCH}/many_files.py", folder, str(count)], stdout=subprocess.DEVNULL, check=True)
     os.environ.pop("PYTHONDONTWRITEBYTECODE", None)

@@ -28,7 +28,6 @@ def growth(run):
     """The greatest growth of each command: what the second doubling of a text adds, for what the first adds. 2 is linear."""
     need(PROGRAM, "yamlcanon")
     need_tool("valgrind")
-    growth_of_shapes.PROGRAM = PROGRAM
     names = names_of(run)
     yield "growth/shapes", len(names), "texts", ""
     for command in COMMANDS:
@@ -46,7 +45,6 @@ def growth(run):
 def costs(run):
     """The most time, memory and output of a byte: of texts that are accepted, and of those that are rejected."""
     need(PROGRAM, "yamlcanon")
-    growth_of_shapes.PROGRAM = costs_of_shapes.PROGRAM = PROGRAM
     asked = types.SimpleNamespace(size=QUICK_SIZE if run.quick else SIZE, space=0)
     yield "costs/size", asked.size, "bytes", ""
     found = {kind: costs_of(kind, names_of(run), asked) for kind in (*COMMANDS, "later")}

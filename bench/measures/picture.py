@@ -31,7 +31,9 @@ class Panel:
     def bar(self, y, value, span):
         yield f'<rect x="{self.left}" y="{y}" width="{self.x(value) - self.left:.1f}" height="{BAR}" fill="{self.colour}"/>'
         if span:
-            yield f'<path d="M{self.x(span[0]):.1f} {y + BAR / 2}H{self.x(span[1]):.1f}M{self.x(span[1]):.1f} {y + 4}v{BAR - 8}" stroke="{LINE}" fill="none"/>'
+            low, high = map(self.x, span)
+            marks = f"M{low:.1f} {y + 4}v{BAR - 8}M{low:.1f} {y + BAR / 2}H{high:.1f}M{high:.1f} {y + 4}v{BAR - 8}"
+            yield f'<path d="{marks}" stroke="{LINE}" fill="none"/>'
 
 
 def picture(results):
@@ -51,4 +53,5 @@ def picture(results):
         lines += [f'<text x="{LEFT - 8}" y="{y + 12}" text-anchor="end">{shown}</text>', *panels[0].bar(y, time, span)]
         lines += panels[1].bar(y, memory, None) if memory is not None else []
     one = panels[0].x(1)
-    return "\n".join([*lines, f'<line x1="{one:.1f}" y1="{TOP - 8}" x2="{one:.1f}" y2="{height - 10}" stroke="{LINE}" stroke-dasharray="4 3"/>', "</svg>"]) + "\n"
+    lines.append(f'<line x1="{one:.1f}" y1="{TOP - 8}" x2="{one:.1f}" y2="{height - 10}" stroke="{LINE}" stroke-dasharray="4 3"/>')
+    return "\n".join([*lines, "</svg>"]) + "\n"

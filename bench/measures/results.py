@@ -43,7 +43,8 @@ def said(*words):
 @functools.cache
 def commit():
     """The commit of the tree, with a mark where sources have changed since."""
-    return said("git", "rev-parse", "--short=12", "HEAD") + "+changes" * bool(said("git", "status", "--porcelain", "--", "crates", "crates.txt", "library"))
+    has_changes = bool(said("git", "status", "--porcelain", "--", "crates", "crates.txt", "library"))
+    return said("git", "rev-parse", "--short=12", "HEAD") + "+changes" * has_changes
 
 
 @functools.cache
@@ -60,7 +61,12 @@ def processor():
 def rows_of(values):
     """The rows of measured values: name, value, unit and spread."""
     of = commit(), kit(), processor()
-    return {name: Row(name, f"{value:.4g}" if isinstance(value, float) else str(value), unit, spread, *of) for name, value, unit, spread in values}
+    return {name: Row(name, shown(value), unit, spread, *of) for name, value, unit, spread in values}
+
+
+def shown(value):
+    """A number as it is in the file: four significant digits of what was measured, and what was counted whole."""
+    return f"{value:.4g}" if isinstance(value, float) and abs(value) < 1e4 else f"{value:.0f}"
 
 
 class Results:

@@ -51,12 +51,13 @@ def starts(run):
 
 def calls(run):
     """A call of the library on the same file, from C and from Python: the least of some rounds."""
-    library = library_of(run)
+    library = run.library()
     made, (rounds, count) = run.path("time_calls"), (3, 200) if run.quick else (20, 10_000)
-    built = subprocess.run(["cc", "-O2", "-I", library, "-o", made, f"{BENCH}/time_calls.c", f"{library}/libyamlcanon.a"], capture_output=True, check=False)
+    words = ["cc", "-O2", "-I", library, "-o", made, f"{BENCH}/time_calls.c", f"{library}/libyamlcanon.a"]
+    built = subprocess.run(words, capture_output=True, check=False)
     if built.returncode:
         raise LeftOut(f"calls from C: {built.stderr.decode(errors='replace').strip()}")
-    env = {**os.environ, "YAMLCANON_LIBRARY": f"{library}/libyamlcanon.so.1", "PYTHONPATH": f"{TOP}/bindings/python", "PYTHONDONTWRITEBYTECODE": "1"}
+    env = {**os.environ, "YAMLCANON_LIBRARY": f"{library}/libyamlcanon.so.1", "PYTHONPATH": f"{TOP}/bindings/python"}
     for call in CALLS:
         for name, words in (("C", [made]), ("Python", [sys.executable, "-c", FROM_PYTHON])):
             words = [*words, INPUT, str(rounds), str(count), call]
@@ -66,12 +67,3 @@ def calls(run):
             yield f"small/{call} from {name}", float(ran.stdout), "microseconds of processor", f"least of {rounds} rounds"
     say("small: calls of the library")
 
-
-def library_of(run):
-    """The folder of the library: the one that --library names, or one in which tools/library builds it."""
-    if not run.options.library:
-        run.options.library = run.path("library")
-        if subprocess.run([f"{TOP}/tools/library", run.options.library], check=False).returncode:
-            run.options.library = ""
-            raise LeftOut("the library, which is not built: name a folder that tools/library built by --library")
-    return os.path.abspath(run.options.library)

@@ -163,7 +163,7 @@ pub static OTHERS: [Row; 9] = [
         left: b"%YAML 1.1\n--- a\n",
         right: b"",
         status: 2,
-        out: "left:1:1: 9 BadDirective at byte 0: a directive is `%YAML 1.2` or `%TAG`, each at most once for a document and a handle\n%YAML 1.1\n^\n",
+        out: "left:1:1: 9 BadDirective at byte 0: this reader is of YAML 1.2: without this line `yes`, `no`, `on` and `off` are strings, `012` is 12 and `<<` is a key like others (`yamlreview warn` shows where)\n%YAML 1.1\n^\n",
         err: "",
     },
     Row {
@@ -217,7 +217,7 @@ pub static OTHERS: [Row; 9] = [
         left: b"a: \xFF x",
         right: b"",
         status: 2,
-        out: "left:1:4: 2 NotUtf8 at byte 3: these bytes are not UTF-8\na: ? x\n   ^\n",
+        out: "left:1:4: 2 NotUtf8 at byte 3: these bytes are not UTF-8: if they are Latin-1, convert the file by `iconv -f LATIN1 -t UTF-8`\na: ? x\n   ^\n",
         err: "",
     },
     // What a terminal would not print is told as `?`, so that a name makes no line of its own.
@@ -227,7 +227,7 @@ pub static OTHERS: [Row; 9] = [
         left: b"a: [",
         right: b"a",
         status: 3,
-        out: "left:1:5: 4 Syntax at byte 4: the text ends inside a node that is not closed: a quote, a bracket or a brace is missing\na: [\n    ^\n",
-        err: "yaml: cannot open no?yaml: ?[2K\n",
+        out: "left:1:5: 4 Syntax at byte 4: the bracket opened at line 1, column 4 is not closed\na: [\n    ^\n",
+        err: "yamlreview: no?yaml: ?[2K: cannot open: not found\n",
     },
 ];

@@ -10,11 +10,21 @@ mod empty_nodes;
 #[cfg(test)]
 mod faults;
 #[cfg(test)]
+mod git;
+#[cfg(test)]
+mod hints;
+#[cfg(test)]
+mod names;
+#[cfg(test)]
 mod places;
+#[cfg(test)]
+mod rejected;
 #[cfg(test)]
 mod rows;
 #[cfg(test)]
 mod runs;
+#[cfg(test)]
+mod slips;
 #[cfg(test)]
 mod sum;
 #[cfg(test)]

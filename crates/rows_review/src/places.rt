@@ -108,7 +108,7 @@ pub static ROWS: [Row; 12] = [
         left: b"a: yes\n",
         right: b"[1:20]\n",
         status: 0,
-        out: "{\"column\":4,\"file\":\"left\",\"line\":1,\"text\":\"yes\",\"words\":\"a str, and a bool in YAML 1.1\"}\n{\"column\":2,\"file\":\"right\",\"line\":1,\"text\":\"1:20\",\"words\":\"a str, and a number of base 60 in YAML 1.1\"}\n",
+        out: "{\"column\":4,\"file\":\"left\",\"line\":1,\"text\":\"yes\",\"words\":\"a string here, a bool in YAML 1.1\"}\n{\"column\":2,\"file\":\"right\",\"line\":1,\"text\":\"1:20\",\"words\":\"a string here, an int in YAML 1.1\"}\n",
         err: "",
     },
     Row {
@@ -117,7 +117,7 @@ pub static ROWS: [Row; 12] = [
         left: b"[yes, no, on]\n",
         right: b"[off]\n",
         status: 0,
-        out: "left:1:2: warning: yes: a str, and a bool in YAML 1.1\nleft:1:7: warning: no: a str, and a bool in YAML 1.1\n...\nright:1:2: warning: off: a str, and a bool in YAML 1.1\n",
+        out: "left:1:2: warning: yes: a string here, a bool in YAML 1.1\nleft:1:7: warning: no: a string here, a bool in YAML 1.1\n...\nright:1:2: warning: off: a string here, a bool in YAML 1.1\n",
         err: "",
     },
 ];
@@ -163,7 +163,7 @@ pub static GIT: [Row; 6] = [
         left: b"a",
         right: b"b",
         status: 0,
-        out: "diff a.yaml -> b.yaml\n~\t0\t\"a\"\t\"b\"\t1:1\t1:1\n",
+        out: "diff a.yaml -> b.yaml\nrenamed from a.yaml\n~\t0\t\"a\"\t\"b\"\t1:1\t1:1\n",
         err: "",
     },
     Row {
@@ -179,9 +179,9 @@ pub static GIT: [Row; 6] = [
         name: "one that is refused",
         words: &["git", "a.yaml", "left", "1c2d", MODE, "right", "3e4f", MODE],
         left: b"a: 1",
-        right: b"a: [",
+        right: b"- *y",
         status: 0,
-        out: "diff a.yaml\nyaml: right: 4 Syntax at byte 4\n",
+        out: "diff a.yaml\nb/a.yaml:1:3: 12 UndefinedAlias at byte 2: 0[0]: no node before this one in its document has an anchor of this name\n- *y\n  ^\n",
         err: "",
     },
     Row {
@@ -192,7 +192,7 @@ pub static GIT: [Row; 6] = [
         left: DEPLOYMENT_LEFT,
         right: DEPLOYMENT_RIGHT,
         status: 0,
-        out: "diff a.yaml\nyaml: cannot open nothing\n",
+        out: "diff a.yaml\nyamlreview: b/a.yaml: cannot open: not found\n",
         err: "",
     },
 ];
@@ -206,7 +206,7 @@ pub static REFUSED: [Row; 2] = [
         right: DEPLOYMENT_RIGHT,
         status: 3,
         out: "",
-        err: "yaml: usage: git passes 1, 7 or 9 words\n",
+        err: "yamlreview: usage: git passes 1, 7 or 9 words\n",
     },
     Row {
         name: "standard input is one side",
@@ -215,6 +215,6 @@ pub static REFUSED: [Row; 2] = [
         right: DEPLOYMENT_RIGHT,
         status: 3,
         out: "",
-        err: "yaml: usage: `-` is standard input, which is read once\n",
+        err: "yamlreview: usage: `-` is standard input, which is read once\n",
     },
 ];

@@ -1,6 +1,6 @@
 //! Every table of runs over two files. A test is proved and paid for, a row is not, so one goes over all tables.
 use crate::runs::{ALL, Given, run};
-use crate::{differences, empty_nodes, faults, places, tag_places, warnings};
+use crate::{differences, empty_nodes, faults, git, places, rejected, tag_places, warnings};
 use std::process::Abort;
 use std::test::Fail;
 
@@ -30,7 +30,7 @@ fn is_told<T: Abort + AllocGlobal>(rt: &T, row: &Row) -> Result<(), Fail> {
 
 #[test]
 fn runs_over_two_files_are_told(rt: HostRuntime) -> Result<(), Fail> {
-    let tables: [&[Row]; 10] = [
+    let tables: [&[Row]; 15] = [
         &differences::ROWS,
         &empty_nodes::ROWS,
         &faults::SYNTAX,
@@ -41,6 +41,11 @@ fn runs_over_two_files_are_told(rt: HostRuntime) -> Result<(), Fail> {
         &places::GIT,
         &places::REFUSED,
         &tag_places::ROWS,
+        &git::ROWS,
+        &rejected::FILES,
+        &rejected::LINES,
+        &rejected::WORDS,
+        &rejected::HIDDEN,
     ];
     for table in &tables {
         for row in *table {

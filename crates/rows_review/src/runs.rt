@@ -37,6 +37,9 @@ impl<'a> Shelf for Files<'a> {
             "right" => return Ok(self.right),
             // As the files of a runtime answer what is no regular file.
             "folder" => return Err(io::Error::from(io::ErrorKind::Unsupported)),
+            "a folder" => return Err(io::Error::from(io::ErrorKind::IsADirectory)),
+            "denied" => return Err(io::Error::from(io::ErrorKind::PermissionDenied)),
+            "one.yaml/a" => return Err(io::Error::from(io::ErrorKind::NotADirectory)),
             _ => {}
         }
         for (file, bytes) in &FILES {

@@ -30,7 +30,7 @@ static SUMS: [Row; 11] = [
         input: b"",
         status: 2,
         out: "10fefbc4a80af0c4ff6ee9763b1d134ced76a83604f31803c082d5bfcc96318a  one.yaml\n",
-        err: "yaml: refused.yaml: 4 Syntax at byte 7\n",
+        err: "yamlreview: refused.yaml: 4 Syntax at byte 7\n",
     },
     Row {
         name: "the status is that of the worst",
@@ -38,7 +38,7 @@ static SUMS: [Row; 11] = [
         input: b"",
         status: 3,
         out: "10fefbc4a80af0c4ff6ee9763b1d134ced76a83604f31803c082d5bfcc96318a  one.yaml\n",
-        err: "yaml: absent.yaml: cannot open\nyaml: refused.yaml: 4 Syntax at byte 7\n",
+        err: "yamlreview: absent.yaml: cannot open: not found\nyamlreview: refused.yaml: 4 Syntax at byte 7\n",
     },
     Row {
         name: "a backslash, a line feed and a carriage return in a name are escaped",
@@ -54,7 +54,7 @@ static SUMS: [Row; 11] = [
         input: b"",
         status: 3,
         out: "",
-        err: "yaml: ab\\nsent: cannot open\n",
+        err: "yamlreview: ab\\nsent: cannot open: not found\n",
     },
     Row {
         name: "what is no regular file is told so",
@@ -62,7 +62,7 @@ static SUMS: [Row; 11] = [
         input: b"",
         status: 3,
         out: "10fefbc4a80af0c4ff6ee9763b1d134ced76a83604f31803c082d5bfcc96318a  one.yaml\n",
-        err: "yaml: folder: is no regular file\n",
+        err: "yamlreview: folder: is no regular file\n",
     },
     Row {
         name: "standard input is a file",
@@ -102,7 +102,7 @@ static SUMS: [Row; 11] = [
         input: b"",
         status: 3,
         out: "",
-        err: "yaml: cannot open absent\n",
+        err: "yamlreview: absent: cannot open: not found\n",
     },
 ];
 
@@ -123,7 +123,7 @@ static CHECKS: [Row; 6] = [
         input: b"# sums\n\nnonsense\n82AE564FDE271DD8A546CAE079EBA99E0C49B73B9E767EF20F8BBEA26C2AE94D *flow.yaml\n82ae564fde271dd8a546cae079eba99e0c49b73b9e767ef20f8bbea26c2ae94d  one.yaml\n",
         status: 1,
         out: "flow.yaml: OK\none.yaml: FAILED\n",
-        err: "yaml: lines that are no sums: 1\n",
+        err: "yamlreview: lines that are no sums: 1\n",
     },
     Row {
         name: "a file that is refused has no sum to be compared",
@@ -131,7 +131,7 @@ static CHECKS: [Row; 6] = [
         input: b"82ae564fde271dd8a546cae079eba99e0c49b73b9e767ef20f8bbea26c2ae94d  refused.yaml\n",
         status: 2,
         out: "refused.yaml: FAILED open or read\n",
-        err: "yaml: refused.yaml: 4 Syntax at byte 7\n",
+        err: "yamlreview: refused.yaml: 4 Syntax at byte 7\n",
     },
     Row {
         name: "nor one that is not there",
@@ -139,7 +139,7 @@ static CHECKS: [Row; 6] = [
         input: b"82ae564fde271dd8a546cae079eba99e0c49b73b9e767ef20f8bbea26c2ae94d  absent\n",
         status: 3,
         out: "absent: FAILED open or read\n",
-        err: "yaml: absent: cannot open\n",
+        err: "yamlreview: absent: cannot open: not found\n",
     },
     Row {
         name: "a list without a line of a sum can't be used",
@@ -147,7 +147,7 @@ static CHECKS: [Row; 6] = [
         input: b"\\82ae564fde271dd8a546cae079eba99e0c49b73b9e767ef20f8bbea26c2ae94d  a\\x\n82ae564fde271dd8a546cae079eba99e0c49b73b9e767ef20f8bbea26c2ae94d flow.yaml\n82ae564fde271dd8a546cae079eba99e0c49b73b9e767ef20f8bbea26c2ae94d  \n",
         status: 3,
         out: "",
-        err: "yaml: -: no line is one of a sum\n",
+        err: "yamlreview: -: no line is one of a sum\n",
     },
     Row {
         name: "nor can an empty one, which is told by its name",
@@ -155,7 +155,7 @@ static CHECKS: [Row; 6] = [
         input: b"",
         status: 3,
         out: "",
-        err: "yaml: empty\\nlist: no line is one of a sum\n",
+        err: "yamlreview: empty\\nlist: no line is one of a sum\n",
     },
 ];
 
@@ -170,7 +170,7 @@ static FAILING: [(usize, usize, Row); 2] = [
             input: b"",
             status: 3,
             out: "10fefbc4a80af0c4ff6ee9763b1d134ced76a83604f31803c082d5bfcc96318a  one.yaml\n82ae5",
-            err: "yaml: absent: cannot open\nyaml: 23 WriteFault\n",
+            err: "yamlreview: absent: cannot open: not found\nyamlreview: 23 WriteFault\n",
         },
     ),
     (
@@ -182,7 +182,7 @@ static FAILING: [(usize, usize, Row); 2] = [
             input: b"",
             status: 3,
             out: "10fefbc4a80af0c4ff6ee9763b1d134ced76a83604f31803c082d5bfcc96318a  one.yaml\n",
-            err: "yaml: a",
+            err: "yamlrev",
         },
     ),
 ];

@@ -3,14 +3,14 @@ use crate::rows::Row;
 
 const WARN: &[&str] = &["warn", "left"];
 
-pub static ROWS: [Row; 12] = [
+pub static ROWS: [Row; 22] = [
     Row {
         name: "yes",
         words: WARN,
         left: b"a: yes\n",
         right: b"",
         status: 0,
-        out: "left:1:4: warning: yes: a str, and a bool in YAML 1.1\n",
+        out: "left:1:4: warning: yes: a string here, a bool in YAML 1.1\n",
         err: "",
     },
     Row {
@@ -19,7 +19,7 @@ pub static ROWS: [Row; 12] = [
         left: b"no: 1\n",
         right: b"",
         status: 0,
-        out: "left:1:1: warning: no: a str, and a bool in YAML 1.1\n",
+        out: "left:1:1: warning: no: a string here, a bool in YAML 1.1\n",
         err: "",
     },
     Row {
@@ -28,7 +28,7 @@ pub static ROWS: [Row; 12] = [
         left: b"- n\n",
         right: b"",
         status: 0,
-        out: "left:1:3: warning: n: a str, and a bool in YAML 1.1\n",
+        out: "left:1:3: warning: n: a string here, a bool in YAML 1.1\n",
         err: "",
     },
     Row {
@@ -37,7 +37,7 @@ pub static ROWS: [Row; 12] = [
         left: b"- 012\n- 007\n- 0\n",
         right: b"",
         status: 0,
-        out: "left:1:3: warning: 012: an int of base 10, and one of base 8 in YAML 1.1\n",
+        out: "left:1:3: warning: 012: the int 12 here, the int 10 in YAML 1.1\n",
         err: "",
     },
     Row {
@@ -46,7 +46,7 @@ pub static ROWS: [Row; 12] = [
         left: b"<<: {x: 1}\na: <<\n",
         right: b"",
         status: 0,
-        out: "left:1:1: warning: <<: a key like others, and in YAML 1.1 a merge of the value's entries\n",
+        out: "left:1:1: warning: <<: a string here, a merge in YAML 1.1\n",
         err: "",
     },
     Row {
@@ -55,7 +55,7 @@ pub static ROWS: [Row; 12] = [
         left: b"- 2001-12-14\n",
         right: b"",
         status: 0,
-        out: "left:1:3: warning: 2001-12-14: a str, and a timestamp in YAML 1.1\n",
+        out: "left:1:3: warning: 2001-12-14: a string here, a timestamp in YAML 1.1\n",
         err: "",
     },
     Row {
@@ -64,7 +64,7 @@ pub static ROWS: [Row; 12] = [
         left: b"- 2001-12-14t21:59:43.10-05:00\n",
         right: b"",
         status: 0,
-        out: "left:1:3: warning: 2001-12-14t21:59:43.10-05:00: a str, and a timestamp in YAML 1.1\n",
+        out: "left:1:3: warning: 2001-12-14t21:59:43.10-05:00: a string here, a timestamp in YAML 1.1\n",
         err: "",
     },
     Row {
@@ -73,7 +73,7 @@ pub static ROWS: [Row; 12] = [
         left: b"- 12:30:45\n- 1:99\n",
         right: b"",
         status: 0,
-        out: "left:1:3: warning: 12:30:45: a str, and a number of base 60 in YAML 1.1\n",
+        out: "left:1:3: warning: 12:30:45: a string here, an int in YAML 1.1\n",
         err: "",
     },
     Row {
@@ -82,7 +82,7 @@ pub static ROWS: [Row; 12] = [
         left: b"- 0b101\n",
         right: b"",
         status: 0,
-        out: "left:1:3: warning: 0b101: a str, and an int of base 2 in YAML 1.1\n",
+        out: "left:1:3: warning: 0b101: a string here, an int in YAML 1.1\n",
         err: "",
     },
     Row {
@@ -91,7 +91,7 @@ pub static ROWS: [Row; 12] = [
         left: b"- 1_000\n- 0_9\n",
         right: b"",
         status: 0,
-        out: "left:1:3: warning: 1_000: a str, and an int in YAML 1.1\n",
+        out: "left:1:3: warning: 1_000: a string here, an int in YAML 1.1\n",
         err: "",
     },
     Row {
@@ -100,7 +100,7 @@ pub static ROWS: [Row; 12] = [
         left: b"- 0o17\n",
         right: b"",
         status: 0,
-        out: "left:1:3: warning: 0o17: an int of base 8, and a str in YAML 1.1\n",
+        out: "left:1:3: warning: 0o17: an int here, a string in YAML 1.1\n",
         err: "",
     },
     Row {
@@ -110,6 +110,96 @@ pub static ROWS: [Row; 12] = [
         right: b"",
         status: 0,
         out: "",
+        err: "",
+    },
+    Row {
+        name: "an 8 or a 9 behind a zero",
+        words: WARN,
+        left: b"- 08\n- 09\n- 018\n- -08\n- 8\n",
+        right: b"",
+        status: 0,
+        out: "left:1:3: warning: 08: an int here, a string in YAML 1.1\nleft:2:3: warning: 09: an int here, a string in YAML 1.1\nleft:3:3: warning: 018: an int here, a string in YAML 1.1\nleft:4:3: warning: -08: an int here, a string in YAML 1.1\n",
+        err: "",
+    },
+    Row {
+        name: "exponents without a point or a sign",
+        words: WARN,
+        left: b"- 1e3\n- 75e-6\n- .5e1\n- +.5e+1\n- 1.5e+3\n- .5e-1\n",
+        right: b"",
+        status: 0,
+        out: "left:1:3: warning: 1e3: a float here, a string in YAML 1.1\nleft:2:3: warning: 75e-6: a float here, a string in YAML 1.1\nleft:3:3: warning: .5e1: a float here, a string in YAML 1.1\nleft:4:3: warning: +.5e+1: a float here, a string in YAML 1.1\n",
+        err: "",
+    },
+    Row {
+        name: "a short hash",
+        words: WARN,
+        left: b"sha: 7e12345\n",
+        right: b"",
+        status: 0,
+        out: "left:1:6: warning: 7e12345: a float here, a string in YAML 1.1\n",
+        err: "",
+    },
+    Row {
+        name: "a sign before a point",
+        words: WARN,
+        left: b"- +.5\n- -.5\n- .5\n- -.inf\n",
+        right: b"",
+        status: 0,
+        out: "left:1:3: warning: +.5: a float here, a string in YAML 1.1\nleft:2:3: warning: -.5: a float here, a string in YAML 1.1\n",
+        err: "",
+    },
+    Row {
+        name: "a signed number of base 16, and one with an underscore",
+        words: WARN,
+        left: b"- -0x1F\n- 0x1_F\n- 0x1F\n",
+        right: b"",
+        status: 0,
+        out: "left:1:3: warning: -0x1F: a string here, an int in YAML 1.1\nleft:2:3: warning: 0x1_F: a string here, an int in YAML 1.1\n",
+        err: "",
+    },
+    Row {
+        name: "underscores in a float",
+        words: WARN,
+        left: b"- 1_0.5\n- 685_230.15\n- _1.5\n",
+        right: b"",
+        status: 0,
+        out: "left:1:3: warning: 1_0.5: a string here, a float in YAML 1.1\nleft:2:3: warning: 685_230.15: a string here, a float in YAML 1.1\n",
+        err: "",
+    },
+    Row {
+        name: "a default value",
+        words: WARN,
+        left: b"- =\n- ==\n",
+        right: b"",
+        status: 0,
+        out: "left:1:3: warning: =: a string here, a default value in YAML 1.1\n",
+        err: "",
+    },
+    Row {
+        name: "a float of base 60",
+        words: WARN,
+        left: b"- 1:30.5\n- 0:1\n- 0:1.\n",
+        right: b"",
+        status: 0,
+        out: "left:1:3: warning: 1:30.5: a string here, a float in YAML 1.1\nleft:3:3: warning: 0:1.: a string here, a float in YAML 1.1\n",
+        err: "",
+    },
+    Row {
+        name: "signed octals, and a long one",
+        words: WARN,
+        left: b"- -010\n- +010\n- 0777777777777777777777777\n",
+        right: b"",
+        status: 0,
+        out: "left:1:3: warning: -010: the int -10 here, the int -8 in YAML 1.1\nleft:2:3: warning: +010: the int 10 here, the int 8 in YAML 1.1\nleft:3:3: warning: 0777777777777777777777777: the int 777777777777777777777777 here, the int 4722366482869645213695 in YAML 1.1\n",
+        err: "",
+    },
+    Row {
+        name: "version numbers",
+        words: WARN,
+        left: b"- 3.10\n- 1.20\n- 1.00\n- -2.50\n- 1.0\n- 10.5\n- 1.2.0\n",
+        right: b"",
+        status: 0,
+        out: "left:1:3: warning: 3.10: a float, 3.1\nleft:2:3: warning: 1.20: a float, 1.2\nleft:3:3: warning: 1.00: a float, 1\nleft:4:3: warning: -2.50: a float, -2.5\n",
         err: "",
     },
 ];

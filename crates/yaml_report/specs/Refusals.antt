@@ -49,24 +49,24 @@ place_text Nowhere = codes "\n"
 place_text (At words at) = words.now ++ decimal at ++ codes "\n"
 place_text (Entries at i j) = codes " in node " ++ decimal at ++ codes ", entries " ++ decimal i ++ codes " and " ++ decimal j ++ codes "\n"
 
--- the line of a fault, with this text before its number
+-- the line of a fault, which begins with this text before the fault's number
 abbrev pub fault_line : List ℕ → Fault → List ℕ
-fault_line front f = codes "yaml: " ++ front ++ decimal (fault_number f) ++ codes " " ++ fault_name f ++ place_end f
+fault_line front f = front ++ decimal (fault_number f) ++ codes " " ++ fault_name f ++ place_end f
 
 abbrev pub side_text : Side → List ℕ
-side_text Left = codes "left: "
-side_text Right = codes "right: "
+side_text Left = codes "yaml: left: "
+side_text Right = codes "yaml: right: "
 
 -- the line of a refusal
 abbrev pub line_text : Refusal → List ℕ
 line_text (Words Usage) = codes "yaml: usage\n"
-line_text (Words NoMemory) = fault_line [] fault.OutOfMemory
+line_text (Words NoMemory) = fault_line (codes "yaml: ") fault.OutOfMemory
 line_text (CannotOpen name) = codes "yaml: cannot open " ++ name.now ++ codes "\n"
-line_text (Input fault) = fault_line [] fault
+line_text (Input fault) = fault_line (codes "yaml: ") fault
 line_text (OneSide side fault) = fault_line (side_text side) fault
-line_text (EventText fault) = fault_line (codes "events: ") fault
+line_text (EventText fault) = fault_line (codes "yaml: events: ") fault
 line_text (EventLines (BadLine line)) = codes "yaml: events: bad line " ++ decimal line ++ codes "\n"
-line_text (EventLines NoRoom) = fault_line (codes "events: ") fault.OutOfMemory
+line_text (EventLines NoRoom) = fault_line (codes "yaml: events: ") fault.OutOfMemory
 
 -- The line of a refusal was written whole and the writer flushed, or the writer took a beginning of it and then a call failed.
 abbrev pub Told : {E : Type 0} → (E → Option (List ℕ)) → Counted E → Counted E → Refusal → Type 0

@@ -30,8 +30,9 @@ fn send_pieces<E: Write>(pieces: &[&str], err: &mut Counted<E>) -> Result<(), Fa
     Ok(())
 }
 
-/// Writes pieces behind one another and flushes, and fails as `send_pieces` does.
-fn write_pieces<E: Write>(pieces: &[&str], err: &mut Counted<E>) -> Result<(), Fault>
+/// Writes pieces behind one another and flushes. Any error of the writer, and a write that takes no byte, is `WriteFault`; the
+/// writer then has a beginning of them.
+pub fn write_pieces<E: Write>(pieces: &[&str], err: &mut Counted<E>) -> Result<(), Fault>
     requires { faults_of err.old < 2 ^ 64 - 1 }
     ensures ok { OnOk result (Printed E.contents err.old err.new (flat_map (λ piece. piece.now) pieces.now)) }
     ensures err { IfErr result (PrintFails E.contents err.old err.new (flat_map (λ piece. piece.now) pieces.now)) }
@@ -43,13 +44,13 @@ fn write_pieces<E: Write>(pieces: &[&str], err: &mut Counted<E>) -> Result<(), F
     }
 }
 
-/// What the line says of a side, before its fault.
+/// How the line of a fault of one side begins.
 fn side_text(side: Side) -> &'static str
     ensures { result.now ≡ side_text side }
 {
     match side {
-        Side::Left => "left: ",
-        Side::Right => "right: ",
+        Side::Left => "yaml: left: ",
+        Side::Right => "yaml: right: ",
     }
 }
 
@@ -102,10 +103,10 @@ fn tell_nowhere<'a, E: Write>(
     err: &mut Counted<E>,
 ) -> Result<(), Fault>
     requires { faults_of err.old < 2 ^ 64 - 1 }
-    ensures ok { OnOk result (Printed E.contents err.old err.new (codes "yaml: " ++ front.now ++ number.now ++ codes " " ++ name.now ++ codes "\n")) }
-    ensures err { IfErr result (PrintFails E.contents err.old err.new (codes "yaml: " ++ front.now ++ number.now ++ codes " " ++ name.now ++ codes "\n")) }
+    ensures ok { OnOk result (Printed E.contents err.old err.new (front.now ++ number.now ++ codes " " ++ name.now ++ codes "\n")) }
+    ensures err { IfErr result (PrintFails E.contents err.old err.new (front.now ++ number.now ++ codes " " ++ name.now ++ codes "\n")) }
 {
-    write_pieces(&["yaml: ", front, number, " ", name, "\n"], err)
+    write_pieces(&[front, number, " ", name, "\n"], err)
 }
 
 /// Writes the line of a fault at a place of one number.
@@ -118,10 +119,10 @@ fn tell_at<'a, E: Write>(
     err: &mut Counted<E>,
 ) -> Result<(), Fault>
     requires { faults_of err.old < 2 ^ 64 - 1 }
-    ensures ok { OnOk result (Printed E.contents err.old err.new (codes "yaml: " ++ front.now ++ number.now ++ codes " " ++ name.now ++ words.now ++ at.now ++ codes "\n")) }
-    ensures err { IfErr result (PrintFails E.contents err.old err.new (codes "yaml: " ++ front.now ++ number.now ++ codes " " ++ name.now ++ words.now ++ at.now ++ codes "\n")) }
+    ensures ok { OnOk result (Printed E.contents err.old err.new (front.now ++ number.now ++ codes " " ++ name.now ++ words.now ++ at.now ++ codes "\n")) }
+    ensures err { IfErr result (PrintFails E.contents err.old err.new (front.now ++ number.now ++ codes " " ++ name.now ++ words.now ++ at.now ++ codes "\n")) }
 {
-    write_pieces(&["yaml: ", front, number, " ", name, words, at, "\n"], err)
+    write_pieces(&[front, number, " ", name, words, at, "\n"], err)
 }
 
 /// Writes the line of a fault up to these words of its place.
@@ -133,10 +134,10 @@ fn tell_front<'a, E: Write>(
     err: &mut Counted<E>,
 ) -> Result<(), Fault>
     requires { faults_of err.old < 2 ^ 64 - 1 }
-    ensures ok { OnOk result (Sent E.contents err.old err.new (codes "yaml: " ++ front.now ++ number.now ++ codes " " ++ name.now ++ words.now)) }
-    ensures err { IfErr result (PrintFails E.contents err.old err.new (codes "yaml: " ++ front.now ++ number.now ++ codes " " ++ name.now ++ words.now)) }
+    ensures ok { OnOk result (Sent E.contents err.old err.new (front.now ++ number.now ++ codes " " ++ name.now ++ words.now)) }
+    ensures err { IfErr result (PrintFails E.contents err.old err.new (front.now ++ number.now ++ codes " " ++ name.now ++ words.now)) }
 {
-    send_pieces(&["yaml: ", front, number, " ", name, words], err)
+    send_pieces(&[front, number, " ", name, words], err)
 }
 
 /// Writes the rest of the line of a fault at two entries of a node.
@@ -164,15 +165,16 @@ fn tell_entries<E: Write>(
     err: &mut Counted<E>,
 ) -> Result<(), Fault>
     requires { faults_of err.old < 2 ^ 64 - 1 }
-    ensures ok { OnOk result (Printed E.contents err.old err.new (codes "yaml: " ++ front.now ++ number.now ++ codes " " ++ name.now ++ codes " in node " ++ node.now ++ codes ", entries " ++ first.now ++ codes " and " ++ second.now ++ codes "\n")) }
-    ensures err { IfErr result (PrintFails E.contents err.old err.new (codes "yaml: " ++ front.now ++ number.now ++ codes " " ++ name.now ++ codes " in node " ++ node.now ++ codes ", entries " ++ first.now ++ codes " and " ++ second.now ++ codes "\n")) }
+    ensures ok { OnOk result (Printed E.contents err.old err.new (front.now ++ number.now ++ codes " " ++ name.now ++ codes " in node " ++ node.now ++ codes ", entries " ++ first.now ++ codes " and " ++ second.now ++ codes "\n")) }
+    ensures err { IfErr result (PrintFails E.contents err.old err.new (front.now ++ number.now ++ codes " " ++ name.now ++ codes " in node " ++ node.now ++ codes ", entries " ++ first.now ++ codes " and " ++ second.now ++ codes "\n")) }
 {
     tell_front(front, number, name, " in node ", err)?;
     tell_node(node, first, second, err)
 }
 
-/// Writes the line of a fault, with this text before its number.
-fn tell_fault<E: Write>(front: &str, fault: Fault, err: &mut Counted<E>) -> Result<(), Fault>
+/// Writes the line of a fault, which begins with this text before the fault's number, and flushes. It takes no memory, and fails as
+/// `tell` does.
+pub fn tell_fault<E: Write>(front: &str, fault: Fault, err: &mut Counted<E>) -> Result<(), Fault>
     requires { faults_of err.old < 2 ^ 64 - 1 }
     ensures ok { OnOk result (Printed E.contents err.old err.new (fault_line front.now fault)) }
     ensures err { IfErr result (PrintFails E.contents err.old err.new (fault_line front.now fault)) }
@@ -201,7 +203,7 @@ fn tell_words<E: Write>(fault: WordsFault, err: &mut Counted<E>) -> Result<(), F
 {
     match fault {
         WordsFault::Usage => write_pieces(&["yaml: usage\n"], err),
-        WordsFault::OutOfMemory => tell_fault("", Fault::OutOfMemory, err),
+        WordsFault::OutOfMemory => tell_fault("yaml: ", Fault::OutOfMemory, err),
     }
 }
 
@@ -217,7 +219,7 @@ fn tell_lines<E: Write>(fault: EventFault, err: &mut Counted<E>) -> Result<(), F
             let number = digits.format(line);
             write_pieces(&["yaml: events: bad line ", number, "\n"], err)
         }
-        EventFault::OutOfMemory => tell_fault("events: ", Fault::OutOfMemory, err),
+        EventFault::OutOfMemory => tell_fault("yaml: events: ", Fault::OutOfMemory, err),
     }
 }
 
@@ -231,9 +233,9 @@ pub fn tell<E: Write>(refusal: Refusal<'_>, err: &mut Counted<E>) -> Result<(), 
     match refusal {
         Refusal::Words(fault) => tell_words(fault, err),
         Refusal::CannotOpen(name) => write_pieces(&["yaml: cannot open ", name, "\n"], err),
-        Refusal::Input(fault) => tell_fault("", fault, err),
+        Refusal::Input(fault) => tell_fault("yaml: ", fault, err),
         Refusal::OneSide(side, fault) => tell_fault(side_text(side), fault, err),
-        Refusal::EventText(fault) => tell_fault("events: ", fault, err),
+        Refusal::EventText(fault) => tell_fault("yaml: events: ", fault, err),
         Refusal::EventLines(fault) => tell_lines(fault, err),
     }
 }

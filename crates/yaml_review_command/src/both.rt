@@ -1,18 +1,23 @@
 //! Two streams in one graph, ranked.
-ghost use Rattle.std.specs.Prelude.{ℕ, List, IfOk, IfErr, string_bytes};
+ghost use Rattle.std.specs.Prelude.{ℕ, List, IfOk, IfErr, IfSome, IfNone, string_bytes};
 ghost use Rattle.yaml_canon.specs.Both.{HasBoth};
-ghost use Rattle.yaml_canon.specs.Claims.{HasGraph};
+ghost use Rattle.yaml_definitions.specs.model.Tree.{Tree};
+ghost use Rattle.yaml_definitions.specs.model.Proper.{Admitted};
+ghost use Rattle.yaml_definitions.specs.model.Means.{Means};
+ghost use Rattle.yaml_canon.specs.Accepting.{IsMemory};
+ghost use Rattle.yaml_canon.specs.Claims.{HasGraph, IsCanonicalText, CanonicalRefuses};
+ghost use Rattle.yaml_canon.specs.FaultPlaces.{TellsPlace};
 ghost use Rattle.yaml_canon.specs.Comparing.{Compares};
 ghost use Rattle.yaml_canon.specs.Refused.{TellsWhy};
 ghost use Rattle.yaml_review_command.specs.Diffs.{DiffLines};
 ghost use Rattle.yaml_review_command.specs.Sides.{BothAre};
 
 use std::alloc::Global;
-use yaml_canon::Side;
 use yaml_canon::both::{BothForests, forest_of_both, forest_of_both_with};
-use yaml_canon::graph_of::{graph_of, graph_unless, graph_with};
+use yaml_canon::graph_of::{graph_unless, graph_with};
 use yaml_canon::no_forest::{NoForest, NoForests};
 use yaml_canon::same_streams::{on, with_side};
+use yaml_canon::{Side, canonical_into};
 use yaml_compact::GivesUp;
 use yaml_graph::join;
 use yaml_nodes::graph::Graph;
@@ -23,13 +28,16 @@ use yaml_review_text::Both;
 use yaml_review_words::Diff;
 use yaml_text::fault::Fault;
 
-/// The fault of a file that is refused.
-pub(crate) fn fault_of(alloc: Global, bytes: &[u8]) -> Option<Fault> {
-    match graph_of(alloc, bytes) {
-        Ok(graph) => match rank(alloc, &graph) {
-            Ok(_) => None,
-            Err(fault) => Some(fault),
-        },
+/// The fault of a file that is rejected: that which `canonical` answers. The length of the canonical text is found, and no text made.
+pub(crate) fn fault_of(alloc: Global, bytes: &[u8]) -> Option<Fault>
+    ensures accepted { IfNone result ((text : List ℕ) × IsCanonicalText bytes.now text) }
+    ensures rejected { IfSome result (CanonicalRefuses bytes.now) }
+    ensures placed { IfSome result (TellsPlace bytes.now) }
+    ensures accepts { (f : List Tree) → Admitted f → Means bytes.now f → IfSome result IsMemory }
+{
+    let mut room = [0u8; 0];
+    match canonical_into(alloc, bytes, &mut room) {
+        Ok(_) => None,
         Err(fault) => Some(fault),
     }
 }

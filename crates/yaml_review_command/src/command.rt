@@ -1,34 +1,32 @@
 //! The commands.
 use crate::both::fault_of;
-use crate::diff::diff;
+use crate::diff::{NoDiff, diff};
 use crate::files::read_named;
 use crate::git::{git_asked, git_text, put_page};
-use crate::telling::{GIT_WORDS, ONE_INPUT, tell_of_file, told_status};
+use crate::host::Host;
+use crate::telling::{
+    GIT_WORDS, ONE_INPUT, UNUSABLE, put_line, tell_bare, tell_unread, tell_usage,
+};
+use crate::unread::Unread;
 use clap::Error;
 use std::alloc::Global;
 use std::io::{Read, Write};
 use std::rt::Files;
-use yaml_command::command::report;
-use yaml_command::refusal::Refusal;
-use yaml_command::shelf::{Host, Shelf};
+use yaml_command::shelf::Shelf;
 use yaml_command::streams::write_out;
 use yaml_review_lines::{put_fault, put_warnings};
+use yaml_review_text::put_shown;
 use yaml_review_words::{Asked, Report, Sum, read_words};
 use yaml_sum::asked::Asked as SumAsked;
+use yaml_sum::reason::Reason;
 use yaml_sum::regular::Regular;
 use yaml_sum::sum::sum as sum_files;
 use yaml_text::counted::Counted;
 use yaml_text::fault::Fault;
-use yaml_words::WordsFault;
 
 const DONE: u8 = 0;
 
-const REFUSED: u8 = 2;
-
-const UNUSABLE: u8 = 3;
-
-/// How many lines `git` tells of a file.
-const GIT_LINES: usize = 1_000;
+const REJECTED: u8 = 2;
 
 /// What is told of each file.
 #[derive(Clone, Copy, Debug, PartialEq, Eq)]
@@ -50,7 +48,7 @@ fn file_text(
     match fault_of(alloc, bytes) {
         Some(fault) => {
             put_fault(alloc, &mut text, name, bytes, fault, asked.form)?;
-            Ok((text, REFUSED))
+            Ok((text, REJECTED))
         }
         None => {
             if let Kind::Warnings(room) = kind {
@@ -61,24 +59,25 @@ fn file_text(
     }
 }
 
-/// Tells what there is to tell of one file, and answers its status.
-fn file<'a, S: Shelf, R: Read, W: Write>(
+/// Writes what there is to write of one file, and answers its status. Why a file cannot be read goes to standard error.
+fn file<S: Shelf, R: Read, W: Write, E: Write>(
     shelf: &S,
     alloc: Global,
     kind: Kind,
-    name: &'a str,
-    asked: &Report<'_>,
+    named: (&str, &Report<'_>),
     input: &mut R,
     out: &mut W,
-) -> Result<u8, Refusal<'a>> {
+    err: &mut E,
+) -> Result<u8, Fault> {
+    let (name, asked) = named;
     let (text, status) = match read_named(shelf, alloc, name, input) {
         Ok(bytes) => file_text(alloc, kind, name, &bytes, asked)?,
-        Err(Refusal::Input(Fault::TooLong)) => {
+        Err(Unread::Fault(Fault::TooLong)) => {
             let mut text = String::new(alloc);
             put_fault(alloc, &mut text, name, &[], Fault::TooLong, asked.form)?;
-            (text, REFUSED)
+            (text, REJECTED)
         }
-        Err(refusal) => return Err(refusal),
+        Err(unread) => return Ok(tell_unread(alloc, name, unread, err)),
     };
     write_out(&mut Counted::new(out), text.as_bytes())?;
     Ok(status)
@@ -96,34 +95,48 @@ fn files<S: Shelf, R: Read, W: Write, E: Write>(
 ) -> u8 {
     let mut status = DONE;
     for name in &asked.files {
-        let answer = file(shelf, alloc, kind, *name, asked, input, out);
-        let failed = matches!(&answer, Err(Refusal::Input(Fault::WriteFault)));
-        let answer = match answer {
-            Err(Refusal::Input(fault)) => tell_of_file(alloc, *name, fault, err),
-            answer => told_status(alloc, answer, ONE_INPUT, err),
+        let answer = match file(shelf, alloc, kind, (*name, asked), input, out, err) {
+            Ok(answer) => answer,
+            Err(Fault::WriteFault) => return status.max(tell_bare(Fault::WriteFault, err)),
+            Err(fault) => tell_unread(alloc, *name, Unread::Fault(fault), err),
         };
         status = status.max(answer);
-        if failed {
-            break;
-        }
     }
     status
 }
 
-/// Tells what git asks for.
-fn git<'a, S: Shelf, R: Read, W: Write>(
+/// Writes what git asks for, and answers the status.
+fn git<S: Shelf, W: Write, E: Write>(
     shelf: &S,
     alloc: Global,
-    words: &[&'a str],
-    input: &mut R,
+    words: &[&str],
     out: &mut W,
-) -> Result<u8, Refusal<'a>> {
+    err: &mut E,
+) -> u8 {
     let Some(asked) = git_asked(words) else {
-        return Err(Refusal::Words(WordsFault::Usage));
+        return tell_usage(GIT_WORDS, err);
     };
-    let text = git_text(shelf, alloc, asked, GIT_LINES, input)?;
-    put_page(out, text.as_bytes())?;
-    Ok(DONE)
+    let written = match git_text(shelf, alloc, asked) {
+        Ok(text) => put_page(out, text.as_bytes()),
+        Err(fault) => Err(fault),
+    };
+    match written {
+        Ok(()) => DONE,
+        Err(fault) => tell_bare(fault, err),
+    }
+}
+
+/// The status of a comparison, of which it is told why there is none.
+fn diff_status<E: Write>(answer: Result<u8, NoDiff>, err: &mut E) -> u8 {
+    match answer {
+        Ok(status) => status,
+        Err(NoDiff::OneInput) => tell_usage(ONE_INPUT, err),
+        Err(NoDiff::Rejected(text, status)) => {
+            put_line(&text, err);
+            status
+        }
+        Err(NoDiff::Fault(fault)) => tell_bare(fault, err),
+    }
 }
 
 /// Does what is asked, and answers the status.
@@ -144,7 +157,7 @@ fn run<S: Shelf, R: Read + Drop, W: Write + Drop, E: Write + Drop>(
                 &mut input,
                 &mut Counted::new(&mut out),
             );
-            told_status(alloc, answer, ONE_INPUT, &mut err)
+            diff_status(answer, &mut err)
         }
         Asked::Faults(asked) => files(
             shelf,
@@ -164,11 +177,8 @@ fn run<S: Shelf, R: Read + Drop, W: Write + Drop, E: Write + Drop>(
             &mut out,
             &mut err,
         ),
-        Asked::Git(words) => {
-            let answer = git(shelf, alloc, &words, &mut input, &mut out);
-            told_status(alloc, answer, GIT_WORDS, &mut err)
-        }
-        Asked::Sum(asked) => sum_files(shelf, alloc, sum_asked(&asked), input, out, err),
+        Asked::Git(words) => git(shelf, alloc, &words, &mut out, &mut err),
+        Asked::Sum(asked) => sum(shelf, alloc, sum_asked(&asked), input, out, err),
     }
 }
 
@@ -181,22 +191,50 @@ fn sum_asked<'b, 'a: 'b>(asked: &'b Sum<'a>) -> SumAsked<'b> {
     }
 }
 
+/// Makes or checks sums. A list whose name is not UTF-8 is not opened.
+fn sum<S: Shelf, R: Read + Drop, W: Write + Drop, E: Write + Drop>(
+    shelf: &S,
+    alloc: Global,
+    asked: SumAsked<'_>,
+    input: R,
+    out: W,
+    mut err: E,
+) -> u8 {
+    match asked.list() {
+        Some(list) if list.contains('\0') => {
+            let unread = Unread::CannotOpen(Reason::NotUtf8);
+            tell_unread(alloc, list, unread, &mut err)
+        }
+        _ => sum_files(shelf, alloc, asked, input, out, err),
+    }
+}
+
+/// The text of an error of the words, with `?` for what of the words a terminal would not print.
+fn error_text(alloc: Global, error: &Error) -> Result<String, Fault> {
+    let text = format!(in alloc; "{error}")?;
+    let mut shown = String::new(alloc);
+    for (number, line) in text.split('\n').enumerate() {
+        if number > 0 {
+            shown.push('\n')?;
+        }
+        put_shown(&mut shown, line)?;
+    }
+    Ok(shown)
+}
+
 /// Tells why words ask for no command: the help and the version on the output, what is wrong with them on standard error.
 fn told<W: Write, E: Write>(alloc: Global, error: Error, out: &mut W, err: &mut E) -> u8 {
-    let Ok(text) = format!(in alloc; "{error}") else {
-        return report(
-            Err(Refusal::Input(Fault::OutOfMemory)),
-            &mut Counted::new(err),
-        );
+    let text = match error_text(alloc, &error) {
+        Ok(text) => text,
+        Err(fault) => return tell_bare(fault, err),
     };
     if error.use_stderr() {
-        // Where standard error fails too, the status alone is left to tell it.
-        let _ = write_out(&mut Counted::new(err), text.as_bytes());
+        put_line(&text, err);
         return UNUSABLE;
     }
     match write_out(&mut Counted::new(out), text.as_bytes()) {
         Ok(()) => DONE,
-        Err(fault) => report(Err(Refusal::Input(fault)), &mut Counted::new(err)),
+        Err(fault) => tell_bare(fault, err),
     }
 }
 
@@ -230,7 +268,7 @@ pub fn command<T: Files, R: Read + Drop, W: Write + Drop, E: Write + Drop>(
         Ok(Asked::Sum(asked)) => {
             let asked = sum_asked(&asked);
             let shelf = Regular::new(rt, asked.list());
-            sum_files(&shelf, alloc, asked, input, out, err)
+            sum(&shelf, alloc, asked, input, out, err)
         }
         Ok(asked) => run(&Host::new(rt), alloc, asked, input, out, err),
         Err(error) => told(alloc, error, &mut out, &mut err),

@@ -1,9 +1,13 @@
 //! The commands of the program `yamlreview`, over streams and files that are passed in.
 #![tactic(auto)]
 
+pub mod arguments;
 mod both;
 pub mod command;
 pub mod diff;
 mod files;
 mod git;
+mod host;
+mod rejected;
 pub mod telling;
+pub mod unread;

@@ -1,94 +1,100 @@
 //! The lines of standard error.
+use crate::unread::{Unread, fault_status};
 use std::alloc::Global;
 use std::io::Write;
-use std::str;
-use yaml_command::command::report;
-use yaml_command::line::tell;
-use yaml_command::refusal::Refusal;
+use yaml_command::line::tell_fault;
 use yaml_review_text::put_shown;
 use yaml_spell::page::write_whole;
 use yaml_text::counted::Counted;
 use yaml_text::fault::Fault;
 use yaml_words::WordsFault;
 
+/// The status where the words, a file or a stream cannot be used.
+pub(crate) const UNUSABLE: u8 = 3;
+
+/// What each line begins with.
+const FRONT: &str = "yamlreview: ";
+
 /// What is wrong with words that give a command, and are none that it can do.
-pub(crate) const ONE_INPUT: &str = "yaml: usage: `-` is standard input, which is read once\n";
+pub(crate) const ONE_INPUT: &str = "yamlreview: usage: `-` is standard input, which is read once\n";
 
-pub(crate) const GIT_WORDS: &str = "yaml: usage: git passes 1, 7 or 9 words\n";
+pub(crate) const GIT_WORDS: &str = "yamlreview: usage: git passes 1, 7 or 9 words\n";
 
-const NO_TEXT: &str = "yaml: usage: a word is no UTF-8\n";
+const NO_WORDS: &str = "yamlreview: usage: the words cannot be read\n";
 
 /// Writes a line. Where standard error fails too, the status alone is left to tell what the line would.
-fn put_line<E: Write>(line: &str, err: &mut E) {
+pub(crate) fn put_line<E: Write>(line: &str, err: &mut E) {
     let _ = write_whole(&mut Counted::new(err), line.as_bytes());
 }
 
-/// Writes the line of a refusal, with `?` for what of a file's name a terminal would not print.
-pub(crate) fn put_refusal(
-    alloc: Global,
-    out: &mut String,
-    refusal: Refusal<'_>,
-) -> Result<(), Fault> {
-    if let Refusal::CannotOpen(name) = refusal {
-        out.push_str("yaml: cannot open ")?;
-        put_shown(out, name)?;
-        out.push('\n')?;
-        return Ok(());
-    }
-    let mut line = Vec::new(alloc);
-    tell(refusal, &mut Counted::new(&mut line))?;
-    out.push_str(str::from_utf8(&line).unwrap_or(""))?;
+/// Writes the line of wrong usage, and answers the status.
+pub(crate) fn tell_usage<E: Write>(line: &str, err: &mut E) -> u8 {
+    put_line(line, err);
+    UNUSABLE
+}
+
+/// Writes what the line of a file begins with: the program's name and the file's, with `?` for what of it a terminal would not print.
+fn put_front(out: &mut String, name: &str) -> Result<(), Fault> {
+    out.push_str(FRONT)?;
+    put_shown(out, name)?;
+    out.push_str(": ")?;
     Ok(())
 }
 
-/// The line of a fault of a file.
-fn file_line(alloc: Global, name: &str, fault: Fault) -> Result<String, Fault> {
-    let mut line = String::new(alloc);
-    line.push_str("yaml: ")?;
-    put_shown(&mut line, name)?;
-    line.push_str(&format!(in alloc; ": {fault}\n")?)?;
-    Ok(line)
+/// Writes the line of a fault of a file that has no place in it.
+pub(crate) fn put_fault_line(
+    alloc: Global,
+    out: &mut String,
+    name: &str,
+    fault: Fault,
+) -> Result<(), Fault> {
+    put_front(out, name)?;
+    out.push_str(&format!(in alloc; "{fault}\n")?)?;
+    Ok(())
 }
 
-/// Tells why a file can't be told of, and answers the status.
-pub(crate) fn tell_of_file<E: Write>(alloc: Global, name: &str, fault: Fault, err: &mut E) -> u8 {
-    if let Ok(line) = file_line(alloc, name, fault) {
+/// Writes the line of a file that is not read.
+pub(crate) fn put_unread(
+    alloc: Global,
+    out: &mut String,
+    name: &str,
+    unread: Unread,
+) -> Result<(), Fault> {
+    match unread {
+        Unread::CannotOpen(why) => {
+            put_front(out, name)?;
+            out.push_str("cannot open: ")?;
+            out.push_str(why.words())?;
+            out.push('\n')?;
+            Ok(())
+        }
+        Unread::Fault(fault) => put_fault_line(alloc, out, name, fault),
+    }
+}
+
+/// Tells that a list cannot be opened, or why a file is not read, and answers the status.
+pub(crate) fn tell_unread<E: Write>(alloc: Global, name: &str, unread: Unread, err: &mut E) -> u8 {
+    let mut line = String::new(alloc);
+    if put_unread(alloc, &mut line, name, unread).is_ok() {
         put_line(&line, err);
     }
-    Refusal::Input(fault).status()
+    unread.status()
 }
 
-/// The line of a refusal.
-fn refusal_line(alloc: Global, refusal: Refusal<'_>) -> Result<String, Fault> {
-    let mut line = String::new(alloc);
-    put_refusal(alloc, &mut line, refusal)?;
-    Ok(line)
-}
-
-/// The status of an answer, of which a refusal is told: of wrong usage by this line.
-pub(crate) fn told_status<E: Write>(
-    alloc: Global,
-    answer: Result<u8, Refusal<'_>>,
-    usage: &str,
-    err: &mut E,
-) -> u8 {
-    let refusal = match answer {
-        Ok(status) => return status,
-        Err(refusal) => refusal,
-    };
-    match refusal {
-        Refusal::Words(WordsFault::Usage) => put_line(usage, err),
-        Refusal::CannotOpen(_) => {
-            if let Ok(line) = refusal_line(alloc, refusal) {
-                put_line(&line, err);
-            }
-        }
-        _ => return report(Err(refusal), &mut Counted::new(err)),
-    }
-    refusal.status()
+/// Tells a fault of no file, and answers the status.
+pub(crate) fn tell_bare<E: Write>(fault: Fault, err: &mut E) -> u8 {
+    // Where standard error fails too, the status alone is left to tell it.
+    let _ = tell_fault(FRONT, fault, &mut Counted::new(err));
+    fault_status(fault)
 }
 
 /// Tells why the program's own words can't be read, and answers the status.
-pub fn tell_no_words<E: Write + Drop>(alloc: Global, fault: WordsFault, mut err: E) -> u8 {
-    told_status(alloc, Err(Refusal::Words(fault)), NO_TEXT, &mut err)
+pub fn tell_no_words<E: Write + Drop>(fault: WordsFault, mut err: E) -> u8 {
+    match fault {
+        WordsFault::Usage => tell_usage(NO_WORDS, &mut err),
+        WordsFault::OutOfMemory => {
+            tell_bare(Fault::OutOfMemory, &mut err);
+            UNUSABLE
+        }
+    }
 }

@@ -1,5 +1,5 @@
 -- The lines of the differences that were found.
-use Rattle.std.proofs.Common.{◌≡◌, ℕ, ◌+◌, ◌<◌, ◌≤◌, Bool, true, false, cond, List, [], ◌∷◌, ◌++◌, length, take, drop, get_or, sym, ◌∙◌, ap, subst, add-one, drop-cons}
+use Rattle.std.proofs.Common.{◌≡◌, ℕ, zero, suc, ◌+◌, ◌<◌, ◌≤◌, Bool, true, false, cond, List, [], ◌∷◌, ◌++◌, length, take, drop, get_or, refl, sym, ◌∙◌, ap, subst, add-one, drop-cons}
 use Rattle.std.proofs.Math.ListN.{drop_of_length-le}
 use Rattle.std.proofs.lemmas.List.{append_assoc, append-nil}
 use Rattle.yaml_nodes.specs.declared.graph.Graph.{Graph}
@@ -10,7 +10,7 @@ use Rattle.yaml_review_text.specs.declared.lines.Line.{Line}
 use Rattle.yaml_review_text.specs.Lines.{more_text}
 use Rattle.yaml_diff.specs.declared.difference.Found.{Found}
 use Rattle.std.proofs.lemmas.List.{take_more, take_all}
-use Rattle.yaml_review_lines.specs.Compared.{TellsOne, TellsEach, TellsFound}
+use Rattle.yaml_review_lines.specs.Compared.{TellsOne, TellsEach, TellsFound, TellsAsked}
 
 -- one difference and its line more
 pub tells_more : (g : Graph) (room : ℕ) (ds : List Difference) (ls : List Line) (d : Difference) (l : Line) → TellsEach g room ds ls → TellsOne g room d l → TellsEach g room (ds ++ (d ∷ [])) (ls ++ (l ∷ []))
@@ -60,3 +60,12 @@ module _ (g : Graph) (room n : ℕ) (form : Form) (places : Bool) (f : Found) (l
     each = same_each;
     is = h ∙ ap (λ z. z ++ more_text form) all_put ∙ ap (λ z. lines_text form places ls ++ cond z [] (more_text form)) (sym w);
   }
+
+-- ---- as many lines as are asked for
+
+pub asked_none : (n : ℕ) (g : Graph) (room : ℕ) (form : Form) (places : Bool) (f : Found) (text : List ℕ) → n ≡ 0 → text ≡ [] → TellsAsked n g room form places f text
+asked_none n g room form places f text e h = subst (λ z. TellsAsked z g room form places f text) (sym e) h
+
+pub asked_some : (n : ℕ) (g : Graph) (room : ℕ) (form : Form) (places : Bool) (f : Found) (text : List ℕ) → (n ≡ 0 → ⊥) → TellsFound g room form places f text → TellsAsked n g room form places f text
+asked_some zero g room form places f text l h = absurd (l refl)
+asked_some (suc n) g room form places f text l h = h

@@ -20,7 +20,7 @@ use Rattle.yaml_review_text.specs.declared.lines.Line.{Line}
 abbrev pub room_of : Bool → ℕ
 room_of whole = cond whole 65536 60
 
--- how many lines are told: one at least, without which no list would tell whether there is a difference
+-- how many differences are looked for: one at least, without which no list would tell whether there is a difference
 abbrev pub room_for : ℕ → ℕ
 room_for zero = 1
 room_for (suc lines) = suc lines
@@ -49,8 +49,13 @@ pub record TellsFound (g : Graph) (room : ℕ) (form : Form) (places : Bool) (f 
   pub each : TellsEach g room f.list.items lines
   pub is : text ≡ lines_text form places lines ++ cond f.whole [] (more_text form)
 
+-- No line is written where none is asked for, whether or not there are differences.
+abbrev pub TellsAsked : ℕ → Graph → ℕ → Form → Bool → Found → List ℕ → Type 0
+TellsAsked zero g room form places f text = text ≡ []
+TellsAsked (suc lines) g room form places f text = TellsFound g room form places f text
+
 -- The text is the lines of the differences of two streams, of as many as were asked for.
 pub record TellsStreams (both : Both) (asked : Diff) (text : List ℕ) : Type 0 where
   pub found : Found
   pub finds : FindsItems both.graph (take both.documents (roots_of both.graph)) (drop both.documents (roots_of both.graph)) (room_for asked.lines) found
-  pub tells : TellsFound both.graph (room_of asked.whole) asked.form asked.places found text
+  pub tells : TellsAsked asked.lines both.graph (room_of asked.whole) asked.form asked.places found text

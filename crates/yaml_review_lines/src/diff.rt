@@ -5,7 +5,7 @@ ghost use Rattle.yaml_nodes.specs.GraphView.{roots_of, tree};
 ghost use Rattle.yaml_levels.specs.RanksView.{RanksAre};
 ghost use Rattle.yaml_diff.specs.Found.{FindsItems};
 ghost use Rattle.yaml_review_text.specs.Lines.{lines_text};
-ghost use Rattle.yaml_review_lines.specs.Compared.{room_of, room_for, ShowsNode, TellsOne, TellsEach, TellsFound, TellsStreams};
+ghost use Rattle.yaml_review_lines.specs.Compared.{room_of, room_for, ShowsNode, TellsOne, TellsEach, TellsFound, TellsAsked, TellsStreams};
 
 use std::alloc::Global;
 use yaml_diff::{Difference, Found, stream_differences};
@@ -225,6 +225,23 @@ fn text_of(
     Ok(text)
 }
 
+/// The same, and no text where no line is asked for.
+fn asked_text(
+    alloc: Global,
+    both: &Both<'_>,
+    asked: &Diff<'_>,
+    sides: Option<(Traced<'_>, Traced<'_>)>,
+    found: &Found,
+) -> Result<String, Fault>
+    requires ranked { RanksAre both.now.graph both.now.ranks }
+    ensures { IfOk result (λ text. TellsAsked asked.now.lines both.now.graph (room_of asked.now.whole) asked.now.form asked.now.places found.now (string_bytes text)) }
+{
+    if asked.lines == 0 {
+        return Ok(String::new(alloc));
+    }
+    text_of(alloc, both, asked, sides, found)
+}
+
 /// Whether all differences are listed, and there is none.
 fn lists_none(found: &Found) -> bool
     ensures { result ≡ (found.now.whole && (length found.now.list.items == 0)) }
@@ -261,6 +278,6 @@ pub fn compare(
 {
     let found = list_of(alloc, both, room_for(asked.lines))?;
     let same = lists_none(&found);
-    let text = text_of(alloc, both, asked, sides, &found)?;
+    let text = asked_text(alloc, both, asked, sides, &found)?;
     Ok(Compared { text, same })
 }

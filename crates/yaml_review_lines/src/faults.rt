@@ -4,7 +4,6 @@ ghost use Rattle.yaml_place.specs.LineModel.{IsPlace};
 
 use serde_json::{Value, json};
 use std::alloc::Global;
-use std::str;
 use yaml_place::{Place, place_at};
 use yaml_read::read_events;
 use yaml_review_places::layout::lay_out;
@@ -12,6 +11,7 @@ use yaml_review_places::places::unmarked;
 use yaml_review_places::trace::{Trace, trace_of};
 use yaml_review_places::trail::Trail;
 use yaml_review_text::fronts::{put_shown, put_source_line};
+use yaml_review_text::put_visible;
 use yaml_review_text::tag_words::put_tag_words;
 use yaml_review_text::words::words_of;
 use yaml_review_words::Form;
@@ -55,10 +55,10 @@ struct Told {
 
 impl Told {
     /// What is said of the fault in this text.
-    fn words<'t>(&'t self, fault: Fault, text: &[u8]) -> &'t str {
+    fn words(&self, alloc: Global, fault: Fault, text: &[u8]) -> Result<String, Fault> {
         match &self.words {
-            Some(words) => words.as_str(),
-            None => words_of(fault, str::from_utf8(text).unwrap_or(""), self.at),
+            Some(words) => Ok(words.clone()?),
+            None => words_of(alloc, fault, text, self.at),
         }
     }
 }
@@ -253,10 +253,10 @@ fn put_lines(
     }
     out.push_str(": ")?;
     if let Some(path) = &told.path {
-        out.push_str(path)?;
+        put_visible(out, path)?;
         out.push_str(": ")?;
     }
-    out.push_str(told.words(fault, text))?;
+    out.push_str(&told.words(alloc, fault, text)?)?;
     out.push('\n')?;
     if told.place.is_some() {
         put_source_line(alloc, out, text, told.at)?;
@@ -298,7 +298,7 @@ fn put_json(
 ) -> Result<(), Fault> {
     let text = unmarked(bytes);
     let mark = bytes.len().saturating_sub(text.len());
-    let words = told.words(fault, text);
+    let words = told.words(alloc, fault, text)?;
     let line = number_value(alloc, told.place.map(|place| place.line))?;
     let column = number_value(alloc, told.place.map(|place| place.column))?;
     let byte = number_value(alloc, told.place.map(|_| told.at.saturating_add(mark)))?;
@@ -309,7 +309,7 @@ fn put_json(
     let word = fault.name();
     let object = json!(in alloc; {
         "file": name, "line": line, "column": column, "byte": byte, "number": number, "name": word,
-        "path": path, "words": words, "first_line": first_line, "first_column": first_column
+        "path": path, "words": words.as_str(), "first_line": first_line, "first_column": first_column
     })?;
     out.push_str(&object.to_string(alloc)?)?;
     out.push('\n')?;

@@ -99,6 +99,9 @@ pub fn put_warnings(
     form: Form,
     room: usize,
 ) -> Result<(), Fault> {
+    if room == 0 {
+        return Ok(());
+    }
     let source = Chars::read(bytes)?;
     let events = read_events(alloc, &source)?;
     let found = find_warned(alloc, &events, room)?;
@@ -114,7 +117,8 @@ pub fn put_warnings(
             continue;
         };
         if let Some(text) = events.get(*event).and_then(plain_text) {
-            put_warning(alloc, out, name, *place, text, older.words(), form)?;
+            let words = older.words(alloc, text)?;
+            put_warning(alloc, out, name, *place, text, &words, form)?;
         }
     }
     if !found.whole {

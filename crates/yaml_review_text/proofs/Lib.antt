@@ -1,4 +1,5 @@
 mod GraphShapes
+mod HiddenLaws
 mod KeyLaws
 mod LineLaws
 mod NodeLaws

@@ -7,6 +7,7 @@ use Rattle.serde_json.specs.Written.{compact_text}
 use Rattle.yaml_place.specs.declared.place.Place.{Place}
 use Rattle.yaml_review_words.specs.declared.words.Form.{Form}
 use Rattle.yaml_review_words.specs.declared.words.Form.TheVariants as form
+use Rattle.yaml_review_text.specs.Hidden.{visible}
 use Rattle.yaml_review_text.specs.Objects.{text_data, place_data}
 use Rattle.yaml_review_text.specs.declared.lines.Line.{Line}
 
@@ -34,10 +35,10 @@ place_text (Some p) = decimal p.line ++ (codes ":" ++ decimal p.column)
 abbrev pub column : List ℕ → List ℕ
 column text = codes "\t" ++ text
 
--- Sign, path, left and right, parted by tabs, and behind these the places if they are told.
+-- Sign, path, left and right, parted by tabs, and behind these the places if they are told. A character that a terminal would not show is written as its escape.
 abbrev pub columns : Bool → Line → List ℕ
 columns places l =
-    sign l ++ (column (string_bytes l.path) ++ (column (text_or_none l.left) ++ (column (text_or_none l.right)
+    sign l ++ (column (visible (string_bytes l.path)) ++ (column (visible (text_or_none l.left)) ++ (column (visible (text_or_none l.right))
     ++ (cond places (column (place_text l.left_place) ++ column (place_text l.right_place)) [] ++ codes "\n"))))
 
 -- ---- JSON

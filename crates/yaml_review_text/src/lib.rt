@@ -2,14 +2,24 @@
 #![tactic(auto)]
 
 pub mod both;
+mod byte_hints;
 pub mod fronts;
+pub mod hidden;
+mod hints;
 pub mod json;
+mod line_hints;
 pub mod lines;
+mod node_hints;
+mod open_hints;
 pub mod path;
+mod scan;
+mod spot;
 pub mod tag_words;
 pub mod text;
+mod timed;
 pub mod words;
 pub mod yaml11;
 
 pub use both::Both;
 pub use fronts::put_shown;
+pub use hidden::put_visible;

@@ -1,7 +1,9 @@
 //! The lines of a comparison.
 ghost use Rattle.std.specs.Prelude.{◌≡◌, ◌++◌, unwrap_or, option_map, [], string_bytes, OnOk};
+ghost use Rattle.yaml_review_text.specs.Hidden.{visible};
 ghost use Rattle.yaml_review_text.specs.Lines.{column, place_text, more_text};
 
+use crate::hidden::put_visible;
 use crate::json::{Said, put_object, text_of};
 use std::alloc::Global;
 use yaml_place::Place;
@@ -116,13 +118,13 @@ pub fn put_more(out: &mut String, form: Form) -> Result<(), Fault>
     Ok(())
 }
 
-/// A column behind another: the text, if there is one.
+/// A column behind another: the text, if there is one, with escapes for the characters that a terminal would not show.
 fn put_column(out: &mut String, text: Option<&str>) -> Result<(), Fault>
-    ensures { OnOk result (string_bytes out.new ≡ string_bytes out.old ++ column (unwrap_or (option_map (λ told. told.now) text.entry) [])) }
+    ensures { OnOk result (string_bytes out.new ≡ string_bytes out.old ++ column (visible (unwrap_or (option_map (λ told. told.now) text.entry) []))) }
 {
     out.push('\t')?;
     if let Some(text) = text {
-        out.push_str(text)?;
+        put_visible(out, text)?;
     }
     Ok(())
 }

@@ -1,40 +1,86 @@
-//! Plain texts that YAML 1.1 reads otherwise (its types bool, int, float, merge and timestamp).
+//! What a plain text is in YAML 1.1, and where the core schema of YAML 1.2 (1.2.2, 10.3.2) reads it otherwise.
 
-ghost use Rattle.std.specs.Prelude.{◌≡◌, None, option_map};
-ghost use Rattle.yaml_review_text.specs.Yaml11.{after_one, all_of, some_of, unsigned, behind_zeros, octal, prefixed, spaced, grouped, is_word, older_of, IsOlder};
+ghost use Rattle.std.specs.Prelude.{◌≡◌, option_map};
+ghost use Rattle.yaml_review_text.specs.Yaml11.{after_one, all_of, some_of, behind_all, unsigned, octal, prefixed, is_bool_word, is_null_word, is_float_word, old_exponent, old_fraction, old_decimal, pointed, is_old_float, spaced, is_old_int, long_fraction, trailing_zero, old_kind, new_kind, are_same, older_of, IsTimedWarning, IsOlder};
 
-/// What YAML 1.1 makes of a plain text that the core schema of YAML 1.2 reads otherwise.
+use crate::timed::read_timed;
+use std::alloc::Global;
+use yaml_content::kind::{PlainKind, plain_kind};
+use yaml_text::fault::Fault;
+
+/// The kinds of plain scalars of YAML 1.1; the first five are those of the core schema.
 #[derive(Clone, Copy)]
-pub enum Older {
+pub enum Kind {
+    Null,
     Bool,
-    Octal,
-    /// An octal number of YAML 1.2.
-    Text,
-    Binary,
-    Grouped,
-    Sexagesimal,
-    Timestamp,
+    Int,
+    Float,
+    Str,
+    /// `<<`, by which a mapping takes the entries of others.
     Merge,
+    Timestamp,
+    /// `=`, the key of a mapping's default value.
+    Default,
 }
 
-impl Older {
-    /// What is said of it.
+impl Kind {
+    /// The name of the kind, with its article.
     pub fn words(self) -> &'static str {
         match self {
-            Older::Bool => "a str, and a bool in YAML 1.1",
-            Older::Octal => "an int of base 10, and one of base 8 in YAML 1.1",
-            Older::Text => "an int of base 8, and a str in YAML 1.1",
-            Older::Binary => "a str, and an int of base 2 in YAML 1.1",
-            Older::Grouped => "a str, and an int in YAML 1.1",
-            Older::Sexagesimal => "a str, and a number of base 60 in YAML 1.1",
-            Older::Timestamp => "a str, and a timestamp in YAML 1.1",
-            Older::Merge => "a key like others, and in YAML 1.1 a merge of the value's entries",
+            Kind::Null => "a null",
+            Kind::Bool => "a bool",
+            Kind::Int => "an int",
+            Kind::Float => "a float",
+            Kind::Str => "a string",
+            Kind::Merge => "a merge",
+            Kind::Timestamp => "a timestamp",
+            Kind::Default => "a default value",
         }
     }
 }
 
-/// What stands behind a first byte of a set.
-fn behind_one<'a>(text: &'a [u8], set: &[u8]) -> Option<&'a [u8]>
+/// Why a plain text is warned of.
+#[derive(Clone, Copy)]
+pub enum Older {
+    /// It is of this kind by the core schema, and of another in YAML 1.1.
+    Kinds(Kind, Kind),
+    /// It is an int of base 10, and in YAML 1.1 one of base 8 that is another number.
+    Octal,
+    /// It is a float in both, and its value does not keep the zero at its end, as of a version number.
+    Shorter,
+}
+
+impl Older {
+    /// What the warning says of a text.
+    ///
+    /// # Errors
+    /// `OutOfMemory`
+    pub fn words(self, alloc: Global, text: &str) -> Result<String, Fault> {
+        match self {
+            Older::Kinds(here, there) => {
+                let (here, there) = (here.words(), there.words());
+                Ok(format!(in alloc; "{here} here, {there} in YAML 1.1")?)
+            }
+            Older::Octal => {
+                let here = i128::from_str_radix(text, 10);
+                let there = i128::from_str_radix(text, 8);
+                match (here, there) {
+                    (Ok(here), Ok(there)) => {
+                        Ok(format!(in alloc; "the int {here} here, the int {there} in YAML 1.1")?)
+                    }
+                    _ => Ok("an int of base 10 here, of base 8 in YAML 1.1".to_string(alloc)?),
+                }
+            }
+            Older::Shorter => {
+                let short = text.trim_end_matches('0').trim_end_matches('.');
+                Ok(format!(in alloc; "a float, {short}")?)
+            }
+        }
+    }
+}
+
+/// The bytes behind the first one, if that is of a set.
+pub(crate) fn behind_one<'a>(text: &'a [u8], set: &[u8]) -> Option<&'a [u8]>
     ensures { option_map (λ rest. rest.now) result ≡ after_one set.now text.now }
 {
     match text.split_first() {
@@ -67,12 +113,12 @@ fn unsigned(text: &[u8]) -> &[u8]
     }
 }
 
-/// A text without the zeros with which it may begin.
-fn behind_zeros(text: &[u8]) -> &[u8]
-    ensures { result.now ≡ behind_zeros text.now }
+/// A text without the bytes of a set with which it may begin.
+fn behind_all<'a>(text: &'a [u8], set: &[u8]) -> &'a [u8]
+    ensures { result.now ≡ behind_all set.now text.now }
 {
     let mut rest = text;
-    'zeros: while let Some(more) = behind_one(rest, b"0") {
+    'bytes: while let Some(more) = behind_one(rest, set) {
         rest = more;
     }
     rest
@@ -83,7 +129,7 @@ fn is_octal(text: &[u8]) -> bool
     ensures { result ≡ octal text.now }
 {
     match behind_one(text, b"0") {
-        Some(rest) => all_of(rest, b"01234567") && behind_zeros(rest).len() > 1,
+        Some(rest) => all_of(rest, b"01234567") && behind_all(rest, b"0").len() > 1,
         None => false,
     }
 }
@@ -106,7 +152,7 @@ fn is_spaced(text: &[u8]) -> bool
     ensures { result ≡ spaced text.now }
 {
     match behind_one(text, b"0") {
-        Some(rest) => some_of(rest, b"01234567_"),
+        Some(rest) => all_of(rest, b"01234567_"),
         None => match behind_one(text, b"123456789") {
             Some(rest) => all_of(rest, b"0123456789_"),
             None => false,
@@ -114,15 +160,95 @@ fn is_spaced(text: &[u8]) -> bool
     }
 }
 
-/// The same with a `_`.
-fn is_grouped(text: &[u8]) -> bool
-    ensures { result ≡ grouped text.now }
+/// An int of YAML 1.1, those of base 60 left out.
+fn is_old_int(text: &[u8]) -> bool
+    ensures { result ≡ is_old_int text.now }
 {
-    is_spaced(text) && text.contains(&b'_')
+    let number = unsigned(text);
+    is_spaced(number)
+        || is_prefixed(number, b"b", b"01_")
+        || is_prefixed(number, b"x", b"0123456789abcdefABCDEF_")
 }
 
-fn is_bool(text: &str) -> bool
-    ensures { result ≡ is_word text.now }
+/// Nothing, or an exponent with its sign.
+fn is_old_exponent(text: &[u8]) -> bool
+    ensures { result ≡ old_exponent text.now }
+{
+    if text.is_empty() {
+        return true;
+    }
+    match behind_one(text, b"eE") {
+        Some(rest) => match behind_one(rest, b"+-") {
+            Some(rest) => some_of(rest, b"0123456789"),
+            None => false,
+        },
+        None => false,
+    }
+}
+
+/// What may follow the point of a float.
+fn is_old_fraction(text: &[u8]) -> bool
+    ensures { result ≡ old_fraction text.now }
+{
+    is_old_exponent(behind_all(text, b"0123456789_"))
+}
+
+/// Digits, a point and what may follow it.
+fn is_old_decimal(text: &[u8]) -> bool
+    ensures { result ≡ old_decimal text.now }
+{
+    match behind_one(text, b"0123456789") {
+        Some(rest) => match behind_one(behind_all(rest, b"0123456789_"), b".") {
+            Some(rest) => is_old_fraction(rest),
+            None => false,
+        },
+        None => false,
+    }
+}
+
+/// A point and a digit.
+fn is_pointed(text: &[u8]) -> bool
+    ensures { result ≡ pointed text.now }
+{
+    match behind_one(text, b".") {
+        Some(rest) => match behind_one(rest, b"0123456789") {
+            Some(rest) => is_old_fraction(rest),
+            None => false,
+        },
+        None => false,
+    }
+}
+
+fn is_float_word(text: &str) -> bool
+    ensures { result ≡ is_float_word text.now }
+{
+    matches!(
+        text,
+        ".inf"
+            | ".Inf"
+            | ".INF"
+            | "+.inf"
+            | "+.Inf"
+            | "+.INF"
+            | "-.inf"
+            | "-.Inf"
+            | "-.INF"
+            | ".nan"
+            | ".NaN"
+            | ".NAN"
+    )
+}
+
+/// A float of YAML 1.1, those of base 60 left out.
+fn is_old_float(text: &str) -> bool
+    ensures { result ≡ is_old_float text.now }
+{
+    let bytes = text.as_bytes();
+    is_old_decimal(unsigned(bytes)) || is_pointed(bytes) || is_float_word(text)
+}
+
+fn is_bool_word(text: &str) -> bool
+    ensures { result ≡ is_bool_word text.now }
 {
     matches!(
         text,
@@ -135,6 +261,12 @@ fn is_bool(text: &str) -> bool
             | "no"
             | "No"
             | "NO"
+            | "true"
+            | "True"
+            | "TRUE"
+            | "false"
+            | "False"
+            | "FALSE"
             | "on"
             | "On"
             | "ON"
@@ -144,167 +276,111 @@ fn is_bool(text: &str) -> bool
     )
 }
 
-const DIGITS: &[u8] = b"0123456789";
-
-/// What is left of a text that is read piece by piece.
-#[derive(Clone, Copy)]
-struct Rest<'a> {
-    bytes: &'a [u8],
-}
-
-impl<'a> Rest<'a> {
-    /// How many bytes of a set stand first.
-    fn count(&self, set: &[u8]) -> usize {
-        for (at, byte) in self.bytes.iter().enumerate() {
-            if !set.contains(byte) {
-                return at;
-            }
-        }
-        self.bytes.len()
-    }
-
-    /// Takes so many bytes.
-    fn skip(&mut self, count: usize) {
-        self.bytes = self.bytes.get(count..).unwrap_or(&[]);
-    }
-
-    /// Takes one byte of a set, if it stands first.
-    fn one(&mut self, set: &[u8]) -> bool {
-        match behind_one(self.bytes, set) {
-            Some(rest) => {
-                self.bytes = rest;
-                true
-            }
-            None => false,
-        }
-    }
-
-    /// Takes bytes of a shape, if they stand first: `d` is a digit, `D` one that may be left out, and others are themselves.
-    fn shape(&mut self, shape: &[u8]) -> bool {
-        for byte in shape {
-            let found = match byte {
-                b'd' => self.one(DIGITS),
-                b'D' => {
-                    self.one(DIGITS);
-                    true
-                }
-                _ => self.one(&[*byte]),
-            };
-            if !found {
-                return false;
-            }
-        }
-        true
-    }
-
-    fn is_empty(&self) -> bool {
-        self.bytes.is_empty()
-    }
-}
-
-/// `[-+]?[0-9][0-9_]*(:[0-5]?[0-9])+(\.[0-9_]*)?`, which without a fraction begins with no 0
-fn is_sexagesimal(mut rest: Rest<'_>) -> bool {
-    rest.one(b"+-");
-    let zero = rest.count(b"0") > 0;
-    let count = rest.count(b"0123456789_");
-    let digits = rest.count(b"0123456789");
-    rest.skip(count);
-    let mut groups = 0_usize;
-    for _ in 0..rest.bytes.len() {
-        if !rest.one(b":") {
-            break;
-        }
-        let is_high = rest.count(b"0123456789") > 1;
-        if is_high && rest.count(b"012345") == 0 {
-            return false;
-        }
-        if !rest.shape(b"dD") {
-            return false;
-        }
-        groups = groups.saturating_add(1);
-    }
-    let fraction = rest.one(b".");
-    let tail = rest.count(b"0123456789_");
-    rest.skip(if fraction { tail } else { 0 });
-    digits > 0 && groups > 0 && (fraction || !zero) && rest.is_empty()
-}
-
-/// A day, `[0-9]{4}-[0-9]{2}-[0-9]{2}`
-fn is_day(mut rest: Rest<'_>) -> bool {
-    rest.shape(b"dddd-dd-dd") && rest.is_empty()
-}
-
-/// Takes blanks.
-fn blanks(rest: &mut Rest<'_>) -> usize {
-    let count = rest.count(b" \t");
-    rest.skip(count);
-    count
-}
-
-/// A zone: nothing, `Z`, or a sign with hours and minutes.
-fn is_zone(mut rest: Rest<'_>) -> bool {
-    blanks(&mut rest);
-    if rest.is_empty() {
-        return true;
-    }
-    if rest.one(b"Z") {
-        return rest.is_empty();
-    }
-    let is_hours = rest.one(b"+-") && rest.shape(b"dD");
-    is_hours && (rest.is_empty() || (rest.shape(b":dd") && rest.is_empty()))
-}
-
-/// A day and a time of day, with a fraction and a zone perhaps.
-fn is_time(mut rest: Rest<'_>) -> bool {
-    if !rest.shape(b"dddd-dD-dD") {
-        return false;
-    }
-    if !rest.one(b"Tt") && blanks(&mut rest) == 0 {
-        return false;
-    }
-    if !rest.shape(b"dD:dd:dd") {
-        return false;
-    }
-    if rest.one(b".") {
-        let count = rest.count(DIGITS);
-        rest.skip(count);
-    }
-    is_zone(rest)
-}
-
-/// A number of base 60 or a timestamp.
-fn read_timed(text: &[u8]) -> Option<Older>
-    ensures { IsOlder None result }
+fn is_null_word(text: &str) -> bool
+    ensures { result ≡ is_null_word text.now }
 {
-    let rest = Rest { bytes: text };
-    if is_sexagesimal(rest) {
-        Some(Older::Sexagesimal)
-    } else if is_day(rest) || is_time(rest) {
-        Some(Older::Timestamp)
-    } else {
-        None
-    }
+    matches!(text, "" | "~" | "null" | "Null" | "NULL")
 }
 
-/// What YAML 1.1 makes of an untagged plain scalar, where the core schema of YAML 1.2 reads it otherwise.
-pub fn read_older(text: &str, is_key: bool) -> Option<Older>
-    ensures { IsOlder (older_of text.now is_key) result }
+/// What an untagged plain scalar is in YAML 1.1, numbers of base 60 and timestamps left out.
+fn old_kind(text: &str, is_key: bool) -> Kind
+    ensures { result ≡ old_kind text.now is_key }
 {
-    let bytes = text.as_bytes();
-    let number = unsigned(bytes);
-    if is_bool(text) {
-        Some(Older::Bool)
+    if is_bool_word(text) {
+        Kind::Bool
+    } else if is_old_float(text) {
+        Kind::Float
+    } else if is_old_int(text.as_bytes()) {
+        Kind::Int
     } else if is_key && text == "<<" {
-        Some(Older::Merge)
+        Kind::Merge
+    } else if is_null_word(text) {
+        Kind::Null
+    } else if text == "=" {
+        Kind::Default
+    } else {
+        Kind::Str
+    }
+}
+
+/// What it is by the core schema.
+fn new_kind(text: &str) -> Kind
+    ensures { result ≡ new_kind text.now }
+{
+    match plain_kind(text) {
+        PlainKind::Null => Kind::Null,
+        PlainKind::Bool => Kind::Bool,
+        PlainKind::Int => Kind::Int,
+        PlainKind::Float => Kind::Float,
+        PlainKind::Str => Kind::Str,
+    }
+}
+
+/// Whether a kind of the core schema and one of YAML 1.1 are the same.
+fn are_same(here: Kind, there: Kind) -> bool
+    ensures { result ≡ are_same here there }
+{
+    match (here, there) {
+        (Kind::Null, Kind::Null) => true,
+        (Kind::Bool, Kind::Bool) => true,
+        (Kind::Int, Kind::Int) => true,
+        (Kind::Float, Kind::Float) => true,
+        (Kind::Str, Kind::Str) => true,
+        _ => false,
+    }
+}
+
+/// A fraction of two digits at least, of which the last is a zero.
+fn is_long_fraction(text: &[u8]) -> bool
+    ensures { result ≡ long_fraction text.now }
+{
+    match behind_one(text, b"0123456789") {
+        Some(rest) => all_of(rest, b"0123456789") && rest.ends_with(b"0"),
+        None => false,
+    }
+}
+
+/// Digits, a point and such a fraction.
+fn has_trailing_zero(text: &[u8]) -> bool
+    ensures { result ≡ trailing_zero text.now }
+{
+    match behind_one(text, b"0123456789") {
+        Some(rest) => match behind_one(behind_all(rest, b"0123456789"), b".") {
+            Some(rest) => is_long_fraction(rest),
+            None => false,
+        },
+        None => false,
+    }
+}
+
+/// The warning of a text that is a string by the patterns above: in YAML 1.1 it may be a number of base 60 or a timestamp.
+fn timed_warning(text: &[u8], here: Kind) -> Option<Older>
+    ensures { IsTimedWarning here result }
+{
+    match here {
+        Kind::Str => match read_timed(text) {
+            Some(there) => Some(Older::Kinds(Kind::Str, there)),
+            None => None,
+        },
+        _ => None,
+    }
+}
+
+/// Why an untagged plain scalar is warned of, if it is: YAML 1.1 reads it otherwise than the core schema of YAML 1.2, or it is a
+/// float whose value does not keep the zero at its end.
+pub fn read_older(text: &str, is_key: bool) -> Option<Older>
+    ensures { IsOlder (older_of text.now is_key) (new_kind text.now) result }
+{
+    let number = unsigned(text.as_bytes());
+    let here = new_kind(text);
+    let there = old_kind(text, is_key);
+    if !are_same(here, there) {
+        Some(Older::Kinds(here, there))
     } else if is_octal(number) {
         Some(Older::Octal)
-    } else if is_prefixed(bytes, b"o", b"01234567") {
-        Some(Older::Text)
-    } else if is_prefixed(number, b"b", b"01_") {
-        Some(Older::Binary)
-    } else if is_grouped(number) {
-        Some(Older::Grouped)
+    } else if has_trailing_zero(number) {
+        Some(Older::Shorter)
     } else {
-        read_timed(bytes)
+        timed_warning(text.as_bytes(), here)
     }
 }

@@ -112,7 +112,7 @@ const DIFF: [Row; 6] = [
     Row {
         id: "lines",
         takes: Takes::Lines,
-        help: "Tell at most N lines, then `...`",
+        help: "Print at most N lines, and then `...` if there are more; 0 for the status alone",
     },
     FORM,
 ];
@@ -124,7 +124,7 @@ const WARN: [Row; 3] = [
     Row {
         id: "lines",
         takes: Takes::Lines,
-        help: "Tell at most N lines of each file, then `...`",
+        help: "Print at most N lines for each file, and then `...` if there are more; 0 for the status alone",
     },
     FORM,
 ];
@@ -200,33 +200,67 @@ fn arg_of<'a>(alloc: Global, row: &Row) -> Result<Arg<'a>, AllocError> {
 struct Entry {
     name: &'static str,
     about: &'static str,
+    /// The exit statuses.
+    statuses: &'static str,
     rows: &'static [Row],
 }
+
+const DIFF_STATUSES: &str = "Exit status:
+  0  the streams are the same
+  1  they differ
+  2  a file is rejected
+  3  the words, a file or a stream cannot be used";
+
+const FAULTS_STATUSES: &str = "Exit status (of several files the greatest):
+  0  no file is rejected
+  2  a file is rejected
+  3  the words, a file or a stream cannot be used";
+
+const WARN_STATUSES: &str = "Exit status (of several files the greatest):
+  0  no file is rejected, whether or not there are warnings
+  2  a file is rejected
+  3  the words, a file or a stream cannot be used";
+
+const SUM_STATUSES: &str = "Exit status (of several files the greatest):
+  0  each file has a digest, or the one that LIST has
+  1  a file has another digest than LIST has
+  2  a file is rejected
+  3  the words, a file, LIST or a stream cannot be used";
+
+const GIT_STATUSES: &str = "Exit status:
+  0  whatever is found, since git stops at any other status
+  2  memory is refused
+  3  the words or the output cannot be used";
 
 const COMMANDS: [Entry; 5] = [
     Entry {
         name: "diff",
-        about: "Tells where two streams differ: 0 same, 1 different, 2 refused, 3 unusable",
+        about: "Prints where two streams differ",
+        statuses: DIFF_STATUSES,
         rows: &DIFF,
     },
     Entry {
         name: "faults",
-        about: "Tells where files are refused: 0 none, 2 some, 3 some unusable",
+        about: "Prints where files are rejected, and why",
+        statuses: FAULTS_STATUSES,
         rows: &FAULTS,
     },
     Entry {
         name: "warn",
-        about: "Tells what tools of YAML 1.1 read otherwise",
+        about: "Prints what tools of YAML 1.1 read otherwise",
+        statuses: WARN_STATUSES,
         rows: &WARN,
     },
     Entry {
         name: "sum",
         about: "Prints the SHA-256 of each file's canonical text, as sha256sum does",
+        statuses: SUM_STATUSES,
         rows: &SUM,
     },
     Entry {
         name: "git",
-        about: "Tells what differs, called by git as GIT_EXTERNAL_DIFF or diff.NAME.command",
+        about: "Prints what differs, called by git as GIT_EXTERNAL_DIFF or diff.NAME.command",
+        statuses: GIT_STATUSES,
         rows: &GIT,
     },
 ];
@@ -238,6 +272,7 @@ fn command_of<'a>(alloc: Global, entry: &Entry) -> Result<Command<'a>, AllocErro
     }
     Command::new(alloc, entry.name)
         .about(entry.about)
+        .after_help(entry.statuses)
         .args(args)
 }
 
@@ -253,7 +288,8 @@ fn grammar<'a>(alloc: Global) -> Result<Command<'a>, AllocError> {
     let commands = commands(alloc)?;
     Command::new(alloc, "yamlreview")
         .version("1.0.0 (yamlcanon-form-1)")
-        .about("Tells where two YAML streams differ, and where in a file a fault is")
+        .about("Prints where two YAML streams differ, and where in a file a fault is")
+        .bin_name("yamlreview")?
         .no_binary_name(true)
         .subcommand_required(true)
         .subcommands(commands)

@@ -19,6 +19,7 @@ use Rattle.yaml_sum.specs.Complaints.{complaint, IsTold}
 use Rattle.yaml_sum.specs.Lines.{sum_line}
 use Rattle.yaml_sum.specs.Reading.{GivesAll, GivesNotAll}
 use Rattle.yaml_sum.specs.Stops.{stop_status}
+use Rattle.yaml_sum.specs.declared.reason.Reason.{Reason}
 use Rattle.yaml_sum.specs.declared.stop.Stop.{Stop}
 use Rattle.yaml_sum.specs.declared.stop.Stop.TheVariants.{CannotOpen, NotRegular}
 use Rattle.yaml_sum.specs.Sums.{is_input, NotReadFrom, IsNotRead, HasDigest, HasLine, HasNone, Outcome, summed, stopped, outcome_line, outcome_status, lines, worst, Becomes, Become, Tells, TellAll, Sums, Cuts, SumsSome, SumsAll, Halts, SumsCut}
@@ -48,12 +49,12 @@ module _ {F : Type 0} (remaining : F → Option (List ℕ)) where
 
 -- a list that is no regular file would be told as one that can't be opened
 module _ {R : Type 0} (holds : List ℕ → Option (List ℕ)) (remaining : R → Option (List ℕ)) where
-  not_opened_from : (input : Bool) (name : List ℕ) (limit : ℕ) (old new : R) → NotReadFrom holds remaining input name limit old new NotRegular → NotReadFrom holds remaining input name limit old new CannotOpen
-  not_opened_from true name limit old new h = absurd h
-  not_opened_from false name limit old new h = (inr h.0, h.1)
+  not_opened_from : (why : Reason) (input : Bool) (name : List ℕ) (limit : ℕ) (old new : R) → NotReadFrom holds remaining input name limit old new NotRegular → NotReadFrom holds remaining input name limit old new (CannotOpen why)
+  not_opened_from why true name limit old new h = absurd h
+  not_opened_from why false name limit old new h = (inr h.0, h.1)
 
-  pub not_opened : (name : List ℕ) (limit : ℕ) (old new : R) → IsNotRead holds remaining name limit old new NotRegular → IsNotRead holds remaining name limit old new CannotOpen
-  not_opened name limit old new h = not_opened_from (is_input name) name limit old new h
+  pub not_opened : (why : Reason) (name : List ℕ) (limit : ℕ) (old new : R) → IsNotRead holds remaining name limit old new NotRegular → IsNotRead holds remaining name limit old new (CannotOpen why)
+  not_opened why name limit old new h = not_opened_from why (is_input name) name limit old new h
 
 worst_more : (os : List Outcome) (o : Outcome) → worst (os ++ (o ∷ [])) ≡ max (worst os) (outcome_status o)
 worst_more [] o = omega arith

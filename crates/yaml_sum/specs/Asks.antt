@@ -2,15 +2,15 @@
 use Rattle.std.specs.Prelude.{◌≡◌, ◌⊎◌, ℕ, List, map, Option}
 use Rattle.yaml_text.specs.declared.counted.Counted.{Counted}
 use Rattle.yaml_text.specs.CountedModel.{inner_of, faults_of}
-use Rattle.yaml_report.specs.Refusals.{Told}
-use Rattle.yaml_report.specs.Statuses.{refusal_status}
-use Rattle.yaml_report.specs.declared.refusal.Refusal.{Refusal}
-use Rattle.yaml_report.specs.declared.refusal.Refusal.TheVariants.{CannotOpen, Input}
+use Rattle.yaml_answers.specs.Writers.{Printed, Broken}
 use Rattle.yaml_sum.specs.Names.{names_in}
 use Rattle.yaml_sum.specs.Sums.{IsRead, IsNotRead, SumsAll, SumsCut}
 use Rattle.yaml_sum.specs.declared.asked.Asked.{Asked}
 use Rattle.yaml_sum.specs.declared.asked.Asked.TheVariants.{Files, FilesFrom, Check}
-use Rattle.yaml_sum.specs.declared.stop.Stop.TheVariants.{CannotOpen as NotOpened, Refused}
+use Rattle.yaml_sum.specs.Stops.{halt_status, halt_line}
+use Rattle.yaml_sum.specs.declared.stop.Halt.{Halt}
+use Rattle.yaml_sum.specs.declared.stop.Halt.TheVariants.{NoList, Fault}
+use Rattle.yaml_sum.specs.declared.stop.Stop.TheVariants.{CannotOpen, Refused}
 
 -- the greatest length of a list, in bytes
 abbrev pub list_limit : ℕ
@@ -18,15 +18,14 @@ list_limit = 1073741824
 
 module _ {R : Type 0} (holds : List ℕ → Option (List ℕ)) (remaining : R → Option (List ℕ)) where
   -- why a list is not read
-  abbrev pub ListUnread : List ℕ → R → R → Refusal → Type 0
-  ListUnread list old new (CannotOpen name) = (name.now ≡ list) × IsNotRead holds remaining list list_limit old new NotOpened
-  ListUnread list old new (Input fault) = IsNotRead holds remaining list list_limit old new (Refused fault)
-  ListUnread list old new _ = ⊥
+  abbrev pub ListUnread : List ℕ → R → R → Halt → Type 0
+  ListUnread list old new (NoList name why) = (name.now ≡ list) × IsNotRead holds remaining list list_limit old new (CannotOpen why)
+  ListUnread list old new (Fault fault) = IsNotRead holds remaining list list_limit old new (Refused fault)
 
 module _ {R W E : Type 0} (holds : List ℕ → Option (List ℕ)) (remaining : R → Option (List ℕ)) (contents : W → Option (List ℕ)) (told : E → Option (List ℕ)) where
   -- what summing these files leaves where it does not go on to the last
-  abbrev pub CutAt : List (List ℕ) → R → Counted W → Counted W → Counted E → Counted E → Refusal → Type 0
-  CutAt names old out end before after (Input fault) = SumsCut holds remaining contents told names old out end before after fault
+  abbrev pub CutAt : List (List ℕ) → R → Counted W → Counted W → Counted E → Counted E → Halt → Type 0
+  CutAt names old out end before after (Fault fault) = SumsCut holds remaining contents told names old out end before after fault
   CutAt names old out end before after _ = ⊥
 
   -- the files that a list names are summed
@@ -35,10 +34,10 @@ module _ {R W E : Type 0} (holds : List ℕ → Option (List ℕ)) (remaining : 
       (bytes : List ℕ) × (behind : R) × IsRead holds remaining list list_limit old behind bytes × SumsAll holds remaining contents told (names_in bytes) behind new out end before after status
 
   -- or not: the list is not read, or it is cut off
-  abbrev pub ListNotSummed : List ℕ → R → R → Counted W → Counted W → Counted E → Counted E → Refusal → Type 0
-  ListNotSummed list old new out end before after refusal =
-      (ListUnread holds remaining list old new refusal × (end ≡ out) × (after ≡ before))
-      ⊎ ((bytes : List ℕ) × (behind : R) × IsRead holds remaining list list_limit old behind bytes × CutAt (names_in bytes) behind out end before after refusal)
+  abbrev pub ListNotSummed : List ℕ → R → R → Counted W → Counted W → Counted E → Counted E → Halt → Type 0
+  ListNotSummed list old new out end before after halt =
+      (ListUnread holds remaining list old new halt × (end ≡ out) × (after ≡ before))
+      ⊎ ((bytes : List ℕ) × (behind : R) × IsRead holds remaining list list_limit old behind bytes × CutAt (names_in bytes) behind out end before after halt)
 
   -- what is asked is done, or why it is not; nothing is claimed of a list that is checked
   abbrev pub Done : Asked → R → R → Counted W → Counted W → Counted E → Counted E → ℕ → Type 0
@@ -46,21 +45,21 @@ module _ {R W E : Type 0} (holds : List ℕ → Option (List ℕ)) (remaining : 
   Done (FilesFrom list) old new out end before after status = ListSummed list.now old new out end before after status
   Done (Check list) old new out end before after status = Unit {0}
 
-  abbrev pub NotDone : Asked → R → R → Counted W → Counted W → Counted E → Counted E → Refusal → Type 0
-  NotDone (Files words) old new out end before after refusal = CutAt (map (λ w. w.now) words.now) old out end before after refusal
-  NotDone (FilesFrom list) old new out end before after refusal = ListNotSummed list.now old new out end before after refusal
-  NotDone (Check list) old new out end before after refusal = Unit {0}
+  abbrev pub NotDone : Asked → R → R → Counted W → Counted W → Counted E → Counted E → Halt → Type 0
+  NotDone (Files words) old new out end before after halt = CutAt (map (λ w. w.now) words.now) old out end before after halt
+  NotDone (FilesFrom list) old new out end before after halt = ListNotSummed list.now old new out end before after halt
+  NotDone (Check list) old new out end before after halt = Unit {0}
 
-  -- The refusal is told behind what standard error has, and the status is its own.
-  pub record TellsRefusal (asked : Asked) (old new : R) (out end : Counted W) (before after : Counted E) (status : ℕ) : Type 0 where
-    pub refusal : Refusal
-    pub not_done : NotDone asked old new out end before after refusal
+  -- It is reported behind what standard error has, or a beginning of that line where a call fails, and the status is its own.
+  pub record TellsHalt (asked : Asked) (old new : R) (out end : Counted W) (before after : Counted E) (status : ℕ) : Type 0 where
+    pub halt : Halt
+    pub not_done : NotDone asked old new out end before after halt
     pub start : Counted E
     pub last : Counted E
     pub same : inner_of start ≡ inner_of after
     pub no_line : faults_of start ≡ 0
-    pub told_is : Told told start last refusal
-    pub status_is : status ≡ refusal_status refusal
+    pub told_is : Printed told start last (halt_line halt) ⊎ Broken told start last (halt_line halt)
+    pub status_is : status ≡ halt_status halt
 
   -- the same of a reader and of writers that were given away, where no call of theirs had failed
   pub record SumTells (asked : Asked) (input : R) (out : W) (err : E) (status : ℕ) : Type 0 where
@@ -73,4 +72,4 @@ module _ {R W E : Type 0} (holds : List ℕ → Option (List ℕ)) (remaining : 
     pub no_write : faults_of old ≡ 0
     pub teller : inner_of before ≡ err
     pub no_line : faults_of before ≡ 0
-    pub tells : Done asked input end old new before after status ⊎ TellsRefusal asked input end old new before after status
+    pub tells : Done asked input end old new before after status ⊎ TellsHalt asked input end old new before after status

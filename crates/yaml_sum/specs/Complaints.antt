@@ -6,19 +6,30 @@ use Rattle.yaml_text.specs.declared.fault.Fault.{Fault}
 use Rattle.yaml_text.specs.declared.counted.Counted.{Counted}
 use Rattle.yaml_spell.specs.Writers.{Sent, CutOff}
 use Rattle.yaml_report.specs.Refusals.{place_end}
-use Rattle.yaml_sum.specs.Lines.{name_text}
+use Rattle.yaml_sum.specs.Lines.{told_name}
+use Rattle.yaml_sum.specs.declared.reason.Reason.{Reason}
+use Rattle.yaml_sum.specs.declared.reason.Reason.TheVariants.{NotFound, Denied, Folder, NoFolder, NotUtf8, Other}
 use Rattle.yaml_sum.specs.declared.stop.Stop.{Stop}
 use Rattle.yaml_sum.specs.declared.stop.Stop.TheVariants.{CannotOpen, NotRegular, Refused}
 
--- what stands behind the file's name: that it can't be opened, or is no regular file, or the fault's number, name and place
+-- why a file cannot be opened, in words
+abbrev pub reason_words : Reason → List ℕ
+reason_words NotFound = codes "not found"
+reason_words Denied = codes "permission denied"
+reason_words Folder = codes "it is a folder"
+reason_words NoFolder = codes "a part of its path is not a folder"
+reason_words NotUtf8 = codes "its name is not UTF-8"
+reason_words Other = codes "the system refused"
+
+-- what stands behind the file's name: that it cannot be opened and why, or that it is no regular file, or the fault's number, name and place
 abbrev pub reason : Stop → List ℕ
-reason CannotOpen = codes "cannot open\n"
+reason (CannotOpen why) = codes "cannot open: " ++ (reason_words why ++ codes "\n")
 reason NotRegular = codes "is no regular file\n"
 reason (Refused fault) = decimal (fault_number fault) ++ codes " " ++ fault_name fault ++ place_end fault
 
--- the line of a file, whose name is written as in a line of sums
+-- the line of a file, whose name is written as in a line of sums, but that `?` stands for each other control character
 abbrev pub complaint : List ℕ → Stop → List ℕ
-complaint name stop = codes "yaml: " ++ (name_text name ++ (codes ": " ++ reason stop))
+complaint name stop = codes "yamlreview: " ++ (told_name name ++ (codes ": " ++ reason stop))
 
 -- the writer took a line whole, or a beginning of it and then a call failed
 abbrev pub IsTold : {E : Type 0} → (E → Option (List ℕ)) → Counted E → Counted E → List ℕ → Type 0

@@ -66,20 +66,20 @@ module _ {E : Type 0} (told : E → Option (List ℕ)) where
 
 -- why a file by its name is not read: it can't be opened or is no regular file, of which it is not known what it holds, or is not read to its end
 abbrev pub NotReadAs : Option (List ℕ) → List ℕ → ℕ → Stop → Type 0
-NotReadAs held name limit CannotOpen = (¬ (IsUtf8 name)) ⊎ (held ≡ None)
+NotReadAs held name limit (CannotOpen why) = (¬ (IsUtf8 name)) ⊎ (held ≡ None)
 NotReadAs held name limit NotRegular = held ≡ None
 NotReadAs held name limit (Refused fault) = FileFails held limit fault
 
 -- and standard input
 module _ {R : Type 0} (remaining : R → Option (List ℕ)) where
   abbrev pub InputNotRead : R → R → ℕ → Stop → Type 0
-  InputNotRead old new limit CannotOpen = ⊥
+  InputNotRead old new limit (CannotOpen why) = ⊥
   InputNotRead old new limit NotRegular = ⊥
   InputNotRead old new limit (Refused fault) = GivesNotAll remaining old new limit fault
 
 -- what the bytes hold is refused
 abbrev pub IsRefused : List ℕ → Stop → Type 0
-IsRefused bytes CannotOpen = ⊥
+IsRefused bytes (CannotOpen why) = ⊥
 IsRefused bytes NotRegular = ⊥
 IsRefused bytes (Refused fault) = CanonicalRefuses bytes fault
 

@@ -8,11 +8,11 @@ use crate::line::{push, push_name};
 use crate::list::read_list;
 use crate::listed::{Listed, read_listed};
 use crate::names::cut;
+use crate::stop::Halt;
 use crate::telling::tell;
 use hex::decode_to_slice;
 use std::alloc::Global;
 use std::io::{Read, Write};
-use yaml_command::refusal::Refusal;
 use yaml_command::shelf::Shelf;
 use yaml_command::streams::write_out;
 use yaml_spell::page::write_whole;
@@ -219,9 +219,9 @@ fn tell_none<'a, E: Write>(
     list: &str,
     mut line: Vec<u8>,
     err: &mut Counted<E>,
-) -> Result<u8, Refusal<'a>> {
+) -> Result<u8, Halt<'a>> {
     line.clear();
-    push(&mut line, b"yaml: ")?;
+    push(&mut line, b"yamlreview: ")?;
     push_name(&mut line, list.as_bytes())?;
     push(&mut line, b": no line is one of a sum\n")?;
     // Where standard error fails too, the status alone is left to tell it.
@@ -238,20 +238,20 @@ pub(crate) fn check_list<'a, S: Shelf, R: Read, W: Write, E: Write>(
     input: &mut R,
     out: &mut Counted<W>,
     err: &mut Counted<E>,
-) -> Result<u8, Refusal<'a>>
+) -> Result<u8, Halt<'a>>
     requires { faults_of out.old < 2 ^ 64 - 1 }
 {
     let mut bytes = Vec::new(alloc);
     read_list(shelf, list, input, &mut bytes)?;
     let told = match check_lines(shelf, alloc, bytes.as_slice(), input, out, err) {
         Ok(told) => told,
-        Err(fault) => return Err(Refusal::Input(fault)),
+        Err(fault) => return Err(Halt::Fault(fault)),
     };
     if told.proper == 0 {
         return tell_none(list, bytes, err);
     }
     if told.improper > 0 {
-        let _ = writeln!(err, "yaml: lines that are no sums: {}", told.improper);
+        let _ = writeln!(err, "yamlreview: lines that are no sums: {}", told.improper);
     }
     Ok(told.worst)
 }

@@ -7,6 +7,7 @@ use crate::buffers::Buffers;
 use crate::digest::digest_of;
 use crate::line::make_line;
 use crate::reading::refill;
+use crate::reason::{Reason, reason_of};
 use crate::regular::NOT_REGULAR;
 use crate::stop::Stop;
 use crate::telling::tell;
@@ -42,12 +43,12 @@ fn read_named<S: Shelf>(
 {
     let text = match str::from_utf8(name) {
         Ok(text) => text,
-        Err(_) => return Err(Stop::CannotOpen),
+        Err(_) => return Err(Stop::CannotOpen(Reason::NotUtf8)),
     };
     let mut file = match shelf.open(text) {
         Ok(file) => file,
         Err(error) if error.kind() == NOT_REGULAR => return Err(Stop::NotRegular),
-        Err(_) => return Err(Stop::CannotOpen),
+        Err(error) => return Err(Stop::CannotOpen(reason_of(name, error.kind()))),
     };
     match refill(bytes, &mut file, limit) {
         Ok(()) => Ok(()),

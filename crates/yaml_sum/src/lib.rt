@@ -11,6 +11,7 @@ mod list;
 mod listed;
 mod names;
 mod reading;
+pub mod reason;
 pub mod regular;
 mod stop;
 pub mod sum;

@@ -1,6 +1,6 @@
 //! The lines of `sha256sum`.
 ghost use Rattle.std.specs.Prelude.{◌≡◌, ◌++◌, List, ℕ, Option, option_map, OnOk, IfErr};
-ghost use Rattle.yaml_sum.specs.Lines.{escape_of, is_special, name_text, sum_line};
+ghost use Rattle.yaml_sum.specs.Lines.{escape_of, is_special, name_text, printed_byte, told_name, sum_line};
 
 use hex::encode_to_slice;
 use yaml_text::fault::Fault;
@@ -47,6 +47,27 @@ pub(crate) fn push_name(line: &mut Vec<u8>, name: &[u8]) -> Result<(), Fault>
         match escape_of(*byte) {
             Some(escape) => push(line, escape)?,
             None => push(line, &[*byte])?,
+        }
+    }
+    Ok(())
+}
+
+/// A byte that stands for itself, and `?` for a control character.
+fn printed_byte(byte: u8) -> u8
+    ensures { result ≡ printed_byte byte }
+{
+    if byte < 32 || byte == 127 { b'?' } else { byte }
+}
+
+/// Puts a name behind a line that reports a file, with `?` for each control character that has no escape.
+pub(crate) fn push_told_name(line: &mut Vec<u8>, name: &[u8]) -> Result<(), Fault>
+    ensures ok { OnOk result (line.new.items ≡ line.old.items ++ told_name name.now) }
+    ensures only { IfErr result (λ fault. fault ≡ Fault.OutOfMemory) }
+{
+    'bytes: for byte in name {
+        match escape_of(*byte) {
+            Some(escape) => push(line, escape)?,
+            None => push(line, &[printed_byte(*byte)])?,
         }
     }
     Ok(())

@@ -4,9 +4,9 @@ ghost use Rattle.yaml_sum.specs.Sums.{IsRead};
 ghost use Rattle.yaml_sum.specs.Asks.{list_limit, ListUnread};
 
 use crate::file::read_file;
-use crate::stop::Stop;
+use crate::reason::Reason;
+use crate::stop::{Halt, Stop};
 use std::io::Read;
-use yaml_command::refusal::Refusal;
 use yaml_command::shelf::Shelf;
 
 /// The greatest length of a list, in bytes.
@@ -19,15 +19,15 @@ pub(crate) fn read_list<'a, S: Shelf, R: Read>(
     list: &'a str,
     input: &mut R,
     bytes: &mut Vec<u8>,
-) -> Result<(), Refusal<'a>>
+) -> Result<(), Halt<'a>>
     ensures ok { OnOk result (IsRead (S.holds shelf.now) R.remaining list.now list_limit input.old input.new bytes.new.items) }
     ensures err { IfErr result (ListUnread (S.holds shelf.now) R.remaining list.now input.old input.new) }
 {
     match read_file(shelf, list.as_bytes(), input, bytes, LIST_LIMIT) {
         Ok(()) => Ok(()),
-        Err(Stop::CannotOpen) => Err(Refusal::CannotOpen(list)),
+        Err(Stop::CannotOpen(why)) => Err(Halt::NoList(list, why)),
         // A list is opened whatever it is.
-        Err(Stop::NotRegular) => Err(Refusal::CannotOpen(list)),
-        Err(Stop::Refused(fault)) => Err(Refusal::Input(fault)),
+        Err(Stop::NotRegular) => Err(Halt::NoList(list, Reason::Other)),
+        Err(Stop::Refused(fault)) => Err(Halt::Fault(fault)),
     }
 }

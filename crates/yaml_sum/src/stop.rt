@@ -1,4 +1,8 @@
-//! Why a file has no sum.
+//! Why a file has no sum, and why sums are not made to the end.
+ghost use Rattle.std.specs.Prelude.{◌≡◌};
+ghost use Rattle.yaml_report.specs.Statuses.{fault_status};
+
+use crate::reason::Reason;
 use yaml_text::fault::Fault;
 
 /// The status of a file that is refused.
@@ -10,8 +14,8 @@ const UNUSABLE: u8 = 3;
 /// Why a file has no sum.
 #[derive(Clone, Copy)]
 pub(crate) enum Stop {
-    /// It can't be opened.
-    CannotOpen,
+    /// It can't be opened, for this reason.
+    CannotOpen(Reason),
     /// It is no regular file, and not opened.
     NotRegular,
     /// It can't be read, or what it holds is refused.
@@ -27,8 +31,52 @@ impl Stop {
         ensures { result ≡ stop_status self }
     {
         match self {
-            Stop::CannotOpen | Stop::NotRegular | Stop::Refused(Fault::ReadFault) => UNUSABLE,
+            Stop::CannotOpen(_) | Stop::NotRegular | Stop::Refused(Fault::ReadFault) => UNUSABLE,
             Stop::Refused(_) => REFUSED,
         }
+    }
+}
+
+/// Why sums are not made to the end.
+#[derive(Clone, Copy)]
+pub(crate) enum Halt<'a> {
+    /// The list of this name cannot be opened.
+    NoList(&'a str, Reason),
+    /// The list cannot be read, the output fails, or memory is refused.
+    Fault(Fault),
+}
+
+impl Halt<'_> {
+    ghost use Rattle.std.specs.Prelude.{◌≡◌};
+    ghost use Rattle.yaml_sum.specs.Stops.{halt_status};
+
+    /// The exit status: 2 where the list is too long or memory is refused, else 3.
+    pub(crate) fn status(self) -> u8
+        ensures { result ≡ halt_status self.entry }
+    {
+        match self {
+            Halt::NoList(_, _) => UNUSABLE,
+            Halt::Fault(fault) => fault_status(fault),
+        }
+    }
+}
+
+impl From<Fault> for Halt<'_> {
+    ghost use Rattle.std.specs.Prelude.{◌≡◌};
+    ghost use Rattle.yaml_sum.specs.declared.stop.Halt.TheVariants.{Fault as Failed};
+
+    ghost from_gives = { λ fault halt. halt ≡ Failed fault };
+
+    fn from(fault: Fault) -> Self {
+        Halt::Fault(fault)
+    }
+}
+
+fn fault_status(fault: Fault) -> u8
+    ensures { result ≡ fault_status fault }
+{
+    match fault {
+        Fault::ReadFault | Fault::WriteFault => UNUSABLE,
+        _ => REFUSED,
     }
 }

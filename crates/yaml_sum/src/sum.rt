@@ -10,10 +10,10 @@ use crate::check::check_list;
 use crate::file::sum_file;
 use crate::list::read_list;
 use crate::names::{names_in, names_of};
+use crate::stop::Halt;
+use crate::telling::tell_halt;
 use std::alloc::Global;
 use std::io::{Read, Write};
-use yaml_command::line::tell;
-use yaml_command::refusal::Refusal;
 use yaml_command::shelf::Shelf;
 use yaml_command::streams::write_out;
 use yaml_text::counted::Counted;
@@ -57,18 +57,18 @@ fn sum_words<'a, S: Shelf, R: Read, W: Write, E: Write>(
     input: &mut R,
     out: &mut Counted<W>,
     err: &mut Counted<E>,
-) -> Result<u8, Refusal<'a>>
+) -> Result<u8, Halt<'a>>
     requires { faults_of out.old < 2 ^ 64 - 1 }
     ensures ok { IfOk result (SumsAll (S.holds shelf.now) R.remaining W.contents E.contents (map (λ s. s.now) words.now) input.old input.new out.old out.new err.old err.new) }
     ensures err { IfErr result (CutAt (S.holds shelf.now) R.remaining W.contents E.contents (map (λ s. s.now) words.now) input.old out.old out.new err.old err.new) }
 {
     let names = match names_of(alloc, words) {
         Ok(names) => names,
-        Err(fault) => return Err(Refusal::Input(fault)),
+        Err(fault) => return Err(Halt::Fault(fault)),
     };
     match sum_each(shelf, alloc, names.as_slice(), input, out, err) {
         Ok(status) => Ok(status),
-        Err(fault) => Err(Refusal::Input(fault)),
+        Err(fault) => Err(Halt::Fault(fault)),
     }
 }
 
@@ -80,7 +80,7 @@ fn sum_listed<'a, S: Shelf, R: Read, W: Write, E: Write>(
     input: &mut R,
     out: &mut Counted<W>,
     err: &mut Counted<E>,
-) -> Result<u8, Refusal<'a>>
+) -> Result<u8, Halt<'a>>
     requires { faults_of out.old < 2 ^ 64 - 1 }
     ensures ok { IfOk result (ListSummed (S.holds shelf.now) R.remaining W.contents E.contents list.now input.old input.new out.old out.new err.old err.new) }
     ensures err { IfErr result (ListNotSummed (S.holds shelf.now) R.remaining W.contents E.contents list.now input.old input.new out.old out.new err.old err.new) }
@@ -89,11 +89,11 @@ fn sum_listed<'a, S: Shelf, R: Read, W: Write, E: Write>(
     read_list(shelf, list, input, &mut bytes)?;
     let names = match names_in(alloc, bytes.as_slice()) {
         Ok(names) => names,
-        Err(fault) => return Err(Refusal::Input(fault)),
+        Err(fault) => return Err(Halt::Fault(fault)),
     };
     match sum_each(shelf, alloc, names.as_slice(), input, out, err) {
         Ok(status) => Ok(status),
-        Err(fault) => Err(Refusal::Input(fault)),
+        Err(fault) => Err(Halt::Fault(fault)),
     }
 }
 
@@ -105,7 +105,7 @@ fn run<'a, S: Shelf, R: Read, W: Write, E: Write>(
     input: &mut R,
     out: &mut Counted<W>,
     err: &mut Counted<E>,
-) -> Result<u8, Refusal<'a>>
+) -> Result<u8, Halt<'a>>
     requires { faults_of out.old < 2 ^ 64 - 1 }
     ensures ok { IfOk result (Done (S.holds shelf.now) R.remaining W.contents E.contents asked.entry input.old input.new out.old out.new err.old err.new) }
     ensures err { IfErr result (NotDone (S.holds shelf.now) R.remaining W.contents E.contents asked.entry input.old input.new out.old out.new err.old err.new) }
@@ -138,11 +138,11 @@ pub fn sum<S: Shelf, R: Read + Drop, W: Write + Drop, E: Write + Drop>(
     let mut err = Counted::new(err);
     match run(shelf, alloc, asked, &mut input, &mut out, &mut err) {
         Ok(status) => status,
-        Err(refusal) => {
+        Err(halt) => {
             let mut err = Counted::new(err.into_inner());
             // Where standard error fails too, the status alone is left to tell it.
-            let _ = tell(refusal, &mut err);
-            refusal.status()
+            let _ = tell_halt(halt, &mut err);
+            halt.status()
         }
     }
 }

@@ -1,28 +1,31 @@
 //! The lines that tell why a file has no sum.
-ghost use Rattle.std.specs.Prelude.{◌≡◌, ◌++◌, [], OnOk, OnErr, IfOk, IfErr};
+ghost use Rattle.std.specs.Prelude.{◌≡◌, ◌++◌, ◌<◌, ◌-◌, ◌^◌, [], OnOk, OnErr, IfOk, IfErr};
 ghost use Rattle.yaml_report.specs.Refusals.{fault_line};
+ghost use Rattle.yaml_report.specs.Printing.{PrintFails};
+ghost use Rattle.yaml_answers.specs.Writers.{Printed};
+ghost use Rattle.yaml_text.specs.CountedModel.{faults_of};
 ghost use Rattle.yaml_sum.specs.Complaints.{reason, complaint, IsTold};
+ghost use Rattle.yaml_sum.specs.Stops.{halt_line};
 
-use crate::line::{push, push_name};
-use crate::stop::Stop;
+use crate::line::{push, push_told_name};
+use crate::stop::{Halt, Stop};
 use std::alloc::Global;
 use std::io::Write;
 use yaml_command::line;
-use yaml_command::refusal::Refusal;
 use yaml_spell::page::write_whole;
 use yaml_text::counted::Counted;
 use yaml_text::fault::Fault;
 
-/// What a line that tells a fault begins with.
-const FRONT: &[u8] = b"yaml: ";
+/// What each line begins with.
+const FRONT: &str = "yamlreview: ";
 
-/// The line that tells a fault where no file has a name.
+/// A fault's number, name and place.
 fn fault_line(alloc: Global, fault: Fault) -> Result<Vec<u8>, Fault>
     ensures ok { IfOk result (λ line. line.items ≡ fault_line [] fault) }
     ensures only { IfErr result (λ fault. fault ≡ Fault.OutOfMemory) }
 {
     let mut text = Counted::new(Vec::new(alloc));
-    match line::tell(Refusal::Input(fault), &mut text) {
+    match line::tell_fault("", fault, &mut text) {
         Ok(()) => Ok(text.into_inner()),
         Err(_) => Err(Fault::OutOfMemory),
     }
@@ -34,11 +37,15 @@ fn push_reason(alloc: Global, line: &mut Vec<u8>, stop: Stop) -> Result<(), Faul
     ensures only { IfErr result (λ fault. fault ≡ Fault.OutOfMemory) }
 {
     match stop {
-        Stop::CannotOpen => push(line, b"cannot open\n"),
+        Stop::CannotOpen(why) => {
+            push(line, b"cannot open: ")?;
+            push(line, why.words().as_bytes())?;
+            push(line, b"\n")
+        }
         Stop::NotRegular => push(line, b"is no regular file\n"),
         Stop::Refused(fault) => {
             let text = fault_line(alloc, fault)?;
-            push(line, &text[FRONT.len()..])
+            push(line, &text)
         }
     }
 }
@@ -49,8 +56,8 @@ fn make_complaint(alloc: Global, line: &mut Vec<u8>, name: &[u8], stop: Stop) ->
     ensures only { IfErr result (λ fault. fault ≡ Fault.OutOfMemory) }
 {
     line.clear();
-    push(line, FRONT)?;
-    push_name(line, name)?;
+    push(line, FRONT.as_bytes())?;
+    push_told_name(line, name)?;
     push(line, b": ")?;
     push_reason(alloc, line, stop)
 }
@@ -72,5 +79,20 @@ pub(crate) fn tell<E: Write>(
     match write_whole(err, line.as_slice()) {
         // Where standard error fails too, the status alone is left to tell it.
         Ok(()) | Err(_) => Ok(()),
+    }
+}
+
+/// Writes the line that tells why sums are not made to the end, and flushes. It takes no memory. Any error of the writer is
+/// `WriteFault`; it then has a beginning of the line.
+pub(crate) fn tell_halt<E: Write>(halt: Halt<'_>, err: &mut Counted<E>) -> Result<(), Fault>
+    requires { faults_of err.old < 2 ^ 64 - 1 }
+    ensures ok { OnOk result (Printed E.contents err.old err.new (halt_line halt.entry)) }
+    ensures err { IfErr result (PrintFails E.contents err.old err.new (halt_line halt.entry)) }
+{
+    match halt {
+        Halt::NoList(name, why) => {
+            line::write_pieces(&[FRONT, name, ": cannot open: ", why.words(), "\n"], err)
+        }
+        Halt::Fault(fault) => line::tell_fault(FRONT, fault, err),
     }
 }

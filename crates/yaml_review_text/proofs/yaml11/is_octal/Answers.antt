@@ -3,4 +3,4 @@ use Rattle.yaml_review_text.proofs.OctalLaws.{octal_is}
 use Rattle.yaml_review_text.proofs.yaml11.is_octal.Goals as goal
 
 pub returns-then-all_of : goal.returns-then-all_of
-returns-then-all_of c = rw c.behind_zeros.ensures (octal_is c.args.text.now c.in-Some.rest.now (search rules) (search rules))
+returns-then-all_of c = rw c.behind_all.ensures (octal_is c.args.text.now c.in-Some.rest.now (search rules) (search rules))

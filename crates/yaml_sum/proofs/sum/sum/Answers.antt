@@ -1,5 +1,5 @@
 use Rattle.std.proofs.Common.{◌∙◌, inl, inr}
-use Rattle.yaml_report.specs.Refusals.{line_text}
+use Rattle.yaml_sum.specs.Stops.{halt_line}
 use Rattle.yaml_sum.proofs.AskLaws.{told_either}
 use Rattle.yaml_sum.proofs.sum.sum.Goals as goal
 
@@ -32,13 +32,13 @@ returns g c = record {
     teller = c.new-err.ensures.inner;
     no_line = c.new-err.ensures.faults;
     tells = inr (record {
-      refusal = c.in-Err.refusal;
+      halt = c.in-Err.halt;
       not_done = c.in-Err.ensures.err;
       start = c.new-err-in-Err.result;
-      last = c.tell.new.err;
+      last = c.tell_halt.new.err;
       same = c.new-err-in-Err.ensures.inner ∙ c.into_inner.ensures;
       no_line = c.new-err-in-Err.ensures.faults;
-      told_is = told_either g.E.Write.contents c.new-err-in-Err.result c.tell.new.err (line_text c.in-Err.refusal) c.tell.result c.tell.ensures.ok c.tell.ensures.err;
+      told_is = told_either g.E.Write.contents c.new-err-in-Err.result c.tell_halt.new.err (halt_line c.in-Err.halt) c.tell_halt.result c.tell_halt.ensures.ok c.tell_halt.ensures.err;
       status_is = c.status.ensures;
     });
   };

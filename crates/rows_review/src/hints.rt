@@ -1,0 +1,299 @@
+//! Slips that are common in files, and what `faults` says of each: its cause.
+use crate::runs::{ALL, Given, run};
+use crate::slips::NODES;
+use std::process::Abort;
+use std::test::Fail;
+
+/// A file, and the words of its fault.
+pub type Slip = (&'static [u8], &'static str);
+
+static LINES: [Slip; 74] = [
+    // Indentation of flow collections and quoted scalars.
+    (
+        b"k: [\n  a\n]\n",
+        "the closing bracket must be indented more than its key: put one space before it",
+    ),
+    (
+        b"k: {\n  a: 1\n}\n",
+        "the closing brace must be indented more than its key: put one space before it",
+    ),
+    (
+        b"x:\n  k: [\n    a\n]\n",
+        "the closing bracket must be indented more than its key: put 3 spaces before it",
+    ),
+    (
+        b"k: [a,\nb]\n",
+        "a line of a flow collection stands deeper than its parent",
+    ),
+    (
+        b"k: {a: 1,\nb: 2}\n",
+        "a line of a flow collection stands deeper than its parent",
+    ),
+    (
+        b"k: \"a\nb\"\n",
+        "a line inside quotes must be indented more than its key: put one space before it",
+    ),
+    (
+        b"k: 'a\nb'\n",
+        "a line inside quotes must be indented more than its key: put one space before it",
+    ),
+    (
+        b"x:\n  k: \"a\n  b\"\n",
+        "a line inside quotes must be indented more than its key: put one space before it",
+    ),
+    // What is filled in, merged or copied from elsewhere.
+    (
+        b"{{- if .Values.x }}\na: 1\n{{- end }}\n",
+        "a template: render it first",
+    ),
+    (
+        b"a: 1\n{{- if .Values.x }}\nb: 1\n{{- end }}\n",
+        "a template: render it first",
+    ),
+    (b"a: {{ .Values.x }}-b\n", "a template: render it first"),
+    (
+        b"a:\n  {{- toYaml .Values.x | nindent 2 }}\n",
+        "a template: render it first",
+    ),
+    (
+        b"{% if x %}\na: 1\n{% endif %}\n",
+        "a template: render it first",
+    ),
+    (
+        b"a:\n  {% for x in y %}\n  - b\n  {% endfor %}\n",
+        "a template: render it first",
+    ),
+    (
+        b"a: 1\n{% if x %}\nb: 1\n{% endif %}\n",
+        "a template: render it first",
+    ),
+    (
+        b"<<<<<<< HEAD\na: 1\n=======\na: 2\n>>>>>>> x\n",
+        "line 1 is a merge conflict marker: resolve the conflict first",
+    ),
+    (
+        b"x: 1\n<<<<<<< HEAD\na: 1\n=======\na: 2\n>>>>>>> x\n",
+        "line 2 is a merge conflict marker: resolve the conflict first",
+    ),
+    (
+        b"// c\na: 1\n",
+        "line 1 is no comment: a comment begins with `#`",
+    ),
+    (
+        b"/* c */\na: 1\n",
+        "line 1 is no comment: a comment begins with `#`",
+    ),
+    (
+        b"{\"a\": 1}{\"b\": 2}\n",
+        "the document ends with its closing bracket: the next one begins with a line `---`",
+    ),
+    (
+        b"{\"a\": 1}\n{\"b\": 2}\n",
+        "the document ends above: the next one begins with a line `---`",
+    ),
+    (
+        b"[section]\nkey = v\n",
+        "line 2 has `=` where an entry has its colon: write `key: value`",
+    ),
+    (
+        b"[section]\nkey = \"v\"\n",
+        "line 2 has `=` where an entry has its colon: write `key: value`",
+    ),
+    (
+        b"```yaml\na: 1\n```\n",
+        "a fence of Markdown: remove the line",
+    ),
+    (b"a: 1\n```\n", "a fence of Markdown: remove the line"),
+    (b"a: 1\nEOF\n", "this line is no entry: its key has no `:`"),
+    // Spaces that are missing or of another kind.
+    (b"a:1\nb: 2\n", "line 1 has no space after its colon"),
+    (
+        b"x:\n  a:1\n  b: 2\n",
+        "line 2 has no space after its colon",
+    ),
+    (b"a: 1\nb:2\nc: 3\n", "line 2 has no space after its colon"),
+    (
+        b"a:\xC2\xA0b\nc: d\n",
+        "line 1 has a no-break space (U+00A0): write a space",
+    ),
+    (
+        b"a:\n\xC2\xA0\xC2\xA0b: 1\n  c: 2\n",
+        "line 2 has a no-break space (U+00A0): write a space",
+    ),
+    (
+        b"a\xC2\xA0: 1\nb:\xC2\xA0 2\n",
+        "line 2 has a no-break space (U+00A0): write a space",
+    ),
+    (
+        b"a:\n\tb: 1\n",
+        "indentation and separation are spaces, and this is a tab",
+    ),
+    (
+        b"a:\tb\n",
+        "indentation and separation are spaces, and this is a tab",
+    ),
+    (
+        b"a: 1\t# c\n",
+        "indentation and separation are spaces, and this is a tab",
+    ),
+    (
+        b"-\ta\n",
+        "indentation and separation are spaces, and this is a tab",
+    ),
+    (
+        b"a: \"b\"\t\nc: 1\n",
+        "indentation and separation are spaces, and this is a tab",
+    ),
+    (b"a :1\nb: 2\n", "line 1 has no space after its colon"),
+    (
+        b"a = 1\nb: 2\n",
+        "line 1 has `=` where an entry has its colon: write `key: value`",
+    ),
+    (
+        b"a: 1\nb = 2\n",
+        "line 2 has `=` where an entry has its colon: write `key: value`",
+    ),
+    (b"a: \"b\"#c\n", "a comment has a space before its `#`"),
+    (b"a: [b]#c\n", "a comment has a space before its `#`"),
+    (b"\"a\":1\nb: 2\n", "line 1 has no space after its colon"),
+    (
+        b"\"a\" 1\nb: 2\n",
+        "nothing can follow the closing quote: put the whole value between quotes",
+    ),
+    (b"-a\n-b: 1\n", "line 2 has no space after its dash"),
+    (b"- a\n-b\n", "line 2 has no space after its dash"),
+    (b"x: 1\n-b\n", "line 2 has no space after its dash"),
+    // What is not closed, or closed by something else.
+    (
+        b"a: \"b\nc: d\n",
+        "the quote opened at line 1, column 4 is not closed",
+    ),
+    (
+        b"a: 'b\nc: d\n",
+        "the quote opened at line 1, column 4 is not closed",
+    ),
+    (
+        b"a: \"b\n",
+        "the quote opened at line 1, column 4 is not closed",
+    ),
+    (
+        b"a: 'b\n",
+        "the quote opened at line 1, column 4 is not closed",
+    ),
+    (
+        b"a: 1\nb: \"c\n  d\n",
+        "the quote opened at line 2, column 4 is not closed",
+    ),
+    (
+        b"a: \"b\nc: \"d\"\n",
+        "the quote opened at line 1, column 4 is not closed",
+    ),
+    (
+        b"a: [1, 2\n",
+        "the bracket opened at line 1, column 4 is not closed",
+    ),
+    (
+        b"a: [1, 2\nb: 3\n",
+        "the bracket opened at line 1, column 4 is not closed",
+    ),
+    (
+        b"a: {b: 1\nc: 2\n",
+        "the brace opened at line 1, column 4 is not closed",
+    ),
+    (
+        b"x: 1\na: {b: 1,\n",
+        "the brace opened at line 2, column 4 is not closed",
+    ),
+    (b"a: [\"b\" \"c\"]\n", "a comma is missing before it"),
+    (b"a: {b: 1 c: 2}\n", "a comma is missing before this entry"),
+    (
+        b"a: {\n  b: 1\n  c: 2\n  }\n",
+        "a comma is missing before this entry",
+    ),
+    (
+        b"{\n  \"a\": 1\n  \"b\": 2\n}\n",
+        "a comma is missing before this entry",
+    ),
+    (
+        b"a: [1]]\n",
+        "no bracket is open here: remove it, or quote the value",
+    ),
+    (
+        b"a: 1\n}\n",
+        "no brace is open here: remove it, or quote the value",
+    ),
+    (
+        b"a: }\n",
+        "no brace is open here: remove it, or quote the value",
+    ),
+    (
+        b"a: , b\n",
+        "a comma parts the items of `[ ]` and the entries of `{ }` alone: remove it, or quote the value",
+    ),
+    (
+        b"\"a\": \"b\",\n\"c\": \"d\"\n",
+        "a comma parts the items of `[ ]` and the entries of `{ }` alone: remove it, or quote the value",
+    ),
+    (
+        b"a: [1}\n",
+        "the bracket opened at line 1, column 4 is closed by a brace",
+    ),
+    (
+        b"a: [1,\n---\n2]\n",
+        "the bracket opened at line 1, column 4 is open at this document marker",
+    ),
+    (
+        b"a: \"b\n---\nc\"\n",
+        "the quote opened at line 1, column 4 is open at this document marker",
+    ),
+    (
+        b"a: [1,\n...\n2]\n",
+        "the bracket opened at line 1, column 4 is open at this document marker",
+    ),
+    (
+        b"a: [b, , c]\n",
+        "a comma comes behind an item or an entry: remove it",
+    ),
+    (
+        b"a: [, b]\n",
+        "a comma comes behind an item or an entry: remove it",
+    ),
+    (
+        b"a: [\"b, c]\nd: 1\n",
+        "the quote opened at line 1, column 5 is not closed",
+    ),
+    (
+        b"- 'a\n- b\n- c\n",
+        "the quote opened at line 1, column 3 is not closed",
+    ),
+];
+
+fn is_hinted<T: Abort + AllocGlobal>(rt: &T, slip: &Slip) -> Result<(), Fail> {
+    let (left, words) = *slip;
+    let given = Given {
+        words: &["faults", "left"],
+        left,
+        right: b"",
+        input: b"",
+        rooms: ALL,
+    };
+    let ran = run(rt.alloc(), given)?;
+    let line = ran.out.lines().next().unwrap_or("");
+    let head = line.strip_suffix(words).unwrap_or("");
+    assert!(rt;
+        ran.status == 2 && head.ends_with(": "),
+        "{words:?}: {line:?}"
+    );
+    Ok(())
+}
+
+#[test]
+fn hints_name_the_cause(rt: HostRuntime) -> Result<(), Fail> {
+    let tables: [&[Slip]; 2] = [&LINES, &NODES];
+    for table in &tables {
+        for slip in *table {
+            is_hinted(&rt, slip)?;
+        }
+    }
+    Ok(())
+}

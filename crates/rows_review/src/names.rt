@@ -1,0 +1,136 @@
+//! Words that are not UTF-8, and a canonical text that would be too long.
+use crate::runs::{ALL, Given, Ran, run};
+use std::alloc::Global;
+use std::env::FillError;
+use std::process::Abort;
+use std::rt::Env;
+use std::test::Fail;
+use yaml_review_command::arguments::words_of;
+
+/// The words of a program, its own name first.
+struct Called(&'static [&'static [u8]]);
+
+impl Env for Called {
+    fn arg(&self, i: usize, buf: &mut [u8]) -> Result<usize, FillError> {
+        let Some(word) = self.0.get(i) else {
+            return Err(FillError::NotPresent);
+        };
+        let Some(room) = buf.get_mut(..word.len()) else {
+            return Err(FillError::TooLong);
+        };
+        room.copy_from_slice(word);
+        Ok(word.len())
+    }
+
+    fn var(&self, _name: &str, _buf: &mut [u8]) -> Result<usize, FillError> {
+        Err(FillError::NotPresent)
+    }
+
+    fn var_at(&self, _i: usize, _buf: &mut [u8]) -> Result<usize, FillError> {
+        Err(FillError::NotPresent)
+    }
+}
+
+/// The words behind the program's name, and what the run answers and writes.
+struct Row {
+    name: &'static str,
+    words: &'static [&'static [u8]],
+    status: u8,
+    out: &'static str,
+    err: &'static str,
+}
+
+/// A file whose name is not UTF-8 is reported with `?` for each such byte, and the others go on.
+static ROWS: [Row; 4] = [
+    Row {
+        name: "faults of files, of which one has no text for a name",
+        words: &[
+            b"yamlreview",
+            b"faults",
+            b"bad\xFF.yaml",
+            b"left",
+            b"\xC3\xA9\x80",
+        ],
+        status: 3,
+        out: "left:1:3: 12 UndefinedAlias at byte 2: 0[0]: no node before this one in its document has an anchor of this name\n- *x\n  ^\n",
+        err: "yamlreview: bad?.yaml: cannot open: its name is not UTF-8\nyamlreview: \u{E9}?: cannot open: its name is not UTF-8\n",
+    },
+    Row {
+        name: "sums of files, of which one has no text for a name",
+        words: &[b"yamlreview", b"sum", b"bad\xFF.yaml", b"one.yaml"],
+        status: 3,
+        out: "10fefbc4a80af0c4ff6ee9763b1d134ced76a83604f31803c082d5bfcc96318a  one.yaml\n",
+        err: "yamlreview: bad?.yaml: cannot open: its name is not UTF-8\n",
+    },
+    Row {
+        name: "a list of sums that has no text for a name",
+        words: &[b"yamlreview", b"sum", b"--check", b"\xFFlist"],
+        status: 3,
+        out: "",
+        err: "yamlreview: ?list: cannot open: its name is not UTF-8\n",
+    },
+    Row {
+        name: "one side of a comparison",
+        words: &[b"yamlreview", b"diff", b"one.yaml", b"\xFF"],
+        status: 3,
+        out: "",
+        err: "yamlreview: ?: cannot open: its name is not UTF-8\n",
+    },
+];
+
+/// Runs these words, with this text for `left`.
+fn run_called(alloc: Global, called: &Called, left: &[u8]) -> Result<Ran, Fail> {
+    let words = words_of(called, alloc).map_err(|_| Fail::from("no words"))?;
+    let mut texts = Vec::new(alloc);
+    for word in &words {
+        texts.push(word.as_str())?;
+    }
+    let given = Given {
+        words: texts.as_slice(),
+        left,
+        right: b"",
+        input: b"",
+        rooms: ALL,
+    };
+    run(alloc, given)
+}
+
+/// So many items with a tag of more than 1,000 bytes, which a handle makes short.
+const ITEMS: usize = 68_000;
+
+/// An input of half a million bytes whose canonical text would have more than 67,108,864.
+fn long_tags(alloc: Global) -> Result<String, Fail> {
+    let mut text = "%TAG !e! tag:example.org,2024:".to_string(alloc)?;
+    for _ in 0..990 {
+        text.push('x')?;
+    }
+    text.push_str("\n---\n[")?;
+    for _ in 0..ITEMS {
+        text.push_str("!e!a b,")?;
+    }
+    text.push_str("]\n")?;
+    Ok(text)
+}
+
+#[test]
+fn names_that_are_no_text_and_long_texts_are_told(rt: HostRuntime) -> Result<(), Fail> {
+    let alloc = rt.alloc();
+    for row in &ROWS {
+        let ran = run_called(alloc, &Called(row.words), b"- *x\n")?;
+        ran.gave(&rt, row.name, row.status, row.out, row.err);
+    }
+    let text = long_tags(alloc)?;
+    for command in ["faults", "warn"] {
+        let given = Given {
+            words: &[command, "left"],
+            left: text.as_bytes(),
+            right: b"",
+            input: b"",
+            rooms: ALL,
+        };
+        let told =
+            "left: 20 TextTooLong: the canonical text would have more than 67,108,864 bytes\n";
+        run(alloc, given)?.gave(&rt, command, 2, told, "");
+    }
+    Ok(())
+}

@@ -1,0 +1,174 @@
+//! What `diff` reports of files that are not read or are rejected, and words that are wrong.
+use crate::rows::Row;
+
+const BOTH: &[&str] = &["diff", "left", "right"];
+
+/// Both sides are reported, as `faults` reports them, on standard error.
+pub static FILES: [Row; 6] = [
+    Row {
+        name: "one side is rejected",
+        words: BOTH,
+        left: b"{a: 1, a: 2}\n",
+        right: b"a: 1\n",
+        status: 2,
+        out: "",
+        err: "left:1:8: 19 EqualKeys at byte 7: 0.a: the keys of a mapping differ, each from each\n{a: 1, a: 2}\n       ^\nleft:1:2: the first of the two\n",
+    },
+    Row {
+        name: "both sides are",
+        words: BOTH,
+        left: b"- *x\n",
+        right: b"a:\n- b\n- *y\n",
+        status: 2,
+        out: "",
+        err: "left:1:3: 12 UndefinedAlias at byte 2: 0[0]: no node before this one in its document has an anchor of this name\n- *x\n  ^\nright:3:3: 12 UndefinedAlias at byte 9: 0.a[1]: no node before this one in its document has an anchor of this name\n- *y\n  ^\n",
+    },
+    Row {
+        name: "both sides are, as objects",
+        words: &["diff", "--format=json", "left", "right"],
+        left: b"- *x\n",
+        right: b"[*y]\n",
+        status: 2,
+        out: "",
+        err: "{\"byte\":2,\"column\":3,\"file\":\"left\",\"first_column\":null,\"first_line\":null,\"line\":1,\"name\":\"UndefinedAlias\",\"number\":12,\"path\":\"0[0]\",\"words\":\"no node before this one in its document has an anchor of this name\"}\n{\"byte\":1,\"column\":2,\"file\":\"right\",\"first_column\":null,\"first_line\":null,\"line\":1,\"name\":\"UndefinedAlias\",\"number\":12,\"path\":\"0[0]\",\"words\":\"no node before this one in its document has an anchor of this name\"}\n",
+    },
+    Row {
+        name: "one side cannot be opened, and the other is rejected",
+        words: &["diff", "absent", "right"],
+        left: b"",
+        right: b"- *y\n",
+        status: 3,
+        out: "",
+        err: "yamlreview: absent: cannot open: not found\nright:1:3: 12 UndefinedAlias at byte 2: 0[0]: no node before this one in its document has an anchor of this name\n- *y\n  ^\n",
+    },
+    Row {
+        name: "a folder, and a file without permission",
+        words: &["diff", "a folder", "denied"],
+        left: b"",
+        right: b"",
+        status: 3,
+        out: "",
+        err: "yamlreview: a folder: cannot open: it is a folder\nyamlreview: denied: cannot open: permission denied\n",
+    },
+    Row {
+        name: "a path through a file, and a reason that has no words of its own",
+        words: &["faults", "one.yaml/a", "folder"],
+        left: b"",
+        right: b"",
+        status: 3,
+        out: "",
+        err: "yamlreview: one.yaml/a: cannot open: a part of its path is not a folder\nyamlreview: folder: cannot open: the system refused\n",
+    },
+];
+
+/// No line is printed where none is asked for.
+pub static LINES: [Row; 4] = [
+    Row {
+        name: "no line of a difference, and the status",
+        words: &["diff", "--lines=0", "left", "right"],
+        left: b"a",
+        right: b"b",
+        status: 1,
+        out: "",
+        err: "",
+    },
+    Row {
+        name: "no object of a difference, and the status",
+        words: &["diff", "--lines=0", "--format=json", "left", "right"],
+        left: b"[a, b]",
+        right: b"[]",
+        status: 1,
+        out: "",
+        err: "",
+    },
+    Row {
+        name: "the status of streams that are the same",
+        words: &["diff", "--lines=0", "left", "right"],
+        left: b"a",
+        right: b"'a'",
+        status: 0,
+        out: "",
+        err: "",
+    },
+    Row {
+        name: "no warning",
+        words: &["warn", "--lines=0", "left"],
+        left: b"a: yes\n",
+        right: b"",
+        status: 0,
+        out: "",
+        err: "",
+    },
+];
+
+/// A usage line has the program's name, and the help of each command its exit statuses.
+pub static WORDS: [Row; 3] = [
+    Row {
+        name: "files that are not given",
+        words: &["diff"],
+        left: b"",
+        right: b"",
+        status: 3,
+        out: "",
+        err: "error: the following required arguments were not provided:\n  <A>\n  <B>\n\nUsage: yamlreview diff <A> <B>\n\nFor more information, try '--help'.\n",
+    },
+    Row {
+        name: "a word with an escape of the terminal",
+        words: &["dif\u{1B}[2K"],
+        left: b"",
+        right: b"",
+        status: 3,
+        out: "",
+        err: "error: unrecognized subcommand 'dif?[2K'\n\nUsage: yamlreview <COMMAND>\n\nFor more information, try '--help'.\n",
+    },
+    Row {
+        name: "the help of a command",
+        words: &["warn", "--help"],
+        left: b"",
+        right: b"",
+        status: 0,
+        out: "Prints what tools of YAML 1.1 read otherwise\n\nUsage: yamlreview warn [OPTIONS] [FILE]...\n\nArguments:\n  [FILE]...  A file; `-`, or none, is standard input\n\nOptions:\n      --lines <N>      Print at most N lines for each file, and then `...` if there are more; 0 for the status alone [default: 1000]\n      --format <FORM>  Lines of text, or one JSON object a line [default: line] [possible values: line, json]\n  -h, --help           Print help\n\nExit status (of several files the greatest):\n  0  no file is rejected, whether or not there are warnings\n  2  a file is rejected\n  3  the words, a file or a stream cannot be used\n",
+        err: "",
+    },
+];
+
+/// Characters that a terminal shows nothing for, or that turn the text around them, are written as escapes in columns, and as they
+/// are in JSON.
+pub static HIDDEN: [Row; 4] = [
+    Row {
+        name: "controls of direction and spaces without width",
+        words: &["diff", "--no-places", "left", "right"],
+        left: "- a\u{202E}b\n- \u{200B}\n".as_bytes(),
+        right: b"- ab\n- ''\n",
+        status: 1,
+        out: "~\t0[0]\t\"a\\u202Eb\"\t\"ab\"\n~\t0[1]\t\"\\u200B\"\t\"\"\n",
+        err: "",
+    },
+    Row {
+        name: "a key, a soft hyphen and a tag character",
+        words: &["diff", "--no-places", "left", "right"],
+        left: "{\"a \u{2066}\": \"\u{AD}\u{E0041}\"}\n".as_bytes(),
+        right: "{\"a \u{2066}\": \"x\"}\n".as_bytes(),
+        status: 1,
+        out: "~\t0[\"a \\u2066\"]\t\"\\u00AD\\U000E0041\"\t\"x\"\n",
+        err: "",
+    },
+    Row {
+        name: "letters of other scripts are shown as they are",
+        words: &["diff", "--no-places", "left", "right"],
+        left: "- \u{E9}\u{65E5}\u{5D0}\u{1F600}\n".as_bytes(),
+        right: b"- x\n",
+        status: 1,
+        out: "~\t0[0]\t\"\u{E9}\u{65E5}\u{5D0}\u{1F600}\"\t\"x\"\n",
+        err: "",
+    },
+    Row {
+        name: "as objects",
+        words: &["diff", "--no-places", "--format=json", "left", "right"],
+        left: "- a\u{202E}b\n".as_bytes(),
+        right: b"- ab\n",
+        status: 1,
+        out: "{\"kind\":\"changed\",\"left\":\"\\\"a\u{202E}b\\\"\",\"left_place\":null,\"path\":\"0[0]\",\"right\":\"\\\"ab\\\"\",\"right_place\":null}\n",
+        err: "",
+    },
+];

@@ -1,0 +1,80 @@
+//! What a syntax fault commonly is, by the text around its place.
+use crate::line_hints::line_hint;
+use crate::node_hints::node_hint;
+use crate::open_hints::open_hint;
+use crate::scan::Opened;
+use crate::spot::Spot;
+use std::alloc::Global;
+use yaml_place::{Place, place_at};
+use yaml_text::fault::Fault;
+
+/// The words of a hint.
+#[derive(Clone, Copy)]
+pub enum Hint {
+    Text(&'static str),
+    /// The number of the line of this offset, and words.
+    Line(usize, &'static str),
+    /// What was opened at a place, and words.
+    Opened(Opened, &'static str),
+    /// What has to be indented more than its key, and by how many spaces.
+    Indent(&'static str, usize),
+}
+
+/// The name of what a character opens.
+fn name_of(mark: u8) -> &'static str {
+    match mark {
+        b'[' => "bracket",
+        b'{' => "brace",
+        _ => "quote",
+    }
+}
+
+/// The place of an offset of a text.
+fn place_in(text: &str, at: usize) -> Place {
+    let bytes = text.as_bytes();
+    if at <= bytes.len() {
+        place_at(bytes, at)
+    } else {
+        Place { line: 1, column: 1 }
+    }
+}
+
+impl Hint {
+    /// The hint as a text.
+    fn words(self, alloc: Global, text: &str) -> Result<String, Fault> {
+        match self {
+            Hint::Text(words) => Ok(words.to_string(alloc)?),
+            Hint::Line(at, words) => {
+                let line = place_in(text, at).line;
+                Ok(format!(in alloc; "line {line} {words}")?)
+            }
+            Hint::Opened(opened, words) => {
+                let Place { line, column } = place_in(text, opened.at);
+                let name = name_of(opened.mark);
+                Ok(format!(in alloc; "the {name} opened at line {line}, column {column} {words}")?)
+            }
+            Hint::Indent(what, 1) => Ok(format!(in alloc;
+                "{what} must be indented more than its key: put one space before it"
+            )?),
+            Hint::Indent(what, count) => Ok(format!(in alloc;
+                "{what} must be indented more than its key: put {count} spaces before it"
+            )?),
+        }
+    }
+}
+
+/// What a syntax fault at an offset of a text commonly is. Takes time linear in the text's size.
+///
+/// # Errors
+/// `OutOfMemory`
+pub fn syntax_words(alloc: Global, text: &str, at: usize) -> Result<String, Fault> {
+    let spot = Spot::new(alloc, text, at)?;
+    let hint = match line_hint(&spot) {
+        Some(hint) => hint,
+        None => match open_hint(&spot) {
+            Some(hint) => hint,
+            None => node_hint(&spot),
+        },
+    };
+    hint.words(alloc, text)
+}

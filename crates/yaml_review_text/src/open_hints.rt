@@ -1,0 +1,92 @@
+//! Causes of syntax faults inside quotes, brackets and braces.
+use crate::hints::Hint;
+use crate::scan::Opened;
+use crate::spot::{Spot, is_entry, uncommented};
+
+const FLOW_LINE: &str = "a line of a flow collection stands deeper than its parent";
+
+/// What a fault inside a quoted scalar or a flow collection is.
+pub fn open_hint(spot: &Spot<'_>) -> Option<Hint> {
+    if let Some(quote) = spot.scan.quote() {
+        return Some(quote_hint(spot, quote));
+    }
+    let bracket = spot.scan.bracket()?;
+    if spot.behind.trim().is_empty() {
+        return Some(Hint::Opened(bracket, "is not closed"));
+    }
+    if spot.is_marker() {
+        return Some(Hint::Opened(bracket, "is open at this document marker"));
+    }
+    if spot.is_first() && indent(spot) < bracket.floor {
+        return Some(flow_line_hint(spot, bracket));
+    }
+    flow_hint(spot, bracket)
+}
+
+/// The column of the first character of a line, from 0.
+fn indent(spot: &Spot<'_>) -> usize {
+    spot.line.len()
+}
+
+fn quote_hint(spot: &Spot<'_>, quote: Opened) -> Hint {
+    if spot.is_marker() {
+        return Hint::Opened(quote, "is open at this document marker");
+    }
+    let mark = if quote.mark == b'"' { '"' } else { '\'' };
+    let is_outside = spot.is_first() && indent(spot) < quote.floor;
+    if is_outside && !is_entry(spot.rest) && spot.behind.contains(mark) {
+        let count = quote.floor.saturating_sub(indent(spot));
+        return Hint::Indent("a line inside quotes", count);
+    }
+    Hint::Opened(quote, "is not closed")
+}
+
+/// Whether the last character before a line, comments left out, is one after which a flow collection goes on.
+fn is_in_flow(before: &str) -> bool {
+    for line in before.rsplit('\n') {
+        let text = uncommented(line);
+        if !text.is_empty() && !text.starts_with('#') {
+            return text.ends_with([',', '[', '{']);
+        }
+    }
+    false
+}
+
+/// Of a line that begins left of where the lines of a flow collection may.
+fn flow_line_hint(spot: &Spot<'_>, bracket: Opened) -> Hint {
+    let count = bracket.floor.saturating_sub(indent(spot));
+    match spot.next() {
+        Some(']') => Hint::Indent("the closing bracket", count),
+        Some('}') => Hint::Indent("the closing brace", count),
+        _ if is_in_flow(spot.before) => Hint::Text(FLOW_LINE),
+        _ => Hint::Opened(bracket, "is not closed"),
+    }
+}
+
+/// Of a character that cannot follow in a flow collection.
+fn flow_hint(spot: &Spot<'_>, bracket: Opened) -> Option<Hint> {
+    let before = spot.before.trim_end();
+    match spot.next() {
+        Some(',') if before.ends_with([',', '[', '{']) => {
+            Some(Hint::Text("a comma comes behind an item or an entry: remove it"))
+        }
+        Some(']') if bracket.mark == b'{' => Some(Hint::Opened(bracket, "is closed by a bracket")),
+        Some('}') if bracket.mark == b'[' => Some(Hint::Opened(bracket, "is closed by a brace")),
+        Some(':') if bracket.mark == b'{' && is_second(before) => {
+            Some(Hint::Text("a comma is missing before this entry"))
+        }
+        Some('&' | '*' | '!' | '@' | '`' | '%' | '\t' | '#' | ':' | '|' | '>' | '-') => None,
+        _ if before.ends_with(['"', '\'', ']', '}']) => Some(Hint::Text(
+            "a comma is missing before it",
+        )),
+        _ => None,
+    }
+}
+
+/// Whether there is a blank or a line's end in a value before the key of a next entry, as in `1 b` of `{a: 1 b: 2}`.
+fn is_second(before: &str) -> bool {
+    match before.rsplit(": ").next() {
+        Some(value) => value.trim().contains([' ', '\n']),
+        None => false,
+    }
+}

@@ -1,0 +1,123 @@
+//! What is around the offset at which a text breaks off, for a hint.
+use crate::scan::Scan;
+use std::alloc::Global;
+use yaml_text::fault::Fault;
+
+/// An offset of a text, and what is around it.
+#[derive(Drop)]
+pub struct Spot<'a> {
+    pub at: usize,
+    pub before: &'a str,
+    pub behind: &'a str,
+    /// The line of the offset, up to it and from it on.
+    pub line: &'a str,
+    pub rest: &'a str,
+    pub whole: &'a str,
+    /// The last line above that is not blank, and the offset at which it starts.
+    pub above: &'a str,
+    pub above_at: usize,
+    pub scan: Scan,
+}
+
+impl<'a> Spot<'a> {
+    /// # Errors
+    /// `OutOfMemory`
+    pub fn new(alloc: Global, text: &'a str, at: usize) -> Result<Spot<'a>, Fault> {
+        let before = text.get(..at).unwrap_or("");
+        let behind = text.get(at..).unwrap_or("");
+        let line = before.rsplit('\n').next().unwrap_or("");
+        let rest = behind.split('\n').next().unwrap_or("");
+        let start = at.saturating_sub(line.len());
+        let whole = text.get(start..at.saturating_add(rest.len())).unwrap_or("");
+        let (above_at, above) = line_above(text.get(..start).unwrap_or(""));
+        Ok(Spot {
+            at,
+            before,
+            behind,
+            line,
+            rest: rest.trim_end(),
+            whole: whole.trim_end(),
+            above,
+            above_at,
+            scan: Scan::of(alloc, before)?,
+        })
+    }
+
+    /// Whether nothing but blanks comes before the offset on its line.
+    pub fn is_first(&self) -> bool {
+        self.line.trim().is_empty()
+    }
+
+    /// The character at the offset.
+    pub fn next(&self) -> Option<char> {
+        self.behind.chars().next()
+    }
+
+    /// Where the line of the offset starts.
+    pub fn start(&self) -> usize {
+        self.at.saturating_sub(self.line.len())
+    }
+
+    /// The text before the offset on its line, from the start of its value on.
+    pub fn value(&self) -> &'a str {
+        value_of(self.line)
+    }
+
+    /// Whether a document marker is at the offset.
+    pub fn is_marker(&self) -> bool {
+        self.line.is_empty() && (self.rest.starts_with("---") || self.rest.starts_with("..."))
+    }
+}
+
+/// The last line that is not blank, and the offset at which it starts.
+fn line_above(text: &str) -> (usize, &str) {
+    let mut end = text.len();
+    for line in text.rsplit('\n') {
+        let start = end.saturating_sub(line.len());
+        if !line.trim().is_empty() {
+            return (start, line.trim_end());
+        }
+        end = start.saturating_sub(1);
+    }
+    (0, "")
+}
+
+/// A line without its indentation, its dashes and its first key.
+pub fn value_of(line: &str) -> &str {
+    let mut text = line.trim_start();
+    if let Some(at) = text.find(": ") {
+        text = text.get(at.saturating_add(1)..).unwrap_or("").trim_start();
+    }
+    text.trim_start_matches("- ").trim_start()
+}
+
+/// How many spaces a line begins with.
+pub fn indent_of(line: &str) -> usize {
+    line.len()
+        .saturating_sub(line.trim_start_matches(' ').len())
+}
+
+/// How deep the first node of a line is, behind the indicators of items.
+pub fn depth(line: &str) -> usize {
+    line.len()
+        .saturating_sub(line.trim_start_matches([' ', '-']).len())
+}
+
+/// Whether a line is an entry of a block mapping or an item of a block sequence.
+pub fn is_entry(line: &str) -> bool {
+    let text = line.trim();
+    text.contains(": ") || text.ends_with(':') || text.starts_with("- ") || text == "-"
+}
+
+/// A line without the comment behind a space, if there is one.
+pub fn uncommented(line: &str) -> &str {
+    line.split(" #").next().unwrap_or(line).trim()
+}
+
+/// Whether a line ends with the header of a block scalar.
+pub fn is_header(line: &str) -> bool {
+    let text = uncommented(line);
+    let text = text.trim_end_matches(['+', '-', '1', '2', '3', '4', '5', '6', '7', '8', '9']);
+    let is_mark = text.ends_with(['|', '>']);
+    is_mark && (text.len() == 1 || text.ends_with(" |") || text.ends_with(" >"))
+}
