@@ -54,10 +54,27 @@ def costs(run):
     yield from worst_of("canon rejected", rejected)
 
 
+class Thinned(io.TextIOBase):
+    """Passes on one line in SEVERAL."""
+
+    def __init__(self, out):
+        super().__init__()
+        self.out, self.line, self.count = out, "", 0
+
+    def write(self, text):
+        self.line += text
+        if self.line.endswith("\n"):
+            self.count += 1
+            if self.count % SEVERAL == 0:
+                self.out.write(f"report: costs: {self.line}")
+            self.line = ""
+        return len(text)
+
+
 def costs_of(kind, names, asked):
-    """The costs of bench/cost.py, whose lines for each text are left out."""
+    """The costs of bench/cost.py, which prints a line for each text."""
     say(f"costs: {kind}")
-    with contextlib.redirect_stderr(io.StringIO()):
+    with contextlib.redirect_stderr(Thinned(sys.stderr)):
         return costs_of_shapes.costs_of(kind, names, asked)
 
 

@@ -1,7 +1,7 @@
 """picture.py: docs/using/performance.svg: for each text the time of `canon` for that of libyaml's parser, and its peak memory."""
 from .page import TEXTS
 
-WIDTH, LEFT, GAP, TOP, STEP, BAR = 330, 300, 60, 52, 30, 16
+WIDTH, LEFT, GAP, TOP, STEP, BAR = 330, 330, 60, 52, 30, 16
 TIME, MEMORY, LINE = "#0b62a4", "#1b9e77", "#444"
 
 
@@ -43,8 +43,8 @@ def picture(results):
     if not rows:
         return ""
     most = max(max(row[1], row[2][1] if row[2] else 0) for row in rows)
-    panels = Panel(LEFT, "time of canon for that of libyaml's parser", TIME, max(1, most)), \
-        Panel(LEFT + WIDTH + GAP, "peak memory for the size of the text", MEMORY, max(row[3] or 0 for row in rows))
+    panels = Panel(LEFT, "time of canon / time of libyaml's parser", TIME, max(1, most)), \
+        Panel(LEFT + WIDTH + GAP, "peak memory / size of the text", MEMORY, max(row[3] or 0 for row in rows))
     height, width = TOP + STEP * len(rows) + 10, LEFT + 2 * WIDTH + GAP + 30
     lines = [f'<svg xmlns="http://www.w3.org/2000/svg" viewBox="0 0 {width} {height}" font-family="sans-serif" font-size="12">',
              f'<rect width="{width}" height="{height}" fill="white"/>', *(line for panel in panels for line in panel.axis(height - 10))]

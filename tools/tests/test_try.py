@@ -54,6 +54,10 @@ class Try(unittest.TestCase):
         status, lines, _ = self.run_with(RT, "faults", given=b"{a: 1}\n")
         self.assertEqual((status, lines[0], lines[-3:]), (2, f"{TOP}/crates/yaml_review", ["--", "faults", "{a: 1}"]))
 
+    def test_help_reads_no_input(self):
+        _, lines, _ = self.run_with(RT, "diff", "--help", given=b"not asked for")
+        self.assertEqual(lines[-3:], ["--", "diff", "--help"])
+
     def test_names_in_a_list(self):
         _, lines, _ = self.run_with(RT, "sum", "--files-from", "-", given=b"sub/a.yaml\n")
         self.assertIn(f"sub/a.yaml={os.path.realpath(self.here)}/sub/a.yaml", lines)
