@@ -1,5 +1,5 @@
 -- What a plain text is in YAML 1.1, and where the core schema of YAML 1.2 (1.2.2, 10.3.2) reads it otherwise. The patterns are those by which PyYAML resolves a plain scalar, in its order: bool, float, int, merge, null, timestamp, value. Two things are otherwise: `y` and `n` are a bool too, as YAML 1.1 has it, and `<<` is a merge as a key alone. A pattern is in the line above its definition. A `[..]*` or `[..]+` takes as much as there is: what follows it begins with another byte.
-use Rattle.std.specs.Prelude.{◌≡◌, ◌⊎◌, ◌×◌, ◌==◌, ◌||◌, ◌&&◌, ◌+◌, ◌*◌, ◌-◌, ℕ, Bool, true, false, not, cond, if◌then◌else◌, List, [], ◌∷◌, codes, Option, Some, None, IfSome, bytes_eq, unwrap_or}
+use Rattle.std.specs.Prelude.{◌≡◌, ◌⊎◌, ◌==◌, ◌||◌, ◌&&◌, ◌+◌, ◌*◌, ◌-◌, ℕ, Bool, true, false, not, cond, if◌then◌else◌, List, [], ◌∷◌, codes, Option, Some, None, IfSome, bytes_eq, unwrap_or}
 use Rattle.std.specs.List.{list_all, list_any, ends_with}
 use Rattle.yaml_content.specs.declared.kind.PlainKind.{PlainKind}
 use Rattle.yaml_content.specs.declared.kind.PlainKind.TheVariants as plain
