@@ -163,7 +163,7 @@ pub static OTHERS: [Row; 9] = [
         left: b"%YAML 1.1\n--- a\n",
         right: b"",
         status: 2,
-        out: "left:1:1: 9 BadDirective at byte 0: this reader is of YAML 1.2: without this line `yes`, `no`, `on` and `off` are strings, `012` is 12 and `<<` is a key like others (`yamlreview warn` shows where)\n%YAML 1.1\n^\n",
+        out: "left:1:1: 9 BadDirective at byte 0: this reader reads YAML 1.2: without this line `yes`, `no`, `on` and `off` are strings, `012` is 12 and `<<` is an ordinary key (`yamlreview warn` shows where)\n%YAML 1.1\n^\n",
         err: "",
     },
     Row {

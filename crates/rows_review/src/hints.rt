@@ -228,11 +228,11 @@ static LINES: [Slip; 74] = [
     ),
     (
         b"a: , b\n",
-        "a comma parts the items of `[ ]` and the entries of `{ }` alone: remove it, or quote the value",
+        "a comma only separates items of `[ ]` and entries of `{ }`: remove it, or quote the value",
     ),
     (
         b"\"a\": \"b\",\n\"c\": \"d\"\n",
-        "a comma parts the items of `[ ]` and the entries of `{ }` alone: remove it, or quote the value",
+        "a comma only separates items of `[ ]` and entries of `{ }`: remove it, or quote the value",
     ),
     (
         b"a: [1}\n",
@@ -252,11 +252,11 @@ static LINES: [Slip; 74] = [
     ),
     (
         b"a: [b, , c]\n",
-        "a comma comes behind an item or an entry: remove it",
+        "a comma comes after an item or an entry: remove it",
     ),
     (
         b"a: [, b]\n",
-        "a comma comes behind an item or an entry: remove it",
+        "a comma comes after an item or an entry: remove it",
     ),
     (
         b"a: [\"b, c]\nd: 1\n",

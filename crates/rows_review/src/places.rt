@@ -85,12 +85,12 @@ pub static ROWS: [Row; 12] = [
         err: "",
     },
     Row {
-        name: "no more lines than were asked for",
+        name: "no line if none is asked for",
         words: &["diff", "--format=json", "--lines=0", "left", "right"],
         left: DEPLOYMENT_LEFT,
         right: DEPLOYMENT_RIGHT,
         status: 1,
-        out: "{\"kind\":\"changed\",\"left\":\"!!int \\\"2\\\"\",\"left_place\":{\"column\":13,\"line\":6},\"path\":\"0.spec.replicas\",\"right\":\"!!int \\\"3\\\"\",\"right_place\":{\"column\":19,\"line\":4}}\n{\"kind\":\"more\"}\n",
+        out: "",
         err: "",
     },
     Row {

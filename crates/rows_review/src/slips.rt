@@ -194,11 +194,11 @@ pub static NODES: [Slip; 88] = [
     ),
     (
         b"a: & b\n",
-        "an anchor has a name behind its `&`: quote a value that starts with `&`",
+        "an anchor has a name after its `&`: quote a value that starts with `&`",
     ),
     (
         b"a: &\n",
-        "an anchor has a name behind its `&`: quote a value that starts with `&`",
+        "an anchor has a name after its `&`: quote a value that starts with `&`",
     ),
     (b"a: *\n", "quote a value that starts with `*`"),
     (
@@ -262,11 +262,11 @@ pub static NODES: [Slip; 88] = [
     ),
     (
         b"%YAML 1.1\n---\na: 1\n",
-        "this reader is of YAML 1.2: without this line `yes`, `no`, `on` and `off` are strings, `012` is 12 and `<<` is a key like others (`yamlreview warn` shows where)",
+        "this reader reads YAML 1.2: without this line `yes`, `no`, `on` and `off` are strings, `012` is 12 and `<<` is an ordinary key (`yamlreview warn` shows where)",
     ),
     (
         b"%YAML 2.0\n---\na: 1\n",
-        "this reader is of YAML 1.2: write `%YAML 1.2`, or remove the line",
+        "this reader reads YAML 1.2: write `%YAML 1.2`, or remove the line",
     ),
     (
         b"%YAML 1.2\n%YAML 1.2\n---\na: 1\n",
@@ -274,11 +274,11 @@ pub static NODES: [Slip; 88] = [
     ),
     (
         b"%FOO bar\na: 1\n",
-        "a line `---` is missing behind the directives",
+        "a line `---` is missing after the directives",
     ),
     (
         b"%YAML 1.2\na: 1\n",
-        "a line `---` is missing behind the directives",
+        "a line `---` is missing after the directives",
     ),
     (
         b"a: \"C:\\Users\\x\"\n",
@@ -320,7 +320,7 @@ pub static NODES: [Slip; 88] = [
         b"a: !! y\n",
         "this is no tag: a local one is `!name`, a full one `!<URI>`",
     ),
-    (b"a: !Sub[x]\n", "a space is missing behind the tag"),
+    (b"a: !Sub[x]\n", "a space is missing after the tag"),
     (
         b"a: !x - b\n",
         "a block sequence starts on the line after its anchor or tag",

@@ -1,5 +1,5 @@
 -- What a plain text is in YAML 1.1, and where the core schema of YAML 1.2 (1.2.2, 10.3.2) reads it otherwise. The patterns are those by which PyYAML resolves a plain scalar, in its order: bool, float, int, merge, null, timestamp, value. Two things are otherwise: `y` and `n` are a bool too, as YAML 1.1 has it, and `<<` is a merge as a key alone. A pattern is in the line above its definition. A `[..]*` or `[..]+` takes as much as there is: what follows it begins with another byte.
-use Rattle.std.specs.Prelude.{◌≡◌, ◌⊎◌, ◌×◌, ◌==◌, ◌||◌, ◌&&◌, ◌+◌, ◌*◌, ◌-◌, ℕ, Bool, true, false, not, cond, if◌then◌else◌, List, [], ◌∷◌, codes, Option, Some, None, IfSome, bytes_eq, unwrap_or}
+use Rattle.std.specs.Prelude.{◌≡◌, ◌==◌, ◌||◌, ◌&&◌, ◌+◌, ◌*◌, ◌-◌, ℕ, Bool, true, false, not, cond, if◌then◌else◌, List, [], ◌∷◌, codes, Option, Some, None, IfSome, bytes_eq, unwrap_or}
 use Rattle.std.specs.List.{list_all, list_any, ends_with}
 use Rattle.yaml_content.specs.declared.kind.PlainKind.{PlainKind}
 use Rattle.yaml_content.specs.declared.kind.PlainKind.TheVariants as plain
@@ -168,12 +168,23 @@ older_of x is_key =
     else if trailing_zero (unsigned x) then Some olders.Shorter
     else None
 
--- by the patterns of base 60 and of timestamps, of which nothing is said here
+-- by the patterns of base 60 and of timestamps, of which nothing else is said here
+abbrev pub is_timed : Kind → Bool
+is_timed kinds.Int = true
+is_timed kinds.Float = true
+is_timed kinds.Timestamp = true
+is_timed _ = false
+
 abbrev pub IsTimed : Option Kind → Type 0
-IsTimed told = IfSome told (λ kind. (kind ≡ kinds.Int) ⊎ ((kind ≡ kinds.Float) ⊎ (kind ≡ kinds.Timestamp)))
+IsTimed told = IfSome told (λ kind. is_timed kind ≡ true)
+
+-- a string by the core schema
+abbrev pub is_timed_warning : Kind → Older → Bool
+is_timed_warning kinds.Str (olders.Kinds kinds.Str there) = is_timed there
+is_timed_warning _ _ = false
 
 abbrev pub IsTimedWarning : Kind → Option Older → Type 0
-IsTimedWarning here told = IfSome told (λ why. (here ≡ kinds.Str) × ((why ≡ olders.Kinds kinds.Str kinds.Int) ⊎ ((why ≡ olders.Kinds kinds.Str kinds.Float) ⊎ (why ≡ olders.Kinds kinds.Str kinds.Timestamp))))
+IsTimedWarning here told = IfSome told (λ why. is_timed_warning here why ≡ true)
 
 -- The warning is the one of the patterns; a string by both is none, or by these others.
 abbrev pub IsOlder : Option Older → Kind → Option Older → Type 0

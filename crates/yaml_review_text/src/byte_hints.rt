@@ -53,11 +53,11 @@ pub fn escape_words(behind: &str) -> &'static str {
 pub fn directive_words(before: &str, behind: &str) -> &'static str {
     let line = behind.split('\n').next().unwrap_or("").trim_end();
     if line.starts_with("%YAML 1.1") {
-        "this reader is of YAML 1.2: without this line `yes`, `no`, `on` and `off` are strings, `012` is 12 and `<<` is a key like others (`yamlreview warn` shows where)"
+        "this reader reads YAML 1.2: without this line `yes`, `no`, `on` and `off` are strings, `012` is 12 and `<<` is an ordinary key (`yamlreview warn` shows where)"
     } else if line.starts_with("%YAML 1.2") && before.contains("%YAML") {
         "a document has one `%YAML` line at most: remove it"
     } else if line.starts_with("%YAML") {
-        "this reader is of YAML 1.2: write `%YAML 1.2`, or remove the line"
+        "this reader reads YAML 1.2: write `%YAML 1.2`, or remove the line"
     } else if line.starts_with("%TAG") && line.split(' ').count() < 3 {
         "a `%TAG` line has a handle and a prefix, as `%TAG !e! tag:example.com,2000:`"
     } else {

@@ -24,7 +24,7 @@ pub fn node_hint(spot: &Spot<'_>) -> Hint {
     Hint::Text(next_words(spot))
 }
 
-/// What is wrong with a block scalar's header, or with the line behind it.
+/// What is wrong with a block scalar's header, or with the line after it.
 fn block_words(spot: &Spot<'_>) -> Option<&'static str> {
     if is_header(spot.line) && !spot.rest.is_empty() {
         return Some(match spot.next() {
@@ -69,9 +69,9 @@ fn value_words(spot: &Spot<'_>) -> Option<&'static str> {
     } else if value.starts_with('*') {
         Some("quote a value that starts with `*`")
     } else if value.trim_end() == "&" {
-        Some("an anchor has a name behind its `&`: quote a value that starts with `&`")
+        Some("an anchor has a name after its `&`: quote a value that starts with `&`")
     } else if value.starts_with('!') && !value.contains(' ') && spot.rest.starts_with(['[', '{']) {
-        Some("a space is missing behind the tag")
+        Some("a space is missing after the tag")
     } else if spot.next() == Some('-') && spot.rest.starts_with("- ") {
         dash_words(spot)
     } else if spot.next() == Some(':') && spot.line.starts_with("--- ") {
@@ -110,7 +110,7 @@ fn first_hint(spot: &Spot<'_>) -> Hint {
         Some('@' | '`') => PLAIN,
         Some(']' | '}' | ',') => closing_words(spot),
         Some('&' | '*' | '!') => ONE_EACH,
-        _ if above.starts_with('%') => "a line `---` is missing behind the directives",
+        _ if above.starts_with('%') => "a line `---` is missing after the directives",
         _ if above.ends_with([']', '}']) && indent_of(spot.whole) == 0 => document_words(spot),
         Some('-') if has_value(above) => {
             "the key above has a value: a sequence is the value of a key that has none"
@@ -125,10 +125,10 @@ fn first_hint(spot: &Spot<'_>) -> Hint {
     })
 }
 
-/// Of a line behind a whole flow collection.
+/// Of a line after a whole flow collection.
 fn document_words(spot: &Spot<'_>) -> &'static str {
     if spot.above.starts_with('[') && spot.rest.contains('=') {
-        "this looks like TOML or INI: it is no YAML"
+        "this looks like TOML or INI, and is not YAML"
     } else {
         "the document ends above: the next one begins with a line `---`"
     }
@@ -154,13 +154,13 @@ fn has_value(line: &str) -> bool {
 fn closing_words(spot: &Spot<'_>) -> &'static str {
     match spot.next() {
         Some(',') =>
-            "a comma parts the items of `[ ]` and the entries of `{ }` alone: remove it, or quote the value",
+            "a comma only separates items of `[ ]` and entries of `{ }`: remove it, or quote the value",
         Some(']') => "no bracket is open here: remove it, or quote the value",
         _ => "no brace is open here: remove it, or quote the value",
     }
 }
 
-/// Of a fault behind other characters of its line.
+/// Of a fault after other characters of its line.
 fn next_words(spot: &Spot<'_>) -> &'static str {
     match spot.next() {
         None | Some('\n' | '\r') => "this line is no entry: its key has no `:`",

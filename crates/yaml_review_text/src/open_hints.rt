@@ -68,7 +68,7 @@ fn flow_hint(spot: &Spot<'_>, bracket: Opened) -> Option<Hint> {
     let before = spot.before.trim_end();
     match spot.next() {
         Some(',') if before.ends_with([',', '[', '{']) => {
-            Some(Hint::Text("a comma comes behind an item or an entry: remove it"))
+            Some(Hint::Text("a comma comes after an item or an entry: remove it"))
         }
         Some(']') if bracket.mark == b'{' => Some(Hint::Opened(bracket, "is closed by a bracket")),
         Some('}') if bracket.mark == b'[' => Some(Hint::Opened(bracket, "is closed by a brace")),

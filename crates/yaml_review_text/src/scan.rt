@@ -20,12 +20,12 @@ enum Mode {
     /// In a plain scalar that starts at this offset.
     Plain(usize),
     Double(Opened),
-    /// Behind a backslash between double quotes.
+    /// After a backslash between double quotes.
     Escape(Opened),
     Single(Opened),
-    /// Behind a quote that ends a single-quoted scalar, if none follows it.
+    /// After a quote that ends a single-quoted scalar, if none follows it.
     SingleEnd(Opened),
-    /// Behind a quoted scalar or a flow collection.
+    /// After a quoted scalar or a flow collection.
     Behind,
     /// In an anchor or a tag.
     Property,
@@ -43,7 +43,7 @@ pub struct Scan {
     mode: Mode,
     flow: Vec<Opened>,
     line_start: usize,
-    /// Where the first node of this line behind its `-` and `?` starts.
+    /// Where the first node of this line after its `-` and `?` starts.
     node: Option<usize>,
     floor: usize,
     last: u8,
@@ -105,7 +105,7 @@ impl Scan {
         Opened { at, mark, floor }
     }
 
-    /// Behind the indicator of an entry, whose column a node below it is deeper than.
+    /// After the indicator of an entry: a node below it is indented more than its column.
     fn enter(&mut self) {
         if self.flow.is_empty() {
             if let Some(node) = self.node {
@@ -209,7 +209,7 @@ impl Scan {
         Ok(())
     }
 
-    /// Behind a node that its own end has ended.
+    /// After a node that a character of its own has ended.
     fn behind(&mut self, byte: u8) -> Result<(), Fault> {
         match byte {
             b']' | b'}' => {
@@ -224,7 +224,7 @@ impl Scan {
         Ok(())
     }
 
-    /// At the start of a line behind a block scalar's header.
+    /// At the start of a line after a block scalar's header.
     fn block(&mut self, at: usize, byte: u8) -> Result<(), Fault> {
         if byte == b' ' || byte == b'\r' {
             return Ok(());

@@ -97,7 +97,7 @@ pub fn indent_of(line: &str) -> usize {
         .saturating_sub(line.trim_start_matches(' ').len())
 }
 
-/// How deep the first node of a line is, behind the indicators of items.
+/// How deep the first node of a line is, after the indicators of items.
 pub fn depth(line: &str) -> usize {
     line.len()
         .saturating_sub(line.trim_start_matches([' ', '-']).len())
@@ -109,7 +109,7 @@ pub fn is_entry(line: &str) -> bool {
     text.contains(": ") || text.ends_with(':') || text.starts_with("- ") || text == "-"
 }
 
-/// A line without the comment behind a space, if there is one.
+/// A line without the comment after a space, if there is one.
 pub fn uncommented(line: &str) -> &str {
     line.split(" #").next().unwrap_or(line).trim()
 }

@@ -79,7 +79,7 @@ impl Older {
     }
 }
 
-/// The bytes behind the first one, if that is of a set.
+/// The bytes after the first one, if that is of a set.
 pub(crate) fn behind_one<'a>(text: &'a [u8], set: &[u8]) -> Option<&'a [u8]>
     ensures { option_map (λ rest. rest.now) result ≡ after_one set.now text.now }
 {
@@ -124,7 +124,7 @@ fn behind_all<'a>(text: &'a [u8], set: &[u8]) -> &'a [u8]
     rest
 }
 
-/// Whether digits behind a zero are another number in base 8 than in base 10: two are left behind all zeros.
+/// Whether digits after a zero are another number in base 8 than in base 10: two follow all its zeros.
 fn is_octal(text: &[u8]) -> bool
     ensures { result ≡ octal text.now }
 {
