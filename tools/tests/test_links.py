@@ -37,7 +37,12 @@ class Links(unittest.TestCase):
         self.assertEqual(len(self.faults(README="# Here\n[a](#here-1)\n")), 1)
 
     def test_line_of_a_file(self):
-        self.assertEqual(len(self.faults(README="[a](b.txt.md#L3)", b="x\n")), 1)
+        with tempfile.TemporaryDirectory() as folder:
+            write(folder, README="[a](lib.rt#L2) [a](lib.rt#L9) [a](lib.rt#name)")
+            with open(f"{folder}/lib.rt", "w", encoding="utf-8") as file:
+                file.write("one\ntwo\n")
+            _, said = run(LINKS.main, folder)
+        self.assertEqual(said.splitlines(), ["README.md:1: lib.rt#L9: lib.rt has no line 9", "README.md:1: lib.rt#name: lib.rt is no page with headings"])
 
     def test_absolute_path_and_path_out_of_the_repository(self):
         self.assertEqual(len(self.faults(README="[a](/b.md) [c](../c.md)", b="x\n")), 2)
