@@ -2,8 +2,8 @@
 
 The form for more than ten million files: each batch is written by its worker as one file of FOLDER/rows, which all workers
 reach, and nothing but the names, and the digests with their counts, goes through the scheduler or to here. FOLDER/groups.csv
-then has each digest that more than one file has. Scheduler and workers are started as for dask_job.py; a batch that was written
-is not computed again.
+then has each digest that more than one file has. Scheduler and workers are started as for dask_job.py. A batch that was written
+by the same library is not computed again: begin another FOLDER where files have changed.
 """
 
 import argparse
@@ -16,12 +16,12 @@ import dask.bag
 from distributed import Client
 
 from yamlcanon.many import batches, names
-from yamlcanon.table import DONE, rows
+from yamlcanon.table import DONE, library_key, rows
 
 
 def part(paths, folder, within):
     """Writes the rows of a batch, and gives the digest of each file that has one."""
-    key = hashlib.sha256("\0".join([within, *paths]).encode("utf-8", "surrogateescape")).hexdigest()[:32]
+    key = hashlib.sha256("\0".join([library_key(), within, *paths]).encode("utf-8", "surrogateescape")).hexdigest()[:32]
     name = os.path.join(folder, key + ".csv")
     if not os.path.exists(name):
         own = f"{name}.{os.getpid()}"

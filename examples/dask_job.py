@@ -26,7 +26,7 @@ from distributed.comm import CommClosedError
 from distributed.scheduler import KilledWorker
 
 from yamlcanon.many import Progress, batches, finish, names, say
-from yamlcanon.table import UNREAD, OtherVersion, Row, Table, rows
+from yamlcanon.table import UNREAD, OtherLibrary, Row, Table, library_key, rows
 
 FAILED = 3
 BATCH = 256
@@ -35,9 +35,10 @@ WITHOUT_WORKERS = 60
 
 
 def rows_in(folder, paths):
-    """The rows of a batch. A name that is relative is so to the client's folder, which is not the worker's."""
+    """The key of the worker's library, and the rows of a batch. A name that is relative is so to the client's folder, which is not
+    the worker's."""
     found = rows([os.path.join(folder, path) for path in paths])
-    return [one._replace(path=path) for path, one in zip(paths, found)]
+    return library_key(), [one._replace(path=path) for path, one in zip(paths, found)]
 
 
 class Job:
@@ -65,7 +66,10 @@ class Job:
         for future in self.answers:
             batch = self.batch_of.pop(future)
             try:
-                yield future.result()
+                key, found = future.result()
+                if key != library_key():
+                    raise OtherLibrary(f"a worker has the library {key}, and this is {library_key()}")
+                yield found
             except KilledWorker:
                 if len(batch) > 1:
                     self.give(batch[::2])
@@ -103,8 +107,8 @@ def main():
     words.add_argument("--ahead", type=int, default=2000, metavar="N", help="batches given to the scheduler at a time")
     try:
         return run(words.parse_args())
-    except OtherVersion as fault:
-        say(f"{fault}: begin another table")
+    except OtherLibrary as fault:
+        say(f"{fault}: begin another table, with one library everywhere")
     except (CancelledError, CommClosedError, TimeoutError, OSError) as fault:
         say(f"the scheduler or its workers are gone: the same command goes on from here ({type(fault).__name__})")
     return FAILED

@@ -13,9 +13,10 @@ import unittest
 import yamlcanon
 from yamlcanon import table
 from yamlcanon.many import change, names, shown
-from yamlcanon.table import Judge, OtherVersion, Row, Table, keep, packed, rows
+from yamlcanon.table import Judge, OtherLibrary, Row, Table, keep, library_key, packed, rows
 from yamlcanon.workers import Killed, Workers
 
+HERE = os.path.dirname(os.path.realpath(__file__))
 ODD = b"a \\ b\nc\xff.yaml"
 # A command finds the module where these tests have found it.
 ENVIRONMENT = {**os.environ, "PYTHONPATH": os.path.dirname(os.path.dirname(os.path.realpath(yamlcanon.__file__)))}
@@ -37,13 +38,35 @@ class Folder(unittest.TestCase):
             file.write(data)
         return os.fsdecode(path)
 
-    def command(self, *words, given=b""):
+    def command(self, *words, given=b"", library=None):
+        env = {**ENVIRONMENT, "YAMLCANON_LIBRARY": library} if library else ENVIRONMENT
         return subprocess.run(
-            [sys.executable, "-m", "yamlcanon.many", *words], input=given, capture_output=True, cwd=self.room, env=ENVIRONMENT, timeout=120
+            [sys.executable, "-m", "yamlcanon.many", *words], input=given, capture_output=True, cwd=self.room, env=env, timeout=120
         )
 
-    def filled(self, table_name, paths, *words):
-        return self.command(table_name, "--jobs", "2", *words, given=b"".join(os.fsencode(path) + b"\0" for path in paths))
+    def filled(self, table_name, paths, *words, library=None):
+        given = b"".join(os.fsencode(path) + b"\0" for path in paths)
+        return self.command(table_name, "--jobs", "2", *words, given=given, library=library)
+
+    def changed(self, name, *statements):
+        """Does to a database what this module would not, and gives its file's bytes."""
+        base = sqlite3.connect(os.path.join(self.room, name))
+        for statement in statements:
+            base.execute(statement)
+        base.commit()
+        base.close()
+        return self.read(name)
+
+    def read(self, name):
+        with open(os.path.join(self.room, name), "rb") as file:
+            return file.read()
+
+    def other_library(self):
+        """A library of the same version with other bytes, as a later release is."""
+        other = os.path.join(self.room, "later.so")
+        with open(yamlcanon._library_file, "rb") as file, open(other, "wb") as copy:
+            copy.write(file.read() + b"later")
+        return other
 
     def table(self, name):
         opened = Table(os.path.join(self.room, name))
@@ -173,14 +196,14 @@ class Caches(Folder):
         self.assertEqual(self.judged(path, cache), 0)
         self.assertEqual(rows([path], cache), rows([path]))
 
-    def test_what_another_version_answered_is_not_taken(self):
+    def test_what_another_library_answered_is_not_taken(self):
         path, cache = self.write("a.yaml", b"a: 1"), os.path.join(self.room, "cache.db")
         filled = self.table("table.db")
         filled.add(rows([path]))
-        filled.version += 1
+        filled.key += "0"
         keep(cache, filled)
         self.assertEqual(self.judged(path, cache), 1)
-        with self.assertRaises(OtherVersion):
+        with self.assertRaises(OtherLibrary):
             filled.missing([path])
 
     def test_contents_that_the_cache_has_are_not_asked_for(self):
@@ -337,7 +360,72 @@ class Runs(Folder):
             self.assertEqual(self.filled(name, self.paths, "--cache", "cache.db").returncode, 0)
         self.assertEqual(self.table("1.db").checksum(), self.table("2.db").checksum())
         held = sqlite3.connect(os.path.join(self.room, "cache.db")).execute("SELECT count(*), min(version) FROM meaning").fetchone()
-        self.assertEqual(held, (8, yamlcanon.library_version()))
+        self.assertEqual(held, (8, library_key()))
+
+
+class Libraries(Folder):
+    """A later release of the library, whose version is the same, accepts what an earlier one has rejected."""
+
+    REJECT = "SET status = 2, digest = NULL, number = 4, message = '4 Syntax at byte 0'"
+
+    def setUp(self):
+        super().setUp()
+        self.paths, self.later = [self.write("a.yaml", b"a: 1")], self.other_library()
+
+    def test_a_cache_of_another_library_is_not_taken(self):
+        self.assertEqual(self.filled("1.db", self.paths, "--cache", "cache.db").returncode, 0)
+        self.changed("cache.db", "UPDATE meaning " + self.REJECT)
+        self.assertEqual(self.filled("2.db", self.paths, "--cache", "cache.db").returncode, 1)
+        got = self.filled("3.db", self.paths, "--cache", "cache.db", library=self.later)
+        self.assertEqual((got.returncode, b"1 done, 0 refused" in got.stderr), (0, True), got.stderr)
+
+    def test_a_table_of_another_library_is_not_gone_on_with(self):
+        self.filled("1.db", self.paths)
+        got = self.filled("1.db", [*self.paths, self.write("b.yaml", b"b")], library=self.later)
+        self.assertEqual((got.returncode, b"begin another table" in got.stderr), (3, True), got.stderr)
+
+    def test_drift_between_two_libraries_says_so(self):
+        self.filled("1.db", self.paths)
+        self.changed("1.db", "UPDATE file " + self.REJECT)
+        self.filled("2.db", self.paths, library=self.later)
+        got = self.command("--drift", "1.db", "2.db")
+        self.assertEqual((got.returncode, got.stdout), (1, b"accepted\t" + os.fsencode(self.paths[0]) + b"\n"))
+        self.assertIn(b"1.db is of the library " + library_key().encode() + b", and 2.db of form1 ", got.stderr)
+        got = self.command("--drift", "2.db", "1.db")
+        self.assertEqual((got.returncode, got.stdout), (1, b"refused\t" + os.fsencode(self.paths[0]) + b"\n"))
+
+    def test_drift_between_two_forms_is_not_told(self):
+        self.filled("1.db", self.paths)
+        self.filled("2.db", self.paths)
+        for key in ("form2 2.0 0", "100"):
+            self.changed("2.db", f"UPDATE library SET version = '{key}'")
+            got = self.command("--drift", "1.db", "2.db")
+            self.assertEqual((got.returncode, got.stdout, key.encode() in got.stderr), (3, b"", True))
+
+    def test_a_bag_of_another_library_is_not_taken(self):
+        bag = os.path.join(os.path.dirname(os.path.dirname(HERE)), "examples", "dask_bag.py")
+        if not os.path.exists(bag):
+            self.skipTest("the examples are not here")
+        got = []
+        for library in (yamlcanon._library_file, self.later):
+            words = [sys.executable, "-c", BAG, bag, self.room, *self.paths]
+            done = subprocess.run(words, capture_output=True, env={**ENVIRONMENT, "YAMLCANON_LIBRARY": library}, timeout=120)
+            self.assertEqual((done.returncode, done.stdout.count(b"\n")), (0, 1), done.stderr)
+            got.append({name for name in os.listdir(self.room) if name.endswith(".csv")})
+        self.assertEqual([len(names) for names in got], [1, 2])
+
+
+# A batch of examples/dask_bag.py, where dask is not installed.
+BAG = """
+import importlib.util, sys, types
+for name in ("dask", "dask.bag", "distributed"):
+    sys.modules[name] = types.ModuleType(name)
+sys.modules["distributed"].Client = None
+spec = importlib.util.spec_from_file_location("dask_bag", sys.argv[1])
+bag = importlib.util.module_from_spec(spec)
+spec.loader.exec_module(bag)
+print(bag.part(sys.argv[3:], sys.argv[2], "/"))
+"""
 
 
 # The command, with a library that takes its time. It heeds an interrupt also where this test was begun by who ignores them.
@@ -405,6 +493,33 @@ class Questions(Folder):
             self.assertEqual((got.returncode, got.stderr.count(b"\n")), (3, 1), got.stderr)
         got = self.filled("a.db", [self.write("a", b"a")], "--cache", "cache.db")
         self.assertEqual((got.returncode, b"Traceback" in got.stderr), (3, False), got.stderr)
+
+    def test_a_table_is_not_changed_by_a_question(self):
+        name = "a?b#c%41.db"
+        self.filled(name, [self.write(str(number), b"a: %d" % (number % 2)) for number in range(4)])
+        before, files = self.read(name), sorted(os.listdir(self.room))
+        for words in (("--duplicates", name), ("--drift", name, name)):
+            got = self.command(*words)
+            self.assertEqual((got.returncode, got.stdout.count(b"#")), (0, 2 if "--duplicates" in words else 0), got.stderr)
+        self.assertEqual((sorted(os.listdir(self.room)), self.read(name) == before), (files, True))
+
+    def test_a_table_that_is_being_filled_is_read(self):
+        filled = self.table("table.db")
+        filled.add([Row(name, 0, "d", None, None, 1, "r") for name in "ab"])
+        got = self.command("--duplicates", "table.db")
+        self.assertEqual((got.returncode, got.stdout), (0, b"# 2 files mean the same, in 1 spelling\n=\ta\n=\tb\n"), got.stderr)
+
+    def test_the_database_of_another_program_is_left_alone(self):
+        self.filled("own.db", [self.write("a", b"a")])
+        for statement in ("CREATE TABLE users (name)", "CREATE TABLE file (path)", "CREATE TABLE meaning (raw)"):
+            before = self.changed("other.db", "DROP TABLE IF EXISTS users", "DROP TABLE IF EXISTS file", statement)
+            for words, what in (
+                (("--duplicates", "other.db"), b"table"), (("--drift", "own.db", "other.db"), b"table"), (("--drift", "other.db", "own.db"), b"table"),
+                (("other.db",), b"table"), (("new.db", "--cache", "other.db"), b"cache"),
+            ):  # fmt: skip
+                got = self.command(*words, given=b"a\0")
+                self.assertEqual((got.returncode, got.stderr, got.stdout), (3, b"other.db: no %s of yamlcanon.many\n" % what, b""))
+                self.assertEqual(self.read("other.db"), before)
 
     def test_an_output_that_is_closed_ends_the_command(self):
         self.filled("table.db", [self.write(name, b"a: 1") for name in "abc"])

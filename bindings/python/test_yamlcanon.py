@@ -2,18 +2,30 @@
 
 import concurrent.futures
 import multiprocessing
+import os
 import pickle
+import shutil
+import subprocess
 import sys
+import tempfile
 import threading
 import unittest
 
+import yamlcanon
 from yamlcanon import Refused, canonical, events, library_version, same
+
+# A command finds the module where these tests have found it.
+ENVIRONMENT = {**os.environ, "PYTHONPATH": os.path.dirname(os.path.dirname(os.path.realpath(yamlcanon.__file__)))}
 
 
 def blocks(levels):
-    """Block mappings, each with a tag and an anchor on lines of their own: what takes the most stack."""
+    """Block mappings, each with a tag and an anchor on lines of their own."""
     dents = (b" " * level for level in range(levels))
     return b"".join(b"%sa:\n%s !x\n%s &y\n" % (dent, dent, dent) for dent in dents) + b" " * levels + b"x"
+
+
+# Flow mappings in one another: what takes the most stack.
+DEEPEST = b"{a: " * 1023 + b"x" + b"}" * 1023
 
 
 def answer(data):
@@ -90,12 +102,23 @@ class Calls(unittest.TestCase):
         self.assertEqual(library_version(), 100)
 
     def test_deep_inputs_on_threads_with_a_small_stack(self):
-        deep = [b"[" * 1000 + b"]" * 1000, blocks(1023), b"- " * 3000, b"{a: " * 2000]
+        deep = [b"[" * 1000 + b"]" * 1000, blocks(1023), b"- " * 3000, b"{a: " * 2000, DEEPEST]
         want = [answer(data) for data in deep]
         self.assertEqual(want[1][:4], b"--- ")
         for stack in (64 << 10, 512 << 10, 2 << 20, 0):  # 0 is the default
             self.assertEqual(on_thread(stack, lambda: [answer(data) for data in deep]), want)
             self.assertTrue(on_thread(stack, lambda: same(deep[1], deep[1])))
+
+    def test_deep_inputs_where_a_part_of_the_stack_is_used(self):
+        for stack, left in ((2 << 20, 1 << 20), (4 << 20, 1 << 20), (8 << 20, 1 << 20), (8 << 20, 6 << 20)):
+            # ctypes puts an argument on the stack twice.
+            words = [sys.executable, "-c", PARTLY_USED, str(stack), str((stack - left) // 2)]
+            done = subprocess.run(words, capture_output=True, env=ENVIRONMENT, timeout=120)
+            self.assertEqual((done.returncode, done.stdout), (0, b"True True\n"), (stack, left, done.stderr))
+
+    def test_what_is_left_of_the_stack(self):
+        left = on_thread(1 << 20, lambda: yamlcanon._thread.stack_left())
+        self.assertTrue(960 << 10 < left < 1 << 20, left)
 
     def test_many_threads_at_once(self):
         texts = [b"{a: [%d, b], c: 0x%x}" % (number, number) for number in range(200)]
@@ -128,8 +151,6 @@ class Calls(unittest.TestCase):
         self.assertTrue(inner)
 
     def test_what_a_processor_lacks_is_told(self):
-        import tempfile
-
         from yamlcanon import _lacking
 
         level = "pni ssse3 cx16 sse4_1 sse4_2 popcnt lahf_lm"
@@ -139,6 +160,76 @@ class Calls(unittest.TestCase):
                 told.flush()
                 self.assertEqual(sorted(_lacking(told.name)), lacking)
         self.assertEqual(_lacking("/nowhere/cpuinfo"), [])
+
+
+# Calls with a deep input on a thread, a part of whose stack holds an argument of so many bytes.
+PARTLY_USED = """
+import ctypes, sys, threading, yamlcanon
+stack, used = map(int, sys.argv[1:])
+deep = b"{a: " * 1023 + b"x" + b"}" * 1023
+want = yamlcanon.canonical(deep)
+class Block(ctypes.Structure):
+    _fields_ = [("bytes", ctypes.c_char * used)]
+@ctypes.CFUNCTYPE(None, Block)
+def inside(block):
+    print(yamlcanon.canonical(deep) == want, yamlcanon.same(deep, want))
+threading.stack_size(stack)
+thread = threading.Thread(target=lambda: inside(Block()))
+thread.start()
+thread.join()
+"""
+
+
+# A library of another interface, or of another form.
+OTHER = """
+#include <stdint.h>
+uint32_t yamlcanon_version(void) { return VERSION; }
+uint32_t yamlcanon_canonical(void) { return 0; }
+uint32_t yamlcanon_events(void) { return 0; }
+uint32_t yamlcanon_same(void) { return 0; }
+"""
+
+
+class Libraries(unittest.TestCase):
+    def setUp(self):
+        room = tempfile.TemporaryDirectory()
+        self.addCleanup(room.cleanup)
+        self.room = room.name
+
+    def imported(self, library):
+        """What the import of the module over a library says, in its last line."""
+        env = {**ENVIRONMENT, "YAMLCANON_LIBRARY": library}
+        done = subprocess.run([sys.executable, "-c", "import yamlcanon"], stderr=subprocess.PIPE, env=env, timeout=60)
+        return done.stderr.decode().rpartition("\n")[0].rpartition("\n")[2]
+
+    def other(self, version, form):
+        """A library that says that it has this version, and exports its names for this form."""
+        for name, text in (("other.c", OTHER), ("names.map", f"YAMLCANON_{form} {{ global: yamlcanon_*; local: *; }};\n")):
+            with open(f"{self.room}/{name}", "w", encoding="ascii") as file:
+                file.write(text)
+        words = ["cc", f"-DVERSION={version}", "-shared", "-fPIC", "-Wl,--version-script=names.map", "-o", "other.so", "other.c"]
+        subprocess.run(words, check=True, cwd=self.room)
+        return f"{self.room}/other.so"
+
+    @unittest.skipUnless(shutil.which("cc"), "no C compiler is installed")
+    def test_another_interface_or_form_is_not_loaded(self):
+        self.assertEqual(self.imported(self.other(100, 1)), "")
+        self.assertEqual(self.imported(self.other(102, 1)), "")
+        for version, told in ((99, "0.99"), (200, "2.0"), (201, "2.1")):
+            other = self.other(version, 1)
+            needs = "of the interface, and this module needs 1.0 or a later 1.x"
+            self.assertEqual(self.imported(other), f"ImportError: yamlcanon: {other} has version {told} {needs}")
+        other = self.other(100, 2)
+        needs = "has no yamlcanon_canonical of YAMLCANON_1: this module needs a library of form 1"
+        self.assertEqual(self.imported(other), f"ImportError: yamlcanon: {other} {needs}")
+
+    def test_another_library_is_not_loaded(self):
+        told = "ImportError: yamlcanon: libc.so.6 is not libyamlcanon: it has no yamlcanon_version"
+        self.assertEqual(self.imported("libc.so.6"), told)
+
+    def test_the_file_that_was_loaded_is_known(self):
+        with open(yamlcanon._library_file, "rb") as file:
+            self.assertEqual(file.read(4), b"\x7fELF")
 
 
 if __name__ == "__main__":

@@ -12,7 +12,7 @@ Each call lets Python's lock go, holds no state, and may run on any number of th
 import ctypes
 import os
 import threading
-from ctypes import POINTER, Structure, byref, c_char, c_size_t, c_uint32, c_uint64, c_void_p
+from ctypes import POINTER, Structure, byref, c_char, c_char_p, c_size_t, c_uint32, c_uint64, c_void_p
 from typing import Any, Callable, List, Optional, Tuple, TypeVar, Union
 
 __all__ = ["Refused", "canonical", "events", "library_version", "same"]
@@ -22,6 +22,10 @@ _Answer = TypeVar("_Answer")
 
 _DONE, _DIFFERENT, _REFUSED, _SHORT = range(4)
 _OUT_OF_MEMORY = 21
+# The interface that this module calls: YAMLCANON_VERSION of the header that it was written by, of which a library may have more.
+_INTERFACE = 100
+# The form of the texts. Another form has another soname, and with it another version of each exported name.
+_FORM = 1
 # What a call on n bytes takes of the stack at most: a level of nesting 1.5 KiB, of which a byte opens at most one, up to 1,024.
 _STACK_BASE, _STACK_LEVEL, _MOST_LEVELS = 256 << 10, 1536, 1024
 # The stack of a thread to which a call is handed.
@@ -88,48 +92,108 @@ def _lacking(told: str = "/proc/cpuinfo") -> List[str]:
     return [] if flags is None else [flag for flag in _LEVEL if flag not in flags]
 
 
-def _load() -> ctypes.CDLL:
+class _Named(Structure):
+    """Dl_info: the file of an address in a library, and the name that the address has there."""
+
+    _fields_ = [("file", c_char_p), ("base", c_void_p), ("name", c_char_p), ("at", c_void_p)]
+
+
+def _file_of(lib: ctypes.CDLL, named: str) -> str:
+    """The file that a library was loaded from; what it was named by, where the system does not tell."""
+    found = _Named()
+    if hasattr(_libc, "dladdr") and _libc.dladdr(ctypes.cast(lib.yamlcanon_version, c_void_p), byref(found)) and found.file:
+        return os.path.abspath(os.fsdecode(found.file))
+    return os.path.abspath(named)
+
+
+def _interface_of(lib: ctypes.CDLL, named: str) -> int:
+    """The version of a library's interface."""
+    try:
+        lib.yamlcanon_version.restype = c_uint32
+        lib.yamlcanon_version.argtypes = []
+    except AttributeError:
+        raise ImportError(f"yamlcanon: {named} is not libyamlcanon: it has no yamlcanon_version") from None
+    return int(lib.yamlcanon_version())
+
+
+def _has_form(lib: ctypes.CDLL) -> bool:
+    """Whether a library gives texts of this module's form; true where the system has no call that tells."""
+    if not hasattr(_libc, "dlvsym"):
+        return True
+    _libc.dlvsym.restype = c_void_p
+    return bool(_libc.dlvsym(c_void_p(lib._handle), b"yamlcanon_canonical", b"YAMLCANON_%d" % _FORM))
+
+
+def _look_at(lib: ctypes.CDLL, named: str) -> str:
+    """The file of a library, if it has the interface and the form for which this module is written."""
+    found = _interface_of(lib, named)
+    file, (major, minor) = _file_of(lib, named), divmod(_INTERFACE, 100)
+    if found // 100 != major or found < _INTERFACE:
+        has = "%d.%d" % divmod(found, 100)
+        raise ImportError(f"yamlcanon: {file} has version {has} of the interface, and this module needs {major}.{minor} or a later {major}.x")
+    if not _has_form(lib):
+        raise ImportError(f"yamlcanon: {file} has no yamlcanon_canonical of YAMLCANON_{_FORM}: this module needs a library of form {_FORM}")
+    return file
+
+
+def _load() -> Tuple[ctypes.CDLL, str]:
+    """The library, and the file that it was loaded from."""
     lacking = _lacking()
     if lacking:
         raise ImportError("yamlcanon: this processor lacks %s: x86-64-v2 is needed" % ", ".join(lacking))
     beside = os.path.join(os.path.dirname(__file__), "libyamlcanon.so.1")
-    named = os.environ.get("YAMLCANON_LIBRARY")
-    lib = ctypes.CDLL(named or (beside if os.path.exists(beside) else "libyamlcanon.so.1"))
+    named = os.environ.get("YAMLCANON_LIBRARY") or (beside if os.path.exists(beside) else "libyamlcanon.so.1")
+    lib = ctypes.CDLL(named)
+    file = _look_at(lib, named)
     for call in (lib.yamlcanon_canonical, lib.yamlcanon_events):
         call.restype = c_uint32
         call.argtypes = [c_void_p, c_size_t, c_void_p, c_size_t, POINTER(c_size_t), POINTER(_Fault)]
     lib.yamlcanon_same.restype = c_uint32
     lib.yamlcanon_same.argtypes = [c_void_p, c_size_t, c_void_p, c_size_t, POINTER(_Fault)]
-    lib.yamlcanon_version.restype = c_uint32
-    lib.yamlcanon_version.argtypes = []
-    return lib
+    return lib, file
 
 
-_lib = _load()
 _libc = ctypes.CDLL(None)
+_lib, _library_file = _load()
 _starting = threading.Lock()
+# Puts the registers of this thread into memory, without letting Python's lock go; where it puts the stack pointer (REG_RSP); and more
+# bytes than it writes. On other machines what is left of the stack is not known, and each call is made on a thread of its own.
+_registers = getattr(ctypes.PyDLL(None), "getcontext", None) if os.uname().machine == "x86_64" else None
+_POINTER_AT, _REGISTERS = 160, 4096
 
 
-def _stack_bytes() -> int:
-    """How large this thread's stack is, or 0 where the system does not tell."""
+def _stack_range() -> Tuple[int, int]:
+    """The lowest address of this thread's stack and the one behind it; twice 0 where the system does not tell."""
     if not hasattr(_libc, "pthread_getattr_np"):
-        return 0
+        return 0, 0
     _libc.pthread_self.restype = c_void_p
     attributes, at, size = ctypes.create_string_buffer(256), c_void_p(), c_size_t()
     if _libc.pthread_getattr_np(c_void_p(_libc.pthread_self()), attributes):
-        return 0
+        return 0, 0
     _libc.pthread_attr_getstack(attributes, byref(at), byref(size))
     _libc.pthread_attr_destroy(attributes)
-    return size.value
+    lowest = at.value or 0
+    return lowest, lowest + size.value
 
 
 class _Thread(threading.local):
     def __init__(self) -> None:
-        self.stack = _stack_bytes()
+        self.lowest, self.end = _stack_range()
+        self.registers = ctypes.create_string_buffer(_REGISTERS)
+        self.pointer = c_uint64.from_buffer(self.registers, _POINTER_AT)
         self.room: Any = None
 
+    def stack_left(self) -> int:
+        """How many bytes of this thread's stack are left at this call, or 0 where that is not known, as on a stack that a program
+        made by itself."""
+        if _registers is None:
+            return 0
+        _registers(self.registers)
+        here = self.pointer.value
+        return here - self.lowest if self.lowest <= here < self.end else 0
+
     def has_stack_for(self, size: int) -> bool:
-        return _STACK_BASE + _STACK_LEVEL * min(size, _MOST_LEVELS) <= self.stack
+        return _STACK_BASE + _STACK_LEVEL * min(size, _MOST_LEVELS) <= self.stack_left()
 
     def take_room(self, size: int) -> Any:
         """A room that is this call's alone: a signal's handler or a finalizer may call in the midst of it."""

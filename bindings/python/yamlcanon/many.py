@@ -8,7 +8,7 @@ Names end in a null byte if there is one, else in a line feed. TABLE is an SQLit
 what could not be read is tried again: a run that was ended is gone on with by the same command. What the bytes of a file mean
 is looked up in the cache first, and kept there at the end. Status: 0; 1 if a file was refused or could not be read; 2 for
 wrong words; 3 if the run was ended from outside (Ctrl-C too), a worker was killed or wanted memory, the table is of another
-version of the library, or a table, the cache or the output can't be used.
+library, or a table, the cache or the output can't be used. A database that this command did not make is no table and no cache.
 
 --duplicates tells the files that mean the same, a group at a time and the largest first: `=` stands before those that have
 the bytes of the group's first file, `~` before those that are alike in meaning alone. Files that hold no document, as those
@@ -17,6 +17,8 @@ with nothing but comments, and files that hold one null are the last groups.
 --drift tells what became of each file between two tables: `spelling` where its bytes changed and its meaning did not,
 `meaning` where that changed, `new`, `gone`, `refused` where it is refused now, `accepted` where it was, and `unread`. Files
 that are the same are only counted. Status: 0 if no meaning changed and no file is new, gone, refused or unread now, else 1.
+Tables of two libraries are compared if both give the same form of texts. A line on standard error says so, since the newer
+library may accept more.
 
 A name is told on one line: `\\\\` stands for a backslash in it, `\\n`, `\\r` and `\\t` for the ends of lines and a tab.
 """
@@ -30,7 +32,7 @@ import time
 from typing import Any, BinaryIO, Dict, Iterator, List, NoReturn, Optional, Sequence, Tuple
 
 import yamlcanon
-from yamlcanon.table import REFUSED, UNREAD, Judge, OtherVersion, Row, Table, keep, packed
+from yamlcanon.table import REFUSED, UNREAD, Judge, NoTable, OtherLibrary, Row, Table, keep, packed
 from yamlcanon.workers import Killed, Workers
 
 _FAILED = 3
@@ -125,7 +127,7 @@ def run(name: str, data: bytes, jobs: int, batch: int, cache: Optional[str]) -> 
         if cache is not None and asked:
             keep(cache, table)
         return finish(table)
-    except OtherVersion as fault:
+    except OtherLibrary as fault:
         say(f"{fault}: begin another table")
         return _FAILED
     except Killed:
@@ -149,7 +151,7 @@ def tell_duplicates(name: str, out: BinaryIO) -> int:
     """Tells the groups of files that mean the same."""
     heads = {hashlib.sha256(yamlcanon.canonical(data)).hexdigest(): head for data, head in _HOLD_NOTHING}
     apart: List[Tuple[str, List[Tuple[str, str]]]] = []
-    for digest, group in Table(name).duplicates():
+    for digest, group in Table(name, to_read=True).duplicates():
         count = len({raw for _, raw in group})
         spellings = f"in {count} spelling{'s' if count > 1 else ''}"
         if digest in heads:
@@ -177,7 +179,8 @@ def change(old: Optional[Row], new: Optional[Row]) -> str:
         return "gone"
     if UNREAD in (old.status, new.status):
         return "unread"
-    if old.raw is not None and old.raw == new.raw:
+    # Two libraries may answer otherwise to the same bytes.
+    if old.raw is not None and (old.raw, old.status, old.digest) == (new.raw, new.status, new.digest):
         return "same"
     if new.status == REFUSED:
         return "refused"
@@ -197,10 +200,12 @@ def both(old: Table, new: Table) -> Iterator[Tuple[str, Optional[Row], Optional[
 
 def tell_drift(old_name: str, new_name: str, out: BinaryIO) -> int:
     """Tells what became of each file between two tables."""
-    old, new = Table(old_name), Table(new_name)
-    if old.version != new.version:
-        say(f"{old_name} is of version {old.version} of the library, {new_name} of {new.version}")
-        return _FAILED
+    old, new = Table(old_name, to_read=True), Table(new_name, to_read=True)
+    if old.key != new.key:
+        say(f"{old_name} is of the library {old.key}, and {new_name} of {new.key}")
+        # The first word is the form: texts of two forms differ where the meaning is the same.
+        if old.key.split()[0] != new.key.split()[0]:
+            return _FAILED
     counts: Dict[str, int] = {}
     for path, before, after in both(old, new):
         became = change(before, after)
@@ -241,6 +246,9 @@ def main(words: Optional[Sequence[str]] = None) -> int:
             parser.error(f"there is no table {name}")
     try:
         return do(given)
+    except NoTable as fault:
+        say(str(fault))
+        return _FAILED
     except sqlite3.DatabaseError as fault:
         used = [given.table, given.cache, given.duplicates, *(given.drift or [])]
         say(f"{' or '.join(name for name in used if name is not None)}: {fault}")

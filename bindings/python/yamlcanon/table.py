@@ -5,6 +5,7 @@
     packed(rows)                    the same rows in fewer values, which a process sends and a table takes in less time
     Table(path)                     rows in an SQLite file
     keep(cache, table)              adds a table's meanings to a cache, which later runs look into
+    library_key()                   names the library that answers: what another one answered is not taken for its answer
 """
 
 import errno
@@ -14,16 +15,16 @@ import sqlite3
 import stat
 import time
 from functools import lru_cache
-from itertools import chain
+from itertools import chain, groupby
 from typing import Any, Collection, Dict, Iterable, Iterator, List, NamedTuple, Optional, Sequence, Set, Tuple, Union
 
 import yamlcanon
 
-__all__ = ["DONE", "REFUSED", "UNREAD", "VERSION", "Judge", "Meaning", "OtherVersion", "Row", "Table", "keep", "packed", "rows"]
+__all__ = [
+    "DONE", "REFUSED", "UNREAD", "Judge", "Meaning", "NoTable", "OtherLibrary", "Row", "Table", "keep", "library_key", "packed", "rows",
+]  # fmt: skip
 
 DONE, REFUSED, UNREAD = 0, 2, 3
-# The library's version: what another one answered is not taken for its answer.
-VERSION = yamlcanon.library_version()
 # No input that is accepted has more bytes, so no more are read.
 _LONGEST = 67_108_864
 # How many files, and how many bytes, are held at most before the cache is asked for them, but for one file more.
@@ -36,6 +37,11 @@ _OPENED = os.O_RDONLY | os.O_NONBLOCK | os.O_CLOEXEC
 _ADDED = 128
 # For how many seconds a new table does not wait for the disk.
 _UNWAITED = 5.0
+
+# The columns by which a table and a cache are known: no other database is written to, or read as one.
+_FILE = ("path", "status", "digest", "number", "message", "size", "raw")
+_LIBRARY = ("version",)
+_MEANING = ("version", "raw", "status", "digest", "number", "message")
 
 # A row without the names of its parts, as marshal writes it.
 _Plain = Tuple[Any, ...]
@@ -64,8 +70,29 @@ class Row(NamedTuple):
     raw: Optional[str]  # SHA-256 of the file's bytes, in hex
 
 
-class OtherVersion(Exception):
-    """A table holds rows of another version of the library."""
+class OtherLibrary(Exception):
+    """A table holds rows of another library."""
+
+
+class NoTable(Exception):
+    """A database is not one that this module made."""
+
+
+@lru_cache(maxsize=None)
+def library_key() -> str:
+    """Names the library that answers, as `form1 1.0 0123456789abcdef`: the form of its texts, the version of its interface, and the
+    start of the SHA-256 of its file.
+
+    The version alone is not enough: it is 1.0 for each release 1.0.x, of which a later one may accept more, and the library has no
+    call that gives its release. The file's digest differs for each release, and also where a release was built anew: then
+    nothing is taken from the cache, which costs time alone.
+    """
+    over = hashlib.sha256()
+    with open(yamlcanon._library_file, "rb") as file:
+        for piece in iter(lambda: file.read(1 << 20), b""):
+            over.update(piece)
+    major, minor = divmod(yamlcanon.library_version(), 100)
+    return f"form{yamlcanon._FORM} {major}.{minor} {over.hexdigest()[:16]}"
 
 
 def meaning(data: bytes) -> Meaning:
@@ -131,9 +158,9 @@ class Judge:
             return
         base = _opened(self.cache)
         # Two values a row, of which SQLite's rows are made into a dictionary as they are, take half the time of five.
-        self.taken = dict(base.execute("SELECT raw, digest FROM meaning WHERE version = ? AND status = 0", (VERSION,)))
+        self.taken = dict(base.execute("SELECT raw, digest FROM meaning WHERE version = ? AND status = 0", (library_key(),)))
         others = base.execute(
-            "SELECT raw, status, digest, number, message FROM meaning WHERE version = ? AND status <> 0", (VERSION,)
+            "SELECT raw, status, digest, number, message FROM meaning WHERE version = ? AND status <> 0", (library_key(),)
         )
         self.refused = {one[0]: one[1:] for one in others}
         self.is_whole = True
@@ -193,7 +220,7 @@ class Judge:
         found = self.base.execute(
             "SELECT raw, status, digest, number, message FROM (VALUES %s) CROSS JOIN meaning ON version = ? AND raw = column1"
             % ",".join(["(?)"] * len(raws)),
-            (*raws, VERSION),
+            (*raws, library_key()),
         )
         for one in found:
             self.met[one[0]] = one[1:]
@@ -247,6 +274,25 @@ def _adding(count: int) -> str:
     return "INSERT INTO file VALUES " + ",".join(["(?, 0, ?, NULL, NULL, ?, ?)"] * count)
 
 
+def _has(base: sqlite3.Connection, table: str, columns: Tuple[str, ...], schema: str = "main") -> bool:
+    """Whether a database has a table with these columns and no others."""
+    return tuple(row[1] for row in base.execute(f"PRAGMA {schema}.table_info({table})")) == columns
+
+
+def _is_empty(base: sqlite3.Connection, schema: str = "main") -> bool:
+    return base.execute(f"SELECT 1 FROM {schema}.sqlite_master LIMIT 1").fetchone() is None
+
+
+def _opened_to_read(name: str) -> sqlite3.Connection:
+    """A database that is not changed. SQLite would put two files next to one that has a log (WAL), and leave them there, so it is
+    read as one that nobody writes, unless a file next to it shows that somebody does, or was ended while doing so."""
+    from urllib.parse import quote  # only here, since it takes its time to load
+
+    is_written = any(os.path.exists(name + end) for end in ("-wal", "-journal"))
+    where = "file:%s?mode=ro%s" % (quote(os.fsencode(os.path.abspath(name))), "" if is_written else "&immutable=1")
+    return sqlite3.connect(where, uri=True)
+
+
 def _path(stored: _Stored) -> str:
     return os.fsdecode(stored) if isinstance(stored, bytes) else stored
 
@@ -285,32 +331,50 @@ class Table:
     and one that does not yet wait may be lost: that is a new one, which has not more than some seconds of work.
     """
 
-    def __init__(self, name: str) -> None:
+    def __init__(self, name: str, to_read: bool = False) -> None:
+        """Opens a table, which is made where there is none, or one that is only read."""
         self.waits, self.since = os.path.exists(name), time.monotonic()
         self.name, self.counts = name, _Counts()
-        self.base = sqlite3.connect(name)
+        self.base = _opened_to_read(name) if to_read else sqlite3.connect(name)
+        try:
+            if to_read or not _is_empty(self.base):
+                self._look()
+            if not to_read:
+                self._begin()
+        except BaseException:
+            self.base.close()
+            raise
+        self.key = str(self.base.execute("SELECT version FROM library").fetchone()[0])
+        self.others = self._changed_by_others()
+        self.was_empty = self.base.execute("SELECT 1 FROM file LIMIT 1").fetchone() is None
+
+    def _look(self) -> None:
+        """Looks whether this module made the table."""
+        if not (_has(self.base, "file", _FILE) and _has(self.base, "library", _LIBRARY)):
+            raise NoTable(f"{self.name}: no table of yamlcanon.many")
+
+    def _begin(self) -> None:
+        """Makes what a table has, where that is not there."""
         if not self.waits:
             # Its first page is written with no journal beside it.
             self.base.execute("PRAGMA journal_mode = MEMORY")
         self.base.execute(f"PRAGMA synchronous = {'NORMAL' if self.waits else 'OFF'}")
         self.base.execute("PRAGMA journal_mode = WAL")
         with self.base:
+            # All at once: a table of which a part is missing is not known as one.
+            self.base.execute("BEGIN IMMEDIATE")
             self.base.execute(
                 "CREATE TABLE IF NOT EXISTS file (path NOT NULL, status INTEGER NOT NULL, digest TEXT, number INTEGER,"
                 " message TEXT, size INTEGER, raw TEXT)"
             )
-            self.base.execute("CREATE TABLE IF NOT EXISTS library (version INTEGER NOT NULL)")
-            has = self.base.execute("SELECT version FROM library").fetchone()
-            if has is None:
-                self.base.execute("INSERT INTO library VALUES (?)", (VERSION,))
-        self.version = has[0] if has else VERSION
-        self.others = self._changed_by_others()
-        self.was_empty = self.base.execute("SELECT 1 FROM file LIMIT 1").fetchone() is None
+            self.base.execute("CREATE TABLE IF NOT EXISTS library (version TEXT NOT NULL)")
+            if self.base.execute("SELECT 1 FROM library").fetchone() is None:
+                self.base.execute("INSERT INTO library VALUES (?)", (library_key(),))
 
     def missing(self, paths: Iterable[str]) -> List[str]:
         """Those of the paths that have no row, each once. What could not be read is tried again."""
-        if self.version != VERSION:
-            raise OtherVersion(f"{self.name} is of version {self.version} of the library, and this is {VERSION}")
+        if self.key != library_key():
+            raise OtherLibrary(f"{self.name} is of the library {self.key}, and this is {library_key()}")
         with self.base:
             self.base.execute("DELETE FROM file WHERE status = ?", (UNREAD,))
         has = {path for (path,) in self.base.execute("SELECT path FROM file")}
@@ -355,16 +419,13 @@ class Table:
 
     def duplicates(self) -> Iterator[Tuple[str, List[Tuple[str, str]]]]:
         """Each digest that more than one file has, the largest group first, with the path and the raw digest of each."""
-        groups = self.base.execute(
-            "SELECT digest FROM file WHERE status = 0 GROUP BY digest HAVING count(*) > 1 ORDER BY count(*) DESC, digest"
-        ).fetchall()
-        if groups:
-            self.base.execute("CREATE INDEX IF NOT EXISTS by_digest ON file (digest)")
-        for (digest,) in groups:
-            found = self.base.execute(
-                "SELECT path, raw FROM file WHERE digest = ? AND status = 0 ORDER BY CAST(path AS BLOB)", (digest,)
-            )
-            yield digest, [(_path(stored), raw) for stored, raw in found]
+        found = self.base.execute(
+            "SELECT file.digest, path, raw FROM file JOIN"
+            " (SELECT digest, count(*) AS files FROM file WHERE status = 0 GROUP BY digest HAVING files > 1) AS many"
+            " ON file.digest = many.digest WHERE status = 0 ORDER BY files DESC, file.digest, CAST(path AS BLOB)"
+        )
+        for digest, group in groupby(found, key=lambda row: str(row[0])):
+            yield digest, [(_path(stored), raw) for _, stored, raw in group]
 
     def _changed_by_others(self) -> int:
         """A number that changes where another connection changes the table."""
@@ -396,7 +457,7 @@ class Table:
 
 
 _CACHE = (
-    "CREATE TABLE IF NOT EXISTS cache.meaning (version INTEGER, raw TEXT, status INTEGER NOT NULL, digest TEXT, number INTEGER,"
+    "CREATE TABLE IF NOT EXISTS cache.meaning (version TEXT, raw TEXT, status INTEGER NOT NULL, digest TEXT, number INTEGER,"
     " message TEXT, PRIMARY KEY (version, raw)) WITHOUT ROWID"
 )
 
@@ -405,12 +466,14 @@ def keep(cache: str, table: Table) -> None:
     """Adds the meanings of a table to a cache, in the order of its key, in which it grows quickest."""
     table.base.execute("ATTACH ? AS cache", (cache,))
     try:
+        if not (_is_empty(table.base, "cache") or _has(table.base, "meaning", _MEANING, "cache")):
+            raise NoTable(f"{cache}: no cache of yamlcanon.many")
         with table.base:
             table.base.execute(_CACHE)
             table.base.execute(
                 "INSERT OR IGNORE INTO cache.meaning SELECT DISTINCT ?, raw, status, digest, number, message FROM file"
                 " WHERE raw IS NOT NULL AND raw NOT IN (SELECT raw FROM cache.meaning WHERE version = ?) ORDER BY raw",
-                (table.version, table.version),
+                (table.key, table.key),
             )
     finally:
         table.base.execute("DETACH cache")
