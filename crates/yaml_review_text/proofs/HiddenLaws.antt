@@ -1,5 +1,5 @@
 -- A text that is written character by character.
-use Rattle.std.proofs.Common.{◌≡◌, ℕ, List, [], ◌∷◌, ◌++◌, sym, ◌∙◌, ap}
+use Rattle.std.proofs.Common.{◌≡◌, ℕ, List, [], ◌++◌, sym, ◌∙◌, ap}
 use Rattle.std.specs.List.{flat_map}
 use Rattle.std.specs.Char.{encode_utf8}
 use Rattle.std.specs.Str.{IsUtf8, chars, encode_utf8_all}
@@ -17,3 +17,6 @@ visible_next bs rest c o a whole u e h k =
 
 pub visible_all : (bs o whole : List ℕ) → bs ≡ [] → o ++ visible bs ≡ whole → o ≡ whole
 visible_all bs o whole e h = sym (append-nil o) ∙ ap (λ z. o ++ encode_utf8_all (flat_map visible_char z)) (sym (ap chars e ∙ chars-nil)) ∙ h
+
+pub visible_none : visible [] ≡ []
+visible_none = ap (λ z. encode_utf8_all (flat_map visible_char z)) chars-nil

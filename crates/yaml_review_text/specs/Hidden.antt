@@ -1,5 +1,5 @@
 -- Texts in which a terminal shows each character.
-use Rattle.std.specs.Prelude.{ℕ, Bool, cond, ◌/◌, ◌%◌, ◌&&◌, ◌||◌, ◌==◌, nat_le, nat_lt, List, [], ◌∷◌, ◌++◌}
+use Rattle.std.specs.Prelude.{ℕ, Bool, cond, ◌/◌, ◌%◌, ◌&&◌, ◌||◌, ◌==◌, nat_le, nat_lt, List, [], ◌∷◌}
 use Rattle.std.specs.List.{flat_map}
 use Rattle.std.specs.Str.{encode_utf8_all, chars}
 use Rattle.yaml_definitions.specs.canonical.CharText.{hex_digit}

@@ -99,8 +99,12 @@ fn dash_words(spot: &Spot<'_>) -> Option<&'static str> {
 
 /// Of a fault at the first character of a line.
 fn first_hint(spot: &Spot<'_>) -> Hint {
-    let above = spot.above.trim();
-    Hint::Text(match spot.next() {
+    Hint::Text(first_words(spot))
+}
+
+/// The words of such a fault, by that character.
+fn first_words(spot: &Spot<'_>) -> &'static str {
+    match spot.next() {
         None => "the text ends before a node is whole",
         Some('?') => {
             "`? ` before a key is not read in a block mapping: write the key before its `:`, of at most 1,024 characters"
@@ -110,19 +114,26 @@ fn first_hint(spot: &Spot<'_>) -> Hint {
         Some('@' | '`') => PLAIN,
         Some(']' | '}' | ',') => closing_words(spot),
         Some('&' | '*' | '!') => ONE_EACH,
-        _ if above.starts_with('%') => "a line `---` is missing after the directives",
-        _ if above.ends_with([']', '}']) && indent_of(spot.whole) == 0 => document_words(spot),
-        Some('-') if has_value(above) => {
-            "the key above has a value: a sequence is the value of a key that has none"
-        }
-        Some('-') => "an item stands with the other items of its sequence, or deeper than its key",
-        _ if above.starts_with("- ") && is_entry(spot.whole) => {
-            "an entry cannot follow an item of a sequence: it is indented as the item's first key, or begins with `- `"
-        }
-        _ => {
-            "this line continues no open collection: its indentation is that of none, or its key has no `:`"
-        }
-    })
+        Some(first) => below_words(spot, first == '-'),
+    }
+}
+
+/// The words of such a fault, by the line above: of an item, or of another text.
+fn below_words(spot: &Spot<'_>, is_item: bool) -> &'static str {
+    let above = spot.above.trim();
+    if above.starts_with('%') {
+        "a line `---` is missing after the directives"
+    } else if above.ends_with([']', '}']) && indent_of(spot.whole) == 0 {
+        document_words(spot)
+    } else if is_item && has_value(above) {
+        "the key above has a value: a sequence is the value of a key that has none"
+    } else if is_item {
+        "an item stands with the other items of its sequence, or deeper than its key"
+    } else if above.starts_with("- ") && is_entry(spot.whole) {
+        "an entry cannot follow an item of a sequence: it is indented as the item's first key, or begins with `- `"
+    } else {
+        "this line continues no open collection: its indentation is that of none, or its key has no `:`"
+    }
 }
 
 /// Of a line after a whole flow collection.
