@@ -119,7 +119,7 @@ pub static WORDS: [Row; 3] = [
         right: b"",
         status: 3,
         out: "",
-        err: "error: unrecognized subcommand 'dif?[2K'\n\nUsage: yamlreview <COMMAND>\n\nFor more information, try '--help'.\n",
+        err: "error: unrecognized subcommand 'dif?[2K'\n\n  tip: a similar subcommand exists: 'diff'\n\nUsage: yamlreview <COMMAND>\n\nFor more information, try '--help'.\n",
     },
     Row {
         name: "the help of a command",

@@ -226,6 +226,7 @@ fn text_of(
 }
 
 /// The same, and no text where no line is asked for.
+#[tactic(auto, using(crate::proofs::CompareLaws::asked_none, crate::proofs::CompareLaws::asked_some))]
 fn asked_text(
     alloc: Global,
     both: &Both<'_>,
