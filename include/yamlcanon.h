@@ -11,7 +11,7 @@
  *   - no pointer is null, also where its length is 0;
  *   - malloc, realloc and free of one allocator; no call from a signal handler, or from the forked child of a process
  *     with threads;
- *   - 1,792 KiB of stack. The deepest input takes 1.5 MB, and where the stack is smaller, as on threads that have
+ *   - 1,792 KiB of stack. The deepest input takes 1,310 kB, and where the stack is smaller, as on threads that have
  *     128 KiB by default, such an input ends the process by a fault. An input of n bytes, up to 1,024, takes no
  *     more than 256 + 1.5 * n KiB.
  *

@@ -55,6 +55,16 @@ def texts():
     return {INFO + name: bytes_of(top + name) for name in names if os.path.isfile(top + name)}
 
 
+def write_info(folder, installer):
+    """Writes what tells Python which version of the module is installed in a folder, and by what. A list of files (RECORD) is left
+    out, so that pip does not remove what another program has installed."""
+    info = os.path.join(folder, INFO)
+    os.makedirs(info)
+    for name, text in (('METADATA', METADATA), ('INSTALLER', installer + '\n')):
+        with open(info + name, 'w', encoding='utf-8') as file:
+            file.write(text)
+
+
 def write_zip(path, parts):
     """The parts in their order, each with one time and one mode."""
     made = max(LEAST_TIME, int(os.environ.get('SOURCE_DATE_EPOCH') or time.time()))

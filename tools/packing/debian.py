@@ -13,6 +13,8 @@ from .version import TOP, release
 
 NEEDS = ('dpkg-buildpackage', 'dh', 'dh_python3', 'fakeroot')
 PACKAGES = ('yamlcanon', 'libyamlcanon1', 'libyamlcanon-dev', 'python3-yamlcanon')
+# What the package of the program has in /usr/share/doc/yamlcanon beside the licences.
+PAGES = ('README.md', 'SECURITY.md', 'CHANGELOG.md', 'docs')
 COPYRIGHT = """\
 Format: https://www.debian.org/doc/packaging-manuals/copyright-format/1.0/
 Upstream-Name: yamlcanon
@@ -55,7 +57,8 @@ def prepare(room, tree, time):
     write(room + '/debian/copyright', COPYRIGHT % (clock.gmtime(time).tm_year, in_paragraph(read(TOP + '/LICENSE-MIT'))))
     texts = tree + '/share/doc/yamlcanon'
     for package in PACKAGES:
-        write('%s/debian/%s.docs' % (room, package), 'NOTICE\nBUILD\n')
+        more = ''.join('share/doc/yamlcanon/%s\n' % name for name in PAGES) if package == 'yamlcanon' else ''
+        write('%s/debian/%s.docs' % (room, package), 'NOTICE\nBUILD\n' + more)
     for name in ('NOTICE', 'BUILD'):
         copy('%s/%s' % (texts, name), '%s/%s' % (room, name))
     pages = sorted(glob.glob(tree + '/share/man/man*/*'))

@@ -8,12 +8,14 @@ import os
 import re
 import time
 
-from .base import ARCH, files_below, say, sum_of, write
-from .rests import commit, compilers, kit, kit_folder
+from .base import ARCH, end, files_below, say, sum_of, write
+from .rests import compilers, kit, kit_folder
 from .version import TOP, release
 
 OWN_LICENCE = 'MIT OR Apache-2.0'
-NAMES = {'Apache License, Version 2.0': 'Apache-2.0', 'Apache-2.0': 'Apache-2.0', 'MIT': 'MIT', 'Unicode-3.0': 'Unicode-3.0'}
+NAMES = {'Apache License, Version 2.0': 'Apache-2.0', 'Apache-2.0': 'Apache-2.0', 'BSL-1.0': 'BSL-1.0', 'MIT': 'MIT', 'Unicode-3.0': 'Unicode-3.0'}
+# Licences between which a crate of Rust leaves the choice, where its page in the kit names none; a text of another one is of a part.
+CHOICES = ('MIT', 'Apache-2.0')
 
 
 def notices():
@@ -28,10 +30,16 @@ def name_of(text):
     return re.sub(r'[^A-Za-z0-9.-]', '-', text)
 
 
-def expression(licence):
-    """A licence as SPDX spells it, or NOASSERTION where its words are none that are known."""
-    words = [NAMES.get(word.strip()) for word in (licence or '').split(' or ')]
-    return ' OR '.join(words) if words and all(words) else 'NOASSERTION'
+def expression(licence, kinds):
+    """The licence of a crate as SPDX writes it: the choice that its page names, or that its texts leave; and the licence of each text
+    that is not in that choice. NOASSERTION where there is neither, or a name is not known."""
+    words = licence.split(' or ') if licence else [kind for kind in kinds if kind in CHOICES]
+    choice = [NAMES.get(word.strip()) for word in words]
+    parts = sorted(NAMES.get(kind) or '' for kind in kinds if NAMES.get(kind) not in choice)
+    if not choice + parts or not all(choice + parts):
+        return 'NOASSERTION'
+    chosen = ' OR '.join(choice)
+    return ' AND '.join(([f'({chosen})' if len(choice) > 1 and parts else chosen] if choice else []) + parts)
 
 
 def package(name, version, licence, **more):
@@ -51,9 +59,11 @@ def crates():
         folder = '%s/rattle/%s' % (kit_folder(), name)
         after, licence = told.versions(name, folder)
         kinds = sorted({told.kind(told.read('%s/%s' % (folder, text))) for text in told.texts_of(folder)}, reverse=True)
-        words = licence or ' or '.join(kinds)
+        declared = expression(licence, kinds)
+        if kinds and declared == 'NOASSERTION':
+            end('%s has licence texts in the kit, and tools/packing/spdx.py knows no SPDX name for them: %s, %s' % (name, licence, kinds))
         comment = '%s %s' % (where, 'After %s.' % ', '.join(after) if after else 'Its page in the kit names no version of another crate.')
-        yield package(name, kit().split()[0], expression(words), comment=comment)
+        yield package(name, kit().split()[0], declared, comment=comment)
 
 
 def file_entry(number, name, path):
@@ -77,6 +87,12 @@ def verification(files):
     return {'packageVerificationCodeValue': hashlib.sha1(''.join(sums).encode()).hexdigest()}
 
 
+def namespace(files):
+    """A name that no other build has, and that the same bytes always have: by the sums of all files."""
+    sums = ''.join('%s %s\n' % (entry['fileName'], entry['checksums'][1]['checksumValue']) for entry in files)
+    return 'https://yamlcanon.invalid/spdx/%s/%s' % (release(), hashlib.sha256(sums.encode()).hexdigest())
+
+
 def related(one, kind, other):
     return {'spdxElementId': one, 'relationshipType': kind, 'relatedSpdxElement': other}
 
@@ -94,7 +110,7 @@ def document(tree, folder, build, made):
         related(it['SPDXID'], 'BUILD_TOOL_OF', own) for it in tools]
     return {
         'spdxVersion': 'SPDX-2.3', 'dataLicense': 'CC0-1.0', 'SPDXID': 'SPDXRef-DOCUMENT', 'name': 'yamlcanon-' + release(),
-        'documentNamespace': 'https://yamlcanon.invalid/spdx/%s/%s' % (release(), commit()),
+        'documentNamespace': namespace(files),
         'creationInfo': {'created': time.strftime('%Y-%m-%dT%H:%M:%SZ', time.gmtime(made)), 'creators': ['Tool: yamlcanon-tools-release']},
         'packages': [whole, *linked, *tools], 'files': files, 'relationships': links,
     }

@@ -1,6 +1,6 @@
 //! The canonical text of YAML 1.2 streams, and whether two streams mean the same: safe calls over libyamlcanon.
 //!
-//! A call may be made on any thread. A level of nesting takes up to 1.5 KiB of stack, 1,024 of them 1.5 MiB, and where less is
+//! A call may be made on any thread. A level of nesting is given 1.5 KiB of stack, 1,024 of them 1.5 MiB, and where less is
 //! left than an input of this length may take, the call is made on a thread of its own that has 8 MiB. The library is
 //! built for x86-64-v2, and a call on a lesser processor panics before anything of it runs.
 #![warn(missing_docs)]

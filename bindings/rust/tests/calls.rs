@@ -1,7 +1,7 @@
 use std::thread;
 use yamlcanon::{canonical, events, same, Side};
 
-/// Block mappings, each with a tag and an anchor on lines of their own: what takes the most stack.
+/// Block mappings, each with a tag and an anchor on lines of their own.
 fn blocks(levels: usize) -> String {
     let mut text = String::new();
     for level in 0..levels {
@@ -9,6 +9,11 @@ fn blocks(levels: usize) -> String {
         text += &format!("{dent}a:\n{dent} !x\n{dent} &y\n");
     }
     text + &" ".repeat(levels) + "x"
+}
+
+/// Flow mappings in one another: what takes the most stack.
+fn flow_mappings(levels: usize) -> String {
+    "{a: ".repeat(levels) + "x" + &"}".repeat(levels)
 }
 
 #[test]
@@ -45,6 +50,7 @@ fn deep_inputs_on_threads_with_a_small_stack() {
                 assert!(canonical(level.repeat(2000).as_bytes()).is_err());
             }
         });
+        on(|| assert!(canonical(flow_mappings(1023).as_bytes()).is_ok()));
         on(|| assert!(canonical(blocks(1023).as_bytes()).is_ok()));
         on(|| assert!(same(blocks(1023).as_bytes(), blocks(1023).as_bytes()).unwrap()));
     }
