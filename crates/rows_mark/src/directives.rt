@@ -47,14 +47,42 @@ static MALFORMED: [Row; 18] = [
 /// A directive is repeated as soon as its name (`%YAML`) or its handle (`%TAG`) has been read: what follows on its line comes
 /// later from left to right.
 static REPEATED: [Row; 14] = [
-    ("%TAG !e! a:\n%TAG !e! t\t\n---", 0, "9 BadDirective at byte 12"),
-    ("%TAG !e! a:\n%TAG !e!\tt\n---", 0, "9 BadDirective at byte 12"),
-    ("%TAG !e! a:\n%TAG !e! \tt\n---", 0, "9 BadDirective at byte 12"),
-    ("%TAG !e! a:\n%TAG !e! t #\t\n---", 0, "9 BadDirective at byte 12"),
-    ("%TAG !e! a:\n%TAG !e! %zz\t\n---", 0, "9 BadDirective at byte 12"),
+    (
+        "%TAG !e! a:\n%TAG !e! t\t\n---",
+        0,
+        "9 BadDirective at byte 12",
+    ),
+    (
+        "%TAG !e! a:\n%TAG !e!\tt\n---",
+        0,
+        "9 BadDirective at byte 12",
+    ),
+    (
+        "%TAG !e! a:\n%TAG !e! \tt\n---",
+        0,
+        "9 BadDirective at byte 12",
+    ),
+    (
+        "%TAG !e! a:\n%TAG !e! t #\t\n---",
+        0,
+        "9 BadDirective at byte 12",
+    ),
+    (
+        "%TAG !e! a:\n%TAG !e! %zz\t\n---",
+        0,
+        "9 BadDirective at byte 12",
+    ),
     ("%TAG ! a:\n%TAG !\tt\n---", 0, "9 BadDirective at byte 10"),
-    ("%TAG !! a:\n%TAG !! t\t\n---", 0, "9 BadDirective at byte 11"),
-    ("%YAML 1.2\n%YAML 1.2\t\n---", 0, "9 BadDirective at byte 10"),
+    (
+        "%TAG !! a:\n%TAG !! t\t\n---",
+        0,
+        "9 BadDirective at byte 11",
+    ),
+    (
+        "%YAML 1.2\n%YAML 1.2\t\n---",
+        0,
+        "9 BadDirective at byte 10",
+    ),
     ("%YAML 1.2\n%YAML\t1.2\n---", 0, "9 BadDirective at byte 10"),
     ("%YAML 1.2\n%YAML 1.3\n---", 0, "9 BadDirective at byte 10"),
     ("%TAG !e! a:\n%TAG\t!e! t\n---", 0, "5 Tab at byte 16"),
