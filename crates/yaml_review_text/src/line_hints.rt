@@ -26,10 +26,10 @@ pub fn line_hint(spot: &Spot<'_>) -> Option<Hint> {
 
 /// What is wrong with the line above, where the line of the fault continues its plain scalar.
 fn above_words(spot: &Spot<'_>) -> Option<&'static str> {
-    let above = spot.above.trim();
-    if has_hidden_space(above) {
+    if has_hidden_space(spot.above.trim_start_matches(' ')) {
         return Some(HIDDEN_SPACE);
     }
+    let above = spot.above.trim();
     if is_entry(above) || above.starts_with('#') {
         return None;
     }
