@@ -10,4 +10,5 @@ pub mod CompareLaws
 mod AcceptBoth
 mod RankLaws
 mod KeyLaws
+mod TargetLaws
 mod RunLaws

@@ -1,6 +1,6 @@
 -- From a room that was filled to what is promised of the bytes.
 use Rattle.std.proofs.Common.{◌≡◌, ℕ, ◌≤◌, List, refl, sym, ◌∙◌, ap, subst}
-use Rattle.std.specs.Prelude.{Result, Ok, Err, OnOk, IfOk, IfErr, IsOk, MatchResult}
+use Rattle.std.specs.Prelude.{Result, Ok, Err, OnOk, OnErr, IfOk, IfErr, IsOk, MatchResult}
 use Rattle.std.specs.Result.{IsErrAnd}
 use Rattle.std.proofs.lemmas.Result.{err_from_is_err_and}
 use Rattle.yaml_definitions.specs.model.Limits.{text_limit}
@@ -10,12 +10,15 @@ use Rattle.yaml_definitions.specs.model.Proper.{Admitted}
 use Rattle.yaml_definitions.specs.model.Means.{Means}
 use Rattle.yaml_text.specs.declared.fault.Fault.{Fault}
 use Rattle.yaml_canon.specs.Accepting.{IsSpelling, IsMemory}
-use Rattle.yaml_spell.specs.Documents.{arranged_bytes}
+use Rattle.yaml_spell.specs.Documents.{arranged_bytes, RefusesArranged}
 use Rattle.yaml_canon.specs.Claims.{IsArranged, CanonicalRefuses}
 use Rattle.yaml_answers.specs.Rooms.{Places}
 use Rattle.yaml_canon.specs.Rooms.{PlacesCanonical}
+use Rattle.yaml_canon.specs.Targets.{ArrangedFails}
+use Rattle.yaml_canon.specs.declared.placing.Buffer.{Buffer}
 use Rattle.yaml_canon.proofs.ClaimLaws.{text_arranged}
 use Rattle.yaml_canon.proofs.AcceptLaws.{memory, text-is, spelling-means}
+use Rattle.yaml_canon.proofs.TargetLaws.{left_arranged}
 
 pub ok_unless : {T E : Type 0} {P : E → Type 0} (r : Result T E) → IfErr r P → ((e : E) → P e → ⊥) → IsOk r
 ok_unless (Ok x) h never = refl
@@ -24,9 +27,6 @@ ok_unless (Err e) h never = absurd (never e h)
 pub of_ok : {T E P : Type 0} (r : Result T E) → OnOk r P → IsOk r → P
 of_ok (Ok x) h o = h
 of_ok (Err e) h o = absurd (cc)
-
-pub placed : (bytes old new : List ℕ) (ts : List Tree) (len : ℕ) → IsArranged bytes ts → Places (arranged_bytes ts) old new len → len ≤ text_limit → PlacesCanonical bytes old new len
-placed bytes old new ts len a p l = record { text = arranged_bytes ts; canonical = text_arranged bytes (arranged_bytes ts) ts a refl (subst (λ n. n ≤ text_limit) p.long l); placed = p }
 
 module _ (bytes old new : List ℕ) where
   abbrev Gives : Result ℕ Fault → Type 0
@@ -45,3 +45,11 @@ module _ (bytes old new : List ℕ) where
   placed-spelling r h f a s =
       let u = spelling-means bytes f a s in
       subst (λ z. MatchResult r (Places z old new) IsMemory) u.text (h u.forest u.admitted u.means)
+
+-- a buffer whose room was left as it was
+abbrev pub filled : Buffer → List ℕ → Buffer
+filled b w = record { room = record { ref_ptr = b.room.ref_ptr; ghost_name = b.room.ghost_name; now = w } }
+
+pub unfilled : (ts : List Tree) (b : Buffer) (w : List ℕ) (r : Result ℕ Fault) → IfErr r (RefusesArranged ts) → OnErr r (w ≡ b.room.now) → IfErr r (ArrangedFails (λ _ _ _. ⊥) ts b (filled b w))
+unfilled ts b w (Ok len) h k = tt
+unfilled ts b w (Err fault) h k = left_arranged (λ _ _ _. ⊥) ts b (filled b w) fault (ap (filled b) k) h

@@ -2,6 +2,7 @@
 use Rattle.std.proofs.Common.{◌≡◌, ℕ, ◌+◌, ◌-◌, ◌^◌, ◌<◌, ◌≤◌, true, List, [], Option, length, take, refl, sym, ◌∙◌, ap, subst, arith}
 use Rattle.std.proofs.lemmas.List.{append-nil}
 use Rattle.std.proofs.Math.Seq.{take-length}
+use Rattle.std.specs.Prelude.{Result, Ok, Err, IfOk, OnOk}
 use Rattle.std.specs.Io.KnownBytes.{Appends, Keeps}
 use Rattle.yaml_definitions.specs.model.Limits.{text_limit}
 use Rattle.yaml_definitions.specs.model.Tree.{Tree}
@@ -17,7 +18,8 @@ use Rattle.yaml_spell.specs.Writers.{Sent, CutOff}
 use Rattle.yaml_answers.specs.Writers.{Printed, Broken}
 use Rattle.yaml_spell.specs.Documents.{arranged_more, arranged_bytes, RefusesArranged}
 use Rattle.yaml_canon.specs.Claims.{IsArranged, CanonicalRefuses}
-use Rattle.yaml_canon.specs.Runs.{WritesArranged, ArrangedFails, WritesCanonical, WriteRefuses}
+use Rattle.yaml_canon.specs.Runs.{WritesCanonical, WriteRefuses}
+use Rattle.yaml_canon.specs.Targets.{PutsArranged, PutsCanonical, PutFails}
 use Rattle.yaml_canon.specs.FaultPlaces.{TellsPlace}
 use Rattle.yaml_canon.proofs.ClaimLaws.{text_arranged, refused_arranged}
 use Rattle.yaml_canon.proofs.PlacedLaws.{arranged_elsewhere}
@@ -69,33 +71,16 @@ module _ {W : Type 0} (contents : W → Option (List ℕ)) where
   pub broken_at_the_end : (q : Page) (o u v : Counted W) (fault : Fault) (xs : List ℕ) → faults_of o < 2 ^ 64 - 1 → PageHolds contents q u (started o) xs → CutOff contents u v (page_bytes q) fault → Broken contents o v xs
   broken_at_the_end q o u v fault xs l h s = stopped o v fault xs l (subst (PageStops contents v (started o) fault) (append-nil xs) (held_cut contents q u v (started o) fault xs [] h s))
 
-  -- the bytes are refused, and nothing was written
-  pub refused_unwritten : (bytes : List ℕ) (o : Counted W) (fault : Fault) → CanonicalRefuses bytes fault → WriteRefuses contents bytes o o fault
-  refused_unwritten bytes o WriteFault h = absurd h
-  refused_unwritten bytes o _ h = record { refused = h; untouched = refl }
+  -- ---- what is put into a writer
 
-  -- the trees' text is too long, or memory was refused, and nothing was written
-  pub left_arranged : (ts : List Tree) (o : Counted W) (fault : Fault) → RefusesArranged ts fault → ArrangedFails contents ts o o fault
-  left_arranged ts o TextTooLong h = record { refused = h; untouched = refl }
-  left_arranged ts o OutOfMemory h = record { refused = h; untouched = refl }
-  left_arranged ts o _ h = absurd h
+  pub printed_arranged : (ts : List Tree) (o u : Counted W) (r : Result (Unit {0}) Fault) → length (arranged_bytes ts) ≤ text_limit → OnOk r (Printed contents o u (arranged_bytes ts)) → IfOk r (PutsArranged (λ old text new _. Printed contents old new text) ts o u)
+  printed_arranged ts o u (Ok x) l h = record { fits = l; put = h }
+  printed_arranged ts o u (Err e) l h = tt
 
-  pub broken_arranged : (ts : List Tree) (o u : Counted W) (fault : Fault) → length (arranged_bytes ts) ≤ text_limit → Broken contents o u (arranged_bytes ts) → fault ≡ WriteFault → ArrangedFails contents ts o u fault
-  broken_arranged ts o u fault l b e = subst (ArrangedFails contents ts o u) (sym e) (record { fits = l; broken = b })
+  pub all_written : (bytes : List ℕ) (o u : Counted W) (r : Result (Unit {0}) Fault) → IfOk r (PutsCanonical (λ old text new _. Printed contents old new text) bytes o u) → OnOk r (WritesCanonical contents bytes o u)
+  all_written bytes o u (Ok x) p = record { text = p.text; canonical = p.canonical; printed = p.put }
+  all_written bytes o u (Err e) p = tt
 
-  -- ---- from the trees to the bytes that mean them
-
-  pub canonical_written : (bytes : List ℕ) (ts : List Tree) (o u : Counted W) → IsArranged bytes ts → WritesArranged contents ts o u → WritesCanonical contents bytes o u
-  canonical_written bytes ts o u a w = record { text = arranged_bytes ts; canonical = text_arranged bytes (arranged_bytes ts) ts a refl w.fits; printed = w.printed }
-
-  refused_written : (bytes : List ℕ) (ts : List Tree) (o u : Counted W) (fault : Fault) → IsArranged bytes ts → RefusesArranged ts fault → u ≡ o → WriteRefuses contents bytes o u fault
-  refused_written bytes ts o u fault a h e = subst (λ z. WriteRefuses contents bytes o z fault) (sym e) (refused_unwritten bytes o fault (refused_arranged bytes ts fault a h))
-
-  pub canonical_unwritten : (bytes : List ℕ) (ts : List Tree) (o u : Counted W) (fault : Fault) → IsArranged bytes ts → ArrangedFails contents ts o u fault → WriteRefuses contents bytes o u fault
-  canonical_unwritten bytes ts o u WriteFault a h = record { text = arranged_bytes ts; canonical = text_arranged bytes (arranged_bytes ts) ts a refl h.fits; broken = h.broken }
-  canonical_unwritten bytes ts o u fault a h = refused_written bytes ts o u fault a h.refused h.untouched
-
-  -- no place is told of it
-  pub unwritten_elsewhere : (bytes : List ℕ) (ts : List Tree) (o u : Counted W) (fault : Fault) → ArrangedFails contents ts o u fault → TellsPlace bytes fault
-  unwritten_elsewhere bytes ts o u WriteFault h = tt
-  unwritten_elsewhere bytes ts o u fault h = arranged_elsewhere bytes ts fault h.refused
+  pub canonical_unwritten : (bytes : List ℕ) (o u : Counted W) (fault : Fault) → PutFails (λ old text new. Broken contents old new text) bytes o u fault → WriteRefuses contents bytes o u fault
+  canonical_unwritten bytes o u WriteFault h = record { text = h.text; canonical = h.canonical; broken = h.broken }
+  canonical_unwritten bytes o u fault h = record { refused = h.refused; untouched = h.untouched }

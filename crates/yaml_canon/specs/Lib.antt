@@ -9,4 +9,5 @@ pub mod FaultPlaces
 pub mod Comparing
 pub mod Accepting
 pub mod Runs
+pub mod Targets
 pub mod Rooms

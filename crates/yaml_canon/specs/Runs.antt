@@ -1,36 +1,14 @@
 -- What `run_canonical` promises of its reader and its writer.
-use Rattle.std.specs.Prelude.{◌≡◌, ◌≤◌, ℕ, List, Option, length}
+use Rattle.std.specs.Prelude.{◌≡◌, ℕ, List, Option}
 use Rattle.yaml_definitions.specs.model.Limits.{text_limit}
-use Rattle.yaml_definitions.specs.model.Tree.{Tree}
 use Rattle.yaml_text.specs.declared.fault.Fault.{Fault}
 use Rattle.yaml_text.specs.declared.fault.Fault.TheVariants.{TooLong, OutOfMemory, ReadFault, WriteFault}
 use Rattle.yaml_text.specs.declared.counted.Counted.{Counted}
-use Rattle.yaml_spell.specs.Documents.{arranged_bytes, RefusesArranged}
 use Rattle.yaml_canon.specs.Claims.{IsCanonicalText, CanonicalRefuses}
 use Rattle.yaml_answers.specs.Gathering.{Gathers, FailsReading}
 use Rattle.yaml_answers.specs.Writers.{Printed, Broken}
 
 module _ {W : Type 0} (contents : W → Option (List ℕ)) where
-  -- the text of these trees was written, which is not too long
-  pub record WritesArranged (ts : List Tree) (old new : Counted W) : Type 0 where
-    pub fits : length (arranged_bytes ts) ≤ text_limit
-    pub printed : Printed contents old new (arranged_bytes ts)
-
-  -- a beginning of it was written
-  pub record BreaksArranged (ts : List Tree) (old new : Counted W) : Type 0 where
-    pub fits : length (arranged_bytes ts) ≤ text_limit
-    pub broken : Broken contents old new (arranged_bytes ts)
-
-  -- it is too long, or memory was refused, and no call of the writer was made
-  pub record LeavesArranged (ts : List Tree) (old new : Counted W) (fault : Fault) : Type 0 where
-    pub refused : RefusesArranged ts fault
-    pub untouched : new ≡ old
-
-  -- why it was not written
-  abbrev pub ArrangedFails : List Tree → Counted W → Counted W → Fault → Type 0
-  ArrangedFails ts old new WriteFault = BreaksArranged ts old new
-  ArrangedFails ts old new fault = LeavesArranged ts old new fault
-
   -- the canonical text of the bytes was written
   pub record WritesCanonical (bytes : List ℕ) (old new : Counted W) : Type 0 where
     pub text : List ℕ

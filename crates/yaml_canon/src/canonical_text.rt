@@ -15,13 +15,10 @@ ghost use Rattle.yaml_canon.specs.Claims.{IsCanonicalText, CanonicalRefuses};
 ghost use Rattle.yaml_canon.specs.FaultPlaces.{TellsPlace};
 ghost use Rattle.yaml_canon.specs.Accepting.{IsSpelling, IsMemory};
 
-use crate::graph_of::graph_unranked;
-use crate::ranks::ranked_forest;
+use crate::target::{Target, spell_stream};
 use std::alloc::Global;
-use yaml_rank::rank;
 use yaml_spell::names::Names;
 use yaml_spell::ranked::RankedNodes;
-use yaml_spell::ranked_graph::RankedGraph;
 use yaml_spell::spell::{ranked_len, write_ranked};
 use yaml_spell::whole::Whole;
 use yaml_text::fault::Fault;
@@ -44,6 +41,36 @@ fn spelled<I: Copy, V: RankedNodes<I>>(
     Ok(text)
 }
 
+/// A new string, which holds the text whole.
+#[derive(Drop)]
+struct Held;
+
+impl Target for Held {
+    ghost use Rattle.std.specs.Prelude.{◌≡◌};
+    ghost use Rattle.std.specs.String.{string_bytes};
+
+    type Answer = String;
+
+    ghost same = { λ _ _. Unit {0} };
+
+    ghost ready = { λ _. Unit {0} };
+
+    ghost took = { λ _ text _ answer. string_bytes answer ≡ text };
+
+    ghost broke = { λ _ _ _. ⊥ };
+
+    fn put<I: Copy, V: RankedNodes<I>>(
+        &mut self,
+        alloc: Global,
+        view: &V,
+        roots: &[I],
+    ) -> Result<String, Fault> {
+        spelled(alloc, view, roots)
+    }
+
+    ghost stays = { λ _. tt };
+}
+
 /// The canonical text of the stream in these bytes.
 ///
 /// # Errors
@@ -59,15 +86,5 @@ pub fn canonical(alloc: Global, bytes: &[u8]) -> Result<String, Fault>
     ensures spelling { (f : List Tree) → Admitted f → IsSpelling bytes.now f → MatchResult result (λ text. string_bytes text ≡ spell_bytes f) IsMemory }
     ensures placed { IfErr result (TellsPlace bytes.now) }
 {
-    let none = match ranked_forest(alloc, bytes) {
-        Ok(forest) => return spelled(alloc, &forest.ranked, &forest.roots),
-        Err(none) => none,
-    };
-    let graph = graph_unranked(alloc, bytes, none)?;
-    let ranks = rank(alloc, &graph)?;
-    let view = RankedGraph {
-        graph: &graph,
-        ranks: &ranks,
-    };
-    spelled(alloc, &view, graph.roots())
+    spell_stream(alloc, bytes, &mut Held)
 }

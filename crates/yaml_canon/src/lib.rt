@@ -13,6 +13,7 @@ mod ranks;
 pub mod run;
 mod same_ranks;
 pub mod same_streams;
+mod target;
 mod two;
 
 pub use canonical_text::canonical;

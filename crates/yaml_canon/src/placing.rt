@@ -17,13 +17,10 @@ ghost use Rattle.yaml_canon.specs.Accepting.{IsSpelling, IsMemory};
 ghost use Rattle.yaml_answers.specs.Rooms.{Places};
 ghost use Rattle.yaml_canon.specs.Rooms.{PlacesCanonical};
 
-use crate::graph_of::graph_unranked;
-use crate::ranks::ranked_forest;
+use crate::target::{Target, spell_stream};
 use std::alloc::Global;
-use yaml_rank::rank;
 use yaml_spell::names::Names;
 use yaml_spell::ranked::RankedNodes;
-use yaml_spell::ranked_graph::RankedGraph;
 use yaml_spell::room::Room;
 use yaml_spell::spell::{ranked_len, write_ranked};
 use yaml_text::fault::Fault;
@@ -69,6 +66,51 @@ fn place<I: Copy, V: RankedNodes<I>>(
     Ok(len)
 }
 
+/// A caller's buffer. Where it is too small, it is left as it is, and the text's length is answered.
+#[derive(Drop)]
+struct Buffer<'r> {
+    room: &'r mut [u8],
+}
+
+impl Target for Buffer<'_> {
+    ghost use Rattle.std.specs.Prelude.{refl};
+    ghost use Rattle.yaml_canon.specs.Rooms.{IsSameRoom, Fills};
+
+    type Answer = usize;
+
+    ghost same = { IsSameRoom };
+
+    ghost ready = { λ _. Unit {0} };
+
+    ghost took = { Fills };
+
+    ghost broke = { λ _ _ _. ⊥ };
+
+    fn put<I: Copy, V: RankedNodes<I>>(
+        &mut self,
+        alloc: Global,
+        view: &V,
+        roots: &[I],
+    ) -> Result<usize, Fault> {
+        place(alloc, view, roots, self.room)
+    }
+
+    ghost stays = { λ _. refl };
+}
+
+/// Writes the canonical text of the stream in these bytes to the start of a buffer, if that is large enough. Returns the text's
+/// length in bytes.
+fn place_canonical(alloc: Global, bytes: &[u8], room: &mut [u8]) -> Result<usize, Fault>
+    ensures text { IfOk result (PlacesCanonical bytes.now room.old room.new) }
+    ensures refused { IfErr result (CanonicalRefuses bytes.now) }
+    ensures kept { OnErr result (room.new ≡ room.old) }
+    ensures no_text { ((cs : List ℕ) → Text bytes.now cs → ⊥) → IsErrAnd result (RefusesText bytes.now) }
+    ensures placed { IfErr result (TellsPlace bytes.now) }
+{
+    let mut buffer = Buffer { room };
+    spell_stream(alloc, bytes, &mut buffer)
+}
+
 /// Writes the canonical text of the stream in these bytes to the start of a buffer, and returns the text's length in bytes. If
 /// the buffer is too small, it is not changed. Behind the text, the buffer is not changed. The text is held nowhere else.
 ///
@@ -83,15 +125,5 @@ pub fn canonical_into(alloc: Global, bytes: &[u8], room: &mut [u8]) -> Result<us
     ensures spelling { (f : List Tree) → Admitted f → IsSpelling bytes.now f → MatchResult result (Places (spell_bytes f) room.old room.new) IsMemory }
     ensures placed { IfErr result (TellsPlace bytes.now) }
 {
-    let none = match ranked_forest(alloc, bytes) {
-        Ok(forest) => return place(alloc, &forest.ranked, &forest.roots, room),
-        Err(none) => none,
-    };
-    let graph = graph_unranked(alloc, bytes, none)?;
-    let ranks = rank(alloc, &graph)?;
-    let view = RankedGraph {
-        graph: &graph,
-        ranks: &ranks,
-    };
-    place(alloc, &view, graph.roots(), room)
+    place_canonical(alloc, bytes, room)
 }

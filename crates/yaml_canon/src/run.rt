@@ -6,18 +6,15 @@ ghost use Rattle.yaml_spell.specs.RankedNodes.{Rooted, tree_of};
 ghost use Rattle.yaml_spell.specs.NamesView.{ranks_in};
 ghost use Rattle.yaml_answers.specs.Writers.{Printed, Broken};
 ghost use Rattle.yaml_canon.specs.FaultPlaces.{TellsPlace, TellsReadPlace};
-ghost use Rattle.yaml_canon.specs.Runs.{WritesArranged, ArrangedFails, WritesCanonical, WriteRefuses, RunsWhole, RunFails};
+ghost use Rattle.yaml_canon.specs.Runs.{WritesCanonical, WriteRefuses, RunsWhole, RunFails};
 
-use crate::graph_of::graph_unranked;
-use crate::ranks::ranked_forest;
+use crate::target::{Target, spell_stream};
 use std::alloc::Global;
 use std::io::{Read, Write};
 use yaml_answers::gather;
-use yaml_rank::rank;
 use yaml_spell::names::Names;
 use yaml_spell::page::Page;
 use yaml_spell::ranked::RankedNodes;
-use yaml_spell::ranked_graph::RankedGraph;
 use yaml_spell::spell::{ranked_len, write_ranked};
 use yaml_text::counted::Counted;
 use yaml_text::fault::Fault;
@@ -47,22 +44,34 @@ fn write_pages<I: Copy, V: RankedNodes<I>, W: Write>(
     }
 }
 
-/// Writes the text of the documents of these roots. Each growth is made before the first byte goes
-/// out.
-fn write_spelled<I: Copy, V: RankedNodes<I>, W: Write>(
-    alloc: Global,
-    view: &V,
-    roots: &[I],
-    out: &mut Counted<W>,
-) -> Result<(), Fault>
-    requires rooted { Rooted V.stands V.count V.number view.now roots.now }
-    requires few { faults_of out.old < 2 ^ 64 - 1 }
-    ensures ok { OnOk result (WritesArranged W.contents (map (tree_of V.tree V.number view.now) roots.now) out.old out.new) }
-    ensures err { IfErr result (ArrangedFails W.contents (map (tree_of V.tree V.number view.now) roots.now) out.old out.new) }
-{
-    let mut names = Names::new(alloc, view.len())?;
-    ranked_len(view, &mut names, roots)?;
-    write_pages(view, &mut names, roots, out)
+impl<W: Write> Target for Counted<W> {
+    ghost use Rattle.std.specs.Prelude.{◌<◌, ◌-◌, ◌^◌};
+    ghost use Rattle.yaml_text.specs.CountedModel.{faults_of};
+    ghost use Rattle.yaml_answers.specs.Writers.{Printed, Broken};
+
+    type Answer = ();
+
+    ghost same = { λ _ _. Unit {0} };
+
+    ghost ready = { λ out. faults_of out < 2 ^ 64 - 1 };
+
+    ghost took = { λ old text new _. Printed W.contents old new text };
+
+    ghost broke = { λ old text new. Broken W.contents old new text };
+
+    /// Writes the text. Each growth is made before the first byte goes out.
+    fn put<I: Copy, V: RankedNodes<I>>(
+        &mut self,
+        alloc: Global,
+        view: &V,
+        roots: &[I],
+    ) -> Result<(), Fault> {
+        let mut names = Names::new(alloc, view.len())?;
+        ranked_len(view, &mut names, roots)?;
+        write_pages(view, &mut names, roots, self)
+    }
+
+    ghost stays = { λ _. tt };
 }
 
 /// Writes the canonical text of the stream that these bytes are. Each growth is made before the
@@ -73,17 +82,7 @@ fn write_canonical<W: Write>(alloc: Global, bytes: &[u8], out: &mut Counted<W>) 
     ensures err { IfErr result (WriteRefuses W.contents bytes.now out.old out.new) }
     ensures placed { IfErr result (TellsPlace bytes.now) }
 {
-    let none = match ranked_forest(alloc, bytes) {
-        Ok(forest) => return write_spelled(alloc, &forest.ranked, &forest.roots, out),
-        Err(none) => none,
-    };
-    let graph = graph_unranked(alloc, bytes, none)?;
-    let ranks = rank(alloc, &graph)?;
-    let view = RankedGraph {
-        graph: &graph,
-        ranks: &ranks,
-    };
-    write_spelled(alloc, &view, graph.roots(), out)
+    spell_stream(alloc, bytes, out)
 }
 
 /// Reads a stream to its end, writes its canonical text in pieces of at most 4,096 bytes, and flushes the writer. The text is
