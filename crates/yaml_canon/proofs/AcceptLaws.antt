@@ -2,8 +2,6 @@
 use Rattle.std.proofs.Common.{◌≡◌, ℕ, zero, suc, ◌≤◌, inl, inr, Bool, true, false, ◌&&◌, List, [], ◌∷◌, ◌++◌, length, refl, sym, ◌∙◌, ap, subst, arith}
 use Rattle.std.specs.Prelude.{Result, Ok, Err, Some, IfOk, IfErr, MatchResult}
 use Rattle.std.specs.List.{slice_get}
-use Rattle.std.specs.Result.{IsErrAnd}
-use Rattle.std.proofs.lemmas.Result.{err_from_is_err_and}
 use Rattle.yaml_definitions.specs.model.Limits.{text_limit, height_limit}
 use Rattle.yaml_definitions.specs.model.Tree.{Tree, Trees, Pairs, scalar, sequence, mapping, end, item, done, entry, height}
 use Rattle.yaml_definitions.specs.model.Same.{Keyed, keyed, keyed_trees, keyed_pairs}
@@ -168,11 +166,6 @@ module _ {T : Type 0} (bytes_of : T → List ℕ) (bytes : List ℕ) where
   pub accepted-answer : (r : Result T Fault) → IfOk r (λ t. IsCanonicalText bytes (bytes_of t)) → IfErr r (CanonicalRefuses bytes) → Gives r
   accepted-answer (Ok t) o e f a m = text-is bytes f a m (bytes_of t) o
   accepted-answer (Err fault) o e f a m = memory bytes f a m fault e
-
-  pub accepted-exit : (r : Result T Fault) (fault : Fault) → IsErrAnd r (λ y. y ≡ fault) → CanonicalRefuses bytes fault → Gives r
-  accepted-exit r fault was h =
-      let p = err_from_is_err_and r was in
-      subst Gives (sym (p.1 ∙ ap Err p.2)) (λ f a m. memory bytes f a m fault h)
 
 -- a spelling means a forest with the same text
 pub spelling-means : (bytes : List ℕ) (f : List Tree) → Admitted f → IsSpelling bytes f → MeansLike bytes f

@@ -1,22 +1,18 @@
 -- From a room that was filled to what is promised of the bytes.
-use Rattle.std.proofs.Common.{◌≡◌, ℕ, ◌≤◌, List, refl, sym, ◌∙◌, ap, subst}
+use Rattle.std.proofs.Common.{◌≡◌, ℕ, List, refl, ap, subst}
 use Rattle.std.specs.Prelude.{Result, Ok, Err, OnOk, OnErr, IfOk, IfErr, IsOk, MatchResult}
-use Rattle.std.specs.Result.{IsErrAnd}
-use Rattle.std.proofs.lemmas.Result.{err_from_is_err_and}
-use Rattle.yaml_definitions.specs.model.Limits.{text_limit}
 use Rattle.yaml_definitions.specs.model.Tree.{Tree}
 use Rattle.yaml_definitions.specs.canonical.Spell.{spell_bytes}
 use Rattle.yaml_definitions.specs.model.Proper.{Admitted}
 use Rattle.yaml_definitions.specs.model.Means.{Means}
 use Rattle.yaml_text.specs.declared.fault.Fault.{Fault}
 use Rattle.yaml_canon.specs.Accepting.{IsSpelling, IsMemory}
-use Rattle.yaml_spell.specs.Documents.{arranged_bytes, RefusesArranged}
-use Rattle.yaml_canon.specs.Claims.{IsArranged, CanonicalRefuses}
+use Rattle.yaml_spell.specs.Documents.{RefusesArranged}
+use Rattle.yaml_canon.specs.Claims.{CanonicalRefuses}
 use Rattle.yaml_answers.specs.Rooms.{Places}
 use Rattle.yaml_canon.specs.Rooms.{PlacesCanonical}
 use Rattle.yaml_canon.specs.Targets.{ArrangedFails}
 use Rattle.yaml_canon.specs.declared.placing.Buffer.{Buffer}
-use Rattle.yaml_canon.proofs.ClaimLaws.{text_arranged}
 use Rattle.yaml_canon.proofs.AcceptLaws.{memory, text-is, spelling-means}
 use Rattle.yaml_canon.proofs.TargetLaws.{left_arranged}
 
@@ -35,11 +31,6 @@ module _ (bytes old new : List ℕ) where
   pub placed-answer : (r : Result ℕ Fault) → IfOk r (PlacesCanonical bytes old new) → IfErr r (CanonicalRefuses bytes) → Gives r
   placed-answer (Ok n) o e f a m = subst (λ z. Places z old new n) (text-is bytes f a m o.text o.canonical) o.placed
   placed-answer (Err fault) o e f a m = memory bytes f a m fault e
-
-  pub placed-exit : (r : Result ℕ Fault) (fault : Fault) → IsErrAnd r (λ y. y ≡ fault) → CanonicalRefuses bytes fault → Gives r
-  placed-exit r fault was h =
-      let p = err_from_is_err_and r was in
-      subst Gives (sym (p.1 ∙ ap Err p.2)) (λ f a m. memory bytes f a m fault h)
 
   pub placed-spelling : (r : Result ℕ Fault) → Gives r → (f : List Tree) → Admitted f → IsSpelling bytes f → MatchResult r (Places (spell_bytes f) old new) IsMemory
   placed-spelling r h f a s =

@@ -7,7 +7,7 @@ use Rattle.std.specs.Io.KnownBytes.{Appends, Keeps}
 use Rattle.yaml_definitions.specs.model.Limits.{text_limit}
 use Rattle.yaml_definitions.specs.model.Tree.{Tree}
 use Rattle.yaml_text.specs.declared.fault.Fault.{Fault}
-use Rattle.yaml_text.specs.declared.fault.Fault.TheVariants.{TextTooLong, OutOfMemory, WriteFault}
+use Rattle.yaml_text.specs.declared.fault.Fault.TheVariants.{WriteFault}
 use Rattle.yaml_text.specs.declared.counted.Counted.{Counted}
 use Rattle.yaml_text.specs.Count.{one_more}
 use Rattle.yaml_text.specs.CountedModel.{inner_of, faults_of, flushed_of}
@@ -16,13 +16,9 @@ use Rattle.yaml_spell.specs.Pieces.{Began, Puts, Fails}
 use Rattle.yaml_spell.specs.Pages.{page_bytes, page_len, PageHolds, PageStops}
 use Rattle.yaml_spell.specs.Writers.{Sent, CutOff}
 use Rattle.yaml_answers.specs.Writers.{Printed, Broken}
-use Rattle.yaml_spell.specs.Documents.{arranged_more, arranged_bytes, RefusesArranged}
-use Rattle.yaml_canon.specs.Claims.{IsArranged, CanonicalRefuses}
+use Rattle.yaml_spell.specs.Documents.{arranged_more, arranged_bytes}
 use Rattle.yaml_canon.specs.Runs.{WritesCanonical, WriteRefuses}
 use Rattle.yaml_canon.specs.Targets.{PutsArranged, PutsCanonical, PutFails}
-use Rattle.yaml_canon.specs.FaultPlaces.{TellsPlace}
-use Rattle.yaml_canon.proofs.ClaimLaws.{text_arranged, refused_arranged}
-use Rattle.yaml_canon.proofs.PlacedLaws.{arranged_elsewhere}
 use Rattle.yaml_spell.proofs.Streams.{appends_none, appends_more, appends_kept}
 use Rattle.yaml_spell.proofs.PageLaws.{held_cut}
 

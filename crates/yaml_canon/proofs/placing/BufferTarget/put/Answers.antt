@@ -1,5 +1,4 @@
-use Rattle.std.proofs.Common.{◌≡◌, ◌≤◌, map, ap, subst}
-use Rattle.std.specs.Prelude.{OnErr, IfErr}
+use Rattle.std.proofs.Common.{◌≤◌, map, subst}
 use Rattle.yaml_definitions.specs.model.Limits.{text_limit}
 use Rattle.yaml_spell.specs.RankedNodes.{tree_of}
 use Rattle.yaml_spell.proofs.PieceLaws.{if_ok}
