@@ -6,6 +6,7 @@ use Rattle.yaml_definitions.specs.model.Tree.{Tree}
 use Rattle.yaml_definitions.specs.model.Order.{arranged}
 use Rattle.yaml_nodes.specs.GraphModel.{tree_at}
 use Rattle.yaml_levels.specs.View.{View, Inside, content, InsideBelow, inside_tree}
+use Rattle.yaml_levels.specs.Visited.{count_of}
 use Rattle.yaml_levels.specs.Insides.{Held, HeldBelow}
 use Rattle.yaml_levels.proofs.InsideLaws.{held-tree}
 use Rattle.yaml_levels.proofs.GraphOf.{get-map, get-unmap}
@@ -79,7 +80,12 @@ Listed r = (s : Store) × (good : Good s) × StoreListed s good r
 abbrev pub short_at : Store → ℕ → ℕ
 short_at s i = short_len (arranged (tree_of s i))
 
--- The same, and it is known which ranks are short, and how long they are.
+-- how many nodes were visited
+abbrev pub visits_of : Ranked → ℕ
+visits_of r = count_of r.visits
+
+-- The same, it is known which ranks are short, and how long they are, and each node was visited once.
 pub record StoreRanked (s : Store) (good : Good s) (r : Ranked) : Type 0 where
   pub listed : StoreListed s good r
   pub shorts : r.shorts.items ≡ map (short_at s) r.first.items
+  pub visited : visits_of r ≡ length s.nodes.items

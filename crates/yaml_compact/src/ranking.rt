@@ -2,6 +2,7 @@
 ghost use Rattle.std.specs.Prelude.{◌≡◌, length, IfOk, IfErr};
 ghost use Rattle.std.specs.Bool.{OnTrue};
 ghost use Rattle.yaml_levels.specs.View.{View};
+ghost use Rattle.yaml_levels.specs.Visited.{count_of};
 ghost use Rattle.yaml_compact.specs.Ranking.{Stored, AllRanked};
 ghost use Rattle.yaml_compact.specs.StoreGrows.{Good, IsLow};
 ghost use Rattle.yaml_compact.specs.StoreView.{StoreRanked};
@@ -23,6 +24,7 @@ use crate::tags::Tags;
 use crate::text::Text;
 use crate::unranked::Unranked;
 use std::alloc::Global;
+use yaml_levels::visits::Visits;
 
 /// The nodes of a store with their ranks. Parts are ranks, and the entries of a mapping stand in the order
 /// of their keys.
@@ -40,6 +42,19 @@ pub struct Ranked<'s> {
     /// How many bytes each rank takes if it is short, else 0: measured here once, and not at each of its
     /// nodes. Filled in last.
     pub(crate) shorts: Vec<u8>,
+    pub(crate) visits: Visits,
+}
+
+impl Ranked<'_> {
+    ghost use Rattle.std.specs.Prelude.{◌≡◌};
+    ghost use Rattle.yaml_compact.specs.StoreView.{visits_of};
+
+    /// How many nodes were visited.
+    pub fn visits(&self) -> u64
+        ensures { result ≡ visits_of self.now }
+    {
+        self.visits.count()
+    }
 }
 
 /// No ranks yet, for so many nodes.
@@ -53,8 +68,9 @@ pub(crate) fn zeros(alloc: Global, len: usize) -> Result<Vec<u32>, GivesUp>
     Ok(ranks)
 }
 
-/// The rank of each node, and the first node of each rank. Nodes are taken by rising height, so that those
-/// of one height are compared by the ranks of their parts, which these ranks overwrite.
+/// The rank of each node, the first node of each rank, and how many nodes were visited. Nodes are taken by
+/// rising height, so that those of one height are compared by the ranks of their parts, which these ranks
+/// overwrite. Each node is visited once.
 fn rank_all(
     alloc: Global,
     nodes: &[Node],
@@ -62,15 +78,17 @@ fn rank_all(
     items: &mut [u32],
     entries: &mut [(u32, u32)],
     places: &[u32],
-) -> Result<(Vec<u32>, Vec<u32>), Unranked>
+) -> Result<(Vec<u32>, Vec<u32>, Visits), Unranked>
     requires stored { (v : View) × Stored v nodes.now (text_of text.now) items.old entries.old places.now }
     requires whole { AllWhole (border text.now) nodes.now }
     ensures ok { (v : View) → Stored v nodes.now (text_of text.now) items.old entries.old places.now → IfOk result (λ made. AllRanked v nodes.now (text_of text.now) items.new entries.new made.0.items made.1.items) }
+    ensures visited { IfOk result (λ made. count_of made.2 ≡ length nodes.now) }
     ensures err { (v : View) → Stored v nodes.now (text_of text.now) items.old entries.old places.now → IfErr result (RefusesView v) }
 {
     let levels = levels(alloc, nodes)?;
     let mut ranks = zeros(alloc, nodes.len())?;
     let mut first = Vec::new(alloc);
+    let mut visits = Visits::new();
     let mut keys = Vec::new(alloc);
     for level in &levels {
         settle(alloc, nodes, items, entries, &ranks, level, &mut keys)?;
@@ -81,10 +99,10 @@ fn rank_all(
             entries,
             places,
         };
-        let slots = sorted_slots(alloc, &lists, level)?;
+        let slots = sorted_slots(alloc, &lists, &mut visits, level)?;
         number(&lists, &mut ranks, &mut first, &slots)?;
     }
-    Ok((ranks, first))
+    Ok((ranks, first, visits))
 }
 
 /// Whether the content of a node, if it has one, stands in one part of the text.
@@ -111,6 +129,7 @@ fn are_whole(text: &Text<'_>, nodes: &[Node]) -> bool
 
 /// The ranks of all nodes of a store: equal exactly for equal trees, and in the order of trees. Refused is
 /// the mapping of least height, then of least number, with two equal keys, and its first two are told.
+/// Each node is visited once.
 pub fn compact_rank<'s>(alloc: Global, store: Store<'s>) -> Result<Ranked<'s>, Unranked>
     requires good { Good store }
     requires low { IsLow store }
@@ -130,7 +149,7 @@ pub fn compact_rank<'s>(alloc: Global, store: Store<'s>) -> Result<Ranked<'s>, U
         return Err(Unranked::GivesUp);
     }
     let places = places(alloc, &tags)?;
-    let (ranks, first) = rank_all(alloc, &nodes, &text, &mut items, &mut entries, &places)?;
+    let (ranks, first, visits) = rank_all(alloc, &nodes, &text, &mut items, &mut entries, &places)?;
     let mut ranked = Ranked {
         tags,
         text,
@@ -140,6 +159,7 @@ pub fn compact_rank<'s>(alloc: Global, store: Store<'s>) -> Result<Ranked<'s>, U
         ranks,
         first,
         shorts: Vec::new(alloc),
+        visits,
     };
     ranked.shorts = shorts(alloc, &ranked)?;
     Ok(ranked)
