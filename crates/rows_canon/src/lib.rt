@@ -1,4 +1,4 @@
-//! Test cases of readers and writers that take little at a time, or fail.
+//! Test cases of readers and writers that take little at a time, or fail, and of how many nodes are visited.
 #![tactic(auto)]
 
 #[cfg(test)]
@@ -9,3 +9,5 @@ mod lengths;
 mod runs;
 #[cfg(test)]
 mod streams;
+#[cfg(test)]
+mod visits;
