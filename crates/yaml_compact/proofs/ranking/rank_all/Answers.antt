@@ -1,4 +1,4 @@
-use Rattle.std.proofs.Common.{◌≡◌, ◌+◌, ◌<◌, suc, length, get_or, drop, slice_index, add-one, refl, sym, ◌∙◌, ap, subst, arith, rules}
+use Rattle.std.proofs.Common.{◌≡◌, ◌<◌, suc, length, slice_index, add-one, refl, sym, ◌∙◌, ap, subst, arith, rules}
 use Rattle.std.specs.List.{All}
 use Rattle.std.specs.Vec.{with_items}
 use Rattle.std.proofs.lemmas.List.{with_items_is, drop_more, drop_all}
@@ -179,7 +179,10 @@ number-requires-clause-few c = (c.loop-level.invariant.1 c.requires.stored.0 c.r
 
 pub loop-level-preserved : goal.loop-level-preserved
 loop-level-preserved c = (
-  visited,
+  (let ls = c.deref-level-items.result.now in
+      let here = ap length (c.deref-in-loop-level-2.ensures.value ∙ ap (λ z. z.items) c.level-item.is) in
+      let behind = ap total (drop_more ls c.loop-level.level-index c.level-item.result c.loop-level-test.true) in
+      omega (arith, c.loop-level.invariant.0, c.in_ok-slots.ensures.visited, here, behind)),
   λ v store.
       let nodes = c.args.nodes.now in
       let text = text_of c.args.text.now in
@@ -203,13 +206,6 @@ loop-level-preserved c = (
       let e : (with_items b next).items ≡ next = with_items_is b next (omega (arith, num.numbered.long, b.ok.0)) in
       subst (λ z. Standing v nodes text olds pairs c.settle.new.items c.settle.new.entries (with_items b next).items after z) (sym (add-one i)) (subst (λ z. Standing v nodes text olds pairs c.settle.new.items c.settle.new.entries z after (suc i)) (sym e) (standing-more v nodes text olds pairs places store ls are i level is c.loop-level.items c.loop-level.entries c.loop-level.ranks.items c.loop-level.first.items (c.loop-level.invariant.1 v store) c.settle.new.items c.settle.new.entries settled next after num)),
 )
-  where
-    visited =
-        let ls = c.deref-level-items.result.now in
-        let i = c.loop-level.level-index in
-        let here = ap length (c.deref-in-loop-level-2.ensures.value ∙ ap (λ z. z.items) c.level-item.is) in
-        let behind = ap total (drop_more ls i c.level-item.result c.loop-level-test.true) in
-        omega (arith, c.loop-level.invariant.0, c.in_ok-slots.ensures.visited, here, behind)
 
 pub returns-clause-ok : goal.returns-clause-ok
 returns-clause-ok c = λ v store.
