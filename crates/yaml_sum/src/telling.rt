@@ -1,5 +1,5 @@
 //! The lines that tell why a file has no sum.
-ghost use Rattle.std.specs.Prelude.{◌≡◌, ◌++◌, ◌<◌, ◌-◌, ◌^◌, [], OnOk, OnErr, IfOk, IfErr};
+ghost use Rattle.std.specs.Prelude.{◌≡◌, ◌++◌, ◌<◌, ◌-◌, ◌^◌, [], codes, OnOk, OnErr, IfOk, IfErr};
 ghost use Rattle.yaml_report.specs.Refusals.{fault_line};
 ghost use Rattle.yaml_report.specs.Printing.{PrintFails};
 ghost use Rattle.yaml_answers.specs.Writers.{Printed};
@@ -82,6 +82,19 @@ pub(crate) fn tell<E: Write>(
     }
 }
 
+/// Writes the line of a list that cannot be opened, and flushes.
+fn tell_no_list<'a, E: Write>(
+    name: &'a str,
+    why: &'a str,
+    err: &mut Counted<E>,
+) -> Result<(), Fault>
+    requires { faults_of err.old < 2 ^ 64 - 1 }
+    ensures ok { OnOk result (Printed E.contents err.old err.new (codes "yamlreview: " ++ name.now ++ codes ": cannot open: " ++ why.now ++ codes "\n")) }
+    ensures err { IfErr result (PrintFails E.contents err.old err.new (codes "yamlreview: " ++ name.now ++ codes ": cannot open: " ++ why.now ++ codes "\n")) }
+{
+    line::write_pieces(&["yamlreview: ", name, ": cannot open: ", why, "\n"], err)
+}
+
 /// Writes the line that tells why sums are not made to the end, and flushes. It takes no memory. Any error of the writer is
 /// `WriteFault`; it then has a beginning of the line.
 pub(crate) fn tell_halt<E: Write>(halt: Halt<'_>, err: &mut Counted<E>) -> Result<(), Fault>
@@ -90,9 +103,7 @@ pub(crate) fn tell_halt<E: Write>(halt: Halt<'_>, err: &mut Counted<E>) -> Resul
     ensures err { IfErr result (PrintFails E.contents err.old err.new (halt_line halt.entry)) }
 {
     match halt {
-        Halt::NoList(name, why) => {
-            line::write_pieces(&[FRONT, name, ": cannot open: ", why.words(), "\n"], err)
-        }
+        Halt::NoList(name, why) => tell_no_list(name, why.words(), err),
         Halt::Fault(fault) => line::tell_fault(FRONT, fault, err),
     }
 }
