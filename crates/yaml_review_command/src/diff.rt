@@ -40,22 +40,9 @@ fn status_of(same: bool) -> u8
     if same { 0 } else { 1 }
 }
 
-/// Both files by their names.
-fn named<'n>(
-    asked: &Diff<'n>,
-    left: &'n Result<Vec<u8>, Unread>,
-    right: &'n Result<Vec<u8>, Unread>,
-) -> (Named<'n>, Named<'n>) {
-    (
-        Named {
-            name: asked.left,
-            answer: left,
-        },
-        Named {
-            name: asked.right,
-            answer: right,
-        },
-    )
+/// What reading a file gave, with its name.
+fn named<'n>(name: &'n str, answer: &'n Result<Vec<u8>, Unread>) -> Named<'n> {
+    Named { name, answer }
 }
 
 /// Why two files are not both read.
@@ -65,7 +52,8 @@ fn not_read(alloc: Global, asked: &Diff<'_>, none: NotBoth) -> Result<NoDiff, Fa
         NotBoth::Unread(left, right) => (left, right),
     };
     let mut text = String::new(alloc);
-    let (first, second) = named(asked, &left, &right);
+    let first = named(asked.left, &left);
+    let second = named(asked.right, &right);
     let status = put_rejections(alloc, &mut text, first, second, asked.form)?;
     Ok(NoDiff::Rejected(text, status))
 }
@@ -80,7 +68,8 @@ fn not_compared(
 ) -> Result<NoDiff, Fault> {
     let (left, right) = (Ok(left), Ok(right));
     let mut text = String::new(alloc);
-    let (first, second) = named(asked, &left, &right);
+    let first = named(asked.left, &left);
+    let second = named(asked.right, &right);
     let status = put_not_compared(alloc, &mut text, first, second, refused, asked.form)?;
     Ok(NoDiff::Rejected(text, status))
 }

@@ -70,7 +70,7 @@ fn both(
     left: Result<Vec<u8>, Unread>,
     right: Result<Vec<u8>, Unread>,
 ) -> Result<(Vec<u8>, Vec<u8>), NotBoth>
-    ensures { IfOk result (λ read. (left.entry ≡ Ok read.0) × (right.entry ≡ Ok read.1)) }
+    ensures { IfOk result (λ read. (left ≡ Ok read.0) × (right ≡ Ok read.1)) }
 {
     match (left, right) {
         (Ok(left), Ok(right)) => Ok((left, right)),
