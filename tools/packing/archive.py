@@ -6,6 +6,7 @@ import subprocess
 import tarfile
 
 from .base import ARCH, copy, end, files_below, git, read, run, say, write, zipped
+from .pages import mend
 from .version import TOP, release
 
 PROGRAMS = {'yamlcanon': 'yaml_tool', 'yamlreview': 'yaml_review'}
@@ -65,6 +66,7 @@ def put_texts(tree, build):
     for name in git('ls-files', 'docs', 'examples', 'bindings', 'library/yamlcanon.c').splitlines():
         if not name.startswith('docs/man/') and os.path.isfile('%s/%s' % (TOP, name)):
             copy('%s/%s' % (TOP, name), '%s/share/doc/yamlcanon/%s' % (tree, name))
+    mend(tree + '/share/doc/yamlcanon')
     for name in os.listdir(TOP + '/docs/man'):
         if name.partition('.')[0] in programs():
             copy('%s/docs/man/%s' % (TOP, name), '%s/share/man/man%s/%s' % (tree, name[-1], name))

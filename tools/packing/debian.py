@@ -9,6 +9,7 @@ import textwrap
 import time as clock
 
 from .base import are_there, copy, read, run, say, set_times, write
+from .pages import mend
 from .version import TOP, release
 
 NEEDS = ('dpkg-buildpackage', 'dh', 'dh_python3', 'fakeroot')
@@ -56,6 +57,7 @@ def prepare(room, tree, time):
     write(room + '/debian/changelog', changelog(time))
     write(room + '/debian/copyright', COPYRIGHT % (clock.gmtime(time).tm_year, in_paragraph(read(TOP + '/LICENSE-MIT'))))
     texts = tree + '/share/doc/yamlcanon'
+    mend(room + '/share/doc/yamlcanon', (*PAGES, 'examples'))
     for package in PACKAGES:
         more = ''.join('share/doc/yamlcanon/%s\n' % name for name in PAGES) if package == 'yamlcanon' else ''
         write('%s/debian/%s.docs' % (room, package), 'NOTICE\nBUILD\n' + more)
