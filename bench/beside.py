@@ -29,8 +29,9 @@ def run(program, path, room):
     """Processor seconds, peak memory in kB and how the run ended."""
     told = os.path.join(room, "told")
     with open(os.path.join(room, "err"), "w+b") as err:
-        process = subprocess.Popen(["time", "--quiet", "--format=%U %S %M", "--output=" + told, program, "canon", path],
-                                   stdout=subprocess.DEVNULL, stderr=err)
+        process = subprocess.Popen(
+            ["time", "--quiet", "--format=%U %S %M", "--output=" + told, program, "canon", path], stdout=subprocess.DEVNULL, stderr=err
+        )
         _, status, used = os.wait4(process.pid, 0)
         process.returncode = os.waitstatus_to_exitcode(status)
         err.seek(0)
@@ -43,8 +44,13 @@ def run(program, path, room):
 def own_pages(library, program, path, room):
     """The most memory that a run had for itself, in kB."""
     told = os.path.join(room, "own")
-    subprocess.run([program, "canon", path], stdout=subprocess.DEVNULL, stderr=subprocess.DEVNULL, check=False,
-                   env={**os.environ, "LD_PRELOAD": library, "OWN_PAGES": told})
+    subprocess.run(
+        [program, "canon", path],
+        stdout=subprocess.DEVNULL,
+        stderr=subprocess.DEVNULL,
+        check=False,
+        env={**os.environ, "LD_PRELOAD": library, "OWN_PAGES": told},
+    )
     with open(told, encoding="ascii") as file:
         return int(file.read())
 
@@ -79,10 +85,19 @@ def tell(kind, found):
     for place, what in ((2, "time"), (3, "memory"), (4, "own pages")):
         ratios = sorted((it[place], name) for name, it in found)
         if ratios:
-            print("%s, %d texts, %s: median %.2f, nine in ten at most %.2f, most %.3f, above 1.05 %d" % (
-                kind, len(ratios), what, ratios[len(ratios) // 2][0], ratios[len(ratios) * 9 // 10][0], ratios[-1][0],
-                sum(ratio > 1.05 for ratio, _ in ratios)))
-            print("  " + ", ".join("%s %.2f" % (name, ratio) for ratio, name in ratios[:-1 - SHOWN:-1]), flush=True)
+            print(
+                "%s, %d texts, %s: median %.2f, nine in ten at most %.2f, most %.3f, above 1.05 %d"
+                % (
+                    kind,
+                    len(ratios),
+                    what,
+                    ratios[len(ratios) // 2][0],
+                    ratios[len(ratios) * 9 // 10][0],
+                    ratios[-1][0],
+                    sum(ratio > 1.05 for ratio, _ in ratios),
+                )
+            )
+            print("  " + ", ".join("%s %.2f" % (name, ratio) for ratio, name in ratios[: -1 - SHOWN : -1]), flush=True)
 
 
 def main(args):
@@ -96,7 +111,10 @@ def main(args):
     names = [name + end for name in asked.shapes or SHAPES for end in ["", *(" before " + end for end in ENDS)]]
     with tempfile.TemporaryDirectory() as room, concurrent.futures.ThreadPoolExecutor(asked.jobs) as pool:
         library = os.path.join(room, "own_pages.so")
-        subprocess.run(["cc", "-shared", "-fPIC", "-O2", "-o", library, os.path.join(os.path.dirname(os.path.realpath(__file__)), "own_pages.c")], check=True)
+        subprocess.run(
+            ["cc", "-shared", "-fPIC", "-O2", "-o", library, os.path.join(os.path.dirname(os.path.realpath(__file__)), "own_pages.c")],
+            check=True,
+        )
         found = list(zip(names, pool.map(lambda name: beside(name, asked, library), names)))
     other = [(name, it[1]) for name, it in found if len(it[1]) > 1]
     for kind in KINDS:

@@ -86,8 +86,12 @@ def counted(lines, program):
 def executed(program, path):
     """The same of a run of `canon`."""
     with tempfile.NamedTemporaryFile("r", encoding="utf-8") as out:
-        subprocess.run(["valgrind", "--tool=callgrind", "--dump-instr=yes", "--callgrind-out-file=" + out.name, program, "canon", path],
-                       stdout=subprocess.DEVNULL, stderr=subprocess.DEVNULL, check=False)
+        subprocess.run(
+            ["valgrind", "--tool=callgrind", "--dump-instr=yes", "--callgrind-out-file=" + out.name, program, "canon", path],
+            stdout=subprocess.DEVNULL,
+            stderr=subprocess.DEVNULL,
+            check=False,
+        )
         return counted(out, program)
 
 
@@ -99,8 +103,11 @@ def tell(code, name, counts):
         for shift, part in zip((0, SHIFT), parts):
             if place in code.jumps and at_border(*code.jumps[place], shift):
                 part[code.name_of(place)] += count
-    print("%s: %d instructions, jumps at borders %.4f, and %.4f with %d bytes before" % (
-        name, own, sum(parts[0].values()) / own, sum(parts[1].values()) / own, SHIFT), flush=True)
+    print(
+        "%s: %d instructions, jumps at borders %.4f, and %.4f with %d bytes before"
+        % (name, own, sum(parts[0].values()) / own, sum(parts[1].values()) / own, SHIFT),
+        flush=True,
+    )
     for function, count in (parts[0] + parts[1]).most_common(SHOWN):
         if count > own // 1000:
             print("  %s: %.4f and %.4f" % (function, parts[0][function] / own, parts[1][function] / own), flush=True)

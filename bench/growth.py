@@ -17,7 +17,7 @@ import tempfile
 
 from shapes import SHAPES
 
-PROGRAM = os.environ.get('YAMLCANON') or os.path.join(os.path.dirname(os.path.abspath(__file__)), '../crates/yaml_tool/out/yaml_tool')
+PROGRAM = os.environ.get("YAMLCANON") or os.path.join(os.path.dirname(os.path.abspath(__file__)), "../crates/yaml_tool/out/yaml_tool")
 SMALLEST, LARGEST, MOST, GATHERING = 10_000, 640_000, 2.3, 10
 
 
@@ -31,25 +31,28 @@ def size_of(make):
 
 def words_of(command, text, room, prepare=None):
     """What the program is given; `prepare` is called in the process that makes the events of `check`."""
-    path, events = os.path.join(room, 'text'), os.path.join(room, 'events')
-    with open(path, 'wb') as file:
+    path, events = os.path.join(room, "text"), os.path.join(room, "events")
+    with open(path, "wb") as file:
         file.write(text)
-    if command == 'check':
-        with open(events, 'wb') as file:
-            subprocess.run([PROGRAM, 'events', path], stdout=file, stderr=subprocess.DEVNULL, preexec_fn=prepare)
-    return [command, path] + {'same': [path], 'check': [events]}.get(command, [])
+    if command == "check":
+        with open(events, "wb") as file:
+            subprocess.run([PROGRAM, "events", path], stdout=file, stderr=subprocess.DEVNULL, preexec_fn=prepare)
+    return [command, path] + {"same": [path], "check": [events]}.get(command, [])
 
 
 def instructions(command, text):
     """How many there were, and how the run ended."""
     with tempfile.TemporaryDirectory() as room:
-        log = os.path.join(room, 'log')
+        log = os.path.join(room, "log")
         words = words_of(command, text, room)
-        done = subprocess.run(['valgrind', '--tool=callgrind', '--callgrind-out-file=/dev/null', '--log-file=' + log, PROGRAM] + words,
-                              stdout=subprocess.DEVNULL, stderr=subprocess.PIPE)
-        with open(log, encoding='utf-8') as file:
-            counted = re.search(r'Collected : (\d+)', file.read())
-        return int(counted.group(1)), done.stderr.decode().strip() or 'answered'
+        done = subprocess.run(
+            ["valgrind", "--tool=callgrind", "--callgrind-out-file=/dev/null", "--log-file=" + log, PROGRAM] + words,
+            stdout=subprocess.DEVNULL,
+            stderr=subprocess.PIPE,
+        )
+        with open(log, encoding="utf-8") as file:
+            counted = re.search(r"Collected : (\d+)", file.read())
+        return int(counted.group(1)), done.stderr.decode().strip() or "answered"
 
 
 def growth(command, name):
@@ -63,7 +66,7 @@ def growth(command, name):
         texts.append(make(8 * size))
         counts.append(instructions(command, texts[3]))
         grows = min(growths(texts, counts))
-    return grows, '%-26s %8d %8.0f %6.2f  %s' % (name, len(texts[-1]), counts[-1][0] / len(texts[-1]), grows, counts[-1][1])
+    return grows, "%-26s %8d %8.0f %6.2f  %s" % (name, len(texts[-1]), counts[-1][0] / len(texts[-1]), grows, counts[-1][1])
 
 
 def growths(texts, counts):
@@ -73,10 +76,10 @@ def growths(texts, counts):
 
 
 def main(args):
-    command = 'canon'
-    if args[:1] == ['--command']:
+    command = "canon"
+    if args[:1] == ["--command"]:
         command, args = args[1], args[2:]
-    print('%-26s %8s %8s %6s  %s' % ('shape', 'bytes', 'a byte', 'growth', 'how it ended'))
+    print("%-26s %8s %8s %6s  %s" % ("shape", "bytes", "a byte", "growth", "how it ended"))
     failed = []
     with concurrent.futures.ThreadPoolExecutor(len(os.sched_getaffinity(0))) as pool:
         names = args or list(SHAPES)
@@ -84,9 +87,9 @@ def main(args):
             print(line, flush=True)
             if grows > MOST:
                 failed.append(name)
-    print('%d shapes, %d grow by more than %s: %s' % (len(names), len(failed), MOST, ' '.join(failed)))
+    print("%d shapes, %d grow by more than %s: %s" % (len(names), len(failed), MOST, " ".join(failed)))
     return 1 if failed else 0
 
 
-if __name__ == '__main__':
+if __name__ == "__main__":
     sys.exit(main(sys.argv[1:]))

@@ -5,8 +5,10 @@ import sys
 def values(library, file):
     if library == "ruamel":
         from ruamel.yaml import YAML
+
         return YAML(typ="safe", pure=True).load_all(file)
     import yaml
+
     return yaml.load_all(file, Loader=yaml.CSafeLoader if library == "pyyaml-c" else yaml.SafeLoader)
 
 
@@ -16,7 +18,7 @@ def main(library, name, *show):
             for value in values(library, file):
                 if show:
                     print(repr(value))
-        except Exception as fault:              # whatever a library refuses by
+        except Exception as fault:  # whatever a library refuses by
             print(type(fault).__name__, " ".join(str(fault).split()), file=sys.stderr)
             return 2
     return 0

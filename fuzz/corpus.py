@@ -20,35 +20,35 @@ LARGEST = 4096
 
 
 def seeds(target):
-    for path in sorted(glob.glob(TOP + '/vectors/*.jsonl')):
-        with open(path, encoding='utf-8') as file:
+    for path in sorted(glob.glob(TOP + "/vectors/*.jsonl")):
+        with open(path, encoding="utf-8") as file:
             for number, line in enumerate(file):
                 row = json.loads(line)
-                if 'input' not in row:
+                if "input" not in row:
                     continue
-                text = base64.b64decode(row['input'])
-                if target == 'budget':
+                text = base64.b64decode(row["input"])
+                if target == "budget":
                     text = bytes([number % 3]) + text
-                if target == 'same':
-                    text += b'\0' + row.get('text', '').encode() if number % 2 and 'text' in row else b'\0' + text
+                if target == "same":
+                    text += b"\0" + row.get("text", "").encode() if number % 2 and "text" in row else b"\0" + text
                 if len(text) <= LARGEST:
                     yield text
 
 
 def main(target, out):
     named = {hashlib.sha1(text).hexdigest(): text for text in seeds(target)}
-    if out.endswith('.zip'):
-        with zipfile.ZipFile(out, 'w', zipfile.ZIP_DEFLATED) as file:
+    if out.endswith(".zip"):
+        with zipfile.ZipFile(out, "w", zipfile.ZIP_DEFLATED) as file:
             for name in sorted(named):
                 file.writestr(zipfile.ZipInfo(name), named[name])
         return
     os.makedirs(out, exist_ok=True)
     for name, text in named.items():
-        with open('%s/%s' % (out, name), 'wb') as file:
+        with open("%s/%s" % (out, name), "wb") as file:
             file.write(text)
 
 
-if __name__ == '__main__':
+if __name__ == "__main__":
     if len(sys.argv) != 3:
         sys.exit(__doc__)
     main(sys.argv[1], sys.argv[2])

@@ -18,7 +18,9 @@ def files(run):
     folder = run.path("files")
     subprocess.run([sys.executable, f"{BENCH}/many_files.py", folder, str(count)], stdout=subprocess.DEVNULL, check=True)
     os.environ.pop("PYTHONDONTWRITEBYTECODE", None)
-    os.environ.update(YAMLCANON_LIBRARY=f"{library}/libyamlcanon.so.1", PYTHONPATH=f"{TOP}/bindings/python", PYTHONPYCACHEPREFIX=run.path("compiled"))
+    os.environ.update(
+        YAMLCANON_LIBRARY=f"{library}/libyamlcanon.so.1", PYTHONPATH=f"{TOP}/bindings/python", PYTHONPYCACHEPREFIX=run.path("compiled")
+    )
     names = many.names_below(folder, count)
     seen, _, bases = many.rounds_of(b"".join(os.fsencode(name) + b"\0" for name in names), run.folder, 2 if run.quick else 5, JOBS)
     yield "files/count", len(names), "files", ""

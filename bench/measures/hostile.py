@@ -17,7 +17,11 @@ from shapes import SHAPES  # noqa: E402
 
 COMMANDS = ("canon", "same", "events", "check")
 QUICK_EVERY, SIZE, QUICK_SIZE, SEVERAL = 40, 500_000, 20_000, 50
-FIELDS = (("time", "micros", "microseconds per byte"), ("memory", "memory", "bytes per byte"), ("output", "output", "bytes of output per byte"))
+FIELDS = (
+    ("time", "micros", "microseconds per byte"),
+    ("memory", "memory", "bytes per byte"),
+    ("output", "output", "bytes of output per byte"),
+)
 
 
 def names_of(run):

@@ -112,8 +112,14 @@ def section(title, before, head, rows, after=""):
 def speed(results):
     def row(name, shown):
         size, memory = (results.value(f"speed/{name}/{it}") for it in ("size", "memory"))
-        return [shown, "" if size is None else f"{size / 1e6:.1f} MB", with_range(results, f"speed/{name}/time"),
-                number(results.value(f"speed/{name}/instructions")), "" if memory is None else f"{memory:.1f} times the text"]
+        return [
+            shown,
+            "" if size is None else f"{size / 1e6:.1f} MB",
+            with_range(results, f"speed/{name}/time"),
+            number(results.value(f"speed/{name}/instructions")),
+            "" if memory is None else f"{memory:.1f} times the text",
+        ]
+
     picture = f"![processor time of `canon` for that of libyaml's parser, and its peak memory]({PICTURE.rpartition('/')[2]})"
     head = ["text", "size", "time", "instructions", "peak memory"]
     return section("Speed and memory", prose("speed"), head, [row(*it) for it in TEXTS.items()], picture)
@@ -149,7 +155,9 @@ def stack(results):
 
 
 def files(results):
-    rows = [[shown, number(results.value(f"files/{name}/rate")), with_range(results, f"files/{name}/ratio")] for name, shown in WAYS.items()]
+    rows = [
+        [shown, number(results.value(f"files/{name}/rate")), with_range(results, f"files/{name}/ratio")] for name, shown in WAYS.items()
+    ]
     before = prose("files", count=number(results.value("files/count")), size=number(results.value("files/size")))
     return section("Many files", before, ["way", "files per second", "ratio"], rows)
 

@@ -38,16 +38,23 @@ class Panel:
 
 def picture(results):
     """The picture's text, or nothing where no speed was measured."""
-    rows = [(shown, results.value(f"speed/{name}/time"), results.range(f"speed/{name}/time"), results.value(f"speed/{name}/memory"))
-            for name, shown in TEXTS.items() if results.value(f"speed/{name}/time") is not None]
+    rows = [
+        (shown, results.value(f"speed/{name}/time"), results.range(f"speed/{name}/time"), results.value(f"speed/{name}/memory"))
+        for name, shown in TEXTS.items()
+        if results.value(f"speed/{name}/time") is not None
+    ]
     if not rows:
         return ""
     most = max(max(row[1], row[2][1] if row[2] else 0) for row in rows)
-    panels = Panel(LEFT, "time of canon / time of libyaml's parser", TIME, max(1, most)), \
-        Panel(LEFT + WIDTH + GAP, "peak memory / size of the text", MEMORY, max(row[3] or 0 for row in rows))
+    panels = Panel(LEFT, "time of canon / time of libyaml's parser", TIME, max(1, most)), Panel(
+        LEFT + WIDTH + GAP, "peak memory / size of the text", MEMORY, max(row[3] or 0 for row in rows)
+    )
     height, width = TOP + STEP * len(rows) + 10, LEFT + 2 * WIDTH + GAP + 30
-    lines = [f'<svg xmlns="http://www.w3.org/2000/svg" viewBox="0 0 {width} {height}" font-family="sans-serif" font-size="12">',
-             f'<rect width="{width}" height="{height}" fill="white"/>', *(line for panel in panels for line in panel.axis(height - 10))]
+    lines = [
+        f'<svg xmlns="http://www.w3.org/2000/svg" viewBox="0 0 {width} {height}" font-family="sans-serif" font-size="12">',
+        f'<rect width="{width}" height="{height}" fill="white"/>',
+        *(line for panel in panels for line in panel.axis(height - 10)),
+    ]
     for at, (shown, time, span, memory) in enumerate(rows):
         y = TOP + STEP * at
         lines += [f'<text x="{LEFT - 8}" y="{y + 12}" text-anchor="end">{shown}</text>', *panels[0].bar(y, time, span)]

@@ -14,8 +14,10 @@ class Claim:
 def claims(results):
     """The two numbers of README: speed on block mappings, and the most memory on the eight texts."""
     memory = results.values(r"speed/.*/memory")
-    return (Claim(r"takes (\d+\.\d+) times the processor time of libyaml's parser", number(results.value("speed/mappings/time"))),
-            Claim(r"peak memory is at most (\d+\.\d+) times the size of the input", f"{max(memory):.1f}" if memory else ""))
+    return (
+        Claim(r"takes (\d+\.\d+) times the processor time of libyaml's parser", number(results.value("speed/mappings/time"))),
+        Claim(r"peak memory is at most (\d+\.\d+) times the size of the input", f"{max(memory):.1f}" if memory else ""),
+    )
 
 
 def faults_of_readme(results, text):

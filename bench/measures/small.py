@@ -66,4 +66,3 @@ def calls(run):
                 raise LeftOut(f"calls from {name}: {ran.stderr.strip()}")
             yield f"small/{call} from {name}", float(ran.stdout), "microseconds of processor", f"least of {rounds} rounds"
     say("small: calls of the library")
-

@@ -45,8 +45,12 @@ def commands(run):
     printer = run.libyaml("print_events.c")
     for name in run.texts():
         text = run.text(name, run.size)
-        ways = {"canon": [PROGRAM, "canon", text], "same": [PROGRAM, "same", text, canonical_of(run, text)],
-                "events": [PROGRAM, "events", text], "printer": [*printer, text]}
+        ways = {
+            "canon": [PROGRAM, "canon", text],
+            "same": [PROGRAM, "same", text, canonical_of(run, text)],
+            "events": [PROGRAM, "events", text],
+            "printer": [*printer, text],
+        }
         if os.access(REVIEW, os.X_OK):
             other = changed_of(run, text)
             ways |= {"same changed": [PROGRAM, "same", text, other], "diff": [REVIEW, "diff", text, other]}
@@ -57,8 +61,13 @@ def commands(run):
 
 
 def compared(name, taken):
-    for way, base, unit in (("same", "canon", "times canon"), ("events", "canon", "times canon"), ("diff", "canon", "times canon"),
-                            ("events", "printer", "times a C program over libyaml"), ("diff", "same changed", "times same")):
+    for way, base, unit in (
+        ("same", "canon", "times canon"),
+        ("events", "canon", "times canon"),
+        ("diff", "canon", "times canon"),
+        ("events", "printer", "times a C program over libyaml"),
+        ("diff", "same changed", "times same"),
+    ):
         if way in taken:
             median, spread = ratio(taken, way, base)
             yield f"commands/{name}/{way} for {base}", median, unit, spread

@@ -29,9 +29,11 @@ def nests(depth):
 
 def answer(words, kilobytes):
     """The status and output of a run with such a stack and no environment, which would take of it."""
+
     def limited():
         resource.setrlimit(resource.RLIMIT_STACK, (kilobytes << 10, kilobytes << 10))
         resource.setrlimit(resource.RLIMIT_CORE, (0, 0))
+
     ran = subprocess.run(words, stdin=subprocess.DEVNULL, capture_output=True, env={}, preexec_fn=limited, check=False)
     return ran.returncode, ran.stdout, ran.stderr
 

@@ -9,8 +9,12 @@ BENCH = os.path.dirname(os.path.dirname(os.path.realpath(__file__)))
 
 def cost(words, folder):
     """Seconds of processor, by the kernel's count, and MiB at most, by GNU time, which is small itself."""
-    with subprocess.Popen(["/usr/bin/time", "-f", "%M", "-o", f"{folder}/cost", *words], stdin=subprocess.DEVNULL,
-                          stdout=subprocess.DEVNULL, stderr=subprocess.DEVNULL) as run:
+    with subprocess.Popen(
+        ["/usr/bin/time", "-f", "%M", "-o", f"{folder}/cost", *words],
+        stdin=subprocess.DEVNULL,
+        stdout=subprocess.DEVNULL,
+        stderr=subprocess.DEVNULL,
+    ) as run:
         _, _, used = os.wait4(run.pid, 0)
         run.returncode = 0
     with open(f"{folder}/cost", encoding="utf-8") as file:
@@ -20,8 +24,13 @@ def cost(words, folder):
 def instructions(words, folder):
     """Instructions of a run and what it starts, by valgrind's callgrind; 0 where they were not counted."""
     log = f"{folder}/log"
-    subprocess.run(["valgrind", "--tool=callgrind", "--trace-children=yes", "--callgrind-out-file=/dev/null", f"--log-file={log}", *words],
-                   stdin=subprocess.DEVNULL, stdout=subprocess.DEVNULL, stderr=subprocess.DEVNULL, check=False)
+    subprocess.run(
+        ["valgrind", "--tool=callgrind", "--trace-children=yes", "--callgrind-out-file=/dev/null", f"--log-file={log}", *words],
+        stdin=subprocess.DEVNULL,
+        stdout=subprocess.DEVNULL,
+        stderr=subprocess.DEVNULL,
+        check=False,
+    )
     with open(log, encoding="utf-8") as file:
         return max(map(int, re.findall(r"Collected : (\d+)", file.read())), default=0)
 

@@ -6,32 +6,32 @@ import subprocess
 import sys
 
 TOP = os.path.dirname(os.path.dirname(os.path.dirname(os.path.realpath(__file__))))
-sys.path.insert(0, TOP + '/tools/failing')
-sys.path.insert(0, TOP + '/bench')
+sys.path.insert(0, TOP + "/tools/failing")
+sys.path.insert(0, TOP + "/bench")
 
 import rows  # noqa: E402
 
-PROGRAM = os.environ.get('YAMLCANON') or TOP + '/crates/yaml_tool/out/yaml_tool'
+PROGRAM = os.environ.get("YAMLCANON") or TOP + "/crates/yaml_tool/out/yaml_tool"
 SEED = 1
-LETTERS = [letter.encode() for letter in '-:#[]{},?"\'\\&*!|> \n\tab01~%é']
+LETTERS = [letter.encode() for letter in "-:#[]{},?\"'\\&*!|> \n\tab01~%é"]
 WRONG = []
 
 
 def say(text):
-    print('bindings: ' + text, flush=True)
+    print("bindings: " + text, flush=True)
 
 
 def wrong(text):
     WRONG.append(text)
-    print('bindings: ' + text, file=sys.stderr, flush=True)
+    print("bindings: " + text, file=sys.stderr, flush=True)
 
 
 def run(*words, **how):
     """A command, which has to end well. Gives its output."""
     done = subprocess.run(words, stdout=subprocess.PIPE, stderr=subprocess.STDOUT, check=False, **how)
     if done.returncode:
-        wrong('%s: status %d\n%s' % (' '.join(words), done.returncode, done.stdout.decode(errors='replace')))
-    return done.stdout.decode(errors='replace').strip()
+        wrong("%s: status %d\n%s" % (" ".join(words), done.returncode, done.stdout.decode(errors="replace")))
+    return done.stdout.decode(errors="replace").strip()
 
 
 def is_there(*words):
@@ -40,14 +40,14 @@ def is_there(*words):
         subprocess.run(words, stdout=subprocess.DEVNULL, stderr=subprocess.DEVNULL, check=True)
         return True
     except (OSError, subprocess.CalledProcessError):
-        say('left out, since it fails: ' + ' '.join(words))
+        say("left out, since it fails: " + " ".join(words))
         return False
 
 
 def build(folder, name, *words):
     """A program in C over the library of a folder."""
-    made = '%s/%s' % (folder, name)
-    run('cc', '-std=c11', '-D_DEFAULT_SOURCE', '-O2', '-Wall', '-Wextra', '-Werror', '-I', folder, '-o', made, *words)
+    made = "%s/%s" % (folder, name)
+    run("cc", "-std=c11", "-D_DEFAULT_SOURCE", "-O2", "-Wall", "-Wextra", "-Werror", "-I", folder, "-o", made, *words)
     return made
 
 
@@ -61,19 +61,21 @@ def is_program_built():
     """Whether there is a program to hold answers against; where there is none, that is a fault."""
     if os.access(PROGRAM, os.X_OK):
         return True
-    wrong('%s is not built: the answers are not held against it' % PROGRAM)
+    wrong("%s is not built: the answers are not held against it" % PROGRAM)
     return False
 
 
 def texts_of_rows():
-    return list(dict.fromkeys(text for row in rows.all_rows() for text in ([row.left, row.right] if isinstance(row, rows.Pair) else [row.input])))
+    return list(
+        dict.fromkeys(text for row in rows.all_rows() for text in ([row.left, row.right] if isinstance(row, rows.Pair) else [row.input]))
+    )
 
 
 def changed(text, chance):
     """A text with up to three of its bytes taken out, doubled or replaced."""
     for _ in range(chance.randint(1, 3)):
         at = chance.randint(0, len(text))
-        text = text[:at] + chance.choice([b'', text[at:at + 1] * 2, chance.choice(LETTERS)]) + text[at + 1:]
+        text = text[:at] + chance.choice([b"", text[at : at + 1] * 2, chance.choice(LETTERS)]) + text[at + 1 :]
     return text
 
 

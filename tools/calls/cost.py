@@ -17,8 +17,8 @@ import subprocess
 from calls.base import PROGRAM, TOP, build, is_program_built, is_there, say, wrong
 
 # A call's command, and whether a room that surely holds the text saves it work.
-CALLS = {'canonical': ('canon', False), 'events': ('events', True)}
-TEXTS, LONG_TEXT, MOST = ('mappings', 'flow', 'scalars', 'documents'), 'mappings', 1.05
+CALLS = {"canonical": ("canon", False), "events": ("events", True)}
+TEXTS, LONG_TEXT, MOST = ("mappings", "flow", "scalars", "documents"), "mappings", 1.05
 SMALL, LONG = 1_000_000, 10_000_000
 
 
@@ -26,53 +26,63 @@ def told(words, out=subprocess.PIPE):
     """What a command prints and says, which has to end well."""
     done = subprocess.run(words, stdin=subprocess.DEVNULL, stdout=out, stderr=subprocess.PIPE, check=False)
     if done.returncode:
-        wrong('%s: status %d: %s' % (' '.join(words), done.returncode, done.stderr.decode(errors='replace')))
+        wrong("%s: status %d: %s" % (" ".join(words), done.returncode, done.stderr.decode(errors="replace")))
     return done.stdout, done.stderr.decode()
 
 
-def written(room, shape, size, command='canon'):
+def written(room, shape, size, command="canon"):
     """The name of a file with a text of this shape, its bytes, and what the program makes of it, which the call has to give."""
-    name = '%s/%s.%d.%s' % (room, shape, size, command)
-    with open(name, 'wb') as file:
-        told([TOP + '/bench/texts', shape, str(size)], file)
+    name = "%s/%s.%d.%s" % (room, shape, size, command)
+    with open(name, "wb") as file:
+        told([TOP + "/bench/texts", shape, str(size)], file)
     text = told([PROGRAM, command, name])[0]
     return name, os.path.getsize(name), text
 
 
 def instructions(log, only, *words):
     """How many a command takes; where a function is named, within that function alone."""
-    flags = ['--toggle-collect=' + only] if only else []
-    told(['valgrind', '--tool=callgrind', '--callgrind-out-file=/dev/null', '--log-file=' + log, *flags, *words], subprocess.DEVNULL)
-    with open(log, encoding='utf-8') as file:
-        return int(re.search(r'Collected : (\d+)', file.read())[1])
+    flags = ["--toggle-collect=" + only] if only else []
+    told(["valgrind", "--tool=callgrind", "--callgrind-out-file=/dev/null", "--log-file=" + log, *flags, *words], subprocess.DEVNULL)
+    with open(log, encoding="utf-8") as file:
+        return int(re.search(r"Collected : (\d+)", file.read())[1])
 
 
 def counted(made, room, shape, size, call):
     """The instructions of a call over those of the program, and a line that tells both."""
     command, roomy = CALLS[call]
     name, bytes_in, text = written(room, shape, size, command)
-    program = instructions(name + '.program', None, PROGRAM, command, name)
+    program = instructions(name + ".program", None, PROGRAM, command, name)
     rooms = [8 * bytes_in, len(text)] if roomy else [len(text)]
-    taken = [instructions(name + '.call', 'yamlcanon_' + call, made, name, str(cap), call) for cap in rooms]
-    line = '%s on %d bytes of %s: %d instructions, %.4f of the %d of %s' % (call, bytes_in, shape, taken[0], taken[0] / program, program, command)
+    taken = [instructions(name + ".call", "yamlcanon_" + call, made, name, str(cap), call) for cap in rooms]
+    line = "%s on %d bytes of %s: %d instructions, %.4f of the %d of %s" % (
+        call,
+        bytes_in,
+        shape,
+        taken[0],
+        taken[0] / program,
+        program,
+        command,
+    )
     if roomy:
-        line += '; into a room of just the text\'s length %d, %.4f' % (taken[1], taken[1] / program)
+        line += "; into a room of just the text's length %d, %.4f" % (taken[1], taken[1] / program)
     return max(taken) / program, line
 
 
 def try_memory(made, room, shape):
     """What the processes hold at most, in kB and in bytes by the call's own count."""
     name, bytes_in, text = written(room, shape, LONG)
-    given, said = told([made, name, str(len(text)), 'canonical'])
-    its = int(told([made, '--', PROGRAM, 'canon', name])[1].split()[-1])
+    given, said = told([made, name, str(len(text)), "canonical"])
+    its = int(told([made, "--", PROGRAM, "canon", name])[1].split()[-1])
     held, own = map(int, said.split())
     if given != text:
-        wrong('another text than the program gives on %d bytes of %s' % (bytes_in, shape))
+        wrong("another text than the program gives on %d bytes of %s" % (bytes_in, shape))
     most = its + (bytes_in + len(text)) // 1024
-    say('%d bytes of %s: the call holds %d bytes; its process %d kB, of which the input %d and the room %d; the process of canon %d kB'
-        % (bytes_in, shape, held, own, bytes_in // 1024, len(text) // 1024, its))
+    say(
+        "%d bytes of %s: the call holds %d bytes; its process %d kB, of which the input %d and the room %d; the process of canon %d kB"
+        % (bytes_in, shape, held, own, bytes_in // 1024, len(text) // 1024, its)
+    )
     if own > most:
-        wrong('the memory on %s is above the program\'s with the input and the room, %d kB' % (shape, most))
+        wrong("the memory on %s is above the program's with the input and the room, %d kB" % (shape, most))
 
 
 def try_cost(folder, room):
@@ -80,14 +90,14 @@ def try_cost(folder, room):
     if not is_program_built():
         return
     os.mkdir(room)
-    made = build(folder, 'cost', TOP + '/library/cost.c', folder + '/libyamlcanon.a')
+    made = build(folder, "cost", TOP + "/library/cost.c", folder + "/libyamlcanon.a")
     for shape in TEXTS:
         try_memory(made, room, shape)
-    if not is_there('valgrind', '--version'):
+    if not is_there("valgrind", "--version"):
         return
     runs = [(*text, call) for call in CALLS for text in [(LONG_TEXT, LONG), *((shape, SMALL) for shape in TEXTS)]]
     with concurrent.futures.ThreadPoolExecutor(max(1, len(os.sched_getaffinity(0)) // 2)) as pool:
         for ratio, line in pool.map(lambda each: counted(made, room, *each), runs):
             say(line)
             if ratio > MOST:
-                wrong('more than %s times the instructions of the program' % MOST)
+                wrong("more than %s times the instructions of the program" % MOST)

@@ -31,7 +31,12 @@ def run_c(folder, room, text):
 
 
 def run_python(folder, room, text):
-    env = {**os.environ, "YAMLCANON_LIBRARY": f"{folder}/libyamlcanon.so.1", "PYTHONPATH": f"{TOP}/bindings/python", "PYTHONDONTWRITEBYTECODE": "1"}
+    env = {
+        **os.environ,
+        "YAMLCANON_LIBRARY": f"{folder}/libyamlcanon.so.1",
+        "PYTHONPATH": f"{TOP}/bindings/python",
+        "PYTHONDONTWRITEBYTECODE": "1",
+    }
     return run(sys.executable, put(f"{room}/program.py", text), env=env)
 
 

@@ -89,8 +89,20 @@ def pairs_of(text):
 
 
 # What the shape of a text counts: branches, arms, loops, exits, `?`, calls, alternatives, statements, indexings, operators.
-COUNTED = (r"\bif\b", r"\bmatch\b", r"=>", r"\bfor\b|\bwhile\b|\bloop\b", r"\breturn\b|\bbreak\b|\bcontinue\b", r"\?",
-           r"\b[a-z_]\w*\(", r"&&|\|\|", r" \| ", r";", r"\[", r" [-+*/%] ")
+COUNTED = (
+    r"\bif\b",
+    r"\bmatch\b",
+    r"=>",
+    r"\bfor\b|\bwhile\b|\bloop\b",
+    r"\breturn\b|\bbreak\b|\bcontinue\b",
+    r"\?",
+    r"\b[a-z_]\w*\(",
+    r"&&|\|\|",
+    r" \| ",
+    r";",
+    r"\[",
+    r" [-+*/%] ",
+)
 
 
 def shape(text):

@@ -24,8 +24,16 @@ class Gate:
     def __init__(self, root):
         self.proved, self.status = set(), None
         self.changed = threading.Condition()
-        self.process = subprocess.Popen(["rt", "ci"], cwd=root, stdin=subprocess.DEVNULL, stdout=subprocess.PIPE, text=True, errors="replace",
-                                        stderr=subprocess.STDOUT, env={"RT_JOBS": str(lanes()), **os.environ, "PYTHONUNBUFFERED": "1"})
+        self.process = subprocess.Popen(
+            ["rt", "ci"],
+            cwd=root,
+            stdin=subprocess.DEVNULL,
+            stdout=subprocess.PIPE,
+            text=True,
+            errors="replace",
+            stderr=subprocess.STDOUT,
+            env={"RT_JOBS": str(lanes()), **os.environ, "PYTHONUNBUFFERED": "1"},
+        )
         threading.Thread(target=self.read, daemon=True).start()
 
     def read(self):

@@ -119,8 +119,11 @@ def try_edits(room, edits, listed, alone):
     trials = {it.name: Trial(it, it.changes(), it.set_aside) for it in edits}
     told = judge(room, [*trials.values()], alone)
     for _ in range(TRIES):
-        again = [trials[it.name] for it in edits
-                 if it.name not in listed and told[it.name] and not told[it.name].false and set_aside(it.set_aside, told[it.name].names)]
+        again = [
+            trials[it.name]
+            for it in edits
+            if it.name not in listed and told[it.name] and not told[it.name].false and set_aside(it.set_aside, told[it.name].names)
+        ]
         if not again:
             break
         told.update(judge(room, again, alone))

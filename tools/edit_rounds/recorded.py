@@ -176,6 +176,8 @@ class Record:
             edits = [name for lines in self.put.values() if lines for name in lines]
             return f"{len(edits)} edits are recorded in {NAME}"
         if self.takes:
-            return (f"{self.counts['tried']} edits were tried, {self.counts['taken']} taken from {NAME}, "
-                    f"{self.counts['kept']} from what this machine keeps; the sample, tried anew: {' '.join(self.sample)}")
+            return (
+                f"{self.counts['tried']} edits were tried, {self.counts['taken']} taken from {NAME}, "
+                f"{self.counts['kept']} from what this machine keeps; the sample, tried anew: {' '.join(self.sample)}"
+            )
         return self.note

@@ -16,6 +16,7 @@ def kit():
     """The kit's own module, which knows when a built library is that of its sources."""
     sys.path.insert(0, os.path.dirname(os.path.realpath(shutil.which("rt"))))
     import rtlib  # pylint: disable=import-outside-toplevel,import-error
+
     if rtlib.Crate.stamp is not stamp_once:
         rtlib.Crate.stamp_anew, rtlib.Crate.stamp = rtlib.Crate.stamp, stamp_once
     return rtlib
@@ -132,8 +133,9 @@ class Room:
 
     def run(self, words):
         """What a command in the crate's folder prints. Its processor time is added up."""
-        with subprocess.Popen(words, cwd=self.at, stdin=subprocess.DEVNULL, stdout=subprocess.PIPE, stderr=subprocess.STDOUT,
-                              text=True, errors="replace") as ran:
+        with subprocess.Popen(
+            words, cwd=self.at, stdin=subprocess.DEVNULL, stdout=subprocess.PIPE, stderr=subprocess.STDOUT, text=True, errors="replace"
+        ) as ran:
             text = ran.stdout.read()
             _, ran.returncode, used = os.wait4(ran.pid, 0)
         self.checks += 1

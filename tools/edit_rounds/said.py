@@ -119,5 +119,8 @@ def sort_error(told, path, line, goal, text):
 
 def within(edit, found):
     """The goals of these places that stand in the edit's functions."""
-    return {goal for path, line, goal in found
-            if edit.is_outside or any(path == place.path and place.first <= line <= place.last for place in edit.places)}
+    return {
+        goal
+        for path, line, goal in found
+        if edit.is_outside or any(path == place.path and place.first <= line <= place.last for place in edit.places)
+    }

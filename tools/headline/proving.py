@@ -36,8 +36,15 @@ class Proving:
         """Runs it to its end; rt's status."""
         said = []
         with open(self.log, "w", encoding="utf-8") as log, subprocess.Popen(
-            ["rt", "ci", "--anew", self.crate], cwd=self.room, stdin=subprocess.DEVNULL, stdout=subprocess.PIPE, stderr=subprocess.STDOUT,
-            text=True, errors="replace", env={**os.environ, "PYTHONUNBUFFERED": "1"}) as ran:
+            ["rt", "ci", "--anew", self.crate],
+            cwd=self.room,
+            stdin=subprocess.DEVNULL,
+            stdout=subprocess.PIPE,
+            stderr=subprocess.STDOUT,
+            text=True,
+            errors="replace",
+            env={**os.environ, "PYTHONUNBUFFERED": "1"},
+        ) as ran:
             for line in ran.stdout:
                 log.write(line)
                 log.flush()

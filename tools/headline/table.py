@@ -30,11 +30,19 @@ def row_of(proving, name):
 
 def table_of(proving):
     """The table, and what all of it rests on."""
-    rows = [["crate", "functions", "axioms", "holes", "trusted", "minutes"], *(row_of(proving, name) for name in sorted(proving.names, key=lambda it: proving.ends.get(it, 1e18)))]
+    rows = [
+        ["crate", "functions", "axioms", "holes", "trusted", "minutes"],
+        *(row_of(proving, name) for name in sorted(proving.names, key=lambda it: proving.ends.get(it, 1e18))),
+    ]
     total = [sum(int(row[at]) for row in rows[1:] if row[at].isdigit()) for at in (1, 2, 3)]
     rows.append(["all", *map(str, total), "", f"{(time.monotonic() - proving.began) / 60:.1f}"])
     widths = [max(len(row[at]) for row in rows) for at in range(6)]
-    lines = ["  ".join(cell.rjust(width) if at in (1, 2, 3, 5) else cell.ljust(width) for at, (cell, width) in enumerate(zip(row, widths))).rstrip() for row in rows]
+    lines = [
+        "  ".join(
+            cell.rjust(width) if at in (1, 2, 3, 5) else cell.ljust(width) for at, (cell, width) in enumerate(zip(row, widths))
+        ).rstrip()
+        for row in rows
+    ]
     sums = sorted({words_of(it)["sum"] for it in proving.verdicts.values() if "sum" in words_of(it)})
     said = f"{proving.processor / 60:.0f} minutes of processor. logic: {' '.join(sums)}. libraries-built: the kit's own, and of ours those proved in this run."
     return "\n".join([*lines, said])

@@ -24,7 +24,12 @@ CONTENTS = "law_length/proofs/Contents.antt"
 TRIALS = {
     "as it is": None,
     "a lemma made wrong": (CONTENTS, "quoted cs []) ≤ 1 + 4 * bytes cs", "quoted cs []) ≤ 4 * bytes cs", "law_length"),
-    "a definition changed": ("yaml_definitions/specs/model/Order.antt", "trees_cmp end (item u us) = Less", "trees_cmp end (item u us) = Greater", "yaml_definitions"),
+    "a definition changed": (
+        "yaml_definitions/specs/model/Order.antt",
+        "trees_cmp end (item u us) = Less",
+        "trees_cmp end (item u us) = Greater",
+        "yaml_definitions",
+    ),
     "a hole": (CONTENTS, PROOF, "two a b n h k l = ?\n", "law_length"),
     "an axiom": (CONTENTS, LEMMA + PROOF, "axiom pub " + LEMMA, "law_length"),
 }
@@ -51,7 +56,9 @@ def passes(name, trial):
     """Whether check-headline says of it what it should."""
     with tempfile.TemporaryDirectory(prefix="trial-") as room:
         planted(f"{room}/tree", trial)
-        done = subprocess.run([f"{room}/tree/tools/check-headline", "law_length", "--log", f"{room}/log"], capture_output=True, text=True, check=False)
+        done = subprocess.run(
+            [f"{room}/tree/tools/check-headline", "law_length", "--log", f"{room}/log"], capture_output=True, text=True, check=False
+        )
     said = re.findall(r"check-headline: FAILED: (.*)", done.stdout)
     print(f"{name}: status {done.returncode}: {'; '.join(said) or 'proved'}", flush=True)
     if trial is None:

@@ -8,11 +8,11 @@ import sys
 
 from .version import TOP
 
-ARCH = 'x86_64-linux'
+ARCH = "x86_64-linux"
 
 
 def say(text):
-    print('release: ' + text, file=sys.stderr, flush=True)
+    print("release: " + text, file=sys.stderr, flush=True)
 
 
 def end(text):
@@ -24,38 +24,38 @@ def run(*words, **how):
     """What a command prints; its failure ends this, with what it said."""
     done = subprocess.run(words, stdout=subprocess.PIPE, stderr=subprocess.PIPE, stdin=subprocess.DEVNULL, text=True, check=False, **how)
     if done.returncode:
-        end('%s: status %d\n%s%s' % (' '.join(words), done.returncode, done.stdout, done.stderr))
+        end("%s: status %d\n%s%s" % (" ".join(words), done.returncode, done.stdout, done.stderr))
     return done.stdout
 
 
 def are_there(*names):
     """Whether these commands are there; where one is not, what needs it is left out, and that is said."""
     lacking = [name for name in names if not shutil.which(name)]
-    return not lacking, ' '.join(lacking)
+    return not lacking, " ".join(lacking)
 
 
 def git(*words):
-    return run('git', '-C', TOP, *words).strip()
+    return run("git", "-C", TOP, *words).strip()
 
 
 def epoch():
     """The time that all files of a release bear: SOURCE_DATE_EPOCH, or when the commit was made."""
-    return int(os.environ.get('SOURCE_DATE_EPOCH') or git('log', '-1', '--format=%ct'))
+    return int(os.environ.get("SOURCE_DATE_EPOCH") or git("log", "-1", "--format=%ct"))
 
 
 def read(path):
-    with open(path, encoding='utf-8') as file:
+    with open(path, encoding="utf-8") as file:
         return file.read()
 
 
 def bytes_of(path):
-    with open(path, 'rb') as file:
+    with open(path, "rb") as file:
         return file.read()
 
 
 def write(path, text, mode=0o644):
     os.makedirs(os.path.dirname(path), exist_ok=True)
-    with open(path, 'w', encoding='utf-8') as file:
+    with open(path, "w", encoding="utf-8") as file:
         file.write(text)
     os.chmod(path, mode)
 
@@ -66,7 +66,7 @@ def copy(source, target, mode=0o644):
     os.chmod(target, mode)
 
 
-def sum_of(path, kind='sha256'):
+def sum_of(path, kind="sha256"):
     return hashlib.new(kind, bytes_of(path)).hexdigest()
 
 

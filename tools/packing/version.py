@@ -7,15 +7,15 @@ TOP = os.path.dirname(os.path.dirname(os.path.dirname(os.path.realpath(__file__)
 
 
 def found(path, pattern):
-    with open('%s/%s' % (TOP, path), encoding='utf-8') as file:
+    with open("%s/%s" % (TOP, path), encoding="utf-8") as file:
         return re.search(pattern, file.read(), re.M)[1]
 
 
 def release():
     """The version of what is packed, as 1.0.0."""
-    return found('CHANGELOG.md', r'^## (\d+\.\d+\.\d+)\b')
+    return found("CHANGELOG.md", r"^## (\d+\.\d+\.\d+)\b")
 
 
 def interface():
     """The number of the library's interface, which is in its name, and the number of what was added."""
-    return divmod(int(found('include/yamlcanon.h', r'^#define YAMLCANON_VERSION (\d+)$')), 100)
+    return divmod(int(found("include/yamlcanon.h", r"^#define YAMLCANON_VERSION (\d+)$")), 100)

@@ -50,7 +50,9 @@ class Declared:
         below, name = parts[4:-1], parts[-1]
         self.module, self.name, self.path = module, name, f"{parts[1]}/src/{'/'.join(below)}.rt"
         text = read(f"{crates}/{self.path}")
-        found = re.search(rf"((?:^///[^\n]*\n)*)((?:^#\[[^\n]*\n)*)^(pub (?:enum|struct) {name}\b(?:[^\n{{]*;$|.*?^}}$))", text, re.M | re.S)
+        found = re.search(
+            rf"((?:^///[^\n]*\n)*)((?:^#\[[^\n]*\n)*)^(pub (?:enum|struct) {name}\b(?:[^\n{{]*;$|.*?^}}$))", text, re.M | re.S
+        )
         if not found:
             raise SystemExit(f"statement: {self.path} declares no {name}")
         self.comment = [line.replace("///", "--", 1) for line in found[1].splitlines()]

@@ -58,7 +58,12 @@ def page_of(statement, definitions):
 
 def count_of(blocks):
     """How many definitions stand in blocks: those that need each other are counted one by one."""
-    return sum(max(1, len(re.findall(r"^\s*(?:abbrev |unfoldable )?(?:pub )?(?:data |record )?\S+ [^\n]*:(?: |$)", it.text(), re.M))) if "mutual" in it.lines[0] else 1 for it in blocks)
+    return sum(
+        max(1, len(re.findall(r"^\s*(?:abbrev |unfoldable )?(?:pub )?(?:data |record )?\S+ [^\n]*:(?: |$)", it.text(), re.M)))
+        if "mutual" in it.lines[0]
+        else 1
+        for it in blocks
+    )
 
 
 def words_of(statement):
@@ -67,7 +72,10 @@ def words_of(statement):
     for module, name in statement.words:
         # a type of the library and its variants stand together
         modules.setdefault(module.removeprefix("Rattle.").removesuffix(".TheVariants"), set()).add(name)
-    lines = ["## Names from the kit's library", "Lists, numbers, options and characters are defined in the library of the Rattle kit; `rt lemma WORD` prints what each name is."]
+    lines = [
+        "## Names from the kit's library",
+        "Lists, numbers, options and characters are defined in the library of the Rattle kit; `rt lemma WORD` prints what each name is.",
+    ]
     for module in sorted(modules):
         lines.append(f"- `{module}`: {' '.join(f'`{name}`' for name in sorted(modules[module]))}")
     return lines

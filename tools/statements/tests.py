@@ -219,7 +219,10 @@ class OfThePages(unittest.TestCase):
         known = set()
         for path in glob.glob(f"{TOP}/crates/*/specs/**/*.antt", recursive=True):
             if "/out/" not in path and not path.endswith("/Lib.antt"):
-                known |= {os.path.basename(path).removesuffix(".antt"), *(name for name, _ in names_in(source(os.path.relpath(path, f"{TOP}/crates")).split("\n")))}
+                known |= {
+                    os.path.basename(path).removesuffix(".antt"),
+                    *(name for name, _ in names_in(source(os.path.relpath(path, f"{TOP}/crates")).split("\n"))),
+                }
         self.assertTrue(names)
         self.assertLessEqual(names, known)
 
@@ -266,7 +269,9 @@ abbrev pub ◌▸◌ : ℕ → ℕ → ℕ
         self.file = File("a/specs/A.antt", self.TEXT.split("\n"))
 
     def test_names(self):
-        self.assertEqual([it.names for it in self.file.blocks], [["Kind", "first", "second", "third"], ["Pair"], ["inner"], ["even", "odd"], ["◌▸◌"]])
+        self.assertEqual(
+            [it.names for it in self.file.blocks], [["Kind", "first", "second", "third"], ["Pair"], ["inner"], ["even", "odd"], ["◌▸◌"]]
+        )
 
     def test_comments_and_modules(self):
         self.assertEqual(self.file.blocks[2].comment, ["  -- inside"])

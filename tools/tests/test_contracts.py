@@ -93,8 +93,10 @@ class OfASource(unittest.TestCase):
         self.assertEqual(self.summary, "What the crate is for.")
 
     def test_head_and_clauses_are_as_they_are_in_the_source(self):
-        self.assertEqual(self.calls["first"].lines,
-                         ["pub fn first(a: &[u8]) -> usize", "    requires few { length a ≤ 3 }", "    ensures { result ≡ 1 }"])
+        self.assertEqual(
+            self.calls["first"].lines,
+            ["pub fn first(a: &[u8]) -> usize", "    requires few { length a ≤ 3 }", "    ensures { result ≡ 1 }"],
+        )
         self.assertEqual(self.calls["Store::at"].lines[-1], "        ensures { result ≡ 2 }")
         self.assertEqual(self.calls["bare"].lines, ["pub fn bare() -> usize"])
 
@@ -113,7 +115,9 @@ class OfTheTree(unittest.TestCase):
         for crate in (it for it in libraries_of(TOP) if it.startswith("law_")):
             with open(f"{TOP}/crates/{crate}/src/laws.rt", encoding="utf-8") as file:
                 wanted = [line.rstrip("\n") for line in file if line.lstrip().startswith(("ensures", "requires"))]
-            taken = [line for it in calls_of(f"{TOP}/crates", crate) for line in it.lines if line.lstrip().startswith(("ensures", "requires"))]
+            taken = [
+                line for it in calls_of(f"{TOP}/crates", crate) for line in it.lines if line.lstrip().startswith(("ensures", "requires"))
+            ]
             self.assertTrue(wanted)
             self.assertEqual(taken, wanted)
 
