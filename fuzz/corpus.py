@@ -1,21 +1,20 @@
 #!/usr/bin/env python3
 """The seeds: the inputs of vectors/*.jsonl.
 
-    fuzz/corpus.py TARGET FOLDER      a file for each, below a name made of its bytes
-    fuzz/corpus.py TARGET FILE.zip    the same as OSS-Fuzz has them
-
+OUT is a folder, which gets a file for each, by a name made of its bytes, or FILE.zip with the same, as OSS-Fuzz has them.
 For `budget` each has a byte before it that says which call; `same` gets each with its text behind a null byte, where it has one,
 and else twice.
 """
+import argparse
 import base64
 import glob
 import hashlib
 import json
 import os
-import sys
 import zipfile
 
 TOP = os.path.dirname(os.path.dirname(os.path.realpath(__file__)))
+TARGETS = ("canonical", "events", "same", "budget")
 LARGEST = 4096
 
 
@@ -35,7 +34,15 @@ def seeds(target):
                     yield text
 
 
-def main(target, out):
+def main():
+    given = argparse.ArgumentParser(prog="fuzz/corpus.py", description=__doc__, formatter_class=argparse.RawDescriptionHelpFormatter)
+    given.add_argument("target", choices=TARGETS)
+    given.add_argument("out", metavar="OUT")
+    options = given.parse_args()
+    write_seeds(options.target, options.out)
+
+
+def write_seeds(target, out):
     named = {hashlib.sha1(text).hexdigest(): text for text in seeds(target)}
     if out.endswith(".zip"):
         with zipfile.ZipFile(out, "w", zipfile.ZIP_DEFLATED) as file:
@@ -49,6 +56,4 @@ def main(target, out):
 
 
 if __name__ == "__main__":
-    if len(sys.argv) != 3:
-        sys.exit(__doc__)
-    main(sys.argv[1], sys.argv[2])
+    main()

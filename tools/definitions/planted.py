@@ -9,7 +9,7 @@
 The list is planted.list. What is asked, the cheapest first, until something tells:
 
 - of a definition of the grammar: the rows of `yaml_vectors` and `rows_streams`, the cases of yaml-test-suite (PLACE: see
-  tools/suite) and the short readings that are stored, as the wrong definitions read them (planted_texts.py);
+  `tools/conformance suite --help`) and the short readings that are stored, as the wrong definitions read them (planted_texts.py);
 - `rt check` of yaml_definitions, over what an earlier check kept: an example that is computed or derived, or a law;
 - `rt check` of the law crates that stand on yaml_definitions alone or nearly so (`law_length`, `law_read_back`, `yaml_content`).
 
@@ -29,11 +29,10 @@ import sys
 import tempfile
 from concurrent.futures import ThreadPoolExecutor
 
-HERE = os.path.dirname(os.path.abspath(__file__))
-TOP = os.path.dirname(os.path.dirname(HERE))
-sys.path.insert(0, os.path.join(TOP, "tools"))
-sys.dont_write_bytecode = True
-from statements.definitions import File  # noqa: E402
+HERE = os.path.dirname(os.path.realpath(__file__))
+sys.path.insert(0, os.path.dirname(HERE))  # for lib
+from lib.paths import TOP
+from lib.statement.definitions import File
 
 SPECS = TOP + "/crates/yaml_definitions/specs"
 LAWS = {"law_length": [], "law_read_back": ["yaml_text"], "yaml_content": ["yaml_text"]}

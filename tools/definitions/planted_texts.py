@@ -4,26 +4,23 @@
     SPECS=FOLDER python3 planted_texts.py [SUITE]
 
 FOLDER has the definitions (as in shadow.py). The texts are the rows of `yaml_vectors` and `rows_streams`, the cases of
-yaml-test-suite (SUITE: a checkout or an archive, see tools/suite) and the texts of at most 3 characters of short_readings/, all
+yaml-test-suite (SUITE: a checkout or an archive, see `tools/conformance suite --help`) and the texts of at most 3 characters of short_readings/, all
 of at most 400 characters, each with its events or none. Prints the first that is read otherwise, and its kind; nothing where
 there is none.
 """
 import gzip
-import importlib.machinery
-import importlib.util
 import itertools
 import os
 import re
 import sys
 import urllib.parse
 
-HERE = os.path.dirname(os.path.abspath(__file__))
-TOP = os.path.join(HERE, "..", "..")
-sys.path[:0] = [HERE, os.path.join(TOP, "tools", "failing")]
-sys.dont_write_bytecode = True
-import rows  # noqa: E402
-import shadow  # noqa: E402
-from short_readings import ALPHABETS, letter, shown  # noqa: E402
+HERE = os.path.dirname(os.path.realpath(__file__))
+sys.path.insert(0, os.path.dirname(HERE))  # for lib
+from lib.failing import rows
+from lib.form import suite
+import shadow
+from short_readings import ALPHABETS, letter, shown
 
 LONGEST = 400
 ESCAPE = re.compile(r"\\(.)")
@@ -60,9 +57,6 @@ def texts_of_rows():
 
 
 def texts_of_suite(place):
-    loader = importlib.machinery.SourceFileLoader("suite", os.path.join(TOP, "tools", "suite"))
-    suite = importlib.util.module_from_spec(importlib.util.spec_from_loader("suite", loader))
-    loader.exec_module(suite)
     expected = suite.expected_cases()
     for name, files in suite.cases_of(place).items():
         if expected[name] not in suite.RULES and not files["in.yaml"].startswith(b"\xef\xbb\xbf"):

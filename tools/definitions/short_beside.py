@@ -8,11 +8,18 @@ has its events, one that is not is refused. It ends with the counts of each alph
 some minutes. The lists (short_readings/ALPHABET.txt.gz) were made by short_readings.py. The program must be built
 (`./yamlcanon canon examples/sharing.yaml`), or be named by YAMLCANON.
 """
-import concurrent.futures, gzip, os, re, subprocess, sys
+import concurrent.futures
+import gzip
+import os
+import re
+import subprocess
+import sys
+
 from short_readings import ALPHABETS, shown, texts
 
+from lib.paths import PROGRAM
+
 HERE = os.path.dirname(os.path.abspath(__file__))
-PROGRAM = os.environ.get("YAMLCANON") or os.path.join(HERE, "../../crates/yaml_tool/out/yaml_tool")
 LETTERS = {"+STR": "", "-STR": "", "+DOC": "d", "+DOC ---": "D", "-DOC": "e", "-DOC ...": "E", "-SEQ": "]", "-MAP": "}"}
 STARTS = {"+SEQ": "S", "+SEQ []": "[", "+MAP": "M", "+MAP {}": "{", "=VAL": "="}
 START = re.compile(r"(\+SEQ \[\]|\+SEQ|\+MAP \{\}|\+MAP|=VAL)(?: &(\S+))?(?: (<[^>]*>))?(?: (.*))?")

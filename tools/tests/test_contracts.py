@@ -1,14 +1,10 @@
 """Tests of tools/contracts: which functions it takes from a source, and what it shows of them."""
 import os
-import sys
 import tempfile
 import unittest
 
-sys.dont_write_bytecode = True
-TOP = os.path.dirname(os.path.dirname(os.path.dirname(os.path.realpath(__file__))))
-sys.path.insert(0, f"{TOP}/tools")
-
-from statements.calls import calls_of, libraries_of, summary_of  # noqa: E402
+from scripts import TOP
+from lib.statement.calls import calls_of, libraries_of, summary_of
 
 ROOT = """\
 //! What the crate
