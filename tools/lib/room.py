@@ -1,4 +1,4 @@
-"""A copy of a crate over the built libraries below it, outside the tree, in which it is checked with edits."""
+"""A copy of a crate over the built libraries below it, outside the tree, in which it is checked with mutants."""
 import os
 import re
 import shutil
@@ -43,7 +43,7 @@ class Room:
 
     def __init__(self, root, crate, anew, says):
         self.root, self.crate, self.says = root, crate, says
-        self.folder = tempfile.mkdtemp(prefix="edits-")
+        self.folder = tempfile.mkdtemp(prefix="mutants-")
         self.at, self.source = f"{self.folder}/crates/{crate}", f"{root}/crates/{crate}"
         self.seconds, self.checks = 0.0, 0
         below = crates_below(crates_of(root), crate)
@@ -62,7 +62,7 @@ class Room:
 
     def link_library(self, name):
         if not os.path.isdir(f"{self.root}/crates/{name}/out/rlib"):
-            raise SystemExit(f"edits: {name} is not built: run rt ci, or rt lib in its folder, first")
+            raise SystemExit(f"mutants: {name} is not built: run rt ci, or rt lib in its folder, first")
         for part in (*PARTS, "out/rlib"):
             if os.path.isdir(f"{self.root}/crates/{name}/{part}"):
                 shutil.copytree(f"{self.root}/crates/{name}/{part}", f"{self.folder}/crates/{name}/{part}", copy_function=linked)

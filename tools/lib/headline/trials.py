@@ -39,7 +39,7 @@ def planted(room, trial):
     for name in ("crates.txt", "HANDLES"):
         shutil.copy(f"{TOP}/{name}", room)
     for name in CRATES:
-        shutil.copytree(f"{TOP}/crates/{name}", f"{room}/crates/{name}", ignore=shutil.ignore_patterns("out", "edits", "must-fail"))
+        shutil.copytree(f"{TOP}/crates/{name}", f"{room}/crates/{name}", ignore=shutil.ignore_patterns("out", "mutants.txt", "must-fail"))
     if trial:
         path, right, wrong, _ = trial
         with open(f"{room}/crates/{path}", encoding="utf-8") as file:

@@ -1,4 +1,4 @@
-"""The gate, `rt ci`, while the edits of what it has proved are tried beside it."""
+"""The gate, `rt ci`, while the mutants of what it has proved are tried beside it."""
 import os
 import re
 import subprocess

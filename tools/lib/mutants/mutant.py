@@ -1,4 +1,5 @@
-"""An edit: a wrong body that the check must refuse, the functions that it changes, and its shape."""
+"""A mutant: a wrong body that the check must refuse, the functions that it changes, and its shape."""
+import glob
 import os
 import re
 
@@ -6,17 +7,15 @@ from lib.paths import read
 from .layout import function_at
 
 
-class Edit:
-    """One file `NAME.edit` of a crate.
+class Mutant:
+    """A mutant of a crate, by its name and its text.
 
-    It has lines `file: PATH`, and for each change `old: TEXT` and `new: TEXT`; a line `twin: TEXT` behind a `new:`
-    gives the same shape with the right meaning. `why` says what is wrong with the file, if anything is."""
+    The text has lines `file: PATH`, and for each change `old: TEXT` and `new: TEXT`; a line `twin: TEXT` behind a `new:` gives the same
+    shape with the right meaning. `why` says what is wrong with the text, if anything is."""
 
-    def __init__(self, crate, path, folder):
-        self.crate = crate
-        self.name = os.path.basename(path)[: -len(".edit")]
-        self.text = read(path)
-        self.pairs = pairs_of(self.text)
+    def __init__(self, crate, name, text, folder):
+        self.crate, self.name, self.text = crate, name, text
+        self.pairs = pairs_of(text)
         self.places = []
         self.is_outside = False
         self.set_aside = {}
@@ -50,7 +49,7 @@ class Edit:
         return [(file, old, new) for file, old, new, _ in self.pairs]
 
     def twin(self):
-        """The changes that keep the edit's shape and the right meaning: those that the file gives, or made ones; or None."""
+        """The changes that keep the mutant's shape and the right meaning: those that the file gives, or made ones; or None."""
         given = [(file, old, twin) for file, old, _, twin in self.pairs if twin is not None]
         if given:
             return given
@@ -68,7 +67,7 @@ class Edit:
 
 
 def pairs_of(text):
-    """The changes of an edit's file, as lists of file, old text, new text and twin, if there is one."""
+    """The changes of a mutant's text, as lists of file, old text, new text and twin, if there is one."""
     pairs, file, old = [], "", None
     for line in text.split("\n"):
         if line.startswith("file: "):
@@ -106,7 +105,7 @@ def shape(text):
     return tuple(len(re.findall(form, masked)) for form in COUNTED)
 
 
-# What an edit may put in, and the same made neutral.
+# What a mutant may put in, and the same made neutral.
 PUT_IN = (
     (re.compile(r" && (.*)"), lambda found: f" && (true | ({found[1]}))"),
     (re.compile(r" \|\| (.*)"), lambda found: f" || (false & ({found[1]}))"),
@@ -139,3 +138,41 @@ def neutral(old, new):
             if found:
                 return head + made(found) + tail
     return None
+
+
+def texts_of(text):
+    """(name, text) of each block of a mutants.txt. Blocks are apart by empty lines; the first line of each is `name: NAME`."""
+    for block in text.split("\n\n"):
+        lines = [line for line in block.split("\n") if line and not line.startswith("#")]
+        if lines:
+            name = lines[0].removeprefix("name: ")
+            if name == lines[0] or not re.fullmatch(r"\w+", name):
+                raise SystemExit(f"mutants: a block begins with `name: NAME`, and not with: {lines[0]}")
+            yield name, "".join(f"{line}\n" for line in lines[1:])
+
+
+def mutants_of(root, crate):
+    """The mutants of a crate: those of its mutants.txt, then those of must-fail/, which `rt ci` tries too."""
+    folder = f"{root}/crates/{crate}"
+    found = [*texts_of(read(f"{folder}/mutants.txt"))] if os.path.isfile(f"{folder}/mutants.txt") else []
+    for path in sorted(glob.glob(f"{folder}/must-fail/*.edit")):
+        found.append((os.path.basename(path).removesuffix(".edit"), read(path)))
+    return [Mutant(crate, name, text, folder) for name, text in found]
+
+
+def faults_of(root, crate):
+    """What is wrong with the mutants of a crate: a name twice, another order than that of the names, a text that is not there once."""
+    mutants, names = mutants_of(root, crate), []
+    for it in mutants:
+        if it.why:
+            yield f"{crate}/{it.name}: {it.why}"
+        if it.name in names:
+            yield f"{crate}/{it.name}: another one has this name"
+        names.append(it.name)
+    path = f"{root}/crates/{crate}/mutants.txt"
+    listed = [name for name, _ in texts_of(read(path))] if os.path.isfile(path) else []
+    if listed != sorted(listed):
+        after = next(later for before, later in zip(listed, listed[1:]) if later < before)
+        yield f"{crate}: mutants.txt is in the order of the names, and {after} is too far down"
+    if os.path.isdir(f"{root}/crates/{crate}/edits"):
+        yield f"{crate}: edits/ is not read: mutants are in mutants.txt"

@@ -12,7 +12,7 @@ NOT_SEARCHED = re.compile(r"`search` did not prove ((?:`[^`]*`(?:, | and )?)+)")
 
 
 class Refusal:
-    """What a check said of the functions of one edit.
+    """What a check said of the functions of one mutant.
 
     `goals` are those that it refused, `false` those of them at which it found values that make them false, `names`
     the errors of proof files that name what is not there, `answers` the answers that it refused."""
@@ -23,11 +23,11 @@ class Refusal:
     def is_none(self):
         return not self.goals and not self.names
 
-    def of_cycle(self, edit):
-        """The same of an edit in a cycle of calls, whose functions share a proof and its files: what is said of goals that bear
-        the names of its own functions. Where those files name what another edit took away, nothing is told of this one."""
+    def of_cycle(self, mutant):
+        """The same of a mutant in a cycle of calls, whose functions share a proof and its files: what is said of goals that bear
+        the names of its own functions. Where those files name what another mutant took away, nothing is told of this one."""
         # (a goal has a function's name from below the modules that all of the cycle share)
-        fronts = tuple(place.name.split("::", count)[-1] + "-" for place in edit.places for count in range(1, place.name.count("::") + 1))
+        fronts = tuple(place.name.split("::", count)[-1] + "-" for place in mutant.places for count in range(1, place.name.count("::") + 1))
         own = Refusal()
         own.is_proved = self.is_proved
         if any(not goal.removeprefix("name:").startswith(fronts) for _, _, goal in self.names):
@@ -76,29 +76,29 @@ class Said:
             if AT_VALUES in found[4]:
                 self.false.append(self.open[-1])
 
-    def of(self, edit):
-        """What was said of the functions that an edit changes."""
+    def of(self, mutant):
+        """What was said of the functions that a mutant changes."""
         told, mine = Refusal(), []
         for name, status in self.status.items():
-            if edit.is_outside or any(self.belongs(name, place) for place in edit.places):
+            if mutant.is_outside or any(self.belongs(name, place) for place in mutant.places):
                 mine.append(status)
                 found = NOT_SEARCHED.search(status)
                 told.goals += re.findall(r"`([^`]*)`", found[1]) if found else []
         told.is_proved = bool(mine) and all(status == "proved" for status in mine)
         for path, line, goal, text in self.errors:
-            if self.is_of(edit, path):
+            if self.is_of(mutant, path):
                 told.is_proved = False
                 sort_error(told, path, line, goal, text)
-        told.goals = sorted({*told.goals, *within(edit, self.open)})
-        told.false = sorted(within(edit, self.false))
-        return told if edit.is_outside or not edit.is_of_cycle() else told.of_cycle(edit)
+        told.goals = sorted({*told.goals, *within(mutant, self.open)})
+        told.false = sorted(within(mutant, self.false))
+        return told if mutant.is_outside or not mutant.is_of_cycle() else told.of_cycle(mutant)
 
     @staticmethod
-    def is_of(edit, path):
-        """Whether an error of this file is one of the edit's."""
-        if edit.is_outside and path.startswith("proofs/"):
+    def is_of(mutant, path):
+        """Whether an error of this file is one of the mutant's."""
+        if mutant.is_outside and path.startswith("proofs/"):
             return True
-        return any(path.startswith(folder) for place in edit.places for folder in place.folders)
+        return any(path.startswith(folder) for place in mutant.places for folder in place.folders)
 
     def belongs(self, name, place):
         """Whether a function of the check is that of a place, a part of it, or refused for it in its cycle."""
@@ -117,10 +117,10 @@ def sort_error(told, path, line, goal, text):
         told.answers.append((path, line, goal))
 
 
-def within(edit, found):
-    """The goals of these places that stand in the edit's functions."""
+def within(mutant, found):
+    """The goals of these places that stand in the mutant's functions."""
     return {
         goal
         for path, line, goal in found
-        if edit.is_outside or any(path == place.path and place.first <= line <= place.last for place in edit.places)
+        if mutant.is_outside or any(path == place.path and place.first <= line <= place.last for place in mutant.places)
     }

@@ -20,7 +20,7 @@ gate: %s
 """
 NONE = """\
 none. No run of the gate is named for these bytes. Each crate that is linked into them was proved before it was linked
-      (by rt); the tests, the edits that have to be refused and the runs of the gate are not said to have passed."""
+      (by rt); the tests, the mutants that have to be rejected and the runs of the gate are not said to have passed."""
 
 
 def kit_folder():
