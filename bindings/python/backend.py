@@ -14,13 +14,13 @@ import time
 import zipfile
 
 HERE = os.path.dirname(os.path.abspath(__file__))
-with open(HERE + '/pyproject.toml', encoding='utf-8') as project:
+with open(HERE + "/pyproject.toml", encoding="utf-8") as project:
     TOLD = dict(re.findall(r'^([a-z-]+) = "(.*)"$', project.read(), re.M))
 sys.path.insert(0, HERE)
 from tag import tag  # noqa: E402
 
-NAME = 'yamlcanon-' + TOLD['version']
-INFO = NAME + '.dist-info/'
+NAME = "yamlcanon-" + TOLD["version"]
+INFO = NAME + ".dist-info/"
 # The first time that a zip file can tell.
 LEAST_TIME = 315532800
 METADATA = """\
@@ -30,28 +30,30 @@ Version: {version}
 Summary: {description}
 License: {license}
 Requires-Python: {requires-python}
-""".format(**TOLD)
+""".format(
+    **TOLD
+)
 
 
 def bytes_of(path):
-    with open(path, 'rb') as file:
+    with open(path, "rb") as file:
         return file.read()
 
 
 def library(room):
     """The path of the shared library; one that is not there ends this: no wheel is made without it."""
-    path = os.environ.get('YAMLCANON_LIBRARY')
+    path = os.environ.get("YAMLCANON_LIBRARY")
     if not path:
-        subprocess.check_call([HERE + '/../../tools/library', room])
-        path = room + '/libyamlcanon.so.1'
-    if bytes_of(path)[:4] != b'\x7fELF':
-        raise SystemExit('%s is no shared library: a wheel has it inside' % path)
+        subprocess.check_call([HERE + "/../../tools/library", room])
+        path = room + "/libyamlcanon.so.1"
+    if bytes_of(path)[:4] != b"\x7fELF":
+        raise SystemExit("%s is no shared library: a wheel has it inside" % path)
     return path
 
 
 def texts():
     """The repository's texts of licences, and of a release what it rests on; none where an older pip has copied this folder alone."""
-    top, names = HERE + '/../../', ('LICENSE-MIT', 'LICENSE-APACHE', 'NOTICE', 'BUILD')
+    top, names = HERE + "/../../", ("LICENSE-MIT", "LICENSE-APACHE", "NOTICE", "BUILD")
     return {INFO + name: bytes_of(top + name) for name in names if os.path.isfile(top + name)}
 
 
@@ -60,15 +62,15 @@ def write_info(folder, installer):
     out, so that pip does not remove what another program has installed."""
     info = os.path.join(folder, INFO)
     os.makedirs(info)
-    for name, text in (('METADATA', METADATA), ('INSTALLER', installer + '\n')):
-        with open(info + name, 'w', encoding='utf-8') as file:
+    for name, text in (("METADATA", METADATA), ("INSTALLER", installer + "\n")):
+        with open(info + name, "w", encoding="utf-8") as file:
             file.write(text)
 
 
 def write_zip(path, parts):
     """The parts in their order, each with one time and one mode."""
-    made = max(LEAST_TIME, int(os.environ.get('SOURCE_DATE_EPOCH') or time.time()))
-    with zipfile.ZipFile(path, 'w', zipfile.ZIP_DEFLATED) as file:
+    made = max(LEAST_TIME, int(os.environ.get("SOURCE_DATE_EPOCH") or time.time()))
+    with zipfile.ZipFile(path, "w", zipfile.ZIP_DEFLATED) as file:
         for name, part in parts.items():
             info = zipfile.ZipInfo(name, time.gmtime(made)[:6])
             info.compress_type, info.external_attr, info.create_system = zipfile.ZIP_DEFLATED, 0o100644 << 16, 3
@@ -76,17 +78,17 @@ def write_zip(path, parts):
 
 
 def build_wheel(wheel_directory, config_settings=None, metadata_directory=None):
-    names = sorted(os.path.basename(path) for path in glob.glob(HERE + '/yamlcanon/*.py')) + ['py.typed']
-    parts = {'yamlcanon/' + name: bytes_of(HERE + '/yamlcanon/' + name) for name in names}
+    names = sorted(os.path.basename(path) for path in glob.glob(HERE + "/yamlcanon/*.py")) + ["py.typed"]
+    parts = {"yamlcanon/" + name: bytes_of(HERE + "/yamlcanon/" + name) for name in names}
     with tempfile.TemporaryDirectory() as room:
         path = library(room)
-        parts['yamlcanon/libyamlcanon.so.1'], tagged = bytes_of(path), tag(path)
-    parts[INFO + 'METADATA'] = METADATA.encode()
+        parts["yamlcanon/libyamlcanon.so.1"], tagged = bytes_of(path), tag(path)
+    parts[INFO + "METADATA"] = METADATA.encode()
     parts.update(texts())
-    parts[INFO + 'WHEEL'] = ('Wheel-Version: 1.0\nGenerator: yamlcanon\nRoot-Is-Purelib: false\nTag: %s\n' % tagged).encode()
-    sums = {name: base64.urlsafe_b64encode(hashlib.sha256(part).digest()).rstrip(b'=').decode() for name, part in parts.items()}
-    record = ''.join('%s,sha256=%s,%d\n' % (name, sums[name], len(part)) for name, part in parts.items())
-    parts[INFO + 'RECORD'] = (record + INFO + 'RECORD,,\n').encode()
-    wheel = '%s-%s.whl' % (NAME, tagged)
+    parts[INFO + "WHEEL"] = ("Wheel-Version: 1.0\nGenerator: yamlcanon\nRoot-Is-Purelib: false\nTag: %s\n" % tagged).encode()
+    sums = {name: base64.urlsafe_b64encode(hashlib.sha256(part).digest()).rstrip(b"=").decode() for name, part in parts.items()}
+    record = "".join("%s,sha256=%s,%d\n" % (name, sums[name], len(part)) for name, part in parts.items())
+    parts[INFO + "RECORD"] = (record + INFO + "RECORD,,\n").encode()
+    wheel = "%s-%s.whl" % (NAME, tagged)
     write_zip(os.path.join(wheel_directory, wheel), parts)
     return wheel

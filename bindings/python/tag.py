@@ -12,7 +12,7 @@ import sysconfig
 
 # A machine with an older C library than this is not said to be served, whatever the symbols ask for: none was tried.
 LEAST = (2, 17)
-OF_GLIBC = {'libc.so.6', 'libm.so.6', 'libpthread.so.0', 'ld-linux-x86-64.so.2'}
+OF_GLIBC = {"libc.so.6", "libm.so.6", "libpthread.so.0", "ld-linux-x86-64.so.2"}
 
 
 def told(*words):
@@ -21,21 +21,21 @@ def told(*words):
 
 def platform(library):
     """The platform on which a library runs: its newest version of glibc's, at least LEAST, and the processor."""
-    own = sysconfig.get_platform().replace('-', '_').replace('.', '_')
+    own = sysconfig.get_platform().replace("-", "_").replace(".", "_")
     try:
-        heads, symbols = told('objdump', '-p', library), told('objdump', '-T', library)
+        heads, symbols = told("objdump", "-p", library), told("objdump", "-T", library)
     except (OSError, subprocess.CalledProcessError):
         return own
-    needed = set(re.findall(r'^ +NEEDED +(\S+)$', heads, re.M))
-    versions = [(int(major), int(minor)) for major, minor in re.findall(r'\(?GLIBC_(\d+)\.(\d+)', symbols)]
-    if 'file format elf64-x86-64' not in heads or not needed <= OF_GLIBC or 'GLIBC_PRIVATE' in symbols:
+    needed = set(re.findall(r"^ +NEEDED +(\S+)$", heads, re.M))
+    versions = [(int(major), int(minor)) for major, minor in re.findall(r"\(?GLIBC_(\d+)\.(\d+)", symbols)]
+    if "file format elf64-x86-64" not in heads or not needed <= OF_GLIBC or "GLIBC_PRIVATE" in symbols:
         return own
-    return 'manylinux_%d_%d_x86_64' % max([LEAST, *versions])
+    return "manylinux_%d_%d_x86_64" % max([LEAST, *versions])
 
 
 def tag(library):
-    return 'py3-none-' + platform(library)
+    return "py3-none-" + platform(library)
 
 
-if __name__ == '__main__':
+if __name__ == "__main__":
     print(tag(sys.argv[1]))

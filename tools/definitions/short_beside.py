@@ -8,43 +8,50 @@ has its events, one that is not is refused. It ends with the counts of each alph
 some minutes. The lists (short_readings/ALPHABET.txt.gz) were made by short_readings.py. The program must be built
 (`./yamlcanon canon examples/sharing.yaml`), or be named by YAMLCANON.
 """
-import concurrent.futures, gzip, os, re, subprocess, sys
+import concurrent.futures
+import gzip
+import os
+import re
+import subprocess
+import sys
+
 from short_readings import ALPHABETS, shown, texts
 
+from lib.paths import PROGRAM
+
 HERE = os.path.dirname(os.path.abspath(__file__))
-PROGRAM = os.environ.get('YAMLCANON') or os.path.join(HERE, '../../crates/yaml_tool/out/yaml_tool')
-LETTERS = {'+STR': '', '-STR': '', '+DOC': 'd', '+DOC ---': 'D', '-DOC': 'e', '-DOC ...': 'E', '-SEQ': ']', '-MAP': '}'}
-STARTS = {'+SEQ': 'S', '+SEQ []': '[', '+MAP': 'M', '+MAP {}': '{', '=VAL': '='}
-START = re.compile(r'(\+SEQ \[\]|\+SEQ|\+MAP \{\}|\+MAP|=VAL)(?: &(\S+))?(?: (<[^>]*>))?(?: (.*))?')
-ESCAPE = re.compile(r'\\(.)')
-STAND_FOR = {'\\': '\\', 'n': '$', 't': '\t', 'r': '\r', 'b': '\b'}
+LETTERS = {"+STR": "", "-STR": "", "+DOC": "d", "+DOC ---": "D", "-DOC": "e", "-DOC ...": "E", "-SEQ": "]", "-MAP": "}"}
+STARTS = {"+SEQ": "S", "+SEQ []": "[", "+MAP": "M", "+MAP {}": "{", "=VAL": "="}
+START = re.compile(r"(\+SEQ \[\]|\+SEQ|\+MAP \{\}|\+MAP|=VAL)(?: &(\S+))?(?: (<[^>]*>))?(?: (.*))?")
+ESCAPE = re.compile(r"\\(.)")
+STAND_FOR = {"\\": "\\", "n": "$", "t": "\t", "r": "\r", "b": "\b"}
 
 
 def letter(line):
     """An event line as short_readings.py lists it."""
     if line in LETTERS:
         return LETTERS[line]
-    if line.startswith('=ALI *'):
-        return '*' + line[6:] + ';'
+    if line.startswith("=ALI *"):
+        return "*" + line[6:] + ";"
     kind, anchor, tag, value = START.fullmatch(line).groups()
-    start = STARTS[kind] + ('' if anchor is None else '&' + anchor + ';') + (tag or '')
+    start = STARTS[kind] + ("" if anchor is None else "&" + anchor + ";") + (tag or "")
     if value is None:
         return start
     text = ESCAPE.sub(lambda escape: STAND_FOR[escape[1]], value[1:])
-    return start + value[0].replace(':', '') + text + ';'
+    return start + value[0].replace(":", "") + text + ";"
 
 
 def read(text):
     """The events, a letter each, or None."""
-    done = subprocess.run([PROGRAM, 'events'], input=text.encode(), capture_output=True)
+    done = subprocess.run([PROGRAM, "events"], input=text.encode(), capture_output=True)
     if done.returncode:
         return None
-    return ''.join(map(letter, done.stdout.decode().split('\n')[:-1]))
+    return "".join(map(letter, done.stdout.decode().split("\n")[:-1]))
 
 
 def compare(alphabet):
-    with gzip.open(os.path.join(HERE, 'short_readings', alphabet + '.txt.gz'), 'rt', newline='\n') as file:
-        wanted = dict(line.rstrip('\n').split('\t', 1) for line in file)
+    with gzip.open(os.path.join(HERE, "short_readings", alphabet + ".txt.gz"), "rt", newline="\n") as file:
+        wanted = dict(line.rstrip("\n").split("\t", 1) for line in file)
     every = list(texts(alphabet))
     different = accepted = 0
     with concurrent.futures.ThreadPoolExecutor(4) as pool:
@@ -52,11 +59,11 @@ def compare(alphabet):
             accepted += got is not None
             if got != wanted.get(shown(text)):
                 different += 1
-                print('different: %r %r %r' % (text, got, wanted.get(shown(text))))
-    print('%s: %d texts, %d read, %d in the list, %d differences' % (alphabet, len(every), accepted, len(wanted), different))
+                print("different: %r %r %r" % (text, got, wanted.get(shown(text))))
+    print("%s: %d texts, %d read, %d in the list, %d differences" % (alphabet, len(every), accepted, len(wanted), different))
     return different
 
 
 if not os.access(PROGRAM, os.X_OK):
-    sys.exit('%s is not built' % PROGRAM)
+    sys.exit("%s is not built" % PROGRAM)
 sys.exit(any([compare(alphabet) for alphabet in sys.argv[1:] or ALPHABETS]))

@@ -42,9 +42,7 @@ class Refused(ValueError):
     `side` is 'left' or 'right' where it was `same`, else None. It can be pickled, so it comes whole out of a pool.
     """
 
-    def __init__(
-        self, number: int, name: str, place: int = 0, first: int = 0, second: int = 0, side: Optional[str] = None
-    ) -> None:
+    def __init__(self, number: int, name: str, place: int = 0, first: int = 0, second: int = 0, side: Optional[str] = None) -> None:
         super().__init__(number, name, place, first, second, side)
         self.number, self.name, self.place = number, name, place
         self.first, self.second, self.side = first, second, side
@@ -130,7 +128,9 @@ def _look_at(lib: ctypes.CDLL, named: str) -> str:
     file, (major, minor) = _file_of(lib, named), divmod(_INTERFACE, 100)
     if found // 100 != major or found < _INTERFACE:
         has = "%d.%d" % divmod(found, 100)
-        raise ImportError(f"yamlcanon: {file} has version {has} of the interface, and this module needs {major}.{minor} or a later {major}.x")
+        raise ImportError(
+            f"yamlcanon: {file} has version {has} of the interface, and this module needs {major}.{minor} or a later {major}.x"
+        )
     if not _has_form(lib):
         raise ImportError(f"yamlcanon: {file} has no yamlcanon_canonical of YAMLCANON_{_FORM}: this module needs a library of form {_FORM}")
     return file

@@ -1,0 +1,12 @@
+"""The arguments of a tool: `--help` prints the text at its head as it is; what it does not know is an error with status 2."""
+import argparse
+
+
+def parser(name, text):
+    """A parser for the tool of this name (`tools/links`), with this text."""
+    return argparse.ArgumentParser(prog=name, description=text, formatter_class=argparse.RawDescriptionHelpFormatter)
+
+
+def part(parts, name, text):
+    """A parser for a part of a tool (`tools/conformance vectors`), whose first line the tool's help shows."""
+    return parts.add_parser(name, help=text.split("\n")[0], description=text, formatter_class=argparse.RawDescriptionHelpFormatter)
