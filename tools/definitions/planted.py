@@ -32,7 +32,7 @@ from concurrent.futures import ThreadPoolExecutor
 HERE = os.path.dirname(os.path.realpath(__file__))
 sys.path.insert(0, os.path.dirname(HERE))  # for lib
 from lib.paths import TOP
-from lib.statement.definitions import File
+from lib.antt import File
 
 SPECS = TOP + "/crates/yaml_definitions/specs"
 LAWS = {"law_length": [], "law_read_back": ["yaml_text"], "yaml_content": ["yaml_text"]}
