@@ -33,6 +33,7 @@ HERE = os.path.dirname(os.path.realpath(__file__))
 sys.path.insert(0, os.path.dirname(HERE))  # for lib
 from lib.paths import TOP
 from lib.antt import File
+from lib.crates import write_list
 
 SPECS = TOP + "/crates/yaml_definitions/specs"
 LAWS = {"law_length": [], "law_read_back": ["yaml_text"], "yaml_content": ["yaml_text"]}
@@ -83,10 +84,7 @@ class Room:
         os.mkdir(self.folder + "/.git")
         shutil.copy(TOP + "/HANDLES", self.folder)
         names = {"yaml_definitions", *LAWS, *sum(LAWS.values(), [])}
-        with open(TOP + "/crates.txt", encoding="utf-8") as file:
-            lines = [line for line in file if line.split(":")[0] in names]
-        with open(self.folder + "/crates.txt", "w", encoding="utf-8") as file:
-            file.writelines(lines)
+        write_list(self.folder, names)
         for name in names:
             for part in ("src", "specs", "proofs", "out"):
                 if os.path.isdir("%s/crates/%s/%s" % (TOP, name, part)):

@@ -30,7 +30,7 @@ def scripts():
 
 
 def ended(command, word, folder):
-    ran = subprocess.run([*command, word], cwd=folder, stdin=subprocess.DEVNULL, capture_output=True, text=True, timeout=60, check=False)
+    ran = subprocess.run([*command, word], cwd=folder, stdin=subprocess.DEVNULL, capture_output=True, text=True, timeout=600, check=False)
     return command[-1], ran.returncode, ran.stdout, ran.stderr
 
 

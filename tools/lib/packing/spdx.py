@@ -6,7 +6,7 @@ import os
 import re
 import time
 
-from lib.paths import TOP, read
+from lib.paths import read
 from . import notices
 from .base import ARCH, end, files_below, say, sum_of, write
 from .rests import compilers, kit, kit_folder
@@ -56,7 +56,7 @@ def package(name, version, licence, **more):
 
 def crates():
     """The kit's crates that program or library have linked in."""
-    own = notices.listed(read(TOP + "/crates.txt"))
+    own = notices.listed()
     uses = notices.with_kit(own, kit_folder())
     for name in sorted(uses):
         where = notices.places(uses, name)
