@@ -18,7 +18,6 @@ into one as are of different definitions: one with which the definitions themsel
 nothing is tried. The unchanged definitions are tried first, and nothing may tell them. Needs `rt`; takes about half a minute of
 processor for each that no text tells.
 """
-import argparse
 import contextlib
 import os
 import queue
@@ -31,6 +30,7 @@ from concurrent.futures import ThreadPoolExecutor
 
 HERE = os.path.dirname(os.path.realpath(__file__))
 sys.path.insert(0, os.path.dirname(HERE))  # for lib
+from lib.arguments import parser
 from lib.paths import TOP
 from lib.antt import File
 from lib.crates import write_list
@@ -218,7 +218,7 @@ def checked(plantings):
 
 
 def options_given():
-    given = argparse.ArgumentParser(description=__doc__, formatter_class=argparse.RawDescriptionHelpFormatter)
+    given = parser("tools/definitions/planted.py", __doc__)
     given.add_argument("--lanes", type=int, default=1)
     given.add_argument("--suite", default=os.environ.get("YAML_TEST_SUITE"))
     given.add_argument("--only", default="")
@@ -266,6 +266,8 @@ def main():
     if options.listed or any(it.changed(SPECS) is None for it in plantings):
         return listed(plantings)
     plantings = [it for it in plantings if options.only in it.said()]
+    if not plantings:
+        sys.exit(f"planted: no line of planted.list has {options.only}")
     status = checked(plantings)
     if status or options.checked:
         return status

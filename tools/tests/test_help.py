@@ -1,4 +1,4 @@
-"""--help of every executable ends with 0 and begins nothing else; an option that it does not know is an error."""
+"""--help of every executable ends with 0 and begins nothing else; an option or a name that it does not know is an error."""
 import concurrent.futures
 import glob
 import os
@@ -34,6 +34,34 @@ def ended(command, word, folder):
     return command[-1], ran.returncode, ran.stdout, ran.stderr
 
 
+# Names of what is not there.
+NOTHING = (
+    "tools/examples TYPO",
+    "tools/examples --section no-such-section",
+    "tools/mutants run --only no_such_mutant",
+    "tools/mutants count yaml_nothing",
+    "tools/conformance suite /no/such/place",
+    "tools/check-headline yaml_nothing",
+    "tools/build yaml_nothing name",
+    "tools/fuzz /no/such/folder",
+    "tools/abi /no/such/folder",
+    "tools/bindings --library /no/such/folder",
+    "tools/many --library /no/such/folder",
+    "tools/release --try /no/such/folder",
+    "tools/links /no/such/folder",
+    "tools/plain no-such-page.md",
+    "tools/closure",
+    "tools/statement",
+    "bench/report no-such-part",
+    "bench/hostile no-such-shape",
+    "bench/hostile --growth no-such-shape",
+    "bench/texts no-such-shape",
+    "bench/peers --shape no-such-shape",
+    "bench/many /no/such/folder",
+    "bench/joined /no/such/folder",
+)
+
+
 class Help(unittest.TestCase):
     def each(self, word):
         """How each executable ended with this one argument. It writes nothing into the folder where it is run."""
@@ -56,6 +84,18 @@ class Help(unittest.TestCase):
                 self.assertTrue(errors)
                 self.assertNotIn("Traceback", errors)
                 self.assertEqual(said, "")
+
+    def test_name_of_what_is_not_there(self):
+        def status(line):
+            command, *words = line.split()
+            return line, subprocess.run(
+                [f"{TOP}/{command}", *words], stdin=subprocess.DEVNULL, capture_output=True, timeout=600, check=False
+            )
+
+        with concurrent.futures.ThreadPoolExecutor(4) as pool:
+            for line, ran in pool.map(status, NOTHING):
+                with self.subTest(line):
+                    self.assertEqual((ran.returncode, b"Traceback" in ran.stderr), (2, False))
 
 
 if __name__ == "__main__":
