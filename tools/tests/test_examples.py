@@ -120,7 +120,7 @@ class Programs(WithAProgram):
 
     def test_table_of_the_repository(self):
         runs = list(programs.runs_of(programs.table(), "room"))
-        self.assertEqual(len(runs), 44)
+        self.assertGreaterEqual(len(runs), 44)
         self.assertFalse([it.name() for it in runs if it.program not in room.PROGRAMS])
 
 
