@@ -8,7 +8,7 @@
  *   - input, left, right: readable for their lengths, which are at most PTRDIFF_MAX, and written by nobody;
  *   - out: cap bytes that nobody else reads or writes; len, fault: one value of their type each. All three are
  *     initialised, and overlap neither one another nor an input. left and right may be the same bytes;
- *   - no pointer is null but input, left, right and out, each of which may be null where its length, or cap, is 0;
+ *   - no pointer is null, also where its length is 0;
  *   - malloc, realloc and free of one allocator; no call from a signal handler, or from the forked child of a process
  *     with threads;
  *   - 1,792 KiB of stack. The deepest input takes 1,310 kB, and where the stack is smaller, as on threads that have

@@ -25,7 +25,7 @@ struct file {
     size_t n;
 };
 
-/* What a call left behind it. The room has exactly cap bytes, so that valgrind sees a byte past it; one of no bytes is null. */
+/* What a call left behind it. The room has exactly cap bytes, so that valgrind sees a byte past it. */
 struct answer {
     uint32_t status;
     size_t len, cap;
@@ -52,7 +52,7 @@ static int is_untouched(const uint8_t *p, size_t n)
 
 static int is_own_text(const struct answer *a, const struct answer *b)
 {
-    return a->status == b->status && a->len == b->len && (!a->len || !memcmp(a->room, b->room, a->len));
+    return a->status == b->status && a->len == b->len && !memcmp(a->room, b->room, a->len);
 }
 
 /* What the header says of each status. */
@@ -74,20 +74,14 @@ static void judge(const struct file *file, const struct answer *a, const yamlcan
     if (a->fault.name[15] || strlen(a->fault.name) < 3) wrong(file, "no name of a fault");
 }
 
-/* An input of no bytes is null. */
-static const uint8_t *start_of(const struct file *file)
-{
-    return file->n ? file->at : NULL;
-}
-
 static struct answer answer_of(text_call *call, const struct file *file, size_t cap)
 {
-    struct answer a = {0, UNTOLD, cap, cap ? malloc(cap) : NULL, {0}};
+    struct answer a = {0, UNTOLD, cap, malloc(cap ? cap : 1), {0}};
     yamlcanon_fault clean;
     memset(&a.fault, 0x5a, sizeof a.fault);
     clean = a.fault;
-    if (cap) memset(a.room, ROOM_BYTE, cap);
-    a.status = call(start_of(file), file->n, a.room, cap, &a.len, &a.fault);
+    memset(a.room, ROOM_BYTE, cap);
+    a.status = call(file->at, file->n, a.room, cap, &a.len, &a.fault);
     if (a.status != YAMLCANON_DONE && a.status != YAMLCANON_REFUSED && a.status != YAMLCANON_SHORT) wrong(file, "no status");
     judge(file, &a, &clean);
     if (yamlcanon_held()) wrong(file, "memory is kept");
@@ -100,27 +94,9 @@ static void its_own(const struct file *file, const struct answer *text)
     struct answer again = answer_of(yamlcanon_canonical, &written, text->len);
     yamlcanon_fault fault = {0};
     if (!is_own_text(&again, text)) wrong(file, "the text is not its own");
-    const uint8_t *at = start_of(file);
-    if (yamlcanon_same(at, file->n, text->room, text->len, &fault) != YAMLCANON_DONE) wrong(file, "not the same as its text");
-    if (yamlcanon_same(at, file->n, at, file->n, &fault) != YAMLCANON_DONE) wrong(file, "not the same as itself");
+    if (yamlcanon_same(file->at, file->n, text->room, text->len, &fault) != YAMLCANON_DONE) wrong(file, "not the same as its text");
+    if (yamlcanon_same(file->at, file->n, file->at, file->n, &fault) != YAMLCANON_DONE) wrong(file, "not the same as itself");
     free(again.room);
-}
-
-/* An input of no bytes, which is null, beside itself, a text and what is no text, on either side. */
-static void null_inputs(void)
-{
-    const struct file none = {"a null input", NULL, 0};
-    const uint8_t *text = (const uint8_t *)"a", *broken = (const uint8_t *)"[";
-    yamlcanon_fault fault = {0};
-    struct answer canonical = answer_of(yamlcanon_canonical, &none, 0), lines = answer_of(yamlcanon_events, &none, 10);
-    if (canonical.status != YAMLCANON_DONE || canonical.len) wrong(&none, "it has a text");
-    if (lines.status != YAMLCANON_DONE || lines.len != 10 || memcmp(lines.room, "+STR\n-STR\n", 10)) wrong(&none, "other events");
-    if (yamlcanon_same(NULL, 0, NULL, 0, &fault) != YAMLCANON_DONE) wrong(&none, "not the same as itself");
-    if (yamlcanon_same(NULL, 0, text, 1, &fault) != YAMLCANON_DIFFERENT) wrong(&none, "the same as a text on its right");
-    if (yamlcanon_same(text, 1, NULL, 0, &fault) != YAMLCANON_DIFFERENT) wrong(&none, "the same as a text on its left");
-    if (yamlcanon_same(NULL, 0, broken, 1, &fault) != YAMLCANON_REFUSED || fault.side != 1) wrong(&none, "no refusal on its right");
-    if (yamlcanon_same(broken, 1, NULL, 0, &fault) != YAMLCANON_REFUSED || fault.side) wrong(&none, "no refusal on its left");
-    free(lines.room);
 }
 
 /* No room, one byte too little, as much as the text has, more. */
@@ -148,7 +124,6 @@ static void rooms(text_call *call, const struct file *file)
 static void *all_rooms(void *bound)
 {
     yamlcanon_budget((uintptr_t)bound);
-    null_inputs();
     for (size_t i = 0; i < count; i++) {
         rooms(yamlcanon_canonical, &files[i]);
         rooms(yamlcanon_events, &files[i]);
@@ -250,8 +225,11 @@ static void *has_no_bound(void *unused)
 static void under_bounds(void)
 {
     pthread_t beside;
+    pthread_attr_t large;
+    pthread_attr_init(&large);
+    pthread_attr_setstacksize(&large, 8 << 20);
     yamlcanon_budget(1);
-    if (pthread_create(&beside, NULL, has_no_bound, NULL)) exit(2);
+    if (pthread_create(&beside, &large, has_no_bound, NULL)) exit(2);
     pthread_join(beside, NULL);
     for (size_t i = 0; i < count; i++) {
         bounds(yamlcanon_canonical, &files[i]);
@@ -284,7 +262,7 @@ static void in_turn(text_call *call, const struct file *file)
         yamlcanon_fault clean = a.fault;
         memset(a.room, ROOM_BYTE, cap);
         left = at;
-        a.status = call(start_of(file), file->n, a.room, cap, &a.len, &a.fault);
+        a.status = call(file->at, file->n, a.room, cap, &a.len, &a.fault);
         is_reached = left == 0;
         left = -1;
         requests += is_reached;

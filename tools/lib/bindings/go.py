@@ -30,7 +30,7 @@ def try_go(folder, room):
     """Formatting, go vet, the tests and examples, the same with the race detector, and the deep inputs on small stacks."""
     if not is_there("go", "version"):
         return
-    os.makedirs(room)
+    os.makedirs(room, exist_ok=True)
     env = environment(folder)
     if run("gofmt", "-l", GO, env=env):
         wrong("bindings/go: not as gofmt writes it: " + run("gofmt", "-l", GO, env=env))
