@@ -13,6 +13,7 @@ ghost use Rattle.yaml_compose.specs.Refusals.{RefusesForest};
 ghost use Rattle.yaml_compose.specs.JudgedModel.{Judges, Takes};
 
 use crate::composer::{Composer, Forest};
+use crate::size::StreamSize;
 use crate::stop::Refusal;
 use crate::unmade::Unmade;
 use std::alloc::Global;
@@ -133,16 +134,15 @@ impl<'s> Judged<'s> {
         Ok(())
     }
 
-    /// How many documents there are, where no collection is open.
-    pub(crate) fn documents(&self) -> Result<usize, Unmade>
+    /// How many documents and nodes there are, where no collection is open.
+    pub(crate) fn documents(&self) -> Result<StreamSize, Unmade>
         ensures count { (ds : List Document) → Judges self.now (stream_events ds) → IfOk result (UnfoldTo ds) }
         ensures refused { (ds : List Document) → Judges self.now (stream_events ds) → IfErr result (RefusesForest ds) }
     {
         if let Some(refusal) = self.refusal {
             return Err(Unmade::Refused(refusal.fault()));
         }
-        let documents = self.composer.documents()?;
-        Ok(documents)
+        self.composer.documents()
     }
 
     /// The stream ends, or the second of two.
