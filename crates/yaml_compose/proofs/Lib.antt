@@ -12,5 +12,6 @@ pub mod RefusalLaws
 pub mod JudgedLaws
 pub mod DueLaws
 pub mod KeeperLaws
+pub mod HoldableLaws
 mod HighLaws
 mod FirstsLaws

@@ -113,11 +113,14 @@ pub record IsForest (ds : List Document) (f : Forest) : Type 0 where
   pub numbered : Numbers (trees_of f.store) f.firsts.items (stream_trees ds trees_are)
   pub few : length (stream_trees ds trees_are) < 4294967296
 
--- the same of the documents of two streams, the roots of the first before those of the second, but for the places
+-- the same of the documents of two streams, the roots and nodes of the first before those of the second
 pub record AreForests (ds es : List Document) (f : Forest) : Type 0 where
   pub trees_are : List Tree
-  pub unfolded : UnfoldBoth ds es trees_are
+  pub nodes_are : List Tree
+  pub unfolded : UnfoldBoth ds es trees_are nodes_are
   pub low : AreLow trees_are
   pub good : Good f.store
   pub level : IsLow f.store
   pub roots : AllAt (trees_of f.store) f.roots.items trees_are
+  pub numbered : Numbers (trees_of f.store) f.firsts.items nodes_are
+  pub few : length nodes_are < 4294967296

@@ -20,6 +20,7 @@ ghost use Rattle.yaml_compose.specs.Refusals.{RefusesForest};
 use crate::composer::Forest;
 use crate::copies::{are_both, are_same};
 use crate::judged::Judged;
+use crate::size::StreamSize;
 use crate::unmade::Unmade;
 use std::alloc::Global;
 use std::borrow::CowStr;
@@ -411,8 +412,8 @@ impl<'s> Ahead<'s> {
         self.ended.is_some()
     }
 
-    /// How many documents there are, where no collection is open or just ended.
-    pub(crate) fn documents(&self) -> Result<usize, Unmade>
+    /// How many documents and nodes there are, where no collection is open or just ended.
+    pub(crate) fn documents(&self) -> Result<StreamSize, Unmade>
         ensures count { (ds : List Document) → Tells self.now (stream_events ds) → IfOk result (UnfoldTo ds) }
         ensures refused { (ds : List Document) → Tells self.now (stream_events ds) → IfErr result (RefusesForest ds) }
     {

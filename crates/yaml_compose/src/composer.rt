@@ -24,6 +24,7 @@ ghost use Rattle.yaml_compose.specs.Refusals.{Stops, RefusesForest};
 use crate::anchors::Anchors;
 use crate::core_tags::CoreTags;
 use crate::firsts::Firsts;
+use crate::size::StreamSize;
 use crate::stop::{Cause, Stop};
 use crate::tag::{keeps_texts, tag_given, tag_of};
 use crate::too_high::first_too_high;
@@ -130,14 +131,21 @@ impl<'s> Composer<'s> {
         Ok(())
     }
 
-    /// How many documents there are, where no collection is open.
-    pub(crate) fn documents(&self) -> Result<usize, GivesUp>
-        ensures { (ds : List Document) (s : State) → Reaches (stream_events ds) initial_state s → Holds self.now s → IfOk result (UnfoldTo ds) }
+    /// How many documents and nodes there are, where no collection is open.
+    pub(crate) fn documents(&self) -> Result<StreamSize, Unmade>
+        ensures size { (ds : List Document) (s : State) → Reaches (stream_events ds) initial_state s → Holds self.now s → IfOk result (UnfoldTo ds) }
+        ensures refused { (ds : List Document) (s : State) → Reaches (stream_events ds) initial_state s → Holds self.now s → IfErr result (RefusesForest ds) }
     {
         if self.opens.len() > 0 {
-            return Err(GivesUp);
+            return Err(Unmade::GivesUp);
         }
-        Ok(self.stack.len())
+        if let Some(document) = first_too_high(&self.store, &self.stack) {
+            return Err(Unmade::Refused(Fault::TooHigh(document)));
+        }
+        Ok(StreamSize {
+            documents: self.stack.len(),
+            nodes: self.firsts.closed as usize,
+        })
     }
 
     /// The stream ends, or the second of two.

@@ -15,6 +15,7 @@ ghost use Rattle.yaml_compose.specs.ComposerLog.{SettlesAlone, SettlesKey};
 ghost use Rattle.yaml_compose.specs.JudgedModel.{Judges, Takes, IsBefore, IsNoneBefore};
 
 use crate::composer::{Composer, Forest};
+use crate::size::StreamSize;
 use crate::stop::Refusal;
 use crate::tag::tag_given;
 use crate::unmade::Unmade;
@@ -219,16 +220,15 @@ impl<'s> Judged<'s> {
         Ok(())
     }
 
-    /// How many documents there are, where no collection is open.
-    pub(crate) fn documents(&self) -> Result<usize, Unmade>
+    /// How many documents and nodes there are, where no collection is open.
+    pub(crate) fn documents(&self) -> Result<StreamSize, Unmade>
         ensures count { (ds : List Document) → Judges self.now (stream_events ds) → IfOk result (UnfoldTo ds) }
         ensures refused { (ds : List Document) → Judges self.now (stream_events ds) → IfErr result (RefusesForest ds) }
     {
         if let Some(refusal) = self.refusal {
             return Err(Unmade::Refused(refusal.fault()));
         }
-        let documents = self.composer.documents()?;
-        Ok(documents)
+        self.composer.documents()
     }
 
     /// The stream ends, or the second of two.

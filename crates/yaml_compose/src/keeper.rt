@@ -15,6 +15,7 @@ ghost use Rattle.yaml_compose.specs.Refusals.{RefusesForest};
 
 use crate::ahead::Ahead;
 use crate::composer::Forest;
+use crate::size::StreamSize;
 use crate::unmade::Unmade;
 use crate::waiting::{Late, Waiting};
 use std::alloc::Global;
@@ -268,8 +269,8 @@ impl<'s> Composing<'s> {
         Ok(())
     }
 
-    /// How many documents a whole stream has. The events of a second one may follow.
-    pub fn documents(&mut self) -> Result<usize, Unmade>
+    /// How many documents and nodes a whole stream has. The events of a second one may follow.
+    pub fn documents(&mut self) -> Result<StreamSize, Unmade>
         ensures count { (ds : List Document) → Composes self.old (stream_events ds) → IfOk result (UnfoldTo ds) }
         ensures keeps { IfOk result (λ _. Keeps Composes self.old self.new) }
         ensures refused { (ds : List Document) → Composes self.old (stream_events ds) → IfErr result (RefusesForest ds) }
