@@ -26,7 +26,9 @@ def made(piece):
     if "indented" in piece:
         lines = [" " * column + line for column in range(times) for line in piece["indented"]]
         return "\n".join([*lines, " " * times + middle]) + "\n"
-    return "".join([piece.get("start", ""), piece["open"] * times, middle, piece.get("close", "") * times, piece.get("end", "")]) + "\n"
+    if "numbered" in piece:
+        return "".join(piece["numbered"] % number + "\n" for number in range(1, times + 1))
+    return piece["open"] * times + middle + piece["close"] * times + "\n"
 
 
 def furnish(room, given):
