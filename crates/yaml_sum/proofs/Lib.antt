@@ -1,5 +1,6 @@
 mod AskLaws
 mod DigestLaws
 mod LineLaws
+mod ListedLaws
 mod NameLaws
 mod SumLaws

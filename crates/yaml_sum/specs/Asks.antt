@@ -3,6 +3,8 @@ use Rattle.std.specs.Prelude.{◌≡◌, ◌⊎◌, ℕ, List, map, Option}
 use Rattle.yaml_text.specs.declared.counted.Counted.{Counted}
 use Rattle.yaml_text.specs.CountedModel.{inner_of, faults_of}
 use Rattle.yaml_answers.specs.Writers.{Printed, Broken}
+use Rattle.yaml_sum.specs.Checks.{ChecksAll, ChecksCut, Closes, any_in}
+use Rattle.yaml_sum.specs.Listed.{Listing, all_listings, improper_count, lines_of}
 use Rattle.yaml_sum.specs.Names.{names_in}
 use Rattle.yaml_sum.specs.Sums.{IsRead, IsNotRead, SumsAll, SumsCut}
 use Rattle.yaml_sum.specs.declared.asked.Asked.{Asked}
@@ -39,16 +41,37 @@ module _ {R W E : Type 0} (holds : List ℕ → Option (List ℕ)) (remaining : 
       (ListUnread holds remaining list old new halt × (end ≡ out) × (after ≡ before))
       ⊎ ((bytes : List ℕ) × (behind : R) × IsRead holds remaining list list_limit old behind bytes × CutAt (names_in bytes) behind out end before after halt)
 
-  -- what is asked is done, or why it is not; nothing is claimed of a list that is checked
+  -- the files that a list of sums names are looked at, and what is told of all lines stands behind that
+  pub record ListChecked (list : List ℕ) (old new : R) (out end : Counted W) (before after : Counted E) (status : ℕ) : Type 0 where
+    pub bytes : List ℕ
+    pub behind : R
+    pub read : IsRead holds remaining list list_limit old behind bytes
+    pub worst : ℕ
+    pub middle : Counted E
+    pub checks : ChecksAll holds remaining contents told (all_listings (lines_of bytes)) behind new out end before middle worst
+    pub closes : Closes told list (any_in (all_listings (lines_of bytes))) (improper_count (lines_of bytes)) worst middle after status
+
+  -- what checking these leaves where it does not go on to the last
+  abbrev pub CheckCutAt : List Listing → R → Counted W → Counted W → Counted E → Counted E → Halt → Type 0
+  CheckCutAt ls old out end before after (Fault fault) = ChecksCut holds remaining contents told ls old out end before after fault
+  CheckCutAt ls old out end before after _ = ⊥
+
+  -- or the list is not read, or it is cut off
+  abbrev pub ListNotChecked : List ℕ → R → R → Counted W → Counted W → Counted E → Counted E → Halt → Type 0
+  ListNotChecked list old new out end before after halt =
+      (ListUnread holds remaining list old new halt × (end ≡ out) × (after ≡ before))
+      ⊎ ((bytes : List ℕ) × (behind : R) × IsRead holds remaining list list_limit old behind bytes × CheckCutAt (all_listings (lines_of bytes)) behind out end before after halt)
+
+  -- what is asked is done, or why it is not
   abbrev pub Done : Asked → R → R → Counted W → Counted W → Counted E → Counted E → ℕ → Type 0
   Done (Files words) old new out end before after status = SumsAll holds remaining contents told (map (λ w. w.now) words.now) old new out end before after status
   Done (FilesFrom list) old new out end before after status = ListSummed list.now old new out end before after status
-  Done (Check list) old new out end before after status = Unit {0}
+  Done (Check list) old new out end before after status = ListChecked list.now old new out end before after status
 
   abbrev pub NotDone : Asked → R → R → Counted W → Counted W → Counted E → Counted E → Halt → Type 0
   NotDone (Files words) old new out end before after halt = CutAt (map (λ w. w.now) words.now) old out end before after halt
   NotDone (FilesFrom list) old new out end before after halt = ListNotSummed list.now old new out end before after halt
-  NotDone (Check list) old new out end before after halt = Unit {0}
+  NotDone (Check list) old new out end before after halt = ListNotChecked list.now old new out end before after halt
 
   -- It is reported behind what standard error has, or a beginning of that line where a call fails, and the status is its own.
   pub record TellsHalt (asked : Asked) (old new : R) (out end : Counted W) (before after : Counted E) (status : ℕ) : Type 0 where

@@ -1,8 +1,12 @@
 pub mod Asks
+pub mod Checking
+pub mod Checks
 pub mod Complaints
 pub mod Digests
 pub mod Lines
+pub mod Listed
 pub mod Names
 pub mod Reading
+pub mod Reads
 pub mod Stops
 pub mod Sums

@@ -1,16 +1,22 @@
 //! Whether files have the sums that a list tells.
-ghost use Rattle.std.specs.Prelude.{◌≡◌, ◌<◌, ◌-◌, ◌^◌, length, IfSome, IfOk};
+ghost use Rattle.std.specs.Prelude.{◌≡◌, ◌<◌, ◌-◌, ◌^◌, ◌++◌, length, IfOk, IfErr, OnOk, OnErr};
 ghost use Rattle.yaml_text.specs.CountedModel.{faults_of};
+ghost use Rattle.yaml_sum.specs.Listed.{listed, lines_of, all_listings};
+ghost use Rattle.yaml_sum.specs.Checks.{verdict_line, none_line, improper_line, Finds, Closes, ChecksAll, ChecksCut};
+ghost use Rattle.yaml_sum.specs.Checking.{IsCounted, Puts, PutsNot, ChecksSome, Sees, CutsLine};
+ghost use Rattle.yaml_sum.specs.Complaints.{IsTold};
+ghost use Rattle.yaml_sum.specs.Asks.{ListChecked, ListNotChecked};
 
 use crate::buffers::Buffers;
 use crate::file::digest_file;
+use crate::finding::Finding;
 use crate::line::{push, push_name};
 use crate::list::read_list;
-use crate::listed::{Listed, read_listed};
+use crate::listed::{read_listed, unwrite};
 use crate::names::cut;
-use crate::stop::Halt;
+use crate::stop::{Halt, greater};
 use crate::telling::tell;
-use hex::decode_to_slice;
+use itoa::Buffer;
 use std::alloc::Global;
 use std::io::{Read, Write};
 use yaml_command::shelf::Shelf;
@@ -19,9 +25,6 @@ use yaml_spell::page::write_whole;
 use yaml_text::counted::Counted;
 use yaml_text::fault::Fault;
 
-/// The status of a file that has another sum.
-const DIFFERENT: u8 = 1;
-
 /// The status of a list in which no line is one of a sum.
 const UNUSABLE: u8 = 3;
 
@@ -29,7 +32,7 @@ const UNUSABLE: u8 = 3;
 #[derive(Clone, Copy)]
 enum Seen {
     /// An empty line, or one that begins with `#`.
-    Nothing,
+    Remark,
     /// A line that is none of a sum.
     Improper,
     /// A line of a sum, whose file has this status.
@@ -40,81 +43,40 @@ enum Seen {
 #[derive(Clone, Copy)]
 struct Told {
     worst: u8,
-    proper: usize,
+    has_sums: bool,
     improper: usize,
 }
 
 impl Told {
-    fn new() -> Told {
-        Told {
-            worst: 0,
-            proper: 0,
-            improper: 0,
-        }
-    }
+    ghost use Rattle.std.specs.Prelude.{◌<◌, ◌-◌, ◌^◌};
+    ghost use Rattle.yaml_sum.specs.Checking.{Counts};
 
     /// The same with a line more.
-    fn with(self, seen: Seen) -> Told {
+    fn with(self, seen: Seen) -> Told
+        requires { self.improper < 2 ^ 64 - 1 }
+        ensures { Counts self seen result }
+    {
         match seen {
-            Seen::Nothing => self,
+            Seen::Remark => self,
             Seen::Improper => Told {
-                improper: self.improper.saturating_add(1),
+                improper: self.improper + 1,
                 ..self
             },
             Seen::File(status) => Told {
-                worst: self.worst.max(status),
-                proper: self.proper.saturating_add(1),
+                worst: greater(self.worst, status),
+                has_sums: true,
                 ..self
             },
         }
     }
-}
-
-/// The byte that stands for an escape, of which the second byte is at this place. No answer where
-/// `push_name` makes none such.
-fn escaped_byte(name: &[u8], at: usize) -> Option<u8>
-    ensures { IfSome result (λ _. at < length name.now) }
-{
-    match *name.get(at)? {
-        b'\\' => Some(b'\\'),
-        b'n' => Some(b'\n'),
-        b'r' => Some(b'\r'),
-        _ => None,
-    }
-}
-
-/// What `push_name` made of a name, undone. Whether it could have made it.
-fn unescape(name: &[u8], plain: &mut Vec<u8>) -> Result<bool, Fault> {
-    plain.clear();
-    let mut at = 0;
-    'bytes: while at < name.len() {
-        if name[at] != b'\\' {
-            plain.push(name[at])?;
-            at += 1;
-            continue;
-        }
-        let Some(byte) = escaped_byte(name, at + 1) else {
-            return Ok(false);
-        };
-        plain.push(byte)?;
-        at += 2;
-    }
-    Ok(true)
-}
-
-/// The name of a line as it is, or none where it is not written properly.
-fn name_of(listed: &Listed<'_>, plain: &mut Vec<u8>) -> Result<bool, Fault> {
-    if listed.is_escaped {
-        return unescape(listed.name, plain);
-    }
-    plain.clear();
-    push(plain, listed.name)?;
-    Ok(true)
 }
 
 /// Makes the line that tells what is found of a file. Its name is written as in a line of sums if it has
 /// a line feed, else as it is.
-fn make_verdict(line: &mut Vec<u8>, name: &[u8], verdict: &str) -> Result<(), Fault> {
+fn make_verdict(line: &mut Vec<u8>, name: &[u8], finding: Finding) -> Result<(), Fault>
+    ensures ok { OnOk result (line.new.items ≡ verdict_line name.now finding) }
+    ensures only { IfErr result (λ fault. fault ≡ Fault.OutOfMemory) }
+{
     line.clear();
     if name.contains(&b'\n') {
         push(line, b"\\")?;
@@ -122,26 +84,21 @@ fn make_verdict(line: &mut Vec<u8>, name: &[u8], verdict: &str) -> Result<(), Fa
     } else {
         push(line, name)?;
     }
-    push(line, verdict.as_bytes())
+    push(line, finding.verdict().as_bytes())
 }
 
-/// Whether a digest is the one that a line tells.
-fn is_listed(digest: &[u8; 32], listed: &Listed<'_>) -> bool {
-    let mut wanted = [0u8; 32];
-    decode_to_slice(listed.digits, &mut wanted).is_ok() && wanted == *digest
-}
-
-/// Looks at the file of one line, makes the line that tells what is found, and answers its status.
-fn check_file<S: Shelf, R: Read, E: Write>(
+/// Looks whether the file of a name has this digest.
+fn find<S: Shelf, R: Read>(
     shelf: &S,
     alloc: Global,
-    listed: &Listed<'_>,
+    digest: &[u8; 32],
     name: &[u8],
     input: &mut R,
     buffers: &mut Buffers,
-    err: &mut Counted<E>,
-) -> Result<u8, Fault> {
-    let (status, verdict) = match digest_file(
+) -> Finding
+    ensures { Finds (S.holds shelf.now) R.remaining (listed digest.now name.now) input.old input.new result }
+{
+    match digest_file(
         shelf,
         alloc,
         name,
@@ -149,15 +106,30 @@ fn check_file<S: Shelf, R: Read, E: Write>(
         &mut buffers.bytes,
         &mut buffers.text,
     ) {
-        Ok(digest) if is_listed(&digest, listed) => (0, ": OK\n"),
-        Ok(_) => (DIFFERENT, ": FAILED\n"),
-        Err(stop) => {
-            tell(alloc, &mut buffers.line, name, stop, err)?;
-            (stop.status(), ": FAILED open or read\n")
-        }
-    };
-    make_verdict(&mut buffers.line, name, verdict)?;
-    Ok(status)
+        Ok(found) if found == *digest => Finding::Right,
+        Ok(_) => Finding::Wrong,
+        Err(stop) => Finding::Without(stop),
+    }
+}
+
+/// Writes what is found of a file, and tells why it has no digest. The line is made before anything is
+/// told. Refused is what `out` refuses, and want of memory before any of it.
+fn put<W: Write, E: Write>(
+    alloc: Global,
+    name: &[u8],
+    finding: Finding,
+    buffers: &mut Buffers,
+    out: &mut Counted<W>,
+    err: &mut Counted<E>,
+) -> Result<(), Fault>
+    ensures ok { OnOk result (Puts W.contents E.contents name.now finding out.old out.new err.old err.new) }
+    ensures cut { IfErr result (PutsNot W.contents E.contents name.now finding out.old out.new err.old err.new) }
+{
+    make_verdict(&mut buffers.line, name, finding)?;
+    if let Finding::Without(stop) = finding {
+        tell(alloc, &mut buffers.bytes, name, stop, err)?;
+    }
+    write_whole(out, buffers.line.as_slice())
 }
 
 /// Looks at the file that a line of a list names, if the line is one of a sum, and writes what is found.
@@ -171,24 +143,64 @@ fn check_line<S: Shelf, R: Read, W: Write, E: Write>(
     out: &mut Counted<W>,
     err: &mut Counted<E>,
 ) -> Result<Seen, Fault>
-    ensures { IfOk result (λ _. faults_of out.new ≡ faults_of out.old) }
+    ensures ok { IfOk result (Sees (S.holds shelf.now) R.remaining W.contents E.contents line.now input.old input.new out.old out.new err.old err.new) }
+    ensures cut { IfErr result (CutsLine (S.holds shelf.now) R.remaining W.contents E.contents line.now input.old out.old out.new err.old err.new) }
 {
     if line.is_empty() || line[0] == b'#' {
-        return Ok(Seen::Nothing);
+        return Ok(Seen::Remark);
     }
     let Some(listed) = read_listed(line) else {
         return Ok(Seen::Improper);
     };
     let mut name = Vec::new(alloc);
-    if !name_of(&listed, &mut name)? {
+    if !unwrite(&listed, &mut name)? {
         return Ok(Seen::Improper);
     }
-    let status = check_file(shelf, alloc, &listed, &name, input, buffers, err)?;
-    write_whole(out, &buffers.line)?;
-    Ok(Seen::File(status))
+    let finding = find(
+        shelf,
+        alloc,
+        &listed.digest,
+        name.as_slice(),
+        input,
+        buffers,
+    );
+    put(alloc, name.as_slice(), finding, buffers, out, err)?;
+    Ok(Seen::File(finding.status()))
 }
 
 /// Looks at each line of a list.
+fn check_each<S: Shelf, R: Read, W: Write, E: Write>(
+    shelf: &S,
+    alloc: Global,
+    list: &[u8],
+    input: &mut R,
+    out: &mut Counted<W>,
+    err: &mut Counted<E>,
+) -> Result<Told, Fault>
+    requires { faults_of out.old < 2 ^ 64 - 1 }
+    ensures ok { IfOk result (λ told. ChecksSome (S.holds shelf.now) R.remaining W.contents E.contents (all_listings (lines_of list.now)) input.old input.new out.old out.new err.old err.new told.worst) }
+    ensures counted { IfOk result (IsCounted (lines_of list.now)) }
+    ensures cut { IfErr result (ChecksCut (S.holds shelf.now) R.remaining W.contents E.contents (all_listings (lines_of list.now)) input.old out.old out.new err.old err.new) }
+{
+    let mut buffers = Buffers::new(alloc);
+    let mut told = Told {
+        worst: 0,
+        has_sums: false,
+        improper: 0,
+    };
+    let mut rest = list;
+    'lines: loop {
+        let (line, behind) = cut(rest, b'\n');
+        let seen = check_line(shelf, alloc, line, input, &mut buffers, out, err)?;
+        told = told.with(seen);
+        match behind {
+            Some(more) => rest = more,
+            None => return Ok(told),
+        }
+    }
+}
+
+/// Looks at each line of a list, and flushes.
 fn check_lines<S: Shelf, R: Read, W: Write, E: Write>(
     shelf: &S,
     alloc: Global,
@@ -198,35 +210,69 @@ fn check_lines<S: Shelf, R: Read, W: Write, E: Write>(
     err: &mut Counted<E>,
 ) -> Result<Told, Fault>
     requires { faults_of out.old < 2 ^ 64 - 1 }
+    ensures ok { IfOk result (λ told. ChecksAll (S.holds shelf.now) R.remaining W.contents E.contents (all_listings (lines_of list.now)) input.old input.new out.old out.new err.old err.new told.worst) }
+    ensures counted { IfOk result (IsCounted (lines_of list.now)) }
+    ensures cut { IfErr result (ChecksCut (S.holds shelf.now) R.remaining W.contents E.contents (all_listings (lines_of list.now)) input.old out.old out.new err.old err.new) }
 {
-    let mut buffers = Buffers::new(alloc);
-    let mut told = Told::new();
-    let mut rest = list;
-    'lines: loop {
-        let (line, behind) = cut(rest, b'\n');
-        told = told.with(check_line(shelf, alloc, line, input, &mut buffers, out, err)?);
-        match behind {
-            Some(more) => rest = more,
-            None => break,
-        }
-    }
+    let told = check_each(shelf, alloc, list, input, out, err)?;
     write_out(out, b"")?;
     Ok(told)
 }
 
-/// Tells that no line of a list is one of a sum, in place of the bytes that are given, and answers the status.
-fn tell_none<'a, E: Write>(
-    list: &str,
-    mut line: Vec<u8>,
-    err: &mut Counted<E>,
-) -> Result<u8, Halt<'a>> {
+/// Makes the line that tells that no line of a list is one of a sum.
+fn make_none(line: &mut Vec<u8>, list: &str) -> Result<(), Fault>
+    ensures ok { OnOk result (line.new.items ≡ none_line list.now) }
+    ensures only { IfErr result (λ fault. fault ≡ Fault.OutOfMemory) }
+{
     line.clear();
-    push(&mut line, b"yamlreview: ")?;
-    push_name(&mut line, list.as_bytes())?;
-    push(&mut line, b": no line is one of a sum\n")?;
-    // Where standard error fails too, the status alone is left to tell it.
-    let _ = write_whole(err, &line);
-    Ok(UNUSABLE)
+    push(line, b"yamlreview: ")?;
+    push_name(line, list.as_bytes())?;
+    push(line, b": no line is one of a sum\n")
+}
+
+/// Makes the line that tells how many lines are none of a sum.
+fn make_improper(line: &mut Vec<u8>, count: usize) -> Result<(), Fault>
+    ensures ok { OnOk result (line.new.items ≡ improper_line count) }
+    ensures only { IfErr result (λ fault. fault ≡ Fault.OutOfMemory) }
+{
+    let mut digits = Buffer::new();
+    line.clear();
+    push(line, b"yamlreview: lines that are no sums: ")?;
+    push(line, digits.format(count).as_bytes())?;
+    push(line, b"\n")
+}
+
+/// Writes a line, or a beginning of it where `err` fails: the status alone is then left to tell it.
+fn tell_line<E: Write>(line: &[u8], err: &mut Counted<E>)
+    ensures { IsTold E.contents err.old err.new line.now }
+{
+    match write_whole(err, line) {
+        Ok(()) | Err(_) => {}
+    }
+}
+
+/// Tells that no line of a list is one of a sum, or how many are none, and answers the status. The line is
+/// made in place of the bytes that are held.
+fn close<E: Write>(
+    list: &str,
+    told: Told,
+    line: &mut Vec<u8>,
+    err: &mut Counted<E>,
+) -> Result<u8, Fault>
+    ensures ok { IfOk result (Closes E.contents list.now told.has_sums told.improper told.worst err.old err.new) }
+    ensures only { IfErr result (λ fault. fault ≡ Fault.OutOfMemory) }
+    ensures quiet { OnErr result (err.new ≡ err.old) }
+{
+    if !told.has_sums {
+        make_none(line, list)?;
+        tell_line(line.as_slice(), err);
+        return Ok(UNUSABLE);
+    }
+    if told.improper > 0 {
+        make_improper(line, told.improper)?;
+        tell_line(line.as_slice(), err);
+    }
+    Ok(told.worst)
 }
 
 /// Looks at each file of a list of sums, and tells on `out` whether it has the sum of its line. Lines that
@@ -240,6 +286,8 @@ pub(crate) fn check_list<'a, S: Shelf, R: Read, W: Write, E: Write>(
     err: &mut Counted<E>,
 ) -> Result<u8, Halt<'a>>
     requires { faults_of out.old < 2 ^ 64 - 1 }
+    ensures ok { IfOk result (ListChecked (S.holds shelf.now) R.remaining W.contents E.contents list.now input.old input.new out.old out.new err.old err.new) }
+    ensures err { IfErr result (ListNotChecked (S.holds shelf.now) R.remaining W.contents E.contents list.now input.old input.new out.old out.new err.old err.new) }
 {
     let mut bytes = Vec::new(alloc);
     read_list(shelf, list, input, &mut bytes)?;
@@ -247,11 +295,8 @@ pub(crate) fn check_list<'a, S: Shelf, R: Read, W: Write, E: Write>(
         Ok(told) => told,
         Err(fault) => return Err(Halt::Fault(fault)),
     };
-    if told.proper == 0 {
-        return tell_none(list, bytes, err);
+    match close(list, told, &mut bytes, err) {
+        Ok(status) => Ok(status),
+        Err(fault) => Err(Halt::Fault(fault)),
     }
-    if told.improper > 0 {
-        let _ = writeln!(err, "yamlreview: lines that are no sums: {}", told.improper);
-    }
-    Ok(told.worst)
 }

@@ -6,6 +6,7 @@ mod buffers;
 mod check;
 mod digest;
 mod file;
+mod finding;
 mod line;
 mod list;
 mod listed;

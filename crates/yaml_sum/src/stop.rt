@@ -1,5 +1,5 @@
 //! Why a file has no sum, and why sums are not made to the end.
-ghost use Rattle.std.specs.Prelude.{◌≡◌};
+ghost use Rattle.std.specs.Prelude.{◌≡◌, max};
 ghost use Rattle.yaml_report.specs.Statuses.{fault_status};
 
 use crate::reason::Reason;
@@ -10,6 +10,13 @@ const REFUSED: u8 = 2;
 
 /// The status of a file that can't be opened or read.
 const UNUSABLE: u8 = 3;
+
+/// The greater of two statuses.
+pub(crate) fn greater(left: u8, right: u8) -> u8
+    ensures { result ≡ max left right }
+{
+    if left < right { right } else { left }
+}
 
 /// Why a file has no sum.
 #[derive(Clone, Copy)]

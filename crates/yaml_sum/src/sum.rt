@@ -1,5 +1,5 @@
 //! The command `sum`.
-ghost use Rattle.std.specs.Prelude.{◌≡◌, ◌≤◌, ◌<◌, ◌-◌, ◌^◌, max, map, IfOk, IfErr};
+ghost use Rattle.std.specs.Prelude.{◌≡◌, ◌≤◌, ◌<◌, ◌-◌, ◌^◌, map, IfOk, IfErr};
 ghost use Rattle.yaml_text.specs.CountedModel.{faults_of};
 ghost use Rattle.yaml_sum.specs.Sums.{SumsAll, SumsCut};
 ghost use Rattle.yaml_sum.specs.Asks.{CutAt, ListUnread, ListSummed, ListNotSummed, Done, NotDone, SumTells};
@@ -10,7 +10,7 @@ use crate::check::check_list;
 use crate::file::sum_file;
 use crate::list::read_list;
 use crate::names::{names_in, names_of};
-use crate::stop::Halt;
+use crate::stop::{Halt, greater};
 use crate::telling::tell_halt;
 use std::alloc::Global;
 use std::io::{Read, Write};
@@ -18,13 +18,6 @@ use yaml_command::shelf::Shelf;
 use yaml_command::streams::write_out;
 use yaml_text::counted::Counted;
 use yaml_text::fault::Fault;
-
-/// The greater of two statuses.
-fn greater(left: u8, right: u8) -> u8
-    ensures { result ≡ max left right }
-{
-    if left < right { right } else { left }
-}
 
 /// Writes a line for each file, and answers the greatest status.
 fn sum_each<S: Shelf, R: Read, W: Write, E: Write>(
