@@ -11,4 +11,3 @@ pub mod Accepting
 pub mod Runs
 pub mod Targets
 pub mod Rooms
-pub mod NoForests

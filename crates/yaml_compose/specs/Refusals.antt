@@ -43,6 +43,11 @@ abbrev pub Stops : Event → State → Stop → Type 0
 Stops e s (stops.Refused cause) = (at : ℕ) → step at e s ≡ Some (Err (cause_of cause, at))
 Stops e s stops.GivesUp = Unit {0}
 
+-- what a caller is told that no forest is made
+abbrev pub fault_for : Unmade → Fault
+fault_for (Refused fault) = fault
+fault_for GivesUp = faults.OutOfMemory
+
 -- The composer did not give up, and the event of this number is refused.
 pub record IsRefusal (stop : Stop) (number : ℕ) (r : Refusal) : Type 0 where
   pub cause : stop ≡ stops.Refused r.cause

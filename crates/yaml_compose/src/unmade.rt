@@ -1,5 +1,6 @@
 //! Why no forest is made.
 ghost use Rattle.std.specs.Prelude.{◌≡◌};
+ghost use Rattle.yaml_compose.specs.Refusals.{fault_for};
 
 use yaml_compact::gives_up::GivesUp;
 use yaml_text::fault::Fault;
@@ -20,5 +21,16 @@ impl From<GivesUp> for Unmade {
 
     fn from(_gives_up: GivesUp) -> Unmade {
         Unmade::GivesUp
+    }
+}
+
+impl From<Unmade> for Fault {
+    ghost from_gives = { λ unmade fault. fault ≡ fault_for unmade };
+
+    fn from(unmade: Unmade) -> Fault {
+        match unmade {
+            Unmade::Refused(fault) => fault,
+            Unmade::GivesUp => Fault::OutOfMemory,
+        }
     }
 }
