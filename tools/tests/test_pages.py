@@ -7,14 +7,20 @@ import unittest
 
 sys.path.insert(0, os.path.dirname(os.path.dirname(os.path.realpath(__file__))))
 
-from packing.pages import mend, without_dead_links
+from lib.packing.pages import mend, without_dead_links
 
 PACKED = {"README.md", "docs/using/GUIDE.md", "examples/service.yaml"}
 
 
 class WithoutDeadLinks(unittest.TestCase):
     def test_a_link_to_a_packed_file_or_folder_stays(self):
-        for text in ("[guide](using/GUIDE.md#diff)", "[`all`](../examples)", "[top](../README.md)", "[web](https://yaml.org/)", "[here](#diff)"):
+        for text in (
+            "[guide](using/GUIDE.md#diff)",
+            "[`all`](../examples)",
+            "[top](../README.md)",
+            "[web](https://yaml.org/)",
+            "[here](#diff)",
+        ):
             self.assertEqual(without_dead_links(text, "docs/PAGE.md", PACKED), text)
 
     def test_another_link_is_only_its_words(self):

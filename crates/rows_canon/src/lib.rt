@@ -11,6 +11,8 @@ mod runs;
 #[cfg(test)]
 mod sides;
 #[cfg(test)]
+mod stores;
+#[cfg(test)]
 mod streams;
 #[cfg(test)]
 mod visits;

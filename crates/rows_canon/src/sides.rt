@@ -1,5 +1,6 @@
 //! Comparisons of which one side is rejected: the fault is what the canonicaliser answers for that side alone.
 use std::alloc::Global;
+use std::process::Abort;
 use std::test::Fail;
 use yaml_canon::{Side, canonical, same};
 

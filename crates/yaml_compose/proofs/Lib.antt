@@ -3,7 +3,9 @@ pub mod AnchorLaws
 pub mod TagLaws
 pub mod ComposerLaws
 pub mod LogLaws
+pub mod AlikeLaws
 pub mod NodeLaws
+pub mod KeyLaws
 pub mod AheadLaws
 pub mod WaitingLaws
 pub mod RefusalLaws

@@ -1,9 +1,10 @@
 -- What the composer holds, as plain values.
-use Rattle.std.specs.Prelude.{◌≡◌, ◌<◌, ℕ, Bool, List, [], ◌∷◌, ◌++◌, length, reverse, Option, Some, None, Ok}
+use Rattle.std.specs.Prelude.{◌≡◌, ◌⊎◌, ◌<◌, ℕ, Bool, List, [], ◌∷◌, ◌++◌, length, reverse, Option, Some, None, Ok}
 use Rattle.std.specs.List.{slice_get}
 use Rattle.yaml_definitions.specs.model.Tree.{Tree}
 use Rattle.yaml_definitions.specs.model.Event.{Anchor, Event, WrittenTag, sequence_start, sequence_end, mapping_start, mapping_end}
 use Rattle.yaml_definitions.specs.model.Serial.{Document}
+use Rattle.yaml_definitions.specs.model.Core.{collection_tag}
 use Rattle.yaml_definitions.specs.model.Unfold.{Table, trees_of as trees_unfolded}
 use Rattle.yaml_nodes.specs.ComposerSteps as machine
 use Rattle.yaml_nodes.specs.ComposerModel.{names_of, Placed}
@@ -17,7 +18,7 @@ use Rattle.yaml_compact.specs.declared.nodes.Collection.TheVariants.{Sequence, M
 use Rattle.yaml_compose.specs.Reached.{UnfoldBoth}
 use Rattle.yaml_compose.specs.AnchorsModel.{Names}
 use Rattle.yaml_compose.specs.FirstsModel.{Counted}
-use Rattle.yaml_compose.specs.TagModel.{AreCore}
+use Rattle.yaml_compose.specs.TagModel.{collection_number, AreCore}
 use Rattle.yaml_compose.specs.declared.core_tags.CoreTags.{CoreTags}
 use Rattle.yaml_compose.specs.declared.composer.Open.{Open}
 use Rattle.yaml_compose.specs.declared.composer.Composer.{Composer}
@@ -82,6 +83,16 @@ pub record Stepped (e : Event) (s : machine.State) (c : Composer) : Type 0 where
   pub state : machine.State
   pub is : machine.step 0 e s ≡ Some (Ok state)
   pub holds : Holds c state
+
+-- A collection of the kind may have this tag, and this is the tag's number.
+pub record IsNumber (k : Collection) (g : WrittenTag) (c : Composer) (n : ℕ) : Type 0 where
+  pub tag : List ℕ
+  pub is : collection_tag (collection_number k) g ≡ Ok tag
+  pub at : slice_get (tags_of c.store) n ≡ Some tag
+
+-- not two places, and the one that there is
+abbrev pub IsOnePlace : Option ℕ → Option ℕ → Option ℕ → Type 0
+IsOnePlace outer own place = ((outer ≡ None) × (place ≡ own)) ⊎ ((own ≡ None) × (place ≡ outer))
 
 abbrev pub start_of : Collection → (flow : Bool) → Anchor → WrittenTag → Event
 start_of Sequence flow a g = sequence_start flow a g
