@@ -21,25 +21,22 @@ use Rattle.law_closing.proofs.Repeats.{first-is-graphs}
 use Rattle.yaml_compact.specs.TextModel.{text_of}
 use Rattle.yaml_compact.specs.StoreGrows.{Good, tags_of, trees_of}
 use Rattle.yaml_compact.specs.StoreView.{view_of}
-use Rattle.yaml_compact.specs.Unranked.{RefusesStore}
-use Rattle.yaml_compact.specs.declared.unranked.EqualKeys.{EqualKeys}
-use Rattle.yaml_compact.specs.declared.unranked.Unranked.{Unranked}
-use Rattle.yaml_compact.specs.declared.unranked.Unranked.TheVariants as unranked
+use Rattle.yaml_compact.specs.Refused.{RefusesStore}
 use Rattle.yaml_compact.proofs.Growing.{trees-count}
 use Rattle.yaml_compose.specs.ComposerModel.{IsForest, AreForests}
 use Rattle.yaml_compose.specs.declared.composer.Forest.{Forest}
 use Rattle.yaml_compose.proofs.HoldableLaws.{closed-holdable}
-use Rattle.yaml_canon.specs.NoRanks.{IsInStream, RefusesRanks, RefusesBothRanks}
+use Rattle.yaml_canon.specs.RefusedRanks.{IsInStream, RefusesRanks, RefusesBothRanks}
 use Rattle.yaml_canon.proofs.AcceptLaws.{same-trees}
 
 -- ---- any graph of the nodes that a store stands for
 
-graph-keys : (f : Forest) (good : Good f.store) (g : Graph) → Numbers (trees_of f.store) f.firsts.items (graph_trees g) → (keys : EqualKeys) (node i j : ℕ) → slice_get f.firsts.items keys.node ≡ Some node → i ≡ keys.first → j ≡ keys.second
-    → RefusesStore f.store good (unranked.EqualKeys keys) → RefusesGraph g (faults.EqualKeys node i j)
-graph-keys f good g numbered keys node i j at first second h =
+graph-keys : (f : Forest) (good : Good f.store) (g : Graph) → Numbers (trees_of f.store) f.firsts.items (graph_trees g) → (stored one two node i j : ℕ) → slice_get f.firsts.items stored ≡ Some node → i ≡ one → j ≡ two
+    → RefusesStore f.store good (faults.EqualKeys stored one two) → RefusesGraph g (faults.EqualKeys node i j)
+graph-keys f good g numbered stored one two node i j at first second h =
     let s = f.store in
     let count = trees-count s.nodes.items (text_of s.text) s.items.items s.entries.items (tags_of s) in
-    let refused = first-is-graphs g (view_of s good) (trees_of s) f.firsts.items count (λ i l. refl) numbered keys.node node at h.0.is.within keys.first keys.second h.0.is h.0.before h.1 in
+    let refused = first-is-graphs g (view_of s good) (trees_of s) f.firsts.items count (λ i l. refl) numbered stored node at h.0.is.within one two h.0.is h.0.before h.1 in
     rw (first, second) refused
 
 -- ---- the stream's graph
@@ -58,9 +55,9 @@ module _ (ds : List Document) (f : Forest) (is : IsForest ds f) where
   numbered = subst (Numbers (trees_of f.store) f.firsts.items) (sym graph-nodes) is.numbered
 
   -- what is told of the store is told of the stream
-  pub in-stream : (before : Unranked) (after : Fault) → IsInStream f.firsts.items before after → RefusesStore f.store is.good before → RefusesRanks ds after
-  in-stream (unranked.EqualKeys keys) (faults.EqualKeys node i j) w h = record { graph = graph.0; composed = graph.1; refuses = graph-keys f is.good graph.0 numbered keys node i j w.0 w.1 w.2 h }
-  in-stream unranked.GivesUp (faults.EqualKeys node i j) w h = absurd w
+  pub in-stream : (before after : Fault) → IsInStream f.firsts.items before after → RefusesStore f.store is.good before → RefusesRanks ds after
+  in-stream (faults.EqualKeys stored one two) (faults.EqualKeys node i j) w h = record { graph = graph.0; composed = graph.1; refuses = graph-keys f is.good graph.0 numbered stored one two node i j w.0 w.1 w.2 h }
+  in-stream _ (faults.EqualKeys node i j) w h = absurd w
   in-stream before faults.OutOfMemory w h = tt
   in-stream before _ w h = absurd w
 
@@ -97,8 +94,8 @@ module _ (ds es : List Document) (f : Forest) (is : AreForests ds es f) where
   both-numbered : Numbers (trees_of f.store) f.firsts.items (graph_trees graphs.both)
   both-numbered = subst (Numbers (trees_of f.store) f.firsts.items) (sym both-nodes) is.numbered
 
-  pub in-both : (before : Unranked) (after : Fault) → IsInStream f.firsts.items before after → RefusesStore f.store is.good before → RefusesBothRanks ds es after
-  in-both (unranked.EqualKeys keys) (faults.EqualKeys node i j) w h = record { graphs = graphs; refuses = graph-keys f is.good graphs.both both-numbered keys node i j w.0 w.1 w.2 h }
-  in-both unranked.GivesUp (faults.EqualKeys node i j) w h = absurd w
+  pub in-both : (before after : Fault) → IsInStream f.firsts.items before after → RefusesStore f.store is.good before → RefusesBothRanks ds es after
+  in-both (faults.EqualKeys stored one two) (faults.EqualKeys node i j) w h = record { graphs = graphs; refuses = graph-keys f is.good graphs.both both-numbered stored one two node i j w.0 w.1 w.2 h }
+  in-both _ (faults.EqualKeys node i j) w h = absurd w
   in-both before faults.OutOfMemory w h = tt
   in-both before _ w h = absurd w

@@ -13,11 +13,8 @@ use Rattle.yaml_read.specs.Decided.{HasNoReading}
 use Rattle.yaml_definitions.specs.model.Serial.{Document, stream_events}
 use Rattle.yaml_definitions.specs.grammar.Reading.{Reads}
 use Rattle.yaml_graph.specs.Composed.{RefusesStream}
-use Rattle.yaml_compose.specs.Refusals.{RefusesForest, fault_for}
-use Rattle.yaml_compose.specs.declared.unmade.Unmade.{Unmade}
-use Rattle.yaml_compose.specs.declared.unmade.Unmade.TheVariants as unmade
 use Rattle.yaml_canon.specs.Claims.{CanonicalRefuses, GraphRefuses, IsRead}
-use Rattle.yaml_canon.specs.NoRanks.{RefusesRanks}
+use Rattle.yaml_canon.specs.RefusedRanks.{RefusesRanks}
 use Rattle.yaml_canon.specs.Read.{IsSource}
 use Rattle.yaml_canon.specs.Refused.{Refuses}
 use Rattle.yaml_canon.proofs.ClaimLaws.{refused_text, refused_reading, refused_composing, refused_graph}
@@ -51,17 +48,9 @@ no-memory bytes source s = record { refused = tt; placed = tt; no_text = λ neve
 
 -- ---- documents
 
--- what is told of documents without a forest
-unfolds-not : (ds : List Document) (fault : Fault) → RefusesForest ds (unmade.Refused fault) → RefusesStream ds fault
-unfolds-not ds faults.OutOfMemory h = absurd h
-unfolds-not ds _ h = h
-
 -- a composer's answer, once the bytes are read as these documents
-pub not-made : (bytes : List ℕ) (ds : List Document) (why : Unmade) → IsRead bytes ds → RefusesForest ds why → Refuses GraphRefuses bytes (fault_for why)
-not-made bytes ds (unmade.Refused fault) r h =
-    let k = unfolds-not ds fault h in
-    record { refused = refused_composing bytes ds fault r k; placed = stream_elsewhere bytes ds fault k; no_text = λ never. absurd (read-text bytes ds r never) }
-not-made bytes ds unmade.GivesUp r h = record { refused = tt; placed = tt; no_text = λ never. absurd (read-text bytes ds r never) }
+pub not-made : (bytes : List ℕ) (ds : List Document) (fault : Fault) → IsRead bytes ds → RefusesStream ds fault → Refuses GraphRefuses bytes fault
+not-made bytes ds fault r h = record { refused = refused_composing bytes ds fault r h; placed = stream_elsewhere bytes ds fault h; no_text = λ never. absurd (read-text bytes ds r never) }
 
 -- bytes without a forest have no canonical text
 pub no-forest : (bytes : List ℕ) (fault : Fault) → Refuses GraphRefuses bytes fault → Refuses CanonicalRefuses bytes fault

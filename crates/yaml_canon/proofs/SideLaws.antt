@@ -19,7 +19,7 @@ use Rattle.yaml_answers.specs.declared.side.Side.{Side}
 use Rattle.yaml_answers.specs.declared.side.Side.TheVariants.{Left, Right}
 use Rattle.yaml_canon.specs.Claims.{IsRead, GraphRefuses}
 use Rattle.yaml_canon.specs.Comparing.{Compares, IsComposed, side_of_fault}
-use Rattle.yaml_canon.specs.NoRanks.{AreEqualInBoth, RefusesBothRanks}
+use Rattle.yaml_canon.specs.RefusedRanks.{AreEqualInBoth, RefusesBothRanks}
 use Rattle.yaml_canon.specs.Refused.{Refuses, RefusesSide}
 use Rattle.yaml_canon.proofs.AcceptLaws.{same-trees}
 use Rattle.yaml_canon.proofs.ClaimLaws.{is_text}

@@ -30,7 +30,8 @@ impl BothForests<'_> {
     /// error is want of memory (21).
     pub fn graph(&self, alloc: Global) -> Result<Graph<'_>, Fault>
         requires { (left right : List ℕ) × HasBoth left right self.now }
-        ensures { (left right : List ℕ) (has : HasBoth left right self.now) → IfOk result (λ graph. root_trees graph ≡ has.mean.lefts ++ has.mean.rights) }
+        ensures ok { (left right : List ℕ) (has : HasBoth left right self.now) → IfOk result (λ graph. root_trees graph ≡ has.mean.lefts ++ has.mean.rights) }
+        ensures err { IfErr result (λ fault. fault ≡ Fault.OutOfMemory) }
     {
         let graph = self.forest.store.graph(alloc, &self.forest.roots)?;
         Ok(graph)
@@ -86,7 +87,7 @@ pub fn forest_of_both<'l>(
     };
     let size = match first.documents() {
         Ok(size) => size,
-        Err(why) => return Err((Side::Left, Fault::from(why))),
+        Err(why) => return Err((Side::Left, why)),
     };
     let right_text = match source_of(right) {
         Ok(text) => text,
@@ -133,7 +134,7 @@ pub fn forest_of_both_with<'l, K: Keeper>(
     };
     let size = match begun.first.documents() {
         Ok(size) => size,
-        Err(why) => return Err((Side::Left, Fault::from(why))),
+        Err(why) => return Err((Side::Left, why)),
     };
     let events = begun.second.mark();
     let second_text = match source_of(right) {

@@ -7,11 +7,11 @@ ghost use Rattle.yaml_canon.specs.Read.{HasRoots};
 ghost use Rattle.yaml_canon.specs.Ranks.{RanksOf, HasRanks};
 ghost use Rattle.yaml_canon.specs.Claims.{CanonicalRefuses};
 ghost use Rattle.yaml_canon.specs.Refused.{Refuses};
-ghost use Rattle.yaml_canon.specs.NoRanks.{IsInStream, RefusesRanks, RefusesBothRanks};
+ghost use Rattle.yaml_canon.specs.RefusedRanks.{IsInStream, RefusesRanks, RefusesBothRanks};
 
 use crate::forest::forest_of;
 use std::alloc::Global;
-use yaml_compact::{Ranked, Unranked, compact_rank};
+use yaml_compact::{Ranked, compact_rank};
 use yaml_compose::Forest;
 use yaml_text::fault::Fault;
 
@@ -23,14 +23,14 @@ pub(crate) struct RankedForest<'s> {
 }
 
 /// Equal keys of a node of a store, told of the first node of the stream that it stands for.
-fn in_stream(unranked: Unranked, firsts: &[u32]) -> Fault
-    ensures { IsInStream firsts.now unranked result }
+fn in_stream(fault: Fault, firsts: &[u32]) -> Fault
+    ensures { IsInStream firsts.now fault result }
 {
-    let Unranked::EqualKeys(keys) = unranked else {
+    let Fault::EqualKeys(stored, first, second) = fault else {
         return Fault::OutOfMemory;
     };
-    match firsts.get(keys.node as usize) {
-        Some(node) => Fault::EqualKeys(*node as usize, keys.first, keys.second),
+    match firsts.get(stored) {
+        Some(node) => Fault::EqualKeys(*node as usize, first, second),
         None => Fault::OutOfMemory,
     }
 }
@@ -53,7 +53,7 @@ pub(crate) fn ranked_roots<'s>(alloc: Global, forest: Forest<'s>) -> Result<Rank
             ranked.take_ranks(&mut roots);
             Ok(RankedForest { ranked, roots })
         }
-        Err(unranked) => Err(in_stream(unranked, &firsts)),
+        Err(fault) => Err(in_stream(fault, &firsts)),
     }
 }
 

@@ -30,7 +30,7 @@ returns-in-Err-documents-clause-why g c =
     let l = c.in-Ok-kept_source.ensures.takes c.args.left.now c.in-Ok.ensures.source in
     let held = l.puts.is [] (record { first_holds = c.in-Ok-new.ensures; second_holds = c.requires }) in
     let told = not-made c.args.left.now l.documents c.in-Err-documents.why (record { reads = l.read }) (c.in-Err-documents.ensures.refused l.documents held.first_holds) in
-    left-refused c.args.left.now c.args.right.now _ (subst (Refuses GraphRefuses c.args.left.now) (sym c.from-in-Err-documents.ensures) told)
+    left-refused c.args.left.now c.args.right.now c.in-Err-documents.why told
 
 pub returns-in-Err-source_of-clause-why : goal.returns-in-Err-source_of-clause-why
 returns-in-Err-source_of-clause-why g c =

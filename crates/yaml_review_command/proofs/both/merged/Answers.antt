@@ -7,7 +7,7 @@ invariant_of-result c =
     record {
       long = c.in-Ok-rank.ensures.ok.long;
       sized = c.in-Ok-rank.ensures.ok.sized;
-      middle = middle-within c.in-Ok.graph c.args.forests.now.left.documents has.mean.lefts has.mean.rights (c.in-Ok.ensures c.requires.0 c.requires.1 has) has.mean.middle_is;
+      middle = middle-within c.in-Ok.graph c.args.forests.now.left.documents has.mean.lefts has.mean.rights (c.in-Ok.ensures.ok c.requires.0 c.requires.1 has) has.mean.middle_is;
     }
 
 pub returns : goal.returns
@@ -16,7 +16,7 @@ returns c left right has = record {
   rights = has.mean.rights;
   left_means = has.mean.left_means;
   right_means = has.mean.right_means;
-  roots = c.in-Ok.ensures left right has;
+  roots = c.in-Ok.ensures.ok left right has;
   middle = has.mean.middle_is;
   ranked = c.in-Ok-rank.ensures.ok;
 }

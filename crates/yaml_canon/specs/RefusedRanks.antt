@@ -8,12 +8,10 @@ use Rattle.yaml_nodes.specs.declared.graph.Graph.{Graph}
 use Rattle.yaml_graph.specs.Composed.{Composed}
 use Rattle.yaml_levels.specs.RanksView.{RefusesGraph}
 use Rattle.law_closing.specs.Laws.{HaveJoined}
-use Rattle.yaml_compact.specs.declared.unranked.Unranked.{Unranked}
-use Rattle.yaml_compact.specs.declared.unranked.Unranked.TheVariants as unranked
 
 -- Equal keys of a node are told of the one that it stands for first; where that is not known, memory is wanting.
-abbrev pub IsInStream : List ℕ → Unranked → Fault → Type 0
-IsInStream firsts (unranked.EqualKeys keys) (EqualKeys node i j) = (slice_get firsts keys.node ≡ Some node) × (i ≡ keys.first) × (j ≡ keys.second)
+abbrev pub IsInStream : List ℕ → Fault → Fault → Type 0
+IsInStream firsts (EqualKeys stored first second) (EqualKeys node i j) = (slice_get firsts stored ≡ Some node) × (i ≡ first) × (j ≡ second)
 IsInStream firsts before OutOfMemory = Unit {0}
 IsInStream firsts before _ = ⊥
 
