@@ -5,7 +5,7 @@ use Rattle.std.specs.List.{All}
 use Rattle.std.specs.Str.{encode_utf8_all}
 use Rattle.std.proofs.lemmas.List.{append-nil}
 use Rattle.yaml_definitions.specs.model.Event.{Event}
-use Rattle.yaml_definitions.specs.model.Limits.{text_limit, height_limit, open_limit}
+use Rattle.yaml_definitions.specs.model.Limits.{text_limit, height_limit}
 use Rattle.yaml_definitions.specs.model.Tree.{Tree, height}
 use Rattle.yaml_definitions.specs.model.Order.{arranged}
 use Rattle.yaml_definitions.specs.model.Same.{Keyed}
@@ -14,14 +14,10 @@ use Rattle.yaml_definitions.specs.model.Proper.{AreAdmitted, Admitted}
 use Rattle.yaml_definitions.specs.model.Sound.{AllProper}
 use Rattle.yaml_definitions.specs.model.Means.{Means}
 use Rattle.yaml_definitions.specs.model.Serial.{Document, stream_events}
-use Rattle.yaml_text.specs.EventModel.{event_of}
 use Rattle.yaml_definitions.specs.model.Text.{Text}
 use Rattle.yaml_text.specs.Refused.{RefusesText}
-use Rattle.yaml_text.specs.Source.{text_of}
 use Rattle.yaml_definitions.specs.grammar.Reading.{Reads}
-use Rattle.yaml_definitions.specs.grammar.Streams.{ReadsText}
 use Rattle.yaml_text.specs.LeafAnswer.{IsRefusal}
-use Rattle.yaml_definitions.proofs.grammar.Documents.{readings_are_documents}
 use Rattle.yaml_definitions.proofs.MeaningLaws.{meaning_is_proper}
 use Rattle.yaml_definitions.proofs.Law.{texts_tell}
 use Rattle.yaml_text.specs.declared.event.Event as code
@@ -36,17 +32,16 @@ use Rattle.law_length.proofs.Numbers.{text_light}
 use Rattle.law_length.proofs.Forests.{meaning_bounded}
 use Rattle.yaml_nodes.specs.GraphModel.{tree_at}
 use Rattle.yaml_nodes.specs.GraphView.{nodes_of, roots_of, graph_trees, tree, forest}
-use Rattle.yaml_graph.specs.Composed.{Composable, Composed, RefusesStream}
+use Rattle.yaml_graph.specs.Composed.{Composed, RefusesStream}
 use Rattle.yaml_nodes.specs.declared.node.NodeId.{NodeId}
 use Rattle.yaml_nodes.specs.declared.graph.Graph.{Graph}
-use Rattle.yaml_levels.specs.RanksView.{RefusesGraph}
 use Rattle.yaml_spell.specs.Pieces.{Began, Puts, Fails}
 use Rattle.yaml_spell.specs.Documents.{spell_more, arranged_more, arranged_bytes, RefusesArranged}
 use Rattle.yaml_compact.specs.Walked.{walked_tree}
 use Rattle.yaml_canon.specs.Ranks.{HasRanks}
 use Rattle.yaml_canon.specs.declared.ranks.RankedForest.{RankedForest}
-use Rattle.yaml_canon.specs.Claims.{AllOf, MeansAlone, IsArranged, IsCanonicalText, IsRead, CanonicalRefuses, HasGraph, GraphRefuses}
-use Rattle.yaml_spell.proofs.DocumentLaws.{arranged_same, spell_whole, graph_text}
+use Rattle.yaml_canon.specs.Claims.{AllOf, MeansAlone, IsArranged, IsCanonicalText, IsRead, CanonicalRefuses, GraphRefuses}
+use Rattle.yaml_spell.proofs.DocumentLaws.{arranged_same, spell_whole}
 
 -- ---- the whole text
 

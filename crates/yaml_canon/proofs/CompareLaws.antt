@@ -4,26 +4,20 @@ use Rattle.std.specs.Prelude.{Result, Ok, Err, IfOk, IfErr, nat_le}
 use Rattle.std.specs.List.{All}
 use Rattle.std.specs.Cmp.Lexicographic.{pointwise}
 use Rattle.std.proofs.Math.Seq.{drop-append_seam, take-append_seam}
-use Rattle.yaml_definitions.specs.model.Tree.{Tree}
-use Rattle.yaml_definitions.specs.model.Same.{same, Keyed}
 use Rattle.yaml_definitions.specs.model.Serial.{Document}
 use Rattle.yaml_text.specs.declared.fault.Fault.{Fault}
 use Rattle.yaml_text.specs.declared.fault.Fault.TheVariants as faults
-use Rattle.yaml_nodes.specs.GraphModel.{tree_at}
-use Rattle.yaml_nodes.specs.GraphView.{nodes_of, roots_of, graph_trees, tree, forest}
-use Rattle.yaml_nodes.specs.JoinModel.{raised, Joined}
-use Rattle.yaml_nodes.proofs.GraphLaws.{trees-length}
+use Rattle.yaml_nodes.specs.GraphView.{nodes_of}
+use Rattle.yaml_nodes.specs.JoinModel.{Joined}
 use Rattle.yaml_graph.specs.Composed.{Composed, RefusesStream}
 use Rattle.yaml_nodes.specs.declared.node.NodeId.{NodeId}
 use Rattle.yaml_nodes.specs.declared.graph.Graph.{Graph}
-use Rattle.yaml_levels.specs.RanksView.{RanksAre, RefusesGraph, rank_of}
+use Rattle.yaml_levels.specs.RanksView.{RefusesGraph}
 use Rattle.yaml_levels.specs.declared.ranks.Ranks.{Ranks}
 use Rattle.yaml_answers.specs.declared.side.Side.{Side}
 use Rattle.yaml_answers.specs.declared.side.Side.TheVariants.{Left, Right}
-use Rattle.yaml_canon.specs.Claims.{IsRead, HasGraph, GraphRefuses}
-use Rattle.yaml_canon.specs.Comparing.{Compares, side_of_fault, ComparesDocuments, RefusesDocuments, IsComposed, ComparerRefuses}
-use Rattle.yaml_spell.proofs.WalkLaws.{drop_next}
-use Rattle.yaml_canon.proofs.ClaimLaws.{accepted}
+use Rattle.yaml_canon.specs.Claims.{IsRead, GraphRefuses}
+use Rattle.yaml_canon.specs.Comparing.{side_of_fault, RefusesDocuments, IsComposed, ComparerRefuses}
 
 -- ---- a joined graph
 

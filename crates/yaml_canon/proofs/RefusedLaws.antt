@@ -10,7 +10,7 @@ use Rattle.yaml_text.specs.declared.chars.Chars.{Chars}
 use Rattle.yaml_text.specs.declared.fault.Fault.{Fault}
 use Rattle.yaml_text.specs.declared.fault.Fault.TheVariants as faults
 use Rattle.yaml_read.specs.Decided.{HasNoReading}
-use Rattle.yaml_definitions.specs.model.Serial.{Document, stream_events}
+use Rattle.yaml_definitions.specs.model.Serial.{Document}
 use Rattle.yaml_definitions.specs.grammar.Reading.{Reads}
 use Rattle.yaml_graph.specs.Composed.{RefusesStream}
 use Rattle.yaml_canon.specs.Claims.{CanonicalRefuses, GraphRefuses, IsRead}

@@ -8,15 +8,12 @@ use Rattle.yaml_definitions.specs.model.Tree.{Tree, scalar, height}
 use Rattle.yaml_definitions.specs.model.Same.{Keyed, Alike}
 use Rattle.yaml_text.specs.declared.fault.Fault.{Fault}
 use Rattle.yaml_nodes.specs.GraphView.{nodes_of, roots_of, graph_trees, tree, forest}
-use Rattle.yaml_nodes.specs.JoinModel.{Joined}
 use Rattle.yaml_nodes.proofs.GraphLaws.{trees-length}
 use Rattle.yaml_nodes.specs.declared.node.NodeId.{NodeId}
 use Rattle.yaml_nodes.specs.declared.graph.Graph.{Graph}
-use Rattle.yaml_levels.specs.RanksView.{RanksAre}
-use Rattle.yaml_canon.specs.Claims.{AllOf, HasGraph}
+use Rattle.yaml_canon.specs.Claims.{AllOf}
 use Rattle.yaml_canon.specs.Comparing.{Compares}
-use Rattle.yaml_canon.proofs.ClaimLaws.{means, all_roots, means_alone}
-use Rattle.yaml_canon.proofs.CompareLaws.{lefts, rights}
+use Rattle.yaml_canon.proofs.ClaimLaws.{all_roots, means_alone}
 use Rattle.yaml_review_text.specs.declared.both.Both.{Both}
 use Rattle.yaml_review_command.specs.Sides.{BothAre}
 
