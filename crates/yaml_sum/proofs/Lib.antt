@@ -1,4 +1,5 @@
 mod AskLaws
+mod CheckLaws
 mod DigestLaws
 mod LineLaws
 mod ListedLaws

@@ -146,7 +146,7 @@ module _ {R : Type 0} (holds : List ℕ → Option (List ℕ)) (remaining : R �
     one_higher n m k h e f = omega (arith, h, e, f)
 
     -- a beginning of a piece goes out behind a text
-    begun : (o u v : Counted W) (front piece : List ℕ) (fault : Fault) → faults_of o < 2 ^ 64 - 1 → Sent contents o u front → CutOff contents u v piece fault → Broken contents o v (front ++ piece)
+    pub begun : (o u v : Counted W) (front piece : List ℕ) (fault : Fault) → faults_of o < 2 ^ 64 - 1 → Sent contents o u front → CutOff contents u v piece fault → Broken contents o v (front ++ piece)
     begun o u v front piece fault few s k = record {
       count = length front + k.count;
       took = subst (Appends (contents (inner_of o)) (contents (inner_of v))) (sym (take-append-add front piece k.count)) (appends_more _ _ _ front (take k.count piece) s.took k.took);
