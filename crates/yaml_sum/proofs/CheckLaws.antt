@@ -114,18 +114,18 @@ module _ {R : Type 0} (holds : List ℕ → Option (List ℕ)) (remaining : R �
           omega (arith, m, w);
     }
     counted_more seen line t u Improper mid new p q b c h (e, n, f, g, i) k = record {
-      has = k.1.0 ∙ h.has ∙ ap any_in (sym (listings_more seen line ∙ ap (λ z. all_listings seen ++ cond z [] (listing_in (listing_of line))) e ∙ ap (λ z. all_listings seen ++ listing_in z) n ∙ append-nil (all_listings seen)));
+      has = k.1 ∙ h.has ∙ ap any_in (sym (listings_more seen line ∙ ap (λ z. all_listings seen ++ cond z [] (listing_in (listing_of line))) e ∙ ap (λ z. all_listings seen ++ listing_in z) n ∙ append-nil (all_listings seen)));
       improper =
           let m = improper_more seen line ∙ ap (λ z. improper_count seen + cond z 0 (improper_in (listing_of line))) e ∙ ap (λ z. improper_count seen + improper_in z) n in
-          let v = k.1.1 in
+          let v = k.2 in
           let w = h.improper in
           omega (arith, m, v, w);
     }
     counted_more seen line t u (File status) mid new p q b c h (e, l, n, one) k = record {
-      has = k.1.0 ∙ sym (ap any_in (listings_more seen line ∙ ap (λ z. all_listings seen ++ cond z [] (listing_in (listing_of line))) e ∙ ap (λ z. all_listings seen ++ listing_in z) n) ∙ any_more (all_listings seen) l);
+      has = k.1 ∙ sym (ap any_in (listings_more seen line ∙ ap (λ z. all_listings seen ++ cond z [] (listing_in (listing_of line))) e ∙ ap (λ z. all_listings seen ++ listing_in z) n) ∙ any_more (all_listings seen) l);
       improper =
           let m = improper_more seen line ∙ ap (λ z. improper_count seen + cond z 0 (improper_in (listing_of line))) e ∙ ap (λ z. improper_count seen + improper_in z) n in
-          let v = k.1.1 in
+          let v = k.2 in
           let w = h.improper in
           omega (arith, m, v, w);
     }
@@ -199,12 +199,12 @@ module _ {R : Type 0} (holds : List ℕ → Option (List ℕ)) (remaining : R �
         omega (arith, h, l, w)
     few_more list rest line more t u Improper mid new p q b c h e sees k =
         let l = ap length e ∙ length-append line (10 ∷ more) in
-        let w = k.1.1 in
+        let w = k.2 in
         let n = some_bytes line sees.0 in
         omega (arith, h, l, w, n)
     few_more list rest line more t u (File status) mid new p q b c h e sees k =
         let l = ap length e ∙ length-append line (10 ∷ more) in
-        let w = k.1.1 in
+        let w = k.2 in
         omega (arith, h, l, w)
 
     -- a line comes off the rest
