@@ -50,3 +50,11 @@ escape_last name plain at d within e f h =
 
 pub name_end : (name plain rest : List ℕ) → rest ≡ [] → name_of name ≡ name_behind plain rest → name_of name ≡ Some plain
 name_end name plain rest e h = h ∙ ap (name_behind plain) e ∙ ap Some (append-nil plain)
+
+same_map : (r : Option (List ℕ)) → r ≡ option_map (λ z. [] ++ z) r
+same_map None = refl
+same_map (Some z) = refl
+
+-- nothing of a name was read
+pub name_start : (name plain : List ℕ) → plain ≡ [] → name_of name ≡ name_behind plain name
+name_start name plain e = same_map (name_of name) ∙ ap (λ z. name_behind z name) (sym e)

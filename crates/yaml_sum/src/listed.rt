@@ -85,7 +85,7 @@ fn unescape(name: &[u8], plain: &mut Vec<u8>) -> Result<bool, Fault>
     let mut at = 0;
     'bytes: while at < name.len() {
         if name[at] != b'\\' {
-            push(plain, &name[at..at + 1])?;
+            push(plain, &[name[at]])?;
             at += 1;
             continue;
         }
