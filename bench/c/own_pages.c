@@ -3,7 +3,7 @@
  * tells of a run (`ru_maxrss`) counts the pages of the program's file that are mapped too, and is not exact: it is counted by
  * processor.
  *
- *     cc -shared -fPIC -O2 -o own_pages.so bench/own_pages.c
+ *     cc -shared -fPIC -O2 -o own_pages.so bench/c/own_pages.c
  *     OWN_PAGES=FILE LD_PRELOAD=./own_pages.so program ..
  */
 #define _GNU_SOURCE

@@ -1,4 +1,4 @@
-# usage.sh: the arguments of the scripts of bench/.
+# usage.sh: what the shell scripts of bench/ share: their arguments, and the crates that a program to be measured stands on.
 
 # wrong TEXT: an error in the arguments
 wrong() {
@@ -28,4 +28,20 @@ one_of() {
         [ "$choice" = "$word" ] && return
     done
     wrong "${word:-nothing} is none of: $*"
+}
+
+# put_crates ROOM NAME USED..: makes ROOM a repository with these crates and all below them, and with an empty crate NAME that uses them
+put_crates() {
+    room=$1 name=$2
+    shift 2
+    mkdir -p "$room/crates/$name"
+    below='import sys; from lib.crates import crates_below, crates_of; uses = crates_of()
+print(*dict.fromkeys(it for name in sys.argv[1:] for it in (*crates_below(uses, name), name)))'
+    for crate in $(PYTHONPATH="$top/tools" python3 -c "$below" "$@"); do
+        cp -R "$top/crates/$crate" "$room/crates/$crate"
+        grep "^$crate:" "$top/crates.txt" >>"$room/crates.txt"
+    done
+    echo "$name: $*" >>"$room/crates.txt"
+    cp "$top/HANDLES" "$room/HANDLES"
+    git init -q "$room"
 }

@@ -1,7 +1,5 @@
 #!/usr/bin/env python3
 """conditions.py: each condition on which uniqueness rests, dropped alone from the definitions, gives a text a second reading.
-
-    python3 conditions.py
 """
 import collections
 import os
@@ -10,8 +8,11 @@ import subprocess
 import sys
 import tempfile
 
-HERE = os.path.dirname(os.path.abspath(__file__))
-SPECS = os.path.join(HERE, "..", "..", "crates", "yaml_definitions", "specs")
+sys.path.insert(0, os.path.dirname(os.path.dirname(os.path.realpath(__file__))))  # for lib
+from lib.arguments import parser
+from lib.paths import CRATES
+
+SPECS = f"{CRATES}/yaml_definitions/specs"
 
 # the sentence, the definition where it stands, the edits that drop it (file, old, new), texts that are then read twice
 Condition = collections.namedtuple("Condition", "sentence place edits texts wide", defaults=(False,))
@@ -198,7 +199,7 @@ def without(condition, folder):
     return os.path.join(copy, "grammar")
 
 
-def main():
+def try_all():
     good = 0
     for n, condition in enumerate(CONDITIONS):
         with tempfile.TemporaryDirectory() as folder:
@@ -216,7 +217,17 @@ def main():
     return 0 if good == len(CONDITIONS) else 1
 
 
-if len(sys.argv) > 1:  # in the changed copy
-    print(*numbers_of_readings(CONDITIONS[int(sys.argv[1])]))
-else:
+def main(words=None):
+    given = parser("tools/definitions/conditions.py", __doc__)
+    given.add_argument(
+        "number", nargs="?", type=int, metavar="NUMBER", help="in a changed copy: print the numbers of readings for this condition"
+    )
+    options = given.parse_args(words)
+    if options.number is None:
+        return try_all()
+    print(*numbers_of_readings(CONDITIONS[options.number]))
+    return 0
+
+
+if __name__ == "__main__":
     sys.exit(main())

@@ -3,17 +3,15 @@
 
 shadow.py finds the reading. Each combinator says how its proof is made of those of its parts, and each condition how it is
 proved or refuted. Run `rt fmt` in the crate afterwards.
-
-    python3 derive.py FOLDER          writes one file for each family of READINGS into the folder
 """
 import os
 import re
-import sys
 
 os.environ["SHADOW"] = "later"
 import shadow
 from shadow import Def, Lam, Pair, Part, Rec, Span, ap, field
 from readings import FAMILIES
+from lib.arguments import parser
 
 ROOM = 128
 TEXT = None  # the name of the text in hand
@@ -586,7 +584,7 @@ def uses(body):
     return lines
 
 
-def main(folder):
+def write_families(folder):
     for family in FAMILIES:
         body = standard("\n\n".join([theorem(r) for r in family.readings] + family.more))
         head = "-- %s Written by tools/definitions/derive.py." % family.about
@@ -594,8 +592,11 @@ def main(folder):
             f.write("\n".join([head] + uses(body)) + "\n\n" + body + "\n")
 
 
+def main(words=None):
+    given = parser("tools/definitions/derive.py", __doc__)
+    given.add_argument("folder", metavar="FOLDER", help="gets one file for each family of readings.py")
+    write_families(given.parse_args(words).folder)
+
+
 if __name__ == "__main__":
-    if len(sys.argv) == 2:
-        main(sys.argv[1])
-    else:
-        print(__doc__)
+    main()

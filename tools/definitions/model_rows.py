@@ -8,9 +8,13 @@ computation, so a definition that says something else is refused.
     python3 tools/definitions/model_rows.py SEED > crates/yaml_definitions/proofs/examples/Random.antt
     # add `pub mod Random` to proofs/examples.antt, run `rt check` in crates/yaml_definitions, and take both away again
 """
+import os
 import random
 import re
 import sys
+
+sys.path.insert(0, os.path.dirname(os.path.dirname(os.path.realpath(__file__))))  # for lib
+from lib.arguments import parser
 
 CORE = "tag:yaml.org,2002:"
 NAMES = ("null", "bool", "int", "float", "str", "seq", "map")
@@ -408,8 +412,10 @@ def small(text):
     return not re.search(r"[0-9]{5}", text)
 
 
-def main():
-    random.seed(int(sys.argv[1]))
+def main(words=None):
+    given = parser("tools/definitions/model_rows.py", __doc__)
+    given.add_argument("seed", type=int, metavar="SEED")
+    random.seed(given.parse_args(words).seed)
     print(HEAD, end="")
 
     def row(name, opened, left, right):
@@ -440,4 +446,5 @@ def main():
         row("unfolded_%d" % n, "unfolded", "unfolded %s" % marks(m), answer)
 
 
-main()
+if __name__ == "__main__":
+    main()

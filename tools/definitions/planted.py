@@ -18,7 +18,6 @@ into one as are of different definitions: one with which the definitions themsel
 nothing is tried. The unchanged definitions are tried first, and nothing may tell them. Needs `rt`; takes about half a minute of
 processor for each that no text tells.
 """
-import argparse
 import contextlib
 import os
 import queue
@@ -31,8 +30,10 @@ from concurrent.futures import ThreadPoolExecutor
 
 HERE = os.path.dirname(os.path.realpath(__file__))
 sys.path.insert(0, os.path.dirname(HERE))  # for lib
+from lib.arguments import parser
 from lib.paths import TOP
-from lib.statement.definitions import File
+from lib.antt import File
+from lib.crates import write_list
 
 SPECS = TOP + "/crates/yaml_definitions/specs"
 LAWS = {"law_length": [], "law_read_back": ["yaml_text"], "yaml_content": ["yaml_text"]}
@@ -83,10 +84,7 @@ class Room:
         os.mkdir(self.folder + "/.git")
         shutil.copy(TOP + "/HANDLES", self.folder)
         names = {"yaml_definitions", *LAWS, *sum(LAWS.values(), [])}
-        with open(TOP + "/crates.txt", encoding="utf-8") as file:
-            lines = [line for line in file if line.split(":")[0] in names]
-        with open(self.folder + "/crates.txt", "w", encoding="utf-8") as file:
-            file.writelines(lines)
+        write_list(self.folder, names)
         for name in names:
             for part in ("src", "specs", "proofs", "out"):
                 if os.path.isdir("%s/crates/%s/%s" % (TOP, name, part)):
@@ -220,7 +218,7 @@ def checked(plantings):
 
 
 def options_given():
-    given = argparse.ArgumentParser(description=__doc__, formatter_class=argparse.RawDescriptionHelpFormatter)
+    given = parser("tools/definitions/planted.py", __doc__)
     given.add_argument("--lanes", type=int, default=1)
     given.add_argument("--suite", default=os.environ.get("YAML_TEST_SUITE"))
     given.add_argument("--only", default="")
@@ -268,6 +266,8 @@ def main():
     if options.listed or any(it.changed(SPECS) is None for it in plantings):
         return listed(plantings)
     plantings = [it for it in plantings if options.only in it.said()]
+    if not plantings:
+        sys.exit(f"planted: no line of planted.list has {options.only}")
     status = checked(plantings)
     if status or options.checked:
         return status

@@ -1,9 +1,7 @@
 #!/usr/bin/env python3
 """planted_texts.py: the first text that tells changed definitions of the grammar from what it is known to be read as.
 
-    SPECS=FOLDER python3 planted_texts.py [SUITE]
-
-FOLDER has the definitions (as in shadow.py). The texts are the rows of `yaml_vectors` and `rows_streams`, the cases of
+The environment variable SPECS names a folder that has the definitions (as in shadow.py). The texts are the rows of `yaml_vectors` and `rows_streams`, the cases of
 yaml-test-suite (SUITE: a checkout or an archive, see `tools/conformance suite --help`) and the texts of at most 3 characters of short_readings/, all
 of at most 400 characters, each with its events or none. Prints the first that is read otherwise, and its kind; nothing where
 there is none.
@@ -17,6 +15,7 @@ import urllib.parse
 
 HERE = os.path.dirname(os.path.realpath(__file__))
 sys.path.insert(0, os.path.dirname(HERE))  # for lib
+from lib.arguments import parser
 from lib.failing import rows
 from lib.form import suite
 import shadow
@@ -84,7 +83,7 @@ def full_tags(events):
     return events and urllib.parse.unquote(events)
 
 
-def main(place=None):
+def find(place):
     found = [*texts_of_rows(), *(texts_of_suite(place) if place else [])]
     found.sort(key=lambda it: (len(it[2]) > 60, it[0], len(it[2])))
     for kind, name, given, wanted in [*found, *texts_of_lists()]:
@@ -97,5 +96,11 @@ def main(place=None):
             return
 
 
+def main(words=None):
+    given = parser("tools/definitions/planted_texts.py", __doc__)
+    given.add_argument("suite", nargs="?", metavar="SUITE")
+    find(given.parse_args(words).suite)
+
+
 if __name__ == "__main__":
-    main(*sys.argv[1:])
+    main()

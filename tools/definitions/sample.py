@@ -1,20 +1,17 @@
 #!/usr/bin/env python3
 """Streams for the reader, with the events that the definitions give them.
 
-    python3 tools/definitions/sample.py rows COUNT SEED       rows for crates/rows_read/src/sample.rt, to standard output
-    python3 tools/definitions/sample.py hex COUNT SEED        the streams alone, each a line of hexadecimal digits
-    python3 tools/definitions/sample.py compare COUNT SEED    reads what a reader answers to `hex`, a line for each stream as the
-                                                              rows have it (a fault begins with its number), and tells differences
+`rows` prints test cases for crates/rows_read/src/sample.rt; `hex` the streams alone, each a line of hexadecimal digits; `compare` reads
+what a reader answers to `hex`, a line for each stream as the rows have it (a fault begins with its number), and prints differences.
 
 The streams are COUNT random rows of pieces, and under `hex` and `compare` all texts of at most three characters over some
 alphabets too. Their events are those that `shadow.py` finds, so a reader that agrees reads what the definitions say.
 """
-import os
 import random
 import sys
 
-sys.path.insert(0, os.path.dirname(os.path.abspath(__file__)))
 import shadow
+from lib.arguments import parser
 
 ALPHABETS = ["a:-# \n[],", 'a?{}:," \n', "a&*! :\n-", "a|> \n:-#", "&!a\n :[]", "'\"a\n \\:", "-.a\n %#"]
 PIECES = [
@@ -136,12 +133,20 @@ def compare(count):
     print("%d texts, %d differ" % (len(texts), differ))
 
 
+def main(words=None):
+    given = parser("tools/definitions/sample.py", __doc__)
+    given.add_argument("command", choices=("rows", "hex", "compare"))
+    given.add_argument("count", type=int, metavar="COUNT")
+    given.add_argument("seed", type=int, metavar="SEED")
+    options = given.parse_args(words)
+    random.seed(options.seed)
+    if options.command == "rows":
+        rows(options.count)
+    elif options.command == "hex":
+        print("\n".join(t.encode().hex() for t in all_texts(options.count)))
+    else:
+        compare(options.count)
+
+
 if __name__ == "__main__":
-    command, count = sys.argv[1], int(sys.argv[2])
-    random.seed(int(sys.argv[3]))
-    if command == "rows":
-        rows(count)
-    elif command == "hex":
-        print("\n".join(t.encode().hex() for t in all_texts(count)))
-    elif command == "compare":
-        compare(count)
+    main()

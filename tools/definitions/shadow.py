@@ -6,11 +6,9 @@ written, and are run over finite texts: a Span is a function from a place to the
 of its ends with their values. Written by hand are the combinators of Rules.antt and the names of std. The environment
 variable SPECS names another folder of definitions.
 
-    python3 shadow.py dump                              each clause beside the Python that it becomes
-    python3 shadow.py events FILE [wide]                the events of every reading of a file
-    python3 shadow.py short ALPHABET LENGTH [PREFIX [wide]]
-                                                        runs each text of at most LENGTH characters after the prefix, and
-                                                        tells which have two event lists; escapes as in Python
+dump prints each clause with the Python that it becomes; `events FILE` the events of every reading of a file; `short ALPHABET LENGTH` runs
+each text of at most LENGTH characters over the alphabet, after the prefix if there is one, and prints which have two event lists. Escapes
+are as in Python.
 
 `wide` reads `?` keys and empty keys in flow collections too.
 """
@@ -20,8 +18,14 @@ import re
 import sys
 
 sys.setrecursionlimit(100000)
-HERE = os.path.dirname(os.path.abspath(__file__))
-SPECS = os.environ.get("SPECS", os.path.join(HERE, "..", "..", "crates", "yaml_definitions", "specs", "grammar"))
+HERE = os.path.dirname(os.path.realpath(__file__))
+sys.path.insert(0, os.path.dirname(HERE))  # for lib
+from lib import antt
+from lib.arguments import parser
+from lib.paths import CRATES, read
+
+SPECS = os.environ.get("SPECS", f"{CRATES}/yaml_definitions/specs/grammar")
+OWN_MODULE = re.compile(r"Rattle\.yaml_(?:definitions|text)\.specs\.(?:grammar\.|model\.)?\w+")
 
 # ------------------------------------------------------------------ values
 
@@ -728,36 +732,37 @@ class File:
     def __init__(self, world, mod):
         self.world, self.mod = world, mod
         self.uses, self.aliases, self.own, self.locals = {}, {}, {}, set()
-        self.open = []  # the open modules: their indentation and parameters
+        self.open = []  # the parameters of the open modules
         self.used = None  # the definitions named in the clause in hand
-        with open(path_of(mod), encoding="utf-8") as f:
-            lines = [line for line in shortened(f.read()).split("\n") if line.strip() and not line.strip().startswith("--")]
-        self.items = []  # an item is a line with those that continue it
-        for line in lines:
-            depth = len(line) - len(line.lstrip())
-            if self.items and depth > self.items[-1][0] and not self.items[-1][1].startswith("module "):
-                self.items[-1][1] += " " + line.strip()
-            else:
-                self.items.append([depth, line.strip()])
+        path = path_of(mod)
+        self.file = antt.File(path, shortened(read(path)).split("\n"))
         self.declare()
 
     def each_item(self):
-        """The items, with self.open the modules that are open there."""
-        self.open = []
-        for depth, s in self.items:
-            while self.open and depth <= self.open[-1][0]:
-                self.open.pop()
-            if s.startswith("module _ "):
-                self.open.append((depth, [n for g in re.findall(r"\(([^():]*):", s) for n in g.split()]))
-            else:
-                yield s
+        """The definitions and clauses, each on one line, with self.open the parameters of the modules that are open there."""
+        for block in self.file.blocks:
+            heads = [head.strip() for head, _ in block.around if head.strip().startswith("module _ ")]
+            self.open = [[n for g in re.findall(r"\(([^():]*):", head) for n in g.split()] for head in heads]
+            item, depth = "", 0
+            for line in (it for it in block.lines if not it.strip().startswith("--")):
+                indent = len(line) - len(line.lstrip())
+                if item and indent > depth:
+                    item += " " + line.strip()
+                    continue
+                yield from [item] * bool(item)
+                item, depth = line.strip(), indent
+            yield item
         self.open = []
 
     def declare(self):
+        for name, (module, given) in self.file.imports.names.items():
+            if OWN_MODULE.fullmatch(module) and name == given:
+                self.uses[name] = module.rsplit(".", 1)[1]
+        for name, module in self.file.imports.modules.items():
+            if OWN_MODULE.fullmatch(module):
+                self.aliases[name] = module.rsplit(".", 1)[1]
         for s in self.each_item():
-            if s.startswith("use "):
-                self.declare_use(s)
-            elif s.startswith("pub data "):
+            if s.startswith("pub data "):
                 body = s.split(" where ", 1)[1]
                 for m in re.finditer(r"((?:[\w]+ )+): (.*?)(?= (?:[\w]+ )+: |$)", body):
                     for c in m.group(1).split():
@@ -767,18 +772,9 @@ class File:
                 if signature.strip() == "Type 0":
                     continue
                 f = Def(self.mod + "." + name, result_head(signature) in ("Span", "Rule"), opened == "unfoldable")
-                modules = [ns for _, ns in self.open]
+                modules = list(self.open)
                 self.own[name] = ("def", f, [n for ns in modules for n in ns], modules)
                 self.world.defs[f.name] = f
-
-    def declare_use(self, s):
-        m = re.match(r"use Rattle\.yaml_(?:definitions|text)\.specs\.(?:grammar\.|model\.)?(\w+)\.\{(.*)\}$", s)
-        if m:
-            for n in m.group(2).split(","):
-                self.uses[n.strip()] = m.group(1)
-        m = re.match(r"use Rattle\.yaml_(?:definitions|text)\.specs\.(?:grammar\.|model\.)?(\w+) as (\w+)$", s)
-        if m:
-            self.aliases[m.group(2)] = m.group(1)
 
     def name(self, v):
         """A name in an expression, to Python."""
@@ -794,7 +790,7 @@ class File:
             if entry[0] == "def":
                 # the parameters of the modules that are open both there and here
                 shared = []
-                for theirs, (_, ours) in zip(entry[3], self.open):
+                for theirs, ours in zip(entry[3], self.open):
                     if theirs != ours:
                         break
                     shared += theirs
@@ -893,7 +889,7 @@ class File:
 
 def path_of(mod):
     """A module's file: in the grammar's folder, in the model's, or beside the code."""
-    folders = (SPECS, os.path.join(SPECS, "..", "model"), os.path.join(HERE, "..", "..", "crates", "yaml_text", "specs"))
+    folders = (SPECS, os.path.join(SPECS, "..", "model"), f"{CRATES}/yaml_text/specs")
     return next(path for path in (os.path.join(folder, mod + ".antt") for folder in folders) if os.path.exists(path))
 
 
@@ -1028,9 +1024,23 @@ def short(alphabet, longest, prefix="", wide=""):
     print("%d texts, %d read, %d with two event lists" % (texts, read, len(twice)))
 
 
+def main(words=None):
+    given = parser("tools/definitions/shadow.py", __doc__)
+    commands = given.add_subparsers(dest="command", required=True)
+    commands.add_parser("dump", help="print each clause with the Python that it becomes").set_defaults(does=lambda asked: dump())
+    events = commands.add_parser("events", help="print the events of every reading of a file")
+    events.add_argument("file", metavar="FILE")
+    events.add_argument("wide", nargs="?", default="", choices=("", "wide"))
+    events.set_defaults(does=lambda asked: show_events(asked.file, asked.wide))
+    texts = commands.add_parser("short", help="run each short text")
+    texts.add_argument("alphabet", metavar="ALPHABET")
+    texts.add_argument("longest", type=int, metavar="LENGTH")
+    texts.add_argument("prefix", nargs="?", default="", metavar="PREFIX")
+    texts.add_argument("wide", nargs="?", default="", choices=("", "wide"))
+    texts.set_defaults(does=lambda asked: short(asked.alphabet, asked.longest, asked.prefix, asked.wide))
+    asked = given.parse_args(words)
+    asked.does(asked)
+
+
 if __name__ == "__main__":
-    commands = {"dump": dump, "events": show_events, "short": short}
-    if sys.argv[1:2] and sys.argv[1] in commands:
-        commands[sys.argv[1]](*sys.argv[2:])
-    else:
-        print(__doc__)
+    sys.exit(main())

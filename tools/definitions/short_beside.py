@@ -1,8 +1,6 @@
 #!/usr/bin/env python3
 """short_beside.py: the built program beside the lists of short_readings.py.
 
-    python3 short_beside.py [ALPHABET ..]
-
 Runs `events` on each text of at most 5 characters over each of the alphabets (all, where none is named): one that is in the list
 has its events, one that is not is refused. It ends with the counts of each alphabet, after a line for each difference, and takes
 some minutes. The lists (short_readings/ALPHABET.txt.gz) were made by short_readings.py. The program must be built
@@ -17,7 +15,8 @@ import sys
 
 from short_readings import ALPHABETS, shown, texts
 
-from lib.paths import PROGRAM
+from lib.arguments import parser
+from lib.paths import PROGRAM, want_built
 
 HERE = os.path.dirname(os.path.abspath(__file__))
 LETTERS = {"+STR": "", "-STR": "", "+DOC": "d", "+DOC ---": "D", "-DOC": "e", "-DOC ...": "E", "-SEQ": "]", "-MAP": "}"}
@@ -64,6 +63,16 @@ def compare(alphabet):
     return different
 
 
-if not os.access(PROGRAM, os.X_OK):
-    sys.exit("%s is not built" % PROGRAM)
-sys.exit(any([compare(alphabet) for alphabet in sys.argv[1:] or ALPHABETS]))
+def main(words=None):
+    given = parser("tools/definitions/short_beside.py", __doc__)
+    given.add_argument("alphabets", nargs="*", metavar="ALPHABET", help=", ".join(ALPHABETS))
+    asked = given.parse_args(words)
+    unknown = [it for it in asked.alphabets if it not in ALPHABETS]
+    if unknown:
+        given.error(f"there is no alphabet {unknown[0]}")
+    want_built("short_beside", PROGRAM)
+    return any([compare(alphabet) for alphabet in asked.alphabets or ALPHABETS])
+
+
+if __name__ == "__main__":
+    sys.exit(main())

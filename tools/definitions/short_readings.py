@@ -1,8 +1,6 @@
 #!/usr/bin/env python3
 """short_readings.py: the events of every short text over an alphabet, as the productions read it.
 
-    python3 short_readings.py NAME [PART PARTS] > LIST
-
 NAME is one of the alphabets below, of 8 or 9 characters each; all texts of at most 5 characters over it are read. A line for each
 text that has a reading: the text, a tab, and its events; texts come by length, then in the order of the alphabet. A line feed is
 written `$`. Events are a letter each: `d` and `D` begin a document without and with its mark, `e` and `E` end one without and
@@ -14,6 +12,7 @@ an hour, or a part of it where PART of PARTS is asked for: every PARTS-th text.
 import itertools
 import sys
 import shadow
+from lib.arguments import parser
 
 ALPHABETS = {
     "plain": "a:-#[], \n",
@@ -58,8 +57,8 @@ def texts(alphabet):
             yield "".join(codes)
 
 
-def main(alphabet="plain", part="0", parts="1"):
-    for text in itertools.islice(texts(alphabet), int(part), None, int(parts)):
+def list_readings(alphabet, part, parts):
+    for text in itertools.islice(texts(alphabet), part, None, parts):
         lists = shadow.event_lists(text, True, 1024)
         if len(lists) > 1:
             sys.exit("two readings: %r" % text)
@@ -67,5 +66,14 @@ def main(alphabet="plain", part="0", parts="1"):
             print("%s\t%s" % (shown(text), "".join(map(letter, events))))
 
 
+def main(words=None):
+    given = parser("tools/definitions/short_readings.py", __doc__)
+    given.add_argument("alphabet", choices=ALPHABETS, metavar="NAME", help=", ".join(ALPHABETS))
+    given.add_argument("part", nargs="?", type=int, default=0, metavar="PART")
+    given.add_argument("parts", nargs="?", type=int, default=1, metavar="PARTS")
+    asked = given.parse_args(words)
+    list_readings(asked.alphabet, asked.part, asked.parts)
+
+
 if __name__ == "__main__":
-    main(*sys.argv[1:])
+    main()

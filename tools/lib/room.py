@@ -6,11 +6,16 @@ import subprocess
 import sys
 import tempfile
 
-from lib.crates import crates_below, crates_of, lines_of
-from lib.paths import read, write
+from lib.crates import crates_below, crates_of, write_list
+from lib.paths import read
 from lib.mutants.said import Said
 
 PARTS = ("src", "specs", "proofs")
+
+
+def free_memory():
+    """The bytes of memory that can be had."""
+    return int(re.search(r"MemAvailable: *(\d+)", read("/proc/meminfo"))[1]) * 1024
 
 
 def kit():
@@ -56,7 +61,7 @@ class Room:
             shutil.copytree(f"{self.source}/out/incremental", f"{self.at}/out/incremental")
 
     def list_crates(self, names):
-        write(f"{self.folder}/crates.txt", "".join(line + "\n" for name, line in lines_of(self.root) if name in names))
+        write_list(self.folder, names, self.root)
         if os.path.isfile(f"{self.root}/HANDLES"):
             shutil.copy(f"{self.root}/HANDLES", self.folder)
 

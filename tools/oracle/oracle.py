@@ -9,6 +9,7 @@ program by a stranger. `tools/conformance companion` compares it with the progra
 
     yamlcanon events FILE | python3 tools/oracle/oracle.py      the canonical text, or the refusal
 """
+import argparse
 import re
 import sys
 import urllib.parse
@@ -345,6 +346,7 @@ def answer(text):
 
 
 if __name__ == "__main__":
+    argparse.ArgumentParser(description=__doc__, formatter_class=argparse.RawDescriptionHelpFormatter).parse_args()
     status, out, err = answer(sys.stdin.buffer.read().decode())
     sys.stdout.buffer.write(out.encode())
     sys.stderr.write(err)

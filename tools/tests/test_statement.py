@@ -8,7 +8,6 @@ import re
 import unittest
 
 from scripts import TOP
-from lib.statement.definitions import File
 from lib.statement.markdown import page_of, untied
 from lib.statement.page import Chapters, Statement
 
@@ -230,57 +229,6 @@ def blocks_of(text):
     """The definitions of a page that stand at the margin or in a module, not in a `mutual` or a type."""
     end = r"(?= *(?:abbrev|unfoldable|pub|--|module|mutual)|```)"
     return re.findall(rf"^ *(?:abbrev|unfoldable) pub [^\n]*\n(?: *[^\n-][^\n]*\n)*?{end}", text, re.M)
-
-
-class OfFiles(unittest.TestCase):
-    TEXT = """-- Head.
-use Rattle.a.specs.B.{x, y as z, ◌◆◌}
-use Rattle.a.specs.C as c
-infixr 3 ◌▸◌
-
--- of a case
-pub data Kind : Type 0 where
-  first second : Kind
-  third : ℕ → Kind
-
-pub record Pair (k : Kind) : Type 0 where
-  pub left : x
-
-module _ (cs : List ℕ) where
-  -- inside
-  abbrev pub inner : ℕ
-  inner = z c.far
-
-  unfoldable mutual
-    pub even : ℕ → Bool
-    even n = odd n
-
-    pub odd : ℕ → Bool
-    odd n = even n
-abbrev pub ◌▸◌ : ℕ → ℕ → ℕ
-(a ▸ b) = inner
-"""
-
-    def setUp(self):
-        self.file = File("a/specs/A.antt", self.TEXT.split("\n"))
-
-    def test_names(self):
-        self.assertEqual(
-            [it.names for it in self.file.blocks], [["Kind", "first", "second", "third"], ["Pair"], ["inner"], ["even", "odd"], ["◌▸◌"]]
-        )
-
-    def test_comments_and_modules(self):
-        self.assertEqual(self.file.blocks[2].comment, ["  -- inside"])
-        self.assertEqual(self.file.blocks[2].around, [("module _ (cs : List ℕ) where", ())])
-        self.assertEqual(self.file.blocks[4].around, [])
-        self.assertEqual(self.file.fixities, ["infixr 3 ◌▸◌"])
-
-    def test_imports(self):
-        names = self.file.imports
-        self.assertEqual(names.find("z"), ("Rattle.a.specs.B", "y"))
-        self.assertEqual(names.find("◆"), ("Rattle.a.specs.B", "◌◆◌"))
-        self.assertEqual(names.find("c.far"), ("Rattle.a.specs.C", "far"))
-        self.assertIsNone(names.find("far"))
 
 
 if __name__ == "__main__":

@@ -41,7 +41,8 @@ SHORT = {"milliseconds by the clock": "ms", "microseconds of processor": "µs"}
 PROSE = {
     "head": """All numbers are measured by [`bench/report`](../../bench/report), on {processors}, with {kits}.
 [`results.tsv`](../../bench/results.tsv) has each value with its unit, its range and its commit. Other machines give other times; ratios
-differ less.""",
+differ less. The measured programs were built for the level x86-64-v2. The programs in a package run on every x86-64 processor and take
+about 4% more instructions.""",
     "nothing": "Nothing has been measured of this version yet: run [`bench/report`](../../bench/report).",
     "speed": """`canon` is compared with libyaml's parser, which reads the events of a text and does nothing with them. Both programs run by
 turns on the same text. The column `time` has the processor time of `canon` divided by that of the parser: the median, with the least and

@@ -1,4 +1,4 @@
-//! Whether a text is JSON (RFC 8259): `is_json`.
+//! Whether a text is JSON (RFC 8259): `is_json`. No program uses this yet.
 #![tactic(auto)]
 
 mod bytes;

@@ -23,12 +23,14 @@ def wrong(text):
     print("bindings: " + text, file=sys.stderr, flush=True)
 
 
-def run(*words, **how):
-    """A command, which has to end well. Gives its output."""
-    done = subprocess.run(words, stdout=subprocess.PIPE, stderr=subprocess.STDOUT, check=False, **how)
+def run(*words, out=None, **how):
+    """A command, which has to end well. Gives its output; where that goes to a file, what it says on standard error."""
+    streams = {"stdout": out, "stderr": subprocess.PIPE} if out else {"stdout": subprocess.PIPE, "stderr": subprocess.STDOUT}
+    done = subprocess.run(words, check=False, **streams, **how)
+    told = (done.stderr if out else done.stdout).decode(errors="replace")
     if done.returncode:
-        wrong("%s: status %d\n%s" % (" ".join(words), done.returncode, done.stdout.decode(errors="replace")))
-    return done.stdout.decode(errors="replace").strip()
+        wrong("%s: status %d\n%s" % (" ".join(words), done.returncode, told))
+    return told.strip()
 
 
 def is_there(*words):
@@ -41,10 +43,10 @@ def is_there(*words):
         return False
 
 
-def build(folder, name, *words):
+def build(folder, name, *words, compiler="cc"):
     """A program in C over the library of a folder."""
     made = "%s/%s" % (folder, name)
-    run("cc", "-std=c11", "-D_DEFAULT_SOURCE", "-O2", "-Wall", "-Wextra", "-Werror", "-I", folder, "-o", made, *words)
+    run(compiler, "-std=c11", "-D_DEFAULT_SOURCE", "-O2", "-Wall", "-Wextra", "-Werror", "-I", folder, "-o", made, *words)
     return made
 
 

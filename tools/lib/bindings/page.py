@@ -5,9 +5,10 @@ import sys
 
 from lib.paths import TOP
 from .base import WRONG, is_there, run, say, wrong
+from .go import GO, environment
 
 PAGE = "docs/using/LIBRARY.md"
-EXAMPLE = re.compile(r"^```(c|python|rust)\n(.*?)^```\n+```text\n(.*?)^```$", re.M | re.S)
+EXAMPLE = re.compile(r"^```(c|python|rust|go)\n(.*?)^```\n+```text\n(.*?)^```$", re.M | re.S)
 CARGO = """\
 [package]
 name = "app"
@@ -15,6 +16,16 @@ version = "0.1.0"
 edition = "2021"
 [dependencies]
 yamlcanon = {{ path = "{top}/bindings/rust" }}
+"""
+
+GO_MODULE = """\
+module app
+
+go 1.19
+
+require example.org/yamlcanon v0.0.0
+
+replace example.org/yamlcanon => {go}
 """
 
 
@@ -50,7 +61,15 @@ def run_rust(folder, room, text):
     return run("cargo", "run", "-q", "--offline", "-j2", cwd=room, env=env)
 
 
-RUNS = {"c": run_c, "python": run_python, "rust": run_rust}
+def run_go(folder, room, text):
+    if not is_there("go", "version"):
+        return None
+    put(f"{room}/go.mod", GO_MODULE.format(go=GO))
+    put(f"{room}/main.go", text)
+    return run("go", "run", ".", cwd=room, env=environment(folder))
+
+
+RUNS = {"c": run_c, "python": run_python, "rust": run_rust, "go": run_go}
 
 
 def try_page(folder, room):

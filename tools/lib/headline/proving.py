@@ -5,6 +5,8 @@ import shutil
 import subprocess
 import time
 
+from lib.crates import write_list
+
 PARTS = ("src", "specs", "proofs")
 PROVED = re.compile(r"rt: (\S+) (proved|NOT PROVED)")
 VERDICT = re.compile(r"logic=\S+ .*")
@@ -16,10 +18,7 @@ def copied(root, room, names):
         for part in PARTS:
             if os.path.isdir(f"{root}/crates/{name}/{part}"):
                 shutil.copytree(f"{root}/crates/{name}/{part}", f"{room}/crates/{name}/{part}")
-    with open(f"{root}/crates.txt", encoding="utf-8") as file:
-        lines = [line for line in file if line.split(":")[0].split()[:1] and line.split(":")[0].split()[0] in names]
-    with open(f"{room}/crates.txt", "w", encoding="utf-8") as file:
-        file.writelines(lines)
+    write_list(room, names, root)
     shutil.copy(f"{root}/HANDLES", room)
     os.mkdir(f"{room}/.git")  # so that rt takes it for the top of a repository
 

@@ -4,7 +4,7 @@ import re
 import subprocess
 import threading
 
-from lib.paths import read
+from lib.room import free_memory
 
 
 MEMORY_OF_A_PROOF = 5 * 2**30
@@ -12,8 +12,7 @@ MEMORY_OF_A_PROOF = 5 * 2**30
 
 def lanes():
     """How many proofs run side by side, a job each: as many as there are processors and memory for."""
-    free = int(re.search(r"MemAvailable: *(\d+)", read("/proc/meminfo"))[1]) * 1024
-    return max(1, min(len(os.sched_getaffinity(0)), free // MEMORY_OF_A_PROOF))
+    return max(1, min(len(os.sched_getaffinity(0)), free_memory() // MEMORY_OF_A_PROOF))
 
 
 class Gate:

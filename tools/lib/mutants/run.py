@@ -1,7 +1,6 @@
 """A run of mutants: which are tried, how many crates at a time, what is taken from earlier runs, and what is printed."""
 import glob
 import os
-import re
 import threading
 from concurrent.futures import ThreadPoolExecutor, as_completed
 
@@ -13,6 +12,7 @@ from lib.mutants.judging import OWN, of_the_gate, passes, try_crate
 from lib.mutants.kept import keep, key_of, take
 from lib.mutants.recorded import Record
 from lib.crates import crates_below, crates_of
+from lib.room import free_memory
 
 MEMORY_OF_A_CHECK = 3 * 2**30
 BESIDE_GATE = 10  # the niceness of checks beside a gate
@@ -21,11 +21,6 @@ KNOWN_AT_MOST = 10
 
 class NoSuch(Exception):
     """What was asked for and is not there."""
-
-
-def free_memory():
-    """The bytes of memory that can be had."""
-    return int(re.search(r"MemAvailable: *(\d+)", read("/proc/meminfo"))[1]) * 1024
 
 
 def every_mutant(root):

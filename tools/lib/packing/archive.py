@@ -1,18 +1,23 @@
 """archive.py: the tree that is packed, and the archive of it."""
 import io
 import os
+import re
 import shutil
 import subprocess
 import tarfile
 
 from lib.paths import TOP, read
-from .base import ARCH, copy, end, files_below, git, run, say, write, zipped
+from .base import ARCH, SUPPLIER, copy, end, files_below, git, run, say, write, zipped
 from lib.packing.pages import mend
 from lib.packing.version import release
 
 PROGRAMS = {"yamlcanon": "yaml_tool", "yamlreview": "yaml_review"}
 TEXTS = ("README.md", "CHANGELOG.md", "CONTRIBUTING.md", "SECURITY.md", "NOTICE", "LICENSE-MIT", "LICENSE-APACHE")
 LIBRARY = "libyamlcanon.so."
+# What the archive of the library alone has of the pages.
+LIBRARY_TEXTS = ("CHANGELOG.md", "SECURITY.md", "NOTICE", "LICENSE-MIT", "LICENSE-APACHE", "docs/using/LIBRARY.md", "library/yamlcanon.c")
+# The line of SECURITY.md that says whom to write to: whoever hands packages out puts an address there.
+CONTACT = re.compile(r"^Contact: .*$", re.M)
 PACKAGE = """\
 prefix=${pcfiledir}/../..
 libdir=${prefix}/lib
@@ -45,12 +50,12 @@ def put_programs(tree, are_built):
         run("strip", target)
 
 
-def put_library(tree, folder):
-    """The library that tools/library has built in a folder, with the file's whole version in its name."""
+def put_library(tree, folder, machine):
+    """The library that tools/library has built in a folder for a machine, with the file's whole version in its name."""
     number = release().split(".")[0]
     whole = LIBRARY + release()
     copy("%s/%s%s" % (folder, LIBRARY, number), "%s/lib/%s" % (tree, whole))
-    run("strip", "--strip-unneeded", "%s/lib/%s" % (tree, whole))
+    run(machine.tools + "strip", "--strip-unneeded", "%s/lib/%s" % (tree, whole))
     os.symlink(whole, "%s/lib/%s%s" % (tree, LIBRARY, number))
     os.symlink(LIBRARY + number, tree + "/lib/libyamlcanon.so")
     copy(folder + "/libyamlcanon.a", tree + "/lib/libyamlcanon.a")
@@ -59,10 +64,21 @@ def put_library(tree, folder):
     write(tree + "/lib/pkgconfig/yamlcanon.pc", PACKAGE + "\n" + told)
 
 
-def put_texts(tree, build):
+def put_security(tree, supplier):
+    """SECURITY.md with the contact of whoever hands the packages out, if one is named."""
+    path = tree + "/share/doc/yamlcanon/SECURITY.md"
+    text = read(path)
+    if not CONTACT.search(text):
+        end("SECURITY.md has no line of a contact")
+    if supplier != SUPPLIER:
+        write(path, CONTACT.sub(lambda _: "Contact: " + supplier, text))
+
+
+def put_texts(tree, build, supplier):
     """Pages, completions, licences, documents, examples and bindings, as the commit has them."""
     for name in TEXTS:
         copy("%s/%s" % (TOP, name), "%s/share/doc/yamlcanon/%s" % (tree, name))
+    put_security(tree, supplier)
     write(tree + "/share/doc/yamlcanon/BUILD", build)
     for name in git("ls-files", "docs", "examples", "bindings", "library/yamlcanon.c").splitlines():
         if not name.startswith("docs/man/") and os.path.isfile("%s/%s" % (TOP, name)):
@@ -76,11 +92,22 @@ def put_texts(tree, build):
             copy("%s/packages/completions/%s" % (TOP, name), "%s/share/bash-completion/completions/%s" % (tree, name))
 
 
-def make_tree(tree, folder, build, are_built):
+def make_tree(tree, folder, machine, build, supplier, are_built):
     """Puts all that is packed into a tree as below /usr."""
     put_programs(tree, are_built)
-    put_library(tree, folder)
-    put_texts(tree, build)
+    put_library(tree, folder, machine)
+    put_texts(tree, build, supplier)
+
+
+def make_library_tree(tree, folder, machine, build, supplier):
+    """Puts the library for a machine into a tree as below /usr, with its pages."""
+    put_library(tree, folder, machine)
+    for name in LIBRARY_TEXTS:
+        copy("%s/%s" % (TOP, name), "%s/share/doc/yamlcanon/%s" % (tree, name))
+    copy(TOP + "/docs/man/yamlcanon.3", tree + "/share/man/man3/yamlcanon.3")
+    put_security(tree, supplier)
+    write(tree + "/share/doc/yamlcanon/BUILD", build)
+    mend(tree + "/share/doc/yamlcanon")
 
 
 def entry(name, path, time):
@@ -110,13 +137,20 @@ def pack(tree, target, time):
         file.write(zipped(data.getvalue()))
 
 
+def make_library(tree, folder, machine, time):
+    """The archive of the library alone for a machine."""
+    name = "libyamlcanon-%s-%s.tar.gz" % (release(), machine.name)
+    pack(tree, "%s/%s" % (folder, name), time)
+    say(name)
+
+
 def make(tree, folder, time):
     """The archive, of the tree with the script that installs it and the build's statement on top."""
     name = "yamlcanon-%s-%s.tar.gz" % (release(), ARCH)
     with_top = folder + "/.archive"
     shutil.copytree(tree, with_top, symlinks=True)
     copy(TOP + "/packages/install.sh", with_top + "/install.sh", 0o755)
-    for text in ("BUILD", "README.md", "NOTICE", "LICENSE-MIT", "LICENSE-APACHE"):
+    for text in ("BUILD", "README.md", "SECURITY.md", "NOTICE", "LICENSE-MIT", "LICENSE-APACHE"):
         copy("%s/share/doc/yamlcanon/%s" % (tree, text), "%s/%s" % (with_top, text))
     pack(with_top, "%s/%s" % (folder, name), time)
     shutil.rmtree(with_top)

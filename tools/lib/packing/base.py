@@ -10,6 +10,8 @@ from lib.paths import TOP
 
 
 ARCH = "x86_64-linux"
+# Who hands the packages out, where nobody is named: the mail is none that reaches anybody.
+SUPPLIER = "The yamlcanon authors <yamlcanon@example.org>"
 
 
 def say(text):

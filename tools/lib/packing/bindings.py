@@ -7,9 +7,10 @@ import tempfile
 
 from lib.paths import TOP
 from .base import bytes_of, copy, end, git, run, say, write
+from lib.packing.pages import mend
 from lib.packing.version import release
 
-TEXTS = ("LICENSE-MIT", "LICENSE-APACHE", "NOTICE")
+TEXTS = ("LICENSE-MIT", "LICENSE-APACHE", "NOTICE", "SECURITY.md")
 
 
 def copied(part, room):
@@ -20,11 +21,13 @@ def copied(part, room):
     return "%s/bindings/%s" % (room, part)
 
 
-def make_wheel(library, folder, build, time):
-    """The wheel, with this library inside."""
+def make_wheel(tree, folder, build, time):
+    """The wheel, with the library of a tree inside, and its texts."""
+    library = "%s/lib/libyamlcanon.so.%s" % (tree, release())
     with tempfile.TemporaryDirectory() as room:
         for name in TEXTS:
-            copy("%s/%s" % (TOP, name), "%s/%s" % (room, name))
+            copy("%s/share/doc/yamlcanon/%s" % (tree, name), "%s/%s" % (room, name))
+        mend(room, TEXTS)
         write(room + "/BUILD", build)
         at = copied("python", room)
         env = {**os.environ, "YAMLCANON_LIBRARY": library, "SOURCE_DATE_EPOCH": str(time), "PYTHONDONTWRITEBYTECODE": "1"}
@@ -58,7 +61,8 @@ def make_crate(tree, folder, build):
     with tempfile.TemporaryDirectory() as room:
         at = copied("rust", room)
         for text in TEXTS:
-            copy("%s/%s" % (TOP, text), "%s/%s" % (at, text))
+            copy("%s/share/doc/yamlcanon/%s" % (tree, text), "%s/%s" % (at, text))
+        mend(at, TEXTS)
         write(at + "/BUILD", build)
         env = {**os.environ, "YAMLCANON_LIB_DIR": tree + "/lib", "CARGO_TARGET_DIR": room + "/target"}
         run("cargo", "package", "--quiet", "--offline", "--locked", "--allow-dirty", "-j2", cwd=at, env=env)

@@ -6,7 +6,7 @@ import sys
 
 
 from lib.paths import TOP, read
-from lib.crates import crates_below
+from lib.crates import crates_below, uses_of
 
 PRODUCTS = {"yaml_tool": "the program", "yaml_review": "yamlreview", "yaml_c": "the library"}
 LICENCES = {
@@ -40,10 +40,9 @@ def end(text):
     sys.exit(1)
 
 
-def listed(text):
-    """The crates of a `crates.txt`, each with those that it uses, the standard library among them."""
-    lines = [line.partition("#")[0].partition(":") for line in text.splitlines()]
-    return {head.split()[0]: [*rest.split(), "std"] for head, colon, rest in lines if colon}
+def listed():
+    """Our crates, each with those that it uses, the standard library among them."""
+    return {name: [*below, "std"] for name, below in uses_of().items()}
 
 
 def with_kit(own, kit):
@@ -159,7 +158,7 @@ def bare_section(names, folders, uses):
 
 def notice(kit):
     """The whole text, and the crates of the kit that have no licence text."""
-    own = listed(read(TOP + "/crates.txt"))
+    own = listed()
     uses = with_kit(own, kit)
     folders = {name: "%s/rattle/%s" % (kit, name) for name in sorted(uses) if name not in own}
     bare = [name for name, folder in folders.items() if not texts_of(folder)]

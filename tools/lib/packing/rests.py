@@ -5,6 +5,7 @@ import re
 from lib import paths
 from lib.paths import read
 from .base import end, git, run
+from .machines import JUDGED
 from .version import release
 
 PARTS = ("crates", "crates.txt", "HANDLES", "include", "library")
@@ -12,12 +13,18 @@ CHANGED = ", with changes that are in no commit"
 BEGINS = re.compile(r"^gate: begins on commit ([0-9a-f]{40})(, with changes that are in no commit)?; kit (.*)$", re.M)
 PASSED = re.compile(r"^(\d+) passed, (\d+) failed$", re.M)
 TEXT = """\
-yamlcanon %s
+yamlcanon %s for %s
 source: commit %s
 kit: %s
 compilers: %s
 gate: %s
 """
+# What the gate does not look at where the target is not the one that it builds for.
+ONE_COMPILER = """
+code: compiled for this processor from the libraries that were proved, by LLVM alone. The gate builds each program by two compilers
+      and compares what they print; the second one writes no code for this processor, so here one compiler judges instead of two."""
+AS_THE_GATE_BUILT = """
+programs: those that the gate built, for processors of the level x86-64-v2. They are for tests, and not to be handed out."""
 NONE = """\
 none. No run of the gate is named for these bytes. Each crate that is linked into them was proved before it was linked
       (by rt); the tests, the mutants that have to be rejected and the runs of the gate are not said to have passed."""
@@ -49,11 +56,13 @@ def first_line(*words):
     return run(*words).splitlines()[0].strip()
 
 
-def compilers():
-    """The two compilers, by what they tell: that of the proved code, and that of library/heap.c and of the link."""
+def compilers(machines):
+    """The compilers, by what they tell: that of the proved code, and for each machine that of library/heap.c and of the link."""
     own = sorted(glob.glob(kit_folder() + "/toolchain/**/bin/clang", recursive=True))
     proved = first_line(own[0], "--version") if own else "not found"
-    return ["the proved code: the kit's %s" % proved, "library/heap.c and the library's link: %s" % first_line("cc", "--version")]
+    return ["the proved code: the kit's %s" % proved] + [
+        "library/heap.c and the library's link for %s: %s" % (machine.name, first_line(machine.cc, "--version")) for machine in machines
+    ]
 
 
 def gate_of(log):
@@ -72,8 +81,9 @@ def gate_of(log):
     return "passed on commit %s, with %s" % (begun[1], lines)
 
 
-def statement(log):
-    """The file BUILD of a release, which rests on the run of the gate whose log is given, or on none."""
+def statement(log, machine, are_built=False):
+    """The file BUILD of a release for a machine, which rests on the run of the gate whose log is given, or on none."""
     told = gate_of(log) if log else NONE
     own = commit() + (CHANGED if is_changed() else "")
-    return TEXT % (release(), own, kit(), "; ".join(compilers()), told)
+    more = ("" if machine.target == JUDGED else ONE_COMPILER) + AS_THE_GATE_BUILT * are_built
+    return TEXT % (release(), machine.name, own, kit(), "; ".join(compilers([machine])), told + more)

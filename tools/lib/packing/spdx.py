@@ -1,43 +1,36 @@
-"""spdx.py: what is in the packages, as SPDX 2.3 in JSON: each file's sums, the crates and the kit with versions and licences, the
-two compilers."""
+"""spdx.py: what is in the packages, as SPDX 2.3 in JSON: each file's sums, the products, the crates and the kit with versions and
+licences, the compilers, and of each file that is handed out which products are in it."""
 import hashlib
 import json
 import os
 import re
 import time
+import urllib.parse
 
-from lib.paths import TOP, read
-from . import notices
-from .base import ARCH, end, files_below, say, sum_of, write
-from .rests import compilers, kit, kit_folder
 from lib.packing.version import release
+from .base import SUPPLIER, files_below, say, sum_of, write
+from .linked import UNKNOWN, crates
+from .rests import compilers, kit
 
 OWN_LICENCE = "MIT OR Apache-2.0"
-NAMES = {
-    "Apache License, Version 2.0": "Apache-2.0",
-    "Apache-2.0": "Apache-2.0",
-    "BSL-1.0": "BSL-1.0",
-    "MIT": "MIT",
-    "Unicode-3.0": "Unicode-3.0",
+OWN_COPYRIGHT = "Copyright (c) The yamlcanon authors"
+# What is handed out, by the words of tools/notices: the name of each product, and the files that it is in.
+PRODUCTS = {
+    "the program": ("yamlcanon-program", re.compile(r"^yamlcanon(-[\d.]+-\w+-linux\.tar\.gz|_.*\.deb)$")),
+    "yamlreview": ("yamlreview-program", re.compile(r"^yamlcanon(-[\d.]+-\w+-linux\.tar\.gz|_.*\.deb)$")),
+    "the library": ("libyamlcanon", re.compile(r"^(yamlcanon-[\d.]+-\w+-linux\.tar\.gz|libyamlcanon.*\.(tar\.gz|deb)|.*\.whl)$")),
 }
-# Licences between which a crate of Rust leaves the choice, where its page in the kit names none; a text of another one is of a part.
-CHOICES = ("MIT", "Apache-2.0")
 
 
 def name_of(text):
     return re.sub(r"[^A-Za-z0-9.-]", "-", text)
 
 
-def expression(licence, kinds):
-    """The licence of a crate as SPDX writes it: the choice that its page names, or that its texts leave; and the licence of each text
-    that is not in that choice. NOASSERTION where there is neither, or a name is not known."""
-    words = licence.split(" or ") if licence else [kind for kind in kinds if kind in CHOICES]
-    choice = [NAMES.get(word.strip()) for word in words]
-    parts = sorted(NAMES.get(kind) or "" for kind in kinds if NAMES.get(kind) not in choice)
-    if not choice + parts or not all(choice + parts):
-        return "NOASSERTION"
-    chosen = " OR ".join(choice)
-    return " AND ".join(([f"({chosen})" if len(choice) > 1 and parts else chosen] if choice else []) + parts)
+def purl(kind, name, version, comment=None):
+    """A package's name for those who look for known faults (https://github.com/package-url)."""
+    locator = "pkg:%s/%s@%s" % (kind, name, urllib.parse.quote(version, safe="."))
+    found = {"referenceCategory": "PACKAGE-MANAGER", "referenceType": "purl", "referenceLocator": locator}
+    return {**found, "comment": comment} if comment else found
 
 
 def package(name, version, licence, **more):
@@ -45,34 +38,46 @@ def package(name, version, licence, **more):
         "name": name,
         "SPDXID": "SPDXRef-" + name_of("package-" + name),
         "versionInfo": version,
-        "downloadLocation": "NOASSERTION",
+        "downloadLocation": UNKNOWN,
         "filesAnalyzed": False,
-        "licenseConcluded": "NOASSERTION",
+        "licenseConcluded": UNKNOWN,
         "licenseDeclared": licence,
-        "copyrightText": "NOASSERTION",
+        "copyrightText": UNKNOWN,
+        "supplier": UNKNOWN,
         **more,
     }
 
 
-def crates():
-    """The kit's crates that program or library have linked in."""
-    own = notices.listed(read(TOP + "/crates.txt"))
-    uses = notices.with_kit(own, kit_folder())
-    for name in sorted(uses):
-        where = notices.places(uses, name)
-        if name in own or "tests alone" in where:
-            continue
-        folder = "%s/rattle/%s" % (kit_folder(), name)
-        after, licence = notices.versions(name, folder)
-        kinds = sorted({notices.kind(read("%s/%s" % (folder, text))) for text in notices.texts_of(folder)}, reverse=True)
-        declared = expression(licence, kinds)
-        if kinds and declared == "NOASSERTION":
-            end(
-                "%s has licence texts in the kit, and tools/lib/packing/spdx.py knows no SPDX name for them: %s, %s"
-                % (name, licence, kinds)
-            )
-        comment = "%s %s" % (where, "After %s." % ", ".join(after) if after else "Its page in the kit names no version of another crate.")
-        yield package(name, kit().split()[0], declared, comment=comment)
+def own_package(name, supplier, **more):
+    """A package whose code is of this repository."""
+    return package(
+        name,
+        release(),
+        OWN_LICENCE,
+        supplier=supplier,
+        copyrightText=OWN_COPYRIGHT,
+        externalRefs=[purl("generic", name, release())],
+        **more,
+    )
+
+
+def crate_package(crate):
+    """A crate of the kit. Where it is a port, the crates of Rust are named too: what is found in these may be in it."""
+    number = kit().split()[0]
+    ports = [purl("cargo", *it.split(), comment="It is a port of this crate of Rust, and not the crate itself.") for it in crate.after]
+    words = "In %s. %s" % (
+        ", ".join(crate.products),
+        "After %s." % ", ".join(crate.after) if crate.after else "Its page in the kit names no version of another crate.",
+    )
+    holders = "\n".join("Copyright " + holder for holder in crate.holders)
+    return package(
+        crate.name,
+        number,
+        crate.licence,
+        comment=words,
+        copyrightText=holders or UNKNOWN,
+        externalRefs=[purl("generic", "rattle-kit/" + crate.name, number), *ports],
+    )
 
 
 def file_entry(number, name, path):
@@ -81,16 +86,15 @@ def file_entry(number, name, path):
         "fileName": "./" + name,
         "SPDXID": "SPDXRef-file-%d" % number,
         "checksums": sums,
-        "licenseConcluded": "NOASSERTION",
-        "licenseInfoInFiles": ["NOASSERTION"],
-        "copyrightText": "NOASSERTION",
+        "licenseConcluded": UNKNOWN,
+        "licenseInfoInFiles": [UNKNOWN],
+        "copyrightText": UNKNOWN,
     }
 
 
-def entries(tree, folder):
-    """The files of the tree, and those that are handed out."""
-    top = "yamlcanon-%s-%s" % (release(), ARCH)
-    pairs = [("%s/%s" % (top, name), "%s/%s" % (tree, name)) for name in files_below(tree)]
+def entries(trees, folder):
+    """The files of the trees, each by its name in the archive, and those that are handed out."""
+    pairs = [("%s/%s" % (top, name), "%s/%s" % (tree, name)) for top, tree in trees for name in files_below(tree)]
     pairs += [(name, "%s/%s" % (folder, name)) for name in files_below(folder)]
     for number, (name, path) in enumerate(pair for pair in pairs if not os.path.islink(pair[1])):
         yield file_entry(number, name, path)
@@ -109,31 +113,33 @@ def namespace(files):
 
 
 def related(one, kind, other):
-    return {"spdxElementId": one, "relationshipType": kind, "relatedSpdxElement": other}
+    return {"spdxElementId": one["SPDXID"], "relationshipType": kind, "relatedSpdxElement": other["SPDXID"]}
 
 
-def document(tree, folder, build, made):
-    files, own = list(entries(tree, folder)), "SPDXRef-package-yamlcanon"
-    told = compilers()
-    tools = [package("rattle-kit", kit(), "NOASSERTION", comment="The toolchain that proved and built.")] + [
-        package("compiler-%d" % number, words.partition(": ")[2], "NOASSERTION", comment=words) for number, words in enumerate(told, 1)
+def relations(whole, products, linked, tools, files):
+    """What is described, what each product has linked in, which products each file that is handed out has, and what made them."""
+    found = [{"spdxElementId": "SPDXRef-DOCUMENT", "relationshipType": "DESCRIBES", "relatedSpdxElement": whole["SPDXID"]}]
+    found += [related(whole, "CONTAINS", it) for it in products.values()]
+    found += [related(products[word], "STATIC_LINK", crate_package(crate)) for crate in linked for word in crate.products]
+    for word, product in products.items():
+        found += [related(entry, "CONTAINS", product) for entry in files if PRODUCTS[word][1].match(entry["fileName"][2:])]
+    return found + [related(tool, "BUILD_TOOL_OF", whole) for tool in tools]
+
+
+def document(trees, folder, build, made, machines, supplier):
+    files, linked = list(entries(trees, folder)), list(crates())
+    by = "Organization: " + re.sub(r" <(.*)>$", "" if supplier == SUPPLIER else r" (\1)", supplier)
+    tools = [package("rattle-kit", kit(), UNKNOWN, comment="The toolchain that proved and built.")] + [
+        package("compiler-%d" % number, words.partition(": ")[2], UNKNOWN, comment=words)
+        for number, words in enumerate(compilers(machines), 1)
     ]
-    linked = list(crates())
-    whole = package(
-        "yamlcanon",
-        release(),
-        OWN_LICENCE,
-        comment=build,
+    products = {word: own_package(name, by) for word, (name, _) in PRODUCTS.items()}
+    whole = own_package("yamlcanon", by, comment=build)
+    whole.update(
         filesAnalyzed=True,
         packageVerificationCode=verification(files),
         hasFiles=[entry["SPDXID"] for entry in files],
-        copyrightText="Copyright (c) The yamlcanon authors",
-        licenseInfoFromFiles=["NOASSERTION"],
-    )
-    links = (
-        [related("SPDXRef-DOCUMENT", "DESCRIBES", own)]
-        + [related(own, "STATIC_LINK", it["SPDXID"]) for it in linked]
-        + [related(it["SPDXID"], "BUILD_TOOL_OF", own) for it in tools]
+        licenseInfoFromFiles=[UNKNOWN],
     )
     return {
         "spdxVersion": "SPDX-2.3",
@@ -141,15 +147,19 @@ def document(tree, folder, build, made):
         "SPDXID": "SPDXRef-DOCUMENT",
         "name": "yamlcanon-" + release(),
         "documentNamespace": namespace(files),
-        "creationInfo": {"created": time.strftime("%Y-%m-%dT%H:%M:%SZ", time.gmtime(made)), "creators": ["Tool: yamlcanon-tools-release"]},
-        "packages": [whole, *linked, *tools],
+        "creationInfo": {
+            "created": time.strftime("%Y-%m-%dT%H:%M:%SZ", time.gmtime(made)),
+            "creators": ["Tool: yamlcanon-tools-release", by],
+        },
+        "packages": [whole, *products.values(), *map(crate_package, linked), *tools],
         "files": files,
-        "relationships": links,
+        "relationships": relations(whole, products, linked, tools, files),
     }
 
 
-def make(tree, folder, build, made):
+def make(trees, folder, build, made, machines, supplier):
+    """trees: of each tree the folder that it is in its archive, and its path."""
     name = "yamlcanon-%s.spdx.json" % release()
-    text = json.dumps(document(tree, folder, build, made), indent=1, sort_keys=True)
+    text = json.dumps(document(trees, folder, build, made, machines, supplier), indent=1, sort_keys=True)
     write("%s/%s" % (folder, name), text + "\n")
     say(name)

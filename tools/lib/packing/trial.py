@@ -9,6 +9,7 @@ import tempfile
 
 
 from lib.paths import TOP, read
+from lib.packing.others import try_others
 from lib.packing.roots import inside, make_root, may_make
 from lib.packing.version import release
 
@@ -42,7 +43,6 @@ COMP_WORDS=(yamlcanon s) COMP_CWORD=1
 _yamlcanon
 [ "${COMPREPLY[*]}" = same ]
 """
-OLD = "flags\t\t: fpu sse sse2 cx16 lahf_lm popcnt pni ssse3\n"
 WRONG = []
 
 
@@ -105,7 +105,7 @@ def has_no_kit(root):
 
 
 def try_debs(root, folder, has_python):
-    debs = sorted(glob.glob(folder + "/*.deb"))
+    debs = sorted(glob.glob(folder + "/*_amd64.deb") + glob.glob(folder + "/*_all.deb"))
     if not debs:
         return say("no Debian packages: left out")
     own = [path for path in debs if has_python or "/python3-" not in path]
@@ -223,10 +223,6 @@ def try_uninstall(root, script):
 def try_old(root, script):
     """What a machine is told that is too old."""
     os.makedirs(root + "/usr/local/bin", exist_ok=True)
-    with open(root + "/proc/cpuinfo", "w", encoding="utf-8") as file:
-        file.write(OLD)
-    hold("an old processor", inside(root, script, "/opt/other"), 1, "install.sh: this processor lacks sse4_1: x86-64-v2 is needed\n")
-    os.remove(root + "/proc/cpuinfo")
     with open(root + "/usr/local/bin/getconf", "w", encoding="utf-8") as file:
         file.write("#!/bin/sh\necho glibc 2.31\n")
     os.chmod(root + "/usr/local/bin/getconf", 0o755)
@@ -234,33 +230,48 @@ def try_old(root, script):
     os.remove(root + "/usr/local/bin/getconf")
     if os.path.exists(root + "/opt/other"):
         wrong("install.sh wrote before it refused")
-    say("install.sh refuses an old processor and an old glibc")
+    say("install.sh refuses an old glibc")
 
 
-def try_loader(root):
-    """The loader, on a processor that qemu has in its place: the library and what is linked with it are refused before they run."""
+def try_processor(root):
+    """The least processor of x86-64, which qemu has in this one's place: the library, and the programs but where the gate built them."""
     qemu = shutil.which("qemu-x86_64")
     if not qemu:
-        return say("qemu-x86_64 is not found: a processor of another level was not tried")
-    for path, words in (("/tmp/shared", "CPU ISA level is lower than required"), ("/tmp/static", ""), ("/opt/own/bin/yamlcanon", "")):
-        if os.path.exists(root + path):
-            env = {**os.environ, "LD_LIBRARY_PATH": root + "/opt/own/lib"}
-            told = subprocess.run(
-                [qemu, "-L", root, "-cpu", "qemu64", root + path, "canon"],
-                input=b"a",
-                env=env,
-                check=False,
-                stdout=subprocess.PIPE,
-                stderr=subprocess.STDOUT,
-            )
-            say("%s on an old processor: status %d, %r" % (path, told.returncode, told.stdout.decode(errors="replace")[-200:]))
-            if not told.returncode or words not in told.stdout.decode(errors="replace"):
-                wrong("%s on an old processor" % path)
-    return None
+        return say("qemu-x86_64 is not found: the least processor was not tried")
+    programs, build = ["/tmp/shared", "/tmp/static"], root + "/opt/own/share/doc/yamlcanon/BUILD"
+    if not all(os.path.exists(root + path) for path in programs) or not os.path.exists(build):
+        return wrong("there is nothing to try on the least processor")
+    if "\nprograms: those that the gate built" not in read(build):
+        programs.append("/opt/own/bin/yamlcanon")
+    # What x86-64-v2 has and x86-64 has not: with each of them off, code that uses it ends by a signal.
+    least = "qemu64," + ",".join(
+        "%s=off" % flag for flag in ("pni", "ssse3", "sse4.1", "sse4.2", "popcnt", "cx16", "lahf-lm", "avx", "avx2")
+    )
+    for path in programs:
+        words = [
+            qemu,
+            "-L",
+            root,
+            "-E",
+            "LD_LIBRARY_PATH=/opt/own/lib",
+            "-cpu",
+            least,
+            root + path,
+            "canon",
+            TOP + "/examples/service.yaml",
+        ]
+        told = subprocess.run(words, check=False, stdout=subprocess.PIPE, stderr=subprocess.PIPE)
+        hold(
+            "%s on the least processor" % path,
+            (told.returncode, (told.stdout + told.stderr).decode(errors="replace")),
+            0,
+            '--- {"env" : &a1 {"LEVEL" : "info"',
+        )
+    return say("%s run on the least processor of x86-64" % ", ".join(programs))
 
 
 def try_wheel(root, folder, has_python):
-    wheels = glob.glob(folder + "/*.whl")
+    wheels = glob.glob(folder + "/*-manylinux_*_x86_64.whl")
     if not (wheels and has_python):
         return say("no wheel, or no Python with venv: left out")
     name = os.path.basename(wheels[0])
@@ -269,12 +280,14 @@ def try_wheel(root, folder, has_python):
     if not all(hold(line, inside(root, "sh", "-c", line)) for line in lines):
         return None
     hold("the wheel", inside(root, "/tmp/venv/bin/python", "-I", "-c", CALLS), 0, "/tmp/venv/")
-    with open(root + "/proc/cpuinfo", "w", encoding="utf-8") as file:
-        file.write(OLD)
-    done = inside(root, "/tmp/venv/bin/python", "-I", "-c", "import yamlcanon")
-    hold("an old processor", done, 1, "ImportError: yamlcanon: this processor lacks")
-    os.remove(root + "/proc/cpuinfo")
-    return say("the wheel in a venv with no index; on an old processor its import says so")
+    asks = 'from importlib.metadata import files, metadata as m; d = m("yamlcanon"); print(d["License-Expression"], *d.get_all("License-File"), len(d.get_payload()))'
+    hold(
+        "what the wheel says of itself",
+        inside(root, "/tmp/venv/bin/python", "-I", "-c", asks),
+        0,
+        "MIT OR Apache-2.0 LICENSE-MIT LICENSE-APACHE NOTICE ",
+    )
+    return say("the wheel in a venv with no index")
 
 
 def linked(source, target):
@@ -320,7 +333,7 @@ def try_all(folder):
         shutil.copytree(TOP + "/examples", root + "/tmp/examples")
         has_no_kit(root)
         try_archive(root, folder)
-        try_loader(root)
+        try_processor(root)
         try_wheel(root, folder, has_python)
         try_crate(root, folder)
         try_debs(root, folder, has_python)
@@ -333,6 +346,8 @@ def try_folder(folder):
         say("%s has no packages that tools/release wrote" % folder)
         return 2
     try_sums(folder)
+    with tempfile.TemporaryDirectory() as room:
+        try_others(folder, room, say, wrong, hold)
     try_all(folder)
     say("%d wrong" % len(WRONG))
     return 1 if WRONG else 0

@@ -3,6 +3,7 @@ import glob
 import os
 import re
 
+from lib.crates import lines_of
 from lib.paths import read
 
 MODULE = re.compile(r"^(pub )?mod (\w+);", re.M)
@@ -117,6 +118,6 @@ def summary_of(crates, crate):
 
 def libraries_of(top):
     """The crates of crates.txt in their order, but for programs and crates of tests."""
-    names = [line.split(":")[0].split()[0] for line in read(f"{top}/crates.txt").splitlines() if line and not line.startswith("#")]
+    names = [name for name, _ in lines_of(top)]
     is_test = re.compile(r"rows_|yaml_vectors$")
     return [name for name in names if not is_test.match(name) and not glob.glob(f"{top}/crates/{name}/src/main.rt")]

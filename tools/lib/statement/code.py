@@ -4,7 +4,7 @@ import os
 import re
 
 from lib.paths import read
-from .definitions import Imports
+from lib.antt import Imports
 
 
 class Contract:

@@ -3,7 +3,7 @@ import re
 
 from lib.paths import read
 from .code import Contract, Declared
-from .definitions import Definitions
+from lib.antt import Definitions
 
 WIDTH = 128  # up to which a comment stands behind the line that it is of
 OWN = "What the calls promise (the project's own definitions, and the types of its code)"

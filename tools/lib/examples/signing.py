@@ -1,29 +1,21 @@
-#!/usr/bin/env python3
-"""Runs the signing recipes of docs/using/GUIDE.md as they are written there, and the attacks that they have to resist.
+"""The signing recipes of docs/using/GUIDE.md as they are written there, and the attacks that they have to resist.
 
-The signer's key is made for the run. YAMLCANON and YAMLREVIEW name the programs; without them the built ones are taken. Prints each
-statement that is not so, and nothing if all are so. Without ssh-keygen it says so and ends with 0. Without PyYAML it says so, and
-leaves out what PyYAML reads. Status 1 if a statement is not so.
+The signer's key is made for the run. Without ssh-keygen all is left out, without PyYAML what PyYAML reads.
 """
-import argparse
 import os
 import re
 import shutil
 import subprocess
-import sys
 import tempfile
 
-from lib.paths import TOP
+from lib.examples.room import PROGRAMS
+from lib.paths import TOP, read
 
 try:
     import yaml
 except ImportError:
     yaml = None
 
-PROGRAMS = {
-    "yamlcanon": os.environ.get("YAMLCANON", f"{TOP}/crates/yaml_tool/out/yaml_tool"),
-    "yamlreview": os.environ.get("YAMLREVIEW", f"{TOP}/crates/yaml_review/out/yaml_review"),
-}
 PLAIN = "name: web\nreplicas: 3\nports: [80, 443]\n"
 REWRITTEN = '# by a tool\n{ports: [0x50, 443],\n "replicas": 0o3, \'name\': "web"}\n'
 TIDIED = "# by a tool\nports: [0x50, 443]\nreplicas: +3\n'name': \"web\"\n"
@@ -44,15 +36,14 @@ SWAPS = '#!/bin/sh\ncp "$HOME/swapped" "$HOME/../here/%s"\nexec %s "$@"\n'
 
 def recipes():
     """The page's recipes by name: each block whose first line is ```sh NAME."""
-    with open(f"{TOP}/docs/using/GUIDE.md", encoding="utf-8") as page:
-        return dict(re.findall(r"^```sh ([\w-]+)\n(.*?)^```$", page.read(), re.M | re.S))
+    return dict(re.findall(r"^```sh ([\w-]+)\n(.*?)^```$", read(f"{TOP}/docs/using/GUIDE.md"), re.M | re.S))
 
 
 class Room:
     """The folder `here`, in which recipes are run and which others can write, and a home with the signer's key."""
 
-    def __init__(self, folder, texts):
-        self.folder, self.texts, self.failed, self.said = folder, texts, 0, ""
+    def __init__(self, folder, texts, checked):
+        self.folder, self.texts, self.checked, self.said = folder, texts, checked, ""
         self.here, self.home = f"{folder}/here", f"{folder}/home"
         for name in ("bin", "first", "here", "home", "temporary"):
             os.mkdir(f"{folder}/{name}")
@@ -84,7 +75,7 @@ class Room:
         text = self.texts[name]
         for old, new in changes:
             if old not in text:
-                raise SystemExit(f"signing: the recipe {name} has no {old!r}")
+                raise SystemExit(f"examples: the recipe {name} has no {old!r}")
             text = text.replace(old, new)
         path = f"{self.folder}/first:{self.folder}/bin:{os.environ['PATH']}"
         env = {**os.environ, "PATH": path, "HOME": self.home, "TMPDIR": f"{self.folder}/temporary"}
@@ -103,9 +94,7 @@ class Room:
         return ran.returncode
 
     def want(self, what, is_so):
-        if not is_so:
-            self.failed += 1
-            print(f"signing: not so: {what}\n{self.said}", file=sys.stderr)
+        self.checked.want(is_so, f"not so: {what}\n{self.said}")
 
     def fails(self, recipe, *changes, handed_on="app.yaml"):
         """Whether a recipe fails and hands nothing on."""
@@ -214,8 +203,6 @@ def try_many(room):
 
 def attack_by_other_readings(room):
     """A file with the signed meaning that a reader of YAML 1.1 reads otherwise."""
-    if not yaml:
-        print("signing: PyYAML is not installed: what it reads is left out", file=sys.stderr)
     for signed, replaced, meant in OTHER_READINGS:
         room.put(signed)
         room.run("sign")
@@ -345,21 +332,14 @@ PARTS = (
 )
 
 
-def main():
-    argparse.ArgumentParser(description=__doc__, formatter_class=argparse.RawDescriptionHelpFormatter).parse_args()
+def check(checked, _):
+    """Runs the recipes and the attacks."""
     if not shutil.which("ssh-keygen"):
-        print("signing: left out, since ssh-keygen is not installed", file=sys.stderr)
-        return 0
-    for path in PROGRAMS.values():
-        if not os.access(path, os.X_OK):
-            print(f"signing: {path} is not built: run ./yamlcanon and ./yamlreview once, or set YAMLCANON and YAMLREVIEW", file=sys.stderr)
-            return 1
+        checked.leave_out("the signing recipes, since ssh-keygen is not installed")
+        return
+    if not yaml:
+        checked.leave_out("what PyYAML reads, since that is not installed")
     with tempfile.TemporaryDirectory(prefix="signing-") as folder:
-        room = Room(folder, recipes())
+        room = Room(folder, recipes(), checked)
         for part in PARTS:
             part(room)
-    return 1 if room.failed else 0
-
-
-if __name__ == "__main__":
-    sys.exit(main())

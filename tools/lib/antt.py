@@ -1,4 +1,6 @@
-"""The definitions of specs/ files: where each stands, what it names, and what stands behind a name that it cites."""
+"""The one reader of `.antt` files: the definitions of specs/, what each names, and what a name in them stands for.
+
+What is read is the layout that `rt fmt` gives. Nothing is checked: that is for the checker."""
 import os
 import re
 
@@ -6,7 +8,7 @@ STARTS = re.compile(r"(?:abbrev |unfoldable )?(?:pub )?(?:(data|record) )?(\S+) 
 KEYED = re.compile(r"(abbrev|unfoldable|pub|data|record)\b")
 SIGNATURE = re.compile(r"((?:[^\s:(){}]+ )+):(?= |$)")
 WORDS = re.compile(r"[^\s(){};,]+")
-IMPORT = re.compile(r"(?:pub )?(?:ghost )?use (Rattle\.[\w.]+?)(?:\.\{(.*)\}| as (\S+?)|);?$")
+IMPORT = re.compile(r"(?:pub )?(?:ghost )?use (Rattle\.[\w.+]+?)(?:\.\{(.*)\}| as (\S+?)|);?$")
 
 
 class Block:
@@ -18,6 +20,29 @@ class Block:
 
     def text(self):
         return "\n".join(self.lines)
+
+    def parts(self):
+        """Each definition of the block: its name, its lines without comments, and the cases that it has, if it is a `data`."""
+        parts = []
+        for line in self.lines:
+            text, indent = line.strip(), len(line) - len(line.lstrip())
+            found = STARTS.match(text) if KEYED.match(text) else None
+            inside = parts and indent > parts[-1].indent
+            if found and not inside:
+                parts.append(Part(found[2], indent, bool(found[1])))
+            elif found is None and inside and parts[-1].has_cases and not text.startswith("pub "):
+                signed = SIGNATURE.match(text)
+                parts[-1].cases += signed[1].split() if signed else []
+            if parts and text and not text.startswith("--") and text.split()[-1] != "mutual":
+                parts[-1].lines.append(line)
+        return parts
+
+
+class Part:
+    """A definition of a block. `has_cases`: it is a `data` or a `record`."""
+
+    def __init__(self, name, indent, has_cases):
+        self.name, self.indent, self.has_cases, self.lines, self.cases = name, indent, has_cases, [], []
 
 
 class Imports:
@@ -97,29 +122,12 @@ class File:
             else:
                 raise SystemExit(f"statement: {self.path}:{place + 1}: no definition begins so: {text}")
         for block in self.blocks:
-            block.names = names_of(block)
+            block.names = [name for part in block.parts() for name in (part.name, *part.cases)]
 
     def find(self, word):
         """The block of this file that brings the word."""
         word = word.strip(".")
         return self.by_name.get(word) or self.by_name.get(f"◌{word}◌")
-
-
-def names_of(block):
-    """The names that a block brings: of its definitions, and the cases of a `data`. (Fields stand behind a dot.)"""
-    names, case = [], None
-    for line in block.lines:
-        text, indent = line.strip(), len(line) - len(line.lstrip())
-        if case is not None and indent <= case:
-            case = None
-        found = STARTS.match(text) if KEYED.match(text) else None
-        if found and case is None:
-            names.append(found[2])
-            case = indent if found[1] else None
-        elif case is not None:
-            signed = SIGNATURE.match(text)
-            names += signed[1].split() if signed and not text.startswith("pub ") else []
-    return names
 
 
 class Definitions:
