@@ -1,13 +1,11 @@
 //! What a presenter writes of a stream.
-ghost use Rattle.std.specs.Prelude.{ℕ, List, IfOk, IfErr};
-ghost use Rattle.yaml_canon.specs.Claims.{HasGraph, CanonicalRefuses};
+ghost use Rattle.std.specs.Prelude.{ℕ, List, IfErr};
+ghost use Rattle.yaml_canon.specs.Claims.{CanonicalRefuses};
 ghost use Rattle.yaml_canon.specs.Both.{HasBoth};
 
 use std::alloc::Global;
 use yaml_canon::both::{BothForests, forest_of_both};
-use yaml_canon::graph_of::graph_of;
-use yaml_compact::GivesUp;
-use yaml_nodes::graph::Graph;
+use yaml_canon::canonical;
 use yaml_rank::rank;
 use yaml_show::{Nodes, Stop, block_text, json_lines};
 use yaml_text::fault::Fault;
@@ -45,37 +43,33 @@ impl Presenter for Json {
     }
 }
 
-/// What is written of the documents of a graph.
-fn graph_text<P: Presenter>(
-    alloc: Global,
-    graph: Graph<'_>,
-    presenter: &P,
-) -> Result<Result<P::Text, Stop>, Fault>
-    ensures { (bytes : List ℕ) → HasGraph bytes graph.entry → IfErr result (CanonicalRefuses bytes) }
-{
-    let ranks = rank(alloc, &graph)?;
-    Ok(presenter.text(alloc, &Nodes { graph, ranks }))
-}
-
-/// The same, if the store has all nodes. It falls back if two keys are equal, and if memory does not suffice.
+/// What is written of the documents of a store; none if two keys are equal, or if memory does not suffice.
 fn store_text<P: Presenter>(
     alloc: Global,
     forests: &BothForests<'_>,
     presenter: &P,
-) -> Result<Result<P::Text, Stop>, GivesUp>
+) -> Option<Result<P::Text, Stop>>
     requires { (left right : List ℕ) × HasBoth left right forests.now }
 {
-    let graph = forests.graph(alloc)?;
-    match rank(alloc, &graph) {
-        Ok(ranks) => Ok(presenter.text(alloc, &Nodes { graph, ranks })),
-        Err(_) => Err(GivesUp),
+    let graph = forests.graph(alloc).ok()?;
+    let ranks = rank(alloc, &graph).ok()?;
+    Some(presenter.text(alloc, &Nodes { graph, ranks }))
+}
+
+/// Why `canonical` rejects these bytes, of which the store has no ranked documents; want of memory if it does not reject them.
+fn rejection(alloc: Global, bytes: &[u8]) -> Fault
+    ensures { CanonicalRefuses bytes.now result }
+{
+    match canonical(alloc, bytes) {
+        Ok(_) => Fault::OutOfMemory,
+        Err(fault) => fault,
     }
 }
 
 /// What is written of the documents that these bytes mean.
 ///
 /// # Errors
-/// Those of `canonical`, but 20: no length is judged here.
+/// Those of `canonical`.
 pub(crate) fn present<P: Presenter>(
     alloc: Global,
     bytes: &[u8],
@@ -83,11 +77,11 @@ pub(crate) fn present<P: Presenter>(
 ) -> Result<Result<P::Text, Stop>, Fault>
     ensures { IfErr result (CanonicalRefuses bytes.now) }
 {
-    if let Ok(forests) = forest_of_both(alloc, bytes, b"") {
-        if let Ok(answer) = store_text(alloc, &forests, presenter) {
-            return Ok(answer);
-        }
+    let Ok(forests) = forest_of_both(alloc, bytes, b"") else {
+        return Err(rejection(alloc, bytes));
+    };
+    match store_text(alloc, &forests, presenter) {
+        Some(answer) => Ok(answer),
+        None => Err(rejection(alloc, bytes)),
     }
-    let graph = graph_of(alloc, bytes)?;
-    graph_text(alloc, graph, presenter)
 }
