@@ -9,7 +9,7 @@ const SHOW: &[&str] = &["show", "left"];
 const JSON: &[&str] = &["show", "--format=json", "left"];
 
 /// Block style.
-pub static YAML: [Row; 17] = [
+pub static YAML: [Row; 18] = [
     Row {
         name: "a line for each entry and item, and keys in the order of the canonical text",
         words: SHOW,
@@ -144,6 +144,15 @@ pub static YAML: [Row; 17] = [
         status: 2,
         out: "---\n- x\n",
         err: "left:1:3: 12 UndefinedAlias at byte 2: 0[0]: no node before this one in its document has an anchor of this name\n- *x\n  ^\n",
+    },
+    Row {
+        name: "a mapping with two equal keys",
+        words: SHOW,
+        left: b"{a: 1, b: 2, a: 3}\n",
+        right: b"",
+        status: 2,
+        out: "",
+        err: "left:1:14: 19 EqualKeys at byte 13: 0.a: the keys of a mapping differ, each from each\n{a: 1, b: 2, a: 3}\n             ^\nleft:1:2: the first of the two\n",
     },
     Row {
         name: "with --textconv a rejected file is written as it is",
