@@ -24,6 +24,8 @@ mod rows;
 #[cfg(test)]
 mod runs;
 #[cfg(test)]
+mod shown;
+#[cfg(test)]
 mod slips;
 #[cfg(test)]
 mod sum;

@@ -4,6 +4,7 @@ use crate::diff::{NoDiff, diff};
 use crate::files::read_named;
 use crate::git::{git_asked, git_text, put_page};
 use crate::host::Host;
+use crate::show::show_files;
 use crate::telling::{
     GIT_WORDS, ONE_INPUT, UNUSABLE, put_line, tell_bare, tell_unread, tell_usage,
 };
@@ -177,6 +178,7 @@ fn run<S: Shelf, R: Read + Drop, W: Write + Drop, E: Write + Drop>(
             &mut out,
             &mut err,
         ),
+        Asked::Show(asked) => { show_files(shelf, alloc, &asked, &mut input, &mut out, &mut err) }
         Asked::Git(words) => git(shelf, alloc, &words, &mut out, &mut err),
         Asked::Sum(asked) => sum(shelf, alloc, sum_asked(&asked), input, out, err),
     }

@@ -9,5 +9,6 @@ mod files;
 mod git;
 mod host;
 mod rejected;
+mod show;
 pub mod telling;
 pub mod unread;

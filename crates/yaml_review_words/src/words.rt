@@ -38,6 +38,24 @@ pub struct Report<'a> {
     pub form: Form,
 }
 
+/// How `show` writes a stream.
+#[derive(Clone, Copy, Debug, PartialEq, Eq)]
+pub enum Format {
+    /// YAML in block style.
+    Yaml,
+    /// A line of JSON for each document.
+    Json,
+}
+
+/// Files that are shown.
+#[derive(Drop)]
+pub struct Show<'a> {
+    pub files: Vec<&'a str>,
+    pub format: Format,
+    /// Whether a rejected file is written as it is.
+    pub textconv: bool,
+}
+
 /// Digests of files.
 #[derive(Drop)]
 pub struct Sum<'a> {
@@ -55,6 +73,7 @@ pub enum Asked<'a> {
     Faults(Report<'a>),
     /// With the greatest number of lines a file.
     Warn(Report<'a>, usize),
+    Show(Show<'a>),
     Sum(Sum<'a>),
     /// What `GIT_EXTERNAL_DIFF` passes.
     Git(Vec<&'a str>),
@@ -71,8 +90,8 @@ enum Takes {
     Flag,
     /// A number of lines.
     Lines,
-    /// The form of lines.
-    Form,
+    /// One of two words, of which the first one is taken if none is given.
+    OneOf(&'static str, &'static [&'static str; 2]),
     /// A list of files, in place of files.
     Names,
     /// A list of digests, in place of files and of a list of them.
@@ -129,6 +148,20 @@ const WARN: [Row; 3] = [
     FORM,
 ];
 
+const SHOW: [Row; 3] = [
+    FILES,
+    Row {
+        id: "format",
+        takes: Takes::OneOf("FORMAT", &FORMATS),
+        help: "YAML in block style, or a line of JSON for each document",
+    },
+    Row {
+        id: "textconv",
+        takes: Takes::Flag,
+        help: "Write a rejected file as it is, with status 0, as git wants it",
+    },
+];
+
 const SUM: [Row; 3] = [
     FILES,
     Row {
@@ -157,11 +190,13 @@ const FILES: Row = Row {
 
 const FORM: Row = Row {
     id: "format",
-    takes: Takes::Form,
+    takes: Takes::OneOf("FORM", &FORMS),
     help: "Lines of text, or one JSON object a line",
 };
 
 const FORMS: [&str; 2] = ["line", "json"];
+
+const FORMATS: [&str; 2] = ["yaml", "json"];
 
 fn arg_of<'a>(alloc: Global, row: &Row) -> Result<Arg<'a>, AllocError> {
     let arg = Arg::new(alloc, row.id).help(row.help);
@@ -175,11 +210,11 @@ fn arg_of<'a>(alloc: Global, row: &Row) -> Result<Arg<'a>, AllocError> {
                 .value_parser(ValueParser::unsigned(0, 1_000_000))
                 .default_value("1000"),
         ),
-        Takes::Form => Ok(
+        Takes::OneOf(name, words) => Ok(
             arg.long(row.id)
-                .value_name("FORM")
-                .value_parser(FORMS.as_slice())
-                .default_value("line"),
+                .value_name(name)
+                .value_parser(words.as_slice())
+                .default_value(words[0]),
         ),
         Takes::Names => arg.long(row.id).value_name("LIST").conflicts_with("FILE"),
         Takes::Digests => arg
@@ -221,6 +256,11 @@ const WARN_STATUSES: &str = "Exit status (of several files the greatest):
   2  a file is rejected
   3  the words, a file or a stream cannot be used";
 
+const SHOW_STATUSES: &str = "Exit status (of several files the greatest):
+  0  each file is shown; with --textconv also if one is rejected
+  2  a file is rejected, or JSON cannot express it
+  3  the words, a file or a stream cannot be used";
+
 const SUM_STATUSES: &str = "Exit status (of several files the greatest):
   0  each file has a digest, or the one that LIST has
   1  a file has another digest than LIST has
@@ -232,7 +272,7 @@ const GIT_STATUSES: &str = "Exit status:
   2  memory is refused
   3  the words or the output cannot be used";
 
-const COMMANDS: [Entry; 5] = [
+const COMMANDS: [Entry; 6] = [
     Entry {
         name: "diff",
         about: "Prints where two streams differ",
@@ -250,6 +290,12 @@ const COMMANDS: [Entry; 5] = [
         about: "Prints what tools of YAML 1.1 read otherwise",
         statuses: WARN_STATUSES,
         rows: &WARN,
+    },
+    Entry {
+        name: "show",
+        about: "Prints streams as readable YAML, or as JSON",
+        statuses: SHOW_STATUSES,
+        rows: &SHOW,
     },
     Entry {
         name: "sum",
@@ -347,6 +393,17 @@ fn diff_of<'a>(matches: &ArgMatches<'a>) -> Diff<'a> {
     }
 }
 
+fn show_of<'a>(alloc: Global, matches: &ArgMatches<'a>) -> Result<Show<'a>, AllocError> {
+    Ok(Show {
+        files: files_of(alloc, matches)?,
+        format: match matches.get_str("format") {
+            Some("json") => Format::Json,
+            _ => Format::Yaml,
+        },
+        textconv: matches.get_flag("textconv"),
+    })
+}
+
 /// What the words of this command ask for.
 fn asked_of<'a>(
     alloc: Global,
@@ -356,6 +413,7 @@ fn asked_of<'a>(
     match name {
         "faults" => Ok(Asked::Faults(report_of(alloc, inner)?)),
         "warn" => Ok(Asked::Warn(report_of(alloc, inner)?, lines_of(inner))),
+        "show" => Ok(Asked::Show(show_of(alloc, inner)?)),
         "sum" => Ok(Asked::Sum(Sum {
             files: files_of(alloc, inner)?,
             files_from: inner.get_str("files-from"),
