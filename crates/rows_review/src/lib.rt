@@ -26,6 +26,8 @@ mod runs;
 #[cfg(test)]
 mod slips;
 #[cfg(test)]
+mod strings;
+#[cfg(test)]
 mod sum;
 #[cfg(test)]
 mod tag_places;

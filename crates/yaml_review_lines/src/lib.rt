@@ -3,6 +3,9 @@
 
 pub mod diff;
 pub mod faults;
+pub mod lines;
+mod stat;
+mod strings;
 pub mod warn;
 
 pub use diff::{Compared, compare};
