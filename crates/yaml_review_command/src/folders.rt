@@ -51,7 +51,7 @@ fn unread(name: &str, error: io::Error) -> Unread {
 }
 
 /// Why memory is refused, of what is read of a folder.
-fn refused<E>(_error: E) -> Unread {
+fn refused<E: Drop>(_error: E) -> Unread {
     Unread::Fault(Fault::OutOfMemory)
 }
 
@@ -238,7 +238,13 @@ fn both_told<T: Files>(rt: &T, alloc: Global, asked: &Diff<'_>, name: &str) -> R
     let of_name = Diff {
         left: name,
         right: name,
-        ..*asked
+        places: asked.places,
+        whole: asked.whole,
+        lines: asked.lines,
+        form: asked.form,
+        context: asked.context,
+        color: asked.color,
+        stat: asked.stat,
     };
     match compare_sides(alloc, &of_name, one, other) {
         Ok(compared) => {

@@ -9,7 +9,7 @@ ghost use Rattle.yaml_review_lines.specs.Compared.{room_of, room_for, is_numbere
 
 use crate::lines::{Line, put_more};
 use crate::stat::stat_text;
-use crate::strings::{changes, parts};
+use crate::strings::{Budget, changed_lines, differing_parts};
 use std::alloc::Global;
 use yaml_diff::{Difference, Found, stream_differences};
 use yaml_nodes::node::NodeId;
@@ -91,6 +91,7 @@ fn shown_both(
     both: &Both<'_>,
     difference: &Difference,
     room: usize,
+    budget: &mut Budget,
 ) -> Result<Shown, Fault>
     requires ranked { RanksAre both.now.graph both.now.ranks }
     ensures { IfOk result (λ s. ShowsBoth both.now.graph room difference.now s.left s.right) }
@@ -99,7 +100,7 @@ fn shown_both(
     if !texts.is_one() {
         return Ok(texts);
     }
-    match parts(alloc, both, difference, room)? {
+    match differing_parts(alloc, both, difference, room, budget)? {
         Some((left, right)) => Ok(Shown {
             left: Some(left),
             right: Some(right),
@@ -123,19 +124,21 @@ fn is_numbered(both: &Both<'_>) -> bool
 }
 
 /// The line of a difference, with these places of its nodes.
+#[tactic(auto, using(crate::proofs::StringLaws::one_told))]
 fn line_of(
     alloc: Global,
     both: &Both<'_>,
     difference: &Difference,
     asked: &Diff<'_>,
     places: (Option<Place>, Option<Place>),
+    budget: &mut Budget,
 ) -> Result<Line, Fault>
     requires ranked { RanksAre both.now.graph both.now.ranks }
     ensures { IfOk result (TellsOne both.now asked.now difference.now) }
 {
     let path = path_text(alloc, both, &difference.path, is_numbered(both))?;
-    let nodes = shown_both(alloc, both, difference, room_of(asked.whole))?;
-    let lines = changes(alloc, both, difference, asked.context, asked.color)?;
+    let nodes = shown_both(alloc, both, difference, room_of(asked.whole), budget)?;
+    let lines = changed_lines(alloc, both, difference, asked, budget)?;
     Ok(Line {
         path,
         left: nodes.left,
@@ -166,12 +169,13 @@ fn lines_of(
     ensures { IfOk result (λ lines. TellsEach both.now asked.now list.now lines.items) }
 {
     let mut lines = Vec::new(alloc);
+    let mut budget = Budget::new();
     for (number, difference) in list.iter().enumerate() {
         let at = (
             place_at(&places.left, number),
             place_at(&places.right, number),
         );
-        lines.push(line_of(alloc, both, difference, asked, at)?)?;
+        lines.push(line_of(alloc, both, difference, asked, at, &mut budget)?)?;
     }
     Ok(lines)
 }

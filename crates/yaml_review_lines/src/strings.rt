@@ -3,6 +3,7 @@ ghost use Rattle.std.specs.Prelude.{◌≡◌, ◌==◌, ◌++◌, ◌≤◌, []
 ghost use Rattle.yaml_scalar.specs.Spelling.{quoted_bytes};
 ghost use Rattle.yaml_definitions.specs.model.Tree.{scalar};
 ghost use Rattle.yaml_nodes.specs.GraphView.{tree};
+ghost use Rattle.yaml_script.specs.Printed.{script_text};
 ghost use Rattle.yaml_review_text.specs.Shown.{front};
 ghost use Rattle.yaml_review_lines.specs.Compared.{IsScalar, part_text, ShowsParts, ShowsChanges};
 
@@ -12,6 +13,7 @@ use yaml_diff::Difference;
 use yaml_nodes::node::{NodeId, NodeKind};
 use yaml_review_text::both::Both;
 use yaml_review_text::text::front;
+use yaml_review_words::Diff;
 use yaml_scalar::spell::spell_into;
 use yaml_script::{Edit, put_script, script_of};
 use yaml_text::core_tag;
@@ -20,8 +22,37 @@ use yaml_text::fault::Fault;
 /// How many bytes before the first difference are shown.
 const LEAD: usize = 20;
 
+/// What stands for bytes that are left out.
+const MORE: &str = "...";
+
 /// How many changed places are named.
 const NAMED: usize = 3;
+
+/// How many bytes of strings are looked at: more than two files have without aliases.
+const BYTES: usize = 64 * 1_024 * 1_024;
+
+/// How many bytes of strings may still be looked at, so that a long string with many aliases is not compared with another each time.
+#[derive(Drop)]
+pub(crate) struct Budget {
+    bytes: usize,
+}
+
+impl Budget {
+    /// What all lines may take together.
+    pub(crate) fn new() -> Budget {
+        Budget { bytes: BYTES }
+    }
+
+    /// Takes the bytes of two strings, if there are so many.
+    fn take(&mut self, left: &str, right: &str) -> bool {
+        let bytes = left.len().saturating_add(right.len());
+        let is_enough = bytes <= self.bytes;
+        if is_enough {
+            self.bytes = self.bytes.saturating_sub(bytes);
+        }
+        is_enough
+    }
+}
 
 /// A scalar.
 #[derive(Clone, Copy)]
@@ -81,17 +112,27 @@ fn first_difference(left: &[u8], right: &[u8]) -> usize {
     left.len()
 }
 
+/// What stands before a part of a content from a byte on, for what is left out.
+fn dots_before(start: usize) -> &'static str
+    ensures { result.now ≡ cond (start == 0) [] (codes "...") }
+{
+    if start == 0 { "" } else { MORE }
+}
+
+/// What stands behind a part of which there is room for so many bytes.
+fn dots_behind(rest: &str, room: usize) -> &'static str
+    ensures { result.now ≡ cond (nat_le (length rest.now) room) [] (codes "...") }
+{
+    if rest.len() <= room { "" } else { MORE }
+}
+
 /// Writes a part of a content, from a byte on.
 fn put_part(out: &mut String, start: usize, rest: &str, room: usize) -> Result<(), Fault>
     ensures { OnOk result (string_bytes out.new ≡ string_bytes out.old ++ (cond (start == 0) [] (codes "...") ++ (quoted_bytes (front room rest.now) ++ cond (nat_le (length rest.now) room) [] (codes "...")))) }
 {
-    if start != 0 {
-        out.push_str("...")?;
-    }
+    out.push_str(dots_before(start))?;
     spell_into(front(rest, room), out)?;
-    if rest.len() > room {
-        out.push_str("...")?;
-    }
+    out.push_str(dots_behind(rest, room))?;
     Ok(())
 }
 
@@ -142,19 +183,20 @@ fn rests_of<'b>(left: &'b str, right: &'b str) -> Option<Rests<'b>>
 }
 
 /// The texts of the parts where two scalars of one tag differ, if the nodes of a difference are such.
-#[tactic(auto, using(crate::proofs::StringLaws::part_is))]
-pub(crate) fn parts(
+#[tactic(auto, using(crate::proofs::StringLaws::parts_told))]
+pub(crate) fn differing_parts(
     alloc: Global,
     both: &Both<'_>,
     difference: &Difference,
     room: usize,
+    budget: &mut Budget,
 ) -> Result<Option<(String, String)>, Fault>
     ensures { IfOk result (λ told. IfSome told (λ texts. ShowsParts both.now.graph room difference.now (Some texts.0) (Some texts.1))) }
 {
     let Some((left, right)) = scalars_of(both, difference) else {
         return Ok(None);
     };
-    if left.tag != core_tag::STR {
+    if left.tag != core_tag::STR || !budget.take(left.content, right.content) {
         return Ok(None);
     }
     let Some(rests) = rests_of(left.content, right.content) else {
@@ -259,33 +301,41 @@ fn summary_of(alloc: Global, edits: &[Edit<'_>]) -> Result<String, Fault> {
             break;
         }
         let line = group.line;
-        let front = if number == 0 { ": " } else { ", " };
-        write!(out, "{front}{line}")?;
+        let before = if number == 0 { ": " } else { ", " };
+        write!(out, "{before}{line}")?;
     }
     Ok(out)
 }
 
+/// The changed lines of an edit script as they are printed.
+fn lines_of(alloc: Global, edits: &[Edit<'_>], asked: &Diff<'_>) -> Result<String, Fault>
+    ensures { IfOk result (λ s. string_bytes s ≡ script_text asked.now.context asked.now.color edits.now) }
+{
+    let mut text = String::new(alloc);
+    put_script(&mut text, edits, asked.context, asked.color)?;
+    Ok(text)
+}
+
 /// The changed lines of two strings, if the nodes of a difference are such and one of them has a line feed.
-pub(crate) fn changes(
+#[tactic(auto, using(crate::proofs::StringLaws::script_told))]
+pub(crate) fn changed_lines(
     alloc: Global,
     both: &Both<'_>,
     difference: &Difference,
-    context: usize,
-    color: bool,
+    asked: &Diff<'_>,
+    budget: &mut Budget,
 ) -> Result<Option<Changes>, Fault>
-    requires { context ≤ 1000 }
-    ensures { IfOk result (ShowsChanges both.now.graph context color difference.now) }
+    ensures { IfOk result (ShowsChanges both.now.graph asked.now.context asked.now.color difference.now) }
 {
     let Some((left, right)) = scalars_of(both, difference) else {
         return Ok(None);
     };
     let has_lines = left.content.contains('\n') || right.content.contains('\n');
-    if left.tag != core_tag::STR || !has_lines {
+    if left.tag != core_tag::STR || !has_lines || !budget.take(left.content, right.content) {
         return Ok(None);
     }
     let edits = script_of(alloc, left.content, right.content)?;
-    let mut text = String::new(alloc);
-    put_script(&mut text, &edits, context, color)?;
+    let text = lines_of(alloc, &edits, asked)?;
     let summary = summary_of(alloc, &edits)?;
     Ok(Some(Changes { summary, text }))
 }
