@@ -92,6 +92,8 @@ enum Takes {
     Color,
     /// A number of lines.
     Lines,
+    /// The same, of which the default depends on other arguments.
+    Most,
     /// The form of lines.
     Form,
     /// A list of files, in place of files.
@@ -132,8 +134,8 @@ const DIFF: [Row; 10] = [
     },
     Row {
         id: "lines",
-        takes: Takes::Lines,
-        help: "Print at most N lines, and then `...` if there are more; 0 for the status alone",
+        takes: Takes::Most,
+        help: "Print at most N lines (1000), and then `...` if there are more; 0 for the status alone",
     },
     Row {
         id: "unified",
@@ -214,6 +216,12 @@ fn arg_of<'a>(alloc: Global, row: &Row) -> Result<Arg<'a>, AllocError> {
         Takes::Flag => Ok(arg.long(row.id).action(ArgAction::SetTrue)),
         Takes::Letter(letter) => Ok(arg.long(row.id).short(letter).action(ArgAction::SetTrue)),
         Takes::Lines => Ok(
+            arg.long(row.id)
+                .value_name("N")
+                .value_parser(ValueParser::unsigned(0, 1_000_000))
+                .default_value("1000"),
+        ),
+        Takes::Most => Ok(
             arg.long(row.id)
                 .value_name("N")
                 .value_parser(ValueParser::unsigned(0, 1_000_000)),
