@@ -1,10 +1,10 @@
 -- Objects of JSON.
 use Rattle.std.proofs.Common.{◌≡◌, ◌||◌, ℕ, ◌+◌, ◌<◌, ◌≤◌, Bool, true, false, List, [], ◌∷◌, ◌++◌, map, drop, length, get_or, Ordering, Less, Equal, Greater, nat_cmp, refl, sym, ◌∙◌, ap}
-use Rattle.std.specs.Prelude.{Option, Some, None, option_map, string_bytes, codes}
+use Rattle.std.specs.Prelude.{Option, Some, None, option_map, codes}
 use Rattle.std.specs.Cmp.Lexicographic.{slice_cmp}
 use Rattle.std.specs.Ordering.{match_ordering}
 use Rattle.std.proofs.Math.ListN.{drop_of_length-le}
-use Rattle.serde_json.specs.Data.{Data, Members, member, no_members, put, object, string}
+use Rattle.serde_json.specs.Data.{Data, Members, member, no_members, put, object}
 use Rattle.serde_json.specs.Written.{has_float, members_have_float, compact_text}
 use Rattle.yaml_place.specs.declared.place.Place.{Place}
 use Rattle.yaml_review_text.specs.Objects.{text_data, place_data, said_data, with_members, object_line}
