@@ -80,16 +80,3 @@ size_t yamlcanon_peak(void)
 {
     return heap.peak;
 }
-
-#if defined(__x86_64__) && defined(__ELF__)
-/* The proved code is compiled for x86-64-v2. This note says so in each file that is linked with it, as `-z x86-64-v2` would, and
- * from glibc 2.33 on the loader refuses such a file on a lesser processor, before anything of it runs. It stands here since
- * this is the object that a link always takes. */
-__asm__(".pushsection .note.gnu.property, \"a\", @note\n"
-        ".p2align 3\n"
-        ".long 4, 16, 5\n"       /* the name's bytes, the property's, and the kind: NT_GNU_PROPERTY_TYPE_0 */
-        ".asciz \"GNU\"\n"
-        ".long 0xc0008002, 4\n" /* GNU_PROPERTY_X86_ISA_1_NEEDED, and its bytes */
-        ".long 2, 0\n"          /* v2, and what fills the place */
-        ".popsection");
-#endif

@@ -225,8 +225,11 @@ static void *has_no_bound(void *unused)
 static void under_bounds(void)
 {
     pthread_t beside;
+    pthread_attr_t large;
+    pthread_attr_init(&large);
+    pthread_attr_setstacksize(&large, 8 << 20);
     yamlcanon_budget(1);
-    if (pthread_create(&beside, NULL, has_no_bound, NULL)) exit(2);
+    if (pthread_create(&beside, &large, has_no_bound, NULL)) exit(2);
     pthread_join(beside, NULL);
     for (size_t i = 0; i < count; i++) {
         bounds(yamlcanon_canonical, &files[i]);

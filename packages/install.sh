@@ -42,18 +42,9 @@ look_at_prefix() {
     root=${root%/}
 }
 
-# The level x86-64-v2, as the kernel names its parts, and glibc.
+# The system, and its glibc.
 look_at_machine() {
     [ "$(uname -sm)" = 'Linux x86_64' ] || refuse "this is $(uname -sm), and the files are for Linux x86_64"
-    if [ -r /proc/cpuinfo ]; then
-        flags=" $(sed -n '/^flags/ { s/^[^:]*://; p; q; }' /proc/cpuinfo) "
-        for flag in cx16 lahf_lm popcnt pni sse4_1 sse4_2 ssse3; do
-            case $flags in
-                *" $flag "*) ;;
-                *) refuse "this processor lacks $flag: x86-64-v2 is needed" ;;
-            esac
-        done
-    fi
     glibc=$(getconf GNU_LIBC_VERSION 2>/dev/null) || refuse 'no glibc is found here, and 2.34 is needed'
     number=${glibc#glibc }
     major=${number%%.*} minor=${number#*.}

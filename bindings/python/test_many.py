@@ -92,8 +92,7 @@ class Rows(Folder):
         none = os.path.join(self.room, "none")
         told = [(one.status, one.message) for one in rows([fifo, self.room, none, "a\0b"])]
         self.assertEqual(
-            told,
-            [(3, "Not a regular file"), (3, "Is a directory"), (3, "No such file or directory"), (3, "embedded null byte")],
+            told, [(3, "Not a regular file"), (3, "Is a directory"), (3, "No such file or directory"), (3, "embedded null byte")]
         )
 
     def test_more_bytes_than_are_accepted_are_not_read(self):
@@ -151,7 +150,11 @@ class Packed(Folder):
     def test_rows_are_added_as_they_are_however_many(self):
         for count in (0, 1, 5, 127, 128, 129, 300):
             some = [Row(f"{number}", 0, f"d{number}", None, None, number, f"r{number}") for number in range(count)]
-            some[2:2] = [Row(os.fsdecode(ODD), 0, "d", None, None, 1, "r"), Row("b", 2, None, 2, "2 No", 1, "s"), Row("u", 3, None, None, "No", None, None)]
+            some[2:2] = [
+                Row(os.fsdecode(ODD), 0, "d", None, None, 1, "r"),
+                Row("b", 2, None, 2, "2 No", 1, "s"),
+                Row("u", 3, None, None, "No", None, None),
+            ]
             filled = self.table(f"{count}.db")
             filled.add_packed([packed(some), packed([]), packed([Row("last", 0, "d", None, None, 1, "r")])])
             self.assertEqual(filled.summary(), (count + 2, 1, 1, count + 2, count + 1))
@@ -228,7 +231,10 @@ class Processes(unittest.TestCase):
 
     def test_each_number_is_answered_once(self):
         for jobs, count in ((1, 0), (1, 1), (1, 9), (3, 2), (4, 100)):
-            self.assertEqual(sorted(self.answers(jobs, count, lambda number: [number, b"x" * 100_000])), [[number, b"x" * 100_000] for number in range(count)])
+            self.assertEqual(
+                sorted(self.answers(jobs, count, lambda number: [number, b"x" * 100_000])),
+                [[number, b"x" * 100_000] for number in range(count)],
+            )
 
     def test_what_the_work_raises_is_raised(self):
         def work(number):
@@ -236,7 +242,11 @@ class Processes(unittest.TestCase):
                 raise fault
             return number
 
-        for fault, kind in ((sqlite3.DatabaseError("no"), sqlite3.DatabaseError), (MemoryError(), MemoryError), (Unpicklable(lambda: 0), RuntimeError)):
+        for fault, kind in (
+            (sqlite3.DatabaseError("no"), sqlite3.DatabaseError),
+            (MemoryError(), MemoryError),
+            (Unpicklable(lambda: 0), RuntimeError),
+        ):
             with self.assertRaises(kind):
                 list(self.answers(2, 9, work))
         with self.assertRaises(ValueError):

@@ -1,9 +1,12 @@
 """python3 -m unittest: the module over the library."""
 
 import concurrent.futures
+import doctest
 import multiprocessing
 import os
+import pathlib
 import pickle
+import random
 import shutil
 import subprocess
 import sys
@@ -12,7 +15,8 @@ import threading
 import unittest
 
 import yamlcanon
-from yamlcanon import Refused, canonical, events, library_version, same
+from yamlcanon import FORM, Kind, Refused, canonical, canonical_file, events, library_version, same
+from yamlcanon.refused import position
 
 # A command finds the module where these tests have found it.
 ENVIRONMENT = {**os.environ, "PYTHONPATH": os.path.dirname(os.path.dirname(os.path.realpath(yamlcanon.__file__)))}
@@ -26,6 +30,22 @@ def blocks(levels):
 
 # Flow mappings in one another: what takes the most stack.
 DEEPEST = b"{a: " * 1023 + b"x" + b"}" * 1023
+
+
+# An input for each kind of error but 1, 18 and 20.
+REFUSED = (
+    b"\xff", b"a\0", b"[a", b"a:\tb", b"a" * 1025 + b": b", b"[" * 1025, b'"\\q"', b"%YAML 1.3\n---\n", b"!e!x v", b"!!%ff x", b"[*x]", b"&a [*a]",
+    b"!!seq x", b"!!int x", b"0x8" + b"0" * 31, b"1e-1000001", b"{1: a, 0x1: b}",
+)  # fmt: skip
+
+
+def position_by_definition(data, at):
+    """Line and column by counting: a line more for each break that ends before, a column more for each character of the line before."""
+    text = data[3:] if data.startswith(b"\xef\xbb\xbf") else data
+    at = max(at - (len(data) - len(text)), 0)
+    ends = [k for k in range(at) if text[k] == 10 or text[k] == 13 and text[k + 1 : k + 2] != b"\n"]
+    start = ends[-1] + 1 if ends else 0
+    return 1 + len(ends), 1 + sum(byte < 128 or byte >= 192 for byte in text[start:at])
 
 
 def answer(data):
@@ -63,13 +83,30 @@ class Calls(unittest.TestCase):
         self.assertEqual(canonical(text), text)
         self.assertTrue(same(many, text))
 
-    def test_only_bytes_are_taken(self):
-        for data in (b"a", bytearray(b"a"), memoryview(b"a")):
+    def test_bytes_and_text_are_taken(self):
+        for data in (b"a", bytearray(b"a"), memoryview(b"a"), memoryview(b"abc")[:1], "a"):
             self.assertEqual(canonical(data), b'--- "a"\n')
-        for data in ("a", 5, None, [97]):
+        self.assertEqual(canonical("\ufeffé"), canonical(b"\xef\xbb\xbf\xc3\xa9"))
+        self.assertTrue(same("é", b"\xc3\xa9"))
+        for data in (5, None, [97], pathlib.Path("a")):
             for call in (canonical, events, lambda it: same(it, b"a"), lambda it: same(b"a", it)):
-                with self.assertRaises(TypeError):
+                with self.assertRaisesRegex(TypeError, "^yamlcanon: an input is bytes, .* not %s; " % type(data).__name__):
                     call(data)
+        with self.assertRaises(UnicodeEncodeError):
+            canonical("\ud800")
+
+    def test_a_file(self):
+        with tempfile.TemporaryDirectory() as room:
+            path = pathlib.Path(room, "a.yaml")
+            path.write_bytes(b"b: 0x1\r\n")
+            for name in (path, str(path), os.fsencode(path)):
+                self.assertEqual(canonical_file(name), b'--- {"b" : !!int "1"}\n')
+            os.truncate(path, 1 << 34)
+            with self.assertRaises(Refused) as seen:
+                canonical_file(path)
+            self.assertEqual(str(seen.exception), "1 TooLong")
+            with self.assertRaises(FileNotFoundError):
+                canonical_file(path.parent / "none")
 
     def test_a_refusal_tells_its_place_and_side(self):
         with self.assertRaises(Refused) as seen:
@@ -80,6 +117,55 @@ class Calls(unittest.TestCase):
         fault = seen.exception
         self.assertEqual(str(fault), "right: 5 Tab at byte 4")
         self.assertEqual((fault.number, fault.name, fault.place, fault.side), (5, "Tab", 4, "right"))
+        self.assertEqual((fault.kind, fault.line, fault.column), (Kind.Tab, 2, 1))
+
+    def test_each_kind_has_the_name_that_the_library_gives(self):
+        found = {}
+        for data in (*REFUSED, b"a" * 67_108_865, b"- " * 1024 + b"x", b"a" * 67_108_860):
+            with self.assertRaises(Refused) as seen:
+                canonical(data)
+            found[seen.exception.number] = seen.exception
+        self.assertEqual(sorted(found), list(range(1, 21)))
+        for number, fault in found.items():
+            self.assertEqual((fault.kind, fault.kind.name), (number, fault.name))
+            self.assertEqual(fault.line is None, not 2 <= number <= 11)
+
+    def test_refusals_are_equal_by_what_they_say(self):
+        with self.assertRaises(Refused) as seen:
+            canonical(b"- a\n\t- b")
+        fault = seen.exception
+        self.assertEqual(fault, Refused(5, "Tab", 4))
+        self.assertEqual(hash(fault), hash(Refused(5, "Tab", 4)))
+        for other in (
+            Refused(5, "Tab", 5),
+            Refused(4, "Syntax", 4),
+            Refused(5, "Tab", 4, side="left"),
+            ValueError("5 Tab at byte 4"),
+            None,
+        ):
+            self.assertNotEqual(fault, other)
+
+    def test_lines_and_columns_are_those_of_the_definition(self):
+        chance = random.Random(1)
+        parts = [b"\n", b"\r", b"\r\n", b"a", "é".encode(), "\u2028".encode(), "\U0001f600".encode(), b"\x85"]
+        for number in range(3000):
+            data = (b"\xef\xbb\xbf" if number % 3 == 0 else b"") + b"".join(chance.choice(parts) for _ in range(number % 12))
+            for at in range(len(data) + 1):
+                self.assertEqual(position(data, at), position_by_definition(data, at), (data, at))
+
+    def test_a_place_is_found_in_the_input_that_is_rejected(self):
+        left, right = b"a:\r\n  b: \xc3\xa9\xc3\xa9\r\n  c: 1\r\n\td: 2", b"\xef\xbb\xbf- a\n- %"
+        for words, wanted in (
+            ((canonical, left), (4, 1)),
+            ((same, left, b"a"), (4, 1)),
+            ((same, b"a", left), (4, 1)),
+            ((events, right), (2, 3)),
+            ((same, b"a", right), (2, 3)),
+            ((same, right, left), (2, 3)),
+        ):
+            with self.assertRaises(Refused) as seen:
+                words[0](*words[1:])
+            self.assertEqual((seen.exception.line, seen.exception.column), wanted, words)
 
     def test_a_refusal_comes_back_from_pickle(self):
         with self.assertRaises(Refused) as seen:
@@ -100,12 +186,15 @@ class Calls(unittest.TestCase):
 
     def test_the_version_of_the_library(self):
         self.assertEqual(library_version(), 100)
+        self.assertEqual(FORM, 1)
+        self.assertRegex(yamlcanon.__version__, r"^1\.0\.\d+$")
 
     def test_deep_inputs_on_threads_with_a_small_stack(self):
         deep = [b"[" * 1000 + b"]" * 1000, blocks(1023), b"- " * 3000, b"{a: " * 2000, DEEPEST]
         want = [answer(data) for data in deep]
         self.assertEqual(want[1][:4], b"--- ")
-        for stack in (64 << 10, 512 << 10, 2 << 20, 0):  # 0 is the default
+        least = 64 << 10 if os.uname().machine == "x86_64" else 128 << 10
+        for stack in (least, 512 << 10, 2 << 20, 0):  # 0 is the default
             self.assertEqual(on_thread(stack, lambda: [answer(data) for data in deep]), want)
             self.assertTrue(on_thread(stack, lambda: same(deep[1], deep[1])))
 
@@ -149,17 +238,6 @@ class Calls(unittest.TestCase):
             sys.settrace(None)
         self.assertEqual(got, want)
         self.assertTrue(inner)
-
-    def test_what_a_processor_lacks_is_told(self):
-        from yamlcanon import _lacking
-
-        level = "pni ssse3 cx16 sse4_1 sse4_2 popcnt lahf_lm"
-        for flags, lacking in ((level, []), (level.replace("sse4_1 ", ""), ["sse4_1"]), ("fpu", sorted(level.split()))):
-            with tempfile.NamedTemporaryFile("w") as told:
-                told.write("processor\t: 0\nflags\t\t: fpu sse2 %s\nbugs\t\t:\n" % flags)
-                told.flush()
-                self.assertEqual(sorted(_lacking(told.name)), lacking)
-        self.assertEqual(_lacking("/nowhere/cpuinfo"), [])
 
 
 # Calls with a deep input on a thread, a part of whose stack holds an argument of so many bytes.
@@ -230,6 +308,16 @@ class Libraries(unittest.TestCase):
     def test_the_file_that_was_loaded_is_known(self):
         with open(yamlcanon._library_file, "rb") as file:
             self.assertEqual(file.read(4), b"\x7fELF")
+
+
+def load_tests(_loader, tests, _pattern):
+    """Adds the examples of the documentation."""
+    for module in (yamlcanon, yamlcanon.refused):
+        tests.addTests(doctest.DocTestSuite(module))
+    page = pathlib.Path(__file__).with_name("README.md")
+    if page.exists():
+        tests.addTests(doctest.DocFileSuite(str(page), module_relative=False))
+    return tests
 
 
 if __name__ == "__main__":

@@ -9,7 +9,7 @@
 The list is planted.list. What is asked, the cheapest first, until something tells:
 
 - of a definition of the grammar: the rows of `yaml_vectors` and `rows_streams`, the cases of yaml-test-suite (PLACE: see
-  tools/suite) and the short readings that are stored, as the wrong definitions read them (planted_texts.py);
+  `tools/conformance suite --help`) and the short readings that are stored, as the wrong definitions read them (planted_texts.py);
 - `rt check` of yaml_definitions, over what an earlier check kept: an example that is computed or derived, or a law;
 - `rt check` of the law crates that stand on yaml_definitions alone or nearly so (`law_length`, `law_read_back`, `yaml_content`).
 
@@ -18,7 +18,6 @@ into one as are of different definitions: one with which the definitions themsel
 nothing is tried. The unchanged definitions are tried first, and nothing may tell them. Needs `rt`; takes about half a minute of
 processor for each that no text tells.
 """
-import argparse
 import contextlib
 import os
 import queue
@@ -29,50 +28,51 @@ import sys
 import tempfile
 from concurrent.futures import ThreadPoolExecutor
 
-HERE = os.path.dirname(os.path.abspath(__file__))
-TOP = os.path.dirname(os.path.dirname(HERE))
-sys.path.insert(0, os.path.join(TOP, 'tools'))
-sys.dont_write_bytecode = True
-from statements.definitions import File            # noqa: E402
+HERE = os.path.dirname(os.path.realpath(__file__))
+sys.path.insert(0, os.path.dirname(HERE))  # for lib
+from lib.arguments import parser
+from lib.paths import TOP
+from lib.antt import File
+from lib.crates import write_list
 
-SPECS = TOP + '/crates/yaml_definitions/specs'
-LAWS = {'law_length': [], 'law_read_back': ['yaml_text'], 'yaml_content': ['yaml_text']}
-FOUND = HERE + '/planted.found'     # what told each, for docs/proof/DEFINITIONS.md
-UNSHADOWED = ('Rules',)     # which shadow.py has by hand
+SPECS = TOP + "/crates/yaml_definitions/specs"
+LAWS = {"law_length": [], "law_read_back": ["yaml_text"], "yaml_content": ["yaml_text"]}
+FOUND = HERE + "/planted.found"  # what told each, for docs/proof/DEFINITIONS.md
+UNSHADOWED = ("Rules",)  # which shadow.py has by hand
 
 
 class Planting:
     """A wrong definition: the file, the definition, the right and the wrong text."""
 
     def __init__(self, line):
-        head, change = line.split(': ', 1)
-        self.file, self.name = head.split(' ')
-        self.right, self.wrong = change.split(' ⇒ ')
+        head, change = line.split(": ", 1)
+        self.file, self.name = head.split(" ")
+        self.right, self.wrong = change.split(" ⇒ ")
 
     def said(self):
-        return '%s %s: %s ⇒ %s' % (self.file, self.name, self.right, self.wrong)
+        return "%s %s: %s ⇒ %s" % (self.file, self.name, self.right, self.wrong)
 
     def changed(self, specs):
         """The file with it in its place, or nothing where the right text does not stand once in the definition."""
-        path = '%s/%s.antt' % (specs, self.file)
+        path = "%s/%s.antt" % (specs, self.file)
         if not os.path.isfile(path):
             return None
-        with open(path, encoding='utf-8') as file:
-            lines = file.read().split('\n')
+        with open(path, encoding="utf-8") as file:
+            lines = file.read().split("\n")
         block = File(path, lines).by_name.get(self.name)
         if not block or block.text().count(self.right) != 1:
             return None
         end, count = block.place, 0
-        while count < len(block.lines):     # which leave out the empty lines between definitions that need each other
+        while count < len(block.lines):  # which leave out the empty lines between definitions that need each other
             count += bool(lines[end].strip())
             end += 1
-        lines[block.place:end] = '\n'.join(lines[block.place:end]).replace(self.right, self.wrong).split('\n')
-        return '\n'.join(lines)
+        lines[block.place : end] = "\n".join(lines[block.place : end]).replace(self.right, self.wrong).split("\n")
+        return "\n".join(lines)
 
     def put(self, specs):
         """Puts it into a copy of the definitions."""
         text = self.changed(specs)
-        with open('%s/%s.antt' % (specs, self.file), 'w', encoding='utf-8') as file:
+        with open("%s/%s.antt" % (specs, self.file), "w", encoding="utf-8") as file:
             file.write(text)
 
 
@@ -80,58 +80,67 @@ class Room:
     """A copy of yaml_definitions and the law crates, with what was kept of them."""
 
     def __init__(self):
-        self.folder = tempfile.mkdtemp(prefix='planted-')
-        os.mkdir(self.folder + '/.git')
-        shutil.copy(TOP + '/HANDLES', self.folder)
-        names = {'yaml_definitions', *LAWS, *sum(LAWS.values(), [])}
-        with open(TOP + '/crates.txt', encoding='utf-8') as file:
-            lines = [line for line in file if line.split(':')[0] in names]
-        with open(self.folder + '/crates.txt', 'w', encoding='utf-8') as file:
-            file.writelines(lines)
+        self.folder = tempfile.mkdtemp(prefix="planted-")
+        os.mkdir(self.folder + "/.git")
+        shutil.copy(TOP + "/HANDLES", self.folder)
+        names = {"yaml_definitions", *LAWS, *sum(LAWS.values(), [])}
+        write_list(self.folder, names)
         for name in names:
-            for part in ('src', 'specs', 'proofs', 'out'):
-                if os.path.isdir('%s/crates/%s/%s' % (TOP, name, part)):
-                    shutil.copytree('%s/crates/%s/%s' % (TOP, name, part), '%s/crates/%s/%s' % (self.folder, name, part))
-        self.specs = self.folder + '/crates/yaml_definitions/specs'
+            for part in ("src", "specs", "proofs", "out"):
+                if os.path.isdir("%s/crates/%s/%s" % (TOP, name, part)):
+                    shutil.copytree("%s/crates/%s/%s" % (TOP, name, part), "%s/crates/%s/%s" % (self.folder, name, part))
+        self.specs = self.folder + "/crates/yaml_definitions/specs"
 
     def plant(self, plantings):
         shutil.rmtree(self.specs)
-        shutil.copytree(TOP + '/crates/yaml_definitions/specs', self.specs)
+        shutil.copytree(TOP + "/crates/yaml_definitions/specs", self.specs)
         for planting in plantings:
             planting.put(self.specs)
 
     def text(self, suite):
         """What planted_texts.py says of the copy."""
-        done = subprocess.run([sys.executable, HERE + '/planted_texts.py', *([suite] if suite else [])], capture_output=True, text=True,
-                              env=dict(os.environ, SPECS=self.specs + '/grammar'), check=False)
+        done = subprocess.run(
+            [sys.executable, HERE + "/planted_texts.py", *([suite] if suite else [])],
+            capture_output=True,
+            text=True,
+            env=dict(os.environ, SPECS=self.specs + "/grammar"),
+            check=False,
+        )
         if done.returncode:
-            sys.exit('planted: the definitions do not run: ' + done.stderr.strip().split('\n')[-1][:200])
-        return ': '.join(done.stdout.strip().split('\t'))
+            sys.exit("planted: the definitions do not run: " + done.stderr.strip().split("\n")[-1][:200])
+        return ": ".join(done.stdout.strip().split("\t"))
 
     def rt_check(self, crate):
         """What `rt check` says of a crate that is not proved, or nothing."""
-        done = subprocess.run(['rt', 'check', '--jobs', '1'], cwd='%s/crates/%s' % (self.folder, crate), capture_output=True, text=True,
-                              errors='replace', stdin=subprocess.DEVNULL, check=False)
-        return done.stdout + done.stderr if done.returncode else ''
+        done = subprocess.run(
+            ["rt", "check", "--jobs", "1"],
+            cwd="%s/crates/%s" % (self.folder, crate),
+            capture_output=True,
+            text=True,
+            errors="replace",
+            stdin=subprocess.DEVNULL,
+            check=False,
+        )
+        return done.stdout + done.stderr if done.returncode else ""
 
     def wrong(self):
         """What of the definitions themselves does not check, in a copy without proofs."""
-        shutil.rmtree(self.folder + '/crates/yaml_definitions/proofs', ignore_errors=True)
-        return re.findall(r'(?:\./)?(specs/\S+: error: .*)', self.rt_check('yaml_definitions'))
+        shutil.rmtree(self.folder + "/crates/yaml_definitions/proofs", ignore_errors=True)
+        return re.findall(r"(?:\./)?(specs/\S+: error: .*)", self.rt_check("yaml_definitions"))
 
     def check(self, crate):
         """What of a crate is no longer proved, or nothing."""
         said = self.rt_check(crate)
-        return refused_in(crate, said) if said else ''
+        return refused_in(crate, said) if said else ""
 
     def told(self, planting, suite):
         """What tells a planting, or nothing."""
         self.plant([planting] if planting else [])
-        if planting is None or planting.file.startswith('grammar/') and not planting.file.endswith(UNSHADOWED):
+        if planting is None or planting.file.startswith("grammar/") and not planting.file.endswith(UNSHADOWED):
             text = self.text(suite)
             if text:
                 return text
-        told = self.check('yaml_definitions')
+        told = self.check("yaml_definitions")
         for crate in LAWS if not told and planting else ():
             told = told or self.check(crate)
         return told
@@ -142,39 +151,42 @@ class Room:
 
 def refused_in(crate, said):
     """The first that rt says is not proved: examples are those of yaml_definitions, computed and derived; before others its crate."""
-    places = re.findall(r'(?:\./)?((?:\.\./\w+/)?(?:specs|proofs)/\S+?)\.antt:\d+:\d+: error: `?([\w\-+\']*)', said)
-    functions = re.findall(r'^fn (\S+?): (?!proved)', said, re.M)
-    own = crate == 'yaml_definitions'
-    is_example = re.compile(r'proofs/(?:examples/|grammar/\w+Readings$)')
-    told = ['%s %s%s, %s' % ('example' if own and is_example.match(place) else 'law', '' if own or place.startswith('..') else crate + '/', place, name)
-            for place, name in places]
-    told.sort(key=lambda it: not it.startswith('example'))
-    return (told or ['law %s' % it for it in functions] or ['%s: %s' % (crate, said.strip().split('\n')[-1][:120])])[0]
+    places = re.findall(r"(?:\./)?((?:\.\./\w+/)?(?:specs|proofs)/\S+?)\.antt:\d+:\d+: error: `?([\w\-+\']*)", said)
+    functions = re.findall(r"^fn (\S+?): (?!proved)", said, re.M)
+    own = crate == "yaml_definitions"
+    is_example = re.compile(r"proofs/(?:examples/|grammar/\w+Readings$)")
+    told = [
+        "%s %s%s, %s"
+        % ("example" if own and is_example.match(place) else "law", "" if own or place.startswith("..") else crate + "/", place, name)
+        for place, name in places
+    ]
+    told.sort(key=lambda it: not it.startswith("example"))
+    return (told or ["law %s" % it for it in functions] or ["%s: %s" % (crate, said.strip().split("\n")[-1][:120])])[0]
 
 
 def table_of(lines):
     """The result a definition, as rows of a table."""
-    rows = ['| definition | in its place | told by |', '|---|---|---|']
+    rows = ["| definition | in its place | told by |", "|---|---|---|"]
     for line in lines:
-        change, found, told = line.rstrip('\n').rpartition(' | ')
-        if found and ': ' in change:
-            head, words = change.split(': ', 1)
-            file, name = head.split(' ')
-            rows.append('| `%s` (`%s`) | `%s` | %s |' % (name, file.rsplit('/', 1)[1], words.replace('|', '\\|'), told.replace('|', '\\|')))
-    return '\n'.join(rows)
+        change, found, told = line.rstrip("\n").rpartition(" | ")
+        if found and ": " in change:
+            head, words = change.split(": ", 1)
+            file, name = head.split(" ")
+            rows.append("| `%s` (`%s`) | `%s` | %s |" % (name, file.rsplit("/", 1)[1], words.replace("|", "\\|"), told.replace("|", "\\|")))
+    return "\n".join(rows)
 
 
 def listed(plantings):
     """Whether each planting can be put into the definitions as they are, and has its result in planted.found."""
     lost = [it.said() for it in plantings if it.changed(SPECS) is None]
-    with open(FOUND, encoding='utf-8') as file:
-        results = {line.rpartition(' | ')[0] for line in file}
+    with open(FOUND, encoding="utf-8") as file:
+        results = {line.rpartition(" | ")[0] for line in file}
     unknown = [it.said() for it in plantings if it.said() not in results]
     for said in lost:
-        print('planted: its right text does not stand once in its definition: ' + said)
+        print("planted: its right text does not stand once in its definition: " + said)
     for said in unknown:
-        print('planted: planted.found does not say what told it: ' + said)
-    print('%d of %d can be planted' % (len(plantings) - len(lost), len(plantings)))
+        print("planted: planted.found does not say what told it: " + said)
+    print("%d of %d can be planted" % (len(plantings) - len(lost), len(plantings)))
     return 1 if lost or unknown else 0
 
 
@@ -198,22 +210,22 @@ def checked(plantings):
             wrong = room.wrong()
             count += len(wrong)
             for said in wrong:
-                print('planted: no definition: ' + said)
+                print("planted: no definition: " + said)
     finally:
         room.close()
-    print('the definitions check with each of %d in its place' % len(plantings) if not count else '%d errors' % count)
+    print("the definitions check with each of %d in its place" % len(plantings) if not count else "%d errors" % count)
     return 1 if count else 0
 
 
 def options_given():
-    given = argparse.ArgumentParser(description=__doc__, formatter_class=argparse.RawDescriptionHelpFormatter)
-    given.add_argument('--lanes', type=int, default=1)
-    given.add_argument('--suite', default=os.environ.get('YAML_TEST_SUITE'))
-    given.add_argument('--only', default='')
-    given.add_argument('--out')
-    given.add_argument('--table', nargs='?', const=FOUND, metavar='FILE')
-    given.add_argument('--listed', action='store_true')
-    given.add_argument('--checked', action='store_true')
+    given = parser("tools/definitions/planted.py", __doc__)
+    given.add_argument("--lanes", type=int, default=1)
+    given.add_argument("--suite", default=os.environ.get("YAML_TEST_SUITE"))
+    given.add_argument("--only", default="")
+    given.add_argument("--out")
+    given.add_argument("--table", nargs="?", const=FOUND, metavar="FILE")
+    given.add_argument("--listed", action="store_true")
+    given.add_argument("--checked", action="store_true")
     return given.parse_args()
 
 
@@ -229,13 +241,13 @@ def tried(plantings, options, out):
             told = room.told(planting, options.suite)
         finally:
             rooms.put(room)
-        print('%s | %s' % (planting.said() if planting else 'unchanged', told or 'NOT TOLD'), file=out, flush=True)
+        print("%s | %s" % (planting.said() if planting else "unchanged", told or "NOT TOLD"), file=out, flush=True)
         return told
 
     try:
         plain = work(None)
         if plain:
-            sys.exit('planted: the unchanged definitions are told by %s' % plain)
+            sys.exit("planted: the unchanged definitions are told by %s" % plain)
         with ThreadPoolExecutor(options.lanes) as pool:
             return list(pool.map(work, plantings))
     finally:
@@ -246,22 +258,24 @@ def tried(plantings, options, out):
 def main():
     options = options_given()
     if options.table:
-        with open(options.table, encoding='utf-8') as file:
+        with open(options.table, encoding="utf-8") as file:
             print(table_of(file))
         return 0
-    with open(HERE + '/planted.list', encoding='utf-8') as file:
-        plantings = [Planting(line) for line in file.read().split('\n') if line and not line.startswith('#')]
+    with open(HERE + "/planted.list", encoding="utf-8") as file:
+        plantings = [Planting(line) for line in file.read().split("\n") if line and not line.startswith("#")]
     if options.listed or any(it.changed(SPECS) is None for it in plantings):
         return listed(plantings)
     plantings = [it for it in plantings if options.only in it.said()]
+    if not plantings:
+        sys.exit(f"planted: no line of planted.list has {options.only}")
     status = checked(plantings)
     if status or options.checked:
         return status
-    with open(options.out, 'w', encoding='utf-8') if options.out else contextlib.nullcontext(sys.stdout) as out:
+    with open(options.out, "w", encoding="utf-8") if options.out else contextlib.nullcontext(sys.stdout) as out:
         results = tried(plantings, options, out)
-        print('%d of %d are told by something' % (sum(bool(it) for it in results), len(results)), file=out)
+        print("%d of %d are told by something" % (sum(bool(it) for it in results), len(results)), file=out)
     return 0
 
 
-if __name__ == '__main__':
+if __name__ == "__main__":
     sys.exit(main())

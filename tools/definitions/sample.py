@@ -1,30 +1,66 @@
 #!/usr/bin/env python3
 """Streams for the reader, with the events that the definitions give them.
 
-    python3 tools/definitions/sample.py rows COUNT SEED       rows for crates/rows_read/src/sample.rt, to standard output
-    python3 tools/definitions/sample.py hex COUNT SEED        the streams alone, each a line of hexadecimal digits
-    python3 tools/definitions/sample.py compare COUNT SEED    reads what a reader answers to `hex`, a line for each stream as the
-                                                              rows have it (a fault begins with its number), and tells differences
+`rows` prints test cases for crates/rows_read/src/sample.rt; `hex` the streams alone, each a line of hexadecimal digits; `compare` reads
+what a reader answers to `hex`, a line for each stream as the rows have it (a fault begins with its number), and prints differences.
 
 The streams are COUNT random rows of pieces, and under `hex` and `compare` all texts of at most three characters over some
 alphabets too. Their events are those that `shadow.py` finds, so a reader that agrees reads what the definitions say.
 """
-import itertools
-import os
 import random
 import sys
 
-sys.path.insert(0, os.path.dirname(os.path.abspath(__file__)))
 import shadow
+from lib.arguments import parser
 
-ALPHABETS = ["a:-# \n[],", "a?{}:,\" \n", "a&*! :\n-", "a|> \n:-#", "&!a\n :[]", "'\"a\n \\:", "-.a\n %#"]
-PIECES = ['a', 'b', ': ', ':', '\n', '- ', '-', ' ', '  ', '[', ']', '{', '}', ', ', ',', '? ', '&a ', '!t ', '*a ', '"x"', "'y'",
-          '|\n', '>\n', '# c\n', '---\n', '--- ', '...\n', '%x y\n', '&b', '!!s', '\n ', '\n  ', '%TAG !e! q\n', '!e!z ', 'k: v\n',
-          '- k: v\n', '\t', '\r\n', ' #', '?', ':\n']
+ALPHABETS = ["a:-# \n[],", 'a?{}:," \n', "a&*! :\n-", "a|> \n:-#", "&!a\n :[]", "'\"a\n \\:", "-.a\n %#"]
+PIECES = [
+    "a",
+    "b",
+    ": ",
+    ":",
+    "\n",
+    "- ",
+    "-",
+    " ",
+    "  ",
+    "[",
+    "]",
+    "{",
+    "}",
+    ", ",
+    ",",
+    "? ",
+    "&a ",
+    "!t ",
+    "*a ",
+    '"x"',
+    "'y'",
+    "|\n",
+    ">\n",
+    "# c\n",
+    "---\n",
+    "--- ",
+    "...\n",
+    "%x y\n",
+    "&b",
+    "!!s",
+    "\n ",
+    "\n  ",
+    "%TAG !e! q\n",
+    "!e!z ",
+    "k: v\n",
+    "- k: v\n",
+    "\t",
+    "\r\n",
+    " #",
+    "?",
+    ":\n",
+]
 
 
 def random_texts(count):
-    return {''.join(random.choice(PIECES) for _ in range(random.randint(2, 9))) for _ in range(count)}
+    return {"".join(random.choice(PIECES) for _ in range(random.randint(2, 9))) for _ in range(count)}
 
 
 def all_texts(count):
@@ -34,70 +70,83 @@ def all_texts(count):
 
 def shown(events):
     """The events but for the stream's start and end, a bar before each."""
+
     def properties(anchor, tag):
-        return (' &' + anchor if anchor is not None else '') + ('' if tag is None else ' <%s>' % (tag if isinstance(tag, str) else tag[1]))
-    out = ''
+        return (" &" + anchor if anchor is not None else "") + ("" if tag is None else " <%s>" % (tag if isinstance(tag, str) else tag[1]))
+
+    out = ""
     for e in events:
-        if e[0] in ('+STR', '-STR'):
+        if e[0] in ("+STR", "-STR"):
             continue
-        out += '|' + e[0]
-        if e[0] in ('+DOC', '-DOC'):
-            out += (' ---' if e[0] == '+DOC' else ' ...') if e[1] else ''
-        elif e[0] in ('+SEQ', '+MAP'):
-            out += ((' []' if e[0] == '+SEQ' else ' {}') if e[1] else '') + properties(e[2], e[3])
-        elif e[0] == '=VAL':
-            out += properties(e[1], e[2]) + ' ' + e[3] + e[4]
-        elif e[0] == '=ALI':
-            out += ' *' + e[1]
+        out += "|" + e[0]
+        if e[0] in ("+DOC", "-DOC"):
+            out += (" ---" if e[0] == "+DOC" else " ...") if e[1] else ""
+        elif e[0] in ("+SEQ", "+MAP"):
+            out += ((" []" if e[0] == "+SEQ" else " {}") if e[1] else "") + properties(e[2], e[3])
+        elif e[0] == "=VAL":
+            out += properties(e[1], e[2]) + " " + e[3] + e[4]
+        elif e[0] == "=ALI":
+            out += " *" + e[1]
     return out
 
 
 def answer(text):
     lists = shadow.event_lists(text, True, 1024)
     assert len(lists) < 2, text
-    return shown(next(iter(lists))) if lists else 'refused'
+    return shown(next(iter(lists))) if lists else "refused"
 
 
 def literal(s):
-    marks = {'\\': '\\\\', '"': '\\"', '\n': '\\n', '\t': '\\t', '\r': '\\r'}
-    return '"' + ''.join(marks.get(c, c) for c in s) + '"'
+    marks = {"\\": "\\\\", '"': '\\"', "\n": "\\n", "\t": "\\t", "\r": "\\r"}
+    return '"' + "".join(marks.get(c, c) for c in s) + '"'
 
 
 def rows(count):
     texts = sorted(random_texts(8 * count))
     answers = [(t, answer(t)) for t in texts]
     read = [r for r in answers if len(r[1]) > 20]
-    none = [r for r in answers if r[1] == 'refused']
+    none = [r for r in answers if r[1] == "refused"]
     chosen = sorted(random.sample(read, 2 * count // 3) + random.sample(none, count - 2 * count // 3))
-    print('//! A sample of random streams, with the events that the definitions give them (`tools/definitions/sample.py rows`).')
-    print('use crate::rows::{Row, agree};\nuse std::test::Fail;\n')
+    print("//! A sample of random streams, with the events that the definitions give them (`tools/definitions/sample.py rows`).")
+    print("use crate::rows::{Row, agree};\nuse std::test::Fail;\n")
     size = 40
     for k in range(0, len(chosen), size):
-        part = chosen[k:k + size]
-        name = 'SAMPLE_%d' % (k // size + 1)
-        print('static %s: [Row; %d] = [' % (name, len(part)))
+        part = chosen[k : k + size]
+        name = "SAMPLE_%d" % (k // size + 1)
+        print("static %s: [Row; %d] = [" % (name, len(part)))
         for text, events in part:
-            print('    Row { input: %s, answer: %s },' % (literal(text), literal(events)))
-        print('];\n\n#[test]\nfn agrees_with_the_definitions_%d(rt: HostRuntime) -> Result<(), Fail> {\n    agree(&rt, &%s)\n}\n' % (k // size + 1, name))
+            print("    Row { input: %s, answer: %s }," % (literal(text), literal(events)))
+        print(
+            "];\n\n#[test]\nfn agrees_with_the_definitions_%d(rt: HostRuntime) -> Result<(), Fail> {\n    agree(&rt, &%s)\n}\n"
+            % (k // size + 1, name)
+        )
 
 
 def compare(count):
-    texts, got, differ = all_texts(count), sys.stdin.read().split('\n')[:-1], 0
+    texts, got, differ = all_texts(count), sys.stdin.read().split("\n")[:-1], 0
     assert len(texts) == len(got), (len(texts), len(got))
     for text, line in zip(texts, got):
-        want = answer(text).replace('\n', '\\n').replace('\r', '\\r')
-        if (want != 'refused' and line != want) or (want == 'refused' and not line[:1].isdigit()):
+        want = answer(text).replace("\n", "\\n").replace("\r", "\\r")
+        if (want != "refused" and line != want) or (want == "refused" and not line[:1].isdigit()):
             differ += 1
-            print('%r: read %s, defined %s' % (text, line, want))
-    print('%d texts, %d differ' % (len(texts), differ))
+            print("%r: read %s, defined %s" % (text, line, want))
+    print("%d texts, %d differ" % (len(texts), differ))
 
 
-if __name__ == '__main__':
-    command, count = sys.argv[1], int(sys.argv[2])
-    random.seed(int(sys.argv[3]))
-    if command == 'rows':
-        rows(count)
-    elif command == 'hex':
-        print('\n'.join(t.encode().hex() for t in all_texts(count)))
-    elif command == 'compare':
-        compare(count)
+def main(words=None):
+    given = parser("tools/definitions/sample.py", __doc__)
+    given.add_argument("command", choices=("rows", "hex", "compare"))
+    given.add_argument("count", type=int, metavar="COUNT")
+    given.add_argument("seed", type=int, metavar="SEED")
+    options = given.parse_args(words)
+    random.seed(options.seed)
+    if options.command == "rows":
+        rows(options.count)
+    elif options.command == "hex":
+        print("\n".join(t.encode().hex() for t in all_texts(options.count)))
+    else:
+        compare(options.count)
+
+
+if __name__ == "__main__":
+    main()

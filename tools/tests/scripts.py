@@ -6,13 +6,12 @@ import io
 import os
 import sys
 
-sys.dont_write_bytecode = True
 TOP = os.path.dirname(os.path.dirname(os.path.dirname(os.path.realpath(__file__))))
+sys.path[:0] = [f"{TOP}/tools", TOP]  # for lib and bench.lib
 
 
 def load(path):
     """The tool at this path from the top of the repository."""
-    sys.path.insert(0, os.path.dirname(f"{TOP}/{path}"))
     name = os.path.basename(path).replace("-", "_")
     loader = importlib.machinery.SourceFileLoader(name, f"{TOP}/{path}")
     module = importlib.util.module_from_spec(importlib.util.spec_from_loader(name, loader))

@@ -15,7 +15,9 @@ class Left(unittest.TestCase):
         self.build = BUILD.Build("yaml_tool", "yamlcanon")
 
     def test_nothing_is_proved(self):
-        self.assertEqual(self.build.seconds_left(), max(max(self.build.chain.values()), sum(self.build.seconds.values()) / self.build.processors))
+        self.assertEqual(
+            self.build.seconds_left(), max(max(self.build.chain.values()), sum(self.build.seconds.values()) / self.build.processors)
+        )
 
     def test_one_crate_is_left(self):
         self.build.proved = set(self.build.names) - {"yaml_tool"}
@@ -57,7 +59,10 @@ class Left(unittest.TestCase):
     def test_a_crate_that_is_not_proved(self):
         status, lines, files = self.run_with(lambda name, jobs, niceness: (name != "yaml_text", name))
         self.assertEqual((status, files), (3, ["log"]))
-        self.assertEqual([line for line in lines if "was not proved" in line], [f"yamlcanon: yaml_text was not proved and built: {self.build.log} says why"])
+        self.assertEqual(
+            [line for line in lines if "was not proved" in line],
+            [f"yamlcanon: yaml_text was not proved and built: {self.build.log} says why"],
+        )
 
 
 if __name__ == "__main__":

@@ -1,14 +1,10 @@
 """Tests of tools/contracts: which functions it takes from a source, and what it shows of them."""
 import os
-import sys
 import tempfile
 import unittest
 
-sys.dont_write_bytecode = True
-TOP = os.path.dirname(os.path.dirname(os.path.dirname(os.path.realpath(__file__))))
-sys.path.insert(0, f"{TOP}/tools")
-
-from statements.calls import calls_of, libraries_of, summary_of  # noqa: E402
+from scripts import TOP
+from lib.statement.calls import calls_of, libraries_of, summary_of
 
 ROOT = """\
 //! What the crate
@@ -93,8 +89,10 @@ class OfASource(unittest.TestCase):
         self.assertEqual(self.summary, "What the crate is for.")
 
     def test_head_and_clauses_are_as_they_are_in_the_source(self):
-        self.assertEqual(self.calls["first"].lines,
-                         ["pub fn first(a: &[u8]) -> usize", "    requires few { length a ≤ 3 }", "    ensures { result ≡ 1 }"])
+        self.assertEqual(
+            self.calls["first"].lines,
+            ["pub fn first(a: &[u8]) -> usize", "    requires few { length a ≤ 3 }", "    ensures { result ≡ 1 }"],
+        )
         self.assertEqual(self.calls["Store::at"].lines[-1], "        ensures { result ≡ 2 }")
         self.assertEqual(self.calls["bare"].lines, ["pub fn bare() -> usize"])
 
@@ -113,7 +111,9 @@ class OfTheTree(unittest.TestCase):
         for crate in (it for it in libraries_of(TOP) if it.startswith("law_")):
             with open(f"{TOP}/crates/{crate}/src/laws.rt", encoding="utf-8") as file:
                 wanted = [line.rstrip("\n") for line in file if line.lstrip().startswith(("ensures", "requires"))]
-            taken = [line for it in calls_of(f"{TOP}/crates", crate) for line in it.lines if line.lstrip().startswith(("ensures", "requires"))]
+            taken = [
+                line for it in calls_of(f"{TOP}/crates", crate) for line in it.lines if line.lstrip().startswith(("ensures", "requires"))
+            ]
             self.assertTrue(wanted)
             self.assertEqual(taken, wanted)
 

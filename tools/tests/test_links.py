@@ -42,7 +42,9 @@ class Links(unittest.TestCase):
             with open(f"{folder}/lib.rt", "w", encoding="utf-8") as file:
                 file.write("one\ntwo\n")
             _, said = run(LINKS.main, folder)
-        self.assertEqual(said.splitlines(), ["README.md:1: lib.rt#L9: lib.rt has no line 9", "README.md:1: lib.rt#name: lib.rt is no page with headings"])
+        self.assertEqual(
+            said.splitlines(), ["README.md:1: lib.rt#L9: lib.rt has no line 9", "README.md:1: lib.rt#name: lib.rt is no page with headings"]
+        )
 
     def test_absolute_path_and_path_out_of_the_repository(self):
         self.assertEqual(len(self.faults(README="[a](/b.md) [c](../c.md)", b="x\n")), 2)

@@ -10,8 +10,11 @@ from scripts import load, run
 REPORT = load("bench/report")
 README = "`canon` takes {} times the processor time of libyaml's parser alone. On files its peak memory is at most {} times the size of the input.\n"
 VALUES = [
-    ("speed/mappings/size", 10_000_105, "bytes", ""), ("speed/mappings/time", 0.9183, "times libyaml's parser", "0.87..1.01"),
-    ("speed/mappings/memory", 2.66, "times the input", ""), ("speed/keys/memory", 6.97, "times the input", ""), ("stack/canon", 1310, "kB", "flow mappings"),
+    ("speed/mappings/size", 10_000_105, "bytes", ""),
+    ("speed/mappings/time", 0.9183, "times libyaml's parser", "0.87..1.01"),
+    ("speed/mappings/memory", 2.66, "times the input", ""),
+    ("speed/keys/memory", 6.97, "times the input", ""),
+    ("stack/canon", 1310, "kB", "flow mappings"),
 ]
 
 
@@ -38,7 +41,9 @@ class Report(unittest.TestCase):
         return REPORT.read(f"{self.top}/{REPORT.PAGE}")
 
     def test_page_has_the_values(self):
-        self.assertIn("| block mappings, as configuration files have them | 10.0 MB | 0.92 (0.87 to 1.01) | 2.7 times the text |", self.page())
+        self.assertIn(
+            "| block mappings, as configuration files have them | 10.0 MB | 0.92 (0.87 to 1.01) | 2.7 times the text |", self.page()
+        )
         self.assertIn("| `canon` | 1,310 kB |", self.page())
 
     def test_what_was_not_measured_is_left_out(self):
@@ -94,6 +99,7 @@ class Report(unittest.TestCase):
         def stack(_):
             yield "stack/canon", 1400, "kB", "x"
             raise REPORT.LeftOut("events")
+
         kept = REPORT.PARTS["stack"]
         self.addCleanup(lambda: REPORT.PARTS.__setitem__("stack", kept))
         REPORT.PARTS["stack"] = stack

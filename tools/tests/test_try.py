@@ -37,8 +37,14 @@ class Try(unittest.TestCase):
             os.chmod(f"{path}/rt", 0o755)
         for name in ("python3", "sh", "cat"):
             os.symlink(subprocess.check_output(["sh", "-c", f"command -v {name}"], text=True).strip(), f"{path}/{name}")
-        ran = subprocess.run([f"{TOP}/tools/try", *words], cwd=self.here, input=given, capture_output=True, check=False,
-                             env={**os.environ, "PATH": path if not rt else f"{path}:{os.environ['PATH']}"})
+        ran = subprocess.run(
+            [f"{TOP}/tools/try", *words],
+            cwd=self.here,
+            input=given,
+            capture_output=True,
+            check=False,
+            env={**os.environ, "PATH": path if not rt else f"{path}:{os.environ['PATH']}"},
+        )
         return ran.returncode, ran.stdout.decode().splitlines(), ran.stderr.decode()
 
     def test_files_status_and_streams(self):
@@ -46,7 +52,10 @@ class Try(unittest.TestCase):
         up = os.path.realpath(f"{self.folder.name}/up.yaml")
         self.assertEqual(status, 2)
         self.assertEqual(lines[0], f"{TOP}/crates/yaml_tool")
-        self.assertEqual(lines[1:], ["try", "--seconds", "600", "--data", f"sub/a.yaml={os.path.realpath(self.here)}/sub/a.yaml", "--", "same", "sub/a.yaml", up])
+        self.assertEqual(
+            lines[1:],
+            ["try", "--seconds", "600", "--data", f"sub/a.yaml={os.path.realpath(self.here)}/sub/a.yaml", "--", "same", "sub/a.yaml", up],
+        )
         self.assertIn("nothing is proved in this run", said)
         self.assertTrue(said.endswith("yaml: said\n"), said)
 
@@ -70,7 +79,10 @@ class Try(unittest.TestCase):
 
     def test_no_rt(self):
         status, _, said = self.run_with(None, "canon", "sub/a.yaml")
-        self.assertEqual((status, said), (3, "try: rt, the command of the Rattle kit, is not found: install the kit, or a package that has the program built\n"))
+        self.assertEqual(
+            (status, said),
+            (3, "try: rt, the command of the Rattle kit, is not found: install the kit, or a package that has the program built\n"),
+        )
 
     def test_names_that_lead_out(self):
         inside = {"a.yaml": True, "./b/a.yaml": True, "../a.yaml": False, "b/../../a": False, "/a": False, "stdin": False, "a=b": False}

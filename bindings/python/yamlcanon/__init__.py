@@ -1,12 +1,23 @@
-"""The canonical text of YAML 1.2 streams, and whether two streams mean the same (libyamlcanon by ctypes).
+r"""The canonical text of YAML 1.2 streams, and whether two streams mean the same (libyamlcanon by ctypes).
 
-    canonical(data) -> bytes    the canonical text
-    events(data) -> bytes       the events, in the notation of yaml-test-suite
-    same(left, right) -> bool   whether two streams mean the same
-    library_version() -> int    the version of the library that answers, 100 for 1.0
+    canonical(data) -> bytes          the canonical text
+    canonical_file(path) -> bytes     the canonical text of a file
+    events(data) -> bytes             the events, in the notation of yaml-test-suite
+    same(left, right) -> bool         whether two streams mean the same
+    library_version() -> int          the version of the library that is loaded, 100 for 1.0
+    FORM, __version__                 the form of the canonical texts, the version of this module
 
-`data` is bytes, a bytearray or a memoryview. What is refused raises Refused; what needs more memory than there is, MemoryError.
+`data` is bytes, a bytearray, a memoryview, or a str, which stands for its bytes in UTF-8. An input that is rejected raises
+Refused, whose `kind` is one of Kind. What needs more memory than there is raises MemoryError.
 Each call lets Python's lock go, holds no state, and may run on any number of threads, also on those with a small stack.
+
+>>> canonical("{b: 0x1, a: [~]}")
+b'--- {"a" : [!!null "null"], "b" : !!int "1"}\n'
+>>> try:
+...     canonical(b"port: 80\nhost:\tweb\n")
+... except Refused as fault:
+...     print(f"line {fault.line}, column {fault.column}: {fault}")
+line 2, column 6: 5 Tab at byte 14
 """
 
 import ctypes
@@ -15,51 +26,29 @@ import threading
 from ctypes import POINTER, Structure, byref, c_char, c_char_p, c_size_t, c_uint32, c_uint64, c_void_p
 from typing import Any, Callable, List, Optional, Tuple, TypeVar, Union
 
-__all__ = ["Refused", "canonical", "events", "library_version", "same"]
+from yamlcanon.refused import Kind, Refused
 
-Data = Union[bytes, bytearray, memoryview]
+__all__ = ["FORM", "Kind", "Refused", "__version__", "canonical", "canonical_file", "events", "library_version", "same"]
+
+__version__ = "1.0.0"
+# The form of the texts: yamlcanon-form-1. Another form has another soname, and with it another version of each exported name.
+FORM = 1
+
+Data = Union[bytes, bytearray, memoryview, str]
 _Answer = TypeVar("_Answer")
 
 _DONE, _DIFFERENT, _REFUSED, _SHORT = range(4)
 _OUT_OF_MEMORY = 21
 # The interface that this module calls: YAMLCANON_VERSION of the header that it was written by, of which a library may have more.
 _INTERFACE = 100
-# The form of the texts. Another form has another soname, and with it another version of each exported name.
-_FORM = 1
+# No input has more bytes than this, so no more than one beyond it is read.
+_LONGEST = 67_108_864
 # What a call on n bytes takes of the stack at most: a level of nesting 1.5 KiB, of which a byte opens at most one, up to 1,024.
 _STACK_BASE, _STACK_LEVEL, _MOST_LEVELS = 256 << 10, 1536, 1024
 # The stack of a thread to which a call is handed.
 _STACK_GIVEN = 8 << 20
-# The parts of x86-64-v2, as the kernel names them.
-_LEVEL = ("cx16", "lahf_lm", "popcnt", "pni", "sse4_1", "sse4_2", "ssse3")
 # A thread keeps its room between calls up to this many bytes.
 _ROOM_KEPT, _ROOM_LEAST = 1 << 20, 16384
-
-
-class Refused(ValueError):
-    """An input is refused: `number` 1 to 20, `name`, `place` and so on as in yamlcanon.h; `str` is the program's line.
-
-    `side` is 'left' or 'right' where it was `same`, else None. It can be pickled, so it comes whole out of a pool.
-    """
-
-    def __init__(
-        self, number: int, name: str, place: int = 0, first: int = 0, second: int = 0, side: Optional[str] = None
-    ) -> None:
-        super().__init__(number, name, place, first, second, side)
-        self.number, self.name, self.place = number, name, place
-        self.first, self.second, self.side = first, second, side
-
-    def __str__(self) -> str:
-        at = ""
-        if 2 <= self.number <= 11:
-            at = f" at byte {self.place}"
-        elif 12 <= self.number <= 17:
-            at = f" at event {self.place}"
-        elif self.number == 18:
-            at = f" in document {self.place}"
-        elif self.number == 19:
-            at = f" in node {self.place}, entries {self.first} and {self.second}"
-        return f"{self.side + ': ' if self.side else ''}{self.number} {self.name}{at}"
 
 
 class _Fault(Structure):
@@ -72,24 +61,13 @@ class _Fault(Structure):
         ("name", c_char * 16),
     ]
 
-    def raised(self, of_two: bool = False) -> Exception:
+    def raised(self, *inputs: bytes) -> Exception:
+        """What a call on this input, or on these two, raises."""
         if self.number == _OUT_OF_MEMORY:
             return MemoryError("yamlcanon: 21 OutOfMemory")
-        side = ("left", "right")[self.side] if of_two else None
-        return Refused(self.number, self.name.decode(), self.place, self.first, self.second, side)
-
-
-def _lacking(told: str = "/proc/cpuinfo") -> List[str]:
-    """What the processor lacks of x86-64-v2, for which the library is built; nothing where the system does not tell.
-
-    From glibc 2.33 on the loader refuses the library there too, in words of its own.
-    """
-    try:
-        with open(told, encoding="ascii", errors="replace") as file:
-            flags = next((line.partition(":")[2].split() for line in file if line.startswith("flags")), None)
-    except OSError:
-        return []
-    return [] if flags is None else [flag for flag in _LEVEL if flag not in flags]
+        side = ("left", "right")[self.side] if len(inputs) > 1 else None
+        fault = Refused(self.number, self.name.decode(), self.place, self.first, self.second, side)
+        return fault.locate(inputs[self.side])
 
 
 class _Named(Structure):
@@ -121,7 +99,7 @@ def _has_form(lib: ctypes.CDLL) -> bool:
     if not hasattr(_libc, "dlvsym"):
         return True
     _libc.dlvsym.restype = c_void_p
-    return bool(_libc.dlvsym(c_void_p(lib._handle), b"yamlcanon_canonical", b"YAMLCANON_%d" % _FORM))
+    return bool(_libc.dlvsym(c_void_p(lib._handle), b"yamlcanon_canonical", b"YAMLCANON_%d" % FORM))
 
 
 def _look_at(lib: ctypes.CDLL, named: str) -> str:
@@ -130,17 +108,16 @@ def _look_at(lib: ctypes.CDLL, named: str) -> str:
     file, (major, minor) = _file_of(lib, named), divmod(_INTERFACE, 100)
     if found // 100 != major or found < _INTERFACE:
         has = "%d.%d" % divmod(found, 100)
-        raise ImportError(f"yamlcanon: {file} has version {has} of the interface, and this module needs {major}.{minor} or a later {major}.x")
+        raise ImportError(
+            f"yamlcanon: {file} has version {has} of the interface, and this module needs {major}.{minor} or a later {major}.x"
+        )
     if not _has_form(lib):
-        raise ImportError(f"yamlcanon: {file} has no yamlcanon_canonical of YAMLCANON_{_FORM}: this module needs a library of form {_FORM}")
+        raise ImportError(f"yamlcanon: {file} has no yamlcanon_canonical of YAMLCANON_{FORM}: this module needs a library of form {FORM}")
     return file
 
 
 def _load() -> Tuple[ctypes.CDLL, str]:
     """The library, and the file that it was loaded from."""
-    lacking = _lacking()
-    if lacking:
-        raise ImportError("yamlcanon: this processor lacks %s: x86-64-v2 is needed" % ", ".join(lacking))
     beside = os.path.join(os.path.dirname(__file__), "libyamlcanon.so.1")
     named = os.environ.get("YAMLCANON_LIBRARY") or (beside if os.path.exists(beside) else "libyamlcanon.so.1")
     lib = ctypes.CDLL(named)
@@ -156,10 +133,12 @@ def _load() -> Tuple[ctypes.CDLL, str]:
 _libc = ctypes.CDLL(None)
 _lib, _library_file = _load()
 _starting = threading.Lock()
-# Puts the registers of this thread into memory, without letting Python's lock go; where it puts the stack pointer (REG_RSP); and more
-# bytes than it writes. On other machines what is left of the stack is not known, and each call is made on a thread of its own.
-_registers = getattr(ctypes.PyDLL(None), "getcontext", None) if os.uname().machine == "x86_64" else None
-_POINTER_AT, _REGISTERS = 160, 4096
+# Where getcontext of glibc puts the stack pointer into its ucontext_t, by machine, and more bytes than it writes.
+_POINTERS_AT = {"x86_64": 160, "aarch64": 432}
+_POINTER_AT, _REGISTERS = _POINTERS_AT.get(os.uname().machine, 0), 8192
+# Puts the registers of this thread into memory, without letting Python's lock go. On other machines, and where the C library has no
+# such call, what is left of the stack is not known, and each call is made on a thread of its own.
+_registers = getattr(ctypes.PyDLL(None), "getcontext", None) if _POINTER_AT else None
 
 
 def _stack_range() -> Tuple[int, int]:
@@ -233,7 +212,15 @@ def _elsewhere(work: Callable[..., _Answer], *words: Any) -> _Answer:
 
 
 def _bytes(data: Data) -> bytes:
-    return data if type(data) is bytes else bytes(memoryview(data))
+    if type(data) is bytes:
+        return data
+    if isinstance(data, str):
+        return data.encode()
+    try:
+        return bytes(memoryview(data))
+    except TypeError:
+        told = f"yamlcanon: an input is bytes, bytearray, memoryview or str, not {type(data).__name__}; canonical_file takes a path"
+        raise TypeError(told) from None
 
 
 def _text(call: Any, data: bytes) -> bytes:
@@ -250,7 +237,7 @@ def _text_here(call: Any, data: bytes) -> bytes:
         room = _thread.take_room(length.value)
         status = call(data, len(data), room, len(room), byref(length), byref(fault))
     if status != _DONE:
-        raise fault.raised()
+        raise fault.raised(data)
     text = bytes(memoryview(room)[: length.value])
     _thread.keep_room(room)
     return text
@@ -260,22 +247,62 @@ def _same_here(left: bytes, right: bytes) -> bool:
     fault = _Fault()
     status = _lib.yamlcanon_same(left, len(left), right, len(right), byref(fault))
     if status == _REFUSED:
-        raise fault.raised(of_two=True)
+        raise fault.raised(left, right)
     return bool(status == _DONE)
 
 
 def canonical(data: Data) -> bytes:
-    """The canonical text of a stream's bytes."""
+    r"""The canonical text of a stream. It is UTF-8, and empty for a stream without documents.
+
+    >>> canonical("b: 0x10\na: &b [x]\nc: *b")
+    b'--- {"a" : &a1 ["x"], "b" : !!int "16", "c" : *a1}\n'
+    >>> canonical(b"{a: 1, a: 2}")
+    Traceback (most recent call last):
+    yamlcanon.Refused: 19 EqualKeys in node 4, entries 0 and 1
+    """
     return _text(_lib.yamlcanon_canonical, _bytes(data))
 
 
+def canonical_file(path: Union[str, bytes, "os.PathLike[Any]"]) -> bytes:
+    r"""The canonical text of a file. A file that is longer than an input may be is rejected, and not read to its end.
+
+    >>> import os, tempfile
+    >>> with tempfile.TemporaryDirectory() as room:
+    ...     name = os.path.join(room, "app.yaml")
+    ...     with open(name, "w") as file:
+    ...         _ = file.write("port: 0x50\n")
+    ...     canonical_file(name)
+    b'--- {"port" : !!int "80"}\n'
+    """
+    with open(path, "rb") as file:
+        return canonical(file.read(_LONGEST + 1))
+
+
 def events(data: Data) -> bytes:
-    """The events of a stream's bytes, in the notation of yaml-test-suite."""
+    """The events of a stream, in the notation of yaml-test-suite.
+
+    >>> print(events("- &x a\\n- *x").decode(), end="")
+    +STR
+    +DOC
+    +SEQ
+    =VAL &x :a
+    =ALI *x
+    -SEQ
+    -DOC
+    -STR
+    """
     return _text(_lib.yamlcanon_events, _bytes(data))
 
 
 def same(left: Data, right: Data) -> bool:
-    """Whether two streams mean the same."""
+    """Whether two streams mean the same. Refused has the `side` of the input that is rejected.
+
+    >>> same("a: 0x3", "{a: 3}"), same("a: 3", "a: '3'")
+    (True, False)
+    >>> same("a: 3", "a: '3")
+    Traceback (most recent call last):
+    yamlcanon.Refused: right: 4 Syntax at byte 5
+    """
     left, right = _bytes(left), _bytes(right)
     if not _thread.has_stack_for(max(len(left), len(right))):
         return _elsewhere(_same_here, left, right)
@@ -283,5 +310,5 @@ def same(left: Data, right: Data) -> bool:
 
 
 def library_version() -> int:
-    """The version of the library that answers, as YAMLCANON_VERSION in yamlcanon.h: 100 for 1.0."""
+    """The version of the library that is loaded, as YAMLCANON_VERSION in yamlcanon.h: 100 for 1.0."""
     return int(_lib.yamlcanon_version())

@@ -92,7 +92,7 @@ def library_key() -> str:
         for piece in iter(lambda: file.read(1 << 20), b""):
             over.update(piece)
     major, minor = divmod(yamlcanon.library_version(), 100)
-    return f"form{yamlcanon._FORM} {major}.{minor} {over.hexdigest()[:16]}"
+    return f"form{yamlcanon.FORM} {major}.{minor} {over.hexdigest()[:16]}"
 
 
 def meaning(data: bytes) -> Meaning:

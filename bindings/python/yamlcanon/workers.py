@@ -18,7 +18,7 @@ import os
 import select
 import signal
 from types import TracebackType
-from typing import Any, Callable, Dict, Iterator, List, NoReturn, Optional, Type
+from typing import Any, Callable, Iterator, List, NoReturn, Optional, Type
 
 __all__ = ["Killed", "Workers"]
 

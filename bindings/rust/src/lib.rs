@@ -1,17 +1,72 @@
 //! The canonical text of YAML 1.2 streams, and whether two streams mean the same: safe calls over libyamlcanon.
 //!
+//! ```
+//! let text = yamlcanon::canonical(b"{b: 0x1, a: [~]}")?;
+//! assert_eq!(text, b"--- {\"a\" : [!!null \"null\"], \"b\" : !!int \"1\"}\n");
+//! assert!(yamlcanon::same(b"a: 0x3", b"{a: 3}")?);
+//! # Ok::<(), yamlcanon::Refused>(())
+//! ```
+//!
 //! A call may be made on any thread. A level of nesting is given 1.5 KiB of stack, 1,024 of them 1.5 MiB, and where less is
-//! left than an input of this length may take, the call is made on a thread of its own that has 8 MiB. The library is
-//! built for x86-64-v2, and a call on a lesser processor panics before anything of it runs.
+//! left than an input of this length may take, the call is made on a thread of its own that has 8 MiB.
 #![warn(missing_docs)]
 
 use std::{error, fmt, thread};
+
+/// The form of the texts that [`canonical`] gives: yamlcanon-form-1. A library of another form has another name, and is not linked.
+pub const FORM: u32 = 1;
 
 // What a call on n bytes takes of the stack at most: a byte opens one level of nesting at most, up to 1,024.
 const STACK_BASE: usize = 256 << 10;
 const STACK_LEVEL: usize = 1536;
 const MOST_LEVELS: usize = 1024;
 const STACK_GIVEN: usize = 8 << 20;
+
+/// The kinds of errors. The numbers and names are those that the program prints.
+///
+/// ```
+/// use yamlcanon::{canonical, Kind};
+/// let fault = canonical(b"{1: a, 0x1: b}").unwrap_err();
+/// assert_eq!(fault.kind(), Kind::EqualKeys);
+/// assert_eq!(fault.kind() as u32, 19);
+/// ```
+#[derive(Clone, Copy, Debug, PartialEq, Eq, PartialOrd, Ord, Hash)]
+#[allow(missing_docs)] // docs/using/YAML.md says what each means
+#[non_exhaustive]
+pub enum Kind {
+    /// A number that this crate does not know.
+    Other = 0,
+    TooLong,
+    NotUtf8,
+    NotPrintable,
+    Syntax,
+    Tab,
+    KeyTooLong,
+    TooDeep,
+    BadEscape,
+    BadDirective,
+    UnknownHandle,
+    BadTag,
+    UndefinedAlias,
+    CyclicAlias,
+    WrongKind,
+    BadContent,
+    IntRange,
+    FloatRange,
+    TooHigh,
+    EqualKeys,
+    TextTooLong,
+    /// Memory was refused. This says nothing of the input.
+    OutOfMemory,
+}
+
+use Kind::*;
+
+// Each kind at the place of its number.
+const KINDS: [Kind; 22] = [
+    Other, TooLong, NotUtf8, NotPrintable, Syntax, Tab, KeyTooLong, TooDeep, BadEscape, BadDirective, UnknownHandle, BadTag,
+    UndefinedAlias, CyclicAlias, WrongKind, BadContent, IntRange, FloatRange, TooHigh, EqualKeys, TextTooLong, OutOfMemory,
+];
 
 /// Which of two inputs.
 #[derive(Clone, Copy, Debug, PartialEq, Eq)]
@@ -22,15 +77,22 @@ pub enum Side {
     Right,
 }
 
-/// Why an input is refused. Its text is the program's line.
-#[derive(Clone, Copy, Debug, PartialEq, Eq)]
+/// Why an input is rejected. Its text is the message that the program prints.
+///
+/// ```
+/// use yamlcanon::{same, Kind, Side};
+/// let fault = same(b"port: 80", b"port: 80\nhost:\tweb\n").unwrap_err();
+/// assert_eq!((fault.kind(), fault.side, fault.place), (Kind::Tab, Some(Side::Right), 14));
+/// assert_eq!(fault.to_string(), "right: 5 Tab at byte 14");
+/// ```
+#[derive(Clone, Copy, PartialEq, Eq)]
 #[non_exhaustive]
 pub struct Refused {
     /// 1 to 21, as in yamlcanon.h. 21, OutOfMemory, says nothing of the input.
     pub number: u32,
-    /// The input that is refused, where there are two.
+    /// The input that is rejected, where there are two.
     pub side: Option<Side>,
-    /// A byte, an event, a document or a node, by the number; 0 where the fault has none.
+    /// A byte offset for 2 to 11, an event for 12 to 17, a document for 18, a node for 19; else 0.
     pub place: u64,
     /// The two entries of 19, EqualKeys; else 0.
     pub entries: (u64, u64),
@@ -38,6 +100,32 @@ pub struct Refused {
 }
 
 impl Refused {
+    /// Which kind of error it is.
+    pub fn kind(&self) -> Kind {
+        KINDS.get(self.number as usize).copied().unwrap_or(Other)
+    }
+
+    /// The line and the column, both from 1, of the byte offset in the input that is rejected, as `yamlreview faults` counts them. A
+    /// line ends with a line feed, a carriage return, or both (YAML 1.2.2, 5.4). A column counts characters. A byte order mark has none.
+    ///
+    /// ```
+    /// let input = b"port: 80\nhost:\tweb\n";
+    /// let fault = yamlcanon::canonical(input).unwrap_err();
+    /// assert_eq!(fault.position(input), Some((2, 6)));
+    /// ```
+    pub fn position(&self, input: &[u8]) -> Option<(usize, usize)> {
+        let text = input.strip_prefix(b"\xef\xbb\xbf").unwrap_or(input);
+        let at = (self.place as usize).saturating_sub(input.len() - text.len());
+        if !(NotUtf8..=BadTag).contains(&self.kind()) || at > text.len() {
+            return None;
+        }
+        let ends_line = |k: usize| text[k] == b'\n' || (text[k] == b'\r' && text.get(k + 1) != Some(&b'\n'));
+        let start = (0..at).rev().find(|&k| ends_line(k)).map_or(0, |k| k + 1);
+        let line = 1 + (0..start).filter(|&k| ends_line(k)).count();
+        let column = 1 + text[start..at].iter().filter(|&&byte| byte & 0xc0 != 0x80).count();
+        Some((line, column))
+    }
+
     /// The fault's name, as `EqualKeys`.
     pub fn name(&self) -> &str {
         let end = self.name.iter().position(|&byte| byte == 0).unwrap_or(16);
@@ -45,9 +133,17 @@ impl Refused {
     }
 }
 
+impl fmt::Debug for Refused {
+    fn fmt(&self, f: &mut fmt::Formatter<'_>) -> fmt::Result {
+        let mut told = f.debug_struct("Refused");
+        told.field("number", &self.number).field("name", &self.name()).field("side", &self.side);
+        told.field("place", &self.place).field("entries", &self.entries).finish()
+    }
+}
+
 impl fmt::Display for Refused {
     fn fmt(&self, f: &mut fmt::Formatter<'_>) -> fmt::Result {
-        match self.side {
+        match self.side.filter(|_| self.kind() != OutOfMemory) {
             Some(Side::Left) => write!(f, "left: ")?,
             Some(Side::Right) => write!(f, "right: ")?,
             None => {}
@@ -130,18 +226,8 @@ fn stack_left() -> usize {
     0
 }
 
-/// Ends the call where the processor is less than x86-64-v2, for which the library is built. std keeps what it has found out.
-fn look_at_processor() {
-    #[cfg(target_arch = "x86_64")]
-    {
-        let is_enough = is_x86_feature_detected!("sse4.2") && is_x86_feature_detected!("popcnt") && is_x86_feature_detected!("cmpxchg16b");
-        assert!(is_enough, "yamlcanon: this processor is less than x86-64-v2, which is needed");
-    }
-}
-
 /// Does some work on inputs of at most so many bytes where there is stack enough for it.
 fn with_stack<T: Send>(size: usize, work: impl FnOnce() -> T + Send) -> T {
-    look_at_processor();
     if stack_left() >= STACK_BASE + STACK_LEVEL * size.min(MOST_LEVELS) {
         return work();
     }
@@ -169,17 +255,34 @@ fn text(call: TextCall, input: &[u8]) -> Result<Vec<u8>, Refused> {
     })
 }
 
-/// The canonical text of a stream's bytes. It is UTF-8.
+/// The canonical text of a stream's bytes. It is UTF-8, and empty for a stream without documents.
+///
+/// ```
+/// let text = yamlcanon::canonical(b"b: 0x10\na: &x [y]\nc: *x\n")?;
+/// assert_eq!(text, b"--- {\"a\" : &a1 [\"y\"], \"b\" : !!int \"16\", \"c\" : *a1}\n");
+/// # Ok::<(), yamlcanon::Refused>(())
+/// ```
 pub fn canonical(input: &[u8]) -> Result<Vec<u8>, Refused> {
     text(yamlcanon_canonical, input)
 }
 
 /// The events of a stream's bytes, in the notation of yaml-test-suite.
+///
+/// ```
+/// assert_eq!(yamlcanon::events(b"- a")?, b"+STR\n+DOC\n+SEQ\n=VAL :a\n-SEQ\n-DOC\n-STR\n");
+/// # Ok::<(), yamlcanon::Refused>(())
+/// ```
 pub fn events(input: &[u8]) -> Result<Vec<u8>, Refused> {
     text(yamlcanon_events, input)
 }
 
 /// Whether two streams mean the same.
+///
+/// ```
+/// assert!(yamlcanon::same(b"a: 0x3", b"{a: 3}")?);
+/// assert!(!yamlcanon::same(b"a: 3", b"a: '3'")?);
+/// # Ok::<(), yamlcanon::Refused>(())
+/// ```
 pub fn same(left: &[u8], right: &[u8]) -> Result<bool, Refused> {
     with_stack(left.len().max(right.len()), || {
         let mut fault = Fault::default();

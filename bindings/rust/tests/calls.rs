@@ -1,5 +1,5 @@
 use std::thread;
-use yamlcanon::{canonical, events, same, Side};
+use yamlcanon::{canonical, events, same, Kind, Side, FORM};
 
 /// Block mappings, each with a tag and an anchor on lines of their own.
 fn blocks(levels: usize) -> String {
@@ -39,6 +39,74 @@ fn same_and_refused() {
     assert_eq!((fault.number, fault.name(), fault.side), (19, "EqualKeys", Some(Side::Right)));
     assert_eq!(fault.to_string(), "right: 19 EqualKeys in node 4, entries 0 and 1");
     assert_eq!(canonical(b"- a\n\t- b").unwrap_err().to_string(), "5 Tab at byte 4");
+}
+
+/// An input for each kind of error that needs no long one, in order of the numbers.
+const REFUSED: [(Kind, &[u8]); 15] = [
+    (Kind::NotUtf8, b"\xff"),
+    (Kind::NotPrintable, b"a\0"),
+    (Kind::Syntax, b"[a"),
+    (Kind::Tab, b"a:\tb"),
+    (Kind::BadEscape, b"\"\\q\""),
+    (Kind::BadDirective, b"%YAML 1.3\n---\n"),
+    (Kind::UnknownHandle, b"!e!x v"),
+    (Kind::BadTag, b"!!%ff x"),
+    (Kind::UndefinedAlias, b"[*x]"),
+    (Kind::CyclicAlias, b"&a [*a]"),
+    (Kind::WrongKind, b"!!seq x"),
+    (Kind::BadContent, b"!!int x"),
+    (Kind::IntRange, b"0xffffffffffffffffffffffffffffffff"),
+    (Kind::FloatRange, b"1e-1000001"),
+    (Kind::EqualKeys, b"{1: a, 0x1: b}"),
+];
+
+#[test]
+fn each_kind_has_its_number_and_name() {
+    let mut cases: Vec<(Kind, Vec<u8>)> = REFUSED.iter().map(|&(kind, input)| (kind, input.to_vec())).collect();
+    cases.push((Kind::TooLong, vec![b'a'; 67_108_865]));
+    cases.push((Kind::KeyTooLong, [vec![b'a'; 1025], b": b".to_vec()].concat()));
+    cases.push((Kind::TooDeep, vec![b'['; 1025]));
+    cases.push((Kind::TooHigh, [b"- ".repeat(1024), b"x".to_vec()].concat()));
+    cases.push((Kind::TextTooLong, vec![b'a'; 67_108_860]));
+    cases.sort();
+    for (number, (kind, input)) in (1..).zip(&cases) {
+        // The text of a long input that is accepted would not be readable.
+        let fault = canonical(input).err().expect("it is rejected");
+        assert_eq!((fault.kind(), fault.number, fault.kind() as u32), (*kind, number, number));
+        assert_eq!(fault.name(), format!("{kind:?}"));
+    }
+    assert_eq!((cases.len(), Kind::OutOfMemory as u32), (20, 21));
+}
+
+#[test]
+fn a_refusal_is_shown_by_name() {
+    let fault = canonical(b"{1: a, 0x1: b}").unwrap_err();
+    assert_eq!(format!("{fault:?}"), "Refused { number: 19, name: \"EqualKeys\", side: None, place: 4, entries: (0, 1) }");
+}
+
+#[test]
+fn lines_and_columns() {
+    // Each of these is rejected at its last byte, which is a tab.
+    let cases: [(&[u8], (usize, usize)); 6] = [
+        (b"a:\t", (1, 3)),
+        (b"a: b\nc:\t", (2, 3)),
+        (b"a: b\r\nc:\t", (2, 3)),
+        (b"a: b\rc:\t", (2, 3)),
+        ("\u{e9}\u{2028}\u{1f600}:\t".as_bytes(), (1, 5)),
+        ("\u{feff}a: b\n\u{e9}:\t".as_bytes(), (2, 3)),
+    ];
+    for (input, place) in cases {
+        let input = [input, b"x\n"].concat();
+        let fault = canonical(&input).err().expect("it is rejected");
+        assert_eq!((fault.kind(), fault.position(&input)), (Kind::Tab, Some(place)), "{input:?}");
+        assert_eq!(fault.position(b""), None);
+    }
+    assert_eq!(canonical(b"{1: a, 0x1: b}").unwrap_err().position(b"{1: a, 0x1: b}"), None);
+}
+
+#[test]
+fn the_form_of_the_texts() {
+    assert_eq!(FORM, 1);
 }
 
 #[test]

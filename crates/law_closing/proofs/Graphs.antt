@@ -1,5 +1,5 @@
 -- The graph of a stream that unfolds low.
-use Rattle.std.proofs.Common.{◌≡◌, ◌+◌, ◌<◌, ◌≤◌, ℕ, suc, List, [], ◌∷◌, length, map, refl, sym, ◌∙◌, ap, subst, arith, length-append, Ok}
+use Rattle.std.proofs.Common.{◌≡◌, ◌+◌, ◌<◌, ◌≤◌, ℕ, suc, List, [], ◌∷◌, ◌++◌, length, map, refl, sym, ◌∙◌, ap, subst, arith, length-append, Ok}
 use Rattle.std.specs.Prelude.{Some}
 use Rattle.std.specs.List.{slice_get, All}
 use Rattle.std.proofs.lemmas.List.{length-map}
@@ -14,9 +14,14 @@ use Rattle.yaml_graph.proofs.ClosingLaws.{low-stream}
 use Rattle.yaml_nodes.specs.GraphModel.{AreLow, trees_at, trees_in}
 use Rattle.yaml_nodes.specs.declared.node.Node.{Node}
 use Rattle.yaml_nodes.specs.declared.graph.Graph.{Graph}
-use Rattle.yaml_nodes.proofs.LowLaws.{low-each, heights-low}
-use Rattle.law_closing.specs.Laws.{Holdable, PartsHoldable, AreHoldable}
-use Rattle.law_closing.proofs.Grounding.{then-found, found-is, EachStands, Behind, stream-behind}
+use Rattle.yaml_nodes.specs.GraphView.{nodes_of, roots_of}
+use Rattle.yaml_nodes.specs.JoinModel.{raised}
+use Rattle.yaml_nodes.specs.declared.node.NodeId.{NodeId}
+use Rattle.yaml_nodes.proofs.GraphLaws.{get-more, trees-length}
+use Rattle.yaml_nodes.proofs.JoinLaws.{rooted-both}
+use Rattle.yaml_nodes.proofs.LowLaws.{Low, low-each, heights-low}
+use Rattle.law_closing.specs.Laws.{Holdable, PartsHoldable, AreHoldable, HaveJoined}
+use Rattle.law_closing.proofs.Grounding.{then-found, found-is, EachStands, Behind, behind-both, stream-behind}
 use Rattle.law_closing.proofs.Building.{vector, places, places-count, places-tell, places-below, AllHoldable, nodes_for, nodes-count, nodes-tell, nodes-below}
 
 -- ---- no fewer nodes than documents
@@ -103,3 +108,99 @@ module _ (ds : List Document) (ts : List Tree) (unfolded : trees_of ds ≡ Ok ts
 -- each stream that unfolds low has a graph
 pub has-graph : (ds : List Document) (ts : List Tree) → trees_of ds ≡ Ok ts → AreLow ts → AreHoldable (stream_trees ds ts) → (g : Graph) × Composed ds g
 has-graph ds ts unfolded low fits = (graph ds ts unfolded low fits, composed ds ts unfolded low fits)
+
+-- ---- the graphs of two streams, and one of both
+
+get-behind : (xs ys : List Tree) (k : ℕ) → slice_get (xs ++ ys) (length xs + k) ≡ slice_get ys k
+get-behind [] ys k = let e : 0 + k ≡ k = omega arith in ap (slice_get ys) e
+get-behind (x ∷ xs) ys k = let e : suc (length xs) + k ≡ suc (length xs + k) = omega arith in ap (slice_get (x ∷ (xs ++ ys))) e ∙ get-behind xs ys k
+
+low-both : (h : ℕ) (xs ys : List Tree) → Low h xs → Low h ys → Low h (xs ++ ys)
+low-both h [] ys a b = b
+low-both h (x ∷ xs) ys a b = (a.0, low-both h xs ys a.1 b)
+
+module _ (ds es : List Document) (ts us : List Tree) (unfolded : trees_of ds ≡ Ok ts) (more_unfolded : trees_of es ≡ Ok us) (low : AreLow ts) (more_low : AreLow us) (fits : AreHoldable (stream_trees ds ts ++ stream_trees es us)) where
+  abbrev lefts : List Tree
+  lefts = stream_trees ds ts
+
+  abbrev rights : List Tree
+  rights = stream_trees es us
+
+  left-fits : AreHoldable lefts
+  left-fits = record { count = (let n = fits.count in omega (arith, length-append lefts rights)); parts = λ k t e. fits.parts k t (get-more lefts rights k t e) }
+
+  right-fits : AreHoldable rights
+  right-fits = record { count = (let n = fits.count in omega (arith, length-append lefts rights)); parts = λ k t e. fits.parts (length lefts + k) t (get-behind lefts rights k ∙ e) }
+
+  abbrev first : Graph
+  first = graph ds ts unfolded low left-fits
+
+  abbrev second : Graph
+  second = graph es us more_unfolded more_low right-fits
+
+  both-stand : Behind [] (lefts ++ rights)
+  both-stand = behind-both [] lefts rights (stream-behind ds 1 [] ts unfolded).0 (stream-behind es 1 lefts us more_unfolded).0
+
+  both-parts : AllHoldable (lefts ++ rights)
+  both-parts = all-holdable (lefts ++ rights) fits.parts
+
+  abbrev both_nodes : List Node
+  both_nodes = nodes_for [] (lefts ++ rights) both-stand both-parts
+
+  both-tell : trees_in both_nodes ≡ lefts ++ rights
+  both-tell = nodes-tell [] (lefts ++ rights) both-stand both-parts
+
+  abbrev both_roots : List NodeId
+  both_roots = roots_of first ++ map (raised (length (nodes_of first))) (roots_of second)
+
+  first-count : length (nodes_of first) ≡ length lefts
+  first-count = sym (trees-length (nodes_of first)) ∙ ap length (tell ds ts unfolded low left-fits)
+
+  second-count : length (nodes_of second) ≡ length rights
+  second-count = sym (trees-length (nodes_of second)) ∙ ap length (tell es us more_unfolded more_low right-fits)
+
+  both-count : length both_nodes ≡ length (nodes_of first) + length (nodes_of second)
+  both-count = nodes-count [] (lefts ++ rights) both-stand both-parts ∙ length-append lefts rights ∙ (λ z. sym first-count z + sym second-count z)
+
+  both-fit : Holdable (length both_nodes)
+  both-fit = let n = fits.count in omega (arith, nodes-count [] (lefts ++ rights) both-stand both-parts)
+
+  both-heights-fit : Holdable (length (map height (trees_in both_nodes)))
+  both-heights-fit = let n = fits.count in omega (arith, length-map (trees_in both_nodes) height, ap length both-tell)
+
+  few-roots : length (roots_of first) + length (roots_of second) ≤ length lefts + length rights
+  few-roots =
+      let a : length (roots_of first) ≡ length ts = places-count ts lefts (stands ds ts unfolded low left-fits).1 in
+      let b : length (roots_of second) ≡ length us = places-count us rights (stands es us more_unfolded more_low right-fits).1 in
+      omega (arith, a, b, roots-few ds 1 ts unfolded, roots-few es 1 us more_unfolded)
+
+  both-roots-fit : Holdable (length both_roots)
+  both-roots-fit =
+      let n = fits.count in
+      let r = length-map (roots_of second) (raised (length (nodes_of first))) in
+      omega (arith, length-append (roots_of first) (map (raised (length (nodes_of first))) (roots_of second)), r, few-roots, length-append lefts rights)
+
+  abbrev joined : Graph
+  joined = record {
+    nodes = vector both_nodes both-fit;
+    heights = vector (map height (trees_in both_nodes)) both-heights-fit;
+    roots = vector both_roots both-roots-fit;
+    grounded = λ k n e. nodes-below [] (lefts ++ rights) both-stand both-parts k k n (omega arith) e;
+    measured = refl;
+    low = subst (λ ws. All (λ h. h ≤ height_limit) (map height ws)) (sym both-tell) (heights-low height_limit (lefts ++ rights) (low-both height_limit lefts rights (low-stream ds ts height_limit (low-each height_limit ts low)) (low-stream es us height_limit (low-each height_limit us more_low))));
+    rooted = subst (λ m. All (λ i. i.0 < m) both_roots) (sym both-count) (rooted-both (roots_of first) (roots_of second) (length (nodes_of first)) (length (nodes_of second)) both_roots first.rooted second.rooted refl);
+  }
+
+  pub have-joined : HaveJoined ds es
+  have-joined = record {
+    first = first;
+    second = second;
+    both = joined;
+    first_composed = composed ds ts unfolded low left-fits;
+    second_composed = composed es us more_unfolded more_low right-fits;
+    joined = record {
+      count = both-count;
+      trees = both-tell ∙ (λ z. sym (tell ds ts unfolded low left-fits) z ++ sym (tell es us more_unfolded more_low right-fits) z);
+      roots = refl;
+    };
+  }

@@ -70,7 +70,7 @@ table-more (o ∷ e) xs ys s = (whole-more o.1 xs ys s.0, table-more e xs ys s.1
 all-assoc : (xs us vs ws : List Tree) → ((xs ++ us) ++ vs) ++ ws ≡ xs ++ (us ++ (vs ++ ws))
 all-assoc xs us vs ws = append_assoc (xs ++ us) vs ws ∙ append_assoc xs us (vs ++ ws)
 
-behind-both : (xs ys zs : List Tree) → Behind xs ys → Behind (xs ++ ys) zs → Behind xs (ys ++ zs)
+pub behind-both : (xs ys zs : List Tree) → Behind xs ys → Behind (xs ++ ys) zs → Behind xs (ys ++ zs)
 behind-both xs [] zs a b = subst (λ l. Behind l zs) (append-nil xs) b
 behind-both xs (y ∷ ys) zs a b = (a.0, behind-both (xs ++ (y ∷ [])) ys zs a.1 (subst (λ l. Behind l zs) (sym (append_assoc xs (y ∷ []) ys)) b))
 

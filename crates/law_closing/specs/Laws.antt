@@ -7,6 +7,7 @@ use Rattle.yaml_definitions.specs.model.Unfold.{trees_of}
 use Rattle.yaml_text.specs.declared.fault.Fault.TheVariants.{EqualKeys}
 use Rattle.yaml_nodes.specs.GraphModel.{AreLow, tree_at}
 use Rattle.yaml_nodes.specs.GraphView.{nodes_of, graph_trees, tree}
+use Rattle.yaml_nodes.specs.JoinModel.{Joined}
 use Rattle.yaml_nodes.specs.declared.graph.Graph.{Graph}
 use Rattle.yaml_graph.specs.Closing.{stream_trees}
 use Rattle.yaml_graph.specs.Composed.{Composed}
@@ -32,6 +33,19 @@ pub record AreHoldable (trees : List Tree) : Type 0 where
 -- Each stream that unfolds low has a graph, where vectors may hold its nodes.
 abbrev pub StreamHasGraph : Type 0
 StreamHasGraph = (ds : List Document) (ts : List Tree) → trees_of ds ≡ Ok ts → AreLow ts → AreHoldable (stream_trees ds ts) → (g : Graph) × Composed ds g
+
+-- The graphs of the documents of two streams, and one graph with the nodes of the first and then those of the second.
+pub record HaveJoined (ds es : List Document) : Type 0 where
+  pub first : Graph
+  pub second : Graph
+  pub both : Graph
+  pub first_composed : Composed ds first
+  pub second_composed : Composed es second
+  pub joined : Joined first second both
+
+-- Each two streams that unfold low have such graphs, where vectors may hold the nodes of both.
+abbrev pub StreamsHaveJoined : Type 0
+StreamsHaveJoined = (ds es : List Document) (ts us : List Tree) → trees_of ds ≡ Ok ts → trees_of es ≡ Ok us → AreLow ts → AreLow us → AreHoldable (stream_trees ds ts ++ stream_trees es us) → HaveJoined ds es
 
 -- A node of a graph repeats a key exactly if its tree does.
 abbrev pub GraphRepeatsByTree : Type 0

@@ -1,9 +1,14 @@
 //! Laws of the nodes of a stream, as they close. Each function has an empty body, and its contract is a law.
-ghost use Rattle.law_closing.specs.Laws.{StreamHasGraph, GraphRepeatsByTree, ViewRepeatsByTree, FirstRepeatIsGraphs, NumbersStay, NumbersGrow, NumberedAreHoldable};
+ghost use Rattle.law_closing.specs.Laws.{StreamHasGraph, StreamsHaveJoined, GraphRepeatsByTree, ViewRepeatsByTree, FirstRepeatIsGraphs, NumbersStay, NumbersGrow, NumberedAreHoldable};
 
 /// Each stream that unfolds low has a graph, where vectors may hold its nodes.
 pub fn stream_has_graph()
     ensures { StreamHasGraph }
+{}
+
+/// Each two streams that unfold low have a graph each, and one of the nodes of both, where vectors may hold them.
+pub fn streams_have_joined_graphs()
+    ensures { StreamsHaveJoined }
 {}
 
 /// Nodes repeat a key exactly if their trees do.

@@ -1,4 +1,5 @@
-//! Test cases of readers and writers that take little at a time, or fail, and of how many nodes are visited.
+//! Test cases of readers and writers that take little at a time, or fail, of comparisons of which one side is rejected, and of how
+//! many nodes are visited.
 #![tactic(auto)]
 
 #[cfg(test)]
@@ -7,6 +8,10 @@ mod gathering;
 mod lengths;
 #[cfg(test)]
 mod runs;
+#[cfg(test)]
+mod sides;
+#[cfg(test)]
+mod stores;
 #[cfg(test)]
 mod streams;
 #[cfg(test)]

@@ -13,6 +13,7 @@ use Rattle.yaml_nodes.specs.declared.graph.Graph.{Graph}
 use Rattle.yaml_compact.specs.StoreModel.{parts_at}
 use Rattle.yaml_compact.specs.StoreGrows.{trees_of}
 use Rattle.yaml_compose.specs.Reached.{UnfoldTo}
+use Rattle.yaml_compose.specs.declared.size.StreamSize.{StreamSize}
 use Rattle.yaml_compose.specs.ComposerModel.{AllAt, AreForests}
 use Rattle.yaml_compose.specs.declared.composer.Forest.{Forest}
 use Rattle.yaml_canon.specs.Read.{HasRoots}
@@ -23,8 +24,8 @@ means-trees : (bytes : List ℕ) (ds : List Document) (ts : List Tree) → Reads
 means-trees bytes ds ts r u = record { events = stream_events ds; reads = r; stands = record { documents = ds; cut = refl; unfolded = u } }
 
 -- both sides were read, and the left side's documents are so many
-pub has-both : (left right : List ℕ) (ds es : List Document) (n : ℕ) (f : Forest) → Reads left (stream_events ds) → Reads right (stream_events es) → UnfoldTo ds n → AreForests ds es f → HasBoth left right (record { forest = f; middle = n })
-has-both left right ds es n f r s u a =
+pub has-both : (left right : List ℕ) (ds es : List Document) (size : StreamSize) (f : Forest) → Reads left (stream_events ds) → Reads right (stream_events es) → UnfoldTo ds size → AreForests ds es f → HasBoth left right (record { forest = f; left = size })
+has-both left right ds es size f r s u a =
     let both = a.unfolded in
     let same : Ok u.trees_are ≡ Ok both.lefts = sym u.unfolded ∙ both.first in
     let these : u.trees_are ≡ both.lefts = cc in
@@ -35,9 +36,10 @@ has-both left right ds es n f r s u a =
         left_means = means-trees left ds both.lefts r both.first;
         right_means = means-trees right es both.rights s both.second;
         low = subst AreLow both.is a.low;
-        middle_is = u.count ∙ ap length these;
+        middle_is = u.documents ∙ ap length these;
       };
       roots = record { good = a.good; level = a.level; roots = subst (AllAt (trees_of f.store) f.roots.items) both.is a.roots };
+      read = record { first = ds; second = es; first_read = record { reads = r }; second_read = record { reads = s }; size = u; forests = a };
     }
 
 -- ---- both sides in one graph

@@ -1,74 +1,48 @@
 -- Equal keys of a store's node, told of the node of the stream that it stands for.
-use Rattle.std.proofs.Common.{◌≡◌, ℕ, List, [], ◌∷◌, length, map, refl, sym, ◌∙◌, ap, subst, arith}
+use Rattle.std.proofs.Common.{◌≡◌, ℕ, ◌+◌, ◌≤◌, List, ◌++◌, length, refl, sym, ◌∙◌, ap, subst, arith, length-append}
 use Rattle.std.specs.Prelude.{Some}
 use Rattle.std.specs.List.{slice_get}
-use Rattle.yaml_compact.specs.TextModel.{text_of}
-use Rattle.std.proofs.lemmas.List.{length-map}
-use Rattle.yaml_definitions.specs.model.Tree.{Tree}
+use Rattle.std.proofs.lemmas.List.{get_or_append_left, get_or-append-add}
+use Rattle.yaml_definitions.specs.model.Limits.{height_limit}
+use Rattle.yaml_definitions.specs.model.Tree.{Tree, height}
 use Rattle.yaml_definitions.specs.model.Text.{Text}
 use Rattle.yaml_definitions.specs.model.Serial.{Document, stream_events}
 use Rattle.yaml_definitions.specs.grammar.Reading.{Reads}
 use Rattle.yaml_text.specs.declared.fault.Fault.TheVariants as faults
-use Rattle.yaml_nodes.specs.GraphModel.{tree_at}
+use Rattle.yaml_nodes.specs.GraphModel.{AreLow}
 use Rattle.yaml_nodes.specs.GraphView.{graph_trees}
-use Rattle.yaml_nodes.specs.TreeLists.{trees, pairs}
 use Rattle.yaml_nodes.specs.declared.graph.Graph.{Graph}
 use Rattle.yaml_graph.specs.Closing.{stream_trees}
 use Rattle.yaml_graph.specs.Composed.{Composed}
-use Rattle.yaml_levels.specs.View.{Inside, content, items, entries, items_in, entries_in, inside_tree}
-use Rattle.yaml_levels.proofs.LevelLaws.{get-some}
-use Rattle.law_closing.specs.Keys.{listed, pairs_listed}
-use Rattle.law_closing.specs.Laws.{Holdable, PartsHoldable}
+use Rattle.yaml_levels.specs.RanksView.{RefusesGraph}
+use Rattle.law_closing.specs.Laws.{AreHoldable, HaveJoined}
 use Rattle.law_closing.specs.Numbers.{Numbers}
-use Rattle.law_closing.proofs.Graphs.{has-graph}
-use Rattle.law_closing.proofs.NumberLaws.{holdable}
+use Rattle.law_closing.proofs.Graphs.{has-graph, have-joined}
 use Rattle.law_closing.proofs.Repeats.{first-is-graphs}
-use Rattle.yaml_levels.proofs.Numbering.{get-within}
-use Rattle.yaml_compact.specs.StoreModel.{inside_of, place_of, tag_at}
+use Rattle.yaml_compact.specs.TextModel.{text_of}
 use Rattle.yaml_compact.specs.StoreGrows.{Good, tags_of, trees_of}
 use Rattle.yaml_compact.specs.StoreView.{view_of}
 use Rattle.yaml_compact.specs.Unranked.{RefusesStore}
-use Rattle.yaml_compact.specs.declared.store.Store.{Store}
 use Rattle.yaml_compact.specs.declared.unranked.EqualKeys.{EqualKeys}
 use Rattle.yaml_compact.specs.declared.unranked.Unranked.{Unranked}
 use Rattle.yaml_compact.specs.declared.unranked.Unranked.TheVariants as unranked
-use Rattle.yaml_compact.proofs.Growing.{trees-count, stands-at, inside-few}
-use Rattle.yaml_compose.specs.ComposerModel.{IsForest}
+use Rattle.yaml_compact.proofs.Growing.{trees-count}
+use Rattle.yaml_compose.specs.ComposerModel.{IsForest, AreForests}
 use Rattle.yaml_compose.specs.declared.composer.Forest.{Forest}
-use Rattle.yaml_canon.specs.NoRanks.{ranked_not, IsInStream, AreEqual, RefusesRanks, HasEqualKeys, TellsWhyNot}
+use Rattle.yaml_compose.proofs.HoldableLaws.{closed-holdable}
+use Rattle.yaml_canon.specs.NoRanks.{ranked_not, IsInStream, RefusesRanks, RefusesBothRanks, HasEqualKeys, TellsWhyNot}
 use Rattle.yaml_canon.specs.Claims.{CanonicalRefuses}
 use Rattle.yaml_canon.proofs.AcceptLaws.{same-trees}
 
--- ---- parts that a store holds
+-- ---- any graph of the nodes that a store stands for
 
-listed-trees : (ts : List Tree) → listed (trees ts) ≡ ts
-listed-trees [] = refl
-listed-trees (t ∷ ts) = ap (λ us. t ∷ us) (listed-trees ts)
-
-listed-pairs : (ps : List (Tree × Tree)) → pairs_listed (pairs ps) ≡ ps
-listed-pairs [] = refl
-listed-pairs (p ∷ ps) = ap (λ qs. p ∷ qs) (listed-pairs ps)
-
-inside-holdable : (t : ℕ → Tree) (g : List ℕ) (x : Inside) → Holdable (length (items_in x)) → Holdable (length (entries_in x)) → PartsHoldable (inside_tree t g x)
-inside-holdable t g (content x) a b = (a, b)
-inside-holdable t g (items is) a b = (omega (arith, a, ap length (listed-trees (map t is)), length-map is t), b)
-inside-holdable t g (entries es) a b =
-    let both : ℕ × ℕ → Tree × Tree = λ p. (t p.0, t p.1) in
-    (a, omega (arith, b, ap length (listed-pairs (map both es)), length-map es both))
-
-stored-holdable : (s : Store) → Good s → (i : ℕ) (t : Tree) → slice_get (trees_of s) i ≡ Some t → PartsHoldable t
-stored-holdable s good i t e =
-    let text = text_of s.text in
-    let is = s.items.items in
-    let es = s.entries.items in
-    let nodes = s.nodes.items in
-    let count : length (trees_of s) ≡ length nodes = trees-count nodes text is es (tags_of s) in
-    let n = get-some nodes i (omega (arith, get-within (trees_of s) i t e, count)) in
-    let made : Tree = inside_tree (tree_at (trees_of s)) (tag_at (tags_of s) n.0.tag) (inside_of text is es (place_of n.0)) in
-    let there : Some made ≡ Some t = sym (stands-at (tags_of s) text is es nodes good i n.0 n.1) ∙ e in
-    let same : made ≡ t = cc in
-    let few = inside-few text is es (place_of n.0) in
-    subst PartsHoldable same (inside-holdable (tree_at (trees_of s)) (tag_at (tags_of s) n.0.tag) (inside_of text is es (place_of n.0)) (omega (arith, few.0, s.items.small)) (omega (arith, few.1, s.entries.small)))
+graph-keys : (f : Forest) (good : Good f.store) (g : Graph) → Numbers (trees_of f.store) f.firsts.items (graph_trees g) → (keys told : EqualKeys) → slice_get f.firsts.items keys.node ≡ Some told.node → told.first ≡ keys.first → told.second ≡ keys.second
+    → RefusesStore f.store good (unranked.EqualKeys keys) → RefusesGraph g (faults.EqualKeys told.node told.first told.second)
+graph-keys f good g numbered keys told at first second h =
+    let s = f.store in
+    let count = trees-count s.nodes.items (text_of s.text) s.items.items s.entries.items (tags_of s) in
+    let refused = first-is-graphs g (view_of s good) (trees_of s) f.firsts.items count (λ i l. refl) numbered keys.node told.node at h.0.is.within keys.first keys.second h.0.is h.0.before h.1 in
+    rw (first, second) refused
 
 -- ---- the stream's graph
 
@@ -77,7 +51,7 @@ module _ (ds : List Document) (f : Forest) (is : IsForest ds f) where
   closed = stream_trees ds is.trees_are
 
   graph : (g : Graph) × Composed ds g
-  graph = has-graph ds is.trees_are is.unfolded is.low (holdable (trees_of f.store) f.firsts.items closed is.numbered (omega (arith, is.few)) (stored-holdable f.store is.good))
+  graph = has-graph ds is.trees_are is.unfolded is.low (closed-holdable f.store is.good f.firsts.items closed is.numbered is.few)
 
   graph-nodes : graph_trees graph.0 ≡ closed
   graph-nodes = graph.1.nodes ∙ ap (stream_trees ds) (same-trees graph.1.trees is.trees_are ds graph.1.unfolded is.unfolded)
@@ -85,19 +59,49 @@ module _ (ds : List Document) (f : Forest) (is : IsForest ds f) where
   numbered : Numbers (trees_of f.store) f.firsts.items (graph_trees graph.0)
   numbered = subst (Numbers (trees_of f.store) f.firsts.items) (sym graph-nodes) is.numbered
 
-  are-equal : (keys told : EqualKeys) → slice_get f.firsts.items keys.node ≡ Some told.node → told.first ≡ keys.first → told.second ≡ keys.second → RefusesStore f.store is.good (unranked.EqualKeys keys) → AreEqual ds told
-  are-equal keys told at first second h =
-      let s = f.store in
-      let v = view_of s is.good in
-      let count = trees-count s.nodes.items (text_of s.text) s.items.items s.entries.items (tags_of s) in
-      let refused = first-is-graphs graph.0 v (trees_of s) f.firsts.items count (λ i l. refl) numbered keys.node told.node at h.0.is.within keys.first keys.second h.0.is h.0.before h.1 in
-      record { graph = graph.0; composed = graph.1; refuses = rw (first, second) refused }
-
   -- what is told of the store is told of the stream
   pub in-stream : (before after : Unranked) → IsInStream f.firsts.items before after → RefusesStore f.store is.good before → RefusesRanks ds after
-  in-stream (unranked.EqualKeys keys) (unranked.EqualKeys told) w h = are-equal keys told w.0 w.1 w.2 h
+  in-stream (unranked.EqualKeys keys) (unranked.EqualKeys told) w h = record { graph = graph.0; composed = graph.1; refuses = graph-keys f is.good graph.0 numbered keys told w.0 w.1 w.2 h }
   in-stream unranked.GivesUp (unranked.EqualKeys told) w h = absurd w
   in-stream before unranked.GivesUp w h = tt
+
+-- ---- the graph of two streams
+
+low-parts : (ts us : List Tree) → AreLow (ts ++ us) → AreLow ts × AreLow us
+low-parts ts us h = (
+  λ k d l. subst (λ t. height t ≤ height_limit) (get_or_append_left ts us d k l) (h k d (omega (arith, l, length-append ts us))),
+  λ k d l. subst (λ t. height t ≤ height_limit) (get_or-append-add ts us k d) (h (length ts + k) d (omega (arith, l, length-append ts us))),
+)
+
+module _ (ds es : List Document) (f : Forest) (is : AreForests ds es f) where
+  abbrev lefts : List Tree
+  lefts = is.unfolded.lefts
+
+  abbrev rights : List Tree
+  rights = is.unfolded.rights
+
+  low-both : AreLow lefts × AreLow rights
+  low-both = low-parts lefts rights (subst AreLow is.unfolded.is is.low)
+
+  graphs : HaveJoined ds es
+  graphs = have-joined ds es lefts rights is.unfolded.first is.unfolded.second low-both.0 low-both.1 (subst AreHoldable is.unfolded.nodes (closed-holdable f.store is.good f.firsts.items is.nodes_are is.numbered is.few))
+
+  left-nodes : graph_trees graphs.first ≡ stream_trees ds lefts
+  left-nodes = let c = graphs.first_composed in c.nodes ∙ ap (stream_trees ds) (same-trees c.trees lefts ds c.unfolded is.unfolded.first)
+
+  right-nodes : graph_trees graphs.second ≡ stream_trees es rights
+  right-nodes = let c = graphs.second_composed in c.nodes ∙ ap (stream_trees es) (same-trees c.trees rights es c.unfolded is.unfolded.second)
+
+  both-nodes : graph_trees graphs.both ≡ is.nodes_are
+  both-nodes = graphs.joined.trees ∙ (λ z. left-nodes z ++ right-nodes z) ∙ sym is.unfolded.nodes
+
+  both-numbered : Numbers (trees_of f.store) f.firsts.items (graph_trees graphs.both)
+  both-numbered = subst (Numbers (trees_of f.store) f.firsts.items) (sym both-nodes) is.numbered
+
+  pub in-both : (before after : Unranked) → IsInStream f.firsts.items before after → RefusesStore f.store is.good before → RefusesBothRanks ds es after
+  in-both (unranked.EqualKeys keys) (unranked.EqualKeys told) w h = record { graphs = graphs; refuses = graph-keys f is.good graphs.both both-numbered keys told w.0 w.1 w.2 h }
+  in-both unranked.GivesUp (unranked.EqualKeys told) w h = absurd w
+  in-both before unranked.GivesUp w h = tt
 
 -- ---- the bytes
 

@@ -10,5 +10,6 @@ pub mod CompareLaws
 mod AcceptBoth
 mod RankLaws
 mod KeyLaws
+mod SideLaws
 mod TargetLaws
 mod RunLaws

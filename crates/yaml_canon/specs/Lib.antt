@@ -11,3 +11,4 @@ pub mod Accepting
 pub mod Runs
 pub mod Targets
 pub mod Rooms
+pub mod NoForests

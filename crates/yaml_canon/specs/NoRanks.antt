@@ -7,6 +7,7 @@ use Rattle.yaml_text.specs.declared.fault.Fault.TheVariants as faults
 use Rattle.yaml_nodes.specs.declared.graph.Graph.{Graph}
 use Rattle.yaml_graph.specs.Composed.{Composed}
 use Rattle.yaml_levels.specs.RanksView.{RefusesGraph}
+use Rattle.law_closing.specs.Laws.{HaveJoined}
 use Rattle.yaml_compact.specs.declared.unranked.EqualKeys.{EqualKeys}
 use Rattle.yaml_compact.specs.declared.unranked.Unranked.{Unranked}
 use Rattle.yaml_compact.specs.declared.unranked.Unranked.TheVariants as unranked
@@ -36,6 +37,16 @@ pub record AreEqual (ds : List Document) (keys : EqualKeys) : Type 0 where
 abbrev pub RefusesRanks : List Document → Unranked → Type 0
 RefusesRanks ds (unranked.EqualKeys keys) = AreEqual ds keys
 RefusesRanks ds unranked.GivesUp = Unit {0}
+
+-- Two keys of a mapping are equal in the graph of the documents of two streams, at this node.
+pub record AreEqualInBoth (ds es : List Document) (keys : EqualKeys) : Type 0 where
+  pub graphs : HaveJoined ds es
+  pub refuses : RefusesGraph graphs.both (faults.EqualKeys keys.node keys.first keys.second)
+
+-- The same of the documents of two streams.
+abbrev pub RefusesBothRanks : List Document → List Document → Unranked → Type 0
+RefusesBothRanks ds es (unranked.EqualKeys keys) = AreEqualInBoth ds es keys
+RefusesBothRanks ds es unranked.GivesUp = Unit {0}
 
 -- The bytes are read as documents with equal keys.
 pub record HasEqualKeys (bytes : List ℕ) (keys : EqualKeys) : Type 0 where

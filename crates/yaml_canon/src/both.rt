@@ -3,15 +3,17 @@ ghost use Rattle.std.specs.Prelude.{◌≡◌, ◌++◌, ℕ, List, [], IfOk, If
 ghost use Rattle.yaml_nodes.specs.GraphView.{forest as root_trees};
 ghost use Rattle.yaml_canon.specs.Both.{HasBoth, HaveRanks};
 ghost use Rattle.yaml_canon.specs.Two.{KeepsBoth};
-ghost use Rattle.yaml_canon.specs.Refused.{TellsWhy};
+ghost use Rattle.yaml_canon.specs.Comparing.{IsComposed};
+ghost use Rattle.yaml_canon.specs.NoForests.{TellsWhyNeither};
 
-use crate::forest::{kept_source, lent, source_of};
+use crate::forest::{forest_of, kept_source, lent, source_of};
 use crate::no_forest::{NoForest, NoForests};
 use crate::ranks::{RankedForest, ranked_roots};
 use crate::two::Two;
 use std::alloc::Global;
+use yaml_answers::Side;
 use yaml_compact::GivesUp;
-use yaml_compose::{Composing, Forest};
+use yaml_compose::{Composing, Forest, StreamSize};
 use yaml_graph::graph::Graph;
 use yaml_sink::sink::Keeper;
 
@@ -19,8 +21,8 @@ use yaml_sink::sink::Keeper;
 #[derive(Drop)]
 pub struct BothForests<'l> {
     pub forest: Forest<'l>,
-    /// How many roots are the left one's.
-    pub middle: usize,
+    /// How many roots and nodes are the left one's.
+    pub left: StreamSize,
 }
 
 impl BothForests<'_> {
@@ -42,45 +44,58 @@ pub(crate) struct RankedBoth<'l> {
     pub(crate) middle: usize,
 }
 
+/// Why the right side has no forest where both have none together.
+fn none_of_right(alloc: Global, right: &[u8]) -> NoForests
+    ensures { (left : List ℕ) → IsComposed left → TellsWhyNeither left right.now result }
+{
+    let why = match forest_of(alloc, right) {
+        Ok(forest) => {
+            drop(forest);
+            return NoForests::GivesUp;
+        }
+        Err(why) => why,
+    };
+    NoForests::of(Side::Right, why)
+}
+
 /// The nodes of two streams in one store: those of the left stream, then those of the right one.
 ///
 /// # Errors
-/// What `canonical` rejects of the left side while it reads and composes (1 to 17), otherwise of the right side while it reads (1
-/// to 11). It falls back for later rejections, for want of memory, and if a number does not fit.
+/// What `canonical` rejects of the left side before it looks for equal keys (1 to 18), and otherwise of the right side. It falls back
+/// for want of memory, and if a number does not fit.
 pub fn forest_of_both<'l>(
     alloc: Global,
     left: &'l [u8],
     right: &[u8],
 ) -> Result<BothForests<'l>, NoForests>
     ensures both { IfOk result (HasBoth left.now right.now) }
-    ensures of_left { IfErr result (λ none. TellsWhy left.now none.left) }
-    ensures of_right { IfErr result (λ none. TellsWhy right.now none.right) }
+    ensures why { IfErr result (TellsWhyNeither left.now right.now) }
 {
     let left_text = match source_of(left) {
         Ok(text) => text,
-        Err(why) => return Err(NoForests::left(why)),
+        Err(why) => return Err(NoForests::of(Side::Left, why)),
     };
     let empty = Composing::new(alloc, lent(&left_text))?;
     let mut first = match kept_source(alloc, empty, &left_text) {
         Ok(first) => first,
-        Err(none) => return Err(NoForests::left(none)),
+        Err(none) => return Err(NoForests::of(Side::Left, none)),
     };
-    let middle = match first.documents() {
-        Ok(middle) => middle,
-        Err(why) => return Err(NoForests::left(NoForest::from(why))),
+    let size = match first.documents() {
+        Ok(size) => size,
+        Err(why) => return Err(NoForests::of(Side::Left, NoForest::from(why))),
     };
     let right_text = match source_of(right) {
         Ok(text) => text,
-        Err(why) => return Err(NoForests::right(why)),
+        Err(why) => return Err(NoForests::of(Side::Right, why)),
     };
     let both = match kept_source(alloc, first, &right_text) {
         Ok(both) => both,
-        Err(none) => return Err(NoForests::right(none)),
+        Err(why) => return Err(NoForests::of(Side::Right, why)),
     };
     let Ok(forest) = both.finish() else {
-        return Err(NoForests::from(GivesUp));
+        return Err(none_of_right(alloc, right));
     };
-    Ok(BothForests { forest, middle })
+    Ok(BothForests { forest, left: size })
 }
 
 /// The same, with a keeper that starts empty and receives the events of the left side and then those of the right one; and how
@@ -93,13 +108,12 @@ pub fn forest_of_both_with<'l, K: Keeper>(
 ) -> Result<(BothForests<'l>, K, usize), NoForests>
     requires { K.holds keeper [] }
     ensures both { IfOk result (λ made. HasBoth left.now right.now made.0) }
-    ensures of_left { IfErr result (λ none. TellsWhy left.now none.left) }
-    ensures of_right { IfErr result (λ none. TellsWhy right.now none.right) }
+    ensures why { IfErr result (TellsWhyNeither left.now right.now) }
     ensures kept { IfOk result (λ made. KeepsBoth K.holds left.now right.now made.1 made.2) }
 {
     let first_text = match source_of(left) {
         Ok(text) => text,
-        Err(why) => return Err(NoForests::left(why)),
+        Err(why) => return Err(NoForests::of(Side::Left, why)),
     };
     let empty = Two {
         first: Composing::new(alloc, lent(&first_text))?,
@@ -107,49 +121,48 @@ pub fn forest_of_both_with<'l, K: Keeper>(
     };
     let mut begun = match kept_source(alloc, empty, &first_text) {
         Ok(begun) => begun,
-        Err(why) => return Err(NoForests::left(why)),
+        Err(why) => return Err(NoForests::of(Side::Left, why)),
     };
-    let middle = match begun.first.documents() {
-        Ok(middle) => middle,
-        Err(why) => return Err(NoForests::left(NoForest::from(why))),
+    let size = match begun.first.documents() {
+        Ok(size) => size,
+        Err(why) => return Err(NoForests::of(Side::Left, NoForest::from(why))),
     };
     let events = begun.second.mark();
     let second_text = match source_of(right) {
         Ok(text) => text,
-        Err(why) => return Err(NoForests::right(why)),
+        Err(why) => return Err(NoForests::of(Side::Right, why)),
     };
     let Two {
         first: both,
         second: kept,
     } = match kept_source(alloc, begun, &second_text) {
         Ok(both) => both,
-        Err(why) => return Err(NoForests::right(why)),
+        Err(why) => return Err(NoForests::of(Side::Right, why)),
     };
     let Ok(forest) = both.finish() else {
-        return Err(NoForests::from(GivesUp));
+        return Err(none_of_right(alloc, right));
     };
-    Ok((BothForests { forest, middle }, kept, events))
+    Ok((BothForests { forest, left: size }, kept, events))
 }
 
 /// The ranked nodes of the streams that both sides are, in one store, so that their ranks can be compared.
 ///
-/// Refused is what `forest_of_both` refuses. It gives up where that does, at a mapping with two equal keys, and where a number of both
-/// together does not fit.
+/// Refused is what `forest_of_both` refuses, and the lowest mapping of both sides with two equal keys (19). It gives up where that
+/// does, and where a number of both together does not fit.
 pub(crate) fn ranked_both<'l>(
     alloc: Global,
     left: &'l [u8],
     right: &[u8],
 ) -> Result<RankedBoth<'l>, NoForests>
     ensures both { IfOk result (HaveRanks left.now right.now) }
-    ensures of_left { IfErr result (λ none. TellsWhy left.now none.left) }
-    ensures of_right { IfErr result (λ none. TellsWhy right.now none.right) }
+    ensures why { IfErr result (TellsWhyNeither left.now right.now) }
 {
-    let BothForests { forest, middle } = forest_of_both(alloc, left, right)?;
-    let Ok(ranked) = ranked_roots(alloc, forest) else {
-        return Err(NoForests::from(GivesUp));
-    };
-    Ok(RankedBoth {
-        forest: ranked,
-        middle,
-    })
+    let BothForests { forest, left: size } = forest_of_both(alloc, left, right)?;
+    match ranked_roots(alloc, forest) {
+        Ok(ranked) => Ok(RankedBoth {
+            forest: ranked,
+            middle: size.documents,
+        }),
+        Err(why) => Err(NoForests::unranked(size.nodes, why)),
+    }
 }

@@ -13,6 +13,7 @@ mod ranks;
 pub mod run;
 mod same_ranks;
 pub mod same_streams;
+pub mod sides;
 mod target;
 mod two;
 

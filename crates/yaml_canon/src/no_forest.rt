@@ -2,7 +2,9 @@
 ghost use Rattle.std.specs.Prelude.{◌≡◌};
 ghost use Rattle.yaml_canon.specs.Refused.{handed_on, told_as};
 
-use yaml_compact::GivesUp;
+use crate::sides::with_side;
+use yaml_answers::Side;
+use yaml_compact::{GivesUp, Unranked};
 use yaml_compose::Unmade;
 use yaml_text::fault::Fault;
 
@@ -49,49 +51,50 @@ impl From<Unmade> for NoForest {
     }
 }
 
-/// Why the store has no documents of two streams: the reason of the left one, or otherwise of the right one. Nothing is said of
-/// the other one.
+/// Why the store has no documents of two streams, or no ranks.
 #[derive(Clone, Copy, Debug, PartialEq, Eq)]
-pub struct NoForests {
-    pub left: NoForest,
-    pub right: NoForest,
+pub enum NoForests {
+    /// This side is rejected.
+    Refused(Side, Fault),
+    /// This way has no answer, and tells nothing of the bytes.
+    GivesUp,
 }
 
 impl NoForests {
     ghost use Rattle.std.specs.Prelude.{◌≡◌};
+    ghost use Rattle.yaml_canon.specs.NoForests.{none_of, unranked_of};
 
-    /// None of the left stream.
-    pub(crate) fn left(left: NoForest) -> NoForests
-        ensures left { result.left ≡ left }
-        ensures right { result.right ≡ NoForest.GivesUp }
+    /// What is told of both sides where this is told of one.
+    pub(crate) fn of(side: Side, none: NoForest) -> NoForests
+        ensures { result ≡ none_of side none }
     {
-        NoForests {
-            left,
-            right: NoForest::GivesUp,
+        match none {
+            NoForest::Refused(fault) => NoForests::Refused(side, fault),
+            NoForest::GivesUp => NoForests::GivesUp,
         }
     }
 
-    /// None of the right stream.
-    pub(crate) fn right(right: NoForest) -> NoForests
-        ensures left { result.left ≡ NoForest.GivesUp }
-        ensures right { result.right ≡ right }
+    /// What is told of both sides where their nodes have no ranks. So many of the nodes are the left side's.
+    pub(crate) fn unranked(nodes: usize, unranked: Unranked) -> NoForests
+        ensures { result ≡ unranked_of nodes unranked }
     {
-        NoForests {
-            left: NoForest::GivesUp,
-            right,
+        match unranked {
+            Unranked::EqualKeys(keys) => {
+                let fault = Fault::EqualKeys(keys.node as usize, keys.first, keys.second);
+                let (side, fault) = with_side(nodes, fault);
+                NoForests::Refused(side, fault)
+            }
+            Unranked::GivesUp => NoForests::GivesUp,
         }
     }
 }
 
 impl From<GivesUp> for NoForests {
-    ghost use Rattle.yaml_canon.specs.declared.no_forest.NoForest.TheVariants.{GivesUp};
+    ghost use Rattle.yaml_canon.specs.declared.no_forest.NoForests.TheVariants.{GivesUp};
 
-    ghost from_gives = { λ _ none. (none.left ≡ GivesUp) × (none.right ≡ GivesUp) };
+    ghost from_gives = { λ _ none. none ≡ GivesUp };
 
     fn from(_gives_up: GivesUp) -> NoForests {
-        NoForests {
-            left: NoForest::GivesUp,
-            right: NoForest::GivesUp,
-        }
+        NoForests::GivesUp
     }
 }

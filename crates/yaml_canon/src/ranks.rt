@@ -2,10 +2,10 @@
 ghost use Rattle.std.specs.Prelude.{List, IfOk, IfErr};
 ghost use Rattle.yaml_definitions.specs.model.Serial.{Document};
 ghost use Rattle.yaml_definitions.specs.model.Tree.{Tree};
-ghost use Rattle.yaml_compose.specs.ComposerModel.{IsForest};
+ghost use Rattle.yaml_compose.specs.ComposerModel.{IsForest, AreForests};
 ghost use Rattle.yaml_canon.specs.Read.{HasRoots};
 ghost use Rattle.yaml_canon.specs.Ranks.{RanksOf, HasRanks};
-ghost use Rattle.yaml_canon.specs.NoRanks.{IsInStream, RefusesRanks, TellsWhyNot};
+ghost use Rattle.yaml_canon.specs.NoRanks.{IsInStream, RefusesRanks, RefusesBothRanks, TellsWhyNot};
 
 use crate::forest::forest_of;
 use crate::no_ranks::NoRanks;
@@ -37,7 +37,7 @@ fn in_stream(unranked: Unranked, firsts: &[u32]) -> Unranked
 }
 
 /// A forest with the ranks of its nodes, those of the roots in place of the roots. Refused are two equal keys of a mapping, by the
-/// number of its node in the stream.
+/// number of its node in the stream, or in both of two streams.
 pub(crate) fn ranked_roots<'s>(
     alloc: Global,
     forest: Forest<'s>,
@@ -45,6 +45,7 @@ pub(crate) fn ranked_roots<'s>(
     requires { (ts : List Tree) × HasRoots ts forest }
     ensures ok { (ts : List Tree) → HasRoots ts forest.entry → IfOk result (RanksOf ts) }
     ensures err { (ds : List Document) → IsForest ds forest.entry → IfErr result (RefusesRanks ds) }
+    ensures err_both { (ds es : List Document) → AreForests ds es forest.entry → IfErr result (RefusesBothRanks ds es) }
 {
     let Forest {
         store,

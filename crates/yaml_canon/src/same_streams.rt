@@ -1,5 +1,5 @@
 //! Whether two streams are the same.
-ghost use Rattle.std.specs.Prelude.{◌≡◌, ◌↔◌, ◌⊎◌, ◌≤◌, ◌<◌, ℕ, List, true, Ok, Err, map, take, drop, length, IfOk, IfErr, MatchResult};
+ghost use Rattle.std.specs.Prelude.{◌≡◌, ◌↔◌, ◌⊎◌, ◌≤◌, ◌<◌, ℕ, List, true, map, take, drop, length, IfOk, IfErr, MatchResult};
 ghost use Rattle.std.specs.Result.{IsErrAnd};
 ghost use Rattle.std.specs.Cmp.Lexicographic.{pointwise};
 ghost use Rattle.yaml_definitions.specs.model.Text.{Text};
@@ -12,13 +12,15 @@ ghost use Rattle.yaml_nodes.specs.GraphView.{roots_of, tree};
 ghost use Rattle.yaml_levels.specs.RanksView.{RanksAre};
 ghost use Rattle.yaml_answers.specs.declared.side.Side.TheVariants.{Left, Right};
 ghost use Rattle.yaml_canon.specs.FaultPlaces.{TellsSidesPlace};
-ghost use Rattle.yaml_canon.specs.Comparing.{Compares, ComparerRefuses, side_of_fault, ComparesDocuments, RefusesDocuments};
+ghost use Rattle.yaml_canon.specs.Comparing.{Compares, ComparerRefuses, ComparesDocuments, RefusesDocuments};
 ghost use Rattle.yaml_canon.specs.Accepting.{IsSpelling, IsMemory, TellsTexts};
 ghost use Rattle.yaml_definitions.specs.model.Serial.{Document};
 ghost use Rattle.yaml_graph.specs.Composed.{Composed};
 
-use crate::graph_of::graph_unless;
+use crate::graph_of::graph_of;
+use crate::no_forest::NoForests;
 use crate::same_ranks::have_same_ranks;
+use crate::sides::{on, with_side};
 use std::alloc::Global;
 use yaml_answers::Side;
 use yaml_graph::graph::Graph;
@@ -26,30 +28,6 @@ use yaml_graph::join;
 use yaml_rank::rank;
 use yaml_rank::ranks::Ranks;
 use yaml_text::fault::Fault;
-
-/// The answer for one side: an error names the side.
-pub fn on<T>(side: Side, answer: Result<T, Fault>) -> Result<T, (Side, Fault)>
-    ensures ok { IfOk result (λ value. answer ≡ Ok value) }
-    ensures err { IfErr result (λ refusal. (answer ≡ Err refusal.1) × (refusal.0 ≡ side)) }
-{
-    match answer {
-        Ok(value) => Ok(value),
-        Err(fault) => Err((side, fault)),
-    }
-}
-
-/// The side of a fault of the joined graph, of which so many nodes are the left side's. A mapping
-/// with equal keys has its number in its own side's graph.
-pub fn with_side(nodes: usize, fault: Fault) -> (Side, Fault)
-    ensures { result ≡ side_of_fault nodes fault }
-{
-    if let Fault::EqualKeys(node, first, second) = fault {
-        if node >= nodes {
-            return (Side::Right, Fault::EqualKeys(node - nodes, first, second));
-        }
-    }
-    (Side::Left, fault)
-}
 
 /// Whether the roots from `middle` on are equally many as those before it, and of the same ranks.
 fn are_alike(graph: &Graph<'_>, ranks: &Ranks, middle: usize) -> bool
@@ -105,7 +83,10 @@ pub fn same<'a>(alloc: Global, left: &'a [u8], right: &'a [u8]) -> Result<bool, 
         Ok(answer) => return Ok(answer),
         Err(none) => none,
     };
-    let first = on(Side::Left, graph_unless(alloc, left, none.left))?;
-    let second = on(Side::Right, graph_unless(alloc, right, none.right))?;
+    if let NoForests::Refused(side, fault) = none {
+        return Err((side, fault));
+    }
+    let first = on(Side::Left, graph_of(alloc, left))?;
+    let second = on(Side::Right, graph_of(alloc, right))?;
     compare(alloc, first, second)
 }

@@ -7,7 +7,7 @@ use Rattle.yaml_sink.specs.Held.{Keeps, Puts, Alters}
 use Rattle.yaml_sink.specs.PropertyRules.{dressed}
 use Rattle.yaml_compose.specs.AheadModel.{Tells, GoesOn}
 use Rattle.yaml_compose.specs.WaitingModel.{waits, Precedes, DressesWaits, ComposesWaits}
-use Rattle.yaml_compose.specs.KeeperModel.{ComposesBut, Composes, MakesRoom, DressesOne}
+use Rattle.yaml_compose.specs.KeeperModel.{ComposesBut, Composes, MakesRoom, CountsOn, DressesOne}
 use Rattle.yaml_compose.specs.declared.ahead.Ahead.{Ahead}
 use Rattle.yaml_compose.specs.declared.keeper.Composing.{Composing}
 use Rattle.yaml_compose.proofs.WaitingLaws.{split-ends}
@@ -66,18 +66,22 @@ puts-numbered old room new e r p n w = record {
   };
 }
 
+-- nothing is known of what ended
+pub passes : (old mid new : Composing) → MakesRoom old mid → GoesOn mid.ahead new.ahead → new.count ≡ mid.count → new.gave_up ≡ mid.gave_up → waits new.waiting ≡ [] → MakesRoom old new
+passes old mid new r g n f w = record { count = n ∙ r.count; gave_up = f ∙ r.gave_up; none = w; tells = λ log h. g.tells log (r.tells log h) }
+
 -- an event of which the composer is not told
 puts-rest : (old room : Composing) (e : Event) → MakesRoom old room → ((log : List Event) → Tells room.ahead log → Tells room.ahead (log ++ (e ∷ []))) → Puts Composes old (e ∷ []) room
 puts-rest old room e r t = puts-told old room room e r (record { is = t }) refl r.none
 
-pub puts-stream-start : (old room : Composing) → MakesRoom old room → Puts Composes old (stream_start ∷ []) room
-puts-stream-start old room r = puts-rest old room stream_start r (λ log t. (tells-rest room.ahead log t).0)
+pub puts-stream-start : (old room : Composing) → MakesRoom old room → room.ahead.ended ≡ None → Puts Composes old (stream_start ∷ []) room
+puts-stream-start old room r n = puts-rest old room stream_start r (λ log t. (tells-rest room.ahead log n t).0)
 
-pub puts-stream-end : (old room : Composing) → MakesRoom old room → Puts Composes old (stream_end ∷ []) room
-puts-stream-end old room r = puts-rest old room stream_end r (λ log t. (tells-rest room.ahead log t).1)
+pub puts-stream-end : (old room : Composing) → MakesRoom old room → room.ahead.ended ≡ None → Puts Composes old (stream_end ∷ []) room
+puts-stream-end old room r n = puts-rest old room stream_end r (λ log t. (tells-rest room.ahead log n t).1)
 
-pub puts-document-end : (old room : Composing) (explicit : Bool) → MakesRoom old room → Puts Composes old (document_end explicit ∷ []) room
-puts-document-end old room explicit r = puts-rest old room (document_end explicit) r (λ log t. (tells-rest room.ahead log t).2 explicit)
+pub puts-document-end : (old room : Composing) (explicit : Bool) → MakesRoom old room → room.ahead.ended ≡ None → Puts Composes old (document_end explicit ∷ []) room
+puts-document-end old room explicit r n = puts-rest old room (document_end explicit) r (λ log t. (tells-rest room.ahead log n t).2 explicit)
 
 -- a mapping's start waits, too
 pub inserts : (old new : Composing) (start : ℕ) (flow : Bool) → old.gave_up ≡ false → old.count - start ≡ 1 → new.count ≡ old.count + 1 → new.ahead ≡ old.ahead → Precedes flow (waits old.waiting) (waits new.waiting)
@@ -163,3 +167,10 @@ gives-up-dressed old new start p n t = record { is = λ log es s h. record { cou
 
 pub gives-up-cut : (old new : Composing) (start : ℕ) → new.count ≡ min old.count start → new.gave_up ≡ true → Alters Composes start (λ _. []) old new
 gives-up-cut old new start n t = record { is = λ log es s h. record { count = omega (arith, n, s, h.count, length-append log es, ap length (append-nil log)); is = λ f. true-false new.gave_up t f } }
+
+-- an event is counted
+pub puts_counted : (old new : Composing) (e : Event) → CountsOn old new → Puts Composes old (e ∷ []) new
+puts_counted old new e c = record { is = λ log h. record { count = omega (arith, c.count, h.count, length-append log (e ∷ [])); is = λ f. true-false new.gave_up c.gave_up f } }
+
+pub inserts_counted : (old new : Composing) (start : ℕ) (e : Event) → CountsOn old new → Alters Composes start (λ es. e ∷ es) old new
+inserts_counted old new start e c = record { is = λ log es s h. record { count = omega (arith, c.count, h.count, length-append log es, length-append log (e ∷ es)); is = λ f. true-false new.gave_up c.gave_up f } }

@@ -10,13 +10,14 @@ use Rattle.yaml_compact.specs.StoreModel.{is_mapping}
 use Rattle.yaml_compact.specs.declared.nodes.Collection.{Collection}
 use Rattle.yaml_compact.specs.declared.nodes.Collection.TheVariants as kinds
 use Rattle.yaml_compose.specs.Reached.{Reaches}
-use Rattle.yaml_compose.specs.Nodes.{with_nodes, Adding, AreNodes}
+use Rattle.yaml_compose.specs.Nodes.{with_nodes, Adding, Alike, AreNodes}
 use Rattle.yaml_compose.specs.TagModel.{collection_number}
 use Rattle.yaml_compose.specs.ComposerModel.{Holds, start_of, end_of}
 use Rattle.yaml_compose.specs.ComposerLog.{Follows}
 use Rattle.yaml_compose.specs.declared.composer.Composer.{Composer}
 use Rattle.yaml_compose.proofs.ReachedLaws.{reaches-both, reaches-parts, reaches-one, one-reached, reaches-same}
 use Rattle.yaml_compose.proofs.ComposerLaws.{begun-step, ended-step}
+use Rattle.yaml_compose.proofs.AlikeLaws.{Meets, none-alike, aside-alike, scalar-alike, alias-alike, start-alike, end-alike, both-alike}
 
 -- ---- no node
 
@@ -25,25 +26,26 @@ same-state s anchors e = λ z. record { inner = sym (append-nil s.inner) z; oute
 
 pub no-nodes : AreNodes 0 []
 unfolding steps
-no-nodes = record { is = λ s t h. record { nodes = []; inside = []; after = s.table; count = refl; is = λ u e. ap (λ v. Some (Ok v)) (same-state u s.table e) } }
+no-nodes = record { is = λ s t h. record { nodes = []; inside = []; after = s.table; count = refl; is = λ u e. ap (λ v. Some (Ok v)) (same-state u s.table e) }; alike = λ s t e. none-alike s t }
 
 -- an event that changes nothing
-aside : (e : Event) → ((s : State) → step 0 e s ≡ Some (Ok s)) → AreNodes 0 (e ∷ [])
+aside : (e : Event) → ((at : ℕ) (s : State) → step at e s ≡ Some (Ok s)) → AreNodes 0 (e ∷ [])
 aside e k = record {
-  is = λ s t h. record { nodes = []; inside = []; after = s.table; count = refl; is = λ u q. reaches-one e u (with_nodes u [] [] s.table) (k u ∙ ap (λ v. Some (Ok v)) (same-state u s.table q)) };
+  is = λ s t h. record { nodes = []; inside = []; after = s.table; count = refl; is = λ u q. reaches-one e u (with_nodes u [] [] s.table) (k 0 u ∙ ap (λ v. Some (Ok v)) (same-state u s.table q)) };
+  alike = λ s t q. aside-alike e s t (λ at. k at s);
 }
 
 pub aside-start : AreNodes 0 (stream_start ∷ [])
 unfolding step
-aside-start = aside stream_start (λ s. refl)
+aside-start = aside stream_start (λ at s. refl)
 
 pub aside-end : AreNodes 0 (stream_end ∷ [])
 unfolding step
-aside-end = aside stream_end (λ s. refl)
+aside-end = aside stream_end (λ at s. refl)
 
 pub aside-document : (explicit : Bool) → AreNodes 0 (document_end explicit ∷ [])
 unfolding step
-aside-document explicit = aside (document_end explicit) (λ s. refl)
+aside-document explicit = aside (document_end explicit) (λ at s. refl)
 
 -- ---- a scalar, an alias
 
@@ -63,7 +65,7 @@ scalar-from a g y x s t (Ok r) q h =
 
 pub scalar-node : (a : Anchor) (g : WrittenTag) (y : Style) (x : List ℕ) → AreNodes 1 (scalar_event a g y x ∷ [])
 unfolding step
-scalar-node a g y x = record { is = λ s t h. scalar-from a g y x s t (resolve g y x) refl (one-reached (scalar_event a g y x) s t h) }
+scalar-node a g y x = record { is = λ s t h. scalar-from a g y x s t (resolve g y x) refl (one-reached (scalar_event a g y x) s t h); alike = λ s t e. scalar-alike a g y x s t }
 
 alias-from : (name : List ℕ) (s t : State) (r : Result Tree Cause) → tree_named (last_named name s.table) ≡ r → Some (and_then (placed 0 r) (added s)) ≡ Some (Ok t) → Adding 1 (alias_event name ∷ []) s.table
 unfolding step
@@ -82,12 +84,18 @@ alias-from name s t (Ok tree) q h =
 
 pub alias-node : (name : List ℕ) → AreNodes 1 (alias_event name ∷ [])
 unfolding step
-alias-node name = record { is = λ s t h. alias-from name s t (tree_named (last_named name s.table)) refl (one-reached (alias_event name) s t h) }
+alias-node name = record { is = λ s t h. alias-from name s t (tree_named (last_named name s.table)) refl (one-reached (alias_event name) s t h); alike = λ s t e. alias-alike name s t e }
 
 -- ---- nodes behind nodes
 
 joined : (s : State) (ts vs us ws : List Tree) (b c : Table) → with_nodes (with_nodes s ts us b) vs ws c ≡ with_nodes s (ts ++ vs) (us ++ ws) c
 joined s ts vs us ws b c = λ z. record { inner = append_assoc s.inner ts vs z; outer = s.outer; table = c; done = append_assoc s.done us ws z }
+
+-- whole nodes come to the same from another state
+nodes-meet : (n : ℕ) (xs : List Event) (s t m : State) → AreNodes n xs → s.table ≡ t.table → Reaches xs s m → Meets xs m t
+nodes-meet n xs s t m p e r =
+    let a = p.is s m r in
+    record { state = with_nodes t a.nodes a.inside a.after; is = a.is t (sym e); same = ap (λ z. z.table) (reaches-same xs s m (with_nodes s a.nodes a.inside a.after) r (a.is s refl)) }
 
 pub nodes-both : (n m : ℕ) (xs ys : List Event) → AreNodes n xs → AreNodes m ys → AreNodes (n + m) (xs ++ ys)
 nodes-both n m xs ys p q = record {
@@ -106,21 +114,22 @@ nodes-both n m xs ys p q = record {
             let w = with_nodes v b.nodes b.inside b.after in
             subst (Reaches (xs ++ ys) u) (joined u a.nodes b.nodes a.inside b.inside a.after b.after) (reaches-both xs ys u v w (a.is u e) (b.is v (sym (ap (λ k. k.table) at))));
       };
+  alike = λ s t e. both-alike xs ys s t (p.alike s t e) (λ k r. nodes-meet n xs s t k p e r) q.alike;
 }
 
 -- ---- a collection
 
 -- what a collection's start comes to
-record Begins (k : Collection) (a : Anchor) (g : WrittenTag) (s t : State) : Type 0 where
-  tag : List ℕ
-  is : collection_tag (collection_number k) g ≡ Ok tag
-  at : t ≡ collection_begun a s tag
+pub record Begins (k : Collection) (a : Anchor) (g : WrittenTag) (s t : State) : Type 0 where
+  pub tag : List ℕ
+  pub is : collection_tag (collection_number k) g ≡ Ok tag
+  pub at : t ≡ collection_begun a s tag
 
 begins-from : (k : Collection) (a : Anchor) (g : WrittenTag) (s t : State) (r : Result (List ℕ) Cause) → collection_tag (collection_number k) g ≡ r → Some (and_then (placed 0 r) (λ h. Ok (collection_begun a s h))) ≡ Some (Ok t) → Begins k a g s t
 begins-from k a g s t (Err e) q h = absurd (cc)
 begins-from k a g s t (Ok tag) q h = let e : t ≡ collection_begun a s tag = cc in record { tag = tag; is = q; at = e }
 
-begins : (k : Collection) (flow : Bool) (a : Anchor) (g : WrittenTag) (s t : State) → step 0 (start_of k flow a g) s ≡ Some (Ok t) → Begins k a g s t
+pub begins : (k : Collection) (flow : Bool) (a : Anchor) (g : WrittenTag) (s t : State) → step 0 (start_of k flow a g) s ≡ Some (Ok t) → Begins k a g s t
 unfolding step
 begins kinds.Sequence flow a g s t h = begins-from kinds.Sequence a g s t (collection_tag 1 g) refl h
 begins kinds.Mapping flow a g s t h = begins-from kinds.Mapping a g s t (collection_tag 2 g) refl h
@@ -134,6 +143,17 @@ closing j a u tag ts us slot b e =
     let v = with_nodes (collection_begun a u tag) ts us b in
     reaches-one (end_of j) v (with_nodes u (tree ∷ []) (us ++ (tree ∷ [])) (closed a slot tree b))
     (ended-step j v ∙ (λ z. Some (Ok (record { inner = u.inner ++ (tree ∷ []); outer = u.outer; table = closed a (sym e z) tree b; done = append_assoc u.done us (tree ∷ []) z }))))
+
+start-meets : (k : Collection) (flow : Bool) (a : Anchor) (g : WrittenTag) (s t m : State) → s.table ≡ t.table → Reaches (start_of k flow a g ∷ []) s m → Meets (start_of k flow a g ∷ []) m t
+start-meets k flow a g s t m e r =
+    let start = start_of k flow a g in
+    let b = begins k flow a g s m (one-reached start s m r) in
+    let u = collection_begun a t b.tag in
+    record { state = u; is = reaches-one start t u (begun-step k flow a g b.tag t b.is); same = ap (λ z. z.table) b.at ∙ ap (opened a) e }
+
+-- events behind a collection's start
+pub opened-alike : (k : Collection) (flow : Bool) (a : Anchor) (g : WrittenTag) (es : List Event) → ((m n : State) → m.table ≡ n.table → Alike es m n) → (s t : State) → s.table ≡ t.table → Alike (start_of k flow a g ∷ es) s t
+opened-alike k flow a g es f s t e = both-alike (start_of k flow a g ∷ []) es s t (start-alike k flow a g s t) (λ m r. start-meets k flow a g s t m e r) f
 
 pub collection-node : (k j : Collection) (flow : Bool) (a : Anchor) (g : WrittenTag) (n : ℕ) (es : List Event) → AreNodes n es → AreNodes 1 (start_of k flow a g ∷ (es ++ (end_of j ∷ [])))
 collection-node k j flow a g n es p = record {
@@ -158,6 +178,7 @@ collection-node k j flow a g n es p = record {
             let same : v.table ≡ f.middle.table = ap (opened a) e ∙ sym (ap (λ y. y.table) b.at) in
             reaches-both (start ∷ []) (es ++ last) u v x (reaches-one start u v (begun-step k flow a g b.tag u b.is)) (reaches-both es last v w x (c.is v same) (closing j a u b.tag c.nodes c.inside (length s.table) c.after (ap length (sym e))));
       };
+  alike = opened-alike k flow a g (es ++ (end_of j ∷ [])) (λ m l q. both-alike es (end_of j ∷ []) m l (p.alike m l q) (λ r h. nodes-meet n es m l r p q h) (λ r h u. end-alike j r h));
 }
 
 -- ---- a mapping that begins before a node

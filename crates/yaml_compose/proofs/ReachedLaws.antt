@@ -105,33 +105,34 @@ reaches-same es s t u h k = one-state (steps 0 es s) t u h k
 
 -- ---- whole streams
 
--- The documents unfold to trees, which stand behind these.
-record Adds (ds : List Document) (before after : List Tree) : Type 0 where
+-- The documents unfold to trees, which stand behind these, and their nodes behind those.
+record Adds (ds : List Document) (before after closed more : List Tree) : Type 0 where
   added : List Tree
   unfolded : trees_of ds ≡ Ok added
   is : after ≡ before ++ added
+  nodes : more ≡ closed ++ stream_trees ds added
 
-added-of : (ds : List Document) (roots all : List Tree) (o : Outcome (List Tree)) (ts us : List Tree) → trees_of ds ≡ o → Some (Ok (ts, us)) ≡ Some (and_then o (with_all roots all ds)) → Adds ds roots ts
+added-of : (ds : List Document) (roots all : List Tree) (o : Outcome (List Tree)) (ts us : List Tree) → trees_of ds ≡ o → Some (Ok (ts, us)) ≡ Some (and_then o (with_all roots all ds)) → Adds ds roots ts all us
 added-of ds roots all (Ok f) ts us q h =
     let given : List Tree × List Tree = (ts, us) in
     let made : List Tree × List Tree = (roots ++ f, all ++ stream_trees ds f) in
     let e : given ≡ made = cc in
-    record { added = f; unfolded = q; is = ap (λ p. p.0) e }
+    record { added = f; unfolded = q; is = ap (λ p. p.0) e; nodes = ap (λ p. p.1) e }
 added-of ds roots all (Err e) ts us q h = absurd (cc)
 
 -- a stream whose events follow where no collection is open
-adds-closed : (ds : List Document) (roots all : List Tree) (e : Table) (t : State) → Reaches (stream_events ds) (record { inner = roots; outer = []; table = e; done = all }) t → Adds ds roots t.inner
+adds-closed : (ds : List Document) (roots all : List Tree) (e : Table) (t : State) → Reaches (stream_events ds) (record { inner = roots; outer = []; table = e; done = all }) t → Adds ds roots t.inner all t.done
 unfolding steps step stream_events
 adds-closed ds roots all e t h = added-of ds roots all (trees_of ds) t.inner t.done refl (sym (ap comes_to h) ∙ run-documents ds 1 roots e all)
 
 -- a stream whose events follow anywhere: a document begins only where no collection is open
-adds : (ds : List Document) (roots all : List Tree) (outer : List Open) (e : Table) (t : State) → Reaches (stream_events ds) (record { inner = roots; outer = outer; table = e; done = all }) t → Adds ds roots t.inner
-unfolding steps step stream_events trees_from
+adds : (ds : List Document) (roots all : List Tree) (outer : List Open) (e : Table) (t : State) → Reaches (stream_events ds) (record { inner = roots; outer = outer; table = e; done = all }) t → Adds ds roots t.inner all t.done
+unfolding steps step stream_events stream_trees trees_from
 adds ds roots all [] e t h = adds-closed ds roots all e t h
 adds [] roots all (o ∷ os) e t h =
     let s : State = record { inner = roots; outer = o ∷ os; table = e; done = all } in
     let q : s ≡ t = cc in
-    record { added = []; unfolded = refl; is = sym (ap (λ z. z.inner) q) ∙ sym (append-nil roots) }
+    record { added = []; unfolded = refl; is = sym (ap (λ z. z.inner) q) ∙ sym (append-nil roots); nodes = sym (ap (λ z. z.done) q) ∙ sym (append-nil all) }
 adds (d ∷ ds) roots all (o ∷ os) e t h = absurd (cc)
 
 closed-from : (ds : List Document) (o : Outcome (List Tree)) (ts us : List Tree) → Some (Ok (ts, us)) ≡ Some (and_then o (with_all [] [] ds)) → us ≡ stream_trees ds ts
@@ -156,4 +157,11 @@ two-streams-are-forests ds es t h =
     let b = reaches-parts (stream_events ds) (stream_events es) initial_state t h in
     let m = b.middle in
     let a = adds es m.inner m.done m.outer m.table t b.back in
-    record { lefts = m.inner; rights = a.added; first = stream-is-forest ds m b.front; second = a.unfolded; is = a.is }
+    record {
+      lefts = m.inner;
+      rights = a.added;
+      first = stream-is-forest ds m b.front;
+      second = a.unfolded;
+      is = a.is;
+      nodes = a.nodes ∙ ap (λ us. us ++ stream_trees es a.added) (stream-closes ds m b.front);
+    }

@@ -60,7 +60,7 @@ cleared-at at s [] x h = absurd (cc)
 cleared-at at s (o ∷ os) x h = absurd (cc)
 
 -- an event is refused with its own number
-step-at : (at : ℕ) (e : Event) (s : State) (x : Cause × ℕ) → step at e s ≡ Some (Err x) → x.1 ≡ at
+pub step-at : (at : ℕ) (e : Event) (s : State) (x : Cause × ℕ) → step at e s ≡ Some (Err x) → x.1 ≡ at
 unfolding step
 step-at at (scalar_event a g y t) s x h = placed-at at (resolve g y t) (λ r. whole a (length s.table) (scalar r.0 r.1) (node_begun a s)) x h
 step-at at (alias_event name) s x h = placed-at {Y = State} at (tree_named (last_named name s.table)) (λ t. record { inner = s.inner ++ (t ∷ []); outer = s.outer; table = s.table; done = s.done }) x h
@@ -81,7 +81,7 @@ next-at at e es s x (Some (Err y)) q k h =
     omega (arith, step-at at e s y q, ap (λ p. p.1) same)
 next-at at e es s x (Some (Ok m)) q k h = omega (arith, k m h)
 
-steps-at : (es : List Event) (at : ℕ) (s : State) (x : Cause × ℕ) → steps at es s ≡ Some (Err x) → at ≤ x.1
+pub steps-at : (es : List Event) (at : ℕ) (s : State) (x : Cause × ℕ) → steps at es s ≡ Some (Err x) → at ≤ x.1
 unfolding steps
 steps-at [] at s x h = absurd (cc)
 steps-at (e ∷ es) at s x h = next-at at e es s x (step at e s) refl (λ m k. omega (arith, steps-at es (suc at) m x k)) h
@@ -110,7 +110,7 @@ next-from None m f g r k h = absurd (cc)
 next-from (Some (Err y)) m f g r k h = absurd (cc)
 next-from (Some (Ok t)) m f g r k h = k t h
 
-steps-behind : (xs ys : List Event) (at : ℕ) (s m : State) → steps at xs s ≡ Some (Ok m) → steps at (xs ++ ys) s ≡ steps (at + length xs) ys m
+pub steps-behind : (xs ys : List Event) (at : ℕ) (s m : State) → steps at xs s ≡ Some (Ok m) → steps at (xs ++ ys) s ≡ steps (at + length xs) ys m
 unfolding steps
 steps-behind [] ys at s m h =
     let e : s ≡ m = cc in

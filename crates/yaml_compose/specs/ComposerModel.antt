@@ -1,9 +1,10 @@
 -- What the composer holds, as plain values.
-use Rattle.std.specs.Prelude.{◌≡◌, ◌<◌, ℕ, Bool, List, [], ◌∷◌, ◌++◌, length, reverse, Option, Some, None, Ok}
+use Rattle.std.specs.Prelude.{◌≡◌, ◌⊎◌, ◌<◌, ℕ, Bool, List, [], ◌∷◌, ◌++◌, length, reverse, Option, Some, None, Ok}
 use Rattle.std.specs.List.{slice_get}
 use Rattle.yaml_definitions.specs.model.Tree.{Tree}
 use Rattle.yaml_definitions.specs.model.Event.{Anchor, Event, WrittenTag, sequence_start, sequence_end, mapping_start, mapping_end}
 use Rattle.yaml_definitions.specs.model.Serial.{Document}
+use Rattle.yaml_definitions.specs.model.Core.{collection_tag}
 use Rattle.yaml_definitions.specs.model.Unfold.{Table, trees_of as trees_unfolded}
 use Rattle.yaml_nodes.specs.ComposerSteps as machine
 use Rattle.yaml_nodes.specs.ComposerModel.{names_of, Placed}
@@ -17,7 +18,7 @@ use Rattle.yaml_compact.specs.declared.nodes.Collection.TheVariants.{Sequence, M
 use Rattle.yaml_compose.specs.Reached.{UnfoldBoth}
 use Rattle.yaml_compose.specs.AnchorsModel.{Names}
 use Rattle.yaml_compose.specs.FirstsModel.{Counted}
-use Rattle.yaml_compose.specs.TagModel.{AreCore}
+use Rattle.yaml_compose.specs.TagModel.{collection_number, AreCore}
 use Rattle.yaml_compose.specs.declared.core_tags.CoreTags.{CoreTags}
 use Rattle.yaml_compose.specs.declared.composer.Open.{Open}
 use Rattle.yaml_compose.specs.declared.composer.Composer.{Composer}
@@ -83,6 +84,16 @@ pub record Stepped (e : Event) (s : machine.State) (c : Composer) : Type 0 where
   pub is : machine.step 0 e s ≡ Some (Ok state)
   pub holds : Holds c state
 
+-- A collection of the kind may have this tag, and this is the tag's number.
+pub record IsNumber (k : Collection) (g : WrittenTag) (c : Composer) (n : ℕ) : Type 0 where
+  pub tag : List ℕ
+  pub is : collection_tag (collection_number k) g ≡ Ok tag
+  pub at : slice_get (tags_of c.store) n ≡ Some tag
+
+-- not two places, and the one that there is
+abbrev pub IsOnePlace : Option ℕ → Option ℕ → Option ℕ → Type 0
+IsOnePlace outer own place = ((outer ≡ None) × (place ≡ own)) ⊎ ((own ≡ None) × (place ≡ outer))
+
 abbrev pub start_of : Collection → (flow : Bool) → Anchor → WrittenTag → Event
 start_of Sequence flow a g = sequence_start flow a g
 start_of Mapping flow a g = mapping_start flow a g
@@ -102,11 +113,14 @@ pub record IsForest (ds : List Document) (f : Forest) : Type 0 where
   pub numbered : Numbers (trees_of f.store) f.firsts.items (stream_trees ds trees_are)
   pub few : length (stream_trees ds trees_are) < 4294967296
 
--- the same of the documents of two streams, the roots of the first before those of the second, but for the places
+-- the same of the documents of two streams, the roots and nodes of the first before those of the second
 pub record AreForests (ds es : List Document) (f : Forest) : Type 0 where
   pub trees_are : List Tree
-  pub unfolded : UnfoldBoth ds es trees_are
+  pub nodes_are : List Tree
+  pub unfolded : UnfoldBoth ds es trees_are nodes_are
   pub low : AreLow trees_are
   pub good : Good f.store
   pub level : IsLow f.store
   pub roots : AllAt (trees_of f.store) f.roots.items trees_are
+  pub numbered : Numbers (trees_of f.store) f.firsts.items nodes_are
+  pub few : length nodes_are < 4294967296

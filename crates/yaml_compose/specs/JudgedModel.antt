@@ -1,5 +1,5 @@
 -- What a composer was told up to the first event that is refused, and behind it.
-use Rattle.std.specs.Prelude.{◌≡◌, ℕ, List, [], ◌∷◌, ◌++◌, length, Option, Some, None, Err}
+use Rattle.std.specs.Prelude.{◌≡◌, ◌<◌, ◌≤◌, ℕ, List, [], ◌∷◌, ◌++◌, length, Option, Some, None, Err}
 use Rattle.yaml_definitions.specs.model.Event.{Event}
 use Rattle.yaml_nodes.specs.ComposerSteps.{initial_state, steps}
 use Rattle.yaml_compose.specs.ComposerLog.{Follows}
@@ -20,6 +20,16 @@ FollowsUnless (Some r) c told = IsFirstRefused r told
 -- these events were told
 abbrev pub Judges : Judged → List Event → Type 0
 Judges j told = FollowsUnless j.refusal j.composer told
+
+-- an event before this one is refused
+abbrev pub IsBefore : ℕ → Option Refusal → Type 0
+IsBefore start None = ⊥
+IsBefore start (Some r) = r.at < start
+
+-- none is
+abbrev pub IsNoneBefore : ℕ → Option Refusal → Type 0
+IsNoneBefore start None = Unit {0}
+IsNoneBefore start (Some r) = start ≤ r.at
 
 -- One event more was told, which has this number.
 pub record Takes (at : ℕ) (e : Event) (before after : Judged) : Type 0 where

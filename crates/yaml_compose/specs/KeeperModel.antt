@@ -1,5 +1,5 @@
 -- What a keeper that composes holds.
-use Rattle.std.specs.Prelude.{◌≡◌, ℕ, ◌+◌, false, List, [], ◌++◌, length}
+use Rattle.std.specs.Prelude.{◌≡◌, ℕ, ◌+◌, true, false, List, [], ◌++◌, length}
 use Rattle.yaml_definitions.specs.model.Event.{Event}
 use Rattle.yaml_definitions.specs.grammar.Events.{Props}
 use Rattle.yaml_sink.specs.PropertyRules.{dressed}
@@ -27,6 +27,11 @@ pub record MakesRoom (before after : Composing) : Type 0 where
   pub gave_up : after.gave_up ≡ false
   pub none : waits after.waiting ≡ []
   pub tells : (log : List Event) → Composes before log → Tells after.ahead log
+
+-- One event more is counted, and not composed.
+pub record CountsOn (before after : Composing) : Type 0 where
+  pub count : after.count ≡ before.count + 1
+  pub gave_up : after.gave_up ≡ true
 
 -- An event gets properties.
 pub record DressesOne (before : Composing) (start : ℕ) (p : Props) (after : Composing) : Type 0 where

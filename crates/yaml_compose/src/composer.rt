@@ -1,5 +1,5 @@
 //! From nodes, as they begin and end, to nodes of a store. Where a node has no tree it says why. It may give up.
-ghost use Rattle.std.specs.Prelude.{◌≡◌, ℕ, Bool, List, ◌∷◌, ◌++◌, length, drop, None, Ok, IfOk, IfErr, MatchResult};
+ghost use Rattle.std.specs.Prelude.{◌≡◌, ℕ, Bool, false, List, ◌∷◌, ◌++◌, length, drop, None, Ok, IfOk, IfErr, MatchResult};
 ghost use Rattle.std.specs.Cow.{cow_str_bytes};
 ghost use Rattle.yaml_definitions.specs.model.Tree.{Tree, scalar};
 ghost use Rattle.yaml_definitions.specs.model.Event.{Anchor, Event, WrittenTag, Style as PlainStyle, untagged, plain, document_start, mapping_start, scalar_event, alias_event};
@@ -17,15 +17,16 @@ ghost use Rattle.yaml_compose.specs.Reached.{Reaches, UnfoldTo};
 ghost use Rattle.yaml_compose.specs.Nodes.{AreNodes};
 ghost use Rattle.yaml_compose.specs.FirstsModel.{Comes};
 ghost use Rattle.yaml_compose.specs.TagModel.{collection_number, KeepsTexts};
-ghost use Rattle.yaml_compose.specs.ComposerModel.{with_store, Holds, Stepped, IsForest, AreForests, start_of, end_of};
-ghost use Rattle.yaml_compose.specs.ComposerLog.{Follows};
+ghost use Rattle.yaml_compose.specs.ComposerModel.{with_store, Holds, Stepped, IsForest, AreForests, IsNumber, IsOnePlace, start_of, end_of};
+ghost use Rattle.yaml_compose.specs.ComposerLog.{Follows, SettlesAlone, SettlesKey};
 ghost use Rattle.yaml_compose.specs.Refusals.{Stops, RefusesForest};
 
 use crate::anchors::Anchors;
 use crate::core_tags::CoreTags;
 use crate::firsts::Firsts;
+use crate::size::StreamSize;
 use crate::stop::{Cause, Stop};
-use crate::tag::{keeps_texts, tag_of};
+use crate::tag::{keeps_texts, tag_given, tag_of};
 use crate::too_high::first_too_high;
 use crate::unmade::Unmade;
 use std::alloc::Global;
@@ -80,6 +81,17 @@ fn parts_from(stack: &[u32], mark: usize) -> Result<&[u32], GivesUp>
     Ok(&stack[mark..])
 }
 
+/// The place of a node among the anchored ones, which it has as its own or from lines above, but not both.
+fn one_place(outer: Option<usize>, own: Option<usize>) -> Result<Option<usize>, GivesUp>
+    ensures { IfOk result (IsOnePlace outer own) }
+{
+    match (outer, own) {
+        (None, place) => Ok(place),
+        (place, None) => Ok(place),
+        _ => Err(GivesUp),
+    }
+}
+
 /// The nodes of a stream, the numbers of its documents' roots, and for each node the first one of the
 /// stream that it stands for.
 #[derive(Drop)]
@@ -119,14 +131,21 @@ impl<'s> Composer<'s> {
         Ok(())
     }
 
-    /// How many documents there are, where no collection is open.
-    pub(crate) fn documents(&self) -> Result<usize, GivesUp>
-        ensures { (ds : List Document) (s : State) → Reaches (stream_events ds) initial_state s → Holds self.now s → IfOk result (UnfoldTo ds) }
+    /// How many documents and nodes there are, where no collection is open.
+    pub(crate) fn documents(&self) -> Result<StreamSize, Unmade>
+        ensures size { (ds : List Document) (s : State) → Reaches (stream_events ds) initial_state s → Holds self.now s → IfOk result (UnfoldTo ds) }
+        ensures refused { (ds : List Document) (s : State) → Reaches (stream_events ds) initial_state s → Holds self.now s → IfErr result (RefusesForest ds) }
     {
         if self.opens.len() > 0 {
-            return Err(GivesUp);
+            return Err(Unmade::GivesUp);
         }
-        Ok(self.stack.len())
+        if let Some(document) = first_too_high(&self.store, &self.stack) {
+            return Err(Unmade::Refused(Fault::TooHigh(document)));
+        }
+        Ok(StreamSize {
+            documents: self.stack.len(),
+            nodes: self.firsts.closed as usize,
+        })
     }
 
     /// The stream ends, or the second of two.
@@ -444,6 +463,90 @@ impl<'s> Composer<'s> {
             }
             Some(given) => self.begin_collection(alloc, collection, given),
         }
+    }
+
+    /// A mapping without a tag begins, of whose properties only the anchor counts.
+    pub(crate) fn begin_untagged(&mut self, properties: &Properties<'_>) -> Result<(), GivesUp>
+        ensures { (s : State) → Holds self.old s → IfOk result (λ _. Stepped (mapping_start false (props_of properties.now).anchor untagged) s self.new) }
+    {
+        match &properties.given {
+            None => {
+                self.begin_bare(None, Collection::Mapping)?;
+                Ok(())
+            }
+            Some(given) => {
+                let place = self.begin_node(given)?;
+                self.begin_bare(place, Collection::Mapping)?;
+                Ok(())
+            }
+        }
+    }
+
+    /// The number of the tag of a collection with these properties, which it may have.
+    fn number_of(
+        &mut self,
+        alloc: Global,
+        collection: Collection,
+        properties: &Properties<'_>,
+    ) -> Result<u32, GivesUp>
+        ensures { (s : State) → Holds self.old s → IfOk result (λ n. IsNumber collection (props_of properties.now).tag self.new n × Holds self.new s) }
+    {
+        let Ok(text) = tag_given(collection, properties) else {
+            return Err(GivesUp);
+        };
+        let number = self.store.tag(alloc, text)?;
+        Ok(number)
+    }
+
+    /// The innermost collection stands in the place of the mapping around it, and has these properties.
+    pub(crate) fn settle_alone(
+        &mut self,
+        alloc: Global,
+        collection: Collection,
+        properties: &Properties<'_>,
+    ) -> Result<(), GivesUp>
+        ensures { (start : ℕ) → IfOk result (λ _. SettlesAlone Follows start collection (props_of properties.now) self.old self.new) }
+    {
+        let tag = self.number_of(alloc, collection, properties)?;
+        let Some(own) = self.opens.pop() else {
+            return Err(GivesUp);
+        };
+        let Some(outer) = self.opens.pop() else {
+            return Err(GivesUp);
+        };
+        let place = one_place(outer.place, own.place)?;
+        self.opens.push(Open {
+            place,
+            collection,
+            tag,
+            mark: outer.mark,
+        })?;
+        Ok(())
+    }
+
+    /// The mapping around the innermost collection has the tag of these properties.
+    pub(crate) fn settle_key(
+        &mut self,
+        alloc: Global,
+        properties: &Properties<'_>,
+    ) -> Result<(), GivesUp>
+        ensures { (start : ℕ) → IfOk result (λ _. SettlesKey Follows start (props_of properties.now) self.old self.new) }
+    {
+        let tag = self.number_of(alloc, Collection::Mapping, properties)?;
+        let Some(own) = self.opens.pop() else {
+            return Err(GivesUp);
+        };
+        let Some(outer) = self.opens.pop() else {
+            return Err(GivesUp);
+        };
+        self.opens.push(Open {
+            place: outer.place,
+            collection: outer.collection,
+            tag,
+            mark: outer.mark,
+        })?;
+        self.opens.push(own)?;
+        Ok(())
     }
 
     /// A mapping without properties begins before the node that became whole last.

@@ -5,6 +5,7 @@ ghost use Rattle.std.specs.Option.{option_map};
 ghost use Rattle.std.specs.Cow.{cow_str_bytes};
 ghost use Rattle.yaml_text.specs.EventModel.{written_of};
 ghost use Rattle.yaml_sink.specs.PropertyRules.{props_of};
+ghost use Rattle.yaml_compose.specs.ComposerLog.{IsOneAnchor, HasOwnTag};
 
 use std::alloc::Global;
 use std::borrow::CowStr;
@@ -192,4 +193,59 @@ pub(crate) fn are_same(one: &Properties<'_>, two: &Properties<'_>) -> bool
         }
         _ => false,
     }
+}
+
+/// The name of an anchor, if there is one.
+fn anchor_in<'p>(properties: &'p Properties<'_>) -> Option<&'p str>
+    ensures { option_map (λ name. name.now) result ≡ (props_of properties.now).anchor }
+{
+    match &properties.given {
+        None => None,
+        Some(given) => match &given.anchor {
+            None => None,
+            Some(name) => Some(name.as_str()),
+        },
+    }
+}
+
+/// Whether both are absent or the same.
+fn same_name(one: Option<&str>, two: Option<&str>) -> bool
+    ensures { OnTrue result (option_map (λ name. name.now) one.entry ≡ option_map (λ name. name.now) two.entry) }
+{
+    match (one, two) {
+        (None, None) => true,
+        (Some(one), Some(two)) => one == two,
+        _ => false,
+    }
+}
+
+/// Whether one of two nodes has an anchor, or none has, and the third has that one.
+fn is_one_anchor(outer: Option<&str>, own: Option<&str>, both: Option<&str>) -> bool
+    ensures { OnTrue result (IsOneAnchor (option_map (λ name. name.now) outer.entry) (option_map (λ name. name.now) own.entry) (option_map (λ name. name.now) both.entry)) }
+{
+    match (outer, own) {
+        (None, _) => same_name(both, own),
+        (_, None) => same_name(both, outer),
+        _ => false,
+    }
+}
+
+/// Whether a node has no tag of its own, or the other has that one.
+fn has_own_tag(own: &Properties<'_>, both: &Properties<'_>) -> bool
+    ensures { OnTrue result (HasOwnTag (props_of own.now).tag (props_of both.now).tag) }
+{
+    match (&own.given, &both.given) {
+        (None, _) => true,
+        (Some(own), None) => matches!(own.tag, EventTag::None),
+        (Some(own), Some(both)) => matches!(own.tag, EventTag::None)
+            || same_tag(&both.tag, &own.tag),
+    }
+}
+
+/// Whether these may be a node's own properties together with those on lines above.
+pub(crate) fn are_both(outer: &Properties<'_>, own: &Properties<'_>, both: &Properties<'_>) -> bool
+    ensures anchor { OnTrue result (IsOneAnchor (props_of outer.now).anchor (props_of own.now).anchor (props_of both.now).anchor) }
+    ensures tag { OnTrue result (HasOwnTag (props_of own.now).tag (props_of both.now).tag) }
+{
+    is_one_anchor(anchor_in(outer), anchor_in(own), anchor_in(both)) && has_own_tag(own, both)
 }

@@ -12,7 +12,7 @@ use yaml_compact::gives_up::GivesUp;
 pub(crate) struct Firsts {
     pub(crate) numbers: Vec<u32>,
     /// How many nodes of the stream closed.
-    closed: u32,
+    pub(crate) closed: u32,
 }
 
 impl Firsts {

@@ -1,5 +1,6 @@
 //! A composer up to the first event that is refused.
-ghost use Rattle.std.specs.Prelude.{◌≡◌, Bool, List, [], ◌∷◌, ◌++◌, length, None, IfOk, IfErr};
+ghost use Rattle.std.specs.Prelude.{◌≡◌, Bool, false, List, [], ◌∷◌, ◌++◌, length, None, IfOk, IfErr};
+ghost use Rattle.std.specs.Bool.{OnTrue, OnFalse};
 ghost use Rattle.std.specs.Cow.{cow_str_bytes};
 ghost use Rattle.yaml_definitions.specs.model.Event.{Event, untagged, document_start, mapping_start, scalar_event, alias_event};
 ghost use Rattle.yaml_definitions.specs.model.Serial.{Document, stream_events};
@@ -10,10 +11,13 @@ ghost use Rattle.yaml_compose.specs.Reached.{UnfoldTo};
 ghost use Rattle.yaml_compose.specs.Nodes.{AreNodes};
 ghost use Rattle.yaml_compose.specs.ComposerModel.{IsForest, AreForests, start_of, end_of};
 ghost use Rattle.yaml_compose.specs.Refusals.{RefusesForest};
-ghost use Rattle.yaml_compose.specs.JudgedModel.{Judges, Takes};
+ghost use Rattle.yaml_compose.specs.ComposerLog.{SettlesAlone, SettlesKey};
+ghost use Rattle.yaml_compose.specs.JudgedModel.{Judges, Takes, IsBefore, IsNoneBefore};
 
 use crate::composer::{Composer, Forest};
+use crate::size::StreamSize;
 use crate::stop::Refusal;
+use crate::tag::tag_given;
 use crate::unmade::Unmade;
 use std::alloc::Global;
 use std::borrow::CowStr;
@@ -118,8 +122,7 @@ impl<'s> Judged<'s> {
         Ok(())
     }
 
-    /// A mapping without properties begins before the node that became whole last, whose first event has this number. It gives up
-    /// where the event that is refused would get another number.
+    /// A mapping without properties begins before the node that became whole last, whose first event has this number.
     pub(crate) fn precede(&mut self, start: usize) -> Result<(), GivesUp>
         ensures { (front es : List Event) → start ≡ length front → AreNodes 1 es → Judges self.old (front ++ es) → IfOk result (λ _. (flow : Bool) → Judges self.new (front ++ (mapping_start flow None untagged ∷ es))) }
     {
@@ -127,22 +130,105 @@ impl<'s> Judged<'s> {
             self.composer.precede()?;
             return Ok(());
         };
-        if refusal.at >= start {
-            return Err(GivesUp);
+        if refusal.at < start {
+            return Ok(());
         }
+        let Some(at) = refusal.at.checked_add(1) else {
+            return Err(GivesUp);
+        };
+        self.refusal = Some(Refusal {
+            cause: refusal.cause,
+            at,
+        });
         Ok(())
     }
 
-    /// How many documents there are, where no collection is open.
-    pub(crate) fn documents(&self) -> Result<usize, Unmade>
+    /// A mapping without a tag begins, of whose properties only the anchor counts.
+    pub(crate) fn begin_untagged(&mut self, properties: &Properties<'_>) -> Result<(), GivesUp>
+        ensures { IfOk result (λ _. Puts Judges self.old (mapping_start false (props_of properties.now).anchor untagged ∷ []) self.new) }
+    {
+        if let Some(_) = self.refusal {
+            return Ok(());
+        }
+        self.composer.begin_untagged(properties)?;
+        Ok(())
+    }
+
+    /// Whether an event before that of this number is refused.
+    fn is_refused_before(&self, start: usize) -> bool
+        ensures yes { OnTrue result (IsBefore start self.now.refusal) }
+        ensures no { OnFalse result (IsNoneBefore start self.now.refusal) }
+    {
+        match self.refusal {
+            None => false,
+            Some(refusal) => refusal.at < start,
+        }
+    }
+
+    /// The event of this number began a mapping around the innermost collection. There is no mapping: the collection has these
+    /// properties.
+    pub(crate) fn settle_alone(
+        &mut self,
+        alloc: Global,
+        start: usize,
+        collection: Collection,
+        properties: &Properties<'_>,
+    ) -> Result<(), GivesUp>
+        ensures { IfOk result (λ _. SettlesAlone Judges start collection (props_of properties.now) self.old self.new) }
+    {
+        if self.is_refused_before(start) {
+            return Ok(());
+        }
+        if let Err(stop) = tag_given(collection, properties) {
+            self.refusal = Some(stop.refusal(start)?);
+            return Ok(());
+        }
+        let Some(refusal) = self.refusal else {
+            self.composer.settle_alone(alloc, collection, properties)?;
+            return Ok(());
+        };
+        let Some(at) = refusal.at.checked_sub(1) else {
+            return Err(GivesUp);
+        };
+        self.refusal = Some(Refusal {
+            cause: refusal.cause,
+            at,
+        });
+        Ok(())
+    }
+
+    /// The event of this number began a mapping around the innermost collection, which has these properties.
+    pub(crate) fn settle_key(
+        &mut self,
+        alloc: Global,
+        start: usize,
+        properties: &Properties<'_>,
+    ) -> Result<(), GivesUp>
+        ensures { IfOk result (λ _. SettlesKey Judges start (props_of properties.now) self.old self.new) }
+    {
+        if self.is_refused_before(start) {
+            return Ok(());
+        }
+        if let Err(stop) = tag_given(Collection::Mapping, properties) {
+            self.refusal = Some(stop.refusal(start)?);
+            return Ok(());
+        }
+        if let Some(_) = self.refusal {
+            return Ok(());
+        }
+        self.composer.settle_key(alloc, properties)?;
+        Ok(())
+    }
+
+    /// How many documents and nodes there are, where no collection is open.
+    pub(crate) fn documents(&self) -> Result<StreamSize, Unmade>
         ensures count { (ds : List Document) → Judges self.now (stream_events ds) → IfOk result (UnfoldTo ds) }
         ensures refused { (ds : List Document) → Judges self.now (stream_events ds) → IfErr result (RefusesForest ds) }
     {
         if let Some(refusal) = self.refusal {
             return Err(Unmade::Refused(refusal.fault()));
         }
-        let documents = self.composer.documents()?;
-        Ok(documents)
+        self.composer.documents()
     }
 
     /// The stream ends, or the second of two.

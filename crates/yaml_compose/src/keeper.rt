@@ -4,16 +4,18 @@ ghost use Rattle.std.specs.Cow.{cow_str_bytes};
 ghost use Rattle.yaml_definitions.specs.model.Event.{Event as PlainEvent, untagged, scalar_event, alias_event, document_start, mapping_start};
 ghost use Rattle.yaml_definitions.specs.model.Serial.{Document, stream_events};
 ghost use Rattle.yaml_text.specs.EventModel.{event_of, style_of};
+ghost use Rattle.yaml_text.specs.declared.fault.Fault.TheVariants.{OutOfMemory};
 ghost use Rattle.yaml_sink.specs.Held.{Keeps, Puts, Alters};
 ghost use Rattle.yaml_sink.specs.PropertyRules.{props_of};
 ghost use Rattle.yaml_sink.specs.SinkModel.{start_of, end_of};
 ghost use Rattle.yaml_compose.specs.Reached.{UnfoldTo};
 ghost use Rattle.yaml_compose.specs.ComposerModel.{IsForest, AreForests};
-ghost use Rattle.yaml_compose.specs.KeeperModel.{Composes, MakesRoom, DressesOne};
+ghost use Rattle.yaml_compose.specs.KeeperModel.{Composes, MakesRoom, CountsOn, DressesOne};
 ghost use Rattle.yaml_compose.specs.Refusals.{RefusesForest};
 
 use crate::ahead::Ahead;
 use crate::composer::Forest;
+use crate::size::StreamSize;
 use crate::unmade::Unmade;
 use crate::waiting::{Late, Waiting};
 use std::alloc::Global;
@@ -36,9 +38,9 @@ fn content_offset(style: Style, at: usize) -> usize {
     }
 }
 
-/// A reader's events, composed as they come. Where a node has no tree it goes on counting, and at the end it tells why. It gives up
-/// where a number does not fit, and where a collection gets properties that it did not know when it began, as those of a block
-/// mapping are whose first key is a collection. Then it says that there is no memory.
+/// A reader's events, composed as they come. Where a node has no tree it goes on counting, and at the end it tells why. So it does
+/// where events are taken back, as a reader does just before it rejects a text. It gives up where a number does not fit, and says
+/// that there is no memory.
 #[derive(Drop)]
 pub struct Composing<'s> {
     alloc: Global,
@@ -46,8 +48,10 @@ pub struct Composing<'s> {
     lent: &'s str,
     ahead: Ahead<'s>,
     waiting: Waiting<'s>,
-    /// The properties of the collection that follows, if they are known.
+    /// The properties of the collection that follows, if they are known: those on its line, or else those on lines above.
     announced: Option<Properties<'s>>,
+    /// Those on lines above, where those on its line are known, too.
+    above: Option<Properties<'s>>,
     /// How many events are held.
     count: usize,
     /// Whether what is composed is of no use.
@@ -66,6 +70,7 @@ impl<'s> Composing<'s> {
             ahead,
             waiting: Waiting::new(alloc),
             announced: None,
+            above: None,
             count: 0,
             gave_up: false,
         })
@@ -84,6 +89,20 @@ impl<'s> Composing<'s> {
             return Err(GivesUp);
         };
         self.count = count;
+        Ok(())
+    }
+
+    /// Counts one event more, where what is composed is of no use.
+    #[inline(never)]
+    fn count_on(&mut self) -> Result<(), Fault>
+        ensures ok { IfOk result (λ _. CountsOn self.old self.new) }
+        ensures err { IfErr result (λ e. e ≡ OutOfMemory) }
+    {
+        let Some(count) = self.count.checked_add(1) else {
+            return Err(Fault::OutOfMemory);
+        };
+        self.count = count;
+        self.gave_up = true;
         Ok(())
     }
 
@@ -135,9 +154,19 @@ impl<'s> Composing<'s> {
     fn put_start(&mut self, collection: Collection, flow: bool) -> Result<(), GivesUp>
         ensures { IfOk result (λ _. Puts Composes self.old (start_of collection flow ∷ []) self.new) }
     {
+        let at = self.count;
         self.make_room()?;
-        let due = mem::replace(&mut self.announced, None);
-        self.waiting.put_start(self.alloc, collection, flow, due)?;
+        let Some(own) = mem::replace(&mut self.announced, None) else {
+            self.waiting
+                .put(self.alloc, Late::Start(collection, flow), "", 0)?;
+            return Ok(());
+        };
+        let Some(outer) = mem::replace(&mut self.above, None) else {
+            self.ahead.begin_due(self.alloc, collection, at, own)?;
+            return Ok(());
+        };
+        self.ahead
+            .begin_below(self.alloc, collection, at, own, outer)?;
         Ok(())
     }
 
@@ -159,6 +188,16 @@ impl<'s> Composing<'s> {
         Ok(())
     }
 
+    /// Counts an event of which the composer is not told, behind what is composed.
+    fn pass(&mut self) -> Result<(), GivesUp>
+        ensures room { IfOk result (λ _. MakesRoom self.old self.new) }
+        ensures none { IfOk result (λ _. self.new.ahead.ended ≡ None) }
+    {
+        self.make_room()?;
+        self.ahead.go_on()?;
+        Ok(())
+    }
+
     /// Puts down an event of those that a reader gives as a whole, whose text begins at this offset.
     fn put(&mut self, event: &Event<'_>, at: usize) -> Result<(), GivesUp>
         ensures { IfOk result (λ _. Puts Composes self.old (event_of event.now ∷ []) self.new) }
@@ -170,15 +209,15 @@ impl<'s> Composing<'s> {
                 Ok(())
             }
             Event::DocumentEnd { .. } => {
-                self.make_room()?;
+                self.pass()?;
                 Ok(())
             }
             Event::StreamStart => {
-                self.make_room()?;
+                self.pass()?;
                 Ok(())
             }
             Event::StreamEnd => {
-                self.make_room()?;
+                self.pass()?;
                 Ok(())
             }
             _ => Err(GivesUp),
@@ -196,7 +235,7 @@ impl<'s> Composing<'s> {
             return Err(GivesUp);
         };
         if self.waiting.is_none() {
-            self.ahead.precede(start, flow)?;
+            self.ahead.precede(self.alloc, start, flow)?;
             self.count = count;
             return Ok(());
         }
@@ -218,7 +257,7 @@ impl<'s> Composing<'s> {
             return Ok(());
         }
         if self.waiting.is_none() {
-            self.ahead.pay(start, properties)?;
+            self.ahead.pay(self.alloc, start, properties)?;
             return Ok(());
         }
         let count = self.count - start;
@@ -230,8 +269,8 @@ impl<'s> Composing<'s> {
         Ok(())
     }
 
-    /// How many documents a whole stream has. The events of a second one may follow.
-    pub fn documents(&mut self) -> Result<usize, Unmade>
+    /// How many documents and nodes a whole stream has. The events of a second one may follow.
+    pub fn documents(&mut self) -> Result<StreamSize, Unmade>
         ensures count { (ds : List Document) → Composes self.old (stream_events ds) → IfOk result (UnfoldTo ds) }
         ensures keeps { IfOk result (λ _. Keeps Composes self.old self.new) }
         ensures refused { (ds : List Document) → Composes self.old (stream_events ds) → IfErr result (RefusesForest ds) }
@@ -258,6 +297,7 @@ impl<'s> Composing<'s> {
             mut ahead,
             mut waiting,
             announced: _,
+            above: _,
             count,
             gave_up,
         } = self;
@@ -281,12 +321,22 @@ impl Keeper for Composing<'_> {
         self.count
     }
 
+    #[tactic(auto, using(crate::proofs::KeeperLaws::puts_counted))]
     fn push(&mut self, event: &Event<'_>, at: usize) -> Result<(), Fault> {
+        if self.gave_up {
+            self.count_on()?;
+            return Ok(());
+        }
         self.put(event, at)?;
         Ok(())
     }
 
+    #[tactic(auto, using(crate::proofs::KeeperLaws::puts_counted))]
     fn scalar(&mut self, style: Style, text: &mut CowStr<'_>, at: usize) -> Result<(), Fault> {
+        if self.gave_up {
+            self.count_on()?;
+            return Ok(());
+        }
         let offset = content_offset(style, at);
         if text.as_str().len() > LONG {
             self.put_long(style, text, offset)?;
@@ -296,27 +346,39 @@ impl Keeper for Composing<'_> {
         Ok(())
     }
 
+    #[tactic(auto, using(crate::proofs::KeeperLaws::puts_counted))]
     fn begin(&mut self, collection: Collection, flow: bool, _at: usize) -> Result<(), Fault> {
+        if self.gave_up {
+            self.count_on()?;
+            return Ok(());
+        }
         self.put_start(collection, flow)?;
         Ok(())
     }
 
+    #[tactic(auto, using(crate::proofs::KeeperLaws::puts_counted))]
     fn end(&mut self, collection: Collection, _at: usize) -> Result<(), Fault> {
+        if self.gave_up {
+            self.count_on()?;
+            return Ok(());
+        }
         self.put_end(collection)?;
         Ok(())
     }
 
+    #[tactic(auto, using(crate::proofs::KeeperLaws::inserts_counted))]
     fn insert(&mut self, start: usize, flow: bool, _at: usize) -> Result<(), Fault> {
+        if self.gave_up {
+            self.count_on()?;
+            return Ok(());
+        }
         self.put_before(start, flow)?;
         Ok(())
     }
 
     fn announce(&mut self, own: &Properties<'_>) {
-        if own.given.is_none() && self.announced.is_some() {
-            return;
-        }
         match self.waiting.copy_of(self.alloc, self.lent, own) {
-            Ok(copy) => self.announced = Some(copy),
+            Ok(copy) => self.above = mem::replace(&mut self.announced, Some(copy)),
             Err(_) => self.gave_up = true,
         }
     }

@@ -10,6 +10,7 @@ mod firsts;
 mod judged;
 pub mod keeper;
 pub mod laws;
+mod size;
 mod stop;
 mod tag;
 mod too_high;
@@ -18,4 +19,5 @@ mod waiting;
 
 pub use composer::Forest;
 pub use keeper::Composing;
+pub use size::StreamSize;
 pub use unmade::Unmade;

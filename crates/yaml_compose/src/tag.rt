@@ -4,12 +4,14 @@ ghost use Rattle.std.specs.Bool.{OnTrue};
 ghost use Rattle.yaml_definitions.specs.model.Tag.{default_tag, is_core};
 ghost use Rattle.yaml_definitions.specs.model.Core.{collection_tag};
 ghost use Rattle.yaml_text.specs.EventModel.{written_of};
+ghost use Rattle.yaml_sink.specs.PropertyRules.{props_of};
 ghost use Rattle.yaml_compose.specs.TagModel.{collection_number, KeepsTexts};
 ghost use Rattle.yaml_compose.specs.Refusals.{Blames};
 
 use crate::stop::{Cause, Stop};
 use yaml_compact::nodes::Collection;
 use yaml_content::tag::{TagUse, tag_use};
+use yaml_sink::properties::Properties;
 use yaml_text::event::EventTag;
 
 /// Whether this is a tag of the core schema.
@@ -63,4 +65,17 @@ pub(crate) fn tag_of<'a>(collection: Collection, tag: &'a EventTag<'_>) -> Resul
         return Err(Stop::Refused(Cause::WrongKind));
     }
     Ok(text)
+}
+
+/// The tag of a collection with these properties.
+pub(crate) fn tag_given<'a>(
+    collection: Collection,
+    properties: &'a Properties<'_>,
+) -> Result<&'a str, Stop>
+    ensures { MatchResult result (λ text. collection_tag (collection_number collection) (props_of properties.now).tag ≡ Ok text.now) (Blames (collection_tag (collection_number collection) (props_of properties.now).tag)) }
+{
+    match &properties.given {
+        None => Ok(default_tag(collection)),
+        Some(given) => tag_of(collection, &given.tag),
+    }
 }

@@ -4,7 +4,6 @@ ghost use Rattle.std.specs.Bool.{OnTrue, OnFalse};
 ghost use Rattle.std.specs.Cow.{cow_str_bytes};
 ghost use Rattle.yaml_definitions.specs.grammar.Events.{no_props};
 ghost use Rattle.yaml_sink.specs.PropertyRules.{props_of};
-ghost use Rattle.yaml_compose.specs.declared.waiting.Late.TheVariants.{Start};
 ghost use Rattle.yaml_compose.specs.WaitingModel.{late_event, start_before, waits, IsOne, PutsLate, ComposesWaits, Precedes, DressesWaits};
 
 use crate::ahead::Ahead;
@@ -37,8 +36,6 @@ pub(crate) struct Waiting<'s> {
     offset: usize,
     /// What the event has of properties.
     own: Properties<'s>,
-    /// What a collection gets of properties, where it is known.
-    due: Option<Properties<'s>>,
     /// Of the mapping's start, whether it is a flow mapping, and its properties.
     mapping: Option<bool>,
     outer: Properties<'s>,
@@ -66,7 +63,6 @@ impl<'s> Waiting<'s> {
             text: CowStr::Owned(String::new(alloc)),
             offset: 0,
             own: Properties::none(),
-            due: None,
             mapping: None,
             outer: Properties::none(),
             spare: Properties::none(),
@@ -95,24 +91,8 @@ impl<'s> Waiting<'s> {
         fill(alloc, &mut self.text, text)?;
         self.offset = offset;
         set_aside(&mut self.own, &mut self.spare);
-        self.due = None;
         self.mapping = None;
         self.late = late;
-        Ok(())
-    }
-
-    /// A collection's start waits, without properties. It is composed with those that are due, if there are any.
-    pub(crate) fn put_start(
-        &mut self,
-        alloc: Global,
-        collection: Collection,
-        flow: bool,
-        due: Option<Properties<'s>>,
-    ) -> Result<(), GivesUp>
-        ensures { IfOk result (λ _. waits self.new ≡ late_event (Start collection flow) no_props []) }
-    {
-        self.put(alloc, Late::Start(collection, flow), "", 0)?;
-        self.due = due;
         Ok(())
     }
 
@@ -192,7 +172,6 @@ impl<'s> Waiting<'s> {
         }
         if count == 1 {
             self.own = properties;
-            self.due = None;
             return Ok(());
         }
         if count != 2 {
@@ -243,16 +222,10 @@ impl<'s> Waiting<'s> {
                 ahead.alias(alloc, number, self.text.as_str())?;
                 Ok(())
             }
-            Late::Start(collection, _) => match mem::replace(&mut self.due, None) {
-                None => {
-                    ahead.begin(alloc, collection, number, &self.own)?;
-                    Ok(())
-                }
-                Some(properties) => {
-                    ahead.begin_due(alloc, collection, number, properties)?;
-                    Ok(())
-                }
-            },
+            Late::Start(collection, _) => {
+                ahead.begin(alloc, collection, number, &self.own)?;
+                Ok(())
+            }
         }
     }
 

@@ -8,17 +8,15 @@ ghost use Rattle.yaml_canon.specs.Accepting.{IsMemory};
 ghost use Rattle.yaml_canon.specs.Claims.{HasGraph, IsCanonicalText, CanonicalRefuses};
 ghost use Rattle.yaml_canon.specs.FaultPlaces.{TellsPlace};
 ghost use Rattle.yaml_canon.specs.Comparing.{Compares};
-ghost use Rattle.yaml_canon.specs.Refused.{TellsWhy};
 ghost use Rattle.yaml_review_command.specs.Diffs.{DiffLines};
 ghost use Rattle.yaml_review_command.specs.Sides.{BothAre};
 
 use std::alloc::Global;
 use yaml_canon::both::{BothForests, forest_of_both, forest_of_both_with};
-use yaml_canon::graph_of::{graph_unless, graph_with};
-use yaml_canon::no_forest::{NoForest, NoForests};
-use yaml_canon::same_streams::{on, with_side};
+use yaml_canon::graph_of::{graph_of, graph_with};
+use yaml_canon::no_forest::NoForests;
+use yaml_canon::sides::{on, with_side};
 use yaml_canon::{Side, canonical_into};
-use yaml_compact::GivesUp;
 use yaml_graph::join;
 use yaml_nodes::graph::Graph;
 use yaml_rank::rank;
@@ -42,20 +40,23 @@ pub(crate) fn fault_of(alloc: Global, bytes: &[u8]) -> Option<Fault>
     }
 }
 
-/// The nodes of both streams in one graph, equal ones mostly merged, ranked. It gives up where two keys are equal, and where memory
-/// is refused.
-fn merged<'f>(alloc: Global, forests: &'f BothForests<'_>) -> Result<Both<'f>, GivesUp>
+/// The nodes of both streams in one graph, equal ones mostly merged, ranked.
+///
+/// It gives up if the graph does not fit. Where the graph has no ranks, because two keys are equal or memory does not suffice, the
+/// fault says so of the left side: which side has the keys, each side alone tells.
+fn merged<'f>(alloc: Global, forests: &'f BothForests<'_>) -> Result<Both<'f>, NoForests>
     requires { (left right : List ℕ) × HasBoth left right forests.now }
     ensures { (left right : List ℕ) → HasBoth left right forests.now → IfOk result (BothAre left right) }
 {
     let graph = forests.graph(alloc)?;
-    let Ok(ranks) = rank(alloc, &graph) else {
-        return Err(GivesUp);
+    let ranks = match rank(alloc, &graph) {
+        Ok(ranks) => ranks,
+        Err(fault) => return Err(NoForests::Refused(Side::Left, fault)),
     };
     Ok(Both {
         graph,
         ranks,
-        documents: forests.middle,
+        documents: forests.left.documents,
     })
 }
 
@@ -68,8 +69,6 @@ fn forests_of<'l>(
     traced: bool,
 ) -> Result<(BothForests<'l>, Option<(Trace, usize)>), NoForests>
     ensures both { IfOk result (λ made. HasBoth left.now right.now made.0) }
-    ensures of_left { IfErr result (λ none. TellsWhy left.now none.left) }
-    ensures of_right { IfErr result (λ none. TellsWhy right.now none.right) }
 {
     if traced {
         let (forests, trace, middle) = forest_of_both_with(alloc, left, right, Trace::new(alloc))?;
@@ -103,7 +102,7 @@ fn traced_both<'t>(
 }
 
 /// The lines of the differences of two streams, and whether they are the same, where one pass over the bytes of each has all nodes of
-/// both. Else, why one of them has none.
+/// both. Else, which side is rejected.
 fn compare_merged(
     alloc: Global,
     asked: &Diff<'_>,
@@ -112,33 +111,28 @@ fn compare_merged(
 ) -> Result<Compared, NoForests>
     ensures same { IfOk result (λ told. Compares left.now right.now told.same) }
     ensures lines { IfOk result (λ told. DiffLines left.now right.now asked.now (string_bytes told.text)) }
-    ensures of_left { IfErr result (λ none. TellsWhy left.now none.left) }
-    ensures of_right { IfErr result (λ none. TellsWhy right.now none.right) }
 {
     let (forests, trace) = forests_of(alloc, left, right, asked.places)?;
     let both = merged(alloc, &forests)?;
     match compare(alloc, &both, asked, traced_both(left, right, &trace)) {
         Ok(told) => Ok(told),
-        Err(_) => Err(NoForests::from(GivesUp)),
+        Err(fault) => Err(NoForests::Refused(Side::Left, fault)),
     }
 }
 
-/// The graph of some bytes, once it is known why no forest was had of them, and where it is asked for, the trace of the events that
-/// they are read to.
+/// The graph of some bytes, and where it is asked for, the trace of the events that they are read to.
 fn graph_and_trace<'a>(
     alloc: Global,
     bytes: &'a [u8],
-    none: NoForest,
     traced: bool,
 ) -> Result<(Graph<'a>, Option<Trace>), Fault>
-    requires { TellsWhy bytes.now none }
     ensures graph { IfOk result (λ made. HasGraph bytes.now made.0) }
 {
     if traced {
         let (graph, trace) = graph_with(alloc, bytes, Trace::new(alloc))?;
         Ok((graph, Some(trace)))
     } else {
-        Ok((graph_unless(alloc, bytes, none)?, None))
+        Ok((graph_of(alloc, bytes)?, None))
     }
 }
 
@@ -159,24 +153,17 @@ impl Sides<'_> {
     }
 }
 
-/// Both streams, each with nodes of its own, once it is known why no forest was had of them. A refusal names the side, as that of
-/// `same`.
+/// Both streams, each with nodes of its own. A refusal names the side, as that of `same`.
 fn both_of<'a>(
     alloc: Global,
     left: &'a [u8],
     right: &'a [u8],
-    none: NoForests,
     traced: bool,
 ) -> Result<Sides<'a>, (Side, Fault)>
-    requires of_left { TellsWhy left.now none.left }
-    requires of_right { TellsWhy right.now none.right }
     ensures both { IfOk result (λ sides. BothAre left.now right.now sides.both) }
 {
-    let (first, left_trace) = on(Side::Left, graph_and_trace(alloc, left, none.left, traced))?;
-    let (second, right_trace) = on(
-        Side::Right,
-        graph_and_trace(alloc, right, none.right, traced),
-    )?;
+    let (first, left_trace) = on(Side::Left, graph_and_trace(alloc, left, traced))?;
+    let (second, right_trace) = on(Side::Right, graph_and_trace(alloc, right, traced))?;
     let nodes = first.len();
     let documents = first.roots().len();
     let graph = on(Side::Left, join(first, second))?;
@@ -208,7 +195,10 @@ pub(crate) fn compare_sides(
         Ok(told) => return Ok(told),
         Err(none) => none,
     };
-    let sides = both_of(alloc, left, right, none, asked.places)?;
+    if let NoForests::Refused(side, fault) = none {
+        return Err((side, fault));
+    }
+    let sides = both_of(alloc, left, right, asked.places)?;
     let traced = sides.traced(left, right);
     match compare(alloc, &sides.both, asked, traced) {
         Ok(told) => Ok(told),

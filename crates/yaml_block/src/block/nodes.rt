@@ -105,17 +105,12 @@ fn read_in_block<'a, K: Keeper, F: FlowReader>(
     F::read_bare(alloc, source, head, &flow, out)
 }
 
-/// Tells a flow collection that has no properties of its own of the outer ones. They are the mapping's where the collection is a key,
-/// which is rare.
+/// Tells a flow collection of the properties on lines above, if there are any. They are the mapping's where the collection is a key.
 #[inline(always)]
-fn announce_outer<'a, K: Keeper>(
-    own: &Properties<'a>,
-    outer: &Properties<'a>,
-    out: &mut Sink<'a, K>,
-)
+fn announce_outer<'a, K: Keeper>(outer: &Properties<'a>, out: &mut Sink<'a, K>)
     ensures { Keeps (holds_of K.holds) out.old out.new }
 {
-    if own.is_none() && !outer.is_none() {
+    if !outer.is_none() {
         out.announce(outer);
     }
 }
@@ -138,7 +133,7 @@ fn open_keyed<'a, K: Keeper, F: FlowReader>(
     ensures placed { IfErr result (IsPlaced source.now) }
 {
     let start = out.mark();
-    announce_outer(&head.own, &outer, out);
+    announce_outer(&outer, out);
     let node = read_in_block::<K, F>(alloc, source, &head, site.level, out)?;
     match first_colon(source, head.at, node.end, site.column)? {
         None => {

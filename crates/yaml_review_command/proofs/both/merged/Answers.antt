@@ -7,7 +7,7 @@ invariant_of-result c =
     record {
       long = c.in-Ok.ensures.ok.long;
       sized = c.in-Ok.ensures.ok.sized;
-      middle = middle-within c.in_ok-graph.graph c.args.forests.now.middle has.mean.lefts has.mean.rights (c.in_ok-graph.ensures c.requires.0 c.requires.1 has) has.mean.middle_is;
+      middle = middle-within c.in_ok-graph.graph c.args.forests.now.left.documents has.mean.lefts has.mean.rights (c.in_ok-graph.ensures c.requires.0 c.requires.1 has) has.mean.middle_is;
     }
 
 pub returns : goal.returns

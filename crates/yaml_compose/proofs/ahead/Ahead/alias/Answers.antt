@@ -8,4 +8,4 @@ pub returns : goal.returns
 returns c =
     let mid = c.go_on.new.self in
     let x = c.args.name.now in
-    λ log l t. tells-node mid.judged c.alias.new.self mid.ended (reverse mid.opens.items) c.args.at (alias_event x) c.in_ok-go_on.ensures.none (alias-node x) c.in_ok-alias.ensures log l (c.in_ok-go_on.ensures.tells log t)
+    λ log l t. tells-node mid.judged c.alias.new.self mid.ended (reverse mid.opens.items) mid.early c.args.at c.in_ok-number.number (alias_event x) c.in_ok-go_on.ensures.none (alias-node x) c.in_ok-number.ensures c.in_ok-alias.ensures log l (c.in_ok-go_on.ensures.tells log t)

@@ -1,4 +1,4 @@
-use Rattle.std.proofs.Common.{◌∙◌, refl, sym, ap, subst}
+use Rattle.std.proofs.Common.{◌∙◌, sym, ap, subst, arith}
 use Rattle.std.specs.Prelude.{None}
 use Rattle.yaml_sink.specs.PropertyRules.{props_of, with_props}
 use Rattle.yaml_sink.specs.SinkModel as sink
@@ -7,7 +7,7 @@ use Rattle.yaml_compose.specs.ComposerModel.{start_of}
 use Rattle.yaml_compose.specs.JudgedModel.{Takes}
 use Rattle.yaml_compose.specs.declared.ahead.Begun.{Begun}
 use Rattle.yaml_compose.proofs.AheadLaws.{started}
-use Rattle.yaml_compose.proofs.DueLaws.{tells-begun}
+use Rattle.yaml_compose.proofs.DueLaws.{tells-opened}
 use Rattle.yaml_compose.proofs.ahead.Ahead.begin.Goals as goal
 
 pub returns : goal.returns
@@ -15,7 +15,9 @@ returns c = λ flow log at t.
     let mid = c.go_on.new.self in
     let p = props_of c.args.properties.now in
     let k = c.args.collection in
-    let b : Begun = record { at = c.args.at; due = None } in
+    let b : Begun = record { at = c.args.at; due = None; above = None } in
     let e = with_props p (sink.start_of k flow) in
-    tells-begun mid.judged c.begin.new.self mid.ended mid.opens.items c.push.new.self.items b e e (kind_in k) flow p.anchor p.tag c.in_ok-go_on.ensures.none c.in_ok-push.ensures.items refl (sym (started k flow p))
-    (subst (λ z. Takes c.args.at z mid.judged c.begin.new.self) (ap (λ z. start_of z flow p.anchor p.tag) c.kind_of.ensures ∙ started k flow p) (c.in_ok-begin.ensures flow)) log at (c.in_ok-go_on.ensures.tells log t)
+    let was = c.in_ok-go_on.ensures.tells log t in
+    let takes = subst (λ z. Takes c.in_ok-number.number z mid.judged c.begin.new.self) (ap (λ z. start_of z flow p.anchor p.tag) c.kind_of.ensures ∙ started k flow p) (c.in_ok-begin.ensures flow) in
+    tells-opened mid.judged c.begin.new.self mid.ended mid.opens.items c.push.new.self.items b e (kind_in k) flow p.anchor p.tag mid.early mid.early c.in_ok-go_on.ensures.none c.in_ok-push.ensures.items (sym (started k flow p)) tt (omega arith) log at was
+    (takes.is was.told (omega (arith, c.in_ok-number.ensures, at, was.size)) was.judges)

@@ -8,5 +8,5 @@ returns c = λ explicit.
     let mid = c.go_on.new.self in
     record {
       is = λ log t.
-          tells-outside mid.judged c.document.new.self mid.ended mid.opens.items (document_start explicit) c.in_ok-go_on.ensures.none (omega (arith, c.len.ensures, mid.opens.ok.0, c.if-len-gt0.false)) (c.in_ok-document.ensures explicit) log (c.in_ok-go_on.ensures.tells log t);
+          tells-outside mid.judged c.document.new.self mid.ended mid.opens.items mid.early (document_start explicit) c.in_ok-go_on.ensures.none (omega (arith, c.len.ensures, mid.opens.ok.0, c.if-len-gt0.false)) (c.in_ok-document.ensures explicit) log (c.in_ok-go_on.ensures.tells log t);
     }

@@ -13,4 +13,4 @@ returns c =
     let p = props_of c.args.properties.now in
     let y = style_of c.args.style in
     let x = (cow_str_bytes c.args.text.now) in
-    λ log l t. tells-node mid.judged c.scalar.new.self mid.ended (reverse mid.opens.items) c.args.at (scalar_event p.anchor p.tag y x) c.in_ok-go_on.ensures.none (scalar-node p.anchor p.tag y x) c.in_ok-scalar.ensures log l (c.in_ok-go_on.ensures.tells log t)
+    λ log l t. tells-node mid.judged c.scalar.new.self mid.ended (reverse mid.opens.items) mid.early c.args.at c.in_ok-number.number (scalar_event p.anchor p.tag y x) c.in_ok-go_on.ensures.none (scalar-node p.anchor p.tag y x) c.in_ok-number.ensures c.in_ok-scalar.ensures log l (c.in_ok-go_on.ensures.tells log t)

@@ -31,7 +31,17 @@ returns-clause-both c = λ ds es s r h.
     let self = c.args.self in
     let roots = roots-of self s h (omega (arith, c.len.ensures, self.opens.ok.0, c.if-len-gt0.false)) in
     let low : IsLow self.store = c.if-not-is_low.ensures.low h.good.store in
-    record { trees_are = s.inner; unfolded = two-streams-are-forests ds es s r; low = are-low self.store low self.stack.items s.inner roots.at; good = h.good.store; level = low; roots = roots.at }
+    record {
+      trees_are = s.inner;
+      nodes_are = s.done;
+      unfolded = two-streams-are-forests ds es s r;
+      low = are-low self.store low self.stack.items s.inner roots.at;
+      good = h.good.store;
+      level = low;
+      roots = roots.at;
+      numbered = h.counted.numbers;
+      few = omega (arith, h.counted.count, h.counted.few);
+    }
 
 pub returns-in-Some-clause-refused : goal.returns-in-Some-clause-refused
 returns-in-Some-clause-refused c = λ ds s r h.

@@ -6,17 +6,17 @@ use Rattle.yaml_compose.specs.KeeperModel.{Composes}
 use Rattle.yaml_compose.proofs.KeeperLaws.{puts-stream-start, puts-stream-end, puts-document-end}
 use Rattle.yaml_compose.proofs.keeper.Composing.put.Goals as goal
 
-pub returns-in_ok-make_room-in-DocumentEnd : goal.returns-in_ok-make_room-in-DocumentEnd
-returns-in_ok-make_room-in-DocumentEnd c =
-    let room = c.make_room.new.self in
-    subst (λ (e : Event). Puts Composes c.args.self.now (e ∷ []) room) (sym (ap event_of c.in-DocumentEnd.is)) (puts-document-end c.args.self.now room c.in-DocumentEnd.explicit c.in_ok-make_room-in-DocumentEnd.ensures)
+pub returns-in_ok-pass-in-DocumentEnd : goal.returns-in_ok-pass-in-DocumentEnd
+returns-in_ok-pass-in-DocumentEnd c =
+    let room = c.pass.new.self in
+    subst (λ (e : Event). Puts Composes c.args.self.now (e ∷ []) room) (sym (ap event_of c.in-DocumentEnd.is)) (puts-document-end c.args.self.now room c.in-DocumentEnd.explicit c.in_ok-pass-in-DocumentEnd.ensures.room c.in_ok-pass-in-DocumentEnd.ensures.none)
 
-pub returns-in_ok-make_room-in-StreamStart : goal.returns-in_ok-make_room-in-StreamStart
-returns-in_ok-make_room-in-StreamStart c =
-    let room = c.make_room-in-StreamStart.new.self in
-    subst (λ (e : Event). Puts Composes c.args.self.now (e ∷ []) room) (sym (ap event_of c.in-StreamStart.is)) (puts-stream-start c.args.self.now room c.in_ok-make_room-in-StreamStart.ensures)
+pub returns-in_ok-pass-in-StreamStart : goal.returns-in_ok-pass-in-StreamStart
+returns-in_ok-pass-in-StreamStart c =
+    let room = c.pass-in-StreamStart.new.self in
+    subst (λ (e : Event). Puts Composes c.args.self.now (e ∷ []) room) (sym (ap event_of c.in-StreamStart.is)) (puts-stream-start c.args.self.now room c.in_ok-pass-in-StreamStart.ensures.room c.in_ok-pass-in-StreamStart.ensures.none)
 
-pub returns-in_ok-make_room-in-StreamEnd : goal.returns-in_ok-make_room-in-StreamEnd
-returns-in_ok-make_room-in-StreamEnd c =
-    let room = c.make_room-in-StreamEnd.new.self in
-    subst (λ (e : Event). Puts Composes c.args.self.now (e ∷ []) room) (sym (ap event_of c.in-StreamEnd.is)) (puts-stream-end c.args.self.now room c.in_ok-make_room-in-StreamEnd.ensures)
+pub returns-in_ok-pass-in-StreamEnd : goal.returns-in_ok-pass-in-StreamEnd
+returns-in_ok-pass-in-StreamEnd c =
+    let room = c.pass-in-StreamEnd.new.self in
+    subst (λ (e : Event). Puts Composes c.args.self.now (e ∷ []) room) (sym (ap event_of c.in-StreamEnd.is)) (puts-stream-end c.args.self.now room c.in_ok-pass-in-StreamEnd.ensures.room c.in_ok-pass-in-StreamEnd.ensures.none)

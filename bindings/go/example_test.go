@@ -1,0 +1,74 @@
+package yamlcanon_test
+
+import (
+	"bytes"
+	"crypto/sha256"
+	"errors"
+	"fmt"
+
+	"example.org/yamlcanon"
+)
+
+func ExampleCanonical() {
+	text, err := yamlcanon.Canonical([]byte("{b: 0x1, a: [~]}"))
+	fmt.Print(string(text), err)
+	// Output:
+	// --- {"a" : [!!null "null"], "b" : !!int "1"}
+	// <nil>
+}
+
+// What means the same has the same digest.
+func ExampleCanonical_digest() {
+	left, _ := yamlcanon.Canonical([]byte("replicas: 0x3\nname: web\n"))
+	right, _ := yamlcanon.Canonical([]byte(`{"name": "web", "replicas": 3}`))
+	fmt.Println(sha256.Sum256(left) == sha256.Sum256(right), bytes.Equal(left, right))
+	// Output: true true
+}
+
+func ExampleEvents() {
+	events, _ := yamlcanon.Events([]byte("- &x a\n- *x"))
+	fmt.Print(string(events))
+	// Output:
+	// +STR
+	// +DOC
+	// +SEQ
+	// =VAL &x :a
+	// =ALI *x
+	// -SEQ
+	// -DOC
+	// -STR
+}
+
+func ExampleSame() {
+	fmt.Println(yamlcanon.Same([]byte("a: 0x3"), []byte("{a: 3}")))
+	fmt.Println(yamlcanon.Same([]byte("a: 3"), []byte("a: '3'")))
+	fmt.Println(yamlcanon.Same([]byte("a: 3"), []byte("a: '3")))
+	// Output:
+	// true <nil>
+	// false <nil>
+	// false right: 4 Syntax at byte 5
+}
+
+func ExampleRefused() {
+	_, err := yamlcanon.Canonical([]byte("{1: a, 0x1: b}"))
+	var fault *yamlcanon.Refused
+	if errors.As(err, &fault) && fault.Kind == yamlcanon.EqualKeys {
+		fmt.Println(fault)
+		fmt.Println(fault.First, fault.Second)
+	}
+	// Output:
+	// 19 EqualKeys in node 4, entries 0 and 1
+	// 0 1
+}
+
+func ExampleRefused_Position() {
+	input := []byte("port: 80\nhost:\tweb\n")
+	_, err := yamlcanon.Canonical(input)
+	var fault *yamlcanon.Refused
+	if errors.As(err, &fault) {
+		if line, column, ok := fault.Position(input); ok {
+			fmt.Printf("line %d, column %d: %v\n", line, column, fault)
+		}
+	}
+	// Output: line 2, column 6: 5 Tab at byte 14
+}

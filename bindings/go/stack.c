@@ -1,0 +1,86 @@
+/* A goroutine's call runs on the stack of its thread, whose size Go leaves to the system (`ulimit -s`). So each call looks at how
+ * much of that stack is left, and goes to a thread of its own where that may not be enough. */
+#define _GNU_SOURCE
+#include "stack.h"
+#include <pthread.h>
+#include <stdint.h>
+
+/* What a call on n bytes takes at most: a byte opens one level of nesting at most, up to 1,024 of them. */
+#define BASE ((size_t)256 << 10)
+#define LEVEL ((size_t)1536)
+#define LEVELS ((size_t)1024)
+/* The stack of a thread to which a call is handed. */
+#define GIVEN ((size_t)4 << 20)
+#define OUT_OF_MEMORY 21
+
+/* This thread's stack: its lowest byte and the one behind it. Both are 1 where the system does not tell. */
+static _Thread_local uintptr_t lowest, end;
+
+static void find_stack(void)
+{
+    pthread_attr_t attr;
+    void *at = NULL;
+    size_t size = 0;
+    if (!pthread_getattr_np(pthread_self(), &attr)) {
+        if (pthread_attr_getstack(&attr, &at, &size)) at = NULL;
+        pthread_attr_destroy(&attr);
+    }
+    lowest = at ? (uintptr_t)at : 1;
+    end = at ? lowest + size : 1;
+}
+
+static int has_stack_for(size_t n)
+{
+    uintptr_t here = (uintptr_t)__builtin_frame_address(0);
+    if (!lowest) find_stack();
+    return lowest <= here && here < end && here - lowest >= BASE + LEVEL * (n < LEVELS ? n : LEVELS);
+}
+
+struct work {
+    int which; /* of the calls on one input; -1 is that on two */
+    const uint8_t *left, *right;
+    size_t left_n, right_n, cap;
+    uint8_t *out;
+    yc_answer answer;
+};
+
+static void *call(void *at)
+{
+    struct work *w = at;
+    yc_answer *a = &w->answer;
+    if (w->which == YC_CANONICAL) a->status = yamlcanon_canonical(w->left, w->left_n, w->out, w->cap, &a->len, &a->fault);
+    else if (w->which == YC_EVENTS) a->status = yamlcanon_events(w->left, w->left_n, w->out, w->cap, &a->len, &a->fault);
+    else a->status = yamlcanon_same(w->left, w->left_n, w->right, w->right_n, &a->fault);
+    return NULL;
+}
+
+/* Where no thread can be had, memory is lacking. */
+static yc_answer elsewhere(struct work *w)
+{
+    pthread_attr_t attr;
+    pthread_t thread;
+    w->answer = (yc_answer){.status = YAMLCANON_REFUSED, .fault = {.number = OUT_OF_MEMORY, .name = "OutOfMemory"}};
+    if (pthread_attr_init(&attr)) return w->answer;
+    if (!pthread_attr_setstacksize(&attr, GIVEN) && !pthread_create(&thread, &attr, call, w)) pthread_join(thread, NULL);
+    pthread_attr_destroy(&attr);
+    return w->answer;
+}
+
+static yc_answer made(struct work *w, size_t n)
+{
+    if (!has_stack_for(n)) return elsewhere(w);
+    call(w);
+    return w->answer;
+}
+
+yc_answer yc_text(int which, const uint8_t *input, size_t n, uint8_t *out, size_t cap)
+{
+    struct work w = {.which = which, .left = input, .left_n = n, .out = out, .cap = cap};
+    return made(&w, n);
+}
+
+yc_answer yc_same(const uint8_t *left, size_t left_n, const uint8_t *right, size_t right_n)
+{
+    struct work w = {.which = -1, .left = left, .left_n = left_n, .right = right, .right_n = right_n};
+    return made(&w, left_n > right_n ? left_n : right_n);
+}

@@ -1,0 +1,124 @@
+"""Why an input is rejected: the kinds of errors, and the exception that has the kind and the place."""
+
+import enum
+from typing import Optional, Tuple
+
+__all__ = ["Kind", "Refused", "position"]
+
+_MARK = b"\xef\xbb\xbf"
+# The bytes of UTF-8 that begin no character.
+_CONTINUING = bytes(range(0x80, 0xC0))
+
+
+class Kind(enum.IntEnum):
+    """The kinds of errors, with the numbers and names that the program prints. Error 21 is a MemoryError.
+
+    >>> Kind(19)
+    <Kind.EqualKeys: 19>
+    >>> Kind.Tab == 5, Kind.Tab.name
+    (True, 'Tab')
+    """
+
+    __module__ = "yamlcanon"
+    TooLong = 1
+    NotUtf8 = 2
+    NotPrintable = 3
+    Syntax = 4
+    Tab = 5
+    KeyTooLong = 6
+    TooDeep = 7
+    BadEscape = 8
+    BadDirective = 9
+    UnknownHandle = 10
+    BadTag = 11
+    UndefinedAlias = 12
+    CyclicAlias = 13
+    WrongKind = 14
+    BadContent = 15
+    IntRange = 16
+    FloatRange = 17
+    TooHigh = 18
+    EqualKeys = 19
+    TextTooLong = 20
+
+
+def position(data: bytes, place: int) -> Tuple[int, int]:
+    r"""The line and the column of a byte offset, both from 1, as `yamlreview faults` counts them.
+
+    A line ends with a line feed, a carriage return, or both (YAML 1.2.2, 5.4). A column counts characters. A byte order mark has none.
+
+    >>> position(b"a: 1\r\nb: \xc3\xa9}", 11)
+    (2, 5)
+    """
+    begin = len(_MARK) if data.startswith(_MARK) else 0
+    at = max(place, begin)
+    # A carriage return whose line feed is at the offset or behind it ends no line yet.
+    breaks = data.count(b"\n", begin, at) + data.count(b"\r", begin, at) - data.count(b"\r\n", begin, at + 1)
+    feed, carriage = data.rfind(b"\n", begin, at), data.rfind(b"\r", begin, at)
+    if data[at - 1 : at + 1] == b"\r\n":
+        carriage = data.rfind(b"\r", begin, at - 1)
+    start = max(feed, carriage, begin - 1) + 1
+    return 1 + breaks, 1 + len(data[start:at].translate(None, _CONTINUING))
+
+
+class Refused(ValueError):
+    """An input is rejected. Its text is the message that the program prints.
+
+        kind, number    which error it is: a Kind, and the same as an int
+        name            the error's name, as 'EqualKeys'
+        place           a byte offset for 2 to 11, an event for 12 to 17, a document for 18, a node for 19; else 0
+        first, second   the two entries of EqualKeys; else 0
+        side            'left' or 'right' if the call was `same`, else None
+        line, column    of the byte offset, from 1; None if `place` is not a byte offset, or no call has raised this
+
+    Two are equal if they have the same number, name, place, entries and side. It can be pickled, so a pool of processes hands it on.
+
+    >>> fault = Refused(5, "Tab", 4, side="right")
+    >>> print(fault)
+    right: 5 Tab at byte 4
+    >>> fault.kind is Kind.Tab, fault == Refused(5, "Tab", 4), fault.line
+    (True, False, None)
+    """
+
+    __module__ = "yamlcanon"
+
+    def __init__(self, number: int, name: str, place: int = 0, first: int = 0, second: int = 0, side: Optional[str] = None) -> None:
+        super().__init__(number, name, place, first, second, side)
+        self.number, self.name, self.place = number, name, place
+        self.first, self.second, self.side = first, second, side
+        self.line: Optional[int] = None
+        self.column: Optional[int] = None
+
+    @property
+    def kind(self) -> Kind:
+        return Kind(self.number)
+
+    def has_offset(self) -> bool:
+        """Whether `place` is a byte offset."""
+        return Kind.NotUtf8 <= self.number <= Kind.BadTag
+
+    def locate(self, data: bytes) -> "Refused":
+        """Sets line and column from the input that is rejected. Returns itself."""
+        if self.has_offset():
+            self.line, self.column = position(data, self.place)
+        return self
+
+    def __eq__(self, other: object) -> bool:
+        if not isinstance(other, Refused):
+            return NotImplemented
+        return self.args == other.args
+
+    def __hash__(self) -> int:
+        return hash(self.args)
+
+    def __str__(self) -> str:
+        at = ""
+        if self.has_offset():
+            at = f" at byte {self.place}"
+        elif Kind.UndefinedAlias <= self.number <= Kind.FloatRange:
+            at = f" at event {self.place}"
+        elif self.number == Kind.TooHigh:
+            at = f" in document {self.place}"
+        elif self.number == Kind.EqualKeys:
+            at = f" in node {self.place}, entries {self.first} and {self.second}"
+        return f"{self.side + ': ' if self.side else ''}{self.number} {self.name}{at}"

@@ -1,0 +1,5 @@
+use Rattle.yaml_json.specs.Json.{Ws}
+use Rattle.yaml_json.proofs.bytes.after_white.Given as goal
+
+abbrev pub invariant-white : goal.invariant-white
+invariant-white l = Ws l.fn.bytes l.rest

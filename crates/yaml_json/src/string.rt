@@ -1,0 +1,94 @@
+//! Strings (RFC 8259, 7).
+ghost use Rattle.std.specs.Prelude.{◌≡◌, ◌∷◌, true, List, ℕ, IfSome};
+ghost use Rattle.yaml_json.specs.Json.{is_hex_digit, is_unescaped, is_escaped, Chars, Str};
+
+use crate::bytes::{after_byte, first};
+
+fn is_hex_digit(c: u8) -> bool
+    ensures { result ≡ is_hex_digit c }
+{
+    matches!(c, b'0'..=b'9' | b'A'..=b'F' | b'a'..=b'f')
+}
+
+fn is_escaped(c: u8) -> bool
+    ensures { result ≡ is_escaped c }
+{
+    matches!(c, b'"' | b'\\' | b'/' | b'b' | b'f' | b'n' | b'r' | b't')
+}
+
+fn is_unescaped(c: u8) -> bool
+    ensures { result ≡ is_unescaped c }
+{
+    matches!(c, 32..=33 | 35..=91 | 93..=255)
+}
+
+fn after_hex_digit(bytes: &[u8]) -> Option<&[u8]>
+    ensures { IfSome result (λ rest. (c : ℕ) × (is_hex_digit c ≡ true) × (bytes.now ≡ c ∷ rest.now)) }
+{
+    match first(bytes) {
+        Some((c, rest)) if is_hex_digit(c) => Some(rest),
+        _ => None,
+    }
+}
+
+/// The bytes after the four digits of an escape, whose `\u` is before them.
+fn after_code_point(bytes: &[u8]) -> Option<&[u8]>
+    ensures { IfSome result (λ rest. (r : List ℕ) → Chars rest.now r → Chars (92 ∷ 117 ∷ bytes.now) r) }
+{
+    let one = after_hex_digit(bytes)?;
+    let two = after_hex_digit(one)?;
+    let three = after_hex_digit(two)?;
+    let four = after_hex_digit(three)?;
+    Some(four)
+}
+
+/// The bytes after an escape, whose `\` is before them.
+fn after_escape(bytes: &[u8]) -> Option<&[u8]>
+    ensures { IfSome result (λ rest. (r : List ℕ) → Chars rest.now r → Chars (92 ∷ bytes.now) r) }
+{
+    let (c, rest) = first(bytes)?;
+    if is_escaped(c) {
+        return Some(rest);
+    }
+    if c != b'u' {
+        return None;
+    }
+    after_code_point(rest)
+}
+
+/// The bytes after one character of a string.
+fn after_char(bytes: &[u8]) -> Option<&[u8]>
+    ensures { IfSome result (λ rest. (r : List ℕ) → Chars rest.now r → Chars bytes.now r) }
+{
+    let (c, rest) = first(bytes)?;
+    if is_unescaped(c) {
+        return Some(rest);
+    }
+    if c != b'\\' {
+        return None;
+    }
+    after_escape(rest)
+}
+
+/// The bytes after the quotation mark that ends a string.
+fn after_chars(bytes: &[u8]) -> Option<&[u8]>
+    ensures { IfSome result (λ rest. Chars bytes.now (34 ∷ rest.now)) }
+{
+    let mut rest = bytes;
+    'chars: for _ in 0..bytes.len() {
+        if let Some(after) = after_byte(rest, b'"') {
+            return Some(after);
+        }
+        rest = after_char(rest)?;
+    }
+    None
+}
+
+/// The bytes after a string.
+pub(crate) fn after_string(bytes: &[u8]) -> Option<&[u8]>
+    ensures { IfSome result (λ rest. Str bytes.now rest.now) }
+{
+    let chars = after_byte(bytes, b'"')?;
+    let rest = after_chars(chars)?;
+    Some(rest)
+}

@@ -1,0 +1,68 @@
+"""The companion of the form, tools/oracle/oracle.py, compared with docs/format/FORM.md, with the vectors and with the program."""
+import collections
+import concurrent.futures
+import os
+import re
+import sys
+
+from lib.form.lines import refusal_of, vectors
+from lib.form.made import stream
+from lib.form.page import answer, page
+from oracle import oracle
+
+
+def companion(events):
+    """What the companion gives for an event text: a text, or a refusal's line without its LF."""
+    status, text, refusal = oracle.answer(events)
+    return refusal.removeprefix("yaml: ").rstrip("\n") if status else text
+
+
+def wrong_names():
+    """Rules that the page or the companion alone names."""
+    ruled = set(re.findall(r"^\*\*`([^`\n]+)`\.", page(), re.M))
+    with open(oracle.__file__, encoding="utf-8") as file:
+        comments = re.findall(r"^ *# (`.*)$", file.read(), re.M)
+    named = set(name for comment in comments for name in re.findall(r"`([a-z ]+)`", comment.partition(":")[0]))
+    for name in sorted(ruled ^ named):
+        yield "rule %s stands in %s alone" % (name, "FORM.md" if name in ruled else "the companion")
+
+
+def wrong_vectors(counts):
+    for vector in vectors():
+        if vector.events is None:
+            continue
+        counts["vectors"] += 1
+        got = companion(vector.events)
+        if got != vector.canon:
+            yield "%s: %.200r, and not %.200r" % (vector.name, got, vector.canon)
+
+
+def asked(program, seed):
+    """(stream, its events or None, its text or refusal) of a seed, by the program"""
+    source = stream(seed)
+    events, unread = answer(program, "events", source)
+    text, refusal = answer(program, "canon", source)
+    return source, unread, events, refusal.rstrip("\n") or text
+
+
+def wrong_made(program, seeds, counts):
+    with concurrent.futures.ThreadPoolExecutor(os.cpu_count()) as pool:
+        for source, unread, events, canon in pool.map(lambda seed: asked(program, seed), seeds):
+            refusal = refusal_of(canon)
+            counts["made streams"] += 1
+            counts["of these %s" % ("refused with %d" % refusal["number"] if refusal else "accepted")] += 1
+            got = unread.rstrip("\n") if unread else companion(events)
+            if got != canon:
+                yield "%r: %.200r, and not %.200r" % (source, got, canon)
+
+
+def check(program, made, seed):
+    """Prints the counts if all is well, else a line for each difference; the status."""
+    counts, first = collections.Counter(), seed * 1000000
+    wrong = list(wrong_names()) + list(wrong_vectors(counts))
+    wrong += list(wrong_made(program, range(first, first + made), counts))
+    for line in wrong:
+        print("companion: " + line, file=sys.stderr)
+    if not wrong:
+        print("companion: " + ", ".join("%d %s" % (counts[what], what) for what in sorted(counts)))
+    return 1 if wrong else 0

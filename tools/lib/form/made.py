@@ -1,0 +1,155 @@
+"""made.py: made streams, the same for the same seed: small trees whose parts come again, each time spelled in another way."""
+import random
+
+# spellings of one value each
+VALUES = [
+    ["1", "0x1", "0o1", "+01", '!!int "1"'],
+    ["1.0", "1e0", "10e-1", "!!float 1", "+1."],
+    ['"1"', "'1'", "! 1", "!!str 1"],
+    ["0", "-0", "0x0"],
+    ["0.0", "-0e7", ".0"],
+    ["10", "0xA", "0o12"],
+    ["9", "09"],
+    ["-1", "!!int -01"],
+    ["-15e9", "-1.5e+10"],
+    [".5", "5e-1", "0.50"],
+    ["12.50", "1.25e1"],
+    [".inf", "+.INF"],
+    ["-.inf", "-.Inf"],
+    [".nan", ".NAN"],
+    ["~", "null", "NULL", '!!null ""'],
+    ['"~"', "'~'"],
+    ["true", "TRUE", '!!bool "True"'],
+    ["false", "False"],
+    ["yes"],
+    ["a", '"a"', "'a'", "! a", "!!str a", '"\\x61"'],
+    ["ab"],
+    ["b", '"\\u0062"'],
+    ["B"],
+    ['""', "''", '!!str ""', '! ""'],
+    ["é", '"\\xe9"', '"\\u00E9"'],
+    ['"\\x7F"', '"\\u007f"'],
+    ['"\\N"', '"\\x85"', "\x85", '"\x85"'],
+    ['"\\L"', '"\u2028"'],
+    ['"\\uFEFF"'],
+    ['"\\uFFFE"'],
+    ['"\\0"', '"\\x00"'],
+    ['"a\\tb"', '"a\\x09b"'],
+    ['"\\n"', '"\\x0A"'],
+    ['"\\""', "'\"'"],
+    ['"\\\\"', "'\\'"],
+    ["\U0001F600", '"\\U0001F600"'],
+    ['"\\_"', "\xa0"],
+    ["!x a", '!<!x> "a"', "!%78 a"],
+    ["!y a"],
+    ["!<u%25:x> a", "!<u%25:%78> a"],
+    ["!é".replace("é", "%c3%a9") + " a", "!<!%C3%A9> a"],
+    ["!!binary a", "!<tag:yaml.org,2002:binary> a"],
+    ["m" * 62, '"%s"' % ("m" * 62)],
+    ["n" * 63, "'%s'" % ("n" * 63)],
+    ["é" * 31],
+    ["é" * 32, '"%s"' % ("\\xe9" * 32)],
+    ['"%s"' % ("\\e" * 15)],
+    ['"%s"' % ("\\e" * 16), '"%s"' % ("\\x1b" * 16)],
+    ["!x " + "p" * 56],
+    ["!x " + "q" * 57, '!<!x> "%s"' % ("q" * 57)],
+]
+EMPTY_TAGS = ["", "", "", "!x ", "! ", "!%s " % ("t" * 57), "!%s " % ("t" * 58)]
+DEPTH = 4
+NUMBERS = "0123456789012345678901.eE+-xo_"
+
+
+class Scalar:
+    def __init__(self, spellings):
+        self.spellings = spellings
+
+
+class Collection:
+    """`parts` are nodes, or pairs of nodes"""
+
+    def __init__(self, is_map, tag, parts):
+        self.is_map, self.tag, self.parts = is_map, tag, parts
+
+
+class Maker:
+    """One stream. `pool` has the trees that were made, `bound` what stands at each name in this document, once it is whole."""
+
+    def __init__(self, seed):
+        self.random = random.Random(seed)
+        self.pool, self.bound = [], {}
+
+    def often(self, part):
+        return self.random.random() < part
+
+    def scalar(self):
+        if self.often(0.12):
+            text = "".join(self.random.choice(NUMBERS) for _ in range(self.random.randint(1, 7)))
+            return Scalar([self.random.choice("0123456789") + text])
+        return Scalar(self.random.choice(VALUES))
+
+    def tree(self, depth):
+        if self.pool and depth < DEPTH and self.often(0.35):
+            return self.random.choice(self.pool)
+        if depth == 0 or self.often(0.1 if depth == DEPTH else 0.3):
+            made = self.scalar()
+        else:
+            made = self.collection(depth)
+        self.pool.append(made)
+        return made
+
+    def collection(self, depth):
+        count = self.random.choice([0, 1, 1, 2, 2, 3, 3, 4, 5])
+        tag = self.random.choice(EMPTY_TAGS if count == 0 else EMPTY_TAGS[:5])
+        if self.often(0.5):
+            return Collection(False, tag, [self.tree(depth - 1) for _ in range(count)])
+        keys = [self.tree(self.random.choice([0, 0, depth - 1])) for _ in range(count)]
+        if not self.often(0.06):
+            keys = list({id(getattr(key, "spellings", key)): key for key in keys}.values())
+        return Collection(True, tag, [(key, self.tree(depth - 1)) for key in keys])
+
+    def spell(self, tree):
+        """A tree's text in flow style, on one line."""
+        names = [name for name, one in self.bound.items() if one is tree]
+        if names and self.often(0.5):
+            return "*%s " % self.random.choice(names)
+        if self.often(0.01):
+            return "*%s " % self.random.choice("abc")
+        if not self.often(0.2):
+            return self.body(tree)
+        name, mine = self.random.choice("abc"), object()
+        self.bound[name] = mine
+        text = "&%s %s" % (name, self.body(tree))
+        if self.bound[name] is mine:
+            self.bound[name] = tree
+        return text
+
+    def body(self, tree):
+        if isinstance(tree, Scalar):
+            return self.random.choice(tree.spellings)
+        if not tree.is_map:
+            return tree.tag + "[" + ", ".join([self.spell(part) for part in tree.parts]) + "]"
+        return tree.tag + "{" + ", ".join(self.entries(tree)) + "}"
+
+    def entries(self, tree):
+        """The entries in some order, each `key : value`."""
+        pairs = self.random.sample(tree.parts, len(tree.parts))
+        return ["%s : %s" % (self.spell(key), self.spell(value)) for key, value in pairs]
+
+    def document(self):
+        self.bound = {}
+        tree = self.tree(DEPTH)
+        is_block = isinstance(tree, Collection) and tree.parts and tree.tag == "" and self.often(0.4)
+        if not is_block:
+            return self.spell(tree) + "\n"
+        if tree.is_map:
+            return "".join(entry + "\n" for entry in self.entries(tree))
+        return "".join("- %s\n" % self.spell(part) for part in tree.parts)
+
+    def stream(self):
+        texts = [self.document() for _ in range(self.random.choice([1, 1, 1, 2, 3]))]
+        return "".join("---\n" + text for text in texts).encode()
+
+
+def stream(seed):
+    """The stream of a seed, in bytes."""
+    return Maker(seed).stream()

@@ -1,0 +1,117 @@
+"""The cases of yaml-test-suite, each sorted by what the program does with it, and tools/data/suite.cases, which says where each belongs."""
+import concurrent.futures
+import os
+import re
+import subprocess
+import tarfile
+
+from lib.paths import DATA
+
+CASE = re.compile(r"(?:^|/)([A-Z0-9]{4}(?:/[0-9]{2,3})?)/(in\.yaml|test\.event|error)$")
+REFUSAL = re.compile(r"yaml: (\d+) (\w+)(?: at byte (\d+))?\n")
+
+# What the profile leaves out (docs/using/YAML.md): the refusal, what stands before its byte, and what at it.
+PROFILE = {
+    "question_key": ("Syntax", rb"(?:^|[ \n])\Z", rb"\?[ \n]"),  # `?` at the start of a block entry (8.2.2)
+    "empty_key": ("Syntax", rb"(?:^|[ \n])\Z", rb":(?:[ \n]|\Z)"),  # a block entry without a key (8.2.2)
+    "tab": ("Tab", rb"", rb"\t"),  # a tab as separation or indentation (6.1, 6.2)
+    "version": ("BadDirective", rb"(?:^|\n)\Z", rb"%YAML +1\.[013-9]"),  # a version other than 1.2 (6.8.1)
+    "root_digit": ("Syntax", rb"--- [|>]\Z", rb"[1-9]"),  # an indentation indicator at a root (8.1.1.1)
+}
+# Rules by which events differ: what the text ends in, and that it is all that differs (docs/using/YAML.md).
+RULES = {"unended_line": rb"\n +\Z"}  # a block scalar's last line of spaces that no break ends gives no break
+
+
+def cases_of(place):
+    """{name: {file: bytes}} of a folder or an archive."""
+    found = {}
+    if os.path.isdir(place):
+        for folder, _, files in os.walk(place):
+            for name in files:
+                case = CASE.search(f"{folder}/{name}")
+                if case:
+                    with open(f"{folder}/{name}", "rb") as file:
+                        found.setdefault(case[1], {})[case[2]] = file.read()
+        return found
+    with tarfile.open(place) as archive:
+        for member in archive:
+            case = CASE.search(member.name)
+            if case and member.isfile():
+                found.setdefault(case[1], {})[case[2]] = archive.extractfile(member).read()
+    return found
+
+
+def expected_cases():
+    """The name under which each case belongs."""
+    expected = {}
+    with open(f"{DATA}/suite.cases", encoding="utf-8") as file:
+        for line in file.read().split("\n"):
+            kind, colon, names = line.partition(": ")
+            if colon and not line.startswith("#"):
+                expected |= {name: kind for name in names.split()}
+    return expected
+
+
+def out_of_profile(text, refusal):
+    """The name of what the profile leaves out and the refusal is of, or None."""
+    _, fault, at = refusal.groups()
+    if at is None:
+        return None
+    before, behind = text[: int(at)], text[int(at) :]
+    for name, (wanted, ahead, here) in PROFILE.items():
+        if fault == wanted and re.search(ahead, before) and re.match(here, behind):
+            return name
+    return None
+
+
+def own_rule(text, wanted, got):
+    """The name of the rule by which the events differ, or None."""
+    for name, ends in RULES.items():
+        lines = [(line, other) for line, other in zip(wanted.split(b"\n"), got.split(b"\n")) if line != other]
+        if re.search(ends, text) and len(lines) == 1 and wanted.count(b"\n") == got.count(b"\n") and lines[0][0] == lines[0][1] + rb"\n":
+            return name
+    return None
+
+
+def sorted_case(program, files):
+    """(where a case belongs by what the program does, what it did)."""
+    done = subprocess.run([program, "events"], input=files["in.yaml"], capture_output=True, check=False)
+    invalid = "error" in files
+    if done.returncode == 0:
+        if invalid:
+            return "?", "read, though the suite has it as an error"
+        if done.stdout == files["test.event"] and not done.stderr:
+            return "read", ""
+        return own_rule(files["in.yaml"], files["test.event"], done.stdout) or "?", "read to other events"
+    said = done.stderr.decode(errors="replace")
+    refusal = REFUSAL.fullmatch(said)
+    if done.returncode != 2 or done.stdout or not refusal or not 1 <= int(refusal[1]) <= 11:
+        return "?", f"status {done.returncode}: {said.strip()}"
+    return "refused" if invalid else out_of_profile(files["in.yaml"], refusal) or "?", said.strip()
+
+
+def counts_of(kinds):
+    return {
+        "read with the suite's events": sum(kind == "read" for kind in kinds),
+        "refused as the suite does": sum(kind == "refused" for kind in kinds),
+        "out of profile": sum(kind in PROFILE for kind in kinds),
+        "by a rule of our own": sum(kind in RULES for kind in kinds),
+    }
+
+
+def check(program, place):
+    """Sorts each case of a folder or an archive, and prints those that are not where they belong, and the counts; the status."""
+    found, expected = cases_of(place), expected_cases()
+    with concurrent.futures.ThreadPoolExecutor(os.cpu_count()) as pool:
+        sorts = dict(zip(found, pool.map(lambda files: sorted_case(program, files), found.values())))
+    wrong = [f"{name}: not in tools/data/suite.cases" for name in sorted(found) if name not in expected]
+    wrong += [f"{name}: not in {place}" for name in sorted(expected) if name not in found]
+    for name, (kind, said) in sorted(sorts.items()):
+        if kind != expected.get(name, kind) or kind == "?":
+            wrong.append(f"{name}: {expected.get(name)} is expected, and it is {kind}: {said}")
+    for line in wrong:
+        print(f"suite: {line}")
+    kinds = [kind for kind, _ in sorts.values()]
+    print(f"{len(found)} cases: " + ", ".join(f"{count} {what}" for what, count in counts_of(kinds).items()))
+    print("of these out of profile: " + ", ".join(f"{kinds.count(name)} {name}" for name in PROFILE))
+    return 1 if wrong or not found else 0

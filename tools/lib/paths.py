@@ -1,0 +1,37 @@
+"""Where things are: the repository, its crates and data, the built programs, and the Rattle kit."""
+import os
+import shutil
+
+TOP = os.path.dirname(os.path.dirname(os.path.dirname(os.path.realpath(__file__))))
+TOOLS = f"{TOP}/tools"
+DATA = f"{TOOLS}/data"
+CRATES = f"{TOP}/crates"
+EXAMPLES = f"{TOP}/examples"
+# The built programs. YAMLCANON and YAMLREVIEW name others in their place.
+PROGRAM = os.environ.get("YAMLCANON") or f"{CRATES}/yaml_tool/out/yaml_tool"
+REVIEW = os.environ.get("YAMLREVIEW") or f"{CRATES}/yaml_review/out/yaml_review"
+
+
+def read(path):
+    """The text of a file."""
+    with open(path, encoding="utf-8") as file:
+        return file.read()
+
+
+def write(path, text):
+    """Writes a text into a file."""
+    with open(path, "w", encoding="utf-8") as file:
+        file.write(text)
+
+
+def want_built(tool, *programs):
+    """Ends a tool, with a message and status 1, if a program is not built."""
+    for program in programs:
+        if not os.access(program, os.X_OK):
+            raise SystemExit(f"{tool}: {program} is not built")
+
+
+def kit_folder():
+    """The folder of the Rattle kit, or None if `rt` is not found."""
+    found = shutil.which("rt")
+    return os.path.dirname(os.path.dirname(os.path.realpath(found))) if found else None

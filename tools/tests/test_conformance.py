@@ -1,0 +1,86 @@
+"""How tools/conformance sorts the cases of yaml-test-suite, and what it finds wrong."""
+import os
+import tempfile
+import unittest
+from unittest import mock
+
+from scripts import load, run
+from lib.form import suite
+
+CONFORMANCE = load("tools/conformance")
+# A program that reads `a` and rejects everything else at its first byte.
+FAKE = """\
+#!/bin/sh
+[ "$(cat)" = a ] && { printf '+STR\\n+DOC\\n=VAL :a\\n-DOC\\n-STR\\n'; exit 0; }
+echo 'yaml: 4 Syntax at byte 0' >&2
+exit 2
+"""
+EVENTS = b"+STR\n+DOC\n=VAL :a\n-DOC\n-STR\n"
+
+
+class Suite(unittest.TestCase):
+    def setUp(self):
+        folder = tempfile.TemporaryDirectory()
+        self.addCleanup(folder.cleanup)
+        self.place, self.program = f"{folder.name}/suite", f"{folder.name}/fake"
+        self.put(self.program, FAKE.encode())
+        os.chmod(self.program, 0o755)
+
+    def put(self, path, content):
+        os.makedirs(os.path.dirname(path), exist_ok=True)
+        with open(path, "wb") as file:
+            file.write(content)
+
+    def case(self, name, text, events=None):
+        self.put(f"{self.place}/{name}/in.yaml", text)
+        self.put(f"{self.place}/{name}/{'error' if events is None else 'test.event'}", events or b"")
+
+    def kind(self, text, **files):
+        return suite.sorted_case(self.program, {"in.yaml": text, **{name.replace("_", "."): it for name, it in files.items()}})[0]
+
+    def test_kinds(self):
+        self.assertEqual(self.kind(b"a", test_event=EVENTS), "read")
+        self.assertEqual(self.kind(b"a", test_event=b"+STR\n-STR\n"), "?")
+        self.assertEqual(self.kind(b"a", error=b""), "?")
+        self.assertEqual(self.kind(b"[", error=b""), "refused")
+        self.assertEqual(self.kind(b"? b\n", test_event=b"+STR\n"), "question_key")
+        self.assertEqual(self.kind(b"b\n", test_event=b"+STR\n"), "?")
+
+    def found(self, expected):
+        with mock.patch.object(suite, "expected_cases", return_value=expected):
+            return run(lambda _: suite.check(self.program, self.place))
+
+    def test_cases_where_they_belong(self):
+        self.case("AAAA", b"a", EVENTS)
+        self.case("BBBB", b"[")
+        status, said = self.found({"AAAA": "read", "BBBB": "refused"})
+        self.assertEqual(status, 0)
+        self.assertIn("2 cases: 1 read with the suite's events, 1 refused as the suite does", said)
+
+    def test_case_that_is_elsewhere_or_not_there(self):
+        self.case("AAAA", b"a", EVENTS)
+        for expected in ({"AAAA": "refused"}, {}, {"AAAA": "read", "CCCC": "read"}):
+            self.assertEqual(self.found(expected)[0], 1, expected)
+
+    def test_no_cases(self):
+        os.makedirs(self.place)
+        self.assertEqual(self.found({})[0], 1)
+
+
+class Arguments(unittest.TestCase):
+    def test_arguments_that_are_wrong(self):
+        with mock.patch.dict(os.environ, YAML_TEST_SUITE=""):
+            for words in (
+                [],
+                ["vector"],
+                ["suite"],
+                ["suite", "/no/such/place"],
+                ["vectors", "/no/such/program"],
+                ["vectors", "--add", "--release"],
+            ):
+                self.assertEqual(run(CONFORMANCE.main, *words)[0], 2, words)
+            self.assertEqual(run(CONFORMANCE.main, "suite", "--gate")[0], 0)
+
+
+if __name__ == "__main__":
+    unittest.main()

@@ -1,0 +1,124 @@
+"""What tools/release takes as the run of CI on which packages rest, and what it says of sums that are wrong."""
+import os
+import tempfile
+import unittest
+from unittest import mock
+
+from scripts import load, run
+from lib.packing import rests, trial
+
+RELEASE = load("tools/release")
+COMMIT = "0123456789" * 4
+LOG = f"""\
+gate: begins on commit {COMMIT}; kit a kit
+rt: yaml_text proved
+12 passed, 0 failed
+297 passed, 0 failed
+gate: 40.1 minutes, 152.2 of processor
+gate: passed
+"""
+
+
+class Gate(unittest.TestCase):
+    def setUp(self):
+        folder = tempfile.TemporaryDirectory()
+        self.addCleanup(folder.cleanup)
+        self.log, self.changed = f"{folder.name}/log", ""
+        for name, value in (("kit", lambda: "a kit"), ("git", lambda *words: self.changed)):
+            patch = mock.patch.object(rests, name, value)
+            patch.start()
+            self.addCleanup(patch.stop)
+
+    def said(self, text):
+        """What a package would say of a log, or the end of the run with what is wrong with it."""
+        with open(self.log, "w", encoding="utf-8") as file:
+            file.write(text)
+        return run(lambda _: rests.gate_of(self.log))
+
+    def assert_rejected(self, text, why):
+        status, said = self.said(text)
+        self.assertEqual(status, 1)
+        self.assertIn(why, said)
+
+    def test_whole_log(self):
+        self.assertEqual(self.said(LOG), (f'passed on commit {COMMIT}, with "12 passed, 0 failed" and "297 passed, 0 failed"', ""))
+
+    def test_log_that_is_not_whole(self):
+        for text in (LOG.replace("gate: passed\n", ""), LOG.replace("gate: begins", "begins"), LOG.replace("passed, 0 failed", ""), ""):
+            self.assert_rejected(text, "is no whole log of .ci/run")
+
+    def test_log_that_goes_on_behind_its_end(self):
+        self.assert_rejected(LOG + "more\n", "is no whole log of .ci/run")
+
+    def test_failure(self):
+        self.assert_rejected(LOG.replace("297 passed, 0 failed", "296 passed, 1 failed"), "tells of a failure")
+
+    def test_changes_that_are_in_no_commit(self):
+        self.assert_rejected(LOG.replace("; kit", ", with changes that are in no commit; kit"), "changes that are in no commit")
+
+    def test_another_kit(self):
+        self.assert_rejected(LOG.replace("a kit", "another kit"), "is of another kit")
+
+    def test_sources_that_changed_since(self):
+        self.changed = "crates/yaml_text/src/chars.rt"
+        self.assert_rejected(LOG, "since which sources have changed")
+
+
+class Sums(unittest.TestCase):
+    def setUp(self):
+        folder = tempfile.TemporaryDirectory()
+        self.addCleanup(folder.cleanup)
+        self.folder = folder.name
+        for name in ("one", "two"):
+            with open(f"{self.folder}/{name}", "w", encoding="utf-8") as file:
+                file.write(name)
+        RELEASE.write_sums(self.folder, None)
+        wrong = mock.patch.object(trial, "WRONG", [])
+        wrong.start()
+        self.addCleanup(wrong.stop)
+
+    def wrong(self):
+        run(lambda _: trial.try_sums(self.folder))
+        return trial.WRONG
+
+    def test_sums(self):
+        self.assertEqual(self.wrong(), [])
+
+    def test_file_that_is_another(self):
+        with open(f"{self.folder}/two", "w", encoding="utf-8") as file:
+            file.write("three")
+        self.assertEqual(self.wrong(), ["two has another sum"])
+
+    def test_a_run_with_another_status_or_other_words(self):
+        for done in ((1, "said"), (0, "nothing")):
+            self.assertFalse(run(lambda _, done=done: trial.hold("it", done, 0, "said"))[0])
+        self.assertTrue(run(lambda _: trial.hold("it", (0, "it said"), 0, "said"))[0])
+        self.assertEqual(len(trial.WRONG), 2)
+
+
+class Arguments(unittest.TestCase):
+    def test_what_does_not_go_together(self):
+        for words in (
+            [],
+            ["--source", "folder"],
+            ["--try"],
+            ["--try", "--gate", "log", "folder"],
+            ["--try", "--key", "key", "folder"],
+            ["a", "b"],
+        ):
+            self.assertEqual(run(RELEASE.main, *words)[0], 2, words)
+
+    def test_folder_without_packages(self):
+        with tempfile.TemporaryDirectory() as folder:
+            self.assertEqual(run(RELEASE.main, "--try", folder)[0], 2)
+
+    def test_folder_that_is_not_empty(self):
+        with tempfile.TemporaryDirectory() as folder:
+            os.mkdir(f"{folder}/something")
+            status, said = run(RELEASE.main, folder)
+            self.assertEqual(status, 1)
+            self.assertIn("is not empty", said)
+
+
+if __name__ == "__main__":
+    unittest.main()
