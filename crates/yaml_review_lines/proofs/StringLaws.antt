@@ -16,7 +16,7 @@ use Rattle.yaml_nodes.specs.declared.graph.Graph.{Graph}
 use Rattle.yaml_diff.specs.declared.difference.Difference.{Difference}
 use Rattle.yaml_review_text.specs.Shown.{front}
 use Rattle.yaml_review_lines.specs.Lines.{Text}
-use Rattle.yaml_review_lines.specs.Compared.{room_of, is_numbered, IsScalar, ShowsNode, ShowsBoth, ShowsParts, ShowsScript, ShowsChanges, TellsOne, part_text}
+use Rattle.yaml_review_lines.specs.Compared.{room_of, is_numbered, IsScalar, SameTexts, SameFronts, ShowsNode, ShowsBoth, ShowsParts, ShowsScript, ShowsChanges, TellsOne, part_text}
 use Rattle.yaml_review_lines.specs.declared.lines.Line.{Line}
 use Rattle.yaml_script.specs.Script.{IsScript}
 use Rattle.yaml_script.specs.Printed.{script_text}
@@ -34,8 +34,16 @@ scalar_at g i n content tag text there e t x =
 pub both_shown : (g : Graph) (room : ℕ) (d : Difference) (left right : Text) → ShowsNode g room d.left left → ShowsNode g room d.right right → ShowsBoth g room d left right
 both_shown g room d left right a b = inl (a, b)
 
-pub parts_shown : (g : Graph) (room : ℕ) (d : Difference) (left right : Text) → ShowsParts g room d left right → ShowsBoth g room d left right
-parts_shown g room d left right h = inr h
+-- the texts of two nodes that show the same
+pub fronts_same : (g : Graph) (room : ℕ) (i j : Option NodeId) (left right : Text) → ShowsNode g room i left → ShowsNode g room j right → SameTexts left right → SameFronts g room i j
+fronts_same g room (Some i) (Some j) (Some a) (Some b) x y e = sym x ∙ e ∙ y
+fronts_same g room None j (Some a) right x y e = absurd x
+fronts_same g room i None left (Some b) x y e = absurd y
+fronts_same g room i j None right x y e = absurd e
+fronts_same g room i j (Some a) None x y e = absurd e
+
+pub parts_shown : (g : Graph) (room : ℕ) (d : Difference) (one other left right : Text) → ShowsNode g room d.left one → ShowsNode g room d.right other → SameTexts one other → ShowsParts g room d left right → ShowsBoth g room d left right
+parts_shown g room d one other left right x y e h = inr (fronts_same g room d.left d.right one other x y e, h)
 
 -- a part of a content, by what it has behind its start
 abbrev pub rest_text : ℕ → ℕ → List ℕ → List ℕ

@@ -56,6 +56,10 @@ abbrev pub IsText : List ℕ → Text → Type 0
 IsText bytes None = ⊥
 IsText bytes (Some t) = string_bytes t ≡ bytes
 
+abbrev pub SameTexts : Text → Text → Type 0
+SameTexts (Some left) (Some right) = string_bytes left ≡ string_bytes right
+SameTexts _ _ = ⊥
+
 -- Of two scalars of one tag, a part of either content, from one byte on. What is left out before it is the same on both sides.
 pub record ShowsParts (g : Graph) (room : ℕ) (d : Difference) (left right : Text) : Type 0 where
   pub tag : List ℕ
@@ -68,9 +72,14 @@ pub record ShowsParts (g : Graph) (room : ℕ) (d : Difference) (left right : Te
   pub left_text : IsText (part_text room start one) left
   pub right_text : IsText (part_text room start other) right
 
--- What is shown of the two nodes, which are cut further on if the texts are equal as far as there is room.
+-- the texts of two nodes are equal as far as there is room
+abbrev pub SameFronts : Graph → ℕ → Option NodeId → Option NodeId → Type 0
+SameFronts g room (Some i) (Some j) = shown room (text_of (tree g i.0)) ≡ shown room (text_of (tree g j.0))
+SameFronts g room _ _ = ⊥
+
+-- What is shown of the two nodes, of which parts may be shown only if their texts are equal as far as there is room.
 abbrev pub ShowsBoth : Graph → ℕ → Difference → Text → Text → Type 0
-ShowsBoth g room d left right = (ShowsNode g room d.left left × ShowsNode g room d.right right) ⊎ ShowsParts g room d left right
+ShowsBoth g room d left right = (ShowsNode g room d.left left × ShowsNode g room d.right right) ⊎ (SameFronts g room d.left d.right × ShowsParts g room d left right)
 
 -- Of two scalars of one tag, an edit script from the left content to the right one is printed, with so many lines before and behind each change.
 pub record ShowsScript (g : Graph) (context : ℕ) (color : Bool) (d : Difference) (text : List ℕ) : Type 0 where

@@ -52,14 +52,19 @@ fn shown(
 
 /// What is shown of two nodes.
 #[derive(Drop)]
-struct Shown {
+struct Texts {
     left: Option<String>,
     right: Option<String>,
 }
 
-impl Shown {
+impl Texts {
+    ghost use Rattle.std.specs.Prelude.{◌≡◌, true};
+    ghost use Rattle.yaml_review_lines.specs.Compared.{SameTexts};
+
     /// Whether both sides show the same.
-    fn is_one(&self) -> bool {
+    fn is_one(&self) -> bool
+        ensures { (result ≡ true) → SameTexts self.now.left self.now.right }
+    {
         match (&self.left, &self.right) {
             (Some(left), Some(right)) => left.as_str() == right.as_str(),
             _ => false,
@@ -73,12 +78,12 @@ fn fronts(
     both: &Both<'_>,
     difference: &Difference,
     room: usize,
-) -> Result<Shown, Fault>
+) -> Result<Texts, Fault>
     requires ranked { RanksAre both.now.graph both.now.ranks }
     ensures left { IfOk result (λ s. ShowsNode both.now.graph room difference.now.left s.left) }
     ensures right { IfOk result (λ s. ShowsNode both.now.graph room difference.now.right s.right) }
 {
-    Ok(Shown {
+    Ok(Texts {
         left: shown(alloc, both, difference.left, room)?,
         right: shown(alloc, both, difference.right, room)?,
     })
@@ -92,7 +97,7 @@ fn shown_both(
     difference: &Difference,
     room: usize,
     budget: &mut Budget,
-) -> Result<Shown, Fault>
+) -> Result<Texts, Fault>
     requires ranked { RanksAre both.now.graph both.now.ranks }
     ensures { IfOk result (λ s. ShowsBoth both.now.graph room difference.now s.left s.right) }
 {
@@ -101,7 +106,7 @@ fn shown_both(
         return Ok(texts);
     }
     match differing_parts(alloc, both, difference, room, budget)? {
-        Some((left, right)) => Ok(Shown {
+        Some((left, right)) => Ok(Texts {
             left: Some(left),
             right: Some(right),
         }),
