@@ -55,6 +55,7 @@ NOTHING = (
     "bench/report no-such-part",
     "bench/hostile no-such-shape",
     "bench/hostile --growth no-such-shape",
+    "bench/hostile --prefix no-such-shape",
     "bench/texts no-such-shape",
     "bench/peers --shape no-such-shape",
     "bench/many /no/such/folder",

@@ -46,6 +46,11 @@ class Links(unittest.TestCase):
             said.splitlines(), ["README.md:1: lib.rt#L9: lib.rt has no line 9", "README.md:1: lib.rt#name: lib.rt is no page with headings"]
         )
 
+    def test_name_that_a_file_has_not(self):
+        page = "`read`, `write` in [`b`](b.md)\n`no-read` in [`b`](b.md)\n"
+        said = self.faults(README=page, b="fn read and reader\n")
+        self.assertEqual(said, ["README.md:1: b.md: has no `write`", "README.md:2: b.md: has no `no-read`"])
+
     def test_absolute_path_and_path_out_of_the_repository(self):
         self.assertEqual(len(self.faults(README="[a](/b.md) [c](../c.md)", b="x\n")), 2)
 

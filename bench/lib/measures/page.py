@@ -52,9 +52,9 @@ text. `diff` compares a text with a copy in which up to 100 values are changed. 
 libyaml that prints the same lines.""",
     "small": """A file of {size} bytes. A run of a program is measured by the clock: the median, with the range of four runs in five. A
 call has its processor time.""",
-    "growth": """The work is designed to grow with n log n: all steps are linear but for sorting. We count instructions on {shapes} kinds
-of texts that are made to be expensive. Each has three sizes, each twice the one before. The second step adds at most this many times what
-the first step adds. Linear growth gives 2, and quadratic growth gives 4.""",
+    "growth": """The work is designed to grow with n log n: all steps are linear but for sorting. We count instructions on
+texts that are made to be expensive. The second column says how many kinds there are. Each kind has three sizes, each twice the one before.
+The second step adds at most this many times what the first step adds. Linear growth gives 2, and quadratic growth gives 4.""",
     "costs": """The most that a byte of input costs on the same kinds of texts, at {size} bytes each. Each column has its own worst text.
 The cost of an empty input is subtracted.""",
     "limits": """Limit the memory if inputs come from strangers: the [guide](GUIDE.md#bounds-for-untrusted-files) shows how. The program
@@ -139,8 +139,9 @@ def small(results):
 
 
 def growth(results):
-    rows = [[f"`{it}`", number(results.value(f"growth/{it}"))] for it in ("canon", "same", "events", "check")]
-    return section("Growth", prose("growth", shapes=number(results.value("growth/shapes"))), ["command", "greatest growth"], rows)
+    names = {f"`{it}`": f"growth/{it}" for it in ("canon", "same", "events", "check")}
+    rows = [[shown, *(number(results.value(it)) for it in (f"{name}/texts", name))] for shown, name in names.items()]
+    return section("Growth", prose("growth"), ["command", "kinds of texts", "greatest growth"], rows)
 
 
 def costs(results):

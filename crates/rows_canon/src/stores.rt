@@ -1,14 +1,14 @@
 //! Streams of which the store has the documents, or tells why not, where properties stand on lines above a collection.
 use std::alloc::Global;
 use std::test::Fail;
-use yaml_compose::{Composing, Unmade};
+use yaml_compose::Composing;
 use yaml_read::read_into;
 use yaml_sink::sink::Sink;
 use yaml_text::chars::Chars;
 use yaml_text::fault::Fault;
 
-/// How many documents the store has of a stream, or `None` where it gives up.
-fn composed(alloc: Global, bytes: &[u8]) -> Result<Option<usize>, Fault> {
+/// How many documents the store has of a stream.
+fn composed(alloc: Global, bytes: &[u8]) -> Result<usize, Fault> {
     let source = Chars::read(bytes)?;
     let composing = Composing::new(alloc, "")?;
     let mut out = Sink::Kept(composing);
@@ -17,25 +17,21 @@ fn composed(alloc: Global, bytes: &[u8]) -> Result<Option<usize>, Fault> {
         Sink::Kept(composing) => composing,
         Sink::Listed(list) => {
             drop(list);
-            return Ok(None);
+            return Err(Fault::OutOfMemory);
         }
         Sink::Both(both) => {
             drop(both);
-            return Ok(None);
+            return Err(Fault::OutOfMemory);
         }
     };
-    match composing.finish() {
-        Ok(forest) => Ok(Some(forest.roots.len())),
-        Err(Unmade::Refused(fault)) => Err(fault),
-        Err(Unmade::GivesUp) => Ok(None),
-    }
+    let forest = composing.finish()?;
+    Ok(forest.roots.len())
 }
 
 /// That number, or the message of the fault.
 fn told(alloc: Global, bytes: &[u8]) -> Result<String, Fail> {
     match composed(alloc, bytes) {
-        Ok(Some(count)) => Ok(format!(in alloc; "{count} documents")?),
-        Ok(None) => Ok(String::from_str(alloc, "gives up")?),
+        Ok(count) => Ok(format!(in alloc; "{count} documents")?),
         Err(fault) => Ok(format!(in alloc; "{fault}")?),
     }
 }
@@ -159,7 +155,7 @@ static ROWS: [(&str, &str, &str); 26] = [
 ];
 
 #[test]
-fn no_properties_above_a_collection_make_the_store_give_up(rt: HostRuntime) -> Result<(), Fail> {
+fn the_store_has_streams_with_properties_above_a_collection(rt: HostRuntime) -> Result<(), Fail> {
     let alloc = rt.alloc();
     for (shows, input, want) in &ROWS {
         let got = told(alloc, input.as_bytes())?;

@@ -8,8 +8,7 @@ use yaml_sink::sink::Sink;
 use yaml_text::chars::Chars;
 use yaml_text::fault::Fault;
 
-/// How many nodes the store of a stream has, and how many of them are visited. Streams that this way does not rank count as
-/// memory that was rejected.
+/// How many nodes the store of a stream has, and how many of them are visited.
 fn counted(alloc: Global, bytes: &[u8]) -> Result<(usize, u64), Fault> {
     let source = Chars::read(bytes)?;
     let composing = Composing::new(alloc, "")?;
@@ -26,14 +25,10 @@ fn counted(alloc: Global, bytes: &[u8]) -> Result<(usize, u64), Fault> {
             return Err(Fault::OutOfMemory);
         }
     };
-    let Ok(forest) = composing.finish() else {
-        return Err(Fault::OutOfMemory);
-    };
+    let forest = composing.finish()?;
     let nodes = forest.store.len();
-    match compact_rank(alloc, forest.store) {
-        Ok(ranked) => Ok((nodes, ranked.visits())),
-        Err(_) => Err(Fault::OutOfMemory),
-    }
+    let ranked = compact_rank(alloc, forest.store)?;
+    Ok((nodes, ranked.visits()))
 }
 
 /// Those counts, or the message of the fault.

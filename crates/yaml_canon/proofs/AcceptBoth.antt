@@ -72,10 +72,6 @@ module _ (left right : List ℕ) where
   compared (Ok answer) o e f g a b m n = both-tell left right f g a b m n answer o
   compared (Err refusal) o e f g a b m n = both-memory left right f g a b m n refusal.0 refusal.1 e
 
-  pub compared-refused : (r : Answer) (refusal : Side × Fault) → IsErrAnd r (λ y. y ≡ refusal) → IfErr r (λ x. ComparerRefuses left right x.0 x.1) → Compared r
-  compared-refused (Ok answer) refusal was e = absurd (was)
-  compared-refused (Err x) refusal was e = compared (Err x) tt e
-
   swapped : (r : Answer) (f g u w : List Tree) → Alike u w ↔ Alike f g → Tells r u w → Tells r f g
   swapped (Ok answer) f g u w h t = (λ e. h.0 (t.0 e), λ e. t.1 (h.1 e))
   swapped (Err refusal) f g u w h t = t

@@ -52,8 +52,3 @@ trees-by ts (i ∷ roots) = ap (λ us. tree_at ts i.0 ∷ us) (trees-by ts roots
 pub graph-roots : (ts : List Tree) (f : Forest) → HasRoots ts f → (g : Graph) → graph_trees g ≡ trees_of f.store → map (λ i. i.0) (roots_of g) ≡ f.roots.items → forest g ≡ ts
 graph-roots ts f is g t r =
     ap (λ us. map (λ i. tree_at us i.0) (roots_of g)) t ∙ trees-by (trees_of f.store) (roots_of g) ∙ ap (parts_at (trees_of f.store)) r ∙ roots-are (trees_of f.store) f.roots.items ts is.roots
-
--- what an answer promises twice
-pub if-both : {T E : Type 0} {P Q R : T → Type 0} (r : Result T E) → IfOk r P → IfOk r Q → ((x : T) → P x → Q x → R x) → IfOk r R
-if-both (Ok x) p q f = f x p q
-if-both (Err e) p q f = tt

@@ -5,7 +5,7 @@ use Rattle.std.specs.List.{All}
 use Rattle.std.specs.Str.{encode_utf8_all}
 use Rattle.std.proofs.lemmas.List.{append-nil}
 use Rattle.yaml_definitions.specs.model.Event.{Event}
-use Rattle.yaml_definitions.specs.model.Limits.{text_limit, height_limit, open_limit}
+use Rattle.yaml_definitions.specs.model.Limits.{text_limit, height_limit}
 use Rattle.yaml_definitions.specs.model.Tree.{Tree, height}
 use Rattle.yaml_definitions.specs.model.Order.{arranged}
 use Rattle.yaml_definitions.specs.model.Same.{Keyed}
@@ -14,14 +14,10 @@ use Rattle.yaml_definitions.specs.model.Proper.{AreAdmitted, Admitted}
 use Rattle.yaml_definitions.specs.model.Sound.{AllProper}
 use Rattle.yaml_definitions.specs.model.Means.{Means}
 use Rattle.yaml_definitions.specs.model.Serial.{Document, stream_events}
-use Rattle.yaml_text.specs.EventModel.{event_of}
 use Rattle.yaml_definitions.specs.model.Text.{Text}
 use Rattle.yaml_text.specs.Refused.{RefusesText}
-use Rattle.yaml_text.specs.Source.{text_of}
 use Rattle.yaml_definitions.specs.grammar.Reading.{Reads}
-use Rattle.yaml_definitions.specs.grammar.Streams.{ReadsText}
 use Rattle.yaml_text.specs.LeafAnswer.{IsRefusal}
-use Rattle.yaml_definitions.proofs.grammar.Documents.{readings_are_documents}
 use Rattle.yaml_definitions.proofs.MeaningLaws.{meaning_is_proper}
 use Rattle.yaml_definitions.proofs.Law.{texts_tell}
 use Rattle.yaml_text.specs.declared.event.Event as code
@@ -36,20 +32,16 @@ use Rattle.law_length.proofs.Numbers.{text_light}
 use Rattle.law_length.proofs.Forests.{meaning_bounded}
 use Rattle.yaml_nodes.specs.GraphModel.{tree_at}
 use Rattle.yaml_nodes.specs.GraphView.{nodes_of, roots_of, graph_trees, tree, forest}
-use Rattle.yaml_graph.specs.Composed.{Composable, Composed, RefusesStream}
+use Rattle.yaml_graph.specs.Composed.{Composed, RefusesStream}
 use Rattle.yaml_nodes.specs.declared.node.NodeId.{NodeId}
 use Rattle.yaml_nodes.specs.declared.graph.Graph.{Graph}
-use Rattle.yaml_levels.specs.RanksView.{RefusesGraph}
 use Rattle.yaml_spell.specs.Pieces.{Began, Puts, Fails}
 use Rattle.yaml_spell.specs.Documents.{spell_more, arranged_more, arranged_bytes, RefusesArranged}
 use Rattle.yaml_compact.specs.Walked.{walked_tree}
 use Rattle.yaml_canon.specs.Ranks.{HasRanks}
-use Rattle.yaml_canon.specs.Refused.{RefusesBytes, TellsWhy}
-use Rattle.yaml_canon.specs.declared.no_forest.NoForest.TheVariants as none
-use Rattle.yaml_canon.proofs.RefusedLaws.{unfolds-not}
 use Rattle.yaml_canon.specs.declared.ranks.RankedForest.{RankedForest}
-use Rattle.yaml_canon.specs.Claims.{AllOf, MeansAlone, IsArranged, IsCanonicalText, IsRead, CanonicalRefuses, HasGraph, GraphRefuses}
-use Rattle.yaml_spell.proofs.DocumentLaws.{arranged_same, spell_whole, graph_text}
+use Rattle.yaml_canon.specs.Claims.{AllOf, MeansAlone, IsArranged, IsCanonicalText, IsRead, CanonicalRefuses, GraphRefuses}
+use Rattle.yaml_spell.proofs.DocumentLaws.{arranged_same, spell_whole}
 
 -- ---- the whole text
 
@@ -66,18 +58,6 @@ module _ {S T : Type 0} (bytes : T → List ℕ) where
   text_refused s o p fault ts g e h = subst (RefusesArranged ts) (sym (h.is nowhere [] [] e)) tt
 
 -- ---- documents
-
-abbrev pub Found : List ℕ → List code.Event → Type 0
-Found bytes es = (ds : List Document) × (map event_of es ≡ stream_events ds) × IsRead bytes ds
-
-pub found : (bytes : List ℕ) (text : List ℕ) (es : List code.Event) → Text bytes text → ReadsText text (Unit {0}) open_limit (map event_of es) → Found bytes es
-unfolding Reads
-found bytes text es t r =
-    let d = readings_are_documents bytes (map event_of es) (text, t, r) in
-    (d.0, d.1, record { reads = subst (Reads bytes) d.1 (text, t, r) })
-
-pub composable : (bytes : List ℕ) (es : List code.Event) → Found bytes es → Composable es
-composable bytes es d = record { documents = d.0; cut = d.1 }
 
 -- what the bytes mean
 pub means : (bytes : List ℕ) (ds : List Document) (g : Graph) → IsRead bytes ds → Composed ds g → Means bytes (forest g)
@@ -107,9 +87,6 @@ unfolding Reads
 is_text bytes f m never = let (cs, t, r) = m.reads in never cs t
 
 -- ---- a forest, arranged
-
-pub arranged_graph : (bytes : List ℕ) (ds : List Document) (g : Graph) (roots : List NodeId) → IsRead bytes ds → Composed ds g → ((i : ℕ) → i < length (nodes_of g) → Keyed (tree g i)) → roots ≡ roots_of g → IsArranged bytes (map (λ i. arranged (tree g i.0)) roots)
-arranged_graph bytes ds g roots r c k e = record { forest = forest g; accepted = accepted bytes ds g r c k; text = graph_text g roots e }
 
 map-itself : {X : Type 0} (xs : List X) → map (λ x. x) xs ≡ xs
 map-itself [] = refl
@@ -183,40 +160,11 @@ refused_composing bytes ds (faults.TooHigh e) r h = (ds, r, h)
 refused_composing bytes ds faults.OutOfMemory r h = tt
 refused_composing bytes ds _ r h = absurd h
 
--- bytes that were refused while a forest was looked for
-refused_bytes : (bytes : List ℕ) (fault : Fault) → RefusesBytes bytes fault → GraphRefuses bytes fault
-refused_bytes bytes fault (inl h) = refused_text bytes fault h
-refused_bytes bytes fault (inr h) = refused_reading bytes (text_of h.source) fault h.text h.refusal (inr h.unread)
-
-pub refused_forest : (bytes : List ℕ) (fault : Fault) → TellsWhy bytes (none.Refused fault) → GraphRefuses bytes fault
-refused_forest bytes fault (inl h) = refused_bytes bytes fault h
-refused_forest bytes fault (inr h) = refused_composing bytes h.documents fault (record { reads = h.read }) (unfolds-not h.documents fault h.refuses)
-
-pub refused_as_text : (bytes : List ℕ) (fault : Fault) → TellsWhy bytes (none.Refused fault) → ((cs : List ℕ) → Text bytes cs → ⊥) → RefusesText bytes fault
-unfolding Reads
-refused_as_text bytes fault (inl (inl h)) never = h
-refused_as_text bytes fault (inl (inr h)) never = absurd (never (text_of h.source) h.text)
-refused_as_text bytes fault (inr h) never = let (cs, t, r) = h.read in absurd (never cs t)
-
--- what composing answers, once the bytes are read as these documents
-pub graph_found : (bytes : List ℕ) (ds : List Document) → IsRead bytes ds → (r : Result Graph Fault) → MatchResult r (Composed ds) (RefusesStream ds) → IfOk r (HasGraph bytes)
-graph_found bytes ds p (Ok g) h = record { documents = ds; read = p; composed = h }
-graph_found bytes ds p (Err fault) h = tt
-
-pub graph_unfound : (bytes : List ℕ) (ds : List Document) → IsRead bytes ds → (r : Result Graph Fault) → MatchResult r (Composed ds) (RefusesStream ds) → IfErr r (GraphRefuses bytes)
-graph_unfound bytes ds p (Ok g) h = tt
-graph_unfound bytes ds p (Err fault) h = refused_composing bytes ds fault p h
-
 -- bytes without a graph have no canonical text
 pub refused_graph : (bytes : List ℕ) (fault : Fault) → GraphRefuses bytes fault → CanonicalRefuses bytes fault
 refused_graph bytes (faults.EqualKeys n i j) h = absurd h
 refused_graph bytes faults.TextTooLong h = absurd h
 refused_graph bytes _ h = h
-
-pub refused_ranking : (bytes : List ℕ) (ds : List Document) (g : Graph) (fault : Fault) → IsRead bytes ds → Composed ds g → RefusesGraph g fault → CanonicalRefuses bytes fault
-refused_ranking bytes ds g (faults.EqualKeys n i j) r c h = (ds, g, r, c, h)
-refused_ranking bytes ds g faults.OutOfMemory r c h = tt
-refused_ranking bytes ds g _ r c h = absurd h
 
 pub refused_arranged : (bytes : List ℕ) (ts : List Tree) (fault : Fault) → IsArranged bytes ts → RefusesArranged ts fault → CanonicalRefuses bytes fault
 refused_arranged bytes ts faults.TextTooLong a h = (a.forest, a.accepted, subst (λ z. text_limit < length z) a.text h)

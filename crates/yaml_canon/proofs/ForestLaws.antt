@@ -1,11 +1,13 @@
 -- From what a reader put down to the documents that bytes are read as.
 use Rattle.std.proofs.Common.{◌≡◌, ℕ, List, [], ◌∷◌, ◌++◌, refl, sym, ◌∙◌, ap, subst, Ok}
+use Rattle.std.specs.Prelude.{Result, Err, IfOk}
 use Rattle.std.proofs.lemmas.Option.{get_or_from_slice_get}
 use Rattle.yaml_definitions.specs.model.Tree.{Tree, scalar}
 use Rattle.yaml_definitions.specs.model.Means.{Means}
 use Rattle.yaml_definitions.specs.model.Limits.{open_limit}
 use Rattle.yaml_definitions.specs.model.Event.{Event}
 use Rattle.yaml_definitions.specs.model.Text.{Text}
+use Rattle.yaml_text.specs.declared.fault.Fault.{Fault}
 use Rattle.yaml_definitions.specs.model.Serial.{stream_events}
 use Rattle.yaml_definitions.specs.grammar.Reading.{Reads}
 use Rattle.yaml_definitions.specs.grammar.Streams.{ReadsText}
@@ -49,3 +51,8 @@ unfolding Reads
 takes holds bytes cs before after es t r p =
     let d = readings_are_documents bytes es (cs, t, r) in
     record { documents = d.0; read = subst (Reads bytes) d.1 (cs, t, r); puts = subst (λ z. Puts holds before z after) d.1 p }
+
+-- what reading answers
+pub if_takes : {K : Type 0} (holds : K → List Event → Type 0) (bytes cs : List ℕ) (before : K) → Text bytes cs → (r : Result K Fault) → IfOk r (λ after. (es : List Event) × ReadsText cs (Unit {0}) open_limit es × Puts holds before es after) → IfOk r (Takes holds bytes before)
+if_takes holds bytes cs before t (Ok after) h = takes holds bytes cs before after h.0 t h.1 h.2
+if_takes holds bytes cs before t (Err fault) h = tt

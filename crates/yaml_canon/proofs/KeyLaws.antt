@@ -5,9 +5,8 @@ use Rattle.std.specs.List.{slice_get}
 use Rattle.std.proofs.lemmas.List.{get_or_append_left, get_or-append-add}
 use Rattle.yaml_definitions.specs.model.Limits.{height_limit}
 use Rattle.yaml_definitions.specs.model.Tree.{Tree, height}
-use Rattle.yaml_definitions.specs.model.Text.{Text}
-use Rattle.yaml_definitions.specs.model.Serial.{Document, stream_events}
-use Rattle.yaml_definitions.specs.grammar.Reading.{Reads}
+use Rattle.yaml_definitions.specs.model.Serial.{Document}
+use Rattle.yaml_text.specs.declared.fault.Fault.{Fault}
 use Rattle.yaml_text.specs.declared.fault.Fault.TheVariants as faults
 use Rattle.yaml_nodes.specs.GraphModel.{AreLow}
 use Rattle.yaml_nodes.specs.GraphView.{graph_trees}
@@ -22,26 +21,22 @@ use Rattle.law_closing.proofs.Repeats.{first-is-graphs}
 use Rattle.yaml_compact.specs.TextModel.{text_of}
 use Rattle.yaml_compact.specs.StoreGrows.{Good, tags_of, trees_of}
 use Rattle.yaml_compact.specs.StoreView.{view_of}
-use Rattle.yaml_compact.specs.Unranked.{RefusesStore}
-use Rattle.yaml_compact.specs.declared.unranked.EqualKeys.{EqualKeys}
-use Rattle.yaml_compact.specs.declared.unranked.Unranked.{Unranked}
-use Rattle.yaml_compact.specs.declared.unranked.Unranked.TheVariants as unranked
+use Rattle.yaml_compact.specs.Refused.{RefusesStore}
 use Rattle.yaml_compact.proofs.Growing.{trees-count}
 use Rattle.yaml_compose.specs.ComposerModel.{IsForest, AreForests}
 use Rattle.yaml_compose.specs.declared.composer.Forest.{Forest}
 use Rattle.yaml_compose.proofs.HoldableLaws.{closed-holdable}
-use Rattle.yaml_canon.specs.NoRanks.{ranked_not, IsInStream, RefusesRanks, RefusesBothRanks, HasEqualKeys, TellsWhyNot}
-use Rattle.yaml_canon.specs.Claims.{CanonicalRefuses}
+use Rattle.yaml_canon.specs.RefusedRanks.{IsInStream, RefusesRanks, RefusesBothRanks}
 use Rattle.yaml_canon.proofs.AcceptLaws.{same-trees}
 
 -- ---- any graph of the nodes that a store stands for
 
-graph-keys : (f : Forest) (good : Good f.store) (g : Graph) → Numbers (trees_of f.store) f.firsts.items (graph_trees g) → (keys told : EqualKeys) → slice_get f.firsts.items keys.node ≡ Some told.node → told.first ≡ keys.first → told.second ≡ keys.second
-    → RefusesStore f.store good (unranked.EqualKeys keys) → RefusesGraph g (faults.EqualKeys told.node told.first told.second)
-graph-keys f good g numbered keys told at first second h =
+graph-keys : (f : Forest) (good : Good f.store) (g : Graph) → Numbers (trees_of f.store) f.firsts.items (graph_trees g) → (stored one two node i j : ℕ) → slice_get f.firsts.items stored ≡ Some node → i ≡ one → j ≡ two
+    → RefusesStore f.store good (faults.EqualKeys stored one two) → RefusesGraph g (faults.EqualKeys node i j)
+graph-keys f good g numbered stored one two node i j at first second h =
     let s = f.store in
     let count = trees-count s.nodes.items (text_of s.text) s.items.items s.entries.items (tags_of s) in
-    let refused = first-is-graphs g (view_of s good) (trees_of s) f.firsts.items count (λ i l. refl) numbered keys.node told.node at h.0.is.within keys.first keys.second h.0.is h.0.before h.1 in
+    let refused = first-is-graphs g (view_of s good) (trees_of s) f.firsts.items count (λ i l. refl) numbered stored node at h.0.is.within one two h.0.is h.0.before h.1 in
     rw (first, second) refused
 
 -- ---- the stream's graph
@@ -60,10 +55,11 @@ module _ (ds : List Document) (f : Forest) (is : IsForest ds f) where
   numbered = subst (Numbers (trees_of f.store) f.firsts.items) (sym graph-nodes) is.numbered
 
   -- what is told of the store is told of the stream
-  pub in-stream : (before after : Unranked) → IsInStream f.firsts.items before after → RefusesStore f.store is.good before → RefusesRanks ds after
-  in-stream (unranked.EqualKeys keys) (unranked.EqualKeys told) w h = record { graph = graph.0; composed = graph.1; refuses = graph-keys f is.good graph.0 numbered keys told w.0 w.1 w.2 h }
-  in-stream unranked.GivesUp (unranked.EqualKeys told) w h = absurd w
-  in-stream before unranked.GivesUp w h = tt
+  pub in-stream : (before after : Fault) → IsInStream f.firsts.items before after → RefusesStore f.store is.good before → RefusesRanks ds after
+  in-stream (faults.EqualKeys stored one two) (faults.EqualKeys node i j) w h = record { graph = graph.0; composed = graph.1; refuses = graph-keys f is.good graph.0 numbered stored one two node i j w.0 w.1 w.2 h }
+  in-stream _ (faults.EqualKeys node i j) w h = absurd w
+  in-stream before faults.OutOfMemory w h = tt
+  in-stream before _ w h = absurd w
 
 -- ---- the graph of two streams
 
@@ -98,21 +94,8 @@ module _ (ds es : List Document) (f : Forest) (is : AreForests ds es f) where
   both-numbered : Numbers (trees_of f.store) f.firsts.items (graph_trees graphs.both)
   both-numbered = subst (Numbers (trees_of f.store) f.firsts.items) (sym both-nodes) is.numbered
 
-  pub in-both : (before after : Unranked) → IsInStream f.firsts.items before after → RefusesStore f.store is.good before → RefusesBothRanks ds es after
-  in-both (unranked.EqualKeys keys) (unranked.EqualKeys told) w h = record { graphs = graphs; refuses = graph-keys f is.good graphs.both both-numbered keys told w.0 w.1 w.2 h }
-  in-both unranked.GivesUp (unranked.EqualKeys told) w h = absurd w
-  in-both before unranked.GivesUp w h = tt
-
--- ---- the bytes
-
-pub not-ranked : (bytes : List ℕ) (ds : List Document) (why : Unranked) → Reads bytes (stream_events ds) → RefusesRanks ds why → TellsWhyNot bytes (ranked_not why)
-not-ranked bytes ds (unranked.EqualKeys keys) r h = record { documents = ds; read = r; equal = h }
-not-ranked bytes ds unranked.GivesUp r h = tt
-
-pub refused-keys : (bytes : List ℕ) (keys : EqualKeys) → HasEqualKeys bytes keys → CanonicalRefuses bytes (faults.EqualKeys keys.node keys.first keys.second)
-refused-keys bytes keys h = (h.documents, h.equal.graph, record { reads = h.read }, h.equal.composed, h.equal.refuses)
-
--- such bytes are a text
-pub keys-in-text : (bytes : List ℕ) (keys : EqualKeys) → HasEqualKeys bytes keys → ((cs : List ℕ) → Text bytes cs → ⊥) → ⊥
-unfolding Reads
-keys-in-text bytes keys h never = let (cs, t, r) = h.read in never cs t
+  pub in-both : (before after : Fault) → IsInStream f.firsts.items before after → RefusesStore f.store is.good before → RefusesBothRanks ds es after
+  in-both (faults.EqualKeys stored one two) (faults.EqualKeys node i j) w h = record { graphs = graphs; refuses = graph-keys f is.good graphs.both both-numbered stored one two node i j w.0 w.1 w.2 h }
+  in-both _ (faults.EqualKeys node i j) w h = absurd w
+  in-both before faults.OutOfMemory w h = tt
+  in-both before _ w h = absurd w

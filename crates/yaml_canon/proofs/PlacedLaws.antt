@@ -14,12 +14,8 @@ use Rattle.yaml_text.specs.declared.chars.Chars.{Chars}
 use Rattle.yaml_text.specs.declared.counted.Counted.{Counted}
 use Rattle.yaml_text.specs.declared.fault.Fault.{Fault}
 use Rattle.yaml_text.specs.declared.fault.Fault.TheVariants as faults
-use Rattle.yaml_canon.specs.Refused.{TellsWhy}
-use Rattle.yaml_canon.specs.declared.no_forest.NoForest.TheVariants as none
-use Rattle.yaml_canon.proofs.RefusedLaws.{unfolds-not}
-use Rattle.yaml_graph.specs.Composed.{Composed, RefusesStream}
+use Rattle.yaml_graph.specs.Composed.{RefusesStream}
 use Rattle.yaml_nodes.specs.declared.graph.Graph.{Graph}
-use Rattle.yaml_levels.specs.RanksView.{RefusesGraph}
 use Rattle.yaml_canon.specs.Comparing.{RefusesDocuments}
 use Rattle.yaml_spell.specs.Documents.{RefusesArranged}
 use Rattle.yaml_answers.specs.Gathering.{Gathers, GatherFails}
@@ -76,17 +72,6 @@ stream_elsewhere bytes ds (faults.TooHigh e) h = tt
 stream_elsewhere bytes ds faults.OutOfMemory h = tt
 stream_elsewhere bytes ds _ h = absurd h
 
--- bytes that were refused while a forest was looked for
-pub placed_in_bytes : (bytes : List ℕ) (fault : Fault) → TellsWhy bytes (none.Refused fault) → TellsPlace bytes fault
-placed_in_bytes bytes fault (inl (inl h)) = text_elsewhere bytes fault h
-placed_in_bytes bytes fault (inl (inr h)) = placed_in bytes h.source h.behind_mark h.mark fault h.placed
-placed_in_bytes bytes fault (inr h) = stream_elsewhere bytes h.documents fault (unfolds-not h.documents fault h.refuses)
-
-pub graph_elsewhere : (bytes : List ℕ) (g : Graph) (fault : Fault) → RefusesGraph g fault → TellsPlace bytes fault
-graph_elsewhere bytes g (faults.EqualKeys n i j) h = tt
-graph_elsewhere bytes g faults.OutOfMemory h = tt
-graph_elsewhere bytes g _ h = absurd h
-
 pub arranged_elsewhere : (bytes : List ℕ) (ts : List Tree) (fault : Fault) → RefusesArranged ts fault → TellsPlace bytes fault
 arranged_elsewhere bytes ts faults.TextTooLong h = tt
 arranged_elsewhere bytes ts faults.OutOfMemory h = tt
@@ -96,15 +81,7 @@ pub write_elsewhere : (bytes : List ℕ) (fault : Fault) → fault ≡ faults.Wr
 write_elsewhere bytes faults.WriteFault h = tt
 write_elsewhere bytes _ h = absurd (cc)
 
--- what composing answers
-pub composed_elsewhere : (bytes : List ℕ) (ds : List Document) (r : Result Graph Fault) → MatchResult r (Composed ds) (RefusesStream ds) → IfErr r (TellsPlace bytes)
-composed_elsewhere bytes ds (Ok g) h = tt
-composed_elsewhere bytes ds (Err fault) h = stream_elsewhere bytes ds fault h
-
 -- ---- sides, and what a reader gave
-
-pub of_answer : {T : Type 0} (bytes : List ℕ) (r : Result T Fault) (fault : Fault) → r ≡ Err fault → IfErr r (TellsPlace bytes) → TellsPlace bytes fault
-of_answer bytes r fault e h = subst (λ z. IfErr z (TellsPlace bytes)) e h
 
 pub documents_elsewhere : (left right : List ℕ) (ds es : List Document) (side : Side) (fault : Fault) → RefusesDocuments ds es side fault → TellsSidesPlace left right side fault
 documents_elsewhere left right ds es Left (faults.EqualKeys n i j) h = tt

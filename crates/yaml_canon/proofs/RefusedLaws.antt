@@ -1,55 +1,63 @@
--- From the faults of a reader to why no forest is had.
-use Rattle.std.proofs.Common.{◌≡◌, ◌⊎◌, inl, inr, ℕ, List, drop}
-use Rattle.yaml_definitions.specs.model.Text.{Text, mark_len}
+-- From the faults of a reader and a composer to why bytes are refused.
+use Rattle.std.proofs.Common.{◌≡◌, ◌⊎◌, ℕ, List}
+use Rattle.std.specs.Prelude.{Result, Ok, Err, IfErr}
+use Rattle.yaml_definitions.specs.model.Text.{Text}
 use Rattle.yaml_text.specs.LeafAnswer.{IsRefusal}
 use Rattle.yaml_text.specs.Placed.{IsPlaced}
 use Rattle.yaml_text.specs.Refused.{RefusesText}
-use Rattle.yaml_text.specs.Source.{bytes_of, mark_of, text_of}
+use Rattle.yaml_text.specs.Source.{text_of}
 use Rattle.yaml_text.specs.declared.chars.Chars.{Chars}
 use Rattle.yaml_text.specs.declared.fault.Fault.{Fault}
 use Rattle.yaml_text.specs.declared.fault.Fault.TheVariants as faults
 use Rattle.yaml_read.specs.Decided.{HasNoReading}
-use Rattle.yaml_definitions.specs.model.Serial.{Document, stream_events}
+use Rattle.yaml_definitions.specs.model.Serial.{Document}
 use Rattle.yaml_definitions.specs.grammar.Reading.{Reads}
 use Rattle.yaml_graph.specs.Composed.{RefusesStream}
-use Rattle.yaml_compose.specs.Refusals.{RefusesForest}
-use Rattle.yaml_compose.specs.declared.unmade.Unmade.{Unmade}
-use Rattle.yaml_compose.specs.declared.unmade.Unmade.TheVariants as unmade
-use Rattle.yaml_canon.specs.Refused.{handed_on, told_as, RefusesReading, TellsWhy}
+use Rattle.yaml_canon.specs.Claims.{CanonicalRefuses, GraphRefuses, IsRead}
+use Rattle.yaml_canon.specs.RefusedRanks.{RefusesRanks}
+use Rattle.yaml_canon.specs.Read.{IsSource}
+use Rattle.yaml_canon.specs.Refused.{Refuses}
+use Rattle.yaml_canon.proofs.ClaimLaws.{refused_text, refused_reading, refused_composing, refused_graph}
+use Rattle.yaml_canon.proofs.PlacedLaws.{text_elsewhere, placed_in, stream_elsewhere}
+
+-- bytes that are read are a text
+pub read-text : (bytes : List ℕ) (ds : List Document) → IsRead bytes ds → ((cs : List ℕ) → Text bytes cs → ⊥) → ⊥
+unfolding Reads
+read-text bytes ds r never = let (cs, t, p) = r.reads in never cs t
 
 -- bytes that are no text
-pub no-text : (bytes : List ℕ) (fault : Fault) → RefusesText bytes fault → TellsWhy bytes (handed_on fault)
-no-text bytes faults.TooLong h = inl (inl h)
-no-text bytes (faults.NotUtf8 at) h = inl (inl h)
-no-text bytes (faults.NotPrintable at) h = inl (inl h)
-no-text bytes _ h = absurd h
+pub no-text : (bytes : List ℕ) (fault : Fault) → RefusesText bytes fault → Refuses GraphRefuses bytes fault
+no-text bytes fault h = record { refused = refused_text bytes fault h; placed = text_elsewhere bytes fault h; no_text = λ never. h }
 
-module _ (bytes : List ℕ) (source : Chars) (t : Text bytes (text_of source)) (e : bytes_of source ≡ drop (mark_len bytes) bytes) (m : mark_of source ≡ mark_len bytes) where
-  refuses : (fault : Fault) → IsRefusal fault → (fault ≡ faults.OutOfMemory) ⊎ HasNoReading (text_of source) → IsPlaced source fault → (fault ≡ faults.OutOfMemory → ⊥) → RefusesReading bytes fault
-  refuses fault r (inl o) p n = absurd (n o)
-  refuses fault r (inr h) p n = record { source = source; text = t; behind_mark = e; mark = m; unread = h; refusal = r; no_memory = n; placed = p }
+-- a text that is not read
+pub not-read : (bytes : List ℕ) (source : Chars) → IsSource bytes source → (fault : Fault) → IsRefusal fault → (fault ≡ faults.OutOfMemory) ⊎ HasNoReading (text_of source) → IsPlaced source fault → Refuses GraphRefuses bytes fault
+not-read bytes source s fault r d p = record {
+  refused = refused_reading bytes (text_of source) fault s.read r d;
+  placed = placed_in bytes source s.behind_mark s.mark fault p;
+  no_text = λ never. absurd (never (text_of source) s.read);
+}
 
-  -- a text that is not read, or where its composer gave up
-  pub not-read : (fault : Fault) → IsRefusal fault → (fault ≡ faults.OutOfMemory) ⊎ HasNoReading (text_of source) → IsPlaced source fault → TellsWhy bytes (handed_on fault)
-  not-read (faults.Syntax at) r d p = inl (inr (refuses (faults.Syntax at) r d p (λ o. absurd (cc))))
-  not-read (faults.Tab at) r d p = inl (inr (refuses (faults.Tab at) r d p (λ o. absurd (cc))))
-  not-read (faults.KeyTooLong at) r d p = inl (inr (refuses (faults.KeyTooLong at) r d p (λ o. absurd (cc))))
-  not-read (faults.TooDeep at) r d p = inl (inr (refuses (faults.TooDeep at) r d p (λ o. absurd (cc))))
-  not-read (faults.BadEscape at) r d p = inl (inr (refuses (faults.BadEscape at) r d p (λ o. absurd (cc))))
-  not-read (faults.BadDirective at) r d p = inl (inr (refuses (faults.BadDirective at) r d p (λ o. absurd (cc))))
-  not-read (faults.UnknownHandle at) r d p = inl (inr (refuses (faults.UnknownHandle at) r d p (λ o. absurd (cc))))
-  not-read (faults.BadTag at) r d p = inl (inr (refuses (faults.BadTag at) r d p (λ o. absurd (cc))))
-  not-read faults.OutOfMemory r d p = tt
-  not-read _ r d p = absurd r
+-- what reading answers
+pub if_not_read : {K : Type 0} (bytes : List ℕ) (source : Chars) → IsSource bytes source → (r : Result K Fault) → IfErr r IsRefusal → IfErr r (λ e. (e ≡ faults.OutOfMemory) ⊎ HasNoReading (text_of source)) → IfErr r (IsPlaced source) → IfErr r (Refuses GraphRefuses bytes)
+if_not_read bytes source s (Ok new) e d p = tt
+if_not_read bytes source s (Err fault) e d p = not-read bytes source s fault e d p
+
+-- a text for which there is no memory
+pub no-memory : (bytes : List ℕ) (source : Chars) → IsSource bytes source → Refuses GraphRefuses bytes faults.OutOfMemory
+no-memory bytes source s = record { refused = tt; placed = tt; no_text = λ never. absurd (never (text_of source) s.read) }
 
 -- ---- documents
 
--- what is told of documents without a forest
-pub unfolds-not : (ds : List Document) (fault : Fault) → RefusesForest ds (unmade.Refused fault) → RefusesStream ds fault
-unfolds-not ds faults.OutOfMemory h = absurd h
-unfolds-not ds _ h = h
-
 -- a composer's answer, once the bytes are read as these documents
-pub not-made : (bytes : List ℕ) (ds : List Document) (why : Unmade) → Reads bytes (stream_events ds) → RefusesForest ds why → TellsWhy bytes (told_as why)
-not-made bytes ds (unmade.Refused fault) r h = inr (record { documents = ds; read = r; refuses = h })
-not-made bytes ds unmade.GivesUp r h = tt
+pub not-made : (bytes : List ℕ) (ds : List Document) (fault : Fault) → IsRead bytes ds → RefusesStream ds fault → Refuses GraphRefuses bytes fault
+not-made bytes ds fault r h = record { refused = refused_composing bytes ds fault r h; placed = stream_elsewhere bytes ds fault h; no_text = λ never. absurd (read-text bytes ds r never) }
+
+-- bytes without a forest have no canonical text
+pub no-forest : (bytes : List ℕ) (fault : Fault) → Refuses GraphRefuses bytes fault → Refuses CanonicalRefuses bytes fault
+no-forest bytes fault h = record { refused = refused_graph bytes fault h.refused; placed = h.placed; no_text = h.no_text }
+
+-- nodes without ranks, once the bytes are read as these documents
+pub not-ranked : (bytes : List ℕ) (ds : List Document) (fault : Fault) → IsRead bytes ds → RefusesRanks ds fault → Refuses CanonicalRefuses bytes fault
+not-ranked bytes ds (faults.EqualKeys node i j) r h = record { refused = (ds, h.graph, r, h.composed, h.refuses); placed = tt; no_text = λ never. absurd (read-text bytes ds r never) }
+not-ranked bytes ds faults.OutOfMemory r h = record { refused = tt; placed = tt; no_text = λ never. absurd (read-text bytes ds r never) }
+not-ranked bytes ds _ r h = absurd h

@@ -19,8 +19,9 @@ use Rattle.yaml_compact.proofs.Growing.{trees-count}
 use Rattle.yaml_compose.specs.ComposerModel.{AllAt}
 use Rattle.yaml_compose.specs.declared.composer.Forest.{Forest}
 use Rattle.yaml_canon.specs.declared.ranks.RankedForest.{RankedForest}
-use Rattle.yaml_canon.specs.Read.{HasRoots}
-use Rattle.yaml_canon.specs.Ranks.{RanksOf}
+use Rattle.yaml_definitions.specs.model.Means.{Means}
+use Rattle.yaml_canon.specs.Read.{HasForest, HasRoots, root_trees}
+use Rattle.yaml_canon.specs.Ranks.{RanksOf, HasRanks}
 use Rattle.yaml_canon.proofs.ForestLaws.{roots-are}
 
 -- roots that stand for trees are nodes
@@ -75,3 +76,14 @@ module _ (ts : List Tree) (f : Forest) (is : HasRoots ts f) where
         arranged = taken.trees s is.good are ∙ (map-arranged (trees_of s) f.roots.items ∙ ap (map arranged) trees-are);
         tell = roots-tell g.ranked are g.roots.items taken.are;
       }
+
+-- the ranks of what bytes mean
+pub has-ranks : (bytes : List ℕ) (f : Forest) (h : HasForest bytes f) → Means bytes (root_trees f) → (g : RankedForest) → RanksOf h.forest.trees_are g → HasRanks bytes g
+has-ranks bytes f h m g r = record {
+  trees = h.forest.trees_are;
+  means = subst (Means bytes) (roots-are (trees_of f.store) f.roots.items h.forest.trees_are h.forest.roots) m;
+  low = h.forest.low;
+  keyed = r.keyed;
+  rooted = r.rooted;
+  arranged = r.arranged;
+}

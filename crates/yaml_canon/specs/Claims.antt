@@ -80,12 +80,6 @@ CanonicalRefuses bytes TextTooLong = (f : List Tree) × MeansAlone bytes f × (t
 CanonicalRefuses bytes OutOfMemory = Unit {0}
 CanonicalRefuses bytes _ = ⊥
 
--- The bytes are read as documents whose graph this is.
-pub record HasGraph (bytes : List ℕ) (g : Graph) : Type 0 where
-  pub documents : List Document
-  pub read : IsRead bytes documents
-  pub composed : Composed documents g
-
 -- why the bytes have no graph: of what `canonical` refuses, all that is judged before ranks are
 abbrev pub GraphRefuses : List ℕ → Fault → Type 0
 GraphRefuses bytes (EqualKeys node first second) = ⊥

@@ -1,13 +1,12 @@
 -- What `same` promises.
-use Rattle.std.specs.Prelude.{◌≡◌, ◌↔◌, ◌<◌, ◌-◌, ℕ, Bool, true, cond, nat_le, List, length}
-use Rattle.std.specs.Cmp.Lexicographic.{pointwise}
-use Rattle.yaml_definitions.specs.model.Same.{Alike, same, Keyed}
+use Rattle.std.specs.Prelude.{◌≡◌, ◌↔◌, ◌-◌, ℕ, Bool, true, cond, nat_le, List, length}
+use Rattle.yaml_definitions.specs.model.Same.{Alike}
 use Rattle.yaml_definitions.specs.model.Tree.{Tree}
 use Rattle.yaml_definitions.specs.model.Serial.{Document}
 use Rattle.yaml_text.specs.declared.fault.Fault.{Fault}
 use Rattle.yaml_text.specs.declared.fault.Fault.TheVariants.{EqualKeys, TextTooLong}
 use Rattle.yaml_graph.specs.Composed.{Composed, RefusesStream}
-use Rattle.yaml_nodes.specs.GraphView.{nodes_of, tree, forest}
+use Rattle.yaml_nodes.specs.GraphView.{nodes_of}
 use Rattle.yaml_nodes.specs.JoinModel.{Joined}
 use Rattle.yaml_nodes.specs.declared.graph.Graph.{Graph}
 use Rattle.yaml_levels.specs.RanksView.{RefusesGraph}
@@ -43,16 +42,6 @@ pub record HasEqualKeys (first second : List Document) (side : Side) (fault : Fa
 -- the documents have a graph
 abbrev pub IsComposable : List Document → Type 0
 IsComposable ds = (g : Graph) × Composed ds g
-
--- The documents' trees have no equal keys, and the answer is whether they are equally many, pairwise the same.
-pub record ComparesDocuments (first second : List Document) (answer : Bool) : Type 0 where
-  pub first_graph : Graph
-  pub second_graph : Graph
-  pub first_composed : Composed first first_graph
-  pub second_composed : Composed second second_graph
-  pub first_keyed : (i : ℕ) → i < length (nodes_of first_graph) → Keyed (tree first_graph i)
-  pub second_keyed : (i : ℕ) → i < length (nodes_of second_graph) → Keyed (tree second_graph i)
-  pub tells : answer ≡ pointwise same (forest first_graph) (forest second_graph)
 
 -- why the documents of two sides are not compared
 abbrev pub RefusesDocuments : List Document → List Document → Side → Fault → Type 0

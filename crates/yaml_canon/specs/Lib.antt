@@ -1,6 +1,6 @@
 pub mod Read
 pub mod Refused
-pub mod NoRanks
+pub mod RefusedRanks
 pub mod Ranks
 pub mod Both
 pub mod Two
@@ -11,4 +11,3 @@ pub mod Accepting
 pub mod Runs
 pub mod Targets
 pub mod Rooms
-pub mod NoForests

@@ -4,18 +4,18 @@ ghost use Rattle.yaml_nodes.specs.GraphView.{forest as root_trees};
 ghost use Rattle.yaml_canon.specs.Both.{HasBoth, HaveRanks};
 ghost use Rattle.yaml_canon.specs.Two.{KeepsBoth};
 ghost use Rattle.yaml_canon.specs.Comparing.{IsComposed};
-ghost use Rattle.yaml_canon.specs.NoForests.{TellsWhyNeither};
+ghost use Rattle.yaml_canon.specs.Refused.{RefusesSide};
 
 use crate::forest::{forest_of, kept_source, lent, source_of};
-use crate::no_forest::{NoForest, NoForests};
 use crate::ranks::{RankedForest, ranked_roots};
+use crate::sides::with_side;
 use crate::two::Two;
 use std::alloc::Global;
 use yaml_answers::Side;
-use yaml_compact::GivesUp;
 use yaml_compose::{Composing, Forest, StreamSize};
 use yaml_graph::graph::Graph;
 use yaml_sink::sink::Keeper;
+use yaml_text::fault::Fault;
 
 /// The nodes of two streams: the roots of the left one, and then those of the right one.
 #[derive(Drop)]
@@ -26,13 +26,15 @@ pub struct BothForests<'l> {
 }
 
 impl BothForests<'_> {
-    /// The nodes of both streams in one graph, equal ones mostly merged. Their texts are borrowed from the store. It falls back
-    /// if memory does not suffice.
-    pub fn graph(&self, alloc: Global) -> Result<Graph<'_>, GivesUp>
+    /// The nodes of both streams in one graph, equal ones mostly merged. Their texts are borrowed from the store. The only
+    /// error is want of memory (21).
+    pub fn graph(&self, alloc: Global) -> Result<Graph<'_>, Fault>
         requires { (left right : List ℕ) × HasBoth left right self.now }
-        ensures { (left right : List ℕ) (has : HasBoth left right self.now) → IfOk result (λ graph. root_trees graph ≡ has.mean.lefts ++ has.mean.rights) }
+        ensures ok { (left right : List ℕ) (has : HasBoth left right self.now) → IfOk result (λ graph. root_trees graph ≡ has.mean.lefts ++ has.mean.rights) }
+        ensures err { IfErr result (λ fault. fault ≡ Fault.OutOfMemory) }
     {
-        self.forest.store.graph(alloc, &self.forest.roots)
+        let graph = self.forest.store.graph(alloc, &self.forest.roots)?;
+        Ok(graph)
     }
 }
 
@@ -45,52 +47,55 @@ pub(crate) struct RankedBoth<'l> {
 }
 
 /// Why the right side has no forest where both have none together.
-fn none_of_right(alloc: Global, right: &[u8]) -> NoForests
-    ensures { (left : List ℕ) → IsComposed left → TellsWhyNeither left right.now result }
+fn none_of_right(alloc: Global, right: &[u8]) -> (Side, Fault)
+    ensures { (left : List ℕ) → IsComposed left → RefusesSide left right.now result.0 result.1 }
 {
-    let why = match forest_of(alloc, right) {
+    let fault = match forest_of(alloc, right) {
         Ok(forest) => {
             drop(forest);
-            return NoForests::GivesUp;
+            return (Side::Left, Fault::OutOfMemory);
         }
-        Err(why) => why,
+        Err(fault) => fault,
     };
-    NoForests::of(Side::Right, why)
+    (Side::Right, fault)
 }
 
 /// The nodes of two streams in one store: those of the left stream, then those of the right one.
 ///
 /// # Errors
-/// What `canonical` rejects of the left side before it looks for equal keys (1 to 18), and otherwise of the right side. It falls back
-/// for want of memory, and if a number does not fit.
+/// What `canonical` rejects of the left side before it looks for equal keys (1 to 18), and otherwise of the right side. 21 if memory
+/// does not suffice, or a number does not fit in 32 bits: of the left side once both are read.
 pub fn forest_of_both<'l>(
     alloc: Global,
     left: &'l [u8],
     right: &[u8],
-) -> Result<BothForests<'l>, NoForests>
+) -> Result<BothForests<'l>, (Side, Fault)>
     ensures both { IfOk result (HasBoth left.now right.now) }
-    ensures why { IfErr result (TellsWhyNeither left.now right.now) }
+    ensures why { IfErr result (λ refusal. RefusesSide left.now right.now refusal.0 refusal.1) }
 {
     let left_text = match source_of(left) {
         Ok(text) => text,
-        Err(why) => return Err(NoForests::of(Side::Left, why)),
+        Err(why) => return Err((Side::Left, why)),
     };
-    let empty = Composing::new(alloc, lent(&left_text))?;
+    let empty = match Composing::new(alloc, lent(&left_text)) {
+        Ok(empty) => empty,
+        Err(why) => return Err((Side::Left, Fault::from(why))),
+    };
     let mut first = match kept_source(alloc, empty, &left_text) {
         Ok(first) => first,
-        Err(none) => return Err(NoForests::of(Side::Left, none)),
+        Err(fault) => return Err((Side::Left, fault)),
     };
     let size = match first.documents() {
         Ok(size) => size,
-        Err(why) => return Err(NoForests::of(Side::Left, NoForest::from(why))),
+        Err(why) => return Err((Side::Left, why)),
     };
     let right_text = match source_of(right) {
         Ok(text) => text,
-        Err(why) => return Err(NoForests::of(Side::Right, why)),
+        Err(why) => return Err((Side::Right, why)),
     };
     let both = match kept_source(alloc, first, &right_text) {
         Ok(both) => both,
-        Err(why) => return Err(NoForests::of(Side::Right, why)),
+        Err(why) => return Err((Side::Right, why)),
     };
     let Ok(forest) = both.finish() else {
         return Err(none_of_right(alloc, right));
@@ -105,39 +110,43 @@ pub fn forest_of_both_with<'l, K: Keeper>(
     left: &'l [u8],
     right: &[u8],
     keeper: K,
-) -> Result<(BothForests<'l>, K, usize), NoForests>
+) -> Result<(BothForests<'l>, K, usize), (Side, Fault)>
     requires { K.holds keeper [] }
     ensures both { IfOk result (λ made. HasBoth left.now right.now made.0) }
-    ensures why { IfErr result (TellsWhyNeither left.now right.now) }
+    ensures why { IfErr result (λ refusal. RefusesSide left.now right.now refusal.0 refusal.1) }
     ensures kept { IfOk result (λ made. KeepsBoth K.holds left.now right.now made.1 made.2) }
 {
     let first_text = match source_of(left) {
         Ok(text) => text,
-        Err(why) => return Err(NoForests::of(Side::Left, why)),
+        Err(why) => return Err((Side::Left, why)),
+    };
+    let first = match Composing::new(alloc, lent(&first_text)) {
+        Ok(first) => first,
+        Err(why) => return Err((Side::Left, Fault::from(why))),
     };
     let empty = Two {
-        first: Composing::new(alloc, lent(&first_text))?,
+        first,
         second: keeper,
     };
     let mut begun = match kept_source(alloc, empty, &first_text) {
         Ok(begun) => begun,
-        Err(why) => return Err(NoForests::of(Side::Left, why)),
+        Err(why) => return Err((Side::Left, why)),
     };
     let size = match begun.first.documents() {
         Ok(size) => size,
-        Err(why) => return Err(NoForests::of(Side::Left, NoForest::from(why))),
+        Err(why) => return Err((Side::Left, why)),
     };
     let events = begun.second.mark();
     let second_text = match source_of(right) {
         Ok(text) => text,
-        Err(why) => return Err(NoForests::of(Side::Right, why)),
+        Err(why) => return Err((Side::Right, why)),
     };
     let Two {
         first: both,
         second: kept,
     } = match kept_source(alloc, begun, &second_text) {
         Ok(both) => both,
-        Err(why) => return Err(NoForests::of(Side::Right, why)),
+        Err(why) => return Err((Side::Right, why)),
     };
     let Ok(forest) = both.finish() else {
         return Err(none_of_right(alloc, right));
@@ -147,15 +156,15 @@ pub fn forest_of_both_with<'l, K: Keeper>(
 
 /// The ranked nodes of the streams that both sides are, in one store, so that their ranks can be compared.
 ///
-/// Refused is what `forest_of_both` refuses, and the lowest mapping of both sides with two equal keys (19). It gives up where that
-/// does, and where a number of both together does not fit.
+/// # Errors
+/// Those of `forest_of_both` (1 to 18 and 21), and the lowest mapping of both sides with two equal keys (19).
 pub(crate) fn ranked_both<'l>(
     alloc: Global,
     left: &'l [u8],
     right: &[u8],
-) -> Result<RankedBoth<'l>, NoForests>
+) -> Result<RankedBoth<'l>, (Side, Fault)>
     ensures both { IfOk result (HaveRanks left.now right.now) }
-    ensures why { IfErr result (TellsWhyNeither left.now right.now) }
+    ensures why { IfErr result (λ refusal. RefusesSide left.now right.now refusal.0 refusal.1) }
 {
     let BothForests { forest, left: size } = forest_of_both(alloc, left, right)?;
     match ranked_roots(alloc, forest) {
@@ -163,6 +172,6 @@ pub(crate) fn ranked_both<'l>(
             forest: ranked,
             middle: size.documents,
         }),
-        Err(why) => Err(NoForests::unranked(size.nodes, why)),
+        Err(fault) => Err(with_side(size.nodes, fault)),
     }
 }

@@ -11,9 +11,9 @@ ghost use Rattle.yaml_text.specs.Source.{text_of};
 ghost use Rattle.yaml_sink.specs.Held.{Puts};
 ghost use Rattle.yaml_read.specs.Decided.{HasNoReading};
 ghost use Rattle.yaml_canon.specs.Read.{IsSource, Takes, HasForest, root_trees};
-ghost use Rattle.yaml_canon.specs.Refused.{TellsWhy};
+ghost use Rattle.yaml_canon.specs.Claims.{GraphRefuses};
+ghost use Rattle.yaml_canon.specs.Refused.{Refuses};
 
-use crate::no_forest::NoForest;
 use std::alloc::Global;
 use yaml_compose::{Composing, Forest};
 use yaml_read::read_into;
@@ -21,8 +21,8 @@ use yaml_sink::sink::{Keeper, Sink};
 use yaml_text::chars::Chars;
 use yaml_text::fault::Fault;
 
-/// What keeps the events that a text is read to, behind those that it had. Where that gives up, there is no memory; each other
-/// fault is the reader's.
+/// What keeps the events that a text is read to, behind those that it had. Want of memory may be the keeper's; each other fault is
+/// the reader's.
 fn kept<K: Keeper>(alloc: Global, keeper: K, source: &Chars<'_>) -> Result<K, Fault>
     ensures ok { IfOk result (λ new. (es : List Event) × ReadsText (text_of source.now) wide open_limit es × Puts K.holds keeper es new) }
     ensures err { IfErr result IsRefusal }
@@ -45,12 +45,11 @@ fn kept<K: Keeper>(alloc: Global, keeper: K, source: &Chars<'_>) -> Result<K, Fa
 }
 
 /// The text that these bytes are.
-pub(crate) fn source_of<'b>(bytes: &'b [u8]) -> Result<Chars<'b>, NoForest>
+pub(crate) fn source_of<'b>(bytes: &'b [u8]) -> Result<Chars<'b>, Fault>
     ensures source { IfOk result (IsSource bytes.now) }
-    ensures why { IfErr result (TellsWhy bytes.now) }
+    ensures why { IfErr result (Refuses GraphRefuses bytes.now) }
 {
-    let source = Chars::read(bytes)?;
-    Ok(source)
+    Chars::read(bytes)
 }
 
 /// All of a text.
@@ -63,23 +62,22 @@ pub(crate) fn kept_source<K: Keeper>(
     alloc: Global,
     keeper: K,
     source: &Chars<'_>,
-) -> Result<K, NoForest>
+) -> Result<K, Fault>
     ensures takes { (bytes : List ℕ) → IsSource bytes source.now → IfOk result (Takes K.holds bytes keeper) }
-    ensures why { (bytes : List ℕ) → IsSource bytes source.now → IfErr result (TellsWhy bytes) }
+    ensures why { (bytes : List ℕ) → IsSource bytes source.now → IfErr result (Refuses GraphRefuses bytes) }
 {
-    let new = kept(alloc, keeper, source)?;
-    Ok(new)
+    kept(alloc, keeper, source)
 }
 
 /// The nodes of the stream that these bytes are.
 ///
-/// Refused are bytes that are no text (1 to 3), a text that is no stream of the profile (4 to 11), the first event with an alias or
-/// a tag that stands for nothing (12 to 17), and a document that is too high (18). It gives up where the composer does: the way by a
-/// graph then tells why, or goes on.
-pub(crate) fn forest_of<'b>(alloc: Global, bytes: &'b [u8]) -> Result<Forest<'b>, NoForest>
+/// # Errors
+/// 1 to 3: the bytes are not a text. 4 to 11: the text is not a stream of the profile. 12 to 17: an event has an alias or a tag
+/// without a meaning. 18: a document is too high. 21: memory does not suffice, or a number does not fit in 32 bits.
+pub(crate) fn forest_of<'b>(alloc: Global, bytes: &'b [u8]) -> Result<Forest<'b>, Fault>
     ensures forest { IfOk result (HasForest bytes.now) }
     ensures means { IfOk result (λ forest. Means bytes.now (root_trees forest)) }
-    ensures why { IfErr result (TellsWhy bytes.now) }
+    ensures why { IfErr result (Refuses GraphRefuses bytes.now) }
 {
     let source = source_of(bytes)?;
     let empty = Composing::new(alloc, lent(&source))?;

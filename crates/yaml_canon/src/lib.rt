@@ -4,16 +4,13 @@
 pub mod both;
 pub mod canonical_text;
 mod forest;
-pub mod graph_of;
 pub mod laws;
-pub mod no_forest;
-mod no_ranks;
 pub mod placing;
 mod ranks;
 pub mod run;
 mod same_ranks;
 pub mod same_streams;
-pub mod sides;
+mod sides;
 mod target;
 mod two;
 

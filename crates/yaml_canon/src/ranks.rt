@@ -5,13 +5,15 @@ ghost use Rattle.yaml_definitions.specs.model.Tree.{Tree};
 ghost use Rattle.yaml_compose.specs.ComposerModel.{IsForest, AreForests};
 ghost use Rattle.yaml_canon.specs.Read.{HasRoots};
 ghost use Rattle.yaml_canon.specs.Ranks.{RanksOf, HasRanks};
-ghost use Rattle.yaml_canon.specs.NoRanks.{IsInStream, RefusesRanks, RefusesBothRanks, TellsWhyNot};
+ghost use Rattle.yaml_canon.specs.Claims.{CanonicalRefuses};
+ghost use Rattle.yaml_canon.specs.Refused.{Refuses};
+ghost use Rattle.yaml_canon.specs.RefusedRanks.{IsInStream, RefusesRanks, RefusesBothRanks};
 
 use crate::forest::forest_of;
-use crate::no_ranks::NoRanks;
 use std::alloc::Global;
-use yaml_compact::{EqualKeys, Ranked, Unranked, compact_rank};
+use yaml_compact::{Ranked, compact_rank};
 use yaml_compose::Forest;
+use yaml_text::fault::Fault;
 
 /// The ranked nodes of a stream, and the ranks of its documents' roots.
 #[derive(Drop)]
@@ -21,27 +23,21 @@ pub(crate) struct RankedForest<'s> {
 }
 
 /// Equal keys of a node of a store, told of the first node of the stream that it stands for.
-fn in_stream(unranked: Unranked, firsts: &[u32]) -> Unranked
-    ensures { IsInStream firsts.now unranked result }
+fn in_stream(fault: Fault, firsts: &[u32]) -> Fault
+    ensures { IsInStream firsts.now fault result }
 {
-    let Unranked::EqualKeys(keys) = unranked else {
-        return unranked;
+    let Fault::EqualKeys(stored, first, second) = fault else {
+        return Fault::OutOfMemory;
     };
-    match firsts.get(keys.node as usize) {
-        Some(node) => Unranked::EqualKeys(EqualKeys {
-            node: *node,
-            ..keys
-        }),
-        None => Unranked::GivesUp,
+    match firsts.get(stored) {
+        Some(node) => Fault::EqualKeys(*node as usize, first, second),
+        None => Fault::OutOfMemory,
     }
 }
 
 /// A forest with the ranks of its nodes, those of the roots in place of the roots. Refused are two equal keys of a mapping, by the
 /// number of its node in the stream, or in both of two streams.
-pub(crate) fn ranked_roots<'s>(
-    alloc: Global,
-    forest: Forest<'s>,
-) -> Result<RankedForest<'s>, Unranked>
+pub(crate) fn ranked_roots<'s>(alloc: Global, forest: Forest<'s>) -> Result<RankedForest<'s>, Fault>
     requires { (ts : List Tree) × HasRoots ts forest }
     ensures ok { (ts : List Tree) → HasRoots ts forest.entry → IfOk result (RanksOf ts) }
     ensures err { (ds : List Document) → IsForest ds forest.entry → IfErr result (RefusesRanks ds) }
@@ -57,19 +53,18 @@ pub(crate) fn ranked_roots<'s>(
             ranked.take_ranks(&mut roots);
             Ok(RankedForest { ranked, roots })
         }
-        Err(unranked) => Err(in_stream(unranked, &firsts)),
+        Err(fault) => Err(in_stream(fault, &firsts)),
     }
 }
 
 /// The ranked nodes of the stream that these bytes are.
 ///
-/// Refused is what `forest_of` refuses (1 to 18), and the lowest mapping with two equal keys (19). It gives up where that does, and
-/// where memory is refused or a number does not fit.
-pub(crate) fn ranked_forest<'b>(alloc: Global, bytes: &'b [u8]) -> Result<RankedForest<'b>, NoRanks>
+/// # Errors
+/// Those of `forest_of` (1 to 18 and 21), and the lowest mapping with two equal keys (19).
+pub(crate) fn ranked_forest<'b>(alloc: Global, bytes: &'b [u8]) -> Result<RankedForest<'b>, Fault>
     ensures ranks { IfOk result (HasRanks bytes.now) }
-    ensures why { IfErr result (TellsWhyNot bytes.now) }
+    ensures why { IfErr result (Refuses CanonicalRefuses bytes.now) }
 {
     let forest = forest_of(alloc, bytes)?;
-    let ranked = ranked_roots(alloc, forest)?;
-    Ok(ranked)
+    ranked_roots(alloc, forest)
 }

@@ -7,12 +7,9 @@ ghost use Rattle.yaml_spell.specs.RankedNodes.{Rooted, tree_of};
 ghost use Rattle.yaml_canon.specs.FaultPlaces.{TellsPlace};
 ghost use Rattle.yaml_canon.specs.Targets.{PutsArranged, ArrangedFails, PutsCanonical, PutFails};
 
-use crate::graph_of::graph_unranked;
 use crate::ranks::ranked_forest;
 use std::alloc::Global;
-use yaml_rank::rank;
 use yaml_spell::ranked::RankedNodes;
-use yaml_spell::ranked_graph::RankedGraph;
 use yaml_text::fault::Fault;
 
 /// Where the canonical text of a stream goes: a new string, a caller's buffer, or a writer.
@@ -50,8 +47,7 @@ pub(crate) trait Target {
 
 /// Writes the canonical text of the stream that these bytes are into a target.
 ///
-/// The nodes are had from a store, and where that falls back, from a graph of the stream's events. What is rejected is rejected
-/// before the first byte of the text is written, except for a writer that fails (23).
+/// What is rejected is rejected before the first byte of the text is written, except for a writer that fails (23).
 pub(crate) fn spell_stream<T: Target>(
     alloc: Global,
     bytes: &[u8],
@@ -64,15 +60,6 @@ pub(crate) fn spell_stream<T: Target>(
     ensures placed { IfErr result (TellsPlace bytes.now) }
     ensures same { T.same target.old target.new }
 {
-    let none = match ranked_forest(alloc, bytes) {
-        Ok(forest) => return target.put(alloc, &forest.ranked, &forest.roots),
-        Err(none) => none,
-    };
-    let graph = graph_unranked(alloc, bytes, none)?;
-    let ranks = rank(alloc, &graph)?;
-    let view = RankedGraph {
-        graph: &graph,
-        ranks: &ranks,
-    };
-    target.put(alloc, &view, graph.roots())
+    let forest = ranked_forest(alloc, bytes)?;
+    target.put(alloc, &forest.ranked, &forest.roots)
 }

@@ -23,12 +23,12 @@ use Rattle.yaml_levels.proofs.ViewLaws.{first-one}
 use Rattle.yaml_compact.specs.declared.nodes.Node.{Node}
 use Rattle.yaml_compact.specs.declared.nodes.Place.{Place}
 use Rattle.yaml_compact.specs.declared.nodes.Place.TheVariants.{Scalar, Sequence, Mapping}
-use Rattle.yaml_compact.specs.declared.unranked.Unranked.{Unranked}
-use Rattle.yaml_compact.specs.declared.unranked.Unranked.TheVariants.{EqualKeys, GivesUp}
+use Rattle.yaml_text.specs.declared.fault.Fault.{Fault}
+use Rattle.yaml_text.specs.declared.fault.Fault.TheVariants.{EqualKeys, OutOfMemory}
 use Rattle.yaml_compact.specs.StoreModel.{place_of, height_at, inside_of}
 use Rattle.yaml_compact.specs.PartsModel.{PartsRanked, key_ranks, LevelEquals, RefusesLevel}
 use Rattle.yaml_compact.specs.Ranking.{Stored}
-use Rattle.yaml_compact.specs.Unranked.{FirstRepeats, RefusesView}
+use Rattle.yaml_compact.specs.Refused.{FirstRepeats, RefusesView}
 use Rattle.yaml_compact.proofs.NodeLaws.{pairs-all, node-fitted}
 use Rattle.yaml_compact.proofs.Standing.{Standing, is-level, node-of}
 
@@ -116,6 +116,7 @@ module _ (v : View) (nodes : List Node) (text olds : List ℕ) (pairs : List (�
           first-one v high level (is-level v nodes text olds pairs places store levels are high level level-is) R (length first) before.stands node one two (record { place = t.place; is = t.stands; before = keyed-before }),
         )
 
-  pub level-refused : (unranked : Unranked) → RefusesLevel R nodes level is es unranked → RefusesView v unranked
-  level-refused (EqualKeys e) t = level-equals e.node e.first e.second t
-  level-refused GivesUp t = tt
+  pub level-refused : (fault : Fault) → RefusesLevel R nodes level is es fault → RefusesView v fault
+  level-refused (EqualKeys node first second) t = level-equals node first second t
+  level-refused OutOfMemory t = tt
+  level-refused _ t = absurd t

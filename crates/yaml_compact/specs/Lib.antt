@@ -10,6 +10,6 @@ pub mod TagPlaces
 pub mod TagTexts
 pub mod TextModel
 pub mod StoreView
-pub mod Unranked
+pub mod Refused
 pub mod RanksView
 pub mod Walked

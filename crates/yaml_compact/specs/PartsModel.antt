@@ -6,8 +6,8 @@ use Rattle.yaml_levels.specs.View.{Inside, content, items, entries, entries_in, 
 use Rattle.yaml_levels.specs.Places.{IsFirstEqual}
 use Rattle.yaml_compact.specs.declared.nodes.Node.{Node}
 use Rattle.yaml_compact.specs.declared.nodes.Place.{Place}
-use Rattle.yaml_compact.specs.declared.unranked.Unranked.{Unranked}
-use Rattle.yaml_compact.specs.declared.unranked.Unranked.TheVariants.{EqualKeys, GivesUp}
+use Rattle.yaml_text.specs.declared.fault.Fault.{Fault}
+use Rattle.yaml_text.specs.declared.fault.Fault.TheVariants.{EqualKeys, OutOfMemory}
 use Rattle.yaml_compact.specs.StoreModel.{place_of, inside_of, PartsWithin, PlacesApart}
 
 abbrev pub two_ranks : (ℕ → ℕ) → ℕ × ℕ → ℕ × ℕ
@@ -65,7 +65,8 @@ pub record LevelEquals (rank : ℕ → ℕ) (nodes : List Node) (level : List �
   pub fs : List (ℕ × ℕ)
   pub before : LevelSettled rank nodes (take place level) is es js fs
 
--- A node of the level has two keys of one rank, the first ones are told, and no node before it has two. Where it gives up, nothing is told.
-abbrev pub RefusesLevel : (ℕ → ℕ) → List Node → List ℕ → List ℕ → List (ℕ × ℕ) → Unranked → Type 0
-RefusesLevel rank nodes level is es (EqualKeys e) = LevelEquals rank nodes level is es e.node e.first e.second
-RefusesLevel rank nodes level is es GivesUp = Unit {0}
+-- A node of the level has two keys of one rank, the first ones are told, and no node before it has two. Memory may be refused at any time.
+abbrev pub RefusesLevel : (ℕ → ℕ) → List Node → List ℕ → List ℕ → List (ℕ × ℕ) → Fault → Type 0
+RefusesLevel rank nodes level is es (EqualKeys node first second) = LevelEquals rank nodes level is es node first second
+RefusesLevel rank nodes level is es OutOfMemory = Unit {0}
+RefusesLevel rank nodes level is es _ = ⊥

@@ -3,11 +3,11 @@ ghost use Rattle.std.specs.Prelude.{◌≡◌, ℕ, List, map, IfOk, MatchOption
 ghost use Rattle.yaml_levels.specs.Places.{InOrder, AllRise, IsFirstEqual, Earlier};
 ghost use Rattle.yaml_compact.specs.PartsModel.{Differ};
 
-use crate::gives_up::GivesUp;
+use crate::no_memory::NoMemory;
 use std::alloc::Global;
 
 /// Copies the keys of entries in place of those of the mapping before.
-pub(crate) fn copy_keys(entries: &[(u32, u32)], keys: &mut Vec<u32>) -> Result<(), GivesUp>
+pub(crate) fn copy_keys(entries: &[(u32, u32)], keys: &mut Vec<u32>) -> Result<(), NoMemory>
     ensures { IfOk result (λ _. keys.new.items ≡ map (λ p. p.0) entries.now) }
 {
     keys.clear();
@@ -18,7 +18,10 @@ pub(crate) fn copy_keys(entries: &[(u32, u32)], keys: &mut Vec<u32>) -> Result<(
 }
 
 /// The first two equal ones of these numbers: the least second place, then the least first one.
-pub(crate) fn first_equal(alloc: Global, numbers: &[u32]) -> Result<Option<(usize, usize)>, GivesUp>
+pub(crate) fn first_equal(
+    alloc: Global,
+    numbers: &[u32],
+) -> Result<Option<(usize, usize)>, NoMemory>
     ensures { IfOk result (λ equal. MatchOption equal (Differ numbers.now) (λ places. IsFirstEqual numbers.now places.0 places.1)) }
 {
     let order = in_order(alloc, numbers)?;
@@ -26,7 +29,7 @@ pub(crate) fn first_equal(alloc: Global, numbers: &[u32]) -> Result<Option<(usiz
 }
 
 /// The numbers, each with its place, in rising order. Equal ones stand by their places.
-fn in_order(alloc: Global, numbers: &[u32]) -> Result<Vec<(u32, usize)>, GivesUp>
+fn in_order(alloc: Global, numbers: &[u32]) -> Result<Vec<(u32, usize)>, NoMemory>
     ensures { IfOk result (λ order. InOrder numbers.now order.items) }
 {
     let mut order = Vec::with_capacity(alloc, numbers.len())?;

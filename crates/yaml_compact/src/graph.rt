@@ -8,7 +8,7 @@ ghost use Rattle.yaml_compact.specs.StoreModel.{Within, inside_of, node_held};
 ghost use Rattle.yaml_compact.specs.StoreGrows.{Good, IsLow, IsText, tags_of, trees_of};
 ghost use Rattle.yaml_compact.specs.TextModel.{text_of};
 
-use crate::gives_up::GivesUp;
+use crate::no_memory::NoMemory;
 use crate::nodes::{Node, Place};
 use crate::store::Store;
 use std::alloc::Global;
@@ -17,7 +17,7 @@ use yaml_nodes::graph::Graph;
 use yaml_nodes::node::{Node as GraphNode, NodeId, NodeKind};
 
 /// Nodes of a graph by these numbers.
-fn items(alloc: Global, parts: &[u32]) -> Result<Vec<NodeId>, GivesUp>
+fn items(alloc: Global, parts: &[u32]) -> Result<Vec<NodeId>, NoMemory>
     ensures { IfOk result (λ items. map (λ i. i.0) items.items ≡ parts.now) }
 {
     let mut items = Vec::with_capacity(alloc, parts.len())?;
@@ -28,7 +28,7 @@ fn items(alloc: Global, parts: &[u32]) -> Result<Vec<NodeId>, GivesUp>
 }
 
 /// The same of keys and values.
-fn entries(alloc: Global, parts: &[(u32, u32)]) -> Result<Vec<(NodeId, NodeId)>, GivesUp>
+fn entries(alloc: Global, parts: &[(u32, u32)]) -> Result<Vec<(NodeId, NodeId)>, NoMemory>
     ensures { IfOk result (λ entries. map (λ p. (p.0.0, p.1.0)) entries.items ≡ parts.now) }
 {
     let mut entries = Vec::with_capacity(alloc, parts.len())?;
@@ -40,7 +40,7 @@ fn entries(alloc: Global, parts: &[(u32, u32)]) -> Result<Vec<(NodeId, NodeId)>,
 
 impl Store<'_> {
     /// What a node at this place is in a graph. The store lends its content.
-    fn graph_kind(&self, alloc: Global, place: Place) -> Result<NodeKind<'_>, GivesUp>
+    fn graph_kind(&self, alloc: Global, place: Place) -> Result<NodeKind<'_>, NoMemory>
         requires within { Within (length (text_of self.now.text)) (length self.now.items.items) (length self.now.entries.items) place }
         requires text { IsText (inside_of (text_of self.now.text) self.now.items.items self.now.entries.items place) }
         ensures { IfOk result (λ kind. kind_inside kind ≡ inside_of (text_of self.now.text) self.now.items.items self.now.entries.items place) }
@@ -48,7 +48,7 @@ impl Store<'_> {
         match place {
             Place::Scalar(span) => {
                 if !self.text.is_whole(span) {
-                    return Err(GivesUp);
+                    return Err(NoMemory);
                 }
                 let content = self.text.content(span);
                 Ok(NodeKind::Scalar(CowStr::Borrowed(content)))
@@ -65,7 +65,7 @@ impl Store<'_> {
     }
 
     /// A node of the store as one of a graph.
-    fn graph_node(&self, alloc: Global, node: &Node) -> Result<GraphNode<'_>, GivesUp>
+    fn graph_node(&self, alloc: Global, node: &Node) -> Result<GraphNode<'_>, NoMemory>
         requires good { Good self.now }
         requires among { (i : ℕ) × (slice_get self.now.nodes.items i ≡ Some node.now) }
         ensures { IfOk result (λ made. held_of made ≡ node_held (text_of self.now.text) self.now.items.items self.now.entries.items (tags_of self.now) node.now) }
@@ -77,7 +77,7 @@ impl Store<'_> {
 
     /// The nodes of the store as a graph with these roots, each with the number that it has in the store, so that equal nodes are
     /// mostly one. The store lends their texts.
-    pub fn graph(&self, alloc: Global, roots: &[u32]) -> Result<Graph<'_>, GivesUp>
+    pub fn graph(&self, alloc: Global, roots: &[u32]) -> Result<Graph<'_>, NoMemory>
         requires good { Good self.now }
         requires low { IsLow self.now }
         requires roots { All (λ i. i < length self.now.nodes.items) roots.now }

@@ -6,8 +6,8 @@ ghost use Rattle.yaml_compact.specs.LevelModel.{LevelFits, KeysMade, KeysSorted}
 ghost use Rattle.yaml_compact.specs.SlotModel.{InRange, keys_of};
 ghost use Rattle.yaml_compact.specs.TextModel.{text_of};
 
-use crate::gives_up::GivesUp;
 use crate::lists::Lists;
+use crate::no_memory::NoMemory;
 use crate::slot::Slot;
 use std::alloc::Global;
 use yaml_levels::visits::Visits;
@@ -18,7 +18,7 @@ fn slots(
     lists: &Lists<'_, '_>,
     visits: &mut Visits,
     level: &[u32],
-) -> Result<Vec<Slot>, GivesUp>
+) -> Result<Vec<Slot>, NoMemory>
     requires range { InRange lists.now }
     requires numbers { All (λ i. i < length lists.now.nodes.now) level.now }
     requires fit { LevelFits lists.now.nodes.now (text_of lists.now.text.now) lists.now.items.now lists.now.entries.now level.now }
@@ -40,7 +40,7 @@ pub(crate) fn sorted_slots(
     lists: &Lists<'_, '_>,
     visits: &mut Visits,
     level: &[u32],
-) -> Result<Vec<Slot>, GivesUp>
+) -> Result<Vec<Slot>, NoMemory>
     requires range { InRange lists.now }
     requires numbers { All (λ i. i < length lists.now.nodes.now) level.now }
     requires fit { LevelFits lists.now.nodes.now (text_of lists.now.text.now) lists.now.items.now lists.now.entries.now level.now }

@@ -3,12 +3,12 @@ ghost use Rattle.std.specs.Prelude.{◌≡◌, ◌<◌, ◌^◌, length, IfOk};
 ghost use Rattle.yaml_levels.specs.LevelsModel.{LevelsBy, Reaches};
 ghost use Rattle.yaml_compact.specs.StoreModel.{height_at};
 
-use crate::gives_up::GivesUp;
+use crate::no_memory::NoMemory;
 use crate::nodes::Node;
 use std::alloc::Global;
 
 /// The numbers of the nodes of each height, in rising order.
-pub(crate) fn levels(alloc: Global, nodes: &[Node]) -> Result<Vec<Vec<u32>>, GivesUp>
+pub(crate) fn levels(alloc: Global, nodes: &[Node]) -> Result<Vec<Vec<u32>>, NoMemory>
     requires { length nodes.now < 2 ^ 32 }
     ensures ok { IfOk result (λ levels. LevelsBy (height_at nodes.now) (length nodes.now) levels.items) }
 {
@@ -21,7 +21,7 @@ pub(crate) fn levels(alloc: Global, nodes: &[Node]) -> Result<Vec<Vec<u32>>, Giv
 }
 
 /// Adds empty levels until there is one of this height.
-fn reach(alloc: Global, levels: &mut Vec<Vec<u32>>, height: u16) -> Result<(), GivesUp>
+fn reach(alloc: Global, levels: &mut Vec<Vec<u32>>, height: u16) -> Result<(), NoMemory>
     ensures ok { IfOk result (λ _. Reaches height levels.old.items levels.new.items) }
 {
     for _ in levels.len()..height as usize + 1 {

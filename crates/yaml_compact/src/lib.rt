@@ -2,7 +2,6 @@
 #![tactic(auto)]
 
 mod equal;
-pub mod gives_up;
 mod graph;
 mod groups;
 pub mod laws;
@@ -10,6 +9,7 @@ mod level;
 mod levels;
 mod lists;
 mod memo;
+pub mod no_memory;
 pub mod nodes;
 mod number;
 mod places;
@@ -21,10 +21,8 @@ pub mod store;
 mod tag_numbers;
 mod tags;
 pub mod text;
-pub mod unranked;
 mod walked;
 
-pub use gives_up::GivesUp;
+pub use no_memory::NoMemory;
 pub use ranking::{Ranked, compact_rank};
 pub use store::Store;
-pub use unranked::{EqualKeys, Unranked};

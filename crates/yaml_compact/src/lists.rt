@@ -5,8 +5,8 @@ ghost use Rattle.std.specs.List.Sorted.{IsPermutation};
 ghost use Rattle.yaml_compact.specs.KeyModel.{inside_cmp, key_cmp, Rises, RanksFit};
 ghost use Rattle.yaml_compact.specs.SlotModel.{held, InRange, inside_at, rest_at, key_at, keys_of, IsSlot};
 
-use crate::gives_up::GivesUp;
 use crate::groups::regroup;
+use crate::no_memory::NoMemory;
 use crate::nodes::{Node, Place};
 use crate::slot::{Rest, Slot};
 use crate::text::Text;
@@ -129,7 +129,7 @@ impl<'s> Lists<'s, '_> {
 
     /// Whether slots stand in few runs, maybe once they are put together by group.
     #[tactic(auto, using(crate::proofs::GroupLaws::all_stay))]
-    fn in_runs(&self, alloc: Global, slots: &mut Vec<Slot>) -> Result<bool, GivesUp>
+    fn in_runs(&self, alloc: Global, slots: &mut Vec<Slot>) -> Result<bool, NoMemory>
         requires { InRange self.now }
         ensures { IfOk result (λ _. IsPermutation slots.old.items slots.new.items) }
     {
@@ -141,7 +141,7 @@ impl<'s> Lists<'s, '_> {
 
     /// Puts slots in order, whatever nodes they are of: so the sort may pass over nodes that are equal.
     /// The stable one keeps runs, and takes room for the shorter of two that it merges.
-    pub(crate) fn sort(&self, alloc: Global, slots: &mut Vec<Slot>) -> Result<(), GivesUp>
+    pub(crate) fn sort(&self, alloc: Global, slots: &mut Vec<Slot>) -> Result<(), NoMemory>
         requires { InRange self.now }
         ensures permutation { IfOk result (λ _. IsPermutation slots.old.items slots.new.items) }
         ensures sorted { IfOk result (λ _. Rises (keys_of self.now slots.new.items)) }

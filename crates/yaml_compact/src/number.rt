@@ -4,8 +4,8 @@ ghost use Rattle.std.specs.List.{All};
 ghost use Rattle.yaml_compact.specs.LevelModel.{NumberedOn};
 ghost use Rattle.yaml_compact.specs.SlotModel.{InRange, keys_of};
 
-use crate::gives_up::GivesUp;
 use crate::lists::Lists;
+use crate::no_memory::NoMemory;
 use crate::slot::Slot;
 
 /// As many ranks as leave room for one more number in 32 bits.
@@ -18,7 +18,7 @@ pub(crate) fn number(
     ranks: &mut [u32],
     first: &mut Vec<u32>,
     slots: &[Slot],
-) -> Result<(), GivesUp>
+) -> Result<(), NoMemory>
     requires range { InRange lists.now }
     requires within { All (λ slot. slot.number < length ranks.old) slots.now }
     requires few { length first.old.items < 4294967296 }
@@ -35,14 +35,14 @@ pub(crate) fn number(
 }
 
 /// Notes the node of the next rank.
-fn note(first: &mut Vec<u32>, number: u32) -> Result<u32, GivesUp>
+fn note(first: &mut Vec<u32>, number: u32) -> Result<u32, NoMemory>
     ensures rank { IfOk result (λ rank. rank ≡ length first.old.items) }
     ensures small { IfOk result (λ rank. rank < 4294967295) }
     ensures noted { IfOk result (λ _. first.new.items ≡ first.old.items ++ (number ∷ [])) }
 {
     let rank = first.len();
     if rank >= MOST {
-        return Err(GivesUp);
+        return Err(NoMemory);
     }
     first.push(number)?;
     Ok(rank as u32)

@@ -4,7 +4,7 @@ ghost use Rattle.std.specs.List.{All};
 ghost use Rattle.yaml_levels.specs.TagModel.{TagsRise, IsTagAt, IsListed};
 ghost use Rattle.yaml_compact.specs.TagPlaces.{PlacesAre};
 
-use crate::gives_up::GivesUp;
+use crate::no_memory::NoMemory;
 use crate::tags::Tags;
 use std::alloc::Global;
 use std::collections::BTreeSet;
@@ -13,7 +13,7 @@ use std::collections::BTreeSet;
 const MOST: usize = 1_073_741_824;
 
 /// The tags, each once, in rising order.
-fn in_order<'t>(alloc: Global, tags: &'t Tags) -> Result<Vec<&'t str>, GivesUp>
+fn in_order<'t>(alloc: Global, tags: &'t Tags) -> Result<Vec<&'t str>, NoMemory>
     ensures rise { IfOk result (λ ordered. TagsRise ordered.items) }
     ensures whole { IfOk result (λ ordered. All (IsListed ordered.items) tags.now) }
 {
@@ -42,12 +42,12 @@ fn place(ordered: &[&str], tag: &str) -> usize
 }
 
 /// The place of each tag: equal for equal tags, and in the order of tags.
-pub(crate) fn places(alloc: Global, tags: &Tags) -> Result<Vec<u32>, GivesUp>
+pub(crate) fn places(alloc: Global, tags: &Tags) -> Result<Vec<u32>, NoMemory>
     ensures ok { IfOk result (λ places. PlacesAre tags.now places.items) }
 {
     let ordered = in_order(alloc, tags)?;
     if ordered.len() >= MOST {
-        return Err(GivesUp);
+        return Err(NoMemory);
     }
     let mut places = Vec::with_capacity(alloc, tags.len())?;
     for number in 0..tags.len() {

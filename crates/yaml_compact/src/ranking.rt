@@ -6,14 +6,14 @@ ghost use Rattle.yaml_levels.specs.Visited.{count_of};
 ghost use Rattle.yaml_compact.specs.Ranking.{Stored, AllRanked};
 ghost use Rattle.yaml_compact.specs.StoreGrows.{Good, IsLow};
 ghost use Rattle.yaml_compact.specs.StoreView.{StoreRanked};
-ghost use Rattle.yaml_compact.specs.Unranked.{RefusesView, RefusesStore};
+ghost use Rattle.yaml_compact.specs.Refused.{RefusesView, RefusesStore};
 ghost use Rattle.yaml_compact.specs.StoreModel.{place_of};
 ghost use Rattle.yaml_compact.specs.TextModel.{text_of, border, PlaceWhole, AllWhole};
 
-use crate::gives_up::GivesUp;
 use crate::level::sorted_slots;
 use crate::levels::levels;
 use crate::lists::Lists;
+use crate::no_memory::NoMemory;
 use crate::nodes::{Kind, Node};
 use crate::number::number;
 use crate::places::places;
@@ -22,9 +22,9 @@ use crate::shorts::shorts;
 use crate::store::Store;
 use crate::tags::Tags;
 use crate::text::Text;
-use crate::unranked::Unranked;
 use std::alloc::Global;
 use yaml_levels::visits::Visits;
+use yaml_text::fault::Fault;
 
 /// The nodes of a store with their ranks. Parts are ranks, and the entries of a mapping stand in the order
 /// of their keys.
@@ -58,7 +58,7 @@ impl Ranked<'_> {
 }
 
 /// No ranks yet, for so many nodes.
-pub(crate) fn zeros(alloc: Global, len: usize) -> Result<Vec<u32>, GivesUp>
+pub(crate) fn zeros(alloc: Global, len: usize) -> Result<Vec<u32>, NoMemory>
     ensures ok { IfOk result (λ ranks. length ranks.items ≡ len) }
 {
     let mut ranks = Vec::with_capacity(alloc, len)?;
@@ -78,7 +78,7 @@ fn rank_all(
     items: &mut [u32],
     entries: &mut [(u32, u32)],
     places: &[u32],
-) -> Result<(Vec<u32>, Vec<u32>, Visits), Unranked>
+) -> Result<(Vec<u32>, Vec<u32>, Visits), Fault>
     requires stored { (v : View) × Stored v nodes.now (text_of text.now) items.old entries.old places.now }
     requires whole { AllWhole (border text.now) nodes.now }
     ensures ok { (v : View) → Stored v nodes.now (text_of text.now) items.old entries.old places.now → IfOk result (λ made. AllRanked v nodes.now (text_of text.now) items.new entries.new made.0.items made.1.items) }
@@ -130,7 +130,7 @@ fn are_whole(text: &Text<'_>, nodes: &[Node]) -> bool
 /// The ranks of all nodes of a store: equal exactly for equal trees, and in the order of trees. Refused is
 /// the mapping of least height, then of least number, with two equal keys, and its first two are told.
 /// Each node is visited once.
-pub fn compact_rank<'s>(alloc: Global, store: Store<'s>) -> Result<Ranked<'s>, Unranked>
+pub fn compact_rank<'s>(alloc: Global, store: Store<'s>) -> Result<Ranked<'s>, Fault>
     requires good { Good store }
     requires low { IsLow store }
     ensures ok { (good : Good store.entry) → IfOk result (StoreRanked store.entry good) }
@@ -146,7 +146,7 @@ pub fn compact_rank<'s>(alloc: Global, store: Store<'s>) -> Result<Ranked<'s>, U
         nodes,
     } = store;
     if !are_whole(&text, &nodes) {
-        return Err(Unranked::GivesUp);
+        return Err(Fault::OutOfMemory);
     }
     let places = places(alloc, &tags)?;
     let (ranks, first, visits) = rank_all(alloc, &nodes, &text, &mut items, &mut entries, &places)?;

@@ -9,10 +9,10 @@ ghost use Rattle.yaml_compact.specs.StoreModel.{place_of, inside_of, PartsWithin
 ghost use Rattle.yaml_compact.specs.PartsModel.{two_ranks, key_ranks, KeysRise, PlaceSettled, Rising, LevelBelow, LevelSettled, RefusesLevel};
 
 use crate::equal::{copy_keys, first_equal};
-use crate::gives_up::GivesUp;
+use crate::no_memory::NoMemory;
 use crate::nodes::{Node, Place};
-use crate::unranked::{EqualKeys, Unranked};
 use std::alloc::Global;
+use yaml_text::fault::Fault;
 
 /// Puts the rank of each number in its place.
 pub(crate) fn overwrite(items: &mut [u32], ranks: &[u32])
@@ -52,7 +52,7 @@ fn arrange(
     alloc: Global,
     entries: &mut [(u32, u32)],
     keys: &mut Vec<u32>,
-) -> Result<Option<(usize, usize)>, GivesUp>
+) -> Result<Option<(usize, usize)>, NoMemory>
     ensures { IfOk result (λ equal. MatchOption equal (IsPermutation entries.old entries.new × KeysRise entries.new) (λ places. IsFirstEqual (map (λ p. p.0) entries.old) places.0 places.1)) }
 {
     if rises(entries) {
@@ -75,7 +75,7 @@ fn settle_one(
     entries: &mut [(u32, u32)],
     ranks: &[u32],
     keys: &mut Vec<u32>,
-) -> Result<Option<(usize, usize)>, GivesUp>
+) -> Result<Option<(usize, usize)>, NoMemory>
     requires within { PartsWithin (length items.old) (length entries.old) place }
     requires parts { InsideBelow (length ranks.now) (inside_of [] items.old entries.old place) }
     ensures { IfOk result (λ equal. MatchOption equal (PlaceSettled (slice_index ranks.now) place items.old entries.old items.new entries.new) (λ places. IsFirstEqual (key_ranks (slice_index ranks.now) (inside_of [] items.old entries.old place)) places.0 places.1)) }
@@ -104,7 +104,7 @@ pub(crate) fn settle(
     ranks: &[u32],
     level: &[u32],
     keys: &mut Vec<u32>,
-) -> Result<(), Unranked>
+) -> Result<(), Fault>
     requires numbers { All (λ i. i < length nodes.now) level.now }
     requires once { Rising level.now }
     requires within { (i : ℕ) (s : Node) → slice_get nodes.now i ≡ Some s → PartsWithin (length items.old) (length entries.old) (place_of s) }
@@ -117,11 +117,7 @@ pub(crate) fn settle(
         let place = nodes[*number as usize].place();
         let equal = settle_one(alloc, place, items, entries, ranks, keys)?;
         if let Some((first, second)) = equal {
-            return Err(Unranked::EqualKeys(EqualKeys {
-                node: *number,
-                first,
-                second,
-            }));
+            return Err(Fault::EqualKeys(*number as usize, first, second));
         }
     }
     Ok(())

@@ -6,7 +6,7 @@ ghost use Rattle.yaml_compact.specs.StoreGrows.{Good};
 ghost use Rattle.yaml_compact.specs.StoreView.{short_at, Listed, StoreListed};
 ghost use Rattle.yaml_compact.specs.RanksView.{rank_tag, rank_inside};
 
-use crate::gives_up::GivesUp;
+use crate::no_memory::NoMemory;
 use crate::nodes::Place;
 use crate::ranking::Ranked;
 use std::alloc::Global;
@@ -42,7 +42,7 @@ impl Ranked<'_> {
 
 /// How many bytes each rank takes if it is short, else 0. The nodes are taken in the order in which they and
 /// their contents stand, and not by rank, so that what is looked at next is near.
-pub(crate) fn shorts(alloc: Global, ranked: &Ranked<'_>) -> Result<Vec<u8>, GivesUp>
+pub(crate) fn shorts(alloc: Global, ranked: &Ranked<'_>) -> Result<Vec<u8>, NoMemory>
     requires { Listed ranked.now }
     ensures { (s : Store) (good : Good s) → StoreListed s good ranked.now → IfOk result (λ shorts. shorts.items ≡ map (short_at s) ranked.now.first.items) }
 {

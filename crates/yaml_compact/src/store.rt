@@ -11,8 +11,8 @@ ghost use Rattle.yaml_nodes.specs.ComposerSteps.{collection_from, paired};
 ghost use Rattle.yaml_compact.specs.StoreModel.{SpanWithin, AllMeasured, tag_at, parts_at, is_mapping};
 ghost use Rattle.yaml_compact.specs.StoreGrows.{AtMostOne, Good, IsLow, Fits, Keeps, tags_of, trees_of, Stands};
 
-use crate::gives_up::GivesUp;
 use crate::memo::{Memo, hash_parts, hash_tag, hash_text};
+use crate::no_memory::NoMemory;
 use crate::nodes::{Collection, Kind, Node, Span};
 use crate::tag_numbers::{Found, TagNumbers};
 use crate::tags::Tags;
@@ -67,7 +67,7 @@ fn has_entries(all: &[(u32, u32)], span: Span, parts: &[u32]) -> bool
 }
 
 /// Puts these, a key and its value in turn, behind the entries.
-fn push_entries(entries: &mut Vec<(u32, u32)>, parts: &[u32]) -> Result<(), GivesUp>
+fn push_entries(entries: &mut Vec<(u32, u32)>, parts: &[u32]) -> Result<(), NoMemory>
     ensures { IfOk result (λ _. entries.new.items ≡ entries.old.items ++ paired parts.now) }
 {
     for place in 0..parts.len() / 2 {
@@ -77,7 +77,7 @@ fn push_entries(entries: &mut Vec<(u32, u32)>, parts: &[u32]) -> Result<(), Give
 }
 
 /// Puts a node behind the others. Its number.
-fn push_node(nodes: &mut Vec<Node>, node: Node) -> Result<u32, GivesUp>
+fn push_node(nodes: &mut Vec<Node>, node: Node) -> Result<u32, NoMemory>
     ensures number { IfOk result (λ n. n ≡ length nodes.old.items) }
     ensures few { IfOk result (λ _. length nodes.new.items < 4294967296) }
     ensures pushed { IfOk result (λ _. nodes.new.items ≡ nodes.old.items ++ (node ∷ [])) }
@@ -85,20 +85,20 @@ fn push_node(nodes: &mut Vec<Node>, node: Node) -> Result<u32, GivesUp>
 {
     let number = nodes.len();
     if number >= ROOM {
-        return Err(GivesUp);
+        return Err(NoMemory);
     }
     nodes.push(node)?;
     Ok(number as u32)
 }
 
 /// The height of a collection of these parts, cut just above the limit.
-fn height_over(nodes: &[Node], parts: &[u32]) -> Result<u16, GivesUp>
+fn height_over(nodes: &[Node], parts: &[u32]) -> Result<u16, NoMemory>
     ensures { IfOk result (λ h. (ts : List Tree) → AllMeasured nodes.now ts → h ≡ min (heights (part_list (parts_at ts parts.now))) (suc limit.height_limit)) }
 {
     let mut height: usize = 0;
     for part in parts {
         let Some(node) = nodes.get(*part as usize) else {
-            return Err(GivesUp);
+            return Err(NoMemory);
         };
         height = height.max(node.height as usize + 1);
     }
@@ -107,7 +107,7 @@ fn height_over(nodes: &[Node], parts: &[u32]) -> Result<u16, GivesUp>
 
 impl<'s> Store<'s> {
     /// No node yet. Contents that are long may be parts of the text that is lent.
-    pub fn new(alloc: Global, lent: &'s str) -> Result<Store<'s>, GivesUp>
+    pub fn new(alloc: Global, lent: &'s str) -> Result<Store<'s>, NoMemory>
         ensures good { IfOk result Good }
         ensures empty { IfOk result (λ s. trees_of s ≡ []) }
     {
@@ -160,7 +160,7 @@ impl<'s> Store<'s> {
     }
 
     /// Puts a tag behind the others. Its number.
-    fn add_tag(&mut self, tag: &str) -> Result<u32, GivesUp>
+    fn add_tag(&mut self, tag: &str) -> Result<u32, NoMemory>
         ensures kept { Good self.old → IfOk result (λ _. Keeps self.old self.new) }
         ensures is { IfOk result (λ i. slice_get (tags_of self.new) i ≡ Some tag.now) }
         ensures nodes { IfOk result (λ _. self.new.nodes ≡ self.old.nodes) }
@@ -170,7 +170,7 @@ impl<'s> Store<'s> {
     }
 
     /// The number of this tag, which its hash does not tell, and which is added if it is new.
-    fn other_tag(&mut self, alloc: Global, tag: &str) -> Result<u32, GivesUp>
+    fn other_tag(&mut self, alloc: Global, tag: &str) -> Result<u32, NoMemory>
         ensures kept { Good self.old → IfOk result (λ _. Keeps self.old self.new) }
         ensures is { IfOk result (λ i. slice_get (tags_of self.new) i ≡ Some tag.now) }
         ensures nodes { IfOk result (λ _. self.new.nodes ≡ self.old.nodes) }
@@ -186,7 +186,7 @@ impl<'s> Store<'s> {
     }
 
     /// The number of this tag, which is added if it is new.
-    pub fn tag(&mut self, alloc: Global, tag: &str) -> Result<u32, GivesUp>
+    pub fn tag(&mut self, alloc: Global, tag: &str) -> Result<u32, NoMemory>
         ensures kept { Good self.old → IfOk result (λ _. Keeps self.old self.new) }
         ensures is { IfOk result (λ i. slice_get (tags_of self.new) i ≡ Some tag.now) }
         ensures nodes { IfOk result (λ _. self.new.nodes ≡ self.old.nodes) }
@@ -254,7 +254,7 @@ impl<'s> Store<'s> {
         tag: u32,
         content: &mut CowStr<'_>,
         offset: usize,
-    ) -> Result<u32, GivesUp>
+    ) -> Result<u32, NoMemory>
         ensures kept { Good self.old → tag < length (tags_of self.old) → IfOk result (λ _. Keeps self.old self.new) }
         ensures stands { Good self.old → tag < length (tags_of self.old) → IfOk result (λ i. Stands self.new i (scalar (tag_at (tags_of self.old) tag) (cow_str_bytes content.old))) }
         ensures one { IfOk result (λ i. AtMostOne (length self.old.nodes.items) (length self.new.nodes.items) i) }
@@ -275,7 +275,7 @@ impl<'s> Store<'s> {
 
     /// The number of a sequence of these items: that of a node that was seen, if it is the same, else that
     /// of a new one.
-    fn add_sequence(&mut self, seen: u32, tag: u32, items: &[u32]) -> Result<u32, GivesUp>
+    fn add_sequence(&mut self, seen: u32, tag: u32, items: &[u32]) -> Result<u32, NoMemory>
         ensures kept { Fits self.old tag items.now → IfOk result (λ _. Keeps self.old self.new) }
         ensures stands { Fits self.old tag items.now → IfOk result (λ i. Stands self.new i (collection_from false (tag_at (tags_of self.old) tag) (parts_at (trees_of self.old) items.now))) }
         ensures one { IfOk result (λ i. AtMostOne (length self.old.nodes.items) (length self.new.nodes.items) i) }
@@ -299,7 +299,7 @@ impl<'s> Store<'s> {
 
     /// The number of a mapping of these parts, a key and its value in turn: that of a node that was seen, if
     /// it is the same, else that of a new one.
-    fn add_mapping(&mut self, seen: u32, tag: u32, parts: &[u32]) -> Result<u32, GivesUp>
+    fn add_mapping(&mut self, seen: u32, tag: u32, parts: &[u32]) -> Result<u32, NoMemory>
         ensures kept { Fits self.old tag parts.now → IfOk result (λ _. Keeps self.old self.new) }
         ensures stands { Fits self.old tag parts.now → IfOk result (λ i. Stands self.new i (collection_from true (tag_at (tags_of self.old) tag) (parts_at (trees_of self.old) parts.now))) }
         ensures one { IfOk result (λ i. AtMostOne (length self.old.nodes.items) (length self.new.nodes.items) i) }
@@ -308,7 +308,7 @@ impl<'s> Store<'s> {
             return Ok(seen);
         }
         if parts.len() % 2 != 0 {
-            return Err(GivesUp);
+            return Err(NoMemory);
         }
         let height = height_over(&self.nodes, parts)?;
         let start = place(self.entries.len())?;
@@ -331,7 +331,7 @@ impl<'s> Store<'s> {
         collection: Collection,
         tag: u32,
         parts: &[u32],
-    ) -> Result<u32, GivesUp>
+    ) -> Result<u32, NoMemory>
         ensures kept { Fits self.old tag parts.now → IfOk result (λ _. Keeps self.old self.new) }
         ensures stands { Fits self.old tag parts.now → IfOk result (λ i. Stands self.new i (collection_from (is_mapping collection) (tag_at (tags_of self.old) tag) (parts_at (trees_of self.old) parts.now))) }
         ensures one { IfOk result (λ i. AtMostOne (length self.old.nodes.items) (length self.new.nodes.items) i) }
@@ -348,7 +348,7 @@ impl<'s> Store<'s> {
         tag: u32,
         content: &mut CowStr<'_>,
         offset: usize,
-    ) -> Result<u32, GivesUp>
+    ) -> Result<u32, NoMemory>
         ensures kept { Good self.old → tag < length (tags_of self.old) → IfOk result (λ _. Keeps self.old self.new) }
         ensures stands { Good self.old → tag < length (tags_of self.old) → IfOk result (λ i. Stands self.new i (scalar (tag_at (tags_of self.old) tag) (cow_str_bytes content.old))) }
         ensures one { IfOk result (λ i. AtMostOne (length self.old.nodes.items) (length self.new.nodes.items) i) }
@@ -369,7 +369,7 @@ impl<'s> Store<'s> {
         tag: &str,
         content: &mut CowStr<'_>,
         offset: usize,
-    ) -> Result<u32, GivesUp>
+    ) -> Result<u32, NoMemory>
         ensures kept { Good self.old → IfOk result (λ _. Keeps self.old self.new) }
         ensures stands { Good self.old → IfOk result (λ i. Stands self.new i (scalar tag.now (cow_str_bytes content.old))) }
         ensures one { IfOk result (λ i. AtMostOne (length self.old.nodes.items) (length self.new.nodes.items) i) }
@@ -385,7 +385,7 @@ impl<'s> Store<'s> {
         collection: Collection,
         tag: u32,
         parts: &[u32],
-    ) -> Result<u32, GivesUp>
+    ) -> Result<u32, NoMemory>
         ensures kept { Fits self.old tag parts.now → IfOk result (λ _. Keeps self.old self.new) }
         ensures stands { Fits self.old tag parts.now → IfOk result (λ i. Stands self.new i (collection_from (is_mapping collection) (tag_at (tags_of self.old) tag) (parts_at (trees_of self.old) parts.now))) }
         ensures one { IfOk result (λ i. AtMostOne (length self.old.nodes.items) (length self.new.nodes.items) i) }

@@ -1,7 +1,7 @@
 //! The numbers of tags. Whatever they say, a tag is compared before its number is used, so nothing is claimed
 //! of them.
 
-use crate::gives_up::GivesUp;
+use crate::no_memory::NoMemory;
 use std::alloc::{AllocError, Global};
 use std::collections::BTreeMap;
 use std::mem;
@@ -107,7 +107,7 @@ impl TagNumbers {
 
     /// Four times as many buckets. A tag whose bucket is full then is lost, and gets another number if it is met
     /// again.
-    fn grow(&mut self, alloc: Global) -> Result<(), GivesUp> {
+    fn grow(&mut self, alloc: Global) -> Result<(), NoMemory> {
         let buckets = free(alloc, self.buckets.len().saturating_mul(GROWTH))?;
         for bucket in mem::replace(&mut self.buckets, buckets) {
             for (half, number) in bucket {
@@ -120,7 +120,7 @@ impl TagNumbers {
     }
 
     /// The tag of this hash, which was not met, has this number.
-    pub(crate) fn keep(&mut self, alloc: Global, hash: u64, number: u32) -> Result<(), GivesUp> {
+    pub(crate) fn keep(&mut self, alloc: Global, hash: u64, number: u32) -> Result<(), NoMemory> {
         self.put(upper(hash), number);
         self.taken = self.taken.saturating_add(1);
         if self.taken / TAKEN > self.buckets.len() {
@@ -135,7 +135,7 @@ impl TagNumbers {
         alloc: Global,
         tag: &str,
         number: u32,
-    ) -> Result<(), GivesUp> {
+    ) -> Result<(), NoMemory> {
         let key = String::from_str(alloc, tag)?;
         self.others.insert(key, number)?;
         Ok(())

@@ -2,7 +2,7 @@
 ghost use Rattle.std.specs.Prelude.{◌≡◌, ◌<◌, [], ◌∷◌, ◌++◌, length, IfOk};
 ghost use Rattle.yaml_compact.specs.StoreModel.{tag_at};
 
-use crate::gives_up::GivesUp;
+use crate::no_memory::NoMemory;
 use crate::nodes::Span;
 use crate::text::place;
 use std::alloc::Global;
@@ -66,7 +66,7 @@ impl Tags {
     }
 
     /// Puts a tag behind the others. Its number.
-    pub(crate) fn push(&mut self, tag: &str) -> Result<u32, GivesUp>
+    pub(crate) fn push(&mut self, tag: &str) -> Result<u32, NoMemory>
         ensures number { IfOk result (λ number. number ≡ length self.old) }
         ensures pushed { IfOk result (λ _. self.new ≡ self.old ++ (tag.now ∷ [])) }
     {

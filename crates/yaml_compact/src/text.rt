@@ -8,7 +8,7 @@ ghost use Rattle.std.specs.Cow.{cow_str_bytes};
 ghost use Rattle.yaml_compact.specs.StoreModel.{SpanWithin};
 ghost use Rattle.yaml_compact.specs.TextModel.{text_of, border, IsWhole, PutsText, IsHome};
 
-use crate::gives_up::GivesUp;
+use crate::no_memory::NoMemory;
 use crate::nodes::Span;
 use std::alloc::Global;
 use std::borrow::CowStr;
@@ -29,11 +29,11 @@ pub struct Text<'s> {
 }
 
 /// A place, if it fits.
-pub(crate) fn place(at: usize) -> Result<u32, GivesUp>
+pub(crate) fn place(at: usize) -> Result<u32, NoMemory>
     ensures { IfOk result (λ n. n ≡ at) }
 {
     if at >= ROOM {
-        return Err(GivesUp);
+        return Err(NoMemory);
     }
     Ok(at as u32)
 }
@@ -101,7 +101,7 @@ impl<'s> Text<'s> {
     }
 
     /// Puts a content behind all. Where it stands.
-    fn push(&mut self, content: &str) -> Result<Span, GivesUp>
+    fn push(&mut self, content: &str) -> Result<Span, NoMemory>
         ensures { IfOk result (PutsText self.old self.new content.now) }
     {
         let start = place(self.len())?;
@@ -111,7 +111,7 @@ impl<'s> Text<'s> {
     }
 
     /// Takes a content behind the text that is lent, where there is no other yet: its room too, so that it is not copied.
-    fn take(&mut self, content: &mut String) -> Result<Span, GivesUp>
+    fn take(&mut self, content: &mut String) -> Result<Span, NoMemory>
         requires { string_bytes self.old.own ≡ [] }
         ensures { IfOk result (PutsText self.old self.new (string_bytes content.old)) }
     {
@@ -123,7 +123,7 @@ impl<'s> Text<'s> {
 
     /// Where a long content stands: it is a part of the text that is lent if it stands there at this place, and the first one that does
     /// not is taken over.
-    fn put_long(&mut self, at: usize, content: &mut CowStr<'_>) -> Result<Span, GivesUp>
+    fn put_long(&mut self, at: usize, content: &mut CowStr<'_>) -> Result<Span, NoMemory>
         ensures puts { IfOk result (PutsText self.old self.new (cow_str_bytes content.old)) }
         ensures utf8 { IsUtf8 (cow_str_bytes content.old) }
     {
@@ -139,7 +139,7 @@ impl<'s> Text<'s> {
     }
 
     /// Where a content stands, which may do so at this place of the text that is lent. Else it is put behind all.
-    pub fn put(&mut self, at: usize, content: &mut CowStr<'_>) -> Result<Span, GivesUp>
+    pub fn put(&mut self, at: usize, content: &mut CowStr<'_>) -> Result<Span, NoMemory>
         ensures puts { IfOk result (PutsText self.old self.new (cow_str_bytes content.old)) }
         ensures utf8 { IsUtf8 (cow_str_bytes content.old) }
     {

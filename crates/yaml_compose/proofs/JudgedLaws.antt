@@ -13,18 +13,18 @@ use Rattle.yaml_compose.specs.Nodes.{AreNodes}
 use Rattle.yaml_compose.specs.TagModel.{collection_number}
 use Rattle.yaml_compose.specs.ComposerModel.{Holds, Stepped, start_of}
 use Rattle.yaml_compose.specs.ComposerLog.{Follows, SettlesAlone, SettlesKey, keyed}
-use Rattle.yaml_compose.specs.Refusals.{cause_of, fault_of, Stops, IsRefusal, RefusesForest}
+use Rattle.yaml_graph.specs.Composed.{RefusesStream}
+use Rattle.yaml_compose.specs.Refusals.{cause_of, fault_of, Stops, IsRefusal}
 use Rattle.yaml_compose.specs.JudgedModel.{IsFirstRefused, FollowsUnless, Judges, Takes, IsBefore, IsNoneBefore}
 use Rattle.yaml_compose.specs.declared.composer.Composer.{Composer}
 use Rattle.yaml_compose.specs.declared.stop.Stop.{Stop}
 use Rattle.yaml_compose.specs.declared.stop.Refusal.{Refusal}
 use Rattle.yaml_compose.specs.declared.judged.Judged.{Judged}
-use Rattle.yaml_compose.specs.declared.unmade.Unmade.TheVariants.{Refused}
 use Rattle.yaml_compose.proofs.ReachedLaws.{reaches-parts}
 use Rattle.yaml_compose.proofs.AlikeLaws.{refused-behind}
 use Rattle.yaml_compose.proofs.KeyLaws.{alone-refused, key-refused, before-node}
 use Rattle.yaml_compose.proofs.LogLaws.{follows-step, follows-rest}
-use Rattle.yaml_compose.proofs.RefusalLaws.{refused-more, refused-front, refused-last, refuses-forest}
+use Rattle.yaml_compose.proofs.RefusalLaws.{refused-more, refused-front, refused-last, refuses-stream}
 
 -- ---- no event is refused, or one is
 
@@ -86,8 +86,8 @@ before-refused j r front es fs n l h =
 
 -- ---- a whole stream
 
-pub refuses : (j : Judged) (r : Refusal) (ds : List Document) → j.refusal ≡ Some r → Judges j (stream_events ds) → RefusesForest ds (Refused (fault_of r.cause r.at))
-refuses j r ds n h = refuses-forest ds r (first-refused j r (stream_events ds) n h)
+pub refuses : (j : Judged) (r : Refusal) (ds : List Document) → j.refusal ≡ Some r → Judges j (stream_events ds) → RefusesStream ds (fault_of r.cause r.at)
+refuses j r ds n h = refuses-stream ds r (first-refused j r (stream_events ds) n h)
 
 -- ---- whether a mapping begins before a collection
 

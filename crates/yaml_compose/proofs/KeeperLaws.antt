@@ -18,20 +18,20 @@ pub composes-start : (k : Composing) → k.count ≡ 0 → waits k.waiting ≡ [
 composes-start k n w t = record { count = n; is = λ g. record { front = []; split = sym w; tells = t } }
 
 -- what waited is composed
-pub all-composed : (k : Composing) (log : List Event) (ahead : Ahead) → Composes k log → k.gave_up ≡ false → ComposesWaits k.count (waits k.waiting) k.ahead ahead → Tells ahead log
+pub all-composed : (k : Composing) (log : List Event) (ahead : Ahead) → Composes k log → k.is_void ≡ false → ComposesWaits k.count (waits k.waiting) k.ahead ahead → Tells ahead log
 all-composed k log ahead h g c =
     let b = h.is g in
     subst (Tells ahead) (sym b.split) (c.is b.front (h.count ∙ ap length b.split) b.tells)
 
-pub makes-room : (k new : Composing) → k.gave_up ≡ false → new.gave_up ≡ false → ComposesWaits k.count (waits k.waiting) k.ahead new.ahead → waits new.waiting ≡ [] → new.count ≡ k.count + 1 → MakesRoom k new
-makes-room k new g f c w n = record { count = n; gave_up = f; none = w; tells = λ log h. all-composed k log new.ahead h g c }
+pub makes-room : (k new : Composing) → k.is_void ≡ false → new.is_void ≡ false → ComposesWaits k.count (waits k.waiting) k.ahead new.ahead → waits new.waiting ≡ [] → new.count ≡ k.count + 1 → MakesRoom k new
+makes-room k new g f c w n = record { count = n; is_void = f; none = w; tells = λ log h. all-composed k log new.ahead h g c }
 
 -- what waited is composed, and nothing is known of what ended then
 pub goes-on : (n : ℕ) (es : List Event) (a b d : Ahead) → ComposesWaits n es a b → GoesOn b d → ComposesWaits n es a d
 goes-on n es a b d c g = record { is = λ log l t. g.tells (log ++ es) (c.is log l t) }
 
 -- what waited is composed, and the log is the same
-pub settles : (k new : Composing) → k.gave_up ≡ false → ComposesWaits k.count (waits k.waiting) k.ahead new.ahead → waits new.waiting ≡ [] → new.count ≡ k.count → Keeps Composes k new
+pub settles : (k new : Composing) → k.is_void ≡ false → ComposesWaits k.count (waits k.waiting) k.ahead new.ahead → waits new.waiting ≡ [] → new.count ≡ k.count → Keeps Composes k new
 settles k new g c w n = record {
   is = λ log h. record {
     count = n ∙ h.count;
@@ -67,8 +67,8 @@ puts-numbered old room new e r p n w = record {
 }
 
 -- nothing is known of what ended
-pub passes : (old mid new : Composing) → MakesRoom old mid → GoesOn mid.ahead new.ahead → new.count ≡ mid.count → new.gave_up ≡ mid.gave_up → waits new.waiting ≡ [] → MakesRoom old new
-passes old mid new r g n f w = record { count = n ∙ r.count; gave_up = f ∙ r.gave_up; none = w; tells = λ log h. g.tells log (r.tells log h) }
+pub passes : (old mid new : Composing) → MakesRoom old mid → GoesOn mid.ahead new.ahead → new.count ≡ mid.count → new.is_void ≡ mid.is_void → waits new.waiting ≡ [] → MakesRoom old new
+passes old mid new r g n f w = record { count = n ∙ r.count; is_void = f ∙ r.is_void; none = w; tells = λ log h. g.tells log (r.tells log h) }
 
 -- an event of which the composer is not told
 puts-rest : (old room : Composing) (e : Event) → MakesRoom old room → ((log : List Event) → Tells room.ahead log → Tells room.ahead (log ++ (e ∷ []))) → Puts Composes old (e ∷ []) room
@@ -84,7 +84,7 @@ pub puts-document-end : (old room : Composing) (explicit : Bool) → MakesRoom o
 puts-document-end old room explicit r n = puts-rest old room (document_end explicit) r (λ log t. (tells-rest room.ahead log n t).2 explicit)
 
 -- a mapping's start waits, too
-pub inserts : (old new : Composing) (start : ℕ) (flow : Bool) → old.gave_up ≡ false → old.count - start ≡ 1 → new.count ≡ old.count + 1 → new.ahead ≡ old.ahead → Precedes flow (waits old.waiting) (waits new.waiting)
+pub inserts : (old new : Composing) (start : ℕ) (flow : Bool) → old.is_void ≡ false → old.count - start ≡ 1 → new.count ≡ old.count + 1 → new.ahead ≡ old.ahead → Precedes flow (waits old.waiting) (waits new.waiting)
     → Alters Composes start (λ es. mapping_start flow None untagged ∷ es) old new
 inserts old new start flow g d n a p = record {
   is = λ log es s h.
@@ -99,7 +99,7 @@ inserts old new start flow g d n a p = record {
 }
 
 -- a mapping's start is put before a collection that ended
-pub inserts-ended : (old new : Composing) (start : ℕ) (flow : Bool) → old.gave_up ≡ false → waits old.waiting ≡ [] → new.waiting ≡ old.waiting → new.count ≡ old.count + 1 → Alters Tells start (λ es. mapping_start flow None untagged ∷ es) old.ahead new.ahead
+pub inserts-ended : (old new : Composing) (start : ℕ) (flow : Bool) → old.is_void ≡ false → waits old.waiting ≡ [] → new.waiting ≡ old.waiting → new.count ≡ old.count + 1 → Alters Tells start (λ es. mapping_start flow None untagged ∷ es) old.ahead new.ahead
     → Alters Composes start (λ es. mapping_start flow None untagged ∷ es) old new
 inserts-ended old new start flow g w v n a = record {
   is = λ log es s h.
@@ -128,7 +128,7 @@ dresses-none k start p l = record {
 }
 
 -- a collection that ended gets what was due
-pub dresses-ended : (old new : Composing) (start : ℕ) (p : Props) → new.gave_up ≡ old.gave_up → waits old.waiting ≡ [] → new.waiting ≡ old.waiting → Alters Tells start (dressed p) old.ahead new.ahead → DressesOne old start p new
+pub dresses-ended : (old new : Composing) (start : ℕ) (p : Props) → new.is_void ≡ old.is_void → waits old.waiting ≡ [] → new.waiting ≡ old.waiting → Alters Tells start (dressed p) old.ahead new.ahead → DressesOne old start p new
 dresses-ended old new start p f w v a = record {
   is = λ log es s h g.
       let b = h.is (sym f ∙ g) in
@@ -138,7 +138,7 @@ dresses-ended old new start p f w v a = record {
 }
 
 -- an event that waits does
-pub dresses-waiting : (old new : Composing) (start count : ℕ) (p : Props) → new.gave_up ≡ old.gave_up → count ≡ old.count - start → new.ahead ≡ old.ahead → DressesWaits count p (waits old.waiting) (waits new.waiting) → DressesOne old start p new
+pub dresses-waiting : (old new : Composing) (start count : ℕ) (p : Props) → new.is_void ≡ old.is_void → count ≡ old.count - start → new.ahead ≡ old.ahead → DressesWaits count p (waits old.waiting) (waits new.waiting) → DressesOne old start p new
 dresses-waiting old new start count p f n a d = record {
   is = λ log es s h g.
       let b = h.is (sym f ∙ g) in
@@ -162,15 +162,15 @@ true-false : {X : Type 0} (b : Bool) → b ≡ true → b ≡ false → X
 true-false true e f = absurd (cc)
 true-false false e f = absurd (cc)
 
-pub gives-up-dressed : (old new : Composing) (start : ℕ) (p : Props) → new.count ≡ old.count → new.gave_up ≡ true → Alters Composes start (dressed p) old new
-gives-up-dressed old new start p n t = record { is = λ log es s h. record { count = dressed-count old new.count p log es h n; is = λ f. true-false new.gave_up t f } }
+pub void-dressed : (old new : Composing) (start : ℕ) (p : Props) → new.count ≡ old.count → new.is_void ≡ true → Alters Composes start (dressed p) old new
+void-dressed old new start p n t = record { is = λ log es s h. record { count = dressed-count old new.count p log es h n; is = λ f. true-false new.is_void t f } }
 
-pub gives-up-cut : (old new : Composing) (start : ℕ) → new.count ≡ min old.count start → new.gave_up ≡ true → Alters Composes start (λ _. []) old new
-gives-up-cut old new start n t = record { is = λ log es s h. record { count = omega (arith, n, s, h.count, length-append log es, ap length (append-nil log)); is = λ f. true-false new.gave_up t f } }
+pub void-cut : (old new : Composing) (start : ℕ) → new.count ≡ min old.count start → new.is_void ≡ true → Alters Composes start (λ _. []) old new
+void-cut old new start n t = record { is = λ log es s h. record { count = omega (arith, n, s, h.count, length-append log es, ap length (append-nil log)); is = λ f. true-false new.is_void t f } }
 
 -- an event is counted
 pub puts_counted : (old new : Composing) (e : Event) → CountsOn old new → Puts Composes old (e ∷ []) new
-puts_counted old new e c = record { is = λ log h. record { count = omega (arith, c.count, h.count, length-append log (e ∷ [])); is = λ f. true-false new.gave_up c.gave_up f } }
+puts_counted old new e c = record { is = λ log h. record { count = omega (arith, c.count, h.count, length-append log (e ∷ [])); is = λ f. true-false new.is_void c.is_void f } }
 
 pub inserts_counted : (old new : Composing) (start : ℕ) (e : Event) → CountsOn old new → Alters Composes start (λ es. e ∷ es) old new
-inserts_counted old new start e c = record { is = λ log es s h. record { count = omega (arith, c.count, h.count, length-append log es, length-append log (e ∷ es)); is = λ f. true-false new.gave_up c.gave_up f } }
+inserts_counted old new start e c = record { is = λ log es s h. record { count = omega (arith, c.count, h.count, length-append log es, length-append log (e ∷ es)); is = λ f. true-false new.is_void c.is_void f } }

@@ -13,24 +13,24 @@ use Rattle.yaml_compact.specs.declared.nodes.Collection.TheVariants as kinds
 use Rattle.yaml_compose.specs.Reached.{Reaches}
 use Rattle.yaml_compose.specs.TagModel.{collection_number}
 use Rattle.yaml_compose.specs.ComposerModel.{start_of}
-use Rattle.yaml_compose.specs.Refusals.{cause_of, fault_of, Blames, Stops, RefusesForest}
+use Rattle.yaml_graph.specs.Composed.{RefusesStream}
+use Rattle.yaml_compose.specs.Refusals.{cause_of, fault_of, Blames, Stops}
 use Rattle.yaml_compose.specs.JudgedModel.{IsFirstRefused}
 use Rattle.yaml_compose.specs.declared.stop.Cause as code
 use Rattle.yaml_compose.specs.declared.stop.Cause.TheVariants as causes
 use Rattle.yaml_compose.specs.declared.stop.Stop.{Stop}
 use Rattle.yaml_compose.specs.declared.stop.Stop.TheVariants as stops
 use Rattle.yaml_compose.specs.declared.stop.Refusal.{Refusal}
-use Rattle.yaml_compose.specs.declared.unmade.Unmade.TheVariants.{Refused}
 
 -- ---- one event
 
-pub stops-none : (e : Event) (s : State) (stop : Stop) → stop ≡ stops.GivesUp → Stops e s stop
+pub stops-none : (e : Event) (s : State) (stop : Stop) → stop ≡ stops.NoMemory → Stops e s stop
 stops-none e s stop q = subst (Stops e s) (sym q) tt
 
 pub scalar-stops : (a : Anchor) (g : WrittenTag) (y : Style) (x : List ℕ) (s : State) (stop : Stop) → Blames (resolve g y x) stop → Stops (scalar_event a g y x) s stop
 unfolding step
 scalar-stops a g y x s (stops.Refused cause) h = λ at. ap (λ r. Some (and_then (placed at r) (scalar_added a s))) h
-scalar-stops a g y x s stops.GivesUp h = tt
+scalar-stops a g y x s stops.NoMemory h = tt
 
 pub alias-stops : (name : List ℕ) (s : State) (cause : code.Cause) → tree_named (last_named name s.table) ≡ Err (cause_of cause) → Stops (alias_event name) s (stops.Refused cause)
 unfolding step
@@ -40,7 +40,7 @@ pub begin-stops : (k : Collection) (flow : Bool) (a : Anchor) (g : WrittenTag) (
 unfolding step
 begin-stops kinds.Sequence flow a g s (stops.Refused cause) h = λ at. ap (λ r. Some (and_then (placed at r) (λ t. Ok (collection_begun a s t)))) h
 begin-stops kinds.Mapping flow a g s (stops.Refused cause) h = λ at. ap (λ r. Some (and_then (placed at r) (λ t. Ok (collection_begun a s t)))) h
-begin-stops k flow a g s stops.GivesUp h = tt
+begin-stops k flow a g s stops.NoMemory h = tt
 
 -- ---- numbers
 
@@ -136,7 +136,7 @@ stream-refused ds (Ok f) x h = absurd (cc)
 unfolds-not : (ds : List Document) (x : Cause × ℕ) → steps 0 (stream_events ds) initial_state ≡ Some (Err x) → trees_of ds ≡ Err x
 unfolds-not ds x h = stream-refused ds (trees_of ds) x (sym (ap comes_to h) ∙ run-stream ds)
 
-said : (ds : List Document) (cause : code.Cause) (at : ℕ) → trees_of ds ≡ Err (cause_of cause, at) → RefusesForest ds (Refused (fault_of cause at))
+said : (ds : List Document) (cause : code.Cause) (at : ℕ) → trees_of ds ≡ Err (cause_of cause, at) → RefusesStream ds (fault_of cause at)
 said ds causes.UndefinedAlias at h = h
 said ds causes.CyclicAlias at h = h
 said ds causes.WrongKind at h = h
@@ -145,5 +145,5 @@ said ds causes.IntRange at h = h
 said ds causes.FloatRange at h = h
 
 -- the first event that is refused tells why the documents have no trees
-pub refuses-forest : (ds : List Document) (r : Refusal) → IsFirstRefused r (stream_events ds) → RefusesForest ds (Refused (fault_of r.cause r.at))
-refuses-forest ds r h = said ds r.cause r.at (unfolds-not ds (cause_of r.cause, r.at) h)
+pub refuses-stream : (ds : List Document) (r : Refusal) → IsFirstRefused r (stream_events ds) → RefusesStream ds (fault_of r.cause r.at)
+refuses-stream ds r h = said ds r.cause r.at (unfolds-not ds (cause_of r.cause, r.at) h)

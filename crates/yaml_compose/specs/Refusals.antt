@@ -1,19 +1,15 @@
--- Why an event is not taken, and why no forest is made.
+-- Why an event is not taken.
 use Rattle.std.specs.Prelude.{◌≡◌, ℕ, List, Result, Some, Err}
 use Rattle.yaml_definitions.specs.model.Event.{Event}
-use Rattle.yaml_definitions.specs.model.Serial.{Document}
 use Rattle.yaml_definitions.specs.model.Core as core
 use Rattle.yaml_text.specs.declared.fault.Fault.{Fault}
 use Rattle.yaml_text.specs.declared.fault.Fault.TheVariants as faults
 use Rattle.yaml_nodes.specs.ComposerSteps.{State, step}
-use Rattle.yaml_graph.specs.Composed.{RefusesStream}
 use Rattle.yaml_compose.specs.declared.stop.Cause.{Cause}
 use Rattle.yaml_compose.specs.declared.stop.Cause.TheVariants as causes
 use Rattle.yaml_compose.specs.declared.stop.Stop.{Stop}
 use Rattle.yaml_compose.specs.declared.stop.Stop.TheVariants as stops
 use Rattle.yaml_compose.specs.declared.stop.Refusal.{Refusal}
-use Rattle.yaml_compose.specs.declared.unmade.Unmade.{Unmade}
-use Rattle.yaml_compose.specs.declared.unmade.Unmade.TheVariants.{Refused, GivesUp}
 
 -- the same cause, as plain value
 abbrev pub cause_of : Cause → core.Cause
@@ -33,23 +29,17 @@ fault_of causes.BadContent at = faults.BadContent at
 fault_of causes.IntRange at = faults.IntRange at
 fault_of causes.FloatRange at = faults.FloatRange at
 
--- this was found, for which the composer stops; nothing is said where it gives up
+-- this was found, for which the composer stops; nothing is said where memory is refused
 abbrev pub Blames : {X : Type 0} → Result X core.Cause → Stop → Type 0
 Blames found (stops.Refused cause) = found ≡ Err (cause_of cause)
-Blames found stops.GivesUp = Unit {0}
+Blames found stops.NoMemory = Unit {0}
 
--- from this state the event is refused, whatever its number is; nothing is said where the composer gives up
+-- from this state the event is refused, whatever its number is; nothing is said where memory is refused
 abbrev pub Stops : Event → State → Stop → Type 0
 Stops e s (stops.Refused cause) = (at : ℕ) → step at e s ≡ Some (Err (cause_of cause, at))
-Stops e s stops.GivesUp = Unit {0}
+Stops e s stops.NoMemory = Unit {0}
 
--- The composer did not give up, and the event of this number is refused.
+-- Memory was not refused, and the event of this number is.
 pub record IsRefusal (stop : Stop) (number : ℕ) (r : Refusal) : Type 0 where
   pub cause : stop ≡ stops.Refused r.cause
   pub at : r.at ≡ number
-
--- What it says of a stream's documents that no forest is made of them: the first event that is refused, or the first document that is too high; nothing where this way gives up.
-abbrev pub RefusesForest : List Document → Unmade → Type 0
-RefusesForest ds (Refused faults.OutOfMemory) = ⊥
-RefusesForest ds (Refused fault) = RefusesStream ds fault
-RefusesForest ds GivesUp = Unit {0}

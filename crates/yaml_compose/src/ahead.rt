@@ -15,21 +15,21 @@ ghost use Rattle.yaml_compose.specs.Reached.{UnfoldTo};
 ghost use Rattle.yaml_compose.specs.ComposerModel.{IsForest, AreForests};
 ghost use Rattle.yaml_compose.specs.TagModel.{kind_in};
 ghost use Rattle.yaml_compose.specs.AheadModel.{settled, Tells, IsPaid, Settles, GoesOn};
-ghost use Rattle.yaml_compose.specs.Refusals.{RefusesForest};
+ghost use Rattle.yaml_graph.specs.Composed.{RefusesStream};
 
 use crate::composer::Forest;
 use crate::copies::{are_both, are_same};
 use crate::judged::Judged;
 use crate::size::StreamSize;
-use crate::unmade::Unmade;
 use std::alloc::Global;
 use std::borrow::CowStr;
 use std::mem;
-use yaml_compact::gives_up::GivesUp;
+use yaml_compact::no_memory::NoMemory;
 use yaml_compact::nodes;
 use yaml_sink::properties::Properties;
 use yaml_sink::sink::Collection;
 use yaml_text::event::Style;
+use yaml_text::fault::Fault;
 
 /// Properties on lines above a collection, and its kind.
 #[derive(Drop)]
@@ -104,15 +104,15 @@ impl<'s> Begun<'s> {
     }
 
     /// The same once its event, which has this number, has got these properties, if they are those that are due.
-    fn paid(self, start: usize, properties: &Properties<'_>) -> Result<Begun<'s>, GivesUp>
+    fn paid(self, start: usize, properties: &Properties<'_>) -> Result<Begun<'s>, NoMemory>
         ensures { IfOk result (IsPaid self.entry start (props_of properties.now)) }
     {
         let Begun { at, due, above } = self;
         let Some(given) = due else {
-            return Err(GivesUp);
+            return Err(NoMemory);
         };
         if at != start {
-            return Err(GivesUp);
+            return Err(NoMemory);
         }
         if are_same(&given, properties) {
             return Ok(Begun {
@@ -121,13 +121,13 @@ impl<'s> Begun<'s> {
                 above,
             });
         }
-        Err(GivesUp)
+        Err(NoMemory)
     }
 }
 
 impl<'s> Ahead<'s> {
     /// No event yet.
-    pub(crate) fn new(alloc: Global, lent: &'s str) -> Result<Ahead<'s>, GivesUp>
+    pub(crate) fn new(alloc: Global, lent: &'s str) -> Result<Ahead<'s>, NoMemory>
         ensures { IfOk result (λ ahead. Tells ahead []) }
     {
         let judged = Judged::new(alloc, lent)?;
@@ -141,24 +141,24 @@ impl<'s> Ahead<'s> {
 
     /// The number that an event of the log has for the composer.
     #[inline(always)]
-    fn number(&self, at: usize) -> Result<usize, GivesUp>
+    fn number(&self, at: usize) -> Result<usize, NoMemory>
         ensures { IfOk result (λ n. n ≡ at + self.now.early) }
     {
         let Some(number) = at.checked_add(self.early) else {
-            return Err(GivesUp);
+            return Err(NoMemory);
         };
         Ok(number)
     }
 
     /// An event follows behind the collection that ended last, to which nothing may be due then.
-    pub(crate) fn go_on(&mut self) -> Result<(), GivesUp>
+    pub(crate) fn go_on(&mut self) -> Result<(), NoMemory>
         ensures { IfOk result (λ _. GoesOn self.old self.new) }
     {
         let Some(begun) = &self.ended else {
             return Ok(());
         };
         if begun.owes() {
-            return Err(GivesUp);
+            return Err(NoMemory);
         }
         self.ended = None;
         Ok(())
@@ -173,7 +173,7 @@ impl<'s> Ahead<'s> {
         style: Style,
         text: &mut CowStr<'_>,
         offset: usize,
-    ) -> Result<(), GivesUp>
+    ) -> Result<(), NoMemory>
         ensures { IfOk result (λ _. (log : List Event) → at ≡ length log → Tells self.old log → Tells self.new (log ++ (scalar_event (props_of properties.now).anchor (props_of properties.now).tag (style_of style) (cow_str_bytes text.old) ∷ []))) }
     {
         self.go_on()?;
@@ -184,7 +184,7 @@ impl<'s> Ahead<'s> {
     }
 
     /// The event of this number is an alias.
-    pub(crate) fn alias(&mut self, alloc: Global, at: usize, name: &str) -> Result<(), GivesUp>
+    pub(crate) fn alias(&mut self, alloc: Global, at: usize, name: &str) -> Result<(), NoMemory>
         ensures { IfOk result (λ _. (log : List Event) → at ≡ length log → Tells self.old log → Tells self.new (log ++ (alias_event name.now ∷ []))) }
     {
         self.go_on()?;
@@ -200,7 +200,7 @@ impl<'s> Ahead<'s> {
         collection: Collection,
         at: usize,
         properties: &Properties<'_>,
-    ) -> Result<(), GivesUp>
+    ) -> Result<(), NoMemory>
         ensures { IfOk result (λ _. (flow : Bool) (log : List Event) → at ≡ length log → Tells self.old log → Tells self.new (log ++ (with_props (props_of properties.now) (start_of collection flow) ∷ []))) }
     {
         self.go_on()?;
@@ -222,7 +222,7 @@ impl<'s> Ahead<'s> {
         collection: Collection,
         at: usize,
         given: Properties<'s>,
-    ) -> Result<(), GivesUp>
+    ) -> Result<(), NoMemory>
         ensures { IfOk result (λ _. (flow : Bool) (p : Props) (log : List Event) → at ≡ length log → Tells self.old log → Tells self.new (log ++ (with_props p (start_of collection flow) ∷ []))) }
     {
         self.go_on()?;
@@ -246,16 +246,16 @@ impl<'s> Ahead<'s> {
         at: usize,
         given: Properties<'s>,
         outer: Properties<'s>,
-    ) -> Result<(), GivesUp>
+    ) -> Result<(), NoMemory>
         ensures { IfOk result (λ _. (flow : Bool) (p : Props) (log : List Event) → at ≡ length log → Tells self.old log → Tells self.new (log ++ (with_props p (start_of collection flow) ∷ []))) }
     {
         self.go_on()?;
         let number = self.number(at)?;
         let Some(behind) = number.checked_add(1) else {
-            return Err(GivesUp);
+            return Err(NoMemory);
         };
         let Some(early) = self.early.checked_add(1) else {
-            return Err(GivesUp);
+            return Err(NoMemory);
         };
         let kind = kind_of(collection);
         self.judged.begin_untagged(&outer)?;
@@ -268,20 +268,20 @@ impl<'s> Ahead<'s> {
     }
 
     /// The innermost collection ends.
-    pub(crate) fn end(&mut self, collection: Collection) -> Result<(), GivesUp>
+    pub(crate) fn end(&mut self, collection: Collection) -> Result<(), NoMemory>
         ensures { IfOk result (λ _. Puts Tells self.old (end_of collection ∷ []) self.new) }
     {
         self.go_on()?;
         let Some(begun) = self.opens.pop() else {
-            return Err(GivesUp);
+            return Err(NoMemory);
         };
         let kind = kind_of(collection);
         if let Some(above) = &begun.above {
             if above.kind != kind {
-                return Err(GivesUp);
+                return Err(NoMemory);
             }
             let Some(early) = self.early.checked_sub(1) else {
-                return Err(GivesUp);
+                return Err(NoMemory);
             };
             self.early = early;
             self.ended = Some(begun);
@@ -293,31 +293,36 @@ impl<'s> Ahead<'s> {
     }
 
     /// A document begins.
-    pub(crate) fn document(&mut self) -> Result<(), GivesUp>
+    pub(crate) fn document(&mut self) -> Result<(), NoMemory>
         ensures { IfOk result (λ _. (explicit : Bool) → Puts Tells self.old (document_start explicit ∷ []) self.new) }
     {
         self.go_on()?;
         if self.opens.len() > 0 {
-            return Err(GivesUp);
+            return Err(NoMemory);
         }
         self.judged.document()?;
         Ok(())
     }
 
     /// A mapping without properties begins before the collection that ended last, whose first event stands at this mark.
-    pub(crate) fn precede(&mut self, alloc: Global, start: usize, flow: bool) -> Result<(), GivesUp>
+    pub(crate) fn precede(
+        &mut self,
+        alloc: Global,
+        start: usize,
+        flow: bool,
+    ) -> Result<(), NoMemory>
         ensures { IfOk result (λ _. Alters Tells start (λ es. mapping_start flow None untagged ∷ es) self.old self.new) }
     {
         let number = self.number(start)?;
         let Some(begun) = mem::replace(&mut self.ended, None) else {
-            return Err(GivesUp);
+            return Err(NoMemory);
         };
         let Begun { at, due, above } = begun;
         if start != at {
-            return Err(GivesUp);
+            return Err(NoMemory);
         }
         let None = due else {
-            return Err(GivesUp);
+            return Err(NoMemory);
         };
         let Some(above) = above else {
             self.judged.precede(number)?;
@@ -330,7 +335,7 @@ impl<'s> Ahead<'s> {
             return Ok(());
         };
         if flow {
-            return Err(GivesUp);
+            return Err(NoMemory);
         }
         let Above { outer, kind } = above;
         self.judged.settle_key(alloc, number, &outer)?;
@@ -351,7 +356,7 @@ impl<'s> Ahead<'s> {
         begun: Begun<'s>,
         start: usize,
         properties: &Properties<'_>,
-    ) -> Result<Begun<'s>, GivesUp>
+    ) -> Result<Begun<'s>, NoMemory>
         ensures { IfOk result (λ after. Settles begun.entry start (props_of properties.now) self.old self.new after) }
     {
         if begun.has_due(properties) {
@@ -360,18 +365,18 @@ impl<'s> Ahead<'s> {
         }
         let number = self.number(start)?;
         if !begun.is_at(start) {
-            return Err(GivesUp);
+            return Err(NoMemory);
         }
         let Begun { at, due, above } = begun;
         let Some(own) = due else {
-            return Err(GivesUp);
+            return Err(NoMemory);
         };
         let Some(above) = above else {
-            return Err(GivesUp);
+            return Err(NoMemory);
         };
         let Above { outer, kind } = above;
         if !are_both(&outer, &own, properties) {
-            return Err(GivesUp);
+            return Err(NoMemory);
         }
         self.judged.settle_alone(alloc, number, kind, properties)?;
         self.judged.end(kind)?;
@@ -389,7 +394,7 @@ impl<'s> Ahead<'s> {
         alloc: Global,
         start: usize,
         properties: &Properties<'_>,
-    ) -> Result<(), GivesUp>
+    ) -> Result<(), NoMemory>
         ensures { IfOk result (λ _. Alters Tells start (dressed (props_of properties.now)) self.old self.new) }
     {
         if let Some(begun) = mem::replace(&mut self.ended, None) {
@@ -398,7 +403,7 @@ impl<'s> Ahead<'s> {
             return Ok(());
         }
         let Some(begun) = self.opens.pop() else {
-            return Err(GivesUp);
+            return Err(NoMemory);
         };
         let paid = begun.paid(start, properties)?;
         self.opens.push(paid)?;
@@ -413,24 +418,24 @@ impl<'s> Ahead<'s> {
     }
 
     /// How many documents and nodes there are, where no collection is open or just ended.
-    pub(crate) fn documents(&self) -> Result<StreamSize, Unmade>
+    pub(crate) fn documents(&self) -> Result<StreamSize, Fault>
         ensures count { (ds : List Document) → Tells self.now (stream_events ds) → IfOk result (UnfoldTo ds) }
-        ensures refused { (ds : List Document) → Tells self.now (stream_events ds) → IfErr result (RefusesForest ds) }
+        ensures refused { (ds : List Document) → Tells self.now (stream_events ds) → IfErr result (RefusesStream ds) }
     {
         if self.is_behind_end() {
-            return Err(Unmade::GivesUp);
+            return Err(Fault::OutOfMemory);
         }
         if self.opens.len() > 0 {
-            return Err(Unmade::GivesUp);
+            return Err(Fault::OutOfMemory);
         }
         self.judged.documents()
     }
 
     /// The stream ends, or the second of two.
-    pub(crate) fn finish(self) -> Result<Forest<'s>, Unmade>
+    pub(crate) fn finish(self) -> Result<Forest<'s>, Fault>
         ensures forest { (ds : List Document) → Tells self.entry (stream_events ds) → IfOk result (IsForest ds) }
         ensures both { (ds es : List Document) → Tells self.entry (stream_events ds ++ stream_events es) → IfOk result (AreForests ds es) }
-        ensures refused { (ds : List Document) → Tells self.entry (stream_events ds) → IfErr result (RefusesForest ds) }
+        ensures refused { (ds : List Document) → Tells self.entry (stream_events ds) → IfErr result (RefusesStream ds) }
     {
         let mut ahead = self;
         ahead.go_on()?;
@@ -441,7 +446,7 @@ impl<'s> Ahead<'s> {
             early: _,
         } = ahead;
         if opens.len() > 0 {
-            return Err(Unmade::GivesUp);
+            return Err(Fault::OutOfMemory);
         }
         judged.finish()
     }

@@ -6,7 +6,7 @@ ghost use Rattle.yaml_compose.specs.AnchorsModel.{table_place, Names};
 use std::alloc::Global;
 use std::borrow::CowStr;
 use std::collections::BTreeMap;
-use yaml_compact::gives_up::GivesUp;
+use yaml_compact::no_memory::NoMemory;
 use yaml_compact::nodes::Span;
 use yaml_compact::text::Text;
 
@@ -53,11 +53,11 @@ fn place_of(name: &[u8]) -> usize
 }
 
 /// A number that fits.
-fn number(of: usize) -> Result<u32, GivesUp>
+fn number(of: usize) -> Result<u32, NoMemory>
     ensures { IfOk result (λ n. n ≡ of) }
 {
     if of > u32::MAX as usize {
-        return Err(GivesUp);
+        return Err(NoMemory);
     }
     Ok(of as u32)
 }
@@ -87,7 +87,7 @@ impl<'s> Anchors<'s> {
     }
 
     /// The table is there before the first name is. What stands in it then does no harm.
-    fn make_table(&mut self) -> Result<(), GivesUp>
+    fn make_table(&mut self) -> Result<(), NoMemory>
         ensures { (names : List (List ℕ)) → Names self.old names → IfOk result (λ _. Names self.new names) }
     {
         if self.spans.len() > 0 {
@@ -98,7 +98,7 @@ impl<'s> Anchors<'s> {
     }
 
     /// The number of names before this one, which comes behind them, and which may stand at this offset of the text that is lent.
-    pub(crate) fn put(&mut self, name: &str, offset: usize) -> Result<usize, GivesUp>
+    pub(crate) fn put(&mut self, name: &str, offset: usize) -> Result<usize, NoMemory>
         ensures place { (names : List (List ℕ)) → Names self.old names → IfOk result (λ place. place ≡ length names) }
         ensures names { (names : List (List ℕ)) → Names self.old names → IfOk result (λ _. Names self.new (names ++ (name.now ∷ []))) }
     {
@@ -107,7 +107,7 @@ impl<'s> Anchors<'s> {
         let last = number(place)?;
         let hash = place_of(name.as_bytes());
         if hash >= self.recent.len() {
-            return Err(GivesUp);
+            return Err(NoMemory);
         }
         let mut text = CowStr::Borrowed(name);
         let span = self.text.put(offset, &mut text)?;
@@ -135,17 +135,17 @@ impl<'s> Anchors<'s> {
     }
 
     /// The first name that is not in the map comes into it.
-    fn map_next(&mut self, alloc: Global) -> Result<(), GivesUp>
+    fn map_next(&mut self, alloc: Global) -> Result<(), NoMemory>
         ensures names { (names : List (List ℕ)) → Names self.old names → IfOk result (λ _. Names self.new names) }
         ensures mapped { IfOk result (λ _. self.new.mapped ≡ self.old.mapped + 1) }
         ensures spans { self.new.spans ≡ self.old.spans }
     {
         let place = self.mapped;
         let Some(next) = place.checked_add(1) else {
-            return Err(GivesUp);
+            return Err(NoMemory);
         };
         let Some(name) = self.name(place) else {
-            return Err(GivesUp);
+            return Err(NoMemory);
         };
         let key = String::from_str(alloc, name)?;
         self.places.insert(key, place)?;
@@ -154,7 +154,7 @@ impl<'s> Anchors<'s> {
     }
 
     /// The last number of this name, if there is one.
-    pub(crate) fn find(&mut self, alloc: Global, name: &str) -> Result<Option<usize>, GivesUp>
+    pub(crate) fn find(&mut self, alloc: Global, name: &str) -> Result<Option<usize>, NoMemory>
         ensures place { (names : List (List ℕ)) → Names self.old names → IfOk result (λ place. last_place name.now names ≡ place) }
         ensures names { (names : List (List ℕ)) → Names self.old names → IfOk result (λ _. Names self.new names) }
     {

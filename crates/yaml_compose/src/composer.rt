@@ -1,4 +1,4 @@
-//! From nodes, as they begin and end, to nodes of a store. Where a node has no tree it says why. It may give up.
+//! From nodes, as they begin and end, to nodes of a store. Where a node has no tree it says why.
 ghost use Rattle.std.specs.Prelude.{◌≡◌, ℕ, Bool, false, List, ◌∷◌, ◌++◌, length, drop, None, Ok, IfOk, IfErr, MatchResult};
 ghost use Rattle.std.specs.Cow.{cow_str_bytes};
 ghost use Rattle.yaml_definitions.specs.model.Tree.{Tree, scalar};
@@ -19,7 +19,8 @@ ghost use Rattle.yaml_compose.specs.FirstsModel.{Comes};
 ghost use Rattle.yaml_compose.specs.TagModel.{collection_number, KeepsTexts};
 ghost use Rattle.yaml_compose.specs.ComposerModel.{with_store, Holds, Stepped, IsForest, AreForests, IsNumber, IsOnePlace, start_of, end_of};
 ghost use Rattle.yaml_compose.specs.ComposerLog.{Follows, SettlesAlone, SettlesKey};
-ghost use Rattle.yaml_compose.specs.Refusals.{Stops, RefusesForest};
+ghost use Rattle.yaml_graph.specs.Composed.{RefusesStream};
+ghost use Rattle.yaml_compose.specs.Refusals.{Stops};
 
 use crate::anchors::Anchors;
 use crate::core_tags::CoreTags;
@@ -28,10 +29,9 @@ use crate::size::StreamSize;
 use crate::stop::{Cause, Stop};
 use crate::tag::{keeps_texts, tag_given, tag_of};
 use crate::too_high::first_too_high;
-use crate::unmade::Unmade;
 use std::alloc::Global;
 use std::borrow::CowStr;
-use yaml_compact::gives_up::GivesUp;
+use yaml_compact::no_memory::NoMemory;
 use yaml_compact::nodes::Collection;
 use yaml_compact::store::Store;
 use yaml_content::content::content;
@@ -72,23 +72,23 @@ pub(crate) struct Composer<'s> {
 }
 
 /// The nodes from this place on.
-fn parts_from(stack: &[u32], mark: usize) -> Result<&[u32], GivesUp>
+fn parts_from(stack: &[u32], mark: usize) -> Result<&[u32], NoMemory>
     ensures { IfOk result (λ parts. parts.now ≡ drop mark stack.now) }
 {
     if mark > stack.len() {
-        return Err(GivesUp);
+        return Err(NoMemory);
     }
     Ok(&stack[mark..])
 }
 
 /// The place of a node among the anchored ones, which it has as its own or from lines above, but not both.
-fn one_place(outer: Option<usize>, own: Option<usize>) -> Result<Option<usize>, GivesUp>
+fn one_place(outer: Option<usize>, own: Option<usize>) -> Result<Option<usize>, NoMemory>
     ensures { IfOk result (IsOnePlace outer own) }
 {
     match (outer, own) {
         (None, place) => Ok(place),
         (place, None) => Ok(place),
-        _ => Err(GivesUp),
+        _ => Err(NoMemory),
     }
 }
 
@@ -103,7 +103,7 @@ pub struct Forest<'s> {
 
 impl<'s> Composer<'s> {
     /// Nothing is put down yet. Long contents may be parts of the text that is lent.
-    pub(crate) fn new(alloc: Global, lent: &'s str) -> Result<Composer<'s>, GivesUp>
+    pub(crate) fn new(alloc: Global, lent: &'s str) -> Result<Composer<'s>, NoMemory>
         ensures { IfOk result (λ c. Holds c initial_state) }
     {
         let mut store = Store::new(alloc, lent)?;
@@ -120,11 +120,11 @@ impl<'s> Composer<'s> {
     }
 
     /// A document begins.
-    pub(crate) fn document(&mut self) -> Result<(), GivesUp>
+    pub(crate) fn document(&mut self) -> Result<(), NoMemory>
         ensures { (s : State) → Holds self.old s → (explicit : Bool) → IfOk result (λ _. Stepped (document_start explicit) s self.new) }
     {
         if self.opens.len() > 0 {
-            return Err(GivesUp);
+            return Err(NoMemory);
         }
         self.anchors.clear();
         self.anchored.clear();
@@ -132,15 +132,15 @@ impl<'s> Composer<'s> {
     }
 
     /// How many documents and nodes there are, where no collection is open.
-    pub(crate) fn documents(&self) -> Result<StreamSize, Unmade>
+    pub(crate) fn documents(&self) -> Result<StreamSize, Fault>
         ensures size { (ds : List Document) (s : State) → Reaches (stream_events ds) initial_state s → Holds self.now s → IfOk result (UnfoldTo ds) }
-        ensures refused { (ds : List Document) (s : State) → Reaches (stream_events ds) initial_state s → Holds self.now s → IfErr result (RefusesForest ds) }
+        ensures refused { (ds : List Document) (s : State) → Reaches (stream_events ds) initial_state s → Holds self.now s → IfErr result (RefusesStream ds) }
     {
         if self.opens.len() > 0 {
-            return Err(Unmade::GivesUp);
+            return Err(Fault::OutOfMemory);
         }
         if let Some(document) = first_too_high(&self.store, &self.stack) {
-            return Err(Unmade::Refused(Fault::TooHigh(document)));
+            return Err(Fault::TooHigh(document));
         }
         Ok(StreamSize {
             documents: self.stack.len(),
@@ -149,9 +149,9 @@ impl<'s> Composer<'s> {
     }
 
     /// The stream ends, or the second of two.
-    pub(crate) fn finish(self) -> Result<Forest<'s>, Unmade>
+    pub(crate) fn finish(self) -> Result<Forest<'s>, Fault>
         ensures forest { (ds : List Document) (s : State) → Reaches (stream_events ds) initial_state s → Holds self.entry s → IfOk result (IsForest ds) }
-        ensures refused { (ds : List Document) (s : State) → Reaches (stream_events ds) initial_state s → Holds self.entry s → IfErr result (RefusesForest ds) }
+        ensures refused { (ds : List Document) (s : State) → Reaches (stream_events ds) initial_state s → Holds self.entry s → IfErr result (RefusesStream ds) }
         ensures both { (ds es : List Document) (s : State) → Reaches (stream_events ds ++ stream_events es) initial_state s → Holds self.entry s → IfOk result (AreForests ds es) }
     {
         let Composer {
@@ -164,13 +164,13 @@ impl<'s> Composer<'s> {
             firsts,
         } = self;
         if opens.len() > 0 {
-            return Err(Unmade::GivesUp);
+            return Err(Fault::OutOfMemory);
         }
         if let Some(document) = first_too_high(&store, &stack) {
-            return Err(Unmade::Refused(Fault::TooHigh(document)));
+            return Err(Fault::TooHigh(document));
         }
         if !store.is_low() {
-            return Err(Unmade::GivesUp);
+            return Err(Fault::OutOfMemory);
         }
         Ok(Forest {
             store,
@@ -180,7 +180,7 @@ impl<'s> Composer<'s> {
     }
 
     /// A node with these properties begins. Its place among the anchored ones, if it has an anchor.
-    fn begin_node(&mut self, given: &Given<'_>) -> Result<Option<usize>, GivesUp>
+    fn begin_node(&mut self, given: &Given<'_>) -> Result<Option<usize>, NoMemory>
         ensures { (s : State) → Holds self.old s →
             let a = (props_in given.now).anchor in
             IfOk result (λ place. Placed (names_of (node_begun a s).table) place a (length s.table) × Holds self.new (node_begun a s)) }
@@ -196,7 +196,7 @@ impl<'s> Composer<'s> {
     /// A whole node stands in the innermost collection, and at its place among the anchored ones. The store
     /// has it, since before or as its last one.
     #[inline(always)]
-    fn put(&mut self, place: Option<usize>, id: u32) -> Result<(), GivesUp>
+    fn put(&mut self, place: Option<usize>, id: u32) -> Result<(), NoMemory>
         ensures { (s : State) (before : Store) → Holds (with_store self.old before) s → Keeps before self.old.store → (a : Anchor) (slot : ℕ) (t : Tree) → Placed (names_of s.table) place a slot → Stands self.old.store id t →
             Comes (trees_of before) (trees_of self.old.store) t → IfOk result (λ _. Holds self.new (whole a slot t s)) }
     {
@@ -204,7 +204,7 @@ impl<'s> Composer<'s> {
         self.stack.push(id)?;
         if let Some(place) = place {
             if place >= self.anchored.len() {
-                return Err(GivesUp);
+                return Err(NoMemory);
             }
             self.anchored[place] = Some(id);
         }
@@ -218,13 +218,13 @@ impl<'s> Composer<'s> {
         given: &Given<'_>,
         text: &mut CowStr<'_>,
         offset: usize,
-    ) -> Result<(), GivesUp>
+    ) -> Result<(), NoMemory>
         ensures { (y : PlainStyle) (s : State) → Holds self.old s → KeepsTexts (props_in given.now).tag →
             IfOk result (λ _. Stepped (scalar_event (props_in given.now).anchor (props_in given.now).tag y (cow_str_bytes text.old)) s self.new) }
     {
         let place = self.begin_node(given)?;
         let EventTag::Full(tag) = &given.tag else {
-            return Err(GivesUp);
+            return Err(NoMemory);
         };
         let id = self.store.scalar(alloc, tag.as_str(), text, offset)?;
         self.put(place, id)?;
@@ -266,7 +266,7 @@ impl<'s> Composer<'s> {
         kind: PlainKind,
         content: &mut CowStr<'_>,
         offset: usize,
-    ) -> Result<(), GivesUp>
+    ) -> Result<(), NoMemory>
         ensures { (a : Anchor) (slot : ℕ) (s : State) → Placed (names_of s.table) place a slot → Holds self.old s → IfOk result (λ _. Holds self.new (whole a slot (scalar (kind_tag kind) (cow_str_bytes content.old)) s)) }
     {
         let tag = self.core.scalar(kind);
@@ -378,7 +378,7 @@ impl<'s> Composer<'s> {
             return Err(Stop::Refused(Cause::UndefinedAlias));
         };
         if place >= self.anchored.len() {
-            return Err(Stop::GivesUp);
+            return Err(Stop::NoMemory);
         }
         let Some(id) = self.anchored[place] else {
             return Err(Stop::Refused(Cause::CyclicAlias));
@@ -412,7 +412,7 @@ impl<'s> Composer<'s> {
     }
 
     /// A collection with the tag of its kind begins, whose place among the anchored ones is this, if it has an anchor.
-    fn begin_bare(&mut self, place: Option<usize>, collection: Collection) -> Result<(), GivesUp>
+    fn begin_bare(&mut self, place: Option<usize>, collection: Collection) -> Result<(), NoMemory>
         ensures { (a : Anchor) (g : WrittenTag) (s : State) → collection_tag (collection_number collection) g ≡ Ok (default_tag (collection_number collection)) → Placed (names_of (node_begun a s).table) place a (length s.table) → Holds self.old (node_begun a s) → (flow : Bool) → IfOk result (λ _. Stepped (start_of collection flow a g) s self.new) }
     {
         let tag = self.core.collection(collection);
@@ -466,7 +466,7 @@ impl<'s> Composer<'s> {
     }
 
     /// A mapping without a tag begins, of whose properties only the anchor counts.
-    pub(crate) fn begin_untagged(&mut self, properties: &Properties<'_>) -> Result<(), GivesUp>
+    pub(crate) fn begin_untagged(&mut self, properties: &Properties<'_>) -> Result<(), NoMemory>
         ensures { (s : State) → Holds self.old s → IfOk result (λ _. Stepped (mapping_start false (props_of properties.now).anchor untagged) s self.new) }
     {
         match &properties.given {
@@ -488,11 +488,11 @@ impl<'s> Composer<'s> {
         alloc: Global,
         collection: Collection,
         properties: &Properties<'_>,
-    ) -> Result<u32, GivesUp>
+    ) -> Result<u32, NoMemory>
         ensures { (s : State) → Holds self.old s → IfOk result (λ n. IsNumber collection (props_of properties.now).tag self.new n × Holds self.new s) }
     {
         let Ok(text) = tag_given(collection, properties) else {
-            return Err(GivesUp);
+            return Err(NoMemory);
         };
         let number = self.store.tag(alloc, text)?;
         Ok(number)
@@ -504,15 +504,15 @@ impl<'s> Composer<'s> {
         alloc: Global,
         collection: Collection,
         properties: &Properties<'_>,
-    ) -> Result<(), GivesUp>
+    ) -> Result<(), NoMemory>
         ensures { (start : ℕ) → IfOk result (λ _. SettlesAlone Follows start collection (props_of properties.now) self.old self.new) }
     {
         let tag = self.number_of(alloc, collection, properties)?;
         let Some(own) = self.opens.pop() else {
-            return Err(GivesUp);
+            return Err(NoMemory);
         };
         let Some(outer) = self.opens.pop() else {
-            return Err(GivesUp);
+            return Err(NoMemory);
         };
         let place = one_place(outer.place, own.place)?;
         self.opens.push(Open {
@@ -529,15 +529,15 @@ impl<'s> Composer<'s> {
         &mut self,
         alloc: Global,
         properties: &Properties<'_>,
-    ) -> Result<(), GivesUp>
+    ) -> Result<(), NoMemory>
         ensures { (start : ℕ) → IfOk result (λ _. SettlesKey Follows start (props_of properties.now) self.old self.new) }
     {
         let tag = self.number_of(alloc, Collection::Mapping, properties)?;
         let Some(own) = self.opens.pop() else {
-            return Err(GivesUp);
+            return Err(NoMemory);
         };
         let Some(outer) = self.opens.pop() else {
-            return Err(GivesUp);
+            return Err(NoMemory);
         };
         self.opens.push(Open {
             place: outer.place,
@@ -550,12 +550,12 @@ impl<'s> Composer<'s> {
     }
 
     /// A mapping without properties begins before the node that became whole last.
-    pub(crate) fn precede(&mut self) -> Result<(), GivesUp>
+    pub(crate) fn precede(&mut self) -> Result<(), NoMemory>
         ensures { (front es : List Event) → AreNodes 1 es → Follows self.old (front ++ es) → IfOk result (λ _. (flow : Bool) → Follows self.new (front ++ (mapping_start flow None untagged ∷ es))) }
     {
         let tag = self.core.collection(Collection::Mapping);
         let Some(mark) = self.stack.len().checked_sub(1) else {
-            return Err(GivesUp);
+            return Err(NoMemory);
         };
         self.opens.push(Open {
             place: None,
@@ -567,14 +567,14 @@ impl<'s> Composer<'s> {
     }
 
     /// The innermost collection ends.
-    pub(crate) fn end(&mut self, collection: Collection) -> Result<(), GivesUp>
+    pub(crate) fn end(&mut self, collection: Collection) -> Result<(), NoMemory>
         ensures { (s : State) → Holds self.old s → IfOk result (λ _. Stepped (end_of collection) s self.new) }
     {
         let Some(open) = self.opens.pop() else {
-            return Err(GivesUp);
+            return Err(NoMemory);
         };
         if open.collection != collection {
-            return Err(GivesUp);
+            return Err(NoMemory);
         }
         let parts = parts_from(&self.stack, open.mark)?;
         let id = self.store.collection(open.collection, open.tag, parts)?;

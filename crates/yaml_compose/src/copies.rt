@@ -10,7 +10,7 @@ ghost use Rattle.yaml_compose.specs.ComposerLog.{IsOneAnchor, HasOwnTag};
 use std::alloc::Global;
 use std::borrow::CowStr;
 use std::mem;
-use yaml_compact::gives_up::GivesUp;
+use yaml_compact::no_memory::NoMemory;
 use yaml_sink::properties::{Given, Offsets, Properties};
 use yaml_text::event::EventTag;
 
@@ -25,7 +25,7 @@ fn part_at<'s>(lent: &'s str, at: usize, text: &str) -> Option<&'s str>
 
 /// A text becomes a copy of another, in the room that it has.
 #[inline(always)]
-pub(crate) fn fill(alloc: Global, copy: &mut CowStr<'_>, text: &str) -> Result<(), GivesUp>
+pub(crate) fn fill(alloc: Global, copy: &mut CowStr<'_>, text: &str) -> Result<(), NoMemory>
     ensures { IfOk result (λ _. cow_str_bytes copy.new ≡ text.now) }
 {
     if let CowStr::Owned(room) = copy {
@@ -45,7 +45,7 @@ pub(crate) fn keep<'s>(
     lent: &'s str,
     at: usize,
     text: &mut CowStr<'_>,
-) -> Result<CowStr<'s>, GivesUp>
+) -> Result<CowStr<'s>, NoMemory>
     ensures { IfOk result (λ kept. cow_str_bytes kept ≡ cow_str_bytes text.old) }
 {
     if let Some(part) = part_at(lent, at, text.as_str()) {
@@ -65,7 +65,7 @@ fn write_over<'s>(
     at: usize,
     copy: &mut CowStr<'s>,
     text: &CowStr<'_>,
-) -> Result<(), GivesUp>
+) -> Result<(), NoMemory>
     ensures { IfOk result (λ _. cow_str_bytes copy.new ≡ cow_str_bytes text.now) }
 {
     if let CowStr::Borrowed(part) = text {
@@ -84,7 +84,7 @@ fn write_over_anchor<'s>(
     at: usize,
     copy: &mut Option<CowStr<'s>>,
     anchor: &Option<CowStr<'_>>,
-) -> Result<(), GivesUp>
+) -> Result<(), NoMemory>
     ensures { IfOk result (λ _. option_map cow_str_bytes copy.new ≡ option_map cow_str_bytes anchor.now) }
 {
     let Some(name) = anchor else {
@@ -104,7 +104,7 @@ fn write_over_tag<'s>(
     at: usize,
     copy: &mut EventTag<'s>,
     tag: &EventTag<'_>,
-) -> Result<(), GivesUp>
+) -> Result<(), NoMemory>
     ensures { IfOk result (λ _. written_of copy.new ≡ written_of tag.now) }
 {
     match tag {
@@ -123,7 +123,7 @@ fn write_over_tag<'s>(
 }
 
 /// Neither an anchor nor a tag yet.
-fn no_given<'s>(alloc: Global) -> Result<Box<Given<'s>>, GivesUp> {
+fn no_given<'s>(alloc: Global) -> Result<Box<Given<'s>>, NoMemory> {
     let held = Box::new(
         alloc,
         Given {
@@ -142,7 +142,7 @@ pub(crate) fn copy_over<'s>(
     lent: &'s str,
     spare: Properties<'s>,
     properties: &Properties<'_>,
-) -> Result<Properties<'s>, GivesUp>
+) -> Result<Properties<'s>, NoMemory>
     ensures { IfOk result (λ copy. props_of copy ≡ props_of properties.now) }
 {
     let Some(given) = &properties.given else {

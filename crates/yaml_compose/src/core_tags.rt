@@ -5,7 +5,7 @@ ghost use Rattle.yaml_compose.specs.TagModel.{scalar_number, tag_number, AreCore
 
 use crate::tag::default_tag;
 use std::alloc::Global;
-use yaml_compact::gives_up::GivesUp;
+use yaml_compact::no_memory::NoMemory;
 use yaml_compact::nodes::Collection;
 use yaml_compact::store::Store;
 use yaml_core::PlainKind;
@@ -24,7 +24,7 @@ pub(crate) struct CoreTags {
 
 impl CoreTags {
     /// Puts the tags into a store.
-    pub(crate) fn new(alloc: Global, store: &mut Store<'_>) -> Result<CoreTags, GivesUp>
+    pub(crate) fn new(alloc: Global, store: &mut Store<'_>) -> Result<CoreTags, NoMemory>
         ensures kept { Good store.old → IfOk result (λ _. Keeps store.old store.new) }
         ensures nodes { IfOk result (λ _. store.new.nodes ≡ store.old.nodes) }
         ensures core { Good store.old → IfOk result (AreCore (tags_of store.new)) }

@@ -4,7 +4,7 @@ ghost use Rattle.yaml_definitions.specs.model.Tree.{Tree};
 ghost use Rattle.yaml_compose.specs.FirstsModel.{Counted, Comes};
 
 use std::alloc::Global;
-use yaml_compact::gives_up::GivesUp;
+use yaml_compact::no_memory::NoMemory;
 
 /// For each node of the store, the first node of the stream that it stands for. The nodes of the stream
 /// are numbered in the order in which they close.
@@ -27,14 +27,14 @@ impl Firsts {
     }
 
     /// A node closes, where the store has so many nodes: one more where none of those before stands for it.
-    pub(crate) fn note(&mut self, len: usize) -> Result<(), GivesUp>
+    pub(crate) fn note(&mut self, len: usize) -> Result<(), NoMemory>
         ensures { (before after closed : List Tree) (t : Tree) → Counted before self.old closed → Comes before after t → len ≡ length after → IfOk result (λ _. Counted after self.new (closed ++ (t ∷ []))) }
     {
         if len > self.numbers.len() {
             self.numbers.push(self.closed)?;
         }
         let Some(closed) = self.closed.checked_add(1) else {
-            return Err(GivesUp);
+            return Err(NoMemory);
         };
         self.closed = closed;
         Ok(())

@@ -10,7 +10,7 @@ ghost use Rattle.yaml_sink.specs.PropertyRules.{props_of};
 ghost use Rattle.yaml_compose.specs.Reached.{UnfoldTo};
 ghost use Rattle.yaml_compose.specs.Nodes.{AreNodes};
 ghost use Rattle.yaml_compose.specs.ComposerModel.{IsForest, AreForests, start_of, end_of};
-ghost use Rattle.yaml_compose.specs.Refusals.{RefusesForest};
+ghost use Rattle.yaml_graph.specs.Composed.{RefusesStream};
 ghost use Rattle.yaml_compose.specs.ComposerLog.{SettlesAlone, SettlesKey};
 ghost use Rattle.yaml_compose.specs.JudgedModel.{Judges, Takes, IsBefore, IsNoneBefore};
 
@@ -18,13 +18,13 @@ use crate::composer::{Composer, Forest};
 use crate::size::StreamSize;
 use crate::stop::Refusal;
 use crate::tag::tag_given;
-use crate::unmade::Unmade;
 use std::alloc::Global;
 use std::borrow::CowStr;
-use yaml_compact::gives_up::GivesUp;
+use yaml_compact::no_memory::NoMemory;
 use yaml_compact::nodes::Collection;
 use yaml_sink::properties::Properties;
 use yaml_text::event::Style;
+use yaml_text::fault::Fault;
 
 /// A composer that is told of no more events once one is refused: its node has no tree.
 #[derive(Drop)]
@@ -36,7 +36,7 @@ pub(crate) struct Judged<'s> {
 
 impl<'s> Judged<'s> {
     /// No event yet.
-    pub(crate) fn new(alloc: Global, lent: &'s str) -> Result<Judged<'s>, GivesUp>
+    pub(crate) fn new(alloc: Global, lent: &'s str) -> Result<Judged<'s>, NoMemory>
         ensures { IfOk result (λ judged. Judges judged []) }
     {
         let composer = Composer::new(alloc, lent)?;
@@ -56,7 +56,7 @@ impl<'s> Judged<'s> {
         style: Style,
         text: &mut CowStr<'_>,
         offset: usize,
-    ) -> Result<(), GivesUp>
+    ) -> Result<(), NoMemory>
         ensures { IfOk result (λ _. Takes at (scalar_event (props_of properties.now).anchor (props_of properties.now).tag (style_of style) (cow_str_bytes text.old)) self.old self.new) }
     {
         if let Some(_) = self.refusal {
@@ -69,7 +69,7 @@ impl<'s> Judged<'s> {
     }
 
     /// The event of this number is an alias.
-    pub(crate) fn alias(&mut self, alloc: Global, at: usize, name: &str) -> Result<(), GivesUp>
+    pub(crate) fn alias(&mut self, alloc: Global, at: usize, name: &str) -> Result<(), NoMemory>
         ensures { IfOk result (λ _. Takes at (alias_event name.now) self.old self.new) }
     {
         if let Some(_) = self.refusal {
@@ -88,7 +88,7 @@ impl<'s> Judged<'s> {
         at: usize,
         collection: Collection,
         properties: &Properties<'_>,
-    ) -> Result<(), GivesUp>
+    ) -> Result<(), NoMemory>
         ensures { IfOk result (λ _. (flow : Bool) → Takes at (start_of collection flow (props_of properties.now).anchor (props_of properties.now).tag) self.old self.new) }
     {
         if let Some(_) = self.refusal {
@@ -101,7 +101,7 @@ impl<'s> Judged<'s> {
     }
 
     /// The innermost collection ends.
-    pub(crate) fn end(&mut self, collection: Collection) -> Result<(), GivesUp>
+    pub(crate) fn end(&mut self, collection: Collection) -> Result<(), NoMemory>
         ensures { IfOk result (λ _. Puts Judges self.old (end_of collection ∷ []) self.new) }
     {
         if let Some(_) = self.refusal {
@@ -112,7 +112,7 @@ impl<'s> Judged<'s> {
     }
 
     /// A document begins.
-    pub(crate) fn document(&mut self) -> Result<(), GivesUp>
+    pub(crate) fn document(&mut self) -> Result<(), NoMemory>
         ensures { IfOk result (λ _. (explicit : Bool) → Puts Judges self.old (document_start explicit ∷ []) self.new) }
     {
         if let Some(_) = self.refusal {
@@ -123,7 +123,7 @@ impl<'s> Judged<'s> {
     }
 
     /// A mapping without properties begins before the node that became whole last, whose first event has this number.
-    pub(crate) fn precede(&mut self, start: usize) -> Result<(), GivesUp>
+    pub(crate) fn precede(&mut self, start: usize) -> Result<(), NoMemory>
         ensures { (front es : List Event) → start ≡ length front → AreNodes 1 es → Judges self.old (front ++ es) → IfOk result (λ _. (flow : Bool) → Judges self.new (front ++ (mapping_start flow None untagged ∷ es))) }
     {
         let Some(refusal) = self.refusal else {
@@ -134,7 +134,7 @@ impl<'s> Judged<'s> {
             return Ok(());
         }
         let Some(at) = refusal.at.checked_add(1) else {
-            return Err(GivesUp);
+            return Err(NoMemory);
         };
         self.refusal = Some(Refusal {
             cause: refusal.cause,
@@ -144,7 +144,7 @@ impl<'s> Judged<'s> {
     }
 
     /// A mapping without a tag begins, of whose properties only the anchor counts.
-    pub(crate) fn begin_untagged(&mut self, properties: &Properties<'_>) -> Result<(), GivesUp>
+    pub(crate) fn begin_untagged(&mut self, properties: &Properties<'_>) -> Result<(), NoMemory>
         ensures { IfOk result (λ _. Puts Judges self.old (mapping_start false (props_of properties.now).anchor untagged ∷ []) self.new) }
     {
         if let Some(_) = self.refusal {
@@ -173,7 +173,7 @@ impl<'s> Judged<'s> {
         start: usize,
         collection: Collection,
         properties: &Properties<'_>,
-    ) -> Result<(), GivesUp>
+    ) -> Result<(), NoMemory>
         ensures { IfOk result (λ _. SettlesAlone Judges start collection (props_of properties.now) self.old self.new) }
     {
         if self.is_refused_before(start) {
@@ -188,7 +188,7 @@ impl<'s> Judged<'s> {
             return Ok(());
         };
         let Some(at) = refusal.at.checked_sub(1) else {
-            return Err(GivesUp);
+            return Err(NoMemory);
         };
         self.refusal = Some(Refusal {
             cause: refusal.cause,
@@ -203,7 +203,7 @@ impl<'s> Judged<'s> {
         alloc: Global,
         start: usize,
         properties: &Properties<'_>,
-    ) -> Result<(), GivesUp>
+    ) -> Result<(), NoMemory>
         ensures { IfOk result (λ _. SettlesKey Judges start (props_of properties.now) self.old self.new) }
     {
         if self.is_refused_before(start) {
@@ -221,25 +221,25 @@ impl<'s> Judged<'s> {
     }
 
     /// How many documents and nodes there are, where no collection is open.
-    pub(crate) fn documents(&self) -> Result<StreamSize, Unmade>
+    pub(crate) fn documents(&self) -> Result<StreamSize, Fault>
         ensures count { (ds : List Document) → Judges self.now (stream_events ds) → IfOk result (UnfoldTo ds) }
-        ensures refused { (ds : List Document) → Judges self.now (stream_events ds) → IfErr result (RefusesForest ds) }
+        ensures refused { (ds : List Document) → Judges self.now (stream_events ds) → IfErr result (RefusesStream ds) }
     {
         if let Some(refusal) = self.refusal {
-            return Err(Unmade::Refused(refusal.fault()));
+            return Err(refusal.fault());
         }
         self.composer.documents()
     }
 
     /// The stream ends, or the second of two.
-    pub(crate) fn finish(self) -> Result<Forest<'s>, Unmade>
+    pub(crate) fn finish(self) -> Result<Forest<'s>, Fault>
         ensures forest { (ds : List Document) → Judges self.entry (stream_events ds) → IfOk result (IsForest ds) }
         ensures both { (ds es : List Document) → Judges self.entry (stream_events ds ++ stream_events es) → IfOk result (AreForests ds es) }
-        ensures refused { (ds : List Document) → Judges self.entry (stream_events ds) → IfErr result (RefusesForest ds) }
+        ensures refused { (ds : List Document) → Judges self.entry (stream_events ds) → IfErr result (RefusesStream ds) }
     {
         let Judged { composer, refusal } = self;
         if let Some(refusal) = refusal {
-            return Err(Unmade::Refused(refusal.fault()));
+            return Err(refusal.fault());
         }
         composer.finish()
     }

@@ -11,17 +11,16 @@ ghost use Rattle.yaml_sink.specs.SinkModel.{start_of, end_of};
 ghost use Rattle.yaml_compose.specs.Reached.{UnfoldTo};
 ghost use Rattle.yaml_compose.specs.ComposerModel.{IsForest, AreForests};
 ghost use Rattle.yaml_compose.specs.KeeperModel.{Composes, MakesRoom, CountsOn, DressesOne};
-ghost use Rattle.yaml_compose.specs.Refusals.{RefusesForest};
+ghost use Rattle.yaml_graph.specs.Composed.{RefusesStream};
 
 use crate::ahead::Ahead;
 use crate::composer::Forest;
 use crate::size::StreamSize;
-use crate::unmade::Unmade;
 use crate::waiting::{Late, Waiting};
 use std::alloc::Global;
 use std::borrow::CowStr;
 use std::mem;
-use yaml_compact::gives_up::GivesUp;
+use yaml_compact::no_memory::NoMemory;
 use yaml_sink::properties::Properties;
 use yaml_sink::sink::{Collection, Keeper};
 use yaml_text::event::{Event, Style};
@@ -38,9 +37,8 @@ fn content_offset(style: Style, at: usize) -> usize {
     }
 }
 
-/// A reader's events, composed as they come. Where a node has no tree it goes on counting, and at the end it tells why. So it does
-/// where events are taken back, as a reader does just before it rejects a text. It gives up where a number does not fit, and says
-/// that there is no memory.
+/// A reader's events, composed as they come. Where a node has no tree it goes on counting, and at the end it tells why. Want of
+/// memory is its only other answer. It counts on where events are taken back, too, as a reader does just before it rejects a text.
 #[derive(Drop)]
 pub struct Composing<'s> {
     alloc: Global,
@@ -54,13 +52,13 @@ pub struct Composing<'s> {
     above: Option<Properties<'s>>,
     /// How many events are held.
     count: usize,
-    /// Whether what is composed is of no use.
-    gave_up: bool,
+    /// Whether what is composed no longer counts: memory was refused for properties, or events were taken back.
+    is_void: bool,
 }
 
 impl<'s> Composing<'s> {
     /// No event yet. Long contents, and properties, may be parts of the text that is lent.
-    pub fn new(alloc: Global, lent: &'s str) -> Result<Composing<'s>, GivesUp>
+    pub fn new(alloc: Global, lent: &'s str) -> Result<Composing<'s>, NoMemory>
         ensures { IfOk result (λ keeper. Composes keeper []) }
     {
         let ahead = Ahead::new(alloc, lent)?;
@@ -72,27 +70,27 @@ impl<'s> Composing<'s> {
             announced: None,
             above: None,
             count: 0,
-            gave_up: false,
+            is_void: false,
         })
     }
 
     /// Composes what waits, and counts one event more.
-    fn make_room(&mut self) -> Result<(), GivesUp>
+    fn make_room(&mut self) -> Result<(), NoMemory>
         ensures { IfOk result (λ _. MakesRoom self.old self.new) }
     {
-        if self.gave_up {
-            return Err(GivesUp);
+        if self.is_void {
+            return Err(NoMemory);
         }
         self.waiting
             .compose(self.alloc, &mut self.ahead, self.count)?;
         let Some(count) = self.count.checked_add(1) else {
-            return Err(GivesUp);
+            return Err(NoMemory);
         };
         self.count = count;
         Ok(())
     }
 
-    /// Counts one event more, where what is composed is of no use.
+    /// Counts one event more, where what is composed no longer counts.
     #[inline(never)]
     fn count_on(&mut self) -> Result<(), Fault>
         ensures ok { IfOk result (λ _. CountsOn self.old self.new) }
@@ -102,12 +100,12 @@ impl<'s> Composing<'s> {
             return Err(Fault::OutOfMemory);
         };
         self.count = count;
-        self.gave_up = true;
+        self.is_void = true;
         Ok(())
     }
 
     /// Puts down a scalar without properties.
-    fn put_scalar(&mut self, style: Style, text: &str, offset: usize) -> Result<(), GivesUp>
+    fn put_scalar(&mut self, style: Style, text: &str, offset: usize) -> Result<(), NoMemory>
         ensures { IfOk result (λ _. Puts Composes self.old (scalar_event None untagged (style_of style) text.now ∷ []) self.new) }
     {
         self.make_room()?;
@@ -124,7 +122,7 @@ impl<'s> Composing<'s> {
         style: Style,
         text: &mut CowStr<'_>,
         offset: usize,
-    ) -> Result<(), GivesUp>
+    ) -> Result<(), NoMemory>
         ensures { IfOk result (λ _. Puts Composes self.old (scalar_event None untagged (style_of style) (cow_str_bytes text.old) ∷ []) self.new) }
     {
         self.make_room()?;
@@ -135,7 +133,7 @@ impl<'s> Composing<'s> {
     }
 
     /// Puts down an alias.
-    fn put_alias(&mut self, name: &str, offset: usize) -> Result<(), GivesUp>
+    fn put_alias(&mut self, name: &str, offset: usize) -> Result<(), NoMemory>
         ensures { IfOk result (λ _. Puts Composes self.old (alias_event name.now ∷ []) self.new) }
     {
         self.make_room()?;
@@ -151,7 +149,7 @@ impl<'s> Composing<'s> {
     }
 
     /// Puts down the start of a collection without properties.
-    fn put_start(&mut self, collection: Collection, flow: bool) -> Result<(), GivesUp>
+    fn put_start(&mut self, collection: Collection, flow: bool) -> Result<(), NoMemory>
         ensures { IfOk result (λ _. Puts Composes self.old (start_of collection flow ∷ []) self.new) }
     {
         let at = self.count;
@@ -171,7 +169,7 @@ impl<'s> Composing<'s> {
     }
 
     /// Puts down the end of a collection.
-    fn put_end(&mut self, collection: Collection) -> Result<(), GivesUp>
+    fn put_end(&mut self, collection: Collection) -> Result<(), NoMemory>
         ensures { IfOk result (λ _. Puts Composes self.old (end_of collection ∷ []) self.new) }
     {
         self.make_room()?;
@@ -180,7 +178,7 @@ impl<'s> Composing<'s> {
     }
 
     /// Puts down a document's start.
-    fn put_document(&mut self) -> Result<(), GivesUp>
+    fn put_document(&mut self) -> Result<(), NoMemory>
         ensures { IfOk result (λ _. (explicit : Bool) → Puts Composes self.old (document_start explicit ∷ []) self.new) }
     {
         self.make_room()?;
@@ -189,7 +187,7 @@ impl<'s> Composing<'s> {
     }
 
     /// Counts an event of which the composer is not told, behind what is composed.
-    fn pass(&mut self) -> Result<(), GivesUp>
+    fn pass(&mut self) -> Result<(), NoMemory>
         ensures room { IfOk result (λ _. MakesRoom self.old self.new) }
         ensures none { IfOk result (λ _. self.new.ahead.ended ≡ None) }
     {
@@ -199,7 +197,7 @@ impl<'s> Composing<'s> {
     }
 
     /// Puts down an event of those that a reader gives as a whole, whose text begins at this offset.
-    fn put(&mut self, event: &Event<'_>, at: usize) -> Result<(), GivesUp>
+    fn put(&mut self, event: &Event<'_>, at: usize) -> Result<(), NoMemory>
         ensures { IfOk result (λ _. Puts Composes self.old (event_of event.now ∷ []) self.new) }
     {
         match event {
@@ -220,19 +218,19 @@ impl<'s> Composing<'s> {
                 self.pass()?;
                 Ok(())
             }
-            _ => Err(GivesUp),
+            _ => Err(NoMemory),
         }
     }
 
     /// Puts a mapping's start before what was put down since a mark: the event that waits, or a collection that just ended.
-    fn put_before(&mut self, start: usize, flow: bool) -> Result<(), GivesUp>
+    fn put_before(&mut self, start: usize, flow: bool) -> Result<(), NoMemory>
         ensures { IfOk result (λ _. Alters Composes start (λ es. mapping_start flow None untagged ∷ es) self.old self.new) }
     {
-        if self.gave_up {
-            return Err(GivesUp);
+        if self.is_void {
+            return Err(NoMemory);
         }
         let Some(count) = self.count.checked_add(1) else {
-            return Err(GivesUp);
+            return Err(NoMemory);
         };
         if self.waiting.is_none() {
             self.ahead.precede(self.alloc, start, flow)?;
@@ -240,7 +238,7 @@ impl<'s> Composing<'s> {
             return Ok(());
         }
         if self.count.saturating_sub(start) != 1 {
-            return Err(GivesUp);
+            return Err(NoMemory);
         }
         self.waiting.precede(flow)?;
         self.count = count;
@@ -248,10 +246,10 @@ impl<'s> Composing<'s> {
     }
 
     /// Puts properties on the first event since a mark: on one that waits, or on that of the collection which ended or began last.
-    fn put_on(&mut self, start: usize, properties: &Properties<'_>) -> Result<(), GivesUp>
+    fn put_on(&mut self, start: usize, properties: &Properties<'_>) -> Result<(), NoMemory>
         ensures ok { IfOk result (λ _. DressesOne self.old start (props_of properties.now) self.new) }
         ensures count { self.new.count ≡ self.old.count }
-        ensures gave_up { self.new.gave_up ≡ self.old.gave_up }
+        ensures is_void { self.new.is_void ≡ self.old.is_void }
     {
         if start >= self.count {
             return Ok(());
@@ -270,13 +268,13 @@ impl<'s> Composing<'s> {
     }
 
     /// How many documents and nodes a whole stream has. The events of a second one may follow.
-    pub fn documents(&mut self) -> Result<StreamSize, Unmade>
+    pub fn documents(&mut self) -> Result<StreamSize, Fault>
         ensures count { (ds : List Document) → Composes self.old (stream_events ds) → IfOk result (UnfoldTo ds) }
         ensures keeps { IfOk result (λ _. Keeps Composes self.old self.new) }
-        ensures refused { (ds : List Document) → Composes self.old (stream_events ds) → IfErr result (RefusesForest ds) }
+        ensures refused { (ds : List Document) → Composes self.old (stream_events ds) → IfErr result (RefusesStream ds) }
     {
-        if self.gave_up {
-            return Err(Unmade::GivesUp);
+        if self.is_void {
+            return Err(Fault::OutOfMemory);
         }
         self.waiting
             .compose(self.alloc, &mut self.ahead, self.count)?;
@@ -286,10 +284,10 @@ impl<'s> Composing<'s> {
     }
 
     /// The nodes of a whole stream, or of two.
-    pub fn finish(self) -> Result<Forest<'s>, Unmade>
+    pub fn finish(self) -> Result<Forest<'s>, Fault>
         ensures forest { (ds : List Document) → Composes self.entry (stream_events ds) → IfOk result (IsForest ds) }
         ensures both { (ds es : List Document) → Composes self.entry (stream_events ds ++ stream_events es) → IfOk result (AreForests ds es) }
-        ensures refused { (ds : List Document) → Composes self.entry (stream_events ds) → IfErr result (RefusesForest ds) }
+        ensures refused { (ds : List Document) → Composes self.entry (stream_events ds) → IfErr result (RefusesStream ds) }
     {
         let Composing {
             alloc,
@@ -299,10 +297,10 @@ impl<'s> Composing<'s> {
             announced: _,
             above: _,
             count,
-            gave_up,
+            is_void,
         } = self;
-        if gave_up {
-            return Err(Unmade::GivesUp);
+        if is_void {
+            return Err(Fault::OutOfMemory);
         }
         waiting.compose(alloc, &mut ahead, count)?;
         ahead.finish()
@@ -323,7 +321,7 @@ impl Keeper for Composing<'_> {
 
     #[tactic(auto, using(crate::proofs::KeeperLaws::puts_counted))]
     fn push(&mut self, event: &Event<'_>, at: usize) -> Result<(), Fault> {
-        if self.gave_up {
+        if self.is_void {
             self.count_on()?;
             return Ok(());
         }
@@ -333,7 +331,7 @@ impl Keeper for Composing<'_> {
 
     #[tactic(auto, using(crate::proofs::KeeperLaws::puts_counted))]
     fn scalar(&mut self, style: Style, text: &mut CowStr<'_>, at: usize) -> Result<(), Fault> {
-        if self.gave_up {
+        if self.is_void {
             self.count_on()?;
             return Ok(());
         }
@@ -348,7 +346,7 @@ impl Keeper for Composing<'_> {
 
     #[tactic(auto, using(crate::proofs::KeeperLaws::puts_counted))]
     fn begin(&mut self, collection: Collection, flow: bool, _at: usize) -> Result<(), Fault> {
-        if self.gave_up {
+        if self.is_void {
             self.count_on()?;
             return Ok(());
         }
@@ -358,7 +356,7 @@ impl Keeper for Composing<'_> {
 
     #[tactic(auto, using(crate::proofs::KeeperLaws::puts_counted))]
     fn end(&mut self, collection: Collection, _at: usize) -> Result<(), Fault> {
-        if self.gave_up {
+        if self.is_void {
             self.count_on()?;
             return Ok(());
         }
@@ -368,7 +366,7 @@ impl Keeper for Composing<'_> {
 
     #[tactic(auto, using(crate::proofs::KeeperLaws::inserts_counted))]
     fn insert(&mut self, start: usize, flow: bool, _at: usize) -> Result<(), Fault> {
-        if self.gave_up {
+        if self.is_void {
             self.count_on()?;
             return Ok(());
         }
@@ -379,19 +377,19 @@ impl Keeper for Composing<'_> {
     fn announce(&mut self, own: &Properties<'_>) {
         match self.waiting.copy_of(self.alloc, self.lent, own) {
             Ok(copy) => self.above = mem::replace(&mut self.announced, Some(copy)),
-            Err(_) => self.gave_up = true,
+            Err(_) => self.is_void = true,
         }
     }
 
     fn dress(&mut self, start: usize, properties: &Properties<'_>) {
         let Ok(_) = self.put_on(start, properties) else {
-            self.gave_up = true;
+            self.is_void = true;
             return;
         };
     }
 
     fn cut(&mut self, start: usize) {
-        self.gave_up = true;
+        self.is_void = true;
         self.count = self.count.min(start);
     }
 }

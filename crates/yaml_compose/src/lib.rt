@@ -1,4 +1,4 @@
-//! The streaming composer: from a reader's events to nodes of the store, as they are read. It may fall back to the graph.
+//! The streaming composer: from a reader's events to nodes of the store, as they are read.
 #![tactic(auto)]
 
 mod ahead;
@@ -14,10 +14,8 @@ mod size;
 mod stop;
 mod tag;
 mod too_high;
-mod unmade;
 mod waiting;
 
 pub use composer::Forest;
 pub use keeper::Composing;
 pub use size::StreamSize;
-pub use unmade::Unmade;

@@ -5,7 +5,7 @@ ghost use Rattle.yaml_content.specs.CoreAnswer.{RefusesScalar};
 ghost use Rattle.yaml_compose.specs.Refusals.{fault_of, Blames, IsRefusal};
 
 use std::alloc::AllocFailed;
-use yaml_compact::gives_up::GivesUp;
+use yaml_compact::no_memory::NoMemory;
 use yaml_content::CoreFault;
 use yaml_text::fault::Fault;
 
@@ -25,8 +25,8 @@ pub(crate) enum Cause {
 pub(crate) enum Stop {
     /// Its node has no tree.
     Refused(Cause),
-    /// The composer goes no further.
-    GivesUp,
+    /// Memory is refused, or a number does not fit.
+    NoMemory,
 }
 
 /// An event whose node has no tree.
@@ -54,34 +54,34 @@ impl Refusal {
 }
 
 impl Stop {
-    /// The event of this number is refused, unless the composer gives up.
-    pub(crate) fn refusal(self, at: usize) -> Result<Refusal, GivesUp>
+    /// The event of this number is refused, unless memory is.
+    pub(crate) fn refusal(self, at: usize) -> Result<Refusal, NoMemory>
         ensures { IfOk result (IsRefusal self at) }
     {
         match self {
             Stop::Refused(cause) => Ok(Refusal { cause, at }),
-            Stop::GivesUp => Err(GivesUp),
+            Stop::NoMemory => Err(NoMemory),
         }
     }
 }
 
-impl From<GivesUp> for Stop {
-    ghost use Rattle.yaml_compose.specs.declared.stop.Stop.TheVariants.{GivesUp};
+impl From<NoMemory> for Stop {
+    ghost use Rattle.yaml_compose.specs.declared.stop.Stop.TheVariants.{NoMemory};
 
-    ghost from_gives = { λ _ stop. stop ≡ GivesUp };
+    ghost from_gives = { λ _ stop. stop ≡ NoMemory };
 
-    fn from(_gives_up: GivesUp) -> Stop {
-        Stop::GivesUp
+    fn from(_no_memory: NoMemory) -> Stop {
+        Stop::NoMemory
     }
 }
 
 impl<T: Drop> From<AllocFailed<T>> for Stop {
-    ghost use Rattle.yaml_compose.specs.declared.stop.Stop.TheVariants.{GivesUp};
+    ghost use Rattle.yaml_compose.specs.declared.stop.Stop.TheVariants.{NoMemory};
 
-    ghost from_gives = { λ _ stop. stop ≡ GivesUp };
+    ghost from_gives = { λ _ stop. stop ≡ NoMemory };
 
     fn from(_error: AllocFailed<T>) -> Stop {
-        Stop::GivesUp
+        Stop::NoMemory
     }
 }
 
@@ -94,7 +94,7 @@ impl From<CoreFault> for Stop {
             CoreFault::BadContent => Stop::Refused(Cause::BadContent),
             CoreFault::IntRange => Stop::Refused(Cause::IntRange),
             CoreFault::FloatRange => Stop::Refused(Cause::FloatRange),
-            CoreFault::OutOfMemory => Stop::GivesUp,
+            CoreFault::OutOfMemory => Stop::NoMemory,
         }
     }
 }

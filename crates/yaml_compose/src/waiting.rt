@@ -11,7 +11,7 @@ use crate::copies::{copy_over, fill, keep};
 use std::alloc::Global;
 use std::borrow::CowStr;
 use std::mem;
-use yaml_compact::gives_up::GivesUp;
+use yaml_compact::no_memory::NoMemory;
 use yaml_sink::properties::Properties;
 use yaml_sink::sink::Collection;
 use yaml_text::event::Style;
@@ -85,7 +85,7 @@ impl<'s> Waiting<'s> {
         late: Late,
         text: &str,
         offset: usize,
-    ) -> Result<(), GivesUp>
+    ) -> Result<(), NoMemory>
         ensures { IfOk result (λ _. waits self.new ≡ late_event late no_props text.now) }
     {
         fill(alloc, &mut self.text, text)?;
@@ -105,7 +105,7 @@ impl<'s> Waiting<'s> {
         late: Late,
         text: &mut CowStr<'_>,
         offset: usize,
-    ) -> Result<(), GivesUp>
+    ) -> Result<(), NoMemory>
         ensures { IfOk result (λ _. waits self.new ≡ late_event late no_props (cow_str_bytes text.old)) }
     {
         let kept = keep(alloc, lent, offset, text)?;
@@ -115,14 +115,14 @@ impl<'s> Waiting<'s> {
     }
 
     /// A mapping's start without properties waits before the event, where none does yet.
-    pub(crate) fn precede(&mut self, flow: bool) -> Result<(), GivesUp>
+    pub(crate) fn precede(&mut self, flow: bool) -> Result<(), NoMemory>
         ensures { IfOk result (λ _. Precedes flow (waits self.old) (waits self.new)) }
     {
         if self.is_none() {
-            return Err(GivesUp);
+            return Err(NoMemory);
         }
         let None = self.mapping else {
-            return Err(GivesUp);
+            return Err(NoMemory);
         };
         self.mapping = Some(flow);
         self.outer = Properties::none();
@@ -152,7 +152,7 @@ impl<'s> Waiting<'s> {
         alloc: Global,
         lent: &'s str,
         properties: &Properties<'_>,
-    ) -> Result<Properties<'s>, GivesUp>
+    ) -> Result<Properties<'s>, NoMemory>
         ensures copy { IfOk result (λ copy. props_of copy ≡ props_of properties.now) }
         ensures waits { waits self.new ≡ waits self.old }
     {
@@ -164,21 +164,21 @@ impl<'s> Waiting<'s> {
     }
 
     /// Puts properties on the first of the last so many events, which wait.
-    pub(crate) fn dress(&mut self, count: usize, properties: Properties<'s>) -> Result<(), GivesUp>
+    pub(crate) fn dress(&mut self, count: usize, properties: Properties<'s>) -> Result<(), NoMemory>
         ensures { IfOk result (λ _. DressesWaits count (props_of properties.entry) (waits self.old) (waits self.new)) }
     {
         if self.is_none() {
-            return Err(GivesUp);
+            return Err(NoMemory);
         }
         if count == 1 {
             self.own = properties;
             return Ok(());
         }
         if count != 2 {
-            return Err(GivesUp);
+            return Err(NoMemory);
         }
         let Some(_) = self.mapping else {
-            return Err(GivesUp);
+            return Err(NoMemory);
         };
         self.outer = properties;
         Ok(())
@@ -190,14 +190,14 @@ impl<'s> Waiting<'s> {
         alloc: Global,
         ahead: &mut Ahead<'s>,
         number: usize,
-    ) -> Result<(), GivesUp>
+    ) -> Result<(), NoMemory>
         ensures { IfOk result (λ _. ComposesWaits number (start_before self.now.mapping (props_of self.now.outer)) ahead.old ahead.new) }
     {
         let Some(_) = self.mapping else {
             return Ok(());
         };
         let Some(at) = number.checked_sub(1) else {
-            return Err(GivesUp);
+            return Err(NoMemory);
         };
         ahead.begin(alloc, Collection::Mapping, at, &self.outer)?;
         Ok(())
@@ -209,7 +209,7 @@ impl<'s> Waiting<'s> {
         alloc: Global,
         ahead: &mut Ahead<'s>,
         number: usize,
-    ) -> Result<(), GivesUp>
+    ) -> Result<(), NoMemory>
         ensures { IfOk result (λ _. PutsLate number (late_event self.old.late (props_of self.old.own) (cow_str_bytes self.old.text)) ahead.old ahead.new) }
     {
         match self.late {
@@ -235,7 +235,7 @@ impl<'s> Waiting<'s> {
         alloc: Global,
         ahead: &mut Ahead<'s>,
         count: usize,
-    ) -> Result<(), GivesUp>
+    ) -> Result<(), NoMemory>
         ensures composes { IfOk result (λ _. ComposesWaits count (waits self.old) ahead.old ahead.new) }
         ensures none { IfOk result (λ _. waits self.new ≡ []) }
     {
@@ -243,7 +243,7 @@ impl<'s> Waiting<'s> {
             return Ok(());
         }
         let Some(number) = count.checked_sub(1) else {
-            return Err(GivesUp);
+            return Err(NoMemory);
         };
         self.compose_start(alloc, ahead, number)?;
         self.compose_late(alloc, ahead, number)?;

@@ -8,49 +8,20 @@ use Rattle.yaml_definitions.specs.model.Tree.{Tree, scalar, height}
 use Rattle.yaml_definitions.specs.model.Same.{Keyed, Alike}
 use Rattle.yaml_text.specs.declared.fault.Fault.{Fault}
 use Rattle.yaml_nodes.specs.GraphView.{nodes_of, roots_of, graph_trees, tree, forest}
-use Rattle.yaml_nodes.specs.JoinModel.{Joined}
 use Rattle.yaml_nodes.proofs.GraphLaws.{trees-length}
 use Rattle.yaml_nodes.specs.declared.node.NodeId.{NodeId}
 use Rattle.yaml_nodes.specs.declared.graph.Graph.{Graph}
-use Rattle.yaml_levels.specs.RanksView.{RanksAre}
-use Rattle.yaml_canon.specs.Claims.{AllOf, HasGraph}
+use Rattle.yaml_canon.specs.Claims.{AllOf}
 use Rattle.yaml_canon.specs.Comparing.{Compares}
-use Rattle.yaml_canon.proofs.ClaimLaws.{means, all_roots, means_alone}
-use Rattle.yaml_canon.proofs.CompareLaws.{lefts, rights}
+use Rattle.yaml_canon.proofs.ClaimLaws.{all_roots, means_alone}
 use Rattle.yaml_review_text.specs.declared.both.Both.{Both}
 use Rattle.yaml_review_command.specs.Sides.{BothAre}
-
--- ---- what an answer was
-
-pub answer_ok : {A : Type 0} (P : A → Type 0) (r : Result A Fault) (x : A) → r ≡ Ok x → IfOk r P → P x
-answer_ok P r x e h = subst (λ z. IfOk z P) e h
 
 -- ---- two lists in one
 
 all-apart : (P : Tree → Type 0) (ts us : List Tree) → AllOf P (ts ++ us) → AllOf P ts × AllOf P us
 all-apart P [] us h = (tt, h)
 all-apart P (t ∷ ts) us h = let k = all-apart P ts us h.1 in ((h.0, k.0), k.1)
-
--- ---- two graphs in one
-
-pub joined-roots : (a b both : Graph) → Joined a b both → forest both ≡ forest a ++ forest b
-joined-roots a b both j =
-    let f : NodeId → Tree = λ i. tree both i.0 in
-    let m = length (roots_of a) in
-    let l = lefts a b both j m refl in
-    let r = rights a b both j m refl in
-    ap (map f) (sym (take-append-drop m (roots_of both))) ∙ map-append f (take m (roots_of both)) (drop m (roots_of both)) ∙ (λ z. l z ++ r z)
-
-pub both-are : (left right : List ℕ) (a b : Graph) (both : Both) → HasGraph left a → HasGraph right b → Joined a b both.graph → both.documents ≡ length (roots_of a) → RanksAre both.graph both.ranks → BothAre left right both
-both-are left right a b both h k j m ranked = record {
-  lefts = forest a;
-  rights = forest b;
-  left_means = means left h.documents a h.read h.composed;
-  right_means = means right k.documents b k.read k.composed;
-  roots = joined-roots a b both.graph j;
-  middle = m ∙ sym (length-map (roots_of a) (λ i. tree a i.0));
-  ranked = ranked;
-}
 
 -- ---- what both sides mean
 

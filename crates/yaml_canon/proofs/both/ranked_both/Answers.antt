@@ -1,5 +1,4 @@
-use Rattle.std.proofs.Common.{◌++◌, sym, subst}
-use Rattle.yaml_canon.specs.NoForests.{TellsWhyNeither}
+use Rattle.std.proofs.Common.{◌++◌}
 use Rattle.yaml_canon.proofs.SideLaws.{both-unranked}
 use Rattle.yaml_canon.proofs.both.ranked_both.Goals as goal
 
@@ -14,5 +13,4 @@ returns-in-Ok-clause-both c =
 pub returns-in-Err-clause-why : goal.returns-in-Err-clause-why
 returns-in-Err-clause-why c =
     let h = c.in_ok-forest.ensures.both.read in
-    let told = both-unranked c.args.left.now c.args.right.now h.first h.second _ c.in-Err.why h.first_read h.second_read h.size (c.in-Err.ensures.err_both h.first h.second h.forests) in
-    subst (TellsWhyNeither c.args.left.now c.args.right.now) (sym c.unranked.ensures) told
+    both-unranked c.args.left.now c.args.right.now h.first h.second _ c.in-Err.fault c.with_side.result h.first_read h.second_read h.size (c.in-Err.ensures.err_both h.first h.second h.forests) c.with_side.ensures

@@ -1,8 +1,8 @@
-use Rattle.std.proofs.Common.{rules, subst}
-use Rattle.yaml_definitions.specs.model.Means.{Means}
-use Rattle.yaml_compact.specs.StoreGrows.{trees_of}
-use Rattle.yaml_canon.proofs.ForestLaws.{roots-are}
-use Rattle.yaml_canon.proofs.KeyLaws.{not-ranked}
+use Rattle.std.proofs.Common.{rules}
+use Rattle.yaml_spell.proofs.PieceLaws.{if_err}
+use Rattle.yaml_canon.proofs.RootRanks.{has-ranks}
+use Rattle.yaml_canon.proofs.RefusedLaws.{no-forest, not-ranked}
+use Rattle.yaml_canon.proofs.TargetLaws.{if_is}
 use Rattle.yaml_canon.proofs.ranks.ranked_forest.Goals as goal
 
 pub ranked_roots-requires : goal.ranked_roots-requires
@@ -10,20 +10,15 @@ ranked_roots-requires c = let h = c.in_ok-forest.ensures.forest.forest in (h.tre
 
 pub returns-clause-ranks : goal.returns-clause-ranks
 returns-clause-ranks c =
-    let f = c.in_ok-forest.forest in
-    let h = c.in_ok-forest.ensures.forest.forest in
-    let r = c.in_ok-ranked.ensures.ok h.trees_are (record { good = h.good; level = h.level; roots = h.roots }) in
-    record {
-      trees = h.trees_are;
-      means = subst (Means c.args.bytes.now) (roots-are (trees_of f.store) f.roots.items h.trees_are h.roots) c.in_ok-forest.ensures.means;
-      low = h.low;
-      keyed = r.keyed;
-      rooted = r.rooted;
-      arranged = r.arranged;
-    }
-
-pub returns-in_err-ranked-clause-why : goal.returns-in_err-ranked-clause-why
-returns-in_err-ranked-clause-why c =
     let h = c.in_ok-forest.ensures.forest in
-    let w = not-ranked c.args.bytes.now h.documents c.in_err-ranked.field-0.0 h.read (c.in_err-ranked.ensures.err h.documents h.forest) in
+    if_is c.ranked_roots.result (c.ranked_roots.ensures.ok h.forest.trees_are (record { good = h.forest.good; level = h.forest.level; roots = h.forest.roots })) (λ ranked r. has-ranks c.args.bytes.now c.in_ok-forest.forest h c.in_ok-forest.ensures.means ranked r)
+
+pub returns-clause-why : goal.returns-clause-why
+returns-clause-why c =
+    let h = c.in_ok-forest.ensures.forest in
+    if_err c.ranked_roots.result (c.ranked_roots.ensures.err h.documents h.forest) (λ fault r. not-ranked c.args.bytes.now h.documents fault (record { reads = h.read }) r)
+
+pub returns-in_err-forest-clause-why : goal.returns-in_err-forest-clause-why
+returns-in_err-forest-clause-why c =
+    let w = no-forest c.args.bytes.now c.in_err-forest.field-0.0 c.in_err-forest.ensures.why in
     search (rules, w)

@@ -3,7 +3,7 @@ use Rattle.std.specs.List.{All}
 use Rattle.std.specs.Vec.{with_items}
 use Rattle.std.proofs.lemmas.List.{with_items_is, length-map}
 use Rattle.yaml_compact.specs.Walked.{ranks_of, RanksTaken}
-use Rattle.yaml_canon.specs.NoRanks.{IsInStream}
+use Rattle.yaml_canon.specs.RefusedRanks.{IsInStream}
 use Rattle.yaml_canon.proofs.KeyLaws.{in-stream, in-both}
 use Rattle.yaml_canon.proofs.RootRanks.{roots-ranked, ranks-of-roots}
 use Rattle.yaml_canon.proofs.ranks.ranked_roots.Goals as goal
@@ -28,11 +28,11 @@ returns-in-Ok-clause-ok c = λ ts h.
 pub returns-clause-err : goal.returns-clause-err
 returns-clause-err c = λ ds is.
     let f = c.args.forest in
-    let told = subst (λ firsts. IsInStream firsts c.in-Err.unranked c.in_stream.result) c.deref.ensures.value c.in_stream.ensures in
-    in-stream ds f is c.in-Err.unranked c.in_stream.result told (c.in-Err.ensures.err is.good)
+    let told = subst (λ firsts. IsInStream firsts c.in-Err.fault c.in_stream.result) c.deref.ensures.value c.in_stream.ensures in
+    in-stream ds f is c.in-Err.fault c.in_stream.result told (c.in-Err.ensures.err is.good)
 
 pub returns-clause-err_both : goal.returns-clause-err_both
 returns-clause-err_both c = λ ds es is.
     let f = c.args.forest in
-    let told = subst (λ firsts. IsInStream firsts c.in-Err.unranked c.in_stream.result) c.deref.ensures.value c.in_stream.ensures in
-    in-both ds es f is c.in-Err.unranked c.in_stream.result told (c.in-Err.ensures.err is.good)
+    let told = subst (λ firsts. IsInStream firsts c.in-Err.fault c.in_stream.result) c.deref.ensures.value c.in_stream.ensures in
+    in-both ds es f is c.in-Err.fault c.in_stream.result told (c.in-Err.ensures.err is.good)

@@ -1,7 +1,7 @@
 use Rattle.std.proofs.Common.{ℕ, Vec, Global, length, ◌∙◌, ap, subst, refl, rules}
 use Rattle.yaml_compact.specs.TextModel.{border, AllWhole}
 use Rattle.yaml_compact.specs.StoreView.{view_of}
-use Rattle.yaml_compact.specs.Unranked.{RefusesStore}
+use Rattle.yaml_compact.specs.Refused.{RefusesStore}
 use Rattle.yaml_compact.proofs.StoreOf.{stored-as, listed-as}
 use Rattle.yaml_compact.proofs.ranking.compact_rank.Goals as goal
 

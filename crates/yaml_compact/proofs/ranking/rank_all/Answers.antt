@@ -8,7 +8,7 @@ use Rattle.yaml_compact.specs.StoreModel.{height_at}
 use Rattle.yaml_compact.specs.TextModel.{text_of}
 use Rattle.yaml_compact.specs.PartsModel.{LevelBelow, LevelSettled, RefusesLevel}
 use Rattle.yaml_compact.specs.LevelModel.{LevelFits, LevelNumbered}
-use Rattle.yaml_compact.specs.Unranked.{RefusesView}
+use Rattle.yaml_compact.specs.Refused.{RefusesView}
 use Rattle.yaml_compact.proofs.Repeating.{level-refused}
 use Rattle.yaml_compact.proofs.SlotLaws.{slots-within, level-numbered}
 use Rattle.yaml_compact.proofs.Standing.{Standing, level-numbers, level-rising, level-below, level-fits, settled-within, standing-more, standing-done, levels-end}
@@ -234,7 +234,7 @@ returns-in_err-settle-clause-err c = λ v store.
     let level = c.deref-in-loop-level.result.now in
     let is : level ≡ level_of ls i = c.deref-in-loop-level.ensures.value ∙ (ap (λ z. z.items) c.level-item.is ∙ level-there ls i c.level-item.result c.loop-level-test.true) in
     let ranks = c.loop-level.ranks.items in
-    let unranked = c.in_err-settle.field-0.0 in
-    let refused = subst (λ z. RefusesLevel (slice_index z) nodes level c.loop-level.items c.loop-level.entries unranked) c.deref.ensures.value c.in_err-settle.ensures.err in
-    let told : RefusesView v unranked = level-refused v nodes text olds pairs places store ls are i level is c.loop-level.items c.loop-level.entries ranks c.loop-level.first.items (c.loop-level.invariant.1 v store) unranked refused in
+    let fault = c.in_err-settle.field-0.0 in
+    let refused = subst (λ z. RefusesLevel (slice_index z) nodes level c.loop-level.items c.loop-level.entries fault) c.deref.ensures.value c.in_err-settle.ensures.err in
+    let told : RefusesView v fault = level-refused v nodes text olds pairs places store ls are i level is c.loop-level.items c.loop-level.entries ranks c.loop-level.first.items (c.loop-level.invariant.1 v store) fault refused in
     search (rules, told)

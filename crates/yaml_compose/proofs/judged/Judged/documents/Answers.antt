@@ -1,8 +1,7 @@
 use Rattle.std.proofs.Common.{sym, subst}
-use Rattle.yaml_compose.specs.Refusals.{RefusesForest}
-use Rattle.yaml_compose.specs.declared.unmade.Unmade.TheVariants.{Refused}
+use Rattle.yaml_graph.specs.Composed.{RefusesStream}
 use Rattle.yaml_compose.proofs.JudgedLaws.{refuses}
 use Rattle.yaml_compose.proofs.judged.Judged.documents.Goals as goal
 
 pub returns-in-Some-clause-refused : goal.returns-in-Some-clause-refused
-returns-in-Some-clause-refused c = λ ds h. subst (λ f. RefusesForest ds (Refused f)) (sym c.fault.ensures) (refuses c.args.self.now c.in-Some.refusal ds c.in-Some.is h)
+returns-in-Some-clause-refused c = λ ds h. subst (RefusesStream ds) (sym c.fault.ensures) (refuses c.args.self.now c.in-Some.refusal ds c.in-Some.is h)

@@ -1,9 +1,9 @@
 -- Which keys of a store are equal.
 use Rattle.std.specs.Prelude.{◌≡◌, ◌⊎◌, ℕ, ◌<◌, ◌≤◌}
+use Rattle.yaml_text.specs.declared.fault.Fault.{Fault}
+use Rattle.yaml_text.specs.declared.fault.Fault.TheVariants.{EqualKeys, OutOfMemory}
 use Rattle.yaml_levels.specs.View.{View, Repeats, IsFirst}
 use Rattle.yaml_compact.specs.declared.store.Store.{Store}
-use Rattle.yaml_compact.specs.declared.unranked.Unranked.{Unranked}
-use Rattle.yaml_compact.specs.declared.unranked.Unranked.TheVariants.{EqualKeys, GivesUp}
 use Rattle.yaml_compact.specs.StoreGrows.{Good}
 use Rattle.yaml_compact.specs.StoreView.{view_of}
 
@@ -12,11 +12,12 @@ pub record FirstRepeats (v : View) (node first second : ℕ) : Type 0 where
   pub is : Repeats v node first second
   pub before : (f s : ℕ) → Repeats v node f s → (second < s) ⊎ ((second ≡ s) × (first ≤ f))
 
--- The mapping of least height, then of least number, with two equal keys, and its first two. Where it gives up, nothing is told.
-abbrev pub RefusesView : View → Unranked → Type 0
-RefusesView v (EqualKeys e) = FirstRepeats v e.node e.first e.second × IsFirst v e.node
-RefusesView v GivesUp = Unit {0}
+-- The mapping of least height, then of least number, with two equal keys, and its first two. Memory may be refused at any time.
+abbrev pub RefusesView : View → Fault → Type 0
+RefusesView v (EqualKeys node first second) = FirstRepeats v node first second × IsFirst v node
+RefusesView v OutOfMemory = Unit {0}
+RefusesView v _ = ⊥
 
 -- the same, of the nodes of a store
-abbrev pub RefusesStore : (s : Store) → Good s → Unranked → Type 0
+abbrev pub RefusesStore : (s : Store) → Good s → Fault → Type 0
 RefusesStore s good = RefusesView (view_of s good)
