@@ -1,6 +1,6 @@
 -- What is told of two streams as text.
 use Rattle.std.specs.Prelude.{◌≡◌, ◌⊎◌, ◌==◌, ◌&&◌, ℕ, zero, suc, Bool, false, not, cond, nat_le, take, drop, length, List, [], ◌∷◌, ◌++◌, Option, Some, None, codes, string_bytes}
-use Rattle.yaml_definitions.specs.model.Tree.{Tree, scalar}
+use Rattle.yaml_definitions.specs.model.Tree.{scalar}
 use Rattle.yaml_scalar.specs.Spelling.{quoted_bytes}
 use Rattle.yaml_nodes.specs.GraphView.{roots_of, tree}
 use Rattle.yaml_nodes.specs.declared.node.NodeId.{NodeId}

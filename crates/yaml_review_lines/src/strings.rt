@@ -62,7 +62,6 @@ struct Scalar<'b> {
 }
 
 /// The scalar of this number, if it is one.
-#[tactic(auto, using(crate::proofs::StringLaws::scalar_at))]
 fn scalar_of<'b>(both: &'b Both<'_>, id: Option<NodeId>) -> Option<Scalar<'b>>
     ensures { IfSome result (λ s. IsScalar both.now.graph id s.tag.now s.content.now) }
 {
