@@ -28,6 +28,8 @@ mod shown;
 #[cfg(test)]
 mod slips;
 #[cfg(test)]
+mod strings;
+#[cfg(test)]
 mod sum;
 #[cfg(test)]
 mod tag_places;

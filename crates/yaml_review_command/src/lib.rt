@@ -6,6 +6,7 @@ mod both;
 pub mod command;
 pub mod diff;
 mod files;
+mod folders;
 mod git;
 mod host;
 mod rejected;

@@ -3,7 +3,10 @@
 
 pub mod diff;
 pub mod faults;
+pub mod lines;
 pub mod no_json;
+mod stat;
+mod strings;
 pub mod warn;
 
 pub use diff::{Compared, compare};

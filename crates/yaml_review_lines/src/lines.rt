@@ -1,14 +1,23 @@
 //! The lines of a comparison.
-ghost use Rattle.std.specs.Prelude.{◌≡◌, ◌++◌, unwrap_or, option_map, [], string_bytes, OnOk};
+ghost use Rattle.std.specs.Prelude.{◌≡◌, ◌++◌, cond, unwrap_or, option_map, [], string_bytes, OnOk};
 ghost use Rattle.yaml_review_text.specs.Hidden.{visible};
-ghost use Rattle.yaml_review_text.specs.Lines.{column, place_text, more_text};
+ghost use Rattle.yaml_review_lines.specs.Lines.{column, place_text, more_text};
 
-use crate::hidden::put_visible;
-use crate::json::{Said, put_object, text_of};
 use std::alloc::Global;
 use yaml_place::Place;
-use yaml_review_words::Form;
+use yaml_review_text::json::{Said, put_object, text_of};
+use yaml_review_text::put_visible;
+use yaml_review_words::{Diff, Form};
 use yaml_text::fault::Fault;
+
+/// The changed lines of two strings.
+#[derive(Drop)]
+pub struct Changes {
+    /// How many lines there are, how many are changed, and where.
+    pub summary: String,
+    /// The changed lines, each behind a tab and its sign.
+    pub text: String,
+}
 
 /// One difference as it is told.
 #[derive(Drop)]
@@ -20,15 +29,20 @@ pub struct Line {
     /// The places of the two nodes, where they are told.
     pub left_place: Option<Place>,
     pub right_place: Option<Place>,
+    /// The changed lines, where both nodes are strings and one of them has a line feed.
+    pub changes: Option<Changes>,
 }
 
 /// What stands behind lines that are not all.
 const MORE: &str = "...\n";
 
+/// What turns the colour of a terminal off.
+const PLAIN: &str = "\u{1b}[0m";
+
 impl Line {
     ghost use Rattle.std.specs.Prelude.{◌≡◌, ◌++◌, [], cond, codes, string_bytes, OnOk};
     ghost use Rattle.serde_json.specs.Written.{compact_text};
-    ghost use Rattle.yaml_review_text.specs.Lines.{sign, kind, column, place_text, columns, line_data, line_text};
+    ghost use Rattle.yaml_review_lines.specs.Lines.{sign, kind, color_text, plain_text, values, below, places_text, columns, line_data, line_text};
 
     /// What the two sides have at the path: other things, or one of them nothing.
     fn sign(&self) -> &'static str
@@ -51,9 +65,33 @@ impl Line {
         }
     }
 
+    /// What turns a colour on: yellow, red or green.
+    fn color(&self) -> &'static str
+        ensures { result.now ≡ color_text self.now }
+    {
+        match (self.left.is_some(), self.right.is_some()) {
+            (true, true) => "\u{1b}[33m",
+            (true, false) => "\u{1b}[31m",
+            _ => "\u{1b}[32m",
+        }
+    }
+
+    /// Both texts or, of strings whose changed lines are printed below, what is said of these.
+    fn put_values(&self, out: &mut String) -> Result<(), Fault>
+        ensures { OnOk result (string_bytes out.new ≡ string_bytes out.old ++ values self.now.changes self.now) }
+    {
+        match &self.changes {
+            Some(changes) => put_column(out, Some(changes.summary.as_str())),
+            None => {
+                put_column(out, text_of(&self.left))?;
+                put_column(out, text_of(&self.right))
+            }
+        }
+    }
+
     /// The places' columns, if they are told.
     fn put_places(&self, out: &mut String, places: bool) -> Result<(), Fault>
-        ensures { OnOk result (string_bytes out.new ≡ string_bytes out.old ++ cond places (column (place_text self.now.left_place) ++ column (place_text self.now.right_place)) []) }
+        ensures { OnOk result (string_bytes out.new ≡ string_bytes out.old ++ places_text places self.now) }
     {
         if places {
             put_place(out, self.left_place)?;
@@ -62,16 +100,28 @@ impl Line {
         Ok(())
     }
 
-    /// Columns ended by tabs: sign, path, left and right, and behind these the places if they are told.
-    fn put_columns(&self, out: &mut String, places: bool) -> Result<(), Fault>
-        ensures { OnOk result (string_bytes out.new ≡ string_bytes out.old ++ columns places self.now) }
+    /// The changed lines, where they are printed.
+    fn put_below(&self, out: &mut String) -> Result<(), Fault>
+        ensures { OnOk result (string_bytes out.new ≡ string_bytes out.old ++ below self.now.changes) }
     {
+        match &self.changes {
+            Some(changes) => put_visible(out, &changes.text),
+            None => Ok(()),
+        }
+    }
+
+    /// Columns parted by tabs: sign, path, what the sides have, and behind these the places if they are told; and the lines below.
+    fn put_columns(&self, out: &mut String, places: bool, color: bool) -> Result<(), Fault>
+        ensures { OnOk result (string_bytes out.new ≡ string_bytes out.old ++ columns places color self.now) }
+    {
+        put_if(out, color, self.color())?;
         out.push_str(self.sign())?;
         put_column(out, Some(self.path.as_str()))?;
-        put_column(out, text_of(&self.left))?;
-        put_column(out, text_of(&self.right))?;
+        self.put_values(out)?;
         self.put_places(out, places)?;
+        put_if(out, color, PLAIN)?;
         out.push('\n')?;
+        self.put_below(out)?;
         Ok(())
     }
 
@@ -91,17 +141,11 @@ impl Line {
     }
 
     /// Writes the line in the form that is asked for.
-    pub fn put(
-        &self,
-        alloc: Global,
-        out: &mut String,
-        form: Form,
-        places: bool,
-    ) -> Result<(), Fault>
-        ensures { OnOk result (string_bytes out.new ≡ string_bytes out.old ++ line_text form places self.now) }
+    pub fn put(&self, alloc: Global, out: &mut String, asked: &Diff<'_>) -> Result<(), Fault>
+        ensures { OnOk result (string_bytes out.new ≡ string_bytes out.old ++ line_text asked.now self.now) }
     {
-        match form {
-            Form::Line => self.put_columns(out, places),
+        match asked.form {
+            Form::Line => self.put_columns(out, asked.places, asked.color),
             Form::Json => self.put_json(alloc, out),
         }
     }
@@ -114,6 +158,16 @@ pub fn put_more(out: &mut String, form: Form) -> Result<(), Fault>
     match form {
         Form::Line => out.push_str(MORE)?,
         Form::Json => out.push_str("{\"kind\":\"more\"}\n")?,
+    }
+    Ok(())
+}
+
+/// A text, if it is asked for.
+fn put_if(out: &mut String, is_asked: bool, text: &str) -> Result<(), Fault>
+    ensures { OnOk result (string_bytes out.new ≡ string_bytes out.old ++ cond is_asked text.now []) }
+{
+    if is_asked {
+        out.push_str(text)?;
     }
     Ok(())
 }

@@ -7,9 +7,11 @@ use Rattle.serde_json.specs.Written.{compact_text}
 use Rattle.yaml_place.specs.declared.place.Place.{Place}
 use Rattle.yaml_review_words.specs.declared.words.Form.{Form}
 use Rattle.yaml_review_words.specs.declared.words.Form.TheVariants as form
+use Rattle.yaml_review_words.specs.declared.words.Diff.{Diff}
 use Rattle.yaml_review_text.specs.Hidden.{visible}
 use Rattle.yaml_review_text.specs.Objects.{text_data, place_data}
-use Rattle.yaml_review_text.specs.declared.lines.Line.{Line}
+use Rattle.yaml_review_lines.specs.declared.lines.Changes.{Changes}
+use Rattle.yaml_review_lines.specs.declared.lines.Line.{Line}
 
 abbrev pub Text : Type 0
 Text = Option (String Global)
@@ -35,11 +37,31 @@ place_text (Some p) = decimal p.line ++ (codes ":" ++ decimal p.column)
 abbrev pub column : List ℕ → List ℕ
 column text = codes "\t" ++ text
 
--- Sign, path, left and right, parted by tabs, and behind these the places if they are told. A character that a terminal would not show is written as its escape.
-abbrev pub columns : Bool → Line → List ℕ
-columns places l =
-    sign l ++ (column (visible (string_bytes l.path)) ++ (column (visible (text_or_none l.left)) ++ (column (visible (text_or_none l.right))
-    ++ (cond places (column (place_text l.left_place) ++ column (place_text l.right_place)) [] ++ codes "\n"))))
+-- what the sides have: both texts or, of strings whose changed lines are printed below, how many lines there are and which are changed
+abbrev pub values : Option Changes → Line → List ℕ
+values None l = column (visible (text_or_none l.left)) ++ column (visible (text_or_none l.right))
+values (Some c) l = column (visible (string_bytes c.summary))
+
+abbrev pub below : Option Changes → List ℕ
+below None = []
+below (Some c) = visible (string_bytes c.text)
+
+abbrev pub places_text : Bool → Line → List ℕ
+places_text places l = cond places (column (place_text l.left_place) ++ column (place_text l.right_place)) []
+
+-- what turns the colour of a terminal on: red for what the left side has alone, green for the right one, and yellow
+abbrev pub color_text : Line → List ℕ
+color_text l = by_sides (27 ∷ codes "[33m") (27 ∷ codes "[31m") (27 ∷ codes "[32m") l.left l.right
+
+-- and what turns it off
+abbrev pub plain_text : List ℕ
+plain_text = 27 ∷ codes "[0m"
+
+-- Sign, path, what the sides have, parted by tabs, and behind these the places if they are told; below them the changed lines of strings. A character that a terminal would not show is written as its escape.
+abbrev pub columns : Bool → Bool → Line → List ℕ
+columns places color l =
+    cond color (color_text l) [] ++ (sign l ++ (column (visible (string_bytes l.path)) ++ (values l.changes l
+    ++ (places_text places l ++ (cond color plain_text [] ++ (codes "\n" ++ below l.changes))))))
 
 -- ---- JSON
 
@@ -54,9 +76,12 @@ line_data l =
 
 -- ---- a line in each form
 
-abbrev pub line_text : Form → Bool → Line → List ℕ
-line_text form.Line places l = columns places l
-line_text form.Json places l = compact_text (line_data l) ++ codes "\n"
+abbrev pub form_text : Form → Bool → Bool → Line → List ℕ
+form_text form.Line places color l = columns places color l
+form_text form.Json places color l = compact_text (line_data l) ++ codes "\n"
+
+abbrev pub line_text : Diff → Line → List ℕ
+line_text asked l = form_text asked.form asked.places asked.color l
 
 -- what stands behind lines that are not all
 abbrev pub more_text : Form → List ℕ
@@ -64,6 +89,6 @@ more_text form.Line = codes "...\n"
 more_text form.Json = codes "{\"kind\":\"more\"}\n"
 
 -- one line after another
-abbrev pub lines_text : Form → Bool → List Line → List ℕ
-lines_text f places [] = []
-lines_text f places (l ∷ ls) = line_text f places l ++ lines_text f places ls
+abbrev pub lines_text : Diff → List Line → List ℕ
+lines_text asked [] = []
+lines_text asked (l ∷ ls) = line_text asked l ++ lines_text asked ls

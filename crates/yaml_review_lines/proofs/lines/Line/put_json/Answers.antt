@@ -1,8 +1,8 @@
 use Rattle.std.proofs.Common.{ap, ◌∙◌, ◌++◌}
 use Rattle.std.specs.String.{string_bytes}
-use Rattle.yaml_review_text.proofs.LineLaws.{line_put}
+use Rattle.yaml_review_lines.proofs.LineLaws.{line_put}
 use Rattle.yaml_review_text.proofs.Pieces.{on_ok}
-use Rattle.yaml_review_text.proofs.lines.Line.put_json.Goals as goal
+use Rattle.yaml_review_lines.proofs.lines.Line.put_json.Goals as goal
 
 pub returns : goal.returns
 returns c =
