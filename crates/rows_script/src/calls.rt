@@ -13,7 +13,10 @@ fn lines_have_their_parts(rt: HostRuntime) -> Result<(), Fail> {
         let (line, spaces, has_end) = (piece.line, piece.spaces, piece.has_end);
         write!(got, "[{line}|{spaces}|{has_end}]")?;
     }
-    assert_eq!(rt; got, "[a|  |true][||true][b||true][a|  |true][a| |false]");
+    assert_eq!(rt;
+        got.as_str(),
+        "[a|  |true][||true][b||true][a|  |true][a| |false]"
+    );
     Ok(())
 }
 
@@ -27,7 +30,7 @@ fn equal_lines_are_the_same(rt: HostRuntime) -> Result<(), Fail> {
             write!(got, "{is_same} ")?;
         }
     }
-    assert_eq!(rt; got, "true false true false false ");
+    assert_eq!(rt; got.as_str(), "true false true false false ");
     Ok(())
 }
 
@@ -55,6 +58,6 @@ fn one_line_of_many_is_changed(rt: HostRuntime) -> Result<(), Fail> {
     assert_eq!(rt; changes, 2);
     let mut got = String::new(rt.alloc());
     put_script(&mut got, &edits, 0, false)?;
-    assert_eq!(rt; got, "\t-line 1\n\t+other\n");
+    assert_eq!(rt; got.as_str(), "\t-line 1\n\t+other\n");
     Ok(())
 }

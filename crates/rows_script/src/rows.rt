@@ -17,6 +17,6 @@ pub fn prints<T: Abort + AllocGlobal>(rt: &T, row: &Row) -> Result<(), Fail> {
     let edits = script_of(rt.alloc(), row.left, row.right)?;
     let mut got = String::new(rt.alloc());
     put_script(&mut got, &edits, row.context.min(1_000), row.color)?;
-    assert_eq!(rt; got, row.printed, "{} {}", row.left, row.right);
+    assert_eq!(rt; got.as_str(), row.printed, "{} {}", row.left, row.right);
     Ok(())
 }
