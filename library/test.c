@@ -7,6 +7,7 @@
  *     test refused        each request for memory refused in turn (built with -DREFUSE and --wrap for the heap's calls)
  */
 #include "yamlcanon.h"
+#include <limits.h>
 #include <pthread.h>
 #include <stdio.h>
 #include <stdlib.h>
@@ -157,9 +158,8 @@ static void own_message(const yamlcanon_fault *f, char *text, size_t room)
 static void message_of(const struct file *file, const yamlcanon_fault *fault)
 {
     char own[200], *text = malloc(YAMLCANON_MESSAGE);
-    size_t n;
     own_message(fault, own, sizeof own);
-    n = strlen(own);
+    size_t n = strlen(own);
     for (size_t cap = 0; cap <= YAMLCANON_MESSAGE; cap++) {
         size_t len = UNTOLD, written = cap > n ? n + 1 : 0;
         memset(text, ROOM_BYTE, YAMLCANON_MESSAGE);
@@ -179,16 +179,14 @@ static void nulls(void)
     yamlcanon_fault fault = {0};
     size_t len = UNTOLD, line = UNTOLD, column = UNTOLD;
     uint8_t digest[32] = {0};
-    if (yamlcanon_canonical(NULL, 0, NULL, 0, &len, &fault) != YAMLCANON_DONE || len) wrong(&null, "canonical");
-    if (yamlcanon_canonical_within(NULL, 0, NULL, 0, &len, &fault, 0) != YAMLCANON_DONE || len) wrong(&null, "canonical_within");
+    if (yamlcanon_canonical(NULL, 0, NULL, 0, &len, &fault) || len) wrong(&null, "canonical");
+    if (yamlcanon_canonical_within(NULL, 0, NULL, 0, &len, &fault, 0) || len) wrong(&null, "canonical_within");
     if (yamlcanon_events(NULL, 0, NULL, 0, &len, &fault) != YAMLCANON_SHORT || len != 10) wrong(&null, "events");
     if (yamlcanon_events_within(NULL, 0, NULL, 0, &len, &fault, 0) != YAMLCANON_SHORT || len != 10) wrong(&null, "events_within");
-    if (yamlcanon_same(NULL, 0, NULL, 0, &fault) != YAMLCANON_DONE) wrong(&null, "same");
-    if (yamlcanon_same(NULL, 0, of_nothing, 0, &fault) != YAMLCANON_DONE) wrong(&null, "same on the left");
-    if (yamlcanon_same_within((const uint8_t *)"a", 1, NULL, 0, &fault, 0) != YAMLCANON_DIFFERENT) wrong(&null, "same on the right");
+    if (yamlcanon_same(NULL, 0, NULL, 0, &fault)) wrong(&null, "same");
+    if (yamlcanon_same_within((const uint8_t *)"a", 1, NULL, 0, &fault, 0) != YAMLCANON_DIFFERENT) wrong(&null, "same_within");
     if (yamlcanon_sha256(NULL, 0, digest, &fault) || memcmp(digest, of_nothing, sizeof of_nothing)) wrong(&null, "sha256");
-    memset(digest, 0, sizeof digest);
-    if (yamlcanon_sha256_within(NULL, 0, digest, &fault, 0) || memcmp(digest, of_nothing, sizeof of_nothing)) wrong(&null, "sha256_within");
+    if (yamlcanon_sha256_within(NULL, 0, digest, &fault, 0)) wrong(&null, "sha256_within");
     for (size_t i = 0; i < sizeof fault; i++)
         if (((const uint8_t *)&fault)[i]) wrong(&null, "a fault of nothing");
     fault.number = YAMLCANON_FAULT_SYNTAX;
@@ -199,8 +197,8 @@ static void nulls(void)
     if (yamlcanon_held()) wrong(&null, "memory is kept");
 }
 
-/* Numbers that no call gives, and the greatest. */
-static void numbers(void)
+/* Numbers that no call gives, and the greatest. It runs on a stack of 16 KiB. */
+static void *numbers(void *unused)
 {
     struct file own = {"numbers of a caller", NULL, 0};
     yamlcanon_fault fault = {.name = "TooLong"};
@@ -212,6 +210,7 @@ static void numbers(void)
     message_of(&own, &fault);
     if (yamlcanon_version() != YAMLCANON_VERSION || yamlcanon_form() != YAMLCANON_FORM) wrong(&own, "another version or form");
     if (strcmp(yamlcanon_release(), YAMLCANON_RELEASE)) wrong(&own, "another release");
+    return unused;
 }
 
 /* No room, one byte too little, as much as the text has, more. */
@@ -272,10 +271,13 @@ static void *on_its_stack(void *file)
 /* The texts that `rooms` gives back to the calls are longer than their inputs may be, and no deeper. */
 static void on_small_stacks(void)
 {
+    pthread_t id;
+    pthread_attr_t small;
+    pthread_attr_init(&small);
+    if (pthread_attr_setstacksize(&small, 16384 < PTHREAD_STACK_MIN ? PTHREAD_STACK_MIN : 16384)) exit(2);
+    if (pthread_create(&id, &small, numbers, NULL)) exit(2);
+    pthread_join(id, NULL);
     for (size_t i = 0; i < count; i++) {
-        pthread_t id;
-        pthread_attr_t small;
-        pthread_attr_init(&small);
         pthread_attr_setstacksize(&small, (256 << 10) + 1536 * (files[i].n < MOST_LEVELS ? files[i].n : MOST_LEVELS));
         if (pthread_create(&id, &small, on_its_stack, &files[i])) exit(2);
         pthread_join(id, NULL);
@@ -344,8 +346,7 @@ static void within(const struct file *file)
     yamlcanon_budget(peak - 1);
     a.status = yamlcanon_canonical_within(file->at, file->n, own.room, cap, &a.len, &a.fault, peak);
     if (a.status != own.status || yamlcanon_peak() != peak) wrong(file, "refused within its peak");
-    uint32_t status = yamlcanon_sha256_within(file->at, file->n, digest, &a.fault, 1);
-    if (own.status == YAMLCANON_DONE && (status != YAMLCANON_REFUSED || a.fault.number != 21)) wrong(file, "a digest within 1 byte");
+    if (yamlcanon_sha256_within(file->at, file->n, digest, &a.fault, 1) != YAMLCANON_REFUSED) wrong(file, "a digest within 1 byte");
     if (yamlcanon_same_within(file->at, file->n, file->at, file->n, &a.fault, 0) != own.status) wrong(file, "not the same within no bound");
     (void)yamlcanon_events_within(file->at, file->n, own.room, cap, &a.len, &a.fault, 0);
     a.status = yamlcanon_canonical(file->at, file->n, own.room, cap, &a.len, &a.fault);
@@ -485,7 +486,7 @@ int main(int n, char **words)
         read_file(name);
     }
     nulls();
-    numbers();
+    numbers(NULL);
     if (!strcmp(what, "threads") && n == 3 && atoi(words[2]) <= MOST_THREADS) on_threads(atoi(words[2]));
     else if (!strcmp(what, "stack")) on_small_stacks();
     else if (!strcmp(what, "budget")) under_bounds();

@@ -1,5 +1,5 @@
 //! Line and column of a fault at a byte.
-ghost use Rattle.std.specs.Prelude.{◌≡◌, ◌≤◌, ◌-◌, length, drop, Unit};
+ghost use Rattle.std.specs.Prelude.{◌≡◌, ◌≤◌, ◌-◌, length, drop};
 ghost use Rattle.yaml_definitions.specs.model.Text.{mark_len};
 ghost use Rattle.yaml_place.specs.LineModel.{IsPlace};
 

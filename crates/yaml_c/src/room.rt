@@ -1,5 +1,5 @@
 //! The room that a caller gives for a text.
-ghost use Rattle.std.specs.Prelude.{◌≡◌, ◌<◌, ◌≤◌, ◌+◌, ◌⊎◌, length};
+ghost use Rattle.std.specs.Prelude.{◌≡◌, ◌<◌, ◌≤◌, ◌+◌, ◌⊎◌, length, true, false};
 ghost use Rattle.yaml_message.specs.Words.{fault_message};
 ghost use Rattle.yaml_c.specs.Room.{IsGiven, IsShort};
 ghost use Rattle.yaml_c.specs.Messages.{ended};
