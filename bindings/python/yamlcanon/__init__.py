@@ -138,7 +138,7 @@ def _sha256_here(data: bytes, memory: int) -> bytes:
 
 @contextlib.contextmanager
 def budget(memory: int) -> Iterator[None]:
-    """A limit for what each call inside the `with` may hold at once, in bytes; 0 is none. A call that needs more raises MemoryError.
+    r"""A limit for what each call inside the `with` may hold at once, in bytes; 0 is none. A call that needs more raises MemoryError.
 
     It holds for the calls of this thread, or of this task of asyncio. A `with` inside it, and `memory=` of a call, replace it.
 
