@@ -397,7 +397,7 @@ fn commands<'a>(alloc: Global) -> Result<Vec<Command<'a>>, AllocError> {
 fn grammar<'a>(alloc: Global) -> Result<Command<'a>, AllocError> {
     let commands = commands(alloc)?;
     Command::new(alloc, "yamlreview")
-        .version("1.0.0 (yamlcanon-form-1)")
+        .version("1.1.0 (yamlcanon-form-1)")
         .about("Prints where two YAML streams differ, and where in a file a fault is")
         .bin_name("yamlreview")?
         .no_binary_name(true)
