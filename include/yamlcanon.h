@@ -1,19 +1,20 @@
 /* yamlcanon.h: the canonical text of YAML 1.2 streams, and whether two streams mean the same.
  *
- * tools/library builds libyamlcanon.a, libyamlcanon.so.1 and yamlcanon.pc. Each call but those of memory is proved
- * against its contract in crates/yaml_c/src/calls.rt, which says which text, which answer and which refusal; nothing
- * checks this header against it, nor what a caller passes.
+ * tools/library builds libyamlcanon.a, libyamlcanon.so.1 and yamlcanon.pc. What a call answers is proved against its
+ * contract in crates/yaml_c/src/calls.rt, which says which text, which answer and which refusal. Not proved are the
+ * bound of memory and yamlcanon_release; nothing checks this header against the contracts, nor what a caller passes.
  *
  * A caller owes, for the time of the call:
  *   - input, left, right: readable for their lengths, which are at most PTRDIFF_MAX, and written by nobody;
- *   - out: cap bytes that nobody else reads or writes; len, fault: one value of their type each. All three are
+ *   - out: cap bytes that nobody else reads or writes; len, fault, line, column: one value of their type each. All are
  *     initialised, and overlap neither one another nor an input. left and right may be the same bytes;
- *   - no pointer is null, also where its length is 0;
+ *   - no pointer is null, but input, left and right where their length is 0, and out where cap is 0;
  *   - malloc, realloc and free of one allocator; no call from a signal handler, or from the forked child of a process
  *     with threads;
  *   - 1,792 KiB of stack. The deepest input takes 1,310 kB, and where the stack is smaller, as on threads that have
  *     128 KiB by default, such an input ends the process by a fault. An input of n bytes, up to 1,024, takes no
- *     more than 256 + 1.5 * n KiB.
+ *     more than 256 + 1.5 * n KiB. yamlcanon_message, yamlcanon_position and those without arguments take less than
+ *     16 KiB.
  *
  * The calls print nothing, open nothing, never end the process, hold no state but the bound of memory, keep no memory
  * and no pointer after they return, and may run on any number of threads at once. An input has at most 67,108,864
@@ -31,8 +32,11 @@ extern "C" {
 #endif
 
 /* 100 times the number of the interface, with which the shared library's name ends, and the number of what was added. */
-#define YAMLCANON_VERSION 100
-#define YAMLCANON_VERSION_TEXT "1.0"
+#define YAMLCANON_VERSION 101
+#define YAMLCANON_VERSION_TEXT "1.1"
+
+/* The release of this header. */
+#define YAMLCANON_RELEASE "1.1.0"
 
 /* The form of the texts that yamlcanon_canonical gives: yamlcanon-form-1. Another form has another soname. */
 #define YAMLCANON_FORM 1
@@ -45,13 +49,32 @@ enum {
     YAMLCANON_SHORT = 3      /* out has less room than the text, whose length is in *len */
 };
 
-/* Why an input is refused. The message of the program is
- *   2 to 11:   "<number> <name> at byte <place>"
- *   12 to 17:  "<number> <name> at event <place>"
- *   18:        "18 TooHigh in document <place>"
- *   19:        "19 EqualKeys in node <place>, entries <first> and <second>"
- *   others:    "<number> <name>"
- * 21, OutOfMemory, says nothing of the input: memory was refused. */
+/* The numbers of faults. A number is never used again; a later library may have more. */
+enum {
+    YAMLCANON_FAULT_TOO_LONG = 1,
+    YAMLCANON_FAULT_NOT_UTF8 = 2, /* 2 to 11: place is a byte of the input */
+    YAMLCANON_FAULT_NOT_PRINTABLE = 3,
+    YAMLCANON_FAULT_SYNTAX = 4,
+    YAMLCANON_FAULT_TAB = 5,
+    YAMLCANON_FAULT_KEY_TOO_LONG = 6,
+    YAMLCANON_FAULT_TOO_DEEP = 7,
+    YAMLCANON_FAULT_BAD_ESCAPE = 8,
+    YAMLCANON_FAULT_BAD_DIRECTIVE = 9,
+    YAMLCANON_FAULT_UNKNOWN_HANDLE = 10,
+    YAMLCANON_FAULT_BAD_TAG = 11,
+    YAMLCANON_FAULT_UNDEFINED_ALIAS = 12, /* 12 to 17: an event */
+    YAMLCANON_FAULT_CYCLIC_ALIAS = 13,
+    YAMLCANON_FAULT_WRONG_KIND = 14,
+    YAMLCANON_FAULT_BAD_CONTENT = 15,
+    YAMLCANON_FAULT_INT_RANGE = 16,
+    YAMLCANON_FAULT_FLOAT_RANGE = 17,
+    YAMLCANON_FAULT_TOO_HIGH = 18,   /* a document */
+    YAMLCANON_FAULT_EQUAL_KEYS = 19, /* a node, and first and second: its two entries */
+    YAMLCANON_FAULT_TEXT_TOO_LONG = 20,
+    YAMLCANON_FAULT_OUT_OF_MEMORY = 21 /* says nothing of the input: memory was refused */
+};
+
+/* Why an input is refused. */
 typedef struct yamlcanon_fault {
     uint32_t number; /* 1 to 21 */
     uint32_t side;   /* 0, or 1 where it is the right one of two inputs */
@@ -63,6 +86,12 @@ typedef struct yamlcanon_fault {
 
 /* The version of the library that is linked, as YAMLCANON_VERSION is that of this header. */
 uint32_t yamlcanon_version(void);
+
+/* The form of its texts, as YAMLCANON_FORM. */
+uint32_t yamlcanon_form(void);
+
+/* Its release, as YAMLCANON_RELEASE: a text that is never freed or changed. */
+const char *yamlcanon_release(void);
 
 /* Puts the canonical text of the n bytes at input at the start of out, and its length into *len.
  * DONE: the text is out[0 .. *len]; behind it out is as it was, and so is *fault.
@@ -79,14 +108,46 @@ uint32_t yamlcanon_events(const uint8_t *input, size_t n, uint8_t *out, size_t c
 uint32_t yamlcanon_same(const uint8_t *left, size_t left_n, const uint8_t *right, size_t right_n,
                         yamlcanon_fault *fault);
 
+/* Puts the SHA-256 of the canonical text into out, as yamlreview sum prints it in hexadecimal digits: DONE, or REFUSED
+ * as yamlcanon_canonical, and then out is as it was. The text is held in memory meanwhile. */
+uint32_t yamlcanon_sha256(const uint8_t *input, size_t n, uint8_t out[32], yamlcanon_fault *fault);
+
+/* A room that is long enough for every message. */
+#define YAMLCANON_MESSAGE 128
+
+/* Puts the message of a fault, as "5 Tab at byte 14", at the start of out, and its length into *len. A null byte ends
+ * it, which *len does not count. It is what the programs print of this fault, without "left: " or "right: ". Of *fault
+ * number, place, first and second are read.
+ * SHORT: cap is at most *len, the message's length; out is as it was. REFUSED: no fault has this number. */
+uint32_t yamlcanon_message(const yamlcanon_fault *fault, char *out, size_t cap, size_t *len);
+
+/* Puts the line and the column of a fault from 2 to 11 in its input, which is the right one where fault->side is 1,
+ * into *line and *column, both from 1. They are those that yamlreview faults prints: a line ends with a line feed, a
+ * carriage return or both (YAML 1.2.2, 5.4), and a column counts characters; a byte order mark at the start has none.
+ * REFUSED: the fault has another number, or its place is behind the input; *line and *column are as they were. */
+uint32_t yamlcanon_position(const uint8_t *input, size_t n, const yamlcanon_fault *fault, size_t *line,
+                            size_t *column);
+
 /* Bounds the memory that calls on this thread may hold at once, in bytes, with 16 more for each block that they ask
  * for; 0, as at the start, is no bound. Past it a call is refused with 21. What the allocator needs beside is not
  * counted. The bound stays until it is set anew. */
 void yamlcanon_budget(size_t bytes);
 
-/* What calls on this thread hold now, so 0 between them, and the most that they held since the bound was last set. */
+/* What calls on this thread hold now, so 0 between them, and the most that they held since a bound was last set, which
+ * the calls below do too. */
 size_t yamlcanon_held(void);
 size_t yamlcanon_peak(void);
+
+/* The same calls under a bound of their own, as by yamlcanon_budget(memory); behind them the bound of the thread is
+ * what it was. */
+uint32_t yamlcanon_canonical_within(const uint8_t *input, size_t n, uint8_t *out, size_t cap, size_t *len,
+                                    yamlcanon_fault *fault, size_t memory);
+uint32_t yamlcanon_events_within(const uint8_t *input, size_t n, uint8_t *out, size_t cap, size_t *len,
+                                 yamlcanon_fault *fault, size_t memory);
+uint32_t yamlcanon_same_within(const uint8_t *left, size_t left_n, const uint8_t *right, size_t right_n,
+                               yamlcanon_fault *fault, size_t memory);
+uint32_t yamlcanon_sha256_within(const uint8_t *input, size_t n, uint8_t out[32], yamlcanon_fault *fault,
+                                 size_t memory);
 
 #ifdef __cplusplus
 }

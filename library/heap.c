@@ -1,5 +1,6 @@
 /* The heap of the library: malloc, realloc and free, counted for each thread against a bound that its caller sets.
  * The proofs take nothing of it for granted but that a block is what was asked for, or refused; a bound refuses more. */
+#include "heap.h"
 #include "yamlcanon.h"
 #include <stdbool.h>
 #include <stdlib.h>
@@ -65,10 +66,22 @@ void rattle_dealloc(void *p)
     free(front);
 }
 
-void yamlcanon_budget(size_t bytes)
+size_t yaml_c_bound(size_t bytes)
 {
+    size_t before = heap.most;
     heap.most = bytes;
     heap.peak = heap.held;
+    return before;
+}
+
+void yaml_c_unbound(size_t bytes)
+{
+    heap.most = bytes;
+}
+
+void yamlcanon_budget(size_t bytes)
+{
+    yaml_c_bound(bytes);
 }
 
 size_t yamlcanon_held(void)

@@ -1,5 +1,5 @@
 /* Calls the library on each file named on standard input, and says what breaks the header:
- *     test                rooms of every kind
+ *     test                rooms of every kind, null pointers, digests, messages and positions
  *     test threads N      the same on N threads at once
  *     test stack          on threads with no more stack than the header says that an input of its length takes
  *     test budget         under bounds of memory up to what a call needs
@@ -7,6 +7,7 @@
  *     test refused        each request for memory refused in turn (built with -DREFUSE and --wrap for the heap's calls)
  */
 #include "yamlcanon.h"
+#include <limits.h>
 #include <pthread.h>
 #include <stdio.h>
 #include <stdlib.h>
@@ -81,22 +82,135 @@ static struct answer answer_of(text_call *call, const struct file *file, size_t 
     memset(&a.fault, 0x5a, sizeof a.fault);
     clean = a.fault;
     memset(a.room, ROOM_BYTE, cap);
-    a.status = call(file->at, file->n, a.room, cap, &a.len, &a.fault);
+    a.status = call(file->at, file->n, cap ? a.room : NULL, cap, &a.len, &a.fault);
     if (a.status != YAMLCANON_DONE && a.status != YAMLCANON_REFUSED && a.status != YAMLCANON_SHORT) wrong(file, "no status");
     judge(file, &a, &clean);
     if (yamlcanon_held()) wrong(file, "memory is kept");
     return a;
 }
 
+/* The digest as a text of 32 bytes. */
+static uint32_t digest(const uint8_t *input, size_t n, uint8_t *out, size_t cap, size_t *len, yamlcanon_fault *fault)
+{
+    struct file file = {"a digest", NULL, 0};
+    uint8_t own[32];
+    memset(own, ROOM_BYTE, sizeof own);
+    uint32_t status = yamlcanon_sha256(input, n, own, fault);
+    if (status != YAMLCANON_DONE) {
+        if (!is_untouched(own, sizeof own)) wrong(&file, "written beside a refusal");
+        return status;
+    }
+    *len = sizeof own;
+    if (cap < sizeof own) return YAMLCANON_SHORT;
+    memcpy(out, own, sizeof own);
+    return status;
+}
+
 static void its_own(const struct file *file, const struct answer *text)
 {
     struct file written = {"", text->room, text->len};
     struct answer again = answer_of(yamlcanon_canonical, &written, text->len);
+    struct answer sum = answer_of(digest, file, 32), its = answer_of(digest, &written, 32);
     yamlcanon_fault fault = {0};
+    if (!is_own_text(&sum, &its)) wrong(file, "another digest than its text");
+    free(sum.room);
+    free(its.room);
     if (!is_own_text(&again, text)) wrong(file, "the text is not its own");
     if (yamlcanon_same(file->at, file->n, text->room, text->len, &fault) != YAMLCANON_DONE) wrong(file, "not the same as its text");
     if (yamlcanon_same(file->at, file->n, file->at, file->n, &fault) != YAMLCANON_DONE) wrong(file, "not the same as itself");
     free(again.room);
+}
+
+/* The line and the column of a byte, counted from the start: a line more for each break that ends before it. */
+static void by_definition(const uint8_t *text, size_t at, size_t n, size_t *line, size_t *column)
+{
+    *line = *column = 1;
+    for (size_t k = 0; k < at; k++) {
+        if (text[k] == '\n' || (text[k] == '\r' && !(k + 1 < n && text[k + 1] == '\n'))) ++*line, *column = 1;
+        else *column += text[k] < 128 || text[k] >= 192;
+    }
+}
+
+static void position_of(const struct file *file, const yamlcanon_fault *fault)
+{
+    size_t line = UNTOLD, column = UNTOLD, own_line, own_column;
+    size_t mark = file->n >= 3 && !memcmp(file->at, "\xef\xbb\xbf", 3) ? 3 : 0;
+    if (yamlcanon_position(file->at, file->n, fault, &line, &column) != YAMLCANON_DONE) {
+        if (fault->number >= 2 && fault->number <= 11) wrong(file, "no position");
+        if (line != UNTOLD || column != UNTOLD) wrong(file, "a position beside a refusal");
+        return;
+    }
+    by_definition(file->at + mark, fault->place - mark, file->n - mark, &own_line, &own_column);
+    if (line != own_line || column != own_column) wrong(file, "another position");
+}
+
+/* The message of a fault, in the words of the header of 1.0. */
+static void own_message(const yamlcanon_fault *f, char *text, size_t room)
+{
+    const char *words = f->number < 12 ? " at byte" : f->number < 18 ? " at event" : f->number == 18 ? " in document" : " in node";
+    int n = snprintf(text, room, "%u %s", (unsigned)f->number, f->name);
+    if (f->number >= 2 && f->number <= 19) n += snprintf(text + n, room - (size_t)n, "%s %llu", words, (unsigned long long)f->place);
+    if (f->number == 19)
+        snprintf(text + n, room - (size_t)n, ", entries %llu and %llu", (unsigned long long)f->first, (unsigned long long)f->second);
+}
+
+/* Rooms of every length up to the one that is always enough. */
+static void message_of(const struct file *file, const yamlcanon_fault *fault)
+{
+    char own[200], *text = malloc(YAMLCANON_MESSAGE);
+    own_message(fault, own, sizeof own);
+    size_t n = strlen(own);
+    for (size_t cap = 0; cap <= YAMLCANON_MESSAGE; cap++) {
+        size_t len = UNTOLD, written = cap > n ? n + 1 : 0;
+        memset(text, ROOM_BYTE, YAMLCANON_MESSAGE);
+        uint32_t status = yamlcanon_message(fault, cap ? text : NULL, cap, &len);
+        if (status != (cap > n ? YAMLCANON_DONE : YAMLCANON_SHORT) || len != n) wrong(file, "another status or length of a message");
+        if (written && strcmp(text, own)) wrong(file, "another message");
+        if (!is_untouched((uint8_t *)text + written, YAMLCANON_MESSAGE - written)) wrong(file, "something behind a message");
+    }
+    free(text);
+}
+
+/* Null pointers where a length or a room is 0. */
+static void nulls(void)
+{
+    static const uint8_t of_nothing[] = {0xe3, 0xb0, 0xc4, 0x42, 0x98, 0xfc, 0x1c, 0x14};
+    struct file null = {"null pointers", NULL, 0};
+    yamlcanon_fault fault = {0};
+    size_t len = UNTOLD, line = UNTOLD, column = UNTOLD;
+    uint8_t digest[32] = {0};
+    if (yamlcanon_canonical(NULL, 0, NULL, 0, &len, &fault) || len) wrong(&null, "canonical");
+    if (yamlcanon_canonical_within(NULL, 0, NULL, 0, &len, &fault, 0) || len) wrong(&null, "canonical_within");
+    if (yamlcanon_events(NULL, 0, NULL, 0, &len, &fault) != YAMLCANON_SHORT || len != 10) wrong(&null, "events");
+    if (yamlcanon_events_within(NULL, 0, NULL, 0, &len, &fault, 0) != YAMLCANON_SHORT || len != 10) wrong(&null, "events_within");
+    if (yamlcanon_same(NULL, 0, NULL, 0, &fault)) wrong(&null, "same");
+    if (yamlcanon_same_within((const uint8_t *)"a", 1, NULL, 0, &fault, 0) != YAMLCANON_DIFFERENT) wrong(&null, "same_within");
+    if (yamlcanon_sha256(NULL, 0, digest, &fault) || memcmp(digest, of_nothing, sizeof of_nothing)) wrong(&null, "sha256");
+    if (yamlcanon_sha256_within(NULL, 0, digest, &fault, 0)) wrong(&null, "sha256_within");
+    for (size_t i = 0; i < sizeof fault; i++)
+        if (((const uint8_t *)&fault)[i]) wrong(&null, "a fault of nothing");
+    fault.number = YAMLCANON_FAULT_SYNTAX;
+    if (yamlcanon_message(&fault, NULL, 0, &len) != YAMLCANON_SHORT || len != 18) wrong(&null, "message");
+    if (yamlcanon_position(NULL, 0, &fault, &line, &column) != YAMLCANON_DONE || line != 1 || column != 1) wrong(&null, "position");
+    fault.place = 1;
+    if (yamlcanon_position(NULL, 0, &fault, &line, &column) != YAMLCANON_REFUSED) wrong(&null, "position behind the end");
+    if (yamlcanon_held()) wrong(&null, "memory is kept");
+}
+
+/* Numbers that no call gives, and the greatest. It runs on a stack of 16 KiB. */
+static void *numbers(void *unused)
+{
+    struct file own = {"numbers of a caller", NULL, 0};
+    yamlcanon_fault fault = {.name = "TooLong"};
+    size_t len = UNTOLD;
+    if (yamlcanon_message(&fault, NULL, 0, &len) != YAMLCANON_REFUSED || len != UNTOLD) wrong(&own, "0 is a fault");
+    fault.number = 24;
+    if (yamlcanon_message(&fault, NULL, 0, &len) != YAMLCANON_REFUSED || len != UNTOLD) wrong(&own, "24 is a fault");
+    fault = (yamlcanon_fault){19, 1, UINT64_MAX, UINT64_MAX, UINT64_MAX, "EqualKeys"};
+    message_of(&own, &fault);
+    if (yamlcanon_version() != YAMLCANON_VERSION || yamlcanon_form() != YAMLCANON_FORM) wrong(&own, "another version or form");
+    if (strcmp(yamlcanon_release(), YAMLCANON_RELEASE)) wrong(&own, "another release");
+    return unused;
 }
 
 /* No room, one byte too little, as much as the text has, more. */
@@ -113,6 +227,8 @@ static void rooms(text_call *call, const struct file *file)
         free(more.room);
     } else if (none.status == YAMLCANON_REFUSED) {
         if (other.status != none.status || memcmp(&other.fault, &none.fault, sizeof none.fault)) wrong(file, "two refusals");
+        message_of(file, &none.fault);
+        position_of(file, &none.fault);
     } else if (none.len) {
         wrong(file, "an empty room with a text");
     }
@@ -127,6 +243,7 @@ static void *all_rooms(void *bound)
     for (size_t i = 0; i < count; i++) {
         rooms(yamlcanon_canonical, &files[i]);
         rooms(yamlcanon_events, &files[i]);
+        rooms(digest, &files[i]);
     }
     return NULL;
 }
@@ -147,16 +264,20 @@ static void *on_its_stack(void *file)
 {
     rooms(yamlcanon_canonical, file);
     rooms(yamlcanon_events, file);
+    rooms(digest, file);
     return NULL;
 }
 
 /* The texts that `rooms` gives back to the calls are longer than their inputs may be, and no deeper. */
 static void on_small_stacks(void)
 {
+    pthread_t id;
+    pthread_attr_t small;
+    pthread_attr_init(&small);
+    if (pthread_attr_setstacksize(&small, 16384 < PTHREAD_STACK_MIN ? PTHREAD_STACK_MIN : 16384)) exit(2);
+    if (pthread_create(&id, &small, numbers, NULL)) exit(2);
+    pthread_join(id, NULL);
     for (size_t i = 0; i < count; i++) {
-        pthread_t id;
-        pthread_attr_t small;
-        pthread_attr_init(&small);
         pthread_attr_setstacksize(&small, (256 << 10) + 1536 * (files[i].n < MOST_LEVELS ? files[i].n : MOST_LEVELS));
         if (pthread_create(&id, &small, on_its_stack, &files[i])) exit(2);
         pthread_join(id, NULL);
@@ -213,6 +334,28 @@ static void held_once(const struct file *file)
     free(own.room);
 }
 
+/* A bound that a call is given is as one of the thread, which is then as it was. */
+static void within(const struct file *file)
+{
+    size_t cap = file->n * 40 + 5000, peak;
+    uint8_t digest[32];
+    yamlcanon_budget(0);
+    struct answer own = answer_of(yamlcanon_canonical, file, cap), a = {0, UNTOLD, cap, own.room, {0}};
+    peak = yamlcanon_peak();
+    if (peak < 2) return;
+    yamlcanon_budget(peak - 1);
+    a.status = yamlcanon_canonical_within(file->at, file->n, own.room, cap, &a.len, &a.fault, peak);
+    if (a.status != own.status || yamlcanon_peak() != peak) wrong(file, "refused within its peak");
+    if (yamlcanon_sha256_within(file->at, file->n, digest, &a.fault, 1) != YAMLCANON_REFUSED) wrong(file, "a digest within 1 byte");
+    if (yamlcanon_same_within(file->at, file->n, file->at, file->n, &a.fault, 0) != own.status) wrong(file, "not the same within no bound");
+    (void)yamlcanon_events_within(file->at, file->n, own.room, cap, &a.len, &a.fault, 0);
+    a.status = yamlcanon_canonical(file->at, file->n, own.room, cap, &a.len, &a.fault);
+    if (yamlcanon_peak() >= peak || (own.status == YAMLCANON_DONE && a.status == YAMLCANON_DONE && a.len != own.len))
+        wrong(file, "the bound of the thread is lost");
+    yamlcanon_budget(0);
+    free(own.room);
+}
+
 static void *has_no_bound(void *unused)
 {
     struct file text = {"a thread beside one with a bound", (uint8_t *)"{a: [b, c], d: e}", 17};
@@ -234,7 +377,9 @@ static void under_bounds(void)
     for (size_t i = 0; i < count; i++) {
         bounds(yamlcanon_canonical, &files[i]);
         bounds(yamlcanon_events, &files[i]);
+        bounds(digest, &files[i]);
         held_once(&files[i]);
+        within(&files[i]);
     }
 }
 
@@ -279,6 +424,7 @@ static void all_refused(void)
     for (size_t i = 0; i < count; i++) {
         in_turn(yamlcanon_canonical, &files[i]);
         in_turn(yamlcanon_events, &files[i]);
+        in_turn(digest, &files[i]);
     }
     printf("%ld requests refused; ", requests);
 }
@@ -339,7 +485,8 @@ int main(int n, char **words)
         name[strcspn(name, "\n")] = 0;
         read_file(name);
     }
-    if (yamlcanon_version() != YAMLCANON_VERSION) failed = 1;
+    nulls();
+    numbers(NULL);
     if (!strcmp(what, "threads") && n == 3 && atoi(words[2]) <= MOST_THREADS) on_threads(atoi(words[2]));
     else if (!strcmp(what, "stack")) on_small_stacks();
     else if (!strcmp(what, "budget")) under_bounds();

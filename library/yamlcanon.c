@@ -1,6 +1,5 @@
 /* The commands canon, same and events of the program, over the library: what a caller in C looks like. */
 #include "yamlcanon.h"
-#include <inttypes.h>
 #include <stdio.h>
 #include <stdlib.h>
 #include <string.h>
@@ -47,13 +46,9 @@ static int read_file(const char *name, struct bytes *b)
 
 static void tell(const yamlcanon_fault *f, const char *side)
 {
-    fprintf(stderr, "yaml: %s%" PRIu32 " %s", side, f->number, f->name);
-    if (f->number >= 2 && f->number <= 11) fprintf(stderr, " at byte %" PRIu64, f->place);
-    if (f->number >= 12 && f->number <= 17) fprintf(stderr, " at event %" PRIu64, f->place);
-    if (f->number == 18) fprintf(stderr, " in document %" PRIu64, f->place);
-    if (f->number == 19)
-        fprintf(stderr, " in node %" PRIu64 ", entries %" PRIu64 " and %" PRIu64, f->place, f->first, f->second);
-    fputc('\n', stderr);
+    char message[YAMLCANON_MESSAGE];
+    size_t len = 0;
+    if (yamlcanon_message(f, message, sizeof message, &len) == YAMLCANON_DONE) fprintf(stderr, "yaml: %s%s\n", side, message);
 }
 
 /* Room of two bytes for each of the input is mostly enough; where it is not, the length is told, and a second call has room. */

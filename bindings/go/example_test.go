@@ -1,8 +1,6 @@
 package yamlcanon_test
 
 import (
-	"bytes"
-	"crypto/sha256"
 	"errors"
 	"fmt"
 
@@ -18,11 +16,20 @@ func ExampleCanonical() {
 }
 
 // What means the same has the same digest.
-func ExampleCanonical_digest() {
-	left, _ := yamlcanon.Canonical([]byte("replicas: 0x3\nname: web\n"))
-	right, _ := yamlcanon.Canonical([]byte(`{"name": "web", "replicas": 3}`))
-	fmt.Println(sha256.Sum256(left) == sha256.Sum256(right), bytes.Equal(left, right))
-	// Output: true true
+func ExampleSHA256() {
+	left, _ := yamlcanon.SHA256([]byte("replicas: 0x3\nname: web\n"))
+	right, _ := yamlcanon.SHA256([]byte(`{"name": "web", "replicas": 3}`))
+	fmt.Println(left == right)
+	fmt.Printf("%x\n", left)
+	// Output:
+	// true
+	// 1f2dbd154f106ffcb6156d68b05ba9e6cf3470d4691957f94a7f3f71cdcd44c1
+}
+
+func ExampleLimits() {
+	_, err := yamlcanon.Limits{Memory: 1000}.Canonical([]byte("a: b"))
+	fmt.Println(err)
+	// Output: 21 OutOfMemory
 }
 
 func ExampleEvents() {

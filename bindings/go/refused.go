@@ -1,9 +1,6 @@
 package yamlcanon
 
-import (
-	"bytes"
-	"fmt"
-)
+import "fmt"
 
 // Kind is which error it is, by the number that the program prints.
 type Kind uint32
@@ -69,19 +66,12 @@ type Refused struct {
 
 // Error is the message that the program prints.
 func (r *Refused) Error() string {
-	text := fmt.Sprintf("%d %s", uint32(r.Kind), r.Kind)
+	text, ok := r.message()
+	if !ok {
+		text = fmt.Sprintf("%d %s", uint32(r.Kind), r.Kind)
+	}
 	if r.Side != Only && r.Kind != OutOfMemory {
 		text = fmt.Sprintf("%s: %s", r.Side, text)
-	}
-	switch {
-	case NotUtf8 <= r.Kind && r.Kind <= BadTag:
-		return fmt.Sprintf("%s at byte %d", text, r.Place)
-	case UndefinedAlias <= r.Kind && r.Kind <= FloatRange:
-		return fmt.Sprintf("%s at event %d", text, r.Place)
-	case r.Kind == TooHigh:
-		return fmt.Sprintf("%s in document %d", text, r.Place)
-	case r.Kind == EqualKeys:
-		return fmt.Sprintf("%s in node %d, entries %d and %d", text, r.Place, r.First, r.Second)
 	}
 	return text
 }
@@ -92,25 +82,4 @@ func (r *Refused) Offset() (offset int, ok bool) {
 		return 0, false
 	}
 	return int(r.Place), true
-}
-
-// Position is the line and the column of Offset in the input that is rejected, both from 1, as yamlreview faults counts them. A
-// line ends with a line feed, a carriage return, or both (YAML 1.2.2, 5.4). A column counts characters. A byte order mark has none.
-func (r *Refused) Position(input []byte) (line, column int, ok bool) {
-	offset, ok := r.Offset()
-	text := bytes.TrimPrefix(input, []byte("\xef\xbb\xbf"))
-	at := offset - (len(input) - len(text))
-	if !ok || at > len(text) {
-		return 0, 0, false
-	}
-	line, column = 1, 1
-	for k := 0; k < at; k++ {
-		switch {
-		case text[k] == '\n' || text[k] == '\r' && !(k+1 < len(text) && text[k+1] == '\n'):
-			line, column = line+1, 1
-		case text[k] < 0x80 || text[k] >= 0xc0:
-			column++
-		}
-	}
-	return line, column, true
 }

@@ -11,7 +11,6 @@
 #define LEVELS ((size_t)1024)
 /* The stack of a thread to which a call is handed. */
 #define GIVEN ((size_t)4 << 20)
-#define OUT_OF_MEMORY 21
 
 /* This thread's stack: its lowest byte and the one behind it. Both are 1 where the system does not tell. */
 static _Thread_local uintptr_t lowest, end;
@@ -36,10 +35,12 @@ static int has_stack_for(size_t n)
     return lowest <= here && here < end && here - lowest >= BASE + LEVEL * (n < LEVELS ? n : LEVELS);
 }
 
+enum { SAME = YC_EVENTS + 1, SHA256 };
+
 struct work {
-    int which; /* of the calls on one input; -1 is that on two */
+    int which;
     const uint8_t *left, *right;
-    size_t left_n, right_n, cap;
+    size_t left_n, right_n, cap, memory;
     uint8_t *out;
     yc_answer answer;
 };
@@ -48,9 +49,19 @@ static void *call(void *at)
 {
     struct work *w = at;
     yc_answer *a = &w->answer;
-    if (w->which == YC_CANONICAL) a->status = yamlcanon_canonical(w->left, w->left_n, w->out, w->cap, &a->len, &a->fault);
-    else if (w->which == YC_EVENTS) a->status = yamlcanon_events(w->left, w->left_n, w->out, w->cap, &a->len, &a->fault);
-    else a->status = yamlcanon_same(w->left, w->left_n, w->right, w->right_n, &a->fault);
+    switch (w->which) {
+    case YC_CANONICAL:
+        a->status = yamlcanon_canonical_within(w->left, w->left_n, w->out, w->cap, &a->len, &a->fault, w->memory);
+        break;
+    case YC_EVENTS:
+        a->status = yamlcanon_events_within(w->left, w->left_n, w->out, w->cap, &a->len, &a->fault, w->memory);
+        break;
+    case SAME:
+        a->status = yamlcanon_same_within(w->left, w->left_n, w->right, w->right_n, &a->fault, w->memory);
+        break;
+    default:
+        a->status = yamlcanon_sha256_within(w->left, w->left_n, w->out, &a->fault, w->memory);
+    }
     return NULL;
 }
 
@@ -59,7 +70,7 @@ static yc_answer elsewhere(struct work *w)
 {
     pthread_attr_t attr;
     pthread_t thread;
-    w->answer = (yc_answer){.status = YAMLCANON_REFUSED, .fault = {.number = OUT_OF_MEMORY, .name = "OutOfMemory"}};
+    w->answer = (yc_answer){.status = YAMLCANON_REFUSED, .fault = {.number = YAMLCANON_FAULT_OUT_OF_MEMORY, .name = "OutOfMemory"}};
     if (pthread_attr_init(&attr)) return w->answer;
     if (!pthread_attr_setstacksize(&attr, GIVEN) && !pthread_create(&thread, &attr, call, w)) pthread_join(thread, NULL);
     pthread_attr_destroy(&attr);
@@ -73,14 +84,32 @@ static yc_answer made(struct work *w, size_t n)
     return w->answer;
 }
 
-yc_answer yc_text(int which, const uint8_t *input, size_t n, uint8_t *out, size_t cap)
+yc_answer yc_text(int which, const uint8_t *input, size_t n, uint8_t *out, size_t cap, size_t memory)
 {
-    struct work w = {.which = which, .left = input, .left_n = n, .out = out, .cap = cap};
+    struct work w = {.which = which, .left = input, .left_n = n, .out = out, .cap = cap, .memory = memory};
     return made(&w, n);
 }
 
-yc_answer yc_same(const uint8_t *left, size_t left_n, const uint8_t *right, size_t right_n)
+yc_answer yc_same(const uint8_t *left, size_t left_n, const uint8_t *right, size_t right_n, size_t memory)
 {
-    struct work w = {.which = -1, .left = left, .left_n = left_n, .right = right, .right_n = right_n};
+    struct work w = {.which = SAME, .left = left, .left_n = left_n, .right = right, .right_n = right_n, .memory = memory};
     return made(&w, left_n > right_n ? left_n : right_n);
+}
+
+yc_answer yc_sha256(const uint8_t *input, size_t n, uint8_t *out, size_t memory)
+{
+    struct work w = {.which = SHA256, .left = input, .left_n = n, .out = out, .memory = memory};
+    return made(&w, n);
+}
+
+uint32_t yc_message(uint32_t number, uint64_t place, uint64_t first, uint64_t second, char *out, size_t *len)
+{
+    yamlcanon_fault fault = {.number = number, .place = place, .first = first, .second = second};
+    return yamlcanon_message(&fault, out, YAMLCANON_MESSAGE, len);
+}
+
+uint32_t yc_position(uint32_t number, uint64_t place, const uint8_t *input, size_t n, size_t *line, size_t *column)
+{
+    yamlcanon_fault fault = {.number = number, .place = place};
+    return yamlcanon_position(input, n, &fault, line, column);
 }

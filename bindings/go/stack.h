@@ -5,13 +5,21 @@
 
 enum { YC_CANONICAL, YC_EVENTS };
 
+#define YC_DIGEST 32
+
 typedef struct {
     uint32_t status;
     size_t len;
     yamlcanon_fault fault;
 } yc_answer;
 
-yc_answer yc_text(int which, const uint8_t *input, size_t n, uint8_t *out, size_t cap);
-yc_answer yc_same(const uint8_t *left, size_t left_n, const uint8_t *right, size_t right_n);
+/* memory: as yamlcanon_budget takes it. */
+yc_answer yc_text(int which, const uint8_t *input, size_t n, uint8_t *out, size_t cap, size_t memory);
+yc_answer yc_same(const uint8_t *left, size_t left_n, const uint8_t *right, size_t right_n, size_t memory);
+yc_answer yc_sha256(const uint8_t *input, size_t n, uint8_t *out, size_t memory);
+
+/* The message of a fault, and its position: of its fields those that are passed are read. */
+uint32_t yc_message(uint32_t number, uint64_t place, uint64_t first, uint64_t second, char *out, size_t *len);
+uint32_t yc_position(uint32_t number, uint64_t place, const uint8_t *input, size_t n, size_t *line, size_t *column);
 
 #endif

@@ -2,6 +2,7 @@ package yamlcanon
 
 import (
 	"bytes"
+	"crypto/sha256"
 	"fmt"
 	"math/rand"
 	"os"
@@ -22,8 +23,8 @@ func TestEmpty(t *testing.T) {
 }
 
 func TestVersion(t *testing.T) {
-	if Version() != 100 || Form != 1 {
-		t.Error(Version(), Form)
+	if Version() != 101 || Form != 1 || !strings.HasPrefix(Release(), "1.1.") {
+		t.Error(Version(), Form, Release())
 	}
 }
 
@@ -35,6 +36,38 @@ func TestTextLongerThanTheFirstRoom(t *testing.T) {
 	}
 	if again, err := Canonical(text); err != nil || !bytes.Equal(again, text) {
 		t.Error(err)
+	}
+}
+
+func TestDigests(t *testing.T) {
+	for _, input := range append(deepest(), nil, []byte("{b: 0x1, a: [~]}"), bytes.Repeat([]byte("- \n"), 10000)) {
+		text, err := Canonical(input)
+		digest, errOfDigest := SHA256(input)
+		if err != nil || errOfDigest != nil || digest != sha256.Sum256(text) {
+			t.Error(err, errOfDigest, digest)
+		}
+	}
+	if digest, err := SHA256([]byte("[a")); err == nil || err.Error() != "4 Syntax at byte 2" || digest != [32]byte{} {
+		t.Error(digest, err)
+	}
+}
+
+// A call under a limit needs more, and the same call without one does not, on a thread of Go and on one that it is handed to.
+func TestLimits(t *testing.T) {
+	small := Limits{Memory: 10000}
+	for _, input := range append(deepest(), bytes.Repeat([]byte("- a\n"), 10000)) {
+		_, err := small.Canonical(input)
+		_, errOfEvents := small.Events(input)
+		_, errOfSame := small.Same(input, nil)
+		_, errOfDigest := small.SHA256(input)
+		for _, err := range []error{err, errOfEvents, errOfSame, errOfDigest} {
+			if refusal(t, err).Kind != OutOfMemory || err.Error() != "21 OutOfMemory" {
+				t.Error(err)
+			}
+		}
+		if text, err := (Limits{Memory: 1 << 24}).Canonical(input); err != nil || len(text) == 0 {
+			t.Error(err)
+		}
 	}
 }
 

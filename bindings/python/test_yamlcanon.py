@@ -1,7 +1,9 @@
 """python3 -m unittest: the module over the library."""
 
+import asyncio
 import concurrent.futures
 import doctest
+import hashlib
 import multiprocessing
 import os
 import pathlib
@@ -15,8 +17,21 @@ import threading
 import unittest
 
 import yamlcanon
-from yamlcanon import FORM, Kind, Refused, canonical, canonical_file, events, library_version, same
-from yamlcanon.refused import position
+from yamlcanon import (
+    FORM,
+    Kind,
+    Refused,
+    budget,
+    canonical,
+    canonical_file,
+    events,
+    iter_events,
+    library_release,
+    library_version,
+    same,
+    sha256,
+)
+from yamlcanon.library import message_of, position_of
 
 # A command finds the module where these tests have found it.
 ENVIRONMENT = {**os.environ, "PYTHONPATH": os.path.dirname(os.path.dirname(os.path.realpath(yamlcanon.__file__)))}
@@ -55,6 +70,14 @@ def answer(data):
         return str(fault)
 
 
+def or_memory(work):
+    """What some work gives, or MemoryError where that is raised."""
+    try:
+        return work()
+    except MemoryError:
+        return MemoryError
+
+
 def on_thread(stack, work):
     """What some work gives on a thread with so many bytes of stack."""
     got = []
@@ -71,6 +94,62 @@ class Calls(unittest.TestCase):
         self.assertEqual(canonical(b"{b: 0x1, a: [~]}"), b'--- {"a" : [!!null "null"], "b" : !!int "1"}\n')
         self.assertEqual(canonical(b""), b"")
         self.assertEqual(events(b"a"), b"+STR\n+DOC\n=VAL :a\n-DOC\n-STR\n")
+
+    def test_the_digest_is_that_of_the_text(self):
+        for data in (b"", b"{b: 0x1, a: [~]}", "é: [1, 2]", b"- \n" * 10_000, DEEPEST):
+            self.assertEqual(sha256(data), hashlib.sha256(canonical(data)).digest())
+        for data in (*REFUSED, b"- " * 1024 + b"x"):
+            with self.assertRaises(Refused) as wanted:
+                canonical(data)
+            with self.assertRaises(Refused) as seen:
+                sha256(data)
+            self.assertEqual(seen.exception, wanted.exception)
+            self.assertEqual(seen.exception.line, wanted.exception.line)
+
+    def test_events_one_by_one(self):
+        data = "- a\n- |\n  \u2028b\x85\n---\n&x {}"
+        self.assertEqual("".join(event + "\n" for event in iter_events(data)), events(data).decode())
+        with self.assertRaises(Refused):
+            iter_events("[a")
+
+    def test_a_limit_of_memory(self):
+        data = b"- a\n" * 10_000
+        calls = [
+            (lambda **how: canonical(data, **how), canonical(data)),
+            (lambda **how: events(data, **how), events(data)),
+            (lambda **how: sha256(data, **how), sha256(data)),
+            (lambda **how: same(data, data, **how), True),
+        ]
+        for call, answer_without in calls:
+            with self.assertRaisesRegex(MemoryError, "^yamlcanon: 21 OutOfMemory$"):
+                call(memory=10_000)
+            with budget(10_000):
+                self.assertRaises(MemoryError, call)
+                self.assertEqual(call(memory=0), answer_without)
+                with budget(1 << 30):
+                    self.assertEqual(call(), answer_without)
+                self.assertRaises(MemoryError, call)
+                # The call is handed to another thread, and its limit with it.
+                self.assertIs(on_thread(128 << 10, lambda call=call: or_memory(lambda: call(memory=10_000))), MemoryError)
+            self.assertEqual(call(), answer_without)
+        for wrong in (-1, 1 << 64):
+            self.assertRaises(ValueError, canonical, b"a", memory=wrong)
+            self.assertRaises(ValueError, budget(wrong).__enter__)
+
+    def test_a_limit_is_one_thread_s_and_one_task_s(self):
+        data = b"- a\n" * 10_000
+        with budget(10_000):
+            self.assertEqual(on_thread(0, lambda: canonical(data)), canonical(data, memory=0))
+
+        async def task(memory):
+            with budget(memory):
+                await asyncio.sleep(0.01)
+                return or_memory(lambda: canonical(data))
+
+        async def both():
+            return await asyncio.gather(task(10_000), task(0))
+
+        self.assertEqual(asyncio.run(both()), [MemoryError, canonical(data)])
 
     def test_whether_streams_are_the_same(self):
         self.assertIs(same(b"a: 0x3", b"{a: 3}"), True)
@@ -130,6 +209,10 @@ class Calls(unittest.TestCase):
             self.assertEqual((fault.kind, fault.kind.name), (number, fault.name))
             self.assertEqual(fault.line is None, not 2 <= number <= 11)
 
+    def test_the_message_of_an_error_that_the_library_does_not_know(self):
+        self.assertIsNone(message_of(24, 0, 0, 0))
+        self.assertEqual(str(Refused(24, "Later", 7, side="left")), "left: 24 Later")
+
     def test_refusals_are_equal_by_what_they_say(self):
         with self.assertRaises(Refused) as seen:
             canonical(b"- a\n\t- b")
@@ -151,7 +234,9 @@ class Calls(unittest.TestCase):
         for number in range(3000):
             data = (b"\xef\xbb\xbf" if number % 3 == 0 else b"") + b"".join(chance.choice(parts) for _ in range(number % 12))
             for at in range(len(data) + 1):
-                self.assertEqual(position(data, at), position_by_definition(data, at), (data, at))
+                self.assertEqual(position_of(data, 4, at), position_by_definition(data, at), (data, at))
+            self.assertIsNone(position_of(data, 4, len(data) + 1))
+            self.assertIsNone(position_of(data, 12, 0))
 
     def test_a_place_is_found_in_the_input_that_is_rejected(self):
         left, right = b"a:\r\n  b: \xc3\xa9\xc3\xa9\r\n  c: 1\r\n\td: 2", b"\xef\xbb\xbf- a\n- %"
@@ -185,9 +270,10 @@ class Calls(unittest.TestCase):
         self.assertEqual((str(seen.exception), seen.exception.side), ("right: 5 Tab at byte 4", "right"))
 
     def test_the_version_of_the_library(self):
-        self.assertEqual(library_version(), 100)
+        self.assertEqual(library_version(), 101)
         self.assertEqual(FORM, 1)
-        self.assertRegex(yamlcanon.__version__, r"^1\.0\.\d+$")
+        self.assertRegex(yamlcanon.__version__, r"^1\.1\.\d+$")
+        self.assertEqual(library_release(), yamlcanon.__version__)
 
     def test_deep_inputs_on_threads_with_a_small_stack(self):
         deep = [b"[" * 1000 + b"]" * 1000, blocks(1023), b"- " * 3000, b"{a: " * 2000, DEEPEST]
@@ -259,13 +345,13 @@ thread.join()
 
 
 # A library of another interface, or of another form.
-OTHER = """
-#include <stdint.h>
-uint32_t yamlcanon_version(void) { return VERSION; }
-uint32_t yamlcanon_canonical(void) { return 0; }
-uint32_t yamlcanon_events(void) { return 0; }
-uint32_t yamlcanon_same(void) { return 0; }
-"""
+OTHER = (
+    "#include <stdint.h>\nuint32_t yamlcanon_version(void) { return VERSION; }\nuint32_t yamlcanon_form(void) { return FORM; }\n"
+    + "".join(
+        f"uint32_t yamlcanon_{name}(void) {{ return 0; }}\n"
+        for name in ("canonical_within", "events_within", "same_within", "sha256_within", "message", "position", "release")
+    )
+)
 
 
 class Libraries(unittest.TestCase):
@@ -281,24 +367,23 @@ class Libraries(unittest.TestCase):
         return done.stderr.decode().rpartition("\n")[0].rpartition("\n")[2]
 
     def other(self, version, form):
-        """A library that says that it has this version, and exports its names for this form."""
-        for name, text in (("other.c", OTHER), ("names.map", f"YAMLCANON_{form} {{ global: yamlcanon_*; local: *; }};\n")):
-            with open(f"{self.room}/{name}", "w", encoding="ascii") as file:
-                file.write(text)
-        words = ["cc", f"-DVERSION={version}", "-shared", "-fPIC", "-Wl,--version-script=names.map", "-o", "other.so", "other.c"]
+        """A library that says that it has this version, and gives texts of this form."""
+        with open(f"{self.room}/other.c", "w", encoding="ascii") as file:
+            file.write(OTHER)
+        words = ["cc", f"-DVERSION={version}", f"-DFORM={form}", "-shared", "-fPIC", "-o", "other.so", "other.c"]
         subprocess.run(words, check=True, cwd=self.room)
         return f"{self.room}/other.so"
 
     @unittest.skipUnless(shutil.which("cc"), "no C compiler is installed")
     def test_another_interface_or_form_is_not_loaded(self):
-        self.assertEqual(self.imported(self.other(100, 1)), "")
+        self.assertEqual(self.imported(self.other(101, 1)), "")
         self.assertEqual(self.imported(self.other(102, 1)), "")
-        for version, told in ((99, "0.99"), (200, "2.0"), (201, "2.1")):
+        for version, told in ((99, "0.99"), (100, "1.0"), (200, "2.0"), (201, "2.1")):
             other = self.other(version, 1)
-            needs = "of the interface, and this module needs 1.0 or a later 1.x"
+            needs = "of the interface, and this module needs 1.1 or a later 1.x"
             self.assertEqual(self.imported(other), f"ImportError: yamlcanon: {other} has version {told} {needs}")
-        other = self.other(100, 2)
-        needs = "has no yamlcanon_canonical of YAMLCANON_1: this module needs a library of form 1"
+        other = self.other(101, 2)
+        needs = "gives texts of form 2, and this module needs a library of form 1"
         self.assertEqual(self.imported(other), f"ImportError: yamlcanon: {other} {needs}")
 
     def test_another_library_is_not_loaded(self):
@@ -312,7 +397,7 @@ class Libraries(unittest.TestCase):
 
 def load_tests(_loader, tests, _pattern):
     """Adds the examples of the documentation."""
-    for module in (yamlcanon, yamlcanon.refused):
+    for module in (yamlcanon, yamlcanon.library, yamlcanon.refused):
         tests.addTests(doctest.DocTestSuite(module))
     page = pathlib.Path(__file__).with_name("README.md")
     if page.exists():

@@ -44,6 +44,7 @@ NOTHING = (
     "tools/check-headline yaml_nothing",
     "tools/build yaml_nothing name",
     "tools/fuzz /no/such/folder",
+    "tools/large no-such-part",
     "tools/abi /no/such/folder",
     "tools/bindings --library /no/such/folder",
     "tools/many --library /no/such/folder",

@@ -1,13 +1,11 @@
 """Why an input is rejected: the kinds of errors, and the exception that has the kind and the place."""
 
 import enum
-from typing import Optional, Tuple
+from typing import Optional
 
-__all__ = ["Kind", "Refused", "position"]
+from yamlcanon.library import message_of, position_of
 
-_MARK = b"\xef\xbb\xbf"
-# The bytes of UTF-8 that begin no character.
-_CONTINUING = bytes(range(0x80, 0xC0))
+__all__ = ["Kind", "Refused"]
 
 
 class Kind(enum.IntEnum):
@@ -42,25 +40,6 @@ class Kind(enum.IntEnum):
     TextTooLong = 20
 
 
-def position(data: bytes, place: int) -> Tuple[int, int]:
-    r"""The line and the column of a byte offset, both from 1, as `yamlreview faults` counts them.
-
-    A line ends with a line feed, a carriage return, or both (YAML 1.2.2, 5.4). A column counts characters. A byte order mark has none.
-
-    >>> position(b"a: 1\r\nb: \xc3\xa9}", 11)
-    (2, 5)
-    """
-    begin = len(_MARK) if data.startswith(_MARK) else 0
-    at = max(place, begin)
-    # A carriage return whose line feed is at the offset or behind it ends no line yet.
-    breaks = data.count(b"\n", begin, at) + data.count(b"\r", begin, at) - data.count(b"\r\n", begin, at + 1)
-    feed, carriage = data.rfind(b"\n", begin, at), data.rfind(b"\r", begin, at)
-    if data[at - 1 : at + 1] == b"\r\n":
-        carriage = data.rfind(b"\r", begin, at - 1)
-    start = max(feed, carriage, begin - 1) + 1
-    return 1 + breaks, 1 + len(data[start:at].translate(None, _CONTINUING))
-
-
 class Refused(ValueError):
     """An input is rejected. Its text is the message that the program prints.
 
@@ -93,14 +72,11 @@ class Refused(ValueError):
     def kind(self) -> Kind:
         return Kind(self.number)
 
-    def has_offset(self) -> bool:
-        """Whether `place` is a byte offset."""
-        return Kind.NotUtf8 <= self.number <= Kind.BadTag
-
     def locate(self, data: bytes) -> "Refused":
         """Sets line and column from the input that is rejected. Returns itself."""
-        if self.has_offset():
-            self.line, self.column = position(data, self.place)
+        found = position_of(data, self.number, self.place)
+        if found is not None:
+            self.line, self.column = found
         return self
 
     def __eq__(self, other: object) -> bool:
@@ -112,13 +88,5 @@ class Refused(ValueError):
         return hash(self.args)
 
     def __str__(self) -> str:
-        at = ""
-        if self.has_offset():
-            at = f" at byte {self.place}"
-        elif Kind.UndefinedAlias <= self.number <= Kind.FloatRange:
-            at = f" at event {self.place}"
-        elif self.number == Kind.TooHigh:
-            at = f" in document {self.place}"
-        elif self.number == Kind.EqualKeys:
-            at = f" in node {self.place}, entries {self.first} and {self.second}"
-        return f"{self.side + ': ' if self.side else ''}{self.number} {self.name}{at}"
+        told = message_of(self.number, self.place, self.first, self.second) or f"{self.number} {self.name}"
+        return f"{self.side}: {told}" if self.side else told

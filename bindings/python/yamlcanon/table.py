@@ -80,12 +80,11 @@ class NoTable(Exception):
 
 @lru_cache(maxsize=None)
 def library_key() -> str:
-    """Names the library that answers, as `form1 1.0 0123456789abcdef`: the form of its texts, the version of its interface, and the
+    """Names the library that answers, as `form1 1.1 0123456789abcdef`: the form of its texts, the version of its interface, and the
     start of the SHA-256 of its file.
 
-    The version alone is not enough: it is 1.0 for each release 1.0.x, of which a later one may accept more, and the library has no
-    call that gives its release. The file's digest differs for each release, and also where a release was built anew: then
-    nothing is taken from the cache, which costs time alone.
+    The version alone is not enough: it is 1.1 for each release 1.1.x, of which a later one may accept more. The file's digest
+    differs for each release, and also where a release was built anew: then nothing is taken from the cache, which costs time alone.
     """
     over = hashlib.sha256()
     with open(yamlcanon._library_file, "rb") as file:

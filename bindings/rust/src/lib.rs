@@ -4,23 +4,44 @@
 //! let text = yamlcanon::canonical(b"{b: 0x1, a: [~]}")?;
 //! assert_eq!(text, b"--- {\"a\" : [!!null \"null\"], \"b\" : !!int \"1\"}\n");
 //! assert!(yamlcanon::same(b"a: 0x3", b"{a: 3}")?);
+//! assert_eq!(yamlcanon::sha256(b"a: 0x3")?, yamlcanon::sha256(b"{a: 3}")?);
 //! # Ok::<(), yamlcanon::Refused>(())
 //! ```
 //!
-//! A call may be made on any thread. A level of nesting is given 1.5 KiB of stack, 1,024 of them 1.5 MiB, and where less is
+//! [`Limits`] has the same calls under a limit of memory. A call may be made on any thread. A level of nesting is given 1.5 KiB of stack, 1,024 of them 1.5 MiB, and where less is
 //! left than an input of this length may take, the call is made on a thread of its own that has 8 MiB.
 #![warn(missing_docs)]
 
+use std::ffi::{c_char, CStr};
 use std::{error, fmt, thread};
 
 /// The form of the texts that [`canonical`] gives: yamlcanon-form-1. A library of another form has another name, and is not linked.
 pub const FORM: u32 = 1;
+
+/// The version of the library that is linked: 101 for 1.1. One of an older interface lacks calls, and is not linked.
+pub fn version() -> u32 {
+    // SAFETY: it takes nothing.
+    unsafe { yamlcanon_version() }
+}
+
+/// The release of the library that is linked.
+///
+/// ```
+/// assert!(yamlcanon::release().starts_with("1."));
+/// ```
+pub fn release() -> &'static str {
+    // SAFETY: the text is ended by a null byte, and is never freed or changed.
+    unsafe { CStr::from_ptr(yamlcanon_release()) }.to_str().unwrap_or("")
+}
 
 // What a call on n bytes takes of the stack at most: a byte opens one level of nesting at most, up to 1,024.
 const STACK_BASE: usize = 256 << 10;
 const STACK_LEVEL: usize = 1536;
 const MOST_LEVELS: usize = 1024;
 const STACK_GIVEN: usize = 8 << 20;
+
+// The room that is enough for each message: YAMLCANON_MESSAGE.
+const MESSAGE: usize = 128;
 
 /// The kinds of errors. The numbers and names are those that the program prints.
 ///
@@ -114,16 +135,16 @@ impl Refused {
     /// assert_eq!(fault.position(input), Some((2, 6)));
     /// ```
     pub fn position(&self, input: &[u8]) -> Option<(usize, usize)> {
-        let text = input.strip_prefix(b"\xef\xbb\xbf").unwrap_or(input);
-        let at = (self.place as usize).saturating_sub(input.len() - text.len());
-        if !(NotUtf8..=BadTag).contains(&self.kind()) || at > text.len() {
-            return None;
-        }
-        let ends_line = |k: usize| text[k] == b'\n' || (text[k] == b'\r' && text.get(k + 1) != Some(&b'\n'));
-        let start = (0..at).rev().find(|&k| ends_line(k)).map_or(0, |k| k + 1);
-        let line = 1 + (0..start).filter(|&k| ends_line(k)).count();
-        let column = 1 + text[start..at].iter().filter(|&&byte| byte & 0xc0 != 0x80).count();
-        Some((line, column))
+        let (mut line, mut column) = (0, 0);
+        // SAFETY: the slice is lent for the call; its pointer is not null.
+        let status = unsafe { yamlcanon_position(input.as_ptr(), input.len(), &self.told(), &mut line, &mut column) };
+        (status == 0).then_some((line, column))
+    }
+
+    /// The numbers as the library tells them.
+    fn told(&self) -> Fault {
+        let side = u32::from(self.side == Some(Side::Right));
+        Fault { number: self.number, side, place: self.place, first: self.entries.0, second: self.entries.1, name: self.name }
     }
 
     /// The fault's name, as `EqualKeys`.
@@ -148,13 +169,11 @@ impl fmt::Display for Refused {
             Some(Side::Right) => write!(f, "right: ")?,
             None => {}
         }
-        write!(f, "{} {}", self.number, self.name())?;
-        match self.number {
-            2..=11 => write!(f, " at byte {}", self.place),
-            12..=17 => write!(f, " at event {}", self.place),
-            18 => write!(f, " in document {}", self.place),
-            19 => write!(f, " in node {}, entries {} and {}", self.place, self.entries.0, self.entries.1),
-            _ => Ok(()),
+        let (mut room, mut len) = ([0; MESSAGE], 0);
+        // SAFETY: the room is as long as it is said to be, and is enough for each message.
+        match unsafe { yamlcanon_message(&self.told(), room.as_mut_ptr().cast(), room.len(), &mut len) } {
+            0 => f.write_str(std::str::from_utf8(&room[..len]).unwrap_or("")),
+            _ => write!(f, "{} {}", self.number, self.name()),
         }
     }
 }
@@ -185,12 +204,40 @@ impl Fault {
     }
 }
 
-type TextCall = unsafe extern "C" fn(*const u8, usize, *mut u8, usize, *mut usize, *mut Fault) -> u32;
+type TextCall = unsafe extern "C" fn(*const u8, usize, *mut u8, usize, *mut usize, *mut Fault, usize) -> u32;
 
 extern "C" {
-    fn yamlcanon_canonical(input: *const u8, n: usize, out: *mut u8, cap: usize, len: *mut usize, fault: *mut Fault) -> u32;
-    fn yamlcanon_events(input: *const u8, n: usize, out: *mut u8, cap: usize, len: *mut usize, fault: *mut Fault) -> u32;
-    fn yamlcanon_same(left: *const u8, left_n: usize, right: *const u8, right_n: usize, fault: *mut Fault) -> u32;
+    fn yamlcanon_version() -> u32;
+    fn yamlcanon_release() -> *const c_char;
+    fn yamlcanon_message(fault: *const Fault, out: *mut c_char, cap: usize, len: *mut usize) -> u32;
+    fn yamlcanon_position(input: *const u8, n: usize, fault: *const Fault, line: *mut usize, column: *mut usize) -> u32;
+    fn yamlcanon_canonical_within(
+        input: *const u8,
+        n: usize,
+        out: *mut u8,
+        cap: usize,
+        len: *mut usize,
+        fault: *mut Fault,
+        memory: usize,
+    ) -> u32;
+    fn yamlcanon_events_within(
+        input: *const u8,
+        n: usize,
+        out: *mut u8,
+        cap: usize,
+        len: *mut usize,
+        fault: *mut Fault,
+        memory: usize,
+    ) -> u32;
+    fn yamlcanon_same_within(
+        left: *const u8,
+        left_n: usize,
+        right: *const u8,
+        right_n: usize,
+        fault: *mut Fault,
+        memory: usize,
+    ) -> u32;
+    fn yamlcanon_sha256_within(input: *const u8, n: usize, out: *mut [u8; 32], fault: *mut Fault, memory: usize) -> u32;
 }
 
 /// How many bytes of this thread's stack are left, or 0 where the system does not tell.
@@ -237,13 +284,13 @@ fn with_stack<T: Send>(size: usize, work: impl FnOnce() -> T + Send) -> T {
     })
 }
 
-fn text(call: TextCall, input: &[u8]) -> Result<Vec<u8>, Refused> {
+fn text(call: TextCall, input: &[u8], memory: usize) -> Result<Vec<u8>, Refused> {
     with_stack(input.len(), || {
         let mut out = vec![0; input.len() * 2 + 64];
         loop {
             let (mut len, mut fault) = (0, Fault::default());
             // SAFETY: the slices' pointers are not null, lie apart, and are lent for the call.
-            match unsafe { call(input.as_ptr(), input.len(), out.as_mut_ptr(), out.len(), &mut len, &mut fault) } {
+            match unsafe { call(input.as_ptr(), input.len(), out.as_mut_ptr(), out.len(), &mut len, &mut fault, memory) } {
                 0 => {
                     out.truncate(len);
                     return Ok(out);
@@ -255,6 +302,59 @@ fn text(call: TextCall, input: &[u8]) -> Result<Vec<u8>, Refused> {
     })
 }
 
+/// The calls under a limit.
+///
+/// ```
+/// use yamlcanon::{Kind, Limits};
+/// let limits = Limits { memory: 1 << 20 };
+/// assert!(limits.same(b"a: 0x3", b"{a: 3}")?);
+/// let fault = Limits { memory: 1000 }.canonical(b"a: 3").unwrap_err();
+/// assert_eq!(fault.kind(), Kind::OutOfMemory);
+/// # Ok::<(), yamlcanon::Refused>(())
+/// ```
+#[derive(Clone, Copy, Debug, Default, PartialEq, Eq)]
+pub struct Limits {
+    /// What a call may hold at once, in bytes, with 16 more for each block that it asks for; 0 is no limit. The answer is not counted.
+    pub memory: usize,
+}
+
+impl Limits {
+    /// [`canonical`] under this limit.
+    pub fn canonical(self, input: &[u8]) -> Result<Vec<u8>, Refused> {
+        text(yamlcanon_canonical_within, input, self.memory)
+    }
+
+    /// [`events`] under this limit.
+    pub fn events(self, input: &[u8]) -> Result<Vec<u8>, Refused> {
+        text(yamlcanon_events_within, input, self.memory)
+    }
+
+    /// [`same`] under this limit.
+    pub fn same(self, left: &[u8], right: &[u8]) -> Result<bool, Refused> {
+        with_stack(left.len().max(right.len()), || {
+            let mut fault = Fault::default();
+            // SAFETY: as above; the two inputs are only read.
+            match unsafe { yamlcanon_same_within(left.as_ptr(), left.len(), right.as_ptr(), right.len(), &mut fault, self.memory) } {
+                0 => Ok(true),
+                1 => Ok(false),
+                _ => Err(fault.refused(true)),
+            }
+        })
+    }
+
+    /// [`sha256`] under this limit.
+    pub fn sha256(self, input: &[u8]) -> Result<[u8; 32], Refused> {
+        with_stack(input.len(), || {
+            let (mut digest, mut fault) = ([0; 32], Fault::default());
+            // SAFETY: as above; the digest has 32 bytes.
+            match unsafe { yamlcanon_sha256_within(input.as_ptr(), input.len(), &mut digest, &mut fault, self.memory) } {
+                0 => Ok(digest),
+                _ => Err(fault.refused(false)),
+            }
+        })
+    }
+}
+
 /// The canonical text of a stream's bytes. It is UTF-8, and empty for a stream without documents.
 ///
 /// ```
@@ -263,7 +363,7 @@ fn text(call: TextCall, input: &[u8]) -> Result<Vec<u8>, Refused> {
 /// # Ok::<(), yamlcanon::Refused>(())
 /// ```
 pub fn canonical(input: &[u8]) -> Result<Vec<u8>, Refused> {
-    text(yamlcanon_canonical, input)
+    Limits::default().canonical(input)
 }
 
 /// The events of a stream's bytes, in the notation of yaml-test-suite.
@@ -273,7 +373,7 @@ pub fn canonical(input: &[u8]) -> Result<Vec<u8>, Refused> {
 /// # Ok::<(), yamlcanon::Refused>(())
 /// ```
 pub fn events(input: &[u8]) -> Result<Vec<u8>, Refused> {
-    text(yamlcanon_events, input)
+    Limits::default().events(input)
 }
 
 /// Whether two streams mean the same.
@@ -284,13 +384,17 @@ pub fn events(input: &[u8]) -> Result<Vec<u8>, Refused> {
 /// # Ok::<(), yamlcanon::Refused>(())
 /// ```
 pub fn same(left: &[u8], right: &[u8]) -> Result<bool, Refused> {
-    with_stack(left.len().max(right.len()), || {
-        let mut fault = Fault::default();
-        // SAFETY: as above; the two inputs are only read.
-        match unsafe { yamlcanon_same(left.as_ptr(), left.len(), right.as_ptr(), right.len(), &mut fault) } {
-            0 => Ok(true),
-            1 => Ok(false),
-            _ => Err(fault.refused(true)),
-        }
-    })
+    Limits::default().same(left, right)
+}
+
+/// The SHA-256 of the canonical text: what means the same has the same.
+///
+/// ```
+/// let digest = yamlcanon::sha256(b"{a: 3}")?;
+/// assert_eq!(digest, yamlcanon::sha256(b"a: 0x3 # three")?);
+/// assert_eq!(digest[..4], [0x5d, 0xd5, 0x63, 0xd9]);
+/// # Ok::<(), yamlcanon::Refused>(())
+/// ```
+pub fn sha256(input: &[u8]) -> Result<[u8; 32], Refused> {
+    Limits::default().sha256(input)
 }

@@ -1,5 +1,5 @@
 use std::thread;
-use yamlcanon::{canonical, events, same, Kind, Side, FORM};
+use yamlcanon::{canonical, events, release, same, sha256, version, Kind, Limits, Side, FORM};
 
 /// Block mappings, each with a tag and an anchor on lines of their own.
 fn blocks(levels: usize) -> String {
@@ -105,8 +105,43 @@ fn lines_and_columns() {
 }
 
 #[test]
-fn the_form_of_the_texts() {
-    assert_eq!(FORM, 1);
+fn which_library_it_is() {
+    assert_eq!((FORM, version(), release()), (1, 101, env!("CARGO_PKG_VERSION")));
+}
+
+#[test]
+fn digests() {
+    let many = "- \n".repeat(10_000);
+    let text = canonical(many.as_bytes()).unwrap();
+    assert_eq!(sha256(many.as_bytes()).unwrap(), sha256(&text).unwrap());
+    assert_ne!(sha256(b"a: 3").unwrap(), sha256(b"a: '3'").unwrap());
+    // The SHA-256 of no bytes, which is the text of a stream without documents.
+    assert_eq!(sha256(b"").unwrap()[..4], [0xe3, 0xb0, 0xc4, 0x42]);
+    for (kind, input) in REFUSED {
+        assert_eq!(sha256(input).unwrap_err(), canonical(input).unwrap_err(), "{kind:?}");
+    }
+}
+
+#[test]
+fn limits_of_memory() {
+    let many = "- a\n".repeat(10_000).into_bytes();
+    let (small, none) = (Limits { memory: 10_000 }, Limits::default());
+    let kinds = || {
+        [
+            small.canonical(&many).unwrap_err().kind(),
+            small.events(&many).unwrap_err().kind(),
+            small.same(&many, &many).unwrap_err().kind(),
+            small.sha256(&many).unwrap_err().kind(),
+        ]
+    };
+    assert_eq!(kinds(), [Kind::OutOfMemory; 4]);
+    assert_eq!(none.canonical(&many), canonical(&many));
+    assert!(none.same(&many, &many).unwrap());
+    assert_eq!(small.canonical(&many).unwrap_err().to_string(), "21 OutOfMemory");
+    assert_eq!(small.same(&many, b"").unwrap_err().to_string(), "21 OutOfMemory");
+    // A call that is handed to another thread keeps its limit.
+    let there = thread::scope(|scope| thread::Builder::new().stack_size(128 << 10).spawn_scoped(scope, kinds).unwrap().join().unwrap());
+    assert_eq!(there, [Kind::OutOfMemory; 4]);
 }
 
 #[test]

@@ -72,7 +72,7 @@ static DIFFERENCES: [Row; 5] = [
         },
         status: 1,
         told: Text {
-            front: "~\t0[0][1]\t\"x\"\t\"y\"\n~\t0[1][0][1]\t\"x\"\t\"y\"\n~\t0[1][1][1]\t\"x\"\t\"y\"\n~\t0[2][0][0][1]\t\"x\"\t\"y\"\n...\n",
+            front: "~\t[0][1]\t\"x\"\t\"y\"\n~\t[1][0][1]\t\"x\"\t\"y\"\n~\t[1][1][1]\t\"x\"\t\"y\"\n~\t[2][0][0][1]\t\"x\"\t\"y\"\n...\n",
             ..NONE
         },
         is_all: true,
@@ -87,7 +87,7 @@ static DIFFERENCES: [Row; 5] = [
         },
         status: 1,
         told: Text {
-            front: "+\t0[0]\t\t\"new\"\t\t1:3\n",
+            front: "+\t[0]\t\t\"new\"\t\t1:3\n",
             ..NONE
         },
         is_all: true,
@@ -108,7 +108,7 @@ static DIFFERENCES: [Row; 5] = [
         is_all: true,
     },
     Row {
-        name: "a text that is cut inside its last character",
+        name: "two long texts that differ in their last character",
         words: &["diff", "--no-places", "left", "right"],
         left: Text {
             front: "a日日日日日日日日日日日日日日日日日日日日",
@@ -120,7 +120,7 @@ static DIFFERENCES: [Row; 5] = [
         },
         status: 1,
         told: Text {
-            front: "~\t0\t\"a日日日日日日日日日日日日日日日日日日日...\t\"a日日日日日日日日日日日日日日日日日日日...\n",
+            front: "~\t.\t...\"日日日日日日日日\"\t...\"日日日日日日日月\"\n",
             ..NONE
         },
         is_all: true,
@@ -139,7 +139,7 @@ static DIFFERENCES: [Row; 5] = [
         },
         status: 1,
         told: Text {
-            front: "+\t0[\"a ",
+            front: "+\t[\"a ",
             end: "...]\t\t!!int \"1\"\n",
             ..LONG_KEY
         },

@@ -10,7 +10,7 @@ pub static ROWS: [Row; 8] = [
         left: b"apiVersion: apps/v1\nkind: Deployment\nmetadata:\n  name: web\nspec:\n  replicas: 2\n  template:\n    image: shop/web:1.4\n    ports: [80, 443]\n",
         right: b"# generated\n{kind: Deployment, apiVersion: \"apps/v1\",\n metadata: {name: web},\n spec: {replicas: 0x3, strategy: Recreate,\n  template: {image: \"shop/web:1.5\", ports: [80]}}}\n",
         status: 1,
-        out: "~\t0.spec.replicas\t!!int \"2\"\t!!int \"3\"\n~\t0.spec.template.image\t\"shop/web:1.4\"\t\"shop/web:1.5\"\n-\t0.spec.template.ports[1]\t!!int \"443\"\t\n+\t0.spec.strategy\t\t\"Recreate\"\n",
+        out: "~\t.spec.replicas\t!!int \"2\"\t!!int \"3\"\n~\t.spec.template.image\t\"shop/web:1.4\"\t\"shop/web:1.5\"\n-\t.spec.template.ports[1]\t!!int \"443\"\t\n+\t.spec.strategy\t\t\"Recreate\"\n",
         err: "",
     },
     Row {
@@ -28,7 +28,7 @@ pub static ROWS: [Row; 8] = [
         left: b"{[a]: 1, 2: x, a b: 0x1}",
         right: b"{[a]: 2, 0x2: y, ~: z, 'a b': 1}",
         status: 1,
-        out: "~\t0[[\"a\"]]\t!!int \"1\"\t!!int \"2\"\n~\t0[!!int \"2\"]\t\"x\"\t\"y\"\n+\t0[!!null \"null\"]\t\t\"z\"\n",
+        out: "~\t[[\"a\"]]\t!!int \"1\"\t!!int \"2\"\n~\t[!!int \"2\"]\t\"x\"\t\"y\"\n+\t[!!null \"null\"]\t\t\"z\"\n",
         err: "",
     },
     Row {
@@ -37,7 +37,7 @@ pub static ROWS: [Row; 8] = [
         left: b"a",
         right: b"[a]",
         status: 1,
-        out: "~\t0\t\"a\"\t[\"a\"]\n",
+        out: "~\t.\t\"a\"\t[\"a\"]\n",
         err: "",
     },
     Row {
@@ -46,7 +46,7 @@ pub static ROWS: [Row; 8] = [
         left: b"note: |\n  one\n  two\nhex: 0x10\n",
         right: b"note: \"one\\ntwo\\n\"\nhex: !!str 0x10\n",
         status: 1,
-        out: "~\t0.hex\t!!int \"16\"\t\"0x10\"\n",
+        out: "~\t.hex\t!!int \"16\"\t\"0x10\"\n",
         err: "",
     },
     Row {
@@ -64,7 +64,7 @@ pub static ROWS: [Row; 8] = [
         left: b"- aaaaaaaaaaaaaaaaaaaaaaaaaaaaaaaaaaaaaaaaaaaaaaaaaaaaaaaaaaaaaaaaaaaaaa\n",
         right: b"- b\n",
         status: 1,
-        out: "~\t0[0]\t\"aaaaaaaaaaaaaaaaaaaaaaaaaaaaaaaaaaaaaaaaaaaaaaaaaaaaaaaaaaa...\t\"b\"\n",
+        out: "~\t[0]\t\"aaaaaaaaaaaaaaaaaaaaaaaaaaaaaaaaaaaaaaaaaaaaaaaaaaaaaaaaaaa...\t\"b\"\n",
         err: "",
     },
     Row {
@@ -73,7 +73,7 @@ pub static ROWS: [Row; 8] = [
         left: b"- aaaaaaaaaaaaaaaaaaaaaaaaaaaaaaaaaaaaaaaaaaaaaaaaaaaaaaaaaaaaaaaaaaaaaa\n",
         right: b"- b\n",
         status: 1,
-        out: "~\t0[0]\t\"aaaaaaaaaaaaaaaaaaaaaaaaaaaaaaaaaaaaaaaaaaaaaaaaaaaaaaaaaaaaaaaaaaaaaa\"\t\"b\"\n",
+        out: "~\t[0]\t\"aaaaaaaaaaaaaaaaaaaaaaaaaaaaaaaaaaaaaaaaaaaaaaaaaaaaaaaaaaaaaaaaaaaaaa\"\t\"b\"\n",
         err: "",
     },
 ];

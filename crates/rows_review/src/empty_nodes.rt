@@ -12,7 +12,7 @@ pub static ROWS: [Row; 27] = [
         left: b"a:\nb: 1\n",
         right: b"a: 2\nb: 1\n",
         status: 1,
-        out: "~\t0.a\t!!null \"null\"\t!!int \"2\"\t1:3\t1:4\n",
+        out: "~\t.a\t!!null \"null\"\t!!int \"2\"\t1:3\t1:4\n",
         err: "",
     },
     Row {
@@ -21,7 +21,7 @@ pub static ROWS: [Row; 27] = [
         left: b"a: 2\nb: 1\n",
         right: b"a:\nb: 1\n",
         status: 1,
-        out: "~\t0.a\t!!int \"2\"\t!!null \"null\"\t1:4\t1:3\n",
+        out: "~\t.a\t!!int \"2\"\t!!null \"null\"\t1:4\t1:3\n",
         err: "",
     },
     Row {
@@ -30,7 +30,7 @@ pub static ROWS: [Row; 27] = [
         left: b"x:\n  a:\n\n  # c\n  b: 1\n",
         right: b"x:\n  a: 2\n  b: 1\n",
         status: 1,
-        out: "~\t0.x.a\t!!null \"null\"\t!!int \"2\"\t2:5\t2:6\n",
+        out: "~\t.x.a\t!!null \"null\"\t!!int \"2\"\t2:5\t2:6\n",
         err: "",
     },
     Row {
@@ -39,7 +39,7 @@ pub static ROWS: [Row; 27] = [
         left: b"- a\n-\n- b\n",
         right: b"- a\n- 2\n- b\n",
         status: 1,
-        out: "~\t0[1]\t!!null \"null\"\t!!int \"2\"\t2:2\t2:3\n",
+        out: "~\t[1]\t!!null \"null\"\t!!int \"2\"\t2:2\t2:3\n",
         err: "",
     },
     Row {
@@ -48,7 +48,7 @@ pub static ROWS: [Row; 27] = [
         left: b"- -\n- b\n",
         right: b"- - 2\n- b\n",
         status: 1,
-        out: "~\t0[0][0]\t!!null \"null\"\t!!int \"2\"\t1:4\t1:5\n",
+        out: "~\t[0][0]\t!!null \"null\"\t!!int \"2\"\t1:4\t1:5\n",
         err: "",
     },
     Row {
@@ -57,7 +57,7 @@ pub static ROWS: [Row; 27] = [
         left: b"a:\n-\n- b\n",
         right: b"a:\n- 2\n- b\n",
         status: 1,
-        out: "~\t0.a[0]\t!!null \"null\"\t!!int \"2\"\t2:2\t2:3\n",
+        out: "~\t.a[0]\t!!null \"null\"\t!!int \"2\"\t2:2\t2:3\n",
         err: "",
     },
     Row {
@@ -66,7 +66,7 @@ pub static ROWS: [Row; 27] = [
         left: b"a:",
         right: b"a: 2",
         status: 1,
-        out: "~\t0.a\t!!null \"null\"\t!!int \"2\"\t1:3\t1:4\n",
+        out: "~\t.a\t!!null \"null\"\t!!int \"2\"\t1:3\t1:4\n",
         err: "",
     },
     Row {
@@ -75,7 +75,7 @@ pub static ROWS: [Row; 27] = [
         left: b"a:\n\n \n",
         right: b"a: 2",
         status: 1,
-        out: "~\t0.a\t!!null \"null\"\t!!int \"2\"\t1:3\t1:4\n",
+        out: "~\t.a\t!!null \"null\"\t!!int \"2\"\t1:3\t1:4\n",
         err: "",
     },
     Row {
@@ -84,7 +84,7 @@ pub static ROWS: [Row; 27] = [
         left: b"a: # c\nb: 1\n",
         right: b"a: 2\nb: 1\n",
         status: 1,
-        out: "~\t0.a\t!!null \"null\"\t!!int \"2\"\t1:3\t1:4\n",
+        out: "~\t.a\t!!null \"null\"\t!!int \"2\"\t1:3\t1:4\n",
         err: "",
     },
     Row {
@@ -93,7 +93,7 @@ pub static ROWS: [Row; 27] = [
         left: b"\"x # y\": # a: # b\nz: 1\n",
         right: b"\"x # y\": 2\nz: 1\n",
         status: 1,
-        out: "~\t0[\"x # y\"]\t!!null \"null\"\t!!int \"2\"\t1:9\t1:10\n",
+        out: "~\t[\"x # y\"]\t!!null \"null\"\t!!int \"2\"\t1:9\t1:10\n",
         err: "",
     },
     Row {
@@ -102,7 +102,7 @@ pub static ROWS: [Row; 27] = [
         left: b"{\"a # b\": c}: # d\n",
         right: b"{\"a # b\": c}: 2\n",
         status: 1,
-        out: "~\t0[{\"a # b\" : \"c\"}]\t!!null \"null\"\t!!int \"2\"\t1:14\t1:15\n",
+        out: "~\t[{\"a # b\" : \"c\"}]\t!!null \"null\"\t!!int \"2\"\t1:14\t1:15\n",
         err: "",
     },
     Row {
@@ -111,7 +111,7 @@ pub static ROWS: [Row; 27] = [
         left: b"- &k x\n- *k :\n- b\n",
         right: b"- &k x\n- *k : 2\n- b\n",
         status: 1,
-        out: "~\t0[1].x\t!!null \"null\"\t!!int \"2\"\t2:7\t2:8\n",
+        out: "~\t[1].x\t!!null \"null\"\t!!int \"2\"\t2:7\t2:8\n",
         err: "",
     },
     Row {
@@ -120,7 +120,7 @@ pub static ROWS: [Row; 27] = [
         left: b"a: !!str\nb: 1\n",
         right: b"a: x\nb: 1\n",
         status: 1,
-        out: "~\t0.a\t\"\"\t\"x\"\t1:9\t1:4\n",
+        out: "~\t.a\t\"\"\t\"x\"\t1:9\t1:4\n",
         err: "",
     },
     Row {
@@ -129,7 +129,7 @@ pub static ROWS: [Row; 27] = [
         left: b"- &x\n- b\n",
         right: b"- 2\n- b\n",
         status: 1,
-        out: "~\t0[0]\t!!null \"null\"\t!!int \"2\"\t1:5\t1:3\n",
+        out: "~\t[0]\t!!null \"null\"\t!!int \"2\"\t1:5\t1:3\n",
         err: "",
     },
     Row {
@@ -138,7 +138,7 @@ pub static ROWS: [Row; 27] = [
         left: b"a:\n  &x # c\n  !!str\n\nb: 1\n",
         right: b"a: x\nb: 1\n",
         status: 1,
-        out: "~\t0.a\t\"\"\t\"x\"\t3:8\t1:4\n",
+        out: "~\t.a\t\"\"\t\"x\"\t3:8\t1:4\n",
         err: "",
     },
     Row {
@@ -165,7 +165,7 @@ pub static ROWS: [Row; 27] = [
         left: b"[a: , b]",
         right: b"[a: 2, b]",
         status: 1,
-        out: "~\t0[0].a\t!!null \"null\"\t!!int \"2\"\t1:4\t1:5\n",
+        out: "~\t[0].a\t!!null \"null\"\t!!int \"2\"\t1:4\t1:5\n",
         err: "",
     },
     Row {
@@ -174,7 +174,7 @@ pub static ROWS: [Row; 27] = [
         left: b"{a , b: }",
         right: b"{a: 2, b: 2}",
         status: 1,
-        out: "~\t0.a\t!!null \"null\"\t!!int \"2\"\t1:3\t1:5\n~\t0.b\t!!null \"null\"\t!!int \"2\"\t1:8\t1:11\n",
+        out: "~\t.a\t!!null \"null\"\t!!int \"2\"\t1:3\t1:5\n~\t.b\t!!null \"null\"\t!!int \"2\"\t1:8\t1:11\n",
         err: "",
     },
     Row {
@@ -183,7 +183,7 @@ pub static ROWS: [Row; 27] = [
         left: b"{?\n  # c\n  , b: 1}",
         right: b"{? : 2, b: 1}",
         status: 1,
-        out: "~\t0[!!null \"null\"]\t!!null \"null\"\t!!int \"2\"\t1:3\t1:6\n",
+        out: "~\t[!!null \"null\"]\t!!null \"null\"\t!!int \"2\"\t1:3\t1:6\n",
         err: "",
     },
     Row {
@@ -192,7 +192,7 @@ pub static ROWS: [Row; 27] = [
         left: b"[? , b]",
         right: b"[? : 2, b]",
         status: 1,
-        out: "~\t0[0][!!null \"null\"]\t!!null \"null\"\t!!int \"2\"\t1:3\t1:6\n",
+        out: "~\t[0][!!null \"null\"]\t!!null \"null\"\t!!int \"2\"\t1:3\t1:6\n",
         err: "",
     },
     Row {
@@ -201,7 +201,7 @@ pub static ROWS: [Row; 27] = [
         left: b"a:\r\n\r\nb: 1\r\n",
         right: b"a: 2\r\nb: 1\r\n",
         status: 1,
-        out: "~\t0.a\t!!null \"null\"\t!!int \"2\"\t1:3\t1:4\n",
+        out: "~\t.a\t!!null \"null\"\t!!int \"2\"\t1:3\t1:4\n",
         err: "",
     },
     Row {
@@ -210,7 +210,7 @@ pub static ROWS: [Row; 27] = [
         left: b"\xEF\xBB\xBFa:\nb: 1\n",
         right: b"a: 2\nb: 1\n",
         status: 1,
-        out: "~\t0.a\t!!null \"null\"\t!!int \"2\"\t1:3\t1:4\n",
+        out: "~\t.a\t!!null \"null\"\t!!int \"2\"\t1:3\t1:4\n",
         err: "",
     },
     Row {
@@ -219,7 +219,7 @@ pub static ROWS: [Row; 27] = [
         left: b"\xE6\x97\xA5\xE6\x9C\xAC:\nb: 1\n",
         right: b"\xE6\x97\xA5\xE6\x9C\xAC: 2\nb: 1\n",
         status: 1,
-        out: "~\t0[\"日本\"]\t!!null \"null\"\t!!int \"2\"\t1:4\t1:5\n",
+        out: "~\t[\"日本\"]\t!!null \"null\"\t!!int \"2\"\t1:4\t1:5\n",
         err: "",
     },
     Row {
@@ -228,7 +228,7 @@ pub static ROWS: [Row; 27] = [
         left: b"a:\nb: 1\n",
         right: b"a: 2\nb: 1\n",
         status: 1,
-        out: "{\"kind\":\"changed\",\"left\":\"!!null \\\"null\\\"\",\"left_place\":{\"column\":3,\"line\":1},\"path\":\"0.a\",\"right\":\"!!int \\\"2\\\"\",\"right_place\":{\"column\":4,\"line\":1}}\n",
+        out: "{\"kind\":\"changed\",\"left\":\"!!null \\\"null\\\"\",\"left_place\":{\"column\":3,\"line\":1},\"path\":\".a\",\"right\":\"!!int \\\"2\\\"\",\"right_place\":{\"column\":4,\"line\":1}}\n",
         err: "",
     },
     Row {

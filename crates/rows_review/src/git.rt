@@ -29,7 +29,7 @@ pub static ROWS: [Row; 13] = [
         left: b"a: 1\n",
         right: b"a: 2\n",
         status: 0,
-        out: "diff a.yaml\nmode 100644 -> 100755\n~\t0.a\t!!int \"1\"\t!!int \"2\"\t1:4\t1:4\n",
+        out: "diff a.yaml\nmode 100644 -> 100755\n~\t.a\t!!int \"1\"\t!!int \"2\"\t1:4\t1:4\n",
         err: "",
     },
     Row {

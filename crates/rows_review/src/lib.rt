@@ -24,7 +24,11 @@ mod rows;
 #[cfg(test)]
 mod runs;
 #[cfg(test)]
+mod shown;
+#[cfg(test)]
 mod slips;
+#[cfg(test)]
+mod strings;
 #[cfg(test)]
 mod sum;
 #[cfg(test)]

@@ -9,7 +9,7 @@ const DEPLOYMENT_RIGHT: &[u8] =
 
 /// Its lines with places.
 const LINES: &str =
-    "~\t0.spec.replicas\t!!int \"2\"\t!!int \"3\"\t6:13\t4:19\n~\t0.spec.template.image\t\"shop/web:1.4\"\t\"shop/web:1.5\"\t8:12\t5:21\n-\t0.spec.template.ports[1]\t!!int \"443\"\t\t9:17\t\n+\t0.spec.strategy\t\t\"Recreate\"\t\t4:34\n";
+    "~\t.spec.replicas\t!!int \"2\"\t!!int \"3\"\t6:13\t4:19\n~\t.spec.template.image\t\"shop/web:1.4\"\t\"shop/web:1.5\"\t8:12\t5:21\n-\t.spec.template.ports[1]\t!!int \"443\"\t\t9:17\t\n+\t.spec.strategy\t\t\"Recreate\"\t\t4:34\n";
 
 pub static ROWS: [Row; 12] = [
     Row {
@@ -36,7 +36,7 @@ pub static ROWS: [Row; 12] = [
         left: b"a: &x 1\nb: *x\n",
         right: b"a: 1\nb: 2\n",
         status: 1,
-        out: "~\t0.b\t!!int \"1\"\t!!int \"2\"\t2:4\t2:4\n",
+        out: "~\t.b\t!!int \"1\"\t!!int \"2\"\t2:4\t2:4\n",
         err: "",
     },
     Row {
@@ -45,7 +45,7 @@ pub static ROWS: [Row; 12] = [
         left: b"a: &x {k: [1, 2]}\nb: *x\n",
         right: b"a: {k: [1, 2]}\nb: {k: [1, 3]}\n",
         status: 1,
-        out: "~\t0.b.k[1]\t!!int \"2\"\t!!int \"3\"\t1:15\t2:12\n",
+        out: "~\t.b.k[1]\t!!int \"2\"\t!!int \"3\"\t1:15\t2:12\n",
         err: "",
     },
     Row {
@@ -54,7 +54,7 @@ pub static ROWS: [Row; 12] = [
         left: b"- &x [&x [1], 2]\n- *x\n- &x [3]\n- *x\n",
         right: b"- [[1], 2]\n- [4]\n- [3]\n- [5]\n",
         status: 1,
-        out: "~\t0[1][0]\t!!int \"1\"\t!!int \"4\"\t1:11\t2:4\n~\t0[3][0]\t!!int \"3\"\t!!int \"5\"\t3:7\t4:4\n",
+        out: "~\t[1][0]\t!!int \"1\"\t!!int \"4\"\t1:11\t2:4\n~\t[3][0]\t!!int \"3\"\t!!int \"5\"\t3:7\t4:4\n",
         err: "",
     },
     Row {
@@ -63,7 +63,7 @@ pub static ROWS: [Row; 12] = [
         left: b"a: {x: 1}\nb: {x: 1}\n",
         right: b"a: {x: 1}\nb: {x: 2}\n",
         status: 1,
-        out: "~\t0.b.x\t!!int \"1\"\t!!int \"2\"\t2:8\t2:8\n",
+        out: "~\t.b.x\t!!int \"1\"\t!!int \"2\"\t2:8\t2:8\n",
         err: "",
     },
     Row {
@@ -72,7 +72,7 @@ pub static ROWS: [Row; 12] = [
         left: b"- {a: 1, b: 2, c: 3}\n- {c: 4, b: 5, a: 6}\n",
         right: b"- {a: 1, b: 2, c: 3}\n- {a: 7, c: 8, b: 5}\n",
         status: 1,
-        out: "~\t0[1].c\t!!int \"4\"\t!!int \"8\"\t2:7\t2:13\n~\t0[1].a\t!!int \"6\"\t!!int \"7\"\t2:19\t2:7\n",
+        out: "~\t[1].c\t!!int \"4\"\t!!int \"8\"\t2:7\t2:13\n~\t[1].a\t!!int \"6\"\t!!int \"7\"\t2:19\t2:7\n",
         err: "",
     },
     Row {
@@ -81,7 +81,7 @@ pub static ROWS: [Row; 12] = [
         left: b"a: 1\nb: [x]\n",
         right: b"a: 2\nc: ~\nb: []\n",
         status: 1,
-        out: "{\"kind\":\"changed\",\"left\":\"!!int \\\"1\\\"\",\"left_place\":{\"column\":4,\"line\":1},\"path\":\"0.a\",\"right\":\"!!int \\\"2\\\"\",\"right_place\":{\"column\":4,\"line\":1}}\n{\"kind\":\"left\",\"left\":\"\\\"x\\\"\",\"left_place\":{\"column\":5,\"line\":2},\"path\":\"0.b[0]\",\"right\":null,\"right_place\":null}\n{\"kind\":\"right\",\"left\":null,\"left_place\":null,\"path\":\"0.c\",\"right\":\"!!null \\\"null\\\"\",\"right_place\":{\"column\":4,\"line\":2}}\n",
+        out: "{\"kind\":\"changed\",\"left\":\"!!int \\\"1\\\"\",\"left_place\":{\"column\":4,\"line\":1},\"path\":\".a\",\"right\":\"!!int \\\"2\\\"\",\"right_place\":{\"column\":4,\"line\":1}}\n{\"kind\":\"left\",\"left\":\"\\\"x\\\"\",\"left_place\":{\"column\":5,\"line\":2},\"path\":\".b[0]\",\"right\":null,\"right_place\":null}\n{\"kind\":\"right\",\"left\":null,\"left_place\":null,\"path\":\".c\",\"right\":\"!!null \\\"null\\\"\",\"right_place\":{\"column\":4,\"line\":2}}\n",
         err: "",
     },
     Row {
@@ -134,7 +134,7 @@ pub static GIT: [Row; 6] = [
         left: DEPLOYMENT_LEFT,
         right: DEPLOYMENT_RIGHT,
         status: 0,
-        out: "diff web.yaml\n~\t0.spec.replicas\t!!int \"2\"\t!!int \"3\"\t6:13\t4:19\n~\t0.spec.template.image\t\"shop/web:1.4\"\t\"shop/web:1.5\"\t8:12\t5:21\n-\t0.spec.template.ports[1]\t!!int \"443\"\t\t9:17\t\n+\t0.spec.strategy\t\t\"Recreate\"\t\t4:34\n",
+        out: "diff web.yaml\n~\t.spec.replicas\t!!int \"2\"\t!!int \"3\"\t6:13\t4:19\n~\t.spec.template.image\t\"shop/web:1.4\"\t\"shop/web:1.5\"\t8:12\t5:21\n-\t.spec.template.ports[1]\t!!int \"443\"\t\t9:17\t\n+\t.spec.strategy\t\t\"Recreate\"\t\t4:34\n",
         err: "",
     },
     Row {
@@ -163,7 +163,7 @@ pub static GIT: [Row; 6] = [
         left: b"a",
         right: b"b",
         status: 0,
-        out: "diff a.yaml -> b.yaml\nrenamed from a.yaml\n~\t0\t\"a\"\t\"b\"\t1:1\t1:1\n",
+        out: "diff a.yaml -> b.yaml\nrenamed from a.yaml\n~\t.\t\"a\"\t\"b\"\t1:1\t1:1\n",
         err: "",
     },
     Row {

@@ -141,7 +141,7 @@ pub static HIDDEN: [Row; 4] = [
         left: b"- a\xE2\x80\xAEb\n- \xE2\x80\x8B\n",
         right: b"- ab\n- ''\n",
         status: 1,
-        out: "~\t0[0]\t\"a\\u202Eb\"\t\"ab\"\n~\t0[1]\t\"\\u200B\"\t\"\"\n",
+        out: "~\t[0]\t\"a\\u202Eb\"\t\"ab\"\n~\t[1]\t\"\\u200B\"\t\"\"\n",
         err: "",
     },
     Row {
@@ -150,7 +150,7 @@ pub static HIDDEN: [Row; 4] = [
         left: b"{\"a \xE2\x81\xA6\": \"\xC2\xAD\xF3\xA0\x81\x81\"}\n",
         right: b"{\"a \xE2\x81\xA6\": \"x\"}\n",
         status: 1,
-        out: "~\t0[\"a \\u2066\"]\t\"\\u00AD\\U000E0041\"\t\"x\"\n",
+        out: "~\t[\"a \\u2066\"]\t\"\\u00AD\\U000E0041\"\t\"x\"\n",
         err: "",
     },
     Row {
@@ -159,7 +159,7 @@ pub static HIDDEN: [Row; 4] = [
         left: b"- \xC3\xA9\xE6\x97\xA5\xD7\x90\xF0\x9F\x98\x80\n",
         right: b"- x\n",
         status: 1,
-        out: "~\t0[0]\t\"\u{E9}\u{65E5}\u{5D0}\u{1F600}\"\t\"x\"\n",
+        out: "~\t[0]\t\"\u{E9}\u{65E5}\u{5D0}\u{1F600}\"\t\"x\"\n",
         err: "",
     },
     Row {
@@ -168,7 +168,7 @@ pub static HIDDEN: [Row; 4] = [
         left: b"- a\xE2\x80\xAEb\n",
         right: b"- ab\n",
         status: 1,
-        out: "{\"kind\":\"changed\",\"left\":\"\\\"a\u{202E}b\\\"\",\"left_place\":null,\"path\":\"0[0]\",\"right\":\"\\\"ab\\\"\",\"right_place\":null}\n",
+        out: "{\"kind\":\"changed\",\"left\":\"\\\"a\u{202E}b\\\"\",\"left_place\":null,\"path\":\"[0]\",\"right\":\"\\\"ab\\\"\",\"right_place\":null}\n",
         err: "",
     },
 ];

@@ -1,6 +1,8 @@
 //! Every table of runs over two files. A test is proved and paid for, a row is not, so one goes over all tables.
 use crate::runs::{ALL, Given, run};
-use crate::{differences, empty_nodes, faults, git, places, rejected, tag_places, warnings};
+use crate::{
+    differences, empty_nodes, faults, git, places, rejected, shown, strings, tag_places, warnings,
+};
 use std::process::Abort;
 use std::test::Fail;
 
@@ -30,8 +32,9 @@ fn is_told<T: Abort + AllocGlobal>(rt: &T, row: &Row) -> Result<(), Fail> {
 
 #[test]
 fn runs_over_two_files_are_told(rt: HostRuntime) -> Result<(), Fail> {
-    let tables: [&[Row]; 15] = [
+    let tables: [&[Row]; 18] = [
         &differences::ROWS,
+        &strings::ROWS,
         &empty_nodes::ROWS,
         &faults::SYNTAX,
         &faults::MEANINGS,
@@ -46,6 +49,8 @@ fn runs_over_two_files_are_told(rt: HostRuntime) -> Result<(), Fail> {
         &rejected::LINES,
         &rejected::WORDS,
         &rejected::HIDDEN,
+        &shown::YAML,
+        &shown::LINES,
     ];
     for table in &tables {
         for row in *table {

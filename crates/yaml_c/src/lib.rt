@@ -5,10 +5,16 @@
 #![tactic(auto)]
 
 mod calls;
+mod digest;
 mod fault;
 mod name;
+mod numbers;
+mod position;
 mod room;
 mod status;
 
-pub use calls::{yamlcanon_canonical, yamlcanon_events, yamlcanon_same, yamlcanon_version};
+pub use calls::{
+    yaml_c_canonical, yaml_c_events, yaml_c_message, yaml_c_position, yaml_c_same, yaml_c_sha256,
+    yamlcanon_form, yamlcanon_version,
+};
 pub use fault::YamlcanonFault;

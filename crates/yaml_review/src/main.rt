@@ -1,6 +1,7 @@
 //! The program `yamlreview`: where two YAML streams differ, and where and why a file is rejected.
 #![tactic(auto)]
 
+use std::io::IsTerminal;
 use std::process::ExitCode;
 use yaml_review_command::arguments::words_of;
 use yaml_review_command::command::command;
@@ -16,6 +17,7 @@ fn main(rt: HostRuntime) -> ExitCode {
             rt.stdin(),
             rt.stdout(),
             rt.stderr(),
+            rt.stdout().is_terminal(),
         ),
         Err(fault) => tell_no_words(fault, rt.stderr()),
     };

@@ -2,8 +2,10 @@
 use crate::both::fault_of;
 use crate::diff::{NoDiff, diff};
 use crate::files::read_named;
+use crate::folders::{are_folders, folders};
 use crate::git::{git_asked, git_text, put_page};
 use crate::host::Host;
+use crate::show::show_files;
 use crate::telling::{
     GIT_WORDS, ONE_INPUT, UNUSABLE, put_line, tell_bare, tell_unread, tell_usage,
 };
@@ -177,6 +179,7 @@ fn run<S: Shelf, R: Read + Drop, W: Write + Drop, E: Write + Drop>(
             &mut out,
             &mut err,
         ),
+        Asked::Show(asked) => { show_files(shelf, alloc, &asked, &mut input, &mut out, &mut err) }
         Asked::Git(words) => git(shelf, alloc, &words, &mut out, &mut err),
         Asked::Sum(asked) => sum(shelf, alloc, sum_asked(&asked), input, out, err),
     }
@@ -240,7 +243,7 @@ fn told<W: Write, E: Write>(alloc: Global, error: Error, out: &mut W, err: &mut 
 
 /// Runs the command that the words give, without the program's own name, over the files of a shelf, and answers the exit status: 0,
 /// 1 where two files differ or a file has another sum than its list tells, 2 where an input is refused, 3 where the words, a file or
-/// a stream can't be used.
+/// a stream can't be used. The output is no terminal.
 pub fn command_over<S: Shelf, R: Read + Drop, W: Write + Drop, E: Write + Drop>(
     shelf: &S,
     alloc: Global,
@@ -249,26 +252,39 @@ pub fn command_over<S: Shelf, R: Read + Drop, W: Write + Drop, E: Write + Drop>(
     mut out: W,
     mut err: E,
 ) -> u8 {
-    match read_words(alloc, words) {
+    match read_words(alloc, words, false) {
         Ok(asked) => run(shelf, alloc, asked, input, out, err),
         Err(error) => told(alloc, error, &mut out, &mut err),
     }
 }
 
-/// The same over the files that `rt` opens, of which nothing is known. Sums are made of regular files alone.
-pub fn command<T: Files, R: Read + Drop, W: Write + Drop, E: Write + Drop>(
+/// The same over the files that `rt` opens, of which nothing is known, with an output that is a terminal or not. Sums are made of
+/// regular files alone, and `diff` compares the files of two folders too.
+pub fn command<
+    T: Files + AllocGlobal + Clone + Drop,
+    R: Read + Drop,
+    W: Write + Drop,
+    E: Write + Drop,
+>(
     rt: &T,
     alloc: Global,
     words: &[String],
     input: R,
     mut out: W,
     mut err: E,
+    is_terminal: bool,
 ) -> u8 {
-    match read_words(alloc, words) {
+    match read_words(alloc, words, is_terminal) {
         Ok(Asked::Sum(asked)) => {
             let asked = sum_asked(&asked);
             let shelf = Regular::new(rt, asked.list());
             sum(&shelf, alloc, asked, input, out, err)
+        }
+        Ok(Asked::Diff(asked)) => {
+            if are_folders(rt, &asked) {
+                return folders(rt, alloc, &asked, &mut out, &mut err);
+            }
+            run(&Host::new(rt), alloc, Asked::Diff(asked), input, out, err)
         }
         Ok(asked) => run(&Host::new(rt), alloc, asked, input, out, err),
         Err(error) => told(alloc, error, &mut out, &mut err),

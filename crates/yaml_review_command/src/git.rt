@@ -230,6 +230,9 @@ fn lines_of<'n>(left: &'n str, right: &'n str) -> Diff<'n> {
         whole: false,
         lines: LINES,
         form: Form::Line,
+        context: 0,
+        color: false,
+        stat: false,
     }
 }
 

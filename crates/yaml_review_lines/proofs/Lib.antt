@@ -1,3 +1,5 @@
 mod CompareLaws
+mod LineLaws
 mod SameLaws
 mod SideLaws
+mod StringLaws

@@ -1,5 +1,7 @@
 -- What is told of two streams as text.
-use Rattle.std.specs.Prelude.{◌≡◌, ℕ, zero, suc, Bool, cond, take, drop, List, [], ◌∷◌, ◌++◌, Option, Some, None, string_bytes}
+use Rattle.std.specs.Prelude.{◌≡◌, ◌⊎◌, ◌==◌, ◌&&◌, ℕ, zero, suc, Bool, false, not, cond, nat_le, take, drop, length, List, [], ◌∷◌, ◌++◌, Option, Some, None, codes, string_bytes}
+use Rattle.yaml_definitions.specs.model.Tree.{scalar}
+use Rattle.yaml_scalar.specs.Spelling.{quoted_bytes}
 use Rattle.yaml_nodes.specs.GraphView.{roots_of, tree}
 use Rattle.yaml_nodes.specs.declared.node.NodeId.{NodeId}
 use Rattle.yaml_nodes.specs.declared.graph.Graph.{Graph}
@@ -7,14 +9,17 @@ use Rattle.yaml_diff.specs.Lines.{way_of}
 use Rattle.yaml_diff.specs.Found.{FindsItems}
 use Rattle.yaml_diff.specs.declared.difference.Difference.{Difference}
 use Rattle.yaml_diff.specs.declared.difference.Found.{Found}
+use Rattle.yaml_script.specs.Script.{IsScript}
+use Rattle.yaml_script.specs.Printed.{script_text}
+use Rattle.yaml_script.specs.declared.script.Edit.{Edit}
 use Rattle.yaml_review_words.specs.declared.words.Diff.{Diff}
-use Rattle.yaml_review_words.specs.declared.words.Form.{Form}
-use Rattle.yaml_review_text.specs.Shown.{shown}
+use Rattle.yaml_review_text.specs.Shown.{front, shown}
 use Rattle.yaml_review_text.specs.NodeText.{text_of}
 use Rattle.yaml_review_text.specs.PathText.{path_text}
-use Rattle.yaml_review_text.specs.Lines.{Text, lines_text, more_text}
 use Rattle.yaml_review_text.specs.declared.both.Both.{Both}
-use Rattle.yaml_review_text.specs.declared.lines.Line.{Line}
+use Rattle.yaml_review_lines.specs.Lines.{Text, lines_text, more_text}
+use Rattle.yaml_review_lines.specs.declared.lines.Changes.{Changes}
+use Rattle.yaml_review_lines.specs.declared.lines.Line.{Line}
 
 -- how many bytes of a node are shown
 abbrev pub room_of : Bool → ℕ
@@ -25,37 +30,100 @@ abbrev pub room_for : ℕ → ℕ
 room_for zero = 1
 room_for (suc lines) = suc lines
 
+-- paths tell the number of the document, unless each side has one document
+abbrev pub is_numbered : Both → Bool
+is_numbered both = not ((both.documents == 1) && (length (roots_of both.graph) == 2))
+
+-- ---- the two nodes
+
 -- what is shown of a node, where there is one
 abbrev pub ShowsNode : Graph → ℕ → Option NodeId → Text → Type 0
 ShowsNode g room None None = Unit {0}
 ShowsNode g room (Some i) (Some t) = string_bytes t ≡ shown room (text_of (tree g i.0))
 ShowsNode g room _ _ = ⊥
 
+-- the node is a scalar of this tag and content
+abbrev pub IsScalar : Graph → Option NodeId → List ℕ → List ℕ → Type 0
+IsScalar g None tag content = ⊥
+IsScalar g (Some i) tag content = tree g i.0 ≡ scalar tag content
+
+-- a content from a byte on, as far as there is room, with `...` for what is left out
+abbrev pub part_text : ℕ → ℕ → List ℕ → List ℕ
+part_text room start content =
+    cond (start == 0) [] (codes "...") ++ (quoted_bytes (front room (drop start content)) ++ cond (nat_le (length (drop start content)) room) [] (codes "..."))
+
+abbrev pub IsText : List ℕ → Text → Type 0
+IsText bytes None = ⊥
+IsText bytes (Some t) = string_bytes t ≡ bytes
+
+abbrev pub SameTexts : Text → Text → Type 0
+SameTexts (Some left) (Some right) = string_bytes left ≡ string_bytes right
+SameTexts _ _ = ⊥
+
+-- Of two scalars of one tag, a part of either content, from one byte on. What is left out before it is the same on both sides.
+pub record ShowsParts (g : Graph) (room : ℕ) (d : Difference) (left right : Text) : Type 0 where
+  pub tag : List ℕ
+  pub one : List ℕ
+  pub other : List ℕ
+  pub is_left : IsScalar g d.left tag one
+  pub is_right : IsScalar g d.right tag other
+  pub start : ℕ
+  pub before : take start one ≡ take start other
+  pub left_text : IsText (part_text room start one) left
+  pub right_text : IsText (part_text room start other) right
+
+-- the texts of two nodes are equal as far as there is room
+abbrev pub SameFronts : Graph → ℕ → Option NodeId → Option NodeId → Type 0
+SameFronts g room (Some i) (Some j) = shown room (text_of (tree g i.0)) ≡ shown room (text_of (tree g j.0))
+SameFronts g room _ _ = ⊥
+
+-- What is shown of the two nodes, of which parts may be shown only if their texts are equal as far as there is room.
+abbrev pub ShowsBoth : Graph → ℕ → Difference → Text → Text → Type 0
+ShowsBoth g room d left right = (ShowsNode g room d.left left × ShowsNode g room d.right right) ⊎ (SameFronts g room d.left d.right × ShowsParts g room d left right)
+
+-- Of two scalars of one tag, an edit script from the left content to the right one is printed, with so many lines before and behind each change.
+pub record ShowsScript (g : Graph) (context : ℕ) (color : Bool) (d : Difference) (text : List ℕ) : Type 0 where
+  pub tag : List ℕ
+  pub one : List ℕ
+  pub other : List ℕ
+  pub is_left : IsScalar g d.left tag one
+  pub is_right : IsScalar g d.right tag other
+  pub edits : List Edit
+  pub script : IsScript one other edits
+  pub is : text ≡ script_text context color edits
+
+-- such a script, if one is printed
+abbrev pub ShowsChanges : Graph → ℕ → Bool → Difference → Option Changes → Type 0
+ShowsChanges g context color d None = Unit {0}
+ShowsChanges g context color d (Some c) = ShowsScript g context color d (string_bytes c.text)
+
+-- ---- lines
+
 -- the line has the difference's path, and what is shown of its nodes
-pub record TellsOne (g : Graph) (room : ℕ) (d : Difference) (l : Line) : Type 0 where
-  pub path : string_bytes l.path ≡ path_text (way_of g d.path.items)
-  pub left : ShowsNode g room d.left l.left
-  pub right : ShowsNode g room d.right l.right
+pub record TellsOne (both : Both) (asked : Diff) (d : Difference) (l : Line) : Type 0 where
+  pub path : string_bytes l.path ≡ path_text (is_numbered both) (way_of both.graph d.path.items)
+  pub nodes : ShowsBoth both.graph (room_of asked.whole) d l.left l.right
+  pub changes : ShowsChanges both.graph asked.context asked.color d l.changes
 
 -- a line for each difference, in order
-abbrev pub TellsEach : Graph → ℕ → List Difference → List Line → Type 0
-TellsEach g room [] [] = Unit {0}
-TellsEach g room (d ∷ ds) (l ∷ ls) = TellsOne g room d l × TellsEach g room ds ls
-TellsEach g room _ _ = ⊥
+abbrev pub TellsEach : Both → Diff → List Difference → List Line → Type 0
+TellsEach both asked [] [] = Unit {0}
+TellsEach both asked (d ∷ ds) (l ∷ ls) = TellsOne both asked d l × TellsEach both asked ds ls
+TellsEach both asked _ _ = ⊥
 
 -- The text is the lines of the differences that were found, and tells if there are more.
-pub record TellsFound (g : Graph) (room : ℕ) (form : Form) (places : Bool) (f : Found) (text : List ℕ) : Type 0 where
+pub record TellsFound (both : Both) (asked : Diff) (f : Found) (text : List ℕ) : Type 0 where
   pub lines : List Line
-  pub each : TellsEach g room f.list.items lines
-  pub is : text ≡ lines_text form places lines ++ cond f.whole [] (more_text form)
+  pub each : TellsEach both asked f.list.items lines
+  pub is : text ≡ lines_text asked lines ++ cond f.whole [] (more_text asked.form)
 
 -- No line is written where none is asked for, whether or not there are differences.
-abbrev pub TellsAsked : ℕ → Graph → ℕ → Form → Bool → Found → List ℕ → Type 0
-TellsAsked zero g room form places f text = text ≡ []
-TellsAsked (suc lines) g room form places f text = TellsFound g room form places f text
+abbrev pub TellsAsked : ℕ → Both → Diff → Found → List ℕ → Type 0
+TellsAsked zero both asked f text = text ≡ []
+TellsAsked (suc lines) both asked f text = TellsFound both asked f text
 
--- The text is the lines of the differences of two streams, of as many as were asked for.
+-- The text is the lines of the differences of two streams, of as many as were asked for. Of the numbers of differences, in place of lines, nothing is said.
 pub record TellsStreams (both : Both) (asked : Diff) (text : List ℕ) : Type 0 where
   pub found : Found
   pub finds : FindsItems both.graph (take both.documents (roots_of both.graph)) (drop both.documents (roots_of both.graph)) (room_for asked.lines) found
-  pub tells : TellsAsked asked.lines both.graph (room_of asked.whole) asked.form asked.places found text
+  pub tells : asked.stat ≡ false → TellsAsked asked.lines both asked found text

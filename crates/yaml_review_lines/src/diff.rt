@@ -1,12 +1,15 @@
 //! Where two streams differ, as lines.
-ghost use Rattle.std.specs.Prelude.{◌≡◌, ◌↔◌, ◌<◌, ◌&&◌, ◌==◌, ◌++◌, true, length, map, take, drop, string_bytes, OnOk, IfOk, IfErr};
+ghost use Rattle.std.specs.Prelude.{◌≡◌, ◌↔◌, ◌<◌, ◌≤◌, ◌&&◌, ◌==◌, ◌++◌, true, false, not, length, map, take, drop, string_bytes, OnOk, IfOk, IfErr};
 ghost use Rattle.yaml_definitions.specs.model.Same.{Alike};
 ghost use Rattle.yaml_nodes.specs.GraphView.{roots_of, tree};
 ghost use Rattle.yaml_levels.specs.RanksView.{RanksAre};
 ghost use Rattle.yaml_diff.specs.Found.{FindsItems};
-ghost use Rattle.yaml_review_text.specs.Lines.{lines_text};
-ghost use Rattle.yaml_review_lines.specs.Compared.{room_of, room_for, ShowsNode, TellsOne, TellsEach, TellsFound, TellsAsked, TellsStreams};
+ghost use Rattle.yaml_review_lines.specs.Lines.{lines_text};
+ghost use Rattle.yaml_review_lines.specs.Compared.{room_of, room_for, is_numbered, ShowsNode, ShowsBoth, TellsOne, TellsEach, TellsFound, TellsAsked, TellsStreams};
 
+use crate::lines::{Line, put_more};
+use crate::stat::stat_text;
+use crate::strings::{Budget, changed_lines, differing_parts};
 use std::alloc::Global;
 use yaml_diff::{Difference, Found, stream_differences};
 use yaml_nodes::node::NodeId;
@@ -16,7 +19,6 @@ use yaml_review_places::layout::lay_out_from;
 use yaml_review_places::places::{places, unmarked};
 use yaml_review_places::trace::Traced;
 use yaml_review_text::both::Both;
-use yaml_review_text::lines::{Line, put_more};
 use yaml_review_text::path::path_text;
 use yaml_review_text::text::{CUT, WHOLE, node_text};
 use yaml_review_words::Diff;
@@ -48,6 +50,70 @@ fn shown(
     }
 }
 
+/// What is shown of two nodes.
+#[derive(Drop)]
+struct Texts {
+    left: Option<String>,
+    right: Option<String>,
+}
+
+impl Texts {
+    ghost use Rattle.std.specs.Prelude.{◌≡◌, true};
+    ghost use Rattle.yaml_review_lines.specs.Compared.{SameTexts};
+
+    /// Whether both sides show the same.
+    fn is_one(&self) -> bool
+        ensures { (result ≡ true) → SameTexts self.now.left self.now.right }
+    {
+        match (&self.left, &self.right) {
+            (Some(left), Some(right)) => left.as_str() == right.as_str(),
+            _ => false,
+        }
+    }
+}
+
+/// The texts of both nodes as far as there is room.
+fn fronts(
+    alloc: Global,
+    both: &Both<'_>,
+    difference: &Difference,
+    room: usize,
+) -> Result<Texts, Fault>
+    requires ranked { RanksAre both.now.graph both.now.ranks }
+    ensures left { IfOk result (λ s. ShowsNode both.now.graph room difference.now.left s.left) }
+    ensures right { IfOk result (λ s. ShowsNode both.now.graph room difference.now.right s.right) }
+{
+    Ok(Texts {
+        left: shown(alloc, both, difference.left, room)?,
+        right: shown(alloc, both, difference.right, room)?,
+    })
+}
+
+/// What is shown of both nodes: their texts as far as there is room or, where these are the same, the parts where they differ.
+#[tactic(auto, using(crate::proofs::StringLaws::both_shown, crate::proofs::StringLaws::parts_shown))]
+fn shown_both(
+    alloc: Global,
+    both: &Both<'_>,
+    difference: &Difference,
+    room: usize,
+    budget: &mut Budget,
+) -> Result<Texts, Fault>
+    requires ranked { RanksAre both.now.graph both.now.ranks }
+    ensures { IfOk result (λ s. ShowsBoth both.now.graph room difference.now s.left s.right) }
+{
+    let texts = fronts(alloc, both, difference, room)?;
+    if !texts.is_one() {
+        return Ok(texts);
+    }
+    match differing_parts(alloc, both, difference, room, budget)? {
+        Some((left, right)) => Ok(Texts {
+            left: Some(left),
+            right: Some(right),
+        }),
+        None => Ok(texts),
+    }
+}
+
 /// The places of the nodes of each difference, where they are told.
 #[derive(Drop)]
 struct Places {
@@ -55,23 +121,36 @@ struct Places {
     right: Vec<Option<Place>>,
 }
 
+/// Whether paths tell the number of the document: unless each side has one document.
+fn is_numbered(both: &Both<'_>) -> bool
+    ensures { result ≡ is_numbered both.now }
+{
+    !(both.documents == 1 && both.graph.roots().len() == 2)
+}
+
 /// The line of a difference, with these places of its nodes.
+#[tactic(auto, using(crate::proofs::StringLaws::one_told))]
 fn line_of(
     alloc: Global,
     both: &Both<'_>,
     difference: &Difference,
-    room: usize,
+    asked: &Diff<'_>,
     places: (Option<Place>, Option<Place>),
+    budget: &mut Budget,
 ) -> Result<Line, Fault>
     requires ranked { RanksAre both.now.graph both.now.ranks }
-    ensures { IfOk result (TellsOne both.now.graph room difference.now) }
+    ensures { IfOk result (TellsOne both.now asked.now difference.now) }
 {
+    let path = path_text(alloc, both, &difference.path, is_numbered(both))?;
+    let nodes = shown_both(alloc, both, difference, room_of(asked.whole), budget)?;
+    let lines = changed_lines(alloc, both, difference, asked, budget)?;
     Ok(Line {
-        path: path_text(alloc, both, &difference.path)?,
-        left: shown(alloc, both, difference.left, room)?,
-        right: shown(alloc, both, difference.right, room)?,
+        path,
+        left: nodes.left,
+        right: nodes.right,
         left_place: places.0,
         right_place: places.1,
+        changes: lines,
     })
 }
 
@@ -88,19 +167,20 @@ fn lines_of(
     alloc: Global,
     both: &Both<'_>,
     list: &[Difference],
-    room: usize,
+    asked: &Diff<'_>,
     places: &Places,
 ) -> Result<Vec<Line>, Fault>
     requires ranked { RanksAre both.now.graph both.now.ranks }
-    ensures { IfOk result (λ lines. TellsEach both.now.graph room list.now lines.items) }
+    ensures { IfOk result (λ lines. TellsEach both.now asked.now list.now lines.items) }
 {
     let mut lines = Vec::new(alloc);
+    let mut budget = Budget::new();
     for (number, difference) in list.iter().enumerate() {
         let at = (
             place_at(&places.left, number),
             place_at(&places.right, number),
         );
-        lines.push(line_of(alloc, both, difference, room, at)?)?;
+        lines.push(line_of(alloc, both, difference, asked, at, &mut budget)?)?;
     }
     Ok(lines)
 }
@@ -187,10 +267,10 @@ fn find_places(
 
 /// Lines as text.
 fn put_each(alloc: Global, text: &mut String, lines: &[Line], asked: &Diff<'_>) -> Result<(), Fault>
-    ensures { OnOk result (string_bytes text.new ≡ string_bytes text.old ++ lines_text asked.now.form asked.now.places lines.now) }
+    ensures { OnOk result (string_bytes text.new ≡ string_bytes text.old ++ lines_text asked.now lines.now) }
 {
     for line in lines {
-        line.put(alloc, text, asked.form, asked.places)?;
+        line.put(alloc, text, asked)?;
     }
     Ok(())
 }
@@ -211,11 +291,11 @@ fn text_of(
     found: &Found,
 ) -> Result<String, Fault>
     requires ranked { RanksAre both.now.graph both.now.ranks }
-    ensures { IfOk result (λ text. TellsFound both.now.graph (room_of asked.now.whole) asked.now.form asked.now.places found.now (string_bytes text)) }
+    ensures { IfOk result (λ text. TellsFound both.now asked.now found.now (string_bytes text)) }
 {
     let sides = if found.list.is_empty() { None } else { sides };
     let places = find_places(alloc, both, &found.list, sides)?;
-    let lines = lines_of(alloc, both, &found.list, room_of(asked.whole), &places)?;
+    let lines = lines_of(alloc, both, &found.list, asked, &places)?;
     let mut text = String::new(alloc);
     put_each(alloc, &mut text, &lines, asked)?;
     if found.whole {
@@ -235,12 +315,29 @@ fn asked_text(
     found: &Found,
 ) -> Result<String, Fault>
     requires ranked { RanksAre both.now.graph both.now.ranks }
-    ensures { IfOk result (λ text. TellsAsked asked.now.lines both.now.graph (room_of asked.now.whole) asked.now.form asked.now.places found.now (string_bytes text)) }
+    ensures { IfOk result (λ text. TellsAsked asked.now.lines both.now asked.now found.now (string_bytes text)) }
 {
     if asked.lines == 0 {
         return Ok(String::new(alloc));
     }
     text_of(alloc, both, asked, sides, found)
+}
+
+/// The same, or how many differences of each kind there are.
+fn told_text(
+    alloc: Global,
+    both: &Both<'_>,
+    asked: &Diff<'_>,
+    sides: Option<(Traced<'_>, Traced<'_>)>,
+    found: &Found,
+) -> Result<String, Fault>
+    requires ranked { RanksAre both.now.graph both.now.ranks }
+    ensures { IfOk result (λ text. asked.now.stat ≡ false → TellsAsked asked.now.lines both.now asked.now found.now (string_bytes text)) }
+{
+    if asked.stat {
+        return stat_text(alloc, asked, found);
+    }
+    asked_text(alloc, both, asked, sides, found)
 }
 
 /// Whether all differences are listed, and there is none.
@@ -279,6 +376,6 @@ pub fn compare(
 {
     let found = list_of(alloc, both, room_for(asked.lines))?;
     let same = lists_none(&found);
-    let text = asked_text(alloc, both, asked, sides, &found)?;
+    let text = told_text(alloc, both, asked, sides, &found)?;
     Ok(Compared { text, same })
 }

@@ -178,7 +178,7 @@ fn find_spot(alloc: Global, bytes: &[u8], fault: Fault) -> Result<Spot, Fault> {
 }
 
 /// The place of one offset of a text.
-fn place_of(text: &[u8], at: usize) -> Option<Place>
+pub(crate) fn place_of(text: &[u8], at: usize) -> Option<Place>
     ensures { IfSome result (λ place. IsPlace text.now at place.line place.column) }
 {
     if at <= text.len() {

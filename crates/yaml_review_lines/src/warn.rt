@@ -1,5 +1,6 @@
 //! What tools of YAML 1.1 read otherwise in a file.
 use crate::faults::put_head;
+use crate::lines::put_more;
 use serde_json::json;
 use std::alloc::Global;
 use yaml_place::Place;
@@ -8,7 +9,6 @@ use yaml_review_places::places::{places, unmarked};
 use yaml_review_places::trace::trace_of;
 use yaml_review_places::trail::Trail;
 use yaml_review_text::fronts::put_shown;
-use yaml_review_text::lines::put_more;
 use yaml_review_text::text::{CUT, front};
 use yaml_review_text::yaml11::{Older, read_older};
 use yaml_review_words::Form;

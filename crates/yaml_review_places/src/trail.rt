@@ -76,10 +76,13 @@ impl Trail {
 
     /// Whether the node that began last is a key.
     pub fn is_at_key(&self) -> bool {
-        match self.frames.last() {
-            Some(frame) => frame.is_mapping && frame.parts % 2 == 1,
-            None => false,
+        for frame in self.frames.iter().rev() {
+            // A collection without parts is the node itself.
+            if frame.parts > 0 {
+                return frame.is_mapping && frame.parts % 2 == 1;
+            }
         }
+        false
     }
 
     /// The path of the node that began last. That of a key is the path of its value, and a key that is no scalar is shown as `[?]`.

@@ -1,9 +1,9 @@
 mod GraphShapes
-mod HiddenLaws
+pub mod HiddenLaws
 mod KeyLaws
 mod LineLaws
 mod NodeLaws
 pub mod OctalLaws
 mod PathLaws
-mod Pieces
+pub mod Pieces
 mod ShownLaws

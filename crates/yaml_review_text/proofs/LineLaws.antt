@@ -1,17 +1,15 @@
--- Objects of JSON, and the lines of a comparison.
+-- Objects of JSON.
 use Rattle.std.proofs.Common.{◌≡◌, ◌||◌, ℕ, ◌+◌, ◌<◌, ◌≤◌, Bool, true, false, List, [], ◌∷◌, ◌++◌, map, drop, length, get_or, Ordering, Less, Equal, Greater, nat_cmp, refl, sym, ◌∙◌, ap}
-use Rattle.std.specs.Prelude.{Option, Some, None, option_map, string_bytes, codes}
+use Rattle.std.specs.Prelude.{Option, Some, None, option_map, codes}
 use Rattle.std.specs.Cmp.Lexicographic.{slice_cmp}
 use Rattle.std.specs.Ordering.{match_ordering}
 use Rattle.std.proofs.Math.ListN.{drop_of_length-le}
-use Rattle.serde_json.specs.Data.{Data, Members, member, no_members, put, object, string}
+use Rattle.serde_json.specs.Data.{Data, Members, member, no_members, put, object}
 use Rattle.serde_json.specs.Written.{has_float, members_have_float, compact_text}
 use Rattle.yaml_place.specs.declared.place.Place.{Place}
 use Rattle.yaml_review_text.specs.Objects.{text_data, place_data, said_data, with_members, object_line}
-use Rattle.yaml_review_text.specs.Lines.{kind, line_data}
 use Rattle.yaml_review_text.specs.declared.json.Said.{Said}
 use Rattle.yaml_review_text.specs.declared.json.Said.TheVariants as said
-use Rattle.yaml_review_text.specs.declared.lines.Line.{Line}
 use Rattle.yaml_review_text.proofs.Pieces.{drop_next}
 
 -- ---- members one behind another
@@ -68,12 +66,3 @@ with_float f h (x ∷ xs) ms m = with_float f h xs (put (f x).0 (f x).1 ms) (put
 
 pub object_put : {X : Type 0} (f : X → List ℕ × Data) → ((x : X) → has_float (f x).1 ≡ false) → (xs : List X) (v : Data) (o y t : List ℕ) → v ≡ object (with_members (map f xs) no_members) → (has_float v ≡ false → t ≡ compact_text v) → y ≡ o ++ (t ++ codes "\n") → y ≡ o ++ object_line (map f xs)
 object_put f h xs v o y t e g p = p ∙ ap (λ z. o ++ (z ++ codes "\n")) (g (ap has_float e ∙ with_float f h xs no_members refl) ∙ ap compact_text e)
-
--- ---- a line
-
--- its members, in the order in which they are given
-abbrev given : List ℕ → List ℕ → Option (List ℕ) → Option (List ℕ) → Option Place → Option Place → List (List ℕ × Data)
-given k p a b q r = (codes "kind", string k) ∷ (codes "path", string p) ∷ (codes "left", text_data a) ∷ (codes "right", text_data b) ∷ (codes "left_place", place_data q) ∷ (codes "right_place", place_data r) ∷ []
-
-pub line_put : (l : Line) (k p : List ℕ) (a b : Option (List ℕ)) → k ≡ kind l → p ≡ string_bytes l.path → a ≡ option_map string_bytes l.left → b ≡ option_map string_bytes l.right → object_line (given k p a b l.left_place l.right_place) ≡ compact_text (line_data l) ++ codes "\n"
-line_put l k p a b e f g h = ap (λ z. object_line (given z p a b l.left_place l.right_place)) e ∙ ap (λ z. object_line (given (kind l) z a b l.left_place l.right_place)) f ∙ ap (λ z. object_line (given (kind l) (string_bytes l.path) z b l.left_place l.right_place)) g ∙ ap (λ z. object_line (given (kind l) (string_bytes l.path) (option_map string_bytes l.left) z l.left_place l.right_place)) h

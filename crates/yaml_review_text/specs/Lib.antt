@@ -1,6 +1,5 @@
 pub mod Fills
 pub mod Hidden
-pub mod Lines
 pub mod NodeText
 pub mod Objects
 pub mod PathText

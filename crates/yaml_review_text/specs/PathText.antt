@@ -1,5 +1,5 @@
 -- The text of a path.
-use Rattle.std.specs.Prelude.{ℕ, Bool, false, ◌&&◌, ◌||◌, ◌==◌, nat_le, cond, List, [], ◌∷◌, ◌++◌, codes, bytes_eq}
+use Rattle.std.specs.Prelude.{ℕ, Bool, false, ◌&&◌, ◌||◌, ◌==◌, nat_le, cond, List, [], ◌∷◌, ◌++◌, length, codes, bytes_eq}
 use Rattle.std.specs.List.{list_all, flat_map}
 use Rattle.std.specs.Fmt.{decimal}
 use Rattle.yaml_definitions.specs.model.Tree.{Tree, scalar, sequence, mapping}
@@ -55,7 +55,11 @@ abbrev pub first_text : Step → List ℕ
 first_text (at_places p) = place_text p
 first_text (at_key x) = key_text x
 
--- where the document stands, and then one step after another
-abbrev pub path_text : Way → List ℕ
-path_text [] = []
-path_text (s ∷ w) = first_text s ++ flat_map step_text w
+-- how a path begins: where the document stands or, if no number is told, nothing before a step, and `.` for the document itself
+abbrev pub start_text : Bool → Bool → Step → List ℕ
+start_text numbered alone s = cond numbered (first_text s) (cond alone (codes ".") [])
+
+-- where the document stands, if that is told, and then one step after another
+abbrev pub path_text : Bool → Way → List ℕ
+path_text numbered [] = []
+path_text numbered (s ∷ w) = start_text numbered (length w == 0) s ++ flat_map step_text w

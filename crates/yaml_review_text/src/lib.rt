@@ -8,7 +8,6 @@ pub mod hidden;
 mod hints;
 pub mod json;
 mod line_hints;
-pub mod lines;
 mod node_hints;
 mod open_hints;
 pub mod path;

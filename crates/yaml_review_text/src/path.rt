@@ -1,8 +1,8 @@
 //! Paths of differences as text.
-ghost use Rattle.std.specs.Prelude.{◌≡◌, ◌++◌, string_bytes, OnOk, IfOk};
+ghost use Rattle.std.specs.Prelude.{◌≡◌, ◌++◌, ◌==◌, length, string_bytes, OnOk, IfOk};
 ghost use Rattle.yaml_diff.specs.Lines.{step_of, way_of};
 ghost use Rattle.yaml_levels.specs.RanksView.{RanksAre};
-ghost use Rattle.yaml_review_text.specs.PathText.{place_text, first_text, step_text, path_text};
+ghost use Rattle.yaml_review_text.specs.PathText.{place_text, first_text, step_text, start_text, path_text};
 
 use crate::both::Both;
 use crate::text::put_key;
@@ -51,16 +51,44 @@ fn put_step(alloc: Global, out: &mut String, both: &Both<'_>, step: Step) -> Res
     }
 }
 
-/// A path of differences of two streams as text: where the document stands, then one step after another.
-pub fn path_text(alloc: Global, both: &Both<'_>, path: &[Step]) -> Result<String, Fault>
+/// Writes how a path begins: where the document stands or, if no number is told, nothing before a step, and `.` for the document
+/// itself.
+fn put_start(
+    alloc: Global,
+    out: &mut String,
+    both: &Both<'_>,
+    step: Step,
+    alone: bool,
+    numbered: bool,
+) -> Result<(), Fault>
     requires ranked { RanksAre both.now.graph both.now.ranks }
-    ensures { IfOk result (λ s. string_bytes s ≡ path_text (way_of both.now.graph path.now)) }
+    ensures { OnOk result (string_bytes out.new ≡ string_bytes out.old ++ start_text numbered alone (step_of both.now.graph step)) }
+{
+    if numbered {
+        return put_first(alloc, out, both, step);
+    }
+    if alone {
+        out.push('.')?;
+    }
+    Ok(())
+}
+
+/// A path of differences of two streams as text: where the document stands, if that is told, then one step after another.
+pub fn path_text(
+    alloc: Global,
+    both: &Both<'_>,
+    path: &[Step],
+    numbered: bool,
+) -> Result<String, Fault>
+    requires ranked { RanksAre both.now.graph both.now.ranks }
+    ensures { IfOk result (λ s. string_bytes s ≡ path_text numbered (way_of both.now.graph path.now)) }
 {
     let mut out = String::new(alloc);
     let Some((document, steps)) = path.split_last() else {
         return Ok(out);
     };
-    put_first(alloc, &mut out, both, *document)?;
+    let alone = steps.len() == 0;
+    put_start(alloc, &mut out, both, *document, alone, numbered)?;
     'steps: for step in steps.iter().rev() {
         put_step(alloc, &mut out, both, *step)?;
     }

@@ -3,4 +3,4 @@
 
 pub mod words;
 
-pub use words::{Asked, Diff, Form, Report, Sum, read_words};
+pub use words::{Asked, Diff, Form, Format, Report, Show, Sum, read_words};

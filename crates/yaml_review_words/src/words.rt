@@ -1,4 +1,6 @@
 //! The program's words.
+ghost use Rattle.std.specs.Prelude.{◌≤◌};
+
 use clap::builder::ValueParser;
 use clap::error::ErrorKind;
 use clap::{Arg, ArgAction, ArgMatches, Command, Error};
@@ -6,6 +8,12 @@ use std::alloc::{AllocError, Global};
 
 /// How many lines are told where no number is given.
 pub const LINES: usize = 1_000;
+
+/// How many differences are counted where no number is given.
+const COUNTED: usize = 1_000_000;
+
+/// The greatest number of lines that are printed before and behind each changed line of a string.
+pub const CONTEXT: usize = 1_000;
 
 /// In which form lines are written.
 #[derive(Clone, Copy, Debug, PartialEq, Eq)]
@@ -28,6 +36,13 @@ pub struct Diff<'a> {
     /// The greatest number of lines.
     pub lines: usize,
     pub form: Form,
+    /// How many lines are printed before and behind each changed line of a string.
+    pub context: usize,
+    /// Whether lines are in colour.
+    pub color: bool,
+    /// Whether differences are counted, and not told.
+    pub stat: bool,
+    pub ghost few: { context ≤ 1000 },
 }
 
 /// What is told of files, one after another.
@@ -36,6 +51,24 @@ pub struct Report<'a> {
     /// Their names, of which `-` is standard input.
     pub files: Vec<&'a str>,
     pub form: Form,
+}
+
+/// How `show` writes a stream.
+#[derive(Clone, Copy, Debug, PartialEq, Eq)]
+pub enum Format {
+    /// YAML in block style.
+    Yaml,
+    /// A line of JSON for each document.
+    Json,
+}
+
+/// Files that are shown.
+#[derive(Drop)]
+pub struct Show<'a> {
+    pub files: Vec<&'a str>,
+    pub format: Format,
+    /// Whether a rejected file is written as it is.
+    pub textconv: bool,
 }
 
 /// Digests of files.
@@ -55,6 +88,7 @@ pub enum Asked<'a> {
     Faults(Report<'a>),
     /// With the greatest number of lines a file.
     Warn(Report<'a>, usize),
+    Show(Show<'a>),
     Sum(Sum<'a>),
     /// What `GIT_EXTERNAL_DIFF` passes.
     Git(Vec<&'a str>),
@@ -69,10 +103,18 @@ enum Takes {
     Files,
     /// Whether it is given.
     Flag,
+    /// The same, by one letter too.
+    Letter(char),
+    /// A number of lines around others, by one letter too.
+    Around(char),
+    /// When lines are in colour.
+    Color,
     /// A number of lines.
     Lines,
-    /// The form of lines.
-    Form,
+    /// One of two words, of which the first one is taken if none is given.
+    OneOf(&'static str, &'static [&'static str; 2]),
+    /// The same, of which the default depends on other arguments.
+    Most,
     /// A list of files, in place of files.
     Names,
     /// A list of digests, in place of files and of a list of them.
@@ -88,7 +130,7 @@ struct Row {
     help: &'static str,
 }
 
-const DIFF: [Row; 6] = [
+const DIFF: [Row; 10] = [
     Row {
         id: "A",
         takes: Takes::File,
@@ -111,8 +153,28 @@ const DIFF: [Row; 6] = [
     },
     Row {
         id: "lines",
-        takes: Takes::Lines,
-        help: "Print at most N lines, and then `...` if there are more; 0 for the status alone",
+        takes: Takes::Most,
+        help: "Print at most N lines (1000), and then `...` if there are more; 0 for the status alone",
+    },
+    Row {
+        id: "unified",
+        takes: Takes::Around('U'),
+        help: "Of strings that have several lines, print N lines before and behind each changed line",
+    },
+    Row {
+        id: "quiet",
+        takes: Takes::Letter('q'),
+        help: "Print nothing; the status tells the result",
+    },
+    Row {
+        id: "stat",
+        takes: Takes::Flag,
+        help: "Print how many differences there are: `+` only right, `-` only left, `~` changed",
+    },
+    Row {
+        id: "color",
+        takes: Takes::Color,
+        help: "Print lines in colour; `auto` does so on a terminal",
     },
     FORM,
 ];
@@ -127,6 +189,20 @@ const WARN: [Row; 3] = [
         help: "Print at most N lines for each file, and then `...` if there are more; 0 for the status alone",
     },
     FORM,
+];
+
+const SHOW: [Row; 3] = [
+    FILES,
+    Row {
+        id: "format",
+        takes: Takes::OneOf("FORMAT", &FORMATS),
+        help: "YAML in block style, or a line of JSON for each document",
+    },
+    Row {
+        id: "textconv",
+        takes: Takes::Flag,
+        help: "Write a rejected file as it is, with status 0, as git wants it",
+    },
 ];
 
 const SUM: [Row; 3] = [
@@ -157,11 +233,15 @@ const FILES: Row = Row {
 
 const FORM: Row = Row {
     id: "format",
-    takes: Takes::Form,
+    takes: Takes::OneOf("FORM", &FORMS),
     help: "Lines of text, or one JSON object a line",
 };
 
 const FORMS: [&str; 2] = ["line", "json"];
+
+const FORMATS: [&str; 2] = ["yaml", "json"];
+
+const COLORS: [&str; 3] = ["auto", "always", "never"];
 
 fn arg_of<'a>(alloc: Global, row: &Row) -> Result<Arg<'a>, AllocError> {
     let arg = Arg::new(alloc, row.id).help(row.help);
@@ -169,17 +249,36 @@ fn arg_of<'a>(alloc: Global, row: &Row) -> Result<Arg<'a>, AllocError> {
         Takes::File => Ok(arg.required(true)),
         Takes::Files => Ok(arg.num_args(0..).action(ArgAction::Append)),
         Takes::Flag => Ok(arg.long(row.id).action(ArgAction::SetTrue)),
+        Takes::Letter(letter) => Ok(arg.long(row.id).short(letter).action(ArgAction::SetTrue)),
         Takes::Lines => Ok(
             arg.long(row.id)
                 .value_name("N")
                 .value_parser(ValueParser::unsigned(0, 1_000_000))
                 .default_value("1000"),
         ),
-        Takes::Form => Ok(
+        Takes::Most => Ok(
             arg.long(row.id)
-                .value_name("FORM")
-                .value_parser(FORMS.as_slice())
-                .default_value("line"),
+                .value_name("N")
+                .value_parser(ValueParser::unsigned(0, 1_000_000)),
+        ),
+        Takes::Around(letter) => Ok(
+            arg.long(row.id)
+                .short(letter)
+                .value_name("N")
+                .value_parser(ValueParser::unsigned(0, 1_000))
+                .default_value("0"),
+        ),
+        Takes::Color => Ok(
+            arg.long(row.id)
+                .value_name("WHEN")
+                .value_parser(COLORS.as_slice())
+                .default_value("auto"),
+        ),
+        Takes::OneOf(name, words) => Ok(
+            arg.long(row.id)
+                .value_name(name)
+                .value_parser(words.as_slice())
+                .default_value(words[0]),
         ),
         Takes::Names => arg.long(row.id).value_name("LIST").conflicts_with("FILE"),
         Takes::Digests => arg
@@ -221,6 +320,11 @@ const WARN_STATUSES: &str = "Exit status (of several files the greatest):
   2  a file is rejected
   3  the words, a file or a stream cannot be used";
 
+const SHOW_STATUSES: &str = "Exit status (of several files the greatest):
+  0  each file is shown; with --textconv also if one is rejected
+  2  a file is rejected, or JSON cannot express it
+  3  the words, a file or a stream cannot be used";
+
 const SUM_STATUSES: &str = "Exit status (of several files the greatest):
   0  each file has a digest, or the one that LIST has
   1  a file has another digest than LIST has
@@ -232,7 +336,7 @@ const GIT_STATUSES: &str = "Exit status:
   2  memory is refused
   3  the words or the output cannot be used";
 
-const COMMANDS: [Entry; 5] = [
+const COMMANDS: [Entry; 6] = [
     Entry {
         name: "diff",
         about: "Prints where two streams differ",
@@ -250,6 +354,12 @@ const COMMANDS: [Entry; 5] = [
         about: "Prints what tools of YAML 1.1 read otherwise",
         statuses: WARN_STATUSES,
         rows: &WARN,
+    },
+    Entry {
+        name: "show",
+        about: "Prints streams as readable YAML, or as JSON",
+        statuses: SHOW_STATUSES,
+        rows: &SHOW,
     },
     Entry {
         name: "sum",
@@ -287,7 +397,7 @@ fn commands<'a>(alloc: Global) -> Result<Vec<Command<'a>>, AllocError> {
 fn grammar<'a>(alloc: Global) -> Result<Command<'a>, AllocError> {
     let commands = commands(alloc)?;
     Command::new(alloc, "yamlreview")
-        .version("1.0.0 (yamlcanon-form-1)")
+        .version("1.1.0 (yamlcanon-form-1)")
         .about("Prints where two YAML streams differ, and where in a file a fault is")
         .bin_name("yamlreview")?
         .no_binary_name(true)
@@ -304,6 +414,38 @@ fn form_of(matches: &ArgMatches<'_>) -> Form {
 
 fn lines_of(matches: &ArgMatches<'_>) -> usize {
     matches.get_one::<usize>("lines").unwrap_or(LINES)
+}
+
+/// How many differences are looked for: for the status alone none.
+fn diff_lines_of(matches: &ArgMatches<'_>) -> usize {
+    if matches.get_flag("quiet") {
+        return 0;
+    }
+    let most = if matches.get_flag("stat") {
+        COUNTED
+    } else {
+        LINES
+    };
+    matches.get_one::<usize>("lines").unwrap_or(most)
+}
+
+/// How many lines are printed around changed ones.
+fn context_of(matches: &ArgMatches<'_>) -> usize
+    ensures { result ≤ 1000 }
+{
+    matches
+        .get_one::<usize>("unified")
+        .unwrap_or(0)
+        .min(CONTEXT)
+}
+
+/// Whether lines are in colour.
+fn color_of(matches: &ArgMatches<'_>, is_terminal: bool) -> bool {
+    match matches.get_str("color") {
+        Some("always") => true,
+        Some("never") => false,
+        _ => is_terminal,
+    }
 }
 
 fn names<'a>(
@@ -336,15 +478,29 @@ fn report_of<'a>(alloc: Global, matches: &ArgMatches<'a>) -> Result<Report<'a>, 
     })
 }
 
-fn diff_of<'a>(matches: &ArgMatches<'a>) -> Diff<'a> {
+fn diff_of<'a>(matches: &ArgMatches<'a>, is_terminal: bool) -> Diff<'a> {
     Diff {
         left: matches.get_str("A").unwrap_or("-"),
         right: matches.get_str("B").unwrap_or("-"),
         places: !matches.get_flag("no-places"),
         whole: matches.get_flag("whole"),
-        lines: lines_of(matches),
+        lines: diff_lines_of(matches),
         form: form_of(matches),
+        context: context_of(matches),
+        color: color_of(matches, is_terminal),
+        stat: matches.get_flag("stat"),
     }
+}
+
+fn show_of<'a>(alloc: Global, matches: &ArgMatches<'a>) -> Result<Show<'a>, AllocError> {
+    Ok(Show {
+        files: files_of(alloc, matches)?,
+        format: match matches.get_str("format") {
+            Some("json") => Format::Json,
+            _ => Format::Yaml,
+        },
+        textconv: matches.get_flag("textconv"),
+    })
 }
 
 /// What the words of this command ask for.
@@ -352,26 +508,32 @@ fn asked_of<'a>(
     alloc: Global,
     name: &str,
     inner: &ArgMatches<'a>,
+    is_terminal: bool,
 ) -> Result<Asked<'a>, AllocError> {
     match name {
         "faults" => Ok(Asked::Faults(report_of(alloc, inner)?)),
         "warn" => Ok(Asked::Warn(report_of(alloc, inner)?, lines_of(inner))),
+        "show" => Ok(Asked::Show(show_of(alloc, inner)?)),
         "sum" => Ok(Asked::Sum(Sum {
             files: files_of(alloc, inner)?,
             files_from: inner.get_str("files-from"),
             check: inner.get_str("check"),
         })),
         "git" => Ok(Asked::Git(names(alloc, inner, "WORD")?)),
-        _ => Ok(Asked::Diff(diff_of(inner))),
+        _ => Ok(Asked::Diff(diff_of(inner, is_terminal))),
     }
 }
 
-/// Reads the words behind the program's own name. An error has the text for the user: what is wrong with the words, or the help
+/// Reads the words behind the program's own name, of a run whose output is a terminal or not. An error has the text for the user: what is wrong with the words, or the help
 /// or version that they ask for.
-pub fn read_words<'a>(alloc: Global, words: &'a [String]) -> Result<Asked<'a>, Error> {
+pub fn read_words<'a>(
+    alloc: Global,
+    words: &'a [String],
+    is_terminal: bool,
+) -> Result<Asked<'a>, Error> {
     let matches = grammar(alloc)?.try_get_matches_from(words)?;
     match matches.subcommand() {
-        Some((name, inner)) => Ok(asked_of(alloc, name, inner)?),
+        Some((name, inner)) => Ok(asked_of(alloc, name, inner, is_terminal)?),
         None => Err(grammar(alloc)?.error(ErrorKind::MissingSubcommand, "no command is given")?),
     }
 }

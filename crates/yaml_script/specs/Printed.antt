@@ -52,7 +52,7 @@ edit_text color e = sign color e ++ piece_text color (piece e)
 
 -- the edit at this place, or one of so many before it or behind it, is a change
 abbrev pub is_near : ℕ → List Edit → ℕ → Bool
-is_near context edits k = list_any is_change (take (context + (context + 1)) (drop (k - context) edits))
+is_near context edits k = list_any is_change (take ((k - (k - context)) + (context + 1)) (drop (k - context) edits))
 
 -- a line is printed behind lines that are left out, and there is a change before these
 abbrev pub opens : ℕ → List Edit → ℕ → Bool

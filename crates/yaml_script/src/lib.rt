@@ -1,4 +1,4 @@
-//! Edit scripts: which lines of a text are other ones in another text, and how they are printed. No program uses this yet.
+//! Edit scripts: which lines of a text are other ones in another text, and how they are printed.
 #![tactic(auto)]
 
 pub mod lines;

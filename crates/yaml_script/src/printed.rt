@@ -156,8 +156,9 @@ fn is_near(edits: &[Edit<'_>], context: usize, place: usize) -> bool
     requires { context < 65536 }
     ensures { result ≡ is_near context edits.now place }
 {
-    let start = place.saturating_sub(context).min(edits.len());
-    has_change(first_of(&edits[start..], context + (context + 1)))
+    let before = place.saturating_sub(context);
+    let start = before.min(edits.len());
+    has_change(first_of(&edits[start..], (place - before) + (context + 1)))
 }
 
 /// Whether lines are left out before a place, and there is a change before these.

@@ -57,11 +57,12 @@ def first_line(*words):
 
 
 def compilers(machines):
-    """The compilers, by what they tell: that of the proved code, and for each machine that of library/heap.c and of the link."""
+    """The compilers, by what they tell: that of the proved code, and for each machine that of the library's C and of the link."""
     own = sorted(glob.glob(kit_folder() + "/toolchain/**/bin/clang", recursive=True))
     proved = first_line(own[0], "--version") if own else "not found"
     return ["the proved code: the kit's %s" % proved] + [
-        "library/heap.c and the library's link for %s: %s" % (machine.name, first_line(machine.cc, "--version")) for machine in machines
+        "library/heap.c, library/calls.c and the library's link for %s: %s" % (machine.name, first_line(machine.cc, "--version"))
+        for machine in machines
     ]
 
 

@@ -3,4 +3,4 @@ use Rattle.yaml_review_lines.specs.Compared.{TellsEach}
 use Rattle.yaml_review_lines.proofs.diff.lines_of.Given as goal
 
 abbrev pub invariant-loop-number : goal.invariant-loop-number
-invariant-loop-number l = TellsEach l.both.graph l.room (take l.number l.list) l.lines.items
+invariant-loop-number l = TellsEach l.both l.asked (take l.number l.list) l.lines.items

@@ -1,0 +1,3 @@
+pub mod JoinLaws
+pub mod JsonLaws
+pub mod ShownLaws

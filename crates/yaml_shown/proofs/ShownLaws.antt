@@ -1,0 +1,56 @@
+-- Canonical texts mean what their streams mean, and what a rejection leaves open.
+use Rattle.std.proofs.Common.{◌≡◌, ◌⊎◌, inl, inr, ℕ, ◌≤◌, List, [], ◌∷◌, refl, sym, ◌∙◌, subst}
+use Rattle.yaml_definitions.specs.model.Limits.{height_limit}
+use Rattle.yaml_definitions.specs.model.Tree.{Tree, height}
+use Rattle.yaml_definitions.specs.model.Same.{Keyed}
+use Rattle.yaml_definitions.specs.model.Proper.{AreAdmitted, Admitted}
+use Rattle.yaml_definitions.specs.model.Means.{Means}
+use Rattle.yaml_text.specs.declared.fault.Fault.{Fault}
+use Rattle.yaml_text.specs.declared.fault.Fault.TheVariants as faults
+use Rattle.law_read_back.proofs.Meanings.{spellings_mean}
+use Rattle.yaml_canon.specs.Claims.{AllOf, IsCanonicalText, CanonicalRefuses}
+use Rattle.yaml_canon.specs.Accepting.{IsMemory, MeaningsAreAccepted}
+use Rattle.yaml_canon.proofs.ClaimLaws.{means_alone}
+use Rattle.yaml_shown.specs.Alike.{MeanAlike}
+use Rattle.yaml_shown.specs.Refused.{ShowRefuses, IsLengthOrMemory}
+
+all-low : (f : List Tree) → AreAdmitted f → AllOf (λ t. height t ≤ height_limit) f
+all-low [] a = tt
+all-low (t ∷ f) a = (a.0.low, all-low f a.1)
+
+all-keyed : (f : List Tree) → AreAdmitted f → AllOf Keyed f
+all-keyed [] a = tt
+all-keyed (t ∷ f) a = (a.0.keyed, all-keyed f a.1)
+
+-- the canonical text of a stream means what that means
+pub canonical_alike : (bytes text : List ℕ) → IsCanonicalText bytes text → MeanAlike bytes text
+canonical_alike bytes text c =
+    let u = spellings_mean c.forest c.admitted in
+    let m : Means text u.forest = subst (λ z. Means z u.forest) (sym c.spelled) u.means in
+    record {
+      meant = c.forest;
+      shown = u.forest;
+      bytes_mean = c.accepted;
+      text_means = means_alone text u.forest m (all-low u.forest u.admitted.trees) (all-keyed u.forest u.admitted.trees);
+      alike = (c.tells u.forest u.admitted).0 (u.text ∙ sym c.spelled);
+    }
+
+-- what `canonical` rejects
+pub refused_shown : (bytes : List ℕ) (fault : Fault) → CanonicalRefuses bytes fault → ShowRefuses bytes fault
+refused_shown bytes faults.TextTooLong h = tt
+refused_shown bytes _ h = h
+
+pub memory_shown : (bytes : List ℕ) (fault : Fault) → IsMemory fault → ShowRefuses bytes fault
+memory_shown bytes fault e = subst (ShowRefuses bytes) (sym e) tt
+
+length-or-refused : (bytes : List ℕ) (fault : Fault) → ShowRefuses bytes fault → (fault ≡ faults.TextTooLong) ⊎ CanonicalRefuses bytes fault
+length-or-refused bytes faults.TextTooLong h = inl refl
+length-or-refused bytes _ h = inr h
+
+-- bytes that mean admitted documents
+pub admitted_shown : MeaningsAreAccepted → (bytes : List ℕ) (f : List Tree) (fault : Fault) → Admitted f → Means bytes f → ShowRefuses bytes fault → IsLengthOrMemory fault
+admitted_shown law bytes f fault a m h = by (length-or-refused bytes fault h)
+  where
+    by : (fault ≡ faults.TextTooLong) ⊎ CanonicalRefuses bytes fault → IsLengthOrMemory fault
+    by (inl e) = inl e
+    by (inr r) = inr (law bytes f fault a m r)

@@ -1,0 +1,3 @@
+pub mod Alike
+pub mod Lines
+pub mod Refused

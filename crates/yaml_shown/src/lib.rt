@@ -1,0 +1,13 @@
+//! Readable texts of a stream, each checked before it is handed out: `show` in YAML, `show_json` in JSON. The check is the comparer, so no
+//! text is handed out that means something else than the stream, whatever the presenter wrote.
+#![tactic(auto)]
+
+mod checking;
+mod joining;
+mod json;
+mod presenting;
+pub mod shown;
+pub mod unshown;
+
+pub use shown::{show, show_json};
+pub use unshown::Unshown;
