@@ -108,7 +108,7 @@ static SUMS: [Row; 11] = [
 
 /// What `sha256sum --check` of coreutils 9.1 tells of these lines on standard output, where the files hold
 /// their canonical texts. Of a list with no line of a sum it tells that and no number of lines.
-static CHECKS: [Row; 6] = [
+static CHECKS: [Row; 7] = [
     Row {
         name: "a list that was written is found right",
         words: &["sum", "--check", "-"],
@@ -156,6 +156,14 @@ static CHECKS: [Row; 6] = [
         status: 3,
         out: "",
         err: "yamlreview: empty\\nlist: no line is one of a sum\n",
+    },
+    Row {
+        name: "of many lines each is told in turn, and the worst status, wherever it stands",
+        words: &["sum", "--check", "-"],
+        input: b"# many lines\n82ae564fde271dd8a546cae079eba99e0c49b73b9e767ef20f8bbea26c2ae94d  flow.yaml\n\n10fefbc4a80af0c4ff6ee9763b1d134ced76a83604f31803c082d5bfcc96318a  one.yaml\n10fefbc4a80af0c4ff6ee9763b1d134ced76a83604f31803c082d5bfcc96318a  flow.yaml\nnonsense\n82ae564fde271dd8a546cae079eba99e0c49b73b9e767ef20f8bbea26c2ae94d *block.yaml\n82ae564fde271dd8a546cae079eba99e0c49b73b9e767ef20f8bbea26c2ae94d  absent\n82ae564fde271dd8a546cae079eba99e0c49b73b9e767ef20f8bbea26c2ae94d  refused.yaml\n\\82ae564fde271dd8a546cae079eba99e0c49b73b9e767ef20f8bbea26c2ae94d  line\\nfeed\n82ae564fde271dd8a546cae079eba99e0c49b73b9e767ef20f8bbea26c2ae94d flow.yaml\n82ae564fde271dd8a546cae079eba99e0c49b73b9e767ef20f8bbea26c2ae94d  flow.yaml",
+        status: 3,
+        out: "flow.yaml: OK\none.yaml: OK\nflow.yaml: FAILED\nblock.yaml: OK\nabsent: FAILED open or read\nrefused.yaml: FAILED open or read\n\\line\\nfeed: OK\nflow.yaml: OK\n",
+        err: "yamlreview: absent: cannot open: not found\nyamlreview: refused.yaml: 4 Syntax at byte 7\nyamlreview: lines that are no sums: 2\n",
     },
 ];
 

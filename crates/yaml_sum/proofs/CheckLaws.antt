@@ -1,5 +1,6 @@
 -- What becomes of the files of a list of sums, one line more at a time.
 use Rattle.std.proofs.Common.{◌≡◌, ◌==◌, ◌⊎◌, ◌++◌, ℕ, zero, suc, Bool, true, false, cond, ◌+◌, ◌-◌, ◌^◌, ◌<◌, ◌≤◌, max, List, [], ◌∷◌, Option, None, Some, length, take, refl, sym, ◌∙◌, ap, subst, arith, append_assoc, append-nil, length-append, inl, inr}
+use Rattle.std.specs.Prelude.{Result, Ok, Err, OnOk, IfErr}
 use Rattle.std.specs.Io.KnownBytes.{Appends}
 use Rattle.std.proofs.Math.Seq.{take-length}
 use Rattle.yaml_text.specs.CountedModel.{inner_of, faults_of}
@@ -10,15 +11,18 @@ use Rattle.yaml_spell.specs.Writers.{Sent, CutOff}
 use Rattle.yaml_answers.specs.Writers.{Printed, Broken}
 use Rattle.yaml_spell.proofs.Streams.{appends_none, appends_more}
 use Rattle.yaml_report.specs.Printing.{PrintFails}
-use Rattle.yaml_sum.specs.Names.{IsCut, IsOne, pieces}
-use Rattle.yaml_sum.specs.Sums.{Halts}
+use Rattle.yaml_sum.specs.Names.{IsCut, pieces}
+use Rattle.yaml_sum.specs.Complaints.{IsTold}
+use Rattle.yaml_sum.specs.Asks.{list_limit, ListChecked, ListNotChecked}
+use Rattle.yaml_sum.specs.Sums.{IsRead, Halts}
 use Rattle.yaml_sum.specs.Listed.{Listing, listed_name, is_remark, listing_of, listing_in, improper_in, all_listings, improper_count, lines_of}
-use Rattle.yaml_sum.specs.Checks.{verdict_line, verdicts, finding_status, worst_found, TellsFound, TellAllFound, Finds, FindAll, ChecksAll, ChecksCut, any_in}
-use Rattle.yaml_sum.specs.Checking.{Counts, IsCounted, ChecksSome, ChecksOne, Sees, CutsFile, CutsLine, Checking}
+use Rattle.yaml_sum.specs.Checks.{verdict_line, verdicts, finding_status, worst_found, TellsFound, TellAllFound, Finds, FindAll, ChecksAll, ChecksCut, any_in, none_line, improper_line, Closes}
+use Rattle.yaml_sum.specs.Checking.{Counts, IsCounted, Puts, PutsNot, ChecksSome, ChecksOne, Sees, CutsFile, CutsLine, Checking}
 use Rattle.yaml_sum.specs.declared.finding.Finding.{Finding}
 use Rattle.yaml_sum.specs.declared.check.Seen.{Seen}
 use Rattle.yaml_sum.specs.declared.check.Seen.TheVariants.{Remark, Improper, File}
 use Rattle.yaml_sum.specs.declared.check.Told.{Told}
+use Rattle.yaml_sum.specs.declared.stop.Halt.TheVariants.{Fault as Failed}
 use Rattle.yaml_sum.proofs.NameLaws.{pieces_cut, pieces_last}
 use Rattle.yaml_sum.proofs.SumLaws.{begun}
 
@@ -293,3 +297,56 @@ module _ {R : Type 0} (holds : List ℕ → Option (List ℕ)) (remaining : R �
       halts = subst (Halts holds remaining contents told o v (verdicts ls h.findings)) (sym e) (record { took = h.printed.took; counted = h.printed.counted });
       tells = subst (TellAllFound told ls h.findings a) (sym f) h.tells;
     }
+
+-- The line of a file goes out, or is cut off.
+module _ {W E : Type 0} (contents : W → Option (List ℕ)) (told : E → Option (List ℕ)) where
+  pub puts : {T : Type 0} (name : List ℕ) (f : Finding) (o u : Counted W) (a b : Counted E) (piece : List ℕ) (r : Result T Fault) → piece ≡ verdict_line name f → TellsFound told name f a b → OnOk r (Sent contents o u piece) → OnOk r (Puts contents told name f o u a b)
+  puts name f o u a b piece (Ok x) e t h = record { sent = subst (Sent contents o u) e h; tells = t }
+  puts name f o u a b piece (Err fault) e t h = h
+
+  pub puts_not : {T : Type 0} (name : List ℕ) (f : Finding) (o u : Counted W) (a b : Counted E) (piece : List ℕ) (r : Result T Fault) → piece ≡ verdict_line name f → TellsFound told name f a b → IfErr r (CutOff contents o u piece) → IfErr r (PutsNot contents told name f o u a b)
+  puts_not name f o u a b piece (Ok x) e t h = h
+  puts_not name f o u a b piece (Err fault) e t h = inl (subst (λ z. CutOff contents o u z fault) e h, t)
+
+-- and it is that of the line of the list
+module _ {R W E : Type 0} (holds : List ℕ → Option (List ℕ)) (remaining : R → Option (List ℕ)) (contents : W → Option (List ℕ)) (told : E → Option (List ℕ)) where
+  pub sees_file : (line : List ℕ) (l : Listing) (f : Finding) (old new : R) (o u : Counted W) (a b : Counted E) (status : ℕ) → is_remark line ≡ false → listing_of line ≡ Some l → Finds holds remaining l old new f
+      → Puts contents told (listed_name l) f o u a b → status ≡ finding_status f → Sees holds remaining contents told line old new o u a b (File status)
+  sees_file line l f old new o u a b status e n finds p s = (e, l, n, record { finding = f; finds = finds; puts = p; status_is = s })
+
+  pub cuts_line : (line : List ℕ) (l : Listing) (f : Finding) (old new : R) (o u : Counted W) (a b : Counted E) (fault : Fault) → is_remark line ≡ false → listing_of line ≡ Some l → Finds holds remaining l old new f
+      → PutsNot contents told (listed_name l) f o u a b fault → CutsLine holds remaining contents told line old o u a b fault
+  cuts_line line l f old new o u a b fault e n finds (inl k) = inl (record { l = l; remark = e; is = n; new = new; finding = f; finds = finds; cut = k.0; tells = k.1 })
+  cuts_line line l f old new o u a b fault e n finds (inr k) = inr k
+
+-- what is told of all lines
+module _ {E : Type 0} (told : E → Option (List ℕ)) where
+  pub closes_none : (list line piece : List ℕ) (has : Bool) (count worst : ℕ) (a b : Counted E) → has ≡ false → piece ≡ line → line ≡ none_line list → IsTold told a b piece → Closes told list has count worst a b 3
+  closes_none list line piece has count worst a b e f g h = subst (λ z. Closes told list z count worst a b 3) (sym e) (subst (IsTold told a b) (f ∙ g) h, refl)
+
+  pub closes_improper : (list line piece : List ℕ) (has : Bool) (count worst : ℕ) (a b : Counted E) → has ≡ true → 0 < count → piece ≡ line → line ≡ improper_line count → IsTold told a b piece → Closes told list has count worst a b worst
+  closes_improper list line piece has zero worst a b e n f g h = absurd (omega (arith, n))
+  closes_improper list line piece has (suc k) worst a b e n f g h = subst (λ z. Closes told list z (suc k) worst a b worst) (sym e) (subst (IsTold told a b) (f ∙ g) h, refl)
+
+  pub closes_told : (list : List ℕ) (lines : List (List ℕ)) (t : Told) (worst : ℕ) (a b : Counted E) (status : ℕ) → IsCounted lines t → Closes told list t.has_sums t.improper worst a b status → Closes told list (any_in (all_listings lines)) (improper_count lines) worst a b status
+  closes_told list lines t worst a b status h k =
+      subst (λ z. Closes told list z (improper_count lines) worst a b status) h.has (subst (λ z. Closes told list t.has_sums z worst a b status) h.improper k)
+
+-- a list whose files were looked at, and one of which memory is refused behind that
+module _ {R W E : Type 0} (holds : List ℕ → Option (List ℕ)) (remaining : R → Option (List ℕ)) (contents : W → Option (List ℕ)) (told : E → Option (List ℕ)) where
+  pub list_checked : (list bytes piece : List ℕ) (old behind new : R) (o v : Counted W) (a b c : Counted E) (t : Told) (status : ℕ) → piece ≡ bytes → IsRead holds remaining list list_limit old behind bytes
+      → ChecksAll holds remaining contents told (all_listings (lines_of piece)) behind new o v a b t.worst → IsCounted (lines_of piece) t → Closes told list t.has_sums t.improper t.worst b c status → ListChecked holds remaining contents told list old new o v a c status
+  list_checked list bytes piece old behind new o v a b c t status e read h counted k = record {
+    bytes = piece;
+    behind = behind;
+    read = subst (IsRead holds remaining list list_limit old behind) (sym e) read;
+    worst = t.worst;
+    middle = b;
+    checks = h;
+    closes = closes_told told list (lines_of piece) t t.worst b c status counted k;
+  }
+
+  pub list_cut : (list bytes piece : List ℕ) (old behind new : R) (o v : Counted W) (a b c : Counted E) (status : ℕ) (fault : Fault) → piece ≡ bytes → IsRead holds remaining list list_limit old behind bytes
+      → ChecksAll holds remaining contents told (all_listings (lines_of piece)) behind new o v a b status → fault ≡ OutOfMemory → c ≡ b → ListNotChecked holds remaining contents told list old new o v a c (Failed fault)
+  list_cut list bytes piece old behind new o v a b c status fault e read h f g =
+      inr (piece, behind, subst (IsRead holds remaining list list_limit old behind) (sym e) read, closed_cut holds remaining contents told (all_listings (lines_of piece)) behind new o v a b c status fault h f g)

@@ -1,9 +1,13 @@
 -- A name that is written with escapes, byte by byte.
-use Rattle.std.proofs.Common.{◌≡◌, ◌==◌, ◌++◌, ℕ, ◌+◌, ◌<◌, Bool, true, false, cond, List, [], ◌∷◌, Option, None, Some, length, take, drop, get_or, refl, sym, ◌∙◌, ap, subst, append_assoc, append-nil}
-use Rattle.std.specs.Prelude.{slice_index, option_map}
+use Rattle.std.proofs.Common.{◌≡◌, ◌==◌, ◌++◌, ℕ, ◌+◌, ◌<◌, ◌≤◌, Bool, true, false, cond, List, [], ◌∷◌, Option, None, Some, length, take, drop, get_or, refl, sym, ◌∙◌, ap, subst, append_assoc, append-nil, arith}
+use Rattle.std.specs.Prelude.{◌&&◌, ◌||◌, nat_lt, slice_index, option_map}
+use Rattle.std.proofs.lemmas.Bool.{ltb-true}
+use Rattle.std.proofs.lemmas.List.{length-take-le}
 use Rattle.std.proofs.lemmas.List.{drop_more}
-use Rattle.yaml_sum.specs.Listed.{escaped, with_front, name_of}
-use Rattle.yaml_sum.specs.Reads.{name_behind}
+use Rattle.hex.specs.Hex.{decode_sized}
+use Rattle.yaml_sum.specs.Listed.{Listing, listed, escaped, with_front, name_of, is_apart, told_digest, both, listing, listing_of}
+use Rattle.yaml_sum.specs.Reads.{name_as, said, name_behind}
+use Rattle.yaml_sum.specs.declared.listed.Listed.{Listed}
 
 put_assoc : (plain : List ℕ) (b : ℕ) (r : Option (List ℕ)) → option_map (λ z. plain ++ z) (with_front (Some b) r) ≡ option_map (λ z. (plain ++ (b ∷ [])) ++ z) r
 put_assoc plain b None = refl
@@ -29,12 +33,14 @@ two_more name at d within more e =
     drop_more name at d within ∙ ap (λ z. z ∷ drop (at + 1) name) e ∙ ap (λ z. 92 ∷ z) (drop_more name (at + 1) d more)
 
 pub escape_step : (name plain next : List ℕ) (at d b : ℕ) → at < length name → at + 1 < length name → get_or name at d ≡ 92 → escaped (get_or name (at + 1) d) ≡ Some b → next ≡ plain ++ (b ∷ []) → name_of name ≡ name_behind plain (drop at name)
-    → name_of name ≡ name_behind next (drop (at + 1 + 1) name)
+    → name_of name ≡ name_behind next (drop (at + 2) name)
 escape_step name plain next at d b within more e f g h =
+    let two : at + 1 + 1 ≡ at + 2 = omega arith in
     h
     ∙ ap (name_behind plain) (two_more name at d within more e)
     ∙ escape_front plain (get_or name (at + 1) d) b (drop (at + 1 + 1) name) f
     ∙ ap (λ z. name_behind z (drop (at + 1 + 1) name)) (sym g)
+    ∙ ap (λ n. name_behind next (drop n name)) two
 
 -- a backslash that begins no escape
 pub escape_bad : (name plain : List ℕ) (at d : ℕ) → at < length name → at + 1 < length name → get_or name at d ≡ 92 → escaped (get_or name (at + 1) d) ≡ None → name_of name ≡ name_behind plain (drop at name) → name_of name ≡ None
@@ -58,3 +64,21 @@ same_map (Some z) = refl
 -- nothing of a name was read
 pub name_start : (name plain : List ℕ) → plain ≡ [] → name_of name ≡ name_behind plain name
 name_start name plain e = same_map (name_of name) ∙ ap (λ z. name_behind z name) (sym e)
+
+first_of : (a b : Bool) → (a && b) ≡ true → a ≡ true
+first_of true b e = refl
+first_of false b e = e
+
+-- a line with room for a digest has its digits
+pub has_digits : (line : List ℕ) → is_apart line ≡ true → 64 ≡ length (take 64 line)
+has_digits line e =
+    let l : 66 < length line = ltb-true 66 (length line) (first_of (nat_lt 66 (length line)) ((slice_index line 64 == 32) && ((slice_index line 65 == 32) || (slice_index line 65 == 42))) e) in
+    sym (length-take-le 64 line (omega (arith, l)))
+
+-- a line of a digest says what its name says
+pub listing_is : (line digest : List ℕ) (name : Option (List ℕ)) → is_apart line ≡ true → told_digest (decode_sized (take 64 line) 32) ≡ Some digest → both (Some digest) name ≡ listing line name
+listing_is line digest name e f = sym (ap (λ z. cond z (both (told_digest (decode_sized (take 64 line) 32)) name) None) e ∙ ap (λ z. both z name) f)
+
+-- a line whose name is written properly names a file
+pub listing_said : (line : List ℕ) (r : Option Listed) (l : Listed) (plain : List ℕ) → said r ≡ listing_of line → r ≡ Some l → name_as l.is_escaped l.name.now ≡ Some plain → listing_of line ≡ Some (listed l.digest plain)
+listing_said line r l plain e f g = sym e ∙ ap said f ∙ ap (both (Some l.digest)) g

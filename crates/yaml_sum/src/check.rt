@@ -1,8 +1,8 @@
 //! Whether files have the sums that a list tells.
 ghost use Rattle.std.specs.Prelude.{◌≡◌, ◌<◌, ◌-◌, ◌^◌, ◌++◌, length, IfOk, IfErr, OnOk, OnErr};
 ghost use Rattle.yaml_text.specs.CountedModel.{faults_of};
-ghost use Rattle.yaml_sum.specs.Listed.{listed, lines_of, all_listings};
-ghost use Rattle.yaml_sum.specs.Checks.{verdict_line, none_line, improper_line, Finds, Closes, ChecksAll, ChecksCut};
+ghost use Rattle.yaml_sum.specs.Listed.{listed, is_remark, lines_of, all_listings};
+ghost use Rattle.yaml_sum.specs.Checks.{verdict_line, none_line, improper_line, TellsFound, Finds, Closes, ChecksAll, ChecksCut};
 ghost use Rattle.yaml_sum.specs.Checking.{IsCounted, Puts, PutsNot, ChecksSome, Sees, CutsLine};
 ghost use Rattle.yaml_sum.specs.Complaints.{IsTold};
 ghost use Rattle.yaml_sum.specs.Asks.{ListChecked, ListNotChecked};
@@ -112,6 +112,24 @@ fn find<S: Shelf, R: Read>(
     }
 }
 
+/// Tells why a file has no digest, if it has none.
+fn tell_found<E: Write>(
+    alloc: Global,
+    line: &mut Vec<u8>,
+    name: &[u8],
+    finding: Finding,
+    err: &mut Counted<E>,
+) -> Result<(), Fault>
+    ensures ok { OnOk result (TellsFound E.contents name.now finding err.old err.new) }
+    ensures only { IfErr result (λ fault. fault ≡ Fault.OutOfMemory) }
+    ensures quiet { OnErr result (err.new ≡ err.old) }
+{
+    match finding {
+        Finding::Right | Finding::Wrong => Ok(()),
+        Finding::Without(stop) => tell(alloc, line, name, stop, err),
+    }
+}
+
 /// Writes what is found of a file, and tells why it has no digest. The line is made before anything is
 /// told. Refused is what `out` refuses, and want of memory before any of it.
 fn put<W: Write, E: Write>(
@@ -126,10 +144,18 @@ fn put<W: Write, E: Write>(
     ensures cut { IfErr result (PutsNot W.contents E.contents name.now finding out.old out.new err.old err.new) }
 {
     make_verdict(&mut buffers.line, name, finding)?;
-    if let Finding::Without(stop) = finding {
-        tell(alloc, &mut buffers.bytes, name, stop, err)?;
-    }
+    tell_found(alloc, &mut buffers.bytes, name, finding, err)?;
     write_whole(out, buffers.line.as_slice())
+}
+
+/// Whether a line is a remark: an empty line, or one that begins with `#`.
+fn is_remark(line: &[u8]) -> bool
+    ensures { result ≡ is_remark line.now }
+{
+    match line {
+        [] => true,
+        [first, ..] => *first == b'#',
+    }
 }
 
 /// Looks at the file that a line of a list names, if the line is one of a sum, and writes what is found.
@@ -146,7 +172,7 @@ fn check_line<S: Shelf, R: Read, W: Write, E: Write>(
     ensures ok { IfOk result (Sees (S.holds shelf.now) R.remaining W.contents E.contents line.now input.old input.new out.old out.new err.old err.new) }
     ensures cut { IfErr result (CutsLine (S.holds shelf.now) R.remaining W.contents E.contents line.now input.old out.old out.new err.old err.new) }
 {
-    if line.is_empty() || line[0] == b'#' {
+    if is_remark(line) {
         return Ok(Seen::Remark);
     }
     let Some(listed) = read_listed(line) else {
@@ -156,15 +182,9 @@ fn check_line<S: Shelf, R: Read, W: Write, E: Write>(
     if !unwrite(&listed, &mut name)? {
         return Ok(Seen::Improper);
     }
-    let finding = find(
-        shelf,
-        alloc,
-        &listed.digest,
-        name.as_slice(),
-        input,
-        buffers,
-    );
-    put(alloc, name.as_slice(), finding, buffers, out, err)?;
+    let file = name.as_slice();
+    let finding = find(shelf, alloc, &listed.digest, file, input, buffers);
+    put(alloc, file, finding, buffers, out, err)?;
     Ok(Seen::File(finding.status()))
 }
 
