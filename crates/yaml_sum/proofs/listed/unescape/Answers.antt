@@ -1,4 +1,5 @@
 use Rattle.std.proofs.Common.{◌∙◌, sym, arith}
+use Rattle.std.proofs.lemmas.Bool.{ne_eqb}
 use Rattle.yaml_sum.proofs.ListedLaws.{name_start, plain_step, escape_step}
 use Rattle.yaml_sum.proofs.listed.unescape.Goals as goal
 
@@ -7,7 +8,7 @@ bytes-init c = record { so_far = name_start c.args.name.now _ c.clear.ensures.it
 
 pub bytes-preserved-then-name-at-ne92 : goal.bytes-preserved-then-name-at-ne92
 bytes-preserved-then-name-at-ne92 c = record {
-  so_far = plain_step c.args.name.now c.bytes.plain.items _ c.bytes.at 0 c.bytes-test.true c.if-name-at-ne92.true c.in_ok-push.ensures.ok c.bytes.invariant.so_far;
+  so_far = plain_step c.args.name.now c.bytes.plain.items _ c.bytes.at 0 c.bytes-test.true (ne_eqb _ 92 c.if-name-at-ne92.true) c.in_ok-push.ensures.ok c.bytes.invariant.so_far;
   within = omega (arith, c.bytes-test.true);
 }
 
