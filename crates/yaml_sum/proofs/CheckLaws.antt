@@ -1,8 +1,9 @@
 -- What becomes of the files of a list of sums, one line more at a time.
-use Rattle.std.proofs.Common.{◌≡◌, ◌==◌, ◌⊎◌, ◌++◌, ℕ, zero, suc, Bool, true, false, cond, ◌+◌, ◌-◌, ◌^◌, ◌<◌, ◌≤◌, max, List, [], ◌∷◌, Option, None, Some, length, take, refl, sym, ◌∙◌, ap, subst, arith, append_assoc, append-nil, length-append, inl, inr}
+use Rattle.std.proofs.Common.{◌≡◌, ◌==◌, ◌⊎◌, ◌++◌, ℕ, zero, suc, Bool, true, false, not, cond, ◌+◌, ◌-◌, ◌^◌, ◌<◌, ◌≤◌, max, List, [], ◌∷◌, Option, None, Some, length, take, refl, sym, ◌∙◌, ap, subst, arith, append_assoc, append-nil, length-append, inl, inr}
 use Rattle.std.specs.Prelude.{Result, Ok, Err, OnOk, IfErr}
 use Rattle.std.specs.Io.KnownBytes.{Appends}
 use Rattle.std.proofs.Math.Seq.{take-length}
+use Rattle.std.proofs.lemmas.Bool.{ne_eqb}
 use Rattle.yaml_text.specs.CountedModel.{inner_of, faults_of}
 use Rattle.yaml_text.specs.declared.fault.Fault.{Fault}
 use Rattle.yaml_text.specs.declared.fault.Fault.TheVariants.{OutOfMemory, WriteFault}
@@ -16,7 +17,7 @@ use Rattle.yaml_sum.specs.Complaints.{IsTold}
 use Rattle.yaml_sum.specs.Asks.{list_limit, ListChecked, ListNotChecked}
 use Rattle.yaml_sum.specs.Sums.{IsRead, Halts}
 use Rattle.yaml_sum.specs.Listed.{Listing, listed_name, is_remark, listing_of, listing_in, improper_in, all_listings, improper_count, lines_of}
-use Rattle.yaml_sum.specs.Checks.{verdict_line, verdicts, finding_status, worst_found, TellsFound, TellAllFound, Finds, FindAll, ChecksAll, ChecksCut, any_in, none_line, improper_line, Closes}
+use Rattle.yaml_sum.specs.Checks.{verdict_line, verdicts, finding_status, worst_found, TellsFound, TellAllFound, Finds, FindAll, ChecksAll, ChecksCut, any_in, none_line, improper_line, TellsImproper, Closes}
 use Rattle.yaml_sum.specs.Checking.{Counts, IsCounted, Puts, PutsNot, ChecksSome, ChecksOne, Sees, CutsFile, CutsLine, Checking}
 use Rattle.yaml_sum.specs.declared.finding.Finding.{Finding}
 use Rattle.yaml_sum.specs.declared.check.Seen.{Seen}
@@ -319,14 +320,24 @@ module _ {R W E : Type 0} (holds : List ℕ → Option (List ℕ)) (remaining : 
   cuts_line line l f old new o u a b fault e n finds (inl k) = inl (record { l = l; remark = e; is = n; new = new; finding = f; finds = finds; cut = k.0; tells = k.1 })
   cuts_line line l f old new o u a b fault e n finds (inr k) = inr k
 
+was_false : (b : Bool) → not b ≡ true → b ≡ false
+was_false false e = refl
+was_false true e = sym e
+
+was_true : (b : Bool) → not b ≡ false → b ≡ true
+was_true true e = refl
+was_true false e = sym e
+
 -- what is told of all lines
 module _ {E : Type 0} (told : E → Option (List ℕ)) where
-  pub closes_none : (list line piece : List ℕ) (has : Bool) (count worst : ℕ) (a b : Counted E) → has ≡ false → piece ≡ line → line ≡ none_line list → IsTold told a b piece → Closes told list has count worst a b 3
-  closes_none list line piece has count worst a b e f g h = subst (λ z. Closes told list z count worst a b 3) (sym e) (subst (IsTold told a b) (f ∙ g) h, refl)
+  pub closes_none : (list line piece : List ℕ) (has : Bool) (count worst : ℕ) (a b : Counted E) → not has ≡ true → piece ≡ line → line ≡ none_line list → IsTold told a b piece → Closes told list has count worst a b 3
+  closes_none list line piece has count worst a b e f g h = subst (λ z. Closes told list z count worst a b 3) (sym (was_false has e)) (subst (IsTold told a b) (f ∙ g) h, refl)
 
-  pub closes_improper : (list line piece : List ℕ) (has : Bool) (count worst : ℕ) (a b : Counted E) → has ≡ true → 0 < count → piece ≡ line → line ≡ improper_line count → IsTold told a b piece → Closes told list has count worst a b worst
-  closes_improper list line piece has zero worst a b e n f g h = absurd (omega (arith, n))
-  closes_improper list line piece has (suc k) worst a b e n f g h = subst (λ z. Closes told list z (suc k) worst a b worst) (sym e) (subst (IsTold told a b) (f ∙ g) h, refl)
+  pub closes_improper : (list line piece : List ℕ) (has : Bool) (count worst : ℕ) (a b : Counted E) → not has ≡ false → 0 < count → piece ≡ line → line ≡ improper_line count → IsTold told a b piece → Closes told list has count worst a b worst
+  closes_improper list line piece has count worst a b e n f g h =
+      let some : (count == 0) ≡ false = ne_eqb count 0 (λ z. omega (arith, z, n)) in
+      let tells : TellsImproper told (count == 0) count a b = subst (λ z. TellsImproper told z count a b) (sym some) (subst (IsTold told a b) (f ∙ g) h) in
+      subst (λ z. Closes told list z count worst a b worst) (sym (was_true has e)) (tells, refl)
 
   pub closes_told : (list : List ℕ) (lines : List (List ℕ)) (t : Told) (worst : ℕ) (a b : Counted E) (status : ℕ) → IsCounted lines t → Closes told list t.has_sums t.improper worst a b status → Closes told list (any_in (all_listings lines)) (improper_count lines) worst a b status
   closes_told list lines t worst a b status h k =
