@@ -334,10 +334,11 @@ static void held_once(const struct file *file)
     free(own.room);
 }
 
-/* A bound that a call is given is as one of the thread, which is then as it was. */
+/* A bound that a call is given is as one of the thread, which is then as it was: a byte below the peak, where a call is refused. */
 static void within(const struct file *file)
 {
     size_t cap = file->n * 40 + 5000, peak;
+    uint32_t below;
     uint8_t digest[32];
     yamlcanon_budget(0);
     struct answer own = answer_of(yamlcanon_canonical, file, cap), a = {0, UNTOLD, cap, own.room, {0}};
@@ -346,12 +347,13 @@ static void within(const struct file *file)
     yamlcanon_budget(peak - 1);
     a.status = yamlcanon_canonical_within(file->at, file->n, own.room, cap, &a.len, &a.fault, peak);
     if (a.status != own.status || yamlcanon_peak() != peak) wrong(file, "refused within its peak");
+    below = yamlcanon_canonical_within(file->at, file->n, own.room, cap, &a.len, &a.fault, peak - 1);
+    if (own.status == YAMLCANON_DONE && below != YAMLCANON_REFUSED) wrong(file, "not refused below its peak");
     if (yamlcanon_sha256_within(file->at, file->n, digest, &a.fault, 1) != YAMLCANON_REFUSED) wrong(file, "a digest within 1 byte");
     if (yamlcanon_same_within(file->at, file->n, file->at, file->n, &a.fault, 0) != own.status) wrong(file, "not the same within no bound");
     (void)yamlcanon_events_within(file->at, file->n, own.room, cap, &a.len, &a.fault, 0);
     a.status = yamlcanon_canonical(file->at, file->n, own.room, cap, &a.len, &a.fault);
-    if (yamlcanon_peak() >= peak || (own.status == YAMLCANON_DONE && a.status == YAMLCANON_DONE && a.len != own.len))
-        wrong(file, "the bound of the thread is lost");
+    if (a.status != below) wrong(file, "the bound of the thread is lost");
     yamlcanon_budget(0);
     free(own.room);
 }

@@ -2,9 +2,10 @@
 
 The document above has properties above a collection that is a key: they belong to the mapping, which is known once the colon is read.
 `canon` runs on each shape alone and below that document, at 500,000 bytes. Peak memory and seconds of the processor are compared, both
-less what the program takes for the empty input; of seconds the least of three runs counts. Where the seconds grow by more than a tenth,
-the instructions of both runs on a smaller text decide (valgrind's callgrind). A shape fails whose memory or instructions grow by more
-than a tenth. Less than a byte of memory for a byte of input counts as one. Needs Python 3, GNU time and valgrind.
+less what the program takes for the empty input; of three runs the least counts. Where the seconds grow by more than a tenth, the
+instructions of both runs on a smaller text decide (valgrind's callgrind). A shape fails whose memory or instructions grow by more than a
+tenth. Less than a byte of memory for a byte of input counts as one, and 200 kB are taken off the memory below the document, since the peak
+of one and the same run varies by that. Needs Python 3, GNU time and valgrind.
 """
 import concurrent.futures
 import os
@@ -16,7 +17,7 @@ from bench.lib.shapes import SHAPES, shapes_named
 from lib.arguments import parser
 
 PREFIX = b"!t\n[a]: b\n...\n"
-MOST, RUNS, SMALL = 1.1, 3, 40_000
+MOST, RUNS, SMALL, VARIES = 1.1, 3, 40_000, 200_000
 
 
 def taken(text, free):
@@ -34,7 +35,7 @@ def ratios(name, size, free):
     if time > MOST:
         small = SHAPES[name](SMALL)
         counted = instructions("canon", PREFIX + small)[0] / instructions("canon", small)[0]
-    return time, more_memory / memory, counted, ended
+    return time, max(len(text), more_memory - VARIES) / memory, counted, ended
 
 
 def main(words=None):

@@ -76,7 +76,7 @@ pub static YAML: [Row; 18] = [
     Row {
         name: "characters that nobody sees are escapes, and others are as they are",
         words: SHOW,
-        left: "- \"\u{A9} \u{202E}\\uFEFF\u{E0001} \\\"\\\\\\t\"\n- \u{65E5}\u{672C}\n".as_bytes(),
+        left: b"- \"\xC2\xA9 \xE2\x80\xAE\\uFEFF\xF3\xA0\x80\x81 \\\"\\\\\\t\"\n- \xE6\x97\xA5\xE6\x9C\xAC\n",
         right: b"",
         status: 0,
         out: "---\n- \"\u{A9} \\u202E\\uFEFF\\U000E0001 \\\"\\\\\\t\"\n- \u{65E5}\u{672C}\n",
@@ -188,7 +188,7 @@ pub static LINES: [Row; 9] = [
     Row {
         name: "strings",
         words: JSON,
-        left: "[yes, \"\\\"\\\\/\\n\\t\\r\\b\\f\\0\\x7F\\u2028\u{E9}\u{1F600}\"]\n".as_bytes(),
+        left: b"[yes, \"\\\"\\\\/\\n\\t\\r\\b\\f\\0\\x7F\\u2028\xC3\xA9\xF0\x9F\x98\x80\"]\n",
         right: b"",
         status: 0,
         out: "[\"yes\", \"\\\"\\\\/\\n\\t\\r\\b\\f\\u0000\\u007F\\u2028\u{E9}\u{1F600}\"]\n",
