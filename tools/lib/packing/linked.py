@@ -9,6 +9,7 @@ from .rests import kit_folder
 
 NAMES = {
     "Apache License, Version 2.0": "Apache-2.0",
+    "Apache 2.0": "Apache-2.0",
     "Apache-2.0": "Apache-2.0",
     "BSL-1.0": "BSL-1.0",
     "MIT": "MIT",
