@@ -84,6 +84,10 @@ def number(value):
     return f"{value:.2f}" if value >= 0.1 else f"{value:.2g}"
 
 
+def count(value):
+    return "" if value is None else f"{value:,.0f}"
+
+
 def with_unit(value, unit):
     return "" if value is None else f"{number(value)} {unit}"
 
@@ -140,7 +144,7 @@ def small(results):
 
 def growth(results):
     names = {f"`{it}`": f"growth/{it}" for it in ("canon", "same", "events", "check")}
-    rows = [[shown, *(number(results.value(it)) for it in (f"{name}/texts", name))] for shown, name in names.items()]
+    rows = [[shown, count(results.value(f"{name}/texts")), number(results.value(name))] for shown, name in names.items()]
     return section("Growth", prose("growth"), ["command", "kinds of texts", "greatest growth"], rows)
 
 
