@@ -14,8 +14,8 @@ use Rattle.std.proofs.lemmas.Option.{slice_get_within, get_or_from_slice_get, sl
 use Rattle.yaml_levels.specs.RanksView.{rank_of}
 use Rattle.yaml_diff.specs.Found.{Aligns, SameRanks}
 use Rattle.yaml_diff.specs.Aligning.{IsFront, IsBack, AlignsFrom}
-use Rattle.yaml_diff.proofs.Lists.{get-behind}
-use Rattle.yaml_diff.proofs.WayLaws.{turns-left, turns-right}
+use Rattle.yaml_diff.proofs.ListParts.{get-behind}
+use Rattle.yaml_diff.proofs.WayLaws.{turns-left, turns-right, takes-each, rising-settles, rising-order, no-step}
 
 -- ---- one more
 
@@ -129,10 +129,13 @@ less-none n = omega arith
 
 -- the three parts of a list
 pub aligned : (r : Ranks) (lefts rights : List NodeId) (front back e d : ℕ) (one two all : List Places) → IsFront r lefts rights front → IsBack r lefts rights front back → e ≡ length lefts - back → d ≡ length rights - back
-    → one ≡ [] ++ turns 0 0 (front - 0) (front - 0) → AlignsFrom one front front e d two → all ≡ two ++ turns e d (length lefts - e) (length rights - d) → Aligns r lefts rights all
+    → one ≡ [] ++ turns 0 0 (front - 0) (front - 0) → AlignsFrom one front front e d two → all ≡ two ++ turns e d (length lefts - e) (length rights - d) → Aligns r lefts rights all []
 aligned r lefts rights front back e d one two all f b ee dd eo at ea = record {
-  left = ap (places_by left_place) third.is ∙ third.left ∙ ap (numbers 0) (less-none (length lefts));
-  right = ap (places_by right_place) third.is ∙ third.right ∙ ap (numbers 0) (less-none (length rights));
+  left = takes-each left_place all (length lefts) lefts-rise;
+  right = takes-each right_place all (length rights) rights-rise;
+  settles = rising-settles all (length lefts) (length rights) lefts-rise rights-rise;
+  in_order = rising-order all (length lefts) (length rights) lefts-rise rights-rise;
+  once = λ j k p x y. absurd (no-step j p x);
   front = front;
   fronts = λ i l. (f.same i l, (i, in-front i l));
   front_end = f.ends;
@@ -155,6 +158,12 @@ aligned r lefts rights front back e d one two all f b ee dd eo at ea = record {
 
     third : AlignsFrom [] 0 0 n m all
     third = from_on [] two all 0 0 e d n m (omega arith) (omega (arith, ee)) (omega arith) (omega (arith, dd)) second (from_turns two all e d n m ea)
+
+    lefts-rise : places_by left_place all ≡ numbers 0 n
+    lefts-rise = ap (places_by left_place) third.is ∙ third.left ∙ ap (numbers 0) (less-none n)
+
+    rights-rise : places_by right_place all ≡ numbers 0 m
+    rights-rise = ap (places_by right_place) third.is ∙ third.right ∙ ap (numbers 0) (less-none m)
 
     in-front : (i : ℕ) → i < front → slice_get all i ≡ Some (Both i i)
     in-front i l =

@@ -1,4 +1,4 @@
--- Trees that are not the same differ somewhere under each pairing.
+-- Trees that are not the same differ somewhere under each pairing in turn.
 use Rattle.std.proofs.Common.{◌≡◌, ◌≢◌, ℕ, suc, ◌+◌, true, ◌&&◌, ◌⊎◌, List, [], ◌∷◌, inl, inr, refl, sym, ◌∙◌, ap, subst, arith}
 use Rattle.std.specs.Prelude.{Option, Some, None, bytes_eq}
 use Rattle.std.specs.List.{slice_get}
@@ -10,10 +10,11 @@ use Rattle.yaml_definitions.proofs.SameLaws.{keyed_in}
 use Rattle.yaml_definitions.proofs.Equivalence.{same_refl, same_sym, same_trans, Like, is_each, one_of}
 use Rattle.yaml_path.specs.Path.{head, head_of, item_in, value_in, part_of}
 use Rattle.yaml_path.specs.Path as plain
-use Rattle.yaml_path.specs.Ways.{at_places, at_key, Way, Pairing, PairsAll, below, Allows, Differs, left_part, right_part, left_place, right_place, places_by, numbers, count_in}
+use Rattle.yaml_path.specs.Ways.{at_places, at_key, Way, Pairing, below, Allows, Differs, left_part, right_part, left_place, right_place, places_by, numbers, count_in}
 use Rattle.yaml_path.specs.declared.places.Places.{Places}
 use Rattle.yaml_path.specs.declared.places.Places.TheVariants.{Both, Left, Right}
 use Rattle.yaml_path.proofs.PathLaws.{heads-either, found_in, in_found}
+use Rattle.yaml_diff.proofs.WayLaws.{InTurn}
 
 abbrev Somewhere : Pairing → Option Tree → Option Tree → Type 0
 Somewhere P t u = (q : Way) × Differs P q t u
@@ -39,8 +40,8 @@ head-is e = cc
 tail-is : {X : Type 0} {x y : X} {xs ys : List X} → x ∷ xs ≡ y ∷ ys → xs ≡ ys
 tail-is e = cc
 
-pairs-there : (P : Pairing) (t u v w : Option Tree) → t ≡ v → u ≡ w → PairsAll P t u → PairsAll P v w
-pairs-there P t u v w e f a = subst (λ z. PairsAll P z w) e (subst (λ z. PairsAll P t z) f a)
+pairs-there : (P : Pairing) (t u v w : Option Tree) → t ≡ v → u ≡ w → InTurn P t u → InTurn P v w
+pairs-there P t u v w e f a = subst (λ z. InTurn P z w) e (subst (λ z. InTurn P t z) f a)
 
 there-differs : (P : Pairing) (t u v w : Option Tree) → t ≡ v → u ≡ w → Somewhere P v w → Somewhere P t u
 there-differs P t u v w e f s = (s.0, subst (λ z. Differs P s.0 z u) (sym e) (subst (λ z. Differs P s.0 v z) (sym f) s.1))
@@ -95,7 +96,7 @@ right-alone u k at y e f h = let z : None ≡ Some (head y) = h ∙ ap head_of (
 mutual
   unfolding same
 
-  same-else : (P : Pairing) (t u : Tree) → keyed t ≡ true → keyed u ≡ true → PairsAll P (Some t) (Some u) → (same t u ≡ true) ⊎ Somewhere P (Some t) (Some u)
+  same-else : (P : Pairing) (t u : Tree) → keyed t ≡ true → keyed u ≡ true → InTurn P (Some t) (Some u) → (same t u ≡ true) ⊎ Somewhere P (Some t) (Some u)
   same-else P (scalar a x) (scalar b y) m n l = elim (heads-either (Some (scalar a x)) (Some (scalar b y))) [
     | inl e ↦ let p : a ≡ b = cc in let q : x ≡ y = cc in inl (both_and (bytes_eq a b) (bytes_eq x y) ((bytes_decides a b).1 p) ((bytes_decides x y).1 q))
     | inr d ↦ inr ([], d)
@@ -126,7 +127,7 @@ mutual
 
   -- the rest of two sequences, from this place on either side
   trees-else : (P : Pairing) (t u : Option Tree) (ts us : Trees) (at : ℕ) (ps : List Places) → places_by left_place ps ≡ numbers at (count_in ts) → places_by right_place ps ≡ numbers at (count_in us) → ((k : ℕ) (p : Places) → slice_get ps k ≡ Some p → Allows (P []) (at_places p))
-      → ((k : ℕ) → part_of t (plain.at_item (at + k)) ≡ item_in ts k) → ((k : ℕ) → part_of u (plain.at_item (at + k)) ≡ item_in us k) → keyed_trees ts ≡ true → keyed_trees us ≡ true → PairsAll P t u → (same_trees ts us ≡ true) ⊎ AtItem P t u
+      → ((k : ℕ) → part_of t (plain.at_item (at + k)) ≡ item_in ts k) → ((k : ℕ) → part_of u (plain.at_item (at + k)) ≡ item_in us k) → keyed_trees ts ≡ true → keyed_trees us ≡ true → InTurn P t u → (same_trees ts us ≡ true) ⊎ AtItem P t u
   trees-else P t u end end at ps e f here lt lu m n l = inl refl
   trees-else P t u end (item y us) at [] e f here lt lu m n l = absurd (cc)
   trees-else P t u (item x ts) end at [] e f here lt lu m n l = absurd (cc)
@@ -153,7 +154,7 @@ mutual
         ]
       ]
 
-  each-else : (P : Pairing) (a b : List ℕ) (rs ps qs : Pairs) → keyed_pairs ps ≡ true → keyed_pairs qs ≡ true → PairsAll P (Some (mapping a ps)) (Some (mapping b qs)) → ((k v : Tree) → In k v rs → In k v ps) → (each_in rs qs ≡ true) ⊎ AtKey P ps qs
+  each-else : (P : Pairing) (a b : List ℕ) (rs ps qs : Pairs) → keyed_pairs ps ≡ true → keyed_pairs qs ≡ true → InTurn P (Some (mapping a ps)) (Some (mapping b qs)) → ((k v : Tree) → In k v rs → In k v ps) → (each_in rs qs ≡ true) ⊎ AtKey P ps qs
   each-else P a b done ps qs m n l f = inl refl
   each-else P a b (entry k v rs) ps qs m n l f =
       let i : In k v ps = f k v (inl (refl, refl)) in
@@ -170,5 +171,5 @@ mutual
       ]
 
 -- trees that differ nowhere are the same
-pub nowhere-same : (P : Pairing) (t u : Tree) → keyed t ≡ true → keyed u ≡ true → PairsAll P (Some t) (Some u) → ((q : Way) → Differs P q (Some t) (Some u) → ⊥) → same t u ≡ true
+pub nowhere-same : (P : Pairing) (t u : Tree) → keyed t ≡ true → keyed u ≡ true → InTurn P (Some t) (Some u) → ((q : Way) → Differs P q (Some t) (Some u) → ⊥) → same t u ≡ true
 nowhere-same P t u m n l h = elim (same-else P t u m n l) [ inl s ↦ s | inr w ↦ absurd (h w.0 w.1) ]

@@ -13,7 +13,7 @@ use Rattle.yaml_levels.specs.RanksView.{RanksAre}
 use Rattle.yaml_levels.specs.declared.ranks.Ranks.{Ranks}
 use Rattle.yaml_path.specs.Path.{head, head_of, part_of, scalar_head}
 use Rattle.yaml_path.specs.Path as plain
-use Rattle.yaml_path.specs.Ways.{Step, at_places, at_key, Way, Pairing, Takes, Differs, EndsPaired, SameItems, left_part, right_part, placed, left_place, right_place, numbers, count, count_in, turns, below}
+use Rattle.yaml_path.specs.Ways.{Each, Step, at_places, at_key, Way, Pairing, Takes, Differs, EndsPaired, SameItems, left_part, right_part, placed, left_place, right_place, numbers, count, count_in, turns, below}
 use Rattle.yaml_path.specs.declared.places.Places.{Places}
 use Rattle.yaml_path.specs.declared.places.Places.TheVariants.{Both}
 use Rattle.yaml_path.proofs.PathLaws.{Match, match-head, match-part}
@@ -32,8 +32,11 @@ pub item-count : (g : Graph) (tag : List ℕ) (items : List NodeId) → count (s
 item-count g tag [] = refl
 item-count g tag (i ∷ items) = ap suc (item-count g tag items)
 
-pub aligned-takes : (g : Graph) (r : Ranks) (tag : List ℕ) (lefts rights : List NodeId) (ps : List Places) → Aligns r lefts rights ps → Takes ps (sequence_of g tag lefts) (sequence_of g tag rights)
-aligned-takes g r tag lefts rights ps a = record { lefts = a.left ∙ ap (numbers 0) (sym (item-count g tag lefts)); rights = a.right ∙ ap (numbers 0) (sym (item-count g tag rights)) }
+pub aligned-takes : (g : Graph) (r : Ranks) (tag : List ℕ) (lefts rights : List NodeId) (ps moved : List Places) → Aligns r lefts rights ps moved → Takes ps (sequence_of g tag lefts) (sequence_of g tag rights)
+aligned-takes g r tag lefts rights ps moved a = record {
+  lefts = subst (Each left_place ps) (sym (item-count g tag lefts)) a.left;
+  rights = subst (Each right_place ps) (sym (item-count g tag rights)) a.right;
+}
 
 map-some : (f : NodeId → Tree) (o : Option NodeId) (x : Tree) → option_map f o ≡ Some x → (i : NodeId) × (o ≡ Some i) × (f i ≡ x)
 map-some f None x e = absurd (cc)
@@ -51,8 +54,8 @@ module _ (g : Graph) (r : Ranks) (are : RanksAre g r) (tag : List ℕ) (lefts ri
       let e : same (tree g x.0.0) (tree g y.0.0) ≡ true = subst (λ z. same z (tree g y.0.0) ≡ true) (sym x.2) (subst (λ z. same s.0 z ≡ true) (sym y.2) s.4) in
       (x.0, y.0, x.1, y.1, (are.ranked x.0.0 y.0.0 (wl j x.0 x.1) (wr k y.0 y.1)).0.1 e)
 
-  pub aligned-ends : (ps : List Places) → Aligns r lefts rights ps → EndsPaired ps (sequence_of g tag lefts) (sequence_of g tag rights)
-  aligned-ends ps a = record {
+  pub aligned-ends : (ps moved : List Places) → Aligns r lefts rights ps moved → EndsPaired ps (sequence_of g tag lefts) (sequence_of g tag rights)
+  aligned-ends ps moved a = record {
     front = a.front;
     fronts = λ i l. let s = a.fronts i l in (same-items i i s.0, s.1);
     front_end = λ s. a.front_end (same-ranks a.front a.front s);

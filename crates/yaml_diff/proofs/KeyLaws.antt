@@ -18,9 +18,9 @@ use Rattle.yaml_path.specs.Path.{part}
 use Rattle.yaml_path.specs.Path as plain
 use Rattle.yaml_path.specs.Ways.{Step, at_places, at_key, EndsPaired, StepBefore, count, join, key_place, pairs_in}
 use Rattle.yaml_path.specs.declared.places.Places.{Places}
-use Rattle.yaml_diff.specs.Lines.{EntriesBelow, RightCovers}
+use Rattle.yaml_diff.specs.Listing.{EntriesBelow, RightCovers}
 use Rattle.yaml_diff.specs.Found.{HasEntries}
-use Rattle.yaml_diff.proofs.Lists.{get-side, get-behind}
+use Rattle.yaml_diff.proofs.ListParts.{get-side, get-behind}
 use Rattle.yaml_diff.proofs.Shapes.{pair_of, entries-tree, entry-only, value-there, value-some, keys-apart}
 
 none-some : {X : Type 0} {x : X} → None ≡ Some x → ⊥

@@ -1,8 +1,8 @@
--- Lists of differences, as they grow.
-use Rattle.std.proofs.Common.{◌≡◌, ◌≢◌, ℕ, zero, suc, ◌+◌, ◌-◌, ◌<◌, Bool, true, false, ◌&&◌, ◌⊎◌, List, [], ◌∷◌, ◌++◌, map, reverse, length, inl, inr, refl, sym, ◌∙◌, ap, subst, arith, length-append}
+-- Lists of differences and moves, as they grow.
+use Rattle.std.proofs.Common.{◌≡◌, ◌≢◌, ℕ, zero, suc, ◌+◌, ◌-◌, ◌<◌, ◌≤◌, Bool, true, false, ◌&&◌, ◌⊎◌, List, [], ◌∷◌, ◌++◌, map, length, inl, inr, refl, sym, ◌∙◌, ap, subst, arith, length-append}
 use Rattle.std.specs.Prelude.{Option, Some, None, Result, Ok, Err, IfOk}
 use Rattle.std.specs.List.{slice_get}
-use Rattle.std.proofs.lemmas.List.{length-map, reverse-append}
+use Rattle.std.proofs.lemmas.List.{length-map}
 use Rattle.std.proofs.lemmas.Option.{slice_get_within}
 use Rattle.yaml_definitions.specs.model.Tree.{Tree}
 use Rattle.yaml_definitions.proofs.Members.{and_both}
@@ -10,59 +10,17 @@ use Rattle.yaml_nodes.specs.declared.node.NodeId.{NodeId}
 use Rattle.yaml_nodes.specs.declared.graph.Graph.{Graph}
 use Rattle.yaml_nodes.proofs.GraphLaws.{get-more}
 use Rattle.yaml_path.specs.Path.{head_of}
-use Rattle.yaml_path.specs.Ways.{Step, Way, Pairing, PairsAll, below, Allows, Differs, EndsPaired, EndsAlong, AlikeStep, alike_step, AlikeWay, StepBefore, WayBefore, left_part, right_part, left_end, right_end}
+use Rattle.yaml_path.specs.Ways.{Step, Way, Pairing, PairsAll, SettlesAll, InOrderAll, below, Allows, Differs, EndsPaired, EndsAlong, AlikeStep, alike_step, AlikeWay, StepBefore, WayBefore, left_part, right_part, left_end, right_end}
 use Rattle.yaml_diff.specs.declared.difference.Step as code
-use Rattle.yaml_diff.specs.Lines.{trees_of, step_of, Line, way_of, under, IsTold, Listed, Apart, Ordered, Begins, Lists, ListsSome}
+use Rattle.yaml_diff.specs.Lines.{trees_of, step_of, Line, way_of, under, IsTold, Listed, Apart, Ordered, Begins}
+use Rattle.yaml_diff.specs.Moves.{MoveLine, moved_under, ListsMoves, ListsSomeMoves}
+use Rattle.yaml_diff.specs.Listing.{Lists, ListsSome}
 use Rattle.yaml_text.specs.declared.fault.Fault.{Fault}
 use Rattle.yaml_diff.specs.declared.difference.Found.{Found}
-use Rattle.yaml_diff.specs.Found.{lines_of, Finds}
-use Rattle.yaml_diff.proofs.WayLaws.{not-so, step-self, step-back, left-alike, right-alike, none-part, turn, turn-pairs, put, put-same, put-other, put-pairs}
-
--- ---- lists
-
-get-nth : {X : Type 0} (xs ys : List X) (k : ℕ) → slice_get (xs ++ ys) (length xs + k) ≡ slice_get ys k
-get-nth [] ys k = let e : 0 + k ≡ k = omega arith in ap (slice_get ys) e
-get-nth (x ∷ xs) ys k = let e : suc (length xs) + k ≡ suc (length xs + k) = omega arith in ap (slice_get (x ∷ (xs ++ ys))) e ∙ get-nth xs ys k
-
--- what stands at a place of two lists is of the first or of the second
-pub get-side : {X : Type 0} (xs ys : List X) (k : ℕ) (x : X) → slice_get (xs ++ ys) k ≡ Some x → (slice_get xs k ≡ Some x) ⊎ ((j : ℕ) × (k ≡ length xs + j) × (slice_get ys j ≡ Some x))
-get-side [] ys k x e = inr (k, omega arith, e)
-get-side (y ∷ xs) ys zero x e = inl e
-get-side (y ∷ xs) ys (suc k) x e = elim (get-side xs ys k x e) [ inl a ↦ inl a | inr a ↦ inr (a.0, omega (arith, a.1), a.2) ]
-
-pub get-behind : {X : Type 0} (xs ys : List X) (k : ℕ) (x : X) → slice_get ys k ≡ Some x → slice_get (xs ++ ys) (length xs + k) ≡ Some x
-get-behind xs ys k x e = get-nth xs ys k ∙ e
-
-get-map : {X Y : Type 0} (f : X → Y) (xs : List X) (k : ℕ) (y : Y) → slice_get (map f xs) k ≡ Some y → (x : X) × (slice_get xs k ≡ Some x) × (f x ≡ y)
-get-map f [] k y e = absurd (cc)
-get-map f (x ∷ xs) zero y e = (x, refl, cc)
-get-map f (x ∷ xs) (suc k) y e = get-map f xs k y e
-
-map-get : {X Y : Type 0} (f : X → Y) (xs : List X) (k : ℕ) (x : X) → slice_get xs k ≡ Some x → slice_get (map f xs) k ≡ Some (f x)
-map-get f [] k x e = absurd (cc)
-map-get f (y ∷ xs) zero x e = let q : y ≡ x = cc in ap (λ z. Some (f z)) q
-map-get f (y ∷ xs) (suc k) x e = map-get f xs k x e
-
-map-end : {X Y : Type 0} (f : X → Y) (xs : List X) (x : X) → map f (xs ++ (x ∷ [])) ≡ map f xs ++ (f x ∷ [])
-map-end f [] x = refl
-map-end f (y ∷ xs) x = ap (λ z. f y ∷ z) (map-end f xs x)
-
-reverse-end : {X : Type 0} (xs : List X) (x : X) → reverse (xs ++ (x ∷ [])) ≡ x ∷ reverse xs
-reverse-end xs x = reverse-append xs (x ∷ [])
-
-some-is : {X : Type 0} {x y : X} → Some x ≡ Some y → x ≡ y
-some-is e = cc
-
--- ---- one step more
-
-pub way-under : (g : Graph) (s : code.Step) (d : Line) → way_of g (under s d).0 ≡ step_of g s ∷ way_of g d.0
-way-under g s d = ap reverse (map-end (step_of g) d.0 s) ∙ reverse-end (map (step_of g) d.0) (step_of g s)
-
-way-back : (p q : Way) → AlikeWay p q → AlikeWay q p
-way-back [] [] a = tt
-way-back (s ∷ p) (r ∷ q) a = (step-back s r a.0, way-back p q a.1)
-way-back [] (r ∷ q) a = absurd a
-way-back (s ∷ p) [] a = absurd a
+use Rattle.yaml_diff.specs.Found.{lines_of, moves_of, Finds}
+use Rattle.yaml_diff.proofs.ListParts.{get-nth, get-side, get-map, map-get, some-is, way-under, way-back, cross}
+use Rattle.yaml_diff.proofs.WayLaws.{not-so, step-self, step-back, left-alike, right-alike, none-part, turn, turn-pairs, calm, put, put-same, put-other, put-pairs}
+use Rattle.yaml_diff.proofs.MoveLists.{add-some-moves, some-no-moves, calm-moves, no-line}
 
 module _ (g : Graph) (t u : Option Tree) where
   -- a line behind a step
@@ -95,12 +53,6 @@ module _ (g : Graph) (t u : Option Tree) where
       let x : WayBefore P t u (r ∷ q) (v ∷ w) = subst (λ z. WayBefore P t u z (v ∷ w)) e (subst (WayBefore P t u p) f b) in
       let y : WayBefore (put P s Q) t u (r ∷ q) (v ∷ w) = elim x [ inl c ↦ inl c | inr c ↦ inr (c.0, subst (λ z. WayBefore z (left_part t r) (right_part u r) q w) (sym (put-other P s Q r n)) c.1) ] in
       subst (λ z. WayBefore (put P s Q) t u z o) (sym e) (subst (WayBefore (put P s Q) t u (r ∷ q)) (sym f) y)
-
--- an old line and one behind a new step have other first steps
-cross : (g : Graph) (old : Step → Type 0) (s : code.Step) (d e : Line) → Begins old (way_of g d.0) → ((r : Step) → old r → AlikeStep r (step_of g s) → ⊥) → AlikeWay (way_of g d.0) (way_of g (under s e).0) → ⊥
-cross g old s d e b f a =
-    let h : AlikeWay (b.0 ∷ b.1) (step_of g s ∷ way_of g e.0) = subst (λ z. AlikeWay z (step_of g s ∷ way_of g e.0)) b.2 (subst (AlikeWay (way_of g d.0)) (way-under g s e) a) in
-    f b.0 b.3 h.0
 
 apart-more : (g : Graph) (old : Step → Type 0) (s : code.Step) (lines more : List Line) → Apart g lines → Apart g more → ((k : ℕ) (d : Line) → slice_get lines k ≡ Some d → Begins old (way_of g d.0))
     → ((r : Step) → old r → AlikeStep r (step_of g s) → ⊥) → Apart g (lines ++ map (under s) more)
@@ -151,18 +103,18 @@ ordered-more g P Q t u old s lines more o m b f n j k d e l p q = elim (get-side
   ]
 ]
 
--- the differences behind a step are added
-pub add-some : (g : Graph) (P Q : Pairing) (t u : Option Tree) (room : ℕ) (old new : Step → Type 0) (lines more all : List Line) (w v b : Bool) (s : code.Step) → head_of t ≡ head_of u → Allows (P []) (step_of g s) → EndsPaired (P []) t u
-    → ListsSome g P t u room old lines w → Lists g Q (left_part t (step_of g s)) (right_part u (step_of g s)) (room - length lines) more v → all ≡ lines ++ map (under s) more → b ≡ (w && v)
+-- the differences and moves behind a step are added
+pub add-some : (g : Graph) (P Q M N : Pairing) (t u : Option Tree) (room : ℕ) (old new : Step → Type 0) (lines more all : List Line) (moves more_moves all_moves : List MoveLine) (w v b : Bool) (s : code.Step) → head_of t ≡ head_of u → Allows (P []) (step_of g s) → EndsPaired (P []) t u
+    → ListsSome g P M t u room old lines moves w → Lists g Q N (left_part t (step_of g s)) (right_part u (step_of g s)) (room - (length lines + length moves)) more more_moves v → all ≡ lines ++ map (under s) more → all_moves ≡ moves ++ map (moved_under s) more_moves → b ≡ (w && v)
     → ((r : Step) → new r → old r ⊎ AlikeStep (step_of g s) r) → ((r : Step) → old r → new r) → new (step_of g s) → ((r : Step) → old r → AlikeStep r (step_of g s) → ⊥)
-    → ((r : Step) → old r → StepBefore (P []) t u r (step_of g s)) → ListsSome g (put P (step_of g s) Q) t u room new all b
-add-some g P Q t u room old new lines more all w v b s h allow ends o m ea eb c up here fresh before = subst (λ z. ListsSome g R t u room new z b) (sym ea) (subst (λ z. ListsSome g R t u room new (lines ++ map (under s) more) z) (sym eb) (record {
+    → ((r : Step) → old r → StepBefore (P []) t u r (step_of g s)) → ListsSome g (put P (step_of g s) Q) (put M (step_of g s) N) t u room new all all_moves b
+add-some g P Q M N t u room old new lines more all moves more_moves all_moves w v b s h allow ends o m ea ma eb c up here fresh before = subst (λ z. ListsSome g R K t u room new z all_moves b) (sym ea) (subst (λ z. ListsSome g R K t u room new (lines ++ map (under s) more) z b) (sym ma) (subst (λ z. ListsSome g R K t u room new (lines ++ map (under s) more) (moves ++ map (moved_under s) more_moves) z) (sym eb) (record {
   pairs = put-pairs P (step_of g s) Q t u o.pairs m.pairs;
   each = λ k d e. elim (get-side lines (map (under s) more) k d e) [
     | inl f ↦ let x = o.covered k d f in told-other g t u P Q (step_of g s) d x.0 x.1 x.2 (not-so (alike_step x.0 (step_of g s)) (fresh x.0 x.3)) (o.each k d f)
     | inr f ↦ let x = get-map (under s) more f.0 d f.2 in subst (IsTold g R t u) x.2 (told-under g t u P Q s x.0 h allow ends (m.each f.0 x.0 x.1))
   ];
-  few = omega (arith, total, o.few, m.few);
+  few = omega (arith, total, total_moves, o.few, m.few);
   whole = λ p r q n d. let a = and_both w v p in elim (c r n) [
     | inl i ↦
         let x : Differs P (r ∷ q) t u = (d.0, d.1, subst (λ z. Differs z q (left_part t r) (right_part u r)) (put-other P (step_of g s) Q r (not-so (alike_step r (step_of g s)) (fresh r i))) d.2) in
@@ -182,31 +134,40 @@ add-some g P Q t u room old new lines more all w v b s h allow ends o m ea eb c 
     | inl f ↦ let x = o.covered k d f in (x.0, x.1, x.2, up x.0 x.3)
     | inr f ↦ let x = get-map (under s) more f.0 d f.2 in (step_of g s, way_of g x.0.0, ap (λ z. way_of g z.0) (sym x.2) ∙ way-under g s x.0, here)
   ];
-}))
+  moved = add-some-moves g P Q M N t u old new moves more_moves w v s h allow ends o.moved m.moved c up here fresh;
+})))
   where
     R : Pairing
     R = put P (step_of g s) Q
 
+    K : Pairing
+    K = put M (step_of g s) N
+
     total : length (lines ++ map (under s) more) ≡ length lines + length more
     total = omega (arith, length-append lines (map (under s) more), length-map more (under s))
 
-    by : (w v : Bool) → (w && v) ≡ false → (w ≡ false → length lines ≡ room) → (v ≡ false → length more ≡ room - length lines) → length (lines ++ map (under s) more) ≡ room
-    by false v p f k = omega (arith, total, o.few, m.few, f refl)
-    by true false p f k = omega (arith, total, o.few, m.few, k refl)
+    total_moves : length (moves ++ map (moved_under s) more_moves) ≡ length moves + length more_moves
+    total_moves = omega (arith, length-append moves (map (moved_under s) more_moves), length-map more_moves (moved_under s))
+
+    by : (w v : Bool) → (w && v) ≡ false → (w ≡ false → length lines + length moves ≡ room) → (v ≡ false → length more + length more_moves ≡ room - (length lines + length moves)) → length (lines ++ map (under s) more) + length (moves ++ map (moved_under s) more_moves) ≡ room
+    by false v p f k = omega (arith, total, total_moves, o.few, m.few, f refl)
+    by true false p f k = omega (arith, total, total_moves, o.few, m.few, k refl)
     by true true p f k = absurd (cc)
 
 -- ---- the ends
 
-pub lists-done : (g : Graph) (P : Pairing) (t u : Option Tree) (room : ℕ) (covers : Step → Type 0) (lines : List Line) (w : Bool) → head_of t ≡ head_of u → ListsSome g P t u room covers lines w
-    → ((s : Step) → Allows (P []) s → covers s ⊎ ((left_part t s ≡ None) × (right_part u s ≡ None))) → Lists g P t u room lines w
-lists-done g P t u room covers lines w h l c = record {
+-- all steps are covered, and these moves of the two themselves are added
+pub lists-done : (g : Graph) (P M : Pairing) (t u : Option Tree) (room : ℕ) (covers : Step → Type 0) (lines : List Line) (moves all : List MoveLine) (w b : Bool) → head_of t ≡ head_of u → ListsSome g P M t u room covers lines moves w
+    → ((s : Step) → Allows (P []) s → covers s ⊎ ((left_part t s ≡ None) × (right_part u s ≡ None))) → length lines + length all ≤ room → (b ≡ true → w ≡ true) → (b ≡ false → length lines + length all ≡ room) → ListsMoves g P M t u all b → Lists g P M t u room lines all b
+lists-done g P M t u room covers lines moves all w b h l c few on cut a = record {
   pairs = l.pairs;
   each = l.each;
-  few = l.few;
-  whole = λ p q d. by q p d;
-  cut = l.cut;
+  few = few;
+  whole = λ p q d. by q (on p) d;
+  cut = cut;
   apart = l.apart;
   ordered = l.ordered;
+  moved = a;
 }
   where
     by : (q : Way) → w ≡ true → Differs P q t u → Listed g q lines
@@ -216,11 +177,8 @@ lists-done g P t u room covers lines w h l c = record {
       | inr i ↦ absurd (none-part (below P s) q (left_part t s) (right_part u s) i.0 i.1 d.2)
     ]
 
-no-line : {X : Type 0} (k : ℕ) (x : X) → slice_get [] k ≡ Some x → ⊥
-no-line k x e = absurd (cc)
-
-pub some-none : (g : Graph) (P : Pairing) (t u : Option Tree) (room : ℕ) (covers : Step → Type 0) (lines : List Line) (w : Bool) → PairsAll P t u → lines ≡ [] → w ≡ true → ((s : Step) → covers s → ⊥) → ListsSome g P t u room covers lines w
-some-none g P t u room covers lines w a e f c = subst (λ z. ListsSome g P t u room covers z w) (sym e) (subst (λ z. ListsSome g P t u room covers [] z) (sym f) (record {
+pub some-none : (g : Graph) (P M : Pairing) (t u : Option Tree) (room : ℕ) (covers : Step → Type 0) (lines : List Line) (moves : List MoveLine) (w : Bool) → PairsAll P t u → SettlesAll P M → InOrderAll P M → lines ≡ [] → moves ≡ [] → w ≡ true → ((s : Step) → covers s → ⊥) → ListsSome g P M t u room covers lines moves w
+some-none g P M t u room covers lines moves w a m o e n f c = subst (λ z. ListsSome g P M t u room covers z moves w) (sym e) (subst (λ z. ListsSome g P M t u room covers [] z w) (sym n) (subst (λ z. ListsSome g P M t u room covers [] [] z) (sym f) (record {
   pairs = a;
   each = λ k d e. absurd (no-line k d e);
   few = omega arith;
@@ -229,43 +187,47 @@ some-none g P t u room covers lines w a e f c = subst (λ z. ListsSome g P t u r
   apart = λ j k d e a. absurd (no-line j d a);
   ordered = λ j k d e l a. absurd (no-line j d a);
   covered = λ k d e. absurd (no-line k d e);
-}))
+  moved = some-no-moves g P M t u covers m o c;
+})))
 
 -- no differences
-pub lists-none : (g : Graph) (P : Pairing) (t u : Option Tree) (room : ℕ) (lines : List Line) (w : Bool) → PairsAll P t u → lines ≡ [] → w ≡ true → ((q : Way) → Differs P q t u → ⊥) → Lists g P t u room lines w
-lists-none g P t u room lines w a e f n = subst (λ z. Lists g P t u room z w) (sym e) (subst (λ z. Lists g P t u room [] z) (sym f) (record {
-  pairs = a;
+pub lists-none : (g : Graph) (t u : Option Tree) (room : ℕ) (lines : List Line) (moves : List MoveLine) (w : Bool) → lines ≡ [] → moves ≡ [] → w ≡ true → ((q : Way) → Differs (turn t u) q t u → ⊥) → Lists g (turn t u) calm t u room lines moves w
+lists-none g t u room lines moves w e m f n = subst (λ z. Lists g (turn t u) calm t u room z moves w) (sym e) (subst (λ z. Lists g (turn t u) calm t u room [] z w) (sym m) (subst (λ z. Lists g (turn t u) calm t u room [] [] z) (sym f) (record {
+  pairs = turn-pairs t u;
   each = λ k d e. absurd (no-line k d e);
   few = omega arith;
   whole = λ p q d. absurd (n q d);
   cut = λ p. absurd (cc);
   apart = λ j k d e a. absurd (no-line j d a);
   ordered = λ j k d e l a. absurd (no-line j d a);
-}))
+  moved = calm-moves g t u true;
+})))
 
 -- no room
-pub lists-cut : (g : Graph) (t u : Option Tree) (room : ℕ) (lines : List Line) (w : Bool) → lines ≡ [] → w ≡ false → room ≡ 0 → Lists g (turn t u) t u room lines w
-lists-cut g t u room lines w e f z = subst (λ y. Lists g (turn t u) t u room y w) (sym e) (subst (λ y. Lists g (turn t u) t u room [] y) (sym f) (record {
+pub lists-cut : (g : Graph) (t u : Option Tree) (room : ℕ) (lines : List Line) (moves : List MoveLine) (w : Bool) → lines ≡ [] → moves ≡ [] → w ≡ false → room ≡ 0 → Lists g (turn t u) calm t u room lines moves w
+lists-cut g t u room lines moves w e m f z = subst (λ y. Lists g (turn t u) calm t u room y moves w) (sym e) (subst (λ y. Lists g (turn t u) calm t u room [] y w) (sym m) (subst (λ y. Lists g (turn t u) calm t u room [] [] y) (sym f) (record {
   pairs = turn-pairs t u;
   each = λ k d e. absurd (no-line k d e);
   few = omega arith;
   whole = λ p q d. absurd (cc);
-  cut = λ p. sym z;
+  cut = λ p. omega (arith, z);
   apart = λ j k d e a. absurd (no-line j d a);
   ordered = λ j k d e l a. absurd (no-line j d a);
-}))
+  moved = calm-moves g t u false;
+})))
 
 -- one difference, at the roots
-pub lists-one : (g : Graph) (t u : Option Tree) (l r : Option NodeId) (room : ℕ) (lines : List Line) (w : Bool) → lines ≡ ([], (l, r)) ∷ [] → w ≡ true → 0 < room → head_of t ≢ head_of u → t ≡ trees_of g l → u ≡ trees_of g r → Lists g (turn t u) t u room lines w
-lists-one g t u l r room lines w e f m n a b = subst (λ z. Lists g (turn t u) t u room z w) (sym e) (subst (λ z. Lists g (turn t u) t u room (([], (l, r)) ∷ []) z) (sym f) (record {
+pub lists-one : (g : Graph) (t u : Option Tree) (l r : Option NodeId) (room : ℕ) (lines : List Line) (moves : List MoveLine) (w : Bool) → lines ≡ ([], (l, r)) ∷ [] → moves ≡ [] → w ≡ true → 0 < room → head_of t ≢ head_of u → t ≡ trees_of g l → u ≡ trees_of g r → Lists g (turn t u) calm t u room lines moves w
+lists-one g t u l r room lines moves w e v f m n a b = subst (λ z. Lists g (turn t u) calm t u room z moves w) (sym e) (subst (λ z. Lists g (turn t u) calm t u room (([], (l, r)) ∷ []) z w) (sym v) (subst (λ z. Lists g (turn t u) calm t u room (([], (l, r)) ∷ []) [] z) (sym f) (record {
   pairs = turn-pairs t u;
   each = λ k d h. by k d h;
-  few = omega arith;
+  few = omega (arith, m);
   whole = λ p q d. at q d;
   cut = λ p. absurd (cc);
   apart = single;
   ordered = lone;
-}))
+  moved = calm-moves g t u true;
+})))
   where
     single : Apart g (([], (l, r)) ∷ [])
     single zero zero d e p q a = refl
@@ -287,6 +249,6 @@ lists-one g t u l r room lines w e f m n a b = subst (λ z. Lists g (turn t u) t
     at [] d = (0, ([], (l, r)), refl, tt)
     at (s ∷ q) d = absurd (n d.0)
 
-pub one-ok : (g : Graph) (t u : Option Tree) (l r : Option NodeId) (room : ℕ) (answer : Result Found Fault) → IfOk answer (λ f. lines_of f ≡ ([], (l, r)) ∷ []) → IfOk answer (λ f. f.whole ≡ true) → 0 < room → head_of t ≢ head_of u → t ≡ trees_of g l → u ≡ trees_of g r → IfOk answer (Finds g t u room)
-one-ok g t u l r room (Ok f) a b m n p q = (turn t u, lists-one g t u l r room (lines_of f) f.whole a b m n p q)
-one-ok g t u l r room (Err e) a b m n p q = tt
+pub one-ok : (g : Graph) (t u : Option Tree) (l r : Option NodeId) (room : ℕ) (answer : Result Found Fault) → IfOk answer (λ f. lines_of f ≡ ([], (l, r)) ∷ []) → IfOk answer (λ f. moves_of f ≡ []) → IfOk answer (λ f. f.whole ≡ true) → 0 < room → head_of t ≢ head_of u → t ≡ trees_of g l → u ≡ trees_of g r → IfOk answer (Finds g t u room)
+one-ok g t u l r room (Ok f) a v b m n p q = (turn t u, calm, lists-one g t u l r room (lines_of f) (moves_of f) f.whole a v b m n p q)
+one-ok g t u l r room (Err e) a v b m n p q = tt

@@ -1,11 +1,14 @@
 -- The walk of two trees, step by step.
-use Rattle.std.proofs.Common.{◌≡◌, ℕ, zero, suc, ◌+◌, ◌-◌, ◌<◌, ◌≤◌, Bool, true, false, ◌&&◌, ◌⊎◌, List, [], ◌∷◌, ◌++◌, map, length, inl, inr, refl, sym, ◌∙◌, ap, subst, arith}
+use Rattle.std.proofs.Common.{◌≡◌, ℕ, zero, suc, ◌+◌, ◌-◌, ◌<◌, ◌≤◌, Bool, true, false, ◌&&◌, ◌⊎◌, List, [], ◌∷◌, ◌++◌, map, take, length, length-append, inl, inr, refl, sym, ◌∙◌, ap, subst, arith}
 use Rattle.std.specs.Prelude.{Option, Some, None, Result, Ok, Err, IfOk, Vec}
 use Rattle.std.proofs.Common.{Global}
 use Rattle.std.specs.List.{slice_get}
 use Rattle.std.specs.Cow.{cow_str_bytes}
 use Rattle.std.specs.Option.{is_some}
+use Rattle.std.specs.Prelude.{nat_le}
+use Rattle.std.proofs.lemmas.Bool.{leb-true, leb-false}
 use Rattle.std.proofs.lemmas.List.{length-map}
+use Rattle.yaml_definitions.proofs.Members.{and_both}
 use Rattle.std.proofs.lemmas.Option.{slice_get_within}
 use Rattle.yaml_definitions.specs.model.Tree.{Tree}
 use Rattle.yaml_definitions.specs.model.Same.{same}
@@ -22,18 +25,21 @@ use Rattle.yaml_levels.specs.RanksView.{RanksAre, rank_of}
 use Rattle.yaml_levels.specs.declared.ranks.Ranks.{Ranks}
 use Rattle.yaml_path.specs.Path.{head, part, part_of, head_of}
 use Rattle.yaml_path.specs.Path as plain
-use Rattle.yaml_path.specs.Ways.{Step, at_places, at_key, Pairing, Allows, EndsPaired, AlikeStep, StepBefore, left_part, right_part, placed, left_place, right_place}
+use Rattle.yaml_path.specs.Ways.{Step, at_places, at_key, Pairing, Allows, EndsPaired, AlikeStep, StepBefore, count, left_part, right_part, placed, left_place, right_place}
 use Rattle.yaml_path.specs.declared.places.Places.{Places}
 use Rattle.yaml_diff.specs.declared.difference.Step.TheVariants.{Item, Value}
 use Rattle.yaml_diff.specs.declared.difference.Found.{Found}
-use Rattle.yaml_diff.specs.Lines.{Line, line_of, trees_of, sequence_of, under, Lists, ListsSome, PlacesBelow, EntriesBelow, LeftCovers, RightCovers}
-use Rattle.yaml_diff.specs.Found.{lines_of, Finds, FindsItems, HasItems, HasEntries, IsValueOf, AllWithin, Within, item_of, Aligns, size, top, greater}
+use Rattle.yaml_diff.specs.Lines.{Line, line_of, trees_of, sequence_of, under}
+use Rattle.yaml_diff.specs.Moves.{MoveLine, here, move_line_of, moved_under}
+use Rattle.yaml_diff.specs.Listing.{Lists, ListsSome, LeftEntries, PlacesBelow, EntriesBelow, LeftCovers, RightCovers}
+use Rattle.yaml_diff.specs.Found.{lines_of, moves_of, count_of, Finds, FindsItems, HasItems, HasEntries, IsValueOf, AllWithin, Within, item_of, Aligns, size, top, greater}
 use Rattle.yaml_diff.specs.Aligning.{AllRanked}
-use Rattle.yaml_diff.proofs.WayLaws.{none-part, part-like, places-is, places-self, taken-once, turn, turn-pairs, begin, begin-pairs, put}
+use Rattle.yaml_diff.proofs.WayLaws.{none-part, part-like, places-is, places-self, taken-once, turn, turn-pairs, turn-settles, turn-order, calm, begin, begin-pairs, begin-moved, begin-settles, begin-order, put}
 use Rattle.yaml_diff.proofs.Lists.{add-some, lists-done, lists-none, lists-cut, some-none}
+use Rattle.yaml_diff.proofs.MoveLists.{add-own-moves, done-moves, none-moved}
 use Rattle.yaml_diff.proofs.ItemLaws.{item-here, aligned-ends, aligned-takes, match-turn, bare-nowhere}
 use Rattle.yaml_diff.proofs.KeyLaws.{key-before, right-key-before, no-ends}
-use Rattle.yaml_diff.proofs.Shapes.{items-tree, entry-only, entry-within, value-there, value-some, value-ranked, head-there, node-there, keys-apart}
+use Rattle.yaml_diff.proofs.Shapes.{items-tree, entries-tree, entry-only, entry-within, value-there, value-some, value-ranked, head-there, node-there, keys-apart}
 
 -- ---- trees
 
@@ -46,11 +52,11 @@ option-cases (Some v) = inr (v, refl)
 pub one-head : (t u : Tree) → head_of (Some t) ≡ head_of (Some u) → head t ≡ head u
 one-head t u h = cc
 
-pub none-places : (g : Graph) (l r : Option NodeId) (room : ℕ) (f : Found) → l ≡ None → r ≡ None → lines_of f ≡ [] → f.whole ≡ true → Finds g (trees_of g l) (trees_of g r) room f
-none-places g l r room f a b x y = (turn _ _, lists-none g (turn _ _) (trees_of g l) (trees_of g r) room (lines_of f) f.whole (turn-pairs _ _) x y (λ q d. none-part (turn _ _) q (trees_of g l) (trees_of g r) (ap (trees_of g) a) (ap (trees_of g) b) d))
+pub none-places : (g : Graph) (l r : Option NodeId) (room : ℕ) (f : Found) → l ≡ None → r ≡ None → lines_of f ≡ [] → moves_of f ≡ [] → f.whole ≡ true → Finds g (trees_of g l) (trees_of g r) room f
+none-places g l r room f a b x m y = (turn _ _, calm, lists-none g (trees_of g l) (trees_of g r) room (lines_of f) (moves_of f) f.whole x m y (λ q d. none-part (turn _ _) q (trees_of g l) (trees_of g r) (ap (trees_of g) a) (ap (trees_of g) b) d))
 
-pub cut-found : (g : Graph) (t u : Option Tree) (room : ℕ) (f : Found) → lines_of f ≡ [] → f.whole ≡ false → room ≡ 0 → Finds g t u room f
-cut-found g t u room f a b z = (turn t u, lists-cut g t u room (lines_of f) f.whole a b z)
+pub cut-found : (g : Graph) (t u : Option Tree) (room : ℕ) (f : Found) → lines_of f ≡ [] → moves_of f ≡ [] → f.whole ≡ false → room ≡ 0 → Finds g t u room f
+cut-found g t u room f a m b z = (turn t u, calm, lists-cut g t u room (lines_of f) (moves_of f) f.whole a m b z)
 
 pub of-places : (g : Graph) (l m r s : Option NodeId) (room : ℕ) (f : Found) → l ≡ m → r ≡ s → Finds g (trees_of g l) (trees_of g r) room f → Finds g (trees_of g m) (trees_of g s) room f
 of-places g l m r s room f a b h = subst (λ z. Finds g (trees_of g z) (trees_of g s) room f) a (subst (λ z. Finds g (trees_of g l) (trees_of g z) room f) b h)
@@ -58,9 +64,8 @@ of-places g l m r s room f a b h = subst (λ z. Finds g (trees_of g z) (trees_of
 pub lines-length : (f : Found) → length (lines_of f) ≡ length f.list.items
 lines-length f = length-map f.list.items line_of
 
--- room is counted by lines or by the list that they are of
-pub room-lines : (g : Graph) (t u : Option Tree) (room len : ℕ) (found more : Found) → len ≡ length found.list.items → Finds g t u (room - len) more → Finds g t u (room - length (lines_of found)) more
-room-lines g t u room len found more e m = subst (λ z. Finds g t u (room - z) more) (e ∙ sym (lines-length found)) m
+pub moves-length : (f : Found) → length (moves_of f) ≡ length f.moves.items
+moves-length f = length-map f.moves.items move_line_of
 
 -- what was found where a value is missing
 pub none-key : (r : Ranks) (xs : Entries) (rank key : ℕ) (result : Option NodeId) → rank ≡ key → is_some result ≡ false → IsValueOf r xs rank result → IsValueOf r xs key None
@@ -74,8 +79,8 @@ pub some-key : (r : Ranks) (xs : Entries) (rank key : ℕ) (result : Option Node
 some-key r xs rank key (Some v) e s w = (v, subst (λ z. IsValueOf r xs z (Some v)) e w)
 some-key r xs rank key None e s w = absurd (cc)
 
-pub weaker : (g : Graph) (P : Pairing) (t u : Option Tree) (room : ℕ) (old new : Step → Type 0) (lines : List Line) (w : Bool) → ((s : Step) → new s → old s) → ((s : Step) → old s → new s) → ListsSome g P t u room old lines w → ListsSome g P t u room new lines w
-weaker g P t u room old new lines w f up l = record {
+pub weaker : (g : Graph) (P M : Pairing) (t u : Option Tree) (room : ℕ) (old new : Step → Type 0) (lines : List Line) (moves : List MoveLine) (w : Bool) → ((s : Step) → new s → old s) → ((s : Step) → old s → new s) → ListsSome g P M t u room old lines moves w → ListsSome g P M t u room new lines moves w
+weaker g P M t u room old new lines moves w f up l = record {
   pairs = l.pairs;
   each = l.each;
   few = l.few;
@@ -84,6 +89,14 @@ weaker g P t u room old new lines w f up l = record {
   apart = l.apart;
   ordered = l.ordered;
   covered = λ k d e. let x = l.covered k d e in (x.0, x.1, x.2, up x.0 x.3);
+  moved = record {
+    settles = l.moved.settles;
+    in_order = l.moved.in_order;
+    each = l.moved.each;
+    whole = λ e s q p n r a. l.moved.whole e s q p (f s n) r a;
+    apart = l.moved.apart;
+    covered = λ k d e. let x = l.moved.covered k d e in (x.0, x.1, x.2, up x.0 x.3);
+  };
 }
 
 -- ---- kinds
@@ -104,81 +117,6 @@ both-mappings g i j n m xs a b h k = by m.kind refl (sym (ap (λ z. head (kind_t
     by (kinds.Mapping ys) e q = (ys, e)
     by (kinds.Scalar ys) e q = let z = q ∙ ap (λ y. head (kind_tree (graph_trees g) (cow_str_bytes m.tag) y)) e in absurd (cc)
     by (kinds.Sequence ys) e q = let z = q ∙ ap (λ y. head (kind_tree (graph_trees g) (cow_str_bytes m.tag) y)) e in absurd (cc)
-
--- ---- sequences
-
-below-next : (k n : ℕ) → k < n + 1 → (k < n) ⊎ (k ≡ n)
-below-next zero zero l = inr refl
-below-next zero (suc n) l = inl (omega arith)
-below-next (suc k) zero l = absurd (omega arith)
-below-next (suc k) (suc n) l = elim (below-next k n (omega arith)) [ inl a ↦ inl (omega arith) | inr e ↦ inr (ap suc e) ]
-
--- the differences of two sequences, as far as so many places of a list go
-abbrev pub SomeItems : Graph → List NodeId → List NodeId → List Places → ℕ → ℕ → List Line → Bool → Type 0
-SomeItems g lefts rights ps at room lines w = (tag : List ℕ) → (P : Pairing) × (P [] ≡ ps) × ListsSome g P (sequence_of g tag lefts) (sequence_of g tag rights) room (PlacesBelow at ps) lines w
-
-pub items-first : (g : Graph) (r : Ranks) (lefts rights : List NodeId) (ps : List Places) (room : ℕ) (lines : List Line) (w : Bool) → Aligns r lefts rights ps → lines ≡ [] → w ≡ true → SomeItems g lefts rights ps 0 room lines w
-items-first g r lefts rights ps room lines w a e f tag =
-    let t = sequence_of g tag lefts in
-    let u = sequence_of g tag rights in
-    (begin ps t u, refl, some-none g (begin ps t u) t u room (PlacesBelow 0 ps) lines w (begin-pairs ps t u (aligned-takes g r tag lefts rights ps a)) e f none)
-  where
-    none : (s : Step) → PlacesBelow 0 ps s → ⊥
-    none (at_places p) c = absurd (omega (arith, c.1))
-    none (at_key x) c = c
-
-pub items-next : (g : Graph) (r : Ranks) → RanksAre g r → (lefts rights : List NodeId) (ps : List Places) (at room len : ℕ) (p : Places) (lines more all : List Line) (w v b : Bool) → AllWithin g lefts → AllWithin g rights → Aligns r lefts rights ps → slice_get ps at ≡ Some p
-    → SomeItems g lefts rights ps at room lines w → len ≡ length lines → ((Q : Pairing) × Lists g Q (trees_of g (item_of lefts (left_place p))) (trees_of g (item_of rights (right_place p))) (room - len) more v)
-    → all ≡ lines ++ map (under (Item p)) more → b ≡ (w && v) → SomeItems g lefts rights ps (at + 1) room all b
-items-next g r are lefts rights ps at room len p lines more all w v b wl wr a e o n m ea eb tag =
-    let t = sequence_of g tag lefts in
-    let u = sequence_of g tag rights in
-    let P = (o tag).0 in
-    let i : P [] ≡ ps = (o tag).1 in
-    let Q = m.0 in
-    let x : Lists g Q (placed t (left_place p)) (placed u (right_place p)) (room - length lines) more v =
-    subst (λ z. Lists g Q z (placed u (right_place p)) (room - length lines) more v) (sym (item-here g tag lefts (left_place p)))
-    (subst (λ z. Lists g Q (trees_of g (item_of lefts (left_place p))) z (room - length lines) more v) (sym (item-here g tag rights (right_place p)))
-    (subst (λ z. Lists g Q (trees_of g (item_of lefts (left_place p))) (trees_of g (item_of rights (right_place p))) (room - z) more v) n m.1)) in
-    let ends : EndsPaired (P []) t u = subst (λ z. EndsPaired z t u) (sym i) (aligned-ends g r are tag lefts rights wl wr ps a) in
-    let allow : Allows (P []) (at_places p) = subst (λ z. Allows z (at_places p)) (sym i) (at, e) in
-    (put P (at_places p) Q, i, add-some g P Q t u room (PlacesBelow at ps) (PlacesBelow (at + 1) ps) lines more all w v b (Item p) refl allow ends (o tag).2 x ea eb split up (at, omega arith, e) fresh (λ s c. subst (λ z. StepBefore z t u s (at_places p)) (sym i) (before s c)))
-  where
-    some-is : {x y : Places} → Some x ≡ Some y → x ≡ y
-    some-is e = cc
-
-    split : (s : Step) → PlacesBelow (at + 1) ps s → PlacesBelow at ps s ⊎ AlikeStep (at_places p) s
-    split (at_places q) c = elim (below-next c.0 at c.1) [
-      | inl l ↦ inl (c.0, l, c.2)
-      | inr f ↦ let h : p ≡ q = some-is (sym e ∙ ap (slice_get ps) (sym f) ∙ c.2) in inr (subst (λ z. AlikeStep (at_places p) (at_places z)) h (places-self p))
-    ]
-    split (at_key x) c = absurd c
-
-    up : (s : Step) → PlacesBelow at ps s → PlacesBelow (at + 1) ps s
-    up (at_places q) c = (c.0, omega (arith, c.1), c.2)
-    up (at_key x) c = c
-
-    fresh : (s : Step) → PlacesBelow at ps s → AlikeStep s (at_places p) → ⊥
-    fresh (at_places q) c h =
-        let f : q ≡ p = places-is q p h in
-        let same_place : c.0 ≡ at = taken-once ps (length lefts) (length rights) c.0 at p a.left a.right (c.2 ∙ ap Some f) e in
-        absurd (omega (arith, c.1, same_place))
-    fresh (at_key x) c h = c
-
-    before : (s : Step) → PlacesBelow at ps s → StepBefore ps (sequence_of g tag lefts) (sequence_of g tag rights) s (at_places p)
-    before (at_places q) c = (c.0, at, c.1, c.2, e)
-    before (at_key x) c = c
-
-pub items-done : (g : Graph) (lefts rights : List NodeId) (ps : List Places) (at room : ℕ) (f : Found) → length ps ≤ at → SomeItems g lefts rights ps at room (lines_of f) f.whole → FindsItems g lefts rights room f
-items-done g lefts rights ps at room f l o tag =
-    let t = sequence_of g tag lefts in
-    let u = sequence_of g tag rights in
-    let P = (o tag).0 in
-    (P, lists-done g P t u room (PlacesBelow at ps) (lines_of f) f.whole refl (o tag).2 (λ s c. by s (subst (λ z. Allows z s) (o tag).1 c)))
-  where
-    by : (s : Step) → Allows ps s → PlacesBelow at ps s ⊎ ((left_part (sequence_of g tag lefts) s ≡ None) × (right_part (sequence_of g tag rights) s ≡ None))
-    by (at_places p) c = let m = slice_get_within ps c.0 p c.1 in inl (c.0, omega (arith, m, l), c.1)
-    by (at_key x) c = inr (refl, refl)
 
 -- ---- numbers of items
 
@@ -278,17 +216,17 @@ size-within g None j a b = tt
 size-within g (Some i) j a b = omega arith
 
 module _ (g : Graph) (r : Ranks) (are : RanksAre g r) where
-  pub equal-found : (i j room : ℕ) (f : Found) → i < length (nodes_of g) → j < length (nodes_of g) → rank_of r i ≡ rank_of r j → lines_of f ≡ [] → f.whole ≡ true → Finds g (Some (tree g i)) (Some (tree g j)) room f
-  equal-found i j room f a b h x y =
+  pub equal-found : (i j room : ℕ) (f : Found) → i < length (nodes_of g) → j < length (nodes_of g) → rank_of r i ≡ rank_of r j → lines_of f ≡ [] → moves_of f ≡ [] → f.whole ≡ true → Finds g (Some (tree g i)) (Some (tree g j)) room f
+  equal-found i j room f a b h x m y =
       let t = Some (tree g i) in
       let u = Some (tree g j) in
-      (turn t u, lists-none g (turn t u) t u room (lines_of f) f.whole (turn-pairs t u) x y (λ q d. match-turn q t u ((are.ranked i j a b).0.0 h, are.keyed i a, are.keyed j b) d))
+      (turn t u, calm, lists-none g t u room (lines_of f) (moves_of f) f.whole x m y (λ q d. match-turn q t u ((are.ranked i j a b).0.0 h, are.keyed i a, are.keyed j b) d))
 
-  pub scalar-found : (i j room : ℕ) (f : Found) (n : Node) (content : _) → slice_get (nodes_of g) i ≡ Some n → n.kind ≡ kinds.Scalar content → head (tree g i) ≡ head (tree g j) → lines_of f ≡ [] → f.whole ≡ true → Finds g (Some (tree g i)) (Some (tree g j)) room f
-  scalar-found i j room f n content e k h x y =
+  pub scalar-found : (i j room : ℕ) (f : Found) (n : Node) (content : _) → slice_get (nodes_of g) i ≡ Some n → n.kind ≡ kinds.Scalar content → head (tree g i) ≡ head (tree g j) → lines_of f ≡ [] → moves_of f ≡ [] → f.whole ≡ true → Finds g (Some (tree g i)) (Some (tree g j)) room f
+  scalar-found i j room f n content e k h x m y =
       let t = Some (tree g i) in
       let u = Some (tree g j) in
-      (turn t u, lists-none g (turn t u) t u room (lines_of f) f.whole (turn-pairs t u) x y (bare-nowhere (tree g i) (tree g j) (cow_str_bytes n.tag) (cow_str_bytes content) (turn t u) (head-there g i n e ∙ ap (λ z. head (kind_tree (graph_trees g) (cow_str_bytes n.tag) z)) k) h))
+      (turn t u, calm, lists-none g t u room (lines_of f) (moves_of f) f.whole x m y (bare-nowhere (tree g i) (tree g j) (cow_str_bytes n.tag) (cow_str_bytes content) (turn t u) (head-there g i n e ∙ ap (λ z. head (kind_tree (graph_trees g) (cow_str_bytes n.tag) z)) k) h))
 
   pub value-size : (j rank : ℕ) (entries : Entries) (result : Option NodeId) → HasEntries g j entries → j < length (nodes_of g) → IsValueOf r entries rank result → size result ≤ j
   value-size j rank entries None h l w = omega arith
@@ -313,35 +251,37 @@ module _ (g : Graph) (r : Ranks) (are : RanksAre g r) where
   keys-fresh i at entries p h e (at_places k) c a = absurd c
   keys-fresh i at entries p h e (at_key x) c a = keys-apart g r are i entries h c.0 at c.1 p c.2 c.3 e (same_trans (tree g c.1.0.0) x (tree g p.0.0) c.4 a)
 
-  pub entries-first : (i j room : ℕ) (lefts : Entries) (lines : List Line) (w : Bool) → lines ≡ [] → w ≡ true → (P : Pairing) × ListsSome g P (Some (tree g i)) (Some (tree g j)) room (EntriesBelow g 0 lefts) lines w
-  entries-first i j room lefts lines w e f = (turn _ _, some-none g (turn _ _) (Some (tree g i)) (Some (tree g j)) room (EntriesBelow g 0 lefts) lines w (turn-pairs _ _) e f none)
+  pub entries-first : (i j room : ℕ) (lefts : Entries) (lines : List Line) (moves : List MoveLine) (w : Bool) → lines ≡ [] → moves ≡ [] → w ≡ true → (P M : Pairing) × ListsSome g P M (Some (tree g i)) (Some (tree g j)) room (EntriesBelow g 0 lefts) lines moves w
+  entries-first i j room lefts lines moves w e m f = (turn _ _, calm, some-none g (turn _ _) calm (Some (tree g i)) (Some (tree g j)) room (EntriesBelow g 0 lefts) lines moves w (turn-pairs _ _) (turn-settles _ _) (turn-order _ _) e m f none)
     where
       none : (s : Step) → EntriesBelow g 0 lefts s → ⊥
       none (at_places k) c = c
       none (at_key x) c = absurd (omega (arith, c.2))
 
-  pub entries-next : (i j at room len : ℕ) (lefts rights : Entries) (p : NodeId × NodeId) (other : Option NodeId) (lines more all : List Line) (w v b : Bool) → HasEntries g i lefts → HasEntries g j rights → head (tree g i) ≡ head (tree g j)
-      → slice_get lefts at ≡ Some p → IsValueOf r rights (rank_of r p.0.0) other → ((P : Pairing) × ListsSome g P (Some (tree g i)) (Some (tree g j)) room (EntriesBelow g at lefts) lines w) → len ≡ length lines
-      → ((Q : Pairing) × Lists g Q (Some (tree g p.1.0)) (trees_of g other) (room - len) more v) → all ≡ lines ++ map (under (Value p.0)) more → b ≡ (w && v)
-      → (P : Pairing) × ListsSome g P (Some (tree g i)) (Some (tree g j)) room (EntriesBelow g (at + 1) lefts) all b
-  entries-next i j at room len lefts rights p other lines more all w v b hl hr h e k o n m ea eb =
+  pub entries-next : (i j at room : ℕ) (lefts rights : Entries) (p : NodeId × NodeId) (other : Option NodeId) (lines more all : List Line) (moves more_moves all_moves : List MoveLine) (w v b : Bool) → HasEntries g i lefts → HasEntries g j rights → head (tree g i) ≡ head (tree g j)
+      → slice_get lefts at ≡ Some p → IsValueOf r rights (rank_of r p.0.0) other → ((P M : Pairing) × ListsSome g P M (Some (tree g i)) (Some (tree g j)) room (EntriesBelow g at lefts) lines moves w)
+      → ((Q N : Pairing) × Lists g Q N (Some (tree g p.1.0)) (trees_of g other) (room - (length lines + length moves)) more more_moves v) → all ≡ lines ++ map (under (Value p.0)) more → all_moves ≡ moves ++ map (moved_under (Value p.0)) more_moves → b ≡ (w && v)
+      → (P M : Pairing) × ListsSome g P M (Some (tree g i)) (Some (tree g j)) room (EntriesBelow g (at + 1) lefts) all all_moves b
+  entries-next i j at room lefts rights p other lines more all moves more_moves all_moves w v b hl hr h e k o m ea ma eb =
       let t : Option Tree = Some (tree g i) in
       let u : Option Tree = Some (tree g j) in
       let s : Step = at_key (tree g p.0.0) in
       let P = o.0 in
+      let M = o.1 in
       let Q = m.0 in
+      let N = m.1 in
       let li = within-there g i lefts hl in
       let lj = within-there g j rights hr in
       let lk = entry-within g r are i lefts hl li at p e in
       let left : left_part t s ≡ Some (tree g p.1.0) = value-there g r are i lefts hl li (tree g p.0.0) at p e (same_refl (tree g p.0.0)) in
       let right : right_part u s ≡ trees_of g other = value-ranked g r are j p.0.0 rights hr lj (omega (arith, lk.0)) other k in
-      let x : Lists g Q (left_part t s) (right_part u s) (room - length lines) more v =
-      subst (λ z. Lists g Q z (right_part u s) (room - length lines) more v) (sym left) (subst (λ z. Lists g Q (Some (tree g p.1.0)) z (room - length lines) more v) (sym right) (subst (λ z. Lists g Q (Some (tree g p.1.0)) (trees_of g other) (room - z) more v) n m.1)) in
-      (put P s Q, add-some g P Q t u room (EntriesBelow g at lefts) (EntriesBelow g (at + 1) lefts) lines more all w v b (Value p.0) (ap Some h) tt (no-ends g i j lefts rights hl hr (P [])) o.1 x ea eb (keys-split at lefts p e) (keys-up at lefts) (at, p, omega arith, e, same_refl (tree g p.0.0)) (keys-fresh i at lefts p hl e) (key-before g r are i j at lefts rights p hl hr e (P [])))
+      let x : Lists g Q N (left_part t s) (right_part u s) (room - (length lines + length moves)) more more_moves v =
+      subst (λ z. Lists g Q N z (right_part u s) (room - (length lines + length moves)) more more_moves v) (sym left) (subst (λ z. Lists g Q N (Some (tree g p.1.0)) z (room - (length lines + length moves)) more more_moves v) (sym right) m.2) in
+      (put P s Q, put M s N, add-some g P Q M N t u room (EntriesBelow g at lefts) (EntriesBelow g (at + 1) lefts) lines more all moves more_moves all_moves w v b (Value p.0) (ap Some h) tt (no-ends g i j lefts rights hl hr (P [])) o.2 x ea ma eb (keys-split at lefts p e) (keys-up at lefts) (at, p, omega arith, e, same_refl (tree g p.0.0)) (keys-fresh i at lefts p hl e) (key-before g r are i j at lefts rights p hl hr e (P [])))
 
-  pub left-covered : (i j at room : ℕ) (lefts : Entries) (lines : List Line) (w : Bool) → HasEntries g i lefts → length lefts ≤ at → ((P : Pairing) × ListsSome g P (Some (tree g i)) (Some (tree g j)) room (EntriesBelow g at lefts) lines w)
-      → (P : Pairing) × ListsSome g P (Some (tree g i)) (Some (tree g j)) room (LeftCovers g i) lines w
-  left-covered i j at room lefts lines w h l o = (o.0, weaker g o.0 (Some (tree g i)) (Some (tree g j)) room (EntriesBelow g at lefts) (LeftCovers g i) lines w by up o.1)
+  pub left-covered : (i j at room : ℕ) (lefts : Entries) (lines : List Line) (moves : List MoveLine) (w : Bool) → HasEntries g i lefts → length lefts ≤ at → ((P M : Pairing) × ListsSome g P M (Some (tree g i)) (Some (tree g j)) room (EntriesBelow g at lefts) lines moves w)
+      → (P M : Pairing) × ListsSome g P M (Some (tree g i)) (Some (tree g j)) room (LeftCovers g i) lines moves w
+  left-covered i j at room lefts lines moves w h l o = (o.0, o.1, weaker g o.0 o.1 (Some (tree g i)) (Some (tree g j)) room (EntriesBelow g at lefts) (LeftCovers g i) lines moves w by up o.2)
     where
       up : (s : Step) → EntriesBelow g at lefts s → LeftCovers g i s
       up (at_places k) c = absurd c
@@ -374,6 +314,15 @@ module _ (g : Graph) (r : Ranks) (are : RanksAre g r) where
   rights-up i at rights s (inl c) = inl c
   rights-up i at rights s (inr c) = inr (keys-up at rights s c)
 
+  -- before the first entry of the right mapping: the parts that the left one has
+  pub rights-first : (i j room : ℕ) (rights : Entries) (lines : List Line) (moves : List MoveLine) (w : Bool) → LeftEntries g i j room lines moves w → (P M : Pairing) × ListsSome g P M (Some (tree g i)) (Some (tree g j)) room (RightCovers g i 0 rights) lines moves w
+  rights-first i j room rights lines moves w o = (o.0, o.1, weaker g o.0 o.1 (Some (tree g i)) (Some (tree g j)) room (LeftCovers g i) (RightCovers g i 0 rights) lines moves w down (λ s c. inl c) o.2)
+    where
+      down : (s : Step) → RightCovers g i 0 rights s → LeftCovers g i s
+      down s (inl c) = c
+      down (at_places k) (inr c) = absurd c
+      down (at_key x) (inr c) = absurd (omega (arith, c.2))
+
   left-fresh : (i : ℕ) (key : Tree) → part (tree g i) (plain.at_key key) ≡ None → (s : Step) → LeftCovers g i s → AlikeStep s (at_key key) → ⊥
   left-fresh i key n (at_places k) c a = absurd c
   left-fresh i key n (at_key x) c a = let q : None ≡ Some c.0 = sym n ∙ sym (part-like (tree g i) x key a) ∙ c.1 in absurd (cc)
@@ -382,42 +331,53 @@ module _ (g : Graph) (r : Ranks) (are : RanksAre g r) where
   rights-fresh i j at rights p h e n s (inl c) a = left-fresh i (tree g p.0.0) n s c a
   rights-fresh i j at rights p h e n s (inr c) a = keys-fresh j at rights p h e s c a
 
-  pub rights-next : (i j at room : ℕ) (lefts rights : Entries) (p : NodeId × NodeId) (lines more all : List Line) (w v b : Bool) → HasEntries g i lefts → HasEntries g j rights → head (tree g i) ≡ head (tree g j)
-      → slice_get rights at ≡ Some p → IsValueOf r lefts (rank_of r p.0.0) None → ((P : Pairing) × ListsSome g P (Some (tree g i)) (Some (tree g j)) room (RightCovers g i at rights) lines w)
-      → ((Q : Pairing) × Lists g Q None (Some (tree g p.1.0)) (room - length lines) more v) → all ≡ lines ++ map (under (Value p.0)) more → b ≡ (w && v) → (P : Pairing) × ListsSome g P (Some (tree g i)) (Some (tree g j)) room (RightCovers g i (at + 1) rights) all b
-  rights-next i j at room lefts rights p lines more all w v b hl hr h e k o m ea eb =
+  pub rights-next : (i j at room : ℕ) (lefts rights : Entries) (p : NodeId × NodeId) (lines more all : List Line) (moves more_moves all_moves : List MoveLine) (w v b : Bool) → HasEntries g i lefts → HasEntries g j rights → head (tree g i) ≡ head (tree g j)
+      → slice_get rights at ≡ Some p → IsValueOf r lefts (rank_of r p.0.0) None → ((P M : Pairing) × ListsSome g P M (Some (tree g i)) (Some (tree g j)) room (RightCovers g i at rights) lines moves w)
+      → ((Q N : Pairing) × Lists g Q N None (Some (tree g p.1.0)) (room - (length lines + length moves)) more more_moves v) → all ≡ lines ++ map (under (Value p.0)) more → all_moves ≡ moves ++ map (moved_under (Value p.0)) more_moves → b ≡ (w && v)
+      → (P M : Pairing) × ListsSome g P M (Some (tree g i)) (Some (tree g j)) room (RightCovers g i (at + 1) rights) all all_moves b
+  rights-next i j at room lefts rights p lines more all moves more_moves all_moves w v b hl hr h e k o m ea ma eb =
       let t : Option Tree = Some (tree g i) in
       let u : Option Tree = Some (tree g j) in
       let s : Step = at_key (tree g p.0.0) in
       let P = o.0 in
+      let M = o.1 in
       let Q = m.0 in
+      let N = m.1 in
       let li = within-there g i lefts hl in
       let lj = within-there g j rights hr in
       let lk = entry-within g r are j rights hr lj at p e in
       let left : left_part t s ≡ None = value-ranked g r are i p.0.0 lefts hl li (omega (arith, lk.0)) None k in
       let right : right_part u s ≡ Some (tree g p.1.0) = value-there g r are j rights hr lj (tree g p.0.0) at p e (same_refl (tree g p.0.0)) in
-      let x : Lists g Q (left_part t s) (right_part u s) (room - length lines) more v =
-      subst (λ z. Lists g Q z (right_part u s) (room - length lines) more v) (sym left) (subst (λ z. Lists g Q None z (room - length lines) more v) (sym right) m.1) in
-      (put P s Q, add-some g P Q t u room (RightCovers g i at rights) (RightCovers g i (at + 1) rights) lines more all w v b (Value p.0) (ap Some h) tt (no-ends g i j lefts rights hl hr (P [])) o.1 x ea eb (rights-split i at rights p e) (rights-up i at rights) (inr (at, p, omega arith, e, same_refl (tree g p.0.0))) (rights-fresh i j at rights p hr e left) (right-key-before g r are i j at lefts rights p hl hr e left (P [])))
+      let x : Lists g Q N (left_part t s) (right_part u s) (room - (length lines + length moves)) more more_moves v =
+      subst (λ z. Lists g Q N z (right_part u s) (room - (length lines + length moves)) more more_moves v) (sym left) (subst (λ z. Lists g Q N None z (room - (length lines + length moves)) more more_moves v) (sym right) m.2) in
+      (put P s Q, put M s N, add-some g P Q M N t u room (RightCovers g i at rights) (RightCovers g i (at + 1) rights) lines more all moves more_moves all_moves w v b (Value p.0) (ap Some h) tt (no-ends g i j lefts rights hl hr (P [])) o.2 x ea ma eb (rights-split i at rights p e) (rights-up i at rights) (inr (at, p, omega arith, e, same_refl (tree g p.0.0))) (rights-fresh i j at rights p hr e left) (right-key-before g r are i j at lefts rights p hl hr e left (P [])))
 
   -- nothing is added for a key that the left side has
-  pub rights-skip : (i j at room : ℕ) (lefts rights : Entries) (p : NodeId × NodeId) (value : NodeId) (lines : List Line) (w : Bool) → HasEntries g i lefts → HasEntries g j rights → slice_get rights at ≡ Some p → IsValueOf r lefts (rank_of r p.0.0) (Some value)
-      → ((P : Pairing) × ListsSome g P (Some (tree g i)) (Some (tree g j)) room (RightCovers g i at rights) lines w) → (P : Pairing) × ListsSome g P (Some (tree g i)) (Some (tree g j)) room (RightCovers g i (at + 1) rights) lines w
-  rights-skip i j at room lefts rights p value lines w hl hr e k o =
+  pub rights-skip : (i j at room : ℕ) (lefts rights : Entries) (p : NodeId × NodeId) (value : NodeId) (lines : List Line) (moves : List MoveLine) (w : Bool) → HasEntries g i lefts → HasEntries g j rights → slice_get rights at ≡ Some p → IsValueOf r lefts (rank_of r p.0.0) (Some value)
+      → ((P M : Pairing) × ListsSome g P M (Some (tree g i)) (Some (tree g j)) room (RightCovers g i at rights) lines moves w) → (P M : Pairing) × ListsSome g P M (Some (tree g i)) (Some (tree g j)) room (RightCovers g i (at + 1) rights) lines moves w
+  rights-skip i j at room lefts rights p value lines moves w hl hr e k o =
       let li = within-there g i lefts hl in
       let lj = within-there g j rights hr in
       let lk = entry-within g r are j rights hr lj at p e in
       let left : part (tree g i) (plain.at_key (tree g p.0.0)) ≡ Some (tree g value.0) = value-ranked g r are i p.0.0 lefts hl li (omega (arith, lk.0)) (Some value) k in
-      (o.0, weaker g o.0 (Some (tree g i)) (Some (tree g j)) room (RightCovers g i at rights) (RightCovers g i (at + 1) rights) lines w (λ s c. elim (rights-split i at rights p e s c) [ inl a ↦ a | inr a ↦ inl (has left s a) ]) (rights-up i at rights) o.1)
+      (o.0, o.1, weaker g o.0 o.1 (Some (tree g i)) (Some (tree g j)) room (RightCovers g i at rights) (RightCovers g i (at + 1) rights) lines moves w (λ s c. elim (rights-split i at rights p e s c) [ inl a ↦ a | inr a ↦ inl (has left s a) ]) (rights-up i at rights) o.2)
     where
       has : part (tree g i) (plain.at_key (tree g p.0.0)) ≡ Some (tree g value.0) → (s : Step) → AlikeStep (at_key (tree g p.0.0)) s → LeftCovers g i s
       has left (at_key x) a = (tree g value.0, part-like (tree g i) x (tree g p.0.0) (same_sym (tree g p.0.0) x a) ∙ left)
       has left (at_places q) a = absurd (cc)
 
   pub rights-done : (i j at room : ℕ) (lefts rights : Entries) (f : Found) → HasEntries g i lefts → HasEntries g j rights → head (tree g i) ≡ head (tree g j) → length rights ≤ at
-      → ((P : Pairing) × ListsSome g P (Some (tree g i)) (Some (tree g j)) room (RightCovers g i at rights) (lines_of f) f.whole) → Finds g (Some (tree g i)) (Some (tree g j)) room f
-  rights-done i j at room lefts rights f hl hr h l o = (o.0, lists-done g o.0 (Some (tree g i)) (Some (tree g j)) room (RightCovers g i at rights) (lines_of f) f.whole (ap Some h) o.1 (λ s a. by s))
+      → ((P M : Pairing) × ListsSome g P M (Some (tree g i)) (Some (tree g j)) room (RightCovers g i at rights) (lines_of f) (moves_of f) f.whole) → Finds g (Some (tree g i)) (Some (tree g j)) room f
+  rights-done i j at room lefts rights f hl hr h l o = (
+    o.0,
+    o.1,
+    lists-done g o.0 o.1 (Some (tree g i)) (Some (tree g j)) room (RightCovers g i at rights) (lines_of f) (moves_of f) (moves_of f) f.whole f.whole (ap Some h) o.2 (λ s a. by s) o.2.few (λ e. e) o.2.cut
+        (done-moves g o.0 o.1 (Some (tree g i)) (Some (tree g j)) (RightCovers g i at rights) (moves_of f) f.whole o.2.pairs none o.2.moved (λ s a. by s)),
+  )
     where
+      none : (p : Places) → Allows (o.1 []) (at_places p) → ⊥
+      none p a = none-moved (o.0 []) (o.1 []) (Some (tree g i)) (Some (tree g j)) p (o.2.pairs []) (o.2.moved.settles []) (ap (λ z. count (Some z)) (entries-tree g i lefts hl)) a
+
       none-at : (m : ℕ) (xs : Entries) → HasEntries g m xs → (q : Option ℕ) → placed (Some (tree g m)) q ≡ None
       none-at m xs hm None = refl
       none-at m xs hm (Some k) = entry-only g m xs hm k

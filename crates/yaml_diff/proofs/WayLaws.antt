@@ -9,7 +9,7 @@ use Rattle.yaml_definitions.proofs.Members.{and_both, both_and}
 use Rattle.yaml_definitions.proofs.Equivalence.{same_refl, same_sym, same_like}
 use Rattle.yaml_path.specs.Path.{part, part_of, head_of, value_in}
 use Rattle.yaml_path.specs.Path as plain
-use Rattle.yaml_path.specs.Ways.{Step, at_places, at_key, Way, Pairing, below, Takes, PairsAll, Differs, left_place, right_place, placed, left_part, right_part, left_end, right_end, put_before, places_by, numbers, count, turns, alike_places, alike_step, AlikeStep}
+use Rattle.yaml_path.specs.Ways.{Step, at_places, at_key, Way, Pairing, below, Each, Takes, PairsAll, Allows, Rises, Settles, InOrder, SettlesAll, InOrderAll, Differs, left_place, right_place, placed, left_part, right_part, left_end, right_end, put_before, places_by, numbers, count, turns, alike_places, alike_step, AlikeStep}
 use Rattle.yaml_path.specs.declared.places.Places.{Places}
 use Rattle.yaml_path.specs.declared.places.Places.TheVariants.{Both, Left, Right}
 
@@ -118,11 +118,30 @@ head-is e = cc
 tail-is : {X : Type 0} {x y : X} {xs ys : List X} → x ∷ xs ≡ y ∷ ys → xs ≡ ys
 tail-is e = cc
 
-some-is : {X : Type 0} {x y : X} → Some x ≡ Some y → x ≡ y
+pub some-is : {X : Type 0} {x y : X} → Some x ≡ Some y → x ≡ y
 some-is e = cc
 
-none-some : {X : Type 0} {x : X} → None ≡ Some x → ⊥
+pub none-some : {X : Type 0} {x : X} → None ≡ Some x → ⊥
 none-some e = absurd (cc)
+
+pub below-or : (a b : ℕ) → (a < b) ⊎ ((b < a) ⊎ (a ≡ b))
+below-or zero zero = inr (inr refl)
+below-or zero (suc b) = inl (omega arith)
+below-or (suc a) zero = inr (inl (omega arith))
+below-or (suc a) (suc b) = elim (below-or a b) [ inl l ↦ inl (omega (arith, l)) | inr x ↦ elim x [ inl l ↦ inr (inl (omega (arith, l))) | inr q ↦ inr (inr (ap suc q)) ] ]
+
+-- what stands at equal places of a list
+pub one-there : {X : Type 0} (ps : List X) (j k : ℕ) (p q : X) → slice_get ps j ≡ Some p → slice_get ps k ≡ Some q → j ≡ k → p ≡ q
+one-there ps j k p q e f h = some-is (sym e ∙ ap (slice_get ps) h ∙ f)
+
+pub both-left : {i j m n : ℕ} → Both i j ≡ Both m n → i ≡ m
+both-left e = cc
+
+pub both-right : {i j m n : ℕ} → Both i j ≡ Both m n → j ≡ n
+both-right e = cc
+
+pub no-step : (k : ℕ) (p : Places) → slice_get [] k ≡ Some p → ⊥
+no-step k p e = absurd (cc)
 
 module _ (side : Places → Option ℕ) where
   -- the places of a list stand between the first number and the last
@@ -165,18 +184,73 @@ module _ (side : Places → Option ℕ) where
       | inr q ↦ q
     ]
   ]
+
+  places-there : (ps : List Places) (at n i : ℕ) → places_by side ps ≡ numbers at n → at ≤ i → i < at + n → (k : ℕ) × (p : Places) × (slice_get ps k ≡ Some p) × (side p ≡ Some i)
+  places-there [] at zero i e l m = absurd (omega (arith, l, m))
+  places-there [] at (suc n) i e l m = absurd (cc)
+  places-there (p ∷ ps) at n i e l m = by (side p) refl n e m (λ b c f x y. places-there ps b c i f x y)
     where
-      below-or : (a b : ℕ) → (a < b) ⊎ ((b < a) ⊎ (a ≡ b))
-      below-or zero zero = inr (inr refl)
-      below-or zero (suc b) = inl (omega arith)
-      below-or (suc a) zero = inr (inl (omega arith))
-      below-or (suc a) (suc b) = elim (below-or a b) [ inl l ↦ inl (omega arith) | inr x ↦ elim x [ inl l ↦ inr (inl (omega arith)) | inr q ↦ inr (inr (ap suc q)) ] ]
+      by : (o : Option ℕ) → side p ≡ o → (n : ℕ) → put_before o (places_by side ps) ≡ numbers at n → i < at + n
+          → ((b c : ℕ) → places_by side ps ≡ numbers b c → b ≤ i → i < b + c → (k : ℕ) × (q : Places) × (slice_get ps k ≡ Some q) × (side q ≡ Some i)) → (k : ℕ) × (q : Places) × (slice_get (p ∷ ps) k ≡ Some q) × (side q ≡ Some i)
+      by None s n e m f = let r = f at n e l m in (suc r.0, r.1, r.2, r.3)
+      by (Some x) s zero e m f = absurd (cc)
+      by (Some x) s (suc n) e m f =
+          let h : x ≡ at = head-is e in
+          elim (below-or at i) [
+            | inl b ↦ let r = f (suc at) n (tail-is e) (omega (arith, b)) (omega (arith, m)) in (suc r.0, r.1, r.2, r.3)
+            | inr b ↦ elim b [
+              | inl c ↦ absurd (omega (arith, l, c))
+              | inr c ↦ (0, p, refl, s ∙ ap Some (h ∙ c))
+            ]
+          ]
+
+  pub takes-each : (ps : List Places) (n : ℕ) → places_by side ps ≡ numbers 0 n → Each side ps n
+  takes-each ps n e = record {
+    within = λ k p i f g. let w = places-within ps 0 n k p i e f g in omega (arith, w.1);
+    there = λ i l. places-there ps 0 n i e (omega arith) (omega (arith, l));
+    once = λ j k p q i f g h x. places-once ps 0 n j k p q i e f g h x;
+  }
 
 -- an element of a list that takes each place once stands there once
-pub taken-once : (ps : List Places) (n m a b : ℕ) (p : Places) → places_by left_place ps ≡ numbers 0 n → places_by right_place ps ≡ numbers 0 m → slice_get ps a ≡ Some p → slice_get ps b ≡ Some p → a ≡ b
-taken-once ps n m a b (Both j k) e f g h = places-once left_place ps 0 n a b (Both j k) (Both j k) j e g h refl refl
-taken-once ps n m a b (Left j) e f g h = places-once left_place ps 0 n a b (Left j) (Left j) j e g h refl refl
-taken-once ps n m a b (Right k) e f g h = places-once right_place ps 0 m a b (Right k) (Right k) k f g h refl refl
+pub taken-once : (ps : List Places) (n m a b : ℕ) (p : Places) → Each left_place ps n → Each right_place ps m → slice_get ps a ≡ Some p → slice_get ps b ≡ Some p → a ≡ b
+taken-once ps n m a b (Both j k) e f g h = e.once a b (Both j k) (Both j k) j g h refl refl
+taken-once ps n m a b (Left j) e f g h = e.once a b (Left j) (Left j) j g h refl refl
+taken-once ps n m a b (Right k) e f g h = f.once a b (Right k) (Right k) k g h refl refl
+
+-- ---- lists of which the places of both sides rise: no two pairs cross, and so none has moved
+
+rising-rise : (ps : List Places) (n m : ℕ) → places_by left_place ps ≡ numbers 0 n → places_by right_place ps ≡ numbers 0 m → Rises ps
+rising-rise ps n m e f i j a b x y l = elim (below-or x.0 y.0) [
+  | inl c ↦ places-rise right_place ps 0 m x.0 y.0 (Both i j) (Both a b) j b f c x.1 y.1 refl refl
+  | inr c ↦ elim c [
+    | inl d ↦ absurd (let z = places-rise left_place ps 0 n y.0 x.0 (Both a b) (Both i j) a i e d y.1 x.1 refl refl in omega (arith, z, l))
+    | inr d ↦ absurd (let z : i ≡ a = both-left (one-there ps x.0 y.0 (Both i j) (Both a b) x.1 y.1 d) in omega (arith, z, l))
+  ]
+]
+
+pub rising-settles : (ps : List Places) (n m : ℕ) → places_by left_place ps ≡ numbers 0 n → places_by right_place ps ≡ numbers 0 m → Settles ps []
+rising-settles ps n m e f = record {
+  pairs = λ k p g. absurd (no-step k p g);
+  rise = λ i j a b x y l. rising-rise ps n m e f i j a b x.pair y.pair l;
+  calm = λ r k p g. no-step k p g;
+}
+
+pub rising-order : (ps : List Places) (n m : ℕ) → places_by left_place ps ≡ numbers 0 n → places_by right_place ps ≡ numbers 0 m → InOrder ps []
+rising-order ps n m e f = record {
+  rights = λ x y p q i j l g h a b. places-rise right_place ps 0 m x y p q i j f l g h a b;
+  lefts = λ x y p q i j l g h v w a b. places-rise left_place ps 0 n x y p q i j e l g h a b;
+}
+
+-- each item of either side is taken once, in the order of both sides
+pub record TakesInTurn (ps : List Places) (t u : Option Tree) : Type 0 where
+  pub lefts : places_by left_place ps ≡ numbers 0 (count t)
+  pub rights : places_by right_place ps ≡ numbers 0 (count u)
+
+abbrev pub InTurn : Pairing → Option Tree → Option Tree → Type 0
+InTurn P t u = (w : Way) → TakesInTurn (P w) (left_end t w) (right_end u w)
+
+pub turn-takes : (ps : List Places) (t u : Option Tree) → TakesInTurn ps t u → Takes ps t u
+turn-takes ps t u a = record { lefts = takes-each left_place ps (count t) a.lefts; rights = takes-each right_place ps (count u) a.rights }
 
 -- ---- pairings
 
@@ -184,8 +258,21 @@ taken-once ps n m a b (Right k) e f g h = places-once right_place ps 0 m a b (Ri
 abbrev pub turn : Option Tree → Option Tree → Pairing
 turn t u w = turns 0 0 (count (left_end t w)) (count (right_end u w))
 
+pub turn-in-turn : (t u : Option Tree) → InTurn (turn t u) t u
+turn-in-turn t u w = record { lefts = turns-left 0 0 (count (left_end t w)) (count (right_end u w)); rights = turns-right 0 0 (count (left_end t w)) (count (right_end u w)) }
+
 pub turn-pairs : (t u : Option Tree) → PairsAll (turn t u) t u
-turn-pairs t u w = record { lefts = turns-left 0 0 (count (left_end t w)) (count (right_end u w)); rights = turns-right 0 0 (count (left_end t w)) (count (right_end u w)) }
+turn-pairs t u w = turn-takes (turn t u w) (left_end t w) (right_end u w) (turn-in-turn t u w)
+
+-- nothing has moved
+abbrev pub calm : Pairing
+calm w = []
+
+pub turn-settles : (t u : Option Tree) → SettlesAll (turn t u) calm
+turn-settles t u w = let a = turn-in-turn t u w in rising-settles (turn t u w) (count (left_end t w)) (count (right_end u w)) a.lefts a.rights
+
+pub turn-order : (t u : Option Tree) → InOrderAll (turn t u) calm
+turn-order t u w = let a = turn-in-turn t u w in rising-order (turn t u w) (count (left_end t w)) (count (right_end u w)) a.lefts a.rights
 
 -- this list here, and items in turn everywhere below
 abbrev pub begin : List Places → Option Tree → Option Tree → Pairing
@@ -195,6 +282,19 @@ begin ps t u (s ∷ w) = turn (left_part t s) (right_part u s) w
 pub begin-pairs : (ps : List Places) (t u : Option Tree) → Takes ps t u → PairsAll (begin ps t u) t u
 begin-pairs ps t u h [] = h
 begin-pairs ps t u h (s ∷ w) = turn-pairs (left_part t s) (right_part u s) w
+
+-- these have moved here, and nothing below
+abbrev pub begin-moved : List Places → Pairing
+begin-moved moved [] = moved
+begin-moved moved (s ∷ w) = []
+
+pub begin-settles : (ps moved : List Places) (t u : Option Tree) → Settles ps moved → SettlesAll (begin ps t u) (begin-moved moved)
+begin-settles ps moved t u h [] = h
+begin-settles ps moved t u h (s ∷ w) = turn-settles (left_part t s) (right_part u s) w
+
+pub begin-order : (ps moved : List Places) (t u : Option Tree) → InOrder ps moved → InOrderAll (begin ps t u) (begin-moved moved)
+begin-order ps moved t u h [] = h
+begin-order ps moved t u h (s ∷ w) = turn-order (left_part t s) (right_part u s) w
 
 -- another pairing behind a step
 abbrev pub put : Pairing → Step → Pairing → Pairing
@@ -216,3 +316,17 @@ put-pairs P s Q t u p q (r ∷ w) = elim (either-way (alike_step r s)) [
       subst (λ z. Takes (z w) (left_end (left_part t r) w) (right_end (right_part u r) w)) (sym (put-same P s Q r e)) x
   | inr e ↦ subst (λ z. Takes (z w) (left_end (left_part t r) w) (right_end (right_part u r) w)) (sym (put-other P s Q r e)) (p (r ∷ w))
 ]
+
+-- what holds of two pairings at each way holds of them with others behind a step
+put-both : (F : List Places → List Places → Type 0) (P M : Pairing) (s : Step) (Q N : Pairing) → ((w : Way) → F (P w) (M w)) → ((w : Way) → F (Q w) (N w)) → (w : Way) → F (put P s Q w) (put M s N w)
+put-both F P M s Q N p q [] = p []
+put-both F P M s Q N p q (r ∷ w) = elim (either-way (alike_step r s)) [
+  | inl e ↦ subst (λ z. F (z w) (put M s N (r ∷ w))) (sym (put-same P s Q r e)) (subst (λ z. F (Q w) (z w)) (sym (put-same M s N r e)) (q w))
+  | inr e ↦ subst (λ z. F (z w) (put M s N (r ∷ w))) (sym (put-other P s Q r e)) (subst (λ z. F (P (r ∷ w)) (z w)) (sym (put-other M s N r e)) (p (r ∷ w)))
+]
+
+pub put-settles : (P M : Pairing) (s : Step) (Q N : Pairing) → SettlesAll P M → SettlesAll Q N → SettlesAll (put P s Q) (put M s N)
+put-settles = put-both Settles
+
+pub put-order : (P M : Pairing) (s : Step) (Q N : Pairing) → InOrderAll P M → InOrderAll Q N → InOrderAll (put P s Q) (put M s N)
+put-order = put-both InOrder

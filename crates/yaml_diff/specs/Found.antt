@@ -13,18 +13,27 @@ use Rattle.yaml_nodes.specs.declared.node.NodeKind.TheVariants as kinds
 use Rattle.yaml_nodes.specs.declared.graph.Graph.{Graph}
 use Rattle.yaml_levels.specs.RanksView.{rank_of}
 use Rattle.yaml_levels.specs.declared.ranks.Ranks.{Ranks}
-use Rattle.yaml_path.specs.Ways.{Pairing, left_place, right_place, places_by, numbers}
+use Rattle.yaml_path.specs.Ways.{Pairing, Each, Settles, InOrder, left_place, right_place}
 use Rattle.yaml_path.specs.declared.places.Places.{Places}
 use Rattle.yaml_path.specs.declared.places.Places.TheVariants.{Both}
-use Rattle.yaml_diff.specs.Lines.{Line, line_of, Lists, sequence_of}
+use Rattle.yaml_diff.specs.Lines.{Line, line_of, sequence_of}
+use Rattle.yaml_diff.specs.Moves.{MoveLine, move_line_of}
+use Rattle.yaml_diff.specs.Listing.{Lists}
 use Rattle.yaml_diff.specs.declared.difference.Found.{Found}
 
 abbrev pub lines_of : Found → List Line
 lines_of f = map line_of f.list.items
 
--- the differences of two trees under some pairing of their items
+abbrev pub moves_of : Found → List MoveLine
+moves_of f = map move_line_of f.moves.items
+
+-- how many differences and moves there are
+abbrev pub count_of : Found → ℕ
+count_of f = length (lines_of f) + length (moves_of f)
+
+-- the differences and moves of two trees under some pairing of their items, of which some pairs have moved
 abbrev pub Finds : Graph → Option Tree → Option Tree → ℕ → Found → Type 0
-Finds g t u room f = (P : Pairing) × Lists g P t u room (lines_of f) f.whole
+Finds g t u room f = (P M : Pairing) × Lists g P M t u room (lines_of f) (moves_of f) f.whole
 
 -- the differences of two sequences of these items, and so of two streams of these documents
 abbrev pub FindsItems : Graph → List NodeId → List NodeId → ℕ → Found → Type 0
@@ -38,10 +47,13 @@ AllWithin g items = (k : ℕ) (i : NodeId) → slice_get items k ≡ Some i → 
 abbrev pub SameRanks : Ranks → List NodeId → List NodeId → ℕ → ℕ → Type 0
 SameRanks r lefts rights j k = (x y : NodeId) × (slice_get lefts j ≡ Some x) × (slice_get rights k ≡ Some y) × (rank_of r x.0 ≡ rank_of r y.0)
 
--- Each place of either side is taken once, in the order of both; equal ends are pairs.
-pub record Aligns (r : Ranks) (lefts rights : List NodeId) (ps : List Places) : Type 0 where
-  pub left : places_by left_place ps ≡ numbers 0 (length lefts)
-  pub right : places_by right_place ps ≡ numbers 0 (length rights)
+-- Each place of either side is taken once, and these pairs have moved, each once; equal ends are pairs.
+pub record Aligns (r : Ranks) (lefts rights : List NodeId) (ps moved : List Places) : Type 0 where
+  pub left : Each left_place ps (length lefts)
+  pub right : Each right_place ps (length rights)
+  pub settles : Settles ps moved
+  pub in_order : InOrder ps moved
+  pub once : (j k : ℕ) (p : Places) → slice_get moved j ≡ Some p → slice_get moved k ≡ Some p → j ≡ k
   pub front : ℕ
   pub fronts : (i : ℕ) → i < front → SameRanks r lefts rights i i × ((k : ℕ) × (slice_get ps k ≡ Some (Both i i)))
   pub front_end : SameRanks r lefts rights front front → ⊥

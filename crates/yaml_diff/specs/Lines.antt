@@ -1,19 +1,14 @@
 -- The differences of two trees of a graph as they are listed.
-use Rattle.std.specs.Prelude.{◌≡◌, ◌⊎◌, ℕ, ◌<◌, ◌≤◌, Bool, true, false, List, [], ◌∷◌, ◌++◌, map, reverse, length, Option, Some}
+use Rattle.std.specs.Prelude.{◌≡◌, ℕ, ◌<◌, List, [], ◌∷◌, ◌++◌, map, reverse, Option, Some}
 use Rattle.std.specs.Option.{option_map}
 use Rattle.std.specs.List.{slice_get}
 use Rattle.yaml_definitions.specs.model.Tree.{Tree, sequence}
-use Rattle.yaml_definitions.specs.model.Same.{Same}
 use Rattle.yaml_nodes.specs.TreeLists.{trees}
-use Rattle.yaml_nodes.specs.GraphModel.{Entries}
 use Rattle.yaml_nodes.specs.GraphView.{tree}
 use Rattle.yaml_nodes.specs.declared.node.NodeId.{NodeId}
 use Rattle.yaml_nodes.specs.declared.graph.Graph.{Graph}
-use Rattle.yaml_path.specs.Path.{part}
-use Rattle.yaml_path.specs.Path as plain
-use Rattle.yaml_path.specs.Ways.{Way, Pairing, PairsAll, EndsAlong, Differs, AlikeWay, WayBefore, left_end, right_end, at_places, at_key}
+use Rattle.yaml_path.specs.Ways.{Way, Pairing, EndsAlong, Differs, AlikeWay, WayBefore, left_end, right_end, at_places, at_key}
 use Rattle.yaml_path.specs.Ways as ways
-use Rattle.yaml_path.specs.declared.places.Places.{Places}
 use Rattle.yaml_diff.specs.declared.difference.Step as code
 use Rattle.yaml_diff.specs.declared.difference.Step.TheVariants.{Item, Value}
 use Rattle.yaml_diff.specs.declared.difference.Difference.{Difference}
@@ -68,47 +63,3 @@ Ordered g P t u lines = (j k : ℕ) (d e : Line) → j < k → slice_get lines j
 -- the way begins with one of these steps
 abbrev pub Begins : (ways.Step → Type 0) → Way → Type 0
 Begins covers p = (s : ways.Step) × (q : Way) × (p ≡ s ∷ q) × covers s
-
--- Under a pairing, at most so many differences in their order, and all of them if they are told to be whole.
-pub record Lists (g : Graph) (P : Pairing) (t u : Option Tree) (room : ℕ) (lines : List Line) (is_whole : Bool) : Type 0 where
-  pub pairs : PairsAll P t u
-  pub each : (k : ℕ) (d : Line) → slice_get lines k ≡ Some d → IsTold g P t u d
-  pub few : length lines ≤ room
-  pub whole : is_whole ≡ true → (q : Way) → Differs P q t u → Listed g q lines
-  pub cut : is_whole ≡ false → length lines ≡ room
-  pub apart : Apart g lines
-  pub ordered : Ordered g P t u lines
-
--- the same, as far as such first steps go
-pub record ListsSome (g : Graph) (P : Pairing) (t u : Option Tree) (room : ℕ) (covers : ways.Step → Type 0) (lines : List Line) (is_whole : Bool) : Type 0 where
-  pub pairs : PairsAll P t u
-  pub each : (k : ℕ) (d : Line) → slice_get lines k ≡ Some d → IsTold g P t u d
-  pub few : length lines ≤ room
-  pub whole : is_whole ≡ true → (s : ways.Step) (q : Way) → covers s → Differs P (s ∷ q) t u → Listed g (s ∷ q) lines
-  pub cut : is_whole ≡ false → length lines ≡ room
-  pub apart : Apart g lines
-  pub ordered : Ordered g P t u lines
-  pub covered : (k : ℕ) (d : Line) → slice_get lines k ≡ Some d → Begins covers (way_of g d.0)
-
--- the value of a left key, or its want on the right
-abbrev pub LeftCovers : Graph → ℕ → ways.Step → Type 0
-LeftCovers g left (at_places p) = ⊥
-LeftCovers g left (at_key x) = (v : Tree) × (part (tree g left) (plain.at_key x) ≡ Some v)
-
--- the differences of two trees but for parts that only the right one has
-abbrev pub LeftEntries : Graph → ℕ → ℕ → ℕ → List Line → Bool → Type 0
-LeftEntries g left right room lines is_whole = (P : Pairing) × ListsSome g P (Some (tree g left)) (Some (tree g right)) room (LeftCovers g left) lines is_whole
-
--- the first so many steps of a pairing
-abbrev pub PlacesBelow : ℕ → List Places → ways.Step → Type 0
-PlacesBelow n ps (at_places p) = (k : ℕ) × (k < n) × (slice_get ps k ≡ Some p)
-PlacesBelow n ps (at_key x) = ⊥
-
--- the keys of the entries before a place
-abbrev pub EntriesBelow : Graph → ℕ → Entries → ways.Step → Type 0
-EntriesBelow g n entries (at_places p) = ⊥
-EntriesBelow g n entries (at_key x) = (k : ℕ) × (p : NodeId × NodeId) × (k < n) × (slice_get entries k ≡ Some p) × Same (tree_of g p.0) x
-
--- the parts that the left tree has, and those of the keys of the entries before a place
-abbrev pub RightCovers : Graph → ℕ → ℕ → Entries → ways.Step → Type 0
-RightCovers g left n entries s = LeftCovers g left s ⊎ EntriesBelow g n entries s

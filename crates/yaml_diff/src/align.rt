@@ -12,6 +12,13 @@ use yaml_nodes::node::NodeId;
 use yaml_path::places::Places;
 use yaml_text::fault::Fault;
 
+/// How the items of two sequences are taken for each other: steps with a place of both or of one, and the pairs among them that moved.
+#[derive(Drop)]
+pub(crate) struct Aligned {
+    pub list: Vec<Places>,
+    pub moved: Vec<Places>,
+}
+
 /// How many items are the same from the front on.
 fn equal_front(ranks: &Ranks, lefts: &[NodeId], rights: &[NodeId]) -> usize
     requires left { AllRanked ranks.now lefts.now }
@@ -105,10 +112,10 @@ pub(crate) fn align(
     ranks: &Ranks,
     lefts: &[NodeId],
     rights: &[NodeId],
-) -> Result<Vec<Places>, Fault>
+) -> Result<Aligned, Fault>
     requires left { AllRanked ranks.now lefts.now }
     requires right { AllRanked ranks.now rights.now }
-    ensures ok { IfOk result (λ list. Aligns ranks.now lefts.now rights.now list.items) }
+    ensures ok { IfOk result (λ it. Aligns ranks.now lefts.now rights.now it.list.items it.moved.items) }
     ensures err { IfErr result (λ fault. fault ≡ Fault.OutOfMemory) }
 {
     let front = equal_front(ranks, lefts, rights);
@@ -119,5 +126,8 @@ pub(crate) fn align(
     take_turns(&mut list, (0, 0), (front, front))?;
     take_anchors(&mut list, &anchors, (front, front), ends)?;
     take_turns(&mut list, ends, (lefts.len(), rights.len()))?;
-    Ok(list)
+    Ok(Aligned {
+        list,
+        moved: Vec::new(alloc),
+    })
 }

@@ -73,10 +73,16 @@ abbrev pub count : Option Tree → ℕ
 count (Some (sequence a ts)) = count_in ts
 count _ = 0
 
--- Each item of either side is taken once, in the order of both sides.
+-- Each place of this side stands in one step of the list, and no other place does.
+pub record Each (side : Places → Option ℕ) (ps : List Places) (n : ℕ) : Type 0 where
+  pub within : (k : ℕ) (p : Places) (i : ℕ) → slice_get ps k ≡ Some p → side p ≡ Some i → i < n
+  pub there : (i : ℕ) → i < n → (k : ℕ) × (p : Places) × (slice_get ps k ≡ Some p) × (side p ≡ Some i)
+  pub once : (j k : ℕ) (p q : Places) (i : ℕ) → slice_get ps j ≡ Some p → slice_get ps k ≡ Some q → side p ≡ Some i → side q ≡ Some i → j ≡ k
+
+-- Each item of either side is taken once. Pairs may cross.
 pub record Takes (ps : List Places) (t u : Option Tree) : Type 0 where
-  pub lefts : places_by left_place ps ≡ numbers 0 (count t)
-  pub rights : places_by right_place ps ≡ numbers 0 (count u)
+  pub lefts : Each left_place ps (count t)
+  pub rights : Each right_place ps (count u)
 
 -- At each way, how the items of the two sequences to which it leads are taken.
 abbrev pub Pairing : Type 0
@@ -97,6 +103,39 @@ Allows ps (at_key x) = Unit {0}
 abbrev pub AllowsWay : Pairing → Way → Type 0
 AllowsWay P [] = Unit {0}
 AllowsWay P (s ∷ w) = Allows (P []) s × AllowsWay (below P s) w
+
+-- ---- which pairs have moved
+
+-- the places are a pair of the list that does not stand in the other one
+pub record Stays (ps moved : List Places) (i j : ℕ) : Type 0 where
+  pub pair : Allows ps (at_places (Both i j))
+  pub still : Allows moved (at_places (Both i j)) → ⊥
+
+-- no two of the pairs that stay cross
+abbrev pub StayersRise : List Places → List Places → Type 0
+StayersRise ps moved = (i j m n : ℕ) → Stays ps moved i j → Stays ps moved m n → i < m → j < n
+
+-- no two pairs cross
+abbrev pub Rises : List Places → Type 0
+Rises ps = (i j m n : ℕ) → Allows ps (at_places (Both i j)) → Allows ps (at_places (Both m n)) → i < m → j < n
+
+-- Which pairs of the list have moved: some of them, without which no two cross; none where none do.
+pub record Settles (ps moved : List Places) : Type 0 where
+  pub pairs : (k : ℕ) (p : Places) → slice_get moved k ≡ Some p → (i : ℕ) × (j : ℕ) × (p ≡ Both i j) × Allows ps (at_places p)
+  pub rise : StayersRise ps moved
+  pub calm : Rises ps → (k : ℕ) (p : Places) → slice_get moved k ≡ Some p → ⊥
+
+-- The order in which the steps stand: right places rise, and so do the left ones of the steps that have not moved.
+pub record InOrder (ps moved : List Places) : Type 0 where
+  pub rights : (a b : ℕ) (p q : Places) (i j : ℕ) → a < b → slice_get ps a ≡ Some p → slice_get ps b ≡ Some q → right_place p ≡ Some i → right_place q ≡ Some j → i < j
+  pub lefts : (a b : ℕ) (p q : Places) (i j : ℕ) → a < b → slice_get ps a ≡ Some p → slice_get ps b ≡ Some q → (Allows moved (at_places p) → ⊥) → (Allows moved (at_places q) → ⊥) → left_place p ≡ Some i → left_place q ≡ Some j → i < j
+
+-- at each way, which pairs have moved
+abbrev pub SettlesAll : Pairing → Pairing → Type 0
+SettlesAll P M = (w : Way) → Settles (P w) (M w)
+
+abbrev pub InOrderAll : Pairing → Pairing → Type 0
+InOrderAll P M = (w : Way) → InOrder (P w) (M w)
 
 -- items in turn from these places on, so many of each side, and those of the longer side alone behind them
 abbrev pub turns : (j k n m : ℕ) → List Places
@@ -131,6 +170,11 @@ EndsAlong P (s ∷ w) t u = EndsPaired (P []) t u × EndsAlong (below P s) w (le
 abbrev pub Differs : Pairing → Way → Option Tree → Option Tree → Type 0
 Differs P [] t u = head_of t ≢ head_of u
 Differs P (s ∷ w) t u = (head_of t ≡ head_of u) × Allows (P []) s × Differs (below P s) w (left_part t s) (right_part u s)
+
+-- the two show the same at each tree that the way goes through, and at its end
+abbrev pub Reaches : Pairing → Way → Option Tree → Option Tree → Type 0
+Reaches P [] t u = head_of t ≡ head_of u
+Reaches P (s ∷ w) t u = (head_of t ≡ head_of u) × Allows (P []) s × Reaches (below P s) w (left_part t s) (right_part u s)
 
 abbrev pub alike_places : Places → Places → Bool
 alike_places (Both j k) (Both m n) = (j == m) && (k == n)

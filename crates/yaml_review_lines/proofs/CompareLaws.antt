@@ -9,7 +9,7 @@ use Rattle.yaml_review_lines.specs.Lines.{line_text, lines_text, more_text}
 use Rattle.yaml_review_lines.specs.declared.lines.Line.{Line}
 use Rattle.yaml_diff.specs.declared.difference.Found.{Found}
 use Rattle.std.proofs.lemmas.List.{take_more, take_all}
-use Rattle.yaml_review_lines.specs.Compared.{TellsOne, TellsEach, TellsFound, TellsAsked}
+use Rattle.yaml_review_lines.specs.Compared.{TellsOne, TellsEach, TellsMoves, TellsFound, TellsAsked}
 
 -- one difference and its line more
 pub tells_more : (both : Both) (asked : Diff) (ds : List Difference) (ls : List Line) (d : Difference) (l : Line) → TellsEach both asked ds ls → TellsOne both asked d l → TellsEach both asked (ds ++ (d ∷ [])) (ls ++ (l ∷ []))
@@ -37,24 +37,28 @@ lines_next f ls i d o a whole l h e =
 pub lines_all : (f : Diff) (ls : List Line) (i : ℕ) (o whole : List ℕ) → length ls ≤ i → o ++ lines_text f (drop i ls) ≡ whole → o ≡ whole
 lines_all f ls i o whole l h = sym (append-nil o) ∙ ap (λ z. o ++ lines_text f z) (sym (drop_of_length-le ls l)) ∙ h
 
-module _ (both : Both) (asked : Diff) (f : Found) (ls : List Line) (o a : List ℕ) (each : TellsEach both asked f.list.items ls) (empty : o ≡ []) (put : a ≡ o ++ lines_text asked ls) where
-  all_put : a ≡ lines_text asked ls
-  all_put = put ∙ ap (λ z. z ++ lines_text asked ls) empty
+module _ (both : Both) (asked : Diff) (f : Found) (ls ms : List Line) (o a c : List ℕ) (each : TellsEach both asked f.list.items ls) (moves : TellsMoves both asked f ms) (empty : o ≡ []) (put : a ≡ o ++ lines_text asked ls) (more : c ≡ a ++ lines_text asked ms) where
+  all_put : c ≡ lines_text asked ls ++ lines_text asked ms
+  all_put = more ∙ ap (λ z. z ++ lines_text asked ms) (put ∙ ap (λ z. z ++ lines_text asked ls) empty)
 
   -- the lines of a whole list
-  pub found_whole : f.whole ≡ true → TellsFound both asked f a
+  pub found_whole : f.whole ≡ true → TellsFound both asked f c
   found_whole w = record {
     lines = ls;
     each = each;
-    is = all_put ∙ sym (append-nil (lines_text asked ls)) ∙ ap (λ z. lines_text asked ls ++ cond z [] (more_text asked.form)) (sym w);
+    move_lines = ms;
+    moves = moves;
+    is = all_put ∙ sym (append-nil (lines_text asked ls ++ lines_text asked ms)) ∙ ap (λ z. (lines_text asked ls ++ lines_text asked ms) ++ cond z [] (more_text asked.form)) (sym w);
   }
 
   -- and of one that is cut
-  pub found_cut : (b : List ℕ) → f.whole ≡ false → b ≡ a ++ more_text asked.form → TellsFound both asked f b
+  pub found_cut : (b : List ℕ) → f.whole ≡ false → b ≡ c ++ more_text asked.form → TellsFound both asked f b
   found_cut b w h = record {
     lines = ls;
     each = each;
-    is = h ∙ ap (λ z. z ++ more_text asked.form) all_put ∙ ap (λ z. lines_text asked ls ++ cond z [] (more_text asked.form)) (sym w);
+    move_lines = ms;
+    moves = moves;
+    is = h ∙ ap (λ z. z ++ more_text asked.form) all_put ∙ ap (λ z. (lines_text asked ls ++ lines_text asked ms) ++ cond z [] (more_text asked.form)) (sym w);
   }
 
 -- ---- as many lines as are asked for

@@ -1,12 +1,13 @@
 -- What is told of two streams as text.
-use Rattle.std.specs.Prelude.{◌≡◌, ◌⊎◌, ◌==◌, ◌&&◌, ℕ, zero, suc, Bool, false, not, cond, nat_le, take, drop, length, List, [], ◌∷◌, ◌++◌, Option, Some, None, codes, string_bytes}
+use Rattle.std.specs.Prelude.{◌≡◌, ◌⊎◌, ◌==◌, ◌&&◌, ℕ, zero, suc, Bool, false, not, cond, nat_le, take, drop, map, length, List, [], ◌∷◌, ◌++◌, Option, Some, None, codes, string_bytes}
 use Rattle.yaml_definitions.specs.model.Tree.{scalar}
 use Rattle.yaml_scalar.specs.Spelling.{quoted_bytes}
 use Rattle.yaml_nodes.specs.GraphView.{roots_of, tree}
 use Rattle.yaml_nodes.specs.declared.node.NodeId.{NodeId}
 use Rattle.yaml_nodes.specs.declared.graph.Graph.{Graph}
-use Rattle.yaml_diff.specs.Lines.{way_of}
-use Rattle.yaml_diff.specs.Found.{FindsItems}
+use Rattle.yaml_diff.specs.Lines.{way_of, line_of}
+use Rattle.yaml_diff.specs.Moves.{moved_line}
+use Rattle.yaml_diff.specs.Found.{FindsItems, moves_of}
 use Rattle.yaml_diff.specs.declared.difference.Difference.{Difference}
 use Rattle.yaml_diff.specs.declared.difference.Found.{Found}
 use Rattle.yaml_script.specs.Script.{IsScript}
@@ -111,11 +112,19 @@ TellsEach both asked [] [] = Unit {0}
 TellsEach both asked (d ∷ ds) (l ∷ ls) = TellsOne both asked d l × TellsEach both asked ds ls
 TellsEach both asked _ _ = ⊥
 
--- The text is the lines of the differences that were found, and tells if there are more.
+-- a line for each pair of items that moved, in order: with the path of the items and no texts
+pub record TellsMoves (both : Both) (asked : Diff) (f : Found) (lines : List Line) : Type 0 where
+  pub moves : List Difference
+  pub are : map line_of moves ≡ map moved_line (moves_of f)
+  pub each : TellsEach both asked moves lines
+
+-- The text is the lines of the differences that were found, and behind them those of the moves, and tells if there are more.
 pub record TellsFound (both : Both) (asked : Diff) (f : Found) (text : List ℕ) : Type 0 where
   pub lines : List Line
   pub each : TellsEach both asked f.list.items lines
-  pub is : text ≡ lines_text asked lines ++ cond f.whole [] (more_text asked.form)
+  pub move_lines : List Line
+  pub moves : TellsMoves both asked f move_lines
+  pub is : text ≡ (lines_text asked lines ++ lines_text asked move_lines) ++ cond f.whole [] (more_text asked.form)
 
 -- No line is written where none is asked for, whether or not there are differences.
 abbrev pub TellsAsked : ℕ → Both → Diff → Found → List ℕ → Type 0

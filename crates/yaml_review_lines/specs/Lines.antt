@@ -18,14 +18,15 @@ Text = Option (String Global)
 
 -- ---- columns
 
--- what the two sides have: other things, or one of them nothing
-abbrev pub by_sides : {X : Type 0} → X → X → X → Text → Text → X
-by_sides both left right (Some t) (Some u) = both
-by_sides both left right (Some t) None = left
-by_sides both left right None u = right
+-- what is told of the two sides: other things, of one of them nothing, or of both nothing, where a pair of items moved
+abbrev pub by_sides : {X : Type 0} → X → X → X → X → Text → Text → X
+by_sides both left right none (Some t) (Some u) = both
+by_sides both left right none (Some t) None = left
+by_sides both left right none None (Some u) = right
+by_sides both left right none None None = none
 
 abbrev pub sign : Line → List ℕ
-sign l = by_sides (codes "~") (codes "-") (codes "+") l.left l.right
+sign l = by_sides (codes "~") (codes "-") (codes "+") (codes ">") l.left l.right
 
 abbrev pub text_or_none : Text → List ℕ
 text_or_none t = unwrap_or (option_map string_bytes t) []
@@ -49,9 +50,9 @@ below (Some c) = visible (string_bytes c.text)
 abbrev pub places_text : Bool → Line → List ℕ
 places_text places l = cond places (column (place_text l.left_place) ++ column (place_text l.right_place)) []
 
--- what turns the colour of a terminal on: red for what the left side has alone, green for the right one, and yellow
+-- what turns the colour of a terminal on: red for what the left side has alone, green for the right one, blue for what moved, and yellow
 abbrev pub color_text : Line → List ℕ
-color_text l = by_sides (27 ∷ codes "[33m") (27 ∷ codes "[31m") (27 ∷ codes "[32m") l.left l.right
+color_text l = by_sides (27 ∷ codes "[33m") (27 ∷ codes "[31m") (27 ∷ codes "[32m") (27 ∷ codes "[34m") l.left l.right
 
 -- and what turns it off
 abbrev pub plain_text : List ℕ
@@ -66,7 +67,7 @@ columns places color l =
 -- ---- JSON
 
 abbrev pub kind : Line → List ℕ
-kind l = by_sides (codes "changed") (codes "left") (codes "right") l.left l.right
+kind l = by_sides (codes "changed") (codes "left") (codes "right") (codes "moved") l.left l.right
 
 -- an object with the members in the order of their names
 abbrev pub line_data : Line → Data

@@ -5,13 +5,13 @@ ghost use Rattle.yaml_nodes.specs.GraphView.{roots_of, tree};
 ghost use Rattle.yaml_levels.specs.RanksView.{RanksAre};
 ghost use Rattle.yaml_diff.specs.Found.{FindsItems};
 ghost use Rattle.yaml_review_lines.specs.Lines.{lines_text};
-ghost use Rattle.yaml_review_lines.specs.Compared.{room_of, room_for, is_numbered, ShowsNode, ShowsBoth, TellsOne, TellsEach, TellsFound, TellsAsked, TellsStreams};
+ghost use Rattle.yaml_review_lines.specs.Compared.{room_of, room_for, is_numbered, ShowsNode, ShowsBoth, TellsOne, TellsEach, TellsMoves, TellsFound, TellsAsked, TellsStreams};
 
 use crate::lines::{Line, put_more};
 use crate::stat::stat_text;
 use crate::strings::{Budget, changed_lines, differing_parts};
 use std::alloc::Global;
-use yaml_diff::{Difference, Found, stream_differences};
+use yaml_diff::{Difference, Found, as_differences, stream_differences};
 use yaml_nodes::node::NodeId;
 use yaml_place::Place;
 use yaml_review_places::finder::{Finder, Hand, Stream};
@@ -24,7 +24,7 @@ use yaml_review_text::text::{CUT, WHOLE, node_text};
 use yaml_review_words::Diff;
 use yaml_text::fault::Fault;
 
-/// The differences of two streams, at most so many.
+/// The differences and moves of two streams, at most so many.
 fn list_of(alloc: Global, both: &Both<'_>, room: usize) -> Result<Found, Fault>
     requires ranked { RanksAre both.now.graph both.now.ranks }
     ensures ok { IfOk result (FindsItems both.now.graph (take both.now.documents (roots_of both.now.graph)) (drop both.now.documents (roots_of both.now.graph)) room) }
@@ -197,11 +197,11 @@ fn stream_of<'g>(both: &'g Both<'_>, hand: Hand) -> Stream<'g> {
     }
 }
 
-/// Whether a difference has a node on this side.
+/// Whether there is a node on this side: of a difference, or of a pair of items that moved, which is told with no nodes.
 fn has_node(difference: &Difference, hand: Hand) -> bool {
     match hand {
-        Hand::Left => difference.left.is_some(),
-        Hand::Right => difference.right.is_some(),
+        Hand::Left => difference.left.is_some() || difference.right.is_none(),
+        Hand::Right => difference.right.is_some() || difference.left.is_none(),
     }
 }
 
@@ -282,7 +282,24 @@ fn room_of(whole: bool) -> usize
     if whole { WHOLE } else { CUT }
 }
 
-/// The lines of listed differences as text.
+/// The lines of pairs of items that moved.
+fn lines_of_moves(
+    alloc: Global,
+    both: &Both<'_>,
+    asked: &Diff<'_>,
+    sides: Option<(Traced<'_>, Traced<'_>)>,
+    found: &Found,
+) -> Result<Vec<Line>, Fault>
+    requires ranked { RanksAre both.now.graph both.now.ranks }
+    ensures { IfOk result (λ lines. TellsMoves both.now asked.now found.now lines.items) }
+{
+    let list = as_differences(alloc, &found.moves)?;
+    let sides = if list.is_empty() { None } else { sides };
+    let places = find_places(alloc, both, &list, sides)?;
+    lines_of(alloc, both, &list, asked, &places)
+}
+
+/// The lines of listed differences and moves as text.
 fn text_of(
     alloc: Global,
     both: &Both<'_>,
@@ -293,11 +310,14 @@ fn text_of(
     requires ranked { RanksAre both.now.graph both.now.ranks }
     ensures { IfOk result (λ text. TellsFound both.now asked.now found.now (string_bytes text)) }
 {
+    let traced = sides;
     let sides = if found.list.is_empty() { None } else { sides };
     let places = find_places(alloc, both, &found.list, sides)?;
     let lines = lines_of(alloc, both, &found.list, asked, &places)?;
+    let moves = lines_of_moves(alloc, both, asked, traced, found)?;
     let mut text = String::new(alloc);
     put_each(alloc, &mut text, &lines, asked)?;
+    put_each(alloc, &mut text, &moves, asked)?;
     if found.whole {
         return Ok(text);
     }
@@ -340,11 +360,11 @@ fn told_text(
     asked_text(alloc, both, asked, sides, found)
 }
 
-/// Whether all differences are listed, and there is none.
+/// Whether all differences and moves are listed, and there is none.
 fn lists_none(found: &Found) -> bool
-    ensures { result ≡ (found.now.whole && (length found.now.list.items == 0)) }
+    ensures { result ≡ ((found.now.whole && (length found.now.list.items == 0)) && (length found.now.moves.items == 0)) }
 {
-    found.whole && found.list.len() == 0
+    found.whole && found.list.len() == 0 && found.moves.len() == 0
 }
 
 /// Room for so many lines, and for one at least, without which no list would tell whether there is a difference.

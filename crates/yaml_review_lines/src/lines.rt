@@ -19,11 +19,11 @@ pub struct Changes {
     pub text: String,
 }
 
-/// One difference as it is told.
+/// One difference, or one pair of items that moved, as it is told.
 #[derive(Drop)]
 pub struct Line {
     pub path: String,
-    /// The texts of the two nodes, where there are nodes.
+    /// The texts of the two nodes, where there are nodes; none of both where a pair of items moved.
     pub left: Option<String>,
     pub right: Option<String>,
     /// The places of the two nodes, where they are told.
@@ -44,14 +44,15 @@ impl Line {
     ghost use Rattle.serde_json.specs.Written.{compact_text};
     ghost use Rattle.yaml_review_lines.specs.Lines.{sign, kind, color_text, plain_text, values, below, places_text, columns, line_data, line_text};
 
-    /// What the two sides have at the path: other things, or one of them nothing.
+    /// What the two sides have at the path: other things, or one of them nothing. Where both have no text, a pair of items moved.
     fn sign(&self) -> &'static str
         ensures { result.now ≡ sign self.now }
     {
         match (self.left.is_some(), self.right.is_some()) {
             (true, true) => "~",
             (true, false) => "-",
-            _ => "+",
+            (false, true) => "+",
+            (false, false) => ">",
         }
     }
 
@@ -61,18 +62,20 @@ impl Line {
         match (self.left.is_some(), self.right.is_some()) {
             (true, true) => "changed",
             (true, false) => "left",
-            _ => "right",
+            (false, true) => "right",
+            (false, false) => "moved",
         }
     }
 
-    /// What turns a colour on: yellow, red or green.
+    /// What turns a colour on: yellow, red, green or blue.
     fn color(&self) -> &'static str
         ensures { result.now ≡ color_text self.now }
     {
         match (self.left.is_some(), self.right.is_some()) {
             (true, true) => "\u{1b}[33m",
             (true, false) => "\u{1b}[31m",
-            _ => "\u{1b}[32m",
+            (false, true) => "\u{1b}[32m",
+            (false, false) => "\u{1b}[34m",
         }
     }
 

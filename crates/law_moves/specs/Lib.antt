@@ -1,0 +1,2 @@
+pub mod Patch
+pub mod Laws
