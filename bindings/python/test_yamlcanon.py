@@ -111,7 +111,7 @@ class Calls(unittest.TestCase):
             self.assertEqual(seen.exception.line, wanted.exception.line)
 
     def test_readable_texts_mean_the_same(self):
-        for data in (b"", b"{b: 0x1, a: [~]}", "é: &x [yes, 'a\nb']\nf: *x\n--- |\n x\n", b"- \n" * 10_000, DEEPEST, blocks(1023)):
+        for data in (b"", b"{b: 0x1, a: [~]}", "é: &x [yes, 'a b']\nf: *x\n--- |\n x\n", b"- \n" * 10_000, DEEPEST, blocks(1023)):
             text = show(data)
             self.assertTrue(same(data, text))
             self.assertEqual(show(text), text)
