@@ -1,7 +1,7 @@
 /* yamlcanon.h: the canonical text of YAML 1.2 streams, and whether two streams mean the same.
  *
  * tools/library builds libyamlcanon.a, libyamlcanon.so.1 and yamlcanon.pc. What a call answers is proved against its
- * contract in crates/yaml_c/src/calls.rt, which says which text, which answer and which refusal. Not proved are the
+ * contract in crates/yaml_c/src/calls.rt and show.rt, which say which text, which answer and which refusal. Not proved are the
  * bound of memory and yamlcanon_release; nothing checks this header against the contracts, nor what a caller passes.
  *
  * A caller owes, for the time of the call:
@@ -46,7 +46,9 @@ enum {
     YAMLCANON_DONE = 0,      /* done; of two streams: the same */
     YAMLCANON_DIFFERENT = 1, /* the two streams differ */
     YAMLCANON_REFUSED = 2,   /* an input is refused, and *fault tells why */
-    YAMLCANON_SHORT = 3      /* out has less room than the text, whose length is in *len */
+    YAMLCANON_SHORT = 3,     /* out has less room than the text, whose length is in *len */
+    YAMLCANON_NO_JSON = 4,   /* yamlcanon_json alone: JSON cannot express the stream */
+    YAMLCANON_UNLIKE = 5     /* yamlcanon_json alone: the lines did not pass their check. No input is known for this */
 };
 
 /* The numbers of faults. A number is never used again; a later library may have more. */
@@ -104,6 +106,17 @@ uint32_t yamlcanon_canonical(const uint8_t *input, size_t n, uint8_t *out, size_
 uint32_t yamlcanon_events(const uint8_t *input, size_t n, uint8_t *out, size_t cap, size_t *len,
                           yamlcanon_fault *fault);
 
+/* The same of readable YAML that means what the input means, as yamlreview show writes it: block style, a line for each
+ * entry and item, aliases written out. Of this text 20 means that it would have more than 67,108,864 bytes. */
+uint32_t yamlcanon_show(const uint8_t *input, size_t n, uint8_t *out, size_t cap, size_t *len,
+                        yamlcanon_fault *fault);
+
+/* The same of JSON (RFC 8259), a line for each document. Its numbers have a point or an exponent where they are floats.
+ * NO_JSON: a key is no string, a float is .inf, -.inf or .nan, or a tag is none of the core schema. `yamlreview show
+ * --format=json` says which and where. UNLIKE: a fault of the library. With both nothing is written. */
+uint32_t yamlcanon_json(const uint8_t *input, size_t n, uint8_t *out, size_t cap, size_t *len,
+                        yamlcanon_fault *fault);
+
 /* Whether two streams mean the same: DONE, DIFFERENT, or REFUSED, and then *fault tells why, and else is as it was. */
 uint32_t yamlcanon_same(const uint8_t *left, size_t left_n, const uint8_t *right, size_t right_n,
                         yamlcanon_fault *fault);
@@ -144,6 +157,10 @@ uint32_t yamlcanon_canonical_within(const uint8_t *input, size_t n, uint8_t *out
                                     yamlcanon_fault *fault, size_t memory);
 uint32_t yamlcanon_events_within(const uint8_t *input, size_t n, uint8_t *out, size_t cap, size_t *len,
                                  yamlcanon_fault *fault, size_t memory);
+uint32_t yamlcanon_show_within(const uint8_t *input, size_t n, uint8_t *out, size_t cap, size_t *len,
+                               yamlcanon_fault *fault, size_t memory);
+uint32_t yamlcanon_json_within(const uint8_t *input, size_t n, uint8_t *out, size_t cap, size_t *len,
+                               yamlcanon_fault *fault, size_t memory);
 uint32_t yamlcanon_same_within(const uint8_t *left, size_t left_n, const uint8_t *right, size_t right_n,
                                yamlcanon_fault *fault, size_t memory);
 uint32_t yamlcanon_sha256_within(const uint8_t *input, size_t n, uint8_t out[32], yamlcanon_fault *fault,

@@ -5,6 +5,8 @@
 
 uint32_t yaml_c_canonical(const uint8_t *input, size_t n, uint8_t *out, size_t cap, size_t *len, yamlcanon_fault *fault);
 uint32_t yaml_c_events(const uint8_t *input, size_t n, uint8_t *out, size_t cap, size_t *len, yamlcanon_fault *fault);
+uint32_t yaml_c_show(const uint8_t *input, size_t n, uint8_t *out, size_t cap, size_t *len, yamlcanon_fault *fault);
+uint32_t yaml_c_json(const uint8_t *input, size_t n, uint8_t *out, size_t cap, size_t *len, yamlcanon_fault *fault);
 uint32_t yaml_c_same(const uint8_t *left, size_t left_n, const uint8_t *right, size_t right_n, yamlcanon_fault *fault);
 uint32_t yaml_c_sha256(const uint8_t *input, size_t n, uint8_t *out, yamlcanon_fault *fault);
 uint32_t yaml_c_message(const yamlcanon_fault *fault, uint8_t *out, size_t cap, size_t *len);
@@ -35,6 +37,16 @@ uint32_t yamlcanon_canonical(const uint8_t *input, size_t n, uint8_t *out, size_
 uint32_t yamlcanon_events(const uint8_t *input, size_t n, uint8_t *out, size_t cap, size_t *len, yamlcanon_fault *fault)
 {
     return yaml_c_events(bytes(input, n), n, room(out, cap), cap, len, fault);
+}
+
+uint32_t yamlcanon_show(const uint8_t *input, size_t n, uint8_t *out, size_t cap, size_t *len, yamlcanon_fault *fault)
+{
+    return yaml_c_show(bytes(input, n), n, room(out, cap), cap, len, fault);
+}
+
+uint32_t yamlcanon_json(const uint8_t *input, size_t n, uint8_t *out, size_t cap, size_t *len, yamlcanon_fault *fault)
+{
+    return yaml_c_json(bytes(input, n), n, room(out, cap), cap, len, fault);
 }
 
 uint32_t yamlcanon_same(const uint8_t *left, size_t left_n, const uint8_t *right, size_t right_n, yamlcanon_fault *fault)
@@ -71,6 +83,24 @@ uint32_t yamlcanon_events_within(const uint8_t *input, size_t n, uint8_t *out, s
 {
     size_t before = yaml_c_bound(memory);
     uint32_t status = yamlcanon_events(input, n, out, cap, len, fault);
+    yaml_c_unbound(before);
+    return status;
+}
+
+uint32_t yamlcanon_show_within(const uint8_t *input, size_t n, uint8_t *out, size_t cap, size_t *len, yamlcanon_fault *fault,
+                               size_t memory)
+{
+    size_t before = yaml_c_bound(memory);
+    uint32_t status = yamlcanon_show(input, n, out, cap, len, fault);
+    yaml_c_unbound(before);
+    return status;
+}
+
+uint32_t yamlcanon_json_within(const uint8_t *input, size_t n, uint8_t *out, size_t cap, size_t *len, yamlcanon_fault *fault,
+                               size_t memory)
+{
+    size_t before = yaml_c_bound(memory);
+    uint32_t status = yamlcanon_json(input, n, out, cap, len, fault);
     yaml_c_unbound(before);
     return status;
 }

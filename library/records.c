@@ -1,5 +1,5 @@
 /* records < NAMES > RECORDS: what the library answers on each file named on standard input, a name a line. Two builds of the library agree
- * where their records are the same bytes: of each file both texts and `same` of it with itself, with the file before, and with its own
+ * where their records are the same bytes: of each file all four texts and `same` of it with itself, with the file before, and with its own
  * canonical text. */
 #include "yamlcanon.h"
 #include <inttypes.h>
@@ -75,16 +75,20 @@ int main(void)
     struct bytes before = {had(calloc(1, 1)), 0};
     while (fgets(name, sizeof name, stdin)) {
         name[strcspn(name, "\n")] = 0;
-        struct bytes in = read_whole(name), canonical, events;
+        struct bytes in = read_whole(name), canonical, events, shown, json;
         printf("= %s\n", name);
         canonical = text("canonical", yamlcanon_canonical, in);
         events = text("events", yamlcanon_events, in);
+        shown = text("show", yamlcanon_show, in);
+        json = text("json", yamlcanon_json, in);
         same(in, in);
         same(in, before);
         same(canonical, in);
         free(before.at);
         free(canonical.at);
         free(events.at);
+        free(shown.at);
+        free(json.at);
         before = in;
     }
     free(before.at);

@@ -51,9 +51,12 @@ static int is_untouched(const uint8_t *p, size_t n)
     return 1;
 }
 
-static int is_own_text(const struct answer *a, const struct answer *b)
+/* Whether two answers are equal: the same text, the same length, or the same fault. */
+static int is_own(const struct answer *a, const struct answer *b)
 {
-    return a->status == b->status && a->len == b->len && !memcmp(a->room, b->room, a->len);
+    if (a->status != b->status || a->len != b->len) return 0;
+    if (a->status == YAMLCANON_REFUSED) return !memcmp(&a->fault, &b->fault, sizeof a->fault);
+    return a->status != YAMLCANON_DONE || !memcmp(a->room, b->room, a->len);
 }
 
 /* What the header says of each status. */
@@ -66,6 +69,7 @@ static void judge(const struct file *file, const struct answer *a, const yamlcan
         wrong(file, "a room is written though no text is given");
     }
     if (a->status == YAMLCANON_SHORT && a->len <= a->cap) wrong(file, "short though there is room");
+    if (a->status > YAMLCANON_SHORT && a->len != UNTOLD) wrong(file, "a length though JSON cannot express it");
     if (a->status != YAMLCANON_REFUSED) {
         if (memcmp(&a->fault, clean, sizeof *clean)) wrong(file, "a fault beside a text or a length");
         return;
@@ -83,7 +87,7 @@ static struct answer answer_of(text_call *call, const struct file *file, size_t 
     clean = a.fault;
     memset(a.room, ROOM_BYTE, cap);
     a.status = call(file->at, file->n, cap ? a.room : NULL, cap, &a.len, &a.fault);
-    if (a.status != YAMLCANON_DONE && a.status != YAMLCANON_REFUSED && a.status != YAMLCANON_SHORT) wrong(file, "no status");
+    if (a.status == YAMLCANON_DIFFERENT || a.status > (call == yamlcanon_json ? YAMLCANON_NO_JSON : YAMLCANON_SHORT)) wrong(file, "no status");
     judge(file, &a, &clean);
     if (yamlcanon_held()) wrong(file, "memory is kept");
     return a;
@@ -112,13 +116,40 @@ static void its_own(const struct file *file, const struct answer *text)
     struct answer again = answer_of(yamlcanon_canonical, &written, text->len);
     struct answer sum = answer_of(digest, file, 32), its = answer_of(digest, &written, 32);
     yamlcanon_fault fault = {0};
-    if (!is_own_text(&sum, &its)) wrong(file, "another digest than its text");
+    if (!is_own(&sum, &its)) wrong(file, "another digest than its text");
     free(sum.room);
     free(its.room);
-    if (!is_own_text(&again, text)) wrong(file, "the text is not its own");
+    if (!is_own(&again, text)) wrong(file, "the text is not its own");
     if (yamlcanon_same(file->at, file->n, text->room, text->len, &fault) != YAMLCANON_DONE) wrong(file, "not the same as its text");
     if (yamlcanon_same(file->at, file->n, file->at, file->n, &fault) != YAMLCANON_DONE) wrong(file, "not the same as itself");
     free(again.room);
+}
+
+/* The readable text is its own, means what the file means, and is that of the canonical text. */
+static void shown(const struct file *file, const struct answer *text)
+{
+    struct file written = {"", text->room, text->len}, canonical = {"", NULL, 0};
+    struct answer again = answer_of(yamlcanon_show, &written, text->len), first = answer_of(yamlcanon_canonical, file, 0);
+    struct answer its = answer_of(yamlcanon_canonical, file, first.len);
+    yamlcanon_fault fault = {0};
+    if (!is_own(&again, text)) wrong(file, "the readable text is not its own");
+    if (yamlcanon_same(file->at, file->n, text->room, text->len, &fault) != YAMLCANON_DONE) wrong(file, "not the same as its readable text");
+    canonical.at = its.room, canonical.n = its.len;
+    free(again.room);
+    again = answer_of(yamlcanon_show, &canonical, text->len);
+    if (!is_own(&again, text)) wrong(file, "another readable text of the canonical text");
+    free(again.room);
+    free(first.room);
+    free(its.room);
+}
+
+/* JSON on one line means what the file means. */
+static void in_json(const struct file *file, const struct answer *text)
+{
+    yamlcanon_fault fault = {0};
+    if (!text->len || text->room[text->len - 1] != '\n') wrong(file, "JSON without an end");
+    else if (memchr(text->room, '\n', text->len - 1)) return;
+    else if (yamlcanon_same(file->at, file->n, text->room, text->len, &fault) != YAMLCANON_DONE) wrong(file, "not the same as its JSON");
 }
 
 /* The line and the column of a byte, counted from the start: a line more for each break that ends before it. */
@@ -183,6 +214,10 @@ static void nulls(void)
     if (yamlcanon_canonical_within(NULL, 0, NULL, 0, &len, &fault, 0) || len) wrong(&null, "canonical_within");
     if (yamlcanon_events(NULL, 0, NULL, 0, &len, &fault) != YAMLCANON_SHORT || len != 10) wrong(&null, "events");
     if (yamlcanon_events_within(NULL, 0, NULL, 0, &len, &fault, 0) != YAMLCANON_SHORT || len != 10) wrong(&null, "events_within");
+    if (yamlcanon_show(NULL, 0, NULL, 0, &len, &fault) || len) wrong(&null, "show");
+    if (yamlcanon_show_within((const uint8_t *)"a", 1, NULL, 0, &len, &fault, 0) != YAMLCANON_SHORT || len != 6) wrong(&null, "show_within");
+    if (yamlcanon_json(NULL, 0, NULL, 0, &len, &fault) || len) wrong(&null, "json");
+    if (yamlcanon_json_within((const uint8_t *)"a", 1, NULL, 0, &len, &fault, 0) != YAMLCANON_SHORT || len != 4) wrong(&null, "json_within");
     if (yamlcanon_same(NULL, 0, NULL, 0, &fault)) wrong(&null, "same");
     if (yamlcanon_same_within((const uint8_t *)"a", 1, NULL, 0, &fault, 0) != YAMLCANON_DIFFERENT) wrong(&null, "same_within");
     if (yamlcanon_sha256(NULL, 0, digest, &fault) || memcmp(digest, of_nothing, sizeof of_nothing)) wrong(&null, "sha256");
@@ -221,30 +256,32 @@ static void rooms(text_call *call, const struct file *file)
         struct answer less = answer_of(call, file, none.len - 1), more = answer_of(call, file, none.len + 100);
         if (less.status != YAMLCANON_SHORT || less.len != none.len) wrong(file, "a room of one byte less");
         if (other.status != YAMLCANON_DONE || other.len != none.len) wrong(file, "a room of the length");
-        if (!is_own_text(&other, &more)) wrong(file, "two texts");
+        if (!is_own(&other, &more)) wrong(file, "two texts");
         if (call == yamlcanon_canonical) its_own(file, &other);
+        if (call == yamlcanon_show) shown(file, &other);
+        if (call == yamlcanon_json) in_json(file, &other);
         free(less.room);
         free(more.room);
     } else if (none.status == YAMLCANON_REFUSED) {
-        if (other.status != none.status || memcmp(&other.fault, &none.fault, sizeof none.fault)) wrong(file, "two refusals");
+        if (!is_own(&other, &none)) wrong(file, "two refusals");
         message_of(file, &none.fault);
         position_of(file, &none.fault);
-    } else if (none.len) {
-        wrong(file, "an empty room with a text");
+    } else if (none.status == YAMLCANON_DONE ? none.len : !is_own(&other, &none)) {
+        wrong(file, "an empty room with a text, or two answers");
     }
     free(none.room);
     free(other.room);
 }
 
+static text_call *const calls[] = {yamlcanon_canonical, yamlcanon_events, yamlcanon_show, yamlcanon_json, digest};
+#define CALLS (sizeof calls / sizeof *calls)
+
 /* All inputs, under this bound of memory for the thread. */
 static void *all_rooms(void *bound)
 {
     yamlcanon_budget((uintptr_t)bound);
-    for (size_t i = 0; i < count; i++) {
-        rooms(yamlcanon_canonical, &files[i]);
-        rooms(yamlcanon_events, &files[i]);
-        rooms(digest, &files[i]);
-    }
+    for (size_t i = 0; i < count; i++)
+        for (size_t call = 0; call < CALLS; call++) rooms(calls[call], &files[i]);
     return NULL;
 }
 
@@ -262,9 +299,7 @@ static void on_threads(int threads)
 
 static void *on_its_stack(void *file)
 {
-    rooms(yamlcanon_canonical, file);
-    rooms(yamlcanon_events, file);
-    rooms(digest, file);
+    for (size_t call = 0; call < CALLS; call++) rooms(calls[call], file);
     return NULL;
 }
 
@@ -289,7 +324,7 @@ static void without_memory(const struct file *file, const struct answer *own, co
 {
     if (a->status == YAMLCANON_REFUSED && a->fault.number == 21) {
         if (strcmp(a->fault.name, "OutOfMemory") || a->fault.place) wrong(file, "another name or place of 21");
-    } else if (!is_own_text(a, own) && memcmp(&a->fault, &own->fault, sizeof a->fault)) {
+    } else if (!is_own(a, own)) {
         wrong(file, "another answer for want of memory");
     }
 }
@@ -358,6 +393,24 @@ static void within(const struct file *file)
     free(own.room);
 }
 
+/* The same of readable texts. */
+static void shown_within(const struct file *file)
+{
+    size_t cap = file->n * 40 + 5000, peak;
+    yamlcanon_budget(0);
+    struct answer own = answer_of(yamlcanon_show, file, cap), a = {0, UNTOLD, cap, own.room, {0}};
+    peak = yamlcanon_peak();
+    if (peak < 2) return;
+    yamlcanon_budget(peak - 1);
+    a.status = yamlcanon_show_within(file->at, file->n, own.room, cap, &a.len, &a.fault, peak);
+    if (a.status != own.status || yamlcanon_peak() != peak) wrong(file, "readable text refused within its peak");
+    if (yamlcanon_json_within(file->at, file->n, own.room, cap, &a.len, &a.fault, 1) != YAMLCANON_REFUSED) wrong(file, "JSON within 1 byte");
+    a.status = yamlcanon_show(file->at, file->n, own.room, cap, &a.len, &a.fault);
+    if (own.status == YAMLCANON_DONE && a.status != YAMLCANON_REFUSED) wrong(file, "the bound of the thread is lost by show");
+    yamlcanon_budget(0);
+    free(own.room);
+}
+
 static void *has_no_bound(void *unused)
 {
     struct file text = {"a thread beside one with a bound", (uint8_t *)"{a: [b, c], d: e}", 17};
@@ -377,11 +430,10 @@ static void under_bounds(void)
     if (pthread_create(&beside, &large, has_no_bound, NULL)) exit(2);
     pthread_join(beside, NULL);
     for (size_t i = 0; i < count; i++) {
-        bounds(yamlcanon_canonical, &files[i]);
-        bounds(yamlcanon_events, &files[i]);
-        bounds(digest, &files[i]);
+        for (size_t call = 0; call < CALLS; call++) bounds(calls[call], &files[i]);
         held_once(&files[i]);
         within(&files[i]);
+        shown_within(&files[i]);
     }
 }
 
@@ -424,9 +476,7 @@ static void in_turn(text_call *call, const struct file *file)
 static void all_refused(void)
 {
     for (size_t i = 0; i < count; i++) {
-        in_turn(yamlcanon_canonical, &files[i]);
-        in_turn(yamlcanon_events, &files[i]);
-        in_turn(digest, &files[i]);
+        for (size_t call = 0; call < CALLS; call++) in_turn(calls[call], &files[i]);
     }
     printf("%ld requests refused; ", requests);
 }

@@ -56,6 +56,31 @@ func ExampleSame() {
 	// false right: 4 Syntax at byte 5
 }
 
+func ExampleShow() {
+	text, err := yamlcanon.Show([]byte("{b: 0x10, a: &x [yes], c: *x}"))
+	fmt.Print(string(text), err, "\n")
+	// Output:
+	// ---
+	// a:
+	//   - "yes"
+	// b: 16
+	// c:
+	//   - "yes"
+	// <nil>
+}
+
+func ExampleToJSON() {
+	text, err := yamlcanon.ToJSON([]byte("b: 0x10\na: [~, .5]\n--- x"))
+	fmt.Print(string(text), err, "\n")
+	_, err = yamlcanon.ToJSON([]byte("{80: web}"))
+	fmt.Println(errors.Is(err, yamlcanon.ErrNoJSON), err)
+	// Output:
+	// {"a": [null, 0.5], "b": 16}
+	// "x"
+	// <nil>
+	// true JSON cannot express this stream
+}
+
 func ExampleRefused() {
 	_, err := yamlcanon.Canonical([]byte("{1: a, 0x1: b}"))
 	var fault *yamlcanon.Refused

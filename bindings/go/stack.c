@@ -35,7 +35,7 @@ static int has_stack_for(size_t n)
     return lowest <= here && here < end && here - lowest >= BASE + LEVEL * (n < LEVELS ? n : LEVELS);
 }
 
-enum { SAME = YC_EVENTS + 1, SHA256 };
+enum { SAME = YC_JSON + 1, SHA256 };
 
 struct work {
     int which;
@@ -55,6 +55,12 @@ static void *call(void *at)
         break;
     case YC_EVENTS:
         a->status = yamlcanon_events_within(w->left, w->left_n, w->out, w->cap, &a->len, &a->fault, w->memory);
+        break;
+    case YC_SHOW:
+        a->status = yamlcanon_show_within(w->left, w->left_n, w->out, w->cap, &a->len, &a->fault, w->memory);
+        break;
+    case YC_JSON:
+        a->status = yamlcanon_json_within(w->left, w->left_n, w->out, w->cap, &a->len, &a->fault, w->memory);
         break;
     case SAME:
         a->status = yamlcanon_same_within(w->left, w->left_n, w->right, w->right_n, &a->fault, w->memory);

@@ -3,7 +3,7 @@
 #define YC_STACK_H
 #include "yamlcanon.h"
 
-enum { YC_CANONICAL, YC_EVENTS };
+enum { YC_CANONICAL, YC_EVENTS, YC_SHOW, YC_JSON };
 
 #define YC_DIGEST 32
 

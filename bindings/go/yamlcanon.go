@@ -97,6 +97,10 @@ func (l Limits) text(which C.int, input []byte) ([]byte, error) {
 			return room[:answer.len:answer.len], nil
 		case C.YAMLCANON_SHORT:
 			room = make([]byte, answer.len)
+		case C.YAMLCANON_NO_JSON:
+			return nil, ErrNoJSON
+		case C.YAMLCANON_UNLIKE:
+			return nil, ErrUnlike
 		default:
 			return nil, refused(&answer.fault, Only)
 		}

@@ -4,6 +4,7 @@ import asyncio
 import concurrent.futures
 import doctest
 import hashlib
+import json
 import multiprocessing
 import os
 import pathlib
@@ -20,6 +21,7 @@ import yamlcanon
 from yamlcanon import (
     FORM,
     Kind,
+    NoJson,
     Refused,
     budget,
     canonical,
@@ -30,6 +32,8 @@ from yamlcanon import (
     library_version,
     same,
     sha256,
+    show,
+    to_json,
 )
 from yamlcanon.library import message_of, position_of
 
@@ -106,6 +110,46 @@ class Calls(unittest.TestCase):
             self.assertEqual(seen.exception, wanted.exception)
             self.assertEqual(seen.exception.line, wanted.exception.line)
 
+    def test_readable_texts_mean_the_same(self):
+        for data in (b"", b"{b: 0x1, a: [~]}", "é: &x [yes, 'a b']\nf: *x\n--- |\n x\n", b"- \n" * 10_000, DEEPEST, blocks(1023)):
+            text = show(data)
+            self.assertTrue(same(data, text))
+            self.assertEqual(show(text), text)
+            self.assertEqual(show(canonical(data)), text)
+        for data in (*REFUSED, b"- " * 1024 + b"x"):
+            with self.assertRaises(Refused) as wanted:
+                canonical(data)
+            for call in (show, to_json):
+                with self.assertRaises(Refused) as seen:
+                    call(data)
+                self.assertEqual(seen.exception, wanted.exception)
+                self.assertEqual(seen.exception.line, wanted.exception.line)
+
+    def test_a_text_with_aliases_written_out_is_too_long(self):
+        data = b"a0: &a0 x\n" + b"".join(b"a%d: &a%d [*a%d, *a%d]\n" % (k, k, k - 1, k - 1) for k in range(1, 40))
+        self.assertLess(len(canonical(data)), 2000)
+        for call in (show, to_json):
+            with self.assertRaises(Refused) as seen:
+                call(data)
+            self.assertEqual(seen.exception.kind, Kind.TextTooLong)
+
+    def test_json_has_the_values(self):
+        data = b'b: 0x1F\na: [~, .5, yes, "\\u2028", 1e3]\n--- &x "l\\r\\n"\n--- {c: {}}\n'
+        values = [json.loads(line) for line in to_json(data).split(b"\n")[:-1]]
+        self.assertEqual(values, [{"a": [None, 0.5, "yes", "\u2028", 1000.0], "b": 31}, "l\r\n", {"c": {}}])
+        self.assertEqual(to_json(b""), b"")
+        self.assertEqual(json.loads(to_json(b"[" * 900 + b"]" * 900)), json.loads("[" * 900 + "]" * 900))
+
+    def test_what_json_cannot_express(self):
+        for data in (b"{1: a}", b"{[a]: b}", b"{~: b}", b"- .inf", b"- -.inf", b"- .nan", b"- !x a", b"!x {}", b"- a\n--- {!x b: c}"):
+            self.assertTrue(same(show(data), data))
+            with self.assertRaisesRegex(NoJson, "^JSON cannot express this stream$"):
+                to_json(data)
+        self.assertTrue(issubclass(NoJson, ValueError) and not issubclass(NoJson, Refused))
+        with self.assertRaises(NoJson) as seen:
+            to_json("{1: a}")
+        self.assertEqual(str(pickle.loads(pickle.dumps(seen.exception))), str(seen.exception))
+
     def test_events_one_by_one(self):
         data = "- a\n- |\n  \u2028b\x85\n---\n&x {}"
         self.assertEqual("".join(event + "\n" for event in iter_events(data)), events(data).decode())
@@ -117,6 +161,8 @@ class Calls(unittest.TestCase):
         calls = [
             (lambda **how: canonical(data, **how), canonical(data)),
             (lambda **how: events(data, **how), events(data)),
+            (lambda **how: show(data, **how), show(data)),
+            (lambda **how: to_json(data, **how), to_json(data)),
             (lambda **how: sha256(data, **how), sha256(data)),
             (lambda **how: same(data, data, **how), True),
         ]
@@ -277,12 +323,14 @@ class Calls(unittest.TestCase):
 
     def test_deep_inputs_on_threads_with_a_small_stack(self):
         deep = [b"[" * 1000 + b"]" * 1000, blocks(1023), b"- " * 3000, b"{a: " * 2000, DEEPEST]
-        want = [answer(data) for data in deep]
+        want, shown = [answer(data) for data in deep], show(DEEPEST)
         self.assertEqual(want[1][:4], b"--- ")
         least = 64 << 10 if os.uname().machine == "x86_64" else 128 << 10
         for stack in (least, 512 << 10, 2 << 20, 0):  # 0 is the default
             self.assertEqual(on_thread(stack, lambda: [answer(data) for data in deep]), want)
             self.assertTrue(on_thread(stack, lambda: same(deep[1], deep[1])))
+            self.assertEqual(on_thread(stack, lambda: show(DEEPEST)), shown)
+            self.assertEqual(on_thread(stack, lambda: to_json(DEEPEST).count(b"{")), 1023)
 
     def test_deep_inputs_where_a_part_of_the_stack_is_used(self):
         for stack, left in ((2 << 20, 1 << 20), (4 << 20, 1 << 20), (8 << 20, 1 << 20), (8 << 20, 6 << 20)):
@@ -349,7 +397,10 @@ OTHER = (
     "#include <stdint.h>\nuint32_t yamlcanon_version(void) { return VERSION; }\nuint32_t yamlcanon_form(void) { return FORM; }\n"
     + "".join(
         f"uint32_t yamlcanon_{name}(void) {{ return 0; }}\n"
-        for name in ("canonical_within", "events_within", "same_within", "sha256_within", "message", "position", "release")
+        for name in (
+            *("canonical_within", "events_within", "json_within", "same_within", "sha256_within", "show_within"),
+            *("message", "position", "release"),
+        )
     )
 )
 

@@ -4,6 +4,8 @@ r"""The canonical text of YAML 1.2 streams, and whether two streams mean the sam
     canonical_file(path) -> bytes     the canonical text of a file
     sha256(data) -> bytes             the SHA-256 of the canonical text: what means the same has the same
     same(left, right) -> bool         whether two streams mean the same
+    show(data) -> bytes               readable YAML that means the same
+    to_json(data) -> bytes            the documents as JSON, a line each
     events(data) -> bytes             the events, in the notation of yaml-test-suite; iter_events(data) one by one
     budget(memory)                    a memory limit for the calls inside a `with`
     library_version() -> int          the version of the library that is loaded, 101 for 1.1
@@ -11,7 +13,7 @@ r"""The canonical text of YAML 1.2 streams, and whether two streams mean the sam
     FORM, __version__                 the form of the canonical texts, the version of this module
 
 `data` is bytes, a bytearray, a memoryview, or a str, which stands for its bytes in UTF-8. An input that is rejected raises
-Refused, whose `kind` is one of Kind. What needs more memory than there is, or than its limit, raises MemoryError.
+Refused, whose `kind` is one of Kind; what JSON cannot express raises NoJson. What needs more memory than there is, or than its limit, raises MemoryError.
 Each call lets Python's lock go, holds no state, and may run on any number of threads, also on those with a small stack.
 
 >>> canonical("{b: 0x1, a: [~]}")
@@ -33,12 +35,14 @@ from typing import Any, Iterator, Optional, Union
 from yamlcanon.library import DONE, FORM, REFUSED, SHORT, Fault
 from yamlcanon.library import file as _library_file  # noqa: F401, for yamlcanon.table
 from yamlcanon.library import lib as _lib
+from yamlcanon.nojson import NoJson, unwritten as _unwritten
 from yamlcanon.refused import Kind, Refused
 from yamlcanon.stack import elsewhere, thread as _thread
 
 __all__ = [
     "FORM",
     "Kind",
+    "NoJson",
     "Refused",
     "__version__",
     "budget",
@@ -50,6 +54,8 @@ __all__ = [
     "library_version",
     "same",
     "sha256",
+    "show",
+    "to_json",
 ]
 
 __version__ = "1.1.0"
@@ -114,8 +120,10 @@ def _text_here(call: Any, data: bytes, memory: int) -> bytes:
     if status == SHORT:
         room = _thread.take_room(length.value)
         status = call(data, len(data), room, len(room), byref(length), byref(fault), memory)
-    if status != DONE:
+    if status == REFUSED:
         raise _raised(fault, data)
+    if status != DONE:
+        raise _unwritten(status)
     text = bytes(memoryview(room)[: length.value])
     _thread.keep_room(room)
     return text
@@ -237,6 +245,37 @@ def sha256(data: Data, *, memory: Optional[int] = None) -> bytes:
     """
     own = _bytes(data)
     return bytes(_here(len(own), _sha256_here, own, _memory(memory)))
+
+
+def show(data: Data, *, memory: Optional[int] = None) -> bytes:
+    r"""The stream as readable YAML, as `yamlreview show` writes it: block style, a line for each entry and item, aliases written out.
+
+    It is checked to mean what the stream means before it is returned. Refused of kind TextTooLong means that this text would have more
+    than 67,108,864 bytes.
+
+    >>> print(show("{b: 0x10, a: &x [yes, 'on'], c: *x}").decode(), end="")
+    ---
+    a:
+      - "yes"
+      - "on"
+    b: 16
+    c:
+      - "yes"
+      - "on"
+    """
+    return _text(_lib.yamlcanon_show_within, data, memory)
+
+
+def to_json(data: Data, *, memory: Optional[int] = None) -> bytes:
+    r"""The stream as JSON (RFC 8259), a line for each document, checked to mean what the stream means.
+
+    >>> to_json("b: 0x10\na: [~, .5]\n--- x")
+    b'{"a": [null, 0.5], "b": 16}\n"x"\n'
+    >>> to_json("{80: web}")
+    Traceback (most recent call last):
+    yamlcanon.NoJson: JSON cannot express this stream
+    """
+    return _text(_lib.yamlcanon_json_within, data, memory)
 
 
 def library_version() -> int:

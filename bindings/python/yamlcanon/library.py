@@ -5,16 +5,16 @@ import os
 from ctypes import POINTER, Structure, byref, c_char, c_char_p, c_size_t, c_uint32, c_uint64, c_void_p
 from typing import Optional, Tuple
 
-__all__ = ["DONE", "FORM", "REFUSED", "SHORT", "Fault", "file", "lib", "libc", "message_of", "position_of"]
+__all__ = ["DONE", "FORM", "NO_JSON", "REFUSED", "SHORT", "Fault", "file", "lib", "libc", "message_of", "position_of"]
 
 # The form of the texts: yamlcanon-form-1. Another form has another soname, and with it another version of each exported name.
 FORM = 1
-DONE, DIFFERENT, REFUSED, SHORT = range(4)
+DONE, DIFFERENT, REFUSED, SHORT, NO_JSON = range(5)
 # The interface that this module calls: YAMLCANON_VERSION of the header that it was written by, of which a library may have more.
 _INTERFACE = 101
 # The room that is enough for each message: YAMLCANON_MESSAGE.
 _MESSAGE = 128
-_TEXT_CALLS = ("canonical", "events")
+_TEXT_CALLS = ("canonical", "events", "json", "show")
 
 libc = ctypes.CDLL(None)
 
@@ -81,7 +81,7 @@ def _load() -> Tuple[ctypes.CDLL, str]:
     named = os.environ.get("YAMLCANON_LIBRARY") or (beside if os.path.exists(beside) else "libyamlcanon.so.1")
     own = ctypes.CDLL(named)
     told = _look_at(own, named)
-    for call in (own.yamlcanon_canonical_within, own.yamlcanon_events_within):
+    for call in (getattr(own, f"yamlcanon_{name}_within") for name in _TEXT_CALLS):
         call.restype = c_uint32
         call.argtypes = [c_void_p, c_size_t, c_void_p, c_size_t, POINTER(c_size_t), POINTER(Fault), c_size_t]
     own.yamlcanon_same_within.restype = c_uint32

@@ -15,6 +15,9 @@
 use std::ffi::{c_char, CStr};
 use std::{error, fmt, thread};
 
+mod json;
+pub use json::JsonError;
+
 /// The form of the texts that [`canonical`] gives: yamlcanon-form-1. A library of another form has another name, and is not linked.
 pub const FORM: u32 = 1;
 
@@ -229,6 +232,24 @@ extern "C" {
         fault: *mut Fault,
         memory: usize,
     ) -> u32;
+    fn yamlcanon_show_within(
+        input: *const u8,
+        n: usize,
+        out: *mut u8,
+        cap: usize,
+        len: *mut usize,
+        fault: *mut Fault,
+        memory: usize,
+    ) -> u32;
+    fn yamlcanon_json_within(
+        input: *const u8,
+        n: usize,
+        out: *mut u8,
+        cap: usize,
+        len: *mut usize,
+        fault: *mut Fault,
+        memory: usize,
+    ) -> u32;
     fn yamlcanon_same_within(
         left: *const u8,
         left_n: usize,
@@ -285,6 +306,11 @@ fn with_stack<T: Send>(size: usize, work: impl FnOnce() -> T + Send) -> T {
 }
 
 fn text(call: TextCall, input: &[u8], memory: usize) -> Result<Vec<u8>, Refused> {
+    written(call, input, memory).map_err(|(_, fault)| fault.refused(false))
+}
+
+/// What a call writes; where it writes nothing, its status, and the fault that it tells if that is 2.
+fn written(call: TextCall, input: &[u8], memory: usize) -> Result<Vec<u8>, (u32, Fault)> {
     with_stack(input.len(), || {
         let mut out = vec![0; input.len() * 2 + 64];
         loop {
@@ -296,7 +322,7 @@ fn text(call: TextCall, input: &[u8], memory: usize) -> Result<Vec<u8>, Refused>
                     return Ok(out);
                 }
                 3 => out = vec![0; len],
-                _ => return Err(fault.refused(false)),
+                status => return Err((status, fault)),
             }
         }
     })
@@ -327,6 +353,16 @@ impl Limits {
     /// [`events`] under this limit.
     pub fn events(self, input: &[u8]) -> Result<Vec<u8>, Refused> {
         text(yamlcanon_events_within, input, self.memory)
+    }
+
+    /// [`show`] under this limit.
+    pub fn show(self, input: &[u8]) -> Result<Vec<u8>, Refused> {
+        text(yamlcanon_show_within, input, self.memory)
+    }
+
+    /// [`to_json`] under this limit.
+    pub fn to_json(self, input: &[u8]) -> Result<Vec<u8>, JsonError> {
+        written(yamlcanon_json_within, input, self.memory).map_err(JsonError::of)
     }
 
     /// [`same`] under this limit.
@@ -374,6 +410,31 @@ pub fn canonical(input: &[u8]) -> Result<Vec<u8>, Refused> {
 /// ```
 pub fn events(input: &[u8]) -> Result<Vec<u8>, Refused> {
     Limits::default().events(input)
+}
+
+/// The stream as readable YAML, as `yamlreview show` writes it: block style, a line for each entry and item, aliases written out. It is
+/// checked to mean what the stream means before it is returned. 20, TextTooLong, means that this text would have more than 67,108,864
+/// bytes.
+///
+/// ```
+/// let text = yamlcanon::show(b"{b: 0x10, a: &x [yes], c: *x}")?;
+/// assert_eq!(text, b"---\na:\n  - \"yes\"\nb: 16\nc:\n  - \"yes\"\n");
+/// # Ok::<(), yamlcanon::Refused>(())
+/// ```
+pub fn show(input: &[u8]) -> Result<Vec<u8>, Refused> {
+    Limits::default().show(input)
+}
+
+/// The stream as JSON (RFC 8259), a line for each document, checked to mean what the stream means.
+///
+/// ```
+/// use yamlcanon::{to_json, JsonError};
+/// assert_eq!(to_json(b"b: 0x10\na: [~, .5]\n--- x")?, b"{\"a\": [null, 0.5], \"b\": 16}\n\"x\"\n");
+/// assert_eq!(to_json(b"{80: web}"), Err(JsonError::NoJson));
+/// # Ok::<(), JsonError>(())
+/// ```
+pub fn to_json(input: &[u8]) -> Result<Vec<u8>, JsonError> {
+    Limits::default().to_json(input)
 }
 
 /// Whether two streams mean the same.

@@ -1,5 +1,5 @@
 use std::thread;
-use yamlcanon::{canonical, events, release, same, sha256, version, Kind, Limits, Side, FORM};
+use yamlcanon::{canonical, events, release, same, sha256, show, to_json, version, JsonError, Kind, Limits, Side, FORM};
 
 /// Block mappings, each with a tag and an anchor on lines of their own.
 fn blocks(levels: usize) -> String {
@@ -123,6 +123,33 @@ fn digests() {
 }
 
 #[test]
+fn readable_texts() {
+    let many = "- \n".repeat(10_000);
+    for input in [b"".as_slice(), b"{b: 0x1, a: [~]}", many.as_bytes(), flow_mappings(1023).as_bytes(), blocks(1023).as_bytes()] {
+        let text = show(input).unwrap();
+        assert!(same(input, &text).unwrap());
+        assert_eq!(show(&text).unwrap(), text);
+        assert_eq!(show(&canonical(input).unwrap()).unwrap(), text);
+    }
+    for (kind, input) in REFUSED {
+        let fault = canonical(input).unwrap_err();
+        assert_eq!(show(input).unwrap_err(), fault, "{kind:?}");
+        assert_eq!(to_json(input).unwrap_err(), JsonError::Refused(fault), "{kind:?}");
+    }
+}
+
+#[test]
+fn json() {
+    assert_eq!(to_json(b"").unwrap(), b"");
+    assert_eq!(to_json("é: [\"\\r\", 1e3, yes]".as_bytes()).unwrap(), "{\"é\": [\"\\r\", 1000.0, \"yes\"]}\n".as_bytes());
+    for input in [b"{1: a}".as_slice(), b"{[a]: b}", b"- .inf", b"- -.inf", b"- .nan", b"- !x a", b"a\n--- {!x b: c}"] {
+        assert_eq!(to_json(input), Err(JsonError::NoJson));
+    }
+    assert_eq!(to_json(b"{1: a}").unwrap_err().to_string(), "JSON cannot express this stream");
+    assert_eq!(to_json(b"[a").unwrap_err().to_string(), "4 Syntax at byte 2");
+}
+
+#[test]
 fn limits_of_memory() {
     let many = "- a\n".repeat(10_000).into_bytes();
     let (small, none) = (Limits { memory: 10_000 }, Limits::default());
@@ -130,18 +157,20 @@ fn limits_of_memory() {
         [
             small.canonical(&many).unwrap_err().kind(),
             small.events(&many).unwrap_err().kind(),
+            small.show(&many).unwrap_err().kind(),
             small.same(&many, &many).unwrap_err().kind(),
             small.sha256(&many).unwrap_err().kind(),
         ]
     };
-    assert_eq!(kinds(), [Kind::OutOfMemory; 4]);
+    assert_eq!(kinds(), [Kind::OutOfMemory; 5]);
+    assert!(matches!(small.to_json(&many), Err(JsonError::Refused(fault)) if fault.kind() == Kind::OutOfMemory));
     assert_eq!(none.canonical(&many), canonical(&many));
     assert!(none.same(&many, &many).unwrap());
     assert_eq!(small.canonical(&many).unwrap_err().to_string(), "21 OutOfMemory");
     assert_eq!(small.same(&many, b"").unwrap_err().to_string(), "21 OutOfMemory");
     // A call that is handed to another thread keeps its limit.
     let there = thread::scope(|scope| thread::Builder::new().stack_size(128 << 10).spawn_scoped(scope, kinds).unwrap().join().unwrap());
-    assert_eq!(there, [Kind::OutOfMemory; 4]);
+    assert_eq!(there, [Kind::OutOfMemory; 5]);
 }
 
 #[test]
@@ -155,6 +184,8 @@ fn deep_inputs_on_threads_with_a_small_stack() {
         });
         on(|| assert!(canonical(flow_mappings(1023).as_bytes()).is_ok()));
         on(|| assert!(canonical(blocks(1023).as_bytes()).is_ok()));
+        on(|| assert!(show(blocks(1023).as_bytes()).is_ok()));
+        on(|| assert!(to_json(flow_mappings(1023).as_bytes()).is_ok()));
         on(|| assert!(same(blocks(1023).as_bytes(), blocks(1023).as_bytes()).unwrap()));
     }
 }

@@ -12,6 +12,8 @@ mod faults;
 #[cfg(test)]
 mod git;
 #[cfg(test)]
+mod git_shown;
+#[cfg(test)]
 mod hints;
 #[cfg(test)]
 mod names;

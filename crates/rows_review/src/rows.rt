@@ -1,7 +1,8 @@
 //! Every table of runs over two files. A test is proved and paid for, a row is not, so one goes over all tables.
 use crate::runs::{ALL, Given, run};
 use crate::{
-    differences, empty_nodes, faults, git, places, rejected, shown, strings, tag_places, warnings,
+    differences, empty_nodes, faults, git, git_shown, places, rejected, shown, strings, tag_places,
+    warnings,
 };
 use std::process::Abort;
 use std::test::Fail;
@@ -32,7 +33,7 @@ fn is_told<T: Abort + AllocGlobal>(rt: &T, row: &Row) -> Result<(), Fail> {
 
 #[test]
 fn runs_over_two_files_are_told(rt: HostRuntime) -> Result<(), Fail> {
-    let tables: [&[Row]; 18] = [
+    let tables: [&[Row]; 19] = [
         &differences::ROWS,
         &strings::ROWS,
         &empty_nodes::ROWS,
@@ -45,6 +46,7 @@ fn runs_over_two_files_are_told(rt: HostRuntime) -> Result<(), Fail> {
         &places::REFUSED,
         &tag_places::ROWS,
         &git::ROWS,
+        &git_shown::ROWS,
         &rejected::FILES,
         &rejected::LINES,
         &rejected::WORDS,

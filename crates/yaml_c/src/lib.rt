@@ -1,7 +1,8 @@
 //! The calls for programs in other languages. `include/yamlcanon.h` declares them in C.
 //!
 //! The caller passes all memory that a call writes. A call keeps nothing. Its answer is a status: 0; 1 if two streams differ; 2
-//! if an input is rejected; 3 if the buffer for a text is too small.
+//! if an input is rejected; 3 if the buffer for a text is too small; 4 if JSON cannot express a stream; 5 if lines of JSON did not pass
+//! their check.
 #![tactic(auto)]
 
 mod calls;
@@ -11,6 +12,7 @@ mod name;
 mod numbers;
 mod position;
 mod room;
+mod show;
 mod status;
 
 pub use calls::{
@@ -18,3 +20,4 @@ pub use calls::{
     yamlcanon_form, yamlcanon_version,
 };
 pub use fault::YamlcanonFault;
+pub use show::{yaml_c_json, yaml_c_show};

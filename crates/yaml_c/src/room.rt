@@ -23,7 +23,7 @@ pub fn tell_length(needed: usize, room: usize, len: &mut usize) -> u32
 }
 
 /// Puts a text at the start of a buffer, if that is large enough. Whether it is.
-fn put(text: &[u8], out: &mut [u8]) -> bool
+pub fn put(text: &[u8], out: &mut [u8]) -> bool
     ensures given { result ≡ true → IsGiven text.now out.old out.new (length text.now) }
     ensures short { result ≡ false → IsShort text.now out.old out.new (length text.now) }
 {

@@ -11,3 +11,9 @@ pub const REFUSED: u32 = 2;
 
 /// The status if the buffer for a text is too small.
 pub const SHORT: u32 = 3;
+
+/// The status if JSON cannot express a stream.
+pub const NO_JSON: u32 = 4;
+
+/// The status if the lines of JSON did not pass their check.
+pub const UNLIKE: u32 = 5;

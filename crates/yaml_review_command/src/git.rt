@@ -1,6 +1,7 @@
 //! What git passes to an external diff.
 use crate::both::compare_sides;
 use crate::files::read_file;
+use crate::git_show::put_shown_lines;
 use crate::rejected::{Named, put_not_compared, put_rejection, put_rejections};
 use crate::unread::Unread;
 use std::alloc::Global;
@@ -22,6 +23,9 @@ const PLAIN: &str = "100644";
 
 /// What the one line of a submodule's text begins with.
 const COMMIT: &str = "Subproject commit ";
+
+/// The word before those of git that asks for lines of what `show` writes.
+const SHOWN: &str = "--lines=show";
 
 /// One side: the file to read, its hash and its mode.
 #[derive(Clone, Copy)]
@@ -59,6 +63,8 @@ pub(crate) struct Pair<'a> {
     left: Side<'a>,
     right: Side<'a>,
     renamed: Option<(&'a str, &'a str)>,
+    /// Whether changed lines of what `show` writes are asked for, and not differences.
+    is_shown: bool,
 }
 
 /// What git asks for.
@@ -78,9 +84,19 @@ fn side_of<'a>(words: &[&'a str]) -> Option<Side<'a>> {
     })
 }
 
+/// The words of git, and whether there is one before them that asks for lines of what `show` writes. Those of git are 1, 7 or 9, so a
+/// path of that name is none.
+fn split_shown<'w, 'a>(words: &'w [&'a str]) -> (&'w [&'a str], bool) {
+    match words.split_first() {
+        Some((first, rest)) if *first == SHOWN && matches!(rest.len(), 1 | 7 | 9) => (rest, true),
+        _ => (words, false),
+    }
+}
+
 /// What 1, 7 or 9 words ask for: a path; the path, the old file with its hash and mode, and the new one with its own; or these
 /// and the new path with lines on what was renamed or copied.
-pub(crate) fn git_asked<'a>(words: &[&'a str]) -> Option<GitAsked<'a>> {
+pub(crate) fn git_asked<'a>(given: &[&'a str]) -> Option<GitAsked<'a>> {
+    let (words, is_shown) = split_shown(given);
     let path = words.first().copied()?;
     match words.len() {
         1 => Some(GitAsked::Unmerged(path)),
@@ -92,6 +108,7 @@ pub(crate) fn git_asked<'a>(words: &[&'a str]) -> Option<GitAsked<'a>> {
                 Some(more) => Some((more.first().copied()?, more.get(1).copied()?)),
                 None => None,
             },
+            is_shown,
         })),
         _ => None,
     }
@@ -259,6 +276,10 @@ fn put_differences<S: Shelf>(
         put_rejections(alloc, out, first, second, Form::Line)?;
         return Ok(());
     };
+    if pair.is_shown {
+        let left = (left_name, left.as_slice());
+        return put_shown_lines(alloc, out, left, (right_name, right.as_slice()));
+    }
     match compare_sides(alloc, &lines_of(left_name, right_name), left, right) {
         Ok(told) => out.push_str(&told.text)?,
         Err(refused) => {

@@ -8,6 +8,7 @@ pub mod diff;
 mod files;
 mod folders;
 mod git;
+mod git_show;
 mod host;
 mod rejected;
 mod show;

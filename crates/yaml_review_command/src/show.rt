@@ -28,7 +28,7 @@ fn text_of(alloc: Global, bytes: &[u8], format: Format) -> Result<String, Unshow
 }
 
 /// Writes why a file is not shown.
-fn put_unshown(
+pub(crate) fn put_unshown(
     alloc: Global,
     out: &mut String,
     name: &str,

@@ -1,0 +1,39 @@
+//! Why a stream is not written as JSON.
+use crate::{Fault, Refused};
+use std::{error, fmt};
+
+/// Why a stream is not written as JSON.
+#[derive(Clone, Copy, Debug, PartialEq, Eq)]
+#[non_exhaustive]
+pub enum JsonError {
+    /// The input is rejected, its text would be too long, or memory was refused.
+    Refused(Refused),
+    /// The input is accepted, and JSON cannot express it: a key is no string, a float is `.inf`, `-.inf` or `.nan`, or a tag is none of
+    /// the core schema. `yamlreview show --format=json` says which it is and where.
+    NoJson,
+    /// The lines did not pass their check: a fault of the library. No input is known for this.
+    Unlike,
+}
+
+impl JsonError {
+    /// The error of a call's status, with the fault that it tells if that is 2.
+    pub(crate) fn of((status, fault): (u32, Fault)) -> JsonError {
+        match status {
+            2 => JsonError::Refused(fault.refused(false)),
+            4 => JsonError::NoJson,
+            _ => JsonError::Unlike,
+        }
+    }
+}
+
+impl fmt::Display for JsonError {
+    fn fmt(&self, f: &mut fmt::Formatter<'_>) -> fmt::Result {
+        match self {
+            JsonError::Refused(refused) => fmt::Display::fmt(refused, f),
+            JsonError::NoJson => f.write_str("JSON cannot express this stream"),
+            JsonError::Unlike => f.write_str("the lines of JSON did not pass their check; this is a bug of the library"),
+        }
+    }
+}
+
+impl error::Error for JsonError {}
