@@ -1,0 +1,2 @@
+pub mod RangeLaws
+mod ValueLaws
