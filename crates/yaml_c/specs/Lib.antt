@@ -5,3 +5,4 @@ pub mod Numbers
 pub mod Messages
 pub mod Positions
 pub mod Digests
+pub mod Values

@@ -12,9 +12,11 @@ mod numbers;
 mod position;
 mod room;
 mod status;
+mod values;
 
 pub use calls::{
     yaml_c_canonical, yaml_c_events, yaml_c_message, yaml_c_position, yaml_c_same, yaml_c_sha256,
     yamlcanon_form, yamlcanon_version,
 };
 pub use fault::YamlcanonFault;
+pub use values::{Lengths, yaml_c_values};
