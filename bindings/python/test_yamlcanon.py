@@ -349,7 +349,7 @@ OTHER = (
     "#include <stdint.h>\nuint32_t yamlcanon_version(void) { return VERSION; }\nuint32_t yamlcanon_form(void) { return FORM; }\n"
     + "".join(
         f"uint32_t yamlcanon_{name}(void) {{ return 0; }}\n"
-        for name in ("canonical_within", "events_within", "same_within", "sha256_within", "message", "position", "release")
+        for name in ("canonical_within", "events_within", "same_within", "sha256_within", "values_within", "message", "position", "release")
     )
 )
 
