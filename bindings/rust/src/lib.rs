@@ -15,6 +15,9 @@
 use std::ffi::{c_char, CStr};
 use std::{error, fmt, thread};
 
+mod values;
+pub use values::{values, Value, ValueKind, Values};
+
 /// The form of the texts that [`canonical`] gives: yamlcanon-form-1. A library of another form has another name, and is not linked.
 pub const FORM: u32 = 1;
 
