@@ -6,9 +6,10 @@
  *
  * A caller owes, for the time of the call:
  *   - input, left, right: readable for their lengths, which are at most PTRDIFF_MAX, and written by nobody;
- *   - out: cap bytes that nobody else reads or writes; len, fault, line, column: one value of their type each. All are
- *     initialised, and overlap neither one another nor an input. left and right may be the same bytes;
- *   - no pointer is null, but input, left and right where their length is 0, and out where cap is 0;
+ *   - out: cap bytes that nobody else reads or writes, and so the three rooms of rooms; len, lengths, fault, line, column:
+ *     one value of their type each. All are initialised, and overlap neither one another nor an input. left and right may
+ *     be the same bytes;
+ *   - no pointer is null, but input, left and right where their length is 0, and out and each room where its cap is 0;
  *   - malloc, realloc and free of one allocator; no call from a signal handler, or from the forked child of a process
  *     with threads;
  *   - 1,792 KiB of stack. The deepest input takes 1,310 kB, and where the stack is smaller, as on threads that have
@@ -125,6 +126,57 @@ uint32_t yamlcanon_same(const uint8_t *left, size_t left_n, const uint8_t *right
  * as yamlcanon_canonical, and then out is as it was. The text is held in memory meanwhile. */
 uint32_t yamlcanon_sha256(const uint8_t *input, size_t n, uint8_t out[32], yamlcanon_fault *fault);
 
+/* The kinds of values. */
+enum {
+    YAMLCANON_KIND_NULL = 0,
+    YAMLCANON_KIND_BOOL = 1,
+    YAMLCANON_KIND_INT = 2,
+    YAMLCANON_KIND_FLOAT = 3,
+    YAMLCANON_KIND_STR = 4,
+    YAMLCANON_KIND_TAGGED = 5, /* a scalar of another tag */
+    YAMLCANON_KIND_SEQUENCE = 6,
+    YAMLCANON_KIND_MAPPING = 7
+};
+
+/* A value, whose numbers have the machine's byte order. Its tag is texts[tag_start .. tag_end]. The content of a scalar is
+ * texts[start .. end], in the form that the canonical text has between quotes, without escapes. The items of a sequence are the values
+ * of the numbers in parts[start .. end]; a mapping has its keys and values in turn there, in the order of the canonical text. */
+typedef struct yamlcanon_value {
+    uint32_t kind;
+    uint32_t tag_start;
+    uint32_t tag_end;
+    uint32_t start;
+    uint32_t end;
+} yamlcanon_value;
+
+/* The rooms for values: so many values, parts, and bytes of texts. They do not overlap. */
+typedef struct yamlcanon_rooms {
+    yamlcanon_value *values;
+    size_t values_cap;
+    uint32_t *parts;
+    size_t parts_cap;
+    uint8_t *texts;
+    size_t texts_cap;
+} yamlcanon_rooms;
+
+/* How many values, parts and bytes of texts there are, and how many documents. */
+typedef struct yamlcanon_lengths {
+    size_t values;
+    size_t parts;
+    size_t texts;
+    size_t documents;
+} yamlcanon_lengths;
+
+/* Puts the values of the n bytes at input at the start of the rooms, and the lengths into *lengths. There is one value for each different
+ * node, and equal nodes are one value: what aliases repeat is there once. The parts of a value have lower numbers than the value. The
+ * documents are the values of the first numbers among the parts, as many as lengths->documents.
+ * DONE: the values are there; behind them the rooms are as they were, and so is *fault.
+ * SHORT: a room is too small; *lengths has the lengths, and the rooms and *fault are as they were.
+ * REFUSED: as yamlcanon_canonical; the rooms and *lengths are as they were. A stream whose canonical text would be too long (20) has
+ * values. */
+uint32_t yamlcanon_values(const uint8_t *input, size_t n, const yamlcanon_rooms *rooms, yamlcanon_lengths *lengths,
+                          yamlcanon_fault *fault);
+
 /* A room that is long enough for every message. */
 #define YAMLCANON_MESSAGE 128
 
@@ -165,6 +217,8 @@ uint32_t yamlcanon_same_within(const uint8_t *left, size_t left_n, const uint8_t
                                yamlcanon_fault *fault, size_t memory);
 uint32_t yamlcanon_sha256_within(const uint8_t *input, size_t n, uint8_t out[32], yamlcanon_fault *fault,
                                  size_t memory);
+uint32_t yamlcanon_values_within(const uint8_t *input, size_t n, const yamlcanon_rooms *rooms,
+                                 yamlcanon_lengths *lengths, yamlcanon_fault *fault, size_t memory);
 
 #ifdef __cplusplus
 }

@@ -6,6 +6,7 @@ r"""The canonical text of YAML 1.2 streams, and whether two streams mean the sam
     same(left, right) -> bool         whether two streams mean the same
     show(data) -> bytes               readable YAML that means the same
     to_json(data) -> bytes            the documents as JSON, a line each
+    load(data) -> list                the values of the documents; load_one(data) that of the only one
     events(data) -> bytes             the events, in the notation of yaml-test-suite; iter_events(data) one by one
     budget(memory)                    a memory limit for the calls inside a `with`
     library_version() -> int          the version of the library that is loaded, 101 for 1.1
@@ -30,7 +31,8 @@ import contextvars
 import ctypes
 import os
 from ctypes import byref, c_size_t
-from typing import Any, Iterator, Optional, Union
+from decimal import Decimal
+from typing import Any, Callable, Iterator, List, Optional, Union
 
 from yamlcanon.library import DONE, FORM, REFUSED, SHORT, Fault
 from yamlcanon.library import file as _library_file  # noqa: F401, for yamlcanon.table
@@ -38,12 +40,16 @@ from yamlcanon.library import lib as _lib
 from yamlcanon.nojson import NoJson, unwritten as _unwritten
 from yamlcanon.refused import Kind, Refused
 from yamlcanon.stack import elsewhere, thread as _thread
+from yamlcanon.values import Tagged, TooManyNodes, Unhashable, limit_for, records_of, values_in
 
 __all__ = [
     "FORM",
     "Kind",
     "NoJson",
     "Refused",
+    "Tagged",
+    "TooManyNodes",
+    "Unhashable",
     "__version__",
     "budget",
     "canonical",
@@ -52,6 +58,8 @@ __all__ = [
     "iter_events",
     "library_release",
     "library_version",
+    "load",
+    "load_one",
     "same",
     "sha256",
     "show",
@@ -276,6 +284,53 @@ def to_json(data: Data, *, memory: Optional[int] = None) -> bytes:
     yamlcanon.NoJson: JSON cannot express this stream
     """
     return _text(_lib.yamlcanon_json_within, data, memory)
+
+
+def load(data: Data, *, memory: Optional[int] = None, floats: Callable[[str], Any] = Decimal, limit: Optional[int] = None) -> List[Any]:
+    r"""The values of the documents of a stream: None, bool, int, Decimal, str, list, dict, and Tagged for every other tag.
+
+    They are made from what the library gives, with no reader of YAML in between: two streams have the same values if they mean the
+    same. The entries of a dict are in the order of the canonical text.
+
+    floats: what makes a value of the text of a float, as `float`; Decimal keeps all digits.
+    limit: how many nodes the values may have together. An alias stands for a value of its own, so a short input may have billions. If
+    no limit is given, it is 1,000,000 and two more for each byte of the input, which no input without aliases reaches. Past it
+    TooManyNodes is raised, before a value is made.
+
+    A key that cannot be hashed, as a list, raises Unhashable, and so does one that Python takes for another key of the mapping, as 1 for
+    True and for 1.0.
+
+    >>> load("{b: 0x1, a: [~, 1.50, yes]}\n--- !color red")
+    [{'a': [None, Decimal('1.5'), 'yes'], 'b': 1}, Tagged(tag='!color', value='red')]
+    >>> load("- &x [1]\n- *x", floats=float)
+    [[[1], [1]]]
+    >>> load("a: {? [b] : c}")
+    Traceback (most recent call last):
+    yamlcanon.Unhashable: document 0['a']: the key ['b'] cannot be one of a dict beside the others
+    >>> load("[[], []]", limit=2)
+    Traceback (most recent call last):
+    yamlcanon.TooManyNodes: the values have 3 nodes, and the limit is 2
+    """
+    own = _bytes(data)
+    records, fault = _here(len(own), records_of, own, _memory(memory))
+    if records is None:
+        raise _raised(fault, own)
+    return values_in(records, floats, limit_for(own) if limit is None else limit)
+
+
+def load_one(data: Data, *, memory: Optional[int] = None, floats: Callable[[str], Any] = Decimal, limit: Optional[int] = None) -> Any:
+    """The value of the only document of a stream; ValueError if there are none or several.
+
+    >>> load_one("port: 0x50")
+    {'port': 80}
+    >>> load_one("")
+    Traceback (most recent call last):
+    ValueError: yamlcanon: the stream has 0 documents, and not one
+    """
+    values = load(data, memory=memory, floats=floats, limit=limit)
+    if len(values) != 1:
+        raise ValueError(f"yamlcanon: the stream has {len(values)} documents, and not one")
+    return values[0]
 
 
 def library_version() -> int:

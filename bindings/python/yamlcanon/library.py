@@ -88,6 +88,8 @@ def _load() -> Tuple[ctypes.CDLL, str]:
     own.yamlcanon_same_within.argtypes = [c_void_p, c_size_t, c_void_p, c_size_t, POINTER(Fault), c_size_t]
     own.yamlcanon_sha256_within.restype = c_uint32
     own.yamlcanon_sha256_within.argtypes = [c_void_p, c_size_t, c_void_p, POINTER(Fault), c_size_t]
+    own.yamlcanon_values_within.restype = c_uint32
+    own.yamlcanon_values_within.argtypes = [c_void_p, c_size_t, c_void_p, c_void_p, POINTER(Fault), c_size_t]
     own.yamlcanon_message.restype = c_uint32
     own.yamlcanon_message.argtypes = [POINTER(Fault), c_void_p, c_size_t, POINTER(c_size_t)]
     own.yamlcanon_position.restype = c_uint32

@@ -17,6 +17,8 @@ use std::{error, fmt, thread};
 
 mod json;
 pub use json::JsonError;
+mod values;
+pub use values::{values, Value, ValueKind, Values};
 
 /// The form of the texts that [`canonical`] gives: yamlcanon-form-1. A library of another form has another name, and is not linked.
 pub const FORM: u32 = 1;

@@ -6,3 +6,4 @@ pub mod Messages
 pub mod Positions
 pub mod Digests
 pub mod Shown
+pub mod Values

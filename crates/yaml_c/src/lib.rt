@@ -14,6 +14,7 @@ mod position;
 mod room;
 mod show;
 mod status;
+mod values;
 
 pub use calls::{
     yaml_c_canonical, yaml_c_events, yaml_c_message, yaml_c_position, yaml_c_same, yaml_c_sha256,
@@ -21,3 +22,4 @@ pub use calls::{
 };
 pub use fault::YamlcanonFault;
 pub use show::{yaml_c_json, yaml_c_show};
+pub use values::{Lengths, yaml_c_values};

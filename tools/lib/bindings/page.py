@@ -77,7 +77,7 @@ def try_page(folder, room):
     with open(f"{TOP}/{PAGE}", encoding="utf-8") as file:
         found = EXAMPLE.findall(file.read())
     before = len(WRONG)
-    if sorted(kind for kind, _, _ in found) != sorted(RUNS):
+    if {kind for kind, _, _ in found} != set(RUNS):
         wrong(f"{PAGE}: an example in {', '.join(RUNS)} each is wanted, and there are {[kind for kind, _, _ in found]}")
     for kind, text, wanted in found:
         had = RUNS[kind](folder, f"{room}/{kind}", text)

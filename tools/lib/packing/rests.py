@@ -61,7 +61,8 @@ def compilers(machines):
     own = sorted(glob.glob(kit_folder() + "/toolchain/**/bin/clang", recursive=True))
     proved = first_line(own[0], "--version") if own else "not found"
     return ["the proved code: the kit's %s" % proved] + [
-        "library/heap.c, library/calls.c and the library's link for %s: %s" % (machine.name, first_line(machine.cc, "--version"))
+        "library/heap.c, library/calls.c, library/values.c and the library's link for %s: %s"
+        % (machine.name, first_line(machine.cc, "--version"))
         for machine in machines
     ]
 
