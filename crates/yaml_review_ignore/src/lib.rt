@@ -1,0 +1,7 @@
+//! Which differences are left out because of their paths.
+#![tactic(auto)]
+
+pub mod kept;
+mod steps;
+
+pub use kept::kept;
