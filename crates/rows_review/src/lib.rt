@@ -14,6 +14,8 @@ mod git;
 #[cfg(test)]
 mod hints;
 #[cfg(test)]
+mod ignored;
+#[cfg(test)]
 mod names;
 #[cfg(test)]
 mod places;

@@ -1,7 +1,7 @@
 //! Every table of runs over two files. A test is proved and paid for, a row is not, so one goes over all tables.
 use crate::runs::{ALL, Given, run};
 use crate::{
-    differences, empty_nodes, faults, git, places, rejected, shown, strings, tag_places, warnings,
+    differences, empty_nodes, faults, git, ignored, places, rejected, shown, strings, tag_places, warnings,
 };
 use std::process::Abort;
 use std::test::Fail;
@@ -32,8 +32,9 @@ fn is_told<T: Abort + AllocGlobal>(rt: &T, row: &Row) -> Result<(), Fail> {
 
 #[test]
 fn runs_over_two_files_are_told(rt: HostRuntime) -> Result<(), Fail> {
-    let tables: [&[Row]; 18] = [
+    let tables: [&[Row]; 19] = [
         &differences::ROWS,
+        &ignored::ROWS,
         &strings::ROWS,
         &empty_nodes::ROWS,
         &faults::SYNTAX,

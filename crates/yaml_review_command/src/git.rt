@@ -259,7 +259,7 @@ fn put_differences<S: Shelf>(
         put_rejections(alloc, out, first, second, Form::Line)?;
         return Ok(());
     };
-    match compare_sides(alloc, &lines_of(left_name, right_name), left, right) {
+    match compare_sides(alloc, &lines_of(left_name, right_name), &[], left, right) {
         Ok(told) => out.push_str(&told.text)?,
         Err(refused) => {
             put_not_compared(alloc, out, first, second, refused, Form::Line)?;

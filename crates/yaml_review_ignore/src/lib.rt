@@ -1,7 +1,7 @@
 //! Which differences are left out because of their paths.
 #![tactic(auto)]
 
-pub mod kept;
+pub mod keep;
 mod steps;
 
-pub use kept::kept;
+pub use keep::kept;
