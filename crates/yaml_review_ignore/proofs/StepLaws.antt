@@ -1,13 +1,20 @@
 -- The steps of paths as texts.
 use Rattle.std.proofs.Common.{◌≡◌, List, [], ◌∷◌, ◌++◌, ℕ, map, reverse, true, refl, sym, ◌∙◌, ap}
-use Rattle.std.proofs.lemmas.List.{append-nil, append_assoc, map-append}
+use Rattle.std.proofs.lemmas.List.{append-nil, append_assoc, map-append, reverse-append}
 use Rattle.yaml_nodes.specs.declared.graph.Graph.{Graph}
 use Rattle.yaml_diff.specs.Lines.{step_of, way_of}
 use Rattle.yaml_diff.specs.declared.difference.Step as code
 use Rattle.yaml_review_text.specs.Hidden.{visible}
 use Rattle.yaml_review_text.specs.PathText.{first_text, step_text, path_text}
-use Rattle.yaml_review_text.proofs.PathLaws.{way_split}
 use Rattle.yaml_review_ignore.specs.Ignored.{texts_of}
+
+map_reverse : {X Y : Type 0} (f : X → Y) (xs : List X) → map f (reverse xs) ≡ reverse (map f xs)
+map_reverse f [] = refl
+map_reverse f (x ∷ xs) = ap (map f) (reverse-append (x ∷ []) xs) ∙ map-append f (reverse xs) (x ∷ []) ∙ ap (λ z. z ++ (f x ∷ [])) (map_reverse f xs) ∙ sym (reverse-append (f x ∷ []) (map f xs))
+
+-- a path begins with its last step
+way_split : (g : Graph) (steps : List code.Step) (s : code.Step) → way_of g (steps ++ (s ∷ [])) ≡ step_of g s ∷ map (step_of g) (reverse steps)
+way_split g steps s = ap reverse (map-append (step_of g) steps (s ∷ [])) ∙ reverse-append (map (step_of g) steps) (step_of g s ∷ []) ∙ ap (λ z. step_of g s ∷ z) (sym (map_reverse (step_of g) steps))
 
 -- a path of one step
 pub one_step : (g : Graph) (s : code.Step) → path_text true (way_of g (s ∷ [])) ≡ first_text (step_of g s)
