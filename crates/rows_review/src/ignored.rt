@@ -1,7 +1,7 @@
-//! What `diff` leaves out because of its path.
+//! What `diff` leaves out because of its path, and the order of its words.
 use crate::rows::Row;
 
-pub static ROWS: [Row; 15] = [
+pub static ROWS: [Row; 16] = [
     Row {
         name: "a path and what is below it are left out",
         words: &["diff", "--no-places", "--ignore", ".b", "left", "right"],
@@ -40,7 +40,14 @@ pub static ROWS: [Row; 15] = [
     },
     Row {
         name: "a star stands for an item",
-        words: &["diff", "--no-places", "--ignore", ".l[*].n", "left", "right"],
+        words: &[
+            "diff",
+            "--no-places",
+            "--ignore",
+            ".l[*].n",
+            "left",
+            "right",
+        ],
         left: b"l:\n- {n: 1, m: 1}\n- {n: 2, m: 1}\n",
         right: b"l:\n- {n: 3, m: 2}\n- {n: 4, m: 1}\n",
         status: 1,
@@ -49,7 +56,14 @@ pub static ROWS: [Row; 15] = [
     },
     Row {
         name: "an item at two places",
-        words: &["diff", "--no-places", "--ignore", "[0:1].n", "left", "right"],
+        words: &[
+            "diff",
+            "--no-places",
+            "--ignore",
+            "[0:1].n",
+            "left",
+            "right",
+        ],
         left: b"- {n: 1, m: 1}\n- x\n",
         right: b"- y\n- {n: 2, m: 1}\n- x\n",
         status: 1,
@@ -68,8 +82,8 @@ pub static ROWS: [Row; 15] = [
             "left",
             "right",
         ],
-        left: b"a: {x/]y: 1, 1: 1, 2: 1}\n",
-        right: b"a: {x/]y: 2, 1: 2, 2: 2}\n",
+        left: b"a:\n  x/]y: 1\n  1: 1\n  2: 1\n",
+        right: b"a:\n  x/]y: 2\n  1: 2\n  2: 2\n",
         status: 1,
         out: "~\t.a[!!int \"2\"]\t!!int \"1\"\t!!int \"2\"\n",
         err: "",
@@ -144,7 +158,7 @@ pub static ROWS: [Row; 15] = [
         right: b"a: 2\n",
         status: 3,
         out: "",
-        err: "?",
+        err: "error: spec: --ignore takes a path as diff prints it, with `*` for any step: .spec.replicas, .metadata.annotations[\"a/b\"], .containers[*].image\n\nUsage: yamlreview <COMMAND>\n\nFor more information, try '--help'.\n",
     },
     Row {
         name: "a name in quotes",
@@ -153,6 +167,15 @@ pub static ROWS: [Row; 15] = [
         right: b"a: 2\n",
         status: 3,
         out: "",
-        err: "?",
+        err: "error: .a[\"b\"]: --ignore takes a path as diff prints it, with `*` for any step: .spec.replicas, .metadata.annotations[\"a/b\"], .containers[*].image\n\nUsage: yamlreview <COMMAND>\n\nFor more information, try '--help'.\n",
+    },
+    Row {
+        name: "the command behind two paths, as kubectl passes it",
+        words: &["/left", "/right", "diff", "--no-places"],
+        left: b"",
+        right: b"",
+        status: 3,
+        out: "",
+        err: "yamlreview: /left: cannot open: not found\nyamlreview: /right: cannot open: not found\n",
     },
 ];

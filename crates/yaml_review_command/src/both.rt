@@ -113,7 +113,13 @@ pub(crate) fn compare_sides(
 {
     let (forests, trace) = forests_of(alloc, left, right, asked.places)?;
     let both = merged(alloc, &forests)?;
-    match compare(alloc, &both, asked, ignored, traced_both(left, right, &trace)) {
+    match compare(
+        alloc,
+        &both,
+        asked,
+        ignored,
+        traced_both(left, right, &trace),
+    ) {
         Ok(told) => Ok(told),
         Err(fault) => Err((Side::Left, fault)),
     }
