@@ -1,5 +1,5 @@
 -- What is told of two streams as text.
-use Rattle.std.specs.Prelude.{◌≡◌, ◌⊎◌, ◌==◌, ◌&&◌, ℕ, zero, suc, Bool, false, not, cond, nat_le, nat_lt, take, drop, length, List, [], ◌∷◌, ◌++◌, Option, Some, None, codes, string_bytes}
+use Rattle.std.specs.Prelude.{◌≡◌, ◌⊎◌, ◌==◌, ◌&&◌, ◌||◌, ℕ, zero, suc, Bool, false, not, cond, nat_le, nat_lt, take, drop, length, List, [], ◌∷◌, ◌++◌, Option, Some, None, codes, string_bytes}
 use Rattle.yaml_definitions.specs.model.Tree.{scalar}
 use Rattle.yaml_scalar.specs.Spelling.{quoted_bytes}
 use Rattle.yaml_nodes.specs.GraphView.{roots_of, tree}
@@ -34,8 +34,7 @@ room_for (suc lines) = suc lines
 
 -- The same, and at least a million where some are left out.
 abbrev pub search_room : List Pattern → ℕ → ℕ
-search_room [] room = room
-search_room (p ∷ ps) room = cond (nat_lt 1000000 room) room 1000000
+search_room ps room = cond ((length ps == 0) || nat_lt 1000000 room) room 1000000
 
 -- paths tell the number of the document, unless each side has one document
 abbrev pub is_numbered : Both → Bool
