@@ -26,12 +26,12 @@ fn add(list: &mut Vec<String>, words: &[String]) -> Result<(), AllocError> {
 /// KUBECTL_EXTERNAL_DIFF at its spaces and passes all but the first of these words behind the paths of two folders.
 pub fn in_order(alloc: Global, words: &[String]) -> Result<Vec<String>, AllocError> {
     let mut list = Vec::new(alloc);
-    if are_kubectls(words) {
-        let (folders, rest) = words.split_at(2);
-        add(&mut list, rest)?;
-        add(&mut list, folders)?;
-    } else {
-        add(&mut list, words)?;
+    match words.split_at_checked(2) {
+        Some((folders, rest)) if are_kubectls(words) => {
+            add(&mut list, rest)?;
+            add(&mut list, folders)?;
+        }
+        _ => add(&mut list, words)?,
     }
     Ok(list)
 }
