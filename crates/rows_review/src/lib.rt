@@ -16,6 +16,8 @@ mod git_shown;
 #[cfg(test)]
 mod hints;
 #[cfg(test)]
+mod ignored;
+#[cfg(test)]
 mod names;
 #[cfg(test)]
 mod places;

@@ -1,5 +1,5 @@
 //! Two streams in one graph, ranked.
-ghost use Rattle.std.specs.Prelude.{ℕ, List, IfOk, IfErr, IfSome, IfNone, string_bytes};
+ghost use Rattle.std.specs.Prelude.{◌≡◌, ℕ, List, [], IfOk, IfErr, IfSome, IfNone, string_bytes};
 ghost use Rattle.yaml_canon.specs.Both.{HasBoth};
 ghost use Rattle.yaml_definitions.specs.model.Tree.{Tree};
 ghost use Rattle.yaml_definitions.specs.model.Proper.{Admitted};
@@ -16,6 +16,7 @@ use yaml_canon::both::{BothForests, forest_of_both, forest_of_both_with};
 use yaml_canon::{Side, canonical_into};
 use yaml_rank::rank;
 use yaml_review_lines::{Compared, compare};
+use yaml_review_patterns::Pattern;
 use yaml_review_places::trace::{Trace, Traced};
 use yaml_review_text::Both;
 use yaml_review_words::Diff;
@@ -98,19 +99,27 @@ fn traced_both<'t>(
     ))
 }
 
-/// The lines of the differences of two streams, and whether they are the same. A fault names the side.
+/// The lines of the differences of two streams, but for those that are at or below a path that one of the patterns matches, and whether
+/// there are none: without patterns this is so if the streams are the same. A fault names the side.
 pub(crate) fn compare_sides(
     alloc: Global,
     asked: &Diff<'_>,
+    ignored: &[Pattern<'_>],
     left: &[u8],
     right: &[u8],
 ) -> Result<Compared, (Side, Fault)>
-    ensures same { IfOk result (λ told. Compares left.now right.now told.same) }
-    ensures lines { IfOk result (λ told. DiffLines left.now right.now asked.now (string_bytes told.text)) }
+    ensures same { IfOk result (λ told. ignored.now ≡ [] → Compares left.now right.now told.same) }
+    ensures lines { IfOk result (λ told. DiffLines left.now right.now asked.now ignored.now told.same (string_bytes told.text)) }
 {
     let (forests, trace) = forests_of(alloc, left, right, asked.places)?;
     let both = merged(alloc, &forests)?;
-    match compare(alloc, &both, asked, traced_both(left, right, &trace)) {
+    match compare(
+        alloc,
+        &both,
+        asked,
+        ignored,
+        traced_both(left, right, &trace),
+    ) {
         Ok(told) => Ok(told),
         Err(fault) => Err((Side::Left, fault)),
     }

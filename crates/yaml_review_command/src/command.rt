@@ -18,7 +18,7 @@ use yaml_command::shelf::Shelf;
 use yaml_command::streams::write_out;
 use yaml_review_lines::{put_fault, put_warnings};
 use yaml_review_text::put_shown;
-use yaml_review_words::{Asked, Report, Sum, read_words};
+use yaml_review_words::{Asked, Report, Sum, in_order, read_words};
 use yaml_sum::asked::Asked as SumAsked;
 use yaml_sum::reason::Reason;
 use yaml_sum::regular::Regular;
@@ -151,11 +151,12 @@ fn run<S: Shelf, R: Read + Drop, W: Write + Drop, E: Write + Drop>(
     mut err: E,
 ) -> u8 {
     match asked {
-        Asked::Diff(asked) => {
+        Asked::Diff(asked, ignored) => {
             let answer = diff(
                 shelf,
                 alloc,
                 &asked,
+                &ignored,
                 &mut input,
                 &mut Counted::new(&mut out),
             );
@@ -252,7 +253,11 @@ pub fn command_over<S: Shelf, R: Read + Drop, W: Write + Drop, E: Write + Drop>(
     mut out: W,
     mut err: E,
 ) -> u8 {
-    match read_words(alloc, words, false) {
+    let words = match in_order(alloc, words) {
+        Ok(words) => words,
+        Err(_) => return tell_bare(Fault::OutOfMemory, &mut err),
+    };
+    match read_words(alloc, &words, false) {
         Ok(asked) => run(shelf, alloc, asked, input, out, err),
         Err(error) => told(alloc, error, &mut out, &mut err),
     }
@@ -274,17 +279,22 @@ pub fn command<
     mut err: E,
     is_terminal: bool,
 ) -> u8 {
-    match read_words(alloc, words, is_terminal) {
+    let words = match in_order(alloc, words) {
+        Ok(words) => words,
+        Err(_) => return tell_bare(Fault::OutOfMemory, &mut err),
+    };
+    match read_words(alloc, &words, is_terminal) {
         Ok(Asked::Sum(asked)) => {
             let asked = sum_asked(&asked);
             let shelf = Regular::new(rt, asked.list());
             sum(&shelf, alloc, asked, input, out, err)
         }
-        Ok(Asked::Diff(asked)) => {
+        Ok(Asked::Diff(asked, ignored)) => {
             if are_folders(rt, &asked) {
-                return folders(rt, alloc, &asked, &mut out, &mut err);
+                return folders(rt, alloc, &asked, &ignored, &mut out, &mut err);
             }
-            run(&Host::new(rt), alloc, Asked::Diff(asked), input, out, err)
+            let asked = Asked::Diff(asked, ignored);
+            run(&Host::new(rt), alloc, asked, input, out, err)
         }
         Ok(asked) => run(&Host::new(rt), alloc, asked, input, out, err),
         Err(error) => told(alloc, error, &mut out, &mut err),

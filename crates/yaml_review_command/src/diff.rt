@@ -12,6 +12,7 @@ use std::io::{Read, Write};
 use yaml_canon::Side;
 use yaml_command::shelf::Shelf;
 use yaml_command::streams::write_out;
+use yaml_review_patterns::Pattern;
 use yaml_review_words::Diff;
 use yaml_text::counted::Counted;
 use yaml_text::fault::Fault;
@@ -74,23 +75,25 @@ fn not_compared(
     Ok(NoDiff::Rejected(text, status))
 }
 
-/// Writes a line for each difference of two streams, and answers 0 where they are the same and 1 where they differ: each is accepted,
-/// and they have equally many documents, pairwise the same, exactly if it is 0.
+/// Writes a line for each difference of two streams that is not at or below a path that one of the patterns matches, and answers 0 where
+/// there is none, and 1 where there is one. Without patterns it answers 0 exactly if each stream is accepted, and they have equally many
+/// documents, pairwise the same.
 pub fn diff<S: Shelf, R: Read, W: Write>(
     shelf: &S,
     alloc: Global,
     asked: &Diff<'_>,
+    ignored: &[Pattern<'_>],
     input: &mut R,
     out: &mut Counted<W>,
 ) -> Result<u8, NoDiff>
     requires { faults_of out.old < 2 ^ 64 - 1 }
-    ensures tells { IfOk result (DiffTells (S.holds shelf.now) (R.remaining input.old) W.contents asked.now out.old out.new) }
+    ensures tells { IfOk result (DiffTells (S.holds shelf.now) (R.remaining input.old) W.contents asked.now ignored.now out.old out.new) }
 {
     let (left, right) = match read_both(shelf, alloc, asked.left, asked.right, input) {
         Ok(both) => both,
         Err(none) => return Err(not_read(alloc, asked, none)?),
     };
-    let told = match compare_sides(alloc, asked, &left, &right) {
+    let told = match compare_sides(alloc, asked, ignored, &left, &right) {
         Ok(told) => told,
         Err(refused) => return Err(not_compared(alloc, asked, left, right, refused)?),
     };

@@ -11,6 +11,7 @@ use std::io::Write;
 use std::rt::Files;
 use std::{fs, io};
 use yaml_command::streams::write_out;
+use yaml_review_patterns::Pattern;
 use yaml_review_text::json::{Said, put_object};
 use yaml_review_text::put_shown;
 use yaml_review_words::{Diff, Form};
@@ -216,7 +217,13 @@ fn one_told<T: Files>(
 }
 
 /// What is printed of a file that both folders have.
-fn both_told<T: Files>(rt: &T, alloc: Global, asked: &Diff<'_>, name: &str) -> Result<Told, Fault> {
+fn both_told<T: Files>(
+    rt: &T,
+    alloc: Global,
+    asked: &Diff<'_>,
+    ignored: &[Pattern<'_>],
+    name: &str,
+) -> Result<Told, Fault> {
     let mut told = Told::new(alloc);
     let host = Host::new(rt);
     let left_path = path_in(alloc, asked.left, name)?;
@@ -246,7 +253,7 @@ fn both_told<T: Files>(rt: &T, alloc: Global, asked: &Diff<'_>, name: &str) -> R
         color: asked.color,
         stat: asked.stat,
     };
-    match compare_sides(alloc, &of_name, one, other) {
+    match compare_sides(alloc, &of_name, ignored, one, other) {
         Ok(compared) => {
             if !compared.same {
                 told.status = DIFFERENT;
@@ -293,12 +300,13 @@ fn told_of<T: Files>(
     rt: &T,
     alloc: Global,
     asked: &Diff<'_>,
+    ignored: &[Pattern<'_>],
     name: &str,
     order: Ordering,
 ) -> Result<Told, Fault> {
     match order {
         Ordering::Less => one_told(rt, alloc, asked, name, false),
-        Ordering::Equal => both_told(rt, alloc, asked, name),
+        Ordering::Equal => both_told(rt, alloc, asked, ignored, name),
         Ordering::Greater => one_told(rt, alloc, asked, name, true),
     }
 }
@@ -318,11 +326,13 @@ fn put_told<W: Write, E: Write>(told: &Told, out: &mut W, err: &mut E) -> Result
     Ok(told.status)
 }
 
-/// Prints what differs in the files of two folders, and answers the greatest status of all files.
+/// Prints what differs in the files of two folders, but for what is at or below a path that one of the patterns matches, and answers the
+/// greatest status of all files.
 pub(crate) fn folders<T: Files + AllocGlobal + Clone + Drop, W: Write, E: Write>(
     rt: &T,
     alloc: Global,
     asked: &Diff<'_>,
+    ignored: &[Pattern<'_>],
     out: &mut W,
     err: &mut E,
 ) -> u8 {
@@ -341,7 +351,7 @@ pub(crate) fn folders<T: Files + AllocGlobal + Clone + Drop, W: Write, E: Write>
         let Some((name, order)) = next_of(left, right) else {
             break;
         };
-        let answer = match told_of(rt, alloc, asked, name, order) {
+        let answer = match told_of(rt, alloc, asked, ignored, name, order) {
             Ok(told) => put_told(&told, out, err),
             Err(fault) => Err(fault),
         };

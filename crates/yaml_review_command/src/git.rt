@@ -280,7 +280,7 @@ fn put_differences<S: Shelf>(
         let left = (left_name, left.as_slice());
         return put_shown_lines(alloc, out, left, (right_name, right.as_slice()));
     }
-    match compare_sides(alloc, &lines_of(left_name, right_name), left, right) {
+    match compare_sides(alloc, &lines_of(left_name, right_name), &[], left, right) {
         Ok(told) => out.push_str(&told.text)?,
         Err(refused) => {
             put_not_compared(alloc, out, first, second, refused, Form::Line)?;

@@ -9,6 +9,9 @@ use Rattle.yaml_review_lines.specs.Lines.{line_text, lines_text, more_text}
 use Rattle.yaml_review_lines.specs.declared.lines.Line.{Line}
 use Rattle.yaml_diff.specs.declared.difference.Found.{Found}
 use Rattle.std.proofs.lemmas.List.{take_more, take_all}
+use Rattle.yaml_nodes.specs.declared.graph.Graph.{Graph}
+use Rattle.yaml_review_patterns.specs.declared.pattern.Pattern.{Pattern}
+use Rattle.yaml_review_ignore.specs.Ignored.{Keeps}
 use Rattle.yaml_review_lines.specs.Compared.{TellsOne, TellsEach, TellsMoves, TellsFound, TellsAsked}
 
 -- one difference and its line more
@@ -69,3 +72,10 @@ asked_none n both asked f text e h = subst (λ z. TellsAsked z both asked f text
 pub asked_some : (n : ℕ) (both : Both) (asked : Diff) (f : Found) (text : List ℕ) → (n ≡ 0 → ⊥) → TellsFound both asked f text → TellsAsked n both asked f text
 asked_some zero both asked f text l h = absurd (l refl)
 asked_some (suc n) both asked f text l h = h
+
+-- ---- differences that are left out
+
+-- without patterns none is
+pub keeps-all : (g : Graph) (ps : List Pattern) (room : ℕ) (found kept : Found) → ps ≡ [] → Keeps g ps room found kept → kept ≡ found
+keeps-all g [] room found kept e h = h
+keeps-all g (p ∷ ps) room found kept e h = absurd (cc)

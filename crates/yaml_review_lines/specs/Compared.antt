@@ -1,5 +1,5 @@
 -- What is told of two streams as text.
-use Rattle.std.specs.Prelude.{◌≡◌, ◌⊎◌, ◌==◌, ◌&&◌, ℕ, zero, suc, Bool, false, not, cond, nat_le, take, drop, map, length, List, [], ◌∷◌, ◌++◌, Option, Some, None, codes, string_bytes}
+use Rattle.std.specs.Prelude.{◌≡◌, ◌⊎◌, ◌==◌, ◌&&◌, ◌||◌, ℕ, zero, suc, Bool, false, not, cond, nat_le, nat_lt, take, drop, map, length, List, [], ◌∷◌, ◌++◌, Option, Some, None, codes, string_bytes}
 use Rattle.yaml_definitions.specs.model.Tree.{scalar}
 use Rattle.yaml_scalar.specs.Spelling.{quoted_bytes}
 use Rattle.yaml_nodes.specs.GraphView.{roots_of, tree}
@@ -14,6 +14,8 @@ use Rattle.yaml_script.specs.Script.{IsScript}
 use Rattle.yaml_script.specs.Printed.{script_text}
 use Rattle.yaml_script.specs.declared.script.Edit.{Edit}
 use Rattle.yaml_review_words.specs.declared.words.Diff.{Diff}
+use Rattle.yaml_review_patterns.specs.declared.pattern.Pattern.{Pattern}
+use Rattle.yaml_review_ignore.specs.Ignored.{Keeps}
 use Rattle.yaml_review_text.specs.Shown.{front, shown}
 use Rattle.yaml_review_text.specs.NodeText.{text_of}
 use Rattle.yaml_review_text.specs.PathText.{path_text}
@@ -30,6 +32,10 @@ room_of whole = cond whole 65536 60
 abbrev pub room_for : ℕ → ℕ
 room_for zero = 1
 room_for (suc lines) = suc lines
+
+-- The same, and at least a million where some are left out.
+abbrev pub search_room : List Pattern → ℕ → ℕ
+search_room ps room = cond ((length ps == 0) || nat_lt 1000000 room) room 1000000
 
 -- paths tell the number of the document, unless each side has one document
 abbrev pub is_numbered : Both → Bool
@@ -131,8 +137,11 @@ abbrev pub TellsAsked : ℕ → Both → Diff → Found → List ℕ → Type 0
 TellsAsked zero both asked f text = text ≡ []
 TellsAsked (suc lines) both asked f text = TellsFound both asked f text
 
--- The text is the lines of the differences of two streams, of as many as were asked for. Of the numbers of differences, in place of lines, nothing is said.
-pub record TellsStreams (both : Both) (asked : Diff) (text : List ℕ) : Type 0 where
+-- The text is the lines of the differences of two streams, of as many as were asked for, but for those that are at or below a path that one of the patterns matches; and whether there are none. Of the numbers of differences, in place of lines, nothing is said.
+pub record TellsStreams (both : Both) (asked : Diff) (ignored : List Pattern) (none : Bool) (text : List ℕ) : Type 0 where
   pub found : Found
-  pub finds : FindsItems both.graph (take both.documents (roots_of both.graph)) (drop both.documents (roots_of both.graph)) (room_for asked.lines) found
-  pub tells : asked.stat ≡ false → TellsAsked asked.lines both asked found text
+  pub finds : FindsItems both.graph (take both.documents (roots_of both.graph)) (drop both.documents (roots_of both.graph)) (search_room ignored (room_for asked.lines)) found
+  pub kept : Found
+  pub keeps : Keeps both.graph ignored (room_for asked.lines) found kept
+  pub is_none : none ≡ ((kept.whole && (length kept.list.items == 0)) && (length kept.moves.items == 0))
+  pub tells : asked.stat ≡ false → TellsAsked asked.lines both asked kept text

@@ -1,11 +1,11 @@
 //! Where two streams differ, as lines.
-ghost use Rattle.std.specs.Prelude.{◌≡◌, ◌↔◌, ◌<◌, ◌≤◌, ◌&&◌, ◌==◌, ◌++◌, true, false, not, length, map, take, drop, string_bytes, OnOk, IfOk, IfErr};
+ghost use Rattle.std.specs.Prelude.{◌≡◌, ◌↔◌, ◌<◌, ◌≤◌, ◌&&◌, ◌==◌, ◌++◌, true, false, not, length, map, take, drop, [], string_bytes, OnOk, IfOk, IfErr};
 ghost use Rattle.yaml_definitions.specs.model.Same.{Alike};
 ghost use Rattle.yaml_nodes.specs.GraphView.{roots_of, tree};
 ghost use Rattle.yaml_levels.specs.RanksView.{RanksAre};
 ghost use Rattle.yaml_diff.specs.Found.{FindsItems};
 ghost use Rattle.yaml_review_lines.specs.Lines.{lines_text};
-ghost use Rattle.yaml_review_lines.specs.Compared.{room_of, room_for, is_numbered, ShowsNode, ShowsBoth, TellsOne, TellsEach, TellsMoves, TellsFound, TellsAsked, TellsStreams};
+ghost use Rattle.yaml_review_lines.specs.Compared.{room_of, room_for, search_room, is_numbered, ShowsNode, ShowsBoth, TellsOne, TellsEach, TellsMoves, TellsFound, TellsAsked, TellsStreams};
 
 use crate::lines::{Line, put_more};
 use crate::stat::stat_text;
@@ -14,6 +14,8 @@ use std::alloc::Global;
 use yaml_diff::{Difference, Found, as_differences, stream_differences};
 use yaml_nodes::node::NodeId;
 use yaml_place::Place;
+use yaml_review_ignore::kept;
+use yaml_review_patterns::Pattern;
 use yaml_review_places::finder::{Finder, Hand, Stream};
 use yaml_review_places::layout::lay_out_from;
 use yaml_review_places::places::{places, unmarked};
@@ -360,6 +362,21 @@ fn told_text(
     asked_text(alloc, both, asked, sides, found)
 }
 
+/// How many differences are looked at where some are left out, at least.
+const SEARCHED: usize = 1_000_000;
+
+/// Room for so many lines or, where some differences are left out, for as many as are looked at.
+fn search_room(ignored: &[Pattern<'_>], room: usize) -> usize
+    ensures some { 0 < room → 0 < result }
+    ensures asked { result ≡ search_room ignored.now room }
+{
+    if ignored.is_empty() || SEARCHED < room {
+        room
+    } else {
+        SEARCHED
+    }
+}
+
 /// Whether all differences and moves are listed, and there is none.
 fn lists_none(found: &Found) -> bool
     ensures { result ≡ ((found.now.whole && (length found.now.list.items == 0)) && (length found.now.moves.items == 0)) }
@@ -375,27 +392,31 @@ fn room_for(lines: usize) -> usize
     if lines == 0 { 1 } else { lines }
 }
 
-/// What a comparison tells.
+/// What a comparison tells: its lines, and whether no difference is told.
 #[derive(Drop)]
 pub struct Compared {
     pub text: String,
     pub same: bool,
 }
 
-/// The lines of the differences of two streams, whose graph this is, and whether they have equally many documents, pairwise the same.
+/// The lines of the differences of two streams, whose graph this is, but for those that are at or below a path that one of the patterns
+/// matches, and whether there are none. Without patterns this is so if the streams have equally many documents, pairwise the same.
 /// Places are told where both sides are given with their traces.
 pub fn compare(
     alloc: Global,
     both: &Both<'_>,
     asked: &Diff<'_>,
+    ignored: &[Pattern<'_>],
     sides: Option<(Traced<'_>, Traced<'_>)>,
 ) -> Result<Compared, Fault>
     requires ranked { RanksAre both.now.graph both.now.ranks }
-    ensures text { IfOk result (λ told. TellsStreams both.now asked.now (string_bytes told.text)) }
-    ensures same { IfOk result (λ told. (told.same ≡ true) ↔ Alike (map (λ i. tree both.now.graph i.0) (take both.now.documents (roots_of both.now.graph))) (map (λ i. tree both.now.graph i.0) (drop both.now.documents (roots_of both.now.graph)))) }
+    ensures text { IfOk result (λ told. TellsStreams both.now asked.now ignored.now told.same (string_bytes told.text)) }
+    ensures same { IfOk result (λ told. ignored.now ≡ [] → ((told.same ≡ true) ↔ Alike (map (λ i. tree both.now.graph i.0) (take both.now.documents (roots_of both.now.graph))) (map (λ i. tree both.now.graph i.0) (drop both.now.documents (roots_of both.now.graph))))) }
 {
-    let found = list_of(alloc, both, room_for(asked.lines))?;
-    let same = lists_none(&found);
-    let text = told_text(alloc, both, asked, sides, &found)?;
+    let room = room_for(asked.lines);
+    let found = list_of(alloc, both, search_room(ignored, room))?;
+    let kept = kept(alloc, both, ignored, found, room)?;
+    let same = lists_none(&kept);
+    let text = told_text(alloc, both, asked, sides, &kept)?;
     Ok(Compared { text, same })
 }

@@ -5,6 +5,7 @@ use clap::builder::ValueParser;
 use clap::error::ErrorKind;
 use clap::{Arg, ArgAction, ArgMatches, Command, Error};
 use std::alloc::{AllocError, Global};
+use yaml_review_patterns::{Pattern, read_pattern};
 
 /// How many lines are told where no number is given.
 pub const LINES: usize = 1_000;
@@ -84,7 +85,8 @@ pub struct Sum<'a> {
 /// A command.
 #[derive(Drop)]
 pub enum Asked<'a> {
-    Diff(Diff<'a>),
+    /// With the paths whose differences are left out.
+    Diff(Diff<'a>, Vec<Pattern<'a>>),
     Faults(Report<'a>),
     /// With the greatest number of lines a file.
     Warn(Report<'a>, usize),
@@ -109,6 +111,8 @@ enum Takes {
     Around(char),
     /// When lines are in colour.
     Color,
+    /// Patterns of paths.
+    Paths,
     /// A number of lines.
     Lines,
     /// One of two words, of which the first one is taken if none is given.
@@ -130,7 +134,7 @@ struct Row {
     help: &'static str,
 }
 
-const DIFF: [Row; 10] = [
+const DIFF: [Row; 11] = [
     Row {
         id: "A",
         takes: Takes::File,
@@ -175,6 +179,11 @@ const DIFF: [Row; 10] = [
         id: "color",
         takes: Takes::Color,
         help: "Print lines in colour; `auto` does so on a terminal",
+    },
+    Row {
+        id: "ignore",
+        takes: Takes::Paths,
+        help: "Leave out what is at or below PATH: steps as they are printed, `*` for any step; repeatable",
     },
     FORM,
 ];
@@ -274,6 +283,11 @@ fn arg_of<'a>(alloc: Global, row: &Row) -> Result<Arg<'a>, AllocError> {
                 .value_parser(COLORS.as_slice())
                 .default_value("auto"),
         ),
+        Takes::Paths => Ok(
+            arg.long(row.id)
+                .value_name("PATH")
+                .action(ArgAction::Append),
+        ),
         Takes::OneOf(name, words) => Ok(
             arg.long(row.id)
                 .value_name(name)
@@ -305,7 +319,7 @@ struct Entry {
 }
 
 const DIFF_STATUSES: &str = "Exit status:
-  0  the streams are the same
+  0  the streams are the same, or differ only at or below paths that are ignored
   1  they differ
   2  a file is rejected
   3  the words, a file or a stream cannot be used";
@@ -503,13 +517,32 @@ fn show_of<'a>(alloc: Global, matches: &ArgMatches<'a>) -> Result<Show<'a>, Allo
     })
 }
 
+/// What is wrong with a pattern.
+const NO_PATTERN: &str =
+    "--ignore takes a path as diff prints it, with `*` for any step: .spec.replicas, .metadata.annotations[\"a/b\"], .containers[*].image";
+
+/// The patterns of the paths whose differences are left out.
+fn ignored_of<'a>(alloc: Global, matches: &ArgMatches<'a>) -> Result<Vec<Pattern<'a>>, Error> {
+    let mut list = Vec::new(alloc);
+    for text in names(alloc, matches, "ignore")? {
+        match read_pattern(alloc, text)? {
+            Some(pattern) => list.push(pattern)?,
+            None => {
+                let message = format!(in alloc; "{text}: {NO_PATTERN}")?;
+                return Err(grammar(alloc)?.error(ErrorKind::ValueValidation, message.as_str())?);
+            }
+        }
+    }
+    Ok(list)
+}
+
 /// What the words of this command ask for.
 fn asked_of<'a>(
     alloc: Global,
     name: &str,
     inner: &ArgMatches<'a>,
     is_terminal: bool,
-) -> Result<Asked<'a>, AllocError> {
+) -> Result<Asked<'a>, Error> {
     match name {
         "faults" => Ok(Asked::Faults(report_of(alloc, inner)?)),
         "warn" => Ok(Asked::Warn(report_of(alloc, inner)?, lines_of(inner))),
@@ -520,7 +553,10 @@ fn asked_of<'a>(
             check: inner.get_str("check"),
         })),
         "git" => Ok(Asked::Git(names(alloc, inner, "WORD")?)),
-        _ => Ok(Asked::Diff(diff_of(inner, is_terminal))),
+        _ => {
+            let ignored = ignored_of(alloc, inner)?;
+            Ok(Asked::Diff(diff_of(inner, is_terminal), ignored))
+        }
     }
 }
 
@@ -533,7 +569,7 @@ pub fn read_words<'a>(
 ) -> Result<Asked<'a>, Error> {
     let matches = grammar(alloc)?.try_get_matches_from(words)?;
     match matches.subcommand() {
-        Some((name, inner)) => Ok(asked_of(alloc, name, inner, is_terminal)?),
+        Some((name, inner)) => asked_of(alloc, name, inner, is_terminal),
         None => Err(grammar(alloc)?.error(ErrorKind::MissingSubcommand, "no command is given")?),
     }
 }

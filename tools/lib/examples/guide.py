@@ -1,4 +1,4 @@
-"""The sections of docs/using/GUIDE.md: each block is taken in turn, in a repository that is made for the section (room.py).
+"""The sections of docs/using/GUIDE.md and docs/using/REVIEWS.md: each block is taken in turn, in a repository that is made for the section (room.py).
 
 The page says at its head what a section's repository has.
 
@@ -77,12 +77,12 @@ def try_matcher(page, checked):
 
 def check(checked, word):
     """Runs the sections whose title has a word, and the problem matcher if there is no word."""
-    page = read(f"{TOP}/{PAGE}")
+    page = read(f"{TOP}/{checked.page}")
     sections = re.split(r"(?m)^(?=## )", page)
     for at, section in enumerate(sections):
         title = section.split("\n", 1)[0]
         if title.startswith("## ") and (word or "") in title and BLOCK.search(section):
             sections[at] = try_section(section, title[3:], checked)
-    if not word:
+    if checked.page == PAGE and not word:
         try_matcher(page, checked)
     checked.text = "".join(sections)

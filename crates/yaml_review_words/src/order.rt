@@ -1,0 +1,37 @@
+//! Words in the order in which kubectl passes them.
+use std::alloc::{AllocError, Global};
+
+/// The command that kubectl calls.
+const NAME: &str = "diff";
+
+/// Whether kubectl passes these words: the paths of two folders, and behind them the command and its options.
+fn are_kubectls(words: &[String]) -> bool {
+    match (words.first(), words.get(1), words.get(2)) {
+        (Some(left), Some(right), Some(name)) => {
+            left.starts_with('/') && right.starts_with('/') && name.as_str() == NAME
+        }
+        _ => false,
+    }
+}
+
+/// Copies words behind others.
+fn add(list: &mut Vec<String>, words: &[String]) -> Result<(), AllocError> {
+    for word in words {
+        list.push(word.clone()?)?;
+    }
+    Ok(())
+}
+
+/// The words in the order of all commands: the command, its options, and what it is for. `kubectl diff` splits the value of
+/// KUBECTL_EXTERNAL_DIFF at its spaces and passes all but the first of these words behind the paths of two folders.
+pub fn in_order(alloc: Global, words: &[String]) -> Result<Vec<String>, AllocError> {
+    let mut list = Vec::new(alloc);
+    match words.split_at_checked(2) {
+        Some((folders, rest)) if are_kubectls(words) => {
+            add(&mut list, rest)?;
+            add(&mut list, folders)?;
+        }
+        _ => add(&mut list, words)?,
+    }
+    Ok(list)
+}
