@@ -10,6 +10,7 @@ mod folders;
 mod git;
 mod host;
 mod rejected;
+pub mod reports;
 mod show;
 pub mod telling;
 pub mod unread;
