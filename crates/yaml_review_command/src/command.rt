@@ -1,4 +1,6 @@
 //! The commands.
+ghost use Rattle.yaml_review_command.specs.Runs.{AsksSum, SumRuns, Does};
+
 use crate::both::fault_of;
 use crate::diff::{NoDiff, diff};
 use crate::folders::{are_folders, folders};
@@ -69,7 +71,9 @@ fn run<S: Shelf, R: Read + Drop, W: Write + Drop, E: Write + Drop>(
     mut input: R,
     mut out: W,
     mut err: E,
-) -> u8 {
+) -> u8
+    ensures { Does (S.holds shelf.now) R.remaining W.contents E.contents asked.entry input out err result }
+{
     match asked {
         Asked::Diff(asked) => {
             let answer = diff(
@@ -112,7 +116,9 @@ fn run<S: Shelf, R: Read + Drop, W: Write + Drop, E: Write + Drop>(
 }
 
 /// What is asked of sums.
-fn sum_asked<'b, 'a: 'b>(asked: &'b Sum<'a>) -> SumAsked<'b> {
+fn sum_asked<'b, 'a: 'b>(asked: &'b Sum<'a>) -> SumAsked<'b>
+    ensures { AsksSum asked.now result }
+{
     match (asked.check, asked.files_from) {
         (Some(list), _) => SumAsked::Check(list),
         (None, Some(list)) => SumAsked::FilesFrom(list),
@@ -128,7 +134,9 @@ fn sum<S: Shelf, R: Read + Drop, W: Write + Drop, E: Write + Drop>(
     input: R,
     out: W,
     mut err: E,
-) -> u8 {
+) -> u8
+    ensures { SumRuns (S.holds shelf.now) R.remaining W.contents E.contents asked.entry input out err result }
+{
     match asked.list() {
         Some(list) if list.contains('\0') => {
             let unread = Unread::CannotOpen(Reason::NotUtf8);
