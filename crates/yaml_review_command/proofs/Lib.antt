@@ -1,1 +1,2 @@
+mod ReportLaws
 mod SideLaws

@@ -1,10 +1,12 @@
 //! The commands.
+ghost use Rattle.yaml_review_command.specs.Runs.{AsksSum, SumRuns, Does};
+
 use crate::both::fault_of;
 use crate::diff::{NoDiff, diff};
-use crate::files::read_named;
 use crate::folders::{are_folders, folders};
 use crate::git::{git_asked, git_text, put_page};
 use crate::host::Host;
+use crate::reports::{Kind, reports};
 use crate::show::show_files;
 use crate::telling::{
     GIT_WORDS, ONE_INPUT, UNUSABLE, put_line, tell_bare, tell_unread, tell_usage,
@@ -16,9 +18,8 @@ use std::io::{Read, Write};
 use std::rt::Files;
 use yaml_command::shelf::Shelf;
 use yaml_command::streams::write_out;
-use yaml_review_lines::{put_fault, put_warnings};
 use yaml_review_text::put_shown;
-use yaml_review_words::{Asked, Report, Sum, in_order, read_words};
+use yaml_review_words::{Asked, Sum, in_order, read_words};
 use yaml_sum::asked::Asked as SumAsked;
 use yaml_sum::reason::Reason;
 use yaml_sum::regular::Regular;
@@ -27,85 +28,6 @@ use yaml_text::counted::Counted;
 use yaml_text::fault::Fault;
 
 const DONE: u8 = 0;
-
-const REJECTED: u8 = 2;
-
-/// What is told of each file.
-#[derive(Clone, Copy, Debug, PartialEq, Eq)]
-enum Kind {
-    Faults,
-    /// And of one that is read, at most so many warnings.
-    Warnings(usize),
-}
-
-/// What is told of a file that was read, and the status.
-fn file_text(
-    alloc: Global,
-    kind: Kind,
-    name: &str,
-    bytes: &[u8],
-    asked: &Report<'_>,
-) -> Result<(String, u8), Fault> {
-    let mut text = String::new(alloc);
-    match fault_of(alloc, bytes) {
-        Some(fault) => {
-            put_fault(alloc, &mut text, name, bytes, fault, asked.form)?;
-            Ok((text, REJECTED))
-        }
-        None => {
-            if let Kind::Warnings(room) = kind {
-                put_warnings(alloc, &mut text, name, bytes, asked.form, room)?;
-            }
-            Ok((text, DONE))
-        }
-    }
-}
-
-/// Writes what there is to write of one file, and answers its status. Why a file cannot be read goes to standard error.
-fn file<S: Shelf, R: Read, W: Write, E: Write>(
-    shelf: &S,
-    alloc: Global,
-    kind: Kind,
-    named: (&str, &Report<'_>),
-    input: &mut R,
-    out: &mut W,
-    err: &mut E,
-) -> Result<u8, Fault> {
-    let (name, asked) = named;
-    let (text, status) = match read_named(shelf, alloc, name, input) {
-        Ok(bytes) => file_text(alloc, kind, name, &bytes, asked)?,
-        Err(Unread::Fault(Fault::TooLong)) => {
-            let mut text = String::new(alloc);
-            put_fault(alloc, &mut text, name, &[], Fault::TooLong, asked.form)?;
-            (text, REJECTED)
-        }
-        Err(unread) => return Ok(tell_unread(alloc, name, unread, err)),
-    };
-    write_out(&mut Counted::new(out), text.as_bytes())?;
-    Ok(status)
-}
-
-/// Tells of each file, and goes on to the next in any case but where the output fails. The status is the greatest of all.
-fn files<S: Shelf, R: Read, W: Write, E: Write>(
-    shelf: &S,
-    alloc: Global,
-    kind: Kind,
-    asked: &Report<'_>,
-    input: &mut R,
-    out: &mut W,
-    err: &mut E,
-) -> u8 {
-    let mut status = DONE;
-    for name in &asked.files {
-        let answer = match file(shelf, alloc, kind, (*name, asked), input, out, err) {
-            Ok(answer) => answer,
-            Err(Fault::WriteFault) => return status.max(tell_bare(Fault::WriteFault, err)),
-            Err(fault) => tell_unread(alloc, *name, Unread::Fault(fault), err),
-        };
-        status = status.max(answer);
-    }
-    status
-}
 
 /// Writes what git asks for, and answers the status.
 fn git<S: Shelf, W: Write, E: Write>(
@@ -149,7 +71,9 @@ fn run<S: Shelf, R: Read + Drop, W: Write + Drop, E: Write + Drop>(
     mut input: R,
     mut out: W,
     mut err: E,
-) -> u8 {
+) -> u8
+    ensures { Does (S.holds shelf.now) R.remaining W.contents E.contents asked.entry input out err result }
+{
     match asked {
         Asked::Diff(asked, ignored) => {
             let answer = diff(
@@ -162,24 +86,30 @@ fn run<S: Shelf, R: Read + Drop, W: Write + Drop, E: Write + Drop>(
             );
             diff_status(answer, &mut err)
         }
-        Asked::Faults(asked) => files(
-            shelf,
-            alloc,
-            Kind::Faults,
-            &asked,
-            &mut input,
-            &mut out,
-            &mut err,
-        ),
-        Asked::Warn(asked, room) => files(
-            shelf,
-            alloc,
-            Kind::Warnings(room),
-            &asked,
-            &mut input,
-            &mut out,
-            &mut err,
-        ),
+        Asked::Faults(asked) => {
+            let mut out = Counted::new(out);
+            reports(
+                shelf,
+                alloc,
+                Kind::Faults,
+                &asked,
+                &mut input,
+                &mut out,
+                &mut err,
+            )
+        }
+        Asked::Warn(asked, room) => {
+            let mut out = Counted::new(out);
+            reports(
+                shelf,
+                alloc,
+                Kind::Warnings(room),
+                &asked,
+                &mut input,
+                &mut out,
+                &mut err,
+            )
+        }
         Asked::Show(asked) => { show_files(shelf, alloc, &asked, &mut input, &mut out, &mut err) }
         Asked::Git(words) => git(shelf, alloc, &words, &mut out, &mut err),
         Asked::Sum(asked) => sum(shelf, alloc, sum_asked(&asked), input, out, err),
@@ -187,7 +117,9 @@ fn run<S: Shelf, R: Read + Drop, W: Write + Drop, E: Write + Drop>(
 }
 
 /// What is asked of sums.
-fn sum_asked<'b, 'a: 'b>(asked: &'b Sum<'a>) -> SumAsked<'b> {
+fn sum_asked<'b, 'a: 'b>(asked: &'b Sum<'a>) -> SumAsked<'b>
+    ensures { AsksSum asked.now result }
+{
     match (asked.check, asked.files_from) {
         (Some(list), _) => SumAsked::Check(list),
         (None, Some(list)) => SumAsked::FilesFrom(list),
@@ -203,7 +135,9 @@ fn sum<S: Shelf, R: Read + Drop, W: Write + Drop, E: Write + Drop>(
     input: R,
     out: W,
     mut err: E,
-) -> u8 {
+) -> u8
+    ensures { SumRuns (S.holds shelf.now) R.remaining W.contents E.contents asked.entry input out err result }
+{
     match asked.list() {
         Some(list) if list.contains('\0') => {
             let unread = Unread::CannotOpen(Reason::NotUtf8);

@@ -2,6 +2,7 @@
 ghost use Rattle.std.specs.Prelude.{◌≡◌, Ok, IfOk, IfErr};
 ghost use Rattle.yaml_report.specs.Shelves.{IsOf};
 ghost use Rattle.yaml_review_command.specs.Named.{IsNamed, AreNamed, IsUnread};
+ghost use Rattle.yaml_review_command.specs.Reports.{InputFails, ReadsNamed, ReadsNot};
 
 use crate::unread::Unread;
 use std::alloc::Global;
@@ -33,6 +34,7 @@ pub(crate) fn read_file<S: Shelf>(shelf: &S, alloc: Global, name: &str) -> Resul
 /// All of standard input.
 fn read_input<R: Read>(alloc: Global, input: &mut R) -> Result<Vec<u8>, Unread>
     ensures ok { IfOk result (λ v. IsOf (R.remaining input.old) v.items) }
+    ensures err { IfErr result (InputFails (R.remaining input.old)) }
 {
     match gather(alloc, &mut Counted::new(input), text_limit()) {
         Ok(bytes) => Ok(bytes),
@@ -47,7 +49,8 @@ pub(crate) fn read_named<S: Shelf, R: Read>(
     name: &str,
     input: &mut R,
 ) -> Result<Vec<u8>, Unread>
-    ensures ok { IfOk result (λ v. IsNamed (S.holds shelf.now) (R.remaining input.old) name.now v.items) }
+    ensures ok { IfOk result (λ v. ReadsNamed (S.holds shelf.now) R.remaining name.now input.old input.new v.items) }
+    ensures err { IfErr result (ReadsNot (S.holds shelf.now) R.remaining name.now input.old input.new) }
 {
     if name == INPUT {
         read_input(alloc, input)

@@ -11,6 +11,7 @@ mod git;
 mod git_show;
 mod host;
 mod rejected;
+pub mod reports;
 mod show;
 pub mod telling;
 pub mod unread;

@@ -1,4 +1,7 @@
 //! The lines of standard error.
+ghost use Rattle.std.specs.Prelude.{◌≡◌};
+ghost use Rattle.yaml_review_command.specs.Statuses.{fault_status, unread_status};
+
 use crate::unread::{Unread, fault_status};
 use std::alloc::Global;
 use std::io::Write;
@@ -73,7 +76,9 @@ pub(crate) fn put_unread(
 }
 
 /// Tells that a list cannot be opened, or why a file is not read, and answers the status.
-pub(crate) fn tell_unread<E: Write>(alloc: Global, name: &str, unread: Unread, err: &mut E) -> u8 {
+pub(crate) fn tell_unread<E: Write>(alloc: Global, name: &str, unread: Unread, err: &mut E) -> u8
+    ensures { result ≡ unread_status unread }
+{
     let mut line = String::new(alloc);
     if put_unread(alloc, &mut line, name, unread).is_ok() {
         put_line(&line, err);
@@ -82,7 +87,9 @@ pub(crate) fn tell_unread<E: Write>(alloc: Global, name: &str, unread: Unread, e
 }
 
 /// Tells a fault of no file, and answers the status.
-pub(crate) fn tell_bare<E: Write>(fault: Fault, err: &mut E) -> u8 {
+pub(crate) fn tell_bare<E: Write>(fault: Fault, err: &mut E) -> u8
+    ensures { result ≡ fault_status fault }
+{
     // Where standard error fails too, the status alone is left to tell it.
     let _ = tell_fault(FRONT, fault, &mut Counted::new(err));
     fault_status(fault)

@@ -1,4 +1,7 @@
 //! Why a file is not read.
+ghost use Rattle.std.specs.Prelude.{◌≡◌, max};
+ghost use Rattle.yaml_review_command.specs.Statuses.{fault_status};
+
 use yaml_sum::reason::Reason;
 use yaml_text::fault::Fault;
 
@@ -18,8 +21,13 @@ pub enum Unread {
 }
 
 impl Unread {
+    ghost use Rattle.std.specs.Prelude.{◌≡◌};
+    ghost use Rattle.yaml_review_command.specs.Statuses.{unread_status};
+
     /// The exit status.
-    pub fn status(self) -> u8 {
+    pub fn status(self) -> u8
+        ensures { result ≡ unread_status self }
+    {
         match self {
             Unread::CannotOpen(_) => UNUSABLE,
             Unread::Fault(fault) => fault_status(fault),
@@ -28,9 +36,18 @@ impl Unread {
 }
 
 /// The exit status of a fault: 3 where a stream fails, else 2.
-pub(crate) fn fault_status(fault: Fault) -> u8 {
+pub(crate) fn fault_status(fault: Fault) -> u8
+    ensures { result ≡ fault_status fault }
+{
     match fault {
         Fault::ReadFault | Fault::WriteFault => UNUSABLE,
         _ => REJECTED,
     }
+}
+
+/// The greater of two statuses.
+pub(crate) fn greater(left: u8, right: u8) -> u8
+    ensures { result ≡ max left right }
+{
+    if left < right { right } else { left }
 }

@@ -1,4 +1,5 @@
 mod CompareLaws
+mod FaultLaws
 mod LineLaws
 mod SameLaws
 mod SideLaws

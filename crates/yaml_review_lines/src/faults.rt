@@ -1,16 +1,17 @@
 //! Where in a file a fault is.
-ghost use Rattle.std.specs.Prelude.{IfSome, IfOk};
-ghost use Rattle.yaml_place.specs.LineModel.{IsPlace};
+ghost use Rattle.std.specs.Prelude.{◌≡◌, ◌≤◌, ◌+◌, ◌++◌, ℕ, List, drop, length, option_map, IfSome, IfOk, OnOk, string_bytes};
+ghost use Rattle.yaml_definitions.specs.model.Text.{mark_len};
+ghost use Rattle.yaml_review_lines.specs.FaultLines.{offset_in, names_event, HasOffset, IsPlaceAt, IsSpot, head, place_part, called, byte_part, BeginsLine, line_of, column_of, IsObject, TellsFault};
 
-use serde_json::{Value, json};
 use std::alloc::Global;
 use yaml_place::{Place, place_at};
 use yaml_read::read_events;
 use yaml_review_places::layout::lay_out;
-use yaml_review_places::places::unmarked;
+use yaml_review_places::places::{mark_len, unmarked};
 use yaml_review_places::trace::{Trace, trace_of};
 use yaml_review_places::trail::Trail;
 use yaml_review_text::fronts::{put_shown, put_source_line};
+use yaml_review_text::json::{Said, put_object, text_of};
 use yaml_review_text::put_visible;
 use yaml_review_text::tag_words::put_tag_words;
 use yaml_review_text::words::words_of;
@@ -32,8 +33,12 @@ struct Spot {
 }
 
 impl Spot {
+    ghost use Rattle.std.specs.Prelude.{◌≡◌};
+
     /// A spot of which no more is known than its offset.
-    fn at(at: Option<usize>) -> Spot {
+    fn at(at: Option<usize>) -> Spot
+        ensures { result.at ≡ at }
+    {
         Spot {
             at,
             path: None,
@@ -64,7 +69,9 @@ impl Told {
 }
 
 /// The offset that a fault carries, which counts the byte order mark.
-fn offset_in(fault: Fault) -> Option<usize> {
+fn offset_in(fault: Fault) -> Option<usize>
+    ensures { result ≡ offset_in fault }
+{
     match fault {
         Fault::NotUtf8(at)
         | Fault::NotPrintable(at)
@@ -78,6 +85,23 @@ fn offset_in(fault: Fault) -> Option<usize> {
         | Fault::BadTag(at) => Some(at),
         _ => None,
     }
+}
+
+/// Whether a fault names an event, a document, or a node with two of its entries.
+fn names_event(fault: Fault) -> bool
+    ensures { result ≡ names_event fault }
+{
+    matches!(
+        fault,
+        Fault::UndefinedAlias(_)
+            | Fault::CyclicAlias(_)
+            | Fault::WrongKind(_)
+            | Fault::BadContent(_)
+            | Fault::IntRange(_)
+            | Fault::FloatRange(_)
+            | Fault::TooHigh(_)
+            | Fault::EqualKeys(_, _, _)
+    )
 }
 
 /// The event at which a fault without an offset is, and that of the first of two equal keys.
@@ -159,27 +183,24 @@ fn spot_of_event(alloc: Global, bytes: &[u8], fault: Fault) -> Result<Spot, Faul
 }
 
 /// The spot of a fault.
-fn find_spot(alloc: Global, bytes: &[u8], fault: Fault) -> Result<Spot, Fault> {
-    let mark = bytes.len().saturating_sub(unmarked(bytes).len());
+fn find_spot(alloc: Global, bytes: &[u8], fault: Fault) -> Result<Spot, Fault>
+    ensures { IfOk result (λ spot. HasOffset (mark_len bytes.now) fault (offset_in fault) spot.at) }
+{
     match offset_in(fault) {
-        Some(at) => Ok(Spot::at(Some(at.saturating_sub(mark)))),
-        None => match fault {
-            Fault::UndefinedAlias(_)
-            | Fault::CyclicAlias(_)
-            | Fault::WrongKind(_)
-            | Fault::BadContent(_)
-            | Fault::IntRange(_)
-            | Fault::FloatRange(_)
-            | Fault::TooHigh(_)
-            | Fault::EqualKeys(_, _, _) => spot_of_event(alloc, bytes, fault),
-            _ => Ok(Spot::at(None)),
-        },
+        Some(at) => Ok(Spot::at(Some(at.saturating_sub(mark_len(bytes))))),
+        None => {
+            if names_event(fault) {
+                spot_of_event(alloc, bytes, fault)
+            } else {
+                Ok(Spot::at(None))
+            }
+        }
     }
 }
 
 /// The place of one offset of a text.
 pub(crate) fn place_of(text: &[u8], at: usize) -> Option<Place>
-    ensures { IfSome result (λ place. IsPlace text.now at place.line place.column) }
+    ensures { IsPlaceAt text.now at result }
 {
     if at <= text.len() {
         Some(place_at(text, at))
@@ -190,7 +211,7 @@ pub(crate) fn place_of(text: &[u8], at: usize) -> Option<Place>
 
 /// The lines and columns of a fault's spot in the text behind the byte order mark.
 fn find_told(alloc: Global, bytes: &[u8], text: &[u8], fault: Fault) -> Result<Told, Fault>
-    ensures placed { IfOk result (λ told. IfSome told.place (λ place. IsPlace text.now told.at place.line place.column)) }
+    ensures placed { IfOk result (λ told. IsSpot text.now (mark_len bytes.now) fault (offset_in fault) told.at told.place) }
 {
     let spot = find_spot(alloc, bytes, fault)?;
     let first = match spot.first {
@@ -215,21 +236,80 @@ fn find_told(alloc: Global, bytes: &[u8], text: &[u8], fault: Fault) -> Result<T
     }
 }
 
-/// Writes what comes before a message: the file, and the line and the column if there are.
-pub fn put_head(
-    alloc: Global,
-    out: &mut String,
-    name: &str,
-    place: Option<Place>,
-) -> Result<(), Fault> {
-    put_shown(out, name)?;
+/// Writes a line and a column, if there are.
+fn put_place(out: &mut String, place: Option<Place>) -> Result<(), Fault>
+    ensures { OnOk result (string_bytes out.new ≡ string_bytes out.old ++ place_part place) }
+{
     if let Some(place) = place {
         let line = place.line;
         let column = place.column;
-        out.push_str(&format!(in alloc; ":{line}:{column}")?)?;
+        write!(out, ":{line}:{column}")?;
     }
+    Ok(())
+}
+
+/// Writes what comes before a message: the file, and the line and the column if there are.
+pub fn put_head(out: &mut String, name: &str, place: Option<Place>) -> Result<(), Fault>
+    ensures { OnOk result (string_bytes out.new ≡ string_bytes out.old ++ head name.now place) }
+{
+    put_shown(out, name)?;
+    put_place(out, place)?;
     out.push_str(": ")?;
     Ok(())
+}
+
+/// Writes the number and the name of a fault.
+fn put_called(out: &mut String, fault: Fault) -> Result<(), Fault>
+    ensures { OnOk result (string_bytes out.new ≡ string_bytes out.old ++ called fault) }
+{
+    let number = fault.number();
+    let word = fault.name();
+    write!(out, "{number} {word}")?;
+    Ok(())
+}
+
+/// Writes an offset of the input, if there is a place.
+fn put_byte(out: &mut String, place: Option<Place>, byte: usize) -> Result<(), Fault>
+    ensures { OnOk result (string_bytes out.new ≡ string_bytes out.old ++ byte_part place byte) }
+{
+    if place.is_some() {
+        write!(out, " at byte {byte}")?;
+    }
+    Ok(())
+}
+
+/// What stands behind the number, the name and the offset of a fault: its path, what is said of it, the source line and the caret,
+/// and where the first of two equal keys stands.
+fn explained(
+    alloc: Global,
+    name: &str,
+    text: &[u8],
+    fault: Fault,
+    told: &Told,
+) -> Result<String, Fault> {
+    let mut out = String::new(alloc);
+    if let Some(path) = &told.path {
+        put_visible(&mut out, path)?;
+        out.push_str(": ")?;
+    }
+    out.push_str(&told.words(alloc, fault, text)?)?;
+    out.push('\n')?;
+    if told.place.is_some() {
+        put_source_line(alloc, &mut out, text, told.at)?;
+    }
+    if told.first.is_some() {
+        put_head(&mut out, name, told.first)?;
+        out.push_str("the first of the two\n")?;
+    }
+    Ok(out)
+}
+
+/// The offset in the input of a spot.
+fn byte_of(bytes: &[u8], told: &Told) -> usize
+    requires { IfSome told.now.place (λ _. told.now.at ≤ length (drop (mark_len bytes.now) bytes.now)) }
+    ensures { IfSome told.now.place (λ _. result ≡ mark_len bytes.now + told.now.at) }
+{
+    mark_len(bytes).saturating_add(told.at)
 }
 
 /// The lines of a fault: the message, the source line and the caret, and where the first of two equal keys stands.
@@ -240,51 +320,75 @@ fn put_lines(
     bytes: &[u8],
     fault: Fault,
     told: &Told,
-) -> Result<(), Fault> {
-    let text = unmarked(bytes);
-    let mark = bytes.len().saturating_sub(text.len());
-    let number = fault.number();
-    let word = fault.name();
-    put_head(alloc, out, name, told.place)?;
-    out.push_str(&format!(in alloc; "{number} {word}")?)?;
-    if told.place.is_some() {
-        let byte = told.at.saturating_add(mark);
-        out.push_str(&format!(in alloc; " at byte {byte}")?)?;
-    }
+) -> Result<(), Fault>
+    requires { IfSome told.now.place (λ _. told.now.at ≤ length (drop (mark_len bytes.now) bytes.now)) }
+    ensures { OnOk result ((text : List ℕ) × (string_bytes out.new ≡ string_bytes out.old ++ text) × BeginsLine name.now fault told.now.place (mark_len bytes.now + told.now.at) text) }
+{
+    put_head(out, name, told.place)?;
+    put_called(out, fault)?;
+    put_byte(out, told.place, byte_of(bytes, told))?;
     out.push_str(": ")?;
-    if let Some(path) = &told.path {
-        put_visible(out, path)?;
-        out.push_str(": ")?;
-    }
-    out.push_str(&told.words(alloc, fault, text)?)?;
-    out.push('\n')?;
-    if told.place.is_some() {
-        put_source_line(alloc, out, text, told.at)?;
-    }
-    if told.first.is_some() {
-        put_head(alloc, out, name, told.first)?;
-        out.push_str("the first of the two\n")?;
-    }
+    let more = explained(alloc, name, unmarked(bytes), fault, told)?;
+    out.push_str(more.as_str())?;
     Ok(())
 }
 
-/// A path as JSON.
-fn path_value(alloc: Global, path: &Option<String>) -> Result<Value, Fault> {
-    match path {
-        Some(path) => Ok(json!(in alloc; path.as_str())?),
-        None => Ok(Value::Null),
+/// The line of a place, if there is one.
+fn line_of(place: Option<Place>) -> Option<usize>
+    ensures { result ≡ line_of place }
+{
+    match place {
+        Some(place) => Some(place.line),
+        None => None,
     }
 }
 
-/// A number of lines, columns or bytes as JSON, if it is told.
-fn number_value(alloc: Global, number: Option<usize>) -> Result<Value, Fault> {
-    match number {
-        Some(number) => {
-            let number = number as u64;
-            Ok(json!(in alloc; number)?)
-        }
-        None => Ok(Value::Null),
+/// The column of a place, if there is one.
+fn column_of(place: Option<Place>) -> Option<usize>
+    ensures { result ≡ column_of place }
+{
+    match place {
+        Some(place) => Some(place.column),
+        None => None,
     }
+}
+
+/// The offset in the input of a spot, if it has a place.
+fn told_byte(bytes: &[u8], told: &Told) -> Option<usize>
+    requires { IfSome told.now.place (λ _. told.now.at ≤ length (drop (mark_len bytes.now) bytes.now)) }
+    ensures { result ≡ option_map (λ _. mark_len bytes.now + told.now.at) told.now.place }
+{
+    match told.place {
+        Some(_) => Some(byte_of(bytes, told)),
+        None => None,
+    }
+}
+
+/// Writes the JSON object of a fault.
+fn put_members<'t>(
+    alloc: Global,
+    out: &mut String,
+    name: &'t str,
+    words: &'t str,
+    fault: Fault,
+    told: &'t Told,
+    byte: Option<usize>,
+) -> Result<(), Fault>
+    ensures { OnOk result ((text : List ℕ) × (string_bytes out.new ≡ string_bytes out.old ++ text) × IsObject name.now fault told.now.place byte text) }
+{
+    let members = [
+        ("file", Said::Text(Some(name))),
+        ("line", Said::Number(line_of(told.place))),
+        ("column", Said::Number(column_of(told.place))),
+        ("byte", Said::Number(byte)),
+        ("number", Said::Number(Some(fault.number() as usize))),
+        ("name", Said::Text(Some(fault.name()))),
+        ("path", Said::Text(text_of(&told.path))),
+        ("words", Said::Text(Some(words))),
+        ("first_line", Said::Number(line_of(told.first))),
+        ("first_column", Said::Number(column_of(told.first))),
+    ];
+    put_object(alloc, out, &members)
 }
 
 /// The same as one JSON object.
@@ -295,28 +399,23 @@ fn put_json(
     bytes: &[u8],
     fault: Fault,
     told: &Told,
-) -> Result<(), Fault> {
-    let text = unmarked(bytes);
-    let mark = bytes.len().saturating_sub(text.len());
-    let words = told.words(alloc, fault, text)?;
-    let line = number_value(alloc, told.place.map(|place| place.line))?;
-    let column = number_value(alloc, told.place.map(|place| place.column))?;
-    let byte = number_value(alloc, told.place.map(|_| told.at.saturating_add(mark)))?;
-    let first_line = number_value(alloc, told.first.map(|place| place.line))?;
-    let first_column = number_value(alloc, told.first.map(|place| place.column))?;
-    let path = path_value(alloc, &told.path)?;
-    let number = fault.number() as u64;
-    let word = fault.name();
-    let object = json!(in alloc; {
-        "file": name, "line": line, "column": column, "byte": byte, "number": number, "name": word,
-        "path": path, "words": words.as_str(), "first_line": first_line, "first_column": first_column
-    })?;
-    out.push_str(&object.to_string(alloc)?)?;
-    out.push('\n')?;
-    Ok(())
+) -> Result<(), Fault>
+    requires { IfSome told.now.place (λ _. told.now.at ≤ length (drop (mark_len bytes.now) bytes.now)) }
+    ensures { OnOk result ((text : List ℕ) × (string_bytes out.new ≡ string_bytes out.old ++ text) × IsObject name.now fault told.now.place (option_map (λ _. mark_len bytes.now + told.now.at) told.now.place) text) }
+{
+    let words = told.words(alloc, fault, unmarked(bytes))?;
+    put_members(
+        alloc,
+        out,
+        name,
+        words.as_str(),
+        fault,
+        told,
+        told_byte(bytes, told),
+    )
 }
 
-/// Writes what is told of a fault.
+/// Writes what is told of a fault: its number and its name, and where it is.
 pub fn put_fault(
     alloc: Global,
     out: &mut String,
@@ -324,7 +423,9 @@ pub fn put_fault(
     bytes: &[u8],
     fault: Fault,
     form: Form,
-) -> Result<(), Fault> {
+) -> Result<(), Fault>
+    ensures { OnOk result ((text : List ℕ) × (string_bytes out.new ≡ string_bytes out.old ++ text) × TellsFault form name.now bytes.now fault text) }
+{
     let told = find_told(alloc, bytes, unmarked(bytes), fault)?;
     match form {
         Form::Line => put_lines(alloc, out, name, bytes, fault, &told),

@@ -158,7 +158,7 @@ pub fn put_no_json(alloc: Global, out: &mut String, name: &str, bytes: &[u8]) ->
     let source = Chars::read(bytes)?;
     let events = read_events(alloc, &source)?;
     let Some((event, path, lack)) = find_lack(alloc, &events)? else {
-        put_head(alloc, out, name, None)?;
+        put_head(out, name, None)?;
         out.push_str("JSON cannot express this file\n")?;
         return Ok(());
     };
@@ -166,7 +166,7 @@ pub fn put_no_json(alloc: Global, out: &mut String, name: &str, bytes: &[u8]) ->
     let trace = trace_of(alloc, &source)?;
     let offset = offset_of(lack, text, &trace, event);
     let place = offset.and_then(|at| place_of(text, at));
-    put_head(alloc, out, name, place)?;
+    put_head(out, name, place)?;
     put_visible(out, &path)?;
     out.push_str(": ")?;
     out.push_str(lack.words())?;

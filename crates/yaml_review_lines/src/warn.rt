@@ -71,7 +71,7 @@ fn put_warning(
 ) -> Result<(), Fault> {
     match form {
         Form::Line => {
-            put_head(alloc, out, name, Some(place))?;
+            put_head(out, name, Some(place))?;
             out.push_str("warning: ")?;
             put_shown(out, front(text, CUT))?;
             out.push_str(": ")?;

@@ -1,6 +1,7 @@
 //! Lines and columns of many offsets, in one pass over a text.
-ghost use Rattle.std.specs.Prelude.{◌≤◌, length, IfOk};
+ghost use Rattle.std.specs.Prelude.{◌≡◌, ◌≤◌, drop, length, IfOk};
 ghost use Rattle.std.specs.List.{All};
+ghost use Rattle.yaml_definitions.specs.model.Text.{mark_len};
 ghost use Rattle.yaml_place.specs.LineModel.{IsPlace};
 ghost use Rattle.yaml_review_places.specs.Told.{IsTold};
 
@@ -11,9 +12,22 @@ use yaml_text::fault::Fault;
 /// The bytes of the byte order mark (YAML 1.2.2, 5.2), which has no column.
 const MARK: [u8; 3] = [0xEF, 0xBB, 0xBF];
 
+/// The length of the byte order mark that they may begin with, in bytes.
+pub fn mark_len(bytes: &[u8]) -> usize
+    ensures { result ≡ mark_len bytes.now }
+{
+    if bytes.starts_with(&MARK) {
+        MARK.len()
+    } else {
+        0
+    }
+}
+
 /// The bytes behind the byte order mark that they may begin with.
-pub fn unmarked(bytes: &[u8]) -> &[u8] {
-    bytes.strip_prefix(MARK.as_slice()).unwrap_or(bytes)
+pub fn unmarked(bytes: &[u8]) -> &[u8]
+    ensures { result.now ≡ drop (mark_len bytes.now) bytes.now }
+{
+    bytes.get(mark_len(bytes)..).unwrap_or(&[])
 }
 
 /// The place of an offset, from that of another one. It costs more where it lies before that.

@@ -7,3 +7,4 @@ pub mod OctalLaws
 mod PathLaws
 pub mod Pieces
 mod ShownLaws
+mod TerminalLaws

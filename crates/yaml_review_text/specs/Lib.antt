@@ -4,4 +4,5 @@ pub mod NodeText
 pub mod Objects
 pub mod PathText
 pub mod Shown
+pub mod Terminal
 pub mod Yaml11

@@ -1,4 +1,7 @@
 //! The source line of a place, and a caret under its column.
+ghost use Rattle.std.specs.Prelude.{◌≡◌, ◌++◌, string_bytes, OnOk};
+ghost use Rattle.yaml_review_text.specs.Terminal.{is_unprinted, is_printed, terminal_char, terminal};
+
 use std::alloc::Global;
 use unicode_width::UnicodeWidthChar;
 use yaml_place::source_line;
@@ -13,22 +16,37 @@ const SIDE_BYTES: usize = 4 * SIDE;
 /// More spaces than a character is wide.
 const SPACES: &str = "    ";
 
+/// Whether a character turns or hides text, or has no width or no form.
+#[tactic(auto, unfolding(crate::specs::Terminal::is_unprinted))]
+fn is_unprinted(c: char) -> bool
+    ensures { result ≡ is_unprinted c }
+{
+    matches!(
+        c,
+        '\u{AD}' | '\u{61C}' | '\u{180E}' | '\u{200B}'..='\u{200F}' | '\u{2028}'..='\u{202E}'
+            | '\u{2060}'..='\u{206F}' | '\u{FEFF}' | '\u{FFF0}'..='\u{FFFD}' | '\u{E0000}'..='\u{E007F}'
+    )
+}
+
 /// Whether a terminal shows a character as itself: controls and what turns or hides text are not printed.
-fn is_shown(c: char) -> bool {
-    !c.is_control()
-        && !matches!(c,
-            '\u{AD}' | '\u{61C}' | '\u{180E}' | '\u{200B}'..='\u{200F}' | '\u{2028}'..='\u{202E}'
-            | '\u{2060}'..='\u{206F}' | '\u{FEFF}' | '\u{FFF0}'..='\u{FFFD}' | '\u{E0000}'..='\u{E007F}')
+fn is_shown(c: char) -> bool
+    ensures { result ≡ is_printed c }
+{
+    !c.is_control() && !is_unprinted(c)
 }
 
 /// The character that stands for one on a terminal.
-fn shown(c: char) -> char {
+fn shown(c: char) -> char
+    ensures { result ≡ terminal_char c }
+{
     if c == '\t' || is_shown(c) { c } else { '?' }
 }
 
 /// Writes a text with `?` for what a terminal would not print.
-pub fn put_shown(out: &mut String, text: &str) -> Result<(), Fault> {
-    for c in text.chars() {
+pub fn put_shown(out: &mut String, text: &str) -> Result<(), Fault>
+    ensures { OnOk result (string_bytes out.new ≡ string_bytes out.old ++ terminal text.now) }
+{
+    'chars: for c in text.chars() {
         out.push(shown(c))?;
     }
     Ok(())
