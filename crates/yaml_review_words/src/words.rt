@@ -231,7 +231,7 @@ const SUM: [Row; 3] = [
 const GIT: [Row; 1] = [Row {
     id: "WORD",
     takes: Takes::Words,
-    help: "1, 7 or 9 words, as git passes them",
+    help: "1, 7 or 9 words, as git passes them; `--lines=show` before them prints changed lines of what `show` writes",
 }];
 
 const FILES: Row = Row {
