@@ -11,6 +11,9 @@ from lib.packing.machines import JUDGED, MACHINES, lacking, lacking_to_run
 from lib.paths import TOP
 from .base import build, run, say, wrong
 
+# Up to how many bytes an input is tried under bounds of memory.
+BOUNDED = 100_000
+
 
 def runnable(machine, made):
     """The path of a script that runs a program of the machine."""
@@ -67,5 +70,7 @@ def try_other(name, folder, own, inputs, try_made):
         try_made(built(machine, folder, "program", TOP + "/library/yamlcanon.c", folder + "/libyamlcanon.a", "-static"))
         say("%s: the program in C passes tools/examples programs and has the answers of the vectors" % machine.name)
     made = built(machine, folder, "test", TOP + "/library/test.c", folder + "/libyamlcanon.a", "-static", "-lpthread")
-    for words, given in (((), some), (("threads", "8"), some), (("budget",), some), (("stack",), some + deepest)):
+    # Each input is tried under 65 bounds, which takes qemu minutes for a long one.
+    short = b"".join(line for line in some.splitlines(True) if os.path.getsize(line.strip()) <= BOUNDED)
+    for words, given in (((), some), (("threads", "8"), some), (("budget",), short), (("stack",), some + deepest)):
         say("%s: %s" % (machine.name, " ".join([*words, run(made, *words, input=given)])))
